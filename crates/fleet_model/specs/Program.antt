@@ -1,0 +1,102 @@
+-- A program: for each agent a start, a goal and a list of actions. Agents count from 0, actions from 1.
+use Rattle.std.specs.Prelude.{◌≢◌, ℕ, zero, suc, ◌<◌, ◌≤◌, List, [], ◌∷◌, length, map, take, Option, None, slice_get, option_map, sum_by, All, Contains}
+use Rattle.std.specs.Option.{option_map_or}
+use Rattle.std.specs.List.Sorted.{IsStrictlyIncreasing}
+use Rattle.fleet_model.specs.declared.geometry.Cell.{Cell}
+use Rattle.fleet_model.specs.declared.geometry.Place.{Place}
+use Rattle.fleet_model.specs.declared.geometry.Dir.{Dir}
+use Rattle.fleet_model.specs.declared.program.Await.{Await}
+use Rattle.fleet_model.specs.declared.program.Action.{Action}
+use Rattle.fleet_model.specs.declared.program.AgentProgram.{AgentProgram}
+use Rattle.fleet_model.specs.Geometry.{place_of, moved}
+
+abbrev pub Program : Type 0
+Program = List AgentProgram
+
+-- the upper left cell
+abbrev pub origin : Cell
+origin = record { x = 0; y = 0 }
+
+abbrev pub start_of : Program → ℕ → Cell
+start_of p i = option_map_or (λ a. a.start) (slice_get p i) origin
+
+abbrev pub goal_of : Program → ℕ → Cell
+goal_of p i = option_map_or (λ a. a.goal) (slice_get p i) origin
+
+abbrev pub actions_of : Program → ℕ → List Action
+actions_of p i = option_map_or (λ a. a.actions) (slice_get p i) []
+
+-- how many actions agent i has
+abbrev pub moves : Program → ℕ → ℕ
+moves p i = length (actions_of p i)
+
+-- action n of agent i
+abbrev pub action_of : Program → ℕ → ℕ → Option Action
+action_of p i zero = None
+action_of p i (suc n) = slice_get (actions_of p i) n
+
+abbrev pub dir_of : Program → ℕ → ℕ → Option Dir
+dir_of p i n = option_map (λ a. a.dir) (action_of p i n)
+
+abbrev pub awaits_of : Program → ℕ → ℕ → List Await
+awaits_of p i n = option_map_or (λ a. a.awaits) (action_of p i n) []
+
+abbrev pub total_moves : Program → ℕ
+total_moves p = sum_by (λ a. length a.actions) p
+
+abbrev pub total_awaits : Program → ℕ
+total_awaits p = sum_by (λ a. sum_by (λ s. length s.awaits) a.actions) p
+
+-- how many awaits the actions of agent i have
+abbrev pub agent_awaits : Program → ℕ → ℕ
+agent_awaits p i = sum_by (λ s. length s.awaits) (actions_of p i)
+
+-- a place after moves in these directions
+abbrev pub walked : Place → List Action → Place
+walked q [] = q
+walked q (a ∷ actions) = walked (moved q a.dir) actions
+
+-- where agent i is after its first n actions
+abbrev pub path : Program → ℕ → ℕ → Place
+path p i n = walked (place_of (start_of p i)) (take n (actions_of p i))
+
+-- an await by agent i that names another agent, and a count from 1 to that agent's moves
+pub record IsInRange (p : Program) (i : ℕ) (w : Await) : Type 0 where
+  pub agent : w.agent < length p
+  pub other : w.agent ≢ i
+  pub first : 1 ≤ w.count
+  pub last : w.count ≤ moves p w.agent
+
+-- every await of the program is such
+abbrev pub AreInRange : Program → Type 0
+AreInRange p = (i n : ℕ) (w : Await) → Contains (awaits_of p i n) w → IsInRange p i w
+
+-- the awaits of an action of agent i, where there are n agents
+pub record AreAwaits (n i : ℕ) (awaits : List Await) : Type 0 where
+  pub rising : IsStrictlyIncreasing (map (λ w. w.agent) awaits)
+  pub agents : All (λ w. w.agent < n) awaits
+  pub others : All (λ w. w.agent ≢ i) awaits
+  pub counts : All (λ w. 1 ≤ w.count) awaits
+  pub few : All (λ w. w.count ≤ 65535) awaits
+
+-- both numbers fit two bytes
+pub record IsCell (c : Cell) : Type 0 where
+  pub x : c.x < 65536
+  pub y : c.y < 65536
+
+-- a program within the limits
+pub record IsWellFormed (p : Program) : Type 0 where
+  pub some_agents : 1 ≤ length p
+  pub few_agents : length p ≤ 1024
+  pub starts : (i : ℕ) → IsCell (start_of p i)
+  pub goals : (i : ℕ) → IsCell (goal_of p i)
+  pub moves_each : (i : ℕ) → moves p i ≤ 65535
+  pub moves_in_all : total_moves p ≤ 4194304
+  pub awaits : (i n : ℕ) → AreAwaits (length p) i (awaits_of p i n)
+
+-- agent i of a program of n agents, within the limits
+pub record IsAgent (n i : ℕ) (a : AgentProgram) : Type 0 where
+  pub start : IsCell a.start
+  pub goal : IsCell a.goal
+  pub moves : length a.actions ≤ 65535
+  pub awaits : All (λ s. AreAwaits n i s.awaits) a.actions

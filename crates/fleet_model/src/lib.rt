@@ -1,0 +1,21 @@
+//! Programs of a fleet of agents on a grid, and what they mean.
+#![tactic(auto)]
+
+mod geometry;
+mod limits;
+mod memory;
+mod program;
+mod standing;
+mod task;
+mod view;
+
+pub use geometry::{Cell, Dir, Place};
+pub use limits::well_formed;
+pub use memory::OutOfMemory;
+pub use program::{Action, ActionId, Actions, AgentProgram, Await, Awaits, Program, Visit};
+pub use standing::Standing;
+pub use task::Task;
+pub use view::{ProgramView, total_awaits, total_moves};
+
+#[cfg(test)]
+mod tests;

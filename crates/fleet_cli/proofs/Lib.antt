@@ -1,0 +1,17 @@
+pub mod Ready
+pub mod Indices
+pub mod Judged
+pub mod Advanced
+pub mod Opened
+pub mod Kept
+pub mod Digits
+pub mod Closing
+pub mod SinkLemmas
+pub mod SourceLemmas
+pub mod Ending
+pub mod Progress
+pub mod UnderWay
+pub mod Rehearsed
+pub mod WordLemmas
+pub mod InputLemmas
+pub mod HexRuns

@@ -1,0 +1,59 @@
+-- Words of a line, one after another.
+use Rattle.std.proofs.Common.{◌≡◌, ◌∙◌, sym, ℕ, ◌+◌, ◌-◌, ◌/◌, ◌%◌, ◌^◌, ◌<◌, ◌≤◌, Bool, Option, List, [], ◌∷◌, ◌++◌, length, take, drop, set, get_or, map, decimal, refl, ap, arith, append_assoc, append-nil, length-append}
+use Rattle.std.proofs.Math.ListN.{drop_of_length-le}
+use Rattle.std.proofs.lemmas.Fmt.{decimal_step, decimal_digit}
+use Rattle.std.proofs.lemmas.List.{drop-set, take_more, map-append, take-append-drop}
+use Rattle.std.specs.Io.KnownBytes.{Appends}
+use Rattle.fleet_cli.specs.Sink.{StopsWithin}
+use Rattle.fleet_cli.proofs.SinkLemmas.{appends_same, appends_more, stops_after, stops_within_more}
+use Rattle.fleet_cli.specs.declared.words.Word.{Word}
+use Rattle.fleet_cli.specs.Words.{word_text, spaced, next_words, line_text}
+
+-- words after others
+pub spaced-append : (first : List ℕ) (xs ys : List (List ℕ)) → spaced (first ∷ (xs ++ ys)) ≡ spaced (first ∷ xs) ++ next_words ys
+spaced-append first [] [] = sym (append-nil first)
+spaced-append first [] (y ∷ ys) = ap (λ t. first ++ 32 ∷ t) (spaced-append y [] ys)
+spaced-append first (x ∷ xs) ys = rw (spaced-append x xs ys) (sym (append_assoc first (32 ∷ spaced (x ∷ xs)) (next_words ys)))
+
+-- one word more
+pub words_more : (first : Word) (rest : List Word) (i : ℕ) (d : Word) → i < length rest → spaced (map word_text (first ∷ take i rest)) ++ 32 ∷ word_text (get_or rest i d) ≡ spaced (map word_text (first ∷ take (i + 1) rest))
+words_more first rest i d below =
+    let one : 32 ∷ word_text (get_or rest i d) ≡ next_words (word_text (get_or rest i d) ∷ []) = sym (append-nil (32 ∷ word_text (get_or rest i d))) in
+    let more : take (i + 1) rest ≡ take i rest ++ get_or rest i d ∷ [] = take_more rest i d below in
+    let texts : map word_text (take (i + 1) rest) ≡ map word_text (take i rest) ++ word_text (get_or rest i d) ∷ [] =
+    ap (map word_text) more ∙ map-append word_text (take i rest) (get_or rest i d ∷ []) in
+    ap (λ t. spaced (map word_text (first ∷ take i rest)) ++ t) one
+    ∙ sym (spaced-append (word_text first) (map word_text (take i rest)) (word_text (get_or rest i d) ∷ []))
+    ∙ ap (λ ts. spaced (word_text first ∷ ts)) (sym texts)
+
+-- the words begin with those up to an index
+pub words_split : (first : Word) (rest : List Word) (i : ℕ) → spaced (map word_text (first ∷ rest)) ≡ spaced (map word_text (first ∷ take i rest)) ++ next_words (map word_text (drop i rest))
+words_split first rest i =
+    ap (λ r. spaced (word_text first ∷ map word_text r)) (sym (take-append-drop i rest))
+    ∙ ap (λ ts. spaced (word_text first ∷ ts)) (map-append word_text (take i rest) (drop i rest))
+    ∙ spaced-append (word_text first) (map word_text (take i rest)) (map word_text (drop i rest))
+
+-- one word more was taken
+pub taken_more :
+    (a b c : Option (List ℕ)) (words rest : List Word) (i : ℕ) (d : Word) → i < length rest
+    → ((first : Word) × (words ≡ first ∷ rest) × Appends a b (spaced (map word_text (first ∷ take i rest))))
+    → Appends b c (32 ∷ word_text (get_or rest i d))
+    → (first : Word) × (words ≡ first ∷ rest) × Appends a c (spaced (map word_text (first ∷ take (i + 1) rest)))
+taken_more a b c words rest i d below (first, are, so_far) next = (
+  first,
+  are,
+  appends_same a c _ _ (appends_more a b c (spaced (map word_text (first ∷ take i rest))) (32 ∷ word_text (get_or rest i d)) so_far next) (words_more first rest i d below),
+)
+
+-- the sink failed within one word more
+pub stops_within_next :
+    (a b c : Option (List ℕ)) (failed : Bool) (words rest : List Word) (i : ℕ) (d : Word) → i < length rest
+    → ((first : Word) × (words ≡ first ∷ rest) × Appends a b (spaced (map word_text (first ∷ take i rest))))
+    → StopsWithin b c failed (32 ∷ word_text (get_or rest i d))
+    → StopsWithin a c failed (spaced (map word_text words))
+stops_within_next a b c failed words rest i d below (first, are, so_far) next =
+    let within = stops_after a b c failed (spaced (map word_text (first ∷ take i rest))) (32 ∷ word_text (get_or rest i d)) so_far next in
+    let within_more = rw (words_more first rest i d below) at within in
+    let whole : spaced (map word_text (first ∷ take (i + 1) rest)) ++ next_words (map word_text (drop (i + 1) rest)) ≡ spaced (map word_text words) =
+    sym (words_split first rest (i + 1)) ∙ ap (λ ws. spaced (map word_text ws)) (sym are) in
+    rw (← whole) (stops_within_more a c failed _ (next_words (map word_text (drop (i + 1) rest))) within_more)

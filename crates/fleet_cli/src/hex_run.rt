@@ -1,0 +1,94 @@
+//! The run of the program without words.
+
+ghost use Rattle.std.specs.Prelude.{◌≡◌, ◌≢◌, true, false, MatchResult};
+ghost use Rattle.fleet_cli.specs.Sink.{Receives};
+ghost use Rattle.fleet_cli.specs.Lines.{line_of, status_of};
+ghost use Rattle.fleet_cli.specs.HexRun.{IsRefusalOf, RunsHex, WritesRehearsal};
+
+use crate::fault::Fault;
+use crate::input::{FileFault, read_whole};
+use crate::rehearsal::{End, HoldList, RunFault, TraceOut, WriteOut, rehearse};
+use fleet_code::{load, read_hex};
+use std::alloc::Global;
+use std::io::{Read, Write};
+
+/// Rehearses, with nobody held, the program that the input stands for in hexadecimal.
+fn rehearse_hex<R: Read, O: TraceOut>(
+    alloc: Global,
+    input: &mut R,
+    out: &mut O,
+) -> Result<End, Fault<'static>>
+    requires { O.has_failed out.old ≡ false }
+    ensures { MatchResult result
+        (WritesRehearsal (R.remaining input.old) (record { before = O.taken out.old; taken = O.taken out.new; has_failed = O.has_failed out.new }))
+        (IsRefusalOf (R.remaining input.old) (record { before = O.taken out.old; taken = O.taken out.new; has_failed = O.has_failed out.new })) }
+{
+    let text = match read_whole(alloc, input) {
+        Ok(text) => text,
+        Err(FileFault::OutOfMemory) => return Err(Fault::Memory),
+        Err(FileFault::Failed) => return Err(Fault::File("-")),
+    };
+    let bytes = match read_hex(alloc, &text) {
+        Ok(bytes) => bytes,
+        Err(fault) => return Err(Fault::Hex(fault)),
+    };
+    let program = match load(alloc, &bytes) {
+        Ok(program) => program,
+        Err(fault) => return Err(Fault::Load(fault)),
+    };
+    let mut nobody = HoldList::new(Vec::new(alloc));
+    match rehearse(alloc, &program, &mut nobody, out) {
+        Ok(rehearsal) => Ok(rehearsal.end),
+        Err(fault) => Err(Fault::Run(fault)),
+    }
+}
+
+/// Tells the refusal, and answers its status.
+fn refuse<E: TraceOut>(fault: &Fault<'_>, err: &mut E) -> u8
+    requires { E.has_failed err.old ≡ false }
+    ensures status { result ≡ status_of fault.now }
+    ensures told { Receives (E.taken err.old) (E.taken err.new) (E.has_failed err.new) (line_of fault.now) }
+{
+    fault.tell(err);
+    fault.status()
+}
+
+/// Reads program bytes in hexadecimal from `input`, at most 268,435,456 bytes of text, and writes the rehearsal of the program,
+/// with nobody held, to `out`. Answers 0 where the rehearsal ends finished and 1 where it ends stuck; a refusal is told on `err`
+/// and its status answered: 1, or 3 where memory, the input or `out` failed.
+pub fn run_hex<R: Read, O: TraceOut, E: TraceOut>(
+    alloc: Global,
+    input: &mut R,
+    out: &mut O,
+    err: &mut E,
+) -> u8
+    requires out_working { O.has_failed out.old ≡ false }
+    requires err_working { E.has_failed err.old ≡ false }
+    ensures { RunsHex (R.remaining input.old)
+        (record { before = O.taken out.old; taken = O.taken out.new; has_failed = O.has_failed out.new })
+        (record { before = E.taken err.old; taken = E.taken err.new; has_failed = E.has_failed err.new })
+        result }
+{
+    match rehearse_hex(alloc, input, out) {
+        Ok(End::Finished) => 0,
+        Ok(End::Stuck) => 1,
+        Err(fault) => refuse(&fault, err),
+    }
+}
+
+/// Flushes the output of a run that ended with this status, and answers the program's status. A failed flush is a failed write.
+pub fn flushed<W: Write, E: TraceOut>(status: u8, out: &mut WriteOut<W>, err: &mut E) -> u8
+    ensures kept { result ≢ status → (result ≡ 3) × (⟦<WriteOut<W> as TraceOut>⟧.has_failed out.new ≡ true) }
+    ensures done { result ≡ 0 → (status ≡ 0) × (⟦<WriteOut<W> as TraceOut>⟧.has_failed out.new ≡ false) }
+{
+    if !out.failed() && out.flush().is_ok() {
+        return status;
+    }
+    if status == 3 {
+        return status;
+    }
+    if !err.failed() {
+        Fault::Run(RunFault::Write).tell(err);
+    }
+    3
+}

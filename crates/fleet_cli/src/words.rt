@@ -1,0 +1,72 @@
+//! Words of a line, written to a sink without memory.
+
+ghost use Rattle.std.specs.Prelude.{◌≡◌, ◌++◌, ◌∷◌, false, map, decimal};
+ghost use Rattle.fleet_cli.specs.Sink.{TakesAll};
+ghost use Rattle.fleet_cli.specs.Words.{word_text, spaced, line_text};
+
+use crate::rehearsal::{OutFault, TraceOut, put_all, write_number};
+
+/// A word of a line.
+#[derive(Clone, Copy)]
+pub enum Word<'a> {
+    Text(&'a str),
+    Number(u64),
+}
+
+/// How many digits the longest number has.
+const DIGITS: usize = 20;
+
+fn put_number<O: TraceOut>(out: &mut O, number: u64) -> Result<(), OutFault>
+    requires { O.has_failed out.old ≡ false }
+    ensures { TakesAll (O.taken out.old) (O.taken out.new) (O.has_failed out.new) result (decimal number) }
+{
+    let mut digits = [0; DIGITS];
+    let start = write_number(number, &mut digits, DIGITS);
+    put_all(out, &digits[start..])
+}
+
+fn put_word<O: TraceOut>(out: &mut O, word: Word<'_>) -> Result<(), OutFault>
+    requires { O.has_failed out.old ≡ false }
+    ensures { TakesAll (O.taken out.old) (O.taken out.new) (O.has_failed out.new) result (word_text word.entry) }
+{
+    match word {
+        Word::Text(text) => put_all(out, text.as_bytes()),
+        Word::Number(number) => put_number(out, number),
+    }
+}
+
+/// A space, and the word.
+fn put_next_word<O: TraceOut>(out: &mut O, word: Word<'_>) -> Result<(), OutFault>
+    requires { O.has_failed out.old ≡ false }
+    ensures { TakesAll (O.taken out.old) (O.taken out.new) (O.has_failed out.new) result
+        (32 ∷ word_text word.entry) }
+{
+    put_all(out, b" ")?;
+    put_word(out, word)
+}
+
+/// Writes the words with one space between two, and no line's end.
+fn put_words<O: TraceOut>(out: &mut O, words: &[Word<'_>]) -> Result<(), OutFault>
+    requires { O.has_failed out.old ≡ false }
+    ensures { TakesAll (O.taken out.old) (O.taken out.new) (O.has_failed out.new) result
+        (spaced (map word_text words.now)) }
+{
+    let Some((first, rest)) = words.split_first() else {
+        return Ok(());
+    };
+    put_word(out, *first)?;
+    for word in rest {
+        put_next_word(out, *word)?;
+    }
+    Ok(())
+}
+
+/// Writes the words as a line.
+pub fn put_line<O: TraceOut>(out: &mut O, words: &[Word<'_>]) -> Result<(), OutFault>
+    requires { O.has_failed out.old ≡ false }
+    ensures { TakesAll (O.taken out.old) (O.taken out.new) (O.has_failed out.new) result
+        (line_text (map word_text words.now)) }
+{
+    put_words(out, words)?;
+    put_all(out, b"\n")
+}

@@ -1,12 +1,11 @@
 -- A rehearsal that stops, among the refusals of a run without words.
-use Rattle.std.proofs.Common.{◌≡◌, ℕ, Bool, List, [], Option, None, Some, Result, Ok, Err, sym, ap, subst, ◌∙◌}
-use Rattle.std.specs.Prelude.{IfSome}
+use Rattle.std.proofs.Common.{◌≡◌, ℕ, Bool, List, [], Option, None, Ok, Err, sym, ap, subst, ◌∙◌}
 use Rattle.fleet_model.specs.Program.{Program}
 use Rattle.fleet_model.specs.Machine.{Holds}
 use Rattle.fleet_code.specs.Spelling.{Spells}
 use Rattle.fleet_code.specs.Hex.{bytes_of}
 use Rattle.fleet_cli.specs.Rehearsal.{Rehearses}
-use Rattle.fleet_cli.specs.HexRun.{Sink, IsTextOf, StandsFor, IsRefusalOf}
+use Rattle.fleet_cli.specs.HexRun.{IsTextOf, IsRefusalOf}
 use Rattle.fleet_cli.specs.declared.rehearsal.run.RunFault.{RunFault}
 use Rattle.fleet_cli.specs.declared.fault.Fault.TheVariants as f
 

@@ -1,13 +1,11 @@
 -- Words of a line, one after another.
-use Rattle.std.proofs.Common.{◌≡◌, ◌∙◌, sym, ℕ, ◌+◌, ◌-◌, ◌/◌, ◌%◌, ◌^◌, ◌<◌, ◌≤◌, Bool, Option, List, [], ◌∷◌, ◌++◌, length, take, drop, set, get_or, map, decimal, refl, ap, arith, append_assoc, append-nil, length-append}
-use Rattle.std.proofs.Math.ListN.{drop_of_length-le}
-use Rattle.std.proofs.lemmas.Fmt.{decimal_step, decimal_digit}
-use Rattle.std.proofs.lemmas.List.{drop-set, take_more, map-append, take-append-drop}
+use Rattle.std.proofs.Common.{◌≡◌, ◌∙◌, sym, ℕ, ◌+◌, ◌<◌, Bool, Option, List, [], ◌∷◌, ◌++◌, length, take, drop, get_or, map, ap, append_assoc, append-nil}
+use Rattle.std.proofs.lemmas.List.{take_more, map-append, take-append-drop}
 use Rattle.std.specs.Io.KnownBytes.{Appends}
 use Rattle.fleet_cli.specs.Sink.{StopsWithin}
 use Rattle.fleet_cli.proofs.SinkLemmas.{appends_same, appends_more, stops_after, stops_within_more}
 use Rattle.fleet_cli.specs.declared.words.Word.{Word}
-use Rattle.fleet_cli.specs.Words.{word_text, spaced, next_words, line_text}
+use Rattle.fleet_cli.specs.Words.{word_text, spaced, next_words}
 
 -- words after others
 pub spaced-append : (first : List ℕ) (xs ys : List (List ℕ)) → spaced (first ∷ (xs ++ ys)) ≡ spaced (first ∷ xs) ++ next_words ys

@@ -1,5 +1,5 @@
 -- What the program does without words: the rehearsal, with nobody held, of the program that its input stands for in hexadecimal.
-use Rattle.std.specs.Prelude.{◌≡◌, ℕ, Bool, false, List, [], ◌⊎◌, Option, None, Some, Result, Ok, Err, IfSome, codes}
+use Rattle.std.specs.Prelude.{◌≡◌, ℕ, Bool, false, List, [], ◌⊎◌, Option, None, Some, Ok, Err, IfSome, codes}
 use Rattle.std.specs.Io.KnownBytes.{Keeps, Appends}
 use Rattle.fleet_model.specs.Program.{Program}
 use Rattle.fleet_model.specs.Machine.{Holds, run, IsEnd}

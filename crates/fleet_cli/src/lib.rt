@@ -10,3 +10,6 @@ mod words;
 pub use fault::Fault;
 pub use hex_run::{flushed, run_hex};
 pub use input::{FileFault, MOST_BYTES, read_whole};
+
+#[cfg(test)]
+mod tests;

@@ -1,4 +1,4 @@
-use Rattle.std.proofs.Common.{◌^◌, ◌<◌, arith, ◌∙◌, refl}
+use Rattle.std.proofs.Common.{◌^◌, ◌<◌, arith, ◌∙◌}
 use Rattle.std.proofs.lemmas.Fmt.{decimal_nonempty}
 use Rattle.fleet_cli.proofs.Digits.{length-decimal_more, one_digit_more, length-decimal_last, last_digit}
 use Rattle.fleet_cli.proofs.rehearsal.digits.write_number.Goals as goal

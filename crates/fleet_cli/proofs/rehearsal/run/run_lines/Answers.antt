@@ -2,7 +2,7 @@ use Rattle.std.proofs.Common.{◌≡◌, ◌≢◌, ◌+◌, true, false, cond, 
 use Rattle.fleet_model.specs.Machine.{is_over, is_ready_held}
 use Rattle.fleet_cli.specs.Source.{flag_of}
 use Rattle.fleet_cli.proofs.Ending.{not_over}
-use Rattle.fleet_cli.proofs.UnderWay.{IsNextTick, all_asked, asked_so_far, asked_once_more, few_held, few_ticks, asked, falls, one_tick_on, stops_at_source, took_all, line_added, needs_more, rest_is, more_than}
+use Rattle.fleet_cli.proofs.UnderWay.{IsNextTick, all_asked, asked_once_more, few_held, few_ticks, asked, falls, one_tick_on, stops_at_source, took_all, line_added, needs_more, more_than}
 use Rattle.fleet_cli.proofs.rehearsal.run.run_lines.Goals as goal
 use Rattle.fleet_cli.proofs.rehearsal.run.run_lines.Given
 use Rattle.fleet_cli.proofs.rehearsal.run.run_lines.Goals.{Joined-tick, then-tick, else-tick, else-more-via-then-more+else-ticks-eq-MOST_TICKS, else-more-via-else-more}

@@ -15,3 +15,6 @@ pub mod Rehearsed
 pub mod WordLemmas
 pub mod InputLemmas
 pub mod HexRuns
+pub mod HoldLemmas
+pub mod HoldLaws
+pub mod RehearsesLemmas

@@ -7,4 +7,9 @@ pub mod Outcome
 pub mod Rehearsal
 pub mod Words
 pub mod Lines
+pub mod Output
 pub mod HexRun
+pub mod Files
+pub mod MemFiles
+pub mod HoldText
+pub mod RehearseCommand

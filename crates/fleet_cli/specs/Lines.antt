@@ -1,8 +1,8 @@
 -- The line and the status of each refusal.
 use Rattle.std.specs.Prelude.{ℕ, List, [], ◌∷◌, codes, decimal}
 use Rattle.fleet_cli.specs.Words.{line_text}
-use Rattle.fleet_code.specs.declared.hex.HexFault.{HexFault}
-use Rattle.fleet_code.specs.declared.hex.HexFault.TheVariants as h
+use Rattle.fleet_code.specs.declared.fault.HexFault.{HexFault}
+use Rattle.fleet_code.specs.declared.fault.HexFault.TheVariants as h
 use Rattle.fleet_code.specs.declared.fault.LoadFault.{LoadFault}
 use Rattle.fleet_code.specs.declared.fault.LoadFault.TheVariants as l
 use Rattle.fleet_cli.specs.declared.rehearsal.run.RunFault.{RunFault}

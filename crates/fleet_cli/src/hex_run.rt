@@ -3,7 +3,7 @@
 ghost use Rattle.std.specs.Prelude.{◌≡◌, ◌≢◌, true, false, MatchResult};
 ghost use Rattle.fleet_cli.specs.Sink.{Receives};
 ghost use Rattle.fleet_cli.specs.Lines.{line_of, status_of};
-ghost use Rattle.fleet_cli.specs.HexRun.{IsRefusalOf, RunsHex, WritesRehearsal};
+ghost use Rattle.fleet_cli.specs.HexRun.{IsRefusalOf, RehearsesInput, RunsHex};
 
 use crate::fault::Fault;
 use crate::input::{FileFault, read_whole};
@@ -20,7 +20,7 @@ fn rehearse_hex<R: Read, O: TraceOut>(
 ) -> Result<End, Fault<'static>>
     requires { O.has_failed out.old ≡ false }
     ensures { MatchResult result
-        (WritesRehearsal (R.remaining input.old) (record { before = O.taken out.old; taken = O.taken out.new; has_failed = O.has_failed out.new }))
+        (RehearsesInput (R.remaining input.old) (record { before = O.taken out.old; taken = O.taken out.new; has_failed = O.has_failed out.new }))
         (IsRefusalOf (R.remaining input.old) (record { before = O.taken out.old; taken = O.taken out.new; has_failed = O.has_failed out.new })) }
 {
     let text = match read_whole(alloc, input) {
@@ -44,7 +44,7 @@ fn rehearse_hex<R: Read, O: TraceOut>(
 }
 
 /// Tells the refusal, and answers its status.
-fn refuse<E: TraceOut>(fault: &Fault<'_>, err: &mut E) -> u8
+pub fn refuse<E: TraceOut>(fault: &Fault<'_>, err: &mut E) -> u8
     requires { E.has_failed err.old ≡ false }
     ensures status { result ≡ status_of fault.now }
     ensures told { Receives (E.taken err.old) (E.taken err.new) (E.has_failed err.new) (line_of fault.now) }

@@ -2,6 +2,7 @@
 
 mod digits;
 mod hold_list;
+mod hold_text;
 mod report;
 mod rows;
 mod run;
@@ -13,6 +14,7 @@ mod tick;
 
 pub use digits::write_number;
 pub use hold_list::HoldList;
+pub use hold_text::HoldText;
 pub use report::{Rehearsal, rehearse};
 pub use run::{End, RunFault};
 pub use sink::{OutFault, TraceOut, put_all};

@@ -1,4 +1,4 @@
--- What an action needs, and the chains of needs.
+-- What an action needs, and the chains of needs: the edges and the paths of the action dependency graph.
 use Rattle.std.specs.Prelude.{◌≡◌, ℕ, ◌+◌, ◌<◌, ◌≤◌, List, [], ◌∷◌, length, ◌⊎◌, Contains}
 use Rattle.fleet_model.specs.declared.program.Await.{Await}
 use Rattle.fleet_model.specs.declared.program.ActionId.{ActionId}
@@ -14,7 +14,7 @@ pub record IsAction (p : Program) (a : ActionId) : Type 0 where
 abbrev pub awaited : Await → ActionId
 awaited w = record { agent = w.agent; number = w.count }
 
--- b is awaited by a, or is the action of the same agent right before it
+-- a directly needs b: b is the action of the same agent right before a, or an action that a awaits
 abbrev pub DirectlyNeeds : Program → ActionId → ActionId → Type 0
 DirectlyNeeds p a b =
     ((a.agent ≡ b.agent) × (a.number ≡ b.number + 1) × (1 ≤ b.number))
@@ -38,7 +38,7 @@ pub record IsLevel (p : Program) (b : ActionId) (n : ℕ) : Type 0 where
   pub some : EndsChain p n b
   pub most : (m : ℕ) → EndsChain p m b → m ≤ n
 
--- the number of actions of the longest chain, or 0 without actions
+-- the number of actions of the longest chain: some chain has as many, and none has more. It is 0 without actions
 pub record IsLongestChain (p : Program) (n : ℕ) : Type 0 where
   pub some : (n ≡ 0) ⊎ ((b : ActionId) × EndsChain p n b)
   pub most : (b : ActionId) (m : ℕ) → EndsChain p m b → m ≤ n

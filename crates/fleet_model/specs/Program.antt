@@ -1,4 +1,6 @@
--- A program: for each agent a start, a goal and a list of actions. Agents count from 0, actions from 1.
+-- A program: for each agent a start, a goal and a list of actions. An action is a direction and awaits, which are pairs of an agent
+-- and a count. Agents count from 0, the actions of each from 1. What is asked of an agent or an action that is not there is answered
+-- by the origin, nothing or an empty list.
 use Rattle.std.specs.Prelude.{◌≢◌, ℕ, zero, suc, ◌<◌, ◌≤◌, List, [], ◌∷◌, length, map, take, Option, None, slice_get, option_map, sum_by, All, Contains}
 use Rattle.std.specs.Option.{option_map_or}
 use Rattle.std.specs.List.Sorted.{IsStrictlyIncreasing}
@@ -13,65 +15,73 @@ use Rattle.fleet_model.specs.Geometry.{place_of, moved}
 abbrev pub Program : Type 0
 Program = List AgentProgram
 
--- the upper left cell
+-- the upper left cell of every map
 abbrev pub origin : Cell
 origin = record { x = 0; y = 0 }
 
+-- where agent i begins
 abbrev pub start_of : Program → ℕ → Cell
 start_of p i = option_map_or (λ a. a.start) (slice_get p i) origin
 
+-- where agent i is to end
 abbrev pub goal_of : Program → ℕ → Cell
 goal_of p i = option_map_or (λ a. a.goal) (slice_get p i) origin
 
+-- what agent i does, in order
 abbrev pub actions_of : Program → ℕ → List Action
 actions_of p i = option_map_or (λ a. a.actions) (slice_get p i) []
 
--- how many actions agent i has
+-- how many actions agent i has, each of which is one move
 abbrev pub moves : Program → ℕ → ℕ
 moves p i = length (actions_of p i)
 
--- action n of agent i
+-- action n of agent i. There is no action 0
 abbrev pub action_of : Program → ℕ → ℕ → Option Action
 action_of p i zero = None
 action_of p i (suc n) = slice_get (actions_of p i) n
 
+-- the direction of action n of agent i
 abbrev pub dir_of : Program → ℕ → ℕ → Option Dir
 dir_of p i n = option_map (λ a. a.dir) (action_of p i n)
 
+-- the awaits of action n of agent i
 abbrev pub awaits_of : Program → ℕ → ℕ → List Await
 awaits_of p i n = option_map_or (λ a. a.awaits) (action_of p i n) []
 
+-- how many actions the agents have together
 abbrev pub total_moves : Program → ℕ
 total_moves p = sum_by (λ a. length a.actions) p
 
+-- how many awaits their actions have together
 abbrev pub total_awaits : Program → ℕ
 total_awaits p = sum_by (λ a. sum_by (λ s. length s.awaits) a.actions) p
 
--- how many awaits the actions of agent i have
+-- how many awaits the actions of agent i have together
 abbrev pub agent_awaits : Program → ℕ → ℕ
 agent_awaits p i = sum_by (λ s. length s.awaits) (actions_of p i)
 
--- a place after moves in these directions
+-- the place to which these actions lead from q
 abbrev pub walked : Place → List Action → Place
 walked q [] = q
 walked q (a ∷ actions) = walked (moved q a.dir) actions
 
--- where agent i is after its first n actions
+-- where agent i is after its first n actions: its start, moved in their directions. It stays at the last place
 abbrev pub path : Program → ℕ → ℕ → Place
 path p i n = walked (place_of (start_of p i)) (take n (actions_of p i))
 
--- an await by agent i that names another agent, and a count from 1 to that agent's moves
+-- an await by agent i that can be met: it names another agent, and a count from 1 to that agent's actions
 pub record IsInRange (p : Program) (i : ℕ) (w : Await) : Type 0 where
   pub agent : w.agent < length p
   pub other : w.agent ≢ i
   pub first : 1 ≤ w.count
   pub last : w.count ≤ moves p w.agent
 
--- every await of the program is such
+-- every await of the program can be met
 abbrev pub AreInRange : Program → Type 0
 AreInRange p = (i n : ℕ) (w : Await) → Contains (awaits_of p i n) w → IsInRange p i w
 
--- the awaits of an action of agent i, where there are n agents
+-- the awaits of an action of agent i, where there are n agents: in strictly rising order of agent, each of another agent that is
+-- there, with a count from 1 to 65,535, which may be above the awaited agent's actions
 pub record AreAwaits (n i : ℕ) (awaits : List Await) : Type 0 where
   pub rising : IsStrictlyIncreasing (map (λ w. w.agent) awaits)
   pub agents : All (λ w. w.agent < n) awaits
@@ -79,12 +89,12 @@ pub record AreAwaits (n i : ℕ) (awaits : List Await) : Type 0 where
   pub counts : All (λ w. 1 ≤ w.count) awaits
   pub few : All (λ w. w.count ≤ 65535) awaits
 
--- both numbers fit two bytes
+-- column and row fit two bytes
 pub record IsCell (c : Cell) : Type 0 where
   pub x : c.x < 65536
   pub y : c.y < 65536
 
--- a program within the limits
+-- a program within the limits on agents, cells, actions of one agent, actions in all and awaits
 pub record IsWellFormed (p : Program) : Type 0 where
   pub some_agents : 1 ≤ length p
   pub few_agents : length p ≤ 1024

@@ -8,6 +8,7 @@ mod program;
 mod standing;
 mod task;
 mod view;
+pub mod worked;
 
 pub use geometry::{Cell, Dir, Place};
 pub use limits::well_formed;

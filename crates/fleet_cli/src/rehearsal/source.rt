@@ -37,7 +37,7 @@ pub trait HoldSource {
 }
 
 /// Sets no flag.
-fn clear(flags: &mut [bool])
+pub fn clear(flags: &mut [bool])
     ensures { AreFlagsOf [] flags.new }
 {
     for flag in flags.iter_mut() {

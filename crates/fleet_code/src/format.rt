@@ -1,0 +1,50 @@
+//! The fixed bytes of the format, version 1.
+
+ghost use Rattle.std.specs.Prelude.{◌≡◌};
+ghost use Rattle.fleet_code.specs.Spelling.{opcode};
+ghost use Rattle.fleet_code.specs.Reading.{dir_at};
+
+use fleet_model::Dir;
+
+/// What the bytes of every program begin with.
+pub const MAGIC: &[u8] = b"MPF1";
+
+/// The opcode of an await. An agent and a count follow it.
+pub const AWAIT: u8 = 0x10;
+
+/// How many bytes stand before the first agent: the magic and the number of agents.
+pub const HEAD_LEN: usize = 6;
+
+/// How many bytes an agent takes beside its actions: two cells and the number of moves.
+pub const AGENT_LEN: usize = 10;
+
+/// How many bytes an await takes.
+pub const AWAIT_LEN: usize = 5;
+
+/// How many bytes an action takes at least: its move.
+pub const LEAST_ACTION_LEN: usize = 1;
+
+/// The opcode of a move in this direction.
+pub fn opcode_of(dir: Dir) -> u8
+    ensures { result ≡ opcode dir }
+{
+    match dir {
+        Dir::North => 0,
+        Dir::East => 1,
+        Dir::South => 2,
+        Dir::West => 3,
+    }
+}
+
+/// The direction of the move that has this opcode, if one has it.
+pub fn dir_of(opcode: u8) -> Option<Dir>
+    ensures { result ≡ dir_at opcode }
+{
+    match opcode {
+        0 => Some(Dir::North),
+        1 => Some(Dir::East),
+        2 => Some(Dir::South),
+        3 => Some(Dir::West),
+        _ => None,
+    }
+}

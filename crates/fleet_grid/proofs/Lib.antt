@@ -1,0 +1,9 @@
+pub mod StepLaws
+pub mod TextLaws
+pub mod BlockLaws
+pub mod BitLaws
+pub mod RowLaws
+pub mod StoredLaws
+pub mod MapLoops
+pub mod MapLaws
+pub mod FaultLaws

@@ -1,0 +1,6 @@
+pub mod Text
+pub mod Steps
+pub mod Ground
+pub mod MapText
+pub mod MapReading
+pub mod Stored

@@ -1,0 +1,37 @@
+-- How a map keeps its cells: eight to a byte, the first in the lowest bit. Each row begins with a byte of its own.
+use Rattle.std.specs.Prelude.{◌≡◌, ℕ, zero, suc, ◌+◌, ◌-◌, ◌*◌, ◌/◌, ◌%◌, ◌==◌, ◌≤◌, Bool, false, List, [], ◌∷◌, ◌++◌, length, take, drop, replicate}
+use Rattle.fleet_grid.specs.Ground.{Ground, passable_cells}
+
+-- the lowest k bits of a number, the lowest first
+unfoldable pub bits_of : (k n : ℕ) → List Bool
+bits_of zero n = []
+bits_of (suc k) n = (n % 2 == 1) ∷ bits_of k (n / 2)
+
+-- the cells that the bytes keep
+unfoldable pub cells_in : List ℕ → List Bool
+cells_in [] = []
+cells_in (b ∷ bytes) = bits_of 8 b ++ cells_in bytes
+
+-- how many bytes keep so many cells
+abbrev pub byte_count : ℕ → ℕ
+byte_count n = (n + 7) / 8
+
+-- cells, and blocked ones up to the end of their last byte
+unfoldable pub padded : List Bool → List Bool
+padded cells = cells ++ replicate (8 * byte_count (length cells) - length cells) false
+
+-- cells in a line, cut into rows of w cells, each of which begins p cells after the one before
+unfoldable pub rows_of : (w p h : ℕ) → List Bool → List (List Bool)
+rows_of w p zero cells = []
+rows_of w p (suc h) cells = take w cells ∷ rows_of w p h (drop p cells)
+
+-- the ground that the bytes keep
+abbrev pub ground_of : (w h : ℕ) → List ℕ → Ground
+ground_of w h bytes = record { width = w; height = h; rows = rows_of w (8 * byte_count w) h (cells_in bytes) }
+
+-- a map of these sizes is kept in the bytes, and n of its cells are passable
+pub record IsStored (w h n : ℕ) (bytes : List ℕ) : Type 0 where
+  pub width : w ≤ 4096
+  pub height : h ≤ 4096
+  pub size : length bytes ≡ byte_count w * h
+  pub count : n ≡ passable_cells (ground_of w h bytes)

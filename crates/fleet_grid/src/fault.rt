@@ -1,0 +1,40 @@
+//! Why a text is no map.
+
+use std::alloc::AllocError;
+use thiserror::Error;
+
+/// The first fault of a map text, from the front. The header's lines count from 1, rows and columns from 0.
+#[derive(Clone, Copy, Debug, PartialEq, Eq, Hash, Error)]
+pub enum MapFault {
+    #[error("memory ran out")]
+    OutOfMemory,
+    /// A line of the header is missing or has another form.
+    #[error("line {line} of the header is missing or has another form")]
+    Header { line: u64 },
+    /// A side is 0 or above 4,096.
+    #[error("a side of the map is 0 or above 4096")]
+    Size,
+    /// There are fewer rows than the header says.
+    #[error("there are fewer rows than the header says")]
+    RowCount,
+    /// A row is shorter or longer than the header says.
+    #[error("row {row} is not as wide as the header says")]
+    RowLength { row: u16 },
+    /// A byte of a row is no glyph.
+    #[error("the byte in row {row}, column {column} is no glyph")]
+    Glyph { row: u16, column: u16 },
+    /// Something follows the last row.
+    #[error("something follows the last row")]
+    Trailing,
+}
+
+impl From<AllocError> for MapFault {
+    ghost use Rattle.std.specs.Prelude.{◌≡◌};
+    ghost use Rattle.fleet_grid.specs.declared.fault.MapFault.TheVariants.{OutOfMemory};
+
+    ghost from_gives = { λ _ e. e ≡ OutOfMemory };
+
+    fn from(_e: AllocError) -> MapFault {
+        MapFault::OutOfMemory
+    }
+}

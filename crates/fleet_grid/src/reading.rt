@@ -1,0 +1,169 @@
+//! The reader of maps.
+
+ghost use Rattle.std.specs.Prelude.{◌≡◌, ◌≢◌, drop, length, IfOk, OnOk, IfErr, IsOkUnless, option_map, option_copied, min};
+ghost use Rattle.std.specs.List.{list_all};
+ghost use Rattle.fleet_grid.specs.Text.{lines, words_from_front};
+ghost use Rattle.fleet_grid.specs.Ground.{Ground, IsSide};
+ghost use Rattle.fleet_grid.specs.MapText.{line_at, is_space, cells_of, IsMapText, IsFirstMapFault};
+ghost use Rattle.fleet_grid.specs.MapReading.{Gives, field, number_field, is_alone, is_side, header_at, row_at, rows_at, map_at};
+ghost use Rattle.fleet_grid.specs.Stored.{ground_of, IsStored};
+
+use crate::fault::MapFault;
+use crate::glyphs::wrong_column;
+use crate::grid::Grid;
+use crate::stored::{Cells, byte_count};
+use crate::text::{Cursor, from_front, is_blank, next_word, number_of};
+use std::alloc::Global;
+
+const MAX_SIDE: u32 = 4096;
+
+/// The next line. One that is missing is as good as an empty one.
+fn next_of<'a>(lines: &mut Cursor<'a>) -> &'a [u8]
+    ensures line { result.now ≡ line_at lines.old 0 }
+    ensures rest { lines.new ≡ drop 1 lines.old }
+{
+    lines.next_line().unwrap_or(&[])
+}
+
+/// The word of a header line after its keyword.
+#[tactic(auto, unfolding(crate::specs::MapReading::field))]
+fn field<'a>(keyword: &[u8], line: &'a [u8]) -> Option<&'a [u8]>
+    ensures { option_copied result ≡ field keyword.now line.now }
+{
+    let (first, rest) = next_word(from_front(line))?;
+    let (word, rest) = next_word(rest)?;
+    if next_word(rest).is_some() || first != keyword {
+        return None;
+    }
+    Some(word)
+}
+
+/// The number of a header line after its keyword.
+#[tactic(auto, unfolding(crate::specs::MapReading::number_field))]
+fn number_field(keyword: &[u8], line: &[u8]) -> Option<u32>
+    ensures { result ≡ option_map (λ n. min n 65536) (number_field keyword.now line.now) }
+{
+    number_of(field(keyword, line)?)
+}
+
+fn is_alone(keyword: &[u8], line: &[u8]) -> bool
+    ensures { result ≡ is_alone keyword.now (words_from_front line.now) }
+{
+    match next_word(from_front(line)) {
+        Some((first, rest)) => next_word(rest).is_none() && first == keyword,
+        None => false,
+    }
+}
+
+fn is_side(n: u32) -> bool
+    ensures { result ≡ is_side n }
+{
+    (1..=MAX_SIDE).contains(&n)
+}
+
+/// Width and height.
+#[tactic(auto, unfolding(crate::specs::MapReading::header_at))]
+fn header_of(lines: &mut Cursor) -> Result<(u16, u16), MapFault>
+    ensures value { Gives (λ sizes. sizes) result (header_at lines.old) }
+    ensures sizes { IfOk result (λ sizes. IsSide sizes.0 × IsSide sizes.1) }
+    ensures rest { IfOk result (λ _. lines.new ≡ drop 4 lines.old) }
+{
+    if field(b"type", next_of(lines)).is_none() {
+        return Err(MapFault::Header { line: 1 });
+    }
+    let Some(height) = number_field(b"height", next_of(lines)) else {
+        return Err(MapFault::Header { line: 2 });
+    };
+    let Some(width) = number_field(b"width", next_of(lines)) else {
+        return Err(MapFault::Header { line: 3 });
+    };
+    if !is_alone(b"map", next_of(lines)) {
+        return Err(MapFault::Header { line: 4 });
+    }
+    if !is_side(height) || !is_side(width) {
+        return Err(MapFault::Size);
+    }
+    Ok((width as u16, height as u16))
+}
+
+/// Whether the line is a row of the map.
+#[tactic(auto, unfolding(crate::specs::MapReading::row_at))]
+fn judge_row(width: u16, row: u16, line: &[u8]) -> Result<(), MapFault>
+    ensures value { Gives (λ _. cells_of line.now) result (row_at width row line.now) }
+    ensures width { OnOk result (length line.now ≡ width) }
+{
+    if line.len() != usize::from(width) {
+        return Err(MapFault::RowLength { row });
+    }
+    if let Some(column) = wrong_column(line) {
+        let column = column as u16;
+        return Err(MapFault::Glyph { row, column });
+    }
+    Ok(())
+}
+
+/// The cells of all rows.
+fn cells_of(alloc: Global, width: u16, height: u16, lines: &mut Cursor) -> Result<Cells, MapFault>
+    requires width { IsSide width }
+    requires height { IsSide height }
+    ensures value { Gives (λ c. ((ground_of width height c.bytes.items).rows, lines.new)) result (rows_at height width 0 lines.old) }
+    ensures stored { IfOk result (λ c. IsStored width height c.passable_count c.bytes.items) }
+{
+    // Each byte of cells comes from bytes of the text, so sizes beyond the text reserve nothing for themselves.
+    let most = byte_count(usize::from(width)) * usize::from(height);
+    let mut cells = Cells::with_capacity(alloc, most.min(lines.bytes_left()))?;
+    for row in 0..height {
+        let Some(line) = lines.next_line() else {
+            return Err(MapFault::RowCount);
+        };
+        judge_row(width, row, line)?;
+        cells.put_row(line)?;
+    }
+    Ok(cells)
+}
+
+/// Whether nothing that shows is left.
+fn is_ended(lines: &mut Cursor) -> bool
+    ensures { result ≡ list_all (list_all is_space) lines.old }
+{
+    while let Some(line) = lines.next_line() {
+        if !is_empty(line) {
+            return false;
+        }
+    }
+    true
+}
+
+fn is_empty(line: &[u8]) -> bool
+    ensures { result ≡ list_all is_space line.now }
+{
+    line.iter().all(|b| is_blank(*b) || *b == b'\r')
+}
+
+#[tactic(auto, unfolding(crate::specs::MapReading::map_at))]
+fn map_of(alloc: Global, bytes: &[u8]) -> Result<Grid, MapFault>
+    ensures { Gives (λ g. g) result (map_at (lines bytes.now)) }
+{
+    let mut lines = Cursor::new(bytes);
+    let (width, height) = header_of(&mut lines)?;
+    let cells = cells_of(alloc, width, height, &mut lines)?;
+    if !is_ended(&mut lines) {
+        return Err(MapFault::Trailing);
+    }
+    Ok(Grid::new(width, height, cells))
+}
+
+/// The map that a text of the MovingAI benchmark's format stands for (Sturtevant 2012). The text is read once, from the
+/// front, and a refusal for another cause than memory is its first fault.
+///
+/// A bit is kept for each cell, and never more than the text's bytes can fill.
+pub fn read_map(alloc: Global, bytes: &[u8]) -> Result<Grid, MapFault>
+    // The text stands for what is read.
+    ensures found { IfOk result (λ g. IsMapText bytes.now g) }
+    // What stands for a ground is read, unless memory runs out.
+    ensures read { (g : Ground) → IsMapText bytes.now g → IsOkUnless result MapFault.OutOfMemory }
+    // Which fault it is.
+    ensures fault { IfErr result (λ f. f ≢ MapFault.OutOfMemory → IsFirstMapFault bytes.now f) }
+{
+    map_of(alloc, bytes)
+}

@@ -1,0 +1,92 @@
+//! The cells of a map, a bit for each.
+
+ghost use Rattle.std.specs.Prelude.{◌≡◌, ◌+◌, ◌-◌, ◌*◌, ◌<◌, ◌≤◌, ◌^◌, ◌++◌, ◌==◌, ◌/◌, ◌%◌, length, map, take, replicate, count_by, OnOk, IfOk, []};
+ghost use Rattle.fleet_grid.specs.MapText.{is_ground_glyph, cells_of};
+ghost use Rattle.fleet_grid.specs.Stored.{cells_in, byte_count, padded};
+
+use crate::blocks::BLOCK;
+use crate::glyphs::ground_mask;
+use std::alloc::{AllocError, Global};
+use std::simd::prelude::*;
+
+/// Rows of cells, eight cells to a byte, the first in the lowest bit. A bit is set where the cell is passable, and each
+/// row begins with a byte of its own.
+#[derive(Debug, Drop)]
+pub(crate) struct Cells {
+    pub(crate) bytes: Vec<u8>,
+    pub(crate) passable_count: u32,
+}
+
+/// A glyph of a cell that is not passable.
+const BLOCKED: u8 = b'@';
+
+/// How many bytes keep so many cells.
+pub(crate) fn byte_count(cells: usize) -> usize
+    requires { cells ≤ 65535 }
+    ensures { result ≡ byte_count cells }
+{
+    cells.div_ceil(8)
+}
+
+/// A block of these glyphs, and blocked ones after them.
+fn filled(glyphs: &[u8]) -> [u8; BLOCK]
+    requires { length glyphs.now ≤ BLOCK }
+    ensures { result ≡ glyphs.now ++ replicate (BLOCK - length glyphs.now) BLOCKED }
+{
+    let mut block = [BLOCKED; BLOCK];
+    block[..glyphs.len()].copy_from_slice(glyphs);
+    block
+}
+
+impl Cells {
+    /// No row, and room for so many bytes.
+    pub(crate) fn with_capacity(alloc: Global, capacity: usize) -> Result<Self, AllocError>
+        ensures bytes { IfOk result (λ c. c.bytes.items ≡ []) }
+        ensures count { IfOk result (λ c. c.passable_count ≡ 0) }
+    {
+        Ok(Cells {
+            bytes: Vec::with_capacity(alloc, capacity)?,
+            passable_count: 0,
+        })
+    }
+
+    /// Adds a row of glyphs.
+    pub(crate) fn put_row(&mut self, line: &[u8]) -> Result<(), AllocError>
+        requires few { length line.now ≤ 4096 }
+        requires count { self.old.passable_count + length line.now ≤ 2 ^ 24 }
+        ensures bytes { OnOk result (cells_in self.new.bytes.items ≡ cells_in self.old.bytes.items ++ padded (cells_of line.now)) }
+        ensures count { OnOk result (self.new.passable_count ≡ self.old.passable_count + count_by is_ground_glyph line.now) }
+    {
+        let mut rest = line;
+        while let Some((block, after)) = rest.split_first_chunk::<BLOCK>() {
+            self.put_block(block, BLOCK)?;
+            rest = after;
+        }
+        self.put_block(&filled(rest), rest.len())?;
+        Ok(())
+    }
+
+    /// Adds the bytes that keep the first so many glyphs of a block, the others of which are blocked. In line, since of
+    /// a whole block the length is then known.
+    #[inline(always)]
+    fn put_block(&mut self, block: &[u8; BLOCK], len: usize) -> Result<(), AllocError>
+        requires len { len ≤ BLOCK }
+        requires count { self.old.passable_count ≤ 2 ^ 24 }
+        ensures bytes { OnOk result (cells_in self.new.bytes.items ≡ cells_in self.old.bytes.items ++ take (8 * byte_count len) (map is_ground_glyph block.now)) }
+        ensures count { OnOk result (self.new.passable_count ≡ self.old.passable_count + count_by is_ground_glyph block.now) }
+    {
+        let mask = ground_mask(u8x64::from_array(*block));
+        self.bytes
+            .extend_from_slice(&mask.to_le_bytes()[..byte_count(len)])?;
+        self.passable_count += mask.count_ones();
+        Ok(())
+    }
+}
+
+/// Whether bit `place` of the byte is set.
+pub(crate) fn is_set(byte: u8, place: u8) -> bool
+    requires { place < 8 }
+    ensures { result ≡ (byte / 2 ^ place % 2 == 1) }
+{
+    (byte >> place) & 1 == 1
+}

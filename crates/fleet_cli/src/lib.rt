@@ -20,4 +20,6 @@ pub use mem_files::MemFiles;
 pub use rehearse_command::run_rehearse;
 
 #[cfg(test)]
+mod file_tests;
+#[cfg(test)]
 mod tests;

@@ -1,0 +1,6 @@
+mod CommandLemmas
+mod MatchedRows
+mod MatchedValues
+mod EnteredCommand
+mod RequestLemmas
+mod Requested

@@ -1,0 +1,122 @@
+-- Words in which the command line finds no fault ask for a request.
+use Rattle.std.proofs.Common.{◌≡◌, ◌∙◌, ◌⊎◌, inl, inr, ◌||◌, ◌<◌, ◌^◌, ℕ, Bool, cond, true, false, List, [], Option, Some, None, codes, is_some, option_map, refl, sym, ap, subst, true≢false, arith, ltb-true}
+use Rattle.std.specs.Prelude.{pos}
+use Rattle.std.specs.Str.{bytes_eq}
+use Rattle.std.specs.Str.Parse.{ParsesUnsigned, digits_value, without_leading_plus}
+use Rattle.std.proofs.lemmas.Slice.Eq.{bytes_eq-Decides}
+use Rattle.clap.specs.Lexer.{without_minus}
+use Rattle.clap.specs.Matches.{ReadsOne}
+use Rattle.clap.specs.Facts.{parser_of_value}
+use Rattle.clap.specs.Values.{read_as, reading_of}
+use Rattle.clap.specs.ValueTests.{accepts}
+use Rattle.clap.specs.Simple.{Shape, built, built_leaf, filled, inherited, label_of, marked_built, rows_at, with_index, with_leaf_noted}
+use Rattle.clap.specs.Walk.{Row, Rule, Text, answers_to, first_of, nothing_held, one_of, rows_after}
+use Rattle.clap.specs.Faults.{fault_of, level_fault}
+use Rattle.clap.specs.declared.builder.value_parser.ValueParser.TheVariants as parser
+use Rattle.clap.proofs.CallerReads.{signed_reads}
+use Rattle.clap.proofs.ValueTestLemmas.{accepts-Accepts}
+use Rattle.clap.proofs.WalkLemmas.{both}
+use Rattle.fleet_args.specs.CommandLine.{agents_rule, fleet, instance_shape, rehearse_shape, word}
+use Rattle.fleet_args.specs.Request.{answered_by, asked_by, instance_by, rehearse_by, number_by, number_in}
+use Rattle.fleet_args.proofs.RequestLemmas.{digits_from, is_small, is_small_number}
+use Rattle.fleet_args.proofs.MatchedRows.{Among}
+use Rattle.fleet_args.proofs.MatchedValues.{HasValue, optional_value, required_value}
+use Rattle.fleet_args.proofs.EnteredCommand.{enters}
+
+-- ---- numbers
+
+-- what a text is read as is its number, or it has none
+number_reads : (text : Text) → ReadsOne {T = ℕ} {E = Unit {0}} (ParsesUnsigned 16 10) text (number_in text)
+number_reads text = go (is_small (without_leading_plus text)) refl
+  where
+    go : (b : Bool) → is_small (without_leading_plus text) ≡ b
+        → ReadsOne {T = ℕ} {E = Unit {0}} (ParsesUnsigned 16 10) text (cond b (Some (digits_value 10 (without_leading_plus text))) None)
+    go true t =
+        let outer = both _ _ t in
+        let inner = both _ _ outer.0 in
+        (((ltb-true _ _ inner.0, digits_from (without_leading_plus text) inner.1), ltb-true _ _ outer.1), refl)
+    go false t = (tt, λ h. true≢false (sym (is_small_number (without_leading_plus text) h.0 h.1) ∙ t))
+
+-- a value that passed a range of numbers below 2 ^ 16 is a number
+number_value : (a : Rule) (rows : List Row) (low high : ℕ) → a.parser ≡ Some (parser.Signed (pos low) (pos high)) → high < 2 ^ 16 → HasValue a rows
+    → (n : ℕ) × (number_by (one_of a.id rows) ≡ Some (Some n))
+number_value a rows low high is fits value =
+    let pass : accepts a.ignore_case (parser.Signed (pos low) (pos high)) value.text ≡ true = ap (λ p. accepts a.ignore_case (parser_of_value p) value.text) (sym is) ∙ value.pass in
+    let one : one_of a.id rows ≡ Some (without_minus value.text) = value.one ∙ ap (λ p. Some (read_as (reading_of (parser_of_value p)) value.text)) is in
+    let number = signed_reads (Unit {0}) (ParsesUnsigned 16 10) 16 low high value.text (number_in (without_minus value.text)) (number_reads (without_minus value.text)) (λ u x h. h) fits
+    (accepts-Accepts a.ignore_case (parser.Signed (pos low) (pos high)) value.text pass) in
+    (number.0, ap number_by one ∙ ap (option_map Some) number.1)
+
+-- the number of an option that was used, or not
+number_option : (a : Rule) (rows : List Row) (low high : ℕ) → a.parser ≡ Some (parser.Signed (pos low) (pos high)) → high < 2 ^ 16
+    → (first_of a.id rows ≡ None) × (one_of a.id rows ≡ None) ⊎ HasValue a rows → (n : Option ℕ) × (number_by (one_of a.id rows) ≡ Some n)
+number_option a rows low high is fits value = elim value [
+  | inl none ↦ (None, ap number_by none.1)
+  | inr has ↦
+      let number = number_value a rows low high is fits has in
+      (Some number.0, number.1)
+]
+
+-- ---- the commands
+
+-- a command of the program as a parse has it
+abbrev leaf : Shape → Shape
+leaf shape = built_leaf (inherited (with_leaf_noted (marked_built fleet.top)) shape)
+
+-- the argument at this place among the words
+abbrev at : ℕ → Rule → Rule
+at place rule = with_index place (filled rule)
+
+abbrev Answers : Shape → List Text → Type 0
+Answers shape words = level_fault (leaf shape) [] nothing_held words false [] ≡ [] → is_some (asked_by (Some (rows_at (leaf shape) words))) ≡ true
+
+instance_asks : (first : Text → Option Text) (number : Text → Option (Option ℕ)) (map scen : Text) (agents : Option ℕ) → first (codes "map") ≡ Some map
+    → first (codes "scen") ≡ Some scen → number (codes "agents") ≡ Some agents → is_some (instance_by first number) ≡ true
+instance_asks first number map scen agents h k l = rw (h, k, l) refl
+
+instance_answers : (words : List Text) → Answers instance_shape words
+instance_answers words none =
+    let map = required_value (leaf instance_shape) words none (at 1 (word (codes "map"))) refl refl refl refl in
+    let scen = required_value (leaf instance_shape) words none (at 2 (word (codes "scen"))) refl refl refl refl in
+    let agents = number_option (at 3 agents_rule) (rows_after (leaf instance_shape).rules [] words) 0 65535 refl (omega arith)
+    (optional_value (leaf instance_shape) words none (at 3 agents_rule) refl refl) in
+    instance_asks (λ id. first_of id (rows_after (leaf instance_shape).rules [] words)) (λ id. number_by (one_of id (rows_after (leaf instance_shape).rules [] words)))
+    map.text scen.text agents.0 map.first scen.first agents.1
+
+rehearse_asks : (first : Text → Option Text) (program : Text) → first (codes "program") ≡ Some program → is_some (rehearse_by first) ≡ true
+rehearse_asks first program h = rw h refl
+
+rehearse_answers : (words : List Text) → Answers rehearse_shape words
+rehearse_answers words none =
+    let program = required_value (leaf rehearse_shape) words none (at 1 (word (codes "program"))) refl refl refl refl in
+    rehearse_asks (λ id. first_of id (rows_after (leaf rehearse_shape).rules [] words)) program.text program.first
+
+-- ---- the command line
+
+answers_each : (s : Shape) (words : List Text) → Among s (built fleet).subs → (name : Text) → answers_to name (label_of s) ≡ true → bytes_eq name (codes "help") ≡ false
+    → level_fault s [] nothing_held words false [] ≡ [] → is_some (asked_by (Some (rows_at s words))) ≡ true
+answers_each s words among name named no_help = elim among [
+  | inl same ↦ subst P (sym same) (instance_answers words)
+  | inr rest ↦ elim rest [
+    | inl same ↦ subst P (sym same) (rehearse_answers words)
+    | inr last ↦ elim last [
+      | inl same ↦ λ none. absurd (true≢false (sym (helps (ap (λ x. answers_to name (label_of x)) (sym same) ∙ named)) ∙ no_help))
+      | inr nothing ↦ absurd nothing
+    ]
+  ]
+]
+  where
+    P : Shape → Type 0
+    P x = level_fault x [] nothing_held words false [] ≡ [] → is_some (asked_by (Some (rows_at x words))) ≡ true
+
+    helps : (bytes_eq (codes "help") name || false) ≡ true → bytes_eq name (codes "help") ≡ true
+    helps e = (bytes_eq-Decides name (codes "help")).1 (sym ((bytes_eq-Decides (codes "help") name).0 (first (bytes_eq (codes "help") name) e)))
+      where
+        first : (b : Bool) → (b || false) ≡ true → b ≡ true
+        first true t = refl
+        first false t = t
+
+pub is_answered : (words : List Text) → fault_of fleet words ≡ [] → is_some (answered_by fleet words) ≡ true
+is_answered words none =
+    let e = enters (built fleet) words refl refl none in
+    ap (λ o. is_some (asked_by o)) e.found ∙ answers_each e.command e.left e.among e.answers.0 e.answers.1 e.answers.2 e.none

@@ -1,0 +1,47 @@
+-- The program's command line, as what a parse reads of it.
+use Rattle.std.specs.Prelude.{◌≡◌, true, false, List, [], ◌∷◌, Some, codes, pos, fold}
+use Rattle.clap.specs.Words.{App, Shape, Rule, Text, new_app, new_rule, with_rule, with_subcommand, shape_of, rule_of}
+use Rattle.clap.specs.declared.builder.Arg.{Arg}
+use Rattle.clap.specs.declared.builder.Command.TheViews.{out-Command as fields_of}
+use Rattle.clap.specs.declared.builder.Command.{Command}
+use Rattle.clap.specs.declared.builder.ValueParser.TheVariants as parser
+
+-- a word that has to be there, at its place among such words
+abbrev pub word : Text → Rule
+word id = record (new_rule id) { required = true; value_names = 1 }
+
+-- `--NAME VALUE`
+abbrev pub option : Text → Rule
+option name = record (new_rule name) { long = Some name; value_names = 1 }
+
+-- `--agents K`, where K is a number up to 65535
+abbrev pub agents_rule : Rule
+agents_rule = record (option (codes "agents")) { parser = Some (parser.Signed (pos 0) (pos 65535)) }
+
+-- a command without subcommands, by its name and its arguments
+abbrev pub command : Text → List Rule → Shape
+command name rules = (fold with_rule (new_app name) rules).top
+
+abbrev pub instance_shape : Shape
+instance_shape = command (codes "instance") (word (codes "map") ∷ word (codes "scen") ∷ agents_rule ∷ [])
+
+abbrev pub rehearse_shape : Shape
+rehearse_shape = command (codes "rehearse") (word (codes "program") ∷ option (codes "holds") ∷ [])
+
+-- the program: its words do not begin with its name, and one of the commands is wanted
+abbrev pub fleet_top : App
+fleet_top = record (new_app (codes "fleet")) {
+  top = record (new_app (codes "fleet")).top { no_binary_name = true; subcommand_required = true };
+}
+
+-- the whole command line
+abbrev pub fleet : App
+fleet = fold with_subcommand fleet_top (instance_shape ∷ rehearse_shape ∷ [])
+
+-- the argument has this rule, and does not reach into other commands
+abbrev pub IsArg : Rule → Arg → Type 0
+IsArg rule arg = (rule_of arg ≡ rule) × (arg.global ≡ false)
+
+-- the command has this shape, and no argument that reaches into others
+abbrev pub IsLeafCommand : Shape → Command → Type 0
+IsLeafCommand shape command = (shape_of command ≡ shape) × ((fields_of command).has_globals ≡ false)

@@ -1,0 +1,134 @@
+//! The program's command line, as `clap` reads it: for each command a function that builds it, with its words and its options.
+
+ghost use Rattle.std.specs.Prelude.{◌≡◌, ◌∷◌, [], IfOk, codes};
+ghost use Rattle.clap.specs.Words.{app_of};
+ghost use Rattle.fleet_args.specs.CommandLine.{IsArg, IsLeafCommand, word, option, agents_rule, command, instance_shape, rehearse_shape, fleet_top, fleet};
+
+use clap::{Arg, Command};
+use std::alloc::{AllocError, Global};
+
+/// A word that the command needs, at its place among such words.
+fn positional<'a>(alloc: Global, id: &'a str, name: &'a str, help: &'a str) -> Arg<'a>
+    ensures { IsArg (word id.entry.now) result }
+{
+    Arg::new(alloc, id)
+        .required(true)
+        .value_name(name)
+        .help(help)
+}
+
+/// An option `--NAME` with one value.
+fn option<'a>(alloc: Global, name: &'a str, value: &'a str, help: &'a str) -> Arg<'a>
+    ensures { IsArg (option name.entry.now) result }
+{
+    Arg::new(alloc, name)
+        .long(name)
+        .value_name(value)
+        .help(help)
+}
+
+fn map<'a>(alloc: Global) -> Arg<'a>
+    ensures { IsArg (word (codes "map")) result }
+{
+    positional(
+        alloc,
+        "map",
+        "MAP",
+        "Map file (MovingAI), each side 1 to 4096",
+    )
+}
+
+fn scen<'a>(alloc: Global) -> Arg<'a>
+    ensures { IsArg (word (codes "scen")) result }
+{
+    positional(
+        alloc,
+        "scen",
+        "SCEN",
+        "Scenario file (MovingAI), one line per agent",
+    )
+}
+
+fn program<'a>(alloc: Global) -> Arg<'a>
+    ensures { IsArg (word (codes "program")) result }
+{
+    positional(alloc, "program", "PROGRAM", "Program file (bytes)")
+}
+
+fn agents<'a>(alloc: Global) -> Arg<'a>
+    ensures { IsArg agents_rule result }
+{
+    option(
+        alloc,
+        "agents",
+        "K",
+        "Take the first K agents of the scenario, 1 to 1024 [default: all]",
+    )
+    .value_parser(clap::value_parser!(u16))
+}
+
+fn holds<'a>(alloc: Global) -> Arg<'a>
+    ensures { IsArg (option (codes "holds")) result }
+{
+    option(
+        alloc,
+        "holds",
+        "FILE",
+        "Holds text: the agents held in each tick, a line per tick [default: nobody is held]",
+    )
+}
+
+/// A command on a map and a scenario, before its other arguments.
+fn map_and_scen<'a>(alloc: Global, name: &'a str, about: &'a str) -> Result<Command<'a>, AllocError>
+    ensures { IfOk result (IsLeafCommand (command name.entry.now (word (codes "map") ∷ word (codes "scen") ∷ []))) }
+{
+    Command::new(alloc, name)
+        .about(about)
+        .arg(map(alloc))?
+        .arg(scen(alloc))
+}
+
+fn instance_command<'a>(alloc: Global) -> Result<Command<'a>, AllocError>
+    ensures { IfOk result (IsLeafCommand instance_shape) }
+{
+    map_and_scen(
+        alloc,
+        "instance",
+        "Prints the size of a map, its passable cells, and each agent's start and goal",
+    )?
+    .arg(agents(alloc))
+}
+
+fn rehearse_command<'a>(alloc: Global) -> Result<Command<'a>, AllocError>
+    ensures { IfOk result (IsLeafCommand rehearse_shape) }
+{
+    Command::new(alloc, "rehearse")
+        .about("Runs a program tick by tick, printing its positions, until it is finished or stuck")
+        .arg(program(alloc))?
+        .arg(holds(alloc))
+}
+
+/// The command line without its commands. Its words do not begin with the program's name.
+fn without_commands<'a>(alloc: Global) -> Result<Command<'a>, AllocError>
+    ensures { IfOk result (λ command. app_of command ≡ fleet_top) }
+{
+    Ok(
+        Command::new(alloc, "fleet")
+            .no_binary_name(true)
+            .bin_name("fleet")?
+            .about("Programs for a fleet of robots on a grid")
+            .after_help(
+                "Without a command: rehearses, with nobody held, the program that standard input gives in hexadecimal.\nStatus: 0 done, 1 refused or stuck, 2 wrong usage, 3 a file, the output or memory failed.",
+            )
+            .subcommand_required(true),
+    )
+}
+
+/// The whole command line.
+pub fn fleet_command<'a>(alloc: Global) -> Result<Command<'a>, AllocError>
+    ensures { IfOk result (λ command. app_of command ≡ fleet) }
+{
+    without_commands(alloc)?
+        .subcommand(instance_command(alloc)?)?
+        .subcommand(rehearse_command(alloc)?)
+}

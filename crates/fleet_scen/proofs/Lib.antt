@@ -1,0 +1,4 @@
+pub mod LineLaws
+pub mod ScenLoop
+pub mod ScenLaws
+pub mod ScenFaults

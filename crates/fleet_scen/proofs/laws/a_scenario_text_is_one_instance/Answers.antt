@@ -1,0 +1,9 @@
+use Rattle.fleet_grid.specs.Text.{lines}
+use Rattle.fleet_scen.proofs.ScenFaults.{one_instance}
+use Rattle.fleet_scen.proofs.laws.a_scenario_text_is_one_instance.Goals as goal
+
+pub returns-clause-one : goal.returns-clause-one
+returns-clause-one c = λ text g asked s t a b. one_instance g asked (lines text) s t a b
+
+pub returns-clause-instance : goal.returns-clause-instance
+returns-clause-instance c = λ text g asked t a. a.instance

@@ -1,0 +1,94 @@
+-- Reading a scenario's lines in the order of judging, with the first fault that is met.
+use Rattle.std.specs.Prelude.{◌≡◌, ℕ, ◌+◌, Bool, true, not, ◌&&◌, ◌==◌, nat_lt, nat_le, List, [], ◌∷◌, ◌++◌, length, Option, Some, None, Result, Ok, Err, if◌then◌else◌}
+use Rattle.std.specs.List.{list_any}
+use Rattle.fleet_model.specs.declared.geometry.Cell.{Cell}
+use Rattle.fleet_model.specs.declared.task.Task.{Task}
+use Rattle.fleet_model.specs.Geometry.{place_of}
+use Rattle.fleet_grid.specs.Text.{Bytes, words}
+use Rattle.fleet_grid.specs.Steps.{◌>>=◌, ◌>>◌, right_or, some_or}
+use Rattle.fleet_grid.specs.Ground.{Ground, is_passable}
+use Rattle.fleet_scen.specs.declared.fault.ScenFault.{ScenFault}
+use Rattle.fleet_scen.specs.declared.fault.ScenFault.TheVariants.{OutOfMemory, Version, Fields, Number, OtherMap, Blocked, SharedStart, SharedGoal, NoAgents, TooMany, Fewer}
+use Rattle.fleet_scen.specs.Fields.{fields_of}
+use Rattle.fleet_scen.specs.ScenText.{is_filled, is_version}
+
+-- What a function returned, seen by view, is what reading gives, unless memory ran out.
+abbrev pub Fails : {Y : Type 0} → ScenFault → Result Y ScenFault → Type 0
+Fails OutOfMemory read = Unit {0}
+Fails e read = read ≡ Err e
+
+abbrev pub Gives : {X Y : Type 0} → (X → Y) → Result X ScenFault → Result Y ScenFault → Type 0
+Gives view (Ok x) read = read ≡ Ok (view x)
+Gives view (Err e) read = Fails e read
+
+-- width, height and task, by the words of a line
+unfoldable pub numbers_at : ℕ → List Bytes → Result (ℕ × ℕ × Task) ScenFault
+numbers_at line ws = do
+  f ← some_or (fields_of ws) (Fields line)
+  width ← some_or f.width (Number line 3)
+  height ← some_or f.height (Number line 4)
+  start_x ← some_or f.start_x (Number line 5)
+  start_y ← some_or f.start_y (Number line 6)
+  goal_x ← some_or f.goal_x (Number line 7)
+  goal_y ← some_or f.goal_y (Number line 8)
+  Ok (width, height, record { start = record { x = start_x; y = start_y }; goal = record { x = goal_x; y = goal_y } })
+
+-- the task of a line with these words, which is possible on the map
+unfoldable pub task_at : Ground → ℕ → List Bytes → Result Task ScenFault
+task_at g line ws = do
+  n ← numbers_at line ws
+  right_or (n.0 == g.width && n.1 == g.height) (OtherMap line)
+  right_or (is_passable g (place_of n.2.start) && is_passable g (place_of n.2.goal)) (Blocked line)
+  Ok n.2
+
+abbrev pub same_cell : Cell → Cell → Bool
+same_cell a b = (a.x == b.x) && (a.y == b.y)
+
+abbrev pub starts_at : Cell → Task → Bool
+starts_at c t = same_cell t.start c
+
+abbrev pub ends_at : Cell → Task → Bool
+ends_at c t = same_cell t.goal c
+
+-- whether the task shares no cell with those of earlier agents
+unfoldable pub apart_at : ℕ → List Task → Task → Result (Unit {0}) ScenFault
+apart_at line earlier t = do
+  right_or (not (list_any (starts_at t.start) earlier)) (SharedStart line)
+  right_or (not (list_any (ends_at t.goal) earlier)) (SharedGoal line)
+
+-- fewer agents than were asked for
+abbrev pub lacks : Option ℕ → ℕ → Bool
+lacks None count = true
+lacks (Some asked) count = nat_lt count asked
+
+-- the judgement at the end of the text, or once all that were asked for are read
+abbrev pub ended : Option ℕ → List Task → Result (List Task) ScenFault
+ended None [] = Err NoAgents
+ended None (t ∷ tasks) = Ok (t ∷ tasks)
+ended (Some asked) tasks = right_or (not (nat_lt (length tasks) asked)) Fewer >> Ok tasks
+
+-- the tasks of the lines, before which as many lines stand; earlier agents come first
+unfoldable pub tasks_at : Ground → Option ℕ → ℕ → List Task → List Bytes → Result (List Task) ScenFault
+tasks_at g asked before earlier [] = ended asked earlier
+tasks_at g asked before earlier (line ∷ ls) =
+    if not (lacks asked (length earlier)) then ended asked earlier
+    else if not (is_filled (words line)) then tasks_at g asked (before + 1) earlier ls
+    else right_or (nat_lt (length earlier) 1024) TooMany >> (task_at g (before + 1) (words line) >>= λ task. apart_at (before + 1) earlier task >> tasks_at g asked (before + 1) (earlier ++ task ∷ []) ls)
+
+-- the lines after the version line, and how many lines stand before them
+unfoldable pub after_version : ℕ → List Bytes → Result (ℕ × List Bytes) ScenFault
+after_version before [] = Err Version
+after_version before (line ∷ ls) =
+    if not (is_filled (words line)) then after_version (before + 1) ls
+    else right_or (is_version (words line)) Version >> Ok (before + 1, ls)
+
+abbrev pub judge_asked : Option ℕ → Result (Unit {0}) ScenFault
+judge_asked None = Ok tt
+judge_asked (Some asked) = right_or (nat_lt 0 asked) NoAgents >> right_or (nat_le asked 1024) TooMany
+
+-- the tasks of a scenario with these lines, or the first fault
+unfoldable pub scen_at : Ground → Option ℕ → List Bytes → Result (List Task) ScenFault
+scen_at g asked ls = do
+  judge_asked asked
+  rest ← after_version 0 ls
+  tasks_at g asked rest.0 [] rest.1

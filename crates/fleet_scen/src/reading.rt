@@ -1,0 +1,211 @@
+//! The reader of scenarios.
+
+ghost use Rattle.std.specs.Prelude.{◌≡◌, ◌≢◌, ◌<◌, ◌+◌, ◌^◌, List, [], length, All, IfOk, IfErr, IsOkUnless};
+ghost use Rattle.fleet_model.specs.declared.task.Task.{Task};
+ghost use Rattle.fleet_grid.specs.Text.{lines, words};
+ghost use Rattle.fleet_scen.specs.ScenText.{is_filled, is_version, IsOpen, IsScenText, IsFirstScenFault};
+ghost use Rattle.fleet_scen.specs.ScenReading.{Gives, numbers_at, task_at, lacks, ended, tasks_at, after_version, judge_asked, scen_at};
+
+use crate::fault::ScenFault;
+use crate::fields::fields_of;
+use crate::instance::Instance;
+use fleet_grid::Grid;
+use fleet_grid::text::{Cursor, next_word};
+use fleet_model::{Cell, Task};
+use std::alloc::Global;
+use std::collections::HashSet;
+
+const MAX_AGENTS: usize = 1024;
+
+const VERSION: &[u8] = b"version";
+
+const ONE: &[u8] = b"1";
+
+const ONE_POINT_ZERO: &[u8] = b"1.0";
+
+/// Whether the line has a word.
+fn is_filled(line: &[u8]) -> bool
+    ensures { result ≡ is_filled (words line.now) }
+{
+    next_word(line).is_some()
+}
+
+/// Whether the line is the version line.
+fn is_version(line: &[u8]) -> bool
+    ensures { result ≡ is_version (words line.now) }
+{
+    let Some((first, rest)) = next_word(line) else {
+        return false;
+    };
+    let Some((second, rest)) = next_word(rest) else {
+        return false;
+    };
+    next_word(rest).is_none() && first == VERSION && (second == ONE || second == ONE_POINT_ZERO)
+}
+
+/// Passes over the version line and what stands before it, and counts these lines.
+#[tactic(auto, unfolding(crate::specs::ScenReading::after_version))]
+fn pass_version(lines: &mut Cursor) -> Result<u64, ScenFault>
+    requires { length lines.old < 2 ^ 64 }
+    ensures value { Gives (λ before. (before, lines.new)) result (after_version 0 lines.old) }
+    ensures count { IfOk result (λ before. before + length lines.new ≡ length lines.old) }
+{
+    let mut before = 0;
+    while let Some(line) = lines.next_line() {
+        before += 1;
+        if is_filled(line) {
+            return if is_version(line) {
+                Ok(before)
+            } else {
+                Err(ScenFault::Version)
+            };
+        }
+    }
+    Err(ScenFault::Version)
+}
+
+fn wrong(line: u64, field: u8) -> ScenFault
+    ensures { result ≡ ScenFault.Number line field }
+{
+    ScenFault::Number { line, field }
+}
+
+/// Width, height and task by the numbers of an agent's line.
+#[tactic(auto, unfolding(crate::specs::ScenReading::numbers_at))]
+fn numbers_of(number: u64, line: &[u8]) -> Result<(u16, u16, Task), ScenFault>
+    ensures { Gives (λ n. n) result (numbers_at number (words line.now)) }
+{
+    let Some(fields) = fields_of(line) else {
+        return Err(ScenFault::Fields { line: number });
+    };
+    let width = fields.width.ok_or(wrong(number, 3))?;
+    let height = fields.height.ok_or(wrong(number, 4))?;
+    let x = fields.start_x.ok_or(wrong(number, 5))?;
+    let y = fields.start_y.ok_or(wrong(number, 6))?;
+    let start = Cell { x, y };
+    let x = fields.goal_x.ok_or(wrong(number, 7))?;
+    let y = fields.goal_y.ok_or(wrong(number, 8))?;
+    let goal = Cell { x, y };
+    Ok((width, height, Task { start, goal }))
+}
+
+/// The task of an agent's line, which is possible on the map.
+#[tactic(auto, unfolding(crate::specs::ScenReading::task_at))]
+fn task_of(grid: &Grid, number: u64, line: &[u8]) -> Result<Task, ScenFault>
+    ensures { Gives (λ t. t) result (task_at grid.now number (words line.now)) }
+{
+    let (width, height, task) = numbers_of(number, line)?;
+    if width != grid.width() || height != grid.height() {
+        return Err(ScenFault::OtherMap { line: number });
+    }
+    if !grid.passable(task.start) || !grid.passable(task.goal) {
+        return Err(ScenFault::Blocked { line: number });
+    }
+    Ok(task)
+}
+
+/// Whether more agents are to be read.
+fn lacks(asked: Option<u16>, count: usize) -> bool
+    ensures { result ≡ lacks asked count }
+{
+    match asked {
+        None => true,
+        Some(asked) => count < usize::from(asked),
+    }
+}
+
+/// The tasks of the lines that are left, of which `before` come first.
+fn tasks_of(
+    alloc: Global,
+    grid: &Grid,
+    asked: Option<u16>,
+    before: u64,
+    lines: &mut Cursor,
+) -> Result<Vec<Task>, ScenFault>
+    requires { before + length lines.old < 2 ^ 64 }
+    ensures { Gives (λ v. v.items) result (tasks_at grid.now asked before [] lines.old) }
+{
+    let mut tasks = Vec::new(alloc);
+    let mut starts = HashSet::new(alloc);
+    let mut goals = HashSet::new(alloc);
+    let mut number = before;
+    while lacks(asked, tasks.len()) {
+        let Some(line) = lines.next_line() else {
+            return finished(asked, tasks);
+        };
+        number += 1;
+        if !is_filled(line) {
+            continue;
+        }
+        if tasks.len() >= MAX_AGENTS {
+            return Err(ScenFault::TooMany);
+        }
+        let task = task_of(grid, number, line)?;
+        if !starts.insert(task.start)? {
+            return Err(ScenFault::SharedStart { line: number });
+        }
+        if !goals.insert(task.goal)? {
+            return Err(ScenFault::SharedGoal { line: number });
+        }
+        tasks.push(task)?;
+    }
+    finished(asked, tasks)
+}
+
+/// The tasks, where they are enough.
+fn finished(asked: Option<u16>, tasks: Vec<Task>) -> Result<Vec<Task>, ScenFault>
+    ensures { Gives (λ v. v.items) result (ended asked tasks.items) }
+{
+    match asked {
+        None if tasks.is_empty() => Err(ScenFault::NoAgents),
+        Some(asked) if tasks.len() < usize::from(asked) => Err(ScenFault::Fewer),
+        _ => Ok(tasks),
+    }
+}
+
+/// Whether so many agents may be asked for.
+fn judge_asked(asked: Option<u16>) -> Result<(), ScenFault>
+    ensures { Gives (λ u. u) result (judge_asked asked) }
+{
+    match asked {
+        Some(0) => Err(ScenFault::NoAgents),
+        Some(asked) if usize::from(asked) > MAX_AGENTS => Err(ScenFault::TooMany),
+        _ => Ok(()),
+    }
+}
+
+#[tactic(auto, unfolding(crate::specs::ScenReading::scen_at))]
+fn scen_of(
+    alloc: Global,
+    bytes: &[u8],
+    grid: &Grid,
+    asked: Option<u16>,
+) -> Result<Vec<Task>, ScenFault>
+    ensures { Gives (λ v. v.items) result (scen_at grid.now asked (lines bytes.now)) }
+{
+    judge_asked(asked)?;
+    let mut lines = Cursor::new(bytes);
+    let before = pass_version(&mut lines)?;
+    tasks_of(alloc, grid, asked, before, &mut lines)
+}
+
+/// The instance that a text of the MovingAI benchmark's scenario format stands for, on this map (Sturtevant 2012). With
+/// `asked` the first so many agents are its agents, and what follows them is not read. The text is read once, from the
+/// front, and a refusal for another cause than memory is its first fault.
+pub fn read_scen(
+    alloc: Global,
+    bytes: &[u8],
+    grid: &Grid,
+    asked: Option<u16>,
+) -> Result<Instance, ScenFault>
+    // The text stands for what is read.
+    ensures found { IfOk result (λ tasks. IsScenText bytes.now grid.now asked tasks) }
+    ensures cells { IfOk result (All (IsOpen grid.now)) }
+    // What stands for tasks is read, unless memory runs out.
+    ensures read { (tasks : List Task) → IsScenText bytes.now grid.now asked tasks → IsOkUnless result ScenFault.OutOfMemory }
+    // Which fault it is.
+    ensures fault { IfErr result (λ f. f ≢ ScenFault.OutOfMemory → IsFirstScenFault bytes.now grid.now asked f) }
+{
+    let tasks = scen_of(alloc, bytes, grid, asked)?;
+    Ok(Instance::new(tasks))
+}

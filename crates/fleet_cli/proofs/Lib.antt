@@ -18,3 +18,4 @@ pub mod HexRuns
 pub mod HoldLemmas
 pub mod HoldLaws
 pub mod RehearsesLemmas
+pub mod InstanceLemmas

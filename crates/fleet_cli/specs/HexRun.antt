@@ -36,6 +36,8 @@ pub record RehearsesInput (input : Option (List ℕ)) (out : Output) (end : End)
 -- the refusal is one that the input allows: the first fault of its text, or of the bytes for which that stands; or the sink failed
 -- while the rehearsal was written; or memory ran out, or the input cannot be read
 abbrev pub IsRefusalOf : Option (List ℕ) → Output → Fault → Type 0
+IsRefusalOf input out (f.Map fault) = ⊥
+IsRefusalOf input out (f.Scen fault) = ⊥
 IsRefusalOf input out (f.Hex fault) =
     (text : List ℕ) × IsTextOf input text × (fault ≢ h.OutOfMemory → bytes_of text ≡ Err fault) × IsUnwritten out
 IsRefusalOf input out (f.Load fault) =

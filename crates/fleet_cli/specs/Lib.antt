@@ -13,3 +13,5 @@ pub mod Files
 pub mod MemFiles
 pub mod HoldText
 pub mod RehearseCommand
+pub mod InstanceCommand
+pub mod Command

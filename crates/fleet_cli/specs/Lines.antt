@@ -1,6 +1,10 @@
 -- The line and the status of each refusal.
 use Rattle.std.specs.Prelude.{ℕ, List, [], ◌∷◌, codes, decimal}
 use Rattle.fleet_cli.specs.Words.{line_text}
+use Rattle.fleet_grid.specs.declared.fault.MapFault.{MapFault}
+use Rattle.fleet_grid.specs.declared.fault.MapFault.TheVariants as m
+use Rattle.fleet_scen.specs.declared.fault.ScenFault.{ScenFault}
+use Rattle.fleet_scen.specs.declared.fault.ScenFault.TheVariants as s
 use Rattle.fleet_code.specs.declared.fault.HexFault.{HexFault}
 use Rattle.fleet_code.specs.declared.fault.HexFault.TheVariants as h
 use Rattle.fleet_code.specs.declared.fault.LoadFault.{LoadFault}
@@ -21,6 +25,32 @@ named part number name = part ∷ decimal number ∷ name ∷ []
 -- the same, with the name and the value of its one field
 abbrev pub named_at : List ℕ → ℕ → List ℕ → List ℕ → ℕ → List (List ℕ)
 named_at part number name field value = part ∷ decimal number ∷ name ∷ field ∷ decimal value ∷ []
+
+-- the same, with two fields
+abbrev pub named_by : List ℕ → ℕ → List ℕ → List ℕ → ℕ → List ℕ → ℕ → List (List ℕ)
+named_by part number name first a second b = part ∷ decimal number ∷ name ∷ first ∷ decimal a ∷ second ∷ decimal b ∷ []
+
+abbrev pub map_words : MapFault → List (List ℕ)
+map_words m.OutOfMemory = memory_words
+map_words (m.Header line) = named_at (codes "map") 2 (codes "Header") (codes "line") line
+map_words m.Size = named (codes "map") 3 (codes "Size")
+map_words m.RowCount = named (codes "map") 4 (codes "RowCount")
+map_words (m.RowLength row) = named_at (codes "map") 5 (codes "RowLength") (codes "row") row
+map_words (m.Glyph row column) = named_by (codes "map") 6 (codes "Glyph") (codes "row") row (codes "column") column
+map_words m.Trailing = named (codes "map") 7 (codes "Trailing")
+
+abbrev pub scen_words : ScenFault → List (List ℕ)
+scen_words s.OutOfMemory = memory_words
+scen_words s.Version = named (codes "scen") 2 (codes "Version")
+scen_words (s.Fields line) = named_at (codes "scen") 3 (codes "Fields") (codes "line") line
+scen_words (s.Number line field) = named_by (codes "scen") 4 (codes "Number") (codes "line") line (codes "field") field
+scen_words (s.OtherMap line) = named_at (codes "scen") 5 (codes "OtherMap") (codes "line") line
+scen_words (s.Blocked line) = named_at (codes "scen") 6 (codes "Blocked") (codes "line") line
+scen_words (s.SharedStart line) = named_at (codes "scen") 7 (codes "SharedStart") (codes "line") line
+scen_words (s.SharedGoal line) = named_at (codes "scen") 8 (codes "SharedGoal") (codes "line") line
+scen_words s.NoAgents = named (codes "scen") 9 (codes "NoAgents")
+scen_words s.TooMany = named (codes "scen") 10 (codes "TooMany")
+scen_words s.Fewer = named (codes "scen") 11 (codes "Fewer")
 
 abbrev pub hex_words : HexFault → List (List ℕ)
 hex_words h.OutOfMemory = memory_words
@@ -47,6 +77,8 @@ run_words r.Write = named (codes "run") 4 (codes "Write")
 run_words r.HoldLimit = named (codes "run") 5 (codes "HoldLimit")
 
 abbrev pub words_of : Fault → List (List ℕ)
+words_of (f.Map fault) = map_words fault
+words_of (f.Scen fault) = scen_words fault
 words_of (f.Hex fault) = hex_words fault
 words_of (f.Load fault) = load_words fault
 words_of (f.Run fault) = run_words fault
@@ -59,6 +91,10 @@ line_of fault = line_text (words_of fault)
 
 -- 3 where memory, a file, the source or the sink failed, and 1 for every other refusal
 abbrev pub status_of : Fault → ℕ
+status_of (f.Map m.OutOfMemory) = 3
+status_of (f.Map _) = 1
+status_of (f.Scen s.OutOfMemory) = 3
+status_of (f.Scen _) = 1
 status_of (f.Hex h.OutOfMemory) = 3
 status_of (f.Hex _) = 1
 status_of (f.Load l.OutOfMemory) = 3

@@ -19,6 +19,8 @@ use Rattle.fleet_cli.specs.declared.fault.Fault.TheVariants as f
 
 -- a file of this name was not read
 abbrev pub IsReadFault : List ℕ → Fault → Type 0
+IsReadFault file (f.Map fault) = ⊥
+IsReadFault file (f.Scen fault) = ⊥
 IsReadFault file (f.Hex fault) = ⊥
 IsReadFault file (f.Load fault) = ⊥
 IsReadFault file (f.Run fault) = ⊥
@@ -53,6 +55,8 @@ pub record RehearsesBytes (bytes held : List ℕ) (out : Output) (end : End) : T
 -- the refusal is one that the bytes allow: the first fault of the program's; or a line of the holds that was asked for is no
 -- tick's, or the sink failed while the rehearsal was written
 abbrev pub IsRehearseFault : List ℕ → List ℕ → Output → Fault → Type 0
+IsRehearseFault bytes held out (f.Map fault) = ⊥
+IsRehearseFault bytes held out (f.Scen fault) = ⊥
 IsRehearseFault bytes held out (f.Hex fault) = ⊥
 IsRehearseFault bytes held out (f.Load fault) = (fault ≢ l.OutOfMemory → program_at bytes ≡ Err fault) × IsUnwritten out
 IsRehearseFault bytes held out (f.Run fault) =

@@ -1,13 +1,20 @@
 -- Words, and lines of words.
 use Rattle.std.specs.Prelude.{ℕ, List, [], ◌∷◌, ◌++◌, decimal}
 use Rattle.std.specs.List.{join_with_byte}
+use Rattle.fleet_model.specs.declared.geometry.Cell.{Cell}
 use Rattle.fleet_cli.specs.declared.words.Word.{Word}
-use Rattle.fleet_cli.specs.declared.words.Word.TheVariants.{Text, Number}
+use Rattle.fleet_cli.specs.declared.words.Word.TheVariants.{Text, Number, Label, Place}
 
--- a text as it stands, or a number in base ten
+-- a cell as `x,y`
+abbrev pub cell_text : Cell → List ℕ
+cell_text c = (decimal c.x ++ 44 ∷ []) ++ decimal c.y
+
+-- a text as it stands, a number in base ten, a number and a colon, or a cell
 abbrev pub word_text : Word → List ℕ
 word_text (Text text) = text.now
 word_text (Number n) = decimal n
+word_text (Label n) = decimal n ++ 58 ∷ []
+word_text (Place c) = cell_text c
 
 -- words with one space between two
 abbrev pub spaced : List (List ℕ) → List ℕ

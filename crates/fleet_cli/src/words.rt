@@ -1,16 +1,20 @@
 //! Words of a line, written to a sink without memory.
 
-ghost use Rattle.std.specs.Prelude.{◌≡◌, ◌++◌, ◌∷◌, false, map, decimal};
+ghost use Rattle.std.specs.Prelude.{◌≡◌, ◌++◌, ◌∷◌, [], false, map, decimal};
 ghost use Rattle.fleet_cli.specs.Sink.{TakesAll};
-ghost use Rattle.fleet_cli.specs.Words.{word_text, spaced, line_text};
+ghost use Rattle.fleet_cli.specs.Words.{cell_text, word_text, spaced, line_text};
 
 use crate::rehearsal::{OutFault, TraceOut, put_all, write_number};
+use fleet_model::Cell;
 
 /// A word of a line.
 #[derive(Clone, Copy)]
 pub enum Word<'a> {
     Text(&'a str),
     Number(u64),
+    /// A number and a colon.
+    Label(u64),
+    Place(Cell),
 }
 
 /// How many digits the longest number has.
@@ -25,6 +29,25 @@ fn put_number<O: TraceOut>(out: &mut O, number: u64) -> Result<(), OutFault>
     put_all(out, &digits[start..])
 }
 
+/// A number and a byte after it.
+fn put_number_then<O: TraceOut>(out: &mut O, number: u64, after: u8) -> Result<(), OutFault>
+    requires { O.has_failed out.old ≡ false }
+    ensures { TakesAll (O.taken out.old) (O.taken out.new) (O.has_failed out.new) result (decimal number ++ after ∷ []) }
+{
+    put_number(out, number)?;
+    put_all(out, &[after])
+}
+
+/// A cell as `x,y`.
+fn put_cell<O: TraceOut>(out: &mut O, cell: Cell) -> Result<(), OutFault>
+    requires { O.has_failed out.old ≡ false }
+    ensures { TakesAll (O.taken out.old) (O.taken out.new) (O.has_failed out.new) result (cell_text cell) }
+{
+    let Cell { x, y } = cell;
+    put_number_then(out, x as u64, b',')?;
+    put_number(out, y as u64)
+}
+
 fn put_word<O: TraceOut>(out: &mut O, word: Word<'_>) -> Result<(), OutFault>
     requires { O.has_failed out.old ≡ false }
     ensures { TakesAll (O.taken out.old) (O.taken out.new) (O.has_failed out.new) result (word_text word.entry) }
@@ -32,6 +55,8 @@ fn put_word<O: TraceOut>(out: &mut O, word: Word<'_>) -> Result<(), OutFault>
     match word {
         Word::Text(text) => put_all(out, text.as_bytes()),
         Word::Number(number) => put_number(out, number),
+        Word::Label(number) => put_number_then(out, number, b':'),
+        Word::Place(cell) => put_cell(out, cell),
     }
 }
 

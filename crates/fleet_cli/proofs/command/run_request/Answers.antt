@@ -1,0 +1,7 @@
+use Rattle.fleet_cli.proofs.command.run_request.Goals as goal
+
+pub returns-in-Instance : goal.returns-in-Instance
+returns-in-Instance g c = rw c.in-Instance.is c.run_instance.ensures
+
+pub returns-in-Rehearse : goal.returns-in-Rehearse
+returns-in-Rehearse g c = rw c.in-Rehearse.is c.run_rehearse.ensures

@@ -1,0 +1,39 @@
+-- What the program does for its words.
+use Rattle.std.specs.Prelude.{◌≡◌, ℕ, false, List, [], ◌∷◌, ◌⊎◌, Option, option_map, codes, string_bytes}
+use Rattle.std.specs.Io.KnownBytes.{Appends}
+use Rattle.clap.specs.Words.{Text}
+use Rattle.fleet_args.specs.CommandLine.{fleet}
+use Rattle.fleet_args.specs.Request.{asked_of, Asks, StopsFor}
+use Rattle.fleet_args.specs.declared.request.Request.{Request}
+use Rattle.fleet_args.specs.declared.request.Request.TheVariants as r
+use Rattle.fleet_args.specs.declared.request.WordStop.{WordStop}
+use Rattle.fleet_args.specs.declared.request.WordStop.TheVariants as w
+use Rattle.fleet_cli.specs.Files.{Store}
+use Rattle.fleet_cli.specs.Sink.{Receives, StopsWithin}
+use Rattle.fleet_cli.specs.Words.{line_text}
+use Rattle.fleet_cli.specs.Output.{Output, IsUnwritten, IsTold}
+use Rattle.fleet_cli.specs.HexRun.{RunsHex}
+use Rattle.fleet_cli.specs.RehearseCommand.{RunsRehearse}
+use Rattle.fleet_cli.specs.InstanceCommand.{RunsInstance}
+use Rattle.fleet_cli.specs.declared.fault.Fault.TheVariants as f
+
+-- what each command does
+abbrev pub RunsRequest : Option Store → Request → Output → Output → ℕ → Type 0
+RunsRequest files (r.Instance map scen agents) out err status = RunsInstance files map.now scen.now agents out err status
+RunsRequest files (r.Rehearse program holds) out err status = RunsRehearse files program.now (option_map (λ n. n.now) holds) out err status
+
+-- why the words are no request was told: help on the output, usage on the other
+abbrev pub StopsAtWords : WordStop → Output → Output → ℕ → Type 0
+StopsAtWords w.OutOfMemory out err status = (status ≡ 3) × IsTold f.Memory err × IsUnwritten out
+StopsAtWords (w.Usage text) out err status = (status ≡ 2) × Receives err.before err.taken err.has_failed (string_bytes text) × IsUnwritten out
+StopsAtWords (w.Help text) out err status =
+    ((status ≡ 0) × Appends out.before out.taken (string_bytes text) × (out.has_failed ≡ false) × IsUnwritten err)
+    ⊎ ((status ≡ 3) × StopsWithin out.before out.taken out.has_failed (string_bytes text)
+    × Receives err.before err.taken err.has_failed (line_text (codes "file" ∷ codes "-" ∷ [])))
+
+-- without words the run of the input; else the command that the words ask, or a stop at words that the command line does not take
+abbrev pub RunsCommand : List Text → Option (List ℕ) → Option Store → Output → Output → ℕ → Type 0
+RunsCommand [] input files out err status = RunsHex input out err status
+RunsCommand (word ∷ words) input files out err status =
+    ((request : Request) × Asks fleet (word ∷ words) (asked_of request) × RunsRequest files request out err status)
+    ⊎ ((stop : WordStop) × StopsFor fleet (word ∷ words) stop × StopsAtWords stop out err status)

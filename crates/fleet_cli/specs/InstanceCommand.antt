@@ -1,0 +1,94 @@
+-- What the command `instance` prints: the sizes of a map, its passable cells, and the start and the goal of each agent.
+use Rattle.std.specs.Prelude.{◌≡◌, ◌≢◌, ℕ, zero, suc, ◌+◌, false, List, [], ◌∷◌, ◌++◌, length, slice_get, ◌⊎◌, Option, codes, decimal}
+use Rattle.std.specs.Option.{option_map_or}
+use Rattle.std.specs.Io.KnownBytes.{Appends}
+use Rattle.fleet_model.specs.declared.geometry.Cell.{Cell}
+use Rattle.fleet_model.specs.declared.task.Task.{Task}
+use Rattle.fleet_model.specs.Program.{origin}
+use Rattle.fleet_grid.specs.Ground.{Ground, passable_cells}
+use Rattle.fleet_grid.specs.MapText.{IsMapText, IsFirstMapFault}
+use Rattle.fleet_grid.specs.declared.fault.MapFault.TheVariants as m
+use Rattle.fleet_scen.specs.ScenText.{IsScenText, IsFirstScenFault}
+use Rattle.fleet_scen.specs.declared.fault.ScenFault.TheVariants as s
+use Rattle.fleet_cli.specs.Files.{Store, Holds as HasBytes}
+use Rattle.fleet_cli.specs.Sink.{StopsWithin}
+use Rattle.fleet_cli.specs.Words.{cell_text, line_text}
+use Rattle.fleet_cli.specs.Lines.{status_of}
+use Rattle.fleet_cli.specs.Output.{Output, IsUnwritten, IsTold}
+use Rattle.fleet_cli.specs.RehearseCommand.{IsReadFault}
+use Rattle.fleet_cli.specs.declared.fault.Fault.{Fault}
+use Rattle.fleet_cli.specs.declared.fault.Fault.TheVariants as f
+
+abbrev pub start_in : List Task → ℕ → Cell
+start_in tasks i = option_map_or (λ t. t.start) (slice_get tasks i) origin
+
+abbrev pub goal_in : List Task → ℕ → Cell
+goal_in tasks i = option_map_or (λ t. t.goal) (slice_get tasks i) origin
+
+-- the line of an agent: `i: x,y x,y`, its start and its goal
+unfoldable pub task_line : ℕ → Cell → Cell → List ℕ
+task_line i start goal = line_text ((decimal i ++ 58 ∷ []) ∷ cell_text start ∷ cell_text goal ∷ [])
+
+-- the lines of the agents below n
+abbrev pub task_lines : List Task → ℕ → List ℕ
+task_lines tasks zero = []
+task_lines tasks (suc n) = task_lines tasks n ++ task_line n (start_in tasks n) (goal_in tasks n)
+
+-- `map W H`
+unfoldable pub map_line : Ground → List ℕ
+map_line g = line_text (codes "map" ∷ decimal g.width ∷ decimal g.height ∷ [])
+
+-- `ground N`
+unfoldable pub ground_line : Ground → List ℕ
+ground_line g = line_text (codes "ground" ∷ decimal (passable_cells g) ∷ [])
+
+-- `agents K`
+unfoldable pub agents_line : List Task → List ℕ
+agents_line tasks = line_text (codes "agents" ∷ decimal (length tasks) ∷ [])
+
+abbrev pub instance_text : Ground → List Task → List ℕ
+instance_text g tasks = map_line g ++ (ground_line g ++ (agents_line tasks ++ task_lines tasks (length tasks)))
+
+-- the texts stand for this ground and these tasks
+pub record AreTextsOf (map scen : List ℕ) (asked : Option ℕ) (g : Ground) (tasks : List Task) : Type 0 where
+  pub ground : IsMapText map g
+  pub tasks_read : IsScenText scen g asked tasks
+
+-- what the texts stand for was printed
+pub record PrintsInstance (map scen : List ℕ) (asked : Option ℕ) (out : Output) : Type 0 where
+  pub ground : Ground
+  pub tasks : List Task
+  pub texts : AreTextsOf map scen asked ground tasks
+  pub written : Appends out.before out.taken (instance_text ground tasks)
+  pub working : out.has_failed ≡ false
+
+-- the refusal is one that the texts allow: the first fault of the map's, or of the scenario's on that map; or the output failed
+abbrev pub IsInstanceFault : List ℕ → List ℕ → Option ℕ → Output → Fault → Type 0
+IsInstanceFault map scen asked out (f.Map fault) = (fault ≢ m.OutOfMemory → IsFirstMapFault map fault) × IsUnwritten out
+IsInstanceFault map scen asked out (f.Scen fault) =
+    (g : Ground) × IsMapText map g × (fault ≢ s.OutOfMemory → IsFirstScenFault scen g asked fault) × IsUnwritten out
+IsInstanceFault map scen asked out (f.Hex fault) = ⊥
+IsInstanceFault map scen asked out (f.Load fault) = ⊥
+IsInstanceFault map scen asked out (f.Run fault) = ⊥
+IsInstanceFault map scen asked out f.Memory = ⊥
+IsInstanceFault map scen asked out (f.File name) =
+    (g : Ground) × (tasks : List Task) × (name.now ≡ codes "-") × AreTextsOf map scen asked g tasks
+    × StopsWithin out.before out.taken out.has_failed (instance_text g tasks)
+
+-- the files were read: these are the bytes of the map and of the scenario
+pub record AreInstanceBytes (files : Option Store) (map scen map_bytes scen_bytes : List ℕ) : Type 0 where
+  pub map_read : HasBytes files map map_bytes
+  pub scen_read : HasBytes files scen scen_bytes
+
+-- a file was not read, or its text is refused, or the output failed
+abbrev pub IsInstanceRefusal : Option Store → List ℕ → List ℕ → Option ℕ → Output → Fault → Type 0
+IsInstanceRefusal files map scen asked out fault =
+    (IsReadFault map fault × IsUnwritten out)
+    ⊎ (IsReadFault scen fault × IsUnwritten out)
+    ⊎ ((map_bytes scen_bytes : List ℕ) × AreInstanceBytes files map scen map_bytes scen_bytes × IsInstanceFault map_bytes scen_bytes asked out fault)
+
+-- 0 where what the files stand for was printed, and else the status of a refusal that was told
+abbrev pub RunsInstance : Option Store → List ℕ → List ℕ → Option ℕ → Output → Output → ℕ → Type 0
+RunsInstance files map scen asked out err status =
+    ((map_bytes scen_bytes : List ℕ) × AreInstanceBytes files map scen map_bytes scen_bytes × PrintsInstance map_bytes scen_bytes asked out × IsUnwritten err × (status ≡ 0))
+    ⊎ ((fault : Fault) × IsInstanceRefusal files map scen asked out fault × IsTold fault err × (status ≡ status_of fault))

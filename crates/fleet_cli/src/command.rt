@@ -1,0 +1,87 @@
+//! The program's words, and what it does for them.
+
+ghost use Rattle.std.specs.Prelude.{◌≡◌, ◌∷◌, false, map, string_bytes};
+ghost use Rattle.fleet_cli.specs.Command.{RunsRequest, StopsAtWords, RunsCommand};
+
+use crate::fault::Fault;
+use crate::files::Files;
+use crate::hex_run::{refuse, run_hex};
+use crate::instance_command::run_instance;
+use crate::rehearsal::{OutFault, TraceOut, put_all};
+use crate::rehearse_command::run_rehearse;
+use fleet_args::{Request, WordStop, read_words};
+use std::alloc::Global;
+use std::io::Read;
+
+/// Does what the request asks: its output goes to `out`, a refusal's line to `err`. Answers the status.
+pub fn run_request<F: Files, O: TraceOut, E: TraceOut>(
+    alloc: Global,
+    request: &Request<'_>,
+    files: &mut F,
+    out: &mut O,
+    err: &mut E,
+) -> u8
+    requires out_working { O.has_failed out.old ≡ false }
+    requires err_working { E.has_failed err.old ≡ false }
+    ensures { RunsRequest (F.contents files.old) request.now
+        (record { before = O.taken out.old; taken = O.taken out.new; has_failed = O.has_failed out.new })
+        (record { before = E.taken err.old; taken = E.taken err.new; has_failed = E.has_failed err.new })
+        result }
+{
+    match *request {
+        Request::Instance { map, scen, agents } => {
+            run_instance(alloc, map, scen, agents, files, out, err)
+        }
+        Request::Rehearse { program, holds } => {
+            run_rehearse(alloc, program, holds, files, out, err)
+        }
+    }
+}
+
+/// Tells why the words are no request: help on `out` with status 0, usage on `err` with status 2.
+fn stop_at<O: TraceOut, E: TraceOut>(stop: &WordStop, out: &mut O, err: &mut E) -> u8
+    requires out_working { O.has_failed out.old ≡ false }
+    requires err_working { E.has_failed err.old ≡ false }
+    ensures { StopsAtWords stop.now
+        (record { before = O.taken out.old; taken = O.taken out.new; has_failed = O.has_failed out.new })
+        (record { before = E.taken err.old; taken = E.taken err.new; has_failed = E.has_failed err.new })
+        result }
+{
+    match stop {
+        WordStop::OutOfMemory => refuse(&Fault::Memory, err),
+        WordStop::Usage(text) => {
+            let _ = put_all(err, text.as_bytes());
+            2
+        }
+        WordStop::Help(text) => match put_all(out, text.as_bytes()) {
+            Ok(()) => 0,
+            Err(OutFault) => refuse(&Fault::File("-"), err),
+        },
+    }
+}
+
+/// What the program does for the words after its name: without words it runs what `input` gives in hexadecimal, and else the command
+/// that the words ask. Answers the status: 2 only where the words ask no command.
+pub fn run_command<R: Read, F: Files, O: TraceOut, E: TraceOut>(
+    alloc: Global,
+    words: &[String],
+    input: &mut R,
+    files: &mut F,
+    out: &mut O,
+    err: &mut E,
+) -> u8
+    requires out_working { O.has_failed out.old ≡ false }
+    requires err_working { E.has_failed err.old ≡ false }
+    ensures { RunsCommand (map string_bytes words.now) (R.remaining input.old) (F.contents files.old)
+        (record { before = O.taken out.old; taken = O.taken out.new; has_failed = O.has_failed out.new })
+        (record { before = E.taken err.old; taken = E.taken err.new; has_failed = E.has_failed err.new })
+        result }
+{
+    if words.is_empty() {
+        return run_hex(alloc, input, out, err);
+    }
+    match read_words(alloc, words) {
+        Ok(request) => run_request(alloc, &request, files, out, err),
+        Err(stop) => stop_at(&stop, out, err),
+    }
+}

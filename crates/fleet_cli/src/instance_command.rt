@@ -1,0 +1,161 @@
+//! The command `instance`.
+
+ghost use Rattle.std.specs.Prelude.{◌≡◌, ◌<◌, false, length, List, ℕ, MatchResult};
+ghost use Rattle.fleet_cli.specs.Sink.{TakesAll};
+ghost use Rattle.fleet_cli.specs.InstanceCommand.{task_line, task_lines, map_line, ground_line, agents_line, instance_text, PrintsInstance, IsInstanceFault, AreInstanceBytes, IsInstanceRefusal, RunsInstance};
+
+use crate::fault::Fault;
+use crate::files::Files;
+use crate::hex_run::refuse;
+use crate::rehearsal::{OutFault, TraceOut};
+use crate::rehearse_command::read_file;
+use crate::words::{Word, put_line};
+use fleet_grid::{Grid, read_map};
+use fleet_model::Cell;
+use fleet_scen::{Instance, read_scen};
+use std::alloc::Global;
+
+#[tactic(auto, unfolding(crate::specs::InstanceCommand::task_line))]
+fn put_task<O: TraceOut>(out: &mut O, i: u16, start: Cell, goal: Cell) -> Result<(), OutFault>
+    requires { O.has_failed out.old ≡ false }
+    ensures { TakesAll (O.taken out.old) (O.taken out.new) (O.has_failed out.new) result (task_line i start goal) }
+{
+    put_line(
+        out,
+        &[Word::Label(i as u64), Word::Place(start), Word::Place(goal)],
+    )
+}
+
+/// The line of each agent.
+fn put_tasks<O: TraceOut>(out: &mut O, instance: &Instance) -> Result<(), OutFault>
+    requires { O.has_failed out.old ≡ false }
+    ensures { TakesAll (O.taken out.old) (O.taken out.new) (O.has_failed out.new) result (task_lines instance.now (length instance.now)) }
+{
+    for i in 0..instance.agents() {
+        put_task(out, i, instance.start(i), instance.goal(i))?;
+    }
+    Ok(())
+}
+
+#[tactic(auto, unfolding(crate::specs::InstanceCommand::map_line))]
+fn put_sizes<O: TraceOut>(out: &mut O, grid: &Grid) -> Result<(), OutFault>
+    requires { O.has_failed out.old ≡ false }
+    ensures { TakesAll (O.taken out.old) (O.taken out.new) (O.has_failed out.new) result (map_line grid.now) }
+{
+    let width = Word::Number(grid.width() as u64);
+    let height = Word::Number(grid.height() as u64);
+    put_line(out, &[Word::Text("map"), width, height])
+}
+
+#[tactic(auto, unfolding(crate::specs::InstanceCommand::ground_line))]
+fn put_ground<O: TraceOut>(out: &mut O, grid: &Grid) -> Result<(), OutFault>
+    requires { O.has_failed out.old ≡ false }
+    ensures { TakesAll (O.taken out.old) (O.taken out.new) (O.has_failed out.new) result (ground_line grid.now) }
+{
+    put_line(
+        out,
+        &[Word::Text("ground"), Word::Number(grid.ground() as u64)],
+    )
+}
+
+#[tactic(auto, unfolding(crate::specs::InstanceCommand::agents_line))]
+fn put_agents<O: TraceOut>(out: &mut O, instance: &Instance) -> Result<(), OutFault>
+    requires { O.has_failed out.old ≡ false }
+    ensures { TakesAll (O.taken out.old) (O.taken out.new) (O.has_failed out.new) result (agents_line instance.now) }
+{
+    put_line(
+        out,
+        &[Word::Text("agents"), Word::Number(instance.agents() as u64)],
+    )
+}
+
+fn put_instance<O: TraceOut>(out: &mut O, grid: &Grid, instance: &Instance) -> Result<(), OutFault>
+    requires { O.has_failed out.old ≡ false }
+    ensures { TakesAll (O.taken out.old) (O.taken out.new) (O.has_failed out.new) result (instance_text grid.now instance.now) }
+{
+    put_sizes(out, grid)?;
+    put_ground(out, grid)?;
+    put_agents(out, instance)?;
+    put_tasks(out, instance)
+}
+
+/// Prints the instance for which the texts stand.
+fn show_instance<O: TraceOut>(
+    alloc: Global,
+    map: &[u8],
+    scen: &[u8],
+    asked: Option<u16>,
+    out: &mut O,
+) -> Result<(), Fault<'static>>
+    requires { O.has_failed out.old ≡ false }
+    ensures { MatchResult result
+        (λ _. PrintsInstance map.now scen.now asked (record { before = O.taken out.old; taken = O.taken out.new; has_failed = O.has_failed out.new }))
+        (IsInstanceFault map.now scen.now asked (record { before = O.taken out.old; taken = O.taken out.new; has_failed = O.has_failed out.new })) }
+{
+    let grid = match read_map(alloc, map) {
+        Ok(grid) => grid,
+        Err(fault) => return Err(Fault::Map(fault)),
+    };
+    let instance = match read_scen(alloc, scen, &grid, asked) {
+        Ok(instance) => instance,
+        Err(fault) => return Err(Fault::Scen(fault)),
+    };
+    match put_instance(out, &grid, &instance) {
+        Ok(()) => Ok(()),
+        Err(OutFault) => Err(Fault::File("-")),
+    }
+}
+
+/// Reads the files, and then prints the instance.
+fn show_files<'a, F: Files, O: TraceOut>(
+    alloc: Global,
+    map: &'a str,
+    scen: &'a str,
+    asked: Option<u16>,
+    files: &mut F,
+    out: &mut O,
+) -> Result<(), Fault<'a>>
+    requires { O.has_failed out.old ≡ false }
+    ensures { MatchResult result
+        (λ _. (map_bytes : List ℕ) × (scen_bytes : List ℕ) × AreInstanceBytes (F.contents files.old) map.entry.now scen.entry.now map_bytes scen_bytes
+        × PrintsInstance map_bytes scen_bytes asked (record { before = O.taken out.old; taken = O.taken out.new; has_failed = O.has_failed out.new }))
+        (IsInstanceRefusal (F.contents files.old) map.entry.now scen.entry.now asked
+        (record { before = O.taken out.old; taken = O.taken out.new; has_failed = O.has_failed out.new })) }
+{
+    let map = match read_file(alloc, files, map) {
+        Ok(bytes) => bytes,
+        Err(fault) => return Err(fault),
+    };
+    let scen = match read_file(alloc, files, scen) {
+        Ok(bytes) => bytes,
+        Err(fault) => return Err(fault),
+    };
+    match show_instance(alloc, &map, &scen, asked, out) {
+        Ok(()) => Ok(()),
+        Err(fault) => Err(fault),
+    }
+}
+
+/// The command `instance MAP SCEN [--agents K]`: reads both files whole, and prints to `out` the sizes of the map, its passable
+/// cells, and the start and the goal of each agent. Answers 0; a refusal is told on `err` and its status answered.
+pub fn run_instance<F: Files, O: TraceOut, E: TraceOut>(
+    alloc: Global,
+    map: &str,
+    scen: &str,
+    asked: Option<u16>,
+    files: &mut F,
+    out: &mut O,
+    err: &mut E,
+) -> u8
+    requires out_working { O.has_failed out.old ≡ false }
+    requires err_working { E.has_failed err.old ≡ false }
+    ensures { RunsInstance (F.contents files.old) map.now scen.now asked
+        (record { before = O.taken out.old; taken = O.taken out.new; has_failed = O.has_failed out.new })
+        (record { before = E.taken err.old; taken = E.taken err.new; has_failed = E.has_failed err.new })
+        result }
+{
+    match show_files(alloc, map, scen, asked, files, out) {
+        Ok(()) => 0,
+        Err(fault) => refuse(&fault, err),
+    }
+}

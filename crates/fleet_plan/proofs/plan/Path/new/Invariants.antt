@@ -1,0 +1,6 @@
+use Rattle.std.proofs.Common.{All, take}
+use Rattle.fleet_model.specs.Program.{IsCell}
+use Rattle.fleet_plan.proofs.plan.Path.new.Given as goal
+
+abbrev pub invariant-loop-cell : goal.invariant-loop-cell
+invariant-loop-cell l = All IsCell (take l.cell-index l.fn.cells.items)

@@ -1,0 +1,146 @@
+//! Paths, and plans of a fleet.
+
+ghost use Rattle.std.specs.Prelude.{◌≡◌, ◌+◌, ◌≤◌, ◌<◌, length, slice_get, Some};
+ghost use Rattle.fleet_model.specs.Program.{IsCell};
+ghost use Rattle.fleet_plan.specs.Plan.{IsPath, IsFleet, IsWithinLimits, cell_at, cell_of, steps};
+
+use fleet_model::Cell;
+use std::marker::Model;
+
+/// The cells of one agent at times 0, 1, 2 and so on, 1 to 65,536 of them. After the last one it stays.
+///
+/// No method takes memory.
+#[derive(Debug, Drop)]
+pub struct Path {
+    cells: Vec<Cell>,
+}
+
+impl Model for Path {
+    ghost use Rattle.std.specs.Prelude.{List};
+    ghost use Rattle.fleet_model.specs.declared.geometry.Cell.{Cell};
+    ghost use Rattle.fleet_plan.specs.Plan.{IsPath};
+
+    ghost Value = { List Cell };
+
+    ghost view = { λ p. p.cells.items };
+
+    ghost invariant = { λ p. IsPath p.cells.items };
+}
+
+impl Path {
+    /// The path over these cells.
+    pub fn new(cells: Vec<Cell>) -> Path
+        requires some { 1 ≤ length cells.items }
+        requires few { length cells.items ≤ 65536 }
+        ensures { result ≡ cells.items }
+    {
+        for cell in &cells {
+            numbers_fit(cell);
+        }
+        Path { cells }
+    }
+
+    /// The time of the last cell.
+    pub fn steps(&self) -> u32
+        ensures time { result + 1 ≡ length self.now }
+        ensures limits { IsPath self.now }
+    {
+        (self.cells.len() - 1) as u32
+    }
+
+    /// The cell at time `t`.
+    pub fn cell(&self, t: u32) -> Cell
+        ensures { result ≡ cell_at self.now t }
+    {
+        let last = self.steps();
+        let at = if t < last { t } else { last };
+        self.cells[at as usize]
+    }
+
+    /// The cells at times 0 to `steps()`.
+    pub fn cells(&self) -> &[Cell]
+        ensures value { result.now ≡ self.now }
+        ensures limits { IsPath self.now }
+    {
+        &self.cells
+    }
+}
+
+/// Column and row of a cell fit two bytes, by their type. It does nothing.
+fn numbers_fit(cell: &Cell)
+    ensures { IsCell cell.now }
+{
+    // What is read is known to be in its type's range.
+    let Cell { x: _x, y: _y } = *cell;
+}
+
+/// A path for each agent, 1 to 1,024 of them.
+///
+/// No method takes memory.
+#[derive(Debug, Drop)]
+pub struct Plan {
+    paths: Vec<Path>,
+    steps: u32,
+}
+
+impl Model for Plan {
+    ghost use Rattle.std.specs.Prelude.{List};
+    ghost use Rattle.fleet_model.specs.declared.geometry.Cell.{Cell};
+    ghost use Rattle.std.specs.Prelude.{◌≡◌};
+    ghost use Rattle.fleet_plan.specs.Plan.{IsWithinLimits, steps as steps_of};
+
+    ghost Value = { List (List Cell) };
+
+    ghost view = { λ p. p.paths.items };
+
+    ghost invariant = { λ p. IsWithinLimits p.paths.items × (p.steps ≡ steps_of p.paths.items) };
+}
+
+impl Plan {
+    /// The plan in which agent `i` has path `i`.
+    pub fn new(paths: Vec<Path>) -> Plan
+        requires { IsFleet paths.items }
+        ensures { result ≡ paths.items }
+    {
+        let mut steps = 0;
+        for path in &paths {
+            let time = path.steps();
+            if steps < time {
+                steps = time;
+            }
+        }
+        Plan { paths, steps }
+    }
+
+    /// The greatest time of a last cell.
+    pub fn steps(&self) -> u32
+        ensures time { result ≡ steps self.now }
+        ensures limits { IsWithinLimits self.now }
+    {
+        self.steps
+    }
+
+    /// How many agents there are.
+    pub fn agents(&self) -> u16
+        ensures count { result ≡ length self.now }
+        ensures limits { IsWithinLimits self.now }
+    {
+        self.paths.len() as u16
+    }
+
+    /// The path of agent `i`.
+    pub fn path(&self, i: u16) -> &Path
+        requires { i < length self.now }
+        ensures { slice_get self.now i ≡ Some result.now }
+    {
+        &self.paths[usize::from(i)]
+    }
+
+    /// The cell of agent `i` at time `t`.
+    pub fn cell(&self, i: u16, t: u32) -> Cell
+        requires { i < length self.now }
+        ensures { result ≡ cell_of self.now i t }
+    {
+        self.paths[usize::from(i)].cell(t)
+    }
+}

@@ -6,3 +6,8 @@ pub mod Limits
 pub mod Latest
 pub mod Pass
 pub mod WorkedPrograms
+pub mod Pigeon
+pub mod Depth
+pub mod Follow
+pub mod Listing
+pub mod Accepted

@@ -1,0 +1,17 @@
+pub mod Members
+pub mod Chains
+pub mod Counts
+pub mod Readiness
+pub mod Finished
+pub mod Done
+pub mod Least
+pub mod Owned
+pub mod Free
+pub mod Held
+pub mod Arrive
+pub mod Levels
+pub mod Reached
+pub mod Ends
+pub mod Neighbours
+pub mod Listing
+pub mod Finish

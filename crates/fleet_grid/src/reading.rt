@@ -12,7 +12,7 @@ ghost use Rattle.fleet_grid.specs.Stored.{ground_of, IsStored};
 use crate::fault::MapFault;
 use crate::glyphs::wrong_column;
 use crate::grid::Grid;
-use crate::stored::{Cells, byte_count};
+use crate::stored::Cells;
 use crate::text::{Cursor, from_front, is_blank, next_word, number_of};
 use std::alloc::Global;
 
@@ -111,8 +111,7 @@ fn cells_of(alloc: Global, width: u16, height: u16, lines: &mut Cursor) -> Resul
     ensures stored { IfOk result (λ c. IsStored width height c.passable_count c.bytes.items) }
 {
     // Each byte of cells comes from bytes of the text, so sizes beyond the text reserve nothing for themselves.
-    let most = byte_count(usize::from(width)) * usize::from(height);
-    let mut cells = Cells::with_capacity(alloc, most.min(lines.bytes_left()))?;
+    let mut cells = Cells::with_capacity(alloc, width, height, lines.bytes_left())?;
     for row in 0..height {
         let Some(line) = lines.next_line() else {
             return Err(MapFault::RowCount);

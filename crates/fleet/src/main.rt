@@ -2,7 +2,7 @@
 #![tactic(auto)]
 
 use fleet_cli::rehearsal::{TraceOut, WriteOut, put_all};
-use fleet_cli::{Disk, Fault, flushed, run_command};
+use fleet_cli::{Disk, Fault, run_command};
 use std::io::{BufWriter, ErrorKind, Write};
 use std::process::ExitCode;
 use std::rt::Env;
@@ -48,5 +48,5 @@ fn main(rt: HostRuntime) -> ExitCode {
         &mut out,
         &mut err,
     );
-    ExitCode::from(flushed(status, &mut out, &mut err))
+    ExitCode::from(status)
 }

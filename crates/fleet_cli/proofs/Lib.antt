@@ -12,6 +12,7 @@ pub mod Ending
 pub mod Progress
 pub mod UnderWay
 pub mod Rehearsed
+pub mod FlushLemmas
 pub mod WordLemmas
 pub mod InputLemmas
 pub mod HexRuns

@@ -5,6 +5,7 @@ pub mod Sink
 pub mod Taken
 pub mod Outcome
 pub mod Rehearsal
+pub mod Flushed
 pub mod Words
 pub mod Lines
 pub mod Output

@@ -202,11 +202,13 @@ struct ShortOut {
 }
 
 impl TraceOut for ShortOut {
-    ghost use Rattle.std.specs.Prelude.{Some};
+    ghost use Rattle.std.specs.Prelude.{Some, true};
 
     ghost taken = { λ s. Some s.bytes.items };
 
     ghost has_failed = { λ s. s.failed };
+
+    ghost is_flushed = { λ _. true };
 
     fn put(&mut self, bytes: &[u8]) -> Result<usize, OutFault> {
         if self.bytes.len() >= self.room || self.bytes.push(bytes[0]).is_err() {
@@ -214,6 +216,10 @@ impl TraceOut for ShortOut {
             return Err(OutFault);
         }
         Ok(1)
+    }
+
+    fn flush(&mut self) -> Result<(), OutFault> {
+        Ok(())
     }
 
     fn failed(&self) -> bool {
@@ -371,14 +377,7 @@ fn broken_streams(rt: HostRuntime) {
         assert_eq!(rt; status, 3);
         assert!(rt; out.failed());
         assert_eq!(rt; err.bytes(), b"run 4 Write\n".as_slice());
-        let mut err = VecOut::new(alloc);
-        assert_eq!(rt; flushed(status, &mut out, &mut err), 3);
-        assert_eq!(rt; err.bytes(), b"".as_slice());
     }
-    let mut out = WriteOut::new(Broken { interrupted: false });
-    let mut err = VecOut::new(alloc);
-    assert_eq!(rt; flushed(0, &mut out, &mut err), 3);
-    assert_eq!(rt; err.bytes(), b"run 4 Write\n".as_slice());
     let mut out = VecOut::new(alloc);
     let mut err = VecOut::new(alloc);
     let mut input = Broken { interrupted: true };

@@ -1,7 +1,6 @@
 //! The two sinks: over memory, and over a writer.
 
-ghost use Rattle.std.specs.Prelude.{◌≡◌, [], false, is_err};
-ghost use Rattle.std.specs.Io.KnownBytes.{Keeps};
+ghost use Rattle.std.specs.Prelude.{◌≡◌, [], false};
 
 use super::sink::{OutFault, TraceOut};
 use std::alloc::Global;
@@ -41,11 +40,13 @@ impl VecOut {
 }
 
 impl TraceOut for VecOut {
-    ghost use Rattle.std.specs.Prelude.{Some};
+    ghost use Rattle.std.specs.Prelude.{Some, true};
 
     ghost taken = { λ s. Some s.bytes };
 
     ghost has_failed = { λ s. s.has_failed };
+
+    ghost is_flushed = { λ _. true };
 
     fn put(&mut self, bytes: &[u8]) -> Result<usize, OutFault> {
         if self.bytes.extend_from_slice(bytes).is_err() {
@@ -55,16 +56,23 @@ impl TraceOut for VecOut {
         Ok(bytes.len())
     }
 
+    fn flush(&mut self) -> Result<(), OutFault> {
+        Ok(())
+    }
+
     fn failed(&self) -> bool {
         self.failed
     }
 }
 
-/// A sink over a writer. An error, an interrupted write, and a write that takes nothing are its failure.
+/// A sink over a writer. An error, an interrupted write, and a write that takes nothing are its failure, and so is a flush that
+/// the writer refuses.
 #[derive(Drop)]
 pub struct WriteOut<W: Write> {
     writer: W,
     failed: bool,
+    /// Whether the writer was flushed after the last write.
+    flushed: bool,
 }
 
 impl<W: Write> WriteOut<W> {
@@ -75,21 +83,7 @@ impl<W: Write> WriteOut<W> {
         WriteOut {
             writer,
             failed: false,
-        }
-    }
-
-    /// Has the writer hand on what it keeps. A refusal, or an interruption, is the sink's failure.
-    pub fn flush(&mut self) -> Result<(), OutFault>
-        requires { ⟦<WriteOut<W> as TraceOut>⟧.has_failed self.old ≡ false }
-        ensures taken { Keeps (⟦<WriteOut<W> as TraceOut>⟧.taken self.old) (⟦<WriteOut<W> as TraceOut>⟧.taken self.new) }
-        ensures failed { ⟦<WriteOut<W> as TraceOut>⟧.has_failed self.new ≡ is_err result }
-    {
-        match self.writer.flush() {
-            Ok(()) => Ok(()),
-            Err(_) => {
-                self.failed = true;
-                Err(OutFault)
-            }
+            flushed: false,
         }
     }
 }
@@ -99,14 +93,31 @@ impl<W: Write> TraceOut for WriteOut<W> {
 
     ghost has_failed = { λ s. s.failed };
 
+    ghost is_flushed = { λ s. s.flushed };
+
     fn put(&mut self, bytes: &[u8]) -> Result<usize, OutFault> {
         match self.writer.write(bytes) {
             Ok(0) | Err(_) => {
                 self.failed = true;
                 Err(OutFault)
             }
-            Ok(count) => Ok(count),
+            Ok(count) => {
+                self.flushed = false;
+                Ok(count)
+            }
         }
+    }
+
+    fn flush(&mut self) -> Result<(), OutFault> {
+        if self.flushed {
+            return Ok(());
+        }
+        if self.writer.flush().is_err() {
+            self.failed = true;
+            return Err(OutFault);
+        }
+        self.flushed = true;
+        Ok(())
     }
 
     fn failed(&self) -> bool {

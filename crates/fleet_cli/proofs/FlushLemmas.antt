@@ -4,16 +4,16 @@ use Rattle.std.proofs.lemmas.Grind.{common_steps}
 use Rattle.std.specs.Io.KnownBytes.{Keeps, Appends}
 use Rattle.fleet_model.specs.Program.{Program}
 use Rattle.fleet_model.specs.Machine.{Holds, is_over}
-use Rattle.fleet_cli.specs.Sink.{HandsOn, StopsWithin, FailsAfter, Delivers}
-use Rattle.fleet_cli.specs.Outcome.{IsAskedFor, StopsAtSource}
-use Rattle.fleet_cli.specs.Rehearsal.{Rehearses}
+use Rattle.fleet_run.specs.Sink.{HandsOn, StopsWithin, FailsAfter, Delivers}
+use Rattle.fleet_run.specs.Outcome.{IsAskedFor, StopsAtSource}
+use Rattle.fleet_run.specs.Rehearsal.{Rehearses}
 use Rattle.fleet_cli.specs.Flushed.{RehearsesFlushed}
-use Rattle.fleet_cli.specs.declared.rehearsal.source.SourceFault.{SourceFault}
-use Rattle.fleet_cli.specs.declared.rehearsal.source.SourceFault.TheVariants.{Broken, Text}
-use Rattle.fleet_cli.specs.declared.rehearsal.report.Rehearsal.{Rehearsal}
-use Rattle.fleet_cli.specs.declared.rehearsal.run.RunFault.{RunFault}
-use Rattle.fleet_cli.specs.declared.rehearsal.run.RunFault.TheVariants.{OutOfMemory, Source, Hold, Write, HoldLimit}
-use Rattle.fleet_cli.proofs.SinkLemmas.{appends_nothing, appends_more, appends_same}
+use Rattle.fleet_run.specs.declared.source.SourceFault.{SourceFault}
+use Rattle.fleet_run.specs.declared.source.SourceFault.TheVariants.{Broken, Text}
+use Rattle.fleet_run.specs.declared.report.Rehearsal.{Rehearsal}
+use Rattle.fleet_run.specs.declared.run.RunFault.{RunFault}
+use Rattle.fleet_run.specs.declared.run.RunFault.TheVariants.{OutOfMemory, Source, Hold, Write, HoldLimit}
+use Rattle.fleet_run.proofs.SinkLemmas.{appends_nothing, appends_more, appends_same}
 
 pub keeps_self : (a : Option (List ℕ)) → Keeps a a
 keeps_self None = tt

@@ -4,12 +4,12 @@ use Rattle.fleet_model.specs.Program.{Program}
 use Rattle.fleet_model.specs.Machine.{Holds}
 use Rattle.fleet_grid.specs.Text.{lines}
 use Rattle.fleet_code.specs.Spelling.{Spells}
-use Rattle.fleet_cli.specs.HoldText.{HoldLines, ticks_of, last_of}
+use Rattle.fleet_run.specs.HoldText.{HoldLines, ticks_of, last_of}
 use Rattle.fleet_cli.specs.Flushed.{RehearsesFlushed}
 use Rattle.fleet_cli.specs.RehearseCommand.{hold_ticks, hold_last, RehearsesBytes, IsRehearseFault}
-use Rattle.fleet_cli.specs.declared.rehearsal.source.SourceFault.{SourceFault}
-use Rattle.fleet_cli.specs.declared.rehearsal.report.Rehearsal.{Rehearsal}
-use Rattle.fleet_cli.specs.declared.rehearsal.run.RunFault.{RunFault}
+use Rattle.fleet_run.specs.declared.source.SourceFault.{SourceFault}
+use Rattle.fleet_run.specs.declared.report.Rehearsal.{Rehearsal}
+use Rattle.fleet_run.specs.declared.run.RunFault.{RunFault}
 use Rattle.fleet_cli.specs.declared.fault.Fault.TheVariants as f
 
 module _ (bytes held : List ℕ) (p : Program) (n : ℕ) (s : HoldLines) (before taken : Option (List ℕ)) (has_failed flushed : Bool)

@@ -8,7 +8,7 @@ use Rattle.fleet_args.specs.declared.request.Request.TheVariants as r
 use Rattle.fleet_args.specs.declared.request.WordStop.{WordStop}
 use Rattle.fleet_args.specs.declared.request.WordStop.TheVariants as w
 use Rattle.fleet_cli.specs.Files.{Store}
-use Rattle.fleet_cli.specs.Sink.{Receives, FailsAfter}
+use Rattle.fleet_run.specs.Sink.{Receives, FailsAfter}
 use Rattle.fleet_cli.specs.Words.{line_text}
 use Rattle.fleet_cli.specs.Output.{Output, IsUnwritten, IsDelivered, IsTold}
 use Rattle.fleet_cli.specs.HexRun.{RunsHex}

@@ -3,11 +3,11 @@ use Rattle.std.specs.Prelude.{◌≡◌, ℕ, Bool, true, false, List, Option, R
 use Rattle.std.specs.Io.KnownBytes.{Keeps}
 use Rattle.fleet_model.specs.Program.{Program}
 use Rattle.fleet_model.specs.Machine.{Holds}
-use Rattle.fleet_cli.specs.Outcome.{Outside}
-use Rattle.fleet_cli.specs.Rehearsal.{IsRehearsed, Rehearses}
-use Rattle.fleet_cli.specs.declared.rehearsal.run.RunFault.{RunFault}
-use Rattle.fleet_cli.specs.declared.rehearsal.run.RunFault.TheVariants.{Write}
-use Rattle.fleet_cli.specs.declared.rehearsal.report.Rehearsal.{Rehearsal}
+use Rattle.fleet_run.specs.Outcome.{Outside}
+use Rattle.fleet_run.specs.Rehearsal.{IsRehearsed, Rehearses}
+use Rattle.fleet_run.specs.declared.run.RunFault.{RunFault}
+use Rattle.fleet_run.specs.declared.run.RunFault.TheVariants.{Write}
+use Rattle.fleet_run.specs.declared.report.Rehearsal.{Rehearsal}
 
 -- The answer of a run after the flush. It is the run's own, and the sink has handed on all, unless it had failed; or the sink
 -- could not hand on what it took, and that is a failed write.

@@ -10,8 +10,8 @@ use Rattle.fleet_code.specs.declared.fault.LoadFault.TheVariants as l
 use Rattle.fleet_cli.specs.Flushed.{RehearsesFlushed}
 use Rattle.fleet_cli.specs.Lines.{status_of}
 use Rattle.fleet_cli.specs.Output.{Output, IsUnwritten, IsTold, WritesRehearsal}
-use Rattle.fleet_cli.specs.declared.rehearsal.run.End.{End}
-use Rattle.fleet_cli.specs.declared.rehearsal.run.End.TheVariants.{Finished, Stuck}
+use Rattle.fleet_run.specs.declared.run.End.{End}
+use Rattle.fleet_run.specs.declared.run.End.TheVariants.{Finished, Stuck}
 use Rattle.fleet_cli.specs.declared.fault.Fault.{Fault}
 use Rattle.fleet_cli.specs.declared.fault.Fault.TheVariants as f
 

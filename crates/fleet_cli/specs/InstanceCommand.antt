@@ -10,7 +10,7 @@ use Rattle.fleet_grid.specs.declared.fault.MapFault.TheVariants as m
 use Rattle.fleet_scen.specs.ScenText.{IsScenText, IsFirstScenFault}
 use Rattle.fleet_scen.specs.declared.fault.ScenFault.TheVariants as s
 use Rattle.fleet_cli.specs.Files.{Store, Holds as HasBytes}
-use Rattle.fleet_cli.specs.Sink.{FailsAfter}
+use Rattle.fleet_run.specs.Sink.{FailsAfter}
 use Rattle.fleet_cli.specs.Words.{cell_text, line_text}
 use Rattle.fleet_cli.specs.Lines.{status_of}
 use Rattle.fleet_cli.specs.Output.{Output, IsUnwritten, IsDelivered, IsTold}

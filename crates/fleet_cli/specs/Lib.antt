@@ -1,10 +1,3 @@
-pub mod Near
-pub mod Text
-pub mod Source
-pub mod Sink
-pub mod Taken
-pub mod Outcome
-pub mod Rehearsal
 pub mod Flushed
 pub mod Words
 pub mod Lines
@@ -12,7 +5,6 @@ pub mod Output
 pub mod HexRun
 pub mod Files
 pub mod MemFiles
-pub mod HoldText
 pub mod RehearseCommand
 pub mod InstanceCommand
 pub mod Command

@@ -3,11 +3,11 @@ use Rattle.std.specs.Prelude.{◌≡◌, ℕ, ◌<◌, Bool, true, false, List, 
 use Rattle.std.specs.Io.KnownBytes.{Keeps, Appends}
 use Rattle.fleet_model.specs.Program.{Program}
 use Rattle.fleet_model.specs.Machine.{Holds, run, IsEnd}
-use Rattle.fleet_cli.specs.Sink.{Receives}
-use Rattle.fleet_cli.specs.Text.{rehearsal_text}
-use Rattle.fleet_cli.specs.Outcome.{end_of}
+use Rattle.fleet_run.specs.Sink.{Receives}
+use Rattle.fleet_run.specs.Text.{rehearsal_text}
+use Rattle.fleet_run.specs.Outcome.{end_of}
 use Rattle.fleet_cli.specs.Lines.{line_of}
-use Rattle.fleet_cli.specs.declared.rehearsal.run.End.{End}
+use Rattle.fleet_run.specs.declared.run.End.{End}
 use Rattle.fleet_cli.specs.declared.fault.Fault.{Fault}
 
 -- a sink, before and after

@@ -7,13 +7,13 @@ use Rattle.fleet_code.specs.Spelling.{Spells}
 use Rattle.fleet_code.specs.Reading.{program_at}
 use Rattle.fleet_code.specs.declared.fault.LoadFault.TheVariants as l
 use Rattle.fleet_cli.specs.Files.{Store, Holds as HasBytes}
-use Rattle.fleet_cli.specs.HoldText.{ticks_of, last_of}
+use Rattle.fleet_run.specs.HoldText.{ticks_of, last_of}
 use Rattle.fleet_cli.specs.Flushed.{RehearsesFlushed}
 use Rattle.fleet_cli.specs.Lines.{status_of}
 use Rattle.fleet_cli.specs.Output.{Output, IsUnwritten, IsTold, WritesRehearsal}
-use Rattle.fleet_cli.specs.declared.rehearsal.source.SourceFault.{SourceFault}
-use Rattle.fleet_cli.specs.declared.rehearsal.run.End.{End}
-use Rattle.fleet_cli.specs.declared.rehearsal.run.End.TheVariants.{Finished, Stuck}
+use Rattle.fleet_run.specs.declared.source.SourceFault.{SourceFault}
+use Rattle.fleet_run.specs.declared.run.End.{End}
+use Rattle.fleet_run.specs.declared.run.End.TheVariants.{Finished, Stuck}
 use Rattle.fleet_cli.specs.declared.fault.Fault.{Fault}
 use Rattle.fleet_cli.specs.declared.fault.Fault.TheVariants as f
 

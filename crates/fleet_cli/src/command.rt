@@ -8,9 +8,9 @@ use crate::files::Files;
 use crate::flush::deliver;
 use crate::hex_run::{refuse, run_hex};
 use crate::instance_command::run_instance;
-use crate::rehearsal::{OutFault, TraceOut, put_all};
 use crate::rehearse_command::run_rehearse;
 use fleet_args::{Request, WordStop, read_words};
+use fleet_run::{OutFault, TraceOut, put_all};
 use std::alloc::Global;
 use std::io::Read;
 

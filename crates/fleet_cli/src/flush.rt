@@ -1,11 +1,11 @@
 //! Outputs that are flushed once all is written, before anything is told of them.
 
 ghost use Rattle.std.specs.Prelude.{◌≡◌, false, None};
-ghost use Rattle.fleet_cli.specs.Sink.{Delivers};
+ghost use Rattle.fleet_run.specs.Sink.{Delivers};
 ghost use Rattle.fleet_cli.specs.Flushed.{FlushesRun, RehearsesFlushed};
 
-use crate::rehearsal::{HoldSource, OutFault, Rehearsal, RunFault, TraceOut, put_all, rehearse};
 use fleet_model::ProgramView;
+use fleet_run::{HoldSource, OutFault, Rehearsal, RunFault, TraceOut, put_all, rehearse};
 use std::alloc::Global;
 
 /// Puts all of the bytes and has the sink hand them on, or stops at its failure.

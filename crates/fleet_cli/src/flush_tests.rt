@@ -1,8 +1,8 @@
 //! Outputs that take all that is written and then refuse to hand it on.
 
 use super::*;
-use crate::rehearsal::{TraceOut, VecOut, WriteOut};
 use fleet_code::read_hex;
+use fleet_run::{TraceOut, VecOut, WriteOut};
 use std::alloc::Global;
 use std::io;
 use std::io::Write;

@@ -1,15 +1,15 @@
 //! The run of the program without words.
 
 ghost use Rattle.std.specs.Prelude.{◌≡◌, false, MatchResult};
-ghost use Rattle.fleet_cli.specs.Sink.{Receives};
+ghost use Rattle.fleet_run.specs.Sink.{Receives};
 ghost use Rattle.fleet_cli.specs.Lines.{line_of, status_of};
 ghost use Rattle.fleet_cli.specs.HexRun.{IsRefusalOf, RehearsesInput, RunsHex};
 
 use crate::fault::Fault;
 use crate::flush::rehearse_flushed;
 use crate::input::{FileFault, read_whole};
-use crate::rehearsal::{End, HoldList, TraceOut};
 use fleet_code::{load, read_hex};
+use fleet_run::{End, HoldList, TraceOut};
 use std::alloc::Global;
 use std::io::Read;
 

@@ -1,17 +1,17 @@
 //! The command `instance`.
 
 ghost use Rattle.std.specs.Prelude.{◌≡◌, ◌<◌, false, length, List, ℕ, MatchResult};
-ghost use Rattle.fleet_cli.specs.Sink.{TakesAll, Delivers};
+ghost use Rattle.fleet_run.specs.Sink.{TakesAll, Delivers};
 ghost use Rattle.fleet_cli.specs.InstanceCommand.{task_line, task_lines, map_line, ground_line, agents_line, instance_text, PrintsInstance, IsInstanceFault, AreInstanceBytes, IsInstanceRefusal, RunsInstance};
 
 use crate::fault::Fault;
 use crate::files::Files;
 use crate::hex_run::refuse;
-use crate::rehearsal::{OutFault, TraceOut};
 use crate::rehearse_command::read_file;
 use crate::words::{Word, put_line};
 use fleet_grid::{Grid, read_map};
 use fleet_model::Cell;
+use fleet_run::{OutFault, TraceOut};
 use fleet_scen::{Instance, read_scen};
 use std::alloc::Global;
 

@@ -1,4 +1,4 @@
-//! The program `fleet`: rehearsals, refusals and commands.
+//! The program `fleet`: refusals, files and commands.
 #![tactic(auto)]
 
 mod command;
@@ -10,7 +10,6 @@ mod hex_run;
 mod input;
 mod instance_command;
 mod mem_files;
-pub mod rehearsal;
 mod rehearse_command;
 mod words;
 

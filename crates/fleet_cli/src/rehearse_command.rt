@@ -9,9 +9,9 @@ use crate::files::Files;
 use crate::flush::rehearse_flushed;
 use crate::hex_run::refuse;
 use crate::input::FileFault;
-use crate::rehearsal::{End, HoldText, TraceOut};
 use fleet_code::load;
 use fleet_model::ProgramView;
+use fleet_run::{End, HoldText, TraceOut};
 use std::alloc::Global;
 
 /// The bytes of the file.

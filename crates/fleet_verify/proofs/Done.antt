@@ -1,13 +1,13 @@
 -- What is finished in a run: more with each tick, and with an action all that it needs through chains.
-use Rattle.std.proofs.Common.{◌≡◌, ℕ, suc, ◌≤◌, ap, subst, arith, inl, inr}
+use Rattle.std.proofs.Common.{◌≡◌, ℕ, suc, ◌+◌, ◌≤◌, ap, subst, arith, inl, inr}
 use Rattle.std.specs.Prelude.{Contains}
 use Rattle.fleet_model.specs.declared.program.Await.{Await}
 use Rattle.fleet_model.specs.declared.program.ActionId.{ActionId}
-use Rattle.fleet_model.specs.Program.{Program, awaits_of}
+use Rattle.fleet_model.specs.Program.{Program, moves, awaits_of}
 use Rattle.fleet_model.specs.Machine.{Configuration, count_at, Holds, is_held, run, IsDone}
 use Rattle.fleet_model.specs.Chain.{DirectlyNeeds, Reaches}
 use Rattle.fleet_verify.proofs.Counts.{counts, readies, run_counts}
-use Rattle.fleet_verify.proofs.Finished.{grows, grows_once, chain_before}
+use Rattle.fleet_verify.proofs.Finished.{grows, grows_once, within_moves, chain_before}
 use Rattle.fleet_verify.proofs.Readiness.{IsReadyTo}
 
 pub count_grows : (p : Program) (holds : Holds) (t i : ℕ) → count_at (run p holds t) i ≤ count_at (run p holds (suc t)) i
@@ -26,3 +26,10 @@ pub Reaches-done : (p : Program) (holds : Holds) (t : ℕ) (a b : ActionId) → 
 Reaches-done p holds t a b (cs, h) d =
     let r = chain_before p (is_held holds) (readies p holds) (counts p holds) (run_counts p holds) t a cs b h d in
     omega (arith, r.2, grows p (is_held holds) (readies p holds) (counts p holds) (run_counts p holds) r.0 t a.agent (omega (arith, r.1)))
+
+pub count_grows_to : (p : Program) (holds : Holds) (t k i : ℕ) → count_at (run p holds t) i ≤ count_at (run p holds (t + k)) i
+count_grows_to p holds t k i = grows p (is_held holds) (readies p holds) (counts p holds) (run_counts p holds) t (t + k) i (omega arith)
+
+-- no agent finishes more actions than it has
+pub count_within : (p : Program) (holds : Holds) (t i : ℕ) → count_at (run p holds t) i ≤ moves p i
+count_within p holds t i = within_moves p (is_held holds) (readies p holds) (counts p holds) (run_counts p holds) t i

@@ -1,17 +1,17 @@
 -- What finishes under some list of holds has a numbering, and no list of holds finishes a ring.
-use Rattle.std.proofs.Common.{◌≡◌, ℕ, zero, suc, ◌+◌, ◌-◌, ◌<◌, ◌≤◌, true, List, length, get_or, Some, sym, ap, ◌∙◌, subst, arith, inl, inr}
-use Rattle.std.specs.Prelude.{◌⊎◌, slice_get, nat_le}
-use Rattle.std.proofs.lemmas.Bool.{cases_lt, leb-true, le-leb}
+use Rattle.std.proofs.Common.{◌≡◌, ℕ, zero, suc, ◌+◌, ◌-◌, ◌<◌, ◌≤◌, Bool, true, false, refl, List, length, get_or, Some, sym, ap, ◌∙◌, subst, arith, inl, inr}
+use Rattle.std.specs.Prelude.{slice_get, nat_le}
+use Rattle.std.proofs.lemmas.Bool.{cases_lt, le-leb}
 use Rattle.std.proofs.lemmas.Option.{slice_get-get_or, slice_get_within, get_or_from_slice_get}
 use Rattle.fleet_model.specs.declared.program.ActionId.{ActionId}
-use Rattle.fleet_model.specs.Program.{Program}
+use Rattle.fleet_model.specs.Program.{Program, moves}
 use Rattle.fleet_model.specs.Machine.{Configuration, count_at, Holds, run, is_finished, IsLeast, IsDone}
 use Rattle.fleet_model.specs.Chain.{IsAction, DirectlyNeeds, IsNumbering}
 use Rattle.fleet_verify.specs.Ring.{IsRing}
 use Rattle.fleet_verify.proofs.Readiness.{step}
 use Rattle.fleet_verify.proofs.Counts.{count_past, count_opening}
 use Rattle.fleet_verify.proofs.Done.{needs_of_ready}
-use Rattle.fleet_verify.proofs.Held.{finished_all}
+use Rattle.fleet_verify.proofs.Held.{finished_all, unfinished_one}
 use Rattle.fleet_verify.proofs.Least.{first_passing, first_is}
 
 pub finished_says : (p : Program) (c : Configuration) → is_finished p c ≡ true → (a : ActionId) → IsAction p a → IsDone c a
@@ -32,33 +32,20 @@ newly p holds t a b n l d =
 pub done_after : (p : Program) (holds : Holds) (f : ℕ) → ActionId → ℕ
 done_after p holds f a = first_passing (λ t. nat_le a.number (count_at (run p holds t) a.agent)) f
 
--- the ticks of a run that finishes are a numbering
-pub run_numbers : (p : Program) (holds : Holds) (f : ℕ) → is_finished p (run p holds f) ≡ true → IsNumbering p (done_after p holds f)
+-- it is the first one after which the action is finished
+pub done_first : (p : Program) (holds : Holds) (f : ℕ) → is_finished p (run p holds f) ≡ true → (a : ActionId) → IsAction p a → IsLeast (λ t. nat_le a.number (count_at (run p holds t) a.agent)) (done_after p holds f a)
 unfolding done_after
-run_numbers p holds f h = record { positive = λ a k. later a k (done_after p holds f a) (first a k); rising = λ a b k m n. before a b k m n (done_after p holds f a) (first a k) }
+done_first p holds f h a k = first_is (λ t. nat_le a.number (count_at (run p holds t) a.agent)) f f (omega arith) (le-leb a.number (count_at (run p holds f) a.agent) (finished_says p (run p holds f) h a k))
+
+-- all is finished where each action is
+pub finished_from : (p : Program) (c : Configuration) → ((a : ActionId) → IsAction p a → IsDone c a) → is_finished p c ≡ true
+finished_from p c h = go (is_finished p c) refl
   where
-    first : (a : ActionId) → IsAction p a → IsLeast (λ t. nat_le a.number (count_at (run p holds t) a.agent)) (done_after p holds f a)
-    first a k = first_is (λ t. nat_le a.number (count_at (run p holds t) a.agent)) f f (omega arith) (le-leb a.number (count_at (run p holds f) a.agent) (finished_says p (run p holds f) h a k))
-
-    later : (a : ActionId) → IsAction p a → (n : ℕ) → IsLeast (λ t. nat_le a.number (count_at (run p holds t) a.agent)) n → 1 ≤ n
-    later a k zero l =
-        let e : count_at (run p holds 0) a.agent ≡ 0 = count_opening p holds a.agent in
-        let g : a.number ≤ count_at (run p holds 0) a.agent = leb-true a.number (count_at (run p holds 0) a.agent) l.holds in
-        let i : 1 ≤ a.number = k.first in
-        omega arith
-    later a k (suc n) l = omega arith
-
-    before : (a b : ActionId) → IsAction p a → IsAction p b → DirectlyNeeds p a b → (n : ℕ) → IsLeast (λ t. nat_le a.number (count_at (run p holds t) a.agent)) n → done_after p holds f b < n
-    before a b k m n zero l = absurd (let g : 1 ≤ 0 = later a k zero l in omega arith)
-    before a b k m n (suc t) l =
-        let not_yet : count_at (run p holds t) a.agent < a.number = open_at (cases_lt (count_at (run p holds t) a.agent) a.number) in
-        let there : b.number ≤ count_at (run p holds t) b.agent = newly p holds t a b n not_yet (leb-true a.number (count_at (run p holds (suc t)) a.agent) l.holds) in
-        let low : done_after p holds f b ≤ t = (first b m).least t (le-leb b.number (count_at (run p holds t) b.agent) there) in
-        omega arith
-      where
-        open_at : (count_at (run p holds t) a.agent < a.number) ⊎ (a.number ≤ count_at (run p holds t) a.agent) → count_at (run p holds t) a.agent < a.number
-        open_at (inl x) = x
-        open_at (inr x) = absurd (let g : suc t ≤ t = l.least t (le-leb a.number (count_at (run p holds t) a.agent) x) in omega arith)
+    go : (b : Bool) → is_finished p c ≡ b → is_finished p c ≡ true
+    go true e = e
+    go false e =
+        let u = unfinished_one p c e in
+        absurd (omega (arith, u.2, h (record { agent = u.0; number = moves p u.0 }) (record { agent = u.1; first = omega (arith, u.2); last = omega arith })))
 
 -- the action of a ring that one of them needs
 ring_need : (p : Program) (ring : List ActionId) → IsRing p ring → (k : ℕ) (a : ActionId) → slice_get ring k ≡ Some a → (j : ℕ) × (b : ActionId) × (slice_get ring j ≡ Some b) × DirectlyNeeds p a b

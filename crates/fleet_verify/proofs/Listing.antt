@@ -108,7 +108,7 @@ sorted_passes p number s q After gives l h a sorted g =
     visit_in xs k v (i, m, e) = subst (IsVisitOf p q) e (k.only i v m)
 
 -- what is orderly by awaits is orderly by chains
-adjacent_chains : (p : Program) → AreInRange p → (q : Place) (l : List Visit) → ((k : ℕ) (d : Visit) → k < length l → IsVisitOf p q (get_or l k d)) → Adjacent (ComesAfterByAwait p) l → Adjacent (ComesAfterByChain p) l
+pub adjacent_chains : (p : Program) → AreInRange p → (q : Place) (l : List Visit) → ((k : ℕ) (d : Visit) → k < length l → IsVisitOf p q (get_or l k d)) → Adjacent (ComesAfterByAwait p) l → Adjacent (ComesAfterByChain p) l
 adjacent_chains p range q l only a =
     adjacent_from (ComesAfterByChain p) l (λ k d m. await_chain p range q (get_or l k d) (get_or l (suc k) d) (only (suc k) d m) (adjacent_at (ComesAfterByAwait p) l a k d m))
 

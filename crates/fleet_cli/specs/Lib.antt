@@ -8,3 +8,5 @@ pub mod MemFiles
 pub mod RehearseCommand
 pub mod InstanceCommand
 pub mod Command
+pub mod Problem
+pub mod VerifyCommand

@@ -1,6 +1,13 @@
 -- The line and the status of each refusal.
-use Rattle.std.specs.Prelude.{ℕ, List, [], ◌∷◌, codes, decimal}
-use Rattle.fleet_cli.specs.Words.{line_text}
+use Rattle.std.specs.Prelude.{ℕ, List, [], ◌∷◌, codes, decimal, map}
+use Rattle.fleet_cli.specs.Words.{cell_text, numbered_text, line_text}
+use Rattle.fleet_model.specs.declared.geometry.Cell.{Cell}
+use Rattle.fleet_model.specs.declared.program.ActionId.{ActionId}
+use Rattle.fleet_model.specs.declared.program.Visit.{Visit}
+use Rattle.fleet_adg.specs.declared.fault.CompileFault.{CompileFault}
+use Rattle.fleet_adg.specs.declared.fault.CompileFault.TheVariants as c
+use Rattle.fleet_verify.specs.declared.fault.VerifyFault.{VerifyFault}
+use Rattle.fleet_verify.specs.declared.fault.VerifyFault.TheVariants as v
 use Rattle.fleet_grid.specs.declared.fault.MapFault.{MapFault}
 use Rattle.fleet_grid.specs.declared.fault.MapFault.TheVariants as m
 use Rattle.fleet_scen.specs.declared.fault.ScenFault.{ScenFault}
@@ -69,6 +76,31 @@ load_words (l.AwaitOrder at) = named_at (codes "load") 8 (codes "AwaitOrder") (c
 load_words (l.AwaitCount at) = named_at (codes "load") 9 (codes "AwaitCount") (codes "at") at
 load_words (l.Trailing at) = named_at (codes "load") 10 (codes "Trailing") (codes "at") at
 
+abbrev pub compile_words : CompileFault → List (List ℕ)
+compile_words c.OutOfMemory = memory_words
+compile_words c.TooLong = named (codes "compile") 2 (codes "TooLong")
+
+-- an action and a visit, as `agent:number`
+abbrev pub action_text : ActionId → List ℕ
+action_text a = numbered_text a.agent a.number
+
+abbrev pub visit_text : Visit → List ℕ
+visit_text v = numbered_text v.agent v.position
+
+abbrev pub unordered_words : Cell → Visit → Visit → List (List ℕ)
+unordered_words cell first second =
+    codes "verify" ∷ decimal 8 ∷ codes "Unordered" ∷ codes "cell" ∷ cell_text cell ∷ codes "first" ∷ visit_text first ∷ codes "second" ∷ visit_text second ∷ []
+
+abbrev pub verify_words : VerifyFault → List (List ℕ)
+verify_words v.OutOfMemory = memory_words
+verify_words v.OtherFleet = named (codes "verify") 2 (codes "OtherFleet")
+verify_words (v.Start agent) = named_at (codes "verify") 3 (codes "Start") (codes "agent") agent
+verify_words (v.Goal agent) = named_at (codes "verify") 4 (codes "Goal") (codes "agent") agent
+verify_words (v.Step agent action) = named_by (codes "verify") 5 (codes "Step") (codes "agent") agent (codes "action") action
+verify_words (v.AwaitRange agent action) = named_by (codes "verify") 6 (codes "AwaitRange") (codes "agent") agent (codes "action") action
+verify_words (v.Cyclic ring) = codes "verify" ∷ decimal 7 ∷ codes "Cyclic" ∷ map action_text ring.items
+verify_words (v.Unordered cell first second) = unordered_words cell first second
+
 abbrev pub run_words : RunFault → List (List ℕ)
 run_words r.OutOfMemory = memory_words
 run_words (r.Source tick) = named_at (codes "run") 2 (codes "Source") (codes "tick") tick
@@ -81,6 +113,8 @@ words_of (f.Map fault) = map_words fault
 words_of (f.Scen fault) = scen_words fault
 words_of (f.Hex fault) = hex_words fault
 words_of (f.Load fault) = load_words fault
+words_of (f.Compile fault) = compile_words fault
+words_of (f.Verify fault) = verify_words fault
 words_of (f.Run fault) = run_words fault
 words_of f.Memory = memory_words
 words_of (f.File name) = codes "file" ∷ name.now ∷ []
@@ -99,6 +133,10 @@ status_of (f.Hex h.OutOfMemory) = 3
 status_of (f.Hex _) = 1
 status_of (f.Load l.OutOfMemory) = 3
 status_of (f.Load _) = 1
+status_of (f.Compile c.OutOfMemory) = 3
+status_of (f.Compile _) = 1
+status_of (f.Verify v.OutOfMemory) = 3
+status_of (f.Verify _) = 1
 status_of (f.Run r.OutOfMemory) = 3
 status_of (f.Run (r.Source _)) = 3
 status_of (f.Run r.Write) = 3

@@ -3,18 +3,23 @@ use Rattle.std.specs.Prelude.{ℕ, List, [], ◌∷◌, ◌++◌, decimal}
 use Rattle.std.specs.List.{join_with_byte}
 use Rattle.fleet_model.specs.declared.geometry.Cell.{Cell}
 use Rattle.fleet_cli.specs.declared.words.Word.{Word}
-use Rattle.fleet_cli.specs.declared.words.Word.TheVariants.{Text, Number, Label, Place}
+use Rattle.fleet_cli.specs.declared.words.Word.TheVariants.{Text, Number, Label, Place, Of}
 
 -- a cell as `x,y`
 abbrev pub cell_text : Cell → List ℕ
 cell_text c = (decimal c.x ++ 44 ∷ []) ++ decimal c.y
 
--- a text as it stands, a number in base ten, a number and a colon, or a cell
+-- an agent and a number of it, as `agent:number`
+abbrev pub numbered_text : ℕ → ℕ → List ℕ
+numbered_text agent number = (decimal agent ++ 58 ∷ []) ++ decimal number
+
+-- a text as it stands, a number in base ten, a number and a colon, a cell, or an agent with a number of it
 abbrev pub word_text : Word → List ℕ
 word_text (Text text) = text.now
 word_text (Number n) = decimal n
 word_text (Label n) = decimal n ++ 58 ∷ []
 word_text (Place c) = cell_text c
+word_text (Of agent number) = numbered_text agent number
 
 -- words with one space between two
 abbrev pub spaced : List (List ℕ) → List ℕ

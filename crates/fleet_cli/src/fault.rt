@@ -1,24 +1,29 @@
 //! A refusal of the program, with its status and its line.
 
-ghost use Rattle.std.specs.Prelude.{◌≡◌, false, map};
+ghost use Rattle.std.specs.Prelude.{◌≡◌, ◌<◌, ◌++◌, false, length, map};
 ghost use Rattle.fleet_run.specs.Sink.{TakesAll, Receives};
-ghost use Rattle.fleet_cli.specs.Words.{line_text};
-ghost use Rattle.fleet_cli.specs.Lines.{named, named_at, named_by, map_words, scen_words, hex_words, load_words, run_words, line_of, status_of};
+ghost use Rattle.fleet_cli.specs.Words.{word_text, line_text, next_words};
+ghost use Rattle.fleet_cli.specs.Lines.{named, named_at, named_by, map_words, scen_words, hex_words, load_words, compile_words, action_text, unordered_words, verify_words, run_words, line_of, status_of};
 
-use crate::words::{Word, put_line};
+use crate::words::{Word, put_line, put_next_word, put_words};
+use fleet_adg::CompileFault;
 use fleet_code::{HexFault, LoadFault};
 use fleet_grid::MapFault;
-use fleet_run::{OutFault, RunFault, TraceOut};
+use fleet_model::{ActionId, Cell, Visit};
+use fleet_run::{OutFault, RunFault, TraceOut, put_all};
 use fleet_scen::ScenFault;
+use fleet_verify::VerifyFault;
 
 /// Every refusal of the program but usage and help. `File` names the file that cannot be read or written, and is `-` for the
 /// standard streams.
-#[derive(Clone, Copy, Debug)]
+#[derive(Debug, Drop)]
 pub enum Fault<'a> {
     Map(MapFault),
     Scen(ScenFault),
     Hex(HexFault),
     Load(LoadFault),
+    Compile(CompileFault),
+    Verify(VerifyFault),
     Run(RunFault),
     Memory,
     File(&'a str),
@@ -208,6 +213,111 @@ fn put_run<O: TraceOut>(out: &mut O, fault: RunFault) -> Result<(), OutFault>
     }
 }
 
+fn put_compile<O: TraceOut>(out: &mut O, fault: CompileFault) -> Result<(), OutFault>
+    requires { O.has_failed out.old ≡ false }
+    ensures { TakesAll (O.taken out.old) (O.taken out.new) (O.has_failed out.new) result
+        (line_text (compile_words fault)) }
+{
+    match fault {
+        CompileFault::OutOfMemory => put_memory(out),
+        CompileFault::TooLong => put_named(out, "compile", 2, "TooLong"),
+    }
+}
+
+/// A space and a word for each action.
+fn put_actions<O: TraceOut>(out: &mut O, actions: &[ActionId]) -> Result<(), OutFault>
+    requires { O.has_failed out.old ≡ false }
+    ensures { TakesAll (O.taken out.old) (O.taken out.new) (O.has_failed out.new) result
+        (next_words (map action_text actions.now)) }
+{
+    for action in actions {
+        put_next_word(out, Word::Of(action.agent, action.number))?;
+    }
+    Ok(())
+}
+
+/// Writes a line of first words, and a word for each action.
+fn put_ring<O: TraceOut>(out: &mut O, first: &[Word<'_>], ring: &[ActionId]) -> Result<(), OutFault>
+    requires working { O.has_failed out.old ≡ false }
+    requires some { 0 < length first.now }
+    ensures { TakesAll (O.taken out.old) (O.taken out.new) (O.has_failed out.new) result
+        (line_text (map word_text first.now ++ map action_text ring.now)) }
+{
+    put_words(out, first)?;
+    put_actions(out, ring)?;
+    put_all(out, b"\n")
+}
+
+/// Writes the line of two visits of a cell without order.
+fn put_unordered<O: TraceOut>(
+    out: &mut O,
+    cell: Cell,
+    first: Visit,
+    second: Visit,
+) -> Result<(), OutFault>
+    requires { O.has_failed out.old ≡ false }
+    ensures { TakesAll (O.taken out.old) (O.taken out.new) (O.has_failed out.new) result
+        (line_text (unordered_words cell first second)) }
+{
+    put_line(
+        out,
+        &[
+            Word::Text("verify"),
+            Word::Number(8),
+            Word::Text("Unordered"),
+            Word::Text("cell"),
+            Word::Place(cell),
+            Word::Text("first"),
+            Word::Of(first.agent, first.position),
+            Word::Text("second"),
+            Word::Of(second.agent, second.position),
+        ],
+    )
+}
+
+fn put_verify<O: TraceOut>(out: &mut O, fault: &VerifyFault) -> Result<(), OutFault>
+    requires { O.has_failed out.old ≡ false }
+    ensures { TakesAll (O.taken out.old) (O.taken out.new) (O.has_failed out.new) result
+        (line_text (verify_words fault.now)) }
+{
+    match fault {
+        VerifyFault::OutOfMemory => put_memory(out),
+        VerifyFault::OtherFleet => put_named(out, "verify", 2, "OtherFleet"),
+        VerifyFault::Start { agent } => {
+            put_named_at(out, "verify", 3, "Start", "agent", *agent as u64)
+        }
+        VerifyFault::Goal { agent } => {
+            put_named_at(out, "verify", 4, "Goal", "agent", *agent as u64)
+        }
+        VerifyFault::Step { agent, action } => put_named_by(
+            out,
+            "verify",
+            5,
+            "Step",
+            ("agent", *agent as u64),
+            ("action", *action as u64),
+        ),
+        VerifyFault::AwaitRange { agent, action } => put_named_by(
+            out,
+            "verify",
+            6,
+            "AwaitRange",
+            ("agent", *agent as u64),
+            ("action", *action as u64),
+        ),
+        VerifyFault::Cyclic(ring) => put_ring(
+            out,
+            &[Word::Text("verify"), Word::Number(7), Word::Text("Cyclic")],
+            ring.as_slice(),
+        ),
+        VerifyFault::Unordered {
+            cell,
+            first,
+            second,
+        } => put_unordered(out, *cell, *first, *second),
+    }
+}
+
 impl Fault<'_> {
     /// 3 where memory, a file, the source or the sink failed, and 1 for every other refusal.
     pub fn status(&self) -> u8
@@ -218,10 +328,13 @@ impl Fault<'_> {
             Fault::Scen(ScenFault::OutOfMemory) => 3,
             Fault::Hex(HexFault::OutOfMemory) => 3,
             Fault::Load(LoadFault::OutOfMemory) => 3,
+            Fault::Compile(CompileFault::OutOfMemory) => 3,
+            Fault::Verify(VerifyFault::OutOfMemory) => 3,
             Fault::Run(RunFault::OutOfMemory | RunFault::Source { .. } | RunFault::Write) => 3,
             Fault::Memory | Fault::File(_) => 3,
             Fault::Map(_) | Fault::Scen(_) => 1,
-            Fault::Hex(_) | Fault::Load(_) | Fault::Run(_) => 1,
+            Fault::Hex(_) | Fault::Load(_) | Fault::Compile(_) | Fault::Verify(_) => 1,
+            Fault::Run(_) => 1,
         }
     }
 
@@ -234,6 +347,8 @@ impl Fault<'_> {
             Fault::Scen(fault) => put_scen(out, *fault),
             Fault::Hex(fault) => put_hex(out, *fault),
             Fault::Load(fault) => put_load(out, *fault),
+            Fault::Compile(fault) => put_compile(out, *fault),
+            Fault::Verify(fault) => put_verify(out, fault),
             Fault::Run(fault) => put_run(out, *fault),
             Fault::Memory => put_memory(out),
             Fault::File(name) => put_line(out, &[Word::Text("file"), Word::Text(name)]),

@@ -10,7 +10,9 @@ mod hex_run;
 mod input;
 mod instance_command;
 mod mem_files;
+mod problem;
 mod rehearse_command;
+mod verify_command;
 mod words;
 
 pub use command::{run_command, run_request};
@@ -22,6 +24,7 @@ pub use input::{FileFault, MOST_BYTES, read_whole};
 pub use instance_command::run_instance;
 pub use mem_files::MemFiles;
 pub use rehearse_command::run_rehearse;
+pub use verify_command::run_verify;
 
 #[cfg(test)]
 mod command_tests;

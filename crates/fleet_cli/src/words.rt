@@ -2,7 +2,7 @@
 
 ghost use Rattle.std.specs.Prelude.{◌≡◌, ◌++◌, ◌∷◌, [], false, map, decimal};
 ghost use Rattle.fleet_run.specs.Sink.{TakesAll};
-ghost use Rattle.fleet_cli.specs.Words.{cell_text, word_text, spaced, line_text};
+ghost use Rattle.fleet_cli.specs.Words.{cell_text, numbered_text, word_text, spaced, line_text};
 
 use fleet_model::Cell;
 use fleet_run::{OutFault, TraceOut, put_all, write_number};
@@ -15,6 +15,8 @@ pub enum Word<'a> {
     /// A number and a colon.
     Label(u64),
     Place(Cell),
+    /// An agent and a number of it, as `agent:number`: an action or a visit.
+    Of(u16, u32),
 }
 
 /// How many digits the longest number has.
@@ -48,6 +50,15 @@ fn put_cell<O: TraceOut>(out: &mut O, cell: Cell) -> Result<(), OutFault>
     put_number(out, y as u64)
 }
 
+/// An agent and a number of it, as `agent:number`.
+fn put_of<O: TraceOut>(out: &mut O, agent: u16, number: u32) -> Result<(), OutFault>
+    requires { O.has_failed out.old ≡ false }
+    ensures { TakesAll (O.taken out.old) (O.taken out.new) (O.has_failed out.new) result (numbered_text agent number) }
+{
+    put_number_then(out, agent as u64, b':')?;
+    put_number(out, number as u64)
+}
+
 fn put_word<O: TraceOut>(out: &mut O, word: Word<'_>) -> Result<(), OutFault>
     requires { O.has_failed out.old ≡ false }
     ensures { TakesAll (O.taken out.old) (O.taken out.new) (O.has_failed out.new) result (word_text word.entry) }
@@ -57,11 +68,12 @@ fn put_word<O: TraceOut>(out: &mut O, word: Word<'_>) -> Result<(), OutFault>
         Word::Number(number) => put_number(out, number),
         Word::Label(number) => put_number_then(out, number, b':'),
         Word::Place(cell) => put_cell(out, cell),
+        Word::Of(agent, number) => put_of(out, agent, number),
     }
 }
 
 /// A space, and the word.
-fn put_next_word<O: TraceOut>(out: &mut O, word: Word<'_>) -> Result<(), OutFault>
+pub fn put_next_word<O: TraceOut>(out: &mut O, word: Word<'_>) -> Result<(), OutFault>
     requires { O.has_failed out.old ≡ false }
     ensures { TakesAll (O.taken out.old) (O.taken out.new) (O.has_failed out.new) result
         (32 ∷ word_text word.entry) }
@@ -71,7 +83,7 @@ fn put_next_word<O: TraceOut>(out: &mut O, word: Word<'_>) -> Result<(), OutFaul
 }
 
 /// Writes the words with one space between two, and no line's end.
-fn put_words<O: TraceOut>(out: &mut O, words: &[Word<'_>]) -> Result<(), OutFault>
+pub fn put_words<O: TraceOut>(out: &mut O, words: &[Word<'_>]) -> Result<(), OutFault>
     requires { O.has_failed out.old ≡ false }
     ensures { TakesAll (O.taken out.old) (O.taken out.new) (O.has_failed out.new) result
         (spaced (map word_text words.now)) }

@@ -1,0 +1,15 @@
+-- What a store of files holds while it is read.
+use Rattle.std.proofs.Common.{◌≡◌, ℕ, List, Option, Some, None, sym, ◌∙◌}
+use Rattle.fleet_cli.specs.Files.{Store, Holds, IsKept}
+
+-- what is read of a store that was only read before is what it held at first
+pub held_before : (old new : Option Store) (name bytes : List ℕ) → IsKept old new → Holds new name bytes → Holds old name bytes
+held_before None new name bytes kept h = tt
+held_before (Some files) None name bytes kept h = absurd kept
+held_before (Some files) (Some others) name bytes kept h = sym (kept name) ∙ h
+
+pub kept_on : (old mid new : Option Store) → IsKept old mid → IsKept mid new → IsKept old new
+kept_on None mid new h k = tt
+kept_on (Some files) None new h k = absurd h
+kept_on (Some files) (Some others) None h k = absurd k
+kept_on (Some files) (Some others) (Some last) h k = λ n. k n ∙ h n

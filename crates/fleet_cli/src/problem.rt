@@ -1,0 +1,61 @@
+//! The map and the instance of a command, and a program that is accepted for them.
+
+ghost use Rattle.std.specs.Prelude.{◌≡◌, IfOk, IfErr};
+ghost use Rattle.fleet_cli.specs.InstanceCommand.{AreTextsOf};
+ghost use Rattle.fleet_cli.specs.Problem.{IsProblemFault, Accepts, IsAcceptFault};
+
+use crate::fault::Fault;
+use fleet_code::load;
+use fleet_grid::{Grid, read_map};
+use fleet_model::Program;
+use fleet_scen::{Instance, read_scen};
+use fleet_verify::{Accepted, verify};
+use std::alloc::Global;
+
+/// A map, and an instance on it.
+#[derive(Drop)]
+pub struct Problem {
+    pub grid: Grid,
+    pub instance: Instance,
+}
+
+/// The map and the instance for which the texts stand.
+pub fn read_problem(
+    alloc: Global,
+    map: &[u8],
+    scen: &[u8],
+    asked: Option<u16>,
+) -> Result<Problem, Fault<'static>>
+    ensures read { IfOk result (λ p. AreTextsOf map.now scen.now asked p.grid p.instance) }
+    ensures fault { IfErr result (IsProblemFault map.now scen.now asked) }
+{
+    let grid = match read_map(alloc, map) {
+        Ok(grid) => grid,
+        Err(fault) => return Err(Fault::Map(fault)),
+    };
+    let instance = match read_scen(alloc, scen, &grid, asked) {
+        Ok(instance) => instance,
+        Err(fault) => return Err(Fault::Scen(fault)),
+    };
+    Ok(Problem { grid, instance })
+}
+
+/// The program that the bytes spell, accepted for the map and the instance.
+pub fn accept<'g>(
+    alloc: Global,
+    bytes: &[u8],
+    grid: &'g Grid,
+    instance: &'g Instance,
+) -> Result<Accepted<'g, Program>, Fault<'static>>
+    ensures accepted { IfOk result (λ a. Accepts bytes.now grid.now instance.now a.program a.chain) }
+    ensures fault { IfErr result (IsAcceptFault bytes.now grid.now instance.now) }
+{
+    let program = match load(alloc, bytes) {
+        Ok(program) => program,
+        Err(fault) => return Err(Fault::Load(fault)),
+    };
+    match verify(alloc, program, grid, instance) {
+        Ok(accepted) => Ok(accepted),
+        Err(refused) => Err(Fault::Verify(refused.fault)),
+    }
+}

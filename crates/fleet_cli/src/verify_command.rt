@@ -1,0 +1,153 @@
+//! The command `verify`.
+
+ghost use Rattle.std.specs.Prelude.{◌≡◌, false, List, ℕ, MatchResult};
+ghost use Rattle.fleet_run.specs.Sink.{TakesAll, Delivers};
+ghost use Rattle.fleet_cli.specs.VerifyCommand.{count_line, accepted_lines, accepted_text, PrintsAccepted, IsVerifyFault, AreProgramBytes, IsVerifyRefusal, RunsVerify};
+
+use crate::fault::Fault;
+use crate::files::Files;
+use crate::hex_run::refuse;
+use crate::problem::{accept, read_problem};
+use crate::rehearse_command::read_file;
+use crate::words::{Word, put_line};
+use fleet_model::{Program, ProgramView, total_awaits, total_moves};
+use fleet_run::{OutFault, TraceOut};
+use fleet_verify::Accepted;
+use std::alloc::Global;
+
+/// Writes a word and its number as a line.
+#[tactic(auto, unfolding(crate::specs::VerifyCommand::count_line))]
+pub fn put_count<O: TraceOut>(out: &mut O, word: &'static str, number: u64) -> Result<(), OutFault>
+    requires { O.has_failed out.old ≡ false }
+    ensures { TakesAll (O.taken out.old) (O.taken out.new) (O.has_failed out.new) result (count_line word.now number) }
+{
+    put_line(out, &[Word::Text(word), Word::Number(number)])
+}
+
+fn put_accepted_lines<O: TraceOut>(
+    out: &mut O,
+    agents: u16,
+    moves: u32,
+    awaits: u32,
+    chain: u32,
+) -> Result<(), OutFault>
+    requires { O.has_failed out.old ≡ false }
+    ensures { TakesAll (O.taken out.old) (O.taken out.new) (O.has_failed out.new) result (accepted_lines agents moves awaits chain) }
+{
+    put_line(out, &[Word::Text("accepted")])?;
+    put_count(out, "agents", agents as u64)?;
+    put_count(out, "moves", moves as u64)?;
+    put_count(out, "awaits", awaits as u64)?;
+    put_count(out, "chain", chain as u64)
+}
+
+fn put_accepted<O: TraceOut>(out: &mut O, accepted: &Accepted<'_, Program>) -> Result<(), OutFault>
+    requires { O.has_failed out.old ≡ false }
+    ensures { TakesAll (O.taken out.old) (O.taken out.new) (O.has_failed out.new) result (accepted_text accepted.now.program accepted.now.chain) }
+{
+    let program = accepted.program();
+    let agents = program.agents();
+    let moves = total_moves(program);
+    let awaits = total_awaits(program);
+    put_accepted_lines(out, agents, moves, awaits, accepted.chain())
+}
+
+/// Prints that the program is accepted, and has the sink hand it on.
+fn print_accepted<O: TraceOut>(
+    out: &mut O,
+    accepted: &Accepted<'_, Program>,
+) -> Result<(), OutFault>
+    requires { O.has_failed out.old ≡ false }
+    ensures { Delivers (O.taken out.old) (O.taken out.new) (O.has_failed out.new) (O.is_flushed out.new) result (accepted_text accepted.now.program accepted.now.chain) }
+{
+    put_accepted(out, accepted)?;
+    out.flush()
+}
+
+/// Verifies the program that the bytes spell for the map and the instance of the texts, and prints that it is accepted.
+fn verify_bytes<O: TraceOut>(
+    alloc: Global,
+    map: &[u8],
+    scen: &[u8],
+    asked: Option<u16>,
+    bytes: &[u8],
+    out: &mut O,
+) -> Result<(), Fault<'static>>
+    requires { O.has_failed out.old ≡ false }
+    ensures { MatchResult result
+        (λ _. PrintsAccepted map.now scen.now asked bytes.now (record { before = O.taken out.old; taken = O.taken out.new; has_failed = O.has_failed out.new; is_flushed = O.is_flushed out.new }))
+        (IsVerifyFault map.now scen.now asked bytes.now (record { before = O.taken out.old; taken = O.taken out.new; has_failed = O.has_failed out.new; is_flushed = O.is_flushed out.new })) }
+{
+    let problem = match read_problem(alloc, map, scen, asked) {
+        Ok(problem) => problem,
+        Err(fault) => return Err(fault),
+    };
+    let accepted = match accept(alloc, bytes, &problem.grid, &problem.instance) {
+        Ok(accepted) => accepted,
+        Err(fault) => return Err(fault),
+    };
+    match print_accepted(out, &accepted) {
+        Ok(()) => Ok(()),
+        Err(OutFault) => Err(Fault::File("-")),
+    }
+}
+
+/// Reads the files, and then verifies.
+fn verify_files<'a, F: Files, O: TraceOut>(
+    alloc: Global,
+    map: &'a str,
+    scen: &'a str,
+    program: &'a str,
+    asked: Option<u16>,
+    files: &mut F,
+    out: &mut O,
+) -> Result<(), Fault<'a>>
+    requires { O.has_failed out.old ≡ false }
+    ensures { MatchResult result
+        (λ _. (map_bytes scen_bytes bytes : List ℕ) × AreProgramBytes (F.contents files.old) map.entry.now scen.entry.now program.entry.now map_bytes scen_bytes bytes
+        × PrintsAccepted map_bytes scen_bytes asked bytes (record { before = O.taken out.old; taken = O.taken out.new; has_failed = O.has_failed out.new; is_flushed = O.is_flushed out.new }))
+        (IsVerifyRefusal (F.contents files.old) map.entry.now scen.entry.now program.entry.now asked
+        (record { before = O.taken out.old; taken = O.taken out.new; has_failed = O.has_failed out.new; is_flushed = O.is_flushed out.new })) }
+{
+    let map = match read_file(alloc, files, map) {
+        Ok(bytes) => bytes,
+        Err(fault) => return Err(fault),
+    };
+    let scen = match read_file(alloc, files, scen) {
+        Ok(bytes) => bytes,
+        Err(fault) => return Err(fault),
+    };
+    let program = match read_file(alloc, files, program) {
+        Ok(bytes) => bytes,
+        Err(fault) => return Err(fault),
+    };
+    match verify_bytes(alloc, &map, &scen, asked, &program, out) {
+        Ok(()) => Ok(()),
+        Err(fault) => Err(fault),
+    }
+}
+
+/// The command `verify MAP SCEN PROGRAM [--agents K]`: reads the files whole, and prints to `out` that the program is accepted, with its
+/// numbers. Answers 0; a refusal is told on `err` and its status answered.
+pub fn run_verify<F: Files, O: TraceOut, E: TraceOut>(
+    alloc: Global,
+    map: &str,
+    scen: &str,
+    program: &str,
+    asked: Option<u16>,
+    files: &mut F,
+    out: &mut O,
+    err: &mut E,
+) -> u8
+    requires out_working { O.has_failed out.old ≡ false }
+    requires err_working { E.has_failed err.old ≡ false }
+    ensures { RunsVerify (F.contents files.old) map.now scen.now program.now asked
+        (record { before = O.taken out.old; taken = O.taken out.new; has_failed = O.has_failed out.new; is_flushed = O.is_flushed out.new })
+        (record { before = E.taken err.old; taken = E.taken err.new; has_failed = E.has_failed err.new; is_flushed = E.is_flushed err.new })
+        result }
+{
+    match verify_files(alloc, map, scen, program, asked, files, out) {
+        Ok(()) => 0,
+        Err(fault) => refuse(&fault, err),
+    }
+}

@@ -5,4 +5,7 @@ pub mod Programs
 pub mod Limits
 pub mod Latest
 pub mod Pass
+pub mod Folds
+pub mod Rows
+pub mod SweepSteps
 pub mod WorkedPrograms

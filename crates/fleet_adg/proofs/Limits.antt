@@ -38,7 +38,7 @@ total_moves-compiled plan deps =
     sum_by-map f (agent_program plan deps) (indices (length plan)) ∙ ap (λ h. sum_by h (indices (length plan))) (λ k i. each i k)
 
 -- what is awaited is a move that is made
-count-le : (plan : Plan) (i x : ℕ) (w : Await) → IsAwaitOf plan i x w → w.count ≤ moves_by plan w.agent (steps plan)
+pub count-le : (plan : Plan) (i x : ℕ) (w : Await) → IsAwaitOf plan i x w → w.count ≤ moves_by plan w.agent (steps plan)
 count-le plan i x w h =
     let y = h.step.0 in
     omega (arith, h.step.4, moves_by-yes plan w.agent y h.step.2, moves_by-mono plan w.agent (suc y) (steps plan) (changes_in-end plan w.agent y h.step.2))

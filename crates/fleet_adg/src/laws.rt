@@ -5,6 +5,8 @@ ghost use Rattle.fleet_model.specs.declared.geometry.Place.{Place};
 ghost use Rattle.fleet_adg.specs.declared.deps.Deps.{Deps};
 ghost use Rattle.fleet_model.specs.declared.program.Await.{Await};
 ghost use Rattle.fleet_model.specs.Program.{IsWellFormed};
+ghost use Rattle.fleet_model.specs.Visit.{ComesAfterByAwait};
+ghost use Rattle.fleet_model.specs.Accepted.{IsAccepted};
 ghost use Rattle.fleet_model.specs.declared.task.Task.{Task};
 ghost use Rattle.fleet_plan.specs.Plan.{Plan, cell_of, IsConflictFree, IsWithinLimits};
 ghost use Rattle.fleet_adg.specs.Compiled.{changes_in, entry_awaits, await_of, IsLatestVisit, IsLastLeaving, compiled, moves_in_all};
@@ -31,4 +33,9 @@ pub fn awaits_are_as_defined()
     ensures last_its_own { (passable : Place → Bool) (tasks : List Task) (plan : Plan) (i x s : ℕ) → IsConflictFree passable tasks plan → i < length plan → IsTrue (changes_in plan i x) → IsLatestVisit plan (cell_of plan i (x + 1)) (x + 1) i s → entry_awaits plan Deps.Last i x ≡ [] }
     ensures last_none { (plan : Plan) (i x : ℕ) → ((u k : ℕ) → u < x + 1 → k < length plan → cell_of plan k u ≢ cell_of plan i (x + 1)) → entry_awaits plan Deps.Last i x ≡ [] }
     ensures all { (plan : Plan) (i x : ℕ) (w : Await) → Contains (entry_awaits plan Deps.All i x) w ↔ (w.agent ≢ i) × IsLastLeaving plan (cell_of plan i (x + 1)) (x + 1) w }
+{}
+
+/// The program of a plan that is free of conflict is accepted, with either kind of awaits.
+pub fn compiled_plans_are_accepted()
+    ensures { (passable : Place → Bool) (tasks : List Task) (plan : Plan) (deps : Deps) → IsConflictFree passable tasks plan → IsAccepted ComesAfterByAwait passable tasks (compiled plan deps) }
 {}

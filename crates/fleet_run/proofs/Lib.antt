@@ -1,0 +1,17 @@
+pub mod Ready
+pub mod Indices
+pub mod Judged
+pub mod Advanced
+pub mod Opened
+pub mod Kept
+pub mod DigitLemmas
+pub mod Closing
+pub mod SinkLemmas
+pub mod SourceLemmas
+pub mod Ending
+pub mod Progress
+pub mod UnderWay
+pub mod Rehearsed
+pub mod HoldLemmas
+pub mod HoldLaws
+pub mod Driven

@@ -1,7 +1,10 @@
 //! The compiler of plans.
 
 ghost use Rattle.std.specs.Prelude.{◌≡◌, IfOk, length, map};
+ghost use Rattle.fleet_model.specs.Accepted.{IsAccepted};
 ghost use Rattle.fleet_model.specs.Answer.{IsDueUnless};
+ghost use Rattle.fleet_model.specs.Visit.{ComesAfterByAwait};
+ghost use Rattle.fleet_grid.specs.Ground.{is_passable};
 ghost use Rattle.fleet_model.specs.Machine.{indices};
 ghost use Rattle.fleet_adg.specs.Compiled.{moves_in_all, compiled_if_few};
 ghost use Rattle.fleet_adg.specs.Sweep.{agent_from};
@@ -19,9 +22,11 @@ const MAX_MOVES_IN_ALL: u32 = 4_194_304;
 /// The program of a plan (after the action dependency graph of Hönig et al. 2019): the actions of each agent are its
 /// changes of cell, in order, and each awaits earlier leavings of the cell that it enters.
 ///
-/// It is refused as `TooLong` exactly where the agents make more than 4,194,304 moves together.
+/// It is refused as `TooLong` exactly where the agents make more than 4,194,304 moves together. The program is accepted
+/// for the plan's map and instance.
 pub fn compile(alloc: Global, checked: &Checked<'_>, deps: Deps) -> Result<Program, CompileFault>
-    ensures { IsDueUnless (λ p. p) result (compiled_if_few checked.now.plan deps) CompileFault.OutOfMemory }
+    ensures program { IsDueUnless (λ p. p) result (compiled_if_few checked.now.plan deps) CompileFault.OutOfMemory }
+    ensures accepted { IfOk result (IsAccepted ComesAfterByAwait (is_passable checked.now.grid) checked.now.instance) }
 {
     let plan = checked.plan();
     if moves_of_all(plan) > MAX_MOVES_IN_ALL {

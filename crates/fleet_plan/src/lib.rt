@@ -2,9 +2,20 @@
 #![tactic(auto)]
 
 mod checked;
+mod checking;
+mod ends;
 mod plan;
+mod plan_fault;
+mod rings;
+mod steps;
+mod sweep;
 mod worked;
 
 pub use checked::Checked;
+pub use checking::check;
 pub use plan::{Path, Plan};
+pub use plan_fault::{Conflict, PlanFault, PlanRefusal};
 pub use worked::worked_plans_are_judged;
+
+#[cfg(test)]
+mod check_tests;

@@ -13,6 +13,7 @@ abbrev pub rows_of : Leavings → List (List Await)
 rows_of (Leavings.All rows) = rows.items
 rows_of (Leavings.Last last) = map option_to_list last.items
 
+-- which leavings the table keeps
 abbrev pub kind_of : Leavings → Deps
 kind_of (Leavings.All rows) = Deps.All
 kind_of (Leavings.Last last) = Deps.Last

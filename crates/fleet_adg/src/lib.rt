@@ -17,3 +17,6 @@ pub use laws::{
     awaits_are_as_defined, compiled_plans_are_accepted, compiled_plans_are_well_formed,
     worked_plans_compile,
 };
+
+#[cfg(test)]
+mod tests;

@@ -18,7 +18,7 @@ use Rattle.fleet_verify.specs.Walk.{AreCounts, IsReadyBy}
 use Rattle.fleet_verify.proofs.Counts.{count_past, count_opening}
 use Rattle.fleet_verify.proofs.Readiness.{Stays, step, ready_says, ready_from}
 use Rattle.fleet_verify.proofs.ReadyBy.{ready_by, by_ready}
-use Rattle.fleet_verify.specs.declared.walk.Stay.{Stay}
+use Rattle.fleet_verify.specs.declared.watch.Stay.{Stay}
 use Rattle.fleet_verify.specs.Walk.{begun_by, begun_in, IsStay, AreCells, IsWalk}
 use Rattle.fleet_verify.proofs.Begun.{indices_more, begun_yes, begun_no}
 
@@ -32,6 +32,16 @@ pub record IsOpening (p : Program) (counts : List ℕ) (cells : List Cell) (stay
   pub starts : (k : ℕ) → k < n → get_or cells k origin ≡ start_of p k
   pub visits : map (λ s. s.visit) stays ≡ map (λ i. record { agent = i; position = 0 }) (indices n)
   pub each : All (IsStay p) stays
+
+pub opening_none : (p : Program) → IsOpening p [] [] [] 0
+opening_none p = record {
+  long = refl;
+  wide = refl;
+  none = λ k. refl;
+  starts = λ k l. absurd (omega arith);
+  visits = refl;
+  each = λ k d l. absurd (omega arith);
+}
 
 abbrev first : ℕ → Visit
 first i = record { agent = i; position = 0 }

@@ -6,7 +6,7 @@ use Rattle.fleet_model.specs.declared.program.Visit.{Visit}
 use Rattle.fleet_model.specs.Geometry.{place_of}
 use Rattle.fleet_model.specs.Program.{Program, origin, moves, awaits_of, path}
 use Rattle.fleet_model.specs.Machine.{Configuration, count_at, is_ready, run, is_over, indices}
-use Rattle.fleet_verify.specs.declared.walk.Stay.{Stay}
+use Rattle.fleet_verify.specs.declared.watch.Stay.{Stay}
 
 -- the counts of the configuration
 abbrev pub AreCounts : Configuration → List ℕ → Type 0

@@ -6,24 +6,19 @@ ghost use Rattle.fleet_model.specs.Machine.{Configuration, is_ready, indices};
 ghost use Rattle.fleet_verify.specs.Walk.{IsReadyBy, AreCounts};
 ghost use Rattle.fleet_grid.specs.Ground.{is_passable};
 ghost use Rattle.fleet_verify.specs.Faults.{EachAction, StandsRight};
+ghost use Rattle.fleet_verify.specs.Order.{AreWatched};
 ghost use Rattle.fleet_verify.specs.Walk.{begun_by, IsStay, AreCells, IsWalk};
 
+use crate::watch::{Stay, Watch};
 use fleet_grid::Grid;
 use fleet_model::{Cell, OutOfMemory, ProgramView, Visit, total_moves};
 use std::alloc::Global;
 
-/// A visit, and the cell that it is of.
-#[derive(Clone, Copy, Debug)]
-pub struct Stay {
-    pub visit: Visit,
-    pub cell: Cell,
-}
-
-/// How many actions each agent has finished in the end, all visits that were begun, in their order, and the number of ticks.
+/// How many actions each agent has finished in the end, all visits that were begun, and the number of ticks.
 #[derive(Drop)]
 pub struct Walk {
     pub counts: Vec<u32>,
-    pub stays: Vec<Stay>,
+    pub watch: Watch,
     pub ticks: u32,
 }
 
@@ -34,34 +29,35 @@ pub fn run_free<P: ProgramView>(
     grid: &Grid,
 ) -> Result<Walk, OutOfMemory>
     requires { EachAction (P.program program.now) (StandsRight (is_passable grid.now) (P.program program.now)) }
-    ensures { IfOk result (λ w. IsWalk (P.program program.now) w.counts.items w.stays.items w.ticks) }
+    ensures walk { IfOk result (λ w. IsWalk (P.program program.now) w.counts.items w.watch.stays.items w.ticks) }
+    ensures watched { IfOk result (λ w. AreWatched (P.program program.now) w.watch) }
 {
     let mut cells = Vec::new(alloc);
     let mut counts = Vec::new(alloc);
     let mut moving = Vec::new(alloc);
-    let mut stays = Vec::new(alloc);
+    let mut watch = Watch::new(alloc);
     for agent in 0..program.agents() {
         let cell = program.start(agent);
         cells.push(cell)?;
         counts.push(0)?;
         moving.push(false)?;
         let visit = Visit { agent, position: 0 };
-        stays.push(Stay { visit, cell })?;
+        watch.note(program, Stay { visit, cell })?;
     }
     let most = total_moves(program);
     for ticks in 0..most {
         if !judge(program, &counts, &mut moving) {
             return Ok(Walk {
                 counts,
-                stays,
+                watch,
                 ticks,
             });
         }
-        advance(program, grid, &moving, &mut counts, &mut cells, &mut stays)?;
+        advance(program, grid, &moving, &mut counts, &mut cells, &mut watch)?;
     }
     Ok(Walk {
         counts,
-        stays,
+        watch,
         ticks: most,
     })
 }
@@ -112,19 +108,21 @@ fn advance<P: ProgramView>(
     moving: &[bool],
     counts: &mut [u32],
     cells: &mut [Cell],
-    stays: &mut Vec<Stay>,
+    watch: &mut Watch,
 ) -> Result<(), OutOfMemory>
     requires steps { EachAction (P.program program.now) (StandsRight (is_passable grid.now) (P.program program.now)) }
     requires moving { length moving.now ≡ length (P.program program.now) }
     requires counts { length counts.old ≡ length (P.program program.now) }
     requires left { (i : ℕ) → i < length (P.program program.now) → IsTrue (get_or moving.now i false) → slice_index counts.old i < moves (P.program program.now) i }
     requires cells { AreCells (P.program program.now) counts.old cells.old }
-    requires stays { All (IsStay (P.program program.now)) stays.old.items }
+    requires stays { All (IsStay (P.program program.now)) watch.old.stays.items }
+    requires watched { AreWatched (P.program program.now) watch.old }
     ensures counts { OnOk result ((i : ℕ) → slice_index counts.new i ≡ slice_index counts.old i + (if get_or moving.now i false then 1 else 0)) }
     ensures cells { OnOk result (AreCells (P.program program.now) counts.new cells.new) }
-    ensures visits { OnOk result (map (λ s. s.visit) stays.new.items
-        ≡ map (λ s. s.visit) stays.old.items ++ begun_by (λ i. get_or moving.now i false) (slice_index counts.old) (length (P.program program.now))) }
-    ensures stays { OnOk result (All (IsStay (P.program program.now)) stays.new.items) }
+    ensures visits { OnOk result (map (λ s. s.visit) watch.new.stays.items
+        ≡ map (λ s. s.visit) watch.old.stays.items ++ begun_by (λ i. get_or moving.now i false) (slice_index counts.old) (length (P.program program.now))) }
+    ensures stays { OnOk result (All (IsStay (P.program program.now)) watch.new.stays.items) }
+    ensures watched { OnOk result (AreWatched (P.program program.now) watch.new) }
 {
     for agent in 0..program.agents() {
         let i = agent as usize;
@@ -136,7 +134,7 @@ fn advance<P: ProgramView>(
             counts[i] = position;
             cells[i] = cell;
             let visit = Visit { agent, position };
-            stays.push(Stay { visit, cell })?;
+            watch.note(program, Stay { visit, cell })?;
         }
     }
     Ok(())

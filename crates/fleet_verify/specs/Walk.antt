@@ -17,6 +17,14 @@ pub record IsReadyBy (p : Program) (counts : List ℕ) (i : ℕ) : Type 0 where
   pub left : slice_index counts i < moves p i
   pub met : (w : Await) → Contains (awaits_of p i (slice_index counts i + 1)) w → w.count ≤ slice_index counts w.agent
 
+-- a configuration with these counts
+abbrev pub counted : List ℕ → Configuration
+counted counts = map (λ n. record { place = place_of origin; count = n }) counts
+
+-- the machine's readiness, by counts
+abbrev pub is_ready_by : Program → List ℕ → ℕ → Bool
+is_ready_by p counts i = is_ready p (counted counts) i
+
 -- the visits that the agents below n begin which finish an action, where so many were finished before
 abbrev pub begun_by : (ℕ → Bool) → (ℕ → ℕ) → ℕ → List Visit
 begun_by moving count n = map (λ i. record { agent = i; position = count i + 1 }) (filter moving (indices n))

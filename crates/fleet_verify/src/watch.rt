@@ -1,16 +1,21 @@
-//! Neighbours among the visits of a cell of which the second may not come after the first.
+//! The visits of the cells, and neighbours among them of which the second may not come after the first.
 
-ghost use Rattle.std.specs.Prelude.{◌≡◌, ◌≢◌, ◌↔◌, IsTrue, IfOk, OnOk, Some, All};
+ghost use Rattle.std.specs.Prelude.{◌≡◌, ◌≢◌, ◌↔◌, ◌++◌, [], ◌∷◌, IsTrue, OnOk, Some};
 ghost use Rattle.indexmap.specs.IndexMap.{get, Updates};
 ghost use Rattle.fleet_model.specs.declared.geometry.Cell.{Cell};
-ghost use Rattle.fleet_model.specs.Geometry.{place_of};
 ghost use Rattle.fleet_model.specs.Visit.{IsVisit, ComesAfterByAwait};
-ghost use Rattle.fleet_verify.specs.Order.{is_cell, visits_of, IsJudged, IsJudgedNext};
+ghost use Rattle.fleet_verify.specs.Order.{is_cell, IsJudgedNext};
 
-use crate::walk::Stay;
 use fleet_model::{Cell, OutOfMemory, ProgramView, Visit};
 use indexmap::IndexMap;
 use std::alloc::Global;
+
+/// A visit, and the cell that it is of.
+#[derive(Clone, Copy, Debug)]
+pub struct Stay {
+    pub visit: Visit,
+    pub cell: Cell,
+}
 
 /// Visits of a cell, one right after the other, of which the second may not come after the first.
 #[derive(Clone, Copy, Debug, Drop)]
@@ -19,26 +24,45 @@ pub struct Break {
     pub second: Visit,
 }
 
-/// For each cell whose visits do not come one after another, the first neighbours that break the rule. One pass over all visits, in their
-/// order.
-pub fn find_breaks<P: ProgramView>(
-    alloc: Global,
-    program: &P,
-    stays: &[Stay],
-) -> Result<IndexMap<Cell, Break>, OutOfMemory>
-    requires { All (λ s. IsVisit (P.program program.now) s.visit) stays.now }
-    ensures { IfOk result (λ breaks. (c : Cell) → IsJudged (ComesAfterByAwait (P.program program.now)) (visits_of (place_of c) stays.now) (get is_cell breaks c)) }
-{
-    let mut last = IndexMap::new(alloc);
-    let mut breaks = IndexMap::new(alloc);
-    for stay in stays {
-        note_stay(program, &mut last, &mut breaks, *stay)?;
+/// All visits so far in the order in which they began, and for each cell the last of them and the first neighbours that break the rule.
+#[derive(Drop)]
+pub struct Watch {
+    pub stays: Vec<Stay>,
+    pub last: IndexMap<Cell, Visit>,
+    pub breaks: IndexMap<Cell, Break>,
+}
+
+impl Watch {
+    ghost use Rattle.fleet_model.specs.Program.{Program};
+    ghost use Rattle.fleet_verify.specs.Order.{AreWatched};
+
+    /// No visits.
+    pub fn new(alloc: Global) -> Self
+        ensures stays { result.stays.items ≡ [] }
+        ensures watched { (p : Program) → AreWatched p result }
+    {
+        Watch {
+            stays: Vec::new(alloc),
+            last: IndexMap::new(alloc),
+            breaks: IndexMap::new(alloc),
+        }
     }
-    Ok(breaks)
+
+    /// Takes note of the next visit.
+    pub fn note<P: ProgramView>(&mut self, program: &P, stay: Stay) -> Result<(), OutOfMemory>
+        requires visit { IsVisit (P.program program.now) stay.visit }
+        requires watched { AreWatched (P.program program.now) self.old }
+        ensures stays { OnOk result (self.new.stays.items ≡ self.old.stays.items ++ stay ∷ []) }
+        ensures watched { OnOk result (AreWatched (P.program program.now) self.new) }
+    {
+        note_break(program, &mut self.last, &mut self.breaks, stay)?;
+        self.stays.push(stay)?;
+        Ok(())
+    }
 }
 
 /// Notes the visit as the last one of its cell, and that it breaks the rule, if no earlier one of the cell does.
-fn note_stay<P: ProgramView>(
+fn note_break<P: ProgramView>(
     program: &P,
     last: &mut IndexMap<Cell, Visit>,
     breaks: &mut IndexMap<Cell, Break>,

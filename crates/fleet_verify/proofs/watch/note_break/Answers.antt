@@ -2,7 +2,7 @@ use Rattle.std.proofs.Common.{Some}
 use Rattle.indexmap.specs.IndexMap.{get}
 use Rattle.fleet_verify.specs.Order.{is_cell}
 use Rattle.fleet_verify.proofs.Ordered.{others_kept}
-use Rattle.fleet_verify.proofs.breaks.note_stay.Goals as goal
+use Rattle.fleet_verify.proofs.watch.note_break.Goals as goal
 
 pub returns-clause-others : goal.returns-clause-others
 returns-clause-others g c = λ d apart.

@@ -3,7 +3,7 @@
 ghost use Rattle.std.specs.Prelude.{◌≡◌, option_map, map, string_bytes};
 ghost use Rattle.clap.specs.Words.{found_of, first_value, subcommand_rows_of, kind_of};
 ghost use Rattle.fleet_args.specs.CommandLine.{fleet};
-ghost use Rattle.fleet_args.specs.Request.{asked_of, asked_by, asked_from, instance_by, rehearse_by, number_found, IsStopOf, Reads};
+ghost use Rattle.fleet_args.specs.Request.{asked_of, asked_by, asked_from, instance_by, check_by, verify_by, run_by, rehearse_by, number_found, IsStopOf, Reads};
 
 use crate::command_line::fleet_command;
 use clap::ArgMatches;
@@ -18,6 +18,25 @@ pub enum Request<'a> {
         map: &'a str,
         scen: &'a str,
         agents: Option<u16>,
+    },
+    Check {
+        map: &'a str,
+        scen: &'a str,
+        plan: &'a str,
+        agents: Option<u16>,
+    },
+    Verify {
+        map: &'a str,
+        scen: &'a str,
+        program: &'a str,
+        agents: Option<u16>,
+    },
+    Run {
+        map: &'a str,
+        scen: &'a str,
+        program: &'a str,
+        agents: Option<u16>,
+        holds: Option<&'a str>,
     },
     Rehearse {
         program: &'a str,
@@ -53,6 +72,56 @@ fn instance_in<'a>(rows: &ArgMatches<'a>) -> Option<Request<'a>>
     Some(Request::Instance { map, scen, agents })
 }
 
+fn check_in<'a>(rows: &ArgMatches<'a>) -> Option<Request<'a>>
+    ensures { option_map asked_of result
+        ≡ check_by (first_value (found_of rows.now)) (number_found (found_of rows.now)) }
+{
+    let map = rows.get_str("map")?;
+    let scen = rows.get_str("scen")?;
+    let plan = rows.get_str("plan")?;
+    let agents = number(rows, "agents")?;
+    Some(Request::Check {
+        map,
+        scen,
+        plan,
+        agents,
+    })
+}
+
+fn verify_in<'a>(rows: &ArgMatches<'a>) -> Option<Request<'a>>
+    ensures { option_map asked_of result
+        ≡ verify_by (first_value (found_of rows.now)) (number_found (found_of rows.now)) }
+{
+    let map = rows.get_str("map")?;
+    let scen = rows.get_str("scen")?;
+    let program = rows.get_str("program")?;
+    let agents = number(rows, "agents")?;
+    Some(Request::Verify {
+        map,
+        scen,
+        program,
+        agents,
+    })
+}
+
+fn run_in<'a>(rows: &ArgMatches<'a>) -> Option<Request<'a>>
+    ensures { option_map asked_of result
+        ≡ run_by (first_value (found_of rows.now)) (number_found (found_of rows.now)) }
+{
+    let map = rows.get_str("map")?;
+    let scen = rows.get_str("scen")?;
+    let program = rows.get_str("program")?;
+    let agents = number(rows, "agents")?;
+    let holds = rows.get_str("holds");
+    Some(Request::Run {
+        map,
+        scen,
+        program,
+        agents,
+        holds,
+    })
+}
+
 fn rehearse_in<'a>(rows: &ArgMatches<'a>) -> Option<Request<'a>>
     ensures { option_map asked_of result ≡ rehearse_by (first_value (found_of rows.now)) }
 {
@@ -68,6 +137,9 @@ fn request_by<'a>(name: &str, rows: &ArgMatches<'a>) -> Option<Request<'a>>
 {
     match name {
         "instance" => instance_in(rows),
+        "check" => check_in(rows),
+        "verify" => verify_in(rows),
+        "run" => run_in(rows),
         "rehearse" => rehearse_in(rows),
         _ => None,
     }

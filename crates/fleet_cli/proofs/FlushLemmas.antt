@@ -5,7 +5,7 @@ use Rattle.std.specs.Io.KnownBytes.{Keeps, Appends}
 use Rattle.fleet_model.specs.Program.{Program}
 use Rattle.fleet_model.specs.Machine.{Holds, is_over}
 use Rattle.fleet_run.specs.Sink.{HandsOn, StopsWithin, FailsAfter, Delivers}
-use Rattle.fleet_run.specs.Outcome.{IsAskedFor, StopsAtSource}
+use Rattle.fleet_run.specs.Outcome.{EndTest, IsAskedFor, StopsAtSource}
 use Rattle.fleet_run.specs.Rehearsal.{Rehearses}
 use Rattle.fleet_cli.specs.Flushed.{RehearsesFlushed}
 use Rattle.fleet_run.specs.declared.source.SourceFault.{SourceFault}
@@ -42,15 +42,15 @@ delivers_after a b c failed flushed (Err _) xs h k =
     ((length xs, omega arith, appends_same a c xs (take (length xs) xs) (appends_kept a b c xs h k.0) all), k.1)
 
 module _ (p : Program) (holds : Holds) (last now fault : Option SourceFault) (left : Holds) (before mid after : Option (List ℕ)) (kept : Keeps mid after) where
-  source_kept : (t : ℕ) (failed : Bool)
+  pub source_kept : (t : ℕ) (failed : Bool)
       → IsAskedFor t holds (record { last = last; now = now; left = left; fault = fault; before = before; taken = mid; has_failed = failed })
       → IsAskedFor t holds (record { last = last; now = now; left = left; fault = fault; before = before; taken = after; has_failed = failed })
   source_kept t failed s = record { left = s.left; kept = s.kept; ended = s.ended; fault = s.fault }
 
-  stops_kept : (kind : SourceFault) (t : ℕ) (failed : Bool)
-      → StopsAtSource is_over p holds (record { last = last; now = now; left = left; fault = fault; before = before; taken = mid; has_failed = failed }) kind t
-      → StopsAtSource is_over p holds (record { last = last; now = now; left = left; fault = fault; before = before; taken = after; has_failed = failed }) kind t
-  stops_kept kind t failed h = record {
+  pub stops_kept : (over : EndTest) (kind : SourceFault) (t : ℕ) (failed : Bool)
+      → StopsAtSource over p holds (record { last = last; now = now; left = left; fault = fault; before = before; taken = mid; has_failed = failed }) kind t
+      → StopsAtSource over p holds (record { last = last; now = now; left = left; fault = fault; before = before; taken = after; has_failed = failed }) kind t
+  stops_kept over kind t failed h = record {
     needed = h.needed;
     all = h.all;
     left = h.left;
@@ -75,8 +75,8 @@ module _ (p : Program) (holds : Holds) (last now fault : Option SourceFault) (le
     end = h.end;
   }
   rehearses_kept failed (Err OutOfMemory) h = record { source = source_kept 0 failed h.source; taken = keeps_more before mid after h.taken kept; working = h.working }
-  rehearses_kept failed (Err (Source n)) (t, e, h) = (t, e, stops_kept Broken t failed h)
-  rehearses_kept failed (Err (Hold n)) (t, e, h) = (t, e, stops_kept Text t failed h)
+  rehearses_kept failed (Err (Source n)) (t, e, h) = (t, e, stops_kept is_over Broken t failed h)
+  rehearses_kept failed (Err (Hold n)) (t, e, h) = (t, e, stops_kept is_over Text t failed h)
   rehearses_kept failed (Err Write) (t, h) = (
     t,
     record {

@@ -5,3 +5,4 @@ pub mod HexRuns
 pub mod RehearsesLemmas
 pub mod InstanceLemmas
 pub mod FileLemmas
+pub mod DriveLemmas

@@ -10,3 +10,5 @@ pub mod InstanceCommand
 pub mod Command
 pub mod Problem
 pub mod VerifyCommand
+pub mod Driven
+pub mod DriveCommand

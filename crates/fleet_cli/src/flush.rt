@@ -1,11 +1,14 @@
 //! Outputs that are flushed once all is written, before anything is told of them.
 
-ghost use Rattle.std.specs.Prelude.{◌≡◌, false, None};
+ghost use Rattle.std.specs.Prelude.{◌≡◌, false, All, None};
 ghost use Rattle.fleet_run.specs.Sink.{Delivers};
 ghost use Rattle.fleet_cli.specs.Flushed.{FlushesRun, RehearsesFlushed};
+ghost use Rattle.fleet_cli.specs.Driven.{DrivesFlushed};
 
 use fleet_model::ProgramView;
-use fleet_run::{HoldSource, OutFault, Rehearsal, RunFault, TraceOut, put_all, rehearse};
+use fleet_run::{
+    Fleet, HoldSource, OutFault, Rehearsal, Report, RunFault, TraceOut, drive, put_all, rehearse,
+};
 use std::alloc::Global;
 
 /// Puts all of the bytes and has the sink hand them on, or stops at its failure.
@@ -44,5 +47,22 @@ pub fn rehearse_flushed<P: ProgramView, S: HoldSource, O: TraceOut>(
         (O.is_flushed out.new) result }
 {
     let ran = rehearse(alloc, program, source, out);
+    flush_run(out, ran)
+}
+
+/// Runs a fleet from its start, and has the sink hand on the trace.
+pub fn drive_flushed<P: ProgramView, S: HoldSource, O: TraceOut>(
+    fleet: &mut Fleet<'_, P>,
+    source: &mut S,
+    out: &mut O,
+) -> Result<Report, RunFault>
+    requires counts { All (λ s. s.count ≡ 0) fleet.old.configuration }
+    requires source { S.fault source.old ≡ None }
+    requires sink { O.has_failed out.old ≡ false }
+    ensures { DrivesFlushed (P.program fleet.old.accepted.program) fleet.old.accepted.chain (S.ticks source.old)
+        (record { last = S.last source.old; now = S.last source.new; left = S.ticks source.new; fault = S.fault source.new; before = O.taken out.old; taken = O.taken out.new; has_failed = O.has_failed out.new })
+        (O.is_flushed out.new) result }
+{
+    let ran = drive(fleet, source, out);
     flush_run(out, ran)
 }

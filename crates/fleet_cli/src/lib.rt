@@ -3,6 +3,7 @@
 
 mod command;
 mod disk;
+mod drive_command;
 mod fault;
 mod files;
 mod flush;
@@ -17,6 +18,7 @@ mod words;
 
 pub use command::{run_command, run_request};
 pub use disk::Disk;
+pub use drive_command::run_run;
 pub use fault::Fault;
 pub use files::Files;
 pub use hex_run::run_hex;

@@ -32,7 +32,7 @@ pub fn read_file<'a, F: Files>(
 }
 
 /// The bytes of the holds, none where no file is named.
-fn read_holds<'a, F: Files>(
+pub fn read_holds<'a, F: Files>(
     alloc: Global,
     files: &mut F,
     name: Option<&'a str>,

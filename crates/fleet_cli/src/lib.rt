@@ -30,4 +30,6 @@ mod file_tests;
 #[cfg(test)]
 mod flush_tests;
 #[cfg(test)]
+mod test_support;
+#[cfg(test)]
 mod tests;

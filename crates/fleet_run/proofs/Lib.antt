@@ -14,3 +14,4 @@ pub mod UnderWay
 pub mod Rehearsed
 pub mod HoldLemmas
 pub mod HoldLaws
+pub mod Driven

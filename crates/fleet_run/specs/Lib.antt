@@ -6,3 +6,5 @@ pub mod Taken
 pub mod Outcome
 pub mod Rehearsal
 pub mod HoldText
+pub mod Fleet
+pub mod Drive

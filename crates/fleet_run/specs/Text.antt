@@ -42,3 +42,13 @@ rehearsal_closing p holds ticks =
 -- the text of the run of any program, which ends after this number of ticks
 abbrev pub rehearsal_text : Program → Holds → ℕ → List ℕ
 rehearsal_text p holds ticks = lines_below p holds (ticks + 1) ++ rehearsal_closing p holds ticks
+
+-- what closes a trace
+abbrev pub trace_closing : ℕ → ℕ → ℕ → ℕ → List ℕ
+trace_closing agents ticks chain held =
+    number_line (codes "agents") agents ++ (number_line (codes "ticks") ticks
+    ++ (number_line (codes "chain") chain ++ number_line (codes "held") held))
+
+-- the text of the run of an accepted program, which ends after this number of ticks
+abbrev pub trace_text : Program → Holds → ℕ → ℕ → List ℕ
+trace_text p holds ticks chain = lines_below p holds (ticks + 1) ++ trace_closing (length p) ticks chain (held_ticks p holds ticks)

@@ -1,7 +1,9 @@
-//! Runs of programs: any program, run tick by tick under holds that a source gives, and written as text to a sink.
+//! Runs of programs, tick by tick, under holds that a source gives, written as text to a sink: an accepted program that a `Fleet`
+//! drives to its goals, and the rehearsal of any program.
 #![tactic(auto)]
 
 mod digits;
+mod fleet;
 mod hold_list;
 mod hold_text;
 mod report;
@@ -12,8 +14,10 @@ mod sinks;
 mod source;
 mod text;
 mod tick;
+mod trace;
 
 pub use digits::write_number;
+pub use fleet::{Fleet, StartRefusal, drive};
 pub use hold_list::HoldList;
 pub use hold_text::{HoldText, a_tick_line_is_read};
 pub use report::{Rehearsal, rehearse};
@@ -21,6 +25,8 @@ pub use run::{End, RunFault};
 pub use sink::{OutFault, TraceOut, put_all};
 pub use sinks::{VecOut, WriteOut};
 pub use source::{HoldSource, SourceFault};
+pub use tick::Tick;
+pub use trace::Report;
 
 #[cfg(test)]
 mod tests;

@@ -2,7 +2,7 @@
 
 ghost use Rattle.std.specs.Prelude.{◌≡◌, ◌+◌, ◌<◌, ◌≤◌, ◌++◌, ◌∷◌, length, drop};
 ghost use Rattle.std.specs.Fmt.{decimal, signed_decimal};
-ghost use Rattle.fleet_run.specs.Text.{place_text, line_of, number_line, last_line_of, closing_lines};
+ghost use Rattle.fleet_run.specs.Text.{place_text, line_of, number_line, last_line_of, closing_lines, trace_closing};
 
 use crate::digits::{write_byte, write_number};
 use crate::run::End;
@@ -119,6 +119,18 @@ pub fn write_rehearsal_closing(
 {
     let at = write_bytes(last_line(end), row, CLOSING);
     let at = write_number_line(b"held", held, row, at);
+    let at = write_number_line(b"ticks", ticks, row, at);
+    write_number_line(b"agents", agents as u32, row, at)
+}
+
+/// Writes the closing lines of a trace, and answers where they begin. They end with the row.
+pub fn write_trace_closing(agents: u16, ticks: u32, chain: u32, held: u32, row: &mut [u8]) -> usize
+    requires room { length row.old ≡ CLOSING }
+    ensures within { result ≤ length row.new }
+    ensures written { drop result row.new ≡ trace_closing agents ticks chain held }
+{
+    let at = write_number_line(b"held", held, row, CLOSING);
+    let at = write_number_line(b"chain", chain, row, at);
     let at = write_number_line(b"ticks", ticks, row, at);
     write_number_line(b"agents", agents as u32, row, at)
 }

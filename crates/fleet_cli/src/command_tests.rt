@@ -16,10 +16,10 @@ fn expect_command(
     told: &[u8],
     wanted: u8,
 ) -> Result<(), Fail> {
-    let mut files = base_files(alloc, b"0\n")?;
+    let mut files = base_files(alloc, b"0\n").ok_or("memory")?;
     let mut out = VecOut::new(alloc);
     let mut err = VecOut::new(alloc);
-    let status = status_of(alloc, line, &mut files, &mut out, &mut err)?;
+    let status = status_of(alloc, line, &mut files, &mut out, &mut err).ok_or("memory")?;
     assert_eq!(rt; out.bytes(), printed);
     assert!(rt; err.bytes().starts_with(told));
     assert_eq!(rt; status, wanted);

@@ -16,11 +16,11 @@ fn expect_held(
     told: &[u8],
     wanted: u8,
 ) -> Result<(), Fail> {
-    let mut files = base_files(alloc, holds)?;
+    let mut files = base_files(alloc, holds).ok_or("memory")?;
     let mut out = VecOut::new(alloc);
     let mut err = VecOut::new(alloc);
     let line = "rehearse pair --holds holds";
-    let status = status_of(alloc, line, &mut files, &mut out, &mut err)?;
+    let status = status_of(alloc, line, &mut files, &mut out, &mut err).ok_or("memory")?;
     assert_eq!(rt; out.bytes(), printed);
     assert_eq!(rt; err.bytes(), told);
     assert_eq!(rt; status, wanted);
@@ -112,11 +112,11 @@ fn expect_unread(
     left: u8,
     told: &[u8],
 ) -> Result<(), Fail> {
-    let files = base_files(alloc, b"0\n")?;
+    let files = base_files(alloc, b"0\n").ok_or("memory")?;
     let mut files = FailingFiles { files, left };
     let mut out = VecOut::new(alloc);
     let mut err = VecOut::new(alloc);
-    let status = status_of(alloc, line, &mut files, &mut out, &mut err)?;
+    let status = status_of(alloc, line, &mut files, &mut out, &mut err).ok_or("memory")?;
     assert_eq!(rt; err.bytes(), told);
     assert_eq!(rt; status, 3);
     Ok(())

@@ -38,10 +38,10 @@ fn expect_line(
     told: &[u8],
     wanted: u8,
 ) -> Result<(), Fail> {
-    let mut files = base_files(alloc, b"0\n0\n2\n")?;
+    let mut files = base_files(alloc, b"0\n0\n2\n").ok_or("memory")?;
     let mut out = WriteOut::new(Buffer { left: flushes });
     let mut err = VecOut::new(alloc);
-    let status = status_of(alloc, line, &mut files, &mut out, &mut err)?;
+    let status = status_of(alloc, line, &mut files, &mut out, &mut err).ok_or("memory")?;
     assert_eq!(rt; err.bytes(), told);
     assert_eq!(rt; status, wanted);
     assert_eq!(rt; out.failed(), wanted == 3);

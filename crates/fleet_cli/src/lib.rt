@@ -30,6 +30,8 @@ mod file_tests;
 #[cfg(test)]
 mod flush_tests;
 #[cfg(test)]
+mod memory_tests;
+#[cfg(test)]
 mod test_support;
 #[cfg(test)]
 mod tests;

@@ -6,7 +6,6 @@ use super::*;
 use fleet_code::read_hex;
 use fleet_run::{TraceOut, VecOut};
 use std::alloc::Global;
-use std::test::Fail;
 
 const MAP: &[u8] = b"type octile\nheight 1\nwidth 4\nmap\n....\n";
 
@@ -25,42 +24,41 @@ pub const PAIR_TEXT: &[u8] =
 pub const LATE_TEXT: &[u8] =
     b"0: 1,0 0,0\n1: 1,0 0,0\n2: 2,0 0,0\n3: 3,0 1,0\n4: 3,0 2,0\nagents 2\nticks 4\nheld 1\nfinished\n";
 
-fn add(files: &mut MemFiles, name: &str, bytes: &[u8]) -> Result<(), Fail> {
-    files.put(name, bytes)?;
-    Ok(())
+fn add(files: &mut MemFiles, name: &str, bytes: &[u8]) -> Option<()> {
+    files.put(name, bytes).ok()
 }
 
-/// A map, a scenario on it, the bytes of the pair, and holds.
-pub fn base_files(alloc: Global, holds: &[u8]) -> Result<MemFiles, Fail> {
+/// A map, a scenario on it, the bytes of the pair, and holds. None without memory.
+pub fn base_files(alloc: Global, holds: &[u8]) -> Option<MemFiles> {
     let mut files = MemFiles::new(alloc);
     add(&mut files, "base.map", MAP)?;
     add(&mut files, "base.scen", SCEN)?;
     add(&mut files, "holds", holds)?;
-    let bytes = read_hex(alloc, PAIR)?;
+    let bytes = read_hex(alloc, PAIR).ok()?;
     add(&mut files, "pair", &bytes)?;
-    Ok(files)
+    Some(files)
 }
 
-fn words_of(alloc: Global, line: &str) -> Result<Vec<String>, Fail> {
+fn words_of(alloc: Global, line: &str) -> Option<Vec<String>> {
     let mut words = Vec::new(alloc);
     for word in line.split_whitespace() {
-        words.push(String::from_str(alloc, word)?)?;
+        words.push(String::from_str(alloc, word).ok()?).ok()?;
     }
-    Ok(words)
+    Some(words)
 }
 
-/// The status of the words of this line over these files, with the pair as the input.
+/// The status of the words of this line over these files, with the pair as the input. None without memory for the words.
 pub fn status_of<F: Files, O: TraceOut>(
     alloc: Global,
     line: &str,
     files: &mut F,
     out: &mut O,
     err: &mut VecOut,
-) -> Result<u8, Fail>
+) -> Option<u8>
     requires out_working { O.has_failed out.old ≡ false }
     requires err_working { err.old.has_failed ≡ false }
 {
     let words = words_of(alloc, line)?;
     let mut input = PAIR;
-    Ok(run_command(alloc, words.as_slice(), &mut input, files, out, err))
+    Some(run_command(alloc, words.as_slice(), &mut input, files, out, err))
 }

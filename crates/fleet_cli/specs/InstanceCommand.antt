@@ -1,5 +1,5 @@
 -- What the command `instance` prints: the sizes of a map, its passable cells, and the start and the goal of each agent.
-use Rattle.std.specs.Prelude.{◌≡◌, ◌≢◌, ℕ, zero, suc, ◌+◌, false, List, [], ◌∷◌, ◌++◌, length, slice_get, ◌⊎◌, Option, codes, decimal}
+use Rattle.std.specs.Prelude.{◌≡◌, ◌≢◌, ℕ, zero, suc, List, [], ◌∷◌, ◌++◌, length, slice_get, ◌⊎◌, Option, codes, decimal}
 use Rattle.std.specs.Option.{option_map_or}
 use Rattle.fleet_model.specs.declared.geometry.Cell.{Cell}
 use Rattle.fleet_model.specs.declared.task.Task.{Task}

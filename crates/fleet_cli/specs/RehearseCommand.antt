@@ -1,5 +1,5 @@
 -- What the command `rehearse` does: the rehearsal of the program of a file, under the holds of another.
-use Rattle.std.specs.Prelude.{◌≡◌, ◌≢◌, ℕ, ◌<◌, List, [], length, ◌⊎◌, Option, None, Some, Err, MatchResult}
+use Rattle.std.specs.Prelude.{◌≡◌, ◌≢◌, ℕ, ◌<◌, List, [], length, ◌⊎◌, Option, None, Some, Err}
 use Rattle.fleet_model.specs.Program.{Program}
 use Rattle.fleet_model.specs.Machine.{Holds}
 use Rattle.fleet_grid.specs.Text.{lines}

@@ -1,10 +1,24 @@
 //! Plans of a fleet: for each agent a path, without conflict.
 #![tactic(auto)]
 
+mod cells;
 mod checked;
 mod plan;
+mod reading;
+mod text_fault;
+mod text_laws;
 mod worked;
+mod writing;
 
 pub use checked::Checked;
 pub use plan::{Path, Plan};
+pub use reading::read_plan;
+pub use text_fault::TextFault;
+pub use text_laws::{
+    a_plan_text_is_one_plan, a_text_is_a_plan_or_has_a_first_fault, a_written_plan_is_read,
+};
 pub use worked::worked_plans_are_judged;
+pub use writing::write_plan;
+
+#[cfg(test)]
+mod text_tests;

@@ -4,3 +4,6 @@ pub mod Worked
 pub mod PlanText
 pub mod PlanReading
 pub mod CellReading
+pub mod FirstFault
+pub mod Rings
+pub mod Sweep

@@ -3,15 +3,23 @@
 
 mod cells;
 mod checked;
+mod checking;
+mod ends;
 mod plan;
+mod plan_fault;
 mod reading;
+mod rings;
+mod steps;
+mod sweep;
 mod text_fault;
 mod text_laws;
 mod worked;
 mod writing;
 
 pub use checked::Checked;
+pub use checking::check;
 pub use plan::{Path, Plan};
+pub use plan_fault::{Conflict, PlanFault, PlanRefusal};
 pub use reading::read_plan;
 pub use text_fault::TextFault;
 pub use text_laws::{
@@ -20,5 +28,7 @@ pub use text_laws::{
 pub use worked::worked_plans_are_judged;
 pub use writing::write_plan;
 
+#[cfg(test)]
+mod check_tests;
 #[cfg(test)]
 mod text_tests;

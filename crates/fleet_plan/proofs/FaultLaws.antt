@@ -1,0 +1,97 @@
+-- Freedom of conflict, and first faults.
+use Rattle.std.proofs.Common.{◌≡◌, ◌≢◌, ℕ, zero, suc, ◌+◌, ◌-◌, ◌<◌, ◌≤◌, Bool, true, false, IsTrue, List, [], ◌∷◌, length, get_or, slice_get, All, Contains, Some, None, ◌⊎◌, inl, inr, refl, sym, ap, ◌∙◌, subst, arith}
+use Rattle.std.proofs.lemmas.Bool.{cases_eq, cases_lt, cases_order}
+use Rattle.std.proofs.lemmas.Option.{slice_get_within}
+use Rattle.fleet_model.specs.declared.geometry.Cell.{Cell}
+use Rattle.fleet_model.specs.declared.geometry.Place.{Place}
+use Rattle.fleet_model.specs.declared.task.Task.{Task}
+use Rattle.fleet_model.specs.Geometry.{place_of}
+use Rattle.fleet_model.specs.Conflict.{HasVertexConflict, HasSwappingConflict, HasCycleConflict}
+use Rattle.fleet_plan.specs.declared.plan_fault.Conflict.{Conflict}
+use Rattle.fleet_plan.specs.declared.plan_fault.Conflict.TheVariants.{Vertex, Swapping, Cycle}
+use Rattle.fleet_plan.specs.declared.plan_fault.PlanFault.{PlanFault}
+use Rattle.fleet_plan.specs.declared.plan_fault.PlanFault.TheVariants as fault
+use Rattle.fleet_plan.specs.Plan.{Plan, cell_at, cell_of, planned, AreNeighbours, IsConflictFree}
+use Rattle.fleet_plan.specs.FirstFault.{AllAgents, IsFirstAgent, StartsRight, EndsRight, IsRightAt, GoesRight, IsFirstTime, IsFirstStep, HasConflict, HasNoConflict, IsCycle, HasEnds, time_of, IsKindUpTo, IsUpTo, IsFirstConflict, IsFirstPlanFault, path_of}
+
+-- the least of numbers
+abbrev HasLeast : List ℕ → Type 0
+HasLeast xs = (m : ℕ) × Contains xs m × All (λ x. m ≤ x) xs
+
+least_of : (x : ℕ) (xs : List ℕ) → HasLeast (x ∷ xs)
+least_of x [] = (x, (0, omega arith, refl), only)
+  where
+    only : All (λ y. x ≤ y) (x ∷ [])
+    only zero d l = omega arith
+    only (suc k) d l = absurd (omega arith)
+least_of x (y ∷ ys) = go (least_of y ys)
+  where
+    go : HasLeast (y ∷ ys) → HasLeast (x ∷ y ∷ ys)
+    go (m, among, least) = elim (cases_lt x m) [
+      | inl l ↦ (x, (0, omega arith, refl), here l)
+      | inr l ↦ (m, (suc among.0, (let h : among.0 < length (y ∷ ys) = among.1 in omega arith), among.2), there l)
+    ]
+      where
+        here : x < m → All (λ z. x ≤ z) (x ∷ y ∷ ys)
+        here l zero d h = omega arith
+        here l (suc k) d h = let g : m ≤ get_or (y ∷ ys) k d = least k d (omega arith) in omega arith
+
+        there : m ≤ x → All (λ z. m ≤ z) (x ∷ y ∷ ys)
+        there l zero d h = l
+        there l (suc k) d h = least k d (omega arith)
+
+some_least : (xs : List ℕ) → 3 ≤ length xs → HasLeast xs
+some_least [] l = absurd (omega arith)
+some_least (x ∷ xs) l = least_of x xs
+
+-- all is right, and nobody is in conflict
+pub free_from : (passable : Place → Bool) (tasks : List Task) (plan : Plan) → HasEnds tasks plan → AllAgents plan (GoesRight passable plan) → HasNoConflict plan → IsConflictFree passable tasks plan
+unfolding cell_of
+free_from passable tasks plan ends goes none = record {
+  agents = ends.agents;
+  ends = λ i t e. let l : i < length plan = (let h : i < length tasks = slice_get_within tasks i t e in omega (arith, ends.agents)) in (ends.starts i l t e, ends.goals i l t e);
+  on_ground = λ i x l. (goes i l x).on_ground;
+  successive = λ i x l. (goes i l (x + 1)).successive x refl;
+  vertex = vertex;
+  swapping = swapping;
+  cycle = λ x ring a c. let m = some_least ring c.three in none (Cycle x m.0) (ring, record { agents = a; conflict = c; among = m.1; least_one = m.2 });
+}
+  where
+    vertex : (x i j : ℕ) → i < length plan → j < length plan → HasVertexConflict (planned plan) x i j → ⊥
+    vertex x i j li lj c = elim (cases_order i j) [
+      | inl e ↦ c.apart e
+      | inr u ↦ elim u [
+        | inl l ↦ none (Vertex x i j) (l, lj, c)
+        | inr l ↦ none (Vertex x j i) (l, li, record { apart = λ e. c.apart (sym e); same = sym c.same })
+      ]
+    ]
+
+    swapping : (x i j : ℕ) → i < length plan → j < length plan → HasSwappingConflict (planned plan) x i j → ⊥
+    swapping x i j li lj c = elim (cases_order i j) [
+      | inl e ↦ c.apart e
+      | inr u ↦ elim u [
+        | inl l ↦ none (Swapping x i j) (l, lj, c)
+        | inr l ↦ none (Swapping x j i) (l, li, record { apart = λ e. c.apart (sym e); there = c.back; back = c.there; changed = λ e. c.changed (sym e) })
+      ]
+    ]
+
+conflict_free : (passable : Place → Bool) (tasks : List Task) (plan : Plan) → IsConflictFree passable tasks plan → HasNoConflict plan
+conflict_free passable tasks plan free (Vertex x i j) h = let a : i < j = h.0 in let b : j < length plan = h.1 in free.vertex x i j (omega arith) b h.2
+conflict_free passable tasks plan free (Swapping x i j) h = let a : i < j = h.0 in let b : j < length plan = h.1 in free.swapping x i j (omega arith) b h.2
+conflict_free passable tasks plan free (Cycle x least) h = free.cycle x h.0 h.1.agents h.1.conflict
+
+right_at : (passable : Place → Bool) (tasks : List Task) (plan : Plan) → IsConflictFree passable tasks plan → (i t : ℕ) → i < length plan → IsRightAt passable (path_of plan i) t
+unfolding cell_of
+right_at passable tasks plan free i t l = record {
+  on_ground = free.on_ground i t l;
+  successive = λ s e. subst (λ z. (cell_at (path_of plan i) s ≡ cell_at (path_of plan i) z) ⊎ AreNeighbours (cell_at (path_of plan i) s) (cell_at (path_of plan i) z)) (sym e) (free.successive i s l);
+}
+
+-- a plan with a first fault is not free
+pub not_free : (passable : Place → Bool) (tasks : List Task) (plan : Plan) (f : PlanFault) → IsFirstPlanFault passable tasks plan f → IsConflictFree passable tasks plan → ⊥
+not_free passable tasks plan fault.OutOfMemory h free = h
+not_free passable tasks plan fault.Agents h free = h free.agents
+not_free passable tasks plan (fault.Start i) h free = h.1.wrong (λ t e. (free.ends i t e).0)
+not_free passable tasks plan (fault.Goal i) h free = h.2.wrong (λ t e. (free.ends i t e).1)
+not_free passable tasks plan (fault.Step i t) h free = h.1.time.wrong (right_at passable tasks plan free i t h.1.agent)
+not_free passable tasks plan (fault.Conflict c) h free = conflict_free passable tasks plan free c h.2.conflict

@@ -1,0 +1,196 @@
+-- Agents entered one after another in their places, and who is ahead of whom.
+use Rattle.std.proofs.Common.{◌≡◌, ◌≢◌, ℕ, zero, suc, ◌+◌, ◌-◌, ◌<◌, ◌≤◌, List, length, get_or, set, slice_index, Option, Some, None, IfSome, IfNone, ◌⊎◌, inl, inr, refl, sym, ap, ◌∙◌, subst, arith}
+use Rattle.std.proofs.lemmas.Bool.{cases_eq, cases_lt}
+use Rattle.std.proofs.lemmas.List.{get_or-set_same, get_or-set_other}
+use Rattle.fleet_plan.specs.FirstFault.{IsPairUpTo}
+use Rattle.fleet_plan.specs.Rings.{AreAgents, ahead_of}
+use Rattle.fleet_plan.specs.Sweep.{Meet, IsFirstMeeting, IsEntered, IsAhead, AreAhead, Exchange, HasNoMeeting}
+use Rattle.fleet_plan.proofs.RingLaws.{some_is, none_is_not, ahead_within}
+
+-- the least agent in the place of agent k
+pub record IsOwner (places : List ℕ) (f k : ℕ) : Type 0 where
+  pub order : f ≤ k
+  pub same : slice_index places f ≡ slice_index places k
+  pub least : (m : ℕ) → m ≤ k → slice_index places m ≡ slice_index places k → f ≤ m
+
+-- the first two of the first n agents that meet, where there are two
+abbrev pub IsLeastPair : List ℕ → ℕ → Option (ℕ × ℕ) → Type 0
+IsLeastPair places n None = (k l : ℕ) → k < l → l < n → slice_index places k ≢ slice_index places l
+IsLeastPair places n (Some p) = (p.0 < p.1) × (p.1 < n) × (slice_index places p.0 ≡ slice_index places p.1) × ((k l : ℕ) → k < l → l < n → slice_index places k ≡ slice_index places l → IsPairUpTo p.0 p.1 k l)
+
+-- the first n agents are entered
+pub record IsMeeting (table places : List ℕ) (found : Option (ℕ × ℕ)) (n : ℕ) : Type 0 where
+  pub entered : (k : ℕ) → k < n → IsOwner places (slice_index table (slice_index places k)) k
+  pub pair : IsLeastPair places n found
+
+pub meeting-none : (table places : List ℕ) → IsMeeting table places None 0
+meeting-none table places = record { entered = λ k l. absurd (omega arith); pair = λ k l h g. absurd (omega arith) }
+
+abbrev pub IsPicked : Option (ℕ × ℕ) → ℕ → ℕ → ℕ × ℕ → Type 0
+IsPicked None i j p = p ≡ (i, j)
+IsPicked (Some q) i j p = ((q.0 ≤ i) × (p ≡ q)) ⊎ ((i < q.0) × (p ≡ (i, j)))
+
+pub picked : (found : Option (ℕ × ℕ)) (i j : ℕ) (p : ℕ × ℕ) → IfSome found (λ pair. ((pair.0 ≤ i) × (p ≡ pair)) ⊎ ((i < pair.0) × (p ≡ (i, j)))) → IfNone found (p ≡ (i, j)) → IsPicked found i j p
+picked None i j p h g = g
+picked (Some q) i j p h g = h
+
+module _ (table places : List ℕ) (found : Option (ℕ × ℕ)) (n : ℕ) (m : IsMeeting table places found n) where
+  -- agent n stands where agent i does, which is entered there
+  module _ (i : ℕ) (entry : i ≡ slice_index table (slice_index places n)) (below : i < n) (same : slice_index places i ≡ slice_index places n) where
+    itself : slice_index table (slice_index places i) ≡ i
+    itself = ap (slice_index table) same ∙ sym entry
+
+    first_there : (k : ℕ) → k < n → slice_index places k ≡ slice_index places n → i ≤ k
+    first_there k l e = elim (cases_lt k i) [
+      | inl g ↦ let h : slice_index table (slice_index places i) ≤ k = (m.entered i below).least k (omega arith) (e ∙ sym same) in omega (arith, itself)
+      | inr g ↦ g
+    ]
+
+    own : IsOwner places (slice_index table (slice_index places n)) n
+    own = record {
+      order = omega (arith, entry);
+      same = ap (slice_index places) (sym entry) ∙ same;
+      least = λ k l e. elim (cases_eq k n) [
+        | inl s ↦ omega (arith, entry)
+        | inr ne ↦ let h : i ≤ k = first_there k (omega arith) e in omega (arith, entry)
+      ];
+    }
+
+    entered_on : (k : ℕ) → k < n + 1 → IsOwner places (slice_index table (slice_index places k)) k
+    entered_on k l = elim (cases_eq k n) [
+      | inl s ↦ subst (λ z. IsOwner places (slice_index table (slice_index places z)) z) (sym s) own
+      | inr ne ↦ m.entered k (omega arith)
+    ]
+
+    pub meeting-hit : (p : ℕ × ℕ) → IsPicked found i n p → IsMeeting table places (Some p) (n + 1)
+    meeting-hit p h = record { entered = entered_on; pair = go found m.pair h }
+      where
+        new : ((k l : ℕ) → k < l → l < n → slice_index places k ≡ slice_index places l → i < k) → p ≡ (i, n) → IsLeastPair places (n + 1) (Some p)
+        new others e =
+            let e0 : p.0 ≡ i = ap (λ (q : ℕ × ℕ). q.0) e in
+            let e1 : p.1 ≡ n = ap (λ (q : ℕ × ℕ). q.1) e in (
+              omega arith,
+              omega arith,
+              ap (slice_index places) e0 ∙ same ∙ ap (slice_index places) (sym e1),
+              λ k l a b s. elim (cases_eq l n) [
+                | inl z ↦ let h : i ≤ k = first_there k (omega arith) (s ∙ ap (slice_index places) z) in grind arith
+                | inr ne ↦ let h : i < k = others k l a (omega arith) s in inl (omega arith)
+              ],
+            )
+
+        go : (o : Option (ℕ × ℕ)) → IsLeastPair places n o → IsPicked o i n p → IsLeastPair places (n + 1) (Some p)
+        go None least e = new (λ k l a b s. absurd (least k l a b s)) e
+        go (Some q) least (inl h) =
+            let e0 : p.0 ≡ q.0 = ap (λ (q : ℕ × ℕ). q.0) h.1 in
+            let e1 : p.1 ≡ q.1 = ap (λ (q : ℕ × ℕ). q.1) h.1 in
+            let l0 : q.0 < q.1 = least.0 in
+            let l1 : q.1 < n = least.1 in
+            let le : q.0 ≤ i = h.0 in (
+              omega arith,
+              omega arith,
+              ap (slice_index places) e0 ∙ least.2 ∙ ap (slice_index places) (sym e1),
+              λ k l a b s. elim (cases_eq l n) [
+                | inl z ↦ let g : i ≤ k = first_there k (omega arith) (s ∙ ap (slice_index places) z) in later k l (omega arith) (omega arith)
+                | inr ne ↦ keep k l (least.3 k l a (omega arith) s)
+              ],
+            )
+          where
+            later : (k l : ℕ) → p.0 ≤ k → p.1 < l → IsPairUpTo p.0 p.1 k l
+            later k l a b = grind arith
+
+            keep : (k l : ℕ) → IsPairUpTo q.0 q.1 k l → IsPairUpTo p.0 p.1 k l
+            keep k l u = subst (λ (z : ℕ × ℕ). IsPairUpTo z.0 z.1 k l) (sym h.1) u
+        go (Some q) least (inr h) = new (λ k l a b s. elim (least.3 k l a b s) [ inl u ↦ let g : i < q.0 = h.0 in omega arith | inr u ↦ let g : i < q.0 = h.0 in omega (arith, u.0) ]) h.1
+
+  -- who is entered where agent n stands does not stand there, or is n or a later one
+  module _ (e : ℕ) (entry : e ≡ slice_index table (slice_index places n)) (other : e < n → slice_index places e ≢ slice_index places n) where
+    alone : (k : ℕ) → k < n → slice_index places k ≢ slice_index places n
+    alone k l s =
+        let o = m.entered k l in
+        let f : slice_index table (slice_index places k) ≡ e = ap (slice_index table) s ∙ sym entry in
+        other (omega (arith, f, o.order)) (ap (slice_index places) (sym f) ∙ o.same ∙ s)
+
+    module _ (within : slice_index places n < length table) where
+      put : slice_index (set table (slice_index places n) n) (slice_index places n) ≡ n
+      put = get_or-set_same table (slice_index places n) n 0 within
+
+      kept : (k : ℕ) → k < n → slice_index (set table (slice_index places n) n) (slice_index places k) ≡ slice_index table (slice_index places k)
+      kept k l = get_or-set_other table (slice_index places n) (slice_index places k) n 0 (alone k l)
+
+      own_now : IsOwner places (slice_index (set table (slice_index places n) n) (slice_index places n)) n
+      own_now = record {
+        order = omega (arith, put);
+        same = ap (slice_index places) put;
+        least = λ k l s. elim (cases_eq k n) [
+          | inl z ↦ omega (arith, put)
+          | inr ne ↦ absurd (alone k (omega arith) s)
+        ];
+      }
+
+      pub meeting-miss : IsMeeting (set table (slice_index places n) n) places found (n + 1)
+      meeting-miss = record {
+        entered = λ k l. elim (cases_eq k n) [
+          | inl s ↦ subst (λ z. IsOwner places (slice_index (set table (slice_index places n) n) (slice_index places z)) z) (sym s) own_now
+          | inr ne ↦ subst (λ z. IsOwner places z k) (sym (kept k (omega arith))) (m.entered k (omega arith))
+        ];
+        pair = go found m.pair;
+      }
+        where
+          go : (o : Option (ℕ × ℕ)) → IsLeastPair places n o → IsLeastPair places (n + 1) o
+          go None least = λ k l a b s. elim (cases_eq l n) [
+            | inl z ↦ alone k (omega arith) (s ∙ ap (slice_index places) z)
+            | inr ne ↦ least k l a (omega arith) s
+          ]
+          go (Some q) least = (
+            least.0,
+            (let h : q.1 < n = least.1 in omega arith),
+            least.2,
+            λ k l a b s. elim (cases_eq l n) [
+              | inl z ↦ absurd (alone k (omega arith) (s ∙ ap (slice_index places) z))
+              | inr ne ↦ least.3 k l a (omega arith) s
+            ],
+          )
+
+pub meeting-some : (table places : List ℕ) (found : Option (ℕ × ℕ)) (n : ℕ) → IsMeeting table places found n → n ≡ length places → IfSome found (λ pair. IsFirstMeeting places pair.0 pair.1)
+meeting-some table places None n m e = tt
+meeting-some table places (Some q) n m e = record {
+  meet = record { order = m.pair.0; agents = (let h : q.1 < n = m.pair.1 in omega arith); same = m.pair.2 };
+  first = λ k l h. m.pair.3 k l h.order (let g : l < length places = h.agents in omega arith) h.same;
+}
+
+pub meeting-nobody : (table places : List ℕ) (found : Option (ℕ × ℕ)) (n : ℕ) → IsMeeting table places found n → n ≡ length places → IfNone found (IsEntered table places)
+meeting-nobody table places (Some q) n m e = tt
+meeting-nobody table places None n m e = λ i l.
+    let o = m.entered i (omega arith) in
+    let f = slice_index table (slice_index places i) in
+    elim (cases_lt f i) [
+      | inl g ↦ absurd (m.pair f i g (omega arith) o.same)
+      | inr g ↦ let h : f ≤ i = o.order in omega arith
+    ]
+
+-- ---- what follows where nobody meets another
+
+pub entered_apart : (table places : List ℕ) → IsEntered table places → HasNoMeeting places
+entered_apart table places h i j meet =
+    let order : i < j = meet.order in
+    let within : j < length places = meet.agents in
+    let a : slice_index table (slice_index places i) ≡ i = h i (omega arith) in
+    let b : slice_index table (slice_index places j) ≡ j = h j within in
+    let s : slice_index table (slice_index places i) ≡ slice_index table (slice_index places j) = ap (slice_index table) meet.same in
+    omega arith
+
+pub ahead_agents : (places next : List ℕ) (ahead : List (Option ℕ)) → AreAhead places next ahead → AreAgents ahead
+ahead_agents places next ahead a i j e =
+    let within : i < length ahead = ahead_within ahead i j e in
+    let h : IsAhead places next i (Some j) = subst (IsAhead places next i) e (a.each i (omega (arith, a.all))) in
+    omega (arith, h.1, a.all)
+
+-- who is found in a place
+pub found_in : (table places : List ℕ) (place : ℕ) → IsEntered table places → ((slice_index table place) < length places → slice_index places (slice_index table place) ≢ place) → (j : ℕ) → j < length places → slice_index places j ≢ place
+found_in table places place h other j l e =
+    let a : slice_index table place ≡ j = ap (slice_index table) (sym e) ∙ h j l in
+    other (omega arith) (ap (slice_index places) a ∙ e)
+
+-- the first exchange
+pub not_before : (ahead : List (Option ℕ)) (i : ℕ) → ((k l : ℕ) → k < i → Exchange ahead k l → ⊥) → (k l : ℕ) → Exchange ahead k l → i ≤ k
+not_before ahead i none k l x = elim (cases_lt k i) [ inl h ↦ absurd (none k l h x) | inr h ↦ h ]

@@ -1,0 +1,71 @@
+-- Agents in places, which are numbers, at one time and at the next.
+use Rattle.std.specs.Prelude.{◌≡◌, ◌≢◌, ℕ, ◌+◌, ◌<◌, ◌≤◌, List, length, get_or, slice_index, Option, Some, None, ◌⊎◌}
+use Rattle.fleet_grid.specs.Ground.{Ground, cell_index}
+use Rattle.fleet_plan.specs.Plan.{Plan, cell_of}
+use Rattle.fleet_plan.specs.declared.plan_fault.Conflict.{Conflict}
+use Rattle.fleet_plan.specs.declared.plan_fault.Conflict.TheVariants.{Vertex, Swapping, Cycle}
+use Rattle.fleet_plan.specs.FirstFault.{IsPairUpTo}
+use Rattle.fleet_plan.specs.Rings.{ahead_of, IsOnRing, IsLeastOnRing}
+
+-- every agent stands on a cell of the map, at every time
+abbrev pub IsOnMap : Ground → Plan → Type 0
+IsOnMap g plan = (i t : ℕ) → i < length plan → ((cell_of plan i t).x < g.width) × ((cell_of plan i t).y < g.height)
+
+-- the agents stand in these places at time t
+pub record ArePlaces (g : Ground) (plan : Plan) (t : ℕ) (places : List ℕ) : Type 0 where
+  pub all : length places ≡ length plan
+  pub each : (i : ℕ) → i < length plan → slice_index places i ≡ cell_index g (cell_of plan i t)
+
+-- the agents stand in one place
+pub record Meet (places : List ℕ) (i j : ℕ) : Type 0 where
+  pub order : i < j
+  pub agents : j < length places
+  pub same : slice_index places i ≡ slice_index places j
+
+pub record IsFirstMeeting (places : List ℕ) (i j : ℕ) : Type 0 where
+  pub meet : Meet places i j
+  pub first : (k l : ℕ) → Meet places k l → IsPairUpTo i j k l
+
+-- the table has each agent in its place
+abbrev pub IsEntered : List ℕ → List ℕ → Type 0
+IsEntered table places = (i : ℕ) → i < length places → slice_index table (slice_index places i) ≡ i
+
+-- who is ahead of the agent: who stands in the place to which it goes, where it goes to another one
+abbrev pub IsAhead : List ℕ → List ℕ → ℕ → Option ℕ → Type 0
+IsAhead places next i None = (slice_index next i ≡ slice_index places i) ⊎ ((j : ℕ) → j < length places → slice_index places j ≢ slice_index next i)
+IsAhead places next i (Some j) = (slice_index next i ≢ slice_index places i) × (j < length places) × (slice_index places j ≡ slice_index next i)
+
+pub record AreAhead (places next : List ℕ) (ahead : List (Option ℕ)) : Type 0 where
+  pub all : length ahead ≡ length places
+  pub each : (i : ℕ) → i < length places → IsAhead places next i (ahead_of ahead i)
+
+-- two agents are ahead of each other
+pub record Exchange (ahead : List (Option ℕ)) (i j : ℕ) : Type 0 where
+  pub there : ahead_of ahead i ≡ Some j
+  pub back : ahead_of ahead j ≡ Some i
+
+pub record IsFirstExchange (ahead : List (Option ℕ)) (i j : ℕ) : Type 0 where
+  pub exchange : Exchange ahead i j
+  pub first : (k l : ℕ) → Exchange ahead k l → i ≤ k
+
+-- nobody meets another
+abbrev pub HasNoMeeting : List ℕ → Type 0
+HasNoMeeting places = (i j : ℕ) → Meet places i j → ⊥
+
+-- nobody meets another, and no two agents are ahead of each other
+pub record HasNoExchange (places : List ℕ) (ahead : List (Option ℕ)) : Type 0 where
+  pub apart : HasNoMeeting places
+  pub none : (i j : ℕ) → Exchange ahead i j → ⊥
+
+-- the first conflict of the agents in these places at the time and the next one
+abbrev pub IsFirstIn : List ℕ → List ℕ → ℕ → Conflict → Type 0
+IsFirstIn places next t (Vertex x i j) = (x ≡ t) × IsFirstMeeting places i j
+IsFirstIn places next t (Swapping x i j) = (x ≡ t) × HasNoMeeting places × ((ahead : List (Option ℕ)) × AreAhead places next ahead × IsFirstExchange ahead i j)
+IsFirstIn places next t (Cycle x least) = (x ≡ t) × ((ahead : List (Option ℕ)) × AreAhead places next ahead × HasNoExchange places ahead × IsLeastOnRing ahead least)
+
+-- they have none
+pub record IsFreeIn (places next : List ℕ) : Type 0 where
+  pub ahead : List (Option ℕ)
+  pub are_ahead : AreAhead places next ahead
+  pub none : HasNoExchange places ahead
+  pub no_ring : (i : ℕ) → IsOnRing ahead i → ⊥

@@ -16,8 +16,8 @@ use Rattle.clap.specs.declared.builder.value_parser.ValueParser.TheVariants as p
 use Rattle.clap.proofs.CallerReads.{signed_reads}
 use Rattle.clap.proofs.ValueTestLemmas.{accepts-Accepts}
 use Rattle.clap.proofs.WalkLemmas.{both}
-use Rattle.fleet_args.specs.CommandLine.{agents_rule, fleet, instance_shape, rehearse_shape, word}
-use Rattle.fleet_args.specs.Request.{answered_by, asked_by, instance_by, rehearse_by, number_by, number_in}
+use Rattle.fleet_args.specs.CommandLine.{agents_rule, fleet, instance_shape, check_shape, rehearse_shape, word}
+use Rattle.fleet_args.specs.Request.{answered_by, asked_by, instance_by, check_by, rehearse_by, number_by, number_in}
 use Rattle.fleet_args.proofs.RequestLemmas.{digits_from, is_small, is_small_number}
 use Rattle.fleet_args.proofs.MatchedRows.{Among}
 use Rattle.fleet_args.proofs.MatchedValues.{HasValue, optional_value, required_value}
@@ -83,6 +83,21 @@ instance_answers words none =
     instance_asks (λ id. first_of id (rows_after (leaf instance_shape).rules [] words)) (λ id. number_by (one_of id (rows_after (leaf instance_shape).rules [] words)))
     map.text scen.text agents.0 map.first scen.first agents.1
 
+-- three words and a number
+check_asks : (first : Text → Option Text) (number : Text → Option (Option ℕ)) (map scen plan : Text) (agents : Option ℕ) → first (codes "map") ≡ Some map
+    → first (codes "scen") ≡ Some scen → first (codes "plan") ≡ Some plan → number (codes "agents") ≡ Some agents → is_some (check_by first number) ≡ true
+check_asks first number map scen plan agents h k m l = rw (h, k, m, l) refl
+
+check_answers : (words : List Text) → Answers check_shape words
+check_answers words none =
+    let map = required_value (leaf check_shape) words none (at 1 (word (codes "map"))) refl refl refl refl in
+    let scen = required_value (leaf check_shape) words none (at 2 (word (codes "scen"))) refl refl refl refl in
+    let plan = required_value (leaf check_shape) words none (at 3 (word (codes "plan"))) refl refl refl refl in
+    let agents = number_option (at 4 agents_rule) (rows_after (leaf check_shape).rules [] words) 0 65535 refl (omega arith)
+    (optional_value (leaf check_shape) words none (at 4 agents_rule) refl refl) in
+    check_asks (λ id. first_of id (rows_after (leaf check_shape).rules [] words)) (λ id. number_by (one_of id (rows_after (leaf check_shape).rules [] words)))
+    map.text scen.text plan.text agents.0 map.first scen.first plan.first agents.1
+
 rehearse_asks : (first : Text → Option Text) (program : Text) → first (codes "program") ≡ Some program → is_some (rehearse_by first) ≡ true
 rehearse_asks first program h = rw h refl
 
@@ -97,11 +112,14 @@ answers_each : (s : Shape) (words : List Text) → Among s (built fleet).subs �
     → level_fault s [] nothing_held words false [] ≡ [] → is_some (asked_by (Some (rows_at s words))) ≡ true
 answers_each s words among name named no_help = elim among [
   | inl same ↦ subst P (sym same) (instance_answers words)
-  | inr rest ↦ elim rest [
-    | inl same ↦ subst P (sym same) (rehearse_answers words)
-    | inr last ↦ elim last [
-      | inl same ↦ λ none. absurd (true≢false (sym (helps (ap (λ x. answers_to name (label_of x)) (sym same) ∙ named)) ∙ no_help))
-      | inr nothing ↦ absurd nothing
+  | inr second ↦ elim second [
+    | inl same ↦ subst P (sym same) (check_answers words)
+    | inr third ↦ elim third [
+      | inl same ↦ subst P (sym same) (rehearse_answers words)
+      | inr last ↦ elim last [
+        | inl same ↦ λ none. absurd (true≢false (sym (helps (ap (λ x. answers_to name (label_of x)) (sym same) ∙ named)) ∙ no_help))
+        | inr nothing ↦ absurd nothing
+      ]
     ]
   ]
 ]

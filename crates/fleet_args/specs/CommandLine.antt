@@ -25,6 +25,9 @@ command name rules = (fold with_rule (new_app name) rules).top
 abbrev pub instance_shape : Shape
 instance_shape = command (codes "instance") (word (codes "map") ∷ word (codes "scen") ∷ agents_rule ∷ [])
 
+abbrev pub check_shape : Shape
+check_shape = command (codes "check") (word (codes "map") ∷ word (codes "scen") ∷ word (codes "plan") ∷ agents_rule ∷ [])
+
 abbrev pub rehearse_shape : Shape
 rehearse_shape = command (codes "rehearse") (word (codes "program") ∷ option (codes "holds") ∷ [])
 
@@ -36,7 +39,7 @@ fleet_top = record (new_app (codes "fleet")) {
 
 -- the whole command line
 abbrev pub fleet : App
-fleet = fold with_subcommand fleet_top (instance_shape ∷ rehearse_shape ∷ [])
+fleet = fold with_subcommand fleet_top (instance_shape ∷ check_shape ∷ rehearse_shape ∷ [])
 
 -- the argument has this rule, and does not reach into other commands
 abbrev pub IsArg : Rule → Arg → Type 0

@@ -17,10 +17,12 @@ use Rattle.fleet_args.specs.declared.request.WordStop.TheVariants as stop
 -- a request as texts and numbers
 pub data Asked : Type 0 where
   ask_instance : Text → Text → Option ℕ → Asked
+  ask_check : Text → Text → Text → Option ℕ → Asked
   ask_rehearse : Text → Option Text → Asked
 
 abbrev pub asked_of : Request → Asked
 asked_of (r.Instance map scen agents) = ask_instance map.now scen.now agents
+asked_of (r.Check map scen plan agents) = ask_check map.now scen.now plan.now agents
 asked_of (r.Rehearse program holds) = ask_rehearse program.now (option_map (λ text. text.now) holds)
 
 -- the number below 2 ^ 16 that the text spells
@@ -44,6 +46,14 @@ instance_by first number =
     option_map (λ agents. ask_instance map scen agents)
     (number (codes "agents"))) (first (codes "scen"))) (first (codes "map"))
 
+abbrev pub check_by : (Text → Option Text) → (Text → Option (Option ℕ)) → Option Asked
+check_by first number =
+    option_and_then (λ map.
+    option_and_then (λ scen.
+    option_and_then (λ plan.
+    option_map (λ agents. ask_check map scen plan agents)
+    (number (codes "agents"))) (first (codes "plan"))) (first (codes "scen"))) (first (codes "map"))
+
 abbrev pub rehearse_by : (Text → Option Text) → Option Asked
 rehearse_by first = option_map (λ program. ask_rehearse program (first (codes "holds"))) (first (codes "program"))
 
@@ -51,7 +61,8 @@ rehearse_by first = option_map (λ program. ask_rehearse program (first (codes "
 abbrev pub asked_from : Text → (Text → Option Text) → (Text → Option (Option ℕ)) → Option Asked
 asked_from name first number =
     if bytes_eq name (codes "instance") then instance_by first number
-    else (if bytes_eq name (codes "rehearse") then rehearse_by first else None)
+    else (if bytes_eq name (codes "check") then check_by first number
+    else (if bytes_eq name (codes "rehearse") then rehearse_by first else None))
 
 -- what a command and its matches ask
 abbrev pub asked_by : Option (Text × List Row) → Option Asked

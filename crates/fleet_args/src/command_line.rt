@@ -2,7 +2,7 @@
 
 ghost use Rattle.std.specs.Prelude.{◌≡◌, ◌∷◌, [], IfOk, codes};
 ghost use Rattle.clap.specs.Words.{app_of};
-ghost use Rattle.fleet_args.specs.CommandLine.{IsArg, IsLeafCommand, word, option, agents_rule, command, instance_shape, rehearse_shape, fleet_top, fleet};
+ghost use Rattle.fleet_args.specs.CommandLine.{IsArg, IsLeafCommand, word, option, agents_rule, command, instance_shape, check_shape, rehearse_shape, fleet_top, fleet};
 
 use clap::{Arg, Command};
 use std::alloc::{AllocError, Global};
@@ -46,6 +46,17 @@ fn scen<'a>(alloc: Global) -> Arg<'a>
         "scen",
         "SCEN",
         "Scenario file (MovingAI), one line per agent",
+    )
+}
+
+fn plan<'a>(alloc: Global) -> Arg<'a>
+    ensures { IsArg (word (codes "plan")) result }
+{
+    positional(
+        alloc,
+        "plan",
+        "PLAN",
+        "Plan text, a line of cells per agent",
     )
 }
 
@@ -99,6 +110,18 @@ fn instance_command<'a>(alloc: Global) -> Result<Command<'a>, AllocError>
     .arg(agents(alloc))
 }
 
+fn check_command<'a>(alloc: Global) -> Result<Command<'a>, AllocError>
+    ensures { IfOk result (IsLeafCommand check_shape) }
+{
+    map_and_scen(
+        alloc,
+        "check",
+        "Tells whether a plan is free of conflict, or its first fault",
+    )?
+    .arg(plan(alloc))?
+    .arg(agents(alloc))
+}
+
 fn rehearse_command<'a>(alloc: Global) -> Result<Command<'a>, AllocError>
     ensures { IfOk result (IsLeafCommand rehearse_shape) }
 {
@@ -130,5 +153,6 @@ pub fn fleet_command<'a>(alloc: Global) -> Result<Command<'a>, AllocError>
 {
     without_commands(alloc)?
         .subcommand(instance_command(alloc)?)?
+        .subcommand(check_command(alloc)?)?
         .subcommand(rehearse_command(alloc)?)
 }

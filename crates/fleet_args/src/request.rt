@@ -3,7 +3,7 @@
 ghost use Rattle.std.specs.Prelude.{◌≡◌, option_map, map, string_bytes};
 ghost use Rattle.clap.specs.Words.{found_of, first_value, subcommand_rows_of, kind_of};
 ghost use Rattle.fleet_args.specs.CommandLine.{fleet};
-ghost use Rattle.fleet_args.specs.Request.{asked_of, asked_by, asked_from, instance_by, rehearse_by, number_found, IsStopOf, Reads};
+ghost use Rattle.fleet_args.specs.Request.{asked_of, asked_by, asked_from, instance_by, check_by, rehearse_by, number_found, IsStopOf, Reads};
 
 use crate::command_line::fleet_command;
 use clap::ArgMatches;
@@ -17,6 +17,12 @@ pub enum Request<'a> {
     Instance {
         map: &'a str,
         scen: &'a str,
+        agents: Option<u16>,
+    },
+    Check {
+        map: &'a str,
+        scen: &'a str,
+        plan: &'a str,
         agents: Option<u16>,
     },
     Rehearse {
@@ -53,6 +59,22 @@ fn instance_in<'a>(rows: &ArgMatches<'a>) -> Option<Request<'a>>
     Some(Request::Instance { map, scen, agents })
 }
 
+fn check_in<'a>(rows: &ArgMatches<'a>) -> Option<Request<'a>>
+    ensures { option_map asked_of result
+        ≡ check_by (first_value (found_of rows.now)) (number_found (found_of rows.now)) }
+{
+    let map = rows.get_str("map")?;
+    let scen = rows.get_str("scen")?;
+    let plan = rows.get_str("plan")?;
+    let agents = number(rows, "agents")?;
+    Some(Request::Check {
+        map,
+        scen,
+        plan,
+        agents,
+    })
+}
+
 fn rehearse_in<'a>(rows: &ArgMatches<'a>) -> Option<Request<'a>>
     ensures { option_map asked_of result ≡ rehearse_by (first_value (found_of rows.now)) }
 {
@@ -68,6 +90,7 @@ fn request_by<'a>(name: &str, rows: &ArgMatches<'a>) -> Option<Request<'a>>
 {
     match name {
         "instance" => instance_in(rows),
+        "check" => check_in(rows),
         "rehearse" => rehearse_in(rows),
         _ => None,
     }

@@ -36,8 +36,6 @@ pub record RehearsesInput (input : Option (List ℕ)) (out : Output) (end : End)
 -- the refusal is one that the input allows: the first fault of its text, or of the bytes for which that stands; or the sink failed
 -- while the rehearsal was written, or when it was to hand it on; or memory ran out, or the input cannot be read
 abbrev pub IsRefusalOf : Option (List ℕ) → Output → Fault → Type 0
-IsRefusalOf input out (f.Map fault) = ⊥
-IsRefusalOf input out (f.Scen fault) = ⊥
 IsRefusalOf input out (f.Hex fault) =
     (text : List ℕ) × IsTextOf input text × (fault ≢ h.OutOfMemory → bytes_of text ≡ Err fault) × IsUnwritten out
 IsRefusalOf input out (f.Load fault) =
@@ -47,6 +45,7 @@ IsRefusalOf input out (f.Run fault) =
     × RehearsesFlushed p [] (record { last = None; now = None; left = left; fault = None; before = out.before; taken = out.taken; has_failed = out.has_failed }) out.is_flushed (Err fault)
 IsRefusalOf input out f.Memory = IsUnwritten out
 IsRefusalOf input out (f.File name) = (name.now ≡ codes "-") × IsUnwritten out
+IsRefusalOf input out _ = ⊥
 
 -- 0 where the rehearsal was written and ends finished, 1 where it was written and ends stuck, and else the status of a refusal
 -- that was told: the other output took that one line, or failed within it

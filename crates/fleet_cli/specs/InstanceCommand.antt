@@ -65,13 +65,10 @@ abbrev pub IsInstanceFault : List ℕ → List ℕ → Option ℕ → Output →
 IsInstanceFault map scen asked out (f.Map fault) = (fault ≢ m.OutOfMemory → IsFirstMapFault map fault) × IsUnwritten out
 IsInstanceFault map scen asked out (f.Scen fault) =
     (g : Ground) × IsMapText map g × (fault ≢ s.OutOfMemory → IsFirstScenFault scen g asked fault) × IsUnwritten out
-IsInstanceFault map scen asked out (f.Hex fault) = ⊥
-IsInstanceFault map scen asked out (f.Load fault) = ⊥
-IsInstanceFault map scen asked out (f.Run fault) = ⊥
-IsInstanceFault map scen asked out f.Memory = ⊥
 IsInstanceFault map scen asked out (f.File name) =
     (g : Ground) × (tasks : List Task) × (name.now ≡ codes "-") × AreTextsOf map scen asked g tasks
     × FailsAfter out.before out.taken out.has_failed (instance_text g tasks)
+IsInstanceFault map scen asked out _ = ⊥
 
 -- the files were read: these are the bytes of the map and of the scenario
 pub record AreInstanceBytes (files : Option Store) (map scen map_bytes scen_bytes : List ℕ) : Type 0 where

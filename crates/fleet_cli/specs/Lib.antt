@@ -7,4 +7,5 @@ pub mod Files
 pub mod MemFiles
 pub mod RehearseCommand
 pub mod InstanceCommand
+pub mod CheckCommand
 pub mod Command

@@ -19,13 +19,9 @@ use Rattle.fleet_cli.specs.declared.fault.Fault.TheVariants as f
 
 -- a file of this name was not read
 abbrev pub IsReadFault : List ℕ → Fault → Type 0
-IsReadFault file (f.Map fault) = ⊥
-IsReadFault file (f.Scen fault) = ⊥
-IsReadFault file (f.Hex fault) = ⊥
-IsReadFault file (f.Load fault) = ⊥
-IsReadFault file (f.Run fault) = ⊥
 IsReadFault file f.Memory = Unit {0}
 IsReadFault file (f.File name) = file ≡ name.now
+IsReadFault file _ = ⊥
 
 -- the bytes of the holds: those of the named file, or none where none is named
 abbrev pub AreHoldBytes : Option Store → Option (List ℕ) → List ℕ → Type 0
@@ -55,16 +51,13 @@ pub record RehearsesBytes (bytes held : List ℕ) (out : Output) (end : End) : T
 -- the refusal is one that the bytes allow: the first fault of the program's; or a line of the holds that was asked for is no
 -- tick's, or the sink failed while the rehearsal was written, or when it was to hand it on
 abbrev pub IsRehearseFault : List ℕ → List ℕ → Output → Fault → Type 0
-IsRehearseFault bytes held out (f.Map fault) = ⊥
-IsRehearseFault bytes held out (f.Scen fault) = ⊥
-IsRehearseFault bytes held out (f.Hex fault) = ⊥
 IsRehearseFault bytes held out (f.Load fault) = (fault ≢ l.OutOfMemory → program_at bytes ≡ Err fault) × IsUnwritten out
 IsRehearseFault bytes held out (f.Run fault) =
     (p : Program) × (now failed : Option SourceFault) × (left : Holds) × Spells bytes p
     × RehearsesFlushed p (hold_ticks p held)
     (record { last = hold_last p held; now = now; left = left; fault = failed; before = out.before; taken = out.taken; has_failed = out.has_failed }) out.is_flushed (Err fault)
-IsRehearseFault bytes held out f.Memory = ⊥
 IsRehearseFault bytes held out (f.File name) = ⊥
+IsRehearseFault bytes held out _ = ⊥
 
 -- the same of the files that have these bytes
 abbrev pub RehearsesFiles : Option Store → List ℕ → Option (List ℕ) → Output → End → Type 0

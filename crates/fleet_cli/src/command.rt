@@ -3,6 +3,7 @@
 ghost use Rattle.std.specs.Prelude.{◌≡◌, ◌∷◌, false, map, string_bytes};
 ghost use Rattle.fleet_cli.specs.Command.{RunsRequest, StopsAtWords, RunsCommand};
 
+use crate::check_command::run_check;
 use crate::fault::Fault;
 use crate::files::Files;
 use crate::flush::deliver;
@@ -33,6 +34,12 @@ pub fn run_request<F: Files, O: TraceOut, E: TraceOut>(
         Request::Instance { map, scen, agents } => {
             run_instance(alloc, map, scen, agents, files, out, err)
         }
+        Request::Check {
+            map,
+            scen,
+            plan,
+            agents,
+        } => run_check(alloc, map, scen, plan, agents, files, out, err),
         Request::Rehearse { program, holds } => {
             run_rehearse(alloc, program, holds, files, out, err)
         }

@@ -1,6 +1,7 @@
 //! The program `fleet`: refusals, files and commands.
 #![tactic(auto)]
 
+mod check_command;
 mod command;
 mod disk;
 mod fault;
@@ -13,6 +14,7 @@ mod mem_files;
 mod rehearse_command;
 mod words;
 
+pub use check_command::run_check;
 pub use command::{run_command, run_request};
 pub use disk::Disk;
 pub use fault::Fault;
@@ -23,6 +25,8 @@ pub use instance_command::run_instance;
 pub use mem_files::MemFiles;
 pub use rehearse_command::run_rehearse;
 
+#[cfg(test)]
+mod check_tests;
 #[cfg(test)]
 mod command_tests;
 #[cfg(test)]

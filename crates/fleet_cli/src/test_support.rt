@@ -24,7 +24,8 @@ pub const PAIR_TEXT: &[u8] =
 pub const LATE_TEXT: &[u8] =
     b"0: 1,0 0,0\n1: 1,0 0,0\n2: 2,0 0,0\n3: 3,0 1,0\n4: 3,0 2,0\nagents 2\nticks 4\nheld 1\nfinished\n";
 
-fn add(files: &mut MemFiles, name: &str, bytes: &[u8]) -> Option<()> {
+/// A file more. None without memory.
+pub fn add(files: &mut MemFiles, name: &str, bytes: &[u8]) -> Option<()> {
     files.put(name, bytes).ok()
 }
 

@@ -5,4 +5,5 @@ use Rattle.fleet_args.proofs.command_line.fleet_command.Goals as goal
 pub returns : goal.returns
 returns c =
     let one = joins _ _ _ _ _ c.in_ok-without_commands.ensures c.in_ok-instance_command.ensures c.in_ok-subcommand.ensures in
-    IfOk-weaker c.subcommand-2.result _ _ (λ r h. joins _ _ r _ _ one c.in_ok-rehearse_command.ensures h) c.subcommand-2.ensures
+    let two = joins _ _ _ _ _ one c.in_ok-check_command.ensures c.in_ok-subcommand-2.ensures in
+    IfOk-weaker c.subcommand-3.result _ _ (λ r h. joins _ _ r _ _ two c.in_ok-rehearse_command.ensures h) c.subcommand-3.ensures

@@ -5,3 +5,6 @@ returns-in-Instance g c = rw c.in-Instance.is c.run_instance.ensures
 
 pub returns-in-Rehearse : goal.returns-in-Rehearse
 returns-in-Rehearse g c = rw c.in-Rehearse.is c.run_rehearse.ensures
+
+pub returns-in-Check : goal.returns-in-Check
+returns-in-Check g c = rw c.in-Check.is c.run_check.ensures

@@ -1,31 +1,25 @@
 -- The program of a conflict-free plan is accepted.
-use Rattle.std.proofs.Common.{◌≡◌, ◌≢◌, ℕ, suc, ◌+◌, ◌-◌, ◌*◌, ◌<◌, ◌≤◌, Bool, true, IsTrue, List, [], ◌∷◌, map, length, get_or, All, Contains, sum_by, ◌⊎◌, inl, inr, refl, sym, ap, ◌∙◌, subst, arith, mul-le-mul_right}
-use Rattle.std.specs.Option.{option_map_or}
+use Rattle.std.proofs.Common.{◌≡◌, ℕ, suc, ◌+◌, ◌-◌, ◌*◌, ◌<◌, ◌≤◌, Bool, true, IsTrue, List, length, get_or, Contains, ◌⊎◌, inl, inr, sym, ap, ◌∙◌, subst, arith, mul-le-mul_right}
 use Rattle.std.proofs.lemmas.Bool.{cases_lt}
 use Rattle.std.proofs.lemmas.Option.{slice_get_within}
-use Rattle.std.proofs.lemmas.List.{length-map}
-use Rattle.std.proofs.lemmas.List.Elements.{All-head, All-tail, All-weaker, All-contains}
-use Rattle.std.proofs.lemmas.List.Sums.{sum_by-cons}
-use Rattle.fleet_model.specs.declared.geometry.Cell.{Cell}
+use Rattle.std.proofs.lemmas.List.Elements.{All-contains}
 use Rattle.fleet_model.specs.declared.geometry.Place.{Place}
 use Rattle.fleet_model.specs.declared.program.Await.{Await}
 use Rattle.fleet_model.specs.declared.program.ActionId.{ActionId}
-use Rattle.fleet_model.specs.declared.program.AgentProgram.{AgentProgram}
 use Rattle.fleet_adg.specs.declared.deps.Deps.{Deps}
 use Rattle.fleet_model.specs.Geometry.{place_of}
-use Rattle.fleet_model.specs.Program.{origin, awaits_of, path, total_moves, IsCell, AreAwaits, IsWellFormed}
-use Rattle.fleet_model.specs.Machine.{indices}
+use Rattle.fleet_model.specs.Program.{path}
 use Rattle.fleet_model.specs.Chain.{IsNumbering}
 use Rattle.fleet_model.specs.Visit.{ComesAfterByAwait}
 use Rattle.fleet_model.specs.declared.task.Task.{Task}
 use Rattle.fleet_model.specs.Accepted.{IsAccepted}
 use Rattle.fleet_plan.specs.Plan.{Plan, cell_of, steps, IsConflictFree}
-use Rattle.fleet_adg.specs.Compiled.{changes_in, changes, moves_by, entry_awaits, action_in, agent_program, compiled}
-use Rattle.fleet_adg.proofs.Moves.{changes_in-end, cell_of-end, moves_by-yes, moves_by-le, moves_by-mono, move_once, time_of}
+use Rattle.fleet_adg.specs.Compiled.{changes_in, changes, moves_by, entry_awaits, compiled}
+use Rattle.fleet_adg.proofs.Moves.{cell_of-end, moves_by-mono, move_once, time_of}
 use Rattle.fleet_adg.proofs.Depth.{depth}
 use Rattle.fleet_adg.proofs.Follow.{ahead, depth_of-lt, depth_of-ahead}
-use Rattle.fleet_adg.proofs.Entry.{IsAwaitOf, entry-sound, entry-rising}
-use Rattle.fleet_adg.proofs.Programs.{length-compiled, no_agent-compiled, start_of-compiled, goal_of-compiled, moves-compiled, no_moves-compiled, action_in-number, awaits_cases, path-compiled}
+use Rattle.fleet_adg.proofs.Entry.{IsAwaitOf, entry-sound}
+use Rattle.fleet_adg.proofs.Programs.{length-compiled, start_of-compiled, goal_of-compiled, moves-compiled, action_in-number, awaits_cases, path-compiled}
 use Rattle.fleet_adg.proofs.Limits.{count-le}
 use Rattle.fleet_adg.proofs.Listing.{compiled-orderly}
 

@@ -118,7 +118,7 @@ last_leaving_by-sound plan q t j w b e =
     let l = last_below-some (λ y. leaves plan q y j) t s.0 s.1 in
     is_leaving plan q t s.0 j w l.below b l.passes s.2
 
-last_leaving_by-agent : (plan : Plan) (q : Cell) (t j : ℕ) (w : Await) → last_leaving_by plan q t j ≡ Some w → w.agent ≡ j
+pub last_leaving_by-agent : (plan : Plan) (q : Cell) (t j : ℕ) (w : Await) → last_leaving_by plan q t j ≡ Some w → w.agent ≡ j
 unfolding last_leaving_by await_of
 last_leaving_by-agent plan q t j w e =
     let s = option_map-some (λ y. await_of plan y j) (last_below (λ y. leaves plan q y j) t) w e in
@@ -167,7 +167,7 @@ pub record IsAwaitOf (plan : Plan) (i x : ℕ) (w : Await) : Type 0 where
   pub other : w.agent ≢ i
   pub step : (y : ℕ) × (y ≤ x) × (changes_in plan w.agent y ≡ true) × (cell_of plan w.agent y ≡ cell_of plan i (suc x)) × (w.count ≡ suc (moves_by plan w.agent y))
 
-leaves-parts : (plan : Plan) (q : Cell) (y j : ℕ) → leaves plan q y j ≡ true → (cell_of plan j y ≡ q) × (changes_in plan j y ≡ true)
+pub leaves-parts : (plan : Plan) (q : Cell) (y j : ℕ) → leaves plan q y j ≡ true → (cell_of plan j y ≡ q) × (changes_in plan j y ≡ true)
 unfolding leaves
 leaves-parts plan q y j h =
     let p = and_parts (is_same_cell (cell_of plan j y) q) (changes_in plan j y) h in

@@ -5,6 +5,9 @@ pub mod Programs
 pub mod Limits
 pub mod Latest
 pub mod Pass
+pub mod Folds
+pub mod Rows
+pub mod SweepSteps
 pub mod WorkedPrograms
 pub mod Pigeon
 pub mod Depth

@@ -17,11 +17,14 @@ use Rattle.fleet_adg.proofs.Moves.{changes_in-end, moves_by-yes, moves_by-le, mo
 use Rattle.fleet_adg.proofs.Entry.{IsAwaitOf, entry-sound, entry-rising}
 use Rattle.fleet_adg.proofs.Programs.{length-compiled, no_agent-compiled, start_of-compiled, goal_of-compiled, moves-compiled, no_moves-compiled, awaits_cases}
 
-pub steps-le : (plan : Plan) (m : ℕ) → All (λ path. length path ≤ m + 1) plan → steps plan ≤ m
+steps-le : (plan : Plan) (m : ℕ) → All (λ path. length path ≤ m + 1) plan → steps plan ≤ m
 unfolding steps
 steps-le [] m h = omega arith
 steps-le (path ∷ plan) m h =
     omega (arith, All-head (λ (path : List Cell). length path ≤ m + 1) path plan h, steps-le plan m (All-tail (λ (path : List Cell). length path ≤ m + 1) path plan h))
+
+pub steps_few : (plan : Plan) → IsWithinLimits plan → steps plan ≤ 65535
+steps_few plan limits = steps-le plan 65535 (All-weaker IsPath (λ (path : List Cell). length path ≤ 65535 + 1) (λ path h. h.few_cells) plan limits.paths)
 
 sum_by-map : {X Y : Type 0} (f : Y → ℕ) (g : X → Y) (xs : List X) → sum_by f (map g xs) ≡ sum_by (λ x. f (g x)) xs
 sum_by-map f g [] = refl
@@ -69,7 +72,7 @@ cell_of-is_cell plan i t limits h =
 pub compiled-well_formed : (plan : Plan) (deps : Deps) → IsWithinLimits plan → moves_in_all plan ≤ 4194304 → IsWellFormed (compiled plan deps)
 compiled-well_formed plan deps limits total =
     let long = length-compiled plan deps in
-    let few = steps-le plan 65535 (All-weaker IsPath (λ (path : List Cell). length path ≤ 65535 + 1) (λ path h. h.few_cells) plan limits.paths) in
+    let few = steps_few plan limits in
     record {
       some_agents = omega (arith, long, limits.fleet.some_agents);
       few_agents = omega (arith, long, limits.fleet.few_agents);

@@ -13,6 +13,7 @@ use Rattle.fleet_model.specs.Program.{Program}
 use Rattle.fleet_model.specs.Machine.{indices}
 use Rattle.fleet_plan.specs.Plan.{Plan, cell_of, steps}
 
+-- two cells are one
 unfoldable pub is_same_cell : Cell → Cell → Bool
 is_same_cell c d = (c.x == d.x) && (c.y == d.y)
 
@@ -70,9 +71,11 @@ entry_awaits plan deps i x = filter (λ w. not (w.agent == i)) (leavings plan de
 unfoldable pub action_in : Plan → Deps → ℕ → ℕ → Action
 action_in plan deps i x = record { dir = direction (cell_of plan i x) (cell_of plan i (x + 1)); awaits = entry_awaits plan deps i x }
 
+-- the program of agent i: from its first cell to its last, an action for each change of cell
 unfoldable pub agent_program : Plan → Deps → ℕ → AgentProgram
 agent_program plan deps i = record { start = cell_of plan i 0; goal = cell_of plan i (steps plan); actions = map (action_in plan deps i) (changes plan i (steps plan)) }
 
+-- the program of a plan
 unfoldable pub compiled : Plan → Deps → Program
 compiled plan deps = map (agent_program plan deps) (indices (length plan))
 

@@ -1,6 +1,6 @@
 -- Runs of accepted programs.
 use Rattle.std.proofs.Common.{◌≡◌, ◌<◌, ℕ, zero, suc, ◌+◌, ◌++◌, Bool, true, false, cond, Some, None, Option, List, [], take, length, refl, ap, sym, subst, add-one, ◌∙◌, arith, Result, Ok, Err, length-append}
-use Rattle.std.specs.Prelude.{is_err, ◌≤◌, IfOk}
+use Rattle.std.specs.Prelude.{is_err, IfOk}
 use Rattle.std.specs.Io.KnownBytes.{Appends}
 use Rattle.std.proofs.lemmas.Bool.{or_parts}
 use Rattle.std.proofs.lemmas.List.{take-append-le, ext_get_or}

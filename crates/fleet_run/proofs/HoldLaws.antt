@@ -1,5 +1,5 @@
 -- A line is read as a tick exactly where it is the line of that tick.
-use Rattle.std.proofs.Common.{◌≡◌, ◌≢◌, ◌∙◌, ℕ, zero, suc, ◌+◌, ◌-◌, ◌*◌, ◌<◌, ◌≤◌, ◌^◌, ◌&&◌, not, Bool, true, false, cond, List, [], ◌∷◌, ◌++◌, length, map, get_or, Option, None, Some, nat_le, nat_lt, eqb, refl, sym, ap, subst, inl, inr, ◌⊎◌, arith, rules, All, eqb-true, leb-true, ltb-true, decimal}
+use Rattle.std.proofs.Common.{◌≡◌, ◌≢◌, ◌∙◌, ℕ, zero, suc, ◌+◌, ◌-◌, ◌*◌, ◌<◌, ◌≤◌, ◌^◌, ◌&&◌, Bool, true, false, cond, List, [], ◌∷◌, ◌++◌, length, map, get_or, Option, None, Some, nat_le, nat_lt, eqb, refl, sym, ap, subst, inl, inr, ◌⊎◌, arith, rules, All, eqb-true, leb-true, ltb-true, decimal}
 use Rattle.std.specs.Prelude.{codes, option_map, option_and_then}
 use Rattle.std.specs.List.{slice_split, join_with_byte, AllByRecursion}
 use Rattle.std.specs.List.Sorted.{IsStrictlyIncreasing}
@@ -11,7 +11,7 @@ use Rattle.std.proofs.lemmas.List.Elements.{All-from_recursion, recursion_from_A
 use Rattle.std.proofs.lemmas.List.Splits.{join_with_byte-slice_split, slice_split_at, slice_split_none, length-slice_split}
 use Rattle.std.proofs.lemmas.Str.Parse.{IsNumeralModel, numerals_by_fold, not_in_digits}
 use Rattle.fleet_grid.specs.Text.{Bytes, is_digit, number_after, number}
-use Rattle.fleet_run.specs.HoldText.{tick_line, IsTickLine, is_plain, plain_number, agents_of, is_space, is_dash, tick_of}
+use Rattle.fleet_run.specs.HoldText.{tick_line, IsTickLine, plain_number, agents_of, is_space, is_dash, tick_of}
 
 -- ---- numbers without a leading zero
 

@@ -15,3 +15,4 @@ pub mod Rehearsed
 pub mod HoldLemmas
 pub mod HoldLaws
 pub mod Driven
+pub mod Finished

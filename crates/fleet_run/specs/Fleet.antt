@@ -1,7 +1,8 @@
 -- What a fleet shows, and what is true of it.
-use Rattle.std.specs.Prelude.{◌≡◌, ℕ, Bool, false, List, length}
-use Rattle.fleet_model.specs.Program.{Program, IsWellFormed}
-use Rattle.fleet_model.specs.Machine.{Configuration, Holds, IsReached, is_stuck, run}
+use Rattle.std.specs.Prelude.{◌≡◌, ◌<◌, ℕ, Bool, false, List, length}
+use Rattle.fleet_model.specs.Geometry.{place_of}
+use Rattle.fleet_model.specs.Program.{Program, IsWellFormed, goal_of}
+use Rattle.fleet_model.specs.Machine.{Configuration, Holds, IsReached, is_stuck, place_at, run}
 use Rattle.fleet_model.specs.Chain.{IsLongestChain}
 use Rattle.fleet_verify.specs.Parts.{AcceptedParts, IsAcceptedFor}
 use Rattle.fleet_run.specs.Near.{AreNear}
@@ -10,6 +11,10 @@ use Rattle.fleet_run.specs.Near.{AreNear}
 pub record FleetState (P : Type 0) : Type 0 where
   pub accepted : AcceptedParts P
   pub configuration : Configuration
+
+-- each agent stands on its goal
+abbrev pub AreOnGoals : Program → Configuration → Type 0
+AreOnGoals p c = (i : ℕ) → i < length p → place_at c i ≡ place_of (goal_of p i)
 
 -- what acceptance gives a run that writes its trace
 pub record IsShown (p : Program) (chain : ℕ) : Type 0 where

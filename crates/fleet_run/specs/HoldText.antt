@@ -1,6 +1,6 @@
 -- Which ticks a text of holds stands for, line by line.
-use Rattle.std.specs.Prelude.{◌≡◌, ℕ, ◌+◌, ◌<◌, Bool, true, not, ◌&&◌, ◌==◌, nat_le, nat_lt, List, [], ◌∷◌, length, map, take, drop, All, Option, None, Some, option_and_then, option_map, codes, decimal, if◌then◌else◌, ◌⊎◌, IsSome}
-use Rattle.std.specs.List.{slice_split, join_with_byte, AllZip}
+use Rattle.std.specs.Prelude.{◌≡◌, ℕ, ◌+◌, ◌<◌, Bool, true, not, ◌&&◌, ◌==◌, nat_le, nat_lt, List, [], ◌∷◌, map, All, Option, None, Some, option_and_then, option_map, codes, decimal, if◌then◌else◌}
+use Rattle.std.specs.List.{slice_split, join_with_byte}
 use Rattle.std.specs.List.Sorted.{IsStrictlyIncreasing}
 use Rattle.fleet_model.specs.Machine.{Holds}
 use Rattle.fleet_grid.specs.Text.{Bytes, number}

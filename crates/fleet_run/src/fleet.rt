@@ -1,10 +1,11 @@
 //! A fleet that runs an accepted program.
 
-ghost use Rattle.std.specs.Prelude.{◌≡◌, ◌<◌, length, IfOk, IfErr, All, false, None};
+ghost use Rattle.std.specs.Prelude.{◌≡◌, ◌<◌, ◌≤◌, length, IsOk, IfOk, IfErr, All, IsTrue, false, None};
 ghost use Rattle.fleet_grid.specs.Ground.{is_passable};
 ghost use Rattle.fleet_model.specs.Machine.{opening, tick, moved_in, is_ready_held, is_finished, is_ready, place_at, count_at};
 ghost use Rattle.fleet_model.specs.Run.{IsSafeStep};
 ghost use Rattle.fleet_run.specs.Drive.{Drives, IsInTime};
+ghost use Rattle.fleet_run.specs.Fleet.{AreOnGoals};
 ghost use Rattle.fleet_run.specs.Source.{flag_of};
 
 use crate::rows::{flags_of, is_finished, rows_of};
@@ -50,6 +51,7 @@ impl<'g, P: ProgramView> Fleet<'g, P> {
         accepted: Accepted<'g, P>,
     ) -> Result<Fleet<'g, P>, StartRefusal<'g, P>>
         ensures started { IfOk result (λ f. f ≡ record { accepted = accepted.entry; configuration = opening (P.program accepted.entry.program) }) }
+        ensures counts { IfOk result (λ f. All (λ s. s.count ≡ 0) f.configuration) }
         ensures refused { IfErr result (λ r. r.accepted ≡ accepted.entry) }
     {
         ticks_are_safe();
@@ -68,7 +70,7 @@ impl<'g, P: ProgramView> Fleet<'g, P> {
     }
 
     /// One tick: every ready agent that is not held finishes one action, and all others stay. `held` has a flag for each
-    /// agent. Takes no memory.
+    /// agent. A tick of a finished fleet changes nothing. Takes no memory.
     pub fn tick(&mut self, held: &[bool]) -> Tick
         requires { length held.now ≡ length (P.program self.old.accepted.program) }
         ensures after { self.new ≡ record self.old { configuration = tick (P.program self.old.accepted.program) (flag_of held.now) self.old.configuration } }
@@ -76,6 +78,7 @@ impl<'g, P: ProgramView> Fleet<'g, P> {
         ensures held { result.ready_held ≡ is_ready_held (P.program self.old.accepted.program) (flag_of held.now) self.old.configuration }
         // All places are passable and differ, and no agent stands where another stood before.
         ensures safe { IsSafeStep (is_passable self.old.accepted.grid) (length (P.program self.old.accepted.program)) self.old.configuration self.new.configuration }
+        ensures rest { IsTrue (is_finished (P.program self.old.accepted.program) self.old.configuration) → (self.new ≡ self.old) × (result.moved ≡ 0) × (result.ready_held ≡ false) }
     {
         awaits_are_chains();
         ticks_are_safe();
@@ -87,10 +90,13 @@ impl<'g, P: ProgramView> Fleet<'g, P> {
         )
     }
 
-    /// Whether no action is left.
+    /// Whether no action is left. Then every agent stands on its goal.
     pub fn finished(&self) -> bool
-        ensures { result ≡ is_finished (P.program self.now.accepted.program) self.now.configuration }
+        ensures finished { result ≡ is_finished (P.program self.now.accepted.program) self.now.configuration }
+        ensures arrived { IsTrue result → AreOnGoals (P.program self.now.accepted.program) self.now.configuration }
     {
+        awaits_are_chains();
+        runs_arrive();
         is_finished(self.accepted.program(), &self.rows)
     }
 
@@ -147,6 +153,9 @@ pub fn drive<P: ProgramView, S: HoldSource, O: TraceOut>(
         (record { last = S.last source.old; now = S.last source.new; left = S.ticks source.new; fault = S.fault source.new; before = O.taken out.old; taken = O.taken out.new; has_failed = O.has_failed out.new })
         fleet.new.configuration result }
     ensures in_time { IfOk result IsInTime }
+    ensures arrived { IfOk result (λ _. AreOnGoals (P.program fleet.old.accepted.program) fleet.new.configuration) }
+    // It reports unless the source or the sink has failed, or the source had more ticks than a run takes.
+    ensures reports { S.fault source.new ≡ None → O.has_failed out.new ≡ false → length (S.ticks source.old) ≤ 4194304 → IsOk result }
 {
     awaits_are_chains();
     runs_arrive();

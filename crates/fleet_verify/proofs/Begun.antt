@@ -13,7 +13,7 @@ use Rattle.fleet_model.specs.declared.program.Visit.{Visit}
 use Rattle.fleet_model.specs.Geometry.{place_of, moved}
 use Rattle.fleet_model.specs.Machine.{indices}
 use Rattle.fleet_model.specs.Program.{Program, origin, dir_of, path}
-use Rattle.fleet_verify.specs.declared.walk.Stay.{Stay}
+use Rattle.fleet_verify.specs.declared.watch.Stay.{Stay}
 use Rattle.fleet_verify.specs.Walk.{begun_by, IsStay, AreCells}
 use Rattle.fleet_verify.proofs.Paths.{path_step}
 use Rattle.std.proofs.Common.{Option, None, rules}

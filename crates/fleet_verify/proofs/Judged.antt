@@ -11,11 +11,11 @@ use Rattle.fleet_model.specs.Program.{Program, moves, path}
 use Rattle.fleet_model.specs.Visit.{IsVisitOf, Adjacent, ComesAfterByAwait, IsOrderly}
 use Rattle.fleet_model.specs.Visit.{IsVisit}
 use Rattle.fleet_verify.proofs.Listing.{levels_number}
-use Rattle.fleet_verify.specs.declared.walk.Stay.{Stay}
+use Rattle.fleet_verify.specs.declared.watch.Stay.{Stay}
 use Rattle.fleet_verify.specs.declared.fault.VerifyFault.{VerifyFault}
 use Rattle.fleet_verify.specs.declared.fault.VerifyFault.TheVariants.{Unordered}
-use Rattle.fleet_verify.specs.declared.breaks.Break.{Break}
-use Rattle.fleet_verify.specs.Order.{same_place, visits_of, IsFirstBreak, IsJudged, AreAllStays}
+use Rattle.fleet_verify.specs.declared.watch.Break.{Break}
+use Rattle.fleet_verify.specs.Order.{same_place, visits_of, IsFirstBreak, IsJudged, AreAllStays, AreBreaks}
 use Rattle.fleet_verify.proofs.Ordered.{same_place-true}
 use Rattle.fleet_verify.specs.Faults.{HasRanges, IsFault, IsSooner, IsOrderlyAt}
 
@@ -84,10 +84,6 @@ pub judged_first : (p : Program) (stays : List Stay) (agent : ℕ) (c : Cell) �
 judged_first p stays agent c h e t = subst (AreJudged p stays agent) (omega arith) (judged_more p stays agent 0 c h (starts_on p agent c e) t)
 
 -- ---- by the breaks of the cells
-
--- for each cell the first of its visits that break the rule
-abbrev pub AreBreaks : Program → List Stay → (Cell → Option Break) → Type 0
-AreBreaks p stays breaks = (c : Cell) → IsJudged (ComesAfterByAwait p) (visits_of (place_of c) stays) (breaks c)
 
 pub unbroken : (p : Program) (stays : List Stay) (breaks : Cell → Option Break) → AreBreaks p stays breaks → (c : Cell) → breaks c ≡ None → InTurn p stays (place_of c)
 unbroken p stays breaks h c e = subst (IsJudged (ComesAfterByAwait p) (visits_of (place_of c) stays)) e (h c)

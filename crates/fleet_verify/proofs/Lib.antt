@@ -19,6 +19,7 @@ pub mod ReadyBy
 pub mod Pigeon
 pub mod Paths
 pub mod Ranges
+pub mod AgentRight
 pub mod Begun
 pub mod UnderWay
 pub mod FreeRun

@@ -16,9 +16,9 @@ use Rattle.fleet_model.specs.Geometry.{place_of}
 use Rattle.fleet_model.specs.Program.{Program, awaits_of}
 use Rattle.fleet_model.specs.Visit.{Adjacent, ComesAfterByAwait}
 use Rattle.fleet_verify.proofs.Neighbours.{adjacent_at}
-use Rattle.fleet_verify.specs.declared.walk.Stay.{Stay}
-use Rattle.fleet_verify.specs.declared.breaks.Break.{Break}
-use Rattle.fleet_verify.specs.Order.{same_place, visits_of, is_cell, IsFirstBreak, IsJudged, IsJudgedNext}
+use Rattle.fleet_verify.specs.declared.watch.Stay.{Stay}
+use Rattle.fleet_verify.specs.declared.watch.Break.{Break}
+use Rattle.fleet_verify.specs.Order.{same_place, visits_of, is_cell, IsFirstBreak, IsJudged, IsJudgedNext, IsLast, IsWatched}
 
 -- ---- the rule
 
@@ -32,11 +32,6 @@ not_after p v w k own none l (inl (e, h)) = own e h
 not_after p v w k own none l (inr (a, (m, n, e), g, h)) = none m a (omega arith) (slice_get-get_or (awaits_of p w.agent w.position) m a n ∙ ap Some e) g h
 
 -- ---- lists
-
--- the last visit of the list, if it has one
-abbrev pub IsLast : List Visit → Option Visit → Type 0
-IsLast l None = l ≡ []
-IsLast l (Some v) = (xs : List Visit) × (l ≡ xs ++ v ∷ [])
 
 pub adjacent_push : (R : Visit → Visit → Type 0) (xs : List Visit) (v w : Visit) → Adjacent R (xs ++ v ∷ []) → R v w → Adjacent R ((xs ++ v ∷ []) ++ w ∷ [])
 adjacent_push R [] v w a r = (r, tt)
@@ -134,11 +129,6 @@ first_break_on R l rest v w b = record {
       let within = slice_get_within l (b.at + 1) w b.next in
       b.sooner k x y m (sym (slice_get_front l rest k (omega arith)) ∙ e) (sym (slice_get_front l rest (k + 1) (omega arith)) ∙ f);
 }
-
--- the last visit of the cell among the stays so far, and how they are judged
-pub record IsWatched (p : Program) (c : Cell) (stays : List Stay) (final : Option Visit) (found : Option Break) : Type 0 where
-  pub last : IsLast (visits_of (place_of c) stays) final
-  pub judged : IsJudged (ComesAfterByAwait p) (visits_of (place_of c) stays) found
 
 pub watched_none : (p : Program) (c : Cell) → IsWatched p c [] None None
 unfolding visits_of

@@ -28,7 +28,7 @@ use Rattle.fleet_verify.proofs.Members.{contains_head, contains_later, contains_
 use Rattle.fleet_verify.proofs.Finish.{finished_from}
 use Rattle.fleet_verify.proofs.Listing.{levels_number}
 use Rattle.fleet_verify.proofs.Neighbours.{adjacent_from}
-use Rattle.fleet_verify.specs.declared.walk.Stay.{Stay}
+use Rattle.fleet_verify.specs.declared.watch.Stay.{Stay}
 use Rattle.fleet_verify.specs.Walk.{begun_in, IsStay, IsWalk}
 use Rattle.fleet_verify.specs.Order.{same_place, visits_of, AreAllStays}
 use Rattle.fleet_verify.specs.Faults.{HasRanges, AwaitsRight, EachAction}

@@ -18,8 +18,8 @@ use Rattle.fleet_verify.specs.Walk.{AreCounts, IsReadyBy}
 use Rattle.fleet_verify.proofs.Counts.{count_past, count_opening}
 use Rattle.fleet_verify.proofs.Readiness.{Stays, step, ready_says, ready_from}
 use Rattle.fleet_verify.proofs.ReadyBy.{ready_by, by_ready}
-use Rattle.fleet_verify.specs.declared.walk.Stay.{Stay}
-use Rattle.fleet_verify.specs.Walk.{begun_by, begun_in, IsStay, AreCells, IsWalk}
+use Rattle.fleet_verify.specs.declared.watch.Stay.{Stay}
+use Rattle.fleet_verify.specs.Walk.{counted, is_ready_by, begun_by, begun_in, IsStay, AreCells, IsWalk}
 use Rattle.fleet_verify.proofs.Begun.{indices_more, begun_yes, begun_no}
 
 -- ---- the start
@@ -32,6 +32,16 @@ pub record IsOpening (p : Program) (counts : List ℕ) (cells : List Cell) (stay
   pub starts : (k : ℕ) → k < n → get_or cells k origin ≡ start_of p k
   pub visits : map (λ s. s.visit) stays ≡ map (λ i. record { agent = i; position = 0 }) (indices n)
   pub each : All (IsStay p) stays
+
+pub opening_none : (p : Program) → IsOpening p [] [] [] 0
+opening_none p = record {
+  long = refl;
+  wide = refl;
+  none = λ k. refl;
+  starts = λ k l. absurd (omega arith);
+  visits = refl;
+  each = λ k d l. absurd (omega arith);
+}
 
 abbrev first : ℕ → Visit
 first i = record { agent = i; position = 0 }
@@ -102,30 +112,42 @@ begun_same m k c d (suc n) h e = subst (λ x. begun_by m c x ≡ begun_by k d x)
         ∙ sym (begun_yes k d n (sym (h n (omega arith)) ∙ f))))
     go false f rest = begun_no m c n f ∙ (rest ∙ sym (begun_no k d n (sym (h n (omega arith)) ∙ f)))
 
+pub counted_counts : (counts : List ℕ) → AreCounts (counted counts) counts
+counted_counts [] i = refl
+counted_counts (n ∷ counts) zero = refl
+counted_counts (n ∷ counts) (suc i) = counted_counts counts i
+
+-- the flag of an agent is its readiness by counts
+pub flag_ready : (p : Program) (counts : List ℕ) (i : ℕ) (b : Bool) → IsTrue b ↔ IsReadyBy p counts i → is_ready_by p counts i ≡ b
+flag_ready p counts i b h = sym (same_ready p (counted counts) counts (counted_counts counts) i b h)
+
+ready_by_counts : (p : Program) (c : Configuration) (counts : List ℕ) → AreCounts c counts → (i : ℕ) → is_ready_by p counts i ≡ is_ready p c i
+ready_by_counts p c counts at i = same_ready p c counts at i (is_ready_by p counts i) (
+  (λ e. ready_by p (counted counts) counts (counted_counts counts) i (ready_says p (counted counts) i e)),
+  (λ e. ready_from p (counted counts) i (by_ready p (counted counts) counts (counted_counts counts) i e)),
+)
+
 -- the counts after a tick
-counts_more : (p : Program) (t : ℕ) (flags : List Bool) (counts next : List ℕ) → length counts ≡ length p → AreCounts (run p [] t) counts
-    → ((i : ℕ) → i < length p → get_or flags i false ≡ is_ready p (run p [] t) i)
-    → ((i : ℕ) → slice_index next i ≡ slice_index counts i + (cond (get_or flags i false) 1 0)) → length flags ≡ length p
+counts_more : (p : Program) (t : ℕ) (counts next : List ℕ) → length counts ≡ length p → AreCounts (run p [] t) counts
+    → ((i : ℕ) → i < length p → slice_index next i ≡ slice_index counts i + (cond (is_ready_by p counts i) 1 0)) → length next ≡ length p
     → AreCounts (run p [] (suc t)) next
-counts_more p t flags counts next long at same more wide i = go (cases_lt i (length p))
+counts_more p t counts next long at more wide i = go (cases_lt i (length p))
   where
     go : (i < length p) ⊎ (length p ≤ i) → slice_index next i ≡ count_at (run p [] (suc t)) i
     go (inr l) =
-        let f : get_or flags i false ≡ false = get_or_past flags i false (omega arith) in
-        let e : slice_index next i ≡ slice_index counts i + 0 = more i ∙ rw f refl in
-        let z : slice_index counts i ≡ 0 = get_or_past counts i 0 (omega arith) in
+        let z : slice_index next i ≡ 0 = get_or_past next i 0 (omega arith) in
         let y : count_at (run p [] (suc t)) i ≡ 0 = count_past p [] (suc t) i l in
         omega arith
     go (inl l) = elim (step p [] t i l) [
       | inl m ↦
-          let f : get_or flags i false ≡ true = same i l ∙ ready_from p (run p [] t) i m.ready in
-          let e : slice_index next i ≡ slice_index counts i + 1 = more i ∙ rw f refl in
+          let f : is_ready_by p counts i ≡ true = ready_by_counts p (run p [] t) counts at i ∙ ready_from p (run p [] t) i m.ready in
+          let e : slice_index next i ≡ slice_index counts i + 1 = more i l ∙ rw f refl in
           let k : slice_index counts i ≡ count_at (run p [] t) i = at i in
           let y : count_at (run p [] (suc t)) i ≡ suc (count_at (run p [] t) i) = m.count in
           omega arith
       | inr s ↦
-          let f : get_or flags i false ≡ false = same i l ∙ not_ready s in
-          let e : slice_index next i ≡ slice_index counts i + 0 = more i ∙ rw f refl in
+          let f : is_ready_by p counts i ≡ false = ready_by_counts p (run p [] t) counts at i ∙ not_ready s in
+          let e : slice_index next i ≡ slice_index counts i + 0 = more i l ∙ rw f refl in
           let k : slice_index counts i ≡ count_at (run p [] t) i = at i in
           let y : count_at (run p [] (suc t)) i ≡ count_at (run p [] t) i = s.count in
           omega arith
@@ -157,30 +179,26 @@ none_over p c h = go (is_over p c) refl
 
 -- ---- one tick more, and the end
 
-pub ticked : (p : Program) (counts next : List ℕ) (cells after : List Cell) (stays more : List Stay) (flags : List Bool) (t : ℕ) → IsUnderWay p counts cells stays t
-    → length flags ≡ length p → length next ≡ length p
-    → ((i : ℕ) → i < length p → IsTrue (get_or flags i false) ↔ IsReadyBy p counts i)
+pub ticked : (p : Program) (counts next : List ℕ) (cells after : List Cell) (stays more : List Stay) (t : ℕ) → IsUnderWay p counts cells stays t
+    → length next ≡ length p
     → ((i : ℕ) × (i < length p) × IsReadyBy p counts i)
-    → ((i : ℕ) → slice_index next i ≡ slice_index counts i + (cond (get_or flags i false) 1 0))
+    → ((i : ℕ) → i < length p → slice_index next i ≡ slice_index counts i + (cond (is_ready_by p counts i) 1 0))
     → AreCells p next after
-    → map (λ s. s.visit) more ≡ map (λ s. s.visit) stays ++ begun_by (λ i. get_or flags i false) (slice_index counts) (length p)
+    → map (λ s. s.visit) more ≡ map (λ s. s.visit) stays ++ begun_by (is_ready_by p counts) (slice_index counts) (length p)
     → All (IsStay p) more
     → IsUnderWay p next after more (t + 1)
 unfolding begun_in
-ticked p counts next cells after stays more flags t h wide long judged some moved here visits each =
+ticked p counts next cells after stays more t h long some moved here visits each =
     subst (IsUnderWay p next after more) (sym (add-one t)) (record {
       all = long;
-      finished = counts_more p t flags counts next h.all h.finished same moved wide;
+      finished = counts_more p t counts next h.all h.finished moved long;
       here = here;
-      visits = visits ∙ (ap (λ vs. vs ++ begun_by (λ i. get_or flags i false) (slice_index counts) (length p)) h.visits
-          ∙ ap (λ vs. begun_in p t ++ vs) (begun_same (λ i. get_or flags i false) (is_ready p (run p [] t)) (slice_index counts) (count_at (run p [] t)) (length p) same h.finished));
+      visits = visits ∙ (ap (λ vs. vs ++ begun_by (is_ready_by p counts) (slice_index counts) (length p)) h.visits
+          ∙ ap (λ vs. begun_in p t ++ vs) (begun_same (is_ready_by p counts) (is_ready p (run p [] t)) (slice_index counts) (count_at (run p [] t)) (length p) (λ i l. ready_by_counts p (run p [] t) counts h.finished i) h.finished));
       each = each;
       sooner = λ s l. at s (cases_eq s t) l;
     })
   where
-    same : (i : ℕ) → i < length p → get_or flags i false ≡ is_ready p (run p [] t) i
-    same i l = same_ready p (run p [] t) counts h.finished i (get_or flags i false) (judged i l)
-
     at : (s : ℕ) → (s ≡ t) ⊎ (s ≡ t → ⊥) → s < suc t → is_over p (run p [] s) ≡ false
     at s (inl e) l = ap (λ x. is_over p (run p [] x)) e ∙ ready_not_over p (run p [] t) some.0 some.1 (ready_from p (run p [] t) some.0 (by_ready p (run p [] t) counts h.finished some.0 some.2))
     at s (inr ne) l = h.sooner s (omega arith)
@@ -213,34 +231,14 @@ walk_ends p counts cells stays t h enough = walk_made p counts cells stays t h (
 pub written_back : {X : Type 0} (n : ℕ) (new old : List X) → length new ≡ n → take n (new ++ drop (length new) old) ≡ new
 written_back n new old e = take_at new (drop (length new) old) n e
 
--- the same, where the calls saw the rows as such lists
-pub ticked_seen : (p : Program) (counts next : List ℕ) (cells after : List Cell) (stays more : List Stay) (flags : List Bool) (t : ℕ) (seen old : List ℕ) (marks : List Bool) → IsUnderWay p counts cells stays t
-    → seen ≡ counts → old ≡ counts → marks ≡ flags
-    → length flags ≡ length p → length next ≡ length p
-    → ((i : ℕ) → i < length p → IsTrue (get_or flags i false) ↔ IsReadyBy p seen i)
+-- the same, where the calls saw the counts as such a list
+pub ticked_seen : (p : Program) (counts seen next : List ℕ) (cells after : List Cell) (stays more : List Stay) (t : ℕ) → IsUnderWay p counts cells stays t → seen ≡ counts
+    → length next ≡ length p
     → ((i : ℕ) × (i < length p) × IsReadyBy p seen i)
-    → ((i : ℕ) → slice_index next i ≡ slice_index old i + (cond (get_or marks i false) 1 0))
+    → ((i : ℕ) → i < length p → slice_index next i ≡ slice_index seen i + (cond (is_ready_by p seen i) 1 0))
     → AreCells p next after
-    → map (λ s. s.visit) more ≡ map (λ s. s.visit) stays ++ begun_by (λ i. get_or marks i false) (slice_index old) (length p)
+    → map (λ s. s.visit) more ≡ map (λ s. s.visit) stays ++ begun_by (is_ready_by p seen) (slice_index seen) (length p)
     → All (IsStay p) more
     → IsUnderWay p next after more (t + 1)
-ticked_seen p counts next cells after stays more flags t seen old marks h e f g wide long judged some moved here visits each =
-    ticked p counts next cells after stays more flags t h wide long
-    (subst (λ (xs : List ℕ). (i : ℕ) → i < length p → IsTrue (get_or flags i false) ↔ IsReadyBy p xs i) e judged)
-    (subst (λ (xs : List ℕ). (i : ℕ) × (i < length p) × IsReadyBy p xs i) e some)
-    (subst (λ (xs : List ℕ). (i : ℕ) → slice_index next i ≡ slice_index xs i + (cond (get_or flags i false) 1 0)) f
-    (subst (λ (m : List Bool). (i : ℕ) → slice_index next i ≡ slice_index old i + (cond (get_or m i false) 1 0)) g moved))
-    here
-    (subst (λ (xs : List ℕ). map (λ s. s.visit) more ≡ map (λ s. s.visit) stays ++ begun_by (λ i. get_or flags i false) (slice_index xs) (length p)) f
-    (subst (λ (m : List Bool). map (λ s. s.visit) more ≡ map (λ s. s.visit) stays ++ begun_by (λ i. get_or m i false) (slice_index old) (length p)) g visits))
-    each
-
--- who is flagged has an action left
-pub flagged_left : (p : Program) (counts seen old : List ℕ) (flags marks : List Bool) → seen ≡ counts → old ≡ counts → marks ≡ flags
-    → ((i : ℕ) → i < length p → IsTrue (get_or flags i false) ↔ IsReadyBy p seen i)
-    → (i : ℕ) → i < length p → IsTrue (get_or marks i false) → slice_index old i < moves p i
-flagged_left p counts seen old flags marks e f g judged i l h =
-    let r = (judged i l).0 (subst (λ (m : List Bool). IsTrue (get_or m i false)) g h) in
-    let a : slice_index seen i < moves p i = r.left in
-    let b : slice_index seen i ≡ slice_index old i = ap (λ (xs : List ℕ). slice_index xs i) (e ∙ sym f) in
-    omega arith
+ticked_seen p counts seen next cells after stays more t h e long some moved here visits each =
+    ticked p seen next cells after stays more t (subst (λ (xs : List ℕ). IsUnderWay p xs cells stays t) (sym e) h) long some moved here visits each

@@ -1,5 +1,5 @@
 -- The visits of a place among all visits in their order, and the first neighbours that break a rule.
-use Rattle.std.specs.Prelude.{◌≡◌, ℕ, ◌+◌, ◌<◌, Bool, ◌&&◌, List, map, filter, slice_get, Option, Some, None, All, Contains, ◌⊎◌, nat_eq}
+use Rattle.std.specs.Prelude.{◌≡◌, ℕ, ◌+◌, ◌<◌, Bool, ◌&&◌, List, map, filter, slice_get, Option, Some, None, All, Contains, ◌⊎◌, nat_eq, [], ◌∷◌, ◌++◌}
 use Rattle.std.specs.List.{AllPairs}
 use Rattle.std.specs.Ordering.{int_eq}
 use Rattle.fleet_model.specs.declared.geometry.Cell.{Cell}
@@ -8,10 +8,12 @@ use Rattle.fleet_model.specs.declared.program.ActionId.{ActionId}
 use Rattle.fleet_model.specs.declared.program.Visit.{Visit}
 use Rattle.fleet_model.specs.Geometry.{place_of}
 use Rattle.fleet_model.specs.Program.{Program}
-use Rattle.fleet_model.specs.Visit.{IsVisit, Adjacent}
+use Rattle.fleet_model.specs.Visit.{IsVisit, Adjacent, ComesAfterByAwait}
 use Rattle.fleet_verify.specs.Listing.{AreLevels, IsBefore, IsSortedListing}
-use Rattle.fleet_verify.specs.declared.breaks.Break.{Break}
-use Rattle.fleet_verify.specs.declared.walk.Stay.{Stay}
+use Rattle.fleet_verify.specs.declared.watch.Break.{Break}
+use Rattle.fleet_verify.specs.declared.watch.Stay.{Stay}
+use Rattle.fleet_verify.specs.declared.watch.Watch.{Watch}
+use Rattle.indexmap.specs.IndexMap.{get}
 
 abbrev pub same_place : Place → Place → Bool
 same_place q r = int_eq q.x r.x && int_eq q.y r.y
@@ -52,3 +54,21 @@ pub record AreAllStays (p : Program) (stays : List Stay) : Type 0 where
   pub all : (v : Visit) → IsVisit p v → Contains (map (λ s. s.visit) stays) v
   pub in_order : AllPairs (λ s u. IsBefore level s.visit u.visit) stays
   pub sorted : (q : Place) → IsSortedListing p level q (visits_of q stays)
+
+-- the last visit of the list, if it has one
+abbrev pub IsLast : List Visit → Option Visit → Type 0
+IsLast l None = l ≡ []
+IsLast l (Some v) = (xs : List Visit) × (l ≡ xs ++ v ∷ [])
+
+-- the last visit of the cell among the stays so far, and how they are judged
+pub record IsWatched (p : Program) (c : Cell) (stays : List Stay) (final : Option Visit) (found : Option Break) : Type 0 where
+  pub last : IsLast (visits_of (place_of c) stays) final
+  pub judged : IsJudged (ComesAfterByAwait p) (visits_of (place_of c) stays) found
+
+-- so it is for each cell
+abbrev pub AreWatched : Program → Watch → Type 0
+AreWatched p w = (c : Cell) → IsWatched p c w.stays.items (get is_cell w.last c) (get is_cell w.breaks c)
+
+-- each cell's first neighbours that break the rule
+abbrev pub AreBreaks : Program → List Stay → (Cell → Option Break) → Type 0
+AreBreaks p stays breaks = (c : Cell) → IsJudged (ComesAfterByAwait p) (visits_of (place_of c) stays) (breaks c)

@@ -6,7 +6,7 @@ use Rattle.fleet_model.specs.declared.program.Visit.{Visit}
 use Rattle.fleet_model.specs.Geometry.{place_of}
 use Rattle.fleet_model.specs.Program.{Program, origin, moves, awaits_of, path}
 use Rattle.fleet_model.specs.Machine.{Configuration, count_at, is_ready, run, is_over, indices}
-use Rattle.fleet_verify.specs.declared.walk.Stay.{Stay}
+use Rattle.fleet_verify.specs.declared.watch.Stay.{Stay}
 
 -- the counts of the configuration
 abbrev pub AreCounts : Configuration → List ℕ → Type 0
@@ -16,6 +16,14 @@ AreCounts c counts = (i : ℕ) → slice_index counts i ≡ count_at c i
 pub record IsReadyBy (p : Program) (counts : List ℕ) (i : ℕ) : Type 0 where
   pub left : slice_index counts i < moves p i
   pub met : (w : Await) → Contains (awaits_of p i (slice_index counts i + 1)) w → w.count ≤ slice_index counts w.agent
+
+-- a configuration with these counts
+abbrev pub counted : List ℕ → Configuration
+counted counts = map (λ n. record { place = place_of origin; count = n }) counts
+
+-- the machine's readiness, by counts
+abbrev pub is_ready_by : Program → List ℕ → ℕ → Bool
+is_ready_by p counts i = is_ready p (counted counts) i
 
 -- the visits that the agents below n begin which finish an action, where so many were finished before
 abbrev pub begun_by : (ℕ → Bool) → (ℕ → ℕ) → ℕ → List Visit

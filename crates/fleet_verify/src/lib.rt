@@ -6,16 +6,17 @@
 #![tactic(auto)]
 
 mod accepted;
-mod breaks;
 mod ends;
 mod fault;
 mod order;
 mod orders;
+mod right;
 mod ring;
 mod runs;
 mod steps;
 mod verifier;
 mod walk;
+mod watch;
 
 pub use accepted::{Accepted, Refused};
 pub use fault::VerifyFault;

@@ -5,45 +5,43 @@ ghost use Rattle.indexmap.specs.IndexMap.{get};
 ghost use Rattle.fleet_model.specs.Program.{moves};
 ghost use Rattle.fleet_model.specs.Visit.{ComesAfterByAwait, IsOrderly};
 ghost use Rattle.fleet_grid.specs.Ground.{is_passable};
-ghost use Rattle.fleet_verify.specs.declared.breaks.Break.{Break};
+ghost use Rattle.fleet_verify.specs.declared.watch.Break.{Break};
 ghost use Rattle.fleet_verify.specs.declared.fault.VerifyFault.TheVariants.{Unordered};
-ghost use Rattle.fleet_verify.specs.Order.{is_cell, AreAllStays};
+ghost use Rattle.fleet_verify.specs.Order.{is_cell, AreAllStays, AreBreaks};
 ghost use Rattle.fleet_verify.specs.Faults.{HasRanges, IsFault};
 
-use crate::breaks::{Break, find_breaks};
 use crate::fault::VerifyFault;
-use crate::walk::Stay;
+use crate::watch::{Break, Watch};
 use fleet_grid::Grid;
 use fleet_model::{Cell, ProgramView};
 use fleet_scen::Instance;
 use indexmap::IndexMap;
-use std::alloc::Global;
 
-/// Whether the visits of each cell come one after another, in the order of the stays.
+/// Whether the visits of each cell come one after another, where all visits were noted. Cells are looked through only where some do not.
 pub fn check_order<P: ProgramView>(
-    alloc: Global,
     program: &P,
     grid: &Grid,
     instance: &Instance,
-    stays: &[Stay],
+    watch: &Watch,
 ) -> Result<(), VerifyFault>
     requires before { HasRanges (is_passable grid.now) instance.now (P.program program.now) }
-    requires stays { AreAllStays (P.program program.now) stays.now }
+    requires stays { AreAllStays (P.program program.now) watch.now.stays.items }
+    requires breaks { AreBreaks (P.program program.now) watch.now.stays.items (get is_cell watch.now.breaks) }
     ensures ok { OnOk result (IsOrderly ComesAfterByAwait (P.program program.now)) }
     ensures err { IfErr result (λ f. IsFault (is_passable grid.now) instance.now (P.program program.now) f) }
 {
-    let breaks = find_breaks(alloc, program, stays)?;
+    let breaks = &watch.breaks;
     if breaks.is_empty() {
         return Ok(());
     }
     for agent in 0..program.agents() {
         let mut cell = program.start(agent);
-        check_cell(&breaks, cell)?;
+        check_cell(breaks, cell)?;
         for finished in 0..program.moves(agent) {
             cell = grid
                 .neighbour(cell, program.dir(agent, finished + 1))
                 .unwrap();
-            check_cell(&breaks, cell)?;
+            check_cell(breaks, cell)?;
         }
     }
     Ok(())

@@ -83,7 +83,8 @@ fn wrong_range<P: ProgramView>(program: &P, agent: u16) -> Option<u32>
     None
 }
 
-fn are_in_range<P: ProgramView>(program: &P, agent: u16, action: u32) -> bool
+/// Whether each await of the action can be met.
+pub fn are_in_range<P: ProgramView>(program: &P, agent: u16, action: u32) -> bool
     requires agent { agent < length (P.program program.now) }
     requires first { 1 ≤ action }
     requires last { action ≤ moves (P.program program.now) agent }

@@ -15,11 +15,11 @@ ghost use Rattle.fleet_verify.specs.Faults.{IsFault};
 ghost use Rattle.fleet_verify.specs.Parts.{IsAcceptedFor};
 
 use crate::accepted::{Accepted, Refused};
-use crate::ends::{check_ends, check_fleet, check_starts};
+use crate::ends::check_fleet;
 use crate::fault::VerifyFault;
 use crate::order::check_order;
+use crate::right::check_agents;
 use crate::ring::find_ring;
-use crate::steps::{check_ranges, check_steps};
 use crate::walk::run_free;
 use fleet_grid::Grid;
 use fleet_model::ProgramView;
@@ -69,16 +69,13 @@ fn judge<P: ProgramView>(
     ensures err { IfErr result (λ f. IsFault (is_passable grid.now) instance.now (P.program program.now) f) }
 {
     check_fleet(program, instance)?;
-    check_starts(program, instance)?;
-    check_ends(program, instance)?;
-    check_steps(program, grid, instance)?;
-    check_ranges(program, grid, instance)?;
+    check_agents(program, grid, instance)?;
     let walk = run_free(alloc, program, grid)?;
     if !all_finished(program, &walk.counts) {
         let ring = find_ring(alloc, program, &walk.counts)?;
         return Err(VerifyFault::Cyclic(ring));
     }
-    check_order(alloc, program, grid, instance, &walk.stays)?;
+    check_order(program, grid, instance, &walk.watch)?;
     Ok(walk.ticks)
 }
 

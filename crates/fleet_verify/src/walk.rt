@@ -2,28 +2,21 @@
 
 ghost use Rattle.std.specs.Prelude.{◌≡◌, ◌<◌, ◌≤◌, ◌+◌, ◌++◌, ◌↔◌, ℕ, Bool, true, false, [], length, map, get_or, slice_index, IsTrue, IfOk, OnOk, All, if◌then◌else◌};
 ghost use Rattle.fleet_model.specs.Program.{moves, IsWellFormed};
-ghost use Rattle.fleet_model.specs.Machine.{Configuration, is_ready, indices};
-ghost use Rattle.fleet_verify.specs.Walk.{IsReadyBy, AreCounts};
 ghost use Rattle.fleet_grid.specs.Ground.{is_passable};
 ghost use Rattle.fleet_verify.specs.Faults.{EachAction, StandsRight};
-ghost use Rattle.fleet_verify.specs.Walk.{begun_by, IsStay, AreCells, IsWalk};
+ghost use Rattle.fleet_verify.specs.Order.{AreWatched};
+ghost use Rattle.fleet_verify.specs.Walk.{is_ready_by, IsReadyBy, begun_by, IsStay, AreCells, IsWalk};
 
+use crate::watch::{Stay, Watch};
 use fleet_grid::Grid;
 use fleet_model::{Cell, OutOfMemory, ProgramView, Visit, total_moves};
 use std::alloc::Global;
 
-/// A visit, and the cell that it is of.
-#[derive(Clone, Copy, Debug)]
-pub struct Stay {
-    pub visit: Visit,
-    pub cell: Cell,
-}
-
-/// How many actions each agent has finished in the end, all visits that were begun, in their order, and the number of ticks.
+/// How many actions each agent has finished in the end, all visits that were begun, and the number of ticks.
 #[derive(Drop)]
 pub struct Walk {
     pub counts: Vec<u32>,
-    pub stays: Vec<Stay>,
+    pub watch: Watch,
     pub ticks: u32,
 }
 
@@ -34,53 +27,38 @@ pub fn run_free<P: ProgramView>(
     grid: &Grid,
 ) -> Result<Walk, OutOfMemory>
     requires { EachAction (P.program program.now) (StandsRight (is_passable grid.now) (P.program program.now)) }
-    ensures { IfOk result (λ w. IsWalk (P.program program.now) w.counts.items w.stays.items w.ticks) }
+    ensures walk { IfOk result (λ w. IsWalk (P.program program.now) w.counts.items w.watch.stays.items w.ticks) }
+    ensures watched { IfOk result (λ w. AreWatched (P.program program.now) w.watch) }
 {
     let mut cells = Vec::new(alloc);
     let mut counts = Vec::new(alloc);
-    let mut moving = Vec::new(alloc);
-    let mut stays = Vec::new(alloc);
+    let mut next = Vec::new(alloc);
+    let mut watch = Watch::new(alloc);
     for agent in 0..program.agents() {
         let cell = program.start(agent);
         cells.push(cell)?;
         counts.push(0)?;
-        moving.push(false)?;
+        next.push(0)?;
         let visit = Visit { agent, position: 0 };
-        stays.push(Stay { visit, cell })?;
+        watch.note(program, Stay { visit, cell })?;
     }
     let most = total_moves(program);
     for ticks in 0..most {
-        if !judge(program, &counts, &mut moving) {
+        let some = advance(program, grid, &counts, &mut next, &mut cells, &mut watch)?;
+        if !some {
             return Ok(Walk {
                 counts,
-                stays,
+                watch,
                 ticks,
             });
         }
-        advance(program, grid, &moving, &mut counts, &mut cells, &mut stays)?;
+        counts.copy_from_slice(&next);
     }
     Ok(Walk {
         counts,
-        stays,
+        watch,
         ticks: most,
     })
-}
-
-/// Flags the ready agents, and answers whether there is one.
-fn judge<P: ProgramView>(program: &P, counts: &[u32], moving: &mut [bool]) -> bool
-    requires counts { length counts.now ≡ length (P.program program.now) }
-    requires moving { length moving.old ≡ length (P.program program.now) }
-    ensures flags { (i : ℕ) → i < length (P.program program.now) → IsTrue (get_or moving.new i false) ↔ IsReadyBy (P.program program.now) counts.now i }
-    ensures some { IsTrue result → (i : ℕ) × (i < length (P.program program.now)) × IsReadyBy (P.program program.now) counts.now i }
-    ensures none { result ≡ false → (i : ℕ) → i < length (P.program program.now) → IsReadyBy (P.program program.now) counts.now i → ⊥ }
-{
-    let mut some = false;
-    for i in 0..program.agents() {
-        let ready = is_ready(program, counts, i);
-        moving[i as usize] = ready;
-        some |= ready;
-    }
-    some
 }
 
 /// Whether an agent has an action left, and all that it awaits is finished.
@@ -105,39 +83,46 @@ fn is_ready<P: ProgramView>(program: &P, counts: &[u32], i: u16) -> bool
     true
 }
 
-/// The flagged agents finish an action each.
+/// A tick without holds: the agents that are ready by the counts finish an action each. `next` begins as the counts and ends as those
+/// after the tick. Answers whether an agent was ready.
 fn advance<P: ProgramView>(
     program: &P,
     grid: &Grid,
-    moving: &[bool],
-    counts: &mut [u32],
+    counts: &[u32],
+    next: &mut [u32],
     cells: &mut [Cell],
-    stays: &mut Vec<Stay>,
-) -> Result<(), OutOfMemory>
+    watch: &mut Watch,
+) -> Result<bool, OutOfMemory>
     requires steps { EachAction (P.program program.now) (StandsRight (is_passable grid.now) (P.program program.now)) }
-    requires moving { length moving.now ≡ length (P.program program.now) }
-    requires counts { length counts.old ≡ length (P.program program.now) }
-    requires left { (i : ℕ) → i < length (P.program program.now) → IsTrue (get_or moving.now i false) → slice_index counts.old i < moves (P.program program.now) i }
-    requires cells { AreCells (P.program program.now) counts.old cells.old }
-    requires stays { All (IsStay (P.program program.now)) stays.old.items }
-    ensures counts { OnOk result ((i : ℕ) → slice_index counts.new i ≡ slice_index counts.old i + (if get_or moving.now i false then 1 else 0)) }
-    ensures cells { OnOk result (AreCells (P.program program.now) counts.new cells.new) }
-    ensures visits { OnOk result (map (λ s. s.visit) stays.new.items
-        ≡ map (λ s. s.visit) stays.old.items ++ begun_by (λ i. get_or moving.now i false) (slice_index counts.old) (length (P.program program.now))) }
-    ensures stays { OnOk result (All (IsStay (P.program program.now)) stays.new.items) }
+    requires counts { length counts.now ≡ length (P.program program.now) }
+    requires next { next.old ≡ counts.now }
+    requires cells { AreCells (P.program program.now) counts.now cells.old }
+    requires stays { All (IsStay (P.program program.now)) watch.old.stays.items }
+    requires watched { AreWatched (P.program program.now) watch.old }
+    ensures some { IfOk result (λ b. IsTrue b → (i : ℕ) × (i < length (P.program program.now)) × IsReadyBy (P.program program.now) counts.now i) }
+    ensures none { IfOk result (λ b. b ≡ false → (i : ℕ) → i < length (P.program program.now) → IsReadyBy (P.program program.now) counts.now i → ⊥) }
+    ensures still { IfOk result (λ b. b ≡ false → watch.new.stays.items ≡ watch.old.stays.items) }
+    ensures counts { OnOk result ((i : ℕ) → i < length (P.program program.now) → slice_index next.new i ≡ slice_index counts.now i + (if is_ready_by (P.program program.now) counts.now i then 1 else 0)) }
+    ensures cells { OnOk result (AreCells (P.program program.now) next.new cells.new) }
+    ensures visits { OnOk result (map (λ s. s.visit) watch.new.stays.items
+        ≡ map (λ s. s.visit) watch.old.stays.items ++ begun_by (is_ready_by (P.program program.now) counts.now) (slice_index counts.now) (length (P.program program.now))) }
+    ensures stays { OnOk result (All (IsStay (P.program program.now)) watch.new.stays.items) }
+    ensures watched { OnOk result (AreWatched (P.program program.now) watch.new) }
 {
+    let mut some = false;
     for agent in 0..program.agents() {
-        let i = agent as usize;
-        if moving[i] {
-            let position = counts[i] + 1;
+        if is_ready(program, counts, agent) {
+            let i = agent as usize;
+            let position = next[i] + 1;
             let cell = grid
                 .neighbour(cells[i], program.dir(agent, position))
                 .unwrap();
-            counts[i] = position;
+            next[i] = position;
             cells[i] = cell;
             let visit = Visit { agent, position };
-            stays.push(Stay { visit, cell })?;
+            watch.note(program, Stay { visit, cell })?;
+            some = true;
         }
     }
-    Ok(())
+    Ok(some)
 }

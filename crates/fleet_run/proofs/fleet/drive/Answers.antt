@@ -1,6 +1,7 @@
 use Rattle.std.proofs.Common.{◌≡◌, ℕ, length, arith, [], ◌∙◌, ap, sym, subst}
+use Rattle.std.specs.Prelude.{IfOk}
 use Rattle.fleet_grid.specs.Ground.{is_passable}
-use Rattle.fleet_run.specs.Fleet.{IsShown}
+use Rattle.fleet_run.specs.Fleet.{IsShown, AreOnGoals}
 use Rattle.fleet_model.specs.Run.{Arrives}
 use Rattle.fleet_model.specs.Machine.{run, opening, standing_at, IsFinish}
 use Rattle.fleet_run.specs.Near.{AreNear}
@@ -8,6 +9,7 @@ use Rattle.fleet_run.proofs.Kept.{written_back}
 use Rattle.fleet_model.proofs.Tick.{length-run}
 use Rattle.fleet_run.proofs.UnderWay.{AreNear-run}
 use Rattle.fleet_run.proofs.Driven.{left_in_run, run_is_reached, at_opening, told_in_time}
+use Rattle.fleet_run.proofs.Finished.{arrived_if_told}
 use Rattle.fleet_run.proofs.fleet.drive.Goals as goal
 
 pub run_trace-requires-clause-rows : goal.run_trace-requires-clause-rows
@@ -71,3 +73,19 @@ returns-clause-in_time g c =
     let arrive = λ (f : ℕ) (h : IsFinish p holds f). c.runs_arrive.ensures.arrive (is_passable parts.grid) parts.instance p accepted holds c.chain-chain.result f longest h in
     let still = subst (λ q. (f : ℕ) → IsFinish q holds f → Arrives q holds c.chain-chain.result f) (sym same) arrive in
     told_in_time (g.P.ProgramView.program c.program.result.now) c.chain-chain.result holds _ c.run_trace.new.rows c.run_trace.result still c.run_trace.ensures
+
+pub returns-clause-arrived : goal.returns-clause-arrived
+returns-clause-arrived g c =
+    let running = c.fleet.invariant in
+    let parts = c.fleet.inside.accepted in
+    let p = g.P.ProgramView.program parts.program in
+    let holds = g.S.HoldSource.ticks c.args.source.now in
+    let rows : length c.run_trace.new.rows ≡ c.fleet.inside.rows.len = omega (arith, c.run_trace.auto.rows, c.deref_mut.ensures.len) in
+    let same : g.P.ProgramView.program c.program.result.now ≡ p = ap g.P.ProgramView.program c.program.ensures in
+    let accepted = c.awaits_are_chains.ensures (is_passable parts.grid) parts.instance p running.accepted_for.accepted in
+    let longest = c.chain-chain.ensures.accepted.longest in
+    let arrive = λ (f : ℕ) (h : IsFinish p holds f). c.runs_arrive.ensures.arrive (is_passable parts.grid) parts.instance p accepted holds c.chain-chain.result f longest h in
+    let still = subst (λ q. (f : ℕ) → IsFinish q holds f → Arrives q holds c.chain-chain.result f) (sym same) arrive in
+    let told = arrived_if_told (g.P.ProgramView.program c.program.result.now) c.chain-chain.result holds _ c.run_trace.new.rows c.run_trace.result still c.run_trace.ensures in
+    let here : IfOk c.run_trace.result (λ _. AreOnGoals p c.run_trace.new.rows) = subst (λ q. IfOk c.run_trace.result (λ _. AreOnGoals q c.run_trace.new.rows)) same told in
+    rw (← c.fleet.view_is, written_back c.fleet.inside.rows.len c.run_trace.new.rows c.fleet.inside.rows.items rows) here

@@ -1,4 +1,4 @@
-use Rattle.std.proofs.Common.{sym, ◌∙◌}
+use Rattle.std.proofs.Common.{sym}
 use Rattle.std.proofs.lemmas.List.{take_rest}
 use Rattle.fleet_run.proofs.HoldLemmas.{cut_at, cut_nowhere}
 use Rattle.fleet_run.proofs.hold_text.cut.Goals as goal

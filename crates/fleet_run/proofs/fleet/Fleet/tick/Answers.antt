@@ -1,11 +1,13 @@
 use Rattle.std.proofs.Common.{◌≡◌, length, arith, ◌∙◌, ap}
 use Rattle.fleet_grid.specs.Ground.{is_passable}
 use Rattle.fleet_model.specs.Run.{IsSafeStep}
-use Rattle.fleet_model.specs.Machine.{tick, IsReached}
+use Rattle.fleet_model.specs.Machine.{Configuration, tick, moved_in, is_ready_held, IsReached}
+use Rattle.fleet_run.specs.Fleet.{FleetState}
 use Rattle.fleet_run.specs.Source.{flag_of}
 use Rattle.fleet_run.specs.Near.{AreNear}
 use Rattle.fleet_model.proofs.Tick.{length-tick}
 use Rattle.fleet_run.proofs.Kept.{AreNear-tick, written_back}
+use Rattle.fleet_run.proofs.Finished.{rests}
 use Rattle.fleet_run.proofs.fleet.Fleet.tick.Goals as goal
 
 pub invariant_of-self : goal.invariant_of-self
@@ -47,3 +49,21 @@ returns-clause-safe g c =
     let step : IsSafeStep passable (length p) before (tick p held before) = c.ticks_are_safe.ensures.safe passable tasks p accepted before held running.reached in
     let here : IsSafeStep passable (length p) before c.advance.new.rows = rw after step in
     rw (← c.self.view_is, written_back c.self.inside.rows.len c.advance.new.rows before rows) here
+
+pub returns-clause-rest : goal.returns-clause-rest
+returns-clause-rest g c =
+    let parts = c.self.inside.accepted in
+    let p = g.P.ProgramView.program parts.program in
+    let held = flag_of c.args.held.now in
+    let before = c.self.inside.rows.items in
+    let rows : length c.advance.new.rows ≡ c.self.inside.rows.len = omega (arith, c.advance.auto.rows, c.deref_mut.ensures.len) in
+    let same_program : g.P.ProgramView.program c.program.result.now ≡ p = ap g.P.ProgramView.program c.program.ensures in
+    let after : c.advance.new.rows ≡ tick p held before =
+    c.advance.ensures.after ∙ (ap (λ q. tick q held c.deref_mut.result.now) same_program ∙ ap (tick p held) c.deref_mut.ensures.value) in
+    let moved : c.advance.result.moved ≡ moved_in p held before =
+    c.advance.ensures.moved ∙ (ap (λ q. moved_in q held c.deref_mut.result.now) same_program ∙ ap (moved_in p held) c.deref_mut.ensures.value) in
+    let ready_held : c.advance.result.ready_held ≡ is_ready_held p held before =
+    c.advance.ensures.held ∙ (ap (λ q. is_ready_held q held c.deref_mut.result.now) same_program ∙ ap (is_ready_held p held) c.deref_mut.ensures.value) in
+    let State : Configuration → FleetState _ = λ rows. record { accepted = parts; configuration = rows } in
+    rw (← c.self.view_is, written_back c.self.inside.rows.len c.advance.new.rows before rows)
+    (λ over. let calm = rests p held before c.self.invariant.agents over in (ap State (after ∙ calm.0), moved ∙ calm.1, ready_held ∙ calm.2))

@@ -2,7 +2,7 @@
 
 ghost use Rattle.std.specs.Prelude.{◌≡◌, ◌∷◌, [], IfOk, codes};
 ghost use Rattle.clap.specs.Words.{app_of};
-ghost use Rattle.fleet_args.specs.CommandLine.{IsArg, IsLeafCommand, word, option, agents_rule, horizon_rule, deps_rule, command, instance_shape, check_shape, plan_shape, compile_shape, verify_shape, run_shape, rehearse_shape, auto_shape, fleet_top, fleet};
+ghost use Rattle.fleet_args.specs.CommandLine.{IsArg, IsLeafCommand, word, option, agents_rule, command, instance_shape, check_shape, verify_shape, run_shape, rehearse_shape, fleet_top, fleet};
 
 use clap::{Arg, Command};
 use std::alloc::{AllocError, Global};
@@ -60,17 +60,6 @@ fn plan<'a>(alloc: Global) -> Arg<'a>
     )
 }
 
-fn out<'a>(alloc: Global) -> Arg<'a>
-    ensures { IsArg (word (codes "out")) result }
-{
-    positional(
-        alloc,
-        "out",
-        "OUT",
-        "The file to which the program bytes are written",
-    )
-}
-
 fn program<'a>(alloc: Global) -> Arg<'a>
     ensures { IsArg (word (codes "program")) result }
 {
@@ -87,33 +76,6 @@ fn agents<'a>(alloc: Global) -> Arg<'a>
         "Take the first K agents of the scenario, 1 to 1024 [default: all]",
     )
     .value_parser(clap::value_parser!(u16))
-}
-
-fn horizon<'a>(alloc: Global) -> Arg<'a>
-    ensures { IsArg horizon_rule result }
-{
-    option(
-        alloc,
-        "horizon",
-        "H",
-        "The latest time at which an agent may arrive, 1 to 65535",
-    )
-    .value_parser(clap::value_parser!(u16).range(1..))
-    .default_value("1024")
-}
-
-/// Which earlier leavings of a cell an action awaits, by these names.
-fn deps<'a>(alloc: Global, names: &'a [&'a str]) -> Arg<'a>
-    ensures { IsArg (deps_rule names.entry) result }
-{
-    option(
-        alloc,
-        "deps",
-        "DEPS",
-        "Await the last leaving of a cell by each other agent, or only the very last leaving",
-    )
-    .value_parser(names)
-    .default_value("last")
 }
 
 fn holds<'a>(alloc: Global) -> Arg<'a>
@@ -160,32 +122,6 @@ fn check_command<'a>(alloc: Global) -> Result<Command<'a>, AllocError>
     .arg(agents(alloc))
 }
 
-fn plan_command<'a>(alloc: Global) -> Result<Command<'a>, AllocError>
-    ensures { IfOk result (IsLeafCommand plan_shape) }
-{
-    map_and_scen(
-        alloc,
-        "plan",
-        "Plans a path for each agent in turn, and prints the plan text",
-    )?
-    .arg(agents(alloc))?
-    .arg(horizon(alloc))
-}
-
-fn compile_command<'a>(alloc: Global, names: &'a [&'a str]) -> Result<Command<'a>, AllocError>
-    ensures { IfOk result (IsLeafCommand (compile_shape names.entry)) }
-{
-    map_and_scen(
-        alloc,
-        "compile",
-        "Compiles a plan that is free of conflict into a program of moves and awaits",
-    )?
-    .arg(plan(alloc))?
-    .arg(out(alloc))?
-    .arg(agents(alloc))?
-    .arg(deps(alloc, names))
-}
-
 fn verify_command<'a>(alloc: Global) -> Result<Command<'a>, AllocError>
     ensures { IfOk result (IsLeafCommand verify_shape) }
 {
@@ -208,20 +144,6 @@ fn run_command<'a>(alloc: Global) -> Result<Command<'a>, AllocError>
     )?
     .arg(program(alloc))?
     .arg(agents(alloc))?
-    .arg(holds(alloc))
-}
-
-fn auto_command<'a>(alloc: Global, names: &'a [&'a str]) -> Result<Command<'a>, AllocError>
-    ensures { IfOk result (IsLeafCommand (auto_shape names.entry)) }
-{
-    map_and_scen(
-        alloc,
-        "auto",
-        "Plans, compiles, verifies and runs, printing the positions of each tick",
-    )?
-    .arg(agents(alloc))?
-    .arg(horizon(alloc))?
-    .arg(deps(alloc, names))?
     .arg(holds(alloc))
 }
 
@@ -250,17 +172,14 @@ fn without_commands<'a>(alloc: Global) -> Result<Command<'a>, AllocError>
     )
 }
 
-/// The whole command line, where these are the names of the two kinds of awaits.
-pub fn fleet_command<'a>(alloc: Global, names: &'a [&'a str]) -> Result<Command<'a>, AllocError>
-    ensures { IfOk result (λ command. app_of command ≡ fleet names.entry) }
+/// The whole command line.
+pub fn fleet_command<'a>(alloc: Global) -> Result<Command<'a>, AllocError>
+    ensures { IfOk result (λ command. app_of command ≡ fleet) }
 {
     without_commands(alloc)?
         .subcommand(instance_command(alloc)?)?
         .subcommand(check_command(alloc)?)?
-        .subcommand(plan_command(alloc)?)?
-        .subcommand(compile_command(alloc, names)?)?
         .subcommand(verify_command(alloc)?)?
         .subcommand(run_command(alloc)?)?
-        .subcommand(rehearse_command(alloc)?)?
-        .subcommand(auto_command(alloc, names)?)
+        .subcommand(rehearse_command(alloc)?)
 }

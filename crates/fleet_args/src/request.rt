@@ -2,13 +2,12 @@
 
 ghost use Rattle.std.specs.Prelude.{◌≡◌, option_map, map, string_bytes};
 ghost use Rattle.clap.specs.Words.{found_of, first_value, subcommand_rows_of, kind_of};
-ghost use Rattle.fleet_args.specs.CommandLine.{AreDeps, fleet};
-ghost use Rattle.fleet_args.specs.Request.{asked_of, asked_by, asked_from, deps_in, instance_by, check_by, plan_by, compile_by, verify_by, run_by, rehearse_by, auto_by, number_found, IsStopOf, Reads, ReadsFleet};
+ghost use Rattle.fleet_args.specs.CommandLine.{fleet};
+ghost use Rattle.fleet_args.specs.Request.{asked_of, asked_by, asked_from, instance_by, check_by, verify_by, run_by, rehearse_by, number_found, IsStopOf, Reads};
 
 use crate::command_line::fleet_command;
 use clap::ArgMatches;
 use clap::error::ErrorKind;
-use fleet_adg::Deps;
 use std::alloc::Global;
 use thiserror::Error;
 
@@ -26,20 +25,6 @@ pub enum Request<'a> {
         plan: &'a str,
         agents: Option<u16>,
     },
-    Plan {
-        map: &'a str,
-        scen: &'a str,
-        agents: Option<u16>,
-        horizon: u16,
-    },
-    Compile {
-        map: &'a str,
-        scen: &'a str,
-        plan: &'a str,
-        out: &'a str,
-        agents: Option<u16>,
-        deps: Deps,
-    },
     Verify {
         map: &'a str,
         scen: &'a str,
@@ -55,14 +40,6 @@ pub enum Request<'a> {
     },
     Rehearse {
         program: &'a str,
-        holds: Option<&'a str>,
-    },
-    Auto {
-        map: &'a str,
-        scen: &'a str,
-        agents: Option<u16>,
-        horizon: u16,
-        deps: Deps,
         holds: Option<&'a str>,
     },
 }
@@ -83,17 +60,6 @@ fn number(rows: &ArgMatches<'_>, id: &str) -> Option<Option<u16>>
     ensures { result ≡ number_found (found_of rows.now) id.now }
 {
     rows.try_get_one::<u16>(id).ok()
-}
-
-/// The kind of awaits of a name.
-fn deps_of(name: &str) -> Option<Deps>
-    ensures { result ≡ deps_in name.now }
-{
-    match name {
-        "all" => Some(Deps::All),
-        "last" => Some(Deps::Last),
-        _ => None,
-    }
 }
 
 fn instance_in<'a>(rows: &ArgMatches<'a>) -> Option<Request<'a>>
@@ -119,42 +85,6 @@ fn check_in<'a>(rows: &ArgMatches<'a>) -> Option<Request<'a>>
         scen,
         plan,
         agents,
-    })
-}
-
-fn plan_in<'a>(rows: &ArgMatches<'a>) -> Option<Request<'a>>
-    ensures { option_map asked_of result
-        ≡ plan_by (first_value (found_of rows.now)) (number_found (found_of rows.now)) }
-{
-    let map = rows.get_str("map")?;
-    let scen = rows.get_str("scen")?;
-    let agents = number(rows, "agents")?;
-    let horizon = number(rows, "horizon")??;
-    Some(Request::Plan {
-        map,
-        scen,
-        agents,
-        horizon,
-    })
-}
-
-fn compile_in<'a>(rows: &ArgMatches<'a>) -> Option<Request<'a>>
-    ensures { option_map asked_of result
-        ≡ compile_by (first_value (found_of rows.now)) (number_found (found_of rows.now)) }
-{
-    let map = rows.get_str("map")?;
-    let scen = rows.get_str("scen")?;
-    let plan = rows.get_str("plan")?;
-    let out = rows.get_str("out")?;
-    let agents = number(rows, "agents")?;
-    let deps = deps_of(rows.get_str("deps")?)?;
-    Some(Request::Compile {
-        map,
-        scen,
-        plan,
-        out,
-        agents,
-        deps,
     })
 }
 
@@ -200,26 +130,6 @@ fn rehearse_in<'a>(rows: &ArgMatches<'a>) -> Option<Request<'a>>
     Some(Request::Rehearse { program, holds })
 }
 
-fn auto_in<'a>(rows: &ArgMatches<'a>) -> Option<Request<'a>>
-    ensures { option_map asked_of result
-        ≡ auto_by (first_value (found_of rows.now)) (number_found (found_of rows.now)) }
-{
-    let map = rows.get_str("map")?;
-    let scen = rows.get_str("scen")?;
-    let agents = number(rows, "agents")?;
-    let horizon = number(rows, "horizon")??;
-    let deps = deps_of(rows.get_str("deps")?)?;
-    let holds = rows.get_str("holds");
-    Some(Request::Auto {
-        map,
-        scen,
-        agents,
-        horizon,
-        deps,
-        holds,
-    })
-}
-
 /// The request of the command of this name, by its matches.
 fn request_by<'a>(name: &str, rows: &ArgMatches<'a>) -> Option<Request<'a>>
     ensures { option_map asked_of result
@@ -228,12 +138,9 @@ fn request_by<'a>(name: &str, rows: &ArgMatches<'a>) -> Option<Request<'a>>
     match name {
         "instance" => instance_in(rows),
         "check" => check_in(rows),
-        "plan" => plan_in(rows),
-        "compile" => compile_in(rows),
         "verify" => verify_in(rows),
         "run" => run_in(rows),
         "rehearse" => rehearse_in(rows),
-        "auto" => auto_in(rows),
         _ => None,
     }
 }
@@ -260,16 +167,12 @@ fn stop_of(alloc: Global, error: &clap::Error) -> WordStop
     }
 }
 
-/// Reads the words by the definition of the command line in which these names are those of the kinds of awaits.
-fn read_by<'a>(
-    alloc: Global,
-    names: &'a [&'a str],
-    words: &'a [String],
-) -> Result<Request<'a>, WordStop>
-    requires { AreDeps names }
-    ensures { Reads (fleet names.entry) (map string_bytes words.entry.now) result }
+/// Reads the words after the program's name, as `clap` reads them by the definition of the command line. `Usage` and `Help` come
+/// only where that definition does not take the words, and `Help` only where they ask for help.
+pub fn read_words<'a>(alloc: Global, words: &'a [String]) -> Result<Request<'a>, WordStop>
+    ensures { Reads fleet (map string_bytes words.entry.now) result }
 {
-    let Ok(command) = fleet_command(alloc, names) else {
+    let Ok(command) = fleet_command(alloc) else {
         return Err(WordStop::OutOfMemory);
     };
     match command.try_get_matches_from(words) {
@@ -279,14 +182,4 @@ fn read_by<'a>(
         },
         Err(error) => Err(stop_of(alloc, &error)),
     }
-}
-
-static DEPS: [&str; 2] = ["all", "last"];
-
-/// Reads the words after the program's name, as `clap` reads them by the definition of the command line. `Usage` and `Help` come
-/// only where that definition does not take the words, and `Help` only where they ask for help.
-pub fn read_words<'a>(alloc: Global, words: &'a [String]) -> Result<Request<'a>, WordStop>
-    ensures { ReadsFleet (map string_bytes words.entry.now) result }
-{
-    read_by(alloc, DEPS.as_slice(), words)
 }

@@ -1,10 +1,10 @@
 -- What a sink has taken before and after it is flushed.
-use Rattle.std.proofs.Common.{◌≡◌, ℕ, ◌+◌, ◌≤◌, ◌⊎◌, inl, inr, Bool, true, false, List, [], ◌++◌, length, take, None, Some, Option, Result, Ok, Err, IsErr, refl, sym, subst, arith, append-nil}
+use Rattle.std.proofs.Common.{◌≡◌, ℕ, ◌+◌, ◌⊎◌, inl, inr, Bool, true, false, List, [], ◌++◌, length, take, None, Some, Option, Result, Ok, Err, IsErr, refl, sym, subst, arith, append-nil}
 use Rattle.std.proofs.lemmas.Grind.{common_steps}
 use Rattle.std.specs.Io.KnownBytes.{Keeps, Appends}
 use Rattle.fleet_model.specs.Program.{Program}
 use Rattle.fleet_model.specs.Machine.{Holds, is_over}
-use Rattle.fleet_run.specs.Sink.{HandsOn, StopsWithin, FailsAfter, Delivers}
+use Rattle.fleet_run.specs.Sink.{HandsOn, StopsWithin, Delivers}
 use Rattle.fleet_run.specs.Outcome.{EndTest, IsAskedFor, StopsAtSource}
 use Rattle.fleet_run.specs.Rehearsal.{Rehearses}
 use Rattle.fleet_cli.specs.Flushed.{RehearsesFlushed}

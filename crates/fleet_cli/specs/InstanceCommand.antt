@@ -1,5 +1,5 @@
 -- What the command `instance` prints: the sizes of a map, its passable cells, and the start and the goal of each agent.
-use Rattle.std.specs.Prelude.{◌≡◌, ◌≢◌, ℕ, zero, suc, ◌+◌, false, List, [], ◌∷◌, ◌++◌, length, slice_get, ◌⊎◌, Option, codes, decimal}
+use Rattle.std.specs.Prelude.{◌≡◌, ◌≢◌, ℕ, zero, suc, List, [], ◌∷◌, ◌++◌, length, slice_get, ◌⊎◌, Option, codes, decimal}
 use Rattle.std.specs.Option.{option_map_or}
 use Rattle.fleet_model.specs.declared.geometry.Cell.{Cell}
 use Rattle.fleet_model.specs.declared.task.Task.{Task}
@@ -75,11 +75,11 @@ pub record AreInstanceBytes (files : Option Store) (map scen map_bytes scen_byte
   pub map_read : HasBytes files map map_bytes
   pub scen_read : HasBytes files scen scen_bytes
 
--- a file was not read, or its text is refused, or the output failed
+-- the map's file was not read; or it was, and that of the scenario was not; or both were, and their texts are refused or the output failed
 abbrev pub IsInstanceRefusal : Option Store → List ℕ → List ℕ → Option ℕ → Output → Fault → Type 0
 IsInstanceRefusal files map scen asked out fault =
     (IsReadFault map fault × IsUnwritten out)
-    ⊎ (IsReadFault scen fault × IsUnwritten out)
+    ⊎ ((map_bytes : List ℕ) × HasBytes files map map_bytes × IsReadFault scen fault × IsUnwritten out)
     ⊎ ((map_bytes scen_bytes : List ℕ) × AreInstanceBytes files map scen map_bytes scen_bytes × IsInstanceFault map_bytes scen_bytes asked out fault)
 
 -- 0 where what the files stand for was printed, and else the status of a refusal that was told: the other output took that one line,

@@ -7,6 +7,7 @@ pub mod Files
 pub mod MemFiles
 pub mod RehearseCommand
 pub mod InstanceCommand
+pub mod CheckCommand
 pub mod Command
 pub mod Problem
 pub mod VerifyCommand

@@ -12,6 +12,12 @@ use Rattle.fleet_grid.specs.declared.fault.MapFault.{MapFault}
 use Rattle.fleet_grid.specs.declared.fault.MapFault.TheVariants as m
 use Rattle.fleet_scen.specs.declared.fault.ScenFault.{ScenFault}
 use Rattle.fleet_scen.specs.declared.fault.ScenFault.TheVariants as s
+use Rattle.fleet_plan.specs.declared.text_fault.TextFault.{TextFault}
+use Rattle.fleet_plan.specs.declared.text_fault.TextFault.TheVariants as t
+use Rattle.fleet_plan.specs.declared.plan_fault.Conflict.{Conflict}
+use Rattle.fleet_plan.specs.declared.plan_fault.Conflict.TheVariants.{Vertex, Swapping, Cycle}
+use Rattle.fleet_plan.specs.declared.plan_fault.PlanFault.{PlanFault}
+use Rattle.fleet_plan.specs.declared.plan_fault.PlanFault.TheVariants as p
 use Rattle.fleet_code.specs.declared.fault.HexFault.{HexFault}
 use Rattle.fleet_code.specs.declared.fault.HexFault.TheVariants as h
 use Rattle.fleet_code.specs.declared.fault.LoadFault.{LoadFault}
@@ -58,6 +64,34 @@ scen_words (s.SharedGoal line) = named_at (codes "scen") 8 (codes "SharedGoal") 
 scen_words s.NoAgents = named (codes "scen") 9 (codes "NoAgents")
 scen_words s.TooMany = named (codes "scen") 10 (codes "TooMany")
 scen_words s.Fewer = named (codes "scen") 11 (codes "Fewer")
+
+abbrev pub text_words : TextFault → List (List ℕ)
+text_words t.OutOfMemory = memory_words
+text_words (t.Form line) = named_at (codes "text") 2 (codes "Form") (codes "line") line
+text_words (t.Length line) = named_at (codes "text") 3 (codes "Length") (codes "line") line
+text_words t.AgentCount = named (codes "text") 4 (codes "AgentCount")
+
+-- a conflict of two agents of a plan: its kind, its time and the agents
+abbrev pub pair_words : List ℕ → ℕ → ℕ → ℕ → List (List ℕ)
+pair_words kind time i j =
+    codes "check" ∷ decimal 6 ∷ codes "Conflict" ∷ kind ∷ codes "time" ∷ decimal time ∷ codes "i" ∷ decimal i ∷ codes "j" ∷ decimal j ∷ []
+
+-- a cycle of agents of a plan: its time, and the least of them
+abbrev pub cycle_words : ℕ → ℕ → List (List ℕ)
+cycle_words time least = codes "check" ∷ decimal 6 ∷ codes "Conflict" ∷ codes "Cycle" ∷ codes "time" ∷ decimal time ∷ codes "least" ∷ decimal least ∷ []
+
+abbrev pub conflict_words : Conflict → List (List ℕ)
+conflict_words (Vertex time i j) = pair_words (codes "Vertex") time i j
+conflict_words (Swapping time i j) = pair_words (codes "Swapping") time i j
+conflict_words (Cycle time least) = cycle_words time least
+
+abbrev pub check_words : PlanFault → List (List ℕ)
+check_words p.OutOfMemory = memory_words
+check_words p.Agents = named (codes "check") 2 (codes "Agents")
+check_words (p.Start agent) = named_at (codes "check") 3 (codes "Start") (codes "agent") agent
+check_words (p.Goal agent) = named_at (codes "check") 4 (codes "Goal") (codes "agent") agent
+check_words (p.Step agent time) = named_by (codes "check") 5 (codes "Step") (codes "agent") agent (codes "time") time
+check_words (p.Conflict conflict) = conflict_words conflict
 
 abbrev pub hex_words : HexFault → List (List ℕ)
 hex_words h.OutOfMemory = memory_words
@@ -111,6 +145,8 @@ run_words r.HoldLimit = named (codes "run") 5 (codes "HoldLimit")
 abbrev pub words_of : Fault → List (List ℕ)
 words_of (f.Map fault) = map_words fault
 words_of (f.Scen fault) = scen_words fault
+words_of (f.Text fault) = text_words fault
+words_of (f.Check fault) = check_words fault
 words_of (f.Hex fault) = hex_words fault
 words_of (f.Load fault) = load_words fault
 words_of (f.Compile fault) = compile_words fault
@@ -129,6 +165,10 @@ status_of (f.Map m.OutOfMemory) = 3
 status_of (f.Map _) = 1
 status_of (f.Scen s.OutOfMemory) = 3
 status_of (f.Scen _) = 1
+status_of (f.Text t.OutOfMemory) = 3
+status_of (f.Text _) = 1
+status_of (f.Check p.OutOfMemory) = 3
+status_of (f.Check _) = 1
 status_of (f.Hex h.OutOfMemory) = 3
 status_of (f.Hex _) = 1
 status_of (f.Load l.OutOfMemory) = 3

@@ -1,5 +1,5 @@
 -- The files of a store in memory.
-use Rattle.std.specs.Prelude.{ℕ, List, Option, option_map}
+use Rattle.std.specs.Prelude.{option_map}
 use Rattle.indexmap.specs.IndexMap.{get_by_text}
 use Rattle.fleet_cli.specs.declared.mem_files.MemFiles.{MemFiles}
 use Rattle.fleet_cli.specs.Files.{Store}

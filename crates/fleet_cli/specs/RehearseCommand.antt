@@ -1,5 +1,5 @@
 -- What the command `rehearse` does: the rehearsal of the program of a file, under the holds of another.
-use Rattle.std.specs.Prelude.{◌≡◌, ◌≢◌, ℕ, ◌<◌, List, [], length, ◌⊎◌, Option, None, Some, Err, MatchResult}
+use Rattle.std.specs.Prelude.{◌≡◌, ◌≢◌, ℕ, ◌<◌, List, [], length, ◌⊎◌, Option, None, Some, Err}
 use Rattle.fleet_model.specs.Program.{Program}
 use Rattle.fleet_model.specs.Machine.{Holds}
 use Rattle.fleet_grid.specs.Text.{lines}
@@ -63,11 +63,11 @@ abbrev pub RehearsesFiles : Option Store → List ℕ → Option (List ℕ) → 
 RehearsesFiles files program holds out end =
     (bytes held : List ℕ) × AreRead files program holds bytes held × RehearsesBytes bytes held out end
 
--- a file was not read, or its bytes are refused
+-- the program's file was not read; or it was, and that of the holds was not; or both were, and their bytes are refused
 abbrev pub IsRehearseRefusal : Option Store → List ℕ → Option (List ℕ) → Output → Fault → Type 0
 IsRehearseRefusal files program holds out fault =
     (IsReadFault program fault × IsUnwritten out)
-    ⊎ ((name : List ℕ) × (holds ≡ Some name) × IsReadFault name fault × IsUnwritten out)
+    ⊎ ((bytes name : List ℕ) × HasBytes files program bytes × (holds ≡ Some name) × IsReadFault name fault × IsUnwritten out)
     ⊎ ((bytes held : List ℕ) × AreRead files program holds bytes held × IsRehearseFault bytes held out fault)
 
 -- 0 where the rehearsal was written and ends finished, 1 where it was written and ends stuck, and else the status of a refusal

@@ -7,13 +7,10 @@ use Rattle.fleet_cli.specs.Words.{line_text}
 use Rattle.fleet_cli.specs.Lines.{status_of}
 use Rattle.fleet_cli.specs.Output.{Output, IsUnwritten, IsDelivered, IsTold}
 use Rattle.fleet_cli.specs.RehearseCommand.{IsReadFault}
+use Rattle.fleet_cli.specs.CheckCommand.{count_line}
 use Rattle.fleet_cli.specs.Problem.{AcceptsTexts, IsTextsFault}
 use Rattle.fleet_cli.specs.declared.fault.Fault.{Fault}
 use Rattle.fleet_cli.specs.declared.fault.Fault.TheVariants as f
-
--- a word and its number, in a line
-unfoldable pub count_line : List ℕ → ℕ → List ℕ
-count_line word n = line_text (word ∷ decimal n ∷ [])
 
 -- `accepted`, then the agents, the moves, the awaits and the longest chain, each with its number
 unfoldable pub accepted_lines : (agents moves awaits chain : ℕ) → List ℕ

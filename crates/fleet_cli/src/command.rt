@@ -3,12 +3,15 @@
 ghost use Rattle.std.specs.Prelude.{◌≡◌, ◌∷◌, false, map, string_bytes};
 ghost use Rattle.fleet_cli.specs.Command.{RunsRequest, StopsAtWords, RunsCommand};
 
+use crate::check_command::run_check;
+use crate::drive_command::run_run;
 use crate::fault::Fault;
 use crate::files::Files;
 use crate::flush::deliver;
 use crate::hex_run::{refuse, run_hex};
 use crate::instance_command::run_instance;
 use crate::rehearse_command::run_rehearse;
+use crate::verify_command::run_verify;
 use fleet_args::{Request, WordStop, read_words};
 use fleet_run::{OutFault, TraceOut, put_all};
 use std::alloc::Global;
@@ -33,6 +36,27 @@ pub fn run_request<F: Files, O: TraceOut, E: TraceOut>(
         Request::Instance { map, scen, agents } => {
             run_instance(alloc, map, scen, agents, files, out, err)
         }
+        Request::Check {
+            map,
+            scen,
+            plan,
+            agents,
+        } => run_check(alloc, map, scen, plan, agents, files, out, err),
+        Request::Verify {
+            map,
+            scen,
+            program,
+            agents,
+        } => run_verify(alloc, map, scen, program, agents, files, out, err),
+        Request::Run {
+            map,
+            scen,
+            program,
+            agents,
+            holds,
+        } => run_run(
+            alloc, map, scen, program, agents, holds, files, out, err,
+        ),
         Request::Rehearse { program, holds } => {
             run_rehearse(alloc, program, holds, files, out, err)
         }

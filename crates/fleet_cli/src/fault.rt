@@ -3,13 +3,14 @@
 ghost use Rattle.std.specs.Prelude.{◌≡◌, ◌<◌, ◌++◌, false, length, map};
 ghost use Rattle.fleet_run.specs.Sink.{TakesAll, Receives};
 ghost use Rattle.fleet_cli.specs.Words.{word_text, line_text, next_words};
-ghost use Rattle.fleet_cli.specs.Lines.{named, named_at, named_by, map_words, scen_words, hex_words, load_words, compile_words, action_text, unordered_words, verify_words, run_words, line_of, status_of};
+ghost use Rattle.fleet_cli.specs.Lines.{named, named_at, named_by, map_words, scen_words, text_words, pair_words, cycle_words, conflict_words, check_words, hex_words, load_words, compile_words, action_text, unordered_words, verify_words, run_words, line_of, status_of};
 
 use crate::words::{Word, put_line, put_next_word, put_words};
 use fleet_adg::CompileFault;
 use fleet_code::{HexFault, LoadFault};
 use fleet_grid::MapFault;
 use fleet_model::{ActionId, Cell, Visit};
+use fleet_plan::{Conflict, PlanFault, TextFault};
 use fleet_run::{OutFault, RunFault, TraceOut, put_all};
 use fleet_scen::ScenFault;
 use fleet_verify::VerifyFault;
@@ -20,6 +21,8 @@ use fleet_verify::VerifyFault;
 pub enum Fault<'a> {
     Map(MapFault),
     Scen(ScenFault),
+    Text(TextFault),
+    Check(PlanFault),
     Hex(HexFault),
     Load(LoadFault),
     Compile(CompileFault),
@@ -165,6 +168,103 @@ fn put_scen<O: TraceOut>(out: &mut O, fault: ScenFault) -> Result<(), OutFault>
         ScenFault::NoAgents => put_named(out, "scen", 9, "NoAgents"),
         ScenFault::TooMany => put_named(out, "scen", 10, "TooMany"),
         ScenFault::Fewer => put_named(out, "scen", 11, "Fewer"),
+    }
+}
+
+fn put_text<O: TraceOut>(out: &mut O, fault: TextFault) -> Result<(), OutFault>
+    requires { O.has_failed out.old ≡ false }
+    ensures { TakesAll (O.taken out.old) (O.taken out.new) (O.has_failed out.new) result
+        (line_text (text_words fault)) }
+{
+    match fault {
+        TextFault::OutOfMemory => put_memory(out),
+        TextFault::Form { line } => put_named_at(out, "text", 2, "Form", "line", line),
+        TextFault::Length { line } => put_named_at(out, "text", 3, "Length", "line", line),
+        TextFault::AgentCount => put_named(out, "text", 4, "AgentCount"),
+    }
+}
+
+/// Writes the line of a conflict of two agents in a plan.
+fn put_pair<O: TraceOut>(
+    out: &mut O,
+    kind: &'static str,
+    time: u32,
+    i: u16,
+    j: u16,
+) -> Result<(), OutFault>
+    requires { O.has_failed out.old ≡ false }
+    ensures { TakesAll (O.taken out.old) (O.taken out.new) (O.has_failed out.new) result
+        (line_text (pair_words kind.now time i j)) }
+{
+    put_line(
+        out,
+        &[
+            Word::Text("check"),
+            Word::Number(6),
+            Word::Text("Conflict"),
+            Word::Text(kind),
+            Word::Text("time"),
+            Word::Number(time as u64),
+            Word::Text("i"),
+            Word::Number(i as u64),
+            Word::Text("j"),
+            Word::Number(j as u64),
+        ],
+    )
+}
+
+/// Writes the line of a cycle in a plan.
+fn put_cycle<O: TraceOut>(out: &mut O, time: u32, least: u16) -> Result<(), OutFault>
+    requires { O.has_failed out.old ≡ false }
+    ensures { TakesAll (O.taken out.old) (O.taken out.new) (O.has_failed out.new) result
+        (line_text (cycle_words time least)) }
+{
+    put_line(
+        out,
+        &[
+            Word::Text("check"),
+            Word::Number(6),
+            Word::Text("Conflict"),
+            Word::Text("Cycle"),
+            Word::Text("time"),
+            Word::Number(time as u64),
+            Word::Text("least"),
+            Word::Number(least as u64),
+        ],
+    )
+}
+
+fn put_conflict<O: TraceOut>(out: &mut O, conflict: Conflict) -> Result<(), OutFault>
+    requires { O.has_failed out.old ≡ false }
+    ensures { TakesAll (O.taken out.old) (O.taken out.new) (O.has_failed out.new) result
+        (line_text (conflict_words conflict)) }
+{
+    match conflict {
+        Conflict::Vertex { time, i, j } => put_pair(out, "Vertex", time, i, j),
+        Conflict::Swapping { time, i, j } => put_pair(out, "Swapping", time, i, j),
+        Conflict::Cycle { time, least } => put_cycle(out, time, least),
+    }
+}
+
+fn put_check<O: TraceOut>(out: &mut O, fault: PlanFault) -> Result<(), OutFault>
+    requires { O.has_failed out.old ≡ false }
+    ensures { TakesAll (O.taken out.old) (O.taken out.new) (O.has_failed out.new) result
+        (line_text (check_words fault)) }
+{
+    match fault {
+        PlanFault::OutOfMemory => put_memory(out),
+        PlanFault::Agents => put_named(out, "check", 2, "Agents"),
+        PlanFault::Start { agent } => put_named_at(out, "check", 3, "Start", "agent", agent as u64),
+        PlanFault::Goal { agent } => put_named_at(out, "check", 4, "Goal", "agent", agent as u64),
+        PlanFault::Step { agent, time } => put_named_by(
+            out,
+            "check",
+            5,
+            "Step",
+            ("agent", agent as u64),
+            ("time", time as u64),
+        ),
+        PlanFault::Conflict(conflict) => put_conflict(out, conflict),
     }
 }
 
@@ -326,13 +426,15 @@ impl Fault<'_> {
         match self {
             Fault::Map(MapFault::OutOfMemory) => 3,
             Fault::Scen(ScenFault::OutOfMemory) => 3,
+            Fault::Text(TextFault::OutOfMemory) => 3,
+            Fault::Check(PlanFault::OutOfMemory) => 3,
             Fault::Hex(HexFault::OutOfMemory) => 3,
             Fault::Load(LoadFault::OutOfMemory) => 3,
             Fault::Compile(CompileFault::OutOfMemory) => 3,
             Fault::Verify(VerifyFault::OutOfMemory) => 3,
             Fault::Run(RunFault::OutOfMemory | RunFault::Source { .. } | RunFault::Write) => 3,
             Fault::Memory | Fault::File(_) => 3,
-            Fault::Map(_) | Fault::Scen(_) => 1,
+            Fault::Map(_) | Fault::Scen(_) | Fault::Text(_) | Fault::Check(_) => 1,
             Fault::Hex(_) | Fault::Load(_) | Fault::Compile(_) | Fault::Verify(_) => 1,
             Fault::Run(_) => 1,
         }
@@ -345,6 +447,8 @@ impl Fault<'_> {
         match self {
             Fault::Map(fault) => put_map(out, *fault),
             Fault::Scen(fault) => put_scen(out, *fault),
+            Fault::Text(fault) => put_text(out, *fault),
+            Fault::Check(fault) => put_check(out, *fault),
             Fault::Hex(fault) => put_hex(out, *fault),
             Fault::Load(fault) => put_load(out, *fault),
             Fault::Compile(fault) => put_compile(out, *fault),

@@ -1,6 +1,7 @@
 //! The program `fleet`: refusals, files and commands.
 #![tactic(auto)]
 
+mod check_command;
 mod command;
 mod disk;
 mod drive_command;
@@ -16,6 +17,7 @@ mod rehearse_command;
 mod verify_command;
 mod words;
 
+pub use check_command::run_check;
 pub use command::{run_command, run_request};
 pub use disk::Disk;
 pub use drive_command::run_run;
@@ -29,10 +31,16 @@ pub use rehearse_command::run_rehearse;
 pub use verify_command::run_verify;
 
 #[cfg(test)]
+mod check_tests;
+#[cfg(test)]
 mod command_tests;
 #[cfg(test)]
 mod file_tests;
 #[cfg(test)]
 mod flush_tests;
+#[cfg(test)]
+mod memory_tests;
+#[cfg(test)]
+mod test_support;
 #[cfg(test)]
 mod tests;

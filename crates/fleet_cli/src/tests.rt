@@ -1,15 +1,12 @@
 //! Texts and refusals of runs without words, and streams that fail.
 
 use super::*;
+use crate::test_support::{PAIR, PAIR_TEXT};
 use fleet_run::{RunFault, TraceOut, VecOut, WriteOut};
 use std::alloc::Global;
 use std::io;
 use std::io::{Read, Write};
 use std::process::Abort;
-
-/// Agent 0 from 1,0 to 3,0, and agent 1 behind it from 0,0 to 2,0.
-const PAIR: &[u8] = b"4D504631 0002 0001 0000 0003 0000 0002 01 01
-    0000 0000 0002 0000 0002 10 0000 0001 01 10 0000 0002 01\n";
 
 /// Agent 0 stands where agent 1 goes through.
 const THROUGH: &[u8] = b"4D504631 0002 0001 0000 0001 0000 0000 0000 0000 0002 0000 0002 01 01";
@@ -23,9 +20,6 @@ const STILL: &[u8] = b"4D504631 0001 0000 0000 0000 0000 0000";
 
 /// One agent that leaves the map to the west and comes back.
 const OFF_MAP: &[u8] = b"4D504631 0001 0000 0000 0000 0000 0002 03 01";
-
-const PAIR_TEXT: &[u8] =
-    b"0: 1,0 0,0\n1: 2,0 0,0\n2: 3,0 1,0\n3: 3,0 2,0\nagents 2\nticks 3\nheld 0\nfinished\n";
 
 /// A run without words prints and tells this, with this status.
 fn expect_run(

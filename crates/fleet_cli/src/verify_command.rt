@@ -2,8 +2,9 @@
 
 ghost use Rattle.std.specs.Prelude.{◌≡◌, false, List, ℕ, MatchResult};
 ghost use Rattle.fleet_run.specs.Sink.{TakesAll, Delivers};
-ghost use Rattle.fleet_cli.specs.VerifyCommand.{count_line, accepted_lines, accepted_text, PrintsAccepted, IsVerifyFault, AreProgramBytes, IsVerifyRefusal, RunsVerify};
+ghost use Rattle.fleet_cli.specs.VerifyCommand.{accepted_lines, accepted_text, PrintsAccepted, IsVerifyFault, AreProgramBytes, IsVerifyRefusal, RunsVerify};
 
+use crate::check_command::put_count;
 use crate::fault::Fault;
 use crate::files::Files;
 use crate::hex_run::refuse;
@@ -14,15 +15,6 @@ use fleet_model::{Program, ProgramView, total_awaits, total_moves};
 use fleet_run::{OutFault, TraceOut};
 use fleet_verify::Accepted;
 use std::alloc::Global;
-
-/// Writes a word and its number as a line.
-#[tactic(auto, unfolding(crate::specs::VerifyCommand::count_line))]
-pub fn put_count<O: TraceOut>(out: &mut O, word: &'static str, number: u64) -> Result<(), OutFault>
-    requires { O.has_failed out.old ≡ false }
-    ensures { TakesAll (O.taken out.old) (O.taken out.new) (O.has_failed out.new) result (count_line word.now number) }
-{
-    put_line(out, &[Word::Text(word), Word::Number(number)])
-}
 
 fn put_accepted_lines<O: TraceOut>(
     out: &mut O,

@@ -5,3 +5,12 @@ returns-in-Instance g c = rw c.in-Instance.is c.run_instance.ensures
 
 pub returns-in-Rehearse : goal.returns-in-Rehearse
 returns-in-Rehearse g c = rw c.in-Rehearse.is c.run_rehearse.ensures
+
+pub returns-in-Check : goal.returns-in-Check
+returns-in-Check g c = rw c.in-Check.is c.run_check.ensures
+
+pub returns-in-Verify : goal.returns-in-Verify
+returns-in-Verify g c = rw c.in-Verify.is c.run_verify.ensures
+
+pub returns-in-Run : goal.returns-in-Run
+returns-in-Run g c = rw c.in-Run.is c.run_run.ensures

@@ -143,3 +143,12 @@ module _ (held : List ℕ) (p : Program) (chain n : ℕ) (s : HoldLines) (before
       → IsTraceFault p chain held (record { before = before; taken = taken; has_failed = has_failed; is_flushed = flushed }) (f.Run fault)
   unfolding Did
   trace_fault fault h = (now, failed, left, did (Err fault) h)
+
+  -- the same of a fleet that was started with this program
+  pub started_fault : (q : Program) (k : ℕ) → q ≡ p → k ≡ chain → (fault : RunFault)
+      → DrivesFlushed q k (ticks_of s.agents s.lines) (record { last = last_of s.agents s.lines; now = now; left = left; fault = failed; before = before; taken = taken; has_failed = has_failed }) flushed (Err fault)
+      → IsTraceFault p chain held (record { before = before; taken = taken; has_failed = has_failed; is_flushed = flushed }) (f.Run fault)
+  started_fault q k same equal fault h =
+      let Told : Program → ℕ → Type 0 = λ x y.
+      DrivesFlushed x y (ticks_of s.agents s.lines) (record { last = last_of s.agents s.lines; now = now; left = left; fault = failed; before = before; taken = taken; has_failed = has_failed }) flushed (Err fault) in
+      trace_fault fault (subst (Told p) equal (subst (λ x. Told x k) same h))

@@ -6,3 +6,4 @@ pub mod RehearsesLemmas
 pub mod InstanceLemmas
 pub mod FileLemmas
 pub mod DriveLemmas
+pub mod ProblemLemmas

@@ -56,7 +56,6 @@ stops_within_next a b c failed words rest i d below (first, are, so_far) next =
     sym (words_split first rest (i + 1)) ∙ ap (λ ws. spaced (map word_text ws)) (sym are) in
     rw (← whole) (stops_within_more a c failed _ (next_words (map word_text (drop (i + 1) rest))) within_more)
 
-
 pub next_words-append : (xs ys : List (List ℕ)) → next_words (xs ++ ys) ≡ next_words xs ++ next_words ys
 next_words-append [] ys = refl
 next_words-append (x ∷ xs) ys = rw (next_words-append xs ys) (ap (λ t. 32 ∷ t) (sym (append_assoc x (next_words xs) (next_words ys))))

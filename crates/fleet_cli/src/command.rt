@@ -54,9 +54,7 @@ pub fn run_request<F: Files, O: TraceOut, E: TraceOut>(
             program,
             agents,
             holds,
-        } => run_run(
-            alloc, map, scen, program, agents, holds, files, out, err,
-        ),
+        } => run_run(alloc, map, scen, program, agents, holds, files, out, err),
         Request::Rehearse { program, holds } => {
             run_rehearse(alloc, program, holds, files, out, err)
         }

@@ -1,6 +1,6 @@
-pub mod Plan
-pub mod Checked
-pub mod Worked
 pub mod PlanText
 pub mod PlanReading
 pub mod CellReading
+pub mod Plan
+pub mod Checked
+pub mod Worked

@@ -6,9 +6,9 @@ use Rattle.fleet_model.specs.declared.geometry.Cell.{Cell}
 use Rattle.fleet_grid.specs.Text.{Bytes, is_blank, starts_blank, words, words_from_front}
 use Rattle.fleet_plan.specs.Plan.{Path, Plan}
 use Rattle.fleet_plan.specs.declared.text_fault.TextFault.{TextFault}
-use Rattle.fleet_plan.specs.declared.text_fault.TextFault.TheVariants.{OutOfMemory, Form, Length, AgentCount}
+use Rattle.fleet_plan.specs.declared.text_fault.TextFault.TheVariants.{Form, Length, AgentCount}
 use Rattle.fleet_plan.specs.CellReading.{cell_front, begins_with_word}
-use Rattle.fleet_plan.specs.PlanReading.{Fails, cells_in, some_cells, too_long, path_at, ended, paths_at}
+use Rattle.fleet_plan.specs.PlanReading.{cells_in, some_cells, too_long, path_at, ended, paths_at}
 use Rattle.fleet_plan.proofs.CellLaws.{Passes, passes, cells_next, cells_none}
 
 -- ---- words
@@ -117,10 +117,10 @@ module _ (number : ℕ) (line : Bytes) (cells : Path) (rest : Bytes) (so_far : o
           regroup None = refl
           regroup (Some more) = ap (λ (path : Path). Some path) (append_assoc cells (cell ∷ []) more)
 
-      pub too_many_cells : 65536 ≤ length cells → Fails (too_long number after) (path_at number line)
+      pub too_many_cells : 65536 ≤ length cells → path_at number line ≡ Err (too_long number after)
       too_many_cells many = judged (cells_in (words after)) refl
         where
-          judged : (o : Option Path) → cells_in (words after) ≡ o → Fails (too_long number after) (path_at number line)
+          judged : (o : Option Path) → cells_in (words after) ≡ o → path_at number line ≡ Err (too_long number after)
           judged None e =
               let all : cells_in (words_from_front line) ≡ None = sym cells_more ∙ rw e refl in
               rw e (no_path number line all)
@@ -130,13 +130,6 @@ module _ (number : ℕ) (line : Bytes) (cells : Path) (rest : Bytes) (so_far : o
               rw e (a_long_path number line ((cells ++ cell ∷ []) ++ more) all long)
 
 -- ---- lines
-
--- where one fails the other fails alike
-fails_alike : {A B : Type 0} (f : TextFault) (read : Result A TextFault) (total : Result B TextFault) → ((g : TextFault) → read ≡ Err g → total ≡ Err g) → Fails f read → Fails f total
-fails_alike OutOfMemory read total h e = tt
-fails_alike (Form line) read total h e = h (Form line) e
-fails_alike (Length line) read total h e = h (Length line) e
-fails_alike AgentCount read total h e = h AgentCount e
 
 module _ (earlier : Plan) (ls : List Bytes) (total : Result Plan TextFault) (so_far : paths_at earlier ls ≡ total) where
   pub lines_end : ls ≡ [] → total ≡ ended earlier
@@ -151,14 +144,11 @@ module _ (earlier : Plan) (ls : List Bytes) (total : Result Plan TextFault) (so_
         sym so_far ∙ ap (paths_at earlier) next ∙ rw full refl
 
     module _ (few : length earlier < 1024) where
-      fails_there : (f : TextFault) → path_at (length earlier + 1) line ≡ Err f → total ≡ Err f
+      pub fails : (f : TextFault) → path_at (length earlier + 1) line ≡ Err f → total ≡ Err f
       unfolding paths_at
-      fails_there f wrong =
+      fails f wrong =
           let room : ltb (length earlier) 1024 ≡ true = lt-ltb _ _ few in
           sym so_far ∙ ap (paths_at earlier) next ∙ rw (room, wrong) refl
-
-      pub fails : (f : TextFault) → Fails f (path_at (length earlier + 1) line) → Fails f total
-      fails f e = fails_alike f (path_at (length earlier + 1) line) total fails_there e
 
       pub goes_on : (path : Path) → path_at (length earlier + 1) line ≡ Ok path → paths_at (earlier ++ path ∷ []) after ≡ total
       unfolding paths_at

@@ -5,6 +5,7 @@ use Rattle.std.specs.List.{AllByRecursion}
 use Rattle.std.proofs.lemmas.Bool.{ltb-true, ltb-false, leb-false, lt-ltb, le-ltb, lt-leb}
 use Rattle.std.proofs.lemmas.List.{length-append, length-drop}
 use Rattle.std.proofs.lemmas.List.Elements.{All-from_recursion, recursion_from_All}
+use Rattle.fleet_model.specs.Answer.{IsDueUnless}
 use Rattle.fleet_grid.specs.Text.{Bytes}
 use Rattle.fleet_grid.specs.Steps.{◌>>=◌, ◌>>◌, right_or, some_or}
 use Rattle.fleet_grid.proofs.StepLaws.{some_ok, bind_err, right_err, some_err, err_is, ok_err, result_cases}
@@ -12,7 +13,7 @@ use Rattle.fleet_plan.specs.Plan.{Path, Plan}
 use Rattle.fleet_plan.specs.declared.text_fault.TextFault.{TextFault}
 use Rattle.fleet_plan.specs.declared.text_fault.TextFault.TheVariants.{OutOfMemory, Form, Length, AgentCount}
 use Rattle.fleet_plan.specs.PlanText.{Spells, ArePlanLines, IsRight, Reaches, IsFirstFault}
-use Rattle.fleet_plan.specs.PlanReading.{Gives, path_at, ended, paths_at}
+use Rattle.fleet_plan.specs.PlanReading.{path_at, ended, paths_at}
 use Rattle.fleet_plan.proofs.PlanLaws.{path_in, spells_again, spells_is, judged, path_is, path_again, paths_next, is_found, is_read}
 
 -- ---- a line
@@ -211,14 +212,11 @@ one_fault ls e f a b = err_is {A = Plan} e f (sym (is_told ls e a) ∙ is_told l
 
 -- ---- what the reader refuses
 
-pub read : (ls : List Bytes) (f : TextFault) → Gives {X = Plan} (λ plan. plan) (Err f) (paths_at [] ls) → (plan : Plan) → ArePlanLines ls plan → f ≡ OutOfMemory
+pub read : (ls : List Bytes) (f : TextFault) → IsDueUnless {X = Plan} (λ plan. plan) (Err f) (paths_at [] ls) OutOfMemory → (plan : Plan) → ArePlanLines ls plan → f ≡ OutOfMemory
 read ls OutOfMemory e plan a = refl
-read ls (Form number) e plan a = absurd (ok_err plan (Form number) (sym (is_read ls plan a) ∙ e))
-read ls (Length number) e plan a = absurd (ok_err plan (Length number) (sym (is_read ls plan a) ∙ e))
-read ls AgentCount e plan a = absurd (ok_err plan AgentCount (sym (is_read ls plan a) ∙ e))
+read ls (Form number) e plan a = absurd (ok_err plan (Form number) (sym (is_read ls plan a) ∙ e (λ memory. cc)))
+read ls (Length number) e plan a = absurd (ok_err plan (Length number) (sym (is_read ls plan a) ∙ e (λ memory. cc)))
+read ls AgentCount e plan a = absurd (ok_err plan AgentCount (sym (is_read ls plan a) ∙ e (λ memory. cc)))
 
-pub told : (ls : List Bytes) (f : TextFault) → Gives {X = Plan} (λ plan. plan) (Err f) (paths_at [] ls) → f ≢ OutOfMemory → IsFirstFault ls f
-told ls OutOfMemory e other = absurd (other refl)
-told ls (Form number) e other = is_fault ls (Form number) e
-told ls (Length number) e other = is_fault ls (Length number) e
-told ls AgentCount e other = is_fault ls AgentCount e
+pub told : (ls : List Bytes) (f : TextFault) → IsDueUnless {X = Plan} (λ plan. plan) (Err f) (paths_at [] ls) OutOfMemory → f ≢ OutOfMemory → IsFirstFault ls f
+told ls f e other = is_fault ls f (e other)

@@ -1,4 +1,4 @@
-//! Plans of a fleet: for each agent a path, without conflict.
+//! Plans of a fleet: for each agent a path, without conflict. They are read from texts and written.
 #![tactic(auto)]
 
 mod cells;

@@ -1,10 +1,11 @@
 //! The reader of plans.
 
 ghost use Rattle.std.specs.Prelude.{◌≡◌, ◌≢◌, [], false, IfOk, IfErr, IsOkUnless};
+ghost use Rattle.fleet_model.specs.Answer.{IsDueUnless};
 ghost use Rattle.fleet_grid.specs.Text.{lines, starts_blank};
 ghost use Rattle.fleet_plan.specs.Plan.{Plan as PlanValue};
 ghost use Rattle.fleet_plan.specs.PlanText.{IsPlanText, IsFirstTextFault};
-ghost use Rattle.fleet_plan.specs.PlanReading.{Gives, too_long, path_at, paths_at};
+ghost use Rattle.fleet_plan.specs.PlanReading.{too_long, path_at, paths_at};
 
 use crate::cells::{begins_with_word, cell_front};
 use crate::plan::{Path, Plan};
@@ -33,7 +34,7 @@ fn too_long(number: u64, text: &[u8]) -> TextFault
 
 /// The path of a line.
 fn path_of(alloc: Global, number: u64, line: &[u8]) -> Result<Path, TextFault>
-    ensures { Gives (λ p. p) result (path_at number line.now) }
+    ensures { IsDueUnless (λ p. p) result (path_at number line.now) TextFault.OutOfMemory }
 {
     if !begins_with_word(line) {
         return Err(TextFault::Form { line: number });
@@ -55,7 +56,7 @@ fn path_of(alloc: Global, number: u64, line: &[u8]) -> Result<Path, TextFault>
 
 /// The paths of all lines.
 fn paths_of(alloc: Global, lines: &mut Cursor) -> Result<Vec<Path>, TextFault>
-    ensures { Gives (λ v. v.items) result (paths_at [] lines.old) }
+    ensures { IsDueUnless (λ v. v.items) result (paths_at [] lines.old) TextFault.OutOfMemory }
 {
     let mut paths = Vec::new(alloc);
     while let Some(line) = lines.next_line() {

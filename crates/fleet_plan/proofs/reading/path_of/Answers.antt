@@ -5,12 +5,12 @@ use Rattle.fleet_plan.proofs.LineLoop.{fewer_words, no_blank_after, begins_with_
 use Rattle.fleet_plan.proofs.reading.path_of.Goals as goal
 
 pub returns-then-not-begins_with_word : goal.returns-then-not-begins_with_word
-returns-then-not-begins_with_word c = begins_with_no_word c.args.number c.args.line.now (sym c.begins_with_word.ensures ∙ c.if-not-begins_with_word.true)
+returns-then-not-begins_with_word c = λ other. begins_with_no_word c.args.number c.args.line.now (sym c.begins_with_word.ensures ∙ c.if-not-begins_with_word.true)
 
 pub returns-in_default : goal.returns-in_default
 returns-in_default c =
     let l = c.loop-rest in
-    cells_fail c.args.number c.args.line.now l.cells.items l.rest.now l.invariant.so_far l.invariant.front (search rules) (sym c.in_default.ensures)
+    λ other. cells_fail c.args.number c.args.line.now l.cells.items l.rest.now l.invariant.so_far l.invariant.front (search rules) (sym c.in_default.ensures)
 
 pub too_long-requires : goal.too_long-requires
 too_long-requires c = no_blank_after c.loop-rest.rest.now _ _ c.loop-rest.invariant.front (sym c.in-Some.ensures)
@@ -19,7 +19,7 @@ pub returns-then-len-ge-MAX_CELLS : goal.returns-then-len-ge-MAX_CELLS
 returns-then-len-ge-MAX_CELLS c =
     let l = c.loop-rest in
     let many : 65536 ≤ length l.cells.items = omega (arith, c.len.ensures, c.if-len-ge-MAX_CELLS.true) in
-    rw c.too_long.ensures (too_many_cells c.args.number c.args.line.now l.cells.items l.rest.now l.invariant.so_far l.invariant.front _ _ (sym c.in-Some.ensures) many)
+    rw c.too_long.ensures (λ other. too_many_cells c.args.number c.args.line.now l.cells.items l.rest.now l.invariant.so_far l.invariant.front _ _ (sym c.in-Some.ensures) many)
 
 pub loop-rest-smaller : goal.loop-rest-smaller
 loop-rest-smaller c =

@@ -4,6 +4,7 @@
 mod checked;
 mod checking;
 mod ends;
+mod fault_laws;
 mod plan;
 mod plan_fault;
 mod rings;
@@ -13,6 +14,7 @@ mod worked;
 
 pub use checked::Checked;
 pub use checking::check;
+pub use fault_laws::a_plan_is_free_or_has_a_first_fault;
 pub use plan::{Path, Plan};
 pub use plan_fault::{Conflict, PlanFault, PlanRefusal};
 pub use worked::worked_plans_are_judged;

@@ -1,8 +1,8 @@
 //! The program `fleet`: what its library does, over the standard streams and the disk.
 #![tactic(auto)]
 
-use fleet_cli::rehearsal::{TraceOut, WriteOut, put_all};
-use fleet_cli::{Disk, Fault, flushed, run_command};
+use fleet_cli::{Disk, Fault, run_command};
+use fleet_run::{TraceOut, WriteOut, put_all};
 use std::io::{BufWriter, ErrorKind, Write};
 use std::process::ExitCode;
 use std::rt::Env;
@@ -48,5 +48,5 @@ fn main(rt: HostRuntime) -> ExitCode {
         &mut out,
         &mut err,
     );
-    ExitCode::from(flushed(status, &mut out, &mut err))
+    ExitCode::from(status)
 }

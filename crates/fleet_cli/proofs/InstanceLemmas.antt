@@ -6,9 +6,9 @@ use Rattle.std.specs.Io.KnownBytes.{Appends}
 use Rattle.std.proofs.lemmas.Bool.{cases_lt}
 use Rattle.fleet_model.specs.declared.geometry.Cell.{Cell}
 use Rattle.fleet_model.specs.declared.task.Task.{Task}
-use Rattle.fleet_cli.specs.Sink.{StopsWithin}
+use Rattle.fleet_run.specs.Sink.{StopsWithin}
 use Rattle.fleet_cli.specs.InstanceCommand.{start_in, goal_in, task_line, task_lines}
-use Rattle.fleet_cli.proofs.SinkLemmas.{appends_more, appends_same, stops_within_more, stops_after}
+use Rattle.fleet_run.proofs.SinkLemmas.{appends_more, appends_same, stops_within_more, stops_after}
 
 of_some : (part : Task → Cell) (o : Option Task) (c d : Cell) → option_map part o ≡ Some c → c ≡ option_map_or part o d
 of_some part None c d e = absurd cc

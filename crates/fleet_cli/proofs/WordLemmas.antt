@@ -2,8 +2,8 @@
 use Rattle.std.proofs.Common.{◌≡◌, ◌∙◌, sym, ℕ, ◌+◌, ◌<◌, Bool, Option, List, [], ◌∷◌, ◌++◌, length, take, drop, get_or, map, ap, append_assoc, append-nil}
 use Rattle.std.proofs.lemmas.List.{take_more, map-append, take-append-drop}
 use Rattle.std.specs.Io.KnownBytes.{Appends}
-use Rattle.fleet_cli.specs.Sink.{StopsWithin}
-use Rattle.fleet_cli.proofs.SinkLemmas.{appends_same, appends_more, stops_after, stops_within_more}
+use Rattle.fleet_run.specs.Sink.{StopsWithin}
+use Rattle.fleet_run.proofs.SinkLemmas.{appends_same, appends_more, stops_after, stops_within_more}
 use Rattle.fleet_cli.specs.declared.words.Word.{Word}
 use Rattle.fleet_cli.specs.Words.{word_text, spaced, next_words}
 

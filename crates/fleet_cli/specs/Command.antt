@@ -1,6 +1,5 @@
 -- What the program does for its words.
-use Rattle.std.specs.Prelude.{◌≡◌, ℕ, false, List, [], ◌∷◌, ◌⊎◌, Option, option_map, codes, string_bytes}
-use Rattle.std.specs.Io.KnownBytes.{Appends}
+use Rattle.std.specs.Prelude.{◌≡◌, ℕ, List, [], ◌∷◌, ◌⊎◌, Option, option_map, codes, string_bytes}
 use Rattle.clap.specs.Words.{Text}
 use Rattle.fleet_args.specs.CommandLine.{fleet}
 use Rattle.fleet_args.specs.Request.{asked_of, Asks, StopsFor}
@@ -9,9 +8,9 @@ use Rattle.fleet_args.specs.declared.request.Request.TheVariants as r
 use Rattle.fleet_args.specs.declared.request.WordStop.{WordStop}
 use Rattle.fleet_args.specs.declared.request.WordStop.TheVariants as w
 use Rattle.fleet_cli.specs.Files.{Store}
-use Rattle.fleet_cli.specs.Sink.{Receives, StopsWithin}
+use Rattle.fleet_run.specs.Sink.{Receives, FailsAfter}
 use Rattle.fleet_cli.specs.Words.{line_text}
-use Rattle.fleet_cli.specs.Output.{Output, IsUnwritten, IsTold}
+use Rattle.fleet_cli.specs.Output.{Output, IsUnwritten, IsDelivered, IsTold}
 use Rattle.fleet_cli.specs.HexRun.{RunsHex}
 use Rattle.fleet_cli.specs.RehearseCommand.{RunsRehearse}
 use Rattle.fleet_cli.specs.InstanceCommand.{RunsInstance}
@@ -27,8 +26,8 @@ abbrev pub StopsAtWords : WordStop → Output → Output → ℕ → Type 0
 StopsAtWords w.OutOfMemory out err status = (status ≡ 3) × IsTold f.Memory err × IsUnwritten out
 StopsAtWords (w.Usage text) out err status = (status ≡ 2) × Receives err.before err.taken err.has_failed (string_bytes text) × IsUnwritten out
 StopsAtWords (w.Help text) out err status =
-    ((status ≡ 0) × Appends out.before out.taken (string_bytes text) × (out.has_failed ≡ false) × IsUnwritten err)
-    ⊎ ((status ≡ 3) × StopsWithin out.before out.taken out.has_failed (string_bytes text)
+    ((status ≡ 0) × IsDelivered (string_bytes text) out × IsUnwritten err)
+    ⊎ ((status ≡ 3) × FailsAfter out.before out.taken out.has_failed (string_bytes text)
     × Receives err.before err.taken err.has_failed (line_text (codes "file" ∷ codes "-" ∷ [])))
 
 -- without words the run of the input; else the command that the words ask, or a stop at words that the command line does not take

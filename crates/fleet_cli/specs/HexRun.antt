@@ -7,11 +7,11 @@ use Rattle.fleet_code.specs.Reading.{program_at}
 use Rattle.fleet_code.specs.Hex.{bytes_of}
 use Rattle.fleet_code.specs.declared.fault.HexFault.TheVariants as h
 use Rattle.fleet_code.specs.declared.fault.LoadFault.TheVariants as l
-use Rattle.fleet_cli.specs.Rehearsal.{Rehearses}
+use Rattle.fleet_cli.specs.Flushed.{RehearsesFlushed}
 use Rattle.fleet_cli.specs.Lines.{status_of}
 use Rattle.fleet_cli.specs.Output.{Output, IsUnwritten, IsTold, WritesRehearsal}
-use Rattle.fleet_cli.specs.declared.rehearsal.run.End.{End}
-use Rattle.fleet_cli.specs.declared.rehearsal.run.End.TheVariants.{Finished, Stuck}
+use Rattle.fleet_run.specs.declared.run.End.{End}
+use Rattle.fleet_run.specs.declared.run.End.TheVariants.{Finished, Stuck}
 use Rattle.fleet_cli.specs.declared.fault.Fault.{Fault}
 use Rattle.fleet_cli.specs.declared.fault.Fault.TheVariants as f
 
@@ -25,7 +25,7 @@ pub record StandsFor (text : List ℕ) (p : Program) : Type 0 where
   pub pairs : bytes_of text ≡ Ok bytes
   pub spelled : Spells bytes p
 
--- the rehearsal of the program that the input stands for was written, and ended so
+-- the rehearsal of the program that the input stands for was written and handed on, and ended so
 pub record RehearsesInput (input : Option (List ℕ)) (out : Output) (end : End) : Type 0 where
   pub text : List ℕ
   pub read : IsTextOf input text
@@ -34,7 +34,7 @@ pub record RehearsesInput (input : Option (List ℕ)) (out : Output) (end : End)
   pub writes : WritesRehearsal program [] out end
 
 -- the refusal is one that the input allows: the first fault of its text, or of the bytes for which that stands; or the sink failed
--- while the rehearsal was written; or memory ran out, or the input cannot be read
+-- while the rehearsal was written, or when it was to hand it on; or memory ran out, or the input cannot be read
 abbrev pub IsRefusalOf : Option (List ℕ) → Output → Fault → Type 0
 IsRefusalOf input out (f.Map fault) = ⊥
 IsRefusalOf input out (f.Scen fault) = ⊥
@@ -44,12 +44,12 @@ IsRefusalOf input out (f.Load fault) =
     (text bytes : List ℕ) × IsTextOf input text × (bytes_of text ≡ Ok bytes) × (fault ≢ l.OutOfMemory → program_at bytes ≡ Err fault) × IsUnwritten out
 IsRefusalOf input out (f.Run fault) =
     (text : List ℕ) × (p : Program) × (left : Holds) × IsTextOf input text × StandsFor text p
-    × Rehearses p [] (record { last = None; now = None; left = left; fault = None; before = out.before; taken = out.taken; has_failed = out.has_failed }) (Err fault)
+    × RehearsesFlushed p [] (record { last = None; now = None; left = left; fault = None; before = out.before; taken = out.taken; has_failed = out.has_failed }) out.is_flushed (Err fault)
 IsRefusalOf input out f.Memory = IsUnwritten out
 IsRefusalOf input out (f.File name) = (name.now ≡ codes "-") × IsUnwritten out
 
 -- 0 where the rehearsal was written and ends finished, 1 where it was written and ends stuck, and else the status of a refusal
--- that was told
+-- that was told: the other output took that one line, or failed within it
 abbrev pub RunsHex : Option (List ℕ) → Output → Output → ℕ → Type 0
 RunsHex input out err status =
     (RehearsesInput input out Finished × IsUnwritten err × (status ≡ 0))

@@ -1,7 +1,6 @@
 -- What the command `instance` prints: the sizes of a map, its passable cells, and the start and the goal of each agent.
 use Rattle.std.specs.Prelude.{◌≡◌, ◌≢◌, ℕ, zero, suc, ◌+◌, false, List, [], ◌∷◌, ◌++◌, length, slice_get, ◌⊎◌, Option, codes, decimal}
 use Rattle.std.specs.Option.{option_map_or}
-use Rattle.std.specs.Io.KnownBytes.{Appends}
 use Rattle.fleet_model.specs.declared.geometry.Cell.{Cell}
 use Rattle.fleet_model.specs.declared.task.Task.{Task}
 use Rattle.fleet_model.specs.Program.{origin}
@@ -11,10 +10,10 @@ use Rattle.fleet_grid.specs.declared.fault.MapFault.TheVariants as m
 use Rattle.fleet_scen.specs.ScenText.{IsScenText, IsFirstScenFault}
 use Rattle.fleet_scen.specs.declared.fault.ScenFault.TheVariants as s
 use Rattle.fleet_cli.specs.Files.{Store, Holds as HasBytes}
-use Rattle.fleet_cli.specs.Sink.{StopsWithin}
+use Rattle.fleet_run.specs.Sink.{FailsAfter}
 use Rattle.fleet_cli.specs.Words.{cell_text, line_text}
 use Rattle.fleet_cli.specs.Lines.{status_of}
-use Rattle.fleet_cli.specs.Output.{Output, IsUnwritten, IsTold}
+use Rattle.fleet_cli.specs.Output.{Output, IsUnwritten, IsDelivered, IsTold}
 use Rattle.fleet_cli.specs.RehearseCommand.{IsReadFault}
 use Rattle.fleet_cli.specs.declared.fault.Fault.{Fault}
 use Rattle.fleet_cli.specs.declared.fault.Fault.TheVariants as f
@@ -54,13 +53,12 @@ pub record AreTextsOf (map scen : List ℕ) (asked : Option ℕ) (g : Ground) (t
   pub ground : IsMapText map g
   pub tasks_read : IsScenText scen g asked tasks
 
--- what the texts stand for was printed
+-- what the texts stand for was printed, and handed on
 pub record PrintsInstance (map scen : List ℕ) (asked : Option ℕ) (out : Output) : Type 0 where
   pub ground : Ground
   pub tasks : List Task
   pub texts : AreTextsOf map scen asked ground tasks
-  pub written : Appends out.before out.taken (instance_text ground tasks)
-  pub working : out.has_failed ≡ false
+  pub delivered : IsDelivered (instance_text ground tasks) out
 
 -- the refusal is one that the texts allow: the first fault of the map's, or of the scenario's on that map; or the output failed
 abbrev pub IsInstanceFault : List ℕ → List ℕ → Option ℕ → Output → Fault → Type 0
@@ -73,7 +71,7 @@ IsInstanceFault map scen asked out (f.Run fault) = ⊥
 IsInstanceFault map scen asked out f.Memory = ⊥
 IsInstanceFault map scen asked out (f.File name) =
     (g : Ground) × (tasks : List Task) × (name.now ≡ codes "-") × AreTextsOf map scen asked g tasks
-    × StopsWithin out.before out.taken out.has_failed (instance_text g tasks)
+    × FailsAfter out.before out.taken out.has_failed (instance_text g tasks)
 
 -- the files were read: these are the bytes of the map and of the scenario
 pub record AreInstanceBytes (files : Option Store) (map scen map_bytes scen_bytes : List ℕ) : Type 0 where
@@ -87,7 +85,8 @@ IsInstanceRefusal files map scen asked out fault =
     ⊎ (IsReadFault scen fault × IsUnwritten out)
     ⊎ ((map_bytes scen_bytes : List ℕ) × AreInstanceBytes files map scen map_bytes scen_bytes × IsInstanceFault map_bytes scen_bytes asked out fault)
 
--- 0 where what the files stand for was printed, and else the status of a refusal that was told
+-- 0 where what the files stand for was printed, and else the status of a refusal that was told: the other output took that one line,
+-- or failed within it
 abbrev pub RunsInstance : Option Store → List ℕ → List ℕ → Option ℕ → Output → Output → ℕ → Type 0
 RunsInstance files map scen asked out err status =
     ((map_bytes scen_bytes : List ℕ) × AreInstanceBytes files map scen map_bytes scen_bytes × PrintsInstance map_bytes scen_bytes asked out × IsUnwritten err × (status ≡ 0))

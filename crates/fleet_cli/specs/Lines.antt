@@ -9,8 +9,8 @@ use Rattle.fleet_code.specs.declared.fault.HexFault.{HexFault}
 use Rattle.fleet_code.specs.declared.fault.HexFault.TheVariants as h
 use Rattle.fleet_code.specs.declared.fault.LoadFault.{LoadFault}
 use Rattle.fleet_code.specs.declared.fault.LoadFault.TheVariants as l
-use Rattle.fleet_cli.specs.declared.rehearsal.run.RunFault.{RunFault}
-use Rattle.fleet_cli.specs.declared.rehearsal.run.RunFault.TheVariants as r
+use Rattle.fleet_run.specs.declared.run.RunFault.{RunFault}
+use Rattle.fleet_run.specs.declared.run.RunFault.TheVariants as r
 use Rattle.fleet_cli.specs.declared.fault.Fault.{Fault}
 use Rattle.fleet_cli.specs.declared.fault.Fault.TheVariants as f
 

@@ -7,13 +7,13 @@ use Rattle.fleet_code.specs.Spelling.{Spells}
 use Rattle.fleet_code.specs.Reading.{program_at}
 use Rattle.fleet_code.specs.declared.fault.LoadFault.TheVariants as l
 use Rattle.fleet_cli.specs.Files.{Store, Holds as HasBytes}
-use Rattle.fleet_cli.specs.HoldText.{ticks_of, last_of}
-use Rattle.fleet_cli.specs.Rehearsal.{Rehearses}
+use Rattle.fleet_run.specs.HoldText.{ticks_of, last_of}
+use Rattle.fleet_cli.specs.Flushed.{RehearsesFlushed}
 use Rattle.fleet_cli.specs.Lines.{status_of}
 use Rattle.fleet_cli.specs.Output.{Output, IsUnwritten, IsTold, WritesRehearsal}
-use Rattle.fleet_cli.specs.declared.rehearsal.source.SourceFault.{SourceFault}
-use Rattle.fleet_cli.specs.declared.rehearsal.run.End.{End}
-use Rattle.fleet_cli.specs.declared.rehearsal.run.End.TheVariants.{Finished, Stuck}
+use Rattle.fleet_run.specs.declared.source.SourceFault.{SourceFault}
+use Rattle.fleet_run.specs.declared.run.End.{End}
+use Rattle.fleet_run.specs.declared.run.End.TheVariants.{Finished, Stuck}
 use Rattle.fleet_cli.specs.declared.fault.Fault.{Fault}
 use Rattle.fleet_cli.specs.declared.fault.Fault.TheVariants as f
 
@@ -44,8 +44,8 @@ hold_ticks p held = ticks_of (length p) (lines held)
 abbrev pub hold_last : Program → List ℕ → Option SourceFault
 hold_last p held = last_of (length p) (lines held)
 
--- the rehearsal of the program that the bytes spell was written, under the holds for which the others stand, and ended so; of the
--- holds no line was asked for that is no tick's
+-- the rehearsal of the program that the bytes spell was written and handed on, under the holds for which the others stand, and ended
+-- so; of the holds no line was asked for that is no tick's
 pub record RehearsesBytes (bytes held : List ℕ) (out : Output) (end : End) : Type 0 where
   pub program : Program
   pub spelled : Spells bytes program
@@ -53,7 +53,7 @@ pub record RehearsesBytes (bytes held : List ℕ) (out : Output) (end : End) : T
   pub right_lines : length (hold_ticks program held) < writes.ticks → hold_last program held ≡ None
 
 -- the refusal is one that the bytes allow: the first fault of the program's; or a line of the holds that was asked for is no
--- tick's, or the sink failed while the rehearsal was written
+-- tick's, or the sink failed while the rehearsal was written, or when it was to hand it on
 abbrev pub IsRehearseFault : List ℕ → List ℕ → Output → Fault → Type 0
 IsRehearseFault bytes held out (f.Map fault) = ⊥
 IsRehearseFault bytes held out (f.Scen fault) = ⊥
@@ -61,8 +61,8 @@ IsRehearseFault bytes held out (f.Hex fault) = ⊥
 IsRehearseFault bytes held out (f.Load fault) = (fault ≢ l.OutOfMemory → program_at bytes ≡ Err fault) × IsUnwritten out
 IsRehearseFault bytes held out (f.Run fault) =
     (p : Program) × (now failed : Option SourceFault) × (left : Holds) × Spells bytes p
-    × Rehearses p (hold_ticks p held)
-    (record { last = hold_last p held; now = now; left = left; fault = failed; before = out.before; taken = out.taken; has_failed = out.has_failed }) (Err fault)
+    × RehearsesFlushed p (hold_ticks p held)
+    (record { last = hold_last p held; now = now; left = left; fault = failed; before = out.before; taken = out.taken; has_failed = out.has_failed }) out.is_flushed (Err fault)
 IsRehearseFault bytes held out f.Memory = ⊥
 IsRehearseFault bytes held out (f.File name) = ⊥
 
@@ -79,7 +79,7 @@ IsRehearseRefusal files program holds out fault =
     ⊎ ((bytes held : List ℕ) × AreRead files program holds bytes held × IsRehearseFault bytes held out fault)
 
 -- 0 where the rehearsal was written and ends finished, 1 where it was written and ends stuck, and else the status of a refusal
--- that was told
+-- that was told: the other output took that one line, or failed within it
 abbrev pub RunsRehearse : Option Store → List ℕ → Option (List ℕ) → Output → Output → ℕ → Type 0
 RunsRehearse files program holds out err status =
     (RehearsesFiles files program holds out Finished × IsUnwritten err × (status ≡ 0))

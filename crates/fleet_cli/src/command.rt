@@ -5,11 +5,12 @@ ghost use Rattle.fleet_cli.specs.Command.{RunsRequest, StopsAtWords, RunsCommand
 
 use crate::fault::Fault;
 use crate::files::Files;
+use crate::flush::deliver;
 use crate::hex_run::{refuse, run_hex};
 use crate::instance_command::run_instance;
-use crate::rehearsal::{OutFault, TraceOut, put_all};
 use crate::rehearse_command::run_rehearse;
 use fleet_args::{Request, WordStop, read_words};
+use fleet_run::{OutFault, TraceOut, put_all};
 use std::alloc::Global;
 use std::io::Read;
 
@@ -24,8 +25,8 @@ pub fn run_request<F: Files, O: TraceOut, E: TraceOut>(
     requires out_working { O.has_failed out.old ≡ false }
     requires err_working { E.has_failed err.old ≡ false }
     ensures { RunsRequest (F.contents files.old) request.now
-        (record { before = O.taken out.old; taken = O.taken out.new; has_failed = O.has_failed out.new })
-        (record { before = E.taken err.old; taken = E.taken err.new; has_failed = E.has_failed err.new })
+        (record { before = O.taken out.old; taken = O.taken out.new; has_failed = O.has_failed out.new; is_flushed = O.is_flushed out.new })
+        (record { before = E.taken err.old; taken = E.taken err.new; has_failed = E.has_failed err.new; is_flushed = E.is_flushed err.new })
         result }
 {
     match *request {
@@ -43,8 +44,8 @@ fn stop_at<O: TraceOut, E: TraceOut>(stop: &WordStop, out: &mut O, err: &mut E) 
     requires out_working { O.has_failed out.old ≡ false }
     requires err_working { E.has_failed err.old ≡ false }
     ensures { StopsAtWords stop.now
-        (record { before = O.taken out.old; taken = O.taken out.new; has_failed = O.has_failed out.new })
-        (record { before = E.taken err.old; taken = E.taken err.new; has_failed = E.has_failed err.new })
+        (record { before = O.taken out.old; taken = O.taken out.new; has_failed = O.has_failed out.new; is_flushed = O.is_flushed out.new })
+        (record { before = E.taken err.old; taken = E.taken err.new; has_failed = E.has_failed err.new; is_flushed = E.is_flushed err.new })
         result }
 {
     match stop {
@@ -53,7 +54,7 @@ fn stop_at<O: TraceOut, E: TraceOut>(stop: &WordStop, out: &mut O, err: &mut E) 
             let _ = put_all(err, text.as_bytes());
             2
         }
-        WordStop::Help(text) => match put_all(out, text.as_bytes()) {
+        WordStop::Help(text) => match deliver(out, text.as_bytes()) {
             Ok(()) => 0,
             Err(OutFault) => refuse(&Fault::File("-"), err),
         },
@@ -73,8 +74,8 @@ pub fn run_command<R: Read, F: Files, O: TraceOut, E: TraceOut>(
     requires out_working { O.has_failed out.old ≡ false }
     requires err_working { E.has_failed err.old ≡ false }
     ensures { RunsCommand (map string_bytes words.now) (R.remaining input.old) (F.contents files.old)
-        (record { before = O.taken out.old; taken = O.taken out.new; has_failed = O.has_failed out.new })
-        (record { before = E.taken err.old; taken = E.taken err.new; has_failed = E.has_failed err.new })
+        (record { before = O.taken out.old; taken = O.taken out.new; has_failed = O.has_failed out.new; is_flushed = O.is_flushed out.new })
+        (record { before = E.taken err.old; taken = E.taken err.new; has_failed = E.has_failed err.new; is_flushed = E.is_flushed err.new })
         result }
 {
     if words.is_empty() {

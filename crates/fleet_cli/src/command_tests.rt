@@ -1,8 +1,8 @@
 //! Commands by their words.
 
 use super::*;
-use crate::rehearsal::VecOut;
 use fleet_code::read_hex;
+use fleet_run::VecOut;
 use std::alloc::Global;
 use std::process::Abort;
 use std::test::Fail;

@@ -1,14 +1,14 @@
 //! A refusal of the program, with its status and its line.
 
 ghost use Rattle.std.specs.Prelude.{◌≡◌, false, map};
-ghost use Rattle.fleet_cli.specs.Sink.{TakesAll, Receives};
+ghost use Rattle.fleet_run.specs.Sink.{TakesAll, Receives};
 ghost use Rattle.fleet_cli.specs.Words.{line_text};
 ghost use Rattle.fleet_cli.specs.Lines.{named, named_at, named_by, map_words, scen_words, hex_words, load_words, run_words, line_of, status_of};
 
-use crate::rehearsal::{OutFault, RunFault, TraceOut};
 use crate::words::{Word, put_line};
 use fleet_code::{HexFault, LoadFault};
 use fleet_grid::MapFault;
+use fleet_run::{OutFault, RunFault, TraceOut};
 use fleet_scen::ScenFault;
 
 /// Every refusal of the program but usage and help. `File` names the file that cannot be read or written, and is `-` for the

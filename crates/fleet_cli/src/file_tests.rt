@@ -1,8 +1,8 @@
 //! Rehearsals of files, under holds of files, and stores that fail.
 
 use super::*;
-use crate::rehearsal::{HoldSource, HoldText, SourceFault, TraceOut, VecOut};
 use fleet_code::read_hex;
+use fleet_run::VecOut;
 use std::alloc::Global;
 use std::process::Abort;
 use std::test::Fail;
@@ -69,18 +69,6 @@ fn holds_are_read_in_place(rt: HostRuntime) -> Result<(), Fail> {
         b"run 3 Hold line 2\n",
         1,
     )
-}
-
-#[test]
-fn a_failed_source_stays_failed(rt: HostRuntime) {
-    let mut source = HoldText::new(b"0 2\n0,1\n", 3);
-    let mut held = [false, true, false];
-    assert!(rt; source.next(&mut held) == Ok(true));
-    assert_eq!(rt; held, [true, false, true]);
-    assert!(rt; source.failed().is_none());
-    let mut text = HoldText::new(b"0,1\n", 3);
-    assert!(rt; text.next(&mut held) == Err(SourceFault::Text));
-    assert!(rt; text.failed() == Some(SourceFault::Text));
 }
 
 #[test]

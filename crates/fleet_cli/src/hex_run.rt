@@ -1,16 +1,17 @@
 //! The run of the program without words.
 
-ghost use Rattle.std.specs.Prelude.{◌≡◌, ◌≢◌, true, false, MatchResult};
-ghost use Rattle.fleet_cli.specs.Sink.{Receives};
+ghost use Rattle.std.specs.Prelude.{◌≡◌, false, MatchResult};
+ghost use Rattle.fleet_run.specs.Sink.{Receives};
 ghost use Rattle.fleet_cli.specs.Lines.{line_of, status_of};
 ghost use Rattle.fleet_cli.specs.HexRun.{IsRefusalOf, RehearsesInput, RunsHex};
 
 use crate::fault::Fault;
+use crate::flush::rehearse_flushed;
 use crate::input::{FileFault, read_whole};
-use crate::rehearsal::{End, HoldList, RunFault, TraceOut, WriteOut, rehearse};
 use fleet_code::{load, read_hex};
+use fleet_run::{End, HoldList, TraceOut};
 use std::alloc::Global;
-use std::io::{Read, Write};
+use std::io::Read;
 
 /// Rehearses, with nobody held, the program that the input stands for in hexadecimal.
 fn rehearse_hex<R: Read, O: TraceOut>(
@@ -20,8 +21,8 @@ fn rehearse_hex<R: Read, O: TraceOut>(
 ) -> Result<End, Fault<'static>>
     requires { O.has_failed out.old ≡ false }
     ensures { MatchResult result
-        (RehearsesInput (R.remaining input.old) (record { before = O.taken out.old; taken = O.taken out.new; has_failed = O.has_failed out.new }))
-        (IsRefusalOf (R.remaining input.old) (record { before = O.taken out.old; taken = O.taken out.new; has_failed = O.has_failed out.new })) }
+        (RehearsesInput (R.remaining input.old) (record { before = O.taken out.old; taken = O.taken out.new; has_failed = O.has_failed out.new; is_flushed = O.is_flushed out.new }))
+        (IsRefusalOf (R.remaining input.old) (record { before = O.taken out.old; taken = O.taken out.new; has_failed = O.has_failed out.new; is_flushed = O.is_flushed out.new })) }
 {
     let text = match read_whole(alloc, input) {
         Ok(text) => text,
@@ -37,7 +38,7 @@ fn rehearse_hex<R: Read, O: TraceOut>(
         Err(fault) => return Err(Fault::Load(fault)),
     };
     let mut nobody = HoldList::new(Vec::new(alloc));
-    match rehearse(alloc, &program, &mut nobody, out) {
+    match rehearse_flushed(alloc, &program, &mut nobody, out) {
         Ok(rehearsal) => Ok(rehearsal.end),
         Err(fault) => Err(Fault::Run(fault)),
     }
@@ -65,8 +66,8 @@ pub fn run_hex<R: Read, O: TraceOut, E: TraceOut>(
     requires out_working { O.has_failed out.old ≡ false }
     requires err_working { E.has_failed err.old ≡ false }
     ensures { RunsHex (R.remaining input.old)
-        (record { before = O.taken out.old; taken = O.taken out.new; has_failed = O.has_failed out.new })
-        (record { before = E.taken err.old; taken = E.taken err.new; has_failed = E.has_failed err.new })
+        (record { before = O.taken out.old; taken = O.taken out.new; has_failed = O.has_failed out.new; is_flushed = O.is_flushed out.new })
+        (record { before = E.taken err.old; taken = E.taken err.new; has_failed = E.has_failed err.new; is_flushed = E.is_flushed err.new })
         result }
 {
     match rehearse_hex(alloc, input, out) {
@@ -74,21 +75,4 @@ pub fn run_hex<R: Read, O: TraceOut, E: TraceOut>(
         Ok(End::Stuck) => 1,
         Err(fault) => refuse(&fault, err),
     }
-}
-
-/// Flushes the output of a run that ended with this status, and answers the program's status. A failed flush is a failed write.
-pub fn flushed<W: Write, E: TraceOut>(status: u8, out: &mut WriteOut<W>, err: &mut E) -> u8
-    ensures kept { result ≢ status → (result ≡ 3) × (⟦<WriteOut<W> as TraceOut>⟧.has_failed out.new ≡ true) }
-    ensures done { result ≡ 0 → (status ≡ 0) × (⟦<WriteOut<W> as TraceOut>⟧.has_failed out.new ≡ false) }
-{
-    if !out.failed() && out.flush().is_ok() {
-        return status;
-    }
-    if status == 3 {
-        return status;
-    }
-    if !err.failed() {
-        Fault::Run(RunFault::Write).tell(err);
-    }
-    3
 }

@@ -1,17 +1,17 @@
 //! The command `instance`.
 
 ghost use Rattle.std.specs.Prelude.{◌≡◌, ◌<◌, false, length, List, ℕ, MatchResult};
-ghost use Rattle.fleet_cli.specs.Sink.{TakesAll};
+ghost use Rattle.fleet_run.specs.Sink.{TakesAll, Delivers};
 ghost use Rattle.fleet_cli.specs.InstanceCommand.{task_line, task_lines, map_line, ground_line, agents_line, instance_text, PrintsInstance, IsInstanceFault, AreInstanceBytes, IsInstanceRefusal, RunsInstance};
 
 use crate::fault::Fault;
 use crate::files::Files;
 use crate::hex_run::refuse;
-use crate::rehearsal::{OutFault, TraceOut};
 use crate::rehearse_command::read_file;
 use crate::words::{Word, put_line};
 use fleet_grid::{Grid, read_map};
 use fleet_model::Cell;
+use fleet_run::{OutFault, TraceOut};
 use fleet_scen::{Instance, read_scen};
 use std::alloc::Global;
 
@@ -79,6 +79,19 @@ fn put_instance<O: TraceOut>(out: &mut O, grid: &Grid, instance: &Instance) -> R
     put_tasks(out, instance)
 }
 
+/// Prints the instance, and has the sink hand it on.
+fn print_instance<O: TraceOut>(
+    out: &mut O,
+    grid: &Grid,
+    instance: &Instance,
+) -> Result<(), OutFault>
+    requires { O.has_failed out.old ≡ false }
+    ensures { Delivers (O.taken out.old) (O.taken out.new) (O.has_failed out.new) (O.is_flushed out.new) result (instance_text grid.now instance.now) }
+{
+    put_instance(out, grid, instance)?;
+    out.flush()
+}
+
 /// Prints the instance for which the texts stand.
 fn show_instance<O: TraceOut>(
     alloc: Global,
@@ -89,8 +102,8 @@ fn show_instance<O: TraceOut>(
 ) -> Result<(), Fault<'static>>
     requires { O.has_failed out.old ≡ false }
     ensures { MatchResult result
-        (λ _. PrintsInstance map.now scen.now asked (record { before = O.taken out.old; taken = O.taken out.new; has_failed = O.has_failed out.new }))
-        (IsInstanceFault map.now scen.now asked (record { before = O.taken out.old; taken = O.taken out.new; has_failed = O.has_failed out.new })) }
+        (λ _. PrintsInstance map.now scen.now asked (record { before = O.taken out.old; taken = O.taken out.new; has_failed = O.has_failed out.new; is_flushed = O.is_flushed out.new }))
+        (IsInstanceFault map.now scen.now asked (record { before = O.taken out.old; taken = O.taken out.new; has_failed = O.has_failed out.new; is_flushed = O.is_flushed out.new })) }
 {
     let grid = match read_map(alloc, map) {
         Ok(grid) => grid,
@@ -100,7 +113,7 @@ fn show_instance<O: TraceOut>(
         Ok(instance) => instance,
         Err(fault) => return Err(Fault::Scen(fault)),
     };
-    match put_instance(out, &grid, &instance) {
+    match print_instance(out, &grid, &instance) {
         Ok(()) => Ok(()),
         Err(OutFault) => Err(Fault::File("-")),
     }
@@ -118,9 +131,9 @@ fn show_files<'a, F: Files, O: TraceOut>(
     requires { O.has_failed out.old ≡ false }
     ensures { MatchResult result
         (λ _. (map_bytes : List ℕ) × (scen_bytes : List ℕ) × AreInstanceBytes (F.contents files.old) map.entry.now scen.entry.now map_bytes scen_bytes
-        × PrintsInstance map_bytes scen_bytes asked (record { before = O.taken out.old; taken = O.taken out.new; has_failed = O.has_failed out.new }))
+        × PrintsInstance map_bytes scen_bytes asked (record { before = O.taken out.old; taken = O.taken out.new; has_failed = O.has_failed out.new; is_flushed = O.is_flushed out.new }))
         (IsInstanceRefusal (F.contents files.old) map.entry.now scen.entry.now asked
-        (record { before = O.taken out.old; taken = O.taken out.new; has_failed = O.has_failed out.new })) }
+        (record { before = O.taken out.old; taken = O.taken out.new; has_failed = O.has_failed out.new; is_flushed = O.is_flushed out.new })) }
 {
     let map = match read_file(alloc, files, map) {
         Ok(bytes) => bytes,
@@ -150,8 +163,8 @@ pub fn run_instance<F: Files, O: TraceOut, E: TraceOut>(
     requires out_working { O.has_failed out.old ≡ false }
     requires err_working { E.has_failed err.old ≡ false }
     ensures { RunsInstance (F.contents files.old) map.now scen.now asked
-        (record { before = O.taken out.old; taken = O.taken out.new; has_failed = O.has_failed out.new })
-        (record { before = E.taken err.old; taken = E.taken err.new; has_failed = E.has_failed err.new })
+        (record { before = O.taken out.old; taken = O.taken out.new; has_failed = O.has_failed out.new; is_flushed = O.is_flushed out.new })
+        (record { before = E.taken err.old; taken = E.taken err.new; has_failed = E.has_failed err.new; is_flushed = E.is_flushed err.new })
         result }
 {
     match show_files(alloc, map, scen, asked, files, out) {

@@ -6,11 +6,12 @@ ghost use Rattle.fleet_cli.specs.RehearseCommand.{IsReadFault, AreHoldBytes, Reh
 
 use crate::fault::Fault;
 use crate::files::Files;
+use crate::flush::rehearse_flushed;
 use crate::hex_run::refuse;
 use crate::input::FileFault;
-use crate::rehearsal::{End, HoldText, TraceOut, rehearse};
 use fleet_code::load;
 use fleet_model::ProgramView;
+use fleet_run::{End, HoldText, TraceOut};
 use std::alloc::Global;
 
 /// The bytes of the file.
@@ -54,15 +55,15 @@ fn rehearse_bytes<O: TraceOut>(
 ) -> Result<End, Fault<'static>>
     requires { O.has_failed out.old ≡ false }
     ensures { MatchResult result
-        (RehearsesBytes bytes.now held.now (record { before = O.taken out.old; taken = O.taken out.new; has_failed = O.has_failed out.new }))
-        (IsRehearseFault bytes.now held.now (record { before = O.taken out.old; taken = O.taken out.new; has_failed = O.has_failed out.new })) }
+        (RehearsesBytes bytes.now held.now (record { before = O.taken out.old; taken = O.taken out.new; has_failed = O.has_failed out.new; is_flushed = O.is_flushed out.new }))
+        (IsRehearseFault bytes.now held.now (record { before = O.taken out.old; taken = O.taken out.new; has_failed = O.has_failed out.new; is_flushed = O.is_flushed out.new })) }
 {
     let program = match load(alloc, bytes) {
         Ok(program) => program,
         Err(fault) => return Err(Fault::Load(fault)),
     };
     let mut source = HoldText::new(held, program.agents());
-    match rehearse(alloc, &program, &mut source, out) {
+    match rehearse_flushed(alloc, &program, &mut source, out) {
         Ok(rehearsal) => Ok(rehearsal.end),
         Err(fault) => Err(Fault::Run(fault)),
     }
@@ -79,9 +80,9 @@ fn rehearse_files<'a, F: Files, O: TraceOut>(
     requires { O.has_failed out.old ≡ false }
     ensures { MatchResult result
         (RehearsesFiles (F.contents files.old) program.entry.now (option_map (λ n. n.now) holds.entry)
-        (record { before = O.taken out.old; taken = O.taken out.new; has_failed = O.has_failed out.new }))
+        (record { before = O.taken out.old; taken = O.taken out.new; has_failed = O.has_failed out.new; is_flushed = O.is_flushed out.new }))
         (IsRehearseRefusal (F.contents files.old) program.entry.now (option_map (λ n. n.now) holds.entry)
-        (record { before = O.taken out.old; taken = O.taken out.new; has_failed = O.has_failed out.new })) }
+        (record { before = O.taken out.old; taken = O.taken out.new; has_failed = O.has_failed out.new; is_flushed = O.is_flushed out.new })) }
 {
     let bytes = match read_file(alloc, files, program) {
         Ok(bytes) => bytes,
@@ -110,8 +111,8 @@ pub fn run_rehearse<F: Files, O: TraceOut, E: TraceOut>(
     requires out_working { O.has_failed out.old ≡ false }
     requires err_working { E.has_failed err.old ≡ false }
     ensures { RunsRehearse (F.contents files.old) program.now (option_map (λ n. n.now) holds.entry)
-        (record { before = O.taken out.old; taken = O.taken out.new; has_failed = O.has_failed out.new })
-        (record { before = E.taken err.old; taken = E.taken err.new; has_failed = E.has_failed err.new })
+        (record { before = O.taken out.old; taken = O.taken out.new; has_failed = O.has_failed out.new; is_flushed = O.is_flushed out.new })
+        (record { before = E.taken err.old; taken = E.taken err.new; has_failed = E.has_failed err.new; is_flushed = E.is_flushed err.new })
         result }
 {
     match rehearse_files(alloc, program, holds, files, out) {

@@ -1,19 +1,11 @@
-//! Texts and refusals of whole runs, and sinks and sources that fail.
-
-ghost use Rattle.std.specs.Prelude.{◌≡◌, false};
+//! Texts and refusals of runs without words, and streams that fail.
 
 use super::*;
-use crate::rehearsal::{
-    End, HoldList, HoldSource, OutFault, Rehearsal, RunFault, SourceFault, TraceOut, VecOut,
-    WriteOut, rehearse,
-};
-use fleet_code::{load, read_hex};
-use fleet_model::Program;
+use fleet_run::{RunFault, TraceOut, VecOut, WriteOut};
 use std::alloc::Global;
 use std::io;
 use std::io::{Read, Write};
 use std::process::Abort;
-use std::test::Fail;
 
 /// Agent 0 from 1,0 to 3,0, and agent 1 behind it from 0,0 to 2,0.
 const PAIR: &[u8] = b"4D504631 0002 0001 0000 0003 0000 0002 01 01
@@ -163,178 +155,6 @@ fn other_refusals_are_told(rt: HostRuntime) {
     }
 }
 
-fn pair(alloc: Global) -> Result<Program, Fail> {
-    let bytes = read_hex(alloc, PAIR)?;
-    Ok(load(alloc, &bytes)?)
-}
-
-#[test]
-fn a_held_agent_is_late(rt: HostRuntime) -> Result<(), Fail> {
-    let alloc = rt.alloc();
-    let mut row = Vec::new(alloc);
-    row.push(0)?;
-    let mut rows = Vec::new(alloc);
-    rows.push(row)?;
-    let mut out = VecOut::new(alloc);
-    let done = rehearse(alloc, &pair(alloc)?, &mut HoldList::new(rows), &mut out)?;
-    assert_eq!(rt;
-        done,
-        Rehearsal {
-            agents: 2,
-            ticks: 4,
-            held: 1,
-            end: End::Finished
-        }
-    );
-    assert_eq!(rt;
-        out.bytes(),
-        b"0: 1,0 0,0\n1: 1,0 0,0\n2: 2,0 0,0\n3: 3,0 1,0\n4: 3,0 2,0\nagents 2\nticks 4\nheld 1\nfinished\n".as_slice()
-    );
-    Ok(())
-}
-
-/// A sink that takes one byte at a time, and fails after some bytes.
-#[derive(Drop)]
-struct ShortOut {
-    bytes: Vec<u8>,
-    room: usize,
-    failed: bool,
-}
-
-impl TraceOut for ShortOut {
-    ghost use Rattle.std.specs.Prelude.{Some};
-
-    ghost taken = { λ s. Some s.bytes.items };
-
-    ghost has_failed = { λ s. s.failed };
-
-    fn put(&mut self, bytes: &[u8]) -> Result<usize, OutFault> {
-        if self.bytes.len() >= self.room || self.bytes.push(bytes[0]).is_err() {
-            self.failed = true;
-            return Err(OutFault);
-        }
-        Ok(1)
-    }
-
-    fn failed(&self) -> bool {
-        self.failed
-    }
-}
-
-fn short_out(alloc: Global, room: usize) -> ShortOut
-    ensures { result.failed ≡ false }
-{
-    ShortOut {
-        bytes: Vec::new(alloc),
-        room,
-        failed: false,
-    }
-}
-
-#[test]
-fn what_a_failing_sink_has_taken(rt: HostRuntime) -> Result<(), Fail> {
-    let alloc = rt.alloc();
-    let program = pair(alloc)?;
-    for room in 0..PAIR_TEXT.len() {
-        let mut out = short_out(alloc, room);
-        let mut nobody = HoldList::new(Vec::new(alloc));
-        let done = rehearse(alloc, &program, &mut nobody, &mut out);
-        assert_eq!(rt; done, Err(RunFault::Write));
-        assert_eq!(rt; out.bytes.as_slice(), &PAIR_TEXT[..room]);
-    }
-    let mut out = short_out(alloc, PAIR_TEXT.len());
-    let mut nobody = HoldList::new(Vec::new(alloc));
-    assert!(rt; rehearse(alloc, &program, &mut nobody, &mut out).is_ok());
-    assert_eq!(rt; out.bytes.as_slice(), PAIR_TEXT);
-    Ok(())
-}
-
-#[test]
-fn a_failing_output_has_status_3(rt: HostRuntime) {
-    let alloc = rt.alloc();
-    let mut out = short_out(alloc, 13);
-    let mut err = VecOut::new(alloc);
-    let mut left = PAIR;
-    let status = run_hex(alloc, &mut left, &mut out, &mut err);
-    assert_eq!(rt; status, 3);
-    assert_eq!(rt; out.bytes.as_slice(), b"0: 1,0 0,0\n1:".as_slice());
-    assert_eq!(rt; err.bytes(), b"run 4 Write\n".as_slice());
-}
-
-/// A source that holds nobody for some ticks, and then fails.
-#[derive(Drop)]
-struct FailingSource {
-    ticks: u8,
-    kind: SourceFault,
-    failed: bool,
-}
-
-impl HoldSource for FailingSource {
-    ghost use Rattle.std.specs.Prelude.{Some, None, [], replicate, if◌then◌else◌};
-
-    ghost ticks = { λ s. replicate s.ticks [] };
-
-    ghost last = { λ s. Some s.kind };
-
-    ghost fault = { λ s. if s.failed then Some s.kind else None };
-
-    fn next(&mut self, held: &mut [bool]) -> Result<bool, SourceFault> {
-        if self.ticks == 0 {
-            self.failed = true;
-            return Err(self.kind);
-        }
-        self.ticks -= 1;
-        for flag in held.iter_mut() {
-            *flag = false;
-        }
-        Ok(true)
-    }
-
-    fn failed(&self) -> Option<SourceFault> {
-        if self.failed { Some(self.kind) } else { None }
-    }
-}
-
-fn failing_source(ticks: u8, kind: SourceFault) -> FailingSource
-    ensures { result.failed ≡ false }
-{
-    FailingSource {
-        ticks,
-        kind,
-        failed: false,
-    }
-}
-
-#[test]
-fn a_source_fails(rt: HostRuntime) -> Result<(), Fail> {
-    let alloc = rt.alloc();
-    let program = pair(alloc)?;
-    let lines: [&[u8]; 3] = [
-        b"0: 1,0 0,0\n",
-        b"0: 1,0 0,0\n1: 2,0 0,0\n",
-        b"0: 1,0 0,0\n1: 2,0 0,0\n2: 3,0 1,0\n",
-    ];
-    for (given, text) in [(0, lines[0]), (1, lines[1]), (2, lines[2])] {
-        let mut broken = failing_source(given, SourceFault::Broken);
-        let mut out = VecOut::new(alloc);
-        let done = rehearse(alloc, &program, &mut broken, &mut out);
-        let tick = u32::from(given) + 1;
-        assert_eq!(rt; done, Err(RunFault::Source { tick }));
-        assert_eq!(rt; out.bytes(), text);
-        let mut wrong = failing_source(given, SourceFault::Text);
-        let mut out = VecOut::new(alloc);
-        let done = rehearse(alloc, &program, &mut wrong, &mut out);
-        let line = u64::from(given) + 1;
-        assert_eq!(rt; done, Err(RunFault::Hold { line }));
-        assert_eq!(rt; out.bytes(), text);
-    }
-    let mut late = failing_source(3, SourceFault::Broken);
-    let mut out = VecOut::new(alloc);
-    assert!(rt; rehearse(alloc, &program, &mut late, &mut out).is_ok());
-    assert_eq!(rt; out.bytes(), PAIR_TEXT);
-    Ok(())
-}
-
 /// A writer that takes nothing, or that is interrupted; and a reader that fails.
 #[derive(Drop)]
 struct Broken {
@@ -371,14 +191,7 @@ fn broken_streams(rt: HostRuntime) {
         assert_eq!(rt; status, 3);
         assert!(rt; out.failed());
         assert_eq!(rt; err.bytes(), b"run 4 Write\n".as_slice());
-        let mut err = VecOut::new(alloc);
-        assert_eq!(rt; flushed(status, &mut out, &mut err), 3);
-        assert_eq!(rt; err.bytes(), b"".as_slice());
     }
-    let mut out = WriteOut::new(Broken { interrupted: false });
-    let mut err = VecOut::new(alloc);
-    assert_eq!(rt; flushed(0, &mut out, &mut err), 3);
-    assert_eq!(rt; err.bytes(), b"run 4 Write\n".as_slice());
     let mut out = VecOut::new(alloc);
     let mut err = VecOut::new(alloc);
     let mut input = Broken { interrupted: true };

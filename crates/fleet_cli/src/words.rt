@@ -1,11 +1,11 @@
 //! Words of a line, written to a sink without memory.
 
 ghost use Rattle.std.specs.Prelude.{◌≡◌, ◌++◌, ◌∷◌, [], false, map, decimal};
-ghost use Rattle.fleet_cli.specs.Sink.{TakesAll};
+ghost use Rattle.fleet_run.specs.Sink.{TakesAll};
 ghost use Rattle.fleet_cli.specs.Words.{cell_text, word_text, spaced, line_text};
 
-use crate::rehearsal::{OutFault, TraceOut, put_all, write_number};
 use fleet_model::Cell;
+use fleet_run::{OutFault, TraceOut, put_all, write_number};
 
 /// A word of a line.
 #[derive(Clone, Copy)]

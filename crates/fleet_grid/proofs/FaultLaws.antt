@@ -4,13 +4,14 @@ use Rattle.std.specs.Prelude.{position, codes, ◌⊎◌, IfOk, IfErr, IsOkUnles
 use Rattle.std.specs.List.{list_all}
 use Rattle.std.proofs.lemmas.Bool.{eqb-true, eq-eqb, ne_eqb, false_from_ne_true}
 use Rattle.std.proofs.lemmas.List.{drop-drop, length-drop, get_or-drop}
+use Rattle.fleet_model.specs.Answer.{IsDueUnless}
 use Rattle.fleet_grid.specs.declared.fault.MapFault.{MapFault}
 use Rattle.fleet_grid.specs.declared.fault.MapFault.TheVariants.{OutOfMemory, Header, Size, RowCount, RowLength, Glyph, Trailing}
 use Rattle.fleet_grid.specs.Text.{Bytes, words_from_front}
 use Rattle.fleet_grid.specs.Ground.{Ground, IsSide}
 use Rattle.fleet_grid.specs.MapText.{line_at, is_no_glyph, cells_of, is_space, IsKindLine, IsNumberLine, IsMapLine, IsHeader, IsSizedHeader, AreRows, AreMapLines, HasForm, IsFirstWithoutForm, IsRightUpTo, IsFirstFault}
 use Rattle.fleet_grid.specs.Steps.{none_or, ◌>>=◌, ◌>>◌, some_or}
-use Rattle.fleet_grid.specs.MapReading.{Gives, is_alone, field, number_field, is_side, header_at, row_at, rows_at, map_at}
+use Rattle.fleet_grid.specs.MapReading.{is_alone, field, number_field, is_side, header_at, row_at, rows_at, map_at}
 use Rattle.fleet_grid.proofs.StepLaws.{bind_err, right_err, some_err, some_ok, err_is, result_cases, ok_err}
 use Rattle.fleet_grid.proofs.MapLaws.{kind_is, kind_again, number_is, number_again, map_line_is, map_line_again, sides_are, sides_again, four_lines, sized, after_width, after_height, after_kind, header_is, header_read, header_again, row_again, StartWithRows, rows_to, rows_from, rows_again, row_is, rows_are, empty_are, empty_again, after_rows_read, after_header, is_found, is_read}
 
@@ -300,16 +301,15 @@ one_fault ls e f a b = err_is {A = Ground} e f (sym (is_told ls e a) ∙ is_told
 
 -- ---- what the reader returned
 
-pub found : (ls : List Bytes) (made : Result Ground MapFault) → Gives (λ g. g) made (map_at ls) → IfOk made (λ g. AreMapLines ls g)
+pub found : (ls : List Bytes) (made : Result Ground MapFault) → IsDueUnless (λ g. g) made (map_at ls) OutOfMemory → IfOk made (λ g. AreMapLines ls g)
 found ls (Ok g) e = is_found ls g e
 found ls (Err f) e = tt
 
-pub read : (ls : List Bytes) (made : Result Ground MapFault) → Gives (λ g. g) made (map_at ls) → (g : Ground) → AreMapLines ls g → IsOkUnless made OutOfMemory
+pub read : (ls : List Bytes) (made : Result Ground MapFault) → IsDueUnless (λ g. g) made (map_at ls) OutOfMemory → (g : Ground) → AreMapLines ls g → IsOkUnless made OutOfMemory
 read ls (Ok h) e g a = tt
 read ls (Err OutOfMemory) e g a = refl
-read ls (Err f) e g a = absurd (ok_err g f (sym (is_read ls g a) ∙ e))
+read ls (Err f) e g a = absurd (ok_err g f (sym (is_read ls g a) ∙ e (λ memory. cc)))
 
-pub told : (ls : List Bytes) (made : Result Ground MapFault) → Gives (λ g. g) made (map_at ls) → IfErr made (λ f. f ≢ OutOfMemory → IsFirstFault ls f)
+pub told : (ls : List Bytes) (made : Result Ground MapFault) → IsDueUnless (λ g. g) made (map_at ls) OutOfMemory → IfErr made (λ f. f ≢ OutOfMemory → IsFirstFault ls f)
 told ls (Ok g) e = tt
-told ls (Err OutOfMemory) e = λ other. absurd (other refl)
-told ls (Err f) e = λ other. is_fault ls f e
+told ls (Err f) e = λ other. is_fault ls f (e other)

@@ -1,5 +1,5 @@
 -- Reading a map's rows one after the other, as the loop does.
-use Rattle.std.proofs.Common.{◌≡◌, ℕ, suc, ◌+◌, ◌-◌, ◌*◌, ◌≤◌, ◌<◌, Bool, List, [], ◌∷◌, ◌++◌, length, replicate, false, cond, Result, Ok, Err, refl, sym, ap, ◌∙◌, append_assoc, arith}
+use Rattle.std.proofs.Common.{◌≡◌, ◌≢◌, ℕ, suc, ◌+◌, ◌-◌, ◌*◌, ◌≤◌, ◌<◌, Bool, List, [], ◌∷◌, ◌++◌, length, replicate, false, cond, Result, Ok, Err, refl, sym, ap, ◌∙◌, append_assoc, arith}
 use Rattle.std.specs.Prelude.{sum_by, count_by}
 use Rattle.std.proofs.lemmas.List.{append-nil, length-append, length-map, length-replicate}
 use Rattle.std.proofs.lemmas.List.Sums.{sum_by-append, sum_by-cons}
@@ -10,18 +10,13 @@ use Rattle.fleet_grid.specs.Ground.{passable_cells}
 use Rattle.fleet_grid.specs.MapText.{is_ground_glyph, cells_of}
 use Rattle.fleet_grid.specs.Stored.{cells_in, byte_count, padded, rows_of, ground_of}
 use Rattle.fleet_grid.specs.Steps.{◌>>=◌}
-use Rattle.fleet_grid.specs.MapReading.{Fails, row_at, rows_at}
+use Rattle.fleet_grid.specs.MapReading.{row_at, rows_at}
 use Rattle.fleet_grid.proofs.BitLaws.{length-cells_in}
 use Rattle.fleet_grid.proofs.StoredLaws.{rows_of-push}
 
 -- what is read, with these rows in front
 abbrev pub after_rows : List (List Bool) → Result (List (List Bool) × List Bytes) MapFault → Result (List (List Bool) × List Bytes) MapFault
 after_rows rows read = read >>= λ more. Ok (rows ++ more.0, more.1)
-
--- where one fails the other fails alike
-fails_alike : {A B : Type 0} (f : MapFault) (read : Result A MapFault) (total : Result B MapFault) → ((g : MapFault) → read ≡ Err g → total ≡ Err g) → Fails f read → Fails f total
-fails_alike OutOfMemory read total h e = tt
-fails_alike f read total h e = h f e
 
 after_rows-push : (rows : List (List Bool)) (first : List Bool) (read : Result (List (List Bool) × List Bytes) MapFault) → after_rows rows (read >>= λ others. Ok (first ∷ others.0, others.1)) ≡ after_rows (rows ++ first ∷ []) read
 after_rows-push rows first (Ok x) = ap (λ (rs : List (List Bool)). Ok (rs, x.1)) (sym (append_assoc rows (first ∷ []) x.0))
@@ -43,10 +38,9 @@ module _ (w h k : ℕ) (rows : List (List Bool)) (ls : List Bytes) (total : Resu
       let left : h - k ≡ suc (h - (k + 1)) = omega arith in
       rw (left, e) refl
 
-  pub row_fails : (e : MapFault) (line : Bytes) (after : List Bytes) → k < h → ls ≡ line ∷ after → Fails e (row_at w k line) → Fails e total
+  pub row_fails : (e : MapFault) (line : Bytes) (after : List Bytes) → k < h → ls ≡ line ∷ after → (e ≢ OutOfMemory → row_at w k line ≡ Err e) → e ≢ OutOfMemory → total ≡ Err e
   row_fails e line after lt is_next fails =
-      fails_alike e (row_at w k line) total (λ g same.
-      sym so_far ∙ ap (after_rows rows) (reads_row line after lt is_next ∙ ap (λ (r : Result (List Bool) MapFault). r >>= λ first. rows_at (h - (k + 1)) w (k + 1) after >>= λ others. Ok (first ∷ others.0, others.1)) same)) fails
+      λ other. sym so_far ∙ ap (after_rows rows) (reads_row line after lt is_next ∙ ap (λ (r : Result (List Bool) MapFault). r >>= λ first. rows_at (h - (k + 1)) w (k + 1) after >>= λ others. Ok (first ∷ others.0, others.1)) (fails other))
 
   pub row_next : (line : Bytes) (after : List Bytes) (first : List Bool) → k < h → ls ≡ line ∷ after → row_at w k line ≡ Ok first → after_rows (rows ++ first ∷ []) (rows_at (h - (k + 1)) w (k + 1) after) ≡ total
   row_next line after first lt is_next read =

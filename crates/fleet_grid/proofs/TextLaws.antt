@@ -1,12 +1,13 @@
 -- The first line of a text, the first word of a line, and the digits of a number one after the other.
 use Rattle.std.proofs.Common.{◌≡◌, ℕ, suc, ◌+◌, ◌-◌, ◌*◌, ◌≤◌, ◌<◌, min, Bool, true, false, not, eqb, ltb, List, [], ◌∷◌, length, get_or, map, filter, take, drop, Option, Some, None, option_map, refl, sym, ap, subst, ◌∙◌, arith, inl, inr, add-zero}
-use Rattle.std.specs.Prelude.{position}
+use Rattle.std.specs.Prelude.{position, sum_by, slice_index}
 use Rattle.std.specs.List.{position_or_len, slice_split, onto_first}
 use Rattle.std.specs.Str.Lines.{strip_carriage_return}
 use Rattle.std.proofs.lemmas.List.Splits.{slice_split_first}
 use Rattle.std.proofs.lemmas.List.Quantifiers.{position-Some}
 use Rattle.std.proofs.lemmas.Bool.{cases_Bool, cases_eq, ltb-true, ltb-false}
-use Rattle.std.proofs.lemmas.List.{drop_more, drop_all, get_or-drop, length-drop, length-take-le, length-map}
+use Rattle.std.proofs.lemmas.List.{drop_more, drop_all, get_or-drop, length-drop, length-take, length-take-le, length-map}
+use Rattle.std.proofs.lemmas.List.Sums.{sum_by-cons}
 use Rattle.fleet_grid.specs.Text.{Bytes, is_lf, is_blank, is_word, ended_lines, lines, words, words_from_front, is_digit, number_after, number}
 
 one_more : (n : ℕ) → 1 + n ≡ suc n
@@ -218,6 +219,43 @@ length-ended (b ∷ text) =
 pub length-lines : (text : Bytes) → length (lines text) ≤ length text
 unfolding lines
 length-lines text = omega (arith, length-ended text, length-map (ended_lines text) strip_carriage_return)
+
+-- ---- how many bytes there are
+
+abbrev ended_bytes : List Bytes → ℕ
+ended_bytes ls = sum_by (λ line. length line + 1) ls
+
+abbrev line_bytes : List Bytes → ℕ
+line_bytes ls = sum_by (λ line. length line + 2) ls
+
+onto_first-bytes : (b : ℕ) (ls : List Bytes) → suc (ended_bytes ls) ≤ ended_bytes (onto_first b ls)
+onto_first-bytes b [] = omega (arith, sum_by-cons (λ (line : Bytes). length line + 1) (b ∷ []) [])
+onto_first-bytes b (l ∷ ls) = omega (arith, sum_by-cons (λ (line : Bytes). length line + 1) l ls, sum_by-cons (λ (line : Bytes). length line + 1) (b ∷ l) ls)
+
+bytes-ended : (text : Bytes) → length text ≤ ended_bytes (ended_lines text)
+unfolding ended_lines
+bytes-ended [] = omega arith
+bytes-ended (b ∷ text) =
+    elim (cases_Bool (eqb b 10)) [
+      | inl t ↦ rw t (omega (arith, bytes-ended text, sum_by-cons (λ (line : Bytes). length line + 1) [] (ended_lines text)))
+      | inr t ↦ rw t (omega (arith, bytes-ended text, onto_first-bytes b (ended_lines text)))
+    ]
+
+length-stripped : (line : Bytes) → length line ≤ length (strip_carriage_return line) + 1
+length-stripped line =
+    elim (cases_Bool (eqb (slice_index line (length line - 1)) 13)) [
+      | inl t ↦ rw t (omega (arith, length-take (length line - 1) line))
+      | inr t ↦ rw t (omega arith)
+    ]
+
+bytes-stripped : (ls : List Bytes) → ended_bytes ls ≤ line_bytes (map strip_carriage_return ls)
+bytes-stripped [] = omega arith
+bytes-stripped (l ∷ ls) =
+    omega (arith, bytes-stripped ls, length-stripped l, sum_by-cons (λ (line : Bytes). length line + 1) l ls, sum_by-cons (λ (line : Bytes). length line + 2) (strip_carriage_return l) (map strip_carriage_return ls))
+
+pub bytes-lines : (text : Bytes) → length text ≤ line_bytes (lines text)
+unfolding lines
+bytes-lines text = omega (arith, bytes-ended text, bytes-stripped (ended_lines text))
 
 -- ---- a blank in front
 

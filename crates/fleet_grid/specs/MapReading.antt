@@ -1,21 +1,12 @@
 -- Reading a map's lines in the order of judging, with the first fault that is met.
-use Rattle.std.specs.Prelude.{◌≡◌, ℕ, zero, suc, ◌+◌, Bool, false, ◌&&◌, ◌==◌, nat_le, List, [], ◌∷◌, length, drop, Option, Some, None, Result, Ok, Err, codes, if◌then◌else◌, bytes_eq, option_and_then, position}
+use Rattle.std.specs.Prelude.{ℕ, zero, suc, ◌+◌, Bool, false, ◌&&◌, ◌==◌, nat_le, List, [], ◌∷◌, length, drop, Option, Some, None, Result, Ok, Err, codes, if◌then◌else◌, bytes_eq, option_and_then, position}
 use Rattle.std.specs.List.{list_all}
 use Rattle.fleet_grid.specs.declared.fault.MapFault.{MapFault}
-use Rattle.fleet_grid.specs.declared.fault.MapFault.TheVariants.{OutOfMemory, Header, Size, RowCount, RowLength, Glyph, Trailing}
+use Rattle.fleet_grid.specs.declared.fault.MapFault.TheVariants.{Header, Size, RowCount, RowLength, Glyph, Trailing}
 use Rattle.fleet_grid.specs.Text.{Bytes, words_from_front, number}
 use Rattle.fleet_grid.specs.Ground.{Ground}
 use Rattle.fleet_grid.specs.Steps.{◌>>=◌, ◌>>◌, right_or, some_or, none_or}
 use Rattle.fleet_grid.specs.MapText.{line_at, is_no_glyph, cells_of, is_space}
-
--- What a function returned, seen by view, is what reading gives, unless memory ran out.
-abbrev pub Fails : {Y : Type 0} → MapFault → Result Y MapFault → Type 0
-Fails OutOfMemory read = Unit {0}
-Fails e read = read ≡ Err e
-
-abbrev pub Gives : {X Y : Type 0} → (X → Y) → Result X MapFault → Result Y MapFault → Type 0
-Gives view (Ok x) read = read ≡ Ok (view x)
-Gives view (Err e) read = Fails e read
 
 -- the one word after the keyword
 abbrev pub after_keyword : Bytes → List Bytes → Option Bytes

@@ -2,16 +2,17 @@
 
 ghost use Rattle.std.specs.Prelude.{◌≡◌, ◌≢◌, drop, length, IfOk, OnOk, IfErr, IsOkUnless, option_map, option_copied, min};
 ghost use Rattle.std.specs.List.{list_all};
+ghost use Rattle.fleet_model.specs.Answer.{IsDueUnless};
 ghost use Rattle.fleet_grid.specs.Text.{lines, words_from_front};
 ghost use Rattle.fleet_grid.specs.Ground.{Ground, IsSide};
 ghost use Rattle.fleet_grid.specs.MapText.{line_at, is_space, cells_of, IsMapText, IsFirstMapFault};
-ghost use Rattle.fleet_grid.specs.MapReading.{Gives, field, number_field, is_alone, is_side, header_at, row_at, rows_at, map_at};
+ghost use Rattle.fleet_grid.specs.MapReading.{field, number_field, is_alone, is_side, header_at, row_at, rows_at, map_at};
 ghost use Rattle.fleet_grid.specs.Stored.{ground_of, IsStored};
 
 use crate::fault::MapFault;
 use crate::glyphs::wrong_column;
 use crate::grid::Grid;
-use crate::stored::{Cells, byte_count};
+use crate::stored::Cells;
 use crate::text::{Cursor, from_front, is_blank, next_word, number_of};
 use std::alloc::Global;
 
@@ -64,7 +65,7 @@ fn is_side(n: u32) -> bool
 /// Width and height.
 #[tactic(auto, unfolding(crate::specs::MapReading::header_at))]
 fn header_of(lines: &mut Cursor) -> Result<(u16, u16), MapFault>
-    ensures value { Gives (λ sizes. sizes) result (header_at lines.old) }
+    ensures value { result ≡ header_at lines.old }
     ensures sizes { IfOk result (λ sizes. IsSide sizes.0 × IsSide sizes.1) }
     ensures rest { IfOk result (λ _. lines.new ≡ drop 4 lines.old) }
 {
@@ -89,7 +90,7 @@ fn header_of(lines: &mut Cursor) -> Result<(u16, u16), MapFault>
 /// Whether the line is a row of the map.
 #[tactic(auto, unfolding(crate::specs::MapReading::row_at))]
 fn judge_row(width: u16, row: u16, line: &[u8]) -> Result<(), MapFault>
-    ensures value { Gives (λ _. cells_of line.now) result (row_at width row line.now) }
+    ensures value { IsDueUnless (λ _. cells_of line.now) result (row_at width row line.now) MapFault.OutOfMemory }
     ensures width { OnOk result (length line.now ≡ width) }
 {
     if line.len() != usize::from(width) {
@@ -106,12 +107,11 @@ fn judge_row(width: u16, row: u16, line: &[u8]) -> Result<(), MapFault>
 fn cells_of(alloc: Global, width: u16, height: u16, lines: &mut Cursor) -> Result<Cells, MapFault>
     requires width { IsSide width }
     requires height { IsSide height }
-    ensures value { Gives (λ c. ((ground_of width height c.bytes.items).rows, lines.new)) result (rows_at height width 0 lines.old) }
+    ensures value { IsDueUnless (λ c. ((ground_of width height c.bytes.items).rows, lines.new)) result (rows_at height width 0 lines.old) MapFault.OutOfMemory }
     ensures stored { IfOk result (λ c. IsStored width height c.passable_count c.bytes.items) }
 {
     // Each byte of cells comes from bytes of the text, so sizes beyond the text reserve nothing for themselves.
-    let most = byte_count(usize::from(width)) * usize::from(height);
-    let mut cells = Cells::with_capacity(alloc, most.min(lines.bytes_left()))?;
+    let mut cells = Cells::with_capacity(alloc, width, height, lines.bytes_left())?;
     for row in 0..height {
         let Some(line) = lines.next_line() else {
             return Err(MapFault::RowCount);
@@ -142,7 +142,7 @@ fn is_empty(line: &[u8]) -> bool
 
 #[tactic(auto, unfolding(crate::specs::MapReading::map_at))]
 fn map_of(alloc: Global, bytes: &[u8]) -> Result<Grid, MapFault>
-    ensures { Gives (λ g. g) result (map_at (lines bytes.now)) }
+    ensures { IsDueUnless (λ g. g) result (map_at (lines bytes.now)) MapFault.OutOfMemory }
 {
     let mut lines = Cursor::new(bytes);
     let (width, height) = header_of(&mut lines)?;

@@ -1,6 +1,6 @@
 //! The cells of a map, a bit for each.
 
-ghost use Rattle.std.specs.Prelude.{◌≡◌, ◌+◌, ◌-◌, ◌*◌, ◌<◌, ◌≤◌, ◌^◌, ◌++◌, ◌==◌, ◌/◌, ◌%◌, length, map, take, replicate, count_by, OnOk, IfOk, []};
+ghost use Rattle.std.specs.Prelude.{◌≡◌, ◌+◌, ◌-◌, ◌*◌, ◌<◌, ◌≤◌, ◌^◌, ◌++◌, ◌==◌, ◌/◌, ◌%◌, length, map, take, replicate, count_by, min, vec_capacity, OnOk, IfOk, []};
 ghost use Rattle.fleet_grid.specs.MapText.{is_ground_glyph, cells_of};
 ghost use Rattle.fleet_grid.specs.Stored.{cells_in, byte_count, padded};
 
@@ -39,13 +39,21 @@ fn filled(glyphs: &[u8]) -> [u8; BLOCK]
 }
 
 impl Cells {
-    /// No row, and room for so many bytes.
-    pub(crate) fn with_capacity(alloc: Global, capacity: usize) -> Result<Self, AllocError>
+    /// No row, and room for the rows of a map of these sizes, but for no more than `most` bytes.
+    pub(crate) fn with_capacity(
+        alloc: Global,
+        width: u16,
+        height: u16,
+        most: usize,
+    ) -> Result<Self, AllocError>
+        requires { width ≤ 4096 }
         ensures bytes { IfOk result (λ c. c.bytes.items ≡ []) }
         ensures count { IfOk result (λ c. c.passable_count ≡ 0) }
+        ensures room { IfOk result (λ c. vec_capacity c.bytes ≡ min (byte_count width * height) most) }
     {
+        let all = byte_count(usize::from(width)) * usize::from(height);
         Ok(Cells {
-            bytes: Vec::with_capacity(alloc, capacity)?,
+            bytes: Vec::with_capacity(alloc, all.min(most))?,
             passable_count: 0,
         })
     }

@@ -3,7 +3,7 @@
 //! A text is a slice of any bytes. Nothing is copied and nothing takes memory: each function lends what it finds in
 //! the slice, and gives the rest of it.
 
-ghost use Rattle.std.specs.Prelude.{◌≡◌, ◌≤◌, ◌<◌, ◌+◌, ◌^◌, [], ◌∷◌, length, not, position, MatchOption, min, option_map};
+ghost use Rattle.std.specs.Prelude.{◌≡◌, ◌≤◌, ◌<◌, ◌+◌, ◌^◌, [], ◌∷◌, length, not, position, MatchOption, min, option_map, sum_by};
 ghost use Rattle.std.specs.Str.Lines.{strip_carriage_return};
 ghost use Rattle.fleet_grid.specs.Text.{is_lf, is_blank, lines, words, words_from_front, number, small_number};
 
@@ -40,9 +40,11 @@ impl<'a> Cursor<'a> {
         Cursor { rest: text }
     }
 
-    /// How many bytes are left. There are no more lines than bytes.
+    /// How many bytes are left. There are no more lines than bytes, and no more bytes than the lines have with a CR and an
+    /// LF each.
     pub fn bytes_left(&self) -> usize
-        ensures { length self.now ≤ result }
+        ensures lines { length self.now ≤ result }
+        ensures bytes { result ≤ sum_by (λ line. length line + 2) self.now }
     {
         self.rest.len()
     }

@@ -1,6 +1,9 @@
 pub mod Plan
 pub mod Checked
 pub mod Worked
+pub mod PlanText
+pub mod PlanReading
+pub mod CellReading
 pub mod FirstFault
 pub mod Rings
 pub mod Sweep

@@ -6,6 +6,7 @@ use Rattle.std.proofs.lemmas.Bool.{cases_Bool, ltb-true, ltb-false, lt-ltb, le-l
 use Rattle.std.proofs.lemmas.List.{append-nil, length-append, length-take, length-drop}
 use Rattle.std.proofs.lemmas.List.Elements.{All-from_recursion}
 use Rattle.fleet_model.specs.declared.task.Task.{Task}
+use Rattle.fleet_model.specs.Answer.{IsDueUnless}
 use Rattle.fleet_grid.specs.Text.{Bytes, words}
 use Rattle.fleet_grid.specs.Ground.{Ground}
 use Rattle.fleet_grid.specs.Steps.{◌>>◌, right_or}
@@ -14,7 +15,7 @@ use Rattle.fleet_scen.specs.declared.fault.ScenFault.{ScenFault}
 use Rattle.fleet_scen.specs.declared.fault.ScenFault.TheVariants.{OutOfMemory, Version, Fields, Number, OtherMap, Blocked, SharedStart, SharedGoal, NoAgents, TooMany, Fewer}
 use Rattle.fleet_scen.specs.Instance.{AreApart}
 use Rattle.fleet_scen.specs.ScenText.{is_filled, Line, agent_lines, version_line, is_version, IsOpen, StandsFor, AreScenLines, MayBeAsked, IsRightUpTo, Reaches, IsFirstFault}
-use Rattle.fleet_scen.specs.ScenReading.{Gives, task_at, apart_at, lacks, ended, tasks_at, after_version, judge_asked, scen_at}
+use Rattle.fleet_scen.specs.ScenReading.{task_at, apart_at, lacks, ended, tasks_at, after_version, judge_asked, scen_at}
 use Rattle.fleet_scen.proofs.LineLaws.{IsLineFault, task_is, task_again, task_fails, task_fault, apart_is, apart_again, IsShared, apart_fails, apart_fault}
 use Rattle.fleet_scen.proofs.ScenLaws.{filled_from, filled_skip, filled_next, AreEarlier, new_at, apart_none, earlier_more, task_next, line_next, first_words, version_is, version_again, asked_again, none_earlier, tasks_after, after_asked, is_found, is_read}
 
@@ -454,10 +455,9 @@ all_open g asked ls tasks h = All-from_recursion (IsOpen g) tasks (cells_open g 
 
 -- ---- what the reader refuses
 
-pub read : (g : Ground) (asked : Option ℕ) (ls : List Bytes) (f : ScenFault) → Gives {X = List Task} (λ t. t) (Err f) (scen_at g asked ls) → (tasks : List Task) → AreScenLines ls g asked tasks → f ≡ OutOfMemory
+pub read : (g : Ground) (asked : Option ℕ) (ls : List Bytes) (f : ScenFault) → IsDueUnless {X = List Task} (λ t. t) (Err f) (scen_at g asked ls) OutOfMemory → (tasks : List Task) → AreScenLines ls g asked tasks → f ≡ OutOfMemory
 read g asked ls OutOfMemory e tasks a = refl
-read g asked ls f e tasks a = absurd (ok_err tasks f (sym (is_read g asked ls tasks a) ∙ e))
+read g asked ls f e tasks a = absurd (ok_err tasks f (sym (is_read g asked ls tasks a) ∙ e (λ memory. cc)))
 
-pub told : (g : Ground) (asked : Option ℕ) (ls : List Bytes) (f : ScenFault) → Gives {X = List Task} (λ t. t) (Err f) (scen_at g asked ls) → f ≢ OutOfMemory → IsFirstFault ls g asked f
-told g asked ls OutOfMemory e other = absurd (other refl)
-told g asked ls f e other = is_fault g asked ls f e
+pub told : (g : Ground) (asked : Option ℕ) (ls : List Bytes) (f : ScenFault) → IsDueUnless {X = List Task} (λ t. t) (Err f) (scen_at g asked ls) OutOfMemory → f ≢ OutOfMemory → IsFirstFault ls g asked f
+told g asked ls f e other = is_fault g asked ls f (e other)

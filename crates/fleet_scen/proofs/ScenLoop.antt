@@ -9,14 +9,9 @@ use Rattle.fleet_grid.specs.Text.{Bytes, words}
 use Rattle.fleet_grid.specs.Ground.{Ground}
 use Rattle.fleet_grid.specs.Steps.{◌>>=◌, ◌>>◌}
 use Rattle.fleet_scen.specs.declared.fault.ScenFault.{ScenFault}
-use Rattle.fleet_scen.specs.declared.fault.ScenFault.TheVariants.{OutOfMemory, SharedStart, SharedGoal, TooMany}
+use Rattle.fleet_scen.specs.declared.fault.ScenFault.TheVariants.{SharedStart, SharedGoal, TooMany}
 use Rattle.fleet_scen.specs.ScenText.{is_filled}
-use Rattle.fleet_scen.specs.ScenReading.{Fails, same_cell, starts_at, ends_at, task_at, apart_at, lacks, ended, tasks_at}
-
--- where one fails the other fails alike
-fails_alike : {A B : Type 0} (f : ScenFault) (read : Result A ScenFault) (total : Result B ScenFault) → ((g : ScenFault) → read ≡ Err g → total ≡ Err g) → Fails f read → Fails f total
-fails_alike OutOfMemory read total h e = tt
-fails_alike f read total h e = h f e
+use Rattle.fleet_scen.specs.ScenReading.{same_cell, starts_at, ends_at, task_at, apart_at, lacks, ended, tasks_at}
 
 stopped : (g : Ground) (asked : Option ℕ) (n : ℕ) (earlier : List Task) (ls : List Bytes) → lacks asked (length earlier) ≡ false → tasks_at g asked n earlier ls ≡ ended asked earlier
 unfolding tasks_at
@@ -56,10 +51,9 @@ module _ (g : Ground) (asked : Option ℕ) (n : ℕ) (earlier : List Task) (ls :
             let room : ltb (length earlier) 1024 ≡ true = lt-ltb _ _ few in
             sym so_far ∙ ap (tasks_at g asked n earlier) next ∙ rw (more, filled, room) refl
 
-        pub fails : (f : ScenFault) → Fails f (task_at g (n + 1) (words line)) → Fails f total
+        pub fails : (f : ScenFault) → task_at g (n + 1) (words line) ≡ Err f → total ≡ Err f
         fails f h =
-            fails_alike f (task_at g (n + 1) (words line)) total (λ d same.
-            reads_task ∙ ap (λ (r : Result Task ScenFault). r >>= λ task. task_next g asked (n + 1) earlier after task) same) h
+            reads_task ∙ ap (λ (r : Result Task ScenFault). r >>= λ task. task_next g asked (n + 1) earlier after task) h
 
         module _ (t : Task) (read : task_at g (n + 1) (words line) ≡ Ok t) where
           read_one : total ≡ task_next g asked (n + 1) earlier after t

@@ -1,5 +1,5 @@
 -- Reading a scenario's lines in the order of judging, with the first fault that is met.
-use Rattle.std.specs.Prelude.{◌≡◌, ℕ, ◌+◌, Bool, true, not, ◌&&◌, ◌==◌, nat_lt, nat_le, List, [], ◌∷◌, ◌++◌, length, Option, Some, None, Result, Ok, Err, if◌then◌else◌}
+use Rattle.std.specs.Prelude.{ℕ, ◌+◌, Bool, true, not, ◌&&◌, ◌==◌, nat_lt, nat_le, List, [], ◌∷◌, ◌++◌, length, Option, Some, None, Result, Ok, Err, if◌then◌else◌}
 use Rattle.std.specs.List.{list_any}
 use Rattle.fleet_model.specs.declared.geometry.Cell.{Cell}
 use Rattle.fleet_model.specs.declared.task.Task.{Task}
@@ -8,18 +8,9 @@ use Rattle.fleet_grid.specs.Text.{Bytes, words}
 use Rattle.fleet_grid.specs.Steps.{◌>>=◌, ◌>>◌, right_or, some_or}
 use Rattle.fleet_grid.specs.Ground.{Ground, is_passable}
 use Rattle.fleet_scen.specs.declared.fault.ScenFault.{ScenFault}
-use Rattle.fleet_scen.specs.declared.fault.ScenFault.TheVariants.{OutOfMemory, Version, Fields, Number, OtherMap, Blocked, SharedStart, SharedGoal, NoAgents, TooMany, Fewer}
+use Rattle.fleet_scen.specs.declared.fault.ScenFault.TheVariants.{Version, Fields, Number, OtherMap, Blocked, SharedStart, SharedGoal, NoAgents, TooMany, Fewer}
 use Rattle.fleet_scen.specs.Fields.{fields_of}
 use Rattle.fleet_scen.specs.ScenText.{is_filled, is_version}
-
--- What a function returned, seen by view, is what reading gives, unless memory ran out.
-abbrev pub Fails : {Y : Type 0} → ScenFault → Result Y ScenFault → Type 0
-Fails OutOfMemory read = Unit {0}
-Fails e read = read ≡ Err e
-
-abbrev pub Gives : {X Y : Type 0} → (X → Y) → Result X ScenFault → Result Y ScenFault → Type 0
-Gives view (Ok x) read = read ≡ Ok (view x)
-Gives view (Err e) read = Fails e read
 
 -- width, height and task, by the words of a line
 unfoldable pub numbers_at : ℕ → List Bytes → Result (ℕ × ℕ × Task) ScenFault

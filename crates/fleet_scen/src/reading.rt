@@ -2,9 +2,10 @@
 
 ghost use Rattle.std.specs.Prelude.{◌≡◌, ◌≢◌, ◌<◌, ◌+◌, ◌^◌, List, [], length, All, IfOk, IfErr, IsOkUnless};
 ghost use Rattle.fleet_model.specs.declared.task.Task.{Task};
+ghost use Rattle.fleet_model.specs.Answer.{IsDueUnless};
 ghost use Rattle.fleet_grid.specs.Text.{lines, words};
 ghost use Rattle.fleet_scen.specs.ScenText.{is_filled, is_version, IsOpen, IsScenText, IsFirstScenFault};
-ghost use Rattle.fleet_scen.specs.ScenReading.{Gives, numbers_at, task_at, lacks, ended, tasks_at, after_version, judge_asked, scen_at};
+ghost use Rattle.fleet_scen.specs.ScenReading.{numbers_at, task_at, lacks, ended, tasks_at, after_version, judge_asked, scen_at};
 
 use crate::fault::ScenFault;
 use crate::fields::fields_of;
@@ -47,7 +48,7 @@ fn is_version(line: &[u8]) -> bool
 #[tactic(auto, unfolding(crate::specs::ScenReading::after_version))]
 fn pass_version(lines: &mut Cursor) -> Result<u64, ScenFault>
     requires { length lines.old < 2 ^ 64 }
-    ensures value { Gives (λ before. (before, lines.new)) result (after_version 0 lines.old) }
+    ensures value { IsDueUnless (λ before. (before, lines.new)) result (after_version 0 lines.old) ScenFault.OutOfMemory }
     ensures count { IfOk result (λ before. before + length lines.new ≡ length lines.old) }
 {
     let mut before = 0;
@@ -73,7 +74,7 @@ fn wrong(line: u64, field: u8) -> ScenFault
 /// Width, height and task by the numbers of an agent's line.
 #[tactic(auto, unfolding(crate::specs::ScenReading::numbers_at))]
 fn numbers_of(number: u64, line: &[u8]) -> Result<(u16, u16, Task), ScenFault>
-    ensures { Gives (λ n. n) result (numbers_at number (words line.now)) }
+    ensures { result ≡ numbers_at number (words line.now) }
 {
     let Some(fields) = fields_of(line) else {
         return Err(ScenFault::Fields { line: number });
@@ -92,7 +93,7 @@ fn numbers_of(number: u64, line: &[u8]) -> Result<(u16, u16, Task), ScenFault>
 /// The task of an agent's line, which is possible on the map.
 #[tactic(auto, unfolding(crate::specs::ScenReading::task_at))]
 fn task_of(grid: &Grid, number: u64, line: &[u8]) -> Result<Task, ScenFault>
-    ensures { Gives (λ t. t) result (task_at grid.now number (words line.now)) }
+    ensures { result ≡ task_at grid.now number (words line.now) }
 {
     let (width, height, task) = numbers_of(number, line)?;
     if width != grid.width() || height != grid.height() {
@@ -123,7 +124,7 @@ fn tasks_of(
     lines: &mut Cursor,
 ) -> Result<Vec<Task>, ScenFault>
     requires { before + length lines.old < 2 ^ 64 }
-    ensures { Gives (λ v. v.items) result (tasks_at grid.now asked before [] lines.old) }
+    ensures { IsDueUnless (λ v. v.items) result (tasks_at grid.now asked before [] lines.old) ScenFault.OutOfMemory }
 {
     let mut tasks = Vec::new(alloc);
     let mut starts = HashSet::new(alloc);
@@ -154,7 +155,7 @@ fn tasks_of(
 
 /// The tasks, where they are enough.
 fn finished(asked: Option<u16>, tasks: Vec<Task>) -> Result<Vec<Task>, ScenFault>
-    ensures { Gives (λ v. v.items) result (ended asked tasks.items) }
+    ensures { IsDueUnless (λ v. v.items) result (ended asked tasks.items) ScenFault.OutOfMemory }
 {
     match asked {
         None if tasks.is_empty() => Err(ScenFault::NoAgents),
@@ -165,7 +166,7 @@ fn finished(asked: Option<u16>, tasks: Vec<Task>) -> Result<Vec<Task>, ScenFault
 
 /// Whether so many agents may be asked for.
 fn judge_asked(asked: Option<u16>) -> Result<(), ScenFault>
-    ensures { Gives (λ u. u) result (judge_asked asked) }
+    ensures { result ≡ judge_asked asked }
 {
     match asked {
         Some(0) => Err(ScenFault::NoAgents),
@@ -181,7 +182,7 @@ fn scen_of(
     grid: &Grid,
     asked: Option<u16>,
 ) -> Result<Vec<Task>, ScenFault>
-    ensures { Gives (λ v. v.items) result (scen_at grid.now asked (lines bytes.now)) }
+    ensures { IsDueUnless (λ v. v.items) result (scen_at grid.now asked (lines bytes.now)) ScenFault.OutOfMemory }
 {
     judge_asked(asked)?;
     let mut lines = Cursor::new(bytes);

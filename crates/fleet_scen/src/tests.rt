@@ -1,7 +1,7 @@
 use super::*;
 use fleet_grid::{Grid, read_map};
 use fleet_model::Cell;
-use std::alloc::Global;
+use std::alloc::{AllocError, Global};
 use std::process::Abort;
 use std::test::Fail;
 
@@ -286,20 +286,51 @@ fn most_agents(rt: HostRuntime) -> Result<(), Fail> {
     Ok(())
 }
 
+const LONG_MAP: &[u8] =
+    b"type octile\nheight 1\nwidth 40\nmap\n........................................\n";
+
+/// Forty agents on the long map, which stay where they begin, and one more that begins on the last cell.
+fn crowd(alloc: Global) -> Result<Vec<u8>, AllocError> {
+    let mut scen = Vec::with_capacity(alloc, 1024)?;
+    scen.extend_from_slice(b"version 1\n")?;
+    for x in 0u8..40 {
+        let digits = [b'0' + x / 10, b'0' + x % 10];
+        scen.extend_from_slice(b"0 m 40 1 ")?;
+        scen.extend_from_slice(&digits)?;
+        scen.extend_from_slice(b" 0 ")?;
+        scen.extend_from_slice(&digits)?;
+        scen.extend_from_slice(b" 0 x\n")?;
+    }
+    scen.extend_from_slice(b"0 m 40 1 39 0 0 0 x\n")?;
+    Ok(scen)
+}
+
+/// With any allocation refused the answer is the due one or want of memory.
 #[test]
 fn only_memory_may_be_refused(rt: HostRuntime) {
-    let Ok(grid) = read_map(rt.alloc(), BASE_MAP) else {
+    let Ok(scen) = crowd(rt.alloc()) else {
         return;
     };
-    match read_scen(rt.alloc(), BASE, &grid, None) {
-        Ok(instance) => assert_base(&rt, &instance),
+    let Ok(grid) = read_map(rt.alloc(), LONG_MAP) else {
+        return;
+    };
+    match read_scen(rt.alloc(), &scen, &grid, Some(40)) {
+        Ok(instance) => assert_eq!(rt; instance.agents(), 40),
         Err(fault) => assert_eq!(rt; fault, ScenFault::OutOfMemory),
     }
-    let shared = b"version 1\n0 m 4 1 1 0 3 0 x\n0 m 4 1 0 0 3 0 x\n";
-    match read_scen(rt.alloc(), shared, &grid, None).err() {
+    match read_scen(rt.alloc(), &scen, &grid, None).err() {
         Some(ScenFault::OutOfMemory) => {}
-        fault => assert_eq!(rt; fault, Some(ScenFault::SharedGoal { line: 3 })),
+        fault => assert_eq!(rt; fault, Some(ScenFault::SharedStart { line: 42 })),
     }
+    // What takes no memory is told in any case.
+    assert_eq!(rt;
+        read_scen(rt.alloc(), &scen, &grid, Some(0)).err(),
+        Some(ScenFault::NoAgents)
+    );
+    assert_eq!(rt;
+        read_scen(rt.alloc(), b"version 2\n", &grid, None).err(),
+        Some(ScenFault::Version)
+    );
 }
 
 #[test]

@@ -1,6 +1,6 @@
 use Rattle.std.proofs.Common.{rules, length, ◌++◌}
 use Rattle.fleet_cli.specs.InstanceCommand.{map_line, ground_line, agents_line, task_lines}
-use Rattle.fleet_cli.proofs.SinkLemmas.{takes_err, takes_then, stops_after, stops_within_more}
+use Rattle.fleet_run.proofs.SinkLemmas.{takes_err, takes_then, stops_after, stops_within_more}
 use Rattle.fleet_cli.proofs.instance_command.put_instance.Goals as goal
 
 pub returns-in_err-put_sizes : goal.returns-in_err-put_sizes

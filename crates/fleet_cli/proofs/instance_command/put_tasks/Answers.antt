@@ -1,5 +1,5 @@
 use Rattle.std.proofs.Common.{rules, length, arith}
-use Rattle.fleet_cli.proofs.SinkLemmas.{takes_err}
+use Rattle.fleet_run.proofs.SinkLemmas.{takes_err}
 use Rattle.fleet_cli.proofs.InstanceLemmas.{one_task_more, stops_in_task}
 use Rattle.fleet_cli.proofs.instance_command.put_tasks.Goals as goal
 

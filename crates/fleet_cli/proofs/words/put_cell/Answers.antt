@@ -1,5 +1,5 @@
 use Rattle.std.proofs.Common.{decimal, ◌++◌, ◌∷◌, []}
-use Rattle.fleet_cli.proofs.SinkLemmas.{takes_then}
+use Rattle.fleet_run.proofs.SinkLemmas.{takes_then}
 use Rattle.fleet_cli.proofs.words.put_cell.Goals as goal
 
 pub returns : goal.returns

@@ -1,5 +1,5 @@
 use Rattle.std.proofs.Common.{◌∷◌, []}
-use Rattle.fleet_cli.proofs.SinkLemmas.{takes_then}
+use Rattle.fleet_run.proofs.SinkLemmas.{takes_then}
 use Rattle.fleet_cli.specs.Words.{word_text}
 use Rattle.fleet_cli.proofs.words.put_next_word.Goals as goal
 

@@ -1,5 +1,5 @@
 use Rattle.std.proofs.Common.{rules}
-use Rattle.fleet_cli.proofs.SinkLemmas.{takes_err}
+use Rattle.fleet_run.proofs.SinkLemmas.{takes_err}
 use Rattle.fleet_cli.proofs.WordLemmas.{taken_more, stops_within_next}
 use Rattle.fleet_cli.proofs.words.put_words.Goals as goal
 

@@ -19,7 +19,7 @@ loop-row-init c =
 
 pub returns-in_default-clause-value : goal.returns-in_default-clause-value
 returns-in_default-clause-value c =
-    row_missing c.args.width c.args.height c.loop-row.row _ c.loop-row.lines _ c.loop-row.invariant.so_far c.loop-row-test.true c.in_default.ensures.0
+    λ other. row_missing c.args.width c.args.height c.loop-row.row _ c.loop-row.lines _ c.loop-row.invariant.so_far c.loop-row-test.true c.in_default.ensures.0
 
 pub returns-in_err-judge_row-clause-value : goal.returns-in_err-judge_row-clause-value
 returns-in_err-judge_row-clause-value c =

@@ -30,7 +30,7 @@ returns-then-len-ge-MAX_AGENTS c =
     let count_is : c.len.result ≡ length l.tasks.items = omega (arith, c.len.ensures) in
     let more : lacks c.args.asked (length l.tasks.items) ≡ true = rw count_is at (sym c.lacks.ensures ∙ c.loop-lines-test.true) in
     let many : 1024 ≤ length l.tasks.items = omega (arith, c.len-in-loop-lines.ensures, c.if-len-ge-MAX_AGENTS.true) in
-    too_many c.args.grid.now c.args.asked l.number l.tasks.items l.lines _ l.invariant.so_far c.in-Some.line.now c.next_line.new.self more c.in-Some.ensures (sym c.is_filled.ensures ∙ c.if-not-is_filled.false) many
+    λ other. too_many c.args.grid.now c.args.asked l.number l.tasks.items l.lines _ l.invariant.so_far c.in-Some.line.now c.next_line.new.self more c.in-Some.ensures (sym c.is_filled.ensures ∙ c.if-not-is_filled.false) many
 
 pub returns-in_err-task : goal.returns-in_err-task
 returns-in_err-task c =
@@ -39,7 +39,7 @@ returns-in_err-task c =
     let more : lacks c.args.asked (length l.tasks.items) ≡ true = rw count_is at (sym c.lacks.ensures ∙ c.loop-lines-test.true) in
     let few : length l.tasks.items < 1024 = omega (arith, c.len-in-loop-lines.ensures, c.if-len-ge-MAX_AGENTS.false) in
     let p = err_from_is_err_and c.from_residual.result c.from_residual.ensures.1 in
-    rw (p.1, p.2) (fails c.args.grid.now c.args.asked l.number l.tasks.items l.lines _ l.invariant.so_far c.in-Some.line.now c.next_line.new.self more c.in-Some.ensures (sym c.is_filled.ensures ∙ c.if-not-is_filled.false) few c.in_err-task.field-0.0 c.in_err-task.ensures)
+    rw (p.1, p.2) (λ other. fails c.args.grid.now c.args.asked l.number l.tasks.items l.lines _ l.invariant.so_far c.in-Some.line.now c.next_line.new.self more c.in-Some.ensures (sym c.is_filled.ensures ∙ c.if-not-is_filled.false) few c.in_err-task.field-0.0 (sym c.in_err-task.ensures))
 
 pub returns-then-not-branch : goal.returns-then-not-branch
 returns-then-not-branch c =
@@ -49,7 +49,7 @@ returns-then-not-branch c =
     let few : length l.tasks.items < 1024 = omega (arith, c.len-in-loop-lines.ensures, c.if-len-ge-MAX_AGENTS.false) in
     let t = c.in_ok-task.task in
     let shared = sym (l.invariant.starts t.start) ∙ was_in c.in_ok-insert.field-0 (contains same_cell l.starts t.start) c.in_ok-insert.ensures.added c.if-not-branch.true in
-    shares_start c.args.grid.now c.args.asked l.number l.tasks.items l.lines _ l.invariant.so_far c.in-Some.line.now c.next_line.new.self more c.in-Some.ensures (sym c.is_filled.ensures ∙ c.if-not-is_filled.false) few t c.in_ok-task.ensures shared
+    λ other. shares_start c.args.grid.now c.args.asked l.number l.tasks.items l.lines _ l.invariant.so_far c.in-Some.line.now c.next_line.new.self more c.in-Some.ensures (sym c.is_filled.ensures ∙ c.if-not-is_filled.false) few t (sym c.in_ok-task.ensures) shared
 
 pub returns-then-not-branch-2 : goal.returns-then-not-branch-2
 returns-then-not-branch-2 c =
@@ -60,7 +60,7 @@ returns-then-not-branch-2 c =
     let t = c.in_ok-task.task in
     let new = sym (l.invariant.starts t.start) ∙ was_new c.in_ok-insert.field-0 (contains same_cell l.starts t.start) c.in_ok-insert.ensures.added c.if-not-branch.false in
     let shared = sym (l.invariant.goals t.goal) ∙ was_in c.in_ok-insert-2.field-0 (contains same_cell l.goals t.goal) c.in_ok-insert-2.ensures.added c.if-not-branch-2.true in
-    shares_goal c.args.grid.now c.args.asked l.number l.tasks.items l.lines _ l.invariant.so_far c.in-Some.line.now c.next_line.new.self more c.in-Some.ensures (sym c.is_filled.ensures ∙ c.if-not-is_filled.false) few t c.in_ok-task.ensures new shared
+    λ other. shares_goal c.args.grid.now c.args.asked l.number l.tasks.items l.lines _ l.invariant.so_far c.in-Some.line.now c.next_line.new.self more c.in-Some.ensures (sym c.is_filled.ensures ∙ c.if-not-is_filled.false) few t (sym c.in_ok-task.ensures) new shared
 
 pub loop-lines-preserved : goal.loop-lines-preserved
 loop-lines-preserved c =
@@ -74,7 +74,7 @@ loop-lines-preserved c =
     let count = l.invariant.count in
     let next = c.in-Some.ensures in
     rw c.in_ok-push.ensures.items (record {
-      so_far = goes_on c.args.grid.now c.args.asked l.number l.tasks.items l.lines _ l.invariant.so_far c.in-Some.line.now c.next_line.new.self more next (sym c.is_filled.ensures ∙ c.if-not-is_filled.false) few t c.in_ok-task.ensures start end;
+      so_far = goes_on c.args.grid.now c.args.asked l.number l.tasks.items l.lines _ l.invariant.so_far c.in-Some.line.now c.next_line.new.self more next (sym c.is_filled.ensures ∙ c.if-not-is_filled.false) few t (sym c.in_ok-task.ensures) start end;
       count = omega (arith, count, ap length next);
       starts = holds_more (contains same_cell l.starts) (contains same_cell c.insert.new.self) (λ s. s.start) l.tasks.items t l.invariant.starts c.in_ok-insert.ensures.updates.0;
       goals = holds_more (contains same_cell l.goals) (contains same_cell c.insert-in-loop-lines.new.self) (λ s. s.goal) l.tasks.items t l.invariant.goals c.in_ok-insert-2.ensures.updates.0;

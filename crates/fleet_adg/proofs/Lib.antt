@@ -1,0 +1,16 @@
+pub mod Basics
+pub mod Moves
+pub mod Entry
+pub mod Programs
+pub mod Limits
+pub mod Latest
+pub mod Pass
+pub mod Folds
+pub mod Rows
+pub mod SweepSteps
+pub mod WorkedPrograms
+pub mod Pigeon
+pub mod Depth
+pub mod Follow
+pub mod Listing
+pub mod Accepted

@@ -1,0 +1,324 @@
+-- The steps of the sweep, as its loops take them.
+use Rattle.std.proofs.Common.{◌≡◌, ℕ, zero, suc, ◌+◌, ◌-◌, ◌*◌, ◌<◌, ◌≤◌, Bool, true, false, cond, List, [], ◌∷◌, ◌++◌, map, set, take, replicate, filter, filter_map, not, ◌==◌, length, sum_by, get_or, slice_get, All, Some, Ok, Err, inl, inr, refl, sym, ap, ◌∙◌, subst, arith, add-one}
+use Rattle.std.specs.List.{range_with_len, fold}
+use Rattle.std.proofs.lemmas.Bool.{cases_Bool, cases_lt, cases_eq, lt-ltb, le-ltb, le-leb, both_ways, false_from_ne_true}
+use Rattle.std.proofs.lemmas.List.{length-set, get_or-set_same, get_or-set_other, get_or-replicate, get_or-drop, get_or_past, get_or_at, length-replicate, length_push, map_push}
+use Rattle.std.proofs.lemmas.List.Sums.{fold_more, sum_by_push}
+use Rattle.std.proofs.lemmas.List.Filters.{FiltersInPlace}
+use Rattle.std.proofs.lemmas.List.FromFn.{length-map-range_with_len, get_or-map-range_with_len}
+use Rattle.std.proofs.lemmas.Option.{get_or_from_slice_get}
+use Rattle.fleet_model.specs.declared.geometry.Cell.{Cell}
+use Rattle.fleet_model.specs.declared.geometry.Dir.{Dir}
+use Rattle.fleet_model.specs.declared.task.Task.{Task}
+use Rattle.fleet_model.specs.Geometry.{place_of}
+use Rattle.fleet_model.specs.declared.program.Await.{Await}
+use Rattle.fleet_model.specs.declared.program.Action.{Action}
+use Rattle.fleet_model.specs.declared.program.AgentProgram.{AgentProgram}
+use Rattle.fleet_model.specs.Machine.{indices}
+use Rattle.fleet_adg.specs.declared.deps.Deps.{Deps}
+use Rattle.fleet_adg.specs.declared.fault.CompileFault.{CompileFault}
+use Rattle.fleet_adg.specs.declared.leavings.Leavings.{Leavings}
+use Rattle.fleet_grid.specs.Ground.{Ground, IsGround, is_passable, cell_index}
+use Rattle.fleet_plan.specs.Plan.{Plan, cell_of, steps, IsConflictFree}
+use Rattle.fleet_adg.specs.Compiled.{direction, last_below, entry_awaits, changes_in, changes, moves_by, leaves, await_of, last_leaving_by, last_leaving, leavings, action_in, agent_program, compiled, moves_in_all, compiled_if_few}
+use Rattle.fleet_adg.specs.Leavings.{rows_of, kind_of, noted, AreLeavingsAt}
+use Rattle.fleet_adg.specs.Sweep.{is_under_way, under_way, actions_by, all_actions_by, agent_from, IsOnMap}
+use Rattle.fleet_adg.proofs.Basics.{range_push}
+use Rattle.fleet_adg.proofs.Moves.{moves_by-yes, moves_by-no, moves_by-le, steps-ge}
+use Rattle.fleet_adg.proofs.Entry.{leaves-parts, leaves-from}
+use Rattle.fleet_adg.proofs.Folds.{still, leaves-still, note_by, note_by-leaves, note_by-stays, leavings-next, add_by, add_by-changes, add_by-stays}
+
+-- ---- moves counted
+
+pub moves_more : (plan : Plan) (i t m : ℕ) → changes_in plan i t ≡ true → m ≡ moves_by plan i t → m + 1 ≡ moves_by plan i (t + 1)
+moves_more plan i t m c e = add-one m ∙ ap suc e ∙ sym (moves_by-yes plan i t c) ∙ ap (moves_by plan i) (sym (add-one t))
+
+pub moves_stay : (plan : Plan) (i t m : ℕ) → changes_in plan i t ≡ false → m ≡ moves_by plan i t → m ≡ moves_by plan i (t + 1)
+moves_stay plan i t m c e = e ∙ sym (moves_by-no plan i t c) ∙ ap (moves_by plan i) (sym (add-one t))
+
+-- one more agent's moves
+pub total_more : (f : ℕ → ℕ) (i m n : ℕ) → m ≡ sum_by f (indices i) → n ≡ f i → m + n ≡ sum_by f (indices (i + 1))
+total_more f i m n e h =
+    let z : 0 + i ≡ i = omega arith in
+    rw add-one ((λ t. e t + h t) ∙ sym (sum_by_push f (range_with_len 0 i) i) ∙ ap (sum_by f) (sym (range_push 0 i ∙ ap (λ k. range_with_len 0 i ++ k ∷ []) z)))
+
+pub map-replicate : {X Y : Type 0} (f : X → Y) (n : ℕ) (x : X) → map f (replicate n x) ≡ replicate n (f x)
+map-replicate f zero x = refl
+map-replicate f (suc n) x = ap (λ zs. f x ∷ zs) (map-replicate f n x)
+
+moves_after : (plan : Plan) (i s n : ℕ) → length (get_or plan i []) - 1 ≤ s → moves_by plan i s ≡ moves_by plan i (s + n)
+moves_after plan i s zero h = ap (moves_by plan i) (let z : s ≡ s + 0 = omega arith in z)
+moves_after plan i s (suc n) h =
+    let z : suc (s + n) ≡ s + suc n = omega arith in
+    moves_after plan i s n h ∙ sym (moves_by-no plan i (s + n) (still plan (s + n) i (le-ltb (s + n) (length (get_or plan i []) - 1) (omega arith)))) ∙ ap (moves_by plan i) z
+
+-- at the end of its path an agent has made all its moves
+pub moves_at_end : (plan : Plan) (i t m : ℕ) (path : List Cell) → slice_get plan i ≡ Some path → t + 1 ≡ length path → m ≡ moves_by plan i t → m ≡ moves_by plan i (steps plan)
+moves_at_end plan i t m path g long e =
+    let same = ap length (get_or_from_slice_get plan i path [] g) in
+    let n = steps plan - t in
+    let z : t + n ≡ steps plan = omega (arith, steps-ge plan i) in
+    e ∙ moves_after plan i t n (omega arith) ∙ ap (moves_by plan i) z
+
+-- ---- who is under way
+
+pub goes_on : (plan : Plan) (t i s : ℕ) (path : List Cell) → slice_get plan i ≡ Some path → s + 1 ≡ length path → t < s → is_under_way plan t i ≡ true
+goes_on plan t i s path g long l =
+    let same = ap length (get_or_from_slice_get plan i path [] g) in
+    lt-ltb t (length (get_or plan i []) - 1) (omega arith)
+
+pub has_ended : (plan : Plan) (t i s : ℕ) (path : List Cell) → slice_get plan i ≡ Some path → s + 1 ≡ length path → s ≤ t → is_under_way plan t i ≡ false
+has_ended plan t i s path g long l =
+    let same = ap length (get_or_from_slice_get plan i path [] g) in
+    le-ltb t (length (get_or plan i []) - 1) (omega arith)
+
+-- an element that is yet to be read is one of the list
+pub still_there : (P : ℕ → Type 0) (p : ℕ → Bool) (xs ys : List ℕ) (k i x : ℕ) → FiltersInPlace p xs ys k i → i < length ys → x ≡ get_or ys i x → All P xs → P x
+still_there P p xs ys k i x f l e h =
+    let z : i + 0 ≡ i = omega arith in
+    let at = λ (zs : List ℕ). get_or-drop i zs 0 x ∙ ap (λ n. get_or zs n x) z in
+    let same : x ≡ get_or xs i x = e ∙ sym (at ys) ∙ ap (λ zs. get_or zs 0 x) f.rest ∙ at xs in
+    subst P (sym same) (h i x (omega (arith, f.long)))
+
+filter-filter : (p q : ℕ → Bool) → ((x : ℕ) → q x ≡ true → p x ≡ true) → (xs : List ℕ) → filter q (filter p xs) ≡ filter q xs
+filter-filter p q h [] = refl
+filter-filter p q h (x ∷ xs) = elim (cases_Bool (p x)) [
+  | inl y ↦ ap (λ b. filter q (cond b (x ∷ filter p xs) (filter p xs))) y ∙ ap (λ zs. cond (q x) (x ∷ zs) zs) (filter-filter p q h xs)
+  | inr n ↦
+      let no : q x ≡ false = false_from_ne_true (q x) (λ y. both_ways (p x) n (h x y)) in
+      ap (λ b. filter q (cond b (x ∷ filter p xs) (filter p xs))) n ∙ filter-filter p q h xs ∙ sym (ap (λ b. cond b (x ∷ filter q xs) (filter q xs)) no)
+]
+
+-- who goes on after time t + 1 went on after time t
+pub under_way-next : (plan : Plan) (t : ℕ) → filter (is_under_way plan (t + 1)) (under_way plan t) ≡ under_way plan (t + 1)
+under_way-next plan t = filter-filter (is_under_way plan t) (is_under_way plan (t + 1)) (λ i h. earlier i h) (indices (length plan))
+  where
+    earlier : (i : ℕ) → is_under_way plan (t + 1) i ≡ true → is_under_way plan t i ≡ true
+    earlier i h = elim (cases_lt t (length (get_or plan i []) - 1)) [
+      | inl l ↦ lt-ltb t (length (get_or plan i []) - 1) l
+      | inr l ↦ absurd (both_ways (is_under_way plan (t + 1) i) (le-ltb (t + 1) (length (get_or plan i []) - 1) (omega arith)) h)
+    ]
+
+all_range : (a n : ℕ) → All (λ i. i < a + n) (range_with_len a n)
+all_range a zero k d l = absurd (omega arith)
+all_range a (suc n) zero d l = omega arith
+all_range a (suc n) (suc k) d l = let h = all_range (a + 1) n k d (omega arith) in omega arith
+
+all_filter : (P : ℕ → Type 0) (p : ℕ → Bool) (xs : List ℕ) → All P xs → All P (filter p xs)
+all_filter P p xs h = package.Rattle.std.proofs.lemmas.List.Elements.All-filter p P xs h
+
+pub agents_below : (plan : Plan) → All (λ i. i < length plan) (indices (length plan))
+agents_below plan = λ k d l. let h = all_range 0 (length plan) k d l in omega arith
+
+pub under_way_below : (plan : Plan) (t : ℕ) → All (λ i. i < length plan) (under_way plan t)
+under_way_below plan t = all_filter (λ i. i < length plan) (is_under_way plan t) (indices (length plan)) (agents_below plan)
+
+pub agent_at : (plan : Plan) (t : ℕ) (agents : List ℕ) (k : ℕ) → agents ≡ under_way plan t → k < length agents → get_or agents k 0 < length plan
+agent_at plan t agents k e l = let all = subst (All (λ i. i < length plan)) (sym e) (under_way_below plan t) in all k 0 l
+
+-- ---- leavings noted
+
+-- the table after these agents have made step x
+pub record AreNoted (g : Ground) (plan : Plan) (deps : Deps) (x : ℕ) (done : List ℕ) (l : Leavings) : Type 0 where
+  pub kind : kind_of l ≡ deps
+  pub places : length (rows_of l) ≡ g.width * g.height
+  pub rows : (q : Cell) → q.x < g.width → q.y < g.height → get_or (rows_of l) (cell_index g q) [] ≡ fold (note_by plan deps q x) (leavings plan deps q x) done
+
+pub noting_begins : (g : Ground) (plan : Plan) (deps : Deps) (x : ℕ) (l : Leavings) → AreLeavingsAt g plan deps x l → AreNoted g plan deps x [] l
+noting_begins g plan deps x l h = record { kind = h.kind; places = h.places; rows = h.rows }
+
+pub noting_ends : (g : Ground) (plan : Plan) (deps : Deps) (x : ℕ) (l : Leavings) → AreNoted g plan deps x (under_way plan x) l → AreLeavingsAt g plan deps (x + 1) l
+noting_ends g plan deps x l h = record { kind = h.kind; places = h.places; rows = λ q a b. h.rows q a b ∙ leavings-next plan deps q x }
+
+pub one_stays : (g : Ground) (plan : Plan) (deps : Deps) (x : ℕ) (agents : List ℕ) (k i : ℕ) (l : Leavings) → k < length agents → i ≡ get_or agents k i → changes_in plan i x ≡ false → AreNoted g plan deps x (take k agents) l → AreNoted g plan deps x (take (k + 1) agents) l
+one_stays g plan deps x agents k i l b e c h = record {
+  kind = h.kind;
+  places = h.places;
+  rows = λ q p r.
+      let f = note_by plan deps q x in
+      let before = fold f (leavings plan deps q x) (take k agents) in
+      h.rows q p r ∙ sym (note_by-stays plan deps q x before i (leaves-still plan q x i c)) ∙ ap (f before) e ∙ sym (fold_more f (leavings plan deps q x) agents k i b);
+}
+
+pub one_leaves : (g : Ground) (plan : Plan) (deps : Deps) (x : ℕ) (agents : List ℕ) (k i : ℕ) (l m : Leavings) (p : Cell) (w : Await)
+    → ((c d : Cell) → c.x < g.width → d.x < g.width → cell_index g c ≡ cell_index g d → c ≡ d)
+    → p.x < g.width → p ≡ cell_of plan i x → w ≡ await_of plan x i
+    → k < length agents → i ≡ get_or agents k i → changes_in plan i x ≡ true
+    → cell_index g p < length (rows_of l) → kind_of m ≡ kind_of l → rows_of m ≡ set (rows_of l) (cell_index g p) (noted (kind_of l) (get_or (rows_of l) (cell_index g p) []) w)
+    → AreNoted g plan deps x (take k agents) l → AreNoted g plan deps x (take (k + 1) agents) m
+one_leaves g plan deps x agents k i l m p w own column at is b e c within kind rows h =
+    let row = noted (kind_of l) (get_or (rows_of l) (cell_index g p) []) w in
+    record {
+      kind = kind ∙ h.kind;
+      places = ap length rows ∙ length-set (rows_of l) (cell_index g p) row ∙ h.places;
+      rows = λ q a r.
+          let f = note_by plan deps q x in
+          let before = fold f (leavings plan deps q x) (take k agents) in
+          let after : f before i ≡ fold f (leavings plan deps q x) (take (k + 1) agents) = ap (f before) e ∙ sym (fold_more f (leavings plan deps q x) agents k i b) in
+          elim (cases_eq (cell_index g q) (cell_index g p)) [
+            | inl same ↦
+                let here : q ≡ p = own q p a column same in
+                let leaving : leaves plan q x i ≡ true = leaves-from plan q x i (sym at ∙ sym here) c in
+                ap (λ zs. get_or zs (cell_index g q) []) rows
+                ∙ ap (λ n. get_or (set (rows_of l) (cell_index g p) row) n []) same
+                ∙ get_or-set_same (rows_of l) (cell_index g p) row [] within
+                ∙ (λ t. noted (h.kind t) (get_or (rows_of l) (cell_index g (sym here t)) []) (is t))
+                ∙ ap (λ ws. noted deps ws (await_of plan x i)) (h.rows q a r)
+                ∙ sym (note_by-leaves plan deps q x before i leaving)
+                ∙ after
+            | inr apart ↦
+                let stays : leaves plan q x i ≡ false = false_from_ne_true (leaves plan q x i) (λ y. apart (ap (cell_index g) (sym (leaves-parts plan q x i y).0 ∙ sym at))) in
+                ap (λ zs. get_or zs (cell_index g q) []) rows
+                ∙ get_or-set_other (rows_of l) (cell_index g p) (cell_index g q) row [] apart
+                ∙ h.rows q a r
+                ∙ sym (note_by-stays plan deps q x before i stays)
+                ∙ after
+          ];
+    }
+
+-- how many moves an agent has made, by its actions so far
+moved_so_far : (plan : Plan) (deps : Deps) (x i : ℕ) → length (actions_by plan deps x i) ≡ moves_by plan i x
+unfolding moves_by
+moved_so_far plan deps x i = package.Rattle.std.proofs.lemmas.List.length-map (changes plan i x) (action_in plan deps i)
+
+pub count_is : (plan : Plan) (deps : Deps) (x i n : ℕ) (actions : List (List Action)) (row : List Action) → actions ≡ all_actions_by plan deps x → i < length plan → row ≡ get_or actions i row → n ≡ length row → changes_in plan i x ≡ true → record { agent = i; count = n + 1 } ≡ await_of plan x i
+unfolding await_of
+count_is plan deps x i n actions row e b is long c =
+    let at : row ≡ actions_by plan deps x i = is ∙ ap (λ zs. get_or zs i row) e ∙ get_or-map-range_with_len (actions_by plan deps x) 0 (length plan) i i row b (omega arith) in
+    let so_far : n ≡ moves_by plan i x = long ∙ ap length at ∙ moved_so_far plan deps x i in
+    ap (λ (k : ℕ). made i k) (moves_more plan i x n c so_far)
+  where
+    made : ℕ → ℕ → Await
+    made j k = record { agent = j; count = k }
+
+pub length-all_actions_by : (plan : Plan) (deps : Deps) (t : ℕ) → length (all_actions_by plan deps t) ≡ length plan
+length-all_actions_by plan deps t = length-map-range_with_len (actions_by plan deps t) 0 (length plan)
+
+-- an agent has made no more moves than there were steps
+pub row_short : (plan : Plan) (deps : Deps) (x i : ℕ) (actions : List (List Action)) (row : List Action) → actions ≡ all_actions_by plan deps x → i < length plan → row ≡ get_or actions i row → length row ≤ x
+row_short plan deps x i actions row e b is =
+    let at : row ≡ actions_by plan deps x i = is ∙ ap (λ zs. get_or zs i row) e ∙ get_or-map-range_with_len (actions_by plan deps x) 0 (length plan) i i row b (omega arith) in
+    omega (arith, ap length at, moved_so_far plan deps x i, moves_by-le plan i x)
+
+-- ---- actions added
+
+pub row_stays : (plan : Plan) (deps : Deps) (x : ℕ) (agents : List ℕ) (k i : ℕ) (start rows : List (List Action)) → k < length agents → i ≡ get_or agents k i → changes_in plan i x ≡ false → rows ≡ fold (add_by plan deps x) start (take k agents) → rows ≡ fold (add_by plan deps x) start (take (k + 1) agents)
+row_stays plan deps x agents k i start rows b e c h =
+    let f = add_by plan deps x in
+    h ∙ sym (add_by-stays plan deps x (fold f start (take k agents)) i c) ∙ ap (f (fold f start (take k agents))) e ∙ sym (fold_more f start agents k i b)
+
+pub row_grows : (plan : Plan) (deps : Deps) (x : ℕ) (agents : List ℕ) (k i : ℕ) (start rows : List (List Action)) (row : List Action) (a : Action) → k < length agents → i ≡ get_or agents k i → changes_in plan i x ≡ true → i < length rows → row ≡ get_or rows i row → a ≡ action_in plan deps i x → rows ≡ fold (add_by plan deps x) start (take k agents) → set rows i (row ++ a ∷ []) ≡ fold (add_by plan deps x) start (take (k + 1) agents)
+row_grows plan deps x agents k i start rows row a b e c within is this h =
+    let f = add_by plan deps x in
+    let before = fold f start (take k agents) in
+    let at : row ≡ get_or rows i [] = is ∙ package.Rattle.std.proofs.lemmas.List.get_or_default rows i row [] within in
+    (λ t. set rows i (at t ++ this t ∷ []))
+    ∙ sym (add_by-changes plan deps x rows i c)
+    ∙ ap (λ zs. f zs i) h
+    ∙ ap (f before) e
+    ∙ sym (fold_more f start agents k i b)
+
+-- adding changes no agent's place
+pub length-added : (plan : Plan) (deps : Deps) (x : ℕ) (start : List (List Action)) (agents : List ℕ) → length (fold (add_by plan deps x) start agents) ≡ length start
+length-added plan deps x start [] = refl
+length-added plan deps x start (i ∷ agents) = length-added plan deps x (add_by plan deps x start i) agents ∙ elim (cases_Bool (changes_in plan i x)) [
+  | inl c ↦ ap length (add_by-changes plan deps x start i c) ∙ length-set start i (get_or start i [] ++ action_in plan deps i x ∷ [])
+  | inr c ↦ ap length (add_by-stays plan deps x start i c)
+]
+
+-- the action that is made is that of the plan
+pub action_is : (g : Ground) (plan : Plan) (deps : Deps) (x i : ℕ) (l : Leavings) (from to : Cell) (dir : Dir) (awaits : List Await) → AreLeavingsAt g plan deps (x + 1) l → from ≡ cell_of plan i x → to ≡ cell_of plan i (x + 1) → to.x < g.width → to.y < g.height → dir ≡ direction from to → awaits ≡ filter (λ w. not (w.agent == i)) (get_or (rows_of l) (cell_index g to) []) → record { dir = dir; awaits = awaits } ≡ action_in plan deps i x
+unfolding action_in entry_awaits
+action_is g plan deps x i l from to dir awaits h f t column row d e =
+    let there = e ∙ ap (filter (λ (w : Await). not (w.agent == i))) (h.rows to column row ∙ ap (λ q. leavings plan deps q (x + 1)) t) in
+    let this = d ∙ (λ k. direction (f k) (t k)) in
+    (λ k. record { dir = this k; awaits = there k })
+
+-- ---- the sweep begins
+
+leavings-zero : (plan : Plan) (deps : Deps) (q : Cell) → leavings plan deps q 0 ≡ []
+unfolding leavings last_leaving last_leaving_by last_below
+leavings-zero plan Deps.All q = none_of 0 (length plan)
+  where
+    none_of : (a n : ℕ) → filter_map (last_leaving_by plan q 0) (range_with_len a n) ≡ []
+    none_of a zero = refl
+    none_of a (suc n) = none_of (a + 1) n
+leavings-zero plan Deps.Last q = refl
+
+replicated : {X : Type 0} (n k : ℕ) (d : X) → get_or (replicate n d) k d ≡ d
+replicated n k d = elim (cases_lt k n) [
+  | inl l ↦ get_or-replicate n k d d l
+  | inr l ↦ get_or_past (replicate n d) k d (omega (arith, length-replicate n d))
+]
+
+pub sweep_begins : (g : Ground) (plan : Plan) (deps : Deps) (l : Leavings) (n : ℕ) → n ≡ g.width * g.height → kind_of l ≡ deps → rows_of l ≡ replicate n [] → AreLeavingsAt g plan deps 0 l
+sweep_begins g plan deps l n size kind rows = record {
+  kind = kind;
+  places = ap length rows ∙ length-replicate n [] ∙ size;
+  rows = λ q a b. ap (λ zs. get_or zs (cell_index g q) []) rows ∙ replicated n (cell_index g q) [] ∙ sym (leavings-zero plan deps q);
+}
+
+pub actions_begin : (plan : Plan) (deps : Deps) → replicate (length plan) [] ≡ all_actions_by plan deps 0
+unfolding changes
+actions_begin plan deps = none_of 0 (length plan)
+  where
+    none_of : (a n : ℕ) → replicate n [] ≡ map (actions_by plan deps 0) (range_with_len a n)
+    none_of a zero = refl
+    none_of a (suc n) = ap (λ zs. [] ∷ zs) (none_of (a + 1) n)
+
+-- ---- the map
+
+-- what is passable lies on the map
+on_map : (g : Ground) (c : Cell) → IsGround g → is_passable g (place_of c) ≡ true → (c.x < g.width) × (c.y < g.height)
+on_map g c ground h =
+    let row = get_or g.rows c.y [] in
+    let column : c.x < length row = elim (cases_lt c.x (length row)) [
+      | inl l ↦ l
+      | inr l ↦ absurd (both_ways (get_or row c.x false) (get_or_past row c.x false l) h)
+    ] in
+    let below : c.y < length g.rows = elim (cases_lt c.y (length g.rows)) [
+      | inl l ↦ l
+      | inr l ↦ absurd (omega (arith, ap length (get_or_past g.rows c.y [] l)))
+    ] in
+    (omega (arith, ground.cells c.y [] below), omega (arith, ground.rows))
+
+pub plan_on_map : (g : Ground) (tasks : List Task) (plan : Plan) → IsGround g → IsConflictFree (is_passable g) tasks plan → IsOnMap g plan
+plan_on_map g tasks plan ground free = record {
+  columns = λ i t b. (on_map g (cell_of plan i t) ground (free.on_ground i t b)).0;
+  rows = λ i t b. (on_map g (cell_of plan i t) ground (free.on_ground i t b)).1;
+}
+
+-- ---- the program
+
+pub compiled-from : (plan : Plan) (deps : Deps) → map (agent_from plan (all_actions_by plan deps (steps plan))) (indices (length plan)) ≡ compiled plan deps
+unfolding agent_from agent_program compiled
+compiled-from plan deps = each 0 (length plan) (omega arith)
+  where
+    each : (a n : ℕ) → a + n ≤ length plan → map (agent_from plan (all_actions_by plan deps (steps plan))) (range_with_len a n) ≡ map (agent_program plan deps) (range_with_len a n)
+    each a zero h = refl
+    each a (suc n) h = λ t. record { start = cell_of plan a 0; goal = cell_of plan a (steps plan); actions = get_or-map-range_with_len (actions_by plan deps (steps plan)) 0 (length plan) a a [] (omega arith) (omega arith) t } ∷ each (a + 1) n (omega arith) t
+
+-- one more agent
+pub agent_more : (plan : Plan) (actions done rest : List (List Action)) (row : List Action) (agents : List AgentProgram) (a : AgentProgram) (n : ℕ) → agents ≡ map (agent_from plan actions) (indices (length done)) → done ++ row ∷ rest ≡ actions → n ≡ length agents → a ≡ record { start = cell_of plan n 0; goal = cell_of plan n (steps plan); actions = row } → agents ++ a ∷ [] ≡ map (agent_from plan actions) (indices (length (done ++ row ∷ [])))
+unfolding agent_from
+agent_more plan actions done rest row agents a n made whole size is =
+    let at : n ≡ length done = size ∙ ap length made ∙ length-map-range_with_len (agent_from plan actions) 0 (length done) in
+    let z : 0 + length done ≡ length done = omega arith in
+    let mine : row ≡ get_or actions n [] = sym (get_or_at done row rest [] n (sym at)) ∙ ap (λ zs. get_or zs n []) whole in
+    let this : a ≡ agent_from plan actions (length done) = is ∙ (λ t. record { start = cell_of plan n 0; goal = cell_of plan n (steps plan); actions = mine t }) ∙ ap (agent_from plan actions) at in
+    (λ t. made t ++ this t ∷ [])
+    ∙ sym (map_push (agent_from plan actions) (indices (length done)) (length done))
+    ∙ ap (map (agent_from plan actions)) (ap (λ k. indices (length done) ++ k ∷ []) (sym z) ∙ sym (range_push 0 (length done)) ∙ ap indices (sym (length_push done row ∙ add-one (length done))))
+
+pub agent_there : (actions done rest : List (List Action)) (row : List Action) → done ++ row ∷ rest ≡ actions → length done < length actions
+agent_there actions done rest row e = omega (arith, ap length e, package.Rattle.std.proofs.lemmas.List.length-append done (row ∷ rest))
+
+pub length-agents : (plan : Plan) (actions : List (List Action)) (agents : List AgentProgram) (n : ℕ) → agents ≡ map (agent_from plan actions) (indices n) → length agents ≡ n
+length-agents plan actions agents n e = ap length e ∙ length-map-range_with_len (agent_from plan actions) 0 n
+
+-- the program that is made is the one that is due
+pub program_is : (plan read : Plan) (deps : Deps) (actions : List (List Action)) (agents : List AgentProgram) → read ≡ plan → actions ≡ all_actions_by plan deps (steps plan) → agents ≡ map (agent_from read actions) (indices (length read)) → agents ≡ compiled plan deps
+program_is plan read deps actions agents e a h = h ∙ (λ t. map (agent_from (e t) (a t)) (indices (length (e t)))) ∙ compiled-from plan deps
+
+pub few_compile : (plan : Plan) (deps : Deps) (p : List AgentProgram) → moves_in_all plan ≤ 4194304 → p ≡ compiled plan deps → compiled_if_few plan deps ≡ Ok p
+few_compile plan deps p few e = ap (λ b. cond b (Ok (compiled plan deps)) (Err CompileFault.TooLong)) (le-leb (moves_in_all plan) 4194304 few) ∙ ap Ok (sym e)

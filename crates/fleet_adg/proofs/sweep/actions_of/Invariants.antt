@@ -1,0 +1,12 @@
+use Rattle.std.proofs.Common.{◌≡◌, ◌<◌, All, length, filter}
+use Rattle.fleet_adg.specs.Leavings.{AreLeavingsAt}
+use Rattle.fleet_adg.specs.Sweep.{is_under_way, under_way, all_actions_by}
+use Rattle.fleet_adg.proofs.sweep.actions_of.Given as goal
+
+abbrev pub invariant-loop-time : goal.invariant-loop-time
+invariant-loop-time l = record {
+  agents : filter (is_under_way l.plan l.time) l.agents.items ≡ under_way l.plan l.time;
+  below : All (λ i. i < length l.plan) l.agents.items;
+  leavings : AreLeavingsAt l.grid l.plan l.fn.deps l.time l.leavings;
+  actions : l.actions.items ≡ all_actions_by l.plan l.fn.deps l.time;
+}

@@ -1,0 +1,6 @@
+use Rattle.std.proofs.Common.{◌≡◌}
+use Rattle.fleet_adg.specs.Compiled.{moves_by}
+use Rattle.fleet_adg.proofs.sweep.moves_of.Given as goal
+
+abbrev pub invariant-loop-time : goal.invariant-loop-time
+invariant-loop-time l = l.moves ≡ moves_by l.plan l.i l.time

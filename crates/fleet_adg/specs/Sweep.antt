@@ -1,0 +1,34 @@
+-- What the compiler has found up to a step of the plan.
+use Rattle.std.specs.Prelude.{ℕ, ◌-◌, ◌<◌, Bool, nat_lt, List, [], length, map, filter, get_or}
+use Rattle.fleet_model.specs.declared.program.Action.{Action}
+use Rattle.fleet_model.specs.declared.program.AgentProgram.{AgentProgram}
+use Rattle.fleet_model.specs.Machine.{indices}
+use Rattle.fleet_adg.specs.declared.deps.Deps.{Deps}
+use Rattle.fleet_grid.specs.Ground.{Ground}
+use Rattle.fleet_plan.specs.Plan.{Plan, cell_of, steps}
+use Rattle.fleet_adg.specs.Compiled.{changes, action_in}
+
+-- the path of agent i goes on after time t
+abbrev pub is_under_way : Plan → ℕ → ℕ → Bool
+is_under_way plan t i = nat_lt t (length (get_or plan i []) - 1)
+
+-- the agents whose paths go on after time t
+abbrev pub under_way : Plan → ℕ → List ℕ
+under_way plan t = filter (is_under_way plan t) (indices (length plan))
+
+-- the actions of agent i in the steps before time t
+abbrev pub actions_by : Plan → Deps → ℕ → ℕ → List Action
+actions_by plan deps t i = map (action_in plan deps i) (changes plan i t)
+
+-- the actions of each agent in the steps before time t
+abbrev pub all_actions_by : Plan → Deps → ℕ → List (List Action)
+all_actions_by plan deps t = map (actions_by plan deps t) (indices (length plan))
+
+-- agent i, with these actions of all agents
+unfoldable pub agent_from : Plan → List (List Action) → ℕ → AgentProgram
+agent_from plan actions i = record { start = cell_of plan i 0; goal = cell_of plan i (steps plan); actions = get_or actions i [] }
+
+-- every cell of the plan lies on the map
+pub record IsOnMap (g : Ground) (plan : Plan) : Type 0 where
+  pub columns : (i t : ℕ) → i < length plan → (cell_of plan i t).x < g.width
+  pub rows : (i t : ℕ) → i < length plan → (cell_of plan i t).y < g.height

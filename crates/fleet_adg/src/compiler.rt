@@ -1,0 +1,69 @@
+//! The compiler of plans.
+
+ghost use Rattle.std.specs.Prelude.{◌≡◌, IfOk, length, map};
+ghost use Rattle.fleet_model.specs.Accepted.{IsAccepted};
+ghost use Rattle.fleet_model.specs.Answer.{IsDueUnless};
+ghost use Rattle.fleet_model.specs.Visit.{ComesAfterByAwait};
+ghost use Rattle.fleet_grid.specs.Ground.{is_passable};
+ghost use Rattle.fleet_model.specs.Machine.{indices};
+ghost use Rattle.fleet_adg.specs.Compiled.{moves_in_all, compiled_if_few};
+ghost use Rattle.fleet_adg.specs.Sweep.{agent_from};
+
+use crate::action_list::ActionList;
+use crate::deps::Deps;
+use crate::fault::CompileFault;
+use crate::sweep::{actions_of, moves_of};
+use fleet_model::{AgentProgram, Program};
+use fleet_plan::{Checked, Plan};
+use std::alloc::{AllocError, Global};
+
+const MAX_MOVES_IN_ALL: u32 = 4_194_304;
+
+/// The program of a plan (after the action dependency graph of Hönig et al. 2019): the actions of each agent are its
+/// changes of cell, in order, and each awaits earlier leavings of the cell that it enters.
+///
+/// It is refused as `TooLong` exactly where the agents make more than 4,194,304 moves together. The program is accepted
+/// for the plan's map and instance.
+pub fn compile(alloc: Global, checked: &Checked<'_>, deps: Deps) -> Result<Program, CompileFault>
+    ensures program { IsDueUnless (λ p. p) result (compiled_if_few checked.now.plan deps) CompileFault.OutOfMemory }
+    ensures accepted { IfOk result (IsAccepted ComesAfterByAwait (is_passable checked.now.grid) checked.now.instance) }
+{
+    let plan = checked.plan();
+    if moves_of_all(plan) > MAX_MOVES_IN_ALL {
+        return Err(CompileFault::TooLong);
+    }
+    let actions = actions_of(alloc, checked, deps)?;
+    let agents = agent_programs(alloc, plan, actions)?;
+    Ok(Program::new(agents))
+}
+
+/// How many moves all agents make.
+fn moves_of_all(plan: &Plan) -> u32
+    ensures { result ≡ moves_in_all plan.now }
+{
+    let mut moves = 0;
+    for i in 0..plan.agents() {
+        moves += moves_of(plan, i);
+    }
+    moves
+}
+
+/// The program of each agent, from its actions.
+fn agent_programs(
+    alloc: Global,
+    plan: &Plan,
+    actions: Vec<ActionList>,
+) -> Result<Vec<AgentProgram>, AllocError>
+    requires { length actions.items ≡ length plan.now }
+    ensures { IfOk result (λ agents. agents.items ≡ map (agent_from plan.now actions.items) (indices (length plan.now))) }
+{
+    let mut agents = Vec::with_capacity(alloc, actions.len())?;
+    let end = plan.steps();
+    for list in actions {
+        let i = agents.len() as u16;
+        let start = plan.cell(i, 0);
+        let goal = plan.cell(i, end);
+        agents.push(AgentProgram::new(start, goal, list.into_vec()))?;
+    }
+    Ok(agents)
+}

@@ -1,0 +1,172 @@
+//! One sweep over the steps of a plan: in each step all leavings of cells, and then all enterings.
+
+ghost use Rattle.std.specs.Prelude.{◌≡◌, ◌≤◌, ◌<◌, ◌+◌, is_some, IfSome, All, OnOk, IfOk, length, filter, replicate, []};
+ghost use Rattle.fleet_plan.specs.Plan.{cell_of, steps};
+ghost use Rattle.fleet_model.specs.Machine.{indices};
+ghost use Rattle.fleet_adg.specs.Compiled.{direction, changes_in, moves_by};
+ghost use Rattle.fleet_adg.specs.Leavings.{kind_of, AreLeavingsAt};
+ghost use Rattle.fleet_adg.specs.Sweep.{is_under_way, under_way, all_actions_by, IsOnMap};
+
+use crate::action_list::ActionList;
+use crate::deps::Deps;
+use crate::leavings::Leavings;
+use fleet_grid::{Grid, cells_have_places_of_their_own};
+use fleet_model::{Action, Await, Cell, Dir, OutOfMemory};
+use fleet_plan::{Checked, Plan};
+use std::alloc::{AllocError, Global};
+
+/// The actions of each agent. An agent whose path has ended is not looked at again.
+pub(crate) fn actions_of(
+    alloc: Global,
+    checked: &Checked<'_>,
+    deps: Deps,
+) -> Result<Vec<ActionList>, OutOfMemory>
+    ensures { IfOk result (λ actions. actions.items ≡ all_actions_by checked.now.plan deps (steps checked.now.plan)) }
+{
+    let plan = checked.plan();
+    let grid = checked.grid();
+    let cells = usize::from(grid.width()) * usize::from(grid.height());
+    let mut leavings = Leavings::none(alloc, cells, deps)?;
+    let mut actions = empty_lists(alloc, plan)?;
+    let mut agents = agents_of(alloc, plan.agents())?;
+    for time in 0..plan.steps() {
+        keep_under_way(&mut agents, plan, time);
+        note_leavings(plan, grid, time, &agents, &actions, &mut leavings)?;
+        add_actions(alloc, plan, grid, time, &agents, &leavings, &mut actions)?;
+    }
+    Ok(actions)
+}
+
+/// For each agent no action, and room for its moves.
+fn empty_lists(alloc: Global, plan: &Plan) -> Result<Vec<ActionList>, AllocError>
+    ensures { IfOk result (λ actions. actions.items ≡ replicate (length plan.now) []) }
+{
+    let mut lists = Vec::with_capacity(alloc, usize::from(plan.agents()))?;
+    for i in 0..plan.agents() {
+        lists.push(ActionList::with_capacity(alloc, moves_of(plan, i) as usize)?)?;
+    }
+    Ok(lists)
+}
+
+/// How many moves agent `i` makes.
+pub(crate) fn moves_of(plan: &Plan, i: u16) -> u32
+    requires { i < length plan.now }
+    ensures value { result ≡ moves_by plan.now i (steps plan.now) }
+    ensures few { result ≤ 65535 }
+{
+    let mut moves = 0;
+    for time in 0..plan.path(i).steps() {
+        if move_in(plan, i, time).is_some() {
+            moves += 1;
+        }
+    }
+    moves
+}
+
+/// The cells that agent `i` leaves and enters in the step after `time`, if it changes its cell.
+fn move_in(plan: &Plan, i: u16, time: u32) -> Option<(Cell, Cell)>
+    requires agent { i < length plan.now }
+    requires time { time < 65536 }
+    ensures moves { is_some result ≡ changes_in plan.now i time }
+    ensures cells { IfSome result (λ cells. (cells.0 ≡ cell_of plan.now i time) × (cells.1 ≡ cell_of plan.now i (time + 1))) }
+{
+    let from = plan.cell(i, time);
+    let to = plan.cell(i, time + 1);
+    if from == to { None } else { Some((from, to)) }
+}
+
+/// All agents.
+fn agents_of(alloc: Global, count: u16) -> Result<Vec<u16>, AllocError>
+    ensures { IfOk result (λ agents. agents.items ≡ indices count) }
+{
+    let mut agents = Vec::with_capacity(alloc, usize::from(count))?;
+    for i in 0..count {
+        agents.push(i)?;
+    }
+    Ok(agents)
+}
+
+/// Keeps the agents whose paths go on after `time`.
+fn keep_under_way(agents: &mut Vec<u16>, plan: &Plan, time: u32)
+    requires { All (λ i. i < length plan.now) agents.old.items }
+    ensures { agents.new.items ≡ filter (is_under_way plan.now time) agents.old.items }
+{
+    let mut kept = 0;
+    for next in 0..agents.len() {
+        let i = agents[next];
+        if time < plan.path(i).steps() {
+            agents[kept] = i;
+            kept += 1;
+        }
+    }
+    agents.truncate(kept);
+}
+
+/// Notes who leaves which cell in the step after `time`.
+fn note_leavings(
+    plan: &Plan,
+    grid: &Grid,
+    time: u32,
+    agents: &[u16],
+    actions: &[ActionList],
+    leavings: &mut Leavings,
+) -> Result<(), AllocError>
+    requires on_map { IsOnMap grid.now plan.now }
+    requires time { time < 65536 }
+    requires agents { agents.now ≡ under_way plan.now time }
+    requires actions { actions.now ≡ all_actions_by plan.now (kind_of leavings.old) time }
+    requires leavings { AreLeavingsAt grid.now plan.now (kind_of leavings.old) time leavings.old }
+    ensures { OnOk result (AreLeavingsAt grid.now plan.now (kind_of leavings.old) (time + 1) leavings.new) }
+{
+    cells_have_places_of_their_own();
+    for &i in agents {
+        if let Some((from, _)) = move_in(plan, i, time) {
+            let count = actions[usize::from(i)].len() as u32 + 1;
+            leavings.note(grid.cell_index(from), Await { agent: i, count })?;
+        }
+    }
+    Ok(())
+}
+
+/// Adds the moves of the step after `time`, with what they await.
+fn add_actions(
+    alloc: Global,
+    plan: &Plan,
+    grid: &Grid,
+    time: u32,
+    agents: &[u16],
+    leavings: &Leavings,
+    actions: &mut [ActionList],
+) -> Result<(), OutOfMemory>
+    requires on_map { IsOnMap grid.now plan.now }
+    requires time { time < 65536 }
+    requires agents { agents.now ≡ under_way plan.now time }
+    requires leavings { AreLeavingsAt grid.now plan.now (kind_of leavings.now) (time + 1) leavings.now }
+    requires actions { actions.old ≡ all_actions_by plan.now (kind_of leavings.now) time }
+    ensures { OnOk result (actions.new ≡ all_actions_by plan.now (kind_of leavings.now) (time + 1)) }
+{
+    for &i in agents {
+        if let Some((from, to)) = move_in(plan, i, time) {
+            let awaits = leavings.awaits(alloc, grid.cell_index(to), i)?;
+            let dir = direction(from, to);
+            actions[usize::from(i)].push(Action { dir, awaits })?;
+        }
+    }
+    Ok(())
+}
+
+/// The direction from a cell to one of its neighbours.
+#[tactic(auto, unfolding(crate::specs::Compiled::direction))]
+fn direction(from: Cell, to: Cell) -> Dir
+    ensures { result ≡ direction from to }
+{
+    if to.y < from.y {
+        Dir::North
+    } else if from.x < to.x {
+        Dir::East
+    } else if from.y < to.y {
+        Dir::South
+    } else {
+        Dir::West
+    }
+}

@@ -1,0 +1,5 @@
+use Rattle.fleet_code.proofs.Beginnings.{beginnings_are_truncated}
+use Rattle.fleet_code.proofs.laws.beginnings_are_truncated.Goals as goal
+
+pub returns : goal.returns
+returns c = beginnings_are_truncated

@@ -1,0 +1,71 @@
+-- Writing digits, cells and lines one after the other.
+use Rattle.std.proofs.Common.{◌≡◌, ℕ, zero, suc, ◌+◌, ◌/◌, ◌%◌, ◌≤◌, ◌<◌, [], ◌∷◌, ◌++◌, length, get_or, take, refl, sym, ap, ◌∙◌, append_assoc, arith}
+use Rattle.std.specs.Prelude.{decimal, slice_get, Some}
+use Rattle.std.specs.List.{flat_map}
+use Rattle.std.proofs.lemmas.Fmt.{decimal_digit, decimal_step}
+use Rattle.std.proofs.lemmas.List.{append-nil, take_more}
+use Rattle.fleet_model.specs.declared.geometry.Cell.{Cell}
+use Rattle.fleet_grid.specs.Text.{Bytes}
+use Rattle.fleet_plan.specs.Plan.{Path, Plan}
+use Rattle.fleet_plan.specs.PlanText.{cell_text, path_text, plan_text}
+
+-- ---- numbers
+
+pub number_more : (n : ℕ) (before front all : Bytes) → 10 ≤ n → n < 65536 → front ≡ before ++ decimal (n / 10) → all ≡ front ++ (48 + n % 10) ∷ [] → all ≡ before ++ decimal n
+number_more n before front all many few e f =
+    f ∙ ap (λ (x : Bytes). x ++ (48 + n % 10) ∷ []) e ∙ append_assoc before (decimal (n / 10)) ((48 + n % 10) ∷ []) ∙ ap (λ (x : Bytes). before ++ x) (sym (decimal_step n many (omega arith)))
+
+pub number_last : (n : ℕ) (before all : Bytes) → n < 10 → all ≡ before ++ (48 + n % 10) ∷ [] → all ≡ before ++ decimal n
+number_last n before all few e =
+    let same : n % 10 ≡ n = omega arith in
+    e ∙ ap (λ (d : ℕ). before ++ (48 + d) ∷ []) same ∙ ap (λ (x : Bytes). before ++ x) (sym (decimal_digit n few))
+
+-- ---- cells
+
+abbrev pub spaced : Path → Bytes
+spaced cells = flat_map (λ c. cell_text c ++ 32 ∷ []) cells
+
+-- the cells before the last, and the last one
+pub path_written : (cells : Path) (last : Cell) → path_text (cells ++ last ∷ []) ≡ spaced cells ++ cell_text last
+path_written [] last = refl
+path_written (c ∷ []) last = sym (append_assoc (cell_text c) (32 ∷ []) (cell_text last)) ∙ ap (λ (x : Bytes). x ++ cell_text last) (sym (append-nil (cell_text c ++ 32 ∷ [])))
+path_written (c ∷ d ∷ cells) last =
+    ap (λ (x : Bytes). cell_text c ++ 32 ∷ x) (path_written (d ∷ cells) last)
+    ∙ sym (append_assoc (cell_text c) (32 ∷ []) (spaced (d ∷ cells) ++ cell_text last))
+    ∙ sym (append_assoc (cell_text c ++ 32 ∷ []) (spaced (d ∷ cells)) (cell_text last))
+
+spaced_push : (cells : Path) (c : Cell) → spaced (cells ++ c ∷ []) ≡ spaced cells ++ (cell_text c ++ 32 ∷ [])
+spaced_push [] c = append-nil (cell_text c ++ 32 ∷ [])
+spaced_push (b ∷ cells) c =
+    ap (λ (x : Bytes). (cell_text b ++ 32 ∷ []) ++ x) (spaced_push cells c) ∙ sym (append_assoc (cell_text b ++ 32 ∷ []) (spaced cells) (cell_text c ++ 32 ∷ []))
+
+-- one cell more
+pub cell_more : (before front all : Bytes) (cells : Path) (i : ℕ) (d : Cell) → i < length cells → front ≡ before ++ spaced (take i cells) → all ≡ front ++ cell_text (get_or cells i d) ++ 32 ∷ [] → all ≡ before ++ spaced (take (i + 1) cells)
+cell_more before front all cells i d lt e f =
+    let c = get_or cells i d in
+    f ∙ append_assoc front (cell_text c) (32 ∷ []) ∙ ap (λ (x : Bytes). x ++ (cell_text c ++ 32 ∷ [])) e
+    ∙ append_assoc before (spaced (take i cells)) (cell_text c ++ 32 ∷ [])
+    ∙ ap (λ (x : Bytes). before ++ x) (sym (spaced_push (take i cells) c) ∙ ap spaced (sym (take_more cells i d lt)))
+
+-- the last cell, and the end of the line
+pub line_written : (before front all : Bytes) (cells : Path) (last : Cell) → front ≡ before ++ spaced cells → all ≡ front ++ cell_text last ++ 10 ∷ [] → all ≡ before ++ path_text (cells ++ last ∷ []) ++ 10 ∷ []
+line_written before front all cells last e f =
+    f ∙ ap (λ (x : Bytes). x ++ 10 ∷ []) (ap (λ (x : Bytes). x ++ cell_text last) e ∙ append_assoc before (spaced cells) (cell_text last) ∙ ap (λ (x : Bytes). before ++ x) (sym (path_written cells last)))
+
+-- ---- paths
+
+plan_push : (plan : Plan) (path : Path) → plan_text (plan ++ path ∷ []) ≡ plan_text plan ++ (path_text path ++ 10 ∷ [])
+plan_push [] path = append-nil (path_text path ++ 10 ∷ [])
+plan_push (p ∷ plan) path =
+    ap (λ (x : Bytes). (path_text p ++ 10 ∷ []) ++ x) (plan_push plan path) ∙ sym (append_assoc (path_text p ++ 10 ∷ []) (plan_text plan) (path_text path ++ 10 ∷ []))
+
+pub path_more : (front all : Bytes) (plan : Plan) (i : ℕ) (path : Path) → slice_get plan i ≡ Some path → front ≡ plan_text (take i plan) → all ≡ front ++ path_text path ++ 10 ∷ [] → all ≡ plan_text (take (i + 1) plan)
+path_more front all plan i path is e f =
+    let there = slice_get-Some plan i path is in
+    f ∙ append_assoc front (path_text path) (10 ∷ []) ∙ ap (λ (x : Bytes). x ++ (path_text path ++ 10 ∷ [])) e
+    ∙ sym (plan_push (take i plan) path) ∙ ap plan_text (ap (λ (p : Path). take i plan ++ p ∷ []) (sym there.1) ∙ sym (take_more plan i [] there.0))
+  where
+    slice_get-Some : (plan : Plan) (i : ℕ) (path : Path) → slice_get plan i ≡ Some path → (i < length plan) × (get_or plan i [] ≡ path)
+    slice_get-Some [] i path e = absurd cc
+    slice_get-Some (p ∷ plan) zero path e = (omega arith, cc)
+    slice_get-Some (p ∷ plan) (suc i) path e = let more = slice_get-Some plan i path e in (let lt = more.0 in omega (arith, lt), more.1)

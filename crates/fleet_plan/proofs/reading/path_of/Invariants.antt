@@ -1,0 +1,15 @@
+use Rattle.std.proofs.Common.{◌≡◌, ◌+◌, ◌≤◌, false, ◌++◌, length, option_map}
+use Rattle.fleet_grid.specs.Text.{starts_blank, words, words_from_front}
+use Rattle.fleet_plan.specs.PlanReading.{cells_in}
+use Rattle.fleet_plan.proofs.reading.path_of.Given as goal
+
+abbrev pub invariant-loop-rest : goal.invariant-loop-rest
+invariant-loop-rest l = record {
+  front : starts_blank l.rest ≡ false;
+  some : 1 ≤ length l.rest + length l.cells.items;
+  few : length l.cells.items ≤ 65536;
+  so_far : option_map (λ cells. l.cells.items ++ cells) (cells_in (words l.rest)) ≡ cells_in (words_from_front l.line);
+}
+
+abbrev pub decreases-loop-rest : goal.decreases-loop-rest
+decreases-loop-rest l = length (words l.rest)

@@ -1,0 +1,14 @@
+use Rattle.std.proofs.Common.{◌++◌, [], ◌∷◌, ◌∙◌, sym, ap}
+use Rattle.std.proofs.lemmas.List.{take_all}
+use Rattle.fleet_plan.specs.PlanText.{path_text}
+use Rattle.fleet_plan.proofs.WritingSteps.{spaced, line_written}
+use Rattle.fleet_plan.proofs.writing.put_path.Goals as goal
+
+pub returns : goal.returns
+returns c =
+    let before = c.args.text.now.items in
+    let others = c.in-Some.others.now in
+    let all = take_all c.loop-cell.cell-index others c.loop-cell-test.false in
+    let path_is = sym c.in-Some.ensures.cases.0 ∙ c.cells.ensures.value in
+    line_written before c.loop-cell.text.items _ others c.in-Some.last.now (c.loop-cell.invariant ∙ ap (λ cells. before ++ spaced cells) all) c.in_ok-put_cell-2.ensures
+    ∙ ap (λ path. before ++ path_text path ++ 10 ∷ []) path_is

@@ -1,0 +1,5 @@
+use Rattle.fleet_plan.proofs.WritingSteps.{path_more}
+use Rattle.fleet_plan.proofs.writing.write_plan.Goals as goal
+
+pub loop-i-preserved : goal.loop-i-preserved
+loop-i-preserved c = path_more c.loop-i.text.items _ c.args.plan.now c.loop-i.i c.path.result.now c.path.ensures c.loop-i.invariant c.in_ok-put_path.ensures

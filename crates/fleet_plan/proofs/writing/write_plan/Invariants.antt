@@ -1,0 +1,6 @@
+use Rattle.std.proofs.Common.{◌≡◌, take}
+use Rattle.fleet_plan.specs.PlanText.{plan_text}
+use Rattle.fleet_plan.proofs.writing.write_plan.Given as goal
+
+abbrev pub invariant-loop-i : goal.invariant-loop-i
+invariant-loop-i l = l.text.items ≡ plan_text (take l.i l.plan)

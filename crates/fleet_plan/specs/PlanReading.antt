@@ -1,0 +1,48 @@
+-- Reading a plan's lines in the order of judging, with the first fault that is met.
+use Rattle.std.specs.Prelude.{◌≡◌, ℕ, ◌+◌, nat_le, nat_lt, List, [], ◌∷◌, ◌++◌, length, Option, Some, None, option_map, option_and_then, is_some, if◌then◌else◌, Result, Ok, Err}
+use Rattle.fleet_grid.specs.Text.{Bytes, words, words_from_front}
+use Rattle.fleet_grid.specs.Steps.{◌>>=◌, ◌>>◌, right_or, some_or}
+use Rattle.fleet_plan.specs.Plan.{Path, Plan}
+use Rattle.fleet_plan.specs.PlanText.{spelled_cell}
+use Rattle.fleet_plan.specs.declared.text_fault.TextFault.{TextFault}
+use Rattle.fleet_plan.specs.declared.text_fault.TextFault.TheVariants.{OutOfMemory, Form, Length, AgentCount}
+
+-- What a function returned, seen by view, is what reading gives, unless memory ran out.
+abbrev pub Fails : {Y : Type 0} → TextFault → Result Y TextFault → Type 0
+Fails OutOfMemory read = Unit {0}
+Fails e read = read ≡ Err e
+
+abbrev pub Gives : {X Y : Type 0} → (X → Y) → Result X TextFault → Result Y TextFault → Type 0
+Gives view (Ok x) read = read ≡ Ok (view x)
+Gives view (Err e) read = Fails e read
+
+-- the cells that these words spell, where each spells one
+unfoldable pub cells_in : List Bytes → Option Path
+cells_in [] = Some []
+cells_in (word ∷ others) = option_and_then (λ cell. option_map (λ cells. cell ∷ cells) (cells_in others)) (spelled_cell word)
+
+-- why a line with too many cells in front is no path, by what follows these
+abbrev pub too_long : ℕ → Bytes → TextFault
+too_long number rest = if is_some (cells_in (words rest)) then Length number else Form number
+
+-- one cell or more
+abbrev pub some_cells : Path → Option Path
+some_cells [] = None
+some_cells (cell ∷ cells) = Some (cell ∷ cells)
+
+-- the path of a line
+unfoldable pub path_at : ℕ → Bytes → Result Path TextFault
+path_at number line = do
+  path ← some_or (option_and_then some_cells (cells_in (words_from_front line))) (Form number)
+  right_or (nat_le (length path) 65536) (Length number)
+  Ok path
+
+-- the judgement at the end of the text
+abbrev pub ended : Plan → Result Plan TextFault
+ended [] = Err AgentCount
+ended (path ∷ plan) = Ok (path ∷ plan)
+
+-- the paths of the lines, after those of the lines before
+unfoldable pub paths_at : Plan → List Bytes → Result Plan TextFault
+paths_at earlier [] = ended earlier
+paths_at earlier (line ∷ ls) = right_or (nat_lt (length earlier) 1024) AgentCount >> (path_at (length earlier + 1) line >>= λ path. paths_at (earlier ++ path ∷ []) ls)

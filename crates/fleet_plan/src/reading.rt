@@ -1,0 +1,87 @@
+//! The reader of plans.
+
+ghost use Rattle.std.specs.Prelude.{◌≡◌, ◌≢◌, [], false, IfOk, IfErr, IsOkUnless};
+ghost use Rattle.fleet_grid.specs.Text.{lines, starts_blank};
+ghost use Rattle.fleet_plan.specs.Plan.{Plan as PlanValue};
+ghost use Rattle.fleet_plan.specs.PlanText.{IsPlanText, IsFirstTextFault};
+ghost use Rattle.fleet_plan.specs.PlanReading.{Gives, too_long, path_at, paths_at};
+
+use crate::cells::{begins_with_word, cell_front};
+use crate::plan::{Path, Plan};
+use crate::text_fault::TextFault;
+use fleet_grid::text::Cursor;
+use std::alloc::Global;
+
+const MAX_AGENTS: usize = 1024;
+
+const MAX_CELLS: usize = 65_536;
+
+/// Why a line is no path whose first words spell too many cells, by what follows these.
+fn too_long(number: u64, text: &[u8]) -> TextFault
+    requires { starts_blank text.now ≡ false }
+    ensures { result ≡ too_long number text.now }
+{
+    let mut rest = text;
+    while !rest.is_empty() {
+        let Some((_cell, after)) = cell_front(rest) else {
+            return TextFault::Form { line: number };
+        };
+        rest = after;
+    }
+    TextFault::Length { line: number }
+}
+
+/// The path of a line.
+fn path_of(alloc: Global, number: u64, line: &[u8]) -> Result<Path, TextFault>
+    ensures { Gives (λ p. p) result (path_at number line.now) }
+{
+    if !begins_with_word(line) {
+        return Err(TextFault::Form { line: number });
+    }
+    let mut cells = Vec::new(alloc);
+    let mut rest = line;
+    while !rest.is_empty() {
+        let Some((cell, after)) = cell_front(rest) else {
+            return Err(TextFault::Form { line: number });
+        };
+        if cells.len() >= MAX_CELLS {
+            return Err(too_long(number, after));
+        }
+        cells.push(cell)?;
+        rest = after;
+    }
+    Ok(Path::new(cells))
+}
+
+/// The paths of all lines.
+fn paths_of(alloc: Global, lines: &mut Cursor) -> Result<Vec<Path>, TextFault>
+    ensures { Gives (λ v. v.items) result (paths_at [] lines.old) }
+{
+    let mut paths = Vec::new(alloc);
+    while let Some(line) = lines.next_line() {
+        if paths.len() >= MAX_AGENTS {
+            return Err(TextFault::AgentCount);
+        }
+        let path = path_of(alloc, paths.len() as u64 + 1, line)?;
+        paths.push(path)?;
+    }
+    if paths.is_empty() {
+        return Err(TextFault::AgentCount);
+    }
+    Ok(paths)
+}
+
+/// The plan that a text of this project's plan format stands for: a line for each agent, with the cells `x,y` of its path
+/// between blanks. The text is read once, from the front, and a refusal for another cause than memory is its first fault.
+pub fn read_plan(alloc: Global, bytes: &[u8]) -> Result<Plan, TextFault>
+    // The text stands for what is read.
+    ensures found { IfOk result (λ plan. IsPlanText bytes.now plan) }
+    // What stands for a plan is read, unless memory runs out.
+    ensures read { (plan : PlanValue) → IsPlanText bytes.now plan → IsOkUnless result TextFault.OutOfMemory }
+    // Which fault it is.
+    ensures fault { IfErr result (λ f. f ≢ TextFault.OutOfMemory → IsFirstTextFault bytes.now f) }
+{
+    let mut lines = Cursor::new(bytes);
+    let paths = paths_of(alloc, &mut lines)?;
+    Ok(Plan::new(paths))
+}

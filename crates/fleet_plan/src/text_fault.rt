@@ -1,0 +1,42 @@
+//! Why a text is no plan.
+
+use std::alloc::{AllocError, AllocFailed};
+use thiserror::Error;
+
+/// The first fault of a plan text, from the front. Lines count from 1.
+#[derive(Clone, Copy, Debug, PartialEq, Eq, Hash, Error)]
+pub enum TextFault {
+    #[error("memory ran out")]
+    OutOfMemory,
+    /// A line is no list of cells.
+    #[error("line {line} is no list of cells")]
+    Form { line: u64 },
+    /// A line has more than 65,536 cells.
+    #[error("line {line} has more than 65536 cells")]
+    Length { line: u64 },
+    /// There is no line, or there are more than 1,024.
+    #[error("there are not 1 to 1024 agents")]
+    AgentCount,
+}
+
+impl From<AllocError> for TextFault {
+    ghost use Rattle.std.specs.Prelude.{◌≡◌};
+    ghost use Rattle.fleet_plan.specs.declared.text_fault.TextFault.TheVariants.{OutOfMemory};
+
+    ghost from_gives = { λ _ e. e ≡ OutOfMemory };
+
+    fn from(_e: AllocError) -> TextFault {
+        TextFault::OutOfMemory
+    }
+}
+
+impl<T: Drop> From<AllocFailed<T>> for TextFault {
+    ghost use Rattle.std.specs.Prelude.{◌≡◌};
+    ghost use Rattle.fleet_plan.specs.declared.text_fault.TextFault.TheVariants.{OutOfMemory};
+
+    ghost from_gives = { λ _ e. e ≡ OutOfMemory };
+
+    fn from(_e: AllocFailed<T>) -> TextFault {
+        TextFault::OutOfMemory
+    }
+}

@@ -1,0 +1,71 @@
+-- The words of a line of holds, one after another.
+use Rattle.std.proofs.Common.{◌≡◌, ◌∙◌, ℕ, ◌+◌, ◌<◌, ◌≤◌, ◌&&◌, Bool, true, false, min, List, [], ◌∷◌, ◌++◌, length, take, drop, Option, None, Some, nat_le, nat_lt, refl, sym, ap, subst, inl, inr, ◌⊎◌, arith, append_assoc}
+use Rattle.std.specs.Prelude.{position, option_map, option_and_then}
+use Rattle.std.specs.List.{slice_split}
+use Rattle.std.proofs.lemmas.List.Splits.{slice_split_first}
+use Rattle.std.proofs.lemmas.Bool.{le-leb, lt-ltb, lt-leb, le-ltb}
+use Rattle.fleet_grid.specs.Text.{Bytes}
+use Rattle.fleet_grid.proofs.TextLaws.{found_at, found_nowhere, split_none}
+use Rattle.fleet_run.specs.HoldText.{is_space, plain_number, agents_of}
+
+pub cut_at : (line : Bytes) (end : ℕ) → position is_space line ≡ Some end
+    → (slice_split is_space line ≡ take end line ∷ slice_split is_space (drop (end + 1) line)) × (end < length line)
+cut_at line end e =
+    let f = found_at is_space line end e in (
+      subst (λ (i : ℕ). slice_split is_space line ≡ take i line ∷ slice_split is_space (drop (i + 1) line)) f.0 (slice_split_first is_space line 0 f.1),
+      omega (arith, f.0, f.1),
+    )
+
+pub cut_nowhere : (line : Bytes) → position is_space line ≡ None → slice_split is_space line ≡ line ∷ []
+cut_nowhere line e = split_none is_space line (found_nowhere is_space line e)
+
+-- ---- the first of the words
+
+and_then_none : {X : Type 0} (f : ℕ → Option X) (o : Option ℕ) → option_map (λ (n : ℕ). min n 65536) o ≡ None → option_and_then f o ≡ None
+and_then_none f None e = refl
+and_then_none f (Some n) e = absurd cc
+
+some_capped : (o : Option ℕ) (i : ℕ) → option_map (λ (n : ℕ). min n 65536) o ≡ Some i → (n : ℕ) × (o ≡ Some n) × (min n 65536 ≡ i)
+some_capped None i e = absurd cc
+some_capped (Some n) i e = (n, refl, cc)
+
+-- no number
+pub word_wrong : (n least : ℕ) (word : Bytes) (words : List Bytes) → option_map (λ (k : ℕ). min k 65536) (plain_number word) ≡ None → agents_of n least (word ∷ words) ≡ None
+word_wrong n least word words e = and_then_none _ (plain_number word) e
+
+both_false : (a b : Bool) → (a ≡ false) ⊎ (b ≡ false) → (a && b) ≡ false
+both_false true true (inl e) = e
+both_false true true (inr e) = e
+both_false true false h = refl
+both_false false b h = refl
+
+-- a number that is none of the agents that are left
+pub word_outside : (n least i : ℕ) (word : Bytes) (words : List Bytes) → n < 65536 → least ≤ n → option_map (λ (k : ℕ). min k 65536) (plain_number word) ≡ Some i
+    → (i < least) ⊎ (n ≤ i) → agents_of n least (word ∷ words) ≡ None
+word_outside n least i word words small low e out =
+    let s = some_capped (plain_number word) i e in
+    let test : (nat_le least s.0 && nat_lt s.0 n) ≡ false =
+    both_false (nat_le least s.0) (nat_lt s.0 n) (elim out [ inl h ↦ inl (lt-leb least s.0 (omega (arith, s.2))) | inr h ↦ inr (le-ltb s.0 n (omega (arith, s.2))) ]) in
+    rw (s.1, test) refl
+
+-- the number of an agent
+pub word_inside : (n least i : ℕ) (word : Bytes) (words : List Bytes) → n < 65536 → option_map (λ (k : ℕ). min k 65536) (plain_number word) ≡ Some i
+    → least ≤ i → i < n → agents_of n least (word ∷ words) ≡ option_map (λ (others : List ℕ). i ∷ others) (agents_of n (i + 1) words)
+word_inside n least i word words small e low high =
+    let s = some_capped (plain_number word) i e in
+    let same : s.0 ≡ i = omega (arith, s.2) in
+    let here : plain_number word ≡ Some i = s.1 ∙ ap (λ (k : ℕ). Some k) same in
+    rw (here, le-leb least i low, lt-ltb i n high) refl
+
+-- ---- the words so far
+
+module _ (total : Option (List ℕ)) (held : List ℕ) (part : Option (List ℕ)) (so_far : total ≡ option_map (λ (more : List ℕ). held ++ more) part) where
+  pub none_so : part ≡ None → total ≡ None
+  none_so e = so_far ∙ ap (option_map (λ (more : List ℕ). held ++ more)) e
+
+  pub one_more : (i : ℕ) (rest : Option (List ℕ)) → part ≡ option_map (λ (others : List ℕ). i ∷ others) rest → total ≡ option_map (λ (more : List ℕ). (held ++ i ∷ []) ++ more) rest
+  one_more i rest e = so_far ∙ ap (option_map (λ (more : List ℕ). held ++ more)) e ∙ joined rest
+    where
+      joined : (rest : Option (List ℕ)) → option_map (λ (more : List ℕ). held ++ more) (option_map (λ (others : List ℕ). i ∷ others) rest) ≡ option_map (λ (more : List ℕ). (held ++ i ∷ []) ++ more) rest
+      joined None = refl
+      joined (Some more) = ap (λ (xs : List ℕ). Some xs) (sym (append_assoc held (i ∷ []) more))

@@ -1,0 +1,82 @@
+-- How the pieces that a sink took join.
+use Rattle.std.proofs.Common.{◌≡◌, ℕ, ◌+◌, ◌-◌, ◌≤◌, Bool, List, [], ◌++◌, length, take, drop, None, Some, Option, Result, Ok, Err, IsErr, refl, arith, append_assoc, length-append}
+use Rattle.std.proofs.Math.Seq.{take-add, take-append-add}
+use Rattle.std.proofs.lemmas.List.{take-append-le}
+use Rattle.std.proofs.lemmas.Grind.{common_steps}
+use Rattle.std.specs.Io.KnownBytes.{Keeps, Appends}
+use Rattle.fleet_run.specs.Sink.{StopsWithin, TakesAll}
+
+-- what is kept has grown by nothing
+pub appends_nothing : (a b : Option (List ℕ)) → Keeps a b → Appends a b []
+appends_nothing None b h = tt
+appends_nothing (Some xs) None h = h
+appends_nothing (Some xs) (Some ys) h = grind (arith, common_steps)
+
+pub appends_self : (a : Option (List ℕ)) → Appends a a []
+appends_self None = tt
+appends_self (Some xs) = grind (arith, common_steps)
+
+-- what has grown by nothing is kept
+pub keeps_of_nothing : (a b : Option (List ℕ)) → Appends a b [] → Keeps a b
+keeps_of_nothing None b h = tt
+keeps_of_nothing (Some xs) None h = h
+keeps_of_nothing (Some xs) (Some ys) h = grind (arith, common_steps)
+
+-- one growth after another
+pub appends_more : (a b c : Option (List ℕ)) (xs ys : List ℕ) → Appends a b xs → Appends b c ys → Appends a c (xs ++ ys)
+appends_more None b c xs ys h k = tt
+appends_more (Some s) None c xs ys h k = absurd h
+appends_more (Some s) (Some t) None xs ys h k = k
+appends_more (Some s) (Some t) (Some u) xs ys h k =
+    let g : t ++ ys ≡ s ++ (xs ++ ys) = rw (h, append_assoc) refl in cc
+
+-- growth by equal bytes
+pub appends_same : (a b : Option (List ℕ)) (xs ys : List ℕ) → Appends a b xs → xs ≡ ys → Appends a b ys
+appends_same a b xs ys h e = let P : List ℕ → Type 0 = λ zs. Appends a b zs in rw e at h
+
+-- a piece after the first `at` bytes
+pub appends_piece :
+    (a b c : Option (List ℕ)) (bytes : List ℕ) (at n : ℕ) → at ≤ length bytes → Appends a b (take at bytes)
+    → Appends b c (take n (take (length bytes - at) (drop at bytes))) → n ≤ length (take (length bytes - at) (drop at bytes)) → Appends a c (take (at + n) bytes)
+appends_piece a b c bytes at n le h k short =
+    let whole : take (length bytes - at) (drop at bytes) ≡ drop at bytes = grind (arith, common_steps) in
+    let piece : take n (take (length bytes - at) (drop at bytes)) ≡ take n (drop at bytes) = rw whole refl in
+    appends_same a c (take at bytes ++ take n (drop at bytes)) (take (at + n) bytes)
+    (appends_more a b c (take at bytes) (take n (drop at bytes)) h (appends_same b c _ _ k piece))
+    (rw take-add refl)
+
+-- what failed within the first bytes, failed within all
+pub stops_within_more : (a c : Option (List ℕ)) (failed : Bool) (xs ys : List ℕ) → StopsWithin a c failed xs → StopsWithin a c failed (xs ++ ys)
+stops_within_more a c failed xs ys ((n, below, so_far), failing) = (
+  (
+    n,
+    (let same : length (xs ++ ys) ≡ length xs + length ys = length-append xs ys in omega (arith, below)),
+    appends_same a c (take n xs) (take n (xs ++ ys)) so_far (let le : n ≤ length xs = omega (arith, below) in rw take-append-le refl),
+  ),
+  failing,
+)
+
+-- what took the first bytes, and then failed within the rest, failed within all
+pub stops_after : (a b c : Option (List ℕ)) (failed : Bool) (xs ys : List ℕ) → Appends a b xs → StopsWithin b c failed ys → StopsWithin a c failed (xs ++ ys)
+stops_after a b c failed xs ys h ((n, below, so_far), failing) = (
+  (
+    length xs + n,
+    (let e : length (xs ++ ys) ≡ length xs + length ys = length-append xs ys in omega (arith, below)),
+    appends_same a c (xs ++ take n ys) (take (length xs + n) (xs ++ ys)) (appends_more a b c xs (take n ys) h so_far) (rw take-append-add refl),
+  ),
+  failing,
+)
+
+-- what took the first bytes, and then takes or fails at the rest
+pub takes_then : {T E : Type 0} (a b c : Option (List ℕ)) (failed : Bool) (r : Result T E) (xs ys : List ℕ) → Appends a b xs → TakesAll b c failed r ys → TakesAll a c failed r (xs ++ ys)
+takes_then a b c failed (Ok _) xs ys h k = (appends_more a b c xs ys h k.0, k.1)
+takes_then a b c failed (Err _) xs ys h k = stops_after a b c failed xs ys h k
+
+-- the same bytes under another name
+pub takes_same : {T E : Type 0} (a c : Option (List ℕ)) (failed : Bool) (r : Result T E) (xs ys : List ℕ) → TakesAll a c failed r xs → xs ≡ ys → TakesAll a c failed r ys
+takes_same a c failed r xs ys h e = rw e at h
+
+-- an answer that is an error, where the sink failed within the bytes
+pub takes_err : {T E : Type 0} (a c : Option (List ℕ)) (failed : Bool) (r : Result T E) (xs : List ℕ) → IsErr r → StopsWithin a c failed xs → TakesAll a c failed r xs
+takes_err a c failed (Ok _) xs e h = cc
+takes_err a c failed (Err _) xs e h = h

@@ -1,0 +1,34 @@
+use Rattle.std.proofs.Common.{◌≡◌, length, arith, sym, ◌∙◌, ap, drop}
+use Rattle.fleet_run.specs.Text.{trace_closing}
+use Rattle.fleet_model.specs.Machine.{run, held_ticks}
+use Rattle.std.proofs.lemmas.Result.{err_from_is_err_and}
+use Rattle.fleet_run.proofs.Rehearsed.{rest_of_row}
+use Rattle.fleet_run.proofs.Driven.{drives_so, finished_at_end, stops_in_trace_closing, needed_to_finish}
+use Rattle.fleet_run.proofs.trace.run_trace.Goals as goal
+
+pub returns-in_err-ran : goal.returns-in_err-ran
+returns-in_err-ran g c =
+    let told = err_from_is_err_and c.from_residual.result c.from_residual.ensures.1 in
+    rw (told.1, told.2) (drives_so (g.P.ProgramView.program c.args.program.now) c.args.chain (g.S.HoldSource.ticks c.args.source.now) _ c.run_lines.new.rows c.in_err-ran.field-0.0 c.in_err-ran.ensures)
+
+pub returns-then-is_err : goal.returns-then-is_err
+returns-then-is_err g c =
+    let p = g.P.ProgramView.program c.args.program.now in
+    let holds = g.S.HoldSource.ticks c.args.source.now in
+    let here = c.in_ok-ran.ensures.0 in
+    let ran = c.in_ok-ran.ensures.1 in
+    let t = c.in_ok-ran.ran.ticks in
+    let over = finished_at_end p (run p holds t) c.in_ok-ran.ran.end (c.requires.shown.never_stuck holds t) ran.end in
+    let closing : drop c.write_trace_closing-at.result c.write_trace_closing-at.new.row ≡ trace_closing (length p) t c.args.chain (held_ticks p holds t) =
+    c.write_trace_closing-at.ensures.written ∙ (ap (λ n. trace_closing n t c.args.chain c.in_ok-ran.ran.held) c.agents-agents.ensures.count ∙ ap (trace_closing (length p) t c.args.chain) ran.held) in
+    let whole = rest_of_row c.write_trace_closing-at.new.row 100 c.write_trace_closing-at.result (omega arith) in
+    let stops = stops_in_trace_closing p c.args.chain holds t _ _ _ _ c.put_all.result _ over ran.taken c.put_all.ensures (sym c.is_err.ensures.value ∙ c.if-is_err.true) (whole ∙ closing) in (
+      t,
+      here,
+      record {
+        needed = needed_to_finish p holds t ran.needed;
+        source = record { left = ran.source.left; kept = ran.source.kept; ended = ran.source.ended; fault = ran.source.fault };
+        taken = stops.0;
+        failed = stops.1;
+      },
+    )

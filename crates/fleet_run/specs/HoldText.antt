@@ -1,0 +1,79 @@
+-- Which ticks a text of holds stands for, line by line.
+use Rattle.std.specs.Prelude.{◌≡◌, ℕ, ◌+◌, ◌<◌, Bool, true, not, ◌&&◌, ◌==◌, nat_le, nat_lt, List, [], ◌∷◌, map, All, Option, None, Some, option_and_then, option_map, codes, decimal, if◌then◌else◌}
+use Rattle.std.specs.List.{slice_split, join_with_byte}
+use Rattle.std.specs.List.Sorted.{IsStrictlyIncreasing}
+use Rattle.fleet_model.specs.Machine.{Holds}
+use Rattle.fleet_grid.specs.Text.{Bytes, number}
+use Rattle.fleet_run.specs.declared.source.SourceFault.{SourceFault}
+use Rattle.fleet_run.specs.declared.source.SourceFault.TheVariants.{Text}
+
+-- ---- the form of a line, said of the agents that it holds
+
+-- `-` for nobody, or the agents' numbers with one space between two
+abbrev pub tick_line : List ℕ → Bytes
+tick_line [] = codes "-"
+tick_line (agent ∷ others) = join_with_byte 32 (map decimal (agent ∷ others))
+
+-- the line of a tick that holds these agents, of n
+pub record IsTickLine (n : ℕ) (line : Bytes) (held : List ℕ) : Type 0 where
+  pub rising : IsStrictlyIncreasing held
+  pub agents : All (λ i. i < n) held
+  pub written : line ≡ tick_line held
+
+-- ---- the agents that a line holds, read from its front
+
+-- no digit stands behind a leading zero
+abbrev pub is_plain : Bytes → Bool
+is_plain [] = true
+is_plain (d ∷ []) = true
+is_plain (d ∷ e ∷ ds) = not (d == 48)
+
+abbrev pub plain_number : Bytes → Option ℕ
+plain_number word = if is_plain word then number word else None
+
+-- the agents that the words name, the first of them at least least, of n
+abbrev pub agents_of : ℕ → ℕ → List Bytes → Option (List ℕ)
+agents_of n least [] = Some []
+agents_of n least (word ∷ words) =
+    option_and_then
+    (λ i. if nat_le least i && nat_lt i n then option_map (λ others. i ∷ others) (agents_of n (i + 1) words) else None)
+    (plain_number word)
+
+abbrev pub is_space : ℕ → Bool
+is_space b = b == 32
+
+-- is it the line of the tick that holds nobody
+abbrev pub is_dash : Bytes → Bool
+is_dash [] = not true
+is_dash (b ∷ []) = b == 45
+is_dash (b ∷ c ∷ bs) = not true
+
+-- the agents that the line of a tick holds, of n
+abbrev pub tick_of : ℕ → Bytes → Option (List ℕ)
+tick_of n line = if is_dash line then Some [] else agents_of n 0 (slice_split is_space line)
+
+-- ---- the ticks of a text
+
+abbrev pub tick_before : Option (List ℕ) → Holds → Holds
+tick_before None ticks = []
+tick_before (Some tick) ticks = tick ∷ ticks
+
+-- the ticks of the lines before the first that is no tick's
+abbrev pub ticks_of : ℕ → List Bytes → Holds
+ticks_of n [] = []
+ticks_of n (line ∷ lines) = tick_before (tick_of n line) (ticks_of n lines)
+
+abbrev pub fault_before : Option (List ℕ) → Option SourceFault → Option SourceFault
+fault_before None last = Some Text
+fault_before (Some tick) last = last
+
+-- what comes after them: nothing, or the failure at a line that is no tick's
+abbrev pub last_of : ℕ → List Bytes → Option SourceFault
+last_of n [] = None
+last_of n (line ∷ lines) = fault_before (tick_of n line) (last_of n lines)
+
+-- a text of holds that is read in place
+pub record HoldLines : Type 0 where
+  pub lines : List Bytes  -- those that are left
+  pub agents : ℕ
+  pub has_failed : Bool

@@ -1,0 +1,10 @@
+pub mod Near
+pub mod Text
+pub mod Source
+pub mod Sink
+pub mod Taken
+pub mod Outcome
+pub mod Rehearsal
+pub mod HoldText
+pub mod Fleet
+pub mod Drive

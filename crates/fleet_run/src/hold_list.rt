@@ -1,0 +1,73 @@
+//! A source over rows of numbers in memory.
+
+ghost use Rattle.std.specs.Prelude.{◌≡◌, map, All};
+ghost use Rattle.fleet_run.specs.Source.{AreFlagsOf};
+
+use crate::source::{HoldSource, SourceFault};
+use std::marker::Model;
+
+/// A source that gives its rows one after another, and never fails.
+#[derive(Drop)]
+pub struct HoldList {
+    rows: Vec<Vec<u16>>,
+    given: usize,
+}
+
+impl Model for HoldList {
+    ghost use Rattle.std.specs.Prelude.{map, drop};
+    ghost use Rattle.fleet_model.specs.Machine.{Holds};
+
+    ghost Value = { Holds };
+
+    ghost view = { λ s. map (λ row. row.items) (drop s.given s.rows.items) };
+}
+
+impl HoldList {
+    ghost use Rattle.std.specs.List.Sorted.{IsStrictlyIncreasing};
+
+    /// A source of these rows, each the numbers of the agents that one tick holds.
+    pub fn new(rows: Vec<Vec<u16>>) -> HoldList
+        requires { All (λ row. IsStrictlyIncreasing row.items) rows.items }
+        ensures { result ≡ map (λ row. row.items) rows.items }
+    {
+        HoldList { rows, given: 0 }
+    }
+}
+
+/// Sets flag i where i is among the numbers, and passes over the other numbers.
+fn set_flags(numbers: &[u16], flags: &mut [bool])
+    ensures { AreFlagsOf numbers.now flags.new }
+{
+    for flag in flags.iter_mut() {
+        *flag = false;
+    }
+    for number in numbers {
+        let agent = usize::from(*number);
+        if agent < flags.len() {
+            flags[agent] = true;
+        }
+    }
+}
+
+impl HoldSource for HoldList {
+    ghost use Rattle.std.specs.Prelude.{None};
+
+    ghost ticks = { λ s. s };
+
+    ghost last = { λ _. None };
+
+    ghost fault = { λ _. None };
+
+    fn next(&mut self, held: &mut [bool]) -> Result<bool, SourceFault> {
+        if self.given >= self.rows.len() {
+            return Ok(false);
+        }
+        set_flags(self.rows[self.given].as_slice(), held);
+        self.given += 1;
+        Ok(true)
+    }
+
+    fn failed(&self) -> Option<SourceFault> {
+        None
+    }
+}

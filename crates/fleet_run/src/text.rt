@@ -1,0 +1,136 @@
+//! Places and lines, written into a row of bytes from its end to its front.
+
+ghost use Rattle.std.specs.Prelude.{◌≡◌, ◌+◌, ◌<◌, ◌≤◌, ◌++◌, ◌∷◌, length, drop};
+ghost use Rattle.std.specs.Fmt.{decimal, signed_decimal};
+ghost use Rattle.fleet_run.specs.Text.{place_text, line_of, number_line, last_line_of, closing_lines, trace_closing};
+
+use crate::digits::{write_byte, write_number};
+use crate::run::End;
+use fleet_model::{Place, Standing};
+
+/// Writes the digits of a number of 32 bits so that they end before `end`, and answers where they begin.
+fn write_count(number: u32, row: &mut [u8], end: usize) -> usize
+    requires room { 10 ≤ end }
+    requires within { end ≤ length row.old }
+    ensures low { end ≤ result + 10 }
+    ensures high { result ≤ end }
+    ensures written { drop result row.new ≡ decimal number ++ drop end row.old }
+{
+    write_number(number as u64, row, end)
+}
+
+/// The same, with a minus sign where it is negative.
+fn write_signed(number: i32, row: &mut [u8], end: usize) -> usize
+    requires room { 11 ≤ end }
+    requires within { end ≤ length row.old }
+    ensures low { end ≤ result + 11 }
+    ensures high { result ≤ end }
+    ensures written { drop result row.new ≡ signed_decimal number ++ drop end row.old }
+{
+    let at = write_count(number.unsigned_abs(), row, end);
+    if number < 0 {
+        write_byte(b'-', row, at)
+    } else {
+        at
+    }
+}
+
+/// Writes ` x,y`.
+fn write_place(place: Place, row: &mut [u8], end: usize) -> usize
+    requires room { 24 ≤ end }
+    requires within { end ≤ length row.old }
+    ensures low { end ≤ result + 24 }
+    ensures high { result ≤ end }
+    ensures written { drop result row.new ≡ place_text place ++ drop end row.old }
+{
+    let at = write_signed(place.y, row, end);
+    let at = write_byte(b',', row, at);
+    let at = write_signed(place.x, row, at);
+    write_byte(b' ', row, at)
+}
+
+/// How many bytes the longest line has.
+pub const LINE: usize = 1024 * 24 + 12;
+
+/// Writes the line of a time, and answers where it begins. It ends with the row.
+pub fn write_line(time: u32, rows: &[Standing], row: &mut [u8]) -> usize
+    requires agents { length rows.now ≤ 1024 }
+    requires room { length row.old ≡ LINE }
+    ensures within { result ≤ length row.new }
+    ensures written { drop result row.new ≡ line_of time rows.now }
+{
+    let mut at = write_byte(b'\n', row, LINE);
+    for i in (0..rows.len()).rev() {
+        at = write_place(rows[i].place, row, at);
+    }
+    let at = write_byte(b':', row, at);
+    write_count(time, row, at)
+}
+
+/// Writes bytes so that they end before `end`, and answers where they begin.
+fn write_bytes(bytes: &[u8], row: &mut [u8], end: usize) -> usize
+    requires room { length bytes.now ≤ end }
+    requires within { end ≤ length row.old }
+    ensures start { result + length bytes.now ≡ end }
+    ensures written { drop result row.new ≡ bytes.now ++ drop end row.old }
+{
+    let at = end - bytes.len();
+    row[at..end].copy_from_slice(bytes);
+    at
+}
+
+/// Writes a word and its number, in a line.
+fn write_number_line(word: &[u8], number: u32, row: &mut [u8], end: usize) -> usize
+    requires room { length word.now + 12 ≤ end }
+    requires within { end ≤ length row.old }
+    ensures low { end ≤ result + length word.now + 12 }
+    ensures high { result ≤ end }
+    ensures written { drop result row.new ≡ number_line word.now number ++ drop end row.old }
+{
+    let at = write_byte(b'\n', row, end);
+    let at = write_count(number, row, at);
+    let at = write_byte(b' ', row, at);
+    write_bytes(word, row, at)
+}
+
+fn last_line(end: End) -> &'static [u8]
+    ensures { result.now ≡ last_line_of end }
+{
+    match end {
+        End::Finished => b"finished\n",
+        End::Stuck => b"stuck\n",
+    }
+}
+
+/// How many bytes the closing lines have at most.
+pub const CLOSING: usize = 100;
+
+/// Writes the closing lines of a rehearsal, and answers where they begin. They end with the row.
+pub fn write_rehearsal_closing(
+    agents: u16,
+    ticks: u32,
+    held: u32,
+    end: End,
+    row: &mut [u8],
+) -> usize
+    requires room { length row.old ≡ CLOSING }
+    ensures within { result ≤ length row.new }
+    ensures written { drop result row.new ≡ closing_lines agents ticks held end }
+{
+    let at = write_bytes(last_line(end), row, CLOSING);
+    let at = write_number_line(b"held", held, row, at);
+    let at = write_number_line(b"ticks", ticks, row, at);
+    write_number_line(b"agents", agents as u32, row, at)
+}
+
+/// Writes the closing lines of a trace, and answers where they begin. They end with the row.
+pub fn write_trace_closing(agents: u16, ticks: u32, chain: u32, held: u32, row: &mut [u8]) -> usize
+    requires room { length row.old ≡ CLOSING }
+    ensures within { result ≤ length row.new }
+    ensures written { drop result row.new ≡ trace_closing agents ticks chain held }
+{
+    let at = write_number_line(b"held", held, row, CLOSING);
+    let at = write_number_line(b"chain", chain, row, at);
+    let at = write_number_line(b"ticks", ticks, row, at);
+    write_number_line(b"agents", agents as u32, row, at)
+}

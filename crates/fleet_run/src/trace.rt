@@ -1,0 +1,66 @@
+//! Runs of accepted programs, with their trace text.
+
+ghost use Rattle.std.specs.Prelude.{◌≡◌, length, false, None};
+ghost use Rattle.fleet_model.specs.Machine.{opening};
+ghost use Rattle.fleet_run.specs.Near.{AreNear};
+ghost use Rattle.fleet_run.specs.Fleet.{IsShown};
+ghost use Rattle.fleet_run.specs.Drive.{Drives};
+
+use crate::run::{RunFault, run_lines};
+use crate::sink::{TraceOut, put_all};
+use crate::source::HoldSource;
+use crate::text::{CLOSING, LINE, write_trace_closing};
+use fleet_model::{ProgramView, Standing};
+
+/// What a run of a fleet did.
+#[derive(Clone, Copy, Debug, PartialEq, Eq)]
+pub struct Report {
+    pub agents: u16,
+    pub ticks: u32,
+    pub chain: u32,
+    pub held: u32,
+}
+
+/// Runs an accepted program from its start until all is finished, and writes its trace text.
+pub fn run_trace<P: ProgramView, S: HoldSource, O: TraceOut>(
+    program: &P,
+    chain: u32,
+    rows: &mut [Standing],
+    moving: &mut [bool],
+    source: &mut S,
+    out: &mut O,
+) -> Result<Report, RunFault>
+    requires shown { IsShown (P.program program.now) chain }
+    requires rows { rows.old ≡ opening (P.program program.now) }
+    requires near { AreNear rows.old }
+    requires moving { length moving.old ≡ length (P.program program.now) }
+    requires source { S.fault source.old ≡ None }
+    requires sink { O.has_failed out.old ≡ false }
+    ensures { Drives (P.program program.now) chain (S.ticks source.old)
+        (record { last = S.last source.old; now = S.last source.new; left = S.ticks source.new; fault = S.fault source.new; before = O.taken out.old; taken = O.taken out.new; has_failed = O.has_failed out.new })
+        rows.new result }
+{
+    let mut flags = [false; 1024];
+    let mut line = [0; LINE];
+    let agents = program.agents();
+    let ran = run_lines(
+        program,
+        rows,
+        moving,
+        &mut flags[..agents as usize],
+        &mut line,
+        source,
+        out,
+    )?;
+    let mut closing = [0; CLOSING];
+    let at = write_trace_closing(agents, ran.ticks, chain, ran.held, &mut closing);
+    if put_all(out, &closing[at..]).is_err() {
+        return Err(RunFault::Write);
+    }
+    Ok(Report {
+        agents,
+        ticks: ran.ticks,
+        chain,
+        held: ran.held,
+    })
+}

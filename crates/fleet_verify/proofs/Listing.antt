@@ -1,0 +1,120 @@
+-- Orders of visits, and the listing sorted by the levels of the entering actions.
+use Rattle.std.proofs.Common.{◌≡◌, ℕ, zero, suc, ◌+◌, ◌<◌, ◌≤◌, Bool, cond, List, [], ◌∷◌, ◌++◌, length, get_or, refl, sym, ap, subst, arith, inl, inr}
+use Rattle.std.specs.Prelude.{Contains}
+use Rattle.std.proofs.lemmas.Bool.{cases_lt, eq-eqb, ne_eqb}
+use Rattle.std.proofs.lemmas.List.{length-append}
+use Rattle.fleet_model.specs.declared.geometry.Place.{Place}
+use Rattle.fleet_model.specs.declared.program.Await.{Await}
+use Rattle.fleet_model.specs.declared.program.ActionId.{ActionId}
+use Rattle.fleet_model.specs.declared.program.Visit.{Visit}
+use Rattle.fleet_model.specs.declared.task.Task.{Task}
+use Rattle.fleet_model.specs.Program.{Program, moves, awaits_of, AreInRange}
+use Rattle.fleet_model.specs.Chain.{IsAction, DirectlyNeeds, ChainFrom, Reaches, EndsChain, IsNumbering, awaited}
+use Rattle.fleet_model.specs.Visit.{IsVisitOf, ListsVisits, Adjacent, ComesAfterByAwait, ComesAfterByChain, entering, leaving}
+use Rattle.fleet_model.specs.Accepted.{IsAccepted}
+use Rattle.fleet_verify.specs.Listing.{AreLevels, entry_level, IsBefore, IsSortedListing}
+use Rattle.fleet_model.proofs.Chains.{Reaches-first, Reaches-last, Reaches-need}
+use Rattle.fleet_verify.proofs.Chains.{chain_join, own_reach, Reaches-rises, Reaches-trans}
+use Rattle.fleet_verify.proofs.Members.{contains_none}
+use Rattle.fleet_verify.proofs.Neighbours.{adjacent_at, adjacent_from, same_neighbours}
+
+-- levels are a numbering
+pub levels_number : (p : Program) (level : ActionId → ℕ) → AreLevels p level → IsNumbering p level
+levels_number p level h = record {
+  positive = λ a k. (h a k).most 1 (a, [], (k, refl), refl);
+  rising = λ a b k m n. above a b k n ((h b m).some);
+}
+  where
+    above : (a b : ActionId) → IsAction p a → DirectlyNeeds p a b → EndsChain p (level b) b → level b < level a
+    above a b k n (x, cs, c, e) =
+        let longer : ChainFrom p x (cs ++ a ∷ []) a = chain_join p x cs b (a ∷ []) a c (chain_end a b cs x k n c) in
+        let more : length (cs ++ a ∷ []) + 1 ≤ level a = (h a k).most (length (cs ++ a ∷ []) + 1) (x, cs ++ a ∷ [], longer, refl) in
+        let count : length (cs ++ a ∷ []) ≡ length cs + 1 = length-append cs (a ∷ []) in
+        omega arith
+      where
+        chain_end : (a b : ActionId) (cs : List ActionId) (x : ActionId) → IsAction p a → DirectlyNeeds p a b → ChainFrom p x cs b → ChainFrom p b (a ∷ []) a
+        chain_end a b cs x k n c = (Reaches-last p x b (cs, c), n, (k, refl))
+
+-- the order of two visits, as a chain
+pub after_reaches : (p : Program) (q : Place) (v w : Visit) → IsVisitOf p q w → ComesAfterByChain p v w → Reaches p (leaving p v) (entering w)
+after_reaches p q v w h (inl (e, l)) =
+    subst (λ i. Reaches p (record { agent = i; number = v.position + 1 }) (entering w)) (sym e)
+    (own_reach p w.agent (v.position + 1) w.position h.agent (omega arith) (omega arith) h.position)
+after_reaches p q v w h (inr r) = r
+
+awaits_positive : (p : Program) (i n : ℕ) (a : Await) → Contains (awaits_of p i n) a → 1 ≤ n
+awaits_positive p i zero a c = absurd (contains_none a c)
+awaits_positive p i (suc n) a c = omega arith
+
+-- what is ordered by an await is ordered by a chain
+pub await_chain : (p : Program) → AreInRange p → (q : Place) (v w : Visit) → IsVisitOf p q w → ComesAfterByAwait p v w → ComesAfterByChain p v w
+await_chain p range q v w h (inl o) = inl o
+await_chain p range q v w h (inr (a, c, e, l)) =
+    let known = range w.agent w.position a c in
+    let some : Reaches p (record { agent = a.agent; number = v.position + 1 }) (awaited a) = own_reach p a.agent (v.position + 1) a.count known.agent (omega arith) l known.last in
+    let start : Reaches p (leaving p v) (awaited a) = subst (λ i. Reaches p (record { agent = i; number = v.position + 1 }) (awaited a)) e some in
+    let enters : IsAction p (entering w) = record { agent = h.agent; first = awaits_positive p w.agent w.position a c; last = h.position } in
+    inr (Reaches-trans p (leaving p v) (awaited a) (entering w) start
+    (Reaches-need p (awaited a) (entering w) (Reaches-last p (leaving p v) (awaited a) start) enters (inr c)))
+
+pub entry_start : (number : ActionId → ℕ) (v : Visit) → v.position ≡ 0 → entry_level number v ≡ 0
+entry_start number v e = ap (λ b. cond b 0 (number (entering v))) (eq-eqb v.position 0 e)
+
+pub entry_later : (number : ActionId → ℕ) (v : Visit) → 1 ≤ v.position → entry_level number v ≡ number (entering v)
+entry_later number v l = ap (λ b. cond b 0 (number (entering v))) (ne_eqb v.position 0 (λ e. omega arith))
+
+-- a visit that comes after another has a greater rank
+pub rank_rises : (p : Program) (number : ActionId → ℕ) → IsNumbering p number → (v w : Visit) → Reaches p (leaving p v) (entering w) → entry_level number v < entry_level number w
+rank_rises p number s v w r =
+    let left : IsAction p (leaving p v) = Reaches-first p (leaving p v) (entering w) r in
+    let enters : IsAction p (entering w) = Reaches-last p (leaving p v) (entering w) r in
+    let up : number (leaving p v) ≤ number (entering w) = Reaches-rises p number s (leaving p v) (entering w) r in
+    let f : 1 ≤ w.position = enters.first in
+    let rank : entry_level number w ≡ number (entering w) = entry_later number w f in
+    let some : 1 ≤ number (entering w) = s.positive (entering w) enters in
+    elim (cases_lt v.position 1) [
+      | inl l ↦ (let e : entry_level number v ≡ 0 = entry_start number v (omega arith) in omega arith)
+      | inr l ↦ (
+          let e : entry_level number v ≡ number (entering v) = entry_later number v l in
+          let m : v.position + 1 ≤ moves p v.agent = left.last in
+          let down : number (entering v) < number (leaving p v) = s.rising (leaving p v) (entering v) left (record { agent = left.agent; first = l; last = omega arith }) (inl (refl, refl, l)) in
+          omega arith)
+    ]
+
+-- neighbours in an orderly listing, as chains
+pub chained : (p : Program) (q : Place) (After : Visit → Visit → Type 0) → ((v w : Visit) → IsVisitOf p q w → After v w → Reaches p (leaving p v) (entering w)) → (l : List Visit) → ListsVisits p q l → Adjacent After l → (k : ℕ) (d : Visit) → suc k < length l → Reaches p (leaving p (get_or l k d)) (entering (get_or l (suc k) d))
+chained p q After gives l h a k d m = gives (get_or l k d) (get_or l (suc k) d) (h.only (suc k) d m) (adjacent_at After l a k d m)
+
+-- a listing in which each visit may come after the one before rises in rank
+pub listing_rises : (p : Program) (number : ActionId → ℕ) → IsNumbering p number → (q : Place) (After : Visit → Visit → Type 0) → ((v w : Visit) → IsVisitOf p q w → After v w → Reaches p (leaving p v) (entering w)) → (l : List Visit) → ListsVisits p q l → Adjacent After l → (k : ℕ) (d : Visit) → suc k < length l → entry_level number (get_or l k d) < entry_level number (get_or l (suc k) d)
+listing_rises p number s q After gives l h a k d m = rank_rises p number s (get_or l k d) (get_or l (suc k) d) (chained p q After gives l h a k d m)
+
+before_rank : (number : ActionId → ℕ) (v w : Visit) → IsBefore number v w → entry_level number v ≤ entry_level number w
+before_rank number v w (inl l) = omega arith
+before_rank number v w (inr (e, o)) = omega arith
+
+-- so the sorted listing passes where any listing does
+pub sorted_passes : (p : Program) (number : ActionId → ℕ) → IsNumbering p number → (q : Place) (After : Visit → Visit → Type 0) → ((v w : Visit) → IsVisitOf p q w → After v w → Reaches p (leaving p v) (entering w)) → (l : List Visit) → ListsVisits p q l → Adjacent After l → (sorted : List Visit) → IsSortedListing p number q sorted → Adjacent After sorted
+sorted_passes p number s q After gives l h a sorted g =
+    same_neighbours After (entry_level number) l sorted
+    (adjacent_at After l a)
+    (listing_rises p number s q After gives l h a)
+    (λ k d m. before_rank number (get_or sorted k d) (get_or sorted (suc k) d) (adjacent_at (IsBefore number) sorted g.sorted k d m))
+    (λ v c. h.all v (visit_in sorted g.lists v c))
+    (λ v c. g.lists.all v (visit_in l h v c))
+    g.lists.once
+  where
+    visit_in : (xs : List Visit) → ListsVisits p q xs → (v : Visit) → Contains xs v → IsVisitOf p q v
+    visit_in xs k v (i, m, e) = subst (IsVisitOf p q) e (k.only i v m)
+
+-- what is orderly by awaits is orderly by chains
+pub adjacent_chains : (p : Program) → AreInRange p → (q : Place) (l : List Visit) → ((k : ℕ) (d : Visit) → k < length l → IsVisitOf p q (get_or l k d)) → Adjacent (ComesAfterByAwait p) l → Adjacent (ComesAfterByChain p) l
+adjacent_chains p range q l only a =
+    adjacent_from (ComesAfterByChain p) l (λ k d m. await_chain p range q (get_or l k d) (get_or l (suc k) d) (only (suc k) d m) (adjacent_at (ComesAfterByAwait p) l a k d m))
+
+pub awaits_accepted : (passable : Place → Bool) (tasks : List Task) (p : Program) → IsAccepted ComesAfterByAwait passable tasks p → IsAccepted ComesAfterByChain passable tasks p
+awaits_accepted passable tasks p a = record {
+  right = a.right;
+  numbering = a.numbering;
+  orderly = λ q. ((a.orderly q).0, (a.orderly q).1, adjacent_chains p a.right.in_range q (a.orderly q).0 (a.orderly q).1.only (a.orderly q).2);
+}

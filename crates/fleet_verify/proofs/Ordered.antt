@@ -1,0 +1,191 @@
+-- The visits of a place, one after another.
+use Rattle.std.proofs.Common.{◌≡◌, ◌≢◌, ℕ, zero, suc, ◌+◌, ◌<◌, ◌≤◌, Bool, true, false, cond, List, [], ◌∷◌, ◌++◌, length, map, get_or, Option, Some, None, slice_get, refl, ap, sym, ◌∙◌, subst, arith, inl, inr, add-one, eqb, eq-eqb, ◌&&◌}
+use Rattle.std.specs.Prelude.{pos}
+use Rattle.std.specs.List.{filter}
+use Rattle.std.proofs.lemmas.Bool.{and_parts, eqb-true}
+use Rattle.std.proofs.lemmas.Bool.Decides.{Decides-int_eq}
+use Rattle.std.proofs.lemmas.List.{map-append, append_assoc, append-nil, length-append}
+use Rattle.std.proofs.lemmas.List.Elements.{filter-append}
+use Rattle.std.proofs.lemmas.Option.{slice_get-get_or, slice_get_within, get_or_from_slice_get}
+use Rattle.std.specs.Ordering.{int_eq}
+use Rattle.fleet_model.specs.declared.geometry.Cell.{Cell}
+use Rattle.fleet_model.specs.declared.geometry.Place.{Place}
+use Rattle.fleet_model.specs.declared.program.Await.{Await}
+use Rattle.fleet_model.specs.declared.program.Visit.{Visit}
+use Rattle.fleet_model.specs.Geometry.{place_of}
+use Rattle.fleet_model.specs.Program.{Program, awaits_of}
+use Rattle.fleet_model.specs.Visit.{Adjacent, ComesAfterByAwait}
+use Rattle.fleet_verify.proofs.Neighbours.{adjacent_at}
+use Rattle.fleet_verify.specs.declared.watch.Stay.{Stay}
+use Rattle.fleet_verify.specs.declared.watch.Break.{Break}
+use Rattle.fleet_verify.specs.Order.{same_place, visits_of, is_cell, IsFirstBreak, IsJudged, IsJudgedNext, IsLast, IsWatched}
+
+-- ---- the rule
+
+pub awaited_after : (p : Program) (v w : Visit) (k : ℕ) (a : Await) → slice_get (awaits_of p w.agent w.position) k ≡ Some a → a.agent ≡ v.agent → v.position < a.count → ComesAfterByAwait p v w
+awaited_after p v w k a e g h = inr (a, (k, slice_get_within (awaits_of p w.agent w.position) k a e, get_or_from_slice_get (awaits_of p w.agent w.position) k a a e), g, omega arith)
+
+pub not_after : (p : Program) (v w : Visit) (k : ℕ) → (v.agent ≡ w.agent → v.position < w.position → ⊥)
+    → ((m : ℕ) (a : Await) → m < k → slice_get (awaits_of p w.agent w.position) m ≡ Some a → a.agent ≡ v.agent → v.position + 1 ≤ a.count → ⊥)
+    → length (awaits_of p w.agent w.position) ≤ k → ComesAfterByAwait p v w → ⊥
+not_after p v w k own none l (inl (e, h)) = own e h
+not_after p v w k own none l (inr (a, (m, n, e), g, h)) = none m a (omega arith) (slice_get-get_or (awaits_of p w.agent w.position) m a n ∙ ap Some e) g h
+
+-- ---- lists
+
+pub adjacent_push : (R : Visit → Visit → Type 0) (xs : List Visit) (v w : Visit) → Adjacent R (xs ++ v ∷ []) → R v w → Adjacent R ((xs ++ v ∷ []) ++ w ∷ [])
+adjacent_push R [] v w a r = (r, tt)
+adjacent_push R (x ∷ []) v w a r = (a.0, (r, tt))
+adjacent_push R (x ∷ y ∷ xs) v w a r = (a.0, adjacent_push R (y ∷ xs) v w a.1 r)
+
+pub adjacent_after : (R : Visit → Visit → Type 0) (l : List Visit) (last : Option Visit) (w : Visit) → IsLast l last → Adjacent R l → ((v : Visit) → last ≡ Some v → R v w) → Adjacent R (l ++ w ∷ [])
+adjacent_after R l None w e a r = subst (λ (xs : List Visit). Adjacent R (xs ++ w ∷ [])) (sym e) tt
+adjacent_after R l (Some v) w e a r = subst (λ (xs : List Visit). Adjacent R (xs ++ w ∷ [])) (sym e.1) (adjacent_push R e.0 v w (subst (Adjacent R) e.1 a) (r v refl))
+
+slice_get_at : {X : Type 0} (xs : List X) (v : X) (ys : List X) → slice_get (xs ++ v ∷ ys) (length xs) ≡ Some v
+slice_get_at [] v ys = refl
+slice_get_at (x ∷ xs) v ys = slice_get_at xs v ys
+
+slice_get_front : {X : Type 0} (xs ys : List X) (k : ℕ) → k < length xs → slice_get (xs ++ ys) k ≡ slice_get xs k
+slice_get_front [] ys k l = absurd (omega arith)
+slice_get_front (x ∷ xs) ys zero l = refl
+slice_get_front (x ∷ xs) ys (suc k) l = slice_get_front xs ys k (omega arith)
+
+pub first_break : (R : Visit → Visit → Type 0) (l : List Visit) (v w : Visit) (rest : List Visit) → IsLast l (Some v) → Adjacent R l → (R v w → ⊥) → IsFirstBreak R (l ++ w ∷ rest) v w
+first_break R l v w rest (xs, e) a n = subst (λ (ys : List Visit). IsFirstBreak R (ys ++ w ∷ rest) v w) (sym e) (record {
+  at = length xs;
+  here = ap (λ (ys : List Visit). slice_get ys (length xs)) (append_assoc xs (v ∷ []) (w ∷ rest)) ∙ slice_get_at xs v (w ∷ rest);
+  next = ap (slice_get ((xs ++ v ∷ []) ++ w ∷ rest)) (sym (length-append xs (v ∷ []))) ∙ slice_get_at (xs ++ v ∷ []) w rest;
+  breaks = n;
+  sooner = λ k x y l f g.
+      let long : length (xs ++ v ∷ []) ≡ length xs + 1 = length-append xs (v ∷ []) in
+      let f' : slice_get (xs ++ v ∷ []) k ≡ Some x = sym (slice_get_front (xs ++ v ∷ []) (w ∷ rest) k (omega arith)) ∙ f in
+      let g' : slice_get (xs ++ v ∷ []) (k + 1) ≡ Some y = sym (slice_get_front (xs ++ v ∷ []) (w ∷ rest) (k + 1) (omega arith)) ∙ g in
+      let h : R (get_or (xs ++ v ∷ []) k x) (get_or (xs ++ v ∷ []) (suc k) x) = adjacent_at R (xs ++ v ∷ []) (subst (Adjacent R) e a) k x (omega arith) in
+      let i : get_or (xs ++ v ∷ []) (suc k) x ≡ y = ap (λ (m : ℕ). get_or (xs ++ v ∷ []) m x) (sym (add-one k)) ∙ get_or_from_slice_get (xs ++ v ∷ []) (k + 1) y x g' in
+      subst (R x) i (subst (λ (z : Visit). R z (get_or (xs ++ v ∷ []) (suc k) x)) (get_or_from_slice_get (xs ++ v ∷ []) k x x f') h);
+})
+
+-- ---- the visits of a place
+
+pub visits_of-append : (q : Place) (xs ys : List Stay) → visits_of q (xs ++ ys) ≡ visits_of q xs ++ visits_of q ys
+unfolding visits_of
+visits_of-append q xs ys = ap (map (λ (s : Stay). s.visit)) (filter-append (λ (s : Stay). same_place (place_of s.cell) q) xs ys) ∙ map-append (λ (s : Stay). s.visit) (filter (λ s. same_place (place_of s.cell) q) xs) (filter (λ s. same_place (place_of s.cell) q) ys)
+
+pub same_place-true : (q r : Place) → same_place q r ≡ true → q ≡ r
+same_place-true q r e =
+    let b = and_parts (int_eq q.x r.x) (int_eq q.y r.y) e in
+    let x : q.x ≡ r.x = (Decides-int_eq q.x r.x).0 b.0 in
+    let y : q.y ≡ r.y = (Decides-int_eq q.y r.y).0 b.1 in
+    λ i. record { x = x i; y = y i }
+
+pub same_place-refl : (q : Place) → same_place q q ≡ true
+same_place-refl q = rw ((Decides-int_eq q.x q.x).1 refl, (Decides-int_eq q.y q.y).1 refl) refl
+
+place_of-same : (c d : Cell) → place_of c ≡ place_of d → c ≡ d
+place_of-same c d e =
+    let x : pos c.x ≡ pos d.x = ap (λ (q : Place). q.x) e in
+    let y : pos c.y ≡ pos d.y = ap (λ (q : Place). q.y) e in
+    let x' : c.x ≡ d.x = cc in
+    let y' : c.y ≡ d.y = cc in
+    λ i. record { x = x' i; y = y' i }
+
+-- one stay more
+pub visits_on : (c : Cell) (s : Stay) → s.cell ≡ c → visits_of (place_of c) (s ∷ []) ≡ s.visit ∷ []
+unfolding visits_of
+visits_on c s e = rw (e, same_place-refl (place_of c)) refl
+
+pub visits_off : (c : Cell) (s : Stay) → (s.cell ≡ c → ⊥) → visits_of (place_of c) (s ∷ []) ≡ []
+unfolding visits_of
+visits_off c s ne = go (same_place (place_of s.cell) (place_of c)) refl
+  where
+    go : (b : Bool) → same_place (place_of s.cell) (place_of c) ≡ b → map (λ (s : Stay). s.visit) (filter (λ s. same_place (place_of s.cell) (place_of c)) (s ∷ [])) ≡ []
+    go false e = rw e refl
+    go true e = absurd (ne (place_of-same s.cell c (same_place-true (place_of s.cell) (place_of c) e)))
+
+pub same_cell : (c d : Cell) (b : Bool) → b ≡ (eqb c.x d.x && eqb c.y d.y) → b ≡ true → c ≡ d
+same_cell c d b e h =
+    let r = and_parts (eqb c.x d.x) (eqb c.y d.y) (sym e ∙ h) in
+    let x : c.x ≡ d.x = eqb-true c.x d.x r.0 in
+    let y : c.y ≡ d.y = eqb-true c.y d.y r.1 in
+    λ i. record { x = x i; y = y i }
+
+pub other_cell : (c d : Cell) (b : Bool) → b ≡ (eqb c.x d.x && eqb c.y d.y) → b ≡ false → c ≡ d → ⊥
+other_cell c d b e h same =
+    let x : eqb c.x d.x ≡ true = eq-eqb c.x d.x (ap (λ (z : Cell). z.x) same) in
+    let y : eqb c.y d.y ≡ true = eq-eqb c.y d.y (ap (λ (z : Cell). z.y) same) in
+    let t : (eqb c.x d.x && eqb c.y d.y) ≡ true = rw (x, y) refl in
+    cc
+
+-- ---- the breaks
+
+first_break_on : (R : Visit → Visit → Type 0) (l rest : List Visit) (v w : Visit) → IsFirstBreak R l v w → IsFirstBreak R (l ++ rest) v w
+first_break_on R l rest v w b = record {
+  at = b.at;
+  here = slice_get_front l rest b.at (omega (arith, slice_get_within l (b.at + 1) w b.next)) ∙ b.here;
+  next = slice_get_front l rest (b.at + 1) (slice_get_within l (b.at + 1) w b.next) ∙ b.next;
+  breaks = b.breaks;
+  sooner = λ k x y m e f.
+      let within = slice_get_within l (b.at + 1) w b.next in
+      b.sooner k x y m (sym (slice_get_front l rest k (omega arith)) ∙ e) (sym (slice_get_front l rest (k + 1) (omega arith)) ∙ f);
+}
+
+pub watched_none : (p : Program) (c : Cell) → IsWatched p c [] None None
+unfolding visits_of
+watched_none p c = record { last = refl; judged = tt }
+
+-- a list with one visit more
+judged_next : (R : Visit → Visit → Type 0) (l : List Visit) (last : Option Visit) (w : Visit) (old new : Option Break) → IsLast l last → IsJudged R l old → IsJudgedNext R last w old new → IsJudged R (l ++ w ∷ []) new
+judged_next R l last w None new is a (inl (h, e)) = subst (IsJudged R (l ++ w ∷ [])) (sym e) (adjacent_after R l last w is a h)
+judged_next R l last w (Some b) new is a (inl (h, e)) = subst (IsJudged R (l ++ w ∷ [])) (sym e) (first_break_on R l (w ∷ []) b.first b.second a)
+judged_next R l last w None new is a (inr (inl (b, e, f))) = absurd cc
+judged_next R l last w (Some d) new is a (inr (inl (b, e, f))) = subst (IsJudged R (l ++ w ∷ [])) (sym f) (first_break_on R l (w ∷ []) d.first d.second a)
+judged_next R l last w old new is a (inr (inr (v, e, n, o, f))) =
+    subst (IsJudged R (l ++ w ∷ [])) (sym f)
+    (first_break R l v w [] (subst (IsLast l) e is) (subst (IsJudged R l) o a) n)
+
+pub watched_on : (p : Program) (c : Cell) (stays : List Stay) (s : Stay) (last : Option Visit) (old new : Option Break) → IsWatched p c stays last old → s.cell ≡ c → IsJudgedNext (ComesAfterByAwait p) last s.visit old new
+    → IsWatched p c (stays ++ s ∷ []) (Some s.visit) new
+watched_on p c stays s last old new h e r =
+    let same : visits_of (place_of c) (stays ++ s ∷ []) ≡ visits_of (place_of c) stays ++ s.visit ∷ [] = visits_of-append (place_of c) stays (s ∷ []) ∙ ap (λ vs. visits_of (place_of c) stays ++ vs) (visits_on c s e) in
+    record {
+      last = (visits_of (place_of c) stays, same);
+      judged = subst (λ (l : List Visit). IsJudged (ComesAfterByAwait p) l new) (sym same) (judged_next (ComesAfterByAwait p) (visits_of (place_of c) stays) last s.visit old new h.last h.judged r);
+    }
+
+watched_off : (p : Program) (c : Cell) (stays : List Stay) (s : Stay) (last : Option Visit) (old : Option Break) → IsWatched p c stays last old → (s.cell ≡ c → ⊥) → IsWatched p c (stays ++ s ∷ []) last old
+watched_off p c stays s last old h ne =
+    let same : visits_of (place_of c) (stays ++ s ∷ []) ≡ visits_of (place_of c) stays = visits_of-append (place_of c) stays (s ∷ []) ∙ (ap (λ vs. visits_of (place_of c) stays ++ vs) (visits_off c s ne) ∙ append-nil _) in
+    record {
+      last = subst (λ (vs : List Visit). IsLast vs last) (sym same) h.last;
+      judged = subst (λ (vs : List Visit). IsJudged (ComesAfterByAwait p) vs old) (sym same) h.judged;
+    }
+
+-- one stay more, where maps have the last visit and the break of each cell
+pub watched_more : (p : Program) (stays : List Stay) (s : Stay) (c : Cell) (last last' : Option Visit) (old new : Option Break) → IsWatched p c stays last old
+    → last' ≡ cond (is_cell s.cell c) (Some s.visit) last → (c ≢ s.cell → new ≡ old) → (c ≡ s.cell → IsJudgedNext (ComesAfterByAwait p) last s.visit old new)
+    → IsWatched p c (stays ++ s ∷ []) last' new
+watched_more p stays s c last last' old new h e others here = go (is_cell s.cell c) refl
+  where
+    go : (b : Bool) → is_cell s.cell c ≡ b → IsWatched p c (stays ++ s ∷ []) last' new
+    go true f =
+        let on : s.cell ≡ c = same_cell s.cell c true (sym f) refl in
+        let n : last' ≡ Some s.visit = e ∙ rw f refl in
+        subst (λ (l : Option Visit). IsWatched p c (stays ++ s ∷ []) l new) (sym n) (watched_on p c stays s last old new h on (here (sym on)))
+    go false f =
+        let off : s.cell ≡ c → ⊥ = other_cell s.cell c false (sym f) refl in
+        let n : last' ≡ last = e ∙ rw f refl in
+        subst (λ (l : Option Visit). IsWatched p c (stays ++ s ∷ []) l new) (sym n)
+        (subst (IsWatched p c (stays ++ s ∷ []) last) (sym (others (λ g. off (sym g)))) (watched_off p c stays s last old h off))
+
+-- what is put for one cell changes no other
+pub others_kept : (c d : Cell) (put old new : Option Break) → new ≡ cond (is_cell c d) put old → d ≢ c → new ≡ old
+others_kept c d put old new e apart = go (is_cell c d) refl
+  where
+    go : (b : Bool) → is_cell c d ≡ b → new ≡ old
+    go true f = absurd (apart (sym (same_cell c d true (sym f) refl)))
+    go false f = e ∙ rw f refl
+
+pub no_entries : {X : Type 0} (xs : List X) → length xs ≡ 0 → xs ≡ []
+no_entries [] h = refl
+no_entries (x ∷ xs) h = absurd (omega arith)

@@ -1,0 +1,88 @@
+-- What is refused is not accepted, and what is accepted runs well.
+use Rattle.std.proofs.Common.{◌≡◌, ◌≢◌, ℕ, suc, ◌+◌, ◌<◌, Bool, List, length, get_or, Some, slice_get, refl, ap, sym, ◌∙◌, subst, arith, add-one}
+use Rattle.std.specs.Prelude.{option_map}
+use Rattle.std.proofs.lemmas.Option.{slice_get-get_or, slice_get_within, get_or_from_slice_get}
+use Rattle.fleet_model.specs.declared.geometry.Cell.{Cell}
+use Rattle.fleet_model.specs.declared.geometry.Place.{Place}
+use Rattle.fleet_model.specs.declared.task.Task.{Task}
+use Rattle.fleet_model.specs.declared.program.ActionId.{ActionId}
+use Rattle.fleet_model.specs.declared.program.Visit.{Visit}
+use Rattle.fleet_model.specs.Geometry.{place_of}
+use Rattle.fleet_model.specs.Machine.{Holds, IsFinish, run}
+use Rattle.fleet_model.specs.Program.{Program, origin}
+use Rattle.fleet_model.specs.Chain.{IsLongestChain}
+use Rattle.fleet_model.specs.Visit.{ListsVisits, Adjacent, ComesAfterByAwait}
+use Rattle.fleet_model.specs.Accepted.{IsAccepted}
+use Rattle.fleet_model.specs.Run.{IsSafe, IsOwnedInTurn, Arrives}
+use Rattle.fleet_verify.proofs.Free.{runs_free, runs_on_ground, runs_owned}
+use Rattle.fleet_verify.proofs.Arrive.{finish_exists, finish_above, finish_below, finish_stays}
+use Rattle.fleet_verify.specs.Ring.{IsToldRing}
+use Rattle.fleet_verify.proofs.Finish.{ring_unnumbered}
+use Rattle.fleet_verify.proofs.Listing.{sorted_passes, after_reaches, await_chain, levels_number, adjacent_chains, awaits_accepted}
+use Rattle.fleet_verify.proofs.Neighbours.{adjacent_at}
+use Rattle.fleet_verify.specs.declared.fault.VerifyFault.{VerifyFault}
+use Rattle.fleet_verify.specs.declared.fault.VerifyFault.TheVariants.{OutOfMemory, OtherFleet, Start, Goal, Step, AwaitRange, Cyclic, Unordered}
+use Rattle.fleet_verify.specs.Faults.{IsFault, IsUnordered, StartsRight, EndsRight}
+
+module _ (passable : Place → Bool) (tasks : List Task) (p : Program) (a : IsAccepted ComesAfterByAwait passable tasks p) where
+  task_at : (i : ℕ) → i < length p → (t : Task) × (slice_get tasks i ≡ Some t)
+  task_at i l =
+      let d : Task = record { start = origin; goal = origin } in
+      (get_or tasks i d, slice_get-get_or tasks i d (omega (arith, a.right.agents)))
+
+  pub starts_right : (i : ℕ) → i < length p → StartsRight tasks p i
+  starts_right i l = let t = task_at i l in ap (option_map (λ (u : Task). u.start)) t.1 ∙ ap (λ (c : Cell). Some c) (sym ((a.right.ends i t.0 t.1).0))
+
+  pub ends_right : (i : ℕ) → i < length p → EndsRight tasks p i
+  ends_right i l =
+      let t = task_at i l in
+      record { goal = ap (option_map (λ (u : Task). u.goal)) t.1 ∙ ap (λ (c : Cell). Some c) (sym ((a.right.ends i t.0 t.1).1)); arrives = a.right.arrives i l }
+
+  pub no_ring : (ring : List ActionId) → IsToldRing p ring → ⊥
+  no_ring ring r =
+      let d : ActionId = record { agent = 0; number = 0 } in
+      ring_unnumbered p ring r.around a.numbering.0 a.numbering.1 (a.numbering.0 (get_or ring 0 d)) 0 (get_or ring 0 d) (slice_get-get_or ring 0 d r.some) (omega arith)
+
+  pub no_break : (q : Place) (v w : Visit) → IsUnordered ComesAfterByAwait p q v w → ⊥
+  no_break q v w u =
+      let o = a.orderly q in
+      let adj : Adjacent (ComesAfterByAwait p) u.sorted =
+      sorted_passes p u.level (levels_number p u.level u.levels) q (ComesAfterByAwait p) (λ x y is h. after_reaches p q x y is (await_chain p a.right.in_range q x y is h)) o.0 o.1 o.2 u.sorted u.listing in
+      let b = u.broken in
+      let l : b.at + 1 < length u.sorted = slice_get_within u.sorted (b.at + 1) w b.next in
+      let r : ComesAfterByAwait p (get_or u.sorted b.at v) (get_or u.sorted (suc b.at) v) = adjacent_at (ComesAfterByAwait p) u.sorted adj b.at v (omega arith) in
+      let second : get_or u.sorted (suc b.at) v ≡ w = ap (λ m. get_or u.sorted m v) (sym (add-one b.at)) ∙ get_or_from_slice_get u.sorted (b.at + 1) w v b.next in
+      let first : get_or u.sorted b.at v ≡ v = get_or_from_slice_get u.sorted b.at v v b.here in
+      b.breaks (subst (λ x. ComesAfterByAwait p v x) second (subst (λ x. ComesAfterByAwait p x (get_or u.sorted (suc b.at) v)) first r))
+
+  pub no_fault : (f : VerifyFault) → f ≢ OutOfMemory → IsFault passable tasks p f → ⊥
+  no_fault OutOfMemory n h = n refl
+  no_fault OtherFleet n h = h a.right.agents
+  no_fault (Start i) n h = (h.1).wrong (starts_right i (h.1).agent)
+  no_fault (Goal i) n h = (h.1).wrong (ends_right i (h.1).agent)
+  no_fault (Step i k) n h = ((h.1).action).wrong (a.right.on_ground i k (h.1).agent ((h.1).action).within)
+  no_fault (AwaitRange i k) n h = ((h.1).action).wrong (record { met = a.right.in_range i k })
+  no_fault (Cyclic ring) n h = no_ring ring.items h.1
+  no_fault (Unordered c v w) n h = no_break (place_of c) v w h.1
+
+  -- ---- what is accepted
+
+  pub safe : (holds : Holds) → IsSafe passable p holds
+  safe holds = record { on_ground = runs_on_ground passable p holds a.right.on_ground; free = runs_free p holds (awaits_accepted passable tasks p a).orderly }
+
+  pub owned : (q : Place) → (listing : List Visit) × ListsVisits p q listing × Adjacent (ComesAfterByAwait p) listing × ((holds : Holds) (t : ℕ) → IsOwnedInTurn listing (run p holds t))
+  owned q =
+      let o = a.orderly q in
+      (o.0, o.1, o.2, λ holds t. runs_owned p holds t o.0 (adjacent_chains p a.right.in_range q o.0 o.1.only o.2))
+
+  pub arrives : (holds : Holds) (l : ℕ) → IsLongestChain p l → (f : ℕ) × IsFinish p holds f × Arrives p holds l f
+  arrives holds l long =
+      let fin = finish_exists p holds a.right.in_range l long.most in (
+        fin.0,
+        fin.1,
+        record {
+          no_sooner = finish_above p holds a.right.in_range l fin.0 long fin.1;
+          in_time = finish_below p holds a.right.in_range l fin.0 long fin.1;
+          on_goal = λ x i le h. finish_stays p holds fin.0 x i fin.1 le h ∙ a.right.arrives i h;
+        },
+      )

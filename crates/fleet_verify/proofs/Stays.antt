@@ -1,0 +1,226 @@
+-- The stays of a finished run without holds have all visits, sorted.
+use Rattle.std.proofs.Common.{◌≡◌, ℕ, zero, suc, ◌<◌, ◌≤◌, Bool, true, false, List, [], ◌∷◌, length, map, get_or, slice_index, Some, slice_get, refl, ap, sym, ◌∙◌, subst, arith, inl, inr, IsTrue}
+use Rattle.std.specs.Prelude.{Contains, ◌⊎◌, All, option_map}
+use Rattle.std.specs.List.{filter, AllPairs}
+use Rattle.std.proofs.lemmas.Bool.{cases_lt, cases_order}
+use Rattle.std.proofs.lemmas.List.{get_or_default, length-map}
+use Rattle.std.proofs.lemmas.List.Kept.{AllPairs-filter}
+use Rattle.std.proofs.lemmas.Option.{slice_get_within, get_or_from_slice_get, same_Some}
+use Rattle.fleet_model.specs.declared.geometry.Place.{Place}
+use Rattle.fleet_model.specs.declared.task.Task.{Task}
+use Rattle.fleet_model.specs.declared.program.Await.{Await}
+use Rattle.fleet_model.specs.declared.program.ActionId.{ActionId}
+use Rattle.fleet_model.specs.declared.program.Visit.{Visit}
+use Rattle.fleet_model.specs.Geometry.{place_of}
+use Rattle.fleet_model.specs.Machine.{count_at, run, is_finished, is_over}
+use Rattle.fleet_model.specs.Program.{Program, moves, actions_of, awaits_of, path, start_of, goal_of}
+use Rattle.fleet_model.specs.Chain.{IsLongestChain}
+use Rattle.fleet_model.specs.Visit.{IsVisitOf, ListsVisits, ComesAfterByAwait, IsOrderly}
+use Rattle.fleet_model.specs.Accepted.{IsAccepted}
+use Rattle.fleet_model.specs.Program.{AreInRange}
+use Rattle.fleet_verify.proofs.Arrive.{unheld_is_longest}
+use Rattle.fleet_model.specs.Visit.{IsVisit}
+use Rattle.fleet_verify.specs.Walk.{IsReadyBy}
+use Rattle.fleet_verify.specs.Listing.{IsBefore, IsSortedListing}
+use Rattle.fleet_verify.proofs.Readiness.{ready_from}
+use Rattle.fleet_verify.proofs.ReadyBy.{by_ready}
+use Rattle.fleet_verify.proofs.Members.{contains_head, contains_later, contains_cases, contains_none}
+use Rattle.fleet_verify.proofs.Finish.{finished_from}
+use Rattle.fleet_verify.proofs.Listing.{levels_number}
+use Rattle.fleet_verify.proofs.Neighbours.{adjacent_from}
+use Rattle.fleet_verify.specs.declared.watch.Stay.{Stay}
+use Rattle.fleet_verify.specs.Walk.{begun_in, IsStay, IsWalk}
+use Rattle.fleet_verify.specs.Order.{same_place, visits_of, AreAllStays}
+use Rattle.fleet_verify.specs.Faults.{HasRanges, AwaitsRight, EachAction}
+use Rattle.fleet_verify.proofs.UnderWay.{ready_not_over}
+use Rattle.fleet_verify.proofs.Ordered.{same_place-true, same_place-refl}
+use Rattle.fleet_verify.proofs.FreeRun.{level, levels_are, order_all, IsOrder}
+
+-- ---- awaits
+
+has_action : (p : Program) (i n : ℕ) (w : Await) → Contains (awaits_of p i n) w → (i < length p) × (n ≤ moves p i)
+has_action p i zero w (k, l, e) = absurd (omega arith)
+has_action p i (suc n) w h = (known p i n (inside (actions_of p i) n h), inside (actions_of p i) n h)
+  where
+    inside : (xs : List Rattle.fleet_model.specs.declared.program.Action.Action) (n : ℕ) → Contains (Rattle.std.specs.Option.option_map_or (λ a. a.awaits) (slice_get xs n) []) w → suc n ≤ length xs
+    inside [] n (k, l, e) = absurd (omega arith)
+    inside (x ∷ xs) zero h = omega arith
+    inside (x ∷ xs) (suc n) h = omega (arith, inside xs n h)
+
+    known : (p : Program) (i n : ℕ) → suc n ≤ moves p i → i < length p
+    known [] i n l = absurd (omega arith)
+    known (a ∷ p) zero n l = omega arith
+    known (a ∷ p) (suc i) n l = omega (arith, known p i n l)
+
+pub ranges_all : (p : Program) → EachAction p (AwaitsRight p) → AreInRange p
+ranges_all p h i n w k = let r = has_action p i n w k in (h i n r.0 r.1).met w k
+
+-- ---- lists
+
+filter_has : {X : Type 0} (test : X → Bool) (xs : List X) (x : X) → Contains xs x → test x ≡ true → Contains (filter test xs) x
+filter_has test [] x h t = h
+filter_has test (y ∷ xs) x h t = go (test y) refl (contains_cases y xs x h) (filter_has test xs x)
+  where
+    go : (b : Bool) → test y ≡ b → (y ≡ x) ⊎ Contains xs x → (Contains xs x → test x ≡ true → Contains (filter test xs) x) → Contains (filter test (y ∷ xs)) x
+    go true e (inl g) rest = rw e (subst (Contains (y ∷ filter test xs)) g (contains_head y (filter test xs)))
+    go true e (inr k) rest = rw e (contains_later y (filter test xs) x (rest k t))
+    go false e (inl g) rest = absurd (let f : test y ≡ test x = ap test g in cc)
+    go false e (inr k) rest = rw e (rest k t)
+
+filter_from : {X : Type 0} (test : X → Bool) (xs : List X) (x : X) → Contains (filter test xs) x → Contains xs x × (test x ≡ true)
+filter_from test [] x h = absurd (contains_none x h)
+filter_from test (y ∷ xs) x h = go (test y) refl h (filter_from test xs x)
+  where
+    go : (b : Bool) → test y ≡ b → Contains (filter test (y ∷ xs)) x → (Contains (filter test xs) x → Contains xs x × (test x ≡ true)) → Contains (y ∷ xs) x × (test x ≡ true)
+    go true e h rest = elim (contains_cases y (filter test xs) x (rw e at h)) [
+      | inl g ↦ (subst (Contains (y ∷ xs)) g (contains_head y xs), ap test (sym g) ∙ e)
+      | inr k ↦ let r = rest k in (contains_later y xs x r.0, r.1)
+    ]
+    go false e h rest = let r = rest (rw e at h) in (contains_later y xs x r.0, r.1)
+
+contains_map : {X Y : Type 0} (f : X → Y) (xs : List X) (x : X) → Contains xs x → Contains (map f xs) (f x)
+contains_map f [] x h = absurd (contains_none x h)
+contains_map f (y ∷ xs) x h = elim (contains_cases y xs x h) [
+  | inl e ↦ subst (λ z. Contains (f y ∷ map f xs) (f z)) e (contains_head (f y) (map f xs))
+  | inr k ↦ contains_later (f y) (map f xs) (f x) (contains_map f xs x k)
+]
+
+visit_at : (stays : List Stay) (i : ℕ) (d : Stay) → get_or (map (λ s. s.visit) stays) i d.visit ≡ (get_or stays i d).visit
+visit_at [] i d = refl
+visit_at (s ∷ stays) zero d = refl
+visit_at (s ∷ stays) (suc i) d = visit_at stays i d
+
+before_itself : (lev : ActionId → ℕ) (v : Visit) → IsBefore lev v v → ⊥
+before_itself lev v (inl h) = omega arith
+before_itself lev v (inr (e, inl h)) = omega arith
+before_itself lev v (inr (e, inr (f, h))) = omega arith
+
+once : (lev : ActionId → ℕ) (l : List Visit) → AllPairs (IsBefore lev) l → (j k : ℕ) (v : Visit) → slice_get l j ≡ Some v → slice_get l k ≡ Some v → j ≡ k
+once lev l h j k v e g = elim (cases_order j k) [
+  | inl s ↦ s
+  | inr (inl m) ↦ absurd (before_itself lev v (subst (λ x. IsBefore lev x v) (at j e) (subst (IsBefore lev (get_or l j v)) (at k g) (h j k v m (slice_get_within l k v g)))))
+  | inr (inr m) ↦ absurd (before_itself lev v (subst (λ x. IsBefore lev x v) (at k g) (subst (IsBefore lev (get_or l k v)) (at j e) (h k j v m (slice_get_within l j v e)))))
+]
+  where
+    at : (i : ℕ) → slice_get l i ≡ Some v → get_or l i v ≡ v
+    at i f = get_or_from_slice_get l i v v f
+
+-- ---- the visits of a place
+
+abbrev is_at : Program → Place → Visit → Bool
+is_at p q v = same_place (path p v.agent v.position) q
+
+visits_are : (p : Program) (q : Place) (stays : List Stay) → All (IsStay p) stays → visits_of q stays ≡ filter (is_at p q) (map (λ s. s.visit) stays)
+unfolding visits_of
+visits_are p q [] h = refl
+visits_are p q (s ∷ stays) h = go (same_place (place_of s.cell) q) refl (visits_are p q stays (λ k d l. h (suc k) d (omega arith)))
+  where
+    here : is_at p q s.visit ≡ same_place (place_of s.cell) q
+    here = ap (λ r. same_place r q) (sym (h 0 s (omega arith)))
+
+    go : (b : Bool) → same_place (place_of s.cell) q ≡ b → map (λ (s : Stay). s.visit) (filter (λ s. same_place (place_of s.cell) q) stays) ≡ filter (is_at p q) (map (λ s. s.visit) stays)
+        → map (λ (s : Stay). s.visit) (filter (λ s. same_place (place_of s.cell) q) (s ∷ stays)) ≡ filter (is_at p q) (map (λ s. s.visit) (s ∷ stays))
+    go true e rest = let f : is_at p q s.visit ≡ true = here ∙ e in rw (e, f) (ap (λ vs. s.visit ∷ vs) rest)
+    go false e rest = let f : is_at p q s.visit ≡ false = here ∙ e in rw (e, f) rest
+
+module _ (p : Program) (counts : List ℕ) (stays : List Stay) (t : ℕ) (walk : IsWalk p counts stays t) where
+  finished : ((i : ℕ) → i < length p → moves p i ≤ slice_index counts i) → is_finished p (run p [] t) ≡ true
+  finished h = finished_from p (run p [] t) (λ a act.
+      let e : slice_index counts a.agent ≡ count_at (run p [] t) a.agent = walk.finished a.agent in
+      let l : moves p a.agent ≤ slice_index counts a.agent = h a.agent act.agent in
+      let m : a.number ≤ moves p a.agent = act.last in
+      omega arith)
+
+  -- the longest chain has as many actions as there were ticks
+  pub chain_is : AreInRange p → ((i : ℕ) → i < length p → moves p i ≤ slice_index counts i) → IsLongestChain p t
+  chain_is range h = unheld_is_longest p range t (record { holds = finished h; least = least })
+    where
+      least : (s : ℕ) → IsTrue (is_finished p (run p [] s)) → t ≤ s
+      least s f = elim (cases_lt s t) [ inr l ↦ l | inl l ↦ absurd (let n = walk.sooner s l in let g : is_over p (run p [] s) ≡ true = rw f refl in cc) ]
+
+  -- nobody is ready
+  pub stuck : (i : ℕ) → i < length p → IsReadyBy p counts i → ⊥
+  stuck i l r =
+      let e = ready_not_over p (run p [] t) i l (ready_from p (run p [] t) i (by_ready p (run p [] t) counts walk.finished i r)) in
+      let f = walk.over in
+      cc
+
+  pub all_stays : AreInRange p → ((i : ℕ) → i < length p → moves p i ≤ slice_index counts i) → AreAllStays p stays
+  all_stays range h = record {
+    level = lev;
+    levels = levels_are p range t fin;
+    visits = visits;
+    all = λ v is. subst (λ (vs : List Visit). Contains vs v) (sym walk.visits) (order.all v is.agent is.position);
+    in_order = in_order;
+    sorted = sorted;
+  }
+    where
+      fin : is_finished p (run p [] t) ≡ true
+      fin = finished h
+
+      lev : ActionId → ℕ
+      lev = level p t fin
+
+      order : IsOrder p t fin (λ v. v.position ≤ moves p v.agent) (begun_in p t)
+      order = order_all p t fin
+
+      visits : All (λ s. IsVisit p s.visit) stays
+      visits k d l =
+          let has : Contains (map (λ s. s.visit) stays) (get_or stays k d).visit = contains_map (λ (s : Stay). s.visit) stays (get_or stays k d) (k, l, get_or_default stays k (get_or stays k d) d l) in
+          let r = order.only (get_or stays k d).visit (subst (λ (vs : List Visit). Contains vs (get_or stays k d).visit) walk.visits has) in
+          record { agent = r.0; position = r.1 }
+
+      in_order : AllPairs (λ s u. IsBefore lev s.visit u.visit) stays
+      in_order i j d l m =
+          let pairs : AllPairs (IsBefore lev) (map (λ s. s.visit) stays) = subst (λ (vs : List Visit). AllPairs (IsBefore lev) vs) (sym walk.visits) order.sorted in
+          let long : length (map (λ (s : Stay). s.visit) stays) ≡ length stays = length-map stays (λ (s : Stay). s.visit) in
+          subst (λ (v : Visit). IsBefore lev v (get_or stays j d).visit) (visit_at stays i d) (subst (λ (v : Visit). IsBefore lev (get_or (map (λ s. s.visit) stays) i d.visit) v) (visit_at stays j d) (pairs i j d.visit l (omega arith)))
+
+      sorted : (q : Place) → IsSortedListing p lev q (visits_of q stays)
+      sorted q = subst (IsSortedListing p lev q) (sym same) (record { lists = lists; sorted = adjacent_from (IsBefore lev) l (λ k d m. pairs k (suc k) d (omega arith) m) })
+        where
+          l : List Visit
+          l = filter (is_at p q) (begun_in p t)
+
+          same : visits_of q stays ≡ l
+          same = visits_are p q stays walk.cells ∙ ap (filter (is_at p q)) walk.visits
+
+          pairs : AllPairs (IsBefore lev) l
+          pairs = AllPairs-filter (IsBefore lev) (is_at p q) (begun_in p t) order.sorted
+
+          all : (v : Visit) → IsVisitOf p q v → Contains l v
+          all v is = filter_has (is_at p q) (begun_in p t) v (order.all v is.agent is.position) (ap (λ r. same_place r q) is.place ∙ same_place-refl q)
+
+          only : (v : Visit) → Contains l v → IsVisitOf p q v
+          only v k =
+              let f = filter_from (is_at p q) (begun_in p t) v k in
+              let r = order.only v f.0 in
+              record { agent = r.0; position = r.1; place = same_place-true (path p v.agent v.position) q f.1 }
+
+          lists : ListsVisits p q l
+          lists = record { all = all; only = λ k d m. only (get_or l k d) (k, m, get_or_default l k (get_or l k d) d m); once = once lev l pairs }
+
+-- ---- accepted
+
+pub accepted : (passable : Place → Bool) (tasks : List Task) (p : Program) (stays : List Stay) → HasRanges passable tasks p → AreAllStays p stays → IsOrderly ComesAfterByAwait p → IsAccepted ComesAfterByAwait passable tasks p
+accepted passable tasks p stays h all o = record {
+  right = record {
+    agents = fleet;
+    ends = ends;
+    on_ground = h.before.steps;
+    arrives = λ i l. (h.before.before.ends i l).arrives;
+    in_range = ranges_all p h.ranges;
+  };
+  numbering = (all.level, levels_number p all.level all.levels);
+  orderly = o;
+}
+  where
+    fleet : length p ≡ length tasks
+    fleet = h.before.before.before.fleet
+
+    ends : (i : ℕ) (t : Task) → slice_get tasks i ≡ Some t → (start_of p i ≡ t.start) × (goal_of p i ≡ t.goal)
+    ends i t e =
+        let l : i < length p = omega (arith, slice_get_within tasks i t e, fleet) in
+        let s : Some t.start ≡ Some (start_of p i) = sym (ap (option_map (λ (u : Task). u.start)) e) ∙ h.before.before.before.starts i l in
+        let g : Some t.goal ≡ Some (goal_of p i) = sym (ap (option_map (λ (u : Task). u.goal)) e) ∙ (h.before.before.ends i l).goal in
+        (sym (same_Some t.start (start_of p i) s), sym (same_Some t.goal (goal_of p i) g))

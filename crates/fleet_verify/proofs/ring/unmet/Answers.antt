@@ -1,0 +1,21 @@
+use Rattle.std.proofs.Common.{arith, slice_index, ◌+◌}
+use Rattle.std.proofs.lemmas.Option.{slice_get_within, get_or_from_slice_get}
+use Rattle.fleet_model.specs.Program.{awaits_of}
+use Rattle.fleet_verify.proofs.ReadyBy.{await_agent, ready_yes}
+use Rattle.fleet_verify.proofs.ring.unmet.Goals as goal
+
+pub prove-unreachable-requires : goal.prove-unreachable-requires
+prove-unreachable-requires g c =
+    omega (arith, await_agent (g.P.ProgramView.program c.args.program.now) c.agents-agents.ensures.well_formed c.args.i (slice_index c.args.counts.now c.args.i + 1) c.loop-k.k c.await_at-awaited.result c.await_at-awaited.ensures)
+
+pub returns-then-counts-awaited : goal.returns-then-counts-awaited
+returns-then-counts-awaited g c =
+    let awaits = awaits_of (g.P.ProgramView.program c.args.program.now) c.args.i (slice_index c.args.counts.now c.args.i + 1) in
+    record {
+      awaited = (c.loop-k.k, slice_get_within awaits c.loop-k.k c.await_at-awaited.result c.await_at-awaited.ensures, get_or_from_slice_get awaits c.loop-k.k c.await_at-awaited.result c.await_at-awaited.result c.await_at-awaited.ensures);
+      unmet = c.if-counts-awaited.true;
+    }
+
+pub unreachable-requires : goal.unreachable-requires
+unreachable-requires g c =
+    c.requires.stuck (ready_yes (g.P.ProgramView.program c.args.program.now) c.args.counts.now c.args.i c.requires.blocked.left c.loop-k.k (omega arith) c.loop-k.invariant)

@@ -1,0 +1,7 @@
+pub mod Ring
+pub mod Listing
+pub mod Walk
+pub mod Blocked
+pub mod Order
+pub mod Faults
+pub mod Parts

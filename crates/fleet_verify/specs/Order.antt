@@ -1,0 +1,74 @@
+-- The visits of a place among all visits in their order, and the first neighbours that break a rule.
+use Rattle.std.specs.Prelude.{◌≡◌, ℕ, ◌+◌, ◌<◌, Bool, ◌&&◌, List, map, filter, slice_get, Option, Some, None, All, Contains, ◌⊎◌, nat_eq, [], ◌∷◌, ◌++◌}
+use Rattle.std.specs.List.{AllPairs}
+use Rattle.std.specs.Ordering.{int_eq}
+use Rattle.fleet_model.specs.declared.geometry.Cell.{Cell}
+use Rattle.fleet_model.specs.declared.geometry.Place.{Place}
+use Rattle.fleet_model.specs.declared.program.ActionId.{ActionId}
+use Rattle.fleet_model.specs.declared.program.Visit.{Visit}
+use Rattle.fleet_model.specs.Geometry.{place_of}
+use Rattle.fleet_model.specs.Program.{Program}
+use Rattle.fleet_model.specs.Visit.{IsVisit, Adjacent, ComesAfterByAwait}
+use Rattle.fleet_verify.specs.Listing.{AreLevels, IsBefore, IsSortedListing}
+use Rattle.fleet_verify.specs.declared.watch.Break.{Break}
+use Rattle.fleet_verify.specs.declared.watch.Stay.{Stay}
+use Rattle.fleet_verify.specs.declared.watch.Watch.{Watch}
+use Rattle.indexmap.specs.IndexMap.{get}
+
+abbrev pub same_place : Place → Place → Bool
+same_place q r = int_eq q.x r.x && int_eq q.y r.y
+
+-- the visits of the place
+unfoldable pub visits_of : Place → List Stay → List Visit
+visits_of q stays = map (λ s. s.visit) (filter (λ s. same_place (place_of s.cell) q) stays)
+
+-- the first neighbours in the list of which the second may not come after the first
+pub record IsFirstBreak (R : Visit → Visit → Type 0) (l : List Visit) (first second : Visit) : Type 0 where
+  pub at : ℕ
+  pub here : slice_get l at ≡ Some first
+  pub next : slice_get l (at + 1) ≡ Some second
+  pub breaks : R first second → ⊥
+  pub sooner : (k : ℕ) (v w : Visit) → k < at → slice_get l k ≡ Some v → slice_get l (k + 1) ≡ Some w → R v w
+
+-- no neighbours in the list break the rule, or these are the first that do
+abbrev pub IsJudged : (Visit → Visit → Type 0) → List Visit → Option Break → Type 0
+IsJudged R l None = Adjacent R l
+IsJudged R l (Some b) = IsFirstBreak R l b.first b.second
+
+-- how a list is judged once w comes after its last visit: as before where w may come there, or where neighbours before break the rule
+abbrev pub IsJudgedNext : (Visit → Visit → Type 0) → Option Visit → Visit → Option Break → Option Break → Type 0
+IsJudgedNext R last w old new =
+    (((v : Visit) → last ≡ Some v → R v w) × (new ≡ old))
+    ⊎ ((b : Break) × (old ≡ Some b) × (new ≡ old))
+    ⊎ ((v : Visit) × (last ≡ Some v) × (R v w → ⊥) × (old ≡ None) × (new ≡ Some (record { first = v; second = w })))
+
+-- the cells are the same
+abbrev pub is_cell : Cell → Cell → Bool
+is_cell a b = nat_eq a.x b.x && nat_eq a.y b.y
+
+-- the stays have all visits, and those of each place are sorted by level, agent and position
+pub record AreAllStays (p : Program) (stays : List Stay) : Type 0 where
+  pub level : ActionId → ℕ
+  pub levels : AreLevels p level
+  pub visits : All (λ s. IsVisit p s.visit) stays
+  pub all : (v : Visit) → IsVisit p v → Contains (map (λ s. s.visit) stays) v
+  pub in_order : AllPairs (λ s u. IsBefore level s.visit u.visit) stays
+  pub sorted : (q : Place) → IsSortedListing p level q (visits_of q stays)
+
+-- the last visit of the list, if it has one
+abbrev pub IsLast : List Visit → Option Visit → Type 0
+IsLast l None = l ≡ []
+IsLast l (Some v) = (xs : List Visit) × (l ≡ xs ++ v ∷ [])
+
+-- the last visit of the cell among the stays so far, and how they are judged
+pub record IsWatched (p : Program) (c : Cell) (stays : List Stay) (final : Option Visit) (found : Option Break) : Type 0 where
+  pub last : IsLast (visits_of (place_of c) stays) final
+  pub judged : IsJudged (ComesAfterByAwait p) (visits_of (place_of c) stays) found
+
+-- so it is for each cell
+abbrev pub AreWatched : Program → Watch → Type 0
+AreWatched p w = (c : Cell) → IsWatched p c w.stays.items (get is_cell w.last c) (get is_cell w.breaks c)
+
+-- each cell's first neighbours that break the rule
+abbrev pub AreBreaks : Program → List Stay → (Cell → Option Break) → Type 0
+AreBreaks p stays breaks = (c : Cell) → IsJudged (ComesAfterByAwait p) (visits_of (place_of c) stays) (breaks c)

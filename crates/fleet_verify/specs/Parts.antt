@@ -1,0 +1,20 @@
+-- The parts of what the verifier answers.
+use Rattle.std.specs.Prelude.{ℕ, List}
+use Rattle.fleet_model.specs.declared.task.Task.{Task}
+use Rattle.fleet_model.specs.Program.{Program}
+use Rattle.fleet_model.specs.Chain.{IsLongestChain}
+use Rattle.fleet_model.specs.Visit.{ComesAfterByAwait}
+use Rattle.fleet_model.specs.Accepted.{IsAccepted}
+use Rattle.fleet_grid.specs.Ground.{Ground, is_passable}
+
+-- a program, the map and the tasks that it is accepted for, and the number of actions of its longest chain
+pub record AcceptedParts (P : Type 0) : Type 0 where
+  pub program : P
+  pub grid : Ground
+  pub instance : List Task
+  pub chain : ℕ
+
+-- the program is accepted, and its longest chain has so many actions
+pub record IsAcceptedFor (grid : Ground) (tasks : List Task) (p : Program) (chain : ℕ) : Type 0 where
+  pub accepted : IsAccepted ComesAfterByAwait (is_passable grid) tasks p
+  pub longest : IsLongestChain p chain

@@ -1,0 +1,32 @@
+//! Which programs are safe to run: the verifier, and the laws of the runs that it accepts.
+//!
+//! A program is accepted for a map and an instance if its agents begin and end where they are to, stay on passable cells, await only what
+//! can come, have no ring of needs, and enter each cell only once the visit before has been left for sure. Every run of it then is free
+//! of conflicts and arrives, whatever agents are held for however long (Hönig et al. 2019).
+#![tactic(auto)]
+
+mod accepted;
+mod ends;
+mod fault;
+mod order;
+mod orders;
+mod right;
+mod ring;
+mod runs;
+mod steps;
+mod verifier;
+mod walk;
+mod watch;
+
+pub use accepted::{Accepted, Refused};
+pub use fault::VerifyFault;
+pub use orders::{
+    awaits_are_chains, orderly_listings_rise, rings_are_never_finished, sorted_listings_decide,
+};
+pub use runs::{
+    levels_rise, runs_are_safe, runs_arrive, runs_end, ticks_are_safe, visits_come_in_turn,
+};
+pub use verifier::verify;
+
+#[cfg(test)]
+mod tests;

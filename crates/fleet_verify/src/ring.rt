@@ -1,0 +1,144 @@
+//! A ring of actions of which each needs the one before, where a run without holds is stuck.
+
+ghost use Rattle.std.specs.Prelude.{◌≡◌, ◌<◌, ◌≤◌, ◌+◌, ◌-◌, ◌++◌, ◌↔◌, ℕ, length, slice_index, IsTrue, IfOk, OnOk};
+ghost use Rattle.fleet_model.specs.Program.{moves, IsWellFormed};
+ghost use Rattle.fleet_verify.specs.Walk.{IsReadyBy};
+ghost use Rattle.fleet_model.specs.Program.{AreInRange};
+ghost use Rattle.fleet_verify.specs.Blocked.{IsBlocked, IsUnmet, AreWants, next_of, LeadsBack, IsLeastBack, down_from};
+ghost use Rattle.fleet_verify.specs.Ring.{IsToldRing};
+
+use fleet_model::{ActionId, Await, OutOfMemory, ProgramView};
+use std::alloc::Global;
+
+/// A ring among the actions that are left where nobody is ready.
+pub fn find_ring<P: ProgramView>(
+    alloc: Global,
+    program: &P,
+    counts: &[u32],
+) -> Result<Vec<ActionId>, OutOfMemory>
+    requires counts { length counts.now ≡ length (P.program program.now) }
+    requires ranges { AreInRange (P.program program.now) }
+    requires stuck { (i : ℕ) → i < length (P.program program.now) → IsReadyBy (P.program program.now) counts.now i → ⊥ }
+    requires left { (i : ℕ) × IsBlocked (P.program program.now) counts.now i }
+    ensures { IfOk result (λ ring. IsToldRing (P.program program.now) ring.items) }
+{
+    let wants = all_wants(alloc, program, counts)?;
+    let first = least_on_ring(program, counts, &wants);
+    ring_from(alloc, program, counts, &wants, first)
+}
+
+/// For each agent an await of its next action that is not met, where it has an action left.
+fn all_wants<P: ProgramView>(
+    alloc: Global,
+    program: &P,
+    counts: &[u32],
+) -> Result<Vec<Await>, OutOfMemory>
+    requires counts { length counts.now ≡ length (P.program program.now) }
+    requires stuck { (i : ℕ) → i < length (P.program program.now) → IsReadyBy (P.program program.now) counts.now i → ⊥ }
+    ensures { IfOk result (λ wants. AreWants (P.program program.now) counts.now wants.items) }
+{
+    let mut wants = Vec::new(alloc);
+    for i in 0..program.agents() {
+        let want = if counts[i as usize] < program.moves(i) {
+            unmet(program, counts, i)
+        } else {
+            Await::default()
+        };
+        wants.push(want)?;
+    }
+    Ok(wants)
+}
+
+/// The first await of an agent's next action that is not met.
+fn unmet<P: ProgramView>(program: &P, counts: &[u32], i: u16) -> Await
+    requires blocked { IsBlocked (P.program program.now) counts.now i }
+    requires counts { length counts.now ≡ length (P.program program.now) }
+    requires stuck { IsReadyBy (P.program program.now) counts.now i → ⊥ }
+    ensures { IsUnmet (P.program program.now) counts.now i result }
+{
+    let agents = program.agents();
+    let number = counts[i as usize] + 1;
+    for k in 0..program.await_count(i, number) {
+        let awaited = program.await_at(i, number, k);
+        prove!(awaited.agent < agents);
+        if counts[awaited.agent as usize] < awaited.count {
+            return awaited;
+        }
+    }
+    unreachable!()
+}
+
+/// The least agent whose waiting leads back to it.
+fn least_on_ring<P: ProgramView>(program: &P, counts: &[u32], wants: &[Await]) -> u16
+    requires counts { length counts.now ≡ length (P.program program.now) }
+    requires ranges { AreInRange (P.program program.now) }
+    requires wants { AreWants (P.program program.now) counts.now wants.now }
+    requires left { (i : ℕ) × IsBlocked (P.program program.now) counts.now i }
+    ensures { IsLeastBack (P.program program.now) counts.now wants.now result }
+{
+    for i in 0..program.agents() {
+        if counts[i as usize] < program.moves(i) && leads_back(program, counts, wants, i) {
+            return i;
+        }
+    }
+    unreachable!()
+}
+
+/// Whether an agent's waiting leads back to it.
+fn leads_back<P: ProgramView>(program: &P, counts: &[u32], wants: &[Await], i: u16) -> bool
+    requires ranges { AreInRange (P.program program.now) }
+    requires wants { AreWants (P.program program.now) counts.now wants.now }
+    requires blocked { IsBlocked (P.program program.now) counts.now i }
+    ensures { IsTrue result ↔ LeadsBack wants.now (length (P.program program.now)) i }
+{
+    let mut agent = i;
+    for _steps in 0..program.agents() {
+        agent = wants[agent as usize].agent;
+        if agent == i {
+            return true;
+        }
+    }
+    false
+}
+
+/// The actions on the way back to an agent, from its next one.
+fn ring_from<P: ProgramView>(
+    alloc: Global,
+    program: &P,
+    counts: &[u32],
+    wants: &[Await],
+    first: u16,
+) -> Result<Vec<ActionId>, OutOfMemory>
+    requires counts { length counts.now ≡ length (P.program program.now) }
+    requires ranges { AreInRange (P.program program.now) }
+    requires wants { AreWants (P.program program.now) counts.now wants.now }
+    requires first { IsLeastBack (P.program program.now) counts.now wants.now first }
+    ensures { IfOk result (λ ring. IsToldRing (P.program program.now) ring.items) }
+{
+    let mut trail = Vec::new(alloc);
+    let mut agent = first;
+    let agents = program.agents();
+    for _steps in 0..agents {
+        let Await { agent: next, count } = wants[agent as usize];
+        prove!(next < agents);
+        push_down(&mut trail, next, counts[next as usize], count)?;
+        agent = next;
+        if agent == first {
+            trail.reverse();
+            return Ok(trail);
+        }
+    }
+    unreachable!()
+}
+
+/// Adds the actions of an agent from the last one back to the one after those that are done.
+fn push_down(trail: &mut Vec<ActionId>, agent: u16, done: u32, last: u32) -> Result<(), OutOfMemory>
+    requires { done ≤ last }
+    ensures { OnOk result (trail.new.items ≡ trail.old.items ++ down_from agent last (last - done)) }
+{
+    for back in 0..last - done {
+        let number = last - back;
+        trail.push(ActionId { agent, number })?;
+    }
+    Ok(())
+}

@@ -1,0 +1,94 @@
+//! The verifier: what is judged, in its order.
+
+ghost use Rattle.std.specs.Prelude.{◌≡◌, ◌≢◌, ◌<◌, ◌≤◌, ◌↔◌, ℕ, List, length, slice_index, IsTrue, IfOk, IfErr, false};
+ghost use Rattle.fleet_model.specs.declared.geometry.Place.{Place};
+ghost use Rattle.fleet_model.specs.declared.program.Visit.{Visit};
+ghost use Rattle.fleet_model.specs.Program.{moves};
+ghost use Rattle.fleet_model.specs.Machine.{Holds, run, IsFinish};
+ghost use Rattle.fleet_model.specs.Visit.{ListsVisits, Adjacent, ComesAfterByAwait};
+ghost use Rattle.fleet_model.specs.Accepted.{IsAccepted};
+ghost use Rattle.fleet_model.specs.Run.{IsSafe, IsOwnedInTurn, Arrives};
+ghost use Rattle.fleet_verify.specs.declared.fault.VerifyFault.TheVariants.{OutOfMemory};
+ghost use Rattle.fleet_grid.specs.Ground.{is_passable};
+ghost use Rattle.fleet_verify.specs.Blocked.{IsBlocked};
+ghost use Rattle.fleet_verify.specs.Faults.{IsFault};
+ghost use Rattle.fleet_verify.specs.Parts.{IsAcceptedFor};
+
+use crate::accepted::{Accepted, Refused};
+use crate::ends::check_fleet;
+use crate::fault::VerifyFault;
+use crate::order::check_order;
+use crate::right::check_agents;
+use crate::ring::find_ring;
+use crate::walk::run_free;
+use fleet_grid::Grid;
+use fleet_model::ProgramView;
+use fleet_scen::Instance;
+use std::alloc::Global;
+
+/// Whether the program is accepted for the map and the instance: as many agents, starts and goals those of the instance, all paths on
+/// passable cells, each await of another agent and of 1 to as many actions as it has, a numbering of the actions, and an order of the
+/// visits of each cell in which each awaits that the one before is left.
+///
+/// If so, then whatever agents are held for however long, the run stays on passable cells without a vertex, following, swapping or cycle
+/// conflict (Stern et al. 2019), the visits of each cell are owned in turn, and the run finishes after no fewer ticks than the longest
+/// chain has actions and no more than those and the ticks in which a ready agent was held. From then on all agents stand on their goals.
+///
+/// A refusal gives the program back with its first fault.
+pub fn verify<'g, P: ProgramView>(
+    alloc: Global,
+    program: P,
+    grid: &'g Grid,
+    instance: &'g Instance,
+) -> Result<Accepted<'g, P>, Refused<P>>
+    ensures kept { IfOk result (λ a. (a.program ≡ program) × (a.grid ≡ grid.now) × (a.instance ≡ instance.now)) }
+    ensures accepted { IfOk result (λ a. IsAcceptedFor grid.now instance.now (P.program program) a.chain) }
+    ensures safe { IfOk result (λ _. (holds : Holds) → IsSafe (is_passable grid.now) (P.program program) holds) }
+    ensures owned { IfOk result (λ _. (q : Place) → (listing : List Visit) × ListsVisits (P.program program) q listing × Adjacent (ComesAfterByAwait (P.program program)) listing
+        × ((holds : Holds) (t : ℕ) → IsOwnedInTurn listing (run (P.program program) holds t))) }
+    ensures arrives { IfOk result (λ a. (holds : Holds) → (f : ℕ) × IsFinish (P.program program) holds f × Arrives (P.program program) holds a.chain f) }
+    ensures returned { IfErr result (λ r. r.program ≡ program) }
+    ensures fault { IfErr result (λ r. IsFault (is_passable grid.now) instance.now (P.program program) r.fault) }
+    // What is refused for another cause than memory is not accepted.
+    ensures refused { IfErr result (λ r. r.fault ≢ OutOfMemory → IsAccepted ComesAfterByAwait (is_passable grid.now) instance.now (P.program program) → ⊥) }
+{
+    match judge(alloc, &program, grid, instance) {
+        Ok(chain) => Ok(Accepted::new(program, grid, instance, chain)),
+        Err(fault) => Err(Refused { fault, program }),
+    }
+}
+
+/// The number of actions of the longest chain, if the program is accepted.
+fn judge<P: ProgramView>(
+    alloc: Global,
+    program: &P,
+    grid: &Grid,
+    instance: &Instance,
+) -> Result<u32, VerifyFault>
+    ensures ok { IfOk result (λ chain. IsAcceptedFor grid.now instance.now (P.program program.now) chain) }
+    ensures err { IfErr result (λ f. IsFault (is_passable grid.now) instance.now (P.program program.now) f) }
+{
+    check_fleet(program, instance)?;
+    check_agents(program, grid, instance)?;
+    let walk = run_free(alloc, program, grid)?;
+    if !all_finished(program, &walk.counts) {
+        let ring = find_ring(alloc, program, &walk.counts)?;
+        return Err(VerifyFault::Cyclic(ring));
+    }
+    check_order(program, grid, instance, &walk.watch)?;
+    Ok(walk.ticks)
+}
+
+/// Whether no agent has an action left.
+fn all_finished<P: ProgramView>(program: &P, counts: &[u32]) -> bool
+    requires { length counts.now ≡ length (P.program program.now) }
+    ensures yes { IsTrue result → (i : ℕ) → i < length (P.program program.now) → moves (P.program program.now) i ≤ slice_index counts.now i }
+    ensures left { result ≡ false → (i : ℕ) × IsBlocked (P.program program.now) counts.now i }
+{
+    for i in 0..program.agents() {
+        if counts[i as usize] < program.moves(i) {
+            return false;
+        }
+    }
+    true
+}

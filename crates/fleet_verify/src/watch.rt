@@ -1,0 +1,109 @@
+//! The visits of the cells, and neighbours among them of which the second may not come after the first.
+
+ghost use Rattle.std.specs.Prelude.{◌≡◌, ◌≢◌, ◌↔◌, ◌++◌, [], ◌∷◌, IsTrue, OnOk, Some};
+ghost use Rattle.indexmap.specs.IndexMap.{get, Updates};
+ghost use Rattle.fleet_model.specs.declared.geometry.Cell.{Cell};
+ghost use Rattle.fleet_model.specs.Visit.{IsVisit, ComesAfterByAwait};
+ghost use Rattle.fleet_verify.specs.Order.{is_cell, IsJudgedNext};
+
+use fleet_model::{Cell, OutOfMemory, ProgramView, Visit};
+use indexmap::IndexMap;
+use std::alloc::Global;
+
+/// A visit, and the cell that it is of.
+#[derive(Clone, Copy, Debug)]
+pub struct Stay {
+    pub visit: Visit,
+    pub cell: Cell,
+}
+
+/// Visits of a cell, one right after the other, of which the second may not come after the first.
+#[derive(Clone, Copy, Debug, Drop)]
+pub struct Break {
+    pub first: Visit,
+    pub second: Visit,
+}
+
+/// All visits so far in the order in which they began, and for each cell the last of them and the first neighbours that break the rule.
+#[derive(Drop)]
+pub struct Watch {
+    pub stays: Vec<Stay>,
+    pub last: IndexMap<Cell, Visit>,
+    pub breaks: IndexMap<Cell, Break>,
+}
+
+impl Watch {
+    ghost use Rattle.fleet_model.specs.Program.{Program};
+    ghost use Rattle.fleet_verify.specs.Order.{AreWatched};
+
+    /// No visits.
+    pub fn new(alloc: Global) -> Self
+        ensures stays { result.stays.items ≡ [] }
+        ensures watched { (p : Program) → AreWatched p result }
+    {
+        Watch {
+            stays: Vec::new(alloc),
+            last: IndexMap::new(alloc),
+            breaks: IndexMap::new(alloc),
+        }
+    }
+
+    /// Takes note of the next visit.
+    pub fn note<P: ProgramView>(&mut self, program: &P, stay: Stay) -> Result<(), OutOfMemory>
+        requires visit { IsVisit (P.program program.now) stay.visit }
+        requires watched { AreWatched (P.program program.now) self.old }
+        ensures stays { OnOk result (self.new.stays.items ≡ self.old.stays.items ++ stay ∷ []) }
+        ensures watched { OnOk result (AreWatched (P.program program.now) self.new) }
+    {
+        note_break(program, &mut self.last, &mut self.breaks, stay)?;
+        self.stays.push(stay)?;
+        Ok(())
+    }
+}
+
+/// Notes the visit as the last one of its cell, and that it breaks the rule, if no earlier one of the cell does.
+fn note_break<P: ProgramView>(
+    program: &P,
+    last: &mut IndexMap<Cell, Visit>,
+    breaks: &mut IndexMap<Cell, Break>,
+    stay: Stay,
+) -> Result<(), OutOfMemory>
+    requires { IsVisit (P.program program.now) stay.visit }
+    ensures last { OnOk result (Updates is_cell last.old last.new stay.cell (Some stay.visit)) }
+    ensures others { OnOk result ((c : Cell) → c ≢ stay.cell → get is_cell breaks.new c ≡ get is_cell breaks.old c) }
+    ensures here { OnOk result (IsJudgedNext (ComesAfterByAwait (P.program program.now)) (get is_cell last.old stay.cell) stay.visit (get is_cell breaks.old stay.cell) (get is_cell breaks.new stay.cell)) }
+{
+    let Stay {
+        visit: second,
+        cell,
+    } = stay;
+    let Some(first) = last.insert(cell, second)? else {
+        return Ok(());
+    };
+    if comes_after(program, first, second) || breaks.contains_key(&cell) {
+        return Ok(());
+    }
+    breaks.insert(cell, Break { first, second })?;
+    Ok(())
+}
+
+/// Whether the second visit may come directly after the first: later by the same agent, or entered by an action that awaits the
+/// leaving of the first.
+fn comes_after<P: ProgramView>(program: &P, first: Visit, second: Visit) -> bool
+    requires { IsVisit (P.program program.now) second }
+    ensures { IsTrue result ↔ ComesAfterByAwait (P.program program.now) first second }
+{
+    if first.agent == second.agent && first.position < second.position {
+        return true;
+    }
+    if second.position == 0 {
+        return false;
+    }
+    for k in 0..program.await_count(second.agent, second.position) {
+        let awaited = program.await_at(second.agent, second.position, k);
+        if awaited.agent == first.agent && first.position < awaited.count {
+            return true;
+        }
+    }
+    false
+}

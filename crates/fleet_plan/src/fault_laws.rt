@@ -15,6 +15,6 @@ pub fn a_plan_is_free_or_has_a_first_fault()
     ensures not_both { (passable : Place → Bool) (tasks : List Task) (plan : Plan) (f : PlanFault) → IsFirstPlanFault passable tasks plan f → IsConflictFree passable tasks plan → ⊥ }
     ensures one { (passable : Place → Bool) (tasks : List Task) (plan : Plan) (e f : PlanFault) → IsFirstPlanFault passable tasks plan e → IsFirstPlanFault passable tasks plan f → e ≡ f }
 {
-    // By which cells are numbered.
+    // A law of the map, by which the proof numbers cells.
     cells_have_places_of_their_own();
 }

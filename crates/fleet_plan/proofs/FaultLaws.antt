@@ -12,7 +12,7 @@ use Rattle.fleet_plan.specs.declared.plan_fault.Conflict.TheVariants.{Vertex, Sw
 use Rattle.fleet_plan.specs.declared.plan_fault.PlanFault.{PlanFault}
 use Rattle.fleet_plan.specs.declared.plan_fault.PlanFault.TheVariants as fault
 use Rattle.fleet_plan.specs.Plan.{Plan, cell_at, cell_of, planned, AreNeighbours, IsConflictFree}
-use Rattle.fleet_plan.specs.FirstFault.{AllAgents, IsFirstAgent, StartsRight, EndsRight, IsRightAt, GoesRight, IsFirstTime, IsFirstStep, HasConflict, HasNoConflict, IsCycle, HasEnds, time_of, IsKindUpTo, IsUpTo, IsFirstConflict, IsFirstPlanFault, path_of}
+use Rattle.fleet_plan.specs.FirstFault.{AllAgents, IsFirstAgent, StartsRight, EndsRight, IsRightAt, GoesRight, IsFirstTime, IsFirstStep, HasConflict, HasNoConflict, IsCycle, HasEnds, time_of, IsPairUpTo, IsKindUpTo, IsUpTo, IsFirstConflict, IsFirstPlanFault, path_of}
 
 -- the least of numbers
 abbrev HasLeast : List ℕ → Type 0
@@ -95,3 +95,85 @@ not_free passable tasks plan (fault.Start i) h free = h.1.wrong (λ t e. (free.e
 not_free passable tasks plan (fault.Goal i) h free = h.2.wrong (λ t e. (free.ends i t e).1)
 not_free passable tasks plan (fault.Step i t) h free = h.1.time.wrong (right_at passable tasks plan free i t h.1.agent)
 not_free passable tasks plan (fault.Conflict c) h free = conflict_free passable tasks plan free c h.2.conflict
+
+-- ---- one first fault at most
+
+one_agent : (plan : Plan) (P : ℕ → Type 0) (i k : ℕ) → IsFirstAgent plan P i → IsFirstAgent plan P k → i ≡ k
+one_agent plan P i k a b = elim (cases_order i k) [
+  | inl e ↦ e
+  | inr u ↦ absurd (elim u [ inl l ↦ a.wrong (b.least i l) | inr l ↦ b.wrong (a.least k l) ])
+]
+
+one_step : (passable : Place → Bool) (plan : Plan) (i t k s : ℕ) → IsFirstStep passable plan i t → IsFirstStep passable plan k s → (i ≡ k) × (t ≡ s)
+one_step passable plan i t k s a b = elim (cases_order i k) [
+  | inl e ↦ (
+    e,
+    elim (cases_order t s) [
+      | inl f ↦ f
+      | inr u ↦ absurd (elim u [
+        | inl l ↦ a.time.wrong (subst (λ z. IsRightAt passable (path_of plan z) t) (sym e) (b.time.least t l))
+        | inr l ↦ b.time.wrong (subst (λ z. IsRightAt passable (path_of plan z) s) e (a.time.least s l))
+      ])
+    ],
+  )
+  | inr u ↦ absurd (elim u [ inl l ↦ a.time.wrong (b.least i l t) | inr l ↦ b.time.wrong (a.least k l s) ])
+]
+
+one_conflict : (plan : Plan) (c d : Conflict) → IsFirstConflict plan c → IsFirstConflict plan d → c ≡ d
+one_conflict plan c d a b = same c d (a.first d b.conflict) (b.first c a.conflict)
+  where
+    pair : (i j k l : ℕ) → IsPairUpTo i j k l → IsPairUpTo k l i j → (i ≡ k) × (j ≡ l)
+    pair i j k l u v = (grind arith, grind arith)
+
+    kind : (c d : Conflict) → IsUpTo c d → IsUpTo d c → (time_of c ≡ time_of d) × IsKindUpTo c d × IsKindUpTo d c
+    kind c d (inl l) (inl m) = absurd (omega arith)
+    kind c d (inl l) (inr m) = absurd (omega (arith, m.0))
+    kind c d (inr l) (inl m) = absurd (omega (arith, l.0))
+    kind c d (inr l) (inr m) = (l.0, l.1, m.1)
+
+    equal : (c d : Conflict) → (time_of c ≡ time_of d) × IsKindUpTo c d × IsKindUpTo d c → c ≡ d
+    equal (Vertex x i j) (Vertex y k l) h = let p = pair i j k l h.1 h.2 in λ z. Vertex (h.0 z) (p.0 z) (p.1 z)
+    equal (Vertex x i j) (Swapping y k l) h = absurd h.2
+    equal (Vertex x i j) (Cycle y b) h = absurd h.2
+    equal (Swapping x i j) (Vertex y k l) h = absurd h.1
+    equal (Swapping x i j) (Swapping y k l) h = let p = pair i j k l h.1 h.2 in λ z. Swapping (h.0 z) (p.0 z) (p.1 z)
+    equal (Swapping x i j) (Cycle y b) h = absurd h.2
+    equal (Cycle x a) (Vertex y k l) h = absurd h.1
+    equal (Cycle x a) (Swapping y k l) h = absurd h.1
+    equal (Cycle x a) (Cycle y b) h = let le : a ≤ b = h.1 in let ge : b ≤ a = h.2 in let e : a ≡ b = omega arith in λ z. Cycle (h.0 z) (e z)
+
+    same : (c d : Conflict) → IsUpTo c d → IsUpTo d c → c ≡ d
+    same c d u v = equal c d (kind c d u v)
+
+module _ (passable : Place → Bool) (tasks : List Task) (plan : Plan) where
+  abbrev First : PlanFault → Type 0
+  First = IsFirstPlanFault passable tasks plan
+
+  pub one_fault : (e f : PlanFault) → First e → First f → e ≡ f
+  one_fault fault.OutOfMemory f h g = absurd h
+  one_fault e fault.OutOfMemory h g = absurd g
+  one_fault fault.Agents fault.Agents h g = refl
+  one_fault fault.Agents (fault.Start k) h g = absurd (h g.0)
+  one_fault fault.Agents (fault.Goal k) h g = absurd (h g.0)
+  one_fault fault.Agents (fault.Step k s) h g = absurd (h g.0.agents)
+  one_fault fault.Agents (fault.Conflict d) h g = absurd (h g.0.agents)
+  one_fault (fault.Start i) fault.Agents h g = absurd (g h.0)
+  one_fault (fault.Start i) (fault.Start k) h g = ap (λ (z : ℕ). fault.Start z) (one_agent plan (StartsRight tasks plan) i k h.1 g.1)
+  one_fault (fault.Start i) (fault.Goal k) h g = absurd (h.1.wrong (g.1 i h.1.agent))
+  one_fault (fault.Start i) (fault.Step k s) h g = absurd (h.1.wrong (g.0.starts i h.1.agent))
+  one_fault (fault.Start i) (fault.Conflict d) h g = absurd (h.1.wrong (g.0.starts i h.1.agent))
+  one_fault (fault.Goal i) fault.Agents h g = absurd (g h.0)
+  one_fault (fault.Goal i) (fault.Start k) h g = absurd (g.1.wrong (h.1 k g.1.agent))
+  one_fault (fault.Goal i) (fault.Goal k) h g = ap (λ (z : ℕ). fault.Goal z) (one_agent plan (EndsRight tasks plan) i k h.2 g.2)
+  one_fault (fault.Goal i) (fault.Step k s) h g = absurd (h.2.wrong (g.0.goals i h.2.agent))
+  one_fault (fault.Goal i) (fault.Conflict d) h g = absurd (h.2.wrong (g.0.goals i h.2.agent))
+  one_fault (fault.Step i t) fault.Agents h g = absurd (g h.0.agents)
+  one_fault (fault.Step i t) (fault.Start k) h g = absurd (g.1.wrong (h.0.starts k g.1.agent))
+  one_fault (fault.Step i t) (fault.Goal k) h g = absurd (g.2.wrong (h.0.goals k g.2.agent))
+  one_fault (fault.Step i t) (fault.Step k s) h g = let p = one_step passable plan i t k s h.1 g.1 in λ z. fault.Step (p.0 z) (p.1 z)
+  one_fault (fault.Step i t) (fault.Conflict d) h g = absurd (h.1.time.wrong (g.1 i h.1.agent t))
+  one_fault (fault.Conflict c) fault.Agents h g = absurd (g h.0.agents)
+  one_fault (fault.Conflict c) (fault.Start k) h g = absurd (g.1.wrong (h.0.starts k g.1.agent))
+  one_fault (fault.Conflict c) (fault.Goal k) h g = absurd (g.2.wrong (h.0.goals k g.2.agent))
+  one_fault (fault.Conflict c) (fault.Step k s) h g = absurd (g.1.time.wrong (h.1 k g.1.agent s))
+  one_fault (fault.Conflict c) (fault.Conflict d) h g = ap (λ (z : Conflict). fault.Conflict z) (one_conflict plan c d h.2 g.2)

@@ -1,6 +1,7 @@
 use super::*;
+use crate::rings::least_on_ring;
 use fleet_grid::{Grid, read_map};
-use fleet_model::Cell;
+use fleet_model::{Cell, Dir};
 use fleet_scen::{Instance, read_scen};
 use std::alloc::Global;
 use std::fmt::Write;
@@ -33,16 +34,21 @@ fn open_map(rt: &impl Abort, alloc: Global, width: u16, height: u16) -> Grid {
     read_map(alloc, text.as_bytes()).expect(rt, "a map")
 }
 
+/// The path over these columns and rows.
+fn path_of(rt: &impl Abort, alloc: Global, cells: &[(u16, u16)]) -> Path {
+    let mut path = Vec::new(alloc);
+    for (x, y) in cells {
+        path.push(Cell { x: *x, y: *y }).expect(rt, "memory");
+    }
+    assert!(rt; !path.is_empty() && path.len() <= 65536);
+    Path::new(path)
+}
+
 /// The plan with these columns and rows, one after another, for each agent.
 fn plan_of(rt: &impl Abort, alloc: Global, paths: &[&[(u16, u16)]]) -> Plan {
     let mut plan = Vec::new(alloc);
     for cells in paths {
-        let mut path = Vec::new(alloc);
-        for (x, y) in *cells {
-            path.push(Cell { x: *x, y: *y }).expect(rt, "memory");
-        }
-        assert!(rt; !path.is_empty() && path.len() <= 65536);
-        plan.push(Path::new(path)).expect(rt, "memory");
+        plan.push(path_of(rt, alloc, cells)).expect(rt, "memory");
     }
     assert!(rt; !plan.is_empty() && plan.len() <= 1024);
     Plan::new(plan)
@@ -136,6 +142,7 @@ fn the_base_plan(rt: HostRuntime) -> Result<(), Fail> {
     let instance = instance_of(&rt, alloc, &grid, &[((1, 0), (3, 0)), ((0, 0), (2, 0))]);
     let checked = check(alloc, plan, &grid, &instance).expect(&rt, "a right plan");
     assert_eq!(rt; checked.plan().steps(), 2);
+    assert!(rt; checked.plan().agents() == 2);
     assert_eq!(rt; checked.plan().cell(1, 1), Cell { x: 1, y: 0 });
     Ok(())
 }
@@ -259,29 +266,147 @@ fn small_rings(rt: HostRuntime) -> Result<(), Fail> {
     Ok(())
 }
 
-/// The cells around a rectangle, from its upper left, clockwise.
-fn around(
-    rt: &impl Abort,
-    alloc: Global,
-    x: u16,
-    y: u16,
-    width: u16,
-    height: u16,
-) -> Vec<(u16, u16)> {
+/// The cells around a square of so many columns and rows, from its upper left corner, clockwise.
+fn around(rt: &impl Abort, alloc: Global, x: u16, y: u16, side: u16) -> Vec<(u16, u16)> {
+    assert!(rt; 1 <= side && side <= 100 && x <= 100 && y <= 100);
+    let last = side - 1;
     let mut cells = Vec::new(alloc);
-    for i in 0..width - 1 {
-        cells.push((x + i, y)).expect(rt, "memory");
-    }
-    for i in 0..height - 1 {
-        cells.push((x + width - 1, y + i)).expect(rt, "memory");
-    }
-    for i in 0..width - 1 {
-        cells
-            .push((x + width - 1 - i, y + height - 1))
-            .expect(rt, "memory");
-    }
-    for i in 0..height - 1 {
-        cells.push((x, y + height - 1 - i)).expect(rt, "memory");
+    for (from_x, from_y, towards) in [
+        (x, y, Dir::East),
+        (x + last, y, Dir::South),
+        (x + last, y + last, Dir::West),
+        (x, y + last, Dir::North),
+    ] {
+        for i in 0..last {
+            let cell = match towards {
+                Dir::North => (from_x, from_y.saturating_sub(i)),
+                Dir::East => (from_x.saturating_add(i), from_y),
+                Dir::South => (from_x, from_y.saturating_add(i)),
+                Dir::West => (from_x.saturating_sub(i), from_y),
+            };
+            cells.push(cell).expect(rt, "memory");
+        }
     }
     cells
+}
+
+/// The agents on these cells go one cell on, the last of them to the first one's.
+fn push_ring(rt: &impl Abort, alloc: Global, paths: &mut Vec<Path>, cells: &[(u16, u16)]) {
+    assert!(rt; !cells.is_empty());
+    for (i, from) in cells.iter().enumerate() {
+        let to = cells.get(i + 1).copied().unwrap_or(cells[0]);
+        paths
+            .push(path_of(rt, alloc, &[*from, to]))
+            .expect(rt, "memory");
+    }
+}
+
+/// What the plan of these paths is refused for on its own starts and goals.
+fn fault_of_paths(
+    rt: &impl Abort,
+    alloc: Global,
+    grid: &Grid,
+    paths: Vec<Path>,
+) -> Option<PlanFault> {
+    assert!(rt; !paths.is_empty() && paths.len() <= 1024);
+    let plan = Plan::new(paths);
+    let instance = instance_for(rt, alloc, grid, &plan);
+    fault_of(rt, alloc, plan, grid, &instance)
+}
+
+#[test]
+fn a_ring_of_a_hundred(rt: HostRuntime) -> Result<(), Fail> {
+    let alloc = rt.alloc();
+    let grid = open_map(&rt, alloc, 26, 26);
+    let cells = around(&rt, alloc, 0, 0, 26);
+    assert_eq!(rt; cells.len(), 100);
+    let mut paths = Vec::new(alloc);
+    push_ring(&rt, alloc, &mut paths, &cells);
+    assert_eq!(rt; fault_of_paths(&rt, alloc, &grid, paths), cycle(0, 0));
+    // All but one of them.
+    let mut paths = Vec::new(alloc);
+    push_ring(&rt, alloc, &mut paths, &cells);
+    let _last = paths.pop();
+    assert_eq!(rt; fault_of_paths(&rt, alloc, &grid, paths), None);
+    Ok(())
+}
+
+#[test]
+fn two_rings_in_one_step(rt: HostRuntime) -> Result<(), Fail> {
+    let alloc = rt.alloc();
+    let grid = open_map(&rt, alloc, 8, 4);
+    // Agent 0 runs into the ring of agents 5 to 8, and the ring of agents 1 to 4 is told.
+    let mut paths = Vec::new(alloc);
+    paths.push(path_of(&rt, alloc, &[(4, 0), (5, 0), (4, 0)]))?;
+    push_ring(&rt, alloc, &mut paths, &around(&rt, alloc, 1, 2, 2));
+    push_ring(&rt, alloc, &mut paths, &around(&rt, alloc, 5, 0, 2));
+    assert_eq!(rt; fault_of_paths(&rt, alloc, &grid, paths), cycle(0, 1));
+    Ok(())
+}
+
+#[test]
+fn rings_of_three(rt: HostRuntime) {
+    // On a grid rings are of four and more, so this is said of who is ahead of whom alone.
+    let cases: [(&[Option<u16>], Option<u16>); 6] = [
+        (&[Some(1), Some(2), Some(0)], Some(0)),
+        (&[Some(1), Some(2), None], None),
+        (&[Some(1), None, Some(0)], None),
+        (&[Some(2), Some(2), Some(3), Some(4), Some(2)], Some(2)),
+        (
+            &[
+                Some(4),
+                Some(3),
+                Some(1),
+                Some(2),
+                Some(6),
+                Some(4),
+                Some(5),
+            ],
+            Some(1),
+        ),
+        (
+            &[Some(3), None, Some(3), Some(5), Some(2), Some(4), Some(1)],
+            Some(2),
+        ),
+    ];
+    for (ahead, least) in cases {
+        let mut walks = [Some(0u16); 7];
+        assert_eq!(rt; least_on_ring(ahead, &mut walks[..ahead.len()]), least);
+    }
+}
+
+#[test]
+fn a_train(rt: HostRuntime) -> Result<(), Fail> {
+    let alloc = rt.alloc();
+    let grid = open_map(&rt, alloc, 1026, 1);
+    let mut paths = Vec::new(alloc);
+    for k in 0..1024u16 {
+        paths.push(path_of(&rt, alloc, &[(1023 - k, 0), (1024 - k, 0), (1025 - k, 0)]))?;
+    }
+    assert_eq!(rt; fault_of_paths(&rt, alloc, &grid, paths), None);
+    Ok(())
+}
+
+#[test]
+fn paths_that_end_early(rt: HostRuntime) -> Result<(), Fail> {
+    let alloc = rt.alloc();
+    let grid = open_map(&rt, alloc, 6, 3);
+    let passes: &[(u16, u16)] = &[(5, 1), (4, 1), (3, 1), (2, 1), (1, 1), (0, 1)];
+    assert_eq!(rt;
+        fault_on(&rt, alloc, &grid, &[passes, &[(2, 1)]]),
+        vertex(3, 0, 1)
+    );
+    assert_eq!(rt;
+        fault_on(&rt, alloc, &grid, &[&[(2, 2)], passes, &[(1, 0), (1, 1)]]),
+        vertex(4, 1, 2)
+    );
+    // Two pairs meet at once, and agent 0 is of the later one in the row.
+    let meets: [&[(u16, u16)]; 4] = [
+        &[(0, 0), (1, 0), (2, 0)],
+        &[(0, 2), (1, 2), (2, 2)],
+        &[(2, 2), (1, 2), (1, 1)],
+        &[(2, 0), (1, 0), (1, 1), (0, 1)],
+    ];
+    assert_eq!(rt; fault_on(&rt, alloc, &grid, &meets), vertex(1, 0, 3));
+    Ok(())
 }

@@ -15,8 +15,11 @@ use fleet_grid::Grid;
 use fleet_scen::Instance;
 use std::alloc::Global;
 
-/// Judges a plan for a map and an instance. A plan that is not free of conflict is refused with its first fault, and
-/// handed back; `OutOfMemory` may stand in place of any answer.
+/// Judges a plan for a map and an instance. A plan that is free of conflict (Stern et al. 2019) becomes a `Checked`;
+/// each other one is refused with its first fault, and handed back. `OutOfMemory` may stand in place of any answer.
+///
+/// It takes time in proportion to the cells of the plan and of the map, and memory for the cells of the map and the
+/// agents, once.
 pub fn check<'g>(
     alloc: Global,
     plan: Plan,

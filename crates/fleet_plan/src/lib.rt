@@ -5,6 +5,7 @@ mod cells;
 mod checked;
 mod checking;
 mod ends;
+mod fault_laws;
 mod plan;
 mod plan_fault;
 mod reading;
@@ -18,6 +19,7 @@ mod writing;
 
 pub use checked::Checked;
 pub use checking::check;
+pub use fault_laws::a_plan_is_free_or_has_a_first_fault;
 pub use plan::{Path, Plan};
 pub use plan_fault::{Conflict, PlanFault, PlanRefusal};
 pub use reading::read_plan;

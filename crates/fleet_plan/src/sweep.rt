@@ -151,7 +151,7 @@ fn sweep(
     ensures some { IfSome result (IsFirstConflict plan.now) }
     ensures none { IfNone result (HasNoConflict plan.now) }
 {
-    // What agents in one place are: agents on one cell.
+    // Agents in one place are on one cell: a law of the map.
     cells_have_places_of_their_own();
     fill_places(plan, grid, 0, places);
     for time in 0..plan.steps() + 1 {

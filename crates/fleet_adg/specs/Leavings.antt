@@ -1,17 +1,22 @@
 -- A table that has for each cell of a map, row by row, the leavings of it so far.
-use Rattle.std.specs.Prelude.{◌≡◌, ℕ, ◌<◌, ◌*◌, ◌==◌, nat_lt, if◌then◌else◌, List, [], ◌∷◌, length, map, get_or, option_to_list}
+use Rattle.std.specs.Prelude.{◌≡◌, ℕ, ◌<◌, ◌*◌, ◌==◌, nat_lt, if◌then◌else◌, List, [], ◌∷◌, length, map, get_or, option_map, option_to_list}
 use Rattle.fleet_model.specs.declared.geometry.Cell.{Cell}
 use Rattle.fleet_model.specs.declared.program.Await.{Await}
 use Rattle.fleet_adg.specs.declared.deps.Deps.{Deps}
+use Rattle.fleet_adg.specs.declared.leavings.Leaving.{Leaving}
 use Rattle.fleet_adg.specs.declared.leavings.Leavings.{Leavings}
 use Rattle.fleet_grid.specs.Ground.{Ground, cell_index}
 use Rattle.fleet_plan.specs.Plan.{Plan}
 use Rattle.fleet_adg.specs.Compiled.{leavings}
 
+-- to wait for the move by which a cell was left
+abbrev pub await_for : Leaving → Await
+await_for l = record { agent = l.agent; count = l.number }
+
 -- the leavings of each cell
 abbrev pub rows_of : Leavings → List (List Await)
 rows_of (Leavings.All rows) = rows.items
-rows_of (Leavings.Last last) = map option_to_list last.items
+rows_of (Leavings.Last last) = map (λ o. option_to_list (option_map await_for o)) last.items
 
 -- which leavings the table keeps
 abbrev pub kind_of : Leavings → Deps

@@ -1,12 +1,31 @@
 //! Who has left the cells of a map so far.
 
 ghost use Rattle.std.specs.Prelude.{◌≡◌, ◌<◌, [], OnOk, IfOk, length, not, ◌==◌, filter, slice_set, slice_index_or, replicate};
-ghost use Rattle.fleet_adg.specs.Leavings.{rows_of, kind_of, noted};
+ghost use Rattle.fleet_adg.specs.Leavings.{await_for, rows_of, kind_of, noted};
 
 use crate::deps::Deps;
 use crate::row::Row;
 use fleet_model::{Await, Awaits, OutOfMemory};
 use std::alloc::{AllocError, Global};
+
+/// A move by which a cell was left: `number` of `agent`, from 1 on. There may be one for each cell of a large map, so it is small.
+#[derive(Clone, Copy, Debug)]
+pub(crate) struct Leaving {
+    pub(crate) agent: u16,
+    pub(crate) number: u16,
+}
+
+impl Leaving {
+    /// To wait for this move.
+    fn as_await(self) -> Await
+        ensures { result ≡ await_for self }
+    {
+        Await {
+            agent: self.agent,
+            count: u32::from(self.number),
+        }
+    }
+}
 
 /// For each cell of a map, row by row, what an action that enters it would await.
 #[derive(Debug, Drop)]
@@ -14,7 +33,7 @@ pub(crate) enum Leavings {
     /// The last leaving by each agent that has left the cell.
     All(Vec<Row>),
     /// The last leaving by whichever agent.
-    Last(Vec<Option<Await>>),
+    Last(Vec<Option<Leaving>>),
 }
 
 impl Leavings {
@@ -30,14 +49,14 @@ impl Leavings {
     }
 
     /// Notes a leaving of the cell at `place`.
-    pub(crate) fn note(&mut self, place: usize, leaving: Await) -> Result<(), AllocError>
+    pub(crate) fn note(&mut self, place: usize, leaving: Leaving) -> Result<(), AllocError>
         requires { place < length (rows_of self.old) }
         ensures kind { OnOk result (kind_of self.new ≡ kind_of self.old) }
         ensures rows { OnOk result (rows_of self.new ≡ slice_set (rows_of self.old) place
-            (noted (kind_of self.old) (slice_index_or (rows_of self.old) place []) leaving)) }
+            (noted (kind_of self.old) (slice_index_or (rows_of self.old) place []) (await_for leaving))) }
     {
         match self {
-            Leavings::All(rows) => rows[place].note(leaving)?,
+            Leavings::All(rows) => rows[place].note(leaving.as_await())?,
             Leavings::Last(last) => last[place] = Some(leaving),
         }
         Ok(())
@@ -65,7 +84,7 @@ impl Leavings {
             Leavings::Last(last) => {
                 if let Some(leaving) = last[place] {
                     if leaving.agent != own {
-                        awaits.push(leaving)?;
+                        awaits.push(leaving.as_await())?;
                     }
                 }
             }

@@ -9,9 +9,9 @@ ghost use Rattle.fleet_adg.specs.Sweep.{is_under_way, under_way, all_actions_by,
 
 use crate::action_list::ActionList;
 use crate::deps::Deps;
-use crate::leavings::Leavings;
+use crate::leavings::{Leaving, Leavings};
 use fleet_grid::{Grid, cells_have_places_of_their_own};
-use fleet_model::{Action, Await, Cell, Dir, OutOfMemory};
+use fleet_model::{Action, Cell, Dir, OutOfMemory};
 use fleet_plan::{Checked, Plan};
 use std::alloc::{AllocError, Global};
 
@@ -112,17 +112,18 @@ fn note_leavings(
     leavings: &mut Leavings,
 ) -> Result<(), AllocError>
     requires on_map { IsOnMap grid.now plan.now }
-    requires time { time < 65536 }
+    requires time { time < 65535 }
     requires agents { agents.now ≡ under_way plan.now time }
     requires actions { actions.now ≡ all_actions_by plan.now (kind_of leavings.old) time }
     requires leavings { AreLeavingsAt grid.now plan.now (kind_of leavings.old) time leavings.old }
     ensures { OnOk result (AreLeavingsAt grid.now plan.now (kind_of leavings.old) (time + 1) leavings.new) }
 {
+    // Two cells have two places in the table.
     cells_have_places_of_their_own();
     for &i in agents {
         if let Some((from, _)) = move_in(plan, i, time) {
-            let count = actions[usize::from(i)].len() as u32 + 1;
-            leavings.note(grid.cell_index(from), Await { agent: i, count })?;
+            let number = actions[usize::from(i)].len() as u16 + 1;
+            leavings.note(grid.cell_index(from), Leaving { agent: i, number })?;
         }
     }
     Ok(())

@@ -17,14 +17,14 @@ bounds-actions-from c =
     let below = agent_at c.args.plan.now c.args.time c.args.agents.now c.loop-i.i-index c.requires.agents c.loop-i-test.true in
     omega (arith, c.from.ensures, below, ap length c.requires.actions, length-all_actions_by c.args.plan.now (kind_of c.args.leavings.now) c.args.time)
 
-pub overflow_cast-count : goal.overflow_cast-count
-overflow_cast-count c =
+pub overflow_cast-number : goal.overflow_cast-number
+overflow_cast-number c =
     let below = agent_at c.args.plan.now c.args.time c.args.agents.now c.loop-i.i-index c.requires.agents c.loop-i-test.true in
     let short = row_short c.args.plan.now (kind_of c.args.leavings.now) c.args.time c.from.result c.args.actions.now c.index-actions-from.result c.requires.actions (omega (arith, c.from.ensures)) c.index-actions-from.is in
     omega (arith, short, c.len.ensures, c.requires.time)
 
-pub overflow_add-count : goal.overflow_add-count
-overflow_add-count c =
+pub overflow_add-number : goal.overflow_add-number
+overflow_add-number c =
     let below = agent_at c.args.plan.now c.args.time c.args.agents.now c.loop-i.i-index c.requires.agents c.loop-i-test.true in
     let short = row_short c.args.plan.now (kind_of c.args.leavings.now) c.args.time c.from.result c.args.actions.now c.index-actions-from.result c.requires.actions (omega (arith, c.from.ensures)) c.index-actions-from.is in
     omega (arith, short, c.len.ensures, c.requires.time)

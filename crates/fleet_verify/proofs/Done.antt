@@ -5,9 +5,9 @@ use Rattle.fleet_model.specs.declared.program.Await.{Await}
 use Rattle.fleet_model.specs.declared.program.ActionId.{ActionId}
 use Rattle.fleet_model.specs.Program.{Program, moves, awaits_of}
 use Rattle.fleet_model.specs.Machine.{Configuration, count_at, Holds, is_held, run, IsDone}
-use Rattle.fleet_model.specs.Chain.{DirectlyNeeds, Reaches}
+use Rattle.fleet_model.specs.Chain.{DirectlyNeeds}
 use Rattle.fleet_verify.proofs.Counts.{counts, readies, run_counts}
-use Rattle.fleet_verify.proofs.Finished.{grows, grows_once, within_moves, chain_before}
+use Rattle.fleet_verify.proofs.Finished.{grows, grows_once, within_moves}
 use Rattle.fleet_verify.proofs.Readiness.{IsReadyTo}
 
 pub count_grows : (p : Program) (holds : Holds) (t i : ℕ) → count_at (run p holds t) i ≤ count_at (run p holds (suc t)) i
@@ -21,11 +21,6 @@ needs_of_ready p c a b r e (inl (s, n, f)) =
 needs_of_ready p c a b r e (inr h) =
     let w : Await = record { agent = b.agent; count = b.number } in
     r.met w (subst (λ n. Contains (awaits_of p a.agent n) w) e h)
-
-pub Reaches-done : (p : Program) (holds : Holds) (t : ℕ) (a b : ActionId) → Reaches p a b → IsDone (run p holds t) b → IsDone (run p holds t) a
-Reaches-done p holds t a b (cs, h) d =
-    let r = chain_before p (is_held holds) (readies p holds) (counts p holds) (run_counts p holds) t a cs b h d in
-    omega (arith, r.2, grows p (is_held holds) (readies p holds) (counts p holds) (run_counts p holds) r.0 t a.agent (omega (arith, r.1)))
 
 pub count_grows_to : (p : Program) (holds : Holds) (t k i : ℕ) → count_at (run p holds t) i ≤ count_at (run p holds (t + k)) i
 count_grows_to p holds t k i = grows p (is_held holds) (readies p holds) (counts p holds) (run_counts p holds) t (t + k) i (omega arith)

@@ -43,9 +43,6 @@ judged_agent p stays agent n h l = record {
   here = λ m k. absurd (omega arith);
 }
 
-pub none_judged : (p : Program) (stays : List Stay) → AreJudged p stays 0 0
-none_judged p stays = record { before = λ i m l. absurd (omega arith); here = λ m l. absurd (omega arith) }
-
 pub found_fault : (passable : Place → Bool) (tasks : List Task) (p : Program) (stays : List Stay) (agent n : ℕ) (c : Cell) → HasRanges passable tasks p → AreAllStays p stays → agent < length p → n ≤ moves p agent
     → place_of c ≡ path p agent n → AreJudged p stays agent n → (v w : Visit) → IsFirstBreak (ComesAfterByAwait p) (visits_of (place_of c) stays) v w → IsFault passable tasks p (Unordered c v w)
 found_fault passable tasks p stays agent n c right all a m e h v w broken = (

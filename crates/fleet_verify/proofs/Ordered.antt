@@ -1,35 +1,25 @@
 -- The visits of a place, one after another.
-use Rattle.std.proofs.Common.{◌≡◌, ◌≢◌, ℕ, zero, suc, ◌+◌, ◌<◌, ◌≤◌, Bool, true, false, cond, List, [], ◌∷◌, ◌++◌, length, map, get_or, Option, Some, None, slice_get, refl, ap, sym, ◌∙◌, subst, arith, inl, inr, add-one, eqb, eq-eqb, ◌&&◌}
-use Rattle.std.specs.Prelude.{pos}
+use Rattle.std.proofs.Common.{◌≡◌, ◌≢◌, ℕ, zero, suc, ◌+◌, ◌<◌, Bool, true, false, cond, List, [], ◌∷◌, ◌++◌, length, map, get_or, Option, Some, None, slice_get, refl, ap, sym, ◌∙◌, subst, arith, inl, inr, add-one, eqb, eq-eqb, ◌&&◌}
 use Rattle.std.specs.List.{filter}
 use Rattle.std.proofs.lemmas.Bool.{and_parts, eqb-true}
 use Rattle.std.proofs.lemmas.Bool.Decides.{Decides-int_eq}
 use Rattle.std.proofs.lemmas.List.{map-append, append_assoc, append-nil, length-append}
 use Rattle.std.proofs.lemmas.List.Elements.{filter-append}
-use Rattle.std.proofs.lemmas.Option.{slice_get-get_or, slice_get_within, get_or_from_slice_get}
+use Rattle.std.proofs.lemmas.Option.{slice_get_within, get_or_from_slice_get}
 use Rattle.std.specs.Ordering.{int_eq}
 use Rattle.fleet_model.specs.declared.geometry.Cell.{Cell}
 use Rattle.fleet_model.specs.declared.geometry.Place.{Place}
-use Rattle.fleet_model.specs.declared.program.Await.{Await}
 use Rattle.fleet_model.specs.declared.program.Visit.{Visit}
 use Rattle.fleet_model.specs.Geometry.{place_of}
-use Rattle.fleet_model.specs.Program.{Program, awaits_of}
+use Rattle.fleet_model.specs.Program.{Program}
 use Rattle.fleet_model.specs.Visit.{Adjacent, ComesAfterByAwait}
+use Rattle.fleet_model.proofs.Places.{place_of-injective}
 use Rattle.fleet_verify.proofs.Neighbours.{adjacent_at}
 use Rattle.fleet_verify.specs.declared.watch.Stay.{Stay}
 use Rattle.fleet_verify.specs.declared.watch.Break.{Break}
 use Rattle.fleet_verify.specs.Order.{same_place, visits_of, is_cell, IsFirstBreak, IsJudged, IsJudgedNext, IsLast, IsWatched}
 
 -- ---- the rule
-
-pub awaited_after : (p : Program) (v w : Visit) (k : ℕ) (a : Await) → slice_get (awaits_of p w.agent w.position) k ≡ Some a → a.agent ≡ v.agent → v.position < a.count → ComesAfterByAwait p v w
-awaited_after p v w k a e g h = inr (a, (k, slice_get_within (awaits_of p w.agent w.position) k a e, get_or_from_slice_get (awaits_of p w.agent w.position) k a a e), g, omega arith)
-
-pub not_after : (p : Program) (v w : Visit) (k : ℕ) → (v.agent ≡ w.agent → v.position < w.position → ⊥)
-    → ((m : ℕ) (a : Await) → m < k → slice_get (awaits_of p w.agent w.position) m ≡ Some a → a.agent ≡ v.agent → v.position + 1 ≤ a.count → ⊥)
-    → length (awaits_of p w.agent w.position) ≤ k → ComesAfterByAwait p v w → ⊥
-not_after p v w k own none l (inl (e, h)) = own e h
-not_after p v w k own none l (inr (a, (m, n, e), g, h)) = none m a (omega arith) (slice_get-get_or (awaits_of p w.agent w.position) m a n ∙ ap Some e) g h
 
 -- ---- lists
 
@@ -82,14 +72,6 @@ same_place-true q r e =
 pub same_place-refl : (q : Place) → same_place q q ≡ true
 same_place-refl q = rw ((Decides-int_eq q.x q.x).1 refl, (Decides-int_eq q.y q.y).1 refl) refl
 
-place_of-same : (c d : Cell) → place_of c ≡ place_of d → c ≡ d
-place_of-same c d e =
-    let x : pos c.x ≡ pos d.x = ap (λ (q : Place). q.x) e in
-    let y : pos c.y ≡ pos d.y = ap (λ (q : Place). q.y) e in
-    let x' : c.x ≡ d.x = cc in
-    let y' : c.y ≡ d.y = cc in
-    λ i. record { x = x' i; y = y' i }
-
 -- one stay more
 pub visits_on : (c : Cell) (s : Stay) → s.cell ≡ c → visits_of (place_of c) (s ∷ []) ≡ s.visit ∷ []
 unfolding visits_of
@@ -101,7 +83,7 @@ visits_off c s ne = go (same_place (place_of s.cell) (place_of c)) refl
   where
     go : (b : Bool) → same_place (place_of s.cell) (place_of c) ≡ b → map (λ (s : Stay). s.visit) (filter (λ s. same_place (place_of s.cell) (place_of c)) (s ∷ [])) ≡ []
     go false e = rw e refl
-    go true e = absurd (ne (place_of-same s.cell c (same_place-true (place_of s.cell) (place_of c) e)))
+    go true e = absurd (ne (place_of-injective s.cell c (same_place-true (place_of s.cell) (place_of c) e)))
 
 pub same_cell : (c d : Cell) (b : Bool) → b ≡ (eqb c.x d.x && eqb c.y d.y) → b ≡ true → c ≡ d
 same_cell c d b e h =

@@ -1,5 +1,5 @@
 -- One step of a path.
-use Rattle.std.proofs.Common.{◌≡◌, ℕ, Bool, inl, inr, suc, ◌+◌, Option, Some, None, slice_get, refl, ap, sym, ◌∙◌, add-one}
+use Rattle.std.proofs.Common.{◌≡◌, ℕ, Bool, suc, ◌+◌, Option, Some, None, slice_get, refl, ap, sym, ◌∙◌, add-one}
 use Rattle.std.specs.Prelude.{option_map, pos, ◌+ℤ◌, ◌-ℤ◌, ◌≤ℤ◌}
 use Rattle.std.proofs.lemmas.Int.{ints}
 use Rattle.fleet_model.specs.declared.geometry.Dir.TheVariants.{North, East, South, West}
@@ -9,8 +9,7 @@ use Rattle.fleet_model.specs.declared.program.Action.{Action}
 use Rattle.fleet_model.specs.Geometry.{moved}
 use Rattle.fleet_model.specs.Program.{Program, actions_of, dir_of, path}
 use Rattle.fleet_model.proofs.Tick.{path_more}
-use Rattle.std.proofs.Common.{◌≤◌, ◌<◌, false, arith, subst}
-use Rattle.std.proofs.lemmas.Bool.{cases_eq}
+use Rattle.std.proofs.Common.{◌≤◌, ◌<◌, false, arith}
 use Rattle.fleet_model.specs.declared.geometry.Place.{Place}
 use Rattle.fleet_model.specs.Program.{moves}
 use Rattle.fleet_verify.specs.Faults.{StandsRight, IsFirstNumber}
@@ -24,11 +23,6 @@ path_step p i n d e =
     let e' : dir_of p i (suc n) ≡ Some d = rw add-one at e in
     let a = action_with (slice_get (actions_of p i) n) d e' in
     path_more p i n a.0 a.1 ∙ ap (moved (path p i n)) a.2
-
--- an agent goes on to a passable place
-pub stands_on : (passable : Place → Bool) (p : Program) (i n : ℕ) → ((m : ℕ) → m ≤ n → StandsRight passable p i m) → StandsRight passable p i (n + 1)
-    → (m : ℕ) → m ≤ n + 1 → StandsRight passable p i m
-stands_on passable p i n before here m h = elim (cases_eq m (n + 1)) [ inl e ↦ subst (λ (k : ℕ). StandsRight passable p i k) (sym e) here | inr ne ↦ before m (omega arith) ]
 
 -- it goes to one that is not
 pub falls_off : (passable : Place → Bool) (p : Program) (i n : ℕ) (q : Place) (d : Dir) → n < moves p i → ((m : ℕ) → m ≤ n → StandsRight passable p i m)

@@ -123,9 +123,6 @@ module _ (p : Program) (counts : List ℕ) (wants : List Await) (range : AreInRa
       go (x, e) (inl same) = (x, same ∙ e)
       go (x, e) (inr on) = (suc x, on ∙ ap (next_of wants) e)
 
-  pub no_trail : (first : ℕ) → IsTrail counts wants first first []
-  no_trail first = record { needs = λ k l. absurd (omega arith); here = refl; not_back = λ k l m. absurd (omega arith) }
-
   -- the needs from the next action of an agent down to the next one of whom it waits for
   pub segment : (first i : ℕ) (n : ℕ) → IsBlocked p counts i → nth_need first n ≡ next_action i → (k : ℕ) → slice_index counts (next_of wants i) + k < (want_at wants i).count
       → nth_need first (suc (n + k)) ≡ record { agent = next_of wants i; number = (want_at wants i).count - k }

@@ -3,8 +3,8 @@ use Rattle.fleet_model.specs.declared.geometry.Place.{Place}
 use Rattle.fleet_model.specs.Geometry.{place_of, moved}
 use Rattle.fleet_model.specs.Program.{path}
 use Rattle.fleet_grid.specs.Ground.{is_passable}
-use Rattle.fleet_verify.specs.Faults.{AwaitsRight}
-use Rattle.fleet_verify.proofs.Paths.{path_step, stands_on}
+use Rattle.fleet_verify.specs.Faults.{StandsRight, AwaitsRight}
+use Rattle.fleet_verify.proofs.Paths.{path_step}
 use Rattle.fleet_verify.proofs.Ranges.{up_to_more}
 use Rattle.fleet_verify.proofs.right.is_right.Goals as goal
 
@@ -16,6 +16,6 @@ loop-finished-preserved g c =
     to.0 ∙ ap (λ (q : Place). moved q c.dir.result) c.loop-finished.invariant.here ∙ sym (path_step p c.args.agent c.loop-finished.finished c.dir.result c.dir.ensures) in
     record {
       here = here;
-      stands = stands_on (is_passable c.args.grid.now) p c.args.agent c.loop-finished.finished c.loop-finished.invariant.stands (subst (λ (q : Place). IsTrue (is_passable c.args.grid.now q)) here to.1);
+      stands = up_to_more (StandsRight (is_passable c.args.grid.now) p c.args.agent) c.loop-finished.finished c.loop-finished.invariant.stands (subst (λ (q : Place). IsTrue (is_passable c.args.grid.now q)) here to.1);
       awaits = up_to_more (AwaitsRight p c.args.agent) c.loop-finished.finished c.loop-finished.invariant.awaits (c.are_in_range.ensures.0 c.if-not-are_in_range.false);
     }

@@ -3,7 +3,9 @@ use Rattle.fleet_model.specs.declared.geometry.Place.{Place}
 use Rattle.fleet_model.specs.Geometry.{place_of, moved}
 use Rattle.fleet_model.specs.Program.{path}
 use Rattle.fleet_grid.specs.Ground.{is_passable}
-use Rattle.fleet_verify.proofs.Paths.{path_step, stands_on, falls_off}
+use Rattle.fleet_verify.specs.Faults.{StandsRight}
+use Rattle.fleet_verify.proofs.Ranges.{up_to_more}
+use Rattle.fleet_verify.proofs.Paths.{path_step, falls_off}
 use Rattle.fleet_verify.proofs.steps.wrong_step.Goals as goal
 
 pub returns-in-None-clause-some : goal.returns-in-None-clause-some
@@ -19,5 +21,5 @@ loop-finished-preserved g c =
     to.0 ∙ ap (λ (q : Place). moved q c.dir.result) c.loop-finished.invariant.here ∙ sym (path_step p c.args.agent c.loop-finished.finished c.dir.result c.dir.ensures) in
     record {
       here = here;
-      so_far = stands_on (is_passable c.args.grid.now) p c.args.agent c.loop-finished.finished c.loop-finished.invariant.so_far (subst (λ (q : Place). IsTrue (is_passable c.args.grid.now q)) here to.1);
+      so_far = up_to_more (StandsRight (is_passable c.args.grid.now) p c.args.agent) c.loop-finished.finished c.loop-finished.invariant.so_far (subst (λ (q : Place). IsTrue (is_passable c.args.grid.now q)) here to.1);
     }

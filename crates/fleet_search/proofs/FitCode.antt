@@ -1,0 +1,88 @@
+-- Whether a whole path fits, step by step, and from when on a cell is free.
+use Rattle.std.proofs.Common.{◌≡◌, ℕ, zero, suc, ◌+◌, ◌<◌, ◌≤◌, List, ◌↔◌, inl, inr, sym, ◌∙◌, subst, arith, add-one}
+use Rattle.std.proofs.lemmas.Bool.{cases_lt, cases_eq}
+use Rattle.fleet_model.specs.declared.geometry.Cell.{Cell}
+use Rattle.fleet_plan.specs.Plan.{Plan, cell_at, steps}
+use Rattle.fleet_search.specs.Way.{Fits, StepFits, arrival}
+use Rattle.fleet_search.specs.Reserved.{IsOn, IsFree, IsFreeFrom}
+use Rattle.fleet_search.proofs.Steps.{each_step, from_each_step}
+use Rattle.fleet_search.proofs.Occupancy.{cell_at-late, cell_of-late}
+
+-- each step before the time fits, and nobody stands on the first cell
+pub record FitsUpTo (plan : Plan) (path : List Cell) (n : ℕ) : Type 0 where
+  pub first : IsFree plan 0 (cell_at path 0)
+  pub steps : (t : ℕ) → t < n → StepFits plan t (cell_at path t) (cell_at path (t + 1))
+
+pub up_to-more : (plan : Plan) (path : List Cell) (n : ℕ) → FitsUpTo plan path n → StepFits plan n (cell_at path n) (cell_at path (n + 1)) → FitsUpTo plan path (n + 1)
+up_to-more plan path n h s = record {
+  first = h.first;
+  steps = λ t l. elim (cases_eq t n) [
+    | inl e ↦ subst (λ z. StepFits plan z (cell_at path z) (cell_at path (z + 1))) (sym e) s
+    | inr ne ↦ h.steps t (omega arith)
+  ];
+}
+
+-- nobody stands there before or after
+free-at : (plan : Plan) (path : List Cell) (n : ℕ) → FitsUpTo plan path n → IsFree plan n (cell_at path n)
+free-at plan path zero h = h.first
+free-at plan path (suc n) h = rw (← add-one) ((h.steps n (omega arith)).vertex)
+
+-- when all have arrived each step fits
+late-step : (plan : Plan) (path : List Cell) (n : ℕ) → FitsUpTo plan path n → steps plan ≤ n → arrival path ≤ n → (t : ℕ) → n ≤ t → StepFits plan t (cell_at path t) (cell_at path (t + 1))
+late-step plan path n h a b t l =
+    let here : cell_at path t ≡ cell_at path n = cell_at-late path t (omega arith) ∙ sym (cell_at-late path n b) in
+    let next : cell_at path (t + 1) ≡ cell_at path n = cell_at-late path (t + 1) (omega arith) ∙ sym (cell_at-late path n b) in
+    record {
+      vertex = λ j p e. free-at plan path n h j p (cell_of-late plan j n p a ∙ sym (cell_of-late plan j (t + 1) p (omega arith)) ∙ e ∙ next);
+      ring = λ ne. absurd (ne (here ∙ sym next));
+    }
+
+pub up_to-all : (plan : Plan) (path : List Cell) (n : ℕ) → FitsUpTo plan path n → steps plan ≤ n → arrival path ≤ n → Fits plan path
+up_to-all plan path n h a b =
+    from_each_step plan path (record {
+      first = h.first;
+      steps = λ t. elim (cases_lt t n) [ inl l ↦ h.steps t l | inr l ↦ late-step plan path n h a b t l ];
+    })
+
+pub misfit_first : (plan : Plan) (path : List Cell) (j : ℕ) → IsOn plan 0 (cell_at path 0) j → Fits plan path → ⊥
+misfit_first plan path j on fits = (each_step plan path fits).first j on.agent on.on
+
+pub misfit_step : (plan : Plan) (path : List Cell) (t : ℕ) → (StepFits plan t (cell_at path t) (cell_at path (t + 1)) → ⊥) → Fits plan path → ⊥
+misfit_step plan path t not fits = not ((each_step plan path fits).steps t)
+
+-- ---- from when on a cell is free
+
+-- of the times before n, the cell is free from s on, and not right before
+pub record IsFreeSince (plan : Plan) (c : Cell) (s n : ℕ) : Type 0 where
+  pub bound : s ≤ n
+  pub free : (u : ℕ) → s ≤ u → u < n → IsFree plan u c
+  pub taken : (t : ℕ) → t < s → IsFreeFrom plan c t → ⊥
+
+pub since-none : (plan : Plan) (c : Cell) → IsFreeSince plan c 0 0
+since-none plan c = record { bound = omega arith; free = λ u a b. absurd (omega arith); taken = λ t a. absurd (omega arith) }
+
+pub since-taken : (plan : Plan) (c : Cell) (s n j : ℕ) → IsFreeSince plan c s n → IsOn plan n c j → IsFreeSince plan c (n + 1) (n + 1)
+since-taken plan c s n j h on = record {
+  bound = omega arith;
+  free = λ u a b. absurd (omega arith);
+  taken = λ t a f. f n (omega arith) j on.agent on.on;
+}
+
+pub since-free : (plan : Plan) (c : Cell) (s n : ℕ) → IsFreeSince plan c s n → IsFree plan n c → IsFreeSince plan c s (n + 1)
+since-free plan c s n h f = record {
+  bound = let b = h.bound in omega arith;
+  free = λ u a b. elim (cases_eq u n) [ inl e ↦ subst (λ z. IsFree plan z c) (sym e) f | inr ne ↦ h.free u a (omega arith) ];
+  taken = h.taken;
+}
+
+pub since-all : (plan : Plan) (c : Cell) (s : ℕ) → IsFreeSince plan c s (steps plan + 1) → s ≤ steps plan → (t : ℕ) → IsFreeFrom plan c t ↔ (s ≤ t)
+since-all plan c s h l t = (
+  λ f. elim (cases_lt t s) [ inl a ↦ absurd (h.taken t a f) | inr a ↦ a ],
+  λ a u b j p e. elim (cases_lt u (steps plan)) [
+    | inl d ↦ h.free u (omega arith) (omega arith) j p e
+    | inr d ↦ h.free (steps plan) l (omega arith) j p (sym (cell_of-late plan j u p d) ∙ e)
+  ],
+)
+
+pub since-never : (plan : Plan) (c : Cell) (s : ℕ) → IsFreeSince plan c s (steps plan + 1) → steps plan < s → (t : ℕ) → IsFreeFrom plan c t → ⊥
+since-never plan c s h l t f = h.taken (steps plan) l (λ u b j p e. f (steps plan + t + u) (omega arith) j p (cell_of-late plan j (steps plan + t + u) p (omega arith) ∙ sym (cell_of-late plan j u p b) ∙ e))

@@ -1,0 +1,12 @@
+pub mod Steps
+pub mod OneByOne
+pub mod Occupancy
+pub mod Chase
+pub mod FitCode
+pub mod Tables
+pub mod SearchSteps
+pub mod Pigeon
+pub mod Count
+pub mod Optimal
+pub mod Trail
+pub mod InTurnLaws

@@ -1,0 +1,28 @@
+use Rattle.std.proofs.Common.{◌≤◌, refl, sym, subst, arith}
+use Rattle.fleet_plan.specs.Plan.{steps}
+use Rattle.fleet_search.specs.Way.{StepFits, arrival}
+use Rattle.fleet_search.specs.Reserved.{IsOn}
+use Rattle.fleet_search.proofs.Occupancy.{no_from_false}
+use Rattle.fleet_search.proofs.Chase.{none_iff, of_some}
+use Rattle.fleet_search.proofs.FitCode.{misfit_first, misfit_step, up_to-all}
+use Rattle.fleet_search.proofs.reservations.Reservations.fits.Goals as goal
+
+pub returns-then-is_some : goal.returns-then-is_some
+returns-then-is_some c =
+    let w = of_some c.occupant.result c.is_some.result c.is_some.ensures c.if-is_some.true c.occupant.ensures.some in
+    none_iff (misfit_first c.args.self.now c.args.path.now w.0 (subst (λ z. IsOn c.args.self.now 0 z w.0) c.cell.ensures w.1))
+
+pub returns-then-not-step_fits : goal.returns-then-not-step_fits
+returns-then-not-step_fits c =
+    let plan = c.args.self.now in
+    let t = c.loop-time.time in
+    let not = no_from_false c.step_fits.result c.if-not-step_fits.true c.step_fits.ensures in
+    none_iff (misfit_step plan c.args.path.now t (λ s. not (subst (λ z. StepFits plan t z c.cell-in-loop-time-2.result) (sym c.cell-in-loop-time.ensures) (subst (StepFits plan t _) (sym c.cell-in-loop-time-2.ensures) s))))
+
+pub returns : goal.returns
+returns c =
+    let plan = c.args.self.now in
+    let path = c.args.path.now in
+    let a : steps plan ≤ c.loop-time.time = omega (arith, c.steps.ensures.value) in
+    let b : arrival path ≤ c.loop-time.time = omega (arith, c.steps-2.ensures.time) in
+    (λ h. up_to-all plan path c.loop-time.time c.loop-time.invariant a b, λ h. refl)

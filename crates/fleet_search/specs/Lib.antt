@@ -1,0 +1,5 @@
+pub mod Way
+pub mod Moment
+pub mod Reserved
+pub mod Search
+pub mod InTurn

@@ -1,0 +1,24 @@
+//! What is proved of all ways.
+
+ghost use Rattle.std.specs.Prelude.{◌↔◌, ℕ, Bool, List, length};
+ghost use Rattle.fleet_model.specs.declared.geometry.Cell.{Cell};
+ghost use Rattle.fleet_model.specs.declared.geometry.Place.{Place};
+ghost use Rattle.fleet_model.specs.declared.task.Task.{Task};
+ghost use Rattle.fleet_plan.specs.Plan.{Plan, IsConflictFree};
+ghost use Rattle.fleet_search.specs.InTurn.{IsMadeInTurn};
+ghost use Rattle.fleet_search.specs.Way.{Fits, FitTogether, HasNoConflict, EachStepFits};
+
+/// Whether a path fits depends on each of its steps and the reserved paths alone.
+pub fn steps_decide()
+    ensures { (reserved : Plan) (path : List Cell) → Fits reserved path ↔ EachStepFits reserved path }
+{}
+
+/// Paths that each fit those before them are free of conflict.
+pub fn planned_agent_by_agent()
+    ensures { (plan : Plan) → FitTogether plan → HasNoConflict plan }
+{}
+
+/// A plan that is made agent by agent is free of conflict.
+pub fn made_in_turn()
+    ensures { (passable : Place → Bool) (tasks : List Task) (horizon : ℕ) (plan : Plan) → IsMadeInTurn passable tasks horizon (length tasks) plan → IsConflictFree passable tasks plan }
+{}

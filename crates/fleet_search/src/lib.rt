@@ -1,0 +1,21 @@
+//! Paths for one agent after another, each the earliest past those before it.
+//!
+//! The planner is prioritised (Silver 2005): each agent searches over cells and times, past the reserved paths.
+#![tactic(auto)]
+
+mod earliest_path;
+mod fault;
+mod frontier;
+mod laws;
+mod moment;
+mod planner;
+mod reservations;
+
+pub use earliest_path::earliest;
+pub use fault::{PlanStop, SearchFault};
+pub use laws::{made_in_turn, planned_agent_by_agent, steps_decide};
+pub use planner::plan_in_turn;
+pub use reservations::Reservations;
+
+#[cfg(test)]
+mod tests;

@@ -1,0 +1,43 @@
+//! A plan made agent by agent.
+
+ghost use Rattle.std.specs.Prelude.{◌≡◌, ℕ, length, IfOk, IfErr};
+ghost use Rattle.fleet_plan.specs.Plan.{IsConflictFree};
+ghost use Rattle.fleet_grid.specs.Ground.{is_passable};
+ghost use Rattle.fleet_search.specs.InTurn.{IsMadeInTurn, IsStuckAt};
+
+use crate::earliest_path::earliest;
+use crate::fault::{PlanStop, SearchFault};
+use crate::reservations::Reservations;
+use fleet_grid::Grid;
+use fleet_plan::Plan;
+use fleet_scen::Instance;
+use std::alloc::Global;
+
+/// A plan whose paths are each earliest against those of the agents before.
+pub fn plan_in_turn(
+    alloc: Global,
+    grid: &Grid,
+    instance: &Instance,
+    horizon: u16,
+) -> Result<Plan, PlanStop>
+    ensures made { IfOk result (IsMadeInTurn (is_passable grid.now) instance.now horizon (length instance.now)) }
+    ensures free { IfOk result (IsConflictFree (is_passable grid.now) instance.now) }
+    ensures no_path { IfErr result (λ e. (agent : ℕ) → e ≡ PlanStop.NoPath agent → IsStuckAt (is_passable grid.now) instance.now horizon agent) }
+{
+    let mut reserved = Reservations::new(alloc);
+    for agent in 0..instance.agents() {
+        match earliest(
+            alloc,
+            grid,
+            &reserved,
+            instance.start(agent),
+            instance.goal(agent),
+            horizon,
+        ) {
+            Ok(path) => reserved.reserve(&path)?,
+            Err(SearchFault::NoPath) => return Err(PlanStop::NoPath { agent }),
+            Err(SearchFault::OutOfMemory) => return Err(PlanStop::OutOfMemory),
+        }
+    }
+    Ok(Plan::new(reserved.into_paths()))
+}

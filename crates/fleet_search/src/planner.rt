@@ -5,7 +5,8 @@ ghost use Rattle.fleet_plan.specs.Plan.{IsConflictFree};
 ghost use Rattle.fleet_grid.specs.Ground.{is_passable};
 ghost use Rattle.fleet_search.specs.InTurn.{IsMadeInTurn, IsStuckAt};
 
-use crate::earliest_path::earliest;
+use crate::distances::Distances;
+use crate::earliest_path::earliest_over;
 use crate::fault::{PlanStop, SearchFault};
 use crate::reservations::Reservations;
 use fleet_grid::Grid;
@@ -25,11 +26,13 @@ pub fn plan_in_turn(
     ensures no_path { IfErr result (λ e. (agent : ℕ) → e ≡ PlanStop.NoPath agent → IsStuckAt (is_passable grid.now) instance.now horizon agent) }
 {
     let mut reserved = Reservations::new(alloc);
+    let mut distances = Distances::new(alloc, grid)?;
     for agent in 0..instance.agents() {
-        match earliest(
+        match earliest_over(
             alloc,
             grid,
             &reserved,
+            &mut distances,
             instance.start(agent),
             instance.goal(agent),
             horizon,

@@ -6,6 +6,7 @@ use Rattle.std.proofs.lemmas.Bool.{cases_lt}
 use Rattle.std.proofs.lemmas.List.{ext_get_or}
 use Rattle.fleet_model.specs.Program.{Program, moves}
 use Rattle.fleet_model.specs.Machine.{Configuration, Holds, run, tick, standing_at, count_at, is_ready, is_moving, is_ready_held, moved_in, is_finished, indices, IsFinish}
+use Rattle.fleet_model.specs.Chain.{IsLongestChain}
 use Rattle.fleet_model.specs.Run.{Arrives}
 use Rattle.fleet_model.proofs.Tick.{length-tick, standing_at_tick, other_stays}
 use Rattle.fleet_run.specs.declared.run.RunFault.{RunFault}
@@ -72,3 +73,8 @@ pub arrived_if_told : (p : Program) (chain : ℕ) (holds : Holds) (o : Outside) 
 arrived_if_told p chain holds o c (Ok r) arrive h =
     on_goals p holds chain r.ticks r.ticks c h.1.finish (arrive r.ticks h.1.finish) (sym h.0) (rw h.0 h.1.finish.holds)
 arrived_if_told p chain holds o c (Err e) arrive h = tt
+
+pub longest_if_told : (p : Program) (chain : ℕ) (holds : Holds) (o : Outside) (c : Configuration) (r : Result Report RunFault) (q : Program)
+    → IsLongestChain q chain → Drives p chain holds o c r → IfOk r (λ r. IsLongestChain q r.chain)
+longest_if_told p chain holds o c (Ok r) q longest h = rw h.1.the_chain longest
+longest_if_told p chain holds o c (Err e) q longest h = tt

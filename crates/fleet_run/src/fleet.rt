@@ -2,6 +2,7 @@
 
 ghost use Rattle.std.specs.Prelude.{◌≡◌, ◌<◌, ◌≤◌, length, IsOk, IfOk, IfErr, All, IsTrue, false, None};
 ghost use Rattle.fleet_grid.specs.Ground.{is_passable};
+ghost use Rattle.fleet_model.specs.Chain.{IsLongestChain};
 ghost use Rattle.fleet_model.specs.Machine.{opening, tick, moved_in, is_ready_held, is_finished, is_ready, place_at, count_at};
 ghost use Rattle.fleet_model.specs.Run.{IsSafeStep};
 ghost use Rattle.fleet_run.specs.Drive.{Drives, IsInTime};
@@ -152,6 +153,7 @@ pub fn drive<P: ProgramView, S: HoldSource, O: TraceOut>(
     ensures outcome { Drives (P.program fleet.old.accepted.program) fleet.old.accepted.chain (S.ticks source.old)
         (record { last = S.last source.old; now = S.last source.new; left = S.ticks source.new; fault = S.fault source.new; before = O.taken out.old; taken = O.taken out.new; has_failed = O.has_failed out.new })
         fleet.new.configuration result }
+    ensures longest { IfOk result (λ r. IsLongestChain (P.program fleet.old.accepted.program) r.chain) }
     ensures in_time { IfOk result IsInTime }
     ensures arrived { IfOk result (λ _. AreOnGoals (P.program fleet.old.accepted.program) fleet.new.configuration) }
     // It reports unless the source or the sink has failed, or the source had more ticks than a run takes.

@@ -29,4 +29,6 @@ pub use tick::Tick;
 pub use trace::Report;
 
 #[cfg(test)]
+mod fleet_tests;
+#[cfg(test)]
 mod tests;

@@ -1,6 +1,6 @@
 //! Texts and refusals of whole runs, and sinks and sources that fail.
 
-ghost use Rattle.std.specs.Prelude.{◌≡◌, false};
+ghost use Rattle.std.specs.Prelude.{◌≡◌, length, IfOk, false};
 
 use super::*;
 use fleet_model::{
@@ -41,7 +41,9 @@ fn runner(
 }
 
 /// Agent 0 from 1,0 to 3,0, and agent 1 behind it from 0,0 to 2,0.
-fn pair(alloc: Global) -> Result<Program, Fail> {
+pub(crate) fn pair(alloc: Global) -> Result<Program, Fail>
+    ensures { IfOk result (λ p. length p ≡ 2) }
+{
     let mut agents = Vec::new(alloc);
     agents.push(runner(alloc, 1, 3, [0, 0])?)?;
     agents.push(runner(alloc, 0, 2, [1, 2])?)?;
@@ -78,8 +80,8 @@ fn a_held_agent_is_late(rt: HostRuntime) -> Result<(), Fail> {
 
 /// A sink that takes one byte at a time, and fails after some bytes.
 #[derive(Drop)]
-struct ShortOut {
-    bytes: Vec<u8>,
+pub(crate) struct ShortOut {
+    pub(crate) bytes: Vec<u8>,
     room: usize,
     failed: bool,
 }
@@ -110,7 +112,7 @@ impl TraceOut for ShortOut {
     }
 }
 
-fn short_out(alloc: Global, room: usize) -> ShortOut
+pub(crate) fn short_out(alloc: Global, room: usize) -> ShortOut
     ensures { result.failed ≡ false }
 {
     ShortOut {
@@ -140,7 +142,7 @@ fn what_a_failing_sink_has_taken(rt: HostRuntime) -> Result<(), Fail> {
 
 /// A source that holds nobody for some ticks, and then fails.
 #[derive(Drop)]
-struct FailingSource {
+pub(crate) struct FailingSource {
     ticks: u8,
     kind: SourceFault,
     failed: bool,
@@ -172,7 +174,7 @@ impl HoldSource for FailingSource {
     }
 }
 
-fn failing_source(ticks: u8, kind: SourceFault) -> FailingSource
+pub(crate) fn failing_source(ticks: u8, kind: SourceFault) -> FailingSource
     ensures { result.failed ≡ false }
 {
     FailingSource {

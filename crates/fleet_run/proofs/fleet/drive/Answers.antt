@@ -9,7 +9,7 @@ use Rattle.fleet_run.proofs.Kept.{written_back}
 use Rattle.fleet_model.proofs.Tick.{length-run}
 use Rattle.fleet_run.proofs.UnderWay.{AreNear-run}
 use Rattle.fleet_run.proofs.Driven.{left_in_run, run_is_reached, at_opening, told_in_time}
-use Rattle.fleet_run.proofs.Finished.{arrived_if_told}
+use Rattle.fleet_run.proofs.Finished.{arrived_if_told, longest_if_told}
 use Rattle.fleet_run.proofs.fleet.drive.Goals as goal
 
 pub run_trace-requires-clause-rows : goal.run_trace-requires-clause-rows
@@ -89,3 +89,9 @@ returns-clause-arrived g c =
     let told = arrived_if_told (g.P.ProgramView.program c.program.result.now) c.chain-chain.result holds _ c.run_trace.new.rows c.run_trace.result still c.run_trace.ensures in
     let here : IfOk c.run_trace.result (λ _. AreOnGoals p c.run_trace.new.rows) = subst (λ q. IfOk c.run_trace.result (λ _. AreOnGoals q c.run_trace.new.rows)) same told in
     rw (← c.fleet.view_is, written_back c.fleet.inside.rows.len c.run_trace.new.rows c.fleet.inside.rows.items rows) here
+
+pub returns-clause-longest : goal.returns-clause-longest
+returns-clause-longest g c =
+    let p = g.P.ProgramView.program c.fleet.inside.accepted.program in
+    let holds = g.S.HoldSource.ticks c.args.source.now in
+    rw (← c.fleet.view_is) (longest_if_told (g.P.ProgramView.program c.program.result.now) c.chain-chain.result holds _ c.run_trace.new.rows c.run_trace.result p c.chain-chain.ensures.accepted.longest c.run_trace.ensures)

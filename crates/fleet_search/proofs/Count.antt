@@ -15,19 +15,11 @@ use Rattle.fleet_model.specs.Geometry.{place_of}
 use Rattle.fleet_search.proofs.Pigeon.{pigeonhole}
 use Rattle.fleet_search.specs.declared.moment.Moment.{Moment}
 use Rattle.fleet_search.specs.declared.frontier.Question.{Question}
-use Rattle.fleet_grid.specs.Ground.{Ground, IsGround, is_passable}
-use Rattle.fleet_grid.proofs.StoredLaws.{off_map}
 use Rattle.fleet_search.specs.Moment.{Noted, look_up, same_moment}
 use Rattle.fleet_search.specs.Reserved.{Rests}
 use Rattle.fleet_search.specs.Search.{IsFrontier}
+use Rattle.fleet_search.proofs.Spread.{on_map}
 use Rattle.fleet_search.proofs.Tables.{same_moment-refl, same_moment-true}
-
--- a passable cell is on the map
-pub on_map : (g : Ground) (c : Cell) → IsGround g → is_passable g (place_of c) ≡ true → (c.x < g.width) × (c.y < g.height)
-on_map g c s h = (
-  elim (cases_lt c.x g.width) [ inl l ↦ l | inr l ↦ absurd (let z : true ≡ false = sym h ∙ off_map g c.x c.y s (inl l) in cc) ],
-  elim (cases_lt c.y g.height) [ inl l ↦ l | inr l ↦ absurd (let z : true ≡ false = sym h ∙ off_map g c.x c.y s (inr l) in cc) ],
-)
 
 -- the moments up to a time on a map of so many columns and rows, by numbers
 number_of : ℕ → ℕ → Moment → ℕ
@@ -88,9 +80,9 @@ few w h t ks u all =
 pub room_of : Question → ℕ
 room_of q = (q.grid.now.width * q.grid.now.height) * (q.horizon + 1)
 
-pub few_known : (q : Question) → IsGround q.grid.now → (f : ℕ) (left : Option Moment) (came : Noted Cell) (now next later : List Moment) (settled : Rests) → IsFrontier q f left came now next later settled → hash_map_len came ≤ room_of q
+pub few_known : (q : Question) (f : ℕ) (left : Option Moment) (came : Noted Cell) (now next later : List Moment) (settled : Rests) → IsFrontier q f left came now next later settled → hash_map_len came ≤ room_of q
 unfolding room_of
-few_known q map f left came now next later settled fr =
+few_known q f left came now next later settled fr =
     subst (λ n. n ≤ (q.grid.now.width * q.grid.now.height) * (q.horizon + 1)) (length-map came.entries _) (few q.grid.now.width q.grid.now.height (q.horizon + 1) (keys_of came.entries) fr.unique (All-keys_from_lookup same_moment_laws (IsInBox q.grid.now.width q.grid.now.height (q.horizon + 1)) came.entries in_box))
   where
     in_box : (m : Moment) → IsSome (look_up came m) → IsInBox q.grid.now.width q.grid.now.height (q.horizon + 1) m
@@ -100,7 +92,7 @@ few_known q map f left came now next later settled fr =
         known_in None e k = absurd (cc)
         known_in (Some from) e k =
             let s = fr.sound m from e in
-            let p = on_map q.grid.now m.cell map s.on_ground in
+            let p = on_map q.grid.now m.cell fr.measured.ready.map s.on_ground in
             record { x = p.0; y = p.1; time = let b = s.in_time in omega arith }
 
 -- the work that is left falls with each moment that is left

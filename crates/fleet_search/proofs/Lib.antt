@@ -6,6 +6,7 @@ pub mod FitCode
 pub mod Tables
 pub mod SearchSteps
 pub mod Pigeon
+pub mod Spread
 pub mod Count
 pub mod Optimal
 pub mod Trail

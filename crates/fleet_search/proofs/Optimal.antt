@@ -1,27 +1,28 @@
 -- No way arrives before the paths that the search is looking at.
-use Rattle.std.proofs.Common.{◌≡◌, ℕ, zero, suc, ◌+◌, ◌-◌, ◌<◌, ◌≤◌, IsTrue, List, Option, Some, None, ◌⊎◌, inl, inr, refl, sym, ap, ◌∙◌, subst, arith, add-one}
+use Rattle.std.proofs.Common.{◌≡◌, ℕ, zero, suc, ◌+◌, ◌-◌, ◌<◌, ◌≤◌, Bool, IsTrue, List, Option, Some, None, ◌⊎◌, inl, inr, refl, sym, ap, ◌∙◌, subst, arith, add-one}
 use Rattle.std.proofs.lemmas.Bool.{cases_lt}
 use Rattle.std.proofs.lemmas.Option.{none-some, same_Some}
 use Rattle.fleet_model.specs.declared.geometry.Cell.{Cell}
+use Rattle.fleet_model.specs.declared.geometry.Place.{Place}
 use Rattle.fleet_model.specs.Geometry.{place_of}
-use Rattle.fleet_plan.specs.Plan.{cell_at, AreNeighbours}
+use Rattle.fleet_plan.specs.Plan.{Plan, cell_at, AreNeighbours}
 use Rattle.fleet_search.specs.declared.moment.Moment.{Moment}
 use Rattle.fleet_search.specs.declared.frontier.Question.{Question}
 use Rattle.fleet_grid.specs.Ground.{is_passable}
 use Rattle.fleet_search.specs.Moment.{Noted}
 use Rattle.fleet_search.specs.Way.{arrival, StepFits, IsWay, IsEarliest, HasNoWay}
 use Rattle.fleet_search.specs.Reserved.{IsFree, IsFreeFrom, IsStillFrom, Rests}
-use Rattle.fleet_search.specs.Search.{distance, IsStep, least_arrival, IsEnd, IsKnown, IsCalmFrom, IsExpanded, IsDone, IsAmong, IsFrontier, IsAsked, IsTrail}
+use Rattle.fleet_search.specs.Search.{far_of, IsMeasured, IsStep, least_arrival, IsEnd, IsKnown, IsCalmFrom, IsExpanded, IsDone, IsAmong, IsFrontier, IsAsked, IsTrail}
 use Rattle.fleet_search.proofs.Steps.{each_step, from_each_step}
 use Rattle.fleet_search.proofs.Chase.{step_ok-alone, step_ok-same}
 use Rattle.fleet_search.proofs.Occupancy.{cell_at-late}
-use Rattle.fleet_search.proofs.SearchSteps.{near-beside, distance-none}
+use Rattle.fleet_search.proofs.SearchSteps.{near-beside}
 
 -- a way of what is asked
 abbrev pub IsWayOf : Question → List Cell → Type 0
 IsWayOf q path = IsWay (is_passable q.grid.now) q.reserved.now q.start q.goal path
 
-pub way-step : (q : Question) (path : List Cell) → IsWayOf q path → (t : ℕ) → IsStep q t (cell_at path t) (cell_at path (t + 1))
+way-step : (q : Question) (path : List Cell) → IsWayOf q path → (t : ℕ) → IsStep q t (cell_at path t) (cell_at path (t + 1))
 way-step q path w t = record {
   beside = w.successive t;
   on_ground = w.on_ground (t + 1);
@@ -29,32 +30,45 @@ way-step q path w t = record {
 }
 
 -- as many steps are left as the distance at least
-way-far : (q : Question) (path : List Cell) → IsWayOf q path → (k t : ℕ) → t + k ≡ arrival path → t + distance (cell_at path t) q.goal ≤ arrival path
-way-far q path w zero t e =
+way-far : (q : Question) → IsMeasured q → (path : List Cell) → IsWayOf q path → (k t : ℕ) → t + k ≡ arrival path → t + far_of q (cell_at path t) ≤ arrival path
+way-far q m path w zero t e =
     let there : cell_at path t ≡ q.goal = ap (cell_at path) (let z : t ≡ arrival path = omega arith in z) ∙ w.ends in
-    let none : distance (cell_at path t) q.goal ≡ 0 = ap (λ c. distance c q.goal) there ∙ distance-none q.goal in
+    let none : far_of q (cell_at path t) ≡ 0 = ap (far_of q) there ∙ m.at_goal in
     omega arith
-way-far q path w (suc k) t e =
-    let rest = way-far q path w k (t + 1) (omega arith) in
-    let n = near-beside (cell_at path t) (cell_at path (t + 1)) q.goal (way-step q path w t).beside in
+way-far q m path w (suc k) t e =
+    let rest = way-far q m path w k (t + 1) (omega arith) in
+    let n = near-beside q m (cell_at path t) (cell_at path (t + 1)) (w.on_ground t) (w.on_ground (t + 1)) (way-step q path w t).beside in
     let a = n.1 in
     omega arith
 
-pub way-bound : (q : Question) (path : List Cell) → IsWayOf q path → (t : ℕ) → t ≤ arrival path → t + distance (cell_at path t) q.goal ≤ arrival path
-way-bound q path w t h = way-far q path w (arrival path - t) t (omega arith)
+way-bound : (q : Question) → IsMeasured q → (path : List Cell) → IsWayOf q path → (t : ℕ) → t ≤ arrival path → t + far_of q (cell_at path t) ≤ arrival path
+way-bound q m path w t h = way-far q m path w (arrival path - t) t (omega arith)
 
-pub way-least : (q : Question) (path : List Cell) → IsWayOf q path → distance q.start q.goal ≤ arrival path
-way-least q path w = let h = way-bound q path w 0 (omega arith) in let e = ap (λ c. distance c q.goal) w.starts in omega arith
+way-least : (q : Question) → IsMeasured q → (path : List Cell) → IsWayOf q path → far_of q q.start ≤ arrival path
+way-least q m path w = let h = way-bound q m path w 0 (omega arith) in let e = ap (far_of q) w.starts in omega arith
+
+module _ (passable : Place → Bool) (reserved : Plan) (start goal : Cell) (path : List Cell) (w : IsWay passable reserved start goal path) where
+  way-free_at : (t : ℕ) → IsFree reserved t (cell_at path t)
+  way-free_at zero = (each_step reserved path w.fits).first
+  way-free_at (suc t) = rw (← add-one) (((each_step reserved path w.fits).steps t).vertex)
+
+  -- the goal is free from the arrival on
+  pub no-way-busy : IsFreeFrom reserved goal (arrival path)
+  no-way-busy u h j p e = way-free_at u j p (e ∙ sym w.ends ∙ sym (cell_at-late path u h))
+
+  -- nobody stands on the start
+  pub no-way-taken : IsFree reserved 0 start
+  no-way-taken j p e = way-free_at 0 j p (e ∙ sym w.starts)
 
 free-always : (q : Question) (path : List Cell) → IsWayOf q path → (t : ℕ) → IsFree q.reserved.now t (cell_at path t)
-free-always q path w zero = (each_step q.reserved.now path w.fits).first
-free-always q path w (suc t) = rw (← add-one) (((each_step q.reserved.now path w.fits).steps t).vertex)
+free-always q path w t = way-free_at (is_passable q.grid.now) q.reserved.now q.start q.goal path w t
 
-pub way-free : (q : Question) (path : List Cell) → IsWayOf q path → IsFreeFrom q.reserved.now q.goal (arrival path)
-way-free q path w u h j p e = free-always q path w u j p (e ∙ sym w.ends ∙ sym (cell_at-late path u h))
+way-free : (q : Question) (path : List Cell) → IsWayOf q path → IsFreeFrom q.reserved.now q.goal (arrival path)
+way-free q path w = no-way-busy (is_passable q.grid.now) q.reserved.now q.start q.goal path w
 
-pub way-free_start : (q : Question) (path : List Cell) → IsWayOf q path → IsFree q.reserved.now 0 q.start
-way-free_start q path w j p e = free-always q path w 0 j p (e ∙ sym w.starts)
+-- no way is shorter than the distance
+pub no-way-far : (q : Question) → IsMeasured q → (path : List Cell) → IsWayOf q path → (horizon : ℕ) → horizon < far_of q q.start → arrival path ≤ horizon → ⊥
+no-way-far q m path w horizon l h = let least = way-least q m path w in omega arith
 
 -- a cell that is free at a time from which on it is still is free from then on
 free-on : (q : Question) (c : Cell) (s t u : ℕ) → IsStillFrom q.reserved.now c s → s ≤ t → s ≤ u → IsFree q.reserved.now t c → IsFree q.reserved.now u c
@@ -67,15 +81,15 @@ module _ (q : Question) (f : ℕ) (left : Option Moment) (came : Noted Cell) (no
     free : (u : ℕ) → s ≤ u → u ≤ t → IsFree q.reserved.now u (cell_at path t)
 
   not-open : (t s : ℕ) → t ≤ arrival path → s ≤ t → (let m : Moment = record { time = s; cell = cell_at path t } in IsAmong now next later m) → ⊥
-  not-open t s h l (inl a) = let b = way-bound q path w t h in let e = (fr.now_open (record { time = s; cell = cell_at path t }) a).1 in omega arith
-  not-open t s h l (inr (inl a)) = let b = way-bound q path w t h in let e = (fr.next_open (record { time = s; cell = cell_at path t }) a).1 in omega arith
-  not-open t s h l (inr (inr a)) = let b = way-bound q path w t h in let e = (fr.later_open (record { time = s; cell = cell_at path t }) a).1 in omega arith
+  not-open t s h l (inl a) = let b = way-bound q fr.measured path w t h in let e = (fr.now_open (record { time = s; cell = cell_at path t }) a).1 in omega arith
+  not-open t s h l (inr (inl a)) = let b = way-bound q fr.measured path w t h in let e = (fr.next_open (record { time = s; cell = cell_at path t }) a).1 in omega arith
+  not-open t s h l (inr (inr a)) = let b = way-bound q fr.measured path w t h in let e = (fr.later_open (record { time = s; cell = cell_at path t }) a).1 in omega arith
 
   done-on : (t s : ℕ) → t ≤ arrival path → s ≤ t → IsKnown came (record { time = s; cell = cell_at path t }) → IsDone q came (record { time = s; cell = cell_at path t })
   done-on t s h l k = elim (fr.done (record { time = s; cell = cell_at path t }) k) [
     | inl a ↦ absurd (not-open t s h l a)
     | inr r ↦ elim r [
-      | inl x ↦ absurd (let b = way-bound q path w t h in let e = bound (record { time = s; cell = cell_at path t }) x in omega arith)
+      | inl x ↦ absurd (let b = way-bound q fr.measured path w t h in let e = bound (record { time = s; cell = cell_at path t }) x in omega arith)
       | inr e ↦ e
     ]
   ]
@@ -105,7 +119,7 @@ module _ (q : Question) (f : ℕ) (left : Option Moment) (came : Noted Cell) (no
       let free_d = λ (u : ℕ) (a : s ≤ u). free-on q d s (t + 1) u still (omega arith) a (free-always q path w (t + 1)) in
       let free_c = λ (u : ℕ) (a : s ≤ u). free-on q c s s u calm.here (omega arith) a (r.free s (omega arith) r.early) in
       let now_step : IsStep q s c d = record { beside = inr n; on_ground = step.on_ground; fits = step_ok-alone q.reserved.now s c d (free_d (s + 1) (omega arith)) (free_c (s + 1) (omega arith)) } in
-      let b = way-bound q path w (t + 1) h in
+      let b = way-bound q fr.measured path w (t + 1) h in
       left-by (t + 1) (s + 1) h (record { early = omega arith; free = λ u x y. free_d u (omega arith) }) (e.moves d n now_step (omega arith))
 
   -- or the agent waits, until it is time
@@ -113,13 +127,13 @@ module _ (q : Question) (f : ℕ) (left : Option Moment) (came : Noted Cell) (no
   move-on zero t s same h r e n =
       let z : s ≡ t = omega arith in
       let e' = subst (λ x. IsExpanded q came (record { time = x; cell = cell_at path t })) z e in
-      let b = way-bound q path w (t + 1) h in
+      let b = way-bound q fr.measured path w (t + 1) h in
       left-by (t + 1) (t + 1) h (record { early = omega arith; free = λ u x y. subst (λ v. IsFree q.reserved.now v (cell_at path (t + 1))) (let g : t + 1 ≡ u = omega arith in g) (free-always q path w (t + 1)) }) (e'.moves (cell_at path (t + 1)) n (way-step q path w t) (omega arith))
   move-on (suc k) t s same h r e n = elim (e.wait) [
     | inl calm ↦ move-early t s h r calm e n
     | inr waited ↦
         let c = cell_at path t in
-        let b = way-bound q path w t (omega arith) in
+        let b = way-bound q fr.measured path w t (omega arith) in
         let free_next = r.free (s + 1) (omega arith) (omega arith) in
         let step : IsStep q s c c = record { beside = inl refl; on_ground = w.on_ground t; fits = step_ok-same q.reserved.now s c c free_next refl } in
         let known = waited step (omega arith) in
@@ -223,7 +237,7 @@ found_earliest q f m came now next later settled path ask fr e end h tr = record
     time : arrival path ≡ f
     time =
         let l = tr.long in
-        let z : distance m.cell q.goal ≡ 0 = ap (λ c. distance c q.goal) end.0 ∙ distance-none q.goal in
+        let z : far_of q m.cell ≡ 0 = ap (far_of q) end.0 ∙ fr.measured.at_goal in
         omega arith
 
 -- where all times up to the horizon were looked at there is no way

@@ -18,28 +18,19 @@ use Rattle.fleet_search.specs.declared.frontier.Frontier.{Frontier}
 use Rattle.fleet_grid.specs.Ground.{is_passable}
 use Rattle.fleet_search.specs.Moment.{Noted, look_up, same_moment, Puts}
 use Rattle.fleet_search.specs.Reserved.{Rests, same_cell, IsStillFrom}
-use Rattle.fleet_search.specs.Search.{distance, AreBeside, IsStep, least_arrival, IsEnd, IsKnown, IsReachedFrom, IsSound, IsCalmFrom, HasWaited, IsExpanded, IsDone, AreOpen, IsAmong, IsFrontier, IsAsked, Grows}
+use Rattle.fleet_search.specs.Search.{far_of, IsMeasured, AreBeside, IsStep, least_arrival, IsEnd, IsKnown, IsReachedFrom, IsSound, IsCalmFrom, HasWaited, IsExpanded, IsDone, AreOpen, IsAmong, IsFrontier, IsAsked, Grows}
 use Rattle.fleet_plan.specs.Plan.{Plan}
 use Rattle.std.proofs.lemmas.Bool.{cases_Bool}
 use Rattle.fleet_search.proofs.Occupancy.{cells-equal}
+use Rattle.fleet_search.proofs.Spread.{back}
 use Rattle.fleet_search.proofs.Tables.{moment_cases, puts-here, puts-other}
 
 -- ---- distances
 
-pub near : (e : Dir) (c d g : Cell) → place_of d ≡ moved (place_of c) e → (distance d g ≤ distance c g + 1) × (distance c g ≤ distance d g + 1)
-unfolding distance
-near North c d g h = let x = ap (λ (p : Place). p.x) h in let y = ap (λ (p : Place). p.y) h in omega (arith, ints, x, y)
-near East c d g h = let x = ap (λ (p : Place). p.x) h in let y = ap (λ (p : Place). p.y) h in omega (arith, ints, x, y)
-near South c d g h = let x = ap (λ (p : Place). p.x) h in let y = ap (λ (p : Place). p.y) h in omega (arith, ints, x, y)
-near West c d g h = let x = ap (λ (p : Place). p.x) h in let y = ap (λ (p : Place). p.y) h in omega (arith, ints, x, y)
-
-pub near-beside : (c d g : Cell) → AreBeside c d → (distance d g ≤ distance c g + 1) × (distance c g ≤ distance d g + 1)
-near-beside c d g (inl e) = subst (λ z. (distance z g ≤ distance c g + 1) × (distance c g ≤ distance z g + 1)) e (let n = distance c g in omega arith, let n = distance c g in omega arith)
-near-beside c d g (inr w) = near w.0 c d g w.1
-
-pub distance-none : (c : Cell) → distance c c ≡ 0
-unfolding distance
-distance-none c = omega arith
+-- a step changes the distance by one at most
+pub near-beside : (q : Question) → IsMeasured q → (c d : Cell) → IsTrue (is_passable q.grid.now (place_of c)) → IsTrue (is_passable q.grid.now (place_of d)) → AreBeside c d → (far_of q d ≤ far_of q c + 1) × (far_of q c ≤ far_of q d + 1)
+near-beside q m c d hc hd (inl e) = subst (λ z. (far_of q z ≤ far_of q c + 1) × (far_of q c ≤ far_of q z + 1)) e (let n = far_of q c in omega arith, let n = far_of q c in omega arith)
+near-beside q m c d hc hd (inr w) = (m.near c d hc hd w, m.near d c hd hc (back c d w))
 
 -- ---- one more moment is noted
 
@@ -49,7 +40,7 @@ puts-cases old new m v x w p h = elim (moment_cases m x) [
   | inr ne ↦ inr (sym (p x ∙ ap (λ b. cond b (Some v) (look_up old x)) ne) ∙ h)
 ]
 
-module _ (q : Question) (f : ℕ) (l : Moment) (came : Noted Cell) (now next later : List Moment) (settled : Rests) (fr : IsFrontier q f (Some l) came now next later settled) (cell : Cell) (came' : Noted Cell) (none : look_up came (record { time = l.time + 1; cell = cell }) ≡ None) (p : Puts came came' (record { time = l.time + 1; cell = cell }) l.cell) (unique : IsUnique same_moment came') (known : IsKnown came l) (step : IsStep q l.time l.cell cell) (in_time : l.time + 1 + distance cell q.goal ≤ q.horizon) where
+module _ (q : Question) (f : ℕ) (l : Moment) (came : Noted Cell) (now next later : List Moment) (settled : Rests) (fr : IsFrontier q f (Some l) came now next later settled) (cell : Cell) (came' : Noted Cell) (none : look_up came (record { time = l.time + 1; cell = cell }) ≡ None) (p : Puts came came' (record { time = l.time + 1; cell = cell }) l.cell) (unique : IsUnique same_moment came') (known : IsKnown came l) (step : IsStep q l.time l.cell cell) (in_time : l.time + 1 + far_of q cell ≤ q.horizon) where
   stays : (x : Moment) → IsKnown came x → IsKnown came' x
   stays x k = (k.0, puts-other came came' (record { time = l.time + 1; cell = cell }) l.cell x p (λ e. none-some k.0 (sym none ∙ ap (look_up came) e ∙ k.1)) ∙ k.1)
 
@@ -88,7 +79,7 @@ module _ (q : Question) (f : ℕ) (l : Moment) (came : Noted Cell) (now next lat
   open-stays : (n : ℕ) (ms : List Moment) → AreOpen q came n ms → AreOpen q came' n ms
   open-stays n ms o m h = let w = o m h in (stays m w.0, w.1)
 
-  open-push : (n : ℕ) (ms : List Moment) → AreOpen q came n ms → l.time + 1 + distance cell q.goal ≡ n → AreOpen q came' n (ms ++ record { time = l.time + 1; cell = cell } ∷ [])
+  open-push : (n : ℕ) (ms : List Moment) → AreOpen q came n ms → l.time + 1 + far_of q cell ≡ n → AreOpen q came' n (ms ++ record { time = l.time + 1; cell = cell } ∷ [])
   open-push n ms o e m h = elim (Contains-push_cases ms (record { time = l.time + 1; cell = cell }) m h) [
     | inl old ↦ open-stays n ms o m old
     | inr s ↦ subst (λ z. IsKnown came' z × (least_arrival q z ≡ n)) s (found, e)
@@ -103,10 +94,11 @@ module _ (q : Question) (f : ℕ) (l : Moment) (came : Noted Cell) (now next lat
     ]
   ]
 
-  pub push-now : (now' : List Moment) → now' ≡ now ++ record { time = l.time + 1; cell = cell } ∷ [] → l.time + 1 + distance cell q.goal ≡ f → IsFrontier q f (Some l) came' now' next later settled
+  pub push-now : (now' : List Moment) → now' ≡ now ++ record { time = l.time + 1; cell = cell } ∷ [] → l.time + 1 + far_of q cell ≡ f → IsFrontier q f (Some l) came' now' next later settled
   push-now now' same e =
       let m : Moment = record { time = l.time + 1; cell = cell } in
       subst (λ z. IsFrontier q f (Some l) came' z next later settled) (sym same) (record {
+        measured = fr.measured;
         unique = unique;
         origin = stays (record { time = 0; cell = q.start }) fr.origin;
         sound = sound;
@@ -121,10 +113,11 @@ module _ (q : Question) (f : ℕ) (l : Moment) (came : Noted Cell) (now next lat
       keep x (inl h) = inl (Contains-append_left now (record { time = l.time + 1; cell = cell } ∷ []) x h)
       keep x (inr h) = inr h
 
-  pub push-next : (next' : List Moment) → next' ≡ next ++ record { time = l.time + 1; cell = cell } ∷ [] → l.time + 1 + distance cell q.goal ≡ f + 1 → IsFrontier q f (Some l) came' now next' later settled
+  pub push-next : (next' : List Moment) → next' ≡ next ++ record { time = l.time + 1; cell = cell } ∷ [] → l.time + 1 + far_of q cell ≡ f + 1 → IsFrontier q f (Some l) came' now next' later settled
   push-next next' same e =
       let m : Moment = record { time = l.time + 1; cell = cell } in
       subst (λ z. IsFrontier q f (Some l) came' now z later settled) (sym same) (record {
+        measured = fr.measured;
         unique = unique;
         origin = stays (record { time = 0; cell = q.start }) fr.origin;
         sound = sound;
@@ -140,10 +133,11 @@ module _ (q : Question) (f : ℕ) (l : Moment) (came : Noted Cell) (now next lat
       keep x (inr (inl h)) = inr (inl (Contains-append_left next (record { time = l.time + 1; cell = cell } ∷ []) x h))
       keep x (inr (inr h)) = inr (inr h)
 
-  pub push-later : (later' : List Moment) → later' ≡ later ++ record { time = l.time + 1; cell = cell } ∷ [] → l.time + 1 + distance cell q.goal ≡ f + 2 → IsFrontier q f (Some l) came' now next later' settled
+  pub push-later : (later' : List Moment) → later' ≡ later ++ record { time = l.time + 1; cell = cell } ∷ [] → l.time + 1 + far_of q cell ≡ f + 2 → IsFrontier q f (Some l) came' now next later' settled
   push-later later' same e =
       let m : Moment = record { time = l.time + 1; cell = cell } in
       subst (λ z. IsFrontier q f (Some l) came' now next z settled) (sym same) (record {
+        measured = fr.measured;
         unique = unique;
         origin = stays (record { time = 0; cell = q.start }) fr.origin;
         sound = sound;
@@ -160,8 +154,8 @@ module _ (q : Question) (f : ℕ) (l : Moment) (came : Noted Cell) (now next lat
       keep x (inr (inr h)) = inr (inr (Contains-append_left later (record { time = l.time + 1; cell = cell } ∷ []) x h))
 
   -- where the new moment stands, by the time at which a path over it arrives at the earliest
-  pub by_bound : least_arrival q l ≡ f → (l.time + 1 + distance cell q.goal ≡ f) ⊎ ((l.time + 1 + distance cell q.goal ≡ f + 1) ⊎ (l.time + 1 + distance cell q.goal ≡ f + 2))
-  by_bound e = let n = near-beside l.cell cell q.goal step.beside in sizes (distance l.cell q.goal) (distance cell q.goal) l.time n.0 n.1 e
+  pub by_bound : least_arrival q l ≡ f → (l.time + 1 + far_of q cell ≡ f) ⊎ ((l.time + 1 + far_of q cell ≡ f + 1) ⊎ (l.time + 1 + far_of q cell ≡ f + 2))
+  by_bound e = let n = near-beside q fr.measured l.cell cell (fr.sound l known.0 known.1).on_ground step.on_ground step.beside in sizes (far_of q l.cell) (far_of q cell) l.time n.0 n.1 e
     where
       sizes : (a b t : ℕ) → b ≤ a + 1 → a ≤ b + 1 → t + a ≡ f → (t + 1 + b ≡ f) ⊎ ((t + 1 + b ≡ f + 1) ⊎ (t + 1 + b ≡ f + 2))
       sizes a b t h k e = grind arith
@@ -177,7 +171,7 @@ third n f (inr (inr e)) a b = e
 
 -- ---- all that is reached from a moment is noted
 
-pub expanded : (q : Question) (came : Noted Cell) (l : Moment) → HasWaited q came l → ((dir : Dir) (c : Cell) → place_of c ≡ moved (place_of l.cell) dir → IsStep q l.time l.cell c → l.time + 1 + distance c q.goal ≤ q.horizon → IsKnown came (record { time = l.time + 1; cell = c })) → (IsEnd q l → ⊥) → IsExpanded q came l
+pub expanded : (q : Question) (came : Noted Cell) (l : Moment) → HasWaited q came l → ((dir : Dir) (c : Cell) → place_of c ≡ moved (place_of l.cell) dir → IsStep q l.time l.cell c → l.time + 1 + far_of q c ≤ q.horizon → IsKnown came (record { time = l.time + 1; cell = c })) → (IsEnd q l → ⊥) → IsExpanded q came l
 expanded q came l waited there not_end = record { moves = λ c w s h. there w.0 c w.1 s h; wait = waited; not_end = not_end }
 
 pub waited-stays : (q : Question) (came came' : Noted Cell) (l : Moment) → ((m : Moment) → IsKnown came m → IsKnown came' m) → HasWaited q came l → HasWaited q came' l
@@ -189,6 +183,7 @@ expanded_done q came l e = record { time = l.time; earlier = omega arith; expand
 
 pub left_done : (q : Question) (f : ℕ) (l : Moment) (came : Noted Cell) (now next later : List Moment) (settled : Rests) → IsFrontier q f (Some l) came now next later settled → IsDone q came l → IsFrontier q f None came now next later settled
 left_done q f l came now next later settled fr e = record {
+  measured = fr.measured;
   unique = fr.unique;
   origin = fr.origin;
   sound = fr.sound;
@@ -208,10 +203,10 @@ each_dir P n e s w East = e
 each_dir P n e s w South = s
 each_dir P n e s w West = w
 
-pub found_dir : (q : Question) (came : Noted Cell) (l : Moment) (beside : Cell) (dir : Dir) → place_of beside ≡ moved (place_of l.cell) dir → (IsStep q l.time l.cell beside → l.time + 1 + distance beside q.goal ≤ q.horizon → IsKnown came (record { time = l.time + 1; cell = beside })) → (c : Cell) → place_of c ≡ moved (place_of l.cell) dir → IsStep q l.time l.cell c → l.time + 1 + distance c q.goal ≤ q.horizon → IsKnown came (record { time = l.time + 1; cell = c })
+pub found_dir : (q : Question) (came : Noted Cell) (l : Moment) (beside : Cell) (dir : Dir) → place_of beside ≡ moved (place_of l.cell) dir → (IsStep q l.time l.cell beside → l.time + 1 + far_of q beside ≤ q.horizon → IsKnown came (record { time = l.time + 1; cell = beside })) → (c : Cell) → place_of c ≡ moved (place_of l.cell) dir → IsStep q l.time l.cell c → l.time + 1 + far_of q c ≤ q.horizon → IsKnown came (record { time = l.time + 1; cell = c })
 found_dir q came l beside dir e found c g s h =
     let same : beside ≡ c = place_of-injective beside c (e ∙ sym g) in
-    subst (λ z. IsKnown came (record { time = l.time + 1; cell = z })) same (found (subst (IsStep q l.time l.cell) (sym same) s) (subst (λ z. l.time + 1 + distance z q.goal ≤ q.horizon) (sym same) h))
+    subst (λ z. IsKnown came (record { time = l.time + 1; cell = z })) same (found (subst (IsStep q l.time l.cell) (sym same) s) (subst (λ z. l.time + 1 + far_of q z ≤ q.horizon) (sym same) h))
 
 pub Grows-then : (a b c : Frontier) → Grows a b → Grows b c → Grows a c
 Grows-then a b c g h = record {
@@ -222,12 +217,13 @@ Grows-then a b c g h = record {
 
 -- what is reached in one direction was noted
 abbrev pub Dir-found : Question → Noted Cell → Moment → Dir → Type 0
-Dir-found q came l dir = (c : Cell) → place_of c ≡ moved (place_of l.cell) dir → IsStep q l.time l.cell c → l.time + 1 + distance c q.goal ≤ q.horizon → IsKnown came (record { time = l.time + 1; cell = c })
+Dir-found q came l dir = (c : Cell) → place_of c ≡ moved (place_of l.cell) dir → IsStep q l.time l.cell c → l.time + 1 + far_of q c ≤ q.horizon → IsKnown came (record { time = l.time + 1; cell = c })
 
 -- the last moment is taken out
 pub popped : (q : Question) (f : ℕ) (came : Noted Cell) (now now' next later : List Moment) (settled : Rests) (m : Moment) → IsFrontier q f None came now next later settled → now ≡ now' ++ m ∷ [] → IsFrontier q f (Some m) came now' next later settled × (IsKnown came m × (least_arrival q m ≡ f))
 popped q f came now now' next later settled m fr e = (
   record {
+    measured = fr.measured;
     unique = fr.unique;
     origin = fr.origin;
     sound = fr.sound;
@@ -258,12 +254,13 @@ IsEmptyRests m = m.entries ≡ []
 empty-none : {V : Type 0} (map : Noted V) (m : Moment) → IsEmpty map → look_up map m ≡ None
 empty-none map m e = ap (lookup (same_moment m)) e
 
-pub opening : (q : Question) (empty came : Noted Cell) (none now next later : List Moment) (settled : Rests) → IsEmptyRests settled → IsAsked q → IsEmpty empty → Puts empty came (record { time = 0; cell = q.start }) q.start → IsUnique same_moment came → none ≡ [] → now ≡ none ++ record { time = 0; cell = q.start } ∷ [] → next ≡ [] → later ≡ [] → IsFrontier q (distance q.start q.goal) None came now next later settled
-opening q empty came none now next later settled bare ask e p unique a0 a1 b c = record {
+pub opening : (q : Question) (empty came : Noted Cell) (none now next later : List Moment) (settled : Rests) → IsEmptyRests settled → IsAsked q → far_of q q.start ≤ q.horizon → IsEmpty empty → Puts empty came (record { time = 0; cell = q.start }) q.start → IsUnique same_moment came → none ≡ [] → now ≡ none ++ record { time = 0; cell = q.start } ∷ [] → next ≡ [] → later ≡ [] → IsFrontier q (far_of q q.start) None came now next later settled
+opening q empty came none now next later settled bare ask near e p unique a0 a1 b c = record {
+  measured = ask.measured;
   unique = unique;
   origin = origin;
   sound = λ m from h. elim (puts-cases empty came (record { time = 0; cell = q.start }) q.start m from p h) [
-    | inl (s, g) ↦ subst (λ z. IsSound q came z from) s (record { reached = inl (refl, refl); in_time = (let b = ask.in_time in omega arith); on_ground = ask.on_ground })
+    | inl (s, g) ↦ subst (λ z. IsSound q came z from) s (record { reached = inl (refl, refl); in_time = (let b = near in omega arith); on_ground = ask.on_ground })
     | inr old ↦ absurd (none-some from (sym (empty-none empty m e) ∙ old))
   ];
   now_open = λ m h. only m (subst (λ z. Contains z m) a h);
@@ -282,14 +279,15 @@ opening q empty came none now next later settled bare ask e p unique a0 a1 b c =
     origin : IsKnown came (record { time = 0; cell = q.start })
     origin = (q.start, puts-here empty came (record { time = 0; cell = q.start }) q.start p)
 
-    only : (m : Moment) → (let first : Moment = record { time = 0; cell = q.start } in Contains (first ∷ []) m) → IsKnown came m × (least_arrival q m ≡ distance q.start q.goal)
-    only m (zero, l, s) = subst (λ z. IsKnown came z × (least_arrival q z ≡ distance q.start q.goal)) s (origin, (let n = distance q.start q.goal in omega arith))
+    only : (m : Moment) → (let first : Moment = record { time = 0; cell = q.start } in Contains (first ∷ []) m) → IsKnown came m × (least_arrival q m ≡ far_of q q.start)
+    only m (zero, l, s) = subst (λ z. IsKnown came z × (least_arrival q z ≡ far_of q q.start)) s (origin, (let n = far_of q q.start in omega arith))
     only m (suc k, l, s) = absurd (omega arith)
 
 -- turned to the paths that are longer by a step
 pub turned : (q : Question) (f : ℕ) (came came' : Noted Cell) (now next later now' next' later' : List Moment) (settled settled' : Rests) → IsFrontier q f None came now next later settled → settled' ≡ settled → now ≡ [] → came' ≡ came → now' ≡ next → next' ≡ later → later' ≡ [] → IsFrontier q (f + 1) None came' now' next' later' settled'
 turned q f came came' now next later now' next' later' settled settled' fr same e g a b c =
     subst (λ z. IsFrontier q (f + 1) None came' now' next' later' z) (sym same) (subst (λ z. IsFrontier q (f + 1) None z now' next' later' settled) (sym g) (subst (λ z. IsFrontier q (f + 1) None came z next' later' settled) (sym a) (subst (λ z. IsFrontier q (f + 1) None came next z later' settled) (sym b) (subst (λ z. IsFrontier q (f + 1) None came next later z settled) (sym c) (record {
+      measured = fr.measured;
       unique = fr.unique;
       origin = fr.origin;
       sound = fr.sound;
@@ -328,6 +326,7 @@ settled_done q f l came now next later settled t fr h le =
 
 pub settle : (q : Question) (f : ℕ) (l : Moment) (came : Noted Cell) (now next later : List Moment) (settled settled' : Rests) → IsFrontier q f None came now next later settled → IsExpanded q came l → IsCalmFrom q l.cell l.time → ((c : Cell) → get same_cell settled' c ≡ cond (same_cell l.cell c) (Some l.time) (get same_cell settled c)) → IsFrontier q f None came now next later settled'
 settle q f l came now next later settled settled' fr e calm p = record {
+  measured = fr.measured;
   unique = fr.unique;
   origin = fr.origin;
   sound = fr.sound;

@@ -7,14 +7,19 @@ use Rattle.fleet_plan.specs.Plan.{AreNeighbours, cell_at}
 use Rattle.fleet_search.specs.declared.moment.Moment.{Moment}
 use Rattle.fleet_search.specs.declared.frontier.Question.{Question}
 use Rattle.fleet_search.specs.declared.frontier.Frontier.{Frontier}
-use Rattle.fleet_grid.specs.Ground.{IsGround, is_passable}
+use Rattle.fleet_grid.specs.Ground.{is_passable}
 use Rattle.fleet_search.specs.Moment.{Noted, look_up, same_moment}
+use Rattle.fleet_search.specs.Distance.{far, AreDistances}
 use Rattle.fleet_search.specs.Way.{StepFits}
 use Rattle.fleet_search.specs.Reserved.{IsFree, IsFreeFrom, IsStillFrom, Rests, same_cell}
 
--- how many moves lead from one cell to the other where nothing is in the way
-unfoldable pub distance : Cell → Cell → ℕ
-distance a b = (a.x - b.x) + (b.x - a.x) + ((a.y - b.y) + (b.y - a.y))
+-- how many moves lead from the cell to the goal at least
+abbrev pub far_of : Question → Cell → ℕ
+far_of q c = far q.grid.now q.distances.now c
+
+-- the table of the question is right for its goal
+abbrev pub IsMeasured : Question → Type 0
+IsMeasured q = AreDistances q.grid.now q.distances.now q.goal
 
 abbrev pub AreBeside : Cell → Cell → Type 0
 AreBeside c d = (c ≡ d) ⊎ AreNeighbours c d
@@ -27,7 +32,7 @@ pub record IsStep (q : Question) (t : ℕ) (from to : Cell) : Type 0 where
 
 -- a path over the moment arrives at this time at the earliest
 abbrev pub least_arrival : Question → Moment → ℕ
-least_arrival q m = m.time + distance m.cell q.goal
+least_arrival q m = m.time + far_of q m.cell
 
 -- the agent may come to rest at the moment
 abbrev pub IsEnd : Question → Moment → Type 0
@@ -55,13 +60,13 @@ pub record IsCalmFrom (q : Question) (c : Cell) (s : ℕ) : Type 0 where
 
 -- all that is reached by a move from the moment, and not too late, was noted, and by waiting where that can be of use; it is no end
 pub record IsExpanded (q : Question) (came : Noted Cell) (m : Moment) : Type 0 where
-  pub moves : (c : Cell) → AreNeighbours m.cell c → IsStep q m.time m.cell c → m.time + 1 + distance c q.goal ≤ q.horizon → IsKnown came (record { time = m.time + 1; cell = c })
-  pub wait : IsCalmFrom q m.cell m.time ⊎ (IsStep q m.time m.cell m.cell → m.time + 1 + distance m.cell q.goal ≤ q.horizon → IsKnown came (record { time = m.time + 1; cell = m.cell }))
+  pub moves : (c : Cell) → AreNeighbours m.cell c → IsStep q m.time m.cell c → m.time + 1 + far_of q c ≤ q.horizon → IsKnown came (record { time = m.time + 1; cell = c })
+  pub wait : IsCalmFrom q m.cell m.time ⊎ (IsStep q m.time m.cell m.cell → m.time + 1 + far_of q m.cell ≤ q.horizon → IsKnown came (record { time = m.time + 1; cell = m.cell }))
   pub not_end : IsEnd q m → ⊥
 
 -- nothing changes any more, or waiting was noted
 abbrev pub HasWaited : Question → Noted Cell → Moment → Type 0
-HasWaited q came m = IsCalmFrom q m.cell m.time ⊎ (IsStep q m.time m.cell m.cell → m.time + 1 + distance m.cell q.goal ≤ q.horizon → IsKnown came (record { time = m.time + 1; cell = m.cell }))
+HasWaited q came m = IsCalmFrom q m.cell m.time ⊎ (IsStep q m.time m.cell m.cell → m.time + 1 + far_of q m.cell ≤ q.horizon → IsKnown came (record { time = m.time + 1; cell = m.cell }))
 
 -- all was noted that is reached from the moment, or from an earlier one on the same cell, when nothing changed any more
 pub record IsDone (q : Question) (came : Noted Cell) (m : Moment) : Type 0 where
@@ -80,6 +85,7 @@ IsAmong now next later m = Contains now m ⊎ (Contains next m ⊎ Contains late
 
 -- every moment that was reached is sound, and it is still to be left, or is just being left, or all that is reached from it was noted
 pub record IsFrontier (q : Question) (f : ℕ) (left : Option Moment) (came : Noted Cell) (now next later : List Moment) (settled : Rests) : Type 0 where
+  pub measured : IsMeasured q
   pub unique : IsUnique same_moment came
   pub origin : IsKnown came (record { time = 0; cell = q.start })
   pub sound : (m : Moment) (from : Cell) → look_up came m ≡ Some from → IsSound q came m from
@@ -105,10 +111,9 @@ pub record Grows (old new : Frontier) : Type 0 where
 
 -- the agent may stand on the start, the goal is not too far, and from `rest` on it is free
 pub record IsAsked (q : Question) : Type 0 where
-  pub map : IsGround q.grid.now
+  pub measured : IsMeasured q
   pub on_ground : IsTrue (is_passable q.grid.now (place_of q.start))
   pub free : IsFree q.reserved.now 0 q.start
-  pub in_time : distance q.start q.goal ≤ q.horizon
   pub horizon : q.horizon ≤ 65535
   pub rest : (t : ℕ) → IsFreeFrom q.reserved.now q.goal t ↔ (q.rest ≤ t)
 

@@ -2,11 +2,12 @@
 
 ghost use Rattle.std.specs.Prelude.{◌≡◌, ◌+◌, ◌<◌, ◌≤◌, IsTrue, IfOk, OnOk, Some, None, [], MatchOption, MatchResult, vec_len};
 ghost use Rattle.fleet_model.specs.Geometry.{place_of, moved};
-ghost use Rattle.fleet_grid.specs.Ground.{IsGround, is_passable};
+ghost use Rattle.fleet_grid.specs.Ground.{is_passable};
 ghost use Rattle.fleet_model.specs.declared.geometry.Cell.{Cell};
 ghost use Rattle.fleet_search.specs.Reserved.{IsStillFrom};
-ghost use Rattle.fleet_search.specs.Search.{IsCalmFrom, HasWaited, IsExpanded, distance, AreBeside, IsStep, IsKnown, IsEnd, IsLeft, FrontierIs, Grows, IsAsked, IsTrail};
+ghost use Rattle.fleet_search.specs.Search.{IsCalmFrom, HasWaited, IsExpanded, far_of, IsMeasured, AreBeside, IsStep, IsKnown, IsEnd, IsLeft, FrontierIs, Grows, IsAsked, IsTrail};
 
+use crate::distances::Distances;
 use crate::moment::{Moment, note, noted, same};
 use crate::reservations::Reservations;
 use fleet_grid::Grid;
@@ -21,6 +22,7 @@ use std::mem;
 pub struct Question<'a> {
     pub grid: &'a Grid,
     pub reserved: &'a Reservations,
+    pub distances: &'a Distances,
     pub start: Cell,
     pub goal: Cell,
     pub horizon: u32,
@@ -28,6 +30,16 @@ pub struct Question<'a> {
 }
 
 impl Question<'_> {
+    /// How many moves lead from the cell to the goal at least.
+    pub fn far(&self, cell: Cell) -> u32
+        requires measured { IsMeasured self.now }
+        requires cell { IsTrue (is_passable self.now.grid.now (place_of cell)) }
+        ensures value { result ≡ far_of self.now cell }
+        ensures limit { result ≤ 65536 }
+    {
+        self.distances.from(self.grid, cell)
+    }
+
     /// From when on the neighbour in one direction is still, or 0 where there is none.
     fn still_towards(&self, cell: Cell, dir: Dir) -> u32
         ensures { (d : Cell) → place_of d ≡ moved (place_of cell) dir → IsTrue (is_passable self.now.grid.now (place_of d)) → IsStillFrom self.now.reserved.now d result }
@@ -49,16 +61,6 @@ impl Question<'_> {
         let west = self.still_towards(cell, Dir::West);
         here.max(north).max(east).max(south).max(west)
     }
-}
-
-/// How many moves lead from one cell to the other where nothing is in the way.
-pub fn distance_of(a: Cell, b: Cell) -> u32
-    ensures value { result ≡ distance a b }
-    ensures limit { result ≤ 131070 }
-{
-    let across = if a.x < b.x { b.x - a.x } else { a.x - b.x };
-    let down = if a.y < b.y { b.y - a.y } else { a.y - b.y };
-    u32::from(across) + u32::from(down)
 }
 
 /// The moments that were reached, each with the cell from which it was. Those that are still to be left stand in
@@ -88,12 +90,12 @@ impl Frontier {
         requires beside { AreBeside left.cell cell }
         requires passable { IsTrue (is_passable question.now.grid.now (place_of cell)) }
         ensures frontier { OnOk result (FrontierIs question.now length (Some left) self.new) }
-        ensures found { OnOk result (IsStep question.now left.time left.cell cell → left.time + 1 + distance cell question.now.goal ≤ question.now.horizon → IsKnown self.new.came (record { time = left.time + 1; cell = cell })) }
+        ensures found { OnOk result (IsStep question.now left.time left.cell cell → left.time + 1 + far_of question.now cell ≤ question.now.horizon → IsKnown self.new.came (record { time = left.time + 1; cell = cell })) }
         ensures grows { OnOk result (Grows self.old self.new) }
         ensures left { OnOk result (IsLeft question.now length self.new left) }
     {
         let time = left.time + 1;
-        let total = time + distance_of(cell, question.goal);
+        let total = time + question.far(cell);
         if total > question.horizon {
             return Ok(());
         }
@@ -126,7 +128,7 @@ impl Frontier {
         requires frontier { FrontierIs question.now length (Some left) self.old }
         requires left { IsLeft question.now length self.old left }
         ensures frontier { OnOk result (FrontierIs question.now length (Some left) self.new) }
-        ensures found { OnOk result ((c : Cell) → place_of c ≡ moved (place_of left.cell) dir → IsStep question.now left.time left.cell c → left.time + 1 + distance c question.now.goal ≤ question.now.horizon → IsKnown self.new.came (record { time = left.time + 1; cell = c })) }
+        ensures found { OnOk result ((c : Cell) → place_of c ≡ moved (place_of left.cell) dir → IsStep question.now left.time left.cell c → left.time + 1 + far_of question.now c ≤ question.now.horizon → IsKnown self.new.came (record { time = left.time + 1; cell = c })) }
         ensures grows { OnOk result (Grows self.old self.new) }
         ensures left { OnOk result (IsLeft question.now length self.new left) }
     {
@@ -211,7 +213,6 @@ impl Frontier {
 
     /// Leaves each moment over which a path of this length may lead, until one of them is an end.
     pub fn sweep(&mut self, question: &Question, length: u32) -> Result<Option<Moment>, OutOfMemory>
-        requires map { IsGround question.now.grid.now }
         requires horizon { question.now.horizon ≤ 65535 }
         requires frontier { FrontierIs question.now length None self.old }
         ensures swept { IfOk result (λ end. MatchOption end (FrontierIs question.now length None self.new × (self.new.now.items ≡ [])) (λ m. FrontierIs question.now length (Some m) self.new × IsLeft question.now length self.new m × IsEnd question.now m)) }
@@ -271,8 +272,9 @@ impl Frontier {
 
 /// The start is reached, and nothing else.
 pub fn opened(alloc: Global, question: &Question) -> Result<Frontier, OutOfMemory>
-    requires { IsAsked question.now }
-    ensures { IfOk result (λ s. FrontierIs question.now (distance question.now.start question.now.goal) None s) }
+    requires asked { IsAsked question.now }
+    requires in_time { far_of question.now question.now.start ≤ question.now.horizon }
+    ensures { IfOk result (λ s. FrontierIs question.now (far_of question.now question.now.start) None s) }
 {
     let first = Moment {
         time: 0,

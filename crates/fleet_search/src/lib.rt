@@ -3,6 +3,7 @@
 //! The planner is prioritised (Silver 2005): each agent searches over cells and times, past the reserved paths.
 #![tactic(auto)]
 
+mod distances;
 mod earliest_path;
 mod fault;
 mod frontier;
@@ -14,7 +15,7 @@ mod reservations;
 pub use earliest_path::earliest;
 pub use fault::{PlanStop, SearchFault};
 pub use laws::{made_in_turn, planned_agent_by_agent, steps_decide};
-pub use planner::plan_in_turn;
+pub use planner::plan;
 pub use reservations::Reservations;
 
 #[cfg(test)]

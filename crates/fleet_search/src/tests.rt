@@ -2,7 +2,7 @@
 
 ghost use Rattle.std.specs.Prelude.{◌≤◌, length};
 
-use crate::{PlanStop, Reservations, SearchFault, earliest, plan_in_turn};
+use crate::{PlanStop, Reservations, SearchFault, earliest, plan};
 use fleet_grid::{Grid, read_map};
 use fleet_model::Cell;
 use fleet_plan::{Path, Plan};
@@ -60,17 +60,17 @@ fn stuck_agent(
 ) -> Option<PlanStop> {
     let grid = grid_of(rt, alloc, map);
     let instance = instance_of(rt, alloc, &grid, scen);
-    plan_in_turn(alloc, &grid, &instance, horizon).err()
+    plan(alloc, &grid, &instance, horizon).err()
 }
 
 #[test]
 fn the_base_is_planned(rt: HostRuntime) -> Result<(), Fail> {
     let grid = grid_of(&rt, rt.alloc(), BASE_MAP);
     let instance = instance_of(&rt, rt.alloc(), &grid, BASE);
-    let plan = plan_in_turn(rt.alloc(), &grid, &instance, 1024)?;
-    assert_eq!(rt; plan.agents(), 2);
-    assert_goes(&rt, &plan, 0, &[at(1, 0), at(2, 0), at(3, 0)]);
-    assert_goes(&rt, &plan, 1, &[at(0, 0), at(1, 0), at(2, 0)]);
+    let made = plan(rt.alloc(), &grid, &instance, 1024)?;
+    assert_eq!(rt; made.plan().agents(), 2);
+    assert_goes(&rt, made.plan(), 0, &[at(1, 0), at(2, 0), at(3, 0)]);
+    assert_goes(&rt, made.plan(), 1, &[at(0, 0), at(1, 0), at(2, 0)]);
     Ok(())
 }
 
@@ -107,10 +107,15 @@ fn one_waits_for_the_other_to_pass(rt: HostRuntime) -> Result<(), Fail> {
     );
     let scen = b"version 1\n0 m 3 2 0 0 2 0 2\n0 m 3 2 1 1 0 0 2\n";
     let instance = instance_of(&rt, rt.alloc(), &grid, scen);
-    let plan = plan_in_turn(rt.alloc(), &grid, &instance, 1024)?;
-    assert_eq!(rt; plan.agents(), 2);
-    assert_goes(&rt, &plan, 0, &[at(0, 0), at(1, 0), at(2, 0)]);
-    assert_goes(&rt, &plan, 1, &[at(1, 1), at(1, 1), at(1, 0), at(0, 0)]);
+    let made = plan(rt.alloc(), &grid, &instance, 1024)?;
+    assert_eq!(rt; made.plan().agents(), 2);
+    assert_goes(&rt, made.plan(), 0, &[at(0, 0), at(1, 0), at(2, 0)]);
+    assert_goes(
+        &rt,
+        made.plan(),
+        1,
+        &[at(1, 1), at(1, 1), at(1, 0), at(0, 0)],
+    );
     Ok(())
 }
 
@@ -199,16 +204,16 @@ fn a_train_moves_as_one(rt: HostRuntime) -> Result<(), Fail> {
     }
     let grid = grid_of(&rt, rt.alloc(), map.as_bytes());
     let instance = instance_of(&rt, rt.alloc(), &grid, scen.as_bytes());
-    let plan = plan_in_turn(rt.alloc(), &grid, &instance, 1024)?;
-    assert_eq!(rt; plan.agents(), 128);
-    assert_eq!(rt; plan.steps(), 128);
+    let made = plan(rt.alloc(), &grid, &instance, 1024)?;
+    assert_eq!(rt; made.plan().agents(), 128);
+    assert_eq!(rt; made.plan().steps(), 128);
     for k in 0..128u16 {
         for t in 0..129u16 {
-            assert!(rt; k < plan.agents());
-            assert_eq!(rt; plan.cell(k, u32::from(t)), at(127 - k + t, 0));
+            assert!(rt; k < made.plan().agents());
+            assert_eq!(rt; made.plan().cell(k, u32::from(t)), at(127 - k + t, 0));
         }
     }
-    let stuck = plan_in_turn(rt.alloc(), &grid, &instance, 127);
+    let stuck = plan(rt.alloc(), &grid, &instance, 127);
     assert_eq!(rt; stuck.err(), Some(PlanStop::NoPath { agent: 0 }));
     Ok(())
 }
@@ -224,9 +229,9 @@ fn many_agents(rt: HostRuntime) -> Result<(), Fail> {
     }
     let grid = grid_of(&rt, rt.alloc(), map.as_bytes());
     let instance = instance_of(&rt, rt.alloc(), &grid, scen.as_bytes());
-    let plan = plan_in_turn(rt.alloc(), &grid, &instance, 1)?;
-    assert_eq!(rt; plan.agents(), 1024);
-    assert_eq!(rt; plan.steps(), 1);
-    assert_goes(&rt, &plan, 1023, &[at(1023, 0), at(1023, 1)]);
+    let made = plan(rt.alloc(), &grid, &instance, 1)?;
+    assert_eq!(rt; made.plan().agents(), 1024);
+    assert_eq!(rt; made.plan().steps(), 1);
+    assert_goes(&rt, made.plan(), 1023, &[at(1023, 0), at(1023, 1)]);
     Ok(())
 }

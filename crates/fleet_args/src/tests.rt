@@ -21,7 +21,7 @@ fn rehearse<'a>(program: &'a str, holds: Option<&'a str>) -> Request<'a> {
 
 #[test]
 fn words_make_a_request(rt: HostRuntime) -> Result<(), Fail> {
-    let rows: [(&[&str], Request<'_>); 12] = [
+    let rows: [(&[&str], Request<'_>); 15] = [
         (&["rehearse", "p"], rehearse("p", None)),
         (&["rehearse", "p", "--holds", "h"], rehearse("p", Some("h"))),
         (&["rehearse", "--holds=-", "p"], rehearse("p", Some("-"))),
@@ -51,6 +51,34 @@ fn words_make_a_request(rt: HostRuntime) -> Result<(), Fail> {
         (
             &["instance", "m", "--agents", "004", "--", "-s"],
             instance("m", "-s", Some(4)),
+        ),
+        (
+            &["check", "m", "s", "p", "--agents", "3"],
+            Request::Check {
+                map: "m",
+                scen: "s",
+                plan: "p",
+                agents: Some(3),
+            },
+        ),
+        (
+            &["verify", "m", "s", "p"],
+            Request::Verify {
+                map: "m",
+                scen: "s",
+                program: "p",
+                agents: None,
+            },
+        ),
+        (
+            &["run", "m", "--holds", "h", "s", "p", "--agents=0"],
+            Request::Run {
+                map: "m",
+                scen: "s",
+                program: "p",
+                agents: Some(0),
+                holds: Some("h"),
+            },
         ),
     ];
     for (texts, expected) in rows {

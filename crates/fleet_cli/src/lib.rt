@@ -41,6 +41,8 @@ mod flush_tests;
 #[cfg(test)]
 mod memory_tests;
 #[cfg(test)]
+mod program_tests;
+#[cfg(test)]
 mod test_support;
 #[cfg(test)]
 mod tests;

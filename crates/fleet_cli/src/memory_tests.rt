@@ -1,6 +1,7 @@
 //! Commands where memory is refused. `rt try --test --fail-alloc N` refuses the N-th growth of each test.
 
 use super::*;
+use crate::program_tests::LATE_TRACE;
 use crate::test_support::{LATE_TEXT, PAIR_TEXT, base_files, status_of};
 use fleet_run::{TraceOut, VecOut};
 use std::alloc::Global;
@@ -42,11 +43,19 @@ fn only_memory_may_be_refused(rt: HostRuntime) {
     let instance = b"map 4 1\nground 4\nagents 2\n0: 1,0 3,0\n1: 0,0 2,0\n".as_slice();
     let write = b"run 4 Write\n".as_slice();
     let file = b"file -\n".as_slice();
-    let rows: [(&str, &[u8], &[u8], &[u8]); 5] = [
+    let accepted = b"accepted\nagents 2\nmoves 4\nawaits 2\nchain 3\n".as_slice();
+    let rows: [(&str, &[u8], &[u8], &[u8]); 7] = [
         ("", PAIR_TEXT, b"", write),
         ("rehearse pair --holds holds", LATE_TEXT, b"", write),
         ("rehearse base.map", b"", b"load 2 Magic\n", write),
         ("instance base.map base.scen", instance, b"", file),
+        ("verify base.map base.scen pair", accepted, b"", file),
+        (
+            "run base.map base.scen pair --holds holds",
+            LATE_TRACE,
+            b"",
+            write,
+        ),
         (
             "instance base.map base.scen --agents 3",
             b"",

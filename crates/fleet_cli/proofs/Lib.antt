@@ -4,3 +4,4 @@ pub mod InputLemmas
 pub mod HexRuns
 pub mod RehearsesLemmas
 pub mod InstanceLemmas
+pub mod CheckLemmas

@@ -1,6 +1,7 @@
 //! The command `check`.
 
-ghost use Rattle.std.specs.Prelude.{◌≡◌, false, List, ℕ, MatchResult};
+ghost use Rattle.std.specs.Prelude.{◌≡◌, false, List, ℕ, MatchResult, length, codes};
+ghost use Rattle.fleet_plan.specs.Plan.{steps};
 ghost use Rattle.fleet_run.specs.Sink.{TakesAll, Delivers};
 ghost use Rattle.fleet_cli.specs.CheckCommand.{free_line, count_line, check_text, PrintsCheck, IsCheckFault, AreCheckBytes, IsCheckRefusal, RunsCheck};
 
@@ -32,13 +33,27 @@ fn put_count<O: TraceOut>(out: &mut O, word: &'static str, number: u64) -> Resul
     put_line(out, &[Word::Text(word), Word::Number(number)])
 }
 
+fn put_agents<O: TraceOut>(out: &mut O, plan: &Plan) -> Result<(), OutFault>
+    requires { O.has_failed out.old ≡ false }
+    ensures { TakesAll (O.taken out.old) (O.taken out.new) (O.has_failed out.new) result (count_line (codes "agents") (length plan.now)) }
+{
+    put_count(out, "agents", plan.agents() as u64)
+}
+
+fn put_steps<O: TraceOut>(out: &mut O, plan: &Plan) -> Result<(), OutFault>
+    requires { O.has_failed out.old ≡ false }
+    ensures { TakesAll (O.taken out.old) (O.taken out.new) (O.has_failed out.new) result (count_line (codes "steps") (steps plan.now)) }
+{
+    put_count(out, "steps", plan.steps() as u64)
+}
+
 fn put_check<O: TraceOut>(out: &mut O, plan: &Plan) -> Result<(), OutFault>
     requires { O.has_failed out.old ≡ false }
     ensures { TakesAll (O.taken out.old) (O.taken out.new) (O.has_failed out.new) result (check_text plan.now) }
 {
     put_free(out)?;
-    put_count(out, "agents", plan.agents() as u64)?;
-    put_count(out, "steps", plan.steps() as u64)
+    put_agents(out, plan)?;
+    put_steps(out, plan)
 }
 
 /// Prints that the plan is free of conflict, and has the sink hand it on.

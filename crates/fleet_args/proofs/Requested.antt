@@ -16,11 +16,11 @@ use Rattle.clap.specs.declared.builder.value_parser.ValueParser.TheVariants as p
 use Rattle.clap.proofs.CallerReads.{signed_reads}
 use Rattle.clap.proofs.ValueTestLemmas.{accepts-Accepts}
 use Rattle.clap.proofs.WalkLemmas.{both}
-use Rattle.fleet_args.specs.CommandLine.{agents_rule, fleet, instance_shape, check_shape, verify_shape, run_shape, rehearse_shape, word}
-use Rattle.fleet_args.specs.Request.{answered_by, asked_by, instance_by, check_by, verify_by, run_by, rehearse_by, number_by, number_in}
+use Rattle.fleet_args.specs.CommandLine.{agents_rule, horizon_rule, fleet, instance_shape, check_shape, plan_shape, verify_shape, run_shape, rehearse_shape, word}
+use Rattle.fleet_args.specs.Request.{answered_by, asked_by, number_of, instance_by, check_by, plan_by, verify_by, run_by, rehearse_by, number_by, number_in}
 use Rattle.fleet_args.proofs.RequestLemmas.{digits_from, is_small, is_small_number}
 use Rattle.fleet_args.proofs.MatchedRows.{Among}
-use Rattle.fleet_args.proofs.MatchedValues.{HasValue, optional_value, required_value}
+use Rattle.fleet_args.proofs.MatchedValues.{HasValue, default_value, optional_value, required_value}
 use Rattle.fleet_args.proofs.EnteredCommand.{enters}
 
 -- ---- numbers
@@ -56,6 +56,13 @@ number_option a rows low high is fits value = elim value [
       let number = number_value a rows low high is fits has in
       (Some number.0, number.1)
 ]
+
+-- the number of an option with a default
+number_default : (a : Rule) (rows : List Row) (low high : ℕ) → a.parser ≡ Some (parser.Signed (pos low) (pos high)) → high < 2 ^ 16 → HasValue a rows
+    → (n : ℕ) × (number_of (number_by (one_of a.id rows)) ≡ Some n)
+number_default a rows low high is fits has =
+    let number = number_value a rows low high is fits has in
+    (number.0, ap number_of number.1)
 
 -- ---- the commands
 
@@ -97,6 +104,19 @@ check_answers words none =
     (optional_value (leaf check_shape) words none (at 4 agents_rule) refl refl) in
     check_asks (λ id. first_of id (rows_after (leaf check_shape).rules [] words)) (λ id. number_by (one_of id (rows_after (leaf check_shape).rules [] words)))
     map.text scen.text plan.text agents.0 map.first scen.first plan.first agents.1
+
+plan_asks : (first : Text → Option Text) (number : Text → Option (Option ℕ)) (map scen : Text) (agents : Option ℕ) (horizon : ℕ) → first (codes "map") ≡ Some map
+    → first (codes "scen") ≡ Some scen → number (codes "agents") ≡ Some agents → number_of (number (codes "horizon")) ≡ Some horizon → is_some (plan_by first number) ≡ true
+plan_asks first number map scen agents horizon h k l m = rw (h, k, l, m) refl
+
+plan_answers : (words : List Text) → Answers plan_shape words
+plan_answers words none =
+    let rows = rows_after (leaf plan_shape).rules [] words in
+    let map = required_value (leaf plan_shape) words none (at 1 (word (codes "map"))) refl refl refl refl in
+    let scen = required_value (leaf plan_shape) words none (at 2 (word (codes "scen"))) refl refl refl refl in
+    let agents = number_option (at 3 agents_rule) rows 0 65535 refl (omega arith) (optional_value (leaf plan_shape) words none (at 3 agents_rule) refl refl) in
+    let horizon = number_default (at 4 horizon_rule) rows 1 65535 refl (omega arith) (default_value (leaf plan_shape) words none (at 4 horizon_rule) refl refl refl) in
+    plan_asks (λ id. first_of id rows) (λ id. number_by (one_of id rows)) map.text scen.text agents.0 horizon.0 map.first scen.first agents.1 horizon.1
 
 verify_asks : (first : Text → Option Text) (number : Text → Option (Option ℕ)) (map scen program : Text) (agents : Option ℕ) → first (codes "map") ≡ Some map
     → first (codes "scen") ≡ Some scen → first (codes "program") ≡ Some program → number (codes "agents") ≡ Some agents → is_some (verify_by first number) ≡ true
@@ -143,14 +163,17 @@ answers_each s words among name named no_help = elim among [
   | inr second ↦ elim second [
     | inl same ↦ subst P (sym same) (check_answers words)
     | inr third ↦ elim third [
-      | inl same ↦ subst P (sym same) (verify_answers words)
+      | inl same ↦ subst P (sym same) (plan_answers words)
       | inr fourth ↦ elim fourth [
-        | inl same ↦ subst P (sym same) (run_answers words)
+        | inl same ↦ subst P (sym same) (verify_answers words)
         | inr fifth ↦ elim fifth [
-          | inl same ↦ subst P (sym same) (rehearse_answers words)
-          | inr last ↦ elim last [
-            | inl same ↦ λ none. absurd (true≢false (sym (helps (ap (λ x. answers_to name (label_of x)) (sym same) ∙ named)) ∙ no_help))
-            | inr nothing ↦ absurd nothing
+          | inl same ↦ subst P (sym same) (run_answers words)
+          | inr sixth ↦ elim sixth [
+            | inl same ↦ subst P (sym same) (rehearse_answers words)
+            | inr last ↦ elim last [
+              | inl same ↦ λ none. absurd (true≢false (sym (helps (ap (λ x. answers_to name (label_of x)) (sym same) ∙ named)) ∙ no_help))
+              | inr nothing ↦ absurd nothing
+            ]
           ]
         ]
       ]

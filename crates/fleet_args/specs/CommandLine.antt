@@ -18,6 +18,10 @@ option name = record (new_rule name) { long = Some name; value_names = 1 }
 abbrev pub agents_rule : Rule
 agents_rule = record (option (codes "agents")) { parser = Some (parser.Signed (pos 0) (pos 65535)) }
 
+-- `--horizon H`, where H is a number from 1 to 65535, and 1024 where it is not used
+abbrev pub horizon_rule : Rule
+horizon_rule = record (option (codes "horizon")) { parser = Some (parser.Signed (pos 1) (pos 65535)); defaults = codes "1024" ∷ [] }
+
 -- a command without subcommands, by its name and its arguments
 abbrev pub command : Text → List Rule → Shape
 command name rules = (fold with_rule (new_app name) rules).top
@@ -27,6 +31,9 @@ instance_shape = command (codes "instance") (word (codes "map") ∷ word (codes 
 
 abbrev pub check_shape : Shape
 check_shape = command (codes "check") (word (codes "map") ∷ word (codes "scen") ∷ word (codes "plan") ∷ agents_rule ∷ [])
+
+abbrev pub plan_shape : Shape
+plan_shape = command (codes "plan") (word (codes "map") ∷ word (codes "scen") ∷ agents_rule ∷ horizon_rule ∷ [])
 
 abbrev pub verify_shape : Shape
 verify_shape = command (codes "verify") (word (codes "map") ∷ word (codes "scen") ∷ word (codes "program") ∷ agents_rule ∷ [])
@@ -45,7 +52,7 @@ fleet_top = record (new_app (codes "fleet")) {
 
 -- the whole command line
 abbrev pub fleet : App
-fleet = fold with_subcommand fleet_top (instance_shape ∷ check_shape ∷ verify_shape ∷ run_shape ∷ rehearse_shape ∷ [])
+fleet = fold with_subcommand fleet_top (instance_shape ∷ check_shape ∷ plan_shape ∷ verify_shape ∷ run_shape ∷ rehearse_shape ∷ [])
 
 -- the argument has this rule, and does not reach into other commands
 abbrev pub IsArg : Rule → Arg → Type 0

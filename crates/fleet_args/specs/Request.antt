@@ -18,6 +18,7 @@ use Rattle.fleet_args.specs.declared.request.WordStop.TheVariants as stop
 pub data Asked : Type 0 where
   ask_instance : Text → Text → Option ℕ → Asked
   ask_check : Text → Text → Text → Option ℕ → Asked
+  ask_plan : Text → Text → Option ℕ → ℕ → Asked
   ask_verify : Text → Text → Text → Option ℕ → Asked
   ask_run : Text → Text → Text → Option ℕ → Option Text → Asked
   ask_rehearse : Text → Option Text → Asked
@@ -25,6 +26,7 @@ pub data Asked : Type 0 where
 abbrev pub asked_of : Request → Asked
 asked_of (r.Instance map scen agents) = ask_instance map.now scen.now agents
 asked_of (r.Check map scen plan agents) = ask_check map.now scen.now plan.now agents
+asked_of (r.Plan map scen agents horizon) = ask_plan map.now scen.now agents horizon
 asked_of (r.Verify map scen program agents) = ask_verify map.now scen.now program.now agents
 asked_of (r.Run map scen program agents holds) = ask_run map.now scen.now program.now agents (option_map (λ text. text.now) holds)
 asked_of (r.Rehearse program holds) = ask_rehearse program.now (option_map (λ text. text.now) holds)
@@ -42,6 +44,10 @@ number_by text = option_map_or (λ t. option_map Some (number_in t)) text (Some 
 abbrev pub number_found : Found → Text → Option (Option ℕ)
 number_found found id = number_by (one_text found id)
 
+-- the number of an option that has one in any case
+abbrev pub number_of : Option (Option ℕ) → Option ℕ
+number_of found = option_and_then (λ n. n) found
+
 -- each command, by the first text and by the number that its arguments have
 abbrev pub instance_by : (Text → Option Text) → (Text → Option (Option ℕ)) → Option Asked
 instance_by first number =
@@ -57,6 +63,14 @@ check_by first number =
     option_and_then (λ plan.
     option_map (λ agents. ask_check map scen plan agents)
     (number (codes "agents"))) (first (codes "plan"))) (first (codes "scen"))) (first (codes "map"))
+
+abbrev pub plan_by : (Text → Option Text) → (Text → Option (Option ℕ)) → Option Asked
+plan_by first number =
+    option_and_then (λ map.
+    option_and_then (λ scen.
+    option_and_then (λ agents.
+    option_map (λ horizon. ask_plan map scen agents horizon)
+    (number_of (number (codes "horizon")))) (number (codes "agents"))) (first (codes "scen"))) (first (codes "map"))
 
 abbrev pub verify_by : (Text → Option Text) → (Text → Option (Option ℕ)) → Option Asked
 verify_by first number =
@@ -82,9 +96,10 @@ abbrev pub asked_from : Text → (Text → Option Text) → (Text → Option (Op
 asked_from name first number =
     if bytes_eq name (codes "instance") then instance_by first number
     else (if bytes_eq name (codes "check") then check_by first number
+    else (if bytes_eq name (codes "plan") then plan_by first number
     else (if bytes_eq name (codes "verify") then verify_by first number
     else (if bytes_eq name (codes "run") then run_by first number
-    else (if bytes_eq name (codes "rehearse") then rehearse_by first else None))))
+    else (if bytes_eq name (codes "rehearse") then rehearse_by first else None)))))
 
 -- what a command and its matches ask
 abbrev pub asked_by : Option (Text × List Row) → Option Asked

@@ -2,7 +2,7 @@
 
 ghost use Rattle.std.specs.Prelude.{◌≡◌, ◌∷◌, [], IfOk, codes};
 ghost use Rattle.clap.specs.Words.{app_of};
-ghost use Rattle.fleet_args.specs.CommandLine.{IsArg, IsLeafCommand, word, option, agents_rule, command, instance_shape, check_shape, verify_shape, run_shape, rehearse_shape, fleet_top, fleet};
+ghost use Rattle.fleet_args.specs.CommandLine.{IsArg, IsLeafCommand, word, option, agents_rule, horizon_rule, command, instance_shape, check_shape, plan_shape, verify_shape, run_shape, rehearse_shape, fleet_top, fleet};
 
 use clap::{Arg, Command};
 use std::alloc::{AllocError, Global};
@@ -78,6 +78,19 @@ fn agents<'a>(alloc: Global) -> Arg<'a>
     .value_parser(clap::value_parser!(u16))
 }
 
+fn horizon<'a>(alloc: Global) -> Arg<'a>
+    ensures { IsArg horizon_rule result }
+{
+    option(
+        alloc,
+        "horizon",
+        "H",
+        "The latest time at which an agent may arrive, 1 to 65535",
+    )
+    .value_parser(clap::value_parser!(u16).range(1..))
+    .default_value("1024")
+}
+
 fn holds<'a>(alloc: Global) -> Arg<'a>
     ensures { IsArg (option (codes "holds")) result }
 {
@@ -120,6 +133,18 @@ fn check_command<'a>(alloc: Global) -> Result<Command<'a>, AllocError>
     )?
     .arg(plan(alloc))?
     .arg(agents(alloc))
+}
+
+fn plan_command<'a>(alloc: Global) -> Result<Command<'a>, AllocError>
+    ensures { IfOk result (IsLeafCommand plan_shape) }
+{
+    map_and_scen(
+        alloc,
+        "plan",
+        "Plans a path for each agent in turn, and prints the plan text",
+    )?
+    .arg(agents(alloc))?
+    .arg(horizon(alloc))
 }
 
 fn verify_command<'a>(alloc: Global) -> Result<Command<'a>, AllocError>
@@ -179,6 +204,7 @@ pub fn fleet_command<'a>(alloc: Global) -> Result<Command<'a>, AllocError>
     without_commands(alloc)?
         .subcommand(instance_command(alloc)?)?
         .subcommand(check_command(alloc)?)?
+        .subcommand(plan_command(alloc)?)?
         .subcommand(verify_command(alloc)?)?
         .subcommand(run_command(alloc)?)?
         .subcommand(rehearse_command(alloc)?)

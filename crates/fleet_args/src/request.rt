@@ -3,7 +3,7 @@
 ghost use Rattle.std.specs.Prelude.{◌≡◌, option_map, map, string_bytes};
 ghost use Rattle.clap.specs.Words.{found_of, first_value, subcommand_rows_of, kind_of};
 ghost use Rattle.fleet_args.specs.CommandLine.{fleet};
-ghost use Rattle.fleet_args.specs.Request.{asked_of, asked_by, asked_from, instance_by, check_by, verify_by, run_by, rehearse_by, number_found, IsStopOf, Reads};
+ghost use Rattle.fleet_args.specs.Request.{asked_of, asked_by, asked_from, instance_by, check_by, plan_by, verify_by, run_by, rehearse_by, number_found, IsStopOf, Reads};
 
 use crate::command_line::fleet_command;
 use clap::ArgMatches;
@@ -24,6 +24,12 @@ pub enum Request<'a> {
         scen: &'a str,
         plan: &'a str,
         agents: Option<u16>,
+    },
+    Plan {
+        map: &'a str,
+        scen: &'a str,
+        agents: Option<u16>,
+        horizon: u16,
     },
     Verify {
         map: &'a str,
@@ -88,6 +94,22 @@ fn check_in<'a>(rows: &ArgMatches<'a>) -> Option<Request<'a>>
     })
 }
 
+fn plan_in<'a>(rows: &ArgMatches<'a>) -> Option<Request<'a>>
+    ensures { option_map asked_of result
+        ≡ plan_by (first_value (found_of rows.now)) (number_found (found_of rows.now)) }
+{
+    let map = rows.get_str("map")?;
+    let scen = rows.get_str("scen")?;
+    let agents = number(rows, "agents")?;
+    let horizon = number(rows, "horizon")??;
+    Some(Request::Plan {
+        map,
+        scen,
+        agents,
+        horizon,
+    })
+}
+
 fn verify_in<'a>(rows: &ArgMatches<'a>) -> Option<Request<'a>>
     ensures { option_map asked_of result
         ≡ verify_by (first_value (found_of rows.now)) (number_found (found_of rows.now)) }
@@ -138,6 +160,7 @@ fn request_by<'a>(name: &str, rows: &ArgMatches<'a>) -> Option<Request<'a>>
     match name {
         "instance" => instance_in(rows),
         "check" => check_in(rows),
+        "plan" => plan_in(rows),
         "verify" => verify_in(rows),
         "run" => run_in(rows),
         "rehearse" => rehearse_in(rows),

@@ -21,7 +21,7 @@ fn rehearse<'a>(program: &'a str, holds: Option<&'a str>) -> Request<'a> {
 
 #[test]
 fn words_make_a_request(rt: HostRuntime) -> Result<(), Fail> {
-    let rows: [(&[&str], Request<'_>); 15] = [
+    let rows: [(&[&str], Request<'_>); 17] = [
         (&["rehearse", "p"], rehearse("p", None)),
         (&["rehearse", "p", "--holds", "h"], rehearse("p", Some("h"))),
         (&["rehearse", "--holds=-", "p"], rehearse("p", Some("-"))),
@@ -59,6 +59,24 @@ fn words_make_a_request(rt: HostRuntime) -> Result<(), Fail> {
                 scen: "s",
                 plan: "p",
                 agents: Some(3),
+            },
+        ),
+        (
+            &["plan", "m", "s"],
+            Request::Plan {
+                map: "m",
+                scen: "s",
+                agents: None,
+                horizon: 1024,
+            },
+        ),
+        (
+            &["plan", "m", "s", "--horizon", "65535", "--agents", "2"],
+            Request::Plan {
+                map: "m",
+                scen: "s",
+                agents: Some(2),
+                horizon: 65_535,
             },
         ),
         (

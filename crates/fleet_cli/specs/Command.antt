@@ -15,6 +15,7 @@ use Rattle.fleet_cli.specs.HexRun.{RunsHex}
 use Rattle.fleet_cli.specs.RehearseCommand.{RunsRehearse}
 use Rattle.fleet_cli.specs.InstanceCommand.{RunsInstance}
 use Rattle.fleet_cli.specs.CheckCommand.{RunsCheck}
+use Rattle.fleet_cli.specs.PlanCommand.{RunsPlan}
 use Rattle.fleet_cli.specs.VerifyCommand.{RunsVerify}
 use Rattle.fleet_cli.specs.DriveCommand.{RunsRun}
 use Rattle.fleet_cli.specs.declared.fault.Fault.TheVariants as f
@@ -23,6 +24,7 @@ use Rattle.fleet_cli.specs.declared.fault.Fault.TheVariants as f
 abbrev pub RunsRequest : Option Store → Request → Output → Output → ℕ → Type 0
 RunsRequest files (r.Instance map scen agents) out err status = RunsInstance files map.now scen.now agents out err status
 RunsRequest files (r.Check map scen plan agents) out err status = RunsCheck files map.now scen.now plan.now agents out err status
+RunsRequest files (r.Plan map scen agents horizon) out err status = RunsPlan files map.now scen.now agents horizon out err status
 RunsRequest files (r.Verify map scen program agents) out err status = RunsVerify files map.now scen.now program.now agents out err status
 RunsRequest files (r.Run map scen program agents holds) out err status =
     RunsRun files map.now scen.now program.now agents (option_map (λ n. n.now) holds) out err status

@@ -13,3 +13,4 @@ pub mod Problem
 pub mod VerifyCommand
 pub mod Driven
 pub mod DriveCommand
+pub mod PlanCommand

@@ -18,6 +18,8 @@ use Rattle.fleet_plan.specs.declared.plan_fault.Conflict.{Conflict}
 use Rattle.fleet_plan.specs.declared.plan_fault.Conflict.TheVariants.{Vertex, Swapping, Cycle}
 use Rattle.fleet_plan.specs.declared.plan_fault.PlanFault.{PlanFault}
 use Rattle.fleet_plan.specs.declared.plan_fault.PlanFault.TheVariants as p
+use Rattle.fleet_search.specs.declared.fault.PlanStop.{PlanStop}
+use Rattle.fleet_search.specs.declared.fault.PlanStop.TheVariants as q
 use Rattle.fleet_code.specs.declared.fault.HexFault.{HexFault}
 use Rattle.fleet_code.specs.declared.fault.HexFault.TheVariants as h
 use Rattle.fleet_code.specs.declared.fault.LoadFault.{LoadFault}
@@ -93,6 +95,10 @@ check_words (p.Goal agent) = named_at (codes "check") 4 (codes "Goal") (codes "a
 check_words (p.Step agent time) = named_by (codes "check") 5 (codes "Step") (codes "agent") agent (codes "time") time
 check_words (p.Conflict conflict) = conflict_words conflict
 
+abbrev pub search_words : PlanStop → List (List ℕ)
+search_words q.OutOfMemory = memory_words
+search_words (q.NoPath agent) = named_at (codes "search") 2 (codes "NoPath") (codes "agent") agent
+
 abbrev pub hex_words : HexFault → List (List ℕ)
 hex_words h.OutOfMemory = memory_words
 hex_words (h.Digit at) = named_at (codes "hex") 2 (codes "Digit") (codes "at") at
@@ -147,6 +153,7 @@ words_of (f.Map fault) = map_words fault
 words_of (f.Scen fault) = scen_words fault
 words_of (f.Text fault) = text_words fault
 words_of (f.Check fault) = check_words fault
+words_of (f.Search stop) = search_words stop
 words_of (f.Hex fault) = hex_words fault
 words_of (f.Load fault) = load_words fault
 words_of (f.Compile fault) = compile_words fault
@@ -169,6 +176,8 @@ status_of (f.Text t.OutOfMemory) = 3
 status_of (f.Text _) = 1
 status_of (f.Check p.OutOfMemory) = 3
 status_of (f.Check _) = 1
+status_of (f.Search q.OutOfMemory) = 3
+status_of (f.Search _) = 1
 status_of (f.Hex h.OutOfMemory) = 3
 status_of (f.Hex _) = 1
 status_of (f.Load l.OutOfMemory) = 3

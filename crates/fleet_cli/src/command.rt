@@ -10,6 +10,7 @@ use crate::files::Files;
 use crate::flush::deliver;
 use crate::hex_run::{refuse, run_hex};
 use crate::instance_command::run_instance;
+use crate::plan_command::run_plan;
 use crate::rehearse_command::run_rehearse;
 use crate::verify_command::run_verify;
 use fleet_args::{Request, WordStop, read_words};
@@ -42,6 +43,12 @@ pub fn run_request<F: Files, O: TraceOut, E: TraceOut>(
             plan,
             agents,
         } => run_check(alloc, map, scen, plan, agents, files, out, err),
+        Request::Plan {
+            map,
+            scen,
+            agents,
+            horizon,
+        } => run_plan(alloc, map, scen, agents, horizon, files, out, err),
         Request::Verify {
             map,
             scen,

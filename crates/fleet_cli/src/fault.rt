@@ -3,7 +3,7 @@
 ghost use Rattle.std.specs.Prelude.{◌≡◌, ◌<◌, ◌++◌, false, length, map};
 ghost use Rattle.fleet_run.specs.Sink.{TakesAll, Receives};
 ghost use Rattle.fleet_cli.specs.Words.{word_text, line_text, next_words};
-ghost use Rattle.fleet_cli.specs.Lines.{named, named_at, named_by, map_words, scen_words, text_words, pair_words, cycle_words, conflict_words, check_words, hex_words, load_words, compile_words, action_text, unordered_words, verify_words, run_words, line_of, status_of};
+ghost use Rattle.fleet_cli.specs.Lines.{named, named_at, named_by, map_words, scen_words, text_words, pair_words, cycle_words, conflict_words, check_words, search_words, hex_words, load_words, compile_words, action_text, unordered_words, verify_words, run_words, line_of, status_of};
 
 use crate::words::{Word, put_line, put_next_word, put_words};
 use fleet_adg::CompileFault;
@@ -13,6 +13,7 @@ use fleet_model::{ActionId, Cell, Visit};
 use fleet_plan::{Conflict, PlanFault, TextFault};
 use fleet_run::{OutFault, RunFault, TraceOut, put_all};
 use fleet_scen::ScenFault;
+use fleet_search::PlanStop;
 use fleet_verify::VerifyFault;
 
 /// Every refusal of the program but usage and help. `File` names the file that cannot be read or written, and is `-` for the
@@ -23,6 +24,7 @@ pub enum Fault<'a> {
     Scen(ScenFault),
     Text(TextFault),
     Check(PlanFault),
+    Search(PlanStop),
     Hex(HexFault),
     Load(LoadFault),
     Compile(CompileFault),
@@ -313,6 +315,19 @@ fn put_run<O: TraceOut>(out: &mut O, fault: RunFault) -> Result<(), OutFault>
     }
 }
 
+fn put_search<O: TraceOut>(out: &mut O, stop: PlanStop) -> Result<(), OutFault>
+    requires { O.has_failed out.old ≡ false }
+    ensures { TakesAll (O.taken out.old) (O.taken out.new) (O.has_failed out.new) result
+        (line_text (search_words stop)) }
+{
+    match stop {
+        PlanStop::OutOfMemory => put_memory(out),
+        PlanStop::NoPath { agent } => {
+            put_named_at(out, "search", 2, "NoPath", "agent", agent as u64)
+        }
+    }
+}
+
 fn put_compile<O: TraceOut>(out: &mut O, fault: CompileFault) -> Result<(), OutFault>
     requires { O.has_failed out.old ≡ false }
     ensures { TakesAll (O.taken out.old) (O.taken out.new) (O.has_failed out.new) result
@@ -428,6 +443,7 @@ impl Fault<'_> {
             Fault::Scen(ScenFault::OutOfMemory) => 3,
             Fault::Text(TextFault::OutOfMemory) => 3,
             Fault::Check(PlanFault::OutOfMemory) => 3,
+            Fault::Search(PlanStop::OutOfMemory) => 3,
             Fault::Hex(HexFault::OutOfMemory) => 3,
             Fault::Load(LoadFault::OutOfMemory) => 3,
             Fault::Compile(CompileFault::OutOfMemory) => 3,
@@ -436,7 +452,7 @@ impl Fault<'_> {
             Fault::Memory | Fault::File(_) => 3,
             Fault::Map(_) | Fault::Scen(_) | Fault::Text(_) | Fault::Check(_) => 1,
             Fault::Hex(_) | Fault::Load(_) | Fault::Compile(_) | Fault::Verify(_) => 1,
-            Fault::Run(_) => 1,
+            Fault::Search(_) | Fault::Run(_) => 1,
         }
     }
 
@@ -449,6 +465,7 @@ impl Fault<'_> {
             Fault::Scen(fault) => put_scen(out, *fault),
             Fault::Text(fault) => put_text(out, *fault),
             Fault::Check(fault) => put_check(out, *fault),
+            Fault::Search(stop) => put_search(out, *stop),
             Fault::Hex(fault) => put_hex(out, *fault),
             Fault::Load(fault) => put_load(out, *fault),
             Fault::Compile(fault) => put_compile(out, *fault),

@@ -12,6 +12,7 @@ mod hex_run;
 mod input;
 mod instance_command;
 mod mem_files;
+mod plan_command;
 mod problem;
 mod rehearse_command;
 mod verify_command;
@@ -27,6 +28,7 @@ pub use hex_run::run_hex;
 pub use input::{FileFault, MOST_BYTES, read_whole};
 pub use instance_command::run_instance;
 pub use mem_files::MemFiles;
+pub use plan_command::run_plan;
 pub use rehearse_command::run_rehearse;
 pub use verify_command::run_verify;
 
@@ -40,6 +42,8 @@ mod file_tests;
 mod flush_tests;
 #[cfg(test)]
 mod memory_tests;
+#[cfg(test)]
+mod plan_tests;
 #[cfg(test)]
 mod program_tests;
 #[cfg(test)]

@@ -44,11 +44,17 @@ fn only_memory_may_be_refused(rt: HostRuntime) {
     let write = b"run 4 Write\n".as_slice();
     let file = b"file -\n".as_slice();
     let accepted = b"accepted\nagents 2\nmoves 4\nawaits 2\nchain 3\n".as_slice();
-    let rows: [(&str, &[u8], &[u8], &[u8]); 7] = [
+    let rows: [(&str, &[u8], &[u8], &[u8]); 8] = [
         ("", PAIR_TEXT, b"", write),
         ("rehearse pair --holds holds", LATE_TEXT, b"", write),
         ("rehearse base.map", b"", b"load 2 Magic\n", write),
         ("instance base.map base.scen", instance, b"", file),
+        (
+            "plan base.map base.scen",
+            b"1,0 2,0 3,0\n0,0 1,0 2,0\n",
+            b"",
+            file,
+        ),
         ("verify base.map base.scen pair", accepted, b"", file),
         (
             "run base.map base.scen pair --holds holds",

@@ -93,14 +93,8 @@ fn programs_are_accepted(rt: HostRuntime) -> Result<(), Fail> {
 #[test]
 fn first_faults_of_programs_are_told(rt: HostRuntime) -> Result<(), Fail> {
     let rows: [(&[u8], &[u8]); 7] = [
-        (
-            SOON,
-            b"verify 8 Unordered cell 1,0 first 0:0 second 1:1\n",
-        ),
-        (
-            EARLY,
-            b"verify 8 Unordered cell 2,0 first 0:1 second 1:2\n",
-        ),
+        (SOON, b"verify 8 Unordered cell 1,0 first 0:0 second 1:1\n"),
+        (EARLY, b"verify 8 Unordered cell 2,0 first 0:1 second 1:2\n"),
         (DEADLOCK, b"verify 7 Cyclic 0:1 1:1\n"),
         (BEYOND, b"verify 6 AwaitRange agent 1 action 2\n"),
         (BACK, b"verify 4 Goal agent 0\n"),
@@ -113,7 +107,7 @@ fn first_faults_of_programs_are_told(rt: HostRuntime) -> Result<(), Fail> {
     let line = "verify square.map relay.scen program";
     let told = b"verify 8 Unordered cell 1,0 first 0:0 second 2:1\n".as_slice();
     expect_program(&rt, rt.alloc(), line, (RELAY, b""), b"", told, 1)?;
-    let told = b"verify 3 Start agent 0\n".as_slice();
+    let told = b"verify 3 Start agent 1\n".as_slice();
     let line = "verify square.map relay.scen program --agents 2";
     expect_program(&rt, rt.alloc(), line, (DEADLOCK, b""), b"", told, 1)
 }
@@ -152,7 +146,23 @@ fn runs_are_refused(rt: HostRuntime) -> Result<(), Fail> {
     let told = b"verify 7 Cyclic 0:1 1:1\n".as_slice();
     expect_program(&rt, rt.alloc(), RUN, (DEADLOCK, b""), b"", told, 1)?;
     let line = "run base.map base.scen program --holds none";
-    expect_program(&rt, rt.alloc(), line, (DEADLOCK, b""), b"", b"file none\n", 3)?;
+    expect_program(
+        &rt,
+        rt.alloc(),
+        line,
+        (DEADLOCK, b""),
+        b"",
+        b"file none\n",
+        3,
+    )?;
     let line = "run base.map base.scen base.map --holds holds";
-    expect_program(&rt, rt.alloc(), line, (PAIR, b""), b"", b"load 2 Magic\n", 1)
+    expect_program(
+        &rt,
+        rt.alloc(),
+        line,
+        (PAIR, b""),
+        b"",
+        b"load 2 Magic\n",
+        1,
+    )
 }

@@ -14,3 +14,6 @@ returns-in-Verify g c = rw c.in-Verify.is c.run_verify.ensures
 
 pub returns-in-Run : goal.returns-in-Run
 returns-in-Run g c = rw c.in-Run.is c.run_run.ensures
+
+pub returns-in-Plan : goal.returns-in-Plan
+returns-in-Plan g c = rw c.in-Plan.is c.run_plan.ensures

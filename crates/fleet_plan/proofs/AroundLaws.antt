@@ -1,8 +1,8 @@
 -- A walk once round a ring.
-use Rattle.std.proofs.Common.{◌≡◌, ◌≢◌, ℕ, zero, suc, ◌+◌, ◌-◌, ◌<◌, ◌≤◌, List, [], ◌∷◌, ◌++◌, length, get_or, Option, Some, None, ◌⊎◌, inl, inr, refl, sym, ap, ◌∙◌, subst, arith}
+use Rattle.std.proofs.Common.{◌≡◌, ◌≢◌, ℕ, ◌+◌, ◌≤◌, List, [], ◌∷◌, ◌++◌, length, Option, Some, ◌⊎◌, inl, inr, refl, sym, ◌∙◌, subst, arith}
 use Rattle.std.specs.List.{AllByRecursion}
 use Rattle.fleet_plan.specs.Rings.{AreAgents, ahead_of, Leads, Reaches, IsOnRing}
-use Rattle.fleet_plan.proofs.RingLaws.{some_is, leads-append, reaches-on, reaches-next, reaches-itself, ring-reaches, short_way, all_round}
+use Rattle.fleet_plan.proofs.RingLaws.{some_is, leads-append, reaches-itself, short_way, all_round}
 
 -- after so many steps ahead from the first agent, of which least is the least so far
 pub record IsAround (ahead : List (Option ℕ)) (first agent least steps : ℕ) : Type 0 where

@@ -1,9 +1,7 @@
 -- Whether a plan has a fault, and which one is the first, is decided: by search among finitely many agents and times.
-use Rattle.std.proofs.Common.{◌≡◌, ◌≢◌, ℕ, zero, suc, ◌+◌, ◌-◌, ◌*◌, ◌<◌, ◌≤◌, min, Bool, true, false, IsTrue, List, [], ◌∷◌, length, get_or, map, slice_index, slice_get, All, Option, Some, None, ◌⊎◌, inl, inr, refl, sym, ap, ◌∙◌, subst, arith}
+use Rattle.std.proofs.Common.{◌≡◌, ◌≢◌, ℕ, zero, suc, ◌+◌, ◌-◌, ◌<◌, ◌≤◌, min, Bool, List, [], ◌∷◌, length, get_or, map, slice_index, slice_get, Option, Some, None, ◌⊎◌, inl, inr, refl, sym, ap, ◌∙◌, subst, arith}
 use Rattle.std.specs.Int.{abs_diff}
 use Rattle.std.proofs.lemmas.Bool.{cases_eq, cases_lt, cases_Bool}
-use Rattle.std.proofs.lemmas.List.{get_or_default}
-use Rattle.std.proofs.lemmas.Option.{slice_get-get_or}
 use Rattle.fleet_model.specs.declared.geometry.Cell.{Cell}
 use Rattle.fleet_model.specs.declared.geometry.Place.{Place}
 use Rattle.fleet_model.specs.declared.task.Task.{Task}
@@ -14,10 +12,10 @@ use Rattle.fleet_plan.specs.declared.plan_fault.Conflict.{Conflict}
 use Rattle.fleet_plan.specs.declared.plan_fault.Conflict.TheVariants.{Vertex, Swapping, Cycle}
 use Rattle.fleet_plan.specs.declared.plan_fault.PlanFault.{PlanFault}
 use Rattle.fleet_plan.specs.declared.plan_fault.PlanFault.TheVariants as fault
-use Rattle.fleet_plan.specs.Plan.{Plan, Path, cell_at, cell_of, last_cell, steps, IsPath, IsWithinLimits, IsConflictFree, AreNeighbours}
+use Rattle.fleet_plan.specs.Plan.{Plan, Path, cell_at, cell_of, last_cell, steps, IsPath, IsWithinLimits, IsConflictFree}
 use Rattle.fleet_plan.specs.FirstFault.{AllAgents, IsFirstAgent, StartsRight, EndsRight, IsRightAt, GoesOver, GoesRight, IsFirstTime, IsFirstStep, path_of, HasConflict, HasNoConflict, HasEnds, time_of, IsFirstConflict, IsFirstPlanFault}
-use Rattle.fleet_plan.specs.Rings.{ahead_of, Leads, Reaches, IsOnRing, IsLeastOnRing}
-use Rattle.fleet_plan.specs.Sweep.{IsOnMap, ArePlaces, Meet, IsFirstMeeting, IsAhead, AreAhead, Exchange, IsFirstExchange, HasNoMeeting, HasNoExchange, IsFirstIn, IsFreeIn}
+use Rattle.fleet_plan.specs.Rings.{ahead_of, Leads, IsOnRing, IsLeastOnRing}
+use Rattle.fleet_plan.specs.Sweep.{IsOnMap, ArePlaces, Meet, IsFirstMeeting, IsAhead, AreAhead, Exchange, IsFirstExchange, HasNoMeeting, IsFirstIn, IsFreeIn}
 use Rattle.fleet_plan.proofs.PathLaws.{beside_if, beside_only, right_at, not_on_ground, not_beside, right_all}
 use Rattle.fleet_plan.proofs.RingLaws.{some_is, none_is_not, ahead_within, short_way}
 use Rattle.fleet_plan.proofs.MeetLaws.{ahead_agents}

@@ -1,11 +1,11 @@
 -- Agents entered one after another in their places, and who is ahead of whom.
-use Rattle.std.proofs.Common.{◌≡◌, ◌≢◌, ℕ, zero, suc, ◌+◌, ◌-◌, ◌<◌, ◌≤◌, List, length, get_or, set, slice_index, Option, Some, None, IfSome, IfNone, ◌⊎◌, inl, inr, refl, sym, ap, ◌∙◌, subst, arith}
+use Rattle.std.proofs.Common.{◌≡◌, ◌≢◌, ℕ, ◌+◌, ◌<◌, ◌≤◌, List, length, set, slice_index, Option, Some, None, IfSome, IfNone, ◌⊎◌, inl, inr, sym, ap, ◌∙◌, subst, arith}
 use Rattle.std.proofs.lemmas.Bool.{cases_eq, cases_lt}
 use Rattle.std.proofs.lemmas.List.{get_or-set_same, get_or-set_other}
 use Rattle.fleet_plan.specs.FirstFault.{IsPairUpTo}
-use Rattle.fleet_plan.specs.Rings.{AreAgents, ahead_of}
-use Rattle.fleet_plan.specs.Sweep.{Meet, IsFirstMeeting, IsEntered, IsAhead, AreAhead, Exchange, HasNoMeeting}
-use Rattle.fleet_plan.proofs.RingLaws.{some_is, none_is_not, ahead_within}
+use Rattle.fleet_plan.specs.Rings.{AreAgents}
+use Rattle.fleet_plan.specs.Sweep.{IsFirstMeeting, IsEntered, IsAhead, AreAhead, Exchange, HasNoMeeting}
+use Rattle.fleet_plan.proofs.RingLaws.{ahead_within}
 
 -- the least agent in the place of agent k
 pub record IsOwner (places : List ℕ) (f k : ℕ) : Type 0 where

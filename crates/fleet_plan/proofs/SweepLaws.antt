@@ -1,22 +1,21 @@
 -- What the places of agents at two times say of the conflicts of their plan.
-use Rattle.std.proofs.Common.{◌≡◌, ◌≢◌, ℕ, zero, suc, ◌+◌, ◌-◌, ◌*◌, ◌<◌, ◌≤◌, max, Bool, true, false, IsTrue, List, [], ◌∷◌, length, get_or, slice_index, All, Contains, Option, Some, None, is_some, IfSome, IfNone, ◌⊎◌, inl, inr, refl, sym, ap, ◌∙◌, subst, arith, ◌==◌}
+use Rattle.std.proofs.Common.{◌≡◌, ◌≢◌, ℕ, zero, suc, ◌+◌, ◌*◌, ◌<◌, ◌≤◌, Bool, true, false, IsTrue, List, [], ◌∷◌, length, get_or, slice_index, All, Option, Some, None, is_some, IfSome, IfNone, inl, inr, refl, sym, ap, ◌∙◌, subst, arith, ◌==◌}
 use Rattle.std.specs.List.{IsDistinct}
 use Rattle.std.proofs.lemmas.Bool.{cases_eq, cases_lt, cases_order}
 use Rattle.std.proofs.lemmas.List.{get_or_past, get_or_default}
 use Rattle.std.proofs.lemmas.Nat.{mul-add-lt}
 use Rattle.fleet_model.specs.declared.geometry.Cell.{Cell}
-use Rattle.fleet_model.specs.declared.geometry.Place.{Place}
 use Rattle.fleet_model.specs.Geometry.{place_of}
-use Rattle.fleet_model.specs.Conflict.{HasVertexConflict, HasSwappingConflict, HasCycleConflict, after_in}
+use Rattle.fleet_model.specs.Conflict.{after_in}
 use Rattle.fleet_model.proofs.Places.{place_of-injective}
 use Rattle.fleet_grid.specs.Ground.{Ground, IsGround, is_passable, cell_index, cell_at as ground_at}
 use Rattle.fleet_plan.specs.declared.plan_fault.Conflict.{Conflict}
 use Rattle.fleet_plan.specs.declared.plan_fault.Conflict.TheVariants.{Vertex, Swapping, Cycle}
-use Rattle.fleet_plan.specs.Plan.{Plan, Path, cell_at, cell_of, planned, steps, IsPath}
-use Rattle.fleet_plan.specs.FirstFault.{AllAgents, GoesRight, path_of, IsCycle, HasConflict, HasNoConflict, time_of, IsKindUpTo, IsUpTo, IsFirstConflict}
+use Rattle.fleet_plan.specs.Plan.{Plan, cell_of, planned, steps, IsPath}
+use Rattle.fleet_plan.specs.FirstFault.{AllAgents, GoesRight, path_of, HasConflict, HasNoConflict, time_of, IsKindUpTo, IsUpTo, IsFirstConflict}
 use Rattle.fleet_plan.specs.Rings.{AreAgents, ahead_of, Leads, IsOnRing, IsLeastOnRing}
 use Rattle.fleet_plan.specs.Sweep.{IsOnMap, ArePlaces, Meet, IsFirstMeeting, IsAhead, AreAhead, Exchange, IsFirstExchange, HasNoMeeting, HasNoExchange, IsFirstIn, IsFreeIn}
-use Rattle.fleet_plan.proofs.RingLaws.{some_is, none_is_not, shortened, leads-below, each_ahead, each_reached, ends_with, each_on_ring, ring-reaches}
+use Rattle.fleet_plan.proofs.RingLaws.{some_is, none_is_not, shortened, each_ahead, each_reached, ends_with, each_on_ring, ring-reaches}
 use Rattle.fleet_plan.proofs.PathLaws.{at_past}
 use Rattle.fleet_plan.proofs.MeetLaws.{ahead_agents}
 

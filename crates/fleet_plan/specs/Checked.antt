@@ -1,8 +1,7 @@
 -- What a checked plan keeps.
 use Rattle.std.specs.Prelude.{List}
 use Rattle.fleet_model.specs.declared.task.Task.{Task}
-use Rattle.fleet_grid.specs.Ground.{Ground, IsGround, is_passable}
-use Rattle.fleet_scen.specs.Instance.{IsInstance}
+use Rattle.fleet_grid.specs.Ground.{Ground, is_passable}
 use Rattle.fleet_plan.specs.Plan.{Plan, IsConflictFree, IsWithinLimits}
 
 -- a plan with the map and the tasks that it was checked for

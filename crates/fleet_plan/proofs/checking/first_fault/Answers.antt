@@ -1,4 +1,4 @@
-use Rattle.std.proofs.Common.{◌≡◌, length, arith, subst, None, IfNone}
+use Rattle.std.proofs.Common.{arith, subst, IfNone}
 use Rattle.fleet_grid.specs.Ground.{is_passable}
 use Rattle.fleet_plan.specs.FirstFault.{HasNoConflict}
 use Rattle.fleet_plan.proofs.FaultLaws.{free_from}

@@ -1,6 +1,5 @@
 use Rattle.std.proofs.Common.{◌≡◌, Some, sym, ap, ◌∙◌, below_more, arith}
 use Rattle.fleet_model.specs.declared.task.Task.{Task}
-use Rattle.fleet_plan.specs.Plan.{last_cell}
 use Rattle.fleet_plan.specs.FirstFault.{EndsRight}
 use Rattle.fleet_plan.proofs.PathLaws.{last_is, cells_differ, cells_equal, goal_of}
 use Rattle.fleet_plan.proofs.ends.first_wrong_goal.Goals as goal

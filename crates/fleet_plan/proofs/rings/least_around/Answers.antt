@@ -1,4 +1,4 @@
-use Rattle.std.proofs.Common.{◌≡◌, ◌≤◌, ◌⊎◌, Some, refl, sym, ap, ◌∙◌, inl, inr, arith}
+use Rattle.std.proofs.Common.{◌≡◌, ◌≤◌, ◌⊎◌, Some, sym, ap, ◌∙◌, inl, inr, arith}
 use Rattle.fleet_plan.specs.Rings.{ahead_of}
 use Rattle.fleet_plan.proofs.RingLaws.{ring-reaches}
 use Rattle.fleet_plan.proofs.AroundLaws.{around-none, around-back, around-more}

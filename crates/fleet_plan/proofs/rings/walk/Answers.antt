@@ -1,5 +1,5 @@
-use Rattle.std.proofs.Common.{◌≡◌, Some, None, refl, sym, ap, ◌∙◌, set, subst, arith}
-use Rattle.fleet_plan.specs.Rings.{ahead_of, walk_of, IsWalked}
+use Rattle.std.proofs.Common.{◌≡◌, Some, None, sym, ap, ◌∙◌}
+use Rattle.fleet_plan.specs.Rings.{ahead_of, walk_of}
 use Rattle.fleet_plan.proofs.RingLaws.{some_is}
 use Rattle.fleet_plan.proofs.WalkLaws.{walk-more, end-closed, end-none, stop-closed, stop-ring, stop-some, stop-none}
 use Rattle.fleet_plan.proofs.rings.walk.Goals as goal

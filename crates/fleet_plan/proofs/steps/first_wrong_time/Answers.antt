@@ -1,6 +1,5 @@
-use Rattle.std.proofs.Common.{◌≡◌, ◌<◌, ◌≤◌, ◌+◌, ◌-◌, length, get_or, refl, sym, ap, ◌∙◌, subst, below_more, arith}
+use Rattle.std.proofs.Common.{◌≡◌, ◌<◌, ◌≤◌, ◌+◌, ◌-◌, length, get_or, sym, ap, ◌∙◌, subst, below_more, arith}
 use Rattle.std.proofs.lemmas.Bool.{iff_false}
-use Rattle.fleet_model.specs.declared.geometry.Cell.{Cell}
 use Rattle.fleet_model.specs.Program.{origin}
 use Rattle.fleet_grid.specs.Ground.{is_passable}
 use Rattle.fleet_plan.specs.Plan.{cell_at}

@@ -1,4 +1,4 @@
-use Rattle.std.proofs.Common.{◌≡◌, ◌≢◌, ◌+◌, ◌<◌, ◌≤◌, length, slice_index, refl, sym, ap, ◌∙◌, arith}
+use Rattle.std.proofs.Common.{◌≡◌, ◌≢◌, ◌<◌, length, slice_index, refl, sym, ap, ◌∙◌, arith}
 use Rattle.fleet_plan.proofs.MeetLaws.{picked, meeting-hit, meeting-miss}
 use Rattle.fleet_plan.proofs.sweep.first_meeting.Goals as goal
 use Rattle.fleet_plan.proofs.sweep.first_meeting.Goals.{then-from-j+then-places-from, else-from-j, else-from-j-via-then-from-j+else-places-from, else-from-j-via-else-from-j}

@@ -1,4 +1,4 @@
-use Rattle.std.proofs.Common.{◌≡◌, ◌+◌, ◌≤◌, sym, ◌∙◌, subst, rules, arith}
+use Rattle.std.proofs.Common.{◌+◌, ◌≤◌, sym, ◌∙◌, subst, rules, arith}
 use Rattle.fleet_plan.proofs.SweepLaws.{IsSweep, few_steps, places_within, found_first, found_none, swept_all}
 use Rattle.fleet_plan.proofs.sweep.sweep.Goals as goal
 

@@ -1,10 +1,10 @@
 -- One more agent of a tick without holds.
 use Rattle.std.proofs.Common.{◌≡◌, ℕ, ◌+◌, ◌<◌, ◌≤◌, Bool, true, false, cond, List, [], ◌∷◌, ◌++◌, length, map, get_or, slice_index, set, refl, ap, sym, ◌∙◌, subst, arith, inl, inr, IsTrue, Some, get_or-set_same, get_or-set_other, below_more, ◌≢◌}
-use Rattle.std.specs.Prelude.{All, ◌⊎◌}
+use Rattle.std.specs.Prelude.{◌⊎◌}
 use Rattle.std.specs.List.{filter}
 use Rattle.std.proofs.lemmas.Bool.{cases_eq}
 use Rattle.std.proofs.lemmas.List.{map-id, map-append, append_assoc}
-use Rattle.std.proofs.lemmas.List.Elements.{filter-append, All-push}
+use Rattle.std.proofs.lemmas.List.Elements.{filter-append}
 use Rattle.std.proofs.lemmas.List.FromFn.{map-range_with_len_more}
 use Rattle.fleet_model.specs.declared.geometry.Cell.{Cell}
 use Rattle.fleet_model.specs.declared.geometry.Dir.{Dir}
@@ -13,8 +13,7 @@ use Rattle.fleet_model.specs.declared.program.Visit.{Visit}
 use Rattle.fleet_model.specs.Geometry.{place_of, moved}
 use Rattle.fleet_model.specs.Machine.{indices}
 use Rattle.fleet_model.specs.Program.{Program, origin, dir_of, path}
-use Rattle.fleet_verify.specs.declared.watch.Stay.{Stay}
-use Rattle.fleet_verify.specs.Walk.{begun_by, IsStay, AreCells}
+use Rattle.fleet_verify.specs.Walk.{begun_by, AreCells}
 use Rattle.fleet_verify.proofs.Paths.{path_step}
 use Rattle.std.proofs.Common.{Option, None, rules}
 use Rattle.std.specs.Prelude.{IfNone, IfSome, IsSome}
@@ -38,43 +37,39 @@ begun_no moving count n e = rw (indices_more n, filter-append, map-append, e) ap
     append-nil = Rattle.std.proofs.lemmas.List.append-nil _
 
 -- the agents below n have finished an action, where they are moving
-pub record IsAdvanced (p : Program) (moving : ℕ → Bool) (old : List ℕ) (before : List Visit) (counts : List ℕ) (cells : List Cell) (stays : List Stay) (n : ℕ) : Type 0 where
+pub record IsAdvanced (p : Program) (moving : ℕ → Bool) (old : List ℕ) (counts : List ℕ) (cells : List Cell) (n : ℕ) : Type 0 where
   pub done : (k : ℕ) → k < n → slice_index counts k ≡ slice_index old k + (cond (moving k) 1 0)
   pub rest : (k : ℕ) → n ≤ k → slice_index counts k ≡ slice_index old k
   pub here : AreCells p counts cells
-  pub visits : map (λ s. s.visit) stays ≡ before ++ begun_by moving (slice_index old) n
-  pub each : All (IsStay p) stays
 
-module _ (p : Program) (moving : ℕ → Bool) (old : List ℕ) (before : List Visit) (counts : List ℕ) (cells : List Cell) (stays : List Stay) (i : ℕ) (h : IsAdvanced p moving old before counts cells stays i) where
-  pub one_stays : moving i ≡ false → IsAdvanced p moving old before counts cells stays (i + 1)
+module _ (p : Program) (moving : ℕ → Bool) (old : List ℕ) (counts : List ℕ) (cells : List Cell) (i : ℕ) (h : IsAdvanced p moving old counts cells i) where
+  pub one_stays : moving i ≡ false → IsAdvanced p moving old counts cells (i + 1)
   one_stays flag = record {
     done = below_more (λ k. slice_index counts k ≡ slice_index old k + (cond (moving k) 1 0)) i h.done (h.rest i (omega arith) ∙ rw flag (omega arith));
     rest = λ k l. h.rest k (omega arith);
     here = h.here;
-    visits = h.visits ∙ ap (λ vs. before ++ vs) (sym (begun_no moving (slice_index old) i flag));
-    each = h.each;
   }
 
+  -- where a moving agent comes to
+  pub comes_to : (d : Dir) (c : Cell) → i < length p → dir_of p i (slice_index counts i + 1) ≡ Some d → place_of c ≡ moved (place_of (get_or cells i origin)) d
+      → place_of c ≡ path p i (slice_index counts i + 1)
+  comes_to d c agent dir to = to ∙ ap (λ (q : Place). moved q d) (h.here.here i agent) ∙ sym (path_step p i (slice_index counts i) d dir)
+
   pub one_moves : (d : Dir) (c : Cell) → i < length p → i < length counts → moving i ≡ true → dir_of p i (slice_index counts i + 1) ≡ Some d → place_of c ≡ moved (place_of (get_or cells i origin)) d
-      → IsAdvanced p moving old before (set counts i (slice_index counts i + 1)) (set cells i c) (stays ++ record { visit = visit i (slice_index counts i + 1); cell = c } ∷ []) (i + 1)
+      → IsAdvanced p moving old (set counts i (slice_index counts i + 1)) (set cells i c) (i + 1)
   one_moves d c agent inside flag dir to = record {
     done = below_more (λ k. slice_index next k ≡ slice_index old k + (cond (moving k) 1 0)) i
         (λ k l. let ne : k ≢ i = omega arith in get_or-set_other counts i k (slice_index counts i + 1) 0 ne ∙ h.done k l)
         (get_or-set_same counts i (slice_index counts i + 1) 0 inside ∙ rw flag (let e : slice_index counts i ≡ slice_index old i = h.rest i (omega arith) in omega arith));
     rest = λ k l. let ne : k ≢ i = omega arith in get_or-set_other counts i k (slice_index counts i + 1) 0 ne ∙ h.rest k (omega arith);
     here = record { all = Rattle.std.proofs.Math.ListN.length-set cells i c ∙ h.here.all; here = λ k l. cell_at k l (cases_eq k i) };
-    visits = map-append (λ (s : Stay). s.visit) stays (record { visit = visit i (slice_index counts i + 1); cell = c } ∷ [])
-        ∙ (ap (λ vs. vs ++ visit i (slice_index counts i + 1) ∷ []) h.visits
-        ∙ (append_assoc before (begun_by moving (slice_index old) i) (visit i (slice_index counts i + 1) ∷ [])
-        ∙ ap (λ vs. before ++ vs) (ap (λ n. begun_by moving (slice_index old) i ++ visit i (n + 1) ∷ []) (h.rest i (omega arith)) ∙ sym (begun_yes moving (slice_index old) i flag))));
-    each = All-push (IsStay p) stays (record { visit = visit i (slice_index counts i + 1); cell = c }) h.each there;
   }
     where
       next : List ℕ
       next = set counts i (slice_index counts i + 1)
 
       there : place_of c ≡ path p i (slice_index counts i + 1)
-      there = to ∙ ap (λ (q : Place). moved q d) (h.here.here i agent) ∙ sym (path_step p i (slice_index counts i) d dir)
+      there = comes_to d c agent dir to
 
       cell_at : (k : ℕ) → k < length p → (k ≡ i) ⊎ (k ≡ i → ⊥) → place_of (get_or (set cells i c) k origin) ≡ path p k (slice_index next k)
       cell_at k l (inl e) =
@@ -83,6 +78,12 @@ module _ (p : Program) (moving : ℕ → Bool) (old : List ℕ) (before : List V
           ∙ (there ∙ sym (ap (λ j. path p j (slice_index next j)) e ∙ ap (path p i) (get_or-set_same counts i (slice_index counts i + 1) 0 inside))))
       cell_at k l (inr ne) =
           ap place_of (get_or-set_other cells i k c origin ne) ∙ (h.here.here k l ∙ ap (path p k) (sym (get_or-set_other counts i k (slice_index counts i + 1) 0 ne)))
+
+  -- the visits that have begun, with one agent more
+  pub one_begun : (visits : List Visit) → moving i ≡ true → (visits ++ begun_by moving (slice_index old) i) ++ visit i (slice_index counts i + 1) ∷ [] ≡ visits ++ begun_by moving (slice_index old) (i + 1)
+  one_begun visits flag =
+      append_assoc visits (begun_by moving (slice_index old) i) (visit i (slice_index counts i + 1) ∷ [])
+      ∙ ap (λ vs. visits ++ vs) (ap (λ n. begun_by moving (slice_index old) i ++ visit i (n + 1) ∷ []) (h.rest i (omega arith)) ∙ sym (begun_yes moving (slice_index old) i flag))
 
 -- what an agent's next action leads to is passable
 pub next_stands : (passable : Place → Bool) (p : Program) (counts : List ℕ) (cells : List Cell) (i : ℕ) (d : Dir) → EachAction p (StandsRight passable p) → AreCells p counts cells

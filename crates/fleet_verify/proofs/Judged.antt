@@ -15,36 +15,38 @@ use Rattle.fleet_verify.specs.declared.watch.Stay.{Stay}
 use Rattle.fleet_verify.specs.declared.fault.VerifyFault.{VerifyFault}
 use Rattle.fleet_verify.specs.declared.fault.VerifyFault.TheVariants.{Unordered}
 use Rattle.fleet_verify.specs.declared.watch.Break.{Break}
-use Rattle.fleet_verify.specs.Order.{same_place, visits_of, IsFirstBreak, IsJudged, AreAllStays, AreBreaks}
+use Rattle.indexmap.specs.IndexMap.{get}
+use Rattle.fleet_verify.specs.declared.watch.Watch.{Watch}
+use Rattle.fleet_verify.specs.Order.{same_place, visits_of, IsFirstBreak, IsJudged, AreAllStays, AreBreaks, AreWatched, is_cell}
 use Rattle.fleet_verify.proofs.Ordered.{same_place-true}
 use Rattle.fleet_verify.specs.Faults.{HasRanges, IsFault, IsSooner, IsOrderlyAt}
 
 -- the visits of the place come one after another
-abbrev pub InTurn : Program → List Stay → Place → Type 0
-InTurn p stays q = Adjacent (ComesAfterByAwait p) (visits_of q stays)
+abbrev pub InTurn : Program → Place → Type 0
+InTurn p q = IsOrderlyAt ComesAfterByAwait p q
 
 -- so do those of the places of the agents before, and of the first positions of the next one
-pub record AreJudged (p : Program) (stays : List Stay) (agent n : ℕ) : Type 0 where
-  pub before : (i m : ℕ) → i < agent → m ≤ moves p i → InTurn p stays (path p i m)
-  pub here : (m : ℕ) → m < n → InTurn p stays (path p agent m)
+pub record AreJudged (p : Program) (agent n : ℕ) : Type 0 where
+  pub before : (i m : ℕ) → i < agent → m ≤ moves p i → InTurn p (path p i m)
+  pub here : (m : ℕ) → m < n → InTurn p (path p agent m)
 
-pub judged_more : (p : Program) (stays : List Stay) (agent n : ℕ) (c : Cell) → AreJudged p stays agent n → place_of c ≡ path p agent n → InTurn p stays (place_of c) → AreJudged p stays agent (n + 1)
-judged_more p stays agent n c h e t = record {
+pub judged_more : (p : Program) (agent n : ℕ) (c : Cell) → AreJudged p agent n → place_of c ≡ path p agent n → InTurn p (place_of c) → AreJudged p agent (n + 1)
+judged_more p agent n c h e t = record {
   before = h.before;
-  here = λ m l. elim (cases_eq m n) [ inl g ↦ subst (InTurn p stays) (e ∙ ap (path p agent) (sym g)) t | inr ne ↦ h.here m (omega arith) ];
+  here = λ m l. elim (cases_eq m n) [ inl g ↦ subst (InTurn p) (e ∙ ap (path p agent) (sym g)) t | inr ne ↦ h.here m (omega arith) ];
 }
 
-pub judged_agent : (p : Program) (stays : List Stay) (agent n : ℕ) → AreJudged p stays agent n → moves p agent < n → AreJudged p stays (agent + 1) 0
-judged_agent p stays agent n h l = record {
+pub judged_agent : (p : Program) (agent n : ℕ) → AreJudged p agent n → moves p agent < n → AreJudged p (agent + 1) 0
+judged_agent p agent n h l = record {
   before = λ i m k j. elim (cases_eq i agent) [
-    | inl e ↦ subst (λ (a : ℕ). InTurn p stays (path p a m)) (sym e) (h.here m (let f : moves p i ≡ moves p agent = ap (moves p) e in omega arith))
+    | inl e ↦ subst (λ (a : ℕ). InTurn p (path p a m)) (sym e) (h.here m (let f : moves p i ≡ moves p agent = ap (moves p) e in omega arith))
     | inr ne ↦ h.before i m (omega arith) j
   ];
   here = λ m k. absurd (omega arith);
 }
 
 pub found_fault : (passable : Place → Bool) (tasks : List Task) (p : Program) (stays : List Stay) (agent n : ℕ) (c : Cell) → HasRanges passable tasks p → AreAllStays p stays → agent < length p → n ≤ moves p agent
-    → place_of c ≡ path p agent n → AreJudged p stays agent n → (v w : Visit) → IsFirstBreak (ComesAfterByAwait p) (visits_of (place_of c) stays) v w → IsFault passable tasks p (Unordered c v w)
+    → place_of c ≡ path p agent n → AreJudged p agent n → (v w : Visit) → IsFirstBreak (ComesAfterByAwait p) (visits_of (place_of c) stays) v w → IsFault passable tasks p (Unordered c v w)
 found_fault passable tasks p stays agent n c right all a m e h v w broken = (
   record { before = right; number = all.level; numbering = levels_number p all.level all.levels },
   record {
@@ -58,35 +60,35 @@ found_fault passable tasks p stays agent n c right all a m e h v w broken = (
 )
   where
     earlier : (u : Visit) → IsVisit p u → ((x : Visit) → IsVisitOf p (place_of c) x → IsSooner u x) → IsOrderlyAt ComesAfterByAwait p (path p u.agent u.position)
-    earlier u is sooner = (visits_of (path p u.agent u.position) stays, (all.sorted (path p u.agent u.position)).lists, turn (sooner (record { agent = agent; position = n }) (record { agent = a; position = m; place = sym e })))
+    earlier u is sooner = turn (sooner (record { agent = agent; position = n }) (record { agent = a; position = m; place = sym e }))
       where
-        turn : IsSooner u (record { agent = agent; position = n }) → InTurn p stays (path p u.agent u.position)
+        turn : IsSooner u (record { agent = agent; position = n }) → InTurn p (path p u.agent u.position)
         turn (inl l) = h.before u.agent u.position l is.position
-        turn (inr (g, l)) = subst (λ (i : ℕ). InTurn p stays (path p i u.position)) (sym g) (h.here u.position l)
+        turn (inr (g, l)) = subst (λ (i : ℕ). InTurn p (path p i u.position)) (sym g) (h.here u.position l)
 
-pub all_in_turn : (p : Program) (stays : List Stay) (agent : ℕ) → AreAllStays p stays → AreJudged p stays agent 0 → length p ≤ agent → IsOrderly ComesAfterByAwait p
-all_in_turn p stays agent all h l q = (visits_of q stays, (all.sorted q).lists, go (visits_of q stays) refl)
+pub all_in_turn : (p : Program) (stays : List Stay) (agent : ℕ) → AreAllStays p stays → AreJudged p agent 0 → length p ≤ agent → IsOrderly ComesAfterByAwait p
+all_in_turn p stays agent all h l q = go (visits_of q stays) refl
   where
-    go : (vs : List Visit) → visits_of q stays ≡ vs → Adjacent (ComesAfterByAwait p) (visits_of q stays)
-    go [] e = subst (Adjacent (ComesAfterByAwait p)) (sym e) tt
+    go : (vs : List Visit) → visits_of q stays ≡ vs → InTurn p q
+    go [] e = (visits_of q stays, (all.sorted q).lists, subst (Adjacent (ComesAfterByAwait p)) (sym e) tt)
     go (v ∷ vs) e =
         let is : IsVisitOf p q v = subst (λ (xs : List Visit). All (IsVisitOf p q) xs) e ((all.sorted q).lists.only) 0 v (omega arith) in
-        subst (InTurn p stays) is.place (h.before v.agent v.position (omega (arith, is.agent)) is.position)
+        subst (InTurn p) is.place (h.before v.agent v.position (omega (arith, is.agent)) is.position)
 
 -- the start of an agent
 pub starts_on : (p : Program) (agent : ℕ) (c : Cell) → c ≡ Rattle.fleet_model.specs.Program.start_of p agent → place_of c ≡ path p agent 0
 starts_on p agent c e = ap place_of e
 
-pub judged_first : (p : Program) (stays : List Stay) (agent : ℕ) (c : Cell) → AreJudged p stays agent 0 → c ≡ Rattle.fleet_model.specs.Program.start_of p agent → InTurn p stays (place_of c) → AreJudged p stays agent 1
-judged_first p stays agent c h e t = subst (AreJudged p stays agent) (omega arith) (judged_more p stays agent 0 c h (starts_on p agent c e) t)
+pub judged_first : (p : Program) (agent : ℕ) (c : Cell) → AreJudged p agent 0 → c ≡ Rattle.fleet_model.specs.Program.start_of p agent → InTurn p (place_of c) → AreJudged p agent 1
+judged_first p agent c h e t = subst (AreJudged p agent) (omega arith) (judged_more p agent 0 c h (starts_on p agent c e) t)
 
 -- ---- by the breaks of the cells
 
-pub unbroken : (p : Program) (stays : List Stay) (breaks : Cell → Option Break) → AreBreaks p stays breaks → (c : Cell) → breaks c ≡ None → InTurn p stays (place_of c)
-unbroken p stays breaks h c e = subst (IsJudged (ComesAfterByAwait p) (visits_of (place_of c) stays)) e (h c)
+pub unbroken : (p : Program) (stays : List Stay) (breaks : Cell → Option Break) → AreAllStays p stays → AreBreaks p stays breaks → (c : Cell) → breaks c ≡ None → InTurn p (place_of c)
+unbroken p stays breaks all h c e = (visits_of (place_of c) stays, (all.sorted (place_of c)).lists, subst (IsJudged (ComesAfterByAwait p) (visits_of (place_of c) stays)) e (h c))
 
 pub broken_fault : (passable : Place → Bool) (tasks : List Task) (p : Program) (stays : List Stay) (breaks : Cell → Option Break) → AreBreaks p stays breaks → (agent n : ℕ) (c : Cell) → HasRanges passable tasks p → AreAllStays p stays → agent < length p → n ≤ moves p agent
-    → place_of c ≡ path p agent n → AreJudged p stays agent n → (f : VerifyFault) → ((b : Break) × (breaks c ≡ Some b) × (f ≡ Unordered c b.first b.second)) → IsFault passable tasks p f
+    → place_of c ≡ path p agent n → AreJudged p agent n → (f : VerifyFault) → ((b : Break) × (breaks c ≡ Some b) × (f ≡ Unordered c b.first b.second)) → IsFault passable tasks p f
 broken_fault passable tasks p stays breaks found agent n c right all a m e h f (b, is, told) =
     subst (IsFault passable tasks p) (sym told)
     (found_fault passable tasks p stays agent n c right all a m e h b.first b.second (subst (IsJudged (ComesAfterByAwait p) (visits_of (place_of c) stays)) is (found c)))
@@ -103,11 +105,11 @@ some_cell q (s ∷ stays) = go (same_place (place_of s.cell) q) refl (some_cell 
     go false e (inr c) = inr c
 
 pub none_broken : (p : Program) (stays : List Stay) (breaks : Cell → Option Break) → AreAllStays p stays → AreBreaks p stays breaks → ((c : Cell) → breaks c ≡ None) → IsOrderly ComesAfterByAwait p
-none_broken p stays breaks all found none q = (
-  visits_of q stays,
-  (all.sorted q).lists,
-  elim (some_cell q stays) [
-    | inl e ↦ subst (Adjacent (ComesAfterByAwait p)) (sym e) tt
-    | inr c ↦ subst (InTurn p stays) c.1 (unbroken p stays breaks found c.0 (none c.0))
-  ],
-)
+none_broken p stays breaks all found none q = elim (some_cell q stays) [
+  | inl e ↦ (visits_of q stays, (all.sorted q).lists, subst (Adjacent (ComesAfterByAwait p)) (sym e) tt)
+  | inr c ↦ subst (InTurn p) c.1 (unbroken p stays breaks all found c.0 (none c.0))
+]
+
+-- what was watched
+pub breaks_of : (p : Program) (stays : List Stay) (w : Watch) → AreWatched p stays w → AreBreaks p stays (get is_cell w.breaks)
+breaks_of p stays w h c = (h c).judged

@@ -29,8 +29,9 @@ use Rattle.fleet_verify.proofs.Finish.{finished_from}
 use Rattle.fleet_verify.proofs.Listing.{levels_number}
 use Rattle.fleet_verify.proofs.Neighbours.{adjacent_from}
 use Rattle.fleet_verify.specs.declared.watch.Stay.{Stay}
-use Rattle.fleet_verify.specs.Walk.{begun_in, IsStay, IsWalk}
-use Rattle.fleet_verify.specs.Order.{same_place, visits_of, AreAllStays}
+use Rattle.fleet_verify.specs.Walk.{begun_in, IsWalk}
+use Rattle.fleet_verify.specs.Order.{same_place, visits_of, AreAllStays, IsStay, AreNoted, AreAllNoted}
+use Rattle.fleet_verify.specs.declared.watch.Watch.{Watch}
 use Rattle.fleet_verify.specs.Faults.{HasRanges, AwaitsRight, EachAction}
 use Rattle.fleet_verify.proofs.UnderWay.{ready_not_over}
 use Rattle.fleet_verify.proofs.Ordered.{same_place-true, same_place-refl}
@@ -123,7 +124,7 @@ visits_are p q (s ∷ stays) h = go (same_place (place_of s.cell) q) refl (visit
     go true e rest = let f : is_at p q s.visit ≡ true = here ∙ e in rw (e, f) (ap (λ vs. s.visit ∷ vs) rest)
     go false e rest = let f : is_at p q s.visit ≡ false = here ∙ e in rw (e, f) rest
 
-module _ (p : Program) (counts : List ℕ) (stays : List Stay) (t : ℕ) (walk : IsWalk p counts stays t) where
+module _ (p : Program) (counts : List ℕ) (t : ℕ) (walk : IsWalk p counts t) where
   finished : ((i : ℕ) → i < length p → moves p i ≤ slice_index counts i) → is_finished p (run p [] t) ≡ true
   finished h = finished_from p (run p [] t) (λ a act.
       let e : slice_index counts a.agent ≡ count_at (run p [] t) a.agent = walk.finished a.agent in
@@ -145,16 +146,23 @@ module _ (p : Program) (counts : List ℕ) (stays : List Stay) (t : ℕ) (walk :
       let f = walk.over in
       cc
 
-  pub all_stays : AreInRange p → ((i : ℕ) → i < length p → moves p i ≤ slice_index counts i) → AreAllStays p stays
-  all_stays range h = record {
-    level = lev;
-    levels = levels_are p range t fin;
-    visits = visits;
-    all = λ v is. subst (λ (vs : List Visit). Contains vs v) (sym walk.visits) (order.all v is.agent is.position);
-    in_order = in_order;
-    sorted = sorted;
+  pub all_stays : (w : Watch) → AreNoted p (begun_in p t) w → AreInRange p → ((i : ℕ) → i < length p → moves p i ≤ slice_index counts i) → AreAllNoted p w
+  all_stays w noted range h = record {
+    stays = stays;
+    all = record {
+      level = lev;
+      levels = levels_are p range t fin;
+      visits = visits;
+      all = λ v is. subst (λ (vs : List Visit). Contains vs v) (sym noted.same) (order.all v is.agent is.position);
+      in_order = in_order;
+      sorted = sorted;
+    };
+    watched = noted.watched;
   }
     where
+      stays : List Stay
+      stays = noted.stays
+
       fin : is_finished p (run p [] t) ≡ true
       fin = finished h
 
@@ -167,12 +175,12 @@ module _ (p : Program) (counts : List ℕ) (stays : List Stay) (t : ℕ) (walk :
       visits : All (λ s. IsVisit p s.visit) stays
       visits k d l =
           let has : Contains (map (λ s. s.visit) stays) (get_or stays k d).visit = contains_map (λ (s : Stay). s.visit) stays (get_or stays k d) (k, l, get_or_default stays k (get_or stays k d) d l) in
-          let r = order.only (get_or stays k d).visit (subst (λ (vs : List Visit). Contains vs (get_or stays k d).visit) walk.visits has) in
+          let r = order.only (get_or stays k d).visit (subst (λ (vs : List Visit). Contains vs (get_or stays k d).visit) noted.same has) in
           record { agent = r.0; position = r.1 }
 
       in_order : AllPairs (λ s u. IsBefore lev s.visit u.visit) stays
       in_order i j d l m =
-          let pairs : AllPairs (IsBefore lev) (map (λ s. s.visit) stays) = subst (λ (vs : List Visit). AllPairs (IsBefore lev) vs) (sym walk.visits) order.sorted in
+          let pairs : AllPairs (IsBefore lev) (map (λ s. s.visit) stays) = subst (λ (vs : List Visit). AllPairs (IsBefore lev) vs) (sym noted.same) order.sorted in
           let long : length (map (λ (s : Stay). s.visit) stays) ≡ length stays = length-map stays (λ (s : Stay). s.visit) in
           subst (λ (v : Visit). IsBefore lev v (get_or stays j d).visit) (visit_at stays i d) (subst (λ (v : Visit). IsBefore lev (get_or (map (λ s. s.visit) stays) i d.visit) v) (visit_at stays j d) (pairs i j d.visit l (omega arith)))
 
@@ -183,7 +191,7 @@ module _ (p : Program) (counts : List ℕ) (stays : List Stay) (t : ℕ) (walk :
           l = filter (is_at p q) (begun_in p t)
 
           same : visits_of q stays ≡ l
-          same = visits_are p q stays walk.cells ∙ ap (filter (is_at p q)) walk.visits
+          same = visits_are p q stays noted.each ∙ ap (filter (is_at p q)) noted.same
 
           pairs : AllPairs (IsBefore lev) l
           pairs = AllPairs-filter (IsBefore lev) (is_at p q) (begun_in p t) order.sorted

@@ -1,12 +1,11 @@
 -- A run without holds, tick by tick.
 use Rattle.std.proofs.Common.{◌≡◌, ℕ, zero, suc, ◌+◌, ◌<◌, ◌≤◌, Bool, true, false, cond, List, [], ◌∷◌, ◌++◌, length, map, get_or, slice_index, refl, ap, sym, ◌∙◌, subst, arith, inl, inr, IsTrue, add-one}
-use Rattle.std.specs.Prelude.{All, ◌↔◌, ◌⊎◌}
+use Rattle.std.specs.Prelude.{◌↔◌, ◌⊎◌}
 use Rattle.std.specs.Prelude.{take, drop}
 use Rattle.std.proofs.lemmas.List.{take_at}
 use Rattle.std.specs.List.{list_any}
 use Rattle.std.proofs.lemmas.Bool.{cases_eq, cases_lt}
 use Rattle.std.proofs.lemmas.List.{get_or_past, get_or_push, get_or_append_left, length_push, map-append}
-use Rattle.std.proofs.lemmas.List.Elements.{All-push}
 use Rattle.fleet_model.specs.declared.geometry.Cell.{Cell}
 use Rattle.fleet_model.specs.declared.program.Visit.{Visit}
 use Rattle.fleet_model.specs.Geometry.{place_of}
@@ -18,33 +17,32 @@ use Rattle.fleet_verify.specs.Walk.{AreCounts, IsReadyBy}
 use Rattle.fleet_verify.proofs.Counts.{count_past, count_opening}
 use Rattle.fleet_verify.proofs.Readiness.{Stays, step, ready_says, ready_from}
 use Rattle.fleet_verify.proofs.ReadyBy.{ready_by, by_ready}
-use Rattle.fleet_verify.specs.declared.watch.Stay.{Stay}
-use Rattle.fleet_verify.specs.Walk.{counted, is_ready_by, begun_by, begun_in, IsStay, AreCells, IsWalk}
+use Rattle.fleet_verify.specs.Walk.{counted, is_ready_by, begun_by, begun_in, AreCells, IsWalk}
 use Rattle.fleet_verify.proofs.Begun.{indices_more, begun_yes, begun_no}
 
 -- ---- the start
 
 -- the rows of the first n agents, at their starts
-pub record IsOpening (p : Program) (counts : List ℕ) (cells : List Cell) (stays : List Stay) (n : ℕ) : Type 0 where
+pub record IsOpening (p : Program) (counts : List ℕ) (cells : List Cell) (n : ℕ) : Type 0 where
   pub long : length counts ≡ n
   pub wide : length cells ≡ n
   pub none : (k : ℕ) → slice_index counts k ≡ 0
   pub starts : (k : ℕ) → k < n → get_or cells k origin ≡ start_of p k
-  pub visits : map (λ s. s.visit) stays ≡ map (λ i. record { agent = i; position = 0 }) (indices n)
-  pub each : All (IsStay p) stays
 
-pub opening_none : (p : Program) → IsOpening p [] [] [] 0
+pub opening_none : (p : Program) → IsOpening p [] [] 0
 opening_none p = record {
   long = refl;
   wide = refl;
   none = λ k. refl;
   starts = λ k l. absurd (omega arith);
-  visits = refl;
-  each = λ k d l. absurd (omega arith);
 }
 
-abbrev first : ℕ → Visit
-first i = record { agent = i; position = 0 }
+-- the starts of the first n agents
+abbrev pub starts_of : ℕ → List Visit
+starts_of n = map (λ i. record { agent = i; position = 0 }) (indices n)
+
+pub starts_more : (n : ℕ) → starts_of n ++ record { agent = n; position = 0 } ∷ [] ≡ starts_of (n + 1)
+starts_more n = sym (ap (map (λ i. record { agent = i; position = 0 })) (indices_more n) ∙ map-append (λ (i : ℕ). record { agent = i; position = 0 }) (indices n) (n ∷ []))
 
 pub none_pushed : (counts : List ℕ) → ((k : ℕ) → slice_index counts k ≡ 0) → (k : ℕ) → slice_index (counts ++ 0 ∷ []) k ≡ 0
 none_pushed [] h zero = refl
@@ -52,16 +50,13 @@ none_pushed [] h (suc k) = refl
 none_pushed (x ∷ counts) h zero = h zero
 none_pushed (x ∷ counts) h (suc k) = none_pushed counts (λ j. h (suc j)) k
 
-pub opening_more : (p : Program) (counts : List ℕ) (cells : List Cell) (stays : List Stay) (n : ℕ) → IsOpening p counts cells stays n
-    → IsOpening p (counts ++ 0 ∷ []) (cells ++ start_of p n ∷ []) (stays ++ record { visit = first n; cell = start_of p n } ∷ []) (n + 1)
-opening_more p counts cells stays n h = record {
+pub opening_more : (p : Program) (counts : List ℕ) (cells : List Cell) (n : ℕ) → IsOpening p counts cells n
+    → IsOpening p (counts ++ 0 ∷ []) (cells ++ start_of p n ∷ []) (n + 1)
+opening_more p counts cells n h = record {
   long = length_push counts 0 ∙ ap (λ m. m + 1) h.long;
   wide = length_push cells (start_of p n) ∙ ap (λ m. m + 1) h.wide;
   none = none_pushed counts h.none;
   starts = λ k l. at k l (cases_eq k n);
-  visits = map-append (λ (s : Stay). s.visit) stays (record { visit = first n; cell = start_of p n } ∷ []) ∙ (ap (λ vs. vs ++ first n ∷ []) h.visits
-      ∙ sym (ap (map first) (indices_more n) ∙ map-append first (indices n) (n ∷ [])));
-  each = All-push (IsStay p) stays (record { visit = first n; cell = start_of p n }) h.each refl;
 }
   where
     at : (k : ℕ) → k < n + 1 → (k ≡ n) ⊎ (k ≡ n → ⊥) → get_or (cells ++ start_of p n ∷ []) k origin ≡ start_of p k
@@ -70,24 +65,24 @@ opening_more p counts cells stays n h = record {
 
 -- ---- under way
 
-pub record IsUnderWay (p : Program) (counts : List ℕ) (cells : List Cell) (stays : List Stay) (t : ℕ) : Type 0 where
+pub record IsUnderWay (p : Program) (counts : List ℕ) (cells : List Cell) (t : ℕ) : Type 0 where
   pub all : length counts ≡ length p
   pub finished : AreCounts (run p [] t) counts
   pub here : AreCells p counts cells
-  pub visits : map (λ s. s.visit) stays ≡ begun_in p t
-  pub each : All (IsStay p) stays
   pub sooner : (s : ℕ) → s < t → is_over p (run p [] s) ≡ false
 
-pub opened : (p : Program) (counts : List ℕ) (cells : List Cell) (stays : List Stay) → IsOpening p counts cells stays (length p) → IsUnderWay p counts cells stays 0
-unfolding begun_in
-opened p counts cells stays h = record {
+pub opened : (p : Program) (counts : List ℕ) (cells : List Cell) → IsOpening p counts cells (length p) → IsUnderWay p counts cells 0
+opened p counts cells h = record {
   all = h.long;
   finished = λ i. h.none i ∙ sym (count_opening p [] i);
   here = record { all = h.wide; here = λ i l. ap place_of (h.starts i l) ∙ sym (ap (path p i) (h.none i)) };
-  visits = h.visits;
-  each = h.each;
   sooner = λ s l. absurd (omega arith);
 }
+
+-- the starts are the visits that begin before the first tick
+pub opened_visits : (p : Program) → starts_of (length p) ≡ begun_in p 0
+unfolding begun_in
+opened_visits p = refl
 
 -- ---- a tick
 
@@ -179,23 +174,17 @@ none_over p c h = go (is_over p c) refl
 
 -- ---- one tick more, and the end
 
-pub ticked : (p : Program) (counts next : List ℕ) (cells after : List Cell) (stays more : List Stay) (t : ℕ) → IsUnderWay p counts cells stays t
+pub ticked : (p : Program) (counts next : List ℕ) (cells after : List Cell) (t : ℕ) → IsUnderWay p counts cells t
     → length next ≡ length p
     → ((i : ℕ) × (i < length p) × IsReadyBy p counts i)
     → ((i : ℕ) → i < length p → slice_index next i ≡ slice_index counts i + (cond (is_ready_by p counts i) 1 0))
     → AreCells p next after
-    → map (λ s. s.visit) more ≡ map (λ s. s.visit) stays ++ begun_by (is_ready_by p counts) (slice_index counts) (length p)
-    → All (IsStay p) more
-    → IsUnderWay p next after more (t + 1)
-unfolding begun_in
-ticked p counts next cells after stays more t h long some moved here visits each =
-    subst (IsUnderWay p next after more) (sym (add-one t)) (record {
+    → IsUnderWay p next after (t + 1)
+ticked p counts next cells after t h long some moved here =
+    subst (IsUnderWay p next after) (sym (add-one t)) (record {
       all = long;
       finished = counts_more p t counts next h.all h.finished moved long;
       here = here;
-      visits = visits ∙ (ap (λ vs. vs ++ begun_by (is_ready_by p counts) (slice_index counts) (length p)) h.visits
-          ∙ ap (λ vs. begun_in p t ++ vs) (begun_same (is_ready_by p counts) (is_ready p (run p [] t)) (slice_index counts) (count_at (run p [] t)) (length p) (λ i l. ready_by_counts p (run p [] t) counts h.finished i) h.finished));
-      each = each;
       sooner = λ s l. at s (cases_eq s t) l;
     })
   where
@@ -203,22 +192,29 @@ ticked p counts next cells after stays more t h long some moved here visits each
     at s (inl e) l = ap (λ x. is_over p (run p [] x)) e ∙ ready_not_over p (run p [] t) some.0 some.1 (ready_from p (run p [] t) some.0 (by_ready p (run p [] t) counts h.finished some.0 some.2))
     at s (inr ne) l = h.sooner s (omega arith)
 
-walk_made : (p : Program) (counts : List ℕ) (cells : List Cell) (stays : List Stay) (t : ℕ) → IsUnderWay p counts cells stays t → is_over p (run p [] t) ≡ true → IsWalk p counts stays t
-walk_made p counts cells stays t h e = record { all = h.all; finished = h.finished; visits = h.visits; cells = h.each; over = e; sooner = h.sooner }
+-- the visits that have begun after a tick more
+pub ticked_visits : (p : Program) (counts : List ℕ) (t : ℕ) → AreCounts (run p [] t) counts → begun_in p t ++ begun_by (is_ready_by p counts) (slice_index counts) (length p) ≡ begun_in p (t + 1)
+unfolding begun_in
+ticked_visits p counts t at =
+    ap (λ vs. begun_in p t ++ vs) (begun_same (is_ready_by p counts) (is_ready p (run p [] t)) (slice_index counts) (count_at (run p [] t)) (length p) (λ i l. ready_by_counts p (run p [] t) counts at i) at)
+    ∙ sym (ap (begun_in p) (add-one t))
+
+walk_made : (p : Program) (counts : List ℕ) (cells : List Cell) (t : ℕ) → IsUnderWay p counts cells t → is_over p (run p [] t) ≡ true → IsWalk p counts t
+walk_made p counts cells t h e = record { all = h.all; finished = h.finished; over = e; sooner = h.sooner }
 
 -- nobody is ready
-pub walk_stops : (p : Program) (counts : List ℕ) (cells : List Cell) (stays : List Stay) (t : ℕ) → IsUnderWay p counts cells stays t
-    → ((i : ℕ) → i < length p → IsReadyBy p counts i → ⊥) → IsWalk p counts stays t
-walk_stops p counts cells stays t h none = walk_made p counts cells stays t h (none_over p (run p [] t) (λ i l. go i l (is_ready p (run p [] t) i) refl))
+pub walk_stops : (p : Program) (counts : List ℕ) (cells : List Cell) (t : ℕ) → IsUnderWay p counts cells t
+    → ((i : ℕ) → i < length p → IsReadyBy p counts i → ⊥) → IsWalk p counts t
+walk_stops p counts cells t h none = walk_made p counts cells t h (none_over p (run p [] t) (λ i l. go i l (is_ready p (run p [] t) i) refl))
   where
     go : (i : ℕ) → i < length p → (b : Bool) → is_ready p (run p [] t) i ≡ b → is_ready p (run p [] t) i ≡ false
     go i l false e = e
     go i l true e = absurd (none i l (ready_by p (run p [] t) counts h.finished i (ready_says p (run p [] t) i e)))
 
 -- so many ticks are enough
-pub walk_ends : (p : Program) (counts : List ℕ) (cells : List Cell) (stays : List Stay) (t : ℕ) → IsUnderWay p counts cells stays t
-    → total_moves p ≤ t → IsWalk p counts stays t
-walk_ends p counts cells stays t h enough = walk_made p counts cells stays t h (go (cases_lt r.0 t))
+pub walk_ends : (p : Program) (counts : List ℕ) (cells : List Cell) (t : ℕ) → IsUnderWay p counts cells t
+    → total_moves p ≤ t → IsWalk p counts t
+walk_ends p counts cells t h enough = walk_made p counts cells t h (go (cases_lt r.0 t))
   where
     r : (t : ℕ) × Rattle.fleet_model.specs.Machine.IsLeast (λ t. is_over p (run p [] t)) t × (t ≤ length {A = List ℕ} [] + total_moves p)
     r = run_ends p []
@@ -230,15 +226,3 @@ walk_ends p counts cells stays t h enough = walk_made p counts cells stays t h (
 -- what a call wrote through a slice of a whole vector
 pub written_back : {X : Type 0} (n : ℕ) (new old : List X) → length new ≡ n → take n (new ++ drop (length new) old) ≡ new
 written_back n new old e = take_at new (drop (length new) old) n e
-
--- the same, where the calls saw the counts as such a list
-pub ticked_seen : (p : Program) (counts seen next : List ℕ) (cells after : List Cell) (stays more : List Stay) (t : ℕ) → IsUnderWay p counts cells stays t → seen ≡ counts
-    → length next ≡ length p
-    → ((i : ℕ) × (i < length p) × IsReadyBy p seen i)
-    → ((i : ℕ) → i < length p → slice_index next i ≡ slice_index seen i + (cond (is_ready_by p seen i) 1 0))
-    → AreCells p next after
-    → map (λ s. s.visit) more ≡ map (λ s. s.visit) stays ++ begun_by (is_ready_by p seen) (slice_index seen) (length p)
-    → All (IsStay p) more
-    → IsUnderWay p next after more (t + 1)
-ticked_seen p counts seen next cells after stays more t h e long some moved here visits each =
-    ticked p seen next cells after stays more t (subst (λ (xs : List ℕ). IsUnderWay p xs cells stays t) (sym e) h) long some moved here visits each

@@ -7,7 +7,7 @@ use Rattle.fleet_model.specs.declared.geometry.Place.{Place}
 use Rattle.fleet_model.specs.declared.program.ActionId.{ActionId}
 use Rattle.fleet_model.specs.declared.program.Visit.{Visit}
 use Rattle.fleet_model.specs.Geometry.{place_of}
-use Rattle.fleet_model.specs.Program.{Program}
+use Rattle.fleet_model.specs.Program.{Program, path}
 use Rattle.fleet_model.specs.Visit.{IsVisit, Adjacent, ComesAfterByAwait}
 use Rattle.fleet_verify.specs.Listing.{AreLevels, IsBefore, IsSortedListing}
 use Rattle.fleet_verify.specs.declared.watch.Break.{Break}
@@ -66,9 +66,26 @@ pub record IsWatched (p : Program) (c : Cell) (stays : List Stay) (final : Optio
   pub judged : IsJudged (ComesAfterByAwait p) (visits_of (place_of c) stays) found
 
 -- so it is for each cell
-abbrev pub AreWatched : Program → Watch → Type 0
-AreWatched p w = (c : Cell) → IsWatched p c w.stays.items (get is_cell w.last c) (get is_cell w.breaks c)
+abbrev pub AreWatched : Program → List Stay → Watch → Type 0
+AreWatched p stays w = (c : Cell) → IsWatched p c stays (get is_cell w.last c) (get is_cell w.breaks c)
 
 -- each cell's first neighbours that break the rule
 abbrev pub AreBreaks : Program → List Stay → (Cell → Option Break) → Type 0
 AreBreaks p stays breaks = (c : Cell) → IsJudged (ComesAfterByAwait p) (visits_of (place_of c) stays) (breaks c)
+
+-- the visit's agent is on this cell then
+abbrev pub IsStay : Program → Stay → Type 0
+IsStay p s = place_of s.cell ≡ path p s.visit.agent s.visit.position
+
+-- these visits were noted, in this order
+pub record AreNoted (p : Program) (visits : List Visit) (w : Watch) : Type 0 where
+  pub stays : List Stay
+  pub same : map (λ s. s.visit) stays ≡ visits
+  pub each : All (IsStay p) stays
+  pub watched : AreWatched p stays w
+
+-- all visits were noted, those of each place sorted
+pub record AreAllNoted (p : Program) (w : Watch) : Type 0 where
+  pub stays : List Stay
+  pub all : AreAllStays p stays
+  pub watched : AreWatched p stays w

@@ -1,12 +1,11 @@
 -- The run without holds, and the visits in the order in which it begins them.
-use Rattle.std.specs.Prelude.{◌≡◌, ℕ, zero, suc, ◌+◌, ◌<◌, ◌≤◌, Bool, List, [], ◌++◌, length, map, filter, get_or, slice_index, IsTrue, IsFalse, All, Contains}
+use Rattle.std.specs.Prelude.{◌≡◌, ℕ, zero, suc, ◌+◌, ◌<◌, ◌≤◌, Bool, List, [], ◌++◌, length, map, filter, get_or, slice_index, IsTrue, IsFalse, Contains}
 use Rattle.fleet_model.specs.declared.geometry.Cell.{Cell}
 use Rattle.fleet_model.specs.declared.program.Await.{Await}
 use Rattle.fleet_model.specs.declared.program.Visit.{Visit}
 use Rattle.fleet_model.specs.Geometry.{place_of}
 use Rattle.fleet_model.specs.Program.{Program, origin, moves, awaits_of, path}
 use Rattle.fleet_model.specs.Machine.{Configuration, count_at, is_ready, run, is_over, indices}
-use Rattle.fleet_verify.specs.declared.watch.Stay.{Stay}
 
 -- the counts of the configuration
 abbrev pub AreCounts : Configuration → List ℕ → Type 0
@@ -34,20 +33,14 @@ unfoldable pub begun_in : Program → ℕ → List Visit
 begun_in p zero = map (λ i. record { agent = i; position = 0 }) (indices (length p))
 begun_in p (suc t) = begun_in p t ++ begun_by (is_ready p (run p [] t)) (count_at (run p [] t)) (length p)
 
--- the visit's agent is on this cell then
-abbrev pub IsStay : Program → Stay → Type 0
-IsStay p s = place_of s.cell ≡ path p s.visit.agent s.visit.position
-
 -- the cell of each agent
 pub record AreCells (p : Program) (counts : List ℕ) (cells : List Cell) : Type 0 where
   pub all : length cells ≡ length p
   pub here : (i : ℕ) → i < length p → place_of (get_or cells i origin) ≡ path p i (slice_index counts i)
 
 -- t ticks without holds, after which the run is over, and not before
-pub record IsWalk (p : Program) (counts : List ℕ) (stays : List Stay) (t : ℕ) : Type 0 where
+pub record IsWalk (p : Program) (counts : List ℕ) (t : ℕ) : Type 0 where
   pub all : length counts ≡ length p
   pub finished : AreCounts (run p [] t) counts
-  pub visits : map (λ s. s.visit) stays ≡ begun_in p t
-  pub cells : All (IsStay p) stays
   pub over : IsTrue (is_over p (run p [] t))
   pub sooner : (s : ℕ) → s < t → IsFalse (is_over p (run p [] s))

@@ -7,7 +7,7 @@ ghost use Rattle.fleet_model.specs.Visit.{ComesAfterByAwait, IsOrderly};
 ghost use Rattle.fleet_grid.specs.Ground.{is_passable};
 ghost use Rattle.fleet_verify.specs.declared.watch.Break.{Break};
 ghost use Rattle.fleet_verify.specs.declared.fault.VerifyFault.TheVariants.{Unordered};
-ghost use Rattle.fleet_verify.specs.Order.{is_cell, AreAllStays, AreBreaks};
+ghost use Rattle.fleet_verify.specs.Order.{is_cell, AreAllNoted};
 ghost use Rattle.fleet_verify.specs.Faults.{HasRanges, IsFault};
 
 use crate::fault::VerifyFault;
@@ -25,8 +25,7 @@ pub fn check_order<P: ProgramView>(
     watch: &Watch,
 ) -> Result<(), VerifyFault>
     requires before { HasRanges (is_passable grid.now) instance.now (P.program program.now) }
-    requires stays { AreAllStays (P.program program.now) watch.now.stays.items }
-    requires breaks { AreBreaks (P.program program.now) watch.now.stays.items (get is_cell watch.now.breaks) }
+    requires noted { AreAllNoted (P.program program.now) watch.now }
     ensures ok { OnOk result (IsOrderly ComesAfterByAwait (P.program program.now)) }
     ensures err { IfErr result (λ f. IsFault (is_passable grid.now) instance.now (P.program program.now) f) }
 {

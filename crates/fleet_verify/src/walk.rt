@@ -1,11 +1,12 @@
 //! The run in which nobody is held. Its ticks are the levels of the actions.
 
-ghost use Rattle.std.specs.Prelude.{◌≡◌, ◌<◌, ◌≤◌, ◌+◌, ◌++◌, ◌↔◌, ℕ, Bool, true, false, [], length, map, get_or, slice_index, IsTrue, IfOk, OnOk, All, if◌then◌else◌};
+ghost use Rattle.std.specs.Prelude.{◌≡◌, ◌<◌, ◌≤◌, ◌+◌, ◌++◌, ◌↔◌, ℕ, Bool, true, false, [], length, map, get_or, slice_index, IsTrue, IfOk, OnOk, All, if◌then◌else◌, List};
+ghost use Rattle.fleet_model.specs.declared.program.Visit.{Visit};
 ghost use Rattle.fleet_model.specs.Program.{moves, IsWellFormed};
 ghost use Rattle.fleet_grid.specs.Ground.{is_passable};
 ghost use Rattle.fleet_verify.specs.Faults.{EachAction, StandsRight};
-ghost use Rattle.fleet_verify.specs.Order.{AreWatched};
-ghost use Rattle.fleet_verify.specs.Walk.{is_ready_by, IsReadyBy, begun_by, IsStay, AreCells, IsWalk};
+ghost use Rattle.fleet_verify.specs.Order.{AreNoted};
+ghost use Rattle.fleet_verify.specs.Walk.{is_ready_by, IsReadyBy, begun_by, begun_in, AreCells, IsWalk};
 
 use crate::watch::{Stay, Watch};
 use fleet_grid::Grid;
@@ -27,8 +28,8 @@ pub fn run_free<P: ProgramView>(
     grid: &Grid,
 ) -> Result<Walk, OutOfMemory>
     requires { EachAction (P.program program.now) (StandsRight (is_passable grid.now) (P.program program.now)) }
-    ensures walk { IfOk result (λ w. IsWalk (P.program program.now) w.counts.items w.watch.stays.items w.ticks) }
-    ensures watched { IfOk result (λ w. AreWatched (P.program program.now) w.watch) }
+    ensures walk { IfOk result (λ w. IsWalk (P.program program.now) w.counts.items w.ticks) }
+    ensures noted { IfOk result (λ w. AreNoted (P.program program.now) (begun_in (P.program program.now) w.ticks) w.watch) }
 {
     let mut cells = Vec::new(alloc);
     let mut counts = Vec::new(alloc);
@@ -97,17 +98,13 @@ fn advance<P: ProgramView>(
     requires counts { length counts.now ≡ length (P.program program.now) }
     requires next { next.old ≡ counts.now }
     requires cells { AreCells (P.program program.now) counts.now cells.old }
-    requires stays { All (IsStay (P.program program.now)) watch.old.stays.items }
-    requires watched { AreWatched (P.program program.now) watch.old }
     ensures some { IfOk result (λ b. IsTrue b → (i : ℕ) × (i < length (P.program program.now)) × IsReadyBy (P.program program.now) counts.now i) }
     ensures none { IfOk result (λ b. b ≡ false → (i : ℕ) → i < length (P.program program.now) → IsReadyBy (P.program program.now) counts.now i → ⊥) }
-    ensures still { IfOk result (λ b. b ≡ false → watch.new.stays.items ≡ watch.old.stays.items) }
+    ensures still { IfOk result (λ b. b ≡ false → watch.new ≡ watch.old) }
     ensures counts { OnOk result ((i : ℕ) → i < length (P.program program.now) → slice_index next.new i ≡ slice_index counts.now i + (if is_ready_by (P.program program.now) counts.now i then 1 else 0)) }
     ensures cells { OnOk result (AreCells (P.program program.now) next.new cells.new) }
-    ensures visits { OnOk result (map (λ s. s.visit) watch.new.stays.items
-        ≡ map (λ s. s.visit) watch.old.stays.items ++ begun_by (is_ready_by (P.program program.now) counts.now) (slice_index counts.now) (length (P.program program.now))) }
-    ensures stays { OnOk result (All (IsStay (P.program program.now)) watch.new.stays.items) }
-    ensures watched { OnOk result (AreWatched (P.program program.now) watch.new) }
+    ensures noted { OnOk result ((visits : List Visit) → AreNoted (P.program program.now) visits watch.old
+        → AreNoted (P.program program.now) (visits ++ begun_by (is_ready_by (P.program program.now) counts.now) (slice_index counts.now) (length (P.program program.now))) watch.new) }
 {
     let mut some = false;
     for agent in 0..program.agents() {

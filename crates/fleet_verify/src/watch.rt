@@ -24,25 +24,25 @@ pub struct Break {
     pub second: Visit,
 }
 
-/// All visits so far in the order in which they began, and for each cell the last of them and the first neighbours that break the rule.
+/// What is kept of the visits so far, in the order in which they began: the last one of each cell, and the first neighbours of each cell
+/// that break the rule.
 #[derive(Drop)]
 pub struct Watch {
-    pub stays: Vec<Stay>,
     pub last: IndexMap<Cell, Visit>,
     pub breaks: IndexMap<Cell, Break>,
 }
 
 impl Watch {
+    ghost use Rattle.std.specs.Prelude.{List};
+    ghost use Rattle.fleet_model.specs.declared.program.Visit.{Visit};
     ghost use Rattle.fleet_model.specs.Program.{Program};
-    ghost use Rattle.fleet_verify.specs.Order.{AreWatched};
+    ghost use Rattle.fleet_verify.specs.Order.{IsStay, AreNoted};
 
     /// No visits.
     pub fn new(alloc: Global) -> Self
-        ensures stays { result.stays.items ≡ [] }
-        ensures watched { (p : Program) → AreWatched p result }
+        ensures { (p : Program) → AreNoted p [] result }
     {
         Watch {
-            stays: Vec::new(alloc),
             last: IndexMap::new(alloc),
             breaks: IndexMap::new(alloc),
         }
@@ -51,12 +51,10 @@ impl Watch {
     /// Takes note of the next visit.
     pub fn note<P: ProgramView>(&mut self, program: &P, stay: Stay) -> Result<(), OutOfMemory>
         requires visit { IsVisit (P.program program.now) stay.visit }
-        requires watched { AreWatched (P.program program.now) self.old }
-        ensures stays { OnOk result (self.new.stays.items ≡ self.old.stays.items ++ stay ∷ []) }
-        ensures watched { OnOk result (AreWatched (P.program program.now) self.new) }
+        requires stay { IsStay (P.program program.now) stay }
+        ensures { OnOk result ((visits : List Visit) → AreNoted (P.program program.now) visits self.old → AreNoted (P.program program.now) (visits ++ stay.visit ∷ []) self.new) }
     {
         note_break(program, &mut self.last, &mut self.breaks, stay)?;
-        self.stays.push(stay)?;
         Ok(())
     }
 }

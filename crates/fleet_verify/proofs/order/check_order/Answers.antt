@@ -7,14 +7,14 @@ use Rattle.indexmap.specs.IndexMap.{get}
 use Rattle.fleet_verify.specs.Order.{is_cell}
 use Rattle.fleet_verify.proofs.Begun.{next_cell, next_there}
 use Rattle.fleet_verify.proofs.Ordered.{no_entries}
-use Rattle.fleet_verify.proofs.Judged.{broken_fault, unbroken, none_broken, starts_on, judged_first, judged_more, judged_agent, all_in_turn}
+use Rattle.fleet_verify.proofs.Judged.{broken_fault, breaks_of, unbroken, none_broken, starts_on, judged_first, judged_more, judged_agent, all_in_turn}
 use Rattle.fleet_verify.proofs.order.check_order.Goals as goal
 
 pub returns-in_err-check_cell-clause-err : goal.returns-in_err-check_cell-clause-err
 returns-in_err-check_cell-clause-err g c =
     let e = err_from_is_err_and c.from_residual.result c.from_residual.ensures.1 in
     rw (e.1, e.2)
-    (broken_fault (is_passable c.args.grid.now) c.args.instance.now (g.P.ProgramView.program c.args.program.now) c.args.watch.now.stays.items (get is_cell c.args.watch.now.breaks) c.requires.breaks c.loop-agent.agent 0 c.start-cell.result c.requires.before c.requires.stays
+    (broken_fault (is_passable c.args.grid.now) c.args.instance.now (g.P.ProgramView.program c.args.program.now) c.requires.noted.stays (get is_cell c.args.watch.now.breaks) (breaks_of (g.P.ProgramView.program c.args.program.now) c.requires.noted.stays c.args.watch.now c.requires.noted.watched) c.loop-agent.agent 0 c.start-cell.result c.requires.before c.requires.noted.all
     (omega (arith, c.agents-agent-end.ensures.count)) (omega arith) (starts_on (g.P.ProgramView.program c.args.program.now) c.loop-agent.agent c.start-cell.result c.start-cell.ensures) c.loop-agent.invariant
     c.in_err-check_cell.field-0.0 c.in_err-check_cell.ensures.err)
 
@@ -27,7 +27,7 @@ pub returns-in_err-check_cell-2-clause-err : goal.returns-in_err-check_cell-2-cl
 returns-in_err-check_cell-2-clause-err g c =
     let e = err_from_is_err_and c.from_residual-in_err-check_cell-2.result c.from_residual-in_err-check_cell-2.ensures.1 in
     rw (e.1, e.2)
-    (broken_fault (is_passable c.args.grid.now) c.args.instance.now (g.P.ProgramView.program c.args.program.now) c.args.watch.now.stays.items (get is_cell c.args.watch.now.breaks) c.requires.breaks c.loop-agent.agent (c.loop-finished.finished + 1) c.unwrap-cell.result c.requires.before c.requires.stays
+    (broken_fault (is_passable c.args.grid.now) c.args.instance.now (g.P.ProgramView.program c.args.program.now) c.requires.noted.stays (get is_cell c.args.watch.now.breaks) (breaks_of (g.P.ProgramView.program c.args.program.now) c.requires.noted.stays c.args.watch.now c.requires.noted.watched) c.loop-agent.agent (c.loop-finished.finished + 1) c.unwrap-cell.result c.requires.before c.requires.noted.all
     (omega (arith, c.agents-agent-end.ensures.count)) (omega (arith, c.moves-finished-end.ensures)) (next_cell (is_passable c.args.grid.now) (g.P.ProgramView.program c.args.program.now) c.loop-agent.agent c.loop-finished.finished c.loop-finished.cell c.unwrap-cell.result c.dir.result c.neighbour.result
     c.loop-finished.invariant.here c.dir.ensures c.unwrap-cell.ensures c.neighbour.ensures.some) c.loop-finished.invariant.judged
     c.in_err-check_cell-2.field-0.0 c.in_err-check_cell-2.ensures.err)
@@ -37,7 +37,7 @@ loop-finished-init g c =
     let p = g.P.ProgramView.program c.args.program.now in
     record {
       here = starts_on p c.loop-agent.agent c.start-cell.result c.start-cell.ensures;
-      judged = judged_first p c.args.watch.now.stays.items c.loop-agent.agent c.start-cell.result c.loop-agent.invariant c.start-cell.ensures (unbroken p c.args.watch.now.stays.items (get is_cell c.args.watch.now.breaks) c.requires.breaks c.start-cell.result c.in_ok-check_cell.ensures.ok);
+      judged = judged_first p c.loop-agent.agent c.start-cell.result c.loop-agent.invariant c.start-cell.ensures (unbroken p c.requires.noted.stays (get is_cell c.args.watch.now.breaks) c.requires.noted.all (breaks_of (g.P.ProgramView.program c.args.program.now) c.requires.noted.stays c.args.watch.now c.requires.noted.watched) c.start-cell.result c.in_ok-check_cell.ensures.ok);
     }
 
 pub loop-finished-preserved : goal.loop-finished-preserved
@@ -47,18 +47,18 @@ loop-finished-preserved g c =
     c.loop-finished.invariant.here c.dir.ensures c.unwrap-cell.ensures c.neighbour.ensures.some) in
     record {
       here = here;
-      judged = judged_more p c.args.watch.now.stays.items c.loop-agent.agent (c.loop-finished.finished + 1) c.unwrap-cell.result c.loop-finished.invariant.judged here (unbroken p c.args.watch.now.stays.items (get is_cell c.args.watch.now.breaks) c.requires.breaks c.unwrap-cell.result c.in_ok-check_cell-2.ensures.ok);
+      judged = judged_more p c.loop-agent.agent (c.loop-finished.finished + 1) c.unwrap-cell.result c.loop-finished.invariant.judged here (unbroken p c.requires.noted.stays (get is_cell c.args.watch.now.breaks) c.requires.noted.all (breaks_of (g.P.ProgramView.program c.args.program.now) c.requires.noted.stays c.args.watch.now c.requires.noted.watched) c.unwrap-cell.result c.in_ok-check_cell-2.ensures.ok);
     }
 
 pub loop-agent-preserved : goal.loop-agent-preserved
 loop-agent-preserved g c =
-    judged_agent (g.P.ProgramView.program c.args.program.now) c.args.watch.now.stays.items c.loop-agent.agent (c.loop-finished.finished + 1) c.loop-finished.invariant.judged (omega (arith, c.moves-finished-end.ensures))
+    judged_agent (g.P.ProgramView.program c.args.program.now) c.loop-agent.agent (c.loop-finished.finished + 1) c.loop-finished.invariant.judged (omega (arith, c.moves-finished-end.ensures))
 
 pub returns-clause-ok : goal.returns-clause-ok
 returns-clause-ok g c =
-    all_in_turn (g.P.ProgramView.program c.args.program.now) c.args.watch.now.stays.items c.loop-agent.agent c.requires.stays c.loop-agent.invariant (omega (arith, c.agents-agent-end.ensures.count))
+    all_in_turn (g.P.ProgramView.program c.args.program.now) c.requires.noted.stays c.loop-agent.agent c.requires.noted.all c.loop-agent.invariant (omega (arith, c.agents-agent-end.ensures.count))
 
 pub returns-then-is_empty-clause-ok : goal.returns-then-is_empty-clause-ok
 returns-then-is_empty-clause-ok g c =
-    none_broken (g.P.ProgramView.program c.args.program.now) c.args.watch.now.stays.items (get is_cell c.args.watch.now.breaks) c.requires.stays c.requires.breaks
+    none_broken (g.P.ProgramView.program c.args.program.now) c.requires.noted.stays (get is_cell c.args.watch.now.breaks) c.requires.noted.all (breaks_of (g.P.ProgramView.program c.args.program.now) c.requires.noted.stays c.args.watch.now c.requires.noted.watched)
     (λ d. rw (no_entries c.args.watch.now.breaks.entries (c.is_empty.ensures.0 c.if-is_empty.true)) refl)

@@ -4,11 +4,9 @@ use Rattle.fleet_model.proofs.Places.{place_of-injective}
 use Rattle.std.specs.Prelude.{is_some}
 use Rattle.std.specs.Map.{lookup}
 use Rattle.std.specs.HashMap.{IsUnique, IsEmpty, get}
-use Rattle.std.proofs.lemmas.Int.{ints}
 use Rattle.std.proofs.lemmas.Option.{none-some, same_Some}
 use Rattle.std.proofs.lemmas.List.Elements.{Contains-append_left, Contains-push, Contains-push_cases}
 use Rattle.fleet_model.specs.declared.geometry.Cell.{Cell}
-use Rattle.fleet_model.specs.declared.geometry.Place.{Place}
 use Rattle.fleet_model.specs.declared.geometry.Dir.{Dir}
 use Rattle.fleet_model.specs.declared.geometry.Dir.TheVariants.{North, East, South, West}
 use Rattle.fleet_model.specs.Geometry.{place_of, moved}

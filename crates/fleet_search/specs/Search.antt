@@ -1,5 +1,5 @@
 -- The search over cells and times.
-use Rattle.std.specs.Prelude.{◌≡◌, ℕ, ◌+◌, ◌-◌, ◌<◌, ◌≤◌, IsTrue, List, length, Contains, Option, Some, ◌↔◌, ◌⊎◌, vec_len}
+use Rattle.std.specs.Prelude.{◌≡◌, ℕ, ◌+◌, ◌<◌, ◌≤◌, IsTrue, List, length, Contains, Option, Some, ◌↔◌, ◌⊎◌, vec_len}
 use Rattle.std.specs.HashMap.{IsUnique, hash_map_len, get}
 use Rattle.fleet_model.specs.declared.geometry.Cell.{Cell}
 use Rattle.fleet_model.specs.Geometry.{place_of}

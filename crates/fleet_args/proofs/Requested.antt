@@ -1,6 +1,8 @@
 -- Words in which the command line finds no fault ask for a request.
-use Rattle.std.proofs.Common.{◌≡◌, ◌∙◌, ◌⊎◌, inl, inr, ◌||◌, ◌<◌, ◌^◌, ℕ, Bool, cond, true, false, List, [], Option, Some, None, codes, is_some, option_map, refl, sym, ap, subst, true≢false, arith, ltb-true}
+use Rattle.std.proofs.Common.{◌≡◌, ◌∙◌, ◌⊎◌, inl, inr, ◌||◌, ◌<◌, ◌^◌, ℕ, Bool, cond, true, false, List, [], ◌∷◌, map, Option, option_and_then, Some, None, codes, is_some, option_map, refl, sym, ap, subst, true≢false, arith, ltb-true}
 use Rattle.std.specs.Prelude.{pos}
+use Rattle.std.specs.Borrow.{Bor}
+use Rattle.std.specs.List.{list_any}
 use Rattle.std.specs.Str.{bytes_eq}
 use Rattle.std.specs.Str.Parse.{ParsesUnsigned, digits_value, without_leading_plus}
 use Rattle.std.proofs.lemmas.Slice.Eq.{bytes_eq-Decides}
@@ -16,8 +18,10 @@ use Rattle.clap.specs.declared.builder.value_parser.ValueParser.TheVariants as p
 use Rattle.clap.proofs.CallerReads.{signed_reads}
 use Rattle.clap.proofs.ValueTestLemmas.{accepts-Accepts}
 use Rattle.clap.proofs.WalkLemmas.{both}
-use Rattle.fleet_args.specs.CommandLine.{agents_rule, horizon_rule, fleet, instance_shape, check_shape, plan_shape, verify_shape, run_shape, rehearse_shape, word}
-use Rattle.fleet_args.specs.Request.{answered_by, asked_by, number_of, instance_by, check_by, plan_by, verify_by, run_by, rehearse_by, number_by, number_in}
+use Rattle.fleet_adg.specs.declared.deps.Deps.{Deps}
+use Rattle.fleet_adg.specs.declared.deps.Deps.TheVariants as deps
+use Rattle.fleet_args.specs.CommandLine.{DepsNames, AreDeps, agents_rule, horizon_rule, deps_rule, fleet, fleet_top, instance_shape, check_shape, plan_shape, compile_shape, verify_shape, run_shape, rehearse_shape, word}
+use Rattle.fleet_args.specs.Request.{answered_by, asked_by, deps_in, number_of, instance_by, check_by, plan_by, compile_by, verify_by, run_by, rehearse_by, number_by, number_in}
 use Rattle.fleet_args.proofs.RequestLemmas.{digits_from, is_small, is_small_number}
 use Rattle.fleet_args.proofs.MatchedRows.{Among}
 use Rattle.fleet_args.proofs.MatchedValues.{HasValue, default_value, optional_value, required_value}
@@ -64,11 +68,41 @@ number_default a rows low high is fits has =
     let number = number_value a rows low high is fits has in
     (number.0, ap number_of number.1)
 
+-- ---- names
+
+any_lent : (p : Text → Bool) (xs : List (Bor Text)) → list_any (λ x. p x.now) xs ≡ list_any p (map (λ x. x.now) xs)
+any_lent p [] = refl
+any_lent p (x ∷ xs) = ap (λ b. p x.now || b) (any_lent p xs)
+
+-- a text that is one of the two names is the name of a kind of awaits
+deps_known : (text : Text) → (bytes_eq (codes "all") text || (bytes_eq (codes "last") text || false)) ≡ true → (d : Deps) × (deps_in text ≡ Some d)
+deps_known text h = go (bytes_eq (codes "all") text) (bytes_eq (codes "last") text) refl refl h
+  where
+    go : (all last : Bool) → bytes_eq (codes "all") text ≡ all → bytes_eq (codes "last") text ≡ last → (all || (last || false)) ≡ true → (d : Deps) × (deps_in text ≡ Some d)
+    go true last e f t =
+        let same : codes "all" ≡ text = (bytes_eq-Decides (codes "all") text).0 e in
+        (deps.All, ap deps_in (sym same))
+    go false true e f t =
+        let same : codes "last" ≡ text = (bytes_eq-Decides (codes "last") text).0 f in
+        (deps.Last, ap deps_in (sym same))
+    go false false e f t = absurd (true≢false (sym t))
+
+-- a value that passed the names is one of them
+deps_value : (names : DepsNames) (a : Rule) (rows : List Row) → AreDeps names → a.parser ≡ Some (parser.Names names) → a.ignore_case ≡ false → HasValue a rows
+    → (d : Deps) × (option_and_then deps_in (first_of a.id rows) ≡ Some d)
+deps_value names a rows are is exact value =
+    let pass : accepts a.ignore_case (parser.Names names) value.text ≡ true = ap (λ p. accepts a.ignore_case (parser_of_value p) value.text) (sym is) ∙ value.pass in
+    let plain : list_any (λ name. bytes_eq name.now value.text) names.now ≡ true = rw exact at pass in
+    let among : list_any (λ name. bytes_eq name value.text) (codes "all" ∷ codes "last" ∷ []) ≡ true =
+    sym (any_lent (λ name. bytes_eq name value.text) names.now ∙ ap (list_any (λ name. bytes_eq name value.text)) are) ∙ plain in
+    let known = deps_known value.text among in
+    (known.0, ap (option_and_then deps_in) value.first ∙ known.1)
+
 -- ---- the commands
 
 -- a command of the program as a parse has it
 abbrev leaf : Shape → Shape
-leaf shape = built_leaf (inherited (with_leaf_noted (marked_built fleet.top)) shape)
+leaf shape = built_leaf (inherited (with_leaf_noted (marked_built fleet_top.top)) shape)
 
 -- the argument at this place among the words
 abbrev at : ℕ → Rule → Rule
@@ -105,19 +139,6 @@ check_answers words none =
     check_asks (λ id. first_of id (rows_after (leaf check_shape).rules [] words)) (λ id. number_by (one_of id (rows_after (leaf check_shape).rules [] words)))
     map.text scen.text plan.text agents.0 map.first scen.first plan.first agents.1
 
-plan_asks : (first : Text → Option Text) (number : Text → Option (Option ℕ)) (map scen : Text) (agents : Option ℕ) (horizon : ℕ) → first (codes "map") ≡ Some map
-    → first (codes "scen") ≡ Some scen → number (codes "agents") ≡ Some agents → number_of (number (codes "horizon")) ≡ Some horizon → is_some (plan_by first number) ≡ true
-plan_asks first number map scen agents horizon h k l m = rw (h, k, l, m) refl
-
-plan_answers : (words : List Text) → Answers plan_shape words
-plan_answers words none =
-    let rows = rows_after (leaf plan_shape).rules [] words in
-    let map = required_value (leaf plan_shape) words none (at 1 (word (codes "map"))) refl refl refl refl in
-    let scen = required_value (leaf plan_shape) words none (at 2 (word (codes "scen"))) refl refl refl refl in
-    let agents = number_option (at 3 agents_rule) rows 0 65535 refl (omega arith) (optional_value (leaf plan_shape) words none (at 3 agents_rule) refl refl) in
-    let horizon = number_default (at 4 horizon_rule) rows 1 65535 refl (omega arith) (default_value (leaf plan_shape) words none (at 4 horizon_rule) refl refl refl) in
-    plan_asks (λ id. first_of id rows) (λ id. number_by (one_of id rows)) map.text scen.text agents.0 horizon.0 map.first scen.first agents.1 horizon.1
-
 verify_asks : (first : Text → Option Text) (number : Text → Option (Option ℕ)) (map scen program : Text) (agents : Option ℕ) → first (codes "map") ≡ Some map
     → first (codes "scen") ≡ Some scen → first (codes "program") ≡ Some program → number (codes "agents") ≡ Some agents → is_some (verify_by first number) ≡ true
 verify_asks first number map scen program agents h k m l = rw (h, k, m, l) refl
@@ -146,6 +167,37 @@ run_answers words none =
     run_asks (λ id. first_of id (rows_after (leaf run_shape).rules [] words)) (λ id. number_by (one_of id (rows_after (leaf run_shape).rules [] words)))
     map.text scen.text program.text agents.0 map.first scen.first program.first agents.1
 
+plan_asks : (first : Text → Option Text) (number : Text → Option (Option ℕ)) (map scen : Text) (agents : Option ℕ) (horizon : ℕ) → first (codes "map") ≡ Some map
+    → first (codes "scen") ≡ Some scen → number (codes "agents") ≡ Some agents → number_of (number (codes "horizon")) ≡ Some horizon → is_some (plan_by first number) ≡ true
+plan_asks first number map scen agents horizon h k l m = rw (h, k, l, m) refl
+
+plan_answers : (words : List Text) → Answers plan_shape words
+plan_answers words none =
+    let rows = rows_after (leaf plan_shape).rules [] words in
+    let map = required_value (leaf plan_shape) words none (at 1 (word (codes "map"))) refl refl refl refl in
+    let scen = required_value (leaf plan_shape) words none (at 2 (word (codes "scen"))) refl refl refl refl in
+    let agents = number_option (at 3 agents_rule) rows 0 65535 refl (omega arith) (optional_value (leaf plan_shape) words none (at 3 agents_rule) refl refl) in
+    let horizon = number_default (at 4 horizon_rule) rows 1 65535 refl (omega arith) (default_value (leaf plan_shape) words none (at 4 horizon_rule) refl refl refl) in
+    plan_asks (λ id. first_of id rows) (λ id. number_by (one_of id rows)) map.text scen.text agents.0 horizon.0 map.first scen.first agents.1 horizon.1
+
+compile_asks : (first : Text → Option Text) (number : Text → Option (Option ℕ)) (map scen plan out : Text) (agents : Option ℕ) (d : Deps) → first (codes "map") ≡ Some map
+    → first (codes "scen") ≡ Some scen → first (codes "plan") ≡ Some plan → first (codes "out") ≡ Some out → number (codes "agents") ≡ Some agents
+    → option_and_then deps_in (first (codes "deps")) ≡ Some d → is_some (compile_by first number) ≡ true
+compile_asks first number map scen plan out agents d h k l m n o = rw (h, k, l, m, n, o) refl
+
+compile_answers : (names : DepsNames) → AreDeps names → (words : List Text) → Answers (compile_shape names) words
+compile_answers names are words none =
+    let s = leaf (compile_shape names) in
+    let rows = rows_after s.rules [] words in
+    let map = required_value s words none (at 1 (word (codes "map"))) refl refl refl refl in
+    let scen = required_value s words none (at 2 (word (codes "scen"))) refl refl refl refl in
+    let plan = required_value s words none (at 3 (word (codes "plan"))) refl refl refl refl in
+    let out = required_value s words none (at 4 (word (codes "out"))) refl refl refl refl in
+    let agents = number_option (at 5 agents_rule) rows 0 65535 refl (omega arith) (optional_value s words none (at 5 agents_rule) refl refl) in
+    let named = deps_value names (at 6 (deps_rule names)) rows are refl refl (default_value s words none (at 6 (deps_rule names)) refl refl refl) in
+    compile_asks (λ id. first_of id rows) (λ id. number_by (one_of id rows)) map.text scen.text plan.text out.text agents.0 named.0
+    map.first scen.first plan.first out.first agents.1 named.1
+
 rehearse_asks : (first : Text → Option Text) (program : Text) → first (codes "program") ≡ Some program → is_some (rehearse_by first) ≡ true
 rehearse_asks first program h = rw h refl
 
@@ -156,23 +208,26 @@ rehearse_answers words none =
 
 -- ---- the command line
 
-answers_each : (s : Shape) (words : List Text) → Among s (built fleet).subs → (name : Text) → answers_to name (label_of s) ≡ true → bytes_eq name (codes "help") ≡ false
-    → level_fault s [] nothing_held words false [] ≡ [] → is_some (asked_by (Some (rows_at s words))) ≡ true
-answers_each s words among name named no_help = elim among [
+answers_each : (names : DepsNames) → AreDeps names → (s : Shape) (words : List Text) → Among s (built (fleet names)).subs → (name : Text) → answers_to name (label_of s) ≡ true
+    → bytes_eq name (codes "help") ≡ false → level_fault s [] nothing_held words false [] ≡ [] → is_some (asked_by (Some (rows_at s words))) ≡ true
+answers_each names are s words among name named no_help = elim among [
   | inl same ↦ subst P (sym same) (instance_answers words)
   | inr second ↦ elim second [
     | inl same ↦ subst P (sym same) (check_answers words)
     | inr third ↦ elim third [
       | inl same ↦ subst P (sym same) (plan_answers words)
       | inr fourth ↦ elim fourth [
-        | inl same ↦ subst P (sym same) (verify_answers words)
+        | inl same ↦ subst P (sym same) (compile_answers names are words)
         | inr fifth ↦ elim fifth [
-          | inl same ↦ subst P (sym same) (run_answers words)
+          | inl same ↦ subst P (sym same) (verify_answers words)
           | inr sixth ↦ elim sixth [
-            | inl same ↦ subst P (sym same) (rehearse_answers words)
-            | inr last ↦ elim last [
-              | inl same ↦ λ none. absurd (true≢false (sym (helps (ap (λ x. answers_to name (label_of x)) (sym same) ∙ named)) ∙ no_help))
-              | inr nothing ↦ absurd nothing
+            | inl same ↦ subst P (sym same) (run_answers words)
+            | inr seventh ↦ elim seventh [
+              | inl same ↦ subst P (sym same) (rehearse_answers words)
+              | inr last ↦ elim last [
+                | inl same ↦ λ none. absurd (true≢false (sym (helps (ap (λ x. answers_to name (label_of x)) (sym same) ∙ named)) ∙ no_help))
+                | inr nothing ↦ absurd nothing
+              ]
             ]
           ]
         ]
@@ -191,7 +246,7 @@ answers_each s words among name named no_help = elim among [
         first true t = refl
         first false t = t
 
-pub is_answered : (words : List Text) → fault_of fleet words ≡ [] → is_some (answered_by fleet words) ≡ true
-is_answered words none =
-    let e = enters (built fleet) words refl refl none in
-    ap (λ o. is_some (asked_by o)) e.found ∙ answers_each e.command e.left e.among e.answers.0 e.answers.1 e.answers.2 e.none
+pub is_answered : (names : DepsNames) → AreDeps names → (words : List Text) → fault_of (fleet names) words ≡ [] → is_some (answered_by (fleet names) words) ≡ true
+is_answered names are words none =
+    let e = enters (built (fleet names)) words refl refl none in
+    ap (λ o. is_some (asked_by o)) e.found ∙ answers_each names are e.command e.left e.among e.answers.0 e.answers.1 e.answers.2 e.none

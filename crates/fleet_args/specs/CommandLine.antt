@@ -1,5 +1,6 @@
 -- The program's command line, as what a parse reads of it.
-use Rattle.std.specs.Prelude.{◌≡◌, true, false, List, [], ◌∷◌, Some, codes, pos, fold}
+use Rattle.std.specs.Prelude.{◌≡◌, true, false, List, [], ◌∷◌, Some, codes, pos, fold, map}
+use Rattle.std.specs.Borrow.{Bor}
 use Rattle.clap.specs.Words.{App, Shape, Rule, Text, new_app, new_rule, with_rule, with_subcommand, shape_of, rule_of}
 use Rattle.clap.specs.declared.builder.Arg.{Arg}
 use Rattle.clap.specs.declared.builder.Command.TheViews.{out-Command as fields_of}
@@ -22,6 +23,18 @@ agents_rule = record (option (codes "agents")) { parser = Some (parser.Signed (p
 abbrev pub horizon_rule : Rule
 horizon_rule = record (option (codes "horizon")) { parser = Some (parser.Signed (pos 1) (pos 65535)); defaults = codes "1024" ∷ [] }
 
+-- the names of the kinds of awaits, as texts that are lent
+abbrev pub DepsNames : Type 0
+DepsNames = Bor (List (Bor Text))
+
+-- they are `all` and `last`
+abbrev pub AreDeps : DepsNames → Type 0
+AreDeps names = map (λ name. name.now) names.now ≡ codes "all" ∷ codes "last" ∷ []
+
+-- `--deps NAME`, and `last` where it is not used
+abbrev pub deps_rule : DepsNames → Rule
+deps_rule names = record (option (codes "deps")) { parser = Some (parser.Names names); defaults = codes "last" ∷ [] }
+
 -- a command without subcommands, by its name and its arguments
 abbrev pub command : Text → List Rule → Shape
 command name rules = (fold with_rule (new_app name) rules).top
@@ -34,6 +47,10 @@ check_shape = command (codes "check") (word (codes "map") ∷ word (codes "scen"
 
 abbrev pub plan_shape : Shape
 plan_shape = command (codes "plan") (word (codes "map") ∷ word (codes "scen") ∷ agents_rule ∷ horizon_rule ∷ [])
+
+abbrev pub compile_shape : DepsNames → Shape
+compile_shape names = command (codes "compile")
+    (word (codes "map") ∷ word (codes "scen") ∷ word (codes "plan") ∷ word (codes "out") ∷ agents_rule ∷ deps_rule names ∷ [])
 
 abbrev pub verify_shape : Shape
 verify_shape = command (codes "verify") (word (codes "map") ∷ word (codes "scen") ∷ word (codes "program") ∷ agents_rule ∷ [])
@@ -51,8 +68,9 @@ fleet_top = record (new_app (codes "fleet")) {
 }
 
 -- the whole command line
-abbrev pub fleet : App
-fleet = fold with_subcommand fleet_top (instance_shape ∷ check_shape ∷ plan_shape ∷ verify_shape ∷ run_shape ∷ rehearse_shape ∷ [])
+abbrev pub fleet : DepsNames → App
+fleet names = fold with_subcommand fleet_top
+    (instance_shape ∷ check_shape ∷ plan_shape ∷ compile_shape names ∷ verify_shape ∷ run_shape ∷ rehearse_shape ∷ [])
 
 -- the argument has this rule, and does not reach into other commands
 abbrev pub IsArg : Rule → Arg → Type 0

@@ -9,6 +9,9 @@ use Rattle.clap.specs.ValueTests.{is_numeral}
 use Rattle.clap.specs.declared.parser.matches.Found.{Found}
 use Rattle.clap.specs.declared.error.ErrorKind.{ErrorKind}
 use Rattle.clap.specs.declared.error.ErrorKind.TheVariants as kind
+use Rattle.fleet_adg.specs.declared.deps.Deps.{Deps}
+use Rattle.fleet_adg.specs.declared.deps.Deps.TheVariants as deps
+use Rattle.fleet_args.specs.CommandLine.{DepsNames, AreDeps, fleet}
 use Rattle.fleet_args.specs.declared.request.Request.{Request}
 use Rattle.fleet_args.specs.declared.request.Request.TheVariants as r
 use Rattle.fleet_args.specs.declared.request.WordStop.{WordStop}
@@ -19,6 +22,7 @@ pub data Asked : Type 0 where
   ask_instance : Text → Text → Option ℕ → Asked
   ask_check : Text → Text → Text → Option ℕ → Asked
   ask_plan : Text → Text → Option ℕ → ℕ → Asked
+  ask_compile : Text → Text → Text → Text → Option ℕ → Deps → Asked
   ask_verify : Text → Text → Text → Option ℕ → Asked
   ask_run : Text → Text → Text → Option ℕ → Option Text → Asked
   ask_rehearse : Text → Option Text → Asked
@@ -27,6 +31,7 @@ abbrev pub asked_of : Request → Asked
 asked_of (r.Instance map scen agents) = ask_instance map.now scen.now agents
 asked_of (r.Check map scen plan agents) = ask_check map.now scen.now plan.now agents
 asked_of (r.Plan map scen agents horizon) = ask_plan map.now scen.now agents horizon
+asked_of (r.Compile map scen plan out agents deps) = ask_compile map.now scen.now plan.now out.now agents deps
 asked_of (r.Verify map scen program agents) = ask_verify map.now scen.now program.now agents
 asked_of (r.Run map scen program agents holds) = ask_run map.now scen.now program.now agents (option_map (λ text. text.now) holds)
 asked_of (r.Rehearse program holds) = ask_rehearse program.now (option_map (λ text. text.now) holds)
@@ -43,6 +48,10 @@ number_by text = option_map_or (λ t. option_map Some (number_in t)) text (Some 
 
 abbrev pub number_found : Found → Text → Option (Option ℕ)
 number_found found id = number_by (one_text found id)
+
+-- the kind of awaits of a name
+abbrev pub deps_in : Text → Option Deps
+deps_in text = if bytes_eq text (codes "all") then Some deps.All else (if bytes_eq text (codes "last") then Some deps.Last else None)
 
 -- the number of an option that has one in any case
 abbrev pub number_of : Option (Option ℕ) → Option ℕ
@@ -72,6 +81,17 @@ plan_by first number =
     option_map (λ horizon. ask_plan map scen agents horizon)
     (number_of (number (codes "horizon")))) (number (codes "agents"))) (first (codes "scen"))) (first (codes "map"))
 
+abbrev pub compile_by : (Text → Option Text) → (Text → Option (Option ℕ)) → Option Asked
+compile_by first number =
+    option_and_then (λ map.
+    option_and_then (λ scen.
+    option_and_then (λ plan.
+    option_and_then (λ out.
+    option_and_then (λ agents.
+    option_map (λ deps. ask_compile map scen plan out agents deps)
+    (option_and_then deps_in (first (codes "deps")))) (number (codes "agents"))) (first (codes "out"))) (first (codes "plan")))
+    (first (codes "scen"))) (first (codes "map"))
+
 abbrev pub verify_by : (Text → Option Text) → (Text → Option (Option ℕ)) → Option Asked
 verify_by first number =
     option_and_then (λ map.
@@ -97,9 +117,10 @@ asked_from name first number =
     if bytes_eq name (codes "instance") then instance_by first number
     else (if bytes_eq name (codes "check") then check_by first number
     else (if bytes_eq name (codes "plan") then plan_by first number
+    else (if bytes_eq name (codes "compile") then compile_by first number
     else (if bytes_eq name (codes "verify") then verify_by first number
     else (if bytes_eq name (codes "run") then run_by first number
-    else (if bytes_eq name (codes "rehearse") then rehearse_by first else None)))))
+    else (if bytes_eq name (codes "rehearse") then rehearse_by first else None))))))
 
 -- what a command and its matches ask
 abbrev pub asked_by : Option (Text × List Row) → Option Asked
@@ -138,3 +159,7 @@ Asks app words asked = (fault_of app words ≡ []) × (answered_by app words ≡
 -- the answer is the request that the words ask, or a stop for words that are not taken
 abbrev pub Reads : App → List Text → Result Request WordStop → Type 0
 Reads app words result = MatchResult result (λ request. Asks app words (asked_of request)) (StopsFor app words)
+
+-- .. of the program's command line, whatever texts hold the names
+abbrev pub ReadsFleet : List Text → Result Request WordStop → Type 0
+ReadsFleet words result = (names : DepsNames) × AreDeps names × Reads (fleet names) words result

@@ -2,7 +2,7 @@
 
 ghost use Rattle.std.specs.Prelude.{◌≡◌, ◌∷◌, [], IfOk, codes};
 ghost use Rattle.clap.specs.Words.{app_of};
-ghost use Rattle.fleet_args.specs.CommandLine.{IsArg, IsLeafCommand, word, option, agents_rule, horizon_rule, command, instance_shape, check_shape, plan_shape, verify_shape, run_shape, rehearse_shape, fleet_top, fleet};
+ghost use Rattle.fleet_args.specs.CommandLine.{IsArg, IsLeafCommand, word, option, agents_rule, horizon_rule, deps_rule, command, instance_shape, check_shape, plan_shape, compile_shape, verify_shape, run_shape, rehearse_shape, fleet_top, fleet};
 
 use clap::{Arg, Command};
 use std::alloc::{AllocError, Global};
@@ -60,6 +60,17 @@ fn plan<'a>(alloc: Global) -> Arg<'a>
     )
 }
 
+fn out<'a>(alloc: Global) -> Arg<'a>
+    ensures { IsArg (word (codes "out")) result }
+{
+    positional(
+        alloc,
+        "out",
+        "OUT",
+        "The file to which the program bytes are written",
+    )
+}
+
 fn program<'a>(alloc: Global) -> Arg<'a>
     ensures { IsArg (word (codes "program")) result }
 {
@@ -89,6 +100,20 @@ fn horizon<'a>(alloc: Global) -> Arg<'a>
     )
     .value_parser(clap::value_parser!(u16).range(1..))
     .default_value("1024")
+}
+
+/// Which earlier leavings of a cell an action awaits, by these names.
+fn deps<'a>(alloc: Global, names: &'a [&'a str]) -> Arg<'a>
+    ensures { IsArg (deps_rule names.entry) result }
+{
+    option(
+        alloc,
+        "deps",
+        "DEPS",
+        "Await the last leaving of a cell by each other agent, or only the very last leaving",
+    )
+    .value_parser(names)
+    .default_value("last")
 }
 
 fn holds<'a>(alloc: Global) -> Arg<'a>
@@ -147,6 +172,20 @@ fn plan_command<'a>(alloc: Global) -> Result<Command<'a>, AllocError>
     .arg(horizon(alloc))
 }
 
+fn compile_command<'a>(alloc: Global, names: &'a [&'a str]) -> Result<Command<'a>, AllocError>
+    ensures { IfOk result (IsLeafCommand (compile_shape names.entry)) }
+{
+    map_and_scen(
+        alloc,
+        "compile",
+        "Compiles a plan that is free of conflict into a program of moves and awaits",
+    )?
+    .arg(plan(alloc))?
+    .arg(out(alloc))?
+    .arg(agents(alloc))?
+    .arg(deps(alloc, names))
+}
+
 fn verify_command<'a>(alloc: Global) -> Result<Command<'a>, AllocError>
     ensures { IfOk result (IsLeafCommand verify_shape) }
 {
@@ -197,14 +236,15 @@ fn without_commands<'a>(alloc: Global) -> Result<Command<'a>, AllocError>
     )
 }
 
-/// The whole command line.
-pub fn fleet_command<'a>(alloc: Global) -> Result<Command<'a>, AllocError>
-    ensures { IfOk result (λ command. app_of command ≡ fleet) }
+/// The whole command line, where these are the names of the kinds of awaits.
+pub fn fleet_command<'a>(alloc: Global, names: &'a [&'a str]) -> Result<Command<'a>, AllocError>
+    ensures { IfOk result (λ command. app_of command ≡ fleet names.entry) }
 {
     without_commands(alloc)?
         .subcommand(instance_command(alloc)?)?
         .subcommand(check_command(alloc)?)?
         .subcommand(plan_command(alloc)?)?
+        .subcommand(compile_command(alloc, names)?)?
         .subcommand(verify_command(alloc)?)?
         .subcommand(run_command(alloc)?)?
         .subcommand(rehearse_command(alloc)?)

@@ -2,12 +2,13 @@
 
 ghost use Rattle.std.specs.Prelude.{◌≡◌, option_map, map, string_bytes};
 ghost use Rattle.clap.specs.Words.{found_of, first_value, subcommand_rows_of, kind_of};
-ghost use Rattle.fleet_args.specs.CommandLine.{fleet};
-ghost use Rattle.fleet_args.specs.Request.{asked_of, asked_by, asked_from, instance_by, check_by, plan_by, verify_by, run_by, rehearse_by, number_found, IsStopOf, Reads};
+ghost use Rattle.fleet_args.specs.CommandLine.{AreDeps, fleet};
+ghost use Rattle.fleet_args.specs.Request.{asked_of, asked_by, asked_from, deps_in, instance_by, check_by, plan_by, compile_by, verify_by, run_by, rehearse_by, number_found, IsStopOf, Reads, ReadsFleet};
 
 use crate::command_line::fleet_command;
 use clap::ArgMatches;
 use clap::error::ErrorKind;
+use fleet_adg::Deps;
 use std::alloc::Global;
 use thiserror::Error;
 
@@ -30,6 +31,14 @@ pub enum Request<'a> {
         scen: &'a str,
         agents: Option<u16>,
         horizon: u16,
+    },
+    Compile {
+        map: &'a str,
+        scen: &'a str,
+        plan: &'a str,
+        out: &'a str,
+        agents: Option<u16>,
+        deps: Deps,
     },
     Verify {
         map: &'a str,
@@ -66,6 +75,17 @@ fn number(rows: &ArgMatches<'_>, id: &str) -> Option<Option<u16>>
     ensures { result ≡ number_found (found_of rows.now) id.now }
 {
     rows.try_get_one::<u16>(id).ok()
+}
+
+/// The kind of awaits of a name.
+fn deps_of(name: &str) -> Option<Deps>
+    ensures { result ≡ deps_in name.now }
+{
+    match name {
+        "all" => Some(Deps::All),
+        "last" => Some(Deps::Last),
+        _ => None,
+    }
 }
 
 fn instance_in<'a>(rows: &ArgMatches<'a>) -> Option<Request<'a>>
@@ -107,6 +127,26 @@ fn plan_in<'a>(rows: &ArgMatches<'a>) -> Option<Request<'a>>
         scen,
         agents,
         horizon,
+    })
+}
+
+fn compile_in<'a>(rows: &ArgMatches<'a>) -> Option<Request<'a>>
+    ensures { option_map asked_of result
+        ≡ compile_by (first_value (found_of rows.now)) (number_found (found_of rows.now)) }
+{
+    let map = rows.get_str("map")?;
+    let scen = rows.get_str("scen")?;
+    let plan = rows.get_str("plan")?;
+    let out = rows.get_str("out")?;
+    let agents = number(rows, "agents")?;
+    let deps = deps_of(rows.get_str("deps")?)?;
+    Some(Request::Compile {
+        map,
+        scen,
+        plan,
+        out,
+        agents,
+        deps,
     })
 }
 
@@ -161,6 +201,7 @@ fn request_by<'a>(name: &str, rows: &ArgMatches<'a>) -> Option<Request<'a>>
         "instance" => instance_in(rows),
         "check" => check_in(rows),
         "plan" => plan_in(rows),
+        "compile" => compile_in(rows),
         "verify" => verify_in(rows),
         "run" => run_in(rows),
         "rehearse" => rehearse_in(rows),
@@ -190,12 +231,16 @@ fn stop_of(alloc: Global, error: &clap::Error) -> WordStop
     }
 }
 
-/// Reads the words after the program's name, as `clap` reads them by the definition of the command line. `Usage` and `Help` come
-/// only where that definition does not take the words, and `Help` only where they ask for help.
-pub fn read_words<'a>(alloc: Global, words: &'a [String]) -> Result<Request<'a>, WordStop>
-    ensures { Reads fleet (map string_bytes words.entry.now) result }
+/// Reads the words by the definition of the command line in which these names are those of the kinds of awaits.
+fn read_by<'a>(
+    alloc: Global,
+    names: &'a [&'a str],
+    words: &'a [String],
+) -> Result<Request<'a>, WordStop>
+    requires { AreDeps names }
+    ensures { Reads (fleet names.entry) (map string_bytes words.entry.now) result }
 {
-    let Ok(command) = fleet_command(alloc) else {
+    let Ok(command) = fleet_command(alloc, names) else {
         return Err(WordStop::OutOfMemory);
     };
     match command.try_get_matches_from(words) {
@@ -205,4 +250,14 @@ pub fn read_words<'a>(alloc: Global, words: &'a [String]) -> Result<Request<'a>,
         },
         Err(error) => Err(stop_of(alloc, &error)),
     }
+}
+
+static DEPS: [&str; 2] = ["all", "last"];
+
+/// Reads the words after the program's name, as `clap` reads them by the definition of the command line. `Usage` and `Help` come
+/// only where that definition does not take the words, and `Help` only where they ask for help.
+pub fn read_words<'a>(alloc: Global, words: &'a [String]) -> Result<Request<'a>, WordStop>
+    ensures { ReadsFleet (map string_bytes words.entry.now) result }
+{
+    read_by(alloc, DEPS.as_slice(), words)
 }

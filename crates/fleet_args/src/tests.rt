@@ -1,4 +1,5 @@
 use super::*;
+use fleet_adg::Deps;
 use std::alloc::{AllocError, Global};
 use std::process::Abort;
 use std::test::Fail;
@@ -21,7 +22,7 @@ fn rehearse<'a>(program: &'a str, holds: Option<&'a str>) -> Request<'a> {
 
 #[test]
 fn words_make_a_request(rt: HostRuntime) -> Result<(), Fail> {
-    let rows: [(&[&str], Request<'_>); 17] = [
+    let rows: [(&[&str], Request<'_>); 19] = [
         (&["rehearse", "p"], rehearse("p", None)),
         (&["rehearse", "p", "--holds", "h"], rehearse("p", Some("h"))),
         (&["rehearse", "--holds=-", "p"], rehearse("p", Some("-"))),
@@ -77,6 +78,28 @@ fn words_make_a_request(rt: HostRuntime) -> Result<(), Fail> {
                 scen: "s",
                 agents: Some(2),
                 horizon: 65_535,
+            },
+        ),
+        (
+            &["compile", "m", "s", "p", "o"],
+            Request::Compile {
+                map: "m",
+                scen: "s",
+                plan: "p",
+                out: "o",
+                agents: None,
+                deps: Deps::Last,
+            },
+        ),
+        (
+            &["compile", "--deps", "all", "m", "s", "p", "o", "--agents=7"],
+            Request::Compile {
+                map: "m",
+                scen: "s",
+                plan: "p",
+                out: "o",
+                agents: Some(7),
+                deps: Deps::All,
             },
         ),
         (

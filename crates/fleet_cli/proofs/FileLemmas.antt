@@ -1,6 +1,6 @@
 -- What a store of files holds while it is read.
-use Rattle.std.proofs.Common.{◌≡◌, ℕ, List, Option, Some, None, sym, ◌∙◌}
-use Rattle.fleet_cli.specs.Files.{Store, Holds, IsKept}
+use Rattle.std.proofs.Common.{◌≡◌, ◌≢◌, ℕ, List, Option, Some, None, sym, ◌∙◌}
+use Rattle.fleet_cli.specs.Files.{Store, Holds, IsKept, ChangesOnly}
 
 -- what is read of a store that was only read before is what it held at first
 pub held_before : (old new : Option Store) (name bytes : List ℕ) → IsKept old new → Holds new name bytes → Holds old name bytes
@@ -13,3 +13,10 @@ kept_on None mid new h k = tt
 kept_on (Some files) None new h k = absurd h
 kept_on (Some files) (Some others) None h k = absurd k
 kept_on (Some files) (Some others) (Some last) h k = λ n. k n ∙ h n
+
+-- a store that was only read before one file of it was changed
+pub changes_on : (old mid new : Option Store) (name : List ℕ) → IsKept old mid → ChangesOnly mid new name → ChangesOnly old new name
+changes_on None mid new name h k = tt
+changes_on (Some files) None new name h k = absurd h
+changes_on (Some files) (Some others) None name h k = absurd k
+changes_on (Some files) (Some others) (Some last) name h k = λ n ne. k n ne ∙ h n

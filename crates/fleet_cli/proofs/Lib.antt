@@ -7,3 +7,4 @@ pub mod InstanceLemmas
 pub mod FileLemmas
 pub mod DriveLemmas
 pub mod ProblemLemmas
+pub mod CommandLemmas

@@ -14,3 +14,4 @@ pub mod VerifyCommand
 pub mod Driven
 pub mod DriveCommand
 pub mod PlanCommand
+pub mod CompileCommand

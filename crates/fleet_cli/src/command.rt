@@ -4,6 +4,7 @@ ghost use Rattle.std.specs.Prelude.{◌≡◌, ◌∷◌, false, map, string_byt
 ghost use Rattle.fleet_cli.specs.Command.{RunsRequest, StopsAtWords, RunsCommand};
 
 use crate::check_command::run_check;
+use crate::compile_command::run_compile;
 use crate::drive_command::run_run;
 use crate::fault::Fault;
 use crate::files::Files;
@@ -28,7 +29,7 @@ pub fn run_request<F: Files, O: TraceOut, E: TraceOut>(
 ) -> u8
     requires out_working { O.has_failed out.old ≡ false }
     requires err_working { E.has_failed err.old ≡ false }
-    ensures { RunsRequest (F.contents files.old) request.now
+    ensures { RunsRequest (F.contents files.old) (F.contents files.new) request.now
         (record { before = O.taken out.old; taken = O.taken out.new; has_failed = O.has_failed out.new; is_flushed = O.is_flushed out.new })
         (record { before = E.taken err.old; taken = E.taken err.new; has_failed = E.has_failed err.new; is_flushed = E.is_flushed err.new })
         result }
@@ -49,6 +50,14 @@ pub fn run_request<F: Files, O: TraceOut, E: TraceOut>(
             agents,
             horizon,
         } => run_plan(alloc, map, scen, agents, horizon, files, out, err),
+        Request::Compile {
+            map,
+            scen,
+            plan,
+            out: name,
+            agents,
+            deps,
+        } => run_compile(alloc, map, scen, plan, name, agents, deps, files, out, err),
         Request::Verify {
             map,
             scen,
@@ -102,7 +111,7 @@ pub fn run_command<R: Read, F: Files, O: TraceOut, E: TraceOut>(
 ) -> u8
     requires out_working { O.has_failed out.old ≡ false }
     requires err_working { E.has_failed err.old ≡ false }
-    ensures { RunsCommand (map string_bytes words.now) (R.remaining input.old) (F.contents files.old)
+    ensures { RunsCommand (map string_bytes words.now) (R.remaining input.old) (F.contents files.old) (F.contents files.new)
         (record { before = O.taken out.old; taken = O.taken out.new; has_failed = O.has_failed out.new; is_flushed = O.is_flushed out.new })
         (record { before = E.taken err.old; taken = E.taken err.new; has_failed = E.has_failed err.new; is_flushed = E.is_flushed err.new })
         result }

@@ -3,6 +3,7 @@
 
 mod check_command;
 mod command;
+mod compile_command;
 mod disk;
 mod drive_command;
 mod fault;
@@ -20,6 +21,7 @@ mod words;
 
 pub use check_command::run_check;
 pub use command::{run_command, run_request};
+pub use compile_command::run_compile;
 pub use disk::Disk;
 pub use drive_command::run_run;
 pub use fault::Fault;
@@ -36,6 +38,8 @@ pub use verify_command::run_verify;
 mod check_tests;
 #[cfg(test)]
 mod command_tests;
+#[cfg(test)]
+mod compile_tests;
 #[cfg(test)]
 mod file_tests;
 #[cfg(test)]

@@ -7,6 +7,7 @@ returns c =
     let one = joins _ _ _ _ _ c.in_ok-without_commands.ensures c.in_ok-instance_command.ensures c.in_ok-subcommand.ensures in
     let two = joins _ _ _ _ _ one c.in_ok-check_command.ensures c.in_ok-subcommand-2.ensures in
     let three = joins _ _ _ _ _ two c.in_ok-plan_command.ensures c.in_ok-subcommand-3.ensures in
-    let four = joins _ _ _ _ _ three c.in_ok-verify_command.ensures c.in_ok-subcommand-4.ensures in
-    let five = joins _ _ _ _ _ four c.in_ok-run_command.ensures c.in_ok-subcommand-5.ensures in
-    IfOk-weaker c.subcommand-6.result _ _ (λ r h. joins _ _ r _ _ five c.in_ok-rehearse_command.ensures h) c.subcommand-6.ensures
+    let four = joins _ _ _ _ _ three c.in_ok-compile_command.ensures c.in_ok-subcommand-4.ensures in
+    let five = joins _ _ _ _ _ four c.in_ok-verify_command.ensures c.in_ok-subcommand-5.ensures in
+    let six = joins _ _ _ _ _ five c.in_ok-run_command.ensures c.in_ok-subcommand-6.ensures in
+    IfOk-weaker c.subcommand-7.result _ _ (λ r h. joins _ _ r _ _ six c.in_ok-rehearse_command.ensures h) c.subcommand-7.ensures

@@ -17,3 +17,6 @@ returns-in-Run g c = rw c.in-Run.is c.run_run.ensures
 
 pub returns-in-Plan : goal.returns-in-Plan
 returns-in-Plan g c = rw c.in-Plan.is c.run_plan.ensures
+
+pub returns-in-Compile : goal.returns-in-Compile
+returns-in-Compile g c = rw c.in-Compile.is c.run_compile.ensures

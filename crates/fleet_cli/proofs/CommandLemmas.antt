@@ -1,0 +1,20 @@
+-- What the words of the command line ask.
+use Rattle.std.proofs.Common.{◌≡◌, ℕ, List, [], ◌∷◌, map, Option, Ok, Err, inl, inr, refl}
+use Rattle.clap.specs.Words.{Text}
+use Rattle.fleet_args.specs.Request.{ReadsFleet}
+use Rattle.fleet_args.specs.declared.request.Request.{Request}
+use Rattle.fleet_args.specs.declared.request.WordStop.{WordStop}
+use Rattle.fleet_cli.specs.Files.{Store}
+use Rattle.fleet_cli.specs.Output.{Output}
+use Rattle.fleet_cli.specs.Command.{RunsRequest, StopsAtWords, RunsCommand}
+
+module _ {X : Type 0} (text : X → Text) (input : Option (List ℕ)) (files after : Option Store) (out err : Output) (status : ℕ) where
+  pub asked : (ws : List X) (request : Request) → (ws ≡ [] → ⊥) → ReadsFleet (map text ws) (Ok request) → RunsRequest files after request out err status
+      → RunsCommand (map text ws) input files after out err status
+  asked [] request some h r = absurd (some refl)
+  asked (w ∷ ws) request some (names, are, asks) r = (names, are, inl (request, asks, r))
+
+  pub stopped : (ws : List X) (stop : WordStop) → (ws ≡ [] → ⊥) → ReadsFleet (map text ws) (Err stop) → StopsAtWords stop out err status
+      → RunsCommand (map text ws) input files after out err status
+  stopped [] stop some h r = absurd (some refl)
+  stopped (w ∷ ws) stop some (names, are, stops) r = (names, are, inr (stop, stops, r))

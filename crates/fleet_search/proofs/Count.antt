@@ -1,6 +1,7 @@
 -- How many moments there are to be reached.
-use Rattle.std.proofs.Common.{◌≡◌, ℕ, ◌+◌, ◌*◌, ◌-◌, ◌<◌, ◌≤◌, List, length, get_or, All, Option, Some, None, inl, inr, refl, sym, ap, ◌∙◌, subst, arith}
-use Rattle.std.specs.Prelude.{IsSome}
+use Rattle.std.proofs.Common.{◌≡◌, ℕ, ◌+◌, ◌*◌, ◌-◌, ◌<◌, ◌≤◌, true, false, List, length, get_or, All, Option, Some, None, inl, inr, refl, sym, ap, ◌∙◌, subst, arith}
+use Rattle.std.specs.Prelude.{IsSome, Vec}
+use Rattle.std.specs.declared.alloc.Global.{Global}
 use Rattle.std.specs.Cmp.{IsEquivalence}
 use Rattle.std.specs.Map.{keys_of}
 use Rattle.std.specs.List.{IsDistinct}
@@ -11,11 +12,11 @@ use Rattle.std.proofs.lemmas.Nat.{mul-add-lt, same_from_place}
 use Rattle.std.proofs.lemmas.Map.Keys.{apart_from_distinct}
 use Rattle.std.proofs.lemmas.Map.Views.{All-keys_from_lookup}
 use Rattle.fleet_model.specs.declared.geometry.Cell.{Cell}
+use Rattle.fleet_model.specs.Geometry.{place_of}
 use Rattle.fleet_search.proofs.Pigeon.{pigeonhole}
 use Rattle.fleet_search.specs.declared.moment.Moment.{Moment}
 use Rattle.fleet_search.specs.declared.frontier.Question.{Question}
 use Rattle.fleet_search.specs.Moment.{Noted, look_up, same_moment}
-use Rattle.fleet_search.specs.Reserved.{Rests}
 use Rattle.fleet_search.specs.Search.{IsFrontier}
 use Rattle.fleet_search.proofs.Spread.{on_map}
 use Rattle.fleet_search.proofs.Tables.{same_moment-refl, same_moment-true}
@@ -79,15 +80,15 @@ few w h t ks u all =
 pub room_of : Question → ℕ
 room_of q = (q.grid.now.width * q.grid.now.height) * (q.horizon + 1)
 
-pub few_known : (q : Question) (f : ℕ) (left : Option Moment) (came : Noted Cell) (now next later : List Moment) (settled : Rests) → IsFrontier q f left came now next later settled → hash_map_len came ≤ room_of q
+pub few_known : (q : Question) (f : ℕ) (left : Option Moment) (came : Noted Moment) (best : Noted ℕ) (stacks : List (Vec Moment Global)) → IsFrontier q f left came best stacks → hash_map_len came ≤ room_of q
 unfolding room_of
-few_known q f left came now next later settled fr =
+few_known q f left came best stacks fr =
     subst (λ n. n ≤ (q.grid.now.width * q.grid.now.height) * (q.horizon + 1)) (length-map came.entries _) (few q.grid.now.width q.grid.now.height (q.horizon + 1) (keys_of came.entries) fr.unique (All-keys_from_lookup same_moment_laws (IsInBox q.grid.now.width q.grid.now.height (q.horizon + 1)) came.entries in_box))
   where
     in_box : (m : Moment) → IsSome (look_up came m) → IsInBox q.grid.now.width q.grid.now.height (q.horizon + 1) m
     in_box m k = known_in (look_up came m) refl k
       where
-        known_in : (o : Option Cell) → look_up came m ≡ o → IsSome o → IsInBox q.grid.now.width q.grid.now.height (q.horizon + 1) m
+        known_in : (o : Option Moment) → look_up came m ≡ o → IsSome o → IsInBox q.grid.now.width q.grid.now.height (q.horizon + 1) m
         known_in None e k = absurd (cc)
         known_in (Some from) e k =
             let s = fr.sound m from e in

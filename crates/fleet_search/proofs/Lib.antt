@@ -2,8 +2,11 @@ pub mod Steps
 pub mod OneByOne
 pub mod Occupancy
 pub mod Chase
+pub mod Changing
 pub mod FitCode
 pub mod Tables
+pub mod Stacking
+pub mod Turning
 pub mod SearchSteps
 pub mod Pigeon
 pub mod Spread

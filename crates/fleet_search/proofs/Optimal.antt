@@ -1,5 +1,7 @@
 -- No way arrives before the paths that the search is looking at.
 use Rattle.std.proofs.Common.{◌≡◌, ℕ, zero, suc, ◌+◌, ◌-◌, ◌<◌, ◌≤◌, Bool, IsTrue, List, Option, Some, None, ◌⊎◌, inl, inr, refl, sym, ap, ◌∙◌, subst, arith, add-one}
+use Rattle.std.specs.Prelude.{Vec, Contains}
+use Rattle.std.specs.declared.alloc.Global.{Global}
 use Rattle.std.proofs.lemmas.Bool.{cases_lt}
 use Rattle.std.proofs.lemmas.Option.{none-some, same_Some}
 use Rattle.fleet_model.specs.declared.geometry.Cell.{Cell}
@@ -11,10 +13,10 @@ use Rattle.fleet_search.specs.declared.frontier.Question.{Question}
 use Rattle.fleet_grid.specs.Ground.{is_passable}
 use Rattle.fleet_search.specs.Moment.{Noted}
 use Rattle.fleet_search.specs.Way.{arrival, StepFits, IsWay, IsEarliest, HasNoWay}
-use Rattle.fleet_search.specs.Reserved.{IsFree, IsFreeFrom, IsStillFrom, Rests}
-use Rattle.fleet_search.specs.Search.{far_of, IsMeasured, IsStep, least_arrival, IsEnd, IsKnown, IsCalmFrom, IsExpanded, IsDone, IsAmong, IsFrontier, IsAsked, IsTrail}
+use Rattle.fleet_search.specs.Reserved.{IsFree, IsFreeFrom, IsFreeOn}
+use Rattle.fleet_search.specs.Search.{far_of, IsMeasured, IsStep, least_arrival, IsEnd, IsKnown, IsCovered, IsExpanded, IsFrontier, IsAsked, IsTrail, stack_in}
 use Rattle.fleet_search.proofs.Steps.{each_step, from_each_step}
-use Rattle.fleet_search.proofs.Chase.{step_ok-alone, step_ok-same}
+use Rattle.fleet_search.proofs.Chase.{step_ok-same}
 use Rattle.fleet_search.proofs.Occupancy.{cell_at-late}
 use Rattle.fleet_search.proofs.SearchSteps.{near-beside}
 
@@ -70,118 +72,68 @@ way-free q path w = no-way-busy (is_passable q.grid.now) q.reserved.now q.start 
 pub no-way-far : (q : Question) → IsMeasured q → (path : List Cell) → IsWayOf q path → (horizon : ℕ) → horizon < far_of q q.start → arrival path ≤ horizon → ⊥
 no-way-far q m path w horizon l h = let least = way-least q m path w in omega arith
 
--- a cell that is free at a time from which on it is still is free from then on
-free-on : (q : Question) (c : Cell) (s t u : ℕ) → IsStillFrom q.reserved.now c s → s ≤ t → s ≤ u → IsFree q.reserved.now t c → IsFree q.reserved.now u c
-free-on q c s t u still a b free j p e = free j p (still u j b p e t a)
+module _ (q : Question) (f : ℕ) (left : Option Moment) (came : Noted Moment) (best : Noted ℕ) (stacks : List (Vec Moment Global)) (fr : IsFrontier q f left came best stacks) (bound : (m : Moment) → left ≡ Some m → least_arrival q m ≡ f) (ask : IsAsked q) (path : List Cell) (w : IsWayOf q path) (in_time : arrival path ≤ q.horizon) (sooner : arrival path < f) where
+  -- all moves from the cell of the way at time t were noted, from a time since which it is free
+  record IsLeftBy (t : ℕ) : Type 0 where
+    since : ℕ
+    early : since ≤ t
+    free : IsFreeOn q.reserved.now (cell_at path t) since t
+    expanded : IsExpanded q came (record { time = since; cell = cell_at path t })
 
-module _ (q : Question) (f : ℕ) (left : Option Moment) (came : Noted Cell) (now next later : List Moment) (settled : Rests) (fr : IsFrontier q f left came now next later settled) (bound : (m : Moment) → left ≡ Some m → least_arrival q m ≡ f) (ask : IsAsked q) (path : List Cell) (w : IsWayOf q path) (in_time : arrival path ≤ q.horizon) (sooner : arrival path < f) where
-  -- the cell of the way at time t was left at an earlier time, and stays free meanwhile
-  record IsReachedBy (t s : ℕ) : Type 0 where
-    early : s ≤ t
-    free : (u : ℕ) → s ≤ u → u ≤ t → IsFree q.reserved.now u (cell_at path t)
+  not-open : (t s : ℕ) → t ≤ arrival path → s ≤ t → Contains (stack_in stacks (least_arrival q (record { time = s; cell = cell_at path t }))) (record { time = s; cell = cell_at path t }) → ⊥
+  not-open t s h l m =
+      let b = way-bound q fr.measured path w t h in
+      let none = fr.past (least_arrival q (record { time = s; cell = cell_at path t })) (omega arith) in
+      let z = (subst (λ z. Contains z (record { time = s; cell = cell_at path t })) none m).1 in
+      omega arith
 
-  not-open : (t s : ℕ) → t ≤ arrival path → s ≤ t → (let m : Moment = record { time = s; cell = cell_at path t } in IsAmong now next later m) → ⊥
-  not-open t s h l (inl a) = let b = way-bound q fr.measured path w t h in let e = (fr.now_open (record { time = s; cell = cell_at path t }) a).1 in omega arith
-  not-open t s h l (inr (inl a)) = let b = way-bound q fr.measured path w t h in let e = (fr.next_open (record { time = s; cell = cell_at path t }) a).1 in omega arith
-  not-open t s h l (inr (inr a)) = let b = way-bound q fr.measured path w t h in let e = (fr.later_open (record { time = s; cell = cell_at path t }) a).1 in omega arith
-
-  done-on : (t s : ℕ) → t ≤ arrival path → s ≤ t → IsKnown came (record { time = s; cell = cell_at path t }) → IsDone q came (record { time = s; cell = cell_at path t })
-  done-on t s h l k = elim (fr.done (record { time = s; cell = cell_at path t }) k) [
-    | inl a ↦ absurd (not-open t s h l a)
-    | inr r ↦ elim r [
-      | inl x ↦ absurd (let b = way-bound q fr.measured path w t h in let e = bound (record { time = s; cell = cell_at path t }) x in omega arith)
-      | inr e ↦ e
-    ]
-  ]
-
-  -- such a time, and all that is reached from it was noted
-  abbrev IsLeftBy : ℕ → Type 0
-  IsLeftBy t = (s : ℕ) × IsReachedBy t s × IsExpanded q came (record { time = s; cell = cell_at path t })
-
-  free-earlier : (t s : ℕ) → IsReachedBy t s → (d : IsDone q came (record { time = s; cell = cell_at path t })) → IsReachedBy t d.time
-  free-earlier t s r d = record { early = (let a = d.earlier in let b = r.early in omega arith); free = λ u a b. go u a b d.calm }
+  left-by : (t : ℕ) → t ≤ arrival path → IsCovered q came (cell_at path t) t → IsLeftBy t
+  left-by t h cv = record { since = cv.since; early = cv.early; free = cv.free; expanded = go (fr.done (record { time = cv.since; cell = cell_at path t }) cv.known) }
     where
-      go : (u : ℕ) → d.time ≤ u → u ≤ t → (d.time ≡ s) ⊎ IsCalmFrom q (cell_at path t) d.time → IsFree q.reserved.now u (cell_at path t)
-      go u a b (inl e) = r.free u (omega arith) b
-      go u a b (inr c) = free-on q (cell_at path t) d.time s u c.here d.earlier a (r.free s (omega arith) (r.early))
-
-  left-by : (t s : ℕ) → t ≤ arrival path → IsReachedBy t s → IsKnown came (record { time = s; cell = cell_at path t }) → IsLeftBy t
-  left-by t s h r k = let d = done-on t s h r.early k in (d.time, free-earlier t s r d, d.expanded)
-
-  -- a move that the way makes later can be made as soon as nothing changes any more
-  move-early : (t s : ℕ) → t + 1 ≤ arrival path → IsReachedBy t s → IsCalmFrom q (cell_at path t) s → IsExpanded q came (record { time = s; cell = cell_at path t }) → AreNeighbours (cell_at path t) (cell_at path (t + 1)) → IsLeftBy (t + 1)
-  move-early t s h r calm e n =
-      let c = cell_at path t in
-      let d = cell_at path (t + 1) in
-      let early = r.early in
-      let step = way-step q path w t in
-      let still = calm.beside d n step.on_ground in
-      let free_d = λ (u : ℕ) (a : s ≤ u). free-on q d s (t + 1) u still (omega arith) a (free-always q path w (t + 1)) in
-      let free_c = λ (u : ℕ) (a : s ≤ u). free-on q c s s u calm.here (omega arith) a (r.free s (omega arith) r.early) in
-      let now_step : IsStep q s c d = record { beside = inr n; on_ground = step.on_ground; fits = step_ok-alone q.reserved.now s c d (free_d (s + 1) (omega arith)) (free_c (s + 1) (omega arith)) } in
-      let b = way-bound q fr.measured path w (t + 1) h in
-      left-by (t + 1) (s + 1) h (record { early = omega arith; free = λ u x y. free_d u (omega arith) }) (e.moves d n now_step (omega arith))
-
-  -- or the agent waits, until it is time
-  move-on : (k t s : ℕ) → s + k ≡ t → t + 1 ≤ arrival path → IsReachedBy t s → IsExpanded q came (record { time = s; cell = cell_at path t }) → AreNeighbours (cell_at path t) (cell_at path (t + 1)) → IsLeftBy (t + 1)
-  move-on zero t s same h r e n =
-      let z : s ≡ t = omega arith in
-      let e' = subst (λ x. IsExpanded q came (record { time = x; cell = cell_at path t })) z e in
-      let b = way-bound q fr.measured path w (t + 1) h in
-      left-by (t + 1) (t + 1) h (record { early = omega arith; free = λ u x y. subst (λ v. IsFree q.reserved.now v (cell_at path (t + 1))) (let g : t + 1 ≡ u = omega arith in g) (free-always q path w (t + 1)) }) (e'.moves (cell_at path (t + 1)) n (way-step q path w t) (omega arith))
-  move-on (suc k) t s same h r e n = elim (e.wait) [
-    | inl calm ↦ move-early t s h r calm e n
-    | inr waited ↦
-        let c = cell_at path t in
-        let b = way-bound q fr.measured path w t (omega arith) in
-        let free_next = r.free (s + 1) (omega arith) (omega arith) in
-        let step : IsStep q s c c = record { beside = inl refl; on_ground = w.on_ground t; fits = step_ok-same q.reserved.now s c c free_next refl } in
-        let known = waited step (omega arith) in
-        let d = done-on t (s + 1) (omega arith) (omega arith) known in
-        let r' : IsReachedBy t (s + 1) = record { early = omega arith; free = λ u x y. r.free u (omega arith) y } in
-        let rd = free-earlier t (s + 1) r' d in
-        elim (d.calm) [
-          | inl z ↦ move-on k t (s + 1) (omega arith) h r' (subst (λ x. IsExpanded q came (record { time = x; cell = c })) z d.expanded) n
-          | inr calm ↦ move-early t d.time h rd calm d.expanded n
-        ]
-  ]
+      go : Contains (stack_in stacks (least_arrival q (record { time = cv.since; cell = cell_at path t }))) (record { time = cv.since; cell = cell_at path t }) ⊎ ((left ≡ Some (record { time = cv.since; cell = cell_at path t })) ⊎ IsExpanded q came (record { time = cv.since; cell = cell_at path t })) → IsExpanded q came (record { time = cv.since; cell = cell_at path t })
+      go (inl m) = absurd (not-open t cv.since h cv.early m)
+      go (inr (inl x)) = absurd (let b = way-bound q fr.measured path w t h in let e = bound (record { time = cv.since; cell = cell_at path t }) x in let l = cv.early in omega arith)
+      go (inr (inr e)) = e
 
   left-on : (t : ℕ) → t ≤ arrival path → IsLeftBy t
-  left-on zero h =
-      left-by 0 0 h (record { early = omega arith; free = λ u x y. subst (λ v. IsFree q.reserved.now v (cell_at path 0)) (let g : 0 ≡ u = omega arith in g) (free-always q path w 0) }) (subst (λ z. IsKnown came (record { time = 0; cell = z })) (sym w.starts) fr.origin)
+  left-on zero h = left-by 0 h (record {
+    since = 0;
+    early = omega arith;
+    known = subst (λ z. IsKnown came (record { time = 0; cell = z })) (sym w.starts) fr.origin;
+    free = λ u x y. subst (λ v. IsFree q.reserved.now v (cell_at path 0)) (let g : 0 ≡ u = omega arith in g) (free-always q path w 0);
+  })
   left-on (suc t) h = subst IsLeftBy (add-one t) (onward (left-on t (omega arith)) (w.successive t))
     where
       onward : IsLeftBy t → (cell_at path t ≡ cell_at path (t + 1)) ⊎ AreNeighbours (cell_at path t) (cell_at path (t + 1)) → IsLeftBy (t + 1)
-      onward (s, r, e) (inl same) =
-          let early = r.early in (
-            s,
-            record {
-              early = omega arith;
-              free = λ u x y. elim (cases_lt t u) [
-                | inl l ↦ subst (λ v. IsFree q.reserved.now v (cell_at path (t + 1))) (let g : t + 1 ≡ u = omega arith in g) (free-always q path w (t + 1))
-                | inr l ↦ subst (IsFree q.reserved.now u) same (r.free u x l)
-              ];
-            },
-            subst (λ z. IsExpanded q came (record { time = s; cell = z })) same e,
-          )
-      onward (s, r, e) (inr n) = let early = r.early in move-on (t - s) t s (omega arith) (omega arith) r e n
+      onward r (inl same) = record {
+        since = r.since;
+        early = (let e = r.early in omega arith);
+        free = λ u x y. elim (cases_lt t u) [
+          | inl l ↦ subst (λ v. IsFree q.reserved.now v (cell_at path (t + 1))) (let g : t + 1 ≡ u = omega arith in g) (free-always q path w (t + 1))
+          | inr l ↦ subst (IsFree q.reserved.now u) same (r.free u x l)
+        ];
+        expanded = subst (λ z. IsExpanded q came (record { time = r.since; cell = z })) same r.expanded;
+      }
+      onward r (inr n) =
+          let b = way-bound q fr.measured path w (t + 1) (omega arith) in
+          left-by (t + 1) (omega arith) (r.expanded.moves t (cell_at path (t + 1)) n (record { waits = r.early; free = r.free; step = way-step q path w t }) (omega arith))
 
   none-sooner : ⊥
   none-sooner =
       let T = arrival path in
-      let (s, r, e) = left-on T (omega arith) in
-      e.not_end (
+      let r = left-on T (omega arith) in
+      r.expanded.not_end (
         w.ends,
-        (ask.rest s).0 (λ u x. elim (cases_lt T u) [
+        (ask.rest r.since).0 (λ u x. elim (cases_lt T u) [
           | inl l ↦ way-free q path w u (omega arith)
           | inr l ↦ subst (IsFree q.reserved.now u) w.ends (r.free u x l)
         ]),
       )
 
 -- no way arrives before this time
-pub at_least : (q : Question) (f : ℕ) (left : Option Moment) (came : Noted Cell) (now next later : List Moment) (settled : Rests) → IsFrontier q f left came now next later settled → ((m : Moment) → left ≡ Some m → least_arrival q m ≡ f) → IsAsked q → (path : List Cell) → IsWayOf q path → arrival path ≤ q.horizon → f ≤ arrival path
-at_least q f left came now next later settled fr bound ask path w in_time = elim (cases_lt (arrival path) f) [
-  | inl s ↦ absurd (none-sooner q f left came now next later settled fr bound ask path w in_time s)
+pub at_least : (q : Question) (f : ℕ) (left : Option Moment) (came : Noted Moment) (best : Noted ℕ) (stacks : List (Vec Moment Global)) → IsFrontier q f left came best stacks → ((m : Moment) → left ≡ Some m → least_arrival q m ≡ f) → IsAsked q → (path : List Cell) → IsWayOf q path → arrival path ≤ q.horizon → f ≤ arrival path
+at_least q f left came best stacks fr bound ask path w in_time = elim (cases_lt (arrival path) f) [
+  | inl s ↦ absurd (none-sooner q f left came best stacks fr bound ask path w in_time s)
   | inr h ↦ h
 ]
 
@@ -224,13 +176,13 @@ module _ (q : Question) (ask : IsAsked q) (n : ℕ) (path : List Cell) (tr : IsT
   }
 
 -- the first end that is found is one of an earliest way
-pub found_earliest : (q : Question) (f : ℕ) (m : Moment) (came : Noted Cell) (now next later : List Moment) (settled : Rests) (path : List Cell) → IsAsked q → IsFrontier q f (Some m) came now next later settled → least_arrival q m ≡ f → IsEnd q m → f ≤ q.horizon → IsTrail q m.time m.cell path → IsEarliest (is_passable q.grid.now) q.reserved.now q.start q.goal q.horizon path
-found_earliest q f m came now next later settled path ask fr e end h tr = record {
+pub found_earliest : (q : Question) (f : ℕ) (m : Moment) (came : Noted Moment) (best : Noted ℕ) (stacks : List (Vec Moment Global)) (path : List Cell) → IsAsked q → IsFrontier q f (Some m) came best stacks → least_arrival q m ≡ f → IsEnd q m → f ≤ q.horizon → IsTrail q m.time m.cell path → IsEarliest (is_passable q.grid.now) q.reserved.now q.start q.goal q.horizon path
+found_earliest q f m came best stacks path ask fr e end h tr = record {
   way = trail_is_way q ask m.time path (subst (λ z. IsTrail q m.time z path) end.0 tr) end.1;
   in_time = (let t = time in omega arith);
   none_sooner = λ other w. elim (cases_lt q.horizon (arrival other)) [
     | inl l ↦ (let t = time in omega arith)
-    | inr l ↦ let t = time in let a = at_least q f (Some m) came now next later settled fr (λ x s. subst (λ z. least_arrival q z ≡ f) (same_Some m x s) e) ask other w l in omega arith
+    | inr l ↦ let t = time in let a = at_least q f (Some m) came best stacks fr (λ x s. subst (λ z. least_arrival q z ≡ f) (same_Some m x s) e) ask other w l in omega arith
   ];
 }
   where
@@ -241,7 +193,7 @@ found_earliest q f m came now next later settled path ask fr e end h tr = record
         omega arith
 
 -- where all times up to the horizon were looked at there is no way
-pub all_looked : (q : Question) (f : ℕ) (came : Noted Cell) (now next later : List Moment) (settled : Rests) → IsAsked q → IsFrontier q f None came now next later settled → q.horizon < f → HasNoWay (is_passable q.grid.now) q.reserved.now q.start q.goal q.horizon
-all_looked q f came now next later settled ask fr h path w in_time =
-    let a = at_least q f None came now next later settled fr (λ m s. absurd (none-some m s)) ask path w in_time in
+pub all_looked : (q : Question) (f : ℕ) (came : Noted Moment) (best : Noted ℕ) (stacks : List (Vec Moment Global)) → IsAsked q → IsFrontier q f None came best stacks → q.horizon < f → HasNoWay (is_passable q.grid.now) q.reserved.now q.start q.goal q.horizon
+all_looked q f came best stacks ask fr h path w in_time =
+    let a = at_least q f None came best stacks fr (λ m s. absurd (none-some m s)) ask path w in_time in
     omega arith

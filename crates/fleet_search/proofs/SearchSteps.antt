@@ -1,27 +1,30 @@
 -- The search, step by step.
-use Rattle.std.proofs.Common.{◌≡◌, ◌≢◌, ℕ, zero, suc, ◌+◌, ◌≤◌, Bool, true, false, cond, IsTrue, List, [], ◌∷◌, ◌++◌, Contains, Option, Some, None, ◌⊎◌, inl, inr, refl, sym, ap, ◌∙◌, subst, arith}
-use Rattle.fleet_model.proofs.Places.{place_of-injective}
-use Rattle.std.specs.Prelude.{is_some}
+use Rattle.std.proofs.Common.{◌≡◌, ◌≢◌, ℕ, zero, suc, ◌+◌, ◌-◌, ◌<◌, ◌≤◌, ◌==◌, Bool, true, false, cond, IsTrue, List, [], ◌∷◌, ◌++◌, length, Contains, Option, Some, None, ◌⊎◌, inl, inr, refl, sym, ap, ◌∙◌, subst, arith}
+use Rattle.std.specs.Prelude.{is_some, Vec}
+use Rattle.std.specs.declared.alloc.Global.{Global}
 use Rattle.std.specs.Map.{lookup}
-use Rattle.std.specs.HashMap.{IsUnique, IsEmpty, get}
+use Rattle.std.specs.HashMap.{IsUnique, IsEmpty}
+use Rattle.std.proofs.lemmas.Bool.{cases_Bool, cases_eq, cases_lt, eqb-true, eq-eqb, false_from_ne_true}
 use Rattle.std.proofs.lemmas.Option.{none-some, same_Some}
+use Rattle.std.proofs.lemmas.List.{length_push}
 use Rattle.std.proofs.lemmas.List.Elements.{Contains-append_left, Contains-push, Contains-push_cases}
+use Rattle.fleet_model.proofs.Places.{place_of-injective}
 use Rattle.fleet_model.specs.declared.geometry.Cell.{Cell}
 use Rattle.fleet_model.specs.declared.geometry.Dir.{Dir}
 use Rattle.fleet_model.specs.declared.geometry.Dir.TheVariants.{North, East, South, West}
 use Rattle.fleet_model.specs.Geometry.{place_of, moved}
+use Rattle.fleet_plan.specs.Plan.{Plan, cell_of}
+use Rattle.fleet_grid.specs.Ground.{is_passable}
 use Rattle.fleet_search.specs.declared.moment.Moment.{Moment}
 use Rattle.fleet_search.specs.declared.frontier.Question.{Question}
 use Rattle.fleet_search.specs.declared.frontier.Frontier.{Frontier}
-use Rattle.fleet_grid.specs.Ground.{is_passable}
 use Rattle.fleet_search.specs.Moment.{Noted, look_up, same_moment, Puts}
-use Rattle.fleet_search.specs.Reserved.{Rests, same_cell, IsStillFrom}
-use Rattle.fleet_search.specs.Search.{far_of, IsMeasured, AreBeside, IsStep, least_arrival, IsEnd, IsKnown, IsReachedFrom, IsSound, IsCalmFrom, HasWaited, IsExpanded, IsDone, AreOpen, IsAmong, IsFrontier, IsAsked, Grows}
-use Rattle.fleet_plan.specs.Plan.{Plan}
-use Rattle.std.proofs.lemmas.Bool.{cases_Bool}
-use Rattle.fleet_search.proofs.Occupancy.{cells-equal}
+use Rattle.fleet_search.specs.Reserved.{IsFree, IsFreeOn, AreChanges, same_cell}
+use Rattle.fleet_search.specs.Search.{far_of, IsMeasured, AreBeside, IsStep, least_arrival, IsEnd, IsKnown, IsMove, IsReachedFrom, IsSound, IsCovered, IsExpanded, IsFrontier, IsAsked, Grows, stack_in, IsPut, IsFreeUntil, IsFoundAt, IsFoundFrom}
 use Rattle.fleet_search.proofs.Spread.{back}
-use Rattle.fleet_search.proofs.Tables.{moment_cases, puts-here, puts-other}
+use Rattle.fleet_search.proofs.Chase.{step_ok-alone}
+use Rattle.fleet_search.proofs.Occupancy.{cells-equal}
+use Rattle.fleet_search.proofs.Tables.{moment_cases, puts-here, puts-other, same_cell-refl}
 
 -- ---- distances
 
@@ -38,162 +41,191 @@ puts-cases old new m v x w p h = elim (moment_cases m x) [
   | inr ne ↦ inr (sym (p x ∙ ap (λ b. cond b (Some v) (look_up old x)) ne) ∙ h)
 ]
 
-module _ (q : Question) (f : ℕ) (l : Moment) (came : Noted Cell) (now next later : List Moment) (settled : Rests) (fr : IsFrontier q f (Some l) came now next later settled) (cell : Cell) (came' : Noted Cell) (none : look_up came (record { time = l.time + 1; cell = cell }) ≡ None) (p : Puts came came' (record { time = l.time + 1; cell = cell }) l.cell) (unique : IsUnique same_moment came') (known : IsKnown came l) (step : IsStep q l.time l.cell cell) (in_time : l.time + 1 + far_of q cell ≤ q.horizon) where
-  stays : (x : Moment) → IsKnown came x → IsKnown came' x
-  stays x k = (k.0, puts-other came came' (record { time = l.time + 1; cell = cell }) l.cell x p (λ e. none-some k.0 (sym none ∙ ap (look_up came) e ∙ k.1)) ∙ k.1)
+module _ (q : Question) (f : ℕ) (l : Moment) (came : Noted Moment) (best : Noted ℕ) (stacks : List (Vec Moment Global)) (fr : IsFrontier q f (Some l) came best stacks) (u : ℕ) (cell : Cell) (came' : Noted Moment) (none : look_up came (record { time = u + 1; cell = cell }) ≡ None) (p : Puts came came' (record { time = u + 1; cell = cell }) l) (unique : IsUnique same_moment came') (known : IsKnown came l) (bound : least_arrival q l ≡ f) (move : IsMove q l u cell) (in_time : u + 1 + far_of q cell ≤ q.horizon) where
+  pub stays : (x : Moment) → IsKnown came x → IsKnown came' x
+  stays x k = (k.0, puts-other came came' (record { time = u + 1; cell = cell }) l x p (λ e. none-some k.0 (sym none ∙ ap (look_up came) e ∙ k.1)) ∙ k.1)
 
-  found : IsKnown came' (record { time = l.time + 1; cell = cell })
-  found = (l.cell, puts-here came came' (record { time = l.time + 1; cell = cell }) l.cell p)
+  pub found-new : IsKnown came' (record { time = u + 1; cell = cell })
+  found-new = (l, puts-here came came' (record { time = u + 1; cell = cell }) l p)
 
-  reached-stays : (x : Moment) (from : Cell) → IsReachedFrom q came x from → IsReachedFrom q came' x from
+  reached-stays : (x from : Moment) → IsReachedFrom q came x from → IsReachedFrom q came' x from
   reached-stays x from (inl h) = inl h
-  reached-stays x from (inr (t, e, k, s)) = inr (t, e, stays (record { time = t; cell = from }) k, s)
+  reached-stays x from (inr (t, e, k, s)) = inr (t, e, stays from k, s)
 
-  sound : (x : Moment) (from : Cell) → look_up came' x ≡ Some from → IsSound q came' x from
-  sound x from h = elim (puts-cases came came' (record { time = l.time + 1; cell = cell }) l.cell x from p h) [
-    | inl (e, g) ↦ subst (λ z. IsSound q came' z from) e (subst (λ z. IsSound q came' (record { time = l.time + 1; cell = cell }) z) (sym g) (record {
-      reached = inr (l.time, refl, stays l known, step);
+  sound : (x from : Moment) → look_up came' x ≡ Some from → IsSound q came' x from
+  sound x from h = elim (puts-cases came came' (record { time = u + 1; cell = cell }) l x from p h) [
+    | inl (e, g) ↦ subst (λ z. IsSound q came' z from) e (subst (λ z. IsSound q came' (record { time = u + 1; cell = cell }) z) (sym g) (record {
+      reached = inr (u, refl, stays l known, move);
       in_time = in_time;
-      on_ground = step.on_ground;
+      on_ground = move.step.on_ground;
+      free = move.step.fits.vertex;
     }))
     | inr old ↦
         let s = fr.sound x from old in
-        record { reached = reached-stays x from s.reached; in_time = s.in_time; on_ground = s.on_ground }
+        record { reached = reached-stays x from s.reached; in_time = s.in_time; on_ground = s.on_ground; free = s.free }
   ]
+
+  covered-stays : (c : Cell) (t : ℕ) → IsCovered q came c t → IsCovered q came' c t
+  covered-stays c t h = record { since = h.since; early = h.early; known = stays (record { time = h.since; cell = c }) h.known; free = h.free }
 
   expanded-stays : (x : Moment) → IsExpanded q came x → IsExpanded q came' x
-  expanded-stays x e = record {
-    moves = λ c n s h. stays (record { time = x.time + 1; cell = c }) (e.moves c n s h);
-    wait = elim (e.wait) [ inl c ↦ inl c | inr w ↦ inr (λ s h. stays (record { time = x.time + 1; cell = x.cell }) (w s h)) ];
-    not_end = e.not_end;
+  expanded-stays x e = record { moves = λ v c n m h. covered-stays c (v + 1) (e.moves v c n m h); not_end = e.not_end }
+
+  -- the new moment belongs on no stack before
+  late : f ≤ u + 1 + far_of q cell
+  late =
+      let n = near-beside q fr.measured l.cell cell (fr.sound l known.0 known.1).on_ground move.step.on_ground move.step.beside in
+      let a = n.1 in
+      let w = move.waits in
+      let b = bound in
+      omega arith
+
+  pub pushed : (best' : Noted ℕ) (stacks' : List (Vec Moment Global)) (since : ℕ) → since ≤ u + 1 → Puts best best' (record { time = since; cell = cell }) (u + 1) → IsPut stacks stacks' (u + 1 + far_of q cell) (record { time = u + 1; cell = cell }) → IsFrontier q f (Some l) came' best' stacks'
+  pushed best' stacks' since early pb put = record {
+    measured = fr.measured;
+    unique = unique;
+    origin = stays (record { time = 0; cell = q.start }) fr.origin;
+    sound = sound;
+    stacked = put_on;
+    past = λ k h. others k (λ e. let z = late in omega arith) ∙ fr.past k h;
+    done = done;
+    first = first;
   }
+    where
+      others : (k : ℕ) → (k ≡ u + 1 + far_of q cell → ⊥) → stack_in stacks' k ≡ stack_in stacks k
+      others k ne = put k ∙ ap (λ b. cond b (stack_in stacks k ++ record { time = u + 1; cell = cell } ∷ []) (stack_in stacks k)) (false_from_ne_true (k == u + 1 + far_of q cell) (λ e. ne (eqb-true k (u + 1 + far_of q cell) e)))
 
-  done-stays : (x : Moment) → IsDone q came x → IsDone q came' x
-  done-stays x d = record { time = d.time; earlier = d.earlier; expanded = expanded-stays (record { time = d.time; cell = x.cell }) d.expanded; calm = d.calm }
+      there : stack_in stacks' (u + 1 + far_of q cell) ≡ stack_in stacks (u + 1 + far_of q cell) ++ record { time = u + 1; cell = cell } ∷ []
+      there = put (u + 1 + far_of q cell) ∙ ap (λ b. cond b (stack_in stacks (u + 1 + far_of q cell) ++ record { time = u + 1; cell = cell } ∷ []) (stack_in stacks (u + 1 + far_of q cell))) (eq-eqb (u + 1 + far_of q cell) (u + 1 + far_of q cell) refl)
 
-  calm-stays : (c : Cell) (t : ℕ) → get same_cell settled c ≡ Some t → IsExpanded q came' (record { time = t; cell = c }) × IsCalmFrom q c t
-  calm-stays c t h = let w = fr.calm c t h in (expanded-stays (record { time = t; cell = c }) w.0, w.1)
+      keep : (k : ℕ) (m : Moment) → Contains (stack_in stacks k) m → Contains (stack_in stacks' k) m
+      keep k m h = elim (cases_eq k (u + 1 + far_of q cell)) [
+        | inl e ↦ subst (λ z. Contains (stack_in stacks' z) m) (sym e) (subst (λ z. Contains z m) (sym there) (Contains-append_left (stack_in stacks (u + 1 + far_of q cell)) (record { time = u + 1; cell = cell } ∷ []) m (subst (λ z. Contains (stack_in stacks z) m) e h)))
+        | inr ne ↦ subst (λ z. Contains z m) (sym (others k ne)) h
+      ]
 
-  open-stays : (n : ℕ) (ms : List Moment) → AreOpen q came n ms → AreOpen q came' n ms
-  open-stays n ms o m h = let w = o m h in (stays m w.0, w.1)
+      put_on : (k : ℕ) (m : Moment) → Contains (stack_in stacks' k) m → IsKnown came' m × (least_arrival q m ≡ k)
+      put_on k m h = elim (cases_eq k (u + 1 + far_of q cell)) [
+        | inl e ↦ elim (Contains-push_cases (stack_in stacks (u + 1 + far_of q cell)) (record { time = u + 1; cell = cell }) m (subst (λ z. Contains z m) there (subst (λ z. Contains (stack_in stacks' z) m) e h))) [
+          | inl o ↦ let w = fr.stacked (u + 1 + far_of q cell) m o in (stays m w.0, w.1 ∙ sym e)
+          | inr s ↦ subst (λ z. IsKnown came' z × (least_arrival q z ≡ k)) s (found-new, sym e)
+        ]
+        | inr ne ↦ let w = fr.stacked k m (subst (λ z. Contains z m) (others k ne) h) in (stays m w.0, w.1)
+      ]
 
-  open-push : (n : ℕ) (ms : List Moment) → AreOpen q came n ms → l.time + 1 + far_of q cell ≡ n → AreOpen q came' n (ms ++ record { time = l.time + 1; cell = cell } ∷ [])
-  open-push n ms o e m h = elim (Contains-push_cases ms (record { time = l.time + 1; cell = cell }) m h) [
-    | inl old ↦ open-stays n ms o m old
-    | inr s ↦ subst (λ z. IsKnown came' z × (least_arrival q z ≡ n)) s (found, e)
+      done : (x : Moment) → IsKnown came' x → Contains (stack_in stacks' (least_arrival q x)) x ⊎ ((let o : Option Moment = Some l in o ≡ Some x) ⊎ IsExpanded q came' x)
+      done x k = elim (puts-cases came came' (record { time = u + 1; cell = cell }) l x k.0 p k.1) [
+        | inl (e, g) ↦ inl (subst (λ z. Contains (stack_in stacks' (least_arrival q z)) z) e (subst (λ z. Contains z (record { time = u + 1; cell = cell })) (sym there) (Contains-push (stack_in stacks (u + 1 + far_of q cell)) (record { time = u + 1; cell = cell }))))
+        | inr old ↦ elim (fr.done x (k.0, old)) [
+          | inl a ↦ inl (keep (least_arrival q x) x a)
+          | inr r ↦ elim r [ inl s ↦ inr (inl s) | inr e ↦ inr (inr (expanded-stays x e)) ]
+        ]
+      ]
+
+      first : (x : Moment) (t : ℕ) → look_up best' x ≡ Some t → IsKnown came' (record { time = t; cell = x.cell }) × (x.time ≤ t)
+      first x t h = elim (puts-cases best best' (record { time = since; cell = cell }) (u + 1) x t pb h) [
+        | inl (e, g) ↦ subst (λ z. IsKnown came' (record { time = t; cell = z.cell }) × (z.time ≤ t)) e (subst (λ z. IsKnown came' (record { time = z; cell = cell }) × (since ≤ z)) (sym g) (found-new, early))
+        | inr old ↦ let w = fr.first x t old in (stays (record { time = t; cell = x.cell }) w.0, w.1)
+      ]
+
+  -- the stack of the moments that are looked at grows with what is reached
+  pub put-grows : (stacks' : List (Vec Moment Global)) → IsPut stacks stacks' (u + 1 + far_of q cell) (record { time = u + 1; cell = cell }) → length (stack_in stacks' f) ≤ length (stack_in stacks f) + 1
+  put-grows stacks' put = elim (cases_Bool (f == u + 1 + far_of q cell)) [
+    | inl e ↦
+        let at : stack_in stacks' f ≡ stack_in stacks f ++ record { time = u + 1; cell = cell } ∷ [] = put f ∙ ap (λ b. cond b (stack_in stacks f ++ record { time = u + 1; cell = cell } ∷ []) (stack_in stacks f)) e in
+        let long = ap length at ∙ length_push (stack_in stacks f) (record { time = u + 1; cell = cell }) in
+        omega arith
+    | inr e ↦
+        let at : stack_in stacks' f ≡ stack_in stacks f = put f ∙ ap (λ b. cond b (stack_in stacks f ++ record { time = u + 1; cell = cell } ∷ []) (stack_in stacks f)) e in
+        let long = ap length at in
+        omega arith
   ]
-
-  among-from : (now' next' later' : List Moment) → ((m : Moment) → IsAmong now next later m → IsAmong now' next' later' m) → IsAmong now' next' later' (record { time = l.time + 1; cell = cell }) → (x : Moment) → IsKnown came' x → IsAmong now' next' later' x ⊎ ((let o : Option Moment = Some l in o ≡ Some x) ⊎ IsDone q came' x)
-  among-from now' next' later' keep here x k = elim (puts-cases came came' (record { time = l.time + 1; cell = cell }) l.cell x k.0 p k.1) [
-    | inl (e, g) ↦ inl (subst (IsAmong now' next' later') e here)
-    | inr old ↦ elim (fr.done x (k.0, old)) [
-      | inl a ↦ inl (keep x a)
-      | inr r ↦ elim r [ inl s ↦ inr (inl s) | inr e ↦ inr (inr (done-stays x e)) ]
-    ]
-  ]
-
-  pub push-now : (now' : List Moment) → now' ≡ now ++ record { time = l.time + 1; cell = cell } ∷ [] → l.time + 1 + far_of q cell ≡ f → IsFrontier q f (Some l) came' now' next later settled
-  push-now now' same e =
-      let m : Moment = record { time = l.time + 1; cell = cell } in
-      subst (λ z. IsFrontier q f (Some l) came' z next later settled) (sym same) (record {
-        measured = fr.measured;
-        unique = unique;
-        origin = stays (record { time = 0; cell = q.start }) fr.origin;
-        sound = sound;
-        now_open = open-push f now fr.now_open e;
-        next_open = open-stays (f + 1) next fr.next_open;
-        later_open = open-stays (f + 2) later fr.later_open;
-        done = among-from (now ++ m ∷ []) next later (λ x a. keep x a) (inl (Contains-push now m));
-        calm = calm-stays;
-      })
-    where
-      keep : (x : Moment) → IsAmong now next later x → IsAmong (now ++ record { time = l.time + 1; cell = cell } ∷ []) next later x
-      keep x (inl h) = inl (Contains-append_left now (record { time = l.time + 1; cell = cell } ∷ []) x h)
-      keep x (inr h) = inr h
-
-  pub push-next : (next' : List Moment) → next' ≡ next ++ record { time = l.time + 1; cell = cell } ∷ [] → l.time + 1 + far_of q cell ≡ f + 1 → IsFrontier q f (Some l) came' now next' later settled
-  push-next next' same e =
-      let m : Moment = record { time = l.time + 1; cell = cell } in
-      subst (λ z. IsFrontier q f (Some l) came' now z later settled) (sym same) (record {
-        measured = fr.measured;
-        unique = unique;
-        origin = stays (record { time = 0; cell = q.start }) fr.origin;
-        sound = sound;
-        now_open = open-stays f now fr.now_open;
-        next_open = open-push (f + 1) next fr.next_open e;
-        later_open = open-stays (f + 2) later fr.later_open;
-        done = among-from now (next ++ m ∷ []) later (λ x a. keep x a) (inr (inl (Contains-push next m)));
-        calm = calm-stays;
-      })
-    where
-      keep : (x : Moment) → IsAmong now next later x → IsAmong now (next ++ record { time = l.time + 1; cell = cell } ∷ []) later x
-      keep x (inl h) = inl h
-      keep x (inr (inl h)) = inr (inl (Contains-append_left next (record { time = l.time + 1; cell = cell } ∷ []) x h))
-      keep x (inr (inr h)) = inr (inr h)
-
-  pub push-later : (later' : List Moment) → later' ≡ later ++ record { time = l.time + 1; cell = cell } ∷ [] → l.time + 1 + far_of q cell ≡ f + 2 → IsFrontier q f (Some l) came' now next later' settled
-  push-later later' same e =
-      let m : Moment = record { time = l.time + 1; cell = cell } in
-      subst (λ z. IsFrontier q f (Some l) came' now next z settled) (sym same) (record {
-        measured = fr.measured;
-        unique = unique;
-        origin = stays (record { time = 0; cell = q.start }) fr.origin;
-        sound = sound;
-        now_open = open-stays f now fr.now_open;
-        next_open = open-stays (f + 1) next fr.next_open;
-        later_open = open-push (f + 2) later fr.later_open e;
-        done = among-from now next (later ++ m ∷ []) (λ x a. keep x a) (inr (inr (Contains-push later m)));
-        calm = calm-stays;
-      })
-    where
-      keep : (x : Moment) → IsAmong now next later x → IsAmong now next (later ++ record { time = l.time + 1; cell = cell } ∷ []) x
-      keep x (inl h) = inl h
-      keep x (inr (inl h)) = inr (inl h)
-      keep x (inr (inr h)) = inr (inr (Contains-append_left later (record { time = l.time + 1; cell = cell } ∷ []) x h))
-
-  -- where the new moment stands, by the time at which a path over it arrives at the earliest
-  pub by_bound : least_arrival q l ≡ f → (l.time + 1 + far_of q cell ≡ f) ⊎ ((l.time + 1 + far_of q cell ≡ f + 1) ⊎ (l.time + 1 + far_of q cell ≡ f + 2))
-  by_bound e = let n = near-beside q fr.measured l.cell cell (fr.sound l known.0 known.1).on_ground step.on_ground step.beside in sizes (far_of q l.cell) (far_of q cell) l.time n.0 n.1 e
-    where
-      sizes : (a b t : ℕ) → b ≤ a + 1 → a ≤ b + 1 → t + a ≡ f → (t + 1 + b ≡ f) ⊎ ((t + 1 + b ≡ f + 1) ⊎ (t + 1 + b ≡ f + 2))
-      sizes a b t h k e = grind arith
 
 pub no_value : {A : Type 0} (o : Option A) (b : Bool) → b ≡ is_some o → b ≡ false → o ≡ None
 no_value None b e h = refl
 no_value (Some x) b e h = absurd (let z : true ≡ false = sym e ∙ h in cc)
 
-pub third : (n f : ℕ) → (n ≡ f) ⊎ ((n ≡ f + 1) ⊎ (n ≡ f + 2)) → n ≢ f → n ≢ f + 1 → n ≡ f + 2
-third n f (inl e) a b = absurd (a e)
-third n f (inr (inl e)) a b = absurd (b e)
-third n f (inr (inr e)) a b = e
+-- ---- what is found
 
--- ---- all that is reached from a moment is noted
+-- the cell was reached before, while it was free
+pub covered-first : (q : Question) (f : ℕ) (left : Option Moment) (came : Noted Moment) (best : Noted ℕ) (stacks : List (Vec Moment Global)) → IsFrontier q f left came best stacks → (cell : Cell) (since before t : ℕ) → look_up best (record { time = since; cell = cell }) ≡ Some before → before ≤ t → IsFreeOn q.reserved.now cell since t → IsCovered q came cell t
+covered-first q f left came best stacks fr cell since before t e h free =
+    let w = fr.first (record { time = since; cell = cell }) before e in
+    let low = w.1 in
+    record { since = before; early = h; known = w.0; free = λ x a b. free x (omega arith) b }
 
-pub expanded : (q : Question) (came : Noted Cell) (l : Moment) → HasWaited q came l → ((dir : Dir) (c : Cell) → place_of c ≡ moved (place_of l.cell) dir → IsStep q l.time l.cell c → l.time + 1 + far_of q c ≤ q.horizon → IsKnown came (record { time = l.time + 1; cell = c })) → (IsEnd q l → ⊥) → IsExpanded q came l
-expanded q came l waited there not_end = record { moves = λ c w s h. there w.0 c w.1 s h; wait = waited; not_end = not_end }
+pub covered-here : (q : Question) (came : Noted Moment) (cell : Cell) (t : ℕ) → IsKnown came (record { time = t; cell = cell }) → IsFree q.reserved.now t cell → IsCovered q came cell t
+covered-here q came cell t k free = record { since = t; early = omega arith; known = k; free = λ x a b. subst (λ z. IsFree q.reserved.now z cell) (let e : t ≡ x = omega arith in e) free }
 
-pub waited-stays : (q : Question) (came came' : Noted Cell) (l : Moment) → ((m : Moment) → IsKnown came m → IsKnown came' m) → HasWaited q came l → HasWaited q came' l
-waited-stays q came came' l stays (inl c) = inl c
-waited-stays q came came' l stays (inr w) = inr (λ s h. stays (record { time = l.time + 1; cell = l.cell }) (w s h))
-
-pub expanded_done : (q : Question) (came : Noted Cell) (l : Moment) → IsExpanded q came l → IsDone q came l
-expanded_done q came l e = record { time = l.time; earlier = omega arith; expanded = e; calm = inl refl }
-
-pub left_done : (q : Question) (f : ℕ) (l : Moment) (came : Noted Cell) (now next later : List Moment) (settled : Rests) → IsFrontier q f (Some l) came now next later settled → IsDone q came l → IsFrontier q f None came now next later settled
-left_done q f l came now next later settled fr e = record {
-  measured = fr.measured;
-  unique = fr.unique;
-  origin = fr.origin;
-  sound = fr.sound;
-  now_open = fr.now_open;
-  next_open = fr.next_open;
-  later_open = fr.later_open;
-  done = λ m k. elim (fr.done m k) [
-    | inl a ↦ inl a
-    | inr r ↦ elim r [ inl s ↦ inr (inr (subst (IsDone q came) (same_Some l m s) e)) | inr x ↦ inr (inr x) ]
-  ];
-  calm = fr.calm;
+pub covered-on : (q : Question) (came : Noted Moment) (cell : Cell) (v t : ℕ) → v ≤ t → IsFreeOn q.reserved.now cell v t → IsCovered q came cell v → IsCovered q came cell t
+covered-on q came cell v t h free cv = record {
+  since = cv.since;
+  early = (let e = cv.early in omega arith);
+  known = cv.known;
+  free = λ x a b. elim (cases_lt x v) [ inl l ↦ cv.free x a (omega arith) | inr l ↦ free x l b ];
 }
+
+cell_cases : (c d : Cell) → (c ≡ d) ⊎ (c ≢ d)
+cell_cases c d = elim (cases_Bool (same_cell c d)) [
+  | inl e ↦ inl (cells-equal c d e)
+  | inr n ↦ inr (λ e. let z : true ≡ false = sym (same_cell-refl c) ∙ ap (same_cell c) e ∙ n in cc)
+]
+
+-- somebody stands on the cell, or nobody does
+free-below : (plan : Plan) (t : ℕ) (c : Cell) (n : ℕ) → ((j : ℕ) → j < n → j < length plan → cell_of plan j t ≢ c) ⊎ ((j : ℕ) × (j < length plan) × (cell_of plan j t ≡ c))
+free-below plan t c zero = inl (λ j h. absurd (omega arith))
+free-below plan t c (suc n) = elim (free-below plan t c n) [
+  | inr w ↦ inr w
+  | inl none ↦ elim (cases_lt n (length plan)) [
+    | inr past ↦ inl (λ j h l. none j (omega arith) l)
+    | inl l ↦ elim (cell_cases (cell_of plan n t) c) [
+      | inl e ↦ inr (n, l, e)
+      | inr ne ↦ inl (λ j h m e. elim (cases_eq j n) [
+        | inl s ↦ ne (ap (λ z. cell_of plan z t) (sym s) ∙ e)
+        | inr k ↦ none j (omega arith) m e
+      ])
+    ]
+  ]
+]
+
+free-or-taken : (plan : Plan) (t : ℕ) (c : Cell) → IsFree plan t c ⊎ ((j : ℕ) × (j < length plan) × (cell_of plan j t ≡ c))
+free-or-taken plan t c = elim (free-below plan t c (length plan)) [ inl none ↦ inl (λ j h. none j h h) | inr w ↦ inr w ]
+
+module _ (q : Question) (came : Noted Moment) (l : Moment) (until : ℕ) (c : Cell) (xs : List ℕ) (changes : AreChanges q.reserved.now c xs) (wait : IsFreeUntil q l until) (at_once : IsFoundAt q came l c l.time) (each : (x : ℕ) → Contains xs x → l.time < x → x ≤ until → IsFoundAt q came l c (x - 1)) (u : ℕ) (move : IsMove q l u c) (in_time : u + 1 + far_of q c ≤ q.horizon) (few : q.horizon ≤ 65535) where
+  -- the step that the move makes can be made as soon as the cell is free
+  step-early : (v : ℕ) → l.time ≤ v → v ≤ u → IsFreeOn q.reserved.now c (v + 1) (u + 1) → IsStep q v l.cell c
+  step-early v a b free = elim (cases_eq v u) [
+    | inl e ↦ subst (λ z. IsStep q z l.cell c) (sym e) move.step
+    | inr ne ↦ record {
+      beside = move.step.beside;
+      on_ground = move.step.on_ground;
+      fits = step_ok-alone q.reserved.now v l.cell c (free (v + 1) (omega arith) (omega arith)) (move.free (v + 1) (omega arith) (omega arith));
+    }
+  ]
+
+  reached-from : (n v : ℕ) → l.time + n ≡ v → v ≤ u → IsFreeOn q.reserved.now c (v + 1) (u + 1) → IsCovered q came c (u + 1)
+  reached-from zero v e h free =
+      let same : v ≡ l.time = omega arith in
+      covered-on q came c (l.time + 1) (u + 1) (omega arith) (subst (λ z. IsFreeOn q.reserved.now c (z + 1) (u + 1)) same free) (at_once (subst (λ z. IsStep q z l.cell c) same (step-early v (omega arith) h free)) (omega arith))
+  reached-from (suc n) v e h free = elim (free-or-taken q.reserved.now v c) [
+    | inl now ↦
+        let before : v - 1 + 1 ≡ v = omega arith in
+        reached-from n (v - 1) (omega arith) (omega arith) (λ x a b. elim (cases_eq x v) [
+          | inl s ↦ subst (λ z. IsFree q.reserved.now z c) (sym s) now
+          | inr ne ↦ free x (omega arith) b
+        ])
+    | inr (j, p, on) ↦
+        let m = changes v j p (λ s. free (v + 1) (omega arith) (omega arith) j p (sym s ∙ on)) (inl on) in
+        let low : u < until = wait.1 u (omega arith) move.free in
+        let at : v + 1 - 1 ≡ v = omega arith in
+        let got = subst (IsFoundAt q came l c) at (each (v + 1) m (omega arith) (omega arith)) in
+        covered-on q came c (v + 1) (u + 1) (omega arith) free (got (step-early v (omega arith) h free) (omega arith))
+  ]
+
+  pub move-covered : IsCovered q came c (u + 1)
+  move-covered =
+      let w = move.waits in
+      reached-from (u - l.time) u (omega arith) (omega arith) (λ x a b. subst (λ z. IsFree q.reserved.now z c) (let e : u + 1 ≡ x = omega arith in e) move.step.fits.vertex)
 
 pub each_dir : (P : Dir → Type 0) → P North → P East → P South → P West → (d : Dir) → P d
 each_dir P n e s w North = n
@@ -201,145 +233,142 @@ each_dir P n e s w East = e
 each_dir P n e s w South = s
 each_dir P n e s w West = w
 
-pub found_dir : (q : Question) (came : Noted Cell) (l : Moment) (beside : Cell) (dir : Dir) → place_of beside ≡ moved (place_of l.cell) dir → (IsStep q l.time l.cell beside → l.time + 1 + far_of q beside ≤ q.horizon → IsKnown came (record { time = l.time + 1; cell = beside })) → (c : Cell) → place_of c ≡ moved (place_of l.cell) dir → IsStep q l.time l.cell c → l.time + 1 + far_of q c ≤ q.horizon → IsKnown came (record { time = l.time + 1; cell = c })
-found_dir q came l beside dir e found c g s h =
-    let same : beside ≡ c = place_of-injective beside c (e ∙ sym g) in
-    subst (λ z. IsKnown came (record { time = l.time + 1; cell = z })) same (found (subst (IsStep q l.time l.cell) (sym same) s) (subst (λ z. l.time + 1 + far_of q z ≤ q.horizon) (sym same) h))
+pub found_dir : (q : Question) (came : Noted Moment) (l : Moment) (beside : Cell) (dir : Dir) → place_of beside ≡ moved (place_of l.cell) dir → IsFoundFrom q came l beside → (c : Cell) → place_of c ≡ moved (place_of l.cell) dir → IsFoundFrom q came l c
+found_dir q came l beside dir e found c g = subst (IsFoundFrom q came l) (place_of-injective beside c (e ∙ sym g)) found
 
-pub Grows-then : (a b c : Frontier) → Grows a b → Grows b c → Grows a c
-Grows-then a b c g h = record {
+pub found-stays : (q : Question) (came came' : Noted Moment) (l : Moment) (c : Cell) → ((m : Moment) → IsKnown came m → IsKnown came' m) → IsFoundFrom q came l c → IsFoundFrom q came' l c
+found-stays q came came' l c stays h u m t = let w = h u m t in record { since = w.since; early = w.early; known = stays (record { time = w.since; cell = c }) w.known; free = w.free }
+
+pub found-at-stays : (q : Question) (came came' : Noted Moment) (l : Moment) (c : Cell) (u : ℕ) → ((m : Moment) → IsKnown came m → IsKnown came' m) → IsFoundAt q came l c u → IsFoundAt q came' l c u
+found-at-stays q came came' l c u stays h s t = let w = h s t in record { since = w.since; early = w.early; known = stays (record { time = w.since; cell = c }) w.known; free = w.free }
+
+pub expanded : (q : Question) (came : Noted Moment) (l : Moment) → ((dir : Dir) (c : Cell) → place_of c ≡ moved (place_of l.cell) dir → IsFoundFrom q came l c) → (IsEnd q l → ⊥) → IsExpanded q came l
+expanded q came l there not_end = record { moves = λ u c w m h. there w.0 c w.1 u m h; not_end = not_end }
+
+pub left_done : (q : Question) (f : ℕ) (l : Moment) (came : Noted Moment) (best : Noted ℕ) (stacks : List (Vec Moment Global)) → IsFrontier q f (Some l) came best stacks → IsExpanded q came l → IsFrontier q f None came best stacks
+left_done q f l came best stacks fr e = record {
+  measured = fr.measured;
+  unique = fr.unique;
+  origin = fr.origin;
+  sound = fr.sound;
+  stacked = fr.stacked;
+  past = fr.past;
+  done = λ m k. elim (fr.done m k) [
+    | inl a ↦ inl a
+    | inr r ↦ elim r [ inl s ↦ inr (inr (subst (IsExpanded q came) (same_Some l m s) e)) | inr x ↦ inr (inr x) ]
+  ];
+  first = fr.first;
+}
+
+pub Grows-then : (f : ℕ) (a b c : Frontier) → Grows f a b → Grows f b c → Grows f a c
+Grows-then f a b c g h = record {
   known = λ m k. h.known m (g.known m k);
   more = let x = g.more in let y = h.more in omega arith;
   work = let x = g.work in let y = h.work in let z = g.more in let w = h.more in omega arith;
 }
 
--- what is reached in one direction was noted
-abbrev pub Dir-found : Question → Noted Cell → Moment → Dir → Type 0
-Dir-found q came l dir = (c : Cell) → place_of c ≡ moved (place_of l.cell) dir → IsStep q l.time l.cell c → l.time + 1 + far_of q c ≤ q.horizon → IsKnown came (record { time = l.time + 1; cell = c })
+pub Grows-same : (f : ℕ) (a : Frontier) → Grows f a a
+Grows-same f a = record { known = λ m k. k; more = omega arith; work = omega arith }
 
--- the last moment is taken out
-pub popped : (q : Question) (f : ℕ) (came : Noted Cell) (now now' next later : List Moment) (settled : Rests) (m : Moment) → IsFrontier q f None came now next later settled → now ≡ now' ++ m ∷ [] → IsFrontier q f (Some m) came now' next later settled × (IsKnown came m × (least_arrival q m ≡ f))
-popped q f came now now' next later settled m fr e = (
+-- ---- the last moment of a stack is taken
+
+pub taken : (q : Question) (f : ℕ) (came : Noted Moment) (best : Noted ℕ) (stacks stacks' : List (Vec Moment Global)) (m : Moment) → IsFrontier q f None came best stacks → stack_in stacks f ≡ stack_in stacks' f ++ m ∷ [] → ((k : ℕ) → k ≢ f → stack_in stacks' k ≡ stack_in stacks k) → IsFrontier q f (Some m) came best stacks' × (IsKnown came m × (least_arrival q m ≡ f))
+taken q f came best stacks stacks' m fr e others = (
   record {
     measured = fr.measured;
     unique = fr.unique;
     origin = fr.origin;
     sound = fr.sound;
-    now_open = λ x h. fr.now_open x (subst (λ z. Contains z x) (sym e) (Contains-append_left now' (m ∷ []) x h));
-    next_open = fr.next_open;
-    later_open = fr.later_open;
+    stacked = λ k x h. fr.stacked k x (back-to k x h);
+    past = λ k h. others k (λ s. omega arith) ∙ fr.past k h;
     done = λ x k. go x (fr.done x k);
-    calm = fr.calm;
+    first = fr.first;
   },
-  fr.now_open m (subst (λ z. Contains z m) (sym e) (Contains-push now' m)),
+  fr.stacked f m (subst (λ z. Contains z m) (sym e) (Contains-push (stack_in stacks' f) m)),
 )
   where
-    go : (x : Moment) → IsAmong now next later x ⊎ ((let o : Option Moment = None in o ≡ Some x) ⊎ IsDone q came x) → IsAmong now' next later x ⊎ ((let o : Option Moment = Some m in o ≡ Some x) ⊎ IsDone q came x)
-    go x (inl (inl h)) = elim (Contains-push_cases now' m x (subst (λ z. Contains z x) e h)) [
-      | inl a ↦ inl (inl a)
-      | inr s ↦ inr (inl (ap (λ z. Some z) s))
+    back-to : (k : ℕ) (x : Moment) → Contains (stack_in stacks' k) x → Contains (stack_in stacks k) x
+    back-to k x h = elim (cases_eq k f) [
+      | inl s ↦ subst (λ z. Contains (stack_in stacks z) x) (sym s) (subst (λ z. Contains z x) (sym e) (Contains-append_left (stack_in stacks' f) (m ∷ []) x (subst (λ z. Contains (stack_in stacks' z) x) s h)))
+      | inr ne ↦ subst (λ z. Contains z x) (others k ne) h
     ]
-    go x (inl (inr h)) = inl (inr h)
+
+    go : (x : Moment) → Contains (stack_in stacks (least_arrival q x)) x ⊎ ((let o : Option Moment = None in o ≡ Some x) ⊎ IsExpanded q came x) → Contains (stack_in stacks' (least_arrival q x)) x ⊎ ((let o : Option Moment = Some m in o ≡ Some x) ⊎ IsExpanded q came x)
+    go x (inl h) = elim (cases_eq (least_arrival q x) f) [
+      | inl s ↦ elim (Contains-push_cases (stack_in stacks' f) m x (subst (λ z. Contains z x) e (subst (λ z. Contains (stack_in stacks z) x) s h))) [
+        | inl a ↦ inl (subst (λ z. Contains (stack_in stacks' z) x) (sym s) a)
+        | inr t ↦ inr (inl (ap (λ z. Some z) t))
+      ]
+      | inr ne ↦ inl (subst (λ z. Contains z x) (sym (others (least_arrival q x) ne)) h)
+    ]
     go x (inr (inl h)) = absurd (none-some x h)
     go x (inr (inr h)) = inr (inr h)
 
--- ---- the start is reached, and nothing else
-
--- a table with nothing in it
-abbrev pub IsEmptyRests : Rests → Type 0
-IsEmptyRests m = m.entries ≡ []
-
-empty-none : {V : Type 0} (map : Noted V) (m : Moment) → IsEmpty map → look_up map m ≡ None
-empty-none map m e = ap (lookup (same_moment m)) e
-
-pub opening : (q : Question) (empty came : Noted Cell) (none now next later : List Moment) (settled : Rests) → IsEmptyRests settled → IsAsked q → far_of q q.start ≤ q.horizon → IsEmpty empty → Puts empty came (record { time = 0; cell = q.start }) q.start → IsUnique same_moment came → none ≡ [] → now ≡ none ++ record { time = 0; cell = q.start } ∷ [] → next ≡ [] → later ≡ [] → IsFrontier q (far_of q q.start) None came now next later settled
-opening q empty came none now next later settled bare ask near e p unique a0 a1 b c = record {
-  measured = ask.measured;
-  unique = unique;
-  origin = origin;
-  sound = λ m from h. elim (puts-cases empty came (record { time = 0; cell = q.start }) q.start m from p h) [
-    | inl (s, g) ↦ subst (λ z. IsSound q came z from) s (record { reached = inl (refl, refl); in_time = (let b = near in omega arith); on_ground = ask.on_ground })
-    | inr old ↦ absurd (none-some from (sym (empty-none empty m e) ∙ old))
-  ];
-  now_open = λ m h. only m (subst (λ z. Contains z m) a h);
-  next_open = λ m h. absurd (let l = (subst (λ z. Contains z m) b h).1 in omega arith);
-  later_open = λ m h. absurd (let l = (subst (λ z. Contains z m) c h).1 in omega arith);
-  done = λ m k. elim (puts-cases empty came (record { time = 0; cell = q.start }) q.start m k.0 p k.1) [
-    | inl (s, g) ↦ inl (inl (subst (λ z. Contains z m) (sym a) (0, omega arith, s)))
-    | inr old ↦ absurd (none-some k.0 (sym (empty-none empty m e) ∙ old))
-  ];
-  calm = λ c t h. absurd (none-some t (sym (ap (lookup (same_cell c)) bare) ∙ h));
-}
-  where
-    a : now ≡ record { time = 0; cell = q.start } ∷ []
-    a = a1 ∙ ap (λ xs. xs ++ record { time = 0; cell = q.start } ∷ []) a0
-
-    origin : IsKnown came (record { time = 0; cell = q.start })
-    origin = (q.start, puts-here empty came (record { time = 0; cell = q.start }) q.start p)
-
-    only : (m : Moment) → (let first : Moment = record { time = 0; cell = q.start } in Contains (first ∷ []) m) → IsKnown came m × (least_arrival q m ≡ far_of q q.start)
-    only m (zero, l, s) = subst (λ z. IsKnown came z × (least_arrival q z ≡ far_of q q.start)) s (origin, (let n = far_of q q.start in omega arith))
-    only m (suc k, l, s) = absurd (omega arith)
-
--- turned to the paths that are longer by a step
-pub turned : (q : Question) (f : ℕ) (came came' : Noted Cell) (now next later now' next' later' : List Moment) (settled settled' : Rests) → IsFrontier q f None came now next later settled → settled' ≡ settled → now ≡ [] → came' ≡ came → now' ≡ next → next' ≡ later → later' ≡ [] → IsFrontier q (f + 1) None came' now' next' later' settled'
-turned q f came came' now next later now' next' later' settled settled' fr same e g a b c =
-    subst (λ z. IsFrontier q (f + 1) None came' now' next' later' z) (sym same) (subst (λ z. IsFrontier q (f + 1) None z now' next' later' settled) (sym g) (subst (λ z. IsFrontier q (f + 1) None came z next' later' settled) (sym a) (subst (λ z. IsFrontier q (f + 1) None came next z later' settled) (sym b) (subst (λ z. IsFrontier q (f + 1) None came next later z settled) (sym c) (record {
-      measured = fr.measured;
-      unique = fr.unique;
-      origin = fr.origin;
-      sound = fr.sound;
-      now_open = fr.next_open;
-      next_open = λ m h. let w = fr.later_open m h in let n = w.1 in (w.0, omega arith);
-      later_open = λ m h. absurd (let l = h.1 in omega arith);
-      done = λ m k. go m (fr.done m k);
-      calm = fr.calm;
-    })))))
-  where
-    go : (x : Moment) → IsAmong now next later x ⊎ ((let o : Option Moment = None in o ≡ Some x) ⊎ IsDone q came x) → IsAmong next later [] x ⊎ ((let o : Option Moment = None in o ≡ Some x) ⊎ IsDone q came x)
-    go x (inl (inl h)) = absurd (let l = (subst (λ z. Contains z x) e h).1 in omega arith)
-    go x (inl (inr (inl h))) = inl (inl h)
-    go x (inl (inr (inr h))) = inl (inr (inl h))
-    go x (inr h) = inr h
-
--- ---- calm cells
-
-still-later : (plan : Plan) (c : Cell) (s t : ℕ) → s ≤ t → IsStillFrom plan c s → IsStillFrom plan c t
-still-later plan c s t h still a j la b on u lb = still a j (omega arith) b on u (omega arith)
-
-pub calm-later : (q : Question) (c : Cell) (s t : ℕ) → s ≤ t → IsCalmFrom q c s → IsCalmFrom q c t
-calm-later q c s t h calm = record { here = still-later q.reserved.now c s t h calm.here; beside = λ d n g. still-later q.reserved.now d s t h (calm.beside d n g) }
-
-pub calm-here : (q : Question) (c : Cell) (a n e s w r : ℕ) → IsStillFrom q.reserved.now c a → ((d : Cell) → place_of d ≡ moved (place_of c) North → IsTrue (is_passable q.grid.now (place_of d)) → IsStillFrom q.reserved.now d n) → ((d : Cell) → place_of d ≡ moved (place_of c) East → IsTrue (is_passable q.grid.now (place_of d)) → IsStillFrom q.reserved.now d e) → ((d : Cell) → place_of d ≡ moved (place_of c) South → IsTrue (is_passable q.grid.now (place_of d)) → IsStillFrom q.reserved.now d s) → ((d : Cell) → place_of d ≡ moved (place_of c) West → IsTrue (is_passable q.grid.now (place_of d)) → IsStillFrom q.reserved.now d w) → (a ≤ r) × (n ≤ r) × (e ≤ r) × (s ≤ r) × (w ≤ r) → IsCalmFrom q c r
-calm-here q c a n e s w r ha hn he hs hw b = record {
-  here = still-later q.reserved.now c a r b.0 ha;
-  beside = λ d x g. each_dir (λ dir. place_of d ≡ moved (place_of c) dir → IsStillFrom q.reserved.now d r) (λ y. still-later q.reserved.now d n r b.1 (hn d y g)) (λ y. still-later q.reserved.now d e r b.2 (he d y g)) (λ y. still-later q.reserved.now d s r b.3 (hs d y g)) (λ y. still-later q.reserved.now d w r b.4 (hw d y g)) x.0 x.1;
-}
-
--- the cell was left before, and nothing changed since
-pub settled_done : (q : Question) (f : ℕ) (l : Moment) (came : Noted Cell) (now next later : List Moment) (settled : Rests) (t : ℕ) → IsFrontier q f (Some l) came now next later settled → get same_cell settled l.cell ≡ Some t → t ≤ l.time → IsFrontier q f None came now next later settled
-settled_done q f l came now next later settled t fr h le =
-    let w = fr.calm l.cell t h in
-    left_done q f l came now next later settled fr (record { time = t; earlier = le; expanded = w.0; calm = inr w.1 })
-
-pub settle : (q : Question) (f : ℕ) (l : Moment) (came : Noted Cell) (now next later : List Moment) (settled settled' : Rests) → IsFrontier q f None came now next later settled → IsExpanded q came l → IsCalmFrom q l.cell l.time → ((c : Cell) → get same_cell settled' c ≡ cond (same_cell l.cell c) (Some l.time) (get same_cell settled c)) → IsFrontier q f None came now next later settled'
-settle q f l came now next later settled settled' fr e calm p = record {
+-- the stack is empty
+pub swept : (q : Question) (f : ℕ) (came : Noted Moment) (best : Noted ℕ) (stacks stacks' : List (Vec Moment Global)) → IsFrontier q f None came best stacks → stack_in stacks f ≡ [] → stack_in stacks' f ≡ [] → ((k : ℕ) → k ≢ f → stack_in stacks' k ≡ stack_in stacks k) → IsFrontier q (f + 1) None came best stacks'
+swept q f came best stacks stacks' fr e e' others = record {
   measured = fr.measured;
   unique = fr.unique;
   origin = fr.origin;
   sound = fr.sound;
-  now_open = fr.now_open;
-  next_open = fr.next_open;
-  later_open = fr.later_open;
-  done = fr.done;
-  calm = λ c t h. elim (cases_Bool (same_cell l.cell c)) [
-    | inl s ↦
-        let same : l.cell ≡ c = cells-equal l.cell c s in
-        let at : l.time ≡ t = same_Some l.time t (sym (p c ∙ ap (λ b. cond b (Some l.time) (get same_cell settled c)) s) ∙ h) in
-        subst (λ z. IsExpanded q came (record { time = z; cell = c }) × IsCalmFrom q c z) at (subst (λ z. IsExpanded q came (record { time = l.time; cell = z }) × IsCalmFrom q z l.time) same (e, calm))
-    | inr n ↦ fr.calm c t (sym (p c ∙ ap (λ b. cond b (Some l.time) (get same_cell settled c)) n) ∙ h)
+  stacked = λ k x h. fr.stacked k x (subst (λ z. Contains z x) (same k) h);
+  past = λ k h. same k ∙ elim (cases_eq k f) [ inl s ↦ ap (stack_in stacks) s ∙ e | inr ne ↦ fr.past k (omega arith) ];
+  done = λ x k. elim (fr.done x k) [
+    | inl h ↦ inl (subst (λ z. Contains z x) (sym (same (least_arrival q x))) h)
+    | inr r ↦ inr r
+  ];
+  first = fr.first;
+}
+  where
+    same : (k : ℕ) → stack_in stacks' k ≡ stack_in stacks k
+    same k = elim (cases_eq k f) [ inl s ↦ ap (stack_in stacks') s ∙ e' ∙ sym e ∙ ap (stack_in stacks) (sym s) | inr ne ↦ others k ne ]
+
+-- ---- the start is reached, and nothing else
+
+empty-none : {V : Type 0} (map : Noted V) (m : Moment) → IsEmpty map → look_up map m ≡ None
+empty-none map m e = ap (lookup (same_moment m)) e
+
+pub opening : (q : Question) (nothing came : Noted Moment) (nowhere best : Noted ℕ) (none stacks : List (Vec Moment Global)) → IsAsked q → far_of q q.start ≤ q.horizon → IsEmpty nothing → Puts nothing came (record { time = 0; cell = q.start }) (record { time = 0; cell = q.start }) → IsUnique same_moment came → IsEmpty nowhere → Puts nowhere best (record { time = 0; cell = q.start }) 0 → none ≡ [] → IsPut none stacks (far_of q q.start) (record { time = 0; cell = q.start }) → IsFrontier q (far_of q q.start) None came best stacks
+unfolding stack_in
+opening q nothing came nowhere best none stacks ask near e p unique e' p' n put = record {
+  measured = ask.measured;
+  unique = unique;
+  origin = origin;
+  sound = λ m from h. elim (puts-cases nothing came (record { time = 0; cell = q.start }) (record { time = 0; cell = q.start }) m from p h) [
+    | inl (s, g) ↦ subst (λ z. IsSound q came z from) s (record { reached = inl (refl, refl); in_time = (let b = near in omega arith); on_ground = ask.on_ground; free = ask.free })
+    | inr old ↦ absurd (none-some from (sym (empty-none nothing m e) ∙ old))
+  ];
+  stacked = λ k m h. elim (cases_eq k (far_of q q.start)) [
+    | inl s ↦ only k m s (subst (λ z. Contains z m) (here k s) h)
+    | inr ne ↦ absurd (let l = (subst (λ z. Contains z m) (elsewhere k ne) h).1 in omega arith)
+  ];
+  past = λ k h. elsewhere k (λ s. omega arith);
+  done = λ m k. elim (puts-cases nothing came (record { time = 0; cell = q.start }) (record { time = 0; cell = q.start }) m k.0 p k.1) [
+    | inl (s, g) ↦ inl (subst (λ z. Contains (stack_in stacks (least_arrival q z)) z) s (subst (λ z. Contains z (record { time = 0; cell = q.start })) (sym (here (0 + far_of q q.start) (let z = far_of q q.start in omega arith))) (0, omega arith, refl)))
+    | inr old ↦ absurd (none-some k.0 (sym (empty-none nothing m e) ∙ old))
+  ];
+  first = λ m t h. elim (puts-cases nowhere best (record { time = 0; cell = q.start }) 0 m t p' h) [
+    | inl (s, g) ↦ subst (λ z. IsKnown came (record { time = t; cell = z.cell }) × (z.time ≤ t)) s (subst (λ z. IsKnown came (record { time = z; cell = q.start }) × (0 ≤ z)) (sym g) (origin, omega arith))
+    | inr old ↦ absurd (none-some t (sym (empty-none nowhere m e') ∙ old))
   ];
 }
+  where
+    origin : IsKnown came (record { time = 0; cell = q.start })
+    origin = (record { time = 0; cell = q.start }, puts-here nothing came (record { time = 0; cell = q.start }) (record { time = 0; cell = q.start }) p)
 
-pub Grows-same : (a : Frontier) → Grows a a
-Grows-same a = record { known = λ m k. k; more = omega arith; work = omega arith }
+    bare : (k : ℕ) → stack_in none k ≡ []
+    bare k = ap (λ z. stack_in z k) n
+
+    elsewhere : (k : ℕ) → k ≢ far_of q q.start → stack_in stacks k ≡ []
+    elsewhere k ne = put k ∙ ap (λ b. cond b (stack_in none k ++ record { time = 0; cell = q.start } ∷ []) (stack_in none k)) (false_from_ne_true (k == far_of q q.start) (λ s. ne (eqb-true k (far_of q q.start) s))) ∙ bare k
+
+    here : (k : ℕ) → k ≡ far_of q q.start → stack_in stacks k ≡ record { time = 0; cell = q.start } ∷ []
+    here k s = put k ∙ ap (λ b. cond b (stack_in none k ++ record { time = 0; cell = q.start } ∷ []) (stack_in none k)) (eq-eqb k (far_of q q.start) s) ∙ ap (λ z. z ++ record { time = 0; cell = q.start } ∷ []) (bare k)
+
+    only : (k : ℕ) (m : Moment) → k ≡ far_of q q.start → (let first : Moment = record { time = 0; cell = q.start } in Contains (first ∷ []) m) → IsKnown came m × (least_arrival q m ≡ k)
+    only k m s (zero, l, t) = subst (λ z. IsKnown came z × (least_arrival q z ≡ k)) t (origin, (let z = s in omega arith))
+    only k m s (suc i, l, t) = absurd (omega arith)
+
+-- what is reached in one direction was noted
+abbrev pub Dir-found : Question → Noted Moment → Moment → Dir → Type 0
+Dir-found q came l dir = (c : Cell) → place_of c ≡ moved (place_of l.cell) dir → IsFoundFrom q came l c

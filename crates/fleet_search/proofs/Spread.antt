@@ -1,5 +1,5 @@
 -- Cells are labelled layer by layer with their distances from a goal.
-use Rattle.std.proofs.Common.{◌≡◌, ◌≢◌, ℕ, zero, suc, ◌+◌, ◌*◌, ◌<◌, ◌≤◌, ◌/◌, ◌%◌, ◌==◌, true, false, cond, List, [], ◌∷◌, ◌++◌, length, get_or, Contains, Option, Some, None, ◌⊎◌, inl, inr, refl, sym, ap, ◌∙◌, subst, arith}
+use Rattle.std.proofs.Common.{◌≡◌, ◌≢◌, ℕ, zero, suc, ◌+◌, ◌*◌, ◌<◌, ◌≤◌, ◌/◌, ◌%◌, ◌==◌, Bool, true, false, cond, IsTrue, List, [], ◌∷◌, ◌++◌, length, get_or, Contains, Option, Some, None, ◌⊎◌, inl, inr, refl, sym, ap, ◌∙◌, subst, arith}
 use Rattle.std.specs.Prelude.{unwrap_or}
 use Rattle.std.specs.Prelude.{set}
 use Rattle.std.proofs.lemmas.Int.{ints}
@@ -14,12 +14,12 @@ use Rattle.fleet_model.specs.declared.geometry.Dir.{Dir}
 use Rattle.fleet_model.specs.declared.geometry.Dir.TheVariants.{North, East, South, West}
 use Rattle.fleet_model.specs.Geometry.{place_of, moved}
 use Rattle.fleet_model.proofs.Places.{place_of-injective}
-use Rattle.fleet_grid.specs.Ground.{Ground, IsGround, cell_index}
+use Rattle.fleet_grid.specs.Ground.{Ground, IsGround, is_passable, cell_index}
 use Rattle.fleet_grid.proofs.StoredLaws.{off_map}
 use Rattle.fleet_plan.specs.Plan.{AreNeighbours}
 use Rattle.fleet_search.specs.declared.distances.Label.{Label}
 use Rattle.fleet_search.specs.declared.distances.Distances.{Distances}
-use Rattle.fleet_search.specs.Distance.{no_label, label_in, labelled, far, AreDistances, IsOnGround, IsClosed, IsSpread, SpreadIs, IsLabelled, LabelsStay, IsFoundTowards}
+use Rattle.fleet_search.specs.Distance.{no_label, label_in, labelled, far, IsReady, AreDistances, IsOnGround, IsClosed, IsWaiting, IsSpread, SpreadIs, IsLabelled, LabelsStay, IsFoundTowards}
 
 -- ---- the places of cells in a table
 

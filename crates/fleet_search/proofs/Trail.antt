@@ -1,5 +1,7 @@
 -- The path to a moment, read backwards from what was noted.
-use Rattle.std.proofs.Common.{◌≡◌, ℕ, ◌+◌, ◌-◌, ◌<◌, ◌≤◌, min, IsTrue, List, [], ◌∷◌, ◌++◌, length, get_or, reverse, Option, Some, inl, inr, refl, sym, ap, ◌∙◌, subst, arith}
+use Rattle.std.proofs.Common.{◌≡◌, ◌≢◌, ℕ, ◌+◌, ◌-◌, ◌<◌, ◌≤◌, min, IsTrue, List, [], ◌∷◌, ◌++◌, length, get_or, reverse, Option, Some, inl, inr, refl, sym, ap, ◌∙◌, subst, arith}
+use Rattle.std.specs.Prelude.{Vec}
+use Rattle.std.specs.declared.alloc.Global.{Global}
 use Rattle.std.proofs.lemmas.Bool.{cases_eq}
 use Rattle.std.proofs.lemmas.List.{get_or_append_left, get_or_push, length_push, get_or-reverse, length-reverse}
 use Rattle.fleet_model.specs.declared.geometry.Cell.{Cell}
@@ -10,67 +12,92 @@ use Rattle.fleet_search.specs.declared.moment.Moment.{Moment}
 use Rattle.fleet_search.specs.declared.frontier.Question.{Question}
 use Rattle.fleet_grid.specs.Ground.{is_passable}
 use Rattle.fleet_search.specs.Moment.{Noted, look_up}
-use Rattle.fleet_search.specs.Reserved.{Rests}
-use Rattle.fleet_search.specs.Search.{IsStep, IsKnown, IsReachedFrom, IsFrontier, IsTrail}
+use Rattle.fleet_search.specs.Reserved.{IsFree, IsFreeOn}
+use Rattle.fleet_search.specs.Search.{IsStep, IsKnown, IsReachedFrom, IsFrontier, IsTrail, IsBefore}
+use Rattle.fleet_search.proofs.Chase.{step_ok-same}
 
--- the cells of the moments from the last one back over so many steps
-pub record IsTraced (q : Question) (came : Noted Cell) (n : ℕ) (last : Cell) (xs : List Cell) (back : ℕ) (cell : Cell) : Type 0 where
+-- the cells from the last one back over so many steps; the agent came to the one that was found last at this moment
+pub record IsTraced (q : Question) (came : Noted Moment) (n : ℕ) (last : Cell) (xs : List Cell) (back : ℕ) (visit : Moment) : Type 0 where
   pub long : length xs ≡ back + 1
   pub bound : back ≤ n
   pub front : get_or xs 0 origin ≡ last
-  pub end : get_or xs back origin ≡ cell
-  pub known : IsKnown came (record { time = n - back; cell = cell })
+  pub end : get_or xs back origin ≡ visit.cell
+  pub known : IsKnown came visit
+  pub early : visit.time ≤ n - back
+  pub free : IsFreeOn q.reserved.now visit.cell visit.time (n - back)
   pub steps : (k : ℕ) → k < back → IsStep q (n - (k + 1)) (get_or xs (k + 1) origin) (get_or xs k origin)
 
-pub traced-none : (q : Question) (came : Noted Cell) (m : Moment) (none xs : List Cell) → IsKnown came m → none ≡ [] → xs ≡ none ++ m.cell ∷ [] → IsTraced q came m.time m.cell xs 0 m.cell
-traced-none q came m none xs k a b = subst (λ z. IsTraced q came m.time m.cell z 0 m.cell) (sym (b ∙ ap (λ z. z ++ m.cell ∷ []) a)) (record {
+pub traced-none : (q : Question) (f : ℕ) (left : Option Moment) (came : Noted Moment) (best : Noted ℕ) (stacks : List (Vec Moment Global)) → IsFrontier q f left came best stacks → (m : Moment) (none xs : List Cell) → IsKnown came m → none ≡ [] → xs ≡ none ++ m.cell ∷ [] → IsTraced q came m.time m.cell xs 0 m
+traced-none q f left came best stacks fr m none xs k a b = subst (λ z. IsTraced q came m.time m.cell z 0 m) (sym (b ∙ ap (λ z. z ++ m.cell ∷ []) a)) (record {
   long = omega arith;
   bound = omega arith;
   front = refl;
   end = refl;
-  known = subst (λ z. IsKnown came (record { time = z; cell = m.cell })) (let e : m.time ≡ m.time - 0 = omega arith in e) k;
+  known = k;
+  early = omega arith;
+  free = λ u x y. subst (λ z. IsFree q.reserved.now z m.cell) (let e : m.time ≡ u = omega arith in e) (fr.sound m k.0 k.1).free;
   steps = λ k h. absurd (omega arith);
 })
 
-module _ (q : Question) (f : ℕ) (left : Option Moment) (came : Noted Cell) (now next later : List Moment) (settled : Rests) (fr : IsFrontier q f left came now next later settled) (n : ℕ) (last : Cell) (xs : List Cell) (back : ℕ) (cell : Cell) (tr : IsTraced q came n last xs back cell) where
-  -- the step that was noted
-  noted-step : (from : Cell) → back < n → look_up came (record { time = n - back; cell = cell }) ≡ Some from → IsKnown came (record { time = n - (back + 1); cell = from }) × IsStep q (n - (back + 1)) from cell
-  noted-step from h e = go (fr.sound (record { time = n - back; cell = cell }) from e).reached
-    where
-      go : IsReachedFrom q came (record { time = n - back; cell = cell }) from → IsKnown came (record { time = n - (back + 1); cell = from }) × IsStep q (n - (back + 1)) from cell
-      go (inl p) = absurd (let z = p.0 in omega arith)
-      go (inr (t, s, k, step)) =
-          let same : t ≡ n - (back + 1) = omega arith in
-          (subst (λ z. IsKnown came (record { time = z; cell = from })) same k, subst (λ z. IsStep q z from cell) same step)
+-- the visit at one step before: that of the cell before, or the same
+pub before-came : (q : Question) (f : ℕ) (left : Option Moment) (came : Noted Moment) (best : Noted ℕ) (stacks : List (Vec Moment Global)) → IsFrontier q f left came best stacks → (time : ℕ) (visit from : Moment) → visit.time ≡ time → 1 ≤ time → look_up came visit ≡ Some from → IsBefore q came time visit from
+before-came q f left came best stacks fr time visit from e h k = go (fr.sound visit from k).reached
+  where
+    go : IsReachedFrom q came visit from → IsBefore q came time visit from
+    go (inl p) = absurd (let z = p.0 in omega arith)
+    go (inr (u, s, known, move)) =
+        let at : u ≡ time - 1 = omega arith in
+        subst (λ z. IsBefore q came time visit from) at (record {
+          known = known;
+          early = (let w = move.waits in omega arith);
+          free = subst (IsFreeOn q.reserved.now from.cell from.time) at move.free;
+          step = subst (λ z. IsStep q z from.cell visit.cell) at move.step;
+        })
 
-  pub traced-more : (from : Cell) (ys : List Cell) → back < n → look_up came (record { time = n - back; cell = cell }) ≡ Some from → ys ≡ xs ++ from ∷ [] → IsTraced q came n last ys (back + 1) from
-  traced-more from ys h e g = subst (λ z. IsTraced q came n last z (back + 1) from) (sym g) (record {
-    long = omega (arith, length_push xs from, tr.long);
+pub before-waits : (q : Question) (f : ℕ) (left : Option Moment) (came : Noted Moment) (best : Noted ℕ) (stacks : List (Vec Moment Global)) → IsFrontier q f left came best stacks → (time : ℕ) (visit : Moment) → visit.time ≢ time → visit.time ≤ time → IsKnown came visit → IsFreeOn q.reserved.now visit.cell visit.time time → IsBefore q came time visit visit
+before-waits q f left came best stacks fr time visit ne h k free = record {
+  known = k;
+  early = omega arith;
+  free = λ u x y. free u x (omega arith);
+  step = record {
+    beside = inl refl;
+    on_ground = (fr.sound visit k.0 k.1).on_ground;
+    fits = step_ok-same q.reserved.now (time - 1) visit.cell visit.cell (subst (λ z. IsFree q.reserved.now z visit.cell) (let e : time ≡ time - 1 + 1 = omega arith in e) (free time h (omega arith))) refl;
+  };
+}
+
+module _ (q : Question) (f : ℕ) (left : Option Moment) (came : Noted Moment) (best : Noted ℕ) (stacks : List (Vec Moment Global)) (fr : IsFrontier q f left came best stacks) (n : ℕ) (last : Cell) (xs : List Cell) (back : ℕ) (visit : Moment) (tr : IsTraced q came n last xs back visit) where
+  pub traced-more : (next : Moment) (ys : List Cell) → back < n → IsBefore q came (n - back) visit next → ys ≡ xs ++ next.cell ∷ [] → IsTraced q came n last ys (back + 1) next
+  traced-more next ys h b g = subst (λ z. IsTraced q came n last z (back + 1) next) (sym g) (record {
+    long = omega (arith, length_push xs next.cell, tr.long);
     bound = omega arith;
-    front = get_or_append_left xs (from ∷ []) origin 0 (omega (arith, tr.long)) ∙ tr.front;
-    end = get_or_push xs from origin (back + 1) tr.long;
-    known = (noted-step from h e).0;
+    front = get_or_append_left xs (next.cell ∷ []) origin 0 (omega (arith, tr.long)) ∙ tr.front;
+    end = get_or_push xs next.cell origin (back + 1) tr.long;
+    known = b.known;
+    early = (let e = b.early in omega arith);
+    free = λ u x y. b.free u x (omega arith);
     steps = λ k l. elim (cases_eq k back) [
       | inl s ↦
-          let a : get_or (xs ++ from ∷ []) (k + 1) origin ≡ from = ap (λ z. get_or (xs ++ from ∷ []) (z + 1) origin) s ∙ get_or_push xs from origin (back + 1) tr.long in
-          let b : get_or (xs ++ from ∷ []) k origin ≡ cell = get_or_append_left xs (from ∷ []) origin k (omega (arith, tr.long)) ∙ ap (λ z. get_or xs z origin) s ∙ tr.end in
-          subst (λ z. IsStep q (n - (z + 1)) (get_or (xs ++ from ∷ []) (k + 1) origin) (get_or (xs ++ from ∷ []) k origin)) (sym s) (subst (λ z. IsStep q (n - (back + 1)) z (get_or (xs ++ from ∷ []) k origin)) (sym a) (subst (IsStep q (n - (back + 1)) from) (sym b) (noted-step from h e).1))
+          let a : get_or (xs ++ next.cell ∷ []) (k + 1) origin ≡ next.cell = ap (λ z. get_or (xs ++ next.cell ∷ []) (z + 1) origin) s ∙ get_or_push xs next.cell origin (back + 1) tr.long in
+          let c : get_or (xs ++ next.cell ∷ []) k origin ≡ visit.cell = get_or_append_left xs (next.cell ∷ []) origin k (omega (arith, tr.long)) ∙ ap (λ z. get_or xs z origin) s ∙ tr.end in
+          let t : n - back - 1 ≡ n - (k + 1) = omega arith in
+          subst (λ z. IsStep q z (get_or (xs ++ next.cell ∷ []) (k + 1) origin) (get_or (xs ++ next.cell ∷ []) k origin)) t (subst (λ z. IsStep q (n - back - 1) z (get_or (xs ++ next.cell ∷ []) k origin)) (sym a) (subst (IsStep q (n - back - 1) next.cell) (sym c) b.step))
       | inr ne ↦
-          let a : get_or (xs ++ from ∷ []) (k + 1) origin ≡ get_or xs (k + 1) origin = get_or_append_left xs (from ∷ []) origin (k + 1) (omega (arith, tr.long)) in
-          let b : get_or (xs ++ from ∷ []) k origin ≡ get_or xs k origin = get_or_append_left xs (from ∷ []) origin k (omega (arith, tr.long)) in
-          subst (λ z. IsStep q (n - (k + 1)) z (get_or (xs ++ from ∷ []) k origin)) (sym a) (subst (IsStep q (n - (k + 1)) (get_or xs (k + 1) origin)) (sym b) (tr.steps k (omega arith)))
+          let a : get_or (xs ++ next.cell ∷ []) (k + 1) origin ≡ get_or xs (k + 1) origin = get_or_append_left xs (next.cell ∷ []) origin (k + 1) (omega (arith, tr.long)) in
+          let c : get_or (xs ++ next.cell ∷ []) k origin ≡ get_or xs k origin = get_or_append_left xs (next.cell ∷ []) origin k (omega (arith, tr.long)) in
+          subst (λ z. IsStep q (n - (k + 1)) z (get_or (xs ++ next.cell ∷ []) k origin)) (sym a) (subst (IsStep q (n - (k + 1)) (get_or xs (k + 1) origin)) (sym c) (tr.steps k (omega arith)))
     ];
   })
 
   -- the start is reached
-  at-start : n ≤ back → (cell ≡ q.start) × IsTrue (is_passable q.grid.now (place_of cell))
+  at-start : n ≤ back → (visit.cell ≡ q.start) × IsTrue (is_passable q.grid.now (place_of visit.cell))
   at-start h =
-      let s = fr.sound (record { time = n - back; cell = cell }) tr.known.0 tr.known.1 in
+      let s = fr.sound visit tr.known.0 tr.known.1 in
       (go s.reached, s.on_ground)
     where
-      go : IsReachedFrom q came (record { time = n - back; cell = cell }) tr.known.0 → cell ≡ q.start
+      go : IsReachedFrom q came visit tr.known.0 → visit.cell ≡ q.start
       go (inl p) = p.1
-      go (inr (t, e, k, step)) = absurd (omega arith)
+      go (inr (t, e, k, step)) = absurd (let z = tr.early in omega arith)
 
   turned : (ys : List Cell) → ys ≡ reverse xs → n ≤ back → (t : ℕ) → t ≤ n → cell_at ys t ≡ get_or xs (n - t) origin
   unfolding cell_at
@@ -84,7 +111,7 @@ module _ (q : Question) (f : ℕ) (left : Option Moment) (came : Noted Cell) (no
   pub traced-all : (ys : List Cell) → ys ≡ reverse xs → n ≤ back → IsTrail q n last ys
   traced-all ys e h =
       let b = tr.bound in
-      let first : cell_at ys 0 ≡ cell = turned ys e h 0 (omega arith) ∙ ap (λ z. get_or xs z origin) (let z : n - 0 ≡ back = omega arith in z) ∙ tr.end in
+      let first : cell_at ys 0 ≡ visit.cell = turned ys e h 0 (omega arith) ∙ ap (λ z. get_or xs z origin) (let z : n - 0 ≡ back = omega arith in z) ∙ tr.end in
       let s = at-start h in
       record {
         long = ap length e ∙ length-reverse xs ∙ tr.long ∙ (let z : back + 1 ≡ n + 1 = omega arith in z);

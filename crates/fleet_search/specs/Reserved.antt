@@ -1,5 +1,8 @@
 -- Reserved paths, and how they are found by cell and time.
-use Rattle.std.specs.Prelude.{◌≡◌, ◌≢◌, ℕ, ◌<◌, ◌≤◌, Bool, List, [], length, get_or, All, Some, unwrap_or}
+use Rattle.std.specs.Prelude.{◌≡◌, ◌≢◌, ℕ, ◌+◌, ◌<◌, ◌≤◌, ◌⊎◌, Contains, Bool, List, [], length, get_or, All, Some, unwrap_or}
+use Rattle.std.specs.Option.{option_map_or}
+use Rattle.std.specs.Prelude.{Vec}
+use Rattle.std.specs.declared.alloc.Global.{Global}
 use Rattle.std.specs.declared.hash.FoldHasher.{FoldHasher}
 use Rattle.std.specs.declared.hash.BuildHasherDefault.{BuildHasherDefault}
 use Rattle.std.specs.HashMap.{HashMap, get}
@@ -59,3 +62,31 @@ pub record IsEntered (path : List Cell) (moving : Noted ℕ) (resting : Rests) (
 pub record KeepsOthers (path : List Cell) (moving : Noted ℕ) (resting : Rests) (moving' : Noted ℕ) (resting' : Rests) : Type 0 where
   pub moves : (t : ℕ) (c : Cell) → c ≢ cell_at path t → look_up moving' (record { time = t; cell = c }) ≡ look_up moving (record { time = t; cell = c })
   pub rests : (c : Cell) → c ≢ cell_at path (arrival path) → get same_cell resting' c ≡ get same_cell resting c
+
+-- nobody stands on the cell from one time to another
+abbrev pub IsFreeOn : Plan → Cell → ℕ → ℕ → Type 0
+IsFreeOn plan c s t = (u : ℕ) → s ≤ u → u ≤ t → IsFree plan u c
+
+-- the times at which an agent enters or leaves the cell are among these
+abbrev pub AreChanges : Plan → Cell → List ℕ → Type 0
+AreChanges plan c xs = (t j : ℕ) → j < length plan → cell_of plan j t ≢ cell_of plan j (t + 1) → (cell_of plan j t ≡ c) ⊎ (cell_of plan j (t + 1) ≡ c) → Contains xs (t + 1)
+
+-- a table of times at cells
+abbrev pub Changes : Type 0
+Changes = HashMap Cell (Vec ℕ Global) (BuildHasherDefault FoldHasher)
+
+-- the times that are noted at the cell
+abbrev pub changes_of : Changes → Cell → List ℕ
+changes_of changes c = option_map_or (λ v. v.items) (get same_cell changes c) []
+
+-- all times at which agents enter and leave cells are noted there
+abbrev pub HaveChanges : Plan → Changes → Type 0
+HaveChanges plan changes = (c : Cell) → AreChanges plan c (changes_of changes c)
+
+-- what is noted stays
+abbrev pub ChangesStay : Changes → Changes → Type 0
+ChangesStay old new = (c : Cell) (t : ℕ) → Contains (changes_of old c) t → Contains (changes_of new c) t
+
+-- the step of the path at the time is noted on both of its cells
+abbrev pub IsStepNoted : List Cell → Changes → ℕ → Type 0
+IsStepNoted path changes t = cell_at path t ≢ cell_at path (t + 1) → Contains (changes_of changes (cell_at path t)) (t + 1) × Contains (changes_of changes (cell_at path (t + 1))) (t + 1)

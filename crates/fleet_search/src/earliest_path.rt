@@ -28,10 +28,9 @@ fn search(alloc: Global, question: &Question) -> Result<Path, SearchFault>
     let mut frontier = opened(alloc, question)?;
     for length in least..question.horizon + 1 {
         if let Some(last) = frontier.sweep(question, length)? {
-            let path = frontier.path_to(alloc, question, length, last)?;
+            let path = frontier.path_to(question, length, last)?;
             return Ok(path);
         }
-        frontier.turn();
     }
     Err(SearchFault::NoPath)
 }

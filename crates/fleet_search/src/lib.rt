@@ -11,6 +11,7 @@ mod laws;
 mod moment;
 mod planner;
 mod reservations;
+mod stacks;
 
 pub use earliest_path::earliest;
 pub use fault::{PlanStop, SearchFault};

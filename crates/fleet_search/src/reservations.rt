@@ -1,10 +1,10 @@
 //! Reserved paths, and what still fits beside them.
 
-ghost use Rattle.std.specs.Prelude.{◌≡◌, ◌≢◌, ◌+◌, ◌<◌, ◌≤◌, ◌↔◌, ◌++◌, ◌∷◌, [], ℕ, IsTrue, IfSome, IfNone, IfOk, OnOk, OnErr, get_or};
+ghost use Rattle.std.specs.Prelude.{◌≡◌, ◌≢◌, ◌+◌, ◌<◌, ◌≤◌, ◌↔◌, ◌++◌, ◌∷◌, [], ℕ, IsTrue, IfSome, IfNone, IfOk, OnOk, OnErr, get_or, Contains, ◌⊎◌, ◌-◌, false};
 ghost use Rattle.fleet_model.specs.declared.geometry.Cell.{Cell};
 ghost use Rattle.fleet_plan.specs.Plan.{IsPath, cell_at, steps};
 ghost use Rattle.fleet_search.specs.Way.{Fits, FitTogether, StepFits, arrival};
-ghost use Rattle.fleet_search.specs.Reserved.{IsOn, IsFree, IsFreeFrom, LeadsBack, IsEntered, KeepsOthers, IsStillFrom, until_of};
+ghost use Rattle.fleet_search.specs.Reserved.{IsOn, IsFree, IsFreeFrom, LeadsBack, IsEntered, KeepsOthers, IsStillFrom, until_of, IsFreeOn, AreChanges, changes_of, ChangesStay, IsStepNoted};
 
 use crate::moment::{Moment, note, noted, same};
 use fleet_model::{Cell, OutOfMemory};
@@ -21,19 +21,20 @@ pub struct Reservations {
     moving: HashMap<Moment, usize>,
     resting: HashMap<Cell, usize>,
     visited: HashMap<Cell, u32>,
+    changes: HashMap<Cell, Vec<u32>>,
     last: u32,
 }
 
 impl Model for Reservations {
     ghost use Rattle.std.specs.Prelude.{List};
     ghost use Rattle.fleet_model.specs.declared.geometry.Cell.{Cell};
-    ghost use Rattle.fleet_search.specs.Reserved.{IsIndexed};
+    ghost use Rattle.fleet_search.specs.Reserved.{IsIndexed, HaveChanges};
 
     ghost Value = { List (List Cell) };
 
     ghost view = { λ r. r.paths.items };
 
-    ghost invariant = { λ r. IsIndexed r.paths.items r.moving r.resting r.visited r.last };
+    ghost invariant = { λ r. IsIndexed r.paths.items r.moving r.resting r.visited r.last × HaveChanges r.paths.items r.changes };
 }
 
 /// A copy of the path.
@@ -81,6 +82,49 @@ fn visit(visited: &mut HashMap<Cell, u32>, path: &Path) -> Result<(), OutOfMemor
     Ok(())
 }
 
+/// Notes that an agent enters or leaves the cell at the time.
+fn note_change(
+    alloc: Global,
+    changes: &mut HashMap<Cell, Vec<u32>>,
+    cell: Cell,
+    time: u32,
+) -> Result<(), OutOfMemory>
+    ensures ok { OnOk result (Contains (changes_of changes.new cell) time) }
+    ensures stay { ChangesStay changes.old changes.new }
+{
+    if changes.get(&cell).is_none() {
+        let mut times = Vec::new(alloc);
+        times.push(time)?;
+        changes.insert(cell, times)?;
+        return Ok(());
+    }
+    let Some(times) = changes.get_mut(&cell) else {
+        unreachable!()
+    };
+    times.push(time)?;
+    Ok(())
+}
+
+/// Notes each step of the path on the cells that it leads from and to.
+fn note_changes(
+    alloc: Global,
+    changes: &mut HashMap<Cell, Vec<u32>>,
+    path: &Path,
+) -> Result<(), OutOfMemory>
+    ensures ok { OnOk result ((t : ℕ) → IsStepNoted path.now changes.new t) }
+    ensures stay { ChangesStay changes.old changes.new }
+{
+    for time in 0..path.steps() {
+        let from = path.cell(time);
+        let to = path.cell(time + 1);
+        if !same(from, to) {
+            note_change(alloc, changes, from, time + 1)?;
+            note_change(alloc, changes, to, time + 1)?;
+        }
+    }
+    Ok(())
+}
+
 impl Reservations {
     pub fn new(alloc: Global) -> Reservations
         ensures { result ≡ [] }
@@ -91,6 +135,7 @@ impl Reservations {
             moving: HashMap::new(alloc),
             resting: HashMap::new(alloc),
             visited: HashMap::new(alloc),
+            changes: HashMap::new(alloc),
             last: 0,
         }
     }
@@ -234,6 +279,75 @@ impl Reservations {
         self.visited.get(&cell).copied().unwrap_or(0)
     }
 
+    /// The times at which an agent enters or leaves the cell, in no order.
+    pub fn changes(&self, cell: Cell) -> &[u32]
+        ensures { AreChanges self.now cell result.now }
+    {
+        match self.changes.get(&cell) {
+            None => &[],
+            Some(times) => times.as_slice(),
+        }
+    }
+
+    /// Whether the time lies between the two, and somebody stands on the cell then.
+    fn is_taken_between(&self, cell: Cell, from: u32, time: u32, until: u32) -> bool
+        ensures taken { IsTrue result → (from < time) × ((time < until) × (IsFree self.now time cell → ⊥)) }
+        ensures free { result ≡ false → from < time → time < until → IsFree self.now time cell }
+    {
+        if time <= from {
+            return false;
+        }
+        if until <= time {
+            return false;
+        }
+        self.occupant(time, cell).is_some()
+    }
+
+    /// The time at which somebody comes to the cell next, after a time at which nobody stands there.
+    pub fn free_until(&self, cell: Cell, from: u32) -> u32
+        requires few { from < 4294967295 }
+        requires free { IsFree self.now from cell }
+        ensures free { (t : ℕ) → from ≤ t → t < result → IsFree self.now t cell }
+        ensures taken { (t : ℕ) → t < 4294967295 → IsFreeOn self.now cell from t → t < result }
+    {
+        let mut until = u32::MAX;
+        for change in self.changes(cell) {
+            if self.is_taken_between(cell, from, *change, until) {
+                until = *change;
+            }
+        }
+        until
+    }
+
+    /// Whether the time lies after the one and up to the other, and somebody stands on the cell just before it.
+    fn is_taken_before(&self, cell: Cell, since: u32, time: u32, until: u32) -> bool
+        ensures taken { IsTrue result → (since < time) × (time ≤ until) }
+        ensures free { result ≡ false → since < time → time ≤ until → IsFree self.now (time - 1) cell }
+    {
+        if time <= since {
+            return false;
+        }
+        if until < time {
+            return false;
+        }
+        self.occupant(time - 1, cell).is_some()
+    }
+
+    /// The time since which nobody stands on the cell, where nobody does at the time.
+    pub fn free_since(&self, cell: Cell, time: u32) -> u32
+        requires { IsFree self.now time cell }
+        ensures early { result ≤ time }
+        ensures free { IsFreeOn self.now cell result time }
+    {
+        let mut since = 0;
+        for change in self.changes(cell) {
+            if self.is_taken_before(cell, since, *change, time) {
+                since = *change;
+            }
+        }
+        since
+    }
+
     /// Reserves one more path. A refusal changes nothing.
     pub fn reserve(&mut self, path: &Path) -> Result<(), OutOfMemory>
         requires { Fits self.old path.now }
@@ -244,6 +358,7 @@ impl Reservations {
         let agent = self.paths.len();
         visit(&mut self.visited, path)?;
         enter(&mut self.moving, &mut self.resting, path, agent)?;
+        note_changes(self.alloc, &mut self.changes, path)?;
         self.paths.push(copy)?;
         self.last = self.last.max(path.steps());
         Ok(())
@@ -259,6 +374,7 @@ impl Reservations {
             moving: _,
             resting: _,
             visited: _,
+            changes: _,
             last: _,
         } = self;
         paths

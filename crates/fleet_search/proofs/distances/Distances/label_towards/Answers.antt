@@ -1,7 +1,7 @@
-use Rattle.std.proofs.Common.{◌≡◌, ◌+◌, ◌<◌, length, None, Some, sym, ap, ◌∙◌, arith}
+use Rattle.std.proofs.Common.{◌≡◌, ◌+◌, ◌<◌, length, None, Some, sym, ap, ◌∙◌, subst, arith}
 use Rattle.std.specs.Prelude.{get_or, set}
 use Rattle.fleet_grid.specs.Ground.{cell_index}
-use Rattle.fleet_search.specs.Distance.{label_in}
+use Rattle.fleet_search.specs.Distance.{label_in, labelled}
 use Rattle.fleet_search.proofs.Spread.{label_read, labelled-same, labelled-other, found-before, found-push, spread-push, stay}
 use Rattle.fleet_search.proofs.distances.Distances.label_towards.Goals as goal
 

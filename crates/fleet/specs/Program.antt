@@ -1,0 +1,28 @@
+-- What the program does with the words that it was given.
+use Rattle.std.specs.Prelude.{◌≡◌, ◌≢◌, ℕ, List, [], ◌∷◌, ◌++◌, Option, Result, Ok, Err, codes, map, string_bytes}
+use Rattle.std.specs.IoError.{error_kind}
+use Rattle.std.specs.declared.alloc.Global.{Global}
+use Rattle.std.specs.declared.io.Error.{Error}
+use Rattle.std.specs.declared.io.ErrorKind.{ErrorKind}
+use Rattle.std.specs.declared.io.ErrorKind.TheVariants.{OutOfMemory}
+use Rattle.std.specs.declared.string.String.{String}
+use Rattle.std.specs.declared.vec.Vec.{Vec}
+use Rattle.fleet_run.specs.Sink.{Receives}
+use Rattle.fleet_cli.specs.Files.{Store, IsKept}
+use Rattle.fleet_cli.specs.Output.{Output, IsUnwritten, IsTold}
+use Rattle.fleet_cli.specs.Command.{RunsCommand}
+use Rattle.fleet_cli.specs.declared.fault.Fault.TheVariants as f
+
+-- what is told where a word is no text
+abbrev pub no_text_line : List ℕ
+no_text_line = codes "error: a word of the command line is no text" ++ 10 ∷ []
+
+-- why the words cannot be had was told: memory ran out, or else a word is no text, which is wrong usage
+pub record TellsNoWords (kind : ErrorKind) (err : Output) (status : ℕ) : Type 0 where
+  pub memory : kind ≡ OutOfMemory → (status ≡ 3) × IsTold f.Memory err
+  pub usage : kind ≢ OutOfMemory → (status ≡ 2) × Receives err.before err.taken err.has_failed no_text_line
+
+-- what the words ask was done; or there are none, and that alone was told
+abbrev pub RunsProgram : Result (Vec (String Global) Global) Error → Option (List ℕ) → (files after : Option Store) → Output → Output → ℕ → Type 0
+RunsProgram (Ok words) input files after out err status = RunsCommand (map string_bytes words.items) input files after out err status
+RunsProgram (Err error) input files after out err status = TellsNoWords (error_kind error) err status × IsUnwritten out × IsKept files after

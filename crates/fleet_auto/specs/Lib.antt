@@ -1,0 +1,5 @@
+pub mod Texts
+pub mod Making
+pub mod Trace
+pub mod Faults
+pub mod Auto

@@ -1,0 +1,13 @@
+//! From a map and a scenario to the trace of the fleet: plans, compiles, encodes, loads, verifies and runs.
+//!
+//! What each step makes the next one takes: a plan that is made is compiled, its program is loaded again from the bytes that spell it, and
+//! what is loaded is accepted. So once there is a plan with few enough moves, only memory, the holds and the sink can be in its way.
+#![tactic(auto)]
+
+mod fault;
+mod making;
+mod problem;
+mod running;
+
+pub use fault::AutoFault;
+pub use running::auto_run;

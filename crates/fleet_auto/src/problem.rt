@@ -1,0 +1,31 @@
+//! The map and the instance of two texts.
+
+ghost use Rattle.std.specs.Prelude.{IfOk, IfErr};
+ghost use Rattle.fleet_auto.specs.Texts.{AreTextsOf, IsTextsFault};
+
+use crate::fault::AutoFault;
+use fleet_grid::{Grid, read_map};
+use fleet_scen::{Instance, read_scen};
+use std::alloc::Global;
+
+/// A map, and an instance on it.
+#[derive(Drop)]
+pub struct Problem {
+    pub grid: Grid,
+    pub instance: Instance,
+}
+
+/// The map and the instance for which the texts stand.
+pub fn read_problem(
+    alloc: Global,
+    map: &[u8],
+    scen: &[u8],
+    asked: Option<u16>,
+) -> Result<Problem, AutoFault>
+    ensures read { IfOk result (λ p. AreTextsOf map.now scen.now asked p.grid p.instance) }
+    ensures fault { IfErr result (IsTextsFault map.now scen.now asked) }
+{
+    let grid = read_map(alloc, map)?;
+    let instance = read_scen(alloc, scen, &grid, asked)?;
+    Ok(Problem { grid, instance })
+}

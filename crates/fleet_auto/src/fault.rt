@@ -96,17 +96,3 @@ impl From<CompileFault> for AutoFault {
         }
     }
 }
-
-impl From<RunFault> for AutoFault {
-    ghost use Rattle.std.specs.Prelude.{◌≡◌};
-    ghost use Rattle.fleet_auto.specs.Faults.{run_fault};
-
-    ghost from_gives = { λ fault r. r ≡ run_fault fault };
-
-    fn from(fault: RunFault) -> AutoFault {
-        match fault {
-            RunFault::OutOfMemory => AutoFault::OutOfMemory,
-            fault => AutoFault::Run(fault),
-        }
-    }
-}

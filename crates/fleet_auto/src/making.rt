@@ -58,7 +58,7 @@ pub fn accepted_again<'g>(
 ) -> Result<Accepted<'g, Program>, OutOfMemory>
     requires { IsAccepted ComesAfterByAwait (is_passable grid.now) instance.now program }
     ensures program { IfOk result (λ a. a.program ≡ program) }
-    ensures accepted { IfOk result (λ a. IsAcceptedFor grid.now instance.now program a.chain) }
+    ensures accepted { IfOk result (λ a. IsAcceptedFor grid.now instance.now a.program a.chain) }
 {
     match verify(alloc, program, grid, instance) {
         Ok(accepted) => Ok(accepted),

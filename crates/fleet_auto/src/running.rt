@@ -28,8 +28,10 @@ fn driven<O: TraceOut>(
     let Ok(mut fleet) = Fleet::start(alloc, accepted) else {
         return Err(AutoFault::OutOfMemory);
     };
-    let report = drive(&mut fleet, &mut source, out)?;
-    Ok(report)
+    match drive(&mut fleet, &mut source, out) {
+        Ok(report) => Ok(report),
+        Err(fault) => Err(AutoFault::Run(fault)),
+    }
 }
 
 /// Plans for the map and the scenario (of whose agents the first `asked`, or all), with paths that arrive by the horizon, compiles the plan,

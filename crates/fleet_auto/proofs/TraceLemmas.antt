@@ -38,8 +38,8 @@ module _ (held : List ℕ) (p : Program) (chain n : ℕ) (s : HoldLines) (before
       let stops : StoppedAt (length p) fault = subst (λ m. StoppedAt m fault) agents (subst (λ x. Stopped p chain x fault) source here) in
       record {
         never_broken = λ tick e.
-        let broken : StoppedAt (length p) (Source tick) = subst (StoppedAt (length p)) e stops in
-        last_of-broken (length p) (lines held) broken.3.last;
+            let broken : StoppedAt (length p) (Source tick) = subst (StoppedAt (length p)) e stops in
+            last_of-broken (length p) (lines held) broken.3.last;
         now = now;
         failed = failed;
         left = left;

@@ -11,3 +11,6 @@ mod running;
 
 pub use fault::AutoFault;
 pub use running::auto_run;
+
+#[cfg(test)]
+mod tests;

@@ -20,8 +20,8 @@ use Rattle.clap.proofs.ValueTestLemmas.{accepts-Accepts}
 use Rattle.clap.proofs.WalkLemmas.{both}
 use Rattle.fleet_adg.specs.declared.deps.Deps.{Deps}
 use Rattle.fleet_adg.specs.declared.deps.Deps.TheVariants as deps
-use Rattle.fleet_args.specs.CommandLine.{DepsNames, AreDeps, agents_rule, horizon_rule, deps_rule, fleet, fleet_top, instance_shape, check_shape, plan_shape, compile_shape, verify_shape, run_shape, rehearse_shape, word}
-use Rattle.fleet_args.specs.Request.{answered_by, asked_by, deps_in, number_of, instance_by, check_by, plan_by, compile_by, verify_by, run_by, rehearse_by, number_by, number_in}
+use Rattle.fleet_args.specs.CommandLine.{DepsNames, AreDeps, agents_rule, horizon_rule, deps_rule, fleet, fleet_top, instance_shape, check_shape, plan_shape, compile_shape, verify_shape, run_shape, rehearse_shape, auto_shape, word}
+use Rattle.fleet_args.specs.Request.{answered_by, asked_by, deps_in, number_of, instance_by, check_by, plan_by, compile_by, verify_by, run_by, rehearse_by, auto_by, number_by, number_in}
 use Rattle.fleet_args.proofs.RequestLemmas.{digits_from, is_small, is_small_number}
 use Rattle.fleet_args.proofs.MatchedRows.{Among}
 use Rattle.fleet_args.proofs.MatchedValues.{HasValue, default_value, optional_value, required_value}
@@ -206,6 +206,23 @@ rehearse_answers words none =
     let program = required_value (leaf rehearse_shape) words none (at 1 (word (codes "program"))) refl refl refl refl in
     rehearse_asks (λ id. first_of id (rows_after (leaf rehearse_shape).rules [] words)) program.text program.first
 
+auto_asks : (first : Text → Option Text) (number : Text → Option (Option ℕ)) (map scen : Text) (agents : Option ℕ) (horizon : ℕ) (d : Deps) → first (codes "map") ≡ Some map
+    → first (codes "scen") ≡ Some scen → number (codes "agents") ≡ Some agents → number_of (number (codes "horizon")) ≡ Some horizon
+    → option_and_then deps_in (first (codes "deps")) ≡ Some d → is_some (auto_by first number) ≡ true
+auto_asks first number map scen agents horizon d h k l m n = rw (h, k, l, m, n) refl
+
+auto_answers : (names : DepsNames) → AreDeps names → (words : List Text) → Answers (auto_shape names) words
+auto_answers names are words none =
+    let s = leaf (auto_shape names) in
+    let rows = rows_after s.rules [] words in
+    let map = required_value s words none (at 1 (word (codes "map"))) refl refl refl refl in
+    let scen = required_value s words none (at 2 (word (codes "scen"))) refl refl refl refl in
+    let agents = number_option (at 3 agents_rule) rows 0 65535 refl (omega arith) (optional_value s words none (at 3 agents_rule) refl refl) in
+    let horizon = number_default (at 4 horizon_rule) rows 1 65535 refl (omega arith) (default_value s words none (at 4 horizon_rule) refl refl refl) in
+    let named = deps_value names (at 5 (deps_rule names)) rows are refl refl (default_value s words none (at 5 (deps_rule names)) refl refl refl) in
+    auto_asks (λ id. first_of id rows) (λ id. number_by (one_of id rows)) map.text scen.text agents.0 horizon.0 named.0
+    map.first scen.first agents.1 horizon.1 named.1
+
 -- ---- the command line
 
 answers_each : (names : DepsNames) → AreDeps names → (s : Shape) (words : List Text) → Among s (built (fleet names)).subs → (name : Text) → answers_to name (label_of s) ≡ true
@@ -224,9 +241,12 @@ answers_each names are s words among name named no_help = elim among [
             | inl same ↦ subst P (sym same) (run_answers words)
             | inr seventh ↦ elim seventh [
               | inl same ↦ subst P (sym same) (rehearse_answers words)
-              | inr last ↦ elim last [
-                | inl same ↦ λ none. absurd (true≢false (sym (helps (ap (λ x. answers_to name (label_of x)) (sym same) ∙ named)) ∙ no_help))
-                | inr nothing ↦ absurd nothing
+              | inr eighth ↦ elim eighth [
+                | inl same ↦ subst P (sym same) (auto_answers names are words)
+                | inr last ↦ elim last [
+                  | inl same ↦ λ none. absurd (true≢false (sym (helps (ap (λ x. answers_to name (label_of x)) (sym same) ∙ named)) ∙ no_help))
+                  | inr nothing ↦ absurd nothing
+                ]
               ]
             ]
           ]

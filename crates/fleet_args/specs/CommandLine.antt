@@ -61,6 +61,10 @@ run_shape = command (codes "run") (word (codes "map") ∷ word (codes "scen") �
 abbrev pub rehearse_shape : Shape
 rehearse_shape = command (codes "rehearse") (word (codes "program") ∷ option (codes "holds") ∷ [])
 
+abbrev pub auto_shape : DepsNames → Shape
+auto_shape names = command (codes "auto")
+    (word (codes "map") ∷ word (codes "scen") ∷ agents_rule ∷ horizon_rule ∷ deps_rule names ∷ option (codes "holds") ∷ [])
+
 -- the program: its words do not begin with its name, and one of the commands is wanted
 abbrev pub fleet_top : App
 fleet_top = record (new_app (codes "fleet")) {
@@ -70,7 +74,7 @@ fleet_top = record (new_app (codes "fleet")) {
 -- the whole command line
 abbrev pub fleet : DepsNames → App
 fleet names = fold with_subcommand fleet_top
-    (instance_shape ∷ check_shape ∷ plan_shape ∷ compile_shape names ∷ verify_shape ∷ run_shape ∷ rehearse_shape ∷ [])
+    (instance_shape ∷ check_shape ∷ plan_shape ∷ compile_shape names ∷ verify_shape ∷ run_shape ∷ rehearse_shape ∷ auto_shape names ∷ [])
 
 -- the argument has this rule, and does not reach into other commands
 abbrev pub IsArg : Rule → Arg → Type 0

@@ -26,6 +26,7 @@ pub data Asked : Type 0 where
   ask_verify : Text → Text → Text → Option ℕ → Asked
   ask_run : Text → Text → Text → Option ℕ → Option Text → Asked
   ask_rehearse : Text → Option Text → Asked
+  ask_auto : Text → Text → Option ℕ → ℕ → Deps → Option Text → Asked
 
 abbrev pub asked_of : Request → Asked
 asked_of (r.Instance map scen agents) = ask_instance map.now scen.now agents
@@ -35,6 +36,7 @@ asked_of (r.Compile map scen plan out agents deps) = ask_compile map.now scen.no
 asked_of (r.Verify map scen program agents) = ask_verify map.now scen.now program.now agents
 asked_of (r.Run map scen program agents holds) = ask_run map.now scen.now program.now agents (option_map (λ text. text.now) holds)
 asked_of (r.Rehearse program holds) = ask_rehearse program.now (option_map (λ text. text.now) holds)
+asked_of (r.Auto map scen agents horizon deps holds) = ask_auto map.now scen.now agents horizon deps (option_map (λ text. text.now) holds)
 
 -- the number below 2 ^ 16 that the text spells
 abbrev pub number_in : Text → Option ℕ
@@ -111,6 +113,16 @@ run_by first number =
 abbrev pub rehearse_by : (Text → Option Text) → Option Asked
 rehearse_by first = option_map (λ program. ask_rehearse program (first (codes "holds"))) (first (codes "program"))
 
+abbrev pub auto_by : (Text → Option Text) → (Text → Option (Option ℕ)) → Option Asked
+auto_by first number =
+    option_and_then (λ map.
+    option_and_then (λ scen.
+    option_and_then (λ agents.
+    option_and_then (λ horizon.
+    option_map (λ deps. ask_auto map scen agents horizon deps (first (codes "holds")))
+    (option_and_then deps_in (first (codes "deps")))) (number_of (number (codes "horizon")))) (number (codes "agents")))
+    (first (codes "scen"))) (first (codes "map"))
+
 -- the command of a name
 abbrev pub asked_from : Text → (Text → Option Text) → (Text → Option (Option ℕ)) → Option Asked
 asked_from name first number =
@@ -120,7 +132,8 @@ asked_from name first number =
     else (if bytes_eq name (codes "compile") then compile_by first number
     else (if bytes_eq name (codes "verify") then verify_by first number
     else (if bytes_eq name (codes "run") then run_by first number
-    else (if bytes_eq name (codes "rehearse") then rehearse_by first else None))))))
+    else (if bytes_eq name (codes "rehearse") then rehearse_by first
+    else (if bytes_eq name (codes "auto") then auto_by first number else None)))))))
 
 -- what a command and its matches ask
 abbrev pub asked_by : Option (Text × List Row) → Option Asked

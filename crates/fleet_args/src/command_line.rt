@@ -2,7 +2,7 @@
 
 ghost use Rattle.std.specs.Prelude.{◌≡◌, ◌∷◌, [], IfOk, codes};
 ghost use Rattle.clap.specs.Words.{app_of};
-ghost use Rattle.fleet_args.specs.CommandLine.{IsArg, IsLeafCommand, word, option, agents_rule, horizon_rule, deps_rule, command, instance_shape, check_shape, plan_shape, compile_shape, verify_shape, run_shape, rehearse_shape, fleet_top, fleet};
+ghost use Rattle.fleet_args.specs.CommandLine.{IsArg, IsLeafCommand, word, option, agents_rule, horizon_rule, deps_rule, command, instance_shape, check_shape, plan_shape, compile_shape, verify_shape, run_shape, rehearse_shape, auto_shape, fleet_top, fleet};
 
 use clap::{Arg, Command};
 use std::alloc::{AllocError, Global};
@@ -220,6 +220,20 @@ fn rehearse_command<'a>(alloc: Global) -> Result<Command<'a>, AllocError>
         .arg(holds(alloc))
 }
 
+fn auto_command<'a>(alloc: Global, names: &'a [&'a str]) -> Result<Command<'a>, AllocError>
+    ensures { IfOk result (IsLeafCommand (auto_shape names.entry)) }
+{
+    map_and_scen(
+        alloc,
+        "auto",
+        "Plans, compiles, verifies and runs in one go, printing the positions tick by tick",
+    )?
+    .arg(agents(alloc))?
+    .arg(horizon(alloc))?
+    .arg(deps(alloc, names))?
+    .arg(holds(alloc))
+}
+
 /// The command line without its commands. Its words do not begin with the program's name.
 fn without_commands<'a>(alloc: Global) -> Result<Command<'a>, AllocError>
     ensures { IfOk result (λ command. app_of command ≡ fleet_top) }
@@ -247,5 +261,6 @@ pub fn fleet_command<'a>(alloc: Global, names: &'a [&'a str]) -> Result<Command<
         .subcommand(compile_command(alloc, names)?)?
         .subcommand(verify_command(alloc)?)?
         .subcommand(run_command(alloc)?)?
-        .subcommand(rehearse_command(alloc)?)
+        .subcommand(rehearse_command(alloc)?)?
+        .subcommand(auto_command(alloc, names)?)
 }

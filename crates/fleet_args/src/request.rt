@@ -3,7 +3,7 @@
 ghost use Rattle.std.specs.Prelude.{◌≡◌, option_map, map, string_bytes};
 ghost use Rattle.clap.specs.Words.{found_of, first_value, subcommand_rows_of, kind_of};
 ghost use Rattle.fleet_args.specs.CommandLine.{AreDeps, fleet};
-ghost use Rattle.fleet_args.specs.Request.{asked_of, asked_by, asked_from, deps_in, instance_by, check_by, plan_by, compile_by, verify_by, run_by, rehearse_by, number_found, IsStopOf, Reads, ReadsFleet};
+ghost use Rattle.fleet_args.specs.Request.{asked_of, asked_by, asked_from, deps_in, instance_by, check_by, plan_by, compile_by, verify_by, run_by, rehearse_by, auto_by, number_found, IsStopOf, Reads, ReadsFleet};
 
 use crate::command_line::fleet_command;
 use clap::ArgMatches;
@@ -55,6 +55,14 @@ pub enum Request<'a> {
     },
     Rehearse {
         program: &'a str,
+        holds: Option<&'a str>,
+    },
+    Auto {
+        map: &'a str,
+        scen: &'a str,
+        agents: Option<u16>,
+        horizon: u16,
+        deps: Deps,
         holds: Option<&'a str>,
     },
 }
@@ -192,6 +200,26 @@ fn rehearse_in<'a>(rows: &ArgMatches<'a>) -> Option<Request<'a>>
     Some(Request::Rehearse { program, holds })
 }
 
+fn auto_in<'a>(rows: &ArgMatches<'a>) -> Option<Request<'a>>
+    ensures { option_map asked_of result
+        ≡ auto_by (first_value (found_of rows.now)) (number_found (found_of rows.now)) }
+{
+    let map = rows.get_str("map")?;
+    let scen = rows.get_str("scen")?;
+    let agents = number(rows, "agents")?;
+    let horizon = number(rows, "horizon")??;
+    let deps = deps_of(rows.get_str("deps")?)?;
+    let holds = rows.get_str("holds");
+    Some(Request::Auto {
+        map,
+        scen,
+        agents,
+        horizon,
+        deps,
+        holds,
+    })
+}
+
 /// The request of the command of this name, by its matches.
 fn request_by<'a>(name: &str, rows: &ArgMatches<'a>) -> Option<Request<'a>>
     ensures { option_map asked_of result
@@ -205,6 +233,7 @@ fn request_by<'a>(name: &str, rows: &ArgMatches<'a>) -> Option<Request<'a>>
         "verify" => verify_in(rows),
         "run" => run_in(rows),
         "rehearse" => rehearse_in(rows),
+        "auto" => auto_in(rows),
         _ => None,
     }
 }

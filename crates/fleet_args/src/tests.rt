@@ -20,9 +20,27 @@ fn rehearse<'a>(program: &'a str, holds: Option<&'a str>) -> Request<'a> {
     Request::Rehearse { program, holds }
 }
 
+fn auto<'a>(
+    map: &'a str,
+    scen: &'a str,
+    agents: Option<u16>,
+    horizon: u16,
+    deps: Deps,
+    holds: Option<&'a str>,
+) -> Request<'a> {
+    Request::Auto {
+        map,
+        scen,
+        agents,
+        horizon,
+        deps,
+        holds,
+    }
+}
+
 #[test]
 fn words_make_a_request(rt: HostRuntime) -> Result<(), Fail> {
-    let rows: [(&[&str], Request<'_>); 19] = [
+    let rows: [(&[&str], Request<'_>); 22] = [
         (&["rehearse", "p"], rehearse("p", None)),
         (&["rehearse", "p", "--holds", "h"], rehearse("p", Some("h"))),
         (&["rehearse", "--holds=-", "p"], rehearse("p", Some("-"))),
@@ -121,6 +139,27 @@ fn words_make_a_request(rt: HostRuntime) -> Result<(), Fail> {
                 holds: Some("h"),
             },
         ),
+        (
+            &["auto", "m", "s"],
+            auto("m", "s", None, 1024, Deps::Last, None),
+        ),
+        (
+            &["auto", "m", "s", "--deps", "all", "--horizon", "1"],
+            auto("m", "s", None, 1, Deps::All, None),
+        ),
+        (
+            &[
+                "auto",
+                "--holds",
+                "h",
+                "m",
+                "--agents=3",
+                "s",
+                "--horizon=65535",
+                "--deps=last",
+            ],
+            auto("m", "s", Some(3), 65_535, Deps::Last, Some("h")),
+        ),
     ];
     for (texts, expected) in rows {
         let words = words(rt.alloc(), texts)?;
@@ -157,7 +196,7 @@ fn stops(
 
 #[test]
 fn usage_says_what_is_wrong(rt: HostRuntime) -> Result<(), Fail> {
-    let rows: [(&[&str], &str); 18] = [
+    let rows: [(&[&str], &str); 21] = [
         (
             &[],
             "error: 'fleet' requires a subcommand but one was not provided",
@@ -208,6 +247,15 @@ fn usage_says_what_is_wrong(rt: HostRuntime) -> Result<(), Fail> {
             "error: the argument '--agents <K>' cannot be used multiple times",
         ),
         (
+            &["auto", "m", "s", "--horizon", "0"],
+            "error: invalid value '0' for '--horizon <H>': 0 is not in 1..=65535",
+        ),
+        (
+            &["auto", "m", "s", "--deps", "first"],
+            "  [possible values: all, last]",
+        ),
+        (&["auto", "m"], "Usage: fleet auto <MAP> <SCEN>"),
+        (
             &["instance", "x", "y", "z", "--help"],
             "error: unexpected argument 'z' found",
         ),
@@ -224,7 +272,7 @@ fn usage_says_what_is_wrong(rt: HostRuntime) -> Result<(), Fail> {
 
 #[test]
 fn help_tells_the_words(rt: HostRuntime) -> Result<(), Fail> {
-    let rows: [(&[&str], &str); 7] = [
+    let rows: [(&[&str], &str); 9] = [
         (&["--help"], "Usage: fleet <COMMAND>"),
         (&["-h"], "Usage: fleet <COMMAND>"),
         (&["help"], "Usage: fleet <COMMAND>"),
@@ -235,6 +283,14 @@ fn help_tells_the_words(rt: HostRuntime) -> Result<(), Fail> {
         (
             &["instance", "--help"],
             "Usage: fleet instance [OPTIONS] <MAP> <SCEN>",
+        ),
+        (
+            &["auto", "--help"],
+            "Usage: fleet auto [OPTIONS] <MAP> <SCEN>",
+        ),
+        (
+            &["help", "auto"],
+            "Plans, compiles, verifies and runs in one go, printing the positions tick by tick",
         ),
         (
             &["instance", "-h"],

@@ -10,4 +10,5 @@ returns c =
     let four = joins _ _ _ _ _ three c.in_ok-compile_command.ensures c.in_ok-subcommand-4.ensures in
     let five = joins _ _ _ _ _ four c.in_ok-verify_command.ensures c.in_ok-subcommand-5.ensures in
     let six = joins _ _ _ _ _ five c.in_ok-run_command.ensures c.in_ok-subcommand-6.ensures in
-    IfOk-weaker c.subcommand-7.result _ _ (λ r h. joins _ _ r _ _ six c.in_ok-rehearse_command.ensures h) c.subcommand-7.ensures
+    let seven = joins _ _ _ _ _ six c.in_ok-rehearse_command.ensures c.in_ok-subcommand-7.ensures in
+    IfOk-weaker c.subcommand-8.result _ _ (λ r h. joins _ _ r _ _ seven c.in_ok-auto_command.ensures h) c.subcommand-8.ensures

@@ -1,5 +1,8 @@
--- How far the passable cells are from a goal. Cells are labelled layer by layer with their number of moves.
-use Rattle.std.specs.Prelude.{◌≡◌, ℕ, ◌+◌, ◌*◌, ◌<◌, ◌≤◌, ◌==◌, cond, IsTrue, List, length, get_or, Contains, Option, None, Some, unwrap_or, ◌⊎◌}
+-- How far the passable cells are from a goal. Cells are labelled with their numbers of moves, first those over which the shortest paths from the
+-- start may lead (A*: Hart, Nilsson and Raphael 1968).
+use Rattle.std.specs.Prelude.{◌≡◌, ℕ, ◌+◌, ◌-◌, ◌*◌, ◌<◌, ◌≤◌, ◌==◌, cond, IsTrue, List, length, get_or, Contains, Option, None, Some, unwrap_or, min, max, ◌⊎◌, ◌++◌, ◌∷◌, []}
+use Rattle.std.specs.Int.{abs_diff}
+use Rattle.std.specs.List.{sum_by}
 use Rattle.fleet_model.specs.declared.geometry.Cell.{Cell}
 use Rattle.fleet_model.specs.declared.geometry.Dir.{Dir}
 use Rattle.fleet_model.specs.Geometry.{place_of, moved}
@@ -23,9 +26,18 @@ labelled search l = cond (l.search == search) (Some l.distance) None
 unfoldable pub label_in : Ground → List Label → ℕ → Cell → Option ℕ
 label_in g labels search c = labelled search (get_or labels (cell_index g c) no_label)
 
--- how many moves lead from the cell to the goal at least: its label, or what is said of the cells beyond those that are labelled
+-- how many columns and rows lie between two cells
+unfoldable pub manhattan : Cell → Cell → ℕ
+manhattan a b = abs_diff a.x b.x + abs_diff a.y b.y
+
+-- how many moves lead from the cell to the goal at least, by the sides alone, and where a path of fewer moves than `reach` from the start
+-- to the goal does not lead over it
+unfoldable pub least_moves : Distances → Cell → ℕ
+least_moves d c = max (manhattan c d.goal) (d.reach - manhattan c d.start)
+
+-- how many moves lead from the cell to the goal at least: its label, where that is no more
 unfoldable pub far : Ground → Distances → Cell → ℕ
-far g d c = unwrap_or (label_in g d.labels.items d.search c) d.beyond
+far g d c = min (unwrap_or (label_in g d.labels.items d.search c) (least_moves d c)) (least_moves d c)
 
 -- a table for the map, with no label of a later search
 pub record IsReady (g : Ground) (labels : List Label) (search : ℕ) : Type 0 where
@@ -36,7 +48,8 @@ pub record IsReady (g : Ground) (labels : List Label) (search : ℕ) : Type 0 wh
 -- the goal is at no distance, and neighbours differ by one at most
 pub record AreDistances (g : Ground) (d : Distances) (goal : Cell) : Type 0 where
   pub ready : IsReady g d.labels.items d.search
-  pub few : d.beyond ≤ 65536
+  pub goal_on_ground : IsOnGround g d.goal
+  pub few : d.reach ≤ 65536
   pub at_goal : far g d goal ≡ 0
   pub near : (c e : Cell) → IsOnGround g c → IsOnGround g e → AreNeighbours c e → far g d e ≤ far g d c + 1
 
@@ -44,31 +57,58 @@ pub record AreDistances (g : Ground) (d : Distances) (goal : Cell) : Type 0 wher
 abbrev pub IsClosed : Ground → List Label → ℕ → Cell → ℕ → Type 0
 IsClosed g labels search c n = (e : Cell) → AreNeighbours c e → IsOnGround g e → (m : ℕ) × (label_in g labels search e ≡ Some m) × (m ≤ n + 1)
 
--- the cell's neighbours are still to be labelled
-abbrev pub IsWaiting : List Cell → List Cell → Option Cell → Cell → Type 0
-IsWaiting layer next left c = Contains layer c ⊎ (Contains next c ⊎ (left ≡ Some c))
+-- the cell's neighbours are still to be labelled, now or after those of the layer
+abbrev pub IsWaiting : (reach distance : ℕ) → List Cell → List Cell → Option Cell → Cell → Type 0
+IsWaiting reach distance layer next left c =
+    ((distance ≡ reach) × (Contains layer c ⊎ (left ≡ Some c))) ⊎ ((distance ≡ reach + 2) × Contains next c)
 
--- the cells of the layer and the cell that is left are labelled with d moves, those of the next one with one more; all others are closed
-pub record IsSpread (g : Ground) (labels : List Label) (search : ℕ) (goal : Cell) (d : ℕ) (left : Option Cell) (layer next : List Cell) : Type 0 where
+-- a labelled cell is closed, or waits on the list of the moves of a path from the start over it
+pub record IsSpread (g : Ground) (labels : List Label) (search : ℕ) (start goal : Cell) (reach : ℕ) (left : Option Cell) (layer next : List Cell) : Type 0 where
   pub ready : IsReady g labels search
-  pub start : IsOnGround g goal
+  pub goal_on_ground : IsOnGround g goal
   pub at_goal : label_in g labels search goal ≡ Some 0
-  pub top : (c : Cell) (n : ℕ) → IsOnGround g c → label_in g labels search c ≡ Some n → n ≤ d + 1
-  pub in_layer : (c : Cell) → Contains layer c → IsOnGround g c × (label_in g labels search c ≡ Some d)
-  pub in_next : (c : Cell) → Contains next c → IsOnGround g c × (label_in g labels search c ≡ Some (d + 1))
-  pub closed : (c : Cell) (n : ℕ) → IsOnGround g c → label_in g labels search c ≡ Some n → IsClosed g labels search c n ⊎ IsWaiting layer next left c
+  pub apart : (c : Cell) (n : ℕ) → IsOnGround g c → label_in g labels search c ≡ Some n → manhattan c goal ≤ n
+  pub in_layer : (c : Cell) → Contains layer c → IsOnGround g c
+  pub in_next : (c : Cell) → Contains next c → IsOnGround g c
+  pub closed : (c : Cell) (n : ℕ) → IsOnGround g c → label_in g labels search c ≡ Some n → IsClosed g labels search c n ⊎ IsWaiting reach (n + manhattan c start) layer next left c
 
-abbrev pub SpreadIs : Ground → ℕ → Option Cell → Distances → Type 0
-SpreadIs g d left s = IsSpread g s.labels.items s.search s.goal d left s.layer.items s.next.items
+abbrev pub SpreadIs : Ground → Option Cell → Distances → Type 0
+SpreadIs g left s = IsSpread g s.labels.items s.search s.start s.goal s.reach left s.layer.items s.next.items
 
 -- the cell that is left is labelled with d moves
 abbrev pub IsLabelled : Ground → Distances → Cell → ℕ → Type 0
 IsLabelled g s c d = label_in g s.labels.items s.search c ≡ Some d
 
--- labels stay
-abbrev pub LabelsStay : Ground → Distances → Distances → Type 0
-LabelsStay g old new = (c : Cell) (n : ℕ) → IsOnGround g c → IsLabelled g old c n → IsLabelled g new c n
+-- what is labelled stays so, and no label rises
+abbrev pub LabelsFall : Ground → Distances → Distances → Type 0
+LabelsFall g old new = (c : Cell) (n : ℕ) → IsOnGround g c → IsLabelled g old c n → (m : ℕ) × IsLabelled g new c m × (m ≤ n)
 
 -- what is reached from the cell in one direction is labelled
 abbrev pub IsFoundTowards : Ground → Distances → ℕ → Cell → Dir → Type 0
 IsFoundTowards g s d left dir = (e : Cell) → place_of e ≡ moved (place_of left) dir → IsOnGround g e → (m : ℕ) × IsLabelled g s e m × (m ≤ d + 1)
+
+-- the search is for the same
+pub record IsSameSearch (old new : Distances) : Type 0 where
+  pub start : new.start ≡ old.start
+  pub goal : new.goal ≡ old.goal
+  pub reach : new.reach ≡ old.reach
+
+-- how much there is still to be labelled, and on the layer to be left
+abbrev pub label_weight : ℕ → Label → ℕ
+label_weight search l = unwrap_or (labelled search l) 65536
+
+unfoldable pub work_left : Distances → ℕ
+work_left s = 2 * sum_by (label_weight s.search) s.labels.items + length s.layer.items
+
+-- the label is one of this search, and says no more moves
+pub record IsNear (search : ℕ) (l : Label) (distance : ℕ) : Type 0 where
+  pub current : l.search ≡ search
+  pub near : l.distance ≤ distance
+
+-- the cell is put on the layer where it is nearer to the start than the one that is left, and else on the next list
+pub record IsPutFrom (left cell : Cell) (old new : Distances) : Type 0 where
+  pub labels : new.labels ≡ old.labels
+  pub search : new.search ≡ old.search
+  pub same : IsSameSearch old new
+  pub put : ((manhattan cell old.start < manhattan left old.start) × (new.layer.items ≡ old.layer.items ++ cell ∷ []) × (new.next.items ≡ old.next.items))
+      ⊎ ((manhattan left old.start ≤ manhattan cell old.start) × (new.layer.items ≡ old.layer.items) × (new.next.items ≡ old.next.items ++ cell ∷ []))

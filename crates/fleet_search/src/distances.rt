@@ -1,10 +1,10 @@
 //! How far the cells of a map are from a goal, over passable cells.
 
-ghost use Rattle.std.specs.Prelude.{◌≡◌, ◌+◌, ◌<◌, ◌≤◌, ◌*◌, ℕ, IsTrue, IfOk, OnOk, Some, None, [], length, get_or};
+ghost use Rattle.std.specs.Prelude.{◌≡◌, ◌+◌, ◌<◌, ◌≤◌, ◌*◌, ◌↔◌, ℕ, IsTrue, IfOk, OnOk, Some, None, [], length, get_or};
 ghost use Rattle.fleet_model.specs.declared.geometry.Cell.{Cell};
 ghost use Rattle.fleet_model.specs.Geometry.{place_of, moved};
 ghost use Rattle.fleet_grid.specs.Ground.{IsGround, is_passable, cell_index};
-ghost use Rattle.fleet_search.specs.Distance.{no_label, label_in, labelled, far, IsReady, AreDistances, IsOnGround, SpreadIs, IsLabelled, IsFoundTowards, LabelsStay};
+ghost use Rattle.fleet_search.specs.Distance.{no_label, label_in, labelled, manhattan, least_moves, far, IsReady, AreDistances, IsOnGround, SpreadIs, IsLabelled, IsFoundTowards, LabelsFall, IsSameSearch, IsNear, IsPutFrom, work_left};
 
 use fleet_grid::Grid;
 use fleet_model::{Cell, Dir, OutOfMemory};
@@ -24,13 +24,27 @@ pub struct Label {
 pub struct Distances {
     pub labels: Vec<Label>,
     pub search: u16,
+    pub start: Cell,
     pub goal: Cell,
-    /// What is said of cells without a label.
-    pub beyond: u32,
-    /// Cells whose neighbours are being labelled.
+    /// Cells over which a path of fewer moves from the start to the goal leads have been left.
+    pub reach: u32,
+    /// Cells whose neighbours are being labelled: those over which a path of `reach` moves leads.
     pub layer: Vec<Cell>,
-    /// Cells that are one move farther.
+    /// Cells over which a path of two moves more leads. A move changes that number by nothing or by two.
     pub next: Vec<Cell>,
+}
+
+/// How many moves longer than the shortest a path from the start may be, for the labels of its cells to be sought.
+/// A path that goes round others is looked for among these first.
+const SLACK: u32 = 16;
+
+/// How many columns and rows lie between two cells.
+#[tactic(auto, unfolding(crate::specs::Distance::manhattan))]
+fn manhattan(a: Cell, b: Cell) -> u32
+    ensures value { result ≡ manhattan a b }
+    ensures limit { result ≤ 131070 }
+{
+    u32::from(a.x.abs_diff(b.x)) + u32::from(a.y.abs_diff(b.y))
 }
 
 impl Distances {
@@ -42,14 +56,25 @@ impl Distances {
             search: 0,
             distance: 0,
         };
+        let corner = Cell { x: 0, y: 0 };
         Ok(Distances {
             labels: vec![in alloc; none; cells]?,
             search: 0,
-            goal: Cell { x: 0, y: 0 },
-            beyond: 0,
+            start: corner,
+            goal: corner,
+            reach: 0,
             layer: Vec::new(alloc),
             next: Vec::new(alloc),
         })
+    }
+
+    /// How many moves lead from the cell to the goal at least, as far as the sides of the map tell.
+    #[tactic(auto, unfolding(crate::specs::Distance::least_moves))]
+    fn least_moves(&self, cell: Cell) -> u32
+        ensures { result ≡ least_moves self.now cell }
+    {
+        let behind = self.reach.saturating_sub(manhattan(cell, self.start));
+        manhattan(cell, self.goal).max(behind)
     }
 
     /// How many moves lead from the cell to the goal at least.
@@ -57,13 +82,15 @@ impl Distances {
     pub fn from(&self, grid: &Grid, cell: Cell) -> u32
         requires ready { IsReady grid.now self.now.labels.items self.now.search }
         requires cell { IsOnGround grid.now cell }
-        requires few { self.now.beyond ≤ 65536 }
+        requires goal { IsOnGround grid.now self.now.goal }
+        requires few { self.now.reach ≤ 65536 }
         ensures value { result ≡ far grid.now self.now cell }
         ensures limit { result ≤ 65536 }
     {
+        let least = self.least_moves(cell);
         match self.label(grid, cell) {
-            None => self.beyond,
-            Some(distance) => u32::from(distance),
+            None => least,
+            Some(distance) => least.min(u32::from(distance)),
         }
     }
 
@@ -81,7 +108,26 @@ impl Distances {
         }
     }
 
-    /// Labels the neighbour in one direction, where it has no label yet.
+    /// Whether the label says no more moves than this.
+    fn is_near(&self, label: Label, distance: u16) -> bool
+        ensures { IsTrue result ↔ IsNear self.now.search label distance }
+    {
+        label.search == self.search && label.distance <= distance
+    }
+
+    /// Puts a cell that was labelled next to the one that is left on its list.
+    fn put(&mut self, left: Cell, cell: Cell) -> Result<(), OutOfMemory>
+        ensures { OnOk result (IsPutFrom left cell self.old self.new) }
+    {
+        if manhattan(cell, self.start) < manhattan(left, self.start) {
+            self.layer.push(cell)?;
+        } else {
+            self.next.push(cell)?;
+        }
+        Ok(())
+    }
+
+    /// Labels the neighbour in one direction, where it has no label of so few moves yet.
     fn label_towards(
         &mut self,
         grid: &Grid,
@@ -90,36 +136,47 @@ impl Distances {
         dir: Dir,
     ) -> Result<(), OutOfMemory>
         requires few { distance < 65535 }
-        requires spread { SpreadIs grid.now distance (Some left) self.old }
-        ensures spread { OnOk result (SpreadIs grid.now distance (Some left) self.new) }
+        requires spread { SpreadIs grid.now (Some left) self.old }
+        requires left { IsLabelled grid.now self.old left distance }
+        requires cell { IsOnGround grid.now left }
+        requires reach { distance + manhattan left self.old.start ≡ self.old.reach }
+        ensures spread { OnOk result (SpreadIs grid.now (Some left) self.new) }
+        ensures left { OnOk result (IsLabelled grid.now self.new left distance) }
         ensures found { OnOk result (IsFoundTowards grid.now self.new distance left dir) }
-        ensures stay { OnOk result (LabelsStay grid.now self.old self.new) }
-        ensures kept { OnOk result ((self.new.goal ≡ self.old.goal) × (self.new.layer.items ≡ self.old.layer.items)) }
+        ensures fall { OnOk result (LabelsFall grid.now self.old self.new) }
+        ensures same { OnOk result (IsSameSearch self.old self.new) }
+        ensures work { OnOk result (work_left self.new ≤ work_left self.old) }
     {
         let Some(beside) = grid.neighbour(left, dir) else {
             return Ok(());
         };
         let place = grid.cell_index(beside);
-        if self.labels[place].search == self.search {
+        if self.is_near(self.labels[place], distance + 1) {
             return Ok(());
         }
         self.labels[place] = Label {
             search: self.search,
             distance: distance + 1,
         };
-        self.next.push(beside)?;
+        self.put(left, beside)?;
         Ok(())
     }
 
-    /// Labels the neighbours of a cell.
-    fn leave(&mut self, grid: &Grid, distance: u16, left: Cell) -> Result<(), OutOfMemory>
-        requires few { distance < 65535 }
-        requires spread { SpreadIs grid.now distance (Some left) self.old }
+    /// Labels the neighbours of a cell, where a path of `reach` moves leads over it; else it was left before.
+    fn leave(&mut self, grid: &Grid, left: Cell) -> Result<(), OutOfMemory>
+        requires few { self.old.reach < 65535 }
+        requires spread { SpreadIs grid.now (Some left) self.old }
         requires cell { IsOnGround grid.now left }
-        requires label { IsLabelled grid.now self.old left distance }
-        ensures spread { OnOk result (SpreadIs grid.now distance None self.new) }
-        ensures kept { OnOk result ((self.new.goal ≡ self.old.goal) × (self.new.layer.items ≡ self.old.layer.items)) }
+        ensures spread { OnOk result (SpreadIs grid.now None self.new) }
+        ensures same { OnOk result (IsSameSearch self.old self.new) }
+        ensures work { OnOk result (work_left self.new ≤ work_left self.old) }
     {
+        let Some(distance) = self.label(grid, left) else {
+            return Ok(());
+        };
+        if u32::from(distance) + manhattan(left, self.start) != self.reach {
+            return Ok(());
+        }
         self.label_towards(grid, distance, left, Dir::North)?;
         self.label_towards(grid, distance, left, Dir::East)?;
         self.label_towards(grid, distance, left, Dir::South)?;
@@ -127,42 +184,49 @@ impl Distances {
         Ok(())
     }
 
-    /// Labels the cells next to the layer, and turns to them.
-    fn spread(&mut self, grid: &Grid, distance: u16) -> Result<(), OutOfMemory>
-        requires few { distance < 65535 }
-        requires spread { SpreadIs grid.now distance None self.old }
-        ensures spread { OnOk result (SpreadIs grid.now distance None self.new) }
+    /// Leaves the cells of the layer, and those that come onto it.
+    fn spread(&mut self, grid: &Grid) -> Result<(), OutOfMemory>
+        requires few { self.old.reach < 65535 }
+        requires spread { SpreadIs grid.now None self.old }
+        ensures spread { OnOk result (SpreadIs grid.now None self.new) }
         ensures layer { OnOk result (self.new.layer.items ≡ []) }
-        ensures goal { OnOk result (self.new.goal ≡ self.old.goal) }
+        ensures same { OnOk result (IsSameSearch self.old self.new) }
     {
         while let Some(left) = self.layer.pop() {
-            self.leave(grid, distance, left)?;
+            self.leave(grid, left)?;
         }
         Ok(())
     }
 
-    /// Turns to the cells that are one move farther.
+    /// Turns to the cells over which a path of two moves more leads.
     fn turn(&mut self)
-        requires { self.old.layer.items ≡ [] }
+        requires few { self.old.reach < 65535 }
+        requires layer { self.old.layer.items ≡ [] }
         ensures labels { self.new.labels ≡ self.old.labels }
         ensures search { self.new.search ≡ self.old.search }
+        ensures start { self.new.start ≡ self.old.start }
         ensures goal { self.new.goal ≡ self.old.goal }
+        ensures reach { self.new.reach ≡ self.old.reach + 2 }
         ensures layer { self.new.layer.items ≡ self.old.next.items }
         ensures next { self.new.next.items ≡ [] }
     {
         mem::swap(&mut self.layer, &mut self.next);
+        self.reach += 2;
     }
 
     /// Labels the goal, and nothing else in this search.
-    fn open(&mut self, grid: &Grid, goal: Cell) -> Result<(), OutOfMemory>
+    fn open(&mut self, grid: &Grid, start: Cell, goal: Cell) -> Result<(), OutOfMemory>
         requires ready { IsReady grid.now self.old.labels.items self.old.search }
         requires goal { IsOnGround grid.now goal }
-        ensures spread { OnOk result (SpreadIs grid.now 0 None self.new) }
+        ensures spread { OnOk result (SpreadIs grid.now None self.new) }
         ensures next { OnOk result (self.new.next.items ≡ []) }
+        ensures start { OnOk result (self.new.start ≡ start) }
         ensures goal { OnOk result (self.new.goal ≡ goal) }
     {
         self.renumber();
+        self.start = start;
         self.goal = goal;
+        self.reach = manhattan(goal, start);
         self.layer.clear();
         self.next.clear();
         let place = grid.cell_index(goal);
@@ -191,7 +255,58 @@ impl Distances {
         self.search += 1;
     }
 
-    /// Labels the cells around the goal layer by layer, up to the layer of the start or of the horizon.
+    /// Whether there is more to be labelled: the start, and the cells over which paths lead that are little longer than the shortest.
+    fn is_wanted(&self, grid: &Grid, horizon: u16) -> bool
+        requires ready { IsReady grid.now self.now.labels.items self.now.search }
+        requires start { IsOnGround grid.now self.now.start }
+        ensures { IsTrue result → (self.now.reach < 65535) }
+    {
+        if self.layer.is_empty() || self.reach > u32::from(horizon.min(65534)) {
+            return false;
+        }
+        match self.label(grid, self.start) {
+            None => true,
+            Some(distance) => self.reach <= u32::from(distance) + SLACK,
+        }
+    }
+
+    /// Labels cells as far as that is wanted.
+    fn sweep(&mut self, grid: &Grid, horizon: u16) -> Result<(), OutOfMemory>
+        requires spread { SpreadIs grid.now None self.old }
+        requires start { IsOnGround grid.now self.old.start }
+        requires next { self.old.next.items ≡ [] }
+        ensures spread { OnOk result (SpreadIs grid.now None self.new) }
+        ensures next { OnOk result (self.new.next.items ≡ []) }
+        ensures goal { OnOk result (self.new.goal ≡ self.old.goal) }
+    {
+        for _round in 0..horizon {
+            if !self.is_wanted(grid, horizon) {
+                return Ok(());
+            }
+            self.spread(grid)?;
+            self.turn();
+        }
+        Ok(())
+    }
+
+    /// Where nothing is left to be labelled, no path from the start leads to the goal over the cells that are not: they
+    /// count as beyond the horizon.
+    fn close(&mut self, grid: &Grid, horizon: u16)
+        requires spread { SpreadIs grid.now None self.old }
+        requires next { self.old.next.items ≡ [] }
+        ensures { AreDistances grid.now self.new self.old.goal }
+    {
+        let _ = grid;
+        let beyond = u32::from(horizon) + 1;
+        if self.layer.is_empty() {
+            self.reach = beyond;
+        } else {
+            self.reach = self.reach.min(beyond);
+        }
+    }
+
+    /// Labels the cells over which the shortest paths from the start to the goal lead, and those that are little longer, up to
+    /// the horizon.
     pub fn measure(
         &mut self,
         grid: &Grid,
@@ -204,20 +319,9 @@ impl Distances {
         requires goal { IsOnGround grid.now goal }
         ensures { OnOk result (AreDistances grid.now self.new goal) }
     {
-        self.open(grid, goal)?;
-        for distance in 0..horizon {
-            if self.layer.is_empty() {
-                self.beyond = u32::from(horizon) + 1;
-                return Ok(());
-            }
-            if self.label(grid, start).is_some() {
-                self.beyond = u32::from(distance) + 1;
-                return Ok(());
-            }
-            self.spread(grid, distance)?;
-            self.turn();
-        }
-        self.beyond = u32::from(horizon) + 1;
+        self.open(grid, start, goal)?;
+        self.sweep(grid, horizon)?;
+        self.close(grid, horizon);
         Ok(())
     }
 }

@@ -1,9 +1,9 @@
-use Rattle.std.proofs.Common.{◌≡◌, None, vec_len}
-use Rattle.fleet_search.specs.Distance.{SpreadIs}
+use Rattle.std.proofs.Common.{None}
+use Rattle.fleet_search.specs.Distance.{SpreadIs, IsSameSearch, work_left}
 use Rattle.fleet_search.proofs.distances.Distances.spread.Given as goal
 
 abbrev pub invariant-loop-left : goal.invariant-loop-left
-invariant-loop-left l = SpreadIs l.grid l.distance None l.self × (l.self.goal ≡ l.initial.self.goal)
+invariant-loop-left l = SpreadIs l.grid None l.self × IsSameSearch l.initial.self l.self
 
 abbrev pub decreases-loop-left : goal.decreases-loop-left
-decreases-loop-left l = vec_len l.self.layer
+decreases-loop-left l = work_left l.self

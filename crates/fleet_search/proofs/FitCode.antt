@@ -1,4 +1,4 @@
--- Whether a whole path fits, step by step, and from when on a cell is free.
+-- Whether a whole path fits, step by step.
 use Rattle.std.proofs.Common.{◌≡◌, ℕ, zero, suc, ◌+◌, ◌<◌, ◌≤◌, List, ◌↔◌, inl, inr, sym, ◌∙◌, subst, arith, add-one}
 use Rattle.std.proofs.lemmas.Bool.{cases_lt, cases_eq}
 use Rattle.fleet_model.specs.declared.geometry.Cell.{Cell}
@@ -49,40 +49,3 @@ misfit_first plan path j on fits = (each_step plan path fits).first j on.agent o
 
 pub misfit_step : (plan : Plan) (path : List Cell) (t : ℕ) → (StepFits plan t (cell_at path t) (cell_at path (t + 1)) → ⊥) → Fits plan path → ⊥
 misfit_step plan path t not fits = not ((each_step plan path fits).steps t)
-
--- ---- from when on a cell is free
-
--- of the times before n, the cell is free from s on, and not right before
-pub record IsFreeSince (plan : Plan) (c : Cell) (s n : ℕ) : Type 0 where
-  pub bound : s ≤ n
-  pub free : (u : ℕ) → s ≤ u → u < n → IsFree plan u c
-  pub taken : (t : ℕ) → t < s → IsFreeFrom plan c t → ⊥
-
-pub since-none : (plan : Plan) (c : Cell) → IsFreeSince plan c 0 0
-since-none plan c = record { bound = omega arith; free = λ u a b. absurd (omega arith); taken = λ t a. absurd (omega arith) }
-
-pub since-taken : (plan : Plan) (c : Cell) (s n j : ℕ) → IsFreeSince plan c s n → IsOn plan n c j → IsFreeSince plan c (n + 1) (n + 1)
-since-taken plan c s n j h on = record {
-  bound = omega arith;
-  free = λ u a b. absurd (omega arith);
-  taken = λ t a f. f n (omega arith) j on.agent on.on;
-}
-
-pub since-free : (plan : Plan) (c : Cell) (s n : ℕ) → IsFreeSince plan c s n → IsFree plan n c → IsFreeSince plan c s (n + 1)
-since-free plan c s n h f = record {
-  bound = let b = h.bound in omega arith;
-  free = λ u a b. elim (cases_eq u n) [ inl e ↦ subst (λ z. IsFree plan z c) (sym e) f | inr ne ↦ h.free u a (omega arith) ];
-  taken = h.taken;
-}
-
-pub since-all : (plan : Plan) (c : Cell) (s : ℕ) → IsFreeSince plan c s (steps plan + 1) → s ≤ steps plan → (t : ℕ) → IsFreeFrom plan c t ↔ (s ≤ t)
-since-all plan c s h l t = (
-  λ f. elim (cases_lt t s) [ inl a ↦ absurd (h.taken t a f) | inr a ↦ a ],
-  λ a u b j p e. elim (cases_lt u (steps plan)) [
-    | inl d ↦ h.free u (omega arith) (omega arith) j p e
-    | inr d ↦ h.free (steps plan) l (omega arith) j p (sym (cell_of-late plan j u p d) ∙ e)
-  ],
-)
-
-pub since-never : (plan : Plan) (c : Cell) (s : ℕ) → IsFreeSince plan c s (steps plan + 1) → steps plan < s → (t : ℕ) → IsFreeFrom plan c t → ⊥
-since-never plan c s h l t f = h.taken (steps plan) l (λ u b j p e. f (steps plan + t + u) (omega arith) j p (cell_of-late plan j (steps plan + t + u) p (omega arith) ∙ sym (cell_of-late plan j u p b) ∙ e))

@@ -2,10 +2,13 @@ pub mod Steps
 pub mod OneByOne
 pub mod Occupancy
 pub mod Chase
-pub mod Changing
 pub mod FitCode
-pub mod Tables
-pub mod Stacking
+pub mod Timetables
+pub mod StayRows
+pub mod Entering
+pub mod Reserving
+pub mod RowLaws
+pub mod GapLaws
 pub mod Turning
 pub mod SearchSteps
 pub mod Pigeon

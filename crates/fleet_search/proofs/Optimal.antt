@@ -1,5 +1,5 @@
 -- No way arrives before the paths that the search is looking at.
-use Rattle.std.proofs.Common.{◌≡◌, ℕ, zero, suc, ◌+◌, ◌-◌, ◌<◌, ◌≤◌, Bool, IsTrue, List, Option, Some, None, ◌⊎◌, inl, inr, refl, sym, ap, ◌∙◌, subst, arith, add-one}
+use Rattle.std.proofs.Common.{◌≡◌, ℕ, zero, suc, ◌+◌, ◌-◌, ◌<◌, ◌≤◌, Bool, IsTrue, List, length, Option, Some, None, ◌⊎◌, inl, inr, refl, sym, ap, ◌∙◌, subst, arith, add-one}
 use Rattle.std.specs.Prelude.{Vec, Contains}
 use Rattle.std.specs.declared.alloc.Global.{Global}
 use Rattle.std.proofs.lemmas.Bool.{cases_lt}
@@ -8,17 +8,17 @@ use Rattle.fleet_model.specs.declared.geometry.Cell.{Cell}
 use Rattle.fleet_model.specs.declared.geometry.Place.{Place}
 use Rattle.fleet_model.specs.Geometry.{place_of}
 use Rattle.fleet_plan.specs.Plan.{Plan, cell_at, AreNeighbours}
-use Rattle.fleet_search.specs.declared.moment.Moment.{Moment}
 use Rattle.fleet_search.specs.declared.frontier.Question.{Question}
+use Rattle.fleet_search.specs.declared.frontier.Arrival.{Arrival}
 use Rattle.fleet_grid.specs.Ground.{is_passable}
-use Rattle.fleet_search.specs.Moment.{Noted}
 use Rattle.fleet_search.specs.Way.{arrival, StepFits, IsWay, IsEarliest, HasNoWay}
+use Rattle.fleet_search.specs.Rows.{row_in}
 use Rattle.fleet_search.specs.Reserved.{IsFree, IsFreeFrom, IsFreeOn}
-use Rattle.fleet_search.specs.Search.{far_of, IsMeasured, IsStep, least_arrival, IsEnd, IsKnown, IsCovered, IsExpanded, IsFrontier, IsAsked, IsTrail, stack_in}
+use Rattle.fleet_search.specs.Search.{far_of, IsMeasured, IsStep, IsSlot, IsEnd, moment_in, IsKnown, IsCovered, IsExpanded, IsFrontier, IsAsked, IsTrail}
 use Rattle.fleet_search.proofs.Steps.{each_step, from_each_step}
 use Rattle.fleet_search.proofs.Chase.{step_ok-same}
 use Rattle.fleet_search.proofs.Occupancy.{cell_at-late}
-use Rattle.fleet_search.proofs.SearchSteps.{near-beside}
+use Rattle.fleet_search.proofs.SearchSteps.{near-beside, slot-below}
 
 -- a way of what is asked
 abbrev pub IsWayOf : Question → List Cell → Type 0
@@ -35,7 +35,7 @@ way-step q path w t = record {
 way-far : (q : Question) → IsMeasured q → (path : List Cell) → IsWayOf q path → (k t : ℕ) → t + k ≡ arrival path → t + far_of q (cell_at path t) ≤ arrival path
 way-far q m path w zero t e =
     let there : cell_at path t ≡ q.goal = ap (cell_at path) (let z : t ≡ arrival path = omega arith in z) ∙ w.ends in
-    let none : far_of q (cell_at path t) ≡ 0 = ap (far_of q) there ∙ m.at_goal in
+    let none : far_of q (cell_at path t) ≡ 0 = ap (far_of q) there ∙ m.far.at_goal in
     omega arith
 way-far q m path w (suc k) t e =
     let rest = way-far q m path w k (t + 1) (omega arith) in
@@ -72,70 +72,75 @@ way-free q path w = no-way-busy (is_passable q.grid.now) q.reserved.now q.start 
 pub no-way-far : (q : Question) → IsMeasured q → (path : List Cell) → IsWayOf q path → (horizon : ℕ) → horizon < far_of q q.start → arrival path ≤ horizon → ⊥
 no-way-far q m path w horizon l h = let least = way-least q m path w in omega arith
 
-module _ (q : Question) (f : ℕ) (left : Option Moment) (came : Noted Moment) (best : Noted ℕ) (stacks : List (Vec Moment Global)) (fr : IsFrontier q f left came best stacks) (bound : (m : Moment) → left ≡ Some m → least_arrival q m ≡ f) (ask : IsAsked q) (path : List Cell) (w : IsWayOf q path) (in_time : arrival path ≤ q.horizon) (sooner : arrival path < f) where
+module _ (q : Question) (f : ℕ) (left : Option ℕ) (r : List Arrival) (labels stacks : List (Vec ℕ Global)) (fr : IsFrontier q f left r labels stacks) (bound : (i : ℕ) → left ≡ Some i → IsSlot q (moment_in r i) f) (ask : IsAsked q) (path : List Cell) (w : IsWayOf q path) (in_time : arrival path ≤ q.horizon) (late : q.rest < f) (sooner : arrival path < f) where
   -- all moves from the cell of the way at time t were noted, from a time since which it is free
   record IsLeftBy (t : ℕ) : Type 0 where
     since : ℕ
     early : since ≤ t
     free : IsFreeOn q.reserved.now (cell_at path t) since t
-    expanded : IsExpanded q came (record { time = since; cell = cell_at path t })
+    expanded : IsExpanded q r (record { time = since; cell = cell_at path t })
 
-  not-open : (t s : ℕ) → t ≤ arrival path → s ≤ t → Contains (stack_in stacks (least_arrival q (record { time = s; cell = cell_at path t }))) (record { time = s; cell = cell_at path t }) → ⊥
-  not-open t s h l m =
+  -- a moment of the way is on no stack, and is not just being left
+  not-open : (t s k i : ℕ) → t ≤ arrival path → s ≤ t → moment_in r i ≡ record { time = s; cell = cell_at path t } → IsSlot q (moment_in r i) k → k < f
+  not-open t s k i h l e slot =
       let b = way-bound q fr.measured path w t h in
-      let none = fr.past (least_arrival q (record { time = s; cell = cell_at path t })) (omega arith) in
-      let z = (subst (λ z. Contains z (record { time = s; cell = cell_at path t })) none m).1 in
-      omega arith
+      slot-below q (record { time = s; cell = cell_at path t }) k f (subst (λ z. IsSlot q z k) e slot) (omega arith) late
 
-  left-by : (t : ℕ) → t ≤ arrival path → IsCovered q came (cell_at path t) t → IsLeftBy t
-  left-by t h cv = record { since = cv.since; early = cv.early; free = cv.free; expanded = go (fr.done (record { time = cv.since; cell = cell_at path t }) cv.known) }
+  left-by : (t : ℕ) → t ≤ arrival path → IsCovered q r (cell_at path t) t → IsLeftBy t
+  left-by t h cv = record { since = cv.since; early = cv.early; free = cv.free; expanded = subst (IsExpanded q r) cv.known.2 (go (fr.done cv.known.0 cv.known.1)) }
     where
-      go : Contains (stack_in stacks (least_arrival q (record { time = cv.since; cell = cell_at path t }))) (record { time = cv.since; cell = cell_at path t }) ⊎ ((left ≡ Some (record { time = cv.since; cell = cell_at path t })) ⊎ IsExpanded q came (record { time = cv.since; cell = cell_at path t })) → IsExpanded q came (record { time = cv.since; cell = cell_at path t })
-      go (inl m) = absurd (not-open t cv.since h cv.early m)
-      go (inr (inl x)) = absurd (let b = way-bound q fr.measured path w t h in let e = bound (record { time = cv.since; cell = cell_at path t }) x in let l = cv.early in omega arith)
+      go : ((k : ℕ) × Contains (row_in stacks k) cv.known.0) ⊎ ((left ≡ Some cv.known.0) ⊎ IsExpanded q r (moment_in r cv.known.0)) → IsExpanded q r (moment_in r cv.known.0)
+      go (inl x) =
+          let l = not-open t cv.since x.0 cv.known.0 h cv.early cv.known.2 (fr.stacked x.0 cv.known.0 x.1).1 in
+          absurd (let z = (subst (λ z. Contains z cv.known.0) (fr.past x.0 l) x.1).1 in omega arith)
+      go (inr (inl x)) = absurd (let l = not-open t cv.since f cv.known.0 h cv.early cv.known.2 (bound cv.known.0 x) in omega arith)
       go (inr (inr e)) = e
 
   left-on : (t : ℕ) → t ≤ arrival path → IsLeftBy t
   left-on zero h = left-by 0 h (record {
     since = 0;
     early = omega arith;
-    known = subst (λ z. IsKnown came (record { time = 0; cell = z })) (sym w.starts) fr.origin;
+    known = subst (λ z. IsKnown r (record { time = 0; cell = z })) (sym w.starts) fr.origin;
     free = λ u x y. subst (λ v. IsFree q.reserved.now v (cell_at path 0)) (let g : 0 ≡ u = omega arith in g) (free-always q path w 0);
   })
   left-on (suc t) h = subst IsLeftBy (add-one t) (onward (left-on t (omega arith)) (w.successive t))
     where
       onward : IsLeftBy t → (cell_at path t ≡ cell_at path (t + 1)) ⊎ AreNeighbours (cell_at path t) (cell_at path (t + 1)) → IsLeftBy (t + 1)
-      onward r (inl same) = record {
-        since = r.since;
-        early = (let e = r.early in omega arith);
+      onward b (inl same) = record {
+        since = b.since;
+        early = (let e = b.early in omega arith);
         free = λ u x y. elim (cases_lt t u) [
           | inl l ↦ subst (λ v. IsFree q.reserved.now v (cell_at path (t + 1))) (let g : t + 1 ≡ u = omega arith in g) (free-always q path w (t + 1))
-          | inr l ↦ subst (IsFree q.reserved.now u) same (r.free u x l)
+          | inr l ↦ subst (IsFree q.reserved.now u) same (b.free u x l)
         ];
-        expanded = subst (λ z. IsExpanded q came (record { time = r.since; cell = z })) same r.expanded;
+        expanded = subst (λ z. IsExpanded q r (record { time = b.since; cell = z })) same b.expanded;
       }
-      onward r (inr n) =
-          let b = way-bound q fr.measured path w (t + 1) (omega arith) in
-          left-by (t + 1) (omega arith) (r.expanded.moves t (cell_at path (t + 1)) n (record { waits = r.early; free = r.free; step = way-step q path w t }) (omega arith))
+      onward b (inr n) =
+          let low = way-bound q fr.measured path w (t + 1) (omega arith) in
+          left-by (t + 1) (omega arith) (b.expanded.moves t (cell_at path (t + 1)) n (record { waits = b.early; free = b.free; step = way-step q path w t }) (omega arith))
 
   none-sooner : ⊥
   none-sooner =
       let T = arrival path in
-      let r = left-on T (omega arith) in
-      r.expanded.not_end (
+      let b = left-on T (omega arith) in
+      b.expanded.not_end (
         w.ends,
-        (ask.rest r.since).0 (λ u x. elim (cases_lt T u) [
+        (ask.rest b.since).0 (λ u x. elim (cases_lt T u) [
           | inl l ↦ way-free q path w u (omega arith)
-          | inr l ↦ subst (IsFree q.reserved.now u) w.ends (r.free u x l)
+          | inr l ↦ subst (IsFree q.reserved.now u) w.ends (b.free u x l)
         ]),
       )
 
 -- no way arrives before this time
-pub at_least : (q : Question) (f : ℕ) (left : Option Moment) (came : Noted Moment) (best : Noted ℕ) (stacks : List (Vec Moment Global)) → IsFrontier q f left came best stacks → ((m : Moment) → left ≡ Some m → least_arrival q m ≡ f) → IsAsked q → (path : List Cell) → IsWayOf q path → arrival path ≤ q.horizon → f ≤ arrival path
-at_least q f left came best stacks fr bound ask path w in_time = elim (cases_lt (arrival path) f) [
-  | inl s ↦ absurd (none-sooner q f left came best stacks fr bound ask path w in_time s)
+pub at_least : (q : Question) (f : ℕ) (left : Option ℕ) (r : List Arrival) (labels stacks : List (Vec ℕ Global)) → IsFrontier q f left r labels stacks → ((i : ℕ) → left ≡ Some i → IsSlot q (moment_in r i) f) → IsAsked q → (path : List Cell) → IsWayOf q path → arrival path ≤ q.horizon → q.rest < f → f ≤ arrival path
+at_least q f left r labels stacks fr bound ask path w in_time late = elim (cases_lt (arrival path) f) [
+  | inl s ↦ absurd (none-sooner q f left r labels stacks fr bound ask path w in_time late s)
   | inr h ↦ h
 ]
+
+-- no way arrives before the goal is free for good
+pub way-rest : (q : Question) → IsAsked q → (path : List Cell) → IsWayOf q path → q.rest ≤ arrival path
+way-rest q ask path w = (ask.rest (arrival path)).0 (way-free q path w)
 
 -- ---- a trail that ends at the goal, when it is free for good, is a way
 
@@ -176,24 +181,38 @@ module _ (q : Question) (ask : IsAsked q) (n : ℕ) (path : List Cell) (tr : IsT
   }
 
 -- the first end that is found is one of an earliest way
-pub found_earliest : (q : Question) (f : ℕ) (m : Moment) (came : Noted Moment) (best : Noted ℕ) (stacks : List (Vec Moment Global)) (path : List Cell) → IsAsked q → IsFrontier q f (Some m) came best stacks → least_arrival q m ≡ f → IsEnd q m → f ≤ q.horizon → IsTrail q m.time m.cell path → IsEarliest (is_passable q.grid.now) q.reserved.now q.start q.goal q.horizon path
-found_earliest q f m came best stacks path ask fr e end h tr = record {
-  way = trail_is_way q ask m.time path (subst (λ z. IsTrail q m.time z path) end.0 tr) end.1;
-  in_time = (let t = time in omega arith);
-  none_sooner = λ other w. elim (cases_lt q.horizon (arrival other)) [
-    | inl l ↦ (let t = time in omega arith)
-    | inr l ↦ let t = time in let a = at_least q f (Some m) came best stacks fr (λ x s. subst (λ z. least_arrival q z ≡ f) (same_Some m x s) e) ask other w l in omega arith
-  ];
+pub found_earliest : (q : Question) (f place : ℕ) (r : List Arrival) (labels stacks : List (Vec ℕ Global)) (path : List Cell) → IsAsked q → IsFrontier q f (Some place) r labels stacks → place < length r → IsSlot q (moment_in r place) f → IsEnd q (moment_in r place) → IsTrail q (moment_in r place).time (moment_in r place).cell path → IsEarliest (is_passable q.grid.now) q.reserved.now q.start q.goal q.horizon path
+found_earliest q f place r labels stacks path ask fr within slot end tr = record {
+  way = trail_is_way q ask (moment_in r place).time path (subst (λ z. IsTrail q (moment_in r place).time z path) end.0 tr) end.1;
+  in_time = (let t = time in let b = (fr.sound place within).in_time in omega arith);
+  none_sooner = λ other w. sooner other w slot;
 }
   where
-    time : arrival path ≡ f
-    time =
-        let l = tr.long in
-        let z : far_of q m.cell ≡ 0 = ap (far_of q) end.0 ∙ fr.measured.at_goal in
-        omega arith
+    time : arrival path ≡ (moment_in r place).time
+    time = let l = tr.long in omega arith
 
--- where all times up to the horizon were looked at there is no way
-pub all_looked : (q : Question) (f : ℕ) (came : Noted Moment) (best : Noted ℕ) (stacks : List (Vec Moment Global)) → IsAsked q → IsFrontier q f None came best stacks → q.horizon < f → HasNoWay (is_passable q.grid.now) q.reserved.now q.start q.goal q.horizon
-all_looked q f came best stacks ask fr h path w in_time =
-    let a = at_least q f None came best stacks fr (λ m s. absurd (none-some m s)) ask path w in_time in
+    near : far_of q (moment_in r place).cell ≡ 0
+    near = ap (far_of q) end.0 ∙ fr.measured.far.at_goal
+
+    sooner : (other : List Cell) → IsWayOf q other → IsSlot q (moment_in r place) f → arrival path ≤ arrival other
+    sooner other w (inl a) = let x = a.0 in let y = way-rest q ask other w in let t = time in omega arith
+    sooner other w (inr a) = elim (cases_lt q.horizon (arrival other)) [
+      | inl l ↦ (let t = time in let b = (fr.sound place within).in_time in omega arith)
+      | inr l ↦
+          let t = time in
+          let n = near in
+          let x = a.0 in
+          let y = a.1 in
+          let z = at_least q f (Some place) r labels stacks fr (λ i s. subst (λ z. IsSlot q (moment_in r z) f) (same_Some place i s) slot) ask other w l (omega arith) in
+          omega arith
+    ]
+
+-- where all stacks up to the horizon are empty there is no way
+pub all_looked : (q : Question) (f : ℕ) (r : List Arrival) (labels stacks : List (Vec ℕ Global)) → IsAsked q → IsFrontier q f None r labels stacks → q.rest ≤ q.horizon → q.horizon < f → HasNoWay (is_passable q.grid.now) q.reserved.now q.start q.goal q.horizon
+all_looked q f r labels stacks ask fr rest h path w in_time =
+    let a = at_least q f None r labels stacks fr (λ i s. absurd (none-some i s)) ask path w in_time (omega arith) in
     omega arith
+
+-- where the goal is free too late there is no way
+pub no-way-late : (q : Question) → IsAsked q → q.horizon < q.rest → HasNoWay (is_passable q.grid.now) q.reserved.now q.start q.goal q.horizon
+no-way-late q ask late path w in_time = let r = way-rest q ask path w in omega arith

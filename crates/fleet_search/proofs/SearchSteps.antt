@@ -1,231 +1,325 @@
 -- The search, step by step.
-use Rattle.std.proofs.Common.{◌≡◌, ◌≢◌, ℕ, zero, suc, ◌+◌, ◌-◌, ◌<◌, ◌≤◌, ◌==◌, Bool, true, false, cond, IsTrue, List, [], ◌∷◌, ◌++◌, length, Contains, Option, Some, None, ◌⊎◌, inl, inr, refl, sym, ap, ◌∙◌, subst, arith}
-use Rattle.std.specs.Prelude.{is_some, Vec}
+use Rattle.std.proofs.Common.{◌≡◌, ◌≢◌, ℕ, zero, suc, ◌+◌, ◌-◌, ◌*◌, ◌<◌, ◌≤◌, ◌==◌, cond, IsTrue, List, [], ◌∷◌, ◌++◌, length, get_or, Contains, Option, Some, None, ◌⊎◌, inl, inr, refl, sym, ap, ◌∙◌, subst, arith}
+use Rattle.std.specs.Prelude.{Vec}
 use Rattle.std.specs.declared.alloc.Global.{Global}
-use Rattle.std.specs.Map.{lookup}
-use Rattle.std.specs.HashMap.{IsUnique, IsEmpty}
-use Rattle.std.proofs.lemmas.Bool.{cases_Bool, cases_eq, cases_lt, eqb-true, eq-eqb, false_from_ne_true}
+use Rattle.std.proofs.lemmas.Bool.{cases_eq, cases_lt, eqb-true, eq-eqb, false_from_ne_true}
 use Rattle.std.proofs.lemmas.Option.{none-some, same_Some}
-use Rattle.std.proofs.lemmas.List.{length_push}
+use Rattle.std.proofs.lemmas.List.{length_push, get_or_push, get_or_append_left}
 use Rattle.std.proofs.lemmas.List.Elements.{Contains-append_left, Contains-push, Contains-push_cases}
 use Rattle.fleet_model.proofs.Places.{place_of-injective}
 use Rattle.fleet_model.specs.declared.geometry.Cell.{Cell}
 use Rattle.fleet_model.specs.declared.geometry.Dir.{Dir}
 use Rattle.fleet_model.specs.declared.geometry.Dir.TheVariants.{North, East, South, West}
 use Rattle.fleet_model.specs.Geometry.{place_of, moved}
-use Rattle.fleet_plan.specs.Plan.{Plan, cell_of}
-use Rattle.fleet_grid.specs.Ground.{is_passable}
+use Rattle.fleet_grid.specs.Ground.{is_passable, cell_index}
 use Rattle.fleet_search.specs.declared.moment.Moment.{Moment}
+use Rattle.fleet_search.specs.declared.stay.Stay.{Stay}
 use Rattle.fleet_search.specs.declared.frontier.Question.{Question}
+use Rattle.fleet_search.specs.declared.frontier.Arrival.{Arrival}
 use Rattle.fleet_search.specs.declared.frontier.Frontier.{Frontier}
-use Rattle.fleet_search.specs.Moment.{Noted, look_up, same_moment, Puts}
-use Rattle.fleet_search.specs.Reserved.{IsFree, IsFreeOn, AreChanges, same_cell}
-use Rattle.fleet_search.specs.Search.{far_of, IsMeasured, AreBeside, IsStep, least_arrival, IsEnd, IsKnown, IsMove, IsReachedFrom, IsSound, IsCovered, IsExpanded, IsFrontier, IsAsked, Grows, stack_in, IsPut, IsFreeUntil, IsFoundAt, IsFoundFrom}
-use Rattle.fleet_search.proofs.Spread.{back}
+use Rattle.fleet_search.specs.Reserved.{IsFree, IsFreeOn}
+use Rattle.fleet_search.specs.Gaps.{IsInGap, IsFirstIn}
+use Rattle.fleet_search.specs.Rows.{row_in, IsPut, IsLabelSet}
+use Rattle.fleet_search.specs.Search.{far_of, stays_on, IsMeasured, AreBeside, IsStep, least_arrival, IsSlot, IsEnd, no_arrival, moment_in, IsKnown, IsMove, IsReachedFrom, IsSound, IsCovered, IsExpanded, IsSeen, label_of, IsFrontier, IsAsked, IsLeft, Grows, IsFreeUntil, IsFoundAt, IsFoundIn, IsFoundFrom}
+use Rattle.fleet_search.proofs.Spread.{back, one_place}
 use Rattle.fleet_search.proofs.Chase.{step_ok-alone}
-use Rattle.fleet_search.proofs.Occupancy.{cells-equal}
-use Rattle.fleet_search.proofs.Tables.{moment_cases, puts-here, puts-other, same_cell-refl}
+use Rattle.fleet_search.proofs.GapLaws.{stays-apart, one_gap, gap-free_on}
+
+abbrev moment : ℕ → Cell → Moment
+moment t c = record { time = t; cell = c }
+
+abbrev arrival_of : Moment → ℕ → Arrival
+arrival_of m from = record { at = m; from = from }
 
 -- ---- distances
 
 -- a step changes the distance by one at most
 pub near-beside : (q : Question) → IsMeasured q → (c d : Cell) → IsTrue (is_passable q.grid.now (place_of c)) → IsTrue (is_passable q.grid.now (place_of d)) → AreBeside c d → (far_of q d ≤ far_of q c + 1) × (far_of q c ≤ far_of q d + 1)
 near-beside q m c d hc hd (inl e) = subst (λ z. (far_of q z ≤ far_of q c + 1) × (far_of q c ≤ far_of q z + 1)) e (let n = far_of q c in omega arith, let n = far_of q c in omega arith)
-near-beside q m c d hc hd (inr w) = (m.near c d hc hd w, m.near d c hd hc (back c d w))
+near-beside q m c d hc hd (inr w) = (m.far.near c d hc hd w, m.far.near d c hd hc (back c d w))
 
--- ---- one more moment is noted
+-- a move leads to no stack below the one before
+pub slot-next : (q : Question) (m n : Moment) (f k : ℕ) → IsSlot q m f → IsSlot q n k → m.time + 1 ≤ n.time → far_of q m.cell ≤ far_of q n.cell + 1 → f - 1 ≤ k
+slot-next q m n f k (inl a) (inl b) t h = let x = a.1 in let y = b.1 in omega arith
+slot-next q m n f k (inl a) (inr b) t h = let x = a.1 in let y = b.1 in let z = a.0 in let w = b.0 in omega arith
+slot-next q m n f k (inr a) (inl b) t h = let x = a.1 in let y = b.1 in let z = a.0 in let w = b.0 in omega arith
+slot-next q m n f k (inr a) (inr b) t h = let x = a.1 in let y = b.1 in omega arith
 
-pub puts-cases : {V : Type 0} (old new : Noted V) (m : Moment) (v : V) (x : Moment) (w : V) → Puts old new m v → look_up new x ≡ Some w → ((m ≡ x) × (w ≡ v)) ⊎ (look_up old x ≡ Some w)
-puts-cases old new m v x w p h = elim (moment_cases m x) [
-  | inl e ↦ inl (e, same_Some w v (sym h ∙ ap (look_up new) (sym e) ∙ puts-here old new m v p))
-  | inr ne ↦ inr (sym (p x ∙ ap (λ b. cond b (Some v) (look_up old x)) ne) ∙ h)
-]
+-- where a way over the moment arrives late enough, the moment's stack is a low one
+pub slot-below : (q : Question) (m : Moment) (k f : ℕ) → IsSlot q m k → least_arrival q m < f → q.rest < f → k < f
+slot-below q m k f (inl a) h r = let x = a.1 in let y = a.0 in omega arith
+slot-below q m k f (inr a) h r = let x = a.1 in omega arith
 
-module _ (q : Question) (f : ℕ) (l : Moment) (came : Noted Moment) (best : Noted ℕ) (stacks : List (Vec Moment Global)) (fr : IsFrontier q f (Some l) came best stacks) (u : ℕ) (cell : Cell) (came' : Noted Moment) (none : look_up came (record { time = u + 1; cell = cell }) ≡ None) (p : Puts came came' (record { time = u + 1; cell = cell }) l) (unique : IsUnique same_moment came') (known : IsKnown came l) (bound : least_arrival q l ≡ f) (move : IsMove q l u cell) (in_time : u + 1 + far_of q cell ≤ q.horizon) where
-  pub stays : (x : Moment) → IsKnown came x → IsKnown came' x
-  stays x k = (k.0, puts-other came came' (record { time = u + 1; cell = cell }) l x p (λ e. none-some k.0 (sym none ∙ ap (look_up came) e ∙ k.1)) ∙ k.1)
+-- ---- the list of what was reached grows
 
-  pub found-new : IsKnown came' (record { time = u + 1; cell = cell })
-  found-new = (l, puts-here came came' (record { time = u + 1; cell = cell }) l p)
+module _ (q : Question) (old new : List Arrival) (more : length old ≤ length new) (kept : (i : ℕ) → i < length old → get_or new i no_arrival ≡ get_or old i no_arrival) where
+  pub same_at : (i : ℕ) → i < length old → moment_in new i ≡ moment_in old i
+  same_at i h = ap (λ (z : Arrival). z.at) (kept i h)
 
-  reached-stays : (x from : Moment) → IsReachedFrom q came x from → IsReachedFrom q came' x from
-  reached-stays x from (inl h) = inl h
-  reached-stays x from (inr (t, e, k, s)) = inr (t, e, stays from k, s)
+  pub known-stays : (x : Moment) → IsKnown old x → IsKnown new x
+  known-stays x k = let l = k.1 in (k.0, omega arith, same_at k.0 k.1 ∙ k.2)
 
-  sound : (x from : Moment) → look_up came' x ≡ Some from → IsSound q came' x from
-  sound x from h = elim (puts-cases came came' (record { time = u + 1; cell = cell }) l x from p h) [
-    | inl (e, g) ↦ subst (λ z. IsSound q came' z from) e (subst (λ z. IsSound q came' (record { time = u + 1; cell = cell }) z) (sym g) (record {
-      reached = inr (u, refl, stays l known, move);
-      in_time = in_time;
-      on_ground = move.step.on_ground;
-      free = move.step.fits.vertex;
-    }))
-    | inr old ↦
-        let s = fr.sound x from old in
-        record { reached = reached-stays x from s.reached; in_time = s.in_time; on_ground = s.on_ground; free = s.free }
-  ]
+  pub covered-stays : (c : Cell) (t : ℕ) → IsCovered q old c t → IsCovered q new c t
+  covered-stays c t h = record { since = h.since; early = h.early; known = known-stays (record { time = h.since; cell = c }) h.known; free = h.free }
 
-  covered-stays : (c : Cell) (t : ℕ) → IsCovered q came c t → IsCovered q came' c t
-  covered-stays c t h = record { since = h.since; early = h.early; known = stays (record { time = h.since; cell = c }) h.known; free = h.free }
-
-  expanded-stays : (x : Moment) → IsExpanded q came x → IsExpanded q came' x
+  pub expanded-stays : (x : Moment) → IsExpanded q old x → IsExpanded q new x
   expanded-stays x e = record { moves = λ v c n m h. covered-stays c (v + 1) (e.moves v c n m h); not_end = e.not_end }
 
-  -- the new moment belongs on no stack before
-  late : f ≤ u + 1 + far_of q cell
-  late =
-      let n = near-beside q fr.measured l.cell cell (fr.sound l known.0 known.1).on_ground move.step.on_ground move.step.beside in
-      let a = n.1 in
-      let w = move.waits in
-      let b = bound in
-      omega arith
-
-  pub pushed : (best' : Noted ℕ) (stacks' : List (Vec Moment Global)) (since : ℕ) → since ≤ u + 1 → Puts best best' (record { time = since; cell = cell }) (u + 1) → IsPut stacks stacks' (u + 1 + far_of q cell) (record { time = u + 1; cell = cell }) → IsFrontier q f (Some l) came' best' stacks'
-  pushed best' stacks' since early pb put = record {
-    measured = fr.measured;
-    unique = unique;
-    origin = stays (record { time = 0; cell = q.start }) fr.origin;
-    sound = sound;
-    stacked = put_on;
-    past = λ k h. others k (λ e. let z = late in omega arith) ∙ fr.past k h;
-    done = done;
-    first = first;
-  }
+  pub sound-stays : (x : Moment) (from : ℕ) → IsSound q old x from → IsSound q new x from
+  sound-stays x from s = record { reached_from = reached s.reached_from; in_time = s.in_time; on_ground = s.on_ground; free = s.free }
     where
-      others : (k : ℕ) → (k ≡ u + 1 + far_of q cell → ⊥) → stack_in stacks' k ≡ stack_in stacks k
-      others k ne = put k ∙ ap (λ b. cond b (stack_in stacks k ++ record { time = u + 1; cell = cell } ∷ []) (stack_in stacks k)) (false_from_ne_true (k == u + 1 + far_of q cell) (λ e. ne (eqb-true k (u + 1 + far_of q cell) e)))
+      reached : IsReachedFrom q old x from → IsReachedFrom q new x from
+      reached (inl h) = inl h
+      reached (inr (u, e, l, m)) = inr (u, e, omega arith, subst (λ z. IsMove q z u x.cell) (sym (same_at from l)) m)
 
-      there : stack_in stacks' (u + 1 + far_of q cell) ≡ stack_in stacks (u + 1 + far_of q cell) ++ record { time = u + 1; cell = cell } ∷ []
-      there = put (u + 1 + far_of q cell) ∙ ap (λ b. cond b (stack_in stacks (u + 1 + far_of q cell) ++ record { time = u + 1; cell = cell } ∷ []) (stack_in stacks (u + 1 + far_of q cell))) (eq-eqb (u + 1 + far_of q cell) (u + 1 + far_of q cell) refl)
+  pub seen-stays : (stays : List Stay) (c : Cell) (gap t i : ℕ) → IsSeen old stays c gap t i → IsSeen new stays c gap t i
+  seen-stays stays c gap t i s =
+      let l = s.within in
+      subst (λ z. IsSeen new stays c gap t i) (same_at i l) (record {
+        within = omega arith;
+        here = ap (λ (z : Moment). z.cell) (same_at i l) ∙ s.here;
+        inside = subst (λ (z : Moment). IsInGap stays gap z.time) (sym (same_at i l)) s.inside;
+        early = subst (λ (z : Moment). z.time ≤ t) (sym (same_at i l)) s.early;
+      })
 
-      keep : (k : ℕ) (m : Moment) → Contains (stack_in stacks k) m → Contains (stack_in stacks' k) m
-      keep k m h = elim (cases_eq k (u + 1 + far_of q cell)) [
-        | inl e ↦ subst (λ z. Contains (stack_in stacks' z) m) (sym e) (subst (λ z. Contains z m) (sym there) (Contains-append_left (stack_in stacks (u + 1 + far_of q cell)) (record { time = u + 1; cell = cell } ∷ []) m (subst (λ z. Contains (stack_in stacks z) m) e h)))
-        | inr ne ↦ subst (λ z. Contains z m) (sym (others k ne)) h
-      ]
+  pub found_at-stays : (l : Moment) (c : Cell) (u : ℕ) → IsFoundAt q old l c u → IsFoundAt q new l c u
+  found_at-stays l c u h s t = covered-stays c (u + 1) (h s t)
 
-      put_on : (k : ℕ) (m : Moment) → Contains (stack_in stacks' k) m → IsKnown came' m × (least_arrival q m ≡ k)
-      put_on k m h = elim (cases_eq k (u + 1 + far_of q cell)) [
-        | inl e ↦ elim (Contains-push_cases (stack_in stacks (u + 1 + far_of q cell)) (record { time = u + 1; cell = cell }) m (subst (λ z. Contains z m) there (subst (λ z. Contains (stack_in stacks' z) m) e h))) [
-          | inl o ↦ let w = fr.stacked (u + 1 + far_of q cell) m o in (stays m w.0, w.1 ∙ sym e)
-          | inr s ↦ subst (λ z. IsKnown came' z × (least_arrival q z ≡ k)) s (found-new, sym e)
-        ]
-        | inr ne ↦ let w = fr.stacked k m (subst (λ z. Contains z m) (others k ne) h) in (stays m w.0, w.1)
-      ]
+  pub found_in-stays : (l : Moment) (c : Cell) (gap : ℕ) → IsFoundIn q old l c gap → IsFoundIn q new l c gap
+  found_in-stays l c gap h u m g t = covered-stays c (u + 1) (h u m g t)
 
-      done : (x : Moment) → IsKnown came' x → Contains (stack_in stacks' (least_arrival q x)) x ⊎ ((let o : Option Moment = Some l in o ≡ Some x) ⊎ IsExpanded q came' x)
-      done x k = elim (puts-cases came came' (record { time = u + 1; cell = cell }) l x k.0 p k.1) [
-        | inl (e, g) ↦ inl (subst (λ z. Contains (stack_in stacks' (least_arrival q z)) z) e (subst (λ z. Contains z (record { time = u + 1; cell = cell })) (sym there) (Contains-push (stack_in stacks (u + 1 + far_of q cell)) (record { time = u + 1; cell = cell }))))
-        | inr old ↦ elim (fr.done x (k.0, old)) [
-          | inl a ↦ inl (keep (least_arrival q x) x a)
-          | inr r ↦ elim r [ inl s ↦ inr (inl s) | inr e ↦ inr (inr (expanded-stays x e)) ]
-        ]
-      ]
+  pub found-stays : (l : Moment) (c : Cell) → IsFoundFrom q old l c → IsFoundFrom q new l c
+  found-stays l c h u m t = covered-stays c (u + 1) (h u m t)
 
-      first : (x : Moment) (t : ℕ) → look_up best' x ≡ Some t → IsKnown came' (record { time = t; cell = x.cell }) × (x.time ≤ t)
-      first x t h = elim (puts-cases best best' (record { time = since; cell = cell }) (u + 1) x t pb h) [
-        | inl (e, g) ↦ subst (λ z. IsKnown came' (record { time = t; cell = z.cell }) × (z.time ≤ t)) e (subst (λ z. IsKnown came' (record { time = z; cell = cell }) × (since ≤ z)) (sym g) (found-new, early))
-        | inr old ↦ let w = fr.first x t old in (stays (record { time = t; cell = x.cell }) w.0, w.1)
-      ]
+pub Grows-then : (a b c : Frontier) → Grows a b → Grows b c → Grows a c
+Grows-then a b c g h =
+    let x = g.more in
+    let y = h.more in
+    record {
+      more = omega arith;
+      kept = λ i l. h.kept i (omega arith) ∙ g.kept i l;
+      same = λ e k. h.same (omega arith) k ∙ g.same (omega arith) k;
+    }
 
-  -- the stack of the moments that are looked at grows with what is reached
-  pub put-grows : (stacks' : List (Vec Moment Global)) → IsPut stacks stacks' (u + 1 + far_of q cell) (record { time = u + 1; cell = cell }) → length (stack_in stacks' f) ≤ length (stack_in stacks f) + 1
-  put-grows stacks' put = elim (cases_Bool (f == u + 1 + far_of q cell)) [
-    | inl e ↦
-        let at : stack_in stacks' f ≡ stack_in stacks f ++ record { time = u + 1; cell = cell } ∷ [] = put f ∙ ap (λ b. cond b (stack_in stacks f ++ record { time = u + 1; cell = cell } ∷ []) (stack_in stacks f)) e in
-        let long = ap length at ∙ length_push (stack_in stacks f) (record { time = u + 1; cell = cell }) in
-        omega arith
-    | inr e ↦
-        let at : stack_in stacks' f ≡ stack_in stacks f = put f ∙ ap (λ b. cond b (stack_in stacks f ++ record { time = u + 1; cell = cell } ∷ []) (stack_in stacks f)) e in
-        let long = ap length at in
-        omega arith
-  ]
+pub Grows-same : (a : Frontier) → Grows a a
+Grows-same a = record { more = omega arith; kept = λ i l. refl; same = λ e k. refl }
 
-pub no_value : {A : Type 0} (o : Option A) (b : Bool) → b ≡ is_some o → b ≡ false → o ≡ None
-no_value None b e h = refl
-no_value (Some x) b e h = absurd (let z : true ≡ false = sym e ∙ h in cc)
+pub left-stays : (q : Question) (f : ℕ) (old new : Frontier) (place : ℕ) (m : Moment) → Grows old new → IsLeft q f old place m → IsLeft q f new place m
+left-stays q f old new place m g l =
+    let w = l.within in
+    let x = g.more in
+    record { within = omega arith; here = same_at q old.reached.items new.reached.items g.more g.kept place w ∙ l.here; slot = l.slot }
 
--- ---- what is found
+-- ---- what was seen before
 
--- the cell was reached before, while it was free
-pub covered-first : (q : Question) (f : ℕ) (left : Option Moment) (came : Noted Moment) (best : Noted ℕ) (stacks : List (Vec Moment Global)) → IsFrontier q f left came best stacks → (cell : Cell) (since before t : ℕ) → look_up best (record { time = since; cell = cell }) ≡ Some before → before ≤ t → IsFreeOn q.reserved.now cell since t → IsCovered q came cell t
-covered-first q f left came best stacks fr cell since before t e h free =
-    let w = fr.first (record { time = since; cell = cell }) before e in
-    let low = w.1 in
-    record { since = before; early = h; known = w.0; free = λ x a b. free x (omega arith) b }
+-- the cell was reached before, and is free since
+pub covered-seen : (q : Question) → IsMeasured q → (reached : List Arrival) (c : Cell) (gap t i : ℕ) → IsSeen reached (stays_on q c) c gap t i → IsInGap (stays_on q c) gap t → IsCovered q reached c t
+covered-seen q m reached c gap t i s g = record {
+  since = (moment_in reached i).time;
+  early = s.early;
+  known = (i, s.within, (let e = s.here in λ k. record { time = (moment_in reached i).time; cell = e k }));
+  free = gap-free_on q.reserved.now c (stays_on q c) (m.stays c) gap (moment_in reached i).time t s.inside g;
+}
 
-pub covered-here : (q : Question) (came : Noted Moment) (cell : Cell) (t : ℕ) → IsKnown came (record { time = t; cell = cell }) → IsFree q.reserved.now t cell → IsCovered q came cell t
-covered-here q came cell t k free = record { since = t; early = omega arith; known = k; free = λ x a b. subst (λ z. IsFree q.reserved.now z cell) (let e : t ≡ x = omega arith in e) free }
-
-pub covered-on : (q : Question) (came : Noted Moment) (cell : Cell) (v t : ℕ) → v ≤ t → IsFreeOn q.reserved.now cell v t → IsCovered q came cell v → IsCovered q came cell t
-covered-on q came cell v t h free cv = record {
+pub covered-on : (q : Question) (reached : List Arrival) (c : Cell) (v t : ℕ) → v ≤ t → IsFreeOn q.reserved.now c v t → IsCovered q reached c v → IsCovered q reached c t
+covered-on q reached c v t h free cv = record {
   since = cv.since;
   early = (let e = cv.early in omega arith);
   known = cv.known;
   free = λ x a b. elim (cases_lt x v) [ inl l ↦ cv.free x a (omega arith) | inr l ↦ free x l b ];
 }
 
-cell_cases : (c d : Cell) → (c ≡ d) ⊎ (c ≢ d)
-cell_cases c d = elim (cases_Bool (same_cell c d)) [
-  | inl e ↦ inl (cells-equal c d e)
-  | inr n ↦ inr (λ e. let z : true ≡ false = sym (same_cell-refl c) ∙ ap (same_cell c) e ∙ n in cc)
-]
+-- ---- one more moment is noted
 
--- somebody stands on the cell, or nobody does
-free-below : (plan : Plan) (t : ℕ) (c : Cell) (n : ℕ) → ((j : ℕ) → j < n → j < length plan → cell_of plan j t ≢ c) ⊎ ((j : ℕ) × (j < length plan) × (cell_of plan j t ≡ c))
-free-below plan t c zero = inl (λ j h. absurd (omega arith))
-free-below plan t c (suc n) = elim (free-below plan t c n) [
-  | inr w ↦ inr w
-  | inl none ↦ elim (cases_lt n (length plan)) [
-    | inr past ↦ inl (λ j h l. none j (omega arith) l)
-    | inl l ↦ elim (cell_cases (cell_of plan n t) c) [
-      | inl e ↦ inr (n, l, e)
-      | inr ne ↦ inl (λ j h m e. elim (cases_eq j n) [
-        | inl s ↦ ne (ap (λ z. cell_of plan z t) (sym s) ∙ e)
-        | inr k ↦ none j (omega arith) m e
-      ])
+-- what the label of a gap says of the moment
+abbrev IsLabelled : Question → List Arrival → List (Vec ℕ Global) → Moment → Type 0
+IsLabelled q r labels m = (gap : ℕ) → IsInGap (stays_on q m.cell) gap m.time → IsSeen r (stays_on q m.cell) m.cell gap m.time (label_of q labels m.cell gap)
+
+module _ (r r' : List Arrival) (a : Arrival) (e : r' ≡ r ++ a ∷ []) where
+  pub push-long : length r' ≡ length r + 1
+  push-long = ap length e ∙ length_push r a
+
+  pub push-more : length r ≤ length r'
+  push-more = let l = push-long in omega arith
+
+  pub push-kept : (i : ℕ) → i < length r → get_or r' i no_arrival ≡ get_or r i no_arrival
+  push-kept i h = ap (λ z. get_or z i no_arrival) e ∙ get_or_append_left r (a ∷ []) no_arrival i h
+
+  pub push-end : get_or r' (length r) no_arrival ≡ a
+  push-end = ap (λ z. get_or z (length r) no_arrival) e ∙ get_or_push r a no_arrival (length r) refl
+
+  pub push-cases : (i : ℕ) → i < length r' → (i < length r) ⊎ (i ≡ length r)
+  push-cases i h = let l = push-long in elim (cases_lt i (length r)) [ inl k ↦ inl k | inr k ↦ inr (omega arith) ]
+
+pub covered-new : (q : Question) (r r' : List Arrival) (place u : ℕ) (cell : Cell) → r' ≡ r ++ arrival_of (moment (u + 1) cell) place ∷ [] → IsFree q.reserved.now (u + 1) cell → IsCovered q r' cell (u + 1)
+covered-new q r r' place u cell e free = record {
+  since = u + 1;
+  early = omega arith;
+  known = (length r, (let l = push-long r r' (arrival_of (moment (u + 1) cell) place) e in omega arith), ap (λ (z : Arrival). z.at) (push-end r r' (arrival_of (moment (u + 1) cell) place) e));
+  free = λ x a b. subst (λ z. IsFree q.reserved.now z cell) (let s : u + 1 ≡ x = omega arith in s) free;
+}
+
+module _ (q : Question) (f place : ℕ) (r : List Arrival) (labels stacks : List (Vec ℕ Global)) (fr : IsFrontier q f (Some place) r labels stacks) (left : Moment) (within : place < length r) (here : moment_in r place ≡ left) (u : ℕ) (cell : Cell) (gap : ℕ) (inside : IsInGap (stays_on q cell) gap (u + 1)) (unseen : IsSeen r (stays_on q cell) cell gap (u + 1) (label_of q labels cell gap) → ⊥) (move : IsMove q left u cell) (in_time : u + 1 + far_of q cell ≤ q.horizon) (r' : List Arrival) (labels' stacks' : List (Vec ℕ Global)) (key : ℕ) (e : r' ≡ r ++ arrival_of (moment (u + 1) cell) place ∷ []) (set : IsLabelSet labels labels' (cell_index q.grid.now cell) gap (length r)) (slot : IsSlot q (moment (u + 1) cell) key) (put : IsPut stacks stacks' key (length r)) (late : f ≤ key) where
+  long : length r' ≡ length r + 1
+  long = push-long r r' (arrival_of (moment (u + 1) cell) place) e
+
+  more : length r ≤ length r'
+  more = push-more r r' (arrival_of (moment (u + 1) cell) place) e
+
+  kept : (i : ℕ) → i < length r → get_or r' i no_arrival ≡ get_or r i no_arrival
+  kept = push-kept r r' (arrival_of (moment (u + 1) cell) place) e
+
+  at_end : get_or r' (length r) no_arrival ≡ arrival_of (moment (u + 1) cell) place
+  at_end = push-end r r' (arrival_of (moment (u + 1) cell) place) e
+
+  new_at : moment_in r' (length r) ≡ moment (u + 1) cell
+  new_at = ap (λ (z : Arrival). z.at) at_end
+
+  cases : (i : ℕ) → i < length r' → (i < length r) ⊎ (i ≡ length r)
+  cases = push-cases r r' (arrival_of (moment (u + 1) cell) place) e
+
+  sound : (i : ℕ) → i < length r' → IsSound q r' (moment_in r' i) (get_or r' i no_arrival).from
+  sound i h = elim (cases i h) [
+    | inl l ↦ subst (λ (z : Arrival). IsSound q r' z.at z.from) (sym (kept i l)) (sound-stays q r r' more kept (moment_in r i) (get_or r i no_arrival).from (fr.sound i l))
+    | inr s ↦ subst (λ i. IsSound q r' (moment_in r' i) (get_or r' i no_arrival).from) (sym s) (subst (λ (z : Arrival). IsSound q r' z.at z.from) (sym at_end) (record {
+      reached_from = inr (u, refl, (let m = more in omega arith), subst (λ z. IsMove q z u cell) (sym (same_at q r r' more kept place within ∙ here)) move);
+      in_time = in_time;
+      on_ground = move.step.on_ground;
+      free = move.step.fits.vertex;
+    }))
+  ]
+
+  fresh : (i : ℕ) → i < length r → moment_in r i ≡ moment (u + 1) cell → ⊥
+  fresh i h s = unseen (subst (IsLabelled q r labels) s (fr.labelled i h) gap inside)
+
+  apart : (i k : ℕ) → i < length r' → k < length r' → moment_in r' i ≡ moment_in r' k → i ≡ k
+  apart i k a b s = elim (cases i a) [
+    | inl x ↦ elim (cases k b) [
+      | inl y ↦ fr.apart i k x y (sym (same_at q r r' more kept i x) ∙ s ∙ same_at q r r' more kept k y)
+      | inr y ↦ absurd (fresh i x (sym (same_at q r r' more kept i x) ∙ s ∙ ap (moment_in r') y ∙ new_at))
+    ]
+    | inr x ↦ elim (cases k b) [
+      | inl y ↦ absurd (fresh k y (sym (same_at q r r' more kept k y) ∙ sym s ∙ ap (moment_in r') x ∙ new_at))
+      | inr y ↦ x ∙ sym y
     ]
   ]
+
+  -- the new arrival is the earliest in its gap
+  seen-new : (t : ℕ) → u + 1 ≤ t → IsSeen r' (stays_on q cell) cell gap t (label_of q labels' cell gap)
+  seen-new t h = subst (IsSeen r' (stays_on q cell) cell gap t) (sym set.set) (record {
+    within = (let l = long in omega arith);
+    here = ap (λ (z : Moment). z.cell) new_at;
+    inside = subst (λ (z : Moment). IsInGap (stays_on q cell) gap z.time) (sym new_at) inside;
+    early = (let s = ap (λ (z : Moment). z.time) new_at in omega arith);
+  })
+
+  seen-here : (t : ℕ) → IsSeen r (stays_on q cell) cell gap t (label_of q labels cell gap) → IsSeen r' (stays_on q cell) cell gap t (label_of q labels' cell gap)
+  seen-here t s = seen-new t (elim (cases_lt (u + 1) t) [
+    | inl l ↦ (omega arith)
+    | inr l ↦ absurd (unseen (record { within = s.within; here = s.here; inside = s.inside; early = (let x = s.early in omega arith) }))
+  ])
+
+  labelled-stays : (m : Moment) → IsTrue (is_passable q.grid.now (place_of m.cell)) → IsLabelled q r labels m → IsLabelled q r' labels' m
+  labelled-stays m ground lab k g = elim (cases_eq (cell_index q.grid.now m.cell) (cell_index q.grid.now cell)) [
+    | inr ne ↦ other (inl ne)
+    | inl s ↦ elim (cases_eq k gap) [
+      | inr ne ↦ other (inr ne)
+      | inl n ↦
+          let same : m.cell ≡ cell = one_place q.grid.now m.cell cell fr.measured.far.ready.map ground move.step.on_ground s in
+          let old : IsSeen r (stays_on q cell) cell gap m.time (label_of q labels cell gap) = subst (λ z. IsSeen r (stays_on q cell) cell z m.time (label_of q labels cell z)) n (subst (λ c. IsSeen r (stays_on q c) c k m.time (label_of q labels c k)) same (lab k g)) in
+          subst (λ c. IsSeen r' (stays_on q c) c k m.time (label_of q labels' c k)) (sym same) (subst (λ z. IsSeen r' (stays_on q cell) cell z m.time (label_of q labels' cell z)) (sym n) (seen-here m.time old))
+    ]
+  ]
+    where
+      other : (cell_index q.grid.now m.cell ≢ cell_index q.grid.now cell) ⊎ (k ≢ gap) → IsSeen r' (stays_on q m.cell) m.cell k m.time (label_of q labels' m.cell k)
+      other w = subst (IsSeen r' (stays_on q m.cell) m.cell k m.time) (sym (set.others (cell_index q.grid.now m.cell) k w)) (seen-stays q r r' more kept (stays_on q m.cell) m.cell k m.time (label_of q labels m.cell k) (lab k g))
+
+  labelled : (i : ℕ) → i < length r' → IsLabelled q r' labels' (moment_in r' i)
+  labelled i h = elim (cases i h) [
+    | inl l ↦ subst (IsLabelled q r' labels') (sym (same_at q r r' more kept i l)) (labelled-stays (moment_in r i) (fr.sound i l).on_ground (fr.labelled i l))
+    | inr s ↦ subst (IsLabelled q r' labels') (sym (ap (moment_in r') s ∙ new_at)) (λ k g. subst (λ z. IsSeen r' (stays_on q cell) cell z (u + 1) (label_of q labels' cell z)) (one_gap (stays_on q cell) (stays-apart q.reserved.now cell (stays_on q cell) (fr.measured.stays cell)) (u + 1) gap k inside g) (seen-new (u + 1) (omega arith)))
+  ]
+
+  others : (k : ℕ) → k ≢ key → row_in stacks' k ≡ row_in stacks k
+  others k ne = put k ∙ ap (λ b. cond b (row_in stacks k ++ length r ∷ []) (row_in stacks k)) (false_from_ne_true (k == key) (λ s. ne (eqb-true k key s)))
+
+  there : (k : ℕ) → k ≡ key → row_in stacks' k ≡ row_in stacks k ++ length r ∷ []
+  there k s = put k ∙ ap (λ b. cond b (row_in stacks k ++ length r ∷ []) (row_in stacks k)) (eq-eqb k key s)
+
+  stacked : (k i : ℕ) → Contains (row_in stacks' k) i → (i < length r') × IsSlot q (moment_in r' i) k
+  stacked k i h = elim (cases_eq k key) [
+    | inr ne ↦ old (subst (λ z. Contains z i) (others k ne) h)
+    | inl s ↦ elim (Contains-push_cases (row_in stacks k) (length r) i (subst (λ z. Contains z i) (there k s) h)) [
+      | inl o ↦ old o
+      | inr n ↦ subst (λ i. (i < length r') × IsSlot q (moment_in r' i) k) n ((let l = long in omega arith), subst (λ z. IsSlot q z k) (sym new_at) (subst (IsSlot q (moment (u + 1) cell)) (sym s) slot))
+    ]
+  ]
+    where
+      old : Contains (row_in stacks k) i → (i < length r') × IsSlot q (moment_in r' i) k
+      old c = let w = fr.stacked k i c in let l = w.0 in let m = more in (omega arith, subst (λ z. IsSlot q z k) (sym (same_at q r r' more kept i w.0)) w.1)
+
+  keep : (k i : ℕ) → Contains (row_in stacks k) i → Contains (row_in stacks' k) i
+  keep k i h = elim (cases_eq k key) [
+    | inl s ↦ subst (λ z. Contains z i) (sym (there k s)) (Contains-append_left (row_in stacks k) (length r ∷ []) i h)
+    | inr ne ↦ subst (λ z. Contains z i) (sym (others k ne)) h
+  ]
+
+  done : (i : ℕ) → i < length r' → ((k : ℕ) × Contains (row_in stacks' k) i) ⊎ ((let o : Option ℕ = Some place in o ≡ Some i) ⊎ IsExpanded q r' (moment_in r' i))
+  done i h = elim (cases i h) [
+    | inr s ↦ inl (key, subst (Contains (row_in stacks' key)) (sym s) (subst (λ z. Contains z (length r)) (sym (there key refl)) (Contains-push (row_in stacks key) (length r))))
+    | inl l ↦ elim (fr.done i l) [
+      | inl w ↦ inl (w.0, keep w.0 i w.1)
+      | inr w ↦ elim w [
+        | inl s ↦ inr (inl s)
+        | inr x ↦ inr (inr (subst (IsExpanded q r') (sym (same_at q r r' more kept i l)) (expanded-stays q r r' more kept (moment_in r i) x)))
+      ]
+    ]
+  ]
+
+  pub pushed : IsFrontier q f (Some place) r' labels' stacks'
+  pushed = record {
+    measured = fr.measured;
+    size = set.size ∙ fr.size;
+    origin = known-stays q r r' more kept (moment 0 q.start) fr.origin;
+    sound = sound;
+    apart = apart;
+    labelled = labelled;
+    stacked = stacked;
+    past = λ k h. others k (λ s. omega arith) ∙ fr.past k h;
+    done = done;
+  }
+
+-- ---- a moment is left
+
+-- the step that the move makes can be made as soon as the cell is free
+step-early : (q : Question) (l : Moment) (c : Cell) (u v : ℕ) → IsMove q l u c → l.time ≤ v → v ≤ u → IsFree q.reserved.now (v + 1) c → IsStep q v l.cell c
+step-early q l c u v move a b free = elim (cases_eq v u) [
+  | inl e ↦ subst (λ z. IsStep q z l.cell c) (sym e) move.step
+  | inr ne ↦ record {
+    beside = move.step.beside;
+    on_ground = move.step.on_ground;
+    fits = step_ok-alone q.reserved.now v l.cell c free (move.free (v + 1) (omega arith) (omega arith));
+  }
 ]
 
-free-or-taken : (plan : Plan) (t : ℕ) (c : Cell) → IsFree plan t c ⊎ ((j : ℕ) × (j < length plan) × (cell_of plan j t ≡ c))
-free-or-taken plan t c = elim (free-below plan t c (length plan)) [ inl none ↦ inl (λ j h. none j h h) | inr w ↦ inr w ]
+-- where the earliest step into the gap was looked at, all were
+pub found_in-first : (q : Question) → IsMeasured q → (reached : List Arrival) (l : Moment) (c : Cell) (gap t v : ℕ) → IsFirstIn (stays_on q c) gap (l.time + 1) t → t ≡ v + 1 → IsFoundAt q reached l c v → IsFoundIn q reached l c gap
+found_in-first q m reached l c gap t v first e found u move g in_time =
+    let early = first.first (u + 1) (let w = move.waits in omega arith) g in
+    let later = first.later in
+    let at : IsInGap (stays_on q c) gap (v + 1) = subst (IsInGap (stays_on q c) gap) e first.inside in
+    let free = gap-free_on q.reserved.now c (stays_on q c) (m.stays c) gap (v + 1) (u + 1) at g in
+    covered-on q reached c (v + 1) (u + 1) (omega arith) free (found (step-early q l c u v move (omega arith) (omega arith) (free (v + 1) (omega arith) (omega arith))) (omega arith))
 
-module _ (q : Question) (came : Noted Moment) (l : Moment) (until : ℕ) (c : Cell) (xs : List ℕ) (changes : AreChanges q.reserved.now c xs) (wait : IsFreeUntil q l until) (at_once : IsFoundAt q came l c l.time) (each : (x : ℕ) → Contains xs x → l.time < x → x ≤ until → IsFoundAt q came l c (x - 1)) (u : ℕ) (move : IsMove q l u c) (in_time : u + 1 + far_of q c ≤ q.horizon) (few : q.horizon ≤ 65535) where
-  -- the step that the move makes can be made as soon as the cell is free
-  step-early : (v : ℕ) → l.time ≤ v → v ≤ u → IsFreeOn q.reserved.now c (v + 1) (u + 1) → IsStep q v l.cell c
-  step-early v a b free = elim (cases_eq v u) [
-    | inl e ↦ subst (λ z. IsStep q z l.cell c) (sym e) move.step
-    | inr ne ↦ record {
-      beside = move.step.beside;
-      on_ground = move.step.on_ground;
-      fits = step_ok-alone q.reserved.now v l.cell c (free (v + 1) (omega arith) (omega arith)) (move.free (v + 1) (omega arith) (omega arith));
-    }
-  ]
+-- a gap that begins too late
+pub found_in-late : (q : Question) (reached : List Arrival) (l : Moment) (c : Cell) (gap t until : ℕ) → q.horizon ≤ 65535 → IsFreeUntil q l until → IsFirstIn (stays_on q c) gap (l.time + 1) t → until < t → IsFoundIn q reached l c gap
+found_in-late q reached l c gap t until few wait first late u move g in_time =
+    let early = first.first (u + 1) (let w = move.waits in omega arith) g in
+    let before = wait.1 u (omega arith) move.free in
+    absurd (omega arith)
 
-  reached-from : (n v : ℕ) → l.time + n ≡ v → v ≤ u → IsFreeOn q.reserved.now c (v + 1) (u + 1) → IsCovered q came c (u + 1)
-  reached-from zero v e h free =
-      let same : v ≡ l.time = omega arith in
-      covered-on q came c (l.time + 1) (u + 1) (omega arith) (subst (λ z. IsFreeOn q.reserved.now c (z + 1) (u + 1)) same free) (at_once (subst (λ z. IsStep q z l.cell c) same (step-early v (omega arith) h free)) (omega arith))
-  reached-from (suc n) v e h free = elim (free-or-taken q.reserved.now v c) [
-    | inl now ↦
-        let before : v - 1 + 1 ≡ v = omega arith in
-        reached-from n (v - 1) (omega arith) (omega arith) (λ x a b. elim (cases_eq x v) [
-          | inl s ↦ subst (λ z. IsFree q.reserved.now z c) (sym s) now
-          | inr ne ↦ free x (omega arith) b
-        ])
-    | inr (j, p, on) ↦
-        let m = changes v j p (λ s. free (v + 1) (omega arith) (omega arith) j p (sym s ∙ on)) (inl on) in
-        let low : u < until = wait.1 u (omega arith) move.free in
-        let at : v + 1 - 1 ≡ v = omega arith in
-        let got = subst (IsFoundAt q came l c) at (each (v + 1) m (omega arith) (omega arith)) in
-        covered-on q came c (v + 1) (u + 1) (omega arith) free (got (step-early v (omega arith) h free) (omega arith))
-  ]
-
-  pub move-covered : IsCovered q came c (u + 1)
-  move-covered =
-      let w = move.waits in
-      reached-from (u - l.time) u (omega arith) (omega arith) (λ x a b. subst (λ z. IsFree q.reserved.now z c) (let e : u + 1 ≡ x = omega arith in e) move.step.fits.vertex)
+pub found_in-none : (q : Question) (reached : List Arrival) (l : Moment) (c : Cell) (gap : ℕ) → ((s : ℕ) → l.time + 1 ≤ s → IsInGap (stays_on q c) gap s → ⊥) → IsFoundIn q reached l c gap
+found_in-none q reached l c gap none u move g in_time = absurd (none (u + 1) (let w = move.waits in omega arith) g)
 
 pub each_dir : (P : Dir → Type 0) → P North → P East → P South → P West → (d : Dir) → P d
 each_dir P n e s w North = n
@@ -233,142 +327,165 @@ each_dir P n e s w East = e
 each_dir P n e s w South = s
 each_dir P n e s w West = w
 
-pub found_dir : (q : Question) (came : Noted Moment) (l : Moment) (beside : Cell) (dir : Dir) → place_of beside ≡ moved (place_of l.cell) dir → IsFoundFrom q came l beside → (c : Cell) → place_of c ≡ moved (place_of l.cell) dir → IsFoundFrom q came l c
-found_dir q came l beside dir e found c g = subst (IsFoundFrom q came l) (place_of-injective beside c (e ∙ sym g)) found
+pub found_dir : (q : Question) (reached : List Arrival) (l : Moment) (beside : Cell) (dir : Dir) → place_of beside ≡ moved (place_of l.cell) dir → IsFoundFrom q reached l beside → (c : Cell) → place_of c ≡ moved (place_of l.cell) dir → IsFoundFrom q reached l c
+found_dir q reached l beside dir e found c g = subst (IsFoundFrom q reached l) (place_of-injective beside c (e ∙ sym g)) found
 
-pub found-stays : (q : Question) (came came' : Noted Moment) (l : Moment) (c : Cell) → ((m : Moment) → IsKnown came m → IsKnown came' m) → IsFoundFrom q came l c → IsFoundFrom q came' l c
-found-stays q came came' l c stays h u m t = let w = h u m t in record { since = w.since; early = w.early; known = stays (record { time = w.since; cell = c }) w.known; free = w.free }
+-- what is reached in one direction was noted
+abbrev pub Dir-found : Question → List Arrival → Moment → Dir → Type 0
+Dir-found q reached l dir = (c : Cell) → place_of c ≡ moved (place_of l.cell) dir → IsFoundFrom q reached l c
 
-pub found-at-stays : (q : Question) (came came' : Noted Moment) (l : Moment) (c : Cell) (u : ℕ) → ((m : Moment) → IsKnown came m → IsKnown came' m) → IsFoundAt q came l c u → IsFoundAt q came' l c u
-found-at-stays q came came' l c u stays h s t = let w = h s t in record { since = w.since; early = w.early; known = stays (record { time = w.since; cell = c }) w.known; free = w.free }
+pub expanded : (q : Question) (reached : List Arrival) (l : Moment) → ((dir : Dir) → Dir-found q reached l dir) → (IsEnd q l → ⊥) → IsExpanded q reached l
+expanded q reached l there not_end = record { moves = λ u c w m h. there w.0 c w.1 u m h; not_end = not_end }
 
-pub expanded : (q : Question) (came : Noted Moment) (l : Moment) → ((dir : Dir) (c : Cell) → place_of c ≡ moved (place_of l.cell) dir → IsFoundFrom q came l c) → (IsEnd q l → ⊥) → IsExpanded q came l
-expanded q came l there not_end = record { moves = λ u c w m h. there w.0 c w.1 u m h; not_end = not_end }
-
-pub left_done : (q : Question) (f : ℕ) (l : Moment) (came : Noted Moment) (best : Noted ℕ) (stacks : List (Vec Moment Global)) → IsFrontier q f (Some l) came best stacks → IsExpanded q came l → IsFrontier q f None came best stacks
-left_done q f l came best stacks fr e = record {
+-- a frontier with other parts
+pub left_done : (q : Question) (f place : ℕ) (r : List Arrival) (labels stacks : List (Vec ℕ Global)) → IsFrontier q f (Some place) r labels stacks → IsExpanded q r (moment_in r place) → IsFrontier q f None r labels stacks
+left_done q f place r labels stacks fr e = record {
   measured = fr.measured;
-  unique = fr.unique;
+  size = fr.size;
   origin = fr.origin;
   sound = fr.sound;
+  apart = fr.apart;
+  labelled = fr.labelled;
   stacked = fr.stacked;
   past = fr.past;
-  done = λ m k. elim (fr.done m k) [
+  done = λ i h. elim (fr.done i h) [
     | inl a ↦ inl a
-    | inr r ↦ elim r [ inl s ↦ inr (inr (subst (IsExpanded q came) (same_Some l m s) e)) | inr x ↦ inr (inr x) ]
+    | inr w ↦ elim w [ inl s ↦ inr (inr (subst (λ z. IsExpanded q r (moment_in r z)) (same_Some place i s) e)) | inr x ↦ inr (inr x) ]
   ];
-  first = fr.first;
 }
 
-pub Grows-then : (f : ℕ) (a b c : Frontier) → Grows f a b → Grows f b c → Grows f a c
-Grows-then f a b c g h = record {
-  known = λ m k. h.known m (g.known m k);
-  more = let x = g.more in let y = h.more in omega arith;
-  work = let x = g.work in let y = h.work in let z = g.more in let w = h.more in omega arith;
+-- fewer stacks need be empty
+pub lower : (q : Question) (f g : ℕ) (left : Option ℕ) (r : List Arrival) (labels stacks : List (Vec ℕ Global)) → g ≤ f → IsFrontier q f left r labels stacks → IsFrontier q g left r labels stacks
+lower q f g left r labels stacks h fr = record {
+  measured = fr.measured;
+  size = fr.size;
+  origin = fr.origin;
+  sound = fr.sound;
+  apart = fr.apart;
+  labelled = fr.labelled;
+  stacked = fr.stacked;
+  past = λ k l. fr.past k (omega arith);
+  done = fr.done;
 }
 
-pub Grows-same : (f : ℕ) (a : Frontier) → Grows f a a
-Grows-same f a = record { known = λ m k. k; more = omega arith; work = omega arith }
+-- where nothing new was put on the stacks, those that were empty still are
+pub raise : (q : Question) (f g : ℕ) (left : Option ℕ) (r : List Arrival) (labels stacks before : List (Vec ℕ Global)) → IsFrontier q g left r labels stacks → ((k : ℕ) → row_in stacks k ≡ row_in before k) → ((k : ℕ) → k < f → row_in before k ≡ []) → IsFrontier q f left r labels stacks
+raise q f g left r labels stacks before fr same past = record {
+  measured = fr.measured;
+  size = fr.size;
+  origin = fr.origin;
+  sound = fr.sound;
+  apart = fr.apart;
+  labelled = fr.labelled;
+  stacked = fr.stacked;
+  past = λ k l. same k ∙ past k l;
+  done = fr.done;
+}
 
 -- ---- the last moment of a stack is taken
 
-pub taken : (q : Question) (f : ℕ) (came : Noted Moment) (best : Noted ℕ) (stacks stacks' : List (Vec Moment Global)) (m : Moment) → IsFrontier q f None came best stacks → stack_in stacks f ≡ stack_in stacks' f ++ m ∷ [] → ((k : ℕ) → k ≢ f → stack_in stacks' k ≡ stack_in stacks k) → IsFrontier q f (Some m) came best stacks' × (IsKnown came m × (least_arrival q m ≡ f))
-taken q f came best stacks stacks' m fr e others = (
-  record {
+module _ (q : Question) (f : ℕ) (r : List Arrival) (labels stacks stacks' : List (Vec ℕ Global)) (place : ℕ) (fr : IsFrontier q f None r labels stacks) (e : row_in stacks f ≡ row_in stacks' f ++ place ∷ []) (others : (k : ℕ) → k ≢ f → row_in stacks' k ≡ row_in stacks k) where
+  back-to : (k i : ℕ) → Contains (row_in stacks' k) i → Contains (row_in stacks k) i
+  back-to k i h = elim (cases_eq k f) [
+    | inl s ↦ subst (λ z. Contains (row_in stacks z) i) (sym s) (subst (λ z. Contains z i) (sym e) (Contains-append_left (row_in stacks' f) (place ∷ []) i (subst (λ z. Contains (row_in stacks' z) i) s h)))
+    | inr ne ↦ subst (λ z. Contains z i) (others k ne) h
+  ]
+
+  still : (i k : ℕ) → Contains (row_in stacks k) i → ((n : ℕ) × Contains (row_in stacks' n) i) ⊎ (let o : Option ℕ = Some place in o ≡ Some i)
+  still i k h = elim (cases_eq k f) [
+    | inr ne ↦ inl (k, subst (λ z. Contains z i) (sym (others k ne)) h)
+    | inl s ↦ elim (Contains-push_cases (row_in stacks' f) place i (subst (λ z. Contains z i) e (subst (λ z. Contains (row_in stacks z) i) s h))) [
+      | inl a ↦ inl (f, a)
+      | inr t ↦ inr (ap (λ z. Some z) t)
+    ]
+  ]
+
+  pub taken-known : (place < length r) × IsSlot q (moment_in r place) f
+  taken-known = fr.stacked f place (subst (λ z. Contains z place) (sym e) (Contains-push (row_in stacks' f) place))
+
+  pub taken : IsFrontier q f (Some place) r labels stacks'
+  taken = record {
     measured = fr.measured;
-    unique = fr.unique;
+    size = fr.size;
     origin = fr.origin;
     sound = fr.sound;
-    stacked = λ k x h. fr.stacked k x (back-to k x h);
+    apart = fr.apart;
+    labelled = fr.labelled;
+    stacked = λ k i h. fr.stacked k i (back-to k i h);
     past = λ k h. others k (λ s. omega arith) ∙ fr.past k h;
-    done = λ x k. go x (fr.done x k);
-    first = fr.first;
-  },
-  fr.stacked f m (subst (λ z. Contains z m) (sym e) (Contains-push (stack_in stacks' f) m)),
-)
-  where
-    back-to : (k : ℕ) (x : Moment) → Contains (stack_in stacks' k) x → Contains (stack_in stacks k) x
-    back-to k x h = elim (cases_eq k f) [
-      | inl s ↦ subst (λ z. Contains (stack_in stacks z) x) (sym s) (subst (λ z. Contains z x) (sym e) (Contains-append_left (stack_in stacks' f) (m ∷ []) x (subst (λ z. Contains (stack_in stacks' z) x) s h)))
-      | inr ne ↦ subst (λ z. Contains z x) (others k ne) h
-    ]
-
-    go : (x : Moment) → Contains (stack_in stacks (least_arrival q x)) x ⊎ ((let o : Option Moment = None in o ≡ Some x) ⊎ IsExpanded q came x) → Contains (stack_in stacks' (least_arrival q x)) x ⊎ ((let o : Option Moment = Some m in o ≡ Some x) ⊎ IsExpanded q came x)
-    go x (inl h) = elim (cases_eq (least_arrival q x) f) [
-      | inl s ↦ elim (Contains-push_cases (stack_in stacks' f) m x (subst (λ z. Contains z x) e (subst (λ z. Contains (stack_in stacks z) x) s h))) [
-        | inl a ↦ inl (subst (λ z. Contains (stack_in stacks' z) x) (sym s) a)
-        | inr t ↦ inr (inl (ap (λ z. Some z) t))
-      ]
-      | inr ne ↦ inl (subst (λ z. Contains z x) (sym (others (least_arrival q x) ne)) h)
-    ]
-    go x (inr (inl h)) = absurd (none-some x h)
-    go x (inr (inr h)) = inr (inr h)
+    done = λ i h. elim (fr.done i h) [
+      | inl w ↦ elim (still i w.0 w.1) [ inl a ↦ inl a | inr s ↦ inr (inl s) ]
+      | inr w ↦ elim w [ inl s ↦ absurd (none-some i s) | inr x ↦ inr (inr x) ]
+    ];
+  }
 
 -- the stack is empty
-pub swept : (q : Question) (f : ℕ) (came : Noted Moment) (best : Noted ℕ) (stacks stacks' : List (Vec Moment Global)) → IsFrontier q f None came best stacks → stack_in stacks f ≡ [] → stack_in stacks' f ≡ [] → ((k : ℕ) → k ≢ f → stack_in stacks' k ≡ stack_in stacks k) → IsFrontier q (f + 1) None came best stacks'
-swept q f came best stacks stacks' fr e e' others = record {
+pub swept : (q : Question) (f : ℕ) (r : List Arrival) (labels stacks stacks' : List (Vec ℕ Global)) → IsFrontier q f None r labels stacks → row_in stacks f ≡ [] → row_in stacks' f ≡ [] → ((k : ℕ) → k ≢ f → row_in stacks' k ≡ row_in stacks k) → IsFrontier q (f + 1) None r labels stacks'
+swept q f r labels stacks stacks' fr e e' others = record {
   measured = fr.measured;
-  unique = fr.unique;
+  size = fr.size;
   origin = fr.origin;
   sound = fr.sound;
-  stacked = λ k x h. fr.stacked k x (subst (λ z. Contains z x) (same k) h);
-  past = λ k h. same k ∙ elim (cases_eq k f) [ inl s ↦ ap (stack_in stacks) s ∙ e | inr ne ↦ fr.past k (omega arith) ];
-  done = λ x k. elim (fr.done x k) [
-    | inl h ↦ inl (subst (λ z. Contains z x) (sym (same (least_arrival q x))) h)
-    | inr r ↦ inr r
+  apart = fr.apart;
+  labelled = fr.labelled;
+  stacked = λ k i h. fr.stacked k i (subst (λ z. Contains z i) (same k) h);
+  past = λ k h. same k ∙ elim (cases_eq k f) [ inl s ↦ ap (row_in stacks) s ∙ e | inr ne ↦ fr.past k (omega arith) ];
+  done = λ i h. elim (fr.done i h) [
+    | inl w ↦ inl (w.0, subst (λ z. Contains z i) (sym (same w.0)) w.1)
+    | inr w ↦ inr w
   ];
-  first = fr.first;
 }
   where
-    same : (k : ℕ) → stack_in stacks' k ≡ stack_in stacks k
-    same k = elim (cases_eq k f) [ inl s ↦ ap (stack_in stacks') s ∙ e' ∙ sym e ∙ ap (stack_in stacks) (sym s) | inr ne ↦ others k ne ]
+    same : (k : ℕ) → row_in stacks' k ≡ row_in stacks k
+    same k = elim (cases_eq k f) [ inl s ↦ ap (row_in stacks') s ∙ e' ∙ sym e ∙ ap (row_in stacks) (sym s) | inr ne ↦ others k ne ]
 
 -- ---- the start is reached, and nothing else
 
-empty-none : {V : Type 0} (map : Noted V) (m : Moment) → IsEmpty map → look_up map m ≡ None
-empty-none map m e = ap (lookup (same_moment m)) e
+module _ (q : Question) (ask : IsAsked q) (near : far_of q q.start ≤ q.horizon) (labels labels' none stacks : List (Vec ℕ Global)) (size : length labels ≡ q.grid.now.width * q.grid.now.height) (r : List Arrival) (e : r ≡ [] ++ arrival_of (moment 0 q.start) 0 ∷ []) (gap : ℕ) (inside : IsInGap (stays_on q q.start) gap 0) (set : IsLabelSet labels labels' (cell_index q.grid.now q.start) gap 0) (bare : (k : ℕ) → row_in none k ≡ []) (key : ℕ) (slot : IsSlot q (moment 0 q.start) key) (put : IsPut none stacks key 0) where
+  open-long : length r ≡ 1
+  open-long = let l = push-long [] r (arrival_of (moment 0 q.start) 0) e in omega arith
 
-pub opening : (q : Question) (nothing came : Noted Moment) (nowhere best : Noted ℕ) (none stacks : List (Vec Moment Global)) → IsAsked q → far_of q q.start ≤ q.horizon → IsEmpty nothing → Puts nothing came (record { time = 0; cell = q.start }) (record { time = 0; cell = q.start }) → IsUnique same_moment came → IsEmpty nowhere → Puts nowhere best (record { time = 0; cell = q.start }) 0 → none ≡ [] → IsPut none stacks (far_of q q.start) (record { time = 0; cell = q.start }) → IsFrontier q (far_of q q.start) None came best stacks
-unfolding stack_in
-opening q nothing came nowhere best none stacks ask near e p unique e' p' n put = record {
-  measured = ask.measured;
-  unique = unique;
-  origin = origin;
-  sound = λ m from h. elim (puts-cases nothing came (record { time = 0; cell = q.start }) (record { time = 0; cell = q.start }) m from p h) [
-    | inl (s, g) ↦ subst (λ z. IsSound q came z from) s (record { reached = inl (refl, refl); in_time = (let b = near in omega arith); on_ground = ask.on_ground; free = ask.free })
-    | inr old ↦ absurd (none-some from (sym (empty-none nothing m e) ∙ old))
-  ];
-  stacked = λ k m h. elim (cases_eq k (far_of q q.start)) [
-    | inl s ↦ only k m s (subst (λ z. Contains z m) (here k s) h)
-    | inr ne ↦ absurd (let l = (subst (λ z. Contains z m) (elsewhere k ne) h).1 in omega arith)
-  ];
-  past = λ k h. elsewhere k (λ s. omega arith);
-  done = λ m k. elim (puts-cases nothing came (record { time = 0; cell = q.start }) (record { time = 0; cell = q.start }) m k.0 p k.1) [
-    | inl (s, g) ↦ inl (subst (λ z. Contains (stack_in stacks (least_arrival q z)) z) s (subst (λ z. Contains z (record { time = 0; cell = q.start })) (sym (here (0 + far_of q q.start) (let z = far_of q q.start in omega arith))) (0, omega arith, refl)))
-    | inr old ↦ absurd (none-some k.0 (sym (empty-none nothing m e) ∙ old))
-  ];
-  first = λ m t h. elim (puts-cases nowhere best (record { time = 0; cell = q.start }) 0 m t p' h) [
-    | inl (s, g) ↦ subst (λ z. IsKnown came (record { time = t; cell = z.cell }) × (z.time ≤ t)) s (subst (λ z. IsKnown came (record { time = z; cell = q.start }) × (0 ≤ z)) (sym g) (origin, omega arith))
-    | inr old ↦ absurd (none-some t (sym (empty-none nowhere m e') ∙ old))
-  ];
-}
-  where
-    origin : IsKnown came (record { time = 0; cell = q.start })
-    origin = (record { time = 0; cell = q.start }, puts-here nothing came (record { time = 0; cell = q.start }) (record { time = 0; cell = q.start }) p)
+  open-at : (i : ℕ) → i < length r → get_or r i no_arrival ≡ arrival_of (moment 0 q.start) 0
+  open-at i h = elim (push-cases [] r (arrival_of (moment 0 q.start) 0) e i h) [
+    | inl l ↦ absurd (omega arith)
+    | inr s ↦ ap (λ z. get_or r z no_arrival) s ∙ push-end [] r (arrival_of (moment 0 q.start) 0) e
+  ]
 
-    bare : (k : ℕ) → stack_in none k ≡ []
-    bare k = ap (λ z. stack_in z k) n
+  open-moment : (i : ℕ) → i < length r → moment_in r i ≡ moment 0 q.start
+  open-moment i h = ap (λ (z : Arrival). z.at) (open-at i h)
 
-    elsewhere : (k : ℕ) → k ≢ far_of q q.start → stack_in stacks k ≡ []
-    elsewhere k ne = put k ∙ ap (λ b. cond b (stack_in none k ++ record { time = 0; cell = q.start } ∷ []) (stack_in none k)) (false_from_ne_true (k == far_of q q.start) (λ s. ne (eqb-true k (far_of q q.start) s))) ∙ bare k
+  first-place : (i : ℕ) → i < length r → i ≡ 0
+  first-place i h = let l = open-long in omega arith
 
-    here : (k : ℕ) → k ≡ far_of q q.start → stack_in stacks k ≡ record { time = 0; cell = q.start } ∷ []
-    here k s = put k ∙ ap (λ b. cond b (stack_in none k ++ record { time = 0; cell = q.start } ∷ []) (stack_in none k)) (eq-eqb k (far_of q q.start) s) ∙ ap (λ z. z ++ record { time = 0; cell = q.start } ∷ []) (bare k)
+  only : (k i : ℕ) → Contains (row_in stacks k) i → (i ≡ 0) × (k ≡ key)
+  only k i h = elim (cases_eq k key) [
+    | inl s ↦ elim (Contains-push_cases (row_in none k) 0 i (subst (λ z. Contains z i) (put k ∙ ap (λ b. cond b (row_in none k ++ 0 ∷ []) (row_in none k)) (eq-eqb k key s)) h)) [
+      | inl o ↦ absurd (let l = (subst (λ z. Contains z i) (bare k) o).1 in omega arith)
+      | inr t ↦ (sym t, s)
+    ]
+    | inr ne ↦ absurd (let l = (subst (λ z. Contains z i) (put k ∙ ap (λ b. cond b (row_in none k ++ 0 ∷ []) (row_in none k)) (false_from_ne_true (k == key) (λ s. ne (eqb-true k key s))) ∙ bare k) h).1 in omega arith)
+  ]
 
-    only : (k : ℕ) (m : Moment) → k ≡ far_of q q.start → (let first : Moment = record { time = 0; cell = q.start } in Contains (first ∷ []) m) → IsKnown came m × (least_arrival q m ≡ k)
-    only k m s (zero, l, t) = subst (λ z. IsKnown came z × (least_arrival q z ≡ k)) t (origin, (let z = s in omega arith))
-    only k m s (suc i, l, t) = absurd (omega arith)
+  on-stack : Contains (row_in stacks key) 0
+  on-stack = subst (λ z. Contains z 0) (sym (put key ∙ ap (λ b. cond b (row_in none key ++ 0 ∷ []) (row_in none key)) (eq-eqb key key refl))) (Contains-push (row_in none key) 0)
 
--- what is reached in one direction was noted
-abbrev pub Dir-found : Question → Noted Moment → Moment → Dir → Type 0
-Dir-found q came l dir = (c : Cell) → place_of c ≡ moved (place_of l.cell) dir → IsFoundFrom q came l c
+  within-first : 0 < length r
+  within-first = let l = open-long in omega arith
+
+  pub opening : IsFrontier q 0 None r labels' stacks
+  opening = record {
+    measured = ask.measured;
+    size = set.size ∙ size;
+    origin = (0, within-first, open-moment 0 within-first);
+    sound = λ i h. subst (λ (z : Arrival). IsSound q r z.at z.from) (sym (open-at i h)) (record { reached_from = inl (refl, refl); in_time = (let b = near in omega arith); on_ground = ask.on_ground; free = ask.free });
+    apart = λ i k a b s. first-place i a ∙ sym (first-place k b);
+    labelled = λ i h. subst (IsLabelled q r labels') (sym (open-moment i h)) (λ k g. subst (λ z. IsSeen r (stays_on q q.start) q.start z 0 (label_of q labels' q.start z)) (one_gap (stays_on q q.start) (stays-apart q.reserved.now q.start (stays_on q q.start) (ask.measured.stays q.start)) 0 gap k inside g) (subst (IsSeen r (stays_on q q.start) q.start gap 0) (sym set.set) (record {
+      within = within-first;
+      here = ap (λ (z : Moment). z.cell) (open-moment 0 within-first);
+      inside = subst (λ (z : Moment). IsInGap (stays_on q q.start) gap z.time) (sym (open-moment 0 within-first)) inside;
+      early = (let s = ap (λ (z : Moment). z.time) (open-moment 0 within-first) in omega arith);
+    })));
+    stacked = λ k i h. let w = only k i h in (let z = w.0 in let l = open-long in omega arith, subst (λ z. IsSlot q z k) (sym (open-moment i (let z = w.0 in let l = open-long in omega arith))) (subst (IsSlot q (moment 0 q.start)) (sym w.1) slot));
+    past = λ k h. absurd (omega arith);
+    done = λ i h. inl (key, subst (Contains (row_in stacks key)) (sym (first-place i h)) on-stack);
+  }

@@ -8,94 +8,94 @@ use Rattle.fleet_model.specs.declared.geometry.Cell.{Cell}
 use Rattle.fleet_model.specs.Geometry.{place_of}
 use Rattle.fleet_model.specs.Program.{origin}
 use Rattle.fleet_plan.specs.Plan.{cell_at}
-use Rattle.fleet_search.specs.declared.moment.Moment.{Moment}
 use Rattle.fleet_search.specs.declared.frontier.Question.{Question}
+use Rattle.fleet_search.specs.declared.frontier.Arrival.{Arrival}
 use Rattle.fleet_grid.specs.Ground.{is_passable}
-use Rattle.fleet_search.specs.Moment.{Noted, look_up}
 use Rattle.fleet_search.specs.Reserved.{IsFree, IsFreeOn}
-use Rattle.fleet_search.specs.Search.{IsStep, IsKnown, IsReachedFrom, IsFrontier, IsTrail, IsBefore}
+use Rattle.fleet_search.specs.Search.{IsStep, no_arrival, moment_in, IsReachedFrom, IsFrontier, IsTrail, IsBefore}
 use Rattle.fleet_search.proofs.Chase.{step_ok-same}
 
 -- the cells from the last one back over so many steps; the agent came to the one that was found last at this moment
-pub record IsTraced (q : Question) (came : Noted Moment) (n : ℕ) (last : Cell) (xs : List Cell) (back : ℕ) (visit : Moment) : Type 0 where
+pub record IsTraced (q : Question) (r : List Arrival) (n : ℕ) (last : Cell) (xs : List Cell) (back : ℕ) (visit : ℕ) : Type 0 where
   pub long : length xs ≡ back + 1
   pub bound : back ≤ n
   pub front : get_or xs 0 origin ≡ last
-  pub end : get_or xs back origin ≡ visit.cell
-  pub known : IsKnown came visit
-  pub early : visit.time ≤ n - back
-  pub free : IsFreeOn q.reserved.now visit.cell visit.time (n - back)
+  pub end : get_or xs back origin ≡ (moment_in r visit).cell
+  pub known : visit < length r
+  pub early : (moment_in r visit).time ≤ n - back
+  pub free : IsFreeOn q.reserved.now (moment_in r visit).cell (moment_in r visit).time (n - back)
   pub steps : (k : ℕ) → k < back → IsStep q (n - (k + 1)) (get_or xs (k + 1) origin) (get_or xs k origin)
 
-pub traced-none : (q : Question) (f : ℕ) (left : Option Moment) (came : Noted Moment) (best : Noted ℕ) (stacks : List (Vec Moment Global)) → IsFrontier q f left came best stacks → (m : Moment) (none xs : List Cell) → IsKnown came m → none ≡ [] → xs ≡ none ++ m.cell ∷ [] → IsTraced q came m.time m.cell xs 0 m
-traced-none q f left came best stacks fr m none xs k a b = subst (λ z. IsTraced q came m.time m.cell z 0 m) (sym (b ∙ ap (λ z. z ++ m.cell ∷ []) a)) (record {
+pub traced-none : (q : Question) (f : ℕ) (left : Option ℕ) (r : List Arrival) (labels stacks : List (Vec ℕ Global)) → IsFrontier q f left r labels stacks → (p : ℕ) (none xs : List Cell) → p < length r → none ≡ [] → xs ≡ none ++ (moment_in r p).cell ∷ [] → IsTraced q r (moment_in r p).time (moment_in r p).cell xs 0 p
+traced-none q f left r labels stacks fr p none xs k a b = subst (λ z. IsTraced q r (moment_in r p).time (moment_in r p).cell z 0 p) (sym (b ∙ ap (λ z. z ++ (moment_in r p).cell ∷ []) a)) (record {
   long = omega arith;
   bound = omega arith;
   front = refl;
   end = refl;
   known = k;
   early = omega arith;
-  free = λ u x y. subst (λ z. IsFree q.reserved.now z m.cell) (let e : m.time ≡ u = omega arith in e) (fr.sound m k.0 k.1).free;
+  free = λ u x y. subst (λ z. IsFree q.reserved.now z (moment_in r p).cell) (let e : (moment_in r p).time ≡ u = omega arith in e) (fr.sound p k).free;
   steps = λ k h. absurd (omega arith);
 })
 
 -- the visit at one step before: that of the cell before, or the same
-pub before-came : (q : Question) (f : ℕ) (left : Option Moment) (came : Noted Moment) (best : Noted ℕ) (stacks : List (Vec Moment Global)) → IsFrontier q f left came best stacks → (time : ℕ) (visit from : Moment) → visit.time ≡ time → 1 ≤ time → look_up came visit ≡ Some from → IsBefore q came time visit from
-before-came q f left came best stacks fr time visit from e h k = go (fr.sound visit from k).reached
+pub before-came : (q : Question) (f : ℕ) (left : Option ℕ) (r : List Arrival) (labels stacks : List (Vec ℕ Global)) → IsFrontier q f left r labels stacks → (time visit : ℕ) → visit < length r → (moment_in r visit).time ≡ time → 1 ≤ time → IsBefore q r time (moment_in r visit) (get_or r visit no_arrival).from
+before-came q f left r labels stacks fr time visit k e h = go (fr.sound visit k).reached_from
   where
-    go : IsReachedFrom q came visit from → IsBefore q came time visit from
+    go : IsReachedFrom q r (moment_in r visit) (get_or r visit no_arrival).from → IsBefore q r time (moment_in r visit) (get_or r visit no_arrival).from
     go (inl p) = absurd (let z = p.0 in omega arith)
     go (inr (u, s, known, move)) =
         let at : u ≡ time - 1 = omega arith in
-        subst (λ z. IsBefore q came time visit from) at (record {
+        let from = moment_in r (get_or r visit no_arrival).from in
+        record {
           known = known;
           early = (let w = move.waits in omega arith);
           free = subst (IsFreeOn q.reserved.now from.cell from.time) at move.free;
-          step = subst (λ z. IsStep q z from.cell visit.cell) at move.step;
-        })
+          step = subst (λ z. IsStep q z from.cell (moment_in r visit).cell) at move.step;
+        }
 
-pub before-waits : (q : Question) (f : ℕ) (left : Option Moment) (came : Noted Moment) (best : Noted ℕ) (stacks : List (Vec Moment Global)) → IsFrontier q f left came best stacks → (time : ℕ) (visit : Moment) → visit.time ≢ time → visit.time ≤ time → IsKnown came visit → IsFreeOn q.reserved.now visit.cell visit.time time → IsBefore q came time visit visit
-before-waits q f left came best stacks fr time visit ne h k free = record {
+pub before-waits : (q : Question) (f : ℕ) (left : Option ℕ) (r : List Arrival) (labels stacks : List (Vec ℕ Global)) → IsFrontier q f left r labels stacks → (time visit : ℕ) → visit < length r → (moment_in r visit).time ≢ time → (moment_in r visit).time ≤ time → IsFreeOn q.reserved.now (moment_in r visit).cell (moment_in r visit).time time → IsBefore q r time (moment_in r visit) visit
+before-waits q f left r labels stacks fr time visit k ne h free = record {
   known = k;
   early = omega arith;
   free = λ u x y. free u x (omega arith);
   step = record {
     beside = inl refl;
-    on_ground = (fr.sound visit k.0 k.1).on_ground;
-    fits = step_ok-same q.reserved.now (time - 1) visit.cell visit.cell (subst (λ z. IsFree q.reserved.now z visit.cell) (let e : time ≡ time - 1 + 1 = omega arith in e) (free time h (omega arith))) refl;
+    on_ground = (fr.sound visit k).on_ground;
+    fits = step_ok-same q.reserved.now (time - 1) (moment_in r visit).cell (moment_in r visit).cell (subst (λ z. IsFree q.reserved.now z (moment_in r visit).cell) (let e : time ≡ time - 1 + 1 = omega arith in e) (free time h (omega arith))) refl;
   };
 }
 
-module _ (q : Question) (f : ℕ) (left : Option Moment) (came : Noted Moment) (best : Noted ℕ) (stacks : List (Vec Moment Global)) (fr : IsFrontier q f left came best stacks) (n : ℕ) (last : Cell) (xs : List Cell) (back : ℕ) (visit : Moment) (tr : IsTraced q came n last xs back visit) where
-  pub traced-more : (next : Moment) (ys : List Cell) → back < n → IsBefore q came (n - back) visit next → ys ≡ xs ++ next.cell ∷ [] → IsTraced q came n last ys (back + 1) next
-  traced-more next ys h b g = subst (λ z. IsTraced q came n last z (back + 1) next) (sym g) (record {
-    long = omega (arith, length_push xs next.cell, tr.long);
+module _ (q : Question) (f : ℕ) (left : Option ℕ) (r : List Arrival) (labels stacks : List (Vec ℕ Global)) (fr : IsFrontier q f left r labels stacks) (n : ℕ) (last : Cell) (xs : List Cell) (back : ℕ) (visit : ℕ) (tr : IsTraced q r n last xs back visit) where
+  pub traced-more : (next : ℕ) (ys : List Cell) → back < n → IsBefore q r (n - back) (moment_in r visit) next → ys ≡ xs ++ (moment_in r next).cell ∷ [] → IsTraced q r n last ys (back + 1) next
+  traced-more next ys h b g = subst (λ z. IsTraced q r n last z (back + 1) next) (sym g) (record {
+    long = omega (arith, length_push xs (moment_in r next).cell, tr.long);
     bound = omega arith;
-    front = get_or_append_left xs (next.cell ∷ []) origin 0 (omega (arith, tr.long)) ∙ tr.front;
-    end = get_or_push xs next.cell origin (back + 1) tr.long;
+    front = get_or_append_left xs ((moment_in r next).cell ∷ []) origin 0 (omega (arith, tr.long)) ∙ tr.front;
+    end = get_or_push xs (moment_in r next).cell origin (back + 1) tr.long;
     known = b.known;
     early = (let e = b.early in omega arith);
     free = λ u x y. b.free u x (omega arith);
     steps = λ k l. elim (cases_eq k back) [
       | inl s ↦
-          let a : get_or (xs ++ next.cell ∷ []) (k + 1) origin ≡ next.cell = ap (λ z. get_or (xs ++ next.cell ∷ []) (z + 1) origin) s ∙ get_or_push xs next.cell origin (back + 1) tr.long in
-          let c : get_or (xs ++ next.cell ∷ []) k origin ≡ visit.cell = get_or_append_left xs (next.cell ∷ []) origin k (omega (arith, tr.long)) ∙ ap (λ z. get_or xs z origin) s ∙ tr.end in
+          let a : get_or (xs ++ (moment_in r next).cell ∷ []) (k + 1) origin ≡ (moment_in r next).cell = ap (λ z. get_or (xs ++ (moment_in r next).cell ∷ []) (z + 1) origin) s ∙ get_or_push xs (moment_in r next).cell origin (back + 1) tr.long in
+          let c : get_or (xs ++ (moment_in r next).cell ∷ []) k origin ≡ (moment_in r visit).cell = get_or_append_left xs ((moment_in r next).cell ∷ []) origin k (omega (arith, tr.long)) ∙ ap (λ z. get_or xs z origin) s ∙ tr.end in
           let t : n - back - 1 ≡ n - (k + 1) = omega arith in
-          subst (λ z. IsStep q z (get_or (xs ++ next.cell ∷ []) (k + 1) origin) (get_or (xs ++ next.cell ∷ []) k origin)) t (subst (λ z. IsStep q (n - back - 1) z (get_or (xs ++ next.cell ∷ []) k origin)) (sym a) (subst (IsStep q (n - back - 1) next.cell) (sym c) b.step))
+          subst (λ z. IsStep q z (get_or (xs ++ (moment_in r next).cell ∷ []) (k + 1) origin) (get_or (xs ++ (moment_in r next).cell ∷ []) k origin)) t (subst (λ z. IsStep q (n - back - 1) z (get_or (xs ++ (moment_in r next).cell ∷ []) k origin)) (sym a) (subst (IsStep q (n - back - 1) (moment_in r next).cell) (sym c) b.step))
       | inr ne ↦
-          let a : get_or (xs ++ next.cell ∷ []) (k + 1) origin ≡ get_or xs (k + 1) origin = get_or_append_left xs (next.cell ∷ []) origin (k + 1) (omega (arith, tr.long)) in
-          let c : get_or (xs ++ next.cell ∷ []) k origin ≡ get_or xs k origin = get_or_append_left xs (next.cell ∷ []) origin k (omega (arith, tr.long)) in
-          subst (λ z. IsStep q (n - (k + 1)) z (get_or (xs ++ next.cell ∷ []) k origin)) (sym a) (subst (IsStep q (n - (k + 1)) (get_or xs (k + 1) origin)) (sym c) (tr.steps k (omega arith)))
+          let a : get_or (xs ++ (moment_in r next).cell ∷ []) (k + 1) origin ≡ get_or xs (k + 1) origin = get_or_append_left xs ((moment_in r next).cell ∷ []) origin (k + 1) (omega (arith, tr.long)) in
+          let c : get_or (xs ++ (moment_in r next).cell ∷ []) k origin ≡ get_or xs k origin = get_or_append_left xs ((moment_in r next).cell ∷ []) origin k (omega (arith, tr.long)) in
+          subst (λ z. IsStep q (n - (k + 1)) z (get_or (xs ++ (moment_in r next).cell ∷ []) k origin)) (sym a) (subst (IsStep q (n - (k + 1)) (get_or xs (k + 1) origin)) (sym c) (tr.steps k (omega arith)))
     ];
   })
 
   -- the start is reached
-  at-start : n ≤ back → (visit.cell ≡ q.start) × IsTrue (is_passable q.grid.now (place_of visit.cell))
+  at-start : n ≤ back → ((moment_in r visit).cell ≡ q.start) × IsTrue (is_passable q.grid.now (place_of (moment_in r visit).cell))
   at-start h =
-      let s = fr.sound visit tr.known.0 tr.known.1 in
-      (go s.reached, s.on_ground)
+      let s = fr.sound visit tr.known in
+      (go s.reached_from, s.on_ground)
     where
-      go : IsReachedFrom q came visit tr.known.0 → visit.cell ≡ q.start
+      go : IsReachedFrom q r (moment_in r visit) (get_or r visit no_arrival).from → (moment_in r visit).cell ≡ q.start
       go (inl p) = p.1
       go (inr (t, e, k, step)) = absurd (let z = tr.early in omega arith)
 
@@ -111,7 +111,7 @@ module _ (q : Question) (f : ℕ) (left : Option Moment) (came : Noted Moment) (
   pub traced-all : (ys : List Cell) → ys ≡ reverse xs → n ≤ back → IsTrail q n last ys
   traced-all ys e h =
       let b = tr.bound in
-      let first : cell_at ys 0 ≡ visit.cell = turned ys e h 0 (omega arith) ∙ ap (λ z. get_or xs z origin) (let z : n - 0 ≡ back = omega arith in z) ∙ tr.end in
+      let first : cell_at ys 0 ≡ (moment_in r visit).cell = turned ys e h 0 (omega arith) ∙ ap (λ z. get_or xs z origin) (let z : n - 0 ≡ back = omega arith in z) ∙ tr.end in
       let s = at-start h in
       record {
         long = ap length e ∙ length-reverse xs ∙ tr.long ∙ (let z : back + 1 ≡ n + 1 = omega arith in z);

@@ -1,48 +1,56 @@
--- A cell is left for a neighbour, at each time at which that can be of use.
-use Rattle.std.proofs.Common.{◌≡◌, ℕ, ◌+◌, ◌-◌, ◌<◌, ◌≤◌, List, [], length, get_or, take, Contains, Some, inl, inr, refl, sym, ap, ◌∙◌, subst, arith}
-use Rattle.std.proofs.lemmas.List.{take_all}
+-- A cell is left for a neighbour, in each gap there.
+use Rattle.std.proofs.Common.{◌≡◌, ℕ, ◌+◌, ◌-◌, ◌<◌, ◌≤◌, Some, inl, inr, sym, subst, arith}
+use Rattle.std.proofs.lemmas.Bool.{cases_eq, cases_lt}
 use Rattle.fleet_model.specs.declared.geometry.Cell.{Cell}
-use Rattle.fleet_search.specs.declared.moment.Moment.{Moment}
 use Rattle.fleet_search.specs.declared.frontier.Question.{Question}
 use Rattle.fleet_search.specs.declared.frontier.Frontier.{Frontier}
-use Rattle.fleet_search.specs.Reserved.{IsFree, AreChanges}
-use Rattle.fleet_search.specs.Search.{FrontierIs, IsLeft, Grows, IsFreeUntil, IsFoundAt, IsFoundFrom}
-use Rattle.fleet_search.proofs.Changing.{taken-cases}
-use Rattle.fleet_search.proofs.SearchSteps.{Grows-then, Grows-same, found-at-stays, move-covered}
+use Rattle.fleet_search.specs.declared.frontier.Leaving.{Leaving}
+use Rattle.fleet_search.specs.Gaps.{AreBegun, IsInGap}
+use Rattle.fleet_search.specs.Search.{stays_on, IsMeasured, FrontierIs, IsLeaving, Grows, IsFoundIn, IsFoundFrom}
+use Rattle.fleet_search.proofs.GapLaws.{stays-apart, some_gap}
+use Rattle.fleet_search.proofs.SearchSteps.{Grows-then, Grows-same, left-stays, found_in-stays}
 
-pub record IsTurning (q : Question) (f : ℕ) (l : Moment) (c : Cell) (until : ℕ) (xs : List ℕ) (k : ℕ) (start now : Frontier) : Type 0 where
-  pub frontier : FrontierIs q f (Some l) now
-  pub left : IsLeft q f now l
-  pub grows : Grows f start now
-  pub at_once : IsFoundAt q now.came l c l.time
-  pub each : (x : ℕ) → Contains (take k xs) x → l.time < x → x ≤ until → IsFoundAt q now.came l c (x - 1)
-  pub changes : AreChanges q.reserved.now c xs
+pub record IsTurning (q : Question) (f : ℕ) (l : Leaving) (c : Cell) (gap : ℕ) (start now : Frontier) : Type 0 where
+  pub frontier : FrontierIs q (f - 1) (Some l.place) now
+  pub leaving : IsLeaving q f now l
+  pub grows : Grows start now
+  pub each : (k : ℕ) → k < gap → IsFoundIn q now.reached.items l.at c k
 
-pub turning-none : (q : Question) (f : ℕ) (l : Moment) (c : Cell) (until : ℕ) (xs : List ℕ) (s : Frontier) → FrontierIs q f (Some l) s → IsLeft q f s l → IsFreeUntil q l until → l.time < 4294967295 → (l.time < l.time + 1 → l.time + 1 ≤ until → IsFoundAt q s.came l c (l.time + 1 - 1)) → AreChanges q.reserved.now c xs → IsTurning q f l c until xs 0 s s
-turning-none q f l c until xs s fr left wait few found changes = record {
+-- gaps that are over by then
+pub turning-none : (q : Question) (f : ℕ) (l : Leaving) (c : Cell) (gap : ℕ) (s : Frontier) → FrontierIs q (f - 1) (Some l.place) s → IsLeaving q f s l → AreBegun (stays_on q c) (l.at.time + 1) gap → IsTurning q f l c gap s s
+turning-none q f l c gap s fr leaving b = record {
   frontier = fr;
-  left = left;
-  grows = Grows-same f s;
-  at_once =
-      let free = (fr.sound l left.known.0 left.known.1).free in
-      let low : l.time < until = wait.1 l.time few (λ u a b. subst (λ z. IsFree q.reserved.now z l.cell) (let e : l.time ≡ u = omega arith in e) free) in
-      subst (IsFoundAt q s.came l c) (let e : l.time + 1 - 1 ≡ l.time = omega arith in e) (found (omega arith) (omega arith));
-  each = λ x m a b. absurd (let z = m.1 in omega arith);
-  changes = changes;
+  leaving = leaving;
+  grows = Grows-same s;
+  each = λ k h u move g in_time.
+      let x = b.begun k h in
+      let y = g.to_come k (omega arith) (let z = b.bound in omega arith) in
+      let w = move.waits in
+      absurd (omega arith);
 }
 
-pub turning-more : (q : Question) (f : ℕ) (l : Moment) (c : Cell) (until : ℕ) (xs : List ℕ) (k : ℕ) (start now next : Frontier) (y : ℕ) → IsTurning q f l c until xs k start now → k < length xs → y ≡ get_or xs k y → FrontierIs q f (Some l) next → IsLeft q f next l → Grows f now next → (l.time < y → y ≤ until → IsFoundAt q next.came l c (y - 1)) → IsTurning q f l c until xs (k + 1) start next
-turning-more q f l c until xs k start now next y h lt e fr left grows found = record {
+pub turning-more : (q : Question) (f : ℕ) (l : Leaving) (c : Cell) (gap : ℕ) (start now next : Frontier) → IsTurning q f l c gap start now → FrontierIs q (f - 1) (Some l.place) next → IsFoundIn q next.reached.items l.at c gap → Grows now next → IsTurning q f l c (gap + 1) start next
+turning-more q f l c gap start now next h fr found grows = record {
   frontier = fr;
-  left = left;
-  grows = Grows-then f start now next h.grows grows;
-  at_once = found-at-stays q now.came next.came l c l.time grows.known h.at_once;
-  each = λ x m a b. elim (taken-cases xs k x y lt e m) [
-    | inl o ↦ found-at-stays q now.came next.came l c (x - 1) grows.known (h.each x o a b)
-    | inr s ↦ subst (λ z. IsFoundAt q next.came l c (z - 1)) s (found (omega arith) (omega arith))
+  leaving = (left-stays q f now next l.place l.at grows h.leaving.0, h.leaving.1);
+  grows = Grows-then start now next h.grows grows;
+  each = λ k l'. elim (cases_eq k gap) [
+    | inl e ↦ subst (IsFoundIn q next.reached.items l.at c) (sym e) found
+    | inr ne ↦ found_in-stays q now.reached.items next.reached.items grows.more grows.kept l.at c k (h.each k (omega arith))
   ];
-  changes = h.changes;
 }
 
-pub turned : (q : Question) (f : ℕ) (l : Moment) (c : Cell) (until : ℕ) (xs : List ℕ) (k : ℕ) (start now : Frontier) → IsTurning q f l c until xs k start now → length xs ≤ k → IsFreeUntil q l until → q.horizon ≤ 65535 → IsFoundFrom q now.came l c
-turned q f l c until xs k start now h all wait few = λ u move in_time. move-covered q now.came l until c xs h.changes wait h.at_once (λ x m a b. h.each x (subst (λ z. Contains z x) (sym (take_all k xs all)) m) a b) u move in_time few
+-- a gap after the last one begins too late
+pub turned : (q : Question) → IsMeasured q → (f : ℕ) (l : Leaving) (c : Cell) (gap last : ℕ) (start now : Frontier) → q.horizon ≤ 65535 → IsTurning q f l c gap start now → AreBegun (stays_on q c) l.until last → last < gap → IsFoundFrom q now.reached.items l.at c
+turned q m f l c gap last start now few h b all u move in_time =
+    let g = some_gap q.reserved.now c (stays_on q c) (m.stays c) (u + 1) (omega arith) move.step.fits.vertex in
+    elim (cases_lt g.0 gap) [
+      | inl k ↦ h.each g.0 k u move g.1 in_time
+      | inr k ↦
+          let before = h.leaving.1.1 u (omega arith) move.free in
+          let bound = g.1.bound in
+          let over = (g.1.over (g.0 - 1) (omega arith)).0 in
+          let to_come = b.to_come (g.0 - 1) (omega arith) (omega arith) in
+          let some = (stays-apart q.reserved.now c (stays_on q c) (m.stays c)).some_time (g.0 - 1) (omega arith) in
+          absurd (omega arith)
+    ]

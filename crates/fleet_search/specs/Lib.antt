@@ -1,6 +1,8 @@
 pub mod Way
-pub mod Moment
 pub mod Reserved
+pub mod Stays
+pub mod Gaps
+pub mod Rows
 pub mod Distance
 pub mod Search
 pub mod InTurn

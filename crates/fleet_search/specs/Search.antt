@@ -1,26 +1,35 @@
 -- The search over cells and times.
-use Rattle.std.specs.Prelude.{◌≡◌, ℕ, ◌+◌, ◌-◌, ◌<◌, ◌≤◌, ◌==◌, cond, IsTrue, List, [], ◌∷◌, ◌++◌, length, map, get_or, Contains, Option, Some, ◌↔◌, ◌⊎◌, Vec}
+use Rattle.std.specs.Prelude.{◌≡◌, ℕ, ◌+◌, ◌*◌, ◌-◌, ◌<◌, ◌≤◌, IsTrue, List, [], length, get_or, Contains, Option, None, Some, ◌↔◌, ◌⊎◌, Vec}
 use Rattle.std.specs.declared.alloc.Global.{Global}
-use Rattle.std.specs.HashMap.{IsUnique, hash_map_len}
 use Rattle.fleet_model.specs.declared.geometry.Cell.{Cell}
 use Rattle.fleet_model.specs.Geometry.{place_of}
 use Rattle.fleet_plan.specs.Plan.{AreNeighbours, cell_at}
 use Rattle.fleet_search.specs.declared.moment.Moment.{Moment}
+use Rattle.fleet_search.specs.declared.stay.Stay.{Stay}
 use Rattle.fleet_search.specs.declared.frontier.Question.{Question}
+use Rattle.fleet_search.specs.declared.frontier.Arrival.{Arrival}
+use Rattle.fleet_search.specs.declared.frontier.Leaving.{Leaving}
 use Rattle.fleet_search.specs.declared.frontier.Frontier.{Frontier}
-use Rattle.fleet_grid.specs.Ground.{is_passable}
-use Rattle.fleet_search.specs.Moment.{Noted, look_up, same_moment}
+use Rattle.fleet_grid.specs.Ground.{Ground, is_passable, cell_index}
 use Rattle.fleet_search.specs.Distance.{far, AreDistances}
 use Rattle.fleet_search.specs.Way.{StepFits}
 use Rattle.fleet_search.specs.Reserved.{IsFree, IsFreeFrom, IsFreeOn}
+use Rattle.fleet_search.specs.Stays.{HaveStays, stays_of}
+use Rattle.fleet_search.specs.Gaps.{IsInGap}
+use Rattle.fleet_search.specs.Rows.{row_in, label_in}
 
 -- how many moves lead from the cell to the goal at least
 abbrev pub far_of : Question → Cell → ℕ
 far_of q c = far q.grid.now q.distances.now c
 
--- the table of the question is right for its goal
-abbrev pub IsMeasured : Question → Type 0
-IsMeasured q = AreDistances q.grid.now q.distances.now q.goal
+-- the stays of the reserved agents on the cell
+abbrev pub stays_on : Question → Cell → List Stay
+stays_on q c = stays_of q.rows.now c
+
+-- the tables of the question are right: that of distances for its goal, that of stays for the reserved agents
+pub record IsMeasured (q : Question) : Type 0 where
+  pub far : AreDistances q.grid.now q.distances.now q.goal
+  pub stays : HaveStays q.reserved.now q.rows.now
 
 abbrev pub AreBeside : Cell → Cell → Type 0
 AreBeside c d = (c ≡ d) ⊎ AreNeighbours c d
@@ -31,17 +40,30 @@ pub record IsStep (q : Question) (t : ℕ) (from to : Cell) : Type 0 where
   pub on_ground : IsTrue (is_passable q.grid.now (place_of to))
   pub fits : StepFits q.reserved.now t from to
 
--- a path over the moment arrives at this time at the earliest
+-- a path over the moment arrives at this time at the earliest, as far as the distance says
 abbrev pub least_arrival : Question → Moment → ℕ
 least_arrival q m = m.time + far_of q m.cell
+
+-- the stack on which the moment waits to be left. A path cannot arrive before `rest`: the moments over which one may arrive then are left by
+-- their distance from the goal, and the others by the time at which a path over them arrives at the earliest
+abbrev pub IsSlot : Question → Moment → ℕ → Type 0
+IsSlot q m k = ((least_arrival q m ≤ q.rest) × (k ≡ far_of q m.cell)) ⊎ ((q.rest < least_arrival q m) × (k ≡ least_arrival q m))
 
 -- the agent may come to rest at the moment
 abbrev pub IsEnd : Question → Moment → Type 0
 IsEnd q m = (m.cell ≡ q.goal) × (q.rest ≤ m.time)
 
+-- what stands for an arrival past the end of a list
+abbrev pub no_arrival : Arrival
+no_arrival = record { at = record { time = 0; cell = record { x = 0; y = 0 } }; from = 0 }
+
+-- the moment of the arrival at this place of the list
+abbrev pub moment_in : List Arrival → ℕ → Moment
+moment_in reached i = (get_or reached i no_arrival).at
+
 -- the moment was reached
-abbrev pub IsKnown : Noted Moment → Moment → Type 0
-IsKnown came m = (from : Moment) × (look_up came m ≡ Some from)
+abbrev pub IsKnown : List Arrival → Moment → Type 0
+IsKnown reached m = (i : ℕ) × (i < length reached) × (moment_in reached i ≡ m)
 
 -- the agent waits on the cell of the moment, and steps to the other cell at the time
 pub record IsMove (q : Question) (from : Moment) (u : ℕ) (to : Cell) : Type 0 where
@@ -50,80 +72,106 @@ pub record IsMove (q : Question) (from : Moment) (u : ℕ) (to : Cell) : Type 0 
   pub step : IsStep q u from.cell to
 
 -- the moment is the start, or the agent comes to it from a moment that was reached
-abbrev pub IsReachedFrom : Question → Noted Moment → Moment → Moment → Type 0
-IsReachedFrom q came m from = ((m.time ≡ 0) × (m.cell ≡ q.start)) ⊎ ((u : ℕ) × (m.time ≡ u + 1) × IsKnown came from × IsMove q from u m.cell)
+abbrev pub IsReachedFrom : Question → List Arrival → Moment → ℕ → Type 0
+IsReachedFrom q reached m from = ((m.time ≡ 0) × (m.cell ≡ q.start)) ⊎ ((u : ℕ) × (m.time ≡ u + 1) × (from < length reached) × IsMove q (moment_in reached from) u m.cell)
 
 -- what was reached, and not too late
-pub record IsSound (q : Question) (came : Noted Moment) (m from : Moment) : Type 0 where
-  pub reached : IsReachedFrom q came m from
+pub record IsSound (q : Question) (reached : List Arrival) (m : Moment) (from : ℕ) : Type 0 where
+  pub reached_from : IsReachedFrom q reached m from
   pub in_time : least_arrival q m ≤ q.horizon
   pub on_ground : IsTrue (is_passable q.grid.now (place_of m.cell))
   pub free : IsFree q.reserved.now m.time m.cell
 
 -- the cell was reached at this time or before, and is free since
-pub record IsCovered (q : Question) (came : Noted Moment) (c : Cell) (t : ℕ) : Type 0 where
+pub record IsCovered (q : Question) (reached : List Arrival) (c : Cell) (t : ℕ) : Type 0 where
   pub since : ℕ
   pub early : since ≤ t
-  pub known : IsKnown came (record { time = since; cell = c })
+  pub known : IsKnown reached (record { time = since; cell = c })
   pub free : IsFreeOn q.reserved.now c since t
 
 -- where a move leads to a cell in time, the cell was reached by then; the moment is no end
-pub record IsExpanded (q : Question) (came : Noted Moment) (m : Moment) : Type 0 where
-  pub moves : (u : ℕ) (c : Cell) → AreNeighbours m.cell c → IsMove q m u c → u + 1 + far_of q c ≤ q.horizon → IsCovered q came c (u + 1)
+pub record IsExpanded (q : Question) (reached : List Arrival) (m : Moment) : Type 0 where
+  pub moves : (u : ℕ) (c : Cell) → AreNeighbours m.cell c → IsMove q m u c → u + 1 + far_of q c ≤ q.horizon → IsCovered q reached c (u + 1)
   pub not_end : IsEnd q m → ⊥
 
--- the moments to be left by the time at which paths over them arrive at the earliest
-unfoldable pub stack_in : List (Vec Moment Global) → ℕ → List Moment
-stack_in stacks k = get_or (map (λ v. v.items) stacks) k []
+-- the arrival at this place is one on the cell, in the gap of this number among the stays there, at the time or before
+pub record IsSeen (reached : List Arrival) (stays : List Stay) (c : Cell) (gap t i : ℕ) : Type 0 where
+  pub within : i < length reached
+  pub here : (moment_in reached i).cell ≡ c
+  pub inside : IsInGap stays gap (moment_in reached i).time
+  pub early : (moment_in reached i).time ≤ t
 
--- every moment that was reached is sound, and it is still to be left, or is just being left, or all moves from it were noted. For cells
--- and the times since which they are free there is noted when they were reached first
-pub record IsFrontier (q : Question) (f : ℕ) (left : Option Moment) (came : Noted Moment) (best : Noted ℕ) (stacks : List (Vec Moment Global)) : Type 0 where
+-- the label of the gap on the cell
+abbrev pub label_of : Question → List (Vec ℕ Global) → Cell → ℕ → ℕ
+label_of q labels c gap = label_in labels (cell_index q.grid.now c) gap
+
+-- every moment that was reached is sound, and it is still to be left, or is just being left, or all moves from it were noted. Each gap in which a
+-- cell was reached is labelled with the place of the earliest arrival there; so none was noted twice
+pub record IsFrontier (q : Question) (f : ℕ) (left : Option ℕ) (reached : List Arrival) (labels stacks : List (Vec ℕ Global)) : Type 0 where
   pub measured : IsMeasured q
-  pub unique : IsUnique same_moment came
-  pub origin : IsKnown came (record { time = 0; cell = q.start })
-  pub sound : (m from : Moment) → look_up came m ≡ Some from → IsSound q came m from
-  pub stacked : (k : ℕ) (m : Moment) → Contains (stack_in stacks k) m → IsKnown came m × (least_arrival q m ≡ k)
-  pub past : (k : ℕ) → k < f → stack_in stacks k ≡ []
-  pub done : (m : Moment) → IsKnown came m → Contains (stack_in stacks (least_arrival q m)) m ⊎ ((left ≡ Some m) ⊎ IsExpanded q came m)
-  pub first : (m : Moment) (t : ℕ) → look_up best m ≡ Some t → IsKnown came (record { time = t; cell = m.cell }) × (m.time ≤ t)
+  pub size : length labels ≡ q.grid.now.width * q.grid.now.height
+  pub origin : IsKnown reached (record { time = 0; cell = q.start })
+  pub sound : (i : ℕ) → i < length reached → IsSound q reached (moment_in reached i) (get_or reached i no_arrival).from
+  pub apart : (i k : ℕ) → i < length reached → k < length reached → moment_in reached i ≡ moment_in reached k → i ≡ k
+  pub labelled : (i : ℕ) → i < length reached → (gap : ℕ) → IsInGap (stays_on q (moment_in reached i).cell) gap (moment_in reached i).time → IsSeen reached (stays_on q (moment_in reached i).cell) (moment_in reached i).cell gap (moment_in reached i).time (label_of q labels (moment_in reached i).cell gap)
+  pub stacked : (k i : ℕ) → Contains (row_in stacks k) i → (i < length reached) × IsSlot q (moment_in reached i) k
+  pub past : (k : ℕ) → k < f → row_in stacks k ≡ []
+  pub done : (i : ℕ) → i < length reached → ((k : ℕ) × Contains (row_in stacks k) i) ⊎ ((left ≡ Some i) ⊎ IsExpanded q reached (moment_in reached i))
 
-abbrev pub FrontierIs : Question → ℕ → Option Moment → Frontier → Type 0
-FrontierIs q f left s = IsFrontier q f left s.came s.best s.stacks.items
+abbrev pub FrontierIs : Question → ℕ → Option ℕ → Frontier → Type 0
+FrontierIs q f left s = IsFrontier q f left s.reached.items s.labels.items s.stacks.items
 
--- the moment that is left was reached, and paths over it arrive at this time at the earliest
-pub record IsLeft (q : Question) (f : ℕ) (s : Frontier) (m : Moment) : Type 0 where
-  pub known : IsKnown s.came m
-  pub bound : least_arrival q m ≡ f
+-- there is a row of labels for each cell of the map
+abbrev pub HasRows : Ground → Frontier → Type 0
+HasRows g s = length s.labels.items ≡ g.width * g.height
 
--- what was reached stays so, and what is new in the stack is new
-pub record Grows (f : ℕ) (old new : Frontier) : Type 0 where
-  pub known : (m : Moment) → IsKnown old.came m → IsKnown new.came m
-  pub more : hash_map_len old.came ≤ hash_map_len new.came
-  pub work : length (stack_in new.stacks.items f) + hash_map_len old.came ≤ length (stack_in old.stacks.items f) + hash_map_len new.came
-
--- the moment is on its stack, and the others are as before
-abbrev pub IsPut : List (Vec Moment Global) → List (Vec Moment Global) → ℕ → Moment → Type 0
-IsPut old new key m = (k : ℕ) → stack_in new k ≡ cond (k == key) (stack_in old k ++ m ∷ []) (stack_in old k)
-
--- the moment may be left by moves that begin at these times
+-- the moment may be left by moves that begin before this time, and by no later ones
 abbrev pub IsFreeUntil : Question → Moment → ℕ → Type 0
 IsFreeUntil q m until = ((t : ℕ) → m.time ≤ t → t < until → IsFree q.reserved.now t m.cell) × ((t : ℕ) → t < 4294967295 → IsFreeOn q.reserved.now m.cell m.time t → t < until)
 
+-- the moment that is left was reached, and waited on this stack
+pub record IsLeft (q : Question) (f : ℕ) (s : Frontier) (place : ℕ) (m : Moment) : Type 0 where
+  pub within : place < length s.reached.items
+  pub here : moment_in s.reached.items place ≡ m
+  pub slot : IsSlot q m f
+
+-- the same, with the time until which it may be left
+abbrev pub IsLeaving : Question → ℕ → Frontier → Leaving → Type 0
+IsLeaving q f s l = IsLeft q f s l.place l.at × IsFreeUntil q l.at l.until
+
+-- what was reached stays so; where nothing new was reached, nothing new is to be left
+pub record Grows (old new : Frontier) : Type 0 where
+  pub more : length old.reached.items ≤ length new.reached.items
+  pub kept : (i : ℕ) → i < length old.reached.items → get_or new.reached.items i no_arrival ≡ get_or old.reached.items i no_arrival
+  pub same : length new.reached.items ≡ length old.reached.items → (k : ℕ) → row_in new.stacks.items k ≡ row_in old.stacks.items k
+
 -- where the step that begins at the time fits and is not too late, the cell was reached by its end
-abbrev pub IsFoundAt : Question → Noted Moment → Moment → Cell → ℕ → Type 0
-IsFoundAt q came left c u = IsStep q u left.cell c → u + 1 + far_of q c ≤ q.horizon → IsCovered q came c (u + 1)
+abbrev pub IsFoundAt : Question → List Arrival → Moment → Cell → ℕ → Type 0
+IsFoundAt q reached left c u = IsStep q u left.cell c → u + 1 + far_of q c ≤ q.horizon → IsCovered q reached c (u + 1)
+
+-- the same for all moves that lead to the cell in the gap
+abbrev pub IsFoundIn : Question → List Arrival → Moment → Cell → ℕ → Type 0
+IsFoundIn q reached left c gap = (u : ℕ) → IsMove q left u c → IsInGap (stays_on q c) gap (u + 1) → u + 1 + far_of q c ≤ q.horizon → IsCovered q reached c (u + 1)
 
 -- where a move leads to the cell in time, it was reached by then
-abbrev pub IsFoundFrom : Question → Noted Moment → Moment → Cell → Type 0
-IsFoundFrom q came left c = (u : ℕ) → IsMove q left u c → u + 1 + far_of q c ≤ q.horizon → IsCovered q came c (u + 1)
+abbrev pub IsFoundFrom : Question → List Arrival → Moment → Cell → Type 0
+IsFoundFrom q reached left c = (u : ℕ) → IsMove q left u c → u + 1 + far_of q c ≤ q.horizon → IsCovered q reached c (u + 1)
+
+-- what the search of a stack came to: something new was reached, or nothing is left on the stack
+abbrev pub IsSwept : Question → ℕ → Frontier → Frontier → Type 0
+IsSwept q f old new =
+    ((length old.reached.items < length new.reached.items) × FrontierIs q (f - 1) None new) ⊎ ((length new.reached.items ≡ length old.reached.items) × FrontierIs q (f + 1) None new)
+
+-- the moment at this place was reached, waited on this stack and is an end
+abbrev pub IsFound : Question → ℕ → Frontier → ℕ → Type 0
+IsFound q f s place = FrontierIs q f (Some place) s × IsLeft q f s place (moment_in s.reached.items place) × IsEnd q (moment_in s.reached.items place)
 
 -- one step before the time of a visit the agent is on this one, from which the step leads there
-pub record IsBefore (q : Question) (came : Noted Moment) (time : ℕ) (visit next : Moment) : Type 0 where
-  pub known : IsKnown came next
-  pub early : next.time ≤ time - 1
-  pub free : IsFreeOn q.reserved.now next.cell next.time (time - 1)
-  pub step : IsStep q (time - 1) next.cell visit.cell
+pub record IsBefore (q : Question) (reached : List Arrival) (time : ℕ) (visit : Moment) (next : ℕ) : Type 0 where
+  pub known : next < length reached
+  pub early : (moment_in reached next).time ≤ time - 1
+  pub free : IsFreeOn q.reserved.now (moment_in reached next).cell (moment_in reached next).time (time - 1)
+  pub step : IsStep q (time - 1) (moment_in reached next).cell visit.cell
 
 -- the agent may stand on the start, the goal is not too far, and from `rest` on it is free
 pub record IsAsked (q : Question) : Type 0 where

@@ -3,12 +3,12 @@
 ghost use Rattle.std.specs.Prelude.{◌≡◌, ◌≤◌, ◌+◌, IfOk, IfErr, OnOk};
 ghost use Rattle.fleet_grid.specs.Ground.{is_passable};
 ghost use Rattle.fleet_search.specs.Distance.{IsReady};
-ghost use Rattle.fleet_search.specs.Search.{IsAsked};
+ghost use Rattle.fleet_search.specs.Search.{IsAsked, HasRows};
 ghost use Rattle.fleet_search.specs.Way.{IsEarliest, HasNoWay};
 
 use crate::distances::Distances;
 use crate::fault::SearchFault;
-use crate::frontier::{Question, opened};
+use crate::frontier::{Frontier, Question};
 use crate::reservations::Reservations;
 use fleet_grid::Grid;
 use fleet_model::Cell;
@@ -16,37 +16,50 @@ use fleet_plan::Path;
 use std::alloc::Global;
 
 /// Looks for paths in the order of their arrival.
-fn search(alloc: Global, question: &Question) -> Result<Path, SearchFault>
-    requires { IsAsked question.now }
+fn search(frontier: &mut Frontier, question: &Question) -> Result<Path, SearchFault>
+    requires asked { IsAsked question.now }
+    requires rows { HasRows question.now.grid.now frontier.old }
     ensures ok { IfOk result (IsEarliest (is_passable question.now.grid.now) question.now.reserved.now question.now.start question.now.goal question.now.horizon) }
     ensures no_path { IfErr result (λ e. e ≡ SearchFault.NoPath → HasNoWay (is_passable question.now.grid.now) question.now.reserved.now question.now.start question.now.goal question.now.horizon) }
+    ensures rows { OnOk result (HasRows question.now.grid.now frontier.new) }
 {
-    let least = question.far(question.start);
-    if least > question.horizon {
+    if question.far(question.start) > question.horizon {
         return Err(SearchFault::NoPath);
     }
-    let mut frontier = opened(alloc, question)?;
-    for length in least..question.horizon + 1 {
-        if let Some(last) = frontier.sweep(question, length)? {
-            let path = frontier.path_to(question, length, last)?;
+    if question.rest > question.horizon {
+        return Err(SearchFault::NoPath);
+    }
+    frontier.open(question)?;
+    let mut slot = 0;
+    while slot <= question.horizon {
+        let before = frontier.reached.len();
+        if let Some(last) = frontier.sweep(question, slot)? {
+            let path = frontier.path_to(question, slot, last)?;
             return Ok(path);
+        }
+        if frontier.reached.len() > before {
+            slot = slot.saturating_sub(1);
+        } else {
+            slot += 1;
         }
     }
     Err(SearchFault::NoPath)
 }
 
-/// The earliest path, with a table of distances that other searches have used before.
+/// The earliest path, with tables that other searches have used before.
 pub fn earliest_over(
-    alloc: Global,
     grid: &Grid,
     reserved: &Reservations,
     distances: &mut Distances,
+    frontier: &mut Frontier,
     start: Cell,
     goal: Cell,
     horizon: u16,
 ) -> Result<Path, SearchFault>
     requires ready { IsReady grid.now distances.old.labels.items distances.old.search }
+    requires rows { HasRows grid.now frontier.old }
     ensures ready { OnOk result (IsReady grid.now distances.new.labels.items distances.new.search) }
+    ensures rows { OnOk result (HasRows grid.now frontier.new) }
     ensures ok { IfOk result (IsEarliest (is_passable grid.now) reserved.now start goal horizon) }
     ensures no_path { IfErr result (λ e. e ≡ SearchFault.NoPath → HasNoWay (is_passable grid.now) reserved.now start goal horizon) }
 {
@@ -66,13 +79,14 @@ pub fn earliest_over(
     let question = Question {
         grid,
         reserved,
+        rows: reserved.rows(),
         distances,
         start,
         goal,
         horizon: u32::from(horizon),
         rest,
     };
-    search(alloc, &question)
+    search(frontier, &question)
 }
 
 /// A path from `start` to `goal` that fits the reserved ones, arrives by the horizon and as early as any such path.
@@ -89,5 +103,14 @@ pub fn earliest(
     ensures no_path { IfErr result (λ e. e ≡ SearchFault.NoPath → HasNoWay (is_passable grid.now) reserved.now start goal horizon) }
 {
     let mut distances = Distances::new(alloc, grid)?;
-    earliest_over(alloc, grid, reserved, &mut distances, start, goal, horizon)
+    let mut frontier = Frontier::new(alloc, grid)?;
+    earliest_over(
+        grid,
+        reserved,
+        &mut distances,
+        &mut frontier,
+        start,
+        goal,
+        horizon,
+    )
 }

@@ -1,31 +1,38 @@
 //! The search over cells and times: what has been reached, and what is still to be left.
 //!
-//! An agent that comes to a cell may wait there for as long as nobody else comes. So a cell that was reached at one time
-//! is not looked at again for a later time, while it stays free in between (safe intervals: Phillips and Likhachev 2011).
+//! An agent that comes to a cell may wait there for as long as nobody else comes. So of the times in a gap between the
+//! stays of others on a cell only the earliest counts (safe intervals: Phillips and Likhachev 2011).
 
-ghost use Rattle.std.specs.Prelude.{◌≡◌, ◌+◌, ◌-◌, ◌<◌, ◌≤◌, IsTrue, IfOk, OnOk, Some, None, [], MatchOption, length, ℕ};
+ghost use Rattle.std.specs.Prelude.{◌≡◌, ◌+◌, ◌-◌, ◌*◌, ◌<◌, ◌≤◌, ◌↔◌, IsTrue, IfOk, OnOk, Some, None, MatchOption, length, ℕ};
 ghost use Rattle.fleet_model.specs.Geometry.{place_of, moved};
-ghost use Rattle.fleet_grid.specs.Ground.{is_passable};
+ghost use Rattle.fleet_grid.specs.Ground.{is_passable, IsGround};
 ghost use Rattle.fleet_plan.specs.Plan.{AreNeighbours};
 ghost use Rattle.fleet_model.specs.declared.geometry.Cell.{Cell};
-ghost use Rattle.fleet_search.specs.Reserved.{IsFreeOn};
-ghost use Rattle.fleet_search.specs.Search.{IsExpanded, far_of, IsMeasured, IsMove, IsKnown, IsEnd, IsLeft, FrontierIs, Grows, IsAsked, IsTrail, IsFreeUntil, IsFoundAt, IsFoundFrom, IsBefore, stack_in};
+ghost use Rattle.fleet_search.specs.Reserved.{IsFree, IsFreeOn};
+ghost use Rattle.fleet_search.specs.Way.{StepFits};
+ghost use Rattle.fleet_search.specs.Gaps.{AreApart, IsInGap};
+ghost use Rattle.fleet_search.specs.Rows.{label_in};
+ghost use Rattle.fleet_search.specs.Search.{far_of, stays_on, IsMeasured, IsEnd, IsSlot, IsLeft, IsLeaving, FrontierIs, HasRows, Grows, IsAsked, IsTrail, IsFreeUntil, IsFoundAt, IsFoundIn, IsFoundFrom, IsBefore, IsSwept, IsFound, IsSeen, moment_in};
 
 use crate::distances::Distances;
-use crate::moment::{Moment, note, noted, same};
+use crate::gaps::{first_in, is_in_gap, next_begin};
+use crate::moment::{Moment, same};
 use crate::reservations::Reservations;
-use crate::stacks::{put, take};
+use crate::rows::{clear, label, put, set_label, take};
+use crate::stay::Stay;
+use crate::timetable::{begun, stays_on};
 use fleet_grid::Grid;
 use fleet_model::{Cell, Dir, OutOfMemory};
 use fleet_plan::Path;
 use std::alloc::Global;
-use std::collections::HashMap;
 
 /// What is searched for: a path from `start` to `goal` that arrives by the horizon, and not before `rest`.
 #[derive(Drop)]
 pub struct Question<'a> {
     pub grid: &'a Grid,
     pub reserved: &'a Reservations,
+    /// For each cell the stays of the reserved agents there.
+    pub rows: &'a [Vec<Vec<Stay>>],
     pub distances: &'a Distances,
     pub start: Cell,
     pub goal: Cell,
@@ -43,123 +50,218 @@ impl Question<'_> {
     {
         self.distances.from(self.grid, cell)
     }
+
+    /// The stays of the reserved agents on the cell, in the order of time.
+    fn stays(&self, cell: Cell) -> &[Stay]
+        ensures { result.now ≡ stays_on self.now cell }
+    {
+        stays_on(self.rows, cell)
+    }
+
+    /// Until when the agent may wait on the cell.
+    fn until(&self, at: Moment) -> u32
+        requires measured { IsMeasured self.now }
+        requires free { IsFree self.now.reserved.now at.time at.cell }
+        ensures { IsFreeUntil self.now at result }
+    {
+        next_begin(self.stays(at.cell), at.time)
+    }
+
+    /// Whether the step that begins at the time fits, where nobody is on the cell at its end.
+    fn fits(&self, left: Leaving, cell: Cell, begin: u32) -> bool
+        requires few { begin < 4294967295 }
+        requires until { IsFreeUntil self.now left.at left.until }
+        requires waits { left.at.time ≤ begin }
+        requires free { IsFree self.now.reserved.now (begin + 1) cell }
+        ensures { IsTrue result ↔ StepFits self.now.reserved.now begin left.at.cell cell }
+    {
+        // Nobody comes to the cell that is left.
+        if begin + 1 < left.until {
+            return true;
+        }
+        self.reserved.step_fits(begin, left.at.cell, cell)
+    }
+
+    /// The stack for a moment at this time, so far from the goal.
+    fn slot(&self, time: u32, far: u32) -> u32
+        requires horizon { time + far ≤ 65535 }
+        ensures { (cell : Cell) → far ≡ far_of self.now cell → IsSlot self.now (record { time = time; cell = cell }) result }
+    {
+        if time + far <= self.rest {
+            far
+        } else {
+            time + far
+        }
+    }
 }
 
-/// The moments at which cells were reached, each with the moment at which the cell before was, and those that are
-/// still to be left.
+/// A moment that was reached, and the place in the list of the moment from which it was.
+#[derive(Clone, Copy, Debug)]
+pub struct Arrival {
+    pub at: Moment,
+    pub from: usize,
+}
+
+/// A moment that is being left: its place in the list, and until when the agent may wait there.
+#[derive(Clone, Copy, Debug)]
+pub struct Leaving {
+    pub place: usize,
+    pub at: Moment,
+    pub until: u32,
+}
+
+/// The moments that were reached, and those that are still to be left.
 #[derive(Drop)]
 pub struct Frontier {
     pub alloc: Global,
-    pub came: HashMap<Moment, Moment>,
-    /// When cells were reached first, for each time since which they are free.
-    pub best: HashMap<Moment, u32>,
-    pub stacks: Vec<Vec<Moment>>,
+    pub reached: Vec<Arrival>,
+    /// For each cell and each gap between stays there the place of the earliest arrival. Labels of earlier searches stay:
+    /// a label counts only where what stands at its place is an arrival in the gap.
+    pub labels: Vec<Vec<usize>>,
+    /// The places of the moments that are still to be left.
+    pub stacks: Vec<Vec<usize>>,
 }
 
 impl Frontier {
-    /// Notes that the cell is reached by the step that begins at the time, where that fits and is not too late, and the
-    /// cell was not reached before while it is free.
+    pub fn new(alloc: Global, grid: &Grid) -> Result<Frontier, OutOfMemory>
+        ensures { IfOk result (HasRows grid.now) }
+    {
+        let mut labels = Vec::new(alloc);
+        for _row in 0..usize::from(grid.width()) * usize::from(grid.height()) {
+            labels.push(Vec::new(alloc))?;
+        }
+        Ok(Frontier {
+            alloc,
+            reached: Vec::new(alloc),
+            labels,
+            stacks: Vec::new(alloc),
+        })
+    }
+
+    /// Whether the place is that of an arrival in the gap, at the time or before.
+    fn is_seen(&self, stays: &[Stay], cell: Cell, gap: usize, time: u32, place: usize) -> bool
+        requires apart { AreApart stays.now }
+        requires gap { gap ≤ length stays.now }
+        ensures { IsTrue result ↔ IsSeen self.now.reached.items stays.now cell gap time place }
+    {
+        if place >= self.reached.len() {
+            return false;
+        }
+        let seen = self.reached[place].at;
+        same(seen.cell, cell) && seen.time <= time && is_in_gap(stays, gap, seen.time)
+    }
+
+    /// Notes that the cell is reached in the gap by the step that begins at the time, where that fits and is not too late,
+    /// and the cell was not reached before in the gap.
     fn step_to(
         &mut self,
         question: &Question,
-        length: u32,
-        left: Moment,
-        begin: u32,
+        slot: u32,
+        left: Leaving,
         cell: Cell,
+        gap: usize,
+        begin: u32,
     ) -> Result<(), OutOfMemory>
         requires horizon { question.now.horizon ≤ 65535 }
-        requires frontier { FrontierIs question.now length (Some left) self.old }
-        requires left { IsLeft question.now length self.old left }
-        requires waits { left.time ≤ begin }
-        requires free { IsFreeOn question.now.reserved.now left.cell left.time begin }
-        requires beside { AreNeighbours left.cell cell }
+        requires frontier { FrontierIs question.now (slot - 1) (Some left.place) self.old }
+        requires left { IsLeaving question.now slot self.old left }
+        requires waits { left.at.time ≤ begin }
+        requires free { begin < left.until }
+        requires gap { IsInGap (stays_on question.now cell) gap (begin + 1) }
+        requires beside { AreNeighbours left.at.cell cell }
         requires passable { IsTrue (is_passable question.now.grid.now (place_of cell)) }
-        ensures frontier { OnOk result (FrontierIs question.now length (Some left) self.new) }
-        ensures found { OnOk result (IsFoundAt question.now self.new.came left cell begin) }
-        ensures grows { OnOk result (Grows length self.old self.new) }
-        ensures left { OnOk result (IsLeft question.now length self.new left) }
+        ensures frontier { OnOk result (FrontierIs question.now (slot - 1) (Some left.place) self.new) }
+        ensures found { OnOk result (IsFoundAt question.now self.new.reached.items left.at cell begin) }
+        ensures grows { OnOk result (Grows self.old self.new) }
+        ensures left { OnOk result (IsLeaving question.now slot self.new left) }
     {
         if begin >= question.horizon {
             return Ok(());
         }
         let time = begin + 1;
-        let total = time + question.far(cell);
-        if total > question.horizon {
+        let far = question.far(cell);
+        if time + far > question.horizon {
             return Ok(());
         }
-        if !question.reserved.step_fits(begin, left.cell, cell) {
+        let row = question.grid.cell_index(cell);
+        let seen = label(self.labels.as_slice(), row, gap);
+        if self.is_seen(question.stays(cell), cell, gap, time, seen) {
             return Ok(());
         }
-        let since = question.reserved.free_since(cell, time);
-        if let Some(before) = noted(&self.best, Moment { time: since, cell }) {
-            if before <= time {
-                return Ok(());
-            }
-        }
-        if noted(&self.came, Moment { time, cell }).is_some() {
+        if !question.fits(left, cell, begin) {
             return Ok(());
         }
-        note(&mut self.came, Moment { time, cell }, left)?;
-        note(&mut self.best, Moment { time: since, cell }, time)?;
-        put(self.alloc, &mut self.stacks, total, Moment { time, cell })?;
+        let place = self.reached.len();
+        let at = Moment { time, cell };
+        self.reached.push(Arrival {
+            at,
+            from: left.place,
+        })?;
+        set_label(&mut self.labels, row, gap, place)?;
+        put(
+            self.alloc,
+            &mut self.stacks,
+            question.slot(time, far),
+            place,
+        )?;
         Ok(())
     }
 
-    /// The same for the step that ends at the time, where the agent can wait for so long.
-    fn step_at(
+    /// The same for the earliest time in the gap at which the agent may come to the cell.
+    fn step_in_gap(
         &mut self,
         question: &Question,
-        length: u32,
-        left: Moment,
-        until: u32,
+        slot: u32,
+        left: Leaving,
         cell: Cell,
-        time: u32,
+        gap: usize,
     ) -> Result<(), OutOfMemory>
         requires horizon { question.now.horizon ≤ 65535 }
-        requires frontier { FrontierIs question.now length (Some left) self.old }
-        requires left { IsLeft question.now length self.old left }
-        requires until { IsFreeUntil question.now left until }
-        requires beside { AreNeighbours left.cell cell }
+        requires frontier { FrontierIs question.now (slot - 1) (Some left.place) self.old }
+        requires left { IsLeaving question.now slot self.old left }
+        requires few { left.at.time < 4294967295 }
+        requires gap { gap ≤ length (stays_on question.now cell) }
+        requires beside { AreNeighbours left.at.cell cell }
         requires passable { IsTrue (is_passable question.now.grid.now (place_of cell)) }
-        ensures frontier { OnOk result (FrontierIs question.now length (Some left) self.new) }
-        ensures found { OnOk result (left.time < time → time ≤ until → IsFoundAt question.now self.new.came left cell (time - 1)) }
-        ensures grows { OnOk result (Grows length self.old self.new) }
-        ensures left { OnOk result (IsLeft question.now length self.new left) }
+        ensures frontier { OnOk result (FrontierIs question.now (slot - 1) (Some left.place) self.new) }
+        ensures found { OnOk result (IsFoundIn question.now self.new.reached.items left.at cell gap) }
+        ensures grows { OnOk result (Grows self.old self.new) }
+        ensures left { OnOk result (IsLeaving question.now slot self.new left) }
     {
-        if time <= left.time {
+        let Some(time) = first_in(question.stays(cell), gap, left.at.time + 1) else {
+            return Ok(());
+        };
+        if time > left.until {
             return Ok(());
         }
-        if until < time {
-            return Ok(());
-        }
-        self.step_to(question, length, left, time - 1, cell)?;
+        self.step_to(question, slot, left, cell, gap, time - 1)?;
         Ok(())
     }
 
-    /// The same for each time at which the agent may come to the cell: at once, and when somebody has left it.
+    /// The same for each gap in which the agent may come to the cell.
     fn step_in_turn(
         &mut self,
         question: &Question,
-        length: u32,
-        left: Moment,
-        until: u32,
+        slot: u32,
+        left: Leaving,
         cell: Cell,
     ) -> Result<(), OutOfMemory>
         requires horizon { question.now.horizon ≤ 65535 }
-        requires frontier { FrontierIs question.now length (Some left) self.old }
-        requires left { IsLeft question.now length self.old left }
-        requires until { IsFreeUntil question.now left until }
-        requires few { left.time < 4294967295 }
-        requires beside { AreNeighbours left.cell cell }
+        requires frontier { FrontierIs question.now (slot - 1) (Some left.place) self.old }
+        requires left { IsLeaving question.now slot self.old left }
+        requires few { left.at.time < 4294967295 }
+        requires beside { AreNeighbours left.at.cell cell }
         requires passable { IsTrue (is_passable question.now.grid.now (place_of cell)) }
-        ensures frontier { OnOk result (FrontierIs question.now length (Some left) self.new) }
-        ensures found { OnOk result (IsFoundFrom question.now self.new.came left cell) }
-        ensures grows { OnOk result (Grows length self.old self.new) }
-        ensures left { OnOk result (IsLeft question.now length self.new left) }
+        ensures frontier { OnOk result (FrontierIs question.now (slot - 1) (Some left.place) self.new) }
+        ensures found { OnOk result (IsFoundFrom question.now self.new.reached.items left.at cell) }
+        ensures grows { OnOk result (Grows self.old self.new) }
+        ensures left { OnOk result (IsLeaving question.now slot self.new left) }
     {
-        self.step_at(question, length, left, until, cell, left.time + 1)?;
-        for change in question.reserved.changes(cell) {
-            self.step_at(question, length, left, until, cell, *change)?;
+        let stays = question.stays(cell);
+        let first = begun(stays, left.at.time + 1);
+        let last = begun(stays, left.until);
+        for gap in first..last + 1 {
+            self.step_in_gap(question, slot, left, cell, gap)?;
         }
         Ok(())
     }
@@ -168,135 +270,129 @@ impl Frontier {
     fn step_towards(
         &mut self,
         question: &Question,
-        length: u32,
-        left: Moment,
-        until: u32,
+        slot: u32,
+        left: Leaving,
         dir: Dir,
     ) -> Result<(), OutOfMemory>
         requires horizon { question.now.horizon ≤ 65535 }
-        requires frontier { FrontierIs question.now length (Some left) self.old }
-        requires left { IsLeft question.now length self.old left }
-        requires until { IsFreeUntil question.now left until }
-        requires few { left.time < 4294967295 }
-        ensures frontier { OnOk result (FrontierIs question.now length (Some left) self.new) }
-        ensures found { OnOk result ((c : Cell) → place_of c ≡ moved (place_of left.cell) dir → IsFoundFrom question.now self.new.came left c) }
-        ensures grows { OnOk result (Grows length self.old self.new) }
-        ensures left { OnOk result (IsLeft question.now length self.new left) }
+        requires frontier { FrontierIs question.now (slot - 1) (Some left.place) self.old }
+        requires left { IsLeaving question.now slot self.old left }
+        requires few { left.at.time < 4294967295 }
+        ensures frontier { OnOk result (FrontierIs question.now (slot - 1) (Some left.place) self.new) }
+        ensures found { OnOk result ((c : Cell) → place_of c ≡ moved (place_of left.at.cell) dir → IsFoundFrom question.now self.new.reached.items left.at c) }
+        ensures grows { OnOk result (Grows self.old self.new) }
+        ensures left { OnOk result (IsLeaving question.now slot self.new left) }
     {
-        match question.grid.neighbour(left.cell, dir) {
+        match question.grid.neighbour(left.at.cell, dir) {
             None => Ok(()),
-            Some(beside) => self.step_in_turn(question, length, left, until, beside),
+            Some(beside) => self.step_in_turn(question, slot, left, beside),
         }
     }
 
     /// Notes all that is reached from the moment that is left.
-    fn leave(&mut self, question: &Question, length: u32, left: Moment) -> Result<(), OutOfMemory>
+    fn leave(
+        &mut self,
+        question: &Question,
+        slot: u32,
+        place: usize,
+        at: Moment,
+    ) -> Result<(), OutOfMemory>
         requires horizon { question.now.horizon ≤ 65535 }
-        requires frontier { FrontierIs question.now length (Some left) self.old }
-        requires left { IsLeft question.now length self.old left }
-        requires not_end { IsEnd question.now left → ⊥ }
-        ensures frontier { OnOk result (FrontierIs question.now length None self.new) }
-        ensures grows { OnOk result (Grows length self.old self.new) }
+        requires frontier { FrontierIs question.now (slot - 1) (Some place) self.old }
+        requires left { IsLeft question.now slot self.old place at }
+        requires not_end { IsEnd question.now at → ⊥ }
+        ensures frontier { OnOk result (FrontierIs question.now (slot - 1) None self.new) }
+        ensures grows { OnOk result (Grows self.old self.new) }
     {
-        let until = question.reserved.free_until(left.cell, left.time);
-        self.step_towards(question, length, left, until, Dir::North)?;
-        self.step_towards(question, length, left, until, Dir::East)?;
-        self.step_towards(question, length, left, until, Dir::South)?;
-        self.step_towards(question, length, left, until, Dir::West)?;
+        let until = question.until(at);
+        let left = Leaving { place, at, until };
+        self.step_towards(question, slot, left, Dir::North)?;
+        self.step_towards(question, slot, left, Dir::East)?;
+        self.step_towards(question, slot, left, Dir::South)?;
+        self.step_towards(question, slot, left, Dir::West)?;
         Ok(())
     }
 
-    /// Leaves each moment over which a path of this length may lead, until one of them is an end.
-    pub fn sweep(&mut self, question: &Question, length: u32) -> Result<Option<Moment>, OutOfMemory>
+    /// Leaves the moments of the stack, the one that was put on last first, until one is an end, something new is reached,
+    /// or none is left on the stack.
+    pub fn sweep(&mut self, question: &Question, slot: u32) -> Result<Option<usize>, OutOfMemory>
         requires horizon { question.now.horizon ≤ 65535 }
-        requires frontier { FrontierIs question.now length None self.old }
-        ensures swept { IfOk result (λ end. MatchOption end (FrontierIs question.now (length + 1) None self.new) (λ m. FrontierIs question.now length (Some m) self.new × IsLeft question.now length self.new m × IsEnd question.now m)) }
+        requires frontier { FrontierIs question.now slot None self.old }
+        ensures swept { IfOk result (λ end. MatchOption end (IsSwept question.now slot self.old self.new) (IsFound question.now slot self.new)) }
     {
-        while let Some(left) = take(&mut self.stacks, length) {
-            if same(left.cell, question.goal) && question.rest <= left.time {
-                return Ok(Some(left));
+        let before = self.reached.len();
+        while let Some(place) = take(&mut self.stacks, slot) {
+            let at = self.reached[place].at;
+            if same(at.cell, question.goal) && question.rest <= at.time {
+                return Ok(Some(place));
             }
-            self.leave(question, length, left)?;
+            self.leave(question, slot, place, at)?;
+            if self.reached.len() > before {
+                return Ok(None);
+            }
         }
         Ok(None)
+    }
+
+    /// Begins a search: the start is reached, and nothing else.
+    pub fn open(&mut self, question: &Question) -> Result<(), OutOfMemory>
+        requires asked { IsAsked question.now }
+        requires in_time { far_of question.now question.now.start ≤ question.now.horizon }
+        requires rows { HasRows question.now.grid.now self.old }
+        ensures { OnOk result (FrontierIs question.now 0 None self.new) }
+    {
+        self.reached.clear();
+        clear(&mut self.stacks);
+        let start = question.start;
+        let at = Moment {
+            time: 0,
+            cell: start,
+        };
+        self.reached.push(Arrival { at, from: 0 })?;
+        let row = question.grid.cell_index(start);
+        let gap = begun(question.stays(start), 0);
+        set_label(&mut self.labels, row, gap, 0)?;
+        let slot = question.slot(0, question.far(start));
+        put(self.alloc, &mut self.stacks, slot, 0)?;
+        Ok(())
     }
 }
 
 impl Frontier {
     /// The visit of one step before the time: that of the cell before where the agent has just come, else the same.
-    fn before(
-        &self,
-        question: &Question,
-        length: u32,
-        last: Moment,
-        visit: Moment,
-        time: u32,
-    ) -> Moment
-        requires frontier { FrontierIs question.now length (Some last) self.now }
-        requires known { IsKnown self.now.came visit }
+    fn before(&self, question: &Question, slot: u32, last: usize, visit: usize, time: u32) -> usize
+        requires frontier { FrontierIs question.now slot (Some last) self.now }
+        requires known { visit < length self.now.reached.items }
         requires time { 1 ≤ time }
-        requires early { visit.time ≤ time }
-        requires free { IsFreeOn question.now.reserved.now visit.cell visit.time time }
-        ensures { IsBefore question.now self.now.came time visit result }
+        requires early { (moment_in self.now.reached.items visit).time ≤ time }
+        requires free { IsFreeOn question.now.reserved.now (moment_in self.now.reached.items visit).cell (moment_in self.now.reached.items visit).time time }
+        ensures { IsBefore question.now self.now.reached.items time (moment_in self.now.reached.items visit) result }
     {
         let _asked = question;
-        let _reached = (length, last);
-        if visit.time != time {
+        let _reached = (slot, last);
+        let arrival = self.reached[visit];
+        if arrival.at.time != time {
             return visit;
         }
-        let Some(from) = noted(&self.came, visit) else {
-            unreachable!()
-        };
-        from
+        arrival.from
     }
 
-    /// The path by which the moment was reached.
-    pub fn path_to(
-        &self,
-        question: &Question,
-        length: u32,
-        last: Moment,
-    ) -> Result<Path, OutOfMemory>
+    /// The path by which the moment at this place was reached.
+    pub fn path_to(&self, question: &Question, slot: u32, last: usize) -> Result<Path, OutOfMemory>
         requires horizon { question.now.horizon ≤ 65535 }
-        requires frontier { FrontierIs question.now length (Some last) self.now }
-        requires left { IsLeft question.now length self.now last }
-        ensures { IfOk result (IsTrail question.now last.time last.cell) }
+        requires frontier { FrontierIs question.now slot (Some last) self.now }
+        requires within { last < length self.now.reached.items }
+        ensures { IfOk result (IsTrail question.now (moment_in self.now.reached.items last).time (moment_in self.now.reached.items last).cell) }
     {
+        let end = self.reached[last].at;
         let mut cells = Vec::new(self.alloc);
         let mut visit = last;
-        cells.push(visit.cell)?;
-        for back in 0..last.time {
-            visit = self.before(question, length, last, visit, last.time - back);
-            cells.push(visit.cell)?;
+        cells.push(end.cell)?;
+        for back in 0..end.time {
+            visit = self.before(question, slot, last, visit, end.time - back);
+            cells.push(self.reached[visit].at.cell)?;
         }
         cells.reverse();
         Ok(Path::new(cells))
     }
-}
-
-/// The start is reached, and nothing else.
-pub fn opened(alloc: Global, question: &Question) -> Result<Frontier, OutOfMemory>
-    requires asked { IsAsked question.now }
-    requires in_time { far_of question.now question.now.start ≤ question.now.horizon }
-    ensures { IfOk result (λ s. FrontierIs question.now (far_of question.now question.now.start) None s) }
-{
-    let first = Moment {
-        time: 0,
-        cell: question.start,
-    };
-    let mut frontier = Frontier {
-        alloc,
-        came: HashMap::new(alloc),
-        best: HashMap::new(alloc),
-        stacks: Vec::new(alloc),
-    };
-    note(&mut frontier.came, first, first)?;
-    note(&mut frontier.best, first, 0)?;
-    put(
-        alloc,
-        &mut frontier.stacks,
-        question.far(question.start),
-        first,
-    )?;
-    Ok(frontier)
 }

@@ -7,11 +7,14 @@ mod distances;
 mod earliest_path;
 mod fault;
 mod frontier;
+mod gaps;
 mod laws;
 mod moment;
 mod planner;
 mod reservations;
-mod stacks;
+mod rows;
+mod stay;
+mod timetable;
 
 pub use earliest_path::earliest;
 pub use fault::{PlanStop, SearchFault};

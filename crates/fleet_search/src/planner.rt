@@ -8,6 +8,7 @@ ghost use Rattle.fleet_search.specs.InTurn.{IsMadeInTurn, IsStuckAt};
 use crate::distances::Distances;
 use crate::earliest_path::earliest_over;
 use crate::fault::{PlanStop, SearchFault};
+use crate::frontier::Frontier;
 use crate::reservations::Reservations;
 use fleet_grid::Grid;
 use fleet_plan::{Checked, Plan, PlanFault, check};
@@ -27,12 +28,13 @@ fn plan_in_turn(
 {
     let mut reserved = Reservations::new(alloc);
     let mut distances = Distances::new(alloc, grid)?;
+    let mut frontier = Frontier::new(alloc, grid)?;
     for agent in 0..instance.agents() {
         match earliest_over(
-            alloc,
             grid,
             &reserved,
             &mut distances,
+            &mut frontier,
             instance.start(agent),
             instance.goal(agent),
             horizon,

@@ -4,13 +4,15 @@ ghost use Rattle.std.specs.Prelude.{◌≡◌, ◌≢◌, ◌+◌, ◌<◌, ◌�
 ghost use Rattle.fleet_model.specs.declared.geometry.Cell.{Cell};
 ghost use Rattle.fleet_plan.specs.Plan.{IsPath, cell_at, steps};
 ghost use Rattle.fleet_search.specs.Way.{Fits, FitTogether, StepFits, arrival};
-ghost use Rattle.fleet_search.specs.Reserved.{IsOn, IsFree, IsFreeFrom, LeadsBack, IsEntered, KeepsOthers, IsStillFrom, until_of, IsFreeOn, AreChanges, changes_of, ChangesStay, IsStepNoted};
+ghost use Rattle.fleet_search.specs.Stays.{HaveStays};
+ghost use Rattle.fleet_search.specs.Reserved.{IsOn, IsFree, IsFreeFrom, LeadsBack, IsFreeOn};
 
-use crate::moment::{Moment, note, noted, same};
+use crate::moment::same;
+use crate::stay::Stay;
+use crate::timetable::{begun, enter, stays_on};
 use fleet_model::{Cell, OutOfMemory};
 use fleet_plan::Path;
 use std::alloc::Global;
-use std::collections::HashMap;
 use std::marker::Model;
 
 /// Paths that are free of conflict with one another. Who stands where at what time is found at once.
@@ -18,23 +20,20 @@ use std::marker::Model;
 pub struct Reservations {
     alloc: Global,
     paths: Vec<Path>,
-    moving: HashMap<Moment, usize>,
-    resting: HashMap<Cell, usize>,
-    visited: HashMap<Cell, u32>,
-    changes: HashMap<Cell, Vec<u32>>,
+    rows: Vec<Vec<Vec<Stay>>>,
     last: u32,
 }
 
 impl Model for Reservations {
     ghost use Rattle.std.specs.Prelude.{List};
     ghost use Rattle.fleet_model.specs.declared.geometry.Cell.{Cell};
-    ghost use Rattle.fleet_search.specs.Reserved.{IsIndexed, HaveChanges};
+    ghost use Rattle.fleet_search.specs.Stays.{AreReserved};
 
     ghost Value = { List (List Cell) };
 
     ghost view = { λ r. r.paths.items };
 
-    ghost invariant = { λ r. IsIndexed r.paths.items r.moving r.resting r.visited r.last × HaveChanges r.paths.items r.changes };
+    ghost invariant = { λ r. AreReserved r.paths.items r.rows.items r.last };
 }
 
 /// A copy of the path.
@@ -48,83 +47,6 @@ fn copy_of(alloc: Global, path: &Path) -> Result<Path, OutOfMemory>
     Ok(Path::new(cells))
 }
 
-/// Enters the agent at each place of its path. What is said of other places stays.
-fn enter(
-    moving: &mut HashMap<Moment, usize>,
-    resting: &mut HashMap<Cell, usize>,
-    path: &Path,
-    agent: usize,
-) -> Result<(), OutOfMemory>
-    ensures ok { OnOk result (IsEntered path.now moving.new resting.new agent) }
-    ensures kept { KeepsOthers path.now moving.old resting.old moving.new resting.new }
-{
-    let end = path.steps();
-    for time in 0..end {
-        let cell = path.cell(time);
-        note(moving, Moment { time, cell }, agent)?;
-    }
-    resting.insert(path.cell(end), agent)?;
-    Ok(())
-}
-
-/// Notes until when each cell of the path is visited. No cell is noted for a shorter time than before.
-fn visit(visited: &mut HashMap<Cell, u32>, path: &Path) -> Result<(), OutOfMemory>
-    ensures ok { OnOk result ((t : ℕ) → t ≤ arrival path.now → t < until_of visited.new (cell_at path.now t)) }
-    ensures kept { (c : Cell) → until_of visited.old c ≤ until_of visited.new c }
-{
-    for time in 0..path.steps() + 1 {
-        let cell = path.cell(time);
-        let until = visited.get(&cell).copied().unwrap_or(0);
-        if until <= time {
-            visited.insert(cell, time + 1)?;
-        }
-    }
-    Ok(())
-}
-
-/// Notes that an agent enters or leaves the cell at the time.
-fn note_change(
-    alloc: Global,
-    changes: &mut HashMap<Cell, Vec<u32>>,
-    cell: Cell,
-    time: u32,
-) -> Result<(), OutOfMemory>
-    ensures ok { OnOk result (Contains (changes_of changes.new cell) time) }
-    ensures stay { ChangesStay changes.old changes.new }
-{
-    if changes.get(&cell).is_none() {
-        let mut times = Vec::new(alloc);
-        times.push(time)?;
-        changes.insert(cell, times)?;
-        return Ok(());
-    }
-    let Some(times) = changes.get_mut(&cell) else {
-        unreachable!()
-    };
-    times.push(time)?;
-    Ok(())
-}
-
-/// Notes each step of the path on the cells that it leads from and to.
-fn note_changes(
-    alloc: Global,
-    changes: &mut HashMap<Cell, Vec<u32>>,
-    path: &Path,
-) -> Result<(), OutOfMemory>
-    ensures ok { OnOk result ((t : ℕ) → IsStepNoted path.now changes.new t) }
-    ensures stay { ChangesStay changes.old changes.new }
-{
-    for time in 0..path.steps() {
-        let from = path.cell(time);
-        let to = path.cell(time + 1);
-        if !same(from, to) {
-            note_change(alloc, changes, from, time + 1)?;
-            note_change(alloc, changes, to, time + 1)?;
-        }
-    }
-    Ok(())
-}
-
 impl Reservations {
     pub fn new(alloc: Global) -> Reservations
         ensures { result ≡ [] }
@@ -132,10 +54,7 @@ impl Reservations {
         Reservations {
             alloc,
             paths: Vec::new(alloc),
-            moving: HashMap::new(alloc),
-            resting: HashMap::new(alloc),
-            visited: HashMap::new(alloc),
-            changes: HashMap::new(alloc),
+            rows: Vec::new(alloc),
             last: 0,
         }
     }
@@ -149,40 +68,11 @@ impl Reservations {
         self.last
     }
 
-    fn stands(&self, agent: usize, time: u32, cell: Cell) -> bool
-        ensures { IsTrue result ↔ IsOn self.now time cell agent }
+    /// The timetable: for each cell the stays on it.
+    pub fn rows(&self) -> &[Vec<Vec<Stay>>]
+        ensures { HaveStays self.now result.now }
     {
-        agent < self.paths.len() && same(self.paths[agent].cell(time), cell)
-    }
-
-    /// The agent under way that stands on the cell.
-    fn mover(&self, time: u32, cell: Cell) -> Option<usize>
-        ensures some { IfSome result (IsOn self.now time cell) }
-        ensures none { IfNone result ((j : ℕ) → IsOn self.now time cell j → arrival (get_or self.now j []) ≤ time) }
-    {
-        let agent = noted(&self.moving, Moment { time, cell })?;
-        if self.stands(agent, time, cell) {
-            Some(agent)
-        } else {
-            None
-        }
-    }
-
-    /// The agent at the end of its path that stands on the cell.
-    fn rester(&self, time: u32, cell: Cell) -> Option<usize>
-        ensures some { IfSome result (IsOn self.now time cell) }
-        ensures none { IfNone result ((j : ℕ) → IsOn self.now time cell j → time < arrival (get_or self.now j [])) }
-    {
-        match self.resting.get(&cell).copied() {
-            None => None,
-            Some(agent) => {
-                if self.stands(agent, time, cell) {
-                    Some(agent)
-                } else {
-                    None
-                }
-            }
-        }
+        self.rows.as_slice()
     }
 
     /// The agent that stands on the cell at the time.
@@ -190,12 +80,16 @@ impl Reservations {
         ensures some { IfSome result (IsOn self.now time cell) }
         ensures none { IfNone result (IsFree self.now time cell) }
     {
-        if self.still_from(cell) == 0 {
+        let stays = stays_on(self.rows(), cell);
+        let count = begun(stays, time);
+        if count == 0 {
             return None;
         }
-        match self.mover(time, cell) {
-            Some(agent) => Some(agent),
-            None => self.rester(time, cell),
+        let stay = stays[count - 1];
+        if time <= stay.until {
+            Some(stay.agent)
+        } else {
+            None
         }
     }
 
@@ -261,91 +155,16 @@ impl Reservations {
         ensures some { IfSome result (λ s. (t : ℕ) → IsFreeFrom self.now cell t ↔ (s ≤ t)) }
         ensures none { IfNone result ((t : ℕ) → IsFreeFrom self.now cell t → ⊥) }
     {
-        let last = self.steps();
-        let mut since = 0;
-        for time in 0..last + 1 {
-            if self.occupant(time, cell).is_some() {
-                since = time + 1;
+        match stays_on(self.rows(), cell).last() {
+            None => Some(0),
+            Some(stay) => {
+                if stay.until == u32::MAX {
+                    None
+                } else {
+                    Some(stay.until + 1)
+                }
             }
         }
-        if since > last { None } else { Some(since) }
-    }
-
-    /// A time from which on whoever stands on the cell stays there, and nobody comes.
-    pub fn still_from(&self, cell: Cell) -> u32
-        ensures still { IsStillFrom self.now cell result }
-        ensures never { result ≡ 0 → (t : ℕ) → IsFree self.now t cell }
-    {
-        self.visited.get(&cell).copied().unwrap_or(0)
-    }
-
-    /// The times at which an agent enters or leaves the cell, in no order.
-    pub fn changes(&self, cell: Cell) -> &[u32]
-        ensures { AreChanges self.now cell result.now }
-    {
-        match self.changes.get(&cell) {
-            None => &[],
-            Some(times) => times.as_slice(),
-        }
-    }
-
-    /// Whether the time lies between the two, and somebody stands on the cell then.
-    fn is_taken_between(&self, cell: Cell, from: u32, time: u32, until: u32) -> bool
-        ensures taken { IsTrue result → (from < time) × ((time < until) × (IsFree self.now time cell → ⊥)) }
-        ensures free { result ≡ false → from < time → time < until → IsFree self.now time cell }
-    {
-        if time <= from {
-            return false;
-        }
-        if until <= time {
-            return false;
-        }
-        self.occupant(time, cell).is_some()
-    }
-
-    /// The time at which somebody comes to the cell next, after a time at which nobody stands there.
-    pub fn free_until(&self, cell: Cell, from: u32) -> u32
-        requires few { from < 4294967295 }
-        requires free { IsFree self.now from cell }
-        ensures free { (t : ℕ) → from ≤ t → t < result → IsFree self.now t cell }
-        ensures taken { (t : ℕ) → t < 4294967295 → IsFreeOn self.now cell from t → t < result }
-    {
-        let mut until = u32::MAX;
-        for change in self.changes(cell) {
-            if self.is_taken_between(cell, from, *change, until) {
-                until = *change;
-            }
-        }
-        until
-    }
-
-    /// Whether the time lies after the one and up to the other, and somebody stands on the cell just before it.
-    fn is_taken_before(&self, cell: Cell, since: u32, time: u32, until: u32) -> bool
-        ensures taken { IsTrue result → (since < time) × (time ≤ until) }
-        ensures free { result ≡ false → since < time → time ≤ until → IsFree self.now (time - 1) cell }
-    {
-        if time <= since {
-            return false;
-        }
-        if until < time {
-            return false;
-        }
-        self.occupant(time - 1, cell).is_some()
-    }
-
-    /// The time since which nobody stands on the cell, where nobody does at the time.
-    pub fn free_since(&self, cell: Cell, time: u32) -> u32
-        requires { IsFree self.now time cell }
-        ensures early { result ≤ time }
-        ensures free { IsFreeOn self.now cell result time }
-    {
-        let mut since = 0;
-        for change in self.changes(cell) {
-            if self.is_taken_before(cell, since, *change, time) {
-                since = *change;
-            }
-        }
-        since
     }
 
     /// Reserves one more path. A refusal changes nothing.
@@ -355,10 +174,8 @@ impl Reservations {
         ensures err { OnErr result (self.new ≡ self.old) }
     {
         let copy = copy_of(self.alloc, path)?;
-        let agent = self.paths.len();
-        visit(&mut self.visited, path)?;
-        enter(&mut self.moving, &mut self.resting, path, agent)?;
-        note_changes(self.alloc, &mut self.changes, path)?;
+        self.paths.reserve(1)?;
+        enter(self.alloc, &mut self.rows, self.paths.as_slice(), path)?;
         self.paths.push(copy)?;
         self.last = self.last.max(path.steps());
         Ok(())
@@ -371,10 +188,7 @@ impl Reservations {
         let Reservations {
             alloc: _,
             paths,
-            moving: _,
-            resting: _,
-            visited: _,
-            changes: _,
+            rows: _,
             last: _,
         } = self;
         paths

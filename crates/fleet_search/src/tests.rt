@@ -149,6 +149,49 @@ fn the_start_is_crossed_at_once(rt: HostRuntime) -> Result<(), Fail> {
     Ok(())
 }
 
+/// The second agent is on a cell before the first one, which passes it later.
+#[test]
+fn visits_stand_in_the_order_of_time(rt: HostRuntime) -> Result<(), Fail> {
+    let mut reserved = Reservations::new(rt.alloc());
+    let later = path_over(rt.alloc(), &[at(0, 0), at(0, 0), at(1, 0), at(2, 0)])?;
+    assert!(rt; reserved.fits(&later));
+    reserved.reserve(&later)?;
+    let sooner = path_over(rt.alloc(), &[at(1, 1), at(1, 0), at(1, 1)])?;
+    assert!(rt; reserved.fits(&sooner));
+    reserved.reserve(&sooner)?;
+    assert_eq!(rt; reserved.occupant(0, at(1, 0)), None);
+    assert_eq!(rt; reserved.occupant(1, at(1, 0)), Some(1));
+    assert_eq!(rt; reserved.occupant(2, at(1, 0)), Some(0));
+    assert_eq!(rt; reserved.occupant(3, at(1, 0)), None);
+    assert_eq!(rt; reserved.occupant(1024, at(2, 0)), Some(0));
+    assert_eq!(rt; reserved.free_from(at(0, 1)), Some(0));
+    assert_eq!(rt; reserved.free_from(at(1, 0)), Some(3));
+    assert_eq!(rt; reserved.free_from(at(2, 0)), None);
+    Ok(())
+}
+
+/// Where memory is refused once, nothing is changed, and the path is reserved at the second call.
+#[test]
+fn a_refused_path_is_reserved_again(rt: HostRuntime) -> Result<(), Fail> {
+    let mut reserved = Reservations::new(rt.alloc());
+    let first = path_over(
+        rt.alloc(),
+        &[at(0, 0), at(1, 0), at(0, 0), at(1, 0), at(2, 0)],
+    )?;
+    assert!(rt; reserved.fits(&first));
+    if reserved.reserve(&first).is_err() {
+        assert_eq!(rt; reserved.occupant(0, at(0, 0)), None);
+        assert_eq!(rt; reserved.free_from(at(1, 0)), Some(0));
+        assert!(rt; reserved.fits(&first));
+        reserved.reserve(&first)?;
+    }
+    assert_eq!(rt; reserved.steps(), 4);
+    assert_eq!(rt; reserved.occupant(2, at(0, 0)), Some(0));
+    assert_eq!(rt; reserved.occupant(3, at(0, 0)), None);
+    assert_eq!(rt; reserved.free_from(at(1, 0)), Some(4));
+    Ok(())
+}
+
 /// The step of the third agent would close a ring, and it stays where it is waited for.
 #[test]
 fn a_ring_is_avoided_by_waiting(rt: HostRuntime) -> Result<(), Fail> {

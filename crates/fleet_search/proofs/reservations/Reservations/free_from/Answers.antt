@@ -1,16 +1,21 @@
-use Rattle.std.proofs.Common.{◌≡◌, ◌+◌, subst, arith}
-use Rattle.fleet_plan.specs.Plan.{steps}
-use Rattle.fleet_search.proofs.FitCode.{IsFreeSince, since-all, since-never}
+use Rattle.std.proofs.Common.{◌≡◌, length, sym, subst, arith}
+use Rattle.fleet_search.specs.Stays.{AreStays, no_stay}
+use Rattle.fleet_search.proofs.Timetables.{never_visited, never_free, free_from-last}
 use Rattle.fleet_search.proofs.reservations.Reservations.free_from.Goals as goal
 
-pub returns-then-since-last-clause-none : goal.returns-then-since-last-clause-none
-returns-then-since-last-clause-none c =
-    let plan = c.args.self.now in
-    let e : c.loop-time.time ≡ steps plan + 1 = omega (arith, c.steps-last.ensures.value) in
-    since-never plan c.args.cell c.loop-time.since (subst (IsFreeSince plan c.args.cell c.loop-time.since) e c.loop-time.invariant) (omega (arith, c.steps-last.ensures.value))
+pub returns-in-None-clause-some : goal.returns-in-None-clause-some
+returns-in-None-clause-some c =
+    let h = subst (AreStays c.args.self.now c.args.cell) (sym c.stays_on.ensures) (c.rows.ensures c.args.cell) in
+    never_visited c.args.self.now c.args.cell c.stays_on.result.now h (omega (arith, c.in-None.ensures.item.3))
 
-pub returns-else-since-last-clause-some : goal.returns-else-since-last-clause-some
-returns-else-since-last-clause-some c =
-    let plan = c.args.self.now in
-    let e : c.loop-time.time ≡ steps plan + 1 = omega (arith, c.steps-last.ensures.value) in
-    since-all plan c.args.cell c.loop-time.since (subst (IsFreeSince plan c.args.cell c.loop-time.since) e c.loop-time.invariant) (omega (arith, c.steps-last.ensures.value))
+pub returns-then-stay-clause-none : goal.returns-then-stay-clause-none
+returns-then-stay-clause-none c =
+    let h = subst (AreStays c.args.self.now c.args.cell) (sym c.stays_on.ensures) (c.rows.ensures c.args.cell) in
+    let last = c.in-Some.ensures.item.3 in
+    never_free c.args.self.now c.args.cell c.stays_on.result.now h c.in-Some.stay.now last.0 (last.1 no_stay) c.if-stay.true
+
+pub returns-else-stay-clause-some : goal.returns-else-stay-clause-some
+returns-else-stay-clause-some c =
+    let h = subst (AreStays c.args.self.now c.args.cell) (sym c.stays_on.ensures) (c.rows.ensures c.args.cell) in
+    let last = c.in-Some.ensures.item.3 in
+    free_from-last c.args.self.now c.args.cell c.stays_on.result.now h c.in-Some.stay.now last.0 (last.1 no_stay) c.if-stay.false

@@ -1,0 +1,182 @@
+-- Gaps between stays.
+use Rattle.std.proofs.Common.{◌≡◌, ℕ, zero, suc, ◌+◌, ◌-◌, ◌<◌, ◌≤◌, ◌⊎◌, inl, inr, List, length, get_or, refl, sym, ap, ◌∙◌, subst, arith}
+use Rattle.std.specs.List.Sorted.{IsPartitionPoint}
+use Rattle.std.proofs.lemmas.Bool.{cases_eq, cases_lt}
+use Rattle.std.proofs.lemmas.List.{get_or_default}
+use Rattle.fleet_model.specs.declared.geometry.Cell.{Cell}
+use Rattle.fleet_plan.specs.Plan.{Plan}
+use Rattle.fleet_search.specs.declared.stay.Stay.{Stay}
+use Rattle.fleet_search.specs.Stays.{stay_at, no_stay, IsDuring, AreStays, AreInOrder}
+use Rattle.fleet_search.specs.Gaps.{AreApart, IsOver, IsInGap, AreBegun, IsFirstIn, IsNextBegin}
+use Rattle.fleet_search.specs.Reserved.{IsFree, IsFreeOn}
+
+-- ---- lists of stays
+
+pub stays-apart : (plan : Plan) (c : Cell) (stays : List Stay) → AreStays plan c stays → AreApart stays
+stays-apart plan c stays s = record { some_time = λ i h. (s.each i h).some_time; apart = s.apart }
+
+-- each begins before all later ones
+apart-from : (stays : List Stay) → AreApart stays → (i j : ℕ) → i ≤ j → j < length stays → (stay_at stays i).from ≤ (stay_at stays j).from
+apart-from stays a i j h l = elim (cases_eq i j) [
+  | inl e ↦ let z = ap (λ z. (stay_at stays z).from) e in omega arith
+  | inr ne ↦ let x = a.apart i j (omega arith) l in let y = a.some_time i (omega arith) in omega arith
+]
+
+pub apart-in_order : (stays : List Stay) → AreApart stays → AreInOrder stays
+apart-in_order stays a i j d h l =
+    let x = apart-from stays a i j h l in
+    let y = ap (λ (z : Stay). z.from) (get_or_default stays i d no_stay (omega arith)) in
+    let z = ap (λ (z : Stay). z.from) (get_or_default stays j d no_stay l) in
+    omega arith
+
+pub begun-point : (stays : List Stay) (t n : ℕ) → n ≤ length stays → IsPartitionPoint (λ (s : Stay). s.from ≤ t) (λ (s : Stay). t < s.from) stays n → AreBegun stays t n
+begun-point stays t n b p = record { bound = b; begun = λ i h. p.0 i no_stay (omega arith) h; to_come = λ i h l. p.1 i no_stay h l }
+
+-- ---- the gap of a time
+
+earlier : (stays : List Stay) → AreApart stays → (t n k : ℕ) → n < k → IsInGap stays n t → IsInGap stays k t → ⊥
+earlier stays a t n k l g h =
+    let b = h.bound in
+    let c = g.to_come n (omega arith) (omega arith) in
+    let o = (h.over n l).0 in
+    let s = a.some_time n (omega arith) in
+    omega arith
+
+pub one_gap : (stays : List Stay) → AreApart stays → (t n k : ℕ) → IsInGap stays n t → IsInGap stays k t → n ≡ k
+one_gap stays a t n k g h = elim (cases_eq n k) [
+  | inl e ↦ e
+  | inr ne ↦ elim (cases_lt n k) [
+    | inl l ↦ absurd (earlier stays a t n k l g h)
+    | inr l ↦ absurd (earlier stays a t k n (omega arith) h g)
+  ]
+]
+
+-- the gap lasts from one time to another
+pub gap-between : (stays : List Stay) (k s t u : ℕ) → IsInGap stays k s → IsInGap stays k t → s ≤ u → u ≤ t → IsInGap stays k u
+gap-between stays k s t u g h a b = record {
+  bound = g.bound;
+  over = λ i l. (let o = (g.over i l).0 in omega arith, (g.over i l).1);
+  to_come = λ i l m. let o = h.to_come i l m in omega arith;
+}
+
+-- what has to be looked at: the stays at both ends of the gap
+pub gap-from_ends : (stays : List Stay) → AreApart stays → (k t : ℕ) → k ≤ length stays → t ≤ 4294967295 → (1 ≤ k → (stay_at stays (k - 1)).until < t) → (k < length stays → t < (stay_at stays k).from) → IsInGap stays k t
+gap-from_ends stays a k t b few past next = record {
+  bound = b;
+  over = λ i h.
+      let p = past (omega arith) in
+      elim (cases_eq i (k - 1)) [
+        | inl e ↦ let z = ap (λ z. (stay_at stays z).until) e in (omega arith, omega arith)
+        | inr ne ↦ let x = a.apart i (k - 1) (omega arith) (omega arith) in let y = a.some_time (k - 1) (omega arith) in (omega arith, omega arith)
+      ];
+  to_come = λ i h l. let n = next (omega arith) in let z = apart-from stays a k i h l in omega arith;
+}
+
+pub gap-past : (stays : List Stay) (k t : ℕ) → IsInGap stays k t → 1 ≤ k → (stay_at stays (k - 1)).until < t
+gap-past stays k t g h = (g.over (k - 1) (omega arith)).0
+
+pub gap-no_end : (stays : List Stay) (k t : ℕ) → IsInGap stays k t → 1 ≤ k → (stay_at stays (k - 1)).until ≡ 4294967295 → ⊥
+gap-no_end stays k t g h e = let o = (g.over (k - 1) (omega arith)).1 in omega arith
+
+pub first-found : (stays : List Stay) (k from t : ℕ) → from ≤ t → ((s : ℕ) → from ≤ s → IsInGap stays k s → t ≤ s) → IsInGap stays k t → IsFirstIn stays k from t
+first-found stays k from t h f g = record { later = h; inside = g; first = f }
+
+pub first-none : (stays : List Stay) → AreApart stays → (k from t : ℕ) → k ≤ length stays → t ≤ 4294967295 → (1 ≤ k → (stay_at stays (k - 1)).until < t) → ((s : ℕ) → from ≤ s → IsInGap stays k s → t ≤ s) → (IsInGap stays k t → ⊥) → (s : ℕ) → from ≤ s → IsInGap stays k s → ⊥
+first-none stays a k from t b few past first out s h g =
+    out (gap-from_ends stays a k t b few past (λ l. let z = g.to_come k (omega arith) l in let f = first s h g in omega arith))
+
+-- ---- how many stays have begun
+
+begun-below : (stays : List Stay) → AreApart stays → (t m : ℕ) → m ≤ length stays → (n : ℕ) × (n ≤ m) × ((i : ℕ) → i < n → (stay_at stays i).from ≤ t) × ((i : ℕ) → n ≤ i → i < m → t < (stay_at stays i).from)
+begun-below stays a t zero b = (0, omega arith, (λ i h. absurd (omega arith)), (λ i h l. absurd (omega arith)))
+begun-below stays a t (suc m) b = elim (cases_lt t (stay_at stays m).from) [
+  | inr l ↦ (m + 1, omega arith, (λ i h. let z = apart-from stays a i m (omega arith) (omega arith) in omega arith), (λ i h k. absurd (omega arith)))
+  | inl l ↦
+      let w = begun-below stays a t m (omega arith) in
+      let low = w.1 in (
+        w.0,
+        omega arith,
+        w.2,
+        (λ i h k. elim (cases_eq i m) [
+          | inl e ↦ let z = ap (λ z. (stay_at stays z).from) e in omega arith
+          | inr ne ↦ w.3 i h (omega arith)
+        ]),
+      )
+]
+
+begun-some : (stays : List Stay) → AreApart stays → (t : ℕ) → (n : ℕ) × AreBegun stays t n
+begun-some stays a t =
+    let w = begun-below stays a t (length stays) (omega arith) in
+    (w.0, record { bound = w.1; begun = w.2; to_come = w.3 })
+
+-- ---- gaps in the plan
+
+module _ (plan : Plan) (c : Cell) (stays : List Stay) (s : AreStays plan c stays) where
+  -- in a gap nobody is on the cell
+  pub gap-free : (k t : ℕ) → IsInGap stays k t → IsFree plan t c
+  gap-free k t g j h on =
+      let w = s.all t j (record { agent = h; on = on }) in
+      elim (cases_lt w.0 k) [
+        | inl l ↦ let o = g.over w.0 l in elim w.2.1 [ inl x ↦ (let y = o.0 in omega arith) | inr x ↦ (let y = o.1 in omega arith) ]
+        | inr l ↦ let o = g.to_come w.0 l w.1 in let d = w.2.0 in omega arith
+      ]
+
+  pub gap-free_on : (k t u : ℕ) → IsInGap stays k t → IsInGap stays k u → IsFreeOn plan c t u
+  gap-free_on k t u g h x a b = gap-free k x (gap-between stays k t u x g h a b)
+
+  -- somebody is on the cell during a stay
+  during-taken : (i t : ℕ) → i < length stays → IsDuring (stay_at stays i) t → IsFree plan t c → ⊥
+  during-taken i t h d free = free (stay_at stays i).agent (s.each i h).agent ((s.each i h).on t d)
+
+  -- where nobody is on the cell, the time is in the gap after the stays that have begun
+  pub free-gap : (t n : ℕ) → t ≤ 4294967295 → AreBegun stays t n → IsFree plan t c → IsInGap stays n t
+  free-gap t n few b free = record {
+    bound = b.bound;
+    over = λ i h. elim (cases_lt (stay_at stays i).until t) [
+      | inl l ↦ (l, omega arith)
+      | inr l ↦ let m = b.bound in absurd (during-taken i t (omega arith) (b.begun i h, inl l) free)
+    ];
+    to_come = b.to_come;
+  }
+
+  pub some_gap : (t : ℕ) → t ≤ 4294967295 → IsFree plan t c → (n : ℕ) × IsInGap stays n t
+  some_gap t few free = let w = begun-some stays (stays-apart plan c stays s) t in (w.0, free-gap t w.0 few w.1 free)
+
+  -- a gap ends when the next stay begins
+  pub free-until : (t until : ℕ) → t ≤ 4294967295 → IsFree plan t c → IsNextBegin stays t until → ((u : ℕ) → t ≤ u → u < until → IsFree plan u c) × ((u : ℕ) → u < 4294967295 → IsFreeOn plan c t u → u < until)
+  free-until t until few free n = (
+    λ u h l. gap-free n.next u (record {
+      bound = n.begun.bound;
+      over = λ i k. let o = ((free-gap t n.next few n.begun free).over i k) in (let z = o.0 in omega arith, o.1);
+      to_come = λ i k m. let z = apart-from stays (stays-apart plan c stays s) n.next i k m in let e = n.here (omega arith) in omega arith;
+    }),
+    λ u h f. elim (cases_lt n.next (length stays)) [
+      | inr l ↦ let e = n.none l in omega arith
+      | inl l ↦ elim (cases_lt u until) [
+        | inl k ↦ k
+        | inr k ↦
+            let e = n.here l in
+            let z = n.begun.to_come n.next (omega arith) l in
+            let x = (s.each n.next l).some_time in
+            absurd (during-taken n.next (stay_at stays n.next).from l (omega arith, inl x) (f (stay_at stays n.next).from (omega arith) (omega arith)))
+      ]
+    ],
+  )
+
+  -- they begin at different times, and none begins late
+  begins-late : (i : ℕ) → i < length stays → i ≤ (stay_at stays i).from
+  begins-late zero h = omega arith
+  begins-late (suc i) h =
+      let z = begins-late i (omega arith) in
+      let x = s.apart i (suc i) (omega arith) h in
+      let y = (s.each i (omega arith)).some_time in
+      omega arith
+
+  pub few-stays : length stays ≤ 65536
+  few-stays = elim (cases_lt 65536 (length stays)) [
+    | inr l ↦ l
+    | inl l ↦
+        let z = begins-late (length stays - 1) (omega arith) in
+        let x = (s.each (length stays - 1) (omega arith)).early in
+        omega arith
+  ]

@@ -1,0 +1,68 @@
+-- Rows of numbers: stacks, and labels.
+use Rattle.std.proofs.Common.{◌≡◌, ◌≢◌, ℕ, ◌+◌, ◌<◌, ◌≤◌, ◌==◌, cond, List, [], ◌∷◌, ◌++◌, length, map, get_or, inl, inr, refl, sym, ap, ◌∙◌, subst, arith}
+use Rattle.std.specs.Prelude.{Vec, set}
+use Rattle.std.specs.declared.alloc.Global.{Global}
+use Rattle.std.proofs.lemmas.Bool.{cases_eq, cases_lt, eqb-true, eq-eqb, false_from_ne_true}
+use Rattle.std.proofs.lemmas.List.{get_or-set_same, get_or-set_other, get_or-map, map-set, map-append, get_or_past, get_or_push, get_or_append_left, length-map, length_push}
+use Rattle.fleet_search.specs.Rows.{row_in, IsPut, label_in, IsLabelSet}
+
+pub row-past : (bs : List (Vec ℕ Global)) (k : ℕ) → length bs ≤ k → row_in bs k ≡ []
+unfolding row_in
+row-past bs k h = get_or_past (map (λ v. v.items) bs) k [] (omega (arith, length-map bs (λ (v : Vec ℕ Global). v.items)))
+
+pub row-read : (bs : List (Vec ℕ Global)) (k : ℕ) (v : Vec ℕ Global) → k < length bs → v ≡ get_or bs k v → row_in bs k ≡ v.items
+unfolding row_in
+row-read bs k v h e = get_or-map (λ v. v.items) bs k v [] h ∙ ap (λ v. v.items) (sym e)
+
+pub row-set : (bs : List (Vec ℕ Global)) (k : ℕ) (v : Vec ℕ Global) → k < length bs → row_in (set bs k v) k ≡ v.items
+unfolding row_in
+row-set bs k v h = ap (λ z. get_or z k []) (map-set (λ v. v.items) bs k v) ∙ get_or-set_same (map (λ v. v.items) bs) k v.items [] (omega (arith, length-map bs (λ (v : Vec ℕ Global). v.items)))
+
+pub row-other : (bs : List (Vec ℕ Global)) (i k : ℕ) (v : Vec ℕ Global) → k ≢ i → row_in (set bs i v) k ≡ row_in bs k
+unfolding row_in
+row-other bs i k v ne = ap (λ z. get_or z k []) (map-set (λ v. v.items) bs i v) ∙ get_or-set_other (map (λ v. v.items) bs) i k v.items [] ne
+
+-- one more row, which is empty
+pub row-more : (bs all : List (Vec ℕ Global)) (v : Vec ℕ Global) (k : ℕ) → v.items ≡ [] → all ≡ bs ++ v ∷ [] → row_in all k ≡ row_in bs k
+unfolding row_in
+row-more bs all v k e g = ap (λ z. get_or (map (λ v. v.items) z) k []) g ∙ ap (λ z. get_or z k []) (map-append (λ v. v.items) bs (v ∷ [])) ∙ elim (cases_lt k (length bs)) [
+  | inl l ↦ get_or_append_left (map (λ v. v.items) bs) (v.items ∷ []) [] k (omega (arith, length-map bs (λ (v : Vec ℕ Global). v.items)))
+  | inr l ↦ past l
+]
+  where
+    past : length bs ≤ k → get_or (map (λ v. v.items) bs ++ v.items ∷ []) k [] ≡ get_or (map (λ v. v.items) bs) k []
+    past l = elim (cases_eq k (length bs)) [
+      | inl s ↦ get_or_push (map (λ v. v.items) bs) v.items [] k (omega (arith, length-map bs (λ (v : Vec ℕ Global). v.items))) ∙ e ∙ sym (get_or_past (map (λ v. v.items) bs) k [] (omega (arith, length-map bs (λ (v : Vec ℕ Global). v.items))))
+      | inr ne ↦ get_or_past (map (λ v. v.items) bs ++ v.items ∷ []) k [] (omega (arith, length-map bs (λ (v : Vec ℕ Global). v.items), length_push (map (λ v. v.items) bs) v.items)) ∙ sym (get_or_past (map (λ v. v.items) bs) k [] (omega (arith, length-map bs (λ (v : Vec ℕ Global). v.items))))
+    ]
+
+-- a number is put last in a row
+pub is_put : (old wide : List (Vec ℕ Global)) (key : ℕ) (m : ℕ) (v w : Vec ℕ Global) → ((k : ℕ) → row_in wide k ≡ row_in old k) → key < length wide → v ≡ get_or wide key v → w.items ≡ v.items ++ m ∷ [] → IsPut old (set wide key w) key m
+is_put old wide key m v w same h e g k = elim (cases_eq k key) [
+  | inl s ↦
+      ap (row_in (set wide key w)) s ∙ row-set wide key w h ∙ g ∙ ap (λ z. z ++ m ∷ []) (sym (row-read wide key v h e) ∙ same key ∙ ap (row_in old) (sym s)) ∙ sym (ap (λ b. cond b (row_in old k ++ m ∷ []) (row_in old k)) (eq-eqb k key s))
+  | inr ne ↦ row-other wide key k w ne ∙ same k ∙ sym (ap (λ b. cond b (row_in old k ++ m ∷ []) (row_in old k)) (false_from_ne_true (k == key) (λ t. ne (eqb-true k key t))))
+]
+
+pub no_numbers : (xs : List ℕ) → length xs ≡ 0 → xs ≡ []
+no_numbers [] h = refl
+no_numbers (x ∷ xs) h = absurd (omega arith)
+
+-- ---- labels
+
+pub label-read : (rows : List (Vec ℕ Global)) (k i : ℕ) (v : Vec ℕ Global) (label : ℕ) → k < length rows → v ≡ get_or rows k v → get_or v.items i 0 ≡ label → label ≡ label_in rows k i
+label-read rows k i v label h e l = sym (ap (λ z. get_or z i 0) (row-read rows k v h e) ∙ l)
+
+-- a row is exchanged for one that has the label, and says the same at other places
+pub label-set : (old new : List (Vec ℕ Global)) (k i label : ℕ) (row : Vec ℕ Global) → length new ≡ length old → k < length old → row_in new k ≡ row.items → ((j : ℕ) → j ≢ k → row_in new j ≡ row_in old j) → get_or row.items i 0 ≡ label → ((n : ℕ) → n ≢ i → get_or row.items n 0 ≡ label_in old k n) → IsLabelSet old new k i label
+label-set old new k i label row size h here elsewhere set others = record {
+  size = size;
+  set = ap (λ z. get_or z i 0) here ∙ set;
+  others = λ j n w. elim (cases_eq j k) [
+    | inr ne ↦ ap (λ z. get_or z n 0) (elsewhere j ne)
+    | inl e ↦ elim w [
+      | inl ne ↦ absurd (ne e)
+      | inr ne ↦ ap (λ z. get_or (row_in new z) n 0) e ∙ ap (λ z. get_or z n 0) here ∙ others n ne ∙ ap (λ z. get_or (row_in old z) n 0) (sym e)
+    ]
+  ];
+}

@@ -14,7 +14,7 @@ use Rattle.fleet_run.specs.declared.source.SourceFault.TheVariants.{Broken, Text
 use Rattle.fleet_run.specs.declared.trace.Report.{Report}
 use Rattle.fleet_run.specs.declared.run.RunFault.{RunFault}
 use Rattle.fleet_run.specs.declared.run.RunFault.TheVariants.{OutOfMemory, Source, Hold, Write, HoldLimit}
-use Rattle.fleet_cli.specs.RehearseCommand.{hold_ticks, hold_last}
+use Rattle.fleet_auto.specs.Trace.{hold_ticks, hold_last}
 use Rattle.fleet_cli.specs.Driven.{DrivesFlushed}
 use Rattle.fleet_cli.specs.DriveCommand.{WritesTrace, IsTraceFault}
 use Rattle.fleet_cli.specs.declared.fault.Fault.TheVariants as f
@@ -104,6 +104,23 @@ module _ (p : Program) (chain : ℕ) (holds : Holds) (last now fault : Option So
       DrivesFlushed p chain holds (record { last = last; now = now; left = left; fault = fault; before = before; taken = after; has_failed = failed }) flushed r in
       subst P (sym write) (inr (refl, (fails, (c, ran, there))))
 
+-- a run under the ticks of a text that came to its end
+module _ (held : List ℕ) (p : Program) (chain : ℕ) (before taken : Option (List ℕ)) (has_failed flushed : Bool) (now failed : Option SourceFault) (left : Holds) where
+  pub trace_of : (r : Report)
+      → DrivesFlushed p chain (hold_ticks p held) (record { last = hold_last p held; now = now; left = left; fault = failed; before = before; taken = taken; has_failed = has_failed }) flushed (Ok r)
+      → WritesTrace p chain held (record { before = before; taken = taken; has_failed = has_failed; is_flushed = flushed })
+  trace_of r d =
+      let same = d.0.the_chain in
+      let number = d.0.held in
+      record {
+        ticks = r.ticks;
+        finish = d.0.finish;
+        no_sooner = subst (λ c. c ≤ r.ticks) same d.1.no_sooner;
+        in_time = subst (λ w. r.ticks ≤ chain + w) number (subst (λ c. r.ticks ≤ c + r.held) same d.1.in_time);
+        delivered = record { written = d.0.taken; working = d.0.working; flushed = d.2 };
+        right_lines = d.0.source.ended;
+      }
+
 -- a run under holds that are read in place, said of the bytes of the holds
 module _ (held : List ℕ) (p : Program) (chain n : ℕ) (s : HoldLines) (before taken : Option (List ℕ)) (has_failed flushed : Bool)
     (now failed : Option SourceFault) (left : Holds) (agents : n ≡ length p)
@@ -125,18 +142,7 @@ module _ (held : List ℕ) (p : Program) (chain n : ℕ) (s : HoldLines) (before
       → DrivesFlushed p chain (ticks_of s.agents s.lines) (record { last = last_of s.agents s.lines; now = now; left = left; fault = failed; before = before; taken = taken; has_failed = has_failed }) flushed (Ok r)
       → WritesTrace p chain held (record { before = before; taken = taken; has_failed = has_failed; is_flushed = flushed })
   unfolding Did
-  trace_end r h =
-      let d = did (Ok r) h in
-      let same = d.0.the_chain in
-      let number = d.0.held in
-      record {
-        ticks = r.ticks;
-        finish = d.0.finish;
-        no_sooner = subst (λ c. c ≤ r.ticks) same d.1.no_sooner;
-        in_time = subst (λ w. r.ticks ≤ chain + w) number (subst (λ c. r.ticks ≤ c + r.held) same d.1.in_time);
-        delivered = record { written = d.0.taken; working = d.0.working; flushed = d.2 };
-        right_lines = d.0.source.ended;
-      }
+  trace_end r h = trace_of held p chain before taken has_failed flushed now failed left r (did (Ok r) h)
 
   pub trace_fault : (fault : RunFault)
       → DrivesFlushed p chain (ticks_of s.agents s.lines) (record { last = last_of s.agents s.lines; now = now; left = left; fault = failed; before = before; taken = taken; has_failed = has_failed }) flushed (Err fault)

@@ -8,3 +8,4 @@ pub mod FileLemmas
 pub mod DriveLemmas
 pub mod ProblemLemmas
 pub mod CommandLemmas
+pub mod AutoLemmas

@@ -3,7 +3,7 @@ use Rattle.std.proofs.Common.{◌≡◌, ℕ, List, Option, Some, None, Result, 
 use Rattle.fleet_model.specs.declared.task.Task.{Task}
 use Rattle.fleet_grid.specs.Ground.{Ground}
 use Rattle.fleet_cli.specs.Files.{Store, IsKept}
-use Rattle.fleet_cli.specs.InstanceCommand.{AreTextsOf}
+use Rattle.fleet_auto.specs.Texts.{AreTextsOf}
 use Rattle.fleet_cli.specs.Output.{Output}
 use Rattle.fleet_cli.specs.RehearseCommand.{AreHoldBytes}
 use Rattle.fleet_cli.specs.Problem.{IsProblemFault, IsAcceptFault, AcceptsTexts, IsTextsFault}

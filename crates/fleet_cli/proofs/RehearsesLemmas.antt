@@ -6,7 +6,8 @@ use Rattle.fleet_grid.specs.Text.{lines}
 use Rattle.fleet_code.specs.Spelling.{Spells}
 use Rattle.fleet_run.specs.HoldText.{HoldLines, ticks_of, last_of}
 use Rattle.fleet_cli.specs.Flushed.{RehearsesFlushed}
-use Rattle.fleet_cli.specs.RehearseCommand.{hold_ticks, hold_last, RehearsesBytes, IsRehearseFault}
+use Rattle.fleet_auto.specs.Trace.{hold_ticks, hold_last}
+use Rattle.fleet_cli.specs.RehearseCommand.{RehearsesBytes, IsRehearseFault}
 use Rattle.fleet_run.specs.declared.source.SourceFault.{SourceFault}
 use Rattle.fleet_run.specs.declared.report.Rehearsal.{Rehearsal}
 use Rattle.fleet_run.specs.declared.run.RunFault.{RunFault}

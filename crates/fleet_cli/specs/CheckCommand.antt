@@ -17,7 +17,7 @@ use Rattle.fleet_cli.specs.Words.{line_text}
 use Rattle.fleet_cli.specs.Lines.{status_of}
 use Rattle.fleet_cli.specs.Output.{Output, IsUnwritten, IsDelivered, IsTold}
 use Rattle.fleet_cli.specs.RehearseCommand.{IsReadFault}
-use Rattle.fleet_cli.specs.InstanceCommand.{AreTextsOf}
+use Rattle.fleet_auto.specs.Texts.{AreTextsOf}
 use Rattle.fleet_cli.specs.declared.fault.Fault.{Fault}
 use Rattle.fleet_cli.specs.declared.fault.Fault.TheVariants as f
 

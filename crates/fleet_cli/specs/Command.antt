@@ -7,7 +7,7 @@ use Rattle.fleet_args.specs.declared.request.Request.{Request}
 use Rattle.fleet_args.specs.declared.request.Request.TheVariants as r
 use Rattle.fleet_args.specs.declared.request.WordStop.{WordStop}
 use Rattle.fleet_args.specs.declared.request.WordStop.TheVariants as w
-use Rattle.fleet_cli.specs.Files.{Store}
+use Rattle.fleet_cli.specs.Files.{Store, IsKept}
 use Rattle.fleet_run.specs.Sink.{Receives, FailsAfter}
 use Rattle.fleet_cli.specs.Words.{line_text}
 use Rattle.fleet_cli.specs.Output.{Output, IsUnwritten, IsDelivered, IsTold}
@@ -19,6 +19,7 @@ use Rattle.fleet_cli.specs.PlanCommand.{RunsPlan}
 use Rattle.fleet_cli.specs.CompileCommand.{RunsCompile}
 use Rattle.fleet_cli.specs.VerifyCommand.{RunsVerify}
 use Rattle.fleet_cli.specs.DriveCommand.{RunsRun}
+use Rattle.fleet_cli.specs.AutoCommand.{RunsAuto}
 use Rattle.fleet_cli.specs.declared.fault.Fault.TheVariants as f
 
 -- what each command does
@@ -32,6 +33,8 @@ RunsRequest files after (r.Verify map scen program agents) out err status = Runs
 RunsRequest files after (r.Run map scen program agents holds) out err status =
     RunsRun files map.now scen.now program.now agents (option_map (λ n. n.now) holds) out err status
 RunsRequest files after (r.Rehearse program holds) out err status = RunsRehearse files program.now (option_map (λ n. n.now) holds) out err status
+RunsRequest files after (r.Auto map scen agents horizon deps holds) out err status =
+    RunsAuto files map.now scen.now agents horizon deps (option_map (λ n. n.now) holds) out err status × IsKept files after
 
 -- why the words are no request was told: help on the output, usage on the other
 abbrev pub StopsAtWords : WordStop → Output → Output → ℕ → Type 0

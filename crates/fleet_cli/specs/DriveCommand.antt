@@ -4,11 +4,12 @@ use Rattle.fleet_model.specs.Program.{Program}
 use Rattle.fleet_model.specs.Machine.{Holds, IsFinish, held_ticks}
 use Rattle.fleet_run.specs.Text.{trace_text}
 use Rattle.fleet_run.specs.declared.source.SourceFault.{SourceFault}
+use Rattle.fleet_auto.specs.Trace.{hold_ticks, hold_last}
 use Rattle.fleet_cli.specs.Driven.{DrivesFlushed}
 use Rattle.fleet_cli.specs.Files.{Store}
 use Rattle.fleet_cli.specs.Lines.{status_of}
 use Rattle.fleet_cli.specs.Output.{Output, IsUnwritten, IsDelivered, IsTold}
-use Rattle.fleet_cli.specs.RehearseCommand.{IsReadFault, AreHoldBytes, hold_ticks, hold_last}
+use Rattle.fleet_cli.specs.RehearseCommand.{IsReadFault, AreHoldBytes}
 use Rattle.fleet_cli.specs.Problem.{AcceptsTexts, IsTextsFault}
 use Rattle.fleet_cli.specs.VerifyCommand.{AreProgramBytes, IsUnread}
 use Rattle.fleet_cli.specs.declared.fault.Fault.{Fault}

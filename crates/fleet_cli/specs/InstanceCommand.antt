@@ -7,8 +7,9 @@ use Rattle.fleet_model.specs.Program.{origin}
 use Rattle.fleet_grid.specs.Ground.{Ground, passable_cells}
 use Rattle.fleet_grid.specs.MapText.{IsMapText, IsFirstMapFault}
 use Rattle.fleet_grid.specs.declared.fault.MapFault.TheVariants as m
-use Rattle.fleet_scen.specs.ScenText.{IsScenText, IsFirstScenFault}
+use Rattle.fleet_scen.specs.ScenText.{IsFirstScenFault}
 use Rattle.fleet_scen.specs.declared.fault.ScenFault.TheVariants as s
+use Rattle.fleet_auto.specs.Texts.{AreTextsOf}
 use Rattle.fleet_cli.specs.Files.{Store, Holds as HasBytes}
 use Rattle.fleet_run.specs.Sink.{FailsAfter}
 use Rattle.fleet_cli.specs.Words.{cell_text, line_text}
@@ -47,11 +48,6 @@ agents_line tasks = line_text (codes "agents" ∷ decimal (length tasks) ∷ [])
 
 abbrev pub instance_text : Ground → List Task → List ℕ
 instance_text g tasks = map_line g ++ (ground_line g ++ (agents_line tasks ++ task_lines tasks (length tasks)))
-
--- the texts stand for this ground and these tasks
-pub record AreTextsOf (map scen : List ℕ) (asked : Option ℕ) (g : Ground) (tasks : List Task) : Type 0 where
-  pub ground : IsMapText map g
-  pub tasks_read : IsScenText scen g asked tasks
 
 -- what the texts stand for was printed, and handed on
 pub record PrintsInstance (map scen : List ℕ) (asked : Option ℕ) (out : Output) : Type 0 where

@@ -15,3 +15,4 @@ pub mod Driven
 pub mod DriveCommand
 pub mod PlanCommand
 pub mod CompileCommand
+pub mod AutoCommand

@@ -8,7 +8,8 @@ use Rattle.fleet_search.specs.InTurn.{IsMadeInTurn, IsStuckAt}
 use Rattle.fleet_search.specs.declared.fault.PlanStop.TheVariants as p
 use Rattle.fleet_run.specs.Sink.{FailsAfter}
 use Rattle.fleet_cli.specs.Files.{Store, Holds as HasBytes}
-use Rattle.fleet_cli.specs.InstanceCommand.{AreTextsOf, AreInstanceBytes}
+use Rattle.fleet_auto.specs.Texts.{AreTextsOf}
+use Rattle.fleet_cli.specs.InstanceCommand.{AreInstanceBytes}
 use Rattle.fleet_cli.specs.Lines.{status_of}
 use Rattle.fleet_cli.specs.Output.{Output, IsUnwritten, IsDelivered, IsTold}
 use Rattle.fleet_cli.specs.Problem.{IsProblemFault}

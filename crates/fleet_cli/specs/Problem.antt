@@ -12,7 +12,7 @@ use Rattle.fleet_code.specs.Reading.{program_at}
 use Rattle.fleet_code.specs.declared.fault.LoadFault.TheVariants as l
 use Rattle.fleet_verify.specs.Parts.{IsAcceptedFor}
 use Rattle.fleet_verify.specs.Faults.{IsFault}
-use Rattle.fleet_cli.specs.InstanceCommand.{AreTextsOf}
+use Rattle.fleet_auto.specs.Texts.{AreTextsOf}
 use Rattle.fleet_cli.specs.declared.fault.Fault.{Fault}
 use Rattle.fleet_cli.specs.declared.fault.Fault.TheVariants as f
 

@@ -2,12 +2,11 @@
 use Rattle.std.specs.Prelude.{◌≡◌, ◌≢◌, ℕ, ◌<◌, List, [], length, ◌⊎◌, Option, None, Some, Err}
 use Rattle.fleet_model.specs.Program.{Program}
 use Rattle.fleet_model.specs.Machine.{Holds}
-use Rattle.fleet_grid.specs.Text.{lines}
 use Rattle.fleet_code.specs.Spelling.{Spells}
 use Rattle.fleet_code.specs.Reading.{program_at}
 use Rattle.fleet_code.specs.declared.fault.LoadFault.TheVariants as l
 use Rattle.fleet_cli.specs.Files.{Store, Holds as HasBytes}
-use Rattle.fleet_run.specs.HoldText.{ticks_of, last_of}
+use Rattle.fleet_auto.specs.Trace.{hold_ticks, hold_last}
 use Rattle.fleet_cli.specs.Flushed.{RehearsesFlushed}
 use Rattle.fleet_cli.specs.Lines.{status_of}
 use Rattle.fleet_cli.specs.Output.{Output, IsUnwritten, IsTold, WritesRehearsal}
@@ -32,13 +31,6 @@ AreHoldBytes files (Some name) bytes = HasBytes files name bytes
 pub record AreRead (files : Option Store) (program : List ℕ) (holds : Option (List ℕ)) (bytes held : List ℕ) : Type 0 where
   pub program_bytes : HasBytes files program bytes
   pub hold_bytes : AreHoldBytes files holds held
-
--- the ticks of the holds, and what comes after them, for the agents of the program
-abbrev pub hold_ticks : Program → List ℕ → Holds
-hold_ticks p held = ticks_of (length p) (lines held)
-
-abbrev pub hold_last : Program → List ℕ → Option SourceFault
-hold_last p held = last_of (length p) (lines held)
 
 -- the rehearsal of the program that the bytes spell was written and handed on, under the holds for which the others stand, and ended
 -- so; of the holds no line was asked for that is no tick's

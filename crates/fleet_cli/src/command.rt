@@ -3,6 +3,7 @@
 ghost use Rattle.std.specs.Prelude.{◌≡◌, ◌∷◌, false, map, string_bytes};
 ghost use Rattle.fleet_cli.specs.Command.{RunsRequest, StopsAtWords, RunsCommand};
 
+use crate::auto_command::run_auto;
 use crate::check_command::run_check;
 use crate::compile_command::run_compile;
 use crate::drive_command::run_run;
@@ -74,6 +75,16 @@ pub fn run_request<F: Files, O: TraceOut, E: TraceOut>(
         Request::Rehearse { program, holds } => {
             run_rehearse(alloc, program, holds, files, out, err)
         }
+        Request::Auto {
+            map,
+            scen,
+            agents,
+            horizon,
+            deps,
+            holds,
+        } => run_auto(
+            alloc, map, scen, agents, horizon, deps, holds, files, out, err,
+        ),
     }
 }
 

@@ -8,9 +8,9 @@ use std::alloc::Global;
 use std::process::Abort;
 use std::test::Fail;
 
-const ROW_MAP: &[u8] = b"type octile\nheight 1\nwidth 5\nmap\n.....\n";
+pub const ROW_MAP: &[u8] = b"type octile\nheight 1\nwidth 5\nmap\n.....\n";
 
-const ROW_SCEN: &[u8] = b"version 1
+pub const ROW_SCEN: &[u8] = b"version 1
 0 m 5 1 2 0 4 0 2
 0 m 5 1 1 0 3 0 2
 0 m 5 1 0 0 2 0 2

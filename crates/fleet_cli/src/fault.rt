@@ -7,6 +7,7 @@ ghost use Rattle.fleet_cli.specs.Lines.{named, named_at, named_by, map_words, sc
 
 use crate::words::{Word, put_line, put_next_word, put_words};
 use fleet_adg::CompileFault;
+use fleet_auto::AutoFault;
 use fleet_code::{HexFault, LoadFault};
 use fleet_grid::MapFault;
 use fleet_model::{ActionId, Cell, Visit};
@@ -32,6 +33,25 @@ pub enum Fault<'a> {
     Run(RunFault),
     Memory,
     File(&'a str),
+}
+
+/// The fault of a step, with its own status and line. Want of memory in any step is `Memory`.
+impl From<AutoFault> for Fault<'_> {
+    ghost use Rattle.std.specs.Prelude.{◌≡◌};
+    ghost use Rattle.fleet_cli.specs.AutoCommand.{step_fault};
+
+    ghost from_gives = { λ fault r. r ≡ step_fault fault };
+
+    fn from(fault: AutoFault) -> Self {
+        match fault {
+            AutoFault::OutOfMemory => Fault::Memory,
+            AutoFault::Map(fault) => Fault::Map(fault),
+            AutoFault::Scen(fault) => Fault::Scen(fault),
+            AutoFault::Plan(stop) => Fault::Search(stop),
+            AutoFault::Compile(fault) => Fault::Compile(fault),
+            AutoFault::Run(fault) => Fault::Run(fault),
+        }
+    }
 }
 
 /// Writes the line of a refusal without fields: its part, its number and its name.

@@ -53,10 +53,12 @@ fn one_refusal_is_told(rt: HostRuntime) -> Result<(), Fail> {
     let write = b"run 4 Write\n".as_slice();
     let hold = b"run 3 Hold line 3\n".as_slice();
     let file = b"file -\n".as_slice();
-    let rows: [(&str, &[u8], &[u8], u8); 5] = [
+    let rows: [(&str, &[u8], &[u8], u8); 7] = [
         ("", write, b"", 0),
         ("rehearse pair", write, b"", 0),
         ("rehearse pair --holds holds", write, hold, 1),
+        ("auto base.map base.scen", write, b"", 0),
+        ("auto base.map base.scen --holds holds", write, hold, 1),
         ("instance base.map base.scen", file, b"", 0),
         ("--help", file, b"", 0),
     ];
@@ -72,5 +74,7 @@ fn one_refusal_is_told(rt: HostRuntime) -> Result<(), Fail> {
         0,
         b"load 2 Magic\n",
         1,
-    )
+    )?;
+    let line = "auto base.map base.scen --horizon 1";
+    expect_line(&rt, rt.alloc(), line, 0, b"search 2 NoPath agent 0\n", 1)
 }

@@ -44,7 +44,7 @@ fn only_memory_may_be_refused(rt: HostRuntime) {
     let write = b"run 4 Write\n".as_slice();
     let file = b"file -\n".as_slice();
     let accepted = b"accepted\nagents 2\nmoves 4\nawaits 2\nchain 3\n".as_slice();
-    let rows: [(&str, &[u8], &[u8], &[u8]); 8] = [
+    let rows: [(&str, &[u8], &[u8], &[u8]); 9] = [
         ("", PAIR_TEXT, b"", write),
         ("rehearse pair --holds holds", LATE_TEXT, b"", write),
         ("rehearse base.map", b"", b"load 2 Magic\n", write),
@@ -58,6 +58,12 @@ fn only_memory_may_be_refused(rt: HostRuntime) {
         ("verify base.map base.scen pair", accepted, b"", file),
         (
             "run base.map base.scen pair --holds holds",
+            LATE_TRACE,
+            b"",
+            write,
+        ),
+        (
+            "auto base.map base.scen --holds holds",
             LATE_TRACE,
             b"",
             write,

@@ -7,20 +7,20 @@ use std::alloc::Global;
 use std::process::Abort;
 use std::test::Fail;
 
-const SQUARE_MAP: &[u8] = b"type octile\nheight 2\nwidth 2\nmap\n..\n..\n";
+pub const SQUARE_MAP: &[u8] = b"type octile\nheight 2\nwidth 2\nmap\n..\n..\n";
 
 /// Four agents that would go round the square.
-const SQUARE_SCEN: &[u8] = b"version 1
+pub const SQUARE_SCEN: &[u8] = b"version 1
 0 m 2 2 0 0 1 0 1
 0 m 2 2 1 0 1 1 1
 0 m 2 2 1 1 0 1 1
 0 m 2 2 0 1 0 0 1
 ";
 
-const BAY_MAP: &[u8] = b"type octile\nheight 2\nwidth 3\nmap\n...\n@.@\n";
+pub const BAY_MAP: &[u8] = b"type octile\nheight 2\nwidth 3\nmap\n...\n@.@\n";
 
 /// Agent 1 waits in a bay until agent 0 has passed.
-const BAY_SCEN: &[u8] = b"version 1\n0 m 3 2 0 0 2 0 2\n0 m 3 2 1 1 0 0 2\n";
+pub const BAY_SCEN: &[u8] = b"version 1\n0 m 3 2 0 0 2 0 2\n0 m 3 2 1 1 0 0 2\n";
 
 /// The words of this line print and tell this, with this status.
 fn expect_plan(

@@ -114,7 +114,7 @@ fn first_faults_of_programs_are_told(rt: HostRuntime) -> Result<(), Fail> {
 
 const RUN: &str = "run base.map base.scen program --holds holds";
 
-const PAIR_TRACE: &[u8] =
+pub const PAIR_TRACE: &[u8] =
     b"0: 1,0 0,0\n1: 2,0 0,0\n2: 3,0 1,0\n3: 3,0 2,0\nagents 2\nticks 3\nchain 3\nheld 0\n";
 
 pub const LATE_TRACE: &[u8] =

@@ -39,6 +39,7 @@ pub fn read_holds<'a, F: Files>(
 ) -> Result<Vec<u8>, Fault<'a>>
     ensures bytes { IfOk result (λ bytes. AreHoldBytes (F.contents files.old) (option_map (λ n. n.now) name.entry) bytes.items) }
     ensures fault { IfErr result (λ fault. (file : List ℕ) × (option_map (λ n. n.now) name.entry ≡ Some file) × IsReadFault file fault) }
+    ensures kept { IsKept (F.contents files.old) (F.contents files.new) }
 {
     match name {
         None => Ok(Vec::new(alloc)),

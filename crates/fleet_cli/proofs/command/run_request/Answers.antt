@@ -20,3 +20,6 @@ returns-in-Plan g c = rw c.in-Plan.is c.run_plan.ensures
 
 pub returns-in-Compile : goal.returns-in-Compile
 returns-in-Compile g c = rw c.in-Compile.is c.run_compile.ensures
+
+pub returns-in-Auto : goal.returns-in-Auto
+returns-in-Auto g c = rw c.in-Auto.is (c.run_auto.ensures.told, c.run_auto.ensures.kept)

@@ -1,5 +1,5 @@
 -- What is read of a map's lines is what they stand for, and what they stand for is read.
-use Rattle.std.proofs.Common.{◌≡◌, ℕ, zero, suc, ◌+◌, ◌<◌, ◌≤◌, Bool, true, false, not, ◌&&◌, leb, eqb, List, [], ◌∷◌, length, map, take, drop, get_or, Some, None, Result, Ok, refl, sym, ap, subst, ◌∙◌, arith, inl, inr}
+use Rattle.std.proofs.Common.{◌≡◌, ℕ, zero, suc, ◌+◌, ◌<◌, ◌≤◌, Bool, true, false, ◌&&◌, leb, eqb, List, [], ◌∷◌, length, map, take, drop, get_or, Some, None, Result, Ok, refl, sym, ap, subst, ◌∙◌, arith, inl, inr}
 use Rattle.std.specs.Prelude.{position, codes, bytes_eq}
 use Rattle.std.specs.List.{AllByRecursion, AllPass, list_all, position_or_len}
 use Rattle.std.proofs.lemmas.Bool.{le-ltb, cases_Bool, eq-eqb, eqb-true, leb-true, le-leb}
@@ -128,10 +128,6 @@ pub header_again : (ls : List Bytes) (w h : ℕ) → IsSizedHeader ls w h → he
 header_again ls w h p = header_read ls w h p.header ∙ rw (sides_again h w p.width p.height) refl
 
 -- ---- rows
-
-not_not : (b : Bool) → not (not b) ≡ b
-not_not true = refl
-not_not false = refl
 
 all_from_none : (line : Bytes) → length line ≤ position_or_len is_no_glyph line → list_all is_glyph line ≡ true
 all_from_none [] past = refl

@@ -67,18 +67,6 @@ pub begins_with_no_word : (number : ℕ) (line : Bytes) → begins_with_word lin
 unfolding path_at cells_in
 begins_with_no_word number line e = rw (no_words_from_front line e) refl
 
-pub words_are_all : (line : Bytes) → begins_with_word line ≡ true → option_map (λ cells. [] ++ cells) (cells_in (words line)) ≡ cells_in (words_from_front line)
-words_are_all [] e = absurd cc
-words_are_all (b ∷ line) e =
-    elim (cases_Bool (is_blank b)) [
-      | inl t ↦ absurd (let f : false ≡ true = rw t at e in cc)
-      | inr t ↦ rw t (same (cells_in (words (b ∷ line))))
-    ]
-  where
-    same : (o : Option Path) → option_map (λ cells. [] ++ cells) o ≡ o
-    same None = refl
-    same (Some cells) = refl
-
 no_path : (number : ℕ) (line : Bytes) → cells_in (words_from_front line) ≡ None → path_at number line ≡ Err (Form number)
 unfolding path_at
 no_path number line e = rw e refl

@@ -23,9 +23,6 @@ pub record IsMeeting (table places : List ℕ) (found : Option (ℕ × ℕ)) (n 
   pub entered : (k : ℕ) → k < n → IsOwner places (slice_index table (slice_index places k)) k
   pub pair : IsLeastPair places n found
 
-pub meeting-none : (table places : List ℕ) → IsMeeting table places None 0
-meeting-none table places = record { entered = λ k l. absurd (omega arith); pair = λ k l h g. absurd (omega arith) }
-
 abbrev pub IsPicked : Option (ℕ × ℕ) → ℕ → ℕ → ℕ × ℕ → Type 0
 IsPicked None i j p = p ≡ (i, j)
 IsPicked (Some q) i j p = ((q.0 ≤ i) × (p ≡ q)) ⊎ ((i < q.0) × (p ≡ (i, j)))
@@ -151,46 +148,10 @@ module _ (table places : List ℕ) (found : Option (ℕ × ℕ)) (n : ℕ) (m : 
             ],
           )
 
-pub meeting-some : (table places : List ℕ) (found : Option (ℕ × ℕ)) (n : ℕ) → IsMeeting table places found n → n ≡ length places → IfSome found (λ pair. IsFirstMeeting places pair.0 pair.1)
-meeting-some table places None n m e = tt
-meeting-some table places (Some q) n m e = record {
-  meet = record { order = m.pair.0; agents = (let h : q.1 < n = m.pair.1 in omega arith); same = m.pair.2 };
-  first = λ k l h. m.pair.3 k l h.order (let g : l < length places = h.agents in omega arith) h.same;
-}
-
-pub meeting-nobody : (table places : List ℕ) (found : Option (ℕ × ℕ)) (n : ℕ) → IsMeeting table places found n → n ≡ length places → IfNone found (IsEntered table places)
-meeting-nobody table places (Some q) n m e = tt
-meeting-nobody table places None n m e = λ i l.
-    let o = m.entered i (omega arith) in
-    let f = slice_index table (slice_index places i) in
-    elim (cases_lt f i) [
-      | inl g ↦ absurd (m.pair f i g (omega arith) o.same)
-      | inr g ↦ let h : f ≤ i = o.order in omega arith
-    ]
-
 -- ---- what follows where nobody meets another
-
-pub entered_apart : (table places : List ℕ) → IsEntered table places → HasNoMeeting places
-entered_apart table places h i j meet =
-    let order : i < j = meet.order in
-    let within : j < length places = meet.agents in
-    let a : slice_index table (slice_index places i) ≡ i = h i (omega arith) in
-    let b : slice_index table (slice_index places j) ≡ j = h j within in
-    let s : slice_index table (slice_index places i) ≡ slice_index table (slice_index places j) = ap (slice_index table) meet.same in
-    omega arith
 
 pub ahead_agents : (places next : List ℕ) (ahead : List (Option ℕ)) → AreAhead places next ahead → AreAgents ahead
 ahead_agents places next ahead a i j e =
     let within : i < length ahead = ahead_within ahead i j e in
     let h : IsAhead places next i (Some j) = subst (IsAhead places next i) e (a.each i (omega (arith, a.all))) in
     omega (arith, h.1, a.all)
-
--- who is found in a place
-pub found_in : (table places : List ℕ) (place : ℕ) → IsEntered table places → ((slice_index table place) < length places → slice_index places (slice_index table place) ≢ place) → (j : ℕ) → j < length places → slice_index places j ≢ place
-found_in table places place h other j l e =
-    let a : slice_index table place ≡ j = ap (slice_index table) (sym e) ∙ h j l in
-    other (omega arith) (ap (slice_index places) a ∙ e)
-
--- the first exchange
-pub not_before : (ahead : List (Option ℕ)) (i : ℕ) → ((k l : ℕ) → k < i → Exchange ahead k l → ⊥) → (k l : ℕ) → Exchange ahead k l → i ≤ k
-not_before ahead i none k l x = elim (cases_lt k i) [ inl h ↦ absurd (none k l h x) | inr h ↦ h ]

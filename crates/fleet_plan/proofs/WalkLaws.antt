@@ -27,17 +27,6 @@ pub record IsWalk (ahead old walks : List (Option ℕ)) (i agent : ℕ) : Type 0
   pub leads : (k : ℕ) → walk_of walks k ≡ Some i → (j : ℕ) × (ahead_of ahead k ≡ Some j) × Reaches ahead j agent
   pub started : (agent ≡ i) ⊎ IsWalked walks i
 
-pub walk-none : (ahead old : List (Option ℕ)) (i : ℕ) → AreClosed ahead old i → i < length ahead → IsWalk ahead old old i i
-walk-none ahead old i closed l = record {
-  all = closed.all;
-  within = l;
-  old_or_new = λ k w e. inl e;
-  kept = λ k w e. e;
-  ahead_too = λ k j e f. absurd (let h : i < i = closed.below k i e in omega arith);
-  leads = λ k e. absurd (let h : i < i = closed.below k i e in omega arith);
-  started = inl refl;
-}
-
 module _ (ahead old walks : List (Option ℕ)) (i agent : ℕ) (w : IsWalk ahead old walks i agent) where
   -- the agent is met
   module _ (new : walk_of walks agent ≡ None) where
@@ -193,17 +182,6 @@ pub record AreWalked (ahead walks : List (Option ℕ)) (least : Option ℕ) (i :
   pub closed : AreClosed ahead walks i
   pub walked : (k : ℕ) → k < i → IsWalked walks k
   pub least_met : IsLeastMet ahead walks least
-
-pub walked-none : (ahead walks : List (Option ℕ)) → length walks ≡ length ahead → ((k : ℕ) → walk_of walks k ≡ None) → AreWalked ahead walks None 0
-walked-none ahead walks all free = record {
-  closed = record {
-    all = all;
-    ahead_too = λ k j h f. none_is_not h.0 (walk_of walks k) h.1 (free k);
-    below = λ k v f. none_is_not v (walk_of walks k) f (free k);
-  };
-  walked = λ k l. absurd (omega arith);
-  least_met = λ k h r. none_is_not h.0 (walk_of walks k) h.1 (free k);
-}
 
 module _ (ahead old walks : List (Option ℕ)) (least : Option ℕ) (i : ℕ) (a : AreWalked ahead old least i) (closed : AreClosed ahead walks (i + 1)) (here : IsWalked walks i) (kept : (k : ℕ) → IsWalked old k → IsWalked walks k) where
   walked_on : (k : ℕ) → k < i + 1 → IsWalked walks k

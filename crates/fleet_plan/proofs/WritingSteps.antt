@@ -39,14 +39,6 @@ spaced_push [] c = append-nil (cell_text c ++ 32 ∷ [])
 spaced_push (b ∷ cells) c =
     ap (λ (x : Bytes). (cell_text b ++ 32 ∷ []) ++ x) (spaced_push cells c) ∙ sym (append_assoc (cell_text b ++ 32 ∷ []) (spaced cells) (cell_text c ++ 32 ∷ []))
 
--- one cell more
-pub cell_more : (before front all : Bytes) (cells : Path) (i : ℕ) (d : Cell) → i < length cells → front ≡ before ++ spaced (take i cells) → all ≡ front ++ cell_text (get_or cells i d) ++ 32 ∷ [] → all ≡ before ++ spaced (take (i + 1) cells)
-cell_more before front all cells i d lt e f =
-    let c = get_or cells i d in
-    f ∙ append_assoc front (cell_text c) (32 ∷ []) ∙ ap (λ (x : Bytes). x ++ (cell_text c ++ 32 ∷ [])) e
-    ∙ append_assoc before (spaced (take i cells)) (cell_text c ++ 32 ∷ [])
-    ∙ ap (λ (x : Bytes). before ++ x) (sym (spaced_push (take i cells) c) ∙ ap spaced (sym (take_more cells i d lt)))
-
 -- the last cell, and the end of the line
 pub line_written : (before front all : Bytes) (cells : Path) (last : Cell) → front ≡ before ++ spaced cells → all ≡ front ++ cell_text last ++ 10 ∷ [] → all ≡ before ++ path_text (cells ++ last ∷ []) ++ 10 ∷ []
 line_written before front all cells last e f =

@@ -1,4 +1,4 @@
--- A plan that is free of conflict, and plans that are not: the definition asks for what it should.
+-- A plan that is free of conflict.
 use Rattle.std.proofs.Common.{◌≡◌, ◌≢◌, ℕ, zero, suc, ◌+◌, ◌-◌, ◌<◌, ◌≤◌, min, true, List, [], ◌∷◌, length, get_or, slice_get, All, Some, None, ◌⊎◌, inl, inr, refl, sym, ap, ◌∙◌, arith, pos, ◌==◌}
 use Rattle.std.specs.List.{IsDistinct, AllByRecursion}
 use Rattle.std.proofs.lemmas.Bool.{eqb-false}
@@ -13,7 +13,7 @@ use Rattle.fleet_model.specs.Program.{origin}
 use Rattle.fleet_model.specs.Conflict.{HasVertexConflict, HasSwappingConflict}
 use Rattle.fleet_model.specs.declared.task.Task.{Task}
 use Rattle.fleet_plan.specs.Plan.{cell_at, cell_of, last_cell, planned, IsConflictFree}
-use Rattle.fleet_plan.specs.Worked.{at, base_plan, base_tasks, swap_plan, swap_tasks, ring_plan, ring_tasks}
+use Rattle.fleet_plan.specs.Worked.{at, base_plan, base_tasks}
 use Rattle.fleet_model.proofs.Places.{place_of-injective}
 
 -- ---- the base plan
@@ -106,37 +106,3 @@ base_is_free = record {
         task_of None = record { start = origin; goal = origin }
         task_of (Some t) = t
     ends (suc (suc i)) t e = absurd (none-some t e)
-
--- ---- an exchange, and a ring of four
-
-pub swap_is_not : IsConflictFree (λ q. true) swap_tasks swap_plan → ⊥
-unfolding cell_of cell_at
-swap_is_not free = free.swapping 0 0 1 (omega arith) (omega arith) (record { apart = λ e. omega arith; there = refl; back = refl; changed = λ e. let h = ap (λ (p : Place). p.x) e in absurd (omega (arith, ints)) })
-
-pub ring_is_not : IsConflictFree (λ q. true) ring_tasks ring_plan → ⊥
-unfolding cell_of cell_at IsDistinct
-ring_is_not free = free.cycle 0 (0 ∷ 1 ∷ 2 ∷ 3 ∷ []) small (record { three = omega arith; distinct = distinct; next = next; moves = moves })
-  where
-    small : All (λ i. i < 4) (0 ∷ 1 ∷ 2 ∷ 3 ∷ [])
-    small zero d h = omega arith
-    small (suc zero) d h = omega arith
-    small (suc (suc zero)) d h = omega arith
-    small (suc (suc (suc zero))) d h = omega arith
-    small (suc (suc (suc (suc k)))) d h = absurd (omega arith)
-
-    distinct : IsDistinct ◌==◌ (0 ∷ 1 ∷ 2 ∷ 3 ∷ [])
-    distinct = ((refl, (refl, (refl, tt))), ((refl, (refl, tt)), ((refl, tt), (tt, tt))))
-
-    next : (k : ℕ) → k < 4 → planned ring_plan 1 (get_or (0 ∷ 1 ∷ 2 ∷ 3 ∷ []) k 0) ≡ planned ring_plan 0 (get_or (0 ∷ 1 ∷ 2 ∷ 3 ∷ []) (k + 1) 0)
-    next zero h = refl
-    next (suc zero) h = refl
-    next (suc (suc zero)) h = refl
-    next (suc (suc (suc zero))) h = refl
-    next (suc (suc (suc (suc k)))) h = absurd (omega arith)
-
-    moves : (k : ℕ) → k < 4 → planned ring_plan 1 (get_or (0 ∷ 1 ∷ 2 ∷ 3 ∷ []) k 0) ≢ planned ring_plan 0 (get_or (0 ∷ 1 ∷ 2 ∷ 3 ∷ []) k 0)
-    moves zero h e = let z = ap (λ (p : Place). p.x) e in absurd (omega (arith, ints))
-    moves (suc zero) h e = let z = ap (λ (p : Place). p.y) e in absurd (omega (arith, ints))
-    moves (suc (suc zero)) h e = let z = ap (λ (p : Place). p.x) e in absurd (omega (arith, ints))
-    moves (suc (suc (suc zero))) h e = let z = ap (λ (p : Place). p.y) e in absurd (omega (arith, ints))
-    moves (suc (suc (suc (suc k)))) h e = absurd (omega arith)

@@ -3,6 +3,9 @@ use Rattle.std.specs.Prelude.{ℕ, List, [], ◌∷◌}
 use Rattle.fleet_model.specs.declared.geometry.Cell.{Cell}
 use Rattle.fleet_model.specs.declared.task.Task.{Task}
 use Rattle.fleet_plan.specs.Plan.{Plan}
+use Rattle.fleet_plan.specs.declared.plan_fault.Conflict.TheVariants.{Swapping, Cycle}
+use Rattle.fleet_plan.specs.declared.plan_fault.PlanFault.{PlanFault}
+use Rattle.fleet_plan.specs.declared.plan_fault.PlanFault.TheVariants as fault
 
 abbrev pub at : ℕ → ℕ → Cell
 at x y = record { x = x; y = y }
@@ -30,9 +33,17 @@ swap_plan = (at 0 0 ∷ at 1 0 ∷ []) ∷ (at 1 0 ∷ at 0 0 ∷ []) ∷ []
 abbrev pub swap_tasks : List Task
 swap_tasks = record { start = at 0 0; goal = at 1 0 } ∷ record { start = at 1 0; goal = at 0 0 } ∷ []
 
+-- .. in the step from time 0 to 1
+abbrev pub swap_fault : PlanFault
+swap_fault = fault.Conflict (Swapping 0 0 1)
+
 -- four agents go round on four cells
 abbrev pub ring_plan : Plan
 ring_plan = (at 0 0 ∷ at 1 0 ∷ []) ∷ (at 1 0 ∷ at 1 1 ∷ []) ∷ (at 1 1 ∷ at 0 1 ∷ []) ∷ (at 0 1 ∷ at 0 0 ∷ []) ∷ []
 
 abbrev pub ring_tasks : List Task
 ring_tasks = record { start = at 0 0; goal = at 1 0 } ∷ record { start = at 1 0; goal = at 1 1 } ∷ record { start = at 1 1; goal = at 0 1 } ∷ record { start = at 0 1; goal = at 0 0 } ∷ []
+
+-- .. in the step from time 0 to 1
+abbrev pub ring_fault : PlanFault
+ring_fault = fault.Conflict (Cycle 0 0)

@@ -21,32 +21,9 @@ cut_nowhere line e = split_none is_space line (found_nowhere is_space line e)
 
 -- ---- the first of the words
 
-and_then_none : {X : Type 0} (f : ℕ → Option X) (o : Option ℕ) → option_map (λ (n : ℕ). min n 65536) o ≡ None → option_and_then f o ≡ None
-and_then_none f None e = refl
-and_then_none f (Some n) e = absurd cc
-
 some_capped : (o : Option ℕ) (i : ℕ) → option_map (λ (n : ℕ). min n 65536) o ≡ Some i → (n : ℕ) × (o ≡ Some n) × (min n 65536 ≡ i)
 some_capped None i e = absurd cc
 some_capped (Some n) i e = (n, refl, cc)
-
--- no number
-pub word_wrong : (n least : ℕ) (word : Bytes) (words : List Bytes) → option_map (λ (k : ℕ). min k 65536) (plain_number word) ≡ None → agents_of n least (word ∷ words) ≡ None
-word_wrong n least word words e = and_then_none _ (plain_number word) e
-
-both_false : (a b : Bool) → (a ≡ false) ⊎ (b ≡ false) → (a && b) ≡ false
-both_false true true (inl e) = e
-both_false true true (inr e) = e
-both_false true false h = refl
-both_false false b h = refl
-
--- a number that is none of the agents that are left
-pub word_outside : (n least i : ℕ) (word : Bytes) (words : List Bytes) → n < 65536 → least ≤ n → option_map (λ (k : ℕ). min k 65536) (plain_number word) ≡ Some i
-    → (i < least) ⊎ (n ≤ i) → agents_of n least (word ∷ words) ≡ None
-word_outside n least i word words small low e out =
-    let s = some_capped (plain_number word) i e in
-    let test : (nat_le least s.0 && nat_lt s.0 n) ≡ false =
-    both_false (nat_le least s.0) (nat_lt s.0 n) (elim out [ inl h ↦ inl (lt-leb least s.0 (omega (arith, s.2))) | inr h ↦ inr (le-ltb s.0 n (omega (arith, s.2))) ]) in
-    rw (s.1, test) refl
 
 -- the number of an agent
 pub word_inside : (n least i : ℕ) (word : Bytes) (words : List Bytes) → n < 65536 → option_map (λ (k : ℕ). min k 65536) (plain_number word) ≡ Some i

@@ -12,16 +12,6 @@ appends_nothing None b h = tt
 appends_nothing (Some xs) None h = h
 appends_nothing (Some xs) (Some ys) h = grind (arith, common_steps)
 
-pub appends_self : (a : Option (List ℕ)) → Appends a a []
-appends_self None = tt
-appends_self (Some xs) = grind (arith, common_steps)
-
--- what has grown by nothing is kept
-pub keeps_of_nothing : (a b : Option (List ℕ)) → Appends a b [] → Keeps a b
-keeps_of_nothing None b h = tt
-keeps_of_nothing (Some xs) None h = h
-keeps_of_nothing (Some xs) (Some ys) h = grind (arith, common_steps)
-
 -- one growth after another
 pub appends_more : (a b c : Option (List ℕ)) (xs ys : List ℕ) → Appends a b xs → Appends b c ys → Appends a c (xs ++ ys)
 appends_more None b c xs ys h k = tt
@@ -71,10 +61,6 @@ stops_after a b c failed xs ys h ((n, below, so_far), failing) = (
 pub takes_then : {T E : Type 0} (a b c : Option (List ℕ)) (failed : Bool) (r : Result T E) (xs ys : List ℕ) → Appends a b xs → TakesAll b c failed r ys → TakesAll a c failed r (xs ++ ys)
 takes_then a b c failed (Ok _) xs ys h k = (appends_more a b c xs ys h k.0, k.1)
 takes_then a b c failed (Err _) xs ys h k = stops_after a b c failed xs ys h k
-
--- the same bytes under another name
-pub takes_same : {T E : Type 0} (a c : Option (List ℕ)) (failed : Bool) (r : Result T E) (xs ys : List ℕ) → TakesAll a c failed r xs → xs ≡ ys → TakesAll a c failed r ys
-takes_same a c failed r xs ys h e = rw e at h
 
 -- an answer that is an error, where the sink failed within the bytes
 pub takes_err : {T E : Type 0} (a c : Option (List ℕ)) (failed : Bool) (r : Result T E) (xs : List ℕ) → IsErr r → StopsWithin a c failed xs → TakesAll a c failed r xs

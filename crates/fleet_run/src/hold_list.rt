@@ -3,7 +3,7 @@
 ghost use Rattle.std.specs.Prelude.{◌≡◌, map, All};
 ghost use Rattle.fleet_run.specs.Source.{AreFlagsOf};
 
-use crate::source::{HoldSource, SourceFault};
+use crate::source::{HoldSource, SourceFault, clear};
 use std::marker::Model;
 
 /// A source that gives its rows one after another, and never fails.
@@ -38,9 +38,7 @@ impl HoldList {
 fn set_flags(numbers: &[u16], flags: &mut [bool])
     ensures { AreFlagsOf numbers.now flags.new }
 {
-    for flag in flags.iter_mut() {
-        *flag = false;
-    }
+    clear(flags);
     for number in numbers {
         let agent = usize::from(*number);
         if agent < flags.len() {

@@ -4,7 +4,7 @@ use Rattle.std.proofs.lemmas.Bool.{cases_eq, cases_lt}
 use Rattle.std.proofs.lemmas.List.{get_or-set_same, get_or-set_other}
 use Rattle.fleet_plan.specs.FirstFault.{IsPairUpTo}
 use Rattle.fleet_plan.specs.Rings.{AreAgents}
-use Rattle.fleet_plan.specs.Sweep.{IsFirstMeeting, IsEntered, IsAhead, AreAhead, Exchange, HasNoMeeting}
+use Rattle.fleet_plan.specs.Sweep.{IsAhead, AreAhead}
 use Rattle.fleet_plan.proofs.RingLaws.{ahead_within}
 
 -- the least agent in the place of agent k

@@ -1,5 +1,5 @@
 -- The first faults of an exchange and of a ring of four: a swap, and a cycle.
-use Rattle.std.proofs.Common.{◌≡◌, ◌≢◌, ℕ, zero, suc, ◌+◌, ◌-◌, ◌<◌, ◌≤◌, min, true, List, [], ◌∷◌, length, get_or, slice_get, All, Contains, Option, Some, None, ◌⊎◌, inl, inr, refl, sym, ap, ◌∙◌, arith, ◌==◌}
+use Rattle.std.proofs.Common.{◌≡◌, ◌≢◌, ℕ, zero, suc, ◌+◌, ◌-◌, ◌<◌, ◌≤◌, min, true, List, [], ◌∷◌, get_or, All, Option, Some, None, ◌⊎◌, inl, inr, refl, sym, ap, ◌∙◌, arith}
 use Rattle.std.specs.List.{IsDistinct}
 use Rattle.std.proofs.lemmas.Option.{none-some}
 use Rattle.std.proofs.lemmas.Int.{ints}
@@ -14,7 +14,7 @@ use Rattle.fleet_model.specs.Conflict.{HasSwappingConflict, HasCycleConflict}
 use Rattle.fleet_plan.specs.declared.plan_fault.Conflict.{Conflict}
 use Rattle.fleet_plan.specs.declared.plan_fault.Conflict.TheVariants.{Vertex, Swapping, Cycle}
 use Rattle.fleet_plan.specs.Plan.{cell_at, cell_of, last_cell, planned, AreNeighbours}
-use Rattle.fleet_plan.specs.FirstFault.{AllAgents, StartsRight, EndsRight, GoesOver, GoesRight, HasConflict, IsCycle, IsPairUpTo, IsUpTo, IsFirstConflict, HasEnds, IsFirstPlanFault}
+use Rattle.fleet_plan.specs.FirstFault.{AllAgents, StartsRight, EndsRight, GoesOver, GoesRight, HasConflict, IsCycle, IsPairUpTo, IsUpTo, HasEnds, IsFirstPlanFault}
 use Rattle.fleet_plan.specs.Worked.{at, swap_plan, swap_tasks, swap_fault, ring_plan, ring_tasks, ring_fault}
 
 -- ---- paths over two neighbouring cells

@@ -9,7 +9,7 @@ use Rattle.fleet_run.specs.declared.source.SourceFault.{SourceFault}
 use Rattle.fleet_run.specs.declared.source.SourceFault.TheVariants.{Broken}
 use Rattle.fleet_run.specs.declared.run.RunFault.{RunFault}
 use Rattle.fleet_run.specs.declared.run.RunFault.TheVariants.{Source}
-use Rattle.fleet_auto.specs.Trace.{hold_ticks, hold_last, StopsTrace}
+use Rattle.fleet_auto.specs.Trace.{StopsTrace}
 
 fault_before-broken : (tick : Option (List ℕ)) (last : Option SourceFault) → last ≢ Some Broken → fault_before tick last ≢ Some Broken
 fault_before-broken None last h = λ e. absurd (search rules)

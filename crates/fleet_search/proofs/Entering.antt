@@ -1,9 +1,9 @@
 -- The stays of one path are added, one after another.
-use Rattle.std.proofs.Common.{◌≡◌, ◌≢◌, ℕ, ◌+◌, ◌-◌, ◌<◌, ◌≤◌, List, length, ◌⊎◌, inl, inr, refl, sym, ap, ◌∙◌, subst, arith}
+use Rattle.std.proofs.Common.{◌≡◌, ◌≢◌, ℕ, ◌+◌, ◌≤◌, List, length, ◌⊎◌, inl, inr, sym, ap, ◌∙◌, subst, arith}
 use Rattle.std.specs.Prelude.{Result, Ok, Err, OnOk, OnErr}
 use Rattle.std.proofs.lemmas.Bool.{cases_lt, cases_eq}
 use Rattle.fleet_model.specs.declared.geometry.Cell.{Cell}
-use Rattle.fleet_plan.specs.Plan.{Plan, IsPath, cell_at}
+use Rattle.fleet_plan.specs.Plan.{Plan, cell_at}
 use Rattle.fleet_search.specs.declared.stay.Stay.{Stay}
 use Rattle.fleet_search.specs.Way.{Fits, joined, arrival}
 use Rattle.fleet_search.specs.Stays.{Rows, stays_of, IsDuring, IsAdded, AreInOrder, AreStays, HaveStays, without}

@@ -1,10 +1,10 @@
 -- Whether a whole path fits, step by step.
-use Rattle.std.proofs.Common.{◌≡◌, ℕ, zero, suc, ◌+◌, ◌<◌, ◌≤◌, List, ◌↔◌, inl, inr, sym, ◌∙◌, subst, arith, add-one}
-use Rattle.std.proofs.lemmas.Bool.{cases_lt, cases_eq}
+use Rattle.std.proofs.Common.{◌≡◌, ℕ, zero, suc, ◌+◌, ◌<◌, ◌≤◌, List, inl, inr, sym, ◌∙◌, arith, add-one}
+use Rattle.std.proofs.lemmas.Bool.{cases_lt}
 use Rattle.fleet_model.specs.declared.geometry.Cell.{Cell}
 use Rattle.fleet_plan.specs.Plan.{Plan, cell_at, steps}
 use Rattle.fleet_search.specs.Way.{Fits, StepFits, arrival}
-use Rattle.fleet_search.specs.Reserved.{IsOn, IsFree, IsFreeFrom}
+use Rattle.fleet_search.specs.Reserved.{IsOn, IsFree}
 use Rattle.fleet_search.proofs.Steps.{each_step, from_each_step}
 use Rattle.fleet_search.proofs.Occupancy.{cell_at-late, cell_of-late}
 
@@ -12,15 +12,6 @@ use Rattle.fleet_search.proofs.Occupancy.{cell_at-late, cell_of-late}
 pub record FitsUpTo (plan : Plan) (path : List Cell) (n : ℕ) : Type 0 where
   pub first : IsFree plan 0 (cell_at path 0)
   pub steps : (t : ℕ) → t < n → StepFits plan t (cell_at path t) (cell_at path (t + 1))
-
-pub up_to-more : (plan : Plan) (path : List Cell) (n : ℕ) → FitsUpTo plan path n → StepFits plan n (cell_at path n) (cell_at path (n + 1)) → FitsUpTo plan path (n + 1)
-up_to-more plan path n h s = record {
-  first = h.first;
-  steps = λ t l. elim (cases_eq t n) [
-    | inl e ↦ subst (λ z. StepFits plan z (cell_at path z) (cell_at path (z + 1))) (sym e) s
-    | inr ne ↦ h.steps t (omega arith)
-  ];
-}
 
 -- nobody stands there before or after
 free-at : (plan : Plan) (path : List Cell) (n : ℕ) → FitsUpTo plan path n → IsFree plan n (cell_at path n)

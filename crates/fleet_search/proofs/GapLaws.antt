@@ -1,5 +1,5 @@
 -- Gaps between stays.
-use Rattle.std.proofs.Common.{◌≡◌, ℕ, zero, suc, ◌+◌, ◌-◌, ◌<◌, ◌≤◌, ◌⊎◌, inl, inr, List, length, get_or, refl, sym, ap, ◌∙◌, subst, arith}
+use Rattle.std.proofs.Common.{◌≡◌, ℕ, zero, suc, ◌+◌, ◌-◌, ◌<◌, ◌≤◌, inl, inr, List, length, ap, arith}
 use Rattle.std.specs.List.Sorted.{IsPartitionPoint}
 use Rattle.std.proofs.lemmas.Bool.{cases_eq, cases_lt}
 use Rattle.std.proofs.lemmas.List.{get_or_default}
@@ -7,7 +7,7 @@ use Rattle.fleet_model.specs.declared.geometry.Cell.{Cell}
 use Rattle.fleet_plan.specs.Plan.{Plan}
 use Rattle.fleet_search.specs.declared.stay.Stay.{Stay}
 use Rattle.fleet_search.specs.Stays.{stay_at, no_stay, IsDuring, AreStays, AreInOrder}
-use Rattle.fleet_search.specs.Gaps.{AreApart, IsOver, IsInGap, AreBegun, IsFirstIn, IsNextBegin}
+use Rattle.fleet_search.specs.Gaps.{AreApart, IsInGap, AreBegun, IsNextBegin}
 use Rattle.fleet_search.specs.Reserved.{IsFree, IsFreeOn}
 
 -- ---- lists of stays
@@ -71,15 +71,6 @@ gap-from_ends stays a k t b few past next = record {
       ];
   to_come = λ i h l. let n = next (omega arith) in let z = apart-from stays a k i h l in omega arith;
 }
-
-pub gap-past : (stays : List Stay) (k t : ℕ) → IsInGap stays k t → 1 ≤ k → (stay_at stays (k - 1)).until < t
-gap-past stays k t g h = (g.over (k - 1) (omega arith)).0
-
-pub gap-no_end : (stays : List Stay) (k t : ℕ) → IsInGap stays k t → 1 ≤ k → (stay_at stays (k - 1)).until ≡ 4294967295 → ⊥
-gap-no_end stays k t g h e = let o = (g.over (k - 1) (omega arith)).1 in omega arith
-
-pub first-found : (stays : List Stay) (k from t : ℕ) → from ≤ t → ((s : ℕ) → from ≤ s → IsInGap stays k s → t ≤ s) → IsInGap stays k t → IsFirstIn stays k from t
-first-found stays k from t h f g = record { later = h; inside = g; first = f }
 
 pub first-none : (stays : List Stay) → AreApart stays → (k from t : ℕ) → k ≤ length stays → t ≤ 4294967295 → (1 ≤ k → (stay_at stays (k - 1)).until < t) → ((s : ℕ) → from ≤ s → IsInGap stays k s → t ≤ s) → (IsInGap stays k t → ⊥) → (s : ℕ) → from ≤ s → IsInGap stays k s → ⊥
 first-none stays a k from t b few past first out s h g =

@@ -1,14 +1,9 @@
 -- Where agents are once they have arrived, and what tests say.
-use Rattle.std.proofs.Common.{◌≡◌, ℕ, zero, suc, ◌<◌, ◌≤◌, Bool, true, false, IsTrue, ◌&&◌, ◌==◌, List, [], ◌∷◌, length, get_or, All, Some, None, ◌↔◌, inl, inr, sym, ap, ◌∙◌, subst, arith}
-use Rattle.std.proofs.lemmas.Bool.{and_parts, eqb-true, cases_lt, both_ways}
-use Rattle.std.proofs.lemmas.List.{get_or_read}
-use Rattle.std.proofs.lemmas.Option.{none-some, same_Some}
-use Rattle.std.specs.declared.hash.FoldHasher.{FoldHasher}
-use Rattle.std.specs.declared.hash.BuildHasherDefault.{BuildHasherDefault}
-use Rattle.std.specs.HashMap.{HashMap, get}
+use Rattle.std.proofs.Common.{◌≡◌, ℕ, zero, suc, ◌<◌, ◌≤◌, Bool, true, false, IsTrue, ◌&&◌, ◌==◌, List, [], ◌∷◌, length, get_or, All, ◌↔◌, sym, ap, ◌∙◌, arith}
+use Rattle.std.proofs.lemmas.Bool.{and_parts, eqb-true, both_ways}
 use Rattle.fleet_model.specs.declared.geometry.Cell.{Cell}
 use Rattle.fleet_model.specs.Program.{origin}
-use Rattle.fleet_plan.specs.Plan.{Plan, IsPath, cell_at, cell_of, last_cell, steps}
+use Rattle.fleet_plan.specs.Plan.{Plan, IsPath, cell_at, cell_of, steps}
 use Rattle.fleet_search.specs.Way.{arrival}
 
 pub cells-equal : (c d : Cell) → ((c.x == d.x) && (c.y == d.y)) ≡ true → c ≡ d

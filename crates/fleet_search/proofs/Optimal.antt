@@ -1,5 +1,5 @@
 -- No way arrives before the paths that the search is looking at.
-use Rattle.std.proofs.Common.{◌≡◌, ℕ, zero, suc, ◌+◌, ◌-◌, ◌<◌, ◌≤◌, Bool, IsTrue, List, length, Option, Some, None, ◌⊎◌, inl, inr, refl, sym, ap, ◌∙◌, subst, arith, add-one}
+use Rattle.std.proofs.Common.{◌≡◌, ℕ, zero, suc, ◌+◌, ◌-◌, ◌<◌, ◌≤◌, Bool, IsTrue, List, length, Option, Some, None, ◌⊎◌, inl, inr, sym, ap, ◌∙◌, subst, arith, add-one}
 use Rattle.std.specs.Prelude.{Vec, Contains}
 use Rattle.std.specs.declared.alloc.Global.{Global}
 use Rattle.std.proofs.lemmas.Bool.{cases_lt}
@@ -16,7 +16,6 @@ use Rattle.fleet_search.specs.Rows.{row_in}
 use Rattle.fleet_search.specs.Reserved.{IsFree, IsFreeFrom, IsFreeOn}
 use Rattle.fleet_search.specs.Search.{far_of, IsMeasured, IsStep, IsSlot, IsEnd, moment_in, IsKnown, IsCovered, IsExpanded, IsFrontier, IsAsked, IsTrail}
 use Rattle.fleet_search.proofs.Steps.{each_step, from_each_step}
-use Rattle.fleet_search.proofs.Chase.{step_ok-same}
 use Rattle.fleet_search.proofs.Occupancy.{cell_at-late}
 use Rattle.fleet_search.proofs.SearchSteps.{near-beside, slot-below}
 

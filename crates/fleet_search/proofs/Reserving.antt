@@ -1,10 +1,10 @@
 -- The reservations, as paths are added.
-use Rattle.std.proofs.Common.{◌≡◌, ℕ, zero, suc, ◌+◌, ◌-◌, ◌<◌, ◌≤◌, min, max, take, List, [], ◌∷◌, ◌++◌, length, get_or, map, All, refl, sym, ap, ◌∙◌, subst, arith}
+use Rattle.std.proofs.Common.{◌≡◌, ℕ, zero, suc, ◌+◌, ◌-◌, ◌<◌, min, max, take, List, [], ◌∷◌, ◌++◌, length, get_or, All, refl, sym, ap, ◌∙◌, subst, arith}
 use Rattle.std.proofs.lemmas.List.{take_more}
 use Rattle.fleet_model.specs.declared.geometry.Cell.{Cell}
 use Rattle.fleet_model.specs.Program.{origin}
 use Rattle.fleet_plan.specs.Plan.{Plan, IsPath, cell_at, steps}
-use Rattle.fleet_search.specs.Way.{joined, Fits, arrival}
+use Rattle.fleet_search.specs.Way.{joined, Fits}
 use Rattle.fleet_search.specs.Stays.{AreReserved, HaveStays, Rows, stays_of}
 use Rattle.fleet_search.proofs.OneByOne.{FitTogether-push}
 

@@ -1,5 +1,5 @@
 -- The search, step by step.
-use Rattle.std.proofs.Common.{◌≡◌, ◌≢◌, ℕ, zero, suc, ◌+◌, ◌-◌, ◌*◌, ◌<◌, ◌≤◌, ◌==◌, cond, IsTrue, List, [], ◌∷◌, ◌++◌, length, get_or, Contains, Option, Some, None, ◌⊎◌, inl, inr, refl, sym, ap, ◌∙◌, subst, arith}
+use Rattle.std.proofs.Common.{◌≡◌, ◌≢◌, ℕ, ◌+◌, ◌-◌, ◌*◌, ◌<◌, ◌≤◌, ◌==◌, cond, IsTrue, List, [], ◌∷◌, ◌++◌, length, get_or, Contains, Option, Some, None, ◌⊎◌, inl, inr, refl, sym, ap, ◌∙◌, subst, arith}
 use Rattle.std.specs.Prelude.{Vec}
 use Rattle.std.specs.declared.alloc.Global.{Global}
 use Rattle.std.proofs.lemmas.Bool.{cases_eq, cases_lt, eqb-true, eq-eqb, false_from_ne_true}
@@ -81,9 +81,6 @@ module _ (q : Question) (old new : List Arrival) (more : length old ≤ length n
         inside = subst (λ (z : Moment). IsInGap stays gap z.time) (sym (same_at i l)) s.inside;
         early = subst (λ (z : Moment). z.time ≤ t) (sym (same_at i l)) s.early;
       })
-
-  pub found_at-stays : (l : Moment) (c : Cell) (u : ℕ) → IsFoundAt q old l c u → IsFoundAt q new l c u
-  found_at-stays l c u h s t = covered-stays c (u + 1) (h s t)
 
   pub found_in-stays : (l : Moment) (c : Cell) (gap : ℕ) → IsFoundIn q old l c gap → IsFoundIn q new l c gap
   found_in-stays l c gap h u m g t = covered-stays c (u + 1) (h u m g t)

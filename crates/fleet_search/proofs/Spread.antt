@@ -1,9 +1,9 @@
 -- Cells are labelled with their distances from a goal.
-use Rattle.std.proofs.Common.{◌≡◌, ◌≢◌, ℕ, zero, suc, ◌+◌, ◌-◌, ◌*◌, ◌<◌, ◌≤◌, ◌/◌, ◌%◌, ◌==◌, Bool, true, false, cond, IsTrue, List, [], ◌∷◌, ◌++◌, length, get_or, Contains, Option, Some, None, ◌⊎◌, inl, inr, refl, sym, ap, ◌∙◌, subst, arith}
+use Rattle.std.proofs.Common.{◌≡◌, ◌≢◌, ℕ, zero, suc, ◌+◌, ◌*◌, ◌<◌, ◌≤◌, ◌/◌, ◌%◌, ◌==◌, true, false, cond, List, [], ◌∷◌, ◌++◌, length, get_or, Contains, Option, Some, None, ◌⊎◌, inl, inr, refl, sym, ap, ◌∙◌, subst, arith}
 use Rattle.std.specs.Int.{abs_diff}
 use Rattle.std.specs.List.{sum_by}
 use Rattle.std.proofs.lemmas.List.Sums.{sum_by-set}
-use Rattle.std.specs.Prelude.{unwrap_or, min, max, set}
+use Rattle.std.specs.Prelude.{unwrap_or, min, set}
 use Rattle.std.proofs.lemmas.Int.{ints}
 use Rattle.std.proofs.lemmas.Nat.{div-mul-add, mod-mul-add, mul-add-lt}
 use Rattle.std.proofs.lemmas.Bool.{cases_lt, cases_eq, eqb-true, eq-eqb, false_from_ne_true}
@@ -16,12 +16,12 @@ use Rattle.fleet_model.specs.declared.geometry.Dir.{Dir}
 use Rattle.fleet_model.specs.declared.geometry.Dir.TheVariants.{North, East, South, West}
 use Rattle.fleet_model.specs.Geometry.{place_of, moved}
 use Rattle.fleet_model.proofs.Places.{place_of-injective}
-use Rattle.fleet_grid.specs.Ground.{Ground, IsGround, is_passable, cell_index}
+use Rattle.fleet_grid.specs.Ground.{Ground, IsGround, cell_index}
 use Rattle.fleet_grid.proofs.StoredLaws.{off_map}
 use Rattle.fleet_plan.specs.Plan.{AreNeighbours}
 use Rattle.fleet_search.specs.declared.distances.Label.{Label}
 use Rattle.fleet_search.specs.declared.distances.Distances.{Distances}
-use Rattle.fleet_search.specs.Distance.{no_label, label_in, labelled, manhattan, least_moves, far, IsReady, AreDistances, IsOnGround, IsClosed, IsWaiting, IsSpread, SpreadIs, IsLabelled, LabelsFall, IsFoundTowards, IsSameSearch, IsPutFrom, IsNear, label_weight, work_left}
+use Rattle.fleet_search.specs.Distance.{no_label, label_in, labelled, manhattan, least_moves, far, AreDistances, IsOnGround, IsClosed, IsWaiting, IsSpread, SpreadIs, IsLabelled, LabelsFall, IsFoundTowards, IsPutFrom, IsNear, label_weight, work_left}
 
 -- ---- the places of cells in a table
 

@@ -1,15 +1,14 @@
 -- The rows of a timetable.
-use Rattle.std.proofs.Common.{◌≡◌, ◌≢◌, ℕ, ◌+◌, ◌<◌, ◌≤◌, ◌==◌, Bool, true, false, cond, List, [], ◌∷◌, ◌++◌, length, map, get_or, take, drop, ◌⊎◌, inl, inr, refl, sym, ap, ◌∙◌, subst, arith, add-one}
+use Rattle.std.proofs.Common.{◌≡◌, ◌≢◌, ℕ, ◌+◌, ◌<◌, ◌≤◌, ◌==◌, Bool, cond, List, [], ◌∷◌, ◌++◌, length, map, get_or, take, drop, inl, inr, refl, sym, ap, ◌∙◌, subst, arith, add-one}
 use Rattle.std.specs.Prelude.{Vec, set, not}
 use Rattle.std.specs.declared.alloc.Global.{Global}
-use Rattle.std.specs.List.{filter, insert}
 use Rattle.std.proofs.lemmas.Bool.{cases_eq, cases_lt, ne_eqb, eq-eqb}
-use Rattle.std.proofs.lemmas.List.{get_or-set_same, get_or-set_other, get_or-map, map-set, map-append, get_or_past, get_or_push, get_or_append_left, length-map, length_push, take-append-drop}
+use Rattle.std.proofs.lemmas.List.{get_or-set_same, get_or-set_other, get_or-map, map-set, get_or_past, length-map, take-append-drop}
 use Rattle.std.proofs.lemmas.List.Elements.{filter-append}
 use Rattle.fleet_model.specs.declared.geometry.Cell.{Cell}
 use Rattle.fleet_plan.specs.Plan.{Plan}
 use Rattle.fleet_search.specs.declared.stay.Stay.{Stay}
-use Rattle.fleet_search.specs.Stays.{Rows, stays_of, IsPlaced, IsAdded, AreStays, HaveStays, without, stay_at}
+use Rattle.fleet_search.specs.Stays.{Rows, stays_of, IsPlaced, IsAdded, AreStays, without, stay_at}
 
 -- ---- lists of lists
 
@@ -28,19 +27,6 @@ list-set {X} bs k v h = ap (λ z. get_or z k []) (map-set (λ v. v.items) bs k v
 
 pub list-other : {X : Type 0} (bs : List (Vec X Global)) (i k : ℕ) (v : Vec X Global) → k ≢ i → list_in (set bs i v) k ≡ list_in bs k
 list-other bs i k v ne = ap (λ z. get_or z k []) (map-set (λ v. v.items) bs i v) ∙ get_or-set_other (map (λ v. v.items) bs) i k v.items [] ne
-
--- one more list, which is empty
-pub list-more : {X : Type 0} (bs all : List (Vec X Global)) (v : Vec X Global) (k : ℕ) → v.items ≡ [] → all ≡ bs ++ v ∷ [] → list_in all k ≡ list_in bs k
-list-more {X} bs all v k e g = ap (λ z. get_or (map (λ v. v.items) z) k []) g ∙ ap (λ z. get_or z k []) (map-append (λ v. v.items) bs (v ∷ [])) ∙ elim (cases_lt k (length bs)) [
-  | inl l ↦ get_or_append_left (map (λ v. v.items) bs) (v.items ∷ []) [] k (omega (arith, length-map bs (λ (v : Vec X Global). v.items)))
-  | inr l ↦ past l
-]
-  where
-    past : length bs ≤ k → get_or (map (λ v. v.items) bs ++ v.items ∷ []) k [] ≡ get_or (map (λ v. v.items) bs) k []
-    past l = elim (cases_eq k (length bs)) [
-      | inl s ↦ get_or_push (map (λ v. v.items) bs) v.items [] k (omega (arith, length-map bs (λ (v : Vec X Global). v.items))) ∙ e ∙ sym (get_or_past (map (λ v. v.items) bs) k [] (omega (arith, length-map bs (λ (v : Vec X Global). v.items))))
-      | inr ne ↦ get_or_past (map (λ v. v.items) bs ++ v.items ∷ []) k [] (omega (arith, length-map bs (λ (v : Vec X Global). v.items), length_push (map (λ v. v.items) bs) v.items)) ∙ sym (get_or_past (map (λ v. v.items) bs) k [] (omega (arith, length-map bs (λ (v : Vec X Global). v.items))))
-    ]
 
 -- the lists before i are changed by f, and the others are not
 pub record AreChangedTo {X : Type 0} (f : List X → List X) (old new : List (Vec X Global)) (i : ℕ) : Type 0 where
@@ -180,6 +166,3 @@ rows-all agent old now y h l c = elim (cases_lt c.y y) [
       let none = no_row now c (omega arith) in
       none ∙ ap (without agent) (sym none ∙ h.left c m)
 ]
-
-pub have-back : (plan : Plan) (old mid new : Rows) → HaveStays plan old → ((c : Cell) → without (length plan) (stays_of mid c) ≡ stays_of old c) → ((c : Cell) → stays_of new c ≡ without (length plan) (stays_of mid c)) → HaveStays plan new
-have-back plan old mid new h rest out c = subst (AreStays plan c) (sym (out c ∙ rest c)) (h c)

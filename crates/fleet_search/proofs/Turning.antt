@@ -1,11 +1,11 @@
 -- A cell is left for a neighbour, in each gap there.
-use Rattle.std.proofs.Common.{◌≡◌, ℕ, ◌+◌, ◌-◌, ◌<◌, ◌≤◌, Some, inl, inr, sym, subst, arith}
+use Rattle.std.proofs.Common.{ℕ, ◌+◌, ◌-◌, ◌<◌, ◌≤◌, Some, inl, inr, sym, subst, arith}
 use Rattle.std.proofs.lemmas.Bool.{cases_eq, cases_lt}
 use Rattle.fleet_model.specs.declared.geometry.Cell.{Cell}
 use Rattle.fleet_search.specs.declared.frontier.Question.{Question}
 use Rattle.fleet_search.specs.declared.frontier.Frontier.{Frontier}
 use Rattle.fleet_search.specs.declared.frontier.Leaving.{Leaving}
-use Rattle.fleet_search.specs.Gaps.{AreBegun, IsInGap}
+use Rattle.fleet_search.specs.Gaps.{AreBegun}
 use Rattle.fleet_search.specs.Search.{stays_on, IsMeasured, FrontierIs, IsLeaving, Grows, IsFoundIn, IsFoundFrom}
 use Rattle.fleet_search.proofs.GapLaws.{stays-apart, some_gap}
 use Rattle.fleet_search.proofs.SearchSteps.{Grows-then, Grows-same, left-stays, found_in-stays}

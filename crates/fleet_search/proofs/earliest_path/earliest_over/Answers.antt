@@ -1,12 +1,10 @@
-use Rattle.std.proofs.Common.{◌≤◌, sym, ap, ◌∙◌, subst, arith}
+use Rattle.std.proofs.Common.{sym, ap, ◌∙◌}
 use Rattle.std.proofs.lemmas.Bool.{both_ways}
 use Rattle.fleet_model.specs.Geometry.{place_of}
-use Rattle.fleet_search.specs.declared.frontier.Question.{Question}
 use Rattle.fleet_grid.specs.Ground.{is_passable}
-use Rattle.fleet_search.specs.Distance.{far}
 use Rattle.fleet_search.specs.Way.{arrival}
 use Rattle.fleet_search.proofs.Chase.{of_some}
-use Rattle.fleet_search.proofs.Optimal.{no-way-taken, no-way-busy, no-way-far}
+use Rattle.fleet_search.proofs.Optimal.{no-way-taken, no-way-busy}
 use Rattle.fleet_search.proofs.earliest_path.earliest_over.Goals as goal
 
 pub returns-then-not-passable-clause-no_path : goal.returns-then-not-passable-clause-no_path

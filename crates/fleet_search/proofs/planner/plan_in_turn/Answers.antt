@@ -1,6 +1,5 @@
 use Rattle.std.proofs.Common.{◌≡◌, ◌<◌, length, sym, ◌∙◌, subst, arith}
 use Rattle.std.proofs.lemmas.Result.{err_from_is_err_and}
-use Rattle.fleet_plan.specs.Plan.{IsConflictFree}
 use Rattle.fleet_grid.specs.Ground.{is_passable}
 use Rattle.fleet_search.specs.InTurn.{IsMadeInTurn, IsStuckAt}
 use Rattle.fleet_search.proofs.InTurnLaws.{in_turn_free, in_turn-more, stuck_at, named}

@@ -1,4 +1,4 @@
-use Rattle.std.proofs.Common.{◌≡◌, sym, ◌∙◌, arith}
+use Rattle.std.proofs.Common.{sym, ◌∙◌, arith}
 use Rattle.std.proofs.lemmas.List.{get_or_past, get_or_default}
 use Rattle.fleet_search.proofs.RowLaws.{label-read}
 use Rattle.fleet_search.proofs.rows.label.Goals as goal

@@ -1,4 +1,4 @@
-use Rattle.std.proofs.Common.{◌≡◌, ◌<◌, [], ◌∷◌, ◌++◌, length, sym, ap, ◌∙◌, arith}
+use Rattle.std.proofs.Common.{[], ◌∷◌, ◌++◌, sym, ap, ◌∙◌, arith}
 use Rattle.fleet_search.proofs.RowLaws.{no_numbers, row-past, row-read, row-set, row-other}
 use Rattle.fleet_search.proofs.rows.take.Goals as goal
 

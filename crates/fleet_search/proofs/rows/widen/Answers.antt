@@ -1,4 +1,4 @@
-use Rattle.std.proofs.Common.{◌≡◌, ◌+◌, length, ap, ◌∙◌, arith}
+use Rattle.std.proofs.Common.{◌+◌, length, ap, ◌∙◌}
 use Rattle.std.proofs.lemmas.List.{length_push}
 use Rattle.fleet_search.proofs.RowLaws.{row-more}
 use Rattle.fleet_search.proofs.rows.widen.Goals as goal

@@ -1,6 +1,6 @@
-use Rattle.std.proofs.Common.{◌≡◌, ◌<◌, ◌+◌, length, refl, sym, ◌∙◌, subst, arith}
+use Rattle.std.proofs.Common.{◌<◌, length, refl, sym, ◌∙◌, subst, arith}
 use Rattle.std.proofs.lemmas.Result.{err_from_is_err_and, on_ok_weaker, on_err_weaker}
-use Rattle.fleet_search.specs.Stays.{AreInOrder, stays_of}
+use Rattle.fleet_search.specs.Stays.{AreInOrder}
 use Rattle.fleet_search.proofs.StayRows.{same-rows, same-row, list-here, list-same, list-added}
 use Rattle.fleet_search.proofs.timetable.add.Goals as goal
 

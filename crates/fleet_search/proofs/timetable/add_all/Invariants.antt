@@ -1,4 +1,3 @@
-use Rattle.std.proofs.Common.{◌≡◌, ℕ, length}
 use Rattle.fleet_search.proofs.Entering.{AreEntered}
 use Rattle.fleet_search.proofs.timetable.add_all.Given as goal
 

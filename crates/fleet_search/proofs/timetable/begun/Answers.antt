@@ -1,4 +1,4 @@
-use Rattle.std.proofs.Common.{◌≤◌, ◌<◌, rules, leb}
+use Rattle.std.proofs.Common.{rules, leb}
 use Rattle.std.proofs.lemmas.Bool.{leb-true, leb-false}
 use Rattle.std.proofs.lemmas.List.Sorted.{IsPartitionPoint-from_clause, IsPartitionedBy-leb}
 use Rattle.fleet_search.specs.declared.stay.Stay.{Stay}

@@ -1,4 +1,4 @@
-use Rattle.std.proofs.Common.{◌≡◌, ◌<◌, ◌≤◌, length, get_or, sym, ap, ◌∙◌, subst, arith}
+use Rattle.std.proofs.Common.{◌≡◌, get_or, sym, ◌∙◌, subst, arith}
 use Rattle.fleet_search.proofs.StayRows.{no_row, row-read, list-past, list-read}
 use Rattle.fleet_search.proofs.timetable.stays_on.Goals as goal
 

@@ -1,4 +1,3 @@
-use Rattle.std.proofs.Common.{◌≡◌, ℕ}
 use Rattle.fleet_search.proofs.StayRows.{ChangedRows}
 use Rattle.fleet_search.proofs.timetable.take_out.Given as goal
 

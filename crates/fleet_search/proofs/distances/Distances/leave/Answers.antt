@@ -1,6 +1,4 @@
-use Rattle.std.proofs.Common.{◌≡◌, ◌+◌, ap, sym, ◌∙◌, arith}
-use Rattle.std.proofs.lemmas.Option.{same_Some, none-some}
-use Rattle.fleet_search.proofs.Spread.{spread-left, spread-skip}
+use Rattle.fleet_search.proofs.Spread.{spread-left}
 use Rattle.fleet_search.proofs.distances.Distances.leave.Goals as goal
 
 pub returns-clause-spread : goal.returns-clause-spread

@@ -1,4 +1,4 @@
-use Rattle.std.proofs.Common.{ℕ, ◌≡◌, ◌+◌, ◌-◌, ◌≤◌, subst, arith}
+use Rattle.std.proofs.Common.{ℕ, ◌+◌, ◌-◌, ◌≤◌, subst, arith}
 use Rattle.fleet_search.specs.Gaps.{IsInGap, IsFirstIn}
 use Rattle.fleet_search.proofs.SearchSteps.{found_in-none, found_in-late, found_in-first}
 use Rattle.fleet_search.proofs.frontier.Frontier.step_in_gap.Goals as goal

@@ -1,4 +1,4 @@
-use Rattle.std.proofs.Common.{◌≡◌, length, sym, subst, arith}
+use Rattle.std.proofs.Common.{sym, subst, arith}
 use Rattle.fleet_search.specs.Stays.{AreStays, no_stay}
 use Rattle.fleet_search.proofs.Timetables.{never_visited, never_free, free_from-last}
 use Rattle.fleet_search.proofs.reservations.Reservations.free_from.Goals as goal

@@ -1,4 +1,4 @@
-use Rattle.std.proofs.Common.{◌≡◌, ◌<◌, refl, sym, subst, arith}
+use Rattle.std.proofs.Common.{◌<◌, refl, sym, subst, arith}
 use Rattle.fleet_search.specs.Stays.{AreStays}
 use Rattle.fleet_search.proofs.Timetables.{AreInOrder-stays, nobody_yet, stays_there, gone}
 use Rattle.fleet_search.proofs.reservations.Reservations.occupant.Goals as goal

@@ -4,7 +4,7 @@ use Rattle.clap.specs.Words.{Text}
 use Rattle.fleet_args.specs.Request.{ReadsFleet}
 use Rattle.fleet_args.specs.declared.request.Request.{Request}
 use Rattle.fleet_args.specs.declared.request.WordStop.{WordStop}
-use Rattle.fleet_cli.specs.Files.{Store}
+use Rattle.fleet_cli.specs.Files.{Store, IsKept}
 use Rattle.fleet_cli.specs.Output.{Output}
 use Rattle.fleet_cli.specs.Command.{RunsRequest, StopsAtWords, RunsCommand}
 
@@ -14,7 +14,7 @@ module _ {X : Type 0} (text : X → Text) (input : Option (List ℕ)) (files aft
   asked [] request some h r = absurd (some refl)
   asked (w ∷ ws) request some (names, are, asks) r = (names, are, inl (request, asks, r))
 
-  pub stopped : (ws : List X) (stop : WordStop) → (ws ≡ [] → ⊥) → ReadsFleet (map text ws) (Err stop) → StopsAtWords stop out err status
+  pub stopped : (ws : List X) (stop : WordStop) → (ws ≡ [] → ⊥) → ReadsFleet (map text ws) (Err stop) → StopsAtWords stop out err status → IsKept files after
       → RunsCommand (map text ws) input files after out err status
-  stopped [] stop some h r = absurd (some refl)
-  stopped (w ∷ ws) stop some (names, are, stops) r = (names, are, inr (stop, stops, r))
+  stopped [] stop some h r kept = absurd (some refl)
+  stopped (w ∷ ws) stop some (names, are, stops) r kept = (names, are, inr (stop, stops, r, kept))

@@ -1,12 +1,9 @@
 -- The run of a fleet, and the flush after it.
-use Rattle.std.proofs.Common.{◌≡◌, ℕ, ◌+◌, ◌≤◌, ◌⊎◌, inl, inr, Bool, true, false, List, [], ◌∷◌, All, map, length, None, Option, Result, Ok, Err, refl, sym, subst, ap, ◌∙◌}
+use Rattle.std.proofs.Common.{◌≡◌, ℕ, ◌+◌, ◌≤◌, ◌⊎◌, inl, inr, Bool, true, false, List, length, Option, Result, Ok, Err, refl, sym, subst, ◌∙◌}
 use Rattle.std.specs.Io.KnownBytes.{Keeps}
-use Rattle.std.proofs.lemmas.List.Elements.{All-map}
-use Rattle.fleet_model.specs.declared.standing.Standing.{Standing}
 use Rattle.fleet_model.specs.Program.{Program}
-use Rattle.fleet_model.specs.Machine.{Configuration, Holds, opening, is_finished}
+use Rattle.fleet_model.specs.Machine.{Configuration, Holds, is_finished}
 use Rattle.fleet_grid.specs.Text.{lines}
-use Rattle.fleet_run.specs.Outcome.{Outside}
 use Rattle.fleet_run.specs.Drive.{Drives, IsInTime}
 use Rattle.fleet_run.specs.HoldText.{HoldLines, ticks_of, last_of}
 use Rattle.fleet_run.specs.declared.source.SourceFault.{SourceFault}
@@ -19,10 +16,6 @@ use Rattle.fleet_cli.specs.Driven.{DrivesFlushed}
 use Rattle.fleet_cli.specs.DriveCommand.{WritesTrace, IsTraceFault}
 use Rattle.fleet_cli.specs.declared.fault.Fault.TheVariants as f
 use Rattle.fleet_cli.proofs.FlushLemmas.{appends_kept, source_kept, stops_kept}
-
--- at the start nothing is finished
-pub opening_counts : (p : Program) → All (λ s. s.count ≡ 0) (opening p)
-opening_counts p = All-map (λ (s : Standing). s.count ≡ 0) _ p (λ k d l. refl)
 
 module _ (p : Program) (chain : ℕ) (holds : Holds) (last now fault : Option SourceFault) (left : Holds) (before mid after : Option (List ℕ)) (kept : Keeps mid after) where
   -- a run whose sink keeps what it took

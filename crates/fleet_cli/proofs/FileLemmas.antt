@@ -1,5 +1,5 @@
 -- What a store of files holds while it is read.
-use Rattle.std.proofs.Common.{◌≡◌, ◌≢◌, ℕ, List, Option, Some, None, sym, ◌∙◌}
+use Rattle.std.proofs.Common.{ℕ, List, Option, Some, None, refl, sym, ◌∙◌}
 use Rattle.fleet_cli.specs.Files.{Store, Holds, IsKept, ChangesOnly}
 
 -- what is read of a store that was only read before is what it held at first
@@ -7,6 +7,10 @@ pub held_before : (old new : Option Store) (name bytes : List ℕ) → IsKept ol
 held_before None new name bytes kept h = tt
 held_before (Some files) None name bytes kept h = absurd kept
 held_before (Some files) (Some others) name bytes kept h = sym (kept name) ∙ h
+
+pub kept_self : (files : Option Store) → IsKept files files
+kept_self None = tt
+kept_self (Some files) = λ n. refl
 
 pub kept_on : (old mid new : Option Store) → IsKept old mid → IsKept mid new → IsKept old new
 kept_on None mid new h k = tt

@@ -1,10 +1,10 @@
 -- What a sink has taken before and after it is flushed.
-use Rattle.std.proofs.Common.{◌≡◌, ℕ, ◌+◌, ◌⊎◌, inl, inr, Bool, true, false, List, [], ◌++◌, length, take, None, Some, Option, Result, Ok, Err, IsErr, refl, sym, subst, arith, append-nil}
+use Rattle.std.proofs.Common.{◌≡◌, ℕ, ◌+◌, ◌⊎◌, inl, inr, Bool, true, false, List, [], ◌++◌, length, take, None, Some, Option, Result, Ok, Err, refl, sym, subst, arith, append-nil}
 use Rattle.std.proofs.lemmas.Grind.{common_steps}
 use Rattle.std.specs.Io.KnownBytes.{Keeps, Appends}
 use Rattle.fleet_model.specs.Program.{Program}
 use Rattle.fleet_model.specs.Machine.{Holds, is_over}
-use Rattle.fleet_run.specs.Sink.{HandsOn, StopsWithin, Delivers}
+use Rattle.fleet_run.specs.Sink.{HandsOn, Delivers}
 use Rattle.fleet_run.specs.Outcome.{EndTest, IsAskedFor, StopsAtSource}
 use Rattle.fleet_run.specs.Rehearsal.{Rehearses}
 use Rattle.fleet_cli.specs.Flushed.{RehearsesFlushed}
@@ -28,11 +28,6 @@ keeps_more (Some xs) (Some ys) (Some zs) h k = cc
 -- what has grown, and is kept
 pub appends_kept : (a b c : Option (List ℕ)) (xs : List ℕ) → Appends a b xs → Keeps b c → Appends a c xs
 appends_kept a b c xs h k = appends_same a c (xs ++ []) xs (appends_more a b c xs [] h (appends_nothing b c k)) (append-nil xs)
-
--- what failed within the bytes was not delivered
-pub delivers_err : {T E : Type 0} (a c : Option (List ℕ)) (failed flushed : Bool) (r : Result T E) (xs : List ℕ) → IsErr r → StopsWithin a c failed xs → Delivers a c failed flushed r xs
-delivers_err a c failed flushed (Ok _) xs e h = cc
-delivers_err a c failed flushed (Err _) xs e ((n, below, so_far), failing) = ((n, omega (arith, below), so_far), failing)
 
 -- what was taken whole is delivered, or lost at the flush
 pub delivers_after : {T E : Type 0} (a b c : Option (List ℕ)) (failed flushed : Bool) (r : Result T E) (xs : List ℕ) → Appends a b xs → HandsOn b c failed flushed r → Delivers a c failed flushed r xs

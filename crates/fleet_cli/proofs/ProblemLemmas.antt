@@ -1,30 +1,16 @@
 -- Faults of the texts and the bytes of a command.
-use Rattle.std.proofs.Common.{◌≡◌, ℕ, List, Option, Some, None, Result, Ok, Err, MatchResult, inl, inr}
+use Rattle.std.proofs.Common.{ℕ, List, Option, Some, None, Result, Ok, Err, MatchResult, inr}
 use Rattle.fleet_model.specs.declared.task.Task.{Task}
 use Rattle.fleet_grid.specs.Ground.{Ground}
 use Rattle.fleet_cli.specs.Files.{Store, IsKept}
 use Rattle.fleet_auto.specs.Texts.{AreTextsOf}
 use Rattle.fleet_cli.specs.Output.{Output}
 use Rattle.fleet_cli.specs.RehearseCommand.{AreHoldBytes}
-use Rattle.fleet_cli.specs.Problem.{IsProblemFault, IsAcceptFault, AcceptsTexts, IsTextsFault}
+use Rattle.fleet_cli.specs.Problem.{IsAcceptFault, AcceptsTexts, IsTextsFault}
 use Rattle.fleet_cli.specs.DriveCommand.{WritesTrace, IsTraceFault, RunsTexts, IsRunFault}
 use Rattle.fleet_cli.specs.declared.fault.Fault.{Fault}
 use Rattle.fleet_cli.specs.declared.fault.Fault.TheVariants as f
 use Rattle.fleet_cli.proofs.FileLemmas.{held_before}
-
-pub problem_fault : (map scen : List ℕ) (asked : Option ℕ) (bytes : List ℕ) (fault : Fault) → IsProblemFault map scen asked fault → IsTextsFault map scen asked bytes fault
-problem_fault map scen asked bytes (f.Map x) h = h
-problem_fault map scen asked bytes (f.Scen x) h = h
-problem_fault map scen asked bytes (f.Text x) h = absurd h
-problem_fault map scen asked bytes (f.Check x) h = absurd h
-problem_fault map scen asked bytes (f.Search x) h = absurd h
-problem_fault map scen asked bytes (f.Hex x) h = absurd h
-problem_fault map scen asked bytes (f.Load x) h = absurd h
-problem_fault map scen asked bytes (f.Compile x) h = absurd h
-problem_fault map scen asked bytes (f.Verify x) h = absurd h
-problem_fault map scen asked bytes (f.Run x) h = absurd h
-problem_fault map scen asked bytes f.Memory h = absurd h
-problem_fault map scen asked bytes (f.File x) h = absurd h
 
 pub accept_fault : (map scen : List ℕ) (asked : Option ℕ) (bytes : List ℕ) (g : Ground) (tasks : List Task) (fault : Fault) → AreTextsOf map scen asked g tasks → IsAcceptFault bytes g tasks fault
     → IsTextsFault map scen asked bytes fault

@@ -12,7 +12,7 @@ use Rattle.fleet_auto.specs.Making.{IsPlannedFor, IsPlanStop}
 use Rattle.fleet_auto.specs.Auto.{MakesProgram}
 use Rattle.fleet_auto.specs.declared.fault.AutoFault.{AutoFault}
 use Rattle.fleet_auto.specs.declared.fault.AutoFault.TheVariants as a
-use Rattle.fleet_cli.specs.Files.{Store, IsKept, Holds as HasBytes}
+use Rattle.fleet_cli.specs.Files.{Store, Holds as HasBytes}
 use Rattle.fleet_cli.specs.Lines.{status_of}
 use Rattle.fleet_cli.specs.Output.{Output, IsUnwritten, IsTold}
 use Rattle.fleet_cli.specs.InstanceCommand.{AreInstanceBytes}

@@ -22,17 +22,19 @@ use Rattle.fleet_cli.specs.DriveCommand.{RunsRun}
 use Rattle.fleet_cli.specs.AutoCommand.{RunsAuto}
 use Rattle.fleet_cli.specs.declared.fault.Fault.TheVariants as f
 
--- what each command does
+-- what each command does: all but `compile` leave every file as before
 abbrev pub RunsRequest : (files after : Option Store) → Request → Output → Output → ℕ → Type 0
-RunsRequest files after (r.Instance map scen agents) out err status = RunsInstance files map.now scen.now agents out err status
-RunsRequest files after (r.Check map scen plan agents) out err status = RunsCheck files map.now scen.now plan.now agents out err status
-RunsRequest files after (r.Plan map scen agents horizon) out err status = RunsPlan files map.now scen.now agents horizon out err status
+RunsRequest files after (r.Instance map scen agents) out err status = RunsInstance files map.now scen.now agents out err status × IsKept files after
+RunsRequest files after (r.Check map scen plan agents) out err status = RunsCheck files map.now scen.now plan.now agents out err status × IsKept files after
+RunsRequest files after (r.Plan map scen agents horizon) out err status = RunsPlan files map.now scen.now agents horizon out err status × IsKept files after
 RunsRequest files after (r.Compile map scen plan name agents deps) out err status =
     RunsCompile files after map.now scen.now plan.now name.now agents deps out err status
-RunsRequest files after (r.Verify map scen program agents) out err status = RunsVerify files map.now scen.now program.now agents out err status
+RunsRequest files after (r.Verify map scen program agents) out err status =
+    RunsVerify files map.now scen.now program.now agents out err status × IsKept files after
 RunsRequest files after (r.Run map scen program agents holds) out err status =
-    RunsRun files map.now scen.now program.now agents (option_map (λ n. n.now) holds) out err status
-RunsRequest files after (r.Rehearse program holds) out err status = RunsRehearse files program.now (option_map (λ n. n.now) holds) out err status
+    RunsRun files map.now scen.now program.now agents (option_map (λ n. n.now) holds) out err status × IsKept files after
+RunsRequest files after (r.Rehearse program holds) out err status =
+    RunsRehearse files program.now (option_map (λ n. n.now) holds) out err status × IsKept files after
 RunsRequest files after (r.Auto map scen agents horizon deps holds) out err status =
     RunsAuto files map.now scen.now agents horizon deps (option_map (λ n. n.now) holds) out err status × IsKept files after
 
@@ -45,10 +47,11 @@ StopsAtWords (w.Help text) out err status =
     ⊎ ((status ≡ 3) × FailsAfter out.before out.taken out.has_failed (string_bytes text)
     × Receives err.before err.taken err.has_failed (line_text (codes "file" ∷ codes "-" ∷ [])))
 
--- without words the run of the input; else the command that the words ask, or a stop at words that the command line does not take
+-- without words the run of the input; else the command that the words ask, or a stop at words that the command line does not take. Every
+-- file is as before, but for what the command `compile` writes
 abbrev pub RunsCommand : List Text → Option (List ℕ) → (files after : Option Store) → Output → Output → ℕ → Type 0
-RunsCommand [] input files after out err status = RunsHex input out err status
+RunsCommand [] input files after out err status = RunsHex input out err status × IsKept files after
 RunsCommand (word ∷ words) input files after out err status =
     (names : DepsNames) × AreDeps names
     × (((request : Request) × Asks (fleet names) (word ∷ words) (asked_of request) × RunsRequest files after request out err status)
-    ⊎ ((stop : WordStop) × StopsFor (fleet names) (word ∷ words) stop × StopsAtWords stop out err status))
+    ⊎ ((stop : WordStop) × StopsFor (fleet names) (word ∷ words) stop × StopsAtWords stop out err status × IsKept files after))

@@ -1,5 +1,5 @@
 -- What the command `verify` prints: that a program is accepted, and its numbers.
-use Rattle.std.specs.Prelude.{◌≡◌, ℕ, List, [], ◌∷◌, ◌++◌, length, ◌⊎◌, Option, codes, decimal}
+use Rattle.std.specs.Prelude.{◌≡◌, ℕ, List, [], ◌∷◌, ◌++◌, length, ◌⊎◌, Option, codes}
 use Rattle.fleet_model.specs.Program.{Program, total_moves, total_awaits}
 use Rattle.fleet_run.specs.Sink.{FailsAfter}
 use Rattle.fleet_cli.specs.Files.{Store, Holds as HasBytes}

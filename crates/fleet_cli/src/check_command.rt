@@ -3,6 +3,7 @@
 ghost use Rattle.std.specs.Prelude.{◌≡◌, false, List, ℕ, MatchResult, length, codes};
 ghost use Rattle.fleet_plan.specs.Plan.{steps};
 ghost use Rattle.fleet_run.specs.Sink.{TakesAll, Delivers};
+ghost use Rattle.fleet_cli.specs.Files.{IsKept};
 ghost use Rattle.fleet_cli.specs.CheckCommand.{free_line, count_line, check_text, PrintsCheck, IsCheckFault, AreCheckBytes, IsCheckRefusal, RunsCheck};
 
 use crate::fault::Fault;
@@ -112,12 +113,13 @@ fn check_files<'a, F: Files, O: TraceOut>(
     out: &mut O,
 ) -> Result<(), Fault<'a>>
     requires { O.has_failed out.old ≡ false }
-    ensures { MatchResult result
+    ensures did { MatchResult result
         (λ _. (map_bytes : List ℕ) × (scen_bytes : List ℕ) × (plan_bytes : List ℕ)
         × AreCheckBytes (F.contents files.old) map.entry.now scen.entry.now plan.entry.now map_bytes scen_bytes plan_bytes
         × PrintsCheck map_bytes scen_bytes plan_bytes asked (record { before = O.taken out.old; taken = O.taken out.new; has_failed = O.has_failed out.new; is_flushed = O.is_flushed out.new }))
         (IsCheckRefusal (F.contents files.old) map.entry.now scen.entry.now plan.entry.now asked
         (record { before = O.taken out.old; taken = O.taken out.new; has_failed = O.has_failed out.new; is_flushed = O.is_flushed out.new })) }
+    ensures kept { IsKept (F.contents files.old) (F.contents files.new) }
 {
     let map = match read_file(alloc, files, map) {
         Ok(bytes) => bytes,
@@ -138,7 +140,7 @@ fn check_files<'a, F: Files, O: TraceOut>(
 }
 
 /// The command `check MAP SCEN PLAN [--agents K]`: reads the files whole, and prints to `out` that the plan is free of conflict, with
-/// its agents and its steps. Answers 0; a refusal, as the plan's first fault, is told on `err` and its status answered.
+/// its agents and its steps. Answers 0; a refusal, as the plan's first fault, is told on `err` and its status answered. No file is changed.
 pub fn run_check<F: Files, O: TraceOut, E: TraceOut>(
     alloc: Global,
     map: &str,
@@ -151,10 +153,11 @@ pub fn run_check<F: Files, O: TraceOut, E: TraceOut>(
 ) -> u8
     requires out_working { O.has_failed out.old ≡ false }
     requires err_working { E.has_failed err.old ≡ false }
-    ensures { RunsCheck (F.contents files.old) map.now scen.now plan.now asked
+    ensures told { RunsCheck (F.contents files.old) map.now scen.now plan.now asked
         (record { before = O.taken out.old; taken = O.taken out.new; has_failed = O.has_failed out.new; is_flushed = O.is_flushed out.new })
         (record { before = E.taken err.old; taken = E.taken err.new; has_failed = E.has_failed err.new; is_flushed = E.is_flushed err.new })
         result }
+    ensures kept { IsKept (F.contents files.old) (F.contents files.new) }
 {
     match check_files(alloc, map, scen, plan, asked, files, out) {
         Ok(()) => 0,

@@ -1,6 +1,7 @@
 //! The command `run`.
 
 ghost use Rattle.std.specs.Prelude.{◌≡◌, false, MatchResult, option_map};
+ghost use Rattle.fleet_cli.specs.Files.{IsKept};
 ghost use Rattle.fleet_cli.specs.DriveCommand.{WritesTrace, IsTraceFault, RunsTexts, IsRunFault, IsRunRefusal, RunsFiles, RunsRun};
 
 use crate::fault::Fault;
@@ -75,11 +76,12 @@ fn run_files<'a, F: Files, O: TraceOut>(
     out: &mut O,
 ) -> Result<(), Fault<'a>>
     requires { O.has_failed out.old ≡ false }
-    ensures { MatchResult result
+    ensures did { MatchResult result
         (λ _. RunsFiles (F.contents files.old) map.entry.now scen.entry.now program.entry.now asked (option_map (λ n. n.now) holds.entry)
         (record { before = O.taken out.old; taken = O.taken out.new; has_failed = O.has_failed out.new; is_flushed = O.is_flushed out.new }))
         (IsRunRefusal (F.contents files.old) map.entry.now scen.entry.now program.entry.now asked (option_map (λ n. n.now) holds.entry)
         (record { before = O.taken out.old; taken = O.taken out.new; has_failed = O.has_failed out.new; is_flushed = O.is_flushed out.new })) }
+    ensures kept { IsKept (F.contents files.old) (F.contents files.new) }
 {
     let map = match read_file(alloc, files, map) {
         Ok(bytes) => bytes,
@@ -104,7 +106,7 @@ fn run_files<'a, F: Files, O: TraceOut>(
 }
 
 /// The command `run MAP SCEN PROGRAM [--agents K] [--holds FILE]`: reads the files whole, verifies the program, and writes its trace,
-/// under the holds, to `out`. Answers 0; a refusal is told on `err` and its status answered.
+/// under the holds, to `out`. Answers 0; a refusal is told on `err` and its status answered. No file is changed.
 pub fn run_run<F: Files, O: TraceOut, E: TraceOut>(
     alloc: Global,
     map: &str,
@@ -118,10 +120,11 @@ pub fn run_run<F: Files, O: TraceOut, E: TraceOut>(
 ) -> u8
     requires out_working { O.has_failed out.old ≡ false }
     requires err_working { E.has_failed err.old ≡ false }
-    ensures { RunsRun (F.contents files.old) map.now scen.now program.now asked (option_map (λ n. n.now) holds.entry)
+    ensures told { RunsRun (F.contents files.old) map.now scen.now program.now asked (option_map (λ n. n.now) holds.entry)
         (record { before = O.taken out.old; taken = O.taken out.new; has_failed = O.has_failed out.new; is_flushed = O.is_flushed out.new })
         (record { before = E.taken err.old; taken = E.taken err.new; has_failed = E.has_failed err.new; is_flushed = E.is_flushed err.new })
         result }
+    ensures kept { IsKept (F.contents files.old) (F.contents files.new) }
 {
     match run_files(alloc, map, scen, program, asked, holds, files, out) {
         Ok(()) => 0,

@@ -2,6 +2,7 @@
 
 ghost use Rattle.std.specs.Prelude.{◌≡◌, ◌<◌, false, length, List, ℕ, MatchResult};
 ghost use Rattle.fleet_run.specs.Sink.{TakesAll, Delivers};
+ghost use Rattle.fleet_cli.specs.Files.{IsKept};
 ghost use Rattle.fleet_cli.specs.InstanceCommand.{task_line, task_lines, map_line, ground_line, agents_line, instance_text, PrintsInstance, IsInstanceFault, AreInstanceBytes, IsInstanceRefusal, RunsInstance};
 
 use crate::fault::Fault;
@@ -129,11 +130,12 @@ fn show_files<'a, F: Files, O: TraceOut>(
     out: &mut O,
 ) -> Result<(), Fault<'a>>
     requires { O.has_failed out.old ≡ false }
-    ensures { MatchResult result
+    ensures did { MatchResult result
         (λ _. (map_bytes : List ℕ) × (scen_bytes : List ℕ) × AreInstanceBytes (F.contents files.old) map.entry.now scen.entry.now map_bytes scen_bytes
         × PrintsInstance map_bytes scen_bytes asked (record { before = O.taken out.old; taken = O.taken out.new; has_failed = O.has_failed out.new; is_flushed = O.is_flushed out.new }))
         (IsInstanceRefusal (F.contents files.old) map.entry.now scen.entry.now asked
         (record { before = O.taken out.old; taken = O.taken out.new; has_failed = O.has_failed out.new; is_flushed = O.is_flushed out.new })) }
+    ensures kept { IsKept (F.contents files.old) (F.contents files.new) }
 {
     let map = match read_file(alloc, files, map) {
         Ok(bytes) => bytes,
@@ -150,7 +152,7 @@ fn show_files<'a, F: Files, O: TraceOut>(
 }
 
 /// The command `instance MAP SCEN [--agents K]`: reads both files whole, and prints to `out` the sizes of the map, its passable
-/// cells, and the start and the goal of each agent. Answers 0; a refusal is told on `err` and its status answered.
+/// cells, and the start and the goal of each agent. Answers 0; a refusal is told on `err` and its status answered. No file is changed.
 pub fn run_instance<F: Files, O: TraceOut, E: TraceOut>(
     alloc: Global,
     map: &str,
@@ -162,10 +164,11 @@ pub fn run_instance<F: Files, O: TraceOut, E: TraceOut>(
 ) -> u8
     requires out_working { O.has_failed out.old ≡ false }
     requires err_working { E.has_failed err.old ≡ false }
-    ensures { RunsInstance (F.contents files.old) map.now scen.now asked
+    ensures told { RunsInstance (F.contents files.old) map.now scen.now asked
         (record { before = O.taken out.old; taken = O.taken out.new; has_failed = O.has_failed out.new; is_flushed = O.is_flushed out.new })
         (record { before = E.taken err.old; taken = E.taken err.new; has_failed = E.has_failed err.new; is_flushed = E.is_flushed err.new })
         result }
+    ensures kept { IsKept (F.contents files.old) (F.contents files.new) }
 {
     match show_files(alloc, map, scen, asked, files, out) {
         Ok(()) => 0,

@@ -1,6 +1,7 @@
 //! The command `plan`.
 
 ghost use Rattle.std.specs.Prelude.{◌≡◌, false, List, ℕ, MatchResult};
+ghost use Rattle.fleet_cli.specs.Files.{IsKept};
 ghost use Rattle.fleet_cli.specs.InstanceCommand.{AreInstanceBytes};
 ghost use Rattle.fleet_cli.specs.PlanCommand.{PrintsPlan, IsPlanCommandFault, IsPlanRefusal, RunsPlan};
 
@@ -59,11 +60,12 @@ fn plan_files<'a, F: Files, O: TraceOut>(
     out: &mut O,
 ) -> Result<(), Fault<'a>>
     requires { O.has_failed out.old ≡ false }
-    ensures { MatchResult result
+    ensures did { MatchResult result
         (λ _. (map_bytes scen_bytes : List ℕ) × AreInstanceBytes (F.contents files.old) map.entry.now scen.entry.now map_bytes scen_bytes
         × PrintsPlan map_bytes scen_bytes asked horizon (record { before = O.taken out.old; taken = O.taken out.new; has_failed = O.has_failed out.new; is_flushed = O.is_flushed out.new }))
         (IsPlanRefusal (F.contents files.old) map.entry.now scen.entry.now asked horizon
         (record { before = O.taken out.old; taken = O.taken out.new; has_failed = O.has_failed out.new; is_flushed = O.is_flushed out.new })) }
+    ensures kept { IsKept (F.contents files.old) (F.contents files.new) }
 {
     let map = match read_file(alloc, files, map) {
         Ok(bytes) => bytes,
@@ -80,7 +82,8 @@ fn plan_files<'a, F: Files, O: TraceOut>(
 }
 
 /// The command `plan MAP SCEN [--agents K] [--horizon H]`: reads both files whole, and prints to `out` a plan in which each agent's path
-/// is the earliest against those of the agents before it. Answers 0; a refusal is told on `err` and its status answered.
+/// is the earliest against those of the agents before it. Answers 0; a refusal is told on `err` and its status answered. No
+/// file is changed.
 pub fn run_plan<F: Files, O: TraceOut, E: TraceOut>(
     alloc: Global,
     map: &str,
@@ -93,10 +96,11 @@ pub fn run_plan<F: Files, O: TraceOut, E: TraceOut>(
 ) -> u8
     requires out_working { O.has_failed out.old ≡ false }
     requires err_working { E.has_failed err.old ≡ false }
-    ensures { RunsPlan (F.contents files.old) map.now scen.now asked horizon
+    ensures told { RunsPlan (F.contents files.old) map.now scen.now asked horizon
         (record { before = O.taken out.old; taken = O.taken out.new; has_failed = O.has_failed out.new; is_flushed = O.is_flushed out.new })
         (record { before = E.taken err.old; taken = E.taken err.new; has_failed = E.has_failed err.new; is_flushed = E.is_flushed err.new })
         result }
+    ensures kept { IsKept (F.contents files.old) (F.contents files.new) }
 {
     match plan_files(alloc, map, scen, asked, horizon, files, out) {
         Ok(()) => 0,

@@ -79,11 +79,12 @@ fn rehearse_files<'a, F: Files, O: TraceOut>(
     out: &mut O,
 ) -> Result<End, Fault<'a>>
     requires { O.has_failed out.old ≡ false }
-    ensures { MatchResult result
+    ensures did { MatchResult result
         (RehearsesFiles (F.contents files.old) program.entry.now (option_map (λ n. n.now) holds.entry)
         (record { before = O.taken out.old; taken = O.taken out.new; has_failed = O.has_failed out.new; is_flushed = O.is_flushed out.new }))
         (IsRehearseRefusal (F.contents files.old) program.entry.now (option_map (λ n. n.now) holds.entry)
         (record { before = O.taken out.old; taken = O.taken out.new; has_failed = O.has_failed out.new; is_flushed = O.is_flushed out.new })) }
+    ensures kept { IsKept (F.contents files.old) (F.contents files.new) }
 {
     let bytes = match read_file(alloc, files, program) {
         Ok(bytes) => bytes,
@@ -100,7 +101,8 @@ fn rehearse_files<'a, F: Files, O: TraceOut>(
 }
 
 /// The command `rehearse PROGRAM [--holds FILE]`: reads both files whole, and writes the rehearsal of the program, under the holds,
-/// to `out`. Answers 0 where it ends finished and 1 where it ends stuck; a refusal is told on `err` and its status answered.
+/// to `out`. Answers 0 where it ends finished and 1 where it ends stuck; a refusal is told on `err` and its status answered. No
+/// file is changed.
 pub fn run_rehearse<F: Files, O: TraceOut, E: TraceOut>(
     alloc: Global,
     program: &str,
@@ -111,10 +113,11 @@ pub fn run_rehearse<F: Files, O: TraceOut, E: TraceOut>(
 ) -> u8
     requires out_working { O.has_failed out.old ≡ false }
     requires err_working { E.has_failed err.old ≡ false }
-    ensures { RunsRehearse (F.contents files.old) program.now (option_map (λ n. n.now) holds.entry)
+    ensures told { RunsRehearse (F.contents files.old) program.now (option_map (λ n. n.now) holds.entry)
         (record { before = O.taken out.old; taken = O.taken out.new; has_failed = O.has_failed out.new; is_flushed = O.is_flushed out.new })
         (record { before = E.taken err.old; taken = E.taken err.new; has_failed = E.has_failed err.new; is_flushed = E.is_flushed err.new })
         result }
+    ensures kept { IsKept (F.contents files.old) (F.contents files.new) }
 {
     match rehearse_files(alloc, program, holds, files, out) {
         Ok(End::Finished) => 0,

@@ -2,6 +2,7 @@
 
 ghost use Rattle.std.specs.Prelude.{◌≡◌, false, List, ℕ, MatchResult};
 ghost use Rattle.fleet_run.specs.Sink.{TakesAll, Delivers};
+ghost use Rattle.fleet_cli.specs.Files.{IsKept};
 ghost use Rattle.fleet_cli.specs.VerifyCommand.{accepted_lines, accepted_text, PrintsAccepted, IsVerifyFault, AreProgramBytes, IsVerifyRefusal, RunsVerify};
 
 use crate::check_command::put_count;
@@ -95,11 +96,12 @@ fn verify_files<'a, F: Files, O: TraceOut>(
     out: &mut O,
 ) -> Result<(), Fault<'a>>
     requires { O.has_failed out.old ≡ false }
-    ensures { MatchResult result
+    ensures did { MatchResult result
         (λ _. (map_bytes scen_bytes bytes : List ℕ) × AreProgramBytes (F.contents files.old) map.entry.now scen.entry.now program.entry.now map_bytes scen_bytes bytes
         × PrintsAccepted map_bytes scen_bytes asked bytes (record { before = O.taken out.old; taken = O.taken out.new; has_failed = O.has_failed out.new; is_flushed = O.is_flushed out.new }))
         (IsVerifyRefusal (F.contents files.old) map.entry.now scen.entry.now program.entry.now asked
         (record { before = O.taken out.old; taken = O.taken out.new; has_failed = O.has_failed out.new; is_flushed = O.is_flushed out.new })) }
+    ensures kept { IsKept (F.contents files.old) (F.contents files.new) }
 {
     let map = match read_file(alloc, files, map) {
         Ok(bytes) => bytes,
@@ -120,7 +122,7 @@ fn verify_files<'a, F: Files, O: TraceOut>(
 }
 
 /// The command `verify MAP SCEN PROGRAM [--agents K]`: reads the files whole, and prints to `out` that the program is accepted, with its
-/// numbers. Answers 0; a refusal is told on `err` and its status answered.
+/// numbers. Answers 0; a refusal is told on `err` and its status answered. No file is changed.
 pub fn run_verify<F: Files, O: TraceOut, E: TraceOut>(
     alloc: Global,
     map: &str,
@@ -133,10 +135,11 @@ pub fn run_verify<F: Files, O: TraceOut, E: TraceOut>(
 ) -> u8
     requires out_working { O.has_failed out.old ≡ false }
     requires err_working { E.has_failed err.old ≡ false }
-    ensures { RunsVerify (F.contents files.old) map.now scen.now program.now asked
+    ensures told { RunsVerify (F.contents files.old) map.now scen.now program.now asked
         (record { before = O.taken out.old; taken = O.taken out.new; has_failed = O.has_failed out.new; is_flushed = O.is_flushed out.new })
         (record { before = E.taken err.old; taken = E.taken err.new; has_failed = E.has_failed err.new; is_flushed = E.is_flushed err.new })
         result }
+    ensures kept { IsKept (F.contents files.old) (F.contents files.new) }
 {
     match verify_files(alloc, map, scen, program, asked, files, out) {
         Ok(()) => 0,

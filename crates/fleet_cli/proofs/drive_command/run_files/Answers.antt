@@ -4,8 +4,8 @@ use Rattle.fleet_cli.proofs.FlushLemmas.{keeps_self}
 use Rattle.fleet_cli.proofs.ProblemLemmas.{holds_before}
 use Rattle.fleet_cli.proofs.drive_command.run_files.Goals as goal
 
-pub returns-in-Err-read_holds : goal.returns-in-Err-read_holds
-returns-in-Err-read_holds g c =
+pub returns-in-Err-read_holds-clause-did : goal.returns-in-Err-read_holds-clause-did
+returns-in-Err-read_holds-clause-did g c =
     let second = kept_on _ _ _ c.in-Ok.ensures.kept c.in-Ok-read_file.ensures.kept in
     let unread = c.in-Err-read_holds.ensures.fault in
     inr (inl (
@@ -23,8 +23,8 @@ returns-in-Err-read_holds g c =
       record { same = keeps_self _; working = c.requires },
     ))
 
-pub returns-in-Ok-run_bytes : goal.returns-in-Ok-run_bytes
-returns-in-Ok-run_bytes g c =
+pub returns-in-Ok-run_bytes-clause-did : goal.returns-in-Ok-run_bytes-clause-did
+returns-in-Ok-run_bytes-clause-did g c =
     let second = kept_on _ _ _ c.in-Ok.ensures.kept c.in-Ok-read_file.ensures.kept in
     let third = kept_on _ _ _ second c.in-Ok-read_file-2.ensures.kept in (
       c.deref.result.now,
@@ -40,8 +40,8 @@ returns-in-Ok-run_bytes g c =
       c.in-Ok-run_bytes.ensures,
     )
 
-pub returns : goal.returns
-returns g c =
+pub returns-clause-did : goal.returns-clause-did
+returns-clause-did g c =
     let second = kept_on _ _ _ c.in-Ok.ensures.kept c.in-Ok-read_file.ensures.kept in
     let third = kept_on _ _ _ second c.in-Ok-read_file-2.ensures.kept in
     inr (inr (

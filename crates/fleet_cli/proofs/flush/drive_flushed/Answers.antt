@@ -1,4 +1,4 @@
-use Rattle.std.proofs.Common.{ap, sym, ◌∙◌, subst, ◌≡◌, Ok}
+use Rattle.std.proofs.Common.{subst}
 use Rattle.std.specs.Prelude.{IfOk}
 use Rattle.fleet_run.specs.Drive.{IsInTime}
 use Rattle.fleet_cli.proofs.DriveLemmas.{flushed_run}

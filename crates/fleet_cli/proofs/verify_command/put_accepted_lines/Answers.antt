@@ -1,4 +1,4 @@
-use Rattle.std.proofs.Common.{rules, codes, ◌++◌, ◌∷◌, []}
+use Rattle.std.proofs.Common.{rules, codes, ◌∷◌, []}
 use Rattle.fleet_run.proofs.SinkLemmas.{takes_err, takes_then, stops_after, stops_within_more}
 use Rattle.fleet_cli.specs.Words.{line_text}
 use Rattle.fleet_cli.specs.CheckCommand.{count_line}

@@ -2,8 +2,8 @@ use Rattle.std.proofs.Common.{inr}
 use Rattle.fleet_cli.proofs.FileLemmas.{held_before, kept_on}
 use Rattle.fleet_cli.proofs.verify_command.verify_files.Goals as goal
 
-pub returns : goal.returns
-returns g c =
+pub returns-clause-did : goal.returns-clause-did
+returns-clause-did g c =
     let second = kept_on _ _ _ c.in-Ok.ensures.kept c.in-Ok-read_file.ensures.kept in
     inr (
       c.deref.result.now,

@@ -8,10 +8,10 @@ use Rattle.std.specs.declared.io.ErrorKind.TheVariants.{OutOfMemory}
 use Rattle.std.specs.declared.string.String.{String}
 use Rattle.std.specs.declared.vec.Vec.{Vec}
 use Rattle.fleet_run.specs.Sink.{Receives}
-use Rattle.fleet_cli.specs.Files.{Store, IsKept}
-use Rattle.fleet_cli.specs.Output.{Output, IsUnwritten, IsTold}
+use Rattle.fleet_io.specs.Files.{Store, IsKept}
+use Rattle.fleet_io.specs.Output.{Output, IsUnwritten, IsTold}
 use Rattle.fleet_cli.specs.Command.{RunsCommand}
-use Rattle.fleet_cli.specs.declared.fault.Fault.TheVariants as f
+use Rattle.fleet_io.specs.declared.fault.Fault.TheVariants as f
 
 -- what is told where a word is no text
 abbrev pub no_text_line : List ℕ

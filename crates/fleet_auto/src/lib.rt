@@ -10,6 +10,7 @@ mod problem;
 mod running;
 
 pub use fault::AutoFault;
+pub use problem::{Problem, read_problem};
 pub use running::auto_run;
 
 #[cfg(test)]

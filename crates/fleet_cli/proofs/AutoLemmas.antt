@@ -10,11 +10,12 @@ use Rattle.fleet_adg.specs.declared.deps.Deps.{Deps}
 use Rattle.fleet_auto.specs.Trace.{Written, hold_ticks, hold_last, StopsTrace, WritesTrace as WritesWhole}
 use Rattle.fleet_auto.specs.Auto.{MakesProgram}
 use Rattle.fleet_cli.specs.AutoCommand.{RunsMade, IsMadeFault}
-use Rattle.fleet_cli.specs.Flushed.{FlushesRun}
-use Rattle.fleet_cli.specs.Driven.{DrivesFlushed}
+use Rattle.fleet_io.specs.Flushed.{FlushesRun}
+use Rattle.fleet_io.specs.Driven.{DrivesFlushed}
 use Rattle.fleet_cli.specs.DriveCommand.{WritesTrace, IsTraceFault}
-use Rattle.fleet_cli.specs.declared.fault.Fault.TheVariants as f
-use Rattle.fleet_cli.proofs.DriveLemmas.{flushed_run, trace_of}
+use Rattle.fleet_io.specs.declared.fault.Fault.TheVariants as f
+use Rattle.fleet_cli.proofs.DriveLemmas.{trace_of}
+use Rattle.fleet_io.proofs.DrivenLemmas.{flushed_run}
 
 -- the trace was written whole, or it stopped
 abbrev pub Traces : Program → ℕ → List ℕ → Written → Result Report RunFault → Type 0

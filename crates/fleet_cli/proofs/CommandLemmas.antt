@@ -4,8 +4,8 @@ use Rattle.clap.specs.Words.{Text}
 use Rattle.fleet_args.specs.Request.{ReadsFleet}
 use Rattle.fleet_args.specs.declared.request.Request.{Request}
 use Rattle.fleet_args.specs.declared.request.WordStop.{WordStop}
-use Rattle.fleet_cli.specs.Files.{Store, IsKept}
-use Rattle.fleet_cli.specs.Output.{Output}
+use Rattle.fleet_io.specs.Files.{Store, IsKept}
+use Rattle.fleet_io.specs.Output.{Output}
 use Rattle.fleet_cli.specs.Command.{RunsRequest, StopsAtWords, RunsCommand}
 
 module _ {X : Type 0} (text : X → Text) (input : Option (List ℕ)) (files after : Option Store) (out err : Output) (status : ℕ) where

@@ -4,10 +4,10 @@ use Rattle.fleet_model.specs.Program.{Program}
 use Rattle.fleet_model.specs.Machine.{Holds}
 use Rattle.fleet_code.specs.Spelling.{Spells}
 use Rattle.fleet_code.specs.Hex.{bytes_of}
-use Rattle.fleet_cli.specs.Flushed.{RehearsesFlushed}
+use Rattle.fleet_io.specs.Flushed.{RehearsesFlushed}
 use Rattle.fleet_cli.specs.HexRun.{IsTextOf, IsRefusalOf}
 use Rattle.fleet_run.specs.declared.run.RunFault.{RunFault}
-use Rattle.fleet_cli.specs.declared.fault.Fault.TheVariants as f
+use Rattle.fleet_io.specs.declared.fault.Fault.TheVariants as f
 
 pub stops_run : (input before taken : Option (List ℕ)) (failed flushed : Bool) (text text' bytes bytes' : List ℕ) (p : Program) (holds left : Holds) (fault : RunFault)
     → IsTextOf input text → text' ≡ text → bytes_of text' ≡ Ok bytes → bytes' ≡ bytes → Spells bytes' p → holds ≡ []

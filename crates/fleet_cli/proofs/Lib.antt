@@ -1,9 +1,6 @@
-pub mod FlushLemmas
-pub mod WordLemmas
 pub mod HexRuns
 pub mod RehearsesLemmas
 pub mod InstanceLemmas
-pub mod FileLemmas
 pub mod DriveLemmas
 pub mod ProblemLemmas
 pub mod CommandLemmas

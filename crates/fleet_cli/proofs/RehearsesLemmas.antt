@@ -5,13 +5,13 @@ use Rattle.fleet_model.specs.Machine.{Holds}
 use Rattle.fleet_grid.specs.Text.{lines}
 use Rattle.fleet_code.specs.Spelling.{Spells}
 use Rattle.fleet_run.specs.HoldText.{HoldLines, ticks_of, last_of}
-use Rattle.fleet_cli.specs.Flushed.{RehearsesFlushed}
+use Rattle.fleet_io.specs.Flushed.{RehearsesFlushed}
 use Rattle.fleet_auto.specs.Trace.{hold_ticks, hold_last}
 use Rattle.fleet_cli.specs.RehearseCommand.{RehearsesBytes, IsRehearseFault}
 use Rattle.fleet_run.specs.declared.source.SourceFault.{SourceFault}
 use Rattle.fleet_run.specs.declared.report.Rehearsal.{Rehearsal}
 use Rattle.fleet_run.specs.declared.run.RunFault.{RunFault}
-use Rattle.fleet_cli.specs.declared.fault.Fault.TheVariants as f
+use Rattle.fleet_io.specs.declared.fault.Fault.TheVariants as f
 
 module _ (bytes held : List ℕ) (p : Program) (n : ℕ) (s : HoldLines) (before taken : Option (List ℕ)) (has_failed flushed : Bool)
     (now failed : Option SourceFault) (left : Holds) (spelled : Spells bytes p) (agents : n ≡ length p)

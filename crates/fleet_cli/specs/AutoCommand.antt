@@ -1,34 +1,21 @@
 -- What the command `auto` does: it plans for a map and a scenario, compiles the plan and runs the program, under the holds of a file.
-use Rattle.std.specs.Prelude.{◌≡◌, ℕ, List, ◌⊎◌, Option, Some, Err}
+use Rattle.std.specs.Prelude.{◌≡◌, ℕ, List, [], ◌∷◌, ◌⊎◌, Option, Err}
 use Rattle.fleet_model.specs.declared.task.Task.{Task}
 use Rattle.fleet_grid.specs.Ground.{Ground}
-use Rattle.fleet_grid.specs.MapText.{IsMapText, IsFirstMapFault}
-use Rattle.fleet_scen.specs.ScenText.{IsFirstScenFault}
 use Rattle.fleet_plan.specs.Plan.{Plan}
 use Rattle.fleet_adg.specs.Compiled.{compiled_if_few}
 use Rattle.fleet_adg.specs.declared.deps.Deps.{Deps}
 use Rattle.fleet_auto.specs.Texts.{AreTextsOf}
 use Rattle.fleet_auto.specs.Making.{IsPlannedFor, IsPlanStop}
 use Rattle.fleet_auto.specs.Auto.{MakesProgram}
-use Rattle.fleet_auto.specs.declared.fault.AutoFault.{AutoFault}
-use Rattle.fleet_auto.specs.declared.fault.AutoFault.TheVariants as a
-use Rattle.fleet_cli.specs.Files.{Store, Holds as HasBytes}
-use Rattle.fleet_cli.specs.Lines.{status_of}
-use Rattle.fleet_cli.specs.Output.{Output, IsUnwritten, IsTold}
-use Rattle.fleet_cli.specs.InstanceCommand.{AreInstanceBytes}
-use Rattle.fleet_cli.specs.RehearseCommand.{IsReadFault, AreHoldBytes}
+use Rattle.fleet_io.specs.Files.{Store}
+use Rattle.fleet_io.specs.Named.{IsUnread, AreRead, hold_names, AreHoldBytes}
+use Rattle.fleet_io.specs.Lines.{status_of}
+use Rattle.fleet_io.specs.Output.{Output, IsUnwritten, IsTold}
+use Rattle.fleet_cli.specs.Problem.{IsProblemFault}
 use Rattle.fleet_cli.specs.DriveCommand.{WritesTrace, IsTraceFault}
-use Rattle.fleet_cli.specs.declared.fault.Fault.{Fault}
-use Rattle.fleet_cli.specs.declared.fault.Fault.TheVariants as f
-
--- the fault of a step as a refusal of the program, whose line and status are those of the fault within
-abbrev pub step_fault : AutoFault → Fault
-step_fault a.OutOfMemory = f.Memory
-step_fault (a.Map fault) = f.Map fault
-step_fault (a.Scen fault) = f.Scen fault
-step_fault (a.Plan stop) = f.Search stop
-step_fault (a.Compile fault) = f.Compile fault
-step_fault (a.Run fault) = f.Run fault
+use Rattle.fleet_io.specs.declared.fault.Fault.{Fault}
+use Rattle.fleet_io.specs.declared.fault.Fault.TheVariants as f
 
 -- A program is made of the texts: that of a plan free of conflict, whose paths are each the earliest against those before. Its trace was
 -- written under the holds, and handed on
@@ -40,8 +27,6 @@ pub record RunsMade (map scen : List ℕ) (asked : Option ℕ) (horizon : ℕ) (
 -- without a path by those before it; or too many moves in the plan; or the run of the program was refused. Until the run nothing is
 -- written, and memory may run out
 abbrev pub IsMadeFault : (map scen : List ℕ) → Option ℕ → ℕ → Deps → List ℕ → Output → Fault → Type 0
-IsMadeFault map scen asked horizon deps held out (f.Map fault) = IsFirstMapFault map fault × IsUnwritten out
-IsMadeFault map scen asked horizon deps held out (f.Scen fault) = (g : Ground) × IsMapText map g × IsFirstScenFault scen g asked fault × IsUnwritten out
 IsMadeFault map scen asked horizon deps held out (f.Search stop) =
     (g : Ground) × (tasks : List Task) × AreTextsOf map scen asked g tasks × IsPlanStop g tasks horizon stop × IsUnwritten out
 IsMadeFault map scen asked horizon deps held out (f.Compile fault) =
@@ -49,24 +34,19 @@ IsMadeFault map scen asked horizon deps held out (f.Compile fault) =
     × (compiled_if_few plan deps ≡ Err fault) × IsUnwritten out
 IsMadeFault map scen asked horizon deps held out (f.Run fault) =
     (a : MakesProgram map scen asked horizon deps) × IsTraceFault a.program a.chain held out (f.Run fault)
-IsMadeFault map scen asked horizon deps held out f.Memory = IsUnwritten out
-IsMadeFault map scen asked horizon deps held out _ = ⊥
+IsMadeFault map scen asked horizon deps held out fault = IsProblemFault map scen asked fault × IsUnwritten out
 
 -- the program that is made of the files ran to its end
 abbrev pub RunsMadeFiles : Option Store → (map scen : List ℕ) → Option ℕ → ℕ → Deps → Option (List ℕ) → Output → Type 0
 RunsMadeFiles files map scen asked horizon deps holds out =
-    (map_bytes scen_bytes held : List ℕ) × AreInstanceBytes files map scen map_bytes scen_bytes × AreHoldBytes files holds held
+    (map_bytes scen_bytes held : List ℕ) × AreRead files (map ∷ scen ∷ []) (map_bytes ∷ scen_bytes ∷ []) × AreHoldBytes files holds held
     × RunsMade map_bytes scen_bytes asked horizon deps held out
 
--- the map's file was not read; or it was, and that of the scenario was not; or both were, and that of the holds was not; or all were, and a
--- step refused what they hold
+-- a file was not read, of which that of the holds comes last; or all were, and a step refused what they hold
 abbrev pub IsAutoRefusal : Option Store → (map scen : List ℕ) → Option ℕ → ℕ → Deps → Option (List ℕ) → Output → Fault → Type 0
 IsAutoRefusal files map scen asked horizon deps holds out fault =
-    (IsReadFault map fault × IsUnwritten out)
-    ⊎ ((map_bytes : List ℕ) × HasBytes files map map_bytes × IsReadFault scen fault × IsUnwritten out)
-    ⊎ ((map_bytes scen_bytes name : List ℕ) × AreInstanceBytes files map scen map_bytes scen_bytes
-    × (holds ≡ Some name) × IsReadFault name fault × IsUnwritten out)
-    ⊎ ((map_bytes scen_bytes held : List ℕ) × AreInstanceBytes files map scen map_bytes scen_bytes × AreHoldBytes files holds held
+    (IsUnread files (map ∷ scen ∷ hold_names holds) fault × IsUnwritten out)
+    ⊎ ((map_bytes scen_bytes held : List ℕ) × AreRead files (map ∷ scen ∷ []) (map_bytes ∷ scen_bytes ∷ []) × AreHoldBytes files holds held
     × IsMadeFault map_bytes scen_bytes asked horizon deps held out fault)
 
 -- 0 where the program that is made of the files ran to its end and its trace was written, and else the status of a refusal that was told:

@@ -2,32 +2,25 @@
 use Rattle.std.specs.Prelude.{◌≡◌, ◌≢◌, ℕ, List, [], ◌∷◌, ◌++◌, length, ◌⊎◌, Option, codes, decimal}
 use Rattle.fleet_model.specs.declared.task.Task.{Task}
 use Rattle.fleet_grid.specs.Ground.{Ground, is_passable}
-use Rattle.fleet_grid.specs.MapText.{IsMapText, IsFirstMapFault}
-use Rattle.fleet_grid.specs.declared.fault.MapFault.TheVariants as m
-use Rattle.fleet_scen.specs.ScenText.{IsFirstScenFault}
-use Rattle.fleet_scen.specs.declared.fault.ScenFault.TheVariants as s
 use Rattle.fleet_plan.specs.Plan.{Plan, steps, IsConflictFree}
 use Rattle.fleet_plan.specs.PlanText.{IsPlanText, IsFirstTextFault}
 use Rattle.fleet_plan.specs.FirstFault.{IsFirstPlanFault}
 use Rattle.fleet_plan.specs.declared.text_fault.TextFault.TheVariants as t
 use Rattle.fleet_plan.specs.declared.plan_fault.PlanFault.TheVariants as p
 use Rattle.fleet_run.specs.Sink.{FailsAfter}
-use Rattle.fleet_cli.specs.Files.{Store, Holds as HasBytes}
-use Rattle.fleet_cli.specs.Words.{line_text}
-use Rattle.fleet_cli.specs.Lines.{status_of}
-use Rattle.fleet_cli.specs.Output.{Output, IsUnwritten, IsDelivered, IsTold}
-use Rattle.fleet_cli.specs.RehearseCommand.{IsReadFault}
+use Rattle.fleet_io.specs.Files.{Store}
+use Rattle.fleet_io.specs.Words.{line_text, count_line}
+use Rattle.fleet_io.specs.Lines.{status_of}
+use Rattle.fleet_io.specs.Output.{Output, IsUnwritten, IsDelivered, IsTold}
+use Rattle.fleet_io.specs.Named.{IsUnread, AreRead}
+use Rattle.fleet_cli.specs.Problem.{IsProblemFault}
 use Rattle.fleet_auto.specs.Texts.{AreTextsOf}
-use Rattle.fleet_cli.specs.declared.fault.Fault.{Fault}
-use Rattle.fleet_cli.specs.declared.fault.Fault.TheVariants as f
+use Rattle.fleet_io.specs.declared.fault.Fault.{Fault}
+use Rattle.fleet_io.specs.declared.fault.Fault.TheVariants as f
 
 -- `conflict-free`
 unfoldable pub free_line : List ℕ
 free_line = line_text (codes "conflict-free" ∷ [])
-
--- a word and its number
-unfoldable pub count_line : List ℕ → ℕ → List ℕ
-count_line word n = line_text (word ∷ decimal n ∷ [])
 
 abbrev pub check_text : Plan → List ℕ
 check_text plan = free_line ++ (count_line (codes "agents") (length plan) ++ count_line (codes "steps") (steps plan))
@@ -46,12 +39,9 @@ pub record PrintsCheck (map scen plan : List ℕ) (asked : Option ℕ) (out : Ou
   pub free : IsConflictFree (is_passable ground) tasks paths
   pub delivered : IsDelivered (check_text paths) out
 
--- the refusal is one that the texts allow: the first fault of the map's, of the scenario's on that map, of the plan's, or of the
--- plan for them; or the plan is free of conflict and the output failed
+-- memory ran out; or the first fault of the texts, judged in this order: map, scenario, plan text, plan; or the plan is free of conflict
+-- and the output failed
 abbrev pub IsCheckFault : List ℕ → List ℕ → List ℕ → Option ℕ → Output → Fault → Type 0
-IsCheckFault map scen plan asked out (f.Map fault) = (fault ≢ m.OutOfMemory → IsFirstMapFault map fault) × IsUnwritten out
-IsCheckFault map scen plan asked out (f.Scen fault) =
-    (g : Ground) × IsMapText map g × (fault ≢ s.OutOfMemory → IsFirstScenFault scen g asked fault) × IsUnwritten out
 IsCheckFault map scen plan asked out (f.Text fault) =
     (g : Ground) × (tasks : List Task) × AreTextsOf map scen asked g tasks × (fault ≢ t.OutOfMemory → IsFirstTextFault plan fault) × IsUnwritten out
 IsCheckFault map scen plan asked out (f.Check fault) =
@@ -60,27 +50,19 @@ IsCheckFault map scen plan asked out (f.Check fault) =
 IsCheckFault map scen plan asked out (f.File name) =
     (g : Ground) × (tasks : List Task) × (paths : Plan) × (name.now ≡ codes "-") × ArePlanTexts map scen plan asked g tasks paths
     × IsConflictFree (is_passable g) tasks paths × FailsAfter out.before out.taken out.has_failed (check_text paths)
-IsCheckFault map scen plan asked out _ = ⊥
+IsCheckFault map scen plan asked out fault = IsProblemFault map scen asked fault × IsUnwritten out
 
--- the files were read: these are the bytes of the map, of the scenario and of the plan
-pub record AreCheckBytes (files : Option Store) (map scen plan map_bytes scen_bytes plan_bytes : List ℕ) : Type 0 where
-  pub map_read : HasBytes files map map_bytes
-  pub scen_read : HasBytes files scen scen_bytes
-  pub plan_read : HasBytes files plan plan_bytes
-
--- a file was not read, and those before it were; or all were, and their texts are refused or the output failed
+-- a file was not read; or all were, and their texts are refused or the output failed
 abbrev pub IsCheckRefusal : Option Store → List ℕ → List ℕ → List ℕ → Option ℕ → Output → Fault → Type 0
 IsCheckRefusal files map scen plan asked out fault =
-    (IsReadFault map fault × IsUnwritten out)
-    ⊎ ((map_bytes : List ℕ) × HasBytes files map map_bytes × IsReadFault scen fault × IsUnwritten out)
-    ⊎ ((map_bytes scen_bytes : List ℕ) × HasBytes files map map_bytes × HasBytes files scen scen_bytes × IsReadFault plan fault × IsUnwritten out)
-    ⊎ ((map_bytes scen_bytes plan_bytes : List ℕ) × AreCheckBytes files map scen plan map_bytes scen_bytes plan_bytes
+    (IsUnread files (map ∷ scen ∷ plan ∷ []) fault × IsUnwritten out)
+    ⊎ ((map_bytes scen_bytes plan_bytes : List ℕ) × AreRead files (map ∷ scen ∷ plan ∷ []) (map_bytes ∷ scen_bytes ∷ plan_bytes ∷ [])
     × IsCheckFault map_bytes scen_bytes plan_bytes asked out fault)
 
 -- 0 where the plan for which the files stand is free of conflict and that was printed, and else the status of a refusal that was
 -- told: the other output took that one line, or failed within it
 abbrev pub RunsCheck : Option Store → List ℕ → List ℕ → List ℕ → Option ℕ → Output → Output → ℕ → Type 0
 RunsCheck files map scen plan asked out err status =
-    ((map_bytes scen_bytes plan_bytes : List ℕ) × AreCheckBytes files map scen plan map_bytes scen_bytes plan_bytes
+    ((map_bytes scen_bytes plan_bytes : List ℕ) × AreRead files (map ∷ scen ∷ plan ∷ []) (map_bytes ∷ scen_bytes ∷ plan_bytes ∷ [])
     × PrintsCheck map_bytes scen_bytes plan_bytes asked out × IsUnwritten err × (status ≡ 0))
     ⊎ ((fault : Fault) × IsCheckRefusal files map scen plan asked out fault × IsTold fault err × (status ≡ status_of fault))

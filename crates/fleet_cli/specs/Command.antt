@@ -7,10 +7,10 @@ use Rattle.fleet_args.specs.declared.request.Request.{Request}
 use Rattle.fleet_args.specs.declared.request.Request.TheVariants as r
 use Rattle.fleet_args.specs.declared.request.WordStop.{WordStop}
 use Rattle.fleet_args.specs.declared.request.WordStop.TheVariants as w
-use Rattle.fleet_cli.specs.Files.{Store, IsKept}
+use Rattle.fleet_io.specs.Files.{Store, IsKept}
 use Rattle.fleet_run.specs.Sink.{Receives, FailsAfter}
-use Rattle.fleet_cli.specs.Words.{line_text}
-use Rattle.fleet_cli.specs.Output.{Output, IsUnwritten, IsDelivered, IsTold}
+use Rattle.fleet_io.specs.Words.{line_text}
+use Rattle.fleet_io.specs.Output.{Output, IsUnwritten, IsDelivered, IsTold}
 use Rattle.fleet_cli.specs.HexRun.{RunsHex}
 use Rattle.fleet_cli.specs.RehearseCommand.{RunsRehearse}
 use Rattle.fleet_cli.specs.InstanceCommand.{RunsInstance}
@@ -20,7 +20,7 @@ use Rattle.fleet_cli.specs.CompileCommand.{RunsCompile}
 use Rattle.fleet_cli.specs.VerifyCommand.{RunsVerify}
 use Rattle.fleet_cli.specs.DriveCommand.{RunsRun}
 use Rattle.fleet_cli.specs.AutoCommand.{RunsAuto}
-use Rattle.fleet_cli.specs.declared.fault.Fault.TheVariants as f
+use Rattle.fleet_io.specs.declared.fault.Fault.TheVariants as f
 
 -- what each command does: all but `compile` leave every file as before
 abbrev pub RunsRequest : (files after : Option Store) → Request → Output → Output → ℕ → Type 0

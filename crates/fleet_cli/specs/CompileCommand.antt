@@ -15,17 +15,16 @@ use Rattle.fleet_adg.specs.declared.deps.Deps.{Deps}
 use Rattle.fleet_adg.specs.declared.fault.CompileFault.TheVariants as c
 use Rattle.fleet_code.specs.Spelling.{Spells}
 use Rattle.fleet_run.specs.Sink.{Receives, FailsAfter}
-use Rattle.fleet_cli.specs.Files.{Store, IsKept, ChangesOnly, Replaces}
-use Rattle.fleet_cli.specs.Words.{line_text}
-use Rattle.fleet_cli.specs.Lines.{status_of}
-use Rattle.fleet_cli.specs.Output.{Output, IsUnwritten, IsDelivered, IsTold}
+use Rattle.fleet_io.specs.Files.{Store, IsKept, ChangesOnly, Replaces}
+use Rattle.fleet_io.specs.Named.{IsWriteFault, IsUnread, AreRead}
+use Rattle.fleet_io.specs.Words.{line_text, count_line}
+use Rattle.fleet_io.specs.Lines.{status_of}
+use Rattle.fleet_io.specs.Output.{Output, IsUnwritten, IsDelivered, IsTold}
 use Rattle.fleet_auto.specs.Texts.{AreTextsOf}
-use Rattle.fleet_cli.specs.RehearseCommand.{IsReadFault}
-use Rattle.fleet_cli.specs.CheckCommand.{count_line, ArePlanTexts, AreCheckBytes}
-use Rattle.fleet_cli.specs.VerifyCommand.{IsUnread}
+use Rattle.fleet_cli.specs.CheckCommand.{ArePlanTexts}
 use Rattle.fleet_cli.specs.Problem.{IsProblemFault}
-use Rattle.fleet_cli.specs.declared.fault.Fault.{Fault}
-use Rattle.fleet_cli.specs.declared.fault.Fault.TheVariants as f
+use Rattle.fleet_io.specs.declared.fault.Fault.{Fault}
+use Rattle.fleet_io.specs.declared.fault.Fault.TheVariants as f
 
 -- the texts stand for a map, for tasks and for a plan that is free of conflict; the program is that of the plan, and is accepted; and the
 -- bytes spell it
@@ -41,8 +40,6 @@ pub record CompilesTexts (map scen plan : List ℕ) (asked : Option ℕ) (deps :
 
 -- the first fault of the texts, judged in this order: map, scenario, plan text, plan, program; or memory ran out
 abbrev pub IsCompileFault : (map scen plan : List ℕ) → Option ℕ → Deps → Fault → Type 0
-IsCompileFault map scen plan asked deps (f.Map fault) = IsProblemFault map scen asked (f.Map fault)
-IsCompileFault map scen plan asked deps (f.Scen fault) = IsProblemFault map scen asked (f.Scen fault)
 IsCompileFault map scen plan asked deps (f.Text fault) =
     (g : Ground) × (tasks : List Task) × AreTextsOf map scen asked g tasks × (fault ≢ t.OutOfMemory → IsFirstTextFault plan fault)
 IsCompileFault map scen plan asked deps (f.Check fault) =
@@ -51,8 +48,7 @@ IsCompileFault map scen plan asked deps (f.Check fault) =
 IsCompileFault map scen plan asked deps (f.Compile fault) =
     (g : Ground) × (tasks : List Task) × (paths : Plan) × ArePlanTexts map scen plan asked g tasks paths × IsConflictFree (is_passable g) tasks paths
     × (fault ≢ c.OutOfMemory → compiled_if_few paths deps ≡ Err fault)
-IsCompileFault map scen plan asked deps f.Memory = Unit {0}
-IsCompileFault map scen plan asked deps _ = ⊥
+IsCompileFault map scen plan asked deps fault = IsProblemFault map scen asked fault
 
 -- the agents, the moves and the awaits of the program, and its bytes, each with its number
 unfoldable pub compiled_lines : (agents moves awaits bytes : ℕ) → List ℕ
@@ -66,14 +62,14 @@ compiled_text p bytes = compiled_lines (length p) (total_moves p) (total_awaits 
 -- the program of the files was compiled to these bytes
 abbrev pub CompilesFiles : Option Store → (map scen plan : List ℕ) → Option ℕ → Deps → Program → List ℕ → Type 0
 CompilesFiles files map scen plan asked deps program bytes =
-    (map_bytes scen_bytes plan_bytes : List ℕ) × AreCheckBytes files map scen plan map_bytes scen_bytes plan_bytes
+    (map_bytes scen_bytes plan_bytes : List ℕ) × AreRead files (map ∷ scen ∷ plan ∷ []) (map_bytes ∷ scen_bytes ∷ plan_bytes ∷ [])
     × CompilesTexts map_bytes scen_bytes plan_bytes asked deps program bytes
 
 -- a file was not read; or all were, and what they hold is refused
 abbrev pub IsCompileRefusal : Option Store → (map scen plan : List ℕ) → Option ℕ → Deps → Fault → Type 0
 IsCompileRefusal files map scen plan asked deps fault =
-    IsUnread files map scen plan fault
-    ⊎ ((map_bytes scen_bytes plan_bytes : List ℕ) × AreCheckBytes files map scen plan map_bytes scen_bytes plan_bytes
+    IsUnread files (map ∷ scen ∷ plan ∷ []) fault
+    ⊎ ((map_bytes scen_bytes plan_bytes : List ℕ) × AreRead files (map ∷ scen ∷ plan ∷ []) (map_bytes ∷ scen_bytes ∷ plan_bytes ∷ [])
     × IsCompileFault map_bytes scen_bytes plan_bytes asked deps fault)
 
 -- the program was compiled, and its numbers were printed, or the output failed
@@ -88,7 +84,7 @@ PrintsCompiled program bytes out err status =
 abbrev pub RunsCompile : (old new : Option Store) → (map scen plan name : List ℕ) → Option ℕ → Deps → Output → Output → ℕ → Type 0
 RunsCompile old new map scen plan name asked deps out err status =
     ((fault : Fault) × IsCompileRefusal old map scen plan asked deps fault × IsKept old new × IsUnwritten out × IsTold fault err × (status ≡ status_of fault))
-    ⊎ ((program : Program) × (bytes : List ℕ) × CompilesFiles old map scen plan asked deps program bytes × (fault : Fault) × IsReadFault name fault
+    ⊎ ((program : Program) × (bytes : List ℕ) × CompilesFiles old map scen plan asked deps program bytes × (fault : Fault) × IsWriteFault name fault
     × ChangesOnly old new name × IsUnwritten out × IsTold fault err × (status ≡ status_of fault))
     ⊎ ((program : Program) × (bytes : List ℕ) × CompilesFiles old map scen plan asked deps program bytes × Replaces old new name bytes
     × PrintsCompiled program bytes out err status)

@@ -1,19 +1,18 @@
 -- What the command `run` does: it verifies the program of a file and runs it, under the holds of another.
-use Rattle.std.specs.Prelude.{◌≡◌, ℕ, ◌+◌, ◌<◌, ◌≤◌, List, length, ◌⊎◌, Option, None, Some, Err}
+use Rattle.std.specs.Prelude.{◌≡◌, ℕ, ◌+◌, ◌<◌, ◌≤◌, List, [], ◌∷◌, length, ◌⊎◌, Option, None, Err}
 use Rattle.fleet_model.specs.Program.{Program}
 use Rattle.fleet_model.specs.Machine.{Holds, IsFinish, held_ticks}
 use Rattle.fleet_run.specs.Text.{trace_text}
 use Rattle.fleet_run.specs.declared.source.SourceFault.{SourceFault}
 use Rattle.fleet_auto.specs.Trace.{hold_ticks, hold_last}
-use Rattle.fleet_cli.specs.Driven.{DrivesFlushed}
-use Rattle.fleet_cli.specs.Files.{Store}
-use Rattle.fleet_cli.specs.Lines.{status_of}
-use Rattle.fleet_cli.specs.Output.{Output, IsUnwritten, IsDelivered, IsTold}
-use Rattle.fleet_cli.specs.RehearseCommand.{IsReadFault, AreHoldBytes}
+use Rattle.fleet_io.specs.Driven.{DrivesFlushed}
+use Rattle.fleet_io.specs.Files.{Store}
+use Rattle.fleet_io.specs.Named.{IsUnread, AreRead, hold_names, AreHoldBytes}
+use Rattle.fleet_io.specs.Lines.{status_of}
+use Rattle.fleet_io.specs.Output.{Output, IsUnwritten, IsDelivered, IsTold}
 use Rattle.fleet_cli.specs.Problem.{AcceptsTexts, IsTextsFault}
-use Rattle.fleet_cli.specs.VerifyCommand.{AreProgramBytes, IsUnread}
-use Rattle.fleet_cli.specs.declared.fault.Fault.{Fault}
-use Rattle.fleet_cli.specs.declared.fault.Fault.TheVariants as f
+use Rattle.fleet_io.specs.declared.fault.Fault.{Fault}
+use Rattle.fleet_io.specs.declared.fault.Fault.TheVariants as f
 
 -- The trace of the program was written and handed on, under the holds for which the bytes stand. Its ticks are at least the longest
 -- chain, and at most that and the ticks in which a ready agent was held; of the holds no line was asked for that is no tick's
@@ -49,16 +48,14 @@ IsRunFault map scen asked bytes held out fault =
 -- a file was not read, of which that of the holds comes last; or all were, and what they hold is refused
 abbrev pub IsRunRefusal : Option Store → (map scen program : List ℕ) → Option ℕ → Option (List ℕ) → Output → Fault → Type 0
 IsRunRefusal files map scen program asked holds out fault =
-    (IsUnread files map scen program fault × IsUnwritten out)
-    ⊎ ((map_bytes scen_bytes bytes name : List ℕ) × AreProgramBytes files map scen program map_bytes scen_bytes bytes
-    × (holds ≡ Some name) × IsReadFault name fault × IsUnwritten out)
-    ⊎ ((map_bytes scen_bytes bytes held : List ℕ) × AreProgramBytes files map scen program map_bytes scen_bytes bytes × AreHoldBytes files holds held
+    (IsUnread files (map ∷ scen ∷ program ∷ hold_names holds) fault × IsUnwritten out)
+    ⊎ ((map_bytes scen_bytes bytes held : List ℕ) × AreRead files (map ∷ scen ∷ program ∷ []) (map_bytes ∷ scen_bytes ∷ bytes ∷ []) × AreHoldBytes files holds held
     × IsRunFault map_bytes scen_bytes asked bytes held out fault)
 
 -- the program of the files ran to its end
 abbrev pub RunsFiles : Option Store → (map scen program : List ℕ) → Option ℕ → Option (List ℕ) → Output → Type 0
 RunsFiles files map scen program asked holds out =
-    (map_bytes scen_bytes bytes held : List ℕ) × AreProgramBytes files map scen program map_bytes scen_bytes bytes × AreHoldBytes files holds held
+    (map_bytes scen_bytes bytes held : List ℕ) × AreRead files (map ∷ scen ∷ program ∷ []) (map_bytes ∷ scen_bytes ∷ bytes ∷ []) × AreHoldBytes files holds held
     × RunsTexts map_bytes scen_bytes asked bytes held out
 
 -- 0 where the program of the files is accepted and its trace was written, and else the status of a refusal that was told: the other

@@ -7,13 +7,13 @@ use Rattle.fleet_code.specs.Reading.{program_at}
 use Rattle.fleet_code.specs.Hex.{bytes_of}
 use Rattle.fleet_code.specs.declared.fault.HexFault.TheVariants as h
 use Rattle.fleet_code.specs.declared.fault.LoadFault.TheVariants as l
-use Rattle.fleet_cli.specs.Flushed.{RehearsesFlushed}
-use Rattle.fleet_cli.specs.Lines.{status_of}
-use Rattle.fleet_cli.specs.Output.{Output, IsUnwritten, IsTold, WritesRehearsal}
+use Rattle.fleet_io.specs.Flushed.{RehearsesFlushed}
+use Rattle.fleet_io.specs.Lines.{status_of}
+use Rattle.fleet_io.specs.Output.{Output, IsUnwritten, IsTold, WritesRehearsal}
 use Rattle.fleet_run.specs.declared.run.End.{End}
 use Rattle.fleet_run.specs.declared.run.End.TheVariants.{Finished, Stuck}
-use Rattle.fleet_cli.specs.declared.fault.Fault.{Fault}
-use Rattle.fleet_cli.specs.declared.fault.Fault.TheVariants as f
+use Rattle.fleet_io.specs.declared.fault.Fault.{Fault}
+use Rattle.fleet_io.specs.declared.fault.Fault.TheVariants as f
 
 -- the text is what the input had, where the input tells
 abbrev pub IsTextOf : Option (List ℕ) → List ℕ → Type 0

@@ -1,23 +1,20 @@
 -- What the command `instance` prints: the sizes of a map, its passable cells, and the start and the goal of each agent.
-use Rattle.std.specs.Prelude.{◌≡◌, ◌≢◌, ℕ, zero, suc, List, [], ◌∷◌, ◌++◌, length, slice_get, ◌⊎◌, Option, codes, decimal}
+use Rattle.std.specs.Prelude.{◌≡◌, ℕ, zero, suc, List, [], ◌∷◌, ◌++◌, length, slice_get, ◌⊎◌, Option, codes, decimal}
 use Rattle.std.specs.Option.{option_map_or}
 use Rattle.fleet_model.specs.declared.geometry.Cell.{Cell}
 use Rattle.fleet_model.specs.declared.task.Task.{Task}
 use Rattle.fleet_model.specs.Program.{origin}
 use Rattle.fleet_grid.specs.Ground.{Ground, passable_cells}
-use Rattle.fleet_grid.specs.MapText.{IsMapText, IsFirstMapFault}
-use Rattle.fleet_grid.specs.declared.fault.MapFault.TheVariants as m
-use Rattle.fleet_scen.specs.ScenText.{IsFirstScenFault}
-use Rattle.fleet_scen.specs.declared.fault.ScenFault.TheVariants as s
 use Rattle.fleet_auto.specs.Texts.{AreTextsOf}
-use Rattle.fleet_cli.specs.Files.{Store, Holds as HasBytes}
+use Rattle.fleet_io.specs.Files.{Store}
 use Rattle.fleet_run.specs.Sink.{FailsAfter}
-use Rattle.fleet_cli.specs.Words.{cell_text, line_text}
-use Rattle.fleet_cli.specs.Lines.{status_of}
-use Rattle.fleet_cli.specs.Output.{Output, IsUnwritten, IsDelivered, IsTold}
-use Rattle.fleet_cli.specs.RehearseCommand.{IsReadFault}
-use Rattle.fleet_cli.specs.declared.fault.Fault.{Fault}
-use Rattle.fleet_cli.specs.declared.fault.Fault.TheVariants as f
+use Rattle.fleet_io.specs.Words.{cell_text, line_text}
+use Rattle.fleet_io.specs.Lines.{status_of}
+use Rattle.fleet_io.specs.Output.{Output, IsUnwritten, IsDelivered, IsTold}
+use Rattle.fleet_io.specs.Named.{IsUnread, AreRead}
+use Rattle.fleet_cli.specs.Problem.{IsProblemFault}
+use Rattle.fleet_io.specs.declared.fault.Fault.{Fault}
+use Rattle.fleet_io.specs.declared.fault.Fault.TheVariants as f
 
 abbrev pub start_in : List Task → ℕ → Cell
 start_in tasks i = option_map_or (λ t. t.start) (slice_get tasks i) origin
@@ -56,31 +53,22 @@ pub record PrintsInstance (map scen : List ℕ) (asked : Option ℕ) (out : Outp
   pub texts : AreTextsOf map scen asked ground tasks
   pub delivered : IsDelivered (instance_text ground tasks) out
 
--- the refusal is one that the texts allow: the first fault of the map's, or of the scenario's on that map; or the output failed
+-- memory ran out; or the first fault of the map's text, or of the scenario's on that map; or the output failed
 abbrev pub IsInstanceFault : List ℕ → List ℕ → Option ℕ → Output → Fault → Type 0
-IsInstanceFault map scen asked out (f.Map fault) = (fault ≢ m.OutOfMemory → IsFirstMapFault map fault) × IsUnwritten out
-IsInstanceFault map scen asked out (f.Scen fault) =
-    (g : Ground) × IsMapText map g × (fault ≢ s.OutOfMemory → IsFirstScenFault scen g asked fault) × IsUnwritten out
 IsInstanceFault map scen asked out (f.File name) =
     (g : Ground) × (tasks : List Task) × (name.now ≡ codes "-") × AreTextsOf map scen asked g tasks
     × FailsAfter out.before out.taken out.has_failed (instance_text g tasks)
-IsInstanceFault map scen asked out _ = ⊥
+IsInstanceFault map scen asked out fault = IsProblemFault map scen asked fault × IsUnwritten out
 
--- the files were read: these are the bytes of the map and of the scenario
-pub record AreInstanceBytes (files : Option Store) (map scen map_bytes scen_bytes : List ℕ) : Type 0 where
-  pub map_read : HasBytes files map map_bytes
-  pub scen_read : HasBytes files scen scen_bytes
-
--- the map's file was not read; or it was, and that of the scenario was not; or both were, and their texts are refused or the output failed
+-- a file was not read; or both were, and their texts are refused or the output failed
 abbrev pub IsInstanceRefusal : Option Store → List ℕ → List ℕ → Option ℕ → Output → Fault → Type 0
 IsInstanceRefusal files map scen asked out fault =
-    (IsReadFault map fault × IsUnwritten out)
-    ⊎ ((map_bytes : List ℕ) × HasBytes files map map_bytes × IsReadFault scen fault × IsUnwritten out)
-    ⊎ ((map_bytes scen_bytes : List ℕ) × AreInstanceBytes files map scen map_bytes scen_bytes × IsInstanceFault map_bytes scen_bytes asked out fault)
+    (IsUnread files (map ∷ scen ∷ []) fault × IsUnwritten out)
+    ⊎ ((map_bytes scen_bytes : List ℕ) × AreRead files (map ∷ scen ∷ []) (map_bytes ∷ scen_bytes ∷ []) × IsInstanceFault map_bytes scen_bytes asked out fault)
 
 -- 0 where what the files stand for was printed, and else the status of a refusal that was told: the other output took that one line,
 -- or failed within it
 abbrev pub RunsInstance : Option Store → List ℕ → List ℕ → Option ℕ → Output → Output → ℕ → Type 0
 RunsInstance files map scen asked out err status =
-    ((map_bytes scen_bytes : List ℕ) × AreInstanceBytes files map scen map_bytes scen_bytes × PrintsInstance map_bytes scen_bytes asked out × IsUnwritten err × (status ≡ 0))
+    ((map_bytes scen_bytes : List ℕ) × AreRead files (map ∷ scen ∷ []) (map_bytes ∷ scen_bytes ∷ []) × PrintsInstance map_bytes scen_bytes asked out × IsUnwritten err × (status ≡ 0))
     ⊎ ((fault : Fault) × IsInstanceRefusal files map scen asked out fault × IsTold fault err × (status ≡ status_of fault))

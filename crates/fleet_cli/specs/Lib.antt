@@ -1,17 +1,10 @@
-pub mod Flushed
-pub mod Words
-pub mod Lines
-pub mod Output
 pub mod HexRun
-pub mod Files
-pub mod MemFiles
 pub mod RehearseCommand
 pub mod InstanceCommand
 pub mod CheckCommand
 pub mod Command
 pub mod Problem
 pub mod VerifyCommand
-pub mod Driven
 pub mod DriveCommand
 pub mod PlanCommand
 pub mod CompileCommand

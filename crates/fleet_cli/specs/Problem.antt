@@ -4,22 +4,21 @@ use Rattle.fleet_model.specs.declared.task.Task.{Task}
 use Rattle.fleet_model.specs.Program.{Program}
 use Rattle.fleet_grid.specs.Ground.{Ground, is_passable}
 use Rattle.fleet_grid.specs.MapText.{IsMapText, IsFirstMapFault}
-use Rattle.fleet_grid.specs.declared.fault.MapFault.TheVariants as m
 use Rattle.fleet_scen.specs.ScenText.{IsFirstScenFault}
-use Rattle.fleet_scen.specs.declared.fault.ScenFault.TheVariants as s
 use Rattle.fleet_code.specs.Spelling.{Spells}
 use Rattle.fleet_code.specs.Reading.{program_at}
 use Rattle.fleet_code.specs.declared.fault.LoadFault.TheVariants as l
 use Rattle.fleet_verify.specs.Parts.{IsAcceptedFor}
 use Rattle.fleet_verify.specs.Faults.{IsFault}
 use Rattle.fleet_auto.specs.Texts.{AreTextsOf}
-use Rattle.fleet_cli.specs.declared.fault.Fault.{Fault}
-use Rattle.fleet_cli.specs.declared.fault.Fault.TheVariants as f
+use Rattle.fleet_io.specs.declared.fault.Fault.{Fault}
+use Rattle.fleet_io.specs.declared.fault.Fault.TheVariants as f
 
--- the first fault of the map's text, or of the scenario's on that map
+-- memory ran out; or the first fault of the map's text, or of the scenario's on that map
 abbrev pub IsProblemFault : (map scen : List ℕ) → Option ℕ → Fault → Type 0
-IsProblemFault map scen asked (f.Map fault) = fault ≢ m.OutOfMemory → IsFirstMapFault map fault
-IsProblemFault map scen asked (f.Scen fault) = (g : Ground) × IsMapText map g × (fault ≢ s.OutOfMemory → IsFirstScenFault scen g asked fault)
+IsProblemFault map scen asked f.Memory = Unit {0}
+IsProblemFault map scen asked (f.Map fault) = IsFirstMapFault map fault
+IsProblemFault map scen asked (f.Scen fault) = (g : Ground) × IsMapText map g × IsFirstScenFault scen g asked fault
 IsProblemFault map scen asked _ = ⊥
 
 -- the bytes spell this program, which is accepted for the map and the tasks, with a longest chain of so many actions
@@ -42,8 +41,9 @@ pub record AcceptsTexts (map scen : List ℕ) (asked : Option ℕ) (bytes : List
   pub chain : ℕ
   pub accepts : Accepts bytes ground tasks program chain
 
--- the first fault of the texts and the bytes, judged in this order: map, scenario, program
+-- memory ran out; or the first fault of the texts and the bytes, judged in this order: map, scenario, program
 abbrev pub IsTextsFault : (map scen : List ℕ) → Option ℕ → List ℕ → Fault → Type 0
+IsTextsFault map scen asked bytes f.Memory = Unit {0}
 IsTextsFault map scen asked bytes (f.Map fault) = IsProblemFault map scen asked (f.Map fault)
 IsTextsFault map scen asked bytes (f.Scen fault) = IsProblemFault map scen asked (f.Scen fault)
 IsTextsFault map scen asked bytes (f.Load fault) = (g : Ground) × (tasks : List Task) × AreTextsOf map scen asked g tasks × IsAcceptFault bytes g tasks (f.Load fault)

@@ -2,15 +2,14 @@
 use Rattle.std.specs.Prelude.{◌≡◌, ℕ, List, [], ◌∷◌, ◌++◌, length, ◌⊎◌, Option, codes}
 use Rattle.fleet_model.specs.Program.{Program, total_moves, total_awaits}
 use Rattle.fleet_run.specs.Sink.{FailsAfter}
-use Rattle.fleet_cli.specs.Files.{Store, Holds as HasBytes}
-use Rattle.fleet_cli.specs.Words.{line_text}
-use Rattle.fleet_cli.specs.Lines.{status_of}
-use Rattle.fleet_cli.specs.Output.{Output, IsUnwritten, IsDelivered, IsTold}
-use Rattle.fleet_cli.specs.RehearseCommand.{IsReadFault}
-use Rattle.fleet_cli.specs.CheckCommand.{count_line}
+use Rattle.fleet_io.specs.Files.{Store}
+use Rattle.fleet_io.specs.Named.{IsUnread, AreRead}
+use Rattle.fleet_io.specs.Words.{line_text, count_line}
+use Rattle.fleet_io.specs.Lines.{status_of}
+use Rattle.fleet_io.specs.Output.{Output, IsUnwritten, IsDelivered, IsTold}
 use Rattle.fleet_cli.specs.Problem.{AcceptsTexts, IsTextsFault}
-use Rattle.fleet_cli.specs.declared.fault.Fault.{Fault}
-use Rattle.fleet_cli.specs.declared.fault.Fault.TheVariants as f
+use Rattle.fleet_io.specs.declared.fault.Fault.{Fault}
+use Rattle.fleet_io.specs.declared.fault.Fault.TheVariants as f
 
 -- `accepted`, then the agents, the moves, the awaits and the longest chain, each with its number
 unfoldable pub accepted_lines : (agents moves awaits chain : ℕ) → List ℕ
@@ -32,29 +31,16 @@ IsVerifyFault map scen asked bytes out (f.File name) =
     (a : AcceptsTexts map scen asked bytes) × (name.now ≡ codes "-") × FailsAfter out.before out.taken out.has_failed (accepted_text a.program a.chain)
 IsVerifyFault map scen asked bytes out fault = IsTextsFault map scen asked bytes fault × IsUnwritten out
 
--- the files were read: these are the bytes of the map, of the scenario and of the program
-pub record AreProgramBytes (files : Option Store) (map scen program map_bytes scen_bytes bytes : List ℕ) : Type 0 where
-  pub map_read : HasBytes files map map_bytes
-  pub scen_read : HasBytes files scen scen_bytes
-  pub program_read : HasBytes files program bytes
-
--- the file of the map was not read; or it was, and that of the scenario was not; or both were, and that of the program was not
-abbrev pub IsUnread : Option Store → (map scen program : List ℕ) → Fault → Type 0
-IsUnread files map scen program fault =
-    IsReadFault map fault
-    ⊎ ((map_bytes : List ℕ) × HasBytes files map map_bytes × IsReadFault scen fault)
-    ⊎ ((map_bytes scen_bytes : List ℕ) × HasBytes files map map_bytes × HasBytes files scen scen_bytes × IsReadFault program fault)
-
 -- a file was not read; or all were, and what they hold is refused
 abbrev pub IsVerifyRefusal : Option Store → (map scen program : List ℕ) → Option ℕ → Output → Fault → Type 0
 IsVerifyRefusal files map scen program asked out fault =
-    (IsUnread files map scen program fault × IsUnwritten out)
-    ⊎ ((map_bytes scen_bytes bytes : List ℕ) × AreProgramBytes files map scen program map_bytes scen_bytes bytes × IsVerifyFault map_bytes scen_bytes asked bytes out fault)
+    (IsUnread files (map ∷ scen ∷ program ∷ []) fault × IsUnwritten out)
+    ⊎ ((map_bytes scen_bytes bytes : List ℕ) × AreRead files (map ∷ scen ∷ program ∷ []) (map_bytes ∷ scen_bytes ∷ bytes ∷ []) × IsVerifyFault map_bytes scen_bytes asked bytes out fault)
 
 -- 0 where the program of the files is accepted and that was printed, and else the status of a refusal that was told: the other output
 -- took that one line, or failed within it
 abbrev pub RunsVerify : Option Store → (map scen program : List ℕ) → Option ℕ → Output → Output → ℕ → Type 0
 RunsVerify files map scen program asked out err status =
-    ((map_bytes scen_bytes bytes : List ℕ) × AreProgramBytes files map scen program map_bytes scen_bytes bytes × PrintsAccepted map_bytes scen_bytes asked bytes out
+    ((map_bytes scen_bytes bytes : List ℕ) × AreRead files (map ∷ scen ∷ program ∷ []) (map_bytes ∷ scen_bytes ∷ bytes ∷ []) × PrintsAccepted map_bytes scen_bytes asked bytes out
     × IsUnwritten err × (status ≡ 0))
     ⊎ ((fault : Fault) × IsVerifyRefusal files map scen program asked out fault × IsTold fault err × (status ≡ status_of fault))

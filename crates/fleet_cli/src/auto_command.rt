@@ -1,21 +1,17 @@
 //! The command `auto`.
 
 ghost use Rattle.std.specs.Prelude.{◌≡◌, false, MatchResult, option_map};
-ghost use Rattle.fleet_cli.specs.Files.{IsKept};
+ghost use Rattle.fleet_io.specs.Files.{IsKept};
 ghost use Rattle.fleet_cli.specs.AutoCommand.{RunsMade, IsMadeFault, RunsMadeFiles, IsAutoRefusal, RunsAuto};
 
-use crate::fault::Fault;
-use crate::files::Files;
-use crate::flush::flush_run;
-use crate::hex_run::refuse;
-use crate::rehearse_command::{read_file, read_holds};
 use fleet_adg::Deps;
 use fleet_auto::{AutoFault, auto_run};
+use fleet_io::{Fault, Files, flush_run, read_holds, read_texts, refuse};
 use fleet_run::TraceOut;
 use std::alloc::Global;
 
 /// Plans for the map and the scenario, compiles the plan and runs the program under the holds, and has the sink hand on the trace.
-fn auto_texts<O: TraceOut>(
+fn auto_texts<'a, O: TraceOut>(
     alloc: Global,
     map: &[u8],
     scen: &[u8],
@@ -24,7 +20,7 @@ fn auto_texts<O: TraceOut>(
     deps: Deps,
     held: &[u8],
     out: &mut O,
-) -> Result<(), Fault<'static>>
+) -> Result<(), Fault<'a>>
     requires { O.has_failed out.old ≡ false }
     ensures { MatchResult result
         (λ _. RunsMade map.now scen.now asked horizon deps held.now (record { before = O.taken out.old; taken = O.taken out.new; has_failed = O.has_failed out.new; is_flushed = O.is_flushed out.new }))
@@ -61,22 +57,18 @@ fn auto_files<'a, F: Files, O: TraceOut>(
         (record { before = O.taken out.old; taken = O.taken out.new; has_failed = O.has_failed out.new; is_flushed = O.is_flushed out.new })) }
     ensures kept { IsKept (F.contents files.old) (F.contents files.new) }
 {
-    let map = match read_file(alloc, files, map) {
-        Ok(bytes) => bytes,
-        Err(fault) => return Err(fault),
-    };
-    let scen = match read_file(alloc, files, scen) {
-        Ok(bytes) => bytes,
-        Err(fault) => return Err(fault),
-    };
-    let held = match read_holds(alloc, files, holds) {
-        Ok(held) => held,
-        Err(fault) => return Err(fault),
-    };
-    match auto_texts(alloc, &map, &scen, asked, horizon, deps, &held, out) {
-        Ok(()) => Ok(()),
-        Err(fault) => Err(fault),
-    }
+    let texts = read_texts(alloc, files, map, scen)?;
+    let held = read_holds(alloc, files, holds)?;
+    auto_texts(
+        alloc,
+        &texts.map,
+        &texts.scen,
+        asked,
+        horizon,
+        deps,
+        &held,
+        out,
+    )
 }
 
 /// The command `auto MAP SCEN [--agents K] [--horizon H] [--deps all|last] [--holds FILE]`: reads the files whole, plans for the map and

@@ -1,20 +1,17 @@
 //! The command `check`.
 
-ghost use Rattle.std.specs.Prelude.{◌≡◌, false, List, ℕ, MatchResult, length, codes};
+ghost use Rattle.std.specs.Prelude.{◌≡◌, ◌∷◌, [], false, List, ℕ, MatchResult, length, codes};
 ghost use Rattle.fleet_plan.specs.Plan.{steps};
 ghost use Rattle.fleet_run.specs.Sink.{TakesAll, Delivers};
-ghost use Rattle.fleet_cli.specs.Files.{IsKept};
-ghost use Rattle.fleet_cli.specs.CheckCommand.{free_line, count_line, check_text, PrintsCheck, IsCheckFault, AreCheckBytes, IsCheckRefusal, RunsCheck};
+ghost use Rattle.fleet_io.specs.Files.{IsKept};
+ghost use Rattle.fleet_io.specs.Named.{AreRead};
+ghost use Rattle.fleet_io.specs.Words.{count_line};
+ghost use Rattle.fleet_cli.specs.CheckCommand.{free_line, check_text, PrintsCheck, IsCheckFault, IsCheckRefusal, RunsCheck};
 
-use crate::fault::Fault;
-use crate::files::Files;
-use crate::hex_run::refuse;
-use crate::rehearse_command::read_file;
-use crate::words::{Word, put_line};
-use fleet_grid::read_map;
+use crate::problem::read_problem;
+use fleet_io::{Fault, Files, Word, put_count, put_line, read_texts_and, refuse};
 use fleet_plan::{Plan, check, read_plan};
 use fleet_run::{OutFault, TraceOut};
-use fleet_scen::read_scen;
 use std::alloc::Global;
 
 #[tactic(auto, unfolding(crate::specs::CheckCommand::free_line))]
@@ -23,15 +20,6 @@ fn put_free<O: TraceOut>(out: &mut O) -> Result<(), OutFault>
     ensures { TakesAll (O.taken out.old) (O.taken out.new) (O.has_failed out.new) result free_line }
 {
     put_line(out, &[Word::Text("conflict-free")])
-}
-
-/// Writes a word and its number, in a line.
-#[tactic(auto, unfolding(crate::specs::CheckCommand::count_line))]
-pub fn put_count<O: TraceOut>(out: &mut O, word: &'static str, number: u64) -> Result<(), OutFault>
-    requires { O.has_failed out.old ≡ false }
-    ensures { TakesAll (O.taken out.old) (O.taken out.new) (O.has_failed out.new) result (count_line word.now number) }
-{
-    put_line(out, &[Word::Text(word), Word::Number(number)])
 }
 
 fn put_agents<O: TraceOut>(out: &mut O, plan: &Plan) -> Result<(), OutFault>
@@ -67,32 +55,25 @@ fn print_check<O: TraceOut>(out: &mut O, plan: &Plan) -> Result<(), OutFault>
 }
 
 /// Judges the plan for which the texts stand, and prints that it is free of conflict.
-fn show_check<O: TraceOut>(
+fn show_check<'a, O: TraceOut>(
     alloc: Global,
     map: &[u8],
     scen: &[u8],
     plan: &[u8],
     asked: Option<u16>,
     out: &mut O,
-) -> Result<(), Fault<'static>>
+) -> Result<(), Fault<'a>>
     requires { O.has_failed out.old ≡ false }
     ensures { MatchResult result
         (λ _. PrintsCheck map.now scen.now plan.now asked (record { before = O.taken out.old; taken = O.taken out.new; has_failed = O.has_failed out.new; is_flushed = O.is_flushed out.new }))
         (IsCheckFault map.now scen.now plan.now asked (record { before = O.taken out.old; taken = O.taken out.new; has_failed = O.has_failed out.new; is_flushed = O.is_flushed out.new })) }
 {
-    let grid = match read_map(alloc, map) {
-        Ok(grid) => grid,
-        Err(fault) => return Err(Fault::Map(fault)),
-    };
-    let instance = match read_scen(alloc, scen, &grid, asked) {
-        Ok(instance) => instance,
-        Err(fault) => return Err(Fault::Scen(fault)),
-    };
+    let problem = read_problem(alloc, map, scen, asked)?;
     let plan = match read_plan(alloc, plan) {
         Ok(plan) => plan,
         Err(fault) => return Err(Fault::Text(fault)),
     };
-    let checked = match check(alloc, plan, &grid, &instance) {
+    let checked = match check(alloc, plan, &problem.grid, &problem.instance) {
         Ok(checked) => checked,
         Err(refusal) => return Err(Fault::Check(refusal.fault)),
     };
@@ -114,29 +95,15 @@ fn check_files<'a, F: Files, O: TraceOut>(
 ) -> Result<(), Fault<'a>>
     requires { O.has_failed out.old ≡ false }
     ensures did { MatchResult result
-        (λ _. (map_bytes : List ℕ) × (scen_bytes : List ℕ) × (plan_bytes : List ℕ)
-        × AreCheckBytes (F.contents files.old) map.entry.now scen.entry.now plan.entry.now map_bytes scen_bytes plan_bytes
+        (λ _. (map_bytes scen_bytes plan_bytes : List ℕ)
+        × AreRead (F.contents files.old) (map.entry.now ∷ scen.entry.now ∷ plan.entry.now ∷ []) (map_bytes ∷ scen_bytes ∷ plan_bytes ∷ [])
         × PrintsCheck map_bytes scen_bytes plan_bytes asked (record { before = O.taken out.old; taken = O.taken out.new; has_failed = O.has_failed out.new; is_flushed = O.is_flushed out.new }))
         (IsCheckRefusal (F.contents files.old) map.entry.now scen.entry.now plan.entry.now asked
         (record { before = O.taken out.old; taken = O.taken out.new; has_failed = O.has_failed out.new; is_flushed = O.is_flushed out.new })) }
     ensures kept { IsKept (F.contents files.old) (F.contents files.new) }
 {
-    let map = match read_file(alloc, files, map) {
-        Ok(bytes) => bytes,
-        Err(fault) => return Err(fault),
-    };
-    let scen = match read_file(alloc, files, scen) {
-        Ok(bytes) => bytes,
-        Err(fault) => return Err(fault),
-    };
-    let plan = match read_file(alloc, files, plan) {
-        Ok(bytes) => bytes,
-        Err(fault) => return Err(fault),
-    };
-    match show_check(alloc, &map, &scen, &plan, asked, out) {
-        Ok(()) => Ok(()),
-        Err(fault) => Err(fault),
-    }
+    let (texts, plan) = read_texts_and(alloc, files, map, scen, plan)?;
+    show_check(alloc, &texts.map, &texts.scen, &plan, asked, out)
 }
 
 /// The command `check MAP SCEN PLAN [--agents K]`: reads the files whole, and prints to `out` that the plan is free of conflict, with

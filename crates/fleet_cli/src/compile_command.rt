@@ -1,20 +1,14 @@
 //! The command `compile`.
 
-ghost use Rattle.std.specs.Prelude.{◌≡◌, false, List, ℕ, IfOk, IfErr, OnOk, length, vec_len};
+ghost use Rattle.std.specs.Prelude.{◌≡◌, false, List, ℕ, IfOk, IfErr, length, vec_len};
 ghost use Rattle.fleet_run.specs.Sink.{TakesAll, Delivers};
-ghost use Rattle.fleet_cli.specs.Files.{IsKept, ChangesOnly, Replaces};
-ghost use Rattle.fleet_cli.specs.RehearseCommand.{IsReadFault};
+ghost use Rattle.fleet_io.specs.Files.{IsKept};
 ghost use Rattle.fleet_cli.specs.CompileCommand.{CompilesTexts, IsCompileFault, compiled_lines, compiled_text, CompilesFiles, IsCompileRefusal, PrintsCompiled, RunsCompile};
 
-use crate::check_command::put_count;
-use crate::fault::Fault;
-use crate::files::Files;
-use crate::hex_run::refuse;
-use crate::input::FileFault;
 use crate::problem::read_problem;
-use crate::rehearse_command::read_file;
 use fleet_adg::{Deps, compile};
 use fleet_code::encode;
+use fleet_io::{Fault, Files, put_count, read_texts_and, refuse, write_file};
 use fleet_model::{Program, ProgramView, total_awaits, total_moves};
 use fleet_plan::{check, read_plan};
 use fleet_run::{OutFault, TraceOut};
@@ -28,21 +22,18 @@ struct Compiled {
 }
 
 /// The program of the plan for which the texts stand.
-fn compile_texts(
+fn compile_texts<'a>(
     alloc: Global,
     map: &[u8],
     scen: &[u8],
     plan: &[u8],
     asked: Option<u16>,
     deps: Deps,
-) -> Result<Compiled, Fault<'static>>
+) -> Result<Compiled, Fault<'a>>
     ensures compiled { IfOk result (λ c. CompilesTexts map.now scen.now plan.now asked deps c.program c.bytes.items) }
     ensures fault { IfErr result (IsCompileFault map.now scen.now plan.now asked deps) }
 {
-    let problem = match read_problem(alloc, map, scen, asked) {
-        Ok(problem) => problem,
-        Err(fault) => return Err(fault),
-    };
+    let problem = read_problem(alloc, map, scen, asked)?;
     let plan = match read_plan(alloc, plan) {
         Ok(plan) => plan,
         Err(fault) => return Err(Fault::Text(fault)),
@@ -76,35 +67,8 @@ fn compile_files<'a, F: Files>(
     ensures fault { IfErr result (IsCompileRefusal (F.contents files.old) map.entry.now scen.entry.now plan.entry.now asked deps) }
     ensures kept { IsKept (F.contents files.old) (F.contents files.new) }
 {
-    let map = match read_file(alloc, files, map) {
-        Ok(bytes) => bytes,
-        Err(fault) => return Err(fault),
-    };
-    let scen = match read_file(alloc, files, scen) {
-        Ok(bytes) => bytes,
-        Err(fault) => return Err(fault),
-    };
-    let plan = match read_file(alloc, files, plan) {
-        Ok(bytes) => bytes,
-        Err(fault) => return Err(fault),
-    };
-    match compile_texts(alloc, &map, &scen, &plan, asked, deps) {
-        Ok(compiled) => Ok(compiled),
-        Err(fault) => Err(fault),
-    }
-}
-
-/// Writes the bytes to the file.
-fn write_file<'a, F: Files>(files: &mut F, name: &'a str, bytes: &[u8]) -> Result<(), Fault<'a>>
-    ensures written { OnOk result (Replaces (F.contents files.old) (F.contents files.new) name.entry.now bytes.now) }
-    ensures fault { IfErr result (IsReadFault name.entry.now) }
-    ensures others { ChangesOnly (F.contents files.old) (F.contents files.new) name.entry.now }
-{
-    match files.write(name, bytes) {
-        Ok(()) => Ok(()),
-        Err(FileFault::OutOfMemory) => Err(Fault::Memory),
-        Err(FileFault::Failed) => Err(Fault::File(name)),
-    }
+    let (texts, plan) = read_texts_and(alloc, files, map, scen, plan)?;
+    compile_texts(alloc, &texts.map, &texts.scen, &plan, asked, deps)
 }
 
 fn put_compiled_lines<O: TraceOut>(

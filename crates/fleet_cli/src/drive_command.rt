@@ -1,27 +1,23 @@
 //! The command `run`.
 
 ghost use Rattle.std.specs.Prelude.{◌≡◌, false, MatchResult, option_map};
-ghost use Rattle.fleet_cli.specs.Files.{IsKept};
+ghost use Rattle.fleet_io.specs.Files.{IsKept};
 ghost use Rattle.fleet_cli.specs.DriveCommand.{WritesTrace, IsTraceFault, RunsTexts, IsRunFault, IsRunRefusal, RunsFiles, RunsRun};
 
-use crate::fault::Fault;
-use crate::files::Files;
-use crate::flush::drive_flushed;
-use crate::hex_run::refuse;
 use crate::problem::{accept, read_problem};
-use crate::rehearse_command::{read_file, read_holds};
+use fleet_io::{Fault, Files, drive_flushed, read_holds, read_texts_and, refuse};
 use fleet_model::{Program, ProgramView};
 use fleet_run::{Fleet, HoldText, TraceOut};
 use fleet_verify::Accepted;
 use std::alloc::Global;
 
 /// Runs an accepted program, under the holds for which the bytes stand, and writes its trace.
-pub fn run_accepted<O: TraceOut>(
+fn run_accepted<'a, O: TraceOut>(
     alloc: Global,
     accepted: Accepted<'_, Program>,
     held: &[u8],
     out: &mut O,
-) -> Result<(), Fault<'static>>
+) -> Result<(), Fault<'a>>
     requires { O.has_failed out.old ≡ false }
     ensures { MatchResult result
         (λ _. WritesTrace accepted.entry.program accepted.entry.chain held.now (record { before = O.taken out.old; taken = O.taken out.new; has_failed = O.has_failed out.new; is_flushed = O.is_flushed out.new }))
@@ -39,7 +35,7 @@ pub fn run_accepted<O: TraceOut>(
 }
 
 /// Verifies the program that the bytes spell for the map and the instance of the texts, and runs it.
-fn run_bytes<O: TraceOut>(
+fn run_bytes<'a, O: TraceOut>(
     alloc: Global,
     map: &[u8],
     scen: &[u8],
@@ -47,20 +43,14 @@ fn run_bytes<O: TraceOut>(
     bytes: &[u8],
     held: &[u8],
     out: &mut O,
-) -> Result<(), Fault<'static>>
+) -> Result<(), Fault<'a>>
     requires { O.has_failed out.old ≡ false }
     ensures { MatchResult result
         (λ _. RunsTexts map.now scen.now asked bytes.now held.now (record { before = O.taken out.old; taken = O.taken out.new; has_failed = O.has_failed out.new; is_flushed = O.is_flushed out.new }))
         (IsRunFault map.now scen.now asked bytes.now held.now (record { before = O.taken out.old; taken = O.taken out.new; has_failed = O.has_failed out.new; is_flushed = O.is_flushed out.new })) }
 {
-    let problem = match read_problem(alloc, map, scen, asked) {
-        Ok(problem) => problem,
-        Err(fault) => return Err(fault),
-    };
-    let accepted = match accept(alloc, bytes, &problem.grid, &problem.instance) {
-        Ok(accepted) => accepted,
-        Err(fault) => return Err(fault),
-    };
+    let problem = read_problem(alloc, map, scen, asked)?;
+    let accepted = accept(alloc, bytes, &problem.grid, &problem.instance)?;
     run_accepted(alloc, accepted, held, out)
 }
 
@@ -83,26 +73,9 @@ fn run_files<'a, F: Files, O: TraceOut>(
         (record { before = O.taken out.old; taken = O.taken out.new; has_failed = O.has_failed out.new; is_flushed = O.is_flushed out.new })) }
     ensures kept { IsKept (F.contents files.old) (F.contents files.new) }
 {
-    let map = match read_file(alloc, files, map) {
-        Ok(bytes) => bytes,
-        Err(fault) => return Err(fault),
-    };
-    let scen = match read_file(alloc, files, scen) {
-        Ok(bytes) => bytes,
-        Err(fault) => return Err(fault),
-    };
-    let program = match read_file(alloc, files, program) {
-        Ok(bytes) => bytes,
-        Err(fault) => return Err(fault),
-    };
-    let held = match read_holds(alloc, files, holds) {
-        Ok(held) => held,
-        Err(fault) => return Err(fault),
-    };
-    match run_bytes(alloc, &map, &scen, asked, &program, &held, out) {
-        Ok(()) => Ok(()),
-        Err(fault) => Err(fault),
-    }
+    let (texts, program) = read_texts_and(alloc, files, map, scen, program)?;
+    let held = read_holds(alloc, files, holds)?;
+    run_bytes(alloc, &texts.map, &texts.scen, asked, &program, &held, out)
 }
 
 /// The command `run MAP SCEN PROGRAM [--agents K] [--holds FILE]`: reads the files whole, verifies the program, and writes its trace,

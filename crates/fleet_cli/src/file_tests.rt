@@ -64,21 +64,6 @@ fn other_lines_are_refused(rt: HostRuntime) -> Result<(), Fail> {
     )
 }
 
-#[test]
-fn files_are_found(rt: HostRuntime) -> Result<(), Fail> {
-    let alloc = rt.alloc();
-    let mut files = MemFiles::new(alloc);
-    assert!(rt; files.get("a").is_none());
-    files.put("a", b"first")?;
-    assert!(rt; files.write("a", b"second").is_ok());
-    assert!(rt; files.get("a") == Some(b"second".as_slice()));
-    let Ok(bytes) = files.read(alloc, "a") else {
-        return Err(Fail::from("not read"));
-    };
-    assert_eq!(rt; bytes.as_slice(), b"second".as_slice());
-    Ok(())
-}
-
 /// A store whose n-th read fails.
 #[derive(Drop)]
 struct FailingFiles {

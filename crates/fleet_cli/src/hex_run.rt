@@ -1,14 +1,10 @@
 //! The run of the program without words.
 
 ghost use Rattle.std.specs.Prelude.{◌≡◌, false, MatchResult};
-ghost use Rattle.fleet_run.specs.Sink.{Receives};
-ghost use Rattle.fleet_cli.specs.Lines.{line_of, status_of};
 ghost use Rattle.fleet_cli.specs.HexRun.{IsRefusalOf, RehearsesInput, RunsHex};
 
-use crate::fault::Fault;
-use crate::flush::rehearse_flushed;
-use crate::input::{FileFault, read_whole};
 use fleet_code::{load, read_hex};
+use fleet_io::{Fault, FileFault, read_whole, refuse, rehearse_flushed};
 use fleet_run::{End, HoldList, TraceOut};
 use std::alloc::Global;
 use std::io::Read;
@@ -42,16 +38,6 @@ fn rehearse_hex<R: Read, O: TraceOut>(
         Ok(rehearsal) => Ok(rehearsal.end),
         Err(fault) => Err(Fault::Run(fault)),
     }
-}
-
-/// Tells the refusal, and answers its status.
-pub fn refuse<E: TraceOut>(fault: &Fault<'_>, err: &mut E) -> u8
-    requires { E.has_failed err.old ≡ false }
-    ensures status { result ≡ status_of fault.now }
-    ensures told { Receives (E.taken err.old) (E.taken err.new) (E.has_failed err.new) (line_of fault.now) }
-{
-    fault.tell(err);
-    fault.status()
 }
 
 /// Reads program bytes in hexadecimal from `input`, at most 268,435,456 bytes of text, and writes the rehearsal of the program,

@@ -1,19 +1,17 @@
 //! The command `instance`.
 
-ghost use Rattle.std.specs.Prelude.{◌≡◌, ◌<◌, false, length, List, ℕ, MatchResult};
+ghost use Rattle.std.specs.Prelude.{◌≡◌, ◌<◌, ◌∷◌, [], false, length, List, ℕ, MatchResult};
 ghost use Rattle.fleet_run.specs.Sink.{TakesAll, Delivers};
-ghost use Rattle.fleet_cli.specs.Files.{IsKept};
-ghost use Rattle.fleet_cli.specs.InstanceCommand.{task_line, task_lines, map_line, ground_line, agents_line, instance_text, PrintsInstance, IsInstanceFault, AreInstanceBytes, IsInstanceRefusal, RunsInstance};
+ghost use Rattle.fleet_io.specs.Files.{IsKept};
+ghost use Rattle.fleet_io.specs.Named.{AreRead};
+ghost use Rattle.fleet_cli.specs.InstanceCommand.{task_line, task_lines, map_line, ground_line, agents_line, instance_text, PrintsInstance, IsInstanceFault, IsInstanceRefusal, RunsInstance};
 
-use crate::fault::Fault;
-use crate::files::Files;
-use crate::hex_run::refuse;
-use crate::rehearse_command::read_file;
-use crate::words::{Word, put_line};
-use fleet_grid::{Grid, read_map};
+use crate::problem::read_problem;
+use fleet_grid::Grid;
+use fleet_io::{Fault, Files, Word, put_line, read_texts, refuse};
 use fleet_model::Cell;
 use fleet_run::{OutFault, TraceOut};
-use fleet_scen::{Instance, read_scen};
+use fleet_scen::Instance;
 use std::alloc::Global;
 
 #[tactic(auto, unfolding(crate::specs::InstanceCommand::task_line))]
@@ -94,27 +92,20 @@ fn print_instance<O: TraceOut>(
 }
 
 /// Prints the instance for which the texts stand.
-fn show_instance<O: TraceOut>(
+fn show_instance<'a, O: TraceOut>(
     alloc: Global,
     map: &[u8],
     scen: &[u8],
     asked: Option<u16>,
     out: &mut O,
-) -> Result<(), Fault<'static>>
+) -> Result<(), Fault<'a>>
     requires { O.has_failed out.old ≡ false }
     ensures { MatchResult result
         (λ _. PrintsInstance map.now scen.now asked (record { before = O.taken out.old; taken = O.taken out.new; has_failed = O.has_failed out.new; is_flushed = O.is_flushed out.new }))
         (IsInstanceFault map.now scen.now asked (record { before = O.taken out.old; taken = O.taken out.new; has_failed = O.has_failed out.new; is_flushed = O.is_flushed out.new })) }
 {
-    let grid = match read_map(alloc, map) {
-        Ok(grid) => grid,
-        Err(fault) => return Err(Fault::Map(fault)),
-    };
-    let instance = match read_scen(alloc, scen, &grid, asked) {
-        Ok(instance) => instance,
-        Err(fault) => return Err(Fault::Scen(fault)),
-    };
-    match print_instance(out, &grid, &instance) {
+    let problem = read_problem(alloc, map, scen, asked)?;
+    match print_instance(out, &problem.grid, &problem.instance) {
         Ok(()) => Ok(()),
         Err(OutFault) => Err(Fault::File("-")),
     }
@@ -131,24 +122,14 @@ fn show_files<'a, F: Files, O: TraceOut>(
 ) -> Result<(), Fault<'a>>
     requires { O.has_failed out.old ≡ false }
     ensures did { MatchResult result
-        (λ _. (map_bytes : List ℕ) × (scen_bytes : List ℕ) × AreInstanceBytes (F.contents files.old) map.entry.now scen.entry.now map_bytes scen_bytes
+        (λ _. (map_bytes scen_bytes : List ℕ) × AreRead (F.contents files.old) (map.entry.now ∷ scen.entry.now ∷ []) (map_bytes ∷ scen_bytes ∷ [])
         × PrintsInstance map_bytes scen_bytes asked (record { before = O.taken out.old; taken = O.taken out.new; has_failed = O.has_failed out.new; is_flushed = O.is_flushed out.new }))
         (IsInstanceRefusal (F.contents files.old) map.entry.now scen.entry.now asked
         (record { before = O.taken out.old; taken = O.taken out.new; has_failed = O.has_failed out.new; is_flushed = O.is_flushed out.new })) }
     ensures kept { IsKept (F.contents files.old) (F.contents files.new) }
 {
-    let map = match read_file(alloc, files, map) {
-        Ok(bytes) => bytes,
-        Err(fault) => return Err(fault),
-    };
-    let scen = match read_file(alloc, files, scen) {
-        Ok(bytes) => bytes,
-        Err(fault) => return Err(fault),
-    };
-    match show_instance(alloc, &map, &scen, asked, out) {
-        Ok(()) => Ok(()),
-        Err(fault) => Err(fault),
-    }
+    let texts = read_texts(alloc, files, map, scen)?;
+    show_instance(alloc, &texts.map, &texts.scen, asked, out)
 }
 
 /// The command `instance MAP SCEN [--agents K]`: reads both files whole, and prints to `out` the sizes of the map, its passable

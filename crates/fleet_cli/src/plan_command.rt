@@ -1,16 +1,12 @@
 //! The command `plan`.
 
-ghost use Rattle.std.specs.Prelude.{◌≡◌, false, List, ℕ, MatchResult};
-ghost use Rattle.fleet_cli.specs.Files.{IsKept};
-ghost use Rattle.fleet_cli.specs.InstanceCommand.{AreInstanceBytes};
+ghost use Rattle.std.specs.Prelude.{◌≡◌, ◌∷◌, [], false, List, ℕ, MatchResult};
+ghost use Rattle.fleet_io.specs.Files.{IsKept};
+ghost use Rattle.fleet_io.specs.Named.{AreRead};
 ghost use Rattle.fleet_cli.specs.PlanCommand.{PrintsPlan, IsPlanCommandFault, IsPlanRefusal, RunsPlan};
 
-use crate::fault::Fault;
-use crate::files::Files;
-use crate::flush::deliver;
-use crate::hex_run::refuse;
 use crate::problem::read_problem;
-use crate::rehearse_command::read_file;
+use fleet_io::{Fault, Files, deliver, read_texts, refuse};
 use fleet_model::OutOfMemory;
 use fleet_plan::write_plan;
 use fleet_run::{OutFault, TraceOut};
@@ -18,23 +14,20 @@ use fleet_search::plan;
 use std::alloc::Global;
 
 /// Plans for the map and the instance of the texts, and prints the plan.
-fn plan_texts<O: TraceOut>(
+fn plan_texts<'a, O: TraceOut>(
     alloc: Global,
     map: &[u8],
     scen: &[u8],
     asked: Option<u16>,
     horizon: u16,
     out: &mut O,
-) -> Result<(), Fault<'static>>
+) -> Result<(), Fault<'a>>
     requires { O.has_failed out.old ≡ false }
     ensures { MatchResult result
         (λ _. PrintsPlan map.now scen.now asked horizon (record { before = O.taken out.old; taken = O.taken out.new; has_failed = O.has_failed out.new; is_flushed = O.is_flushed out.new }))
         (IsPlanCommandFault map.now scen.now asked horizon (record { before = O.taken out.old; taken = O.taken out.new; has_failed = O.has_failed out.new; is_flushed = O.is_flushed out.new })) }
 {
-    let problem = match read_problem(alloc, map, scen, asked) {
-        Ok(problem) => problem,
-        Err(fault) => return Err(fault),
-    };
+    let problem = read_problem(alloc, map, scen, asked)?;
     let checked = match plan(alloc, &problem.grid, &problem.instance, horizon) {
         Ok(checked) => checked,
         Err(stop) => return Err(Fault::Search(stop)),
@@ -61,24 +54,14 @@ fn plan_files<'a, F: Files, O: TraceOut>(
 ) -> Result<(), Fault<'a>>
     requires { O.has_failed out.old ≡ false }
     ensures did { MatchResult result
-        (λ _. (map_bytes scen_bytes : List ℕ) × AreInstanceBytes (F.contents files.old) map.entry.now scen.entry.now map_bytes scen_bytes
+        (λ _. (map_bytes scen_bytes : List ℕ) × AreRead (F.contents files.old) (map.entry.now ∷ scen.entry.now ∷ []) (map_bytes ∷ scen_bytes ∷ [])
         × PrintsPlan map_bytes scen_bytes asked horizon (record { before = O.taken out.old; taken = O.taken out.new; has_failed = O.has_failed out.new; is_flushed = O.is_flushed out.new }))
         (IsPlanRefusal (F.contents files.old) map.entry.now scen.entry.now asked horizon
         (record { before = O.taken out.old; taken = O.taken out.new; has_failed = O.has_failed out.new; is_flushed = O.is_flushed out.new })) }
     ensures kept { IsKept (F.contents files.old) (F.contents files.new) }
 {
-    let map = match read_file(alloc, files, map) {
-        Ok(bytes) => bytes,
-        Err(fault) => return Err(fault),
-    };
-    let scen = match read_file(alloc, files, scen) {
-        Ok(bytes) => bytes,
-        Err(fault) => return Err(fault),
-    };
-    match plan_texts(alloc, &map, &scen, asked, horizon, out) {
-        Ok(()) => Ok(()),
-        Err(fault) => Err(fault),
-    }
+    let texts = read_texts(alloc, files, map, scen)?;
+    plan_texts(alloc, &texts.map, &texts.scen, asked, horizon, out)
 }
 
 /// The command `plan MAP SCEN [--agents K] [--horizon H]`: reads both files whole, and prints to `out` a plan in which each agent's path

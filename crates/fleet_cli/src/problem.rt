@@ -4,49 +4,35 @@ ghost use Rattle.std.specs.Prelude.{◌≡◌, IfOk, IfErr};
 ghost use Rattle.fleet_auto.specs.Texts.{AreTextsOf};
 ghost use Rattle.fleet_cli.specs.Problem.{IsProblemFault, Accepts, IsAcceptFault};
 
-use crate::fault::Fault;
+use fleet_auto::Problem;
 use fleet_code::load;
-use fleet_grid::{Grid, read_map};
+use fleet_grid::Grid;
+use fleet_io::Fault;
 use fleet_model::Program;
-use fleet_scen::{Instance, read_scen};
+use fleet_scen::Instance;
 use fleet_verify::{Accepted, verify};
 use std::alloc::Global;
 
-/// A map, and an instance on it.
-#[derive(Drop)]
-pub struct Problem {
-    pub grid: Grid,
-    pub instance: Instance,
-}
-
 /// The map and the instance for which the texts stand.
-pub fn read_problem(
+pub fn read_problem<'a>(
     alloc: Global,
     map: &[u8],
     scen: &[u8],
     asked: Option<u16>,
-) -> Result<Problem, Fault<'static>>
+) -> Result<Problem, Fault<'a>>
     ensures read { IfOk result (λ p. AreTextsOf map.now scen.now asked p.grid p.instance) }
     ensures fault { IfErr result (IsProblemFault map.now scen.now asked) }
 {
-    let grid = match read_map(alloc, map) {
-        Ok(grid) => grid,
-        Err(fault) => return Err(Fault::Map(fault)),
-    };
-    let instance = match read_scen(alloc, scen, &grid, asked) {
-        Ok(instance) => instance,
-        Err(fault) => return Err(Fault::Scen(fault)),
-    };
-    Ok(Problem { grid, instance })
+    Ok(fleet_auto::read_problem(alloc, map, scen, asked)?)
 }
 
 /// The program that the bytes spell, accepted for the map and the instance.
-pub fn accept<'g>(
+pub fn accept<'g, 'a>(
     alloc: Global,
     bytes: &[u8],
     grid: &'g Grid,
     instance: &'g Instance,
-) -> Result<Accepted<'g, Program>, Fault<'static>>
+) -> Result<Accepted<'g, Program>, Fault<'a>>
     ensures accepted { IfOk result (λ a. Accepts bytes.now grid.now instance.now a.program a.chain) }
     ensures fault { IfErr result (IsAcceptFault bytes.now grid.now instance.now) }
 {

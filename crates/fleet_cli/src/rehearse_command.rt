@@ -1,59 +1,22 @@
 //! The command `rehearse`.
 
-ghost use Rattle.std.specs.Prelude.{◌≡◌, false, List, ℕ, Some, MatchResult, IfOk, IfErr, option_map};
-ghost use Rattle.fleet_cli.specs.Files.{Holds, IsKept};
-ghost use Rattle.fleet_cli.specs.RehearseCommand.{IsReadFault, AreHoldBytes, RehearsesBytes, IsRehearseFault, IsRehearseRefusal, RehearsesFiles, RunsRehearse};
+ghost use Rattle.std.specs.Prelude.{◌≡◌, false, MatchResult, option_map};
+ghost use Rattle.fleet_io.specs.Files.{IsKept};
+ghost use Rattle.fleet_cli.specs.RehearseCommand.{RehearsesBytes, IsRehearseFault, IsRehearseRefusal, RehearsesFiles, RunsRehearse};
 
-use crate::fault::Fault;
-use crate::files::Files;
-use crate::flush::rehearse_flushed;
-use crate::hex_run::refuse;
-use crate::input::FileFault;
 use fleet_code::load;
+use fleet_io::{Fault, Files, read_file, read_holds, refuse, rehearse_flushed};
 use fleet_model::ProgramView;
 use fleet_run::{End, HoldText, TraceOut};
 use std::alloc::Global;
 
-/// The bytes of the file.
-pub fn read_file<'a, F: Files>(
-    alloc: Global,
-    files: &mut F,
-    name: &'a str,
-) -> Result<Vec<u8>, Fault<'a>>
-    ensures bytes { IfOk result (λ bytes. Holds (F.contents files.old) name.entry.now bytes.items) }
-    ensures fault { IfErr result (IsReadFault name.entry.now) }
-    ensures kept { IsKept (F.contents files.old) (F.contents files.new) }
-{
-    match files.read(alloc, name) {
-        Ok(bytes) => Ok(bytes),
-        Err(FileFault::OutOfMemory) => Err(Fault::Memory),
-        Err(FileFault::Failed) => Err(Fault::File(name)),
-    }
-}
-
-/// The bytes of the holds, none where no file is named.
-pub fn read_holds<'a, F: Files>(
-    alloc: Global,
-    files: &mut F,
-    name: Option<&'a str>,
-) -> Result<Vec<u8>, Fault<'a>>
-    ensures bytes { IfOk result (λ bytes. AreHoldBytes (F.contents files.old) (option_map (λ n. n.now) name.entry) bytes.items) }
-    ensures fault { IfErr result (λ fault. (file : List ℕ) × (option_map (λ n. n.now) name.entry ≡ Some file) × IsReadFault file fault) }
-    ensures kept { IsKept (F.contents files.old) (F.contents files.new) }
-{
-    match name {
-        None => Ok(Vec::new(alloc)),
-        Some(name) => read_file(alloc, files, name),
-    }
-}
-
 /// Rehearses the program that the bytes spell, under the holds for which the others stand.
-fn rehearse_bytes<O: TraceOut>(
+fn rehearse_bytes<'a, O: TraceOut>(
     alloc: Global,
     bytes: &[u8],
     held: &[u8],
     out: &mut O,
-) -> Result<End, Fault<'static>>
+) -> Result<End, Fault<'a>>
     requires { O.has_failed out.old ≡ false }
     ensures { MatchResult result
         (RehearsesBytes bytes.now held.now (record { before = O.taken out.old; taken = O.taken out.new; has_failed = O.has_failed out.new; is_flushed = O.is_flushed out.new }))
@@ -86,18 +49,9 @@ fn rehearse_files<'a, F: Files, O: TraceOut>(
         (record { before = O.taken out.old; taken = O.taken out.new; has_failed = O.has_failed out.new; is_flushed = O.is_flushed out.new })) }
     ensures kept { IsKept (F.contents files.old) (F.contents files.new) }
 {
-    let bytes = match read_file(alloc, files, program) {
-        Ok(bytes) => bytes,
-        Err(fault) => return Err(fault),
-    };
-    let held = match read_holds(alloc, files, holds) {
-        Ok(held) => held,
-        Err(fault) => return Err(fault),
-    };
-    match rehearse_bytes(alloc, &bytes, &held, out) {
-        Ok(end) => Ok(end),
-        Err(fault) => Err(fault),
-    }
+    let bytes = read_file(alloc, files, program)?;
+    let held = read_holds(alloc, files, holds)?;
+    rehearse_bytes(alloc, &bytes, &held, out)
 }
 
 /// The command `rehearse PROGRAM [--holds FILE]`: reads both files whole, and writes the rehearsal of the program, under the holds,

@@ -1,17 +1,13 @@
 //! The command `verify`.
 
-ghost use Rattle.std.specs.Prelude.{◌≡◌, false, List, ℕ, MatchResult};
+ghost use Rattle.std.specs.Prelude.{◌≡◌, ◌∷◌, [], false, List, ℕ, MatchResult};
 ghost use Rattle.fleet_run.specs.Sink.{TakesAll, Delivers};
-ghost use Rattle.fleet_cli.specs.Files.{IsKept};
-ghost use Rattle.fleet_cli.specs.VerifyCommand.{accepted_lines, accepted_text, PrintsAccepted, IsVerifyFault, AreProgramBytes, IsVerifyRefusal, RunsVerify};
+ghost use Rattle.fleet_io.specs.Files.{IsKept};
+ghost use Rattle.fleet_io.specs.Named.{AreRead};
+ghost use Rattle.fleet_cli.specs.VerifyCommand.{accepted_lines, accepted_text, PrintsAccepted, IsVerifyFault, IsVerifyRefusal, RunsVerify};
 
-use crate::check_command::put_count;
-use crate::fault::Fault;
-use crate::files::Files;
-use crate::hex_run::refuse;
 use crate::problem::{accept, read_problem};
-use crate::rehearse_command::read_file;
-use crate::words::{Word, put_line};
+use fleet_io::{Fault, Files, Word, put_count, put_line, read_texts_and, refuse};
 use fleet_model::{Program, ProgramView, total_awaits, total_moves};
 use fleet_run::{OutFault, TraceOut};
 use fleet_verify::Accepted;
@@ -58,27 +54,21 @@ fn print_accepted<O: TraceOut>(
 }
 
 /// Verifies the program that the bytes spell for the map and the instance of the texts, and prints that it is accepted.
-fn verify_bytes<O: TraceOut>(
+fn verify_bytes<'a, O: TraceOut>(
     alloc: Global,
     map: &[u8],
     scen: &[u8],
     asked: Option<u16>,
     bytes: &[u8],
     out: &mut O,
-) -> Result<(), Fault<'static>>
+) -> Result<(), Fault<'a>>
     requires { O.has_failed out.old ≡ false }
     ensures { MatchResult result
         (λ _. PrintsAccepted map.now scen.now asked bytes.now (record { before = O.taken out.old; taken = O.taken out.new; has_failed = O.has_failed out.new; is_flushed = O.is_flushed out.new }))
         (IsVerifyFault map.now scen.now asked bytes.now (record { before = O.taken out.old; taken = O.taken out.new; has_failed = O.has_failed out.new; is_flushed = O.is_flushed out.new })) }
 {
-    let problem = match read_problem(alloc, map, scen, asked) {
-        Ok(problem) => problem,
-        Err(fault) => return Err(fault),
-    };
-    let accepted = match accept(alloc, bytes, &problem.grid, &problem.instance) {
-        Ok(accepted) => accepted,
-        Err(fault) => return Err(fault),
-    };
+    let problem = read_problem(alloc, map, scen, asked)?;
+    let accepted = accept(alloc, bytes, &problem.grid, &problem.instance)?;
     match print_accepted(out, &accepted) {
         Ok(()) => Ok(()),
         Err(OutFault) => Err(Fault::File("-")),
@@ -97,28 +87,14 @@ fn verify_files<'a, F: Files, O: TraceOut>(
 ) -> Result<(), Fault<'a>>
     requires { O.has_failed out.old ≡ false }
     ensures did { MatchResult result
-        (λ _. (map_bytes scen_bytes bytes : List ℕ) × AreProgramBytes (F.contents files.old) map.entry.now scen.entry.now program.entry.now map_bytes scen_bytes bytes
+        (λ _. (map_bytes scen_bytes bytes : List ℕ) × AreRead (F.contents files.old) (map.entry.now ∷ scen.entry.now ∷ program.entry.now ∷ []) (map_bytes ∷ scen_bytes ∷ bytes ∷ [])
         × PrintsAccepted map_bytes scen_bytes asked bytes (record { before = O.taken out.old; taken = O.taken out.new; has_failed = O.has_failed out.new; is_flushed = O.is_flushed out.new }))
         (IsVerifyRefusal (F.contents files.old) map.entry.now scen.entry.now program.entry.now asked
         (record { before = O.taken out.old; taken = O.taken out.new; has_failed = O.has_failed out.new; is_flushed = O.is_flushed out.new })) }
     ensures kept { IsKept (F.contents files.old) (F.contents files.new) }
 {
-    let map = match read_file(alloc, files, map) {
-        Ok(bytes) => bytes,
-        Err(fault) => return Err(fault),
-    };
-    let scen = match read_file(alloc, files, scen) {
-        Ok(bytes) => bytes,
-        Err(fault) => return Err(fault),
-    };
-    let program = match read_file(alloc, files, program) {
-        Ok(bytes) => bytes,
-        Err(fault) => return Err(fault),
-    };
-    match verify_bytes(alloc, &map, &scen, asked, &program, out) {
-        Ok(()) => Ok(()),
-        Err(fault) => Err(fault),
-    }
+    let (texts, program) = read_texts_and(alloc, files, map, scen, program)?;
+    verify_bytes(alloc, &texts.map, &texts.scen, asked, &program, out)
 }
 
 /// The command `verify MAP SCEN PROGRAM [--agents K]`: reads the files whole, and prints to `out` that the program is accepted, with its

@@ -1,18 +1,11 @@
 use Rattle.std.proofs.Common.{inr}
-use Rattle.fleet_cli.proofs.FileLemmas.{held_before, kept_on}
+use Rattle.fleet_cli.proofs.ProblemLemmas.{match_result}
 use Rattle.fleet_cli.proofs.check_command.check_files.Goals as goal
 
 pub returns-clause-did : goal.returns-clause-did
 returns-clause-did g c =
-    let second = kept_on _ _ _ c.in-Ok.ensures.kept c.in-Ok-read_file.ensures.kept in
-    inr (inr (inr (
-      c.deref.result.now,
-      c.deref-2.result.now,
-      c.deref-3.result.now,
-      record {
-        map_read = rw c.deref.ensures.value c.in-Ok.ensures.bytes;
-        scen_read = rw c.deref-2.ensures.value (held_before _ _ _ _ c.in-Ok.ensures.kept c.in-Ok-read_file.ensures.bytes);
-        plan_read = rw c.deref-3.ensures.value (held_before _ _ _ _ second c.in-Ok-read_file-2.ensures.bytes);
-      },
-      c.in-Err-show_check.ensures,
-    )))
+    let read = c.in_ok-texts.ensures.bytes in
+    match_result c.show_check.result
+    (λ x h. (c.deref.result.now, c.deref-2.result.now, c.deref-3.result.now, (rw c.deref.ensures.value read.0, (rw c.deref-2.ensures.value read.1.0, (rw c.deref-3.ensures.value read.1.1.0, tt))), h))
+    (λ e h. inr (c.deref.result.now, c.deref-2.result.now, c.deref-3.result.now, (rw c.deref.ensures.value read.0, (rw c.deref-2.ensures.value read.1.0, (rw c.deref-3.ensures.value read.1.1.0, tt))), h))
+    c.show_check.ensures

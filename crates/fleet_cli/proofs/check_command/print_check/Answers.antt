@@ -1,4 +1,4 @@
-use Rattle.fleet_cli.proofs.FlushLemmas.{delivers_after}
+use Rattle.fleet_io.proofs.FlushLemmas.{delivers_after}
 use Rattle.fleet_cli.proofs.check_command.print_check.Goals as goal
 
 pub returns : goal.returns

@@ -1,7 +1,8 @@
 use Rattle.std.proofs.Common.{rules, length, codes}
 use Rattle.fleet_plan.specs.Plan.{steps}
 use Rattle.fleet_run.proofs.SinkLemmas.{takes_err, takes_then, stops_after, stops_within_more}
-use Rattle.fleet_cli.specs.CheckCommand.{free_line, count_line}
+use Rattle.fleet_io.specs.Words.{count_line}
+use Rattle.fleet_cli.specs.CheckCommand.{free_line}
 use Rattle.fleet_cli.proofs.check_command.put_check.Goals as goal
 
 pub returns-in_err-put_agents : goal.returns-in_err-put_agents

@@ -1,6 +1,6 @@
 use Rattle.std.proofs.Common.{rules, codes}
 use Rattle.fleet_run.proofs.SinkLemmas.{takes_err, takes_then, stops_after, stops_within_more}
-use Rattle.fleet_cli.specs.CheckCommand.{count_line}
+use Rattle.fleet_io.specs.Words.{count_line}
 use Rattle.fleet_cli.specs.CompileCommand.{compiled_lines}
 use Rattle.fleet_cli.proofs.compile_command.put_compiled_lines.Goals as goal
 

@@ -1,6 +1,6 @@
 use Rattle.std.proofs.Common.{inl, inr}
-use Rattle.fleet_cli.proofs.FileLemmas.{changes_on}
-use Rattle.fleet_cli.proofs.FlushLemmas.{keeps_self}
+use Rattle.fleet_io.proofs.FileLemmas.{changes_on}
+use Rattle.fleet_io.proofs.FlushLemmas.{keeps_self}
 use Rattle.fleet_cli.proofs.compile_command.run_compile.Goals as goal
 
 pub returns-in-Err : goal.returns-in-Err

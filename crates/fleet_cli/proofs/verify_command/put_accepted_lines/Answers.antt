@@ -1,7 +1,7 @@
 use Rattle.std.proofs.Common.{rules, codes, ◌∷◌, []}
 use Rattle.fleet_run.proofs.SinkLemmas.{takes_err, takes_then, stops_after, stops_within_more}
-use Rattle.fleet_cli.specs.Words.{line_text}
-use Rattle.fleet_cli.specs.CheckCommand.{count_line}
+use Rattle.fleet_io.specs.Words.{line_text}
+use Rattle.fleet_io.specs.Words.{count_line}
 use Rattle.fleet_cli.specs.VerifyCommand.{accepted_lines}
 use Rattle.fleet_cli.proofs.verify_command.put_accepted_lines.Goals as goal
 

@@ -1,0 +1,11 @@
+use Rattle.std.proofs.Common.{inr}
+use Rattle.fleet_cli.proofs.ProblemLemmas.{match_result}
+use Rattle.fleet_cli.proofs.plan_command.plan_files.Goals as goal
+
+pub returns-clause-did : goal.returns-clause-did
+returns-clause-did g c =
+    let read = c.in_ok-texts.ensures.bytes in
+    match_result c.plan_texts.result
+    (λ x h. (c.deref.result.now, c.deref-2.result.now, (rw c.deref.ensures.value read.0, (rw c.deref-2.ensures.value read.1.0, tt)), h))
+    (λ e h. inr (c.deref.result.now, c.deref-2.result.now, (rw c.deref.ensures.value read.0, (rw c.deref-2.ensures.value read.1.0, tt)), h))
+    c.plan_texts.ensures

@@ -1,0 +1,58 @@
+-- What a store of files holds while it is read.
+use Rattle.std.proofs.Common.{ℕ, List, [], ◌∷◌, Option, Some, None, inl, inr, refl, sym, ◌∙◌}
+use Rattle.fleet_io.specs.Files.{Store, Holds, IsUnreadable, IsKept, ChangesOnly}
+use Rattle.fleet_io.specs.Named.{IsReadFault, IsUnread, hold_names, AreHoldBytes}
+use Rattle.fleet_io.specs.declared.fault.Fault.{Fault}
+use Rattle.fleet_io.specs.declared.fault.Fault.TheVariants as f
+
+-- what is read of a store that was only read before is what it held at first
+pub held_before : (old new : Option Store) (name bytes : List ℕ) → IsKept old new → Holds new name bytes → Holds old name bytes
+held_before None new name bytes kept h = tt
+held_before (Some files) None name bytes kept h = absurd kept
+held_before (Some files) (Some others) name bytes kept h = sym (kept name) ∙ h
+
+pub kept_self : (files : Option Store) → IsKept files files
+kept_self None = tt
+kept_self (Some files) = λ n. refl
+
+pub kept_on : (old mid new : Option Store) → IsKept old mid → IsKept mid new → IsKept old new
+kept_on None mid new h k = tt
+kept_on (Some files) None new h k = absurd h
+kept_on (Some files) (Some others) None h k = absurd k
+kept_on (Some files) (Some others) (Some last) h k = λ n. k n ∙ h n
+
+-- a store that was only read before one file of it was changed
+pub changes_on : (old mid new : Option Store) (name : List ℕ) → IsKept old mid → ChangesOnly mid new name → ChangesOnly old new name
+changes_on None mid new name h k = tt
+changes_on (Some files) None new name h k = absurd h
+changes_on (Some files) (Some others) None name h k = absurd k
+changes_on (Some files) (Some others) (Some last) name h k = λ n ne. k n ne ∙ h n
+
+unreadable_before : (old new : Option Store) (name : List ℕ) → IsKept old new → IsUnreadable new name → IsUnreadable old name
+unreadable_before None new name kept h = tt
+unreadable_before (Some files) None name kept h = absurd kept
+unreadable_before (Some files) (Some others) name kept h = λ bytes e. h bytes (kept name ∙ e)
+
+-- a file that cannot be read of a store that was only read before could not be read at first
+pub read_fault_before : (old new : Option Store) (name : List ℕ) (fault : Fault) → IsKept old new → IsReadFault new name fault → IsReadFault old name fault
+read_fault_before old new name f.Memory kept h = tt
+read_fault_before old new name (f.File n) kept h = (h.0, unreadable_before old new name kept h.1)
+read_fault_before old new name (f.Map x) kept h = absurd h
+read_fault_before old new name (f.Scen x) kept h = absurd h
+read_fault_before old new name (f.Text x) kept h = absurd h
+read_fault_before old new name (f.Check x) kept h = absurd h
+read_fault_before old new name (f.Search x) kept h = absurd h
+read_fault_before old new name (f.Hex x) kept h = absurd h
+read_fault_before old new name (f.Load x) kept h = absurd h
+read_fault_before old new name (f.Compile x) kept h = absurd h
+read_fault_before old new name (f.Verify x) kept h = absurd h
+read_fault_before old new name (f.Run x) kept h = absurd h
+
+pub unread_before : (old new : Option Store) (names : List (List ℕ)) (fault : Fault) → IsKept old new → IsUnread new names fault → IsUnread old names fault
+unread_before old new [] fault kept h = absurd h
+unread_before old new (name ∷ names) fault kept (inl h) = inl (read_fault_before old new name fault kept h)
+unread_before old new (name ∷ names) fault kept (inr (bytes, held, h)) = inr (bytes, held_before old new name bytes kept held, unread_before old new names fault kept h)
+
+pub holds_before : (old new : Option Store) (name : Option (List ℕ)) (bytes : List ℕ) → IsKept old new → AreHoldBytes new name bytes → AreHoldBytes old name bytes
+holds_before old new None bytes kept h = h
+holds_before old new (Some n) bytes kept h = held_before old new n bytes kept h

@@ -1,0 +1,4 @@
+pub mod FlushLemmas
+pub mod WordLemmas
+pub mod FileLemmas
+pub mod DrivenLemmas

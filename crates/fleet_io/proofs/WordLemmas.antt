@@ -1,0 +1,101 @@
+-- Words of a line, one after another.
+use Rattle.std.proofs.Common.{◌≡◌, ◌∙◌, sym, ℕ, ◌+◌, ◌<◌, Bool, Option, List, [], ◌∷◌, ◌++◌, length, take, drop, get_or, map, ap, refl, arith, append_assoc, append-nil}
+use Rattle.std.proofs.lemmas.List.{take_more, map-append, take-append-drop}
+use Rattle.std.specs.Io.KnownBytes.{Appends}
+use Rattle.fleet_run.specs.Sink.{StopsWithin}
+use Rattle.fleet_run.proofs.SinkLemmas.{appends_same, appends_more, stops_after, stops_within_more}
+use Rattle.fleet_io.specs.declared.words.Word.{Word}
+use Rattle.fleet_io.specs.Words.{word_text, spaced, line_text, next_words}
+
+-- words after others
+pub spaced-append : (first : List ℕ) (xs ys : List (List ℕ)) → spaced (first ∷ (xs ++ ys)) ≡ spaced (first ∷ xs) ++ next_words ys
+spaced-append first [] [] = sym (append-nil first)
+spaced-append first [] (y ∷ ys) = ap (λ t. first ++ 32 ∷ t) (spaced-append y [] ys)
+spaced-append first (x ∷ xs) ys = rw (spaced-append x xs ys) (sym (append_assoc first (32 ∷ spaced (x ∷ xs)) (next_words ys)))
+
+-- one word more
+pub words_more : (first : Word) (rest : List Word) (i : ℕ) (d : Word) → i < length rest → spaced (map word_text (first ∷ take i rest)) ++ 32 ∷ word_text (get_or rest i d) ≡ spaced (map word_text (first ∷ take (i + 1) rest))
+words_more first rest i d below =
+    let one : 32 ∷ word_text (get_or rest i d) ≡ next_words (word_text (get_or rest i d) ∷ []) = sym (append-nil (32 ∷ word_text (get_or rest i d))) in
+    let more : take (i + 1) rest ≡ take i rest ++ get_or rest i d ∷ [] = take_more rest i d below in
+    let texts : map word_text (take (i + 1) rest) ≡ map word_text (take i rest) ++ word_text (get_or rest i d) ∷ [] =
+    ap (map word_text) more ∙ map-append word_text (take i rest) (get_or rest i d ∷ []) in
+    ap (λ t. spaced (map word_text (first ∷ take i rest)) ++ t) one
+    ∙ sym (spaced-append (word_text first) (map word_text (take i rest)) (word_text (get_or rest i d) ∷ []))
+    ∙ ap (λ ts. spaced (word_text first ∷ ts)) (sym texts)
+
+-- the words begin with those up to an index
+pub words_split : (first : Word) (rest : List Word) (i : ℕ) → spaced (map word_text (first ∷ rest)) ≡ spaced (map word_text (first ∷ take i rest)) ++ next_words (map word_text (drop i rest))
+words_split first rest i =
+    ap (λ r. spaced (word_text first ∷ map word_text r)) (sym (take-append-drop i rest))
+    ∙ ap (λ ts. spaced (word_text first ∷ ts)) (map-append word_text (take i rest) (drop i rest))
+    ∙ spaced-append (word_text first) (map word_text (take i rest)) (map word_text (drop i rest))
+
+-- one word more was taken
+pub taken_more :
+    (a b c : Option (List ℕ)) (words rest : List Word) (i : ℕ) (d : Word) → i < length rest
+    → ((first : Word) × (words ≡ first ∷ rest) × Appends a b (spaced (map word_text (first ∷ take i rest))))
+    → Appends b c (32 ∷ word_text (get_or rest i d))
+    → (first : Word) × (words ≡ first ∷ rest) × Appends a c (spaced (map word_text (first ∷ take (i + 1) rest)))
+taken_more a b c words rest i d below (first, are, so_far) next = (
+  first,
+  are,
+  appends_same a c _ _ (appends_more a b c (spaced (map word_text (first ∷ take i rest))) (32 ∷ word_text (get_or rest i d)) so_far next) (words_more first rest i d below),
+)
+
+-- the sink failed within one word more
+pub stops_within_next :
+    (a b c : Option (List ℕ)) (failed : Bool) (words rest : List Word) (i : ℕ) (d : Word) → i < length rest
+    → ((first : Word) × (words ≡ first ∷ rest) × Appends a b (spaced (map word_text (first ∷ take i rest))))
+    → StopsWithin b c failed (32 ∷ word_text (get_or rest i d))
+    → StopsWithin a c failed (spaced (map word_text words))
+stops_within_next a b c failed words rest i d below (first, are, so_far) next =
+    let within = stops_after a b c failed (spaced (map word_text (first ∷ take i rest))) (32 ∷ word_text (get_or rest i d)) so_far next in
+    let within_more = rw (words_more first rest i d below) at within in
+    let whole : spaced (map word_text (first ∷ take (i + 1) rest)) ++ next_words (map word_text (drop (i + 1) rest)) ≡ spaced (map word_text words) =
+    sym (words_split first rest (i + 1)) ∙ ap (λ ws. spaced (map word_text ws)) (sym are) in
+    rw (← whole) (stops_within_more a c failed _ (next_words (map word_text (drop (i + 1) rest))) within_more)
+
+pub next_words-append : (xs ys : List (List ℕ)) → next_words (xs ++ ys) ≡ next_words xs ++ next_words ys
+next_words-append [] ys = refl
+next_words-append (x ∷ xs) ys = rw (next_words-append xs ys) (ap (λ t. 32 ∷ t) (sym (append_assoc x (next_words xs) (next_words ys))))
+
+-- the texts of one element more
+pub next_words-more : {X : Type 0} (text : X → List ℕ) (xs : List X) (i : ℕ) (d : X) → i < length xs → next_words (map text (take (i + 1) xs)) ≡ next_words (map text (take i xs)) ++ 32 ∷ text (get_or xs i d)
+next_words-more text xs i d below =
+    ap (λ ys. next_words (map text ys)) (take_more xs i d below)
+    ∙ ap next_words (map-append text (take i xs) (get_or xs i d ∷ []))
+    ∙ next_words-append (map text (take i xs)) (text (get_or xs i d) ∷ [])
+    ∙ ap (λ t. next_words (map text (take i xs)) ++ 32 ∷ t) (append-nil (text (get_or xs i d)))
+
+-- the texts of all elements begin with those up to an index
+pub next_words-split : {X : Type 0} (text : X → List ℕ) (xs : List X) (i : ℕ) → next_words (map text (take i xs)) ++ next_words (map text (drop i xs)) ≡ next_words (map text xs)
+next_words-split text xs i =
+    sym (next_words-append (map text (take i xs)) (map text (drop i xs)))
+    ∙ ap next_words (sym (map-append text (take i xs) (drop i xs)))
+    ∙ ap (λ ys. next_words (map text ys)) (take-append-drop i xs)
+
+-- the sink failed within the text of one element more
+pub stops_within_element :
+    {X : Type 0} (text : X → List ℕ) (a b c : Option (List ℕ)) (failed : Bool) (xs : List X) (i : ℕ) (d : X) → i < length xs
+    → Appends a b (next_words (map text (take i xs))) → StopsWithin b c failed (32 ∷ text (get_or xs i d)) → StopsWithin a c failed (next_words (map text xs))
+stops_within_element text a b c failed xs i d below so_far next =
+    let within = stops_after a b c failed (next_words (map text (take i xs))) (32 ∷ text (get_or xs i d)) so_far next in
+    let within_more = rw (← next_words-more text xs i d below) at within in
+    rw (← next_words-split text xs (i + 1)) (stops_within_more a c failed _ (next_words (map text (drop (i + 1) xs))) within_more)
+
+-- some words, and more after them
+pub spaced_lists : (first rest : List (List ℕ)) → 0 < length first → spaced (first ++ rest) ≡ spaced first ++ next_words rest
+spaced_lists [] rest some = absurd (omega arith)
+spaced_lists (word ∷ words) rest some = spaced-append word words rest
+
+-- a line of some words and more after them
+pub line_lists : (first rest : List (List ℕ)) → 0 < length first → spaced first ++ (next_words rest ++ 10 ∷ []) ≡ line_text (first ++ rest)
+line_lists first rest some = sym (append_assoc (spaced first) (next_words rest) (10 ∷ [])) ∙ ap (λ t. t ++ 10 ∷ []) (sym (spaced_lists first rest some))
+
+-- the text of one element more was taken
+pub taken_element :
+    {X : Type 0} (text : X → List ℕ) (a b c : Option (List ℕ)) (xs : List X) (i : ℕ) (d : X) → i < length xs
+    → Appends a b (next_words (map text (take i xs))) → Appends b c (32 ∷ text (get_or xs i d)) → Appends a c (next_words (map text (take (i + 1) xs)))
+taken_element text a b c xs i d below so_far next =
+    appends_same a c _ _ (appends_more a b c (next_words (map text (take i xs))) (32 ∷ text (get_or xs i d)) so_far next) (sym (next_words-more text xs i d below))

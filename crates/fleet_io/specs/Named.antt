@@ -1,0 +1,38 @@
+-- Files that a command names, read one after another.
+use Rattle.std.specs.Prelude.{◌≡◌, ℕ, List, [], ◌∷◌, ◌⊎◌, Option, None, Some}
+use Rattle.fleet_io.specs.Files.{Store, Holds, IsUnreadable}
+use Rattle.fleet_io.specs.declared.fault.Fault.{Fault}
+use Rattle.fleet_io.specs.declared.fault.Fault.TheVariants as f
+
+-- the named file was not read: memory ran out, or it cannot be read
+abbrev pub IsReadFault : Option Store → List ℕ → Fault → Type 0
+IsReadFault files name f.Memory = Unit {0}
+IsReadFault files name (f.File n) = (name ≡ n.now) × IsUnreadable files name
+IsReadFault files name _ = ⊥
+
+-- the named file was not written
+abbrev pub IsWriteFault : List ℕ → Fault → Type 0
+IsWriteFault name f.Memory = Unit {0}
+IsWriteFault name (f.File n) = name ≡ n.now
+IsWriteFault name _ = ⊥
+
+-- of the files of these names one was not read, and those before it were
+abbrev pub IsUnread : Option Store → List (List ℕ) → Fault → Type 0
+IsUnread files [] fault = ⊥
+IsUnread files (name ∷ names) fault = IsReadFault files name fault ⊎ ((bytes : List ℕ) × Holds files name bytes × IsUnread files names fault)
+
+-- the files of these names hold these bytes
+abbrev pub AreRead : Option Store → List (List ℕ) → List (List ℕ) → Type 0
+AreRead files [] [] = Unit {0}
+AreRead files (name ∷ names) (bytes ∷ rest) = Holds files name bytes × AreRead files names rest
+AreRead files _ _ = ⊥
+
+-- the name of the file of the holds, where one is named
+abbrev pub hold_names : Option (List ℕ) → List (List ℕ)
+hold_names None = []
+hold_names (Some name) = name ∷ []
+
+-- the bytes of the holds: those of the named file, or none where none is named
+abbrev pub AreHoldBytes : Option Store → Option (List ℕ) → List ℕ → Type 0
+AreHoldBytes files None bytes = bytes ≡ []
+AreHoldBytes files (Some name) bytes = Holds files name bytes

@@ -1,0 +1,28 @@
+//! Files by name.
+
+ghost use Rattle.std.specs.Prelude.{◌≡◌, ◌≤◌, ℕ, List, Err, IfOk, OnOk, vec_len};
+ghost use Rattle.fleet_io.specs.Files.{Store, Holds, IsUnreadable, IsKept, ChangesOnly, Replaces};
+
+use crate::input::{FileFault, MOST_BYTES};
+use std::alloc::Global;
+
+/// A store of files, each with its bytes under its name.
+pub trait Files {
+    ghost use Rattle.std.specs.Prelude.{Option};
+
+    /// The bytes of each file by its name, where the store tells.
+    ghost contents: { Self → Option Store };
+
+    /// The whole file. `Failed` where it cannot be read, or has more than `MOST_BYTES` bytes; of a store that tells, only where there is no
+    /// such file or it has that many.
+    fn read(&mut self, alloc: Global, name: &str) -> Result<Vec<u8>, FileFault>
+        ensures bytes { IfOk result (λ bytes. Holds (contents self.old) name.now bytes.items) }
+        ensures within { IfOk result (λ bytes. vec_len bytes ≤ MOST_BYTES) }
+        ensures unreadable { result ≡ Err FileFault.Failed → IsUnreadable (contents self.old) name.now }
+        ensures kept { IsKept (contents self.old) (contents self.new) };
+
+    /// Makes the file hold the bytes. After `Failed` it may hold any bytes.
+    fn write(&mut self, name: &str, bytes: &[u8]) -> Result<(), FileFault>
+        ensures replaced { OnOk result (Replaces (contents self.old) (contents self.new) name.now bytes.now) }
+        ensures others { ChangesOnly (contents self.old) (contents self.new) name.now };
+}

@@ -11,7 +11,7 @@ use thiserror::Error;
 /// The refusal of the first step that refuses. Want of memory in any step is `OutOfMemory`.
 #[derive(Clone, Copy, Debug, PartialEq, Eq, Error)]
 pub enum AutoFault {
-    #[error("memory ran out")]
+    #[error("out of memory")]
     OutOfMemory,
     /// The map's text is no map.
     #[error("the map: {0}")]

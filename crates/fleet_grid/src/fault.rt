@@ -6,7 +6,7 @@ use thiserror::Error;
 /// The first fault of a map text, from the front. The header's lines count from 1, rows and columns from 0.
 #[derive(Clone, Copy, Debug, PartialEq, Eq, Hash, Error)]
 pub enum MapFault {
-    #[error("memory ran out")]
+    #[error("out of memory")]
     OutOfMemory,
     /// A line of the header is missing or has another form.
     #[error("line {line} of the header is missing or has another form")]

@@ -410,7 +410,7 @@ fn only_memory_may_be_refused(rt: HostRuntime) -> Result<(), Fail> {
 #[test]
 fn sentences(rt: HostRuntime) -> Result<(), Fail> {
     for (fault, expected) in [
-        (MapFault::OutOfMemory, "memory ran out"),
+        (MapFault::OutOfMemory, "out of memory"),
         (
             MapFault::Header { line: 2 },
             "line 2 of the header is missing or has another form",

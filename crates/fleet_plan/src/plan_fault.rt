@@ -18,7 +18,7 @@ pub enum Conflict {
 /// The first fault of a plan, in the order of the variants.
 #[derive(Clone, Copy, Debug, PartialEq, Eq, Hash, Error)]
 pub enum PlanFault {
-    #[error("memory ran out")]
+    #[error("out of memory")]
     OutOfMemory,
     /// The plan has another number of agents than the instance.
     #[error("the plan has another number of agents than the instance")]

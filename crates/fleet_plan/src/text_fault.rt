@@ -6,7 +6,7 @@ use thiserror::Error;
 /// The first fault of a plan text, from the front. Lines count from 1.
 #[derive(Clone, Copy, Debug, PartialEq, Eq, Hash, Error)]
 pub enum TextFault {
-    #[error("memory ran out")]
+    #[error("out of memory")]
     OutOfMemory,
     /// A line is no list of cells.
     #[error("line {line} is no list of cells")]

@@ -6,7 +6,7 @@ use thiserror::Error;
 /// The first fault of a scenario text, from the front. Lines and fields count from 1, and empty lines count too.
 #[derive(Clone, Copy, Debug, PartialEq, Eq, Hash, Error)]
 pub enum ScenFault {
-    #[error("memory ran out")]
+    #[error("out of memory")]
     OutOfMemory,
     /// The first line that is not empty is no version line, or there is none.
     #[error("the first line that is not empty is no version line")]

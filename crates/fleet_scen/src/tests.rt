@@ -336,7 +336,7 @@ fn only_memory_may_be_refused(rt: HostRuntime) {
 #[test]
 fn sentences(rt: HostRuntime) -> Result<(), Fail> {
     for (fault, expected) in [
-        (ScenFault::OutOfMemory, "memory ran out"),
+        (ScenFault::OutOfMemory, "out of memory"),
         (
             ScenFault::Version,
             "the first line that is not empty is no version line",

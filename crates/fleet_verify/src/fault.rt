@@ -8,7 +8,7 @@ use thiserror::Error;
 /// least of its actions.
 #[derive(Debug, Drop, PartialEq, Eq, Error)]
 pub enum VerifyFault {
-    #[error("memory ran out")]
+    #[error("out of memory")]
     OutOfMemory,
     /// The program has another number of agents than the instance.
     #[error("the program and the instance have different numbers of agents")]

@@ -16,7 +16,7 @@ ghost use Rattle.fleet_search.specs.Search.{far_of, stays_on, IsMeasured, IsEnd,
 
 use crate::distances::Distances;
 use crate::gaps::{first_in, is_in_gap, next_begin};
-use crate::moment::{Moment, same};
+use crate::moment::Moment;
 use crate::reservations::Reservations;
 use crate::rows::{clear, label, put, set_label, take};
 use crate::stay::Stay;
@@ -148,7 +148,7 @@ impl Frontier {
             return false;
         }
         let seen = self.reached[place].at;
-        same(seen.cell, cell) && seen.time <= time && is_in_gap(stays, gap, seen.time)
+        seen.cell == cell && seen.time <= time && is_in_gap(stays, gap, seen.time)
     }
 
     /// Notes that the cell is reached in the gap by the step that begins at the time, where that fits and is not too late,
@@ -323,7 +323,7 @@ impl Frontier {
         let before = self.reached.len();
         while let Some(place) = take(&mut self.stacks, slot) {
             let at = self.reached[place].at;
-            if same(at.cell, question.goal) && question.rest <= at.time {
+            if at.cell == question.goal && question.rest <= at.time {
                 return Ok(Some(place));
             }
             self.leave(question, slot, place, at)?;

@@ -1,13 +1,12 @@
 //! Reserved paths, and what still fits beside them.
 
-ghost use Rattle.std.specs.Prelude.{◌≡◌, ◌≢◌, ◌+◌, ◌<◌, ◌≤◌, ◌↔◌, ◌++◌, ◌∷◌, [], ℕ, IsTrue, IfSome, IfNone, IfOk, OnOk, OnErr, get_or, Contains, ◌⊎◌, ◌-◌, false};
+ghost use Rattle.std.specs.Prelude.{◌≡◌, ◌<◌, ◌≤◌, ◌↔◌, ◌++◌, ◌∷◌, [], ℕ, IsTrue, IfSome, IfNone, IfOk, OnOk, OnErr};
 ghost use Rattle.fleet_model.specs.declared.geometry.Cell.{Cell};
-ghost use Rattle.fleet_plan.specs.Plan.{IsPath, cell_at, steps};
-ghost use Rattle.fleet_search.specs.Way.{Fits, FitTogether, StepFits, arrival};
+ghost use Rattle.fleet_plan.specs.Plan.{steps};
+ghost use Rattle.fleet_search.specs.Way.{Fits, FitTogether, StepFits};
 ghost use Rattle.fleet_search.specs.Stays.{HaveStays};
-ghost use Rattle.fleet_search.specs.Reserved.{IsOn, IsFree, IsFreeFrom, LeadsBack, IsFreeOn};
+ghost use Rattle.fleet_search.specs.Reserved.{IsOn, IsFree, IsFreeFrom, LeadsBack};
 
-use crate::moment::same;
 use crate::stay::Stay;
 use crate::timetable::{begun, enter, stays_on};
 use fleet_model::{Cell, OutOfMemory};
@@ -100,21 +99,21 @@ impl Reservations {
     {
         let mut cell = to;
         for _turn in 0..self.paths.len() {
-            if same(cell, from) {
+            if cell == from {
                 return true;
             }
             match self.occupant(time, cell) {
                 None => return false,
                 Some(agent) => {
                     let entered = self.paths[agent].cell(time + 1);
-                    if same(entered, cell) {
+                    if entered == cell {
                         return false;
                     }
                     cell = entered;
                 }
             }
         }
-        same(cell, from)
+        cell == from
     }
 
     /// Whether an agent may go from the one cell to the other in the step that begins at the time.
@@ -125,7 +124,7 @@ impl Reservations {
         if self.occupant(time + 1, to).is_some() {
             return false;
         }
-        if same(from, to) {
+        if from == to {
             return true;
         }
         if self.occupant(time + 1, from).is_none() {

@@ -1,15 +1,12 @@
 //! Timetables: for each cell the stays on it, in the order of time. They stand in rows, first by `y` and then by `x`, which
 //! reach no further than the cells that were visited.
 
-ghost use Rattle.std.specs.Prelude.{◌≡◌, ◌<◌, ◌≤◌, ◌+◌, ℕ, List, [], length, get_or, map, OnOk, OnErr};
-ghost use Rattle.std.specs.List.{filter};
-ghost use Rattle.std.specs.List.Sorted.{IsNonDecreasingBy, IsPartitionPoint};
+ghost use Rattle.std.specs.Prelude.{◌≡◌, ◌<◌, ◌≤◌, ℕ, [], length, get_or, map, OnOk, OnErr};
+ghost use Rattle.std.specs.List.Sorted.{IsPartitionPoint};
 ghost use Rattle.fleet_model.specs.declared.geometry.Cell.{Cell};
-ghost use Rattle.fleet_plan.specs.Plan.{IsPath};
 ghost use Rattle.fleet_search.specs.Way.{Fits, joined};
 ghost use Rattle.fleet_search.specs.Stays.{IsPlaced, AreInOrder, IsAdded, stays_of, without, HaveStays};
 
-use crate::moment::same;
 use crate::stay::Stay;
 use fleet_model::{Cell, OutOfMemory};
 use fleet_plan::Path;
@@ -98,7 +95,7 @@ fn add_all(
     let mut from = 0;
     for time in 0..end {
         let cell = path.cell(time);
-        if !same(cell, path.cell(time + 1)) {
+        if cell != path.cell(time + 1) {
             let until = time;
             add(alloc, rows, cell, Stay { from, until, agent })?;
             from = time + 1;

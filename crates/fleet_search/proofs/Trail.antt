@@ -1,5 +1,5 @@
 -- The path to a moment, read backwards from what was noted.
-use Rattle.std.proofs.Common.{◌≡◌, ◌≢◌, ℕ, ◌+◌, ◌-◌, ◌<◌, ◌≤◌, min, IsTrue, List, [], ◌∷◌, ◌++◌, length, get_or, reverse, Option, inl, inr, refl, sym, ap, ◌∙◌, subst, arith}
+use Rattle.std.proofs.Common.{◌≡◌, ◌≢◌, ℕ, ◌+◌, ◌-◌, ◌<◌, ◌≤◌, min, IsTrue, List, [], ◌∷◌, ◌++◌, length, get_or, reverse, Option, inl, inr, ◌⊎◌, refl, sym, ap, ◌∙◌, subst, arith}
 use Rattle.std.specs.Prelude.{Vec}
 use Rattle.std.specs.declared.alloc.Global.{Global}
 use Rattle.std.proofs.lemmas.Bool.{cases_eq}
@@ -10,10 +10,18 @@ use Rattle.fleet_model.specs.Program.{origin}
 use Rattle.fleet_plan.specs.Plan.{cell_at}
 use Rattle.fleet_search.specs.declared.frontier.Question.{Question}
 use Rattle.fleet_search.specs.declared.frontier.Arrival.{Arrival}
+use Rattle.fleet_search.specs.declared.moment.Moment.{Moment}
 use Rattle.fleet_grid.specs.Ground.{is_passable}
 use Rattle.fleet_search.specs.Reserved.{IsFree, IsFreeOn}
-use Rattle.fleet_search.specs.Search.{IsStep, no_arrival, moment_in, IsReachedFrom, IsFrontier, IsTrail, IsBefore}
+use Rattle.fleet_search.specs.Search.{IsStep, no_arrival, moment_in, IsReachedFrom, IsFrontier, IsTrail}
 use Rattle.fleet_search.proofs.Chase.{step_ok-same}
+
+-- one step before the time of a visit the agent is on this one, from which the step leads there
+pub record IsBefore (q : Question) (reached : List Arrival) (time : ℕ) (visit : Moment) (next : ℕ) : Type 0 where
+  pub known : next < length reached
+  pub early : (moment_in reached next).time ≤ time - 1
+  pub free : IsFreeOn q.reserved.now (moment_in reached next).cell (moment_in reached next).time (time - 1)
+  pub step : IsStep q (time - 1) (moment_in reached next).cell visit.cell
 
 -- the cells from the last one back over so many steps; the agent came to the one that was found last at this moment
 pub record IsTraced (q : Question) (r : List Arrival) (n : ℕ) (last : Cell) (xs : List Cell) (back : ℕ) (visit : ℕ) : Type 0 where
@@ -26,20 +34,7 @@ pub record IsTraced (q : Question) (r : List Arrival) (n : ℕ) (last : Cell) (x
   pub free : IsFreeOn q.reserved.now (moment_in r visit).cell (moment_in r visit).time (n - back)
   pub steps : (k : ℕ) → k < back → IsStep q (n - (k + 1)) (get_or xs (k + 1) origin) (get_or xs k origin)
 
-pub traced-none : (q : Question) (f : ℕ) (left : Option ℕ) (r : List Arrival) (labels stacks : List (Vec ℕ Global)) → IsFrontier q f left r labels stacks → (p : ℕ) (none xs : List Cell) → p < length r → none ≡ [] → xs ≡ none ++ (moment_in r p).cell ∷ [] → IsTraced q r (moment_in r p).time (moment_in r p).cell xs 0 p
-traced-none q f left r labels stacks fr p none xs k a b = subst (λ z. IsTraced q r (moment_in r p).time (moment_in r p).cell z 0 p) (sym (b ∙ ap (λ z. z ++ (moment_in r p).cell ∷ []) a)) (record {
-  long = omega arith;
-  bound = omega arith;
-  front = refl;
-  end = refl;
-  known = k;
-  early = omega arith;
-  free = λ u x y. subst (λ z. IsFree q.reserved.now z (moment_in r p).cell) (let e : (moment_in r p).time ≡ u = omega arith in e) (fr.sound p k).free;
-  steps = λ k h. absurd (omega arith);
-})
-
--- the visit at one step before: that of the cell before, or the same
-pub before-came : (q : Question) (f : ℕ) (left : Option ℕ) (r : List Arrival) (labels stacks : List (Vec ℕ Global)) → IsFrontier q f left r labels stacks → (time visit : ℕ) → visit < length r → (moment_in r visit).time ≡ time → 1 ≤ time → IsBefore q r time (moment_in r visit) (get_or r visit no_arrival).from
+before-came : (q : Question) (f : ℕ) (left : Option ℕ) (r : List Arrival) (labels stacks : List (Vec ℕ Global)) → IsFrontier q f left r labels stacks → (time visit : ℕ) → visit < length r → (moment_in r visit).time ≡ time → 1 ≤ time → IsBefore q r time (moment_in r visit) (get_or r visit no_arrival).from
 before-came q f left r labels stacks fr time visit k e h = go (fr.sound visit k).reached_from
   where
     go : IsReachedFrom q r (moment_in r visit) (get_or r visit no_arrival).from → IsBefore q r time (moment_in r visit) (get_or r visit no_arrival).from
@@ -54,7 +49,7 @@ before-came q f left r labels stacks fr time visit k e h = go (fr.sound visit k)
           step = subst (λ z. IsStep q z from.cell (moment_in r visit).cell) at move.step;
         }
 
-pub before-waits : (q : Question) (f : ℕ) (left : Option ℕ) (r : List Arrival) (labels stacks : List (Vec ℕ Global)) → IsFrontier q f left r labels stacks → (time visit : ℕ) → visit < length r → (moment_in r visit).time ≢ time → (moment_in r visit).time ≤ time → IsFreeOn q.reserved.now (moment_in r visit).cell (moment_in r visit).time time → IsBefore q r time (moment_in r visit) visit
+before-waits : (q : Question) (f : ℕ) (left : Option ℕ) (r : List Arrival) (labels stacks : List (Vec ℕ Global)) → IsFrontier q f left r labels stacks → (time visit : ℕ) → visit < length r → (moment_in r visit).time ≢ time → (moment_in r visit).time ≤ time → IsFreeOn q.reserved.now (moment_in r visit).cell (moment_in r visit).time time → IsBefore q r time (moment_in r visit) visit
 before-waits q f left r labels stacks fr time visit k ne h free = record {
   known = k;
   early = omega arith;
@@ -65,6 +60,11 @@ before-waits q f left r labels stacks fr time visit k ne h free = record {
     fits = step_ok-same q.reserved.now (time - 1) (moment_in r visit).cell (moment_in r visit).cell (subst (λ z. IsFree q.reserved.now z (moment_in r visit).cell) (let e : time ≡ time - 1 + 1 = omega arith in e) (free time h (omega arith))) refl;
   };
 }
+
+-- the visit at one step before: that from which the agent has just come, or the same
+pub before : (q : Question) (f : ℕ) (left : Option ℕ) (r : List Arrival) (labels stacks : List (Vec ℕ Global)) → IsFrontier q f left r labels stacks → (n : ℕ) (last : Cell) (xs : List Cell) (back visit next : ℕ) → IsTraced q r n last xs back visit → back < n → (((moment_in r visit).time ≡ n - back) × (next ≡ (get_or r visit no_arrival).from)) ⊎ (((moment_in r visit).time ≢ n - back) × (next ≡ visit)) → IsBefore q r (n - back) (moment_in r visit) next
+before q f left r labels stacks fr n last xs back visit next tr h (inl w) = subst (IsBefore q r (n - back) (moment_in r visit)) (sym w.1) (before-came q f left r labels stacks fr (n - back) visit tr.known w.0 (omega arith))
+before q f left r labels stacks fr n last xs back visit next tr h (inr w) = subst (IsBefore q r (n - back) (moment_in r visit)) (sym w.1) (before-waits q f left r labels stacks fr (n - back) visit tr.known w.0 tr.early tr.free)
 
 module _ (q : Question) (f : ℕ) (left : Option ℕ) (r : List Arrival) (labels stacks : List (Vec ℕ Global)) (fr : IsFrontier q f left r labels stacks) (n : ℕ) (last : Cell) (xs : List Cell) (back : ℕ) (visit : ℕ) (tr : IsTraced q r n last xs back visit) where
   pub traced-more : (next : ℕ) (ys : List Cell) → back < n → IsBefore q r (n - back) (moment_in r visit) next → ys ≡ xs ++ (moment_in r next).cell ∷ [] → IsTraced q r n last ys (back + 1) next

@@ -166,13 +166,6 @@ IsSwept q f old new =
 abbrev pub IsFound : Question → ℕ → Frontier → ℕ → Type 0
 IsFound q f s place = FrontierIs q f (Some place) s × IsLeft q f s place (moment_in s.reached.items place) × IsEnd q (moment_in s.reached.items place)
 
--- one step before the time of a visit the agent is on this one, from which the step leads there
-pub record IsBefore (q : Question) (reached : List Arrival) (time : ℕ) (visit : Moment) (next : ℕ) : Type 0 where
-  pub known : next < length reached
-  pub early : (moment_in reached next).time ≤ time - 1
-  pub free : IsFreeOn q.reserved.now (moment_in reached next).cell (moment_in reached next).time (time - 1)
-  pub step : IsStep q (time - 1) (moment_in reached next).cell visit.cell
-
 -- the agent may stand on the start, the goal is not too far, and from `rest` on it is free
 pub record IsAsked (q : Question) : Type 0 where
   pub measured : IsMeasured q
@@ -188,3 +181,14 @@ pub record IsTrail (q : Question) (n : ℕ) (last : Cell) (path : List Cell) : T
   pub ends : cell_at path n ≡ last
   pub on_ground : IsTrue (is_passable q.grid.now (place_of (cell_at path 0)))
   pub steps : (t : ℕ) → t < n → IsStep q t (cell_at path t) (cell_at path (t + 1))
+
+-- the arrival at this place is being left in a search
+pub record IsSearched (s : Frontier) (place : ℕ) : Type 0 where
+  pub question : Question
+  pub slot : ℕ
+  pub horizon : question.horizon ≤ 65535
+  pub frontier : FrontierIs question slot (Some place) s
+
+-- the path by which the arrival at this place was reached, whatever was searched for
+abbrev pub IsTrailOf : Frontier → ℕ → List Cell → Type 0
+IsTrailOf s place path = (q : Question) (slot : ℕ) → FrontierIs q slot (Some place) s → IsTrail q (moment_in s.reached.items place).time (moment_in s.reached.items place).cell path

@@ -1,6 +1,6 @@
 //! The earliest path of one agent past the reserved ones.
 
-ghost use Rattle.std.specs.Prelude.{◌≡◌, ◌≤◌, ◌+◌, IfOk, IfErr, OnOk};
+ghost use Rattle.std.specs.Prelude.{◌≡◌, IfOk, IfErr, OnOk};
 ghost use Rattle.fleet_grid.specs.Ground.{is_passable};
 ghost use Rattle.fleet_search.specs.Distance.{IsReady};
 ghost use Rattle.fleet_search.specs.Search.{IsAsked, HasRows};
@@ -34,7 +34,7 @@ fn search(frontier: &mut Frontier, question: &Question) -> Result<Path, SearchFa
     while slot <= question.horizon {
         let before = frontier.reached.len();
         if let Some(last) = frontier.sweep(question, slot)? {
-            let path = frontier.path_to(question, slot, last)?;
+            let path = frontier.path_to(last)?;
             return Ok(path);
         }
         if frontier.reached.len() > before {

@@ -3,16 +3,15 @@
 //! An agent that comes to a cell may wait there for as long as nobody else comes. So of the times in a gap between the
 //! stays of others on a cell only the earliest counts (safe intervals: Phillips and Likhachev 2011).
 
-ghost use Rattle.std.specs.Prelude.{◌≡◌, ◌+◌, ◌-◌, ◌*◌, ◌<◌, ◌≤◌, ◌↔◌, IsTrue, IfOk, OnOk, Some, None, MatchOption, length, ℕ};
+ghost use Rattle.std.specs.Prelude.{◌≡◌, ◌+◌, ◌-◌, ◌<◌, ◌≤◌, ◌↔◌, IsTrue, IfOk, OnOk, Some, None, MatchOption, length};
 ghost use Rattle.fleet_model.specs.Geometry.{place_of, moved};
-ghost use Rattle.fleet_grid.specs.Ground.{is_passable, IsGround};
+ghost use Rattle.fleet_grid.specs.Ground.{is_passable};
 ghost use Rattle.fleet_plan.specs.Plan.{AreNeighbours};
 ghost use Rattle.fleet_model.specs.declared.geometry.Cell.{Cell};
-ghost use Rattle.fleet_search.specs.Reserved.{IsFree, IsFreeOn};
+ghost use Rattle.fleet_search.specs.Reserved.{IsFree};
 ghost use Rattle.fleet_search.specs.Way.{StepFits};
 ghost use Rattle.fleet_search.specs.Gaps.{AreApart, IsInGap};
-ghost use Rattle.fleet_search.specs.Rows.{label_in};
-ghost use Rattle.fleet_search.specs.Search.{far_of, stays_on, IsMeasured, IsEnd, IsSlot, IsLeft, IsLeaving, FrontierIs, HasRows, Grows, IsAsked, IsTrail, IsFreeUntil, IsFoundAt, IsFoundIn, IsFoundFrom, IsBefore, IsSwept, IsFound, IsSeen, moment_in};
+ghost use Rattle.fleet_search.specs.Search.{far_of, stays_on, IsMeasured, IsEnd, IsSlot, IsLeft, IsLeaving, FrontierIs, HasRows, Grows, IsAsked, IsSearched, IsTrailOf, IsFreeUntil, IsFoundAt, IsFoundIn, IsFoundFrom, IsSwept, IsFound, IsSeen};
 
 use crate::distances::Distances;
 use crate::gaps::{first_in, is_in_gap, next_begin};
@@ -356,40 +355,23 @@ impl Frontier {
         put(self.alloc, &mut self.stacks, slot, 0)?;
         Ok(())
     }
-}
-
-impl Frontier {
-    /// The visit of one step before the time: that of the cell before where the agent has just come, else the same.
-    fn before(&self, question: &Question, slot: u32, last: usize, visit: usize, time: u32) -> usize
-        requires frontier { FrontierIs question.now slot (Some last) self.now }
-        requires known { visit < length self.now.reached.items }
-        requires time { 1 ≤ time }
-        requires early { (moment_in self.now.reached.items visit).time ≤ time }
-        requires free { IsFreeOn question.now.reserved.now (moment_in self.now.reached.items visit).cell (moment_in self.now.reached.items visit).time time }
-        ensures { IsBefore question.now self.now.reached.items time (moment_in self.now.reached.items visit) result }
-    {
-        let _asked = question;
-        let _reached = (slot, last);
-        let arrival = self.reached[visit];
-        if arrival.at.time != time {
-            return visit;
-        }
-        arrival.from
-    }
 
     /// The path by which the moment at this place was reached.
-    pub fn path_to(&self, question: &Question, slot: u32, last: usize) -> Result<Path, OutOfMemory>
-        requires horizon { question.now.horizon ≤ 65535 }
-        requires frontier { FrontierIs question.now slot (Some last) self.now }
+    pub fn path_to(&self, last: usize) -> Result<Path, OutOfMemory>
         requires within { last < length self.now.reached.items }
-        ensures { IfOk result (IsTrail question.now (moment_in self.now.reached.items last).time (moment_in self.now.reached.items last).cell) }
+        requires searched { IsSearched self.now last }
+        ensures { IfOk result (IsTrailOf self.now last) }
     {
         let end = self.reached[last].at;
         let mut cells = Vec::new(self.alloc);
         let mut visit = last;
         cells.push(end.cell)?;
         for back in 0..end.time {
-            visit = self.before(question, slot, last, visit, end.time - back);
+            let arrival = self.reached[visit];
+            // Before the agent came to the cell it was where it came from.
+            if arrival.at.time == end.time - back {
+                visit = arrival.from;
+            }
             cells.push(self.reached[visit].at.cell)?;
         }
         cells.reverse();

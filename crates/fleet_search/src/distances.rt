@@ -1,10 +1,7 @@
 //! How far the cells of a map are from a goal, over passable cells.
 
-ghost use Rattle.std.specs.Prelude.{◌≡◌, ◌+◌, ◌<◌, ◌≤◌, ◌*◌, ◌↔◌, ℕ, IsTrue, IfOk, OnOk, Some, None, [], length, get_or};
-ghost use Rattle.fleet_model.specs.declared.geometry.Cell.{Cell};
-ghost use Rattle.fleet_model.specs.Geometry.{place_of, moved};
-ghost use Rattle.fleet_grid.specs.Ground.{IsGround, is_passable, cell_index};
-ghost use Rattle.fleet_search.specs.Distance.{no_label, label_in, labelled, manhattan, least_moves, far, IsReady, AreDistances, IsOnGround, SpreadIs, IsLabelled, IsFoundTowards, LabelsFall, IsSameSearch, IsNear, IsPutFrom, work_left};
+ghost use Rattle.std.specs.Prelude.{◌≡◌, ◌+◌, ◌<◌, ◌≤◌, ◌↔◌, ℕ, IsTrue, IfOk, OnOk, Some, None, [], length, get_or};
+ghost use Rattle.fleet_search.specs.Distance.{no_label, label_in, manhattan, least_moves, far, IsReady, AreDistances, IsOnGround, SpreadIs, IsLabelled, IsFoundTowards, LabelsFall, IsSameSearch, IsNear, IsPutFrom, work_left};
 
 use fleet_grid::Grid;
 use fleet_model::{Cell, Dir, OutOfMemory};
@@ -289,22 +286,6 @@ impl Distances {
         Ok(())
     }
 
-    /// Where nothing is left to be labelled, no path from the start leads to the goal over the cells that are not: they
-    /// count as beyond the horizon.
-    fn close(&mut self, grid: &Grid, horizon: u16)
-        requires spread { SpreadIs grid.now None self.old }
-        requires next { self.old.next.items ≡ [] }
-        ensures { AreDistances grid.now self.new self.old.goal }
-    {
-        let _ = grid;
-        let beyond = u32::from(horizon) + 1;
-        if self.layer.is_empty() {
-            self.reach = beyond;
-        } else {
-            self.reach = self.reach.min(beyond);
-        }
-    }
-
     /// Labels the cells over which the shortest paths from the start to the goal lead, and those that are little longer, up to
     /// the horizon.
     pub fn measure(
@@ -321,7 +302,14 @@ impl Distances {
     {
         self.open(grid, start, goal)?;
         self.sweep(grid, horizon)?;
-        self.close(grid, horizon);
+        // Where nothing is left to be labelled, no path from the start leads to the goal over the cells that are not: they
+        // count as beyond the horizon.
+        let beyond = u32::from(horizon) + 1;
+        if self.layer.is_empty() {
+            self.reach = beyond;
+        } else {
+            self.reach = self.reach.min(beyond);
+        }
         Ok(())
     }
 }

@@ -1,5 +1,5 @@
 -- The agents that make room for one another in a step, followed one by one.
-use Rattle.std.proofs.Common.{◌≡◌, ◌≢◌, ℕ, ◌+◌, ◌<◌, ◌≤◌, Bool, true, false, IsTrue, ◌==◌, List, [], ◌∷◌, ◌++◌, length, get_or, ◌↔◌, inl, inr, refl, sym, ap, ◌∙◌, subst, arith}
+use Rattle.std.proofs.Common.{◌≡◌, ◌≢◌, ℕ, ◌+◌, ◌<◌, ◌≤◌, Bool, true, false, IsTrue, ◌==◌, List, [], ◌∷◌, ◌++◌, length, get_or, ◌↔◌, inl, inr, sym, ap, ◌∙◌, subst, arith}
 use Rattle.std.specs.List.{list_any}
 use Rattle.std.specs.Prelude.{Option, None, Some, is_some, not, IfNone, IfSome}
 use Rattle.std.proofs.lemmas.Bool.{cases_eq, eqb-true, or_cases}
@@ -32,9 +32,6 @@ Follow-below plan t c (j ∷ js) d f q h = elim (or_cases (q == j) (list_any (�
 pub record IsChase (plan : Plan) (t : ℕ) (from to : Cell) (i : ℕ) (cell : Cell) : Type 0 where
   pub led : (js : List ℕ) × Follow plan t to js cell
   pub rest : (ks : List ℕ) → Follow plan t to ks from → (js : List ℕ) × Follow plan t cell js from × (length ks ≡ i + length js)
-
-pub chase-none : (plan : Plan) (t : ℕ) (from to : Cell) → IsChase plan t from to 0 to
-chase-none plan t from to = record { led = ([], refl); rest = λ ks f. (ks, f, omega arith) }
 
 module _ (plan : Plan) (fit : FitTogether plan) (t : ℕ) (from to : Cell) (i : ℕ) (cell : Cell) (ch : IsChase plan t from to i cell) where
   pub chase-more : (a : ℕ) (entered : Cell) → IsOn plan t cell a → entered ≡ cell_of plan a (t + 1) → cell ≢ from → entered ≢ cell → IsChase plan t from to (i + 1) entered
@@ -109,9 +106,6 @@ step_ok-same plan t from to free e = record { vertex = free; ring = λ ne. absur
 
 pub step_ok-alone : (plan : Plan) (t : ℕ) (from to : Cell) → IsFree plan (t + 1) to → IsFree plan (t + 1) from → StepFits plan t from to
 step_ok-alone plan t from to free alone = record { vertex = free; ring = λ ne js f. enters plan t to js from (λ e. ne (sym e)) f alone }
-
-pub step_ok-ring : (plan : Plan) (t : ℕ) (from to : Cell) → IsFree plan (t + 1) to → from ≢ to → (LeadsBack plan t from to → ⊥) → StepFits plan t from to
-step_ok-ring plan t from to free ne not = record { vertex = free; ring = λ z js f. not (js, f) }
 
 pub of_none : {P : Type 0} (o : Option ℕ) (b : Bool) → b ≡ is_some o → b ≡ false → IfNone o P → P
 of_none None b e f h = h

@@ -2,12 +2,11 @@
 use Rattle.std.proofs.Common.{◌≡◌, ℕ, zero, suc, ◌+◌, ◌-◌, ◌<◌, ◌≤◌, inl, inr, List, length, ap, arith}
 use Rattle.std.specs.List.Sorted.{IsPartitionPoint}
 use Rattle.std.proofs.lemmas.Bool.{cases_eq, cases_lt}
-use Rattle.std.proofs.lemmas.List.{get_or_default}
 use Rattle.fleet_model.specs.declared.geometry.Cell.{Cell}
 use Rattle.fleet_plan.specs.Plan.{Plan}
 use Rattle.fleet_search.specs.declared.stay.Stay.{Stay}
-use Rattle.fleet_search.specs.Stays.{stay_at, no_stay, IsDuring, AreStays, AreInOrder}
-use Rattle.fleet_search.specs.Gaps.{AreApart, IsInGap, AreBegun, IsNextBegin}
+use Rattle.fleet_search.specs.Stays.{stay_at, no_stay, IsDuring, AreStays}
+use Rattle.fleet_search.specs.Gaps.{AreApart, IsInGap, AreBegun}
 use Rattle.fleet_search.specs.Reserved.{IsFree, IsFreeOn}
 
 -- ---- lists of stays
@@ -21,13 +20,6 @@ apart-from stays a i j h l = elim (cases_eq i j) [
   | inl e ↦ let z = ap (λ z. (stay_at stays z).from) e in omega arith
   | inr ne ↦ let x = a.apart i j (omega arith) l in let y = a.some_time i (omega arith) in omega arith
 ]
-
-pub apart-in_order : (stays : List Stay) → AreApart stays → AreInOrder stays
-apart-in_order stays a i j d h l =
-    let x = apart-from stays a i j h l in
-    let y = ap (λ (z : Stay). z.from) (get_or_default stays i d no_stay (omega arith)) in
-    let z = ap (λ (z : Stay). z.from) (get_or_default stays j d no_stay l) in
-    omega arith
 
 pub begun-point : (stays : List Stay) (t n : ℕ) → n ≤ length stays → IsPartitionPoint (λ (s : Stay). s.from ≤ t) (λ (s : Stay). t < s.from) stays n → AreBegun stays t n
 begun-point stays t n b p = record { bound = b; begun = λ i h. p.0 i no_stay (omega arith) h; to_come = λ i h l. p.1 i no_stay h l }
@@ -132,27 +124,6 @@ module _ (plan : Plan) (c : Cell) (stays : List Stay) (s : AreStays plan c stays
 
   pub some_gap : (t : ℕ) → t ≤ 4294967295 → IsFree plan t c → (n : ℕ) × IsInGap stays n t
   some_gap t few free = let w = begun-some stays (stays-apart plan c stays s) t in (w.0, free-gap t w.0 few w.1 free)
-
-  -- a gap ends when the next stay begins
-  pub free-until : (t until : ℕ) → t ≤ 4294967295 → IsFree plan t c → IsNextBegin stays t until → ((u : ℕ) → t ≤ u → u < until → IsFree plan u c) × ((u : ℕ) → u < 4294967295 → IsFreeOn plan c t u → u < until)
-  free-until t until few free n = (
-    λ u h l. gap-free n.next u (record {
-      bound = n.begun.bound;
-      over = λ i k. let o = ((free-gap t n.next few n.begun free).over i k) in (let z = o.0 in omega arith, o.1);
-      to_come = λ i k m. let z = apart-from stays (stays-apart plan c stays s) n.next i k m in let e = n.here (omega arith) in omega arith;
-    }),
-    λ u h f. elim (cases_lt n.next (length stays)) [
-      | inr l ↦ let e = n.none l in omega arith
-      | inl l ↦ elim (cases_lt u until) [
-        | inl k ↦ k
-        | inr k ↦
-            let e = n.here l in
-            let z = n.begun.to_come n.next (omega arith) l in
-            let x = (s.each n.next l).some_time in
-            absurd (during-taken n.next (stay_at stays n.next).from l (omega arith, inl x) (f (stay_at stays n.next).from (omega arith) (omega arith)))
-      ]
-    ],
-  )
 
   -- they begin at different times, and none begins late
   begins-late : (i : ℕ) → i < length stays → i ≤ (stay_at stays i).from

@@ -43,9 +43,6 @@ in_turn_free passable tasks horizon plan made =
       cycle = free.cycle;
     }
 
-pub in_turn-none : (passable : Place → Bool) (tasks : List Task) (horizon : ℕ) (plan : Plan) → plan ≡ [] → IsMadeInTurn passable tasks horizon 0 plan
-in_turn-none passable tasks horizon plan e = record { agents = ap length e; each = λ i t h. absurd (omega arith) }
-
 -- what was read of the agent's task is the task
 read_task : (tasks : List Task) (n : ℕ) (start goal : Cell) → option_map (λ (t : Task). t.start) (slice_get tasks n) ≡ Some start → option_map (λ (t : Task). t.goal) (slice_get tasks n) ≡ Some goal → (t : Task) → slice_get tasks n ≡ Some t → (start ≡ t.start) × (goal ≡ t.goal)
 read_task tasks n start goal a b t e = (

@@ -98,9 +98,6 @@ Grows-then a b c g h =
       same = λ e k. h.same (omega arith) k ∙ g.same (omega arith) k;
     }
 
-pub Grows-same : (a : Frontier) → Grows a a
-Grows-same a = record { more = omega arith; kept = λ i l. refl; same = λ e k. refl }
-
 pub left-stays : (q : Question) (f : ℕ) (old new : Frontier) (place : ℕ) (m : Moment) → Grows old new → IsLeft q f old place m → IsLeft q f new place m
 left-stays q f old new place m g l =
     let w = l.within in

@@ -280,27 +280,6 @@ spread-popped g labels search start goal reach c layer layer' next sp e = record
   ];
 }
 
--- the cell was left before, by another label
-pub spread-skip : (g : Ground) (labels : List Label) (search : ℕ) (start goal : Cell) (reach : ℕ) (left : Cell) (layer next : List Cell) → IsSpread g labels search start goal reach (Some left) layer next → ((d : ℕ) → label_in g labels search left ≡ Some d → d + manhattan left start ≡ reach → ⊥) → IsSpread g labels search start goal reach None layer next
-spread-skip g labels search start goal reach left layer next sp not = record {
-  ready = sp.ready;
-  goal_on_ground = sp.goal_on_ground;
-  at_goal = sp.at_goal;
-  apart = sp.apart;
-  in_layer = sp.in_layer;
-  in_next = sp.in_next;
-  closed = λ x n h k. elim (sp.closed x n h k) [
-    | inl y ↦ inl y
-    | inr w ↦ inr (elim w [
-      | inl y ↦ elim y.1 [
-        | inl u ↦ inl (y.0, inl u)
-        | inr u ↦ let s = same_Some left x u in absurd (not n (ap (label_in g labels search) s ∙ k) (ap (λ v. n + manhattan v start) s ∙ y.0))
-      ]
-      | inr y ↦ inr y
-    ])
-  ];
-}
-
 module _ (g : Ground) (s1 s2 s3 s4 : Distances) (d : ℕ) (left : Cell) (sp : SpreadIs g (Some left) s4) (n : IsFoundTowards g s1 d left North) (e : IsFoundTowards g s2 d left East) (s : IsFoundTowards g s3 d left South) (w : IsFoundTowards g s4 d left West) (t2 : LabelsFall g s1 s2) (t3 : LabelsFall g s2 s3) (t4 : LabelsFall g s3 s4) where
   Found : Distances → Cell → Type 0
   Found t x = (m : ℕ) × IsLabelled g t x m × (m ≤ d + 1)

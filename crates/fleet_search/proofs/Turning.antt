@@ -8,26 +8,13 @@ use Rattle.fleet_search.specs.declared.frontier.Leaving.{Leaving}
 use Rattle.fleet_search.specs.Gaps.{AreBegun}
 use Rattle.fleet_search.specs.Search.{stays_on, IsMeasured, FrontierIs, IsLeaving, Grows, IsFoundIn, IsFoundFrom}
 use Rattle.fleet_search.proofs.GapLaws.{stays-apart, some_gap}
-use Rattle.fleet_search.proofs.SearchSteps.{Grows-then, Grows-same, left-stays, found_in-stays}
+use Rattle.fleet_search.proofs.SearchSteps.{Grows-then, left-stays, found_in-stays}
 
 pub record IsTurning (q : Question) (f : ℕ) (l : Leaving) (c : Cell) (gap : ℕ) (start now : Frontier) : Type 0 where
   pub frontier : FrontierIs q (f - 1) (Some l.place) now
   pub leaving : IsLeaving q f now l
   pub grows : Grows start now
   pub each : (k : ℕ) → k < gap → IsFoundIn q now.reached.items l.at c k
-
--- gaps that are over by then
-pub turning-none : (q : Question) (f : ℕ) (l : Leaving) (c : Cell) (gap : ℕ) (s : Frontier) → FrontierIs q (f - 1) (Some l.place) s → IsLeaving q f s l → AreBegun (stays_on q c) (l.at.time + 1) gap → IsTurning q f l c gap s s
-turning-none q f l c gap s fr leaving b = record {
-  frontier = fr;
-  leaving = leaving;
-  grows = Grows-same s;
-  each = λ k h u move g in_time.
-      let x = b.begun k h in
-      let y = g.to_come k (omega arith) (let z = b.bound in omega arith) in
-      let w = move.waits in
-      absurd (omega arith);
-}
 
 pub turning-more : (q : Question) (f : ℕ) (l : Leaving) (c : Cell) (gap : ℕ) (start now next : Frontier) → IsTurning q f l c gap start now → FrontierIs q (f - 1) (Some l.place) next → IsFoundIn q next.reached.items l.at c gap → Grows now next → IsTurning q f l c (gap + 1) start next
 turning-more q f l c gap start now next h fr found grows = record {

@@ -1,8 +1,8 @@
 //! Gaps between the stays of agents on a cell.
 
-ghost use Rattle.std.specs.Prelude.{◌≡◌, ◌↔◌, ◌≤◌, ◌<◌, ◌-◌, ℕ, length, IsTrue, IfSome, IfNone};
+ghost use Rattle.std.specs.Prelude.{◌↔◌, ◌≤◌, ◌<◌, ◌-◌, ℕ, length, IsTrue, IfSome, IfNone};
 ghost use Rattle.fleet_search.specs.Stays.{stay_at};
-ghost use Rattle.fleet_search.specs.Gaps.{AreApart, AreBegun, IsInGap, IsFirstIn, IsNextBegin};
+ghost use Rattle.fleet_search.specs.Gaps.{AreApart, IsInGap, IsFirstIn, IsNextBegin};
 
 use crate::stay::Stay;
 use crate::timetable::begun;

@@ -1,6 +1,6 @@
 //! Rows of numbers: stacks, and labels.
 
-ghost use Rattle.std.specs.Prelude.{◌≡◌, ◌≢◌, ◌+◌, ◌<◌, ◌++◌, ◌∷◌, [], ℕ, OnOk, IfSome, IfNone, length, get_or};
+ghost use Rattle.std.specs.Prelude.{◌≡◌, ◌≢◌, ◌<◌, ◌++◌, ◌∷◌, [], ℕ, OnOk, IfSome, IfNone, length, get_or};
 ghost use Rattle.fleet_search.specs.Rows.{row_in, label_in, IsPut, IsLabelSet};
 
 use fleet_model::OutOfMemory;

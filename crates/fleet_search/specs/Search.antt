@@ -10,6 +10,7 @@ use Rattle.fleet_search.specs.declared.frontier.Question.{Question}
 use Rattle.fleet_search.specs.declared.frontier.Arrival.{Arrival}
 use Rattle.fleet_search.specs.declared.frontier.Leaving.{Leaving}
 use Rattle.fleet_search.specs.declared.frontier.Frontier.{Frontier}
+use Rattle.fleet_search.specs.declared.frontier.Beside.{Beside}
 use Rattle.fleet_grid.specs.Ground.{Ground, is_passable, cell_index}
 use Rattle.fleet_search.specs.Distance.{far, AreDistances}
 use Rattle.fleet_search.specs.Way.{StepFits}
@@ -144,6 +145,12 @@ pub record Grows (old new : Frontier) : Type 0 where
   pub more : length old.reached.items ≤ length new.reached.items
   pub kept : (i : ℕ) → i < length old.reached.items → get_or new.reached.items i no_arrival ≡ get_or old.reached.items i no_arrival
   pub same : length new.reached.items ≡ length old.reached.items → (k : ℕ) → row_in new.stacks.items k ≡ row_in old.stacks.items k
+
+-- the cell lies beside the one that is left, and these are the stays there
+pub record IsBeside (q : Question) (left : Cell) (b : Beside) : Type 0 where
+  pub neighbours : AreNeighbours left b.cell
+  pub on_ground : IsTrue (is_passable q.grid.now (place_of b.cell))
+  pub stays : b.stays.now ≡ stays_on q b.cell
 
 -- where the step that begins at the time fits and is not too late, the cell was reached by its end
 abbrev pub IsFoundAt : Question → List Arrival → Moment → Cell → ℕ → Type 0

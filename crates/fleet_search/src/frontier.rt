@@ -6,12 +6,11 @@
 ghost use Rattle.std.specs.Prelude.{◌≡◌, ◌+◌, ◌-◌, ◌<◌, ◌≤◌, ◌↔◌, IsTrue, IfOk, OnOk, Some, None, MatchOption, length};
 ghost use Rattle.fleet_model.specs.Geometry.{place_of, moved};
 ghost use Rattle.fleet_grid.specs.Ground.{is_passable};
-ghost use Rattle.fleet_plan.specs.Plan.{AreNeighbours};
 ghost use Rattle.fleet_model.specs.declared.geometry.Cell.{Cell};
 ghost use Rattle.fleet_search.specs.Reserved.{IsFree};
 ghost use Rattle.fleet_search.specs.Way.{StepFits};
 ghost use Rattle.fleet_search.specs.Gaps.{AreApart, IsInGap};
-ghost use Rattle.fleet_search.specs.Search.{far_of, stays_on, IsMeasured, IsEnd, IsSlot, IsLeft, IsLeaving, FrontierIs, HasRows, Grows, IsAsked, IsSearched, IsTrailOf, IsFreeUntil, IsFoundAt, IsFoundIn, IsFoundFrom, IsSwept, IsFound, IsSeen};
+ghost use Rattle.fleet_search.specs.Search.{far_of, stays_on, IsMeasured, IsEnd, IsSlot, IsLeft, IsLeaving, FrontierIs, HasRows, Grows, IsAsked, IsSearched, IsTrailOf, IsFreeUntil, IsFoundAt, IsFoundIn, IsFoundFrom, IsBeside, IsSwept, IsFound, IsSeen};
 
 use crate::distances::Distances;
 use crate::gaps::{first_in, is_in_gap, next_begin};
@@ -109,6 +108,13 @@ pub struct Leaving {
     pub until: u32,
 }
 
+/// A cell beside the one that is left, with the stays of the reserved agents there.
+#[derive(Clone, Copy)]
+pub struct Beside<'a> {
+    pub cell: Cell,
+    pub stays: &'a [Stay],
+}
+
 /// The moments that were reached, and those that are still to be left.
 #[derive(Drop)]
 pub struct Frontier {
@@ -157,7 +163,7 @@ impl Frontier {
         question: &Question,
         slot: u32,
         left: Leaving,
-        cell: Cell,
+        beside: &Beside,
         gap: usize,
         begin: u32,
     ) -> Result<(), OutOfMemory>
@@ -166,11 +172,10 @@ impl Frontier {
         requires left { IsLeaving question.now slot self.old left }
         requires waits { left.at.time ≤ begin }
         requires free { begin < left.until }
-        requires gap { IsInGap (stays_on question.now cell) gap (begin + 1) }
-        requires beside { AreNeighbours left.at.cell cell }
-        requires passable { IsTrue (is_passable question.now.grid.now (place_of cell)) }
+        requires gap { IsInGap beside.now.stays.now gap (begin + 1) }
+        requires beside { IsBeside question.now left.at.cell beside.now }
         ensures frontier { OnOk result (FrontierIs question.now (slot - 1) (Some left.place) self.new) }
-        ensures found { OnOk result (IsFoundAt question.now self.new.reached.items left.at cell begin) }
+        ensures found { OnOk result (IsFoundAt question.now self.new.reached.items left.at beside.now.cell begin) }
         ensures grows { OnOk result (Grows self.old self.new) }
         ensures left { OnOk result (IsLeaving question.now slot self.new left) }
     {
@@ -178,13 +183,14 @@ impl Frontier {
             return Ok(());
         }
         let time = begin + 1;
+        let cell = beside.cell;
         let far = question.far(cell);
         if time + far > question.horizon {
             return Ok(());
         }
         let row = question.grid.cell_index(cell);
         let seen = label(self.labels.as_slice(), row, gap);
-        if self.is_seen(question.stays(cell), cell, gap, time, seen) {
+        if self.is_seen(beside.stays, cell, gap, time, seen) {
             return Ok(());
         }
         if !question.fits(left, cell, begin) {
@@ -212,28 +218,27 @@ impl Frontier {
         question: &Question,
         slot: u32,
         left: Leaving,
-        cell: Cell,
+        beside: &Beside,
         gap: usize,
     ) -> Result<(), OutOfMemory>
         requires horizon { question.now.horizon ≤ 65535 }
         requires frontier { FrontierIs question.now (slot - 1) (Some left.place) self.old }
         requires left { IsLeaving question.now slot self.old left }
         requires few { left.at.time < 4294967295 }
-        requires gap { gap ≤ length (stays_on question.now cell) }
-        requires beside { AreNeighbours left.at.cell cell }
-        requires passable { IsTrue (is_passable question.now.grid.now (place_of cell)) }
+        requires gap { gap ≤ length beside.now.stays.now }
+        requires beside { IsBeside question.now left.at.cell beside.now }
         ensures frontier { OnOk result (FrontierIs question.now (slot - 1) (Some left.place) self.new) }
-        ensures found { OnOk result (IsFoundIn question.now self.new.reached.items left.at cell gap) }
+        ensures found { OnOk result (IsFoundIn question.now self.new.reached.items left.at beside.now.cell gap) }
         ensures grows { OnOk result (Grows self.old self.new) }
         ensures left { OnOk result (IsLeaving question.now slot self.new left) }
     {
-        let Some(time) = first_in(question.stays(cell), gap, left.at.time + 1) else {
+        let Some(time) = first_in(beside.stays, gap, left.at.time + 1) else {
             return Ok(());
         };
         if time > left.until {
             return Ok(());
         }
-        self.step_to(question, slot, left, cell, gap, time - 1)?;
+        self.step_to(question, slot, left, beside, gap, time - 1)?;
         Ok(())
     }
 
@@ -243,24 +248,22 @@ impl Frontier {
         question: &Question,
         slot: u32,
         left: Leaving,
-        cell: Cell,
+        beside: &Beside,
     ) -> Result<(), OutOfMemory>
         requires horizon { question.now.horizon ≤ 65535 }
         requires frontier { FrontierIs question.now (slot - 1) (Some left.place) self.old }
         requires left { IsLeaving question.now slot self.old left }
         requires few { left.at.time < 4294967295 }
-        requires beside { AreNeighbours left.at.cell cell }
-        requires passable { IsTrue (is_passable question.now.grid.now (place_of cell)) }
+        requires beside { IsBeside question.now left.at.cell beside.now }
         ensures frontier { OnOk result (FrontierIs question.now (slot - 1) (Some left.place) self.new) }
-        ensures found { OnOk result (IsFoundFrom question.now self.new.reached.items left.at cell) }
+        ensures found { OnOk result (IsFoundFrom question.now self.new.reached.items left.at beside.now.cell) }
         ensures grows { OnOk result (Grows self.old self.new) }
         ensures left { OnOk result (IsLeaving question.now slot self.new left) }
     {
-        let stays = question.stays(cell);
-        let first = begun(stays, left.at.time + 1);
-        let last = begun(stays, left.until);
+        let first = begun(beside.stays, left.at.time + 1);
+        let last = begun(beside.stays, left.until);
         for gap in first..last + 1 {
-            self.step_in_gap(question, slot, left, cell, gap)?;
+            self.step_in_gap(question, slot, left, beside, gap)?;
         }
         Ok(())
     }
@@ -284,7 +287,10 @@ impl Frontier {
     {
         match question.grid.neighbour(left.at.cell, dir) {
             None => Ok(()),
-            Some(beside) => self.step_in_turn(question, slot, left, beside),
+            Some(cell) => {
+                let stays = question.stays(cell);
+                self.step_in_turn(question, slot, left, &Beside { cell, stays })
+            }
         }
     }
 

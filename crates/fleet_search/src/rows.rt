@@ -55,8 +55,8 @@ pub fn take(rows: &mut Vec<Vec<usize>>, key: u32) -> Option<usize>
 pub fn clear(rows: &mut Vec<Vec<usize>>)
     ensures { (k : ℕ) → row_in rows.new.items k ≡ [] }
 {
-    for key in 0..rows.len() {
-        rows[key].clear();
+    for row in rows.iter_mut() {
+        row.clear();
     }
 }
 

@@ -1,22 +1,25 @@
-use Rattle.std.proofs.Common.{length, inl, inr, ap, ◌∙◌, arith}
+use Rattle.std.proofs.Common.{◌≡◌, length, inl, inr, ap, ◌∙◌, arith}
 use Rattle.std.proofs.lemmas.Bool.{cases_eq, cases_lt}
-use Rattle.std.proofs.lemmas.List.{length-set}
+use Rattle.std.proofs.lemmas.List.{with_items_is}
 use Rattle.std.specs.Prelude.{set}
 use Rattle.fleet_search.specs.Rows.{row_in}
 use Rattle.fleet_search.proofs.RowLaws.{row-past, row-set, row-other}
 use Rattle.fleet_search.proofs.rows.clear.Goals as goal
 
-pub loop-key-preserved : goal.loop-key-preserved
-loop-key-preserved c = (
-  length-set c.loop-key.rows.items c.loop-key.key c.clear.new.self ∙ c.loop-key.invariant.0,
-  λ k h. elim (cases_eq k c.loop-key.key) [
-    | inl e ↦ ap (row_in (set c.loop-key.rows.items c.loop-key.key c.clear.new.self)) e ∙ row-set c.loop-key.rows.items c.loop-key.key c.clear.new.self (omega (arith, c.len-key-end.ensures, c.loop-key.invariant.0)) ∙ c.clear.ensures.items
-    | inr ne ↦ row-other c.loop-key.rows.items c.loop-key.key k c.clear.new.self ne ∙ c.loop-key.invariant.1 k (omega arith)
-  ],
-)
+pub loop-row-preserved : goal.loop-row-preserved
+loop-row-preserved c = λ k h.
+    let rows = c.loop-row.row-items in
+    let i = c.loop-row.row-index in
+    elim (cases_eq k i) [
+      | inl e ↦ ap (row_in (set rows i c.clear.new.self)) e ∙ row-set rows i c.clear.new.self (omega (arith, c.loop-row.auto.row-items)) ∙ c.clear.ensures.items
+      | inr ne ↦ row-other rows i k c.clear.new.self ne ∙ c.loop-row.invariant k (omega arith)
+    ]
 
 pub returns : goal.returns
-returns c = λ k. elim (cases_lt k (length c.loop-key.rows.items)) [
-  | inl l ↦ c.loop-key.invariant.1 k (omega (arith, c.len-key-end.ensures, c.loop-key.invariant.0))
-  | inr l ↦ row-past c.loop-key.rows.items k l
-]
+returns c = λ k.
+    let now = c.loop-row.row-items in
+    let size : length now ≡ c.args.rows.now.len = omega (arith, c.loop-row.auto.row-items, ap length c.deref_mut-row-items.ensures.value, c.args.rows.now.ok.0) in
+    ap (λ z. row_in z k) (with_items_is c.args.rows.now now size) ∙ elim (cases_lt k (length now)) [
+      | inl l ↦ c.loop-row.invariant k (omega (arith, c.loop-row.auto.row-items))
+      | inr l ↦ row-past now k l
+    ]

@@ -6,7 +6,8 @@ use Rattle.std.proofs.lemmas.Bool.{cases_Bool, eqb-true, eq-eqb, false_from_ne_t
 use Rattle.std.proofs.lemmas.List.Folds.{Any-from_list_any, list_any-from_Any}
 use Rattle.fleet_model.specs.declared.geometry.Cell.{Cell}
 use Rattle.fleet_model.specs.declared.task.Task.{Task}
-use Rattle.fleet_model.specs.Geometry.{place_of}
+use Rattle.fleet_model.specs.Geometry.{is_same_cell, place_of}
+use Rattle.fleet_model.proofs.Cells.{is_same_cell-true, is_same_cell-eq}
 use Rattle.fleet_grid.specs.Text.{Bytes}
 use Rattle.fleet_grid.specs.Ground.{Ground, is_passable}
 use Rattle.fleet_grid.specs.Steps.{◌>>=◌, ◌>>◌, right_or, some_or}
@@ -16,7 +17,7 @@ use Rattle.fleet_scen.specs.declared.fault.ScenFault.TheVariants.{Fields, Number
 use Rattle.fleet_scen.specs.declared.fields.Fields as fields_type
 use Rattle.fleet_scen.specs.Fields.{fields_of}
 use Rattle.fleet_scen.specs.ScenText.{Line, numbers_in, numbers_of, Spells, IsOpen, StandsFor}
-use Rattle.fleet_scen.specs.ScenReading.{same_cell, starts_at, ends_at, numbers_at, task_at, apart_at}
+use Rattle.fleet_scen.specs.ScenReading.{starts_at, ends_at, numbers_at, task_at, apart_at}
 
 -- ---- the fields of a line
 
@@ -217,21 +218,13 @@ task_fault g line f (inr (inr p)) =
 
 -- ---- a task beside those of earlier agents
 
-pub same_cell_is : (a b : Cell) → same_cell a b ≡ true → a ≡ b
-same_cell_is a b e =
-    let p = both (eqb a.x b.x) (eqb a.y b.y) e in
-    ap (λ (x : ℕ). record { x = x; y = a.y }) (eqb-true a.x b.x p.0) ∙ ap (λ (y : ℕ). record { x = b.x; y = y }) (eqb-true a.y b.y p.1)
-
-pub same_cell_again : (a b : Cell) → a ≡ b → same_cell a b ≡ true
-same_cell_again a b e = rw (eq-eqb a.x b.x (ap (λ (c : Cell). c.x) e), eq-eqb a.y b.y (ap (λ (c : Cell). c.y) e)) refl
-
-pub any_is : (cell : Task → Cell) (c : Cell) (tasks : List Task) → list_any (λ s. same_cell (cell s) c) tasks ≡ true → Any (λ s. cell s ≡ c) tasks
+pub any_is : (cell : Task → Cell) (c : Cell) (tasks : List Task) → list_any (λ s. is_same_cell (cell s) c) tasks ≡ true → Any (λ s. cell s ≡ c) tasks
 any_is cell c tasks e =
-    let a = Any-from_list_any (λ (s : Task). same_cell (cell s) c) tasks e in
-    (a.0, a.1, a.2, a.3, same_cell_is (cell a.1) c a.4)
+    let a = Any-from_list_any (λ (s : Task). is_same_cell (cell s) c) tasks e in
+    (a.0, a.1, a.2, a.3, is_same_cell-true (cell a.1) c a.4)
 
-pub any_again : (cell : Task → Cell) (c : Cell) (tasks : List Task) → Any (λ s. cell s ≡ c) tasks → list_any (λ s. same_cell (cell s) c) tasks ≡ true
-any_again cell c tasks a = list_any-from_Any (λ (s : Task). same_cell (cell s) c) tasks (a.0, a.1, a.2, a.3, same_cell_again (cell a.1) c a.4)
+pub any_again : (cell : Task → Cell) (c : Cell) (tasks : List Task) → Any (λ s. cell s ≡ c) tasks → list_any (λ s. is_same_cell (cell s) c) tasks ≡ true
+any_again cell c tasks a = list_any-from_Any (λ (s : Task). is_same_cell (cell s) c) tasks (a.0, a.1, a.2, a.3, is_same_cell-eq (cell a.1) c a.4)
 
 -- the task shares a cell with those of earlier agents
 abbrev pub IsShared : List Task → Task → ℕ → ScenFault → Type 0

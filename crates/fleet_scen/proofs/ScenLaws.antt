@@ -8,6 +8,8 @@ use Rattle.std.proofs.lemmas.List.Quantifiers.{all_pairs_push}
 use Rattle.std.proofs.lemmas.List.Folds.{list_any_at, list_any_none}
 use Rattle.fleet_model.specs.declared.geometry.Cell.{Cell}
 use Rattle.fleet_model.specs.declared.task.Task.{Task}
+use Rattle.fleet_model.specs.Geometry.{is_same_cell}
+use Rattle.fleet_model.proofs.Cells.{is_same_cell-true, is_same_cell-eq}
 use Rattle.fleet_grid.specs.Text.{Bytes, words}
 use Rattle.fleet_grid.specs.Ground.{Ground}
 use Rattle.fleet_grid.specs.Steps.{◌>>=◌, ◌>>◌, right_or}
@@ -16,8 +18,8 @@ use Rattle.fleet_scen.specs.declared.fault.ScenFault.{ScenFault}
 use Rattle.fleet_scen.specs.declared.fault.ScenFault.TheVariants.{Version, NoAgents, TooMany, Fewer}
 use Rattle.fleet_scen.specs.Instance.{AreApart, IsInstance}
 use Rattle.fleet_scen.specs.ScenText.{is_filled, Line, agent_lines, is_version, StandsFor, AreScenLines, MayBeAsked}
-use Rattle.fleet_scen.specs.ScenReading.{same_cell, task_at, apart_at, lacks, ended, tasks_at, after_version, judge_asked, scen_at}
-use Rattle.fleet_scen.proofs.LineLaws.{task_is, task_again, same_cell_is, same_cell_again, IsNew, apart_is, apart_again}
+use Rattle.fleet_scen.specs.ScenReading.{task_at, apart_at, lacks, ended, tasks_at, after_version, judge_asked, scen_at}
+use Rattle.fleet_scen.proofs.LineLaws.{task_is, task_again, IsNew, apart_is, apart_again}
 
 -- ---- the lines that have some word
 
@@ -36,22 +38,22 @@ filled_next k line ls e = rw e refl
 abbrev Distinct : (Task → Cell) → List Task → Type 0
 Distinct cell tasks = AllPairs (λ s t. cell s ≢ cell t) tasks
 
-distinct_more : (cell : Task → Cell) (earlier : List Task) (t : Task) → Distinct cell earlier → list_any (λ s. same_cell (cell s) (cell t)) earlier ≡ false → Distinct cell (earlier ++ t ∷ [])
+distinct_more : (cell : Task → Cell) (earlier : List Task) (t : Task) → Distinct cell earlier → list_any (λ s. is_same_cell (cell s) (cell t)) earlier ≡ false → Distinct cell (earlier ++ t ∷ [])
 distinct_more cell earlier t h none =
     all_pairs_push (λ s u. cell s ≢ cell u) earlier t h
     (λ k d lt same.
-    let found : list_any (λ s. same_cell (cell s) (cell t)) earlier ≡ true = list_any_at (λ (s : Task). same_cell (cell s) (cell t)) earlier k d lt (same_cell_again (cell (get_or earlier k d)) (cell t) same) in
+    let found : list_any (λ s. is_same_cell (cell s) (cell t)) earlier ≡ true = list_any_at (λ (s : Task). is_same_cell (cell s) (cell t)) earlier k d lt (is_same_cell-eq (cell (get_or earlier k d)) (cell t) same) in
     let wrong : true ≡ false = sym found ∙ none in cc)
 
-distinct_at : (cell : Task → Cell) (earlier : List Task) (t : Task) (more : List Task) → Distinct cell (earlier ++ t ∷ more) → list_any (λ s. same_cell (cell s) (cell t)) earlier ≡ false
+distinct_at : (cell : Task → Cell) (earlier : List Task) (t : Task) (more : List Task) → Distinct cell (earlier ++ t ∷ more) → list_any (λ s. is_same_cell (cell s) (cell t)) earlier ≡ false
 distinct_at cell earlier t more h =
-    list_any_none (λ (s : Task). same_cell (cell s) (cell t)) earlier (λ k d lt.
+    list_any_none (λ (s : Task). is_same_cell (cell s) (cell t)) earlier (λ k d lt.
     let before : get_or (earlier ++ t ∷ more) k d ≡ get_or earlier k d = get_or_append_left earlier (t ∷ more) d k lt in
     let here : get_or (earlier ++ t ∷ more) (length earlier) d ≡ t = get_or_at earlier t more d (length earlier) refl in
     let longer : length earlier < length (earlier ++ t ∷ more) = omega (arith, length-append earlier (t ∷ more)) in
     let differ = h k (length earlier) d lt longer in
-    elim (cases_Bool (same_cell (cell (get_or earlier k d)) (cell t))) [
-      | inl same ↦ absurd (differ (ap cell before ∙ same_cell_is (cell (get_or earlier k d)) (cell t) same ∙ ap cell (sym here)))
+    elim (cases_Bool (is_same_cell (cell (get_or earlier k d)) (cell t))) [
+      | inl same ↦ absurd (differ (ap cell before ∙ is_same_cell-true (cell (get_or earlier k d)) (cell t) same ∙ ap cell (sym here)))
       | inr other ↦ other
     ])
 

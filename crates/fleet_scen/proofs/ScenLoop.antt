@@ -5,13 +5,14 @@ use Rattle.std.proofs.lemmas.Bool.{lt-ltb, le-ltb}
 use Rattle.std.proofs.lemmas.List.Folds.{list_any-append}
 use Rattle.fleet_model.specs.declared.geometry.Cell.{Cell}
 use Rattle.fleet_model.specs.declared.task.Task.{Task}
+use Rattle.fleet_model.specs.Geometry.{is_same_cell}
 use Rattle.fleet_grid.specs.Text.{Bytes, words}
 use Rattle.fleet_grid.specs.Ground.{Ground}
 use Rattle.fleet_grid.specs.Steps.{◌>>=◌, ◌>>◌}
 use Rattle.fleet_scen.specs.declared.fault.ScenFault.{ScenFault}
 use Rattle.fleet_scen.specs.declared.fault.ScenFault.TheVariants.{SharedStart, SharedGoal, TooMany}
 use Rattle.fleet_scen.specs.ScenText.{is_filled}
-use Rattle.fleet_scen.specs.ScenReading.{same_cell, starts_at, ends_at, task_at, apart_at, lacks, ended, tasks_at}
+use Rattle.fleet_scen.specs.ScenReading.{starts_at, ends_at, task_at, apart_at, lacks, ended, tasks_at}
 
 stopped : (g : Ground) (asked : Option ℕ) (n : ℕ) (earlier : List Task) (ls : List Bytes) → lacks asked (length earlier) ≡ false → tasks_at g asked n earlier ls ≡ ended asked earlier
 unfolding tasks_at
@@ -75,7 +76,7 @@ module _ (g : Ground) (asked : Option ℕ) (n : ℕ) (earlier : List Task) (ls :
 
 -- a set has a cell where one of the tasks has it
 abbrev pub Holds : (Cell → Bool) → (Task → Cell) → List Task → Type 0
-Holds has cell tasks = (c : Cell) → has c ≡ list_any (λ t. same_cell (cell t) c) tasks
+Holds has cell tasks = (c : Cell) → has c ≡ list_any (λ t. is_same_cell (cell t) c) tasks
 
 either : (b x : Bool) → cond b true x ≡ (x || (b || false))
 either true true = refl
@@ -84,9 +85,9 @@ either false true = refl
 either false false = refl
 
 -- .. and the cell of one task more, once it is put in
-pub holds_more : (old new : Cell → Bool) (cell : Task → Cell) (tasks : List Task) (t : Task) → Holds old cell tasks → ((c : Cell) → new c ≡ cond (same_cell (cell t) c) true (old c)) → Holds new cell (tasks ++ t ∷ [])
+pub holds_more : (old new : Cell → Bool) (cell : Task → Cell) (tasks : List Task) (t : Task) → Holds old cell tasks → ((c : Cell) → new c ≡ cond (is_same_cell (cell t) c) true (old c)) → Holds new cell (tasks ++ t ∷ [])
 holds_more old new cell tasks t h put = λ c.
-    let p : Task → Bool = λ s. same_cell (cell s) c in
+    let p : Task → Bool = λ s. is_same_cell (cell s) c in
     put c ∙ ap (λ x. cond (p t) true x) (h c) ∙ either (p t) (list_any p tasks) ∙ sym (list_any-append p tasks (t ∷ []))
 
 -- what the insertion of a cell says of it

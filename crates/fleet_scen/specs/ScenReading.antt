@@ -3,7 +3,7 @@ use Rattle.std.specs.Prelude.{ℕ, ◌+◌, Bool, true, not, ◌&&◌, ◌==◌,
 use Rattle.std.specs.List.{list_any}
 use Rattle.fleet_model.specs.declared.geometry.Cell.{Cell}
 use Rattle.fleet_model.specs.declared.task.Task.{Task}
-use Rattle.fleet_model.specs.Geometry.{place_of}
+use Rattle.fleet_model.specs.Geometry.{is_same_cell, place_of}
 use Rattle.fleet_grid.specs.Text.{Bytes, words}
 use Rattle.fleet_grid.specs.Steps.{◌>>=◌, ◌>>◌, right_or, some_or}
 use Rattle.fleet_grid.specs.Ground.{Ground, is_passable}
@@ -32,14 +32,11 @@ task_at g line ws = do
   right_or (is_passable g (place_of n.2.start) && is_passable g (place_of n.2.goal)) (Blocked line)
   Ok n.2
 
-abbrev pub same_cell : Cell → Cell → Bool
-same_cell a b = (a.x == b.x) && (a.y == b.y)
-
 abbrev pub starts_at : Cell → Task → Bool
-starts_at c t = same_cell t.start c
+starts_at c t = is_same_cell t.start c
 
 abbrev pub ends_at : Cell → Task → Bool
-ends_at c t = same_cell t.goal c
+ends_at c t = is_same_cell t.goal c
 
 -- whether the task shares no cell with those of earlier agents
 unfoldable pub apart_at : ℕ → List Task → Task → Result (Unit {0}) ScenFault

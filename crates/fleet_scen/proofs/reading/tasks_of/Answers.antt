@@ -1,7 +1,8 @@
 use Rattle.std.proofs.Common.{◌≡◌, ◌<◌, ◌≤◌, ◌∙◌, length, sym, ap, arith, true, false}
 use Rattle.std.proofs.lemmas.Result.{err_from_is_err_and}
 use Rattle.std.specs.HashSet.{contains}
-use Rattle.fleet_scen.specs.ScenReading.{same_cell, lacks}
+use Rattle.fleet_model.specs.Geometry.{is_same_cell}
+use Rattle.fleet_scen.specs.ScenReading.{lacks}
 use Rattle.fleet_scen.proofs.ScenLoop.{stops, ends, skips, too_many, fails, shares_start, shares_goal, goes_on, holds_more, was_in, was_new}
 use Rattle.fleet_scen.proofs.reading.tasks_of.Goals as goal
 
@@ -48,7 +49,7 @@ returns-then-not-branch c =
     let more : lacks c.args.asked (length l.tasks.items) ≡ true = rw count_is at (sym c.lacks.ensures ∙ c.loop-lines-test.true) in
     let few : length l.tasks.items < 1024 = omega (arith, c.len-in-loop-lines.ensures, c.if-len-ge-MAX_AGENTS.false) in
     let t = c.in_ok-task.task in
-    let shared = sym (l.invariant.starts t.start) ∙ was_in c.in_ok-insert.field-0 (contains same_cell l.starts t.start) c.in_ok-insert.ensures.added c.if-not-branch.true in
+    let shared = sym (l.invariant.starts t.start) ∙ was_in c.in_ok-insert.field-0 (contains is_same_cell l.starts t.start) c.in_ok-insert.ensures.added c.if-not-branch.true in
     λ other. shares_start c.args.grid.now c.args.asked l.number l.tasks.items l.lines _ l.invariant.so_far c.in-Some.line.now c.next_line.new.self more c.in-Some.ensures (sym c.is_filled.ensures ∙ c.if-not-is_filled.false) few t (sym c.in_ok-task.ensures) shared
 
 pub returns-then-not-branch-2 : goal.returns-then-not-branch-2
@@ -58,8 +59,8 @@ returns-then-not-branch-2 c =
     let more : lacks c.args.asked (length l.tasks.items) ≡ true = rw count_is at (sym c.lacks.ensures ∙ c.loop-lines-test.true) in
     let few : length l.tasks.items < 1024 = omega (arith, c.len-in-loop-lines.ensures, c.if-len-ge-MAX_AGENTS.false) in
     let t = c.in_ok-task.task in
-    let new = sym (l.invariant.starts t.start) ∙ was_new c.in_ok-insert.field-0 (contains same_cell l.starts t.start) c.in_ok-insert.ensures.added c.if-not-branch.false in
-    let shared = sym (l.invariant.goals t.goal) ∙ was_in c.in_ok-insert-2.field-0 (contains same_cell l.goals t.goal) c.in_ok-insert-2.ensures.added c.if-not-branch-2.true in
+    let new = sym (l.invariant.starts t.start) ∙ was_new c.in_ok-insert.field-0 (contains is_same_cell l.starts t.start) c.in_ok-insert.ensures.added c.if-not-branch.false in
+    let shared = sym (l.invariant.goals t.goal) ∙ was_in c.in_ok-insert-2.field-0 (contains is_same_cell l.goals t.goal) c.in_ok-insert-2.ensures.added c.if-not-branch-2.true in
     λ other. shares_goal c.args.grid.now c.args.asked l.number l.tasks.items l.lines _ l.invariant.so_far c.in-Some.line.now c.next_line.new.self more c.in-Some.ensures (sym c.is_filled.ensures ∙ c.if-not-is_filled.false) few t (sym c.in_ok-task.ensures) new shared
 
 pub loop-lines-preserved : goal.loop-lines-preserved
@@ -69,15 +70,15 @@ loop-lines-preserved c =
     let more : lacks c.args.asked (length l.tasks.items) ≡ true = rw count_is at (sym c.lacks.ensures ∙ c.loop-lines-test.true) in
     let few : length l.tasks.items < 1024 = omega (arith, c.len-in-loop-lines.ensures, c.if-len-ge-MAX_AGENTS.false) in
     let t = c.in_ok-task.task in
-    let start = sym (l.invariant.starts t.start) ∙ was_new c.in_ok-insert.field-0 (contains same_cell l.starts t.start) c.in_ok-insert.ensures.added c.if-not-branch.false in
-    let end = sym (l.invariant.goals t.goal) ∙ was_new c.in_ok-insert-2.field-0 (contains same_cell l.goals t.goal) c.in_ok-insert-2.ensures.added c.if-not-branch-2.false in
+    let start = sym (l.invariant.starts t.start) ∙ was_new c.in_ok-insert.field-0 (contains is_same_cell l.starts t.start) c.in_ok-insert.ensures.added c.if-not-branch.false in
+    let end = sym (l.invariant.goals t.goal) ∙ was_new c.in_ok-insert-2.field-0 (contains is_same_cell l.goals t.goal) c.in_ok-insert-2.ensures.added c.if-not-branch-2.false in
     let count = l.invariant.count in
     let next = c.in-Some.ensures in
     rw c.in_ok-push.ensures.items (record {
       so_far = goes_on c.args.grid.now c.args.asked l.number l.tasks.items l.lines _ l.invariant.so_far c.in-Some.line.now c.next_line.new.self more next (sym c.is_filled.ensures ∙ c.if-not-is_filled.false) few t (sym c.in_ok-task.ensures) start end;
       count = omega (arith, count, ap length next);
-      starts = holds_more (contains same_cell l.starts) (contains same_cell c.insert.new.self) (λ s. s.start) l.tasks.items t l.invariant.starts c.in_ok-insert.ensures.updates.0;
-      goals = holds_more (contains same_cell l.goals) (contains same_cell c.insert-in-loop-lines.new.self) (λ s. s.goal) l.tasks.items t l.invariant.goals c.in_ok-insert-2.ensures.updates.0;
+      starts = holds_more (contains is_same_cell l.starts) (contains is_same_cell c.insert.new.self) (λ s. s.start) l.tasks.items t l.invariant.starts c.in_ok-insert.ensures.updates.0;
+      goals = holds_more (contains is_same_cell l.goals) (contains is_same_cell c.insert-in-loop-lines.new.self) (λ s. s.goal) l.tasks.items t l.invariant.goals c.in_ok-insert-2.ensures.updates.0;
     })
 
 pub returns : goal.returns

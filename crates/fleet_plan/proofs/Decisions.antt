@@ -7,6 +7,7 @@ use Rattle.fleet_model.specs.declared.geometry.Place.{Place}
 use Rattle.fleet_model.specs.declared.task.Task.{Task}
 use Rattle.fleet_model.specs.Geometry.{place_of}
 use Rattle.fleet_model.specs.Program.{IsCell, origin}
+use Rattle.fleet_model.proofs.Cells.{cell_cases}
 use Rattle.fleet_grid.specs.Ground.{Ground, cell_index}
 use Rattle.fleet_plan.specs.declared.plan_fault.Conflict.{Conflict}
 use Rattle.fleet_plan.specs.declared.plan_fault.Conflict.TheVariants.{Vertex, Swapping, Cycle}
@@ -47,18 +48,9 @@ is_so A (inr never) h = absurd (h never)
 
 -- ---- ends and steps
 
-same_cell : (a b : Cell) → Decided (a ≡ b)
-same_cell a b = elim (cases_eq a.x b.x) [
-  | inl ex ↦ elim (cases_eq a.y b.y) [
-    | inl ey ↦ inl (λ k. record { x = ex k; y = ey k })
-    | inr ny ↦ inr (λ e. ny (ap (λ (c : Cell). c.y) e))
-  ]
-  | inr nx ↦ inr (λ e. nx (ap (λ (c : Cell). c.x) e))
-]
-
 task_right : (o : Option Task) (c : Cell) (pick : Task → Cell) → Decided ((t : Task) → o ≡ Some t → c ≡ pick t)
 task_right None c pick = inl (λ t e. absurd (cc))
-task_right (Some u) c pick = elim (same_cell c (pick u)) [
+task_right (Some u) c pick = elim (cell_cases c (pick u)) [
   | inl s ↦ inl (λ t e. s ∙ ap pick (let h : u ≡ t = cc in h))
   | inr never ↦ inr (λ h. never (h u refl))
 ]

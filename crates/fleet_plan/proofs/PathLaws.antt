@@ -1,7 +1,7 @@
 -- Paths, step by step.
-use Rattle.std.proofs.Common.{◌≡◌, ℕ, ◌+◌, ◌-◌, ◌<◌, ◌≤◌, min, Bool, true, false, not, ◌&&◌, eqb, IsTrue, Option, None, option_map, List, [], length, get_or, slice_get, Some, ◌⊎◌, inl, inr, refl, sym, ap, ◌∙◌, subst, pos, arith, ◌+ℤ◌, ◌-ℤ◌}
+use Rattle.std.proofs.Common.{◌≡◌, ℕ, ◌+◌, ◌-◌, ◌<◌, ◌≤◌, min, Bool, true, false, IsTrue, Option, None, option_map, List, [], length, get_or, slice_get, Some, ◌⊎◌, inl, inr, refl, sym, ap, ◌∙◌, subst, pos, arith, ◌+ℤ◌, ◌-ℤ◌}
 use Rattle.std.specs.Int.{abs_diff}
-use Rattle.std.proofs.lemmas.Bool.{cases_lt, cases_eq, and_parts, and_from, eqb-true, eq-eqb}
+use Rattle.std.proofs.lemmas.Bool.{cases_lt, cases_eq}
 use Rattle.std.proofs.lemmas.Int.{ints}
 use Rattle.std.proofs.lemmas.List.{get_or_default}
 use Rattle.std.proofs.lemmas.Option.{get_or_from_slice_get}
@@ -12,13 +12,11 @@ use Rattle.fleet_model.specs.declared.geometry.Dir.TheVariants.{North, East, Sou
 use Rattle.fleet_model.specs.declared.task.Task.{Task}
 use Rattle.fleet_model.specs.Geometry.{place_of, moved}
 use Rattle.fleet_model.specs.Program.{origin}
+use Rattle.fleet_model.proofs.Cells.{cell_from_parts}
 use Rattle.fleet_plan.specs.Plan.{Path, Plan, cell_at, cell_of, last_cell, AreNeighbours}
 use Rattle.fleet_plan.specs.FirstFault.{IsRightAt, GoesOver, path_of}
 
 -- ---- equal or neighbouring cells
-
-same_cell : (a b : Cell) → a.x ≡ b.x → a.y ≡ b.y → a ≡ b
-same_cell a b ex ey = λ k. record { x = ex k; y = ey k }
 
 pub beside_if : (a b : Cell) → abs_diff a.x b.x + abs_diff a.y b.y ≤ 1 → (a ≡ b) ⊎ AreNeighbours a b
 beside_if a b h = elim (cases_lt a.x b.x) [
@@ -29,7 +27,7 @@ beside_if a b h = elim (cases_lt a.x b.x) [
       | inl n ↦ let ey : b.y ≡ a.y + 1 = omega arith in inr (South, λ k. record { x = pos (ex k); y = pos (ey k) })
       | inr n ↦ elim (cases_lt b.y a.y) [
         | inl o ↦ let e : a.y ≡ b.y + 1 = omega arith in let ey : pos b.y ≡ pos a.y -ℤ pos 1 = omega (arith, ints) in inr (North, λ k. record { x = pos (ex k); y = ey k })
-        | inr o ↦ inl (same_cell a b (sym ex) (omega arith))
+        | inr o ↦ inl (cell_from_parts a b (sym ex) (omega arith))
       ]
     ]
   ]
@@ -96,24 +94,6 @@ pub path_is : (plan : Plan) (i : ℕ) (p : Path) → slice_get plan i ≡ Some p
 path_is plan i p e = sym (get_or_from_slice_get plan i p [] e)
 
 -- ---- tasks
-
--- what `!=` says of cells
-pub cells_differ : (a b : Cell) (r : Bool) → r ≡ not (eqb a.x b.x && eqb a.y b.y) → r ≡ true → a ≡ b → ⊥
-cells_differ a b r e t same =
-    let x : eqb a.x b.x ≡ true = eq-eqb a.x b.x (ap (λ (c : Cell). c.x) same) in
-    let y : eqb a.y b.y ≡ true = eq-eqb a.y b.y (ap (λ (c : Cell). c.y) same) in
-    let f : r ≡ false = e ∙ ap not (and_from (eqb a.x b.x) (eqb a.y b.y) x y) in
-    let z : true ≡ false = sym t ∙ f in
-    cc
-
-pub cells_equal : (a b : Cell) (r : Bool) → r ≡ not (eqb a.x b.x && eqb a.y b.y) → r ≡ false → a ≡ b
-cells_equal a b r e f =
-    let both = and_parts (eqb a.x b.x) (eqb a.y b.y) (not-false (eqb a.x b.x && eqb a.y b.y) (sym e ∙ f)) in
-    same_cell a b (eqb-true a.x b.x both.0) (eqb-true a.y b.y both.1)
-  where
-    not-false : (b : Bool) → not b ≡ false → b ≡ true
-    not-false true h = refl
-    not-false false h = absurd (cc)
 
 pub goal_of : (tasks : List Task) (i : ℕ) (g : Cell) → option_map (λ (t : Task). t.goal) (slice_get tasks i) ≡ Some g → (t : Task) × (slice_get tasks i ≡ Some t) × (t.goal ≡ g)
 goal_of tasks i g e = go (slice_get tasks i) e

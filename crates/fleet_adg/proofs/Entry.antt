@@ -10,10 +10,12 @@ use Rattle.fleet_model.specs.declared.geometry.Place.{Place}
 use Rattle.fleet_model.specs.declared.program.Await.{Await}
 use Rattle.fleet_adg.specs.declared.deps.Deps.{Deps}
 use Rattle.fleet_model.specs.declared.task.Task.{Task}
+use Rattle.fleet_model.specs.Geometry.{is_same_cell}
 use Rattle.fleet_model.specs.Machine.{indices}
+use Rattle.fleet_model.proofs.Cells.{is_same_cell-true, is_same_cell-eq}
 use Rattle.fleet_plan.specs.Plan.{Plan, cell_of, IsConflictFree}
-use Rattle.fleet_adg.specs.Compiled.{is_same_cell, last_below, changes_in, moves_by, leaves, await_of, leaver, last_leaving_by, last_leaving, leavings, entry_awaits}
-use Rattle.fleet_adg.proofs.Basics.{same_cell-true, same_cell-eq, last_below-some, last_below-at}
+use Rattle.fleet_adg.specs.Compiled.{last_below, changes_in, moves_by, leaves, await_of, leaver, last_leaving_by, last_leaving, leavings, entry_awaits}
+use Rattle.fleet_adg.proofs.Basics.{last_below-some, last_below-at}
 use Rattle.fleet_adg.proofs.Moves.{changes_in-from_ne, moves_by-yes, moves_by-mono, only_one}
 
 -- ---- lists
@@ -171,11 +173,11 @@ pub leaves-parts : (plan : Plan) (q : Cell) (y j : ℕ) → leaves plan q y j �
 unfolding leaves
 leaves-parts plan q y j h =
     let p = and_parts (is_same_cell (cell_of plan j y) q) (changes_in plan j y) h in
-    (same_cell-true (cell_of plan j y) q p.0, p.1)
+    (is_same_cell-true (cell_of plan j y) q p.0, p.1)
 
 pub leaves-from : (plan : Plan) (q : Cell) (y j : ℕ) → cell_of plan j y ≡ q → changes_in plan j y ≡ true → leaves plan q y j ≡ true
 unfolding leaves
-leaves-from plan q y j e c = and_from (is_same_cell (cell_of plan j y) q) (changes_in plan j y) (same_cell-eq (cell_of plan j y) q e) c
+leaves-from plan q y j e c = and_from (is_same_cell (cell_of plan j y) q) (changes_in plan j y) (is_same_cell-eq (cell_of plan j y) q e) c
 
 is_await_of : (plan : Plan) (i x : ℕ) (w : Await) → IsLeaving plan (cell_of plan i (x + 1)) (x + 1) w → not (w.agent == i) ≡ true → IsAwaitOf plan i x w
 is_await_of plan i x w v ne =

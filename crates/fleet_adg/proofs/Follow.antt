@@ -7,13 +7,14 @@ use Rattle.std.proofs.lemmas.List.{get_or_past}
 use Rattle.std.proofs.lemmas.List.FromFn.{length-map-range_with_len, get_or-map-range_with_len}
 use Rattle.std.proofs.lemmas.Map.Keys.{IsDistinct-from_apart}
 use Rattle.fleet_model.specs.declared.geometry.Place.{Place}
-use Rattle.fleet_model.specs.Geometry.{place_of}
+use Rattle.fleet_model.specs.Geometry.{is_same_cell, place_of}
 use Rattle.fleet_model.specs.Conflict.{after_in, HasCycleConflict}
 use Rattle.fleet_model.specs.declared.task.Task.{Task}
 use Rattle.fleet_plan.specs.Plan.{Plan, cell_of, planned, IsConflictFree}
-use Rattle.fleet_adg.specs.Compiled.{is_same_cell, last_below, changes_in}
+use Rattle.fleet_adg.specs.Compiled.{last_below, changes_in}
+use Rattle.fleet_model.proofs.Cells.{is_same_cell-true, is_same_cell-eq}
 use Rattle.fleet_model.proofs.Places.{place_of-injective}
-use Rattle.fleet_adg.proofs.Basics.{same_cell-true, same_cell-eq, last_below-some, last_below-at}
+use Rattle.fleet_adg.proofs.Basics.{last_below-some, last_below-at}
 use Rattle.fleet_adg.proofs.Moves.{changes_in-ne}
 use Rattle.fleet_adg.proofs.Depth.{depth, IsLoop, depth-lt, depth_next}
 
@@ -35,7 +36,7 @@ ahead-some plan x i j e =
       | inl c ↦
           let f : last_below test (length plan) ≡ Some j = sym (ap (λ b. cond b (last_below test (length plan)) None) c) ∙ e in
           let l = last_below-some test (length plan) j f in
-          record { changes = c; below = l.below; there = sym (same_cell-true (cell_of plan j x) (cell_of plan i (suc x)) l.passes) }
+          record { changes = c; below = l.below; there = sym (is_same_cell-true (cell_of plan j x) (cell_of plan i (suc x)) l.passes) }
       | inr c ↦ absurd (none-some j (sym (ap (λ b. cond b (last_below test (length plan)) None) c) ∙ e))
     ]
 
@@ -84,8 +85,8 @@ module _ (passable : Place → Bool) (tasks : List Task) (plan : Plan) (free : I
   unfolding ahead
   ahead-at x i j p c e =
       let test = λ (j : ℕ). is_same_cell (cell_of plan j x) (cell_of plan i (suc x)) in
-      let w = last_below-at test (length plan) j p (same_cell-eq (cell_of plan j x) (cell_of plan i (suc x)) (sym e)) in
-      let same : w.0 ≡ j = only_one x w.0 j w.3.below p (same_cell-true (cell_of plan w.0 x) (cell_of plan i (suc x)) w.3.passes ∙ e) in
+      let w = last_below-at test (length plan) j p (is_same_cell-eq (cell_of plan j x) (cell_of plan i (suc x)) (sym e)) in
+      let same : w.0 ≡ j = only_one x w.0 j w.3.below p (is_same_cell-true (cell_of plan w.0 x) (cell_of plan i (suc x)) w.3.passes ∙ e) in
       ap (λ b. cond b (last_below test (length plan)) None) c ∙ w.1 ∙ ap Some same
 
   no_ring : (x m : ℕ) (w : ℕ → ℕ) → IsLoop (ahead plan x) m w → ⊥

@@ -8,14 +8,15 @@ use Rattle.fleet_model.specs.declared.geometry.Cell.{Cell}
 use Rattle.fleet_model.specs.declared.geometry.Place.{Place}
 use Rattle.fleet_model.specs.declared.program.Visit.{Visit}
 use Rattle.fleet_adg.specs.declared.deps.Deps.{Deps}
-use Rattle.fleet_model.specs.Geometry.{place_of}
+use Rattle.fleet_model.specs.Geometry.{is_same_cell, place_of}
 use Rattle.fleet_model.specs.Program.{awaits_of, path}
 use Rattle.fleet_model.specs.Visit.{IsVisitOf, ListsVisits, Adjacent, ComesAfterByAwait, IsOrderly}
 use Rattle.fleet_model.specs.declared.task.Task.{Task}
 use Rattle.fleet_plan.specs.Plan.{Plan, cell_of, steps, IsConflictFree}
-use Rattle.fleet_adg.specs.Compiled.{is_same_cell, changes_in, moves_by, compiled}
-use Rattle.fleet_adg.proofs.Basics.{same_cell-true, same_cell-eq, last_cases}
+use Rattle.fleet_adg.specs.Compiled.{changes_in, moves_by, compiled}
+use Rattle.fleet_adg.proofs.Basics.{last_cases}
 use Rattle.fleet_adg.proofs.Moves.{changes_in-same, changes_in-end, moves_by-yes, moves_by-no, moves_by-mono, time_of}
+use Rattle.fleet_model.proofs.Cells.{is_same_cell-true, is_same_cell-eq}
 use Rattle.fleet_model.proofs.Places.{place_of-injective}
 use Rattle.fleet_adg.proofs.Follow.{only_one}
 use Rattle.fleet_adg.proofs.Entry.{entry-complete}
@@ -97,8 +98,8 @@ module _ (passable : Place → Bool) (tasks : List Task) (plan : Plan) (free : I
   -- who stands on q at time t, if anybody
   who : (q : Cell) (t : ℕ) → ((i : ℕ) × (i < length plan) × (cell_of plan i t ≡ q)) ⊎ ((k : ℕ) → k < length plan → cell_of plan k t ≢ q)
   who q t = elim (last_cases (λ j. is_same_cell (cell_of plan j t) q) (length plan)) [
-    | inl w ↦ inl (w.0, w.2.below, same_cell-true (cell_of plan w.0 t) q w.2.passes)
-    | inr w ↦ inr (λ k b e. w.1 k b (same_cell-eq (cell_of plan k t) q e))
+    | inl w ↦ inl (w.0, w.2.below, is_same_cell-true (cell_of plan w.0 t) q w.2.passes)
+    | inr w ↦ inr (λ k b e. w.1 k b (is_same_cell-eq (cell_of plan k t) q e))
   ]
 
   alone : (q : Cell) (t i j : ℕ) → i < length plan → j < length plan → cell_of plan i t ≡ q → cell_of plan j t ≡ q → i ≡ j

@@ -7,25 +7,26 @@ use Rattle.std.proofs.lemmas.List.Elements.{filter-append}
 use Rattle.fleet_model.specs.Program.{origin}
 use Rattle.fleet_model.specs.declared.geometry.Place.{Place}
 use Rattle.fleet_model.specs.declared.task.Task.{Task}
-use Rattle.fleet_model.specs.Geometry.{place_of}
+use Rattle.fleet_model.specs.Geometry.{is_same_cell, place_of}
+use Rattle.fleet_model.proofs.Cells.{is_same_cell-true, is_same_cell-eq, is_same_cell-ne}
 use Rattle.fleet_plan.specs.Plan.{Plan, cell_at, cell_of, last_cell, steps, IsConflictFree}
-use Rattle.fleet_adg.specs.Compiled.{is_same_cell, changes_in, changes, moves_by}
-use Rattle.fleet_adg.proofs.Basics.{same_cell-true, same_cell-eq, same_cell-ne, range_push}
+use Rattle.fleet_adg.specs.Compiled.{changes_in, changes, moves_by}
+use Rattle.fleet_adg.proofs.Basics.{range_push}
 
 -- ---- whether an agent changes its cell in a step
 
 pub changes_in-ne : (plan : Plan) (i x : ℕ) → changes_in plan i x ≡ true → cell_of plan i x ≢ cell_of plan i (suc x)
 unfolding changes_in
 changes_in-ne plan i x h e =
-    both_ways (is_same_cell (cell_of plan i x) (cell_of plan i (x + 1))) (not-true (is_same_cell (cell_of plan i x) (cell_of plan i (x + 1))) h) (same_cell-eq (cell_of plan i x) (cell_of plan i (x + 1)) (rw add-one e))
+    both_ways (is_same_cell (cell_of plan i x) (cell_of plan i (x + 1))) (not-true (is_same_cell (cell_of plan i x) (cell_of plan i (x + 1))) h) (is_same_cell-eq (cell_of plan i x) (cell_of plan i (x + 1)) (rw add-one e))
 
 pub changes_in-from_ne : (plan : Plan) (i x : ℕ) → cell_of plan i x ≢ cell_of plan i (suc x) → changes_in plan i x ≡ true
 unfolding changes_in
-changes_in-from_ne plan i x ne = not_from_false (is_same_cell (cell_of plan i x) (cell_of plan i (x + 1))) (same_cell-ne (cell_of plan i x) (cell_of plan i (x + 1)) (λ e. ne (rw add-one at e)))
+changes_in-from_ne plan i x ne = not_from_false (is_same_cell (cell_of plan i x) (cell_of plan i (x + 1))) (is_same_cell-ne (cell_of plan i x) (cell_of plan i (x + 1)) (λ e. ne (rw add-one at e)))
 
 pub changes_in-same : (plan : Plan) (i x : ℕ) → changes_in plan i x ≡ false → cell_of plan i x ≡ cell_of plan i (suc x)
 unfolding changes_in
-changes_in-same plan i x h = rw add-one at (same_cell-true (cell_of plan i x) (cell_of plan i (x + 1)) (not-false (is_same_cell (cell_of plan i x) (cell_of plan i (x + 1))) h))
+changes_in-same plan i x h = rw add-one at (is_same_cell-true (cell_of plan i x) (cell_of plan i (x + 1)) (not-false (is_same_cell (cell_of plan i x) (cell_of plan i (x + 1))) h))
 
 -- ---- the steps in which it does
 

@@ -9,13 +9,10 @@ use Rattle.fleet_model.specs.declared.program.AgentProgram.{AgentProgram}
 use Rattle.fleet_adg.specs.declared.deps.Deps.{Deps}
 use Rattle.fleet_adg.specs.declared.fault.CompileFault.{CompileFault}
 use Rattle.fleet_adg.specs.declared.fault.CompileFault.TheVariants.{TooLong}
+use Rattle.fleet_model.specs.Geometry.{is_same_cell}
 use Rattle.fleet_model.specs.Program.{Program}
 use Rattle.fleet_model.specs.Machine.{indices}
 use Rattle.fleet_plan.specs.Plan.{Plan, cell_of, steps}
-
--- two cells are one
-unfoldable pub is_same_cell : Cell → Cell → Bool
-is_same_cell c d = (c.x == d.x) && (c.y == d.y)
 
 -- the direction from a cell to one of its neighbours
 unfoldable pub direction : Cell → Cell → Dir

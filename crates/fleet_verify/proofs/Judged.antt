@@ -6,7 +6,7 @@ use Rattle.fleet_model.specs.declared.geometry.Cell.{Cell}
 use Rattle.fleet_model.specs.declared.geometry.Place.{Place}
 use Rattle.fleet_model.specs.declared.task.Task.{Task}
 use Rattle.fleet_model.specs.declared.program.Visit.{Visit}
-use Rattle.fleet_model.specs.Geometry.{place_of}
+use Rattle.fleet_model.specs.Geometry.{is_same_cell, place_of}
 use Rattle.fleet_model.specs.Program.{Program, moves, path}
 use Rattle.fleet_model.specs.Visit.{IsVisitOf, Adjacent, ComesAfterByAwait, IsOrderly}
 use Rattle.fleet_model.specs.Visit.{IsVisit}
@@ -17,7 +17,7 @@ use Rattle.fleet_verify.specs.declared.fault.VerifyFault.TheVariants.{Unordered}
 use Rattle.fleet_verify.specs.declared.watch.Break.{Break}
 use Rattle.indexmap.specs.IndexMap.{get}
 use Rattle.fleet_verify.specs.declared.watch.Watch.{Watch}
-use Rattle.fleet_verify.specs.Order.{same_place, visits_of, IsFirstBreak, IsJudged, AreAllStays, AreBreaks, AreWatched, is_cell}
+use Rattle.fleet_verify.specs.Order.{same_place, visits_of, IsFirstBreak, IsJudged, AreAllStays, AreBreaks, AreWatched}
 use Rattle.fleet_verify.proofs.Ordered.{same_place-true}
 use Rattle.fleet_verify.specs.Faults.{HasRanges, IsFault, IsSooner, IsOrderlyAt}
 
@@ -111,5 +111,5 @@ none_broken p stays breaks all found none q = elim (some_cell q stays) [
 ]
 
 -- what was watched
-pub breaks_of : (p : Program) (stays : List Stay) (w : Watch) → AreWatched p stays w → AreBreaks p stays (get is_cell w.breaks)
+pub breaks_of : (p : Program) (stays : List Stay) (w : Watch) → AreWatched p stays w → AreBreaks p stays (get is_same_cell w.breaks)
 breaks_of p stays w h c = (h c).judged

@@ -1,7 +1,7 @@
 -- The visits of a place, one after another.
-use Rattle.std.proofs.Common.{◌≡◌, ◌≢◌, ℕ, zero, suc, ◌+◌, ◌<◌, Bool, true, false, cond, List, [], ◌∷◌, ◌++◌, length, map, get_or, Option, Some, None, slice_get, refl, ap, sym, ◌∙◌, subst, arith, inl, inr, add-one, eqb, eq-eqb, ◌&&◌}
+use Rattle.std.proofs.Common.{◌≡◌, ◌≢◌, ℕ, zero, suc, ◌+◌, ◌<◌, Bool, true, false, cond, List, [], ◌∷◌, ◌++◌, length, map, get_or, Option, Some, None, slice_get, refl, ap, sym, ◌∙◌, subst, arith, inl, inr, add-one}
 use Rattle.std.specs.List.{filter}
-use Rattle.std.proofs.lemmas.Bool.{and_parts, eqb-true}
+use Rattle.std.proofs.lemmas.Bool.{and_parts}
 use Rattle.std.proofs.lemmas.Bool.Decides.{Decides-int_eq}
 use Rattle.std.proofs.lemmas.List.{map-append, append_assoc, append-nil, length-append}
 use Rattle.std.proofs.lemmas.List.Elements.{filter-append}
@@ -10,14 +10,15 @@ use Rattle.std.specs.Ordering.{int_eq}
 use Rattle.fleet_model.specs.declared.geometry.Cell.{Cell}
 use Rattle.fleet_model.specs.declared.geometry.Place.{Place}
 use Rattle.fleet_model.specs.declared.program.Visit.{Visit}
-use Rattle.fleet_model.specs.Geometry.{place_of}
+use Rattle.fleet_model.specs.Geometry.{is_same_cell, place_of}
 use Rattle.fleet_model.specs.Program.{Program}
 use Rattle.fleet_model.specs.Visit.{Adjacent, ComesAfterByAwait}
+use Rattle.fleet_model.proofs.Cells.{is_same_cell-true, is_same_cell-false}
 use Rattle.fleet_model.proofs.Places.{place_of-injective}
 use Rattle.fleet_verify.proofs.Neighbours.{adjacent_at}
 use Rattle.fleet_verify.specs.declared.watch.Stay.{Stay}
 use Rattle.fleet_verify.specs.declared.watch.Break.{Break}
-use Rattle.fleet_verify.specs.Order.{same_place, visits_of, is_cell, IsFirstBreak, IsJudged, IsJudgedNext, IsLast, IsWatched}
+use Rattle.fleet_verify.specs.Order.{same_place, visits_of, IsFirstBreak, IsJudged, IsJudgedNext, IsLast, IsWatched}
 
 -- ---- the rule
 
@@ -85,20 +86,6 @@ visits_off c s ne = go (same_place (place_of s.cell) (place_of c)) refl
     go false e = rw e refl
     go true e = absurd (ne (place_of-injective s.cell c (same_place-true (place_of s.cell) (place_of c) e)))
 
-pub same_cell : (c d : Cell) (b : Bool) → b ≡ (eqb c.x d.x && eqb c.y d.y) → b ≡ true → c ≡ d
-same_cell c d b e h =
-    let r = and_parts (eqb c.x d.x) (eqb c.y d.y) (sym e ∙ h) in
-    let x : c.x ≡ d.x = eqb-true c.x d.x r.0 in
-    let y : c.y ≡ d.y = eqb-true c.y d.y r.1 in
-    λ i. record { x = x i; y = y i }
-
-pub other_cell : (c d : Cell) (b : Bool) → b ≡ (eqb c.x d.x && eqb c.y d.y) → b ≡ false → c ≡ d → ⊥
-other_cell c d b e h same =
-    let x : eqb c.x d.x ≡ true = eq-eqb c.x d.x (ap (λ (z : Cell). z.x) same) in
-    let y : eqb c.y d.y ≡ true = eq-eqb c.y d.y (ap (λ (z : Cell). z.y) same) in
-    let t : (eqb c.x d.x && eqb c.y d.y) ≡ true = rw (x, y) refl in
-    cc
-
 -- ---- the breaks
 
 first_break_on : (R : Visit → Visit → Type 0) (l rest : List Visit) (v w : Visit) → IsFirstBreak R l v w → IsFirstBreak R (l ++ rest) v w
@@ -145,27 +132,27 @@ watched_off p c stays s last old h ne =
 
 -- one stay more, where maps have the last visit and the break of each cell
 pub watched_more : (p : Program) (stays : List Stay) (s : Stay) (c : Cell) (last last' : Option Visit) (old new : Option Break) → IsWatched p c stays last old
-    → last' ≡ cond (is_cell s.cell c) (Some s.visit) last → (c ≢ s.cell → new ≡ old) → (c ≡ s.cell → IsJudgedNext (ComesAfterByAwait p) last s.visit old new)
+    → last' ≡ cond (is_same_cell s.cell c) (Some s.visit) last → (c ≢ s.cell → new ≡ old) → (c ≡ s.cell → IsJudgedNext (ComesAfterByAwait p) last s.visit old new)
     → IsWatched p c (stays ++ s ∷ []) last' new
-watched_more p stays s c last last' old new h e others here = go (is_cell s.cell c) refl
+watched_more p stays s c last last' old new h e others here = go (is_same_cell s.cell c) refl
   where
-    go : (b : Bool) → is_cell s.cell c ≡ b → IsWatched p c (stays ++ s ∷ []) last' new
+    go : (b : Bool) → is_same_cell s.cell c ≡ b → IsWatched p c (stays ++ s ∷ []) last' new
     go true f =
-        let on : s.cell ≡ c = same_cell s.cell c true (sym f) refl in
+        let on : s.cell ≡ c = is_same_cell-true s.cell c f in
         let n : last' ≡ Some s.visit = e ∙ rw f refl in
         subst (λ (l : Option Visit). IsWatched p c (stays ++ s ∷ []) l new) (sym n) (watched_on p c stays s last old new h on (here (sym on)))
     go false f =
-        let off : s.cell ≡ c → ⊥ = other_cell s.cell c false (sym f) refl in
+        let off : s.cell ≡ c → ⊥ = is_same_cell-false s.cell c f in
         let n : last' ≡ last = e ∙ rw f refl in
         subst (λ (l : Option Visit). IsWatched p c (stays ++ s ∷ []) l new) (sym n)
         (subst (IsWatched p c (stays ++ s ∷ []) last) (sym (others (λ g. off (sym g)))) (watched_off p c stays s last old h off))
 
 -- what is put for one cell changes no other
-pub others_kept : (c d : Cell) (put old new : Option Break) → new ≡ cond (is_cell c d) put old → d ≢ c → new ≡ old
-others_kept c d put old new e apart = go (is_cell c d) refl
+pub others_kept : (c d : Cell) (put old new : Option Break) → new ≡ cond (is_same_cell c d) put old → d ≢ c → new ≡ old
+others_kept c d put old new e apart = go (is_same_cell c d) refl
   where
-    go : (b : Bool) → is_cell c d ≡ b → new ≡ old
-    go true f = absurd (apart (sym (same_cell c d true (sym f) refl)))
+    go : (b : Bool) → is_same_cell c d ≡ b → new ≡ old
+    go true f = absurd (apart (sym (is_same_cell-true c d f)))
     go false f = e ∙ rw f refl
 
 pub no_entries : {X : Type 0} (xs : List X) → length xs ≡ 0 → xs ≡ []

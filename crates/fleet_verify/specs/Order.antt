@@ -1,12 +1,12 @@
 -- The visits of a place among all visits in their order, and the first neighbours that break a rule.
-use Rattle.std.specs.Prelude.{◌≡◌, ℕ, ◌+◌, ◌<◌, Bool, ◌&&◌, List, map, filter, slice_get, Option, Some, None, All, Contains, ◌⊎◌, nat_eq, [], ◌∷◌, ◌++◌}
+use Rattle.std.specs.Prelude.{◌≡◌, ℕ, ◌+◌, ◌<◌, Bool, ◌&&◌, List, map, filter, slice_get, Option, Some, None, All, Contains, ◌⊎◌, [], ◌∷◌, ◌++◌}
 use Rattle.std.specs.List.{AllPairs}
 use Rattle.std.specs.Ordering.{int_eq}
 use Rattle.fleet_model.specs.declared.geometry.Cell.{Cell}
 use Rattle.fleet_model.specs.declared.geometry.Place.{Place}
 use Rattle.fleet_model.specs.declared.program.ActionId.{ActionId}
 use Rattle.fleet_model.specs.declared.program.Visit.{Visit}
-use Rattle.fleet_model.specs.Geometry.{place_of}
+use Rattle.fleet_model.specs.Geometry.{is_same_cell, place_of}
 use Rattle.fleet_model.specs.Program.{Program, path}
 use Rattle.fleet_model.specs.Visit.{IsVisit, Adjacent, ComesAfterByAwait}
 use Rattle.fleet_verify.specs.Listing.{AreLevels, IsBefore, IsSortedListing}
@@ -42,10 +42,6 @@ IsJudgedNext R last w old new =
     ⊎ ((b : Break) × (old ≡ Some b) × (new ≡ old))
     ⊎ ((v : Visit) × (last ≡ Some v) × (R v w → ⊥) × (old ≡ None) × (new ≡ Some (record { first = v; second = w })))
 
--- the cells are the same
-abbrev pub is_cell : Cell → Cell → Bool
-is_cell a b = nat_eq a.x b.x && nat_eq a.y b.y
-
 -- the stays have all visits, and those of each place are sorted by level, agent and position
 pub record AreAllStays (p : Program) (stays : List Stay) : Type 0 where
   pub level : ActionId → ℕ
@@ -67,7 +63,7 @@ pub record IsWatched (p : Program) (c : Cell) (stays : List Stay) (final : Optio
 
 -- so it is for each cell
 abbrev pub AreWatched : Program → List Stay → Watch → Type 0
-AreWatched p stays w = (c : Cell) → IsWatched p c stays (get is_cell w.last c) (get is_cell w.breaks c)
+AreWatched p stays w = (c : Cell) → IsWatched p c stays (get is_same_cell w.last c) (get is_same_cell w.breaks c)
 
 -- each cell's first neighbours that break the rule
 abbrev pub AreBreaks : Program → List Stay → (Cell → Option Break) → Type 0

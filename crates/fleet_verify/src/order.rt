@@ -2,12 +2,13 @@
 
 ghost use Rattle.std.specs.Prelude.{◌≡◌, ◌≤◌, ◌<◌, ℕ, length, Some, None, OnOk, IfErr};
 ghost use Rattle.indexmap.specs.IndexMap.{get};
+ghost use Rattle.fleet_model.specs.Geometry.{is_same_cell};
 ghost use Rattle.fleet_model.specs.Program.{moves};
 ghost use Rattle.fleet_model.specs.Visit.{ComesAfterByAwait, IsOrderly};
 ghost use Rattle.fleet_grid.specs.Ground.{is_passable};
 ghost use Rattle.fleet_verify.specs.declared.watch.Break.{Break};
 ghost use Rattle.fleet_verify.specs.declared.fault.VerifyFault.TheVariants.{Unordered};
-ghost use Rattle.fleet_verify.specs.Order.{is_cell, AreAllNoted};
+ghost use Rattle.fleet_verify.specs.Order.{AreAllNoted};
 ghost use Rattle.fleet_verify.specs.Faults.{HasRanges, IsFault};
 
 use crate::fault::VerifyFault;
@@ -48,8 +49,8 @@ pub fn check_order<P: ProgramView>(
 
 /// Whether no neighbours among the visits of the cell break the rule.
 fn check_cell(breaks: &IndexMap<Cell, Break>, cell: Cell) -> Result<(), VerifyFault>
-    ensures ok { OnOk result (get is_cell breaks.now cell ≡ None) }
-    ensures err { IfErr result (λ f. (b : Break) × (get is_cell breaks.now cell ≡ Some b) × (f ≡ Unordered cell b.first b.second)) }
+    ensures ok { OnOk result (get is_same_cell breaks.now cell ≡ None) }
+    ensures err { IfErr result (λ f. (b : Break) × (get is_same_cell breaks.now cell ≡ Some b) × (f ≡ Unordered cell b.first b.second)) }
 {
     match breaks.get(&cell) {
         Some(found) => {

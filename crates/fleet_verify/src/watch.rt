@@ -3,8 +3,9 @@
 ghost use Rattle.std.specs.Prelude.{◌≡◌, ◌≢◌, ◌↔◌, ◌++◌, [], ◌∷◌, IsTrue, OnOk, Some};
 ghost use Rattle.indexmap.specs.IndexMap.{get, Updates};
 ghost use Rattle.fleet_model.specs.declared.geometry.Cell.{Cell};
+ghost use Rattle.fleet_model.specs.Geometry.{is_same_cell};
 ghost use Rattle.fleet_model.specs.Visit.{IsVisit, ComesAfterByAwait};
-ghost use Rattle.fleet_verify.specs.Order.{is_cell, IsJudgedNext};
+ghost use Rattle.fleet_verify.specs.Order.{IsJudgedNext};
 
 use fleet_model::{Cell, OutOfMemory, ProgramView, Visit};
 use indexmap::IndexMap;
@@ -67,9 +68,9 @@ fn note_break<P: ProgramView>(
     stay: Stay,
 ) -> Result<(), OutOfMemory>
     requires { IsVisit (P.program program.now) stay.visit }
-    ensures last { OnOk result (Updates is_cell last.old last.new stay.cell (Some stay.visit)) }
-    ensures others { OnOk result ((c : Cell) → c ≢ stay.cell → get is_cell breaks.new c ≡ get is_cell breaks.old c) }
-    ensures here { OnOk result (IsJudgedNext (ComesAfterByAwait (P.program program.now)) (get is_cell last.old stay.cell) stay.visit (get is_cell breaks.old stay.cell) (get is_cell breaks.new stay.cell)) }
+    ensures last { OnOk result (Updates is_same_cell last.old last.new stay.cell (Some stay.visit)) }
+    ensures others { OnOk result ((c : Cell) → c ≢ stay.cell → get is_same_cell breaks.new c ≡ get is_same_cell breaks.old c) }
+    ensures here { OnOk result (IsJudgedNext (ComesAfterByAwait (P.program program.now)) (get is_same_cell last.old stay.cell) stay.visit (get is_same_cell breaks.old stay.cell) (get is_same_cell breaks.new stay.cell)) }
 {
     let Stay {
         visit: second,

@@ -1,10 +1,9 @@
 use Rattle.std.proofs.Common.{◌≡◌, ◌+◌, arith, refl}
 use Rattle.std.proofs.lemmas.Result.{err_from_is_err_and}
-use Rattle.fleet_model.specs.Geometry.{place_of}
+use Rattle.fleet_model.specs.Geometry.{is_same_cell, place_of}
 use Rattle.fleet_model.specs.Program.{path}
 use Rattle.fleet_grid.specs.Ground.{is_passable}
 use Rattle.indexmap.specs.IndexMap.{get}
-use Rattle.fleet_verify.specs.Order.{is_cell}
 use Rattle.fleet_verify.proofs.Begun.{next_cell, next_there}
 use Rattle.fleet_verify.proofs.Ordered.{no_entries}
 use Rattle.fleet_verify.proofs.Judged.{broken_fault, breaks_of, unbroken, none_broken, starts_on, judged_first, judged_more, judged_agent, all_in_turn}
@@ -14,7 +13,7 @@ pub returns-in_err-check_cell-clause-err : goal.returns-in_err-check_cell-clause
 returns-in_err-check_cell-clause-err g c =
     let e = err_from_is_err_and c.from_residual.result c.from_residual.ensures.1 in
     rw (e.1, e.2)
-    (broken_fault (is_passable c.args.grid.now) c.args.instance.now (g.P.ProgramView.program c.args.program.now) c.requires.noted.stays (get is_cell c.args.watch.now.breaks) (breaks_of (g.P.ProgramView.program c.args.program.now) c.requires.noted.stays c.args.watch.now c.requires.noted.watched) c.loop-agent.agent 0 c.start-cell.result c.requires.before c.requires.noted.all
+    (broken_fault (is_passable c.args.grid.now) c.args.instance.now (g.P.ProgramView.program c.args.program.now) c.requires.noted.stays (get is_same_cell c.args.watch.now.breaks) (breaks_of (g.P.ProgramView.program c.args.program.now) c.requires.noted.stays c.args.watch.now c.requires.noted.watched) c.loop-agent.agent 0 c.start-cell.result c.requires.before c.requires.noted.all
     (omega (arith, c.agents-agent-end.ensures.count)) (omega arith) (starts_on (g.P.ProgramView.program c.args.program.now) c.loop-agent.agent c.start-cell.result c.start-cell.ensures) c.loop-agent.invariant
     c.in_err-check_cell.field-0.0 c.in_err-check_cell.ensures.err)
 
@@ -27,7 +26,7 @@ pub returns-in_err-check_cell-2-clause-err : goal.returns-in_err-check_cell-2-cl
 returns-in_err-check_cell-2-clause-err g c =
     let e = err_from_is_err_and c.from_residual-in_err-check_cell-2.result c.from_residual-in_err-check_cell-2.ensures.1 in
     rw (e.1, e.2)
-    (broken_fault (is_passable c.args.grid.now) c.args.instance.now (g.P.ProgramView.program c.args.program.now) c.requires.noted.stays (get is_cell c.args.watch.now.breaks) (breaks_of (g.P.ProgramView.program c.args.program.now) c.requires.noted.stays c.args.watch.now c.requires.noted.watched) c.loop-agent.agent (c.loop-finished.finished + 1) c.unwrap-cell.result c.requires.before c.requires.noted.all
+    (broken_fault (is_passable c.args.grid.now) c.args.instance.now (g.P.ProgramView.program c.args.program.now) c.requires.noted.stays (get is_same_cell c.args.watch.now.breaks) (breaks_of (g.P.ProgramView.program c.args.program.now) c.requires.noted.stays c.args.watch.now c.requires.noted.watched) c.loop-agent.agent (c.loop-finished.finished + 1) c.unwrap-cell.result c.requires.before c.requires.noted.all
     (omega (arith, c.agents-agent-end.ensures.count)) (omega (arith, c.moves-finished-end.ensures)) (next_cell (is_passable c.args.grid.now) (g.P.ProgramView.program c.args.program.now) c.loop-agent.agent c.loop-finished.finished c.loop-finished.cell c.unwrap-cell.result c.dir.result c.neighbour.result
     c.loop-finished.invariant.here c.dir.ensures c.unwrap-cell.ensures c.neighbour.ensures.some) c.loop-finished.invariant.judged
     c.in_err-check_cell-2.field-0.0 c.in_err-check_cell-2.ensures.err)
@@ -37,7 +36,7 @@ loop-finished-init g c =
     let p = g.P.ProgramView.program c.args.program.now in
     record {
       here = starts_on p c.loop-agent.agent c.start-cell.result c.start-cell.ensures;
-      judged = judged_first p c.loop-agent.agent c.start-cell.result c.loop-agent.invariant c.start-cell.ensures (unbroken p c.requires.noted.stays (get is_cell c.args.watch.now.breaks) c.requires.noted.all (breaks_of (g.P.ProgramView.program c.args.program.now) c.requires.noted.stays c.args.watch.now c.requires.noted.watched) c.start-cell.result c.in_ok-check_cell.ensures.ok);
+      judged = judged_first p c.loop-agent.agent c.start-cell.result c.loop-agent.invariant c.start-cell.ensures (unbroken p c.requires.noted.stays (get is_same_cell c.args.watch.now.breaks) c.requires.noted.all (breaks_of (g.P.ProgramView.program c.args.program.now) c.requires.noted.stays c.args.watch.now c.requires.noted.watched) c.start-cell.result c.in_ok-check_cell.ensures.ok);
     }
 
 pub loop-finished-preserved : goal.loop-finished-preserved
@@ -47,7 +46,7 @@ loop-finished-preserved g c =
     c.loop-finished.invariant.here c.dir.ensures c.unwrap-cell.ensures c.neighbour.ensures.some) in
     record {
       here = here;
-      judged = judged_more p c.loop-agent.agent (c.loop-finished.finished + 1) c.unwrap-cell.result c.loop-finished.invariant.judged here (unbroken p c.requires.noted.stays (get is_cell c.args.watch.now.breaks) c.requires.noted.all (breaks_of (g.P.ProgramView.program c.args.program.now) c.requires.noted.stays c.args.watch.now c.requires.noted.watched) c.unwrap-cell.result c.in_ok-check_cell-2.ensures.ok);
+      judged = judged_more p c.loop-agent.agent (c.loop-finished.finished + 1) c.unwrap-cell.result c.loop-finished.invariant.judged here (unbroken p c.requires.noted.stays (get is_same_cell c.args.watch.now.breaks) c.requires.noted.all (breaks_of (g.P.ProgramView.program c.args.program.now) c.requires.noted.stays c.args.watch.now c.requires.noted.watched) c.unwrap-cell.result c.in_ok-check_cell-2.ensures.ok);
     }
 
 pub loop-agent-preserved : goal.loop-agent-preserved
@@ -60,5 +59,5 @@ returns-clause-ok g c =
 
 pub returns-then-is_empty-clause-ok : goal.returns-then-is_empty-clause-ok
 returns-then-is_empty-clause-ok g c =
-    none_broken (g.P.ProgramView.program c.args.program.now) c.requires.noted.stays (get is_cell c.args.watch.now.breaks) c.requires.noted.all (breaks_of (g.P.ProgramView.program c.args.program.now) c.requires.noted.stays c.args.watch.now c.requires.noted.watched)
+    none_broken (g.P.ProgramView.program c.args.program.now) c.requires.noted.stays (get is_same_cell c.args.watch.now.breaks) c.requires.noted.all (breaks_of (g.P.ProgramView.program c.args.program.now) c.requires.noted.stays c.args.watch.now c.requires.noted.watched)
     (λ d. rw (no_entries c.args.watch.now.breaks.entries (c.is_empty.ensures.0 c.if-is_empty.true)) refl)

@@ -2,8 +2,9 @@ use Rattle.std.proofs.Common.{◌∙◌, ◌++◌, ◌∷◌, [], ap}
 use Rattle.std.proofs.lemmas.List.{map-append}
 use Rattle.std.proofs.lemmas.List.Elements.{All-push}
 use Rattle.indexmap.specs.IndexMap.{get}
+use Rattle.fleet_model.specs.Geometry.{is_same_cell}
 use Rattle.fleet_verify.specs.declared.watch.Stay.{Stay}
-use Rattle.fleet_verify.specs.Order.{is_cell, IsStay}
+use Rattle.fleet_verify.specs.Order.{IsStay}
 use Rattle.fleet_verify.proofs.Ordered.{watched_more}
 use Rattle.fleet_verify.proofs.watch.Watch.note.Goals as goal
 
@@ -17,7 +18,7 @@ returns g c = λ visits old.
       same = map-append (λ (x : Stay). x.visit) old.stays (s ∷ []) ∙ ap (λ vs. vs ++ s.visit ∷ []) old.same;
       each = All-push (IsStay p) old.stays s old.each c.requires.stay;
       watched = λ d.
-          watched_more p old.stays s d (get is_cell w.last d) (get is_cell c.note_break.new.last d) (get is_cell w.breaks d) (get is_cell c.note_break.new.breaks d) (old.watched d)
+          watched_more p old.stays s d (get is_same_cell w.last d) (get is_same_cell c.note_break.new.last d) (get is_same_cell w.breaks d) (get is_same_cell c.note_break.new.breaks d) (old.watched d)
           (c.in_ok-note_break.ensures.last.0 d)
           (c.in_ok-note_break.ensures.others d)
           (λ on. rw on (c.in_ok-note_break.ensures.here));

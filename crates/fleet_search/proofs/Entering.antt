@@ -3,6 +3,7 @@ use Rattle.std.proofs.Common.{◌≡◌, ◌≢◌, ℕ, ◌+◌, ◌≤◌, Lis
 use Rattle.std.specs.Prelude.{Result, Ok, Err, OnOk, OnErr}
 use Rattle.std.proofs.lemmas.Bool.{cases_lt, cases_eq}
 use Rattle.fleet_model.specs.declared.geometry.Cell.{Cell}
+use Rattle.fleet_model.proofs.Cells.{cell_cases}
 use Rattle.fleet_plan.specs.Plan.{Plan, cell_at}
 use Rattle.fleet_search.specs.declared.stay.Stay.{Stay}
 use Rattle.fleet_search.specs.Way.{Fits, joined, arrival}
@@ -36,15 +37,6 @@ pub rest-added : (plan : Plan) (old now new : Rows) (cell : Cell) (stay : Stay) 
 rest-added plan old now new cell stay h a e same c = elim (same c) [
   | inl s ↦ ap (λ z. without (length plan) (stays_of new z)) s ∙ without-placed (stays_of now cell) (stays_of new cell) stay (length plan) a.here e ∙ ap (λ z. without (length plan) (stays_of now z)) (sym s) ∙ h c
   | inr ne ↦ ap (without (length plan)) (a.others c ne) ∙ h c
-]
-
-pub cell_cases : (c d : Cell) → (c ≡ d) ⊎ (c ≢ d)
-cell_cases c d = elim (cases_eq c.x d.x) [
-  | inr ne ↦ inr (λ e. ne (ap (λ (z : Cell). z.x) e))
-  | inl a ↦ elim (cases_eq c.y d.y) [
-    | inr ne ↦ inr (λ e. ne (ap (λ (z : Cell). z.y) e))
-    | inl b ↦ inl (λ i. record { x = a i; y = b i })
-  ]
 ]
 
 module _ (plan : Plan) (path : List Cell) (fits : Fits plan path) (old now : Rows) (from time : ℕ) (h : AreEntered plan path old now from time) where

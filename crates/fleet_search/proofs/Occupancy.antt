@@ -1,23 +1,10 @@
 -- Where agents are once they have arrived, and what tests say.
-use Rattle.std.proofs.Common.{◌≡◌, ◌≢◌, ℕ, zero, suc, ◌<◌, ◌≤◌, Bool, true, false, IsTrue, ◌&&◌, ◌==◌, List, [], ◌∷◌, length, get_or, All, ◌↔◌, sym, ap, ◌∙◌, arith}
-use Rattle.std.proofs.lemmas.Bool.{and_parts, and_from, eqb-true, eq-eqb, both_ways}
+use Rattle.std.proofs.Common.{◌≡◌, ℕ, zero, suc, ◌<◌, ◌≤◌, Bool, true, false, IsTrue, List, [], ◌∷◌, length, get_or, All, ◌↔◌, sym, ap, ◌∙◌, arith}
+use Rattle.std.proofs.lemmas.Bool.{both_ways}
 use Rattle.fleet_model.specs.declared.geometry.Cell.{Cell}
 use Rattle.fleet_model.specs.Program.{origin}
 use Rattle.fleet_plan.specs.Plan.{Plan, IsPath, cell_at, cell_of, steps}
 use Rattle.fleet_search.specs.Way.{arrival}
-
-pub cells-equal : (c d : Cell) → ((c.x == d.x) && (c.y == d.y)) ≡ true → c ≡ d
-cells-equal c d h =
-    let p = and_parts (c.x == d.x) (c.y == d.y) h in
-    let ex = eqb-true c.x d.x p.0 in
-    let ey = eqb-true c.y d.y p.1 in
-    λ i. record { x = ex i; y = ey i }
-
-pub cells-same : (c d : Cell) → c ≡ d → ((c.x == d.x) && (c.y == d.y)) ≡ true
-cells-same c d e = and_from (c.x == d.x) (c.y == d.y) (eq-eqb c.x d.x (ap (λ (z : Cell). z.x) e)) (eq-eqb c.y d.y (ap (λ (z : Cell). z.y) e))
-
-pub cells-differ : (c d : Cell) → ((c.x == d.x) && (c.y == d.y)) ≡ false → c ≢ d
-cells-differ c d h e = let same = cells-same c d e in cc
 
 -- ---- times
 

@@ -6,6 +6,7 @@ use Rattle.std.proofs.lemmas.Bool.{cases_eq, cases_lt, ne_eqb, eq-eqb}
 use Rattle.std.proofs.lemmas.List.{get_or-set_same, get_or-set_other, get_or-map, map-set, get_or_past, length-map, take-append-drop}
 use Rattle.std.proofs.lemmas.List.Elements.{filter-append}
 use Rattle.fleet_model.specs.declared.geometry.Cell.{Cell}
+use Rattle.fleet_model.proofs.Cells.{cell_from_parts}
 use Rattle.fleet_plan.specs.Plan.{Plan}
 use Rattle.fleet_search.specs.declared.stay.Stay.{Stay}
 use Rattle.fleet_search.specs.Stays.{Rows, stays_of, IsPlaced, IsAdded, AreStays, without, stay_at}
@@ -84,9 +85,6 @@ same-row rows y old new l e h c = elim (cases_eq c.y y) [
   | inr ne ↦ row-other rows y new c ne
 ]
 
-cell-same : (c d : Cell) → c.y ≡ d.y → c.x ≡ d.x → c ≡ d
-cell-same c d ey ex = λ i. record { x = ex i; y = ey i }
-
 pub list-here : (rows : Rows) (cell : Cell) (y x : ℕ) (ey : y ≡ cell.y) (ex : x ≡ cell.x) (row : Vec (Vec Stay Global) Global) (lists : List (Vec Stay Global)) (list : Vec Stay Global) → y < length rows → row ≡ get_or rows y row → ((k : ℕ) → list_in lists k ≡ list_in row.items k) → x < length lists → list ≡ get_or lists x list → stays_of rows cell ≡ list.items
 list-here rows cell y x ey ex row lists list l e same m f =
     row-read rows cell row (omega arith) (subst (λ z. row ≡ get_or rows z row) ey e)
@@ -101,7 +99,7 @@ module _ (rows : Rows) (cell : Cell) (y x : ℕ) (ey : y ≡ cell.y) (ex : x ≡
   list-kept : (c : Cell) → c ≢ cell → stays_of (set rows y new) c ≡ stays_of rows c
   list-kept c ne = elim (cases_eq c.y y) [
     | inr a ↦ row-other rows y new c a
-    | inl s ↦ row-set rows y new c l s ∙ ap (λ z. list_in z c.x) g ∙ list-other lists x c.x list' (λ a. ne (cell-same c cell (s ∙ ey) (a ∙ ex))) ∙ same c.x ∙ sym (row-read rows c row (omega arith) (subst (λ z. row ≡ get_or rows z row) (sym s) e))
+    | inl s ↦ row-set rows y new c l s ∙ ap (λ z. list_in z c.x) g ∙ list-other lists x c.x list' (λ a. ne (cell_from_parts c cell (a ∙ ex) (s ∙ ey))) ∙ same c.x ∙ sym (row-read rows c row (omega arith) (subst (λ z. row ≡ get_or rows z row) (sym s) e))
   ]
 
   pub list-same : list'.items ≡ list.items → (c : Cell) → stays_of (set rows y new) c ≡ stays_of rows c
@@ -109,7 +107,7 @@ module _ (rows : Rows) (cell : Cell) (y x : ℕ) (ey : y ≡ cell.y) (ex : x ≡
     | inr a ↦ row-other rows y new c a
     | inl s ↦ elim (cases_eq c.x x) [
       | inr a ↦ list-kept c (λ z. a (ap (λ (d : Cell). d.x) z ∙ sym ex))
-      | inl a ↦ let z = cell-same c cell (s ∙ ey) (a ∙ ex) in ap (stays_of (set rows y new)) z ∙ list-put ∙ h ∙ sym (list-here rows cell y x ey ex row lists list l e same m f) ∙ ap (stays_of rows) (sym z)
+      | inl a ↦ let z = cell_from_parts c cell (a ∙ ex) (s ∙ ey) in ap (stays_of (set rows y new)) z ∙ list-put ∙ h ∙ sym (list-here rows cell y x ey ex row lists list l e same m f) ∙ ap (stays_of rows) (sym z)
     ]
   ]
 

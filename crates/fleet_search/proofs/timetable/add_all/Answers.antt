@@ -1,9 +1,9 @@
 use Rattle.std.proofs.Common.{◌≡◌, ◌≤◌, length, refl, sym, ap, ◌∙◌, arith}
 use Rattle.std.proofs.lemmas.Bool.{not-false}
 use Rattle.std.proofs.lemmas.Result.{on_ok_weaker}
+use Rattle.fleet_model.proofs.Cells.{is_same_cell-true}
 use Rattle.fleet_plan.specs.Plan.{cell_at}
 use Rattle.fleet_search.specs.Stays.{without}
-use Rattle.fleet_search.proofs.Occupancy.{cells-equal}
 use Rattle.fleet_search.proofs.Entering.{entered-none, entered-same, entered-more, entered-all, entered-rest, entered-order, either}
 use Rattle.fleet_search.proofs.timetable.add_all.Goals as goal
 use Rattle.fleet_search.proofs.timetable.add_all.Goals.{then-ne+in_ok-add, else-ne}
@@ -18,7 +18,7 @@ pub loop-time-preserved : goal.loop-time-preserved
 loop-time-preserved c =
     elim c.if-ne.branch [
       | then-ne+in_ok-add w ↦ rw (w.rows-is, w.from-is) (entered-more c.args.paths.now c.args.path.now c.requires.fits c.args.rows.now.items c.loop-time.rows.items c.loop-time.from c.loop-time.time c.loop-time.invariant w.add.new.rows.items c.cell-cell.result _ w.in_ok-add.ensures.ok c.cell-cell.ensures refl refl (let f = c.steps-end.ensures.limits.few_cells in let g = c.steps-end.ensures.time in omega arith) refl)
-      | else-ne w ↦ rw (w.rows-is, w.from-is) (entered-same c.args.paths.now c.args.path.now c.requires.fits c.args.rows.now.items c.loop-time.rows.items c.loop-time.from c.loop-time.time c.loop-time.invariant (sym c.cell-cell.ensures ∙ cells-equal c.cell-cell.result c.cell.result (not-false _ (sym c.ne.ensures ∙ w.if-ne.false)) ∙ c.cell.ensures))
+      | else-ne w ↦ rw (w.rows-is, w.from-is) (entered-same c.args.paths.now c.args.path.now c.requires.fits c.args.rows.now.items c.loop-time.rows.items c.loop-time.from c.loop-time.time c.loop-time.invariant (sym c.cell-cell.ensures ∙ is_same_cell-true c.cell-cell.result c.cell.result (not-false _ (sym c.ne.ensures ∙ w.if-ne.false)) ∙ c.cell.ensures))
     ]
 
 pub add-requires-2 : goal.add-requires-2

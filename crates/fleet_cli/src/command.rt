@@ -1,6 +1,6 @@
 //! The program's words, and what it does for them.
 
-ghost use Rattle.std.specs.Prelude.{◌≡◌, ◌∷◌, false, map, string_bytes};
+ghost use Rattle.std.specs.Prelude.{◌≡◌, false, map, string_bytes};
 ghost use Rattle.fleet_cli.specs.Command.{RunsRequest, StopsAtWords, RunsCommand};
 
 use crate::auto_command::run_auto;

@@ -1,6 +1,6 @@
 //! The command `compile`.
 
-ghost use Rattle.std.specs.Prelude.{◌≡◌, false, List, ℕ, IfOk, IfErr, length, vec_len};
+ghost use Rattle.std.specs.Prelude.{◌≡◌, false, IfOk, IfErr};
 ghost use Rattle.fleet_run.specs.Sink.{TakesAll, Delivers};
 ghost use Rattle.fleet_io.specs.Files.{IsKept};
 ghost use Rattle.fleet_cli.specs.CompileCommand.{CompilesTexts, IsCompileFault, compiled_lines, compiled_text, CompilesFiles, IsCompileRefusal, PrintsCompiled, RunsCompile};

@@ -1,6 +1,6 @@
 //! The map and the instance of a command, and a program that is accepted for them.
 
-ghost use Rattle.std.specs.Prelude.{◌≡◌, IfOk, IfErr};
+ghost use Rattle.std.specs.Prelude.{IfOk, IfErr};
 ghost use Rattle.fleet_auto.specs.Texts.{AreTextsOf};
 ghost use Rattle.fleet_cli.specs.Problem.{IsProblemFault, Accepts, IsAcceptFault};
 

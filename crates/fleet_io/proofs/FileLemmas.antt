@@ -1,7 +1,7 @@
 -- What a store of files holds while it is read.
 use Rattle.std.proofs.Common.{ℕ, List, [], ◌∷◌, Option, Some, None, inl, inr, refl, sym, ◌∙◌}
 use Rattle.fleet_io.specs.Files.{Store, Holds, IsUnreadable, IsKept, ChangesOnly}
-use Rattle.fleet_io.specs.Named.{IsReadFault, IsUnread, hold_names, AreHoldBytes}
+use Rattle.fleet_io.specs.Named.{IsReadFault, IsUnread, AreHoldBytes}
 use Rattle.fleet_io.specs.declared.fault.Fault.{Fault}
 use Rattle.fleet_io.specs.declared.fault.Fault.TheVariants as f
 

@@ -1,6 +1,6 @@
 //! Files by name.
 
-ghost use Rattle.std.specs.Prelude.{◌≡◌, ◌≤◌, ℕ, List, Err, IfOk, OnOk, vec_len};
+ghost use Rattle.std.specs.Prelude.{◌≡◌, ◌≤◌, Err, IfOk, OnOk, vec_len};
 ghost use Rattle.fleet_io.specs.Files.{Store, Holds, IsUnreadable, IsKept, ChangesOnly, Replaces};
 
 use crate::input::{FileFault, MOST_BYTES};

@@ -1,7 +1,7 @@
 //! Files in memory, for tests.
 
-ghost use Rattle.std.specs.Prelude.{◌≡◌, ◌≢◌, ◌≤◌, ◌<◌, ◌⊎◌, ℕ, List, length, Some, None, Err, OnOk, OnErr, IfOk, IfErr, IfSome, IfNone, vec_len};
-ghost use Rattle.fleet_io.specs.Files.{Holds, IsKept, ChangesOnly, Replaces};
+ghost use Rattle.std.specs.Prelude.{◌≡◌, ◌≢◌, ◌≤◌, ◌<◌, ℕ, List, length, Some, None, Err, OnOk, OnErr, IfOk, IfErr, IfSome, IfNone, vec_len};
+ghost use Rattle.fleet_io.specs.Files.{Replaces};
 
 use crate::files::Files;
 use crate::input::{FileFault, MOST_BYTES};

@@ -1,6 +1,6 @@
 //! Files that a command names.
 
-ghost use Rattle.std.specs.Prelude.{◌∷◌, [], ℕ, List, IfOk, IfErr, OnOk, option_map};
+ghost use Rattle.std.specs.Prelude.{◌∷◌, [], IfOk, IfErr, OnOk, option_map};
 ghost use Rattle.fleet_io.specs.Files.{Holds, IsKept, ChangesOnly, Replaces};
 ghost use Rattle.fleet_io.specs.Named.{IsReadFault, IsWriteFault, IsUnread, AreRead, hold_names, AreHoldBytes};
 

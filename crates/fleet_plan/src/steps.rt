@@ -1,6 +1,6 @@
 //! Whether the agents of a plan go step by step over passable cells.
 
-ghost use Rattle.std.specs.Prelude.{◌≡◌, ◌<◌, ℕ, IfSome, IfNone, IsTrue, ◌↔◌, ◌⊎◌, length};
+ghost use Rattle.std.specs.Prelude.{◌≡◌, ◌<◌, IfSome, IfNone, IsTrue, ◌↔◌, ◌⊎◌};
 ghost use Rattle.fleet_grid.specs.Ground.{is_passable};
 ghost use Rattle.fleet_plan.specs.Plan.{AreNeighbours};
 ghost use Rattle.fleet_plan.specs.FirstFault.{IsFirstTime, GoesOver, GoesRight, AllAgents, IsFirstStep};

@@ -1,6 +1,6 @@
 //! Sources of held sets: a source stands for the ticks that it can still give, and for what comes after them.
 
-ghost use Rattle.std.specs.Prelude.{◌≡◌, ◌<◌, ℕ, true, false, List, [], None};
+ghost use Rattle.std.specs.Prelude.{◌≡◌, ◌<◌, true, false, [], None};
 ghost use Rattle.fleet_model.specs.Machine.{Holds};
 ghost use Rattle.fleet_run.specs.Source.{GivesTick, AsksTick, AreFlagsOf};
 

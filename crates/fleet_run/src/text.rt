@@ -1,6 +1,6 @@
 //! Places and lines, written into a row of bytes from its end to its front.
 
-ghost use Rattle.std.specs.Prelude.{◌≡◌, ◌+◌, ◌<◌, ◌≤◌, ◌++◌, ◌∷◌, length, drop};
+ghost use Rattle.std.specs.Prelude.{◌≡◌, ◌+◌, ◌<◌, ◌≤◌, ◌++◌, length, drop};
 ghost use Rattle.std.specs.Fmt.{decimal, signed_decimal};
 ghost use Rattle.fleet_run.specs.Text.{place_text, line_of, number_line, last_line_of, closing_lines, trace_closing};
 

@@ -1,6 +1,6 @@
 //! Whether the visits of each cell come one after another.
 
-ghost use Rattle.std.specs.Prelude.{◌≡◌, ◌≤◌, ◌<◌, ℕ, length, Some, None, OnOk, IfErr};
+ghost use Rattle.std.specs.Prelude.{◌≡◌, ◌<◌, Some, None, OnOk, IfErr};
 ghost use Rattle.indexmap.specs.IndexMap.{get};
 ghost use Rattle.fleet_model.specs.Geometry.{is_same_cell};
 ghost use Rattle.fleet_model.specs.Program.{moves};

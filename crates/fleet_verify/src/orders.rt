@@ -1,6 +1,6 @@
 //! What decides whether a program has a numbering and is orderly. These functions do nothing: their contracts are the laws.
 
-ghost use Rattle.std.specs.Prelude.{◌≡◌, Contains, ℕ, ◌<◌, ◌↔◌, Bool, List};
+ghost use Rattle.std.specs.Prelude.{Contains, ℕ, ◌<◌, ◌↔◌, Bool, List};
 ghost use Rattle.fleet_model.specs.declared.geometry.Place.{Place};
 ghost use Rattle.fleet_model.specs.declared.program.ActionId.{ActionId};
 ghost use Rattle.fleet_model.specs.declared.program.Visit.{Visit};

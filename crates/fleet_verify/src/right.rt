@@ -1,6 +1,6 @@
 //! Whether all that is judged agent by agent is right, in one pass.
 
-ghost use Rattle.std.specs.Prelude.{◌≡◌, ◌<◌, length, IsTrue, OnOk, IfErr};
+ghost use Rattle.std.specs.Prelude.{◌<◌, length, IsTrue, OnOk, IfErr};
 ghost use Rattle.fleet_model.specs.Program.{IsWellFormed};
 ghost use Rattle.fleet_grid.specs.Ground.{is_passable};
 ghost use Rattle.fleet_verify.specs.Faults.{HasFleet, HasRanges, IsAgentRight, IsFault};

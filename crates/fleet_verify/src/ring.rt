@@ -1,10 +1,10 @@
 //! A ring of actions of which each needs the one before, where a run without holds is stuck.
 
-ghost use Rattle.std.specs.Prelude.{◌≡◌, ◌<◌, ◌≤◌, ◌+◌, ◌-◌, ◌++◌, ◌↔◌, ℕ, length, slice_index, IsTrue, IfOk, OnOk};
-ghost use Rattle.fleet_model.specs.Program.{moves, IsWellFormed};
+ghost use Rattle.std.specs.Prelude.{◌≡◌, ◌<◌, ◌≤◌, ◌+◌, ◌-◌, ◌++◌, ◌↔◌, ℕ, length, IsTrue, IfOk, OnOk};
+ghost use Rattle.fleet_model.specs.Program.{moves};
 ghost use Rattle.fleet_verify.specs.Walk.{IsReadyBy};
 ghost use Rattle.fleet_model.specs.Program.{AreInRange};
-ghost use Rattle.fleet_verify.specs.Blocked.{IsBlocked, IsUnmet, AreWants, next_of, LeadsBack, IsLeastBack, down_from};
+ghost use Rattle.fleet_verify.specs.Blocked.{IsBlocked, IsUnmet, AreWants, LeadsBack, IsLeastBack, down_from};
 ghost use Rattle.fleet_verify.specs.Ring.{IsToldRing};
 
 use fleet_model::{ActionId, Await, OutOfMemory, ProgramView};

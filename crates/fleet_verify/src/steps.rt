@@ -1,8 +1,7 @@
 //! Whether paths stay on passable ground, and awaits name actions that there are.
 
-ghost use Rattle.std.specs.Prelude.{◌≡◌, ◌<◌, ◌≤◌, ◌↔◌, length, OnOk, IfErr, IfSome, IfNone, IsTrue, Bool, ℕ};
-ghost use Rattle.fleet_model.specs.declared.geometry.Place.{Place};
-ghost use Rattle.fleet_model.specs.Program.{moves, path, IsWellFormed};
+ghost use Rattle.std.specs.Prelude.{◌<◌, ◌≤◌, ◌↔◌, length, OnOk, IfErr, IfSome, IfNone, IsTrue, ℕ};
+ghost use Rattle.fleet_model.specs.Program.{moves, IsWellFormed};
 ghost use Rattle.fleet_grid.specs.Ground.{is_passable};
 ghost use Rattle.fleet_verify.specs.Faults.{HasEnds, HasSteps, HasRanges, StandsRight, AwaitsRight, IsFirstNumber, IsFault};
 

@@ -1,6 +1,6 @@
 //! The verifier: what is judged, in its order.
 
-ghost use Rattle.std.specs.Prelude.{◌≡◌, ◌≢◌, ◌<◌, ◌≤◌, ◌↔◌, ℕ, List, length, slice_index, IsTrue, IfOk, IfErr, false};
+ghost use Rattle.std.specs.Prelude.{◌≡◌, ◌≢◌, ◌<◌, ◌≤◌, ℕ, List, length, slice_index, IsTrue, IfOk, IfErr, false};
 ghost use Rattle.fleet_model.specs.declared.geometry.Place.{Place};
 ghost use Rattle.fleet_model.specs.declared.program.Visit.{Visit};
 ghost use Rattle.fleet_model.specs.Program.{moves};

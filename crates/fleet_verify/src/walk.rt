@@ -1,8 +1,8 @@
 //! The run in which nobody is held. Its ticks are the levels of the actions.
 
-ghost use Rattle.std.specs.Prelude.{◌≡◌, ◌<◌, ◌≤◌, ◌+◌, ◌++◌, ◌↔◌, ℕ, Bool, true, false, [], length, map, get_or, slice_index, IsTrue, IfOk, OnOk, All, if◌then◌else◌, List};
+ghost use Rattle.std.specs.Prelude.{◌≡◌, ◌<◌, ◌+◌, ◌++◌, ◌↔◌, ℕ, true, false, length, slice_index, IsTrue, IfOk, OnOk, if◌then◌else◌, List};
 ghost use Rattle.fleet_model.specs.declared.program.Visit.{Visit};
-ghost use Rattle.fleet_model.specs.Program.{moves, IsWellFormed};
+ghost use Rattle.fleet_model.specs.Program.{moves};
 ghost use Rattle.fleet_grid.specs.Ground.{is_passable};
 ghost use Rattle.fleet_verify.specs.Faults.{EachAction, StandsRight};
 ghost use Rattle.fleet_verify.specs.Order.{AreNoted};

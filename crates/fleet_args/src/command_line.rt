@@ -56,7 +56,7 @@ fn plan<'a>(alloc: Global) -> Arg<'a>
         alloc,
         "plan",
         "PLAN",
-        "Plan text, a line of cells per agent",
+        "Plan text: a line per agent, its cells x,y at times 0, 1, 2 ..",
     )
 }
 
@@ -74,7 +74,12 @@ fn out<'a>(alloc: Global) -> Arg<'a>
 fn program<'a>(alloc: Global) -> Arg<'a>
     ensures { IsArg (word (codes "program")) result }
 {
-    positional(alloc, "program", "PROGRAM", "Program file (bytes)")
+    positional(
+        alloc,
+        "program",
+        "PROGRAM",
+        "Program file (bytes, not hexadecimal)",
+    )
 }
 
 fn agents<'a>(alloc: Global) -> Arg<'a>
@@ -96,7 +101,7 @@ fn horizon<'a>(alloc: Global) -> Arg<'a>
         alloc,
         "horizon",
         "H",
-        "The latest time at which an agent may arrive, 1 to 65535",
+        "The latest time at which an agent may arrive, 1 to 65535; below its shortest way there is no path",
     )
     .value_parser(clap::value_parser!(u16).range(1..))
     .default_value("1024")
@@ -110,7 +115,7 @@ fn deps<'a>(alloc: Global, names: &'a [&'a str]) -> Arg<'a>
         alloc,
         "deps",
         "DEPS",
-        "Await the last leaving of a cell by each other agent, or only the very last leaving",
+        "What a move into a cell waits for: the last leaving by each other agent (all), or only the latest leaving (last)",
     )
     .value_parser(names)
     .default_value("last")
@@ -123,7 +128,7 @@ fn holds<'a>(alloc: Global) -> Arg<'a>
         alloc,
         "holds",
         "FILE",
-        "Holds text: the agents held in each tick, a line per tick [default: nobody is held]",
+        "Holds text: a line per tick, - for nobody or the numbers of the held agents, rising [default: nobody is held]",
     )
 }
 
@@ -178,7 +183,7 @@ fn compile_command<'a>(alloc: Global, names: &'a [&'a str]) -> Result<Command<'a
     map_and_scen(
         alloc,
         "compile",
-        "Compiles a plan that is free of conflict into a program of moves and awaits",
+        "Compiles a conflict-free plan into a program, writes it to OUT, and prints its agents, moves, awaits and bytes",
     )?
     .arg(plan(alloc))?
     .arg(out(alloc))?
@@ -192,7 +197,7 @@ fn verify_command<'a>(alloc: Global) -> Result<Command<'a>, AllocError>
     map_and_scen(
         alloc,
         "verify",
-        "Tells whether a program is safe and arrives whatever is held, or its first fault",
+        "Tells whether a program is safe and arrives whoever is held, or its first fault",
     )?
     .arg(program(alloc))?
     .arg(agents(alloc))
@@ -204,7 +209,7 @@ fn run_command<'a>(alloc: Global) -> Result<Command<'a>, AllocError>
     map_and_scen(
         alloc,
         "run",
-        "Verifies a program and runs it tick by tick, printing its positions",
+        "Verifies a program and runs it: prints the positions tick by tick, then agents, ticks, chain and held",
     )?
     .arg(program(alloc))?
     .arg(agents(alloc))?
@@ -215,7 +220,9 @@ fn rehearse_command<'a>(alloc: Global) -> Result<Command<'a>, AllocError>
     ensures { IfOk result (IsLeafCommand rehearse_shape) }
 {
     Command::new(alloc, "rehearse")
-        .about("Runs a program tick by tick, printing its positions, until it is finished or stuck")
+        .about(
+            "Runs any program until it is finished or stuck: prints the positions tick by tick, then agents, ticks and held",
+        )
         .arg(program(alloc))?
         .arg(holds(alloc))
 }
@@ -226,7 +233,7 @@ fn auto_command<'a>(alloc: Global, names: &'a [&'a str]) -> Result<Command<'a>, 
     map_and_scen(
         alloc,
         "auto",
-        "Plans, compiles, verifies and runs in one go, printing the positions tick by tick",
+        "Plans, compiles, verifies and runs: prints the positions tick by tick, then agents, ticks, chain and held",
     )?
     .arg(agents(alloc))?
     .arg(horizon(alloc))?
@@ -244,7 +251,7 @@ fn without_commands<'a>(alloc: Global) -> Result<Command<'a>, AllocError>
             .bin_name("fleet")?
             .about("Programs for a fleet of robots on a grid")
             .after_help(
-                "Without a command: rehearses, with nobody held, the program that standard input gives in hexadecimal.\nStatus: 0 done, 1 refused or stuck, 2 wrong usage, 3 a file, the output or memory failed.",
+                "Without a command: rehearses, with nobody held, the program that standard input gives in hexadecimal.\nStatus: 0 done, 1 refused or stuck, 2 wrong usage, 3 a file, the output or memory failed.\nA refusal is one line on standard error: part, number, name, particulars. docs/REFUSALS.md explains each.",
             )
             .subcommand_required(true),
     )

@@ -272,8 +272,12 @@ fn usage_says_what_is_wrong(rt: HostRuntime) -> Result<(), Fail> {
 
 #[test]
 fn help_tells_the_words(rt: HostRuntime) -> Result<(), Fail> {
-    let rows: [(&[&str], &str); 9] = [
+    let rows: [(&[&str], &str); 10] = [
         (&["--help"], "Usage: fleet <COMMAND>"),
+        (
+            &["--help"],
+            "A refusal is one line on standard error: part, number, name, particulars. docs/REFUSALS.md explains each.",
+        ),
         (&["-h"], "Usage: fleet <COMMAND>"),
         (&["help"], "Usage: fleet <COMMAND>"),
         (
@@ -290,7 +294,7 @@ fn help_tells_the_words(rt: HostRuntime) -> Result<(), Fail> {
         ),
         (
             &["help", "auto"],
-            "Plans, compiles, verifies and runs in one go, printing the positions tick by tick",
+            "Plans, compiles, verifies and runs: prints the positions tick by tick, then agents, ticks, chain and held",
         ),
         (
             &["instance", "-h"],
@@ -298,7 +302,7 @@ fn help_tells_the_words(rt: HostRuntime) -> Result<(), Fail> {
         ),
         (
             &["rehearse", "--help"],
-            "      --holds <FILE>  Holds text: the agents held in each tick, a line per tick [default: nobody is held]",
+            "      --holds <FILE>  Holds text: a line per tick, - for nobody or the numbers of the held agents, rising [default: nobody is held]",
         ),
     ];
     for (texts, line) in rows {

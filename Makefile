@@ -1,20 +1,37 @@
-# make test: the gate. make demo: the program on examples. make picture: the picture of the README. make install PREFIX=..: the proved program.
+# `make` alone lists what there is to make.
 
 PREFIX ?= /usr/local
-FLEET = crates/fleet/out/fleet
+BUILT = crates/fleet/out/fleet
+LOG = crates/fleet/out/build.log
+# Another program to try: make examples FLEET=PATH
+FLEET = $(BUILT)
 SOURCES = crates.txt $(shell find crates -path '*/out' -prune -o \( -name '*.rt' -o -name '*.antt' \) -print)
 
 WAREHOUSE = examples/warehouse.map examples/warehouse.scen
 
-.PHONY: test demo picture install
+.PHONY: help test examples demo picture install
+
+help:
+	@echo 'make demo                  builds the program (the first time a quarter of an hour) and shows it on examples'
+	@echo 'make install PREFIX=DIR    puts the program at DIR/bin/fleet ($(PREFIX) where none is given)'
+	@echo 'make test                  the gate: proofs, tests, edits that must fail, and then the examples'
+	@echo 'make examples              runs the program on every example of the documents, and on files and streams at their limits'
+	@echo 'make examples FLEET=PATH   the same of another program'
+	@echo 'make picture               draws docs/warehouse.svg anew'
 
 test:
 	rt ci
+	@$(MAKE) --no-print-directory examples
 
-# Proves the crates, and then builds the program and has it print its help.
-$(FLEET): $(SOURCES)
-	cd crates/fleet && rt run -- --help > /dev/null
-	touch $(FLEET)
+# Proves the crates, and then builds the program and has it print its help. What the prover says goes to a file.
+$(BUILT): $(SOURCES)
+	@mkdir -p $(@D)
+	@echo 'Proving the crates and building fleet: a quarter of an hour the first time. The lines of the prover go to $(LOG).'
+	@(cd crates/fleet && rt run -- --help) > $(LOG) 2>&1 || { tail -n 20 $(LOG); exit 1; }
+	@touch $@
+
+examples: $(FLEET)
+	@sh tests/examples.sh $(FLEET)
 
 demo: $(FLEET)
 	@echo '100 agents in a warehouse, where nobody stops on the way (examples/warehouse.map, .scen):'
@@ -28,6 +45,8 @@ demo: $(FLEET)
 	@echo
 	@echo 'Two agents that await each other are stuck (examples/deadlock.hex), status 1:'
 	@$(FLEET) < examples/deadlock.hex; test $$? -eq 1
+	@echo
+	@echo 'The program is $(FLEET); make install PREFIX=$$HOME/.local puts it on the path.'
 
 picture: $(FLEET)
 	$(FLEET) auto $(WAREHOUSE) --holds examples/warehouse.holds | awk -f examples/picture.awk examples/warehouse.map - > docs/warehouse.svg

@@ -1,0 +1,36 @@
+# Help, wrong usage and statuses; and that what the README and docs/HELP.md say of the commands is what the program's help says.
+
+enter commands
+commands=$(cd "$room" && fleet --help | awk '/^Commands:/ { on = 1; next } /^$/ { on = 0 } on && $1 != "help" { print $1 }')
+check 'help lists the commands' 0 'instance check plan compile verify run rehearse auto\n' '' "echo $(echo "$commands" | tr '\n' ' ')"
+
+# Help in all its forms is that of docs/HELP.md, which is compared with the documents.
+for command in '' $commands; do
+    check "docs/HELP.md has the help of fleet $command" 0 '1\n' '' "grep -c '^\\\$ fleet ${command:+$command }--help\$' '$root/docs/HELP.md'"
+    check "fleet ${command:+$command }-h" 0 '' '' "fleet $command --help > a && fleet $command -h > b && cmp a b"
+    check "fleet help $command" 0 '' '' "fleet $command --help > a && fleet help $command > b && cmp a b"
+    [ "$command" ] || continue
+    # The words and options of the README's heading of the command, and those of its help.
+    (cd "$room" && fleet "$command" --help) | awk -v command="$command" '
+        /^Usage:/ { for (i = 5; i <= NF; i++) words = words " " $i }
+        /^ +--/ { option = $1; value = $2; values = ""
+            if (match($0, /possible values: [^]]*/)) { values = substr($0, RSTART + 17, RLENGTH - 17); gsub(/, /, "|", values) }
+            options = options " [" option " " (values == "" ? value : values) "]" }
+        END { sub(/ \[OPTIONS\]/, "", words); line = words options; gsub(/[<>]/, "", line); print "### `fleet " command line "`" }' > "$work/want.out"
+    grep "^### \`fleet $command " "$root/README.md" > "$work/out"
+    : > "$work/err"
+    : > "$work/want.err"
+    status=0
+    judge "the README's heading of $command has its words and options" "fleet $command --help" 0
+done
+
+# Wrong usage.
+hint="\nFor more information, try '--help'.\n"
+check 'an unknown command' 2 '' "error: unrecognized subcommand 'nothing'\n\nUsage: fleet <COMMAND>\n$hint" 'fleet nothing'
+check 'a word too few' 2 '' "error: the following required arguments were not provided:\n  <SCEN>\n\nUsage: fleet auto <MAP> <SCEN>\n$hint" 'fleet auto m'
+check 'a word too many' 2 '' "error: unexpected argument 'x' found\n\nUsage: fleet auto [OPTIONS] <MAP> <SCEN>\n$hint" 'fleet auto m s x'
+check 'a number too large' 2 '' "error: invalid value '65536' for '--agents <K>': 65536 is not in 0..=65535\n$hint" 'fleet auto m s --agents 65536'
+check 'a horizon of 0' 2 '' "error: invalid value '0' for '--horizon <H>': 0 is not in 1..=65535\n$hint" 'fleet auto m s --horizon 0'
+check 'a value that is none' 2 '' "error: invalid value 'x' for '--deps <DEPS>'\n  [possible values: all, last]\n$hint" 'fleet auto m s --deps x'
+check 'wrong usage before files' 2 '' "error: unexpected argument '--holds' found\n\n  tip: to pass '--holds' as a value, use '-- --holds'\n\nUsage: fleet plan <MAP> <SCEN>\n$hint" 'fleet plan m s --holds h'
+check 'a word that is no text' 2 '' 'error: a word of the command line is no text\n' "fleet \"\$(printf '\\377')\""

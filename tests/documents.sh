@@ -1,0 +1,27 @@
+# The examples of the documents, and that the documents name what the program has.
+
+document README README.md
+for page in "$root"/docs/*.md; do
+    name=$(basename "$page" .md)
+    document "$name" "docs/$name.md"
+done
+
+# Each refusal of the program has a section in docs/REFUSALS.md, with an example that ends in that refusal, and nothing else has.
+enter refusals
+sed -n 's/.*codes "\([a-z]*\)"[^"0-9]*\([0-9][0-9]*\)[^"0-9]*codes "\([A-Z][A-Za-z]*\)".*/\1 \2 \3/p' "$root/crates/fleet_io/specs/Lines.antt" |
+    sed 's/^check 6 Conflict$//' | { cat; printf 'check 6 Conflict %s\n' Vertex Swapping Cycle; printf 'memory\nfile\n'; } | grep . | sort -u > "$work/want.out"
+: > "$work/want.err"
+
+# The first words of a refusal, without its particulars.
+plain='s/^\(check 6 Conflict [A-Z][a-z]*\).*/\1/; t
+s/^\([a-z]* [0-9]* [A-Za-z]*\).*/\1/; s/^file .*/file/'
+
+sed -n 's/^### `\(.*\)`$/\1/p' "$root/docs/REFUSALS.md" | sed "$plain" | sort > "$work/out"
+: > "$work/err"
+status=0
+judge 'docs/REFUSALS.md has a section for each refusal, and no other' 'sections of docs/REFUSALS.md against crates/fleet_io/specs/Lines.antt' 0
+
+cat "$work"/REFUSALS/*.err | sed "$plain" | sort -u > "$work/out"
+grep -v '^run 2 Source$' "$work/want.out" > "$work/want" && mv "$work/want" "$work/want.out"
+status=0
+judge 'docs/REFUSALS.md has an example of each refusal but run 2' 'examples of docs/REFUSALS.md' 0

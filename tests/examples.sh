@@ -1,0 +1,94 @@
+#!/bin/sh
+# Runs a built program as a user would, and compares what it prints, what it tells on standard error and its status with what is due, to the letter:
+#     tests/examples.sh FLEET
+# Every fenced example of README.md and docs/, and what they cannot show: help, files, standard streams, the warehouse. `make examples` calls it.
+# The last line counts: `examples: N passed, M failed`.
+
+root=$(cd "$(dirname "$0")/.." && pwd) || exit 2
+case $1 in
+    /*) fleet=$1 ;;
+    *) fleet=$(pwd)/$1 ;;
+esac
+[ -f "$fleet" ] || { echo "examples: $fleet is no program" >&2; exit 2; }
+work=$(mktemp -d) || exit 2
+trap 'chmod -R u+rwx "$work"; rm -rf "$work"' EXIT
+trap 'exit 2' INT TERM HUP
+mkdir "$work/bin" "$work/room"
+cp "$fleet" "$work/bin/fleet" && chmod 755 "$work/bin/fleet" || exit 2
+PATH=$work/bin:$PATH
+LC_ALL=C
+export PATH LC_ALL
+passed=0 failed=0 skipped=0
+room=$work/room
+
+# A new folder in which commands run, with a copy of the examples.
+enter() {
+    room=$work/room/$1
+    mkdir -p "$room"
+    cp -R "$root/examples" "$room/"
+}
+
+# Runs a command line in the room.
+try() {
+    (cd "$room" && timeout 120 sh -c "$1") > "$work/out" 2> "$work/err" < /dev/null
+    status=$?
+}
+
+# Judges what the last command did: its name, its command line, and the status due. What is due on its outputs is in want.out and want.err.
+judge() {
+    why=
+    [ "$status" = "$3" ] || why="status $status, due $3"
+    cmp -s "$work/out" "$work/want.out" || why="$why; standard output"
+    cmp -s "$work/err" "$work/want.err" || why="$why; standard error"
+    if [ -z "$why" ]; then
+        passed=$((passed + 1))
+        return
+    fi
+    failed=$((failed + 1))
+    echo "FAILED $1: $why"
+    printf '    $ %s\n' "$2" | cut -c 1-200
+    differs out
+    differs err
+}
+
+# Shows where an output is not what is due.
+differs() {
+    cmp -s "$work/$1" "$work/want.$1" || diff "$work/want.$1" "$work/$1" | sed "s/^/    $1: /" | cut -c 1-200 | head -n 8
+}
+
+# check NAME STATUS OUT ERR COMMAND: the outputs as formats of printf.
+check() {
+    try "$5"
+    printf "$3" > "$work/want.out"
+    printf "$4" > "$work/want.err"
+    judge "$1" "$5" "$2"
+}
+
+skip() {
+    skipped=$((skipped + 1))
+    echo "skipped: $1"
+}
+
+# Each example of a document, in the order of the document, in one room.
+document() {
+    enter "$1"
+    mkdir "$work/$1"
+    awk -v to="$work/$1" -f "$root/tests/fenced.awk" "$root/$2"
+    for cmd in "$work/$1"/*.cmd; do
+        [ -f "$cmd" ] || continue
+        it=${cmd%.cmd}
+        command=$(cat "$cmd")
+        try "$command"
+        cp "$it.out" "$work/want.out"
+        cp "$it.err" "$work/want.err"
+        judge "$2 line $(basename "$it" | sed 's/^0*//')" "$command" "$(cat "$it.status")"
+    done
+}
+
+for section in documents commands warehouse files limits streams; do
+    . "$root/tests/$section.sh"
+done
+
+[ "$skipped" = 0 ] || echo "examples: $skipped skipped"
+echo "examples: $passed passed, $failed failed"
+[ "$failed" = 0 ]

@@ -1,0 +1,69 @@
+# Files: what is read, what is written, and what is told of those that cannot be.
+
+enter files
+M=examples/corridor.map S=examples/corridor.scen P=examples/corridor.plan B=examples/corridor.program H=examples/corridor.holds
+
+# Each file that a command reads is missing in turn. `@` stands for the missing one.
+while read -r words; do
+    check "a missing file: $words" 3 '' 'file nowhere\n' "fleet $(echo "$words" | sed 's/@/nowhere/')"
+    check "a folder: $words" 3 '' 'file examples\n' "fleet $(echo "$words" | sed 's/@/examples/')"
+    check "an empty name: $words" 3 '' 'file \n' "fleet $(echo "$words" | sed "s/@/''/")"
+done <<EOF
+instance @ $S
+instance $M @
+check @ $S $P
+check $M @ $P
+check $M $S @
+plan @ $S
+plan $M @
+compile @ $S $P out
+compile $M @ $P out
+compile $M $S @ out
+verify @ $S $B
+verify $M @ $B
+verify $M $S @
+run @ $S $B
+run $M @ $B
+run $M $S @
+run $M $S $B --holds @
+rehearse @
+rehearse $B --holds @
+auto @ $S
+auto $M @
+auto $M $S --holds @
+EOF
+check 'the first of two missing files is told' 3 '' 'file a\n' 'fleet check a b c'
+check 'files are read before any is judged' 3 '' 'file nowhere\n' "fleet auto $S $S --holds nowhere"
+check 'no OUT where a file is missing' 1 '' '' 'ls | grep out'
+
+if [ "$(id -u)" = 0 ]; then
+    skip 'files that may not be read or written: root may read and write all'
+else
+    check 'an unreadable file' 3 '' 'file shut\n' "cp $M shut && chmod 000 shut && fleet instance shut $S"
+    check 'OUT may not be written' 3 '' 'file kept\n' "echo kept > kept && chmod 444 kept && fleet compile $M $S $P kept"
+    check 'OUT stays as it was' 0 'kept\n' '' 'cat kept'
+fi
+
+# OUT.
+numbers='agents 3\nmoves 6\nawaits 4\nbytes 62\n'
+check 'OUT is written' 0 "$numbers" '' "fleet compile $M $S $P out"
+check 'OUT has the bytes of the program' 0 '' '' "cmp out $B"
+check 'OUT is written over a longer file' 0 "$numbers" '' "cat $B $B $B > out && fleet compile $M $S $P out"
+check 'OUT has those bytes alone' 0 '' '' "cmp out $B"
+check 'OUT is written over a shorter file' 0 "$numbers" '' "echo > out && fleet compile $M $S $P out && cmp out $B"
+check 'all awaits of the corridor' 0 'agents 3\nmoves 6\nawaits 5\nbytes 67\n' '' "fleet compile $M $S $P all --deps all"
+check 'OUT has them, those of agent 2 in their order' 0 ' 020 000 001 000 001 001 020 000 000 000 001 020 000 001 000 002 001\n' '' "tail -c 17 all | od -An -v -t o1 | tr -d '\\n'; echo"
+check 'a refused plan' 1 '' 'check 2 Agents\n' "echo kept > out && fleet compile $M $S $P out --agents 2"
+check 'OUT stays as it was where a plan is refused' 0 'kept\n' '' 'cat out'
+check 'no OUT where a plan is refused' 1 '' 'check 2 Agents\n' "fleet compile $M $S $P none --agents 2"
+check 'so there is none' 1 '' '' 'ls | grep none'
+check 'OUT in no folder' 3 '' 'file no/out\n' "fleet compile $M $S $P no/out"
+check 'OUT is a folder' 3 '' 'file examples\n' "fleet compile $M $S $P examples"
+check 'OUT is full' 3 '' 'file /dev/full\n' "fleet compile $M $S $P /dev/full"
+check 'OUT has a blank in its name' 0 "$numbers" '' "fleet compile $M $S $P 'a b' && cmp 'a b' $B"
+check 'a name of one dash is a file' 0 "$numbers" '' "fleet compile $M $S $P - && cmp ./- $B && rm ./-"
+check 'a file of one dash is missing' 3 '' 'file -\n' 'fleet rehearse -'
+check 'six words reach the program' 0 'agents 3\nticks 6\nchain 4\nheld 2\n' '' "fleet run $M $S $B --holds $H | tail -n 4"
+check 'eight words reach the program' 0 'agents 2\nticks 5\nchain 3\nheld 2\n' '' "fleet auto $M $S --agents 2 --deps all --holds $H | tail -n 4"
+check 'bytes are read whole' 0 '' '' "fleet rehearse $B > a; fleet < examples/corridor.hex > b; cmp a b"
+check 'no file of a reader is changed' 0 '' '' "diff -r examples '$root/examples'"

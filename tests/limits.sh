@@ -1,0 +1,46 @@
+# Inputs exactly as long as may be, and one byte or one line longer. The long files are holes.
+
+enter limits
+most=268435456
+pair='0: 1,0 0,0\n1: 2,0 0,0\n2: 3,0 1,0\n3: 3,0 2,0\nagents 2\nticks 3\nheld 0\nfinished\n'
+M=examples/pair.map S=examples/pair.scen B=examples/pair.program
+
+# blanks N: N spaces.
+cat > "$work/bin/blanks" <<'EOF'
+#!/bin/sh
+head -c "$1" /dev/zero | tr '\0' ' '
+EOF
+chmod +x "$work/bin/blanks"
+
+check 'hexadecimal as long as may be' 0 "$pair" '' "{ blanks \$(($most - \$(wc -c < examples/pair.hex))); cat examples/pair.hex; } | fleet"
+check 'hexadecimal one byte too long' 3 '' 'file -\n' "{ blanks \$(($most + 1 - \$(wc -c < examples/pair.hex))); cat examples/pair.hex; } | fleet"
+check 'a file as long as may be' 1 '' 'load 10 Trailing at 40\n' "cp $B long && truncate -s $most long && fleet rehearse long"
+check 'a file one byte too long' 3 '' 'file long\n' "truncate -s $(($most + 1)) long && fleet rehearse long"
+check 'the same for verify' 3 '' 'file long\n' "fleet verify $M $S long"
+check 'a map as long as may be' 1 '' 'map 7 Trailing\n' "cp $M map && truncate -s $most map && fleet instance map $S"
+check 'a map one byte too long' 3 '' 'file map\n' "truncate -s $(($most + 1)) map && fleet instance map $S"
+check 'a scenario as long as may be' 1 '' 'scen 3 Fields line 4\n' "cp $S scen && truncate -s $most scen && fleet instance $M scen"
+check 'a scenario one byte too long' 3 '' 'file scen\n' "truncate -s $(($most + 1)) scen && fleet instance $M scen"
+check 'a plan one byte too long' 3 '' 'file plan\n' "cp examples/pair.plan plan && truncate -s $(($most + 1)) plan && fleet check $M $S plan"
+check 'holds as long as may be' 0 'held 0\n' '' "printf '%s\n' - - - > holds && truncate -s $most holds && fleet run $M $S $B --holds holds | tail -n 1"
+check 'holds one byte too long' 3 '' 'file holds\n' "truncate -s $(($most + 1)) holds && fleet run $M $S $B --holds holds"
+
+check 'a map of 4,096 by 4,096' 0 'map 4096 4096\nground 16777216\nagents 1\n0: 0,0 4095,4095\n' '' \
+    "awk 'BEGIN { r = \".\"; while (length(r) < 4096) r = r r; print \"type t\nheight 4096\nwidth 4096\nmap\"; for (y = 0; y < 4096; y++) print r }' > wide &&
+    printf 'version 1\n0 m 4096 4096 0 0 4095 4095 0\n' > far && fleet instance wide far"
+check 'a map of 4,097' 1 '' 'map 3 Size\n' "printf 'type t\nheight 1\nwidth 4097\nmap\n' | fleet instance /dev/stdin $S"
+crowd='BEGIN { print "version 1"; for (i = 0; i < n; i++) print "0 m 1025 1", i, 0, i, 0, 0 }'
+row='BEGIN { r = "."; while (length(r) < 1024) r = r r; print "type t\nheight 1\nwidth 1025\nmap\n" r "." }'
+check '1,024 agents' 0 'agents 1024\nticks 0\nchain 0\nheld 0\n' '' "awk '$row' > row && awk -v n=1024 '$crowd' > crowd && fleet auto row crowd | tail -n 4"
+check '1,025 agents' 1 '' 'scen 10 TooMany\n' "awk -v n=1025 '$crowd' > crowd && fleet auto row crowd"
+check 'the first 1,024 of them' 0 'agents 1024\n' '' 'fleet instance row crowd --agents 1024 | grep agents'
+check 'a horizon that just does' 0 '1,0 2,0 3,0\n0,0 1,0 2,0\n' '' "fleet plan $M $S --horizon 2"
+check 'a path of 65,536 cells' 0 'conflict-free\nagents 1\nsteps 65535\n' '' \
+    "awk 'BEGIN { for (t = 0; t < 65533; t++) printf \"1,0 \"; print \"1,0 2,0 3,0\" }' | fleet check $M $S /dev/stdin --agents 1"
+check '4,194,304 lines of holds' 0 'agents 2\nticks 4194307\nchain 3\nheld 4194304\n' '' \
+    "yes 0 | head -n 4194304 > many && fleet run $M $S $B --holds many | tail -n 4"
+moves='BEGIN { m = "00"; while (length(m) < 131072) m = m m; print "4D504631 0041"; for (i = 0; i < 64; i++) print "0000000000000000 FFFF" substr(m, 3); print last }'
+check '4,194,304 moves' 0 'agents 65\nticks 65535\nheld 0\nfinished\n' '' \
+    "awk -v last=\"0000000000000000 0040 \$(awk 'BEGIN { while (n++ < 64) printf \"00\" }')\" '$moves' | fleet | tail -n 4"
+check '4,194,305 moves' 1 '' 'load 5 Total\n' "awk -v last='0000000000000000 0041' '$moves' | fleet"
+rm -rf "$room"

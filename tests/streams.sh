@@ -42,3 +42,7 @@ check 'a long trace into head' 0 "$(sed 1q "$root/examples/warehouse.trace")\n3\
 check 'a short trace into head' 0 '0: 2,0 1,0 0,0\n0\n' '' "{ fleet auto $M $S; echo \$? > status; } | head -n 1; cat status"
 check 'two refusals into one file are two lines' 0 'map 2 Header line 1\nscen 11 Fewer\n' '' \
     "fleet instance $S $S 2> log; fleet instance $M $S --agents 9 2>> log; cat log"
+
+# A file-size limit of the system ends the program by a signal, 25 of them here.
+check 'a file-size limit' 0 '153\n' '' \
+    'exec 2> said; (ulimit -c 0; ulimit -f 1; fleet auto examples/warehouse.map examples/warehouse.scen > big); echo $?'

@@ -74,7 +74,7 @@ fn auto_files<'a, F: Files, O: TraceOut>(
 /// The command `auto MAP SCEN [--agents K] [--horizon H] [--deps all|last] [--holds FILE]`: reads the files whole, plans for the map and
 /// the scenario, compiles the plan, and writes the trace of the program, under the holds, to `out`. Answers 0; a refusal is told on `err`
 /// and its status answered. No file is changed.
-pub fn run_auto<F: Files, O: TraceOut, E: TraceOut>(
+pub(crate) fn run_auto<F: Files, O: TraceOut, E: TraceOut>(
     alloc: Global,
     map: &str,
     scen: &str,

@@ -108,7 +108,7 @@ fn check_files<'a, F: Files, O: TraceOut>(
 
 /// The command `check MAP SCEN PLAN [--agents K]`: reads the files whole, and prints to `out` that the plan is free of conflict, with
 /// its agents and its steps. Answers 0; a refusal, as the plan's first fault, is told on `err` and its status answered. No file is changed.
-pub fn run_check<F: Files, O: TraceOut, E: TraceOut>(
+pub(crate) fn run_check<F: Files, O: TraceOut, E: TraceOut>(
     alloc: Global,
     map: &str,
     scen: &str,

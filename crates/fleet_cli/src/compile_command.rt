@@ -129,7 +129,7 @@ fn tell_compiled<O: TraceOut, E: TraceOut>(
 /// The command `compile MAP SCEN PLAN OUT [--agents K] [--deps all|last]`: reads the files whole, writes the bytes of the program of the
 /// plan to the file OUT once all before it succeeded, and prints its numbers to `out`. Answers 0; a refusal is told on `err` and its status
 /// answered.
-pub fn run_compile<F: Files, O: TraceOut, E: TraceOut>(
+pub(crate) fn run_compile<F: Files, O: TraceOut, E: TraceOut>(
     alloc: Global,
     map: &str,
     scen: &str,

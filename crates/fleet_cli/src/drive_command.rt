@@ -80,7 +80,7 @@ fn run_files<'a, F: Files, O: TraceOut>(
 
 /// The command `run MAP SCEN PROGRAM [--agents K] [--holds FILE]`: reads the files whole, verifies the program, and writes its trace,
 /// under the holds, to `out`. Answers 0; a refusal is told on `err` and its status answered. No file is changed.
-pub fn run_run<F: Files, O: TraceOut, E: TraceOut>(
+pub(crate) fn run_run<F: Files, O: TraceOut, E: TraceOut>(
     alloc: Global,
     map: &str,
     scen: &str,

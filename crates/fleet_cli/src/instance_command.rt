@@ -134,7 +134,7 @@ fn show_files<'a, F: Files, O: TraceOut>(
 
 /// The command `instance MAP SCEN [--agents K]`: reads both files whole, and prints to `out` the sizes of the map, its passable
 /// cells, and the start and the goal of each agent. Answers 0; a refusal is told on `err` and its status answered. No file is changed.
-pub fn run_instance<F: Files, O: TraceOut, E: TraceOut>(
+pub(crate) fn run_instance<F: Files, O: TraceOut, E: TraceOut>(
     alloc: Global,
     map: &str,
     scen: &str,

@@ -13,18 +13,11 @@ mod problem;
 mod rehearse_command;
 mod verify_command;
 
-pub use auto_command::run_auto;
-pub use check_command::run_check;
 pub use command::{run_command, run_request};
-pub use compile_command::run_compile;
-pub use drive_command::run_run;
+pub use fleet_args::{Request, WordStop, read_words};
 pub use fleet_auto::{AutoFault, auto_run};
 pub use fleet_io::{Disk, Fault, FileFault, Files, MOST_BYTES, MemFiles, read_whole};
 pub use hex_run::run_hex;
-pub use instance_command::run_instance;
-pub use plan_command::run_plan;
-pub use rehearse_command::run_rehearse;
-pub use verify_command::run_verify;
 
 #[cfg(test)]
 mod auto_tests;

@@ -67,7 +67,7 @@ fn plan_files<'a, F: Files, O: TraceOut>(
 /// The command `plan MAP SCEN [--agents K] [--horizon H]`: reads both files whole, and prints to `out` a plan in which each agent's path
 /// is the earliest against those of the agents before it. Answers 0; a refusal is told on `err` and its status answered. No
 /// file is changed.
-pub fn run_plan<F: Files, O: TraceOut, E: TraceOut>(
+pub(crate) fn run_plan<F: Files, O: TraceOut, E: TraceOut>(
     alloc: Global,
     map: &str,
     scen: &str,

@@ -57,7 +57,7 @@ fn rehearse_files<'a, F: Files, O: TraceOut>(
 /// The command `rehearse PROGRAM [--holds FILE]`: reads both files whole, and writes the rehearsal of the program, under the holds,
 /// to `out`. Answers 0 where it ends finished and 1 where it ends stuck; a refusal is told on `err` and its status answered. No
 /// file is changed.
-pub fn run_rehearse<F: Files, O: TraceOut, E: TraceOut>(
+pub(crate) fn run_rehearse<F: Files, O: TraceOut, E: TraceOut>(
     alloc: Global,
     program: &str,
     holds: Option<&str>,

@@ -99,7 +99,7 @@ fn verify_files<'a, F: Files, O: TraceOut>(
 
 /// The command `verify MAP SCEN PROGRAM [--agents K]`: reads the files whole, and prints to `out` that the program is accepted, with its
 /// numbers. Answers 0; a refusal is told on `err` and its status answered. No file is changed.
-pub fn run_verify<F: Files, O: TraceOut, E: TraceOut>(
+pub(crate) fn run_verify<F: Files, O: TraceOut, E: TraceOut>(
     alloc: Global,
     map: &str,
     scen: &str,

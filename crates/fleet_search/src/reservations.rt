@@ -59,7 +59,7 @@ impl Reservations {
     }
 
     /// From this time on nothing moves.
-    pub fn steps(&self) -> u32
+    pub(crate) fn steps(&self) -> u32
         ensures value { result ≡ steps self.now }
         ensures limit { result ≤ 65535 }
         ensures together { FitTogether self.now }
@@ -68,14 +68,14 @@ impl Reservations {
     }
 
     /// The timetable: for each cell the stays on it.
-    pub fn rows(&self) -> &[Vec<Vec<Stay>>]
+    pub(crate) fn rows(&self) -> &[Vec<Vec<Stay>>]
         ensures { HaveStays self.now result.now }
     {
         self.rows.as_slice()
     }
 
     /// The agent that stands on the cell at the time.
-    pub fn occupant(&self, time: u32, cell: Cell) -> Option<usize>
+    pub(crate) fn occupant(&self, time: u32, cell: Cell) -> Option<usize>
         ensures some { IfSome result (IsOn self.now time cell) }
         ensures none { IfNone result (IsFree self.now time cell) }
     {
@@ -117,7 +117,7 @@ impl Reservations {
     }
 
     /// Whether an agent may go from the one cell to the other in the step that begins at the time.
-    pub fn step_fits(&self, time: u32, from: Cell, to: Cell) -> bool
+    pub(crate) fn step_fits(&self, time: u32, from: Cell, to: Cell) -> bool
         requires { time < 4294967295 }
         ensures { IsTrue result ↔ StepFits self.now time from to }
     {
@@ -150,7 +150,7 @@ impl Reservations {
     }
 
     /// The least time from which on nobody stands on the cell.
-    pub fn free_from(&self, cell: Cell) -> Option<u32>
+    pub(crate) fn free_from(&self, cell: Cell) -> Option<u32>
         ensures some { IfSome result (λ s. (t : ℕ) → IsFreeFrom self.now cell t ↔ (s ≤ t)) }
         ensures none { IfNone result ((t : ℕ) → IsFreeFrom self.now cell t → ⊥) }
     {
@@ -181,7 +181,7 @@ impl Reservations {
     }
 
     /// The reserved paths.
-    pub fn into_paths(self) -> Vec<Path>
+    pub(crate) fn into_paths(self) -> Vec<Path>
         ensures { result.items ≡ self }
     {
         let Reservations {

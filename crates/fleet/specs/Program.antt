@@ -1,5 +1,6 @@
 -- What the program does with the words that it was given.
-use Rattle.std.specs.Prelude.{◌≡◌, ◌≢◌, ℕ, List, [], ◌∷◌, ◌++◌, Option, Result, Ok, Err, codes, map, string_bytes}
+use Rattle.std.specs.Prelude.{◌≡◌, ◌≢◌, ℕ, List, [], ◌∷◌, ◌++◌, ◌⊎◌, Option, Result, Ok, Err, codes, map, drop, string_bytes}
+use Rattle.std.specs.Vec.Iter.{into_iter_items}
 use Rattle.std.specs.IoError.{error_kind}
 use Rattle.std.specs.declared.alloc.Global.{Global}
 use Rattle.std.specs.declared.io.Error.{Error}
@@ -7,6 +8,7 @@ use Rattle.std.specs.declared.io.ErrorKind.{ErrorKind}
 use Rattle.std.specs.declared.io.ErrorKind.TheVariants.{OutOfMemory}
 use Rattle.std.specs.declared.string.String.{String}
 use Rattle.std.specs.declared.vec.Vec.{Vec}
+use Rattle.std.specs.declared.vec.IntoIter.{IntoIter}
 use Rattle.fleet_run.specs.Sink.{Receives}
 use Rattle.fleet_io.specs.Files.{Store, IsKept}
 use Rattle.fleet_io.specs.Output.{Output, IsUnwritten, IsTold}
@@ -17,12 +19,22 @@ use Rattle.fleet_io.specs.declared.fault.Fault.TheVariants as f
 abbrev pub no_text_line : List ℕ
 no_text_line = codes "error: a word of the command line is no text" ++ 10 ∷ []
 
+-- the words are all arguments after the first; or the arguments cannot be had, or there is no memory for the words
+abbrev pub AreWordsOf : Result (IntoIter (String Global) Global) Error → Result (Vec (String Global) Global) Error → Type 0
+AreWordsOf (Ok args) (Ok words) = words.items ≡ drop 1 (into_iter_items args)
+AreWordsOf (Ok args) (Err error) = error_kind error ≡ OutOfMemory
+AreWordsOf (Err error) (Ok words) = ⊥
+AreWordsOf (Err error) (Err told) = told ≡ error
+
 -- why the words cannot be had was told: memory ran out, or else a word is no text, which is wrong usage
 pub record TellsNoWords (kind : ErrorKind) (err : Output) (status : ℕ) : Type 0 where
   pub memory : kind ≡ OutOfMemory → (status ≡ 3) × IsTold f.Memory err
   pub usage : kind ≢ OutOfMemory → (status ≡ 2) × Receives err.before err.taken err.has_failed no_text_line
 
--- what the words ask was done; or there are none, and that alone was told
-abbrev pub RunsProgram : Result (Vec (String Global) Global) Error → Option (List ℕ) → (files after : Option Store) → Output → Output → ℕ → Type 0
-RunsProgram (Ok words) input files after out err status = RunsCommand (map string_bytes words.items) input files after out err status
+-- what the words after the first ask was done, unless there was no memory for them; or the words cannot be had. Of the last two that alone was
+-- told
+abbrev pub RunsProgram : Result (IntoIter (String Global) Global) Error → Option (List ℕ) → (files after : Option Store) → Output → Output → ℕ → Type 0
+RunsProgram (Ok args) input files after out err status =
+    RunsCommand (map string_bytes (drop 1 (into_iter_items args))) input files after out err status
+    ⊎ (TellsNoWords OutOfMemory err status × IsUnwritten out × IsKept files after)
 RunsProgram (Err error) input files after out err status = TellsNoWords (error_kind error) err status × IsUnwritten out × IsKept files after

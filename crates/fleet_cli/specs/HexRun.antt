@@ -1,5 +1,5 @@
 -- What the program does without words: the rehearsal, with nobody held, of the program that its input stands for in hexadecimal.
-use Rattle.std.specs.Prelude.{◌≡◌, ◌≢◌, ℕ, List, [], ◌⊎◌, Option, None, Ok, Err, IfSome, codes}
+use Rattle.std.specs.Prelude.{◌≡◌, ◌≢◌, ◌≤◌, ℕ, List, [], length, ◌⊎◌, Option, None, Ok, Err, IfSome, codes}
 use Rattle.fleet_model.specs.Program.{Program}
 use Rattle.fleet_model.specs.Machine.{Holds}
 use Rattle.fleet_code.specs.Spelling.{Spells}
@@ -7,6 +7,7 @@ use Rattle.fleet_code.specs.Reading.{program_at}
 use Rattle.fleet_code.specs.Hex.{bytes_of}
 use Rattle.fleet_code.specs.declared.fault.HexFault.TheVariants as h
 use Rattle.fleet_code.specs.declared.fault.LoadFault.TheVariants as l
+use Rattle.fleet_io.specs.Files.{most_bytes}
 use Rattle.fleet_io.specs.Flushed.{RehearsesFlushed}
 use Rattle.fleet_io.specs.Lines.{status_of}
 use Rattle.fleet_io.specs.Output.{Output, IsUnwritten, IsTold, WritesRehearsal}
@@ -15,9 +16,10 @@ use Rattle.fleet_run.specs.declared.run.End.TheVariants.{Finished, Stuck}
 use Rattle.fleet_io.specs.declared.fault.Fault.{Fault}
 use Rattle.fleet_io.specs.declared.fault.Fault.TheVariants as f
 
--- the text is what the input had, where the input tells
-abbrev pub IsTextOf : Option (List ℕ) → List ℕ → Type 0
-IsTextOf input text = IfSome input (λ rest. text ≡ rest)
+-- the text is what the input had, where the input tells, and is no more than is read
+pub record IsTextOf (input : Option (List ℕ)) (text : List ℕ) : Type 0 where
+  pub whole : IfSome input (λ rest. text ≡ rest)
+  pub within : length text ≤ most_bytes
 
 -- the text stands, in hexadecimal, for the bytes that spell the program
 pub record StandsFor (text : List ℕ) (p : Program) : Type 0 where

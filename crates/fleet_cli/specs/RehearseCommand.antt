@@ -5,7 +5,7 @@ use Rattle.fleet_model.specs.Machine.{Holds}
 use Rattle.fleet_code.specs.Spelling.{Spells}
 use Rattle.fleet_code.specs.Reading.{program_at}
 use Rattle.fleet_code.specs.declared.fault.LoadFault.TheVariants as l
-use Rattle.fleet_io.specs.Files.{Store, Holds as HasBytes}
+use Rattle.fleet_io.specs.Files.{Store, IsRead}
 use Rattle.fleet_io.specs.Named.{IsUnread, hold_names, AreHoldBytes}
 use Rattle.fleet_auto.specs.Trace.{hold_ticks, hold_last}
 use Rattle.fleet_io.specs.Flushed.{RehearsesFlushed}
@@ -38,13 +38,13 @@ IsRehearseFault bytes held out _ = ⊥
 -- the same of the files that have these bytes
 abbrev pub RehearsesFiles : Option Store → List ℕ → Option (List ℕ) → Output → End → Type 0
 RehearsesFiles files program holds out end =
-    (bytes held : List ℕ) × HasBytes files program bytes × AreHoldBytes files holds held × RehearsesBytes bytes held out end
+    (bytes held : List ℕ) × IsRead files program bytes × AreHoldBytes files holds held × RehearsesBytes bytes held out end
 
 -- a file was not read, of which that of the holds comes last; or both were, and their bytes are refused
 abbrev pub IsRehearseRefusal : Option Store → List ℕ → Option (List ℕ) → Output → Fault → Type 0
 IsRehearseRefusal files program holds out fault =
     (IsUnread files (program ∷ hold_names holds) fault × IsUnwritten out)
-    ⊎ ((bytes held : List ℕ) × HasBytes files program bytes × AreHoldBytes files holds held × IsRehearseFault bytes held out fault)
+    ⊎ ((bytes held : List ℕ) × IsRead files program bytes × AreHoldBytes files holds held × IsRehearseFault bytes held out fault)
 
 -- 0 where the rehearsal was written and ends finished, 1 where it was written and ends stuck, and else the status of a refusal
 -- that was told: the other output took that one line, or failed within it

@@ -1,15 +1,18 @@
 -- What a store of files holds while it is read.
 use Rattle.std.proofs.Common.{ℕ, List, [], ◌∷◌, Option, Some, None, inl, inr, refl, sym, ◌∙◌}
-use Rattle.fleet_io.specs.Files.{Store, Holds, IsUnreadable, IsKept, ChangesOnly}
+use Rattle.fleet_io.specs.Files.{Store, Holds, IsRead, IsUnreadable, IsKept, ChangesOnly}
 use Rattle.fleet_io.specs.Named.{IsReadFault, IsUnread, AreHoldBytes}
 use Rattle.fleet_io.specs.declared.fault.Fault.{Fault}
 use Rattle.fleet_io.specs.declared.fault.Fault.TheVariants as f
 
 -- what is read of a store that was only read before is what it held at first
-pub held_before : (old new : Option Store) (name bytes : List ℕ) → IsKept old new → Holds new name bytes → Holds old name bytes
+held_before : (old new : Option Store) (name bytes : List ℕ) → IsKept old new → Holds new name bytes → Holds old name bytes
 held_before None new name bytes kept h = tt
 held_before (Some files) None name bytes kept h = absurd kept
 held_before (Some files) (Some others) name bytes kept h = sym (kept name) ∙ h
+
+pub read_before : (old new : Option Store) (name bytes : List ℕ) → IsKept old new → IsRead new name bytes → IsRead old name bytes
+read_before old new name bytes kept h = record { held = held_before old new name bytes kept h.held; within = h.within }
 
 pub kept_self : (files : Option Store) → IsKept files files
 kept_self None = tt
@@ -51,8 +54,8 @@ read_fault_before old new name (f.Run x) kept h = absurd h
 pub unread_before : (old new : Option Store) (names : List (List ℕ)) (fault : Fault) → IsKept old new → IsUnread new names fault → IsUnread old names fault
 unread_before old new [] fault kept h = absurd h
 unread_before old new (name ∷ names) fault kept (inl h) = inl (read_fault_before old new name fault kept h)
-unread_before old new (name ∷ names) fault kept (inr (bytes, held, h)) = inr (bytes, held_before old new name bytes kept held, unread_before old new names fault kept h)
+unread_before old new (name ∷ names) fault kept (inr (bytes, held, h)) = inr (bytes, read_before old new name bytes kept held, unread_before old new names fault kept h)
 
 pub holds_before : (old new : Option Store) (name : Option (List ℕ)) (bytes : List ℕ) → IsKept old new → AreHoldBytes new name bytes → AreHoldBytes old name bytes
 holds_before old new None bytes kept h = h
-holds_before old new (Some n) bytes kept h = held_before old new n bytes kept h
+holds_before old new (Some n) bytes kept h = read_before old new n bytes kept h

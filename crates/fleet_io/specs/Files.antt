@@ -1,5 +1,5 @@
 -- What a store of files holds, where it tells.
-use Rattle.std.specs.Prelude.{◌≡◌, ◌≢◌, ◌<◌, ℕ, List, length, Option, Some, None, ⊤}
+use Rattle.std.specs.Prelude.{◌≡◌, ◌≢◌, ◌<◌, ◌≤◌, ℕ, List, length, Option, Some, None, ⊤}
 
 -- the bytes of each file, by its name
 abbrev pub Store : Type 0
@@ -10,9 +10,14 @@ abbrev pub Holds : Option Store → List ℕ → List ℕ → Type 0
 Holds None name bytes = ⊤
 Holds (Some files) name bytes = files name ≡ Some bytes
 
--- the most bytes of a file that are read
+-- the most bytes of a file or an input that are read
 abbrev pub most_bytes : ℕ
 most_bytes = 268435456
+
+-- the named file was read: it holds the bytes, and they are no more than are read
+pub record IsRead (files : Option Store) (name bytes : List ℕ) : Type 0 where
+  pub held : Holds files name bytes
+  pub within : length bytes ≤ most_bytes
 
 -- there is no file of this name, or it has more bytes than are read
 abbrev pub IsUnreadable : Option Store → List ℕ → Type 0

@@ -1,5 +1,6 @@
 pub mod Words
 pub mod Files
+pub mod Input
 pub mod MemFiles
 pub mod Lines
 pub mod Named

@@ -1,8 +1,16 @@
 -- Files that a command names, read one after another.
 use Rattle.std.specs.Prelude.{◌≡◌, ℕ, List, [], ◌∷◌, ◌⊎◌, Option, None, Some}
-use Rattle.fleet_io.specs.Files.{Store, Holds, IsUnreadable}
+use Rattle.fleet_io.specs.Files.{Store, IsRead, IsUnreadable}
+use Rattle.fleet_io.specs.declared.input.FileFault.{FileFault}
+use Rattle.fleet_io.specs.declared.input.FileFault.TheVariants.{OutOfMemory, Failed}
 use Rattle.fleet_io.specs.declared.fault.Fault.{Fault}
 use Rattle.fleet_io.specs.declared.fault.Fault.TheVariants as f
+
+-- what the store refuses is told as it is: want of memory so, and a failed access by the file's name
+abbrev pub IsRefusedAs : (refuses : FileFault → Type 0) → List ℕ → Fault → Type 0
+IsRefusedAs refuses name f.Memory = refuses OutOfMemory
+IsRefusedAs refuses name (f.File n) = (name ≡ n.now) × refuses Failed
+IsRefusedAs refuses name _ = ⊥
 
 -- the named file was not read: memory ran out, or it cannot be read
 abbrev pub IsReadFault : Option Store → List ℕ → Fault → Type 0
@@ -19,12 +27,12 @@ IsWriteFault name _ = ⊥
 -- of the files of these names one was not read, and those before it were
 abbrev pub IsUnread : Option Store → List (List ℕ) → Fault → Type 0
 IsUnread files [] fault = ⊥
-IsUnread files (name ∷ names) fault = IsReadFault files name fault ⊎ ((bytes : List ℕ) × Holds files name bytes × IsUnread files names fault)
+IsUnread files (name ∷ names) fault = IsReadFault files name fault ⊎ ((bytes : List ℕ) × IsRead files name bytes × IsUnread files names fault)
 
--- the files of these names hold these bytes
+-- the files of these names were read, and gave these bytes
 abbrev pub AreRead : Option Store → List (List ℕ) → List (List ℕ) → Type 0
 AreRead files [] [] = Unit {0}
-AreRead files (name ∷ names) (bytes ∷ rest) = Holds files name bytes × AreRead files names rest
+AreRead files (name ∷ names) (bytes ∷ rest) = IsRead files name bytes × AreRead files names rest
 AreRead files _ _ = ⊥
 
 -- the name of the file of the holds, where one is named
@@ -35,4 +43,4 @@ hold_names (Some name) = name ∷ []
 -- the bytes of the holds: those of the named file, or none where none is named
 abbrev pub AreHoldBytes : Option Store → Option (List ℕ) → List ℕ → Type 0
 AreHoldBytes files None bytes = bytes ≡ []
-AreHoldBytes files (Some name) bytes = Holds files name bytes
+AreHoldBytes files (Some name) bytes = IsRead files name bytes

@@ -1,6 +1,7 @@
 //! An input, read whole.
 
-ghost use Rattle.std.specs.Prelude.{◌≡◌, ◌≤◌, IfOk, IfSome, vec_len};
+ghost use Rattle.std.specs.Prelude.{◌≡◌, ◌≤◌, ◌<◌, Err, IfOk, IfSome, length};
+ghost use Rattle.fleet_io.specs.Files.{most_bytes};
 
 use std::alloc::Global;
 use std::io::Read;
@@ -22,26 +23,60 @@ pub const MOST_BYTES: usize = 268_435_456;
 /// How many bytes are asked for at a time.
 const CHUNK: usize = 16_384;
 
-/// All bytes of the reader. A read that fails or is interrupted, or more bytes than `MOST_BYTES`, is `Failed`.
-pub fn read_whole<R: Read>(alloc: Global, reader: &mut R) -> Result<Vec<u8>, FileFault>
+/// Why an input was not read to its end.
+#[derive(Clone, Copy)]
+enum InputStop {
+    OutOfMemory,
+    /// A read failed or was interrupted.
+    Unreadable,
+    /// It has more than `MOST_BYTES` bytes.
+    TooLong,
+}
+
+impl From<InputStop> for FileFault {
+    ghost use Rattle.std.specs.Prelude.{◌≡◌};
+    ghost use Rattle.fleet_io.specs.Input.{fault_of};
+
+    ghost from_gives = { λ stop fault. fault ≡ fault_of stop };
+
+    fn from(stop: InputStop) -> FileFault {
+        match stop {
+            InputStop::OutOfMemory => FileFault::OutOfMemory,
+            InputStop::Unreadable | InputStop::TooLong => FileFault::Failed,
+        }
+    }
+}
+
+/// All bytes of the reader, at most `MOST_BYTES`.
+fn read_to_limit<R: Read>(alloc: Global, reader: &mut R) -> Result<Vec<u8>, InputStop>
     ensures whole { IfOk result (λ bytes. IfSome (R.remaining reader.old) (λ rest. bytes.items ≡ rest)) }
-    ensures within { IfOk result (λ bytes. vec_len bytes ≤ MOST_BYTES) }
+    ensures within { IfOk result (λ bytes. length bytes.items ≤ most_bytes) }
+    ensures too_long { result ≡ Err InputStop.TooLong → IfSome (R.remaining reader.old) (λ rest. most_bytes < length rest) }
 {
     let mut bytes = Vec::new(alloc);
     let mut chunk = [0; CHUNK];
     'chunks: loop {
         let count = match reader.read(&mut chunk) {
             Ok(count) => count,
-            Err(_) => return Err(FileFault::Failed),
+            Err(_) => return Err(InputStop::Unreadable),
         };
         if count == 0 {
             return Ok(bytes);
         }
         if MOST_BYTES - bytes.len() < count {
-            return Err(FileFault::Failed);
+            return Err(InputStop::TooLong);
         }
         if bytes.extend_from_slice(&chunk[..count]).is_err() {
-            return Err(FileFault::OutOfMemory);
+            return Err(InputStop::OutOfMemory);
         }
     }
+}
+
+/// All bytes of the reader. A read that fails or is interrupted, or more bytes than `MOST_BYTES`, is `Failed`.
+pub fn read_whole<R: Read>(alloc: Global, reader: &mut R) -> Result<Vec<u8>, FileFault>
+    ensures whole { IfOk result (λ bytes. IfSome (R.remaining reader.old) (λ rest. bytes.items ≡ rest)) }
+    ensures within { IfOk result (λ bytes. length bytes.items ≤ most_bytes) }
+{
+    let bytes = read_to_limit(alloc, reader)?;
+    Ok(bytes)
 }

@@ -20,4 +20,6 @@ pub use named::{Texts, read_file, read_holds, read_texts, read_texts_and, write_
 pub use words::{Word, put_count, put_line};
 
 #[cfg(test)]
+mod disk_tests;
+#[cfg(test)]
 mod tests;

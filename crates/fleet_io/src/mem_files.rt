@@ -1,7 +1,7 @@
 //! Files in memory, for tests.
 
-ghost use Rattle.std.specs.Prelude.{◌≡◌, ◌≢◌, ◌≤◌, ◌<◌, ℕ, List, length, Some, None, Err, OnOk, OnErr, IfOk, IfErr, IfSome, IfNone, vec_len};
-ghost use Rattle.fleet_io.specs.Files.{Replaces};
+ghost use Rattle.std.specs.Prelude.{◌≡◌, ◌≢◌, ◌≤◌, ◌<◌, ℕ, List, length, Some, None, Err, OnOk, OnErr, IfOk, IfErr, IfSome, IfNone};
+ghost use Rattle.fleet_io.specs.Files.{most_bytes, Replaces};
 
 use crate::files::Files;
 use crate::input::{FileFault, MOST_BYTES};
@@ -56,15 +56,18 @@ impl MemFiles {
 impl Files for MemFiles {
     ghost use Rattle.std.specs.Prelude.{Some};
     ghost use Rattle.fleet_io.specs.MemFiles.{file_in};
+    ghost use Rattle.fleet_io.specs.declared.input.FileFault.TheVariants.{OutOfMemory};
 
     ghost contents = { λ s. Some (file_in s) };
+
+    ghost refuses_write = { λ _ _ fault. fault ≡ OutOfMemory };
 
     /// `Failed` only where there is no such file, or where it has more than `MOST_BYTES` bytes.
     fn read(&mut self, alloc: Global, name: &str) -> Result<Vec<u8>, FileFault>
         ensures bytes { IfOk result (λ bytes. file_in self.old name.now ≡ Some bytes.items) }
-        ensures within { IfOk result (λ bytes. vec_len bytes ≤ MOST_BYTES) }
+        ensures within { IfOk result (λ bytes. length bytes.items ≤ most_bytes) }
         ensures kept { (n : List ℕ) → file_in self.new n ≡ file_in self.old n }
-        ensures unreadable { result ≡ Err FileFault.Failed → (bytes : List ℕ) → file_in self.old name.now ≡ Some bytes → MOST_BYTES < length bytes }
+        ensures unreadable { result ≡ Err FileFault.Failed → (bytes : List ℕ) → file_in self.old name.now ≡ Some bytes → most_bytes < length bytes }
     {
         let Some(bytes) = self.get(name) else {
             return Err(FileFault::Failed);

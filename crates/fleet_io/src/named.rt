@@ -1,21 +1,22 @@
 //! Files that a command names.
 
 ghost use Rattle.std.specs.Prelude.{◌∷◌, [], IfOk, IfErr, OnOk, option_map};
-ghost use Rattle.fleet_io.specs.Files.{Holds, IsKept, ChangesOnly, Replaces};
-ghost use Rattle.fleet_io.specs.Named.{IsReadFault, IsWriteFault, IsUnread, AreRead, hold_names, AreHoldBytes};
+ghost use Rattle.fleet_io.specs.Files.{IsRead, IsKept, ChangesOnly, Replaces};
+ghost use Rattle.fleet_io.specs.Named.{IsRefusedAs, IsReadFault, IsWriteFault, IsUnread, AreRead, hold_names, AreHoldBytes};
 
 use crate::fault::Fault;
 use crate::files::Files;
 use crate::input::FileFault;
 use std::alloc::Global;
 
-/// The bytes of the file.
+/// The bytes of the file. Want of memory is `Memory`, and a file that cannot be read is `File` with its name.
 pub fn read_file<'a, F: Files>(
     alloc: Global,
     files: &mut F,
     name: &'a str,
 ) -> Result<Vec<u8>, Fault<'a>>
-    ensures bytes { IfOk result (λ bytes. Holds (F.contents files.old) name.entry.now bytes.items) }
+    ensures bytes { IfOk result (λ bytes. IsRead (F.contents files.old) name.entry.now bytes.items) }
+    ensures refused { IfErr result (IsRefusedAs (F.refuses_read files.old name.entry.now) name.entry.now) }
     ensures fault { IfErr result (IsReadFault (F.contents files.old) name.entry.now) }
     ensures kept { IsKept (F.contents files.old) (F.contents files.new) }
 {
@@ -82,9 +83,10 @@ pub fn read_holds<'a, F: Files>(
     }
 }
 
-/// Writes the bytes to the file.
+/// Writes the bytes to the file. Want of memory is `Memory`, and a write that failed is `File` with the file's name.
 pub fn write_file<'a, F: Files>(files: &mut F, name: &'a str, bytes: &[u8]) -> Result<(), Fault<'a>>
     ensures written { OnOk result (Replaces (F.contents files.old) (F.contents files.new) name.entry.now bytes.now) }
+    ensures refused { IfErr result (IsRefusedAs (F.refuses_write files.old name.entry.now) name.entry.now) }
     ensures fault { IfErr result (IsWriteFault name.entry.now) }
     ensures others { ChangesOnly (F.contents files.old) (F.contents files.new) name.entry.now }
 {

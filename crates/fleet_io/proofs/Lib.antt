@@ -1,4 +1,5 @@
 pub mod FlushLemmas
+pub mod RowLemmas
 pub mod WordLemmas
 pub mod FileLemmas
 pub mod DrivenLemmas

@@ -1,3 +1,4 @@
+pub mod Row
 pub mod Words
 pub mod Files
 pub mod Input

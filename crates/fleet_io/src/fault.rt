@@ -2,9 +2,11 @@
 
 ghost use Rattle.std.specs.Prelude.{◌≡◌, ◌<◌, ◌++◌, false, length, map};
 ghost use Rattle.fleet_run.specs.Sink.{TakesAll, Receives};
+ghost use Rattle.fleet_io.specs.Row.{Gathers};
 ghost use Rattle.fleet_io.specs.Words.{word_text, line_text, next_words};
 ghost use Rattle.fleet_io.specs.Lines.{named, named_at, named_by, map_words, scen_words, text_words, pair_words, cycle_words, conflict_words, check_words, search_words, hex_words, load_words, compile_words, action_text, unordered_words, verify_words, run_words, line_of, status_of};
 
+use crate::row::Row;
 use crate::words::{Word, put_line, put_next_word, put_words};
 use fleet_adg::CompileFault;
 use fleet_auto::AutoFault;
@@ -12,7 +14,7 @@ use fleet_code::{HexFault, LoadFault};
 use fleet_grid::MapFault;
 use fleet_model::{ActionId, Cell, Visit};
 use fleet_plan::{Conflict, PlanFault, TextFault};
-use fleet_run::{OutFault, RunFault, TraceOut, put_all};
+use fleet_run::{OutFault, RunFault, TraceOut};
 use fleet_scen::ScenFault;
 use fleet_search::PlanStop;
 use fleet_verify::VerifyFault;
@@ -359,28 +361,32 @@ fn put_compile<O: TraceOut>(out: &mut O, fault: CompileFault) -> Result<(), OutF
     }
 }
 
-/// A space and a word for each action.
-fn put_actions<O: TraceOut>(out: &mut O, actions: &[ActionId]) -> Result<(), OutFault>
+/// Adds a space and a word for each action to the row.
+fn put_actions<O: TraceOut>(
+    row: &mut Row,
+    out: &mut O,
+    actions: &[ActionId],
+) -> Result<(), OutFault>
     requires { O.has_failed out.old ≡ false }
-    ensures { TakesAll (O.taken out.old) (O.taken out.new) (O.has_failed out.new) result
-        (next_words (map action_text actions.now)) }
+    ensures { Gathers (O.taken out.old) (O.taken out.new) (O.has_failed out.new) result row.old row.new (next_words (map action_text actions.now)) }
 {
     for action in actions {
-        put_next_word(out, Word::Of(action.agent, action.number))?;
+        put_next_word(row, out, Word::Of(action.agent, action.number))?;
     }
     Ok(())
 }
 
-/// Writes a line of first words, and a word for each action.
+/// Writes a line of first words, and a word for each action, in pieces as large as a row.
 fn put_ring<O: TraceOut>(out: &mut O, first: &[Word<'_>], ring: &[ActionId]) -> Result<(), OutFault>
     requires working { O.has_failed out.old ≡ false }
     requires some { 0 < length first.now }
     ensures { TakesAll (O.taken out.old) (O.taken out.new) (O.has_failed out.new) result
         (line_text (map word_text first.now ++ map action_text ring.now)) }
 {
-    put_words(out, first)?;
-    put_actions(out, ring)?;
-    put_all(out, b"\n")
+    let mut row = Row::new();
+    put_words(&mut row, out, first)?;
+    put_actions(&mut row, out, ring)?;
+    row.end_line(out)
 }
 
 /// Writes the line of two visits of a cell without order.

@@ -8,6 +8,7 @@ mod flush;
 mod input;
 mod mem_files;
 mod named;
+mod row;
 mod words;
 
 pub use disk::Disk;

@@ -1,7 +1,9 @@
 //! Files in memory, lines of refusals, and flushes.
 
 use super::*;
-use fleet_run::{RunFault, TraceOut, VecOut};
+use fleet_model::ActionId;
+use fleet_run::{OutFault, RunFault, TraceOut, VecOut};
+use fleet_verify::VerifyFault;
 use std::alloc::Global;
 use std::process::Abort;
 use std::test::Fail;
@@ -53,4 +55,60 @@ fn other_refusals_are_told(rt: HostRuntime) {
     for (fault, told, status) in rows {
         expect_told(&rt, alloc, &Fault::Run(fault), told, status);
     }
+}
+
+/// A sink that counts the pieces and the bytes that it takes.
+#[derive(Drop)]
+struct Counter {
+    pieces: u64,
+    bytes: u64,
+}
+
+impl TraceOut for Counter {
+    ghost use Rattle.std.specs.Prelude.{None, false, true};
+
+    ghost taken = { λ _. None };
+
+    ghost has_failed = { λ _. false };
+
+    ghost is_flushed = { λ _. true };
+
+    fn put(&mut self, bytes: &[u8]) -> Result<usize, OutFault> {
+        self.pieces = self.pieces.saturating_add(1);
+        self.bytes = self.bytes.saturating_add(bytes.len() as u64);
+        Ok(bytes.len())
+    }
+
+    fn flush(&mut self) -> Result<(), OutFault> {
+        Ok(())
+    }
+
+    fn failed(&self) -> bool {
+        false
+    }
+}
+
+/// The line of the refusal has so many bytes, and goes to the sink in at most so many pieces.
+fn expect_pieces(rt: &impl Abort, fault: &Fault<'_>, bytes: u64, most: u64) {
+    let mut err = Counter {
+        pieces: 0,
+        bytes: 0,
+    };
+    fault.tell(&mut err);
+    assert_eq!(rt; err.bytes, bytes);
+    assert!(rt; err.pieces <= most);
+}
+
+#[test]
+fn a_refusal_is_one_piece(rt: HostRuntime) -> Result<(), Fail> {
+    expect_pieces(&rt, &Fault::Memory, 7, 1);
+    expect_pieces(&rt, &Fault::File("no/such/file"), 18, 1);
+    expect_pieces(&rt, &Fault::Run(RunFault::Source { tick: 7 }), 20, 1);
+    let mut ring = Vec::new(rt.alloc());
+    for number in 1..100_000 {
+        ring.push(ActionId { agent: 0, number })?;
+    }
+    let cyclic = Fault::Verify(VerifyFault::Cyclic(ring));
+    expect_pieces(&rt, &cyclic, 788_902, 200);
+    Ok(())
 }

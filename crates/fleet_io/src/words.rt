@@ -2,10 +2,12 @@
 
 ghost use Rattle.std.specs.Prelude.{◌≡◌, ◌++◌, ◌∷◌, [], false, map, decimal};
 ghost use Rattle.fleet_run.specs.Sink.{TakesAll};
+ghost use Rattle.fleet_io.specs.Row.{Gathers};
 ghost use Rattle.fleet_io.specs.Words.{cell_text, numbered_text, word_text, spaced, line_text, count_line};
 
+use crate::row::Row;
 use fleet_model::Cell;
-use fleet_run::{OutFault, TraceOut, put_all, write_number};
+use fleet_run::{OutFault, TraceOut, write_number};
 
 /// A word of a line.
 #[derive(Clone, Copy)]
@@ -22,90 +24,103 @@ pub enum Word<'a> {
 /// How many digits the longest number has.
 const DIGITS: usize = 20;
 
-fn put_number<O: TraceOut>(out: &mut O, number: u64) -> Result<(), OutFault>
+/// Adds a number in base ten to the row.
+fn put_number<O: TraceOut>(row: &mut Row, out: &mut O, number: u64) -> Result<(), OutFault>
     requires { O.has_failed out.old ≡ false }
-    ensures { TakesAll (O.taken out.old) (O.taken out.new) (O.has_failed out.new) result (decimal number) }
+    ensures { Gathers (O.taken out.old) (O.taken out.new) (O.has_failed out.new) result row.old row.new (decimal number) }
 {
     let mut digits = [0; DIGITS];
     let start = write_number(number, &mut digits, DIGITS);
-    put_all(out, &digits[start..])
+    row.add(out, &digits[start..])
 }
 
 /// A number and a byte after it.
-fn put_number_then<O: TraceOut>(out: &mut O, number: u64, after: u8) -> Result<(), OutFault>
+fn put_number_then<O: TraceOut>(
+    row: &mut Row,
+    out: &mut O,
+    number: u64,
+    after: u8,
+) -> Result<(), OutFault>
     requires { O.has_failed out.old ≡ false }
-    ensures { TakesAll (O.taken out.old) (O.taken out.new) (O.has_failed out.new) result (decimal number ++ after ∷ []) }
+    ensures { Gathers (O.taken out.old) (O.taken out.new) (O.has_failed out.new) result row.old row.new (decimal number ++ after ∷ []) }
 {
-    put_number(out, number)?;
-    put_all(out, &[after])
+    put_number(row, out, number)?;
+    row.add(out, &[after])
 }
 
 /// A cell as `x,y`.
-fn put_cell<O: TraceOut>(out: &mut O, cell: Cell) -> Result<(), OutFault>
+fn put_cell<O: TraceOut>(row: &mut Row, out: &mut O, cell: Cell) -> Result<(), OutFault>
     requires { O.has_failed out.old ≡ false }
-    ensures { TakesAll (O.taken out.old) (O.taken out.new) (O.has_failed out.new) result (cell_text cell) }
+    ensures { Gathers (O.taken out.old) (O.taken out.new) (O.has_failed out.new) result row.old row.new (cell_text cell) }
 {
     let Cell { x, y } = cell;
-    put_number_then(out, x as u64, b',')?;
-    put_number(out, y as u64)
+    put_number_then(row, out, x as u64, b',')?;
+    put_number(row, out, y as u64)
 }
 
 /// An agent and a number of it, as `agent:number`.
-fn put_of<O: TraceOut>(out: &mut O, agent: u16, number: u32) -> Result<(), OutFault>
+fn put_of<O: TraceOut>(row: &mut Row, out: &mut O, agent: u16, number: u32) -> Result<(), OutFault>
     requires { O.has_failed out.old ≡ false }
-    ensures { TakesAll (O.taken out.old) (O.taken out.new) (O.has_failed out.new) result (numbered_text agent number) }
+    ensures { Gathers (O.taken out.old) (O.taken out.new) (O.has_failed out.new) result row.old row.new (numbered_text agent number) }
 {
-    put_number_then(out, agent as u64, b':')?;
-    put_number(out, number as u64)
+    put_number_then(row, out, agent as u64, b':')?;
+    put_number(row, out, number as u64)
 }
 
-fn put_word<O: TraceOut>(out: &mut O, word: Word<'_>) -> Result<(), OutFault>
+fn put_word<O: TraceOut>(row: &mut Row, out: &mut O, word: Word<'_>) -> Result<(), OutFault>
     requires { O.has_failed out.old ≡ false }
-    ensures { TakesAll (O.taken out.old) (O.taken out.new) (O.has_failed out.new) result (word_text word.entry) }
+    ensures { Gathers (O.taken out.old) (O.taken out.new) (O.has_failed out.new) result row.old row.new (word_text word.entry) }
 {
     match word {
-        Word::Text(text) => put_all(out, text.as_bytes()),
-        Word::Number(number) => put_number(out, number),
-        Word::Label(number) => put_number_then(out, number, b':'),
-        Word::Place(cell) => put_cell(out, cell),
-        Word::Of(agent, number) => put_of(out, agent, number),
+        Word::Text(text) => row.add(out, text.as_bytes()),
+        Word::Number(number) => put_number(row, out, number),
+        Word::Label(number) => put_number_then(row, out, number, b':'),
+        Word::Place(cell) => put_cell(row, out, cell),
+        Word::Of(agent, number) => put_of(row, out, agent, number),
     }
 }
 
 /// A space, and the word.
-pub fn put_next_word<O: TraceOut>(out: &mut O, word: Word<'_>) -> Result<(), OutFault>
+pub fn put_next_word<O: TraceOut>(
+    row: &mut Row,
+    out: &mut O,
+    word: Word<'_>,
+) -> Result<(), OutFault>
     requires { O.has_failed out.old ≡ false }
-    ensures { TakesAll (O.taken out.old) (O.taken out.new) (O.has_failed out.new) result
-        (32 ∷ word_text word.entry) }
+    ensures { Gathers (O.taken out.old) (O.taken out.new) (O.has_failed out.new) result row.old row.new (32 ∷ word_text word.entry) }
 {
-    put_all(out, b" ")?;
-    put_word(out, word)
+    row.add(out, b" ")?;
+    put_word(row, out, word)
 }
 
-/// Writes the words with one space between two, and no line's end.
-pub fn put_words<O: TraceOut>(out: &mut O, words: &[Word<'_>]) -> Result<(), OutFault>
+/// Adds the words to the row, with one space between two, and no line's end.
+pub fn put_words<O: TraceOut>(
+    row: &mut Row,
+    out: &mut O,
+    words: &[Word<'_>],
+) -> Result<(), OutFault>
     requires { O.has_failed out.old ≡ false }
-    ensures { TakesAll (O.taken out.old) (O.taken out.new) (O.has_failed out.new) result
-        (spaced (map word_text words.now)) }
+    ensures { Gathers (O.taken out.old) (O.taken out.new) (O.has_failed out.new) result row.old row.new (spaced (map word_text words.now)) }
 {
     let Some((first, rest)) = words.split_first() else {
         return Ok(());
     };
-    put_word(out, *first)?;
+    put_word(row, out, *first)?;
     for word in rest {
-        put_next_word(out, *word)?;
+        put_next_word(row, out, *word)?;
     }
     Ok(())
 }
 
-/// Writes the words as a line.
+/// Writes the words as a line, in one piece where a row has room for it.
 pub fn put_line<O: TraceOut>(out: &mut O, words: &[Word<'_>]) -> Result<(), OutFault>
     requires { O.has_failed out.old ≡ false }
     ensures { TakesAll (O.taken out.old) (O.taken out.new) (O.has_failed out.new) result
         (line_text (map word_text words.now)) }
 {
-    put_words(out, words)?;
-    put_all(out, b"\n")
+    let mut row = Row::new();
+    put_words(&mut row, out, words)?;
+    row.end_line(out)
 }
 
 /// Writes a word and its number, in a line.

@@ -113,39 +113,3 @@ fn steps_that_refuse_are_told(rt: HostRuntime) -> Result<(), Fail> {
     let told = b"run 3 Hold line 2\n".as_slice();
     expect_auto(&rt, rt.alloc(), line, holds, printed, told, 1)
 }
-
-/// The trace of 128 agents in a row, each of which goes 128 cells east once the one before it has made room.
-fn train_trace(alloc: Global) -> Result<String, Fail> {
-    let mut text = String::new(alloc);
-    for t in 0..256u16 {
-        write!(text, "{t}:")?;
-        for k in 0..128u16 {
-            let gone = if t < k { 0 } else { (t - k).min(128) };
-            write!(text, " {},0", 127 - k + gone)?;
-        }
-        text.push('\n')?;
-    }
-    text.push_str("agents 128\nticks 255\nchain 255\nheld 0\n")?;
-    Ok(text)
-}
-
-#[test]
-fn a_train_leaves_one_by_one(rt: HostRuntime) -> Result<(), Fail> {
-    let row = "................................".repeat(rt.alloc(), 8)?;
-    let map = format!(in rt.alloc(); "type octile\nheight 1\nwidth 256\nmap\n{row}\n")?;
-    let mut scen = String::from_str(rt.alloc(), "version 1\n")?;
-    for k in 0..128u16 {
-        write!(scen, "0 m 256 1 {} 0 {} 0 128\n", 127 - k, 255 - k)?;
-    }
-    let mut files = MemFiles::new(rt.alloc());
-    add(&mut files, "map", map.as_bytes()).ok_or("memory")?;
-    add(&mut files, "scen", scen.as_bytes()).ok_or("memory")?;
-    let mut out = VecOut::new(rt.alloc());
-    let mut err = VecOut::new(rt.alloc());
-    let status = status_of(rt.alloc(), "auto map scen", &mut files, &mut out, &mut err);
-    assert_eq!(rt; status, Some(0));
-    let text = train_trace(rt.alloc())?;
-    assert!(rt; out.bytes() == text.as_bytes());
-    assert!(rt; err.bytes().is_empty());
-    Ok(())
-}

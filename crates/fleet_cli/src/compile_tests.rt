@@ -33,6 +33,8 @@ const TWO_MAP: &[u8] = b"type octile\nheight 1\nwidth 2\nmap\n..\n";
 
 const TWO_SCEN: &[u8] = b"version 1\n0 m 2 1 0 0 0 0 0\n";
 
+const THERE_AND_BACK: &[u8] = b"0,0 1,0 0,0\n";
+
 /// The words of this line print this, and the file `out` then has these bytes in hexadecimal; or they tell this, with status 1, and there
 /// is no such file.
 fn expect_compiled(
@@ -79,7 +81,7 @@ fn plans_are_compiled(rt: HostRuntime) -> Result<(), Fail> {
     let last = b"agents 3\nmoves 6\nawaits 4\nbytes 62\n".as_slice();
     let back = b"agents 1\nmoves 2\nawaits 0\nbytes 18\n".as_slice();
     let there = b"4D504631 0001 0000 0000 0000 0000 0002 01 03".as_slice();
-    let rows: [(&str, &[u8], &[u8], &[u8]); 6] = [
+    let rows: [(&str, &[u8], &[u8], &[u8]); 8] = [
         (
             "compile base.map base.scen plan out",
             PAIR_PLAN,
@@ -112,7 +114,19 @@ fn plans_are_compiled(rt: HostRuntime) -> Result<(), Fail> {
         ),
         (
             "compile two.map two.scen plan out",
-            b"0,0 1,0 0,0\n",
+            THERE_AND_BACK,
+            back,
+            there,
+        ),
+        (
+            "compile two.map two.scen plan out --deps all",
+            THERE_AND_BACK,
+            back,
+            there,
+        ),
+        (
+            "compile two.map two.scen plan out --deps last",
+            THERE_AND_BACK,
             back,
             there,
         ),

@@ -1,7 +1,7 @@
 //! Rehearsals under holds of files, and stores that fail.
 
 use super::*;
-use crate::test_support::{LATE_TEXT, PAIR_TEXT, base_files, status_of};
+use crate::test_support::{LATE_TEXT, PAIR_TEXT, add, base_files, status_of};
 use fleet_run::VecOut;
 use std::alloc::Global;
 use std::process::Abort;
@@ -64,7 +64,7 @@ fn other_lines_are_refused(rt: HostRuntime) -> Result<(), Fail> {
     )
 }
 
-/// A store whose n-th read fails.
+/// A store whose n-th read or write fails.
 #[derive(Drop)]
 struct FailingFiles {
     files: MemFiles,
@@ -85,19 +85,24 @@ impl Files for FailingFiles {
     }
 
     fn write(&mut self, name: &str, bytes: &[u8]) -> Result<(), FileFault> {
+        if self.left == 0 {
+            return Err(FileFault::Failed);
+        }
+        self.left -= 1;
         self.files.write(name, bytes)
     }
 }
 
-/// The command, over files of which so many can be read, names the file.
-fn expect_unread(
+/// The command, over files that can be read or written so many times, names the file.
+fn expect_failed(
     rt: &impl Abort,
     alloc: Global,
     line: &str,
     left: u8,
     told: &[u8],
 ) -> Result<(), Fail> {
-    let files = base_files(alloc, b"0\n").ok_or("memory")?;
+    let mut files = base_files(alloc, b"0\n").ok_or("memory")?;
+    add(&mut files, "plan", b"1,0 2,0 3,0\n0,0 1,0 2,0\n").ok_or("memory")?;
     let mut files = FailingFiles { files, left };
     let mut out = VecOut::new(alloc);
     let mut err = VecOut::new(alloc);
@@ -108,15 +113,16 @@ fn expect_unread(
 }
 
 #[test]
-fn files_that_cannot_be_read_are_named(rt: HostRuntime) -> Result<(), Fail> {
-    let rows: [(&str, u8, &[u8]); 4] = [
+fn files_that_fail_are_named(rt: HostRuntime) -> Result<(), Fail> {
+    let rows: [(&str, u8, &[u8]); 5] = [
         ("rehearse pair --holds holds", 0, b"file pair\n"),
         ("rehearse pair --holds holds", 1, b"file holds\n"),
         ("instance base.map base.scen", 0, b"file base.map\n"),
         ("instance base.map base.scen", 1, b"file base.scen\n"),
+        ("compile base.map base.scen plan out", 3, b"file out\n"),
     ];
     for (line, left, told) in rows {
-        expect_unread(&rt, rt.alloc(), line, left, told)?;
+        expect_failed(&rt, rt.alloc(), line, left, told)?;
     }
     Ok(())
 }

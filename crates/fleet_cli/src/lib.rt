@@ -32,6 +32,8 @@ mod file_tests;
 #[cfg(test)]
 mod flush_tests;
 #[cfg(test)]
+mod large_tests;
+#[cfg(test)]
 mod memory_tests;
 #[cfg(test)]
 mod plan_tests;

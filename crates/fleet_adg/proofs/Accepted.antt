@@ -6,7 +6,7 @@ use Rattle.std.proofs.lemmas.List.Elements.{All-contains}
 use Rattle.fleet_model.specs.declared.geometry.Place.{Place}
 use Rattle.fleet_model.specs.declared.program.Await.{Await}
 use Rattle.fleet_model.specs.declared.program.ActionId.{ActionId}
-use Rattle.fleet_adg.specs.declared.deps.Deps.{Deps}
+use Rattle.fleet_model.specs.declared.deps.Deps.{Deps}
 use Rattle.fleet_model.specs.Geometry.{place_of}
 use Rattle.fleet_model.specs.Program.{path}
 use Rattle.fleet_model.specs.Chain.{IsNumbering}
@@ -44,7 +44,7 @@ rank-positive n x d = omega arith
 step_of : Plan → ActionId → ℕ
 step_of plan a = get_or (changes plan a.agent (steps plan)) (a.number - 1) 0
 
-number_of : Plan → ActionId → ℕ
+pub number_of : Plan → ActionId → ℕ
 number_of plan a = rank (length plan) (step_of plan a) (depth (ahead plan (step_of plan a)) (length plan) a.agent)
 
 number_of-at : (plan : Plan) (a : ActionId) (x : ℕ) → step_of plan a ≡ x → number_of plan a ≡ rank (length plan) x (depth (ahead plan x) (length plan) a.agent)
@@ -59,7 +59,7 @@ module _ (passable : Place → Bool) (tasks : List Task) (plan : Plan) (free : I
   number-lt a b x y ex ey ha hb (inr (e, c, there)) =
       omega (arith, number_of-at plan a x ex, number_of-at plan b x (ey ∙ e), rank-depth (length plan) x (depth (ahead plan x) (length plan) a.agent) (depth (ahead plan x) (length plan) b.agent) (depth_of-ahead passable tasks plan free x a.agent b.agent ha hb c there))
 
-  numbering : IsNumbering (compiled plan deps) (number_of plan)
+  pub numbering : IsNumbering (compiled plan deps) (number_of plan)
   unfolding step_of number_of
   numbering = record {
     positive = λ a h. rank-positive (length plan) (step_of plan a) (depth (ahead plan (step_of plan a)) (length plan) a.agent);

@@ -11,7 +11,7 @@ use Rattle.fleet_model.specs.declared.program.Await.{Await}
 use Rattle.fleet_model.specs.declared.program.Action.{Action}
 use Rattle.fleet_model.specs.Machine.{indices}
 use Rattle.fleet_model.specs.Program.{origin}
-use Rattle.fleet_adg.specs.declared.deps.Deps.{Deps}
+use Rattle.fleet_model.specs.declared.deps.Deps.{Deps}
 use Rattle.fleet_plan.specs.Plan.{Plan, cell_at, cell_of}
 use Rattle.fleet_adg.specs.Compiled.{changes_in, leaves, await_of, last_below, leaver, last_leaving_by, last_leaving, leavings, action_in}
 use Rattle.fleet_adg.specs.Leavings.{with_leaving, noted}

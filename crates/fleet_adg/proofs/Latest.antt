@@ -5,7 +5,7 @@ use Rattle.std.proofs.lemmas.List.Elements.{All-from_recursion, All-filter, filt
 use Rattle.fleet_model.specs.declared.geometry.Cell.{Cell}
 use Rattle.fleet_model.specs.declared.geometry.Place.{Place}
 use Rattle.fleet_model.specs.declared.program.Await.{Await}
-use Rattle.fleet_adg.specs.declared.deps.Deps.{Deps}
+use Rattle.fleet_model.specs.declared.deps.Deps.{Deps}
 use Rattle.fleet_model.specs.Machine.{indices}
 use Rattle.fleet_model.specs.declared.task.Task.{Task}
 use Rattle.fleet_plan.specs.Plan.{Plan, cell_of, IsConflictFree}
@@ -56,12 +56,12 @@ unfolding last_leaving_by await_of
 last_by-is plan q t j w b e =
     let s = option_map-some (λ y. await_of plan y j) (last_below (λ y. leaves plan q y j) t) w e in
     let l = last_below-some (λ y. leaves plan q y j) t s.0 s.1 in
-    subst (IsLastLeaving plan q t) s.2 (record { agent = b; step = s.0; before = l.below; leaves = l.passes; last = λ y p r. false_from_ne_true (leaves plan q y j) (l.last y p r); count = refl })
+    subst (IsLastLeaving plan q t) s.2 (record { agent = b; step = s.0; before = l.below; left = l.passes; last = λ y p r. false_from_ne_true (leaves plan q y j) (l.last y p r); count = refl })
 
 last_by-from : (plan : Plan) (q : Cell) (t : ℕ) (w : Await) → IsLastLeaving plan q t w → last_leaving_by plan q t w.agent ≡ Some w
 unfolding last_leaving_by await_of
 last_by-from plan q t w h =
-    let m = last_below-at (λ y. leaves plan q y w.agent) t h.step h.before h.leaves in
+    let m = last_below-at (λ y. leaves plan q y w.agent) t h.step h.before h.left in
     let same : m.0 ≡ h.step = elim (cases_lt h.step m.0) [ inl l ↦ absurd (both_ways (leaves plan q m.0 w.agent) (h.last m.0 l m.3.below) m.3.passes) | inr l ↦ omega (arith, m.2) ] in
     let made : record { agent = w.agent; count = moves_by plan w.agent (h.step + 1) } ≡ w = (λ i. record { agent = w.agent; count = sym h.count i }) in
     ap (option_map (λ y. await_of plan y w.agent)) (m.1 ∙ ap Some same) ∙ ap Some made

@@ -8,9 +8,9 @@ pub mod Pass
 pub mod Folds
 pub mod Rows
 pub mod SweepSteps
-pub mod WorkedPrograms
 pub mod Pigeon
 pub mod Depth
 pub mod Follow
 pub mod Listing
 pub mod Accepted
+pub mod Alike

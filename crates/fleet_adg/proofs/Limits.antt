@@ -8,7 +8,7 @@ use Rattle.std.proofs.lemmas.List.Sums.{sum_by-cons}
 use Rattle.fleet_model.specs.declared.geometry.Cell.{Cell}
 use Rattle.fleet_model.specs.declared.program.Await.{Await}
 use Rattle.fleet_model.specs.declared.program.AgentProgram.{AgentProgram}
-use Rattle.fleet_adg.specs.declared.deps.Deps.{Deps}
+use Rattle.fleet_model.specs.declared.deps.Deps.{Deps}
 use Rattle.fleet_model.specs.Program.{origin, awaits_of, total_moves, IsCell, AreAwaits, IsWellFormed}
 use Rattle.fleet_model.specs.Machine.{indices}
 use Rattle.fleet_plan.specs.Plan.{Plan, cell_at, cell_of, steps, IsPath, IsWithinLimits}

@@ -7,7 +7,7 @@ use Rattle.std.proofs.lemmas.List.Elements.{All-push, All-weaker, All-nil, Conta
 use Rattle.fleet_model.specs.declared.geometry.Cell.{Cell}
 use Rattle.fleet_model.specs.declared.geometry.Place.{Place}
 use Rattle.fleet_model.specs.declared.program.Visit.{Visit}
-use Rattle.fleet_adg.specs.declared.deps.Deps.{Deps}
+use Rattle.fleet_model.specs.declared.deps.Deps.{Deps}
 use Rattle.fleet_model.specs.Geometry.{is_same_cell, place_of}
 use Rattle.fleet_model.specs.Program.{awaits_of, path}
 use Rattle.fleet_model.specs.Visit.{IsVisitOf, ListsVisits, Adjacent, ComesAfterByAwait, IsOrderly}
@@ -20,7 +20,8 @@ use Rattle.fleet_model.proofs.Cells.{is_same_cell-true, is_same_cell-eq}
 use Rattle.fleet_model.proofs.Places.{place_of-injective}
 use Rattle.fleet_adg.proofs.Follow.{only_one}
 use Rattle.fleet_adg.proofs.Entry.{entry-complete}
-use Rattle.fleet_adg.proofs.Programs.{length-compiled, moves-compiled, action_in-step, path-compiled}
+use Rattle.fleet_model.proofs.Visits.{goes_next, goes_enters}
+use Rattle.fleet_adg.proofs.Programs.{length-compiled, moves-compiled, action_in-step, path-compiled, goes-compiled}
 
 -- ---- lists
 
@@ -187,7 +188,7 @@ module _ (passable : Place → Bool) (tasks : List Task) (plan : Plan) (free : I
     | inr ne ↦
         let w = entry-complete passable tasks plan free deps i t s j bi bj ne l (was ∙ sym on) (λ u k p r b e. left u k p r b (e ∙ on)) in
         let a = action_in-step plan deps i t bi (changes_in-end plan i t c) c in
-        inr (w.0, subst (λ zs. Contains zs w.0) (sym a.awaits ∙ ap (awaits_of (compiled plan deps) i) (sym (moves_by-yes plan i t c))) w.1, w.2, rw add-one w.3)
+        inr (w.0, subst (λ zs. Contains zs w.0) (sym a.awaits ∙ ap (awaits_of (compiled plan deps) i) (sym (moves_by-yes plan i t c))) w.1, w.2, subst (λ m. m ≤ w.0.count) (sym (goes_next (compiled plan deps) j (moves_by plan j s) (goes-compiled plan deps j bj))) (rw add-one w.3))
   ]
 
   -- agent i comes to q in step t
@@ -239,6 +240,7 @@ module _ (passable : Place → Bool) (tasks : List Task) (plan : Plan) (free : I
   is_visit q v h = record {
     agent = omega (arith, h.agent, length-compiled plan deps);
     position = omega (arith, h.time.3, moves-compiled plan deps v.agent h.agent, moves_by-mono plan v.agent h.time.0 (steps plan) h.time.1);
+    entered = goes_enters (compiled plan deps) v.agent v.position (goes-compiled plan deps v.agent h.agent) (omega (arith, h.time.3, moves-compiled plan deps v.agent h.agent, moves_by-mono plan v.agent h.time.0 (steps plan) h.time.1));
     place = ap (path (compiled plan deps) v.agent) h.time.3 ∙ path-compiled passable tasks plan free deps v.agent h.time.0 h.agent h.time.1 ∙ ap place_of h.time.2;
   }
 

@@ -3,7 +3,7 @@ use Rattle.std.proofs.Common.{◌≡◌, ℕ, zero, suc, ◌+◌, ◌-◌, ◌<�
 use Rattle.std.specs.Option.{option_map_or}
 use Rattle.std.proofs.lemmas.Bool.{cases_lt, cases_Bool, lt-ltb, le-ltb}
 use Rattle.std.proofs.lemmas.Int.{ints}
-use Rattle.std.proofs.lemmas.Option.{slice_get-map, slice_get-get_or, slice_get_past}
+use Rattle.std.proofs.lemmas.Option.{same_Some, slice_get-map, slice_get-get_or, slice_get_past}
 use Rattle.std.proofs.lemmas.List.{map_push, take-map, take_all, take-append-le, length-map}
 use Rattle.std.proofs.lemmas.List.FromFn.{length-map-range_with_len, get_or-map-range_with_len}
 use Rattle.fleet_model.specs.declared.geometry.Cell.{Cell}
@@ -12,12 +12,16 @@ use Rattle.fleet_model.specs.declared.geometry.Dir.{Dir}
 use Rattle.fleet_model.specs.declared.geometry.Dir.TheVariants.{North, East, South, West}
 use Rattle.fleet_model.specs.declared.program.Action.{Action}
 use Rattle.fleet_model.specs.declared.program.AgentProgram.{AgentProgram}
-use Rattle.fleet_adg.specs.declared.deps.Deps.{Deps}
-use Rattle.fleet_model.specs.Geometry.{place_of, moved}
-use Rattle.fleet_model.specs.Program.{origin, start_of, goal_of, actions_of, moves, awaits_of, walked, path}
+use Rattle.fleet_model.specs.declared.deps.Deps.{Deps}
+use Rattle.fleet_model.specs.Geometry.{place_of, moved, is_move, stepped}
+use Rattle.fleet_model.specs.Program.{origin, start_of, goal_of, actions_of, moves, awaits_of, walked, path, AreMoves, NeverStays}
+use Rattle.fleet_model.specs.Machine.{indices}
+use Rattle.std.specs.Prelude.{IsTrue}
+use Rattle.std.proofs.lemmas.List.Elements.{All-map}
 use Rattle.fleet_model.specs.declared.task.Task.{Task}
 use Rattle.fleet_plan.specs.Plan.{Plan, cell_of, steps, AreNeighbours, IsConflictFree}
 use Rattle.fleet_adg.specs.Compiled.{direction, changes_in, changes, moves_by, entry_awaits, action_in, agent_program, compiled}
+use Rattle.fleet_model.proofs.Visits.{GoesOn}
 use Rattle.fleet_adg.proofs.Moves.{changes_in-ne, changes_in-same, changes-yes, changes-no, moves_by-yes, moves_by-mono, IsMove, move_at, listed_at}
 
 -- ---- directions
@@ -49,9 +53,9 @@ moved_there c d (e, h) = ap (moved (place_of c)) (direction-is c d e h) ∙ sym 
 
 -- ---- walks
 
-walked_push : (q : Place) (xs : List Action) (a : Action) → walked q (xs ++ a ∷ []) ≡ moved (walked q xs) a.dir
+walked_push : (q : Place) (xs : List Action) (a : Action) → walked q (xs ++ a ∷ []) ≡ stepped (walked q xs) a.step
 walked_push q [] a = refl
-walked_push q (x ∷ xs) a = walked_push (moved q x.dir) xs a
+walked_push q (x ∷ xs) a = walked_push (stepped q x.step) xs a
 
 take_changes : (plan : Plan) (i t u : ℕ) → t ≤ u → take (moves_by plan i t) (changes plan i u) ≡ changes plan i t
 unfolding moves_by
@@ -152,6 +156,25 @@ action_in-step plan deps i x h l c =
       awaits = awaits-in plan deps i (moves_by plan i x) x h (record { before = l; changes = c; number = refl; listed = λ d. listed_at plan i (steps plan) x d l c }) m;
     }
 
+-- ---- its agents never stay
+
+goes : (plan : Plan) (deps : Deps) (i : ℕ) (xs : List ℕ) (n : ℕ) (a : Action) → slice_get (map (action_in plan deps i) xs) n ≡ Some a → is_move a.step ≡ true
+unfolding action_in
+goes plan deps i [] n a e = absurd cc
+goes plan deps i (x ∷ xs) zero a e = ap (λ (b : Action). is_move b.step) (sym (same_Some (action_in plan deps i x) a e))
+goes plan deps i (x ∷ xs) (suc n) a e = goes plan deps i xs n a e
+
+pub goes-compiled : (plan : Plan) (deps : Deps) (i : ℕ) → i < length plan → GoesOn (compiled plan deps) i
+goes-compiled plan deps i h n a e = goes plan deps i (changes plan i (steps plan)) n a (ap (λ xs. slice_get xs n) (sym (actions_of-compiled plan deps i h)) ∙ e)
+
+-- each action is a move, whatever the plan
+pub never_stays-compiled : (plan : Plan) (deps : Deps) → NeverStays (compiled plan deps)
+unfolding compiled agent_program action_in
+never_stays-compiled plan deps =
+    All-map (λ (a : AgentProgram). AreMoves a.actions) (agent_program plan deps) (indices (length plan)) (λ k i l.
+    let j = get_or (indices (length plan)) k i in
+    All-map (λ (s : Action). IsTrue (is_move s.step)) (action_in plan deps j) (changes plan j (steps plan)) (λ m x h. refl))
+
 -- ---- the path
 
 module _ (passable : Place → Bool) (tasks : List Task) (plan : Plan) (free : IsConflictFree passable tasks plan) (deps : Deps) where
@@ -164,7 +187,7 @@ module _ (passable : Place → Bool) (tasks : List Task) (plan : Plan) (free : I
       let before = walked_changes i t h in
       elim (cases_Bool (changes_in plan i t)) [
         | inl c ↦
-            ap (λ xs. walked q (map f xs)) (changes-yes plan i t c) ∙ ap (walked q) (map_push f (changes plan i t) t) ∙ walked_push q (map f (changes plan i t)) (f t) ∙ ap (λ z. moved z (f t).dir) before
+            ap (λ xs. walked q (map f xs)) (changes-yes plan i t c) ∙ ap (walked q) (map_push f (changes plan i t) t) ∙ walked_push q (map f (changes plan i t)) (f t) ∙ ap (λ z. stepped z (f t).step) before
             ∙ elim (free.successive i t h) [
               | inl e ↦ absurd (changes_in-ne plan i t c (rw add-one at e))
               | inr n ↦ moved_there (cell_of plan i t) (cell_of plan i (t + 1)) n ∙ ap (λ z. place_of (cell_of plan i z)) (add-one t)

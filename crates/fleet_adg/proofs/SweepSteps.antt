@@ -9,13 +9,14 @@ use Rattle.std.proofs.lemmas.List.FromFn.{length-map-range_with_len, get_or-map-
 use Rattle.std.proofs.lemmas.Option.{get_or_from_slice_get}
 use Rattle.fleet_model.specs.declared.geometry.Cell.{Cell}
 use Rattle.fleet_model.specs.declared.geometry.Dir.{Dir}
+use Rattle.fleet_model.specs.declared.geometry.Step.TheVariants.{Go}
 use Rattle.fleet_model.specs.declared.task.Task.{Task}
 use Rattle.fleet_model.specs.Geometry.{place_of}
 use Rattle.fleet_model.specs.declared.program.Await.{Await}
 use Rattle.fleet_model.specs.declared.program.Action.{Action}
 use Rattle.fleet_model.specs.declared.program.AgentProgram.{AgentProgram}
 use Rattle.fleet_model.specs.Machine.{indices}
-use Rattle.fleet_adg.specs.declared.deps.Deps.{Deps}
+use Rattle.fleet_model.specs.declared.deps.Deps.{Deps}
 use Rattle.fleet_adg.specs.declared.fault.CompileFault.{CompileFault}
 use Rattle.fleet_adg.specs.declared.leavings.Leavings.{Leavings}
 use Rattle.fleet_grid.specs.Ground.{Ground, IsGround, is_passable, cell_index}
@@ -227,12 +228,12 @@ length-added plan deps x start (i ∷ agents) = length-added plan deps x (add_by
 ]
 
 -- the action that is made is that of the plan
-pub action_is : (g : Ground) (plan : Plan) (deps : Deps) (x i : ℕ) (l : Leavings) (from to : Cell) (dir : Dir) (awaits : List Await) → AreLeavingsAt g plan deps (x + 1) l → from ≡ cell_of plan i x → to ≡ cell_of plan i (x + 1) → to.x < g.width → to.y < g.height → dir ≡ direction from to → awaits ≡ filter (λ w. not (w.agent == i)) (get_or (rows_of l) (cell_index g to) []) → record { dir = dir; awaits = awaits } ≡ action_in plan deps i x
+pub action_is : (g : Ground) (plan : Plan) (deps : Deps) (x i : ℕ) (l : Leavings) (from to : Cell) (dir : Dir) (awaits : List Await) → AreLeavingsAt g plan deps (x + 1) l → from ≡ cell_of plan i x → to ≡ cell_of plan i (x + 1) → to.x < g.width → to.y < g.height → dir ≡ direction from to → awaits ≡ filter (λ w. not (w.agent == i)) (get_or (rows_of l) (cell_index g to) []) → record { step = Go dir; awaits = awaits } ≡ action_in plan deps i x
 unfolding action_in entry_awaits
 action_is g plan deps x i l from to dir awaits h f t column row d e =
     let there = e ∙ ap (filter (λ (w : Await). not (w.agent == i))) (h.rows to column row ∙ ap (λ q. leavings plan deps q (x + 1)) t) in
     let this = d ∙ (λ k. direction (f k) (t k)) in
-    (λ k. record { dir = this k; awaits = there k })
+    (λ k. record { step = Go (this k); awaits = there k })
 
 -- ---- the sweep begins
 

@@ -3,10 +3,11 @@ use Rattle.std.specs.Prelude.{◌≡◌, ◌≢◌, ◌<◌, IsTrue, IsFalse, �
 use Rattle.fleet_model.specs.declared.geometry.Cell.{Cell}
 use Rattle.fleet_model.specs.declared.geometry.Dir.{Dir}
 use Rattle.fleet_model.specs.declared.geometry.Dir.TheVariants.{North, East, South, West}
+use Rattle.fleet_model.specs.declared.geometry.Step.TheVariants.{Go}
 use Rattle.fleet_model.specs.declared.program.Await.{Await}
 use Rattle.fleet_model.specs.declared.program.Action.{Action}
 use Rattle.fleet_model.specs.declared.program.AgentProgram.{AgentProgram}
-use Rattle.fleet_adg.specs.declared.deps.Deps.{Deps}
+use Rattle.fleet_model.specs.declared.deps.Deps.{Deps}
 use Rattle.fleet_adg.specs.declared.fault.CompileFault.{CompileFault}
 use Rattle.fleet_adg.specs.declared.fault.CompileFault.TheVariants.{TooLong}
 use Rattle.fleet_model.specs.Geometry.{is_same_cell}
@@ -14,7 +15,7 @@ use Rattle.fleet_model.specs.Program.{Program}
 use Rattle.fleet_model.specs.Machine.{indices}
 use Rattle.fleet_plan.specs.Plan.{Plan, cell_of, steps}
 
--- the direction from a cell to one of its neighbours
+-- the direction from a cell to one of its neighbours (of other pairs of cells nothing is meant)
 unfoldable pub direction : Cell → Cell → Dir
 direction c d = if nat_lt d.y c.y then North else if nat_lt c.x d.x then East else if nat_lt c.y d.y then South else West
 
@@ -66,7 +67,7 @@ entry_awaits plan deps i x = filter (λ w. not (w.agent == i)) (leavings plan de
 
 -- the action of agent i in step x
 unfoldable pub action_in : Plan → Deps → ℕ → ℕ → Action
-action_in plan deps i x = record { dir = direction (cell_of plan i x) (cell_of plan i (x + 1)); awaits = entry_awaits plan deps i x }
+action_in plan deps i x = record { step = Go (direction (cell_of plan i x) (cell_of plan i (x + 1))); awaits = entry_awaits plan deps i x }
 
 -- the program of agent i: from its first cell to its last, an action for each change of cell
 unfoldable pub agent_program : Plan → Deps → ℕ → AgentProgram
@@ -96,6 +97,6 @@ pub record IsLastLeaving (plan : Plan) (q : Cell) (t : ℕ) (w : Await) : Type 0
   pub agent : w.agent < length plan
   pub step : ℕ
   pub before : step < t
-  pub leaves : IsTrue (package.Rattle.fleet_adg.specs.Compiled.leaves plan q step w.agent)
-  pub last : (y : ℕ) → step < y → y < t → IsFalse (package.Rattle.fleet_adg.specs.Compiled.leaves plan q y w.agent)
+  pub left : IsTrue (leaves plan q step w.agent)
+  pub last : (y : ℕ) → step < y → y < t → IsFalse (leaves plan q y w.agent)
   pub count : w.count ≡ moves_by plan w.agent (step + 1)

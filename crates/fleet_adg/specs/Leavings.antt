@@ -2,7 +2,7 @@
 use Rattle.std.specs.Prelude.{◌≡◌, ℕ, ◌<◌, ◌*◌, ◌==◌, nat_lt, if◌then◌else◌, List, [], ◌∷◌, length, map, get_or, option_map, option_to_list}
 use Rattle.fleet_model.specs.declared.geometry.Cell.{Cell}
 use Rattle.fleet_model.specs.declared.program.Await.{Await}
-use Rattle.fleet_adg.specs.declared.deps.Deps.{Deps}
+use Rattle.fleet_model.specs.declared.deps.Deps.{Deps}
 use Rattle.fleet_adg.specs.declared.leavings.Leaving.{Leaving}
 use Rattle.fleet_adg.specs.declared.leavings.Leavings.{Leavings}
 use Rattle.fleet_grid.specs.Ground.{Ground, cell_index}

@@ -1,4 +1,3 @@
 pub mod Compiled
 pub mod Leavings
 pub mod Sweep
-pub mod Worked

@@ -3,7 +3,7 @@ use Rattle.std.specs.Prelude.{ℕ, ◌-◌, ◌<◌, Bool, nat_lt, List, [], len
 use Rattle.fleet_model.specs.declared.program.Action.{Action}
 use Rattle.fleet_model.specs.declared.program.AgentProgram.{AgentProgram}
 use Rattle.fleet_model.specs.Machine.{indices}
-use Rattle.fleet_adg.specs.declared.deps.Deps.{Deps}
+use Rattle.fleet_model.specs.declared.deps.Deps.{Deps}
 use Rattle.fleet_grid.specs.Ground.{Ground}
 use Rattle.fleet_plan.specs.Plan.{Plan, cell_of, steps}
 use Rattle.fleet_adg.specs.Compiled.{changes, action_in}

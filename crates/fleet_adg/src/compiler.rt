@@ -1,19 +1,21 @@
 //! The compiler of plans.
 
 ghost use Rattle.std.specs.Prelude.{◌≡◌, IfOk, length, map};
+ghost use Rattle.fleet_model.specs.Program.{NeverStays};
 ghost use Rattle.fleet_model.specs.Accepted.{IsAccepted};
 ghost use Rattle.fleet_model.specs.Answer.{IsDueUnless};
 ghost use Rattle.fleet_model.specs.Visit.{ComesAfterByAwait};
 ghost use Rattle.fleet_grid.specs.Ground.{is_passable};
 ghost use Rattle.fleet_model.specs.Machine.{indices};
-ghost use Rattle.fleet_adg.specs.Compiled.{moves_in_all, compiled_if_few};
+ghost use Rattle.fleet_model.specs.declared.deps.Deps.{Deps};
+ghost use Rattle.fleet_adg.specs.Compiled.{moves_in_all, compiled, compiled_if_few};
+ghost use Rattle.fleet_chains.specs.Reduced.{RunEqually};
 ghost use Rattle.fleet_adg.specs.Sweep.{agent_from};
 
 use crate::action_list::ActionList;
-use crate::deps::Deps;
 use crate::fault::CompileFault;
 use crate::sweep::{actions_of, moves_of};
-use fleet_model::{AgentProgram, Program};
+use fleet_model::{AgentProgram, Deps, Program};
 use fleet_plan::{Checked, Plan};
 use std::alloc::{AllocError, Global};
 
@@ -23,10 +25,13 @@ const MAX_MOVES_IN_ALL: u32 = 4_194_304;
 /// changes of cell, in order, and each awaits earlier leavings of the cell that it enters.
 ///
 /// It is refused as `TooLong` exactly where the agents make more than 4,194,304 moves together. The program is accepted
-/// for the plan's map and instance.
+/// for the plan's map and instance, and each of its actions is a move. With either `deps` it runs equally.
 pub fn compile(alloc: Global, checked: &Checked<'_>, deps: Deps) -> Result<Program, CompileFault>
     ensures program { IsDueUnless (λ p. p) result (compiled_if_few checked.now.plan deps) CompileFault.OutOfMemory }
     ensures accepted { IfOk result (IsAccepted ComesAfterByAwait (is_passable checked.now.grid) checked.now.instance) }
+    ensures moves { IfOk result NeverStays }
+    // The programs of one plan run equally, whichever leavings they await.
+    ensures equally { IfOk result (λ p. (other : Deps) → RunEqually p (compiled checked.now.plan other)) }
 {
     let plan = checked.plan();
     if moves_of_all(plan) > MAX_MOVES_IN_ALL {

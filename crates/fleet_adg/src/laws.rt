@@ -2,7 +2,7 @@
 
 ghost use Rattle.std.specs.Prelude.{◌≡◌, ◌≢◌, ◌≤◌, ◌<◌, ◌+◌, ◌↔◌, ℕ, Bool, IsTrue, List, [], ◌∷◌, length, Contains};
 ghost use Rattle.fleet_model.specs.declared.geometry.Place.{Place};
-ghost use Rattle.fleet_adg.specs.declared.deps.Deps.{Deps};
+ghost use Rattle.fleet_model.specs.declared.deps.Deps.{Deps};
 ghost use Rattle.fleet_model.specs.declared.program.Await.{Await};
 ghost use Rattle.fleet_model.specs.Program.{IsWellFormed};
 ghost use Rattle.fleet_model.specs.Visit.{ComesAfterByAwait};
@@ -10,21 +10,11 @@ ghost use Rattle.fleet_model.specs.Accepted.{IsAccepted};
 ghost use Rattle.fleet_model.specs.declared.task.Task.{Task};
 ghost use Rattle.fleet_plan.specs.Plan.{Plan, cell_of, IsConflictFree, IsWithinLimits};
 ghost use Rattle.fleet_adg.specs.Compiled.{changes_in, entry_awaits, await_of, IsLatestVisit, IsLastLeaving, compiled, moves_in_all};
-ghost use Rattle.fleet_plan.specs.Worked.{base_plan, corridor, there_and_back_plan, pass_plan};
-ghost use Rattle.fleet_adg.specs.Worked.{base_program, corridor_program, await, there_and_back_program, pass_program};
+ghost use Rattle.fleet_chains.specs.Reduced.{HaveSameChains, RunEqually};
 
 /// Within the limits the program of a plan is well formed.
 pub fn compiled_plans_are_well_formed()
     ensures { (plan : Plan) (deps : Deps) → IsWithinLimits plan → moves_in_all plan ≤ 4194304 → IsWellFormed (compiled plan deps) }
-{}
-
-/// The programs of worked plans.
-pub fn worked_plans_compile()
-    ensures base { (deps : Deps) → compiled base_plan deps ≡ base_program }
-    ensures corridor_all { compiled corridor Deps.All ≡ corridor_program (await 0 1 ∷ await 1 2 ∷ []) }
-    ensures corridor_last { compiled corridor Deps.Last ≡ corridor_program (await 1 2 ∷ []) }
-    ensures there_and_back { (deps : Deps) → compiled there_and_back_plan deps ≡ there_and_back_program }
-    ensures pass { (deps : Deps) → compiled pass_plan deps ≡ pass_program }
 {}
 
 /// What the action of agent `i` in step `x` awaits, said by visits and by leavings.
@@ -38,4 +28,10 @@ pub fn awaits_are_as_defined()
 /// The program of a plan that is free of conflict is accepted, with either kind of awaits.
 pub fn compiled_plans_are_accepted()
     ensures { (passable : Place → Bool) (tasks : List Task) (plan : Plan) (deps : Deps) → IsConflictFree passable tasks plan → IsAccepted ComesAfterByAwait passable tasks (compiled plan deps) }
+{}
+
+/// The programs of one plan that is free of conflict have the same chains and run equally, whichever leavings are awaited.
+pub fn compiled_plans_run_equally()
+    ensures chains { (passable : Place → Bool) (tasks : List Task) (plan : Plan) (d e : Deps) → IsConflictFree passable tasks plan → HaveSameChains (compiled plan d) (compiled plan e) }
+    ensures equally { (passable : Place → Bool) (tasks : List Task) (plan : Plan) (d e : Deps) → IsConflictFree passable tasks plan → RunEqually (compiled plan d) (compiled plan e) }
 {}

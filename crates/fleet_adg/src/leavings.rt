@@ -3,9 +3,8 @@
 ghost use Rattle.std.specs.Prelude.{◌≡◌, ◌<◌, [], OnOk, IfOk, length, not, ◌==◌, filter, slice_set, slice_index_or, replicate};
 ghost use Rattle.fleet_adg.specs.Leavings.{await_for, rows_of, kind_of, noted};
 
-use crate::deps::Deps;
 use crate::row::Row;
-use fleet_model::{Await, Awaits, OutOfMemory};
+use fleet_model::{Await, Awaits, Deps, OutOfMemory};
 use std::alloc::{AllocError, Global};
 
 /// A move by which a cell was left: `number` of `agent`, from 1 on. There may be one for each cell of a large map, so it is small.

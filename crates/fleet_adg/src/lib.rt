@@ -3,7 +3,6 @@
 
 mod action_list;
 mod compiler;
-mod deps;
 mod fault;
 mod laws;
 mod leavings;
@@ -11,11 +10,11 @@ mod row;
 mod sweep;
 
 pub use compiler::compile;
-pub use deps::Deps;
 pub use fault::CompileFault;
+pub use fleet_model::Deps;
 pub use laws::{
     awaits_are_as_defined, compiled_plans_are_accepted, compiled_plans_are_well_formed,
-    worked_plans_compile,
+    compiled_plans_run_equally,
 };
 
 #[cfg(test)]

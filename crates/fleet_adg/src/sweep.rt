@@ -8,10 +8,9 @@ ghost use Rattle.fleet_adg.specs.Leavings.{kind_of, AreLeavingsAt};
 ghost use Rattle.fleet_adg.specs.Sweep.{is_under_way, under_way, all_actions_by, IsOnMap};
 
 use crate::action_list::ActionList;
-use crate::deps::Deps;
 use crate::leavings::{Leaving, Leavings};
 use fleet_grid::{Grid, cells_have_places_of_their_own};
-use fleet_model::{Action, Cell, Dir, OutOfMemory};
+use fleet_model::{Action, Cell, Deps, Dir, OutOfMemory, Step};
 use fleet_plan::{Checked, Plan};
 use std::alloc::{AllocError, Global};
 
@@ -150,7 +149,8 @@ fn add_actions(
         if let Some((from, to)) = move_in(plan, i, time) {
             let awaits = leavings.awaits(alloc, grid.cell_index(to), i)?;
             let dir = direction(from, to);
-            actions[usize::from(i)].push(Action { dir, awaits })?;
+            let step = Step::Go(dir);
+            actions[usize::from(i)].push(Action { step, awaits })?;
         }
     }
     Ok(())

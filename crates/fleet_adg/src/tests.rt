@@ -1,6 +1,6 @@
 use super::*;
 use fleet_grid::{Grid, read_map};
-use fleet_model::{Cell, Dir, Program, total_awaits, total_moves};
+use fleet_model::{Cell, Dir, Program, Step, total_awaits, total_moves};
 use fleet_plan::{Checked, Path, Plan, check};
 use fleet_scen::{Instance, read_scen};
 use std::alloc::Global;
@@ -77,12 +77,13 @@ fn compiled(
     compile(alloc, &checked, deps)
 }
 
-fn letter(dir: Dir) -> char {
-    match dir {
-        Dir::North => 'N',
-        Dir::East => 'E',
-        Dir::South => 'S',
-        Dir::West => 'W',
+fn letter(step: Step) -> char {
+    match step {
+        Step::Go(Dir::North) => 'N',
+        Step::Go(Dir::East) => 'E',
+        Step::Go(Dir::South) => 'S',
+        Step::Go(Dir::West) => 'W',
+        Step::Dwell => '-',
     }
 }
 
@@ -97,7 +98,7 @@ fn text_of(rt: &impl Abort, alloc: Global, program: &Program) -> String {
             for one in action.awaits.as_slice() {
                 write!(text, "({}:{})", one.agent, one.count).expect(rt, "memory");
             }
-            text.push(letter(action.dir)).expect(rt, "memory");
+            text.push(letter(action.step)).expect(rt, "memory");
         }
         text.push('\n').expect(rt, "memory");
     }

@@ -18,8 +18,8 @@ use Rattle.clap.specs.declared.builder.value_parser.ValueParser.TheVariants as p
 use Rattle.clap.proofs.CallerReads.{signed_reads}
 use Rattle.clap.proofs.ValueTestLemmas.{accepts-Accepts}
 use Rattle.clap.proofs.WalkLemmas.{both}
-use Rattle.fleet_adg.specs.declared.deps.Deps.{Deps}
-use Rattle.fleet_adg.specs.declared.deps.Deps.TheVariants as deps
+use Rattle.fleet_model.specs.declared.deps.Deps.{Deps}
+use Rattle.fleet_model.specs.declared.deps.Deps.TheVariants as deps
 use Rattle.fleet_args.specs.CommandLine.{DepsNames, AreDeps, agents_rule, horizon_rule, deps_rule, fleet, fleet_top, instance_shape, check_shape, plan_shape, compile_shape, verify_shape, run_shape, rehearse_shape, auto_shape, word}
 use Rattle.fleet_args.specs.Request.{answered_by, asked_by, deps_in, number_of, instance_by, check_by, plan_by, compile_by, verify_by, run_by, rehearse_by, auto_by, number_by, number_in}
 use Rattle.fleet_args.proofs.RequestLemmas.{digits_from, is_small, is_small_number}

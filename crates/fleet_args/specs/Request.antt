@@ -9,8 +9,8 @@ use Rattle.clap.specs.ValueTests.{is_numeral}
 use Rattle.clap.specs.declared.parser.matches.Found.{Found}
 use Rattle.clap.specs.declared.error.ErrorKind.{ErrorKind}
 use Rattle.clap.specs.declared.error.ErrorKind.TheVariants as kind
-use Rattle.fleet_adg.specs.declared.deps.Deps.{Deps}
-use Rattle.fleet_adg.specs.declared.deps.Deps.TheVariants as deps
+use Rattle.fleet_model.specs.declared.deps.Deps.{Deps}
+use Rattle.fleet_model.specs.declared.deps.Deps.TheVariants as deps
 use Rattle.fleet_args.specs.CommandLine.{DepsNames, AreDeps, fleet}
 use Rattle.fleet_args.specs.declared.request.Request.{Request}
 use Rattle.fleet_args.specs.declared.request.Request.TheVariants as r

@@ -8,7 +8,7 @@ ghost use Rattle.fleet_args.specs.Request.{asked_of, asked_by, asked_from, deps_
 use crate::command_line::fleet_command;
 use clap::ArgMatches;
 use clap::error::ErrorKind;
-use fleet_adg::Deps;
+use fleet_model::Deps;
 use std::alloc::Global;
 use thiserror::Error;
 

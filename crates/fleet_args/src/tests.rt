@@ -1,5 +1,5 @@
 use super::*;
-use fleet_adg::Deps;
+use fleet_model::Deps;
 use std::alloc::{AllocError, Global};
 use std::process::Abort;
 use std::test::Fail;

@@ -1,6 +1,6 @@
 -- What becomes of the texts, where a program was made of them and run.
 use Rattle.std.proofs.Common.{ℕ, List, Option, Result, Ok, Err}
-use Rattle.fleet_adg.specs.declared.deps.Deps.{Deps}
+use Rattle.fleet_model.specs.declared.deps.Deps.{Deps}
 use Rattle.fleet_run.specs.declared.trace.Report.{Report}
 use Rattle.fleet_auto.specs.Trace.{Written, TracesAccepted}
 use Rattle.fleet_auto.specs.Auto.{MakesProgram, AutoRuns}

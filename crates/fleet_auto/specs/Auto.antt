@@ -5,7 +5,7 @@ use Rattle.fleet_model.specs.Program.{Program}
 use Rattle.fleet_grid.specs.Ground.{Ground}
 use Rattle.fleet_plan.specs.Plan.{Plan}
 use Rattle.fleet_adg.specs.Compiled.{compiled_if_few}
-use Rattle.fleet_adg.specs.declared.deps.Deps.{Deps}
+use Rattle.fleet_model.specs.declared.deps.Deps.{Deps}
 use Rattle.fleet_verify.specs.Parts.{IsAcceptedFor}
 use Rattle.fleet_run.specs.declared.trace.Report.{Report}
 use Rattle.fleet_auto.specs.Texts.{AreTextsOf, IsTextsFault}

@@ -10,7 +10,7 @@ use Rattle.fleet_search.specs.InTurn.{IsMadeInTurn, IsStuckAt}
 use Rattle.fleet_search.specs.declared.fault.PlanStop.{PlanStop}
 use Rattle.fleet_search.specs.declared.fault.PlanStop.TheVariants as p
 use Rattle.fleet_adg.specs.Compiled.{compiled_if_few}
-use Rattle.fleet_adg.specs.declared.deps.Deps.{Deps}
+use Rattle.fleet_model.specs.declared.deps.Deps.{Deps}
 use Rattle.fleet_auto.specs.declared.fault.AutoFault.{AutoFault}
 use Rattle.fleet_auto.specs.declared.fault.AutoFault.TheVariants.{OutOfMemory, Plan as PlanStops, Compile}
 

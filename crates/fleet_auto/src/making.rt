@@ -2,6 +2,7 @@
 
 ghost use Rattle.std.specs.Prelude.{◌≡◌, IfOk, IfErr};
 ghost use Rattle.fleet_model.specs.Accepted.{IsAccepted};
+ghost use Rattle.fleet_model.specs.Program.{NeverStays};
 ghost use Rattle.fleet_model.specs.Visit.{ComesAfterByAwait};
 ghost use Rattle.fleet_grid.specs.Ground.{is_passable};
 ghost use Rattle.fleet_verify.specs.Parts.{IsAcceptedFor};
@@ -26,6 +27,7 @@ pub fn made_program(
     deps: Deps,
 ) -> Result<Program, AutoFault>
     ensures made { IfOk result (IsMadeFor grid.now instance.now horizon deps) }
+    ensures moves { IfOk result NeverStays }
     ensures fault { IfErr result (IsMakingFault grid.now instance.now horizon deps) }
 {
     let checked = plan(alloc, grid, instance, horizon)?;
@@ -35,11 +37,14 @@ pub fn made_program(
 
 /// The program, loaded from the bytes that spell it.
 pub fn loaded_again(alloc: Global, program: &Program) -> Result<Program, OutOfMemory>
+    requires { NeverStays program.now }
     ensures { IfOk result (λ p. p ≡ program.now) }
 {
     let bytes = match encode(alloc, program) {
         Ok(bytes) => bytes,
         Err(EncodeFault::OutOfMemory) => return Err(OutOfMemory),
+        // It never stays.
+        Err(EncodeFault::Dwell) => unreachable!(),
     };
     match load(alloc, &bytes) {
         Ok(program) => Ok(program),

@@ -6,7 +6,7 @@ use Rattle.fleet_run.specs.Drive.{Drives, IsInTime}
 use Rattle.fleet_run.specs.declared.source.SourceFault.{SourceFault}
 use Rattle.fleet_run.specs.declared.trace.Report.{Report}
 use Rattle.fleet_run.specs.declared.run.RunFault.{RunFault}
-use Rattle.fleet_adg.specs.declared.deps.Deps.{Deps}
+use Rattle.fleet_model.specs.declared.deps.Deps.{Deps}
 use Rattle.fleet_auto.specs.Trace.{Written, hold_ticks, hold_last, StopsTrace, WritesTrace as WritesWhole}
 use Rattle.fleet_auto.specs.Auto.{MakesProgram}
 use Rattle.fleet_cli.specs.AutoCommand.{RunsMade, IsMadeFault}

@@ -4,7 +4,7 @@ use Rattle.fleet_model.specs.declared.task.Task.{Task}
 use Rattle.fleet_grid.specs.Ground.{Ground}
 use Rattle.fleet_plan.specs.Plan.{Plan}
 use Rattle.fleet_adg.specs.Compiled.{compiled_if_few}
-use Rattle.fleet_adg.specs.declared.deps.Deps.{Deps}
+use Rattle.fleet_model.specs.declared.deps.Deps.{Deps}
 use Rattle.fleet_auto.specs.Texts.{AreTextsOf}
 use Rattle.fleet_auto.specs.Making.{IsPlannedFor, IsPlanStop}
 use Rattle.fleet_auto.specs.Auto.{MakesProgram}

@@ -11,7 +11,7 @@ use Rattle.fleet_plan.specs.FirstFault.{IsFirstPlanFault}
 use Rattle.fleet_plan.specs.declared.text_fault.TextFault.TheVariants as t
 use Rattle.fleet_plan.specs.declared.plan_fault.PlanFault.TheVariants as p
 use Rattle.fleet_adg.specs.Compiled.{compiled_if_few}
-use Rattle.fleet_adg.specs.declared.deps.Deps.{Deps}
+use Rattle.fleet_model.specs.declared.deps.Deps.{Deps}
 use Rattle.fleet_adg.specs.declared.fault.CompileFault.TheVariants as c
 use Rattle.fleet_code.specs.Spelling.{Spells}
 use Rattle.fleet_run.specs.Sink.{Receives, FailsAfter}

@@ -3,7 +3,7 @@ use Rattle.std.specs.Prelude.{◌≡◌, ◌≢◌, ◌≤◌, ℕ, List, [], le
 use Rattle.fleet_model.specs.Program.{Program}
 use Rattle.fleet_model.specs.Machine.{Holds}
 use Rattle.fleet_code.specs.Spelling.{Spells}
-use Rattle.fleet_code.specs.Reading.{program_at}
+use Rattle.fleet_code.specs.LoadFaults.{IsFirstLoadFault}
 use Rattle.fleet_code.specs.Hex.{bytes_of}
 use Rattle.fleet_code.specs.declared.fault.HexFault.TheVariants as h
 use Rattle.fleet_code.specs.declared.fault.LoadFault.TheVariants as l
@@ -41,7 +41,7 @@ abbrev pub IsRefusalOf : Option (List ℕ) → Output → Fault → Type 0
 IsRefusalOf input out (f.Hex fault) =
     (text : List ℕ) × IsTextOf input text × (fault ≢ h.OutOfMemory → bytes_of text ≡ Err fault) × IsUnwritten out
 IsRefusalOf input out (f.Load fault) =
-    (text bytes : List ℕ) × IsTextOf input text × (bytes_of text ≡ Ok bytes) × (fault ≢ l.OutOfMemory → program_at bytes ≡ Err fault) × IsUnwritten out
+    (text bytes : List ℕ) × IsTextOf input text × (bytes_of text ≡ Ok bytes) × (fault ≢ l.OutOfMemory → IsFirstLoadFault bytes fault) × IsUnwritten out
 IsRefusalOf input out (f.Run fault) =
     (text : List ℕ) × (p : Program) × (left : Holds) × IsTextOf input text × StandsFor text p
     × RehearsesFlushed p [] (record { last = None; now = None; left = left; fault = None; before = out.before; taken = out.taken; has_failed = out.has_failed }) out.is_flushed (Err fault)

@@ -1,12 +1,12 @@
 -- A map and an instance that two texts stand for, and a program that is accepted for them.
-use Rattle.std.specs.Prelude.{◌≡◌, ◌≢◌, ℕ, List, Option, Err}
+use Rattle.std.specs.Prelude.{◌≡◌, ◌≢◌, ℕ, List, Option}
 use Rattle.fleet_model.specs.declared.task.Task.{Task}
 use Rattle.fleet_model.specs.Program.{Program}
 use Rattle.fleet_grid.specs.Ground.{Ground, is_passable}
 use Rattle.fleet_grid.specs.MapText.{IsMapText, IsFirstMapFault}
 use Rattle.fleet_scen.specs.ScenText.{IsFirstScenFault}
 use Rattle.fleet_code.specs.Spelling.{Spells}
-use Rattle.fleet_code.specs.Reading.{program_at}
+use Rattle.fleet_code.specs.LoadFaults.{IsFirstLoadFault}
 use Rattle.fleet_code.specs.declared.fault.LoadFault.TheVariants as l
 use Rattle.fleet_verify.specs.Parts.{IsAcceptedFor}
 use Rattle.fleet_verify.specs.Faults.{IsFault}
@@ -28,7 +28,7 @@ pub record Accepts (bytes : List ℕ) (g : Ground) (tasks : List Task) (p : Prog
 
 -- the first fault of the bytes, or of the program that they spell
 abbrev pub IsAcceptFault : List ℕ → Ground → List Task → Fault → Type 0
-IsAcceptFault bytes g tasks (f.Load fault) = fault ≢ l.OutOfMemory → program_at bytes ≡ Err fault
+IsAcceptFault bytes g tasks (f.Load fault) = fault ≢ l.OutOfMemory → IsFirstLoadFault bytes fault
 IsAcceptFault bytes g tasks (f.Verify fault) = (p : Program) × Spells bytes p × IsFault (is_passable g) tasks p fault
 IsAcceptFault bytes g tasks _ = ⊥
 

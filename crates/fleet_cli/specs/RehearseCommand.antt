@@ -3,7 +3,7 @@ use Rattle.std.specs.Prelude.{◌≡◌, ◌≢◌, ℕ, ◌<◌, List, ◌∷�
 use Rattle.fleet_model.specs.Program.{Program}
 use Rattle.fleet_model.specs.Machine.{Holds}
 use Rattle.fleet_code.specs.Spelling.{Spells}
-use Rattle.fleet_code.specs.Reading.{program_at}
+use Rattle.fleet_code.specs.LoadFaults.{IsFirstLoadFault}
 use Rattle.fleet_code.specs.declared.fault.LoadFault.TheVariants as l
 use Rattle.fleet_io.specs.Files.{Store, IsRead}
 use Rattle.fleet_io.specs.Named.{IsUnread, hold_names, AreHoldBytes}
@@ -28,7 +28,7 @@ pub record RehearsesBytes (bytes held : List ℕ) (out : Output) (end : End) : T
 -- the refusal is one that the bytes allow: the first fault of the program's; or a line of the holds that was asked for is no
 -- tick's, or the sink failed while the rehearsal was written, or when it was to hand it on
 abbrev pub IsRehearseFault : List ℕ → List ℕ → Output → Fault → Type 0
-IsRehearseFault bytes held out (f.Load fault) = (fault ≢ l.OutOfMemory → program_at bytes ≡ Err fault) × IsUnwritten out
+IsRehearseFault bytes held out (f.Load fault) = (fault ≢ l.OutOfMemory → IsFirstLoadFault bytes fault) × IsUnwritten out
 IsRehearseFault bytes held out (f.Run fault) =
     (p : Program) × (now failed : Option SourceFault) × (left : Holds) × Spells bytes p
     × RehearsesFlushed p (hold_ticks p held)

@@ -7,7 +7,7 @@ ghost use Rattle.fleet_cli.specs.CompileCommand.{CompilesTexts, IsCompileFault, 
 
 use crate::problem::read_problem;
 use fleet_adg::{Deps, compile};
-use fleet_code::encode;
+use fleet_code::{EncodeFault, encode};
 use fleet_io::{Fault, Files, put_count, read_texts_and, refuse, write_file};
 use fleet_model::{Program, ProgramView, total_awaits, total_moves};
 use fleet_plan::{check, read_plan};
@@ -48,7 +48,9 @@ fn compile_texts<'a>(
     };
     let bytes = match encode(alloc, &program) {
         Ok(bytes) => bytes,
-        Err(_) => return Err(Fault::Memory),
+        Err(EncodeFault::OutOfMemory) => return Err(Fault::Memory),
+        // A compiled program never stays.
+        Err(EncodeFault::Dwell) => unreachable!(),
     };
     Ok(Compiled { program, bytes })
 }

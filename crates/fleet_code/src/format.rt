@@ -1,10 +1,11 @@
 //! The fixed bytes of the format, version 1.
 
 ghost use Rattle.std.specs.Prelude.{◌≡◌};
+ghost use Rattle.fleet_model.specs.declared.geometry.Step.TheVariants.{Go};
 ghost use Rattle.fleet_code.specs.Spelling.{opcode};
-ghost use Rattle.fleet_code.specs.Reading.{dir_at};
+ghost use Rattle.fleet_code.specs.Reading.{move_at};
 
-use fleet_model::Dir;
+use fleet_model::{Dir, Step};
 
 /// What the bytes of every program begin with.
 pub const MAGIC: &[u8] = b"MPF1";
@@ -26,7 +27,7 @@ pub const LEAST_ACTION_LEN: usize = 1;
 
 /// The opcode of a move in this direction.
 pub fn opcode_of(dir: Dir) -> u8
-    ensures { result ≡ opcode dir }
+    ensures { result ≡ opcode (Go dir) }
 {
     match dir {
         Dir::North => 0,
@@ -36,15 +37,15 @@ pub fn opcode_of(dir: Dir) -> u8
     }
 }
 
-/// The direction of the move that has this opcode, if one has it.
-pub fn dir_of(opcode: u8) -> Option<Dir>
-    ensures { result ≡ dir_at opcode }
+/// The move that has this opcode, if one has it.
+pub fn move_of(opcode: u8) -> Option<Step>
+    ensures { result ≡ move_at opcode }
 {
     match opcode {
-        0 => Some(Dir::North),
-        1 => Some(Dir::East),
-        2 => Some(Dir::South),
-        3 => Some(Dir::West),
+        0 => Some(Step::Go(Dir::North)),
+        1 => Some(Step::Go(Dir::East)),
+        2 => Some(Step::Go(Dir::South)),
+        3 => Some(Step::Go(Dir::West)),
         _ => None,
     }
 }

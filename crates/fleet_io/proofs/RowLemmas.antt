@@ -1,8 +1,7 @@
 -- Bytes that go to a sink by way of a row.
 use Rattle.std.proofs.Common.{◌≡◌, ◌∙◌, sym, subst, ℕ, Bool, Option, List, [], ◌++◌, Result, Ok, Err, IsErr, ap, append_assoc, append-nil}
-use Rattle.std.specs.Io.KnownBytes.{Appends}
 use Rattle.fleet_run.specs.Sink.{StopsWithin, TakesAll}
-use Rattle.fleet_run.proofs.SinkLemmas.{appends_more, appends_same, stops_after, stops_within_more, takes_then}
+use Rattle.fleet_run.proofs.SinkLemmas.{appends_more, stops_after, stops_within_more, takes_then}
 use Rattle.fleet_io.specs.Row.{PassesOn, Gathers}
 
 -- some bytes, and more after them

@@ -1,16 +1,16 @@
--- A program: for each agent a start, a goal and a list of actions. An action is a direction and awaits, which are pairs of an agent
+-- A program: for each agent a start, a goal and a list of actions. An action is a step and awaits, which are pairs of an agent
 -- and a count. Agents count from 0, the actions of each from 1. What is asked of an agent or an action that is not there is answered
 -- by the origin, nothing or an empty list.
-use Rattle.std.specs.Prelude.{◌≢◌, ℕ, zero, suc, ◌<◌, ◌≤◌, List, [], ◌∷◌, length, map, take, Option, None, slice_get, option_map, sum_by, All, Contains}
+use Rattle.std.specs.Prelude.{◌≢◌, ℕ, zero, suc, ◌<◌, ◌≤◌, List, [], ◌∷◌, length, map, take, Option, None, slice_get, option_map, sum_by, All, Contains, IsTrue}
 use Rattle.std.specs.Option.{option_map_or}
 use Rattle.std.specs.List.Sorted.{IsStrictlyIncreasing}
 use Rattle.fleet_model.specs.declared.geometry.Cell.{Cell}
 use Rattle.fleet_model.specs.declared.geometry.Place.{Place}
-use Rattle.fleet_model.specs.declared.geometry.Dir.{Dir}
+use Rattle.fleet_model.specs.declared.geometry.Step.{Step}
 use Rattle.fleet_model.specs.declared.program.Await.{Await}
 use Rattle.fleet_model.specs.declared.program.Action.{Action}
 use Rattle.fleet_model.specs.declared.program.AgentProgram.{AgentProgram}
-use Rattle.fleet_model.specs.Geometry.{place_of, moved}
+use Rattle.fleet_model.specs.Geometry.{place_of, is_move, stepped}
 
 abbrev pub Program : Type 0
 Program = List AgentProgram
@@ -31,7 +31,7 @@ goal_of p i = option_map_or (λ a. a.goal) (slice_get p i) origin
 abbrev pub actions_of : Program → ℕ → List Action
 actions_of p i = option_map_or (λ a. a.actions) (slice_get p i) []
 
--- how many actions agent i has, each of which is one move
+-- how many actions agent i has, each of which is one move or one stay
 abbrev pub moves : Program → ℕ → ℕ
 moves p i = length (actions_of p i)
 
@@ -40,9 +40,9 @@ abbrev pub action_of : Program → ℕ → ℕ → Option Action
 action_of p i zero = None
 action_of p i (suc n) = slice_get (actions_of p i) n
 
--- the direction of action n of agent i
-abbrev pub dir_of : Program → ℕ → ℕ → Option Dir
-dir_of p i n = option_map (λ a. a.dir) (action_of p i n)
+-- what action n of agent i does
+abbrev pub step_of : Program → ℕ → ℕ → Option Step
+step_of p i n = option_map (λ a. a.step) (action_of p i n)
 
 -- the awaits of action n of agent i
 abbrev pub awaits_of : Program → ℕ → ℕ → List Await
@@ -60,12 +60,20 @@ total_awaits p = sum_by (λ a. sum_by (λ s. length s.awaits) a.actions) p
 abbrev pub agent_awaits : Program → ℕ → ℕ
 agent_awaits p i = sum_by (λ s. length s.awaits) (actions_of p i)
 
+-- every action is a move
+abbrev pub AreMoves : List Action → Type 0
+AreMoves actions = All (λ s. IsTrue (is_move s.step)) actions
+
+-- every action of every agent is a move
+abbrev pub NeverStays : Program → Type 0
+NeverStays p = All (λ a. AreMoves a.actions) p
+
 -- the place to which these actions lead from q
 abbrev pub walked : Place → List Action → Place
 walked q [] = q
-walked q (a ∷ actions) = walked (moved q a.dir) actions
+walked q (a ∷ actions) = walked (stepped q a.step) actions
 
--- where agent i is after its first n actions: its start, moved in their directions. It stays at the last place
+-- where agent i is after its first n actions: its start, moved by their steps. It stays at the last place
 abbrev pub path : Program → ℕ → ℕ → Place
 path p i n = walked (place_of (start_of p i)) (take n (actions_of p i))
 

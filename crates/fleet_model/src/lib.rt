@@ -1,6 +1,7 @@
 //! Programs of a fleet of agents on a grid, and what they mean.
 #![tactic(auto)]
 
+mod deps;
 mod geometry;
 mod limits;
 mod memory;
@@ -8,9 +9,9 @@ mod program;
 mod standing;
 mod task;
 mod view;
-pub mod worked;
 
-pub use geometry::{Cell, Dir, Place};
+pub use deps::Deps;
+pub use geometry::{Cell, Dir, Place, Step};
 pub use limits::well_formed;
 pub use memory::OutOfMemory;
 pub use program::{Action, ActionId, Actions, AgentProgram, Await, Awaits, Program, Visit};

@@ -6,4 +6,3 @@ pub mod Rings
 pub mod Sweep
 pub mod Plan
 pub mod Checked
-pub mod Worked

@@ -14,7 +14,6 @@ mod steps;
 mod sweep;
 mod text_fault;
 mod text_laws;
-mod worked;
 mod writing;
 
 pub use checked::Checked;
@@ -27,7 +26,6 @@ pub use text_fault::TextFault;
 pub use text_laws::{
     a_plan_text_is_one_plan, a_text_is_a_plan_or_has_a_first_fault, a_written_plan_is_read,
 };
-pub use worked::worked_plans_are_judged;
 pub use writing::write_plan;
 
 #[cfg(test)]

@@ -23,18 +23,6 @@ use Rattle.fleet_run.specs.Drive.{Drives, IsInTime, trace_from}
 use Rattle.fleet_model.proofs.Tick.{length-tick, length-run, standing_at_tick}
 use Rattle.fleet_run.proofs.Rehearsed.{within_closing}
 
-pub run_is_reached : (p : Program) (holds : Holds) (t : ℕ) → IsReached p (run p holds t)
-run_is_reached p holds t = record { holds = holds; ticks = t; same = refl }
-
--- a run that writes its lines leaves a configuration of the run
-pub left_in_run : (p : Program) (chain : ℕ) (holds : Holds) (o : Outside) (c : Configuration) (r : Result Report RunFault) → Drives p chain holds o c r → (t : ℕ) × (c ≡ run p holds t)
-left_in_run p chain holds o c (Ok r) h = (r.ticks, h.0)
-left_in_run p chain holds o c (Err OutOfMemory) h = absurd h
-left_in_run p chain holds o c (Err (Source n)) h = (h.0, h.2)
-left_in_run p chain holds o c (Err (Hold n)) h = (h.0, h.2)
-left_in_run p chain holds o c (Err Write) h = (h.0, h.1)
-left_in_run p chain holds o c (Err HoldLimit) h = (h.0, h.1)
-
 -- what is not over is not finished
 not_finished : (p : Program) (c : Configuration) → is_over p c ≡ false → is_finished p c ≡ false
 not_finished p c h = (or_parts (is_finished p c) (is_stuck p c) h).0

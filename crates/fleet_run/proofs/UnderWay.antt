@@ -3,9 +3,8 @@ use Rattle.std.proofs.Common.{◌≡◌, ◌<◌, ◌≤◌, ◌*◌, ℕ, zero,
 use Rattle.std.proofs.lemmas.Bool.{cases_Bool}
 use Rattle.std.proofs.lemmas.List.{length-drop}
 use Rattle.fleet_model.specs.Program.{Program, IsWellFormed}
-use Rattle.fleet_model.specs.Machine.{Configuration, Holds, is_ready_held, is_over, is_among, is_held, tick, opening, run, held_ticks}
+use Rattle.fleet_model.specs.Machine.{Configuration, Holds, is_ready_held, is_over, is_among, is_held, tick, run, held_ticks}
 use Rattle.fleet_run.specs.Source.{flag_of}
-use Rattle.fleet_run.specs.Near.{AreNear}
 use Rattle.fleet_run.specs.Source.{AreFlagsOf, AsksTick, first_of, rest_of}
 use Rattle.fleet_run.specs.declared.source.SourceFault.{SourceFault}
 use Rattle.fleet_run.specs.declared.source.SourceFault.TheVariants.{Broken, Text}
@@ -18,12 +17,7 @@ use Rattle.fleet_run.specs.Text.{line_of, lines_below}
 use Rattle.fleet_model.proofs.Tick.{length-run}
 use Rattle.fleet_model.proofs.Runs.{tick_agree, held_ticks-le}
 use Rattle.fleet_run.proofs.SinkLemmas.{appends_more, appends_same}
-use Rattle.fleet_run.proofs.Kept.{AreNear-tick}
 use Rattle.fleet_run.proofs.Progress.{ready_held_same, all_left, all_left_le, all_left_lt, all_left_few}
-
-pub AreNear-run : (p : Program) (holds : Holds) (t : ℕ) → AreNear (opening p) → AreNear (run p holds t)
-AreNear-run p holds zero near = near
-AreNear-run p holds (suc t) near = AreNear-tick p (is_held holds t) (run p holds t) (length-run p holds t) (AreNear-run p holds t near)
 
 pub first_of-drop : (holds : Holds) (t : ℕ) → first_of (drop t holds) ≡ get_or holds t []
 first_of-drop [] zero = refl
@@ -61,7 +55,6 @@ pub record IsUnderWay (p : Program) (holds : Holds) (last : Option SourceFault) 
   pub nothing_came : ended ≡ true → last ≡ None
   pub not_past : ended ≡ false → ticks ≤ length holds
   pub still_comes : ended ≡ false → now ≡ last
-  pub near : AreNear c
   pub while_asked : ended ≡ false → ticks ≤ 4194304
   pub afterwards : ended ≡ true → ticks + all_left p c ≤ 4194304 + 1024 * 65535
 
@@ -199,7 +192,6 @@ module _ (p : Program) (holds : Holds) (last : Option SourceFault) (c : Configur
           | inl e ↦ let none = ap length (before.nothing_left e) in absurd (omega arith)
           | inr e ↦ next.still (not_false more h) ∙ before.still_comes e
         ];
-    near = AreNear-tick p (flag_of flags) c (agents_under_way p holds last c left now ticks held ended before) before.near;
     while_asked = λ h.
         let asked = not_false more h in
         let some = next.some_left asked in

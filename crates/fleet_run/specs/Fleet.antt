@@ -1,11 +1,11 @@
 -- What a fleet shows, and what is true of it.
-use Rattle.std.specs.Prelude.{◌≡◌, ◌<◌, ℕ, Bool, false, List, length}
+use Rattle.std.specs.Prelude.{◌≡◌, ◌<◌, ℕ, false, length}
 use Rattle.fleet_model.specs.Geometry.{place_of}
-use Rattle.fleet_model.specs.Program.{Program, IsWellFormed, goal_of}
+use Rattle.fleet_model.specs.Program.{Program, goal_of}
 use Rattle.fleet_model.specs.Machine.{Configuration, Holds, IsReached, is_stuck, place_at, run}
 use Rattle.fleet_model.specs.Chain.{IsLongestChain}
 use Rattle.fleet_verify.specs.Parts.{AcceptedParts, IsAcceptedFor}
-use Rattle.fleet_run.specs.Near.{AreNear}
+use Rattle.fleet_run.specs.Machine.{MachineState, Runs}
 
 -- an accepted program, and the configuration in which its agents are
 pub record FleetState (P : Type 0) : Type 0 where
@@ -18,15 +18,11 @@ AreOnGoals p c = (i : ℕ) → i < length p → place_at c i ≡ place_of (goal_
 
 -- what acceptance gives a run that writes its trace
 pub record IsShown (p : Program) (chain : ℕ) : Type 0 where
-  pub well_formed : IsWellFormed p
   pub longest : IsLongestChain p chain
   pub never_stuck : (holds : Holds) (t : ℕ) → is_stuck p (run p holds t) ≡ false
 
 -- what is true of a fleet that runs the program p
-pub record IsRunning {P : Type 0} (p : Program) (accepted : AcceptedParts P) (c : Configuration) (moving : List Bool) : Type 0 where
-  pub well_formed : IsWellFormed p
+pub record IsRunning {P : Type 0} (p : Program) (accepted : AcceptedParts P) (m : MachineState) : Type 0 where
+  pub runs : Runs p m
   pub accepted_for : IsAcceptedFor accepted.grid accepted.instance p accepted.chain
-  pub reached : IsReached p c
-  pub agents : length c ≡ length p
-  pub flags : length moving ≡ length p
-  pub near : AreNear c
+  pub reached : IsReached p m.configuration

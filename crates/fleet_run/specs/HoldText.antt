@@ -1,5 +1,5 @@
 -- Which ticks a text of holds stands for, line by line.
-use Rattle.std.specs.Prelude.{◌≡◌, ℕ, ◌+◌, ◌<◌, Bool, true, not, ◌&&◌, ◌==◌, nat_le, nat_lt, List, [], ◌∷◌, map, All, Option, None, Some, option_and_then, option_map, codes, decimal, if◌then◌else◌}
+use Rattle.std.specs.Prelude.{◌≡◌, ℕ, ◌+◌, ◌<◌, Bool, true, false, not, ◌&&◌, ◌==◌, nat_le, nat_lt, List, [], ◌∷◌, map, All, Option, None, Some, option_and_then, option_map, codes, decimal, if◌then◌else◌}
 use Rattle.std.specs.List.{slice_split, join_with_byte}
 use Rattle.std.specs.List.Sorted.{IsStrictlyIncreasing}
 use Rattle.fleet_model.specs.Machine.{Holds}
@@ -44,9 +44,9 @@ is_space b = b == 32
 
 -- is it the line of the tick that holds nobody
 abbrev pub is_dash : Bytes → Bool
-is_dash [] = not true
+is_dash [] = false
 is_dash (b ∷ []) = b == 45
-is_dash (b ∷ c ∷ bs) = not true
+is_dash (b ∷ c ∷ bs) = false
 
 -- the agents that the line of a tick holds, of n
 abbrev pub tick_of : ℕ → Bytes → Option (List ℕ)

@@ -1,4 +1,5 @@
 pub mod Near
+pub mod Machine
 pub mod Text
 pub mod Source
 pub mod Sink
@@ -8,3 +9,4 @@ pub mod Rehearsal
 pub mod HoldText
 pub mod Fleet
 pub mod Drive
+pub mod Confirmed

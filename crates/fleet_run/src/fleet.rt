@@ -1,22 +1,25 @@
 //! A fleet that runs an accepted program.
 
-ghost use Rattle.std.specs.Prelude.{◌≡◌, ◌<◌, ◌≤◌, length, IsOk, IfOk, IfErr, All, IsTrue, false, None};
+ghost use Rattle.std.specs.Prelude.{◌≡◌, ℕ, ◌<◌, ◌≤◌, length, IsOk, IfOk, IfErr, OnOk, OnErr, All, IsTrue, IsFalse, false, None};
 ghost use Rattle.fleet_grid.specs.Ground.{is_passable};
 ghost use Rattle.fleet_model.specs.Chain.{IsLongestChain};
 ghost use Rattle.fleet_model.specs.Machine.{opening, tick, moved_in, is_ready_held, is_finished, is_ready, place_at, count_at};
 ghost use Rattle.fleet_model.specs.Run.{IsSafeStep};
+ghost use Rattle.fleet_model.specs.Claims.{order_of, AreApart, KeepsOrder};
 ghost use Rattle.fleet_run.specs.Drive.{Drives, IsInTime};
 ghost use Rattle.fleet_run.specs.Fleet.{AreOnGoals};
 ghost use Rattle.fleet_run.specs.Source.{flag_of};
+ghost use Rattle.fleet_run.specs.Confirmed.{all_but, AreSent, IsFirstUnsent};
 
-use crate::rows::{flags_of, is_finished, rows_of};
+use crate::machine::{Machine, Tick};
 use crate::run::RunFault;
 use crate::sink::TraceOut;
-use crate::source::HoldSource;
-use crate::tick::{Tick, advance, is_ready_at};
+use crate::source::{HoldSource, flip};
 use crate::trace::{Report, run_trace};
-use fleet_model::{Place, ProgramView, Standing};
-use fleet_verify::{Accepted, awaits_are_chains, runs_arrive, runs_end, ticks_are_safe};
+use fleet_model::{Place, ProgramView, Step};
+use fleet_verify::{
+    Accepted, awaits_are_chains, ready_moves_are_apart, runs_arrive, runs_end, ticks_are_safe,
+};
 use std::alloc::Global;
 use std::marker::Model;
 
@@ -25,8 +28,7 @@ use std::marker::Model;
 #[derive(Drop)]
 pub struct Fleet<'g, P: ProgramView> {
     accepted: Accepted<'g, P>,
-    rows: Vec<Standing>,
-    moving: Vec<bool>,
+    machine: Machine,
 }
 
 impl<'g, P: ProgramView> Model for Fleet<'g, P> {
@@ -34,15 +36,21 @@ impl<'g, P: ProgramView> Model for Fleet<'g, P> {
 
     ghost Value = { FleetState P };
 
-    ghost view = { λ f. record { accepted = f.accepted; configuration = f.rows.items } };
+    ghost view = { λ f. record { accepted = f.accepted; configuration = f.machine.configuration } };
 
-    ghost invariant = { λ f. IsRunning (P.program f.accepted.program) f.accepted f.rows.items f.moving.items };
+    ghost invariant = { λ f. IsRunning (P.program f.accepted.program) f.accepted f.machine };
 }
 
 /// A fleet that did not start, for want of memory.
 #[derive(Drop)]
 pub struct StartRefusal<'g, P: ProgramView> {
     pub accepted: Accepted<'g, P>,
+}
+
+/// An agent that is reported to have carried out an order, and had none.
+#[derive(Clone, Copy, Debug, PartialEq, Eq)]
+pub struct NotSent {
+    pub agent: u16,
 }
 
 impl<'g, P: ProgramView> Fleet<'g, P> {
@@ -56,18 +64,10 @@ impl<'g, P: ProgramView> Fleet<'g, P> {
         ensures refused { IfErr result (λ r. r.accepted ≡ accepted.entry) }
     {
         ticks_are_safe();
-        let _ = accepted.chain();
-        let Ok(rows) = rows_of(alloc, accepted.program()) else {
+        let Ok(machine) = Machine::start(alloc, accepted.program()) else {
             return Err(StartRefusal { accepted });
         };
-        let Ok(moving) = flags_of(alloc, accepted.program().agents()) else {
-            return Err(StartRefusal { accepted });
-        };
-        Ok(Fleet {
-            accepted,
-            rows,
-            moving,
-        })
+        Ok(Fleet { accepted, machine })
     }
 
     /// One tick: every ready agent that is not held finishes one action, and all others stay. `held` has a flag for each
@@ -79,16 +79,35 @@ impl<'g, P: ProgramView> Fleet<'g, P> {
         ensures held { result.ready_held ≡ is_ready_held (P.program self.old.accepted.program) (flag_of held.now) self.old.configuration }
         // All places are passable and differ, and no agent stands where another stood before.
         ensures safe { IsSafeStep (is_passable self.old.accepted.grid) (length (P.program self.old.accepted.program)) self.old.configuration self.new.configuration }
+        // Who is held keeps its order.
+        ensures kept { (i : ℕ) → i < length (P.program self.old.accepted.program) → IsTrue (flag_of held.now i) → KeepsOrder (P.program self.old.accepted.program) self.old.configuration self.new.configuration i }
         ensures rest { IsTrue (is_finished (P.program self.old.accepted.program) self.old.configuration) → (self.new ≡ self.old) × (result.moved ≡ 0) × (result.ready_held ≡ false) }
     {
         awaits_are_chains();
         ticks_are_safe();
-        advance(
-            self.accepted.program(),
-            held,
-            &mut self.rows,
-            &mut self.moving,
-        )
+        ready_moves_are_apart();
+        self.machine.tick(self.accepted.program(), held)
+    }
+
+    /// The flagged agents have carried out their orders, and all others are still on their way or wait: a tick in which all others are
+    /// held. Where one of them had no order the first such agent is refused, and nothing changes. `done` has a flag for each agent, and
+    /// is overwritten. Takes no memory.
+    pub fn confirm(&mut self, done: &mut [bool]) -> Result<(), NotSent>
+        requires { length done.old ≡ length (P.program self.old.accepted.program) }
+        ensures accepted { self.new.accepted ≡ self.old.accepted }
+        ensures after { OnOk result (self.new ≡ record self.old { configuration = tick (P.program self.old.accepted.program) (all_but (flag_of done.old)) self.old.configuration }) }
+        ensures sent { OnOk result (AreSent (P.program self.old.accepted.program) self.old.configuration (flag_of done.old)) }
+        // Who is not among them stays, and keeps its order.
+        ensures kept { OnOk result ((i : ℕ) → i < length (P.program self.old.accepted.program) → IsFalse (flag_of done.old i) → KeepsOrder (P.program self.old.accepted.program) self.old.configuration self.new.configuration i) }
+        ensures refused { IfErr result (λ e. IsFirstUnsent (P.program self.old.accepted.program) self.old.configuration (flag_of done.old) e.agent) }
+        ensures unchanged { OnErr result (self.new ≡ self.old) }
+    {
+        if let Some(agent) = self.machine.first_unsent(self.accepted.program(), done) {
+            return Err(NotSent { agent });
+        }
+        flip(done);
+        self.tick(done);
+        Ok(())
     }
 
     /// Whether no action is left. Then every agent stands on its goal.
@@ -98,7 +117,7 @@ impl<'g, P: ProgramView> Fleet<'g, P> {
     {
         awaits_are_chains();
         runs_arrive();
-        is_finished(self.accepted.program(), &self.rows)
+        self.machine.is_finished(self.accepted.program())
     }
 
     /// Where agent `i` stands.
@@ -106,7 +125,7 @@ impl<'g, P: ProgramView> Fleet<'g, P> {
         requires { i < length (P.program self.now.accepted.program) }
         ensures { result ≡ place_at self.now.configuration i }
     {
-        self.rows[i as usize].place
+        self.machine.agent(i).place
     }
 
     /// How many actions agent `i` has finished.
@@ -114,7 +133,7 @@ impl<'g, P: ProgramView> Fleet<'g, P> {
         requires { i < length (P.program self.now.accepted.program) }
         ensures { result ≡ count_at self.now.configuration i }
     {
-        self.rows[i as usize].count
+        self.machine.agent(i).count
     }
 
     /// Whether agent `i` has an action left, all of whose awaits are met.
@@ -122,7 +141,40 @@ impl<'g, P: ProgramView> Fleet<'g, P> {
         requires { i < length (P.program self.now.accepted.program) }
         ensures { result ≡ is_ready (P.program self.now.accepted.program) self.now.configuration i }
     {
-        is_ready_at(self.accepted.program(), &self.rows, i)
+        self.machine.is_ready(self.accepted.program(), i)
+    }
+
+    /// The order that agent `i` may be given: the step of its next action, where it is ready. It stays the same until it is carried
+    /// out.
+    pub fn order(&self, i: u16) -> Option<Step>
+        requires { i < length (P.program self.now.accepted.program) }
+        ensures { result ≡ order_of (P.program self.now.accepted.program) self.now.configuration i }
+    {
+        self.machine.order(self.accepted.program(), i)
+    }
+
+    /// However long the agents take for their orders, no two of them meet: the places on which they stand and those to which their
+    /// orders lead are passable, and no two agents have one in common.
+    pub fn apart(&self)
+        ensures { AreApart (is_passable self.now.accepted.grid) (P.program self.now.accepted.program) self.now.configuration }
+    {
+        awaits_are_chains();
+        ready_moves_are_apart();
+        let _ = &self.machine;
+    }
+
+    /// How many agents there are.
+    pub fn agents(&self) -> u16
+        ensures { result ≡ length (P.program self.now.accepted.program) }
+    {
+        self.accepted.program().agents()
+    }
+
+    /// The accepted program that was started.
+    pub fn accepted(&self) -> &Accepted<'g, P>
+        ensures { result.now ≡ self.now.accepted }
+    {
+        &self.accepted
     }
 
     /// The accepted program that was started.
@@ -131,8 +183,7 @@ impl<'g, P: ProgramView> Fleet<'g, P> {
     {
         let Fleet {
             accepted,
-            rows: _,
-            moving: _,
+            machine: _,
         } = self;
         accepted
     }
@@ -166,8 +217,7 @@ pub fn drive<P: ProgramView, S: HoldSource, O: TraceOut>(
     run_trace(
         fleet.accepted.program(),
         chain,
-        &mut fleet.rows,
-        &mut fleet.moving,
+        &mut fleet.machine,
         source,
         out,
     )

@@ -3,10 +3,11 @@
 ghost use Rattle.std.specs.Prelude.{◌≡◌, length, IfOk, All};
 
 use super::*;
-use crate::tests::{failing_source, pair, short_out};
+use crate::tests::{self, failing_source, pair, short_out, two_walkers};
 use fleet_grid::{Grid, read_map};
 use fleet_model::{
-    Action, AgentProgram, Awaits, Cell, Dir, OutOfMemory, Place, Program, ProgramView, well_formed,
+    Action, AgentProgram, Awaits, Cell, Dir, OutOfMemory, Place, Program, ProgramView, Step,
+    well_formed,
 };
 use fleet_scen::{Instance, read_scen};
 use fleet_verify::verify;
@@ -18,6 +19,9 @@ const FOUR_CELLS: &[u8] = b"type octile\nheight 1\nwidth 4\nmap\n....\n";
 
 /// Agent 0 from 1,0 to 3,0 and agent 1 from 0,0 to 2,0.
 const TWO_AGENTS: &[u8] = b"version 1\n0 m 4 1 1 0 3 0 x\n0 m 4 1 0 0 2 0 x\n";
+
+/// The order to go one cell to the east.
+const EAST: Option<Step> = Some(Step::Go(Dir::East));
 
 const IN_TIME: &[u8] =
     b"0: 1,0 0,0\n1: 2,0 0,0\n2: 3,0 1,0\n3: 3,0 2,0\nagents 2\nticks 3\nchain 3\nheld 0\n";
@@ -100,6 +104,40 @@ fn a_pair_is_driven(rt: HostRuntime) -> Result<(), Fail> {
     Ok(())
 }
 
+/// A stay takes a tick, as a move does, before the moves and after them.
+#[test]
+fn stays_are_driven(rt: HostRuntime) -> Result<(), Fail> {
+    let alloc = rt.alloc();
+    let grid = read_map(alloc, FOUR_CELLS)?;
+    let instance = read_scen(alloc, TWO_AGENTS, &grid, None)?;
+    let stay = (Step::Dwell, 0);
+    let first = [stay, (tests::EAST, 0), (tests::EAST, 0)];
+    let late = two_walkers(alloc, &first, &[(tests::EAST, 2), (tests::EAST, 3)])?;
+    let fleet = fleet_of(alloc, late, &grid, &instance)?;
+    let text =
+        b"0: 1,0 0,0\n1: 1,0 0,0\n2: 2,0 0,0\n3: 3,0 1,0\n4: 3,0 2,0\nagents 2\nticks 4\nchain 4\nheld 0\n";
+    let report = Report {
+        chain: 4,
+        ..report_of(4, 0)
+    };
+    check_run(&rt, alloc, fleet, b"", report, text)?;
+    let first = [(tests::EAST, 0), (tests::EAST, 0), stay, stay];
+    let second = [(tests::EAST, 1), (tests::EAST, 2), stay, stay];
+    let fleet = fleet_of(
+        alloc,
+        two_walkers(alloc, &first, &second)?,
+        &grid,
+        &instance,
+    )?;
+    let text =
+        b"0: 1,0 0,0\n1: 2,0 0,0\n2: 3,0 1,0\n3: 3,0 2,0\n4: 3,0 2,0\n5: 3,0 2,0\nagents 2\nticks 5\nchain 5\nheld 0\n";
+    let report = Report {
+        chain: 5,
+        ..report_of(5, 0)
+    };
+    check_run(&rt, alloc, fleet, b"", report, text)
+}
+
 #[test]
 fn a_list_holds_agents_back(rt: HostRuntime) -> Result<(), Fail> {
     let alloc = rt.alloc();
@@ -147,7 +185,7 @@ fn walker(alloc: Global, moves: u32, column: u16) -> Result<Program, Fail> {
     let mut actions = Vec::new(alloc);
     for n in 0..moves {
         actions.push(Action {
-            dir: if n % 2 == 0 { Dir::East } else { Dir::West },
+            step: Step::Go(if n % 2 == 0 { Dir::East } else { Dir::West }),
             awaits: Awaits::new(alloc),
         })?;
     }
@@ -316,5 +354,43 @@ fn ticks_tell_who_moved_and_who_was_held(rt: HostRuntime) -> Result<(), Fail> {
     check_tick(&rt, &mut fleet, [true, false], 1, false);
     check_tick(&rt, &mut fleet, [false, false], 1, false);
     assert!(rt; fleet.finished());
+    Ok(())
+}
+
+/// A report to a fleet of two agents, and what it has to answer.
+fn check_confirm(
+    rt: &impl Abort,
+    fleet: &mut Fleet<'_, Program>,
+    done: [bool; 2],
+    answer: Result<(), NotSent>,
+)
+    requires { length fleet.old.accepted.program ≡ 2 }
+    ensures { fleet.new.accepted ≡ fleet.old.accepted }
+{
+    let mut done = done;
+    assert_eq!(rt; fleet.confirm(&mut done), answer);
+}
+
+#[test]
+fn a_pair_is_sent_and_confirmed(rt: HostRuntime) -> Result<(), Fail> {
+    let alloc = rt.alloc();
+    let grid = read_map(alloc, FOUR_CELLS)?;
+    let instance = read_scen(alloc, TWO_AGENTS, &grid, None)?;
+    let mut fleet = fleet_of(alloc, pair(alloc)?, &grid, &instance)?;
+    assert_eq!(rt; fleet.agents(), 2);
+    assert_eq!(rt; [fleet.order(0), fleet.order(1)], [EAST, None]);
+    // Agent 1 was given no order.
+    check_confirm(&rt, &mut fleet, [true, true], Err(NotSent { agent: 1 }));
+    assert_eq!(rt; [fleet.order(0), fleet.order(1)], [EAST, None]);
+    check_confirm(&rt, &mut fleet, [true, false], Ok(()));
+    assert_eq!(rt; [fleet.order(0), fleet.order(1)], [EAST, EAST]);
+    // Agent 1 comes before agent 0, which takes long for its move.
+    check_confirm(&rt, &mut fleet, [false, true], Ok(()));
+    assert_eq!(rt; [fleet.order(0), fleet.order(1)], [EAST, None]);
+    assert_eq!(rt; fleet.place(1), Place { x: 1, y: 0 });
+    check_confirm(&rt, &mut fleet, [true, false], Ok(()));
+    check_confirm(&rt, &mut fleet, [false, true], Ok(()));
+    assert!(rt; fleet.finished());
+    assert_eq!(rt; fleet.accepted().chain(), 3);
     Ok(())
 }

@@ -6,26 +6,25 @@ mod digits;
 mod fleet;
 mod hold_list;
 mod hold_text;
+mod machine;
 mod report;
-mod rows;
 mod run;
 mod sink;
 mod sinks;
 mod source;
 mod text;
-mod tick;
 mod trace;
 
 pub use digits::write_number;
-pub use fleet::{Fleet, StartRefusal, drive};
+pub use fleet::{Fleet, NotSent, StartRefusal, drive};
 pub use hold_list::HoldList;
 pub use hold_text::{HoldText, a_tick_line_is_read};
+pub use machine::Tick;
 pub use report::{Rehearsal, rehearse};
 pub use run::{End, RunFault};
 pub use sink::{OutFault, TraceOut, put_all};
 pub use sinks::{VecOut, WriteOut};
 pub use source::{HoldSource, SourceFault};
-pub use tick::Tick;
 pub use trace::Report;
 
 #[cfg(test)]

@@ -3,11 +3,11 @@
 ghost use Rattle.std.specs.Prelude.{◌≡◌, false, None};
 ghost use Rattle.fleet_run.specs.Rehearsal.{Rehearses};
 
-use crate::rows::{flags_of, rows_of};
+use crate::machine::Machine;
 use crate::run::{End, RunFault, run_lines};
 use crate::sink::{TraceOut, put_all};
 use crate::source::HoldSource;
-use crate::text::{CLOSING, LINE, write_rehearsal_closing};
+use crate::text::{CLOSING, write_rehearsal_closing};
 use fleet_model::ProgramView;
 use std::alloc::Global;
 
@@ -34,25 +34,10 @@ pub fn rehearse<P: ProgramView, S: HoldSource, O: TraceOut>(
         result }
 {
     let agents = program.agents();
-    let Ok(mut rows) = rows_of(alloc, program) else {
+    let Ok(mut machine) = Machine::start(alloc, program) else {
         return Err(RunFault::OutOfMemory);
     };
-    let Ok(mut moving) = flags_of(alloc, agents) else {
-        return Err(RunFault::OutOfMemory);
-    };
-    let Ok(mut flags) = flags_of(alloc, agents) else {
-        return Err(RunFault::OutOfMemory);
-    };
-    let mut line = [0; LINE];
-    let ran = run_lines(
-        program,
-        &mut rows,
-        &mut moving,
-        &mut flags,
-        &mut line,
-        source,
-        out,
-    )?;
+    let ran = run_lines(program, &mut machine, source, out)?;
     let mut closing = [0; CLOSING];
     let at = write_rehearsal_closing(agents, ran.ticks, ran.held, ran.end, &mut closing);
     if put_all(out, &closing[at..]).is_err() {

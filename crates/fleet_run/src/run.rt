@@ -1,18 +1,16 @@
 //! Runs, line by line.
 
 ghost use Rattle.std.specs.Prelude.{◌≡◌, ◌<◌, ◌≤◌, length, false, None};
-ghost use Rattle.fleet_model.specs.Program.{IsWellFormed};
 ghost use Rattle.fleet_model.specs.Machine.{opening};
-ghost use Rattle.fleet_run.specs.Near.{AreNear};
+ghost use Rattle.fleet_run.specs.Machine.{Runs};
 ghost use Rattle.fleet_run.specs.Text.{line_of};
 ghost use Rattle.fleet_run.specs.Sink.{TakesAll};
 ghost use Rattle.fleet_run.specs.Outcome.{end_of, fault_of, RunsLines};
 
-use crate::rows::is_finished;
+use crate::machine::Machine;
 use crate::sink::{OutFault, TraceOut, put_all};
 use crate::source::{HoldSource, SourceFault, ask};
 use crate::text::{LINE, write_line};
-use crate::tick::{advance, is_ready_at};
 use fleet_model::{ProgramView, Standing};
 use thiserror::Error;
 
@@ -47,16 +45,16 @@ pub struct Ran {
 }
 
 /// How a run has ended, if it has.
-fn end_at<P: ProgramView>(program: &P, rows: &[Standing]) -> Option<End>
-    requires well_formed { IsWellFormed (P.program program.now) }
-    requires rows { length rows.now ≡ length (P.program program.now) }
-    ensures { result ≡ end_of (P.program program.now) rows.now }
+#[tactic(auto, using(crate::proofs::Ending::goes_on, crate::proofs::Ending::none_ready_more))]
+fn end_at<P: ProgramView>(program: &P, machine: &Machine) -> Option<End>
+    requires runs { Runs (P.program program.now) machine.now }
+    ensures { result ≡ end_of (P.program program.now) machine.now.configuration }
 {
-    if is_finished(program, rows) {
+    if machine.is_finished(program) {
         return Some(End::Finished);
     }
     for i in 0..program.agents() {
-        if is_ready_at(program, rows, i) {
+        if machine.is_ready(program, i) {
             return None;
         }
     }
@@ -79,6 +77,9 @@ fn put_line<O: TraceOut>(
     put_all(out, &line[at..])
 }
 
+/// How many agents a program has at most.
+const MAX_AGENTS: usize = 1024;
+
 /// How many ticks a run takes from its source.
 pub const MOST_TICKS: u32 = 4_194_304;
 
@@ -93,36 +94,33 @@ fn fault_at(fault: SourceFault, tick: u32) -> RunFault
     }
 }
 
-/// Runs a program from its start, and writes the line of each time.
+/// Runs a program from its start, and writes the line of each time. Takes no memory.
 pub fn run_lines<P: ProgramView, S: HoldSource, O: TraceOut>(
     program: &P,
-    rows: &mut [Standing],
-    moving: &mut [bool],
-    flags: &mut [bool],
-    line: &mut [u8],
+    machine: &mut Machine,
     source: &mut S,
     out: &mut O,
 ) -> Result<Ran, RunFault>
-    requires well_formed { IsWellFormed (P.program program.now) }
-    requires rows { rows.old ≡ opening (P.program program.now) }
-    requires near { AreNear rows.old }
-    requires moving { length moving.old ≡ length (P.program program.now) }
-    requires flags { length flags.old ≡ length (P.program program.now) }
-    requires line { length line.old ≡ LINE }
+    requires runs { Runs (P.program program.now) machine.old }
+    requires opening { machine.old.configuration ≡ opening (P.program program.now) }
     requires source { S.fault source.old ≡ None }
     requires sink { O.has_failed out.old ≡ false }
-    ensures { RunsLines (P.program program.now) (S.ticks source.old)
+    ensures runs { Runs (P.program program.now) machine.new }
+    ensures lines { RunsLines (P.program program.now) (S.ticks source.old)
         (record { last = S.last source.old; now = S.last source.new; left = S.ticks source.new; fault = S.fault source.new; before = O.taken out.old; taken = O.taken out.new; has_failed = O.has_failed out.new })
-        rows.new result }
+        machine.new.configuration result }
 {
+    let mut flags = [false; MAX_AGENTS];
+    let flags = &mut flags[..program.agents() as usize];
+    let mut line = [0; LINE];
     let mut ticks = 0;
     let mut held = 0;
     let mut ended = false;
     'ticks: loop {
-        if put_line(out, ticks, rows, line).is_err() {
+        if put_line(out, ticks, machine.agents(), &mut line).is_err() {
             return Err(RunFault::Write);
         }
-        if let Some(end) = end_at(program, rows) {
+        if let Some(end) = end_at(program, machine) {
             return Ok(Ran { ticks, held, end });
         }
         let more = match ask(source, ended, flags) {
@@ -132,7 +130,7 @@ pub fn run_lines<P: ProgramView, S: HoldSource, O: TraceOut>(
         if more && ticks == MOST_TICKS {
             return Err(RunFault::HoldLimit);
         }
-        let tick = advance(program, flags, rows, moving);
+        let tick = machine.tick(program, flags);
         if tick.ready_held {
             held += 1;
         }

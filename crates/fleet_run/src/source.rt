@@ -1,8 +1,8 @@
 //! Sources of held sets: a source stands for the ticks that it can still give, and for what comes after them.
 
-ghost use Rattle.std.specs.Prelude.{◌≡◌, ◌<◌, true, false, [], None};
+ghost use Rattle.std.specs.Prelude.{◌≡◌, ℕ, ◌<◌, not, length, true, false, [], None};
 ghost use Rattle.fleet_model.specs.Machine.{Holds};
-ghost use Rattle.fleet_run.specs.Source.{GivesTick, AsksTick, AreFlagsOf};
+ghost use Rattle.fleet_run.specs.Source.{GivesTick, AsksTick, AreFlagsOf, flag_of};
 
 /// As what a source failed: it broke off, or its text has no tick where one was asked for.
 #[derive(Clone, Copy, Debug, PartialEq, Eq)]
@@ -42,6 +42,15 @@ pub fn clear(flags: &mut [bool])
 {
     for flag in flags.iter_mut() {
         *flag = false;
+    }
+}
+
+/// Turns each flag over.
+pub fn flip(flags: &mut [bool])
+    ensures { (i : ℕ) → i < length flags.old → flag_of flags.new i ≡ not (flag_of flags.old i) }
+{
+    for i in 0..flags.len() {
+        flags[i] = !flags[i];
     }
 }
 

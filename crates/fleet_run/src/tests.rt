@@ -4,7 +4,7 @@ ghost use Rattle.std.specs.Prelude.{◌≡◌, length, IfOk, false};
 
 use super::*;
 use fleet_model::{
-    Action, AgentProgram, Await, Awaits, Cell, Dir, OutOfMemory, Program, well_formed,
+    Action, AgentProgram, Await, Awaits, Cell, Dir, OutOfMemory, Program, Step, well_formed,
 };
 use std::alloc::Global;
 use std::test::Fail;
@@ -12,45 +12,71 @@ use std::test::Fail;
 const PAIR_TEXT: &[u8] =
     b"0: 1,0 0,0\n1: 2,0 0,0\n2: 3,0 1,0\n3: 3,0 2,0\nagents 2\nticks 3\nheld 0\nfinished\n";
 
-/// A move to the east, which awaits so many actions of agent 0.
-fn east(alloc: Global, count: u32) -> Result<Action, OutOfMemory> {
+/// A move to the east.
+pub(crate) const EAST: Step = Step::Go(Dir::East);
+
+/// An action, which awaits so many actions of agent 0.
+fn action(alloc: Global, step: Step, count: u32) -> Result<Action, OutOfMemory> {
     let mut awaits = Awaits::new(alloc);
     if count > 0 {
         awaits.push(Await { agent: 0, count })?;
     }
-    Ok(Action {
-        dir: Dir::East,
-        awaits,
-    })
+    Ok(Action { step, awaits })
 }
 
-/// An agent that goes two cells to the east, from column to column, and awaits so many actions of agent 0 at each.
-fn runner(
+/// An agent in the first row, from column to column, by these steps, each of which awaits so many actions of agent 0.
+fn walker(
     alloc: Global,
     from: u16,
     to: u16,
-    counts: [u32; 2],
+    steps: &[(Step, u32)],
 ) -> Result<AgentProgram, OutOfMemory> {
     let mut actions = Vec::new(alloc);
-    for count in counts {
-        actions.push(east(alloc, count)?)?;
+    for &(step, count) in steps {
+        actions.push(action(alloc, step, count)?)?;
     }
     let start = Cell { x: from, y: 0 };
     let goal = Cell { x: to, y: 0 };
     Ok(AgentProgram::new(start, goal, actions))
 }
 
-/// Agent 0 from 1,0 to 3,0, and agent 1 behind it from 0,0 to 2,0.
-pub(crate) fn pair(alloc: Global) -> Result<Program, Fail>
+/// Agent 0 from 1,0 to 3,0, and agent 1 behind it from 0,0 to 2,0, by these steps.
+pub(crate) fn two_walkers(
+    alloc: Global,
+    first: &[(Step, u32)],
+    second: &[(Step, u32)],
+) -> Result<Program, Fail>
     ensures { IfOk result (λ p. length p ≡ 2) }
 {
     let mut agents = Vec::new(alloc);
-    agents.push(runner(alloc, 1, 3, [0, 0])?)?;
-    agents.push(runner(alloc, 0, 2, [1, 2])?)?;
+    agents.push(walker(alloc, 1, 3, first)?)?;
+    agents.push(walker(alloc, 0, 2, second)?)?;
     if !well_formed(&agents) {
         return Err(Fail::from("no program"));
     }
     Ok(Program::new(agents))
+}
+
+/// Agent 0 goes two cells to the east, and agent 1 follows as soon as it may.
+pub(crate) fn pair(alloc: Global) -> Result<Program, Fail>
+    ensures { IfOk result (λ p. length p ≡ 2) }
+{
+    two_walkers(alloc, &[(EAST, 0), (EAST, 0)], &[(EAST, 1), (EAST, 2)])
+}
+
+/// Agent 1 awaits that agent 0 has stayed and not that it has left, so holds bring both onto one cell.
+#[test]
+fn a_stay_is_rehearsed(rt: HostRuntime) -> Result<(), Fail> {
+    let alloc = rt.alloc();
+    let first = [(Step::Dwell, 0), (EAST, 0), (EAST, 0)];
+    let hasty = two_walkers(alloc, &first, &[(EAST, 1), (EAST, 3)])?;
+    let mut out = VecOut::new(alloc);
+    rehearse(alloc, &hasty, &mut HoldText::new(b"-\n0\n", 2), &mut out)?;
+    assert_eq!(rt;
+        out.bytes(),
+        b"0: 1,0 0,0\n1: 1,0 0,0\n2: 1,0 1,0\n3: 2,0 1,0\n4: 3,0 1,0\n5: 3,0 2,0\nagents 2\nticks 5\nheld 1\nfinished\n".as_slice()
+    );
+    Ok(())
 }
 
 #[test]

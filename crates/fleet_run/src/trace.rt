@@ -1,16 +1,17 @@
 //! Runs of accepted programs, with their trace text.
 
-ghost use Rattle.std.specs.Prelude.{◌≡◌, length, false, None};
+ghost use Rattle.std.specs.Prelude.{◌≡◌, false, None};
 ghost use Rattle.fleet_model.specs.Machine.{opening};
-ghost use Rattle.fleet_run.specs.Near.{AreNear};
+ghost use Rattle.fleet_run.specs.Machine.{Runs};
 ghost use Rattle.fleet_run.specs.Fleet.{IsShown};
 ghost use Rattle.fleet_run.specs.Drive.{Drives};
 
+use crate::machine::Machine;
 use crate::run::{RunFault, run_lines};
 use crate::sink::{TraceOut, put_all};
 use crate::source::HoldSource;
-use crate::text::{CLOSING, LINE, write_trace_closing};
-use fleet_model::{ProgramView, Standing};
+use crate::text::{CLOSING, write_trace_closing};
+use fleet_model::ProgramView;
 
 /// What a run of a fleet did.
 #[derive(Clone, Copy, Debug, PartialEq, Eq)]
@@ -25,33 +26,22 @@ pub struct Report {
 pub fn run_trace<P: ProgramView, S: HoldSource, O: TraceOut>(
     program: &P,
     chain: u32,
-    rows: &mut [Standing],
-    moving: &mut [bool],
+    machine: &mut Machine,
     source: &mut S,
     out: &mut O,
 ) -> Result<Report, RunFault>
     requires shown { IsShown (P.program program.now) chain }
-    requires rows { rows.old ≡ opening (P.program program.now) }
-    requires near { AreNear rows.old }
-    requires moving { length moving.old ≡ length (P.program program.now) }
+    requires runs { Runs (P.program program.now) machine.old }
+    requires opening { machine.old.configuration ≡ opening (P.program program.now) }
     requires source { S.fault source.old ≡ None }
     requires sink { O.has_failed out.old ≡ false }
-    ensures { Drives (P.program program.now) chain (S.ticks source.old)
+    ensures runs { Runs (P.program program.now) machine.new }
+    ensures outcome { Drives (P.program program.now) chain (S.ticks source.old)
         (record { last = S.last source.old; now = S.last source.new; left = S.ticks source.new; fault = S.fault source.new; before = O.taken out.old; taken = O.taken out.new; has_failed = O.has_failed out.new })
-        rows.new result }
+        machine.new.configuration result }
 {
-    let mut flags = [false; 1024];
-    let mut line = [0; LINE];
     let agents = program.agents();
-    let ran = run_lines(
-        program,
-        rows,
-        moving,
-        &mut flags[..agents as usize],
-        &mut line,
-        source,
-        out,
-    )?;
+    let ran = run_lines(program, machine, source, out)?;
     let mut closing = [0; CLOSING];
     let at = write_trace_closing(agents, ran.ticks, chain, ran.held, &mut closing);
     if put_all(out, &closing[at..]).is_err() {

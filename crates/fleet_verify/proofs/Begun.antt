@@ -7,12 +7,12 @@ use Rattle.std.proofs.lemmas.List.{map-id, map-append, append_assoc}
 use Rattle.std.proofs.lemmas.List.Elements.{filter-append}
 use Rattle.std.proofs.lemmas.List.FromFn.{map-range_with_len_more}
 use Rattle.fleet_model.specs.declared.geometry.Cell.{Cell}
-use Rattle.fleet_model.specs.declared.geometry.Dir.{Dir}
+use Rattle.fleet_model.specs.declared.geometry.Step.{Step}
 use Rattle.fleet_model.specs.declared.geometry.Place.{Place}
 use Rattle.fleet_model.specs.declared.program.Visit.{Visit}
-use Rattle.fleet_model.specs.Geometry.{place_of, moved}
+use Rattle.fleet_model.specs.Geometry.{place_of, stepped}
 use Rattle.fleet_model.specs.Machine.{indices}
-use Rattle.fleet_model.specs.Program.{Program, origin, dir_of, path}
+use Rattle.fleet_model.specs.Program.{Program, origin, step_of, path}
 use Rattle.fleet_verify.specs.Walk.{begun_by, AreCells}
 use Rattle.fleet_verify.proofs.Paths.{path_step}
 use Rattle.std.proofs.Common.{Option, None, rules}
@@ -51,11 +51,11 @@ module _ (p : Program) (moving : ℕ → Bool) (old : List ℕ) (counts : List �
   }
 
   -- where a moving agent comes to
-  pub comes_to : (d : Dir) (c : Cell) → i < length p → dir_of p i (slice_index counts i + 1) ≡ Some d → place_of c ≡ moved (place_of (get_or cells i origin)) d
+  pub comes_to : (d : Step) (c : Cell) → i < length p → step_of p i (slice_index counts i + 1) ≡ Some d → place_of c ≡ stepped (place_of (get_or cells i origin)) d
       → place_of c ≡ path p i (slice_index counts i + 1)
-  comes_to d c agent dir to = to ∙ ap (λ (q : Place). moved q d) (h.here.here i agent) ∙ sym (path_step p i (slice_index counts i) d dir)
+  comes_to d c agent dir to = to ∙ ap (λ (q : Place). stepped q d) (h.here.here i agent) ∙ sym (path_step p i (slice_index counts i) d dir)
 
-  pub one_moves : (d : Dir) (c : Cell) → i < length p → i < length counts → moving i ≡ true → dir_of p i (slice_index counts i + 1) ≡ Some d → place_of c ≡ moved (place_of (get_or cells i origin)) d
+  pub one_moves : (d : Step) (c : Cell) → i < length p → i < length counts → moving i ≡ true → step_of p i (slice_index counts i + 1) ≡ Some d → place_of c ≡ stepped (place_of (get_or cells i origin)) d
       → IsAdvanced p moving old (set counts i (slice_index counts i + 1)) (set cells i c) (i + 1)
   one_moves d c agent inside flag dir to = record {
     done = below_more (λ k. slice_index next k ≡ slice_index old k + (cond (moving k) 1 0)) i
@@ -86,11 +86,11 @@ module _ (p : Program) (moving : ℕ → Bool) (old : List ℕ) (counts : List �
       ∙ ap (λ vs. visits ++ vs) (ap (λ n. begun_by moving (slice_index old) i ++ visit i (n + 1) ∷ []) (h.rest i (omega arith)) ∙ sym (begun_yes moving (slice_index old) i flag))
 
 -- what an agent's next action leads to is passable
-pub next_stands : (passable : Place → Bool) (p : Program) (counts : List ℕ) (cells : List Cell) (i : ℕ) (d : Dir) → EachAction p (StandsRight passable p) → AreCells p counts cells
-    → i < length p → slice_index counts i < moves p i → dir_of p i (slice_index counts i + 1) ≡ Some d → passable (moved (place_of (get_or cells i origin)) d) ≡ true
+pub next_stands : (passable : Place → Bool) (p : Program) (counts : List ℕ) (cells : List Cell) (i : ℕ) (d : Step) → EachAction p (StandsRight passable p) → AreCells p counts cells
+    → i < length p → slice_index counts i < moves p i → step_of p i (slice_index counts i + 1) ≡ Some d → passable (stepped (place_of (get_or cells i origin)) d) ≡ true
 next_stands passable p counts cells i d steps at agent left dir =
-    let e : path p i (slice_index counts i + 1) ≡ moved (place_of (get_or cells i origin)) d =
-    path_step p i (slice_index counts i) d dir ∙ ap (λ (q : Place). moved q d) (sym (at.here i agent)) in
+    let e : path p i (slice_index counts i + 1) ≡ stepped (place_of (get_or cells i origin)) d =
+    path_step p i (slice_index counts i) d dir ∙ ap (λ (q : Place). stepped q d) (sym (at.here i agent)) in
     let h : passable (path p i (slice_index counts i + 1)) ≡ true = steps i (slice_index counts i + 1) agent (omega arith) in
     sym (ap passable e) ∙ h
 
@@ -103,14 +103,14 @@ some_to passable None c q e h = absurd cc
 some_to passable (Some x) c q e h = subst (λ (y : Cell). place_of y ≡ q) (same_Some x c e) h.0
 
 -- the cell after an agent's next action
-pub next_cell : (passable : Place → Bool) (p : Program) (i n : ℕ) (c next : Cell) (d : Dir) (r : Option Cell) → place_of c ≡ path p i n → dir_of p i (n + 1) ≡ Some d
-    → r ≡ Some next → IfSome r (λ x. (place_of x ≡ moved (place_of c) d) × IsTrue (passable (place_of x))) → place_of next ≡ path p i (n + 1)
+pub next_cell : (passable : Place → Bool) (p : Program) (i n : ℕ) (c next : Cell) (d : Step) (r : Option Cell) → place_of c ≡ path p i n → step_of p i (n + 1) ≡ Some d
+    → r ≡ Some next → IfSome r (λ x. (place_of x ≡ stepped (place_of c) d) × IsTrue (passable (place_of x))) → place_of next ≡ path p i (n + 1)
 next_cell passable p i n c next d r here dir e to =
-    some_to passable r next (moved (place_of c) d) e to ∙ (ap (λ (q : Place). moved q d) here ∙ sym (path_step p i n d dir))
+    some_to passable r next (stepped (place_of c) d) e to ∙ (ap (λ (q : Place). stepped q d) here ∙ sym (path_step p i n d dir))
 
-pub next_there : (passable : Place → Bool) (p : Program) (i n : ℕ) (c : Cell) (d : Dir) (r : Option Cell) → EachAction p (StandsRight passable p) → i < length p → n < moves p i
-    → place_of c ≡ path p i n → dir_of p i (n + 1) ≡ Some d → IfNone r (passable (moved (place_of c) d) ≡ false) → IsSome r
+pub next_there : (passable : Place → Bool) (p : Program) (i n : ℕ) (c : Cell) (d : Step) (r : Option Cell) → EachAction p (StandsRight passable p) → i < length p → n < moves p i
+    → place_of c ≡ path p i n → step_of p i (n + 1) ≡ Some d → IfNone r (passable (stepped (place_of c) d) ≡ false) → IsSome r
 next_there passable p i n c d r steps agent left here dir none =
-    let e : path p i (n + 1) ≡ moved (place_of c) d = path_step p i n d dir ∙ ap (λ (q : Place). moved q d) (sym here) in
+    let e : path p i (n + 1) ≡ stepped (place_of c) d = path_step p i n d dir ∙ ap (λ (q : Place). stepped q d) (sym here) in
     let h : passable (path p i (n + 1)) ≡ true = steps i (n + 1) agent (omega arith) in
-    some_there r (passable (moved (place_of c) d)) none (sym (ap passable e) ∙ h)
+    some_there r (passable (stepped (place_of c) d)) none (sym (ap passable e) ∙ h)

@@ -17,9 +17,10 @@ use Rattle.fleet_verify.specs.declared.fault.VerifyFault.TheVariants.{Unordered}
 use Rattle.fleet_verify.specs.declared.watch.Break.{Break}
 use Rattle.indexmap.specs.IndexMap.{get}
 use Rattle.fleet_verify.specs.declared.watch.Watch.{Watch}
-use Rattle.fleet_verify.specs.Order.{same_place, visits_of, IsFirstBreak, IsJudged, AreAllStays, AreBreaks, AreWatched}
+use Rattle.fleet_verify.specs.Order.{same_place, visits_of, IsJudged, AreAllStays, AreBreaks, AreWatched}
 use Rattle.fleet_verify.proofs.Ordered.{same_place-true}
-use Rattle.fleet_verify.specs.Faults.{HasRanges, IsFault, IsSooner, IsOrderlyAt}
+use Rattle.fleet_model.proofs.Visits.{IsIn, is_in}
+use Rattle.fleet_verify.specs.Faults.{IsFirstBreak, HasRanges, IsFault, IsSooner, IsOrderlyAt}
 
 -- the visits of the place come one after another
 abbrev pub InTurn : Program → Place → Type 0
@@ -60,11 +61,15 @@ found_fault passable tasks p stays agent n c right all a m e h v w broken = (
 )
   where
     earlier : (u : Visit) → IsVisit p u → ((x : Visit) → IsVisitOf p (place_of c) x → IsSooner u x) → IsOrderlyAt ComesAfterByAwait p (path p u.agent u.position)
-    earlier u is sooner = turn (sooner (record { agent = agent; position = n }) (record { agent = a; position = m; place = sym e }))
+    earlier u is sooner = turn (sooner (record { agent = agent; position = begun.0 }) (record { agent = a; position = omega (arith, begun.1.within); entered = begun.1.entered; place = begun.1.place ∙ sym e }))
       where
-        turn : IsSooner u (record { agent = agent; position = n }) → InTurn p (path p u.agent u.position)
+        -- the visit that the agent is in then
+        begun : (k : ℕ) × IsIn p agent n k
+        begun = is_in p agent n m
+
+        turn : IsSooner u (record { agent = agent; position = begun.0 }) → InTurn p (path p u.agent u.position)
         turn (inl l) = h.before u.agent u.position l is.position
-        turn (inr (g, l)) = subst (λ (i : ℕ). InTurn p (path p i u.position)) (sym g) (h.here u.position l)
+        turn (inr (g, l)) = subst (λ (i : ℕ). InTurn p (path p i u.position)) (sym g) (h.here u.position (omega (arith, l, begun.1.within)))
 
 pub all_in_turn : (p : Program) (stays : List Stay) (agent : ℕ) → AreAllStays p stays → AreJudged p agent 0 → length p ≤ agent → IsOrderly ComesAfterByAwait p
 all_in_turn p stays agent all h l q = go (visits_of q stays) refl

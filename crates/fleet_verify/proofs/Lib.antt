@@ -18,6 +18,7 @@ pub mod Finish
 pub mod ReadyBy
 pub mod Pigeon
 pub mod Paths
+pub mod Leaving
 pub mod Ranges
 pub mod AgentRight
 pub mod Begun
@@ -29,3 +30,4 @@ pub mod Wanted
 pub mod Waiting
 pub mod Judged
 pub mod Refuses
+pub mod Claimed

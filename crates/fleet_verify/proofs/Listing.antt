@@ -1,5 +1,5 @@
 -- Orders of visits, and the listing sorted by the levels of the entering actions.
-use Rattle.std.proofs.Common.{◌≡◌, ℕ, zero, suc, ◌+◌, ◌<◌, ◌≤◌, Bool, cond, List, [], ◌∷◌, ◌++◌, length, get_or, refl, sym, ap, subst, arith, inl, inr}
+use Rattle.std.proofs.Common.{◌≡◌, ℕ, zero, suc, ◌+◌, ◌<◌, ◌≤◌, Bool, true, cond, List, [], ◌∷◌, ◌++◌, length, get_or, refl, sym, ap, subst, arith, inl, inr}
 use Rattle.std.specs.Prelude.{Contains}
 use Rattle.std.proofs.lemmas.Bool.{cases_lt, eq-eqb, ne_eqb}
 use Rattle.std.proofs.lemmas.List.{length-append}
@@ -10,9 +10,10 @@ use Rattle.fleet_model.specs.declared.program.Visit.{Visit}
 use Rattle.fleet_model.specs.declared.task.Task.{Task}
 use Rattle.fleet_model.specs.Program.{Program, moves, awaits_of, AreInRange}
 use Rattle.fleet_model.specs.Chain.{IsAction, DirectlyNeeds, ChainFrom, Reaches, EndsChain, IsNumbering, awaited}
-use Rattle.fleet_model.specs.Visit.{IsVisitOf, ListsVisits, Adjacent, ComesAfterByAwait, ComesAfterByChain, entering, leaving}
+use Rattle.fleet_model.specs.Visit.{is_entry, next_move, IsVisitOf, ListsVisits, Adjacent, ComesAfterByAwait, ComesAfterByChain, entering, leaving}
 use Rattle.fleet_model.specs.Accepted.{IsAccepted}
 use Rattle.fleet_verify.specs.Listing.{AreLevels, entry_level, IsBefore, IsSortedListing}
+use Rattle.fleet_model.proofs.Visits.{next_upto}
 use Rattle.fleet_model.proofs.Chains.{Reaches-first, Reaches-last, Reaches-need}
 use Rattle.fleet_verify.proofs.Chains.{chain_join, own_reach, Reaches-rises, Reaches-trans}
 use Rattle.fleet_verify.proofs.Members.{contains_none}
@@ -38,8 +39,9 @@ levels_number p level h = record {
 -- the order of two visits, as a chain
 pub after_reaches : (p : Program) (q : Place) (v w : Visit) → IsVisitOf p q w → ComesAfterByChain p v w → Reaches p (leaving p v) (entering w)
 after_reaches p q v w h (inl (e, l)) =
-    subst (λ i. Reaches p (record { agent = i; number = v.position + 1 }) (entering w)) (sym e)
-    (own_reach p w.agent (v.position + 1) w.position h.agent (omega arith) (omega arith) h.position)
+    let upto : next_move p v.agent v.position ≤ w.position = next_upto p v.agent v.position w.position l (subst (λ i. is_entry p i w.position ≡ true) (sym e) h.entered) in
+    subst (λ i. Reaches p (record { agent = i; number = next_move p v.agent v.position }) (entering w)) (sym e)
+    (own_reach p w.agent (next_move p v.agent v.position) w.position h.agent (omega arith) upto h.position)
 after_reaches p q v w h (inr r) = r
 
 awaits_positive : (p : Program) (i n : ℕ) (a : Await) → Contains (awaits_of p i n) a → 1 ≤ n
@@ -51,8 +53,8 @@ pub await_chain : (p : Program) → AreInRange p → (q : Place) (v w : Visit) �
 await_chain p range q v w h (inl o) = inl o
 await_chain p range q v w h (inr (a, c, e, l)) =
     let known = range w.agent w.position a c in
-    let some : Reaches p (record { agent = a.agent; number = v.position + 1 }) (awaited a) = own_reach p a.agent (v.position + 1) a.count known.agent (omega arith) l known.last in
-    let start : Reaches p (leaving p v) (awaited a) = subst (λ i. Reaches p (record { agent = i; number = v.position + 1 }) (awaited a)) e some in
+    let some : Reaches p (record { agent = a.agent; number = next_move p v.agent v.position }) (awaited a) = own_reach p a.agent (next_move p v.agent v.position) a.count known.agent (omega arith) l known.last in
+    let start : Reaches p (leaving p v) (awaited a) = subst (λ i. Reaches p (record { agent = i; number = next_move p v.agent v.position }) (awaited a)) e some in
     let enters : IsAction p (entering w) = record { agent = h.agent; first = awaits_positive p w.agent w.position a c; last = h.position } in
     inr (Reaches-trans p (leaving p v) (awaited a) (entering w) start
     (Reaches-need p (awaited a) (entering w) (Reaches-last p (leaving p v) (awaited a) start) enters (inr c)))
@@ -76,8 +78,10 @@ rank_rises p number s v w r =
       | inl l ↦ (let e : entry_level number v ≡ 0 = entry_start number v (omega arith) in omega arith)
       | inr l ↦ (
           let e : entry_level number v ≡ number (entering v) = entry_later number v l in
-          let m : v.position + 1 ≤ moves p v.agent = left.last in
-          let down : number (entering v) < number (leaving p v) = s.rising (leaving p v) (entering v) left (record { agent = left.agent; first = l; last = omega arith }) (inl (refl, refl, l)) in
+          let m : next_move p v.agent v.position ≤ moves p v.agent = left.last in
+          let next : ActionId = record { agent = v.agent; number = v.position + 1 } in
+          let down : number (entering v) < number next = s.rising next (entering v) (record { agent = left.agent; first = omega arith; last = omega arith }) (record { agent = left.agent; first = l; last = omega arith }) (inl (refl, refl, l)) in
+          let on : number next ≤ number (leaving p v) = Reaches-rises p number s next (leaving p v) (own_reach p v.agent (v.position + 1) (next_move p v.agent v.position) left.agent (omega arith) (omega arith) left.last) in
           omega arith)
     ]
 
@@ -89,7 +93,7 @@ chained p q After gives l h a k d m = gives (get_or l k d) (get_or l (suc k) d) 
 pub listing_rises : (p : Program) (number : ActionId → ℕ) → IsNumbering p number → (q : Place) (After : Visit → Visit → Type 0) → ((v w : Visit) → IsVisitOf p q w → After v w → Reaches p (leaving p v) (entering w)) → (l : List Visit) → ListsVisits p q l → Adjacent After l → (k : ℕ) (d : Visit) → suc k < length l → entry_level number (get_or l k d) < entry_level number (get_or l (suc k) d)
 listing_rises p number s q After gives l h a k d m = rank_rises p number s (get_or l k d) (get_or l (suc k) d) (chained p q After gives l h a k d m)
 
-before_rank : (number : ActionId → ℕ) (v w : Visit) → IsBefore number v w → entry_level number v ≤ entry_level number w
+pub before_rank : (number : ActionId → ℕ) (v w : Visit) → IsBefore number v w → entry_level number v ≤ entry_level number w
 before_rank number v w (inl l) = omega arith
 before_rank number v w (inr (e, o)) = omega arith
 

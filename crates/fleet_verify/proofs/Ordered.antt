@@ -12,13 +12,14 @@ use Rattle.fleet_model.specs.declared.geometry.Place.{Place}
 use Rattle.fleet_model.specs.declared.program.Visit.{Visit}
 use Rattle.fleet_model.specs.Geometry.{is_same_cell, place_of}
 use Rattle.fleet_model.specs.Program.{Program}
-use Rattle.fleet_model.specs.Visit.{Adjacent, ComesAfterByAwait}
+use Rattle.fleet_model.specs.Visit.{is_entry, Adjacent, ComesAfterByAwait}
 use Rattle.fleet_model.proofs.Cells.{is_same_cell-true, is_same_cell-false}
 use Rattle.fleet_model.proofs.Places.{place_of-injective}
 use Rattle.fleet_verify.proofs.Neighbours.{adjacent_at}
 use Rattle.fleet_verify.specs.declared.watch.Stay.{Stay}
 use Rattle.fleet_verify.specs.declared.watch.Break.{Break}
-use Rattle.fleet_verify.specs.Order.{same_place, visits_of, IsFirstBreak, IsJudged, IsJudgedNext, IsLast, IsWatched}
+use Rattle.fleet_verify.specs.Faults.{IsFirstBreak}
+use Rattle.fleet_verify.specs.Order.{same_place, visits_of, entries, IsJudged, IsJudgedNext, IsLast, IsWatched}
 
 -- ---- the rule
 
@@ -158,3 +159,11 @@ others_kept c d put old new e apart = go (is_same_cell c d) refl
 pub no_entries : {X : Type 0} (xs : List X) → length xs ≡ 0 → xs ≡ []
 no_entries [] h = refl
 no_entries (x ∷ xs) h = absurd (omega arith)
+
+-- ---- positions that begin visits
+
+pub entry_more : (p : Program) (vs : List Visit) (v : Visit) → is_entry p v.agent v.position ≡ true → entries p (vs ++ v ∷ []) ≡ entries p vs ++ v ∷ []
+entry_more p vs v e = rw (filter-append, e) refl
+
+pub entry_none : (p : Program) (vs : List Visit) (v : Visit) → is_entry p v.agent v.position ≡ false → entries p (vs ++ v ∷ []) ≡ entries p vs
+entry_none p vs v e = rw (filter-append, e) (append-nil (entries p vs))

@@ -70,10 +70,10 @@ module _ (passable : Place → Bool) (tasks : List Task) (p : Program) (a : IsAc
   pub safe : (holds : Holds) → IsSafe passable p holds
   safe holds = record { on_ground = runs_on_ground passable p holds a.right.on_ground; free = runs_free p holds (awaits_accepted passable tasks p a).orderly }
 
-  pub owned : (q : Place) → (listing : List Visit) × ListsVisits p q listing × Adjacent (ComesAfterByAwait p) listing × ((holds : Holds) (t : ℕ) → IsOwnedInTurn listing (run p holds t))
+  pub owned : (q : Place) → (listing : List Visit) × ListsVisits p q listing × Adjacent (ComesAfterByAwait p) listing × ((holds : Holds) (t : ℕ) → IsOwnedInTurn p listing (run p holds t))
   owned q =
       let o = a.orderly q in
-      (o.0, o.1, o.2, λ holds t. runs_owned p holds t o.0 (adjacent_chains p a.right.in_range q o.0 o.1.only o.2))
+      (o.0, o.1, o.2, λ holds t. runs_owned p holds t q o.0 o.1 (adjacent_chains p a.right.in_range q o.0 o.1.only o.2))
 
   pub arrives : (holds : Holds) (l : ℕ) → IsLongestChain p l → (f : ℕ) × IsFinish p holds f × Arrives p holds l f
   arrives holds l long =

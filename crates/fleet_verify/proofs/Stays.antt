@@ -15,7 +15,7 @@ use Rattle.fleet_model.specs.Geometry.{place_of}
 use Rattle.fleet_model.specs.Machine.{count_at, run, is_finished, is_over}
 use Rattle.fleet_model.specs.Program.{Program, moves, actions_of, awaits_of, path, start_of, goal_of}
 use Rattle.fleet_model.specs.Chain.{IsLongestChain}
-use Rattle.fleet_model.specs.Visit.{IsVisitOf, ListsVisits, ComesAfterByAwait, IsOrderly}
+use Rattle.fleet_model.specs.Visit.{is_entry, IsVisitOf, ListsVisits, ComesAfterByAwait, IsOrderly}
 use Rattle.fleet_model.specs.Accepted.{IsAccepted}
 use Rattle.fleet_model.specs.Program.{AreInRange}
 use Rattle.fleet_verify.proofs.Arrive.{unheld_is_longest}
@@ -30,7 +30,7 @@ use Rattle.fleet_verify.proofs.Listing.{levels_number}
 use Rattle.fleet_verify.proofs.Neighbours.{adjacent_from}
 use Rattle.fleet_verify.specs.declared.watch.Stay.{Stay}
 use Rattle.fleet_verify.specs.Walk.{begun_in, IsWalk}
-use Rattle.fleet_verify.specs.Order.{same_place, visits_of, AreAllStays, IsStay, AreNoted, AreAllNoted}
+use Rattle.fleet_verify.specs.Order.{same_place, visits_of, entries, AreAllStays, IsStay, AreNoted, AreAllNoted}
 use Rattle.fleet_verify.specs.declared.watch.Watch.{Watch}
 use Rattle.fleet_verify.specs.Faults.{HasRanges, AwaitsRight, EachAction}
 use Rattle.fleet_verify.proofs.UnderWay.{ready_not_over}
@@ -58,7 +58,7 @@ ranges_all p h i n w k = let r = has_action p i n w k in (h i n r.0 r.1).met w k
 
 -- ---- lists
 
-filter_has : {X : Type 0} (test : X → Bool) (xs : List X) (x : X) → Contains xs x → test x ≡ true → Contains (filter test xs) x
+pub filter_has : {X : Type 0} (test : X → Bool) (xs : List X) (x : X) → Contains xs x → test x ≡ true → Contains (filter test xs) x
 filter_has test [] x h t = h
 filter_has test (y ∷ xs) x h t = go (test y) refl (contains_cases y xs x h) (filter_has test xs x)
   where
@@ -68,7 +68,7 @@ filter_has test (y ∷ xs) x h t = go (test y) refl (contains_cases y xs x h) (f
     go false e (inl g) rest = absurd (let f : test y ≡ test x = ap test g in cc)
     go false e (inr k) rest = rw e (rest k t)
 
-filter_from : {X : Type 0} (test : X → Bool) (xs : List X) (x : X) → Contains (filter test xs) x → Contains xs x × (test x ≡ true)
+pub filter_from : {X : Type 0} (test : X → Bool) (xs : List X) (x : X) → Contains (filter test xs) x → Contains xs x × (test x ≡ true)
 filter_from test [] x h = absurd (contains_none x h)
 filter_from test (y ∷ xs) x h = go (test y) refl h (filter_from test xs x)
   where
@@ -153,7 +153,7 @@ module _ (p : Program) (counts : List ℕ) (t : ℕ) (walk : IsWalk p counts t) 
       level = lev;
       levels = levels_are p range t fin;
       visits = visits;
-      all = λ v is. subst (λ (vs : List Visit). Contains vs v) (sym noted.same) (order.all v is.agent is.position);
+      all = λ v is. subst (λ (vs : List Visit). Contains vs v) (sym noted.same) (begins v is.agent is.position is.entered);
       in_order = in_order;
       sorted = sorted;
     };
@@ -172,15 +172,22 @@ module _ (p : Program) (counts : List ℕ) (t : ℕ) (walk : IsWalk p counts t) 
       order : IsOrder p t fin (λ v. v.position ≤ moves p v.agent) (begun_in p t)
       order = order_all p t fin
 
+      -- the visits are those positions that begin one
+      begins : (v : Visit) → v.agent < length p → v.position ≤ moves p v.agent → is_entry p v.agent v.position ≡ true → Contains (entries p (begun_in p t)) v
+      begins v a n e = filter_has (λ (w : Visit). is_entry p w.agent w.position) (begun_in p t) v (order.all v a n) e
+
+      only_begun : (v : Visit) → Contains (entries p (begun_in p t)) v → (v.agent < length p) × (v.position ≤ moves p v.agent) × (is_entry p v.agent v.position ≡ true)
+      only_begun v k = let f = filter_from (λ (w : Visit). is_entry p w.agent w.position) (begun_in p t) v k in let r = order.only v f.0 in (r.0, r.1, f.1)
+
       visits : All (λ s. IsVisit p s.visit) stays
       visits k d l =
           let has : Contains (map (λ s. s.visit) stays) (get_or stays k d).visit = contains_map (λ (s : Stay). s.visit) stays (get_or stays k d) (k, l, get_or_default stays k (get_or stays k d) d l) in
-          let r = order.only (get_or stays k d).visit (subst (λ (vs : List Visit). Contains vs (get_or stays k d).visit) noted.same has) in
-          record { agent = r.0; position = r.1 }
+          let r = only_begun (get_or stays k d).visit (subst (λ (vs : List Visit). Contains vs (get_or stays k d).visit) noted.same has) in
+          record { agent = r.0; position = r.1; entered = r.2 }
 
       in_order : AllPairs (λ s u. IsBefore lev s.visit u.visit) stays
       in_order i j d l m =
-          let pairs : AllPairs (IsBefore lev) (map (λ s. s.visit) stays) = subst (λ (vs : List Visit). AllPairs (IsBefore lev) vs) (sym noted.same) order.sorted in
+          let pairs : AllPairs (IsBefore lev) (map (λ s. s.visit) stays) = subst (λ (vs : List Visit). AllPairs (IsBefore lev) vs) (sym noted.same) (AllPairs-filter (IsBefore lev) (λ (w : Visit). is_entry p w.agent w.position) (begun_in p t) order.sorted) in
           let long : length (map (λ (s : Stay). s.visit) stays) ≡ length stays = length-map stays (λ (s : Stay). s.visit) in
           subst (λ (v : Visit). IsBefore lev v (get_or stays j d).visit) (visit_at stays i d) (subst (λ (v : Visit). IsBefore lev (get_or (map (λ s. s.visit) stays) i d.visit) v) (visit_at stays j d) (pairs i j d.visit l (omega arith)))
 
@@ -188,22 +195,22 @@ module _ (p : Program) (counts : List ℕ) (t : ℕ) (walk : IsWalk p counts t) 
       sorted q = subst (IsSortedListing p lev q) (sym same) (record { lists = lists; sorted = adjacent_from (IsBefore lev) l (λ k d m. pairs k (suc k) d (omega arith) m) })
         where
           l : List Visit
-          l = filter (is_at p q) (begun_in p t)
+          l = filter (is_at p q) (entries p (begun_in p t))
 
           same : visits_of q stays ≡ l
           same = visits_are p q stays noted.each ∙ ap (filter (is_at p q)) noted.same
 
           pairs : AllPairs (IsBefore lev) l
-          pairs = AllPairs-filter (IsBefore lev) (is_at p q) (begun_in p t) order.sorted
+          pairs = AllPairs-filter (IsBefore lev) (is_at p q) (entries p (begun_in p t)) (AllPairs-filter (IsBefore lev) (λ (w : Visit). is_entry p w.agent w.position) (begun_in p t) order.sorted)
 
           all : (v : Visit) → IsVisitOf p q v → Contains l v
-          all v is = filter_has (is_at p q) (begun_in p t) v (order.all v is.agent is.position) (ap (λ r. same_place r q) is.place ∙ same_place-refl q)
+          all v is = filter_has (is_at p q) (entries p (begun_in p t)) v (begins v is.agent is.position is.entered) (ap (λ r. same_place r q) is.place ∙ same_place-refl q)
 
           only : (v : Visit) → Contains l v → IsVisitOf p q v
           only v k =
-              let f = filter_from (is_at p q) (begun_in p t) v k in
-              let r = order.only v f.0 in
-              record { agent = r.0; position = r.1; place = same_place-true (path p v.agent v.position) q f.1 }
+              let f = filter_from (is_at p q) (entries p (begun_in p t)) v k in
+              let r = only_begun v f.0 in
+              record { agent = r.0; position = r.1; entered = r.2; place = same_place-true (path p v.agent v.position) q f.1 }
 
           lists : ListsVisits p q l
           lists = record { all = all; only = λ k d m. only (get_or l k d) (k, m, get_or_default l k (get_or l k d) d m); once = once lev l pairs }

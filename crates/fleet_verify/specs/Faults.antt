@@ -1,6 +1,5 @@
 -- The first of the faults of a program, for a ground and the tasks of an instance.
-use Rattle.std.specs.Prelude.{option_map, ◌≡◌, ℕ, ◌<◌, ◌≤◌, Bool, IsTrue, List, length, ◌⊎◌, Contains, slice_get, Some}
-use Rattle.fleet_verify.specs.Order.{IsFirstBreak}
+use Rattle.std.specs.Prelude.{option_map, ◌≡◌, ℕ, ◌+◌, ◌<◌, ◌≤◌, Bool, IsTrue, List, length, ◌⊎◌, Contains, slice_get, Some}
 use Rattle.fleet_model.specs.declared.geometry.Place.{Place}
 use Rattle.fleet_model.specs.declared.task.Task.{Task}
 use Rattle.fleet_model.specs.declared.program.Await.{Await}
@@ -108,6 +107,14 @@ IsOrderlyAt After p q = (listing : List Visit) × ListsVisits p q listing × Adj
 -- by agent, then by position
 abbrev pub IsSooner : Visit → Visit → Type 0
 IsSooner u v = (u.agent < v.agent) ⊎ ((u.agent ≡ v.agent) × (u.position < v.position))
+
+-- the first neighbours in the list of which the second may not come after the first
+pub record IsFirstBreak (R : Visit → Visit → Type 0) (l : List Visit) (first second : Visit) : Type 0 where
+  pub at : ℕ
+  pub here : slice_get l at ≡ Some first
+  pub next : slice_get l (at + 1) ≡ Some second
+  pub breaks : R first second → ⊥
+  pub sooner : (k : ℕ) (v w : Visit) → k < at → slice_get l k ≡ Some v → slice_get l (k + 1) ≡ Some w → R v w
 
 -- the first place without order, and of its visits, sorted by level, agent and position, the first neighbours that break the rule
 pub record IsUnordered (After : Program → Visit → Visit → Type 0) (p : Program) (q : Place) (first second : Visit) : Type 0 where

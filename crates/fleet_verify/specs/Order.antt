@@ -8,7 +8,8 @@ use Rattle.fleet_model.specs.declared.program.ActionId.{ActionId}
 use Rattle.fleet_model.specs.declared.program.Visit.{Visit}
 use Rattle.fleet_model.specs.Geometry.{is_same_cell, place_of}
 use Rattle.fleet_model.specs.Program.{Program, path}
-use Rattle.fleet_model.specs.Visit.{IsVisit, Adjacent, ComesAfterByAwait}
+use Rattle.fleet_model.specs.Visit.{is_entry, IsVisit, Adjacent, ComesAfterByAwait}
+use Rattle.fleet_verify.specs.Faults.{IsFirstBreak}
 use Rattle.fleet_verify.specs.Listing.{AreLevels, IsBefore, IsSortedListing}
 use Rattle.fleet_verify.specs.declared.watch.Break.{Break}
 use Rattle.fleet_verify.specs.declared.watch.Stay.{Stay}
@@ -21,14 +22,6 @@ same_place q r = int_eq q.x r.x && int_eq q.y r.y
 -- the visits of the place
 unfoldable pub visits_of : Place → List Stay → List Visit
 visits_of q stays = map (λ s. s.visit) (filter (λ s. same_place (place_of s.cell) q) stays)
-
--- the first neighbours in the list of which the second may not come after the first
-pub record IsFirstBreak (R : Visit → Visit → Type 0) (l : List Visit) (first second : Visit) : Type 0 where
-  pub at : ℕ
-  pub here : slice_get l at ≡ Some first
-  pub next : slice_get l (at + 1) ≡ Some second
-  pub breaks : R first second → ⊥
-  pub sooner : (k : ℕ) (v w : Visit) → k < at → slice_get l k ≡ Some v → slice_get l (k + 1) ≡ Some w → R v w
 
 -- no neighbours in the list break the rule, or these are the first that do
 abbrev pub IsJudged : (Visit → Visit → Type 0) → List Visit → Option Break → Type 0
@@ -73,10 +66,14 @@ AreBreaks p stays breaks = (c : Cell) → IsJudged (ComesAfterByAwait p) (visits
 abbrev pub IsStay : Program → Stay → Type 0
 IsStay p s = place_of s.cell ≡ path p s.visit.agent s.visit.position
 
--- these visits were noted, in this order
-pub record AreNoted (p : Program) (visits : List Visit) (w : Watch) : Type 0 where
+-- those of the agents' positions that begin a visit
+abbrev pub entries : Program → List Visit → List Visit
+entries p positions = filter (λ v. is_entry p v.agent v.position) positions
+
+-- the visits that begin with one of these positions were noted, in this order
+pub record AreNoted (p : Program) (positions : List Visit) (w : Watch) : Type 0 where
   pub stays : List Stay
-  pub same : map (λ s. s.visit) stays ≡ visits
+  pub same : map (λ s. s.visit) stays ≡ entries p positions
   pub each : All (IsStay p) stays
   pub watched : AreWatched p stays w
 

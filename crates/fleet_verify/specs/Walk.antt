@@ -1,4 +1,4 @@
--- The run without holds, and the visits in the order in which it begins them.
+-- The run without holds, and the positions of the agents in the order in which it reaches them.
 use Rattle.std.specs.Prelude.{◌≡◌, ℕ, zero, suc, ◌+◌, ◌<◌, ◌≤◌, Bool, List, [], ◌++◌, length, map, filter, get_or, slice_index, IsTrue, IsFalse, Contains}
 use Rattle.fleet_model.specs.declared.geometry.Cell.{Cell}
 use Rattle.fleet_model.specs.declared.program.Await.{Await}
@@ -24,11 +24,11 @@ counted counts = map (λ n. record { place = place_of origin; count = n }) count
 abbrev pub is_ready_by : Program → List ℕ → ℕ → Bool
 is_ready_by p counts i = is_ready p (counted counts) i
 
--- the visits that the agents below n begin which finish an action, where so many were finished before
+-- the positions that the agents below n come to which finish an action, where so many were finished before
 abbrev pub begun_by : (ℕ → Bool) → (ℕ → ℕ) → ℕ → List Visit
 begun_by moving count n = map (λ i. record { agent = i; position = count i + 1 }) (filter moving (indices n))
 
--- the visits that t ticks without holds begin, tick by tick, and in each tick by agent
+-- the positions that t ticks without holds come to, tick by tick, and in each tick by agent
 unfoldable pub begun_in : Program → ℕ → List Visit
 begun_in p zero = map (λ i. record { agent = i; position = 0 }) (indices (length p))
 begun_in p (suc t) = begun_in p t ++ begun_by (is_ready p (run p [] t)) (count_at (run p [] t)) (length p)

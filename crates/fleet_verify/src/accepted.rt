@@ -52,9 +52,10 @@ impl<'g, P: ProgramView> Accepted<'g, P> {
         self.chain
     }
 
-    /// The program. Takes no memory.
+    /// The program, which is accepted. Takes no memory.
     pub fn program(&self) -> &P
-        ensures { result.now ≡ self.now.program }
+        ensures program { result.now ≡ self.now.program }
+        ensures accepted { IsAcceptedFor self.now.grid self.now.instance (P.program result.now) self.now.chain }
     {
         &self.program
     }

@@ -1,13 +1,12 @@
 //! Whether agents begin and end where their tasks say.
 
-ghost use Rattle.std.specs.Prelude.{◌≡◌, ◌<◌, ◌↔◌, IsTrue, length, OnOk, IfErr, pos, negsuc, ◌≤ℤ◌, Bool};
+ghost use Rattle.std.specs.Prelude.{◌≡◌, ◌<◌, ◌↔◌, IsTrue, length, OnOk, IfErr, Bool};
 ghost use Rattle.fleet_model.specs.declared.geometry.Place.{Place};
-ghost use Rattle.fleet_model.specs.Geometry.{place_of, moved};
 ghost use Rattle.fleet_model.specs.Program.{path, moves, IsWellFormed};
 ghost use Rattle.fleet_verify.specs.Faults.{HasFleet, HasStarts, HasEnds, EndsRight, IsFault};
 
 use crate::fault::VerifyFault;
-use fleet_model::{Cell, Dir, Place, ProgramView};
+use fleet_model::{Place, ProgramView};
 use fleet_scen::Instance;
 
 /// Whether there are as many agents as tasks.
@@ -57,47 +56,19 @@ fn ends_right<P: ProgramView>(program: &P, instance: &Instance, agent: u16) -> b
     ensures { IsTrue result ↔ EndsRight instance.now (P.program program.now) agent }
 {
     let goal = program.goal(agent);
-    goal == instance.goal(agent) && end_of(program, agent) == as_place(goal)
+    goal == instance.goal(agent) && end_of(program, agent) == Place::from(goal)
 }
 
-/// A cell as a place.
-pub fn as_place(cell: Cell) -> Place
-    ensures { result ≡ place_of cell }
-{
-    let Cell { x, y } = cell;
-    Place {
-        x: i32::from(x),
-        y: i32::from(y),
-    }
-}
-
-#[tactic(auto, using(crate::proofs::Paths::path_step))]
 /// The place where the path of an agent ends.
+#[tactic(auto, using(crate::proofs::Paths::path_step))]
 fn end_of<P: ProgramView>(program: &P, agent: u16) -> Place
     requires agent { agent < length (P.program program.now) }
     requires well_formed { IsWellFormed (P.program program.now) }
     ensures { result ≡ path (P.program program.now) agent (moves (P.program program.now) agent) }
 {
-    let mut place = as_place(program.start(agent));
+    let mut place = Place::from(program.start(agent));
     for finished in 0..program.moves(agent) {
-        place = stepped(place, program.dir(agent, finished + 1));
+        place = place.after(program.step(agent, finished + 1));
     }
     place
-}
-
-/// The next place in a direction.
-fn stepped(place: Place, dir: Dir) -> Place
-    requires west { negsuc 2000000000 ≤ℤ place.x }
-    requires east { place.x ≤ℤ pos 2000000000 }
-    requires north { negsuc 2000000000 ≤ℤ place.y }
-    requires south { place.y ≤ℤ pos 2000000000 }
-    ensures { result ≡ moved place dir }
-{
-    let Place { x, y } = place;
-    match dir {
-        Dir::North => Place { x, y: y - 1 },
-        Dir::East => Place { x: x + 1, y },
-        Dir::South => Place { x, y: y + 1 },
-        Dir::West => Place { x: x - 1, y },
-    }
 }

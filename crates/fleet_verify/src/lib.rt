@@ -24,9 +24,11 @@ pub use orders::{
     awaits_are_chains, orderly_listings_rise, rings_are_never_finished, sorted_listings_decide,
 };
 pub use runs::{
-    levels_rise, runs_are_safe, runs_arrive, runs_end, ticks_are_safe, visits_come_in_turn,
+    levels_rise, orders_are_given_once, ready_moves_are_apart, reports_make_a_run, runs_are_safe,
+    runs_arrive, runs_end, ticks_are_safe, visits_come_in_turn,
 };
 pub use verifier::verify;
+pub use walk::is_ready;
 
 #[cfg(test)]
 mod tests;

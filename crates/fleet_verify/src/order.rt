@@ -12,6 +12,7 @@ ghost use Rattle.fleet_verify.specs.Order.{AreAllNoted};
 ghost use Rattle.fleet_verify.specs.Faults.{HasRanges, IsFault};
 
 use crate::fault::VerifyFault;
+use crate::steps::cell_after;
 use crate::watch::{Break, Watch};
 use fleet_grid::Grid;
 use fleet_model::{Cell, ProgramView};
@@ -38,9 +39,7 @@ pub fn check_order<P: ProgramView>(
         let mut cell = program.start(agent);
         check_cell(breaks, cell)?;
         for finished in 0..program.moves(agent) {
-            cell = grid
-                .neighbour(cell, program.dir(agent, finished + 1))
-                .unwrap();
+            cell = cell_after(grid, cell, program.step(agent, finished + 1)).unwrap();
             check_cell(breaks, cell)?;
         }
     }

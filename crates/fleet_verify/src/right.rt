@@ -7,7 +7,7 @@ ghost use Rattle.fleet_verify.specs.Faults.{HasFleet, HasRanges, IsAgentRight, I
 
 use crate::ends::{check_ends, check_starts};
 use crate::fault::VerifyFault;
-use crate::steps::{are_in_range, check_ranges, check_steps};
+use crate::steps::{are_in_range, cell_after, check_ranges, check_steps};
 use fleet_grid::Grid;
 use fleet_model::ProgramView;
 use fleet_scen::Instance;
@@ -58,7 +58,7 @@ fn is_right<P: ProgramView>(program: &P, grid: &Grid, instance: &Instance, agent
     }
     for finished in 0..program.moves(agent) {
         let action = finished + 1;
-        let Some(next) = grid.neighbour(cell, program.dir(agent, action)) else {
+        let Some(next) = cell_after(grid, cell, program.step(agent, action)) else {
             return false;
         };
         if !are_in_range(program, agent, action) {

@@ -1,14 +1,27 @@
 //! Whether paths stay on passable ground, and awaits name actions that there are.
 
-ghost use Rattle.std.specs.Prelude.{◌<◌, ◌≤◌, ◌↔◌, length, OnOk, IfErr, IfSome, IfNone, IsTrue, ℕ};
+ghost use Rattle.std.specs.Prelude.{◌≡◌, ◌<◌, ◌≤◌, ◌↔◌, false, length, OnOk, IfErr, IfSome, IfNone, IsTrue, ℕ};
+ghost use Rattle.fleet_model.specs.Geometry.{place_of, stepped};
 ghost use Rattle.fleet_model.specs.Program.{moves, IsWellFormed};
 ghost use Rattle.fleet_grid.specs.Ground.{is_passable};
 ghost use Rattle.fleet_verify.specs.Faults.{HasEnds, HasSteps, HasRanges, StandsRight, AwaitsRight, IsFirstNumber, IsFault};
 
 use crate::fault::VerifyFault;
 use fleet_grid::Grid;
-use fleet_model::ProgramView;
+use fleet_model::{Cell, ProgramView, Step};
 use fleet_scen::Instance;
+
+/// The cell after a step, where it is on the map and passable.
+pub fn cell_after(grid: &Grid, cell: Cell, step: Step) -> Option<Cell>
+    ensures some { IfSome result (λ next. (place_of next ≡ stepped (place_of cell) step) × IsTrue (is_passable grid.now (place_of next))) }
+    ensures none { IfNone result (is_passable grid.now (stepped (place_of cell) step) ≡ false) }
+{
+    match step {
+        Step::Go(dir) => grid.neighbour(cell, dir),
+        Step::Dwell if grid.passable(cell) => Some(cell),
+        Step::Dwell => None,
+    }
+}
 
 /// Whether all paths stay on passable ground.
 pub fn check_steps<P: ProgramView>(
@@ -40,7 +53,7 @@ fn wrong_step<P: ProgramView>(program: &P, grid: &Grid, agent: u16) -> Option<u3
     }
     for finished in 0..program.moves(agent) {
         let action = finished + 1;
-        match grid.neighbour(cell, program.dir(agent, action)) {
+        match cell_after(grid, cell, program.step(agent, action)) {
             Some(next) => cell = next,
             None => return Some(action),
         }

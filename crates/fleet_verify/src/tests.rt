@@ -4,20 +4,20 @@ use super::*;
 use fleet_grid::{Grid, read_map};
 use fleet_model::{
     Action, ActionId, AgentProgram, Await, Awaits, Cell, Dir, OutOfMemory, Program, ProgramView,
-    Visit, well_formed,
+    Step, Visit, well_formed,
 };
 use fleet_scen::{Instance, read_scen};
 use std::alloc::Global;
 use std::process::Abort;
 use std::test::Fail;
 
-/// A move, and what it awaits: agents, and counts of actions.
-type Move<'a> = (Dir, &'a [(u16, u32)]);
+/// A step, and what it awaits: agents, and counts of actions.
+type Move<'a> = (Step, &'a [(u16, u32)]);
 
 /// Start, goal and moves of an agent.
 type Agent<'a> = ((u16, u16), (u16, u16), &'a [Move<'a>]);
 
-const EAST: Move = (Dir::East, &[]);
+const EAST: Move = (Step::Go(Dir::East), &[]);
 
 /// Agent 0 goes from 1,0 to 3,0.
 const FRONT: Agent = ((1, 0), (3, 0), &[EAST, EAST]);
@@ -29,12 +29,12 @@ const TWO_AGENTS: &[u8] = b"version 1\n0 m 4 1 1 0 3 0 x\n0 m 4 1 0 0 2 0 x\n";
 
 fn actions_of(alloc: Global, moves: &[Move]) -> Result<Vec<Action>, OutOfMemory> {
     let mut actions = Vec::new(alloc);
-    for &(dir, pairs) in moves {
+    for &(step, pairs) in moves {
         let mut awaits = Awaits::new(alloc);
         for &(agent, count) in pairs {
             awaits.push(Await { agent, count })?;
         }
-        actions.push(Action { dir, awaits })?;
+        actions.push(Action { step, awaits })?;
     }
     Ok(actions)
 }
@@ -99,7 +99,10 @@ fn a_follower_is_accepted(rt: HostRuntime) -> Result<(), Fail> {
     let back: Agent = (
         (0, 0),
         (2, 0),
-        &[(Dir::East, &[(0, 1)]), (Dir::East, &[(0, 2)])],
+        &[
+            (Step::Go(Dir::East), &[(0, 1)]),
+            (Step::Go(Dir::East), &[(0, 2)]),
+        ],
     );
     let program = program_of(&rt, alloc, &[FRONT, back])?;
     let accepted = verify(alloc, program, &grid, &instance)
@@ -115,7 +118,7 @@ fn a_follower_is_accepted(rt: HostRuntime) -> Result<(), Fail> {
 #[test]
 fn cells_without_order(rt: HostRuntime) -> Result<(), Fail> {
     let alloc = rt.alloc();
-    let rash: Agent = ((0, 0), (2, 0), &[EAST, (Dir::East, &[(0, 2)])]);
+    let rash: Agent = ((0, 0), (2, 0), &[EAST, (Step::Go(Dir::East), &[(0, 2)])]);
     assert_eq!(rt;
         base_verdict(&rt, alloc, &[FRONT, rash])?,
         Err(unordered((1, 0), (0, 0), (1, 1)))
@@ -123,7 +126,10 @@ fn cells_without_order(rt: HostRuntime) -> Result<(), Fail> {
     let early: Agent = (
         (0, 0),
         (2, 0),
-        &[(Dir::East, &[(0, 1)]), (Dir::East, &[(0, 1)])],
+        &[
+            (Step::Go(Dir::East), &[(0, 1)]),
+            (Step::Go(Dir::East), &[(0, 1)]),
+        ],
     );
     assert_eq!(rt;
         base_verdict(&rt, alloc, &[FRONT, early])?,
@@ -145,8 +151,8 @@ fn a_need_through_another_agent_is_no_order(rt: HostRuntime) -> Result<(), Fail>
     let scenario = b"version 1\n0 m 3 3 1 0 2 0 x\n0 m 3 3 0 2 1 2 x\n0 m 3 3 0 0 1 0 x\n";
     let agents: [Agent; 3] = [
         ((1, 0), (2, 0), &[EAST]),
-        ((0, 2), (1, 2), &[(Dir::East, &[(0, 1)])]),
-        ((0, 0), (1, 0), &[(Dir::East, &[(1, 1)])]),
+        ((0, 2), (1, 2), &[(Step::Go(Dir::East), &[(0, 1)])]),
+        ((0, 0), (1, 0), &[(Step::Go(Dir::East), &[(1, 1)])]),
     ];
     assert_eq!(rt;
         verdict(&rt, rt.alloc(), map, scenario, &agents)?,
@@ -175,8 +181,8 @@ fn the_first_of_several_breaks(rt: HostRuntime) -> Result<(), Fail> {
 #[test]
 fn agents_that_await_each_other(rt: HostRuntime) -> Result<(), Fail> {
     let agents: [Agent; 2] = [
-        ((1, 0), (3, 0), &[(Dir::East, &[(1, 1)]), EAST]),
-        ((0, 0), (2, 0), &[(Dir::East, &[(0, 1)]), EAST]),
+        ((1, 0), (3, 0), &[(Step::Go(Dir::East), &[(1, 1)]), EAST]),
+        ((0, 0), (2, 0), &[(Step::Go(Dir::East), &[(0, 1)]), EAST]),
     ];
     let fault = base_verdict(&rt, rt.alloc(), &agents)?;
     let first = ActionId {
@@ -197,7 +203,7 @@ fn steps_off_the_passable_cells(rt: HostRuntime) -> Result<(), Fail> {
     let alloc = rt.alloc();
     let map = b"type octile\nheight 1\nwidth 2\nmap\n..\n";
     let scenario = b"version 1\n0 m 2 1 0 0 0 0 x\n";
-    let away: Agent = ((0, 0), (0, 0), &[(Dir::West, &[]), EAST]);
+    let away: Agent = ((0, 0), (0, 0), &[(Step::Go(Dir::West), &[]), EAST]);
     assert_eq!(rt;
         verdict(&rt, alloc, map, scenario, &[away])?,
         Err(VerifyFault::Step {
@@ -247,9 +253,12 @@ fn starts_goals_and_awaits(rt: HostRuntime) -> Result<(), Fail> {
     let back: Agent = (
         (0, 0),
         (2, 0),
-        &[(Dir::East, &[(0, 1)]), (Dir::East, &[(0, 2)])],
+        &[
+            (Step::Go(Dir::East), &[(0, 1)]),
+            (Step::Go(Dir::East), &[(0, 2)]),
+        ],
     );
-    let turns: Agent = ((1, 0), (3, 0), &[EAST, (Dir::West, &[])]);
+    let turns: Agent = ((1, 0), (3, 0), &[EAST, (Step::Go(Dir::West), &[])]);
     assert_eq!(rt;
         base_verdict(&rt, alloc, &[turns, back])?,
         Err(VerifyFault::Goal { agent: 0 })
@@ -262,7 +271,10 @@ fn starts_goals_and_awaits(rt: HostRuntime) -> Result<(), Fail> {
     let waits: Agent = (
         (0, 0),
         (2, 0),
-        &[(Dir::East, &[(0, 1)]), (Dir::East, &[(0, 3)])],
+        &[
+            (Step::Go(Dir::East), &[(0, 1)]),
+            (Step::Go(Dir::East), &[(0, 3)]),
+        ],
     );
     assert_eq!(rt;
         base_verdict(&rt, alloc, &[FRONT, waits])?,
@@ -270,6 +282,45 @@ fn starts_goals_and_awaits(rt: HostRuntime) -> Result<(), Fail> {
             agent: 1,
             action: 2
         })
+    );
+    Ok(())
+}
+
+#[test]
+fn stays_are_no_leavings(rt: HostRuntime) -> Result<(), Fail> {
+    let alloc = rt.alloc();
+    let late: Agent = ((1, 0), (3, 0), &[(Step::Dwell, &[]), EAST, EAST]);
+    let east = Step::Go(Dir::East);
+    for (first, told) in [(2, Ok(4)), (1, Err(unordered((1, 0), (0, 0), (1, 1))))] {
+        let awaits = [(0, first)];
+        let moves: [Move; 2] = [(east, &awaits), (east, &[(0, 3)])];
+        assert_eq!(rt;
+            base_verdict(&rt, alloc, &[late, ((0, 0), (2, 0), &moves)])?,
+            told
+        );
+    }
+    Ok(())
+}
+
+#[test]
+fn stays_at_the_end_are_counted(rt: HostRuntime) -> Result<(), Fail> {
+    let alloc = rt.alloc();
+    let stay: Move = (Step::Dwell, &[]);
+    let east = Step::Go(Dir::East);
+    let front: Agent = ((1, 0), (3, 0), &[EAST, EAST, stay, stay]);
+    let back: Agent = (
+        (0, 0),
+        (2, 0),
+        &[(east, &[(0, 1)]), (east, &[(0, 2)]), stay, stay],
+    );
+    assert_eq!(rt; base_verdict(&rt, alloc, &[front, back])?, Ok(5));
+    // An agent that stays on its last cell never leaves it.
+    let standing = b"version 1\n0 m 4 1 1 0 1 0 x\n0 m 4 1 0 0 2 0 x\n";
+    let still: Agent = ((1, 0), (1, 0), &[stay, stay]);
+    let through: Agent = ((0, 0), (2, 0), &[(east, &[(0, 2)]), EAST]);
+    assert_eq!(rt;
+        verdict(&rt, alloc, FOUR_CELLS, standing, &[still, through])?,
+        Err(unordered((1, 0), (0, 0), (1, 1)))
     );
     Ok(())
 }

@@ -45,7 +45,7 @@ pub fn verify<'g, P: ProgramView>(
     ensures accepted { IfOk result (λ a. IsAcceptedFor grid.now instance.now (P.program program) a.chain) }
     ensures safe { IfOk result (λ _. (holds : Holds) → IsSafe (is_passable grid.now) (P.program program) holds) }
     ensures owned { IfOk result (λ _. (q : Place) → (listing : List Visit) × ListsVisits (P.program program) q listing × Adjacent (ComesAfterByAwait (P.program program)) listing
-        × ((holds : Holds) (t : ℕ) → IsOwnedInTurn listing (run (P.program program) holds t))) }
+        × ((holds : Holds) (t : ℕ) → IsOwnedInTurn (P.program program) listing (run (P.program program) holds t))) }
     ensures arrives { IfOk result (λ a. (holds : Holds) → (f : ℕ) × IsFinish (P.program program) holds f × Arrives (P.program program) holds a.chain f) }
     ensures returned { IfErr result (λ r. r.program ≡ program) }
     ensures fault { IfErr result (λ r. IsFault (is_passable grid.now) instance.now (P.program program) r.fault) }

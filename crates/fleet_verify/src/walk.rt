@@ -8,6 +8,7 @@ ghost use Rattle.fleet_verify.specs.Faults.{EachAction, StandsRight};
 ghost use Rattle.fleet_verify.specs.Order.{AreNoted};
 ghost use Rattle.fleet_verify.specs.Walk.{is_ready_by, IsReadyBy, begun_by, begun_in, AreCells, IsWalk};
 
+use crate::steps::cell_after;
 use crate::watch::{Stay, Watch};
 use fleet_grid::Grid;
 use fleet_model::{Cell, OutOfMemory, ProgramView, Visit, total_moves};
@@ -62,8 +63,8 @@ pub fn run_free<P: ProgramView>(
     })
 }
 
-/// Whether an agent has an action left, and all that it awaits is finished.
-fn is_ready<P: ProgramView>(program: &P, counts: &[u32], i: u16) -> bool
+/// Whether an agent has an action left, and all that it awaits is finished, where so many actions of each agent are.
+pub fn is_ready<P: ProgramView>(program: &P, counts: &[u32], i: u16) -> bool
     requires agent { i < length (P.program program.now) }
     requires counts { length counts.now ≡ length (P.program program.now) }
     ensures { IsTrue result ↔ IsReadyBy (P.program program.now) counts.now i }
@@ -111,9 +112,7 @@ fn advance<P: ProgramView>(
         if is_ready(program, counts, agent) {
             let i = agent as usize;
             let position = next[i] + 1;
-            let cell = grid
-                .neighbour(cells[i], program.dir(agent, position))
-                .unwrap();
+            let cell = cell_after(grid, cells[i], program.step(agent, position)).unwrap();
             next[i] = position;
             cells[i] = cell;
             let visit = Visit { agent, position };

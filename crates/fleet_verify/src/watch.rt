@@ -1,17 +1,18 @@
 //! The visits of the cells, and neighbours among them of which the second may not come after the first.
 
-ghost use Rattle.std.specs.Prelude.{◌≡◌, ◌≢◌, ◌↔◌, ◌++◌, [], ◌∷◌, IsTrue, OnOk, Some};
+ghost use Rattle.std.specs.Prelude.{◌≡◌, ◌≢◌, ◌↔◌, ◌++◌, ◌<◌, ◌≤◌, [], ◌∷◌, length, IsTrue, OnOk, Some};
 ghost use Rattle.indexmap.specs.IndexMap.{get, Updates};
 ghost use Rattle.fleet_model.specs.declared.geometry.Cell.{Cell};
 ghost use Rattle.fleet_model.specs.Geometry.{is_same_cell};
-ghost use Rattle.fleet_model.specs.Visit.{IsVisit, ComesAfterByAwait};
+ghost use Rattle.fleet_model.specs.Program.{moves};
+ghost use Rattle.fleet_model.specs.Visit.{is_entry, leaving, IsVisit, ComesAfterByAwait};
 ghost use Rattle.fleet_verify.specs.Order.{IsJudgedNext};
 
-use fleet_model::{Cell, OutOfMemory, ProgramView, Visit};
+use fleet_model::{Cell, OutOfMemory, ProgramView, Step, Visit};
 use indexmap::IndexMap;
 use std::alloc::Global;
 
-/// A visit, and the cell that it is of.
+/// An agent after so many of its actions, and the cell that it is on then.
 #[derive(Clone, Copy, Debug)]
 pub struct Stay {
     pub visit: Visit,
@@ -49,14 +50,32 @@ impl Watch {
         }
     }
 
-    /// Takes note of the next visit.
+    /// Takes note of what comes next, if it begins a visit.
     pub fn note<P: ProgramView>(&mut self, program: &P, stay: Stay) -> Result<(), OutOfMemory>
-        requires visit { IsVisit (P.program program.now) stay.visit }
+        requires agent { stay.visit.agent < length (P.program program.now) }
+        requires position { stay.visit.position ≤ moves (P.program program.now) stay.visit.agent }
         requires stay { IsStay (P.program program.now) stay }
         ensures { OnOk result ((visits : List Visit) → AreNoted (P.program program.now) visits self.old → AreNoted (P.program program.now) (visits ++ stay.visit ∷ []) self.new) }
     {
-        note_break(program, &mut self.last, &mut self.breaks, stay)?;
+        if begins_visit(program, stay.visit) {
+            note_break(program, &mut self.last, &mut self.breaks, stay)?;
+        }
         Ok(())
+    }
+}
+
+/// Whether the agent does not stay where it was: it is on its start, or its last action is a move.
+fn begins_visit<P: ProgramView>(program: &P, visit: Visit) -> bool
+    requires agent { visit.agent < length (P.program program.now) }
+    requires position { visit.position ≤ moves (P.program program.now) visit.agent }
+    ensures { result ≡ is_entry (P.program program.now) visit.agent visit.position }
+{
+    if visit.position == 0 {
+        return true;
+    }
+    match program.step(visit.agent, visit.position) {
+        Step::Go(_) => true,
+        Step::Dwell => false,
     }
 }
 
@@ -98,10 +117,29 @@ fn comes_after<P: ProgramView>(program: &P, first: Visit, second: Visit) -> bool
     if second.position == 0 {
         return false;
     }
+    let _agents = program.agents();
     for k in 0..program.await_count(second.agent, second.position) {
         let awaited = program.await_at(second.agent, second.position, k);
-        if awaited.agent == first.agent && first.position < awaited.count {
+        if awaited.agent == first.agent && is_left_by(program, first, awaited.count) {
             return true;
+        }
+    }
+    false
+}
+
+/// Whether the action that leaves the visit is among so many of its agent's actions.
+fn is_left_by<P: ProgramView>(program: &P, visit: Visit, count: u32) -> bool
+    requires { visit.agent < length (P.program program.now) }
+    ensures { IsTrue result ↔ (leaving (P.program program.now) visit).number ≤ count }
+{
+    let moves = program.moves(visit.agent);
+    for finished in visit.position..count {
+        if finished >= moves {
+            return true;
+        }
+        match program.step(visit.agent, finished + 1) {
+            Step::Go(_) => return true,
+            Step::Dwell => {}
         }
     }
     false

@@ -1,11 +1,15 @@
 use Rattle.std.proofs.Common.{length, sym, ap, subst, ◌∙◌, arith}
-use Rattle.fleet_model.specs.Program.{IsWellFormed}
+use Rattle.fleet_model.specs.Program.{IsWellFormed, NeverStays}
 use Rattle.fleet_plan.specs.Plan.{steps}
-use Rattle.fleet_adg.specs.Compiled.{moves_in_all}
+use Rattle.fleet_chains.specs.Reduced.{RunEqually}
+use Rattle.fleet_model.specs.declared.deps.Deps.{Deps}
+use Rattle.fleet_adg.specs.Compiled.{moves_in_all, compiled}
+use Rattle.fleet_adg.proofs.Alike.{run_alike}
 use Rattle.fleet_model.specs.Accepted.{IsAccepted}
 use Rattle.fleet_model.specs.Visit.{ComesAfterByAwait}
 use Rattle.fleet_grid.specs.Ground.{is_passable}
 use Rattle.fleet_adg.proofs.Accepted.{compiled-accepted}
+use Rattle.fleet_adg.proofs.Programs.{never_stays-compiled}
 use Rattle.fleet_adg.proofs.Limits.{compiled-well_formed}
 use Rattle.fleet_adg.proofs.SweepSteps.{length-all_actions_by, program_is, few_compile}
 use Rattle.fleet_adg.proofs.compiler.compile.Goals as goal
@@ -34,3 +38,17 @@ returns-clause-accepted c =
     let tasks = c.args.checked.now.instance in
     let made = program_is plan c.plan-plan.result.now c.args.deps c.in_ok-actions.actions.items c.in_ok-agents.agents.items c.plan-plan.ensures.value c.in_ok-actions.ensures c.in_ok-agents.ensures in
     subst (IsAccepted ComesAfterByAwait ground tasks) (sym (c.new.ensures ∙ made)) (compiled-accepted ground tasks plan c.plan-plan.ensures.checked.free c.args.deps)
+
+pub returns-clause-moves : goal.returns-clause-moves
+returns-clause-moves c =
+    let plan = c.args.checked.now.plan in
+    let made = program_is plan c.plan-plan.result.now c.args.deps c.in_ok-actions.actions.items c.in_ok-agents.agents.items c.plan-plan.ensures.value c.in_ok-actions.ensures c.in_ok-agents.ensures in
+    subst NeverStays (sym (c.new.ensures ∙ made)) (never_stays-compiled plan c.args.deps)
+
+pub returns-clause-equally : goal.returns-clause-equally
+returns-clause-equally c =
+    let plan = c.args.checked.now.plan in
+    let ground = is_passable c.args.checked.now.grid in
+    let tasks = c.args.checked.now.instance in
+    let made = program_is plan c.plan-plan.result.now c.args.deps c.in_ok-actions.actions.items c.in_ok-agents.agents.items c.plan-plan.ensures.value c.in_ok-actions.ensures c.in_ok-agents.ensures in
+    subst (λ p. (other : Deps) → RunEqually p (compiled plan other)) (sym (c.new.ensures ∙ made)) (λ other holds t. run_alike ground tasks plan c.plan-plan.ensures.checked.free c.args.deps other holds t)

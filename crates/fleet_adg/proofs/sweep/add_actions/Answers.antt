@@ -1,6 +1,7 @@
 use Rattle.std.proofs.Common.{◌≡◌, ◌+◌, ◌<◌, ◌++◌, [], ◌∷◌, set, length, get_or, take, sym, ap, ◌∙◌, arith}
 use Rattle.std.specs.List.{fold}
 use Rattle.std.proofs.lemmas.List.{get_or_default, take_all}
+use Rattle.fleet_model.specs.declared.geometry.Step.TheVariants.{Go}
 use Rattle.fleet_model.specs.declared.program.Action.{Action}
 use Rattle.fleet_adg.specs.Leavings.{kind_of}
 use Rattle.fleet_adg.specs.Sweep.{under_way}
@@ -44,7 +45,7 @@ loop-i-preserved c =
     let below = agent_at plan x agents k c.requires.agents b in
     elim c.match-move_in.branch [
       | in-Some+in_ok-awaits+in_ok-push w ↦
-          let action : Action = record { dir = w.direction-dir.result; awaits = w.in_ok-awaits.awaits } in
+          let action : Action = record { step = Go (w.direction-dir.result); awaits = w.in_ok-awaits.awaits } in
           let found = w.index-actions-from.result in
           let within : i < length rows = omega (arith, below, c.loop-i.auto.actions, ap length c.requires.actions, length-all_actions_by plan deps x) in
           let this = action_is g plan deps x i c.args.leavings.now w.in-Some.from w.in-Some.to w.direction-dir.result w.in_ok-awaits.awaits c.requires.leavings w.in-Some.ensures.cells.0 w.in-Some.ensures.cells.1

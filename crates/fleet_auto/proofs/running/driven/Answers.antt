@@ -4,7 +4,7 @@ use Rattle.fleet_auto.proofs.running.driven.Goals as goal
 
 pub returns : goal.returns
 returns g c =
-    let agents : c.agents.result ≡ length c.args.accepted.program = c.agents.ensures.count ∙ ap length c.program.ensures in
+    let agents : c.agents.result ≡ length c.args.accepted.program = c.agents.ensures.count ∙ ap length c.program.ensures.program in
     let started = c.in-Ok.ensures.started in
     stopped c.args.held.now c.args.accepted.program c.args.accepted.chain c.agents.result c.new-source.result _ _ _ _ _ _ _ agents c.new-source.ensures
     c.in-Ok.fleet.accepted.program c.in-Ok.fleet.accepted.chain (ap (λ f. f.accepted.program) started) (ap (λ f. f.accepted.chain) started)

@@ -1,4 +1,7 @@
-use Rattle.std.proofs.Common.{ap, ◌∙◌, map}
+use Rattle.std.proofs.Common.{ap, sym, subst, ◌∙◌, map}
+use Rattle.fleet_code.specs.Hex.{bytes_of}
+use Rattle.fleet_code.specs.LoadFaults.{IsFirstLoadFault}
+use Rattle.fleet_io.proofs.FlushLemmas.{keeps_self}
 use Rattle.fleet_cli.proofs.HexRuns.{stops_run}
 use Rattle.fleet_cli.proofs.hex_run.rehearse_hex.Goals as goal
 
@@ -7,3 +10,13 @@ returns g c =
     stops_run _ _ _ _ _ c.in-Ok.text.items c.deref.result.now c.in-Ok-read_hex.bytes.items c.deref-2.result.now c.in-Ok-load.program _ _ c.in-Err-rehearse_flushed.fault
     (record { whole = c.in-Ok.ensures.whole; within = c.in-Ok.ensures.within }) c.deref.ensures.value c.in-Ok-read_hex.ensures c.deref-2.ensures.value c.in-Ok-load.ensures.found
     (c.new-nobody.ensures ∙ ap (map _) c.new.ensures.items) c.in-Err-rehearse_flushed.ensures
+
+pub returns-in-Err-load : goal.returns-in-Err-load
+returns-in-Err-load g c = (
+  c.in-Ok.text.items,
+  c.in-Ok-read_hex.bytes.items,
+  record { whole = c.in-Ok.ensures.whole; within = c.in-Ok.ensures.within },
+  ap bytes_of (sym c.deref.ensures.value) ∙ c.in-Ok-read_hex.ensures,
+  (λ other. subst (λ bytes. IsFirstLoadFault bytes c.in-Err-load.fault) c.deref-2.ensures.value (c.in-Err-load.ensures.fault other)),
+  record { same = keeps_self _; working = c.requires },
+)

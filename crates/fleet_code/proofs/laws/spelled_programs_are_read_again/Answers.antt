@@ -1,5 +1,8 @@
-use Rattle.fleet_code.proofs.RoundTrip.{are_read_again}
+use Rattle.fleet_code.proofs.RoundTrip.{spells_own, no_other}
 use Rattle.fleet_code.proofs.laws.spelled_programs_are_read_again.Goals as goal
 
-pub returns : goal.returns
-returns c = are_read_again
+pub returns-clause-own : goal.returns-clause-own
+returns-clause-own c = spells_own
+
+pub returns-clause-no_other : goal.returns-clause-no_other
+returns-clause-no_other c = no_other

@@ -8,7 +8,7 @@ pub returns-then-is_err : goal.returns-then-is_err
 returns-then-is_err g c =
     let p = g.P.ProgramView.program c.args.program.now in
     let holds = g.S.HoldSource.ticks c.args.source.now in
-    let ran = c.in_ok-ran.ensures.1 in
+    let ran = c.in_ok-ran.ensures.lines.1 in
     let t = c.in_ok-ran.ran.ticks in
     let over = over_at_end p (run p holds t) c.in_ok-ran.ran.end ran.end in
     let closing : drop c.write_rehearsal_closing-at.result c.write_rehearsal_closing-at.new.row ≡ rehearsal_closing p holds t =

@@ -6,17 +6,17 @@ use Rattle.fleet_run.proofs.Rehearsed.{rest_of_row}
 use Rattle.fleet_run.proofs.Driven.{drives_so, finished_at_end, stops_in_trace_closing, needed_to_finish}
 use Rattle.fleet_run.proofs.trace.run_trace.Goals as goal
 
-pub returns-in_err-ran : goal.returns-in_err-ran
-returns-in_err-ran g c =
+pub returns-in_err-ran-clause-outcome : goal.returns-in_err-ran-clause-outcome
+returns-in_err-ran-clause-outcome g c =
     let told = err_from_is_err_and c.from_residual.result c.from_residual.ensures.1 in
-    rw (told.1, told.2) (drives_so (g.P.ProgramView.program c.args.program.now) c.args.chain (g.S.HoldSource.ticks c.args.source.now) _ c.run_lines.new.rows c.in_err-ran.field-0.0 c.in_err-ran.ensures)
+    rw (told.1, told.2) (drives_so (g.P.ProgramView.program c.args.program.now) c.args.chain (g.S.HoldSource.ticks c.args.source.now) _ c.run_lines.new.machine.configuration c.in_err-ran.field-0.0 c.in_err-ran.ensures.lines)
 
-pub returns-then-is_err : goal.returns-then-is_err
-returns-then-is_err g c =
+pub returns-then-is_err-clause-outcome : goal.returns-then-is_err-clause-outcome
+returns-then-is_err-clause-outcome g c =
     let p = g.P.ProgramView.program c.args.program.now in
     let holds = g.S.HoldSource.ticks c.args.source.now in
-    let here = c.in_ok-ran.ensures.0 in
-    let ran = c.in_ok-ran.ensures.1 in
+    let here = c.in_ok-ran.ensures.lines.0 in
+    let ran = c.in_ok-ran.ensures.lines.1 in
     let t = c.in_ok-ran.ran.ticks in
     let over = finished_at_end p (run p holds t) c.in_ok-ran.ran.end (c.requires.shown.never_stuck holds t) ran.end in
     let closing : drop c.write_trace_closing-at.result c.write_trace_closing-at.new.row ≡ trace_closing (length p) t c.args.chain (held_ticks p holds t) =

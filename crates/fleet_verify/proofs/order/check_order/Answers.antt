@@ -19,16 +19,16 @@ returns-in_err-check_cell-clause-err g c =
 
 pub unwrap-cell-requires : goal.unwrap-cell-requires
 unwrap-cell-requires g c =
-    next_there (is_passable c.args.grid.now) (g.P.ProgramView.program c.args.program.now) c.loop-agent.agent c.loop-finished.finished c.loop-finished.cell c.dir.result c.neighbour.result
-    c.requires.before.before.steps (omega (arith, c.agents-agent-end.ensures.count)) (omega (arith, c.moves-finished-end.ensures)) c.loop-finished.invariant.here c.dir.ensures c.neighbour.ensures.none
+    next_there (is_passable c.args.grid.now) (g.P.ProgramView.program c.args.program.now) c.loop-agent.agent c.loop-finished.finished c.loop-finished.cell c.step.result c.cell_after.result
+    c.requires.before.before.steps (omega (arith, c.agents-agent-end.ensures.count)) (omega (arith, c.moves-finished-end.ensures)) c.loop-finished.invariant.here c.step.ensures c.cell_after.ensures.none
 
 pub returns-in_err-check_cell-2-clause-err : goal.returns-in_err-check_cell-2-clause-err
 returns-in_err-check_cell-2-clause-err g c =
     let e = err_from_is_err_and c.from_residual-in_err-check_cell-2.result c.from_residual-in_err-check_cell-2.ensures.1 in
     rw (e.1, e.2)
     (broken_fault (is_passable c.args.grid.now) c.args.instance.now (g.P.ProgramView.program c.args.program.now) c.requires.noted.stays (get is_same_cell c.args.watch.now.breaks) (breaks_of (g.P.ProgramView.program c.args.program.now) c.requires.noted.stays c.args.watch.now c.requires.noted.watched) c.loop-agent.agent (c.loop-finished.finished + 1) c.unwrap-cell.result c.requires.before c.requires.noted.all
-    (omega (arith, c.agents-agent-end.ensures.count)) (omega (arith, c.moves-finished-end.ensures)) (next_cell (is_passable c.args.grid.now) (g.P.ProgramView.program c.args.program.now) c.loop-agent.agent c.loop-finished.finished c.loop-finished.cell c.unwrap-cell.result c.dir.result c.neighbour.result
-    c.loop-finished.invariant.here c.dir.ensures c.unwrap-cell.ensures c.neighbour.ensures.some) c.loop-finished.invariant.judged
+    (omega (arith, c.agents-agent-end.ensures.count)) (omega (arith, c.moves-finished-end.ensures)) (next_cell (is_passable c.args.grid.now) (g.P.ProgramView.program c.args.program.now) c.loop-agent.agent c.loop-finished.finished c.loop-finished.cell c.unwrap-cell.result c.step.result c.cell_after.result
+    c.loop-finished.invariant.here c.step.ensures c.unwrap-cell.ensures c.cell_after.ensures.some) c.loop-finished.invariant.judged
     c.in_err-check_cell-2.field-0.0 c.in_err-check_cell-2.ensures.err)
 
 pub loop-finished-init : goal.loop-finished-init
@@ -42,8 +42,8 @@ loop-finished-init g c =
 pub loop-finished-preserved : goal.loop-finished-preserved
 loop-finished-preserved g c =
     let p = g.P.ProgramView.program c.args.program.now in
-    let here : place_of c.unwrap-cell.result ≡ path p c.loop-agent.agent (c.loop-finished.finished + 1) = (next_cell (is_passable c.args.grid.now) (g.P.ProgramView.program c.args.program.now) c.loop-agent.agent c.loop-finished.finished c.loop-finished.cell c.unwrap-cell.result c.dir.result c.neighbour.result
-    c.loop-finished.invariant.here c.dir.ensures c.unwrap-cell.ensures c.neighbour.ensures.some) in
+    let here : place_of c.unwrap-cell.result ≡ path p c.loop-agent.agent (c.loop-finished.finished + 1) = (next_cell (is_passable c.args.grid.now) (g.P.ProgramView.program c.args.program.now) c.loop-agent.agent c.loop-finished.finished c.loop-finished.cell c.unwrap-cell.result c.step.result c.cell_after.result
+    c.loop-finished.invariant.here c.step.ensures c.unwrap-cell.ensures c.cell_after.ensures.some) in
     record {
       here = here;
       judged = judged_more p c.loop-agent.agent (c.loop-finished.finished + 1) c.unwrap-cell.result c.loop-finished.invariant.judged here (unbroken p c.requires.noted.stays (get is_same_cell c.args.watch.now.breaks) c.requires.noted.all (breaks_of (g.P.ProgramView.program c.args.program.now) c.requires.noted.stays c.args.watch.now c.requires.noted.watched) c.unwrap-cell.result c.in_ok-check_cell-2.ensures.ok);

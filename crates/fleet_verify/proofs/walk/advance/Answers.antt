@@ -2,7 +2,7 @@ use Rattle.std.proofs.Common.{◌≡◌, ◌<◌, ◌++◌, ℕ, List, false, tr
 use Rattle.std.proofs.lemmas.List.{append-nil}
 use Rattle.fleet_model.specs.declared.program.Visit.{Visit}
 use Rattle.fleet_verify.specs.Order.{AreNoted}
-use Rattle.fleet_model.specs.Geometry.{place_of, moved}
+use Rattle.fleet_model.specs.Geometry.{place_of, stepped}
 use Rattle.fleet_model.specs.Program.{origin, moves}
 use Rattle.fleet_grid.specs.Ground.{is_passable}
 use Rattle.fleet_verify.specs.Walk.{is_ready_by, begun_by, IsReadyBy}
@@ -17,8 +17,8 @@ unwrap-cell-requires g c =
     let agent : c.loop-agent.agent < length p = omega (arith, c.agents-agent-end.ensures.count) in
     let left : slice_index c.args.counts.now c.loop-agent.agent < moves p c.loop-agent.agent = (c.is_ready.ensures.0 c.if-is_ready.true).left in
     let same : slice_index c.loop-agent.next c.loop-agent.agent ≡ slice_index c.args.counts.now c.loop-agent.agent = c.loop-agent.invariant.rows.rest c.loop-agent.agent (omega arith) in
-    some_there c.neighbour.result (is_passable c.args.grid.now (moved (place_of (get_or c.loop-agent.cells c.loop-agent.agent origin)) c.dir.result)) c.neighbour.ensures.none
-    (next_stands (is_passable c.args.grid.now) p c.loop-agent.next c.loop-agent.cells c.loop-agent.agent c.dir.result c.requires.steps c.loop-agent.invariant.rows.here agent (omega arith) c.dir.ensures)
+    some_there c.cell_after.result (is_passable c.args.grid.now (stepped (place_of (get_or c.loop-agent.cells c.loop-agent.agent origin)) c.step.result)) c.cell_after.ensures.none
+    (next_stands (is_passable c.args.grid.now) p c.loop-agent.next c.loop-agent.cells c.loop-agent.agent c.step.result c.requires.steps c.loop-agent.invariant.rows.here agent (omega arith) c.step.ensures)
 
 pub loop-agent-init : goal.loop-agent-init
 loop-agent-init g c =
@@ -35,9 +35,9 @@ pub note-requires-clause-stay : goal.note-requires-clause-stay
 note-requires-clause-stay g c =
     let p = g.P.ProgramView.program c.args.program.now in
     let agent : c.loop-agent.agent < length p = omega (arith, c.agents-agent-end.ensures.count) in
-    let to : place_of c.unwrap-cell.result ≡ moved (place_of (get_or c.loop-agent.cells c.loop-agent.agent origin)) c.dir.result =
-    some_to (is_passable c.args.grid.now) c.neighbour.result c.unwrap-cell.result _ c.unwrap-cell.ensures c.neighbour.ensures.some in
-    comes_to p (is_ready_by p c.args.counts.now) c.args.counts.now c.loop-agent.next c.loop-agent.cells c.loop-agent.agent c.loop-agent.invariant.rows c.dir.result c.unwrap-cell.result agent c.dir.ensures to
+    let to : place_of c.unwrap-cell.result ≡ stepped (place_of (get_or c.loop-agent.cells c.loop-agent.agent origin)) c.step.result =
+    some_to (is_passable c.args.grid.now) c.cell_after.result c.unwrap-cell.result _ c.unwrap-cell.ensures c.cell_after.ensures.some in
+    comes_to p (is_ready_by p c.args.counts.now) c.args.counts.now c.loop-agent.next c.loop-agent.cells c.loop-agent.agent c.loop-agent.invariant.rows c.step.result c.unwrap-cell.result agent c.step.ensures to
 
 pub loop-agent-preserved : goal.loop-agent-preserved
 loop-agent-preserved g c =
@@ -48,12 +48,12 @@ loop-agent-preserved g c =
     let flag : is_ready_by p counts c.loop-agent.agent ≡ c.is_ready.result = flag_ready p counts c.loop-agent.agent c.is_ready.result c.is_ready.ensures in
     elim c.if-is_ready.branch [
       | then-is_ready+in_ok-note w ↦
-          let to : place_of w.unwrap-cell.result ≡ moved (place_of (get_or c.loop-agent.cells c.loop-agent.agent origin)) w.dir.result =
-          some_to (is_passable c.args.grid.now) w.neighbour.result w.unwrap-cell.result _ w.unwrap-cell.ensures w.neighbour.ensures.some in
+          let to : place_of w.unwrap-cell.result ≡ stepped (place_of (get_or c.loop-agent.cells c.loop-agent.agent origin)) w.step.result =
+          some_to (is_passable c.args.grid.now) w.cell_after.result w.unwrap-cell.result _ w.unwrap-cell.ensures w.cell_after.ensures.some in
           rw (w.next-is, w.cells-is, w.watch-is, w.some-is)
           record {
             rows = one_moves p (is_ready_by p counts) counts c.loop-agent.next c.loop-agent.cells c.loop-agent.agent c.loop-agent.invariant.rows
-                w.dir.result w.unwrap-cell.result agent inside (flag ∙ w.if-is_ready.true) w.dir.ensures to;
+                w.step.result w.unwrap-cell.result agent inside (flag ∙ w.if-is_ready.true) w.step.ensures to;
             noted = λ visits h.
                 subst (λ (vs : List Visit). AreNoted p vs w.note.new.self) (one_begun p (is_ready_by p counts) counts c.loop-agent.next c.loop-agent.cells c.loop-agent.agent c.loop-agent.invariant.rows visits (flag ∙ w.if-is_ready.true))
                 (w.in_ok-note.ensures (visits ++ begun_by (is_ready_by p counts) (slice_index counts) c.loop-agent.agent) (c.loop-agent.invariant.noted visits h));

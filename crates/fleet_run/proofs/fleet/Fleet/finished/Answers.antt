@@ -9,12 +9,12 @@ returns-clause-arrived g c =
     let running = c.self.invariant in
     let parts = c.self.inside.accepted in
     let p = g.P.ProgramView.program parts.program in
-    let here = c.self.inside.rows.items in
+    let here = c.self.inside.machine.configuration in
     let way = running.reached in
     let passable = is_passable parts.grid in
     let accepted = c.awaits_are_chains.ensures passable parts.instance p running.accepted_for.accepted in
     let finish = c.runs_arrive.ensures.finish passable parts.instance p accepted way.holds in
     let arrives = c.runs_arrive.ensures.arrive passable parts.instance p accepted way.holds parts.chain finish.0 running.accepted_for.longest finish.1 in
     let told : c.is_finished.result ≡ is_finished p here =
-    c.is_finished.ensures ∙ (ap (λ q. is_finished (g.P.ProgramView.program q) c.deref.result.now) c.program.ensures ∙ ap (is_finished p) c.deref.ensures.value) in
+    c.is_finished.ensures ∙ ap (λ q. is_finished (g.P.ProgramView.program q) here) c.program.ensures.program in
     rw (← c.self.view_is) (λ over. on_goals p way.holds parts.chain finish.0 way.ticks here finish.1 arrives way.same (sym told ∙ over))

@@ -1,0 +1,325 @@
+-- Breaking holds exist, and are the only ones: what is needed for two visits is finished in the end.
+use Rattle.std.proofs.Common.{◌≡◌, ℕ, zero, suc, ◌+◌, ◌-◌, ◌<◌, ◌≤◌, Bool, true, false, List, [], ◌∷◌, ◌++◌, length, get_or, refl, sym, ap, ap₂, ◌∙◌, subst, arith, inl, inr}
+use Rattle.std.specs.Prelude.{Contains, ◌⊎◌, ◌↔◌, ◌==◌}
+use Rattle.std.specs.List.{list_any}
+use Rattle.std.specs.List.Sorted.{IsStrictlyIncreasing}
+use Rattle.std.proofs.lemmas.Bool.{cases_lt, cases_order}
+use Rattle.std.proofs.lemmas.List.{get_or_past, get_or_append_left, get_or_push, length_push, ext_get_or}
+use Rattle.fleet_model.specs.declared.program.Await.{Await}
+use Rattle.fleet_model.specs.declared.program.ActionId.{ActionId}
+use Rattle.fleet_model.specs.declared.program.Visit.{Visit}
+use Rattle.fleet_model.specs.Program.{Program, moves, awaits_of, AreInRange}
+use Rattle.fleet_model.specs.Machine.{Configuration, count_at, Holds, is_held, tick, run, IsDone}
+use Rattle.fleet_model.specs.Chain.{IsAction, DirectlyNeeds, IsNumbering, awaited}
+use Rattle.fleet_model.specs.Visit.{IsVisit, entering}
+use Rattle.fleet_chains.specs.Breaking.{IsNeededFor, IsHeldBack, IsPrepared, AreBreakingHolds}
+use Rattle.fleet_verify.proofs.Readiness.{IsReadyTo, step}
+use Rattle.fleet_verify.proofs.Chains.{Reaches-refl, Reaches-rises}
+use Rattle.fleet_model.proofs.Chains.{Reaches-need}
+use Rattle.fleet_verify.proofs.Done.{count_grows}
+use Rattle.fleet_chains.proofs.Needs.{needed_action, needed_on}
+use Rattle.fleet_chains.proofs.Finishing.{Reaches-done}
+use Rattle.fleet_chains.proofs.Decide.{Reaches-dec, before_in}
+use Rattle.fleet_chains.specs.Rows.{IsRow}
+use Rattle.fleet_chains.proofs.RisingRows.{same_rising, those_below, those_rise, those_has, those_keep}
+use Rattle.fleet_chains.proofs.BreakingMeets.{any_Contains}
+
+pub moves_within : (p : Program) (i : ℕ) → 0 < moves p i → i < length p
+moves_within [] i l = absurd (omega arith)
+moves_within (a ∷ p) zero l = omega arith
+moves_within (a ∷ p) (suc i) l = let h : i < length p = moves_within p i l in omega arith
+
+-- the ticks of a run depend on the rows before them
+pub run_same : (p : Program) (h k : Holds) (t : ℕ) → ((s : ℕ) → s < t → get_or h s [] ≡ get_or k s []) → run p h t ≡ run p k t
+run_same p h k zero e = refl
+run_same p h k (suc t) e =
+    ap₂ (λ row c. tick p (λ i. list_any (λ j. j == i) row) c) (e t (omega arith)) (run_same p h k t (λ s l. e s (omega arith)))
+
+-- an action whose needs are finished, and whose agent is not held, is finished after the tick
+pub next_done : (p : Program) → AreInRange p → (holds : Holds) (t : ℕ) (a : ActionId) → IsAction p a → ((b : ActionId) → IsAction p b → DirectlyNeeds p a b → IsDone (run p holds t) b) → (a.number ≡ suc (count_at (run p holds t) a.agent) → is_held holds t a.agent ≡ true → ⊥) → IsDone (run p holds (suc t)) a
+next_done p range holds t a h prior free =
+    elim (cases_lt n a.number) [
+      | inr l ↦ (let up : n ≤ count_at (run p holds (suc t)) a.agent = count_grows p holds t a.agent in omega arith)
+      | inl l ↦ go (same l)
+    ]
+  where
+    n : ℕ
+    n = count_at (run p holds t) a.agent
+
+    own : (a.number ≡ 1) ⊎ ((a.number < 1) ⊎ (1 < a.number)) → a.number ≤ suc n
+    own (inl e) = omega arith
+    own (inr (inl e)) = omega arith
+    own (inr (inr e)) =
+        let first : 1 ≤ a.number - 1 = omega arith in
+        let last : a.number ≤ moves p a.agent = h.last in
+        let before : a.number - 1 ≤ n = prior (before_in a) (record { agent = h.agent; first = first; last = omega arith }) (inl (refl, omega arith, first)) in
+        omega arith
+
+    same : n < a.number → a.number ≡ suc n
+    same l = let g : a.number ≤ suc n = own (cases_order a.number 1) in omega arith
+
+    met : a.number ≡ suc n → (w : Await) → Contains (awaits_of p a.agent (suc n)) w → (w.count < 1) ⊎ (1 ≤ w.count) → w.count ≤ count_at (run p holds t) w.agent
+    met e w c (inl z) = omega arith
+    met e w c (inr f) =
+        let d : Contains (awaits_of p a.agent a.number) w = subst (λ m. Contains (awaits_of p a.agent m) w) (sym e) c in
+        let r = range a.agent a.number w d in
+        prior (awaited w) (record { agent = r.agent; first = f; last = r.last }) (inr d)
+
+    ready : a.number ≡ suc n → IsReadyTo p (run p holds t) a.agent
+    ready e = let l : a.number ≤ moves p a.agent = h.last in record { left = omega arith; met = λ w c. met e w c (cases_lt w.count 1) }
+
+    go : a.number ≡ suc n → IsDone (run p holds (suc t)) a
+    go e =
+        elim (step p holds t a.agent h.agent) [
+          | inl m ↦ (let g : count_at (run p holds (suc t)) a.agent ≡ suc n = m.count in omega arith)
+          | inr s ↦ absurd (free e (s.why (ready e)))
+        ]
+
+-- what needs only such actions, none of which is held when it is next, is finished in the order of their numbers
+pub progress : (p : Program) (number : ActionId → ℕ) → IsNumbering p number → AreInRange p → (holds : Holds) (P : ActionId → Type 0) → ((a b : ActionId) → IsAction p a → IsAction p b → P a → DirectlyNeeds p a b → P b) → (start n : ℕ) → ((t i : ℕ) → t < n → P (record { agent = i; number = suc (count_at (run p holds (start + t)) i) }) → is_held holds (start + t) i ≡ true → ⊥) → (a : ActionId) → IsAction p a → P a → number a ≤ n → IsDone (run p holds (start + n)) a
+progress p number s range holds P closed start zero free a h k l = absurd (let f : 1 ≤ number a = s.positive a h in omega arith)
+progress p number s range holds P closed start (suc n) free a h k l =
+    let e : suc (start + n) ≡ start + suc n = omega arith in
+    subst (λ t. IsDone (run p holds t) a) e
+    (next_done p range holds (start + n) a h
+    (λ b g d. progress p number s range holds P closed start n (λ t i m. free t i (omega arith)) b g (closed a b h g k d) (let up : number b < number a = s.rising a b h g d in omega arith))
+    (λ same held. free n a.agent (omega arith) (subst (λ m. P (record { agent = a.agent; number = m })) same k) held))
+
+-- the rows of two lists of breaking holds are the same as far as both go
+row_agrees : (p : Program) (v w : Visit) (h k : Holds) → AreBreakingHolds p v w h → AreBreakingHolds p v w k → (t : ℕ) → t < length h → t < length k → ((s : ℕ) → s < t → get_or h s [] ≡ get_or k s []) → get_or h t [] ≡ get_or k t []
+row_agrees p v w h k a b t l m before =
+    let config : run p h t ≡ run p k t = run_same p h k t before in
+    same_rising (get_or h t []) (get_or k t []) (a.rising t) (b.rising t)
+    (λ z c. (b.rows t z m).1 (subst (λ x. IsHeldBack p v w x z) config ((a.rows t z l).0 c)))
+    (λ z c. (a.rows t z l).1 (subst (λ x. IsHeldBack p v w x z) (sym config) ((b.rows t z m).0 c)))
+
+rows_agree : (p : Program) (v w : Visit) (h k : Holds) → AreBreakingHolds p v w h → AreBreakingHolds p v w k → (t : ℕ) → t ≤ length h → t ≤ length k → (s : ℕ) → s < t → get_or h s [] ≡ get_or k s []
+rows_agree p v w h k a b zero l m s n = absurd (omega arith)
+rows_agree p v w h k a b (suc t) l m s n =
+    elim (cases_lt s t) [
+      | inl g ↦ rows_agree p v w h k a b t (omega arith) (omega arith) s g
+      | inr g ↦ (let e : t ≡ s = omega arith in
+          subst (λ x. get_or h x [] ≡ get_or k x []) e
+          (row_agrees p v w h k a b t l m (rows_agree p v w h k a b t (omega arith) (omega arith))))
+    ]
+
+-- the shorter one ends in a configuration in which the longer one had ended
+not_shorter : (p : Program) (v w : Visit) (h k : Holds) → AreBreakingHolds p v w h → AreBreakingHolds p v w k → length h < length k → ⊥
+not_shorter p v w h k a b l =
+    let config : run p h (length h) ≡ run p k (length h) = run_same p h k (length h) (rows_agree p v w h k a b (length h) (omega arith) (omega arith)) in
+    b.sooner (length h) l (subst (IsPrepared p v w) config a.prepared)
+
+pub breaking_unique : (p : Program) (v w : Visit) (h k : Holds) → AreBreakingHolds p v w h → AreBreakingHolds p v w k → h ≡ k
+breaking_unique p v w h k a b =
+    elim (cases_order (length h) (length k)) [
+      | inl e ↦ ext_get_or [] h k e (λ i l. rows_agree p v w h k a b (length h) (omega arith) (omega arith) i l)
+      | inr (inl l) ↦ absurd (not_shorter p v w h k a b l)
+      | inr (inr l) ↦ absurd (not_shorter p v w k h b a l)
+    ]
+
+-- what a decision says
+is_yes : {A : Type 0} → Dec A → Bool
+is_yes (yes h) = true
+is_yes (no n) = false
+
+from_yes : {A : Type 0} (d : Dec A) → is_yes d ≡ true → A
+unfolding is_yes
+from_yes (yes h) e = h
+from_yes (no n) e = absurd (let f : ⊥ = cc in f)
+
+to_yes : {A : Type 0} (d : Dec A) → A → is_yes d ≡ true
+unfolding is_yes
+to_yes (yes h) a = refl
+to_yes (no n) a = absurd (n a)
+
+held-dec : (p : Program) (number : ActionId → ℕ) → IsNumbering p number → (v w : Visit) (c : Configuration) (i : ℕ) → Dec (IsHeldBack p v w c i)
+held-dec p number s v w c i =
+    elim (cases_lt (count_at c i) (moves p i)) [
+      | inr l ↦ no (λ h. let g : count_at c i < moves p i = h.left in omega arith)
+      | inl l ↦ (elim (Reaches-dec p number s next (entering v)) [
+        | yes r ↦ no (λ h. h.unneeded (inl r))
+        | no m ↦ (elim (Reaches-dec p number s next (entering w)) [
+          | yes r ↦ no (λ h. h.unneeded (inr r))
+          | no n ↦ yes (record { left = l; unneeded = λ k. elim k [ inl r ↦ m r | inr r ↦ n r ] })
+        ])
+      ])
+    ]
+  where
+    next : ActionId
+    next = record { agent = i; number = count_at c i + 1 }
+
+-- the row of a configuration
+row_of : (p : Program) (number : ActionId → ℕ) → IsNumbering p number → (v w : Visit) (c : Configuration) → List ℕ
+row_of p number s v w c = those_below (λ i. is_yes (held-dec p number s v w c i)) (length p)
+
+row_rises : (p : Program) (number : ActionId → ℕ) (s : IsNumbering p number) (v w : Visit) (c : Configuration) → IsStrictlyIncreasing (row_of p number s v w c)
+unfolding row_of
+row_rises p number s v w c = those_rise (λ i. is_yes (held-dec p number s v w c i)) (length p)
+
+row_has : (p : Program) (number : ActionId → ℕ) (s : IsNumbering p number) (v w : Visit) (c : Configuration) (i : ℕ) → Contains (row_of p number s v w c) i ↔ IsHeldBack p v w c i
+unfolding row_of
+row_has p number s v w c i = (
+  (λ h. from_yes (held-dec p number s v w c i) (those_has (λ j. is_yes (held-dec p number s v w c j)) (length p) i h)),
+  (λ h. let l : count_at c i < moves p i = h.left in those_keep (λ j. is_yes (held-dec p number s v w c j)) (length p) i (moves_within p i (omega arith)) (to_yes (held-dec p number s v w c i) h)),
+)
+
+-- a list of holds that is right so far
+pub record IsBegun (p : Program) (v w : Visit) (holds : Holds) : Type 0 where
+  pub rising : (t : ℕ) → IsStrictlyIncreasing (get_or holds t [])
+  pub rows : (t i : ℕ) → t < length holds → Contains (get_or holds t []) i ↔ IsHeldBack p v w (run p holds t) i
+  pub sooner : (t : ℕ) → t < length holds → IsPrepared p v w (run p holds t) → ⊥
+
+-- one more row
+pub grown : (p : Program) (v w : Visit) (holds : Holds) → IsBegun p v w holds → (IsPrepared p v w (run p holds (length holds)) → ⊥) → (row : List ℕ) → IsStrictlyIncreasing row → ((i : ℕ) → Contains row i ↔ IsHeldBack p v w (run p holds (length holds)) i) → IsBegun p v w (holds ++ row ∷ [])
+grown p v w holds b open_yet row rises has = record {
+  rising = λ t. rising_at t (cases_order t n);
+  rows = λ t i l. rows_at t i l (cases_order t n);
+  sooner = λ t l. sooner_at t l (cases_order t n);
+}
+  where
+    n : ℕ
+    n = length holds
+
+    more : Holds
+    more = holds ++ row ∷ []
+
+    longer : length more ≡ n + 1
+    longer = length_push holds row
+
+    old_row : (t : ℕ) → t < n → get_or more t [] ≡ get_or holds t []
+    old_row t l = get_or_append_left holds (row ∷ []) [] t l
+
+    new_row : get_or more n [] ≡ row
+    new_row = get_or_push holds row [] n refl
+
+    config : (t : ℕ) → t ≤ n → run p more t ≡ run p holds t
+    config t l = run_same p more holds t (λ x m. old_row x (omega arith))
+
+    rising_at : (t : ℕ) → (t ≡ n) ⊎ ((t < n) ⊎ (n < t)) → IsStrictlyIncreasing (get_or more t [])
+    rising_at t (inl e) = subst (λ r. IsStrictlyIncreasing r) (sym (ap (λ x. get_or more x []) e ∙ new_row)) rises
+    rising_at t (inr (inl l)) = subst (λ r. IsStrictlyIncreasing r) (sym (old_row t l)) (b.rising t)
+    rising_at t (inr (inr l)) = subst (λ r. IsStrictlyIncreasing r) (sym (get_or_past more t [] (let e : length more ≡ n + 1 = longer in omega arith))) (λ k m. absurd (omega arith))
+
+    rows_at : (t i : ℕ) → t < length more → (t ≡ n) ⊎ ((t < n) ⊎ (n < t)) → Contains (get_or more t []) i ↔ IsHeldBack p v w (run p more t) i
+    rows_at t i l (inl e) =
+        subst (λ x. Contains (get_or more x []) i ↔ IsHeldBack p v w (run p more x) i) (sym e)
+        (subst (λ r. Contains r i ↔ IsHeldBack p v w (run p more n) i) (sym new_row)
+        (subst (λ c. Contains row i ↔ IsHeldBack p v w c i) (sym (config n (omega arith))) (has i)))
+    rows_at t i l (inr (inl m)) =
+        subst (λ r. Contains r i ↔ IsHeldBack p v w (run p more t) i) (sym (old_row t m))
+        (subst (λ c. Contains (get_or holds t []) i ↔ IsHeldBack p v w c i) (sym (config t (omega arith))) (b.rows t i m))
+    rows_at t i l (inr (inr m)) = absurd (let e : length more ≡ n + 1 = longer in omega arith)
+
+    sooner_at : (t : ℕ) → t < length more → (t ≡ n) ⊎ ((t < n) ⊎ (n < t)) → IsPrepared p v w (run p more t) → ⊥
+    sooner_at t l (inl e) h = open_yet (subst (IsPrepared p v w) (ap (run p more) e ∙ config n (omega arith)) h)
+    sooner_at t l (inr (inl m)) h = b.sooner t m (subst (IsPrepared p v w) (config t (omega arith)) h)
+    sooner_at t l (inr (inr m)) h = let e : length more ≡ n + 1 = longer in omega arith
+
+needed_closed : (p : Program) (v w : Visit) (a b : ActionId) → IsAction p a → IsAction p b → IsNeededFor p v w a → DirectlyNeeds p a b → IsNeededFor p v w b
+needed_closed p v w a b h g k n = needed_on p v w b a (Reaches-need p b a g h n) k
+
+needed_low : (p : Program) (number : ActionId → ℕ) → IsNumbering p number → (v w : Visit) (a : ActionId) → IsNeededFor p v w a → number a ≤ number (entering v) + number (entering w)
+needed_low p number s v w a (inl r) = let l : number a ≤ number (entering v) = Reaches-rises p number s a (entering v) r in omega arith
+needed_low p number s v w a (inr r) = let l : number a ≤ number (entering w) = Reaches-rises p number s a (entering w) r in omega arith
+
+-- after as many ticks as the greatest number all that is needed is finished
+pub prepared_at : (p : Program) (number : ActionId → ℕ) → IsNumbering p number → AreInRange p → (v w : Visit) (holds : Holds) → IsBegun p v w holds → (n : ℕ) → n ≤ length holds → ((a : ActionId) → IsNeededFor p v w a → number a ≤ n) → IsPrepared p v w (run p holds n)
+prepared_at p number s range v w holds b n within low a k =
+    let e : 0 + n ≡ n = omega arith in
+    subst (λ t. IsDone (run p holds t) a) e
+    (progress p number s range holds (IsNeededFor p v w) (needed_closed p v w) 0 n free a (needed_action p v w a k) k (low a k))
+  where
+    free_at : (t i : ℕ) → t < n → IsNeededFor p v w (record { agent = i; number = suc (count_at (run p holds t) i) }) → is_held holds t i ≡ true → ⊥
+    free_at t i m g h =
+        let e : suc (count_at (run p holds t) i) ≡ count_at (run p holds t) i + 1 = omega arith in
+        ((b.rows t i (omega arith)).0 (any_Contains i (get_or holds t []) h)).unneeded (subst (λ n. IsNeededFor p v w (record { agent = i; number = n })) e g)
+
+    free : (t i : ℕ) → t < n → IsNeededFor p v w (record { agent = i; number = suc (count_at (run p holds (0 + t)) i) }) → is_held holds (0 + t) i ≡ true → ⊥
+    free t i m = let e : t ≡ 0 + t = omega arith in subst (λ x. IsNeededFor p v w (record { agent = i; number = suc (count_at (run p holds x) i) }) → is_held holds x i ≡ true → ⊥) e (free_at t i m)
+
+-- so a list that is right so far has no more rows than the greatest number of what is needed
+pub begun_short : (p : Program) (number : ActionId → ℕ) → IsNumbering p number → AreInRange p → (v w : Visit) (holds : Holds) → IsBegun p v w holds → (n : ℕ) → ((a : ActionId) → IsNeededFor p v w a → number a ≤ n) → length holds ≤ n
+begun_short p number s range v w holds b n low =
+    elim (cases_lt n (length holds)) [
+      | inr l ↦ l
+      | inl l ↦ absurd (b.sooner n l (prepared_at p number s range v w holds b n (omega arith) low))
+    ]
+
+-- all that is needed is finished where both entering actions are
+pub prepared-dec : (p : Program) (v w : Visit) (holds : Holds) (t : ℕ) → IsVisit p v → IsVisit p w → Dec (IsPrepared p v w (run p holds t))
+prepared-dec p v w holds t a b =
+    elim (cases_lt (count_at (run p holds t) v.agent) v.position) [
+      | inl l ↦ no (λ h. let f : IsDone (run p holds t) (entering v) = h (entering v) (inl (Reaches-refl p (entering v) (record { agent = a.agent; first = omega arith; last = a.position }))) in omega arith)
+      | inr l ↦ (elim (cases_lt (count_at (run p holds t) w.agent) w.position) [
+        | inl m ↦ no (λ h. let f : IsDone (run p holds t) (entering w) = h (entering w) (inr (Reaches-refl p (entering w) (record { agent = b.agent; first = omega arith; last = b.position }))) in omega arith)
+        | inr m ↦ yes (λ x k. elim k [ inl r ↦ Reaches-done p holds t x (entering v) r l | inr r ↦ Reaches-done p holds t x (entering w) r m ])
+      ])
+    ]
+
+grow : (p : Program) (number : ActionId → ℕ) → IsNumbering p number → AreInRange p → (v w : Visit) → IsVisit p v → IsVisit p w → (fuel : ℕ) (holds : Holds) → IsBegun p v w holds → number (entering v) + number (entering w) ≤ length holds + fuel → (h : Holds) × AreBreakingHolds p v w h
+grow p number s range v w a b zero holds g l =
+    (holds, record { rising = g.rising; rows = g.rows; sooner = g.sooner; prepared = prepared_at p number s range v w holds g (length holds) (omega arith) (λ a k. let m : number a ≤ number (entering v) + number (entering w) = needed_low p number s v w a k in omega arith) })
+grow p number s range v w a b (suc fuel) holds g l =
+    elim (prepared-dec p v w holds (length holds) a b) [
+      | yes h ↦ (holds, record { rising = g.rising; rows = g.rows; sooner = g.sooner; prepared = h })
+      | no n ↦ grow p number s range v w a b fuel (holds ++ row_of p number s v w (run p holds (length holds)) ∷ [])
+          (grown p v w holds g n (row_of p number s v w (run p holds (length holds))) (row_rises p number s v w (run p holds (length holds))) (row_has p number s v w (run p holds (length holds))))
+          (let e : length (holds ++ row_of p number s v w (run p holds (length holds)) ∷ []) ≡ length holds + 1 = length_push holds (row_of p number s v w (run p holds (length holds))) in omega arith)
+    ]
+
+pub breaking_made : (p : Program) (number : ActionId → ℕ) → IsNumbering p number → AreInRange p → (v w : Visit) → IsVisit p v → IsVisit p w → (h : Holds) × AreBreakingHolds p v w h
+breaking_made p number s range v w a b =
+    grow p number s range v w a b (number (entering v) + number (entering w)) [] (record {
+      rising = λ t k m. absurd (omega arith);
+      rows = λ t i l. absurd (omega arith);
+      sooner = λ t l. absurd (omega arith);
+    }) (omega arith)
+
+-- with the rows of the two entering actions: what is needed, whom to hold, and when to end
+pub needed_by_rows : (p : Program) (v w : Visit) (first second : ℕ → ℕ) → IsRow p (entering v) first → IsRow p (entering w) second → (i c : ℕ) → IsNeededFor p v w (record { agent = i; number = c }) ↔ ((1 ≤ c) × ((c ≤ first i) ⊎ (c ≤ second i)))
+needed_by_rows p v w first second f s i c = (into, λ (m, h). out m h)
+  where
+    into : IsNeededFor p v w (record { agent = i; number = c }) → (1 ≤ c) × ((c ≤ first i) ⊎ (c ≤ second i))
+    into (inl r) = (((f i c).0 r).0, inl (((f i c).0 r).1))
+    into (inr r) = (((s i c).0 r).0, inr (((s i c).0 r).1))
+
+    out : 1 ≤ c → (c ≤ first i) ⊎ (c ≤ second i) → IsNeededFor p v w (record { agent = i; number = c })
+    out m (inl l) = inl ((f i c).1 (m, l))
+    out m (inr l) = inr ((s i c).1 (m, l))
+
+pub held_by_rows : (p : Program) (v w : Visit) (first second : ℕ → ℕ) → IsRow p (entering v) first → IsRow p (entering w) second → (c : Configuration) (i : ℕ) → IsHeldBack p v w c i ↔ ((count_at c i < moves p i) × (first i ≤ count_at c i) × (second i ≤ count_at c i))
+held_by_rows p v w first second f s c i = (into, (λ (l, g, h). out l g h))
+  where
+    next : IsNeededFor p v w (record { agent = i; number = count_at c i + 1 }) ↔ ((1 ≤ count_at c i + 1) × ((count_at c i + 1 ≤ first i) ⊎ (count_at c i + 1 ≤ second i)))
+    next = needed_by_rows p v w first second f s i (count_at c i + 1)
+
+    into : IsHeldBack p v w c i → (count_at c i < moves p i) × (first i ≤ count_at c i) × (second i ≤ count_at c i)
+    into h = (
+      h.left,
+      elim (cases_lt (count_at c i) (first i)) [ inr l ↦ l | inl l ↦ absurd (h.unneeded (next.1 (omega arith, inl (omega arith)))) ],
+      elim (cases_lt (count_at c i) (second i)) [ inr l ↦ l | inl l ↦ absurd (h.unneeded (next.1 (omega arith, inr (omega arith)))) ],
+    )
+
+    out : count_at c i < moves p i → first i ≤ count_at c i → second i ≤ count_at c i → IsHeldBack p v w c i
+    out l g h = record { left = l; unneeded = λ k. elim ((next.0 k).1) [ inl m ↦ omega arith | inr m ↦ omega arith ] }
+
+pub prepared_by_counts : (p : Program) (v w : Visit) → IsVisit p v → IsVisit p w → (holds : Holds) (t : ℕ) → IsPrepared p v w (run p holds t) ↔ ((v.position ≤ count_at (run p holds t) v.agent) × (w.position ≤ count_at (run p holds t) w.agent))
+prepared_by_counts p v w a b holds t = (into, λ (l, m). out l m)
+  where
+    into : IsPrepared p v w (run p holds t) → (v.position ≤ count_at (run p holds t) v.agent) × (w.position ≤ count_at (run p holds t) w.agent)
+    into h = (
+      elim (cases_lt v.position 1) [ inl l ↦ omega arith | inr l ↦ h (entering v) (inl (Reaches-refl p (entering v) (record { agent = a.agent; first = l; last = a.position }))) ],
+      elim (cases_lt w.position 1) [ inl l ↦ omega arith | inr l ↦ h (entering w) (inr (Reaches-refl p (entering w) (record { agent = b.agent; first = l; last = b.position }))) ],
+    )
+
+    out : v.position ≤ count_at (run p holds t) v.agent → w.position ≤ count_at (run p holds t) w.agent → IsPrepared p v w (run p holds t)
+    out l m x (inl r) = Reaches-done p holds t x (entering v) r l
+    out l m x (inr r) = Reaches-done p holds t x (entering w) r m
+
+pub breaking_short : (p : Program) (number : ActionId → ℕ) → IsNumbering p number → AreInRange p → (v w : Visit) (holds : Holds) → AreBreakingHolds p v w holds → (n : ℕ) → number (entering v) ≤ n → number (entering w) ≤ n → length holds ≤ n
+breaking_short p number s range v w holds b n l m =
+    begun_short p number s range v w holds (record { rising = b.rising; rows = b.rows; sooner = b.sooner }) n low
+  where
+    low : (a : ActionId) → IsNeededFor p v w a → number a ≤ n
+    low a (inl r) = let g : number a ≤ number (entering v) = Reaches-rises p number s a (entering v) r in omega arith
+    low a (inr r) = let g : number a ≤ number (entering w) = Reaches-rises p number s a (entering w) r in omega arith

@@ -1,0 +1,5 @@
+pub mod Breaking
+pub mod Exact
+pub mod Rows
+pub mod Reduced
+pub mod Needed

@@ -1,0 +1,38 @@
+-- Programs that differ in awaits alone and have the same chains, as one without the awaits that others imply.
+use Rattle.std.specs.Prelude.{◌≡◌, ◌≢◌, ℕ, length, map, ◌↔◌, ◌⊎◌, Contains}
+use Rattle.fleet_model.specs.declared.program.Await.{Await}
+use Rattle.fleet_model.specs.declared.program.ActionId.{ActionId}
+use Rattle.fleet_model.specs.Program.{Program, start_of, goal_of, actions_of, awaits_of}
+use Rattle.fleet_model.specs.Machine.{Holds, run}
+use Rattle.fleet_model.specs.Chain.{IsAction, DirectlyNeeds, Reaches, awaited}
+
+-- the awaited action begins a chain that ends with another action that a directly needs
+abbrev pub IsImplied : Program → ActionId → Await → Type 0
+IsImplied p a w = (b : ActionId) × (b ≢ awaited w) × DirectlyNeeds p a b × Reaches p (awaited w) b
+
+-- the same but for the awaits
+pub record DiffersInAwaits (p q : Program) : Type 0 where
+  pub agents : length q ≡ length p
+  pub starts : (i : ℕ) → start_of q i ≡ start_of p i
+  pub goals : (i : ℕ) → goal_of q i ≡ goal_of p i
+  pub steps : (i : ℕ) → map (λ a. a.step) (actions_of q i) ≡ map (λ a. a.step) (actions_of p i)
+
+-- q is p without its implied awaits
+pub record IsThinned (p q : Program) : Type 0 where
+  pub rest : DiffersInAwaits p q
+  pub awaits : (i n : ℕ) (w : Await) → Contains (awaits_of q i n) w ↔ (Contains (awaits_of p i n) w × (IsImplied p (record { agent = i; number = n }) w → ⊥))
+
+-- q is p without some awaits, and whatever it no longer awaits it needs through a chain
+pub record IsReduced (p q : Program) : Type 0 where
+  pub rest : DiffersInAwaits p q
+  pub fewer : (i n : ℕ) (w : Await) → Contains (awaits_of q i n) w → Contains (awaits_of p i n) w
+  pub needed : (i n : ℕ) (w : Await) → IsAction p (record { agent = i; number = n }) → Contains (awaits_of p i n) w → Contains (awaits_of q i n) w ⊎ Reaches q (awaited w) (record { agent = i; number = n })
+
+-- for every list of holds their configurations agree after every number of ticks
+abbrev pub RunEqually : Program → Program → Type 0
+RunEqually p q = (holds : Holds) (t : ℕ) → run p holds t ≡ run q holds t
+
+-- the same but for the awaits, and a chain leads from one action to another in both or in neither
+pub record HaveSameChains (p q : Program) : Type 0 where
+  pub rest : DiffersInAwaits p q
+  pub chains : (a b : ActionId) → Reaches p a b ↔ Reaches q a b

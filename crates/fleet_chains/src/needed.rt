@@ -1,0 +1,101 @@
+//! Which actions two visits need through chains.
+
+ghost use Rattle.std.specs.Prelude.{◌≡◌, ◌≢◌, ◌<◌, ◌≤◌, ℕ, length, slice_index, IfOk};
+ghost use Rattle.fleet_model.specs.Program.{moves, IsWellFormed, AreInRange};
+ghost use Rattle.fleet_model.specs.Visit.{IsVisit};
+ghost use Rattle.fleet_chains.specs.Needed.{IsRaised, AreNeeded};
+
+use fleet_model::{OutOfMemory, ProgramView, Visit, total_moves};
+use std::alloc::Global;
+
+/// For each agent how many of its actions enter the visits or are needed for that through chains.
+pub fn needed_for<P: ProgramView>(
+    alloc: Global,
+    program: &P,
+    first: Visit,
+    second: Visit,
+) -> Result<Vec<u32>, OutOfMemory>
+    requires first { IsVisit (P.program program.now) first }
+    requires second { IsVisit (P.program program.now) second }
+    requires apart { first.agent ≢ second.agent }
+    requires range { AreInRange (P.program program.now) }
+    ensures all { IfOk result (λ needed. length needed.items ≡ length (P.program program.now)) }
+    ensures needed { IfOk result (λ needed.
+        AreNeeded (P.program program.now) first second (slice_index needed.items)) }
+{
+    let mut needed = zeros(alloc, program.agents())?;
+    let mut looked = zeros(alloc, program.agents())?;
+    close(program, first, second, &mut needed, &mut looked);
+    Ok(needed)
+}
+
+fn zeros(alloc: Global, n: u16) -> Result<Vec<u32>, OutOfMemory>
+    ensures all { IfOk result (λ row. length row.items ≡ n) }
+    ensures zero { IfOk result (λ row. (j : ℕ) → slice_index row.items j ≡ 0) }
+{
+    let mut row = Vec::new(alloc);
+    for _i in 0..n {
+        row.push(0)?;
+    }
+    Ok(row)
+}
+
+/// Looks at what the needed actions await, the next action of each agent in turn, until none is left.
+fn close<P: ProgramView>(
+    program: &P,
+    first: Visit,
+    second: Visit,
+    needed: &mut [u32],
+    looked: &mut [u32],
+)
+    requires first { IsVisit (P.program program.now) first }
+    requires second { IsVisit (P.program program.now) second }
+    requires apart { first.agent ≢ second.agent }
+    requires range { AreInRange (P.program program.now) }
+    requires wide { length needed.old ≡ length (P.program program.now) }
+    requires long { length looked.old ≡ length (P.program program.now) }
+    requires none_needed { (j : ℕ) → slice_index needed.old j ≡ 0 }
+    requires none_looked { (j : ℕ) → slice_index looked.old j ≡ 0 }
+    ensures { AreNeeded (P.program program.now) first second (slice_index needed.new) }
+{
+    let agents = program.agents();
+    needed[first.agent as usize] = first.position;
+    needed[second.agent as usize] = second.position;
+    let most = total_moves(program);
+    for _round in 0..most + 1 {
+        let mut some = false;
+        for j in 0..agents {
+            let i = j as usize;
+            let seen = looked[i];
+            if seen < needed[i] {
+                raise(program, j, seen + 1, needed);
+                looked[i] = seen + 1;
+                some = true;
+            }
+        }
+        if !some {
+            return;
+        }
+    }
+    unreachable!()
+}
+
+/// Raises the counts to those that an action awaits.
+fn raise<P: ProgramView>(program: &P, agent: u16, number: u32, row: &mut [u32])
+    requires row { length row.old ≡ length (P.program program.now) }
+    requires well_formed { IsWellFormed (P.program program.now) }
+    requires agent { agent < length (P.program program.now) }
+    requires first { 1 ≤ number }
+    requires last { number ≤ moves (P.program program.now) agent }
+    ensures { IsRaised (P.program program.now) agent number row.old row.new }
+{
+    let agents = program.agents();
+    for k in 0..program.await_count(agent, number) {
+        let awaited = program.await_at(agent, number, k);
+        prove!(awaited.agent < agents);
+        let i = awaited.agent as usize;
+        if row[i] < awaited.count {
+            row[i] = awaited.count;
+        }
+    }
+}

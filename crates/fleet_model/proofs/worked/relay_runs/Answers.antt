@@ -1,7 +1,0 @@
-use Rattle.std.proofs.Common.{[], ◌∷◌, refl}
-use Rattle.fleet_model.specs.Worked.{place, relay}
-use Rattle.fleet_model.proofs.WorkedRuns.{runs_as}
-use Rattle.fleet_model.proofs.worked.relay_runs.Goals as goal
-
-pub returns : goal.returns
-returns c = runs_as relay [] ((place 1 0 ∷ place 0 2 ∷ place 0 0 ∷ []) ∷ (place 2 0 ∷ place 0 2 ∷ place 0 0 ∷ []) ∷ (place 2 0 ∷ place 1 2 ∷ place 0 0 ∷ []) ∷ (place 2 0 ∷ place 1 2 ∷ place 1 0 ∷ []) ∷ []) 3 0 refl refl refl refl refl refl

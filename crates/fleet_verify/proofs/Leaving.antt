@@ -1,0 +1,43 @@
+-- Whether an agent has left its visit.
+use Rattle.std.proofs.Common.{◌≡◌, ℕ, suc, ◌+◌, ◌<◌, ◌≤◌, true, false, Some, slice_get, length, ap, ◌∙◌, arith, add-one, inl, inr}
+use Rattle.fleet_model.specs.declared.geometry.Step.{Step}
+use Rattle.fleet_model.specs.Geometry.{is_move}
+use Rattle.std.proofs.lemmas.Option.{slice_get-get_or, slice_get_within, get_or_from_slice_get}
+use Rattle.fleet_model.specs.declared.program.Await.{Await}
+use Rattle.fleet_model.specs.declared.program.Visit.{Visit}
+use Rattle.fleet_model.specs.Program.{Program, actions_of, awaits_of, step_of}
+use Rattle.fleet_model.specs.Visit.{is_entry, next_move, leaving, IsLaterVisit, ComesAfterByAwait}
+use Rattle.fleet_model.proofs.Visits.{next_upto, stay_on}
+use Rattle.fleet_verify.proofs.Paths.{action_with}
+
+-- a position begins a visit where its action is a move
+pub entry_by : (p : Program) (i n : ℕ) (s : Step) → step_of p i (n + 1) ≡ Some s → is_entry p i (n + 1) ≡ is_move s
+entry_by p i n s e =
+    let e' : step_of p i (suc n) ≡ Some s = rw add-one at e in
+    let a = action_with (slice_get (actions_of p i) n) s e' in
+    ap (is_entry p i) (add-one n) ∙ (ap (λ (o : Rattle.std.specs.Prelude.Option Rattle.fleet_model.specs.declared.program.Action.Action). Rattle.std.specs.Option.option_map_or (λ b. is_move b.step) o false) a.1 ∙ ap is_move a.2)
+
+-- by its next move an agent leaves its visit
+pub left_by : (p : Program) (i m n : ℕ) (s : Step) → step_of p i (n + 1) ≡ Some s → is_move s ≡ true → m ≤ n → next_move p i m ≤ n + 1
+left_by p i m n s e is le = next_upto p i m (n + 1) (omega arith) (entry_by p i n s e ∙ is)
+
+-- and by a stay it does not
+pub in_still : (p : Program) (i m n : ℕ) (s : Step) → step_of p i (n + 1) ≡ Some s → is_move s ≡ false → m ≤ n → n < next_move p i m → n + 1 < next_move p i m
+in_still p i m n s e is le lt =
+    let e' : step_of p i (suc n) ≡ Some s = rw add-one at e in
+    let a = action_with (slice_get (actions_of p i) n) s e' in
+    stay_on p i m n a.0 a.1 (ap is_move a.2 ∙ is) le lt
+
+-- ---- which visit may come after which
+
+-- an await of the leaving
+pub after_found : (p : Program) (v w : Visit) (k : ℕ) (a : Await) → slice_get (awaits_of p w.agent w.position) k ≡ Some a → a.agent ≡ v.agent → (leaving p v).number ≤ a.count → ComesAfterByAwait p v w
+after_found p v w k a at e l =
+    inr (a, (k, slice_get_within (awaits_of p w.agent w.position) k a at, get_or_from_slice_get (awaits_of p w.agent w.position) k a a at), e, l)
+
+-- none of the awaits is one of the leaving, and the visit is no later one of the agent
+pub after_none : (p : Program) (v w : Visit) (k : ℕ) → (IsLaterVisit v w → ⊥) → length (awaits_of p w.agent w.position) ≤ k
+    → ((m : ℕ) (a : Await) → m < k → slice_get (awaits_of p w.agent w.position) m ≡ Some a → a.agent ≡ v.agent → (leaving p v).number ≤ a.count → ⊥) → ComesAfterByAwait p v w → ⊥
+after_none p v w k own all none (inl h) = own h
+after_none p v w k own all none (inr (a, (m, l, e), f, g)) =
+    none m a (omega arith) (slice_get-get_or (awaits_of p w.agent w.position) m a l ∙ ap (λ (x : Await). Some x) e) f g

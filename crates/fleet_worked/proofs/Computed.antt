@@ -1,0 +1,236 @@
+-- Facts on one program that are found by computation.
+use Rattle.std.proofs.Common.{◌≡◌, ◌≢◌, ℕ, zero, suc, ◌+◌, ◌*◌, ◌<◌, ◌≤◌, Bool, true, false, not, nat_lt, nat_le, ◌&&◌, ◌||◌, ◌==◌, List, [], ◌∷◌, length, map, get_or, Option, Some, None, slice_get, option_map, Contains, refl, ap, sym, ◌∙◌, subst, arith, inl, inr}
+use Rattle.std.specs.List.{list_all, list_any}
+use Rattle.std.specs.Ordering.{int_eq}
+use Rattle.std.specs.Option.{option_map_or}
+use Rattle.std.proofs.lemmas.Bool.{and_parts, and_from, or_cases, cases_lt, eqb-true, eqb-false, ltb-true, leb-true, not-true, both_ways}
+use Rattle.std.proofs.lemmas.Bool.Decides.{Decides-int_eq}
+use Rattle.std.proofs.lemmas.List.FromFn.{length-range_with_len, get_or-range_with_len}
+use Rattle.std.proofs.lemmas.List.{length-map}
+use Rattle.std.proofs.lemmas.List.Sums.{AllPass-from_list_all}
+use Rattle.std.proofs.lemmas.List.Elements.{All-contains}
+use Rattle.std.proofs.lemmas.Map.Views.{Contains-from_any}
+use Rattle.std.proofs.lemmas.Option.{slice_get_past, slice_get-map, same_Some}
+use Rattle.fleet_model.specs.declared.geometry.Place.{Place}
+use Rattle.fleet_model.specs.declared.program.Await.{Await}
+use Rattle.fleet_model.specs.declared.program.Action.{Action}
+use Rattle.fleet_model.specs.declared.program.ActionId.{ActionId}
+use Rattle.fleet_model.specs.declared.program.AgentProgram.{AgentProgram}
+use Rattle.fleet_model.specs.declared.task.Task.{Task}
+use Rattle.fleet_model.specs.Geometry.{place_of}
+use Rattle.fleet_model.specs.Program.{Program, origin, start_of, goal_of, actions_of, moves, awaits_of, path, IsInRange}
+use Rattle.fleet_model.specs.Machine.{indices, IsLeast}
+use Rattle.fleet_model.specs.Chain.{IsAction, DirectlyNeeds, ChainFrom, IsNumbering, IsLevel, IsLongestChain}
+use Rattle.fleet_model.specs.Accepted.{IsRight}
+use Rattle.fleet_model.proofs.Chains.{ends_within, ends_action, level_is}
+
+-- ---- tests of numbers below a bound
+
+at_index : (test : ℕ → Bool) (n : ℕ) → list_all test (indices n) ≡ true → (i : ℕ) → i < n → test i ≡ true
+at_index test n e i lt =
+    let at : get_or (indices n) i 0 ≡ 0 + i = get_or-range_with_len 0 n i 0 lt in
+    let same : get_or (indices n) i 0 ≡ i = omega (arith, at) in
+    subst (λ k. test k ≡ true) same (AllPass-from_list_all test (indices n) e i 0 (omega (arith, length-range_with_len 0 n)))
+
+-- the first number that passes a test
+pub least_is : (test : ℕ → Bool) (t : ℕ) → test t ≡ true → list_all (λ s. not (test s)) (indices t) ≡ true → IsLeast test t
+least_is test t e before = record { holds = e; least = least }
+  where
+    least : (s : ℕ) → test s ≡ true → t ≤ s
+    least s h = elim (cases_lt s t) [
+      | inl lt ↦ absurd (both_ways (test s) (not-true (test s) (at_index (λ s. not (test s)) t before s lt)) h)
+      | inr le ↦ le
+    ]
+
+-- ---- tests of each position, and of each await
+
+abbrev pub at_all_positions : (ℕ → ℕ → Bool) → Program → Bool
+at_all_positions test p = list_all (λ i. list_all (test i) (indices (moves p i + 1))) (indices (length p))
+
+pub at_position : (test : ℕ → ℕ → Bool) (p : Program) → at_all_positions test p ≡ true → (i n : ℕ) → i < length p → n ≤ moves p i → test i n ≡ true
+at_position test p e i n lt le =
+    at_index (test i) (moves p i + 1) (at_index (λ i. list_all (test i) (indices (moves p i + 1))) (length p) e i lt) n (omega arith)
+
+abbrev pub at_all_awaits : (ℕ → ℕ → Await → Bool) → Program → Bool
+at_all_awaits test p = at_all_positions (λ i n. list_all (test i n) (awaits_of p i n)) p
+
+pub contains_none : {X : Type 0} (x : X) → Contains [] x → ⊥
+contains_none x h = omega (arith, h.1)
+
+-- an action with an await is one of the program
+awaiting_action : (p : Program) (i n : ℕ) (w : Await) → Contains (awaits_of p i n) w → IsAction p (record { agent = i; number = n })
+awaiting_action p i zero w h = absurd (contains_none w h)
+awaiting_action p i (suc n) w h =
+    elim (cases_lt i (length p)) [
+      | inl lt ↦ record { agent = lt; first = omega arith; last = within }
+      | inr past ↦ absurd (contains_none w (subst (λ (o : Option AgentProgram). Contains (option_map_or (λ (s : Action). s.awaits) (slice_get (option_map_or (λ (a : AgentProgram). a.actions) o []) n) []) w) (slice_get_past p i past) h))
+    ]
+  where
+    within : suc n ≤ moves p i
+    within = elim (cases_lt n (moves p i)) [
+      | inl lt ↦ omega arith
+      | inr past ↦ absurd (contains_none w (subst (λ (o : Option Action). Contains (option_map_or (λ (s : Action). s.awaits) o []) w) (slice_get_past (actions_of p i) n past) h))
+    ]
+
+pub at_await : (test : ℕ → ℕ → Await → Bool) (p : Program) → at_all_awaits test p ≡ true → (i n : ℕ) (w : Await) → Contains (awaits_of p i n) w → test i n w ≡ true
+at_await test p e i n w h =
+    let a = awaiting_action p i n w h in
+    All-contains (λ (v : Await). test i n v ≡ true) (awaits_of p i n) w
+    (AllPass-from_list_all (test i n) (awaits_of p i n) (at_position (λ i n. list_all (test i n) (awaits_of p i n)) p e i n a.agent a.last)) h
+
+-- ---- actions
+
+abbrev is_action : Program → ActionId → Bool
+is_action p a = nat_lt a.agent (length p) && nat_le 1 a.number && nat_le a.number (moves p a.agent)
+
+pub action_is : (p : Program) (a : ActionId) → is_action p a ≡ true → IsAction p a
+action_is p a e =
+    let front = and_parts (nat_lt a.agent (length p) && nat_le 1 a.number) (nat_le a.number (moves p a.agent)) e in
+    let parts = and_parts (nat_lt a.agent (length p)) (nat_le 1 a.number) front.0 in
+    record { agent = ltb-true _ _ parts.0; first = leb-true _ _ parts.1; last = leb-true _ _ front.1 }
+
+abbrev pub sum_of : ActionId → ℕ
+sum_of a = a.agent + a.number
+
+-- where each await has a smaller sum of agent and count than its own action of agent and number, those sums are a numbering
+pub sums_number : (p : Program) → at_all_awaits (λ i n w. nat_lt (w.agent + w.count) (i + n)) p ≡ true → IsNumbering p sum_of
+sums_number p e = record { positive = λ a act. omega (arith, act.first); rising = λ a b act act' need. rises a b need }
+  where
+    rises : (a b : ActionId) → DirectlyNeeds p a b → b.agent + b.number < a.agent + a.number
+    rises a b (inl h) = omega (arith, h.0, h.1)
+    rises a b (inr h) = ltb-true _ _ (at_await (λ i n w. nat_lt (w.agent + w.count) (i + n)) p e a.agent a.number (record { agent = b.agent; count = b.number }) h)
+
+-- the same, where agents weigh more
+abbrev pub weighed : ℕ → ActionId → ℕ
+weighed k a = k * a.agent + a.number
+
+pub weights_number : (k : ℕ) (p : Program) → at_all_awaits (λ i n w. nat_lt (k * w.agent + w.count) (k * i + n)) p ≡ true → IsNumbering p (weighed k)
+weights_number k p e = record { positive = λ a act. omega (arith, act.first); rising = λ a b act act' need. rises a b need }
+  where
+    rises : (a b : ActionId) → DirectlyNeeds p a b → k * b.agent + b.number < k * a.agent + a.number
+    rises a b (inl h) = let same : k * a.agent ≡ k * b.agent = ap (λ i. k * i) h.0 in omega (arith, same, h.1)
+    rises a b (inr h) = ltb-true _ _ (at_await (λ i n w. nat_lt (k * w.agent + w.count) (k * i + n)) p e a.agent a.number (record { agent = b.agent; count = b.number }) h)
+
+-- ---- chains
+
+abbrev pub is_same_await : Await → Await → Bool
+is_same_await v w = v.agent == w.agent && v.count == w.count
+
+pub same_await : (v w : Await) → is_same_await v w ≡ true → v ≡ w
+same_await v w e =
+    let parts = and_parts (v.agent == w.agent) (v.count == w.count) e in
+    let agents : v.agent ≡ w.agent = eqb-true _ _ parts.0 in
+    let counts : v.count ≡ w.count = eqb-true _ _ parts.1 in
+    λ i. record { agent = agents i; count = counts i }
+
+abbrev needs : Program → ActionId → ActionId → Bool
+needs p a b =
+    (a.agent == b.agent && (a.number == b.number + 1 && nat_le 1 b.number))
+    || list_any (is_same_await (record { agent = b.agent; count = b.number })) (awaits_of p a.agent a.number)
+
+needs_is : (p : Program) (a b : ActionId) → needs p a b ≡ true → DirectlyNeeds p a b
+needs_is p a b e =
+    elim (or_cases (a.agent == b.agent && (a.number == b.number + 1 && nat_le 1 b.number)) (list_any (is_same_await (record { agent = b.agent; count = b.number })) (awaits_of p a.agent a.number)) e) [
+      | inl own ↦ (
+          let parts = and_parts (a.agent == b.agent) (a.number == b.number + 1 && nat_le 1 b.number) own in
+          let numbers = and_parts (a.number == b.number + 1) (nat_le 1 b.number) parts.1 in
+          inl (eqb-true _ _ parts.0, eqb-true _ _ numbers.0, leb-true _ _ numbers.1))
+      | inr listed ↦ inr (Contains-from_any same_await (record { agent = b.agent; count = b.number }) (awaits_of p a.agent a.number) listed)
+    ]
+
+-- a list of actions, in which each directly needs the one before
+abbrev pub is_chain : Program → ActionId → List ActionId → ActionId → Bool
+is_chain p a [] b = is_action p a && (a.agent == b.agent && a.number == b.number)
+is_chain p a (c ∷ cs) b = is_action p a && (needs p c a && is_chain p c cs b)
+
+pub chain_is : (p : Program) (a : ActionId) (cs : List ActionId) (b : ActionId) → is_chain p a cs b ≡ true → ChainFrom p a cs b
+chain_is p a [] b e =
+    let parts = and_parts (is_action p a) (a.agent == b.agent && a.number == b.number) e in
+    let same = and_parts (a.agent == b.agent) (a.number == b.number) parts.1 in
+    let agents : a.agent ≡ b.agent = eqb-true _ _ same.0 in
+    let numbers : a.number ≡ b.number = eqb-true _ _ same.1 in
+    (action_is p a parts.0, λ i. record { agent = agents i; number = numbers i })
+chain_is p a (c ∷ cs) b e =
+    let parts = and_parts (is_action p a) (needs p c a && is_chain p c cs b) e in
+    let rest = and_parts (needs p c a) (is_chain p c cs b) parts.1 in
+    (action_is p a parts.0, needs_is p c a rest.0, chain_is p c cs b rest.1)
+
+-- the number of an action at the end of a chain of so many actions is its level
+pub level_by : (p : Program) (number : ActionId → ℕ) → IsNumbering p number → (a : ActionId) (cs : List ActionId) (b : ActionId) → is_chain p a cs b ≡ true → length cs + 1 ≡ number b → IsLevel p b (number b)
+level_by p number is a cs b e n = level_is p number is b (a, cs, chain_is p a cs b e, sym n)
+
+-- and the greatest number at the end of such a chain is the length of the longest chain
+pub longest_by : (p : Program) (number : ActionId → ℕ) → IsNumbering p number → (a : ActionId) (cs : List ActionId) (b : ActionId) → is_chain p a cs b ≡ true
+    → at_all_positions (λ i n. nat_le (number (record { agent = i; number = n })) (length cs + 1)) p ≡ true → IsLongestChain p (length cs + 1)
+longest_by p number is a cs b e most = record {
+  some = inr (b, (a, cs, chain_is p a cs b e, refl));
+  most = λ d m h.
+      let act = ends_action p m d h in
+      let within : number d ≤ length cs + 1 = leb-true _ _ (at_position (λ i n. nat_le (number (record { agent = i; number = n })) (length cs + 1)) p most d.agent d.number act.agent act.last) in
+      omega (arith, ends_within p number is m d h, within);
+}
+
+-- ---- places
+
+abbrev pub is_same_place : Place → Place → Bool
+is_same_place q r = int_eq q.x r.x && int_eq q.y r.y
+
+pub same_place : (q r : Place) → is_same_place q r ≡ true → q ≡ r
+same_place q r e =
+    let parts = and_parts (int_eq q.x r.x) (int_eq q.y r.y) e in
+    let ex : q.x ≡ r.x = (Decides-int_eq q.x r.x).0 parts.0 in
+    let ey : q.y ≡ r.y = (Decides-int_eq q.y r.y).0 parts.1 in
+    λ i. record { x = ex i; y = ey i }
+
+pub place_same : (q r : Place) → q ≡ r → is_same_place q r ≡ true
+place_same q r e =
+    and_from (int_eq q.x r.x) (int_eq q.y r.y)
+    ((Decides-int_eq q.x r.x).1 (ap (λ (s : Place). s.x) e)) ((Decides-int_eq q.y r.y).1 (ap (λ (s : Place). s.y) e))
+
+pub other_place : (q r : Place) → is_same_place q r ≡ false → q ≢ r
+other_place q r e same = both_ways (is_same_place q r) e (place_same q r same)
+
+-- ---- right programs
+
+abbrev pub task_of : AgentProgram → Task
+task_of a = record { start = a.start; goal = a.goal }
+
+abbrev is_in_range : Program → ℕ → ℕ → Await → Bool
+is_in_range p i n w = (nat_lt w.agent (length p) && not (w.agent == i)) && (nat_le 1 w.count && nat_le w.count (moves p w.agent))
+
+abbrev arrives : Program → ℕ → Bool
+arrives p i = is_same_place (path p i (moves p i)) (place_of (goal_of p i))
+
+-- every place is passable, every agent arrives and every await is in range
+abbrev pub is_right : (Place → Bool) → Program → Bool
+is_right passable p = at_all_positions (λ i n. passable (path p i n)) p && (list_all (arrives p) (indices (length p)) && at_all_awaits (is_in_range p) p)
+
+pub right_is : (passable : Place → Bool) (p : Program) → is_right passable p ≡ true → IsRight passable (map task_of p) p
+right_is passable p e = record {
+  agents = sym (length-map p task_of);
+  ends = λ i t at. ends i t (slice_get p i) refl (sym (slice_get-map task_of p i) ∙ at);
+  on_ground = at_position (λ i n. passable (path p i n)) p parts.0;
+  arrives = λ i lt. same_place (path p i (moves p i)) (place_of (goal_of p i)) (at_index (arrives p) (length p) rest.0 i lt);
+  in_range = λ i n w h. range i w (at_await (is_in_range p) p rest.1 i n w h);
+}
+  where
+    parts : (at_all_positions (λ i n. passable (path p i n)) p ≡ true) × ((list_all (arrives p) (indices (length p)) && at_all_awaits (is_in_range p) p) ≡ true)
+    parts = and_parts (at_all_positions (λ i n. passable (path p i n)) p) (list_all (arrives p) (indices (length p)) && at_all_awaits (is_in_range p) p) e
+
+    rest : (list_all (arrives p) (indices (length p)) ≡ true) × (at_all_awaits (is_in_range p) p ≡ true)
+    rest = and_parts (list_all (arrives p) (indices (length p))) (at_all_awaits (is_in_range p) p) parts.1
+
+    ends : (i : ℕ) (t : Task) (o : Option AgentProgram) → slice_get p i ≡ o → option_map task_of o ≡ Some t → (start_of p i ≡ t.start) × (goal_of p i ≡ t.goal)
+    ends i t None is e = absurd cc
+    ends i t (Some a) is e =
+        let same : task_of a ≡ t = same_Some (task_of a) t e in (
+          ap (λ (o : Option AgentProgram). option_map_or (λ (a : AgentProgram). a.start) o origin) is ∙ ap (λ (t : Task). t.start) same,
+          ap (λ (o : Option AgentProgram). option_map_or (λ (a : AgentProgram). a.goal) o origin) is ∙ ap (λ (t : Task). t.goal) same,
+        )
+
+    range : (i : ℕ) (w : Await) → is_in_range p i i w ≡ true → IsInRange p i w
+    range i w e =
+        let halves = and_parts (nat_lt w.agent (length p) && not (w.agent == i)) (nat_le 1 w.count && nat_le w.count (moves p w.agent)) e in
+        let front = and_parts (nat_lt w.agent (length p)) (not (w.agent == i)) halves.0 in
+        let back = and_parts (nat_le 1 w.count) (nat_le w.count (moves p w.agent)) halves.1 in
+        record { agent = ltb-true _ _ front.0; other = eqb-false w.agent i (not-true (w.agent == i) front.1); first = leb-true _ _ back.0; last = leb-true _ _ back.1 }

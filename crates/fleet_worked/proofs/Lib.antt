@@ -1,0 +1,10 @@
+pub mod Computed
+pub mod ComputedVisits
+pub mod Unordered
+pub mod ProgramRuns
+pub mod LongestRuns
+pub mod FreePlans
+pub mod PlanFaults
+pub mod CompiledPlans
+pub mod ComputedHolds
+pub mod ComputedThinned

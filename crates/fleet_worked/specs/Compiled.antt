@@ -1,0 +1,23 @@
+-- The programs that the small plans compile to.
+use Rattle.std.specs.Prelude.{List, [], ◌∷◌}
+use Rattle.fleet_model.specs.declared.geometry.Dir.TheVariants.{North, East, West}
+use Rattle.fleet_model.specs.declared.program.Await.{Await}
+use Rattle.fleet_model.specs.Program.{Program}
+use Rattle.fleet_worked.specs.Programs.{cell, await, go, agent_from}
+
+-- the last agent's last action has these awaits
+abbrev pub corridor_program : List Await → Program
+corridor_program awaits =
+    agent_from (cell 2 0) (cell 4 0) (go East [] ∷ go East [] ∷ [])
+    ∷ agent_from (cell 1 0) (cell 3 0) (go East (await 0 1 ∷ []) ∷ go East (await 0 2 ∷ []) ∷ [])
+    ∷ agent_from (cell 0 0) (cell 2 0) (go East (await 1 1 ∷ []) ∷ go East awaits ∷ [])
+    ∷ []
+
+abbrev pub there_and_back_program : Program
+there_and_back_program = agent_from (cell 0 0) (cell 0 0) (go East [] ∷ go West [] ∷ []) ∷ []
+
+abbrev pub pass_program : Program
+pass_program =
+    agent_from (cell 0 0) (cell 2 0) (go East [] ∷ go East [] ∷ [])
+    ∷ agent_from (cell 1 1) (cell 0 0) (go North (await 0 2 ∷ []) ∷ go West (await 0 1 ∷ []) ∷ [])
+    ∷ []

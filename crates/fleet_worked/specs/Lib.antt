@@ -1,0 +1,4 @@
+pub mod Programs
+pub mod Plans
+pub mod Compiled
+pub mod Meetings

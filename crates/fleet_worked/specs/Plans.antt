@@ -1,0 +1,44 @@
+-- Small plans, worked out by hand, and the tasks of some.
+use Rattle.std.specs.Prelude.{List, [], ◌∷◌}
+use Rattle.fleet_model.specs.declared.task.Task.{Task}
+use Rattle.fleet_plan.specs.Plan.{Plan}
+use Rattle.fleet_plan.specs.declared.plan_fault.Conflict.TheVariants.{Swapping, Cycle}
+use Rattle.fleet_plan.specs.declared.plan_fault.PlanFault.{PlanFault}
+use Rattle.fleet_plan.specs.declared.plan_fault.PlanFault.TheVariants as fault
+use Rattle.fleet_worked.specs.Programs.{cell, task}
+
+-- the plan of the pair, whose tasks are its own
+abbrev pub base_plan : Plan
+base_plan = (cell 1 0 ∷ cell 2 0 ∷ cell 3 0 ∷ []) ∷ (cell 0 0 ∷ cell 1 0 ∷ cell 2 0 ∷ []) ∷ []
+
+abbrev pub corridor : Plan
+corridor = (cell 2 0 ∷ cell 3 0 ∷ cell 4 0 ∷ []) ∷ (cell 1 0 ∷ cell 2 0 ∷ cell 3 0 ∷ []) ∷ (cell 0 0 ∷ cell 1 0 ∷ cell 2 0 ∷ []) ∷ []
+
+abbrev pub there_and_back_plan : Plan
+there_and_back_plan = (cell 0 0 ∷ cell 1 0 ∷ cell 0 0 ∷ []) ∷ []
+
+-- an agent lets another pass, and then goes where that was
+abbrev pub pass_plan : Plan
+pass_plan = (cell 0 0 ∷ cell 1 0 ∷ cell 2 0 ∷ []) ∷ (cell 1 1 ∷ cell 1 1 ∷ cell 1 0 ∷ cell 0 0 ∷ []) ∷ []
+
+-- two agents exchange their cells
+abbrev pub swap_plan : Plan
+swap_plan = (cell 0 0 ∷ cell 1 0 ∷ []) ∷ (cell 1 0 ∷ cell 0 0 ∷ []) ∷ []
+
+abbrev pub swap_tasks : List Task
+swap_tasks = task (cell 0 0) (cell 1 0) ∷ task (cell 1 0) (cell 0 0) ∷ []
+
+-- .. in the step from time 0 to 1
+abbrev pub swap_fault : PlanFault
+swap_fault = fault.Conflict (Swapping 0 0 1)
+
+-- four agents go round on four cells
+abbrev pub ring_plan : Plan
+ring_plan = (cell 0 0 ∷ cell 1 0 ∷ []) ∷ (cell 1 0 ∷ cell 1 1 ∷ []) ∷ (cell 1 1 ∷ cell 0 1 ∷ []) ∷ (cell 0 1 ∷ cell 0 0 ∷ []) ∷ []
+
+abbrev pub ring_tasks : List Task
+ring_tasks = task (cell 0 0) (cell 1 0) ∷ task (cell 1 0) (cell 1 1) ∷ task (cell 1 1) (cell 0 1) ∷ task (cell 0 1) (cell 0 0) ∷ []
+
+-- .. in the step from time 0 to 1
+abbrev pub ring_fault : PlanFault
+ring_fault = fault.Conflict (Cycle 0 0)

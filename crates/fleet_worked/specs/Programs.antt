@@ -1,0 +1,189 @@
+-- Small programs, whose runs, levels, visits and acceptance can be worked out by hand.
+use Rattle.std.specs.Prelude.{◌≡◌, ℕ, ◌+◌, ℤ, pos, negsuc, Bool, false, nat_lt, ◌&&◌, List, [], ◌∷◌, length, map, replicate}
+use Rattle.fleet_model.specs.declared.geometry.Cell.{Cell}
+use Rattle.fleet_model.specs.declared.geometry.Place.{Place}
+use Rattle.fleet_model.specs.declared.geometry.Dir.{Dir}
+use Rattle.fleet_model.specs.declared.geometry.Dir.TheVariants.{North, East, South, West}
+use Rattle.fleet_model.specs.declared.geometry.Step.TheVariants.{Go, Dwell}
+use Rattle.fleet_model.specs.declared.program.Await.{Await}
+use Rattle.fleet_model.specs.declared.program.Action.{Action}
+use Rattle.fleet_model.specs.declared.program.ActionId.{ActionId}
+use Rattle.fleet_model.specs.declared.program.AgentProgram.{AgentProgram}
+use Rattle.fleet_model.specs.declared.program.Visit.{Visit}
+use Rattle.fleet_model.specs.declared.task.Task.{Task}
+use Rattle.fleet_model.specs.Program.{Program}
+use Rattle.fleet_model.specs.Machine.{Holds, run, held_ticks, indices, IsFinish, IsEnd}
+use Rattle.fleet_model.specs.Visit.{ListsVisits, Adjacent, ComesAfterByAwait, ComesAfterByChain}
+use Rattle.fleet_model.specs.Accepted.{IsAccepted}
+
+-- ---- words
+
+abbrev pub cell : ℕ → ℕ → Cell
+cell x y = record { x = x; y = y }
+
+abbrev pub place : ℕ → ℕ → Place
+place x y = record { x = pos x; y = pos y }
+
+-- wait until agent i has finished n actions
+abbrev pub await : ℕ → ℕ → Await
+await i n = record { agent = i; count = n }
+
+-- a move in this direction, after these awaits
+abbrev pub go : Dir → List Await → Action
+go d awaits = record { step = Go d; awaits = awaits }
+
+-- a stay, after these awaits
+abbrev pub dwell : List Await → Action
+dwell awaits = record { step = Dwell; awaits = awaits }
+
+abbrev pub agent_from : Cell → Cell → List Action → AgentProgram
+agent_from start goal actions = record { start = start; goal = goal; actions = actions }
+
+abbrev pub task : Cell → Cell → Task
+task start goal = record { start = start; goal = goal }
+
+-- action n of agent i
+abbrev pub action : ℕ → ℕ → ActionId
+action i n = record { agent = i; number = n }
+
+-- agent i from the place that it enters by action n
+abbrev pub visit : ℕ → ℕ → Visit
+visit i n = record { agent = i; position = n }
+
+abbrev is_below : ℤ → ℕ → Bool
+is_below (pos x) n = nat_lt x n
+is_below (negsuc x) n = false
+
+-- the passable places of a map of so many columns and rows without a blocked cell
+abbrev pub is_on_open_map : ℕ → ℕ → Place → Bool
+is_on_open_map columns rows q = is_below q.x columns && is_below q.y rows
+
+-- ---- programs
+
+-- agent 0 goes from 1,0 to 3,0, and agent 1 behind it from 0,0 to 2,0. Each action of agent 1 awaits that its next cell has been left
+abbrev pub pair : Program
+pair =
+    agent_from (cell 1 0) (cell 3 0) (go East [] ∷ go East [] ∷ [])
+    ∷ agent_from (cell 0 0) (cell 2 0) (go East (await 0 1 ∷ []) ∷ go East (await 0 2 ∷ []) ∷ [])
+    ∷ []
+
+abbrev pub pair_tasks : List Task
+pair_tasks = task (cell 1 0) (cell 3 0) ∷ task (cell 0 0) (cell 2 0) ∷ []
+
+-- the pair, where agent 1 sets out without an await
+abbrev pub rash_pair : Program
+rash_pair =
+    agent_from (cell 1 0) (cell 3 0) (go East [] ∷ go East [] ∷ [])
+    ∷ agent_from (cell 0 0) (cell 2 0) (go East [] ∷ go East (await 0 2 ∷ []) ∷ [])
+    ∷ []
+
+-- the pair, where agent 1 awaits in its last action that agent 0 has come to 2,0 and not that it has left it
+abbrev pub early_pair : Program
+early_pair =
+    agent_from (cell 1 0) (cell 3 0) (go East [] ∷ go East [] ∷ [])
+    ∷ agent_from (cell 0 0) (cell 2 0) (go East (await 0 1 ∷ []) ∷ go East (await 0 1 ∷ []) ∷ [])
+    ∷ []
+
+-- the pair, where agent 0 first stays where it is
+abbrev pub late_pair : Program
+late_pair =
+    agent_from (cell 1 0) (cell 3 0) (dwell [] ∷ go East [] ∷ go East [] ∷ [])
+    ∷ agent_from (cell 0 0) (cell 2 0) (go East (await 0 2 ∷ []) ∷ go East (await 0 3 ∷ []) ∷ [])
+    ∷ []
+
+-- the same, where agent 1 awaits at first that agent 0 has stayed and not that it has left
+abbrev pub hasty_pair : Program
+hasty_pair =
+    agent_from (cell 1 0) (cell 3 0) (dwell [] ∷ go East [] ∷ go East [] ∷ [])
+    ∷ agent_from (cell 0 0) (cell 2 0) (go East (await 0 1 ∷ []) ∷ go East (await 0 3 ∷ []) ∷ [])
+    ∷ []
+
+-- the pair, after which both agents stay two actions longer
+abbrev pub staying_pair : Program
+staying_pair =
+    agent_from (cell 1 0) (cell 3 0) (go East [] ∷ go East [] ∷ dwell [] ∷ dwell [] ∷ [])
+    ∷ agent_from (cell 0 0) (cell 2 0) (go East (await 0 1 ∷ []) ∷ go East (await 0 2 ∷ []) ∷ dwell [] ∷ dwell [] ∷ [])
+    ∷ []
+
+-- one agent that comes back to its start, and stays on it at first and at last
+abbrev pub sentry : Program
+sentry = agent_from (cell 0 0) (cell 0 0) (dwell [] ∷ go East [] ∷ go West [] ∷ dwell [] ∷ []) ∷ []
+
+-- agent 0 stands on 1,0 for good, and agent 1 goes through it from 0,0 to 2,0
+abbrev pub blocked_pair : Program
+blocked_pair =
+    agent_from (cell 1 0) (cell 1 0) []
+    ∷ agent_from (cell 0 0) (cell 2 0) (go East [] ∷ go East [] ∷ [])
+    ∷ []
+
+abbrev pub blocked_tasks : List Task
+blocked_tasks = task (cell 1 0) (cell 1 0) ∷ task (cell 0 0) (cell 2 0) ∷ []
+
+-- the first action of either agent awaits that of the other
+abbrev pub deadlock : Program
+deadlock =
+    agent_from (cell 1 0) (cell 3 0) (go East (await 1 1 ∷ []) ∷ go East [] ∷ [])
+    ∷ agent_from (cell 0 0) (cell 2 0) (go East (await 0 1 ∷ []) ∷ go East [] ∷ [])
+    ∷ []
+
+-- one agent that has nothing to do
+abbrev pub idler : Program
+idler = agent_from (cell 0 0) (cell 0 0) [] ∷ []
+
+-- agent 2 enters 1,0, which agent 0 has left. It awaits agent 1 alone, which awaits agent 0
+abbrev pub relay : Program
+relay =
+    agent_from (cell 1 0) (cell 2 0) (go East [] ∷ [])
+    ∷ agent_from (cell 0 2) (cell 1 2) (go East (await 0 1 ∷ []) ∷ [])
+    ∷ agent_from (cell 0 0) (cell 1 0) (go East (await 1 1 ∷ []) ∷ [])
+    ∷ []
+
+abbrev pub relay_tasks : List Task
+relay_tasks = task (cell 1 0) (cell 2 0) ∷ task (cell 0 2) (cell 1 2) ∷ task (cell 0 0) (cell 1 0) ∷ []
+
+-- one agent that leaves the map to the west and comes back
+abbrev pub excursion : Program
+excursion = agent_from (cell 0 0) (cell 0 0) (go West [] ∷ go East [] ∷ []) ∷ []
+
+-- two agents that change places
+abbrev pub exchange : Program
+exchange =
+    agent_from (cell 0 0) (cell 1 0) (go East [] ∷ [])
+    ∷ agent_from (cell 1 0) (cell 0 0) (go West [] ∷ [])
+    ∷ []
+
+-- four agents on a square, each of which goes to the next one's cell
+abbrev pub carousel : Program
+carousel =
+    agent_from (cell 0 0) (cell 1 0) (go East [] ∷ [])
+    ∷ agent_from (cell 1 0) (cell 1 1) (go South [] ∷ [])
+    ∷ agent_from (cell 1 1) (cell 0 1) (go West [] ∷ [])
+    ∷ agent_from (cell 0 1) (cell 0 0) (go North [] ∷ [])
+    ∷ []
+
+-- ---- what is said of them
+
+-- in each of the first n ticks both agents of a pair are held
+abbrev pub both_held : ℕ → Holds
+both_held n = replicate n (0 ∷ 1 ∷ [])
+
+-- the rows are the places of the agents after 0, 1, 2 and so on ticks
+abbrev pub ShowsPlaces : Program → Holds → List (List Place) → Type 0
+ShowsPlaces p holds rows = rows ≡ map (λ t. map (λ s. s.place) (run p holds t)) (indices (length rows))
+
+-- the run shows these places from its start to its finish after f ticks, in w of which a ready agent is held
+pub record RunsAs (p : Program) (holds : Holds) (rows : List (List Place)) (f w : ℕ) : Type 0 where
+  pub all : length rows ≡ f + 1
+  pub places : ShowsPlaces p holds rows
+  pub finish : IsFinish p holds f
+  pub end : IsEnd p holds f
+  pub held : held_ticks p holds f ≡ w
+
+-- however the visits of the place are listed, some visit may not come directly after the one before it
+abbrev pub HasNoOrder : (Program → Visit → Visit → Type 0) → Program → Place → Type 0
+HasNoOrder After p q = (listing : List Visit) → ListsVisits p q listing → Adjacent (After p) listing → ⊥
+
+-- for no map and for no tasks is the program accepted, neither by awaits nor by chains
+pub record IsRefused (p : Program) : Type 0 where
+  pub by_await : (passable : Place → Bool) (tasks : List Task) → IsAccepted ComesAfterByAwait passable tasks p → ⊥
+  pub by_chain : (passable : Place → Bool) (tasks : List Task) → IsAccepted ComesAfterByChain passable tasks p → ⊥

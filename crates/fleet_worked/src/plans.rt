@@ -1,0 +1,14 @@
+//! Small plans, worked out by hand. This function does nothing: its contract is the law.
+
+ghost use Rattle.std.specs.Prelude.{true};
+ghost use Rattle.fleet_plan.specs.Plan.{IsConflictFree};
+ghost use Rattle.fleet_plan.specs.FirstFault.{IsFirstPlanFault};
+ghost use Rattle.fleet_worked.specs.Programs.{pair_tasks};
+ghost use Rattle.fleet_worked.specs.Plans.{base_plan, swap_plan, swap_tasks, swap_fault, ring_plan, ring_tasks, ring_fault};
+
+/// A plan that is free of conflict, an exchange, whose first fault is that swap, and a ring, whose first fault is that cycle.
+pub fn worked_plans_are_judged()
+    ensures base { IsConflictFree (λ q. true) pair_tasks base_plan }
+    ensures swap { IsFirstPlanFault (λ q. true) swap_tasks swap_plan swap_fault }
+    ensures ring { IsFirstPlanFault (λ q. true) ring_tasks ring_plan ring_fault }
+{}

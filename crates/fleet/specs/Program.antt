@@ -9,9 +9,10 @@ use Rattle.std.specs.declared.io.ErrorKind.TheVariants.{OutOfMemory}
 use Rattle.std.specs.declared.string.String.{String}
 use Rattle.std.specs.declared.vec.Vec.{Vec}
 use Rattle.std.specs.declared.vec.IntoIter.{IntoIter}
-use Rattle.fleet_run.specs.Sink.{Receives}
-use Rattle.fleet_io.specs.Files.{Store, IsKept}
-use Rattle.fleet_io.specs.Output.{Output, IsUnwritten, IsTold}
+use Rattle.fleet_text.specs.Sink.{Receives}
+use Rattle.fleet_files.specs.Files.{Store, IsKept}
+use Rattle.fleet_text.specs.Sink.{SinkState, IsUnwritten}
+use Rattle.fleet_io.specs.Output.{IsTold}
 use Rattle.fleet_cli.specs.Command.{RunsCommand}
 use Rattle.fleet_io.specs.declared.fault.Fault.TheVariants as f
 
@@ -27,14 +28,14 @@ AreWordsOf (Err error) (Ok words) = ⊥
 AreWordsOf (Err error) (Err told) = told ≡ error
 
 -- why the words cannot be had was told: memory ran out, or else a word is no text, which is wrong usage
-pub record TellsNoWords (kind : ErrorKind) (err : Output) (status : ℕ) : Type 0 where
-  pub memory : kind ≡ OutOfMemory → (status ≡ 3) × IsTold f.Memory err
-  pub usage : kind ≢ OutOfMemory → (status ≡ 2) × Receives err.before err.taken err.has_failed no_text_line
+pub record TellsNoWords (kind : ErrorKind) (err err' : SinkState) (status : ℕ) : Type 0 where
+  pub memory : kind ≡ OutOfMemory → (status ≡ 3) × IsTold f.Memory err err'
+  pub usage : kind ≢ OutOfMemory → (status ≡ 2) × Receives err err' no_text_line
 
 -- what the words after the first ask was done, unless there was no memory for them; or the words cannot be had. Of the last two that alone was
 -- told
-abbrev pub RunsProgram : Result (IntoIter (String Global) Global) Error → Option (List ℕ) → (files after : Option Store) → Output → Output → ℕ → Type 0
-RunsProgram (Ok args) input files after out err status =
-    RunsCommand (map string_bytes (drop 1 (into_iter_items args))) input files after out err status
-    ⊎ (TellsNoWords OutOfMemory err status × IsUnwritten out × IsKept files after)
-RunsProgram (Err error) input files after out err status = TellsNoWords (error_kind error) err status × IsUnwritten out × IsKept files after
+abbrev pub RunsProgram : Result (IntoIter (String Global) Global) Error → Option (List ℕ) → (files after : Option Store) → (out out' err err' : SinkState) → ℕ → Type 0
+RunsProgram (Ok args) input files after out out' err err' status =
+    RunsCommand (map string_bytes (drop 1 (into_iter_items args))) input files after out out' err err' status
+    ⊎ (TellsNoWords OutOfMemory err err' status × IsUnwritten out out' × IsKept files after)
+RunsProgram (Err error) input files after out out' err err' status = TellsNoWords (error_kind error) err err' status × IsUnwritten out out' × IsKept files after

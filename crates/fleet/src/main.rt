@@ -1,14 +1,15 @@
 //! The program `fleet`: what its library does, over the standard streams and the disk.
 #![tactic(auto)]
 
-ghost use Rattle.std.specs.Prelude.{◌≡◌, false};
+ghost use Rattle.std.specs.Prelude.{◌≡◌};
+ghost use Rattle.fleet_text.specs.Sink.{IsWorking};
 ghost use Rattle.std.specs.IoError.{error_kind};
 ghost use Rattle.std.specs.Process.{exit_status};
 ghost use Rattle.fleet.specs.Program.{AreWordsOf, TellsNoWords, RunsProgram};
 
 use fleet_cli::{Disk, Fault, Files, run_command};
 use fleet_io::refuse;
-use fleet_run::{TraceOut, WriteOut, put_all};
+use fleet_run::{Flush, TraceOut, WriteOut, put_all};
 use std::alloc::Global;
 use std::env::Args;
 use std::io::{BufWriter, ErrorKind, Read};
@@ -25,9 +26,9 @@ fn words_of(alloc: Global, args: io::Result<Args>) -> io::Result<Vec<String>>
 
 /// Tells why the words cannot be had, and answers the status: a word that is no text is wrong usage.
 fn tell_no_words<E: TraceOut>(error: &io::Error, err: &mut E) -> u8
-    requires { E.has_failed err.old ≡ false }
+    requires { IsWorking (E.state err.old) }
     ensures { TellsNoWords (error_kind error.now)
-        (record { before = E.taken err.old; taken = E.taken err.new; has_failed = E.has_failed err.new; is_flushed = E.is_flushed err.new })
+        (E.state err.old) (E.state err.new)
         result }
 {
     if error.kind() == ErrorKind::OutOfMemory {
@@ -38,7 +39,7 @@ fn tell_no_words<E: TraceOut>(error: &io::Error, err: &mut E) -> u8
 }
 
 /// Does what the words of the command line ask, or tells why there are none. Answers the status.
-fn run_program<R: Read, F: Files, O: TraceOut, E: TraceOut>(
+fn run_program<R: Read, F: Files, O: Flush, E: TraceOut>(
     alloc: Global,
     args: io::Result<Args>,
     input: &mut R,
@@ -46,11 +47,11 @@ fn run_program<R: Read, F: Files, O: TraceOut, E: TraceOut>(
     out: &mut O,
     err: &mut E,
 ) -> ExitCode
-    requires out_working { O.has_failed out.old ≡ false }
-    requires err_working { E.has_failed err.old ≡ false }
+    requires out_working { IsWorking (O.state out.old) }
+    requires err_working { IsWorking (E.state err.old) }
     ensures { RunsProgram args (R.remaining input.old) (F.contents files.old) (F.contents files.new)
-        (record { before = O.taken out.old; taken = O.taken out.new; has_failed = O.has_failed out.new; is_flushed = O.is_flushed out.new })
-        (record { before = E.taken err.old; taken = E.taken err.new; has_failed = E.has_failed err.new; is_flushed = E.is_flushed err.new })
+        (O.state out.old) (O.state out.new)
+        (E.state err.old) (E.state err.new)
         (exit_status result) }
 {
     let status = match words_of(alloc, args) {

@@ -12,7 +12,7 @@ use Rattle.fleet_model.specs.Program.{path}
 use Rattle.fleet_model.specs.Chain.{IsNumbering}
 use Rattle.fleet_model.specs.Visit.{ComesAfterByAwait}
 use Rattle.fleet_model.specs.declared.task.Task.{Task}
-use Rattle.fleet_model.specs.Accepted.{IsAccepted}
+use Rattle.fleet_model.specs.Accepted.{IsAcceptedBy}
 use Rattle.fleet_plan.specs.Plan.{Plan, cell_of, steps, IsConflictFree}
 use Rattle.fleet_adg.specs.Compiled.{changes_in, changes, moves_by, entry_awaits, compiled}
 use Rattle.fleet_adg.proofs.Moves.{cell_of-end, moves_by-mono, move_once, time_of}
@@ -84,7 +84,7 @@ module _ (passable : Place → Bool) (tasks : List Task) (plan : Plan) (free : I
         ]);
   }
 
-  pub compiled-accepted : IsAccepted ComesAfterByAwait passable tasks (compiled plan deps)
+  pub compiled-accepted : IsAcceptedBy ComesAfterByAwait passable tasks (compiled plan deps)
   compiled-accepted = record {
     right = record {
       agents = length-compiled plan deps ∙ free.agents;

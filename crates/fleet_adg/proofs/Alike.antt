@@ -15,7 +15,7 @@ use Rattle.fleet_model.specs.Geometry.{place_of}
 use Rattle.fleet_model.specs.Program.{origin, awaits_of}
 use Rattle.fleet_model.specs.Chain.{IsAction, DirectlyNeeds, ChainFrom, Reaches, awaited}
 use Rattle.fleet_model.specs.Visit.{IsVisitOf, ComesAfterByChain, entering, leaving}
-use Rattle.fleet_model.specs.Accepted.{IsAccepted}
+use Rattle.fleet_model.specs.Accepted.{IsAcceptedBy}
 use Rattle.fleet_model.proofs.Visits.{goes_next, goes_enters}
 use Rattle.fleet_model.proofs.Chains.{chain_first, Reaches-first, Reaches-last, Reaches-need}
 use Rattle.fleet_plan.specs.Plan.{Plan, cell_of, steps, IsConflictFree}
@@ -57,7 +57,7 @@ compiled_alike plan d e = record {
 }
 
 module _ (passable : Place → Bool) (tasks : List Task) (plan : Plan) (free : IsConflictFree passable tasks plan) where
-  accepted : (deps : Deps) → IsAccepted ComesAfterByChain passable tasks (compiled plan deps)
+  accepted : (deps : Deps) → IsAcceptedBy ComesAfterByChain passable tasks (compiled plan deps)
   accepted deps = awaits_accepted passable tasks (compiled plan deps) (compiled-accepted passable tasks plan free deps)
 
   action_too : (d e : Deps) (a : ActionId) → IsAction (compiled plan d) a → IsAction (compiled plan e) a

@@ -1,5 +1,5 @@
 -- What the action of an agent in a step awaits: only leavings of its cell by others, up to that step, and among them that of the visit before.
-use Rattle.std.proofs.Common.{◌≡◌, ◌≢◌, ℕ, zero, suc, ◌+◌, ◌<◌, ◌≤◌, Bool, true, cond, not, ◌==◌, List, [], ◌∷◌, map, filter, filter_map, length, get_or, All, Contains, Option, Some, None, option_map, option_and_then, option_to_list, is_some, ◌⊎◌, inl, inr, refl, sym, ap, ◌∙◌, subst, arith, add-one}
+use Rattle.std.proofs.Common.{◌≡◌, ◌≢◌, ℕ, zero, suc, ◌+◌, ◌<◌, ◌≤◌, Bool, true, cond, not, ◌==◌, List, [], ◌∷◌, map, filter, filter_map, length, get_or, All, Contains, Option, Some, None, option_map, option_and_then, option_to_list, is_some, inl, inr, refl, sym, ap, ◌∙◌, subst, arith, add-one}
 use Rattle.std.specs.List.{range_with_len, AllByRecursion, cons_option}
 use Rattle.std.specs.List.Sorted.{IsStrictlyIncreasing}
 use Rattle.std.proofs.lemmas.Bool.{cases_lt, cases_Bool, cases_eq, and_parts, and_from, not-true, eqb-false, ne_eqb, not_from_false}
@@ -15,32 +15,14 @@ use Rattle.fleet_model.specs.Machine.{indices}
 use Rattle.fleet_model.proofs.Cells.{is_same_cell-true, is_same_cell-eq}
 use Rattle.fleet_plan.specs.Plan.{Plan, cell_of, IsConflictFree}
 use Rattle.fleet_adg.specs.Compiled.{last_below, changes_in, moves_by, leaves, await_of, leaver, last_leaving_by, last_leaving, leavings, entry_awaits}
+use Rattle.fleet_verify.proofs.Members.{contains_later, filter_has}
 use Rattle.fleet_adg.proofs.Basics.{last_below-some, last_below-at}
 use Rattle.fleet_adg.proofs.Moves.{changes_in-from_ne, moves_by-yes, moves_by-mono, only_one}
 
 -- ---- lists
 
-contains_later : {X : Type 0} (y : X) (ys : List X) (x : X) → Contains ys x → Contains (y ∷ ys) x
-contains_later y ys x (k, l, e) = (suc k, omega arith, e)
-
-contains_cases : {X : Type 0} (y : X) (ys : List X) (x : X) → Contains (y ∷ ys) x → (y ≡ x) ⊎ Contains ys x
-contains_cases y ys x (zero, l, e) = inl e
-contains_cases y ys x (suc k, l, e) = inr (k, omega arith, e)
-
 contains_here : {X : Type 0} (x : X) (xs : List X) (w : X) → x ≡ w → Contains (x ∷ xs) w
 contains_here x xs w e = (zero, omega arith, e)
-
-pub contains_filter : {X : Type 0} (test : X → Bool) (xs : List X) (w : X) → test w ≡ true → Contains xs w → Contains (filter test xs) w
-contains_filter test [] w t (k, l, e) = absurd (omega arith)
-contains_filter test (x ∷ xs) w t c =
-    let before = λ (d : Contains xs w). contains_filter test xs w t d in
-    elim (contains_cases x xs w c) [
-      | inl e ↦ subst (λ b. Contains (cond b (x ∷ filter test xs) (filter test xs)) w) (sym (ap test e ∙ t)) (contains_here x (filter test xs) w e)
-      | inr d ↦ elim (cases_Bool (test x)) [
-        | inl h ↦ subst (λ b. Contains (cond b (x ∷ filter test xs) (filter test xs)) w) (sym h) (contains_later x (filter test xs) w (before d))
-        | inr h ↦ subst (λ b. Contains (cond b (x ∷ filter test xs) (filter test xs)) w) (sym h) (before d)
-      ]
-    ]
 
 contains_cons_option : {X : Type 0} (o : Option X) (xs : List X) (w : X) → Contains xs w → Contains (cons_option o xs) w
 contains_cons_option None xs w c = c
@@ -267,7 +249,7 @@ module _ (passable : Place → Bool) (tasks : List Task) (plan : Plan) (free : I
       let w = leavings-contain plan deps q (x + 1) s j (omega arith) bj (λ k b e. only_one passable tasks plan free s k j b bj (e ∙ sym same ∙ sym on)) (leaves-from plan q s j (on ∙ same) gone) (λ u k p r b e. nobody u k p (omega arith) b (e ∙ sym same)) in
       let v = await_of plan w.0 j in (
         v,
-        contains_filter (λ w. not (w.agent == i)) (leavings plan deps q (x + 1)) v (not_from_false (v.agent == i) (ne_eqb v.agent i (λ e. ne (sym (await_agent plan w.0 j) ∙ e)))) w.2,
+        filter_has (λ w. not (w.agent == i)) (leavings plan deps q (x + 1)) v w.2 (not_from_false (v.agent == i) (ne_eqb v.agent i (λ e. ne (sym (await_agent plan w.0 j) ∙ e)))),
         await_agent plan w.0 j,
         omega (arith, await_count plan w.0 j, moves_by-yes plan j s gone, moves_by-mono plan j (suc s) (suc w.0) (omega (arith, w.1))),
       )

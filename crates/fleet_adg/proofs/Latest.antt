@@ -12,7 +12,8 @@ use Rattle.fleet_plan.specs.Plan.{Plan, cell_of, IsConflictFree}
 use Rattle.fleet_adg.specs.Compiled.{last_below, changes_in, moves_by, leaves, await_of, leaver, last_leaving_by, last_leaving, leavings, entry_awaits, IsLatestVisit, IsLastLeaving}
 use Rattle.fleet_adg.proofs.Basics.{last_cases, last_below-some, last_below-at}
 use Rattle.fleet_adg.proofs.Moves.{changes_in-ne, changes_in-from_ne, only_one}
-use Rattle.fleet_adg.proofs.Entry.{contains_filter, contains_filter_map, all_filter_map, option_map-some, leaves-from, leaver-at, leaver-some, some-from, last_leaving-at}
+use Rattle.fleet_verify.proofs.Members.{filter_has}
+use Rattle.fleet_adg.proofs.Entry.{contains_filter_map, all_filter_map, option_map-some, leaves-from, leaver-at, leaver-some, some-from, last_leaving-at}
 
 module _ (passable : Place → Bool) (tasks : List Task) (plan : Plan) (free : IsConflictFree passable tasks plan) where
   -- who stood last on the cell that i enters has left it
@@ -80,4 +81,4 @@ pub entry-all_each : (plan : Plan) (i x : ℕ) (w : Await) → w.agent ≢ i →
 unfolding entry_awaits leavings
 entry-all_each plan i x w ne h =
     let q = cell_of plan i (x + 1) in
-    contains_filter (λ w. not (w.agent == i)) (filter_map (last_leaving_by plan q (x + 1)) (indices (length plan))) w (not_from_false (w.agent == i) (ne_eqb w.agent i ne)) (contains_filter_map (last_leaving_by plan q (x + 1)) 0 (length plan) w.agent w (omega arith) (omega (arith, h.agent)) (last_by-from plan q (x + 1) w h))
+    filter_has (λ w. not (w.agent == i)) (filter_map (last_leaving_by plan q (x + 1)) (indices (length plan))) w (contains_filter_map (last_leaving_by plan q (x + 1)) 0 (length plan) w.agent w (omega arith) (omega (arith, h.agent)) (last_by-from plan q (x + 1) w h)) (not_from_false (w.agent == i) (ne_eqb w.agent i ne))

@@ -8,7 +8,6 @@ pub mod Pass
 pub mod Folds
 pub mod Rows
 pub mod SweepSteps
-pub mod Pigeon
 pub mod Depth
 pub mod Follow
 pub mod Listing

@@ -9,6 +9,7 @@ use Rattle.fleet_model.specs.declared.geometry.Cell.{Cell}
 use Rattle.fleet_model.specs.declared.program.Await.{Await}
 use Rattle.fleet_model.specs.declared.program.AgentProgram.{AgentProgram}
 use Rattle.fleet_model.specs.declared.deps.Deps.{Deps}
+use Rattle.fleet_model.specs.declared.limits.TheConstants.{MAX_HORIZON, MAX_AWAIT_V1, MAX_MOVES_IN_ALL}
 use Rattle.fleet_model.specs.Program.{origin, awaits_of, total_moves, IsCell, AreAwaits, IsWellFormed}
 use Rattle.fleet_model.specs.Machine.{indices}
 use Rattle.fleet_plan.specs.Plan.{Plan, cell_at, cell_of, steps, IsPath, IsWithinLimits}
@@ -23,8 +24,8 @@ steps-le [] m h = omega arith
 steps-le (path ∷ plan) m h =
     omega (arith, All-head (λ (path : List Cell). length path ≤ m + 1) path plan h, steps-le plan m (All-tail (λ (path : List Cell). length path ≤ m + 1) path plan h))
 
-pub steps_few : (plan : Plan) → IsWithinLimits plan → steps plan ≤ 65535
-steps_few plan limits = steps-le plan 65535 (All-weaker IsPath (λ (path : List Cell). length path ≤ 65535 + 1) (λ path h. h.few_cells) plan limits.paths)
+pub steps_few : (plan : Plan) → IsWithinLimits plan → steps plan ≤ MAX_HORIZON
+steps_few plan limits = steps-le plan MAX_HORIZON (All-weaker IsPath (λ (path : List Cell). length path ≤ MAX_HORIZON + 1) (λ path h. h.few_cells) plan limits.paths)
 
 sum_by-map : {X Y : Type 0} (f : Y → ℕ) (g : X → Y) (xs : List X) → sum_by f (map g xs) ≡ sum_by (λ x. f (g x)) xs
 sum_by-map f g [] = refl
@@ -43,7 +44,7 @@ count-le plan i x w h =
     let y = h.step.0 in
     omega (arith, h.step.4, moves_by-yes plan w.agent y h.step.2, moves_by-mono plan w.agent (suc y) (steps plan) (changes_in-end plan w.agent y h.step.2))
 
-are_awaits : (plan : Plan) (deps : Deps) (i x : ℕ) → steps plan ≤ 65535 → AreAwaits (length plan) i (entry_awaits plan deps i x)
+are_awaits : (plan : Plan) (deps : Deps) (i x : ℕ) → steps plan ≤ MAX_HORIZON → AreAwaits (length plan) i (entry_awaits plan deps i x)
 are_awaits plan deps i x few =
     let ws = entry_awaits plan deps i x in
     let sound = entry-sound plan deps i x in
@@ -52,7 +53,7 @@ are_awaits plan deps i x few =
       agents = All-weaker (IsAwaitOf plan i x) (λ w. w.agent < length plan) (λ w h. h.agent) ws sound;
       others = All-weaker (IsAwaitOf plan i x) (λ w. w.agent ≢ i) (λ w h. h.other) ws sound;
       counts = All-weaker (IsAwaitOf plan i x) (λ w. 1 ≤ w.count) (λ w h. omega (arith, h.step.4)) ws sound;
-      few = All-weaker (IsAwaitOf plan i x) (λ w. w.count ≤ 65535) (λ w h. omega (arith, count-le plan i x w h, moves_by-le plan w.agent (steps plan))) ws sound;
+      few = All-weaker (IsAwaitOf plan i x) (λ w. w.count ≤ MAX_AWAIT_V1) (λ w h. omega (arith, count-le plan i x w h, moves_by-le plan w.agent (steps plan))) ws sound;
     }
 
 no_awaits : (n i : ℕ) → AreAwaits n i []
@@ -69,7 +70,7 @@ cell_of-is_cell plan i t limits h =
     let p : IsPath path = limits.paths i [] h in
     p.cells (min t (length path - 1)) origin (omega (arith, p.some_cells))
 
-pub compiled-well_formed : (plan : Plan) (deps : Deps) → IsWithinLimits plan → moves_in_all plan ≤ 4194304 → IsWellFormed (compiled plan deps)
+pub compiled-well_formed : (plan : Plan) (deps : Deps) → IsWithinLimits plan → moves_in_all plan ≤ MAX_MOVES_IN_ALL → IsWellFormed (compiled plan deps)
 compiled-well_formed plan deps limits total =
     let long = length-compiled plan deps in
     let few = steps_few plan limits in

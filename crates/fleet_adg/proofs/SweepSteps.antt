@@ -11,6 +11,7 @@ use Rattle.fleet_model.specs.declared.geometry.Cell.{Cell}
 use Rattle.fleet_model.specs.declared.geometry.Dir.{Dir}
 use Rattle.fleet_model.specs.declared.geometry.Step.TheVariants.{Go}
 use Rattle.fleet_model.specs.declared.task.Task.{Task}
+use Rattle.fleet_model.specs.declared.limits.TheConstants.{MAX_MOVES_IN_ALL}
 use Rattle.fleet_model.specs.Geometry.{place_of}
 use Rattle.fleet_model.specs.declared.program.Await.{Await}
 use Rattle.fleet_model.specs.declared.program.Action.{Action}
@@ -321,5 +322,5 @@ length-agents plan actions agents n e = ap length e ∙ length-map-range_with_le
 pub program_is : (plan read : Plan) (deps : Deps) (actions : List (List Action)) (agents : List AgentProgram) → read ≡ plan → actions ≡ all_actions_by plan deps (steps plan) → agents ≡ map (agent_from read actions) (indices (length read)) → agents ≡ compiled plan deps
 program_is plan read deps actions agents e a h = h ∙ (λ t. map (agent_from (e t) (a t)) (indices (length (e t)))) ∙ compiled-from plan deps
 
-pub few_compile : (plan : Plan) (deps : Deps) (p : List AgentProgram) → moves_in_all plan ≤ 4194304 → p ≡ compiled plan deps → compiled_if_few plan deps ≡ Ok p
-few_compile plan deps p few e = ap (λ b. cond b (Ok (compiled plan deps)) (Err CompileFault.TooLong)) (le-leb (moves_in_all plan) 4194304 few) ∙ ap Ok (sym e)
+pub few_compile : (plan : Plan) (deps : Deps) (p : List AgentProgram) → moves_in_all plan ≤ MAX_MOVES_IN_ALL → p ≡ compiled plan deps → compiled_if_few plan deps ≡ Ok p
+few_compile plan deps p few e = ap (λ b. cond b (Ok (compiled plan deps)) (Err CompileFault.TooLong)) (le-leb (moves_in_all plan) MAX_MOVES_IN_ALL few) ∙ ap Ok (sym e)

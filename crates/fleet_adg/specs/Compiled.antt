@@ -10,6 +10,7 @@ use Rattle.fleet_model.specs.declared.program.AgentProgram.{AgentProgram}
 use Rattle.fleet_model.specs.declared.deps.Deps.{Deps}
 use Rattle.fleet_adg.specs.declared.fault.CompileFault.{CompileFault}
 use Rattle.fleet_adg.specs.declared.fault.CompileFault.TheVariants.{TooLong}
+use Rattle.fleet_model.specs.declared.limits.TheConstants.{MAX_MOVES_IN_ALL}
 use Rattle.fleet_model.specs.Geometry.{is_same_cell}
 use Rattle.fleet_model.specs.Program.{Program}
 use Rattle.fleet_model.specs.Machine.{indices}
@@ -83,7 +84,7 @@ moves_in_all plan = sum_by (λ i. moves_by plan i (steps plan)) (indices (length
 
 -- the program, where all agents together make few enough moves
 abbrev pub compiled_if_few : Plan → Deps → Result Program CompileFault
-compiled_if_few plan deps = if nat_le (moves_in_all plan) 4194304 then Ok (compiled plan deps) else Err TooLong
+compiled_if_few plan deps = if nat_le (moves_in_all plan) MAX_MOVES_IN_ALL then Ok (compiled plan deps) else Err TooLong
 
 -- agent j stands on q at time s, before time t, and nobody after it: the latest visit of q before time t is by j
 pub record IsLatestVisit (plan : Plan) (q : Cell) (t j s : ℕ) : Type 0 where

@@ -4,7 +4,6 @@ ghost use Rattle.std.specs.Prelude.{◌≡◌, IfOk, length, map};
 ghost use Rattle.fleet_model.specs.Program.{NeverStays};
 ghost use Rattle.fleet_model.specs.Accepted.{IsAccepted};
 ghost use Rattle.fleet_model.specs.Answer.{IsDueUnless};
-ghost use Rattle.fleet_model.specs.Visit.{ComesAfterByAwait};
 ghost use Rattle.fleet_grid.specs.Ground.{is_passable};
 ghost use Rattle.fleet_model.specs.Machine.{indices};
 ghost use Rattle.fleet_model.specs.declared.deps.Deps.{Deps};
@@ -15,11 +14,9 @@ ghost use Rattle.fleet_adg.specs.Sweep.{agent_from};
 use crate::action_list::ActionList;
 use crate::fault::CompileFault;
 use crate::sweep::{actions_of, moves_of};
-use fleet_model::{AgentProgram, Deps, Program};
+use fleet_model::{AgentProgram, Deps, MAX_MOVES_IN_ALL, OutOfMemory, Program};
 use fleet_plan::{Checked, Plan};
-use std::alloc::{AllocError, Global};
-
-const MAX_MOVES_IN_ALL: u32 = 4_194_304;
+use std::alloc::Global;
 
 /// The program of a plan (after the action dependency graph of Hönig et al. 2019): the actions of each agent are its
 /// changes of cell, in order, and each awaits earlier leavings of the cell that it enters.
@@ -28,7 +25,7 @@ const MAX_MOVES_IN_ALL: u32 = 4_194_304;
 /// for the plan's map and instance, and each of its actions is a move. With either `deps` it runs equally.
 pub fn compile(alloc: Global, checked: &Checked<'_>, deps: Deps) -> Result<Program, CompileFault>
     ensures program { IsDueUnless (λ p. p) result (compiled_if_few checked.now.plan deps) CompileFault.OutOfMemory }
-    ensures accepted { IfOk result (IsAccepted ComesAfterByAwait (is_passable checked.now.grid) checked.now.instance) }
+    ensures accepted { IfOk result (IsAccepted (is_passable checked.now.grid) checked.now.instance) }
     ensures moves { IfOk result NeverStays }
     // The programs of one plan run equally, whichever leavings they await.
     ensures equally { IfOk result (λ p. (other : Deps) → RunEqually p (compiled checked.now.plan other)) }
@@ -58,7 +55,7 @@ fn agent_programs(
     alloc: Global,
     plan: &Plan,
     actions: Vec<ActionList>,
-) -> Result<Vec<AgentProgram>, AllocError>
+) -> Result<Vec<AgentProgram>, OutOfMemory>
     requires { length actions.items ≡ length plan.now }
     ensures { IfOk result (λ agents. agents.items ≡ map (agent_from plan.now actions.items) (indices (length plan.now))) }
 {

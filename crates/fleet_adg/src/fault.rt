@@ -1,7 +1,6 @@
 //! Why a plan has no program.
 
 use fleet_model::OutOfMemory;
-use std::alloc::{AllocError, AllocFailed};
 use thiserror::Error;
 
 /// Why a plan was not compiled.
@@ -12,28 +11,6 @@ pub enum CompileFault {
     /// All agents together make at most 4,194,304 moves.
     #[error("the agents make more than 4194304 moves together")]
     TooLong,
-}
-
-impl From<AllocError> for CompileFault {
-    ghost use Rattle.std.specs.Prelude.{◌≡◌};
-    ghost use Rattle.fleet_adg.specs.declared.fault.CompileFault.TheVariants.{OutOfMemory};
-
-    ghost from_gives = { λ _ e. e ≡ OutOfMemory };
-
-    fn from(_e: AllocError) -> CompileFault {
-        CompileFault::OutOfMemory
-    }
-}
-
-impl<T: Drop> From<AllocFailed<T>> for CompileFault {
-    ghost use Rattle.std.specs.Prelude.{◌≡◌};
-    ghost use Rattle.fleet_adg.specs.declared.fault.CompileFault.TheVariants.{OutOfMemory};
-
-    ghost from_gives = { λ _ e. e ≡ OutOfMemory };
-
-    fn from(_e: AllocFailed<T>) -> CompileFault {
-        CompileFault::OutOfMemory
-    }
 }
 
 impl From<OutOfMemory> for CompileFault {

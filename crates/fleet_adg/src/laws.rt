@@ -4,9 +4,10 @@ ghost use Rattle.std.specs.Prelude.{◌≡◌, ◌≢◌, ◌≤◌, ◌<◌, �
 ghost use Rattle.fleet_model.specs.declared.geometry.Place.{Place};
 ghost use Rattle.fleet_model.specs.declared.deps.Deps.{Deps};
 ghost use Rattle.fleet_model.specs.declared.program.Await.{Await};
+ghost use Rattle.fleet_model.specs.declared.limits.TheConstants.{MAX_MOVES_IN_ALL};
 ghost use Rattle.fleet_model.specs.Program.{IsWellFormed};
 ghost use Rattle.fleet_model.specs.Visit.{ComesAfterByAwait};
-ghost use Rattle.fleet_model.specs.Accepted.{IsAccepted};
+ghost use Rattle.fleet_model.specs.Accepted.{IsAcceptedBy};
 ghost use Rattle.fleet_model.specs.declared.task.Task.{Task};
 ghost use Rattle.fleet_plan.specs.Plan.{Plan, cell_of, IsConflictFree, IsWithinLimits};
 ghost use Rattle.fleet_adg.specs.Compiled.{changes_in, entry_awaits, await_of, IsLatestVisit, IsLastLeaving, compiled, moves_in_all};
@@ -14,7 +15,7 @@ ghost use Rattle.fleet_chains.specs.Reduced.{HaveSameChains, RunEqually};
 
 /// Within the limits the program of a plan is well formed.
 pub fn compiled_plans_are_well_formed()
-    ensures { (plan : Plan) (deps : Deps) → IsWithinLimits plan → moves_in_all plan ≤ 4194304 → IsWellFormed (compiled plan deps) }
+    ensures { (plan : Plan) (deps : Deps) → IsWithinLimits plan → moves_in_all plan ≤ MAX_MOVES_IN_ALL → IsWellFormed (compiled plan deps) }
 {}
 
 /// What the action of agent `i` in step `x` awaits, said by visits and by leavings.
@@ -27,7 +28,7 @@ pub fn awaits_are_as_defined()
 
 /// The program of a plan that is free of conflict is accepted, with either kind of awaits.
 pub fn compiled_plans_are_accepted()
-    ensures { (passable : Place → Bool) (tasks : List Task) (plan : Plan) (deps : Deps) → IsConflictFree passable tasks plan → IsAccepted ComesAfterByAwait passable tasks (compiled plan deps) }
+    ensures { (passable : Place → Bool) (tasks : List Task) (plan : Plan) (deps : Deps) → IsConflictFree passable tasks plan → IsAcceptedBy ComesAfterByAwait passable tasks (compiled plan deps) }
 {}
 
 /// The programs of one plan that is free of conflict have the same chains and run equally, whichever leavings are awaited.

@@ -2,6 +2,7 @@
 
 ghost use Rattle.std.specs.Prelude.{◌≡◌, ◌≤◌, ◌<◌, ◌+◌, is_some, IfSome, All, OnOk, IfOk, length, filter, replicate, []};
 ghost use Rattle.fleet_plan.specs.Plan.{cell_of, steps};
+ghost use Rattle.fleet_model.specs.declared.limits.TheConstants.{MAX_HORIZON};
 ghost use Rattle.fleet_model.specs.Machine.{indices};
 ghost use Rattle.fleet_adg.specs.Compiled.{direction, changes_in, moves_by};
 ghost use Rattle.fleet_adg.specs.Leavings.{kind_of, AreLeavingsAt};
@@ -51,7 +52,7 @@ fn empty_lists(alloc: Global, plan: &Plan) -> Result<Vec<ActionList>, AllocError
 pub(crate) fn moves_of(plan: &Plan, i: u16) -> u32
     requires { i < length plan.now }
     ensures value { result ≡ moves_by plan.now i (steps plan.now) }
-    ensures few { result ≤ 65535 }
+    ensures few { result ≤ MAX_HORIZON }
 {
     let mut moves = 0;
     for time in 0..plan.path(i).steps() {
@@ -65,7 +66,7 @@ pub(crate) fn moves_of(plan: &Plan, i: u16) -> u32
 /// The cells that agent `i` leaves and enters in the step after `time`, if it changes its cell.
 fn move_in(plan: &Plan, i: u16, time: u32) -> Option<(Cell, Cell)>
     requires agent { i < length plan.now }
-    requires time { time < 65536 }
+    requires time { time ≤ MAX_HORIZON }
     ensures moves { is_some result ≡ changes_in plan.now i time }
     ensures cells { IfSome result (λ cells. (cells.0 ≡ cell_of plan.now i time) × (cells.1 ≡ cell_of plan.now i (time + 1))) }
 {
@@ -111,7 +112,7 @@ fn note_leavings(
     leavings: &mut Leavings,
 ) -> Result<(), AllocError>
     requires on_map { IsOnMap grid.now plan.now }
-    requires time { time < 65535 }
+    requires time { time < MAX_HORIZON }
     requires agents { agents.now ≡ under_way plan.now time }
     requires actions { actions.now ≡ all_actions_by plan.now (kind_of leavings.old) time }
     requires leavings { AreLeavingsAt grid.now plan.now (kind_of leavings.old) time leavings.old }
@@ -139,7 +140,7 @@ fn add_actions(
     actions: &mut [ActionList],
 ) -> Result<(), OutOfMemory>
     requires on_map { IsOnMap grid.now plan.now }
-    requires time { time < 65536 }
+    requires time { time ≤ MAX_HORIZON }
     requires agents { agents.now ≡ under_way plan.now time }
     requires leavings { AreLeavingsAt grid.now plan.now (kind_of leavings.now) (time + 1) leavings.now }
     requires actions { actions.old ≡ all_actions_by plan.now (kind_of leavings.now) time }

@@ -1,5 +1,5 @@
 -- From the getters of the matches to what the words ask.
-use Rattle.std.proofs.Common.{◌≡◌, ◌≢◌, ◌<◌, ◌∙◌, ◌⊎◌, inl, inr, ◌&&◌, ◌||◌, not, ℕ, Bool, true, false, List, [], ◌∷◌, Option, Some, None, Result, Ok, Err, length, nat_lt, option_map, refl, sym, ap, subst, true≢false, lt-ltb, ltb-true}
+use Rattle.std.proofs.Common.{◌≡◌, ◌≢◌, ◌<◌, ◌∙◌, ◌⊎◌, inl, inr, ◌&&◌, ◌||◌, not, ℕ, Bool, true, false, List, [], ◌∷◌, Option, Some, None, Result, Ok, Err, length, MatchOption, nat_lt, option_map, refl, sym, ap, subst, true≢false, lt-ltb, ltb-true}
 use Rattle.std.specs.List.{list_all, list_any}
 use Rattle.std.specs.Option.{option_map_or}
 use Rattle.std.specs.Result.{result_ok}
@@ -16,7 +16,9 @@ use Rattle.clap.specs.declared.error.ErrorKind.{ErrorKind}
 use Rattle.clap.specs.declared.error.ErrorKind.TheVariants as kind
 use Rattle.clap.specs.declared.parser.matches.Found.{Found}
 use Rattle.clap.proofs.WalkLemmas.{both, first_value-rows, one_text-rows}
-use Rattle.fleet_args.specs.Request.{Asked, asked_from, asked_by, answered_by, number_in, number_by, number_found, is_help, IsStopOf, StopsFor}
+use Rattle.fleet_args.specs.Values.{number_in, number_by, values_found, values_of}
+use Rattle.fleet_args.specs.Request.{AsksCommand, has_values, AsksBy, is_answered_by, is_help, IsStopOf, StopsFor}
+use Rattle.fleet_args.specs.declared.request.Request.{Request}
 use Rattle.fleet_args.specs.declared.request.WordStop.{WordStop}
 use Rattle.fleet_args.specs.declared.request.WordStop.TheVariants as stop
 
@@ -63,7 +65,7 @@ pub number_gives :
     {E : Type 0} (gives : Text → Result ℕ E → Type 0) → ((t : Text) (r : Result ℕ E) → gives t r → ParsesUnsigned 16 10 t r)
     → (f : Found) (id : Text) (r : Result (Option ℕ) E) → (one_text f id ≡ None → r ≡ Ok None)
     → ((t : List ℕ) → one_text f id ≡ Some t → TriesOne gives t r)
-    → result_ok r ≡ number_found f id
+    → result_ok r ≡ number_by (one_text f id)
 number_gives gives parses f id r none some = go (one_text f id) refl
   where
     go : (o : Option Text) → one_text f id ≡ o → result_ok r ≡ option_map_or (λ text. option_map Some (number_in text)) o (Some None)
@@ -72,16 +74,20 @@ number_gives gives parses f id r none some = go (one_text f id) refl
 
 -- ---- the command
 
--- the getters of the matches, by their rows
-pub asked_found :
-    (f : Found) (name : Text) (found : Option (Text × List Row)) → found ≡ Some (name, rows_of f)
-    → asked_from name (first_value f) (number_found f) ≡ asked_by found
-asked_found f name found is =
+-- the values that the matches give are those of their rows
+same_values : (f : Found) → values_found f ≡ values_of (rows_of f)
+same_values f =
     let firsts : ◌≡◌ {A = Text → Option Text} (first_value f) (λ id. first_of id (rows_of f)) = λ i id. first_value-rows f id i in
-    let numbers : ◌≡◌ {A = Text → Option (Option ℕ)} (number_found f) (λ id. number_by (one_of id (rows_of f))) = λ i id. number_by (one_text-rows f id i) in
-    ap (λ first. asked_from name first (number_found f)) firsts
-    ∙ ap (λ number. asked_from name (λ id. first_of id (rows_of f)) number) numbers
-    ∙ sym (ap asked_by is)
+    let ones : ◌≡◌ {A = Text → Option Text} (one_text f) (λ id. one_of id (rows_of f)) = λ i id. one_text-rows f id i in
+    rw (firsts, ones) refl
+
+-- so what the matches ask is what the command that was found asks
+pub request_found : (f : Found) (name : Text) (found : Option (Text × List Row)) (request : Option Request) → found ≡ Some (name, rows_of f)
+    → MatchOption request (has_values name (values_found f) ≡ false) (AsksCommand name (values_found f))
+    → MatchOption request (is_answered_by found ≡ false) (AsksBy found)
+request_found f name found request is =
+    let by_rows = subst (λ values. MatchOption request (has_values name values ≡ false) (AsksCommand name values)) (same_values f) in
+    λ h. subst (λ o. MatchOption request (is_answered_by o ≡ false) (AsksBy o)) (sym is) (by_rows h)
 
 -- the name and the rows of the subcommand
 pub subcommand_pair :
@@ -93,12 +99,11 @@ subcommand_pair (Some b) name rows h k = cc
 
 -- ---- an answer
 
--- what the matches of the command ask is what the words ask of the command line that it is
-pub answers :
-    (built app : App) (words : List Text) (m : ArgMatches) (asked : Option Asked) → built ≡ app → is_simple app ≡ true → HasMatchesOf built words m
-    → asked ≡ asked_by (subcommand_rows_of m) → answered_by app words ≡ asked
-answers built app words m asked is simple has gives =
-    sym (gives ∙ ap asked_by ((has (ap is_simple is ∙ simple)).1 ∙ ap (λ x. subcommand_of x words) is))
+-- the command that the matches enter is the one that the words enter, by the command line that it is
+pub enters_same :
+    (built app : App) (words : List Text) (m : ArgMatches) → built ≡ app → is_simple app ≡ true → HasMatchesOf built words m
+    → subcommand_rows_of m ≡ subcommand_of app words
+enters_same built app words m is simple has = (has (ap is_simple is ∙ simple)).1 ∙ ap (λ x. subcommand_of x words) is
 
 -- the command line finds no fault in the words
 pub faultless : (built app : App) (words : List Text) → built ≡ app → is_simple_and_free app ≡ true

@@ -2,7 +2,7 @@
 use Rattle.std.proofs.Common.{◌≡◌, ◌∙◌, ◌⊎◌, inl, inr, ◌||◌, ◌<◌, ◌^◌, ℕ, Bool, cond, true, false, List, [], ◌∷◌, map, Option, option_and_then, Some, None, codes, is_some, option_map, refl, sym, ap, subst, true≢false, arith, ltb-true}
 use Rattle.std.specs.Prelude.{pos}
 use Rattle.std.specs.Borrow.{Bor}
-use Rattle.std.specs.List.{list_any}
+use Rattle.std.specs.List.{filter, list_any}
 use Rattle.std.specs.Str.{bytes_eq}
 use Rattle.std.specs.Str.Parse.{ParsesUnsigned, digits_value, without_leading_plus}
 use Rattle.std.proofs.lemmas.Slice.Eq.{bytes_eq-Decides}
@@ -11,7 +11,7 @@ use Rattle.clap.specs.Matches.{ReadsOne}
 use Rattle.clap.specs.Facts.{parser_of_value}
 use Rattle.clap.specs.Values.{read_as, reading_of}
 use Rattle.clap.specs.ValueTests.{accepts}
-use Rattle.clap.specs.Simple.{Shape, built, built_leaf, filled, inherited, label_of, marked_built, rows_at, with_index, with_leaf_noted}
+use Rattle.clap.specs.Simple.{subcommand_of, Shape, built, built_leaf, filled, inherited, label_of, marked_built, rows_at, with_index, with_leaf_noted}
 use Rattle.clap.specs.Walk.{Row, Rule, Text, answers_to, first_of, nothing_held, one_of, rows_after}
 use Rattle.clap.specs.Faults.{fault_of, level_fault}
 use Rattle.clap.specs.declared.builder.value_parser.ValueParser.TheVariants as parser
@@ -20,8 +20,18 @@ use Rattle.clap.proofs.ValueTestLemmas.{accepts-Accepts}
 use Rattle.clap.proofs.WalkLemmas.{both}
 use Rattle.fleet_model.specs.declared.deps.Deps.{Deps}
 use Rattle.fleet_model.specs.declared.deps.Deps.TheVariants as deps
-use Rattle.fleet_args.specs.CommandLine.{DepsNames, AreDeps, agents_rule, horizon_rule, deps_rule, fleet, fleet_top, instance_shape, check_shape, plan_shape, compile_shape, verify_shape, run_shape, rehearse_shape, auto_shape, word}
-use Rattle.fleet_args.specs.Request.{answered_by, asked_by, deps_in, number_of, instance_by, check_by, plan_by, compile_by, verify_by, run_by, rehearse_by, auto_by, number_by, number_in}
+use Rattle.fleet_args.specs.Arguments.{DepsNames, AreDeps, agents_rule, horizon_rule, deps_rule, word}
+use Rattle.fleet_args.specs.CommandLine.{fleet, fleet_top}
+use Rattle.fleet_args.specs.Instance.{instance_shape}
+use Rattle.fleet_args.specs.Check.{check_shape}
+use Rattle.fleet_args.specs.Plan.{plan_shape}
+use Rattle.fleet_args.specs.Compile.{compile_shape}
+use Rattle.fleet_args.specs.Verify.{verify_shape}
+use Rattle.fleet_args.specs.Run.{run_shape}
+use Rattle.fleet_args.specs.Rehearse.{rehearse_shape}
+use Rattle.fleet_args.specs.Auto.{auto_shape}
+use Rattle.fleet_args.specs.Values.{Values, values_of, deps_in, number_by, number_in, has_text, reads_number, has_number, has_kind}
+use Rattle.fleet_args.specs.Request.{is_answered_by}
 use Rattle.fleet_args.proofs.RequestLemmas.{digits_from, is_small, is_small_number}
 use Rattle.fleet_args.proofs.MatchedRows.{Among}
 use Rattle.fleet_args.proofs.MatchedValues.{HasValue, default_value, optional_value, required_value}
@@ -60,13 +70,6 @@ number_option a rows low high is fits value = elim value [
       let number = number_value a rows low high is fits has in
       (Some number.0, number.1)
 ]
-
--- the number of an option with a default
-number_default : (a : Rule) (rows : List Row) (low high : ℕ) → a.parser ≡ Some (parser.Signed (pos low) (pos high)) → high < 2 ^ 16 → HasValue a rows
-    → (n : ℕ) × (number_of (number_by (one_of a.id rows)) ≡ Some n)
-number_default a rows low high is fits has =
-    let number = number_value a rows low high is fits has in
-    (number.0, ap number_of number.1)
 
 -- ---- names
 
@@ -108,125 +111,110 @@ leaf shape = built_leaf (inherited (with_leaf_noted (marked_built fleet_top.top)
 abbrev at : ℕ → Rule → Rule
 at place rule = with_index place (filled rule)
 
-abbrev Answers : Shape → List Text → Type 0
-Answers shape words = level_fault (leaf shape) [] nothing_held words false [] ≡ [] → is_some (asked_by (Some (rows_at (leaf shape) words))) ≡ true
+-- the shape has one argument of this name, at this place
+abbrev IsAt : Shape → ℕ → Text → Rule → Type 0
+IsAt shape place id rule = filter (λ x. bytes_eq x.id id) (leaf shape).rules ≡ at place rule ∷ []
 
-instance_asks : (first : Text → Option Text) (number : Text → Option (Option ℕ)) (map scen : Text) (agents : Option ℕ) → first (codes "map") ≡ Some map
-    → first (codes "scen") ≡ Some scen → number (codes "agents") ≡ Some agents → is_some (instance_by first number) ≡ true
-instance_asks first number map scen agents h k l = rw (h, k, l) refl
+-- the values of a command's arguments, in whose words it finds no fault
+module _ (shape : Shape) (negates : (leaf shape).subcommand_negates_reqs ≡ false) (words : List Text) (none : level_fault (leaf shape) [] nothing_held words false [] ≡ []) where
+  abbrev values : Values
+  values = values_of (rows_after (leaf shape).rules [] words)
+
+  text : (place : ℕ) (id : Text) → IsAt shape place id (word id) → has_text values id ≡ true
+  text place id alone = ap is_some (required_value (leaf shape) words none (at place (word id)) alone refl negates refl).first
+
+  agents : (place : ℕ) → IsAt shape place (codes "agents") agents_rule → reads_number values (codes "agents") ≡ true
+  agents place alone =
+      let rows = rows_after (leaf shape).rules [] words in
+      ap is_some (number_option (at place agents_rule) rows 0 65535 refl (omega arith) (optional_value (leaf shape) words none (at place agents_rule) alone refl)).1
+
+  horizon : (place : ℕ) → IsAt shape place (codes "horizon") horizon_rule → has_number values (codes "horizon") ≡ true
+  horizon place alone =
+      let rows = rows_after (leaf shape).rules [] words in
+      let value = number_value (at place horizon_rule) rows 1 65535 refl (omega arith) (default_value (leaf shape) words none (at place horizon_rule) alone refl refl) in
+      ap (λ number. is_some (option_and_then (λ n. n) number)) value.1
+
+  kind : (names : DepsNames) → AreDeps names → (place : ℕ) → IsAt shape place (codes "deps") (deps_rule names) → has_kind values (codes "deps") ≡ true
+  kind names are place alone =
+      let rows = rows_after (leaf shape).rules [] words in
+      ap is_some (deps_value names (at place (deps_rule names)) rows are refl refl (default_value (leaf shape) words none (at place (deps_rule names)) alone refl refl)).1
+
+abbrev Answers : Shape → List Text → Type 0
+Answers shape words = level_fault (leaf shape) [] nothing_held words false [] ≡ [] → is_answered_by (Some (rows_at (leaf shape) words)) ≡ true
 
 instance_answers : (words : List Text) → Answers instance_shape words
 instance_answers words none =
-    let map = required_value (leaf instance_shape) words none (at 1 (word (codes "map"))) refl refl refl refl in
-    let scen = required_value (leaf instance_shape) words none (at 2 (word (codes "scen"))) refl refl refl refl in
-    let agents = number_option (at 3 agents_rule) (rows_after (leaf instance_shape).rules [] words) 0 65535 refl (omega arith)
-    (optional_value (leaf instance_shape) words none (at 3 agents_rule) refl refl) in
-    instance_asks (λ id. first_of id (rows_after (leaf instance_shape).rules [] words)) (λ id. number_by (one_of id (rows_after (leaf instance_shape).rules [] words)))
-    map.text scen.text agents.0 map.first scen.first agents.1
-
--- three words and a number
-check_asks : (first : Text → Option Text) (number : Text → Option (Option ℕ)) (map scen plan : Text) (agents : Option ℕ) → first (codes "map") ≡ Some map
-    → first (codes "scen") ≡ Some scen → first (codes "plan") ≡ Some plan → number (codes "agents") ≡ Some agents → is_some (check_by first number) ≡ true
-check_asks first number map scen plan agents h k m l = rw (h, k, m, l) refl
+    rw (
+      text instance_shape refl words none 1 (codes "map") refl,
+      text instance_shape refl words none 2 (codes "scen") refl,
+      agents instance_shape refl words none 3 refl,
+    ) refl
 
 check_answers : (words : List Text) → Answers check_shape words
 check_answers words none =
-    let map = required_value (leaf check_shape) words none (at 1 (word (codes "map"))) refl refl refl refl in
-    let scen = required_value (leaf check_shape) words none (at 2 (word (codes "scen"))) refl refl refl refl in
-    let plan = required_value (leaf check_shape) words none (at 3 (word (codes "plan"))) refl refl refl refl in
-    let agents = number_option (at 4 agents_rule) (rows_after (leaf check_shape).rules [] words) 0 65535 refl (omega arith)
-    (optional_value (leaf check_shape) words none (at 4 agents_rule) refl refl) in
-    check_asks (λ id. first_of id (rows_after (leaf check_shape).rules [] words)) (λ id. number_by (one_of id (rows_after (leaf check_shape).rules [] words)))
-    map.text scen.text plan.text agents.0 map.first scen.first plan.first agents.1
-
-verify_asks : (first : Text → Option Text) (number : Text → Option (Option ℕ)) (map scen program : Text) (agents : Option ℕ) → first (codes "map") ≡ Some map
-    → first (codes "scen") ≡ Some scen → first (codes "program") ≡ Some program → number (codes "agents") ≡ Some agents → is_some (verify_by first number) ≡ true
-verify_asks first number map scen program agents h k m l = rw (h, k, m, l) refl
-
-verify_answers : (words : List Text) → Answers verify_shape words
-verify_answers words none =
-    let map = required_value (leaf verify_shape) words none (at 1 (word (codes "map"))) refl refl refl refl in
-    let scen = required_value (leaf verify_shape) words none (at 2 (word (codes "scen"))) refl refl refl refl in
-    let program = required_value (leaf verify_shape) words none (at 3 (word (codes "program"))) refl refl refl refl in
-    let agents = number_option (at 4 agents_rule) (rows_after (leaf verify_shape).rules [] words) 0 65535 refl (omega arith)
-    (optional_value (leaf verify_shape) words none (at 4 agents_rule) refl refl) in
-    verify_asks (λ id. first_of id (rows_after (leaf verify_shape).rules [] words)) (λ id. number_by (one_of id (rows_after (leaf verify_shape).rules [] words)))
-    map.text scen.text program.text agents.0 map.first scen.first program.first agents.1
-
-run_asks : (first : Text → Option Text) (number : Text → Option (Option ℕ)) (map scen program : Text) (agents : Option ℕ) → first (codes "map") ≡ Some map
-    → first (codes "scen") ≡ Some scen → first (codes "program") ≡ Some program → number (codes "agents") ≡ Some agents → is_some (run_by first number) ≡ true
-run_asks first number map scen program agents h k m l = rw (h, k, m, l) refl
-
-run_answers : (words : List Text) → Answers run_shape words
-run_answers words none =
-    let map = required_value (leaf run_shape) words none (at 1 (word (codes "map"))) refl refl refl refl in
-    let scen = required_value (leaf run_shape) words none (at 2 (word (codes "scen"))) refl refl refl refl in
-    let program = required_value (leaf run_shape) words none (at 3 (word (codes "program"))) refl refl refl refl in
-    let agents = number_option (at 4 agents_rule) (rows_after (leaf run_shape).rules [] words) 0 65535 refl (omega arith)
-    (optional_value (leaf run_shape) words none (at 4 agents_rule) refl refl) in
-    run_asks (λ id. first_of id (rows_after (leaf run_shape).rules [] words)) (λ id. number_by (one_of id (rows_after (leaf run_shape).rules [] words)))
-    map.text scen.text program.text agents.0 map.first scen.first program.first agents.1
-
-plan_asks : (first : Text → Option Text) (number : Text → Option (Option ℕ)) (map scen : Text) (agents : Option ℕ) (horizon : ℕ) → first (codes "map") ≡ Some map
-    → first (codes "scen") ≡ Some scen → number (codes "agents") ≡ Some agents → number_of (number (codes "horizon")) ≡ Some horizon → is_some (plan_by first number) ≡ true
-plan_asks first number map scen agents horizon h k l m = rw (h, k, l, m) refl
+    rw (
+      text check_shape refl words none 1 (codes "map") refl,
+      text check_shape refl words none 2 (codes "scen") refl,
+      text check_shape refl words none 3 (codes "plan") refl,
+      agents check_shape refl words none 4 refl,
+    ) refl
 
 plan_answers : (words : List Text) → Answers plan_shape words
 plan_answers words none =
-    let rows = rows_after (leaf plan_shape).rules [] words in
-    let map = required_value (leaf plan_shape) words none (at 1 (word (codes "map"))) refl refl refl refl in
-    let scen = required_value (leaf plan_shape) words none (at 2 (word (codes "scen"))) refl refl refl refl in
-    let agents = number_option (at 3 agents_rule) rows 0 65535 refl (omega arith) (optional_value (leaf plan_shape) words none (at 3 agents_rule) refl refl) in
-    let horizon = number_default (at 4 horizon_rule) rows 1 65535 refl (omega arith) (default_value (leaf plan_shape) words none (at 4 horizon_rule) refl refl refl) in
-    plan_asks (λ id. first_of id rows) (λ id. number_by (one_of id rows)) map.text scen.text agents.0 horizon.0 map.first scen.first agents.1 horizon.1
-
-compile_asks : (first : Text → Option Text) (number : Text → Option (Option ℕ)) (map scen plan out : Text) (agents : Option ℕ) (d : Deps) → first (codes "map") ≡ Some map
-    → first (codes "scen") ≡ Some scen → first (codes "plan") ≡ Some plan → first (codes "out") ≡ Some out → number (codes "agents") ≡ Some agents
-    → option_and_then deps_in (first (codes "deps")) ≡ Some d → is_some (compile_by first number) ≡ true
-compile_asks first number map scen plan out agents d h k l m n o = rw (h, k, l, m, n, o) refl
+    rw (
+      text plan_shape refl words none 1 (codes "map") refl,
+      text plan_shape refl words none 2 (codes "scen") refl,
+      agents plan_shape refl words none 3 refl,
+      horizon plan_shape refl words none 4 refl,
+    ) refl
 
 compile_answers : (names : DepsNames) → AreDeps names → (words : List Text) → Answers (compile_shape names) words
 compile_answers names are words none =
-    let s = leaf (compile_shape names) in
-    let rows = rows_after s.rules [] words in
-    let map = required_value s words none (at 1 (word (codes "map"))) refl refl refl refl in
-    let scen = required_value s words none (at 2 (word (codes "scen"))) refl refl refl refl in
-    let plan = required_value s words none (at 3 (word (codes "plan"))) refl refl refl refl in
-    let out = required_value s words none (at 4 (word (codes "out"))) refl refl refl refl in
-    let agents = number_option (at 5 agents_rule) rows 0 65535 refl (omega arith) (optional_value s words none (at 5 agents_rule) refl refl) in
-    let named = deps_value names (at 6 (deps_rule names)) rows are refl refl (default_value s words none (at 6 (deps_rule names)) refl refl refl) in
-    compile_asks (λ id. first_of id rows) (λ id. number_by (one_of id rows)) map.text scen.text plan.text out.text agents.0 named.0
-    map.first scen.first plan.first out.first agents.1 named.1
+    rw (
+      text (compile_shape names) refl words none 1 (codes "map") refl,
+      text (compile_shape names) refl words none 2 (codes "scen") refl,
+      text (compile_shape names) refl words none 3 (codes "plan") refl,
+      text (compile_shape names) refl words none 4 (codes "out") refl,
+      agents (compile_shape names) refl words none 5 refl,
+      kind (compile_shape names) refl words none names are 6 refl,
+    ) refl
 
-rehearse_asks : (first : Text → Option Text) (program : Text) → first (codes "program") ≡ Some program → is_some (rehearse_by first) ≡ true
-rehearse_asks first program h = rw h refl
+verify_answers : (words : List Text) → Answers verify_shape words
+verify_answers words none =
+    rw (
+      text verify_shape refl words none 1 (codes "map") refl,
+      text verify_shape refl words none 2 (codes "scen") refl,
+      text verify_shape refl words none 3 (codes "program") refl,
+      agents verify_shape refl words none 4 refl,
+    ) refl
+
+run_answers : (words : List Text) → Answers run_shape words
+run_answers words none =
+    rw (
+      text run_shape refl words none 1 (codes "map") refl,
+      text run_shape refl words none 2 (codes "scen") refl,
+      text run_shape refl words none 3 (codes "program") refl,
+      agents run_shape refl words none 4 refl,
+    ) refl
 
 rehearse_answers : (words : List Text) → Answers rehearse_shape words
 rehearse_answers words none =
-    let program = required_value (leaf rehearse_shape) words none (at 1 (word (codes "program"))) refl refl refl refl in
-    rehearse_asks (λ id. first_of id (rows_after (leaf rehearse_shape).rules [] words)) program.text program.first
-
-auto_asks : (first : Text → Option Text) (number : Text → Option (Option ℕ)) (map scen : Text) (agents : Option ℕ) (horizon : ℕ) (d : Deps) → first (codes "map") ≡ Some map
-    → first (codes "scen") ≡ Some scen → number (codes "agents") ≡ Some agents → number_of (number (codes "horizon")) ≡ Some horizon
-    → option_and_then deps_in (first (codes "deps")) ≡ Some d → is_some (auto_by first number) ≡ true
-auto_asks first number map scen agents horizon d h k l m n = rw (h, k, l, m, n) refl
+    rw (text rehearse_shape refl words none 1 (codes "program") refl) refl
 
 auto_answers : (names : DepsNames) → AreDeps names → (words : List Text) → Answers (auto_shape names) words
 auto_answers names are words none =
-    let s = leaf (auto_shape names) in
-    let rows = rows_after s.rules [] words in
-    let map = required_value s words none (at 1 (word (codes "map"))) refl refl refl refl in
-    let scen = required_value s words none (at 2 (word (codes "scen"))) refl refl refl refl in
-    let agents = number_option (at 3 agents_rule) rows 0 65535 refl (omega arith) (optional_value s words none (at 3 agents_rule) refl refl) in
-    let horizon = number_default (at 4 horizon_rule) rows 1 65535 refl (omega arith) (default_value s words none (at 4 horizon_rule) refl refl refl) in
-    let named = deps_value names (at 5 (deps_rule names)) rows are refl refl (default_value s words none (at 5 (deps_rule names)) refl refl refl) in
-    auto_asks (λ id. first_of id rows) (λ id. number_by (one_of id rows)) map.text scen.text agents.0 horizon.0 named.0
-    map.first scen.first agents.1 horizon.1 named.1
+    rw (
+      text (auto_shape names) refl words none 1 (codes "map") refl,
+      text (auto_shape names) refl words none 2 (codes "scen") refl,
+      agents (auto_shape names) refl words none 3 refl,
+      horizon (auto_shape names) refl words none 4 refl,
+      kind (auto_shape names) refl words none names are 5 refl,
+    ) refl
 
 -- ---- the command line
 
 answers_each : (names : DepsNames) → AreDeps names → (s : Shape) (words : List Text) → Among s (built (fleet names)).subs → (name : Text) → answers_to name (label_of s) ≡ true
-    → bytes_eq name (codes "help") ≡ false → level_fault s [] nothing_held words false [] ≡ [] → is_some (asked_by (Some (rows_at s words))) ≡ true
+    → bytes_eq name (codes "help") ≡ false → level_fault s [] nothing_held words false [] ≡ [] → is_answered_by (Some (rows_at s words)) ≡ true
 answers_each names are s words among name named no_help = elim among [
   | inl same ↦ subst P (sym same) (instance_answers words)
   | inr second ↦ elim second [
@@ -257,7 +245,7 @@ answers_each names are s words among name named no_help = elim among [
 ]
   where
     P : Shape → Type 0
-    P x = level_fault x [] nothing_held words false [] ≡ [] → is_some (asked_by (Some (rows_at x words))) ≡ true
+    P x = level_fault x [] nothing_held words false [] ≡ [] → is_answered_by (Some (rows_at x words)) ≡ true
 
     helps : (bytes_eq (codes "help") name || false) ≡ true → bytes_eq name (codes "help") ≡ true
     helps e = (bytes_eq-Decides name (codes "help")).1 (sym ((bytes_eq-Decides (codes "help") name).0 (first (bytes_eq (codes "help") name) e)))
@@ -266,7 +254,7 @@ answers_each names are s words among name named no_help = elim among [
         first true t = refl
         first false t = t
 
-pub is_answered : (names : DepsNames) → AreDeps names → (words : List Text) → fault_of (fleet names) words ≡ [] → is_some (answered_by (fleet names) words) ≡ true
+pub is_answered : (names : DepsNames) → AreDeps names → (words : List Text) → fault_of (fleet names) words ≡ [] → is_answered_by (subcommand_of (fleet names) words) ≡ true
 is_answered names are words none =
     let e = enters (built (fleet names)) words refl refl none in
-    ap (λ o. is_some (asked_by o)) e.found ∙ answers_each names are e.command e.left e.among e.answers.0 e.answers.1 e.answers.2 e.none
+    ap is_answered_by e.found ∙ answers_each names are e.command e.left e.among e.answers.0 e.answers.1 e.answers.2 e.none

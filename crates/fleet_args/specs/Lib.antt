@@ -1,2 +1,12 @@
+pub mod Arguments
+pub mod Values
+pub mod Instance
+pub mod Check
+pub mod Plan
+pub mod Compile
+pub mod Verify
+pub mod Run
+pub mod Rehearse
+pub mod Auto
 pub mod CommandLine
 pub mod Request

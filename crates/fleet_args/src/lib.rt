@@ -1,10 +1,28 @@
 //! The command line: the words after the program's name, read as a request.
 #![tactic(auto)]
 
+mod arguments;
+mod auto;
+mod check;
 mod command_line;
+mod compile;
+mod instance;
+mod plan;
+mod rehearse;
 mod request;
+mod run;
+mod values;
+mod verify;
 
+pub use auto::AutoRequest;
+pub use check::CheckRequest;
+pub use compile::CompileRequest;
+pub use instance::InstanceRequest;
+pub use plan::PlanRequest;
+pub use rehearse::RehearseRequest;
 pub use request::{Request, WordStop, read_words};
+pub use run::RunRequest;
+pub use verify::VerifyRequest;
 
 #[cfg(test)]
 mod tests;

@@ -1,70 +1,36 @@
 //! The request that the words of the command line make.
 
-ghost use Rattle.std.specs.Prelude.{◌≡◌, option_map, map, string_bytes};
-ghost use Rattle.clap.specs.Words.{found_of, first_value, subcommand_rows_of, kind_of};
+ghost use Rattle.std.specs.Prelude.{◌≡◌, false, MatchOption, map, string_bytes};
+ghost use Rattle.clap.specs.Words.{subcommand_rows_of, kind_of};
 ghost use Rattle.fleet_args.specs.CommandLine.{AreDeps, fleet};
-ghost use Rattle.fleet_args.specs.Request.{asked_of, asked_by, asked_from, deps_in, instance_by, check_by, plan_by, compile_by, verify_by, run_by, rehearse_by, auto_by, number_found, IsStopOf, Reads, ReadsFleet};
+ghost use Rattle.fleet_args.specs.Values.{values_in};
+ghost use Rattle.fleet_args.specs.Request.{AsksCommand, has_values, AsksBy, is_answered_by, IsStopOf, Reads, ReadsFleet};
 
+use crate::auto::{AutoRequest, auto_in};
+use crate::check::{CheckRequest, check_in};
 use crate::command_line::fleet_command;
+use crate::compile::{CompileRequest, compile_in};
+use crate::instance::{InstanceRequest, instance_in};
+use crate::plan::{PlanRequest, plan_in};
+use crate::rehearse::{RehearseRequest, rehearse_in};
+use crate::run::{RunRequest, run_in};
+use crate::verify::{VerifyRequest, verify_in};
 use clap::ArgMatches;
 use clap::error::ErrorKind;
-use fleet_model::Deps;
 use std::alloc::Global;
 use thiserror::Error;
 
 /// A command with its words and options.
 #[derive(Clone, Copy, Debug, PartialEq, Eq)]
 pub enum Request<'a> {
-    Instance {
-        map: &'a str,
-        scen: &'a str,
-        agents: Option<u16>,
-    },
-    Check {
-        map: &'a str,
-        scen: &'a str,
-        plan: &'a str,
-        agents: Option<u16>,
-    },
-    Plan {
-        map: &'a str,
-        scen: &'a str,
-        agents: Option<u16>,
-        horizon: u16,
-    },
-    Compile {
-        map: &'a str,
-        scen: &'a str,
-        plan: &'a str,
-        out: &'a str,
-        agents: Option<u16>,
-        deps: Deps,
-    },
-    Verify {
-        map: &'a str,
-        scen: &'a str,
-        program: &'a str,
-        agents: Option<u16>,
-    },
-    Run {
-        map: &'a str,
-        scen: &'a str,
-        program: &'a str,
-        agents: Option<u16>,
-        holds: Option<&'a str>,
-    },
-    Rehearse {
-        program: &'a str,
-        holds: Option<&'a str>,
-    },
-    Auto {
-        map: &'a str,
-        scen: &'a str,
-        agents: Option<u16>,
-        horizon: u16,
-        deps: Deps,
-        holds: Option<&'a str>,
-    },
+    Instance(InstanceRequest<'a>),
+    Check(CheckRequest<'a>),
+    Plan(PlanRequest<'a>),
+    Compile(CompileRequest<'a>),
+    Verify(VerifyRequest<'a>),
+    Run(RunRequest<'a>),
+    Rehearse(RehearseRequest<'a>),
+    Auto(AutoRequest<'a>),
 }
 
 /// Why the words are no request. The texts are `clap`'s, of whole lines: what is wrong and how to get help, or the help.
@@ -78,172 +44,31 @@ pub enum WordStop {
     Help(String),
 }
 
-/// The number of an option, if it was used. No answer where its text is no number.
-fn number(rows: &ArgMatches<'_>, id: &str) -> Option<Option<u16>>
-    ensures { result ≡ number_found (found_of rows.now) id.now }
-{
-    rows.try_get_one::<u16>(id).ok()
-}
-
-/// The kind of awaits of a name.
-fn deps_of(name: &str) -> Option<Deps>
-    ensures { result ≡ deps_in name.now }
-{
-    match name {
-        "all" => Some(Deps::All),
-        "last" => Some(Deps::Last),
-        _ => None,
-    }
-}
-
-fn instance_in<'a>(rows: &ArgMatches<'a>) -> Option<Request<'a>>
-    ensures { option_map asked_of result
-        ≡ instance_by (first_value (found_of rows.now)) (number_found (found_of rows.now)) }
-{
-    let map = rows.get_str("map")?;
-    let scen = rows.get_str("scen")?;
-    let agents = number(rows, "agents")?;
-    Some(Request::Instance { map, scen, agents })
-}
-
-fn check_in<'a>(rows: &ArgMatches<'a>) -> Option<Request<'a>>
-    ensures { option_map asked_of result
-        ≡ check_by (first_value (found_of rows.now)) (number_found (found_of rows.now)) }
-{
-    let map = rows.get_str("map")?;
-    let scen = rows.get_str("scen")?;
-    let plan = rows.get_str("plan")?;
-    let agents = number(rows, "agents")?;
-    Some(Request::Check {
-        map,
-        scen,
-        plan,
-        agents,
-    })
-}
-
-fn plan_in<'a>(rows: &ArgMatches<'a>) -> Option<Request<'a>>
-    ensures { option_map asked_of result
-        ≡ plan_by (first_value (found_of rows.now)) (number_found (found_of rows.now)) }
-{
-    let map = rows.get_str("map")?;
-    let scen = rows.get_str("scen")?;
-    let agents = number(rows, "agents")?;
-    let horizon = number(rows, "horizon")??;
-    Some(Request::Plan {
-        map,
-        scen,
-        agents,
-        horizon,
-    })
-}
-
-fn compile_in<'a>(rows: &ArgMatches<'a>) -> Option<Request<'a>>
-    ensures { option_map asked_of result
-        ≡ compile_by (first_value (found_of rows.now)) (number_found (found_of rows.now)) }
-{
-    let map = rows.get_str("map")?;
-    let scen = rows.get_str("scen")?;
-    let plan = rows.get_str("plan")?;
-    let out = rows.get_str("out")?;
-    let agents = number(rows, "agents")?;
-    let deps = deps_of(rows.get_str("deps")?)?;
-    Some(Request::Compile {
-        map,
-        scen,
-        plan,
-        out,
-        agents,
-        deps,
-    })
-}
-
-fn verify_in<'a>(rows: &ArgMatches<'a>) -> Option<Request<'a>>
-    ensures { option_map asked_of result
-        ≡ verify_by (first_value (found_of rows.now)) (number_found (found_of rows.now)) }
-{
-    let map = rows.get_str("map")?;
-    let scen = rows.get_str("scen")?;
-    let program = rows.get_str("program")?;
-    let agents = number(rows, "agents")?;
-    Some(Request::Verify {
-        map,
-        scen,
-        program,
-        agents,
-    })
-}
-
-fn run_in<'a>(rows: &ArgMatches<'a>) -> Option<Request<'a>>
-    ensures { option_map asked_of result
-        ≡ run_by (first_value (found_of rows.now)) (number_found (found_of rows.now)) }
-{
-    let map = rows.get_str("map")?;
-    let scen = rows.get_str("scen")?;
-    let program = rows.get_str("program")?;
-    let agents = number(rows, "agents")?;
-    let holds = rows.get_str("holds");
-    Some(Request::Run {
-        map,
-        scen,
-        program,
-        agents,
-        holds,
-    })
-}
-
-fn rehearse_in<'a>(rows: &ArgMatches<'a>) -> Option<Request<'a>>
-    ensures { option_map asked_of result ≡ rehearse_by (first_value (found_of rows.now)) }
-{
-    let program = rows.get_str("program")?;
-    let holds = rows.get_str("holds");
-    Some(Request::Rehearse { program, holds })
-}
-
-fn auto_in<'a>(rows: &ArgMatches<'a>) -> Option<Request<'a>>
-    ensures { option_map asked_of result
-        ≡ auto_by (first_value (found_of rows.now)) (number_found (found_of rows.now)) }
-{
-    let map = rows.get_str("map")?;
-    let scen = rows.get_str("scen")?;
-    let agents = number(rows, "agents")?;
-    let horizon = number(rows, "horizon")??;
-    let deps = deps_of(rows.get_str("deps")?)?;
-    let holds = rows.get_str("holds");
-    Some(Request::Auto {
-        map,
-        scen,
-        agents,
-        horizon,
-        deps,
-        holds,
-    })
-}
-
 /// The request of the command of this name, by its matches.
-fn request_by<'a>(name: &str, rows: &ArgMatches<'a>) -> Option<Request<'a>>
-    ensures { option_map asked_of result
-        ≡ asked_from name.now (first_value (found_of rows.now)) (number_found (found_of rows.now)) }
+fn request_by<'a>(name: &str, matches: &ArgMatches<'a>) -> Option<Request<'a>>
+    ensures { MatchOption result (has_values name.now (values_in matches.now) ≡ false)
+        (AsksCommand name.now (values_in matches.now)) }
 {
     match name {
-        "instance" => instance_in(rows),
-        "check" => check_in(rows),
-        "plan" => plan_in(rows),
-        "compile" => compile_in(rows),
-        "verify" => verify_in(rows),
-        "run" => run_in(rows),
-        "rehearse" => rehearse_in(rows),
-        "auto" => auto_in(rows),
+        "instance" => Some(Request::Instance(instance_in(matches)?)),
+        "check" => Some(Request::Check(check_in(matches)?)),
+        "plan" => Some(Request::Plan(plan_in(matches)?)),
+        "compile" => Some(Request::Compile(compile_in(matches)?)),
+        "verify" => Some(Request::Verify(verify_in(matches)?)),
+        "run" => Some(Request::Run(run_in(matches)?)),
+        "rehearse" => Some(Request::Rehearse(rehearse_in(matches)?)),
+        "auto" => Some(Request::Auto(auto_in(matches)?)),
         _ => None,
     }
 }
 
 /// The request that the matches of the command line give.
 fn request_in<'a>(matches: &ArgMatches<'a>) -> Option<Request<'a>>
-    ensures { option_map asked_of result ≡ asked_by (subcommand_rows_of matches.now) }
+    ensures { MatchOption result (is_answered_by (subcommand_rows_of matches.now) ≡ false)
+        (AsksBy (subcommand_rows_of matches.now)) }
 {
-    let (name, rows) = matches.subcommand()?;
-    request_by(name, rows)
+    let (name, matches) = matches.subcommand()?;
+    request_by(name, matches)
 }
 
 /// The text of an error, as usage or as help.

@@ -13,11 +13,11 @@ fn words(alloc: Global, texts: &[&str]) -> Result<Vec<String>, AllocError> {
 }
 
 fn instance<'a>(map: &'a str, scen: &'a str, agents: Option<u16>) -> Request<'a> {
-    Request::Instance { map, scen, agents }
+    Request::Instance(InstanceRequest { map, scen, agents })
 }
 
 fn rehearse<'a>(program: &'a str, holds: Option<&'a str>) -> Request<'a> {
-    Request::Rehearse { program, holds }
+    Request::Rehearse(RehearseRequest { program, holds })
 }
 
 fn auto<'a>(
@@ -28,14 +28,14 @@ fn auto<'a>(
     deps: Deps,
     holds: Option<&'a str>,
 ) -> Request<'a> {
-    Request::Auto {
+    Request::Auto(AutoRequest {
         map,
         scen,
         agents,
         horizon,
         deps,
         holds,
-    }
+    })
 }
 
 #[test]
@@ -73,71 +73,71 @@ fn words_make_a_request(rt: HostRuntime) -> Result<(), Fail> {
         ),
         (
             &["check", "m", "s", "p", "--agents", "3"],
-            Request::Check {
+            Request::Check(CheckRequest {
                 map: "m",
                 scen: "s",
                 plan: "p",
                 agents: Some(3),
-            },
+            }),
         ),
         (
             &["plan", "m", "s"],
-            Request::Plan {
+            Request::Plan(PlanRequest {
                 map: "m",
                 scen: "s",
                 agents: None,
                 horizon: 1024,
-            },
+            }),
         ),
         (
             &["plan", "m", "s", "--horizon", "65535", "--agents", "2"],
-            Request::Plan {
+            Request::Plan(PlanRequest {
                 map: "m",
                 scen: "s",
                 agents: Some(2),
                 horizon: 65_535,
-            },
+            }),
         ),
         (
             &["compile", "m", "s", "p", "o"],
-            Request::Compile {
+            Request::Compile(CompileRequest {
                 map: "m",
                 scen: "s",
                 plan: "p",
                 out: "o",
                 agents: None,
                 deps: Deps::Last,
-            },
+            }),
         ),
         (
             &["compile", "--deps", "all", "m", "s", "p", "o", "--agents=7"],
-            Request::Compile {
+            Request::Compile(CompileRequest {
                 map: "m",
                 scen: "s",
                 plan: "p",
                 out: "o",
                 agents: Some(7),
                 deps: Deps::All,
-            },
+            }),
         ),
         (
             &["verify", "m", "s", "p"],
-            Request::Verify {
+            Request::Verify(VerifyRequest {
                 map: "m",
                 scen: "s",
                 program: "p",
                 agents: None,
-            },
+            }),
         ),
         (
             &["run", "m", "--holds", "h", "s", "p", "--agents=0"],
-            Request::Run {
+            Request::Run(RunRequest {
                 map: "m",
                 scen: "s",
                 program: "p",
                 agents: Some(0),
                 holds: Some("h"),
-            },
+            }),
         ),
         (
             &["auto", "m", "s"],

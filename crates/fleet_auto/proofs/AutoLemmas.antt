@@ -1,18 +1,44 @@
 -- What becomes of the texts, where a program was made of them and run.
-use Rattle.std.proofs.Common.{ℕ, List, Option, Result, Ok, Err}
+use Rattle.std.proofs.Common.{ℕ, List, Option, Ok, Err, ap, refl, ◌∙◌}
+use Rattle.fleet_model.specs.declared.task.Task.{Task}
+use Rattle.fleet_model.specs.Program.{Program}
+use Rattle.fleet_grid.specs.Ground.{Ground}
+use Rattle.fleet_code.specs.Laws.{OneProgramEach}
+use Rattle.fleet_auto.specs.Texts.{AreTextsOf}
+use Rattle.fleet_auto.specs.Making.{SpellsMade}
+use Rattle.fleet_auto.specs.Accepting.{Accepts}
 use Rattle.fleet_model.specs.declared.deps.Deps.{Deps}
-use Rattle.fleet_run.specs.declared.trace.Report.{Report}
-use Rattle.fleet_auto.specs.Trace.{Written, TracesAccepted}
+use Rattle.fleet_text.specs.Sink.{SinkState}
+use Rattle.fleet_auto.specs.Trace.{Traces}
+use Rattle.fleet_auto.specs.Faults.{run_fault}
 use Rattle.fleet_auto.specs.Auto.{MakesProgram, AutoRuns}
-use Rattle.fleet_auto.specs.declared.fault.AutoFault.{AutoFault}
-use Rattle.fleet_auto.specs.declared.fault.AutoFault.TheVariants.{OutOfMemory, Map, Scen, Plan, Compile, Run}
+use Rattle.fleet_run.specs.declared.trace.Report.{Report}
+use Rattle.fleet_run.specs.declared.run.RunFault.{RunFault}
+use Rattle.fleet_run.specs.declared.run.RunFault.TheVariants.{OutOfMemory, Source, Hold, Write, HoldLimit}
 
-pub auto_result : (map scen : List ℕ) (asked : Option ℕ) (horizon : ℕ) (deps : Deps) (held : List ℕ) (o : Written) (a : MakesProgram map scen asked horizon deps)
-    (r : Result Report AutoFault) → TracesAccepted a.program a.chain held o r → AutoRuns map scen asked horizon deps held o r
-auto_result map scen asked horizon deps held o a (Ok r) h = (a, h)
-auto_result map scen asked horizon deps held o a (Err OutOfMemory) h = h
-auto_result map scen asked horizon deps held o a (Err (Map x)) h = absurd h
-auto_result map scen asked horizon deps held o a (Err (Scen x)) h = absurd h
-auto_result map scen asked horizon deps held o a (Err (Plan x)) h = absurd h
-auto_result map scen asked horizon deps held o a (Err (Compile x)) h = absurd h
-auto_result map scen asked horizon deps held o a (Err (Run x)) h = (a, h)
+-- bytes were made of the texts, and they are accepted: so the program that they spell was made of the texts
+module _ (one : OneProgramEach) (map scen : List ℕ) (asked : Option ℕ) (horizon : ℕ) (deps : Deps) (g : Ground) (tasks : List Task) (bytes : List ℕ) (q : Program)
+    (chain : ℕ) (texts : AreTextsOf map scen asked g tasks) (plan : SpellsMade g tasks horizon deps bytes) (accepts : Accepts bytes g tasks q chain) (held : List ℕ)
+    (out out' : SinkState) where
+  abbrev made : MakesProgram map scen asked horizon deps
+  made = record {
+    ground = g;
+    tasks = tasks;
+    texts = texts;
+    plan = plan.made.plan;
+    planned = plan.made.planned;
+    program = q;
+    compiled = plan.made.compiled ∙ ap Ok ((one bytes bytes plan.program q plan.spelled accepts.spelled).0 refl);
+    chain = chain;
+    accepted_for = accepts.accepted_for;
+  }
+
+  pub auto_runs : (r : Report) → Traces q chain held out out' (Ok r) → AutoRuns map scen asked horizon deps held out out' (Ok r)
+  auto_runs r h = (made, h)
+
+  pub auto_stops : (fault : RunFault) → Traces q chain held out out' (Err fault) → AutoRuns map scen asked horizon deps held out out' (Err (run_fault fault))
+  auto_stops OutOfMemory h = h
+  auto_stops (Source x) h = (made, h)
+  auto_stops (Hold x) h = (made, h)
+  auto_stops Write h = (made, h)
+  auto_stops HoldLimit h = (made, h)

@@ -8,9 +8,10 @@ use Rattle.fleet_adg.specs.Compiled.{compiled_if_few}
 use Rattle.fleet_model.specs.declared.deps.Deps.{Deps}
 use Rattle.fleet_verify.specs.Parts.{IsAcceptedFor}
 use Rattle.fleet_run.specs.declared.trace.Report.{Report}
-use Rattle.fleet_auto.specs.Texts.{AreTextsOf, IsTextsFault}
+use Rattle.fleet_auto.specs.Texts.{AreTextsOf, IsProblemFault}
 use Rattle.fleet_auto.specs.Making.{IsPlannedFor, IsMakingFault}
-use Rattle.fleet_auto.specs.Trace.{Written, IsUnwritten, WritesTrace, StopsTrace}
+use Rattle.fleet_text.specs.Sink.{SinkState, IsUnwritten}
+use Rattle.fleet_auto.specs.Trace.{WritesTrace, StopsTrace}
 use Rattle.fleet_auto.specs.declared.fault.AutoFault.{AutoFault}
 use Rattle.fleet_auto.specs.declared.fault.AutoFault.TheVariants.{OutOfMemory, Map, Scen, Plan as PlanStops, Compile, Run}
 
@@ -30,18 +31,18 @@ pub record MakesProgram (map scen : List ℕ) (asked : Option ℕ) (horizon : �
 -- The refusal is that of the first step that refuses: the first fault of the map's text, or of the scenario's on that map; or an agent is
 -- left without a path by those before it; or the agents of the plan make too many moves; or the run of the program stops. Memory may run
 -- out in each step before the run, and until the run nothing is written
-abbrev pub IsAutoFault : (map scen : List ℕ) → Option ℕ → ℕ → Deps → List ℕ → Written → AutoFault → Type 0
-IsAutoFault map scen asked horizon deps held o OutOfMemory = IsUnwritten o
-IsAutoFault map scen asked horizon deps held o (Map fault) = IsTextsFault map scen asked (Map fault) × IsUnwritten o
-IsAutoFault map scen asked horizon deps held o (Scen fault) = IsTextsFault map scen asked (Scen fault) × IsUnwritten o
-IsAutoFault map scen asked horizon deps held o (PlanStops stop) =
-    (g : Ground) × (tasks : List Task) × AreTextsOf map scen asked g tasks × IsMakingFault g tasks horizon deps (PlanStops stop) × IsUnwritten o
-IsAutoFault map scen asked horizon deps held o (Compile fault) =
-    (g : Ground) × (tasks : List Task) × AreTextsOf map scen asked g tasks × IsMakingFault g tasks horizon deps (Compile fault) × IsUnwritten o
-IsAutoFault map scen asked horizon deps held o (Run fault) =
-    (a : MakesProgram map scen asked horizon deps) × StopsTrace a.program a.chain held o fault
+abbrev pub IsAutoFault : (map scen : List ℕ) → Option ℕ → ℕ → Deps → List ℕ → (out out' : SinkState) → AutoFault → Type 0
+IsAutoFault map scen asked horizon deps held out out' OutOfMemory = IsUnwritten out out'
+IsAutoFault map scen asked horizon deps held out out' (Map fault) = IsProblemFault map scen asked (Map fault) × IsUnwritten out out'
+IsAutoFault map scen asked horizon deps held out out' (Scen fault) = IsProblemFault map scen asked (Scen fault) × IsUnwritten out out'
+IsAutoFault map scen asked horizon deps held out out' (PlanStops stop) =
+    (g : Ground) × (tasks : List Task) × AreTextsOf map scen asked g tasks × IsMakingFault g tasks horizon deps (PlanStops stop) × IsUnwritten out out'
+IsAutoFault map scen asked horizon deps held out out' (Compile fault) =
+    (g : Ground) × (tasks : List Task) × AreTextsOf map scen asked g tasks × IsMakingFault g tasks horizon deps (Compile fault) × IsUnwritten out out'
+IsAutoFault map scen asked horizon deps held out out' (Run fault) =
+    (a : MakesProgram map scen asked horizon deps) × StopsTrace a.program a.chain held out out' fault
 
 -- the trace of the program that is made of the texts was written under the holds, and the report has its numbers; or a refusal
-abbrev pub AutoRuns : (map scen : List ℕ) → Option ℕ → ℕ → Deps → List ℕ → Written → Result Report AutoFault → Type 0
-AutoRuns map scen asked horizon deps held o (Ok r) = (a : MakesProgram map scen asked horizon deps) × WritesTrace a.program a.chain held o r
-AutoRuns map scen asked horizon deps held o (Err fault) = IsAutoFault map scen asked horizon deps held o fault
+abbrev pub AutoRuns : (map scen : List ℕ) → Option ℕ → ℕ → Deps → List ℕ → (out out' : SinkState) → Result Report AutoFault → Type 0
+AutoRuns map scen asked horizon deps held out out' (Ok r) = (a : MakesProgram map scen asked horizon deps) × WritesTrace a.program a.chain held out out' r
+AutoRuns map scen asked horizon deps held out out' (Err fault) = IsAutoFault map scen asked horizon deps held out out' fault

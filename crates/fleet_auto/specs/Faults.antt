@@ -7,8 +7,10 @@ use Rattle.fleet_search.specs.declared.fault.PlanStop.{PlanStop}
 use Rattle.fleet_search.specs.declared.fault.PlanStop.TheVariants as p
 use Rattle.fleet_adg.specs.declared.fault.CompileFault.{CompileFault}
 use Rattle.fleet_adg.specs.declared.fault.CompileFault.TheVariants as c
+use Rattle.fleet_run.specs.declared.run.RunFault.{RunFault}
+use Rattle.fleet_run.specs.declared.run.RunFault.TheVariants as r
 use Rattle.fleet_auto.specs.declared.fault.AutoFault.{AutoFault}
-use Rattle.fleet_auto.specs.declared.fault.AutoFault.TheVariants.{OutOfMemory, Map, Scen, Plan, Compile}
+use Rattle.fleet_auto.specs.declared.fault.AutoFault.TheVariants.{OutOfMemory, Map, Scen, Plan, Compile, Run}
 
 abbrev pub map_fault : MapFault → AutoFault
 map_fault m.OutOfMemory = OutOfMemory
@@ -25,3 +27,7 @@ plan_fault stop = Plan stop
 abbrev pub compile_fault : CompileFault → AutoFault
 compile_fault c.OutOfMemory = OutOfMemory
 compile_fault fault = Compile fault
+
+abbrev pub run_fault : RunFault → AutoFault
+run_fault r.OutOfMemory = OutOfMemory
+run_fault fault = Run fault

@@ -1,4 +1,5 @@
 pub mod Texts
+pub mod Accepting
 pub mod Making
 pub mod Trace
 pub mod Faults

@@ -3,13 +3,13 @@ use Rattle.std.specs.Prelude.{◌≡◌, ℕ, List, length, Ok, Err}
 use Rattle.fleet_model.specs.declared.task.Task.{Task}
 use Rattle.fleet_model.specs.Program.{Program}
 use Rattle.fleet_model.specs.Accepted.{IsAccepted}
-use Rattle.fleet_model.specs.Visit.{ComesAfterByAwait}
 use Rattle.fleet_grid.specs.Ground.{Ground, is_passable}
 use Rattle.fleet_plan.specs.Plan.{Plan, IsConflictFree}
 use Rattle.fleet_search.specs.InTurn.{IsMadeInTurn, IsStuckAt}
 use Rattle.fleet_search.specs.declared.fault.PlanStop.{PlanStop}
 use Rattle.fleet_search.specs.declared.fault.PlanStop.TheVariants as p
 use Rattle.fleet_adg.specs.Compiled.{compiled_if_few}
+use Rattle.fleet_code.specs.Spelling.{Spells}
 use Rattle.fleet_model.specs.declared.deps.Deps.{Deps}
 use Rattle.fleet_auto.specs.declared.fault.AutoFault.{AutoFault}
 use Rattle.fleet_auto.specs.declared.fault.AutoFault.TheVariants.{OutOfMemory, Plan as PlanStops, Compile}
@@ -24,7 +24,13 @@ pub record IsMadeFor (g : Ground) (tasks : List Task) (horizon : ℕ) (deps : De
   pub plan : Plan
   pub planned : IsPlannedFor g tasks horizon plan
   pub compiled : compiled_if_few plan deps ≡ Ok program
-  pub accepted : IsAccepted ComesAfterByAwait (is_passable g) tasks program
+  pub accepted : IsAccepted (is_passable g) tasks program
+
+-- the bytes spell the program of such a plan
+pub record SpellsMade (g : Ground) (tasks : List Task) (horizon : ℕ) (deps : Deps) (bytes : List ℕ) : Type 0 where
+  pub program : Program
+  pub made : IsMadeFor g tasks horizon deps program
+  pub spelled : Spells bytes program
 
 -- an agent is left without a path by those before it
 abbrev pub IsPlanStop : Ground → List Task → ℕ → PlanStop → Type 0

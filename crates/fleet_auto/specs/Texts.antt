@@ -13,8 +13,8 @@ pub record AreTextsOf (map scen : List ℕ) (asked : Option ℕ) (g : Ground) (t
   pub tasks_read : IsScenText scen g asked tasks
 
 -- memory ran out; or the first fault of the map's text, or of the scenario's on that map
-abbrev pub IsTextsFault : (map scen : List ℕ) → Option ℕ → AutoFault → Type 0
-IsTextsFault map scen asked OutOfMemory = Unit {0}
-IsTextsFault map scen asked (Map fault) = IsFirstMapFault map fault
-IsTextsFault map scen asked (Scen fault) = (g : Ground) × IsMapText map g × IsFirstScenFault scen g asked fault
-IsTextsFault map scen asked _ = ⊥
+abbrev pub IsProblemFault : (map scen : List ℕ) → Option ℕ → AutoFault → Type 0
+IsProblemFault map scen asked OutOfMemory = Unit {0}
+IsProblemFault map scen asked (Map fault) = IsFirstMapFault map fault
+IsProblemFault map scen asked (Scen fault) = (g : Ground) × IsMapText map g × IsFirstScenFault scen g asked fault
+IsProblemFault map scen asked _ = ⊥

@@ -1,11 +1,13 @@
-//! Why there is no trace.
+//! Why there is no trace, and why there is no accepted program.
 
 use fleet_adg::CompileFault;
+use fleet_code::LoadFault;
 use fleet_grid::MapFault;
 use fleet_model::OutOfMemory;
 use fleet_run::RunFault;
 use fleet_scen::ScenFault;
 use fleet_search::PlanStop;
+use fleet_verify::VerifyFault;
 use thiserror::Error;
 
 /// The refusal of the first step that refuses. Want of memory in any step is `OutOfMemory`.
@@ -95,4 +97,29 @@ impl From<CompileFault> for AutoFault {
             fault => AutoFault::Compile(fault),
         }
     }
+}
+
+impl From<RunFault> for AutoFault {
+    ghost use Rattle.std.specs.Prelude.{◌≡◌};
+    ghost use Rattle.fleet_auto.specs.Faults.{run_fault};
+
+    ghost from_gives = { λ fault r. r ≡ run_fault fault };
+
+    fn from(fault: RunFault) -> AutoFault {
+        match fault {
+            RunFault::OutOfMemory => AutoFault::OutOfMemory,
+            fault => AutoFault::Run(fault),
+        }
+    }
+}
+
+/// Why bytes are not accepted as a program.
+#[derive(Debug, Drop, Error)]
+pub enum AcceptFault {
+    /// The bytes spell no program.
+    #[error("the bytes: {0}")]
+    Load(LoadFault),
+    /// The program is not safe to run for the map and the instance.
+    #[error("the program: {0}")]
+    Verify(VerifyFault),
 }

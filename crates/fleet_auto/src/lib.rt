@@ -4,14 +4,13 @@
 //! what is loaded is accepted. So once there is a plan with few enough moves, only memory, the holds and the sink can be in its way.
 #![tactic(auto)]
 
+mod accepting;
 mod fault;
 mod making;
 mod problem;
 mod running;
 
-pub use fault::AutoFault;
+pub use accepting::accept;
+pub use fault::{AcceptFault, AutoFault};
 pub use problem::{Problem, read_problem};
-pub use running::auto_run;
-
-#[cfg(test)]
-mod tests;
+pub use running::{auto_run, run_accepted};

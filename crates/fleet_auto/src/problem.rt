@@ -1,7 +1,7 @@
 //! The map and the instance of two texts.
 
 ghost use Rattle.std.specs.Prelude.{IfOk, IfErr};
-ghost use Rattle.fleet_auto.specs.Texts.{AreTextsOf, IsTextsFault};
+ghost use Rattle.fleet_auto.specs.Texts.{AreTextsOf, IsProblemFault};
 
 use crate::fault::AutoFault;
 use fleet_grid::{Grid, read_map};
@@ -23,7 +23,7 @@ pub fn read_problem(
     asked: Option<u16>,
 ) -> Result<Problem, AutoFault>
     ensures read { IfOk result (λ p. AreTextsOf map.now scen.now asked p.grid p.instance) }
-    ensures fault { IfErr result (IsTextsFault map.now scen.now asked) }
+    ensures fault { IfErr result (IsProblemFault map.now scen.now asked) }
 {
     let grid = read_map(alloc, map)?;
     let instance = read_scen(alloc, scen, &grid, asked)?;

@@ -1,37 +1,39 @@
 //! The run of what was made, and the whole way.
 
-ghost use Rattle.std.specs.Prelude.{◌≡◌, false};
-ghost use Rattle.fleet_auto.specs.Trace.{TracesAccepted};
+ghost use Rattle.fleet_text.specs.Sink.{IsWorking};
+ghost use Rattle.fleet_auto.specs.Trace.{Traces};
 ghost use Rattle.fleet_auto.specs.Auto.{AutoRuns};
 
+use crate::accepting::accept_made;
 use crate::fault::AutoFault;
-use crate::making::{accepted_again, loaded_again, made_program};
+use crate::making::made_bytes;
 use crate::problem::read_problem;
 use fleet_adg::Deps;
+use fleet_code::each_spelling_has_one_program;
 use fleet_model::{Program, ProgramView};
-use fleet_run::{Fleet, HoldText, Report, TraceOut, drive};
+use fleet_run::{Fleet, HoldText, Report, RunFault, TraceOut, drive};
 use fleet_verify::Accepted;
 use std::alloc::Global;
 
-/// Runs an accepted program, under the holds for which the bytes stand, and writes its trace.
-fn driven<O: TraceOut>(
+/// Runs an accepted program, under the holds for which the bytes stand, and writes its trace to `out`, which is not flushed. The report
+/// has the trace's numbers.
+///
+/// Errors: `OutOfMemory` before anything is written; and else those of `drive`, but for `Source`.
+pub fn run_accepted<O: TraceOut>(
     alloc: Global,
     accepted: Accepted<'_, Program>,
-    held: &[u8],
+    holds: &[u8],
     out: &mut O,
-) -> Result<Report, AutoFault>
-    requires { O.has_failed out.old ≡ false }
-    ensures { TracesAccepted accepted.entry.program accepted.entry.chain held.now
-        (record { before = O.taken out.old; taken = O.taken out.new; has_failed = O.has_failed out.new }) result }
+) -> Result<Report, RunFault>
+    requires { IsWorking (O.state out.old) }
+    ensures { Traces accepted.entry.program accepted.entry.chain holds.now
+        (O.state out.old) (O.state out.new) result }
 {
-    let mut source = HoldText::new(held, accepted.program().agents());
+    let mut source = HoldText::new(holds, accepted.program().agents());
     let Ok(mut fleet) = Fleet::start(alloc, accepted) else {
-        return Err(AutoFault::OutOfMemory);
+        return Err(RunFault::OutOfMemory);
     };
-    match drive(&mut fleet, &mut source, out) {
-        Ok(report) => Ok(report),
-        Err(fault) => Err(AutoFault::Run(fault)),
-    }
+    drive(&mut fleet, &mut source, out)
 }
 
 /// Plans for the map and the scenario (of whose agents the first `asked`, or all), with paths that arrive by the horizon, compiles the plan,
@@ -50,13 +52,13 @@ pub fn auto_run<O: TraceOut>(
     holds: &[u8],
     out: &mut O,
 ) -> Result<Report, AutoFault>
-    requires { O.has_failed out.old ≡ false }
+    requires { IsWorking (O.state out.old) }
     ensures { AutoRuns map.now scen.now asked horizon deps holds.now
-        (record { before = O.taken out.old; taken = O.taken out.new; has_failed = O.has_failed out.new }) result }
+        (O.state out.old) (O.state out.new) result }
 {
+    each_spelling_has_one_program();
     let problem = read_problem(alloc, map, scen, asked)?;
-    let program = made_program(alloc, &problem.grid, &problem.instance, horizon, deps)?;
-    let program = loaded_again(alloc, &program)?;
-    let accepted = accepted_again(alloc, program, &problem.grid, &problem.instance)?;
-    driven(alloc, accepted, holds, out)
+    let bytes = made_bytes(alloc, &problem.grid, &problem.instance, horizon, deps)?;
+    let accepted = accept_made(alloc, &bytes, &problem.grid, &problem.instance)?;
+    Ok(run_accepted(alloc, accepted, holds, out)?)
 }

@@ -10,7 +10,7 @@ use Rattle.fleet_model.specs.Machine.{Holds, place_at, run}
 use Rattle.fleet_model.specs.Chain.{Reaches, IsNumbering}
 use Rattle.fleet_model.specs.Visit.{IsVisitOf, ComesAfterByChain, entering, leaving}
 use Rattle.fleet_model.specs.declared.task.Task.{Task}
-use Rattle.fleet_model.specs.Accepted.{IsAccepted, IsRight}
+use Rattle.fleet_model.specs.Accepted.{IsRight, IsAcceptedBy}
 use Rattle.fleet_chains.specs.Breaking.{AreUnordered, AreBreakingHolds}
 use Rattle.fleet_chains.specs.Exact.{RunsWell}
 use Rattle.fleet_chains.proofs.Decide.{Reaches-dec}
@@ -51,13 +51,13 @@ ordered p number s range runs q v w h k n =
       ])
     ]
 
-pub accepted_runs : (passable : Place → Bool) (tasks : List Task) (p : Program) → IsAccepted ComesAfterByChain passable tasks p → RunsWell p
+pub accepted_runs : (passable : Place → Bool) (tasks : List Task) (p : Program) → IsAcceptedBy ComesAfterByChain passable tasks p → RunsWell p
 accepted_runs passable tasks p a = record {
   apart = λ holds. (runs_free p holds a.orderly).vertex;
   finishes = λ holds. let l = longest_exists p a.right.in_range a.numbering.0 a.numbering.1 in finish_exists p holds a.right.in_range l.0 l.1.most;
 }
 
-pub runs_accepted : (passable : Place → Bool) (tasks : List Task) (p : Program) → IsRight passable tasks p → RunsWell p → IsAccepted ComesAfterByChain passable tasks p
+pub runs_accepted : (passable : Place → Bool) (tasks : List Task) (p : Program) → IsRight passable tasks p → RunsWell p → IsAcceptedBy ComesAfterByChain passable tasks p
 runs_accepted passable tasks p r w = record {
   right = r;
   numbering = (number, numbers);

@@ -12,7 +12,7 @@ use Rattle.fleet_model.specs.Program.{Program, moves, awaits_of, path, AreInRang
 use Rattle.fleet_model.specs.Machine.{Configuration, standing_at, count_at, is_ready, standing_after, indices, tick, Holds, is_held, run}
 use Rattle.fleet_model.specs.Chain.{IsAction, DirectlyNeeds, ChainFrom, Reaches, EndsChain, IsLevel, IsLongestChain, IsNumbering, awaited}
 use Rattle.fleet_model.specs.Visit.{Adjacent, ComesAfterByChain, entering, leaving}
-use Rattle.fleet_model.specs.Accepted.{IsAccepted}
+use Rattle.fleet_model.specs.Accepted.{IsAcceptedBy}
 use Rattle.fleet_model.proofs.Chains.{chain_first, chain_rises, Reaches-need}
 use Rattle.fleet_verify.proofs.Chains.{chain_join}
 use Rattle.fleet_verify.proofs.Counts.{counts, readies, run_counts}
@@ -91,7 +91,7 @@ adjacent_over p q h (v ∷ w ∷ vs) (a, g) = (after a, adjacent_over p q h (w �
     after (inl o) = inl o
     after (inr r) = inr (subst (λ a. Reaches q a (entering w)) (sym (leaving_there p q h.rest v)) ((h.chains (leaving p v) (entering w)).0 r))
 
-pub accepted_over : (p q : Program) → AreInRange q → HaveSameChains p q → (passable : Place → Bool) (tasks : List Task) → IsAccepted ComesAfterByChain passable tasks p → IsAccepted ComesAfterByChain passable tasks q
+pub accepted_over : (p q : Program) → AreInRange q → HaveSameChains p q → (passable : Place → Bool) (tasks : List Task) → IsAcceptedBy ComesAfterByChain passable tasks p → IsAcceptedBy ComesAfterByChain passable tasks q
 accepted_over p q range h passable tasks a = record {
   right = record {
     agents = h.rest.agents ∙ a.right.agents;

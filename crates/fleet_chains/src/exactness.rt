@@ -9,7 +9,7 @@ ghost use Rattle.fleet_model.specs.Machine.{Configuration, Holds, run, count_at}
 ghost use Rattle.fleet_model.specs.Chain.{IsAction, DirectlyNeeds, IsNumbering, Reaches};
 ghost use Rattle.fleet_model.specs.Visit.{ListsVisits, Adjacent, ComesAfterByChain, IsOrderly, entering, leaving};
 ghost use Rattle.fleet_model.specs.declared.task.Task.{Task};
-ghost use Rattle.fleet_model.specs.Accepted.{IsAccepted, IsRight};
+ghost use Rattle.fleet_model.specs.Accepted.{IsRight, IsAcceptedBy};
 ghost use Rattle.fleet_model.specs.Run.{HasBegun};
 ghost use Rattle.fleet_chains.specs.Breaking.{AreUnordered, IsHeldBack, IsPrepared, AreBreakingHolds, MeetOn};
 ghost use Rattle.fleet_verify.specs.Faults.{IsUnordered};
@@ -99,5 +99,5 @@ pub fn rows_are_joined()
 pub fn acceptance_is_exact()
     ensures { (p : Program) (passable : Place → Bool) (tasks : List Task) →
         IsRight passable tasks p →
-        IsAccepted ComesAfterByChain passable tasks p ↔ RunsWell p }
+        IsAcceptedBy ComesAfterByChain passable tasks p ↔ RunsWell p }
 {}

@@ -7,7 +7,7 @@ ghost use Rattle.fleet_model.specs.Program.{Program, AreInRange};
 ghost use Rattle.fleet_model.specs.Chain.{IsNumbering, IsLevel, IsLongestChain};
 ghost use Rattle.fleet_model.specs.Visit.{ComesAfterByChain};
 ghost use Rattle.fleet_model.specs.declared.task.Task.{Task};
-ghost use Rattle.fleet_model.specs.Accepted.{IsAccepted};
+ghost use Rattle.fleet_model.specs.Accepted.{IsAcceptedBy};
 ghost use Rattle.fleet_chains.specs.Reduced.{IsThinned, IsReduced, HaveSameChains, RunEqually};
 
 /// Without its implied awaits a program has the same chains, and so has one that still needs through
@@ -33,16 +33,16 @@ pub fn same_chains_run_equally()
     ensures numberings { (p q : Program) (number : ActionId → ℕ) →
         AreInRange q → HaveSameChains p q → IsNumbering p number → IsNumbering q number }
     ensures accepted { (p q : Program) (passable : Place → Bool) (tasks : List Task) →
-        AreInRange q → HaveSameChains p q → IsAccepted ComesAfterByChain passable tasks p →
-        IsAccepted ComesAfterByChain passable tasks q }
+        AreInRange q → HaveSameChains p q → IsAcceptedBy ComesAfterByChain passable tasks p →
+        IsAcceptedBy ComesAfterByChain passable tasks q }
 {}
 
 /// An accepted program without its implied awaits is accepted, has the same longest chain and runs
 /// equally.
 pub fn thinned_programs_run_equally()
     ensures { (p q : Program) (passable : Place → Bool) (tasks : List Task) →
-        IsAccepted ComesAfterByChain passable tasks p → IsThinned p q →
-        IsAccepted ComesAfterByChain passable tasks q
+        IsAcceptedBy ComesAfterByChain passable tasks p → IsThinned p q →
+        IsAcceptedBy ComesAfterByChain passable tasks q
         × RunEqually p q
         × ((n : ℕ) → IsLongestChain p n ↔ IsLongestChain q n) }
 {}

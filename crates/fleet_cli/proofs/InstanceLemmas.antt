@@ -1,14 +1,13 @@
 -- The lines of the agents of an instance, one after another.
-use Rattle.std.proofs.Common.{◌≡◌, ℕ, zero, suc, ◌+◌, ◌<◌, ◌≤◌, Bool, List, [], ◌++◌, Option, None, Some, sym, ap, ◌∙◌, subst, arith, add-one, append_assoc, append-nil, inl, inr}
+use Rattle.std.proofs.Common.{◌≡◌, ℕ, zero, suc, ◌+◌, ◌<◌, ◌≤◌, List, [], ◌++◌, Option, None, Some, sym, ap, ◌∙◌, subst, arith, add-one, append_assoc, append-nil, inl, inr}
 use Rattle.std.specs.Prelude.{slice_get, option_map}
 use Rattle.std.specs.Option.{option_map_or}
-use Rattle.std.specs.Io.KnownBytes.{Appends}
 use Rattle.std.proofs.lemmas.Bool.{cases_lt}
 use Rattle.fleet_model.specs.declared.geometry.Cell.{Cell}
 use Rattle.fleet_model.specs.declared.task.Task.{Task}
-use Rattle.fleet_run.specs.Sink.{StopsWithin}
+use Rattle.fleet_text.specs.Sink.{SinkState, Takes, StopsWithin}
 use Rattle.fleet_cli.specs.InstanceCommand.{start_in, goal_in, task_line, task_lines}
-use Rattle.fleet_run.proofs.SinkLemmas.{appends_more, appends_same, stops_within_more, stops_after}
+use Rattle.fleet_text.proofs.SinkLemmas.{takes_more, stops_within_more, stops_after}
 
 of_some : (part : Task → Cell) (o : Option Task) (c d : Cell) → option_map part o ≡ Some c → c ≡ option_map_or part o d
 of_some part None c d e = absurd cc
@@ -26,7 +25,7 @@ lines_split tasks i (suc n) le =
       | inr l ↦ (let e : i ≡ suc n = omega arith in ([], ap (task_lines tasks) (sym e) ∙ sym (append-nil (task_lines tasks i))))
     ]
 
-module _ (before mid after : Option (List ℕ)) (tasks : List Task) (i : ℕ) (start goal : Cell) (so_far : Appends before mid (task_lines tasks i))
+module _ (before mid after : SinkState) (tasks : List Task) (i : ℕ) (start goal : Cell) (so_far : Takes before mid (task_lines tasks i))
     (starts : option_map (λ (t : Task). t.start) (slice_get tasks i) ≡ Some start) (ends : option_map (λ (t : Task). t.goal) (slice_get tasks i) ≡ Some goal) where
   line_is : task_line i start goal ≡ task_line i (start_in tasks i) (goal_in tasks i)
   line_is =
@@ -36,13 +35,13 @@ module _ (before mid after : Option (List ℕ)) (tasks : List Task) (i : ℕ) (s
   lines_are : task_lines tasks i ++ task_line i start goal ≡ task_lines tasks (i + 1)
   lines_are = rw add-one (ap (λ (xs : List ℕ). task_lines tasks i ++ xs) line_is)
 
-  pub one_task_more : Appends mid after (task_line i start goal) → Appends before after (task_lines tasks (i + 1))
-  one_task_more h = appends_same before after _ _ (appends_more before mid after (task_lines tasks i) (task_line i start goal) so_far h) lines_are
+  pub one_task_more : Takes mid after (task_line i start goal) → Takes before after (task_lines tasks (i + 1))
+  one_task_more h = subst (Takes before after) lines_are (takes_more before mid after (task_lines tasks i) (task_line i start goal) so_far h)
 
-  pub stops_in_task : (failed : Bool) (n : ℕ) → i < n → StopsWithin mid after failed (task_line i start goal) → StopsWithin before after failed (task_lines tasks n)
-  stops_in_task failed n below h =
+  pub stops_in_task : (n : ℕ) → i < n → StopsWithin mid after (task_line i start goal) → StopsWithin before after (task_lines tasks n)
+  stops_in_task n below h =
       let s = lines_split tasks (i + 1) n (omega arith) in
-      let here = stops_after before mid after failed (task_lines tasks i) (task_line i start goal) so_far h in
-      let more = stops_within_more before after failed (task_lines tasks i ++ task_line i start goal) s.0 here in
+      let here = stops_after before mid after (task_lines tasks i) (task_line i start goal) so_far h in
+      let more = stops_within_more before after (task_lines tasks i ++ task_line i start goal) s.0 here in
       let whole : (task_lines tasks i ++ task_line i start goal) ++ s.0 ≡ task_lines tasks n = ap (λ (xs : List ℕ). xs ++ s.0) lines_are ∙ sym s.1 in
-      subst (StopsWithin before after failed) whole more
+      subst (StopsWithin before after) whole more

@@ -1,7 +1,8 @@
 pub mod HexRuns
 pub mod RehearsesLemmas
 pub mod InstanceLemmas
-pub mod DriveLemmas
-pub mod ProblemLemmas
+pub mod AnswerLemmas
 pub mod CommandLemmas
 pub mod AutoLemmas
+pub mod CountLemmas
+pub mod OutputLemmas

@@ -1,57 +1,70 @@
 -- What the program does for its words.
-use Rattle.std.specs.Prelude.{◌≡◌, ℕ, List, [], ◌∷◌, ◌⊎◌, Option, option_map, codes, string_bytes}
+use Rattle.std.specs.Prelude.{◌≡◌, ℕ, List, [], ◌∷◌, ◌⊎◌, Option, codes, string_bytes}
 use Rattle.clap.specs.Words.{Text}
 use Rattle.fleet_args.specs.CommandLine.{DepsNames, AreDeps, fleet}
-use Rattle.fleet_args.specs.Request.{asked_of, Asks, StopsFor}
+use Rattle.fleet_args.specs.Request.{Asks, StopsFor}
 use Rattle.fleet_args.specs.declared.request.Request.{Request}
 use Rattle.fleet_args.specs.declared.request.Request.TheVariants as r
 use Rattle.fleet_args.specs.declared.request.WordStop.{WordStop}
 use Rattle.fleet_args.specs.declared.request.WordStop.TheVariants as w
-use Rattle.fleet_io.specs.Files.{Store, IsKept}
-use Rattle.fleet_run.specs.Sink.{Receives, FailsAfter}
+use Rattle.fleet_files.specs.Files.{Store, IsKept}
+use Rattle.fleet_text.specs.Sink.{Receives, FailsAfter, SinkState, IsUnwritten, IsDelivered}
 use Rattle.fleet_io.specs.Words.{line_text}
-use Rattle.fleet_io.specs.Output.{Output, IsUnwritten, IsDelivered, IsTold}
+use Rattle.fleet_io.specs.Output.{IsTold, Outcome}
 use Rattle.fleet_cli.specs.HexRun.{RunsHex}
-use Rattle.fleet_cli.specs.RehearseCommand.{RunsRehearse}
-use Rattle.fleet_cli.specs.InstanceCommand.{RunsInstance}
-use Rattle.fleet_cli.specs.CheckCommand.{RunsCheck}
-use Rattle.fleet_cli.specs.PlanCommand.{RunsPlan}
-use Rattle.fleet_cli.specs.CompileCommand.{RunsCompile}
-use Rattle.fleet_cli.specs.VerifyCommand.{RunsVerify}
-use Rattle.fleet_cli.specs.DriveCommand.{RunsRun}
-use Rattle.fleet_cli.specs.AutoCommand.{RunsAuto}
+use Rattle.fleet_cli.specs.RehearseCommand.{DoesRehearse, RefusesRehearse}
+use Rattle.fleet_cli.specs.InstanceCommand.{DoesInstance, RefusesInstance}
+use Rattle.fleet_cli.specs.CheckCommand.{DoesCheck, RefusesCheck}
+use Rattle.fleet_cli.specs.PlanCommand.{DoesPlan, RefusesPlan}
+use Rattle.fleet_cli.specs.CompileCommand.{DoesCompile, RefusesCompile}
+use Rattle.fleet_cli.specs.VerifyCommand.{DoesVerify, RefusesVerify}
+use Rattle.fleet_cli.specs.DriveCommand.{DoesRun, RefusesRun}
+use Rattle.fleet_cli.specs.AutoCommand.{DoesAuto, RefusesAuto}
+use Rattle.fleet_io.specs.declared.fault.Fault.{Fault}
 use Rattle.fleet_io.specs.declared.fault.Fault.TheVariants as f
 
 -- what each command does: all but `compile` leave every file as before
-abbrev pub RunsRequest : (files after : Option Store) → Request → Output → Output → ℕ → Type 0
-RunsRequest files after (r.Instance map scen agents) out err status = RunsInstance files map.now scen.now agents out err status × IsKept files after
-RunsRequest files after (r.Check map scen plan agents) out err status = RunsCheck files map.now scen.now plan.now agents out err status × IsKept files after
-RunsRequest files after (r.Plan map scen agents horizon) out err status = RunsPlan files map.now scen.now agents horizon out err status × IsKept files after
-RunsRequest files after (r.Compile map scen plan name agents deps) out err status =
-    RunsCompile files after map.now scen.now plan.now name.now agents deps out err status
-RunsRequest files after (r.Verify map scen program agents) out err status =
-    RunsVerify files map.now scen.now program.now agents out err status × IsKept files after
-RunsRequest files after (r.Run map scen program agents holds) out err status =
-    RunsRun files map.now scen.now program.now agents (option_map (λ n. n.now) holds) out err status × IsKept files after
-RunsRequest files after (r.Rehearse program holds) out err status =
-    RunsRehearse files program.now (option_map (λ n. n.now) holds) out err status × IsKept files after
-RunsRequest files after (r.Auto map scen agents horizon deps holds) out err status =
-    RunsAuto files map.now scen.now agents horizon deps (option_map (λ n. n.now) holds) out err status × IsKept files after
+abbrev pub DoesRequest : (files after : Option Store) → Request → (out out' : SinkState) → ℕ → Type 0
+DoesRequest files after (r.Instance request) out out' status = DoesInstance files request out out' status × IsKept files after
+DoesRequest files after (r.Check request) out out' status = DoesCheck files request out out' status × IsKept files after
+DoesRequest files after (r.Plan request) out out' status = DoesPlan files request out out' status × IsKept files after
+DoesRequest files after (r.Compile request) out out' status = DoesCompile files after request out out' status
+DoesRequest files after (r.Verify request) out out' status = DoesVerify files request out out' status × IsKept files after
+DoesRequest files after (r.Run request) out out' status = DoesRun files request out out' status × IsKept files after
+DoesRequest files after (r.Rehearse request) out out' status = DoesRehearse files request out out' status × IsKept files after
+DoesRequest files after (r.Auto request) out out' status = DoesAuto files request out out' status × IsKept files after
+
+-- the refusals of each command
+abbrev pub RefusesRequest : (files after : Option Store) → Request → (out out' : SinkState) → Fault → Type 0
+RefusesRequest files after (r.Instance request) out out' fault = RefusesInstance files request out out' fault × IsKept files after
+RefusesRequest files after (r.Check request) out out' fault = RefusesCheck files request out out' fault × IsKept files after
+RefusesRequest files after (r.Plan request) out out' fault = RefusesPlan files request out out' fault × IsKept files after
+RefusesRequest files after (r.Compile request) out out' fault = RefusesCompile files after request out out' fault
+RefusesRequest files after (r.Verify request) out out' fault = RefusesVerify files request out out' fault × IsKept files after
+RefusesRequest files after (r.Run request) out out' fault = RefusesRun files request out out' fault × IsKept files after
+RefusesRequest files after (r.Rehearse request) out out' fault = RefusesRehearse files request out out' fault × IsKept files after
+RefusesRequest files after (r.Auto request) out out' fault = RefusesAuto files request out out' fault × IsKept files after
+
+-- the request was done, and its status is answered; or a refusal was told, and the refusal's status is answered: the other output took
+-- that one line, or failed within it
+abbrev pub RunsRequest : (files after : Option Store) → Request → (out out' err err' : SinkState) → ℕ → Type 0
+RunsRequest files after request out out' err err' status =
+    Outcome (DoesRequest files after request out out') (RefusesRequest files after request out out') err err' status
 
 -- why the words are no request was told: help on the output, usage on the other
-abbrev pub StopsAtWords : WordStop → Output → Output → ℕ → Type 0
-StopsAtWords w.OutOfMemory out err status = (status ≡ 3) × IsTold f.Memory err × IsUnwritten out
-StopsAtWords (w.Usage text) out err status = (status ≡ 2) × Receives err.before err.taken err.has_failed (string_bytes text) × IsUnwritten out
-StopsAtWords (w.Help text) out err status =
-    ((status ≡ 0) × IsDelivered (string_bytes text) out × IsUnwritten err)
-    ⊎ ((status ≡ 3) × FailsAfter out.before out.taken out.has_failed (string_bytes text)
-    × Receives err.before err.taken err.has_failed (line_text (codes "file" ∷ codes "-" ∷ [])))
+abbrev pub StopsAtWords : WordStop → (out out' err err' : SinkState) → ℕ → Type 0
+StopsAtWords w.OutOfMemory out out' err err' status = (status ≡ 3) × IsTold f.Memory err err' × IsUnwritten out out'
+StopsAtWords (w.Usage text) out out' err err' status = (status ≡ 2) × Receives err err' (string_bytes text) × IsUnwritten out out'
+StopsAtWords (w.Help text) out out' err err' status =
+    ((status ≡ 0) × IsDelivered out out' (string_bytes text) × IsUnwritten err err')
+    ⊎ ((status ≡ 3) × FailsAfter out out' (string_bytes text)
+    × Receives err err' (line_text (codes "file" ∷ codes "-" ∷ [])))
 
 -- without words the run of the input; else the command that the words ask, or a stop at words that the command line does not take. Every
 -- file is as before, but for what the command `compile` writes
-abbrev pub RunsCommand : List Text → Option (List ℕ) → (files after : Option Store) → Output → Output → ℕ → Type 0
-RunsCommand [] input files after out err status = RunsHex input out err status × IsKept files after
-RunsCommand (word ∷ words) input files after out err status =
+abbrev pub RunsCommand : List Text → Option (List ℕ) → (files after : Option Store) → (out out' err err' : SinkState) → ℕ → Type 0
+RunsCommand [] input files after out out' err err' status = RunsHex input out out' err err' status × IsKept files after
+RunsCommand (word ∷ words) input files after out out' err err' status =
     (names : DepsNames) × AreDeps names
-    × (((request : Request) × Asks (fleet names) (word ∷ words) (asked_of request) × RunsRequest files after request out err status)
-    ⊎ ((stop : WordStop) × StopsFor (fleet names) (word ∷ words) stop × StopsAtWords stop out err status × IsKept files after))
+    × (((request : Request) × Asks (fleet names) (word ∷ words) request × RunsRequest files after request out out' err err' status)
+    ⊎ ((stop : WordStop) × StopsFor (fleet names) (word ∷ words) stop × StopsAtWords stop out out' err err' status × IsKept files after))

@@ -1,5 +1,5 @@
 -- What the program does without words: the rehearsal, with nobody held, of the program that its input stands for in hexadecimal.
-use Rattle.std.specs.Prelude.{◌≡◌, ◌≢◌, ◌≤◌, ℕ, List, [], length, ◌⊎◌, Option, None, Ok, Err, IfSome, codes}
+use Rattle.std.specs.Prelude.{◌≡◌, ◌≢◌, ◌≤◌, ℕ, List, [], length, Option, Ok, Err, IfSome, codes}
 use Rattle.fleet_model.specs.Program.{Program}
 use Rattle.fleet_model.specs.Machine.{Holds}
 use Rattle.fleet_code.specs.Spelling.{Spells}
@@ -7,19 +7,19 @@ use Rattle.fleet_code.specs.LoadFaults.{IsFirstLoadFault}
 use Rattle.fleet_code.specs.Hex.{bytes_of}
 use Rattle.fleet_code.specs.declared.fault.HexFault.TheVariants as h
 use Rattle.fleet_code.specs.declared.fault.LoadFault.TheVariants as l
-use Rattle.fleet_io.specs.Files.{most_bytes}
+use Rattle.fleet_files.specs.declared.input.TheConstants.{MOST_BYTES}
 use Rattle.fleet_io.specs.Flushed.{RehearsesFlushed}
-use Rattle.fleet_io.specs.Lines.{status_of}
-use Rattle.fleet_io.specs.Output.{Output, IsUnwritten, IsTold, WritesRehearsal}
+use Rattle.fleet_run.specs.Source.{list_source}
+use Rattle.fleet_text.specs.Sink.{SinkState, IsUnwritten}
+use Rattle.fleet_io.specs.Output.{WritesRehearsal, Outcome, end_status}
 use Rattle.fleet_run.specs.declared.run.End.{End}
-use Rattle.fleet_run.specs.declared.run.End.TheVariants.{Finished, Stuck}
 use Rattle.fleet_io.specs.declared.fault.Fault.{Fault}
 use Rattle.fleet_io.specs.declared.fault.Fault.TheVariants as f
 
 -- the text is what the input had, where the input tells, and is no more than is read
 pub record IsTextOf (input : Option (List ℕ)) (text : List ℕ) : Type 0 where
   pub whole : IfSome input (λ rest. text ≡ rest)
-  pub within : length text ≤ most_bytes
+  pub within : length text ≤ MOST_BYTES
 
 -- the text stands, in hexadecimal, for the bytes that spell the program
 pub record StandsFor (text : List ℕ) (p : Program) : Type 0 where
@@ -28,31 +28,32 @@ pub record StandsFor (text : List ℕ) (p : Program) : Type 0 where
   pub spelled : Spells bytes p
 
 -- the rehearsal of the program that the input stands for was written and handed on, and ended so
-pub record RehearsesInput (input : Option (List ℕ)) (out : Output) (end : End) : Type 0 where
+pub record RehearsesInput (input : Option (List ℕ)) (out out' : SinkState) (end : End) : Type 0 where
   pub text : List ℕ
   pub read : IsTextOf input text
   pub program : Program
   pub stands : StandsFor text program
-  pub writes : WritesRehearsal program [] out end
+  pub writes : WritesRehearsal program [] out out' end
 
 -- the refusal is one that the input allows: the first fault of its text, or of the bytes for which that stands; or the sink failed
 -- while the rehearsal was written, or when it was to hand it on; or memory ran out, or the input cannot be read
-abbrev pub IsRefusalOf : Option (List ℕ) → Output → Fault → Type 0
-IsRefusalOf input out (f.Hex fault) =
-    (text : List ℕ) × IsTextOf input text × (fault ≢ h.OutOfMemory → bytes_of text ≡ Err fault) × IsUnwritten out
-IsRefusalOf input out (f.Load fault) =
-    (text bytes : List ℕ) × IsTextOf input text × (bytes_of text ≡ Ok bytes) × (fault ≢ l.OutOfMemory → IsFirstLoadFault bytes fault) × IsUnwritten out
-IsRefusalOf input out (f.Run fault) =
+abbrev pub IsRefusalOf : Option (List ℕ) → (out out' : SinkState) → Fault → Type 0
+IsRefusalOf input out out' (f.Hex fault) =
+    (text : List ℕ) × IsTextOf input text × (fault ≢ h.OutOfMemory → bytes_of text ≡ Err fault) × IsUnwritten out out'
+IsRefusalOf input out out' (f.Load fault) =
+    (text bytes : List ℕ) × IsTextOf input text × (bytes_of text ≡ Ok bytes) × (fault ≢ l.OutOfMemory → IsFirstLoadFault bytes fault) × IsUnwritten out out'
+IsRefusalOf input out out' (f.Run fault) =
     (text : List ℕ) × (p : Program) × (left : Holds) × IsTextOf input text × StandsFor text p
-    × RehearsesFlushed p [] (record { last = None; now = None; left = left; fault = None; before = out.before; taken = out.taken; has_failed = out.has_failed }) out.is_flushed (Err fault)
-IsRefusalOf input out f.Memory = IsUnwritten out
-IsRefusalOf input out (f.File name) = (name.now ≡ codes "-") × IsUnwritten out
-IsRefusalOf input out _ = ⊥
+    × RehearsesFlushed p (list_source []) (list_source left) out out' (Err fault)
+IsRefusalOf input out out' f.Memory = IsUnwritten out out'
+IsRefusalOf input out out' (f.File name) = (name.now ≡ codes "-") × IsUnwritten out out'
+IsRefusalOf input out out' _ = ⊥
+
+-- the rehearsal of the program of the input was written, and the status tells how it ended
+abbrev pub DoesHex : Option (List ℕ) → (out out' : SinkState) → ℕ → Type 0
+DoesHex input out out' status = (end : End) × RehearsesInput input out out' end × (status ≡ end_status end)
 
 -- 0 where the rehearsal was written and ends finished, 1 where it was written and ends stuck, and else the status of a refusal
 -- that was told: the other output took that one line, or failed within it
-abbrev pub RunsHex : Option (List ℕ) → Output → Output → ℕ → Type 0
-RunsHex input out err status =
-    (RehearsesInput input out Finished × IsUnwritten err × (status ≡ 0))
-    ⊎ (RehearsesInput input out Stuck × IsUnwritten err × (status ≡ 1))
-    ⊎ ((fault : Fault) × IsRefusalOf input out fault × IsTold fault err × (status ≡ status_of fault))
+abbrev pub RunsHex : Option (List ℕ) → (out out' err err' : SinkState) → ℕ → Type 0
+RunsHex input out out' err err' status = Outcome (DoesHex input out out') (IsRefusalOf input out out') err err' status

@@ -6,13 +6,12 @@ use Rattle.fleet_model.specs.declared.task.Task.{Task}
 use Rattle.fleet_model.specs.Program.{origin}
 use Rattle.fleet_grid.specs.Ground.{Ground, passable_cells}
 use Rattle.fleet_auto.specs.Texts.{AreTextsOf}
-use Rattle.fleet_io.specs.Files.{Store}
-use Rattle.fleet_run.specs.Sink.{FailsAfter}
+use Rattle.fleet_files.specs.Files.{Store}
+use Rattle.fleet_text.specs.Sink.{FailsAfter, SinkState, IsUnwritten, IsDelivered}
+use Rattle.fleet_args.specs.declared.instance.InstanceRequest.{InstanceRequest}
 use Rattle.fleet_io.specs.Words.{cell_text, line_text}
-use Rattle.fleet_io.specs.Lines.{status_of}
-use Rattle.fleet_io.specs.Output.{Output, IsUnwritten, IsDelivered, IsTold}
 use Rattle.fleet_io.specs.Named.{IsUnread, AreRead}
-use Rattle.fleet_cli.specs.Problem.{IsProblemFault}
+use Rattle.fleet_cli.specs.Problem.{IsProblemRefusal}
 use Rattle.fleet_io.specs.declared.fault.Fault.{Fault}
 use Rattle.fleet_io.specs.declared.fault.Fault.TheVariants as f
 
@@ -47,28 +46,26 @@ abbrev pub instance_text : Ground → List Task → List ℕ
 instance_text g tasks = map_line g ++ (ground_line g ++ (agents_line tasks ++ task_lines tasks (length tasks)))
 
 -- what the texts stand for was printed, and handed on
-pub record PrintsInstance (map scen : List ℕ) (asked : Option ℕ) (out : Output) : Type 0 where
+pub record PrintsInstance (map scen : List ℕ) (asked : Option ℕ) (out out' : SinkState) : Type 0 where
   pub ground : Ground
   pub tasks : List Task
   pub texts : AreTextsOf map scen asked ground tasks
-  pub delivered : IsDelivered (instance_text ground tasks) out
+  pub delivered : IsDelivered out out' (instance_text ground tasks)
 
 -- memory ran out; or the first fault of the map's text, or of the scenario's on that map; or the output failed
-abbrev pub IsInstanceFault : List ℕ → List ℕ → Option ℕ → Output → Fault → Type 0
-IsInstanceFault map scen asked out (f.File name) =
+abbrev pub IsInstanceFault : List ℕ → List ℕ → Option ℕ → (out out' : SinkState) → Fault → Type 0
+IsInstanceFault map scen asked out out' (f.File name) =
     (g : Ground) × (tasks : List Task) × (name.now ≡ codes "-") × AreTextsOf map scen asked g tasks
-    × FailsAfter out.before out.taken out.has_failed (instance_text g tasks)
-IsInstanceFault map scen asked out fault = IsProblemFault map scen asked fault × IsUnwritten out
+    × FailsAfter out out' (instance_text g tasks)
+IsInstanceFault map scen asked out out' fault = IsProblemRefusal map scen asked fault × IsUnwritten out out'
+
+-- what the files stand for was printed
+abbrev pub DoesInstance : Option Store → InstanceRequest → (out out' : SinkState) → ℕ → Type 0
+DoesInstance files r out out' status =
+    (map scen : List ℕ) × AreRead files (r.map.now ∷ r.scen.now ∷ []) (map ∷ scen ∷ []) × PrintsInstance map scen r.agents out out' × (status ≡ 0)
 
 -- a file was not read; or both were, and their texts are refused or the output failed
-abbrev pub IsInstanceRefusal : Option Store → List ℕ → List ℕ → Option ℕ → Output → Fault → Type 0
-IsInstanceRefusal files map scen asked out fault =
-    (IsUnread files (map ∷ scen ∷ []) fault × IsUnwritten out)
-    ⊎ ((map_bytes scen_bytes : List ℕ) × AreRead files (map ∷ scen ∷ []) (map_bytes ∷ scen_bytes ∷ []) × IsInstanceFault map_bytes scen_bytes asked out fault)
-
--- 0 where what the files stand for was printed, and else the status of a refusal that was told: the other output took that one line,
--- or failed within it
-abbrev pub RunsInstance : Option Store → List ℕ → List ℕ → Option ℕ → Output → Output → ℕ → Type 0
-RunsInstance files map scen asked out err status =
-    ((map_bytes scen_bytes : List ℕ) × AreRead files (map ∷ scen ∷ []) (map_bytes ∷ scen_bytes ∷ []) × PrintsInstance map_bytes scen_bytes asked out × IsUnwritten err × (status ≡ 0))
-    ⊎ ((fault : Fault) × IsInstanceRefusal files map scen asked out fault × IsTold fault err × (status ≡ status_of fault))
+abbrev pub RefusesInstance : Option Store → InstanceRequest → (out out' : SinkState) → Fault → Type 0
+RefusesInstance files r out out' fault =
+    (IsUnread files (r.map.now ∷ r.scen.now ∷ []) fault × IsUnwritten out out')
+    ⊎ ((map scen : List ℕ) × AreRead files (r.map.now ∷ r.scen.now ∷ []) (map ∷ scen ∷ []) × IsInstanceFault map scen r.agents out out' fault)

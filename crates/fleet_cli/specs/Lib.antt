@@ -1,3 +1,4 @@
+pub mod Output
 pub mod HexRun
 pub mod RehearseCommand
 pub mod InstanceCommand

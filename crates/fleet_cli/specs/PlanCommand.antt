@@ -6,14 +6,13 @@ use Rattle.fleet_plan.specs.Plan.{Plan}
 use Rattle.fleet_plan.specs.PlanText.{plan_text}
 use Rattle.fleet_search.specs.InTurn.{IsStuckAt}
 use Rattle.fleet_search.specs.declared.fault.PlanStop.TheVariants as p
-use Rattle.fleet_run.specs.Sink.{FailsAfter}
-use Rattle.fleet_io.specs.Files.{Store}
+use Rattle.fleet_text.specs.Sink.{FailsAfter, SinkState, IsUnwritten, IsDelivered}
+use Rattle.fleet_files.specs.Files.{Store}
+use Rattle.fleet_args.specs.declared.plan.PlanRequest.{PlanRequest}
 use Rattle.fleet_io.specs.Named.{IsUnread, AreRead}
 use Rattle.fleet_auto.specs.Texts.{AreTextsOf}
 use Rattle.fleet_auto.specs.Making.{IsPlannedFor}
-use Rattle.fleet_io.specs.Lines.{status_of}
-use Rattle.fleet_io.specs.Output.{Output, IsUnwritten, IsDelivered, IsTold}
-use Rattle.fleet_cli.specs.Problem.{IsProblemFault}
+use Rattle.fleet_cli.specs.Problem.{IsProblemRefusal}
 use Rattle.fleet_io.specs.declared.fault.Fault.{Fault}
 use Rattle.fleet_io.specs.declared.fault.Fault.TheVariants as f
 
@@ -26,29 +25,27 @@ pub record PlansTexts (map scen : List ℕ) (asked : Option ℕ) (horizon : ℕ)
   pub planned : IsPlannedFor ground tasks horizon plan
 
 -- such a plan was printed, and handed on
-pub record PrintsPlan (map scen : List ℕ) (asked : Option ℕ) (horizon : ℕ) (out : Output) : Type 0 where
+pub record PrintsPlan (map scen : List ℕ) (asked : Option ℕ) (horizon : ℕ) (out out' : SinkState) : Type 0 where
   pub plans : PlansTexts map scen asked horizon
-  pub delivered : IsDelivered (plan_text plans.plan) out
+  pub delivered : IsDelivered out out' (plan_text plans.plan)
 
 -- the first fault of the map's text or of the scenario's; or an agent that is left without a path by those before it; or memory ran out;
 -- or the output failed
-abbrev pub IsPlanCommandFault : (map scen : List ℕ) → Option ℕ → ℕ → Output → Fault → Type 0
-IsPlanCommandFault map scen asked horizon out (f.Search stop) =
+abbrev pub IsPlanCommandFault : (map scen : List ℕ) → Option ℕ → ℕ → (out out' : SinkState) → Fault → Type 0
+IsPlanCommandFault map scen asked horizon out out' (f.Search stop) =
     (g : Ground) × (tasks : List Task) × AreTextsOf map scen asked g tasks
-    × ((agent : ℕ) → stop ≡ p.NoPath agent → IsStuckAt (is_passable g) tasks horizon agent) × IsUnwritten out
-IsPlanCommandFault map scen asked horizon out (f.File name) =
-    (a : PlansTexts map scen asked horizon) × (name.now ≡ codes "-") × FailsAfter out.before out.taken out.has_failed (plan_text a.plan)
-IsPlanCommandFault map scen asked horizon out fault = IsProblemFault map scen asked fault × IsUnwritten out
+    × ((agent : ℕ) → stop ≡ p.NoPath agent → IsStuckAt (is_passable g) tasks horizon agent) × IsUnwritten out out'
+IsPlanCommandFault map scen asked horizon out out' (f.File name) =
+    (a : PlansTexts map scen asked horizon) × (name.now ≡ codes "-") × FailsAfter out out' (plan_text a.plan)
+IsPlanCommandFault map scen asked horizon out out' fault = IsProblemRefusal map scen asked fault × IsUnwritten out out'
+
+-- a plan for what the files stand for was printed
+abbrev pub DoesPlan : Option Store → PlanRequest → (out out' : SinkState) → ℕ → Type 0
+DoesPlan files r out out' status =
+    (map scen : List ℕ) × AreRead files (r.map.now ∷ r.scen.now ∷ []) (map ∷ scen ∷ []) × PrintsPlan map scen r.agents r.horizon out out' × (status ≡ 0)
 
 -- a file was not read; or both were, and no plan was printed
-abbrev pub IsPlanRefusal : Option Store → (map scen : List ℕ) → Option ℕ → ℕ → Output → Fault → Type 0
-IsPlanRefusal files map scen asked horizon out fault =
-    (IsUnread files (map ∷ scen ∷ []) fault × IsUnwritten out)
-    ⊎ ((map_bytes scen_bytes : List ℕ) × AreRead files (map ∷ scen ∷ []) (map_bytes ∷ scen_bytes ∷ []) × IsPlanCommandFault map_bytes scen_bytes asked horizon out fault)
-
--- 0 where a plan for what the files stand for was printed, and else the status of a refusal that was told: the other output took that
--- one line, or failed within it
-abbrev pub RunsPlan : Option Store → (map scen : List ℕ) → Option ℕ → ℕ → Output → Output → ℕ → Type 0
-RunsPlan files map scen asked horizon out err status =
-    ((map_bytes scen_bytes : List ℕ) × AreRead files (map ∷ scen ∷ []) (map_bytes ∷ scen_bytes ∷ []) × PrintsPlan map_bytes scen_bytes asked horizon out × IsUnwritten err × (status ≡ 0))
-    ⊎ ((fault : Fault) × IsPlanRefusal files map scen asked horizon out fault × IsTold fault err × (status ≡ status_of fault))
+abbrev pub RefusesPlan : Option Store → PlanRequest → (out out' : SinkState) → Fault → Type 0
+RefusesPlan files r out out' fault =
+    (IsUnread files (r.map.now ∷ r.scen.now ∷ []) fault × IsUnwritten out out')
+    ⊎ ((map scen : List ℕ) × AreRead files (r.map.now ∷ r.scen.now ∷ []) (map ∷ scen ∷ []) × IsPlanCommandFault map scen r.agents r.horizon out out' fault)

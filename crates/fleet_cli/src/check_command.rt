@@ -1,72 +1,46 @@
 //! The command `check`.
 
-ghost use Rattle.std.specs.Prelude.{◌≡◌, ◌∷◌, [], false, List, ℕ, MatchResult, length, codes};
-ghost use Rattle.fleet_plan.specs.Plan.{steps};
-ghost use Rattle.fleet_run.specs.Sink.{TakesAll, Delivers};
-ghost use Rattle.fleet_io.specs.Files.{IsKept};
-ghost use Rattle.fleet_io.specs.Named.{AreRead};
-ghost use Rattle.fleet_io.specs.Words.{count_line};
-ghost use Rattle.fleet_cli.specs.CheckCommand.{free_line, check_text, PrintsCheck, IsCheckFault, IsCheckRefusal, RunsCheck};
+ghost use Rattle.std.specs.Prelude.{◌≡◌, MatchResult};
+ghost use Rattle.fleet_text.specs.Sink.{IsWorking, Delivers};
+ghost use Rattle.fleet_files.specs.Files.{IsKept};
+ghost use Rattle.fleet_cli.specs.CheckCommand.{check_text, PrintsCheck, IsCheckFault, DoesCheck, RefusesCheck};
 
+use crate::output::print_report;
 use crate::problem::read_problem;
-use fleet_io::{Fault, Files, Word, put_count, put_line, read_texts_and, refuse};
+use fleet_args::CheckRequest;
+use fleet_io::{Fault, Files, read_files};
 use fleet_plan::{Plan, check, read_plan};
-use fleet_run::{OutFault, TraceOut};
+use fleet_run::{Flush, OutFault};
 use std::alloc::Global;
 
-#[tactic(auto, unfolding(crate::specs::CheckCommand::free_line))]
-fn put_free<O: TraceOut>(out: &mut O) -> Result<(), OutFault>
-    requires { O.has_failed out.old ≡ false }
-    ensures { TakesAll (O.taken out.old) (O.taken out.new) (O.has_failed out.new) result free_line }
+/// Prints that the plan is free of conflict, with its numbers.
+fn print_check<O: Flush>(out: &mut O, plan: &Plan) -> Result<(), OutFault>
+    requires { IsWorking (O.state out.old) }
+    ensures { Delivers (O.state out.old) (O.state out.new) result (check_text plan.now) }
 {
-    put_line(out, &[Word::Text("conflict-free")])
-}
-
-fn put_agents<O: TraceOut>(out: &mut O, plan: &Plan) -> Result<(), OutFault>
-    requires { O.has_failed out.old ≡ false }
-    ensures { TakesAll (O.taken out.old) (O.taken out.new) (O.has_failed out.new) result (count_line (codes "agents") (length plan.now)) }
-{
-    put_count(out, "agents", plan.agents() as u64)
-}
-
-fn put_steps<O: TraceOut>(out: &mut O, plan: &Plan) -> Result<(), OutFault>
-    requires { O.has_failed out.old ≡ false }
-    ensures { TakesAll (O.taken out.old) (O.taken out.new) (O.has_failed out.new) result (count_line (codes "steps") (steps plan.now)) }
-{
-    put_count(out, "steps", plan.steps() as u64)
-}
-
-fn put_check<O: TraceOut>(out: &mut O, plan: &Plan) -> Result<(), OutFault>
-    requires { O.has_failed out.old ≡ false }
-    ensures { TakesAll (O.taken out.old) (O.taken out.new) (O.has_failed out.new) result (check_text plan.now) }
-{
-    put_free(out)?;
-    put_agents(out, plan)?;
-    put_steps(out, plan)
-}
-
-/// Prints that the plan is free of conflict, and has the sink hand it on.
-fn print_check<O: TraceOut>(out: &mut O, plan: &Plan) -> Result<(), OutFault>
-    requires { O.has_failed out.old ≡ false }
-    ensures { Delivers (O.taken out.old) (O.taken out.new) (O.has_failed out.new) (O.is_flushed out.new) result (check_text plan.now) }
-{
-    put_check(out, plan)?;
-    out.flush()
+    print_report(
+        out,
+        "conflict-free",
+        &[
+            ("agents", plan.agents() as u64),
+            ("steps", plan.steps() as u64),
+        ],
+    )
 }
 
 /// Judges the plan for which the texts stand, and prints that it is free of conflict.
-fn show_check<'a, O: TraceOut>(
+fn show_check<'a, O: Flush>(
     alloc: Global,
     map: &[u8],
     scen: &[u8],
     plan: &[u8],
     asked: Option<u16>,
     out: &mut O,
-) -> Result<(), Fault<'a>>
-    requires { O.has_failed out.old ≡ false }
+) -> Result<u8, Fault<'a>>
+    requires { IsWorking (O.state out.old) }
     ensures { MatchResult result
-        (λ _. PrintsCheck map.now scen.now plan.now asked (record { before = O.taken out.old; taken = O.taken out.new; has_failed = O.has_failed out.new; is_flushed = O.is_flushed out.new }))
-        (IsCheckFault map.now scen.now plan.now asked (record { before = O.taken out.old; taken = O.taken out.new; has_failed = O.has_failed out.new; is_flushed = O.is_flushed out.new })) }
+        (λ status. PrintsCheck map.now scen.now plan.now asked (O.state out.old) (O.state out.new) × (status ≡ 0))
+        (IsCheckFault map.now scen.now plan.now asked (O.state out.old) (O.state out.new)) }
 {
     let problem = read_problem(alloc, map, scen, asked)?;
     let plan = match read_plan(alloc, plan) {
@@ -78,56 +52,28 @@ fn show_check<'a, O: TraceOut>(
         Err(refusal) => return Err(Fault::Check(refusal.fault)),
     };
     match print_check(out, checked.plan()) {
-        Ok(()) => Ok(()),
+        Ok(()) => Ok(0),
         Err(OutFault) => Err(Fault::File("-")),
     }
 }
 
-/// Reads the files, and then judges the plan.
-fn check_files<'a, F: Files, O: TraceOut>(
+/// The command `check`: reads the files whole, and prints to `out` that the plan is free of conflict, with its agents and its steps.
+/// Answers 0. A plan's first fault is a refusal. No file is changed.
+pub(crate) fn do_check<'a, F: Files, O: Flush>(
     alloc: Global,
-    map: &'a str,
-    scen: &'a str,
-    plan: &'a str,
-    asked: Option<u16>,
+    request: &CheckRequest<'a>,
     files: &mut F,
     out: &mut O,
-) -> Result<(), Fault<'a>>
-    requires { O.has_failed out.old ≡ false }
+) -> Result<u8, Fault<'a>>
+    requires { IsWorking (O.state out.old) }
     ensures did { MatchResult result
-        (λ _. (map_bytes scen_bytes plan_bytes : List ℕ)
-        × AreRead (F.contents files.old) (map.entry.now ∷ scen.entry.now ∷ plan.entry.now ∷ []) (map_bytes ∷ scen_bytes ∷ plan_bytes ∷ [])
-        × PrintsCheck map_bytes scen_bytes plan_bytes asked (record { before = O.taken out.old; taken = O.taken out.new; has_failed = O.has_failed out.new; is_flushed = O.is_flushed out.new }))
-        (IsCheckRefusal (F.contents files.old) map.entry.now scen.entry.now plan.entry.now asked
-        (record { before = O.taken out.old; taken = O.taken out.new; has_failed = O.has_failed out.new; is_flushed = O.is_flushed out.new })) }
+        (DoesCheck (F.contents files.old) request.now (O.state out.old) (O.state out.new))
+        (RefusesCheck (F.contents files.old) request.now (O.state out.old) (O.state out.new)) }
     ensures kept { IsKept (F.contents files.old) (F.contents files.new) }
 {
-    let (texts, plan) = read_texts_and(alloc, files, map, scen, plan)?;
-    show_check(alloc, &texts.map, &texts.scen, &plan, asked, out)
-}
-
-/// The command `check MAP SCEN PLAN [--agents K]`: reads the files whole, and prints to `out` that the plan is free of conflict, with
-/// its agents and its steps. Answers 0; a refusal, as the plan's first fault, is told on `err` and its status answered. No file is changed.
-pub(crate) fn run_check<F: Files, O: TraceOut, E: TraceOut>(
-    alloc: Global,
-    map: &str,
-    scen: &str,
-    plan: &str,
-    asked: Option<u16>,
-    files: &mut F,
-    out: &mut O,
-    err: &mut E,
-) -> u8
-    requires out_working { O.has_failed out.old ≡ false }
-    requires err_working { E.has_failed err.old ≡ false }
-    ensures told { RunsCheck (F.contents files.old) map.now scen.now plan.now asked
-        (record { before = O.taken out.old; taken = O.taken out.new; has_failed = O.has_failed out.new; is_flushed = O.is_flushed out.new })
-        (record { before = E.taken err.old; taken = E.taken err.new; has_failed = E.has_failed err.new; is_flushed = E.is_flushed err.new })
-        result }
-    ensures kept { IsKept (F.contents files.old) (F.contents files.new) }
-{
-    match check_files(alloc, map, scen, plan, asked, files, out) {
-        Ok(()) => 0,
-        Err(fault) => refuse(&fault, err),
-    }
+    let read = read_files(alloc, files, &[request.map, request.scen, request.plan])?;
+    let [map, scen, plan] = read.as_slice() else {
+        unreachable!()
+    };
+    show_check(alloc, map, scen, plan, request.agents, out)
 }

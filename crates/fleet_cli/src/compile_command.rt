@@ -1,17 +1,20 @@
 //! The command `compile`.
 
-ghost use Rattle.std.specs.Prelude.{◌≡◌, false, IfOk, IfErr};
-ghost use Rattle.fleet_run.specs.Sink.{TakesAll, Delivers};
-ghost use Rattle.fleet_io.specs.Files.{IsKept};
-ghost use Rattle.fleet_cli.specs.CompileCommand.{CompilesTexts, IsCompileFault, compiled_lines, compiled_text, CompilesFiles, IsCompileRefusal, PrintsCompiled, RunsCompile};
+ghost use Rattle.std.specs.Prelude.{◌≡◌, IfOk, IfErr, MatchResult};
+ghost use Rattle.fleet_text.specs.Sink.{IsWorking};
+ghost use Rattle.fleet_files.specs.Files.{IsKept};
+ghost use Rattle.fleet_cli.specs.Output.{WritesOut, IsOutRefusal};
+ghost use Rattle.fleet_cli.specs.CompileCommand.{CompilesTexts, IsCompileFault, compiled_text, CompilesFiles, IsCompileRefusal, DoesCompile, RefusesCompile};
 
+use crate::output::write_out;
 use crate::problem::read_problem;
 use fleet_adg::{Deps, compile};
+use fleet_args::CompileRequest;
 use fleet_code::{EncodeFault, encode};
-use fleet_io::{Fault, Files, put_count, read_texts_and, refuse, write_file};
+use fleet_io::{Fault, Files, read_files};
 use fleet_model::{Program, ProgramView, total_awaits, total_moves};
 use fleet_plan::{check, read_plan};
-use fleet_run::{OutFault, TraceOut};
+use fleet_run::Flush;
 use std::alloc::Global;
 
 /// A program, and the bytes that spell it.
@@ -58,104 +61,62 @@ fn compile_texts<'a>(
 /// Reads the files, and then compiles.
 fn compile_files<'a, F: Files>(
     alloc: Global,
-    map: &'a str,
-    scen: &'a str,
-    plan: &'a str,
-    asked: Option<u16>,
-    deps: Deps,
+    request: &CompileRequest<'a>,
     files: &mut F,
 ) -> Result<Compiled, Fault<'a>>
-    ensures compiled { IfOk result (λ c. CompilesFiles (F.contents files.old) map.entry.now scen.entry.now plan.entry.now asked deps c.program c.bytes.items) }
-    ensures fault { IfErr result (IsCompileRefusal (F.contents files.old) map.entry.now scen.entry.now plan.entry.now asked deps) }
+    ensures compiled { IfOk result (λ c. CompilesFiles (F.contents files.old) request.now c.program c.bytes.items) }
+    ensures fault { IfErr result (IsCompileRefusal (F.contents files.old) request.now) }
     ensures kept { IsKept (F.contents files.old) (F.contents files.new) }
 {
-    let (texts, plan) = read_texts_and(alloc, files, map, scen, plan)?;
-    compile_texts(alloc, &texts.map, &texts.scen, &plan, asked, deps)
+    let read = read_files(alloc, files, &[request.map, request.scen, request.plan])?;
+    let [map, scen, plan] = read.as_slice() else {
+        unreachable!()
+    };
+    compile_texts(alloc, map, scen, plan, request.agents, request.deps)
 }
 
-fn put_compiled_lines<O: TraceOut>(
-    out: &mut O,
-    agents: u16,
-    moves: u32,
-    awaits: u32,
-    bytes: u64,
-) -> Result<(), OutFault>
-    requires { O.has_failed out.old ≡ false }
-    ensures { TakesAll (O.taken out.old) (O.taken out.new) (O.has_failed out.new) result (compiled_lines agents moves awaits bytes) }
-{
-    put_count(out, "agents", agents as u64)?;
-    put_count(out, "moves", moves as u64)?;
-    put_count(out, "awaits", awaits as u64)?;
-    put_count(out, "bytes", bytes)
-}
-
-fn put_compiled<O: TraceOut>(out: &mut O, program: &Program, bytes: &[u8]) -> Result<(), OutFault>
-    requires { O.has_failed out.old ≡ false }
-    ensures { TakesAll (O.taken out.old) (O.taken out.new) (O.has_failed out.new) result (compiled_text program.now bytes.now) }
-{
-    let agents = program.agents();
-    let moves = total_moves(program);
-    let awaits = total_awaits(program);
-    put_compiled_lines(out, agents, moves, awaits, bytes.len() as u64)
-}
-
-/// Prints the numbers of the program, and has the sink hand them on.
-fn print_compiled<O: TraceOut>(out: &mut O, program: &Program, bytes: &[u8]) -> Result<(), OutFault>
-    requires { O.has_failed out.old ≡ false }
-    ensures { Delivers (O.taken out.old) (O.taken out.new) (O.has_failed out.new) (O.is_flushed out.new) result (compiled_text program.now bytes.now) }
-{
-    put_compiled(out, program, bytes)?;
-    out.flush()
-}
-
-/// Prints the numbers of the program, and answers the status.
-fn tell_compiled<O: TraceOut, E: TraceOut>(
+/// Writes the bytes of the program to the file OUT, and prints its numbers.
+fn write_compiled<'a, F: Files, O: Flush>(
+    files: &mut F,
+    name: &'a str,
     program: &Program,
     bytes: &[u8],
     out: &mut O,
-    err: &mut E,
-) -> u8
-    requires out_working { O.has_failed out.old ≡ false }
-    requires err_working { E.has_failed err.old ≡ false }
-    ensures { PrintsCompiled program.now bytes.now
-        (record { before = O.taken out.old; taken = O.taken out.new; has_failed = O.has_failed out.new; is_flushed = O.is_flushed out.new })
-        (record { before = E.taken err.old; taken = E.taken err.new; has_failed = E.has_failed err.new; is_flushed = E.is_flushed err.new })
-        result }
+) -> Result<u8, Fault<'a>>
+    requires { IsWorking (O.state out.old) }
+    ensures { MatchResult result
+        (λ status. WritesOut (F.contents files.old) (F.contents files.new) name.entry.now bytes.now
+        (O.state out.old) (O.state out.new) (compiled_text program.now bytes.now) × (status ≡ 0))
+        (IsOutRefusal (F.contents files.old) (F.contents files.new) name.entry.now bytes.now
+        (O.state out.old) (O.state out.new) (compiled_text program.now bytes.now)) }
 {
-    match print_compiled(out, program, bytes) {
-        Ok(()) => 0,
-        Err(OutFault) => refuse(&Fault::File("-"), err),
-    }
+    write_out(
+        files,
+        name,
+        bytes,
+        out,
+        &[
+            ("agents", program.agents() as u64),
+            ("moves", total_moves(program) as u64),
+            ("awaits", total_awaits(program) as u64),
+            ("bytes", bytes.len() as u64),
+        ],
+    )
 }
 
-/// The command `compile MAP SCEN PLAN OUT [--agents K] [--deps all|last]`: reads the files whole, writes the bytes of the program of the
-/// plan to the file OUT once all before it succeeded, and prints its numbers to `out`. Answers 0; a refusal is told on `err` and its status
-/// answered.
-pub(crate) fn run_compile<F: Files, O: TraceOut, E: TraceOut>(
+/// The command `compile`: reads the files whole, writes the bytes of the program of the plan to the file OUT once all before it
+/// succeeded, and prints its numbers to `out`. Answers 0.
+pub(crate) fn do_compile<'a, F: Files, O: Flush>(
     alloc: Global,
-    map: &str,
-    scen: &str,
-    plan: &str,
-    name: &str,
-    asked: Option<u16>,
-    deps: Deps,
+    request: &CompileRequest<'a>,
     files: &mut F,
     out: &mut O,
-    err: &mut E,
-) -> u8
-    requires out_working { O.has_failed out.old ≡ false }
-    requires err_working { E.has_failed err.old ≡ false }
-    ensures { RunsCompile (F.contents files.old) (F.contents files.new) map.now scen.now plan.now name.now asked deps
-        (record { before = O.taken out.old; taken = O.taken out.new; has_failed = O.has_failed out.new; is_flushed = O.is_flushed out.new })
-        (record { before = E.taken err.old; taken = E.taken err.new; has_failed = E.has_failed err.new; is_flushed = E.is_flushed err.new })
-        result }
+) -> Result<u8, Fault<'a>>
+    requires { IsWorking (O.state out.old) }
+    ensures { MatchResult result
+        (DoesCompile (F.contents files.old) (F.contents files.new) request.now (O.state out.old) (O.state out.new))
+        (RefusesCompile (F.contents files.old) (F.contents files.new) request.now (O.state out.old) (O.state out.new)) }
 {
-    let compiled = match compile_files(alloc, map, scen, plan, asked, deps, files) {
-        Ok(compiled) => compiled,
-        Err(fault) => return refuse(&fault, err),
-    };
-    match write_file(files, name, &compiled.bytes) {
-        Ok(()) => tell_compiled(&compiled.program, &compiled.bytes, out, err),
-        Err(fault) => refuse(&fault, err),
-    }
+    let compiled = compile_files(alloc, request, files)?;
+    write_compiled(files, request.out, &compiled.program, &compiled.bytes, out)
 }

@@ -1,24 +1,26 @@
 //! The run of the program without words.
 
-ghost use Rattle.std.specs.Prelude.{◌≡◌, false, MatchResult};
-ghost use Rattle.fleet_cli.specs.HexRun.{IsRefusalOf, RehearsesInput, RunsHex};
+ghost use Rattle.std.specs.Prelude.{MatchResult};
+ghost use Rattle.fleet_text.specs.Sink.{IsWorking};
+ghost use Rattle.fleet_cli.specs.HexRun.{DoesHex, IsRefusalOf, RunsHex};
 
+use crate::rehearse_command::end_status;
 use fleet_code::{load, read_hex};
-use fleet_io::{Fault, FileFault, read_whole, refuse, rehearse_flushed};
-use fleet_run::{End, HoldList, TraceOut};
+use fleet_io::{Fault, FileFault, finish, read_whole, rehearse_flushed};
+use fleet_run::{Flush, HoldList, TraceOut};
 use std::alloc::Global;
 use std::io::Read;
 
 /// Rehearses, with nobody held, the program that the input stands for in hexadecimal.
-fn rehearse_hex<R: Read, O: TraceOut>(
+fn rehearse_hex<R: Read, O: Flush>(
     alloc: Global,
     input: &mut R,
     out: &mut O,
-) -> Result<End, Fault<'static>>
-    requires { O.has_failed out.old ≡ false }
+) -> Result<u8, Fault<'static>>
+    requires { IsWorking (O.state out.old) }
     ensures { MatchResult result
-        (RehearsesInput (R.remaining input.old) (record { before = O.taken out.old; taken = O.taken out.new; has_failed = O.has_failed out.new; is_flushed = O.is_flushed out.new }))
-        (IsRefusalOf (R.remaining input.old) (record { before = O.taken out.old; taken = O.taken out.new; has_failed = O.has_failed out.new; is_flushed = O.is_flushed out.new })) }
+        (DoesHex (R.remaining input.old) (O.state out.old) (O.state out.new))
+        (IsRefusalOf (R.remaining input.old) (O.state out.old) (O.state out.new)) }
 {
     let text = match read_whole(alloc, input) {
         Ok(text) => text,
@@ -35,7 +37,7 @@ fn rehearse_hex<R: Read, O: TraceOut>(
     };
     let mut nobody = HoldList::new(Vec::new(alloc));
     match rehearse_flushed(alloc, &program, &mut nobody, out) {
-        Ok(rehearsal) => Ok(rehearsal.end),
+        Ok(rehearsal) => Ok(end_status(rehearsal.end)),
         Err(fault) => Err(Fault::Run(fault)),
     }
 }
@@ -43,22 +45,18 @@ fn rehearse_hex<R: Read, O: TraceOut>(
 /// Reads program bytes in hexadecimal from `input`, at most 268,435,456 bytes of text, and writes the rehearsal of the program,
 /// with nobody held, to `out`. Answers 0 where the rehearsal ends finished and 1 where it ends stuck; a refusal is told on `err`
 /// and its status answered: 1, or 3 where memory, the input or `out` failed.
-pub fn run_hex<R: Read, O: TraceOut, E: TraceOut>(
+pub fn run_hex<R: Read, O: Flush, E: TraceOut>(
     alloc: Global,
     input: &mut R,
     out: &mut O,
     err: &mut E,
 ) -> u8
-    requires out_working { O.has_failed out.old ≡ false }
-    requires err_working { E.has_failed err.old ≡ false }
+    requires out_working { IsWorking (O.state out.old) }
+    requires err_working { IsWorking (E.state err.old) }
     ensures { RunsHex (R.remaining input.old)
-        (record { before = O.taken out.old; taken = O.taken out.new; has_failed = O.has_failed out.new; is_flushed = O.is_flushed out.new })
-        (record { before = E.taken err.old; taken = E.taken err.new; has_failed = E.has_failed err.new; is_flushed = E.is_flushed err.new })
+        (O.state out.old) (O.state out.new)
+        (E.state err.old) (E.state err.new)
         result }
 {
-    match rehearse_hex(alloc, input, out) {
-        Ok(End::Finished) => 0,
-        Ok(End::Stuck) => 1,
-        Err(fault) => refuse(&fault, err),
-    }
+    finish(rehearse_hex(alloc, input, out), err)
 }

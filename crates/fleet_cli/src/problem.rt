@@ -2,15 +2,15 @@
 
 ghost use Rattle.std.specs.Prelude.{IfOk, IfErr};
 ghost use Rattle.fleet_auto.specs.Texts.{AreTextsOf};
-ghost use Rattle.fleet_cli.specs.Problem.{IsProblemFault, Accepts, IsAcceptFault};
+ghost use Rattle.fleet_auto.specs.Accepting.{Accepts};
+ghost use Rattle.fleet_cli.specs.Problem.{IsProblemRefusal, IsAcceptRefusal};
 
 use fleet_auto::Problem;
-use fleet_code::load;
 use fleet_grid::Grid;
 use fleet_io::Fault;
 use fleet_model::Program;
 use fleet_scen::Instance;
-use fleet_verify::{Accepted, verify};
+use fleet_verify::Accepted;
 use std::alloc::Global;
 
 /// The map and the instance for which the texts stand.
@@ -21,7 +21,7 @@ pub fn read_problem<'a>(
     asked: Option<u16>,
 ) -> Result<Problem, Fault<'a>>
     ensures read { IfOk result (λ p. AreTextsOf map.now scen.now asked p.grid p.instance) }
-    ensures fault { IfErr result (IsProblemFault map.now scen.now asked) }
+    ensures fault { IfErr result (IsProblemRefusal map.now scen.now asked) }
 {
     Ok(fleet_auto::read_problem(alloc, map, scen, asked)?)
 }
@@ -34,14 +34,7 @@ pub fn accept<'g, 'a>(
     instance: &'g Instance,
 ) -> Result<Accepted<'g, Program>, Fault<'a>>
     ensures accepted { IfOk result (λ a. Accepts bytes.now grid.now instance.now a.program a.chain) }
-    ensures fault { IfErr result (IsAcceptFault bytes.now grid.now instance.now) }
+    ensures fault { IfErr result (IsAcceptRefusal bytes.now grid.now instance.now) }
 {
-    let program = match load(alloc, bytes) {
-        Ok(program) => program,
-        Err(fault) => return Err(Fault::Load(fault)),
-    };
-    match verify(alloc, program, grid, instance) {
-        Ok(accepted) => Ok(accepted),
-        Err(refused) => Err(Fault::Verify(refused.fault)),
-    }
+    Ok(fleet_auto::accept(alloc, bytes, grid, instance)?)
 }

@@ -1,26 +1,40 @@
 //! The command `rehearse`.
 
-ghost use Rattle.std.specs.Prelude.{◌≡◌, false, MatchResult, option_map};
-ghost use Rattle.fleet_io.specs.Files.{IsKept};
-ghost use Rattle.fleet_cli.specs.RehearseCommand.{RehearsesBytes, IsRehearseFault, IsRehearseRefusal, RehearsesFiles, RunsRehearse};
+ghost use Rattle.std.specs.Prelude.{◌≡◌, MatchResult};
+ghost use Rattle.fleet_run.specs.declared.run.End.{End};
+ghost use Rattle.fleet_io.specs.Output.{end_status};
+ghost use Rattle.fleet_text.specs.Sink.{IsWorking};
+ghost use Rattle.fleet_files.specs.Files.{IsKept};
+ghost use Rattle.fleet_cli.specs.RehearseCommand.{RehearsesBytes, IsRehearseFault, DoesRehearse, RefusesRehearse};
 
+use fleet_args::RehearseRequest;
 use fleet_code::load;
-use fleet_io::{Fault, Files, read_file, read_holds, refuse, rehearse_flushed};
+use fleet_io::{Fault, Files, read_with_holds, rehearse_flushed};
 use fleet_model::ProgramView;
-use fleet_run::{End, HoldText, TraceOut};
+use fleet_run::{End, Flush, HoldText};
 use std::alloc::Global;
 
+/// How a rehearsal ended, as a status.
+pub(crate) fn end_status(end: End) -> u8
+    ensures { result ≡ end_status end }
+{
+    match end {
+        End::Finished => 0,
+        End::Stuck => 1,
+    }
+}
+
 /// Rehearses the program that the bytes spell, under the holds for which the others stand.
-fn rehearse_bytes<'a, O: TraceOut>(
+fn rehearse_bytes<'a, O: Flush>(
     alloc: Global,
     bytes: &[u8],
     held: &[u8],
     out: &mut O,
-) -> Result<End, Fault<'a>>
-    requires { O.has_failed out.old ≡ false }
+) -> Result<u8, Fault<'a>>
+    requires { IsWorking (O.state out.old) }
     ensures { MatchResult result
-        (RehearsesBytes bytes.now held.now (record { before = O.taken out.old; taken = O.taken out.new; has_failed = O.has_failed out.new; is_flushed = O.is_flushed out.new }))
-        (IsRehearseFault bytes.now held.now (record { before = O.taken out.old; taken = O.taken out.new; has_failed = O.has_failed out.new; is_flushed = O.is_flushed out.new })) }
+        (λ status. (end : End) × RehearsesBytes bytes.now held.now (O.state out.old) (O.state out.new) end × (status ≡ end_status end))
+        (IsRehearseFault bytes.now held.now (O.state out.old) (O.state out.new)) }
 {
     let program = match load(alloc, bytes) {
         Ok(program) => program,
@@ -28,54 +42,28 @@ fn rehearse_bytes<'a, O: TraceOut>(
     };
     let mut source = HoldText::new(held, program.agents());
     match rehearse_flushed(alloc, &program, &mut source, out) {
-        Ok(rehearsal) => Ok(rehearsal.end),
+        Ok(rehearsal) => Ok(end_status(rehearsal.end)),
         Err(fault) => Err(Fault::Run(fault)),
     }
 }
 
-/// Reads the files, and then rehearses.
-fn rehearse_files<'a, F: Files, O: TraceOut>(
+/// The command `rehearse`: reads both files whole, that of the holds last, and writes the rehearsal of the program, under the holds, to
+/// `out`. Answers 0 where it ends finished and 1 where it ends stuck. No file is changed.
+pub(crate) fn do_rehearse<'a, F: Files, O: Flush>(
     alloc: Global,
-    program: &'a str,
-    holds: Option<&'a str>,
+    request: &RehearseRequest<'a>,
     files: &mut F,
     out: &mut O,
-) -> Result<End, Fault<'a>>
-    requires { O.has_failed out.old ≡ false }
+) -> Result<u8, Fault<'a>>
+    requires { IsWorking (O.state out.old) }
     ensures did { MatchResult result
-        (RehearsesFiles (F.contents files.old) program.entry.now (option_map (λ n. n.now) holds.entry)
-        (record { before = O.taken out.old; taken = O.taken out.new; has_failed = O.has_failed out.new; is_flushed = O.is_flushed out.new }))
-        (IsRehearseRefusal (F.contents files.old) program.entry.now (option_map (λ n. n.now) holds.entry)
-        (record { before = O.taken out.old; taken = O.taken out.new; has_failed = O.has_failed out.new; is_flushed = O.is_flushed out.new })) }
+        (DoesRehearse (F.contents files.old) request.now (O.state out.old) (O.state out.new))
+        (RefusesRehearse (F.contents files.old) request.now (O.state out.old) (O.state out.new)) }
     ensures kept { IsKept (F.contents files.old) (F.contents files.new) }
 {
-    let bytes = read_file(alloc, files, program)?;
-    let held = read_holds(alloc, files, holds)?;
-    rehearse_bytes(alloc, &bytes, &held, out)
-}
-
-/// The command `rehearse PROGRAM [--holds FILE]`: reads both files whole, and writes the rehearsal of the program, under the holds,
-/// to `out`. Answers 0 where it ends finished and 1 where it ends stuck; a refusal is told on `err` and its status answered. No
-/// file is changed.
-pub(crate) fn run_rehearse<F: Files, O: TraceOut, E: TraceOut>(
-    alloc: Global,
-    program: &str,
-    holds: Option<&str>,
-    files: &mut F,
-    out: &mut O,
-    err: &mut E,
-) -> u8
-    requires out_working { O.has_failed out.old ≡ false }
-    requires err_working { E.has_failed err.old ≡ false }
-    ensures told { RunsRehearse (F.contents files.old) program.now (option_map (λ n. n.now) holds.entry)
-        (record { before = O.taken out.old; taken = O.taken out.new; has_failed = O.has_failed out.new; is_flushed = O.is_flushed out.new })
-        (record { before = E.taken err.old; taken = E.taken err.new; has_failed = E.has_failed err.new; is_flushed = E.is_flushed err.new })
-        result }
-    ensures kept { IsKept (F.contents files.old) (F.contents files.new) }
-{
-    match rehearse_files(alloc, program, holds, files, out) {
-        Ok(End::Finished) => 0,
-        Ok(End::Stuck) => 1,
-        Err(fault) => refuse(&fault, err),
-    }
+    let (read, held) = read_with_holds(alloc, files, &[request.program], request.holds)?;
+    let [program] = read.as_slice() else {
+        unreachable!()
+    };
+    rehearse_bytes(alloc, program, &held, out)
 }

@@ -18,10 +18,12 @@ use Rattle.fleet_model.specs.declared.program.AgentProgram.{AgentProgram}
 use Rattle.fleet_model.specs.Geometry.{is_move}
 use Rattle.fleet_model.specs.Program.{Program, AreMoves, NeverStays, AreAwaits, IsAgent, total_moves}
 use Rattle.fleet_model.proofs.OnePass.{AwaitsFrom, awaits_are}
+use Rattle.fleet_text.specs.Steps.{◌>>=◌, ◌>>◌, fault_if}
+use Rattle.fleet_text.proofs.StepLaws.{bind_err, test_err, err_is}
 use Rattle.fleet_code.specs.declared.fault.LoadFault.{LoadFault}
 use Rattle.fleet_code.specs.declared.fault.LoadFault.TheVariants.{Magic, Truncated, AgentCount, Total, Opcode, AwaitAgent, AwaitOrder, AwaitCount, Trailing}
 use Rattle.fleet_code.specs.Spelling.{magic, number, cell, opcode, await, action, agent}
-use Rattle.fleet_code.specs.Reading.{◌>>=◌, ◌>>◌, fault_if, Field, magic_at, number_at, cell_at, await_at, move_at, move_or, action_at, actions_at, agent_at, agents_at, program_at}
+use Rattle.fleet_code.specs.Reading.{Field, magic_at, number_at, cell_at, await_at, move_at, move_or, action_at, actions_at, agent_at, agents_at, program_at}
 use Rattle.fleet_code.specs.LoadFaults.{HasNumber, HasHead, IsOffset, ReachesAgent, ReachesAction, ReachesOpcode, ReachesAwait, ReachesOrder, ReachesCount, IsWithoutMagic, EndsWithin, IsFirstLoadFault}
 use Rattle.fleet_code.proofs.Parts.{IsBytes, Takes, number_takes, cell_takes, await_takes}
 use Rattle.fleet_code.proofs.RoundTrip.{joined, move_again, action_takes, agent_takes, agents_take, after_count, after_start, after_agents, after_agent_count}
@@ -29,20 +31,6 @@ use Rattle.fleet_code.proofs.Awaited.{least_after, after_more, from_more, all_be
 use Rattle.fleet_code.proofs.Reached.{each_from, to_first, total_from, total_more, parts_more, agent_reached, opcode_left, agent_left}
 
 -- ---- steps that fail
-
-abbrev fails : {A : Type 0} → LoadFault → Result A LoadFault
-fails f = Err f
-
-pub err_is : {A : Type 0} (e f : LoadFault) → fails {A = A} e ≡ fails f → e ≡ f
-err_is e f h = cc
-
-pub bind_err : {A B : Type 0} (r : Result A LoadFault) (g : A → Result B LoadFault) (f : LoadFault) → (r >>= g) ≡ Err f → (r ≡ Err f) ⊎ ((x : A) × (r ≡ Ok x) × (g x ≡ Err f))
-bind_err (Ok x) g f e = inr (x, refl, e)
-bind_err (Err d) g f e = inl cc
-
-test_err : {B : Type 0} (b : Bool) (d : LoadFault) (r : Result B LoadFault) (f : LoadFault) → (fault_if b d >> r) ≡ Err f → ((b ≡ true) × (d ≡ f)) ⊎ ((b ≡ false) × (r ≡ Err f))
-test_err true d r f e = inl (refl, cc)
-test_err false d r f e = inr (refl, e)
 
 no_fault : {A : Type 0} (x : A) (f : LoadFault) → Ok x ≡ Err f → ⊥
 no_fault x f e = cc
@@ -239,7 +227,7 @@ agent_fails bytes n p rest f r within fits e =
                       let third = number_takes goal.0.1 count after second.0.rest_fits counted.1 in
                       let parts : rest ≡ cell c ++ cell d ++ number count ++ after =
                       first.0.parts ∙ ap (λ (t : List ℕ). cell c ++ t) (second.0.parts ∙ ap (λ (t : List ℕ). cell d ++ t) third.0.parts) ∙ (simp append_assoc) in
-                      let head : HasHead rest count after = record { start = c; goal = d; start_fits = first.1; goal_fits = second.1; moves_fit = third.1; parts = parts } in
+                      let head : HasHead rest count after = record { start = c; goal = d; start_fits = first.1; goal_fits = second.1; moves_fit = (let fits = third.1 in omega (arith, fits)); parts = parts } in
                       let made : List Action × List ℕ → Field AgentProgram = λ actions. Ok (record { start = c; goal = d; actions = actions.0 }, actions.1) in
                       elim (test_err (ltb 4194304 (total + count)) Total (actions_at count whole n i after >>= made) f counted.2) [
                         | inl many ↦ subst (IsFirstLoadFault bytes) many.1 (n, p, rest, count, after, r, within, head, ltb-true 4194304 (total + count) many.0)

@@ -15,16 +15,18 @@ use Rattle.fleet_model.specs.declared.program.AgentProgram.{AgentProgram}
 use Rattle.fleet_model.specs.Geometry.{is_move}
 use Rattle.fleet_model.specs.Program.{Program, AreMoves, NeverStays, AreAwaits, total_moves}
 use Rattle.fleet_model.proofs.OnePass.{AwaitsFrom, AgentsFrom, awaits_from, any_begins}
+use Rattle.fleet_text.specs.Steps.{◌>>=◌, ◌>>◌, fault_if}
+use Rattle.fleet_text.proofs.StepLaws.{err_is}
 use Rattle.fleet_code.specs.declared.fault.LoadFault.{LoadFault}
 use Rattle.fleet_code.specs.declared.fault.LoadFault.TheVariants.{OutOfMemory, Magic, Truncated, AgentCount, Total, Opcode, AwaitAgent, AwaitOrder, AwaitCount, Trailing}
 use Rattle.fleet_code.specs.Spelling.{magic, number, cell, opcode, await, action, agent, Spells}
-use Rattle.fleet_code.specs.Reading.{◌>>=◌, ◌>>◌, fault_if, Field, magic_at, number_at, cell_at, await_at, move_at, action_at, actions_at, agent_at, agents_at, program_at}
+use Rattle.fleet_code.specs.Reading.{Field, magic_at, number_at, cell_at, await_at, move_at, action_at, actions_at, agent_at, agents_at, program_at}
 use Rattle.fleet_code.specs.LoadFaults.{HasHead, IsOffset, ReachesAgent, ReachesAction, ReachesOpcode, ReachesAwait, ReachesOrder, ReachesCount, EndsWithin, IsFirstLoadFault}
 use Rattle.fleet_code.proofs.Parts.{IsBytes-from_All, number_again, cell_again, await_again}
 use Rattle.fleet_code.proofs.RoundTrip.{joined, action_again, agent_again, agents_again, regroup_three, after_count, after_start, after_agents, after_agent_count, program_again, program_takes}
 use Rattle.fleet_code.proofs.Awaited.{least_after, from_below, below_some}
 use Rattle.fleet_code.proofs.Reached.{from_first, from_each}
-use Rattle.fleet_code.proofs.FirstFaults.{err_is, magic_read, magic_ends, magic_differs, is_first}
+use Rattle.fleet_code.proofs.FirstFaults.{magic_read, magic_ends, magic_differs, is_first}
 
 -- a step that fails fails what it begins
 fails_with : {A B : Type 0} (r : Result A LoadFault) (g : A → Result B LoadFault) (f : LoadFault) → r ≡ Err f → (r >>= g) ≡ Err f
@@ -137,7 +139,7 @@ head_read whole n i total bytes count rest f h fails =
     ap (agent_at whole n i total) regrouped
     ∙ goes_on (cell_at (cell c ++ (cell d ++ numbered))) (after_start whole n i total) (c, cell d ++ numbered) (cell_again c (cell d ++ numbered) h.start_fits)
     ∙ goes_on (cell_at (cell d ++ numbered)) (λ goal. number_at goal.1 >>= after_count whole n i total c goal.0) (d, numbered) (cell_again d numbered h.goal_fits)
-    ∙ goes_on (number_at numbered) (after_count whole n i total c d) (count, rest) (number_again count rest h.moves_fit)
+    ∙ goes_on (number_at numbered) (after_count whole n i total c d) (count, rest) (number_again count rest (let fits = h.moves_fit in omega (arith, fits)))
     ∙ fails
 
 told_action : (bytes : List ℕ) (n i : ℕ) (rest : List ℕ) (f : LoadFault) → ReachesAction bytes n i rest → action_at (length rest) (length bytes) n i 0 rest ≡ Err f → program_at bytes ≡ Err f

@@ -1,6 +1,7 @@
 -- Which fault is the first of bytes that spell no program: what stands before it is right, up to the field that is not.
 use Rattle.std.specs.Prelude.{◌≡◌, ◌≢◌, ℕ, ◌+◌, ◌<◌, ◌≤◌, List, [], ◌∷◌, ◌++◌, length, get_or, slice_get, Some, All, ◌⊎◌}
 use Rattle.std.specs.List.{Any, flat_map}
+use Rattle.fleet_model.specs.declared.limits.TheConstants.{MAX_AGENTS, MAX_MOVES_IN_ALL, MAX_MOVES_V1}
 use Rattle.fleet_model.specs.declared.geometry.Cell.{Cell}
 use Rattle.fleet_model.specs.declared.geometry.Dir.{Dir}
 use Rattle.fleet_model.specs.declared.geometry.Step.TheVariants.{Go}
@@ -25,7 +26,7 @@ pub record HasHead (bytes : List ℕ) (moves : ℕ) (rest : List ℕ) : Type 0 w
   pub goal : Cell
   pub start_fits : IsCell start
   pub goal_fits : IsCell goal
-  pub moves_fit : moves < 65536
+  pub moves_fit : moves ≤ MAX_MOVES_V1
   pub parts : bytes ≡ cell start ++ cell goal ++ number moves ++ rest
 
 -- the rest ends the bytes, of which so many stand before it
@@ -37,10 +38,10 @@ IsOffset bytes rest at = at + length rest ≡ length bytes
 -- the magic, the number n of agents, and then these agents of them
 pub record ReachesAgent (bytes : List ℕ) (n : ℕ) (p : Program) (rest : List ℕ) : Type 0 where
   pub some : 1 ≤ n
-  pub few : n ≤ 1024
+  pub few : n ≤ MAX_AGENTS
   pub agents : (i : ℕ) (a : AgentProgram) → slice_get p i ≡ Some a → IsAgent n i a
   pub moves : NeverStays p
-  pub total : total_moves p ≤ 4194304
+  pub total : total_moves p ≤ MAX_MOVES_IN_ALL
   pub parts : bytes ≡ magic ++ number n ++ flat_map agent p ++ rest
 
 -- .. and then the head of agent i and some of its actions, but not all
@@ -53,7 +54,7 @@ pub record ReachesAction (bytes : List ℕ) (n i : ℕ) (rest : List ℕ) : Type
   pub count : ℕ
   pub at_actions : List ℕ
   pub head : HasHead at_agent count at_actions
-  pub total : total_moves before + count ≤ 4194304
+  pub total : total_moves before + count ≤ MAX_MOVES_IN_ALL
   pub actions : List Action
   pub more : length actions < count
   pub awaits : All (λ s. AreAwaits n i s.awaits) actions
@@ -111,10 +112,10 @@ abbrev pub IsFirstLoadFault : List ℕ → LoadFault → Type 0
 IsFirstLoadFault bytes OutOfMemory = ⊥
 IsFirstLoadFault bytes Magic = IsWithoutMagic bytes
 IsFirstLoadFault bytes Truncated = EndsWithin bytes
-IsFirstLoadFault bytes AgentCount = (n : ℕ) × (at_number rest : List ℕ) × (bytes ≡ magic ++ at_number) × HasNumber at_number n rest × ((n ≡ 0) ⊎ (1024 < n))
+IsFirstLoadFault bytes AgentCount = (n : ℕ) × (at_number rest : List ℕ) × (bytes ≡ magic ++ at_number) × HasNumber at_number n rest × ((n ≡ 0) ⊎ (MAX_AGENTS < n))
 IsFirstLoadFault bytes Total =
     (n : ℕ) × (p : Program) × (at_agent : List ℕ) × (count : ℕ) × (rest : List ℕ) × ReachesAgent bytes n p at_agent × (length p < n)
-    × HasHead at_agent count rest × (4194304 < total_moves p + count)
+    × HasHead at_agent count rest × (MAX_MOVES_IN_ALL < total_moves p + count)
 IsFirstLoadFault bytes (Opcode at) =
     (n i : ℕ) × (awaits : List Await) × (b : ℕ) × (rest : List ℕ) × ReachesOpcode bytes n i awaits (b ∷ rest) × IsOffset bytes (b ∷ rest) at
     × (b ≢ 16) × ((d : Dir) → b ≢ opcode (Go d))

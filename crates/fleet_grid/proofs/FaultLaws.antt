@@ -7,12 +7,12 @@ use Rattle.std.proofs.lemmas.List.{drop-drop, length-drop, get_or-drop}
 use Rattle.fleet_model.specs.Answer.{IsDueUnless}
 use Rattle.fleet_grid.specs.declared.fault.MapFault.{MapFault}
 use Rattle.fleet_grid.specs.declared.fault.MapFault.TheVariants.{OutOfMemory, Header, Size, RowCount, RowLength, Glyph, Trailing}
-use Rattle.fleet_grid.specs.Text.{Bytes, words_from_front}
+use Rattle.fleet_text.specs.Text.{Bytes, words_from_front}
 use Rattle.fleet_grid.specs.Ground.{Ground, IsSide}
 use Rattle.fleet_grid.specs.MapText.{line_at, is_no_glyph, cells_of, is_space, IsKindLine, IsNumberLine, IsMapLine, IsHeader, IsSizedHeader, AreRows, AreMapLines, HasForm, IsFirstWithoutForm, IsRightUpTo, IsFirstFault}
-use Rattle.fleet_grid.specs.Steps.{none_or, ◌>>=◌, ◌>>◌, some_or}
+use Rattle.fleet_text.specs.Steps.{none_or, ◌>>=◌, ◌>>◌, some_or}
 use Rattle.fleet_grid.specs.MapReading.{is_alone, field, number_field, is_side, header_at, row_at, rows_at, map_at}
-use Rattle.fleet_grid.proofs.StepLaws.{bind_err, right_err, some_err, some_ok, err_is, result_cases, ok_err}
+use Rattle.fleet_text.proofs.StepLaws.{bind_err, right_err, some_err, some_ok, err_is, result_cases, ok_err}
 use Rattle.fleet_grid.proofs.MapLaws.{kind_is, kind_again, number_is, number_again, map_line_is, map_line_again, sides_are, sides_again, four_lines, sized, after_width, after_height, after_kind, header_is, header_read, header_again, row_again, StartWithRows, rows_to, rows_from, rows_again, row_is, rows_are, empty_are, empty_again, after_rows_read, after_header, is_found, is_read}
 
 none_some : {A : Type 0} (o : Option A) (x : A) → o ≡ None → o ≡ Some x → ⊥

@@ -1,6 +1,3 @@
-pub mod StepLaws
-pub mod TextLaws
-pub mod BlockLaws
 pub mod BitLaws
 pub mod RowLaws
 pub mod StoredLaws

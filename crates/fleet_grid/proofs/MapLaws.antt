@@ -10,13 +10,13 @@ use Rattle.std.proofs.lemmas.List.Elements.{All-from_recursion, recursion_from_A
 use Rattle.std.proofs.lemmas.List.Sums.{AllPass-from_list_all, list_all-from_AllPass}
 use Rattle.fleet_grid.specs.declared.fault.MapFault.{MapFault}
 use Rattle.fleet_grid.specs.declared.fault.MapFault.TheVariants.{Header, Size, RowLength, Glyph, Trailing}
-use Rattle.fleet_grid.specs.Text.{Bytes, words, words_from_front, number}
+use Rattle.fleet_text.specs.Text.{Bytes, words, words_from_front, number}
 use Rattle.fleet_grid.specs.Ground.{Ground, cell_at, IsSide, IsGround}
 use Rattle.fleet_grid.specs.MapText.{line_at, is_ground_glyph, is_glyph, is_no_glyph, cells_of, is_space, IsKindLine, IsNumberLine, IsMapLine, IsHeader, IsSizedHeader, IsRow, AreRows, AreEmpty, AreMapLines}
-use Rattle.fleet_grid.specs.Steps.{none_or, ◌>>=◌, ◌>>◌, right_or, some_or}
+use Rattle.fleet_text.specs.Steps.{none_or, ◌>>=◌, ◌>>◌, right_or, some_or}
 use Rattle.fleet_grid.specs.MapReading.{after_keyword, is_alone, field, number_field, is_side, header_at, row_at, rows_at, map_at}
-use Rattle.fleet_grid.proofs.TextLaws.{found_nowhere}
-use Rattle.fleet_grid.proofs.StepLaws.{bind_ok, right_ok, then_ok, some_ok, none_ok, ok_is, both}
+use Rattle.fleet_text.proofs.TextLaws.{found_nowhere}
+use Rattle.fleet_text.proofs.StepLaws.{bind_ok, right_ok, then_ok, some_ok, none_ok, ok_is, both}
 
 -- ---- the header
 

@@ -5,11 +5,11 @@ use Rattle.std.proofs.lemmas.List.{append-nil, length-append, length-map, length
 use Rattle.std.proofs.lemmas.List.Sums.{sum_by-append, sum_by-cons}
 use Rattle.fleet_grid.specs.declared.fault.MapFault.{MapFault}
 use Rattle.fleet_grid.specs.declared.fault.MapFault.TheVariants.{OutOfMemory, RowCount}
-use Rattle.fleet_grid.specs.Text.{Bytes}
+use Rattle.fleet_text.specs.Text.{Bytes}
 use Rattle.fleet_grid.specs.Ground.{passable_cells}
 use Rattle.fleet_grid.specs.MapText.{is_ground_glyph, cells_of}
 use Rattle.fleet_grid.specs.Stored.{cells_in, byte_count, padded, rows_of, ground_of}
-use Rattle.fleet_grid.specs.Steps.{◌>>=◌}
+use Rattle.fleet_text.specs.Steps.{◌>>=◌}
 use Rattle.fleet_grid.specs.MapReading.{row_at, rows_at}
 use Rattle.fleet_grid.proofs.BitLaws.{length-cells_in}
 use Rattle.fleet_grid.proofs.StoredLaws.{rows_of-push}

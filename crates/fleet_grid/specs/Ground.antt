@@ -1,7 +1,9 @@
 -- A map as a value: its sizes, and which of its cells are passable.
-use Rattle.std.specs.Prelude.{◌≡◌, ℕ, ◌+◌, ◌*◌, ◌≤◌, Bool, false, List, [], length, get_or, ℤ, pos, negsuc, sum_by, count_by, All, ◌⊎◌}
+use Rattle.std.specs.Prelude.{◌≡◌, ℕ, ◌+◌, ◌*◌, ◌≤◌, ◌<◌, Bool, false, List, [], length, get_or, ℤ, pos, negsuc, sum_by, count_by, All, ◌⊎◌}
 use Rattle.fleet_model.specs.declared.geometry.Cell.{Cell}
 use Rattle.fleet_model.specs.declared.geometry.Place.{Place}
+use Rattle.fleet_model.specs.declared.limits.TheConstants.{MAX_COORDINATE}
+use Rattle.fleet_grid.specs.declared.grid.TheConstants.{MAX_SIDE}
 
 -- rows from north to south, each with its cells from west to east: whether the cell is passable
 pub record Ground : Type 0 where
@@ -33,7 +35,7 @@ cell_index g c = c.y * g.width + c.x
 -- a side of a map
 pub record IsSide (n : ℕ) : Type 0 where
   pub some : 1 ≤ n
-  pub few : n ≤ 4096
+  pub few : n ≤ MAX_SIDE
 
 -- the rows have these sizes
 pub record IsGround (g : Ground) : Type 0 where
@@ -44,7 +46,7 @@ pub record IsGround (g : Ground) : Type 0 where
 
 -- no number of a cell: negative, or too large for two bytes
 abbrev pub IsNoNumber : ℤ → Type 0
-IsNoNumber (pos n) = 65536 ≤ n
+IsNoNumber (pos n) = MAX_COORDINATE < n
 IsNoNumber (negsuc n) = Unit {0}
 
 -- a place that no cell can be

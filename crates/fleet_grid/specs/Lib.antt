@@ -1,5 +1,3 @@
-pub mod Text
-pub mod Steps
 pub mod Ground
 pub mod MapText
 pub mod MapReading

@@ -1,11 +1,12 @@
 -- Reading a map's lines in the order of judging, with the first fault that is met.
 use Rattle.std.specs.Prelude.{ℕ, zero, suc, ◌+◌, Bool, false, ◌&&◌, ◌==◌, nat_le, List, [], ◌∷◌, length, drop, Option, Some, None, Result, Ok, Err, codes, if◌then◌else◌, bytes_eq, option_and_then, position}
 use Rattle.std.specs.List.{list_all}
+use Rattle.fleet_grid.specs.declared.grid.TheConstants.{MAX_SIDE}
 use Rattle.fleet_grid.specs.declared.fault.MapFault.{MapFault}
 use Rattle.fleet_grid.specs.declared.fault.MapFault.TheVariants.{Header, Size, RowCount, RowLength, Glyph, Trailing}
-use Rattle.fleet_grid.specs.Text.{Bytes, words_from_front, number}
+use Rattle.fleet_text.specs.Text.{Bytes, words_from_front, number}
 use Rattle.fleet_grid.specs.Ground.{Ground}
-use Rattle.fleet_grid.specs.Steps.{◌>>=◌, ◌>>◌, right_or, some_or, none_or}
+use Rattle.fleet_text.specs.Steps.{◌>>=◌, ◌>>◌, right_or, some_or, none_or}
 use Rattle.fleet_grid.specs.MapText.{line_at, is_no_glyph, cells_of, is_space}
 
 -- the one word after the keyword
@@ -29,7 +30,7 @@ unfoldable pub number_field : Bytes → Bytes → Option ℕ
 number_field keyword line = option_and_then number (field keyword line)
 
 abbrev pub is_side : ℕ → Bool
-is_side n = nat_le 1 n && nat_le n 4096
+is_side n = nat_le 1 n && nat_le n MAX_SIDE
 
 -- width and height, by the first four lines
 unfoldable pub header_at : List Bytes → Result (ℕ × ℕ) MapFault

@@ -3,7 +3,7 @@ use Rattle.std.specs.Prelude.{◌≡◌, ◌≢◌, ℕ, zero, suc, ◌+◌, ◌
 use Rattle.std.specs.List.{AllPass}
 use Rattle.fleet_grid.specs.declared.fault.MapFault.{MapFault}
 use Rattle.fleet_grid.specs.declared.fault.MapFault.TheVariants.{OutOfMemory, Header, Size, RowCount, RowLength, Glyph, Trailing}
-use Rattle.fleet_grid.specs.Text.{Bytes, is_blank, lines, words_from_front, number}
+use Rattle.fleet_text.specs.Text.{Bytes, is_blank, lines, words_from_front, number}
 use Rattle.fleet_grid.specs.Ground.{Ground, IsSide}
 
 -- ---- the parts of a map text

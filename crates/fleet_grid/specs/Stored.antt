@@ -1,5 +1,6 @@
 -- How a map keeps its cells: eight to a byte, the first in the lowest bit. Each row begins with a byte of its own.
 use Rattle.std.specs.Prelude.{◌≡◌, ℕ, zero, suc, ◌+◌, ◌-◌, ◌*◌, ◌/◌, ◌%◌, ◌==◌, ◌≤◌, Bool, false, List, [], ◌∷◌, ◌++◌, length, take, drop, replicate}
+use Rattle.fleet_grid.specs.declared.grid.TheConstants.{MAX_SIDE}
 use Rattle.fleet_grid.specs.Ground.{Ground, passable_cells}
 
 -- the lowest k bits of a number, the lowest first
@@ -31,7 +32,7 @@ ground_of w h bytes = record { width = w; height = h; rows = rows_of w (8 * byte
 
 -- a map of these sizes is kept in the bytes, and n of its cells are passable
 pub record IsStored (w h n : ℕ) (bytes : List ℕ) : Type 0 where
-  pub width : w ≤ 4096
-  pub height : h ≤ 4096
+  pub width : w ≤ MAX_SIDE
+  pub height : h ≤ MAX_SIDE
   pub size : length bytes ≡ byte_count w * h
   pub count : n ≡ passable_cells (ground_of w h bytes)

@@ -4,7 +4,7 @@ ghost use Rattle.std.specs.Prelude.{◌≡◌, map, position};
 ghost use Rattle.std.specs.Simd.Lanes.{mask_l};
 ghost use Rattle.fleet_grid.specs.MapText.{is_ground_glyph, is_no_glyph};
 
-use crate::blocks::{ByteClass, first_of};
+use fleet_text::{ByteClass, first_of};
 use std::simd::prelude::*;
 
 /// Bytes that are no glyph.

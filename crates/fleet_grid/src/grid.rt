@@ -8,6 +8,9 @@ use crate::stored::{Cells, byte_count, is_set};
 use fleet_model::{Cell, Dir};
 use std::marker::Model;
 
+/// The most columns and the most rows of a map.
+pub const MAX_SIDE: u32 = 4_096;
+
 /// Which cells of a map are passable. As a value it is the ground of the map: its width and height, each from 1 to
 /// 4,096, and its rows of cells.
 ///

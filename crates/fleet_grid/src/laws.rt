@@ -2,8 +2,8 @@
 
 ghost use Rattle.std.specs.Prelude.{◌≡◌, ℕ, ◌+◌, ◌<◌, ◌≤◌, ◌⊎◌, List, get_or, false};
 ghost use Rattle.fleet_model.specs.declared.geometry.Cell.{Cell};
-ghost use Rattle.fleet_grid.specs.declared.fault.MapFault.{MapFault};
-ghost use Rattle.fleet_grid.specs.Text.{lines};
+ghost use Rattle.fleet_text.specs.Text.{lines};
+ghost use Rattle.fleet_text.specs.Verdict.{HasOneVerdict};
 ghost use Rattle.fleet_grid.specs.Ground.{Ground, IsGround, cell_at, cell_index};
 ghost use Rattle.fleet_grid.specs.MapText.{line_at, is_ground_glyph, IsMapText, IsFirstMapFault};
 
@@ -19,9 +19,7 @@ pub fn a_map_text_is_one_ground()
 
 /// A text either stands for a ground or has a first fault, never both, and it has one first fault at most.
 pub fn a_text_is_a_map_or_has_a_first_fault()
-    ensures either { (text : List ℕ) → ((g : Ground) × IsMapText text g) ⊎ ((f : MapFault) × IsFirstMapFault text f) }
-    ensures not_both { (text : List ℕ) (g : Ground) (f : MapFault) → IsMapText text g → IsFirstMapFault text f → ⊥ }
-    ensures one { (text : List ℕ) (e f : MapFault) → IsFirstMapFault text e → IsFirstMapFault text f → e ≡ f }
+    ensures { (text : List ℕ) → HasOneVerdict (IsMapText text) (IsFirstMapFault text) }
 {}
 
 /// No two cells of a map stand in one place of a table.

@@ -1,19 +1,17 @@
-//! Maps of a grid, and the lines, words and numbers of the texts that they are read from.
+//! Maps of a grid.
 //!
 //! A map is read from the `.map` format of the MovingAI benchmark (Sturtevant 2012).
 #![tactic(auto)]
 
-mod blocks;
 mod fault;
 mod glyphs;
 mod grid;
 mod laws;
 mod reading;
 mod stored;
-pub mod text;
 
 pub use fault::MapFault;
-pub use grid::Grid;
+pub use grid::{Grid, MAX_SIDE};
 pub use laws::{
     a_map_text_is_one_ground, a_text_is_a_map_or_has_a_first_fault, cells_have_places_of_their_own,
 };

@@ -3,7 +3,7 @@
 ghost use Rattle.std.specs.Prelude.{◌≡◌, ◌≢◌, drop, length, IfOk, OnOk, IfErr, IsOkUnless, option_map, option_copied, min};
 ghost use Rattle.std.specs.List.{list_all};
 ghost use Rattle.fleet_model.specs.Answer.{IsDueUnless};
-ghost use Rattle.fleet_grid.specs.Text.{lines, words_from_front};
+ghost use Rattle.fleet_text.specs.Text.{lines, words_from_front};
 ghost use Rattle.fleet_grid.specs.Ground.{Ground, IsSide};
 ghost use Rattle.fleet_grid.specs.MapText.{line_at, is_space, cells_of, IsMapText, IsFirstMapFault};
 ghost use Rattle.fleet_grid.specs.MapReading.{field, number_field, is_alone, is_side, header_at, row_at, rows_at, map_at};
@@ -11,12 +11,10 @@ ghost use Rattle.fleet_grid.specs.Stored.{ground_of, IsStored};
 
 use crate::fault::MapFault;
 use crate::glyphs::wrong_column;
-use crate::grid::Grid;
+use crate::grid::{Grid, MAX_SIDE};
 use crate::stored::Cells;
-use crate::text::{Cursor, from_front, is_blank, next_word, number_of};
+use fleet_text::{Cursor, TOO_LARGE, from_front, is_blank, next_word, number_of};
 use std::alloc::Global;
-
-const MAX_SIDE: u32 = 4096;
 
 /// The next line. One that is missing is as good as an empty one.
 fn next_of<'a>(lines: &mut Cursor<'a>) -> &'a [u8]
@@ -42,7 +40,7 @@ fn field<'a>(keyword: &[u8], line: &'a [u8]) -> Option<&'a [u8]>
 /// The number of a header line after its keyword.
 #[tactic(auto, unfolding(crate::specs::MapReading::number_field))]
 fn number_field(keyword: &[u8], line: &[u8]) -> Option<u32>
-    ensures { result ≡ option_map (λ n. min n 65536) (number_field keyword.now line.now) }
+    ensures { result ≡ option_map (λ n. min n TOO_LARGE) (number_field keyword.now line.now) }
 {
     number_of(field(keyword, line)?)
 }

@@ -1,11 +1,12 @@
 //! The cells of a map, a bit for each.
 
 ghost use Rattle.std.specs.Prelude.{◌≡◌, ◌+◌, ◌-◌, ◌*◌, ◌<◌, ◌≤◌, ◌^◌, ◌++◌, ◌==◌, ◌/◌, ◌%◌, length, map, take, replicate, count_by, min, vec_capacity, OnOk, IfOk, []};
+ghost use Rattle.fleet_grid.specs.declared.grid.TheConstants.{MAX_SIDE};
 ghost use Rattle.fleet_grid.specs.MapText.{is_ground_glyph, cells_of};
 ghost use Rattle.fleet_grid.specs.Stored.{cells_in, byte_count, padded};
 
-use crate::blocks::BLOCK;
 use crate::glyphs::ground_mask;
+use fleet_text::BLOCK;
 use std::alloc::{AllocError, Global};
 use std::simd::prelude::*;
 
@@ -22,14 +23,14 @@ const BLOCKED: u8 = b'@';
 
 /// How many bytes keep so many cells.
 pub(crate) fn byte_count(cells: usize) -> usize
-    requires { cells ≤ 65535 }
+    requires { cells ≤ MAX_SIDE }
     ensures { result ≡ byte_count cells }
 {
     cells.div_ceil(8)
 }
 
 /// A block of these glyphs, and blocked ones after them.
-fn filled(glyphs: &[u8]) -> [u8; BLOCK]
+fn block_of(glyphs: &[u8]) -> [u8; BLOCK]
     requires { length glyphs.now ≤ BLOCK }
     ensures { result ≡ glyphs.now ++ replicate (BLOCK - length glyphs.now) BLOCKED }
 {
@@ -46,7 +47,7 @@ impl Cells {
         height: u16,
         most: usize,
     ) -> Result<Self, AllocError>
-        requires { width ≤ 4096 }
+        requires { width ≤ MAX_SIDE }
         ensures bytes { IfOk result (λ c. c.bytes.items ≡ []) }
         ensures count { IfOk result (λ c. c.passable_count ≡ 0) }
         ensures room { IfOk result (λ c. vec_capacity c.bytes ≡ min (byte_count width * height) most) }
@@ -60,7 +61,7 @@ impl Cells {
 
     /// Adds a row of glyphs.
     pub(crate) fn put_row(&mut self, line: &[u8]) -> Result<(), AllocError>
-        requires few { length line.now ≤ 4096 }
+        requires few { length line.now ≤ MAX_SIDE }
         requires count { self.old.passable_count + length line.now ≤ 2 ^ 24 }
         ensures bytes { OnOk result (cells_in self.new.bytes.items ≡ cells_in self.old.bytes.items ++ padded (cells_of line.now)) }
         ensures count { OnOk result (self.new.passable_count ≡ self.old.passable_count + count_by is_ground_glyph line.now) }
@@ -70,7 +71,7 @@ impl Cells {
             self.put_block(block, BLOCK)?;
             rest = after;
         }
-        self.put_block(&filled(rest), rest.len())?;
+        self.put_block(&block_of(rest), rest.len())?;
         Ok(())
     }
 

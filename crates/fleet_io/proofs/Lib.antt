@@ -1,5 +1,4 @@
 pub mod FlushLemmas
-pub mod RowLemmas
 pub mod WordLemmas
-pub mod FileLemmas
-pub mod DrivenLemmas
+pub mod NamedLemmas
+pub mod TracedLemmas

@@ -1,9 +1,9 @@
 -- Words of a line, one after another.
-use Rattle.std.proofs.Common.{◌≡◌, ◌∙◌, sym, subst, ℕ, ◌+◌, ◌<◌, Bool, Option, List, [], ◌∷◌, ◌++◌, length, take, drop, get_or, map, ap, refl, arith, append_assoc, append-nil}
+use Rattle.std.proofs.Common.{◌≡◌, ◌∙◌, sym, subst, ℕ, ◌+◌, ◌<◌, List, [], ◌∷◌, ◌++◌, length, take, drop, get_or, map, ap, refl, arith, append_assoc, append-nil}
 use Rattle.std.proofs.lemmas.List.{take_more, map-append, take-append-drop}
-use Rattle.fleet_run.specs.Sink.{StopsWithin}
-use Rattle.fleet_io.specs.Row.{PassesOn}
-use Rattle.fleet_io.proofs.RowLemmas.{passes_more, stops_past, stops_before}
+use Rattle.fleet_text.specs.Sink.{SinkState, StopsWithin}
+use Rattle.fleet_text.specs.Row.{PassesOn}
+use Rattle.fleet_text.proofs.RowLemmas.{passes_more, stops_past, stops_before}
 use Rattle.fleet_io.specs.declared.words.Word.{Word}
 use Rattle.fleet_io.specs.Words.{word_text, spaced, line_text, next_words}
 
@@ -33,7 +33,7 @@ words_split first rest i =
 
 -- one word more was put into the row
 pub passed_more :
-    (a b c : Option (List ℕ)) (r s t : List ℕ) (words rest : List Word) (i : ℕ) (d : Word) → i < length rest
+    (a b c : SinkState) (r s t : List ℕ) (words rest : List Word) (i : ℕ) (d : Word) → i < length rest
     → ((first : Word) × (words ≡ first ∷ rest) × PassesOn a b r s (spaced (map word_text (first ∷ take i rest))))
     → PassesOn b c s t (32 ∷ word_text (get_or rest i d))
     → (first : Word) × (words ≡ first ∷ rest) × PassesOn a c r t (spaced (map word_text (first ∷ take (i + 1) rest)))
@@ -45,18 +45,18 @@ passed_more a b c r s t words rest i d below (first, are, so_far) next = (
 
 -- the sink failed within one word more
 pub stops_within_next :
-    (a b c : Option (List ℕ)) (failed : Bool) (r s : List ℕ) (words rest : List Word) (i : ℕ) (d : Word) → i < length rest
+    (a b c : SinkState) (r s : List ℕ) (words rest : List Word) (i : ℕ) (d : Word) → i < length rest
     → ((first : Word) × (words ≡ first ∷ rest) × PassesOn a b r s (spaced (map word_text (first ∷ take i rest))))
-    → StopsWithin b c failed (s ++ 32 ∷ word_text (get_or rest i d))
-    → StopsWithin a c failed (r ++ spaced (map word_text words))
-stops_within_next a b c failed r s words rest i d below (first, are, so_far) next =
-    let within : StopsWithin a c failed (r ++ (spaced (map word_text (first ∷ take i rest)) ++ 32 ∷ word_text (get_or rest i d))) =
-    stops_past a b c failed r s (spaced (map word_text (first ∷ take i rest))) (32 ∷ word_text (get_or rest i d)) so_far next in
-    let more : StopsWithin a c failed (r ++ spaced (map word_text (first ∷ take (i + 1) rest))) =
-    subst (λ l. StopsWithin a c failed (r ++ l)) (words_more first rest i d below) within in
+    → StopsWithin b c (s ++ 32 ∷ word_text (get_or rest i d))
+    → StopsWithin a c (r ++ spaced (map word_text words))
+stops_within_next a b c r s words rest i d below (first, are, so_far) next =
+    let within : StopsWithin a c (r ++ (spaced (map word_text (first ∷ take i rest)) ++ 32 ∷ word_text (get_or rest i d))) =
+    stops_past a b c r s (spaced (map word_text (first ∷ take i rest))) (32 ∷ word_text (get_or rest i d)) so_far next in
+    let more : StopsWithin a c (r ++ spaced (map word_text (first ∷ take (i + 1) rest))) =
+    subst (λ l. StopsWithin a c (r ++ l)) (words_more first rest i d below) within in
     let whole : spaced (map word_text (first ∷ take (i + 1) rest)) ++ next_words (map word_text (drop (i + 1) rest)) ≡ spaced (map word_text words) =
     sym (words_split first rest (i + 1)) ∙ ap (λ ws. spaced (map word_text ws)) (sym are) in
-    subst (λ l. StopsWithin a c failed (r ++ l)) whole (stops_before a c failed r _ (next_words (map word_text (drop (i + 1) rest))) more)
+    subst (λ l. StopsWithin a c (r ++ l)) whole (stops_before a c r _ (next_words (map word_text (drop (i + 1) rest))) more)
 
 pub next_words-append : (xs ys : List (List ℕ)) → next_words (xs ++ ys) ≡ next_words xs ++ next_words ys
 next_words-append [] ys = refl
@@ -79,14 +79,14 @@ next_words-split text xs i =
 
 -- the sink failed within the text of one element more
 pub stops_within_element :
-    {X : Type 0} (text : X → List ℕ) (a b c : Option (List ℕ)) (failed : Bool) (r s : List ℕ) (xs : List X) (i : ℕ) (d : X) → i < length xs
-    → PassesOn a b r s (next_words (map text (take i xs))) → StopsWithin b c failed (s ++ 32 ∷ text (get_or xs i d)) → StopsWithin a c failed (r ++ next_words (map text xs))
-stops_within_element text a b c failed r s xs i d below so_far next =
-    let within : StopsWithin a c failed (r ++ (next_words (map text (take i xs)) ++ 32 ∷ text (get_or xs i d))) =
-    stops_past a b c failed r s (next_words (map text (take i xs))) (32 ∷ text (get_or xs i d)) so_far next in
-    let more : StopsWithin a c failed (r ++ next_words (map text (take (i + 1) xs))) =
-    subst (λ l. StopsWithin a c failed (r ++ l)) (sym (next_words-more text xs i d below)) within in
-    subst (λ l. StopsWithin a c failed (r ++ l)) (next_words-split text xs (i + 1)) (stops_before a c failed r _ (next_words (map text (drop (i + 1) xs))) more)
+    {X : Type 0} (text : X → List ℕ) (a b c : SinkState) (r s : List ℕ) (xs : List X) (i : ℕ) (d : X) → i < length xs
+    → PassesOn a b r s (next_words (map text (take i xs))) → StopsWithin b c (s ++ 32 ∷ text (get_or xs i d)) → StopsWithin a c (r ++ next_words (map text xs))
+stops_within_element text a b c r s xs i d below so_far next =
+    let within : StopsWithin a c (r ++ (next_words (map text (take i xs)) ++ 32 ∷ text (get_or xs i d))) =
+    stops_past a b c r s (next_words (map text (take i xs))) (32 ∷ text (get_or xs i d)) so_far next in
+    let more : StopsWithin a c (r ++ next_words (map text (take (i + 1) xs))) =
+    subst (λ l. StopsWithin a c (r ++ l)) (sym (next_words-more text xs i d below)) within in
+    subst (λ l. StopsWithin a c (r ++ l)) (next_words-split text xs (i + 1)) (stops_before a c r _ (next_words (map text (drop (i + 1) xs))) more)
 
 -- some words, and more after them
 pub spaced_lists : (first rest : List (List ℕ)) → 0 < length first → spaced (first ++ rest) ≡ spaced first ++ next_words rest
@@ -99,7 +99,7 @@ line_lists first rest some = sym (append_assoc (spaced first) (next_words rest) 
 
 -- the text of one element more was put into the row
 pub passed_element :
-    {X : Type 0} (text : X → List ℕ) (a b c : Option (List ℕ)) (r s t : List ℕ) (xs : List X) (i : ℕ) (d : X) → i < length xs
+    {X : Type 0} (text : X → List ℕ) (a b c : SinkState) (r s t : List ℕ) (xs : List X) (i : ℕ) (d : X) → i < length xs
     → PassesOn a b r s (next_words (map text (take i xs))) → PassesOn b c s t (32 ∷ text (get_or xs i d)) → PassesOn a c r t (next_words (map text (take (i + 1) xs)))
 passed_element text a b c r s t xs i d below so_far next =
     subst (PassesOn a c r t) (sym (next_words-more text xs i d below)) (passes_more a b c r s t (next_words (map text (take i xs))) (32 ∷ text (get_or xs i d)) so_far next)

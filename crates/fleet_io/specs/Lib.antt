@@ -1,10 +1,6 @@
-pub mod Row
 pub mod Words
-pub mod Files
-pub mod Input
-pub mod MemFiles
 pub mod Lines
 pub mod Named
 pub mod Output
 pub mod Flushed
-pub mod Driven
+pub mod Traced

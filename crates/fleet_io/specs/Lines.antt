@@ -26,6 +26,8 @@ use Rattle.fleet_code.specs.declared.fault.LoadFault.{LoadFault}
 use Rattle.fleet_code.specs.declared.fault.LoadFault.TheVariants as l
 use Rattle.fleet_auto.specs.declared.fault.AutoFault.{AutoFault}
 use Rattle.fleet_auto.specs.declared.fault.AutoFault.TheVariants as a
+use Rattle.fleet_auto.specs.declared.fault.AcceptFault.{AcceptFault}
+use Rattle.fleet_auto.specs.declared.fault.AcceptFault.TheVariants as b
 use Rattle.fleet_run.specs.declared.run.RunFault.{RunFault}
 use Rattle.fleet_run.specs.declared.run.RunFault.TheVariants as r
 use Rattle.fleet_io.specs.declared.fault.Fault.{Fault}
@@ -203,3 +205,8 @@ step_fault (a.Scen fault) = f.Scen fault
 step_fault (a.Plan stop) = f.Search stop
 step_fault (a.Compile fault) = f.Compile fault
 step_fault (a.Run fault) = f.Run fault
+
+-- the same, of a fault of bytes that are not accepted
+abbrev pub accept_fault : AcceptFault → Fault
+accept_fault (b.Load fault) = f.Load fault
+accept_fault (b.Verify fault) = f.Verify fault

@@ -1,8 +1,10 @@
 -- Files that a command names, read one after another.
-use Rattle.std.specs.Prelude.{◌≡◌, ℕ, List, [], ◌∷◌, ◌⊎◌, Option, None, Some}
-use Rattle.fleet_io.specs.Files.{Store, IsRead, IsUnreadable}
-use Rattle.fleet_io.specs.declared.input.FileFault.{FileFault}
-use Rattle.fleet_io.specs.declared.input.FileFault.TheVariants.{OutOfMemory, Failed}
+use Rattle.std.specs.Prelude.{◌≡◌, ℕ, List, [], ◌∷◌, ◌⊎◌, Option, None, Some, map, option_map, Vec}
+use Rattle.std.specs.Borrow.{Bor}
+use Rattle.std.specs.declared.alloc.Global.{Global}
+use Rattle.fleet_files.specs.Files.{Store, IsRead, IsUnreadable}
+use Rattle.fleet_files.specs.declared.input.FileFault.{FileFault}
+use Rattle.fleet_files.specs.declared.input.FileFault.TheVariants.{OutOfMemory, Failed}
 use Rattle.fleet_io.specs.declared.fault.Fault.{Fault}
 use Rattle.fleet_io.specs.declared.fault.Fault.TheVariants as f
 
@@ -34,6 +36,17 @@ abbrev pub AreRead : Option Store → List (List ℕ) → List (List ℕ) → Ty
 AreRead files [] [] = Unit {0}
 AreRead files (name ∷ names) (bytes ∷ rest) = IsRead files name bytes × AreRead files names rest
 AreRead files _ _ = ⊥
+
+-- names, and bytes, as they stand
+abbrev pub texts_of : List (Bor (List ℕ)) → List (List ℕ)
+texts_of names = map (λ name. name.now) names
+
+abbrev pub items_of : List (Vec ℕ Global) → List (List ℕ)
+items_of read = map (λ bytes. bytes.items) read
+
+-- the name that was given, if one was
+abbrev pub given_name : Option (Bor (List ℕ)) → Option (List ℕ)
+given_name name = option_map (λ n. n.now) name
 
 -- the name of the file of the holds, where one is named
 abbrev pub hold_names : Option (List ℕ) → List (List ℕ)

@@ -1,15 +1,15 @@
 //! A refusal of the program, with its status and its line.
 
-ghost use Rattle.std.specs.Prelude.{◌≡◌, ◌<◌, ◌++◌, false, length, map};
-ghost use Rattle.fleet_run.specs.Sink.{TakesAll, Receives};
-ghost use Rattle.fleet_io.specs.Row.{Gathers};
+ghost use Rattle.std.specs.Prelude.{◌≡◌, ◌<◌, ◌++◌, length, map};
+ghost use Rattle.fleet_text.specs.Sink.{IsWorking, TakesAll, Receives};
+ghost use Rattle.fleet_text.specs.Row.{Gathers};
+ghost use Rattle.fleet_io.specs.Output.{Finishes};
 ghost use Rattle.fleet_io.specs.Words.{word_text, line_text, next_words};
 ghost use Rattle.fleet_io.specs.Lines.{named, named_at, named_by, map_words, scen_words, text_words, pair_words, cycle_words, conflict_words, check_words, search_words, hex_words, load_words, compile_words, action_text, unordered_words, verify_words, run_words, line_of, status_of};
 
-use crate::row::Row;
 use crate::words::{Word, put_line, put_next_word, put_words};
 use fleet_adg::CompileFault;
-use fleet_auto::AutoFault;
+use fleet_auto::{AcceptFault, AutoFault};
 use fleet_code::{HexFault, LoadFault};
 use fleet_grid::MapFault;
 use fleet_model::{ActionId, Cell, Visit};
@@ -17,6 +17,7 @@ use fleet_plan::{Conflict, PlanFault, TextFault};
 use fleet_run::{OutFault, RunFault, TraceOut};
 use fleet_scen::ScenFault;
 use fleet_search::PlanStop;
+use fleet_text::Row;
 use fleet_verify::VerifyFault;
 
 /// Every refusal of the program but usage and help. `File` names the file that cannot be read or written, and is `-` for the
@@ -56,6 +57,20 @@ impl From<AutoFault> for Fault<'_> {
     }
 }
 
+impl From<AcceptFault> for Fault<'_> {
+    ghost use Rattle.std.specs.Prelude.{◌≡◌};
+    ghost use Rattle.fleet_io.specs.Lines.{accept_fault};
+
+    ghost from_gives = { λ fault r. r ≡ accept_fault fault };
+
+    fn from(fault: AcceptFault) -> Self {
+        match fault {
+            AcceptFault::Load(fault) => Fault::Load(fault),
+            AcceptFault::Verify(fault) => Fault::Verify(fault),
+        }
+    }
+}
+
 /// Writes the line of a refusal without fields: its part, its number and its name.
 fn put_named<O: TraceOut>(
     out: &mut O,
@@ -63,8 +78,8 @@ fn put_named<O: TraceOut>(
     number: u64,
     name: &'static str,
 ) -> Result<(), OutFault>
-    requires { O.has_failed out.old ≡ false }
-    ensures { TakesAll (O.taken out.old) (O.taken out.new) (O.has_failed out.new) result
+    requires { IsWorking (O.state out.old) }
+    ensures { TakesAll (O.state out.old) (O.state out.new) result
         (line_text (named part.now number name.now)) }
 {
     put_line(
@@ -82,8 +97,8 @@ fn put_named_at<O: TraceOut>(
     field: &'static str,
     value: u64,
 ) -> Result<(), OutFault>
-    requires { O.has_failed out.old ≡ false }
-    ensures { TakesAll (O.taken out.old) (O.taken out.new) (O.has_failed out.new) result
+    requires { IsWorking (O.state out.old) }
+    ensures { TakesAll (O.state out.old) (O.state out.new) result
         (line_text (named_at part.now number name.now field.now value)) }
 {
     put_line(
@@ -107,8 +122,8 @@ fn put_named_by<O: TraceOut>(
     first: (&'static str, u64),
     second: (&'static str, u64),
 ) -> Result<(), OutFault>
-    requires { O.has_failed out.old ≡ false }
-    ensures { TakesAll (O.taken out.old) (O.taken out.new) (O.has_failed out.new) result
+    requires { IsWorking (O.state out.old) }
+    ensures { TakesAll (O.state out.old) (O.state out.new) result
         (line_text (named_by part.now number name.now first.entry.0.now first.entry.1 second.entry.0.now second.entry.1)) }
 {
     let (first_name, first_value) = first;
@@ -128,15 +143,15 @@ fn put_named_by<O: TraceOut>(
 }
 
 fn put_memory<O: TraceOut>(out: &mut O) -> Result<(), OutFault>
-    requires { O.has_failed out.old ≡ false }
-    ensures { TakesAll (O.taken out.old) (O.taken out.new) (O.has_failed out.new) result (line_of Fault.Memory) }
+    requires { IsWorking (O.state out.old) }
+    ensures { TakesAll (O.state out.old) (O.state out.new) result (line_of Fault.Memory) }
 {
     put_line(out, &[Word::Text("memory")])
 }
 
 fn put_map<O: TraceOut>(out: &mut O, fault: MapFault) -> Result<(), OutFault>
-    requires { O.has_failed out.old ≡ false }
-    ensures { TakesAll (O.taken out.old) (O.taken out.new) (O.has_failed out.new) result
+    requires { IsWorking (O.state out.old) }
+    ensures { TakesAll (O.state out.old) (O.state out.new) result
         (line_text (map_words fault)) }
 {
     match fault {
@@ -160,8 +175,8 @@ fn put_map<O: TraceOut>(out: &mut O, fault: MapFault) -> Result<(), OutFault>
 }
 
 fn put_scen<O: TraceOut>(out: &mut O, fault: ScenFault) -> Result<(), OutFault>
-    requires { O.has_failed out.old ≡ false }
-    ensures { TakesAll (O.taken out.old) (O.taken out.new) (O.has_failed out.new) result
+    requires { IsWorking (O.state out.old) }
+    ensures { TakesAll (O.state out.old) (O.state out.new) result
         (line_text (scen_words fault)) }
 {
     match fault {
@@ -196,8 +211,8 @@ fn put_scen<O: TraceOut>(out: &mut O, fault: ScenFault) -> Result<(), OutFault>
 }
 
 fn put_text<O: TraceOut>(out: &mut O, fault: TextFault) -> Result<(), OutFault>
-    requires { O.has_failed out.old ≡ false }
-    ensures { TakesAll (O.taken out.old) (O.taken out.new) (O.has_failed out.new) result
+    requires { IsWorking (O.state out.old) }
+    ensures { TakesAll (O.state out.old) (O.state out.new) result
         (line_text (text_words fault)) }
 {
     match fault {
@@ -216,8 +231,8 @@ fn put_pair<O: TraceOut>(
     i: u16,
     j: u16,
 ) -> Result<(), OutFault>
-    requires { O.has_failed out.old ≡ false }
-    ensures { TakesAll (O.taken out.old) (O.taken out.new) (O.has_failed out.new) result
+    requires { IsWorking (O.state out.old) }
+    ensures { TakesAll (O.state out.old) (O.state out.new) result
         (line_text (pair_words kind.now time i j)) }
 {
     put_line(
@@ -239,8 +254,8 @@ fn put_pair<O: TraceOut>(
 
 /// Writes the line of a cycle in a plan.
 fn put_cycle<O: TraceOut>(out: &mut O, time: u32, least: u16) -> Result<(), OutFault>
-    requires { O.has_failed out.old ≡ false }
-    ensures { TakesAll (O.taken out.old) (O.taken out.new) (O.has_failed out.new) result
+    requires { IsWorking (O.state out.old) }
+    ensures { TakesAll (O.state out.old) (O.state out.new) result
         (line_text (cycle_words time least)) }
 {
     put_line(
@@ -259,8 +274,8 @@ fn put_cycle<O: TraceOut>(out: &mut O, time: u32, least: u16) -> Result<(), OutF
 }
 
 fn put_conflict<O: TraceOut>(out: &mut O, conflict: Conflict) -> Result<(), OutFault>
-    requires { O.has_failed out.old ≡ false }
-    ensures { TakesAll (O.taken out.old) (O.taken out.new) (O.has_failed out.new) result
+    requires { IsWorking (O.state out.old) }
+    ensures { TakesAll (O.state out.old) (O.state out.new) result
         (line_text (conflict_words conflict)) }
 {
     match conflict {
@@ -271,8 +286,8 @@ fn put_conflict<O: TraceOut>(out: &mut O, conflict: Conflict) -> Result<(), OutF
 }
 
 fn put_check<O: TraceOut>(out: &mut O, fault: PlanFault) -> Result<(), OutFault>
-    requires { O.has_failed out.old ≡ false }
-    ensures { TakesAll (O.taken out.old) (O.taken out.new) (O.has_failed out.new) result
+    requires { IsWorking (O.state out.old) }
+    ensures { TakesAll (O.state out.old) (O.state out.new) result
         (line_text (check_words fault)) }
 {
     match fault {
@@ -293,8 +308,8 @@ fn put_check<O: TraceOut>(out: &mut O, fault: PlanFault) -> Result<(), OutFault>
 }
 
 fn put_hex<O: TraceOut>(out: &mut O, fault: HexFault) -> Result<(), OutFault>
-    requires { O.has_failed out.old ≡ false }
-    ensures { TakesAll (O.taken out.old) (O.taken out.new) (O.has_failed out.new) result
+    requires { IsWorking (O.state out.old) }
+    ensures { TakesAll (O.state out.old) (O.state out.new) result
         (line_text (hex_words fault)) }
 {
     match fault {
@@ -305,8 +320,8 @@ fn put_hex<O: TraceOut>(out: &mut O, fault: HexFault) -> Result<(), OutFault>
 }
 
 fn put_load<O: TraceOut>(out: &mut O, fault: LoadFault) -> Result<(), OutFault>
-    requires { O.has_failed out.old ≡ false }
-    ensures { TakesAll (O.taken out.old) (O.taken out.new) (O.has_failed out.new) result
+    requires { IsWorking (O.state out.old) }
+    ensures { TakesAll (O.state out.old) (O.state out.new) result
         (line_text (load_words fault)) }
 {
     match fault {
@@ -324,8 +339,8 @@ fn put_load<O: TraceOut>(out: &mut O, fault: LoadFault) -> Result<(), OutFault>
 }
 
 fn put_run<O: TraceOut>(out: &mut O, fault: RunFault) -> Result<(), OutFault>
-    requires { O.has_failed out.old ≡ false }
-    ensures { TakesAll (O.taken out.old) (O.taken out.new) (O.has_failed out.new) result
+    requires { IsWorking (O.state out.old) }
+    ensures { TakesAll (O.state out.old) (O.state out.new) result
         (line_text (run_words fault)) }
 {
     match fault {
@@ -338,8 +353,8 @@ fn put_run<O: TraceOut>(out: &mut O, fault: RunFault) -> Result<(), OutFault>
 }
 
 fn put_search<O: TraceOut>(out: &mut O, stop: PlanStop) -> Result<(), OutFault>
-    requires { O.has_failed out.old ≡ false }
-    ensures { TakesAll (O.taken out.old) (O.taken out.new) (O.has_failed out.new) result
+    requires { IsWorking (O.state out.old) }
+    ensures { TakesAll (O.state out.old) (O.state out.new) result
         (line_text (search_words stop)) }
 {
     match stop {
@@ -351,8 +366,8 @@ fn put_search<O: TraceOut>(out: &mut O, stop: PlanStop) -> Result<(), OutFault>
 }
 
 fn put_compile<O: TraceOut>(out: &mut O, fault: CompileFault) -> Result<(), OutFault>
-    requires { O.has_failed out.old ≡ false }
-    ensures { TakesAll (O.taken out.old) (O.taken out.new) (O.has_failed out.new) result
+    requires { IsWorking (O.state out.old) }
+    ensures { TakesAll (O.state out.old) (O.state out.new) result
         (line_text (compile_words fault)) }
 {
     match fault {
@@ -367,8 +382,8 @@ fn put_actions<O: TraceOut>(
     out: &mut O,
     actions: &[ActionId],
 ) -> Result<(), OutFault>
-    requires { O.has_failed out.old ≡ false }
-    ensures { Gathers (O.taken out.old) (O.taken out.new) (O.has_failed out.new) result row.old row.new (next_words (map action_text actions.now)) }
+    requires { IsWorking (O.state out.old) }
+    ensures { Gathers (O.state out.old) (O.state out.new) result row.old row.new (next_words (map action_text actions.now)) }
 {
     for action in actions {
         put_next_word(row, out, Word::Of(action.agent, action.number))?;
@@ -378,9 +393,9 @@ fn put_actions<O: TraceOut>(
 
 /// Writes a line of first words, and a word for each action, in pieces as large as a row.
 fn put_ring<O: TraceOut>(out: &mut O, first: &[Word<'_>], ring: &[ActionId]) -> Result<(), OutFault>
-    requires working { O.has_failed out.old ≡ false }
+    requires working { IsWorking (O.state out.old) }
     requires some { 0 < length first.now }
-    ensures { TakesAll (O.taken out.old) (O.taken out.new) (O.has_failed out.new) result
+    ensures { TakesAll (O.state out.old) (O.state out.new) result
         (line_text (map word_text first.now ++ map action_text ring.now)) }
 {
     let mut row = Row::new();
@@ -396,8 +411,8 @@ fn put_unordered<O: TraceOut>(
     first: Visit,
     second: Visit,
 ) -> Result<(), OutFault>
-    requires { O.has_failed out.old ≡ false }
-    ensures { TakesAll (O.taken out.old) (O.taken out.new) (O.has_failed out.new) result
+    requires { IsWorking (O.state out.old) }
+    ensures { TakesAll (O.state out.old) (O.state out.new) result
         (line_text (unordered_words cell first second)) }
 {
     put_line(
@@ -417,8 +432,8 @@ fn put_unordered<O: TraceOut>(
 }
 
 fn put_verify<O: TraceOut>(out: &mut O, fault: &VerifyFault) -> Result<(), OutFault>
-    requires { O.has_failed out.old ≡ false }
-    ensures { TakesAll (O.taken out.old) (O.taken out.new) (O.has_failed out.new) result
+    requires { IsWorking (O.state out.old) }
+    ensures { TakesAll (O.state out.old) (O.state out.new) result
         (line_text (verify_words fault.now)) }
 {
     match fault {
@@ -483,8 +498,8 @@ impl Fault<'_> {
     }
 
     fn put<O: TraceOut>(&self, out: &mut O) -> Result<(), OutFault>
-        requires { O.has_failed out.old ≡ false }
-        ensures { TakesAll (O.taken out.old) (O.taken out.new) (O.has_failed out.new) result (line_of self.now) }
+        requires { IsWorking (O.state out.old) }
+        ensures { TakesAll (O.state out.old) (O.state out.new) result (line_of self.now) }
     {
         match self {
             Fault::Map(fault) => put_map(out, *fault),
@@ -505,8 +520,8 @@ impl Fault<'_> {
     /// Writes the refusal's line: the part, the refusal's number, its name, then each field's name and value. Where the sink
     /// fails it has taken a proper prefix.
     pub fn tell<E: TraceOut>(&self, err: &mut E)
-        requires { E.has_failed err.old ≡ false }
-        ensures { Receives (E.taken err.old) (E.taken err.new) (E.has_failed err.new) (line_of self.now) }
+        requires { IsWorking (E.state err.old) }
+        ensures { Receives (E.state err.old) (E.state err.new) (line_of self.now) }
     {
         let _ = self.put(err);
     }
@@ -514,10 +529,21 @@ impl Fault<'_> {
 
 /// Tells the refusal, and answers its status.
 pub fn refuse<E: TraceOut>(fault: &Fault<'_>, err: &mut E) -> u8
-    requires { E.has_failed err.old ≡ false }
+    requires { IsWorking (E.state err.old) }
     ensures status { result ≡ status_of fault.now }
-    ensures told { Receives (E.taken err.old) (E.taken err.new) (E.has_failed err.new) (line_of fault.now) }
+    ensures told { Receives (E.state err.old) (E.state err.new) (line_of fault.now) }
 {
     fault.tell(err);
     fault.status()
+}
+
+/// What a command answers: the status with which it is done; or its refusal is told, and the refusal's status answered.
+pub fn finish<E: TraceOut>(done: Result<u8, Fault<'_>>, err: &mut E) -> u8
+    requires { IsWorking (E.state err.old) }
+    ensures { Finishes done.entry (E.state err.old) (E.state err.new) result }
+{
+    match done {
+        Ok(status) => status,
+        Err(fault) => refuse(&fault, err),
+    }
 }

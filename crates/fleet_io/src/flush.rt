@@ -1,28 +1,28 @@
 //! Outputs that are flushed once all is written, before anything is told of them.
 
-ghost use Rattle.std.specs.Prelude.{◌≡◌, false, All, None};
-ghost use Rattle.fleet_run.specs.Sink.{Delivers};
+ghost use Rattle.fleet_text.specs.Sink.{IsWorking, Delivers};
+ghost use Rattle.fleet_run.specs.Source.{HasNotFailed};
 ghost use Rattle.fleet_io.specs.Flushed.{FlushesRun, RehearsesFlushed};
-ghost use Rattle.fleet_io.specs.Driven.{DrivesFlushed};
+ghost use Rattle.fleet_io.specs.Traced.{TracesFlushed};
 
-use fleet_model::ProgramView;
-use fleet_run::{
-    Fleet, HoldSource, OutFault, Rehearsal, Report, RunFault, TraceOut, drive, put_all, rehearse,
-};
+use fleet_auto::run_accepted;
+use fleet_model::{Program, ProgramView};
+use fleet_run::{Flush, HoldSource, OutFault, Rehearsal, Report, RunFault, put_all, rehearse};
+use fleet_verify::Accepted;
 use std::alloc::Global;
 
 /// Puts all of the bytes and has the sink hand them on, or stops at its failure.
-pub fn deliver<O: TraceOut>(out: &mut O, bytes: &[u8]) -> Result<(), OutFault>
-    requires { O.has_failed out.old ≡ false }
-    ensures { Delivers (O.taken out.old) (O.taken out.new) (O.has_failed out.new) (O.is_flushed out.new) result bytes.now }
+pub fn deliver<O: Flush>(out: &mut O, bytes: &[u8]) -> Result<(), OutFault>
+    requires { IsWorking (O.state out.old) }
+    ensures { Delivers (O.state out.old) (O.state out.new) result bytes.now }
 {
     put_all(out, bytes)?;
     out.flush()
 }
 
 /// Has the sink of a run hand on what was written. A flush that fails is a failed write.
-pub fn flush_run<T: Drop, O: TraceOut>(out: &mut O, ran: Result<T, RunFault>) -> Result<T, RunFault>
-    ensures { FlushesRun (O.taken out.old) (O.taken out.new) (O.has_failed out.old) (O.has_failed out.new) (O.is_flushed out.new) ran result }
+pub fn flush_run<T: Drop, O: Flush>(out: &mut O, ran: Result<T, RunFault>) -> Result<T, RunFault>
+    ensures { FlushesRun (O.state out.old) (O.state out.new) ran result }
 {
     if out.failed() {
         return ran;
@@ -34,35 +34,31 @@ pub fn flush_run<T: Drop, O: TraceOut>(out: &mut O, ran: Result<T, RunFault>) ->
 }
 
 /// Rehearses, and has the sink hand on the text.
-pub fn rehearse_flushed<P: ProgramView, S: HoldSource, O: TraceOut>(
+pub fn rehearse_flushed<P: ProgramView, S: HoldSource, O: Flush>(
     alloc: Global,
     program: &P,
     source: &mut S,
     out: &mut O,
 ) -> Result<Rehearsal, RunFault>
-    requires source { S.fault source.old ≡ None }
-    requires sink { O.has_failed out.old ≡ false }
-    ensures { RehearsesFlushed (P.program program.now) (S.ticks source.old)
-        (record { last = S.last source.old; now = S.last source.new; left = S.ticks source.new; fault = S.fault source.new; before = O.taken out.old; taken = O.taken out.new; has_failed = O.has_failed out.new })
-        (O.is_flushed out.new) result }
+    requires source { HasNotFailed (S.state source.old) }
+    requires sink { IsWorking (O.state out.old) }
+    ensures { RehearsesFlushed (P.program program.now) (S.state source.old) (S.state source.new) (O.state out.old) (O.state out.new) result }
 {
     let ran = rehearse(alloc, program, source, out);
     flush_run(out, ran)
 }
 
-/// Runs a fleet from its start, and has the sink hand on the trace.
-pub fn drive_flushed<P: ProgramView, S: HoldSource, O: TraceOut>(
-    fleet: &mut Fleet<'_, P>,
-    source: &mut S,
+/// Runs an accepted program, under the holds for which the bytes stand, writes its trace, and has the sink hand it on.
+pub fn run_flushed<O: Flush>(
+    alloc: Global,
+    accepted: Accepted<'_, Program>,
+    holds: &[u8],
     out: &mut O,
 ) -> Result<Report, RunFault>
-    requires counts { All (λ s. s.count ≡ 0) fleet.old.configuration }
-    requires source { S.fault source.old ≡ None }
-    requires sink { O.has_failed out.old ≡ false }
-    ensures { DrivesFlushed (P.program fleet.old.accepted.program) fleet.old.accepted.chain (S.ticks source.old)
-        (record { last = S.last source.old; now = S.last source.new; left = S.ticks source.new; fault = S.fault source.new; before = O.taken out.old; taken = O.taken out.new; has_failed = O.has_failed out.new })
-        (O.is_flushed out.new) result }
+    requires { IsWorking (O.state out.old) }
+    ensures { TracesFlushed accepted.entry.program accepted.entry.chain holds.now
+        (O.state out.old) (O.state out.new) result }
 {
-    let ran = drive(fleet, source, out);
+    let ran = run_accepted(alloc, accepted, holds, out);
     flush_run(out, ran)
 }

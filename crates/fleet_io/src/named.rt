@@ -1,12 +1,11 @@
 //! Files that a command names.
 
-ghost use Rattle.std.specs.Prelude.{◌∷◌, [], IfOk, IfErr, OnOk, option_map};
-ghost use Rattle.fleet_io.specs.Files.{IsRead, IsKept, ChangesOnly, Replaces};
-ghost use Rattle.fleet_io.specs.Named.{IsRefusedAs, IsReadFault, IsWriteFault, IsUnread, AreRead, hold_names, AreHoldBytes};
+ghost use Rattle.std.specs.Prelude.{◌++◌, IfOk, IfErr, OnOk};
+ghost use Rattle.fleet_files.specs.Files.{IsRead, IsKept, ChangesOnly, Replaces};
+ghost use Rattle.fleet_io.specs.Named.{IsRefusedAs, IsReadFault, IsWriteFault, IsUnread, AreRead, texts_of, items_of, given_name, hold_names, AreHoldBytes};
 
 use crate::fault::Fault;
-use crate::files::Files;
-use crate::input::FileFault;
+use fleet_files::{FileFault, Files};
 use std::alloc::Global;
 
 /// The bytes of the file. Want of memory is `Memory`, and a file that cannot be read is `File` with its name.
@@ -27,60 +26,57 @@ pub fn read_file<'a, F: Files>(
     }
 }
 
-/// The text of a map and that of a scenario.
-#[derive(Drop)]
-pub struct Texts {
-    pub map: Vec<u8>,
-    pub scen: Vec<u8>,
-}
-
-/// The texts of the files of a map and of a scenario, read in this order.
-pub fn read_texts<'a, F: Files>(
+/// The bytes of the files of these names, read in this order, each as `read_file` reads it.
+pub fn read_files<'a, F: Files>(
     alloc: Global,
     files: &mut F,
-    map: &'a str,
-    scen: &'a str,
-) -> Result<Texts, Fault<'a>>
-    ensures bytes { IfOk result (λ texts. AreRead (F.contents files.old) (map.entry.now ∷ scen.entry.now ∷ []) (texts.map.items ∷ texts.scen.items ∷ [])) }
-    ensures fault { IfErr result (IsUnread (F.contents files.old) (map.entry.now ∷ scen.entry.now ∷ [])) }
+    names: &[&'a str],
+) -> Result<Vec<Vec<u8>>, Fault<'a>>
+    ensures bytes { IfOk result (λ read. AreRead (F.contents files.old) (texts_of names.now) (items_of read.items)) }
+    ensures fault { IfErr result (IsUnread (F.contents files.old) (texts_of names.now)) }
     ensures kept { IsKept (F.contents files.old) (F.contents files.new) }
 {
-    let map = read_file(alloc, files, map)?;
-    let scen = read_file(alloc, files, scen)?;
-    Ok(Texts { map, scen })
-}
-
-/// The same, and the bytes of a third file, read last: a plan or a program.
-pub fn read_texts_and<'a, F: Files>(
-    alloc: Global,
-    files: &mut F,
-    map: &'a str,
-    scen: &'a str,
-    third: &'a str,
-) -> Result<(Texts, Vec<u8>), Fault<'a>>
-    ensures bytes { IfOk result (λ read. AreRead (F.contents files.old) (map.entry.now ∷ scen.entry.now ∷ third.entry.now ∷ []) (read.0.map.items ∷ read.0.scen.items ∷ read.1.items ∷ [])) }
-    ensures fault { IfErr result (IsUnread (F.contents files.old) (map.entry.now ∷ scen.entry.now ∷ third.entry.now ∷ [])) }
-    ensures kept { IsKept (F.contents files.old) (F.contents files.new) }
-{
-    let texts = read_texts(alloc, files, map, scen)?;
-    let bytes = read_file(alloc, files, third)?;
-    Ok((texts, bytes))
+    let mut read = Vec::new(alloc);
+    for name in names {
+        let bytes = read_file(alloc, files, *name)?;
+        let Ok(()) = read.push(bytes) else {
+            return Err(Fault::Memory);
+        };
+    }
+    Ok(read)
 }
 
 /// The bytes of the holds, none where no file is named.
-pub fn read_holds<'a, F: Files>(
+fn read_holds<'a, F: Files>(
     alloc: Global,
     files: &mut F,
     name: Option<&'a str>,
 ) -> Result<Vec<u8>, Fault<'a>>
-    ensures bytes { IfOk result (λ bytes. AreHoldBytes (F.contents files.old) (option_map (λ n. n.now) name.entry) bytes.items) }
-    ensures fault { IfErr result (IsUnread (F.contents files.old) (hold_names (option_map (λ n. n.now) name.entry))) }
+    ensures bytes { IfOk result (λ bytes. AreHoldBytes (F.contents files.old) (given_name name.entry) bytes.items) }
+    ensures fault { IfErr result (IsUnread (F.contents files.old) (hold_names (given_name name.entry))) }
     ensures kept { IsKept (F.contents files.old) (F.contents files.new) }
 {
     match name {
         None => Ok(Vec::new(alloc)),
         Some(name) => read_file(alloc, files, name),
     }
+}
+
+/// The bytes of the files of these names, and those of the holds, read last.
+pub fn read_with_holds<'a, F: Files>(
+    alloc: Global,
+    files: &mut F,
+    names: &[&'a str],
+    holds: Option<&'a str>,
+) -> Result<(Vec<Vec<u8>>, Vec<u8>), Fault<'a>>
+    ensures bytes { IfOk result (λ read. AreRead (F.contents files.old) (texts_of names.now) (items_of read.0.items)
+        × AreHoldBytes (F.contents files.old) (given_name holds.entry) read.1.items) }
+    ensures fault { IfErr result (IsUnread (F.contents files.old) (texts_of names.now ++ hold_names (given_name holds.entry))) }
+    ensures kept { IsKept (F.contents files.old) (F.contents files.new) }
+{
+    let read = read_files(alloc, files, names)?;
+    let held = read_holds(alloc, files, holds)?;
+    Ok((read, held))
 }
 
 /// Writes the bytes to the file. Want of memory is `Memory`, and a write that failed is `File` with the file's name.

@@ -1,13 +1,13 @@
 //! Words of a line, written to a sink without memory.
 
-ghost use Rattle.std.specs.Prelude.{◌≡◌, ◌++◌, ◌∷◌, [], false, map, decimal};
-ghost use Rattle.fleet_run.specs.Sink.{TakesAll};
-ghost use Rattle.fleet_io.specs.Row.{Gathers};
+ghost use Rattle.std.specs.Prelude.{◌≡◌, ◌++◌, ◌∷◌, [], map, decimal};
+ghost use Rattle.fleet_text.specs.Sink.{IsWorking, TakesAll};
+ghost use Rattle.fleet_text.specs.Row.{Gathers};
 ghost use Rattle.fleet_io.specs.Words.{cell_text, numbered_text, word_text, spaced, line_text, count_line};
 
-use crate::row::Row;
 use fleet_model::Cell;
-use fleet_run::{OutFault, TraceOut, write_number};
+use fleet_run::{OutFault, TraceOut};
+use fleet_text::{Row, write_number};
 
 /// A word of a line.
 #[derive(Clone, Copy)]
@@ -26,8 +26,8 @@ const DIGITS: usize = 20;
 
 /// Adds a number in base ten to the row.
 fn put_number<O: TraceOut>(row: &mut Row, out: &mut O, number: u64) -> Result<(), OutFault>
-    requires { O.has_failed out.old ≡ false }
-    ensures { Gathers (O.taken out.old) (O.taken out.new) (O.has_failed out.new) result row.old row.new (decimal number) }
+    requires { IsWorking (O.state out.old) }
+    ensures { Gathers (O.state out.old) (O.state out.new) result row.old row.new (decimal number) }
 {
     let mut digits = [0; DIGITS];
     let start = write_number(number, &mut digits, DIGITS);
@@ -41,8 +41,8 @@ fn put_number_then<O: TraceOut>(
     number: u64,
     after: u8,
 ) -> Result<(), OutFault>
-    requires { O.has_failed out.old ≡ false }
-    ensures { Gathers (O.taken out.old) (O.taken out.new) (O.has_failed out.new) result row.old row.new (decimal number ++ after ∷ []) }
+    requires { IsWorking (O.state out.old) }
+    ensures { Gathers (O.state out.old) (O.state out.new) result row.old row.new (decimal number ++ after ∷ []) }
 {
     put_number(row, out, number)?;
     row.add(out, &[after])
@@ -50,8 +50,8 @@ fn put_number_then<O: TraceOut>(
 
 /// A cell as `x,y`.
 fn put_cell<O: TraceOut>(row: &mut Row, out: &mut O, cell: Cell) -> Result<(), OutFault>
-    requires { O.has_failed out.old ≡ false }
-    ensures { Gathers (O.taken out.old) (O.taken out.new) (O.has_failed out.new) result row.old row.new (cell_text cell) }
+    requires { IsWorking (O.state out.old) }
+    ensures { Gathers (O.state out.old) (O.state out.new) result row.old row.new (cell_text cell) }
 {
     let Cell { x, y } = cell;
     put_number_then(row, out, x as u64, b',')?;
@@ -60,16 +60,16 @@ fn put_cell<O: TraceOut>(row: &mut Row, out: &mut O, cell: Cell) -> Result<(), O
 
 /// An agent and a number of it, as `agent:number`.
 fn put_of<O: TraceOut>(row: &mut Row, out: &mut O, agent: u16, number: u32) -> Result<(), OutFault>
-    requires { O.has_failed out.old ≡ false }
-    ensures { Gathers (O.taken out.old) (O.taken out.new) (O.has_failed out.new) result row.old row.new (numbered_text agent number) }
+    requires { IsWorking (O.state out.old) }
+    ensures { Gathers (O.state out.old) (O.state out.new) result row.old row.new (numbered_text agent number) }
 {
     put_number_then(row, out, agent as u64, b':')?;
     put_number(row, out, number as u64)
 }
 
 fn put_word<O: TraceOut>(row: &mut Row, out: &mut O, word: Word<'_>) -> Result<(), OutFault>
-    requires { O.has_failed out.old ≡ false }
-    ensures { Gathers (O.taken out.old) (O.taken out.new) (O.has_failed out.new) result row.old row.new (word_text word.entry) }
+    requires { IsWorking (O.state out.old) }
+    ensures { Gathers (O.state out.old) (O.state out.new) result row.old row.new (word_text word.entry) }
 {
     match word {
         Word::Text(text) => row.add(out, text.as_bytes()),
@@ -86,8 +86,8 @@ pub fn put_next_word<O: TraceOut>(
     out: &mut O,
     word: Word<'_>,
 ) -> Result<(), OutFault>
-    requires { O.has_failed out.old ≡ false }
-    ensures { Gathers (O.taken out.old) (O.taken out.new) (O.has_failed out.new) result row.old row.new (32 ∷ word_text word.entry) }
+    requires { IsWorking (O.state out.old) }
+    ensures { Gathers (O.state out.old) (O.state out.new) result row.old row.new (32 ∷ word_text word.entry) }
 {
     row.add(out, b" ")?;
     put_word(row, out, word)
@@ -99,8 +99,8 @@ pub fn put_words<O: TraceOut>(
     out: &mut O,
     words: &[Word<'_>],
 ) -> Result<(), OutFault>
-    requires { O.has_failed out.old ≡ false }
-    ensures { Gathers (O.taken out.old) (O.taken out.new) (O.has_failed out.new) result row.old row.new (spaced (map word_text words.now)) }
+    requires { IsWorking (O.state out.old) }
+    ensures { Gathers (O.state out.old) (O.state out.new) result row.old row.new (spaced (map word_text words.now)) }
 {
     let Some((first, rest)) = words.split_first() else {
         return Ok(());
@@ -114,8 +114,8 @@ pub fn put_words<O: TraceOut>(
 
 /// Writes the words as a line, in one piece where a row has room for it.
 pub fn put_line<O: TraceOut>(out: &mut O, words: &[Word<'_>]) -> Result<(), OutFault>
-    requires { O.has_failed out.old ≡ false }
-    ensures { TakesAll (O.taken out.old) (O.taken out.new) (O.has_failed out.new) result
+    requires { IsWorking (O.state out.old) }
+    ensures { TakesAll (O.state out.old) (O.state out.new) result
         (line_text (map word_text words.now)) }
 {
     let mut row = Row::new();
@@ -126,8 +126,8 @@ pub fn put_line<O: TraceOut>(out: &mut O, words: &[Word<'_>]) -> Result<(), OutF
 /// Writes a word and its number, in a line.
 #[tactic(auto, unfolding(crate::specs::Words::count_line))]
 pub fn put_count<O: TraceOut>(out: &mut O, word: &'static str, number: u64) -> Result<(), OutFault>
-    requires { O.has_failed out.old ≡ false }
-    ensures { TakesAll (O.taken out.old) (O.taken out.new) (O.has_failed out.new) result (count_line word.now number) }
+    requires { IsWorking (O.state out.old) }
+    ensures { TakesAll (O.state out.old) (O.state out.new) result (count_line word.now number) }
 {
     put_line(out, &[Word::Text(word), Word::Number(number)])
 }

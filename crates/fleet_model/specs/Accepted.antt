@@ -7,7 +7,7 @@ use Rattle.fleet_model.specs.declared.task.Task.{Task}
 use Rattle.fleet_model.specs.Geometry.{place_of}
 use Rattle.fleet_model.specs.Program.{Program, start_of, goal_of, moves, path, AreInRange}
 use Rattle.fleet_model.specs.Chain.{IsNumbering}
-use Rattle.fleet_model.specs.Visit.{IsOrderly}
+use Rattle.fleet_model.specs.Visit.{ComesAfter, IsOrderly}
 
 -- for the passable places of a map and the tasks of an instance: the agents are as many, starts and goals are theirs, every place of
 -- every path is passable, every path ends on its goal, and every await can be met
@@ -18,9 +18,12 @@ pub record IsRight (passable : Place → Bool) (tasks : List Task) (p : Program)
   pub arrives : (i : ℕ) → i < length p → path p i (moves p i) ≡ place_of (goal_of p i)
   pub in_range : AreInRange p
 
--- accepted for a map and an instance: right, with a numbering and orderly, where After says which visit of a place may come directly
--- after which
-pub record IsAccepted (After : Program → Visit → Visit → Type 0) (passable : Place → Bool) (tasks : List Task) (p : Program) : Type 0 where
+-- right for a map and an instance, with a numbering and orderly, where After says which visit of a place may come directly after which
+pub record IsAcceptedBy (After : Program → Visit → Visit → Type 0) (passable : Place → Bool) (tasks : List Task) (p : Program) : Type 0 where
   pub right : IsRight passable tasks p
   pub numbering : (number : ActionId → ℕ) × IsNumbering p number
   pub orderly : IsOrderly After p
+
+-- accepted for a map and an instance
+abbrev pub IsAccepted : (Place → Bool) → List Task → Program → Type 0
+IsAccepted = IsAcceptedBy ComesAfter

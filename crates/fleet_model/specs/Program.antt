@@ -10,6 +10,7 @@ use Rattle.fleet_model.specs.declared.geometry.Step.{Step}
 use Rattle.fleet_model.specs.declared.program.Await.{Await}
 use Rattle.fleet_model.specs.declared.program.Action.{Action}
 use Rattle.fleet_model.specs.declared.program.AgentProgram.{AgentProgram}
+use Rattle.fleet_model.specs.declared.limits.TheConstants.{MAX_AGENTS, MAX_COORDINATE, MAX_MOVES_V1, MAX_MOVES_IN_ALL, MAX_AWAIT_V1}
 use Rattle.fleet_model.specs.Geometry.{place_of, is_move, stepped}
 
 abbrev pub Program : Type 0
@@ -95,26 +96,26 @@ pub record AreAwaits (n i : ℕ) (awaits : List Await) : Type 0 where
   pub agents : All (λ w. w.agent < n) awaits
   pub others : All (λ w. w.agent ≢ i) awaits
   pub counts : All (λ w. 1 ≤ w.count) awaits
-  pub few : All (λ w. w.count ≤ 65535) awaits
+  pub few : All (λ w. w.count ≤ MAX_AWAIT_V1) awaits
 
 -- column and row fit two bytes
 pub record IsCell (c : Cell) : Type 0 where
-  pub x : c.x < 65536
-  pub y : c.y < 65536
+  pub x : c.x ≤ MAX_COORDINATE
+  pub y : c.y ≤ MAX_COORDINATE
 
 -- a program within the limits on agents, cells, actions of one agent, actions in all and awaits
 pub record IsWellFormed (p : Program) : Type 0 where
   pub some_agents : 1 ≤ length p
-  pub few_agents : length p ≤ 1024
+  pub few_agents : length p ≤ MAX_AGENTS
   pub starts : (i : ℕ) → IsCell (start_of p i)
   pub goals : (i : ℕ) → IsCell (goal_of p i)
-  pub moves_each : (i : ℕ) → moves p i ≤ 65535
-  pub moves_in_all : total_moves p ≤ 4194304
+  pub moves_each : (i : ℕ) → moves p i ≤ MAX_MOVES_V1
+  pub moves_in_all : total_moves p ≤ MAX_MOVES_IN_ALL
   pub awaits : (i n : ℕ) → AreAwaits (length p) i (awaits_of p i n)
 
 -- agent i of a program of n agents, within the limits
 pub record IsAgent (n i : ℕ) (a : AgentProgram) : Type 0 where
   pub start : IsCell a.start
   pub goal : IsCell a.goal
-  pub moves : length a.actions ≤ 65535
+  pub moves : length a.actions ≤ MAX_MOVES_V1
   pub awaits : All (λ s. AreAwaits n i s.awaits) a.actions

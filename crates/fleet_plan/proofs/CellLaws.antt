@@ -5,10 +5,10 @@ use Rattle.std.specs.List.{AllByRecursion, slice_split, onto_first}
 use Rattle.std.proofs.lemmas.Bool.{cases_Bool, eqb-true}
 use Rattle.std.proofs.lemmas.List.{append-nil}
 use Rattle.fleet_model.specs.declared.geometry.Cell.{Cell}
-use Rattle.fleet_grid.specs.Text.{Bytes, is_blank, is_word, starts_blank, is_digit, words, number_after, number, small, small_number}
+use Rattle.fleet_text.specs.Text.{Bytes, is_blank, is_word, starts_blank, is_digit, words, digits_front, number_front, number_after, number, small, small_number, small_number_front}
 use Rattle.fleet_plan.specs.PlanText.{cell_of_parts, spelled_cell}
 use Rattle.fleet_plan.specs.PlanReading.{cells_in}
-use Rattle.fleet_plan.specs.CellReading.{digits_front, number_front, after_comma, after_blanks, after_word, cell_front, begins_with_word}
+use Rattle.fleet_plan.specs.CellReading.{after_comma, after_blanks, after_word, cell_front, begins_with_word}
 
 -- ---- the word in front
 
@@ -235,8 +235,8 @@ wrong_first d text t =
 -- how reading goes on
 abbrev Goes : Bytes → Type 0
 Goes text =
-    ((number_front text ≡ None) × IsWrong text)
-    ⊎ ((n : ℕ) × (ds rest : Bytes) × (number_front text ≡ Some (n, rest)) × (small_number ds ≡ Some n) × GoesOn text ds rest)
+    ((small_number_front text ≡ None) × IsWrong text)
+    ⊎ ((n : ℕ) × (ds rest : Bytes) × (small_number_front text ≡ Some (n, rest)) × (small_number ds ≡ Some n) × GoesOn text ds rest)
 
 small_number_is : (d : ℕ) (ds : Bytes) (n : ℕ) → is_digit d ≡ true → number_after (d - 48) ds ≡ Some n → small_number (d ∷ ds) ≡ small n
 unfolding small_number number number_after
@@ -251,7 +251,7 @@ wrong_front text ds rest none (inr (inl h)) = record { part = ds; more = parts_f
 wrong_front text ds rest none (inr (inr h)) = h.4
 
 goes : (text : Bytes) → Goes text
-unfolding number_front
+unfolding small_number_front number_front
 goes [] = inl (refl, record { part = []; more = []; parts = refl; none = empty_is_none })
 goes (d ∷ text) =
     elim (cases_Bool (is_digit d)) [
@@ -264,15 +264,15 @@ goes (d ∷ text) =
           let value = small_number_is d ds x.0 t h.spelled in
           elim (cases_Bool (ltb x.0 65536)) [
             | inl few ↦ (
-                let front : number_front (d ∷ text) ≡ Some (x.0, x.1) = rw (t, few) refl in
+                let front : small_number_front (d ∷ text) ≡ Some (x.0, x.1) = rw (t, few) refl in
                 let is : small_number (d ∷ ds) ≡ Some x.0 = value ∙ rw few refl in
                 inr (x.0, d ∷ ds, x.1, front, is, on))
             | inr many ↦ (
-                let front : number_front (d ∷ text) ≡ None = rw (t, many) refl in
+                let front : small_number_front (d ∷ text) ≡ None = rw (t, many) refl in
                 let is : small_number (d ∷ ds) ≡ None = value ∙ rw many refl in
                 inl (front, wrong_front (d ∷ text) (d ∷ ds) x.1 is on))
           ])
-      | inr t ↦ (let front : number_front (d ∷ text) ≡ None = rw t refl in inl (front, wrong_first d text t))
+      | inr t ↦ (let front : small_number_front (d ∷ text) ≡ None = rw t refl in inl (front, wrong_first d text t))
     ]
 
 -- ---- the cell in front
@@ -322,7 +322,7 @@ no_comma_after (b ∷ rest) e =
       | inr t ↦ rw t refl
     ]
 
-module _ (text : Bytes) (x : ℕ) (ds rest : Bytes) (front : number_front text ≡ Some (x, rest)) (column : small_number ds ≡ Some x) where
+module _ (text : Bytes) (x : ℕ) (ds rest : Bytes) (front : small_number_front text ≡ Some (x, rest)) (column : small_number ds ≡ Some x) where
   no_comma : after_comma rest ≡ None → cell_front text ≡ None
   unfolding cell_front
   no_comma e = rw (front, e) refl
@@ -331,14 +331,14 @@ module _ (text : Bytes) (x : ℕ) (ds rest : Bytes) (front : number_front text �
     goes_after : after_comma rest ≡ Some after
     goes_after = ap after_comma comma
 
-    no_second : number_front after ≡ None → IsWrong after → ReadsCell text
+    no_second : small_number_front after ≡ None → IsWrong after → ReadsCell text
     unfolding cell_front spelled_cell
     no_second none wrong =
         let c : cell_front text ≡ None = rw (front, goes_after, none) refl in
         let parts : parts_front text ≡ ds ∷ wrong.part ∷ wrong.more = more.parts ∙ ap (λ (ws : List Bytes). ds ∷ ws) wrong.parts in
         inl (c, ap cell_of_parts parts ∙ no_cell_second ds wrong.part wrong.more wrong.none)
 
-    second : (y : ℕ) (es rest2 : Bytes) → number_front after ≡ Some (y, rest2) → small_number es ≡ Some y → GoesOn after es rest2 → ReadsCell text
+    second : (y : ℕ) (es rest2 : Bytes) → small_number_front after ≡ Some (y, rest2) → small_number es ≡ Some y → GoesOn after es rest2 → ReadsCell text
     unfolding cell_front spelled_cell
     second y es rest2 found row (inl alone) =
         let next = next_word rest2 alone.ended in
@@ -376,7 +376,7 @@ module _ (text : Bytes) (x : ℕ) (ds rest : Bytes) (front : number_front text �
       let wrong = h.4 in
       inl (no_comma (ap after_comma h.2 ∙ none), ap cell_of_parts wrong.parts ∙ no_cell_first wrong.part wrong.more wrong.none)
 
-no_number : (text : Bytes) → number_front text ≡ None → IsWrong text → ReadsCell text
+no_number : (text : Bytes) → small_number_front text ≡ None → IsWrong text → ReadsCell text
 unfolding cell_front spelled_cell
 no_number text none wrong =
     let c : cell_front text ≡ None = rw none refl in
@@ -404,7 +404,7 @@ same_pair : (a b : Cell × Bytes) → Some a ≡ Some b → a ≡ b
 same_pair a b e = cc
 
 empty_has_none : cell_front [] ≡ None
-unfolding cell_front number_front
+unfolding cell_front small_number_front number_front
 empty_has_none = refl
 
 pub passes : (text : Bytes) (cell : Cell) (after : Bytes) → starts_blank text ≡ false → cell_front text ≡ Some (cell, after) → Passes text cell after

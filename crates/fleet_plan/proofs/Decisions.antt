@@ -264,7 +264,9 @@ in_box plan limits i t l =
     let p : IsPath path = limits.paths i [] l in
     let some : 1 ≤ length path = p.some_cells in
     let c : IsCell (get_or path (min t (length path - 1)) origin) = p.cells (min t (length path - 1)) origin (omega arith) in
-    (c.x, c.y)
+    let x = c.x in
+    let y = c.y in
+    (omega (arith, x), omega (arith, y))
 
 places_at : Plan → ℕ → List ℕ
 places_at plan t = map (λ (path : Path). cell_index box (cell_at path t)) plan

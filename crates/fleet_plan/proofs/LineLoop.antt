@@ -3,7 +3,7 @@ use Rattle.std.proofs.Common.{◌≡◌, ℕ, ◌+◌, ◌≤◌, ◌<◌, true,
 use Rattle.std.proofs.lemmas.Bool.{cases_Bool, lt-ltb, le-ltb, le-leb, lt-leb}
 use Rattle.std.proofs.lemmas.List.{append-nil, length-append}
 use Rattle.fleet_model.specs.declared.geometry.Cell.{Cell}
-use Rattle.fleet_grid.specs.Text.{Bytes, is_blank, starts_blank, words, words_from_front}
+use Rattle.fleet_text.specs.Text.{Bytes, is_blank, starts_blank, words, words_from_front}
 use Rattle.fleet_plan.specs.Plan.{Path, Plan}
 use Rattle.fleet_plan.specs.declared.text_fault.TextFault.{TextFault}
 use Rattle.fleet_plan.specs.declared.text_fault.TextFault.TheVariants.{Form, Length, AgentCount}

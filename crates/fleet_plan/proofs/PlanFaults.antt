@@ -6,9 +6,9 @@ use Rattle.std.proofs.lemmas.Bool.{ltb-true, ltb-false, leb-false, lt-ltb, le-lt
 use Rattle.std.proofs.lemmas.List.{length-append, length-drop}
 use Rattle.std.proofs.lemmas.List.Elements.{All-from_recursion, recursion_from_All}
 use Rattle.fleet_model.specs.Answer.{IsDueUnless}
-use Rattle.fleet_grid.specs.Text.{Bytes}
-use Rattle.fleet_grid.specs.Steps.{◌>>=◌, ◌>>◌, right_or, some_or}
-use Rattle.fleet_grid.proofs.StepLaws.{some_ok, bind_err, right_err, some_err, err_is, ok_err, result_cases}
+use Rattle.fleet_text.specs.Text.{Bytes}
+use Rattle.fleet_text.specs.Steps.{◌>>=◌, ◌>>◌, right_or, some_or}
+use Rattle.fleet_text.proofs.StepLaws.{some_ok, bind_err, right_err, some_err, err_is, ok_err, result_cases}
 use Rattle.fleet_plan.specs.Plan.{Path, Plan}
 use Rattle.fleet_plan.specs.declared.text_fault.TextFault.{TextFault}
 use Rattle.fleet_plan.specs.declared.text_fault.TextFault.TheVariants.{OutOfMemory, Form, Length, AgentCount}

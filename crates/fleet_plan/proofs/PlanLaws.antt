@@ -7,9 +7,9 @@ use Rattle.std.proofs.lemmas.List.{append-nil, length-append}
 use Rattle.std.proofs.lemmas.List.Elements.{All-from_recursion}
 use Rattle.fleet_model.specs.declared.geometry.Cell.{Cell}
 use Rattle.fleet_model.specs.Program.{IsCell}
-use Rattle.fleet_grid.specs.Text.{Bytes, words_from_front, number, small, small_number}
-use Rattle.fleet_grid.specs.Steps.{◌>>=◌, ◌>>◌, right_or, some_or}
-use Rattle.fleet_grid.proofs.StepLaws.{bind_ok, right_ok, some_ok, ok_is}
+use Rattle.fleet_text.specs.Text.{Bytes, words_from_front, number, small, small_number}
+use Rattle.fleet_text.specs.Steps.{◌>>=◌, ◌>>◌, right_or, some_or}
+use Rattle.fleet_text.proofs.StepLaws.{bind_ok, right_ok, some_ok, ok_is}
 use Rattle.fleet_plan.specs.Plan.{Path, Plan, IsPath, IsFleet, IsWithinLimits}
 use Rattle.fleet_plan.specs.declared.text_fault.TextFault.{TextFault}
 use Rattle.fleet_plan.specs.declared.text_fault.TextFault.TheVariants.{Form, Length, AgentCount}
@@ -179,7 +179,7 @@ parts_are_few (x ∷ y ∷ []) c e = few (small_number x) refl (small_number y) 
     few (Some m) h None k = absurd (let f : None ≡ Some c = rw (h, k) at e in no_some c f)
     few (Some m) h (Some n) k =
         let f : Some (record { x = m; y = n }) ≡ Some c = rw (h, k) at e in
-        subst IsCell (some_is (record { x = m; y = n }) c f) (record { x = small_is_few x m h; y = small_is_few y n k })
+        subst IsCell (some_is (record { x = m; y = n }) c f) (let a = small_is_few x m h in let b = small_is_few y n k in record { x = omega (arith, a); y = omega (arith, b) })
 parts_are_few (x ∷ y ∷ z ∷ more) c e = absurd (no_some c e)
 
 cells_are_few : (ws : List Bytes) (cells : Path) → map spelled_cell ws ≡ map (λ cell. Some cell) cells → AllByRecursion IsCell cells

@@ -2,23 +2,11 @@
 use Rattle.std.proofs.Common.{◌≡◌, ℕ, zero, suc, ◌+◌, ◌/◌, ◌%◌, ◌≤◌, ◌<◌, [], ◌∷◌, ◌++◌, length, get_or, take, refl, sym, ap, ◌∙◌, append_assoc, arith}
 use Rattle.std.specs.Prelude.{decimal, slice_get, Some}
 use Rattle.std.specs.List.{flat_map}
-use Rattle.std.proofs.lemmas.Fmt.{decimal_digit, decimal_step}
 use Rattle.std.proofs.lemmas.List.{append-nil, take_more}
 use Rattle.fleet_model.specs.declared.geometry.Cell.{Cell}
-use Rattle.fleet_grid.specs.Text.{Bytes}
+use Rattle.fleet_text.specs.Text.{Bytes}
 use Rattle.fleet_plan.specs.Plan.{Path, Plan}
 use Rattle.fleet_plan.specs.PlanText.{cell_text, path_text, plan_text}
-
--- ---- numbers
-
-pub number_more : (n : ℕ) (before front all : Bytes) → 10 ≤ n → n < 65536 → front ≡ before ++ decimal (n / 10) → all ≡ front ++ (48 + n % 10) ∷ [] → all ≡ before ++ decimal n
-number_more n before front all many few e f =
-    f ∙ ap (λ (x : Bytes). x ++ (48 + n % 10) ∷ []) e ∙ append_assoc before (decimal (n / 10)) ((48 + n % 10) ∷ []) ∙ ap (λ (x : Bytes). before ++ x) (sym (decimal_step n many (omega arith)))
-
-pub number_last : (n : ℕ) (before all : Bytes) → n < 10 → all ≡ before ++ (48 + n % 10) ∷ [] → all ≡ before ++ decimal n
-number_last n before all few e =
-    let same : n % 10 ≡ n = omega arith in
-    e ∙ ap (λ (d : ℕ). before ++ (48 + d) ∷ []) same ∙ ap (λ (x : Bytes). before ++ x) (sym (decimal_digit n few))
 
 -- ---- cells
 

@@ -8,8 +8,9 @@ use Rattle.std.proofs.lemmas.Fmt.{decimal_by_steps}
 use Rattle.std.proofs.lemmas.List.{length-append, length-map}
 use Rattle.std.proofs.lemmas.List.Elements.{recursion_from_All}
 use Rattle.fleet_model.specs.declared.geometry.Cell.{Cell}
+use Rattle.fleet_model.specs.declared.limits.TheConstants.{MAX_COORDINATE}
 use Rattle.fleet_model.specs.Program.{IsCell}
-use Rattle.fleet_grid.specs.Text.{Bytes, is_blank, is_word, starts_blank, is_digit, ended_lines, lines, words, words_from_front, number_after, number, small_number}
+use Rattle.fleet_text.specs.Text.{Bytes, is_blank, is_word, starts_blank, is_digit, ended_lines, lines, words, words_from_front, number_after, number, small_number}
 use Rattle.fleet_plan.specs.Plan.{Path, Plan, IsPath, IsWithinLimits}
 use Rattle.fleet_plan.specs.PlanText.{cell_of_parts, spelled_cell, StandsFor, ArePlanLines, cell_text, path_text, ended_text, plan_text}
 
@@ -167,7 +168,7 @@ no_comma : (ds : Bytes) → From 48 ds → AllByRecursion (λ b. eqb b 44 ≡ fa
 no_comma [] h = tt
 no_comma (d ∷ ds) h = (apart_from 48 d 44 (omega arith) h.0, no_comma ds h.1)
 
-decimal_from : (n : ℕ) → n < 65536 → From 48 (decimal n)
+decimal_from : (n : ℕ) → n ≤ MAX_COORDINATE → From 48 (decimal n)
 decimal_from n lt = from_digits (decimal n) (spells n (omega arith)).digits
 
 cell_again : (c : Cell) → IsCell c → spelled_cell (cell_text c) ≡ Some c
@@ -175,7 +176,7 @@ unfolding spelled_cell
 cell_again c h =
     let parts : slice_split (λ b. eqb b 44) (decimal c.x ++ 44 ∷ decimal c.y) ≡ decimal c.x ∷ decimal c.y ∷ [] =
     split_first (λ b. eqb b 44) (decimal c.x) 44 (decimal c.y) (no_comma (decimal c.x) (decimal_from c.x h.x)) refl ∙ ap (λ (ws : List Bytes). decimal c.x ∷ ws) (split_last (λ b. eqb b 44) (decimal c.y) (no_comma (decimal c.y) (decimal_from c.y h.y))) in
-    ap cell_of_parts parts ∙ rw (small_is c.x h.x, small_is c.y h.y) refl
+    ap cell_of_parts parts ∙ (let x = h.x in let y = h.y in rw (small_is c.x (omega (arith, x)), small_is c.y (omega (arith, y))) refl)
 
 word_some : (ds more : Bytes) → 1 ≤ length ds → is_word (ds ++ more) ≡ true
 word_some [] more some = absurd (omega arith)

@@ -1,5 +1,6 @@
 -- Plans: for each agent a path, and what makes a plan free of conflict. Step x leads from time x to time x + 1.
 use Rattle.std.specs.Prelude.{◌≡◌, ℕ, ◌+◌, ◌-◌, ◌<◌, ◌≤◌, min, max, Bool, IsTrue, List, [], ◌∷◌, length, get_or, All, slice_get, Some, ◌⊎◌}
+use Rattle.fleet_model.specs.declared.limits.TheConstants.{MAX_AGENTS, MAX_HORIZON}
 use Rattle.fleet_model.specs.declared.geometry.Cell.{Cell}
 use Rattle.fleet_model.specs.declared.geometry.Place.{Place}
 use Rattle.fleet_model.specs.declared.geometry.Dir.{Dir}
@@ -52,16 +53,16 @@ pub record IsConflictFree (passable : Place → Bool) (tasks : List Task) (plan 
   pub swapping : (x i j : ℕ) → i < length plan → j < length plan → HasSwappingConflict (planned plan) x i j → ⊥
   pub cycle : (x : ℕ) (ring : List ℕ) → All (λ i. i < length plan) ring → HasCycleConflict (planned plan) x ring → ⊥
 
--- 1 to 65,536 cells, whose numbers fit two bytes
+-- a cell for each time from 0 to some time up to the horizon, with numbers that fit two bytes
 pub record IsPath (path : Path) : Type 0 where
   pub some_cells : 1 ≤ length path
-  pub few_cells : length path ≤ 65536
+  pub few_cells : length path ≤ MAX_HORIZON + 1
   pub cells : All IsCell path
 
 -- as many paths as there may be agents
 pub record IsFleet (plan : Plan) : Type 0 where
   pub some_agents : 1 ≤ length plan
-  pub few_agents : length plan ≤ 1024
+  pub few_agents : length plan ≤ MAX_AGENTS
 
 -- a plan within the limits
 pub record IsWithinLimits (plan : Plan) : Type 0 where

@@ -1,7 +1,8 @@
 -- Reading a plan's lines in the order of judging, with the first fault that is met.
 use Rattle.std.specs.Prelude.{ℕ, ◌+◌, nat_le, nat_lt, List, [], ◌∷◌, ◌++◌, length, Option, Some, None, option_map, option_and_then, is_some, if◌then◌else◌, Result, Ok, Err}
-use Rattle.fleet_grid.specs.Text.{Bytes, words, words_from_front}
-use Rattle.fleet_grid.specs.Steps.{◌>>=◌, ◌>>◌, right_or, some_or}
+use Rattle.fleet_model.specs.declared.limits.TheConstants.{MAX_AGENTS, MAX_HORIZON}
+use Rattle.fleet_text.specs.Text.{Bytes, words, words_from_front}
+use Rattle.fleet_text.specs.Steps.{◌>>=◌, ◌>>◌, right_or, some_or}
 use Rattle.fleet_plan.specs.Plan.{Path, Plan}
 use Rattle.fleet_plan.specs.PlanText.{spelled_cell}
 use Rattle.fleet_plan.specs.declared.text_fault.TextFault.{TextFault}
@@ -25,7 +26,7 @@ some_cells (cell ∷ cells) = Some (cell ∷ cells)
 unfoldable pub path_at : ℕ → Bytes → Result Path TextFault
 path_at number line = do
   path ← some_or (option_and_then some_cells (cells_in (words_from_front line))) (Form number)
-  right_or (nat_le (length path) 65536) (Length number)
+  right_or (nat_le (length path) (MAX_HORIZON + 1)) (Length number)
   Ok path
 
 -- the judgement at the end of the text
@@ -36,4 +37,4 @@ ended (path ∷ plan) = Ok (path ∷ plan)
 -- the paths of the lines, after those of the lines before
 unfoldable pub paths_at : Plan → List Bytes → Result Plan TextFault
 paths_at earlier [] = ended earlier
-paths_at earlier (line ∷ ls) = right_or (nat_lt (length earlier) 1024) AgentCount >> (path_at (length earlier + 1) line >>= λ path. paths_at (earlier ++ path ∷ []) ls)
+paths_at earlier (line ∷ ls) = right_or (nat_lt (length earlier) MAX_AGENTS) AgentCount >> (path_at (length earlier + 1) line >>= λ path. paths_at (earlier ++ path ∷ []) ls)

@@ -2,8 +2,9 @@
 -- plan.
 use Rattle.std.specs.Prelude.{◌≡◌, ℕ, ◌+◌, ◌<◌, ◌≤◌, ◌==◌, List, [], ◌∷◌, ◌++◌, length, map, take, slice_get, All, Option, Some, None, option_and_then, decimal, ◌⊎◌}
 use Rattle.std.specs.List.{AllZip, slice_split, flat_map, join_with_byte}
+use Rattle.fleet_model.specs.declared.limits.TheConstants.{MAX_AGENTS, MAX_HORIZON}
 use Rattle.fleet_model.specs.declared.geometry.Cell.{Cell}
-use Rattle.fleet_grid.specs.Text.{Bytes, lines, words_from_front, small_number}
+use Rattle.fleet_text.specs.Text.{Bytes, lines, words_from_front, small_number}
 use Rattle.fleet_plan.specs.Plan.{Path, Plan, IsFleet}
 use Rattle.fleet_plan.specs.declared.text_fault.TextFault.{TextFault}
 use Rattle.fleet_plan.specs.declared.text_fault.TextFault.TheVariants.{OutOfMemory, Form, Length, AgentCount}
@@ -29,7 +30,7 @@ pub record Spells (line : Bytes) (path : Path) : Type 0 where
 -- the line stands for the path
 pub record StandsFor (line : Bytes) (path : Path) : Type 0 where
   pub spells : Spells line path
-  pub few : length path ≤ 65536
+  pub few : length path ≤ MAX_HORIZON + 1
 
 -- ---- a plan text
 
@@ -50,7 +51,7 @@ IsRight line = (path : Path) × StandsFor line path
 
 -- this is line k, counted from 0, there may be so many agents, and all lines before it are right
 pub record Reaches (ls : List Bytes) (k : ℕ) (line : Bytes) : Type 0 where
-  pub few : k < 1024
+  pub few : k < MAX_AGENTS
   pub before : All IsRight (take k ls)
   pub here : slice_get ls k ≡ Some line
 
@@ -58,8 +59,8 @@ pub record Reaches (ls : List Bytes) (k : ℕ) (line : Bytes) : Type 0 where
 abbrev pub IsFirstFault : List Bytes → TextFault → Type 0
 IsFirstFault ls OutOfMemory = ⊥
 IsFirstFault ls (Form number) = (k : ℕ) × (line : Bytes) × (number ≡ k + 1) × Reaches ls k line × ((path : Path) → Spells line path → ⊥)
-IsFirstFault ls (Length number) = (k : ℕ) × (line : Bytes) × (number ≡ k + 1) × Reaches ls k line × (path : Path) × Spells line path × (65536 < length path)
-IsFirstFault ls AgentCount = (ls ≡ []) ⊎ ((1024 < length ls) × All IsRight (take 1024 ls))
+IsFirstFault ls (Length number) = (k : ℕ) × (line : Bytes) × (number ≡ k + 1) × Reaches ls k line × (path : Path) × Spells line path × (MAX_HORIZON + 1 < length path)
+IsFirstFault ls AgentCount = (ls ≡ []) ⊎ ((MAX_AGENTS < length ls) × All IsRight (take MAX_AGENTS ls))
 
 abbrev pub IsFirstTextFault : Bytes → TextFault → Type 0
 IsFirstTextFault text fault = IsFirstFault (lines text) fault

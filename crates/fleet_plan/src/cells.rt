@@ -1,38 +1,10 @@
 //! The cells of a line, read in one pass: each function takes what it finds in front of a text, and gives the rest.
 
 ghost use Rattle.std.specs.Prelude.{◌≡◌, option_map, option_copied};
-ghost use Rattle.fleet_plan.specs.CellReading.{number_front, after_comma, after_blanks, after_word, cell_front, begins_with_word};
+ghost use Rattle.fleet_plan.specs.CellReading.{after_comma, after_blanks, after_word, cell_front, begins_with_word};
 
-use fleet_grid::text::is_blank;
 use fleet_model::Cell;
-
-/// The least number that no cell has.
-const TOO_LARGE: u32 = 65_536;
-
-/// The number in front, where it is at most 65,535, and what follows its digits.
-fn number_front(text: &[u8]) -> Option<(u16, &[u8])>
-    ensures { option_map (λ x. (x.0, x.1.now)) result ≡ number_front text.now }
-{
-    let [first, after @ ..] = text else {
-        return None;
-    };
-    if !first.is_ascii_digit() {
-        return None;
-    }
-    let mut number = u32::from(*first - b'0');
-    let mut rest = after;
-    while let [digit, after @ ..] = rest {
-        if !digit.is_ascii_digit() {
-            return Some((number as u16, rest));
-        }
-        number = 10 * number + u32::from(*digit - b'0');
-        if number >= TOO_LARGE {
-            return None;
-        }
-        rest = after;
-    }
-    Some((number as u16, rest))
-}
+use fleet_text::{is_blank, small_number_front};
 
 /// What follows a comma in front.
 fn after_comma(text: &[u8]) -> Option<&[u8]>
@@ -74,9 +46,9 @@ fn after_word(text: &[u8]) -> Option<&[u8]>
 pub(crate) fn cell_front(text: &[u8]) -> Option<(Cell, &[u8])>
     ensures { option_map (λ x. (x.0, x.1.now)) result ≡ cell_front text.now }
 {
-    let (x, after) = number_front(text)?;
+    let (x, after) = small_number_front(text)?;
     let after = after_comma(after)?;
-    let (y, after) = number_front(after)?;
+    let (y, after) = small_number_front(after)?;
     let rest = after_word(after)?;
     Some((Cell { x, y }, rest))
 }

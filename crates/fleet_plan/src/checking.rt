@@ -20,6 +20,7 @@ use std::alloc::Global;
 ///
 /// It takes time in proportion to the cells of the plan and of the map, and memory for the cells of the map and the
 /// agents, once.
+#[tactic(auto, using(crate::proofs::FaultLaws::not_free))]
 pub fn check<'g>(
     alloc: Global,
     plan: Plan,

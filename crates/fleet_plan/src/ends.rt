@@ -27,8 +27,7 @@ pub(crate) fn first_wrong_goal(plan: &Plan, instance: &Instance) -> Option<u16>
     ensures none { IfNone result (AllAgents plan.now (EndsRight instance.now plan.now)) }
 {
     for i in 0..plan.agents() {
-        let path = plan.path(i);
-        if path.cell(path.steps()) != instance.goal(i) {
+        if plan.last_cell(i) != instance.goal(i) {
             return Some(i);
         }
     }

@@ -1,8 +1,9 @@
 //! Paths, and plans of a fleet.
 
 ghost use Rattle.std.specs.Prelude.{◌≡◌, ◌+◌, ◌≤◌, ◌<◌, length, slice_get, Some};
+ghost use Rattle.fleet_model.specs.declared.limits.TheConstants.{MAX_HORIZON};
 ghost use Rattle.fleet_model.specs.Program.{IsCell};
-ghost use Rattle.fleet_plan.specs.Plan.{IsPath, IsFleet, IsWithinLimits, cell_at, cell_of, steps};
+ghost use Rattle.fleet_plan.specs.Plan.{IsPath, IsFleet, IsWithinLimits, cell_at, cell_of, last_cell, steps};
 
 use fleet_model::Cell;
 use std::marker::Model;
@@ -31,7 +32,7 @@ impl Path {
     /// The path over these cells.
     pub fn new(cells: Vec<Cell>) -> Path
         requires some { 1 ≤ length cells.items }
-        requires few { length cells.items ≤ 65536 }
+        requires few { length cells.items ≤ MAX_HORIZON + 1 }
         ensures { result ≡ cells.items }
     {
         for cell in &cells {
@@ -137,10 +138,21 @@ impl Plan {
     }
 
     /// The cell of agent `i` at time `t`.
+    #[tactic(auto, unfolding(crate::specs::Plan::cell_of))]
     pub fn cell(&self, i: u16, t: u32) -> Cell
         requires { i < length self.now }
         ensures { result ≡ cell_of self.now i t }
     {
         self.paths[usize::from(i)].cell(t)
+    }
+
+    /// The last cell of agent `i`, on which it stays.
+    #[tactic(auto, using(crate::proofs::PathLaws::last_is))]
+    pub(crate) fn last_cell(&self, i: u16) -> Cell
+        requires { i < length self.now }
+        ensures { result ≡ last_cell self.now i }
+    {
+        let path = self.path(i);
+        path.cell(path.steps())
     }
 }

@@ -2,7 +2,7 @@
 
 ghost use Rattle.std.specs.Prelude.{◌≡◌, ◌≢◌, [], false, IfOk, IfErr, IsOkUnless};
 ghost use Rattle.fleet_model.specs.Answer.{IsDueUnless};
-ghost use Rattle.fleet_grid.specs.Text.{lines, starts_blank};
+ghost use Rattle.fleet_text.specs.Text.{lines, starts_blank};
 ghost use Rattle.fleet_plan.specs.Plan.{Plan as PlanValue};
 ghost use Rattle.fleet_plan.specs.PlanText.{IsPlanText, IsFirstTextFault};
 ghost use Rattle.fleet_plan.specs.PlanReading.{too_long, path_at, paths_at};
@@ -10,12 +10,12 @@ ghost use Rattle.fleet_plan.specs.PlanReading.{too_long, path_at, paths_at};
 use crate::cells::{begins_with_word, cell_front};
 use crate::plan::{Path, Plan};
 use crate::text_fault::TextFault;
-use fleet_grid::text::Cursor;
+use fleet_model::{MAX_AGENTS, MAX_HORIZON};
+use fleet_text::Cursor;
 use std::alloc::Global;
 
-const MAX_AGENTS: usize = 1024;
-
-const MAX_CELLS: usize = 65_536;
+/// A path has a cell for each time from 0 to the horizon.
+const MAX_CELLS: usize = MAX_HORIZON as usize + 1;
 
 /// Why a line is no path whose first words spell too many cells, by what follows these.
 fn too_long(number: u64, text: &[u8]) -> TextFault

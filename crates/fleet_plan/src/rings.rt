@@ -1,13 +1,14 @@
 //! Rings of agents in one step, each of which goes to the cell of the next one.
 
 ghost use Rattle.std.specs.Prelude.{◌≡◌, ℕ, ◌+◌, ◌<◌, ◌≤◌, ◌⊎◌, length, IfSome, IfNone};
+ghost use Rattle.fleet_model.specs.declared.limits.TheConstants.{MAX_AGENTS};
 ghost use Rattle.fleet_plan.specs.Rings.{AreAgents, IsOnRing, IsLeastOnRing, Reaches, IsWalked, AreClosed};
 
 /// The least agent that is on a ring, where each agent has at most one that is ahead of it. `walks` is for own use.
 pub(crate) fn least_on_ring(ahead: &[Option<u16>], walks: &mut [Option<u16>]) -> Option<u16>
     requires agents { AreAgents ahead.now }
     requires walks { length walks.old ≡ length ahead.now }
-    requires few { length ahead.now ≤ 1024 }
+    requires few { length ahead.now ≤ MAX_AGENTS }
     ensures some { IfSome result (IsLeastOnRing ahead.now) }
     ensures none { IfNone result ((i : ℕ) → IsOnRing ahead.now i → ⊥) }
 {

@@ -2,6 +2,7 @@
 
 ghost use Rattle.std.specs.Prelude.{◌≡◌, ◌≢◌, ℕ, ◌+◌, ◌*◌, ◌<◌, ◌≤◌, ◌⊎◌, IfOk, IfSome, IfNone, length, slice_index, Some, All};
 ghost use Rattle.fleet_grid.specs.Ground.{is_passable};
+ghost use Rattle.fleet_model.specs.declared.limits.TheConstants.{MAX_AGENTS};
 ghost use Rattle.fleet_plan.specs.FirstFault.{AllAgents, GoesRight, IsFirstConflict, HasNoConflict};
 ghost use Rattle.fleet_plan.specs.Rings.{AreAgents};
 ghost use Rattle.fleet_plan.specs.Sweep.{IsOnMap, ArePlaces, IsFirstMeeting, IsEntered, AreAhead, Exchange, IsFirstExchange, IsFirstIn, IsFreeIn};
@@ -27,7 +28,7 @@ fn fill_places(plan: &Plan, grid: &Grid, time: u32, places: &mut [usize])
 /// the table held before doesn't matter, since an entry counts only where that agent stands there.
 fn first_meeting(table: &mut [u16], places: &[usize]) -> Option<(u16, u16)>
     requires within { All (λ place. place < length table.old) places.now }
-    requires few { length places.now ≤ 1024 }
+    requires few { length places.now ≤ MAX_AGENTS }
     ensures some { IfSome result (λ pair. IsFirstMeeting places.now pair.0 pair.1) }
     ensures none { IfNone result (IsEntered table.new places.now) }
 {
@@ -88,7 +89,7 @@ fn fill_ahead(table: &[u16], places: &[usize], next: &[usize], ahead: &mut [Opti
 /// The first two agents that are ahead of each other.
 fn first_exchange(ahead: &[Option<u16>]) -> Option<(u16, u16)>
     requires agents { AreAgents ahead.now }
-    requires few { length ahead.now ≤ 1024 }
+    requires few { length ahead.now ≤ MAX_AGENTS }
     ensures some { IfSome result (λ pair. IsFirstExchange ahead.now pair.0 pair.1) }
     ensures none { IfNone result ((i j : ℕ) → Exchange ahead.now i j → ⊥) }
 {
@@ -112,7 +113,7 @@ fn conflict_at(
     ahead: &mut [Option<u16>],
     walks: &mut [Option<u16>],
 ) -> Option<Conflict>
-    requires few { length places.now ≤ 1024 }
+    requires few { length places.now ≤ MAX_AGENTS }
     requires next { length next.now ≡ length places.now }
     requires ahead { length ahead.old ≡ length places.now }
     requires walks { length walks.old ≡ length places.now }
@@ -167,6 +168,7 @@ fn sweep(
 
 /// The first conflict of a plan whose agents go over passable cells. Takes memory for the cells of the map and for the
 /// agents, once.
+#[tactic(auto, using(crate::proofs::SweepLaws::all_on_map))]
 pub(crate) fn first_conflict(
     alloc: Global,
     plan: &Plan,

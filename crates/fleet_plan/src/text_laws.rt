@@ -1,9 +1,9 @@
 //! What it means that a text stands for a plan, or that a fault is its first.
 
-ghost use Rattle.std.specs.Prelude.{◌≡◌, ℕ, List, ◌⊎◌};
+ghost use Rattle.std.specs.Prelude.{◌≡◌, ℕ, List};
+ghost use Rattle.fleet_text.specs.Verdict.{HasOneVerdict};
 ghost use Rattle.fleet_plan.specs.Plan.{Plan, IsWithinLimits};
 ghost use Rattle.fleet_plan.specs.PlanText.{IsPlanText, IsFirstTextFault, plan_text};
-ghost use Rattle.fleet_plan.specs.declared.text_fault.TextFault.{TextFault};
 
 /// A text stands for one plan at most, and that plan is within the limits.
 pub fn a_plan_text_is_one_plan()
@@ -21,7 +21,5 @@ pub fn a_written_plan_is_read()
 
 /// A text either stands for a plan or has a first fault, never both, and it has one first fault at most.
 pub fn a_text_is_a_plan_or_has_a_first_fault()
-    ensures either { (text : List ℕ) → ((p : Plan) × IsPlanText text p) ⊎ ((f : TextFault) × IsFirstTextFault text f) }
-    ensures not_both { (text : List ℕ) (p : Plan) (f : TextFault) → IsPlanText text p → IsFirstTextFault text f → ⊥ }
-    ensures one { (text : List ℕ) (e f : TextFault) → IsFirstTextFault text e → IsFirstTextFault text f → e ≡ f }
+    ensures { (text : List ℕ) → HasOneVerdict (IsPlanText text) (IsFirstTextFault text) }
 {}

@@ -1,31 +1,26 @@
 //! The writer of plans.
 
-ghost use Rattle.std.specs.Prelude.{◌≡◌, ◌<◌, ◌++◌, ◌∷◌, [], decimal, IfOk, OnOk};
+ghost use Rattle.std.specs.Prelude.{◌≡◌, ◌<◌, ◌++◌, ◌∷◌, [], IfOk, OnOk};
 ghost use Rattle.fleet_plan.specs.PlanText.{cell_text, path_text, plan_text};
 
 use crate::plan::{Path, Plan};
 use fleet_model::{Cell, OutOfMemory};
+use fleet_text::{write_byte, write_small_number};
 use std::alloc::{AllocError, Global};
 
-/// Adds the digits of a number.
-fn put_number(text: &mut Vec<u8>, number: u16) -> Result<(), AllocError>
-    ensures { OnOk result (text.new.items ≡ text.old.items ++ decimal number) }
-{
-    if number >= 10 {
-        put_number(text, number / 10)?;
-    }
-    text.push(b'0' + (number % 10) as u8)?;
-    Ok(())
-}
+/// How many bytes the longest cell has, with the byte after it.
+const CELL: usize = 12;
 
 /// Adds a cell and the byte after it.
 fn put_cell(text: &mut Vec<u8>, cell: Cell, after: u8) -> Result<(), AllocError>
     ensures { OnOk result (text.new.items ≡ text.old.items ++ cell_text cell ++ after ∷ []) }
 {
-    put_number(text, cell.x)?;
-    text.push(b',')?;
-    put_number(text, cell.y)?;
-    text.push(after)?;
+    let mut row = [0; CELL];
+    let at = write_byte(after, &mut row, CELL);
+    let at = write_small_number(cell.y, &mut row, at);
+    let at = write_byte(b',', &mut row, at);
+    let at = write_small_number(cell.x, &mut row, at);
+    text.extend_from_slice(&row[at..])?;
     Ok(())
 }
 

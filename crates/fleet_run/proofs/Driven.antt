@@ -16,9 +16,10 @@ use Rattle.fleet_run.specs.declared.run.RunFault.TheVariants.{OutOfMemory, Sourc
 use Rattle.fleet_run.specs.declared.source.SourceFault.{SourceFault}
 use Rattle.fleet_run.specs.declared.source.SourceFault.TheVariants.{Broken, Text}
 use Rattle.fleet_run.specs.declared.trace.Report.{Report}
-use Rattle.fleet_run.specs.Sink.{TakesAll}
+use Rattle.fleet_text.specs.Sink.{SinkState, HasFailed, TakesAll}
+use Rattle.fleet_run.specs.Source.{SourceState}
 use Rattle.fleet_run.specs.Text.{line_of, lines_below, trace_closing}
-use Rattle.fleet_run.specs.Outcome.{NeedsTicks, Outside, RunsLines, StopsAtSource, end_of}
+use Rattle.fleet_run.specs.Outcome.{NeedsTicks, RunsLines, StopsAtSource, end_of}
 use Rattle.fleet_run.specs.Drive.{Drives, IsInTime, trace_from}
 use Rattle.fleet_model.proofs.Tick.{length-tick, length-run, standing_at_tick}
 use Rattle.fleet_run.proofs.Rehearsed.{within_closing}
@@ -30,35 +31,35 @@ not_finished p c h = (or_parts (is_finished p c) (is_stuck p c) h).0
 pub needed_to_finish : (p : Program) (holds : Holds) (t : ℕ) → NeedsTicks is_over p holds t → NeedsTicks is_finished p holds t
 needed_to_finish p holds t h = λ s l. not_finished p (run p holds s) (h s l)
 
-pub stops_at_source_too : (p : Program) (holds : Holds) (o : Outside) (kind : SourceFault) (t : ℕ) → StopsAtSource is_over p holds o kind t → StopsAtSource is_finished p holds o kind t
-stops_at_source_too p holds o kind t h = record { needed = needed_to_finish p holds (t + 1) h.needed; all = h.all; left = h.left; last = h.last; kept = h.kept; fault = h.fault; taken = h.taken; working = h.working }
+pub stops_at_source_too : (p : Program) (s s' : SourceState) (o o' : SinkState) (kind : SourceFault) (t : ℕ) → StopsAtSource is_over p s s' o o' kind t → StopsAtSource is_finished p s s' o o' kind t
+stops_at_source_too p s s' o o' kind t h = record { needed = needed_to_finish p s.ticks (t + 1) h.needed; all = h.all; left = h.left; last = h.last; kept = h.kept; fault = h.fault; taken = h.taken; working = h.working }
 
 -- a fault while the lines are written
-pub drives_so : (p : Program) (chain : ℕ) (holds : Holds) (o : Outside) (c : Configuration) (fault : RunFault) → RunsLines p holds o c (Err fault) → Drives p chain holds o c (Err fault)
-drives_so p chain holds o c OutOfMemory h = h
-drives_so p chain holds o c (Source n) h = (h.0, h.1, h.2, stops_at_source_too p holds o Broken h.0 h.3)
-drives_so p chain holds o c (Hold n) h = (h.0, h.1, h.2, stops_at_source_too p holds o Text h.0 h.3)
-drives_so p chain holds o c Write h =
+pub drives_so : (p : Program) (chain : ℕ) (s s' : SourceState) (o o' : SinkState) (c : Configuration) (fault : RunFault) → RunsLines p s s' o o' c (Err fault) → Drives p chain s s' o o' c (Err fault)
+drives_so p chain s s' o o' c OutOfMemory h = h
+drives_so p chain s s' o o' c (Source n) h = (h.0, h.1, h.2, stops_at_source_too p s s' o o' Broken h.0 h.3)
+drives_so p chain s s' o o' c (Hold n) h = (h.0, h.1, h.2, stops_at_source_too p s s' o o' Text h.0 h.3)
+drives_so p chain s s' o o' c Write h =
     let t = h.0 in
     let stop = h.2 in
-    let line = line_of t (run p holds t) in
-    let closing = cond (is_finished p (run p holds t)) (trace_closing (length p) t chain (held_ticks p holds t)) [] in
+    let line = line_of t (run p s.ticks t) in
+    let closing = cond (is_finished p (run p s.ticks t)) (trace_closing (length p) t chain (held_ticks p s.ticks t)) [] in
     let k = stop.taken.0 in
     let inside = stop.taken.1 in
-    let same : lines_below p holds t ++ take k line ≡ lines_below p holds t ++ take k (line ++ closing) = ap (λ xs. lines_below p holds t ++ xs) (sym (take-append-le k line closing (omega arith))) in
-    let Taken : List ℕ → Type 0 = λ bytes. Appends o.before o.taken bytes in (
+    let same : lines_below p s.ticks t ++ take k line ≡ lines_below p s.ticks t ++ take k (line ++ closing) = ap (λ xs. lines_below p s.ticks t ++ xs) (sym (take-append-le k line closing (omega arith))) in
+    let Taken : List ℕ → Type 0 = λ bytes. Appends o.taken o'.taken bytes in (
       t,
       h.1,
       record {
-        needed = needed_to_finish p holds t stop.needed;
-        source = stop.source;
+        needed = needed_to_finish p s.ticks t stop.needed;
+        asked = stop.asked;
         taken = (k, omega (arith, length-append line closing), subst Taken same stop.taken.2);
         failed = stop.failed;
       },
     )
-drives_so p chain holds o c HoldLimit h =
+drives_so p chain s s' o o' c HoldLimit h =
     let stop = h.2 in
-    (h.0, h.1, record { limit = stop.limit; needed = needed_to_finish p holds (h.0 + 1) stop.needed; more = stop.more; source = stop.source; taken = stop.taken; working = stop.working })
+    (h.0, h.1, record { limit = stop.limit; needed = needed_to_finish p s.ticks (h.0 + 1) stop.needed; more = stop.more; asked = stop.asked; taken = stop.taken; working = stop.working })
 
 -- a run of an accepted program that has ended is finished
 pub finished_at_end : (p : Program) (c : Configuration) (end : End) → is_stuck p c ≡ false → end_of p c ≡ Some end → is_finished p c ≡ true
@@ -74,16 +75,16 @@ trace_at_end : (p : Program) (chain : ℕ) (holds : Holds) (t : ℕ) → is_fini
 trace_at_end p chain holds t over = ap (λ b. line_of t (run p holds t) ++ cond b (trace_closing (length p) t chain (held_ticks p holds t)) []) (sym over)
 
 -- the sink failed within the closing lines
-pub stops_in_trace_closing : {T E : Type 0} (p : Program) (chain : ℕ) (holds : Holds) (t : ℕ) (before mid after : Option (List ℕ)) (failed : Bool) (r : Result T E) (bytes : List ℕ)
-    → is_finished p (run p holds t) ≡ true → Appends before mid (lines_below p holds (t + 1)) → TakesAll mid after failed r bytes → is_err r ≡ true
+pub stops_in_trace_closing : {T E : Type 0} (p : Program) (chain : ℕ) (holds : Holds) (t : ℕ) (before mid after : SinkState) (r : Result T E) (bytes : List ℕ)
+    → is_finished p (run p holds t) ≡ true → Appends before.taken mid.taken (lines_below p holds (t + 1)) → TakesAll mid after r bytes → is_err r ≡ true
     → bytes ≡ trace_closing (length p) t chain (held_ticks p holds t)
-    → ((k : ℕ) × (k < length (trace_from p chain holds t)) × Appends before after (lines_below p holds t ++ take k (trace_from p chain holds t))) × (failed ≡ true)
-stops_in_trace_closing p chain holds t before mid after failed (Ok x) bytes over lines took err e = absurd (cc)
-stops_in_trace_closing p chain holds t before mid after failed (Err x) bytes over lines took err e =
-    let first : Appends before mid (lines_below p holds t ++ line_of t (run p holds t)) = rw add-one at lines in
-    let Within : List ℕ → Type 0 = λ text. (k : ℕ) × (k < length text) × Appends before after (lines_below p holds t ++ take k text) in
+    → ((k : ℕ) × (k < length (trace_from p chain holds t)) × Appends before.taken after.taken (lines_below p holds t ++ take k (trace_from p chain holds t))) × HasFailed after
+stops_in_trace_closing p chain holds t before mid after (Ok x) bytes over lines took err e = absurd (cc)
+stops_in_trace_closing p chain holds t before mid after (Err x) bytes over lines took err e =
+    let first : Appends before.taken mid.taken (lines_below p holds t ++ line_of t (run p holds t)) = rw add-one at lines in
+    let Within : List ℕ → Type 0 = λ text. (k : ℕ) × (k < length text) × Appends before.taken after.taken (lines_below p holds t ++ take k text) in
     let closing = trace_closing (length p) t chain (held_ticks p holds t) in
-    (subst Within (trace_at_end p chain holds t over) (within_closing before mid after (lines_below p holds t) (line_of t (run p holds t)) closing bytes e first took.0), took.1)
+    (subst Within (trace_at_end p chain holds t over) (within_closing before.taken mid.taken after.taken (lines_below p holds t) (line_of t (run p holds t)) closing bytes e first took.taken), took.failed)
 
 -- a tick in which nobody's count has grown changes nothing
 unmoved : (b : Bool) (s : Standing) (a : Option Action) (t : Standing) → t ≡ cond b (finished_one s a) s → t.count ≡ 0 → s.count ≡ 0 × (t ≡ s)
@@ -111,9 +112,9 @@ at_opening p c reached none =
     sym reached.same ∙ run_at_opening p reached.holds reached.ticks (λ i h. subst (λ d. count_at d i ≡ 0) (sym reached.same) (none i h))
 
 -- a run that arrives is told so
-pub told_in_time : (p : Program) (chain : ℕ) (holds : Holds) (o : Outside) (c : Configuration) (r : Result Report RunFault)
-    → ((f : ℕ) → IsFinish p holds f → Arrives p holds chain f) → Drives p chain holds o c r → IfOk r IsInTime
-told_in_time p chain holds o c (Ok r) arrive h =
+pub told_in_time : (p : Program) (chain : ℕ) (s s' : SourceState) (o o' : SinkState) (c : Configuration) (r : Result Report RunFault)
+    → ((f : ℕ) → IsFinish p s.ticks f → Arrives p s.ticks chain f) → Drives p chain s s' o o' c r → IfOk r IsInTime
+told_in_time p chain s s' o o' c (Ok r) arrive h =
     let driven = h.1 in
     let arrived = arrive r.ticks driven.finish in
     let same = driven.the_chain in
@@ -121,4 +122,4 @@ told_in_time p chain holds o c (Ok r) arrive h =
     let low = arrived.no_sooner in
     let high = arrived.in_time in
     record { no_sooner = omega (arith, same, low); in_time = omega (arith, same, held, high) }
-told_in_time p chain holds o c (Err e) arrive h = tt
+told_in_time p chain s s' o o' c (Err e) arrive h = tt

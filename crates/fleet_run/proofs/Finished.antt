@@ -12,7 +12,8 @@ use Rattle.fleet_model.proofs.Tick.{length-tick, standing_at_tick, other_stays}
 use Rattle.fleet_run.specs.declared.run.RunFault.{RunFault}
 use Rattle.fleet_run.specs.declared.trace.Report.{Report}
 use Rattle.fleet_run.specs.Fleet.{AreOnGoals}
-use Rattle.fleet_run.specs.Outcome.{Outside}
+use Rattle.fleet_text.specs.Sink.{SinkState}
+use Rattle.fleet_run.specs.Source.{SourceState}
 use Rattle.fleet_run.specs.Drive.{Drives}
 use Rattle.fleet_run.proofs.Indices.{any_suc}
 use Rattle.fleet_run.proofs.Ready.{no_action_left}
@@ -68,13 +69,13 @@ on_goals p holds l f t c finish arrives here over =
 
 -- ---- a driven fleet
 
-pub arrived_if_told : (p : Program) (chain : ℕ) (holds : Holds) (o : Outside) (c : Configuration) (r : Result Report RunFault)
-    → ((f : ℕ) → IsFinish p holds f → Arrives p holds chain f) → Drives p chain holds o c r → IfOk r (λ _. AreOnGoals p c)
-arrived_if_told p chain holds o c (Ok r) arrive h =
-    on_goals p holds chain r.ticks r.ticks c h.1.finish (arrive r.ticks h.1.finish) (sym h.0) (rw h.0 h.1.finish.holds)
-arrived_if_told p chain holds o c (Err e) arrive h = tt
+pub arrived_if_told : (p : Program) (chain : ℕ) (s s' : SourceState) (o o' : SinkState) (c : Configuration) (r : Result Report RunFault)
+    → ((f : ℕ) → IsFinish p s.ticks f → Arrives p s.ticks chain f) → Drives p chain s s' o o' c r → IfOk r (λ _. AreOnGoals p c)
+arrived_if_told p chain s s' o o' c (Ok r) arrive h =
+    on_goals p s.ticks chain r.ticks r.ticks c h.1.finish (arrive r.ticks h.1.finish) (sym h.0) (rw h.0 h.1.finish.holds)
+arrived_if_told p chain s s' o o' c (Err e) arrive h = tt
 
-pub longest_if_told : (p : Program) (chain : ℕ) (holds : Holds) (o : Outside) (c : Configuration) (r : Result Report RunFault) (q : Program)
-    → IsLongestChain q chain → Drives p chain holds o c r → IfOk r (λ r. IsLongestChain q r.chain)
-longest_if_told p chain holds o c (Ok r) q longest h = rw h.1.the_chain longest
-longest_if_told p chain holds o c (Err e) q longest h = tt
+pub longest_if_told : (p : Program) (chain : ℕ) (s s' : SourceState) (o o' : SinkState) (c : Configuration) (r : Result Report RunFault) (q : Program)
+    → IsLongestChain q chain → Drives p chain s s' o o' c r → IfOk r (λ r. IsLongestChain q r.chain)
+longest_if_told p chain s s' o o' c (Ok r) q longest h = rw h.1.the_chain longest
+longest_if_told p chain s s' o o' c (Err e) q longest h = tt

@@ -10,7 +10,7 @@ use Rattle.std.proofs.lemmas.List.{get_or_append_left, get_or_default, length-ma
 use Rattle.std.proofs.lemmas.List.Elements.{All-from_recursion, recursion_from_All}
 use Rattle.std.proofs.lemmas.List.Splits.{join_with_byte-slice_split, slice_split_at, slice_split_none, length-slice_split}
 use Rattle.std.proofs.lemmas.Str.Parse.{IsNumeralModel, numerals_by_fold, not_in_digits}
-use Rattle.fleet_grid.specs.Text.{Bytes, is_digit, number_after, number}
+use Rattle.fleet_text.specs.Text.{Bytes, is_digit, number_after, number}
 use Rattle.fleet_run.specs.HoldText.{tick_line, IsTickLine, plain_number, agents_of, is_space, is_dash, tick_of}
 
 -- ---- numbers without a leading zero

@@ -4,8 +4,8 @@ use Rattle.std.specs.Prelude.{position, option_map}
 use Rattle.std.specs.List.{slice_split}
 use Rattle.std.proofs.lemmas.List.Splits.{slice_split_first}
 use Rattle.std.proofs.lemmas.Bool.{le-leb, lt-ltb}
-use Rattle.fleet_grid.specs.Text.{Bytes}
-use Rattle.fleet_grid.proofs.TextLaws.{found_at, found_nowhere, split_none}
+use Rattle.fleet_text.specs.Text.{Bytes}
+use Rattle.fleet_text.proofs.TextLaws.{found_at, found_nowhere, split_none}
 use Rattle.fleet_run.specs.HoldText.{is_space, plain_number, agents_of}
 
 pub cut_at : (line : Bytes) (end : ℕ) → position is_space line ≡ Some end

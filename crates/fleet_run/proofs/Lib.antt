@@ -4,9 +4,7 @@ pub mod Judged
 pub mod Advanced
 pub mod Opened
 pub mod Kept
-pub mod DigitLemmas
 pub mod Closing
-pub mod SinkLemmas
 pub mod SourceLemmas
 pub mod Ending
 pub mod Progress

@@ -3,7 +3,8 @@ use Rattle.std.specs.Prelude.{◌≡◌, ℕ, ◌+◌, ◌<◌, Bool, true, fals
 use Rattle.std.specs.List.{slice_split, join_with_byte}
 use Rattle.std.specs.List.Sorted.{IsStrictlyIncreasing}
 use Rattle.fleet_model.specs.Machine.{Holds}
-use Rattle.fleet_grid.specs.Text.{Bytes, number}
+use Rattle.fleet_text.specs.Text.{Bytes, number}
+use Rattle.fleet_run.specs.Source.{SourceState}
 use Rattle.fleet_run.specs.declared.source.SourceFault.{SourceFault}
 use Rattle.fleet_run.specs.declared.source.SourceFault.TheVariants.{Text}
 
@@ -77,3 +78,6 @@ pub record HoldLines : Type 0 where
   pub lines : List Bytes  -- those that are left
   pub agents : ℕ
   pub has_failed : Bool
+
+abbrev pub source_of : HoldLines → SourceState
+source_of t = record { ticks = ticks_of t.agents t.lines; last = last_of t.agents t.lines; fault = if t.has_failed then Some Text else None }

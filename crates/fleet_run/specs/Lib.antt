@@ -2,8 +2,6 @@ pub mod Near
 pub mod Machine
 pub mod Text
 pub mod Source
-pub mod Sink
-pub mod Taken
 pub mod Outcome
 pub mod Rehearsal
 pub mod HoldText

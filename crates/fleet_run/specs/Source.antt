@@ -1,6 +1,7 @@
 -- What a source of held sets can still give, what comes after that, and as what it has failed.
 use Rattle.std.specs.Prelude.{◌≡◌, ℕ, ◌<◌, Bool, true, false, List, [], ◌∷◌, length, get_or, None, Some, Option, Result, Ok, Err}
 use Rattle.fleet_model.specs.Machine.{Holds, is_among}
+use Rattle.fleet_run.specs.declared.source.SourceFault.{SourceFault}
 
 -- flag i of the flags
 abbrev pub flag_of : List Bool → ℕ → Bool
@@ -10,14 +11,28 @@ flag_of flags i = get_or flags i false
 abbrev pub AreFlagsOf : List ℕ → List Bool → Type 0
 AreFlagsOf tick flags = (i : ℕ) → i < length flags → flag_of flags i ≡ is_among tick i
 
--- One call of `next`, on a source with these ticks old and this last after them, which leaves the ticks new and the last now:
--- the first tick is set and taken off; or no tick was left and nothing came after them; or no tick was left and the source fails
--- as its last says. Nothing is said of what comes after a source that has ended.
-abbrev pub GivesTick : {E : Type 0} → (old new : Holds) (last now fault : Option E) → Result Bool E → List Bool → Type 0
-GivesTick old new last now fault (Ok true) flags =
-    ((tick : List ℕ) × (old ≡ tick ∷ new) × AreFlagsOf tick flags) × (now ≡ last) × (fault ≡ None)
-GivesTick old new last now fault (Ok false) flags = (old ≡ []) × (new ≡ []) × (last ≡ None) × (fault ≡ None)
-GivesTick old new last now fault (Err e) flags = (old ≡ []) × (new ≡ []) × (last ≡ Some e) × (now ≡ last) × (fault ≡ Some e)
+-- a source at one time
+pub record SourceState : Type 0 where
+  pub ticks : Holds  -- what it can still give, each tick by the numbers of the agents that it holds
+  pub last : Option SourceFault  -- what comes after them: nothing, or the failure
+  pub fault : Option SourceFault  -- as what it has failed, if it has
+
+-- a source that gives these ticks, and then ends
+abbrev pub list_source : Holds → SourceState
+list_source ticks = record { ticks = ticks; last = None; fault = None }
+
+-- it has not failed
+abbrev pub HasNotFailed : SourceState → Type 0
+HasNotFailed source = source.fault ≡ None
+
+-- One call of `next`: the first tick is set and taken off; or no tick was left and nothing came after them; or no tick was left and
+-- the source fails as its last says. Nothing is said of what comes after a source that has ended.
+abbrev pub GivesTick : (source source' : SourceState) → Result Bool SourceFault → List Bool → Type 0
+GivesTick source source' (Ok true) flags =
+    ((tick : List ℕ) × (source.ticks ≡ tick ∷ source'.ticks) × AreFlagsOf tick flags) × (source'.last ≡ source.last) × HasNotFailed source'
+GivesTick source source' (Ok false) flags = (source.ticks ≡ []) × (source'.ticks ≡ []) × (source.last ≡ None) × HasNotFailed source'
+GivesTick source source' (Err e) flags =
+    (source.ticks ≡ []) × (source'.ticks ≡ []) × (source.last ≡ Some e) × (source'.last ≡ source.last) × (source'.fault ≡ Some e)
 
 -- the agents held in the first tick, or nobody where there is none
 abbrev pub first_of : Holds → List ℕ
@@ -31,10 +46,10 @@ rest_of (tick ∷ ticks) = ticks
 
 -- A source is asked, unless it has ended: the flags are set to the first tick, which is taken off, or to nobody where there is
 -- none, and it is told whether there was one; or the source has failed
-abbrev pub AsksTick : {E : Type 0} → (ended : Bool) (old new : Holds) (last now fault : Option E) → Result Bool E → List Bool → Type 0
-AsksTick ended old new last now fault (Ok true) flags =
-    (0 < length old) × (new ≡ rest_of old) × AreFlagsOf (first_of old) flags × (fault ≡ None) × (now ≡ last)
-AsksTick ended old new last now fault (Ok false) flags =
-    (old ≡ []) × (new ≡ rest_of old) × AreFlagsOf (first_of old) flags × (fault ≡ None) × (ended ≡ false → last ≡ None)
-AsksTick ended old new last now fault (Err e) flags =
-    (ended ≡ false) × (old ≡ []) × (new ≡ []) × (last ≡ Some e) × (now ≡ last) × (fault ≡ Some e)
+abbrev pub AsksTick : (ended : Bool) (source source' : SourceState) → Result Bool SourceFault → List Bool → Type 0
+AsksTick ended source source' (Ok true) flags =
+    (0 < length source.ticks) × (source'.ticks ≡ rest_of source.ticks) × AreFlagsOf (first_of source.ticks) flags × HasNotFailed source' × (source'.last ≡ source.last)
+AsksTick ended source source' (Ok false) flags =
+    (source.ticks ≡ []) × (source'.ticks ≡ rest_of source.ticks) × AreFlagsOf (first_of source.ticks) flags × HasNotFailed source' × (ended ≡ false → source.last ≡ None)
+AsksTick ended source source' (Err e) flags =
+    (ended ≡ false) × (source.ticks ≡ []) × (source'.ticks ≡ []) × (source.last ≡ Some e) × (source'.last ≡ source.last) × (source'.fault ≡ Some e)

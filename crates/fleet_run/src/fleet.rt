@@ -1,6 +1,6 @@
 //! A fleet that runs an accepted program.
 
-ghost use Rattle.std.specs.Prelude.{◌≡◌, ℕ, ◌<◌, ◌≤◌, length, IsOk, IfOk, IfErr, OnOk, OnErr, All, IsTrue, IsFalse, false, None};
+ghost use Rattle.std.specs.Prelude.{◌≡◌, ℕ, ◌<◌, ◌≤◌, length, IsOk, IfOk, IfErr, OnOk, OnErr, All, IsTrue, IsFalse, false};
 ghost use Rattle.fleet_grid.specs.Ground.{is_passable};
 ghost use Rattle.fleet_model.specs.Chain.{IsLongestChain};
 ghost use Rattle.fleet_model.specs.Machine.{opening, tick, moved_in, is_ready_held, is_finished, is_ready, place_at, count_at};
@@ -8,15 +8,17 @@ ghost use Rattle.fleet_model.specs.Run.{IsSafeStep};
 ghost use Rattle.fleet_model.specs.Claims.{order_of, AreApart, KeepsOrder};
 ghost use Rattle.fleet_run.specs.Drive.{Drives, IsInTime};
 ghost use Rattle.fleet_run.specs.Fleet.{AreOnGoals};
-ghost use Rattle.fleet_run.specs.Source.{flag_of};
+ghost use Rattle.fleet_run.specs.declared.run.TheConstants.{MOST_TICKS};
+ghost use Rattle.fleet_text.specs.Sink.{IsWorking};
+ghost use Rattle.fleet_run.specs.Source.{HasNotFailed, flag_of};
 ghost use Rattle.fleet_run.specs.Confirmed.{all_but, AreSent, IsFirstUnsent};
 
 use crate::machine::{Machine, Tick};
 use crate::run::RunFault;
-use crate::sink::TraceOut;
 use crate::source::{HoldSource, flip};
 use crate::trace::{Report, run_trace};
 use fleet_model::{Place, ProgramView, Step};
+use fleet_text::TraceOut;
 use fleet_verify::{
     Accepted, awaits_are_chains, ready_moves_are_apart, runs_arrive, runs_end, ticks_are_safe,
 };
@@ -198,17 +200,16 @@ pub fn drive<P: ProgramView, S: HoldSource, O: TraceOut>(
     out: &mut O,
 ) -> Result<Report, RunFault>
     requires counts { All (λ s. s.count ≡ 0) fleet.old.configuration }
-    requires source { S.fault source.old ≡ None }
-    requires sink { O.has_failed out.old ≡ false }
+    requires source { HasNotFailed (S.state source.old) }
+    requires sink { IsWorking (O.state out.old) }
     ensures accepted { fleet.new.accepted ≡ fleet.old.accepted }
-    ensures outcome { Drives (P.program fleet.old.accepted.program) fleet.old.accepted.chain (S.ticks source.old)
-        (record { last = S.last source.old; now = S.last source.new; left = S.ticks source.new; fault = S.fault source.new; before = O.taken out.old; taken = O.taken out.new; has_failed = O.has_failed out.new })
+    ensures outcome { Drives (P.program fleet.old.accepted.program) fleet.old.accepted.chain (S.state source.old) (S.state source.new) (O.state out.old) (O.state out.new)
         fleet.new.configuration result }
     ensures longest { IfOk result (λ r. IsLongestChain (P.program fleet.old.accepted.program) r.chain) }
     ensures in_time { IfOk result IsInTime }
     ensures arrived { IfOk result (λ _. AreOnGoals (P.program fleet.old.accepted.program) fleet.new.configuration) }
     // It reports unless the source or the sink has failed, or the source had more ticks than a run takes.
-    ensures reports { S.fault source.new ≡ None → O.has_failed out.new ≡ false → length (S.ticks source.old) ≤ 4194304 → IsOk result }
+    ensures reports { HasNotFailed (S.state source.new) → IsWorking (O.state out.new) → length (S.state source.old).ticks ≤ MOST_TICKS → IsOk result }
 {
     awaits_are_chains();
     runs_arrive();

@@ -48,13 +48,9 @@ fn set_flags(numbers: &[u16], flags: &mut [bool])
 }
 
 impl HoldSource for HoldList {
-    ghost use Rattle.std.specs.Prelude.{None};
+    ghost use Rattle.fleet_run.specs.Source.{list_source};
 
-    ghost ticks = { λ s. s };
-
-    ghost last = { λ _. None };
-
-    ghost fault = { λ _. None };
+    ghost state = { list_source };
 
     fn next(&mut self, held: &mut [bool]) -> Result<bool, SourceFault> {
         if self.given >= self.rows.len() {

@@ -2,12 +2,12 @@
 
 ghost use Rattle.std.specs.Prelude.{◌≡◌, ◌∷◌, [], List, ℕ, ◌<◌, length, ◌↔◌, MatchBool, MatchOption, IfSome, None, Some, min, option_map, position};
 ghost use Rattle.std.specs.List.{slice_split};
-ghost use Rattle.fleet_grid.specs.Text.{lines};
+ghost use Rattle.fleet_text.specs.Text.{lines};
 ghost use Rattle.fleet_run.specs.Source.{AreFlagsOf};
 ghost use Rattle.fleet_run.specs.HoldText.{is_space, is_dash, plain_number, agents_of, tick_of, IsTickLine};
 
 use crate::source::{HoldSource, SourceFault, clear};
-use fleet_grid::text::{TOO_LARGE, next_line, number_of};
+use fleet_text::{TOO_LARGE, next_line, number_of};
 use std::marker::Model;
 
 /// A source that gives the ticks of a text of holds: one line for each tick, `-` for nobody, or the numbers of the agents that are
@@ -20,7 +20,7 @@ pub struct HoldText<'a> {
 }
 
 impl<'a> Model for HoldText<'a> {
-    ghost use Rattle.fleet_grid.specs.Text.{lines};
+    ghost use Rattle.fleet_text.specs.Text.{lines};
     ghost use Rattle.fleet_run.specs.HoldText.{HoldLines};
 
     ghost Value = { HoldLines };
@@ -44,15 +44,9 @@ impl<'a> HoldText<'a> {
 }
 
 impl<'a> HoldSource for HoldText<'a> {
-    ghost use Rattle.std.specs.Prelude.{Some, None, if◌then◌else◌};
-    ghost use Rattle.fleet_run.specs.declared.source.SourceFault.TheVariants.{Text};
-    ghost use Rattle.fleet_run.specs.HoldText.{ticks_of, last_of};
+    ghost use Rattle.fleet_run.specs.HoldText.{source_of};
 
-    ghost ticks = { λ s. ticks_of s.agents s.lines };
-
-    ghost last = { λ s. last_of s.agents s.lines };
-
-    ghost fault = { λ s. if s.has_failed then Some Text else None };
+    ghost state = { source_of };
 
     fn next(&mut self, held: &mut [bool]) -> Result<bool, SourceFault> {
         let Some((line, rest)) = next_line(self.rest) else {

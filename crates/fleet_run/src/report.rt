@@ -1,14 +1,15 @@
 //! Rehearsals: runs of any program.
 
-ghost use Rattle.std.specs.Prelude.{◌≡◌, false, None};
 ghost use Rattle.fleet_run.specs.Rehearsal.{Rehearses};
+ghost use Rattle.fleet_text.specs.Sink.{IsWorking};
+ghost use Rattle.fleet_run.specs.Source.{HasNotFailed};
 
 use crate::machine::Machine;
 use crate::run::{End, RunFault, run_lines};
-use crate::sink::{TraceOut, put_all};
 use crate::source::HoldSource;
 use crate::text::{CLOSING, write_rehearsal_closing};
 use fleet_model::ProgramView;
+use fleet_text::{TraceOut, put_all};
 use std::alloc::Global;
 
 /// What a rehearsal did.
@@ -27,10 +28,9 @@ pub fn rehearse<P: ProgramView, S: HoldSource, O: TraceOut>(
     source: &mut S,
     out: &mut O,
 ) -> Result<Rehearsal, RunFault>
-    requires source { S.fault source.old ≡ None }
-    requires sink { O.has_failed out.old ≡ false }
-    ensures { Rehearses (P.program program.now) (S.ticks source.old)
-        (record { last = S.last source.old; now = S.last source.new; left = S.ticks source.new; fault = S.fault source.new; before = O.taken out.old; taken = O.taken out.new; has_failed = O.has_failed out.new })
+    requires source { HasNotFailed (S.state source.old) }
+    requires sink { IsWorking (O.state out.old) }
+    ensures { Rehearses (P.program program.now) (S.state source.old) (S.state source.new) (O.state out.old) (O.state out.new)
         result }
 {
     let agents = program.agents();

@@ -1,17 +1,18 @@
 //! Runs, line by line.
 
-ghost use Rattle.std.specs.Prelude.{◌≡◌, ◌<◌, ◌≤◌, length, false, None};
+ghost use Rattle.std.specs.Prelude.{◌≡◌, ◌<◌, ◌≤◌, length};
 ghost use Rattle.fleet_model.specs.Machine.{opening};
 ghost use Rattle.fleet_run.specs.Machine.{Runs};
 ghost use Rattle.fleet_run.specs.Text.{line_of};
-ghost use Rattle.fleet_run.specs.Sink.{TakesAll};
+ghost use Rattle.fleet_text.specs.Sink.{IsWorking, TakesAll};
+ghost use Rattle.fleet_run.specs.Source.{HasNotFailed};
 ghost use Rattle.fleet_run.specs.Outcome.{end_of, fault_of, RunsLines};
 
 use crate::machine::Machine;
-use crate::sink::{OutFault, TraceOut, put_all};
 use crate::source::{HoldSource, SourceFault, ask};
 use crate::text::{LINE, write_line};
-use fleet_model::{ProgramView, Standing};
+use fleet_model::{MAX_AGENTS, ProgramView, Standing};
+use fleet_text::{OutFault, TraceOut, put_all};
 use thiserror::Error;
 
 /// How a rehearsal ends.
@@ -68,17 +69,14 @@ fn put_line<O: TraceOut>(
     rows: &[Standing],
     line: &mut [u8],
 ) -> Result<(), OutFault>
-    requires working { O.has_failed out.old ≡ false }
-    requires agents { length rows.now ≤ 1024 }
+    requires working { IsWorking (O.state out.old) }
+    requires agents { length rows.now ≤ MAX_AGENTS }
     requires room { length line.old ≡ LINE }
-    ensures { TakesAll (O.taken out.old) (O.taken out.new) (O.has_failed out.new) result (line_of time rows.now) }
+    ensures { TakesAll (O.state out.old) (O.state out.new) result (line_of time rows.now) }
 {
     let at = write_line(time, rows, line);
     put_all(out, &line[at..])
 }
-
-/// How many agents a program has at most.
-const MAX_AGENTS: usize = 1024;
 
 /// How many ticks a run takes from its source.
 pub const MOST_TICKS: u32 = 4_194_304;
@@ -103,11 +101,10 @@ pub fn run_lines<P: ProgramView, S: HoldSource, O: TraceOut>(
 ) -> Result<Ran, RunFault>
     requires runs { Runs (P.program program.now) machine.old }
     requires opening { machine.old.configuration ≡ opening (P.program program.now) }
-    requires source { S.fault source.old ≡ None }
-    requires sink { O.has_failed out.old ≡ false }
+    requires source { HasNotFailed (S.state source.old) }
+    requires sink { IsWorking (O.state out.old) }
     ensures runs { Runs (P.program program.now) machine.new }
-    ensures lines { RunsLines (P.program program.now) (S.ticks source.old)
-        (record { last = S.last source.old; now = S.last source.new; left = S.ticks source.new; fault = S.fault source.new; before = O.taken out.old; taken = O.taken out.new; has_failed = O.has_failed out.new })
+    ensures lines { RunsLines (P.program program.now) (S.state source.old) (S.state source.new) (O.state out.old) (O.state out.new)
         machine.new.configuration result }
 {
     let mut flags = [false; MAX_AGENTS];

@@ -1,8 +1,7 @@
 //! Sources of held sets: a source stands for the ticks that it can still give, and for what comes after them.
 
-ghost use Rattle.std.specs.Prelude.{◌≡◌, ℕ, ◌<◌, not, length, true, false, [], None};
-ghost use Rattle.fleet_model.specs.Machine.{Holds};
-ghost use Rattle.fleet_run.specs.Source.{GivesTick, AsksTick, AreFlagsOf, flag_of};
+ghost use Rattle.std.specs.Prelude.{◌≡◌, ℕ, ◌<◌, not, length, true, []};
+ghost use Rattle.fleet_run.specs.Source.{HasNotFailed, GivesTick, AsksTick, AreFlagsOf, flag_of};
 
 /// As what a source failed: it broke off, or its text has no tick where one was asked for.
 #[derive(Clone, Copy, Debug, PartialEq, Eq)]
@@ -13,27 +12,20 @@ pub enum SourceFault {
 
 /// A source of ticks, each the set of agents that are held in it.
 pub trait HoldSource {
-    ghost use Rattle.std.specs.Prelude.{Option, None};
-    ghost use Rattle.fleet_run.specs.declared.source.SourceFault.{SourceFault};
+    ghost use Rattle.fleet_run.specs.Source.{SourceState};
 
-    /// The ticks that the source can still give, each by the numbers of the agents that it holds.
-    ghost ticks: { Self → Holds };
-
-    /// What comes after them: nothing, or the failure.
-    ghost last: { Self → Option SourceFault };
-
-    /// As what it has failed, if it has.
-    ghost fault: { Self → Option SourceFault };
+    /// What is known of the source.
+    ghost state: { Self → SourceState };
 
     /// Sets flag i to whether agent i is held in the next tick, and takes that tick off. `Ok(false)` where there is none.
     /// Numbers past the flags are passed over.
     fn next(&mut self, held: &mut [bool]) -> Result<bool, SourceFault>
-        requires { fault self.old ≡ None }
-        ensures { GivesTick (ticks self.old) (ticks self.new) (last self.old) (last self.new) (fault self.new) result held.new };
+        requires { HasNotFailed (state self.old) }
+        ensures { GivesTick (state self.old) (state self.new) result held.new };
 
     /// As what the source has failed, if it has.
     fn failed(&self) -> Option<SourceFault>
-        ensures { result ≡ fault self.now };
+        ensures { result ≡ (state self.now).fault };
 }
 
 /// Sets no flag.
@@ -60,9 +52,9 @@ pub fn ask<S: HoldSource>(
     has_ended: bool,
     flags: &mut [bool],
 ) -> Result<bool, SourceFault>
-    requires working { S.fault source.old ≡ None }
-    requires ended { has_ended ≡ true → S.ticks source.old ≡ [] }
-    ensures { AsksTick has_ended (S.ticks source.old) (S.ticks source.new) (S.last source.old) (S.last source.new) (S.fault source.new) result flags.new }
+    requires working { HasNotFailed (S.state source.old) }
+    requires ended { has_ended ≡ true → (S.state source.old).ticks ≡ [] }
+    ensures { AsksTick has_ended (S.state source.old) (S.state source.new) result flags.new }
 {
     if has_ended {
         clear(flags);

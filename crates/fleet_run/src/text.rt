@@ -4,9 +4,9 @@ ghost use Rattle.std.specs.Prelude.{◌≡◌, ◌+◌, ◌<◌, ◌≤◌, ◌+
 ghost use Rattle.std.specs.Fmt.{decimal, signed_decimal};
 ghost use Rattle.fleet_run.specs.Text.{place_text, line_of, number_line, last_line_of, closing_lines, trace_closing};
 
-use crate::digits::{write_byte, write_number};
 use crate::run::End;
-use fleet_model::{Place, Standing};
+use fleet_model::{MAX_AGENTS, Place, Standing};
+use fleet_text::{write_byte, write_number};
 
 /// Writes the digits of a number of 32 bits so that they end before `end`, and answers where they begin.
 fn write_count(number: u32, row: &mut [u8], end: usize) -> usize
@@ -50,11 +50,11 @@ fn write_place(place: Place, row: &mut [u8], end: usize) -> usize
 }
 
 /// How many bytes the longest line has.
-pub const LINE: usize = 1024 * 24 + 12;
+pub const LINE: usize = MAX_AGENTS * 24 + 12;
 
 /// Writes the line of a time, and answers where it begins. It ends with the row.
 pub fn write_line(time: u32, rows: &[Standing], row: &mut [u8]) -> usize
-    requires agents { length rows.now ≤ 1024 }
+    requires agents { length rows.now ≤ MAX_AGENTS }
     requires room { length row.old ≡ LINE }
     ensures within { result ≤ length row.new }
     ensures written { drop result row.new ≡ line_of time rows.now }

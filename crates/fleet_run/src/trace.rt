@@ -1,17 +1,19 @@
 //! Runs of accepted programs, with their trace text.
 
-ghost use Rattle.std.specs.Prelude.{◌≡◌, false, None};
+ghost use Rattle.std.specs.Prelude.{◌≡◌};
 ghost use Rattle.fleet_model.specs.Machine.{opening};
 ghost use Rattle.fleet_run.specs.Machine.{Runs};
 ghost use Rattle.fleet_run.specs.Fleet.{IsShown};
 ghost use Rattle.fleet_run.specs.Drive.{Drives};
+ghost use Rattle.fleet_text.specs.Sink.{IsWorking};
+ghost use Rattle.fleet_run.specs.Source.{HasNotFailed};
 
 use crate::machine::Machine;
 use crate::run::{RunFault, run_lines};
-use crate::sink::{TraceOut, put_all};
 use crate::source::HoldSource;
 use crate::text::{CLOSING, write_trace_closing};
 use fleet_model::ProgramView;
+use fleet_text::{TraceOut, put_all};
 
 /// What a run of a fleet did.
 #[derive(Clone, Copy, Debug, PartialEq, Eq)]
@@ -33,11 +35,10 @@ pub fn run_trace<P: ProgramView, S: HoldSource, O: TraceOut>(
     requires shown { IsShown (P.program program.now) chain }
     requires runs { Runs (P.program program.now) machine.old }
     requires opening { machine.old.configuration ≡ opening (P.program program.now) }
-    requires source { S.fault source.old ≡ None }
-    requires sink { O.has_failed out.old ≡ false }
+    requires source { HasNotFailed (S.state source.old) }
+    requires sink { IsWorking (O.state out.old) }
     ensures runs { Runs (P.program program.now) machine.new }
-    ensures outcome { Drives (P.program program.now) chain (S.ticks source.old)
-        (record { last = S.last source.old; now = S.last source.new; left = S.ticks source.new; fault = S.fault source.new; before = O.taken out.old; taken = O.taken out.new; has_failed = O.has_failed out.new })
+    ensures outcome { Drives (P.program program.now) chain (S.state source.old) (S.state source.new) (O.state out.old) (O.state out.new)
         machine.new.configuration result }
 {
     let agents = program.agents();

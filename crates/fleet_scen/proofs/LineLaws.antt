@@ -8,10 +8,10 @@ use Rattle.fleet_model.specs.declared.geometry.Cell.{Cell}
 use Rattle.fleet_model.specs.declared.task.Task.{Task}
 use Rattle.fleet_model.specs.Geometry.{is_same_cell, place_of}
 use Rattle.fleet_model.proofs.Cells.{is_same_cell-true, is_same_cell-eq}
-use Rattle.fleet_grid.specs.Text.{Bytes}
+use Rattle.fleet_text.specs.Text.{Bytes}
 use Rattle.fleet_grid.specs.Ground.{Ground, is_passable}
-use Rattle.fleet_grid.specs.Steps.{◌>>=◌, ◌>>◌, right_or, some_or}
-use Rattle.fleet_grid.proofs.StepLaws.{bind_ok, right_ok, ok_is, bind_err, right_err, err_is, both}
+use Rattle.fleet_text.specs.Steps.{◌>>=◌, ◌>>◌, right_or, some_or}
+use Rattle.fleet_text.proofs.StepLaws.{bind_ok, right_ok, ok_is, bind_err, right_err, err_is, both}
 use Rattle.fleet_scen.specs.declared.fault.ScenFault.{ScenFault}
 use Rattle.fleet_scen.specs.declared.fault.ScenFault.TheVariants.{Fields, Number, OtherMap, Blocked, SharedStart, SharedGoal}
 use Rattle.fleet_scen.specs.declared.fields.Fields as fields_type

@@ -7,10 +7,10 @@ use Rattle.std.proofs.lemmas.List.{append-nil, length-append, length-take, lengt
 use Rattle.std.proofs.lemmas.List.Elements.{All-from_recursion}
 use Rattle.fleet_model.specs.declared.task.Task.{Task}
 use Rattle.fleet_model.specs.Answer.{IsDueUnless}
-use Rattle.fleet_grid.specs.Text.{Bytes, words}
+use Rattle.fleet_text.specs.Text.{Bytes, words}
 use Rattle.fleet_grid.specs.Ground.{Ground}
-use Rattle.fleet_grid.specs.Steps.{◌>>◌, right_or}
-use Rattle.fleet_grid.proofs.StepLaws.{ok_is, bind_err, right_err, then_err, err_is, ok_err, result_cases}
+use Rattle.fleet_text.specs.Steps.{◌>>◌, right_or}
+use Rattle.fleet_text.proofs.StepLaws.{ok_is, bind_err, right_err, then_err, err_is, ok_err, result_cases}
 use Rattle.fleet_scen.specs.declared.fault.ScenFault.{ScenFault}
 use Rattle.fleet_scen.specs.declared.fault.ScenFault.TheVariants.{OutOfMemory, Version, Fields, Number, OtherMap, Blocked, SharedStart, SharedGoal, NoAgents, TooMany, Fewer}
 use Rattle.fleet_scen.specs.Instance.{AreApart}

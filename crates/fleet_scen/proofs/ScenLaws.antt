@@ -10,10 +10,10 @@ use Rattle.fleet_model.specs.declared.geometry.Cell.{Cell}
 use Rattle.fleet_model.specs.declared.task.Task.{Task}
 use Rattle.fleet_model.specs.Geometry.{is_same_cell}
 use Rattle.fleet_model.proofs.Cells.{is_same_cell-true, is_same_cell-eq}
-use Rattle.fleet_grid.specs.Text.{Bytes, words}
+use Rattle.fleet_text.specs.Text.{Bytes, words}
 use Rattle.fleet_grid.specs.Ground.{Ground}
-use Rattle.fleet_grid.specs.Steps.{◌>>=◌, ◌>>◌, right_or}
-use Rattle.fleet_grid.proofs.StepLaws.{bind_ok, right_ok, then_ok, ok_is}
+use Rattle.fleet_text.specs.Steps.{◌>>=◌, ◌>>◌, right_or}
+use Rattle.fleet_text.proofs.StepLaws.{bind_ok, right_ok, then_ok, ok_is}
 use Rattle.fleet_scen.specs.declared.fault.ScenFault.{ScenFault}
 use Rattle.fleet_scen.specs.declared.fault.ScenFault.TheVariants.{Version, NoAgents, TooMany, Fewer}
 use Rattle.fleet_scen.specs.Instance.{AreApart, IsInstance}

@@ -6,9 +6,9 @@ use Rattle.std.proofs.lemmas.List.Folds.{list_any-append}
 use Rattle.fleet_model.specs.declared.geometry.Cell.{Cell}
 use Rattle.fleet_model.specs.declared.task.Task.{Task}
 use Rattle.fleet_model.specs.Geometry.{is_same_cell}
-use Rattle.fleet_grid.specs.Text.{Bytes, words}
+use Rattle.fleet_text.specs.Text.{Bytes, words}
 use Rattle.fleet_grid.specs.Ground.{Ground}
-use Rattle.fleet_grid.specs.Steps.{◌>>=◌, ◌>>◌}
+use Rattle.fleet_text.specs.Steps.{◌>>=◌, ◌>>◌}
 use Rattle.fleet_scen.specs.declared.fault.ScenFault.{ScenFault}
 use Rattle.fleet_scen.specs.declared.fault.ScenFault.TheVariants.{SharedStart, SharedGoal, TooMany}
 use Rattle.fleet_scen.specs.ScenText.{is_filled}

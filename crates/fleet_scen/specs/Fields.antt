@@ -1,6 +1,6 @@
 -- The fields of an agent's line that are read.
 use Rattle.std.specs.Prelude.{List, [], ◌∷◌, Option, Some, None}
-use Rattle.fleet_grid.specs.Text.{Bytes, small_number}
+use Rattle.fleet_text.specs.Text.{Bytes, small_number}
 use Rattle.fleet_scen.specs.declared.fields.Fields.{Fields}
 
 -- of bucket, map name, width, height, start, goal and length only the numbers are kept

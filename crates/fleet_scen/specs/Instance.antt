@@ -1,5 +1,6 @@
 -- The tasks of a fleet.
 use Rattle.std.specs.Prelude.{◌≢◌, ◌≤◌, List, length, AllPairs}
+use Rattle.fleet_model.specs.declared.limits.TheConstants.{MAX_AGENTS}
 use Rattle.fleet_model.specs.declared.task.Task.{Task}
 
 -- no two agents begin on one cell, and no two end on one
@@ -10,5 +11,5 @@ pub record AreApart (tasks : List Task) : Type 0 where
 -- 1 to 1,024 agents that are apart
 pub record IsInstance (tasks : List Task) : Type 0 where
   pub some : 1 ≤ length tasks
-  pub few : length tasks ≤ 1024
+  pub few : length tasks ≤ MAX_AGENTS
   pub apart : AreApart tasks

@@ -2,10 +2,11 @@
 use Rattle.std.specs.Prelude.{ℕ, ◌+◌, Bool, true, not, ◌&&◌, ◌==◌, nat_lt, nat_le, List, [], ◌∷◌, ◌++◌, length, Option, Some, None, Result, Ok, Err, if◌then◌else◌}
 use Rattle.std.specs.List.{list_any}
 use Rattle.fleet_model.specs.declared.geometry.Cell.{Cell}
+use Rattle.fleet_model.specs.declared.limits.TheConstants.{MAX_AGENTS}
 use Rattle.fleet_model.specs.declared.task.Task.{Task}
 use Rattle.fleet_model.specs.Geometry.{is_same_cell, place_of}
-use Rattle.fleet_grid.specs.Text.{Bytes, words}
-use Rattle.fleet_grid.specs.Steps.{◌>>=◌, ◌>>◌, right_or, some_or}
+use Rattle.fleet_text.specs.Text.{Bytes, words}
+use Rattle.fleet_text.specs.Steps.{◌>>=◌, ◌>>◌, right_or, some_or}
 use Rattle.fleet_grid.specs.Ground.{Ground, is_passable}
 use Rattle.fleet_scen.specs.declared.fault.ScenFault.{ScenFault}
 use Rattle.fleet_scen.specs.declared.fault.ScenFault.TheVariants.{Version, Fields, Number, OtherMap, Blocked, SharedStart, SharedGoal, NoAgents, TooMany, Fewer}
@@ -61,7 +62,7 @@ tasks_at g asked before earlier [] = ended asked earlier
 tasks_at g asked before earlier (line ∷ ls) =
     if not (lacks asked (length earlier)) then ended asked earlier
     else if not (is_filled (words line)) then tasks_at g asked (before + 1) earlier ls
-    else right_or (nat_lt (length earlier) 1024) TooMany >> (task_at g (before + 1) (words line) >>= λ task. apart_at (before + 1) earlier task >> tasks_at g asked (before + 1) (earlier ++ task ∷ []) ls)
+    else right_or (nat_lt (length earlier) MAX_AGENTS) TooMany >> (task_at g (before + 1) (words line) >>= λ task. apart_at (before + 1) earlier task >> tasks_at g asked (before + 1) (earlier ++ task ∷ []) ls)
 
 -- the lines after the version line, and how many lines stand before them
 unfoldable pub after_version : ℕ → List Bytes → Result (ℕ × List Bytes) ScenFault
@@ -72,7 +73,7 @@ after_version before (line ∷ ls) =
 
 abbrev pub judge_asked : Option ℕ → Result (Unit {0}) ScenFault
 judge_asked None = Ok tt
-judge_asked (Some asked) = right_or (nat_lt 0 asked) NoAgents >> right_or (nat_le asked 1024) TooMany
+judge_asked (Some asked) = right_or (nat_lt 0 asked) NoAgents >> right_or (nat_le asked MAX_AGENTS) TooMany
 
 -- the tasks of a scenario with these lines, or the first fault
 unfoldable pub scen_at : Ground → Option ℕ → List Bytes → Result (List Task) ScenFault

@@ -2,9 +2,10 @@
 -- text that stands for none.
 use Rattle.std.specs.Prelude.{◌≡◌, ◌≢◌, ℕ, ◌+◌, ◌<◌, ◌≤◌, Bool, true, false, ◌&&◌, ◌||◌, List, [], ◌∷◌, length, map, filter, take, drop, get_or, slice_get, position, Option, Some, None, is_none, IsTrue, MatchOption, Any, codes, bytes_eq, ◌⊎◌}
 use Rattle.std.specs.List.{AllZip, enumerate_from}
+use Rattle.fleet_model.specs.declared.limits.TheConstants.{MAX_AGENTS}
 use Rattle.fleet_model.specs.declared.task.Task.{Task}
 use Rattle.fleet_model.specs.Geometry.{place_of}
-use Rattle.fleet_grid.specs.Text.{Bytes, lines, words, small_number}
+use Rattle.fleet_text.specs.Text.{Bytes, lines, words, small_number}
 use Rattle.fleet_grid.specs.Ground.{Ground, is_passable}
 use Rattle.fleet_scen.specs.declared.fault.ScenFault.{ScenFault}
 use Rattle.fleet_scen.specs.declared.fault.ScenFault.TheVariants.{OutOfMemory, Version, Fields, Number, OtherMap, Blocked, SharedStart, SharedGoal, NoAgents, TooMany, Fewer}
@@ -80,7 +81,7 @@ IsScenText text g asked tasks = AreScenLines (lines text) g asked tasks
 
 -- so many may be asked for
 abbrev pub MayBeAsked : Option ℕ → Type 0
-MayBeAsked asked = MatchOption asked (Unit {0}) (λ count. (1 ≤ count) × (count ≤ 1024))
+MayBeAsked asked = MatchOption asked (Unit {0}) (λ count. (1 ≤ count) × (count ≤ MAX_AGENTS))
 
 -- what was asked for and the version line are right, and the first agent lines stand for these tasks, which are apart
 pub record IsRightUpTo (earlier : List Task) (ls : List Bytes) (g : Ground) (asked : Option ℕ) : Type 0 where
@@ -93,7 +94,7 @@ pub record IsRightUpTo (earlier : List Task) (ls : List Bytes) (g : Ground) (ask
 pub record Reaches (earlier : List Task) (line : Line) (ls : List Bytes) (g : Ground) (asked : Option ℕ) : Type 0 where
   pub right : IsRightUpTo earlier ls g asked
   pub wanted : MatchOption asked (Unit {0}) (λ count. length earlier < count)
-  pub few : length earlier < 1024
+  pub few : length earlier < MAX_AGENTS
   pub is_next : slice_get (agent_lines ls) (length earlier) ≡ Some line
 
 -- the fault is there, and all that is judged before it is right. Lines and fields count from 1
@@ -120,8 +121,8 @@ IsFirstFault ls g asked (SharedGoal line) =
 IsFirstFault ls g asked NoAgents =
     (asked ≡ Some 0) ⊎ ((asked ≡ None) × IsTrue (is_version (version_line ls)) × (agent_lines ls ≡ []))
 IsFirstFault ls g asked TooMany =
-    ((count : ℕ) × (asked ≡ Some count) × (1024 < count))
-    ⊎ ((asked ≡ None) × (earlier : List Task) × IsRightUpTo earlier ls g asked × (length earlier ≡ 1024) × (1024 < length (agent_lines ls)))
+    ((count : ℕ) × (asked ≡ Some count) × (MAX_AGENTS < count))
+    ⊎ ((asked ≡ None) × (earlier : List Task) × IsRightUpTo earlier ls g asked × (length earlier ≡ MAX_AGENTS) × (MAX_AGENTS < length (agent_lines ls)))
 IsFirstFault ls g asked Fewer =
     (count : ℕ) × (asked ≡ Some count) × (earlier : List Task) × IsRightUpTo earlier ls g asked × (length (agent_lines ls) ≡ length earlier) × (length earlier < count)
 

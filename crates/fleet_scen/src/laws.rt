@@ -1,9 +1,9 @@
 //! What it means that a text stands for tasks, or that a fault is its first.
 
-ghost use Rattle.std.specs.Prelude.{◌≡◌, ℕ, List, Option, ◌⊎◌};
+ghost use Rattle.std.specs.Prelude.{◌≡◌, ℕ, List, Option};
 ghost use Rattle.fleet_model.specs.declared.task.Task.{Task};
+ghost use Rattle.fleet_text.specs.Verdict.{HasOneVerdict};
 ghost use Rattle.fleet_grid.specs.Ground.{Ground};
-ghost use Rattle.fleet_scen.specs.declared.fault.ScenFault.{ScenFault};
 ghost use Rattle.fleet_scen.specs.Instance.{IsInstance};
 ghost use Rattle.fleet_scen.specs.ScenText.{IsScenText, IsFirstScenFault};
 
@@ -15,7 +15,5 @@ pub fn a_scenario_text_is_one_instance()
 
 /// A text either stands for tasks or has a first fault, never both, and it has one first fault at most.
 pub fn a_text_is_a_scenario_or_has_a_first_fault()
-    ensures either { (text : List ℕ) (g : Ground) (asked : Option ℕ) → ((t : List Task) × IsScenText text g asked t) ⊎ ((f : ScenFault) × IsFirstScenFault text g asked f) }
-    ensures not_both { (text : List ℕ) (g : Ground) (asked : Option ℕ) (t : List Task) (f : ScenFault) → IsScenText text g asked t → IsFirstScenFault text g asked f → ⊥ }
-    ensures one { (text : List ℕ) (g : Ground) (asked : Option ℕ) (e f : ScenFault) → IsFirstScenFault text g asked e → IsFirstScenFault text g asked f → e ≡ f }
+    ensures { (text : List ℕ) (g : Ground) (asked : Option ℕ) → HasOneVerdict (IsScenText text g asked) (IsFirstScenFault text g asked) }
 {}

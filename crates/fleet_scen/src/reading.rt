@@ -3,7 +3,7 @@
 ghost use Rattle.std.specs.Prelude.{◌≡◌, ◌≢◌, ◌<◌, ◌+◌, ◌^◌, List, [], length, All, IfOk, IfErr, IsOkUnless};
 ghost use Rattle.fleet_model.specs.declared.task.Task.{Task};
 ghost use Rattle.fleet_model.specs.Answer.{IsDueUnless};
-ghost use Rattle.fleet_grid.specs.Text.{lines, words};
+ghost use Rattle.fleet_text.specs.Text.{lines, words};
 ghost use Rattle.fleet_scen.specs.ScenText.{is_filled, is_version, IsOpen, IsScenText, IsFirstScenFault};
 ghost use Rattle.fleet_scen.specs.ScenReading.{numbers_at, task_at, lacks, ended, tasks_at, after_version, judge_asked, scen_at};
 
@@ -11,12 +11,10 @@ use crate::fault::ScenFault;
 use crate::fields::fields_of;
 use crate::instance::Instance;
 use fleet_grid::Grid;
-use fleet_grid::text::{Cursor, next_word};
-use fleet_model::{Cell, Task};
+use fleet_model::{Cell, MAX_AGENTS, Task};
+use fleet_text::{Cursor, next_word};
 use std::alloc::Global;
 use std::collections::HashSet;
-
-const MAX_AGENTS: usize = 1024;
 
 const VERSION: &[u8] = b"version";
 
@@ -132,7 +130,7 @@ fn tasks_of(
     let mut number = before;
     while lacks(asked, tasks.len()) {
         let Some(line) = lines.next_line() else {
-            return finished(asked, tasks);
+            return enough_tasks(asked, tasks);
         };
         number += 1;
         if !is_filled(line) {
@@ -150,11 +148,11 @@ fn tasks_of(
         }
         tasks.push(task)?;
     }
-    finished(asked, tasks)
+    enough_tasks(asked, tasks)
 }
 
 /// The tasks, where they are enough.
-fn finished(asked: Option<u16>, tasks: Vec<Task>) -> Result<Vec<Task>, ScenFault>
+fn enough_tasks(asked: Option<u16>, tasks: Vec<Task>) -> Result<Vec<Task>, ScenFault>
     ensures { IsDueUnless (λ v. v.items) result (ended asked tasks.items) ScenFault.OutOfMemory }
 {
     match asked {

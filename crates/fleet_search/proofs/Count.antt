@@ -7,7 +7,7 @@ use Rattle.fleet_search.specs.declared.moment.Moment.{Moment}
 use Rattle.fleet_search.specs.declared.frontier.Question.{Question}
 use Rattle.fleet_search.specs.declared.frontier.Arrival.{Arrival}
 use Rattle.fleet_search.specs.Search.{IsFrontier, moment_in}
-use Rattle.fleet_search.proofs.Pigeon.{pigeonhole}
+use Rattle.fleet_model.proofs.Pigeon.{pigeonhole}
 use Rattle.fleet_search.proofs.Spread.{on_map}
 
 -- the moments up to a time on a map of so many columns and rows, by numbers

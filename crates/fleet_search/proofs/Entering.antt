@@ -4,6 +4,7 @@ use Rattle.std.specs.Prelude.{Result, Ok, Err, OnOk, OnErr}
 use Rattle.std.proofs.lemmas.Bool.{cases_lt, cases_eq}
 use Rattle.fleet_model.specs.declared.geometry.Cell.{Cell}
 use Rattle.fleet_model.proofs.Cells.{cell_cases}
+use Rattle.fleet_model.specs.declared.limits.TheConstants.{MAX_HORIZON}
 use Rattle.fleet_plan.specs.Plan.{Plan, cell_at}
 use Rattle.fleet_search.specs.declared.stay.Stay.{Stay}
 use Rattle.fleet_search.specs.Way.{Fits, joined, arrival}
@@ -55,7 +56,7 @@ module _ (plan : Plan) (path : List Cell) (fits : Fits plan path) (old now : Row
   pub entered-order : (c : Cell) → AreInOrder (stays_of now c)
   entered-order c = AreInOrder-to plan path from c (stays_of now c) (h.stays c)
 
-  module _ (new : Rows) (cell : Cell) (stay : Stay) (a : IsAdded now new cell stay) (at : cell ≡ cell_at path time) (agent : stay.agent ≡ length plan) (begin : stay.from ≡ from) (few : time ≤ 65535) where
+  module _ (new : Rows) (cell : Cell) (stay : Stay) (a : IsAdded now new cell stay) (at : cell ≡ cell_at path time) (agent : stay.agent ≡ length plan) (begin : stay.from ≡ from) (few : time ≤ MAX_HORIZON) where
     -- the agent goes on
     pub entered-more : stay.until ≡ time → AreEntered plan path old new (time + 1) (time + 1)
     entered-more u = record {

@@ -3,6 +3,7 @@ use Rattle.std.proofs.Common.{◌≡◌, ℕ, zero, suc, ◌+◌, ◌-◌, ◌<�
 use Rattle.std.specs.List.Sorted.{IsPartitionPoint}
 use Rattle.std.proofs.lemmas.Bool.{cases_eq, cases_lt}
 use Rattle.fleet_model.specs.declared.geometry.Cell.{Cell}
+use Rattle.fleet_model.specs.declared.limits.TheConstants.{MAX_HORIZON}
 use Rattle.fleet_plan.specs.Plan.{Plan}
 use Rattle.fleet_search.specs.declared.stay.Stay.{Stay}
 use Rattle.fleet_search.specs.Stays.{stay_at, no_stay, IsDuring, AreStays}
@@ -134,8 +135,8 @@ module _ (plan : Plan) (c : Cell) (stays : List Stay) (s : AreStays plan c stays
       let y = (s.each i (omega arith)).some_time in
       omega arith
 
-  pub few-stays : length stays ≤ 65536
-  few-stays = elim (cases_lt 65536 (length stays)) [
+  pub few-stays : length stays ≤ MAX_HORIZON + 1
+  few-stays = elim (cases_lt (MAX_HORIZON + 1) (length stays)) [
     | inr l ↦ l
     | inl l ↦
         let z = begins-late (length stays - 1) (omega arith) in

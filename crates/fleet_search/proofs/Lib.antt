@@ -11,7 +11,6 @@ pub mod RowLaws
 pub mod GapLaws
 pub mod Turning
 pub mod SearchSteps
-pub mod Pigeon
 pub mod Spread
 pub mod Count
 pub mod Optimal

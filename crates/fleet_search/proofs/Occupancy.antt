@@ -1,8 +1,9 @@
 -- Where agents are once they have arrived, and what tests say.
-use Rattle.std.proofs.Common.{◌≡◌, ℕ, zero, suc, ◌<◌, ◌≤◌, Bool, true, false, IsTrue, List, [], ◌∷◌, length, get_or, All, ◌↔◌, sym, ap, ◌∙◌, arith}
+use Rattle.std.proofs.Common.{◌+◌, ◌≡◌, ℕ, zero, suc, ◌<◌, ◌≤◌, Bool, true, false, IsTrue, List, [], ◌∷◌, length, get_or, All, ◌↔◌, sym, ap, ◌∙◌, arith}
 use Rattle.std.proofs.lemmas.Bool.{both_ways}
 use Rattle.fleet_model.specs.declared.geometry.Cell.{Cell}
 use Rattle.fleet_model.specs.Program.{origin}
+use Rattle.fleet_model.specs.declared.limits.TheConstants.{MAX_HORIZON}
 use Rattle.fleet_plan.specs.Plan.{Plan, IsPath, cell_at, cell_of, steps}
 use Rattle.fleet_search.specs.Way.{arrival}
 
@@ -13,11 +14,11 @@ pub cell_at-late : (path : List Cell) (t : ℕ) → arrival path ≤ t → cell_
 unfolding cell_at
 cell_at-late path t h = ap (λ n. get_or path n origin) (omega arith)
 
-pub steps_fit : (plan : Plan) → All IsPath plan → steps plan ≤ 65535
+pub steps_fit : (plan : Plan) → All IsPath plan → steps plan ≤ MAX_HORIZON
 unfolding steps
 steps_fit [] all = omega arith
 steps_fit (p ∷ plan) all =
-    let few : length p ≤ 65536 = (all 0 p (omega arith)).few_cells in
+    let few : length p ≤ MAX_HORIZON + 1 = (all 0 p (omega arith)).few_cells in
     let rest = steps_fit plan (λ k d h. all (suc k) d (omega arith)) in
     omega arith
 

@@ -11,6 +11,7 @@ use Rattle.fleet_model.specs.declared.geometry.Cell.{Cell}
 use Rattle.fleet_model.specs.declared.geometry.Dir.{Dir}
 use Rattle.fleet_model.specs.declared.geometry.Dir.TheVariants.{North, East, South, West}
 use Rattle.fleet_model.specs.Geometry.{place_of, moved}
+use Rattle.fleet_model.specs.declared.limits.TheConstants.{MAX_HORIZON}
 use Rattle.fleet_grid.specs.Ground.{is_passable, cell_index}
 use Rattle.fleet_search.specs.declared.moment.Moment.{Moment}
 use Rattle.fleet_search.specs.declared.stay.Stay.{Stay}
@@ -306,7 +307,7 @@ found_in-first q m reached l c gap t v first e found u move g in_time =
     covered-on q reached c (v + 1) (u + 1) (omega arith) free (found (step-early q l c u v move (omega arith) (omega arith) (free (v + 1) (omega arith) (omega arith))) (omega arith))
 
 -- a gap that begins too late
-pub found_in-late : (q : Question) (reached : List Arrival) (l : Moment) (c : Cell) (gap t until : ℕ) → q.horizon ≤ 65535 → IsFreeUntil q l until → IsFirstIn (stays_on q c) gap (l.time + 1) t → until < t → IsFoundIn q reached l c gap
+pub found_in-late : (q : Question) (reached : List Arrival) (l : Moment) (c : Cell) (gap t until : ℕ) → q.horizon ≤ MAX_HORIZON → IsFreeUntil q l until → IsFirstIn (stays_on q c) gap (l.time + 1) t → until < t → IsFoundIn q reached l c gap
 found_in-late q reached l c gap t until few wait first late u move g in_time =
     let early = first.first (u + 1) (let w = move.waits in omega arith) g in
     let before = wait.1 u (omega arith) move.free in

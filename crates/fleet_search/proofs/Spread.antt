@@ -16,6 +16,7 @@ use Rattle.fleet_model.specs.declared.geometry.Dir.{Dir}
 use Rattle.fleet_model.specs.declared.geometry.Dir.TheVariants.{North, East, South, West}
 use Rattle.fleet_model.specs.Geometry.{place_of, moved}
 use Rattle.fleet_model.proofs.Places.{place_of-injective}
+use Rattle.fleet_model.specs.declared.limits.TheConstants.{MAX_HORIZON}
 use Rattle.fleet_grid.specs.Ground.{Ground, IsGround, cell_index}
 use Rattle.fleet_grid.proofs.StoredLaws.{off_map}
 use Rattle.fleet_plan.specs.Plan.{AreNeighbours}
@@ -122,7 +123,7 @@ manhattan-few g a b s ha hb = let p = on_map g a s ha in let q = on_map g b s hb
 
 -- ---- a cell is labelled
 
-module _ (g : Ground) (labels : List Label) (search : ℕ) (start goal : Cell) (reach : ℕ) (left : Cell) (layer next : List Cell) (sp : IsSpread g labels search start goal reach (Some left) layer next) (d : ℕ) (few : d < 65535) (on_left : IsOnGround g left) (at_left : label_in g labels search left ≡ Some d) (over : d + manhattan left start ≡ reach) (b : Cell) (beside : AreNeighbours left b) (on : IsOnGround g b) (within : cell_index g b < length labels) (more : (n : ℕ) → label_in g labels search b ≡ Some n → d + 1 < n) (labels' : List Label) (put : labels' ≡ set labels (cell_index g b) (record { search = search; distance = d + 1 })) where
+module _ (g : Ground) (labels : List Label) (search : ℕ) (start goal : Cell) (reach : ℕ) (left : Cell) (layer next : List Cell) (sp : IsSpread g labels search start goal reach (Some left) layer next) (d : ℕ) (few : d < MAX_HORIZON) (on_left : IsOnGround g left) (at_left : label_in g labels search left ≡ Some d) (over : d + manhattan left start ≡ reach) (b : Cell) (beside : AreNeighbours left b) (on : IsOnGround g b) (within : cell_index g b < length labels) (more : (n : ℕ) → label_in g labels search b ≡ Some n → d + 1 < n) (labels' : List Label) (put : labels' ≡ set labels (cell_index g b) (record { search = search; distance = d + 1 })) where
   here : label_in g labels' search b ≡ Some (d + 1)
   unfolding label_in
   here = ap (λ z. labelled search (get_or z (cell_index g b) no_label)) put ∙ ap (labelled search) (get_or-set_same labels (cell_index g b) (record { search = search; distance = d + 1 }) no_label within) ∙ labelled-here search (d + 1)
@@ -234,13 +235,13 @@ module _ (g : Ground) (labels : List Label) (search : ℕ) (start goal : Cell) (
       let v : Label = record { search = search; distance = d + 1 } in
       let s = sum_by-set (label_weight search) labels (cell_index g b) v no_label within in
       let e = ap (sum_by (label_weight search)) put in
-      let n = ap (λ o. unwrap_or o 65536) (labelled-here search (d + 1)) in
+      let n = ap (λ o. unwrap_or o (MAX_HORIZON + 1)) (labelled-here search (d + 1)) in
       let old = heavier (label_in g labels search b) refl in
       omega arith
     where
       heavier : (o : Option ℕ) → label_in g labels search b ≡ o → d + 2 ≤ label_weight search (get_or labels (cell_index g b) no_label)
-      heavier None e = let k = ap (λ o. unwrap_or o 65536) e in omega arith
-      heavier (Some n) e = let k = ap (λ o. unwrap_or o 65536) e in let m = more n e in omega arith
+      heavier None e = let k = ap (λ o. unwrap_or o (MAX_HORIZON + 1)) e in omega arith
+      heavier (Some n) e = let k = ap (λ o. unwrap_or o (MAX_HORIZON + 1)) e in let m = more n e in omega arith
 
 -- the neighbour has such a label already
 pub found-before : (g : Ground) (labels : List Label) (search d : ℕ) (left b : Cell) (n : ℕ) → label_in g labels search b ≡ Some n → n ≤ d + 1 → (dir : Dir) → place_of b ≡ moved (place_of left) dir → (e : Cell) → place_of e ≡ moved (place_of left) dir → IsOnGround g e → (m : ℕ) × (label_in g labels search e ≡ Some m) × (m ≤ d + 1)
@@ -381,12 +382,12 @@ least-within : (s : Distances) (x : Cell) (n : ℕ) → manhattan x s.goal ≤ n
 unfolding least_moves
 least-within s x n a b = omega arith
 
-pub least-few : (g : Ground) (s : Distances) (c : Cell) → IsGround g → IsOnGround g c → IsOnGround g s.goal → s.reach ≤ 65536 → least_moves s c ≤ 65536
+pub least-few : (g : Ground) (s : Distances) (c : Cell) → IsGround g → IsOnGround g c → IsOnGround g s.goal → s.reach ≤ MAX_HORIZON + 1 → least_moves s c ≤ MAX_HORIZON + 1
 unfolding least_moves
 least-few g s c map h h' few = let m = manhattan-few g c s.goal map h h' in omega arith
 
 -- nothing waits at fewer moves, or nothing at all
-pub distances-of : (g : Ground) (s : Distances) (reach : ℕ) → IsSpread g s.labels.items s.search s.start s.goal reach None s.layer.items s.next.items → (s.reach ≤ reach) ⊎ ((s.layer.items ≡ []) × (s.next.items ≡ [])) → s.reach ≤ 65536 → AreDistances g s s.goal
+pub distances-of : (g : Ground) (s : Distances) (reach : ℕ) → IsSpread g s.labels.items s.search s.start s.goal reach None s.layer.items s.next.items → (s.reach ≤ reach) ⊎ ((s.layer.items ≡ []) × (s.next.items ≡ [])) → s.reach ≤ MAX_HORIZON + 1 → AreDistances g s s.goal
 distances-of g s reach sp low few = record {
   ready = sp.ready;
   goal_on_ground = sp.goal_on_ground;
@@ -498,7 +499,7 @@ work-popped old new c e f h =
 
 -- ---- a cell that was labelled is put on its list
 
-module _ (g : Ground) (s s' new : Distances) (left : Cell) (sp : SpreadIs g (Some left) s) (d : ℕ) (few : d < 65535) (on_left : IsOnGround g left) (at_left : IsLabelled g s left d) (over : d + manhattan left s.start ≡ s.reach) (b : Cell) (beside : AreNeighbours left b) (on_b : IsOnGround g b) (within : cell_index g b < length s.labels.items) (more : (n : ℕ) → IsLabelled g s b n → d + 1 < n) (put : s'.labels.items ≡ set s.labels.items (cell_index g b) (record { search = s.search; distance = d + 1 })) (search : s'.search ≡ s.search) (start : s'.start ≡ s.start) (goal : s'.goal ≡ s.goal) (reach : s'.reach ≡ s.reach) (layer : s'.layer.items ≡ s.layer.items) (next : s'.next.items ≡ s.next.items) (p : IsPutFrom left b s' new) where
+module _ (g : Ground) (s s' new : Distances) (left : Cell) (sp : SpreadIs g (Some left) s) (d : ℕ) (few : d < MAX_HORIZON) (on_left : IsOnGround g left) (at_left : IsLabelled g s left d) (over : d + manhattan left s.start ≡ s.reach) (b : Cell) (beside : AreNeighbours left b) (on_b : IsOnGround g b) (within : cell_index g b < length s.labels.items) (more : (n : ℕ) → IsLabelled g s b n → d + 1 < n) (put : s'.labels.items ≡ set s.labels.items (cell_index g b) (record { search = s.search; distance = d + 1 })) (search : s'.search ≡ s.search) (start : s'.start ≡ s.start) (goal : s'.goal ≡ s.goal) (reach : s'.reach ≡ s.reach) (layer : s'.layer.items ≡ s.layer.items) (next : s'.next.items ≡ s.next.items) (p : IsPutFrom left b s' new) where
   labels_put : new.labels.items ≡ set s.labels.items (cell_index g b) (record { search = s.search; distance = d + 1 })
   labels_put = ap (λ (v : _). v.items) p.labels ∙ put
 

@@ -5,6 +5,7 @@ use Rattle.std.proofs.lemmas.Bool.{cases_lt, cases_eq}
 use Rattle.std.proofs.lemmas.List.{get_or_default}
 use Rattle.std.proofs.lemmas.List.Edits.{length-insert, get_or-insert_below, get_or-insert_at, get_or-insert_above}
 use Rattle.fleet_model.specs.declared.geometry.Cell.{Cell}
+use Rattle.fleet_model.specs.declared.limits.TheConstants.{MAX_HORIZON}
 use Rattle.fleet_plan.specs.Plan.{Plan, cell_at, cell_of}
 use Rattle.fleet_search.specs.declared.stay.Stay.{Stay}
 use Rattle.fleet_search.specs.Way.{Fits, joined}
@@ -179,7 +180,7 @@ module _ (plan : Plan) (path : List Cell) (n : ℕ) (c : Cell) (stays : List Sta
   }
 
 -- a stay of the agent is put in
-module _ (plan : Plan) (path : List Cell) (fits : Fits plan path) (n : ℕ) (c : Cell) (xs ys : List Stay) (stay : Stay) (h : AreStaysTo plan path n c xs) (p : IsPlaced xs ys stay) (agent : stay.agent ≡ length plan) (from : stay.from ≡ n) (early : n ≤ 65535) (some_time : stay.from ≤ stay.until) (there : (t : ℕ) → IsDuring stay t → cell_at path t ≡ c) where
+module _ (plan : Plan) (path : List Cell) (fits : Fits plan path) (n : ℕ) (c : Cell) (xs ys : List Stay) (stay : Stay) (h : AreStaysTo plan path n c xs) (p : IsPlaced xs ys stay) (agent : stay.agent ≡ length plan) (from : stay.from ≡ n) (early : n ≤ MAX_HORIZON) (some_time : stay.from ≤ stay.until) (there : (t : ℕ) → IsDuring stay t → cell_at path t ≡ c) where
   long : length ys ≡ length xs + 1
   long = ap length p.is ∙ length-insert xs p.index stay p.bound
 
@@ -268,7 +269,7 @@ module _ (plan : Plan) (path : List Cell) (fits : Fits plan path) (n : ℕ) (c :
   placed-new : (t : ℕ) → IsDuring stay t → (i : ℕ) × (i < length ys) × IsDuring (stay_at ys i) t
   placed-new t d = (p.index, let z = long in let b = p.bound in omega arith, subst (λ (s : Stay). IsDuring s t) (sym at-here) d)
 
-  pub to-placed : (m : ℕ) → stay.until ≡ m → n ≤ m → m ≤ 65535 → AreStaysTo plan path (m + 1) c ys
+  pub to-placed : (m : ℕ) → stay.until ≡ m → n ≤ m → m ≤ MAX_HORIZON → AreStaysTo plan path (m + 1) c ys
   to-placed m e le few = record {
     each = placed-each (IsStay (joined plan path) c) h.each placed-is;
     apart = placed-apart;

@@ -2,6 +2,7 @@
 use Rattle.std.proofs.Common.{ℕ, ◌+◌, ◌-◌, ◌<◌, ◌≤◌, Some, inl, inr, sym, subst, arith}
 use Rattle.std.proofs.lemmas.Bool.{cases_eq, cases_lt}
 use Rattle.fleet_model.specs.declared.geometry.Cell.{Cell}
+use Rattle.fleet_model.specs.declared.limits.TheConstants.{MAX_HORIZON}
 use Rattle.fleet_search.specs.declared.frontier.Question.{Question}
 use Rattle.fleet_search.specs.declared.frontier.Frontier.{Frontier}
 use Rattle.fleet_search.specs.declared.frontier.Leaving.{Leaving}
@@ -28,7 +29,7 @@ turning-more q f l c gap start now next h fr found grows = record {
 }
 
 -- a gap after the last one begins too late
-pub turned : (q : Question) → IsMeasured q → (f : ℕ) (l : Leaving) (c : Cell) (gap last : ℕ) (start now : Frontier) → q.horizon ≤ 65535 → IsTurning q f l c gap start now → AreBegun (stays_on q c) l.until last → last < gap → IsFoundFrom q now.reached.items l.at c
+pub turned : (q : Question) → IsMeasured q → (f : ℕ) (l : Leaving) (c : Cell) (gap last : ℕ) (start now : Frontier) → q.horizon ≤ MAX_HORIZON → IsTurning q f l c gap start now → AreBegun (stays_on q c) l.until last → last < gap → IsFoundFrom q now.reached.items l.at c
 turned q m f l c gap last start now few h b all u move in_time =
     let g = some_gap q.reserved.now c (stays_on q c) (m.stays c) (u + 1) (omega arith) move.step.fits.vertex in
     elim (cases_lt g.0 gap) [

@@ -6,6 +6,7 @@ use Rattle.std.specs.List.{sum_by}
 use Rattle.fleet_model.specs.declared.geometry.Cell.{Cell}
 use Rattle.fleet_model.specs.declared.geometry.Dir.{Dir}
 use Rattle.fleet_model.specs.Geometry.{place_of, moved}
+use Rattle.fleet_model.specs.declared.limits.TheConstants.{MAX_HORIZON}
 use Rattle.fleet_grid.specs.Ground.{Ground, IsGround, is_passable, cell_index}
 use Rattle.fleet_plan.specs.Plan.{AreNeighbours}
 use Rattle.fleet_search.specs.declared.distances.Label.{Label}
@@ -49,7 +50,7 @@ pub record IsReady (g : Ground) (labels : List Label) (search : ℕ) : Type 0 wh
 pub record AreDistances (g : Ground) (d : Distances) (goal : Cell) : Type 0 where
   pub ready : IsReady g d.labels.items d.search
   pub goal_on_ground : IsOnGround g d.goal
-  pub few : d.reach ≤ 65536
+  pub few : d.reach ≤ MAX_HORIZON + 1
   pub at_goal : far g d goal ≡ 0
   pub near : (c e : Cell) → IsOnGround g c → IsOnGround g e → AreNeighbours c e → far g d e ≤ far g d c + 1
 
@@ -95,7 +96,7 @@ pub record IsSameSearch (old new : Distances) : Type 0 where
 
 -- how much there is still to be labelled, and on the layer to be left
 abbrev pub label_weight : ℕ → Label → ℕ
-label_weight search l = unwrap_or (labelled search l) 65536
+label_weight search l = unwrap_or (labelled search l) (MAX_HORIZON + 1)
 
 unfoldable pub work_left : Distances → ℕ
 work_left s = 2 * sum_by (label_weight s.search) s.labels.items + length s.layer.items

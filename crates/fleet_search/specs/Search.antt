@@ -3,6 +3,7 @@ use Rattle.std.specs.Prelude.{◌≡◌, ℕ, ◌+◌, ◌*◌, ◌-◌, ◌<◌
 use Rattle.std.specs.declared.alloc.Global.{Global}
 use Rattle.fleet_model.specs.declared.geometry.Cell.{Cell}
 use Rattle.fleet_model.specs.Geometry.{place_of}
+use Rattle.fleet_model.specs.declared.limits.TheConstants.{MAX_HORIZON}
 use Rattle.fleet_plan.specs.Plan.{AreNeighbours, cell_at}
 use Rattle.fleet_search.specs.declared.moment.Moment.{Moment}
 use Rattle.fleet_search.specs.declared.stay.Stay.{Stay}
@@ -178,7 +179,7 @@ pub record IsAsked (q : Question) : Type 0 where
   pub measured : IsMeasured q
   pub on_ground : IsTrue (is_passable q.grid.now (place_of q.start))
   pub free : IsFree q.reserved.now 0 q.start
-  pub horizon : q.horizon ≤ 65535
+  pub horizon : q.horizon ≤ MAX_HORIZON
   pub rest : (t : ℕ) → IsFreeFrom q.reserved.now q.goal t ↔ (q.rest ≤ t)
 
 -- a path of so many steps from the start to the cell, each of which fits
@@ -193,7 +194,7 @@ pub record IsTrail (q : Question) (n : ℕ) (last : Cell) (path : List Cell) : T
 pub record IsSearched (s : Frontier) (place : ℕ) : Type 0 where
   pub question : Question
   pub slot : ℕ
-  pub horizon : question.horizon ≤ 65535
+  pub horizon : question.horizon ≤ MAX_HORIZON
   pub frontier : FrontierIs question slot (Some place) s
 
 -- the path by which the arrival at this place was reached, whatever was searched for

@@ -4,6 +4,7 @@ use Rattle.std.specs.List.{filter, insert}
 use Rattle.std.specs.List.Sorted.{IsNonDecreasingBy}
 use Rattle.std.specs.declared.alloc.Global.{Global}
 use Rattle.fleet_model.specs.declared.geometry.Cell.{Cell}
+use Rattle.fleet_model.specs.declared.limits.TheConstants.{MAX_HORIZON}
 use Rattle.fleet_plan.specs.Plan.{Plan, IsPath, cell_of, steps}
 use Rattle.fleet_search.specs.declared.stay.Stay.{Stay}
 use Rattle.fleet_search.specs.Way.{FitTogether}
@@ -24,7 +25,7 @@ IsDuring stay t = (stay.from ≤ t) × ((t ≤ stay.until) ⊎ (stay.until ≡ 4
 -- the agent is on the cell throughout
 pub record IsStay (plan : Plan) (c : Cell) (stay : Stay) : Type 0 where
   pub agent : stay.agent < length plan
-  pub early : stay.from ≤ 65535
+  pub early : stay.from ≤ MAX_HORIZON
   pub some_time : stay.from ≤ stay.until
   pub on : (t : ℕ) → IsDuring stay t → cell_of plan stay.agent t ≡ c
 

@@ -1,6 +1,7 @@
 //! How far the cells of a map are from a goal, over passable cells.
 
 ghost use Rattle.std.specs.Prelude.{◌≡◌, ◌+◌, ◌<◌, ◌≤◌, ◌↔◌, ℕ, IsTrue, IfOk, OnOk, Some, None, [], length, get_or};
+ghost use Rattle.fleet_model.specs.declared.limits.TheConstants.{MAX_HORIZON};
 ghost use Rattle.fleet_search.specs.Distance.{no_label, label_in, manhattan, least_moves, far, IsReady, AreDistances, IsOnGround, SpreadIs, IsLabelled, IsFoundTowards, LabelsFall, IsSameSearch, IsNear, IsPutFrom, work_left};
 
 use fleet_grid::Grid;
@@ -80,9 +81,9 @@ impl Distances {
         requires ready { IsReady grid.now self.now.labels.items self.now.search }
         requires cell { IsOnGround grid.now cell }
         requires goal { IsOnGround grid.now self.now.goal }
-        requires few { self.now.reach ≤ 65536 }
+        requires few { self.now.reach ≤ MAX_HORIZON + 1 }
         ensures value { result ≡ far grid.now self.now cell }
-        ensures limit { result ≤ 65536 }
+        ensures limit { result ≤ MAX_HORIZON + 1 }
     {
         let least = self.least_moves(cell);
         match self.label(grid, cell) {
@@ -132,7 +133,7 @@ impl Distances {
         left: Cell,
         dir: Dir,
     ) -> Result<(), OutOfMemory>
-        requires few { distance < 65535 }
+        requires few { distance < MAX_HORIZON }
         requires spread { SpreadIs grid.now (Some left) self.old }
         requires left { IsLabelled grid.now self.old left distance }
         requires cell { IsOnGround grid.now left }
@@ -161,7 +162,7 @@ impl Distances {
 
     /// Labels the neighbours of a cell, where a path of `reach` moves leads over it; else it was left before.
     fn leave(&mut self, grid: &Grid, left: Cell) -> Result<(), OutOfMemory>
-        requires few { self.old.reach < 65535 }
+        requires few { self.old.reach < MAX_HORIZON }
         requires spread { SpreadIs grid.now (Some left) self.old }
         requires cell { IsOnGround grid.now left }
         ensures spread { OnOk result (SpreadIs grid.now None self.new) }
@@ -183,7 +184,7 @@ impl Distances {
 
     /// Leaves the cells of the layer, and those that come onto it.
     fn spread(&mut self, grid: &Grid) -> Result<(), OutOfMemory>
-        requires few { self.old.reach < 65535 }
+        requires few { self.old.reach < MAX_HORIZON }
         requires spread { SpreadIs grid.now None self.old }
         ensures spread { OnOk result (SpreadIs grid.now None self.new) }
         ensures layer { OnOk result (self.new.layer.items ≡ []) }
@@ -197,7 +198,7 @@ impl Distances {
 
     /// Turns to the cells over which a path of two moves more leads.
     fn turn(&mut self)
-        requires few { self.old.reach < 65535 }
+        requires few { self.old.reach < MAX_HORIZON }
         requires layer { self.old.layer.items ≡ [] }
         ensures labels { self.new.labels ≡ self.old.labels }
         ensures search { self.new.search ≡ self.old.search }
@@ -256,7 +257,7 @@ impl Distances {
     fn is_wanted(&self, grid: &Grid, horizon: u16) -> bool
         requires ready { IsReady grid.now self.now.labels.items self.now.search }
         requires start { IsOnGround grid.now self.now.start }
-        ensures { IsTrue result → (self.now.reach < 65535) }
+        ensures { IsTrue result → (self.now.reach < MAX_HORIZON) }
     {
         if self.layer.is_empty() || self.reach > u32::from(horizon.min(65534)) {
             return false;

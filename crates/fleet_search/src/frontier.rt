@@ -7,6 +7,7 @@ ghost use Rattle.std.specs.Prelude.{◌≡◌, ◌+◌, ◌-◌, ◌<◌, ◌≤
 ghost use Rattle.fleet_model.specs.Geometry.{place_of, moved};
 ghost use Rattle.fleet_grid.specs.Ground.{is_passable};
 ghost use Rattle.fleet_model.specs.declared.geometry.Cell.{Cell};
+ghost use Rattle.fleet_model.specs.declared.limits.TheConstants.{MAX_HORIZON};
 ghost use Rattle.fleet_search.specs.Reserved.{IsFree};
 ghost use Rattle.fleet_search.specs.Way.{StepFits};
 ghost use Rattle.fleet_search.specs.Gaps.{AreApart, IsInGap};
@@ -44,7 +45,7 @@ impl Question<'_> {
         requires measured { IsMeasured self.now }
         requires cell { IsTrue (is_passable self.now.grid.now (place_of cell)) }
         ensures value { result ≡ far_of self.now cell }
-        ensures limit { result ≤ 65536 }
+        ensures limit { result ≤ MAX_HORIZON + 1 }
     {
         self.distances.from(self.grid, cell)
     }
@@ -82,7 +83,7 @@ impl Question<'_> {
 
     /// The stack for a moment at this time, so far from the goal.
     fn slot(&self, time: u32, far: u32) -> u32
-        requires horizon { time + far ≤ 65535 }
+        requires horizon { time + far ≤ MAX_HORIZON }
         ensures { (cell : Cell) → far ≡ far_of self.now cell → IsSlot self.now (record { time = time; cell = cell }) result }
     {
         if time + far <= self.rest {
@@ -167,7 +168,7 @@ impl Frontier {
         gap: usize,
         begin: u32,
     ) -> Result<(), OutOfMemory>
-        requires horizon { question.now.horizon ≤ 65535 }
+        requires horizon { question.now.horizon ≤ MAX_HORIZON }
         requires frontier { FrontierIs question.now (slot - 1) (Some left.place) self.old }
         requires left { IsLeaving question.now slot self.old left }
         requires waits { left.at.time ≤ begin }
@@ -221,7 +222,7 @@ impl Frontier {
         beside: &Beside,
         gap: usize,
     ) -> Result<(), OutOfMemory>
-        requires horizon { question.now.horizon ≤ 65535 }
+        requires horizon { question.now.horizon ≤ MAX_HORIZON }
         requires frontier { FrontierIs question.now (slot - 1) (Some left.place) self.old }
         requires left { IsLeaving question.now slot self.old left }
         requires few { left.at.time < 4294967295 }
@@ -250,7 +251,7 @@ impl Frontier {
         left: Leaving,
         beside: &Beside,
     ) -> Result<(), OutOfMemory>
-        requires horizon { question.now.horizon ≤ 65535 }
+        requires horizon { question.now.horizon ≤ MAX_HORIZON }
         requires frontier { FrontierIs question.now (slot - 1) (Some left.place) self.old }
         requires left { IsLeaving question.now slot self.old left }
         requires few { left.at.time < 4294967295 }
@@ -276,7 +277,7 @@ impl Frontier {
         left: Leaving,
         dir: Dir,
     ) -> Result<(), OutOfMemory>
-        requires horizon { question.now.horizon ≤ 65535 }
+        requires horizon { question.now.horizon ≤ MAX_HORIZON }
         requires frontier { FrontierIs question.now (slot - 1) (Some left.place) self.old }
         requires left { IsLeaving question.now slot self.old left }
         requires few { left.at.time < 4294967295 }
@@ -302,7 +303,7 @@ impl Frontier {
         place: usize,
         at: Moment,
     ) -> Result<(), OutOfMemory>
-        requires horizon { question.now.horizon ≤ 65535 }
+        requires horizon { question.now.horizon ≤ MAX_HORIZON }
         requires frontier { FrontierIs question.now (slot - 1) (Some place) self.old }
         requires left { IsLeft question.now slot self.old place at }
         requires not_end { IsEnd question.now at → ⊥ }
@@ -321,7 +322,7 @@ impl Frontier {
     /// Leaves the moments of the stack, the one that was put on last first, until one is an end, something new is reached,
     /// or none is left on the stack.
     pub fn sweep(&mut self, question: &Question, slot: u32) -> Result<Option<usize>, OutOfMemory>
-        requires horizon { question.now.horizon ≤ 65535 }
+        requires horizon { question.now.horizon ≤ MAX_HORIZON }
         requires frontier { FrontierIs question.now slot None self.old }
         ensures swept { IfOk result (λ end. MatchOption end (IsSwept question.now slot self.old self.new) (IsFound question.now slot self.new)) }
     {

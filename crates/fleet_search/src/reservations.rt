@@ -2,6 +2,7 @@
 
 ghost use Rattle.std.specs.Prelude.{◌≡◌, ◌<◌, ◌≤◌, ◌↔◌, ◌++◌, ◌∷◌, [], ℕ, IsTrue, IfSome, IfNone, IfOk, OnOk, OnErr};
 ghost use Rattle.fleet_model.specs.declared.geometry.Cell.{Cell};
+ghost use Rattle.fleet_model.specs.declared.limits.TheConstants.{MAX_HORIZON};
 ghost use Rattle.fleet_plan.specs.Plan.{steps};
 ghost use Rattle.fleet_search.specs.Way.{Fits, FitTogether, StepFits};
 ghost use Rattle.fleet_search.specs.Stays.{HaveStays};
@@ -61,7 +62,7 @@ impl Reservations {
     /// From this time on nothing moves.
     pub(crate) fn steps(&self) -> u32
         ensures value { result ≡ steps self.now }
-        ensures limit { result ≤ 65535 }
+        ensures limit { result ≤ MAX_HORIZON }
         ensures together { FitTogether self.now }
     {
         self.last

@@ -14,7 +14,8 @@ use Rattle.fleet_model.specs.Run.{IsSafeStep}
 use Rattle.fleet_model.specs.Claims.{order_of, Claims, AreApart, KeepsOrder, MayBeOn, is_new, orders_given, holds_of}
 use Rattle.fleet_model.proofs.Tick.{standing_at_tick, free_moves}
 use Rattle.fleet_verify.proofs.Counts.{tick_free, tick_stays, run_place, count_opening}
-use Rattle.fleet_verify.proofs.Reached.{reached_tick, agents_held, tick_agree}
+use Rattle.fleet_model.proofs.Runs.{tick_agree}
+use Rattle.fleet_verify.proofs.Reached.{reached_tick, agents_held}
 use Rattle.fleet_verify.proofs.Done.{count_grows, count_grows_to}
 use Rattle.fleet_verify.proofs.Readiness.{ready_says, ready_from}
 

@@ -6,9 +6,9 @@ use Rattle.fleet_model.specs.declared.geometry.Cell.{Cell}
 use Rattle.fleet_model.specs.declared.geometry.Place.{Place}
 use Rattle.fleet_model.specs.declared.task.Task.{Task}
 use Rattle.fleet_model.specs.declared.program.Visit.{Visit}
-use Rattle.fleet_model.specs.Geometry.{is_same_cell, place_of}
+use Rattle.fleet_model.specs.Geometry.{is_same_cell, place_of, is_same_place}
 use Rattle.fleet_model.specs.Program.{Program, moves, path}
-use Rattle.fleet_model.specs.Visit.{IsVisitOf, Adjacent, ComesAfterByAwait, IsOrderly}
+use Rattle.fleet_model.specs.Visit.{IsVisitOf, Adjacent, ComesAfter, IsOrderly}
 use Rattle.fleet_model.specs.Visit.{IsVisit}
 use Rattle.fleet_verify.proofs.Listing.{levels_number}
 use Rattle.fleet_verify.specs.declared.watch.Stay.{Stay}
@@ -17,14 +17,14 @@ use Rattle.fleet_verify.specs.declared.fault.VerifyFault.TheVariants.{Unordered}
 use Rattle.fleet_verify.specs.declared.watch.Break.{Break}
 use Rattle.indexmap.specs.IndexMap.{get}
 use Rattle.fleet_verify.specs.declared.watch.Watch.{Watch}
-use Rattle.fleet_verify.specs.Order.{same_place, visits_of, IsJudged, AreAllStays, AreBreaks, AreWatched}
-use Rattle.fleet_verify.proofs.Ordered.{same_place-true}
+use Rattle.fleet_verify.specs.Order.{visits_of, IsJudged, AreAllStays, AreBreaks, AreWatched}
+use Rattle.fleet_model.proofs.Places.{is_same_place-true}
 use Rattle.fleet_model.proofs.Visits.{IsIn, is_in}
 use Rattle.fleet_verify.specs.Faults.{IsFirstBreak, HasRanges, IsFault, IsSooner, IsOrderlyAt}
 
 -- the visits of the place come one after another
 abbrev pub InTurn : Program → Place → Type 0
-InTurn p q = IsOrderlyAt ComesAfterByAwait p q
+InTurn p q = IsOrderlyAt ComesAfter p q
 
 -- so do those of the places of the agents before, and of the first positions of the next one
 pub record AreJudged (p : Program) (agent n : ℕ) : Type 0 where
@@ -47,7 +47,7 @@ judged_agent p agent n h l = record {
 }
 
 pub found_fault : (passable : Place → Bool) (tasks : List Task) (p : Program) (stays : List Stay) (agent n : ℕ) (c : Cell) → HasRanges passable tasks p → AreAllStays p stays → agent < length p → n ≤ moves p agent
-    → place_of c ≡ path p agent n → AreJudged p agent n → (v w : Visit) → IsFirstBreak (ComesAfterByAwait p) (visits_of (place_of c) stays) v w → IsFault passable tasks p (Unordered c v w)
+    → place_of c ≡ path p agent n → AreJudged p agent n → (v w : Visit) → IsFirstBreak (ComesAfter p) (visits_of (place_of c) stays) v w → IsFault passable tasks p (Unordered c v w)
 found_fault passable tasks p stays agent n c right all a m e h v w broken = (
   record { before = right; number = all.level; numbering = levels_number p all.level all.levels },
   record {
@@ -60,7 +60,7 @@ found_fault passable tasks p stays agent n c right all a m e h v w broken = (
   },
 )
   where
-    earlier : (u : Visit) → IsVisit p u → ((x : Visit) → IsVisitOf p (place_of c) x → IsSooner u x) → IsOrderlyAt ComesAfterByAwait p (path p u.agent u.position)
+    earlier : (u : Visit) → IsVisit p u → ((x : Visit) → IsVisitOf p (place_of c) x → IsSooner u x) → IsOrderlyAt ComesAfter p (path p u.agent u.position)
     earlier u is sooner = turn (sooner (record { agent = agent; position = begun.0 }) (record { agent = a; position = omega (arith, begun.1.within); entered = begun.1.entered; place = begun.1.place ∙ sym e }))
       where
         -- the visit that the agent is in then
@@ -71,11 +71,11 @@ found_fault passable tasks p stays agent n c right all a m e h v w broken = (
         turn (inl l) = h.before u.agent u.position l is.position
         turn (inr (g, l)) = subst (λ (i : ℕ). InTurn p (path p i u.position)) (sym g) (h.here u.position (omega (arith, l, begun.1.within)))
 
-pub all_in_turn : (p : Program) (stays : List Stay) (agent : ℕ) → AreAllStays p stays → AreJudged p agent 0 → length p ≤ agent → IsOrderly ComesAfterByAwait p
+pub all_in_turn : (p : Program) (stays : List Stay) (agent : ℕ) → AreAllStays p stays → AreJudged p agent 0 → length p ≤ agent → IsOrderly ComesAfter p
 all_in_turn p stays agent all h l q = go (visits_of q stays) refl
   where
     go : (vs : List Visit) → visits_of q stays ≡ vs → InTurn p q
-    go [] e = (visits_of q stays, (all.sorted q).lists, subst (Adjacent (ComesAfterByAwait p)) (sym e) tt)
+    go [] e = (visits_of q stays, (all.sorted q).lists, subst (Adjacent (ComesAfter p)) (sym e) tt)
     go (v ∷ vs) e =
         let is : IsVisitOf p q v = subst (λ (xs : List Visit). All (IsVisitOf p q) xs) e ((all.sorted q).lists.only) 0 v (omega arith) in
         subst (InTurn p) is.place (h.before v.agent v.position (omega (arith, is.agent)) is.position)
@@ -90,28 +90,28 @@ judged_first p agent c h e t = subst (AreJudged p agent) (omega arith) (judged_m
 -- ---- by the breaks of the cells
 
 pub unbroken : (p : Program) (stays : List Stay) (breaks : Cell → Option Break) → AreAllStays p stays → AreBreaks p stays breaks → (c : Cell) → breaks c ≡ None → InTurn p (place_of c)
-unbroken p stays breaks all h c e = (visits_of (place_of c) stays, (all.sorted (place_of c)).lists, subst (IsJudged (ComesAfterByAwait p) (visits_of (place_of c) stays)) e (h c))
+unbroken p stays breaks all h c e = (visits_of (place_of c) stays, (all.sorted (place_of c)).lists, subst (IsJudged (ComesAfter p) (visits_of (place_of c) stays)) e (h c))
 
 pub broken_fault : (passable : Place → Bool) (tasks : List Task) (p : Program) (stays : List Stay) (breaks : Cell → Option Break) → AreBreaks p stays breaks → (agent n : ℕ) (c : Cell) → HasRanges passable tasks p → AreAllStays p stays → agent < length p → n ≤ moves p agent
     → place_of c ≡ path p agent n → AreJudged p agent n → (f : VerifyFault) → ((b : Break) × (breaks c ≡ Some b) × (f ≡ Unordered c b.first b.second)) → IsFault passable tasks p f
 broken_fault passable tasks p stays breaks found agent n c right all a m e h f (b, is, told) =
     subst (IsFault passable tasks p) (sym told)
-    (found_fault passable tasks p stays agent n c right all a m e h b.first b.second (subst (IsJudged (ComesAfterByAwait p) (visits_of (place_of c) stays)) is (found c)))
+    (found_fault passable tasks p stays agent n c right all a m e h b.first b.second (subst (IsJudged (ComesAfter p) (visits_of (place_of c) stays)) is (found c)))
 
 -- a place without visits, or a cell
 some_cell : (q : Place) (stays : List Stay) → (visits_of q stays ≡ []) ⊎ ((c : Cell) × (place_of c ≡ q))
 unfolding visits_of
 some_cell q [] = inl refl
-some_cell q (s ∷ stays) = go (same_place (place_of s.cell) q) refl (some_cell q stays)
+some_cell q (s ∷ stays) = go (is_same_place (place_of s.cell) q) refl (some_cell q stays)
   where
-    go : (b : Bool) → same_place (place_of s.cell) q ≡ b → (visits_of q stays ≡ []) ⊎ ((c : Cell) × (place_of c ≡ q)) → (visits_of q (s ∷ stays) ≡ []) ⊎ ((c : Cell) × (place_of c ≡ q))
-    go true e rest = inr (s.cell, same_place-true (place_of s.cell) q e)
+    go : (b : Bool) → is_same_place (place_of s.cell) q ≡ b → (visits_of q stays ≡ []) ⊎ ((c : Cell) × (place_of c ≡ q)) → (visits_of q (s ∷ stays) ≡ []) ⊎ ((c : Cell) × (place_of c ≡ q))
+    go true e rest = inr (s.cell, is_same_place-true (place_of s.cell) q e)
     go false e (inl none) = inl (rw e none)
     go false e (inr c) = inr c
 
-pub none_broken : (p : Program) (stays : List Stay) (breaks : Cell → Option Break) → AreAllStays p stays → AreBreaks p stays breaks → ((c : Cell) → breaks c ≡ None) → IsOrderly ComesAfterByAwait p
+pub none_broken : (p : Program) (stays : List Stay) (breaks : Cell → Option Break) → AreAllStays p stays → AreBreaks p stays breaks → ((c : Cell) → breaks c ≡ None) → IsOrderly ComesAfter p
 none_broken p stays breaks all found none q = elim (some_cell q stays) [
-  | inl e ↦ (visits_of q stays, (all.sorted q).lists, subst (Adjacent (ComesAfterByAwait p)) (sym e) tt)
+  | inl e ↦ (visits_of q stays, (all.sorted q).lists, subst (Adjacent (ComesAfter p)) (sym e) tt)
   | inr c ↦ subst (InTurn p) c.1 (unbroken p stays breaks all found c.0 (none c.0))
 ]
 

@@ -16,7 +16,6 @@ pub mod Neighbours
 pub mod Listing
 pub mod Finish
 pub mod ReadyBy
-pub mod Pigeon
 pub mod Paths
 pub mod Leaving
 pub mod Ranges

@@ -11,7 +11,7 @@ use Rattle.fleet_model.specs.declared.task.Task.{Task}
 use Rattle.fleet_model.specs.Program.{Program, moves, awaits_of, AreInRange}
 use Rattle.fleet_model.specs.Chain.{IsAction, DirectlyNeeds, ChainFrom, Reaches, EndsChain, IsNumbering, awaited}
 use Rattle.fleet_model.specs.Visit.{is_entry, next_move, IsVisitOf, ListsVisits, Adjacent, ComesAfterByAwait, ComesAfterByChain, entering, leaving}
-use Rattle.fleet_model.specs.Accepted.{IsAccepted}
+use Rattle.fleet_model.specs.Accepted.{IsAcceptedBy}
 use Rattle.fleet_verify.specs.Listing.{AreLevels, entry_level, IsBefore, IsSortedListing}
 use Rattle.fleet_model.proofs.Visits.{next_upto}
 use Rattle.fleet_model.proofs.Chains.{Reaches-first, Reaches-last, Reaches-need}
@@ -116,7 +116,7 @@ pub adjacent_chains : (p : Program) → AreInRange p → (q : Place) (l : List V
 adjacent_chains p range q l only a =
     adjacent_from (ComesAfterByChain p) l (λ k d m. await_chain p range q (get_or l k d) (get_or l (suc k) d) (only (suc k) d m) (adjacent_at (ComesAfterByAwait p) l a k d m))
 
-pub awaits_accepted : (passable : Place → Bool) (tasks : List Task) (p : Program) → IsAccepted ComesAfterByAwait passable tasks p → IsAccepted ComesAfterByChain passable tasks p
+pub awaits_accepted : (passable : Place → Bool) (tasks : List Task) (p : Program) → IsAcceptedBy ComesAfterByAwait passable tasks p → IsAcceptedBy ComesAfterByChain passable tasks p
 awaits_accepted passable tasks p a = record {
   right = a.right;
   numbering = a.numbering;

@@ -1,6 +1,7 @@
 -- Members of lists, and actions that are the same.
-use Rattle.std.proofs.Common.{◌≡◌, zero, suc, List, [], ◌∷◌, refl, arith, inl, inr}
+use Rattle.std.proofs.Common.{◌≡◌, zero, suc, Bool, true, false, List, [], ◌∷◌, refl, sym, ap, ◌∙◌, subst, arith, inl, inr}
 use Rattle.std.specs.Prelude.{Contains, ◌⊎◌}
+use Rattle.std.specs.List.{filter}
 use Rattle.fleet_model.specs.declared.program.ActionId.{ActionId}
 
 pub same_action : (a b : ActionId) → a.agent ≡ b.agent → a.number ≡ b.number → a ≡ b
@@ -18,3 +19,24 @@ contains_none x (k, l, e) = omega arith
 pub contains_cases : {X : Type 0} (y : X) (ys : List X) (x : X) → Contains (y ∷ ys) x → (y ≡ x) ⊎ Contains ys x
 contains_cases y ys x (zero, l, e) = inl e
 contains_cases y ys x (suc k, l, e) = inr (k, omega arith, e)
+
+pub filter_has : {X : Type 0} (test : X → Bool) (xs : List X) (x : X) → Contains xs x → test x ≡ true → Contains (filter test xs) x
+filter_has test [] x h t = h
+filter_has test (y ∷ xs) x h t = go (test y) refl (contains_cases y xs x h) (filter_has test xs x)
+  where
+    go : (b : Bool) → test y ≡ b → (y ≡ x) ⊎ Contains xs x → (Contains xs x → test x ≡ true → Contains (filter test xs) x) → Contains (filter test (y ∷ xs)) x
+    go true e (inl g) rest = rw e (subst (Contains (y ∷ filter test xs)) g (contains_head y (filter test xs)))
+    go true e (inr k) rest = rw e (contains_later y (filter test xs) x (rest k t))
+    go false e (inl g) rest = absurd (let f : test y ≡ test x = ap test g in cc)
+    go false e (inr k) rest = rw e (rest k t)
+
+pub filter_from : {X : Type 0} (test : X → Bool) (xs : List X) (x : X) → Contains (filter test xs) x → Contains xs x × (test x ≡ true)
+filter_from test [] x h = absurd (contains_none x h)
+filter_from test (y ∷ xs) x h = go (test y) refl h (filter_from test xs x)
+  where
+    go : (b : Bool) → test y ≡ b → Contains (filter test (y ∷ xs)) x → (Contains (filter test xs) x → Contains xs x × (test x ≡ true)) → Contains (y ∷ xs) x × (test x ≡ true)
+    go true e h rest = elim (contains_cases y (filter test xs) x (rw e at h)) [
+      | inl g ↦ (subst (Contains (y ∷ xs)) g (contains_head y xs), ap test (sym g) ∙ e)
+      | inr k ↦ let r = rest k in (contains_later y xs x r.0, r.1)
+    ]
+    go false e h rest = let r = rest (rw e at h) in (contains_later y xs x r.0, r.1)

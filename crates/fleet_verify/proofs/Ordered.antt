@@ -1,25 +1,22 @@
 -- The visits of a place, one after another.
 use Rattle.std.proofs.Common.{◌≡◌, ◌≢◌, ℕ, zero, suc, ◌+◌, ◌<◌, Bool, true, false, cond, List, [], ◌∷◌, ◌++◌, length, map, get_or, Option, Some, None, slice_get, refl, ap, sym, ◌∙◌, subst, arith, inl, inr, add-one}
 use Rattle.std.specs.List.{filter}
-use Rattle.std.proofs.lemmas.Bool.{and_parts}
-use Rattle.std.proofs.lemmas.Bool.Decides.{Decides-int_eq}
 use Rattle.std.proofs.lemmas.List.{map-append, append_assoc, append-nil, length-append}
 use Rattle.std.proofs.lemmas.List.Elements.{filter-append}
 use Rattle.std.proofs.lemmas.Option.{slice_get_within, get_or_from_slice_get}
-use Rattle.std.specs.Ordering.{int_eq}
 use Rattle.fleet_model.specs.declared.geometry.Cell.{Cell}
 use Rattle.fleet_model.specs.declared.geometry.Place.{Place}
 use Rattle.fleet_model.specs.declared.program.Visit.{Visit}
-use Rattle.fleet_model.specs.Geometry.{is_same_cell, place_of}
+use Rattle.fleet_model.specs.Geometry.{is_same_cell, place_of, is_same_place}
 use Rattle.fleet_model.specs.Program.{Program}
-use Rattle.fleet_model.specs.Visit.{is_entry, Adjacent, ComesAfterByAwait}
+use Rattle.fleet_model.specs.Visit.{is_entry, Adjacent, ComesAfter}
 use Rattle.fleet_model.proofs.Cells.{is_same_cell-true, is_same_cell-false}
-use Rattle.fleet_model.proofs.Places.{place_of-injective}
+use Rattle.fleet_model.proofs.Places.{place_of-injective, is_same_place-true, is_same_place-eq}
 use Rattle.fleet_verify.proofs.Neighbours.{adjacent_at}
 use Rattle.fleet_verify.specs.declared.watch.Stay.{Stay}
 use Rattle.fleet_verify.specs.declared.watch.Break.{Break}
 use Rattle.fleet_verify.specs.Faults.{IsFirstBreak}
-use Rattle.fleet_verify.specs.Order.{same_place, visits_of, entries, IsJudged, IsJudgedNext, IsLast, IsWatched}
+use Rattle.fleet_verify.specs.Order.{visits_of, entries, IsJudged, IsJudgedNext, IsLast, IsWatched}
 
 -- ---- the rule
 
@@ -62,30 +59,20 @@ first_break R l v w rest (xs, e) a n = subst (λ (ys : List Visit). IsFirstBreak
 
 pub visits_of-append : (q : Place) (xs ys : List Stay) → visits_of q (xs ++ ys) ≡ visits_of q xs ++ visits_of q ys
 unfolding visits_of
-visits_of-append q xs ys = ap (map (λ (s : Stay). s.visit)) (filter-append (λ (s : Stay). same_place (place_of s.cell) q) xs ys) ∙ map-append (λ (s : Stay). s.visit) (filter (λ s. same_place (place_of s.cell) q) xs) (filter (λ s. same_place (place_of s.cell) q) ys)
-
-pub same_place-true : (q r : Place) → same_place q r ≡ true → q ≡ r
-same_place-true q r e =
-    let b = and_parts (int_eq q.x r.x) (int_eq q.y r.y) e in
-    let x : q.x ≡ r.x = (Decides-int_eq q.x r.x).0 b.0 in
-    let y : q.y ≡ r.y = (Decides-int_eq q.y r.y).0 b.1 in
-    λ i. record { x = x i; y = y i }
-
-pub same_place-refl : (q : Place) → same_place q q ≡ true
-same_place-refl q = rw ((Decides-int_eq q.x q.x).1 refl, (Decides-int_eq q.y q.y).1 refl) refl
+visits_of-append q xs ys = ap (map (λ (s : Stay). s.visit)) (filter-append (λ (s : Stay). is_same_place (place_of s.cell) q) xs ys) ∙ map-append (λ (s : Stay). s.visit) (filter (λ s. is_same_place (place_of s.cell) q) xs) (filter (λ s. is_same_place (place_of s.cell) q) ys)
 
 -- one stay more
 pub visits_on : (c : Cell) (s : Stay) → s.cell ≡ c → visits_of (place_of c) (s ∷ []) ≡ s.visit ∷ []
 unfolding visits_of
-visits_on c s e = rw (e, same_place-refl (place_of c)) refl
+visits_on c s e = rw (e, is_same_place-eq (place_of c) (place_of c) refl) refl
 
 pub visits_off : (c : Cell) (s : Stay) → (s.cell ≡ c → ⊥) → visits_of (place_of c) (s ∷ []) ≡ []
 unfolding visits_of
-visits_off c s ne = go (same_place (place_of s.cell) (place_of c)) refl
+visits_off c s ne = go (is_same_place (place_of s.cell) (place_of c)) refl
   where
-    go : (b : Bool) → same_place (place_of s.cell) (place_of c) ≡ b → map (λ (s : Stay). s.visit) (filter (λ s. same_place (place_of s.cell) (place_of c)) (s ∷ [])) ≡ []
+    go : (b : Bool) → is_same_place (place_of s.cell) (place_of c) ≡ b → map (λ (s : Stay). s.visit) (filter (λ s. is_same_place (place_of s.cell) (place_of c)) (s ∷ [])) ≡ []
     go false e = rw e refl
-    go true e = absurd (ne (place_of-injective s.cell c (same_place-true (place_of s.cell) (place_of c) e)))
+    go true e = absurd (ne (place_of-injective s.cell c (is_same_place-true (place_of s.cell) (place_of c) e)))
 
 -- ---- the breaks
 
@@ -114,13 +101,13 @@ judged_next R l last w old new is a (inr (inr (v, e, n, o, f))) =
     subst (IsJudged R (l ++ w ∷ [])) (sym f)
     (first_break R l v w [] (subst (IsLast l) e is) (subst (IsJudged R l) o a) n)
 
-pub watched_on : (p : Program) (c : Cell) (stays : List Stay) (s : Stay) (last : Option Visit) (old new : Option Break) → IsWatched p c stays last old → s.cell ≡ c → IsJudgedNext (ComesAfterByAwait p) last s.visit old new
+pub watched_on : (p : Program) (c : Cell) (stays : List Stay) (s : Stay) (last : Option Visit) (old new : Option Break) → IsWatched p c stays last old → s.cell ≡ c → IsJudgedNext (ComesAfter p) last s.visit old new
     → IsWatched p c (stays ++ s ∷ []) (Some s.visit) new
 watched_on p c stays s last old new h e r =
     let same : visits_of (place_of c) (stays ++ s ∷ []) ≡ visits_of (place_of c) stays ++ s.visit ∷ [] = visits_of-append (place_of c) stays (s ∷ []) ∙ ap (λ vs. visits_of (place_of c) stays ++ vs) (visits_on c s e) in
     record {
       last = (visits_of (place_of c) stays, same);
-      judged = subst (λ (l : List Visit). IsJudged (ComesAfterByAwait p) l new) (sym same) (judged_next (ComesAfterByAwait p) (visits_of (place_of c) stays) last s.visit old new h.last h.judged r);
+      judged = subst (λ (l : List Visit). IsJudged (ComesAfter p) l new) (sym same) (judged_next (ComesAfter p) (visits_of (place_of c) stays) last s.visit old new h.last h.judged r);
     }
 
 watched_off : (p : Program) (c : Cell) (stays : List Stay) (s : Stay) (last : Option Visit) (old : Option Break) → IsWatched p c stays last old → (s.cell ≡ c → ⊥) → IsWatched p c (stays ++ s ∷ []) last old
@@ -128,12 +115,12 @@ watched_off p c stays s last old h ne =
     let same : visits_of (place_of c) (stays ++ s ∷ []) ≡ visits_of (place_of c) stays = visits_of-append (place_of c) stays (s ∷ []) ∙ (ap (λ vs. visits_of (place_of c) stays ++ vs) (visits_off c s ne) ∙ append-nil _) in
     record {
       last = subst (λ (vs : List Visit). IsLast vs last) (sym same) h.last;
-      judged = subst (λ (vs : List Visit). IsJudged (ComesAfterByAwait p) vs old) (sym same) h.judged;
+      judged = subst (λ (vs : List Visit). IsJudged (ComesAfter p) vs old) (sym same) h.judged;
     }
 
 -- one stay more, where maps have the last visit and the break of each cell
 pub watched_more : (p : Program) (stays : List Stay) (s : Stay) (c : Cell) (last last' : Option Visit) (old new : Option Break) → IsWatched p c stays last old
-    → last' ≡ cond (is_same_cell s.cell c) (Some s.visit) last → (c ≢ s.cell → new ≡ old) → (c ≡ s.cell → IsJudgedNext (ComesAfterByAwait p) last s.visit old new)
+    → last' ≡ cond (is_same_cell s.cell c) (Some s.visit) last → (c ≢ s.cell → new ≡ old) → (c ≡ s.cell → IsJudgedNext (ComesAfter p) last s.visit old new)
     → IsWatched p c (stays ++ s ∷ []) last' new
 watched_more p stays s c last last' old new h e others here = go (is_same_cell s.cell c) refl
   where

@@ -7,6 +7,7 @@ use Rattle.fleet_model.specs.declared.geometry.Step.TheVariants.{Go, Dwell}
 use Rattle.std.proofs.lemmas.Option.{same_Some}
 use Rattle.fleet_model.specs.declared.geometry.Step.{Step}
 use Rattle.fleet_model.specs.declared.program.Action.{Action}
+use Rattle.fleet_model.specs.declared.limits.TheConstants.{MAX_COORDINATE}
 use Rattle.fleet_model.specs.Geometry.{stepped}
 use Rattle.fleet_model.specs.Program.{Program, actions_of, step_of, path}
 use Rattle.fleet_model.proofs.Tick.{path_more}
@@ -38,8 +39,8 @@ falls_off passable p i n q d h before here dir off = record {
 
 -- a step takes an agent no further from a map than by one
 pub near_on : (q r : Place) (d : Step) (n : ℕ) → r ≡ stepped q d
-    → pos 0 ≤ℤ (q.x +ℤ pos n) → q.x ≤ℤ pos (65535 + n) → pos 0 ≤ℤ (q.y +ℤ pos n) → q.y ≤ℤ pos (65535 + n)
-    → (pos 0 ≤ℤ (r.x +ℤ pos (n + 1))) × (r.x ≤ℤ pos (65535 + (n + 1))) × (pos 0 ≤ℤ (r.y +ℤ pos (n + 1))) × (r.y ≤ℤ pos (65535 + (n + 1)))
+    → pos 0 ≤ℤ (q.x +ℤ pos n) → q.x ≤ℤ pos (MAX_COORDINATE + n) → pos 0 ≤ℤ (q.y +ℤ pos n) → q.y ≤ℤ pos (MAX_COORDINATE + n)
+    → (pos 0 ≤ℤ (r.x +ℤ pos (n + 1))) × (r.x ≤ℤ pos (MAX_COORDINATE + (n + 1))) × (pos 0 ≤ℤ (r.y +ℤ pos (n + 1))) × (r.y ≤ℤ pos (MAX_COORDINATE + (n + 1)))
 near_on q r (Go North) n e a b c d = let x : r.x ≡ q.x = ap (λ (z : Place). z.x) e in let y : r.y ≡ q.y -ℤ pos 1 = ap (λ (z : Place). z.y) e in omega (arith, ints)
 near_on q r (Go East) n e a b c d = let x : r.x ≡ q.x +ℤ pos 1 = ap (λ (z : Place). z.x) e in let y : r.y ≡ q.y = ap (λ (z : Place). z.y) e in omega (arith, ints)
 near_on q r (Go South) n e a b c d = let x : r.x ≡ q.x = ap (λ (z : Place). z.x) e in let y : r.y ≡ q.y +ℤ pos 1 = ap (λ (z : Place). z.y) e in omega (arith, ints)

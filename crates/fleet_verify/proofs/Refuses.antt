@@ -11,7 +11,7 @@ use Rattle.fleet_model.specs.Geometry.{place_of}
 use Rattle.fleet_model.specs.Machine.{Holds, IsFinish, run}
 use Rattle.fleet_model.specs.Program.{Program, origin}
 use Rattle.fleet_model.specs.Chain.{IsLongestChain}
-use Rattle.fleet_model.specs.Visit.{ListsVisits, Adjacent, ComesAfterByAwait}
+use Rattle.fleet_model.specs.Visit.{ListsVisits, Adjacent, ComesAfter}
 use Rattle.fleet_model.specs.Accepted.{IsAccepted}
 use Rattle.fleet_model.specs.Run.{IsSafe, IsOwnedInTurn, Arrives}
 use Rattle.fleet_verify.proofs.Free.{runs_free, runs_on_ground, runs_owned}
@@ -24,7 +24,7 @@ use Rattle.fleet_verify.specs.declared.fault.VerifyFault.{VerifyFault}
 use Rattle.fleet_verify.specs.declared.fault.VerifyFault.TheVariants.{OutOfMemory, OtherFleet, Start, Goal, Step, AwaitRange, Cyclic, Unordered}
 use Rattle.fleet_verify.specs.Faults.{IsFault, IsUnordered, StartsRight, EndsRight}
 
-module _ (passable : Place → Bool) (tasks : List Task) (p : Program) (a : IsAccepted ComesAfterByAwait passable tasks p) where
+module _ (passable : Place → Bool) (tasks : List Task) (p : Program) (a : IsAccepted passable tasks p) where
   task_at : (i : ℕ) → i < length p → (t : Task) × (slice_get tasks i ≡ Some t)
   task_at i l =
       let d : Task = record { start = origin; goal = origin } in
@@ -43,17 +43,17 @@ module _ (passable : Place → Bool) (tasks : List Task) (p : Program) (a : IsAc
       let d : ActionId = record { agent = 0; number = 0 } in
       ring_unnumbered p ring r.around a.numbering.0 a.numbering.1 (a.numbering.0 (get_or ring 0 d)) 0 (get_or ring 0 d) (slice_get-get_or ring 0 d r.some) (omega arith)
 
-  pub no_break : (q : Place) (v w : Visit) → IsUnordered ComesAfterByAwait p q v w → ⊥
+  pub no_break : (q : Place) (v w : Visit) → IsUnordered ComesAfter p q v w → ⊥
   no_break q v w u =
       let o = a.orderly q in
-      let adj : Adjacent (ComesAfterByAwait p) u.sorted =
-      sorted_passes p u.level (levels_number p u.level u.levels) q (ComesAfterByAwait p) (λ x y is h. after_reaches p q x y is (await_chain p a.right.in_range q x y is h)) o.0 o.1 o.2 u.sorted u.listing in
+      let adj : Adjacent (ComesAfter p) u.sorted =
+      sorted_passes p u.level (levels_number p u.level u.levels) q (ComesAfter p) (λ x y is h. after_reaches p q x y is (await_chain p a.right.in_range q x y is h)) o.0 o.1 o.2 u.sorted u.listing in
       let b = u.broken in
       let l : b.at + 1 < length u.sorted = slice_get_within u.sorted (b.at + 1) w b.next in
-      let r : ComesAfterByAwait p (get_or u.sorted b.at v) (get_or u.sorted (suc b.at) v) = adjacent_at (ComesAfterByAwait p) u.sorted adj b.at v (omega arith) in
+      let r : ComesAfter p (get_or u.sorted b.at v) (get_or u.sorted (suc b.at) v) = adjacent_at (ComesAfter p) u.sorted adj b.at v (omega arith) in
       let second : get_or u.sorted (suc b.at) v ≡ w = ap (λ m. get_or u.sorted m v) (sym (add-one b.at)) ∙ get_or_from_slice_get u.sorted (b.at + 1) w v b.next in
       let first : get_or u.sorted b.at v ≡ v = get_or_from_slice_get u.sorted b.at v v b.here in
-      b.breaks (subst (λ x. ComesAfterByAwait p v x) second (subst (λ x. ComesAfterByAwait p x (get_or u.sorted (suc b.at) v)) first r))
+      b.breaks (subst (λ x. ComesAfter p v x) second (subst (λ x. ComesAfter p x (get_or u.sorted (suc b.at) v)) first r))
 
   pub no_fault : (f : VerifyFault) → f ≢ OutOfMemory → IsFault passable tasks p f → ⊥
   no_fault OutOfMemory n h = n refl
@@ -70,7 +70,7 @@ module _ (passable : Place → Bool) (tasks : List Task) (p : Program) (a : IsAc
   pub safe : (holds : Holds) → IsSafe passable p holds
   safe holds = record { on_ground = runs_on_ground passable p holds a.right.on_ground; free = runs_free p holds (awaits_accepted passable tasks p a).orderly }
 
-  pub owned : (q : Place) → (listing : List Visit) × ListsVisits p q listing × Adjacent (ComesAfterByAwait p) listing × ((holds : Holds) (t : ℕ) → IsOwnedInTurn p listing (run p holds t))
+  pub owned : (q : Place) → (listing : List Visit) × ListsVisits p q listing × Adjacent (ComesAfter p) listing × ((holds : Holds) (t : ℕ) → IsOwnedInTurn p listing (run p holds t))
   owned q =
       let o = a.orderly q in
       (o.0, o.1, o.2, λ holds t. runs_owned p holds t q o.0 o.1 (adjacent_chains p a.right.in_range q o.0 o.1.only o.2))

@@ -1,6 +1,6 @@
 -- The stays of a finished run without holds have all visits, sorted.
 use Rattle.std.proofs.Common.{◌≡◌, ℕ, zero, suc, ◌<◌, ◌≤◌, Bool, true, false, List, [], ◌∷◌, length, map, get_or, slice_index, Some, slice_get, refl, ap, sym, ◌∙◌, subst, arith, inl, inr, IsTrue}
-use Rattle.std.specs.Prelude.{Contains, ◌⊎◌, All, option_map}
+use Rattle.std.specs.Prelude.{Contains, All, option_map}
 use Rattle.std.specs.List.{filter, AllPairs}
 use Rattle.std.proofs.lemmas.Bool.{cases_lt, cases_order}
 use Rattle.std.proofs.lemmas.List.{get_or_default, length-map}
@@ -11,11 +11,11 @@ use Rattle.fleet_model.specs.declared.task.Task.{Task}
 use Rattle.fleet_model.specs.declared.program.Await.{Await}
 use Rattle.fleet_model.specs.declared.program.ActionId.{ActionId}
 use Rattle.fleet_model.specs.declared.program.Visit.{Visit}
-use Rattle.fleet_model.specs.Geometry.{place_of}
+use Rattle.fleet_model.specs.Geometry.{place_of, is_same_place}
 use Rattle.fleet_model.specs.Machine.{count_at, run, is_finished, is_over}
 use Rattle.fleet_model.specs.Program.{Program, moves, actions_of, awaits_of, path, start_of, goal_of}
 use Rattle.fleet_model.specs.Chain.{IsLongestChain}
-use Rattle.fleet_model.specs.Visit.{is_entry, IsVisitOf, ListsVisits, ComesAfterByAwait, IsOrderly}
+use Rattle.fleet_model.specs.Visit.{is_entry, IsVisitOf, ListsVisits, ComesAfter, IsOrderly}
 use Rattle.fleet_model.specs.Accepted.{IsAccepted}
 use Rattle.fleet_model.specs.Program.{AreInRange}
 use Rattle.fleet_verify.proofs.Arrive.{unheld_is_longest}
@@ -24,17 +24,17 @@ use Rattle.fleet_verify.specs.Walk.{IsReadyBy}
 use Rattle.fleet_verify.specs.Listing.{IsBefore, IsSortedListing}
 use Rattle.fleet_verify.proofs.Readiness.{ready_from}
 use Rattle.fleet_verify.proofs.ReadyBy.{by_ready}
-use Rattle.fleet_verify.proofs.Members.{contains_head, contains_later, contains_cases, contains_none}
+use Rattle.fleet_verify.proofs.Members.{contains_head, contains_later, contains_cases, contains_none, filter_has, filter_from}
 use Rattle.fleet_verify.proofs.Finish.{finished_from}
 use Rattle.fleet_verify.proofs.Listing.{levels_number}
 use Rattle.fleet_verify.proofs.Neighbours.{adjacent_from}
 use Rattle.fleet_verify.specs.declared.watch.Stay.{Stay}
 use Rattle.fleet_verify.specs.Walk.{begun_in, IsWalk}
-use Rattle.fleet_verify.specs.Order.{same_place, visits_of, entries, AreAllStays, IsStay, AreNoted, AreAllNoted}
+use Rattle.fleet_verify.specs.Order.{visits_of, entries, AreAllStays, IsStay, AreNoted, AreAllNoted}
 use Rattle.fleet_verify.specs.declared.watch.Watch.{Watch}
 use Rattle.fleet_verify.specs.Faults.{HasRanges, AwaitsRight, EachAction}
 use Rattle.fleet_verify.proofs.UnderWay.{ready_not_over}
-use Rattle.fleet_verify.proofs.Ordered.{same_place-true, same_place-refl}
+use Rattle.fleet_model.proofs.Places.{is_same_place-true, is_same_place-eq}
 use Rattle.fleet_verify.proofs.FreeRun.{level, levels_are, order_all, IsOrder}
 
 -- ---- awaits
@@ -57,27 +57,6 @@ pub ranges_all : (p : Program) → EachAction p (AwaitsRight p) → AreInRange p
 ranges_all p h i n w k = let r = has_action p i n w k in (h i n r.0 r.1).met w k
 
 -- ---- lists
-
-pub filter_has : {X : Type 0} (test : X → Bool) (xs : List X) (x : X) → Contains xs x → test x ≡ true → Contains (filter test xs) x
-filter_has test [] x h t = h
-filter_has test (y ∷ xs) x h t = go (test y) refl (contains_cases y xs x h) (filter_has test xs x)
-  where
-    go : (b : Bool) → test y ≡ b → (y ≡ x) ⊎ Contains xs x → (Contains xs x → test x ≡ true → Contains (filter test xs) x) → Contains (filter test (y ∷ xs)) x
-    go true e (inl g) rest = rw e (subst (Contains (y ∷ filter test xs)) g (contains_head y (filter test xs)))
-    go true e (inr k) rest = rw e (contains_later y (filter test xs) x (rest k t))
-    go false e (inl g) rest = absurd (let f : test y ≡ test x = ap test g in cc)
-    go false e (inr k) rest = rw e (rest k t)
-
-pub filter_from : {X : Type 0} (test : X → Bool) (xs : List X) (x : X) → Contains (filter test xs) x → Contains xs x × (test x ≡ true)
-filter_from test [] x h = absurd (contains_none x h)
-filter_from test (y ∷ xs) x h = go (test y) refl h (filter_from test xs x)
-  where
-    go : (b : Bool) → test y ≡ b → Contains (filter test (y ∷ xs)) x → (Contains (filter test xs) x → Contains xs x × (test x ≡ true)) → Contains (y ∷ xs) x × (test x ≡ true)
-    go true e h rest = elim (contains_cases y (filter test xs) x (rw e at h)) [
-      | inl g ↦ (subst (Contains (y ∷ xs)) g (contains_head y xs), ap test (sym g) ∙ e)
-      | inr k ↦ let r = rest k in (contains_later y xs x r.0, r.1)
-    ]
-    go false e h rest = let r = rest (rw e at h) in (contains_later y xs x r.0, r.1)
 
 contains_map : {X Y : Type 0} (f : X → Y) (xs : List X) (x : X) → Contains xs x → Contains (map f xs) (f x)
 contains_map f [] x h = absurd (contains_none x h)
@@ -109,18 +88,18 @@ once lev l h j k v e g = elim (cases_order j k) [
 -- ---- the visits of a place
 
 abbrev is_at : Program → Place → Visit → Bool
-is_at p q v = same_place (path p v.agent v.position) q
+is_at p q v = is_same_place (path p v.agent v.position) q
 
 visits_are : (p : Program) (q : Place) (stays : List Stay) → All (IsStay p) stays → visits_of q stays ≡ filter (is_at p q) (map (λ s. s.visit) stays)
 unfolding visits_of
 visits_are p q [] h = refl
-visits_are p q (s ∷ stays) h = go (same_place (place_of s.cell) q) refl (visits_are p q stays (λ k d l. h (suc k) d (omega arith)))
+visits_are p q (s ∷ stays) h = go (is_same_place (place_of s.cell) q) refl (visits_are p q stays (λ k d l. h (suc k) d (omega arith)))
   where
-    here : is_at p q s.visit ≡ same_place (place_of s.cell) q
-    here = ap (λ r. same_place r q) (sym (h 0 s (omega arith)))
+    here : is_at p q s.visit ≡ is_same_place (place_of s.cell) q
+    here = ap (λ r. is_same_place r q) (sym (h 0 s (omega arith)))
 
-    go : (b : Bool) → same_place (place_of s.cell) q ≡ b → map (λ (s : Stay). s.visit) (filter (λ s. same_place (place_of s.cell) q) stays) ≡ filter (is_at p q) (map (λ s. s.visit) stays)
-        → map (λ (s : Stay). s.visit) (filter (λ s. same_place (place_of s.cell) q) (s ∷ stays)) ≡ filter (is_at p q) (map (λ s. s.visit) (s ∷ stays))
+    go : (b : Bool) → is_same_place (place_of s.cell) q ≡ b → map (λ (s : Stay). s.visit) (filter (λ s. is_same_place (place_of s.cell) q) stays) ≡ filter (is_at p q) (map (λ s. s.visit) stays)
+        → map (λ (s : Stay). s.visit) (filter (λ s. is_same_place (place_of s.cell) q) (s ∷ stays)) ≡ filter (is_at p q) (map (λ s. s.visit) (s ∷ stays))
     go true e rest = let f : is_at p q s.visit ≡ true = here ∙ e in rw (e, f) (ap (λ vs. s.visit ∷ vs) rest)
     go false e rest = let f : is_at p q s.visit ≡ false = here ∙ e in rw (e, f) rest
 
@@ -204,20 +183,20 @@ module _ (p : Program) (counts : List ℕ) (t : ℕ) (walk : IsWalk p counts t) 
           pairs = AllPairs-filter (IsBefore lev) (is_at p q) (entries p (begun_in p t)) (AllPairs-filter (IsBefore lev) (λ (w : Visit). is_entry p w.agent w.position) (begun_in p t) order.sorted)
 
           all : (v : Visit) → IsVisitOf p q v → Contains l v
-          all v is = filter_has (is_at p q) (entries p (begun_in p t)) v (begins v is.agent is.position is.entered) (ap (λ r. same_place r q) is.place ∙ same_place-refl q)
+          all v is = filter_has (is_at p q) (entries p (begun_in p t)) v (begins v is.agent is.position is.entered) (ap (λ r. is_same_place r q) is.place ∙ is_same_place-eq q q refl)
 
           only : (v : Visit) → Contains l v → IsVisitOf p q v
           only v k =
               let f = filter_from (is_at p q) (entries p (begun_in p t)) v k in
               let r = only_begun v f.0 in
-              record { agent = r.0; position = r.1; entered = r.2; place = same_place-true (path p v.agent v.position) q f.1 }
+              record { agent = r.0; position = r.1; entered = r.2; place = is_same_place-true (path p v.agent v.position) q f.1 }
 
           lists : ListsVisits p q l
           lists = record { all = all; only = λ k d m. only (get_or l k d) (k, m, get_or_default l k (get_or l k d) d m); once = once lev l pairs }
 
 -- ---- accepted
 
-pub accepted : (passable : Place → Bool) (tasks : List Task) (p : Program) (stays : List Stay) → HasRanges passable tasks p → AreAllStays p stays → IsOrderly ComesAfterByAwait p → IsAccepted ComesAfterByAwait passable tasks p
+pub accepted : (passable : Place → Bool) (tasks : List Task) (p : Program) (stays : List Stay) → HasRanges passable tasks p → AreAllStays p stays → IsOrderly ComesAfter p → IsAccepted passable tasks p
 accepted passable tasks p stays h all o = record {
   right = record {
     agents = fleet;

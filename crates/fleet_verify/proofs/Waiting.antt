@@ -13,7 +13,7 @@ use Rattle.fleet_verify.specs.Blocked.{nth, IsBlocked, want_at, AreWants, next_o
 use Rattle.std.proofs.lemmas.List.{get_or_append_left, get_or-append_right, length-append, get_or-reverse, length-reverse, get_or_default}
 use Rattle.std.proofs.lemmas.List.FromFn.{get_or-map-range_with_len, length-map-range_with_len}
 use Rattle.std.proofs.lemmas.Option.{slice_get_within, get_or_from_slice_get}
-use Rattle.fleet_verify.proofs.Pigeon.{IsRepeat, pigeonhole}
+use Rattle.fleet_model.proofs.Pigeon.{IsRepeat, repeated}
 
 pub nth_add : {X : Type 0} (f : X → X) (m n : ℕ) (x : X) → nth f (m + n) x ≡ nth f m (nth f n x)
 nth_add f zero n x = ap (λ k. nth f k x) (omega arith)
@@ -46,7 +46,7 @@ module _ (p : Program) (counts : List ℕ) (wants : List Await) (range : AreInRa
 
   -- some agent's waiting leads back to it
   pub some_back : (i : ℕ) → IsBlocked p counts i → (j : ℕ) × IsBlocked p counts j × LeadsBack wants (length p) j
-  some_back i b = go (pigeonhole (length p) (suc (length p)) (λ k. nth (next_of wants) k i) (omega arith) (λ k l. (blocked_nth i k b).agent))
+  some_back i b = go (repeated (length p) (suc (length p)) (λ k. nth (next_of wants) k i) (omega arith) (λ k l. (blocked_nth i k b).agent))
     where
       go : IsRepeat (λ k. nth (next_of wants) k i) (suc (length p)) → (j : ℕ) × IsBlocked p counts j × LeadsBack wants (length p) j
       go r =

@@ -8,7 +8,7 @@ use Rattle.fleet_model.specs.declared.program.Visit.{Visit}
 use Rattle.fleet_model.specs.Geometry.{place_of}
 use Rattle.fleet_model.specs.Program.{Program, start_of, goal_of, moves, awaits_of, path, IsInRange}
 use Rattle.fleet_model.specs.Chain.{IsNumbering}
-use Rattle.fleet_model.specs.Visit.{IsVisit, IsVisitOf, ListsVisits, Adjacent, ComesAfterByAwait}
+use Rattle.fleet_model.specs.Visit.{IsVisit, IsVisitOf, ListsVisits, Adjacent, ComesAfter}
 use Rattle.fleet_verify.specs.Listing.{AreLevels, IsSortedListing}
 use Rattle.fleet_verify.specs.Ring.{IsToldRing}
 use Rattle.fleet_verify.specs.declared.fault.VerifyFault.{VerifyFault}
@@ -137,4 +137,4 @@ IsFault passable tasks p (Goal i) = HasStarts tasks p × IsFirstAgent p (EndsRig
 IsFault passable tasks p (Step i n) = HasEnds tasks p × IsFirstAction p (StandsRight passable p) i n
 IsFault passable tasks p (AwaitRange i n) = HasSteps passable tasks p × IsFirstAction p (AwaitsRight p) i n
 IsFault passable tasks p (Cyclic ring) = HasRanges passable tasks p × IsToldRing p ring.items
-IsFault passable tasks p (Unordered cell first second) = HasNumbering passable tasks p × IsUnordered ComesAfterByAwait p (place_of cell) first second
+IsFault passable tasks p (Unordered cell first second) = HasNumbering passable tasks p × IsUnordered ComesAfter p (place_of cell) first second

@@ -1,14 +1,13 @@
 -- The visits of a place among all visits in their order, and the first neighbours that break a rule.
-use Rattle.std.specs.Prelude.{◌≡◌, ℕ, ◌+◌, ◌<◌, Bool, ◌&&◌, List, map, filter, slice_get, Option, Some, None, All, Contains, ◌⊎◌, [], ◌∷◌, ◌++◌}
+use Rattle.std.specs.Prelude.{◌≡◌, ℕ, List, map, filter, Option, Some, None, All, Contains, ◌⊎◌, [], ◌∷◌, ◌++◌}
 use Rattle.std.specs.List.{AllPairs}
-use Rattle.std.specs.Ordering.{int_eq}
 use Rattle.fleet_model.specs.declared.geometry.Cell.{Cell}
 use Rattle.fleet_model.specs.declared.geometry.Place.{Place}
 use Rattle.fleet_model.specs.declared.program.ActionId.{ActionId}
 use Rattle.fleet_model.specs.declared.program.Visit.{Visit}
-use Rattle.fleet_model.specs.Geometry.{is_same_cell, place_of}
+use Rattle.fleet_model.specs.Geometry.{is_same_cell, place_of, is_same_place}
 use Rattle.fleet_model.specs.Program.{Program, path}
-use Rattle.fleet_model.specs.Visit.{is_entry, IsVisit, Adjacent, ComesAfterByAwait}
+use Rattle.fleet_model.specs.Visit.{is_entry, IsVisit, Adjacent, ComesAfter}
 use Rattle.fleet_verify.specs.Faults.{IsFirstBreak}
 use Rattle.fleet_verify.specs.Listing.{AreLevels, IsBefore, IsSortedListing}
 use Rattle.fleet_verify.specs.declared.watch.Break.{Break}
@@ -16,12 +15,9 @@ use Rattle.fleet_verify.specs.declared.watch.Stay.{Stay}
 use Rattle.fleet_verify.specs.declared.watch.Watch.{Watch}
 use Rattle.indexmap.specs.IndexMap.{get}
 
-abbrev pub same_place : Place → Place → Bool
-same_place q r = int_eq q.x r.x && int_eq q.y r.y
-
 -- the visits of the place
 unfoldable pub visits_of : Place → List Stay → List Visit
-visits_of q stays = map (λ s. s.visit) (filter (λ s. same_place (place_of s.cell) q) stays)
+visits_of q stays = map (λ s. s.visit) (filter (λ s. is_same_place (place_of s.cell) q) stays)
 
 -- no neighbours in the list break the rule, or these are the first that do
 abbrev pub IsJudged : (Visit → Visit → Type 0) → List Visit → Option Break → Type 0
@@ -52,7 +48,7 @@ IsLast l (Some v) = (xs : List Visit) × (l ≡ xs ++ v ∷ [])
 -- the last visit of the cell among the stays so far, and how they are judged
 pub record IsWatched (p : Program) (c : Cell) (stays : List Stay) (final : Option Visit) (found : Option Break) : Type 0 where
   pub last : IsLast (visits_of (place_of c) stays) final
-  pub judged : IsJudged (ComesAfterByAwait p) (visits_of (place_of c) stays) found
+  pub judged : IsJudged (ComesAfter p) (visits_of (place_of c) stays) found
 
 -- so it is for each cell
 abbrev pub AreWatched : Program → List Stay → Watch → Type 0
@@ -60,7 +56,7 @@ AreWatched p stays w = (c : Cell) → IsWatched p c stays (get is_same_cell w.la
 
 -- each cell's first neighbours that break the rule
 abbrev pub AreBreaks : Program → List Stay → (Cell → Option Break) → Type 0
-AreBreaks p stays breaks = (c : Cell) → IsJudged (ComesAfterByAwait p) (visits_of (place_of c) stays) (breaks c)
+AreBreaks p stays breaks = (c : Cell) → IsJudged (ComesAfter p) (visits_of (place_of c) stays) (breaks c)
 
 -- the visit's agent is on this cell then
 abbrev pub IsStay : Program → Stay → Type 0

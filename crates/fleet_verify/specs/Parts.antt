@@ -3,7 +3,6 @@ use Rattle.std.specs.Prelude.{ℕ, List}
 use Rattle.fleet_model.specs.declared.task.Task.{Task}
 use Rattle.fleet_model.specs.Program.{Program}
 use Rattle.fleet_model.specs.Chain.{IsLongestChain}
-use Rattle.fleet_model.specs.Visit.{ComesAfterByAwait}
 use Rattle.fleet_model.specs.Accepted.{IsAccepted}
 use Rattle.fleet_grid.specs.Ground.{Ground, is_passable}
 
@@ -16,5 +15,5 @@ pub record AcceptedParts (P : Type 0) : Type 0 where
 
 -- the program is accepted, and its longest chain has so many actions
 pub record IsAcceptedFor (grid : Ground) (tasks : List Task) (p : Program) (chain : ℕ) : Type 0 where
-  pub accepted : IsAccepted ComesAfterByAwait (is_passable grid) tasks p
+  pub accepted : IsAccepted (is_passable grid) tasks p
   pub longest : IsLongestChain p chain

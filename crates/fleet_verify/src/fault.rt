@@ -1,7 +1,6 @@
 //! Why a program is not accepted.
 
 use fleet_model::{ActionId, Cell, OutOfMemory, Visit};
-use std::alloc::{AllocError, AllocFailed};
 use thiserror::Error;
 
 /// The first fault of a program for a map and an instance, in the order of the variants; of the agents the least is told, and then the
@@ -47,28 +46,6 @@ pub enum VerifyFault {
         first: Visit,
         second: Visit,
     },
-}
-
-impl From<AllocError> for VerifyFault {
-    ghost use Rattle.std.specs.Prelude.{◌≡◌};
-    ghost use Rattle.fleet_verify.specs.declared.fault.VerifyFault.TheVariants.{OutOfMemory};
-
-    ghost from_gives = { λ _ e. e ≡ OutOfMemory };
-
-    fn from(_e: AllocError) -> VerifyFault {
-        VerifyFault::OutOfMemory
-    }
-}
-
-impl<T: Drop> From<AllocFailed<T>> for VerifyFault {
-    ghost use Rattle.std.specs.Prelude.{◌≡◌};
-    ghost use Rattle.fleet_verify.specs.declared.fault.VerifyFault.TheVariants.{OutOfMemory};
-
-    ghost from_gives = { λ _ e. e ≡ OutOfMemory };
-
-    fn from(_e: AllocFailed<T>) -> VerifyFault {
-        VerifyFault::OutOfMemory
-    }
 }
 
 impl From<OutOfMemory> for VerifyFault {

@@ -4,7 +4,7 @@ ghost use Rattle.std.specs.Prelude.{◌≡◌, ◌<◌, Some, None, OnOk, IfErr}
 ghost use Rattle.indexmap.specs.IndexMap.{get};
 ghost use Rattle.fleet_model.specs.Geometry.{is_same_cell};
 ghost use Rattle.fleet_model.specs.Program.{moves};
-ghost use Rattle.fleet_model.specs.Visit.{ComesAfterByAwait, IsOrderly};
+ghost use Rattle.fleet_model.specs.Visit.{ComesAfter, IsOrderly};
 ghost use Rattle.fleet_grid.specs.Ground.{is_passable};
 ghost use Rattle.fleet_verify.specs.declared.watch.Break.{Break};
 ghost use Rattle.fleet_verify.specs.declared.fault.VerifyFault.TheVariants.{Unordered};
@@ -28,7 +28,7 @@ pub fn check_order<P: ProgramView>(
 ) -> Result<(), VerifyFault>
     requires before { HasRanges (is_passable grid.now) instance.now (P.program program.now) }
     requires noted { AreAllNoted (P.program program.now) watch.now }
-    ensures ok { OnOk result (IsOrderly ComesAfterByAwait (P.program program.now)) }
+    ensures ok { OnOk result (IsOrderly ComesAfter (P.program program.now)) }
     ensures err { IfErr result (λ f. IsFault (is_passable grid.now) instance.now (P.program program.now) f) }
 {
     let breaks = &watch.breaks;

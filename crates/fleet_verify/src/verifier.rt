@@ -5,7 +5,7 @@ ghost use Rattle.fleet_model.specs.declared.geometry.Place.{Place};
 ghost use Rattle.fleet_model.specs.declared.program.Visit.{Visit};
 ghost use Rattle.fleet_model.specs.Program.{moves};
 ghost use Rattle.fleet_model.specs.Machine.{Holds, run, IsFinish};
-ghost use Rattle.fleet_model.specs.Visit.{ListsVisits, Adjacent, ComesAfterByAwait};
+ghost use Rattle.fleet_model.specs.Visit.{ListsVisits, Adjacent, ComesAfter};
 ghost use Rattle.fleet_model.specs.Accepted.{IsAccepted};
 ghost use Rattle.fleet_model.specs.Run.{IsSafe, IsOwnedInTurn, Arrives};
 ghost use Rattle.fleet_verify.specs.declared.fault.VerifyFault.TheVariants.{OutOfMemory};
@@ -44,13 +44,13 @@ pub fn verify<'g, P: ProgramView>(
     ensures kept { IfOk result (λ a. (a.program ≡ program) × (a.grid ≡ grid.now) × (a.instance ≡ instance.now)) }
     ensures accepted { IfOk result (λ a. IsAcceptedFor grid.now instance.now (P.program program) a.chain) }
     ensures safe { IfOk result (λ _. (holds : Holds) → IsSafe (is_passable grid.now) (P.program program) holds) }
-    ensures owned { IfOk result (λ _. (q : Place) → (listing : List Visit) × ListsVisits (P.program program) q listing × Adjacent (ComesAfterByAwait (P.program program)) listing
+    ensures owned { IfOk result (λ _. (q : Place) → (listing : List Visit) × ListsVisits (P.program program) q listing × Adjacent (ComesAfter (P.program program)) listing
         × ((holds : Holds) (t : ℕ) → IsOwnedInTurn (P.program program) listing (run (P.program program) holds t))) }
     ensures arrives { IfOk result (λ a. (holds : Holds) → (f : ℕ) × IsFinish (P.program program) holds f × Arrives (P.program program) holds a.chain f) }
     ensures returned { IfErr result (λ r. r.program ≡ program) }
     ensures fault { IfErr result (λ r. IsFault (is_passable grid.now) instance.now (P.program program) r.fault) }
     // What is refused for another cause than memory is not accepted.
-    ensures refused { IfErr result (λ r. r.fault ≢ OutOfMemory → IsAccepted ComesAfterByAwait (is_passable grid.now) instance.now (P.program program) → ⊥) }
+    ensures refused { IfErr result (λ r. r.fault ≢ OutOfMemory → IsAccepted (is_passable grid.now) instance.now (P.program program) → ⊥) }
 {
     match judge(alloc, &program, grid, instance) {
         Ok(chain) => Ok(Accepted::new(program, grid, instance, chain)),

@@ -5,7 +5,7 @@ ghost use Rattle.indexmap.specs.IndexMap.{get, Updates};
 ghost use Rattle.fleet_model.specs.declared.geometry.Cell.{Cell};
 ghost use Rattle.fleet_model.specs.Geometry.{is_same_cell};
 ghost use Rattle.fleet_model.specs.Program.{moves};
-ghost use Rattle.fleet_model.specs.Visit.{is_entry, leaving, IsVisit, ComesAfterByAwait};
+ghost use Rattle.fleet_model.specs.Visit.{is_entry, leaving, IsVisit, ComesAfter};
 ghost use Rattle.fleet_verify.specs.Order.{IsJudgedNext};
 
 use fleet_model::{Cell, OutOfMemory, ProgramView, Step, Visit};
@@ -89,7 +89,7 @@ fn note_break<P: ProgramView>(
     requires { IsVisit (P.program program.now) stay.visit }
     ensures last { OnOk result (Updates is_same_cell last.old last.new stay.cell (Some stay.visit)) }
     ensures others { OnOk result ((c : Cell) → c ≢ stay.cell → get is_same_cell breaks.new c ≡ get is_same_cell breaks.old c) }
-    ensures here { OnOk result (IsJudgedNext (ComesAfterByAwait (P.program program.now)) (get is_same_cell last.old stay.cell) stay.visit (get is_same_cell breaks.old stay.cell) (get is_same_cell breaks.new stay.cell)) }
+    ensures here { OnOk result (IsJudgedNext (ComesAfter (P.program program.now)) (get is_same_cell last.old stay.cell) stay.visit (get is_same_cell breaks.old stay.cell) (get is_same_cell breaks.new stay.cell)) }
 {
     let Stay {
         visit: second,
@@ -109,7 +109,7 @@ fn note_break<P: ProgramView>(
 /// leaving of the first.
 fn comes_after<P: ProgramView>(program: &P, first: Visit, second: Visit) -> bool
     requires { IsVisit (P.program program.now) second }
-    ensures { IsTrue result ↔ ComesAfterByAwait (P.program program.now) first second }
+    ensures { IsTrue result ↔ ComesAfter (P.program program.now) first second }
 {
     if first.agent == second.agent && first.position < second.position {
         return true;

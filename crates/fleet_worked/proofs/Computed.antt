@@ -1,23 +1,22 @@
 -- Facts on one program that are found by computation.
 use Rattle.std.proofs.Common.{◌≡◌, ◌≢◌, ℕ, zero, suc, ◌+◌, ◌*◌, ◌<◌, ◌≤◌, Bool, true, false, not, nat_lt, nat_le, ◌&&◌, ◌||◌, ◌==◌, List, [], ◌∷◌, length, map, get_or, Option, Some, None, slice_get, option_map, Contains, refl, ap, sym, ◌∙◌, subst, arith, inl, inr}
 use Rattle.std.specs.List.{list_all, list_any}
-use Rattle.std.specs.Ordering.{int_eq}
 use Rattle.std.specs.Option.{option_map_or}
-use Rattle.std.proofs.lemmas.Bool.{and_parts, and_from, or_cases, cases_lt, eqb-true, eqb-false, ltb-true, leb-true, not-true, both_ways}
-use Rattle.std.proofs.lemmas.Bool.Decides.{Decides-int_eq}
+use Rattle.std.proofs.lemmas.Bool.{and_parts, or_cases, cases_lt, eqb-true, eqb-false, ltb-true, leb-true, not-true, both_ways}
 use Rattle.std.proofs.lemmas.List.FromFn.{length-range_with_len, get_or-range_with_len}
 use Rattle.std.proofs.lemmas.List.{length-map}
 use Rattle.std.proofs.lemmas.List.Sums.{AllPass-from_list_all}
 use Rattle.std.proofs.lemmas.List.Elements.{All-contains}
 use Rattle.std.proofs.lemmas.Map.Views.{Contains-from_any}
 use Rattle.std.proofs.lemmas.Option.{slice_get_past, slice_get-map, same_Some}
+use Rattle.fleet_model.proofs.Places.{is_same_place-true, is_same_place-eq}
 use Rattle.fleet_model.specs.declared.geometry.Place.{Place}
 use Rattle.fleet_model.specs.declared.program.Await.{Await}
 use Rattle.fleet_model.specs.declared.program.Action.{Action}
 use Rattle.fleet_model.specs.declared.program.ActionId.{ActionId}
 use Rattle.fleet_model.specs.declared.program.AgentProgram.{AgentProgram}
 use Rattle.fleet_model.specs.declared.task.Task.{Task}
-use Rattle.fleet_model.specs.Geometry.{place_of}
+use Rattle.fleet_model.specs.Geometry.{place_of, is_same_place}
 use Rattle.fleet_model.specs.Program.{Program, origin, start_of, goal_of, actions_of, moves, awaits_of, path, IsInRange}
 use Rattle.fleet_model.specs.Machine.{indices, IsLeast}
 use Rattle.fleet_model.specs.Chain.{IsAction, DirectlyNeeds, ChainFrom, IsNumbering, IsLevel, IsLongestChain}
@@ -172,23 +171,8 @@ longest_by p number is a cs b e most = record {
 
 -- ---- places
 
-abbrev pub is_same_place : Place → Place → Bool
-is_same_place q r = int_eq q.x r.x && int_eq q.y r.y
-
-pub same_place : (q r : Place) → is_same_place q r ≡ true → q ≡ r
-same_place q r e =
-    let parts = and_parts (int_eq q.x r.x) (int_eq q.y r.y) e in
-    let ex : q.x ≡ r.x = (Decides-int_eq q.x r.x).0 parts.0 in
-    let ey : q.y ≡ r.y = (Decides-int_eq q.y r.y).0 parts.1 in
-    λ i. record { x = ex i; y = ey i }
-
-pub place_same : (q r : Place) → q ≡ r → is_same_place q r ≡ true
-place_same q r e =
-    and_from (int_eq q.x r.x) (int_eq q.y r.y)
-    ((Decides-int_eq q.x r.x).1 (ap (λ (s : Place). s.x) e)) ((Decides-int_eq q.y r.y).1 (ap (λ (s : Place). s.y) e))
-
 pub other_place : (q r : Place) → is_same_place q r ≡ false → q ≢ r
-other_place q r e same = both_ways (is_same_place q r) e (place_same q r same)
+other_place q r e same = both_ways (is_same_place q r) e (is_same_place-eq q r same)
 
 -- ---- right programs
 
@@ -210,7 +194,7 @@ right_is passable p e = record {
   agents = sym (length-map p task_of);
   ends = λ i t at. ends i t (slice_get p i) refl (sym (slice_get-map task_of p i) ∙ at);
   on_ground = at_position (λ i n. passable (path p i n)) p parts.0;
-  arrives = λ i lt. same_place (path p i (moves p i)) (place_of (goal_of p i)) (at_index (arrives p) (length p) rest.0 i lt);
+  arrives = λ i lt. is_same_place-true (path p i (moves p i)) (place_of (goal_of p i)) (at_index (arrives p) (length p) rest.0 i lt);
   in_range = λ i n w h. range i w (at_await (is_in_range p) p rest.1 i n w h);
 }
   where

@@ -12,8 +12,10 @@ use Rattle.fleet_model.specs.declared.program.Visit.{Visit}
 use Rattle.fleet_model.specs.Program.{Program, moves, path}
 use Rattle.fleet_model.specs.Chain.{IsNumbering}
 use Rattle.fleet_model.specs.Visit.{is_entry, IsVisitOf, ListsVisits, Adjacent, IsOrderly}
-use Rattle.fleet_model.specs.Accepted.{IsAccepted}
-use Rattle.fleet_worked.proofs.Computed.{at_all_positions, at_position, at_all_awaits, is_same_place, same_place, place_same, sum_of, sums_number, task_of, is_right, right_is}
+use Rattle.fleet_model.specs.Accepted.{IsAcceptedBy}
+use Rattle.fleet_model.specs.Geometry.{is_same_place}
+use Rattle.fleet_model.proofs.Places.{is_same_place-true, is_same_place-eq}
+use Rattle.fleet_worked.proofs.Computed.{at_all_positions, at_position, at_all_awaits, sum_of, sums_number, task_of, is_right, right_is}
 
 abbrev is_same_visit : Visit → Visit → Bool
 is_same_visit v w = v.agent == w.agent && v.position == w.position
@@ -81,7 +83,7 @@ visits_are p q vs e = record {
     listed : (v : Visit) → IsVisitOf p q v → (not (is_entry p v.agent v.position && is_same_place (path p v.agent v.position) q) ≡ true) ⊎ (is_listed vs v ≡ true) → is_listed vs v ≡ true
     listed v h (inl away) =
         let here : Bool = is_entry p v.agent v.position && is_same_place (path p v.agent v.position) q in
-        absurd (both_ways here (not-true here away) (and_from (is_entry p v.agent v.position) (is_same_place (path p v.agent v.position) q) h.entered (place_same (path p v.agent v.position) q h.place)))
+        absurd (both_ways here (not-true here away) (and_from (is_entry p v.agent v.position) (is_same_place (path p v.agent v.position) q) h.entered (is_same_place-eq (path p v.agent v.position) q h.place)))
     listed v h (inr here) = here
 
     visit : (v : Visit) → is_visit_of p q v ≡ true → IsVisitOf p q v
@@ -89,7 +91,7 @@ visits_are p q vs e = record {
         let parts = and_parts (nat_lt v.agent (length p)) (nat_le v.position (moves p v.agent) && (is_entry p v.agent v.position && is_same_place (path p v.agent v.position) q)) e in
         let more = and_parts (nat_le v.position (moves p v.agent)) (is_entry p v.agent v.position && is_same_place (path p v.agent v.position) q) parts.1 in
         let last = and_parts (is_entry p v.agent v.position) (is_same_place (path p v.agent v.position) q) more.1 in
-        record { agent = ltb-true _ _ parts.0; position = leb-true _ _ more.0; entered = last.0; place = same_place (path p v.agent v.position) q last.1 }
+        record { agent = ltb-true _ _ parts.0; position = leb-true _ _ more.0; entered = last.0; place = is_same_place-true (path p v.agent v.position) q last.1 }
 
 -- ---- order
 
@@ -121,7 +123,7 @@ orderly_is After p ls order e q =
     found [] order e = absurd cc
     found (l ∷ ls) order e =
         elim (or_cases (is_same_place l.place q) (is_visited ls q) e) [
-          | inl here ↦ (l.visits, subst (λ r. ListsVisits p r l.visits) (same_place l.place q here) order.0, order.1)
+          | inl here ↦ (l.visits, subst (λ r. ListsVisits p r l.visits) (is_same_place-true l.place q here) order.0, order.1)
           | inr later ↦ found ls order.2 later
         ]
 
@@ -130,12 +132,12 @@ orderly_is After p ls order e q =
 -- what is right, numbered and orderly at all places that are visited is accepted
 pub accepted_with : (After : Program → Visit → Visit → Type 0) (passable : Place → Bool) (p : Program) (ls : List Listed) → is_right passable p ≡ true
     → (number : ActionId → ℕ) → IsNumbering p number
-    → AreInOrder After p ls → at_all_positions (λ i n. is_visited ls (path p i n)) p ≡ true → IsAccepted After passable (map task_of p) p
+    → AreInOrder After p ls → at_all_positions (λ i n. is_visited ls (path p i n)) p ≡ true → IsAcceptedBy After passable (map task_of p) p
 accepted_with After passable p ls right number numbered order all =
     record { right = right_is passable p right; numbering = (number, numbered); orderly = orderly_is After p ls order all }
 
 -- what is right, numbered by sums and orderly at all places that are visited is accepted
 pub accepted_by : (After : Program → Visit → Visit → Type 0) (passable : Place → Bool) (p : Program) (ls : List Listed) → is_right passable p ≡ true
     → at_all_awaits (λ i n w. nat_lt (w.agent + w.count) (i + n)) p ≡ true
-    → AreInOrder After p ls → at_all_positions (λ i n. is_visited ls (path p i n)) p ≡ true → IsAccepted After passable (map task_of p) p
+    → AreInOrder After p ls → at_all_positions (λ i n. is_visited ls (path p i n)) p ≡ true → IsAcceptedBy After passable (map task_of p) p
 accepted_by After passable p ls right numbered order all = accepted_with After passable p ls right sum_of (sums_number p numbered) order all

@@ -14,7 +14,7 @@ use Rattle.fleet_model.specs.declared.task.Task.{Task}
 use Rattle.fleet_model.specs.Program.{Program}
 use Rattle.fleet_model.specs.Machine.{Holds, run, held_ticks, indices, IsFinish, IsEnd}
 use Rattle.fleet_model.specs.Visit.{ListsVisits, Adjacent, ComesAfterByAwait, ComesAfterByChain}
-use Rattle.fleet_model.specs.Accepted.{IsAccepted}
+use Rattle.fleet_model.specs.Accepted.{IsAcceptedBy}
 
 -- ---- words
 
@@ -185,5 +185,5 @@ HasNoOrder After p q = (listing : List Visit) → ListsVisits p q listing → Ad
 
 -- for no map and for no tasks is the program accepted, neither by awaits nor by chains
 pub record IsRefused (p : Program) : Type 0 where
-  pub by_await : (passable : Place → Bool) (tasks : List Task) → IsAccepted ComesAfterByAwait passable tasks p → ⊥
-  pub by_chain : (passable : Place → Bool) (tasks : List Task) → IsAccepted ComesAfterByChain passable tasks p → ⊥
+  pub by_await : (passable : Place → Bool) (tasks : List Task) → IsAcceptedBy ComesAfterByAwait passable tasks p → ⊥
+  pub by_chain : (passable : Place → Bool) (tasks : List Task) → IsAcceptedBy ComesAfterByChain passable tasks p → ⊥

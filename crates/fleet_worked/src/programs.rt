@@ -8,7 +8,7 @@ ghost use Rattle.fleet_model.specs.Program.{Program, path};
 ghost use Rattle.fleet_model.specs.Machine.{Holds, opening, run, held_ticks, is_stuck, IsFinish, IsEnd};
 ghost use Rattle.fleet_model.specs.Chain.{IsLevel, IsLongestChain, IsNumbering};
 ghost use Rattle.fleet_model.specs.Visit.{leaving, IsVisit, IsLongestRun, ListsVisits, ComesAfterByAwait, ComesAfterByChain};
-ghost use Rattle.fleet_model.specs.Accepted.{IsRight, IsAccepted};
+ghost use Rattle.fleet_model.specs.Accepted.{IsRight, IsAcceptedBy};
 ghost use Rattle.fleet_model.specs.Conflict.{HasVertexConflict, HasFollowingConflict, HasSwappingConflict, HasCycleConflict};
 ghost use Rattle.fleet_model.specs.Run.{motion};
 ghost use Rattle.fleet_worked.specs.Programs.{place, action, visit, is_on_open_map, pair, pair_tasks, rash_pair, early_pair, late_pair, hasty_pair, staying_pair, sentry, blocked_pair, blocked_tasks, deadlock, idler, relay, relay_tasks, excursion, exchange, carousel, both_held, ShowsPlaces, RunsAs, HasNoOrder, IsRefused};
@@ -149,9 +149,9 @@ pub fn stays_are_no_visits()
 
 /// Pairs that stay are accepted where agent 1 awaits the moves of agent 0, and the longest chain counts the stays.
 pub fn staying_pairs_are_accepted()
-    ensures before { IsAccepted ComesAfterByChain (is_on_open_map 4 1) pair_tasks late_pair }
+    ensures before { IsAcceptedBy ComesAfterByChain (is_on_open_map 4 1) pair_tasks late_pair }
     ensures before_longest { IsLongestChain late_pair 4 }
-    ensures after { IsAccepted ComesAfterByAwait (is_on_open_map 4 1) pair_tasks staying_pair }
+    ensures after { IsAcceptedBy ComesAfterByAwait (is_on_open_map 4 1) pair_tasks staying_pair }
     ensures after_longest { IsLongestChain staying_pair 5 }
 {}
 
@@ -166,13 +166,13 @@ pub fn hasty_pair_is_refused()
 
 /// The pair is accepted on a map of four open cells in a row.
 pub fn pair_is_accepted()
-    ensures by_await { IsAccepted ComesAfterByAwait (is_on_open_map 4 1) pair_tasks pair }
-    ensures by_chain { IsAccepted ComesAfterByChain (is_on_open_map 4 1) pair_tasks pair }
+    ensures by_await { IsAcceptedBy ComesAfterByAwait (is_on_open_map 4 1) pair_tasks pair }
+    ensures by_chain { IsAcceptedBy ComesAfterByChain (is_on_open_map 4 1) pair_tasks pair }
 {}
 
 /// The relay is accepted on an open map of nine cells by chains. Direct awaits give the cell 1,0 no order.
 pub fn relay_is_accepted_by_chain()
-    ensures by_chain { IsAccepted ComesAfterByChain (is_on_open_map 3 3) relay_tasks relay }
+    ensures by_chain { IsAcceptedBy ComesAfterByChain (is_on_open_map 3 3) relay_tasks relay }
     ensures not_by_await { HasNoOrder ComesAfterByAwait relay (place 1 0) }
 {}
 

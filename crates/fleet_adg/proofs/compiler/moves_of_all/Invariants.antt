@@ -1,4 +1,5 @@
 use Rattle.std.proofs.Common.{◌≡◌, ◌≤◌, ◌*◌, sum_by}
+use Rattle.fleet_model.specs.declared.limits.TheConstants.{MAX_HORIZON}
 use Rattle.fleet_model.specs.Machine.{indices}
 use Rattle.fleet_plan.specs.Plan.{steps}
 use Rattle.fleet_adg.specs.Compiled.{moves_by}
@@ -7,5 +8,5 @@ use Rattle.fleet_adg.proofs.compiler.moves_of_all.Given as goal
 abbrev pub invariant-loop-i : goal.invariant-loop-i
 invariant-loop-i l = record {
   counted : l.moves ≡ sum_by (λ i. moves_by l.plan i (steps l.plan)) (indices l.i);
-  few : l.moves ≤ 65535 * l.i;
+  few : l.moves ≤ MAX_HORIZON * l.i;
 }

@@ -1,26 +1,27 @@
-use Rattle.std.proofs.Common.{◌∙◌, sym, ap, refl, is_some, true≢false, map, string_bytes, Some, None}
+use Rattle.std.proofs.Common.{◌∙◌, sym, ap, refl, subst, true≢false, map, string_bytes}
 use Rattle.clap.specs.Words.{app_of, kind_of}
 use Rattle.fleet_args.specs.CommandLine.{fleet}
-use Rattle.fleet_args.specs.Request.{asked_of}
-use Rattle.fleet_args.proofs.RequestLemmas.{answers, faultless, stops_for_built}
+use Rattle.fleet_args.specs.Request.{AsksBy, is_answered_by}
+use Rattle.fleet_args.proofs.RequestLemmas.{enters_same, faultless, stops_for_built}
 use Rattle.fleet_args.proofs.Requested.{is_answered}
 use Rattle.fleet_args.proofs.request.read_by.Goals as goal
 
 pub returns-in-Some : goal.returns-in-Some
 returns-in-Some c =
-    let words = map string_bytes c.args.words.now in (
+    let words = map string_bytes c.args.words.now in
+    let same = enters_same (app_of c.in-Ok.command) (fleet c.args.names) words c.in-Ok-try_get_matches_from.matches c.in-Ok.ensures refl
+    c.in-Ok-try_get_matches_from.ensures.matches in (
       faultless (app_of c.in-Ok.command) (fleet c.args.names) words c.in-Ok.ensures refl c.in-Ok-try_get_matches_from.ensures.kinds,
-      answers (app_of c.in-Ok.command) (fleet c.args.names) words c.in-Ok-try_get_matches_from.matches (Some (asked_of c.in-Some.request)) c.in-Ok.ensures refl
-          c.in-Ok-try_get_matches_from.ensures.matches c.in-Some.ensures,
+      subst (λ found. AsksBy found c.in-Some.request) same c.in-Some.ensures,
     )
 
 pub unreachable-requires : goal.unreachable-requires
 unreachable-requires c =
     let words = map string_bytes c.args.words.now in
+    let same = enters_same (app_of c.in-Ok.command) (fleet c.args.names) words c.in-Ok-try_get_matches_from.matches c.in-Ok.ensures refl
+    c.in-Ok-try_get_matches_from.ensures.matches in
     let none = faultless (app_of c.in-Ok.command) (fleet c.args.names) words c.in-Ok.ensures refl c.in-Ok-try_get_matches_from.ensures.kinds in
-    let asked = answers (app_of c.in-Ok.command) (fleet c.args.names) words c.in-Ok-try_get_matches_from.matches None c.in-Ok.ensures refl
-    c.in-Ok-try_get_matches_from.ensures.matches c.in-None.ensures in
-    true≢false (sym (is_answered c.args.names c.requires words none) ∙ ap is_some asked)
+    true≢false (sym (is_answered c.args.names c.requires words none) ∙ (sym (ap is_answered_by same) ∙ c.in-None.ensures))
 
 pub returns-in-Err : goal.returns-in-Err
 returns-in-Err c =

@@ -1,4 +1,4 @@
-use Rattle.std.proofs.Common.{Ok, Err}
+use Rattle.std.proofs.Common.{Ok, Err, refl}
 use Rattle.fleet_cli.proofs.AutoLemmas.{MakesRun, made_flushed}
 use Rattle.fleet_cli.proofs.auto_command.auto_texts.Goals.{in-Ok, in-Err-Run}
 use Rattle.fleet_cli.proofs.auto_command.auto_texts.Goals as goal
@@ -6,19 +6,19 @@ use Rattle.fleet_cli.proofs.auto_command.auto_texts.Goals as goal
 pub returns-in-Ok-flush_run : goal.returns-in-Ok-flush_run
 returns-in-Ok-flush_run g c =
     let ran : MakesRun c.args.map.now c.args.scen.now c.args.asked c.args.horizon c.args.deps c.args.held.now
-    (record { before = g.O.TraceOut.taken c.args.out.now; taken = g.O.TraceOut.taken c.auto_run.new.out; has_failed = g.O.TraceOut.has_failed c.auto_run.new.out }) c.match-auto_run.ran =
+    (g.O.TraceOut.state c.args.out.now) (g.O.TraceOut.state c.auto_run.new.out) c.match-auto_run.ran =
     elim c.match-auto_run.branch [
       | in-Ok w ↦ rw w.ran-is w.in-Ok.ensures
       | in-Err-Run w ↦ rw w.ran-is (rw w.in-Err-Run.field-0-is at w.in-Err-Run.ensures)
     ] in
-    made_flushed _ _ _ _ _ _ _ _ _ _ _ _ c.match-auto_run.ran (Ok c.in-Ok-flush_run.field-0) ran c.in-Ok-flush_run.ensures
+    (made_flushed _ _ _ _ _ _ _ _ _ c.match-auto_run.ran (Ok c.in-Ok-flush_run.field-0) ran c.in-Ok-flush_run.ensures, refl)
 
 pub returns-in-Err-flush_run : goal.returns-in-Err-flush_run
 returns-in-Err-flush_run g c =
     let ran : MakesRun c.args.map.now c.args.scen.now c.args.asked c.args.horizon c.args.deps c.args.held.now
-    (record { before = g.O.TraceOut.taken c.args.out.now; taken = g.O.TraceOut.taken c.auto_run.new.out; has_failed = g.O.TraceOut.has_failed c.auto_run.new.out }) c.match-auto_run.ran =
+    (g.O.TraceOut.state c.args.out.now) (g.O.TraceOut.state c.auto_run.new.out) c.match-auto_run.ran =
     elim c.match-auto_run.branch [
       | in-Ok w ↦ rw w.ran-is w.in-Ok.ensures
       | in-Err-Run w ↦ rw w.ran-is (rw w.in-Err-Run.field-0-is at w.in-Err-Run.ensures)
     ] in
-    made_flushed _ _ _ _ _ _ _ _ _ _ _ _ c.match-auto_run.ran (Err c.in-Err-flush_run.fault) ran c.in-Err-flush_run.ensures
+    made_flushed _ _ _ _ _ _ _ _ _ c.match-auto_run.ran (Err c.in-Err-flush_run.fault) ran c.in-Err-flush_run.ensures

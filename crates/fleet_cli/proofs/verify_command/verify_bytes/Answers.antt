@@ -2,10 +2,13 @@ use Rattle.std.proofs.Common.{refl}
 use Rattle.fleet_cli.proofs.verify_command.verify_bytes.Goals as goal
 
 pub returns-in-Ok : goal.returns-in-Ok
-returns-in-Ok g c = record {
-  accepts = record { ground = c.in_ok-problem.problem.grid; tasks = c.in_ok-problem.problem.instance; texts = c.in_ok-problem.ensures.read; program = c.in_ok-accepted.accepted.program; chain = c.in_ok-accepted.accepted.chain; accepts = c.in_ok-accepted.ensures.accepted };
-  delivered = record { written = c.in-Ok.ensures.0; working = c.in-Ok.ensures.1; flushed = c.in-Ok.ensures.2 };
-}
+returns-in-Ok g c = (
+  record {
+    accepts = record { ground = c.in_ok-problem.problem.grid; tasks = c.in_ok-problem.problem.instance; texts = c.in_ok-problem.ensures.read; program = c.in_ok-accepted.accepted.program; chain = c.in_ok-accepted.accepted.chain; accepts = c.in_ok-accepted.ensures.accepted };
+    delivered = c.in-Ok.ensures;
+  },
+  refl,
+)
 
 pub returns : goal.returns
 returns g c = (

@@ -1,7 +1,7 @@
 use Rattle.std.proofs.Common.{refl}
 use Rattle.std.proofs.lemmas.Simd.{zip2_splat, zip2_of_maps}
 use Rattle.fleet_grid.specs.MapText.{is_ground_glyph}
-use Rattle.fleet_grid.proofs.BlockLaws.{masked}
+use Rattle.fleet_text.proofs.BlockLaws.{masked}
 use Rattle.fleet_grid.proofs.glyphs.ground_mask.Goals as goal
 
 pub returns : goal.returns

@@ -1,4 +1,4 @@
-use Rattle.fleet_grid.specs.Text.{lines}
+use Rattle.fleet_text.specs.Text.{lines}
 use Rattle.fleet_grid.proofs.StoredLaws.{off_map}
 use Rattle.fleet_grid.proofs.MapLaws.{one_ground, sizes_are, cell_of}
 use Rattle.fleet_grid.proofs.laws.a_map_text_is_one_ground.Goals as goal

@@ -1,4 +1,4 @@
-use Rattle.fleet_grid.specs.Text.{lines}
+use Rattle.fleet_text.specs.Text.{lines}
 use Rattle.fleet_grid.proofs.FaultLaws.{found, read, told}
 use Rattle.fleet_grid.proofs.reading.read_map.Goals as goal
 

@@ -1,12 +1,11 @@
-use Rattle.std.proofs.Common.{◌≡◌, ◌∷◌, false, map, take}
+use Rattle.std.proofs.Common.{◌≡◌, ◌∷◌, map, take}
 use Rattle.fleet_io.specs.declared.words.Word.{Word}
-use Rattle.fleet_io.specs.Row.{PassesOn}
+use Rattle.fleet_text.specs.Row.{PassesOn}
 use Rattle.fleet_io.specs.Words.{word_text, spaced}
 use Rattle.fleet_io.proofs.words.put_words.Given as goal
 
 abbrev pub invariant-loop-word : goal.invariant-loop-word
 invariant-loop-word g l = record {
   written : (first : Word) × (l.words ≡ first ∷ l.rest)
-      × PassesOn (g.O.TraceOut.taken l.fn.out) (g.O.TraceOut.taken l.out) l.fn.row l.row (spaced (map word_text (first ∷ take l.word-index l.rest)));
-  working : g.O.TraceOut.has_failed l.out ≡ false;
+      × PassesOn (g.O.TraceOut.state l.fn.out) (g.O.TraceOut.state l.out) l.fn.row l.row (spaced (map word_text (first ∷ take l.word-index l.rest)));
 }

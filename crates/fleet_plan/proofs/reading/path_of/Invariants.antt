@@ -1,5 +1,5 @@
 use Rattle.std.proofs.Common.{◌≡◌, ◌+◌, ◌≤◌, false, ◌++◌, length, option_map}
-use Rattle.fleet_grid.specs.Text.{starts_blank, words, words_from_front}
+use Rattle.fleet_text.specs.Text.{starts_blank, words, words_from_front}
 use Rattle.fleet_plan.specs.PlanReading.{cells_in}
 use Rattle.fleet_plan.proofs.reading.path_of.Given as goal
 

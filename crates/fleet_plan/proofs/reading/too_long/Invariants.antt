@@ -1,5 +1,5 @@
 use Rattle.std.proofs.Common.{◌≡◌, false, length}
-use Rattle.fleet_grid.specs.Text.{starts_blank, words}
+use Rattle.fleet_text.specs.Text.{starts_blank, words}
 use Rattle.fleet_plan.specs.PlanReading.{too_long}
 use Rattle.fleet_plan.proofs.reading.too_long.Given as goal
 

@@ -1,4 +1,4 @@
-use Rattle.fleet_grid.specs.Text.{lines}
+use Rattle.fleet_text.specs.Text.{lines}
 use Rattle.fleet_plan.proofs.PlanLaws.{one_plan, limits}
 use Rattle.fleet_plan.proofs.text_laws.a_plan_text_is_one_plan.Goals as goal
 

@@ -1,5 +1,5 @@
 use Rattle.std.proofs.Common.{subst, sym}
-use Rattle.fleet_grid.specs.Text.{Bytes, lines}
+use Rattle.fleet_text.specs.Text.{Bytes, lines}
 use Rattle.fleet_plan.specs.PlanText.{plan_text, IsPlanText}
 use Rattle.fleet_plan.proofs.PlanLaws.{one_plan}
 use Rattle.fleet_plan.proofs.Written.{plan_again}

@@ -35,31 +35,33 @@ returns-clause-in_time g c =
     let running = c.fleet.invariant in
     let parts = c.fleet.inside.accepted in
     let p = g.P.ProgramView.program parts.program in
-    let holds = g.S.HoldSource.ticks c.args.source.now in
+    let s = g.S.HoldSource.state c.args.source.now in
+    let holds = s.ticks in
     let same : g.P.ProgramView.program c.program.result.now ≡ p = ap g.P.ProgramView.program c.program.ensures.program in
     let accepted = c.awaits_are_chains.ensures (is_passable parts.grid) parts.instance p running.accepted_for.accepted in
     let longest = c.chain-chain.ensures.accepted.longest in
     let arrive = λ (f : ℕ) (h : IsFinish p holds f). c.runs_arrive.ensures.arrive (is_passable parts.grid) parts.instance p accepted holds c.chain-chain.result f longest h in
     let still = subst (λ q. (f : ℕ) → IsFinish q holds f → Arrives q holds c.chain-chain.result f) (sym same) arrive in
-    told_in_time (g.P.ProgramView.program c.program.result.now) c.chain-chain.result holds _ c.run_trace.new.machine.configuration c.run_trace.result still c.run_trace.ensures.outcome
+    told_in_time (g.P.ProgramView.program c.program.result.now) c.chain-chain.result s _ _ _ c.run_trace.new.machine.configuration c.run_trace.result still c.run_trace.ensures.outcome
 
 pub returns-clause-arrived : goal.returns-clause-arrived
 returns-clause-arrived g c =
     let running = c.fleet.invariant in
     let parts = c.fleet.inside.accepted in
     let p = g.P.ProgramView.program parts.program in
-    let holds = g.S.HoldSource.ticks c.args.source.now in
+    let s = g.S.HoldSource.state c.args.source.now in
+    let holds = s.ticks in
     let same : g.P.ProgramView.program c.program.result.now ≡ p = ap g.P.ProgramView.program c.program.ensures.program in
     let accepted = c.awaits_are_chains.ensures (is_passable parts.grid) parts.instance p running.accepted_for.accepted in
     let longest = c.chain-chain.ensures.accepted.longest in
     let arrive = λ (f : ℕ) (h : IsFinish p holds f). c.runs_arrive.ensures.arrive (is_passable parts.grid) parts.instance p accepted holds c.chain-chain.result f longest h in
     let still = subst (λ q. (f : ℕ) → IsFinish q holds f → Arrives q holds c.chain-chain.result f) (sym same) arrive in
-    let told = arrived_if_told (g.P.ProgramView.program c.program.result.now) c.chain-chain.result holds _ c.run_trace.new.machine.configuration c.run_trace.result still c.run_trace.ensures.outcome in
+    let told = arrived_if_told (g.P.ProgramView.program c.program.result.now) c.chain-chain.result s _ _ _ c.run_trace.new.machine.configuration c.run_trace.result still c.run_trace.ensures.outcome in
     let here : IfOk c.run_trace.result (λ _. AreOnGoals p c.run_trace.new.machine.configuration) = subst (λ q. IfOk c.run_trace.result (λ _. AreOnGoals q c.run_trace.new.machine.configuration)) same told in
     rw (← c.fleet.view_is) here
 
 pub returns-clause-longest : goal.returns-clause-longest
 returns-clause-longest g c =
     let p = g.P.ProgramView.program c.fleet.inside.accepted.program in
-    let holds = g.S.HoldSource.ticks c.args.source.now in
-    rw (← c.fleet.view_is) (longest_if_told (g.P.ProgramView.program c.program.result.now) c.chain-chain.result holds _ c.run_trace.new.machine.configuration c.run_trace.result p c.chain-chain.ensures.accepted.longest c.run_trace.ensures.outcome)
+    let s = g.S.HoldSource.state c.args.source.now in
+    rw (← c.fleet.view_is) (longest_if_told (g.P.ProgramView.program c.program.result.now) c.chain-chain.result s _ _ _ c.run_trace.new.machine.configuration c.run_trace.result p c.chain-chain.ensures.accepted.longest c.run_trace.ensures.outcome)

@@ -1,6 +1,7 @@
 use Rattle.std.proofs.Common.{◌≡◌, ◌≢◌, ◌+◌, true, false, cond, None, ℕ, Bool, arith, refl, sym, ◌∙◌}
 use Rattle.fleet_model.specs.Machine.{is_over, is_ready_held}
-use Rattle.fleet_run.specs.Source.{flag_of}
+use Rattle.fleet_run.specs.declared.run.TheConstants.{MOST_TICKS}
+use Rattle.fleet_run.specs.Source.{HasNotFailed, flag_of}
 use Rattle.fleet_run.proofs.Ending.{not_over}
 use Rattle.fleet_run.proofs.UnderWay.{IsNextTick, all_asked, asked_once_more, few_held, few_ticks, asked, falls, one_tick_on, stops_at_source, took_all, line_added, needs_more, more_than}
 use Rattle.fleet_run.proofs.run.run_lines.Goals as goal
@@ -16,52 +17,52 @@ uncounted held ready is e same = let flag : is ≡ false = sym same ∙ e in rw 
 pub returns-in-Err-clause-lines : goal.returns-in-Err-clause-lines
 returns-in-Err-clause-lines g c =
     let p = g.P.ProgramView.program c.args.program.now in
-    let holds = g.S.HoldSource.ticks c.args.source.now in
+    let s = g.S.HoldSource.state c.args.source.now in
     let before = c.ticks.invariant.under_way in
-    let took = took_all _ _ _ c.put_line.result _ (rw c.agents-in-ticks.ensures at c.put_line.ensures) (sym c.is_err.ensures.value ∙ c.if-is_err.false) in
+    let took = took_all (g.O.TraceOut.state c.ticks.out) (g.O.TraceOut.state c.put_line.new.out) c.put_line.result _ (rw c.agents-in-ticks.ensures at c.put_line.ensures) (sym c.is_err.ensures.value ∙ c.if-is_err.false) in
     let goes = not_over p c.ticks.machine.configuration (sym c.in_default.is ∙ c.end_at.ensures) in
-    stops_at_source p holds _ c.ticks.machine.configuration c.in-Err.fault c.ticks.ticks c.fault_at.result c.fault_at.ensures before.here
+    stops_at_source p s _ _ _ c.ticks.machine.configuration c.in-Err.fault c.ticks.ticks c.fault_at.result c.fault_at.ensures before.here
     record {
-      needed = needs_more p holds c.ticks.machine.configuration c.ticks.ticks before.here before.needed goes;
-      all = all_asked p holds _ c.ticks.machine.configuration _ _ c.ticks.ticks c.ticks.held c.ticks.ended before c.in-Err.ensures.0 c.in-Err.ensures.1;
+      needed = needs_more p s.ticks c.ticks.machine.configuration c.ticks.ticks before.here before.needed goes;
+      all = all_asked p s _ c.ticks.machine.configuration c.ticks.ticks c.ticks.held c.ticks.ended before c.in-Err.ensures.0 c.in-Err.ensures.1;
       left = c.in-Err.ensures.2;
       last = sym (before.still_comes c.in-Err.ensures.0) ∙ c.in-Err.ensures.3;
       kept = c.in-Err.ensures.4 ∙ before.still_comes c.in-Err.ensures.0;
       fault = c.in-Err.ensures.5;
-      taken = line_added p holds c.ticks.ticks c.ticks.machine.configuration _ _ _ before.here c.ticks.invariant.taken took.0;
-      working = took.1;
+      taken = (line_added p s.ticks c.ticks.ticks c.ticks.machine.configuration _ _ _ before.here c.ticks.invariant.written took).taken;
+      working = took.working;
     }
 
 pub returns-then-ticks-eq-MOST_TICKS-clause-lines : goal.returns-then-ticks-eq-MOST_TICKS-clause-lines
 returns-then-ticks-eq-MOST_TICKS-clause-lines g c =
     let p = g.P.ProgramView.program c.args.program.now in
-    let holds = g.S.HoldSource.ticks c.args.source.now in
+    let s = g.S.HoldSource.state c.args.source.now in
     let before = c.ticks.invariant.under_way in
-    let took = took_all _ _ _ c.put_line.result _ (rw c.agents-in-ticks.ensures at c.put_line.ensures) (sym c.is_err.ensures.value ∙ c.if-is_err.false) in
+    let took = took_all (g.O.TraceOut.state c.ticks.out) (g.O.TraceOut.state c.put_line.new.out) c.put_line.result _ (rw c.agents-in-ticks.ensures at c.put_line.ensures) (sym c.is_err.ensures.value ∙ c.if-is_err.false) in
     let goes = not_over p c.ticks.machine.configuration (sym c.in_default.is ∙ c.end_at.ensures) in
-    let next = asked p c.ticks.ended _ _ _ _ _ c.in-Ok.more c.ask.new.flags c.in-Ok.ensures (c.ask.auto.flags ∙ c.ticks.invariant.flags) in (
+    let next = asked p c.ticks.ended _ _ c.in-Ok.more c.ask.new.flags c.in-Ok.ensures (c.ask.auto.flags ∙ c.ticks.invariant.flags) in (
       c.ticks.ticks,
       before.here,
       record {
         limit = c.if-ticks-eq-MOST_TICKS.true;
-        needed = needs_more p holds c.ticks.machine.configuration c.ticks.ticks before.here before.needed goes;
-        more = more_than holds _ _ before.left_is (next.0.some_left c.if-more.true);
-        source = asked_once_more p holds _ c.ticks.machine.configuration _ _ c.ticks.ticks c.ticks.held c.ticks.ended before c.ask.new.flags c.in-Ok.more _ _ next.0 goes c.if-more.true _ refl refl refl next.1;
-        taken = line_added p holds c.ticks.ticks c.ticks.machine.configuration _ _ _ before.here c.ticks.invariant.taken took.0;
-        working = took.1;
+        needed = needs_more p s.ticks c.ticks.machine.configuration c.ticks.ticks before.here before.needed goes;
+        more = more_than s.ticks _ _ before.left_is (next.0.some_left c.if-more.true);
+        asked = asked_once_more p s _ c.ticks.machine.configuration c.ticks.ticks c.ticks.held c.ticks.ended before c.ask.new.flags c.in-Ok.more _ next.0 goes c.if-more.true next.1;
+        taken = (line_added p s.ticks c.ticks.ticks c.ticks.machine.configuration _ _ _ before.here c.ticks.invariant.written took).taken;
+        working = took.working;
       },
     )
 
 pub overflow_add-held : goal.overflow_add-held
 overflow_add-held g c =
     let p = g.P.ProgramView.program c.args.program.now in
-    let holds = g.S.HoldSource.ticks c.args.source.now in
+    let s = g.S.HoldSource.state c.args.source.now in
     let before = c.ticks.invariant.under_way in
-    omega (arith, few_held p holds _ _ _ _ _ _ _ before, few_ticks p holds _ _ _ _ _ _ _ before)
+    omega (arith, few_held p s _ _ _ _ _ before, few_ticks p s _ _ _ _ _ before)
 
 -- the tick that was asked for
-asked_here : (g : Given.Over) (c : Joined-tick g) → IsNextTick (g.P.ProgramView.program c.args.program.now) (g.S.HoldSource.ticks c.ticks.source) (g.S.HoldSource.last c.ticks.source) c.ticks.ended c.ask.new.flags c.in-Ok.more (g.S.HoldSource.ticks c.ask.new.source) (g.S.HoldSource.last c.ask.new.source) × (g.S.HoldSource.fault c.ask.new.source ≡ None)
-asked_here g c = asked (g.P.ProgramView.program c.args.program.now) c.ticks.ended _ _ _ _ _ c.in-Ok.more c.ask.new.flags c.in-Ok.ensures (c.ask.auto.flags ∙ c.ticks.invariant.flags)
+asked_here : (g : Given.Over) (c : Joined-tick g) → IsNextTick (g.P.ProgramView.program c.args.program.now) (g.S.HoldSource.state c.ticks.source) c.ticks.ended c.ask.new.flags c.in-Ok.more (g.S.HoldSource.state c.ask.new.source) × HasNotFailed (g.S.HoldSource.state c.ask.new.source)
+asked_here g c = asked (g.P.ProgramView.program c.args.program.now) c.ticks.ended _ _ c.in-Ok.more c.ask.new.flags c.in-Ok.ensures (c.ask.auto.flags ∙ c.ticks.invariant.flags)
 
 goes_here : (g : Given.Over) (c : Joined-tick g) → is_over (g.P.ProgramView.program c.args.program.now) c.ticks.machine.configuration ≡ false
 goes_here g c = not_over (g.P.ProgramView.program c.args.program.now) c.ticks.machine.configuration (sym c.in_default.is ∙ c.end_at.ensures)
@@ -69,30 +70,29 @@ goes_here g c = not_over (g.P.ProgramView.program c.args.program.now) c.ticks.ma
 pub ticks-smaller : goal.ticks-smaller
 ticks-smaller g c =
     let p = g.P.ProgramView.program c.args.program.now in
-    let holds = g.S.HoldSource.ticks c.args.source.now in
-    let fewer = falls p holds _ c.ticks.machine.configuration _ _ c.ticks.ticks c.ticks.held c.ticks.ended c.ticks.invariant.under_way c.ask.new.flags c.in-Ok.more _ _ (asked_here g c).0 (goes_here g c) in
+    let s = g.S.HoldSource.state c.args.source.now in
+    let fewer = falls p s _ c.ticks.machine.configuration c.ticks.ticks c.ticks.held c.ticks.ended c.ticks.invariant.under_way c.ask.new.flags c.in-Ok.more _ (asked_here g c).0 (goes_here g c) in
     rw c.tick-tick.ensures.after fewer
 
 pub ticks-preserved : goal.ticks-preserved
 ticks-preserved g c =
     let p = g.P.ProgramView.program c.args.program.now in
-    let holds = g.S.HoldSource.ticks c.args.source.now in
+    let s = g.S.HoldSource.state c.args.source.now in
     let before = c.ticks.invariant.under_way in
-    let took = took_all _ _ _ c.put_line.result _ (rw c.agents-in-ticks.ensures at c.put_line.ensures) (sym c.is_err.ensures.value ∙ c.if-is_err.false) in
+    let took = took_all (g.O.TraceOut.state c.ticks.out) (g.O.TraceOut.state c.put_line.new.out) c.put_line.result _ (rw c.agents-in-ticks.ensures at c.put_line.ensures) (sym c.is_err.ensures.value ∙ c.if-is_err.false) in
     let next = asked_here g c in
-    let limit : c.in-Ok.more ≡ true → c.ticks.ticks ≢ 4194304 = λ e.
+    let limit : c.in-Ok.more ≡ true → c.ticks.ticks ≢ MOST_TICKS = λ e.
     elim c.else-more.branch [ else-more-via-then-more+else-ticks-eq-MOST_TICKS w ↦ w.if-ticks-eq-MOST_TICKS.false | else-more-via-else-more w ↦ let no = w.if-more.false in absurd (cc) ] in
     let held : c.if-tick.held ≡ c.ticks.held + cond (is_ready_held p (flag_of c.ask.new.flags) c.ticks.machine.configuration) 1 0 =
     elim c.if-tick.branch [
       | then-tick w ↦ w.held-is ∙ counted c.ticks.held _ _ w.if-tick.true c.tick-tick.ensures.held
       | else-tick w ↦ w.held-is ∙ uncounted c.ticks.held _ _ w.if-tick.false c.tick-tick.ensures.held
     ] in
-    let on = one_tick_on p holds _ c.ticks.machine.configuration _ _ c.ticks.ticks c.ticks.held c.ticks.ended before c.ask.new.flags c.in-Ok.more _ _ next.0 (goes_here g c) c.requires.runs.well_formed limit in
+    let on = one_tick_on p s _ c.ticks.machine.configuration c.ticks.ticks c.ticks.held c.ticks.ended before c.ask.new.flags c.in-Ok.more _ next.0 (goes_here g c) c.requires.runs.well_formed limit in
     record {
       runs = c.tick-tick.ensures.runs;
       flags = c.ask.auto.flags ∙ c.ticks.invariant.flags;
       under_way = rw (c.tick-tick.ensures.after, held) on;
       source = next.1;
-      sink = took.1;
-      taken = line_added p holds c.ticks.ticks c.ticks.machine.configuration _ _ _ before.here c.ticks.invariant.taken took.0;
+      written = line_added p s.ticks c.ticks.ticks c.ticks.machine.configuration _ _ _ before.here c.ticks.invariant.written took;
     }

@@ -9,12 +9,12 @@ use Rattle.fleet_run.proofs.trace.run_trace.Goals as goal
 pub returns-in_err-ran-clause-outcome : goal.returns-in_err-ran-clause-outcome
 returns-in_err-ran-clause-outcome g c =
     let told = err_from_is_err_and c.from_residual.result c.from_residual.ensures.1 in
-    rw (told.1, told.2) (drives_so (g.P.ProgramView.program c.args.program.now) c.args.chain (g.S.HoldSource.ticks c.args.source.now) _ c.run_lines.new.machine.configuration c.in_err-ran.field-0.0 c.in_err-ran.ensures.lines)
+    rw (told.1, told.2) (drives_so (g.P.ProgramView.program c.args.program.now) c.args.chain (g.S.HoldSource.state c.args.source.now) _ _ _ c.run_lines.new.machine.configuration c.in_err-ran.field-0.0 c.in_err-ran.ensures.lines)
 
 pub returns-then-is_err-clause-outcome : goal.returns-then-is_err-clause-outcome
 returns-then-is_err-clause-outcome g c =
     let p = g.P.ProgramView.program c.args.program.now in
-    let holds = g.S.HoldSource.ticks c.args.source.now in
+    let holds = (g.S.HoldSource.state c.args.source.now).ticks in
     let here = c.in_ok-ran.ensures.lines.0 in
     let ran = c.in_ok-ran.ensures.lines.1 in
     let t = c.in_ok-ran.ran.ticks in
@@ -22,12 +22,12 @@ returns-then-is_err-clause-outcome g c =
     let closing : drop c.write_trace_closing-at.result c.write_trace_closing-at.new.row ≡ trace_closing (length p) t c.args.chain (held_ticks p holds t) =
     c.write_trace_closing-at.ensures.written ∙ (ap (λ n. trace_closing n t c.args.chain c.in_ok-ran.ran.held) c.agents-agents.ensures.count ∙ ap (trace_closing (length p) t c.args.chain) ran.held) in
     let whole = rest_of_row c.write_trace_closing-at.new.row 100 c.write_trace_closing-at.result (omega arith) in
-    let stops = stops_in_trace_closing p c.args.chain holds t _ _ _ _ c.put_all.result _ over ran.taken c.put_all.ensures (sym c.is_err.ensures.value ∙ c.if-is_err.true) (whole ∙ closing) in (
+    let stops = stops_in_trace_closing p c.args.chain holds t (g.O.TraceOut.state c.args.out.now) (g.O.TraceOut.state c.run_lines.new.out) (g.O.TraceOut.state c.put_all.new.out) c.put_all.result _ over ran.taken c.put_all.ensures (sym c.is_err.ensures.value ∙ c.if-is_err.true) (whole ∙ closing) in (
       t,
       here,
       record {
         needed = needed_to_finish p holds t ran.needed;
-        source = record { left = ran.source.left; kept = ran.source.kept; ended = ran.source.ended; fault = ran.source.fault };
+        asked = record { left = ran.asked.left; kept = ran.asked.kept; ended = ran.asked.ended; fault = ran.asked.fault };
         taken = stops.0;
         failed = stops.1;
       },

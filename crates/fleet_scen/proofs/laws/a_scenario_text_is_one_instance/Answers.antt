@@ -1,4 +1,4 @@
-use Rattle.fleet_grid.specs.Text.{lines}
+use Rattle.fleet_text.specs.Text.{lines}
 use Rattle.fleet_scen.proofs.ScenFaults.{one_instance}
 use Rattle.fleet_scen.proofs.laws.a_scenario_text_is_one_instance.Goals as goal
 

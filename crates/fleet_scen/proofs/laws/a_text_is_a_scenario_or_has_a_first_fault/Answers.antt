@@ -1,12 +1,6 @@
-use Rattle.fleet_grid.specs.Text.{lines}
+use Rattle.fleet_text.specs.Text.{lines}
 use Rattle.fleet_scen.proofs.ScenFaults.{scen_or_fault, not_both, one_fault}
 use Rattle.fleet_scen.proofs.laws.a_text_is_a_scenario_or_has_a_first_fault.Goals as goal
 
-pub returns-clause-either : goal.returns-clause-either
-returns-clause-either c = λ text g asked. scen_or_fault g asked (lines text)
-
-pub returns-clause-not_both : goal.returns-clause-not_both
-returns-clause-not_both c = λ text g asked t f a b. not_both g asked (lines text) t f a b
-
-pub returns-clause-one : goal.returns-clause-one
-returns-clause-one c = λ text g asked e f a b. one_fault g asked (lines text) e f a b
+pub returns : goal.returns
+returns c = λ text g asked. record { either = scen_or_fault g asked (lines text); not_both = not_both g asked (lines text); one = one_fault g asked (lines text) }

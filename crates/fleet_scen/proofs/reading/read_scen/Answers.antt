@@ -1,5 +1,5 @@
 use Rattle.std.proofs.lemmas.Result.{err_from_is_err_and}
-use Rattle.fleet_grid.specs.Text.{lines}
+use Rattle.fleet_text.specs.Text.{lines}
 use Rattle.fleet_scen.proofs.ScenLaws.{is_found}
 use Rattle.fleet_scen.proofs.ScenFaults.{read, told, all_open}
 use Rattle.fleet_scen.proofs.reading.read_scen.Goals as goal

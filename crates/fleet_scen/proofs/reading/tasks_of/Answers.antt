@@ -9,7 +9,7 @@ use Rattle.fleet_scen.proofs.reading.tasks_of.Goals as goal
 pub returns-in_default : goal.returns-in_default
 returns-in_default c =
     let total = ends c.args.grid.now c.args.asked c.loop-lines.number c.loop-lines.tasks.items c.loop-lines.lines _ c.loop-lines.invariant.so_far c.in_default.ensures.0 in
-    rw total c.finished.ensures
+    rw total c.enough_tasks.ensures
 
 pub loop-lines-preserved-then-not-is_filled : goal.loop-lines-preserved-then-not-is_filled
 loop-lines-preserved-then-not-is_filled c =
@@ -86,4 +86,4 @@ returns c =
     let count_is : c.len.result ≡ length c.loop-lines.tasks.items = omega (arith, c.len.ensures) in
     let done : lacks c.args.asked (length c.loop-lines.tasks.items) ≡ false = rw count_is at (sym c.lacks.ensures ∙ c.loop-lines-test.false) in
     let total = stops c.args.grid.now c.args.asked c.loop-lines.number c.loop-lines.tasks.items c.loop-lines.lines _ c.loop-lines.invariant.so_far done in
-    rw total c.finished-2.ensures
+    rw total c.enough_tasks-2.ensures

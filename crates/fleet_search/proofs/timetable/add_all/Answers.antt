@@ -2,6 +2,7 @@ use Rattle.std.proofs.Common.{◌≡◌, ◌≤◌, length, refl, sym, ap, ◌�
 use Rattle.std.proofs.lemmas.Bool.{not-false}
 use Rattle.std.proofs.lemmas.Result.{on_ok_weaker}
 use Rattle.fleet_model.proofs.Cells.{is_same_cell-true}
+use Rattle.fleet_model.specs.declared.limits.TheConstants.{MAX_HORIZON}
 use Rattle.fleet_plan.specs.Plan.{cell_at}
 use Rattle.fleet_search.specs.Stays.{without}
 use Rattle.fleet_search.proofs.Entering.{entered-none, entered-same, entered-more, entered-all, entered-rest, entered-order, either}
@@ -29,7 +30,7 @@ returns-clause-ok c =
     let time = c.loop-time.time in
     let path = c.args.path.now in
     let e : c.steps-end.result ≡ time = omega arith in
-    let few : time ≤ 65535 = let f = c.steps-end.ensures.limits.few_cells in let g = c.steps-end.ensures.time in omega arith in
+    let few : time ≤ MAX_HORIZON = let f = c.steps-end.ensures.limits.few_cells in let g = c.steps-end.ensures.time in omega arith in
     on_ok_weaker c.add-2.result (λ a. entered-all c.args.paths.now path c.requires.fits c.args.rows.now.items c.loop-time.rows.items c.loop-time.from time c.loop-time.invariant c.add-2.new.rows.items c.cell-2.result _ a (c.cell-2.ensures ∙ ap (cell_at path) e) refl refl few refl (let g = c.steps-end.ensures.time in omega arith)) c.add-2.ensures.ok
 
 pub returns-clause-rest : goal.returns-clause-rest
@@ -37,5 +38,5 @@ returns-clause-rest c =
     let time = c.loop-time.time in
     let path = c.args.path.now in
     let e : c.steps-end.result ≡ time = omega arith in
-    let few : time ≤ 65535 = let f = c.steps-end.ensures.limits.few_cells in let g = c.steps-end.ensures.time in omega arith in
+    let few : time ≤ MAX_HORIZON = let f = c.steps-end.ensures.limits.few_cells in let g = c.steps-end.ensures.time in omega arith in
     either c.add-2.result c.add-2.ensures.ok c.add-2.ensures.err (λ a. entered-rest c.args.paths.now path c.requires.fits c.args.rows.now.items c.loop-time.rows.items c.loop-time.from time c.loop-time.invariant c.add-2.new.rows.items c.cell-2.result _ a (c.cell-2.ensures ∙ ap (cell_at path) e) refl refl few) (λ h d. ap (without (length c.args.paths.now)) (h d) ∙ c.loop-time.invariant.rest d)

@@ -4,7 +4,7 @@ use Rattle.fleet_model.specs.declared.task.Task.{Task}
 use Rattle.fleet_model.specs.Program.{Program}
 use Rattle.fleet_model.specs.Machine.{Configuration, IsReached, run}
 use Rattle.fleet_model.specs.Visit.{ComesAfterByChain}
-use Rattle.fleet_model.specs.Accepted.{IsAccepted}
+use Rattle.fleet_model.specs.Accepted.{IsAcceptedBy}
 use Rattle.fleet_model.specs.Claims.{AreApart}
 use Rattle.std.proofs.Common.{List}
 use Rattle.fleet_verify.proofs.Free.{runs_free, runs_on_ground}
@@ -12,7 +12,7 @@ use Rattle.fleet_verify.proofs.Reached.{tick_safe}
 use Rattle.fleet_verify.proofs.Claimed.{claims_apart, held_keeps, still_claims}
 use Rattle.fleet_verify.proofs.runs.ready_moves_are_apart.Goals as goal
 
-all_apart : (passable : Place → Bool) (tasks : List Task) (p : Program) → IsAccepted ComesAfterByChain passable tasks p → (c : Configuration) → IsReached p c → AreApart passable p c
+all_apart : (passable : Place → Bool) (tasks : List Task) (p : Program) → IsAcceptedBy ComesAfterByChain passable tasks p → (c : Configuration) → IsReached p c → AreApart passable p c
 all_apart passable tasks p ok c r =
     claims_apart passable p c (λ held. tick_safe passable p (λ holds. record { on_ground = runs_on_ground passable p holds ok.right.on_ground; free = runs_free p holds ok.orderly }) c held r)
 

@@ -21,10 +21,10 @@ pub returns-clause-bytes : goal.returns-clause-bytes
 returns-clause-bytes c =
     let rest = c.loop-block.rest.now in
     let few : length rest < 64 = c.in_default.ensures.cases in
-    row_ends rest c.filled.result few c.filled.ensures (cells_in c.loop-block.self.bytes.items) (cells_in c.put_block-2.new.self.bytes.items) _ c.loop-block.invariant.bytes c.in_ok-put_block-2.ensures.bytes
+    row_ends rest c.block_of.result few c.block_of.ensures (cells_in c.loop-block.self.bytes.items) (cells_in c.put_block-2.new.self.bytes.items) _ c.loop-block.invariant.bytes c.in_ok-put_block-2.ensures.bytes
 
 pub returns-clause-count : goal.returns-clause-count
 returns-clause-count c =
     let rest = c.loop-block.rest.now in
     let few : length rest < 64 = c.in_default.ensures.cases in
-    count_ends rest c.filled.result few c.filled.ensures c.loop-block.self.passable_count c.put_block-2.new.self.passable_count _ c.loop-block.invariant.count c.in_ok-put_block-2.ensures.count
+    count_ends rest c.block_of.result few c.block_of.ensures c.loop-block.self.passable_count c.put_block-2.new.self.passable_count _ c.loop-block.invariant.count c.in_ok-put_block-2.ensures.count

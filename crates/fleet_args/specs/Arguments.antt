@@ -1,0 +1,48 @@
+-- The words and options of the commands, as what a parse reads of them.
+use Rattle.std.specs.Prelude.{◌≡◌, true, false, List, [], ◌∷◌, Some, codes, pos, fold, map}
+use Rattle.std.specs.Borrow.{Bor}
+use Rattle.clap.specs.Words.{Shape, Rule, Text, new_app, new_rule, with_rule, shape_of, rule_of}
+use Rattle.clap.specs.declared.builder.Arg.{Arg}
+use Rattle.clap.specs.declared.builder.Command.TheViews.{out-Command as fields_of}
+use Rattle.clap.specs.declared.builder.Command.{Command}
+use Rattle.clap.specs.declared.builder.ValueParser.TheVariants as parser
+
+-- a word that has to be there, at its place among such words
+abbrev pub word : Text → Rule
+word id = record (new_rule id) { required = true; value_names = 1 }
+
+-- `--NAME VALUE`
+abbrev pub option : Text → Rule
+option name = record (new_rule name) { long = Some name; value_names = 1 }
+
+-- `--agents K`, where K is a number up to 65535
+abbrev pub agents_rule : Rule
+agents_rule = record (option (codes "agents")) { parser = Some (parser.Signed (pos 0) (pos 65535)) }
+
+-- `--horizon H`, where H is a number from 1 to 65535, and 1024 where it is not used
+abbrev pub horizon_rule : Rule
+horizon_rule = record (option (codes "horizon")) { parser = Some (parser.Signed (pos 1) (pos 65535)); defaults = codes "1024" ∷ [] }
+
+-- the names of the kinds of awaits, as texts that are lent
+abbrev pub DepsNames : Type 0
+DepsNames = Bor (List (Bor Text))
+
+-- they are `all` and `last`
+abbrev pub AreDeps : DepsNames → Type 0
+AreDeps names = map (λ name. name.now) names.now ≡ codes "all" ∷ codes "last" ∷ []
+
+-- `--deps NAME`, and `last` where it is not used
+abbrev pub deps_rule : DepsNames → Rule
+deps_rule names = record (option (codes "deps")) { parser = Some (parser.Names names); defaults = codes "last" ∷ [] }
+
+-- a command without subcommands, by its name and its arguments
+abbrev pub command : Text → List Rule → Shape
+command name rules = (fold with_rule (new_app name) rules).top
+
+-- the argument has this rule, and does not reach into other commands
+abbrev pub IsArg : Rule → Arg → Type 0
+IsArg rule arg = (rule_of arg ≡ rule) × (arg.global ≡ false)
+
+-- the command has this shape, and no argument that reaches into others
+abbrev pub IsLeafCommand : Shape → Command → Type 0
+IsLeafCommand shape command = (shape_of command ≡ shape) × ((fields_of command).has_globals ≡ false)

@@ -1,0 +1,79 @@
+-- The values that the words of a command give to its arguments.
+use Rattle.std.specs.Prelude.{◌≡◌, ◌&&◌, ℕ, Bool, List, Option, Some, None, is_some, codes, option_map, option_and_then, nat_lt, if◌then◌else◌}
+use Rattle.std.specs.Borrow.{Bor}
+use Rattle.std.specs.Option.{option_map_or}
+use Rattle.std.specs.Str.{bytes_eq}
+use Rattle.std.specs.Str.Parse.{digits_value, without_leading_plus}
+use Rattle.clap.specs.Words.{Row, Text, first_of, one_of, first_value, one_text, found_of}
+use Rattle.clap.specs.ValueTests.{is_numeral}
+use Rattle.clap.specs.declared.parser.ArgMatches.{ArgMatches}
+use Rattle.clap.specs.declared.parser.matches.Found.{Found}
+use Rattle.fleet_model.specs.declared.deps.Deps.{Deps}
+use Rattle.fleet_model.specs.declared.deps.Deps.TheVariants as deps
+
+-- by the name of an argument: the first text that it was given, and that text as a number is read from it
+pub record Values : Type 0 where
+  pub first : Text → Option Text
+  pub one : Text → Option Text
+
+-- the values of the rows that `clap` defines for the words
+abbrev pub values_of : List Row → Values
+values_of rows = record { first = λ id. first_of id rows; one = λ id. one_of id rows }
+
+-- the values that the matches give
+abbrev pub values_found : Found → Values
+values_found found = record { first = first_value found; one = one_text found }
+
+abbrev pub values_in : ArgMatches → Values
+values_in matches = values_found (found_of matches)
+
+-- the number below 2 ^ 16 that the text spells
+abbrev pub number_in : Text → Option ℕ
+number_in text =
+    let digits = without_leading_plus text in
+    if is_numeral digits && nat_lt (digits_value 10 digits) 65536 then Some (digits_value 10 digits) else None
+
+-- an option's number, by the option's text: none where the option was not used, and no answer where the text is no number
+abbrev pub number_by : Option Text → Option (Option ℕ)
+number_by text = option_map_or (λ t. option_map Some (number_in t)) text (Some None)
+
+-- the kind of awaits of a name
+abbrev pub deps_in : Text → Option Deps
+deps_in text = if bytes_eq text (codes "all") then Some deps.All else (if bytes_eq text (codes "last") then Some deps.Last else None)
+
+-- ---- the value of an argument
+
+-- a text that is there in any case
+abbrev pub IsText : Values → Text → Bor Text → Type 0
+IsText values id text = values.first id ≡ Some text.now
+
+-- a text, where the option was used
+abbrev pub IsTextIfUsed : Values → Text → Option (Bor Text) → Type 0
+IsTextIfUsed values id text = values.first id ≡ option_map (λ t. t.now) text
+
+-- a number, where the option was used
+abbrev pub IsNumberIfUsed : Values → Text → Option ℕ → Type 0
+IsNumberIfUsed values id number = number_by (values.one id) ≡ Some number
+
+-- a number that is there in any case
+abbrev pub IsNumber : Values → Text → ℕ → Type 0
+IsNumber values id number = number_by (values.one id) ≡ Some (Some number)
+
+-- a kind of awaits that is there in any case
+abbrev pub IsKind : Values → Text → Deps → Type 0
+IsKind values id kind = option_and_then deps_in (values.first id) ≡ Some kind
+
+-- ---- there is such a value
+
+abbrev pub has_text : Values → Text → Bool
+has_text values id = is_some (values.first id)
+
+-- the option's text is a number, or it was not used
+abbrev pub reads_number : Values → Text → Bool
+reads_number values id = is_some (number_by (values.one id))
+
+abbrev pub has_number : Values → Text → Bool
+has_number values id = is_some (option_and_then (λ n. n) (number_by (values.one id)))
+
+abbrev pub has_kind : Values → Text → Bool
+has_kind values id = is_some (option_and_then deps_in (values.first id))

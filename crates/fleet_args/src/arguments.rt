@@ -1,0 +1,146 @@
+//! The words and options of the commands, as `clap` reads them.
+
+ghost use Rattle.std.specs.Prelude.{◌∷◌, [], IfOk, codes};
+ghost use Rattle.fleet_args.specs.Arguments.{IsArg, IsLeafCommand, word, option, agents_rule, horizon_rule, deps_rule, command};
+
+use clap::{Arg, Command};
+use std::alloc::{AllocError, Global};
+
+/// A word that the command needs, at its place among such words.
+fn positional<'a>(alloc: Global, id: &'a str, name: &'a str, help: &'a str) -> Arg<'a>
+    ensures { IsArg (word id.entry.now) result }
+{
+    Arg::new(alloc, id)
+        .required(true)
+        .value_name(name)
+        .help(help)
+}
+
+/// An option `--NAME` with one value.
+fn option<'a>(alloc: Global, name: &'a str, value: &'a str, help: &'a str) -> Arg<'a>
+    ensures { IsArg (option name.entry.now) result }
+{
+    Arg::new(alloc, name)
+        .long(name)
+        .value_name(value)
+        .help(help)
+}
+
+pub(crate) fn map<'a>(alloc: Global) -> Arg<'a>
+    ensures { IsArg (word (codes "map")) result }
+{
+    positional(
+        alloc,
+        "map",
+        "MAP",
+        "Map file (MovingAI), each side 1 to 4096",
+    )
+}
+
+pub(crate) fn scen<'a>(alloc: Global) -> Arg<'a>
+    ensures { IsArg (word (codes "scen")) result }
+{
+    positional(
+        alloc,
+        "scen",
+        "SCEN",
+        "Scenario file (MovingAI), one line per agent",
+    )
+}
+
+pub(crate) fn plan<'a>(alloc: Global) -> Arg<'a>
+    ensures { IsArg (word (codes "plan")) result }
+{
+    positional(
+        alloc,
+        "plan",
+        "PLAN",
+        "Plan text: a line per agent, its cells x,y at times 0, 1, 2 ..",
+    )
+}
+
+pub(crate) fn out<'a>(alloc: Global) -> Arg<'a>
+    ensures { IsArg (word (codes "out")) result }
+{
+    positional(
+        alloc,
+        "out",
+        "OUT",
+        "The file to which the program bytes are written",
+    )
+}
+
+pub(crate) fn program<'a>(alloc: Global) -> Arg<'a>
+    ensures { IsArg (word (codes "program")) result }
+{
+    positional(
+        alloc,
+        "program",
+        "PROGRAM",
+        "Program file (bytes, not hexadecimal)",
+    )
+}
+
+pub(crate) fn agents<'a>(alloc: Global) -> Arg<'a>
+    ensures { IsArg agents_rule result }
+{
+    option(
+        alloc,
+        "agents",
+        "K",
+        "Take the first K agents of the scenario, 1 to 1024 [default: all]",
+    )
+    .value_parser(clap::value_parser!(u16))
+}
+
+pub(crate) fn horizon<'a>(alloc: Global) -> Arg<'a>
+    ensures { IsArg horizon_rule result }
+{
+    option(
+        alloc,
+        "horizon",
+        "H",
+        "The latest time at which an agent may arrive, 1 to 65535; below its shortest way there is no path",
+    )
+    .value_parser(clap::value_parser!(u16).range(1..))
+    .default_value("1024")
+}
+
+/// Which earlier leavings of a cell an action awaits, by these names.
+pub(crate) fn deps<'a>(alloc: Global, names: &'a [&'a str]) -> Arg<'a>
+    ensures { IsArg (deps_rule names.entry) result }
+{
+    option(
+        alloc,
+        "deps",
+        "DEPS",
+        "What a move into a cell waits for: the last leaving by each other agent (all), or only the latest leaving (last)",
+    )
+    .value_parser(names)
+    .default_value("last")
+}
+
+pub(crate) fn holds<'a>(alloc: Global) -> Arg<'a>
+    ensures { IsArg (option (codes "holds")) result }
+{
+    option(
+        alloc,
+        "holds",
+        "FILE",
+        "Holds text: a line per tick, - for nobody or the numbers of the held agents, rising [default: nobody is held]",
+    )
+}
+
+/// A command on a map and a scenario, before its other arguments.
+pub(crate) fn map_and_scen<'a>(
+    alloc: Global,
+    name: &'a str,
+    about: &'a str,
+) -> Result<Command<'a>, AllocError>
+    ensures { IfOk result (IsLeafCommand (command name.entry.now (word (codes "map") ∷ word (codes "scen") ∷ []))) }
+{
+    Command::new(alloc, name)
+        .about(about)
+        .arg(map(alloc))?
+        .arg(scen(alloc))
+}

@@ -1,0 +1,55 @@
+//! The command `auto`: what it is asked for, its words and options, and how they are read.
+
+ghost use Rattle.std.specs.Prelude.{◌≡◌, false, IfOk, MatchOption};
+ghost use Rattle.fleet_args.specs.Arguments.{IsLeafCommand};
+ghost use Rattle.fleet_args.specs.Values.{values_in};
+ghost use Rattle.fleet_args.specs.Auto.{auto_shape, AsksAuto, has_auto_values};
+
+use crate::arguments::{agents, deps, holds, horizon, map_and_scen};
+use crate::values::{deps_of, number};
+use clap::{ArgMatches, Command};
+use fleet_model::Deps;
+use std::alloc::{AllocError, Global};
+
+/// `fleet auto MAP SCEN [--agents K] [--horizon H] [--deps DEPS] [--holds FILE]`
+#[derive(Clone, Copy, Debug, PartialEq, Eq)]
+pub struct AutoRequest<'a> {
+    pub map: &'a str,
+    pub scen: &'a str,
+    pub agents: Option<u16>,
+    pub horizon: u16,
+    pub deps: Deps,
+    pub holds: Option<&'a str>,
+}
+
+pub(crate) fn auto_command<'a>(
+    alloc: Global,
+    names: &'a [&'a str],
+) -> Result<Command<'a>, AllocError>
+    ensures { IfOk result (IsLeafCommand (auto_shape names.entry)) }
+{
+    map_and_scen(
+        alloc,
+        "auto",
+        "Plans, compiles, verifies and runs: prints the positions tick by tick, then agents, ticks, chain and held",
+    )?
+    .arg(agents(alloc))?
+    .arg(horizon(alloc))?
+    .arg(deps(alloc, names))?
+    .arg(holds(alloc))
+}
+
+/// What the matches of the command ask: none where a word is missing, or a text is no number or name.
+pub(crate) fn auto_in<'a>(matches: &ArgMatches<'a>) -> Option<AutoRequest<'a>>
+    ensures { MatchOption result (has_auto_values (values_in matches.now) ≡ false)
+        (AsksAuto (values_in matches.now)) }
+{
+    Some(AutoRequest {
+        map: matches.get_str("map")?,
+        scen: matches.get_str("scen")?,
+        agents: number(matches, "agents")?,
+        horizon: number(matches, "horizon")??,
+        deps: deps_of(matches.get_str("deps")?)?,
+        holds: matches.get_str("holds"),
+    })
+}

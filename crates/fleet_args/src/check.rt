@@ -1,0 +1,45 @@
+//! The command `check`: what it is asked for, its words and options, and how they are read.
+
+ghost use Rattle.std.specs.Prelude.{◌≡◌, false, IfOk, MatchOption};
+ghost use Rattle.fleet_args.specs.Arguments.{IsLeafCommand};
+ghost use Rattle.fleet_args.specs.Values.{values_in};
+ghost use Rattle.fleet_args.specs.Check.{check_shape, AsksCheck, has_check_values};
+
+use crate::arguments::{agents, map_and_scen, plan};
+use crate::values::number;
+use clap::{ArgMatches, Command};
+use std::alloc::{AllocError, Global};
+
+/// `fleet check MAP SCEN PLAN [--agents K]`
+#[derive(Clone, Copy, Debug, PartialEq, Eq)]
+pub struct CheckRequest<'a> {
+    pub map: &'a str,
+    pub scen: &'a str,
+    pub plan: &'a str,
+    pub agents: Option<u16>,
+}
+
+pub(crate) fn check_command<'a>(alloc: Global) -> Result<Command<'a>, AllocError>
+    ensures { IfOk result (IsLeafCommand check_shape) }
+{
+    map_and_scen(
+        alloc,
+        "check",
+        "Tells whether a plan is free of conflict, or its first fault",
+    )?
+    .arg(plan(alloc))?
+    .arg(agents(alloc))
+}
+
+/// What the matches of the command ask: none where a word is missing, or a text is no number.
+pub(crate) fn check_in<'a>(matches: &ArgMatches<'a>) -> Option<CheckRequest<'a>>
+    ensures { MatchOption result (has_check_values (values_in matches.now) ≡ false)
+        (AsksCheck (values_in matches.now)) }
+{
+    Some(CheckRequest {
+        map: matches.get_str("map")?,
+        scen: matches.get_str("scen")?,
+        plan: matches.get_str("plan")?,
+        agents: number(matches, "agents")?,
+    })
+}

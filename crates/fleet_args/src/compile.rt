@@ -1,0 +1,55 @@
+//! The command `compile`: what it is asked for, its words and options, and how they are read.
+
+ghost use Rattle.std.specs.Prelude.{◌≡◌, false, IfOk, MatchOption};
+ghost use Rattle.fleet_args.specs.Arguments.{IsLeafCommand};
+ghost use Rattle.fleet_args.specs.Values.{values_in};
+ghost use Rattle.fleet_args.specs.Compile.{compile_shape, AsksCompile, has_compile_values};
+
+use crate::arguments::{agents, deps, map_and_scen, out, plan};
+use crate::values::{deps_of, number};
+use clap::{ArgMatches, Command};
+use fleet_model::Deps;
+use std::alloc::{AllocError, Global};
+
+/// `fleet compile MAP SCEN PLAN OUT [--agents K] [--deps DEPS]`
+#[derive(Clone, Copy, Debug, PartialEq, Eq)]
+pub struct CompileRequest<'a> {
+    pub map: &'a str,
+    pub scen: &'a str,
+    pub plan: &'a str,
+    pub out: &'a str,
+    pub agents: Option<u16>,
+    pub deps: Deps,
+}
+
+pub(crate) fn compile_command<'a>(
+    alloc: Global,
+    names: &'a [&'a str],
+) -> Result<Command<'a>, AllocError>
+    ensures { IfOk result (IsLeafCommand (compile_shape names.entry)) }
+{
+    map_and_scen(
+        alloc,
+        "compile",
+        "Compiles a conflict-free plan into a program, writes it to OUT, and prints its agents, moves, awaits and bytes",
+    )?
+    .arg(plan(alloc))?
+    .arg(out(alloc))?
+    .arg(agents(alloc))?
+    .arg(deps(alloc, names))
+}
+
+/// What the matches of the command ask: none where a word is missing, or a text is no number or name.
+pub(crate) fn compile_in<'a>(matches: &ArgMatches<'a>) -> Option<CompileRequest<'a>>
+    ensures { MatchOption result (has_compile_values (values_in matches.now) ≡ false)
+        (AsksCompile (values_in matches.now)) }
+{
+    Some(CompileRequest {
+        map: matches.get_str("map")?,
+        scen: matches.get_str("scen")?,
+        plan: matches.get_str("plan")?,
+        out: matches.get_str("out")?,
+        agents: number(matches, "agents")?,
+        deps: deps_of(matches.get_str("deps")?)?,
+    })
+}

@@ -1,0 +1,45 @@
+//! The command `plan`: what it is asked for, its words and options, and how they are read.
+
+ghost use Rattle.std.specs.Prelude.{◌≡◌, false, IfOk, MatchOption};
+ghost use Rattle.fleet_args.specs.Arguments.{IsLeafCommand};
+ghost use Rattle.fleet_args.specs.Values.{values_in};
+ghost use Rattle.fleet_args.specs.Plan.{plan_shape, AsksPlan, has_plan_values};
+
+use crate::arguments::{agents, horizon, map_and_scen};
+use crate::values::number;
+use clap::{ArgMatches, Command};
+use std::alloc::{AllocError, Global};
+
+/// `fleet plan MAP SCEN [--agents K] [--horizon H]`
+#[derive(Clone, Copy, Debug, PartialEq, Eq)]
+pub struct PlanRequest<'a> {
+    pub map: &'a str,
+    pub scen: &'a str,
+    pub agents: Option<u16>,
+    pub horizon: u16,
+}
+
+pub(crate) fn plan_command<'a>(alloc: Global) -> Result<Command<'a>, AllocError>
+    ensures { IfOk result (IsLeafCommand plan_shape) }
+{
+    map_and_scen(
+        alloc,
+        "plan",
+        "Plans a path for each agent in turn, and prints the plan text",
+    )?
+    .arg(agents(alloc))?
+    .arg(horizon(alloc))
+}
+
+/// What the matches of the command ask: none where a word is missing, or a text is no number.
+pub(crate) fn plan_in<'a>(matches: &ArgMatches<'a>) -> Option<PlanRequest<'a>>
+    ensures { MatchOption result (has_plan_values (values_in matches.now) ≡ false)
+        (AsksPlan (values_in matches.now)) }
+{
+    Some(PlanRequest {
+        map: matches.get_str("map")?,
+        scen: matches.get_str("scen")?,
+        agents: number(matches, "agents")?,
+        horizon: number(matches, "horizon")??,
+    })
+}

@@ -1,0 +1,39 @@
+//! The command `rehearse`: what it is asked for, its words and options, and how they are read.
+
+ghost use Rattle.std.specs.Prelude.{◌≡◌, false, IfOk, MatchOption};
+ghost use Rattle.fleet_args.specs.Arguments.{IsLeafCommand};
+ghost use Rattle.fleet_args.specs.Values.{values_in};
+ghost use Rattle.fleet_args.specs.Rehearse.{rehearse_shape, AsksRehearse, has_rehearse_values};
+
+use crate::arguments::{holds, program};
+use clap::{ArgMatches, Command};
+use std::alloc::{AllocError, Global};
+
+/// `fleet rehearse PROGRAM [--holds FILE]`
+#[derive(Clone, Copy, Debug, PartialEq, Eq)]
+pub struct RehearseRequest<'a> {
+    pub program: &'a str,
+    pub holds: Option<&'a str>,
+}
+
+pub(crate) fn rehearse_command<'a>(alloc: Global) -> Result<Command<'a>, AllocError>
+    ensures { IfOk result (IsLeafCommand rehearse_shape) }
+{
+    Command::new(alloc, "rehearse")
+        .about(
+            "Runs any program until it is finished or stuck: prints the positions tick by tick, then agents, ticks and held",
+        )
+        .arg(program(alloc))?
+        .arg(holds(alloc))
+}
+
+/// What the matches of the command ask: none where the word is missing.
+pub(crate) fn rehearse_in<'a>(matches: &ArgMatches<'a>) -> Option<RehearseRequest<'a>>
+    ensures { MatchOption result (has_rehearse_values (values_in matches.now) ≡ false)
+        (AsksRehearse (values_in matches.now)) }
+{
+    Some(RehearseRequest {
+        program: matches.get_str("program")?,
+        holds: matches.get_str("holds"),
+    })
+}

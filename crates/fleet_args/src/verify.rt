@@ -1,0 +1,45 @@
+//! The command `verify`: what it is asked for, its words and options, and how they are read.
+
+ghost use Rattle.std.specs.Prelude.{◌≡◌, false, IfOk, MatchOption};
+ghost use Rattle.fleet_args.specs.Arguments.{IsLeafCommand};
+ghost use Rattle.fleet_args.specs.Values.{values_in};
+ghost use Rattle.fleet_args.specs.Verify.{verify_shape, AsksVerify, has_verify_values};
+
+use crate::arguments::{agents, map_and_scen, program};
+use crate::values::number;
+use clap::{ArgMatches, Command};
+use std::alloc::{AllocError, Global};
+
+/// `fleet verify MAP SCEN PROGRAM [--agents K]`
+#[derive(Clone, Copy, Debug, PartialEq, Eq)]
+pub struct VerifyRequest<'a> {
+    pub map: &'a str,
+    pub scen: &'a str,
+    pub program: &'a str,
+    pub agents: Option<u16>,
+}
+
+pub(crate) fn verify_command<'a>(alloc: Global) -> Result<Command<'a>, AllocError>
+    ensures { IfOk result (IsLeafCommand verify_shape) }
+{
+    map_and_scen(
+        alloc,
+        "verify",
+        "Tells whether a program is safe and arrives whoever is held, or its first fault",
+    )?
+    .arg(program(alloc))?
+    .arg(agents(alloc))
+}
+
+/// What the matches of the command ask: none where a word is missing, or a text is no number.
+pub(crate) fn verify_in<'a>(matches: &ArgMatches<'a>) -> Option<VerifyRequest<'a>>
+    ensures { MatchOption result (has_verify_values (values_in matches.now) ≡ false)
+        (AsksVerify (values_in matches.now)) }
+{
+    Some(VerifyRequest {
+        map: matches.get_str("map")?,
+        scen: matches.get_str("scen")?,
+        program: matches.get_str("program")?,
+        agents: number(matches, "agents")?,
+    })
+}

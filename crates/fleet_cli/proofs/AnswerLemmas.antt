@@ -1,0 +1,12 @@
+-- Answers of commands.
+use Rattle.std.proofs.Common.{Result, Ok, Err, MatchResult}
+
+-- what an answer gives, and a refusal, said of more
+pub match_result : {T E : Type 0} {P P' : T → Type 0} {Q Q' : E → Type 0} (r : Result T E) → ((x : T) → P x → P' x) → ((e : E) → Q e → Q' e) → MatchResult r P Q → MatchResult r P' Q'
+match_result (Ok x) ok err h = ok x h
+match_result (Err e) ok err h = err e h
+
+-- .. and beside it a fact that holds in any case
+pub result_and : {T E K : Type 0} (P : T → Type 0) (Q : E → Type 0) (r : Result T E) → MatchResult r P Q → K → MatchResult r (λ x. P x × K) (λ e. Q e × K)
+result_and P Q (Ok x) h k = (h, k)
+result_and P Q (Err e) h k = (h, k)

@@ -1,0 +1,34 @@
+-- What several commands print or write in the same way.
+use Rattle.std.specs.Prelude.{ℕ, List, [], ◌∷◌, ◌++◌, ◌⊎◌, Option, map}
+use Rattle.std.specs.Borrow.{Bor}
+use Rattle.fleet_text.specs.Sink.{SinkState, FailsAfter, IsUnwritten, IsDelivered}
+use Rattle.fleet_files.specs.Files.{Store, ChangesOnly, Replaces}
+use Rattle.fleet_io.specs.Named.{IsWriteFault}
+use Rattle.fleet_io.specs.Words.{line_text, count_line}
+use Rattle.fleet_io.specs.Output.{IsOutFault}
+use Rattle.fleet_io.specs.declared.fault.Fault.{Fault}
+
+-- counts with their labels
+abbrev pub labelled : List (Bor (List ℕ) × ℕ) → List (List ℕ × ℕ)
+labelled counts = map (λ c. (c.0.now, c.1)) counts
+
+-- a line for each count: its label and its number
+abbrev pub count_lines : List (List ℕ × ℕ) → List ℕ
+count_lines [] = []
+count_lines (count ∷ counts) = count_line count.0 count.1 ++ count_lines counts
+
+-- a word in a line of its own, and the counts
+unfoldable pub report : List ℕ → List (List ℕ × ℕ) → List ℕ
+report title counts = line_text (title ∷ []) ++ count_lines counts
+
+-- the file holds the bytes, every other file is as before, and the text was printed and handed on
+pub record WritesOut (files after : Option Store) (name bytes : List ℕ) (out out' : SinkState) (text : List ℕ) : Type 0 where
+  pub written : Replaces files after name bytes
+  pub printed : IsDelivered out out' text
+
+-- The file could not be written: every other file is as before, and nothing was printed. Or it holds the bytes, every other file is as
+-- before, and the output failed
+abbrev pub IsOutRefusal : (files after : Option Store) → (name bytes : List ℕ) → (out out' : SinkState) → (text : List ℕ) → Fault → Type 0
+IsOutRefusal files after name bytes out out' text fault =
+    (IsWriteFault name fault × ChangesOnly files after name × IsUnwritten out out')
+    ⊎ (Replaces files after name bytes × IsOutFault fault × FailsAfter out out' text)

@@ -1,0 +1,81 @@
+//! An input, read whole.
+
+ghost use Rattle.std.specs.Prelude.{◌≡◌, ◌≤◌, ◌<◌, Err, IfOk, IfSome, length};
+
+use std::alloc::Global;
+use std::io::Read;
+use thiserror::Error;
+
+/// Why a file or an input was not read, or a file not written.
+#[derive(Clone, Copy, Debug, PartialEq, Eq, Error)]
+pub enum FileFault {
+    #[error("out of memory")]
+    OutOfMemory,
+    /// It cannot be read or written, or has more bytes than are read.
+    #[error("the file cannot be read or written")]
+    Failed,
+}
+
+/// The greatest number of bytes of a file or an input that is read.
+pub const MOST_BYTES: usize = 268_435_456;
+
+/// How many bytes are asked for at a time.
+const CHUNK: usize = 16_384;
+
+/// Why an input was not read to its end.
+#[derive(Clone, Copy)]
+enum InputStop {
+    OutOfMemory,
+    /// A read failed or was interrupted.
+    Unreadable,
+    /// It has more than `MOST_BYTES` bytes.
+    TooLong,
+}
+
+impl From<InputStop> for FileFault {
+    ghost use Rattle.std.specs.Prelude.{◌≡◌};
+    ghost use Rattle.fleet_files.specs.Input.{fault_of};
+
+    ghost from_gives = { λ stop fault. fault ≡ fault_of stop };
+
+    fn from(stop: InputStop) -> FileFault {
+        match stop {
+            InputStop::OutOfMemory => FileFault::OutOfMemory,
+            InputStop::Unreadable | InputStop::TooLong => FileFault::Failed,
+        }
+    }
+}
+
+/// All bytes of the reader, at most `MOST_BYTES`.
+fn read_to_limit<R: Read>(alloc: Global, reader: &mut R) -> Result<Vec<u8>, InputStop>
+    ensures whole { IfOk result (λ bytes. IfSome (R.remaining reader.old) (λ rest. bytes.items ≡ rest)) }
+    ensures within { IfOk result (λ bytes. length bytes.items ≤ MOST_BYTES) }
+    ensures too_long { result ≡ Err InputStop.TooLong → IfSome (R.remaining reader.old) (λ rest. MOST_BYTES < length rest) }
+{
+    let mut bytes = Vec::new(alloc);
+    let mut chunk = [0; CHUNK];
+    'chunks: loop {
+        let count = match reader.read(&mut chunk) {
+            Ok(count) => count,
+            Err(_) => return Err(InputStop::Unreadable),
+        };
+        if count == 0 {
+            return Ok(bytes);
+        }
+        if MOST_BYTES - bytes.len() < count {
+            return Err(InputStop::TooLong);
+        }
+        if bytes.extend_from_slice(&chunk[..count]).is_err() {
+            return Err(InputStop::OutOfMemory);
+        }
+    }
+}
+
+/// All bytes of the reader. A read that fails or is interrupted, or more bytes than `MOST_BYTES`, is `Failed`.
+pub fn read_whole<R: Read>(alloc: Global, reader: &mut R) -> Result<Vec<u8>, FileFault>
+    ensures whole { IfOk result (λ bytes. IfSome (R.remaining reader.old) (λ rest. bytes.items ≡ rest)) }
+    ensures within { IfOk result (λ bytes. length bytes.items ≤ MOST_BYTES) }
+{
+    let bytes = read_to_limit(alloc, reader)?;
+    Ok(bytes)
+}

@@ -1,6 +1,0 @@
-use Rattle.std.proofs.Common.{◌∷◌, []}
-use Rattle.fleet_io.proofs.RowLemmas.{takes_handed}
-use Rattle.fleet_io.proofs.row.Row.end_line.Goals as goal
-
-pub returns : goal.returns
-returns g c = takes_handed _ _ _ _ _ _ _ (10 ∷ []) c.in_ok-add.ensures.0 c.hand_on.ensures.taken

@@ -1,0 +1,404 @@
+//! Fleets that are started, ticked and driven: their texts, their refusals, and what can be done after those.
+
+ghost use Rattle.std.specs.Prelude.{◌≡◌, length, IfOk, All};
+
+use crate::fixtures::{CELL_MAP, CELL_SCEN, LATE_TRACE, PAIR_MAP, PAIR_SCEN, PAIR_TRACE, TWO_MAP};
+use crate::rehearsal_tests::{self, pair, two_walkers};
+use crate::streams::{failing_source, short_out};
+use fleet_grid::{Grid, read_map};
+use fleet_model::{
+    Action, AgentProgram, Awaits, Cell, Dir, OutOfMemory, Place, Program, ProgramView, Step,
+    well_formed,
+};
+use fleet_run::{
+    Fleet, HoldList, HoldSource, HoldText, NotSent, Report, RunFault, SourceFault, Tick, VecOut,
+    drive,
+};
+use fleet_scen::{Instance, read_scen};
+use fleet_verify::verify;
+use std::alloc::Global;
+use std::process::Abort;
+use std::test::Fail;
+
+/// The order to go one cell to the east.
+const EAST: Option<Step> = Some(Step::Go(Dir::East));
+
+/// A fleet that runs a program, which has to be accepted.
+fn fleet_of<'g>(
+    alloc: Global,
+    program: Program,
+    grid: &'g Grid,
+    instance: &'g Instance,
+) -> Result<Fleet<'g, Program>, Fail>
+    ensures program { IfOk result (λ f. f.accepted.program ≡ program) }
+    ensures counts { IfOk result (λ f. All (λ s. s.count ≡ 0) f.configuration) }
+{
+    let Ok(accepted) = verify(alloc, program, grid, instance) else {
+        return Err(Fail::from("not accepted"));
+    };
+    let Ok(fleet) = Fleet::start(alloc, accepted) else {
+        return Err(Fail::from("not started"));
+    };
+    Ok(fleet)
+}
+
+/// The report of a fleet of two agents whose longest chain has three actions.
+fn report_of(ticks: u32, held: u32) -> Report {
+    Report {
+        agents: 2,
+        ticks,
+        chain: 3,
+        held,
+    }
+}
+
+/// Drives a fleet of two agents to a sink over memory, and, started anew, to one that takes one byte at a time.
+fn check_run(
+    rt: &impl Abort,
+    alloc: Global,
+    fleet: Fleet<'_, Program>,
+    holds: &[u8],
+    report: Report,
+    text: &[u8],
+) -> Result<(), Fail>
+    requires { All (λ s. s.count ≡ 0) fleet.configuration }
+{
+    let mut fleet = fleet;
+    let mut out = VecOut::new(alloc);
+    let told = drive(&mut fleet, &mut HoldText::new(holds, 2), &mut out)?;
+    assert_eq!(rt; told, report);
+    assert_eq!(rt; out.bytes(), text);
+    let Ok(mut again) = Fleet::start(alloc, fleet.into_accepted()) else {
+        return Err(Fail::from("not started again"));
+    };
+    let mut slow = short_out(alloc, text.len());
+    let told = drive(&mut again, &mut HoldText::new(holds, 2), &mut slow)?;
+    assert_eq!(rt; told, report);
+    assert_eq!(rt; slow.bytes.as_slice(), text);
+    Ok(())
+}
+
+#[test]
+fn a_pair_is_driven(rt: HostRuntime) -> Result<(), Fail> {
+    let alloc = rt.alloc();
+    let grid = read_map(alloc, PAIR_MAP)?;
+    let instance = read_scen(alloc, PAIR_SCEN, &grid, None)?;
+    let runs: [(&[u8], u32, &[u8]); 4] = [
+        (b"", 0, PAIR_TRACE),
+        // The held agent was not ready.
+        (b"1\n", 0, PAIR_TRACE),
+        (b"0\r\n", 1, LATE_TRACE),
+        // The last line is never read.
+        (b"-\n-\n-\nxyz", 0, PAIR_TRACE),
+    ];
+    for (holds, held, text) in runs {
+        let fleet = fleet_of(alloc, pair(alloc)?, &grid, &instance)?;
+        check_run(&rt, alloc, fleet, holds, report_of(3 + held, held), text)?;
+    }
+    Ok(())
+}
+
+/// A stay takes a tick, as a move does, before the moves and after them.
+#[test]
+fn stays_are_driven(rt: HostRuntime) -> Result<(), Fail> {
+    let alloc = rt.alloc();
+    let grid = read_map(alloc, PAIR_MAP)?;
+    let instance = read_scen(alloc, PAIR_SCEN, &grid, None)?;
+    let stay = (Step::Dwell, 0);
+    let first = [stay, (rehearsal_tests::EAST, 0), (rehearsal_tests::EAST, 0)];
+    let late = two_walkers(
+        alloc,
+        &first,
+        &[(rehearsal_tests::EAST, 2), (rehearsal_tests::EAST, 3)],
+    )?;
+    let fleet = fleet_of(alloc, late, &grid, &instance)?;
+    let text =
+        b"0: 1,0 0,0\n1: 1,0 0,0\n2: 2,0 0,0\n3: 3,0 1,0\n4: 3,0 2,0\nagents 2\nticks 4\nchain 4\nheld 0\n";
+    let report = Report {
+        chain: 4,
+        ..report_of(4, 0)
+    };
+    check_run(&rt, alloc, fleet, b"", report, text)?;
+    let first = [
+        (rehearsal_tests::EAST, 0),
+        (rehearsal_tests::EAST, 0),
+        stay,
+        stay,
+    ];
+    let second = [
+        (rehearsal_tests::EAST, 1),
+        (rehearsal_tests::EAST, 2),
+        stay,
+        stay,
+    ];
+    let fleet = fleet_of(
+        alloc,
+        two_walkers(alloc, &first, &second)?,
+        &grid,
+        &instance,
+    )?;
+    let text =
+        b"0: 1,0 0,0\n1: 2,0 0,0\n2: 3,0 1,0\n3: 3,0 2,0\n4: 3,0 2,0\n5: 3,0 2,0\nagents 2\nticks 5\nchain 5\nheld 0\n";
+    let report = Report {
+        chain: 5,
+        ..report_of(5, 0)
+    };
+    check_run(&rt, alloc, fleet, b"", report, text)
+}
+
+#[test]
+fn a_list_holds_agents_back(rt: HostRuntime) -> Result<(), Fail> {
+    let alloc = rt.alloc();
+    let grid = read_map(alloc, PAIR_MAP)?;
+    let instance = read_scen(alloc, PAIR_SCEN, &grid, None)?;
+    let rows = vec![in alloc; vec![in alloc; 0, 9]?]?;
+    let mut fleet = fleet_of(alloc, pair(alloc)?, &grid, &instance)?;
+    let mut out = VecOut::new(alloc);
+    let told = drive(&mut fleet, &mut HoldList::new(rows), &mut out)?;
+    assert_eq!(rt; told, report_of(4, 1));
+    assert_eq!(rt; out.bytes(), LATE_TRACE);
+    Ok(())
+}
+
+#[test]
+fn an_idle_fleet_asks_for_nothing(rt: HostRuntime) -> Result<(), Fail> {
+    let alloc = rt.alloc();
+    let grid = read_map(alloc, CELL_MAP)?;
+    let instance = read_scen(alloc, CELL_SCEN, &grid, None)?;
+    let mut fleet = fleet_of(alloc, walker(alloc, 0, 0)?, &grid, &instance)?;
+    let mut source = HoldText::new(b"0\n0\n0\n", 1);
+    let mut out = VecOut::new(alloc);
+    let told = drive(&mut fleet, &mut source, &mut out)?;
+    let report = Report {
+        agents: 1,
+        ticks: 0,
+        chain: 0,
+        held: 0,
+    };
+    assert_eq!(rt; told, report);
+    assert_eq!(rt;
+        out.bytes(),
+        b"0: 0,0\nagents 1\nticks 0\nchain 0\nheld 0\n".as_slice()
+    );
+    let mut flags = [false];
+    for left in 0..4 {
+        assert!(rt; source.failed().is_none());
+        assert!(rt; source.next(&mut flags) == Ok(left < 3));
+    }
+    Ok(())
+}
+
+/// One agent that goes to and fro between 0,0 and 1,0, so many moves, and ends at this column.
+fn walker(alloc: Global, moves: u32, column: u16) -> Result<Program, Fail> {
+    let mut actions = Vec::new(alloc);
+    for n in 0..moves {
+        actions.push(Action {
+            step: Step::Go(if n % 2 == 0 { Dir::East } else { Dir::West }),
+            awaits: Awaits::new(alloc),
+        })?;
+    }
+    let goal = Cell { x: column, y: 0 };
+    let agents = vec![in alloc; AgentProgram::new(Cell { x: 0, y: 0 }, goal, actions)]?;
+    if !well_formed(&agents) {
+        return Err(Fail::from("no program"));
+    }
+    Ok(Program::new(agents))
+}
+
+#[test]
+fn long_runs(rt: HostRuntime) -> Result<(), Fail> {
+    let alloc = rt.alloc();
+    let grid = read_map(alloc, TWO_MAP)?;
+    let instance = read_scen(alloc, b"version 1\n0 m 2 1 0 0 1 0 x\n", &grid, None)?;
+    let mut fleet = fleet_of(alloc, walker(alloc, 65_535, 1)?, &grid, &instance)?;
+    let mut out = VecOut::new(alloc);
+    drive(&mut fleet, &mut HoldText::new(b"", 1), &mut out)?;
+    assert!(rt; out.bytes().starts_with(b"0: 0,0\n1: 1,0\n2: 0,0\n3: 1,0\n"));
+    assert!(rt;
+        out.bytes().ends_with(
+            b"\n65534: 0,0\n65535: 1,0\nagents 1\nticks 65535\nchain 65535\nheld 0\n"
+        )
+    );
+    Ok(())
+}
+
+#[test]
+fn both_are_held_for_long(rt: HostRuntime) -> Result<(), Fail> {
+    let alloc = rt.alloc();
+    let grid = read_map(alloc, PAIR_MAP)?;
+    let instance = read_scen(alloc, PAIR_SCEN, &grid, None)?;
+    let mut holds = Vec::new(alloc);
+    for _ in 0..1000 {
+        holds.extend_from_slice(b"0 1\n")?;
+    }
+    let mut fleet = fleet_of(alloc, pair(alloc)?, &grid, &instance)?;
+    let mut out = VecOut::new(alloc);
+    let told = drive(&mut fleet, &mut HoldText::new(&holds, 2), &mut out)?;
+    assert_eq!(rt; told, report_of(1003, 1000));
+    assert!(rt;
+        out.bytes().ends_with(
+            b"\n1000: 1,0 0,0\n1001: 2,0 0,0\n1002: 3,0 1,0\n1003: 3,0 2,0\nagents 2\nticks 1003\nchain 3\nheld 1000\n"
+        )
+    );
+    Ok(())
+}
+
+/// Ticks the pair on with nobody held, so often that it reaches its goals.
+fn check_arrival(rt: &impl Abort, fleet: &mut Fleet<'_, Program>)
+    requires { length fleet.old.accepted.program ≡ 2 }
+{
+    fleet.tick(&[false, false]);
+    fleet.tick(&[false, false]);
+    fleet.tick(&[false, false]);
+    assert!(rt; fleet.finished());
+    assert_eq!(rt; [fleet.count(0), fleet.count(1)], [2, 2]);
+    assert_eq!(rt; fleet.place(0), Place { x: 3, y: 0 });
+    assert_eq!(rt; fleet.place(1), Place { x: 2, y: 0 });
+}
+
+#[test]
+fn a_line_that_is_no_tick(rt: HostRuntime) -> Result<(), Fail> {
+    let alloc = rt.alloc();
+    let grid = read_map(alloc, PAIR_MAP)?;
+    let instance = read_scen(alloc, PAIR_SCEN, &grid, None)?;
+    let mut fleet = fleet_of(alloc, pair(alloc)?, &grid, &instance)?;
+    let mut source = HoldText::new(b"-\n1 0\n", 2);
+    let mut out = VecOut::new(alloc);
+    let told = drive(&mut fleet, &mut source, &mut out);
+    assert_eq!(rt; told, Err(RunFault::Hold { line: 2 }));
+    assert_eq!(rt; source.failed(), Some(SourceFault::Text));
+    assert_eq!(rt; out.bytes(), b"0: 1,0 0,0\n1: 2,0 0,0\n".as_slice());
+    assert_eq!(rt; [fleet.count(0), fleet.count(1)], [1, 0]);
+    assert_eq!(rt; [fleet.ready(0), fleet.ready(1)], [true, true]);
+    let both = Tick {
+        moved: 2,
+        ready_held: false,
+    };
+    assert_eq!(rt; fleet.tick(&[false, false]), both);
+    assert_eq!(rt; [fleet.ready(0), fleet.ready(1)], [false, true]);
+    assert!(rt; !fleet.finished());
+    fleet.tick(&[false, false]);
+    assert!(rt; fleet.finished());
+    assert_eq!(rt; fleet.place(0), Place { x: 3, y: 0 });
+    assert_eq!(rt; fleet.place(1), Place { x: 2, y: 0 });
+    let nobody = Tick {
+        moved: 0,
+        ready_held: false,
+    };
+    assert_eq!(rt; fleet.tick(&[true, true]), nobody);
+    assert_eq!(rt; fleet.into_accepted().chain(), 3);
+    Ok(())
+}
+
+#[test]
+fn a_source_breaks_off(rt: HostRuntime) -> Result<(), Fail> {
+    let alloc = rt.alloc();
+    let grid = read_map(alloc, PAIR_MAP)?;
+    let instance = read_scen(alloc, PAIR_SCEN, &grid, None)?;
+    for (given, text) in [(0, &PAIR_TRACE[..11]), (2, &PAIR_TRACE[..33])] {
+        let mut fleet = fleet_of(alloc, pair(alloc)?, &grid, &instance)?;
+        let mut broken = failing_source(given, SourceFault::Broken);
+        let mut out = VecOut::new(alloc);
+        let told = drive(&mut fleet, &mut broken, &mut out);
+        let tick = u32::from(given) + 1;
+        assert_eq!(rt; told, Err(RunFault::Source { tick }));
+        assert_eq!(rt; out.bytes(), text);
+        check_arrival(&rt, &mut fleet);
+    }
+    let mut fleet = fleet_of(alloc, pair(alloc)?, &grid, &instance)?;
+    let mut out = VecOut::new(alloc);
+    let mut late = failing_source(3, SourceFault::Broken);
+    assert_eq!(rt; drive(&mut fleet, &mut late, &mut out), Ok(report_of(3, 0)));
+    assert_eq!(rt; out.bytes(), PAIR_TRACE);
+    Ok(())
+}
+
+#[test]
+fn a_sink_fails_after_some_bytes(rt: HostRuntime) -> Result<(), Fail> {
+    let alloc = rt.alloc();
+    let grid = read_map(alloc, PAIR_MAP)?;
+    let instance = read_scen(alloc, PAIR_SCEN, &grid, None)?;
+    for room in 0..PAIR_TRACE.len() {
+        let mut fleet = fleet_of(alloc, pair(alloc)?, &grid, &instance)?;
+        let mut out = short_out(alloc, room);
+        let told = drive(&mut fleet, &mut HoldText::new(b"", 2), &mut out);
+        assert_eq!(rt; told, Err(RunFault::Write));
+        assert_eq!(rt; out.bytes.as_slice(), &PAIR_TRACE[..room]);
+        // Each of the first four lines has 11 bytes.
+        let ticks = u32::try_from(room / 11).unwrap_or(3).min(3);
+        assert_eq!(rt;
+            [fleet.count(0), fleet.count(1)],
+            [ticks.min(2), ticks.saturating_sub(1)]
+        );
+        check_arrival(&rt, &mut fleet);
+    }
+    Ok(())
+}
+
+/// One tick of a fleet of two agents, and what it has to tell.
+fn check_tick(
+    rt: &impl Abort,
+    fleet: &mut Fleet<'_, Program>,
+    held: [bool; 2],
+    moved: u16,
+    ready_held: bool,
+)
+    requires { length fleet.old.accepted.program ≡ 2 }
+    ensures { fleet.new.accepted ≡ fleet.old.accepted }
+{
+    assert_eq!(rt; fleet.tick(&held), Tick { moved, ready_held });
+}
+
+#[test]
+fn ticks_tell_who_moved_and_who_was_held(rt: HostRuntime) -> Result<(), Fail> {
+    let alloc = rt.alloc();
+    let grid = read_map(alloc, PAIR_MAP)?;
+    let instance = read_scen(alloc, PAIR_SCEN, &grid, None)?;
+    let mut fleet = fleet_of(alloc, pair(alloc)?, &grid, &instance)?;
+    check_tick(&rt, &mut fleet, [true, false], 0, true);
+    // Agent 1 gets ready in this tick, and was not before.
+    check_tick(&rt, &mut fleet, [false, true], 1, false);
+    check_tick(&rt, &mut fleet, [false, true], 1, true);
+    check_tick(&rt, &mut fleet, [true, false], 1, false);
+    check_tick(&rt, &mut fleet, [false, false], 1, false);
+    assert!(rt; fleet.finished());
+    Ok(())
+}
+
+/// A report to a fleet of two agents, and what it has to answer.
+fn check_confirm(
+    rt: &impl Abort,
+    fleet: &mut Fleet<'_, Program>,
+    done: [bool; 2],
+    answer: Result<(), NotSent>,
+)
+    requires { length fleet.old.accepted.program ≡ 2 }
+    ensures { fleet.new.accepted ≡ fleet.old.accepted }
+{
+    let mut done = done;
+    assert_eq!(rt; fleet.confirm(&mut done), answer);
+}
+
+#[test]
+fn a_pair_is_sent_and_confirmed(rt: HostRuntime) -> Result<(), Fail> {
+    let alloc = rt.alloc();
+    let grid = read_map(alloc, PAIR_MAP)?;
+    let instance = read_scen(alloc, PAIR_SCEN, &grid, None)?;
+    let mut fleet = fleet_of(alloc, pair(alloc)?, &grid, &instance)?;
+    assert_eq!(rt; fleet.agents(), 2);
+    assert_eq!(rt; [fleet.order(0), fleet.order(1)], [EAST, None]);
+    // Agent 1 was given no order.
+    check_confirm(&rt, &mut fleet, [true, true], Err(NotSent { agent: 1 }));
+    assert_eq!(rt; [fleet.order(0), fleet.order(1)], [EAST, None]);
+    check_confirm(&rt, &mut fleet, [true, false], Ok(()));
+    assert_eq!(rt; [fleet.order(0), fleet.order(1)], [EAST, EAST]);
+    // Agent 1 comes before agent 0, which takes long for its move.
+    check_confirm(&rt, &mut fleet, [false, true], Ok(()));
+    assert_eq!(rt; [fleet.order(0), fleet.order(1)], [EAST, None]);
+    assert_eq!(rt; fleet.place(1), Place { x: 1, y: 0 });
+    check_confirm(&rt, &mut fleet, [true, false], Ok(()));
+    check_confirm(&rt, &mut fleet, [false, true], Ok(()));
+    assert!(rt; fleet.finished());
+    assert_eq!(rt; fleet.accepted().chain(), 3);
+    Ok(())
+}

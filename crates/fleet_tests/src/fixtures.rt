@@ -1,0 +1,140 @@
+//! Fleets that are worked out by hand, each by its name: map, scenario, plan, program and what it prints.
+
+// ---- pair: two agents go east in a row of four cells, the second on the heels of the first.
+
+pub const PAIR_MAP: &[u8] = b"type octile\nheight 1\nwidth 4\nmap\n....\n";
+
+/// Agent 0 from 1,0 to 3,0, and agent 1 behind it from 0,0 to 2,0.
+pub const PAIR_SCEN: &[u8] = b"version 1
+0\tpair.map\t4\t1\t1\t0\t3\t0\t2.00000000
+0\tpair.map\t4\t1\t0\t0\t2\t0\t2.00000000
+";
+
+pub const PAIR_PLAN: &[u8] = b"1,0 2,0 3,0\n0,0 1,0 2,0\n";
+
+/// Its program in hexadecimal.
+pub const PAIR: &[u8] = b"4D504631 0002 0001 0000 0003 0000 0002 01 01
+    0000 0000 0002 0000 0002 10 0000 0001 01 10 0000 0002 01\n";
+
+/// Its rehearsal with nobody held.
+pub const PAIR_TEXT: &[u8] =
+    b"0: 1,0 0,0\n1: 2,0 0,0\n2: 3,0 1,0\n3: 3,0 2,0\nagents 2\nticks 3\nheld 0\nfinished\n";
+
+/// And where agent 0 is held in the first tick.
+pub const LATE_TEXT: &[u8] =
+    b"0: 1,0 0,0\n1: 1,0 0,0\n2: 2,0 0,0\n3: 3,0 1,0\n4: 3,0 2,0\nagents 2\nticks 4\nheld 1\nfinished\n";
+
+/// Its trace with nobody held.
+pub const PAIR_TRACE: &[u8] =
+    b"0: 1,0 0,0\n1: 2,0 0,0\n2: 3,0 1,0\n3: 3,0 2,0\nagents 2\nticks 3\nchain 3\nheld 0\n";
+
+/// And where agent 0 is held in the first tick.
+pub const LATE_TRACE: &[u8] =
+    b"0: 1,0 0,0\n1: 1,0 0,0\n2: 2,0 0,0\n3: 3,0 1,0\n4: 3,0 2,0\nagents 2\nticks 4\nchain 3\nheld 1\n";
+
+/// What `instance` prints of it.
+pub const PAIR_INSTANCE: &[u8] = b"map 4 1\nground 4\nagents 2\n0: 1,0 3,0\n1: 0,0 2,0\n";
+
+/// What `verify` prints of it.
+pub const PAIR_ACCEPTED: &[u8] = b"accepted\nagents 2\nmoves 4\nawaits 2\nchain 3\n";
+
+/// Both agents await each other before their first moves.
+pub const DEADLOCK: &[u8] = b"4D504631 0002 0001 0000 0003 0000 0002 10 0001 0001 01 01
+    0000 0000 0002 0000 0002 10 0000 0001 01 01";
+
+// ---- row: three agents go east in a row of five cells, each on the heels of the one before it.
+
+pub const ROW_MAP: &[u8] = b"type octile\nheight 1\nwidth 5\nmap\n.....\n";
+
+pub const ROW_SCEN: &[u8] = b"version 1
+0 m 5 1 2 0 4 0 2
+0 m 5 1 1 0 3 0 2
+0 m 5 1 0 0 2 0 2
+";
+
+pub const ROW_PLAN: &[u8] = b"2,0 3,0 4,0\n1,0 2,0 3,0\n0,0 1,0 2,0\n";
+
+/// Its program, in which each action awaits the last leaving of its cell by each other agent.
+pub const ROW_ALL: &[u8] = b"4D504631 0003 0002 0000 0004 0000 0002 01 01
+    0001 0000 0003 0000 0002 10 0000 0001 01 10 0000 0002 01
+    0000 0000 0002 0000 0002 10 0001 0001 01 10 0000 0001 10 0001 0002 01";
+
+/// And that in which it awaits only the latest leaving.
+pub const ROW_LAST: &[u8] = b"4D504631 0003 0002 0000 0004 0000 0002 01 01
+    0001 0000 0003 0000 0002 10 0000 0001 01 10 0000 0002 01
+    0000 0000 0002 0000 0002 10 0001 0001 01 10 0001 0002 01";
+
+/// Its trace with nobody held, of either program.
+pub const ROW_TRACE: &[u8] = b"0: 2,0 1,0 0,0
+1: 3,0 1,0 0,0
+2: 4,0 2,0 0,0
+3: 4,0 3,0 1,0
+4: 4,0 3,0 2,0
+agents 3
+ticks 4
+chain 4
+held 0
+";
+
+// ---- bay: agent 1 waits in a bay until agent 0 has passed.
+
+pub const BAY_MAP: &[u8] = b"type octile\nheight 2\nwidth 3\nmap\n...\n@.@\n";
+
+pub const BAY_SCEN: &[u8] = b"version 1\n0 m 3 2 0 0 2 0 2\n0 m 3 2 1 1 0 0 2\n";
+
+pub const BAY_PLAN: &[u8] = b"0,0 1,0 2,0\n1,1 1,1 1,0 0,0\n";
+
+pub const BAY_TRACE: &[u8] = b"0: 0,0 1,1
+1: 1,0 1,1
+2: 2,0 1,1
+3: 2,0 1,0
+4: 2,0 0,0
+agents 2
+ticks 4
+chain 4
+held 0
+";
+
+// ---- square: four agents on a square of four cells, each of which would go to the next one's cell.
+
+pub const SQUARE_MAP: &[u8] = b"type octile\nheight 2\nwidth 2\nmap\n..\n..\n";
+
+pub const SQUARE_SCEN: &[u8] = b"version 1
+0 m 2 2 0 0 1 0 1
+0 m 2 2 1 0 1 1 1
+0 m 2 2 1 1 0 1 1
+0 m 2 2 0 1 0 0 1
+";
+
+// ---- relay: three agents, of which the second awaits the first, and the third the second.
+
+pub const RELAY_MAP: &[u8] = b"type octile\nheight 3\nwidth 3\nmap\n...\n...\n...\n";
+
+/// Agent 2 goes to the cell that agent 0 leaves.
+pub const RELAY_SCEN: &[u8] = b"version 1
+0 m 3 3 1 0 2 0 1
+0 m 3 3 0 2 1 2 1
+0 m 3 3 0 0 1 0 1
+";
+
+pub const RELAY: &[u8] = b"4D504631 0003 0001 0000 0002 0000 0001 01
+    0000 0002 0001 0002 0001 10 0000 0001 01
+    0000 0000 0001 0000 0001 10 0001 0001 01";
+
+// ---- cell: one agent that stands on its goal.
+
+pub const CELL_MAP: &[u8] = b"type octile\nheight 1\nwidth 1\nmap\n.\n";
+
+pub const CELL_SCEN: &[u8] = b"version 1\n0 m 1 1 0 0 0 0 0\n";
+
+pub const CELL: &[u8] = b"4D504631 0001 0000 0000 0000 0000 0000";
+
+// ---- two: one agent that goes east and comes back.
+
+pub const TWO_MAP: &[u8] = b"type octile\nheight 1\nwidth 2\nmap\n..\n";
+
+pub const TWO_SCEN: &[u8] = b"version 1\n0 m 2 1 0 0 0 0 0\n";
+
+pub const TWO_PLAN: &[u8] = b"0,0 1,0 0,0\n";
+
+pub const TWO: &[u8] = b"4D504631 0001 0000 0000 0000 0000 0002 01 03";

@@ -1,0 +1,6 @@
+pub mod StepLaws
+pub mod TextLaws
+pub mod BlockLaws
+pub mod DigitLemmas
+pub mod SinkLemmas
+pub mod RowLemmas

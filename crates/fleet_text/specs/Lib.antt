@@ -1,0 +1,6 @@
+pub mod Text
+pub mod Steps
+pub mod Verdict
+pub mod Sink
+pub mod Taken
+pub mod Row

@@ -1,0 +1,25 @@
+//! Texts as bytes: their lines, the words of a line, the numbers that words spell, the digits of a number, and sinks that take bytes.
+//!
+//! A text is a slice of any bytes. What is read is lent from the slice, and takes no memory.
+#![tactic(auto)]
+
+mod blocks;
+mod digits;
+mod lines;
+mod numbers;
+mod row;
+mod sink;
+mod sinks;
+mod words;
+
+pub use blocks::{BLOCK, ByteClass, first_of};
+pub use digits::{write_byte, write_number, write_small_number};
+pub use lines::{Cursor, next_line};
+pub use numbers::{TOO_LARGE, number_of, small_number_front, small_number_of};
+pub use row::Row;
+pub use sink::{Flush, OutFault, TraceOut, put_all};
+pub use sinks::{VecOut, WriteOut};
+pub use words::{from_front, is_blank, next_word};
+
+#[cfg(test)]
+mod tests;

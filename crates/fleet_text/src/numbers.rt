@@ -1,0 +1,65 @@
+//! The number that a word spells.
+
+ghost use Rattle.std.specs.Prelude.{◌≡◌, min, option_map};
+ghost use Rattle.fleet_text.specs.Text.{number_front, capped, number, small_number, small_number_front};
+
+/// The least number that is only told to be too large for any number of a text.
+pub const TOO_LARGE: u32 = 65_536;
+
+/// The number in front of a text, and what follows its digits, however many they are. From `TOO_LARGE` on it is
+/// `TOO_LARGE`, and where another byte stands in front there is none.
+fn number_front(text: &[u8]) -> Option<(u32, &[u8])>
+    ensures { option_map (λ x. (x.0, x.1.now)) result ≡ option_map (capped TOO_LARGE) (number_front text.now) }
+{
+    let [first, after @ ..] = text else {
+        return None;
+    };
+    if !first.is_ascii_digit() {
+        return None;
+    }
+    let mut number = u32::from(*first - b'0');
+    let mut rest = after;
+    while let [digit, after @ ..] = rest {
+        if !digit.is_ascii_digit() {
+            return Some((number, rest));
+        }
+        number = (10 * number + u32::from(*digit - b'0')).min(TOO_LARGE);
+        rest = after;
+    }
+    Some((number, rest))
+}
+
+/// The number that a word of digits spells, however many they are. From `TOO_LARGE` on it is `TOO_LARGE`, and a word
+/// with another byte spells none.
+pub fn number_of(word: &[u8]) -> Option<u32>
+    ensures { result ≡ option_map (λ n. min n TOO_LARGE) (number word.now) }
+{
+    let (number, rest) = number_front(word)?;
+    if rest.is_empty() { Some(number) } else { None }
+}
+
+/// The number that a word of digits spells, where it is at most 65,535.
+#[tactic(auto, unfolding(crate::specs::Text::small_number))]
+pub fn small_number_of(word: &[u8]) -> Option<u16>
+    ensures { result ≡ small_number word.now }
+{
+    let number = number_of(word)?;
+    if number < TOO_LARGE {
+        Some(number as u16)
+    } else {
+        None
+    }
+}
+
+/// The number in front of a text, where it is at most 65,535, and what follows its digits.
+#[tactic(auto, unfolding(crate::specs::Text::small_number_front))]
+pub fn small_number_front(text: &[u8]) -> Option<(u16, &[u8])>
+    ensures { option_map (λ x. (x.0, x.1.now)) result ≡ small_number_front text.now }
+{
+    let (number, rest) = number_front(text)?;
+    if number < TOO_LARGE {
+        Some((number as u16, rest))
+    } else {
+        None
+    }
+}

@@ -19,7 +19,7 @@ pub mod ReadyBy
 pub mod Paths
 pub mod Leaving
 pub mod Ranges
-pub mod AgentRight
+pub mod Positions
 pub mod Begun
 pub mod UnderWay
 pub mod FreeRun

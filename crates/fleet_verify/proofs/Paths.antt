@@ -1,19 +1,18 @@
 -- One step of a path.
-use Rattle.std.proofs.Common.{◌≡◌, ℕ, Bool, suc, ◌+◌, Option, Some, None, slice_get, refl, ap, sym, ◌∙◌, add-one}
-use Rattle.std.specs.Prelude.{option_map, pos, ◌+ℤ◌, ◌-ℤ◌, ◌≤ℤ◌}
+use Rattle.std.proofs.Common.{◌≡◌, ℕ, Bool, zero, suc, ◌+◌, ◌≤◌, [], Option, Some, None, get_or, slice_get, false, refl, ap, sym, ◌∙◌, subst, arith, add-one}
+use Rattle.std.specs.Prelude.{option_map, pos, ◌+ℤ◌, ◌≤ℤ◌}
 use Rattle.std.proofs.lemmas.Int.{ints}
+use Rattle.std.proofs.lemmas.Option.{same_Some, slice_get-get_or}
+use Rattle.fleet_model.specs.declared.geometry.Cell.{Cell}
 use Rattle.fleet_model.specs.declared.geometry.Dir.TheVariants.{North, East, South, West}
-use Rattle.fleet_model.specs.declared.geometry.Step.TheVariants.{Go, Dwell}
-use Rattle.std.proofs.lemmas.Option.{same_Some}
-use Rattle.fleet_model.specs.declared.geometry.Step.{Step}
-use Rattle.fleet_model.specs.declared.program.Action.{Action}
-use Rattle.fleet_model.specs.declared.limits.TheConstants.{MAX_COORDINATE}
-use Rattle.fleet_model.specs.Geometry.{stepped}
-use Rattle.fleet_model.specs.Program.{Program, actions_of, step_of, path}
-use Rattle.fleet_model.proofs.Tick.{path_more}
-use Rattle.std.proofs.Common.{◌≤◌, ◌<◌, false, arith}
 use Rattle.fleet_model.specs.declared.geometry.Place.{Place}
-use Rattle.fleet_model.specs.Program.{moves}
+use Rattle.fleet_model.specs.declared.geometry.Step.{Step}
+use Rattle.fleet_model.specs.declared.geometry.Step.TheVariants.{Go, Dwell}
+use Rattle.fleet_model.specs.declared.limits.TheConstants.{MAX_COORDINATE}
+use Rattle.fleet_model.specs.declared.program.Action.{Action}
+use Rattle.fleet_model.specs.Geometry.{IsInReach, place_of, stepped}
+use Rattle.fleet_model.specs.Program.{Program, start_of, actions_of, moves, step_of, path, IsCell, IsWellFormed}
+use Rattle.fleet_model.proofs.Tick.{path_more}
 use Rattle.fleet_verify.specs.Faults.{StandsRight, IsFirstNumber}
 
 pub action_with : (o : Option Action) (d : Step) → option_map (λ a. a.step) o ≡ Some d → (a : Action) × (o ≡ Some a) × (a.step ≡ d)
@@ -26,23 +25,49 @@ path_step p i n d e =
     let a = action_with (slice_get (actions_of p i) n) d e' in
     path_more p i n a.0 a.1 ∙ ap (stepped (path p i n)) a.2
 
--- it goes to one that is not
-pub falls_off : (passable : Place → Bool) (p : Program) (i n : ℕ) (q : Place) (d : Step) → n < moves p i → ((m : ℕ) → m ≤ n → StandsRight passable p i m)
+-- a step from where the path has come to
+pub step_from : (p : Program) (i n : ℕ) (q : Place) (d : Step) → q ≡ path p i n → step_of p i (n + 1) ≡ Some d → path p i (n + 1) ≡ stepped q d
+step_from p i n q d here dir = path_step p i n d dir ∙ ap (λ (r : Place). stepped r d) (sym here)
+
+-- a step leads off passable ground
+pub falls_off : (passable : Place → Bool) (p : Program) (i n : ℕ) (q : Place) (d : Step) → ((m : ℕ) → m ≤ n → StandsRight passable p i m)
     → q ≡ path p i n → step_of p i (n + 1) ≡ Some d → passable (stepped q d) ≡ false
-    → IsFirstNumber (moves p i) (StandsRight passable p i) (n + 1)
-falls_off passable p i n q d h before here dir off = record {
+    → IsFirstNumber (n + 1) (StandsRight passable p i) (n + 1)
+falls_off passable p i n q d before here dir off = record {
   within = omega arith;
-  wrong = λ on. let e : path p i (n + 1) ≡ stepped q d = path_step p i n d dir ∙ ap (λ (r : Place). stepped r d) (sym here) in
+  wrong = λ on. let e : path p i (n + 1) ≡ stepped q d = step_from p i n q d here dir in
       let off' : passable (path p i (n + 1)) ≡ false = ap passable e ∙ off in absurd (cc (on, off'));
   sooner = λ m l. before m (omega arith);
 }
 
--- a step takes an agent no further from a map than by one
-pub near_on : (q r : Place) (d : Step) (n : ℕ) → r ≡ stepped q d
-    → pos 0 ≤ℤ (q.x +ℤ pos n) → q.x ≤ℤ pos (MAX_COORDINATE + n) → pos 0 ≤ℤ (q.y +ℤ pos n) → q.y ≤ℤ pos (MAX_COORDINATE + n)
-    → (pos 0 ≤ℤ (r.x +ℤ pos (n + 1))) × (r.x ≤ℤ pos (MAX_COORDINATE + (n + 1))) × (pos 0 ≤ℤ (r.y +ℤ pos (n + 1))) × (r.y ≤ℤ pos (MAX_COORDINATE + (n + 1)))
-near_on q r (Go North) n e a b c d = let x : r.x ≡ q.x = ap (λ (z : Place). z.x) e in let y : r.y ≡ q.y -ℤ pos 1 = ap (λ (z : Place). z.y) e in omega (arith, ints)
-near_on q r (Go East) n e a b c d = let x : r.x ≡ q.x +ℤ pos 1 = ap (λ (z : Place). z.x) e in let y : r.y ≡ q.y = ap (λ (z : Place). z.y) e in omega (arith, ints)
-near_on q r (Go South) n e a b c d = let x : r.x ≡ q.x = ap (λ (z : Place). z.x) e in let y : r.y ≡ q.y +ℤ pos 1 = ap (λ (z : Place). z.y) e in omega (arith, ints)
-near_on q r (Go West) n e a b c d = let x : r.x ≡ q.x -ℤ pos 1 = ap (λ (z : Place). z.x) e in let y : r.y ≡ q.y = ap (λ (z : Place). z.y) e in omega (arith, ints)
-near_on q r Dwell n e a b c d = let x : r.x ≡ q.x = ap (λ (z : Place). z.x) e in let y : r.y ≡ q.y = ap (λ (z : Place). z.y) e in omega (arith, ints)
+-- a place no further from the cells of a map than by so many steps
+record IsNear (q : Place) (n : ℕ) : Type 0 where
+  west : pos 0 ≤ℤ (q.x +ℤ pos n)
+  east : q.x ≤ℤ pos (MAX_COORDINATE + n)
+  north : pos 0 ≤ℤ (q.y +ℤ pos n)
+  south : q.y ≤ℤ pos (MAX_COORDINATE + n)
+
+near_cell : (c : Cell) → IsCell c → IsNear (place_of c) 0
+near_cell c h = record { west = omega (arith, ints, h.x); east = omega (arith, ints, h.x); north = omega (arith, ints, h.y); south = omega (arith, ints, h.y) }
+
+near_step : (q : Place) (d : Step) (n : ℕ) → IsNear q n → IsNear (stepped q d) (n + 1)
+near_step q (Go North) n h = record { west = omega (arith, ints, h.west); east = omega (arith, ints, h.east); north = omega (arith, ints, h.north); south = omega (arith, ints, h.south) }
+near_step q (Go East) n h = record { west = omega (arith, ints, h.west); east = omega (arith, ints, h.east); north = omega (arith, ints, h.north); south = omega (arith, ints, h.south) }
+near_step q (Go South) n h = record { west = omega (arith, ints, h.west); east = omega (arith, ints, h.east); north = omega (arith, ints, h.north); south = omega (arith, ints, h.south) }
+near_step q (Go West) n h = record { west = omega (arith, ints, h.west); east = omega (arith, ints, h.east); north = omega (arith, ints, h.north); south = omega (arith, ints, h.south) }
+near_step q Dwell n h = record { west = omega (arith, ints, h.west); east = omega (arith, ints, h.east); north = omega (arith, ints, h.north); south = omega (arith, ints, h.south) }
+
+near_path : (p : Program) → IsWellFormed p → (i n : ℕ) → n ≤ moves p i → IsNear (path p i n) n
+near_path p wf i zero l = near_cell (start_of p i) (wf.starts i)
+near_path p wf i (suc n) l =
+    let d : Action = record { step = Dwell; awaits = [] } in
+    let e = slice_get-get_or (actions_of p i) n d (omega arith) in
+    let on : path p i (n + 1) ≡ stepped (path p i n) (get_or (actions_of p i) n d).step = path_more p i n (get_or (actions_of p i) n d) e in
+    subst (λ (m : ℕ). IsNear (path p i m) m) (add-one n) (subst (λ (q : Place). IsNear q (n + 1)) (sym on) (near_step (path p i n) (get_or (actions_of p i) n d).step n (near_path p wf i n (omega arith))))
+
+-- from each place of a path a step leads to a place
+pub in_reach : (p : Program) → IsWellFormed p → (i n : ℕ) (q : Place) → n ≤ moves p i → q ≡ path p i n → IsInReach q
+in_reach p wf i n q l e =
+    let h : IsNear q n = subst (λ (r : Place). IsNear r n) (sym e) (near_path p wf i n l) in
+    let few = wf.moves_each i in
+    record { west = omega (arith, ints, h.west, few); east = omega (arith, ints, h.east, few); north = omega (arith, ints, h.north, few); south = omega (arith, ints, h.south, few) }

@@ -73,13 +73,6 @@ pub record HasNumbering (passable : Place → Bool) (tasks : List Task) (p : Pro
   pub number : ActionId → ℕ
   pub numbering : IsNumbering p number
 
--- an agent begins and ends where it is to, goes over passable ground alone, and awaits what can come
-pub record IsAgentRight (passable : Place → Bool) (tasks : List Task) (p : Program) (i : ℕ) : Type 0 where
-  pub start : StartsRight tasks p i
-  pub ends : EndsRight tasks p i
-  pub steps : (n : ℕ) → n ≤ moves p i → StandsRight passable p i n
-  pub ranges : (n : ℕ) → n ≤ moves p i → AwaitsRight p i n
-
 -- ---- the first of each kind
 
 -- the least agent that is not so

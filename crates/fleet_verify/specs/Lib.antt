@@ -4,4 +4,5 @@ pub mod Walk
 pub mod Blocked
 pub mod Order
 pub mod Faults
+pub mod Path
 pub mod Parts

@@ -6,14 +6,13 @@
 #![tactic(auto)]
 
 mod accepted;
-mod ends;
+mod agents;
 mod fault;
 mod order;
 mod orders;
-mod right;
+mod path;
 mod ring;
 mod runs;
-mod steps;
 mod verifier;
 mod walk;
 mod watch;

@@ -12,7 +12,7 @@ ghost use Rattle.fleet_verify.specs.Order.{AreAllNoted};
 ghost use Rattle.fleet_verify.specs.Faults.{HasRanges, IsFault};
 
 use crate::fault::VerifyFault;
-use crate::steps::cell_after;
+use crate::path::cell_after;
 use crate::watch::{Break, Watch};
 use fleet_grid::Grid;
 use fleet_model::{Cell, ProgramView};

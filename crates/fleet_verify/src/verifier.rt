@@ -15,10 +15,9 @@ ghost use Rattle.fleet_verify.specs.Faults.{IsFault};
 ghost use Rattle.fleet_verify.specs.Parts.{IsAcceptedFor};
 
 use crate::accepted::{Accepted, Refused};
-use crate::ends::check_fleet;
+use crate::agents::check_agents;
 use crate::fault::VerifyFault;
 use crate::order::check_order;
-use crate::right::check_agents;
 use crate::ring::find_ring;
 use crate::walk::run_free;
 use fleet_grid::Grid;
@@ -68,7 +67,6 @@ fn judge<P: ProgramView>(
     ensures ok { IfOk result (λ chain. IsAcceptedFor grid.now instance.now (P.program program.now) chain) }
     ensures err { IfErr result (λ f. IsFault (is_passable grid.now) instance.now (P.program program.now) f) }
 {
-    check_fleet(program, instance)?;
     check_agents(program, grid, instance)?;
     let walk = run_free(alloc, program, grid)?;
     if !all_finished(program, &walk.counts) {

@@ -8,7 +8,7 @@ ghost use Rattle.fleet_verify.specs.Faults.{EachAction, StandsRight};
 ghost use Rattle.fleet_verify.specs.Order.{AreNoted};
 ghost use Rattle.fleet_verify.specs.Walk.{is_ready_by, IsReadyBy, begun_by, begun_in, AreCells, IsWalk};
 
-use crate::steps::cell_after;
+use crate::path::cell_after;
 use crate::watch::{Stay, Watch};
 use fleet_grid::Grid;
 use fleet_model::{Cell, OutOfMemory, ProgramView, Visit, total_moves};

@@ -1,16 +1,10 @@
 use Rattle.std.proofs.Common.{◌<◌, ◌≤◌, ℕ, List, length, slice_index, subst, sym, ◌∙◌}
-use Rattle.std.proofs.lemmas.Result.{err_from_is_err_and}
 use Rattle.fleet_model.specs.Program.{moves}
 use Rattle.fleet_verify.specs.Walk.{IsReadyBy}
 use Rattle.fleet_grid.specs.Ground.{is_passable}
 use Rattle.fleet_verify.specs.Blocked.{IsBlocked}
 use Rattle.fleet_verify.proofs.Stays.{ranges_all, chain_is, stuck, all_stays, accepted}
 use Rattle.fleet_verify.proofs.verifier.judge.Goals as goal
-
-pub returns-in_err-check_fleet-clause-err : goal.returns-in_err-check_fleet-clause-err
-returns-in_err-check_fleet-clause-err g c =
-    let e = err_from_is_err_and c.from_residual.result c.from_residual.ensures.1 in
-    rw (e.1, e.2) (c.in_err-check_fleet.ensures.err (is_passable c.args.grid.now))
 
 pub find_ring-requires-clause-ranges : goal.find_ring-requires-clause-ranges
 find_ring-requires-clause-ranges g c = ranges_all (g.P.ProgramView.program c.args.program.now) c.in_ok-check_agents.ensures.ok.ranges

@@ -1,7 +1,7 @@
 use Rattle.std.proofs.Common.{◌≡◌, ◌≤◌, ◌<◌, arith, length}
 use Rattle.fleet_verify.proofs.ReadyBy.{await_agent}
 use Rattle.fleet_verify.proofs.Ranges.{in_range_more, in_range_all, out_of_range}
-use Rattle.fleet_verify.proofs.steps.are_in_range.Goals as goal
+use Rattle.fleet_verify.proofs.path.are_in_range.Goals as goal
 
 pub moves-requires : goal.moves-requires
 moves-requires g c = await_agent (g.P.ProgramView.program c.args.program.now) c.requires.well_formed c.args.agent c.args.action c.loop-k.k c.await_at-awaited.result c.await_at-awaited.ensures

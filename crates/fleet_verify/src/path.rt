@@ -1,0 +1,149 @@
+//! What is judged of an agent's path, in one walk along it.
+
+ghost use Rattle.std.specs.Prelude.{◌≡◌, ◌<◌, ◌≤◌, ◌+◌, ◌↔◌, false, length, IfSome, IfNone, IsTrue};
+ghost use Rattle.fleet_model.specs.Geometry.{place_of, stepped};
+ghost use Rattle.fleet_model.specs.Program.{moves, IsWellFormed};
+ghost use Rattle.fleet_grid.specs.Ground.{is_passable};
+ghost use Rattle.fleet_verify.specs.Faults.{AwaitsRight};
+ghost use Rattle.fleet_verify.specs.Path.{TellsFirst, IsPosition, IsPathJudged};
+
+use fleet_grid::Grid;
+use fleet_model::{Cell, Place, ProgramView, Step};
+
+/// What is judged of an agent's path.
+#[derive(Clone, Copy, Debug)]
+pub struct PathJudged {
+    /// Where it ends, also off the map.
+    pub end: Place,
+    /// The first action that leads off passable ground, or 0 where the start is off it.
+    pub off_ground: Option<u32>,
+    /// The first action that awaits more actions than there are.
+    pub out_of_range: Option<u32>,
+}
+
+/// Where the walk along a path has come to: on passable ground alone to a cell, or to any place, with the first action that
+/// led off passable ground.
+#[derive(Clone, Copy, Debug)]
+enum Position {
+    OnGround(Cell),
+    OffGround { place: Place, action: u32 },
+}
+
+/// Walks along the path of an agent once, from its start to its end.
+pub fn judge_path<P: ProgramView>(program: &P, grid: &Grid, agent: u16) -> PathJudged
+    requires agent { agent < length (P.program program.now) }
+    requires well_formed { IsWellFormed (P.program program.now) }
+    ensures { IsPathJudged (is_passable grid.now) (P.program program.now) agent result }
+{
+    let mut position = start_position(program, grid, agent);
+    let mut out_of_range = None;
+    for finished in 0..program.moves(agent) {
+        position = position_after(program, grid, agent, finished, position);
+        out_of_range = out_of_range_after(program, agent, finished, out_of_range);
+    }
+    let (end, off_ground) = match position {
+        Position::OnGround(cell) => (Place::from(cell), None),
+        Position::OffGround { place, action } => (place, Some(action)),
+    };
+    PathJudged {
+        end,
+        off_ground,
+        out_of_range,
+    }
+}
+
+/// The start of an agent.
+fn start_position<P: ProgramView>(program: &P, grid: &Grid, agent: u16) -> Position
+    requires { agent < length (P.program program.now) }
+    ensures { IsPosition (is_passable grid.now) (P.program program.now) agent 0 result }
+{
+    let start = program.start(agent);
+    if grid.passable(start) {
+        Position::OnGround(start)
+    } else {
+        Position::OffGround {
+            place: Place::from(start),
+            action: 0,
+        }
+    }
+}
+
+/// The position after the next action of an agent.
+fn position_after<P: ProgramView>(
+    program: &P,
+    grid: &Grid,
+    agent: u16,
+    finished: u32,
+    position: Position,
+) -> Position
+    requires agent { agent < length (P.program program.now) }
+    requires left { finished < moves (P.program program.now) agent }
+    requires well_formed { IsWellFormed (P.program program.now) }
+    requires before { IsPosition (is_passable grid.now) (P.program program.now) agent finished position }
+    ensures { IsPosition (is_passable grid.now) (P.program program.now) agent (finished + 1) result }
+{
+    let step = program.step(agent, finished + 1);
+    match position {
+        Position::OnGround(cell) => match cell_after(grid, cell, step) {
+            Some(next) => Position::OnGround(next),
+            None => Position::OffGround {
+                place: Place::from(cell).after(step),
+                action: finished + 1,
+            },
+        },
+        Position::OffGround { place, action } => Position::OffGround {
+            place: place.after(step),
+            action,
+        },
+    }
+}
+
+/// The cell after a step, where it is on the map and passable.
+pub fn cell_after(grid: &Grid, cell: Cell, step: Step) -> Option<Cell>
+    ensures some { IfSome result (λ next. (place_of next ≡ stepped (place_of cell) step) × IsTrue (is_passable grid.now (place_of next))) }
+    ensures none { IfNone result (is_passable grid.now (stepped (place_of cell) step) ≡ false) }
+{
+    match step {
+        Step::Go(dir) => grid.neighbour(cell, dir),
+        Step::Dwell if grid.passable(cell) => Some(cell),
+        Step::Dwell => None,
+    }
+}
+
+/// The first action that awaits more than there is, among one action more of an agent.
+fn out_of_range_after<P: ProgramView>(
+    program: &P,
+    agent: u16,
+    finished: u32,
+    found: Option<u32>,
+) -> Option<u32>
+    requires agent { agent < length (P.program program.now) }
+    requires left { finished < moves (P.program program.now) agent }
+    requires well_formed { IsWellFormed (P.program program.now) }
+    requires before { TellsFirst finished (AwaitsRight (P.program program.now) agent) found }
+    ensures { TellsFirst (finished + 1) (AwaitsRight (P.program program.now) agent) result }
+{
+    let action = finished + 1;
+    match found {
+        Some(_) => found,
+        None if are_in_range(program, agent, action) => None,
+        None => Some(action),
+    }
+}
+
+/// Whether each await of the action can be met.
+fn are_in_range<P: ProgramView>(program: &P, agent: u16, action: u32) -> bool
+    requires agent { agent < length (P.program program.now) }
+    requires first { 1 ≤ action }
+    requires last { action ≤ moves (P.program program.now) agent }
+    requires well_formed { IsWellFormed (P.program program.now) }
+    ensures { IsTrue result ↔ AwaitsRight (P.program program.now) agent action }
+{
+    for k in 0..program.await_count(agent, action) {
+        let awaited = program.await_at(agent, action, k);
+        if awaited.count > program.moves(awaited.agent) {
+            return false;
+        }
+    }
+    true
+}

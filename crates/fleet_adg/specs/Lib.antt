@@ -1,3 +1,4 @@
 pub mod Compiled
 pub mod Leavings
 pub mod Sweep
+pub mod Told

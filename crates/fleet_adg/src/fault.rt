@@ -1,6 +1,7 @@
 //! Why a plan has no program.
 
 use fleet_model::OutOfMemory;
+use fleet_text::{OutFault, Refusal, TraceOut, put_memory, put_named};
 use thiserror::Error;
 
 /// Why a plan was not compiled.
@@ -21,5 +22,24 @@ impl From<OutOfMemory> for CompileFault {
 
     fn from(_e: OutOfMemory) -> CompileFault {
         CompileFault::OutOfMemory
+    }
+}
+
+impl Refusal for CompileFault {
+    ghost use Rattle.fleet_adg.specs.Told.{compile_words, is_compile_failure};
+
+    ghost words = { compile_words };
+
+    ghost is_failure = { is_compile_failure };
+
+    fn put<O: TraceOut>(&self, out: &mut O) -> Result<(), OutFault> {
+        match *self {
+            CompileFault::OutOfMemory => put_memory(out),
+            CompileFault::TooLong => put_named(out, "compile", 2, "TooLong"),
+        }
+    }
+
+    fn is_failure(&self) -> bool {
+        matches!(self, CompileFault::OutOfMemory)
     }
 }

@@ -4,7 +4,7 @@ use Rattle.std.proofs.lemmas.List.{take_more, map-append, take-append-drop}
 use Rattle.std.specs.Borrow.{Bor}
 use Rattle.fleet_text.specs.Sink.{SinkState, Takes, StopsWithin}
 use Rattle.fleet_text.proofs.SinkLemmas.{takes_more, stops_after, stops_within_more}
-use Rattle.fleet_io.specs.Words.{count_line}
+use Rattle.fleet_text.specs.Words.{count_line}
 use Rattle.fleet_cli.specs.Output.{labelled, count_lines}
 
 count_lines-append : (xs ys : List (List ℕ × ℕ)) → count_lines (xs ++ ys) ≡ count_lines xs ++ count_lines ys

@@ -9,7 +9,7 @@ use Rattle.fleet_args.specs.declared.request.WordStop.{WordStop}
 use Rattle.fleet_args.specs.declared.request.WordStop.TheVariants as w
 use Rattle.fleet_files.specs.Files.{Store, IsKept}
 use Rattle.fleet_text.specs.Sink.{Receives, FailsAfter, SinkState, IsUnwritten, IsDelivered}
-use Rattle.fleet_io.specs.Words.{line_text}
+use Rattle.fleet_text.specs.Words.{line_text}
 use Rattle.fleet_io.specs.Output.{IsTold, Outcome}
 use Rattle.fleet_cli.specs.HexRun.{RunsHex}
 use Rattle.fleet_cli.specs.RehearseCommand.{DoesRehearse, RefusesRehearse}

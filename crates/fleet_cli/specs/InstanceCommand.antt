@@ -9,7 +9,7 @@ use Rattle.fleet_auto.specs.Texts.{AreTextsOf}
 use Rattle.fleet_files.specs.Files.{Store}
 use Rattle.fleet_text.specs.Sink.{FailsAfter, SinkState, IsUnwritten, IsDelivered}
 use Rattle.fleet_args.specs.declared.instance.InstanceRequest.{InstanceRequest}
-use Rattle.fleet_io.specs.Words.{cell_text, line_text}
+use Rattle.fleet_text.specs.Words.{pair_text, line_text}
 use Rattle.fleet_io.specs.Named.{IsUnread, AreRead}
 use Rattle.fleet_cli.specs.Problem.{IsProblemRefusal}
 use Rattle.fleet_io.specs.declared.fault.Fault.{Fault}
@@ -23,7 +23,7 @@ goal_in tasks i = option_map_or (λ t. t.goal) (slice_get tasks i) origin
 
 -- the line of an agent: `i: x,y x,y`, its start and its goal
 unfoldable pub task_line : ℕ → Cell → Cell → List ℕ
-task_line i start goal = line_text ((decimal i ++ 58 ∷ []) ∷ cell_text start ∷ cell_text goal ∷ [])
+task_line i start goal = line_text ((decimal i ++ 58 ∷ []) ∷ pair_text start.x start.y ∷ pair_text goal.x goal.y ∷ [])
 
 -- the lines of the agents below n
 abbrev pub task_lines : List Task → ℕ → List ℕ

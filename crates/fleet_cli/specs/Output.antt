@@ -4,7 +4,7 @@ use Rattle.std.specs.Borrow.{Bor}
 use Rattle.fleet_text.specs.Sink.{SinkState, FailsAfter, IsUnwritten, IsDelivered}
 use Rattle.fleet_files.specs.Files.{Store, ChangesOnly, Replaces}
 use Rattle.fleet_io.specs.Named.{IsWriteFault}
-use Rattle.fleet_io.specs.Words.{line_text, count_line}
+use Rattle.fleet_text.specs.Words.{line_text, count_line}
 use Rattle.fleet_io.specs.Output.{IsOutFault}
 use Rattle.fleet_io.specs.declared.fault.Fault.{Fault}
 

@@ -19,10 +19,9 @@ fn put_task<O: TraceOut>(out: &mut O, i: u16, start: Cell, goal: Cell) -> Result
     requires { IsWorking (O.state out.old) }
     ensures { TakesAll (O.state out.old) (O.state out.new) result (task_line i start goal) }
 {
-    put_line(
-        out,
-        &[Word::Label(i as u64), Word::Place(start), Word::Place(goal)],
-    )
+    let start = Word::Pair(start.x, start.y);
+    let goal = Word::Pair(goal.x, goal.y);
+    put_line(out, &[Word::Label(i as u64), start, goal])
 }
 
 /// The line of each agent.

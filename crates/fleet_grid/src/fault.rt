@@ -1,5 +1,6 @@
 //! Why a text is no map.
 
+use fleet_text::{OutFault, Refusal, TraceOut, put_memory, put_named, put_named_at, put_named_by};
 use std::alloc::AllocError;
 use thiserror::Error;
 
@@ -36,5 +37,39 @@ impl From<AllocError> for MapFault {
 
     fn from(_e: AllocError) -> MapFault {
         MapFault::OutOfMemory
+    }
+}
+
+impl Refusal for MapFault {
+    ghost use Rattle.fleet_grid.specs.Told.{map_words, is_map_failure};
+
+    ghost words = { map_words };
+
+    ghost is_failure = { is_map_failure };
+
+    fn put<O: TraceOut>(&self, out: &mut O) -> Result<(), OutFault> {
+        match *self {
+            MapFault::OutOfMemory => put_memory(out),
+            MapFault::Header { line } => put_named_at(out, "map", 2, "Header", "line", line),
+            MapFault::Size => put_named(out, "map", 3, "Size"),
+            MapFault::RowCount => put_named(out, "map", 4, "RowCount"),
+            MapFault::RowLength { row } => put_named_at(
+                out,
+                "map",
+                5,
+                "RowLength",
+                "row",
+                row as u64,
+            ),
+            MapFault::Glyph { row, column } => {
+                let row = ("row", row as u64);
+                put_named_by(out, "map", 6, "Glyph", row, ("column", column as u64))
+            }
+            MapFault::Trailing => put_named(out, "map", 7, "Trailing"),
+        }
+    }
+
+    fn is_failure(&self) -> bool {
+        matches!(self, MapFault::OutOfMemory)
     }
 }

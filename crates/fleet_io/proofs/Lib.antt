@@ -1,4 +1,3 @@
 pub mod FlushLemmas
-pub mod WordLemmas
 pub mod NamedLemmas
 pub mod TracedLemmas

@@ -6,3 +6,4 @@ pub mod Rings
 pub mod Sweep
 pub mod Plan
 pub mod Checked
+pub mod Told

@@ -1,6 +1,13 @@
 //! Why a plan is not right for a map and an instance, or not free of conflict.
 
+ghost use Rattle.fleet_text.specs.Sink.{IsWorking, TakesAll};
+ghost use Rattle.fleet_text.specs.Words.{line_text};
+ghost use Rattle.fleet_plan.specs.Told.{pair_words, cycle_words, conflict_words};
+
 use crate::plan::Plan;
+use fleet_text::{
+    OutFault, Refusal, TraceOut, Word, put_line, put_memory, put_named, put_named_at, put_named_by,
+};
 use std::alloc::AllocError;
 use thiserror::Error;
 
@@ -54,4 +61,110 @@ impl From<AllocError> for PlanFault {
 pub struct PlanRefusal {
     pub fault: PlanFault,
     pub plan: Plan,
+}
+
+impl Refusal for PlanFault {
+    ghost use Rattle.fleet_plan.specs.Told.{check_words, is_check_failure};
+
+    ghost words = { check_words };
+
+    ghost is_failure = { is_check_failure };
+
+    fn put<O: TraceOut>(&self, out: &mut O) -> Result<(), OutFault> {
+        match *self {
+            PlanFault::OutOfMemory => put_memory(out),
+            PlanFault::Agents => put_named(out, "check", 2, "Agents"),
+            PlanFault::Start { agent } => put_named_at(
+                out,
+                "check",
+                3,
+                "Start",
+                "agent",
+                agent as u64,
+            ),
+            PlanFault::Goal { agent } => put_named_at(
+                out,
+                "check",
+                4,
+                "Goal",
+                "agent",
+                agent as u64,
+            ),
+            PlanFault::Step { agent, time } => put_named_by(
+                out,
+                "check",
+                5,
+                "Step",
+                ("agent", agent as u64),
+                ("time", time as u64),
+            ),
+            PlanFault::Conflict(conflict) => put_conflict(out, conflict),
+        }
+    }
+
+    fn is_failure(&self) -> bool {
+        matches!(self, PlanFault::OutOfMemory)
+    }
+}
+
+fn put_conflict<O: TraceOut>(out: &mut O, conflict: Conflict) -> Result<(), OutFault>
+    requires { IsWorking (O.state out.old) }
+    ensures { TakesAll (O.state out.old) (O.state out.new) result
+        (line_text (conflict_words conflict)) }
+{
+    match conflict {
+        Conflict::Vertex { time, i, j } => put_pair(out, "Vertex", time, i, j),
+        Conflict::Swapping { time, i, j } => put_pair(out, "Swapping", time, i, j),
+        Conflict::Cycle { time, least } => put_cycle(out, time, least),
+    }
+}
+
+/// Writes the line of a conflict of two agents in a plan.
+fn put_pair<O: TraceOut>(
+    out: &mut O,
+    kind: &'static str,
+    time: u32,
+    i: u16,
+    j: u16,
+) -> Result<(), OutFault>
+    requires { IsWorking (O.state out.old) }
+    ensures { TakesAll (O.state out.old) (O.state out.new) result
+        (line_text (pair_words kind.now time i j)) }
+{
+    put_line(
+        out,
+        &[
+            Word::Text("check"),
+            Word::Number(6),
+            Word::Text("Conflict"),
+            Word::Text(kind),
+            Word::Text("time"),
+            Word::Number(time as u64),
+            Word::Text("i"),
+            Word::Number(i as u64),
+            Word::Text("j"),
+            Word::Number(j as u64),
+        ],
+    )
+}
+
+/// Writes the line of a cycle in a plan.
+fn put_cycle<O: TraceOut>(out: &mut O, time: u32, least: u16) -> Result<(), OutFault>
+    requires { IsWorking (O.state out.old) }
+    ensures { TakesAll (O.state out.old) (O.state out.new) result
+        (line_text (cycle_words time least)) }
+{
+    put_line(
+        out,
+        &[
+            Word::Text("check"),
+            Word::Number(6),
+            Word::Text("Conflict"),
+            Word::Text("Cycle"),
+            Word::Text("time"),
+            Word::Number(time as u64),
+            Word::Text("least"),
+            Word::Number(least as u64),
+        ],
+    )
 }

@@ -1,5 +1,6 @@
 //! Why a text is no plan.
 
+use fleet_text::{OutFault, Refusal, TraceOut, put_memory, put_named, put_named_at};
 use std::alloc::{AllocError, AllocFailed};
 use thiserror::Error;
 
@@ -38,5 +39,26 @@ impl<T: Drop> From<AllocFailed<T>> for TextFault {
 
     fn from(_e: AllocFailed<T>) -> TextFault {
         TextFault::OutOfMemory
+    }
+}
+
+impl Refusal for TextFault {
+    ghost use Rattle.fleet_plan.specs.Told.{text_words, is_text_failure};
+
+    ghost words = { text_words };
+
+    ghost is_failure = { is_text_failure };
+
+    fn put<O: TraceOut>(&self, out: &mut O) -> Result<(), OutFault> {
+        match *self {
+            TextFault::OutOfMemory => put_memory(out),
+            TextFault::Form { line } => put_named_at(out, "text", 2, "Form", "line", line),
+            TextFault::Length { line } => put_named_at(out, "text", 3, "Length", "line", line),
+            TextFault::AgentCount => put_named(out, "text", 4, "AgentCount"),
+        }
+    }
+
+    fn is_failure(&self) -> bool {
+        matches!(self, TextFault::OutOfMemory)
     }
 }

@@ -8,3 +8,4 @@ pub mod HoldText
 pub mod Fleet
 pub mod Drive
 pub mod Confirmed
+pub mod Told

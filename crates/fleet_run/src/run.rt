@@ -12,7 +12,7 @@ use crate::machine::Machine;
 use crate::source::{HoldSource, SourceFault, ask};
 use crate::text::{LINE, write_line};
 use fleet_model::{MAX_AGENTS, ProgramView, Standing};
-use fleet_text::{OutFault, TraceOut, put_all};
+use fleet_text::{OutFault, Refusal, TraceOut, put_all, put_memory, put_named, put_named_at};
 use thiserror::Error;
 
 /// How a rehearsal ends.
@@ -35,6 +35,31 @@ pub enum RunFault {
     Write,
     #[error("the holds have more ticks than a run takes")]
     HoldLimit,
+}
+
+impl Refusal for RunFault {
+    ghost use Rattle.fleet_run.specs.Told.{run_words, is_run_failure};
+
+    ghost words = { run_words };
+
+    ghost is_failure = { is_run_failure };
+
+    fn put<O: TraceOut>(&self, out: &mut O) -> Result<(), OutFault> {
+        match *self {
+            RunFault::OutOfMemory => put_memory(out),
+            RunFault::Source { tick } => put_named_at(out, "run", 2, "Source", "tick", tick as u64),
+            RunFault::Hold { line } => put_named_at(out, "run", 3, "Hold", "line", line),
+            RunFault::Write => put_named(out, "run", 4, "Write"),
+            RunFault::HoldLimit => put_named(out, "run", 5, "HoldLimit"),
+        }
+    }
+
+    fn is_failure(&self) -> bool {
+        matches!(
+            self,
+            RunFault::OutOfMemory | RunFault::Source { .. } | RunFault::Write
+        )
+    }
 }
 
 /// A run that came to its end.

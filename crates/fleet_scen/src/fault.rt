@@ -1,5 +1,6 @@
 //! Why a text is no scenario.
 
+use fleet_text::{OutFault, Refusal, TraceOut, put_memory, put_named, put_named_at, put_named_by};
 use std::alloc::{AllocError, AllocFailed};
 use thiserror::Error;
 
@@ -59,5 +60,56 @@ impl<T: Drop> From<AllocFailed<T>> for ScenFault {
 
     fn from(_e: AllocFailed<T>) -> ScenFault {
         ScenFault::OutOfMemory
+    }
+}
+
+impl Refusal for ScenFault {
+    ghost use Rattle.fleet_scen.specs.Told.{scen_words, is_scen_failure};
+
+    ghost words = { scen_words };
+
+    ghost is_failure = { is_scen_failure };
+
+    fn put<O: TraceOut>(&self, out: &mut O) -> Result<(), OutFault> {
+        match *self {
+            ScenFault::OutOfMemory => put_memory(out),
+            ScenFault::Version => put_named(out, "scen", 2, "Version"),
+            ScenFault::Fields { line } => put_named_at(out, "scen", 3, "Fields", "line", line),
+            ScenFault::Number { line, field } => {
+                put_named_by(
+                    out,
+                    "scen",
+                    4,
+                    "Number",
+                    ("line", line),
+                    ("field", field as u64),
+                )
+            }
+            ScenFault::OtherMap { line } => put_named_at(out, "scen", 5, "OtherMap", "line", line),
+            ScenFault::Blocked { line } => put_named_at(out, "scen", 6, "Blocked", "line", line),
+            ScenFault::SharedStart { line } => put_named_at(
+                out,
+                "scen",
+                7,
+                "SharedStart",
+                "line",
+                line,
+            ),
+            ScenFault::SharedGoal { line } => put_named_at(
+                out,
+                "scen",
+                8,
+                "SharedGoal",
+                "line",
+                line,
+            ),
+            ScenFault::NoAgents => put_named(out, "scen", 9, "NoAgents"),
+            ScenFault::TooMany => put_named(out, "scen", 10, "TooMany"),
+            ScenFault::Fewer => put_named(out, "scen", 11, "Fewer"),
+        }
+    }
+
+    fn is_failure(&self) -> bool {
+        matches!(self, ScenFault::OutOfMemory)
     }
 }

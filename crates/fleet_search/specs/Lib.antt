@@ -6,3 +6,4 @@ pub mod Rows
 pub mod Distance
 pub mod Search
 pub mod InTurn
+pub mod Told

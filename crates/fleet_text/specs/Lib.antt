@@ -4,3 +4,5 @@ pub mod Verdict
 pub mod Sink
 pub mod Taken
 pub mod Row
+pub mod Words
+pub mod Refusals

@@ -1,4 +1,5 @@
-//! Texts as bytes: their lines, the words of a line, the numbers that words spell, the digits of a number, and sinks that take bytes.
+//! Texts as bytes: their lines, the words of a line, the numbers that words spell, the digits of a number, sinks that take bytes,
+//! and refusals, which are told as lines of words.
 //!
 //! A text is a slice of any bytes. What is read is lent from the slice, and takes no memory.
 #![tactic(auto)]
@@ -7,19 +8,23 @@ mod blocks;
 mod digits;
 mod lines;
 mod numbers;
+mod refusal;
 mod row;
 mod sink;
 mod sinks;
 mod words;
+mod writing;
 
 pub use blocks::{BLOCK, ByteClass, first_of};
 pub use digits::{write_byte, write_number, write_small_number};
 pub use lines::{Cursor, next_line};
 pub use numbers::{TOO_LARGE, number_of, small_number_front, small_number_of};
+pub use refusal::{Refusal, put_memory, put_named, put_named_at, put_named_by};
 pub use row::Row;
 pub use sink::{Flush, OutFault, TraceOut, put_all};
 pub use sinks::{VecOut, WriteOut};
 pub use words::{from_front, is_blank, next_word};
+pub use writing::{Word, put_count, put_line, put_next_word, put_words};
 
 #[cfg(test)]
 mod tests;

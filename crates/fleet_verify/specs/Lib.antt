@@ -6,3 +6,4 @@ pub mod Order
 pub mod Faults
 pub mod Path
 pub mod Parts
+pub mod Told

@@ -1,7 +1,0 @@
-use Rattle.fleet_io.proofs.fault.put_scen.Goals as goal
-
-pub returns-in-OtherMap : goal.returns-in-OtherMap
-returns-in-OtherMap g c = rw c.in-OtherMap.is c.put_named_at-in-OtherMap.ensures
-
-pub returns-in-SharedStart : goal.returns-in-SharedStart
-returns-in-SharedStart g c = rw c.in-SharedStart.is c.put_named_at-in-SharedStart.ensures

@@ -1,4 +1,0 @@
-use Rattle.fleet_io.proofs.fault.put_text.Goals as goal
-
-pub returns-in-AgentCount : goal.returns-in-AgentCount
-returns-in-AgentCount g c = rw c.in-AgentCount.is c.put_named.ensures

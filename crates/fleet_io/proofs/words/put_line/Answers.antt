@@ -1,7 +1,0 @@
-use Rattle.std.proofs.Common.{◌∷◌, [], map}
-use Rattle.fleet_io.specs.Words.{word_text, spaced}
-use Rattle.fleet_text.proofs.RowLemmas.{takes_rest}
-use Rattle.fleet_io.proofs.words.put_line.Goals as goal
-
-pub returns : goal.returns
-returns g c = takes_rest _ _ _ _ [] _ (spaced (map word_text c.args.words.now)) (10 ∷ []) (rw c.new-row.ensures at c.in_ok-put_words.ensures) c.end_line.ensures

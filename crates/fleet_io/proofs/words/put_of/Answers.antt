@@ -1,6 +1,0 @@
-use Rattle.std.proofs.Common.{decimal, ◌++◌, ◌∷◌, []}
-use Rattle.fleet_text.proofs.RowLemmas.{gathers_then}
-use Rattle.fleet_io.proofs.words.put_of.Goals as goal
-
-pub returns : goal.returns
-returns g c = gathers_then _ _ _ _ _ _ _ (decimal c.args.agent ++ 58 ∷ []) (decimal c.args.number) c.in_ok-put_number_then.ensures c.put_number.ensures

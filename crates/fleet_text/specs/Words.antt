@@ -1,0 +1,38 @@
+-- Words, and lines of words.
+use Rattle.std.specs.Prelude.{ℕ, List, [], ◌∷◌, ◌++◌, decimal}
+use Rattle.std.specs.List.{join_with_byte}
+use Rattle.fleet_text.specs.declared.writing.Word.{Word}
+use Rattle.fleet_text.specs.declared.writing.Word.TheVariants.{Text, Number, Label, Pair, Of}
+
+-- two numbers as `x,y`
+abbrev pub pair_text : ℕ → ℕ → List ℕ
+pair_text x y = (decimal x ++ 44 ∷ []) ++ decimal y
+
+-- a number and another that counts within it, as `a:n`
+abbrev pub numbered_text : ℕ → ℕ → List ℕ
+numbered_text owner number = (decimal owner ++ 58 ∷ []) ++ decimal number
+
+-- a text as it stands, a number in base ten, a number and a colon, two numbers, or a number with another that counts within it
+abbrev pub word_text : Word → List ℕ
+word_text (Text text) = text.now
+word_text (Number n) = decimal n
+word_text (Label n) = decimal n ++ 58 ∷ []
+word_text (Pair x y) = pair_text x y
+word_text (Of owner number) = numbered_text owner number
+
+-- words with one space between two
+abbrev pub spaced : List (List ℕ) → List ℕ
+spaced = join_with_byte 32
+
+-- a line: words with one space between two, and its end
+abbrev pub line_text : List (List ℕ) → List ℕ
+line_text words = spaced words ++ 10 ∷ []
+
+-- words that follow others, each after its space
+abbrev pub next_words : List (List ℕ) → List ℕ
+next_words [] = []
+next_words (word ∷ words) = 32 ∷ word ++ next_words words
+
+-- a word and its number, in a line
+unfoldable pub count_line : List ℕ → ℕ → List ℕ
+count_line word n = line_text (word ∷ decimal n ∷ [])

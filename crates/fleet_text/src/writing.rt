@@ -1,0 +1,133 @@
+//! Words of a line, written to a sink without memory.
+
+ghost use Rattle.std.specs.Prelude.{◌≡◌, ◌++◌, ◌∷◌, [], map, decimal};
+ghost use Rattle.fleet_text.specs.Sink.{IsWorking, TakesAll};
+ghost use Rattle.fleet_text.specs.Row.{Gathers};
+ghost use Rattle.fleet_text.specs.Words.{pair_text, numbered_text, word_text, spaced, line_text, count_line};
+
+use crate::digits::write_number;
+use crate::row::Row;
+use crate::sink::{OutFault, TraceOut};
+
+/// A word of a line.
+#[derive(Clone, Copy)]
+pub enum Word<'a> {
+    Text(&'a str),
+    Number(u64),
+    /// A number and a colon.
+    Label(u64),
+    /// Two numbers as `x,y`.
+    Pair(u16, u16),
+    /// A number and another that counts within it, as `a:n`.
+    Of(u16, u32),
+}
+
+/// How many digits the longest number has.
+const DIGITS: usize = 20;
+
+/// Adds a number in base ten to the row.
+fn put_number<O: TraceOut>(row: &mut Row, out: &mut O, number: u64) -> Result<(), OutFault>
+    requires { IsWorking (O.state out.old) }
+    ensures { Gathers (O.state out.old) (O.state out.new) result row.old row.new (decimal number) }
+{
+    let mut digits = [0; DIGITS];
+    let start = write_number(number, &mut digits, DIGITS);
+    row.add(out, &digits[start..])
+}
+
+/// A number and a byte after it.
+fn put_number_then<O: TraceOut>(
+    row: &mut Row,
+    out: &mut O,
+    number: u64,
+    after: u8,
+) -> Result<(), OutFault>
+    requires { IsWorking (O.state out.old) }
+    ensures { Gathers (O.state out.old) (O.state out.new) result row.old row.new (decimal number ++ after ∷ []) }
+{
+    put_number(row, out, number)?;
+    row.add(out, &[after])
+}
+
+/// Two numbers as `x,y`.
+fn put_pair<O: TraceOut>(row: &mut Row, out: &mut O, x: u16, y: u16) -> Result<(), OutFault>
+    requires { IsWorking (O.state out.old) }
+    ensures { Gathers (O.state out.old) (O.state out.new) result row.old row.new (pair_text x y) }
+{
+    put_number_then(row, out, x as u64, b',')?;
+    put_number(row, out, y as u64)
+}
+
+/// A number and another that counts within it, as `a:n`.
+fn put_of<O: TraceOut>(row: &mut Row, out: &mut O, owner: u16, number: u32) -> Result<(), OutFault>
+    requires { IsWorking (O.state out.old) }
+    ensures { Gathers (O.state out.old) (O.state out.new) result row.old row.new (numbered_text owner number) }
+{
+    put_number_then(row, out, owner as u64, b':')?;
+    put_number(row, out, number as u64)
+}
+
+fn put_word<O: TraceOut>(row: &mut Row, out: &mut O, word: Word<'_>) -> Result<(), OutFault>
+    requires { IsWorking (O.state out.old) }
+    ensures { Gathers (O.state out.old) (O.state out.new) result row.old row.new (word_text word.entry) }
+{
+    match word {
+        Word::Text(text) => row.add(out, text.as_bytes()),
+        Word::Number(number) => put_number(row, out, number),
+        Word::Label(number) => put_number_then(row, out, number, b':'),
+        Word::Pair(x, y) => put_pair(row, out, x, y),
+        Word::Of(owner, number) => put_of(row, out, owner, number),
+    }
+}
+
+/// A space, and the word.
+pub fn put_next_word<O: TraceOut>(
+    row: &mut Row,
+    out: &mut O,
+    word: Word<'_>,
+) -> Result<(), OutFault>
+    requires { IsWorking (O.state out.old) }
+    ensures { Gathers (O.state out.old) (O.state out.new) result row.old row.new (32 ∷ word_text word.entry) }
+{
+    row.add(out, b" ")?;
+    put_word(row, out, word)
+}
+
+/// Adds the words to the row, with one space between two, and no line's end.
+pub fn put_words<O: TraceOut>(
+    row: &mut Row,
+    out: &mut O,
+    words: &[Word<'_>],
+) -> Result<(), OutFault>
+    requires { IsWorking (O.state out.old) }
+    ensures { Gathers (O.state out.old) (O.state out.new) result row.old row.new (spaced (map word_text words.now)) }
+{
+    let Some((first, rest)) = words.split_first() else {
+        return Ok(());
+    };
+    put_word(row, out, *first)?;
+    for word in rest {
+        put_next_word(row, out, *word)?;
+    }
+    Ok(())
+}
+
+/// Writes the words as a line, in one piece where a row has room for it.
+pub fn put_line<O: TraceOut>(out: &mut O, words: &[Word<'_>]) -> Result<(), OutFault>
+    requires { IsWorking (O.state out.old) }
+    ensures { TakesAll (O.state out.old) (O.state out.new) result
+        (line_text (map word_text words.now)) }
+{
+    let mut row = Row::new();
+    put_words(&mut row, out, words)?;
+    row.end_line(out)
+}
+
+/// Writes a word and its number, in a line.
+#[tactic(auto, unfolding(crate::specs::Words::count_line))]
+pub fn put_count<O: TraceOut>(out: &mut O, word: &'static str, number: u64) -> Result<(), OutFault>
+    requires { IsWorking (O.state out.old) }
+    ensures { TakesAll (O.state out.old) (O.state out.new) result (count_line word.now number) }
+{
+    put_line(out, &[Word::Text(word), Word::Number(number)])
+}

@@ -1,0 +1,15 @@
+use Rattle.std.proofs.Common.{rules}
+use Rattle.fleet_text.proofs.RowLemmas.{gathers_err}
+use Rattle.fleet_verify.specs.Told.{action_text}
+use Rattle.fleet_text.proofs.WordLemmas.{passed_element, stops_within_element}
+use Rattle.fleet_verify.proofs.fault.put_actions.Goals as goal
+
+pub returns-in_err-put_next_word : goal.returns-in_err-put_next_word
+returns-in_err-put_next_word g c =
+    gathers_err _ _ _ _ _ _ (search rules)
+    (stops_within_element action_text _ _ _ _ _ _ _ _ c.loop-action-test.true c.loop-action.invariant.written c.in_err-put_next_word.ensures)
+
+pub loop-action-preserved : goal.loop-action-preserved
+loop-action-preserved g c = record {
+  written = passed_element action_text _ _ _ _ _ _ _ _ _ c.loop-action-test.true c.loop-action.invariant.written c.in_ok-put_next_word.ensures;
+}

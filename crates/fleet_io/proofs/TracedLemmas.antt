@@ -1,9 +1,9 @@
 -- The run of an accepted program, and the flush after it.
-use Rattle.std.proofs.Common.{◌≡◌, ℕ, ◌⊎◌, inl, inr, true, List, Result, Ok, Err, refl, sym, subst, ◌∙◌}
+use Rattle.std.proofs.Common.{◌≡◌, ℕ, inl, inr, true, List, Result, Ok, Err, refl, sym, subst, ◌∙◌}
 use Rattle.std.specs.Io.KnownBytes.{Keeps}
 use Rattle.fleet_model.specs.Program.{Program}
 use Rattle.fleet_model.specs.Machine.{Configuration, is_finished}
-use Rattle.fleet_text.specs.Sink.{SinkState, IsWorking, HasFailed, IsUnwritten}
+use Rattle.fleet_text.specs.Sink.{SinkState, IsWorking}
 use Rattle.fleet_run.specs.Source.{SourceState}
 use Rattle.fleet_run.specs.Drive.{Drives}
 use Rattle.fleet_run.specs.declared.source.SourceFault.TheVariants.{Broken, Text}

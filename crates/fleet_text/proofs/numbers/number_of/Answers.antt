@@ -1,4 +1,4 @@
-use Rattle.std.proofs.Common.{◌∙◌, rules}
+use Rattle.std.proofs.Common.{rules}
 use Rattle.fleet_text.proofs.TextLaws.{no_number, all_number, number_and_more}
 use Rattle.fleet_text.proofs.numbers.number_of.Goals as goal
 

@@ -8,7 +8,7 @@ done
 
 # Each refusal of the program has a section in docs/REFUSALS.md, with an example that ends in that refusal, and nothing else has.
 enter refusals
-sed -n 's/.*codes "\([a-z]*\)"[^"0-9]*\([0-9][0-9]*\)[^"0-9]*codes "\([A-Z][A-Za-z]*\)".*/\1 \2 \3/p' "$root/crates/fleet_io/specs/Lines.antt" |
+sed -n 's/.*codes "\([a-z]*\)"[^"0-9]*\([0-9][0-9]*\)[^"0-9]*codes "\([A-Z][A-Za-z]*\)".*/\1 \2 \3/p' "$root"/crates/*/specs/Told.antt |
     sed 's/^check 6 Conflict$//' | { cat; printf 'check 6 Conflict %s\n' Vertex Swapping Cycle; printf 'memory\nfile\n'; } | grep . | sort -u > "$work/want.out"
 : > "$work/want.err"
 
@@ -19,7 +19,7 @@ s/^\([a-z]* [0-9]* [A-Za-z]*\).*/\1/; s/^file .*/file/'
 sed -n 's/^### `\(.*\)`$/\1/p' "$root/docs/REFUSALS.md" | sed "$plain" | sort > "$work/out"
 : > "$work/err"
 status=0
-judge 'docs/REFUSALS.md has a section for each refusal, and no other' 'sections of docs/REFUSALS.md against crates/fleet_io/specs/Lines.antt' 0
+judge 'docs/REFUSALS.md has a section for each refusal, and no other' 'sections of docs/REFUSALS.md against crates/*/specs/Told.antt' 0
 
 cat "$work"/REFUSALS/*.err | sed "$plain" | sort -u > "$work/out"
 grep -v '^run 2 Source$' "$work/want.out" > "$work/want" && mv "$work/want" "$work/want.out"

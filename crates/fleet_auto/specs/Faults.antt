@@ -9,6 +9,12 @@ use Rattle.fleet_adg.specs.declared.fault.CompileFault.{CompileFault}
 use Rattle.fleet_adg.specs.declared.fault.CompileFault.TheVariants as c
 use Rattle.fleet_run.specs.declared.run.RunFault.{RunFault}
 use Rattle.fleet_run.specs.declared.run.RunFault.TheVariants as r
+use Rattle.fleet_code.specs.declared.fault.LoadFault.{LoadFault}
+use Rattle.fleet_code.specs.declared.fault.LoadFault.TheVariants as l
+use Rattle.fleet_verify.specs.declared.fault.VerifyFault.{VerifyFault}
+use Rattle.fleet_verify.specs.declared.fault.VerifyFault.TheVariants as v
+use Rattle.fleet_auto.specs.declared.fault.AcceptFault.{AcceptFault}
+use Rattle.fleet_auto.specs.declared.fault.AcceptFault.TheVariants as a
 use Rattle.fleet_auto.specs.declared.fault.AutoFault.{AutoFault}
 use Rattle.fleet_auto.specs.declared.fault.AutoFault.TheVariants.{OutOfMemory, Map, Scen, Plan, Compile, Run}
 
@@ -31,3 +37,11 @@ compile_fault fault = Compile fault
 abbrev pub run_fault : RunFault → AutoFault
 run_fault r.OutOfMemory = OutOfMemory
 run_fault fault = Run fault
+
+abbrev pub load_fault : LoadFault → AcceptFault
+load_fault l.OutOfMemory = a.OutOfMemory
+load_fault fault = a.Load fault
+
+abbrev pub verify_fault : VerifyFault → AcceptFault
+verify_fault v.OutOfMemory = a.OutOfMemory
+verify_fault fault = a.Verify fault

@@ -1,56 +1,52 @@
 //! A program of bytes, accepted for a map and an instance.
 
-ghost use Rattle.std.specs.Prelude.{IfOk, IfErr};
+ghost use Rattle.std.specs.Prelude.{◌≢◌, IfOk, IfErr};
 ghost use Rattle.fleet_model.specs.Program.{Program};
 ghost use Rattle.fleet_model.specs.Accepted.{IsAccepted};
 ghost use Rattle.fleet_grid.specs.Ground.{is_passable};
 ghost use Rattle.fleet_code.specs.Spelling.{Spells};
-ghost use Rattle.fleet_auto.specs.Accepting.{Accepts, IsAcceptFault, IsMemoryFault, AcceptsNothing};
+ghost use Rattle.fleet_auto.specs.Accepting.{Accepts, IsAcceptFault, AcceptsNothing};
 
 use crate::fault::AcceptFault;
-use fleet_code::{LoadFault, load};
+use fleet_code::{CodeView, view};
 use fleet_grid::Grid;
-use fleet_model::{OutOfMemory, Program};
+use fleet_model::OutOfMemory;
 use fleet_scen::Instance;
-use fleet_verify::{Accepted, VerifyFault, verify};
+use fleet_verify::{Accepted, verify};
 use std::alloc::Global;
 
-/// The program that the bytes spell, accepted for the map and the instance.
+/// The program that the bytes spell, read in place and accepted for the map and the instance.
 pub fn accept<'g>(
     alloc: Global,
-    bytes: &[u8],
+    bytes: &'g [u8],
     grid: &'g Grid,
     instance: &'g Instance,
-) -> Result<Accepted<'g, Program>, AcceptFault>
+) -> Result<Accepted<'g, CodeView<'g>>, AcceptFault>
     ensures accepted { IfOk result (λ a. Accepts bytes.now grid.now instance.now a.program a.chain) }
     ensures fault { IfErr result (IsAcceptFault bytes.now grid.now instance.now) }
     // What is refused for another cause than memory is not accepted.
-    ensures refused { IfErr result (λ e. (IsMemoryFault e → ⊥) → AcceptsNothing bytes.now grid.now instance.now) }
+    ensures refused { IfErr result (λ e. e ≢ AcceptFault.OutOfMemory → AcceptsNothing bytes.now grid.now instance.now) }
 {
-    let program = match load(alloc, bytes) {
-        Ok(program) => program,
-        Err(fault) => return Err(AcceptFault::Load(fault)),
-    };
+    let program = view(alloc, bytes)?;
     match verify(alloc, program, grid, instance) {
         Ok(accepted) => Ok(accepted),
-        Err(refused) => Err(AcceptFault::Verify(refused.fault)),
+        Err(refused) => Err(AcceptFault::from(refused.fault)),
     }
 }
 
 /// The same, of bytes that spell a program which is accepted for the map and the instance: refused for want of memory alone.
 pub fn accept_made<'g>(
     alloc: Global,
-    bytes: &[u8],
+    bytes: &'g [u8],
     grid: &'g Grid,
     instance: &'g Instance,
-) -> Result<Accepted<'g, Program>, OutOfMemory>
+) -> Result<Accepted<'g, CodeView<'g>>, OutOfMemory>
     requires { (p : Program) × Spells bytes.now p × IsAccepted (is_passable grid.now) instance.now p }
     ensures { IfOk result (λ a. Accepts bytes.now grid.now instance.now a.program a.chain) }
 {
     match accept(alloc, bytes, grid, instance) {
         Ok(accepted) => Ok(accepted),
-        Err(AcceptFault::Load(LoadFault::OutOfMemory)) => Err(OutOfMemory),
-        Err(AcceptFault::Verify(VerifyFault::OutOfMemory)) => Err(OutOfMemory),
+        Err(AcceptFault::OutOfMemory) => Err(OutOfMemory),
         // The bytes spell a program, and it is accepted.
         Err(_) => unreachable!(),
     }

@@ -116,10 +116,40 @@ impl From<RunFault> for AutoFault {
 /// Why bytes are not accepted as a program.
 #[derive(Debug, Drop, Error)]
 pub enum AcceptFault {
+    #[error("out of memory")]
+    OutOfMemory,
     /// The bytes spell no program.
     #[error("the bytes: {0}")]
     Load(LoadFault),
     /// The program is not safe to run for the map and the instance.
     #[error("the program: {0}")]
     Verify(VerifyFault),
+}
+
+impl From<LoadFault> for AcceptFault {
+    ghost use Rattle.std.specs.Prelude.{◌≡◌};
+    ghost use Rattle.fleet_auto.specs.Faults.{load_fault};
+
+    ghost from_gives = { λ fault r. r ≡ load_fault fault };
+
+    fn from(fault: LoadFault) -> AcceptFault {
+        match fault {
+            LoadFault::OutOfMemory => AcceptFault::OutOfMemory,
+            fault => AcceptFault::Load(fault),
+        }
+    }
+}
+
+impl From<VerifyFault> for AcceptFault {
+    ghost use Rattle.std.specs.Prelude.{◌≡◌};
+    ghost use Rattle.fleet_auto.specs.Faults.{verify_fault};
+
+    ghost from_gives = { λ fault r. r ≡ verify_fault fault };
+
+    fn from(fault: VerifyFault) -> AcceptFault {
+        match fault {
+            VerifyFault::OutOfMemory => AcceptFault::OutOfMemory,
+            fault => AcceptFault::Verify(fault),
+        }
+    }
 }

@@ -10,7 +10,7 @@ use crate::making::made_bytes;
 use crate::problem::read_problem;
 use fleet_adg::Deps;
 use fleet_code::each_spelling_has_one_program;
-use fleet_model::{Program, ProgramView};
+use fleet_model::ProgramView;
 use fleet_run::{Fleet, HoldText, Report, RunFault, TraceOut, drive};
 use fleet_verify::Accepted;
 use std::alloc::Global;
@@ -19,14 +19,14 @@ use std::alloc::Global;
 /// has the trace's numbers.
 ///
 /// Errors: `OutOfMemory` before anything is written; and else those of `drive`, but for `Source`.
-pub fn run_accepted<O: TraceOut>(
+pub fn run_accepted<P: ProgramView + Drop, O: TraceOut>(
     alloc: Global,
-    accepted: Accepted<'_, Program>,
+    accepted: Accepted<'_, P>,
     holds: &[u8],
     out: &mut O,
 ) -> Result<Report, RunFault>
     requires { IsWorking (O.state out.old) }
-    ensures { Traces accepted.entry.program accepted.entry.chain holds.now
+    ensures { Traces (P.program accepted.entry.program) accepted.entry.chain holds.now
         (O.state out.old) (O.state out.new) result }
 {
     let mut source = HoldText::new(holds, accepted.program().agents());

@@ -5,7 +5,7 @@ ghost use Rattle.fleet_model.specs.declared.geometry.Step.TheVariants.{Go};
 ghost use Rattle.fleet_code.specs.Spelling.{opcode};
 ghost use Rattle.fleet_code.specs.Reading.{move_at};
 
-use fleet_model::{Dir, Step};
+use fleet_model::{Dir, MAX_AGENTS, Step};
 
 /// What the bytes of every program begin with.
 pub const MAGIC: &[u8] = b"MPF1";
@@ -16,6 +16,12 @@ pub const AWAIT: u8 = 0x10;
 /// How many bytes stand before the first agent: the magic and the number of agents.
 pub const HEAD_LEN: usize = 6;
 
+/// How many bytes a number takes.
+pub const NUMBER_LEN: usize = 2;
+
+/// How many bytes a cell takes.
+pub const CELL_LEN: usize = 2 * NUMBER_LEN;
+
 /// How many bytes an agent takes beside its actions: two cells and the number of moves.
 pub const AGENT_LEN: usize = 10;
 
@@ -24,6 +30,9 @@ pub const AWAIT_LEN: usize = 5;
 
 /// How many bytes an action takes at least: its move.
 pub const LEAST_ACTION_LEN: usize = 1;
+
+/// How many bytes an action takes at most: an await of each agent, and its move.
+pub const MAX_ACTION_LEN: usize = AWAIT_LEN * MAX_AGENTS + 1;
 
 /// The opcode of a move in this direction.
 pub fn opcode_of(dir: Dir) -> u8

@@ -1,0 +1,269 @@
+-- Where the parts of a program stand in its bytes.
+use Rattle.std.proofs.Common.{◌≡◌, ◌≢◌, ℕ, zero, suc, ◌-◌, ◌+◌, ◌*◌, ◌/◌, ◌≤◌, ◌<◌, List, [], ◌∷◌, ◌++◌, length, take, drop, slice_get, slice_index_or, Option, Some, None, Ok, Err, refl, sym, ap, subst, ◌∙◌, append_assoc, arith, inl, inr}
+use Rattle.std.specs.List.{flat_map}
+use Rattle.std.proofs.lemmas.List.{append-nil, length-append, drop-drop, length-drop, length-take-le, drop_at, get_or-drop}
+use Rattle.std.proofs.lemmas.Option.{slice_get_cases, slice_get_within, get_or_from_slice_get}
+use Rattle.std.proofs.lemmas.List.Elements.{All-get_or}
+use Rattle.std.specs.Option.{option_map_or}
+use Rattle.std.specs.Prelude.{IsTrue}
+use Rattle.std.proofs.Math.Nat.{add-zero}
+use Rattle.fleet_model.specs.declared.geometry.Cell.{Cell}
+use Rattle.fleet_model.specs.declared.program.Await.{Await}
+use Rattle.fleet_model.specs.declared.program.Action.{Action}
+use Rattle.fleet_model.specs.declared.program.AgentProgram.{AgentProgram}
+use Rattle.fleet_model.specs.Program.{Program, actions_of, action_of, moves, start_of, goal_of, awaits_of, AreMoves}
+use Rattle.fleet_model.specs.Geometry.{is_move}
+use Rattle.fleet_code.specs.Spelling.{magic, number, cell, opcode, await, action, agent, spelling, Spells}
+use Rattle.fleet_code.specs.Offsets.{PartOffsets, StandsAt, IsViewOf, ends_of, part_of, parts_of, part_at, begin_of, end_of}
+use Rattle.fleet_code.specs.Reading.{move_at}
+use Rattle.fleet_code.proofs.RoundTrip.{move_again}
+use Rattle.fleet_code.proofs.OffsetLoop.{ends_length}
+
+-- ---- texts in bytes
+
+pub whole_stands : (text : List ℕ) → StandsAt text 0 text
+whole_stands text = ([], sym (append-nil text))
+
+pub front_stands : (bytes : List ℕ) (at : ℕ) (x y : List ℕ) → StandsAt bytes at (x ++ y) → StandsAt bytes at x
+front_stands bytes at x y h = (y ++ h.0, h.1 ∙ append_assoc x y h.0)
+
+pub back_stands : (bytes : List ℕ) (at : ℕ) (x y : List ℕ) → StandsAt bytes at (x ++ y) → StandsAt bytes (at + length x) y
+back_stands bytes at x y h = (h.0, sym (drop-drop (length x) at bytes) ∙ ap (drop (length x)) (h.1 ∙ append_assoc x y h.0) ∙ drop_at x (y ++ h.0) (length x) refl)
+
+pub stands_within : (bytes : List ℕ) (at : ℕ) (text : List ℕ) → StandsAt bytes at text → 1 ≤ length text → at + length text ≤ length bytes
+stands_within bytes at text h some =
+    let left = length-drop at bytes in
+    let same = ap length h.1 in
+    let sum = length-append text h.0 in
+    omega (arith, left, same, sum, some)
+
+some_is : {A : Type 0} {x y : A} → Some x ≡ Some y → x ≡ y
+some_is e = cc
+
+-- the piece for one of several items
+pub piece_stands : {A : Type 0} (f : A → List ℕ) (bytes : List ℕ) (at : ℕ) (xs : List A) (n : ℕ) (x : A) → StandsAt bytes at (flat_map f xs) → slice_get xs n ≡ Some x
+    → StandsAt bytes (at + length (flat_map f (take n xs))) (f x)
+piece_stands f bytes at [] n x h e = absurd cc
+piece_stands f bytes at (y ∷ xs) zero x h e =
+    let same : y ≡ x = some_is e in
+    subst (λ z. StandsAt bytes (at + 0) (f z)) same (front_stands bytes (at + 0) (f y) (flat_map f xs) (rw add-zero h))
+piece_stands f bytes at (y ∷ xs) (suc n) x h e =
+    let next = piece_stands f bytes (at + length (f y)) xs n x (back_stands bytes at (f y) (flat_map f xs) h) e in
+    let sum : at + length (f y) + length (flat_map f (take n xs)) ≡ at + length (f y ++ flat_map f (take n xs)) = let parts = length-append (f y) (flat_map f (take n xs)) in omega (arith, parts) in
+    subst (λ (k : ℕ). StandsAt bytes k (f x)) sum next
+
+-- with one item more, the pieces are longer by its piece
+pub one_more_piece : {A : Type 0} (f : A → List ℕ) (xs : List A) (n : ℕ) (x : A) → slice_get xs n ≡ Some x
+    → length (flat_map f (take (suc n) xs)) ≡ length (flat_map f (take n xs)) + length (f x)
+one_more_piece f [] n x e = absurd cc
+one_more_piece f (y ∷ xs) zero x e =
+    let same : y ≡ x = some_is e in
+    let sum = length-append (f y) [] in
+    subst (λ z. length (f y ++ []) ≡ 0 + length (f z)) same (omega (arith, sum))
+one_more_piece f (y ∷ xs) (suc n) x e =
+    let next = one_more_piece f xs n x e in
+    let longer = length-append (f y) (flat_map f (take (suc n) xs)) in
+    let long = length-append (f y) (flat_map f (take n xs)) in
+    omega (arith, next, longer, long)
+
+pub some_pieces : {A : Type 0} (f : A → List ℕ) (xs : List A) (n : ℕ) → length (flat_map f (take n xs)) ≤ length (flat_map f xs)
+some_pieces f [] zero = omega arith
+some_pieces f [] (suc n) = omega arith
+some_pieces f (y ∷ xs) zero = omega arith
+some_pieces f (y ∷ xs) (suc n) =
+    let next = some_pieces f xs n in
+    let longer = length-append (f y) (flat_map f xs) in
+    let long = length-append (f y) (flat_map f (take n xs)) in
+    omega (arith, next, longer, long)
+
+-- ---- ends and parts
+
+pub end_found : (at : ℕ) (actions : List Action) (n : ℕ) → n ≤ length actions → slice_get (at ∷ ends_of at actions) n ≡ Some (at + length (flat_map action (take n actions)))
+end_found at [] zero le = rw add-zero refl
+end_found at [] (suc n) le = absurd (omega arith)
+end_found at (a ∷ actions) zero le = rw add-zero refl
+end_found at (a ∷ actions) (suc n) le =
+    let sum : at + length (action a) + length (flat_map action (take n actions)) ≡ at + length (action a ++ flat_map action (take n actions)) = let parts = length-append (action a) (flat_map action (take n actions)) in omega (arith, parts) in
+    subst (λ (k : ℕ). slice_get (ends_of at (a ∷ actions)) n ≡ Some k) sum (end_found (at + length (action a)) actions n (omega (arith, le)))
+
+pub parts_length : (at : ℕ) (p : Program) → length (parts_of at p) ≡ length p
+parts_length at [] = refl
+parts_length at (a ∷ p) = ap suc (parts_length (at + length (agent a)) p)
+
+part_found : (at : ℕ) (p : Program) (i : ℕ) (a : AgentProgram) → slice_get p i ≡ Some a → slice_get (parts_of at p) i ≡ Some (part_of (at + length (flat_map agent (take i p))) a)
+part_found at [] i a e = absurd cc
+part_found at (b ∷ p) zero a e = let same : b ≡ a = some_is e in subst (λ z. Some (part_of at b) ≡ Some (part_of (at + 0) z)) same (rw add-zero refl)
+part_found at (b ∷ p) (suc i) a e =
+    let sum : at + length (agent b) + length (flat_map agent (take i p)) ≡ at + length (agent b ++ flat_map agent (take i p)) = let parts = length-append (agent b) (flat_map agent (take i p)) in omega (arith, parts) in
+    subst (λ (k : ℕ). slice_get (parts_of (at + length (agent b)) p) i ≡ Some (part_of k a)) sum (part_found (at + length (agent b)) p i a e)
+
+-- ---- what stands in the bytes of a program
+
+pub agent_there : (p : Program) (i : ℕ) → i < length p → (a : AgentProgram) × (slice_get p i ≡ Some a)
+agent_there p i lt = elim ((slice_get_cases p i).1) [ | inl found ↦ (found.0, found.2) | inr past ↦ (let le = past.0 in absurd (omega (arith, lt, le))) ]
+
+pub action_there : (p : Program) (i n : ℕ) → 1 ≤ n → n ≤ moves p i → (a : Action) × (action_of p i n ≡ Some a) × (slice_get (actions_of p i) (n - 1) ≡ Some a)
+action_there p i zero some le = absurd (omega arith)
+action_there p i (suc n) some le =
+    elim ((slice_get_cases (actions_of p i) n).1) [
+      | inl found ↦ (found.0, found.2, let same : suc n - 1 ≡ n = omega arith in rw same found.2)
+      | inr past ↦ (let few = past.0 in absurd (omega (arith, few, le)))
+    ]
+
+module _ {bytes : List ℕ} {p : Program} {parts : List PartOffsets} (v : IsViewOf bytes p parts) where
+  agents_stand : StandsAt bytes 6 (flat_map agent p)
+  agents_stand = rw v.spelled.spelled (back_stands (spelling p) 4 (number (length p)) (flat_map agent p) (back_stands (spelling p) 0 magic (number (length p) ++ flat_map agent p) (whole_stands (spelling p))))
+
+  agent_stands : (i : ℕ) (a : AgentProgram) → slice_get p i ≡ Some a → StandsAt bytes (begin_of p i) (agent a)
+  agent_stands i a e = piece_stands agent bytes 6 p i a agents_stand e
+
+  pub part_is : (i : ℕ) → i < length p → slice_get parts i ≡ Some (part_at p i)
+  part_is i lt =
+      let a = agent_there p i lt in
+      rw (v.parts_are, a.1) (part_found 6 p i a.0 a.1)
+
+  pub as_many_parts : length parts ≡ length p
+  as_many_parts = rw v.parts_are (parts_length 6 p)
+
+  pub start_stands : (i : ℕ) → i < length p → StandsAt bytes (begin_of p i) (cell (start_of p i))
+  start_stands i lt =
+      let a = agent_there p i lt in
+      rw a.1 (front_stands bytes (begin_of p i) (cell a.0.start) (cell a.0.goal ++ number (length a.0.actions) ++ flat_map action a.0.actions) (agent_stands i a.0 a.1))
+
+  goal_on : (i : ℕ) (a : AgentProgram) → slice_get p i ≡ Some a → StandsAt bytes (begin_of p i + 4) (cell a.goal ++ number (length a.actions) ++ flat_map action a.actions)
+  goal_on i a e = back_stands bytes (begin_of p i) (cell a.start) (cell a.goal ++ number (length a.actions) ++ flat_map action a.actions) (agent_stands i a e)
+
+  pub goal_stands : (i : ℕ) → i < length p → StandsAt bytes (begin_of p i + 4) (cell (goal_of p i))
+  goal_stands i lt =
+      let a = agent_there p i lt in
+      rw a.1 (front_stands bytes (begin_of p i + 4) (cell a.0.goal) (number (length a.0.actions) ++ flat_map action a.0.actions) (goal_on i a.0 a.1))
+
+  pub actions_stand : (i : ℕ) → i < length p → StandsAt bytes (begin_of p i + 10) (flat_map action (actions_of p i))
+  actions_stand i lt =
+      let a = agent_there p i lt in
+      let number_on = back_stands bytes (begin_of p i + 4) (cell a.0.goal) (number (length a.0.actions) ++ flat_map action a.0.actions) (goal_on i a.0 a.1) in
+      let last = back_stands bytes (begin_of p i + 4 + 4) (number (length a.0.actions)) (flat_map action a.0.actions) number_on in
+      let sum : begin_of p i + 4 + 4 + 2 ≡ begin_of p i + 10 = omega arith in
+      rw a.1 (subst (λ k. StandsAt bytes k (flat_map action a.0.actions)) sum last)
+
+  pub end_within : (i n : ℕ) → i < length p → end_of p i n ≤ length bytes
+  end_within i n lt =
+      let a = agent_there p i lt in
+      let all = stands_within bytes (begin_of p i) (agent a.0) (agent_stands i a.0 a.1) (omega arith) in
+      let some = some_pieces action a.0.actions n in
+      rw a.1 (omega (arith, all, some))
+
+  pub action_stands : (i n : ℕ) (s : Action) → i < length p → slice_get (actions_of p i) n ≡ Some s → StandsAt bytes (end_of p i n) (action s)
+  action_stands i n s lt e = piece_stands action bytes (begin_of p i + 10) (actions_of p i) n s (actions_stand i lt) e
+
+pub next_end : (p : Program) (i n : ℕ) (s : Action) → slice_get (actions_of p i) n ≡ Some s → end_of p i (suc n) ≡ end_of p i n + length (action s)
+next_end p i n s e = let more = one_more_piece action (actions_of p i) n s e in omega (arith, more)
+
+-- ---- what stands in the bytes of an action
+
+pub awaits_length : (awaits : List Await) → length (flat_map await awaits) ≡ 5 * length awaits
+awaits_length [] = refl
+awaits_length (w ∷ awaits) = let rest = awaits_length awaits in omega (arith, rest)
+
+pub action_long : (s : Action) → length (action s) ≡ 5 * length s.awaits + 1
+action_long s = let awaits = awaits_length s.awaits in let sum = length-append (flat_map await s.awaits) (opcode s.step ∷ []) in omega (arith, awaits, sum)
+
+module _ {bytes : List ℕ} {p : Program} {parts : List PartOffsets} (v : IsViewOf bytes p parts) where
+  pub await_stands : (i n k : ℕ) (s : Action) (w : Await) → i < length p → slice_get (actions_of p i) n ≡ Some s → slice_get s.awaits k ≡ Some w
+      → StandsAt bytes (end_of p i n + 5 * k) (await w)
+  await_stands i n k s w lt e f =
+      let all = front_stands bytes (end_of p i n) (flat_map await s.awaits) (opcode s.step ∷ []) (action_stands v i n s lt e) in
+      let few = slice_get_within s.awaits k w f in
+      let before : length (flat_map await (take k s.awaits)) ≡ 5 * k = awaits_length (take k s.awaits) ∙ ap (λ (n : ℕ). 5 * n) (length-take-le k s.awaits (omega (arith, few))) in
+      subst (λ (m : ℕ). StandsAt bytes (end_of p i n + m) (await w)) before (piece_stands await bytes (end_of p i n) s.awaits k w all f)
+
+  -- the last byte of an action
+  pub opcode_stands : (i n : ℕ) (s : Action) → i < length p → slice_get (actions_of p i) n ≡ Some s → StandsAt bytes (end_of p i (suc n) - 1) (opcode s.step ∷ [])
+  opcode_stands i n s lt e =
+      let next = next_end p i n s e in
+      let long = action_long s in
+      let awaits = awaits_length s.awaits in
+      let same : end_of p i n + length (flat_map await s.awaits) ≡ end_of p i (suc n) - 1 = omega (arith, next, long, awaits) in
+      subst (λ (m : ℕ). StandsAt bytes m (opcode s.step ∷ [])) same (back_stands bytes (end_of p i n) (flat_map await s.awaits) (opcode s.step ∷ []) (action_stands v i n s lt e))
+
+-- the byte that stands there
+pub byte_is : (bytes : List ℕ) (at b d : ℕ) → StandsAt bytes at (b ∷ []) → slice_index_or bytes at d ≡ b
+byte_is bytes at b d h =
+    let moved : slice_index_or (drop at bytes) 0 d ≡ slice_index_or bytes at d = get_or-drop at bytes 0 d ∙ ap (λ (k : ℕ). slice_index_or bytes k d) (add-zero at) in
+    sym moved ∙ ap (λ (text : List ℕ). slice_index_or text 0 d) h.1
+
+-- the view of a program is that of what its bytes spell
+pub viewed : {bytes : List ℕ} {p q : Program} {parts : List PartOffsets} → p ≡ q → IsViewOf bytes p parts → IsViewOf bytes q parts
+viewed {bytes = bytes} {parts = parts} same v = subst (λ (r : Program). IsViewOf bytes r parts) same v
+
+pub end_is : (p : Program) (i n begin : ℕ) (offsets : List ℕ) → begin ≡ begin_of p i + 10 → offsets ≡ 0 ∷ ends_of 0 (actions_of p i) → n ≤ moves p i
+    → begin + slice_index_or offsets n 0 ≡ end_of p i n
+end_is p i n begin offsets e f le =
+    let found = get_or_from_slice_get (0 ∷ ends_of 0 (actions_of p i)) n _ 0 (end_found 0 (actions_of p i) n le) in
+    let read : slice_index_or offsets n 0 ≡ 0 + length (flat_map action (take n (actions_of p i))) = ap (λ (o : List ℕ). slice_index_or o n 0) f ∙ found in
+    omega (arith, e, read)
+
+-- ---- the answers
+
+module _ {bytes : List ℕ} {p : Program} {parts : List PartOffsets} (v : IsViewOf bytes p parts) where
+  -- action n of agent i ends with its opcode
+  pub action_read : (i n : ℕ) → i < length p → 1 ≤ n → n ≤ moves p i → (s : Action) × (action_of p i n ≡ Some s) × StandsAt bytes (end_of p i n - 1) (opcode s.step ∷ [])
+  action_read i zero lt some le = absurd (omega arith)
+  action_read i (suc n) lt some le =
+      let s = action_there p i (suc n) some le in
+      let same : suc n - 1 ≡ n = omega arith in
+      (s.0, s.1, opcode_stands v i n s.0 lt (rw same at s.2))
+
+  pub is_a_move : (i n : ℕ) (s : Action) → i < length p → action_of p i n ≡ Some s → IsTrue (is_move s.step)
+  is_a_move i zero s lt e = absurd cc
+  is_a_move i (suc n) s lt e =
+      let a = agent_there p i lt in
+      let there : slice_get a.0.actions n ≡ Some s = rw a.1 at e in
+      let moves = subst (λ (b : AgentProgram). AreMoves b.actions) (get_or_from_slice_get p i a.0 a.0 a.1) (All-get_or (λ (b : AgentProgram). AreMoves b.actions) p i a.0 lt v.spelled.moves) in
+      subst (λ (b : Action). IsTrue (is_move b.step)) (get_or_from_slice_get a.0.actions n s s there) (All-get_or (λ (b : Action). IsTrue (is_move b.step)) a.0.actions n s (slice_get_within a.0.actions n s there) moves)
+
+  -- await k of action n of agent i is there
+  pub await_read : (i n k : ℕ) → i < length p → 1 ≤ n → n ≤ moves p i → k < length (awaits_of p i n)
+      → (w : Await) × (slice_get (awaits_of p i n) k ≡ Some w) × (w.agent < 65536) × (w.count < 65536) × StandsAt bytes (end_of p i (n - 1) + 5 * k) (await w)
+  await_read i n k lt some le within =
+      let s = action_there p i n some le in
+      let same : awaits_of p i n ≡ s.0.awaits = ap (λ (o : Option Action). option_map_or (λ a. a.awaits) o []) s.1 in
+      elim ((slice_get_cases (awaits_of p i n) k).1) [
+        | inl found ↦ (
+            let w = found.0 in
+            let right = v.spelled.well_formed.awaits i n in
+            let few = v.spelled.well_formed.few_agents in
+            let agent : w.agent < length p = subst (λ (w : Await). w.agent < length p) found.3 (All-get_or (λ (w : Await). w.agent < length p) (awaits_of p i n) k w within right.agents) in
+            let count : w.count ≤ 65535 = subst (λ (w : Await). w.count ≤ 65535) found.3 (All-get_or (λ (w : Await). w.count ≤ 65535) (awaits_of p i n) k w within right.few) in
+            (w, found.2, omega (arith, agent, few), omega (arith, count), await_stands v i (n - 1) k s.0 w lt s.2 (rw same at found.2)))
+        | inr past ↦ (let over = past.0 in absurd (omega (arith, over, within)))
+      ]
+
+  -- the byte there is the opcode of action n of agent i, which is a move
+  pub opcode_read : (i n at : ℕ) (s : Action) → i < length p → action_of p i n ≡ Some s → at ≡ end_of p i n - 1 → StandsAt bytes (end_of p i n - 1) (opcode s.step ∷ [])
+      → move_at (slice_index_or bytes at 0) ≡ Some s.step
+  opcode_read i n at s lt e f there = ap move_at (ap (λ (k : ℕ). slice_index_or bytes k 0) f ∙ byte_is bytes (end_of p i n - 1) (opcode s.step) 0 there) ∙ move_again s.step (is_a_move i n s lt e)
+
+pub some_is_not_none : {A : Type 0} {x : A} → Some x ≡ None → ⊥
+some_is_not_none e = absurd cc
+
+-- action n of agent i has five bytes for each await and one for its step
+action_ends : (p : Program) (i n : ℕ) → 1 ≤ n → n ≤ moves p i → (s : Action) × (action_of p i n ≡ Some s) × (end_of p i n ≡ end_of p i (n - 1) + (5 * length s.awaits + 1))
+action_ends p i zero some le = absurd (omega arith)
+action_ends p i (suc n) some le =
+    let s = action_there p i (suc n) some le in
+    let same : suc n - 1 ≡ n = omega arith in
+    let long = action_long s.0 in
+    let next = next_end p i n s.0 (rw same at s.2) in
+    (s.0, s.1, rw same (omega (arith, next, long)))
+
+pub ends_rise : (p : Program) (i n end before : ℕ) → 1 ≤ n → n ≤ moves p i → end ≡ end_of p i n → before ≡ end_of p i (n - 1) → before ≤ end
+ends_rise p i n end before some le e f = let more = (action_ends p i n some le).2 in omega (arith, more, e, f)
+
+pub as_many_awaits : (p : Program) (i n end before : ℕ) → 1 ≤ n → n ≤ moves p i → end ≡ end_of p i n → before ≡ end_of p i (n - 1) → (end - before) / 5 ≡ length (awaits_of p i n)
+as_many_awaits p i n end before some le e f =
+    let s = action_ends p i n some le in
+    let more = s.2 in
+    let same : awaits_of p i n ≡ s.0.awaits = ap (λ (o : Option Action). option_map_or (λ a. a.awaits) o []) s.1 in
+    let len = ap length same in
+    omega (arith, more, len, e, f)

@@ -1,0 +1,29 @@
+use Rattle.std.proofs.Common.{◌≡◌, ◌-◌, ◌∷◌, [], ◌∙◌, ap, sym, arith, ℕ, Option}
+use Rattle.fleet_model.specs.declared.geometry.Step.{Step}
+use Rattle.fleet_model.specs.declared.program.Action.{Action}
+use Rattle.std.specs.Prelude.{option_map}
+use Rattle.fleet_code.specs.Spelling.{opcode}
+use Rattle.fleet_code.specs.Offsets.{end_of}
+use Rattle.fleet_code.proofs.InPlace.{viewed, action_read, opcode_read, some_is_not_none, stands_within}
+use Rattle.fleet_code.proofs.code_view.CodeViewProgramView.step.Goals as goal
+
+pub bounds-self-inside-end : goal.bounds-self-inside-end
+bounds-self-inside-end c =
+    let read = action_read (viewed c.self.view_is c.self.invariant) c.args.i c.args.p c.requires.agent c.requires.first c.requires.last in
+    let within = stands_within c.self.inside.bytes.now (end_of c.args.self.now c.args.i c.args.p - 1) (opcode read.0.step ∷ []) read.2 (omega arith) in
+    let end = c.end.ensures.value in
+    omega (arith, within, end)
+
+pub unreachable-requires : goal.unreachable-requires
+unreachable-requires c =
+    let v = viewed c.self.view_is c.self.invariant in
+    let read = action_read v c.args.i c.args.p c.requires.agent c.requires.first c.requires.last in
+    let is = opcode_read v c.args.i c.args.p (c.end.result - 1) read.0 c.requires.agent read.1 (ap (λ (n : ℕ). n - 1) c.end.ensures.value) read.2 in
+    some_is_not_none (sym is ∙ sym c.move_of.ensures ∙ c.in-None.is)
+
+pub returns : goal.returns
+returns c =
+    let v = viewed c.self.view_is c.self.invariant in
+    let read = action_read v c.args.i c.args.p c.requires.agent c.requires.first c.requires.last in
+    let is = opcode_read v c.args.i c.args.p (c.end.result - 1) read.0 c.requires.agent read.1 (ap (λ (n : ℕ). n - 1) c.end.ensures.value) read.2 in
+    ap (λ (o : Option Action). option_map (λ a. a.step) o) read.1 ∙ sym is ∙ sym c.move_of.ensures ∙ c.in-Some.is

@@ -1,0 +1,31 @@
+use Rattle.std.proofs.Common.{◌≡◌, ◌∙◌, suc, sym, ap, arith, length, List, ℕ}
+use Rattle.std.proofs.lemmas.Result.{err_from_is_err_and}
+use Rattle.fleet_code.proofs.OffsetLoop.{parts_found, parts_failed, part_goes_on, part_fails, parts_done, ends_length}
+use Rattle.fleet_code.specs.Offsets.{PartOffsets}
+use Rattle.fleet_code.proofs.offsets.agents_after.Goals as goal
+
+pub returns-in_err-part-clause-value : goal.returns-in_err-part-clause-value
+returns-in_err-part-clause-value c =
+    let p = err_from_is_err_and c.from_residual-in_err-part.result c.from_residual-in_err-part.ensures.1 in
+    rw (p.1, p.2) (λ other. parts_failed _ _ c.in_err-part.field-0.0 (part_fails c.loop-own.invariant.so_far c.in_err-part.field-0.0 c.loop-own-test.true (c.in_err-part.ensures.value other)))
+
+pub loop-own-preserved : goal.loop-own-preserved
+loop-own-preserved c =
+    let found = c.in_ok-part.ensures.value in
+    let shorter = c.loop-own.invariant.shorter in
+    let whole = c.requires.whole in
+    let long = found.2.2 in
+    let less = c.in_ok-part.ensures.total in
+    let counted : length c.offsets.result.now ≡ suc (length found.0.0.actions) = ap length c.offsets.ensures ∙ ap (λ (p : PartOffsets). length p.offsets) found.2.0 ∙ ap suc (ends_length 0 found.0.0.actions) in
+    let same : length c.offsets.result.now ≡ length c.in_ok-part.part.offsets = ap length c.offsets.ensures in
+    record {
+      so_far = rw c.in_ok-push.ensures.items
+          (part_goes_on c.loop-own.invariant.so_far found.0 c.in_ok-part.after.now _ _ _ c.loop-own-test.true found.1 found.2.1 found.2.0 (omega (arith, counted)) (omega (arith, whole, shorter, long)));
+      few = omega (arith, less, same);
+      shorter = omega (arith, shorter, long);
+    }
+
+pub returns-clause-value : goal.returns-clause-value
+returns-clause-value c =
+    let found = parts_found _ _ c.loop-own.parts.items c.loop-own.rest.now (parts_done c.loop-own.invariant.so_far c.loop-own-test.false) in
+    (found.0, found.1, (found.2, found.3))

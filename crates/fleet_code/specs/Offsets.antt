@@ -1,0 +1,71 @@
+-- Where the parts of a program stand in its bytes.
+use Rattle.std.specs.Prelude.{◌≡◌, ◌≢◌, ℕ, ◌+◌, List, [], ◌∷◌, ◌++◌, length, take, drop, Result, Ok, Err}
+use Rattle.std.specs.List.{flat_map}
+use Rattle.std.specs.Result.{result_unwrap_or}
+use Rattle.fleet_model.specs.declared.program.Action.{Action}
+use Rattle.fleet_model.specs.declared.program.AgentProgram.{AgentProgram}
+use Rattle.fleet_model.specs.Program.{Program, actions_of}
+use Rattle.fleet_code.specs.declared.fault.LoadFault.{LoadFault}
+use Rattle.fleet_code.specs.declared.fault.LoadFault.TheVariants.{OutOfMemory}
+use Rattle.fleet_code.specs.declared.format.TheConstants.{HEAD_LEN, AGENT_LEN}
+use Rattle.fleet_code.specs.Spelling.{action, agent, Spells}
+use Rattle.fleet_code.specs.Reading.{Field, program_at}
+
+-- where an agent's actions begin in the bytes; and where each of them begins, counted from there, and last where the last one ends
+pub record PartOffsets : Type 0 where
+  pub begin : ℕ
+  pub offsets : List ℕ
+
+-- where each of these actions ends, if the first of them begins there
+abbrev pub ends_of : ℕ → List Action → List ℕ
+ends_of at [] = []
+ends_of at (a ∷ actions) = (at + length (action a)) ∷ ends_of (at + length (action a)) actions
+
+-- the part of an agent that begins there: two cells and a number stand before its actions
+abbrev pub part_of : ℕ → AgentProgram → PartOffsets
+part_of at a = record { begin = at + 10; offsets = 0 ∷ ends_of 0 a.actions }
+
+-- the parts of these agents, if the first of them begins there
+abbrev pub parts_of : ℕ → Program → List PartOffsets
+parts_of at [] = []
+parts_of at (a ∷ p) = part_of at a ∷ parts_of (at + length (agent a)) p
+
+-- the actions, one after the other, with their ends after the offsets that are known
+abbrev pub with_ends : List ℕ → ℕ → Field (List Action) → Field (List ℕ)
+with_ends known at (Ok x) = Ok (known ++ ends_of at x.0, x.1)
+with_ends known at (Err f) = Err f
+
+-- the agents, one after the other, with their parts after those that are known
+abbrev pub with_parts : List PartOffsets → ℕ → Field Program → Field (List PartOffsets)
+with_parts known at (Ok x) = Ok (known ++ parts_of at x.0, x.1)
+with_parts known at (Err f) = Err f
+
+-- the result stands so to the one that is due, unless memory ran out
+abbrev pub Finds : {X Y : Type 0} → (X → Y → Type 0) → Result X LoadFault → Result Y LoadFault → Type 0
+Finds {Y = Y} stands (Ok x) due = (y : Y) × (due ≡ Ok y) × stands x y
+Finds stands (Err e) due = e ≢ OutOfMemory → due ≡ Err e
+
+-- the text stands there in the bytes
+abbrev pub StandsAt : List ℕ → ℕ → List ℕ → Type 0
+StandsAt bytes at text = (rest : List ℕ) × (drop at bytes ≡ text ++ rest)
+
+-- where agent i begins in the spelling of p
+abbrev pub begin_of : Program → ℕ → ℕ
+begin_of p i = HEAD_LEN + length (flat_map agent (take i p))
+
+-- where the first n actions of agent i end in the spelling of p
+abbrev pub end_of : Program → ℕ → ℕ → ℕ
+end_of p i n = begin_of p i + AGENT_LEN + length (flat_map action (take n (actions_of p i)))
+
+-- the part of agent i
+abbrev pub part_at : Program → ℕ → PartOffsets
+part_at p i = record { begin = begin_of p i + AGENT_LEN; offsets = 0 ∷ ends_of 0 (actions_of p i) }
+
+-- the program that the bytes spell, if they spell one
+abbrev pub program_in : List ℕ → Program
+program_in bytes = result_unwrap_or (program_at bytes) []
+
+-- the bytes spell the program, whose parts these are
+pub record IsViewOf (bytes : List ℕ) (p : Program) (parts : List PartOffsets) : Type 0 where
+  pub spelled : Spells bytes p
+  pub parts_are : parts ≡ parts_of HEAD_LEN p

@@ -1,0 +1,190 @@
+//! Where the parts of a program stand in its bytes: the one pass that judges them.
+
+ghost use Rattle.std.specs.Prelude.{◌≡◌, ◌<◌, ◌≤◌, ◌+◌, ◌-◌, ◌/◌, ◌∷◌, [], min, length, vec_len, vec_capacity, IfOk};
+ghost use Rattle.fleet_code.specs.Spelling.{action, agent};
+ghost use Rattle.fleet_code.specs.Reading.{action_at, actions_at, agent_at, agents_at, program_at};
+ghost use Rattle.fleet_code.specs.Offsets.{Finds, ends_of, part_of, parts_of};
+
+use crate::fault::LoadFault;
+use crate::fields::{after_magic, await_of, cell_of, number_of};
+use crate::format::{AGENT_LEN, AWAIT, HEAD_LEN, LEAST_ACTION_LEN, MAX_ACTION_LEN, move_of};
+use fleet_model::{MAX_AGENTS, MAX_MOVES_IN_ALL};
+use std::alloc::{AllocError, Global};
+use std::marker::Model;
+
+/// Where the actions of an agent stand in the bytes of a program.
+#[derive(Debug, Drop)]
+pub struct Part {
+    begin: usize,
+    offsets: Vec<u32>,
+}
+
+impl Model for Part {
+    ghost use Rattle.fleet_code.specs.Offsets.{PartOffsets};
+
+    ghost Value = { PartOffsets };
+
+    ghost view = { λ p. record { begin = p.begin; offsets = p.offsets.items } };
+}
+
+impl Part {
+    ghost use Rattle.std.specs.Prelude.{slice_get, Some, get_or};
+
+    /// The offset in the bytes at which the actions begin.
+    pub fn begin(&self) -> usize
+        ensures { result ≡ self.now.begin }
+    {
+        self.begin
+    }
+
+    /// Where each action begins, counted from the first, and last where the last one ends.
+    pub fn offsets(&self) -> &[u32]
+        ensures { result.now ≡ self.now.offsets }
+    {
+        &self.offsets
+    }
+}
+
+/// An empty list with room for `count` items of at least `item_len` bytes each, but for no more than the bytes can hold,
+/// and for one item more.
+fn list_for<T>(
+    alloc: Global,
+    count: u16,
+    item_len: usize,
+    bytes: &[u8],
+) -> Result<Vec<T>, AllocError>
+    requires { 0 < item_len }
+    ensures items { IfOk result (λ v. v.items ≡ []) }
+    ensures len { IfOk result (λ v. vec_len v ≡ 0) }
+    ensures room { IfOk result (λ v. vec_capacity v ≡ min count (length bytes.now / item_len) + 1) }
+{
+    Vec::with_capacity(alloc, usize::from(count).min(bytes.len() / item_len) + 1)
+}
+
+/// The bytes after an action of agent `own`, whose awaits and move are judged.
+fn after_action(whole: usize, agents: u16, own: u16, bytes: &[u8]) -> Result<&[u8], LoadFault>
+    requires whole { length bytes.now ≤ whole }
+    requires few { agents ≤ MAX_AGENTS }
+    ensures value { Finds
+        (λ x due. (x.now ≡ due.1) × (length bytes.now ≡ length (action due.0) + length x.now))
+        result (action_at (length bytes.now) whole agents own 0 bytes.now) }
+    ensures long { IfOk result (λ x. length bytes.now ≤ length x.now + MAX_ACTION_LEN) }
+{
+    let mut least = 0;
+    let mut rest = bytes;
+    while let Some((&opcode, after)) = rest.split_first() {
+        let at = (whole - rest.len()) as u64;
+        if let Some(_) = move_of(opcode) {
+            return Ok(after);
+        }
+        if opcode != AWAIT {
+            return Err(LoadFault::Opcode { at });
+        }
+        let (one, after) = await_of(at, agents, own, least, after)?;
+        least = one.agent + 1;
+        rest = after;
+    }
+    Err(LoadFault::Truncated)
+}
+
+/// Where each of the next `count` actions of agent `own` begins, counted from here, and last where the last one ends.
+fn actions_after(
+    alloc: Global,
+    whole: usize,
+    agents: u16,
+    own: u16,
+    count: u16,
+    bytes: &[u8],
+) -> Result<(Vec<u32>, &[u8]), LoadFault>
+    requires whole { length bytes.now ≤ whole }
+    requires few { agents ≤ MAX_AGENTS }
+    ensures value { Finds (λ x due. (x.0.items ≡ 0 ∷ ends_of 0 due.0) × (x.1.now ≡ due.1))
+        result (actions_at count whole agents own bytes.now) }
+    ensures count { IfOk result (λ x. vec_len x.0 ≡ count + 1) }
+{
+    let mut offsets = list_for(alloc, count, LEAST_ACTION_LEN, bytes)?;
+    offsets.push(0)?;
+    let mut rest = bytes;
+    for _ in 0..count {
+        rest = after_action(whole, agents, own, rest)?;
+        offsets.push((bytes.len() - rest.len()) as u32)?;
+    }
+    Ok((offsets, rest))
+}
+
+/// The part of agent `own`, where the agents before it have `total` moves.
+#[tactic(auto, unfolding(crate::specs::Reading::agent_at))]
+fn agent_after(
+    alloc: Global,
+    whole: usize,
+    agents: u16,
+    own: u16,
+    total: u32,
+    bytes: &[u8],
+) -> Result<(Part, &[u8]), LoadFault>
+    requires whole { length bytes.now ≤ whole }
+    requires few { agents ≤ MAX_AGENTS }
+    requires total { total ≤ MAX_MOVES_IN_ALL }
+    ensures value { Finds
+        (λ x due. (x.0 ≡ part_of (whole - length bytes.now) due.0) × (x.1.now ≡ due.1)
+            × (length bytes.now ≡ length (agent due.0) + length x.1.now))
+        result (agent_at whole agents own total bytes.now) }
+    ensures total { IfOk result (λ x. total + length x.0.offsets ≤ MAX_MOVES_IN_ALL + 1) }
+    ensures some { IfOk result (λ x. 1 ≤ length x.0.offsets) }
+{
+    let (_, rest) = cell_of(bytes)?;
+    let (_, rest) = cell_of(rest)?;
+    let (count, rest) = number_of(rest)?;
+    if total + u32::from(count) > MAX_MOVES_IN_ALL {
+        return Err(LoadFault::Total);
+    }
+    let begin = whole - rest.len();
+    let (offsets, rest) = actions_after(alloc, whole, agents, own, count, rest)?;
+    Ok((Part { begin, offsets }, rest))
+}
+
+/// The parts of all `agents` agents. The input has `whole` bytes, of which these are left.
+fn agents_after(
+    alloc: Global,
+    whole: usize,
+    agents: u16,
+    bytes: &[u8],
+) -> Result<(Vec<Part>, &[u8]), LoadFault>
+    requires whole { length bytes.now ≤ whole }
+    requires few { agents ≤ MAX_AGENTS }
+    ensures value { Finds
+        (λ x due. (x.0.items ≡ parts_of (whole - length bytes.now) due.0) × (x.1.now ≡ due.1))
+        result (agents_at agents whole agents 0 0 bytes.now) }
+    ensures shorter { IfOk result (λ x. length x.1.now ≤ length bytes.now) }
+{
+    let mut parts = list_for(alloc, agents, AGENT_LEN, bytes)?;
+    let mut total = 0;
+    let mut rest = bytes;
+    for own in 0..agents {
+        let (part, after) = agent_after(alloc, whole, agents, own, total, rest)?;
+        total += part.offsets().len() as u32 - 1;
+        parts.push(part)?;
+        rest = after;
+    }
+    Ok((parts, rest))
+}
+
+/// The parts of the program that the bytes spell, all of the bytes.
+///
+/// A number that the bytes announce reserves no more than the bytes that are there can fill.
+#[tactic(auto, unfolding(crate::specs::Reading::program_at))]
+pub fn parts_in(alloc: Global, bytes: &[u8]) -> Result<Vec<Part>, LoadFault>
+    ensures { Finds (λ v due. v.items ≡ parts_of HEAD_LEN due) result (program_at bytes.now) }
+{
+    let rest = after_magic(bytes)?;
+    let (agents, rest) = number_of(rest)?;
+    if agents == 0 || usize::from(agents) > MAX_AGENTS {
+        return Err(LoadFault::AgentCount);
+    }
+    let (parts, rest) = agents_after(alloc, bytes.len(), agents, rest)?;
+    if !rest.is_empty() {
+        let at = (bytes.len() - rest.len()) as u64;
+        return Err(LoadFault::Trailing { at });
+    }
+    Ok(parts)
+}

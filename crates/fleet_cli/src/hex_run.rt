@@ -5,7 +5,7 @@ ghost use Rattle.fleet_text.specs.Sink.{IsWorking};
 ghost use Rattle.fleet_cli.specs.HexRun.{DoesHex, IsRefusalOf, RunsHex};
 
 use crate::rehearse_command::end_status;
-use fleet_code::{load, read_hex};
+use fleet_code::{read_hex, view};
 use fleet_io::{Fault, FileFault, finish, read_whole, rehearse_flushed};
 use fleet_run::{Flush, HoldList, TraceOut};
 use std::alloc::Global;
@@ -31,7 +31,7 @@ fn rehearse_hex<R: Read, O: Flush>(
         Ok(bytes) => bytes,
         Err(fault) => return Err(Fault::Hex(fault)),
     };
-    let program = match load(alloc, &bytes) {
+    let program = match view(alloc, &bytes) {
         Ok(program) => program,
         Err(fault) => return Err(Fault::Load(fault)),
     };

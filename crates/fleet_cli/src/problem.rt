@@ -6,9 +6,9 @@ ghost use Rattle.fleet_auto.specs.Accepting.{Accepts};
 ghost use Rattle.fleet_cli.specs.Problem.{IsProblemRefusal, IsAcceptRefusal};
 
 use fleet_auto::Problem;
+use fleet_code::CodeView;
 use fleet_grid::Grid;
 use fleet_io::Fault;
-use fleet_model::Program;
 use fleet_scen::Instance;
 use fleet_verify::Accepted;
 use std::alloc::Global;
@@ -26,13 +26,13 @@ pub fn read_problem<'a>(
     Ok(fleet_auto::read_problem(alloc, map, scen, asked)?)
 }
 
-/// The program that the bytes spell, accepted for the map and the instance.
+/// The program that the bytes spell, read in place and accepted for the map and the instance.
 pub fn accept<'g, 'a>(
     alloc: Global,
-    bytes: &[u8],
+    bytes: &'g [u8],
     grid: &'g Grid,
     instance: &'g Instance,
-) -> Result<Accepted<'g, Program>, Fault<'a>>
+) -> Result<Accepted<'g, CodeView<'g>>, Fault<'a>>
     ensures accepted { IfOk result (λ a. Accepts bytes.now grid.now instance.now a.program a.chain) }
     ensures fault { IfErr result (IsAcceptRefusal bytes.now grid.now instance.now) }
 {

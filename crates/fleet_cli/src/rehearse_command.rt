@@ -8,7 +8,7 @@ ghost use Rattle.fleet_files.specs.Files.{IsKept};
 ghost use Rattle.fleet_cli.specs.RehearseCommand.{RehearsesBytes, IsRehearseFault, DoesRehearse, RefusesRehearse};
 
 use fleet_args::RehearseRequest;
-use fleet_code::load;
+use fleet_code::view;
 use fleet_io::{Fault, Files, read_with_holds, rehearse_flushed};
 use fleet_model::ProgramView;
 use fleet_run::{End, Flush, HoldText};
@@ -36,7 +36,7 @@ fn rehearse_bytes<'a, O: Flush>(
         (λ status. (end : End) × RehearsesBytes bytes.now held.now (O.state out.old) (O.state out.new) end × (status ≡ end_status end))
         (IsRehearseFault bytes.now held.now (O.state out.old) (O.state out.new)) }
 {
-    let program = match load(alloc, bytes) {
+    let program = match view(alloc, bytes) {
         Ok(program) => program,
         Err(fault) => return Err(Fault::Load(fault)),
     };

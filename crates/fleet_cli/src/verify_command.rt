@@ -9,15 +9,18 @@ use crate::output::print_report;
 use crate::problem::{accept, read_problem};
 use fleet_args::VerifyRequest;
 use fleet_io::{Fault, Files, read_files};
-use fleet_model::{Program, ProgramView, total_awaits, total_moves};
+use fleet_model::{ProgramView, total_awaits, total_moves};
 use fleet_run::{Flush, OutFault};
 use fleet_verify::Accepted;
 use std::alloc::Global;
 
 /// Prints that the program is accepted, with its numbers.
-fn print_accepted<O: Flush>(out: &mut O, accepted: &Accepted<'_, Program>) -> Result<(), OutFault>
+fn print_accepted<P: ProgramView, O: Flush>(
+    out: &mut O,
+    accepted: &Accepted<'_, P>,
+) -> Result<(), OutFault>
     requires { IsWorking (O.state out.old) }
-    ensures { Delivers (O.state out.old) (O.state out.new) result (accepted_text accepted.now.program accepted.now.chain) }
+    ensures { Delivers (O.state out.old) (O.state out.new) result (accepted_text (P.program accepted.now.program) accepted.now.chain) }
 {
     let program = accepted.program();
     print_report(

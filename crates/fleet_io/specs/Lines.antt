@@ -66,5 +66,6 @@ step_fault (a.Run fault) = f.Run fault
 
 -- the same, of a fault of bytes that are not accepted
 abbrev pub accept_fault : AcceptFault → Fault
+accept_fault b.OutOfMemory = f.Memory
 accept_fault (b.Load fault) = f.Load fault
 accept_fault (b.Verify fault) = f.Verify fault

@@ -61,6 +61,7 @@ impl From<AcceptFault> for Fault<'_> {
 
     fn from(fault: AcceptFault) -> Self {
         match fault {
+            AcceptFault::OutOfMemory => Fault::Memory,
             AcceptFault::Load(fault) => Fault::Load(fault),
             AcceptFault::Verify(fault) => Fault::Verify(fault),
         }

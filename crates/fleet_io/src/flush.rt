@@ -6,7 +6,7 @@ ghost use Rattle.fleet_io.specs.Flushed.{FlushesRun, RehearsesFlushed};
 ghost use Rattle.fleet_io.specs.Traced.{TracesFlushed};
 
 use fleet_auto::run_accepted;
-use fleet_model::{Program, ProgramView};
+use fleet_model::ProgramView;
 use fleet_run::{Flush, HoldSource, OutFault, Rehearsal, Report, RunFault, put_all, rehearse};
 use fleet_verify::Accepted;
 use std::alloc::Global;
@@ -49,14 +49,14 @@ pub fn rehearse_flushed<P: ProgramView, S: HoldSource, O: Flush>(
 }
 
 /// Runs an accepted program, under the holds for which the bytes stand, writes its trace, and has the sink hand it on.
-pub fn run_flushed<O: Flush>(
+pub fn run_flushed<P: ProgramView + Drop, O: Flush>(
     alloc: Global,
-    accepted: Accepted<'_, Program>,
+    accepted: Accepted<'_, P>,
     holds: &[u8],
     out: &mut O,
 ) -> Result<Report, RunFault>
     requires { IsWorking (O.state out.old) }
-    ensures { TracesFlushed accepted.entry.program accepted.entry.chain holds.now
+    ensures { TracesFlushed (P.program accepted.entry.program) accepted.entry.chain holds.now
         (O.state out.old) (O.state out.new) result }
 {
     let ran = run_accepted(alloc, accepted, holds, out);

@@ -1,5 +1,5 @@
 -- Where the parts of a program stand in its bytes.
-use Rattle.std.proofs.Common.{◌≡◌, ◌≢◌, ℕ, zero, suc, ◌-◌, ◌+◌, ◌*◌, ◌/◌, ◌≤◌, ◌<◌, List, [], ◌∷◌, ◌++◌, length, take, drop, slice_get, slice_index_or, Option, Some, None, Ok, Err, refl, sym, ap, subst, ◌∙◌, append_assoc, arith, inl, inr}
+use Rattle.std.proofs.Common.{◌≡◌, ℕ, zero, suc, ◌-◌, ◌+◌, ◌*◌, ◌/◌, ◌≤◌, ◌<◌, List, [], ◌∷◌, ◌++◌, length, take, drop, slice_get, slice_index_or, Option, Some, None, refl, sym, ap, subst, ◌∙◌, append_assoc, arith, inl, inr}
 use Rattle.std.specs.List.{flat_map}
 use Rattle.std.proofs.lemmas.List.{append-nil, length-append, drop-drop, length-drop, length-take-le, drop_at, get_or-drop}
 use Rattle.std.proofs.lemmas.Option.{slice_get_cases, slice_get_within, get_or_from_slice_get}
@@ -7,17 +7,15 @@ use Rattle.std.proofs.lemmas.List.Elements.{All-get_or}
 use Rattle.std.specs.Option.{option_map_or}
 use Rattle.std.specs.Prelude.{IsTrue}
 use Rattle.std.proofs.Math.Nat.{add-zero}
-use Rattle.fleet_model.specs.declared.geometry.Cell.{Cell}
 use Rattle.fleet_model.specs.declared.program.Await.{Await}
 use Rattle.fleet_model.specs.declared.program.Action.{Action}
 use Rattle.fleet_model.specs.declared.program.AgentProgram.{AgentProgram}
 use Rattle.fleet_model.specs.Program.{Program, actions_of, action_of, moves, start_of, goal_of, awaits_of, AreMoves}
 use Rattle.fleet_model.specs.Geometry.{is_move}
-use Rattle.fleet_code.specs.Spelling.{magic, number, cell, opcode, await, action, agent, spelling, Spells}
+use Rattle.fleet_code.specs.Spelling.{magic, number, cell, opcode, await, action, agent, spelling}
 use Rattle.fleet_code.specs.Offsets.{PartOffsets, StandsAt, IsViewOf, ends_of, part_of, parts_of, part_at, begin_of, end_of}
 use Rattle.fleet_code.specs.Reading.{move_at}
 use Rattle.fleet_code.proofs.RoundTrip.{move_again}
-use Rattle.fleet_code.proofs.OffsetLoop.{ends_length}
 
 -- ---- texts in bytes
 
@@ -100,7 +98,7 @@ part_found at (b ∷ p) (suc i) a e =
 -- ---- what stands in the bytes of a program
 
 pub agent_there : (p : Program) (i : ℕ) → i < length p → (a : AgentProgram) × (slice_get p i ≡ Some a)
-agent_there p i lt = elim ((slice_get_cases p i).1) [ | inl found ↦ (found.0, found.2) | inr past ↦ (let le = past.0 in absurd (omega (arith, lt, le))) ]
+agent_there p i lt = elim ((slice_get_cases p i).1) [ inl found ↦ (found.0, found.2) | inr past ↦ (let le = past.0 in absurd (omega (arith, lt, le))) ]
 
 pub action_there : (p : Program) (i n : ℕ) → 1 ≤ n → n ≤ moves p i → (a : Action) × (action_of p i n ≡ Some a) × (slice_get (actions_of p i) (n - 1) ≡ Some a)
 action_there p i zero some le = absurd (omega arith)

@@ -47,7 +47,7 @@ module _ {whole n i count k : ℕ} {bytes known : List ℕ} {at : ℕ} {due : Fi
   after_one x lt read =
       let e : count - k ≡ suc (count - (k + 1)) = omega arith in
       let one : with_ends known at (actions_at (count - k) whole n i bytes) ≡ with_ends (known ++ (at + length (action x.0)) ∷ []) (at + length (action x.0)) (actions_at (count - (k + 1)) whole n i x.1)
-          = rw (e, read) (one_end known at x.0 (actions_at (count - (k + 1)) whole n i x.1)) in
+      = rw (e, read) (one_end known at x.0 (actions_at (count - (k + 1)) whole n i x.1)) in
       record { gives = sym one ∙ h.gives }
 
   pub end_goes_on : (x : Action × List ℕ) (rest : List ℕ) (end : ℕ) → k < count → action_at (length bytes) whole n i 0 bytes ≡ Ok x → rest ≡ x.1 → end ≡ at + length (action x.0)
@@ -67,7 +67,6 @@ module _ {whole n i count k : ℕ} {bytes known : List ℕ} {at : ℕ} {due : Fi
       let e : count - k ≡ 0 = omega arith in
       let one : with_ends known at (actions_at (count - k) whole n i bytes) ≡ Ok (known, bytes) = rw e (ap (λ (ends : List ℕ). Ok (ends, bytes)) (append-nil known)) in
       sym h.gives ∙ one
-
 
 -- what was read, of which the ends are known
 pub ends_found : (known : List ℕ) (at : ℕ) (read : Field (List Action)) (ends rest : List ℕ) → with_ends known at read ≡ Ok (ends, rest)
@@ -101,7 +100,7 @@ module _ {whole n i moves : ℕ} {bytes : List ℕ} {known : List PartOffsets} {
   after_part x lt read =
       let e : n - i ≡ suc (n - (i + 1)) = omega arith in
       let one : with_parts known at (agents_at (n - i) whole n i moves bytes) ≡ with_parts (known ++ part_of at x.0 ∷ []) (at + length (agent x.0)) (agents_at (n - (i + 1)) whole n (i + 1) (moves + length x.0.actions) x.1)
-          = rw (e, read) (one_part known at x.0 (agents_at (n - (i + 1)) whole n (i + 1) (moves + length x.0.actions) x.1)) in
+      = rw (e, read) (one_part known at x.0 (agents_at (n - (i + 1)) whole n (i + 1) (moves + length x.0.actions) x.1)) in
       record { gives = sym one ∙ h.gives }
 
   pub part_goes_on : (x : AgentProgram × List ℕ) (rest : List ℕ) (part : PartOffsets) (total end : ℕ) → i < n → agent_at whole n i moves bytes ≡ Ok x

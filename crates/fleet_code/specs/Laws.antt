@@ -1,8 +1,8 @@
 -- Laws of the spelling, of all programs and all bytes.
-use Rattle.std.specs.Prelude.{◌≡◌, ◌≢◌, ◌↔◌, ◌≤◌, List, [], ◌++◌, length, ℕ}
+use Rattle.std.specs.Prelude.{◌≡◌, ◌≢◌, ◌↔◌, ◌≤◌, List, [], ◌++◌, length, ℕ, Result, Ok, Err}
 use Rattle.fleet_model.specs.Program.{Program, NeverStays, IsWellFormed}
 use Rattle.fleet_code.specs.declared.fault.LoadFault.{LoadFault}
-use Rattle.fleet_code.specs.declared.fault.LoadFault.TheVariants.{Truncated}
+use Rattle.fleet_code.specs.declared.fault.LoadFault.TheVariants.{OutOfMemory, Truncated}
 use Rattle.fleet_code.specs.Spelling.{spelling, Spells}
 use Rattle.fleet_code.specs.LoadFaults.{IsFirstLoadFault}
 
@@ -17,6 +17,13 @@ OneProgramEach = (a b : List ℕ) (p q : Program) → Spells a p → Spells b q 
 -- a spelling that is cut off, wherever it is, has the first fault that the bytes end within the program
 abbrev pub BeginningsAreTruncated : Type 0
 BeginningsAreTruncated = (p : Program) (front rest : List ℕ) → IsWellFormed p → NeverStays p → spelling p ≡ front ++ rest → 1 ≤ length rest → IsFirstLoadFault front Truncated
+
+-- two answers to the same bytes: one program, or one fault. Want of memory may stand in place of either
+abbrev pub Agree : Result Program LoadFault → Result Program LoadFault → Type 0
+Agree (Ok p) (Ok q) = p ≡ q
+Agree (Err e) (Err f) = e ≢ OutOfMemory → f ≢ OutOfMemory → e ≡ f
+Agree (Ok p) (Err f) = f ≢ OutOfMemory → ⊥
+Agree (Err e) (Ok q) = e ≢ OutOfMemory → ⊥
 
 -- a first fault other than missing bytes stays, whatever follows
 abbrev pub FaultsStay : Type 0

@@ -127,7 +127,7 @@ fn agent_after(
     requires total { total ≤ MAX_MOVES_IN_ALL }
     ensures value { Finds
         (λ x due. (x.0 ≡ part_of (whole - length bytes.now) due.0) × (x.1.now ≡ due.1)
-            × (length bytes.now ≡ length (agent due.0) + length x.1.now))
+        × (length bytes.now ≡ length (agent due.0) + length x.1.now))
         result (agent_at whole agents own total bytes.now) }
     ensures total { IfOk result (λ x. total + length x.0.offsets ≤ MAX_MOVES_IN_ALL + 1) }
     ensures some { IfOk result (λ x. 1 ≤ length x.0.offsets) }

@@ -1,4 +1,4 @@
-use Rattle.std.proofs.Common.{◌+◌, ◌∷◌, [], ◌++◌, subst, arith, refl, ◌∙◌}
+use Rattle.std.proofs.Common.{◌+◌, ◌∷◌, [], ◌++◌, refl, ◌∙◌}
 use Rattle.fleet_code.specs.Spelling.{number}
 use Rattle.fleet_code.specs.Offsets.{StandsAt}
 use Rattle.fleet_code.proofs.InPlace.{front_stands, back_stands}

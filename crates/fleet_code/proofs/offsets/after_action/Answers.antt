@@ -1,7 +1,7 @@
 use Rattle.std.proofs.Common.{sym, ◌∙◌, arith, refl, length, ℕ, List}
 use Rattle.fleet_model.specs.declared.program.Action.{Action}
 use Rattle.std.proofs.lemmas.Result.{err_from_is_err_and}
-use Rattle.fleet_code.proofs.ActionLoop.{action_begins, move_ends, other_opcode, await_goes_on, await_fails, action_lacks}
+use Rattle.fleet_code.proofs.ActionLoop.{move_ends, other_opcode, await_goes_on, await_fails, action_lacks}
 use Rattle.fleet_code.proofs.OffsetLoop.{no_move, action_length}
 use Rattle.fleet_code.proofs.offsets.after_action.Goals as goal
 

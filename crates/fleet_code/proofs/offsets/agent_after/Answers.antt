@@ -13,7 +13,7 @@ returns-clause-value c =
     let same = c.from.ensures in
     let x : AgentProgram × List ℕ = (record { start = start.field-0-0; goal = aim.field-0-0; actions = found.0.0 }, found.0.1) in
     let read = agent_is c.args.whole c.args.agents c.args.own c.args.total c.args.bytes.now (start.field-0-0, start.rest.now) (aim.field-0-0, aim.rest.now) (count.count, count.rest.now) found.0
-        start.ensures.value aim.ensures.value count.ensures.value (omega (arith, few, same)) found.1 in
+    start.ensures.value aim.ensures.value count.ensures.value (omega (arith, few, same)) found.1 in
     let long = agent_length c.args.whole c.args.agents c.args.own c.args.total c.args.bytes.now x (λ i. omega (arith, c.type_inv.bytes i)) read in
     let shorter = c.requires.whole in
     let four = start.ensures.long in

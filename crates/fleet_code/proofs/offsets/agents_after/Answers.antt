@@ -1,4 +1,4 @@
-use Rattle.std.proofs.Common.{◌≡◌, ◌∙◌, suc, sym, ap, arith, length, List, ℕ}
+use Rattle.std.proofs.Common.{◌≡◌, ◌∙◌, suc, ap, arith, length}
 use Rattle.std.proofs.lemmas.Result.{err_from_is_err_and}
 use Rattle.fleet_code.proofs.OffsetLoop.{parts_found, parts_failed, part_goes_on, part_fails, parts_done, ends_length}
 use Rattle.fleet_code.specs.Offsets.{PartOffsets}

@@ -1,5 +1,5 @@
 use Rattle.std.proofs.lemmas.Result.{err_from_is_err_and}
-use Rattle.fleet_io.proofs.NamedLemmas.{unread-after, unread-first, unread_before, holds_before}
+use Rattle.fleet_io.proofs.NamedLemmas.{unread-after, unread-first, unread_before}
 use Rattle.fleet_io.proofs.named.read_with_holds.Goals as goal
 
 pub returns-in_err-read-clause-fault : goal.returns-in_err-read-clause-fault
@@ -12,6 +12,3 @@ returns-in_err-held-clause-fault g c =
     let e = err_from_is_err_and c.from_residual-in_err-held.result c.from_residual-in_err-held.ensures.1 in
     let unread = unread_before _ _ _ _ c.in_ok-read.ensures.kept c.in_err-held.ensures.fault in
     rw (e.1, e.2) (unread-after _ _ _ _ _ c.in_ok-read.ensures.bytes unread)
-
-pub returns-clause-bytes : goal.returns-clause-bytes
-returns-clause-bytes g c = (c.in_ok-read.ensures.bytes, holds_before _ _ _ _ c.in_ok-read.ensures.kept c.in_ok-held.ensures.bytes)

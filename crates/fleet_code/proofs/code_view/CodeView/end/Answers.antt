@@ -1,6 +1,6 @@
-use Rattle.std.proofs.Common.{◌≡◌, ◌+◌, ◌∷◌, ◌∙◌, suc, length, ap, arith}
+use Rattle.std.proofs.Common.{◌∙◌, length, ap, arith}
 use Rattle.fleet_model.specs.Program.{actions_of}
-use Rattle.fleet_code.specs.Offsets.{PartOffsets, ends_of, begin_of}
+use Rattle.fleet_code.specs.Offsets.{PartOffsets}
 use Rattle.fleet_code.proofs.OffsetLoop.{ends_length}
 use Rattle.fleet_code.proofs.InPlace.{end_is}
 use Rattle.fleet_code.proofs.code_view.CodeView.end.Goals as goal

@@ -1,7 +1,7 @@
-use Rattle.std.proofs.Common.{arith, ap, subst, sym}
+use Rattle.std.proofs.Common.{arith}
 use Rattle.fleet_model.specs.Program.{start_of}
 use Rattle.fleet_code.specs.Spelling.{cell}
-use Rattle.fleet_code.specs.Offsets.{StandsAt, begin_of}
+use Rattle.fleet_code.specs.Offsets.{begin_of}
 use Rattle.fleet_code.proofs.InPlace.{viewed, start_stands, stands_within}
 use Rattle.fleet_code.proofs.code_view.CodeViewProgramView.start.Goals as goal
 

@@ -1,5 +1,4 @@
-use Rattle.std.proofs.Common.{◌≡◌, ◌-◌, ◌∷◌, [], ◌∙◌, ap, sym, arith, ℕ, Option}
-use Rattle.fleet_model.specs.declared.geometry.Step.{Step}
+use Rattle.std.proofs.Common.{◌-◌, ◌∷◌, [], ◌∙◌, ap, sym, arith, ℕ, Option}
 use Rattle.fleet_model.specs.declared.program.Action.{Action}
 use Rattle.std.specs.Prelude.{option_map}
 use Rattle.fleet_code.specs.Spelling.{opcode}

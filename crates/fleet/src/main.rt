@@ -16,6 +16,9 @@ use std::io::{BufWriter, ErrorKind, Read};
 use std::process::ExitCode;
 use std::{env, io};
 
+/// How many bytes of standard output are gathered before they are written.
+const OUTPUT_ROOM: usize = 262_144;
+
 /// The words of the command line after the program's name, which is the first.
 fn words_of(alloc: Global, args: io::Result<Args>) -> io::Result<Vec<String>>
     ensures { AreWordsOf args result }
@@ -63,7 +66,7 @@ fn run_program<R: Read, F: Files, O: Flush, E: TraceOut>(
 
 fn main(rt: HostRuntime) -> ExitCode {
     let mut err = WriteOut::new(rt.stderr());
-    let Ok(writer) = BufWriter::new(rt.alloc(), io::writer(&rt)) else {
+    let Ok(writer) = BufWriter::with_capacity(rt.alloc(), OUTPUT_ROOM, io::writer(&rt)) else {
         return ExitCode::from(refuse(&Fault::Memory, &mut err));
     };
     run_program(

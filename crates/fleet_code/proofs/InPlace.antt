@@ -16,6 +16,7 @@ use Rattle.fleet_code.specs.Spelling.{magic, number, cell, opcode, await, action
 use Rattle.fleet_code.specs.Offsets.{PartOffsets, StandsAt, IsViewOf, ends_of, part_of, parts_of, part_at, begin_of, end_of}
 use Rattle.fleet_code.specs.Reading.{move_at}
 use Rattle.fleet_code.proofs.RoundTrip.{move_again}
+use Rattle.fleet_code.proofs.OffsetLoop.{ends_length}
 
 -- ---- texts in bytes
 
@@ -194,12 +195,20 @@ byte_is bytes at b d h =
 pub viewed : {bytes : List ℕ} {p q : Program} {parts : List PartOffsets} → p ≡ q → IsViewOf bytes p parts → IsViewOf bytes q parts
 viewed {bytes = bytes} {parts = parts} same v = subst (λ (r : Program). IsViewOf bytes r parts) same v
 
-pub end_is : (p : Program) (i n begin : ℕ) (offsets : List ℕ) → begin ≡ begin_of p i + 10 → offsets ≡ 0 ∷ ends_of 0 (actions_of p i) → n ≤ moves p i
-    → begin + slice_index_or offsets n 0 ≡ end_of p i n
-end_is p i n begin offsets e f le =
+pub end_is : (p : Program) (i n begin offset : ℕ) (part : PartOffsets) → part ≡ part_at p i → begin ≡ part.begin → offset ≡ slice_index_or part.offsets n 0 → n ≤ moves p i
+    → begin + offset ≡ end_of p i n
+end_is p i n begin offset part e f g le =
     let found = get_or_from_slice_get (0 ∷ ends_of 0 (actions_of p i)) n _ 0 (end_found 0 (actions_of p i) n le) in
-    let read : slice_index_or offsets n 0 ≡ 0 + length (flat_map action (take n (actions_of p i))) = ap (λ (o : List ℕ). slice_index_or o n 0) f ∙ found in
-    omega (arith, e, read)
+    let begins : begin ≡ begin_of p i + 10 = f ∙ ap (λ (part : PartOffsets). part.begin) e in
+    let read : offset ≡ 0 + length (flat_map action (take n (actions_of p i))) = g ∙ ap (λ (part : PartOffsets). slice_index_or part.offsets n 0) e ∙ found in
+    omega (arith, begins, read)
+
+-- as many offsets as actions, and one
+pub as_many_offsets : (p : Program) (i : ℕ) (part : PartOffsets) → part ≡ part_at p i → length part.offsets ≡ moves p i + 1
+as_many_offsets p i part e =
+    let all = ap (λ (part : PartOffsets). length part.offsets) e in
+    let many = ends_length 0 (actions_of p i) in
+    omega (arith, all, many)
 
 -- ---- the answers
 

@@ -1,13 +1,13 @@
 -- Where the parts of a program stand in its bytes.
-use Rattle.std.specs.Prelude.{◌≡◌, ◌≢◌, ℕ, ◌+◌, List, [], ◌∷◌, ◌++◌, length, take, drop, Result, Ok, Err}
-use Rattle.std.specs.List.{flat_map}
+use Rattle.std.specs.Prelude.{◌≡◌, ◌≢◌, ℕ, ◌+◌, List, [], ◌∷◌, ◌++◌, length, take, drop, All, ◌≤◌, Result, Ok, Err}
+use Rattle.std.specs.List.{flat_map, range_with_len}
 use Rattle.std.specs.Result.{result_unwrap_or}
 use Rattle.fleet_model.specs.declared.program.Action.{Action}
 use Rattle.fleet_model.specs.declared.program.AgentProgram.{AgentProgram}
 use Rattle.fleet_model.specs.Program.{Program, actions_of}
 use Rattle.fleet_code.specs.declared.fault.LoadFault.{LoadFault}
 use Rattle.fleet_code.specs.declared.fault.LoadFault.TheVariants.{OutOfMemory}
-use Rattle.fleet_code.specs.declared.format.TheConstants.{HEAD_LEN, AGENT_LEN}
+use Rattle.fleet_code.specs.declared.format.TheConstants.{HEAD_LEN, AGENT_LEN, LAST_MOVE}
 use Rattle.fleet_code.specs.Spelling.{action, agent, Spells}
 use Rattle.fleet_code.specs.Reading.{Field, program_at}
 
@@ -29,6 +29,16 @@ part_of at a = record { begin = at + 10; offsets = 0 ∷ ends_of 0 a.actions }
 abbrev pub parts_of : ℕ → Program → List PartOffsets
 parts_of at [] = []
 parts_of at (a ∷ p) = part_of at a ∷ parts_of (at + length (agent a)) p
+
+-- the offsets of so many actions, of which those that are kept stand in a row: none where each action has one byte
+abbrev pub offsets_of : ℕ → List ℕ → List ℕ
+offsets_of moves [] = range_with_len 0 (moves + 1)
+offsets_of moves (o ∷ offsets) = o ∷ offsets
+
+-- each of the next bytes is there and a move
+pub record AreBare (count : ℕ) (bytes : List ℕ) : Type 0 where
+  pub there : count ≤ length bytes
+  pub moves : All (λ b. b ≤ LAST_MOVE) (take count bytes)
 
 -- the actions, one after the other, with their ends after the offsets that are known
 abbrev pub with_ends : List ℕ → ℕ → Field (List Action) → Field (List ℕ)

@@ -114,7 +114,7 @@ impl<'a> CodeView<'a> {
         ensures well_formed { IsWellFormed self.now }
     {
         let part = self.part(i);
-        part.begin() + part.offsets()[n as usize] as usize
+        part.begin() + part.offset(n) as usize
     }
 }
 
@@ -134,7 +134,7 @@ impl<'a> ProgramView for CodeView<'a> {
     }
 
     fn moves(&self, i: u16) -> u32 {
-        self.part(i).offsets().len() as u32 - 1
+        u32::from(self.part(i).moves())
     }
 
     fn step(&self, i: u16, p: u32) -> Step {

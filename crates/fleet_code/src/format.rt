@@ -10,6 +10,9 @@ use fleet_model::{Dir, MAX_AGENTS, Step};
 /// What the bytes of every program begin with.
 pub const MAGIC: &[u8] = b"MPF1";
 
+/// The opcodes up to this one are moves.
+pub const LAST_MOVE: u8 = 3;
+
 /// The opcode of an await. An agent and a count follow it.
 pub const AWAIT: u8 = 0x10;
 

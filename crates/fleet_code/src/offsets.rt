@@ -1,34 +1,41 @@
 //! Where the parts of a program stand in its bytes: the one pass that judges them.
 
-ghost use Rattle.std.specs.Prelude.{◌≡◌, ◌<◌, ◌≤◌, ◌+◌, ◌-◌, ◌/◌, ◌∷◌, [], min, length, vec_len, vec_capacity, IfOk};
+ghost use Rattle.std.specs.Prelude.{◌≡◌, ◌<◌, ◌≤◌, ◌+◌, ◌-◌, ◌/◌, ◌∷◌, [], min, true, length, vec_len, vec_capacity, IfOk};
 ghost use Rattle.fleet_code.specs.Spelling.{action, agent};
 ghost use Rattle.fleet_code.specs.Reading.{action_at, actions_at, agent_at, agents_at, program_at};
-ghost use Rattle.fleet_code.specs.Offsets.{Finds, ends_of, part_of, parts_of};
+ghost use Rattle.fleet_code.specs.Offsets.{Finds, AreBare, offsets_of, ends_of, part_of, parts_of};
 
 use crate::fault::LoadFault;
 use crate::fields::{after_magic, await_of, cell_of, number_of};
-use crate::format::{AGENT_LEN, AWAIT, HEAD_LEN, LEAST_ACTION_LEN, MAX_ACTION_LEN, move_of};
+use crate::format::{
+    AGENT_LEN, AWAIT, HEAD_LEN, LAST_MOVE, LEAST_ACTION_LEN, MAX_ACTION_LEN, move_of,
+};
 use fleet_model::{MAX_AGENTS, MAX_MOVES_IN_ALL};
 use std::alloc::{AllocError, Global};
 use std::marker::Model;
 
-/// Where the actions of an agent stand in the bytes of a program.
+/// Where the actions of an agent stand in the bytes of a program. Where none of them awaits anything each has one byte,
+/// and nothing is kept of each.
 #[derive(Debug, Drop)]
 pub struct Part {
     begin: usize,
+    moves: u16,
     offsets: Vec<u32>,
 }
 
 impl Model for Part {
-    ghost use Rattle.fleet_code.specs.Offsets.{PartOffsets};
+    ghost use Rattle.std.specs.Prelude.{◌≡◌, ◌+◌, length};
+    ghost use Rattle.fleet_code.specs.Offsets.{PartOffsets, offsets_of};
 
     ghost Value = { PartOffsets };
 
-    ghost view = { λ p. record { begin = p.begin; offsets = p.offsets.items } };
+    ghost view = { λ p. record { begin = p.begin; offsets = offsets_of p.moves p.offsets.items } };
+
+    ghost invariant = { λ p. length (offsets_of p.moves p.offsets.items) ≡ p.moves + 1 };
 }
 
 impl Part {
-    ghost use Rattle.std.specs.Prelude.{slice_get, Some, get_or};
+    ghost use Rattle.std.specs.Prelude.{slice_index_or};
 
     /// The offset in the bytes at which the actions begin.
     pub fn begin(&self) -> usize
@@ -37,11 +44,23 @@ impl Part {
         self.begin
     }
 
-    /// Where each action begins, counted from the first, and last where the last one ends.
-    pub fn offsets(&self) -> &[u32]
-        ensures { result.now ≡ self.now.offsets }
+    /// How many actions there are.
+    pub fn moves(&self) -> u16
+        ensures { length self.now.offsets ≡ result + 1 }
     {
-        &self.offsets
+        self.moves
+    }
+
+    /// Where action `n + 1` begins, counted from the first, and after the last where that one ends.
+    #[tactic(auto, using(crate::proofs::Bare::range_at))]
+    pub fn offset(&self, n: u32) -> u32
+        requires { n < length self.now.offsets }
+        ensures { result ≡ slice_index_or self.now.offsets n 0 }
+    {
+        if self.offsets.is_empty() {
+            return n;
+        }
+        self.offsets[n as usize]
     }
 }
 
@@ -112,6 +131,39 @@ fn actions_after(
     Ok((offsets, rest))
 }
 
+/// Whether each of the next `count` bytes is there and a move.
+fn are_bare(count: u16, bytes: &[u8]) -> bool
+    ensures { result ≡ true → AreBare count bytes.now }
+{
+    match bytes.get(..usize::from(count)) {
+        Some(actions) => actions.iter().all(|&opcode| opcode <= LAST_MOVE),
+        None => false,
+    }
+}
+
+/// The same as `actions_after`, where nothing is kept of actions of one byte each.
+fn actions_in(
+    alloc: Global,
+    whole: usize,
+    agents: u16,
+    own: u16,
+    count: u16,
+    bytes: &[u8],
+) -> Result<(Vec<u32>, &[u8]), LoadFault>
+    requires whole { length bytes.now ≤ whole }
+    requires few { agents ≤ MAX_AGENTS }
+    ensures value { Finds
+        (λ x due. (offsets_of count x.0.items ≡ 0 ∷ ends_of 0 due.0) × (x.1.now ≡ due.1))
+        result (actions_at count whole agents own bytes.now) }
+    ensures count { IfOk result (λ x. length (offsets_of count x.0.items) ≡ count + 1) }
+{
+    if are_bare(count, bytes) {
+        let (_, rest) = bytes.split_at(usize::from(count));
+        return Ok((Vec::new(alloc), rest));
+    }
+    actions_after(alloc, whole, agents, own, count, bytes)
+}
+
 /// The part of agent `own`, where the agents before it have `total` moves.
 #[tactic(auto, unfolding(crate::specs::Reading::agent_at))]
 fn agent_after(
@@ -130,7 +182,6 @@ fn agent_after(
         × (length bytes.now ≡ length (agent due.0) + length x.1.now))
         result (agent_at whole agents own total bytes.now) }
     ensures total { IfOk result (λ x. total + length x.0.offsets ≤ MAX_MOVES_IN_ALL + 1) }
-    ensures some { IfOk result (λ x. 1 ≤ length x.0.offsets) }
 {
     let (_, rest) = cell_of(bytes)?;
     let (_, rest) = cell_of(rest)?;
@@ -139,8 +190,16 @@ fn agent_after(
         return Err(LoadFault::Total);
     }
     let begin = whole - rest.len();
-    let (offsets, rest) = actions_after(alloc, whole, agents, own, count, rest)?;
-    Ok((Part { begin, offsets }, rest))
+    let (offsets, rest) = actions_in(alloc, whole, agents, own, count, rest)?;
+    let moves = count;
+    Ok((
+        Part {
+            begin,
+            moves,
+            offsets,
+        },
+        rest,
+    ))
 }
 
 /// The parts of all `agents` agents. The input has `whole` bytes, of which these are left.
@@ -162,7 +221,7 @@ fn agents_after(
     let mut rest = bytes;
     for own in 0..agents {
         let (part, after) = agent_after(alloc, whole, agents, own, total, rest)?;
-        total += part.offsets().len() as u32 - 1;
+        total += u32::from(part.moves());
         parts.push(part)?;
         rest = after;
     }

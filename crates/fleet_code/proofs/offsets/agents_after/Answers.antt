@@ -1,4 +1,4 @@
-use Rattle.std.proofs.Common.{◌≡◌, ◌∙◌, suc, ap, arith, length}
+use Rattle.std.proofs.Common.{ap, arith, length}
 use Rattle.std.proofs.lemmas.Result.{err_from_is_err_and}
 use Rattle.fleet_code.proofs.OffsetLoop.{parts_found, parts_failed, part_goes_on, part_fails, parts_done, ends_length}
 use Rattle.fleet_code.specs.Offsets.{PartOffsets}
@@ -16,12 +16,14 @@ loop-own-preserved c =
     let whole = c.requires.whole in
     let long = found.2.2 in
     let less = c.in_ok-part.ensures.total in
-    let counted : length c.offsets.result.now ≡ suc (length found.0.0.actions) = ap length c.offsets.ensures ∙ ap (λ (p : PartOffsets). length p.offsets) found.2.0 ∙ ap suc (ends_length 0 found.0.0.actions) in
-    let same : length c.offsets.result.now ≡ length c.in_ok-part.part.offsets = ap length c.offsets.ensures in
+    let all = ap (λ (p : PartOffsets). length p.offsets) found.2.0 in
+    let many = ends_length 0 found.0.0.actions in
+    let counted = c.moves.ensures in
+    let same = c.from-total.ensures in
     record {
       so_far = rw c.in_ok-push.ensures.items
-          (part_goes_on c.loop-own.invariant.so_far found.0 c.in_ok-part.after.now _ _ _ c.loop-own-test.true found.1 found.2.1 found.2.0 (omega (arith, counted)) (omega (arith, whole, shorter, long)));
-      few = omega (arith, less, same);
+          (part_goes_on c.loop-own.invariant.so_far found.0 c.in_ok-part.after.now _ _ _ c.loop-own-test.true found.1 found.2.1 found.2.0 (omega (arith, all, many, counted, same)) (omega (arith, whole, shorter, long)));
+      few = omega (arith, less, counted, same);
       shorter = omega (arith, shorter, long);
     }
 

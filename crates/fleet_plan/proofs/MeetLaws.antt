@@ -1,11 +1,14 @@
 -- Agents entered one after another in their places, and who is ahead of whom.
-use Rattle.std.proofs.Common.{◌≡◌, ◌≢◌, ℕ, ◌+◌, ◌<◌, ◌≤◌, List, length, set, slice_index, Option, Some, None, IfSome, IfNone, ◌⊎◌, inl, inr, sym, ap, ◌∙◌, subst, arith}
+use Rattle.std.proofs.Common.{◌≡◌, ◌≢◌, ℕ, ◌+◌, ◌<◌, ◌≤◌, List, length, set, slice_index, Option, Some, None, IfSome, IfNone, ◌⊎◌, inl, inr, refl, sym, ap, ◌∙◌, subst, arith}
 use Rattle.std.proofs.lemmas.Bool.{cases_eq, cases_lt}
 use Rattle.std.proofs.lemmas.List.{get_or-set_same, get_or-set_other}
 use Rattle.fleet_plan.specs.FirstFault.{IsPairUpTo}
-use Rattle.fleet_plan.specs.Rings.{AreAgents}
-use Rattle.fleet_plan.specs.Sweep.{IsAhead, AreAhead}
-use Rattle.fleet_plan.proofs.RingLaws.{ahead_within}
+use Rattle.fleet_plan.specs.Rings.{AreAgents, ahead_of}
+use Rattle.fleet_plan.specs.Sweep.{IsAhead, AreAhead, IsEntered, Exchange, HasNone, HasNoMeeting, IsFirstIn, IsFreeIn, IsFirstAhead, IsFreeAhead, IsSettled}
+use Rattle.fleet_plan.specs.declared.plan_fault.Conflict.{Conflict}
+use Rattle.fleet_plan.specs.declared.plan_fault.Conflict.TheVariants.{Vertex, Swapping, Cycle}
+use Rattle.fleet_plan.proofs.RingLaws.{ahead_within, some_is, none_is_not}
+use Rattle.fleet_plan.proofs.RowLaws.{IsSoBut, but_more}
 
 -- the least agent in the place of agent k
 pub record IsOwner (places : List ℕ) (f k : ℕ) : Type 0 where
@@ -155,3 +158,109 @@ ahead_agents places next ahead a i j e =
     let within : i < length ahead = ahead_within ahead i j e in
     let h : IsAhead places next i (Some j) = subst (IsAhead places next i) e (a.each i (omega (arith, a.all))) in
     omega (arith, h.1, a.all)
+
+-- nobody is ahead of one that stays
+pub nobody_ahead : (places next : List ℕ) (ahead : List (Option ℕ)) → AreAhead places next ahead → (i : ℕ) → i < length places → slice_index next i ≡ slice_index places i → ahead_of ahead i ≡ None
+nobody_ahead places next ahead a i l s = go (ahead_of ahead i) (a.each i l)
+  where
+    go : (o : Option ℕ) → IsAhead places next i o → o ≡ None
+    go None h = refl
+    go (Some j) h = absurd (h.0 s)
+
+-- who is ahead of an agent is an agent, and another one
+pub ahead_other : (places next : List ℕ) (i : ℕ) (o : Option ℕ) → IsAhead places next i o → IfSome o (λ j. (j < length places) × (j ≢ i))
+ahead_other places next i None h = tt
+ahead_other places next i (Some j) h = (h.1, λ e. h.0 (sym h.2 ∙ ap (slice_index places) e))
+
+-- ---- no two agents are ahead of each other
+
+-- agent i learns who is ahead of it, which it is not ahead of in turn
+pub no_exchange_more : (ahead : List (Option ℕ)) (i : ℕ) (o : Option ℕ) → i < length ahead → HasNone (Exchange ahead) → IfSome o (λ j. j ≢ i) → IfSome o (λ j. ahead_of ahead j ≢ Some i) → HasNone (Exchange (set ahead i o))
+no_exchange_more ahead i o l none other back = both
+  where
+    after : List (Option ℕ)
+    after = set ahead i o
+
+    here : ahead_of after i ≡ o
+    here = get_or-set_same ahead i o None l
+
+    there : (k : ℕ) → k ≢ i → ahead_of after k ≡ ahead_of ahead k
+    there k ne = get_or-set_other ahead i k o None ne
+
+    from : (k : ℕ) → ahead_of after i ≡ Some k → ahead_of after k ≡ Some i → ⊥
+    from k e f = go o refl other back
+      where
+        go : (p : Option ℕ) → o ≡ p → IfSome p (λ j. j ≢ i) → IfSome p (λ j. ahead_of ahead j ≢ Some i) → ⊥
+        go None s a b = none_is_not k (ahead_of after i) e (here ∙ s)
+        go (Some j) s a b =
+            let same : j ≡ k = some_is j k (ahead_of after i) (here ∙ s) e in
+            b (sym (there j a) ∙ ap (ahead_of after) same ∙ f)
+
+    both : HasNone (Exchange after)
+    both k m x = elim (cases_eq k i) [
+      | inl s ↦ from m (ap (ahead_of after) (sym s) ∙ x.there) (x.back ∙ ap (λ (z : ℕ). Some z) s)
+      | inr ne ↦ elim (cases_eq m i) [
+        | inl s ↦ from k (ap (ahead_of after) (sym s) ∙ x.back) (x.there ∙ ap (λ (z : ℕ). Some z) s)
+        | inr nm ↦ none k m (record { there = sym (there k ne) ∙ x.there; back = sym (there m nm) ∙ x.back })
+      ]
+    ]
+
+-- ---- agents entered one after another
+
+-- agent i is entered in its place, where the one that was entered there does not stand unless it is i
+pub entered_more : (table row places : List ℕ) (k n : ℕ) → slice_index places (slice_index row k) < length table → ((j : ℕ) → j ≡ slice_index table (slice_index places (slice_index row k)) → j ≢ slice_index row k → j < n → slice_index places j ≢ slice_index places (slice_index row k)) → IsSoBut row k n (λ j. slice_index table (slice_index places j) ≡ j) → IsSoBut row (k + 1) n (λ j. slice_index (set table (slice_index places (slice_index row k)) (slice_index row k)) (slice_index places j) ≡ j)
+entered_more table row places k n within alone h = but_more row k n (λ j. slice_index table (slice_index places j) ≡ j) (λ j. slice_index (set table place i) (slice_index places j) ≡ j) h here keep
+  where
+    i : ℕ
+    i = slice_index row k
+
+    place : ℕ
+    place = slice_index places i
+
+    here : slice_index (set table place i) place ≡ i
+    here = get_or-set_same table place i 0 within
+
+    keep : (j : ℕ) → j < n → j ≢ i → slice_index table (slice_index places j) ≡ j → slice_index (set table place i) (slice_index places j) ≡ j
+    keep j l ne e = get_or-set_other table place (slice_index places j) i 0 (λ s. alone j (sym e ∙ ap (slice_index table) s) ne l s) ∙ e
+
+-- where each agent is entered nobody meets another
+pub entered_apart : (table places : List ℕ) → IsEntered table places → HasNoMeeting places
+entered_apart table places h i j m =
+    let order : i < j = m.order in
+    let within : j < length places = m.agents in
+    let e : i ≡ j = sym (h i (omega arith)) ∙ ap (slice_index table) m.same ∙ h j within in
+    omega arith
+
+-- ---- what who is ahead says of places
+
+pub first_in : (places next : List ℕ) (ahead : List (Option ℕ)) (t : ℕ) → HasNoMeeting places → AreAhead places next ahead → (o : Option Conflict) → IfSome o (IsFirstAhead ahead t) → IfSome o (IsFirstIn places next t)
+first_in places next ahead t apart a None h = tt
+first_in places next ahead t apart a (Some (Vertex x i j)) h = absurd h
+first_in places next ahead t apart a (Some (Swapping x i j)) h = (h.0, apart, (ahead, a, h.1))
+first_in places next ahead t apart a (Some (Cycle x least)) h = (h.0, (ahead, a, record { apart = apart; none = h.1 }, h.2))
+
+pub free_in : (places next : List ℕ) (ahead : List (Option ℕ)) → HasNoMeeting places → AreAhead places next ahead → (o : Option Conflict) → IfNone o (IsFreeAhead ahead) → IfNone o (IsFreeIn places next)
+free_in places next ahead apart a None h = record { ahead = ahead; are_ahead = a; none = record { apart = apart; none = h.none }; no_ring = h.no_ring }
+free_in places next ahead apart a (Some c) h = tt
+
+-- ---- rows filled at the agents of a row
+
+pub ahead_more : (row places next : List ℕ) (ahead : List (Option ℕ)) (k n p : ℕ) (o : Option ℕ) → p ≡ slice_index row k → slice_index row k < length ahead → IsAhead places next (slice_index row k) o → IsSoBut row k n (λ j. IsAhead places next j (ahead_of ahead j)) → IsSoBut row (k + 1) n (λ j. IsAhead places next j (ahead_of (set ahead p o) j))
+ahead_more row places next ahead k n p o e l a h = subst (λ z. IsSoBut row (k + 1) n (λ j. IsAhead places next j (ahead_of (set ahead z o) j))) (sym e) (but_more row k n (λ j. IsAhead places next j (ahead_of ahead j)) (λ j. IsAhead places next j (ahead_of (set ahead i o) j)) h
+    (subst (IsAhead places next i) (sym (get_or-set_same ahead i o None l)) a)
+    (λ j b ne r. subst (IsAhead places next j) (sym (get_or-set_other ahead i j o None ne)) r))
+  where
+    i : ℕ
+    i = slice_index row k
+
+pub settled_more : (row places next : List ℕ) (ahead walks : List (Option ℕ)) (k n p v : ℕ) → p ≡ slice_index row k → v ≡ slice_index next (slice_index row k) → slice_index row k < length places → slice_index row k < length ahead → slice_index row k < length walks → IsSoBut row k n (IsSettled places next ahead walks) → IsSoBut row (k + 1) n (IsSettled (set places p v) next (set ahead p None) (set walks p None))
+settled_more row places next ahead walks k n p v e w l la lw h = subst (λ z. IsSoBut row (k + 1) n (IsSettled (set places z v) next (set ahead z None) (set walks z None))) (sym e) (but_more row k n (IsSettled places next ahead walks) (IsSettled (set places i v) next (set ahead i None) (set walks i None)) h
+    (record { same = sym (get_or-set_same places i v 0 l ∙ w); nobody = get_or-set_same ahead i None None la; unwalked = get_or-set_same walks i None None lw })
+    (λ j b ne r. record {
+      same = r.same ∙ sym (get_or-set_other places i j v 0 ne);
+      nobody = get_or-set_other ahead i j None None ne ∙ r.nobody;
+      unwalked = get_or-set_other walks i j None None ne ∙ r.unwalked;
+    }))
+  where
+    i : ℕ
+    i = slice_index row k

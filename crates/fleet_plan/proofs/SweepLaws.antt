@@ -1,8 +1,9 @@
 -- What the places of agents at two times say of the conflicts of their plan.
-use Rattle.std.proofs.Common.{◌≡◌, ◌≢◌, ℕ, zero, suc, ◌+◌, ◌*◌, ◌<◌, ◌≤◌, Bool, true, false, IsTrue, List, [], ◌∷◌, length, get_or, slice_index, All, Option, Some, None, is_some, IfSome, IfNone, inl, inr, refl, sym, ap, ◌∙◌, subst, arith, ◌==◌}
-use Rattle.std.specs.List.{IsDistinct}
+use Rattle.std.proofs.Common.{◌≡◌, ◌≢◌, ℕ, zero, suc, ◌+◌, ◌*◌, ◌<◌, ◌≤◌, Bool, true, false, IsTrue, List, [], ◌∷◌, length, get_or, slice_index, All, Option, Some, None, is_some, IfSome, IfNone, inl, inr, refl, sym, ap, ◌∙◌, subst, arith, map, ◌==◌}
+use Rattle.std.specs.List.{IsDistinct, range_with_len}
 use Rattle.std.proofs.lemmas.Bool.{cases_eq, cases_lt, cases_order}
 use Rattle.std.proofs.lemmas.List.{get_or_past, get_or_default}
+use Rattle.std.proofs.lemmas.List.FromFn.{length-map-range_with_len, get_or-map-range_with_len}
 use Rattle.std.proofs.lemmas.Nat.{mul-add-lt}
 use Rattle.fleet_model.specs.declared.geometry.Cell.{Cell}
 use Rattle.fleet_model.specs.Geometry.{place_of}
@@ -13,11 +14,12 @@ use Rattle.fleet_plan.specs.declared.plan_fault.Conflict.{Conflict}
 use Rattle.fleet_plan.specs.declared.plan_fault.Conflict.TheVariants.{Vertex, Swapping, Cycle}
 use Rattle.fleet_plan.specs.Plan.{Plan, cell_of, planned, steps, IsPath}
 use Rattle.fleet_plan.specs.FirstFault.{AllAgents, GoesRight, path_of, HasConflict, HasNoConflict, time_of, IsKindUpTo, IsUpTo, IsFirstConflict}
-use Rattle.fleet_plan.specs.Rings.{AreAgents, ahead_of, Leads, IsOnRing, IsLeastOnRing}
-use Rattle.fleet_plan.specs.Sweep.{IsOnMap, ArePlaces, Meet, IsFirstMeeting, IsAhead, AreAhead, Exchange, IsFirstExchange, HasNoMeeting, HasNoExchange, IsFirstIn, IsFreeIn}
+use Rattle.fleet_plan.specs.Rings.{AreAgents, ahead_of, walk_of, Leads, IsOnRing, IsLeastOnRing}
+use Rattle.fleet_plan.specs.Sweep.{IsOnMap, ArePlaces, Meet, IsFirstMeeting, IsAhead, AreAhead, Exchange, IsFirstExchange, HasNoMeeting, HasNoExchange, IsFirstIn, IsFreeIn, IsEntered, IsSettled}
+use Rattle.fleet_plan.specs.UnderWay.{IsSoForOthers, Covers}
 use Rattle.fleet_plan.proofs.RingLaws.{some_is, none_is_not, shortened, each_ahead, each_reached, ends_with, each_on_ring, ring-reaches}
 use Rattle.fleet_plan.proofs.PathLaws.{at_past}
-use Rattle.fleet_plan.proofs.MeetLaws.{ahead_agents}
+use Rattle.fleet_plan.proofs.MeetLaws.{ahead_agents, nobody_ahead}
 
 -- ---- cells on the map
 
@@ -325,6 +327,22 @@ few_steps (path ∷ plan) all =
     let rest : steps plan ≤ 65535 = few_steps plan (λ k d l. all (suc k) d (omega arith)) in
     omega (arith, here.few_cells)
 
+-- the agents have places at any time
+places_at : (g : Ground) (plan : Plan) (t : ℕ) → (next : List ℕ) × ArePlaces g plan t next
+places_at g plan t = (map f (range_with_len 0 (length plan)), record { all = length-map-range_with_len f 0 (length plan); each = λ i l. get_or-map-range_with_len f 0 (length plan) i i 0 l (omega arith) })
+  where
+    f : ℕ → ℕ
+    f i = cell_index g (cell_of plan i t)
+
+-- two agents in one place are the first conflict
+pub first_meets : HavePlaces → (g : Ground) (plan : Plan) → IsOnMap g plan → (t : ℕ) (places : List ℕ) → IsSweep g plan places t → (i j : ℕ) → IsFirstMeeting places i j → IsFirstConflict plan (Vertex t i j)
+first_meets have g plan on t places s i j m =
+    let next = places_at g plan (t + 1) in
+    first_is have g plan on t places next.0 s.here next.1 s.earlier (Vertex t i j) (refl, m)
+
+pub sweep_begins : (g : Ground) (plan : Plan) (places : List ℕ) → ArePlaces g plan 0 places → IsSweep g plan places 0
+sweep_begins g plan places h = record { here = h; earlier = λ d c. omega arith }
+
 -- what one step of the loop found
 module _ (have : HavePlaces) (g : Ground) (plan : Plan) (on : IsOnMap g plan) (t : ℕ) (places next : List ℕ) (s : IsSweep g plan places t) (then : ArePlaces g plan (t + 1) next) (found : Option Conflict) where
   pub found_first : IfSome found (IsFirstIn places next t) → IfSome found (IsFirstConflict plan)
@@ -340,3 +358,78 @@ module _ (have : HavePlaces) (g : Ground) (plan : Plan) (on : IsOnMap g plan) (t
       go : (o : Option Conflict) → is_some o ≡ false → IfNone o (IsFreeIn places next) → IsFreeIn places next
       go None e h = h
       go (Some c) e h = absurd (cc)
+
+-- ---- the rows of the loop
+
+-- one whose path has ended stays in its place
+pub stays_there : (g : Ground) (plan : Plan) (t i : ℕ) → length (path_of plan i) ≤ t + 1 → cell_index g (cell_of plan i t) ≡ cell_index g (cell_of plan i (t + 1))
+unfolding cell_of
+stays_there g plan t i l = ap (cell_index g) (at_past (path_of plan i) t l ∙ sym (at_past (path_of plan i) (t + 1) (omega arith)))
+
+-- the rows before the step after time t
+pub record IsSwept (g : Ground) (plan : Plan) (table places next : List ℕ) (ahead walks : List (Option ℕ)) (row : List ℕ) (t : ℕ) : Type 0 where
+  pub sweep : IsSweep g plan places t
+  pub entered : IsEntered table places
+  pub settled : (i : ℕ) → i < length next → IsSettled places next ahead walks i
+  pub covers : Covers plan t row
+
+module _ (g : Ground) (plan : Plan) (table places next : List ℕ) (ahead walks : List (Option ℕ)) (row : List ℕ) (t : ℕ) (s : IsSwept g plan table places next ahead walks row t) (all : length next ≡ length plan) where
+  -- who does not stand in the row is where it goes
+  pub others_there : IsSoForOthers row (length plan) (λ i. slice_index next i ≡ cell_index g (cell_of plan i (t + 1)))
+  others_there i l = elim (s.covers.others i l) [
+    | inl c ↦ inl c
+    | inr e ↦ inr ((s.settled i (omega (arith, all))).same ∙ s.sweep.here.each i l ∙ stays_there g plan t i e)
+  ]
+
+  pub nobody_yet : length ahead ≡ length plan → (i : ℕ) → ahead_of ahead i ≡ None
+  nobody_yet few i = elim (cases_lt i (length ahead)) [
+    | inl l ↦ (s.settled i (omega (arith, all))).nobody
+    | inr l ↦ get_or_past ahead i None l
+  ]
+
+  pub unwalked_yet : length walks ≡ length plan → (i : ℕ) → walk_of walks i ≡ None
+  unwalked_yet few i = elim (cases_lt i (length walks)) [
+    | inl l ↦ (s.settled i (omega (arith, all))).unwalked
+    | inr l ↦ get_or_past walks i None l
+  ]
+
+  module _ (next' : List ℕ) (then : ArePlaces g plan (t + 1) next') where
+    pub others_stay : IsSoForOthers row (length places) (λ i. slice_index next' i ≡ slice_index places i)
+    others_stay i l = let b : i < length plan = omega (arith, s.sweep.here.all) in elim (s.covers.others i b) [
+      | inl c ↦ inl c
+      | inr e ↦ inr (then.each i b ∙ sym (stays_there g plan t i e) ∙ sym (s.sweep.here.each i b))
+    ]
+
+    pub others_entered : IsSoForOthers row (length next') (λ i. slice_index table (slice_index next' i) ≡ i)
+    others_entered i l = let b : i < length places = omega (arith, then.all, s.sweep.here.all) in elim (others_stay i b) [
+      | inl c ↦ inl c
+      | inr e ↦ inr (ap (slice_index table) e ∙ s.entered i b)
+    ]
+
+    module _ (ahead' : List (Option ℕ)) (are : AreAhead places next' ahead') where
+      pub others_alone : IsSoForOthers row (length ahead') (λ i. ahead_of ahead' i ≡ None)
+      others_alone i l = let b : i < length places = omega (arith, are.all) in elim (others_stay i b) [
+        | inl c ↦ inl c
+        | inr e ↦ inr (nobody_ahead places next' ahead' are i b e)
+      ]
+
+      pub others_settled : (walks' : List (Option ℕ)) → ((i : ℕ) → ahead_of ahead' i ≡ None → walk_of walks' i ≡ None) → IsSoForOthers row (length next') (IsSettled places next' ahead' walks')
+      others_settled walks' none i l = let b : i < length places = omega (arith, then.all, s.sweep.here.all) in elim (others_stay i b) [
+        | inl c ↦ inl c
+        | inr e ↦ let alone = nobody_ahead places next' ahead' are i b e in inr (record { same = e; nobody = alone; unwalked = none i alone })
+      ]
+
+-- the step is done
+pub swept_on : (g : Ground) (plan : Plan) (table places next : List ℕ) (ahead walks : List (Option ℕ)) (row : List ℕ) (t : ℕ) → IsSweep g plan next t → length places ≡ length next → IsEntered table next → ((i : ℕ) → i < length next → IsSettled places next ahead walks i) → Covers plan t row → IsSwept g plan table places next ahead walks row t
+swept_on g plan table places next ahead walks row t s all entered settled covers = record {
+  sweep = record {
+    here = record {
+      all = all ∙ s.here.all;
+      each = λ i l. let b : i < length next = omega (arith, s.here.all) in sym ((settled i b).same) ∙ s.here.each i l;
+    };
+    earlier = s.earlier;
+  };
+  entered = λ i l. let b : i < length next = omega arith in ap (slice_index table) (sym ((settled i b).same)) ∙ entered i b;
+  settled = settled;
+  covers = covers;
+}

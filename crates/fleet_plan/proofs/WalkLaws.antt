@@ -1,9 +1,11 @@
 -- A walk ahead from one agent after another.
-use Rattle.std.proofs.Common.{◌≡◌, ◌≢◌, ℕ, ◌+◌, ◌<◌, ◌≤◌, List, [], ◌∷◌, length, get_or, set, Option, Some, None, IfSome, IfNone, ◌⊎◌, inl, inr, refl, sym, ap, ◌∙◌, subst, arith, sum_by}
+use Rattle.std.proofs.Common.{◌≡◌, ◌≢◌, ℕ, ◌+◌, ◌<◌, ◌≤◌, List, [], ◌∷◌, length, get_or, slice_index, set, Option, Some, None, IfSome, IfNone, ◌⊎◌, inl, inr, refl, sym, ap, ◌∙◌, subst, arith, sum_by}
 use Rattle.std.proofs.lemmas.Bool.{cases_eq}
 use Rattle.std.proofs.lemmas.List.{get_or-set_same, get_or-set_other, length-set}
 use Rattle.std.proofs.lemmas.List.Sums.{sum_by-set}
 use Rattle.fleet_plan.specs.Rings.{AreAgents, ahead_of, Leads, Reaches, IsOnRing, IsLeastOnRing, walk_of, IsWalked, AreClosed}
+use Rattle.fleet_plan.specs.UnderWay.{IsSoForOthers}
+use Rattle.fleet_plan.proofs.RowLaws.{IsSoBut, but_more, but_ends}
 use Rattle.fleet_plan.proofs.RingLaws.{some_is, none_is_not, ahead_within, reaches-on, reaches-next, ring-reaches}
 
 -- how many agents were not met
@@ -17,17 +19,35 @@ fewer walks k i l e =
     let one : vacant (get_or walks k None) ≡ 1 = ap vacant e in
     omega arith
 
--- walk i has come to an agent; old are the walks before it
-pub record IsWalk (ahead old walks : List (Option ℕ)) (i agent : ℕ) : Type 0 where
+-- walk i, from a first agent on, has come to an agent; old are the walks before it
+pub record IsWalk (ahead old walks : List (Option ℕ)) (i first agent : ℕ) : Type 0 where
   pub all : length walks ≡ length ahead
   pub within : agent < length ahead
   pub old_or_new : (k w : ℕ) → walk_of walks k ≡ Some w → (walk_of old k ≡ Some w) ⊎ (w ≡ i)
   pub kept : (k w : ℕ) → walk_of old k ≡ Some w → walk_of walks k ≡ Some w
   pub ahead_too : (k j : ℕ) → walk_of walks k ≡ Some i → ahead_of ahead k ≡ Some j → IsWalked walks j ⊎ (j ≡ agent)
   pub leads : (k : ℕ) → walk_of walks k ≡ Some i → (j : ℕ) × (ahead_of ahead k ≡ Some j) × Reaches ahead j agent
-  pub started : (agent ≡ i) ⊎ IsWalked walks i
+  pub started : (agent ≡ first) ⊎ IsWalked walks first
 
-module _ (ahead old walks : List (Option ℕ)) (i agent : ℕ) (w : IsWalk ahead old walks i agent) where
+pub walk_begins : (ahead old : List (Option ℕ)) (i first : ℕ) → AreClosed ahead old i → first < length ahead → IsWalk ahead old old i first first
+walk_begins ahead old i first c l = record {
+  all = c.all;
+  within = l;
+  old_or_new = λ k w e. inl e;
+  kept = λ k w e. e;
+  ahead_too = λ k j e f. absurd (let h : i < i = c.below k i e in omega arith);
+  leads = λ k e. absurd (let h : i < i = c.below k i e in omega arith);
+  started = inl refl;
+}
+
+module _ (ahead old walks : List (Option ℕ)) (i first agent : ℕ) (w : IsWalk ahead old walks i first agent) where
+  -- somebody is ahead of each one that this walk has met, or that was met before
+  live_on : AreClosed ahead old i → (k : ℕ) → IsWalked walks k → (j : ℕ) × (ahead_of ahead k ≡ Some j)
+  live_on closed k h = elim (w.old_or_new k h.0 h.1) [
+    | inl g ↦ closed.live k (h.0, g)
+    | inr g ↦ let l = w.leads k (h.1 ∙ ap (λ (z : ℕ). Some z) g) in (l.0, l.1)
+  ]
+
   -- the agent is met
   module _ (new : walk_of walks agent ≡ None) where
     abbrev after : List (Option ℕ)
@@ -57,10 +77,10 @@ module _ (ahead old walks : List (Option ℕ)) (i agent : ℕ) (w : IsWalk ahead
       | inr ne ↦ w.old_or_new k v (sym (other k ne) ∙ e)
     ]
 
-    start : IsWalked after i
+    start : IsWalked after first
     start = elim w.started [
       | inl s ↦ subst (IsWalked after) s met
-      | inr h ↦ still i h
+      | inr h ↦ still first h
     ]
 
     too : (k j : ℕ) → k ≢ agent → walk_of after k ≡ Some i → ahead_of ahead k ≡ Some j → IsWalked after j
@@ -69,7 +89,7 @@ module _ (ahead old walks : List (Option ℕ)) (i agent : ℕ) (w : IsWalk ahead
       | inr s ↦ subst (IsWalked after) (sym s) met
     ]
 
-    pub walk-more : AreAgents ahead → (next : ℕ) → ahead_of ahead agent ≡ Some next → IsWalk ahead old after i next
+    pub walk-more : AreAgents ahead → (next : ℕ) → ahead_of ahead agent ≡ Some next → IsWalk ahead old after i first next
     walk-more agents next e = record {
       all = length-set walks agent (Some i) ∙ w.all;
       within = agents agent next e;
@@ -86,58 +106,57 @@ module _ (ahead old walks : List (Option ℕ)) (i agent : ℕ) (w : IsWalk ahead
       started = inr start;
     }
 
-    -- nobody is ahead of it
-    module _ (closed : AreClosed ahead old i) (ends : ahead_of ahead agent ≡ None) where
-      pub end-closed : AreClosed ahead after (i + 1)
-      end-closed = record {
-        all = length-set walks agent (Some i) ∙ w.all;
-        ahead_too = λ k j h f. go k j h f (old_or k h.0 h.1);
-        below = λ k v f. elim (old_or k v f) [ inl g ↦ let l : v < i = closed.below k v g in omega arith | inr g ↦ omega arith ];
-      }
-        where
-          go : (k j : ℕ) → (h : IsWalked after k) → ahead_of ahead k ≡ Some j → (walk_of old k ≡ Some h.0) ⊎ (h.0 ≡ i) → IsWalked after j
-          go k j h f (inl g) = let o = closed.ahead_too k j (h.0, g) f in still j (o.0, w.kept j o.0 o.1)
-          go k j h f (inr g) = elim (cases_eq k agent) [
-            | inl s ↦ none_is_not j (ahead_of ahead k) f (ap (ahead_of ahead) s ∙ ends)
-            | inr ne ↦ too k j ne (h.1 ∙ ap (λ (z : ℕ). Some z) g) f
-          ]
+  -- nobody is ahead of it
+  module _ (closed : AreClosed ahead old i) (ends : ahead_of ahead agent ≡ None) where
+    pub end-closed : AreClosed ahead walks (i + 1)
+    end-closed = record {
+      all = w.all;
+      live = live_on closed;
+      ahead_too = λ k j h f. go k j h f (w.old_or_new k h.0 h.1);
+      below = λ k v f. elim (w.old_or_new k v f) [ inl g ↦ let l : v < i = closed.below k v g in omega arith | inr g ↦ omega arith ];
+    }
+      where
+        go : (k j : ℕ) → (h : IsWalked walks k) → ahead_of ahead k ≡ Some j → (walk_of old k ≡ Some h.0) ⊎ (h.0 ≡ i) → IsWalked walks j ⊎ (ahead_of ahead j ≡ None)
+        go k j h f (inl g) = elim (closed.ahead_too k j (h.0, g) f) [ inl o ↦ inl (o.0, w.kept j o.0 o.1) | inr e ↦ inr e ]
+        go k j h f (inr g) = elim (w.ahead_too k j (h.1 ∙ ap (λ (z : ℕ). Some z) g) f) [
+          | inl o ↦ inl o
+          | inr s ↦ inr (ap (ahead_of ahead) s ∙ ends)
+        ]
 
-      pub end-walked : IsWalked after i
-      end-walked = start
+    pub end-walked : IsWalked walks first ⊎ (ahead_of ahead first ≡ None)
+    end-walked = elim w.started [ inl s ↦ inr (ap (ahead_of ahead) (sym s) ∙ ends) | inr h ↦ inl h ]
 
-      pub end-kept : (k : ℕ) → IsWalked old k → IsWalked after k
-      end-kept k h = still k (h.0, w.kept k h.0 h.1)
+    pub end-kept : (k : ℕ) → IsWalked old k → IsWalked walks k
+    end-kept k h = (h.0, w.kept k h.0 h.1)
 
-      pub end-none : (k : ℕ) → IsWalked after k → IsOnRing ahead k → IsWalked old k
-      end-none k h r = elim (old_or k h.0 h.1) [
-        | inl g ↦ (h.0, g)
-        | inr g ↦ absurd (elim (cases_eq k agent) [
-          | inl s ↦ none_is_not r.next (ahead_of ahead k) r.ahead_is (ap (ahead_of ahead) s ∙ ends)
-          | inr ne ↦
-              let l = w.leads k (sym (other k ne) ∙ h.1 ∙ ap (λ (z : ℕ). Some z) g) in
-              let on = ring-reaches ahead k (l.0 ∷ l.2.0) agent r (l.1, l.2.1) in
-              none_is_not on.0.next (ahead_of ahead agent) on.0.ahead_is ends
-        ])
-      ]
+    pub end-none : (k : ℕ) → IsWalked walks k → IsOnRing ahead k → IsWalked old k
+    end-none k h r = elim (w.old_or_new k h.0 h.1) [
+      | inl g ↦ (h.0, g)
+      | inr g ↦
+          let l = w.leads k (h.1 ∙ ap (λ (z : ℕ). Some z) g) in
+          let on = ring-reaches ahead k (l.0 ∷ l.2.0) agent r (l.1, l.2.1) in
+          none_is_not on.0.next (ahead_of ahead agent) on.0.ahead_is ends
+    ]
 
   -- the agent was met before
   module _ (closed : AreClosed ahead old i) (before : IsWalked walks agent) where
     pub stop-closed : AreClosed ahead walks (i + 1)
     stop-closed = record {
       all = w.all;
+      live = live_on closed;
       ahead_too = λ k j h f. go k j h f (w.old_or_new k h.0 h.1);
       below = λ k v f. elim (w.old_or_new k v f) [ inl g ↦ let l : v < i = closed.below k v g in omega arith | inr g ↦ omega arith ];
     }
       where
-        go : (k j : ℕ) → (h : IsWalked walks k) → ahead_of ahead k ≡ Some j → (walk_of old k ≡ Some h.0) ⊎ (h.0 ≡ i) → IsWalked walks j
-        go k j h f (inl g) = let o = closed.ahead_too k j (h.0, g) f in (o.0, w.kept j o.0 o.1)
-        go k j h f (inr g) = elim (w.ahead_too k j (h.1 ∙ ap (λ (z : ℕ). Some z) g) f) [
+        go : (k j : ℕ) → (h : IsWalked walks k) → ahead_of ahead k ≡ Some j → (walk_of old k ≡ Some h.0) ⊎ (h.0 ≡ i) → IsWalked walks j ⊎ (ahead_of ahead j ≡ None)
+        go k j h f (inl g) = elim (closed.ahead_too k j (h.0, g) f) [ inl o ↦ inl (o.0, w.kept j o.0 o.1) | inr e ↦ inr e ]
+        go k j h f (inr g) = inl (elim (w.ahead_too k j (h.1 ∙ ap (λ (z : ℕ). Some z) g) f) [
           | inl o ↦ o
           | inr s ↦ subst (IsWalked walks) (sym s) before
-        ]
+        ])
 
-    pub stop-walked : IsWalked walks i
-    stop-walked = elim w.started [ inl s ↦ subst (IsWalked walks) s before | inr h ↦ h ]
+    pub stop-walked : IsWalked walks first ⊎ (ahead_of ahead first ≡ None)
+    stop-walked = inl (elim w.started [ inl s ↦ subst (IsWalked walks) s before | inr h ↦ h ])
 
     pub stop-kept : (k : ℕ) → IsWalked old k → IsWalked walks k
     stop-kept k h = (h.0, w.kept k h.0 h.1)
@@ -155,14 +174,21 @@ module _ (ahead old walks : List (Option ℕ)) (i agent : ℕ) (w : IsWalk ahead
     ]
 
     -- in an earlier one
-    closed_on : (k : ℕ) (js : List ℕ) (e : ℕ) → IsWalked old k → Leads ahead k js e → IsWalked old e
-    closed_on k [] e h f = subst (IsWalked old) f h
-    closed_on k (j ∷ js) e h f = closed_on j js e (closed.ahead_too k j h f.0) f.1
+    closed_on : (k : ℕ) (js : List ℕ) (e : ℕ) → IsOnRing ahead e → IsWalked old k → Leads ahead k js e → IsWalked old e
+    closed_on k [] e r h f = subst (IsWalked old) f h
+    closed_on k (j ∷ js) e r h f = elim (closed.ahead_too k j h f.0) [
+      | inl o ↦ closed_on j js e r o f.1
+      | inr none ↦ ended js f.1 none
+    ]
+      where
+        ended : (js : List ℕ) → Leads ahead j js e → ahead_of ahead j ≡ None → IsWalked old e
+        ended [] g none = none_is_not r.next (ahead_of ahead e) r.ahead_is (ap (ahead_of ahead) (sym g) ∙ none)
+        ended (m ∷ ms) g none = none_is_not m (ahead_of ahead j) g.0 none
 
     pub stop-none : walk_of walks agent ≢ Some i → (k : ℕ) → IsWalked walks k → IsOnRing ahead k → IsWalked old k
     stop-none ne k h r = elim (stop-some k h r) [
       | inl o ↦ o
-      | inr f ↦ closed_on agent f.0 k was f.1
+      | inr f ↦ closed_on agent f.0 k r was f.1
     ]
       where
         was : IsWalked old agent
@@ -178,23 +204,45 @@ abbrev pub IsLeastMet : List (Option ℕ) → List (Option ℕ) → Option ℕ �
 IsLeastMet ahead walks None = (k : ℕ) → IsWalked walks k → IsOnRing ahead k → ⊥
 IsLeastMet ahead walks (Some m) = IsOnRing ahead m × ((k : ℕ) → IsWalked walks k → IsOnRing ahead k → m ≤ k)
 
-pub record AreWalked (ahead walks : List (Option ℕ)) (least : Option ℕ) (i : ℕ) : Type 0 where
+-- the agents of the row below place i were met, but for those that nobody is ahead of
+pub record AreWalked (row : List ℕ) (ahead walks : List (Option ℕ)) (least : Option ℕ) (i : ℕ) : Type 0 where
   pub closed : AreClosed ahead walks i
-  pub walked : (k : ℕ) → k < i → IsWalked walks k
+  pub walked : IsSoBut row i (length ahead) (λ k. IsWalked walks k ⊎ (ahead_of ahead k ≡ None))
   pub least_met : IsLeastMet ahead walks least
 
-module _ (ahead old walks : List (Option ℕ)) (least : Option ℕ) (i : ℕ) (a : AreWalked ahead old least i) (closed : AreClosed ahead walks (i + 1)) (here : IsWalked walks i) (kept : (k : ℕ) → IsWalked old k → IsWalked walks k) where
-  walked_on : (k : ℕ) → k < i + 1 → IsWalked walks k
-  walked_on k l = elim (cases_eq k i) [ inl s ↦ subst (IsWalked walks) (sym s) here | inr ne ↦ kept k (a.walked k (omega arith)) ]
+pub walked_begins : (row : List ℕ) (ahead walks : List (Option ℕ)) → length walks ≡ length ahead → ((k : ℕ) → walk_of walks k ≡ None) → IsSoForOthers row (length ahead) (λ k. ahead_of ahead k ≡ None) → AreWalked row ahead walks None 0
+walked_begins row ahead walks all none others = record {
+  closed = record {
+    all = all;
+    live = λ k h. none_is_not h.0 (walk_of walks k) h.1 (none k);
+    ahead_too = λ k j h f. none_is_not h.0 (walk_of walks k) h.1 (none k);
+    below = λ k w h. none_is_not w (walk_of walks k) h (none k);
+  };
+  walked = record { each = λ k l. elim (others k l) [ inl c ↦ inl c | inr e ↦ inr (inr e) ] };
+  least_met = λ k h r. none_is_not h.0 (walk_of walks k) h.1 (none k);
+}
 
-  pub walked-more_none : ((k : ℕ) → IsWalked walks k → IsOnRing ahead k → IsWalked old k) → AreWalked ahead walks least (i + 1)
+-- who was not met, where nobody is ahead of it
+pub walked_none : (row : List ℕ) (ahead walks : List (Option ℕ)) (least : Option ℕ) (i : ℕ) → AreWalked row ahead walks least i → (k : ℕ) → ahead_of ahead k ≡ None → walk_of walks k ≡ None
+walked_none row ahead walks least i a k e = go (walk_of walks k) refl
+  where
+    go : (o : Option ℕ) → walk_of walks k ≡ o → walk_of walks k ≡ None
+    go None h = h
+    go (Some w) h = let j = a.closed.live k (w, h) in none_is_not j.0 (ahead_of ahead k) j.1 e
+
+module _ (row : List ℕ) (ahead old walks : List (Option ℕ)) (least : Option ℕ) (i : ℕ) (a : AreWalked row ahead old least i) (closed : AreClosed ahead walks (i + 1)) (here : IsWalked walks (slice_index row i) ⊎ (ahead_of ahead (slice_index row i) ≡ None)) (kept : (k : ℕ) → IsWalked old k → IsWalked walks k) where
+  walked_on : IsSoBut row (i + 1) (length ahead) (λ k. IsWalked walks k ⊎ (ahead_of ahead k ≡ None))
+  walked_on = but_more row i (length ahead) (λ k. IsWalked old k ⊎ (ahead_of ahead k ≡ None)) (λ k. IsWalked walks k ⊎ (ahead_of ahead k ≡ None)) a.walked here
+      (λ k l ne h. elim h [ inl o ↦ inl (kept k o) | inr e ↦ inr e ])
+
+  pub walked-more_none : ((k : ℕ) → IsWalked walks k → IsOnRing ahead k → IsWalked old k) → AreWalked row ahead walks least (i + 1)
   walked-more_none none = record { closed = closed; walked = walked_on; least_met = go least a.least_met }
     where
       go : (m : Option ℕ) → IsLeastMet ahead old m → IsLeastMet ahead walks m
       go None h = λ k v r. h k (none k v r) r
       go (Some m) h = (h.0, λ k v r. h.1 k (none k v r) r)
 
-  pub walked-more_some : (agent m m' : ℕ) → IsOnRing ahead m → ((k : ℕ) → Reaches ahead agent k → m ≤ k) → m' ≤ m → IfSome least (λ b. m' ≤ b) → (m' ≡ m) ⊎ (Some m' ≡ least) → ((k : ℕ) → IsWalked walks k → IsOnRing ahead k → IsWalked old k ⊎ Reaches ahead agent k) → AreWalked ahead walks (Some m') (i + 1)
+  pub walked-more_some : (agent m m' : ℕ) → IsOnRing ahead m → ((k : ℕ) → Reaches ahead agent k → m ≤ k) → m' ≤ m → IfSome least (λ b. m' ≤ b) → (m' ≡ m) ⊎ (Some m' ≡ least) → ((k : ℕ) → IsWalked walks k → IsOnRing ahead k → IsWalked old k ⊎ Reaches ahead agent k) → AreWalked row ahead walks (Some m') (i + 1)
   walked-more_some agent m m' ring round le below which some = record { closed = closed; walked = walked_on; least_met = go least a.least_met below which }
     where
       go : (b : Option ℕ) → IsLeastMet ahead old b → IfSome b (λ b. m' ≤ b) → (m' ≡ m) ⊎ (Some m' ≡ b) → IsLeastMet ahead walks (Some m')
@@ -205,16 +253,18 @@ module _ (ahead old walks : List (Option ℕ)) (least : Option ℕ) (i : ℕ) (a
         λ k v r. elim (some k v r) [ inl o ↦ let g : b ≤ k = h.1 k o r in omega arith | inr f ↦ let g : m ≤ k = round k f in omega arith ],
       )
 
-walked-all_none : (ahead walks : List (Option ℕ)) (i : ℕ) → AreWalked ahead walks None i → length ahead ≤ i → (k : ℕ) → IsOnRing ahead k → ⊥
-walked-all_none ahead walks i a l k r = a.least_met k (a.walked k (let h : k < length ahead = ahead_within ahead k r.next r.ahead_is in omega arith)) r
+-- at the end each agent on a ring was met
+module _ (row : List ℕ) (ahead walks : List (Option ℕ)) (i : ℕ) (l : length row ≤ i) where
+  all_met : (least : Option ℕ) → AreWalked row ahead walks least i → (k : ℕ) → IsOnRing ahead k → IsWalked walks k
+  all_met least a k r = elim (but_ends row i (length ahead) (λ k. IsWalked walks k ⊎ (ahead_of ahead k ≡ None)) a.walked l k (ahead_within ahead k r.next r.ahead_is)) [
+    | inl h ↦ h
+    | inr e ↦ none_is_not r.next (ahead_of ahead k) r.ahead_is e
+  ]
 
-walked-all_some : (ahead walks : List (Option ℕ)) (m i : ℕ) → AreWalked ahead walks (Some m) i → length ahead ≤ i → IsLeastOnRing ahead m
-walked-all_some ahead walks m i a l = record { ring = a.least_met.0; least = λ k r. a.least_met.1 k (a.walked k (let h : k < length ahead = ahead_within ahead k r.next r.ahead_is in omega arith)) r }
+  pub walked-some : (o : Option ℕ) → AreWalked row ahead walks o i → IfSome o (IsLeastOnRing ahead)
+  walked-some None a = tt
+  walked-some (Some m) a = record { ring = a.least_met.0; least = λ k r. a.least_met.1 k (all_met (Some m) a k r) r }
 
-pub walked-some : (ahead walks : List (Option ℕ)) (o : Option ℕ) (i : ℕ) → AreWalked ahead walks o i → length ahead ≤ i → IfSome o (IsLeastOnRing ahead)
-walked-some ahead walks None i a l = tt
-walked-some ahead walks (Some m) i a l = walked-all_some ahead walks m i a l
-
-pub walked-nobody : (ahead walks : List (Option ℕ)) (o : Option ℕ) (i : ℕ) → AreWalked ahead walks o i → length ahead ≤ i → IfNone o ((k : ℕ) → IsOnRing ahead k → ⊥)
-walked-nobody ahead walks None i a l = walked-all_none ahead walks i a l
-walked-nobody ahead walks (Some m) i a l = tt
+  pub walked-nobody : (o : Option ℕ) → AreWalked row ahead walks o i → IfNone o ((k : ℕ) → IsOnRing ahead k → ⊥)
+  walked-nobody None a = λ k r. a.least_met k (all_met None a k r) r
+  walked-nobody (Some m) a = tt

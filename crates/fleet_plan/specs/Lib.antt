@@ -3,6 +3,7 @@ pub mod PlanReading
 pub mod CellReading
 pub mod FirstFault
 pub mod Rings
+pub mod UnderWay
 pub mod Sweep
 pub mod Plan
 pub mod Checked

@@ -1,5 +1,5 @@
 -- Who is ahead of whom in one step, and rings of agents each of which is ahead of the one before it.
-use Rattle.std.specs.Prelude.{◌≡◌, ℕ, ◌<◌, ◌≤◌, List, [], ◌∷◌, length, get_or, Option, Some, None}
+use Rattle.std.specs.Prelude.{◌≡◌, ℕ, ◌<◌, ◌≤◌, List, [], ◌∷◌, length, get_or, Option, Some, None, ◌⊎◌}
 
 -- the agent ahead of agent i, where there is one
 abbrev pub ahead_of : List (Option ℕ) → ℕ → Option ℕ
@@ -39,8 +39,9 @@ walk_of walks i = get_or walks i None
 abbrev pub IsWalked : List (Option ℕ) → ℕ → Type 0
 IsWalked walks i = (w : ℕ) × (walk_of walks i ≡ Some w)
 
--- who is ahead of one that was met was met too, and walks have numbers below n
+-- somebody is ahead of each one that was met, who was met too unless nobody is ahead of that one; and walks have numbers below n
 pub record AreClosed (ahead walks : List (Option ℕ)) (n : ℕ) : Type 0 where
   pub all : length walks ≡ length ahead
-  pub ahead_too : (i j : ℕ) → IsWalked walks i → ahead_of ahead i ≡ Some j → IsWalked walks j
+  pub live : (i : ℕ) → IsWalked walks i → (j : ℕ) × (ahead_of ahead i ≡ Some j)
+  pub ahead_too : (i j : ℕ) → IsWalked walks i → ahead_of ahead i ≡ Some j → IsWalked walks j ⊎ (ahead_of ahead j ≡ None)
   pub below : (i w : ℕ) → walk_of walks i ≡ Some w → w < n

@@ -5,11 +5,20 @@ use Rattle.fleet_plan.specs.Plan.{Plan, cell_of}
 use Rattle.fleet_plan.specs.declared.plan_fault.Conflict.{Conflict}
 use Rattle.fleet_plan.specs.declared.plan_fault.Conflict.TheVariants.{Vertex, Swapping, Cycle}
 use Rattle.fleet_plan.specs.FirstFault.{IsPairUpTo}
-use Rattle.fleet_plan.specs.Rings.{ahead_of, IsOnRing, IsLeastOnRing}
+use Rattle.fleet_plan.specs.UnderWay.{IsSoForOthers}
+use Rattle.fleet_plan.specs.Rings.{ahead_of, walk_of, IsOnRing, IsLeastOnRing}
 
 -- every agent stands on a cell of the map, at every time
 abbrev pub IsOnMap : Ground → Plan → Type 0
 IsOnMap g plan = (i t : ℕ) → i < length plan → ((cell_of plan i t).x < g.width) × ((cell_of plan i t).y < g.height)
+
+-- the agent stands in its place at time t
+abbrev pub StandsAt : Ground → Plan → ℕ → List ℕ → ℕ → Type 0
+StandsAt g plan t places i = slice_index places i ≡ cell_index g (cell_of plan i t)
+
+-- those that stand nowhere in the row do
+abbrev pub OthersStandAt : Ground → Plan → ℕ → List ℕ → List ℕ → Type 0
+OthersStandAt g plan t row places = IsSoForOthers row (length plan) (StandsAt g plan t places)
 
 -- the agents stand in these places at time t
 pub record ArePlaces (g : Ground) (plan : Plan) (t : ℕ) (places : List ℕ) : Type 0 where
@@ -26,9 +35,21 @@ pub record IsFirstMeeting (places : List ℕ) (i j : ℕ) : Type 0 where
   pub meet : Meet places i j
   pub first : (k l : ℕ) → Meet places k l → IsPairUpTo i j k l
 
+-- the table has the agent in its place
+abbrev pub HasIn : List ℕ → List ℕ → ℕ → Type 0
+HasIn table places i = slice_index table (slice_index places i) ≡ i
+
 -- the table has each agent in its place
 abbrev pub IsEntered : List ℕ → List ℕ → Type 0
 IsEntered table places = (i : ℕ) → i < length places → slice_index table (slice_index places i) ≡ i
+
+-- the agent goes to no other place
+abbrev pub Stays : List ℕ → List ℕ → ℕ → Type 0
+Stays places next i = slice_index next i ≡ slice_index places i
+
+-- nobody is ahead of the agent
+abbrev pub IsFree : List (Option ℕ) → ℕ → Type 0
+IsFree ahead i = ahead_of ahead i ≡ None
 
 -- who is ahead of the agent: who stands in the place to which it goes, where it goes to another one
 abbrev pub IsAhead : List ℕ → List ℕ → ℕ → Option ℕ → Type 0
@@ -47,6 +68,10 @@ pub record Exchange (ahead : List (Option ℕ)) (i j : ℕ) : Type 0 where
 pub record IsFirstExchange (ahead : List (Option ℕ)) (i j : ℕ) : Type 0 where
   pub exchange : Exchange ahead i j
   pub first : (k l : ℕ) → Exchange ahead k l → i ≤ k
+
+-- no two are so
+abbrev pub HasNone : (ℕ → ℕ → Type 0) → Type 0
+HasNone P = (i j : ℕ) → P i j → ⊥
 
 -- nobody meets another
 abbrev pub HasNoMeeting : List ℕ → Type 0
@@ -69,3 +94,28 @@ pub record IsFreeIn (places next : List ℕ) : Type 0 where
   pub are_ahead : AreAhead places next ahead
   pub none : HasNoExchange places ahead
   pub no_ring : (i : ℕ) → IsOnRing ahead i → ⊥
+
+-- the first conflict in the step after time t, by who is ahead of whom
+abbrev pub IsFirstAhead : List (Option ℕ) → ℕ → Conflict → Type 0
+IsFirstAhead ahead t (Vertex x i j) = ⊥
+IsFirstAhead ahead t (Swapping x i j) = (x ≡ t) × IsFirstExchange ahead i j
+IsFirstAhead ahead t (Cycle x least) = (x ≡ t) × HasNone (Exchange ahead) × IsLeastOnRing ahead least
+
+-- there is none
+pub record IsFreeAhead (ahead : List (Option ℕ)) : Type 0 where
+  pub none : HasNone (Exchange ahead)
+  pub no_ring : (i : ℕ) → IsOnRing ahead i → ⊥
+
+-- the agent is where it goes, nobody is ahead of it, and no walk has met it
+pub record IsSettled (places next : List ℕ) (ahead walks : List (Option ℕ)) (i : ℕ) : Type 0 where
+  pub same : slice_index next i ≡ slice_index places i
+  pub nobody : ahead_of ahead i ≡ None
+  pub unwalked : walk_of walks i ≡ None
+
+-- all agents are settled
+abbrev pub AreSettled : List ℕ → List ℕ → List (Option ℕ) → List (Option ℕ) → Type 0
+AreSettled places next ahead walks = (i : ℕ) → i < length next → IsSettled places next ahead walks i
+
+-- those that stand nowhere in the row are
+abbrev pub AreOthersSettled : List ℕ → List ℕ → List ℕ → List (Option ℕ) → List (Option ℕ) → Type 0
+AreOthersSettled row places next ahead walks = IsSoForOthers row (length next) (IsSettled places next ahead walks)

@@ -370,8 +370,11 @@ fn rings_of_three(rt: HostRuntime) {
         ),
     ];
     for (ahead, least) in cases {
-        let mut walks = [Some(0u16); 7];
-        assert_eq!(rt; least_on_ring(ahead, &mut walks[..ahead.len()]), least);
+        let row = [0, 1, 2, 3, 4, 5, 6];
+        let mut walks = [None; 7];
+        let n = ahead.len();
+        assert!(rt; n <= row.len());
+        assert_eq!(rt; least_on_ring(&row[..n], ahead, &mut walks[..n]), least);
     }
 }
 
@@ -408,5 +411,38 @@ fn paths_that_end_early(rt: HostRuntime) -> Result<(), Fail> {
         &[(2, 0), (1, 0), (1, 1), (0, 1)],
     ];
     assert_eq!(rt; fault_on(&rt, alloc, &grid, &meets), vertex(1, 0, 3));
+    Ok(())
+}
+
+#[test]
+fn agents_that_have_arrived(rt: HostRuntime) -> Result<(), Fail> {
+    let alloc = rt.alloc();
+    let grid = open_map(&rt, alloc, 6, 3);
+    // Agent 1 arrives at time 1, and agent 0 runs into it at time 6.
+    let late: [&[(u16, u16)]; 2] = [
+        &[
+            (0, 0),
+            (1, 0),
+            (2, 0),
+            (3, 0),
+            (4, 0),
+            (4, 1),
+            (3, 1),
+            (3, 2),
+        ],
+        &[(2, 1), (3, 1)],
+    ];
+    assert_eq!(rt; fault_on(&rt, alloc, &grid, &late), vertex(6, 0, 1));
+    // The cell that it left is free.
+    let free: [&[(u16, u16)]; 2] = [&[(0, 1), (0, 1), (1, 1), (2, 1)], &[(2, 1), (3, 1)]];
+    assert_eq!(rt; fault_on(&rt, alloc, &grid, &free), None);
+    // Agents 2 and 3 run into agents 1 and 0 at once, and the pair of agent 0 is told.
+    let two: [&[(u16, u16)]; 4] = [
+        &[(0, 1), (0, 0)],
+        &[(5, 1), (5, 0)],
+        &[(3, 0), (3, 0), (4, 0), (5, 0), (4, 0)],
+        &[(2, 0), (2, 0), (1, 0), (0, 0), (1, 0)],
+    ];
+    assert_eq!(rt; fault_on(&rt, alloc, &grid, &two), vertex(3, 0, 3));
     Ok(())
 }

@@ -1,21 +1,31 @@
 //! Rings of agents in one step, each of which goes to the cell of the next one.
 
-ghost use Rattle.std.specs.Prelude.{◌≡◌, ℕ, ◌+◌, ◌<◌, ◌≤◌, ◌⊎◌, length, IfSome, IfNone};
+ghost use Rattle.std.specs.Prelude.{◌≡◌, ℕ, ◌+◌, ◌<◌, ◌≤◌, ◌⊎◌, All, length, IfSome, IfNone, Some, None};
 ghost use Rattle.fleet_model.specs.declared.limits.TheConstants.{MAX_AGENTS};
-ghost use Rattle.fleet_plan.specs.Rings.{AreAgents, IsOnRing, IsLeastOnRing, Reaches, IsWalked, AreClosed};
+ghost use Rattle.fleet_plan.specs.Rings.{AreAgents, ahead_of, walk_of, IsOnRing, IsLeastOnRing, Reaches, IsWalked, AreClosed};
+ghost use Rattle.fleet_plan.specs.UnderWay.{IsSoForOthers};
+ghost use Rattle.fleet_plan.specs.Sweep.{IsFree};
 
-/// The least agent that is on a ring, where each agent has at most one that is ahead of it. `walks` is for own use.
-pub(crate) fn least_on_ring(ahead: &[Option<u16>], walks: &mut [Option<u16>]) -> Option<u16>
+/// The least agent that is on a ring, where each agent has at most one that is ahead of it, and nobody is ahead of those
+/// that are not in the row. `walks` is for own use: an agent that nobody is ahead of is not noted there.
+pub(crate) fn least_on_ring(
+    row: &[u16],
+    ahead: &[Option<u16>],
+    walks: &mut [Option<u16>],
+) -> Option<u16>
     requires agents { AreAgents ahead.now }
+    requires row { All (λ i. i < length ahead.now) row.now }
+    requires few { length row.now ≤ MAX_AGENTS }
+    requires others { IsSoForOthers row.now (length ahead.now) (IsFree ahead.now) }
     requires walks { length walks.old ≡ length ahead.now }
-    requires few { length ahead.now ≤ MAX_AGENTS }
+    requires unwalked { (i : ℕ) → walk_of walks.old i ≡ None }
     ensures some { IfSome result (IsLeastOnRing ahead.now) }
     ensures none { IfNone result ((i : ℕ) → IsOnRing ahead.now i → ⊥) }
+    ensures unwalked { (i : ℕ) → ahead_of ahead.now i ≡ None → walk_of walks.new i ≡ None }
 {
-    walks.fill(None);
     let mut least = None;
-    for i in 0..ahead.len() as u16 {
-        if let Some(agent) = walk(ahead, walks, i) {
+    for (number, first) in row.iter().enumerate() {
+        if let Some(agent) = walk(ahead, walks, number as u16, *first) {
             least = Some(lesser(least, least_around(ahead, agent)));
         }
     }
@@ -34,25 +44,27 @@ fn lesser(least: Option<u16>, other: u16) -> u16
     }
 }
 
-/// Walks ahead from agent `i` to an agent that was walked on before. The answer is an agent where this walk met itself.
-fn walk(ahead: &[Option<u16>], walks: &mut [Option<u16>], i: u16) -> Option<u16>
+/// Walks ahead from an agent to one that was walked on before, or that nobody is ahead of. The answer is an agent where
+/// this walk met itself.
+fn walk(ahead: &[Option<u16>], walks: &mut [Option<u16>], number: u16, first: u16) -> Option<u16>
     requires agents { AreAgents ahead.now }
     requires walks { length walks.old ≡ length ahead.now }
-    requires closed { AreClosed ahead.now walks.old i }
-    requires agent { i < length ahead.now }
-    ensures closed { AreClosed ahead.now walks.new (i + 1) }
-    ensures walked { IsWalked walks.new i }
+    requires closed { AreClosed ahead.now walks.old number }
+    requires agent { first < length ahead.now }
+    ensures closed { AreClosed ahead.now walks.new (number + 1) }
+    ensures walked { IsWalked walks.new first ⊎ (ahead_of ahead.now first ≡ None) }
     ensures kept { (k : ℕ) → IsWalked walks.old k → IsWalked walks.new k }
     ensures some { IfSome result (λ agent. IsOnRing ahead.now agent × ((k : ℕ) → IsWalked walks.new k → IsOnRing ahead.now k → IsWalked walks.old k ⊎ Reaches ahead.now agent k)) }
     ensures none { IfNone result ((k : ℕ) → IsWalked walks.new k → IsOnRing ahead.now k → IsWalked walks.old k) }
 {
-    let mut agent = i;
+    let mut agent = first;
     loop {
+        let next = ahead[usize::from(agent)]?;
         if let Some(walk) = walks[usize::from(agent)] {
-            return if walk == i { Some(agent) } else { None };
+            return if walk == number { Some(agent) } else { None };
         }
-        walks[usize::from(agent)] = Some(i);
-        agent = ahead[usize::from(agent)]?;
+        walks[usize::from(agent)] = Some(number);
+        agent = next;
     }
 }
 

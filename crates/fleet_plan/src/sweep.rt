@@ -1,11 +1,13 @@
-//! The sweep over time for conflicts, with a table of the map's cells in which each agent enters itself.
+//! The sweep over time for conflicts, with a table of the map's cells in which each agent enters itself. Each step looks at
+//! the agents under way alone: one that has come to its last cell stays entered there, and is not visited again.
 
-ghost use Rattle.std.specs.Prelude.{◌≡◌, ◌≢◌, ℕ, ◌+◌, ◌*◌, ◌<◌, ◌≤◌, ◌⊎◌, IfOk, IfSome, IfNone, length, slice_index, Some, All};
+ghost use Rattle.std.specs.Prelude.{◌≡◌, ◌≢◌, ℕ, ◌+◌, ◌*◌, ◌<◌, ◌≤◌, ◌⊎◌, IfOk, IfSome, IfNone, length, filter, slice_index, Some, None, All, IsTrue, false};
 ghost use Rattle.fleet_grid.specs.Ground.{is_passable};
 ghost use Rattle.fleet_model.specs.declared.limits.TheConstants.{MAX_AGENTS};
 ghost use Rattle.fleet_plan.specs.FirstFault.{AllAgents, GoesRight, IsFirstConflict, HasNoConflict};
-ghost use Rattle.fleet_plan.specs.Rings.{AreAgents};
-ghost use Rattle.fleet_plan.specs.Sweep.{IsOnMap, ArePlaces, IsFirstMeeting, IsEntered, AreAhead, Exchange, IsFirstExchange, IsFirstIn, IsFreeIn};
+ghost use Rattle.fleet_plan.specs.Rings.{AreAgents, ahead_of, walk_of};
+ghost use Rattle.fleet_plan.specs.Sweep.{IsOnMap, ArePlaces, IsFirstMeeting, IsEntered, IsAhead, AreAhead, Exchange, IsFirstExchange, HasNone, IsFirstAhead, IsFreeAhead, OthersStandAt, HasIn, Stays, IsFree, AreSettled, AreOthersSettled};
+ghost use Rattle.fleet_plan.specs.UnderWay.{IsSoForOthers, is_under_way, Covers};
 
 use crate::plan::Plan;
 use crate::plan_fault::Conflict;
@@ -21,6 +23,19 @@ fn fill_places(plan: &Plan, grid: &Grid, time: u32, places: &mut [usize])
 {
     for i in 0..plan.agents() {
         places[usize::from(i)] = grid.cell_index(plan.cell(i, time));
+    }
+}
+
+/// The same for the agents of the row alone, where all others stay.
+fn fill_next(plan: &Plan, grid: &Grid, time: u32, agents: &[u16], next: &mut [usize])
+    requires on_map { IsOnMap grid.now plan.now }
+    requires agents { All (λ i. i < length plan.now) agents.now }
+    requires all { length next.old ≡ length plan.now }
+    requires others { OthersStandAt grid.now plan.now time agents.now next.old }
+    ensures { ArePlaces grid.now plan.now time next.new }
+{
+    for &i in agents {
+        next[usize::from(i)] = grid.cell_index(plan.cell(i, time));
     }
 }
 
@@ -69,20 +84,60 @@ fn occupant(table: &[u16], places: &[usize], place: usize) -> Option<u16>
     }
 }
 
-/// For each agent who stands in the place to which it goes, where it goes to another one.
-fn fill_ahead(table: &[u16], places: &[usize], next: &[usize], ahead: &mut [Option<u16>])
+/// Who stands in the place to which agent `i` goes, where it goes to another one.
+fn agent_ahead(table: &[u16], places: &[usize], next: &[usize], i: u16) -> Option<u16>
     requires entered { IsEntered table.now places.now }
-    requires agents { length ahead.old ≡ length places.now }
+    requires agent { i < length places.now }
     requires next { length next.now ≡ length places.now }
     requires within { All (λ place. place < length table.now) next.now }
-    ensures { AreAhead places.now next.now ahead.new }
+    ensures { IsAhead places.now next.now i result }
 {
-    for (i, slot) in ahead.iter_mut().enumerate() {
-        *slot = if next[i] == places[i] {
-            None
-        } else {
-            occupant(table, places, next[i])
-        };
+    let place = next[usize::from(i)];
+    if place == places[usize::from(i)] {
+        None
+    } else {
+        occupant(table, places, place)
+    }
+}
+
+/// Notes for each agent of the row who is ahead of it; nobody is ahead of the others, who stay. Answers whether no two
+/// are ahead of each other.
+fn fill_ahead(
+    table: &[u16],
+    places: &[usize],
+    next: &[usize],
+    agents: &[u16],
+    ahead: &mut [Option<u16>],
+) -> bool
+    requires entered { IsEntered table.now places.now }
+    requires agents { All (λ i. i < length places.now) agents.now }
+    requires next { length next.now ≡ length places.now }
+    requires within { All (λ place. place < length table.now) next.now }
+    requires all { length ahead.old ≡ length places.now }
+    requires nobody { (i : ℕ) → ahead_of ahead.old i ≡ None }
+    requires others { IsSoForOthers agents.now (length places.now) (Stays places.now next.now) }
+    ensures ahead { AreAhead places.now next.now ahead.new }
+    ensures apart { IsTrue result → HasNone (Exchange ahead.new) }
+{
+    let mut apart = true;
+    for &i in agents {
+        let next_one = agent_ahead(table, places, next, i);
+        if is_behind(ahead, next_one, i) {
+            apart = false;
+        }
+        ahead[usize::from(i)] = next_one;
+    }
+    apart
+}
+
+/// Whether agent `i` is ahead of the other one.
+fn is_behind(ahead: &[Option<u16>], other: Option<u16>, i: u16) -> bool
+    requires { IfSome other (λ j. j < length ahead.now) }
+    ensures { IfSome other (λ j. result ≡ false → ahead_of ahead.now j ≢ Some i) }
+{
+    match other {
+        Some(j) => ahead[usize::from(j)] == Some(i),
+        None => false,
     }
 }
 
@@ -103,37 +158,112 @@ fn first_exchange(ahead: &[Option<u16>]) -> Option<(u16, u16)>
     None
 }
 
-/// The first conflict at `time`, where the agents stand in these places at `time` and at `time + 1`. The other rows are
-/// for own use.
-fn conflict_at(
+/// The first conflict in the step after `time`, by who is ahead of whom. `apart` says that no two are ahead of each
+/// other; `walks` is for own use.
+fn conflict_in(
     time: u32,
-    places: &[usize],
-    next: &[usize],
-    table: &mut [u16],
-    ahead: &mut [Option<u16>],
+    apart: bool,
+    agents: &[u16],
+    ahead: &[Option<u16>],
     walks: &mut [Option<u16>],
 ) -> Option<Conflict>
-    requires few { length places.now ≤ MAX_AGENTS }
-    requires next { length next.now ≡ length places.now }
-    requires ahead { length ahead.old ≡ length places.now }
-    requires walks { length walks.old ≡ length places.now }
-    requires places_within { All (λ place. place < length table.old) places.now }
-    requires next_within { All (λ place. place < length table.old) next.now }
-    ensures some { IfSome result (IsFirstIn places.now next.now time) }
-    ensures none { IfNone result (IsFreeIn places.now next.now) }
+    requires ahead { AreAgents ahead.now }
+    requires few { length ahead.now ≤ MAX_AGENTS }
+    requires apart { IsTrue apart → HasNone (Exchange ahead.now) }
+    requires agents { All (λ i. i < length ahead.now) agents.now }
+    requires few_agents { length agents.now ≤ MAX_AGENTS }
+    requires others { IsSoForOthers agents.now (length ahead.now) (IsFree ahead.now) }
+    requires walks { length walks.old ≡ length ahead.now }
+    requires unwalked { (i : ℕ) → walk_of walks.old i ≡ None }
+    ensures some { IfSome result (IsFirstAhead ahead.now time) }
+    ensures none { IfNone result (IsFreeAhead ahead.now) }
+    ensures unwalked { (i : ℕ) → ahead_of ahead.now i ≡ None → walk_of walks.new i ≡ None }
 {
-    if let Some((i, j)) = first_meeting(table, places) {
-        return Some(Conflict::Vertex { time, i, j });
+    if !apart {
+        if let Some((i, j)) = first_exchange(ahead) {
+            return Some(Conflict::Swapping { time, i, j });
+        }
     }
-    fill_ahead(table, places, next, ahead);
-    if let Some((i, j)) = first_exchange(ahead) {
-        return Some(Conflict::Swapping { time, i, j });
-    }
-    let least = least_on_ring(ahead, walks)?;
+    let least = least_on_ring(agents, ahead, walks)?;
     Some(Conflict::Cycle { time, least })
 }
 
-/// The first conflict of a plan. The table has an entry for each cell of the map, and the rows one for each agent.
+/// Enters the agents of the row in their places of the table, where the others are entered in theirs. Answers whether it
+/// found none of them in the place of another agent.
+fn enter(table: &mut [u16], agents: &[u16], places: &[usize]) -> bool
+    requires within { All (λ place. place < length table.old) places.now }
+    requires agents { All (λ i. i < length places.now) agents.now }
+    requires others { IsSoForOthers agents.now (length places.now) (HasIn table.old places.now) }
+    ensures { IsTrue result → IsEntered table.new places.now }
+{
+    for &i in agents {
+        let place = places[usize::from(i)];
+        let other = table[place];
+        if other != i && places.get(usize::from(other)) == Some(&place) {
+            return false;
+        }
+        table[place] = i;
+    }
+    true
+}
+
+/// The first two agents in one place, where the agents that are not in the row are entered in theirs. Where there are
+/// none, each agent is then entered.
+fn meeting(table: &mut [u16], agents: &[u16], places: &[usize]) -> Option<(u16, u16)>
+    requires within { All (λ place. place < length table.old) places.now }
+    requires few { length places.now ≤ MAX_AGENTS }
+    requires agents { All (λ i. i < length places.now) agents.now }
+    requires others { IsSoForOthers agents.now (length places.now) (HasIn table.old places.now) }
+    ensures some { IfSome result (λ pair. IsFirstMeeting places.now pair.0 pair.1) }
+    ensures none { IfNone result (IsEntered table.new places.now) }
+{
+    if enter(table, agents, places) {
+        return None;
+    }
+    first_meeting(table, places)
+}
+
+/// The agents of the row have come to their next places. Nobody is then ahead of anybody, and the walks are forgotten.
+fn settle(
+    agents: &[u16],
+    next: &[usize],
+    places: &mut [usize],
+    ahead: &mut [Option<u16>],
+    walks: &mut [Option<u16>],
+)
+    requires agents { All (λ i. i < length next.now) agents.now }
+    requires places { length places.old ≡ length next.now }
+    requires ahead { length ahead.old ≡ length next.now }
+    requires walks { length walks.old ≡ length next.now }
+    requires others { AreOthersSettled agents.now places.old next.now ahead.old walks.old }
+    ensures { AreSettled places.new next.now ahead.new walks.new }
+{
+    for &i in agents {
+        let agent = usize::from(i);
+        places[agent] = next[agent];
+        ahead[agent] = None;
+        walks[agent] = None;
+    }
+}
+
+/// Keeps the agents whose paths go on after `time`.
+fn keep_under_way(agents: &mut Vec<u16>, plan: &Plan, time: u32)
+    requires { All (λ i. i < length plan.now) agents.old.items }
+    ensures { agents.new.items ≡ filter (is_under_way plan.now time) agents.old.items }
+{
+    let mut kept = 0;
+    for next in 0..agents.len() {
+        let i = agents[next];
+        if time < plan.path(i).steps() {
+            agents[kept] = i;
+            kept += 1;
+        }
+    }
+    agents.truncate(kept);
+}
+
+/// The first conflict of a plan. The table has an entry for each cell of the map, the rows have one for each agent, and
+/// the last one has all agents.
 fn sweep(
     plan: &Plan,
     grid: &Grid,
@@ -142,28 +272,54 @@ fn sweep(
     next: &mut [usize],
     ahead: &mut [Option<u16>],
     walks: &mut [Option<u16>],
+    agents: &mut Vec<u16>,
 ) -> Option<Conflict>
     requires on_map { IsOnMap grid.now plan.now }
     requires table { length table.old ≡ grid.now.width * grid.now.height }
     requires places { length places.old ≡ length plan.now }
     requires next { length next.old ≡ length plan.now }
     requires ahead { length ahead.old ≡ length plan.now }
+    requires nobody { (i : ℕ) → ahead_of ahead.old i ≡ None }
     requires walks { length walks.old ≡ length plan.now }
+    requires unwalked { (i : ℕ) → walk_of walks.old i ≡ None }
+    requires agents { Covers plan.now 0 agents.old.items }
     ensures some { IfSome result (IsFirstConflict plan.now) }
     ensures none { IfNone result (HasNoConflict plan.now) }
 {
     // Agents in one place are on one cell: a law of the map.
     cells_have_places_of_their_own();
+    let end = plan.steps() + 1;
     fill_places(plan, grid, 0, places);
-    for time in 0..plan.steps() + 1 {
-        fill_places(plan, grid, time + 1, next);
-        let found = conflict_at(time, places, next, table, ahead, walks);
+    next.copy_from_slice(places);
+    if let Some((i, j)) = first_meeting(table, places) {
+        return Some(Conflict::Vertex { time: 0, i, j });
+    }
+    for time in 0..end {
+        fill_next(plan, grid, time + 1, agents, next);
+        let apart = fill_ahead(table, places, next, agents, ahead);
+        let found = conflict_in(time, apart, agents, ahead, walks);
         if found.is_some() {
             return found;
         }
-        places.copy_from_slice(next);
+        if let Some((i, j)) = meeting(table, agents, next) {
+            let time = time + 1;
+            return Some(Conflict::Vertex { time, i, j });
+        }
+        settle(agents, next, places, ahead, walks);
+        keep_under_way(agents, plan, time + 1);
     }
     None
+}
+
+/// All agents.
+fn agents_of(alloc: Global, plan: &Plan) -> Result<Vec<u16>, AllocError>
+    ensures { IfOk result (λ agents. Covers plan.now 0 agents.items) }
+{
+    let mut agents = Vec::with_capacity(alloc, usize::from(plan.agents()))?;
+    for i in 0..plan.agents() {
+        agents.push(i)?;
+    }
+    Ok(agents)
 }
 
 /// The first conflict of a plan whose agents go over passable cells. Takes memory for the cells of the map and for the
@@ -185,6 +341,7 @@ pub(crate) fn first_conflict(
     let mut next = vec![in alloc; 0usize; agents]?;
     let mut ahead = vec![in alloc; None; agents]?;
     let mut walks = vec![in alloc; None; agents]?;
+    let mut under_way = agents_of(alloc, plan)?;
     Ok(sweep(
         plan,
         grid,
@@ -193,5 +350,6 @@ pub(crate) fn first_conflict(
         &mut next,
         &mut ahead,
         &mut walks,
+        &mut under_way,
     ))
 }

@@ -2,8 +2,8 @@ use Rattle.std.proofs.Common.{sum_by}
 use Rattle.fleet_plan.proofs.WalkLaws.{IsWalk, vacant}
 use Rattle.fleet_plan.proofs.rings.walk.Given as goal
 
-abbrev pub invariant-loop-walks : goal.invariant-loop-walks
-invariant-loop-walks l = IsWalk l.ahead l.fn.walks l.walks l.i l.agent
+abbrev pub invariant-loop-next : goal.invariant-loop-next
+invariant-loop-next l = IsWalk l.ahead l.fn.walks l.walks l.number l.first l.agent
 
-abbrev pub decreases-loop-walks : goal.decreases-loop-walks
-decreases-loop-walks l = sum_by vacant l.walks
+abbrev pub decreases-loop-next : goal.decreases-loop-next
+decreases-loop-next l = sum_by vacant l.walks

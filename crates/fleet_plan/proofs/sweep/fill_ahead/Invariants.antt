@@ -1,7 +1,11 @@
-use Rattle.std.proofs.Common.{ℕ, ◌<◌}
+use Rattle.std.proofs.Common.{length, IsTrue}
 use Rattle.fleet_plan.specs.Rings.{ahead_of}
-use Rattle.fleet_plan.specs.Sweep.{IsAhead}
+use Rattle.fleet_plan.specs.Sweep.{IsAhead, Exchange, HasNone}
+use Rattle.fleet_plan.proofs.RowLaws.{IsSoBut}
 use Rattle.fleet_plan.proofs.sweep.fill_ahead.Given as goal
 
 abbrev pub invariant-loop-i : goal.invariant-loop-i
-invariant-loop-i l = (k : ℕ) → k < l.i → IsAhead l.places l.next k (ahead_of l.ahead k)
+invariant-loop-i l = record {
+  each : IsSoBut l.agents l.i-index (length l.places) (λ k. IsAhead l.places l.next k (ahead_of l.ahead k));
+  apart : IsTrue l.apart → HasNone (Exchange l.ahead);
+}

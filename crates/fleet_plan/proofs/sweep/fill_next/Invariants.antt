@@ -1,0 +1,8 @@
+use Rattle.std.proofs.Common.{◌≡◌, length, slice_index}
+use Rattle.fleet_grid.specs.Ground.{cell_index}
+use Rattle.fleet_plan.specs.Plan.{cell_of}
+use Rattle.fleet_plan.proofs.RowLaws.{IsSoBut}
+use Rattle.fleet_plan.proofs.sweep.fill_next.Given as goal
+
+abbrev pub invariant-loop-i : goal.invariant-loop-i
+invariant-loop-i l = IsSoBut l.agents l.i-index (length l.plan) (λ k. slice_index l.next k ≡ cell_index l.grid (cell_of l.plan k l.time))

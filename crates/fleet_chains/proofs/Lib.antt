@@ -1,3 +1,4 @@
+pub mod Rows
 pub mod Finishing
 pub mod Decide
 pub mod Needs

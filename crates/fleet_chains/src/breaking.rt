@@ -7,12 +7,12 @@ ghost use Rattle.fleet_model.specs.declared.program.ActionId.{ActionId};
 ghost use Rattle.fleet_model.specs.Program.{AreInRange};
 ghost use Rattle.fleet_model.specs.Chain.{IsNumbering};
 ghost use Rattle.fleet_model.specs.Visit.{IsVisit};
+ghost use Rattle.fleet_verify.specs.Walk.{IsReadyBy};
 ghost use Rattle.fleet_chains.specs.Breaking.{AreUnordered, IsHeldBy, AreAdvanced, AreBreakingHolds, MeetOn};
 ghost use Rattle.fleet_chains.specs.Needed.{AreNeeded};
 
 use crate::needed::needed_for;
 use fleet_model::{OutOfMemory, ProgramView, Visit, total_moves};
-use fleet_verify::is_ready;
 use std::alloc::Global;
 
 /// The holds that bring the agents of two visits onto their cell, where the visits have no order
@@ -70,6 +70,28 @@ fn holds_by<P: ProgramView>(
         counts = next;
     }
     Ok(holds)
+}
+
+/// Whether an agent has an action left, and all that it awaits is finished, where so many actions of each agent are.
+fn is_ready<P: ProgramView>(program: &P, counts: &[u32], i: u16) -> bool
+    requires agent { i < length (P.program program.now) }
+    requires counts { length counts.now ≡ length (P.program program.now) }
+    ensures { IsTrue result ↔ IsReadyBy (P.program program.now) counts.now i }
+{
+    let agents = program.agents();
+    let done = counts[i as usize];
+    if done >= program.moves(i) {
+        return false;
+    }
+    let number = done + 1;
+    for k in 0..program.await_count(i, number) {
+        let awaited = program.await_at(i, number, k);
+        prove!(awaited.agent < agents);
+        if counts[awaited.agent as usize] < awaited.count {
+            return false;
+        }
+    }
+    true
 }
 
 /// Whether an agent has an action left, and the next one is not needed.

@@ -1,24 +1,23 @@
 -- Fleets that are finished.
-use Rattle.std.proofs.Common.{◌≡◌, ◌<◌, ◌≤◌, ℕ, zero, suc, ◌&&◌, not, Bool, true, false, length, filter, [], refl, ap, sym, subst, ◌∙◌, inl, inr, arith, add-one, Result, Ok, Err}
+use Rattle.std.proofs.Common.{◌≡◌, ◌<◌, ◌≤◌, ℕ, zero, suc, ◌&&◌, not, Bool, true, false, length, filter, refl, ap, sym, subst, ◌∙◌, inl, inr, arith, add-one, Result, Ok, Err}
 use Rattle.std.specs.Prelude.{IfOk}
 use Rattle.std.specs.List.{list_any}
 use Rattle.std.proofs.lemmas.Bool.{cases_lt}
-use Rattle.std.proofs.lemmas.List.{ext_get_or}
 use Rattle.fleet_model.specs.Program.{Program, moves}
-use Rattle.fleet_model.specs.Machine.{Configuration, Holds, run, tick, standing_at, count_at, is_ready, is_moving, is_ready_held, moved_in, is_finished, indices, IsFinish}
+use Rattle.fleet_model.specs.Machine.{Configuration, Holds, run, tick, count_at, is_ready, is_moving, is_ready_held, moved_in, is_finished, indices, IsFinish}
 use Rattle.fleet_model.specs.Chain.{IsLongestChain}
 use Rattle.fleet_model.specs.Run.{Arrives}
-use Rattle.fleet_model.proofs.Tick.{length-tick, standing_at_tick, other_stays}
 use Rattle.fleet_run.specs.declared.run.RunFault.{RunFault}
 use Rattle.fleet_run.specs.declared.trace.Report.{Report}
 use Rattle.fleet_run.specs.Fleet.{AreOnGoals}
 use Rattle.fleet_text.specs.Sink.{SinkState}
 use Rattle.fleet_run.specs.Source.{SourceState}
 use Rattle.fleet_run.specs.Drive.{Drives}
-use Rattle.fleet_run.proofs.Indices.{any_suc}
-use Rattle.fleet_run.proofs.Ready.{no_action_left}
-use Rattle.fleet_run.proofs.Advanced.{filter_more}
-use Rattle.fleet_run.proofs.Opened.{not_finished_if}
+use Rattle.fleet_machine.proofs.Indices.{any_suc}
+use Rattle.fleet_machine.proofs.Ready.{no_action_left}
+use Rattle.fleet_machine.proofs.Advanced.{filter_more}
+use Rattle.fleet_machine.proofs.Opened.{not_finished_if}
+use Rattle.fleet_machine.proofs.Resting.{rests_if}
 
 -- ---- nobody is ready any more
 
@@ -55,10 +54,7 @@ rests p held c agents h =
     let ready = nobody_ready p c h in
     let still = λ (i : ℕ) (l : i < length p). ap (λ b. b && not (held i)) (ready i l) in
     let calm = λ (i : ℕ) (l : i < length p). ap (λ b. b && held i) (ready i l) in
-    let same : tick p held c ≡ c =
-    ext_get_or (standing_at [] 0) (tick p held c) c (length-tick p held c ∙ sym agents)
-    (λ i l. let inside : i < length p = omega (arith, l, length-tick p held c) in standing_at_tick p held c i inside ∙ other_stays p held c i (still i inside)) in
-    (same, none_counted (is_moving p held c) (length p) still, none_below (λ i. is_ready p c i && held i) (length p) calm)
+    (rests_if p held c agents still, none_counted (is_moving p held c) (length p) still, none_below (λ i. is_ready p c i && held i) (length p) calm)
 
 -- ---- all stand on their goals
 

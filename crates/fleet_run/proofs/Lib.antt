@@ -1,9 +1,3 @@
-pub mod Ready
-pub mod Indices
-pub mod Judged
-pub mod Advanced
-pub mod Opened
-pub mod Kept
 pub mod Closing
 pub mod SourceLemmas
 pub mod Ending

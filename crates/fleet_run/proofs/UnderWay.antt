@@ -1,12 +1,12 @@
 -- A run on its way, one tick at a time.
-use Rattle.std.proofs.Common.{◌≡◌, ◌<◌, ◌≤◌, ◌*◌, subst, ℕ, zero, suc, ◌+◌, not, Bool, true, false, cond, None, Option, List, [], ◌∷◌, get_or, drop, length, refl, ap, sym, ◌∙◌, add-one, inl, inr, ◌≢◌, arith, below_more, Result, Ok, Err}
+use Rattle.std.proofs.Common.{◌≡◌, ◌<◌, ◌≤◌, ◌*◌, subst, ℕ, zero, suc, ◌+◌, not, Bool, true, false, cond, None, List, [], ◌∷◌, get_or, drop, length, refl, ap, sym, ◌∙◌, add-one, inl, inr, ◌≢◌, arith, below_more, Result, Ok, Err}
 use Rattle.std.proofs.lemmas.Bool.{cases_Bool}
 use Rattle.std.proofs.lemmas.List.{length-drop}
 use Rattle.fleet_model.specs.declared.limits.TheConstants.{MAX_AGENTS, MAX_MOVES_V1}
 use Rattle.fleet_run.specs.declared.run.TheConstants.{MOST_TICKS}
 use Rattle.fleet_model.specs.Program.{Program, IsWellFormed}
 use Rattle.fleet_model.specs.Machine.{Configuration, Holds, is_ready_held, is_over, is_among, is_held, tick, run, held_ticks}
-use Rattle.fleet_run.specs.Source.{SourceState, HasNotFailed, flag_of, AreFlagsOf, AsksTick, first_of, rest_of}
+use Rattle.fleet_run.specs.Source.{SourceState, HasNotFailed, AreFlagsOf, AsksTick, first_of, rest_of}
 use Rattle.fleet_run.specs.declared.source.SourceFault.{SourceFault}
 use Rattle.fleet_run.specs.declared.source.SourceFault.TheVariants.{Broken, Text}
 use Rattle.fleet_run.specs.declared.run.RunFault.{RunFault}
@@ -14,6 +14,7 @@ use Rattle.fleet_run.specs.Outcome.{NeedsTicks, IsAskedFor, StopsAtSource, RunsL
 use Rattle.std.specs.Prelude.{is_err}
 use Rattle.fleet_text.specs.Sink.{SinkState, Takes, TakesAll}
 use Rattle.fleet_run.specs.Text.{line_of, lines_below}
+use Rattle.fleet_machine.specs.Machine.{flag_of}
 use Rattle.fleet_model.proofs.Tick.{length-run}
 use Rattle.fleet_model.proofs.Runs.{tick_agree, held_ticks-le}
 use Rattle.fleet_text.proofs.SinkLemmas.{takes_more}

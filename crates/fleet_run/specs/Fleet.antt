@@ -5,7 +5,7 @@ use Rattle.fleet_model.specs.Program.{Program, goal_of}
 use Rattle.fleet_model.specs.Machine.{Configuration, Holds, IsReached, is_stuck, place_at, run}
 use Rattle.fleet_model.specs.Chain.{IsLongestChain}
 use Rattle.fleet_verify.specs.Parts.{AcceptedParts, IsAcceptedFor}
-use Rattle.fleet_run.specs.Machine.{MachineState, Runs}
+use Rattle.fleet_machine.specs.Machine.{MachineState, Runs}
 
 -- an accepted program, and the configuration in which its agents are
 pub record FleetState (P : Type 0) : Type 0 where

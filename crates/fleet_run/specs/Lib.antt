@@ -1,5 +1,3 @@
-pub mod Near
-pub mod Machine
 pub mod Text
 pub mod Source
 pub mod Outcome
@@ -7,5 +5,4 @@ pub mod Rehearsal
 pub mod HoldText
 pub mod Fleet
 pub mod Drive
-pub mod Confirmed
 pub mod Told

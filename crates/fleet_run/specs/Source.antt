@@ -1,11 +1,8 @@
 -- What a source of held sets can still give, what comes after that, and as what it has failed.
-use Rattle.std.specs.Prelude.{◌≡◌, ℕ, ◌<◌, Bool, true, false, List, [], ◌∷◌, length, get_or, None, Some, Option, Result, Ok, Err}
+use Rattle.std.specs.Prelude.{◌≡◌, ℕ, ◌<◌, Bool, true, false, List, [], ◌∷◌, length, None, Some, Option, Result, Ok, Err}
 use Rattle.fleet_model.specs.Machine.{Holds, is_among}
+use Rattle.fleet_machine.specs.Machine.{flag_of}
 use Rattle.fleet_run.specs.declared.source.SourceFault.{SourceFault}
-
--- flag i of the flags
-abbrev pub flag_of : List Bool → ℕ → Bool
-flag_of flags i = get_or flags i false
 
 -- flag i says whether the tick has the number i
 abbrev pub AreFlagsOf : List ℕ → List Bool → Type 0

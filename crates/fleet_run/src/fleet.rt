@@ -10,13 +10,14 @@ ghost use Rattle.fleet_run.specs.Drive.{Drives, IsInTime};
 ghost use Rattle.fleet_run.specs.Fleet.{AreOnGoals};
 ghost use Rattle.fleet_run.specs.declared.run.TheConstants.{MOST_TICKS};
 ghost use Rattle.fleet_text.specs.Sink.{IsWorking};
-ghost use Rattle.fleet_run.specs.Source.{HasNotFailed, flag_of};
-ghost use Rattle.fleet_run.specs.Confirmed.{all_but, AreSent, IsFirstUnsent};
+ghost use Rattle.fleet_run.specs.Source.{HasNotFailed};
+ghost use Rattle.fleet_machine.specs.Confirmed.{all_but, AreSent, IsFirstUnsent};
+ghost use Rattle.fleet_machine.specs.Machine.{flag_of};
 
-use crate::machine::{Machine, Tick};
 use crate::run::RunFault;
 use crate::source::{HoldSource, flip};
 use crate::trace::{Report, run_trace};
+use fleet_machine::{Machine, Tick};
 use fleet_model::{Place, ProgramView, Step};
 use fleet_text::TraceOut;
 use fleet_verify::{

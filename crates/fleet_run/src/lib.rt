@@ -5,7 +5,6 @@
 mod fleet;
 mod hold_list;
 mod hold_text;
-mod machine;
 mod report;
 mod run;
 mod source;
@@ -13,10 +12,10 @@ mod text;
 mod trace;
 
 pub use fleet::{Fleet, NotSent, StartRefusal, drive};
+pub use fleet_machine::Tick;
 pub use fleet_text::{Flush, OutFault, TraceOut, VecOut, WriteOut, put_all};
 pub use hold_list::HoldList;
 pub use hold_text::{HoldText, a_tick_line_is_read};
-pub use machine::Tick;
 pub use report::{Rehearsal, rehearse};
 pub use run::{End, MOST_TICKS, RunFault};
 pub use source::{HoldSource, SourceFault};

@@ -4,10 +4,10 @@ ghost use Rattle.fleet_run.specs.Rehearsal.{Rehearses};
 ghost use Rattle.fleet_text.specs.Sink.{IsWorking};
 ghost use Rattle.fleet_run.specs.Source.{HasNotFailed};
 
-use crate::machine::Machine;
 use crate::run::{End, RunFault, run_lines};
 use crate::source::HoldSource;
 use crate::text::{CLOSING, write_rehearsal_closing};
+use fleet_machine::Machine;
 use fleet_model::ProgramView;
 use fleet_text::{TraceOut, put_all};
 use std::alloc::Global;

@@ -2,15 +2,15 @@
 
 ghost use Rattle.std.specs.Prelude.{◌≡◌, ◌<◌, ◌≤◌, length};
 ghost use Rattle.fleet_model.specs.Machine.{opening};
-ghost use Rattle.fleet_run.specs.Machine.{Runs};
+ghost use Rattle.fleet_machine.specs.Machine.{Runs};
 ghost use Rattle.fleet_run.specs.Text.{line_of};
 ghost use Rattle.fleet_text.specs.Sink.{IsWorking, TakesAll};
 ghost use Rattle.fleet_run.specs.Source.{HasNotFailed};
 ghost use Rattle.fleet_run.specs.Outcome.{end_of, fault_of, RunsLines};
 
-use crate::machine::Machine;
 use crate::source::{HoldSource, SourceFault, ask};
 use crate::text::{LINE, write_line};
+use fleet_machine::Machine;
 use fleet_model::{MAX_AGENTS, ProgramView, Standing};
 use fleet_text::{OutFault, Refusal, TraceOut, put_all, put_memory, put_named, put_named_at};
 use thiserror::Error;

@@ -1,7 +1,8 @@
 //! Sources of held sets: a source stands for the ticks that it can still give, and for what comes after them.
 
 ghost use Rattle.std.specs.Prelude.{◌≡◌, ℕ, ◌<◌, not, length, true, []};
-ghost use Rattle.fleet_run.specs.Source.{HasNotFailed, GivesTick, AsksTick, AreFlagsOf, flag_of};
+ghost use Rattle.fleet_run.specs.Source.{HasNotFailed, GivesTick, AsksTick, AreFlagsOf};
+ghost use Rattle.fleet_machine.specs.Machine.{flag_of};
 
 /// As what a source failed: it broke off, or its text has no tick where one was asked for.
 #[derive(Clone, Copy, Debug, PartialEq, Eq)]

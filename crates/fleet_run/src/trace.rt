@@ -2,16 +2,16 @@
 
 ghost use Rattle.std.specs.Prelude.{◌≡◌};
 ghost use Rattle.fleet_model.specs.Machine.{opening};
-ghost use Rattle.fleet_run.specs.Machine.{Runs};
+ghost use Rattle.fleet_machine.specs.Machine.{Runs};
 ghost use Rattle.fleet_run.specs.Fleet.{IsShown};
 ghost use Rattle.fleet_run.specs.Drive.{Drives};
 ghost use Rattle.fleet_text.specs.Sink.{IsWorking};
 ghost use Rattle.fleet_run.specs.Source.{HasNotFailed};
 
-use crate::machine::Machine;
 use crate::run::{RunFault, run_lines};
 use crate::source::HoldSource;
 use crate::text::{CLOSING, write_trace_closing};
+use fleet_machine::Machine;
 use fleet_model::ProgramView;
 use fleet_text::{TraceOut, put_all};
 

@@ -1,98 +1,60 @@
--- One more agent of a tick without holds.
-use Rattle.std.proofs.Common.{◌≡◌, ℕ, ◌+◌, ◌<◌, ◌≤◌, Bool, true, false, cond, List, [], ◌∷◌, ◌++◌, length, map, get_or, slice_index, set, refl, ap, sym, ◌∙◌, subst, arith, inl, inr, IsTrue, Some, get_or-set_same, get_or-set_other, below_more, ◌≢◌}
-use Rattle.std.specs.Prelude.{◌⊎◌}
+-- The positions that begin in a tick, agent by agent, and the cells that a path comes to.
+use Rattle.std.proofs.Common.{◌≡◌, ℕ, zero, suc, ◌+◌, ◌<◌, Bool, true, false, List, [], ◌∷◌, ◌++◌, length, map, Option, None, Some, refl, ap, sym, ◌∙◌, subst, arith, add-one, rules, IsTrue}
+use Rattle.std.specs.Prelude.{IfNone, IfSome, IsSome}
 use Rattle.std.specs.List.{filter}
-use Rattle.std.proofs.lemmas.Bool.{cases_eq}
-use Rattle.std.proofs.lemmas.List.{map-id, map-append, append_assoc}
+use Rattle.std.proofs.lemmas.List.{map-append, append_assoc}
 use Rattle.std.proofs.lemmas.List.Elements.{filter-append}
-use Rattle.std.proofs.lemmas.List.FromFn.{map-range_with_len_more}
+use Rattle.std.proofs.lemmas.Option.{same_Some}
 use Rattle.fleet_model.specs.declared.geometry.Cell.{Cell}
 use Rattle.fleet_model.specs.declared.geometry.Step.{Step}
 use Rattle.fleet_model.specs.declared.geometry.Place.{Place}
 use Rattle.fleet_model.specs.declared.program.Visit.{Visit}
 use Rattle.fleet_model.specs.Geometry.{place_of, stepped}
 use Rattle.fleet_model.specs.Machine.{indices}
-use Rattle.fleet_model.specs.Program.{Program, origin, step_of, path}
-use Rattle.fleet_verify.specs.Walk.{begun_by, AreCells}
-use Rattle.fleet_verify.proofs.Paths.{path_step}
-use Rattle.std.proofs.Common.{Option, None, rules}
-use Rattle.std.specs.Prelude.{IfNone, IfSome, IsSome}
-use Rattle.std.proofs.lemmas.Option.{same_Some}
-use Rattle.fleet_model.specs.Program.{moves}
+use Rattle.fleet_model.specs.Program.{Program, moves, step_of, path}
+use Rattle.fleet_machine.proofs.Indices.{indices_more}
 use Rattle.fleet_verify.specs.Faults.{EachAction, StandsRight}
-
-pub indices_more : (n : ℕ) → indices (n + 1) ≡ indices n ++ n ∷ []
-indices_more n = sym (map-id _) ∙ map-range_with_len_more (λ x. x) 0 n n (omega arith) ∙ ap (λ xs. xs ++ n ∷ []) (map-id _)
+use Rattle.fleet_verify.specs.Walk.{positions_of, begun_by}
+use Rattle.fleet_verify.proofs.Paths.{path_step}
 
 abbrev visit : ℕ → ℕ → Visit
 visit i n = record { agent = i; position = n }
 
-pub begun_yes : (moving : ℕ → Bool) (count : ℕ → ℕ) (n : ℕ) → moving n ≡ true → begun_by moving count (n + 1) ≡ begun_by moving count n ++ visit n (count n + 1) ∷ []
-begun_yes moving count n e = rw (indices_more n, filter-append, map-append, e) refl
+-- one agent more
+pub positions_yes : (moving : ℕ → Bool) (position : ℕ → ℕ) (n : ℕ) → moving n ≡ true → positions_of moving position (n + 1) ≡ positions_of moving position n ++ visit n (position n) ∷ []
+positions_yes moving position n e = rw (indices_more n, filter-append, map-append, e) refl
 
-pub begun_no : (moving : ℕ → Bool) (count : ℕ → ℕ) (n : ℕ) → moving n ≡ false → begun_by moving count (n + 1) ≡ begun_by moving count n
-begun_no moving count n e = rw (indices_more n, filter-append, map-append, e) append-nil
+pub positions_no : (moving : ℕ → Bool) (position : ℕ → ℕ) (n : ℕ) → moving n ≡ false → positions_of moving position (n + 1) ≡ positions_of moving position n
+positions_no moving position n e = rw (indices_more n, filter-append, map-append, e) append-nil
   where
-    append-nil : map (λ i. visit i (count i + 1)) (filter moving (indices n)) ++ [] ≡ map (λ i. visit i (count i + 1)) (filter moving (indices n))
+    append-nil : map (λ i. visit i (position i)) (filter moving (indices n)) ++ [] ≡ map (λ i. visit i (position i)) (filter moving (indices n))
     append-nil = Rattle.std.proofs.lemmas.List.append-nil _
 
--- the agents below n have finished an action, where they are moving
-pub record IsAdvanced (p : Program) (moving : ℕ → Bool) (old : List ℕ) (counts : List ℕ) (cells : List Cell) (n : ℕ) : Type 0 where
-  pub done : (k : ℕ) → k < n → slice_index counts k ≡ slice_index old k + (cond (moving k) 1 0)
-  pub rest : (k : ℕ) → n ≤ k → slice_index counts k ≡ slice_index old k
-  pub here : AreCells p counts cells
+pub begun_yes : (moving : ℕ → Bool) (count : ℕ → ℕ) (n : ℕ) → moving n ≡ true → begun_by moving count (n + 1) ≡ begun_by moving count n ++ visit n (count n + 1) ∷ []
+begun_yes moving count n e = positions_yes moving (λ i. count i + 1) n e
 
-module _ (p : Program) (moving : ℕ → Bool) (old : List ℕ) (counts : List ℕ) (cells : List Cell) (i : ℕ) (h : IsAdvanced p moving old counts cells i) where
-  pub one_stays : moving i ≡ false → IsAdvanced p moving old counts cells (i + 1)
-  one_stays flag = record {
-    done = below_more (λ k. slice_index counts k ≡ slice_index old k + (cond (moving k) 1 0)) i h.done (h.rest i (omega arith) ∙ rw flag (omega arith));
-    rest = λ k l. h.rest k (omega arith);
-    here = h.here;
-  }
+pub begun_no : (moving : ℕ → Bool) (count : ℕ → ℕ) (n : ℕ) → moving n ≡ false → begun_by moving count (n + 1) ≡ begun_by moving count n
+begun_no moving count n e = positions_no moving (λ i. count i + 1) n e
 
-  -- where a moving agent comes to
-  pub comes_to : (d : Step) (c : Cell) → i < length p → step_of p i (slice_index counts i + 1) ≡ Some d → place_of c ≡ stepped (place_of (get_or cells i origin)) d
-      → place_of c ≡ path p i (slice_index counts i + 1)
-  comes_to d c agent dir to = to ∙ ap (λ (q : Place). stepped q d) (h.here.here i agent) ∙ sym (path_step p i (slice_index counts i) d dir)
+-- the positions so far, with one more
+pub one_moved : (visits : List Visit) (moving : ℕ → Bool) (position : ℕ → ℕ) (i n : ℕ) → moving i ≡ true → n ≡ position i
+    → (visits ++ positions_of moving position i) ++ visit i n ∷ [] ≡ visits ++ positions_of moving position (i + 1)
+one_moved visits moving position i n flag e =
+    append_assoc visits (positions_of moving position i) (visit i n ∷ [])
+    ∙ ap (λ vs. visits ++ vs) (ap (λ k. positions_of moving position i ++ visit i k ∷ []) e ∙ sym (positions_yes moving position i flag))
 
-  pub one_moves : (d : Step) (c : Cell) → i < length p → i < length counts → moving i ≡ true → step_of p i (slice_index counts i + 1) ≡ Some d → place_of c ≡ stepped (place_of (get_or cells i origin)) d
-      → IsAdvanced p moving old (set counts i (slice_index counts i + 1)) (set cells i c) (i + 1)
-  one_moves d c agent inside flag dir to = record {
-    done = below_more (λ k. slice_index next k ≡ slice_index old k + (cond (moving k) 1 0)) i
-        (λ k l. let ne : k ≢ i = omega arith in get_or-set_other counts i k (slice_index counts i + 1) 0 ne ∙ h.done k l)
-        (get_or-set_same counts i (slice_index counts i + 1) 0 inside ∙ rw flag (let e : slice_index counts i ≡ slice_index old i = h.rest i (omega arith) in omega arith));
-    rest = λ k l. let ne : k ≢ i = omega arith in get_or-set_other counts i k (slice_index counts i + 1) 0 ne ∙ h.rest k (omega arith);
-    here = record { all = Rattle.std.proofs.Math.ListN.length-set cells i c ∙ h.here.all; here = λ k l. cell_at k l (cases_eq k i) };
-  }
-    where
-      next : List ℕ
-      next = set counts i (slice_index counts i + 1)
+pub positions_same : (m k : ℕ → Bool) (c d : ℕ → ℕ) (n : ℕ) → ((i : ℕ) → i < n → m i ≡ k i) → ((i : ℕ) → i < n → k i ≡ true → c i ≡ d i) → positions_of m c n ≡ positions_of k d n
+positions_same m k c d zero h e = refl
+positions_same m k c d (suc n) h e =
+    subst (λ x. positions_of m c x ≡ positions_of k d x) (add-one n) (go (m n) refl (positions_same m k c d n (λ i l. h i (omega arith)) (λ i l. e i (omega arith))))
+  where
+    go : (b : Bool) → m n ≡ b → positions_of m c n ≡ positions_of k d n → positions_of m c (n + 1) ≡ positions_of k d (n + 1)
+    go true f rest =
+        let g : k n ≡ true = sym (h n (omega arith)) ∙ f in
+        positions_yes m c n f ∙ (ap (λ vs. vs ++ visit n (c n) ∷ []) rest ∙ (ap (λ x. positions_of k d n ++ visit n x ∷ []) (e n (omega arith) g) ∙ sym (positions_yes k d n g)))
+    go false f rest = positions_no m c n f ∙ (rest ∙ sym (positions_no k d n (sym (h n (omega arith)) ∙ f)))
 
-      there : place_of c ≡ path p i (slice_index counts i + 1)
-      there = comes_to d c agent dir to
-
-      cell_at : (k : ℕ) → k < length p → (k ≡ i) ⊎ (k ≡ i → ⊥) → place_of (get_or (set cells i c) k origin) ≡ path p k (slice_index next k)
-      cell_at k l (inl e) =
-          let long : i < length cells = omega (arith, h.here.all) in
-          ap (λ j. place_of (get_or (set cells i c) j origin)) e ∙ (ap place_of (get_or-set_same cells i c origin long)
-          ∙ (there ∙ sym (ap (λ j. path p j (slice_index next j)) e ∙ ap (path p i) (get_or-set_same counts i (slice_index counts i + 1) 0 inside))))
-      cell_at k l (inr ne) =
-          ap place_of (get_or-set_other cells i k c origin ne) ∙ (h.here.here k l ∙ ap (path p k) (sym (get_or-set_other counts i k (slice_index counts i + 1) 0 ne)))
-
-  -- the visits that have begun, with one agent more
-  pub one_begun : (visits : List Visit) → moving i ≡ true → (visits ++ begun_by moving (slice_index old) i) ++ visit i (slice_index counts i + 1) ∷ [] ≡ visits ++ begun_by moving (slice_index old) (i + 1)
-  one_begun visits flag =
-      append_assoc visits (begun_by moving (slice_index old) i) (visit i (slice_index counts i + 1) ∷ [])
-      ∙ ap (λ vs. visits ++ vs) (ap (λ n. begun_by moving (slice_index old) i ++ visit i (n + 1) ∷ []) (h.rest i (omega arith)) ∙ sym (begun_yes moving (slice_index old) i flag))
-
--- what an agent's next action leads to is passable
-pub next_stands : (passable : Place → Bool) (p : Program) (counts : List ℕ) (cells : List Cell) (i : ℕ) (d : Step) → EachAction p (StandsRight passable p) → AreCells p counts cells
-    → i < length p → slice_index counts i < moves p i → step_of p i (slice_index counts i + 1) ≡ Some d → passable (stepped (place_of (get_or cells i origin)) d) ≡ true
-next_stands passable p counts cells i d steps at agent left dir =
-    let e : path p i (slice_index counts i + 1) ≡ stepped (place_of (get_or cells i origin)) d =
-    path_step p i (slice_index counts i) d dir ∙ ap (λ (q : Place). stepped q d) (sym (at.here i agent)) in
-    let h : passable (path p i (slice_index counts i + 1)) ≡ true = steps i (slice_index counts i + 1) agent (omega arith) in
-    sym (ap passable e) ∙ h
+-- ---- cells
 
 pub some_there : (r : Option Cell) (b : Bool) → IfNone r (b ≡ false) → b ≡ true → IsSome r
 some_there None b h e = absurd (cc (h, e))

@@ -30,3 +30,4 @@ pub mod Waiting
 pub mod Judged
 pub mod Refuses
 pub mod Claimed
+pub mod Blocked

@@ -1,8 +1,8 @@
 -- The stays of a finished run without holds have all visits, sorted.
-use Rattle.std.proofs.Common.{◌≡◌, ℕ, zero, suc, ◌<◌, ◌≤◌, Bool, true, false, List, [], ◌∷◌, length, map, get_or, slice_index, Some, slice_get, refl, ap, sym, ◌∙◌, subst, arith, inl, inr, IsTrue}
+use Rattle.std.proofs.Common.{◌≡◌, ℕ, zero, suc, ◌<◌, ◌≤◌, Bool, true, false, List, [], ◌∷◌, length, map, get_or, Some, slice_get, refl, ap, sym, ◌∙◌, subst, arith, inl, inr}
 use Rattle.std.specs.Prelude.{Contains, All, option_map}
 use Rattle.std.specs.List.{filter, AllPairs}
-use Rattle.std.proofs.lemmas.Bool.{cases_lt, cases_order}
+use Rattle.std.proofs.lemmas.Bool.{cases_order}
 use Rattle.std.proofs.lemmas.List.{get_or_default, length-map}
 use Rattle.std.proofs.lemmas.List.Kept.{AllPairs-filter}
 use Rattle.std.proofs.lemmas.Option.{slice_get_within, get_or_from_slice_get, same_Some}
@@ -12,7 +12,7 @@ use Rattle.fleet_model.specs.declared.program.Await.{Await}
 use Rattle.fleet_model.specs.declared.program.ActionId.{ActionId}
 use Rattle.fleet_model.specs.declared.program.Visit.{Visit}
 use Rattle.fleet_model.specs.Geometry.{place_of, is_same_place}
-use Rattle.fleet_model.specs.Machine.{count_at, run, is_finished, is_over}
+use Rattle.fleet_model.specs.Machine.{run, is_finished, IsEnd}
 use Rattle.fleet_model.specs.Program.{Program, moves, actions_of, awaits_of, path, start_of, goal_of}
 use Rattle.fleet_model.specs.Chain.{IsLongestChain}
 use Rattle.fleet_model.specs.Visit.{is_entry, IsVisitOf, ListsVisits, ComesAfter, IsOrderly}
@@ -20,20 +20,15 @@ use Rattle.fleet_model.specs.Accepted.{IsAccepted}
 use Rattle.fleet_model.specs.Program.{AreInRange}
 use Rattle.fleet_verify.proofs.Arrive.{unheld_is_longest}
 use Rattle.fleet_model.specs.Visit.{IsVisit}
-use Rattle.fleet_verify.specs.Walk.{IsReadyBy}
 use Rattle.fleet_verify.specs.Listing.{IsBefore, IsSortedListing}
-use Rattle.fleet_verify.proofs.Readiness.{ready_from}
-use Rattle.fleet_verify.proofs.ReadyBy.{by_ready}
 use Rattle.fleet_verify.proofs.Members.{contains_head, contains_later, contains_cases, contains_none, filter_has, filter_from}
-use Rattle.fleet_verify.proofs.Finish.{finished_from}
 use Rattle.fleet_verify.proofs.Listing.{levels_number}
 use Rattle.fleet_verify.proofs.Neighbours.{adjacent_from}
 use Rattle.fleet_verify.specs.declared.watch.Stay.{Stay}
-use Rattle.fleet_verify.specs.Walk.{begun_in, IsWalk}
+use Rattle.fleet_verify.specs.Walk.{begun_in}
 use Rattle.fleet_verify.specs.Order.{visits_of, entries, AreAllStays, IsStay, AreNoted, AreAllNoted}
 use Rattle.fleet_verify.specs.declared.watch.Watch.{Watch}
 use Rattle.fleet_verify.specs.Faults.{HasRanges, AwaitsRight, EachAction}
-use Rattle.fleet_verify.proofs.UnderWay.{ready_not_over}
 use Rattle.fleet_model.proofs.Places.{is_same_place-true, is_same_place-eq}
 use Rattle.fleet_verify.proofs.FreeRun.{level, levels_are, order_all, IsOrder}
 
@@ -103,30 +98,13 @@ visits_are p q (s ∷ stays) h = go (is_same_place (place_of s.cell) q) refl (vi
     go true e rest = let f : is_at p q s.visit ≡ true = here ∙ e in rw (e, f) (ap (λ vs. s.visit ∷ vs) rest)
     go false e rest = let f : is_at p q s.visit ≡ false = here ∙ e in rw (e, f) rest
 
-module _ (p : Program) (counts : List ℕ) (t : ℕ) (walk : IsWalk p counts t) where
-  finished : ((i : ℕ) → i < length p → moves p i ≤ slice_index counts i) → is_finished p (run p [] t) ≡ true
-  finished h = finished_from p (run p [] t) (λ a act.
-      let e : slice_index counts a.agent ≡ count_at (run p [] t) a.agent = walk.finished a.agent in
-      let l : moves p a.agent ≤ slice_index counts a.agent = h a.agent act.agent in
-      let m : a.number ≤ moves p a.agent = act.last in
-      omega arith)
-
+module _ (p : Program) (t : ℕ) (end : IsEnd p [] t) (fin : is_finished p (run p [] t) ≡ true) where
   -- the longest chain has as many actions as there were ticks
-  pub chain_is : AreInRange p → ((i : ℕ) → i < length p → moves p i ≤ slice_index counts i) → IsLongestChain p t
-  chain_is range h = unheld_is_longest p range t (record { holds = finished h; least = least })
-    where
-      least : (s : ℕ) → IsTrue (is_finished p (run p [] s)) → t ≤ s
-      least s f = elim (cases_lt s t) [ inr l ↦ l | inl l ↦ absurd (let n = walk.sooner s l in let g : is_over p (run p [] s) ≡ true = rw f refl in cc) ]
+  pub chain_is : AreInRange p → IsLongestChain p t
+  chain_is range = unheld_is_longest p range t (record { holds = fin; least = λ s f. end.least s (rw f refl) })
 
-  -- nobody is ready
-  pub stuck : (i : ℕ) → i < length p → IsReadyBy p counts i → ⊥
-  stuck i l r =
-      let e = ready_not_over p (run p [] t) i l (ready_from p (run p [] t) i (by_ready p (run p [] t) counts walk.finished i r)) in
-      let f = walk.over in
-      cc
-
-  pub all_stays : (w : Watch) → AreNoted p (begun_in p t) w → AreInRange p → ((i : ℕ) → i < length p → moves p i ≤ slice_index counts i) → AreAllNoted p w
-  all_stays w noted range h = record {
+  pub all_stays : (w : Watch) → AreNoted p (begun_in p t) w → AreInRange p → AreAllNoted p w
+  all_stays w noted range = record {
     stays = stays;
     all = record {
       level = lev;
@@ -141,9 +119,6 @@ module _ (p : Program) (counts : List ℕ) (t : ℕ) (walk : IsWalk p counts t) 
     where
       stays : List Stay
       stays = noted.stays
-
-      fin : is_finished p (run p [] t) ≡ true
-      fin = finished h
 
       lev : ActionId → ℕ
       lev = level p t fin

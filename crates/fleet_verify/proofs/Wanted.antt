@@ -6,7 +6,7 @@ use Rattle.std.proofs.lemmas.List.{map-append, length_push, get_or_push, get_or_
 use Rattle.fleet_model.specs.declared.program.Await.{Await}
 use Rattle.fleet_model.specs.Program.{Program}
 use Rattle.fleet_verify.specs.Blocked.{IsBlocked, IsUnmet, want_at, AreWants, down_from}
-use Rattle.fleet_verify.proofs.Begun.{indices_more}
+use Rattle.fleet_machine.proofs.Indices.{indices_more}
 
 pub record AreWantsBelow (p : Program) (counts : List ℕ) (wants : List Await) (n : ℕ) : Type 0 where
   pub all : length wants ≡ n

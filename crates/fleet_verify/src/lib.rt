@@ -27,7 +27,6 @@ pub use runs::{
     runs_arrive, runs_end, ticks_are_safe, visits_come_in_turn,
 };
 pub use verifier::verify;
-pub use walk::is_ready;
 
 #[cfg(test)]
 mod tests;

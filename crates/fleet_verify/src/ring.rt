@@ -2,29 +2,43 @@
 
 ghost use Rattle.std.specs.Prelude.{◌≡◌, ◌<◌, ◌≤◌, ◌+◌, ◌-◌, ◌++◌, ◌↔◌, ℕ, length, IsTrue, IfOk, OnOk};
 ghost use Rattle.fleet_model.specs.Program.{moves};
-ghost use Rattle.fleet_verify.specs.Walk.{IsReadyBy};
+ghost use Rattle.fleet_model.specs.Machine.{is_stuck};
+ghost use Rattle.fleet_machine.specs.Machine.{Runs};
+ghost use Rattle.fleet_verify.specs.Walk.{IsReadyBy, counts_of};
 ghost use Rattle.fleet_model.specs.Program.{AreInRange};
 ghost use Rattle.fleet_verify.specs.Blocked.{IsBlocked, IsUnmet, AreWants, LeadsBack, IsLeastBack, down_from};
 ghost use Rattle.fleet_verify.specs.Ring.{IsToldRing};
 
-use fleet_model::{ActionId, Await, OutOfMemory, ProgramView};
+use fleet_machine::Machine;
+use fleet_model::{ActionId, Await, OutOfMemory, ProgramView, Standing};
 use std::alloc::Global;
 
 /// A ring among the actions that are left where nobody is ready.
 pub fn find_ring<P: ProgramView>(
     alloc: Global,
     program: &P,
-    counts: &[u32],
+    machine: &Machine,
 ) -> Result<Vec<ActionId>, OutOfMemory>
-    requires counts { length counts.now ≡ length (P.program program.now) }
+    requires runs { Runs (P.program program.now) machine.now }
     requires ranges { AreInRange (P.program program.now) }
-    requires stuck { (i : ℕ) → i < length (P.program program.now) → IsReadyBy (P.program program.now) counts.now i → ⊥ }
-    requires left { (i : ℕ) × IsBlocked (P.program program.now) counts.now i }
+    requires stuck { IsTrue (is_stuck (P.program program.now) machine.now.configuration) }
     ensures { IfOk result (λ ring. IsToldRing (P.program program.now) ring.items) }
 {
-    let wants = all_wants(alloc, program, counts)?;
-    let first = least_on_ring(program, counts, &wants);
-    ring_from(alloc, program, counts, &wants, first)
+    let counts = counts_of(alloc, machine.agents())?;
+    let wants = all_wants(alloc, program, &counts)?;
+    let first = least_on_ring(program, &counts, &wants);
+    ring_from(alloc, program, &counts, &wants, first)
+}
+
+/// How many actions each agent has finished.
+fn counts_of(alloc: Global, agents: &[Standing]) -> Result<Vec<u32>, OutOfMemory>
+    ensures { IfOk result (λ counts. counts.items ≡ counts_of agents.now) }
+{
+    let mut counts = Vec::with_capacity(alloc, agents.len())?;
+    for agent in agents {
+        counts.push(agent.count)?;
+    }
+    Ok(counts)
 }
 
 /// For each agent an await of its next action that is not met, where it has an action left.

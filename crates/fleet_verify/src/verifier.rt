@@ -1,16 +1,14 @@
 //! The verifier: what is judged, in its order.
 
-ghost use Rattle.std.specs.Prelude.{◌≡◌, ◌≢◌, ◌<◌, ◌≤◌, ℕ, List, length, slice_index, IsTrue, IfOk, IfErr, false};
+ghost use Rattle.std.specs.Prelude.{◌≡◌, ◌≢◌, ℕ, List, IfOk, IfErr};
 ghost use Rattle.fleet_model.specs.declared.geometry.Place.{Place};
 ghost use Rattle.fleet_model.specs.declared.program.Visit.{Visit};
-ghost use Rattle.fleet_model.specs.Program.{moves};
 ghost use Rattle.fleet_model.specs.Machine.{Holds, run, IsFinish};
 ghost use Rattle.fleet_model.specs.Visit.{ListsVisits, Adjacent, ComesAfter};
 ghost use Rattle.fleet_model.specs.Accepted.{IsAccepted};
 ghost use Rattle.fleet_model.specs.Run.{IsSafe, IsOwnedInTurn, Arrives};
 ghost use Rattle.fleet_verify.specs.declared.fault.VerifyFault.TheVariants.{OutOfMemory};
 ghost use Rattle.fleet_grid.specs.Ground.{is_passable};
-ghost use Rattle.fleet_verify.specs.Blocked.{IsBlocked};
 ghost use Rattle.fleet_verify.specs.Faults.{IsFault};
 ghost use Rattle.fleet_verify.specs.Parts.{IsAcceptedFor};
 
@@ -69,24 +67,10 @@ fn judge<P: ProgramView>(
 {
     check_agents(program, grid, instance)?;
     let walk = run_free(alloc, program, grid)?;
-    if !all_finished(program, &walk.counts) {
-        let ring = find_ring(alloc, program, &walk.counts)?;
+    if !walk.machine.is_finished(program) {
+        let ring = find_ring(alloc, program, &walk.machine)?;
         return Err(VerifyFault::Cyclic(ring));
     }
     check_order(program, grid, instance, &walk.watch)?;
     Ok(walk.ticks)
-}
-
-/// Whether no agent has an action left.
-fn all_finished<P: ProgramView>(program: &P, counts: &[u32]) -> bool
-    requires { length counts.now ≡ length (P.program program.now) }
-    ensures yes { IsTrue result → (i : ℕ) → i < length (P.program program.now) → moves (P.program program.now) i ≤ slice_index counts.now i }
-    ensures left { result ≡ false → (i : ℕ) × IsBlocked (P.program program.now) counts.now i }
-{
-    for i in 0..program.agents() {
-        if counts[i as usize] < program.moves(i) {
-            return false;
-        }
-    }
-    true
 }

@@ -1,5 +1,5 @@
 use Rattle.std.proofs.Common.{◌≡◌, ℕ, List, length, slice_index, subst, sym, arith}
-use Rattle.fleet_verify.proofs.UnderWay.{written_back}
+use Rattle.fleet_chains.proofs.Rows.{written_back}
 use Rattle.fleet_chains.specs.Needed.{AreNeeded}
 use Rattle.fleet_chains.proofs.needed.needed_for.Goals as goal
 

@@ -1,6 +1,6 @@
 use Rattle.std.proofs.Common.{ap, ◌∙◌, ◌+◌}
 use Rattle.std.proofs.lemmas.List.{length_push}
-use Rattle.fleet_verify.proofs.UnderWay.{none_pushed}
+use Rattle.fleet_chains.proofs.Rows.{none_pushed}
 use Rattle.fleet_chains.proofs.needed.zeros.Goals as goal
 
 pub loop-i-preserved : goal.loop-i-preserved

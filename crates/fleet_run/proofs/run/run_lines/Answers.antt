@@ -1,7 +1,8 @@
-use Rattle.std.proofs.Common.{◌≡◌, ◌≢◌, ◌+◌, true, false, cond, None, ℕ, Bool, arith, refl, sym, ◌∙◌}
+use Rattle.std.proofs.Common.{◌≡◌, ◌≢◌, ◌+◌, true, false, cond, ℕ, Bool, arith, refl, sym, ◌∙◌}
 use Rattle.fleet_model.specs.Machine.{is_over, is_ready_held}
 use Rattle.fleet_run.specs.declared.run.TheConstants.{MOST_TICKS}
-use Rattle.fleet_run.specs.Source.{HasNotFailed, flag_of}
+use Rattle.fleet_run.specs.Source.{HasNotFailed}
+use Rattle.fleet_machine.specs.Machine.{flag_of}
 use Rattle.fleet_run.proofs.Ending.{not_over}
 use Rattle.fleet_run.proofs.UnderWay.{IsNextTick, all_asked, asked_once_more, few_held, few_ticks, asked, falls, one_tick_on, stops_at_source, took_all, line_added, needs_more, more_than}
 use Rattle.fleet_run.proofs.run.run_lines.Goals as goal

@@ -1,5 +1,5 @@
 use Rattle.std.proofs.Common.{◌≡◌, ◌+◌, length}
-use Rattle.fleet_run.specs.Machine.{Runs}
+use Rattle.fleet_machine.specs.Machine.{Runs}
 use Rattle.fleet_run.specs.Text.{lines_below}
 use Rattle.fleet_text.specs.Sink.{Takes}
 use Rattle.fleet_run.specs.Source.{HasNotFailed}

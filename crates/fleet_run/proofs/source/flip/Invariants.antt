@@ -1,5 +1,5 @@
 use Rattle.std.proofs.Common.{◌≡◌, ℕ, ◌<◌, ◌≤◌, Bool, List, not, length}
-use Rattle.fleet_run.specs.Source.{flag_of}
+use Rattle.fleet_machine.specs.Machine.{flag_of}
 use Rattle.fleet_run.proofs.source.flip.Given as goal
 
 -- the flags below n are turned over, and the others are as they were

@@ -3,7 +3,7 @@ use Rattle.fleet_grid.specs.Ground.{is_passable}
 use Rattle.fleet_model.specs.Run.{IsSafeStep}
 use Rattle.fleet_model.specs.Machine.{Configuration, tick, moved_in, is_ready_held}
 use Rattle.fleet_run.specs.Fleet.{FleetState}
-use Rattle.fleet_run.specs.Source.{flag_of}
+use Rattle.fleet_machine.specs.Machine.{flag_of}
 use Rattle.fleet_run.proofs.Finished.{rests}
 use Rattle.fleet_run.proofs.fleet.Fleet.tick.Goals as goal
 

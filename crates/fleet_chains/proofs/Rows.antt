@@ -1,0 +1,14 @@
+-- Rows of counts.
+use Rattle.std.proofs.Common.{◌≡◌, ℕ, zero, suc, List, [], ◌∷◌, ◌++◌, length, slice_index, refl}
+use Rattle.std.specs.Prelude.{take, drop}
+use Rattle.std.proofs.lemmas.List.{take_at}
+
+pub none_pushed : (counts : List ℕ) → ((k : ℕ) → slice_index counts k ≡ 0) → (k : ℕ) → slice_index (counts ++ 0 ∷ []) k ≡ 0
+none_pushed [] h zero = refl
+none_pushed [] h (suc k) = refl
+none_pushed (x ∷ counts) h zero = h zero
+none_pushed (x ∷ counts) h (suc k) = none_pushed counts (λ j. h (suc j)) k
+
+-- what a call wrote through a slice of a whole vector
+pub written_back : {X : Type 0} (n : ℕ) (new old : List X) → length new ≡ n → take n (new ++ drop (length new) old) ≡ new
+written_back n new old e = take_at new (drop (length new) old) n e

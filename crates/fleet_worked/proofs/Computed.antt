@@ -22,6 +22,7 @@ use Rattle.fleet_model.specs.Machine.{indices, IsLeast}
 use Rattle.fleet_model.specs.Chain.{IsAction, DirectlyNeeds, ChainFrom, IsNumbering, IsLevel, IsLongestChain}
 use Rattle.fleet_model.specs.Accepted.{IsRight}
 use Rattle.fleet_model.proofs.Chains.{ends_within, ends_action, level_is}
+use Rattle.fleet_verify.proofs.Members.{contains_none}
 
 -- ---- tests of numbers below a bound
 
@@ -52,9 +53,6 @@ at_position test p e i n lt le =
 
 abbrev pub at_all_awaits : (ℕ → ℕ → Await → Bool) → Program → Bool
 at_all_awaits test p = at_all_positions (λ i n. list_all (test i n) (awaits_of p i n)) p
-
-pub contains_none : {X : Type 0} (x : X) → Contains [] x → ⊥
-contains_none x h = omega (arith, h.1)
 
 -- an action with an await is one of the program
 awaiting_action : (p : Program) (i n : ℕ) (w : Await) → Contains (awaits_of p i n) w → IsAction p (record { agent = i; number = n })
@@ -88,23 +86,17 @@ action_is p a e =
     let parts = and_parts (nat_lt a.agent (length p)) (nat_le 1 a.number) front.0 in
     record { agent = ltb-true _ _ parts.0; first = leb-true _ _ parts.1; last = leb-true _ _ front.1 }
 
-abbrev pub sum_of : ActionId → ℕ
-sum_of a = a.agent + a.number
-
--- where each await has a smaller sum of agent and count than its own action of agent and number, those sums are a numbering
-pub sums_number : (p : Program) → at_all_awaits (λ i n w. nat_lt (w.agent + w.count) (i + n)) p ≡ true → IsNumbering p sum_of
-sums_number p e = record { positive = λ a act. omega (arith, act.first); rising = λ a b act act' need. rises a b need }
-  where
-    rises : (a b : ActionId) → DirectlyNeeds p a b → b.agent + b.number < a.agent + a.number
-    rises a b (inl h) = omega (arith, h.0, h.1)
-    rises a b (inr h) = ltb-true _ _ (at_await (λ i n w. nat_lt (w.agent + w.count) (i + n)) p e a.agent a.number (record { agent = b.agent; count = b.number }) h)
-
--- the same, where agents weigh more
+-- an action's number, to which each agent before its own adds k
 abbrev pub weighed : ℕ → ActionId → ℕ
 weighed k a = k * a.agent + a.number
 
-pub weights_number : (k : ℕ) (p : Program) → at_all_awaits (λ i n w. nat_lt (k * w.agent + w.count) (k * i + n)) p ≡ true → IsNumbering p (weighed k)
-weights_number k p e = record { positive = λ a act. omega (arith, act.first); rising = λ a b act act' need. rises a b need }
+-- each await is of an action that weighs less than the one that awaits
+abbrev pub is_numbered : ℕ → Program → Bool
+is_numbered k p = at_all_awaits (λ i n w. nat_lt (k * w.agent + w.count) (k * i + n)) p
+
+-- so those weights are a numbering
+pub numbered_is : (k : ℕ) (p : Program) → is_numbered k p ≡ true → IsNumbering p (weighed k)
+numbered_is k p e = record { positive = λ a act. omega (arith, act.first); rising = λ a b act act' need. rises a b need }
   where
     rises : (a b : ActionId) → DirectlyNeeds p a b → k * b.agent + b.number < k * a.agent + a.number
     rises a b (inl h) = let same : k * a.agent ≡ k * b.agent = ap (λ i. k * i) h.0 in omega (arith, same, h.1)
@@ -154,20 +146,30 @@ chain_is p a (c ∷ cs) b e =
     let rest = and_parts (needs p c a) (is_chain p c cs b) parts.1 in
     (action_is p a parts.0, needs_is p c a rest.0, chain_is p c cs b rest.1)
 
--- the number of an action at the end of a chain of so many actions is its level
-pub level_by : (p : Program) (number : ActionId → ℕ) → IsNumbering p number → (a : ActionId) (cs : List ActionId) (b : ActionId) → is_chain p a cs b ≡ true → length cs + 1 ≡ number b → IsLevel p b (number b)
-level_by p number is a cs b e n = level_is p number is b (a, cs, chain_is p a cs b e, sym n)
+-- what an action weighs at the end of a chain of so many actions is its level
+pub level_by : (k : ℕ) (p : Program) (a : ActionId) (cs : List ActionId) (b : ActionId) → (is_numbered k p && (is_chain p a cs b && length cs + 1 == weighed k b)) ≡ true
+    → IsLevel p b (weighed k b)
+level_by k p a cs b e =
+    let parts = and_parts (is_numbered k p) (is_chain p a cs b && length cs + 1 == weighed k b) e in
+    let chain = and_parts (is_chain p a cs b) (length cs + 1 == weighed k b) parts.1 in
+    level_is p (weighed k) (numbered_is k p parts.0) b (a, cs, chain_is p a cs b chain.0, sym (eqb-true _ _ chain.1))
 
--- and the greatest number at the end of such a chain is the length of the longest chain
-pub longest_by : (p : Program) (number : ActionId → ℕ) → IsNumbering p number → (a : ActionId) (cs : List ActionId) (b : ActionId) → is_chain p a cs b ≡ true
-    → at_all_positions (λ i n. nat_le (number (record { agent = i; number = n })) (length cs + 1)) p ≡ true → IsLongestChain p (length cs + 1)
-longest_by p number is a cs b e most = record {
-  some = inr (b, (a, cs, chain_is p a cs b e, refl));
+-- and the greatest weight at the end of such a chain is the length of the longest chain
+pub longest_by : (k : ℕ) (p : Program) (a : ActionId) (cs : List ActionId) (b : ActionId)
+    → (is_numbered k p && (is_chain p a cs b && at_all_positions (λ i n. nat_le (k * i + n) (length cs + 1)) p)) ≡ true → IsLongestChain p (length cs + 1)
+longest_by k p a cs b e = record {
+  some = inr (b, (a, cs, chain_is p a cs b rest.0, refl));
   most = λ d m h.
       let act = ends_action p m d h in
-      let within : number d ≤ length cs + 1 = leb-true _ _ (at_position (λ i n. nat_le (number (record { agent = i; number = n })) (length cs + 1)) p most d.agent d.number act.agent act.last) in
-      omega (arith, ends_within p number is m d h, within);
+      let within : weighed k d ≤ length cs + 1 = leb-true _ _ (at_position (λ i n. nat_le (k * i + n) (length cs + 1)) p rest.1 d.agent d.number act.agent act.last) in
+      omega (arith, ends_within p (weighed k) (numbered_is k p parts.0) m d h, within);
 }
+  where
+    parts : (is_numbered k p ≡ true) × ((is_chain p a cs b && at_all_positions (λ i n. nat_le (k * i + n) (length cs + 1)) p) ≡ true)
+    parts = and_parts _ _ e
+
+    rest : (is_chain p a cs b ≡ true) × (at_all_positions (λ i n. nat_le (k * i + n) (length cs + 1)) p ≡ true)
+    rest = and_parts _ _ parts.1
 
 -- ---- places
 

@@ -1,20 +1,23 @@
 -- The breaking holds of one program, by computation.
-use Rattle.std.proofs.Common.{◌≡◌, ◌≢◌, ℕ, zero, suc, ◌+◌, ◌<◌, ◌≤◌, Bool, true, not, ◌&&◌, ◌||◌, nat_lt, nat_le, List, [], ◌∷◌, ◌++◌, length, get_or, slice_index, arith, inl, inr}
+use Rattle.std.proofs.Common.{◌≡◌, ◌≢◌, ℕ, zero, suc, ◌+◌, ◌<◌, ◌≤◌, Bool, true, not, ◌&&◌, ◌||◌, ◌==◌, nat_lt, nat_le, List, [], ◌∷◌, ◌++◌, length, get_or, slice_index, arith, inl, inr}
 use Rattle.std.specs.Prelude.{Contains, ◌⊎◌, ◌↔◌}
-use Rattle.std.proofs.lemmas.Bool.{and_parts, and_from, or_cases, cases_lt, leb-true, le-leb, ltb-true, lt-ltb, not-true, both_ways}
+use Rattle.std.proofs.lemmas.Bool.{and_parts, and_from, or_cases, cases_lt, leb-true, le-leb, ltb-true, lt-ltb, eqb-true, eqb-false, not-true, both_ways}
 use Rattle.std.proofs.lemmas.List.{get_or_past}
 use Rattle.fleet_model.specs.declared.geometry.Place.{Place}
 use Rattle.fleet_model.specs.declared.program.Await.{Await}
 use Rattle.fleet_model.specs.declared.program.ActionId.{ActionId}
 use Rattle.fleet_model.specs.declared.program.Visit.{Visit}
 use Rattle.fleet_model.specs.Program.{Program, moves, awaits_of}
-use Rattle.fleet_model.specs.Machine.{Configuration, Holds, run, count_at}
+use Rattle.fleet_model.specs.Geometry.{is_same_place}
+use Rattle.fleet_model.specs.Machine.{Configuration, Holds, run, count_at, place_at}
 use Rattle.fleet_model.specs.Chain.{Reaches}
 use Rattle.fleet_model.specs.Visit.{IsVisit, IsVisitOf, next_move, entering}
 use Rattle.fleet_worked.proofs.Computed.{at_all_positions, at_position, at_all_awaits, at_await, is_chain, chain_is}
+use Rattle.fleet_worked.proofs.ComputedVisits.{is_visit_of, visit_is}
+use Rattle.fleet_model.proofs.Places.{is_same_place-true}
 use Rattle.fleet_model.proofs.Chains.{Reaches-first}
 use Rattle.fleet_verify.proofs.Chains.{Reaches-trans, own_reach}
-use Rattle.fleet_chains.specs.Breaking.{AreUnordered, IsNeededFor, IsHeldBack, IsPrepared, AreBreakingHolds, MeetOn}
+use Rattle.fleet_chains.specs.Breaking.{AreUnordered, IsNeededFor, IsHeldBack, IsPrepared, AreBreakingHolds}
 use Rattle.fleet_chains.specs.Needed.{AreNeeded}
 use Rattle.fleet_worked.specs.Meetings.{MeetBy}
 use Rattle.fleet_chains.proofs.Orders.{as_visit}
@@ -175,15 +178,40 @@ breaking_by p v w a b needed f n before at =
     let holds = holds_for p needed n in
     record { rising = g.rising; rows = g.rows; sooner = g.sooner; prepared = (prepared_by_counts p v w a b holds (length holds)).1 (leb-true _ _ parts.0, leb-true _ _ parts.1) }
 
+-- after the holds both agents are on the place
+abbrev pub are_on : Program → Place → Visit → Visit → Holds → Bool
+are_on p q v w holds = is_same_place (place_at (run p holds (length holds)) v.agent) q && is_same_place (place_at (run p holds (length holds)) w.agent) q
+
+-- visits of the place by two agents
+abbrev pub are_two_visits : Program → Place → Visit → Visit → Bool
+are_two_visits p q v w = is_visit_of p q v && (is_visit_of p q w && not (v.agent == w.agent))
+
+-- they need so many actions of each agent, as the chains show, and none of these leaves one of them
+abbrev pub have_needs : Program → Visit → Visit → List ℕ → List (List ActionId) → Bool
+have_needs p v w needed chains = length needed == length p && (are_needed p v w needed chains && are_not_left p v w needed)
+
+-- after n ticks, and no sooner, both agents have come, and they are on the place
+abbrev pub meet_after : Program → Place → Visit → Visit → List ℕ → ℕ → Bool
+meet_after p q v w needed n = are_under_way p v w needed n && (have_come p v w (holds_for p needed n) && are_on p q v w (holds_for p needed n))
+
 -- two visits, how many actions of each agent they need, chains that show it, and the number of ticks
-pub meet_by : (p : Program) (q : Place) (v w : Visit) (needed : List ℕ) (chains : List (List ActionId)) (n : ℕ) → IsVisitOf p q v → IsVisitOf p q w → v.agent ≢ w.agent
-    → length needed ≡ length p → are_needed p v w needed chains ≡ true → are_not_left p v w needed ≡ true
-    → are_under_way p v w needed n ≡ true → have_come p v w (holds_for p needed n) ≡ true
-    → MeetOn p q v w (holds_for p needed n) → MeetBy p q v w (holds_for p needed n)
-meet_by p q v w needed chains n on_v on_w apart all e left before at meet =
-    let f = needed_are p v w needed chains all e in
+pub meet_by : (p : Program) (q : Place) (v w : Visit) (needed : List ℕ) (chains : List (List ActionId)) (n : ℕ)
+    → (are_two_visits p q v w && (have_needs p v w needed chains && meet_after p q v w needed n)) ≡ true → MeetBy p q v w (holds_for p needed n)
+meet_by p q v w needed chains n e =
+    let parts = and_parts (are_two_visits p q v w) (have_needs p v w needed chains && meet_after p q v w needed n) e in
+    let rest = and_parts (have_needs p v w needed chains) (meet_after p q v w needed n) parts.1 in
+    let visits = and_parts _ _ parts.0 in
+    let second = and_parts _ _ visits.1 in
+    let on_v = visit_is p q v visits.0 in
+    let on_w = visit_is p q w second.0 in
+    let sizes = and_parts _ _ rest.0 in
+    let needs = and_parts _ _ sizes.1 in
+    let f = needed_are p v w needed chains (eqb-true _ _ sizes.0) needs.0 in
+    let way = and_parts _ _ rest.1 in
+    let come = and_parts _ _ way.1 in
+    let on = and_parts _ _ come.1 in
     record {
-      unordered = unordered_by p q v w needed f on_v on_w apart left;
-      breaking = breaking_by p v w (as_visit p q v on_v) (as_visit p q w on_w) needed f n before at;
-      meet = meet;
+      unordered = unordered_by p q v w needed f on_v on_w (eqb-false _ _ (not-true _ second.1)) needs.1;
+      breaking = breaking_by p v w (as_visit p q v on_v) (as_visit p q w on_w) needed f n way.0 come.0;
+      meet = (is_same_place-true _ q on.0, is_same_place-true _ q on.1);
     }

@@ -1,16 +1,22 @@
 -- Programs without their implied awaits, by computation.
-use Rattle.std.proofs.Common.{◌≡◌, ◌≢◌, ℕ, ◌+◌, ◌-◌, ◌≤◌, Bool, ◌&&◌, ◌||◌, ◌==◌, nat_le, not, true, List, [], ◌∷◌, ap, sym, subst, arith, inl, inr}
+use Rattle.std.proofs.Common.{◌≡◌, ◌≢◌, ℕ, ◌+◌, ◌-◌, ◌≤◌, Bool, ◌&&◌, ◌||◌, ◌==◌, nat_le, not, true, List, [], ◌∷◌, length, map, Option, Some, None, slice_get, option_map, refl, ap, sym, ◌∙◌, subst, arith, inl, inr}
 use Rattle.std.specs.Prelude.{Contains, ◌⊎◌}
 use Rattle.std.specs.List.{list_all, list_any}
+use Rattle.std.specs.Option.{option_map_or}
 use Rattle.std.proofs.lemmas.Bool.{and_parts, and_from, or_cases, leb-true, eqb-true, eq-eqb, not-true, both_ways}
 use Rattle.std.proofs.lemmas.List.Sums.{AllPass-from_list_all}
 use Rattle.std.proofs.lemmas.List.Elements.{All-contains}
+use Rattle.std.proofs.lemmas.List.{length-map}
+use Rattle.std.proofs.lemmas.Option.{slice_get-map}
 use Rattle.std.proofs.lemmas.Map.Views.{Contains-from_any}
+use Rattle.fleet_model.specs.declared.geometry.Cell.{Cell}
+use Rattle.fleet_model.specs.declared.geometry.Step.{Step}
+use Rattle.fleet_model.specs.declared.program.AgentProgram.{AgentProgram}
 use Rattle.fleet_model.specs.declared.program.Await.{Await}
 use Rattle.fleet_model.specs.declared.program.ActionId.{ActionId}
-use Rattle.fleet_model.specs.Program.{Program, awaits_of}
+use Rattle.fleet_model.specs.Program.{Program, origin, awaits_of}
 use Rattle.fleet_model.specs.Chain.{DirectlyNeeds, Reaches, IsNumbering, awaited}
-use Rattle.fleet_worked.proofs.Computed.{at_all_awaits, at_await, is_same_await, same_await, is_chain, chain_is}
+use Rattle.fleet_worked.proofs.Computed.{at_all_awaits, at_await, weighed, is_numbered, numbered_is, is_same_await, same_await, is_chain, chain_is}
 use Rattle.fleet_model.proofs.Chains.{chain_rises}
 use Rattle.fleet_verify.proofs.Members.{same_action}
 use Rattle.fleet_chains.specs.Reduced.{IsImplied, DiffersInAwaits, IsThinned}
@@ -77,23 +83,72 @@ implied_is p b cs i n w e =
       (cs, chain_is p (awaited w) cs b chains.1),
     )
 
--- what q awaits p awaits too, and no other need of the action implies it. What p awaits q awaits too, or it is implied through b
-pub thinned_by : (p q : Program) (number : ActionId → ℕ) → IsNumbering p number → DiffersInAwaits p q → (b : ActionId) (cs : List ActionId)
-    → at_all_awaits (λ i n w. is_in (awaits_of p i n) w && is_kept p number i n w) q ≡ true
-    → at_all_awaits (λ i n w. is_in (awaits_of q i n) w || is_implied_by p b cs i n w) p ≡ true → IsThinned p q
-thinned_by p q number s rest b cs kept dropped = record {
-  rest = rest;
+-- ---- what stays
+
+-- an agent without its awaits
+pub record Outline : Type 0 where
+  pub start : Cell
+  pub goal : Cell
+  pub steps : List Step
+
+abbrev pub outline : AgentProgram → Outline
+outline a = record { start = a.start; goal = a.goal; steps = map (λ s. s.step) a.actions }
+
+-- where the agents are the same without their awaits, the programs differ in awaits alone
+differs_is : (p q : Program) → map outline q ≡ map outline p → DiffersInAwaits p q
+differs_is p q e = record {
+  agents = sym (length-map q outline) ∙ ap length e ∙ length-map p outline;
+  starts = λ i. start (slice_get q i) ∙ ap (λ o. option_map_or (λ (l : Outline). l.start) o origin) (same i) ∙ sym (start (slice_get p i));
+  goals = λ i. goal (slice_get q i) ∙ ap (λ o. option_map_or (λ (l : Outline). l.goal) o origin) (same i) ∙ sym (goal (slice_get p i));
+  steps = λ i. steps (slice_get q i) ∙ ap (λ o. option_map_or (λ (l : Outline). l.steps) o []) (same i) ∙ sym (steps (slice_get p i));
+}
+  where
+    same : (i : ℕ) → option_map outline (slice_get q i) ≡ option_map outline (slice_get p i)
+    same i = sym (slice_get-map outline q i) ∙ ap (λ ls. slice_get ls i) e ∙ slice_get-map outline p i
+
+    start : (o : Option AgentProgram) → option_map_or (λ a. a.start) o origin ≡ option_map_or (λ (l : Outline). l.start) (option_map outline o) origin
+    start None = refl
+    start (Some a) = refl
+
+    goal : (o : Option AgentProgram) → option_map_or (λ a. a.goal) o origin ≡ option_map_or (λ (l : Outline). l.goal) (option_map outline o) origin
+    goal None = refl
+    goal (Some a) = refl
+
+    steps : (o : Option AgentProgram) → map (λ s. s.step) (option_map_or (λ a. a.actions) o []) ≡ option_map_or (λ (l : Outline). l.steps) (option_map outline o) []
+    steps None = refl
+    steps (Some a) = refl
+
+-- ---- what goes
+
+-- what q awaits p awaits too, and no other need of the action implies it
+abbrev are_kept : (ActionId → ℕ) → Program → Program → Bool
+are_kept number p q = at_all_awaits (λ i n w. is_in (awaits_of p i n) w && is_kept p number i n w) q
+
+-- what p awaits q awaits too, or it is implied through b
+abbrev are_implied : ActionId → List ActionId → Program → Program → Bool
+are_implied b cs p q = at_all_awaits (λ i n w. is_in (awaits_of q i n) w || is_implied_by p b cs i n w) p
+
+pub thinned_by : (p q : Program) (k : ℕ) (b : ActionId) (cs : List ActionId) → map outline q ≡ map outline p
+    → (is_numbered k p && (are_kept (weighed k) p q && are_implied b cs p q)) ≡ true → IsThinned p q
+thinned_by p q k b cs same e = record {
+  rest = differs_is p q same;
   awaits = λ i n w. (into i n w, (λ (c, free). out i n w c free));
 }
   where
+    parts : (is_numbered k p ≡ true) × ((are_kept (weighed k) p q && are_implied b cs p q) ≡ true)
+    parts = and_parts _ _ e
+
+    rest : (are_kept (weighed k) p q ≡ true) × (are_implied b cs p q ≡ true)
+    rest = and_parts _ _ parts.1
+
     into : (i n : ℕ) (w : Await) → Contains (awaits_of q i n) w → Contains (awaits_of p i n) w × (IsImplied p (record { agent = i; number = n }) w → ⊥)
     into i n w c =
-        let parts = and_parts _ _ (at_await (λ i n w. is_in (awaits_of p i n) w && is_kept p number i n w) q kept i n w c) in
-        (in_is (awaits_of p i n) w parts.0, kept_unimplied p number s i n w parts.1)
+        let both = and_parts _ _ (at_await (λ i n w. is_in (awaits_of p i n) w && is_kept p (weighed k) i n w) q rest.0 i n w c) in
+        (in_is (awaits_of p i n) w both.0, kept_unimplied p (weighed k) (numbered_is k p parts.0) i n w both.1)
 
     out : (i n : ℕ) (w : Await) → Contains (awaits_of p i n) w → (IsImplied p (record { agent = i; number = n }) w → ⊥) → Contains (awaits_of q i n) w
     out i n w c free =
-        elim (or_cases _ _ (at_await (λ i n w. is_in (awaits_of q i n) w || is_implied_by p b cs i n w) p dropped i n w c)) [
+        elim (or_cases _ _ (at_await (λ i n w. is_in (awaits_of q i n) w || is_implied_by p b cs i n w) p rest.1 i n w c)) [
           | inl there ↦ in_is (awaits_of q i n) w there
           | inr implied ↦ absurd (free (implied_is p b cs i n w implied))
         ]

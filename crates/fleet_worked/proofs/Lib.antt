@@ -1,6 +1,7 @@
 pub mod Computed
 pub mod ComputedVisits
-pub mod Unordered
+pub mod ComputedOrder
+pub mod UnorderedPairs
 pub mod ProgramRuns
 pub mod LongestRuns
 pub mod FreePlans

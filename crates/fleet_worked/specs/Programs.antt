@@ -13,8 +13,9 @@ use Rattle.fleet_model.specs.declared.program.Visit.{Visit}
 use Rattle.fleet_model.specs.declared.task.Task.{Task}
 use Rattle.fleet_model.specs.Program.{Program}
 use Rattle.fleet_model.specs.Machine.{Holds, run, held_ticks, indices, IsFinish, IsEnd}
+use Rattle.fleet_model.specs.Chain.{IsNumbering}
 use Rattle.fleet_model.specs.Visit.{ListsVisits, Adjacent, ComesAfterByAwait, ComesAfterByChain}
-use Rattle.fleet_model.specs.Accepted.{IsAcceptedBy}
+use Rattle.fleet_model.specs.Accepted.{IsRight, IsAcceptedBy}
 
 -- ---- words
 
@@ -187,3 +188,12 @@ HasNoOrder After p q = (listing : List Visit) → ListsVisits p q listing → Ad
 pub record IsRefused (p : Program) : Type 0 where
   pub by_await : (passable : Place → Bool) (tasks : List Task) → IsAcceptedBy ComesAfterByAwait passable tasks p → ⊥
   pub by_chain : (passable : Place → Bool) (tasks : List Task) → IsAcceptedBy ComesAfterByChain passable tasks p → ⊥
+
+-- for these passable places and tasks the program is right, and it is numbered. But the place has no order, neither by awaits nor by
+-- chains, and for that alone the program is refused
+pub record IsRefusedAt (passable : Place → Bool) (tasks : List Task) (p : Program) (q : Place) : Type 0 where
+  pub right : IsRight passable tasks p
+  pub numbered : (number : ActionId → ℕ) × IsNumbering p number
+  pub not_by_await : HasNoOrder ComesAfterByAwait p q
+  pub not_by_chain : HasNoOrder ComesAfterByChain p q
+  pub refused : IsRefused p

@@ -8,6 +8,7 @@ ghost use Rattle.fleet_worked.specs.Plans.{base_plan, corridor, there_and_back_p
 ghost use Rattle.fleet_worked.specs.Compiled.{corridor_program, there_and_back_program, pass_program};
 
 /// The programs of small plans, with either kind of awaits.
+#[tactic(auto, using(crate::proofs::CompiledPlans::base, crate::proofs::CompiledPlans::corridor_all, crate::proofs::CompiledPlans::corridor_last, crate::proofs::CompiledPlans::there_and_back, crate::proofs::CompiledPlans::pass))]
 pub fn worked_plans_compile()
     ensures base { (deps : Deps) → compiled base_plan deps ≡ pair }
     ensures corridor_all { compiled corridor Deps.All ≡ corridor_program (await 0 1 ∷ await 1 2 ∷ []) }

@@ -8,6 +8,7 @@ ghost use Rattle.fleet_worked.specs.Programs.{place, visit, pair, rash_pair, ear
 
 /// Two visits without an order in small programs, and the holds that bring their agents onto the
 /// place.
+#[tactic(auto, using(crate::proofs::UnorderedPairs::rash_visits, crate::proofs::UnorderedPairs::early_visits, crate::proofs::UnorderedPairs::hasty_visits, crate::proofs::UnorderedPairs::blocked_visits, crate::proofs::UnorderedPairs::relayed_visits))]
 pub fn worked_visits_meet()
     ensures setting_out { MeetBy rash_pair (place 1 0) (visit 0 0) (visit 1 1) ((0 ∷ []) ∷ []) }
     ensures coming { MeetBy early_pair (place 2 0) (visit 0 1) (visit 1 2) ([] ∷ (0 ∷ []) ∷ (0 ∷ []) ∷ []) }

@@ -11,7 +11,7 @@ ghost use Rattle.fleet_model.specs.Visit.{leaving, IsVisit, IsLongestRun, ListsV
 ghost use Rattle.fleet_model.specs.Accepted.{IsRight, IsAcceptedBy};
 ghost use Rattle.fleet_model.specs.Conflict.{HasVertexConflict, HasFollowingConflict, HasSwappingConflict, HasCycleConflict};
 ghost use Rattle.fleet_model.specs.Run.{motion};
-ghost use Rattle.fleet_worked.specs.Programs.{place, action, visit, is_on_open_map, pair, pair_tasks, rash_pair, early_pair, late_pair, hasty_pair, staying_pair, sentry, blocked_pair, blocked_tasks, deadlock, idler, relay, relay_tasks, excursion, exchange, carousel, both_held, ShowsPlaces, RunsAs, HasNoOrder, IsRefused};
+ghost use Rattle.fleet_worked.specs.Programs.{place, action, visit, is_on_open_map, pair, pair_tasks, rash_pair, early_pair, late_pair, hasty_pair, staying_pair, sentry, blocked_pair, blocked_tasks, deadlock, idler, relay, relay_tasks, excursion, exchange, carousel, both_held, ShowsPlaces, RunsAs, HasNoOrder, IsRefused, IsRefusedAt};
 
 /// Agent 1 of the pair waits for one tick. To hold it in that tick changes nothing, and to hold agent 0 costs a tick.
 pub fn pair_runs()
@@ -34,6 +34,7 @@ pub fn pair_runs()
 {}
 
 /// However long both agents of the pair are held, they stand still for as long and finish three ticks later.
+#[tactic(auto, using(crate::proofs::ProgramRuns::pair_stands, crate::proofs::ProgramRuns::pair_held))]
 pub fn held_pair_runs()
     ensures still { (n t : ℕ) → t ≤ n → run pair (both_held n) t ≡ opening pair }
     ensures finish { (n : ℕ) → IsFinish pair (both_held n) (n + 3) }
@@ -156,12 +157,9 @@ pub fn staying_pairs_are_accepted()
 {}
 
 /// To await a stay is not enough: the cell 1,0 has no order, and this alone is wrong.
+#[tactic(auto, using(crate::proofs::UnorderedPairs::hasty_refused))]
 pub fn hasty_pair_is_refused()
-    ensures right { IsRight (is_on_open_map 4 1) pair_tasks hasty_pair }
-    ensures numbered { (number : ActionId → ℕ) × IsNumbering hasty_pair number }
-    ensures not_by_await { HasNoOrder ComesAfterByAwait hasty_pair (place 1 0) }
-    ensures not_by_chain { HasNoOrder ComesAfterByChain hasty_pair (place 1 0) }
-    ensures refused { IsRefused hasty_pair }
+    ensures { IsRefusedAt (is_on_open_map 4 1) pair_tasks hasty_pair (place 1 0) }
 {}
 
 /// The pair is accepted on a map of four open cells in a row.
@@ -177,30 +175,21 @@ pub fn relay_is_accepted_by_chain()
 {}
 
 /// Without agent 1's first await the pair has no order on the cell 1,0, and this alone is wrong with it.
+#[tactic(auto, using(crate::proofs::UnorderedPairs::rash_refused))]
 pub fn rash_pair_is_refused()
-    ensures right { IsRight (is_on_open_map 4 1) pair_tasks rash_pair }
-    ensures numbered { (number : ActionId → ℕ) × IsNumbering rash_pair number }
-    ensures not_by_await { HasNoOrder ComesAfterByAwait rash_pair (place 1 0) }
-    ensures not_by_chain { HasNoOrder ComesAfterByChain rash_pair (place 1 0) }
-    ensures refused { IsRefused rash_pair }
+    ensures { IsRefusedAt (is_on_open_map 4 1) pair_tasks rash_pair (place 1 0) }
 {}
 
 /// To await an arrival is not enough: the cell 2,0 has no order, and this alone is wrong.
+#[tactic(auto, using(crate::proofs::UnorderedPairs::early_refused))]
 pub fn early_pair_is_refused()
-    ensures right { IsRight (is_on_open_map 4 1) pair_tasks early_pair }
-    ensures numbered { (number : ActionId → ℕ) × IsNumbering early_pair number }
-    ensures not_by_await { HasNoOrder ComesAfterByAwait early_pair (place 2 0) }
-    ensures not_by_chain { HasNoOrder ComesAfterByChain early_pair (place 2 0) }
-    ensures refused { IsRefused early_pair }
+    ensures { IsRefusedAt (is_on_open_map 4 1) pair_tasks early_pair (place 2 0) }
 {}
 
 /// A start is a visit too: where an agent stands for good the cell 1,0 has no order, and this alone is wrong.
+#[tactic(auto, using(crate::proofs::UnorderedPairs::blocked_refused))]
 pub fn blocked_pair_is_refused()
-    ensures right { IsRight (is_on_open_map 4 1) blocked_tasks blocked_pair }
-    ensures numbered { (number : ActionId → ℕ) × IsNumbering blocked_pair number }
-    ensures not_by_await { HasNoOrder ComesAfterByAwait blocked_pair (place 1 0) }
-    ensures not_by_chain { HasNoOrder ComesAfterByChain blocked_pair (place 1 0) }
-    ensures refused { IsRefused blocked_pair }
+    ensures { IsRefusedAt (is_on_open_map 4 1) blocked_tasks blocked_pair (place 1 0) }
 {}
 
 /// To leave the map and come back is refused.

@@ -1,5 +1,5 @@
 -- The steps of the sweep, as its loops take them.
-use Rattle.std.proofs.Common.{◌≡◌, ℕ, zero, suc, ◌+◌, ◌-◌, ◌*◌, ◌<◌, ◌≤◌, Bool, true, false, cond, List, [], ◌∷◌, ◌++◌, map, set, take, replicate, filter, filter_map, not, ◌==◌, length, sum_by, get_or, slice_get, All, Some, Ok, Err, inl, inr, refl, sym, ap, ◌∙◌, subst, arith, add-one}
+use Rattle.std.proofs.Common.{◌≡◌, ◌≢◌, ℕ, zero, suc, ◌+◌, ◌-◌, ◌<◌, ◌≤◌, Bool, true, false, cond, List, [], ◌∷◌, ◌++◌, map, set, take, replicate, filter, filter_map, not, ◌==◌, length, sum_by, get_or, slice_get, All, Some, Ok, Err, inl, inr, refl, sym, ap, ◌∙◌, subst, arith, add-one}
 use Rattle.std.specs.List.{range_with_len, fold}
 use Rattle.std.proofs.lemmas.Bool.{cases_Bool, cases_lt, cases_eq, lt-ltb, le-ltb, le-leb, both_ways, false_from_ne_true}
 use Rattle.std.proofs.lemmas.List.{length-set, get_or-set_same, get_or-set_other, get_or-replicate, get_or-drop, get_or_past, get_or_at, length-replicate, length_push, map_push}
@@ -23,7 +23,7 @@ use Rattle.fleet_adg.specs.declared.leavings.Leavings.{Leavings}
 use Rattle.fleet_grid.specs.Ground.{Ground, IsGround, is_passable, cell_index}
 use Rattle.fleet_plan.specs.Plan.{Plan, cell_of, steps, IsConflictFree}
 use Rattle.fleet_adg.specs.Compiled.{direction, last_below, entry_awaits, changes_in, changes, moves_by, leaves, await_of, last_leaving_by, last_leaving, leavings, action_in, agent_program, compiled, moves_in_all, compiled_if_few}
-use Rattle.fleet_adg.specs.Leavings.{rows_of, kind_of, noted, AreLeavingsAt}
+use Rattle.fleet_adg.specs.Leavings.{row_of, kind_of, noted, AreRowsApart, AreLeavingsAt}
 use Rattle.fleet_adg.specs.Sweep.{is_under_way, under_way, actions_by, all_actions_by, agent_from, IsOnMap}
 use Rattle.fleet_adg.proofs.Basics.{range_push}
 use Rattle.fleet_adg.proofs.Moves.{moves_by-yes, moves_by-no, moves_by-le, steps-ge}
@@ -123,19 +123,19 @@ agent_at plan t agents k e l = let all = subst (All (λ i. i < length plan)) (sy
 -- the table after these agents have made step x
 pub record AreNoted (g : Ground) (plan : Plan) (deps : Deps) (x : ℕ) (done : List ℕ) (l : Leavings) : Type 0 where
   pub kind : kind_of l ≡ deps
-  pub places : length (rows_of l) ≡ g.width * g.height
-  pub rows : (q : Cell) → q.x < g.width → q.y < g.height → get_or (rows_of l) (cell_index g q) [] ≡ fold (note_by plan deps q x) (leavings plan deps q x) done
+  pub apart : AreRowsApart l
+  pub rows : (q : Cell) → q.x < g.width → q.y < g.height → row_of l (cell_index g q) ≡ fold (note_by plan deps q x) (leavings plan deps q x) done
 
 pub noting_begins : (g : Ground) (plan : Plan) (deps : Deps) (x : ℕ) (l : Leavings) → AreLeavingsAt g plan deps x l → AreNoted g plan deps x [] l
-noting_begins g plan deps x l h = record { kind = h.kind; places = h.places; rows = h.rows }
+noting_begins g plan deps x l h = record { kind = h.kind; apart = h.apart; rows = h.rows }
 
 pub noting_ends : (g : Ground) (plan : Plan) (deps : Deps) (x : ℕ) (l : Leavings) → AreNoted g plan deps x (under_way plan x) l → AreLeavingsAt g plan deps (x + 1) l
-noting_ends g plan deps x l h = record { kind = h.kind; places = h.places; rows = λ q a b. h.rows q a b ∙ leavings-next plan deps q x }
+noting_ends g plan deps x l h = record { kind = h.kind; apart = h.apart; rows = λ q a b. h.rows q a b ∙ leavings-next plan deps q x }
 
 pub one_stays : (g : Ground) (plan : Plan) (deps : Deps) (x : ℕ) (agents : List ℕ) (k i : ℕ) (l : Leavings) → k < length agents → i ≡ get_or agents k i → changes_in plan i x ≡ false → AreNoted g plan deps x (take k agents) l → AreNoted g plan deps x (take (k + 1) agents) l
 one_stays g plan deps x agents k i l b e c h = record {
   kind = h.kind;
-  places = h.places;
+  apart = h.apart;
   rows = λ q p r.
       let f = note_by plan deps q x in
       let before = fold f (leavings plan deps q x) (take k agents) in
@@ -146,13 +146,12 @@ pub one_leaves : (g : Ground) (plan : Plan) (deps : Deps) (x : ℕ) (agents : Li
     → ((c d : Cell) → c.x < g.width → d.x < g.width → cell_index g c ≡ cell_index g d → c ≡ d)
     → p.x < g.width → p ≡ cell_of plan i x → w ≡ await_of plan x i
     → k < length agents → i ≡ get_or agents k i → changes_in plan i x ≡ true
-    → cell_index g p < length (rows_of l) → kind_of m ≡ kind_of l → rows_of m ≡ set (rows_of l) (cell_index g p) (noted (kind_of l) (get_or (rows_of l) (cell_index g p) []) w)
+    → kind_of m ≡ kind_of l → row_of m (cell_index g p) ≡ noted (kind_of l) (row_of l (cell_index g p)) w → ((k : ℕ) → k ≢ cell_index g p → row_of m k ≡ row_of l k) → AreRowsApart m
     → AreNoted g plan deps x (take k agents) l → AreNoted g plan deps x (take (k + 1) agents) m
-one_leaves g plan deps x agents k i l m p w own column at is b e c within kind rows h =
-    let row = noted (kind_of l) (get_or (rows_of l) (cell_index g p) []) w in
+one_leaves g plan deps x agents k i l m p w own column at is b e c kind there others rows_apart h =
     record {
       kind = kind ∙ h.kind;
-      places = ap length rows ∙ length-set (rows_of l) (cell_index g p) row ∙ h.places;
+      apart = rows_apart;
       rows = λ q a r.
           let f = note_by plan deps q x in
           let before = fold f (leavings plan deps q x) (take k agents) in
@@ -161,17 +160,15 @@ one_leaves g plan deps x agents k i l m p w own column at is b e c within kind r
             | inl same ↦
                 let here : q ≡ p = own q p a column same in
                 let leaving : leaves plan q x i ≡ true = leaves-from plan q x i (sym at ∙ sym here) c in
-                ap (λ zs. get_or zs (cell_index g q) []) rows
-                ∙ ap (λ n. get_or (set (rows_of l) (cell_index g p) row) n []) same
-                ∙ get_or-set_same (rows_of l) (cell_index g p) row [] within
-                ∙ (λ t. noted (h.kind t) (get_or (rows_of l) (cell_index g (sym here t)) []) (is t))
+                ap (row_of m) same
+                ∙ there
+                ∙ (λ t. noted (h.kind t) (row_of l (cell_index g (sym here t))) (is t))
                 ∙ ap (λ ws. noted deps ws (await_of plan x i)) (h.rows q a r)
                 ∙ sym (note_by-leaves plan deps q x before i leaving)
                 ∙ after
             | inr apart ↦
                 let stays : leaves plan q x i ≡ false = false_from_ne_true (leaves plan q x i) (λ y. apart (ap (cell_index g) (sym (leaves-parts plan q x i y).0 ∙ sym at))) in
-                ap (λ zs. get_or zs (cell_index g q) []) rows
-                ∙ get_or-set_other (rows_of l) (cell_index g p) (cell_index g q) row [] apart
+                others (cell_index g q) apart
                 ∙ h.rows q a r
                 ∙ sym (note_by-stays plan deps q x before i stays)
                 ∙ after
@@ -229,7 +226,7 @@ length-added plan deps x start (i ∷ agents) = length-added plan deps x (add_by
 ]
 
 -- the action that is made is that of the plan
-pub action_is : (g : Ground) (plan : Plan) (deps : Deps) (x i : ℕ) (l : Leavings) (from to : Cell) (dir : Dir) (awaits : List Await) → AreLeavingsAt g plan deps (x + 1) l → from ≡ cell_of plan i x → to ≡ cell_of plan i (x + 1) → to.x < g.width → to.y < g.height → dir ≡ direction from to → awaits ≡ filter (λ w. not (w.agent == i)) (get_or (rows_of l) (cell_index g to) []) → record { step = Go dir; awaits = awaits } ≡ action_in plan deps i x
+pub action_is : (g : Ground) (plan : Plan) (deps : Deps) (x i : ℕ) (l : Leavings) (from to : Cell) (dir : Dir) (awaits : List Await) → AreLeavingsAt g plan deps (x + 1) l → from ≡ cell_of plan i x → to ≡ cell_of plan i (x + 1) → to.x < g.width → to.y < g.height → dir ≡ direction from to → awaits ≡ filter (λ w. not (w.agent == i)) (row_of l (cell_index g to)) → record { step = Go dir; awaits = awaits } ≡ action_in plan deps i x
 unfolding action_in entry_awaits
 action_is g plan deps x i l from to dir awaits h f t column row d e =
     let there = e ∙ ap (filter (λ (w : Await). not (w.agent == i))) (h.rows to column row ∙ ap (λ q. leavings plan deps q (x + 1)) t) in
@@ -247,17 +244,11 @@ leavings-zero plan Deps.All q = none_of 0 (length plan)
     none_of a (suc n) = none_of (a + 1) n
 leavings-zero plan Deps.Last q = refl
 
-replicated : {X : Type 0} (n k : ℕ) (d : X) → get_or (replicate n d) k d ≡ d
-replicated n k d = elim (cases_lt k n) [
-  | inl l ↦ get_or-replicate n k d d l
-  | inr l ↦ get_or_past (replicate n d) k d (omega (arith, length-replicate n d))
-]
-
-pub sweep_begins : (g : Ground) (plan : Plan) (deps : Deps) (l : Leavings) (n : ℕ) → n ≡ g.width * g.height → kind_of l ≡ deps → rows_of l ≡ replicate n [] → AreLeavingsAt g plan deps 0 l
-sweep_begins g plan deps l n size kind rows = record {
+pub sweep_begins : (g : Ground) (plan : Plan) (deps : Deps) (l : Leavings) → kind_of l ≡ deps → AreRowsApart l → ((place : ℕ) → row_of l place ≡ []) → AreLeavingsAt g plan deps 0 l
+sweep_begins g plan deps l kind apart rows = record {
   kind = kind;
-  places = ap length rows ∙ length-replicate n [] ∙ size;
-  rows = λ q a b. ap (λ zs. get_or zs (cell_index g q) []) rows ∙ replicated n (cell_index g q) [] ∙ sym (leavings-zero plan deps q);
+  apart = apart;
+  rows = λ q a b. rows (cell_index g q) ∙ sym (leavings-zero plan deps q);
 }
 
 pub actions_begin : (plan : Plan) (deps : Deps) → replicate (length plan) [] ≡ all_actions_by plan deps 0

@@ -1,5 +1,7 @@
--- A table that has for each cell of a map, row by row, the leavings of it so far.
-use Rattle.std.specs.Prelude.{◌≡◌, ℕ, ◌<◌, ◌*◌, ◌==◌, nat_lt, if◌then◌else◌, List, [], ◌∷◌, length, map, get_or, option_map, option_to_list}
+-- A table that has for each cell of a map the leavings of it so far.
+use Rattle.std.specs.Prelude.{◌≡◌, ◌≢◌, ℕ, ◌<◌, ◌≤◌, ◌==◌, nat_lt, if◌then◌else◌, List, [], ◌∷◌, length, get_or, option_map, option_to_list}
+use Rattle.fleet_table.specs.Table.{value_in}
+use Rattle.fleet_adg.specs.declared.row_table.RowTable.{RowTable}
 use Rattle.fleet_model.specs.declared.geometry.Cell.{Cell}
 use Rattle.fleet_model.specs.declared.program.Await.{Await}
 use Rattle.fleet_model.specs.declared.deps.Deps.{Deps}
@@ -13,10 +15,23 @@ use Rattle.fleet_adg.specs.Compiled.{leavings}
 abbrev pub await_for : Leaving → Await
 await_for l = record { agent = l.agent; count = l.number }
 
--- the leavings of each cell
-abbrev pub rows_of : Leavings → List (List Await)
-rows_of (Leavings.All rows) = rows.items
-rows_of (Leavings.Last last) = map (λ o. option_to_list (option_map await_for o)) last.items
+-- the row of a place: that of its number, counted from 1
+abbrev pub row_in : RowTable → ℕ → List Await
+row_in t place = get_or ([] ∷ t.rows.items) (value_in t.numbers place) []
+
+-- the numbers are those of rows, and no two places have one row
+pub record HasRowsApart (t : RowTable) : Type 0 where
+  pub few : (place : ℕ) → value_in t.numbers place ≤ length t.rows.items
+  pub apart : (k place : ℕ) → k ≢ place → value_in t.numbers k ≡ value_in t.numbers place → value_in t.numbers k ≡ 0
+
+abbrev pub AreRowsApart : Leavings → Type 0
+AreRowsApart (Leavings.All rows) = HasRowsApart rows
+AreRowsApart (Leavings.Last last) = Unit
+
+-- the leavings of the cell at a place
+abbrev pub row_of : Leavings → ℕ → List Await
+row_of (Leavings.All rows) place = row_in rows place
+row_of (Leavings.Last last) place = option_to_list (option_map await_for (value_in last place))
 
 -- which leavings the table keeps
 abbrev pub kind_of : Leavings → Deps
@@ -36,5 +51,5 @@ noted Deps.Last ws w = w ∷ []
 -- the table has for each cell of the map what was to be awaited of it at time t of the plan
 pub record AreLeavingsAt (g : Ground) (plan : Plan) (deps : Deps) (t : ℕ) (l : Leavings) : Type 0 where
   pub kind : kind_of l ≡ deps
-  pub places : length (rows_of l) ≡ g.width * g.height
-  pub rows : (q : Cell) → q.x < g.width → q.y < g.height → get_or (rows_of l) (cell_index g q) [] ≡ leavings plan deps q t
+  pub apart : AreRowsApart l
+  pub rows : (q : Cell) → q.x < g.width → q.y < g.height → row_of l (cell_index g q) ≡ leavings plan deps q t

@@ -7,6 +7,7 @@ mod fault;
 mod laws;
 mod leavings;
 mod row;
+mod row_table;
 mod sweep;
 
 pub use compiler::compile;

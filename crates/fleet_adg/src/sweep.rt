@@ -25,8 +25,8 @@ pub(crate) fn actions_of(
 {
     let plan = checked.plan();
     let grid = checked.grid();
-    let cells = usize::from(grid.width()) * usize::from(grid.height());
-    let mut leavings = Leavings::none(alloc, cells, deps)?;
+    cells_are_on_map(checked);
+    let mut leavings = Leavings::none(alloc, deps);
     let mut actions = empty_lists(alloc, plan)?;
     let mut agents = agents_of(alloc, plan.agents())?;
     for time in 0..plan.steps() {
@@ -35,6 +35,15 @@ pub(crate) fn actions_of(
         add_actions(alloc, plan, grid, time, &agents, &leavings, &mut actions)?;
     }
     Ok(actions)
+}
+
+/// Every cell of a plan lies on the map that it was checked for. It does nothing.
+fn cells_are_on_map(checked: &Checked<'_>)
+    ensures { IsOnMap checked.now.grid checked.now.plan }
+{
+    let _plan = checked.plan();
+    // What is asked of a map tells of its sizes.
+    let _width = checked.grid().width();
 }
 
 /// For each agent no action, and room for its moves.

@@ -11,10 +11,10 @@ use Rattle.fleet_args.specs.Run.{run_shape}
 use Rattle.fleet_args.specs.Rehearse.{rehearse_shape}
 use Rattle.fleet_args.specs.Auto.{auto_shape}
 
--- the program: its words do not begin with its name, and one of the commands is wanted
+-- the program: its words do not begin with its name, it has a version, and one of the commands is wanted
 abbrev pub fleet_top : App
 fleet_top = record (new_app (codes "fleet")) {
-  top = record (new_app (codes "fleet")).top { no_binary_name = true; subcommand_required = true };
+  top = record (new_app (codes "fleet")).top { no_binary_name = true; has_version = true; subcommand_required = true };
 }
 
 -- the whole command line

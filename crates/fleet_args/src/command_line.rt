@@ -23,7 +23,9 @@ fn without_commands<'a>(alloc: Global) -> Result<Command<'a>, AllocError>
         Command::new(alloc, "fleet")
             .no_binary_name(true)
             .bin_name("fleet")?
+            .version("1.0")
             .about("Programs for a fleet of robots on a grid")
+            .override_usage("fleet <COMMAND>\n       fleet < HEXADECIMAL")
             .after_help(
                 "Without a command: rehearses, with nobody held, the program that standard input gives in hexadecimal.\nStatus: 0 done, 1 refused or stuck, 2 wrong usage, 3 a file, the output or memory failed.\nA refusal is one line on standard error: part, number, name, particulars. docs/REFUSALS.md explains each.",
             )

@@ -9,7 +9,7 @@ use Rattle.fleet_auto.specs.Texts.{AreTextsOf}
 use Rattle.fleet_files.specs.Files.{Store}
 use Rattle.fleet_text.specs.Sink.{FailsAfter, SinkState, IsUnwritten, IsDelivered}
 use Rattle.fleet_args.specs.declared.instance.InstanceRequest.{InstanceRequest}
-use Rattle.fleet_text.specs.Words.{pair_text, line_text}
+use Rattle.fleet_text.specs.Words.{pair_text, line_text, count_line}
 use Rattle.fleet_io.specs.Named.{IsUnread, AreRead}
 use Rattle.fleet_cli.specs.Problem.{IsProblemRefusal}
 use Rattle.fleet_io.specs.declared.fault.Fault.{Fault}
@@ -34,16 +34,10 @@ task_lines tasks (suc n) = task_lines tasks n ++ task_line n (start_in tasks n) 
 unfoldable pub map_line : Ground → List ℕ
 map_line g = line_text (codes "map" ∷ decimal g.width ∷ decimal g.height ∷ [])
 
--- `ground N`
-unfoldable pub ground_line : Ground → List ℕ
-ground_line g = line_text (codes "ground" ∷ decimal (passable_cells g) ∷ [])
-
--- `agents K`
-unfoldable pub agents_line : List Task → List ℕ
-agents_line tasks = line_text (codes "agents" ∷ decimal (length tasks) ∷ [])
-
-abbrev pub instance_text : Ground → List Task → List ℕ
-instance_text g tasks = map_line g ++ (ground_line g ++ (agents_line tasks ++ task_lines tasks (length tasks)))
+-- the sizes, `ground N`, `agents K`, and the lines of the agents
+unfoldable pub instance_text : Ground → List Task → List ℕ
+instance_text g tasks =
+    map_line g ++ (count_line (codes "ground") (passable_cells g) ++ (count_line (codes "agents") (length tasks) ++ task_lines tasks (length tasks)))
 
 -- what the texts stand for was printed, and handed on
 pub record PrintsInstance (map scen : List ℕ) (asked : Option ℕ) (out out' : SinkState) : Type 0 where

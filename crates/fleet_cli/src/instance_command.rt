@@ -3,12 +3,12 @@
 ghost use Rattle.std.specs.Prelude.{◌≡◌, ◌<◌, ◌∷◌, [], length, List, ℕ, MatchResult};
 ghost use Rattle.fleet_text.specs.Sink.{IsWorking, TakesAll, Delivers};
 ghost use Rattle.fleet_files.specs.Files.{IsKept};
-ghost use Rattle.fleet_cli.specs.InstanceCommand.{task_line, task_lines, map_line, ground_line, agents_line, instance_text, PrintsInstance, IsInstanceFault, DoesInstance, RefusesInstance};
+ghost use Rattle.fleet_cli.specs.InstanceCommand.{task_line, task_lines, map_line, instance_text, PrintsInstance, IsInstanceFault, DoesInstance, RefusesInstance};
 
 use crate::problem::read_problem;
 use fleet_args::InstanceRequest;
 use fleet_grid::Grid;
-use fleet_io::{Fault, Files, Word, put_line, read_files};
+use fleet_io::{Fault, Files, Word, put_count, put_line, read_files};
 use fleet_model::Cell;
 use fleet_run::{Flush, OutFault, TraceOut};
 use fleet_scen::Instance;
@@ -45,35 +45,13 @@ fn put_sizes<O: TraceOut>(out: &mut O, grid: &Grid) -> Result<(), OutFault>
     put_line(out, &[Word::Text("map"), width, height])
 }
 
-#[tactic(auto, unfolding(crate::specs::InstanceCommand::ground_line))]
-fn put_ground<O: TraceOut>(out: &mut O, grid: &Grid) -> Result<(), OutFault>
-    requires { IsWorking (O.state out.old) }
-    ensures { TakesAll (O.state out.old) (O.state out.new) result (ground_line grid.now) }
-{
-    put_line(
-        out,
-        &[Word::Text("ground"), Word::Number(grid.ground() as u64)],
-    )
-}
-
-#[tactic(auto, unfolding(crate::specs::InstanceCommand::agents_line))]
-fn put_agents<O: TraceOut>(out: &mut O, instance: &Instance) -> Result<(), OutFault>
-    requires { IsWorking (O.state out.old) }
-    ensures { TakesAll (O.state out.old) (O.state out.new) result (agents_line instance.now) }
-{
-    put_line(
-        out,
-        &[Word::Text("agents"), Word::Number(instance.agents() as u64)],
-    )
-}
-
 fn put_instance<O: TraceOut>(out: &mut O, grid: &Grid, instance: &Instance) -> Result<(), OutFault>
     requires { IsWorking (O.state out.old) }
     ensures { TakesAll (O.state out.old) (O.state out.new) result (instance_text grid.now instance.now) }
 {
     put_sizes(out, grid)?;
-    put_ground(out, grid)?;
-    put_agents(out, instance)?;
+    put_count(out, "ground", grid.ground() as u64)?;
+    put_count(out, "agents", instance.agents() as u64)?;
     put_tasks(out, instance)
 }
 

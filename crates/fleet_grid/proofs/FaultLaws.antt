@@ -1,8 +1,8 @@
 -- Reading a map's lines fails with a fault exactly where the fault is the first.
-use Rattle.std.proofs.Common.{◌≡◌, ◌≢◌, ℕ, zero, suc, ◌+◌, ◌<◌, Bool, true, false, ◌&&◌, eqb, List, [], ◌∷◌, length, drop, get_or, Option, Some, None, Result, Ok, Err, refl, sym, ap, subst, ◌∙◌, arith, inl, inr}
+use Rattle.std.proofs.Common.{◌≡◌, ◌≢◌, ℕ, zero, suc, ◌+◌, ◌<◌, Bool, false, ◌&&◌, eqb, List, [], ◌∷◌, length, drop, get_or, Some, None, Result, Ok, Err, refl, sym, ap, subst, ◌∙◌, arith, inl, inr}
 use Rattle.std.specs.Prelude.{position, codes, ◌⊎◌, IfOk, IfErr, IsOkUnless}
 use Rattle.std.specs.List.{list_all}
-use Rattle.std.proofs.lemmas.Bool.{eqb-true, eq-eqb, ne_eqb, false_from_ne_true}
+use Rattle.std.proofs.lemmas.Bool.{eqb-true, eq-eqb, ne_eqb, false_from_ne_true, both_ways}
 use Rattle.std.proofs.lemmas.List.{drop-drop, length-drop, get_or-drop}
 use Rattle.fleet_model.specs.Answer.{IsDueUnless}
 use Rattle.fleet_grid.specs.declared.fault.MapFault.{MapFault}
@@ -12,12 +12,9 @@ use Rattle.fleet_grid.specs.Ground.{Ground, IsSide}
 use Rattle.fleet_grid.specs.MapText.{line_at, is_no_glyph, cells_of, is_space, IsKindLine, IsNumberLine, IsMapLine, IsHeader, IsSizedHeader, AreRows, AreMapLines, HasForm, IsFirstWithoutForm, IsRightUpTo, IsFirstFault}
 use Rattle.fleet_text.specs.Steps.{none_or, ◌>>=◌, ◌>>◌, some_or}
 use Rattle.fleet_grid.specs.MapReading.{is_alone, field, number_field, is_side, header_at, row_at, rows_at, map_at}
-use Rattle.fleet_text.proofs.StepLaws.{bind_err, right_err, some_err, some_ok, err_is, result_cases, ok_err}
+use Rattle.fleet_text.proofs.StepLaws.{bind_err, right_err, some_err, some_ok, err_is, ok_err, none_some, option_cases}
+use Rattle.fleet_text.proofs.Verdicts.{Tells}
 use Rattle.fleet_grid.proofs.MapLaws.{kind_is, kind_again, number_is, number_again, map_line_is, map_line_again, sides_are, sides_again, four_lines, sized, after_width, after_height, after_kind, header_is, header_read, header_again, row_again, StartWithRows, rows_to, rows_from, rows_again, row_is, rows_are, empty_are, empty_again, after_rows_read, after_header, is_found, is_read}
-
-none_some : {A : Type 0} (o : Option A) (x : A) → o ≡ None → o ≡ Some x → ⊥
-none_some None x e f = cc
-none_some (Some y) x e f = cc
 
 -- ---- the header
 
@@ -26,10 +23,6 @@ kind_missing line none h = let again = kind_again line h in none_some (field (co
 
 number_missing : (keyword line : Bytes) → number_field keyword line ≡ None → (n : ℕ) × IsNumberLine keyword line n → ⊥
 number_missing keyword line none h = none_some (number_field keyword line) h.0 none (number_again keyword line h.0 h.1)
-
-true_false : (b : Bool) → b ≡ true → b ≡ false → ⊥
-true_false true t f = cc
-true_false false t f = cc
 
 -- which lines have their form before a wrong one
 abbrev Before : List Bytes → ℕ → Type 0
@@ -59,14 +52,14 @@ wrong_line ls k within before wrong = (k, refl, record { within = within; before
 wrong_size : (ls : List Bytes) (w h : ℕ) (f : MapFault) → IsHeader ls w h → sized h w ≡ Err f → IsFirstFault ls f
 wrong_size ls w h f header e =
     elim (right_err (is_side h && is_side w) Size (Ok (w, h)) f e) [
-      | inl p ↦ subst (IsFirstFault ls) p.1 (w, h, header, λ sides. true_false (is_side h && is_side w) (sides_again h w sides.0 sides.1) p.0)
+      | inl p ↦ subst (IsFirstFault ls) p.1 (w, h, header, λ sides. both_ways (is_side h && is_side w) p.0 (sides_again h w sides.0 sides.1))
       | inr p ↦ absurd (let g : Ok (w, h) ≡ Err f = p.1 in cc)
     ]
 
 after_width_fails : (ls : List Bytes) (w h : ℕ) (f : MapFault) → IsKindLine (line_at ls 0) → IsNumberLine (codes "height") (line_at ls 1) h → IsNumberLine (codes "width") (line_at ls 2) w → after_width ls h w ≡ Err f → IsFirstFault ls f
 after_width_fails ls w h f kind height width e =
     elim (right_err (is_alone (codes "map") (words_from_front (line_at ls 3))) (Header 4) (sized h w) f e) [
-      | inl p ↦ subst (IsFirstFault ls) p.1 (wrong_line ls 3 (omega arith) (three_before ls w h kind height width) (λ form. true_false (is_alone (codes "map") (words_from_front (line_at ls 3))) (map_line_again (line_at ls 3) form) p.0))
+      | inl p ↦ subst (IsFirstFault ls) p.1 (wrong_line ls 3 (omega arith) (three_before ls w h kind height width) (λ form. both_ways (is_alone (codes "map") (words_from_front (line_at ls 3))) p.0 (map_line_again (line_at ls 3) form)))
       | inr p ↦ wrong_size ls w h f (record { kind = kind; height = height; width = width; map = map_line_is (line_at ls 3) p.0 }) p.1
     ]
 
@@ -99,10 +92,6 @@ header_fails ls f e =
     ]
 
 -- ---- a fault of the header is read
-
-option_cases : {A : Type 0} (o : Option A) → (o ≡ None) ⊎ ((x : A) × (o ≡ Some x))
-option_cases None = inl refl
-option_cases (Some x) = inr (x, refl)
 
 not_kind : (line : Bytes) → (IsKindLine line → ⊥) → field (codes "type") line ≡ None
 not_kind line wrong = elim (option_cases (field (codes "type") line)) [ inl none ↦ none | inr some ↦ absurd (wrong (kind_is line some.0 some.1)) ]
@@ -145,7 +134,7 @@ row_fails : (w row : ℕ) (line : Bytes) (f : MapFault) → row_at w row line �
 unfolding row_at
 row_fails w row line f e =
     elim (right_err (eqb (length line) w) (RowLength row) (none_or (position is_no_glyph line) (Glyph row) >> Ok (cells_of line)) f e) [
-      | inl p ↦ inl (sym p.1, λ same. true_false (eqb (length line) w) (eq-eqb (length line) w same) p.0)
+      | inl p ↦ inl (sym p.1, λ same. both_ways (eqb (length line) w) p.0 (eq-eqb (length line) w same))
       | inr p ↦ elim (option_cases (position is_no_glyph line)) [
         | inl none ↦ absurd (let g : Ok (cells_of line) ≡ Err f = rw none at p.1 in cc)
         | inr some ↦ (
@@ -242,7 +231,7 @@ map_rows_fault ls w h k f right stops =
 after_rows_fail : (ls : List Bytes) (w h : ℕ) (rows : List (List Bool) × List Bytes) (f : MapFault) → IsSizedHeader ls w h → AreRows w h (drop 4 ls) → rows.1 ≡ drop (4 + h) ls → after_rows_read w h rows ≡ Err f → IsFirstFault ls f
 after_rows_fail ls w h rows f header are rest e =
     elim (right_err (list_all (list_all is_space) rows.1) Trailing (Ok (record { width = w; height = h; rows = rows.0 })) f e) [
-      | inl p ↦ subst (IsFirstFault ls) p.1 (w, h, header, are, λ empty. true_false (list_all (list_all is_space) rows.1) (ap (list_all (list_all is_space)) rest ∙ empty_again (drop (4 + h) ls) empty) p.0)
+      | inl p ↦ subst (IsFirstFault ls) p.1 (w, h, header, are, λ empty. both_ways (list_all (list_all is_space) rows.1) p.0 (ap (list_all (list_all is_space)) rest ∙ empty_again (drop (4 + h) ls) empty))
       | inr p ↦ absurd (let g : Ok (record { width = w; height = h; rows = rows.0 }) ≡ Err f = p.1 in cc)
     ]
 
@@ -284,20 +273,10 @@ is_told ls Trailing h =
     let shows : list_all (list_all is_space) (drop height (drop 4 ls)) ≡ false = ap (list_all (list_all is_space)) (drop-drop height 4 ls) ∙ false_from_ne_true (list_all (list_all is_space) (drop (4 + height) ls)) (λ t. h.4 (empty_are (drop (4 + height) ls) t)) in
     rw (header_again ls w height h.2, rows_again height w 0 (drop 4 ls) h.3, shows) refl
 
--- ---- one outcome
+-- ---- the reader's laws
 
-pub map_or_fault : (ls : List Bytes) → ((g : Ground) × AreMapLines ls g) ⊎ ((f : MapFault) × IsFirstFault ls f)
-map_or_fault ls =
-    elim (result_cases (map_at ls)) [
-      | inl p ↦ inl (p.0, is_found ls p.0 p.1)
-      | inr p ↦ inr (p.0, is_fault ls p.0 p.1)
-    ]
-
-pub not_both : (ls : List Bytes) (g : Ground) (f : MapFault) → AreMapLines ls g → IsFirstFault ls f → ⊥
-not_both ls g f a b = ok_err g f (sym (is_read ls g a) ∙ is_told ls f b)
-
-pub one_fault : (ls : List Bytes) (e f : MapFault) → IsFirstFault ls e → IsFirstFault ls f → e ≡ f
-one_fault ls e f a b = err_is {A = Ground} e f (sym (is_told ls e a) ∙ is_told ls f b)
+pub tells : (ls : List Bytes) → Tells (AreMapLines ls) (IsFirstFault ls) (map_at ls)
+tells ls = record { found = is_found ls; read = is_read ls; fault = is_fault ls; told = is_told ls }
 
 -- ---- what the reader returned
 

@@ -255,10 +255,7 @@ is_read ls g h =
     let same : record { width = g.width; height = g.height; rows = map cells_of lines } ≡ g = ap (λ (rs : List (List Bool)). record { width = g.width; height = g.height; rows = rs }) (sym h.cells) in
     rw (header_again ls g.width g.height h.header, rows_again g.height g.width 0 (drop 4 ls) h.rows, rest) (ap (λ (x : Ground). Ok x) same)
 
--- ---- one ground, and its cells
-
-pub one_ground : (ls : List Bytes) (g h : Ground) → AreMapLines ls g → AreMapLines ls h → g ≡ h
-one_ground ls g h a b = ok_is {E = MapFault} g h (sym (is_read ls g a) ∙ is_read ls h b)
+-- ---- the cells of a ground
 
 widths_are : (w : ℕ) (ls : List Bytes) → AllByRecursion (IsRow w) ls → AllByRecursion (λ row. length row ≡ w) (map cells_of ls)
 widths_are w [] h = tt

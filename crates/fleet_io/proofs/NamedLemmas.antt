@@ -6,7 +6,7 @@ use Rattle.std.specs.Borrow.{Bor}
 use Rattle.std.specs.declared.alloc.Global.{Global}
 use Rattle.fleet_files.specs.Files.{Store, IsKept, IsRead}
 use Rattle.fleet_files.proofs.FileLemmas.{read_before, unreadable_before}
-use Rattle.fleet_io.specs.Named.{IsReadFault, IsUnread, AreRead, AreHoldBytes, texts_of, items_of}
+use Rattle.fleet_io.specs.Named.{IsReadFault, IsUnread, AreRead, texts_of, items_of}
 use Rattle.fleet_io.specs.declared.fault.Fault.{Fault}
 use Rattle.fleet_io.specs.declared.fault.Fault.TheVariants as f
 
@@ -29,10 +29,6 @@ pub unread_before : (old new : Option Store) (names : List (List ℕ)) (fault : 
 unread_before old new [] fault kept h = absurd h
 unread_before old new (name ∷ names) fault kept (inl h) = inl (read_fault_before old new name fault kept h)
 unread_before old new (name ∷ names) fault kept (inr (bytes, held, h)) = inr (bytes, read_before old new name bytes kept held, unread_before old new names fault kept h)
-
-pub holds_before : (old new : Option Store) (name : Option (List ℕ)) (bytes : List ℕ) → IsKept old new → AreHoldBytes new name bytes → AreHoldBytes old name bytes
-holds_before old new None bytes kept h = h
-holds_before old new (Some n) bytes kept h = read_before old new n bytes kept h
 
 -- one file more was read
 are_read-append : (files : Option Store) (names : List (List ℕ)) (read : List (List ℕ)) (name bytes : List ℕ) → AreRead files names read → IsRead files name bytes

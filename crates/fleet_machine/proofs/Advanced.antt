@@ -1,25 +1,21 @@
 -- One more agent moved, or left where it is.
-use Rattle.std.proofs.Common.{◌≡◌, ◌<◌, ◌≤◌, ◌&&◌, not, ℕ, ℤ, pos, negsuc, ◌+◌, Bool, true, false, cond, List, [], ◌∷◌, ◌++◌, Some, None, map, length, get_or, slice_get, set, refl, ap, sym, ◌∙◌, subst, rules, arith, below_more, get_or-set_same, get_or-set_other, length-append, ◌≢◌}
-use Rattle.std.specs.List.{filter}
-use Rattle.std.proofs.lemmas.Bool.{and_parts, cases_lt}
+use Rattle.std.proofs.Common.{◌≡◌, ◌<◌, ◌≤◌, ◌&&◌, not, ℕ, ℤ, pos, negsuc, ◌+◌, Bool, true, false, cond, List, [], ◌∷◌, ◌++◌, ◌||◌, zero, suc, Some, None, map, length, get_or, slice_get, set, replicate, refl, ap, sym, ◌∙◌, subst, rules, arith, add-one, below_more, get_or-set_same, get_or-set_other, length-set, length-append, ◌≢◌}
+use Rattle.std.specs.List.{filter, list_any}
+use Rattle.std.proofs.lemmas.Bool.{cases_lt}
 use Rattle.std.proofs.lemmas.List.Elements.{filter-append}
-use Rattle.std.proofs.lemmas.List.FromFn.{get_or-map-range_with_len, fill_by_all}
+use Rattle.std.proofs.lemmas.List.{get_or_past, get_or-replicate, length-replicate}
+use Rattle.std.proofs.lemmas.List.FromFn.{fill_by_all}
 use Rattle.fleet_model.specs.declared.standing.Standing.{Standing}
 use Rattle.fleet_model.specs.Program.{Program, moves, actions_of}
 use Rattle.fleet_model.specs.Machine.{Configuration, standing_at, count_at, next_action, finished_one, is_ready, is_moving, standing_after, indices, tick}
 use Rattle.fleet_machine.proofs.Ready.{no_action_left}
-use Rattle.fleet_machine.proofs.Indices.{indices_more}
+use Rattle.fleet_machine.proofs.Indices.{indices_more, any_more}
+use Rattle.fleet_machine.specs.Machine.{flag_of, moving_flags}
 
 -- who is ready has an action left
 pub left_if_ready : (p : Program) (c : Configuration) (i : ℕ) → is_ready p c i ≡ true → count_at c i < moves p i
 left_if_ready p c i ready =
     elim (cases_lt (count_at c i) (moves p i)) [ Rattle.std.proofs.Common.inl h ↦ h | Rattle.std.proofs.Common.inr h ↦ let none = no_action_left p c i h in absurd (cc) ]
-
--- the flags that were judged
-pub is_moving_if_flagged : (p : Program) (held : ℕ → Bool) (c : Configuration) (moving : List Bool) (i : ℕ) (flag : Bool)
-    → moving ≡ map (is_moving p held c) (indices (length p)) → i < length p → get_or moving i false ≡ flag → is_moving p held c i ≡ flag
-is_moving_if_flagged p held c moving i flag e inside is =
-    sym (get_or-map-range_with_len (is_moving p held c) 0 (length p) i i false inside (omega arith)) ∙ sym (ap (λ xs. get_or xs i false) e) ∙ is
 
 -- where an agent that moves stands afterwards
 after_move : (p : Program) (held : ℕ → Bool) (old rows : Configuration) (i : ℕ) → is_moving p held old i ≡ true → standing_at rows i ≡ standing_at old i
@@ -37,28 +33,65 @@ filter_more test i = rw (indices_more i, filter-append, length-append) (last (te
     last true = refl
     last false = refl
 
+-- ---- from one agent to the next
+
+-- what goes on from each number to the next goes on from n to i
+pub onward : (P : ℕ → Type 0) (n i : ℕ) → n ≤ i → ((k : ℕ) → n ≤ k → k < i → P k → P (k + 1)) → P n → P i
+onward P n zero le step h = subst P (omega arith) h
+onward P n (suc i) le step h =
+    elim (cases_lt i n) [
+      | Rattle.std.proofs.Common.inl lt ↦ subst P (omega arith) h
+      | Rattle.std.proofs.Common.inr ge ↦ subst P (add-one i) (step i ge (omega arith) (onward P n i ge (λ k from below. step k from (omega arith)) h))
+    ]
+
 -- the agents below n have moved, or stay for this tick
-pub record IsAdvanced (p : Program) (held : ℕ → Bool) (old rows : Configuration) (n count : ℕ) : Type 0 where
+pub record IsAdvanced (p : Program) (held : ℕ → Bool) (old rows : Configuration) (moving : List Bool) (n count : ℕ) (ready_held : Bool) : Type 0 where
   pub done : (k : ℕ) → k < n → standing_at rows k ≡ standing_after p held old k
   pub rest : (k : ℕ) → n ≤ k → standing_at rows k ≡ standing_at old k
   pub counted : count ≡ length (filter (is_moving p held old) (indices n))
   pub few : count ≤ n
+  pub long : length rows ≡ length p
+  pub flags : length moving ≡ length p
+  pub flagged : (k : ℕ) → k < n → flag_of moving k ≡ is_moving p held old k
+  pub unflagged : (k : ℕ) → n ≤ k → flag_of moving k ≡ false
+  pub held_is : ready_held ≡ list_any (λ k. is_ready p old k && held k) (indices n)
 
-module _ (p : Program) (held : ℕ → Bool) (old rows : Configuration) (i count : ℕ) (before : IsAdvanced p held old rows i count)
-    (moving : List Bool) (judged : moving ≡ map (is_moving p held old) (indices (length p))) (agent : i < length p) where
-  pub left_if_flagged : get_or moving i false ≡ true → count_at rows i < moves p i
-  left_if_flagged is =
-      let flag = is_moving_if_flagged p held old moving i true judged agent is in
-      let ready = (and_parts (is_ready p old i) (not (held i)) flag).0 in
+pub none_advanced : (p : Program) (held : ℕ → Bool) (old : Configuration) (flags : ℕ) → length old ≡ length p → flags ≡ length p
+    → IsAdvanced p held old old (replicate flags false) 0 0 false
+none_advanced p held old flags long same = record {
+  done = λ k h. absurd (omega arith);
+  rest = λ k h. refl;
+  counted = refl;
+  few = omega arith;
+  long = long;
+  flags = length-replicate flags false ∙ same;
+  flagged = λ k h. absurd (omega arith);
+  unflagged = λ k h. none_flagged flags k;
+  held_is = refl;
+}
+  where
+    none_flagged : (n k : ℕ) → flag_of (replicate n false) k ≡ false
+    none_flagged n k =
+        elim (cases_lt k n) [
+          | Rattle.std.proofs.Common.inl lt ↦ get_or-replicate n k false false lt
+          | Rattle.std.proofs.Common.inr ge ↦ get_or_past (replicate n false) k false (omega (arith, length-replicate n false))
+        ]
+
+module _ (p : Program) (held : ℕ → Bool) (old rows : Configuration) (moving : List Bool) (i count : ℕ) (ready_held : Bool) (before : IsAdvanced p held old rows moving i count ready_held) where
+  pub left_if_ready_now : is_ready p old i ≡ true → count_at rows i < moves p i
+  left_if_ready_now ready =
       let left = left_if_ready p old i ready in
       let same : count_at rows i ≡ count_at old i = ap (λ (s : Standing). s.count) (before.rest i (omega arith)) in
       omega arith
 
-  pub one_moves : get_or moving i false ≡ true → i < length rows → IsAdvanced p held old (set rows i (finished_one (standing_at rows i) (next_action p rows i))) (i + 1) (count + 1)
-  one_moves is inside =
-      let flag = is_moving_if_flagged p held old moving i true judged agent is in
+  pub one_moves : is_ready p old i ≡ true → held i ≡ false → i < length p
+      → IsAdvanced p held old (set rows i (finished_one (standing_at rows i) (next_action p rows i))) (set moving i true) (i + 1) (count + 1) ready_held
+  one_moves ready free agent =
+      let flag : is_moving p held old i ≡ true = rw (ready, free) refl in
       let s = finished_one (standing_at rows i) (next_action p rows i) in
       let e = after_move p held old rows i flag (before.rest i (omega arith)) in
+      let inside : i < length rows = omega (arith, before.long) in
+      let there : i < length moving = omega (arith, before.flags) in
       record {
         done = below_more (λ k. standing_at (set rows i s) k ≡ standing_after p held old k) i
             (λ k h. let ne : k ≢ i = omega arith in rw (get_or-set_other rows i k s) (before.done k h))
@@ -66,20 +99,58 @@ module _ (p : Program) (held : ℕ → Bool) (old rows : Configuration) (i count
         rest = λ k h. let ne : k ≢ i = omega arith in rw (get_or-set_other rows i k s) (before.rest k (omega arith));
         counted = rw (filter_more (is_moving p held old) i, flag) (ap (λ n. n + 1) before.counted);
         few = let few = before.few in omega arith;
+        long = length-set rows i s ∙ before.long;
+        flags = length-set moving i true ∙ before.flags;
+        flagged = below_more (λ k. flag_of (set moving i true) k ≡ is_moving p held old k) i
+            (λ k h. let ne : k ≢ i = omega arith in get_or-set_other moving i k true false ne ∙ before.flagged k h)
+            (get_or-set_same moving i true false there ∙ sym flag);
+        unflagged = λ k h. let ne : k ≢ i = omega arith in get_or-set_other moving i k true false ne ∙ before.unflagged k (omega arith);
+        held_is = rw (any_more (λ k. is_ready p old k && held k) i, ready, free) (or_no ready_held _ before.held_is);
       }
+    where
+      or_no : (a b : Bool) → a ≡ b → a ≡ (b || false)
+      or_no a true e = e
+      or_no a false e = e
 
-  pub one_stays : get_or moving i false ≡ false → IsAdvanced p held old rows (i + 1) count
-  one_stays is =
-      let flag = is_moving_if_flagged p held old moving i false judged agent is in
-      record {
-        done = below_more (λ k. standing_at rows k ≡ standing_after p held old k) i before.done
-            (before.rest i (omega arith) ∙ stays p held old i flag);
-        rest = λ k h. before.rest k (omega arith);
-        counted = rw (filter_more (is_moving p held old) i, flag) (let e = before.counted in omega arith);
-        few = let few = before.few in omega arith;
-      }
+  -- an agent that stays
+  one_stays : (now_held : Bool) → is_moving p held old i ≡ false → now_held ≡ (ready_held || (is_ready p old i && held i))
+      → IsAdvanced p held old rows moving (i + 1) count now_held
+  one_stays now_held flag held_is = record {
+    done = below_more (λ k. standing_at rows k ≡ standing_after p held old k) i before.done
+        (before.rest i (omega arith) ∙ stays p held old i flag);
+    rest = λ k h. before.rest k (omega arith);
+    counted = rw (filter_more (is_moving p held old) i, flag) (let e = before.counted in omega arith);
+    few = let few = before.few in omega arith;
+    long = before.long;
+    flags = before.flags;
+    flagged = below_more (λ k. flag_of moving k ≡ is_moving p held old k) i before.flagged (before.unflagged i (omega arith) ∙ sym flag);
+    unflagged = λ k h. before.unflagged k (omega arith);
+    held_is = held_is ∙ (ap (λ b. b || (is_ready p old i && held i)) before.held_is ∙ sym (any_more (λ k. is_ready p old k && held k) i));
+  }
 
-pub all_advanced : (p : Program) (held : ℕ → Bool) (old rows : Configuration) (n count : ℕ) → IsAdvanced p held old rows n count → length rows ≡ n → n ≡ length p
-    → rows ≡ tick p held old
-all_advanced p held old rows n count before same whole =
-    fill_by_all (standing_after p held old) rows (length p) (standing_at [] 0) (omega arith) (λ k h. before.done k (omega arith))
+  pub one_held : is_ready p old i ≡ true → held i ≡ true → IsAdvanced p held old rows moving (i + 1) count true
+  one_held ready is = one_stays true (rw (ready, is) refl) (rw (ready, is) (or_yes ready_held))
+    where
+      or_yes : (a : Bool) → true ≡ (a || true)
+      or_yes true = refl
+      or_yes false = refl
+
+  pub one_waits : is_ready p old i ≡ false → IsAdvanced p held old rows moving (i + 1) count ready_held
+  one_waits waits = one_stays ready_held (rw waits refl) (rw waits (or_no ready_held))
+    where
+      or_no : (a : Bool) → a ≡ (a || false)
+      or_no true = refl
+      or_no false = refl
+
+-- who is not ready is passed over
+pub all_wait : (p : Program) (held : ℕ → Bool) (old rows : Configuration) (moving : List Bool) (n i count : ℕ) (ready_held : Bool) → n ≤ i
+    → ((k : ℕ) → n ≤ k → k < i → is_ready p old k ≡ false) → IsAdvanced p held old rows moving n count ready_held → IsAdvanced p held old rows moving i count ready_held
+all_wait p held old rows moving n i count ready_held le waits before =
+    onward (λ k. IsAdvanced p held old rows moving k count ready_held) n i le (λ k from below h. one_waits p held old rows moving k count ready_held h (waits k from below)) before
+
+module _ (p : Program) (held : ℕ → Bool) (old rows : Configuration) (moving : List Bool) (count : ℕ) (ready_held : Bool) (all : IsAdvanced p held old rows moving (length p) count ready_held) where
+  pub all_advanced : rows ≡ tick p held old
+  all_advanced = fill_by_all (standing_after p held old) rows (length p) (standing_at [] 0) all.long (λ k h. all.done k h)
+
+  pub all_flagged : moving ≡ moving_flags p held old
+  all_flagged = fill_by_all (is_moving p held old) moving (length p) false all.flags (λ k h. all.flagged k h)

@@ -1,7 +1,12 @@
 pub mod Ready
+mod Linked
+pub mod Bits
 pub mod Indices
-pub mod Judged
+pub mod Lacking
+pub mod Judging
+pub mod Waking
 pub mod Advanced
+pub mod Ticking
 pub mod Opened
 pub mod Kept
 pub mod Resting

@@ -1,6 +1,11 @@
 //! The state of a run: the agents of a program on their way, and one tick of all of them.
 #![tactic(auto)]
 
+mod agent_set;
 mod machine;
+mod wait_lists;
 
 pub use machine::{Machine, Tick};
+
+#[cfg(test)]
+mod tests;

@@ -1,15 +1,22 @@
 //! The agents of a program on their way, and one tick of all of them.
 
-ghost use Rattle.std.specs.Prelude.{◌≡◌, ◌<◌, length, set, IfOk, MatchOption};
+ghost use Rattle.std.specs.Prelude.{◌≡◌, ◌≢◌, ◌<◌, ◌≤◌, ◌&&◌, ◌==◌, ℕ, true, false, length, set, replicate, Some, None, filter, is_none, IfOk, IfSome, IfNone, MatchOption};
+ghost use Rattle.std.specs.List.{list_any};
 ghost use Rattle.fleet_model.specs.Geometry.{place_of};
-ghost use Rattle.fleet_model.specs.Program.{moves};
-ghost use Rattle.fleet_model.specs.Machine.{opening, is_finished, is_ready, is_met, tick, moved_in, is_ready_held, standing_at, count_at};
+ghost use Rattle.fleet_model.specs.Program.{moves, IsWellFormed};
+ghost use Rattle.fleet_model.specs.Machine.{opening, is_finished, is_ready, is_met, tick, moved_in, is_ready_held, standing_at, count_at, indices};
 ghost use Rattle.fleet_model.specs.Claims.{order_of};
+ghost use Rattle.fleet_machine.specs.AgentSet.{AreNoneFrom, IsNextFrom};
 ghost use Rattle.fleet_machine.specs.Confirmed.{AreSent, IsFirstUnsent};
+ghost use Rattle.fleet_machine.specs.Looked.{ready_in, awaiting_in, LooksAt};
 ghost use Rattle.fleet_machine.specs.Near.{IsNear};
-ghost use Rattle.fleet_machine.specs.Machine.{Runs, after_next, moving_flags, flag_of};
+ghost use Rattle.fleet_machine.specs.Machine.{Runs, HasRows, IsHome, IsJudged, is_left, after_next, moving_flags, flag_of};
+ghost use Rattle.fleet_machine.specs.Waking.{IsWoken, IsPlaced, IsAsBefore};
+ghost use Rattle.fleet_machine.specs.WaitLists.{home_of};
 
-use fleet_model::{Await, Cell, Place, ProgramView, Standing, Step};
+use crate::agent_set::AgentSet;
+use crate::wait_lists::WaitLists;
+use fleet_model::{Await, Cell, MAX_AGENTS, Place, ProgramView, Standing, Step};
 use std::alloc::{AllocError, Global};
 use std::marker::Model;
 
@@ -25,7 +32,16 @@ pub struct Tick {
 #[derive(Drop)]
 pub struct Machine {
     agents: Vec<Standing>,
-    moving: Vec<bool>,
+    /// Whom the last tick moved, or the one under way moves.
+    moving: AgentSet,
+    ready: AgentSet,
+    /// Who has an action left.
+    left: AgentSet,
+    /// Whom the tick under way has to judge anew.
+    due: AgentSet,
+    /// Who is not ready and has an action left stands in the list of an agent whose count it lacks.
+    waiting: WaitLists,
+    looked: u64,
 }
 
 impl Model for Machine {
@@ -34,7 +50,15 @@ impl Model for Machine {
 
     ghost Value = { MachineState };
 
-    ghost view = { λ m. record { configuration = m.agents.items; moving = m.moving.items } };
+    ghost view = { λ m. record {
+      configuration = m.agents.items;
+      moving = m.moving;
+      ready = m.ready;
+      left = m.left;
+      due = m.due;
+      waiting = m.waiting;
+      looked = m.looked;
+    } };
 
     ghost invariant = { λ m. AreNear m.agents.items };
 }
@@ -55,14 +79,24 @@ impl Machine {
     pub fn start<P: ProgramView>(alloc: Global, program: &P) -> Result<Machine, AllocError>
         ensures runs { IfOk result (Runs (P.program program.now)) }
         ensures opening { IfOk result (λ m. m.configuration ≡ opening (P.program program.now)) }
+        ensures looked { IfOk result (λ m. m.looked ≡ 0) }
     {
         let count = program.agents();
-        let moving = vec![in alloc; false; count as usize]?;
         let mut agents = Vec::with_capacity(alloc, count as usize)?;
         for i in 0..count {
             agents.push(at_start(program.start(i)))?;
         }
-        Ok(Machine { agents, moving })
+        let mut machine = Machine {
+            agents,
+            moving: AgentSet::new(alloc, count)?,
+            ready: AgentSet::new(alloc, count)?,
+            left: AgentSet::new(alloc, count)?,
+            due: AgentSet::new(alloc, count)?,
+            waiting: WaitLists::new(alloc, count as usize, count as usize)?,
+            looked: 0,
+        };
+        machine.judge_all(program);
+        Ok(machine)
     }
 
     /// Where each agent stands, and how many actions it has finished.
@@ -82,37 +116,66 @@ impl Machine {
     }
 
     /// Whether no action is left.
-    #[tactic(auto, using(crate::proofs::Opened::not_finished_if))]
+    #[tactic(auto, using(crate::proofs::Judging::finished_if_none, crate::proofs::Judging::not_finished_if_left))]
     pub fn is_finished<P: ProgramView>(&self, program: &P) -> bool
         requires runs { Runs (P.program program.now) self.now }
         ensures { result ≡ is_finished (P.program program.now) self.now.configuration }
     {
-        for i in 0..program.agents() {
-            if self.agent(i).count < program.moves(i) {
-                return false;
-            }
-        }
-        true
+        let _ = program;
+        self.next_left(0).is_none()
+    }
+
+    /// Whether some agent may finish its next action.
+    #[tactic(auto, using(crate::proofs::Judging::some_ready, crate::proofs::Judging::none_ready))]
+    pub fn is_any_ready<P: ProgramView>(&self, program: &P) -> bool
+        requires runs { Runs (P.program program.now) self.now }
+        ensures { result ≡ list_any (is_ready (P.program program.now) self.now.configuration)
+            (indices (length (P.program program.now))) }
+    {
+        let _ = program;
+        self.next_ready(0).is_some()
     }
 
     /// Whether agent `i` may finish its next action.
-    #[tactic(auto, using(crate::proofs::Ready::awaited_agent, crate::proofs::Ready::ready_if_all, crate::proofs::Ready::not_ready_if_unmet, crate::proofs::Ready::one_more_met))]
     pub fn is_ready<P: ProgramView>(&self, program: &P, i: u16) -> bool
         requires runs { Runs (P.program program.now) self.now }
         requires agent { i < length (P.program program.now) }
         ensures { result ≡ is_ready (P.program program.now) self.now.configuration i }
     {
+        let _ = program;
+        self.ready.contains(i)
+    }
+
+    /// How many agents the ticks have looked at so far. The count stays at the greatest value once there.
+    pub fn looked(&self) -> u64
+        ensures { result ≡ self.now.looked }
+    {
+        self.looked
+    }
+
+    /// An agent whose count agent `i` lacks for its next action.
+    #[tactic(auto, using(crate::proofs::Ready::awaited_agent, crate::proofs::Ready::one_more_met, crate::proofs::Lacking::none_left, crate::proofs::Lacking::no_home_if_none_left, crate::proofs::Lacking::all_met, crate::proofs::Lacking::home_if_all_met, crate::proofs::Lacking::one_lacked, crate::proofs::Lacking::home_if_lacked))]
+    fn lacked<P: ProgramView>(&self, program: &P, i: u16) -> Option<u16>
+        requires well_formed { IsWellFormed (P.program program.now) }
+        requires agents { length self.now.configuration ≡ length (P.program program.now) }
+        requires agent { i < length (P.program program.now) }
+        ensures belongs { IsHome (P.program program.now) self.now.configuration i result }
+        ensures list { IfSome result (λ j. j < length (P.program program.now)) }
+        ensures ready { is_ready (P.program program.now) self.now.configuration i
+            ≡ (is_left (P.program program.now) self.now.configuration i && is_none result) }
+    {
         let finished = self.agent(i).count;
         if finished >= program.moves(i) {
-            return false;
+            return None;
         }
         let next = finished + 1;
         for k in 0..program.await_count(i, next) {
-            if !self.has_met(program.await_at(i, next, k)) {
-                return false;
+            let awaited = program.await_at(i, next, k);
+            if !self.has_met(awaited) {
+                return Some(awaited.agent);
             }
         }
-        true
+        None
     }
 
     /// Whether the awaited agent has finished what is awaited of it.
@@ -151,50 +214,167 @@ impl Machine {
         None
     }
 
-    /// Flags agent `i`, or takes its flag off.
-    fn flag(&mut self, i: u16, is_moving: bool)
-        requires { i < length self.old.moving }
-        ensures { self.new ≡ record self.old { moving = set self.old.moving i is_moving } }
-    {
-        self.moving[i as usize] = is_moving;
-    }
-
-    /// Whether agent `i` is flagged.
-    fn is_flagged(&self, i: u16) -> bool
-        requires { i < length self.now.moving }
-        ensures { result ≡ flag_of self.now.moving i }
-    {
-        self.moving[i as usize]
-    }
-
     /// Whether the last tick moved agent `i`.
     pub fn has_moved(&self, i: u16) -> bool
         requires { i < length self.now.moving }
         ensures { result ≡ flag_of self.now.moving i }
     {
-        self.is_flagged(i)
+        self.moving.contains(i)
     }
 
-    /// Flags the agents that the tick moves, and answers whether some ready agent is held.
-    #[tactic(auto, using(crate::proofs::Judged::all_judged))]
-    fn judge<P: ProgramView>(&mut self, program: &P, held: &[bool]) -> bool
-        requires runs { Runs (P.program program.now) self.old }
-        requires held { length held.now ≡ length (P.program program.now) }
+    /// The first agent from this one on that the last tick moved.
+    pub fn next_moved(&self, from: u16) -> Option<u16>
+        ensures { MatchOption result
+            (AreNoneFrom self.now.moving from) (IsNextFrom self.now.moving from) }
+    {
+        self.moving.next(from)
+    }
+
+    /// The first agent from this one on that is ready.
+    fn next_ready(&self, from: u16) -> Option<u16>
+        ensures { MatchOption result
+            (AreNoneFrom self.now.ready from) (IsNextFrom self.now.ready from) }
+    {
+        self.ready.next(from)
+    }
+
+    /// The first agent from this one on to which an action is left.
+    fn next_left(&self, from: u16) -> Option<u16>
+        ensures { MatchOption result
+            (AreNoneFrom self.now.left from) (IsNextFrom self.now.left from) }
+    {
+        self.left.next(from)
+    }
+
+    /// The first agent from this one on that is due.
+    fn next_due(&self, from: u16) -> Option<u16>
+        ensures { MatchOption result
+            (AreNoneFrom self.now.due from) (IsNextFrom self.now.due from) }
+    {
+        self.due.next(from)
+    }
+
+    /// Flags whether an action is left to agent `i`, and whether it is ready. It stands in no list, and goes into that of the
+    /// agent whose count it lacks.
+    fn place(&mut self, i: u16, is_left: bool, lacked: Option<u16>)
+        requires ready { i < length self.old.ready }
+        requires left { i < length self.old.left }
+        requires home { i < length self.old.waiting.homes }
+        requires nowhere { home_of self.old.waiting.homes i ≡ None }
+        requires list { IfSome lacked (λ j. j < self.old.waiting.lists) }
+        ensures { self.new ≡ record self.old {
+          ready = set self.old.ready i (is_left && is_none lacked);
+          left = set self.old.left i is_left;
+          waiting = record self.old.waiting { homes = set self.old.waiting.homes i lacked };
+        } }
+    {
+        self.ready.set(i, is_left && lacked.is_none());
+        self.left.set(i, is_left);
+        if let Some(j) = lacked {
+            self.waiting.push(j, i);
+        }
+    }
+
+    /// Flags agent `i` anew, which stands in no list, and puts it into the one in which it belongs.
+    fn judge<P: ProgramView>(&mut self, program: &P, i: u16)
+        requires well_formed { IsWellFormed (P.program program.now) }
+        requires agents { length self.old.configuration ≡ length (P.program program.now) }
+        requires rows { HasRows (length (P.program program.now)) self.old }
+        requires agent { i < length (P.program program.now) }
+        requires nowhere { home_of self.old.waiting.homes i ≡ None }
+        ensures { IsPlaced (P.program program.now) self.old self.new i }
+    {
+        let is_left = self.agent(i).count < program.moves(i);
+        let lacked = self.lacked(program, i);
+        self.place(i, is_left, lacked);
+    }
+
+    /// Judges every agent.
+    fn judge_all<P: ProgramView>(&mut self, program: &P)
+        requires well_formed { IsWellFormed (P.program program.now) }
+        requires agents { length self.old.configuration ≡ length (P.program program.now) }
+        requires flags { length self.old.moving ≡ length (P.program program.now) }
+        requires rows { HasRows (length (P.program program.now)) self.old }
+        requires nowhere { (i : ℕ) → home_of self.old.waiting.homes i ≡ None }
         ensures runs { Runs (P.program program.now) self.new }
         ensures configuration { self.new.configuration ≡ self.old.configuration }
-        ensures moving { self.new.moving
-            ≡ moving_flags (P.program program.now) (flag_of held.now) self.old.configuration }
-        ensures held { result
-            ≡ is_ready_held (P.program program.now) (flag_of held.now) self.old.configuration }
+        ensures looked { self.new.looked ≡ self.old.looked }
     {
-        let mut ready_held = false;
         for i in 0..program.agents() {
-            let ready = self.is_ready(program, i);
-            let is_held = held[i as usize];
-            self.flag(i, ready & !is_held);
-            ready_held |= ready & is_held;
+            self.judge(program, i);
         }
-        ready_held
+    }
+
+    /// Judges the agents that are due, and tells how many they are.
+    fn judge_due<P: ProgramView>(&mut self, program: &P) -> u16
+        requires well_formed { IsWellFormed (P.program program.now) }
+        requires agents { length self.old.configuration ≡ length (P.program program.now) }
+        requires rows { HasRows (length (P.program program.now)) self.old }
+        requires nowhere { (i : ℕ) → flag_of self.old.due i ≡ true
+            → home_of self.old.waiting.homes i ≡ None }
+        ensures same { self.new ≡ record self.old {
+          ready = self.new.ready;
+          left = self.new.left;
+          waiting = self.new.waiting;
+        } }
+        ensures rows { HasRows (length (P.program program.now)) self.new }
+        ensures judged { (i : ℕ) → i < length (P.program program.now)
+            → flag_of self.old.due i ≡ true → IsJudged (P.program program.now) self.new i }
+        ensures others { (i : ℕ) → flag_of self.old.due i ≡ false
+            → IsAsBefore self.old self.new i }
+        ensures count { result
+            ≡ length (filter (flag_of self.old.due) (indices (length (P.program program.now)))) }
+    {
+        let mut from = 0;
+        let mut count = 0;
+        while let Some(i) = self.next_due(from) {
+            self.judge(program, i);
+            from = i + 1;
+            count += 1;
+        }
+        count
+    }
+
+    /// Takes the first agent off the list of agent `j`. It is due.
+    fn wake_first(&mut self, j: u16) -> Option<u16>
+        requires list { j < self.old.waiting.lists }
+        requires due { length self.old.due ≡ length self.old.waiting.homes }
+        ensures none { IfNone result ((i : ℕ) → home_of self.old.waiting.homes i ≢ Some j) }
+        ensures same { IfNone result (self.new ≡ self.old) }
+        ensures some { IfSome result (λ i. (i < length self.old.waiting.homes)
+            × (home_of self.old.waiting.homes i ≡ Some j)
+            × (self.new ≡ record self.old {
+              due = set self.old.due i true;
+              waiting = record self.old.waiting { homes = set self.old.waiting.homes i None };
+            })) }
+    {
+        let i = self.waiting.pop(j)?;
+        self.due.set(i, true);
+        Some(i)
+    }
+
+    /// Takes all agents off the list of agent `j`. They are due.
+    #[tactic(auto, using(crate::proofs::Waking::fewer_after))]
+    fn wake(&mut self, j: u16)
+        requires list { j < self.old.waiting.lists }
+        requires due { length self.old.due ≡ length self.old.waiting.homes }
+        ensures { IsWoken (λ k. k == j) self.old self.new }
+    {
+        while self.wake_first(j).is_some() {}
+    }
+
+    /// Takes all agents off the lists of those that the tick moves.
+    fn wake_all(&mut self)
+        requires few { length self.old.moving ≤ MAX_AGENTS }
+        requires lists { self.old.waiting.lists ≡ length self.old.moving }
+        requires due { length self.old.due ≡ length self.old.waiting.homes }
+        ensures { IsWoken (flag_of self.old.moving) self.old self.new }
+    {
+        let mut from = 0;
+        while let Some(j) = self.next_moved(from) {
+            self.wake(j);
+            from = j + 1;
+        }
     }
 
     /// Agent `i` stands there now, with so many actions finished.
@@ -202,7 +382,9 @@ impl Machine {
     fn set_agent(&mut self, i: u16, standing: Standing)
         requires agent { i < length self.old.configuration }
         requires near { IsNear standing }
-        ensures { self.new ≡ record self.old { configuration = set self.old.configuration i standing } }
+        ensures { self.new ≡ record self.old {
+          configuration = set self.old.configuration i standing;
+        } }
     {
         self.agents[i as usize] = standing;
     }
@@ -210,11 +392,11 @@ impl Machine {
     /// Agent `i` finishes its next action.
     #[tactic(auto, using(crate::proofs::Kept::few_if_left, crate::proofs::Kept::near_place, crate::proofs::Kept::near_moved, crate::proofs::Kept::finished_is))]
     fn finish_action<P: ProgramView>(&mut self, program: &P, i: u16)
-        requires runs { Runs (P.program program.now) self.old }
+        requires well_formed { IsWellFormed (P.program program.now) }
         requires agent { i < length (P.program program.now) }
+        requires standing { i < length self.old.configuration }
         requires left { count_at self.old.configuration i < moves (P.program program.now) i }
-        ensures runs { Runs (P.program program.now) self.new }
-        ensures finished { self.new ≡ record self.old {
+        ensures { self.new ≡ record self.old {
           configuration =
               set self.old.configuration i (after_next (P.program program.now) self.old.configuration i);
         } }
@@ -228,8 +410,67 @@ impl Machine {
         self.set_agent(i, finished);
     }
 
-    /// One tick, in which the flagged agents are held. Who moves is judged before anybody does.
-    #[tactic(auto, using(crate::proofs::Advanced::all_advanced))]
+    /// Nobody moves yet, and who is ready is due.
+    fn begin_tick(&mut self)
+        requires { length self.old.due ≡ length self.old.ready }
+        ensures { self.new ≡ record self.old {
+          moving = replicate (length self.old.moving) false;
+          due = self.old.ready;
+        } }
+    {
+        self.moving.clear();
+        self.due.copy_from(&self.ready);
+    }
+
+    /// Flags agent `i` as moving.
+    fn flag_moving(&mut self, i: u16)
+        requires { i < length self.old.moving }
+        ensures { self.new ≡ record self.old { moving = set self.old.moving i true } }
+    {
+        self.moving.set(i, true);
+    }
+
+    /// Whoever is ready and not held finishes an action. Who was ready is due.
+    fn advance<P: ProgramView>(&mut self, program: &P, held: &[bool]) -> Tick
+        requires runs { Runs (P.program program.now) self.old }
+        requires held { length held.now ≡ length (P.program program.now) }
+        ensures after { self.new ≡ record self.old {
+          configuration = tick (P.program program.now) (flag_of held.now) self.old.configuration;
+          moving = moving_flags (P.program program.now) (flag_of held.now) self.old.configuration;
+          due = self.old.ready;
+        } }
+        ensures moved { result.moved
+            ≡ moved_in (P.program program.now) (flag_of held.now) self.old.configuration }
+        ensures held { result.ready_held
+            ≡ is_ready_held (P.program program.now) (flag_of held.now) self.old.configuration }
+    {
+        self.begin_tick();
+        let mut moved = 0;
+        let mut ready_held = false;
+        let mut from = 0;
+        while let Some(i) = self.next_ready(from) {
+            if held[i as usize] {
+                ready_held = true;
+            } else {
+                self.finish_action(program, i);
+                self.flag_moving(i);
+                moved += 1;
+            }
+            from = i + 1;
+        }
+        Tick { moved, ready_held }
+    }
+
+    /// So many agents more have been looked at.
+    fn count_looked(&mut self, agents: u16)
+        ensures same { self.new ≡ record self.old { looked = self.new.looked } }
+        ensures looked { LooksAt agents 0 self.old.looked self.new.looked }
+    {
+        self.looked = self.looked.saturating_add(u64::from(agents));
+    }
+
+    /// One tick, in which the flagged agents are held. It looks at those that are ready, and at those in the list of an agent
+    /// that it moves. Who moves was judged before the tick.
     pub fn tick<P: ProgramView>(&mut self, program: &P, held: &[bool]) -> Tick
         requires runs { Runs (P.program program.now) self.old }
         requires held { length held.now ≡ length (P.program program.now) }
@@ -242,15 +483,14 @@ impl Machine {
             ≡ moved_in (P.program program.now) (flag_of held.now) self.old.configuration }
         ensures held { result.ready_held
             ≡ is_ready_held (P.program program.now) (flag_of held.now) self.old.configuration }
+        ensures looked { LooksAt (ready_in (P.program program.now) self.old.configuration)
+            (awaiting_in (P.program program.now) (flag_of held.now) self.old.configuration)
+            self.old.looked self.new.looked }
     {
-        let ready_held = self.judge(program, held);
-        let mut moved = 0;
-        for i in 0..program.agents() {
-            if self.is_flagged(i) {
-                self.finish_action(program, i);
-                moved += 1;
-            }
-        }
-        Tick { moved, ready_held }
+        let tick = self.advance(program, held);
+        self.wake_all();
+        let due = self.judge_due(program);
+        self.count_looked(due);
+        tick
     }
 }

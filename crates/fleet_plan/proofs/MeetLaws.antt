@@ -2,6 +2,8 @@
 use Rattle.std.proofs.Common.{◌≡◌, ◌≢◌, ℕ, ◌+◌, ◌<◌, ◌≤◌, List, length, set, slice_index, Option, Some, None, IfSome, IfNone, ◌⊎◌, inl, inr, refl, sym, ap, ◌∙◌, subst, arith}
 use Rattle.std.proofs.lemmas.Bool.{cases_eq, cases_lt}
 use Rattle.std.proofs.lemmas.List.{get_or-set_same, get_or-set_other}
+use Rattle.fleet_table.specs.declared.table.Table.{Table}
+use Rattle.fleet_table.specs.Table.{value_in, IsSet}
 use Rattle.fleet_plan.specs.FirstFault.{IsPairUpTo}
 use Rattle.fleet_plan.specs.Rings.{AreAgents, ahead_of}
 use Rattle.fleet_plan.specs.Sweep.{IsAhead, AreAhead, IsEntered, Exchange, HasNone, HasNoMeeting, IsFirstIn, IsFreeIn, IsFirstAhead, IsFreeAhead, IsSettled}
@@ -22,8 +24,8 @@ IsLeastPair places n None = (k l : ℕ) → k < l → l < n → slice_index plac
 IsLeastPair places n (Some p) = (p.0 < p.1) × (p.1 < n) × (slice_index places p.0 ≡ slice_index places p.1) × ((k l : ℕ) → k < l → l < n → slice_index places k ≡ slice_index places l → IsPairUpTo p.0 p.1 k l)
 
 -- the first n agents are entered
-pub record IsMeeting (table places : List ℕ) (found : Option (ℕ × ℕ)) (n : ℕ) : Type 0 where
-  pub entered : (k : ℕ) → k < n → IsOwner places (slice_index table (slice_index places k)) k
+pub record IsMeeting (table : Table ℕ) (places : List ℕ) (found : Option (ℕ × ℕ)) (n : ℕ) : Type 0 where
+  pub entered : (k : ℕ) → k < n → IsOwner places (value_in table (slice_index places k)) k
   pub pair : IsLeastPair places n found
 
 abbrev pub IsPicked : Option (ℕ × ℕ) → ℕ → ℕ → ℕ × ℕ → Type 0
@@ -34,19 +36,19 @@ pub picked : (found : Option (ℕ × ℕ)) (i j : ℕ) (p : ℕ × ℕ) → IfSo
 picked None i j p h g = g
 picked (Some q) i j p h g = h
 
-module _ (table places : List ℕ) (found : Option (ℕ × ℕ)) (n : ℕ) (m : IsMeeting table places found n) where
+module _ (table : Table ℕ) (places : List ℕ) (found : Option (ℕ × ℕ)) (n : ℕ) (m : IsMeeting table places found n) where
   -- agent n stands where agent i does, which is entered there
-  module _ (i : ℕ) (entry : i ≡ slice_index table (slice_index places n)) (below : i < n) (same : slice_index places i ≡ slice_index places n) where
-    itself : slice_index table (slice_index places i) ≡ i
-    itself = ap (slice_index table) same ∙ sym entry
+  module _ (i : ℕ) (entry : i ≡ value_in table (slice_index places n)) (below : i < n) (same : slice_index places i ≡ slice_index places n) where
+    itself : value_in table (slice_index places i) ≡ i
+    itself = ap (value_in table) same ∙ sym entry
 
     first_there : (k : ℕ) → k < n → slice_index places k ≡ slice_index places n → i ≤ k
     first_there k l e = elim (cases_lt k i) [
-      | inl g ↦ let h : slice_index table (slice_index places i) ≤ k = (m.entered i below).least k (omega arith) (e ∙ sym same) in omega (arith, itself)
+      | inl g ↦ let h : value_in table (slice_index places i) ≤ k = (m.entered i below).least k (omega arith) (e ∙ sym same) in omega (arith, itself)
       | inr g ↦ g
     ]
 
-    own : IsOwner places (slice_index table (slice_index places n)) n
+    own : IsOwner places (value_in table (slice_index places n)) n
     own = record {
       order = omega (arith, entry);
       same = ap (slice_index places) (sym entry) ∙ same;
@@ -56,9 +58,9 @@ module _ (table places : List ℕ) (found : Option (ℕ × ℕ)) (n : ℕ) (m : 
       ];
     }
 
-    entered_on : (k : ℕ) → k < n + 1 → IsOwner places (slice_index table (slice_index places k)) k
+    entered_on : (k : ℕ) → k < n + 1 → IsOwner places (value_in table (slice_index places k)) k
     entered_on k l = elim (cases_eq k n) [
-      | inl s ↦ subst (λ z. IsOwner places (slice_index table (slice_index places z)) z) (sym s) own
+      | inl s ↦ subst (λ z. IsOwner places (value_in table (slice_index places z)) z) (sym s) own
       | inr ne ↦ m.entered k (omega arith)
     ]
 
@@ -103,21 +105,21 @@ module _ (table places : List ℕ) (found : Option (ℕ × ℕ)) (n : ℕ) (m : 
         go (Some q) least (inr h) = new (λ k l a b s. elim (least.3 k l a b s) [ inl u ↦ let g : i < q.0 = h.0 in omega arith | inr u ↦ let g : i < q.0 = h.0 in omega (arith, u.0) ]) h.1
 
   -- who is entered where agent n stands does not stand there, or is n or a later one
-  module _ (e : ℕ) (entry : e ≡ slice_index table (slice_index places n)) (other : e < n → slice_index places e ≢ slice_index places n) where
+  module _ (e : ℕ) (entry : e ≡ value_in table (slice_index places n)) (other : e < n → slice_index places e ≢ slice_index places n) where
     alone : (k : ℕ) → k < n → slice_index places k ≢ slice_index places n
     alone k l s =
         let o = m.entered k l in
-        let f : slice_index table (slice_index places k) ≡ e = ap (slice_index table) s ∙ sym entry in
+        let f : value_in table (slice_index places k) ≡ e = ap (value_in table) s ∙ sym entry in
         other (omega (arith, f, o.order)) (ap (slice_index places) (sym f) ∙ o.same ∙ s)
 
-    module _ (within : slice_index places n < length table) where
-      put : slice_index (set table (slice_index places n) n) (slice_index places n) ≡ n
-      put = get_or-set_same table (slice_index places n) n 0 within
+    module _ (table' : Table ℕ) (stored : IsSet table table' (slice_index places n) n) where
+      put : value_in table' (slice_index places n) ≡ n
+      put = stored.here
 
-      kept : (k : ℕ) → k < n → slice_index (set table (slice_index places n) n) (slice_index places k) ≡ slice_index table (slice_index places k)
-      kept k l = get_or-set_other table (slice_index places n) (slice_index places k) n 0 (alone k l)
+      kept : (k : ℕ) → k < n → value_in table' (slice_index places k) ≡ value_in table (slice_index places k)
+      kept k l = stored.others (slice_index places k) (alone k l)
 
-      own_now : IsOwner places (slice_index (set table (slice_index places n) n) (slice_index places n)) n
+      own_now : IsOwner places (value_in table' (slice_index places n)) n
       own_now = record {
         order = omega (arith, put);
         same = ap (slice_index places) put;
@@ -127,10 +129,10 @@ module _ (table places : List ℕ) (found : Option (ℕ × ℕ)) (n : ℕ) (m : 
         ];
       }
 
-      pub meeting-miss : IsMeeting (set table (slice_index places n) n) places found (n + 1)
+      pub meeting-miss : IsMeeting table' places found (n + 1)
       meeting-miss = record {
         entered = λ k l. elim (cases_eq k n) [
-          | inl s ↦ subst (λ z. IsOwner places (slice_index (set table (slice_index places n) n) (slice_index places z)) z) (sym s) own_now
+          | inl s ↦ subst (λ z. IsOwner places (value_in table' (slice_index places z)) z) (sym s) own_now
           | inr ne ↦ subst (λ z. IsOwner places z k) (sym (kept k (omega arith))) (m.entered k (omega arith))
         ];
         pair = go found m.pair;
@@ -208,27 +210,18 @@ no_exchange_more ahead i o l none other back = both
 -- ---- agents entered one after another
 
 -- agent i is entered in its place, where the one that was entered there does not stand unless it is i
-pub entered_more : (table row places : List ℕ) (k n : ℕ) → slice_index places (slice_index row k) < length table → ((j : ℕ) → j ≡ slice_index table (slice_index places (slice_index row k)) → j ≢ slice_index row k → j < n → slice_index places j ≢ slice_index places (slice_index row k)) → IsSoBut row k n (λ j. slice_index table (slice_index places j) ≡ j) → IsSoBut row (k + 1) n (λ j. slice_index (set table (slice_index places (slice_index row k)) (slice_index row k)) (slice_index places j) ≡ j)
-entered_more table row places k n within alone h = but_more row k n (λ j. slice_index table (slice_index places j) ≡ j) (λ j. slice_index (set table place i) (slice_index places j) ≡ j) h here keep
+pub entered_more : (table table' : Table ℕ) (row places : List ℕ) (k n : ℕ) → IsSet table table' (slice_index places (slice_index row k)) (slice_index row k) → ((j : ℕ) → j ≡ value_in table (slice_index places (slice_index row k)) → j ≢ slice_index row k → j < n → slice_index places j ≢ slice_index places (slice_index row k)) → IsSoBut row k n (λ j. value_in table (slice_index places j) ≡ j) → IsSoBut row (k + 1) n (λ j. value_in table' (slice_index places j) ≡ j)
+entered_more table table' row places k n put alone h = but_more row k n (λ j. value_in table (slice_index places j) ≡ j) (λ j. value_in table' (slice_index places j) ≡ j) h put.here keep
   where
-    i : ℕ
-    i = slice_index row k
-
-    place : ℕ
-    place = slice_index places i
-
-    here : slice_index (set table place i) place ≡ i
-    here = get_or-set_same table place i 0 within
-
-    keep : (j : ℕ) → j < n → j ≢ i → slice_index table (slice_index places j) ≡ j → slice_index (set table place i) (slice_index places j) ≡ j
-    keep j l ne e = get_or-set_other table place (slice_index places j) i 0 (λ s. alone j (sym e ∙ ap (slice_index table) s) ne l s) ∙ e
+    keep : (j : ℕ) → j < n → j ≢ slice_index row k → value_in table (slice_index places j) ≡ j → value_in table' (slice_index places j) ≡ j
+    keep j l ne e = put.others (slice_index places j) (λ s. alone j (sym e ∙ ap (value_in table) s) ne l s) ∙ e
 
 -- where each agent is entered nobody meets another
-pub entered_apart : (table places : List ℕ) → IsEntered table places → HasNoMeeting places
+pub entered_apart : (table : Table ℕ) (places : List ℕ) → IsEntered table places → HasNoMeeting places
 entered_apart table places h i j m =
     let order : i < j = m.order in
     let within : j < length places = m.agents in
-    let e : i ≡ j = sym (h i (omega arith)) ∙ ap (slice_index table) m.same ∙ h j within in
+    let e : i ≡ j = sym (h i (omega arith)) ∙ ap (value_in table) m.same ∙ h j within in
     omega arith
 
 -- ---- what who is ahead says of places

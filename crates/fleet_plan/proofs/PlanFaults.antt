@@ -1,6 +1,6 @@
 -- Reading a plan's lines fails with a fault exactly where the fault is the first.
 use Rattle.std.proofs.Common.{◌≡◌, ◌≢◌, ℕ, zero, suc, ◌+◌, ◌≤◌, ◌<◌, false, ltb, leb, List, [], ◌∷◌, ◌++◌, length, take, drop, Option, Some, None, Result, Ok, Err, refl, sym, ap, subst, ◌∙◌, arith, inl, inr}
-use Rattle.std.specs.Prelude.{slice_get, All, ◌⊎◌}
+use Rattle.std.specs.Prelude.{All, ◌⊎◌}
 use Rattle.std.specs.List.{AllByRecursion}
 use Rattle.std.proofs.lemmas.Bool.{ltb-true, ltb-false, leb-false, lt-ltb, le-ltb, lt-leb}
 use Rattle.std.proofs.lemmas.List.{length-append, length-drop}
@@ -8,7 +8,8 @@ use Rattle.std.proofs.lemmas.List.Elements.{All-from_recursion, recursion_from_A
 use Rattle.fleet_model.specs.Answer.{IsDueUnless}
 use Rattle.fleet_text.specs.Text.{Bytes}
 use Rattle.fleet_text.specs.Steps.{◌>>=◌, ◌>>◌, right_or, some_or}
-use Rattle.fleet_text.proofs.StepLaws.{some_ok, bind_err, right_err, some_err, err_is, ok_err, result_cases}
+use Rattle.fleet_text.proofs.StepLaws.{some_ok, bind_err, right_err, some_err, err_is, ok_err, none_some}
+use Rattle.fleet_text.proofs.Verdicts.{Tells, heads_are, next_is, next_again}
 use Rattle.fleet_plan.specs.Plan.{Path, Plan}
 use Rattle.fleet_plan.specs.declared.text_fault.TextFault.{TextFault}
 use Rattle.fleet_plan.specs.declared.text_fault.TextFault.TheVariants.{OutOfMemory, Form, Length, AgentCount}
@@ -21,9 +22,6 @@ use Rattle.fleet_plan.proofs.PlanLaws.{path_in, spells_again, spells_is, judged,
 -- why the line, of this number, stands for no path
 abbrev IsLineFault : ℕ → Bytes → TextFault → Type 0
 IsLineFault number line f = ((f ≡ Form number) × ((path : Path) → Spells line path → ⊥)) ⊎ ((f ≡ Length number) × (path : Path) × Spells line path × (65536 < length path))
-
-none_some : (o : Option Path) (path : Path) → o ≡ None → o ≡ Some path → ⊥
-none_some o path e f = cc
 
 path_fails : (number : ℕ) (line : Bytes) (f : TextFault) → path_at number line ≡ Err f → IsLineFault number line f
 unfolding path_at
@@ -97,9 +95,6 @@ paths_fail earlier (line ∷ ls) f few e =
 
 -- ---- .. and back
 
-heads_are : (x y : Bytes) (xs ys : List Bytes) → x ∷ xs ≡ y ∷ ys → x ≡ y
-heads_are x y xs ys e = cc
-
 no_line : (line : Bytes) (more : List Bytes) → [] ≡ line ∷ more → ⊥
 no_line line more e = cc
 
@@ -144,17 +139,6 @@ paths_fault earlier (line ∷ ls) (suc k) f h =
 
 -- ---- the first fault
 
-next_is : (k : ℕ) (ls : List Bytes) (line : Bytes) (more : List Bytes) → drop k ls ≡ line ∷ more → slice_get ls k ≡ Some line
-next_is zero [] line more e = absurd (no_line line more e)
-next_is zero (l ∷ ls) line more e = ap (λ (x : Bytes). Some x) (heads_are l line ls more e)
-next_is (suc k) [] line more e = absurd (no_line line more e)
-next_is (suc k) (l ∷ ls) line more e = next_is k ls line more e
-
-next_again : (k : ℕ) (ls : List Bytes) (line : Bytes) → slice_get ls k ≡ Some line → (more : List Bytes) × (drop k ls ≡ line ∷ more)
-next_again k [] line e = absurd cc
-next_again zero (l ∷ ls) line e = (ls, let same : l ≡ line = cc in ap (λ (x : Bytes). x ∷ ls) same)
-next_again (suc k) (l ∷ ls) line e = next_again k ls line e
-
 line_is_first : (ls : List Bytes) (k : ℕ) (line : Bytes) (f : TextFault) → Reaches ls k line → IsLineFault (k + 1) line f → IsFirstFault ls f
 line_is_first ls k line f r (inl h) = subst (IsFirstFault ls) (sym h.0) (k, line, refl, r, h.1)
 line_is_first ls k line f r (inr h) = subst (IsFirstFault ls) (sym h.0) (k, line, refl, r, h.1, h.2, h.3)
@@ -195,20 +179,10 @@ is_told ls (Length number) h = told_line ls h.0 h.1 (Length number) h.3 (inr (ap
 is_told ls AgentCount (inl none) = told_at ls 0 AgentCount (All-from_recursion IsRight [] tt) (inl (refl, refl, none))
 is_told ls AgentCount (inr h) = (let longer = h.0 in told_at ls 1024 AgentCount h.1 (inr (inl (refl, refl, omega (arith, longer, length-drop 1024 ls)))))
 
--- ---- one outcome
+-- ---- the reader's laws
 
-pub plan_or_fault : (ls : List Bytes) → ((plan : Plan) × ArePlanLines ls plan) ⊎ ((f : TextFault) × IsFirstFault ls f)
-plan_or_fault ls =
-    elim (result_cases (paths_at [] ls)) [
-      | inl p ↦ inl (p.0, is_found ls p.0 p.1)
-      | inr p ↦ inr (p.0, is_fault ls p.0 p.1)
-    ]
-
-pub not_both : (ls : List Bytes) (plan : Plan) (f : TextFault) → ArePlanLines ls plan → IsFirstFault ls f → ⊥
-not_both ls plan f a b = ok_err plan f (sym (is_read ls plan a) ∙ is_told ls f b)
-
-pub one_fault : (ls : List Bytes) (e f : TextFault) → IsFirstFault ls e → IsFirstFault ls f → e ≡ f
-one_fault ls e f a b = err_is {A = Plan} e f (sym (is_told ls e a) ∙ is_told ls f b)
+pub tells : (ls : List Bytes) → Tells (ArePlanLines ls) (IsFirstFault ls) (paths_at [] ls)
+tells ls = record { found = is_found ls; read = is_read ls; fault = is_fault ls; told = is_told ls }
 
 -- ---- what the reader refuses
 

@@ -152,9 +152,6 @@ is_found ls plan e =
 pub is_read : (ls : List Bytes) (plan : Plan) → ArePlanLines ls plan → paths_at [] ls ≡ Ok plan
 is_read ls plan h = paths_again [] ls plan h.paths h.agents
 
-pub one_plan : (ls : List Bytes) (p q : Plan) → ArePlanLines ls p → ArePlanLines ls q → p ≡ q
-one_plan ls p q a b = ok_is {E = TextFault} p q (sym (is_read ls p a) ∙ is_read ls q b)
-
 -- ---- the limits of a plan
 
 small_is_few : (word : Bytes) (n : ℕ) → small_number word ≡ Some n → n < 65536

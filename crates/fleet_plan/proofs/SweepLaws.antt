@@ -1,14 +1,15 @@
 -- What the places of agents at two times say of the conflicts of their plan.
-use Rattle.std.proofs.Common.{◌≡◌, ◌≢◌, ℕ, zero, suc, ◌+◌, ◌*◌, ◌<◌, ◌≤◌, Bool, true, false, IsTrue, List, [], ◌∷◌, length, get_or, slice_index, All, Option, Some, None, is_some, IfSome, IfNone, inl, inr, refl, sym, ap, ◌∙◌, subst, arith, map, ◌==◌}
+use Rattle.std.proofs.Common.{◌≡◌, ◌≢◌, ℕ, zero, suc, ◌+◌, ◌<◌, ◌≤◌, Bool, true, false, IsTrue, List, [], ◌∷◌, length, get_or, slice_index, All, Option, Some, None, is_some, IfSome, IfNone, inl, inr, refl, sym, ap, ◌∙◌, subst, arith, map, ◌==◌}
 use Rattle.std.specs.List.{IsDistinct, range_with_len}
 use Rattle.std.proofs.lemmas.Bool.{cases_eq, cases_lt, cases_order}
 use Rattle.std.proofs.lemmas.List.{get_or_past, get_or_default}
 use Rattle.std.proofs.lemmas.List.FromFn.{length-map-range_with_len, get_or-map-range_with_len}
-use Rattle.std.proofs.lemmas.Nat.{mul-add-lt}
 use Rattle.fleet_model.specs.declared.geometry.Cell.{Cell}
 use Rattle.fleet_model.specs.Geometry.{place_of}
 use Rattle.fleet_model.specs.Conflict.{after_in}
 use Rattle.fleet_model.proofs.Places.{place_of-injective}
+use Rattle.fleet_table.specs.declared.table.Table.{Table}
+use Rattle.fleet_table.specs.Table.{value_in}
 use Rattle.fleet_grid.specs.Ground.{Ground, IsGround, is_passable, cell_index, cell_at as ground_at}
 use Rattle.fleet_plan.specs.declared.plan_fault.Conflict.{Conflict}
 use Rattle.fleet_plan.specs.declared.plan_fault.Conflict.TheVariants.{Vertex, Swapping, Cycle}
@@ -48,14 +49,6 @@ passable_on_map g sizes c p = (column, row)
 pub all_on_map : (g : Ground) → IsGround g → (plan : Plan) → AllAgents plan (GoesRight (is_passable g) plan) → IsOnMap g plan
 unfolding cell_of
 all_on_map g sizes plan goes i t l = passable_on_map g sizes (cell_of plan i t) (goes i l t).on_ground
-
--- a table of the map's cells has each place
-pub places_within : (g : Ground) (plan : Plan) (t : ℕ) (places table : List ℕ) → IsOnMap g plan → ArePlaces g plan t places → length table ≡ g.width * g.height → All (λ place. place < length table) places
-places_within g plan t places table on are size k d l =
-    let h : k < length plan = omega (arith, are.all) in
-    let within : cell_index g (cell_of plan k t) < g.width * g.height = mul-add-lt (cell_of plan k t).y g.width (cell_of plan k t).x g.height ((on k t h).1) ((on k t h).0) in
-    let e : get_or places k d ≡ cell_index g (cell_of plan k t) = get_or_default places k d 0 l ∙ are.each k h in
-    omega arith
 
 -- ---- after the last step
 
@@ -367,13 +360,13 @@ unfolding cell_of
 stays_there g plan t i l = ap (cell_index g) (at_past (path_of plan i) t l ∙ sym (at_past (path_of plan i) (t + 1) (omega arith)))
 
 -- the rows before the step after time t
-pub record IsSwept (g : Ground) (plan : Plan) (table places next : List ℕ) (ahead walks : List (Option ℕ)) (row : List ℕ) (t : ℕ) : Type 0 where
+pub record IsSwept (g : Ground) (plan : Plan) (table : Table ℕ) (places next : List ℕ) (ahead walks : List (Option ℕ)) (row : List ℕ) (t : ℕ) : Type 0 where
   pub sweep : IsSweep g plan places t
   pub entered : IsEntered table places
   pub settled : (i : ℕ) → i < length next → IsSettled places next ahead walks i
   pub covers : Covers plan t row
 
-module _ (g : Ground) (plan : Plan) (table places next : List ℕ) (ahead walks : List (Option ℕ)) (row : List ℕ) (t : ℕ) (s : IsSwept g plan table places next ahead walks row t) (all : length next ≡ length plan) where
+module _ (g : Ground) (plan : Plan) (table : Table ℕ) (places next : List ℕ) (ahead walks : List (Option ℕ)) (row : List ℕ) (t : ℕ) (s : IsSwept g plan table places next ahead walks row t) (all : length next ≡ length plan) where
   -- who does not stand in the row is where it goes
   pub others_there : IsSoForOthers row (length plan) (λ i. slice_index next i ≡ cell_index g (cell_of plan i (t + 1)))
   others_there i l = elim (s.covers.others i l) [
@@ -400,10 +393,10 @@ module _ (g : Ground) (plan : Plan) (table places next : List ℕ) (ahead walks 
       | inr e ↦ inr (then.each i b ∙ sym (stays_there g plan t i e) ∙ sym (s.sweep.here.each i b))
     ]
 
-    pub others_entered : IsSoForOthers row (length next') (λ i. slice_index table (slice_index next' i) ≡ i)
+    pub others_entered : IsSoForOthers row (length next') (λ i. value_in table (slice_index next' i) ≡ i)
     others_entered i l = let b : i < length places = omega (arith, then.all, s.sweep.here.all) in elim (others_stay i b) [
       | inl c ↦ inl c
-      | inr e ↦ inr (ap (slice_index table) e ∙ s.entered i b)
+      | inr e ↦ inr (ap (value_in table) e ∙ s.entered i b)
     ]
 
     module _ (ahead' : List (Option ℕ)) (are : AreAhead places next' ahead') where
@@ -420,7 +413,7 @@ module _ (g : Ground) (plan : Plan) (table places next : List ℕ) (ahead walks 
       ]
 
 -- the step is done
-pub swept_on : (g : Ground) (plan : Plan) (table places next : List ℕ) (ahead walks : List (Option ℕ)) (row : List ℕ) (t : ℕ) → IsSweep g plan next t → length places ≡ length next → IsEntered table next → ((i : ℕ) → i < length next → IsSettled places next ahead walks i) → Covers plan t row → IsSwept g plan table places next ahead walks row t
+pub swept_on : (g : Ground) (plan : Plan) (table : Table ℕ) (places next : List ℕ) (ahead walks : List (Option ℕ)) (row : List ℕ) (t : ℕ) → IsSweep g plan next t → length places ≡ length next → IsEntered table next → ((i : ℕ) → i < length next → IsSettled places next ahead walks i) → Covers plan t row → IsSwept g plan table places next ahead walks row t
 swept_on g plan table places next ahead walks row t s all entered settled covers = record {
   sweep = record {
     here = record {
@@ -429,7 +422,7 @@ swept_on g plan table places next ahead walks row t s all entered settled covers
     };
     earlier = s.earlier;
   };
-  entered = λ i l. let b : i < length next = omega arith in ap (slice_index table) (sym ((settled i b).same)) ∙ entered i b;
+  entered = λ i l. let b : i < length next = omega arith in ap (value_in table) (sym ((settled i b).same)) ∙ entered i b;
   settled = settled;
   covers = covers;
 }

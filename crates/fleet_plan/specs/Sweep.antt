@@ -1,6 +1,8 @@
 -- Agents in places, which are numbers, at one time and at the next.
 use Rattle.std.specs.Prelude.{◌≡◌, ◌≢◌, ℕ, ◌<◌, ◌≤◌, List, length, slice_index, Option, Some, None, ◌⊎◌}
 use Rattle.fleet_grid.specs.Ground.{Ground, cell_index}
+use Rattle.fleet_table.specs.declared.table.Table.{Table}
+use Rattle.fleet_table.specs.Table.{value_in}
 use Rattle.fleet_plan.specs.Plan.{Plan, cell_of}
 use Rattle.fleet_plan.specs.declared.plan_fault.Conflict.{Conflict}
 use Rattle.fleet_plan.specs.declared.plan_fault.Conflict.TheVariants.{Vertex, Swapping, Cycle}
@@ -36,12 +38,12 @@ pub record IsFirstMeeting (places : List ℕ) (i j : ℕ) : Type 0 where
   pub first : (k l : ℕ) → Meet places k l → IsPairUpTo i j k l
 
 -- the table has the agent in its place
-abbrev pub HasIn : List ℕ → List ℕ → ℕ → Type 0
-HasIn table places i = slice_index table (slice_index places i) ≡ i
+abbrev pub HasIn : Table ℕ → List ℕ → ℕ → Type 0
+HasIn table places i = value_in table (slice_index places i) ≡ i
 
 -- the table has each agent in its place
-abbrev pub IsEntered : List ℕ → List ℕ → Type 0
-IsEntered table places = (i : ℕ) → i < length places → slice_index table (slice_index places i) ≡ i
+abbrev pub IsEntered : Table ℕ → List ℕ → Type 0
+IsEntered table places = (i : ℕ) → i < length places → value_in table (slice_index places i) ≡ i
 
 -- the agent goes to no other place
 abbrev pub Stays : List ℕ → List ℕ → ℕ → Type 0

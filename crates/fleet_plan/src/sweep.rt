@@ -1,7 +1,7 @@
-//! The sweep over time for conflicts, with a table of the map's cells in which each agent enters itself. Each step looks at
+//! The sweep over time for conflicts, with a table of cells in which each agent enters itself. Each step looks at
 //! the agents under way alone: one that has come to its last cell stays entered there, and is not visited again.
 
-ghost use Rattle.std.specs.Prelude.{◌≡◌, ◌≢◌, ℕ, ◌+◌, ◌*◌, ◌<◌, ◌≤◌, ◌⊎◌, IfOk, IfSome, IfNone, length, filter, slice_index, Some, None, All, IsTrue, false};
+ghost use Rattle.std.specs.Prelude.{◌≡◌, ◌≢◌, ℕ, ◌+◌, ◌<◌, ◌≤◌, ◌⊎◌, IfOk, IfSome, IfNone, length, filter, slice_index, Some, None, All, IsTrue, false};
 ghost use Rattle.fleet_grid.specs.Ground.{is_passable};
 ghost use Rattle.fleet_model.specs.declared.limits.TheConstants.{MAX_AGENTS};
 ghost use Rattle.fleet_plan.specs.FirstFault.{AllAgents, GoesRight, IsFirstConflict, HasNoConflict};
@@ -13,6 +13,7 @@ use crate::plan::Plan;
 use crate::plan_fault::Conflict;
 use crate::rings::least_on_ring;
 use fleet_grid::{Grid, cells_have_places_of_their_own};
+use fleet_table::Table;
 use std::alloc::{AllocError, Global};
 
 /// The places in a table of the map's cells on which the agents stand at `time`.
@@ -41,22 +42,21 @@ fn fill_next(plan: &Plan, grid: &Grid, time: u32, agents: &[u16], next: &mut [us
 
 /// The first two agents in one place. Where there are none, each agent is then entered in its place of the table. What
 /// the table held before doesn't matter, since an entry counts only where that agent stands there.
-fn first_meeting(table: &mut [u16], places: &[usize]) -> Option<(u16, u16)>
-    requires within { All (λ place. place < length table.old) places.now }
-    requires few { length places.now ≤ MAX_AGENTS }
-    ensures some { IfSome result (λ pair. IsFirstMeeting places.now pair.0 pair.1) }
-    ensures none { IfNone result (IsEntered table.new places.now) }
+fn first_meeting(table: &mut Table<u16>, places: &[usize]) -> Result<Option<(u16, u16)>, AllocError>
+    requires { length places.now ≤ MAX_AGENTS }
+    ensures some { IfOk result (λ found. IfSome found (λ pair. IsFirstMeeting places.now pair.0 pair.1)) }
+    ensures none { IfOk result (λ found. IfNone found (IsEntered table.new places.now)) }
 {
     let mut first = None;
     for (j, place) in places.iter().enumerate() {
-        let i = table[*place];
+        let i = table.get(*place);
         if usize::from(i) < j && places[usize::from(i)] == *place {
             first = Some(first_pair(first, i, j as u16));
         } else {
-            table[*place] = j as u16;
+            table.set(*place, j as u16)?;
         }
     }
-    first
+    Ok(first)
 }
 
 /// The first pair, unless `i` is below its first agent.
@@ -71,13 +71,12 @@ fn first_pair(first: Option<(u16, u16)>, i: u16, j: u16) -> (u16, u16)
 }
 
 /// The agent that stands in a place.
-fn occupant(table: &[u16], places: &[usize], place: usize) -> Option<u16>
-    requires within { place < length table.now }
-    requires entered { IsEntered table.now places.now }
+fn occupant(table: &Table<u16>, places: &[usize], place: usize) -> Option<u16>
+    requires { IsEntered table.now places.now }
     ensures some { IfSome result (λ j. (j < length places.now) × (slice_index places.now j ≡ place)) }
     ensures none { IfNone result ((j : ℕ) → j < length places.now → slice_index places.now j ≢ place) }
 {
-    let j = table[place];
+    let j = table.get(place);
     match places.get(usize::from(j)) {
         Some(other) if *other == place => Some(j),
         _ => None,
@@ -85,11 +84,10 @@ fn occupant(table: &[u16], places: &[usize], place: usize) -> Option<u16>
 }
 
 /// Who stands in the place to which agent `i` goes, where it goes to another one.
-fn agent_ahead(table: &[u16], places: &[usize], next: &[usize], i: u16) -> Option<u16>
+fn agent_ahead(table: &Table<u16>, places: &[usize], next: &[usize], i: u16) -> Option<u16>
     requires entered { IsEntered table.now places.now }
     requires agent { i < length places.now }
     requires next { length next.now ≡ length places.now }
-    requires within { All (λ place. place < length table.now) next.now }
     ensures { IsAhead places.now next.now i result }
 {
     let place = next[usize::from(i)];
@@ -103,7 +101,7 @@ fn agent_ahead(table: &[u16], places: &[usize], next: &[usize], i: u16) -> Optio
 /// Notes for each agent of the row who is ahead of it; nobody is ahead of the others, who stay. Answers whether no two
 /// are ahead of each other.
 fn fill_ahead(
-    table: &[u16],
+    table: &Table<u16>,
     places: &[usize],
     next: &[usize],
     agents: &[u16],
@@ -112,7 +110,6 @@ fn fill_ahead(
     requires entered { IsEntered table.now places.now }
     requires agents { All (λ i. i < length places.now) agents.now }
     requires next { length next.now ≡ length places.now }
-    requires within { All (λ place. place < length table.now) next.now }
     requires all { length ahead.old ≡ length places.now }
     requires nobody { (i : ℕ) → ahead_of ahead.old i ≡ None }
     requires others { IsSoForOthers agents.now (length places.now) (Stays places.now next.now) }
@@ -190,35 +187,39 @@ fn conflict_in(
 
 /// Enters the agents of the row in their places of the table, where the others are entered in theirs. Answers whether it
 /// found none of them in the place of another agent.
-fn enter(table: &mut [u16], agents: &[u16], places: &[usize]) -> bool
-    requires within { All (λ place. place < length table.old) places.now }
+fn enter(table: &mut Table<u16>, agents: &[u16], places: &[usize]) -> Result<bool, AllocError>
     requires agents { All (λ i. i < length places.now) agents.now }
     requires others { IsSoForOthers agents.now (length places.now) (HasIn table.old places.now) }
-    ensures { IsTrue result → IsEntered table.new places.now }
+    ensures { IfOk result (λ alone. IsTrue alone → IsEntered table.new places.now) }
 {
     for &i in agents {
         let place = places[usize::from(i)];
-        let other = table[place];
+        let other = table.get(place);
         if other != i && places.get(usize::from(other)) == Some(&place) {
-            return false;
+            return Ok(false);
         }
-        table[place] = i;
+        if other != i {
+            table.set(place, i)?;
+        }
     }
-    true
+    Ok(true)
 }
 
 /// The first two agents in one place, where the agents that are not in the row are entered in theirs. Where there are
 /// none, each agent is then entered.
-fn meeting(table: &mut [u16], agents: &[u16], places: &[usize]) -> Option<(u16, u16)>
-    requires within { All (λ place. place < length table.old) places.now }
+fn meeting(
+    table: &mut Table<u16>,
+    agents: &[u16],
+    places: &[usize],
+) -> Result<Option<(u16, u16)>, AllocError>
     requires few { length places.now ≤ MAX_AGENTS }
     requires agents { All (λ i. i < length places.now) agents.now }
     requires others { IsSoForOthers agents.now (length places.now) (HasIn table.old places.now) }
-    ensures some { IfSome result (λ pair. IsFirstMeeting places.now pair.0 pair.1) }
-    ensures none { IfNone result (IsEntered table.new places.now) }
+    ensures some { IfOk result (λ found. IfSome found (λ pair. IsFirstMeeting places.now pair.0 pair.1)) }
+    ensures none { IfOk result (λ found. IfNone found (IsEntered table.new places.now)) }
 {
-    if enter(table, agents, places) {
-        return None;
+    if enter(table, agents, places)? {
+        return Ok(None);
     }
     first_meeting(table, places)
 }
@@ -262,20 +263,18 @@ fn keep_under_way(agents: &mut Vec<u16>, plan: &Plan, time: u32)
     agents.truncate(kept);
 }
 
-/// The first conflict of a plan. The table has an entry for each cell of the map, the rows have one for each agent, and
-/// the last one has all agents.
+/// The first conflict of a plan. The rows have an entry for each agent, and the last one has all agents.
 fn sweep(
     plan: &Plan,
     grid: &Grid,
-    table: &mut [u16],
+    table: &mut Table<u16>,
     places: &mut [usize],
     next: &mut [usize],
     ahead: &mut [Option<u16>],
     walks: &mut [Option<u16>],
     agents: &mut Vec<u16>,
-) -> Option<Conflict>
+) -> Result<Option<Conflict>, AllocError>
     requires on_map { IsOnMap grid.now plan.now }
-    requires table { length table.old ≡ grid.now.width * grid.now.height }
     requires places { length places.old ≡ length plan.now }
     requires next { length next.old ≡ length plan.now }
     requires ahead { length ahead.old ≡ length plan.now }
@@ -283,32 +282,32 @@ fn sweep(
     requires walks { length walks.old ≡ length plan.now }
     requires unwalked { (i : ℕ) → walk_of walks.old i ≡ None }
     requires agents { Covers plan.now 0 agents.old.items }
-    ensures some { IfSome result (IsFirstConflict plan.now) }
-    ensures none { IfNone result (HasNoConflict plan.now) }
+    ensures some { IfOk result (λ found. IfSome found (IsFirstConflict plan.now)) }
+    ensures none { IfOk result (λ found. IfNone found (HasNoConflict plan.now)) }
 {
     // Agents in one place are on one cell: a law of the map.
     cells_have_places_of_their_own();
     let end = plan.steps() + 1;
     fill_places(plan, grid, 0, places);
     next.copy_from_slice(places);
-    if let Some((i, j)) = first_meeting(table, places) {
-        return Some(Conflict::Vertex { time: 0, i, j });
+    if let Some((i, j)) = first_meeting(table, places)? {
+        return Ok(Some(Conflict::Vertex { time: 0, i, j }));
     }
     for time in 0..end {
         fill_next(plan, grid, time + 1, agents, next);
         let apart = fill_ahead(table, places, next, agents, ahead);
         let found = conflict_in(time, apart, agents, ahead, walks);
         if found.is_some() {
-            return found;
+            return Ok(found);
         }
-        if let Some((i, j)) = meeting(table, agents, next) {
+        if let Some((i, j)) = meeting(table, agents, next)? {
             let time = time + 1;
-            return Some(Conflict::Vertex { time, i, j });
+            return Ok(Some(Conflict::Vertex { time, i, j }));
         }
         settle(agents, next, places, ahead, walks);
         keep_under_way(agents, plan, time + 1);
     }
-    None
+    Ok(None)
 }
 
 /// All agents.
@@ -322,8 +321,8 @@ fn agents_of(alloc: Global, plan: &Plan) -> Result<Vec<u16>, AllocError>
     Ok(agents)
 }
 
-/// The first conflict of a plan whose agents go over passable cells. Takes memory for the cells of the map and for the
-/// agents, once.
+/// The first conflict of a plan whose agents go over passable cells. Takes memory for the agents, and for the parts of the map on
+/// which they stand.
 #[tactic(auto, using(crate::proofs::SweepLaws::all_on_map))]
 pub(crate) fn first_conflict(
     alloc: Global,
@@ -335,14 +334,15 @@ pub(crate) fn first_conflict(
     ensures none { IfOk result (λ found. IfNone found (HasNoConflict plan.now)) }
 {
     let agents = usize::from(plan.agents());
-    let cells = usize::from(grid.width()) * usize::from(grid.height());
-    let mut table = vec![in alloc; 0u16; cells]?;
+    // What is asked of a map tells of its sizes.
+    let _width = grid.width();
+    let mut table = Table::new(alloc, 0);
     let mut places = vec![in alloc; 0usize; agents]?;
     let mut next = vec![in alloc; 0usize; agents]?;
     let mut ahead = vec![in alloc; None; agents]?;
     let mut walks = vec![in alloc; None; agents]?;
     let mut under_way = agents_of(alloc, plan)?;
-    Ok(sweep(
+    sweep(
         plan,
         grid,
         &mut table,
@@ -351,5 +351,5 @@ pub(crate) fn first_conflict(
         &mut ahead,
         &mut walks,
         &mut under_way,
-    ))
+    )
 }

@@ -1,7 +1,7 @@
 //! Why a text is no plan.
 
 use fleet_text::{OutFault, Refusal, TraceOut, put_memory, put_named, put_named_at};
-use std::alloc::{AllocError, AllocFailed};
+use std::alloc::AllocFailed;
 use thiserror::Error;
 
 /// The first fault of a plan text, from the front. Lines count from 1.
@@ -18,17 +18,6 @@ pub enum TextFault {
     /// There is no line, or there are more than 1,024.
     #[error("there are not 1 to 1024 agents")]
     AgentCount,
-}
-
-impl From<AllocError> for TextFault {
-    ghost use Rattle.std.specs.Prelude.{◌≡◌};
-    ghost use Rattle.fleet_plan.specs.declared.text_fault.TextFault.TheVariants.{OutOfMemory};
-
-    ghost from_gives = { λ _ e. e ≡ OutOfMemory };
-
-    fn from(_e: AllocError) -> TextFault {
-        TextFault::OutOfMemory
-    }
 }
 
 impl<T: Drop> From<AllocFailed<T>> for TextFault {

@@ -3,7 +3,7 @@ use Rattle.std.proofs.Common.{◌≡◌, ◌<◌, ◌≤◌, ℕ, zero, suc, ◌
 use Rattle.std.specs.Prelude.{IfOk}
 use Rattle.std.specs.List.{list_any}
 use Rattle.std.proofs.lemmas.Bool.{cases_lt}
-use Rattle.fleet_model.specs.Program.{Program, moves}
+use Rattle.fleet_model.specs.Program.{Program, moves, actions_of}
 use Rattle.fleet_model.specs.Machine.{Configuration, Holds, run, tick, count_at, is_ready, is_moving, is_ready_held, moved_in, is_finished, indices, IsFinish}
 use Rattle.fleet_model.specs.Chain.{IsLongestChain}
 use Rattle.fleet_model.specs.Run.{Arrives}
@@ -13,6 +13,8 @@ use Rattle.fleet_run.specs.Fleet.{AreOnGoals}
 use Rattle.fleet_text.specs.Sink.{SinkState}
 use Rattle.fleet_run.specs.Source.{SourceState}
 use Rattle.fleet_run.specs.Drive.{Drives}
+use Rattle.std.proofs.lemmas.Option.{slice_get_past}
+use Rattle.fleet_machine.specs.Looked.{ready_in, awaits_moving, awaiting_in}
 use Rattle.fleet_machine.proofs.Indices.{any_suc}
 use Rattle.fleet_machine.proofs.Ready.{no_action_left}
 use Rattle.fleet_machine.proofs.Advanced.{filter_more}
@@ -55,6 +57,18 @@ rests p held c agents h =
     let still = λ (i : ℕ) (l : i < length p). ap (λ b. b && not (held i)) (ready i l) in
     let calm = λ (i : ℕ) (l : i < length p). ap (λ b. b && held i) (ready i l) in
     (rests_if p held c agents still, none_counted (is_moving p held c) (length p) still, none_below (λ i. is_ready p c i && held i) (length p) calm)
+
+-- and looks at nobody
+pub looks_at_none : (p : Program) (held : ℕ → Bool) (c : Configuration) → is_finished p c ≡ true → (ready_in p c ≡ 0) × (awaiting_in p held c ≡ 0)
+looks_at_none p held c h = (
+  none_counted (is_ready p c) (length p) (nobody_ready p c h),
+  none_counted (λ i. not (is_ready p c i) && awaits_moving p held c i) (length p)
+      (λ i inside. and_no (not (is_ready p c i)) (rw (slice_get_past (actions_of p i) (count_at c i) (finished_each p c h i inside)) refl)),
+)
+  where
+    and_no : (a : Bool) {b : Bool} → b ≡ false → (a && b) ≡ false
+    and_no true e = e
+    and_no false e = refl
 
 -- ---- all stand on their goals
 

@@ -7,10 +7,11 @@ use Rattle.fleet_model.specs.Chain.{IsLongestChain}
 use Rattle.fleet_verify.specs.Parts.{AcceptedParts, IsAcceptedFor}
 use Rattle.fleet_machine.specs.Machine.{MachineState, Runs}
 
--- an accepted program, and the configuration in which its agents are
+-- an accepted program, the configuration in which its agents are, and how many of them have been looked at
 pub record FleetState (P : Type 0) : Type 0 where
   pub accepted : AcceptedParts P
   pub configuration : Configuration
+  pub looked : ℕ
 
 -- each agent stands on its goal
 abbrev pub AreOnGoals : Program → Configuration → Type 0

@@ -12,6 +12,7 @@ ghost use Rattle.fleet_run.specs.declared.run.TheConstants.{MOST_TICKS};
 ghost use Rattle.fleet_text.specs.Sink.{IsWorking};
 ghost use Rattle.fleet_run.specs.Source.{HasNotFailed};
 ghost use Rattle.fleet_machine.specs.Confirmed.{all_but, AreSent, IsFirstUnsent};
+ghost use Rattle.fleet_machine.specs.Looked.{ready_in, awaiting_in, LooksAt};
 ghost use Rattle.fleet_machine.specs.Machine.{flag_of};
 
 use crate::run::RunFault;
@@ -39,7 +40,11 @@ impl<'g, P: ProgramView> Model for Fleet<'g, P> {
 
     ghost Value = { FleetState P };
 
-    ghost view = { λ f. record { accepted = f.accepted; configuration = f.machine.configuration } };
+    ghost view = { λ f. record {
+      accepted = f.accepted;
+      configuration = f.machine.configuration;
+      looked = f.machine.looked;
+    } };
 
     ghost invariant = { λ f. IsRunning (P.program f.accepted.program) f.accepted f.machine };
 }
@@ -62,7 +67,11 @@ impl<'g, P: ProgramView> Fleet<'g, P> {
         alloc: Global,
         accepted: Accepted<'g, P>,
     ) -> Result<Fleet<'g, P>, StartRefusal<'g, P>>
-        ensures started { IfOk result (λ f. f ≡ record { accepted = accepted.entry; configuration = opening (P.program accepted.entry.program) }) }
+        ensures started { IfOk result (λ f. f ≡ record {
+          accepted = accepted.entry;
+          configuration = opening (P.program accepted.entry.program);
+          looked = 0;
+        }) }
         ensures counts { IfOk result (λ f. All (λ s. s.count ≡ 0) f.configuration) }
         ensures refused { IfErr result (λ r. r.accepted ≡ accepted.entry) }
     {
@@ -74,10 +83,17 @@ impl<'g, P: ProgramView> Fleet<'g, P> {
     }
 
     /// One tick: every ready agent that is not held finishes one action, and all others stay. `held` has a flag for each
-    /// agent. A tick of a finished fleet changes nothing. Takes no memory.
+    /// agent. It looks at those that are ready, and at no others but those that are not and await an agent which it moves. A tick of
+    /// a finished fleet changes nothing. Takes no memory.
     pub fn tick(&mut self, held: &[bool]) -> Tick
         requires { length held.now ≡ length (P.program self.old.accepted.program) }
-        ensures after { self.new ≡ record self.old { configuration = tick (P.program self.old.accepted.program) (flag_of held.now) self.old.configuration } }
+        ensures after { self.new ≡ record self.old {
+          configuration = tick (P.program self.old.accepted.program) (flag_of held.now) self.old.configuration;
+          looked = self.new.looked;
+        } }
+        ensures looked { LooksAt (ready_in (P.program self.old.accepted.program) self.old.configuration)
+            (awaiting_in (P.program self.old.accepted.program) (flag_of held.now) self.old.configuration)
+            self.old.looked self.new.looked }
         ensures moved { result.moved ≡ moved_in (P.program self.old.accepted.program) (flag_of held.now) self.old.configuration }
         ensures held { result.ready_held ≡ is_ready_held (P.program self.old.accepted.program) (flag_of held.now) self.old.configuration }
         // All places are passable and differ, and no agent stands where another stood before.
@@ -98,7 +114,11 @@ impl<'g, P: ProgramView> Fleet<'g, P> {
     pub fn confirm(&mut self, done: &mut [bool]) -> Result<(), NotSent>
         requires { length done.old ≡ length (P.program self.old.accepted.program) }
         ensures accepted { self.new.accepted ≡ self.old.accepted }
-        ensures after { OnOk result (self.new ≡ record self.old { configuration = tick (P.program self.old.accepted.program) (all_but (flag_of done.old)) self.old.configuration }) }
+        ensures after { OnOk result (self.new ≡ record self.old {
+          configuration = tick (P.program self.old.accepted.program) (all_but (flag_of done.old)) self.old.configuration;
+          looked = self.new.looked;
+        }) }
+        ensures looked { self.old.looked ≤ self.new.looked }
         ensures sent { OnOk result (AreSent (P.program self.old.accepted.program) self.old.configuration (flag_of done.old)) }
         // Who is not among them stays, and keeps its order.
         ensures kept { OnOk result ((i : ℕ) → i < length (P.program self.old.accepted.program) → IsFalse (flag_of done.old i) → KeepsOrder (P.program self.old.accepted.program) self.old.configuration self.new.configuration i) }
@@ -121,6 +141,13 @@ impl<'g, P: ProgramView> Fleet<'g, P> {
         awaits_are_chains();
         runs_arrive();
         self.machine.is_finished(self.accepted.program())
+    }
+
+    /// How many agents the ticks have looked at so far. The count stays at the greatest value once there.
+    pub fn looked(&self) -> u64
+        ensures { result ≡ self.now.looked }
+    {
+        self.machine.looked()
     }
 
     /// Where agent `i` stands.
@@ -204,6 +231,7 @@ pub fn drive<P: ProgramView, S: HoldSource, O: TraceOut>(
     requires source { HasNotFailed (S.state source.old) }
     requires sink { IsWorking (O.state out.old) }
     ensures accepted { fleet.new.accepted ≡ fleet.old.accepted }
+    ensures looked { fleet.old.looked ≤ fleet.new.looked }
     ensures outcome { Drives (P.program fleet.old.accepted.program) fleet.old.accepted.chain (S.state source.old) (S.state source.new) (O.state out.old) (O.state out.new)
         fleet.new.configuration result }
     ensures longest { IfOk result (λ r. IsLongestChain (P.program fleet.old.accepted.program) r.chain) }

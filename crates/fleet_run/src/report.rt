@@ -1,5 +1,8 @@
 //! Rehearsals: runs of any program.
 
+ghost use Rattle.std.specs.Prelude.{◌≡◌};
+ghost use Rattle.fleet_model.specs.Machine.{opening};
+ghost use Rattle.fleet_machine.specs.Machine.{Runs};
 ghost use Rattle.fleet_run.specs.Rehearsal.{Rehearses};
 ghost use Rattle.fleet_text.specs.Sink.{IsWorking};
 ghost use Rattle.fleet_run.specs.Source.{HasNotFailed};
@@ -21,6 +24,35 @@ pub struct Rehearsal {
     pub end: End,
 }
 
+/// Runs a program from its start to its end, and writes its rehearsal text.
+fn run_rehearsal<P: ProgramView, S: HoldSource, O: TraceOut>(
+    program: &P,
+    machine: &mut Machine,
+    source: &mut S,
+    out: &mut O,
+) -> Result<Rehearsal, RunFault>
+    requires runs { Runs (P.program program.now) machine.old }
+    requires opening { machine.old.configuration ≡ opening (P.program program.now) }
+    requires source { HasNotFailed (S.state source.old) }
+    requires sink { IsWorking (O.state out.old) }
+    ensures { Rehearses (P.program program.now) (S.state source.old) (S.state source.new) (O.state out.old) (O.state out.new)
+        result }
+{
+    let agents = program.agents();
+    let ran = run_lines(program, machine, source, out)?;
+    let mut closing = [0; CLOSING];
+    let at = write_rehearsal_closing(agents, ran.ticks, ran.held, ran.end, &mut closing);
+    if put_all(out, &closing[at..]).is_err() {
+        return Err(RunFault::Write);
+    }
+    Ok(Rehearsal {
+        agents,
+        ticks: ran.ticks,
+        held: ran.held,
+        end: ran.end,
+    })
+}
+
 /// Runs any program, accepted or not, and writes its rehearsal text.
 pub fn rehearse<P: ProgramView, S: HoldSource, O: TraceOut>(
     alloc: Global,
@@ -33,20 +65,8 @@ pub fn rehearse<P: ProgramView, S: HoldSource, O: TraceOut>(
     ensures { Rehearses (P.program program.now) (S.state source.old) (S.state source.new) (O.state out.old) (O.state out.new)
         result }
 {
-    let agents = program.agents();
     let Ok(mut machine) = Machine::start(alloc, program) else {
         return Err(RunFault::OutOfMemory);
     };
-    let ran = run_lines(program, &mut machine, source, out)?;
-    let mut closing = [0; CLOSING];
-    let at = write_rehearsal_closing(agents, ran.ticks, ran.held, ran.end, &mut closing);
-    if put_all(out, &closing[at..]).is_err() {
-        return Err(RunFault::Write);
-    }
-    Ok(Rehearsal {
-        agents,
-        ticks: ran.ticks,
-        held: ran.held,
-        end: ran.end,
-    })
+    run_rehearsal(program, &mut machine, source, out)
 }

@@ -71,7 +71,7 @@ pub struct Ran {
 }
 
 /// How a run has ended, if it has.
-#[tactic(auto, using(crate::proofs::Ending::goes_on, crate::proofs::Ending::none_ready_more))]
+#[tactic(auto, using(crate::proofs::Ending::goes_on, crate::proofs::Ending::is_stuck_if))]
 fn end_at<P: ProgramView>(program: &P, machine: &Machine) -> Option<End>
     requires runs { Runs (P.program program.now) machine.now }
     ensures { result ≡ end_of (P.program program.now) machine.now.configuration }
@@ -79,10 +79,8 @@ fn end_at<P: ProgramView>(program: &P, machine: &Machine) -> Option<End>
     if machine.is_finished(program) {
         return Some(End::Finished);
     }
-    for i in 0..program.agents() {
-        if machine.is_ready(program, i) {
-            return None;
-        }
+    if machine.is_any_ready(program) {
+        return None;
     }
     Some(End::Stuck)
 }
@@ -129,6 +127,7 @@ pub fn run_lines<P: ProgramView, S: HoldSource, O: TraceOut>(
     requires source { HasNotFailed (S.state source.old) }
     requires sink { IsWorking (O.state out.old) }
     ensures runs { Runs (P.program program.now) machine.new }
+    ensures looked { machine.old.looked ≤ machine.new.looked }
     ensures lines { RunsLines (P.program program.now) (S.state source.old) (S.state source.new) (O.state out.old) (O.state out.new)
         machine.new.configuration result }
 {

@@ -1,6 +1,6 @@
 //! Runs of accepted programs, with their trace text.
 
-ghost use Rattle.std.specs.Prelude.{◌≡◌};
+ghost use Rattle.std.specs.Prelude.{◌≡◌, ◌≤◌};
 ghost use Rattle.fleet_model.specs.Machine.{opening};
 ghost use Rattle.fleet_machine.specs.Machine.{Runs};
 ghost use Rattle.fleet_run.specs.Fleet.{IsShown};
@@ -38,6 +38,7 @@ pub fn run_trace<P: ProgramView, S: HoldSource, O: TraceOut>(
     requires source { HasNotFailed (S.state source.old) }
     requires sink { IsWorking (O.state out.old) }
     ensures runs { Runs (P.program program.now) machine.new }
+    ensures looked { machine.old.looked ≤ machine.new.looked }
     ensures outcome { Drives (P.program program.now) chain (S.state source.old) (S.state source.new) (O.state out.old) (O.state out.new)
         machine.new.configuration result }
 {

@@ -2,7 +2,7 @@
 use Rattle.std.proofs.Common.{◌≡◌, ◌≢◌, ℕ, ◌+◌, Bool, true, false, not, ◌&&◌, eqb, List, [], ◌∷◌, length, Option, Some, None, Result, Ok, Err, refl, sym, ap, subst, ◌∙◌, arith, inl, inr}
 use Rattle.std.specs.Prelude.{position, is_none, Any, ◌⊎◌}
 use Rattle.std.specs.List.{list_any}
-use Rattle.std.proofs.lemmas.Bool.{cases_Bool, eqb-true, eq-eqb, false_from_ne_true}
+use Rattle.std.proofs.lemmas.Bool.{cases_Bool, eqb-true, eq-eqb, false_from_ne_true, both_ways}
 use Rattle.std.proofs.lemmas.List.Folds.{Any-from_list_any, list_any-from_Any}
 use Rattle.fleet_model.specs.declared.geometry.Cell.{Cell}
 use Rattle.fleet_model.specs.declared.task.Task.{Task}
@@ -183,10 +183,6 @@ pub task_again : (g : Ground) (line : ℕ) (ws : List Bytes) (t : Task) → Stan
 unfolding task_at
 task_again g line ws t s = rw (numbers_again line ws g.width g.height t s.spells, sizes_again g g.width g.height (refl, refl), open_again g t s.cells) refl
 
-true_false : (b : Bool) → b ≡ true → b ≡ false → ⊥
-true_false true t f = cc
-true_false false t f = cc
-
 pub task_fails : (g : Ground) (line : ℕ) (ws : List Bytes) (f : ScenFault) → task_at g line ws ≡ Err f → IsLineFault g (line, ws) f
 unfolding task_at
 task_fails g line ws f e =
@@ -196,11 +192,11 @@ task_fails g line ws f e =
           let n = p.0 in
           let spells = numbers_ok line ws n p.1 in
           elim (right_err (eqb n.0 g.width && eqb n.1 g.height) (OtherMap line) (right_or (is_open g n.2) (Blocked line) >> Ok n.2) f p.2) [
-            | inl q ↦ inr (inl (n.0, n.1, n.2, sym q.1, spells, λ same. true_false (eqb n.0 g.width && eqb n.1 g.height) (sizes_again g n.0 n.1 same) q.0))
+            | inl q ↦ inr (inl (n.0, n.1, n.2, sym q.1, spells, λ same. both_ways (eqb n.0 g.width && eqb n.1 g.height) q.0 (sizes_again g n.0 n.1 same)))
             | inr q ↦ elim (right_err (is_open g n.2) (Blocked line) (Ok n.2) f q.1) [
               | inl r ↦ (
                   let sizes = same_sizes g n.0 n.1 q.0 in
-                  inr (inr (n.2, sym r.1, spells_here g ws n.0 n.1 n.2 sizes spells, λ open_cells. true_false (is_open g n.2) (open_again g n.2 open_cells) r.0)))
+                  inr (inr (n.2, sym r.1, spells_here g ws n.0 n.1 n.2 sizes spells, λ open_cells. both_ways (is_open g n.2) r.0 (open_again g n.2 open_cells))))
               | inr r ↦ absurd (let h : Ok n.2 ≡ Err f = r.1 in cc)
             ]
           ])
@@ -264,7 +260,7 @@ apart_fails line earlier t f e =
       | inl p ↦ inl (sym p.1, any_is (λ s. s.start) t.start earlier (not_true (list_any (starts_at t.start) earlier) p.0))
       | inr p ↦ (
           let new = not_false (list_any (starts_at t.start) earlier) p.0 in
-          let alone : Any (λ s. s.start ≡ t.start) earlier → ⊥ = λ a. true_false (list_any (starts_at t.start) earlier) (any_again (λ s. s.start) t.start earlier a) new in
+          let alone : Any (λ s. s.start ≡ t.start) earlier → ⊥ = λ a. both_ways (list_any (starts_at t.start) earlier) new (any_again (λ s. s.start) t.start earlier a) in
           elim (cases_Bool (list_any (ends_at t.goal) earlier)) [
             | inl shared ↦ (let g : Err (SharedGoal line) ≡ Err f = rw shared at p.1 in inr (sym (err_is {A = Unit {0}} (SharedGoal line) f g), alone, any_is (λ s. s.goal) t.goal earlier shared))
             | inr other ↦ absurd (let g : Ok tt ≡ Err f = rw other at p.1 in cc)

@@ -1,8 +1,8 @@
 -- Reading a scenario's lines fails with a fault exactly where the fault is the first.
-use Rattle.std.proofs.Common.{◌≡◌, ◌≢◌, ℕ, zero, suc, ◌+◌, ◌≤◌, ◌<◌, Bool, true, false, not, ltb, leb, List, [], ◌∷◌, ◌++◌, length, take, drop, Option, Some, None, Ok, Err, refl, sym, ap, subst, ◌∙◌, append_assoc, arith, inl, inr}
-use Rattle.std.specs.Prelude.{MatchOption, slice_get, All, ◌⊎◌}
+use Rattle.std.proofs.Common.{◌≡◌, ◌≢◌, ℕ, suc, ◌+◌, ◌≤◌, ◌<◌, Bool, true, false, not, ltb, leb, List, [], ◌∷◌, ◌++◌, length, take, drop, Option, Some, None, Ok, Err, refl, sym, ap, subst, ◌∙◌, append_assoc, arith, inl, inr}
+use Rattle.std.specs.Prelude.{MatchOption, All, ◌⊎◌}
 use Rattle.std.specs.List.{AllZip, AllByRecursion}
-use Rattle.std.proofs.lemmas.Bool.{cases_Bool, ltb-true, ltb-false, lt-ltb, le-ltb, leb-true, leb-false, lt-leb, false_from_ne_true}
+use Rattle.std.proofs.lemmas.Bool.{cases_Bool, ltb-true, ltb-false, lt-ltb, le-ltb, leb-true, leb-false, lt-leb, false_from_ne_true, both_ways}
 use Rattle.std.proofs.lemmas.List.{append-nil, length-append, length-take, length-drop}
 use Rattle.std.proofs.lemmas.List.Elements.{All-from_recursion}
 use Rattle.fleet_model.specs.declared.task.Task.{Task}
@@ -10,7 +10,8 @@ use Rattle.fleet_model.specs.Answer.{IsDueUnless}
 use Rattle.fleet_text.specs.Text.{Bytes, words}
 use Rattle.fleet_grid.specs.Ground.{Ground}
 use Rattle.fleet_text.specs.Steps.{◌>>◌, right_or}
-use Rattle.fleet_text.proofs.StepLaws.{ok_is, bind_err, right_err, then_err, err_is, ok_err, result_cases}
+use Rattle.fleet_text.proofs.StepLaws.{bind_err, right_err, then_err, err_is, ok_err}
+use Rattle.fleet_text.proofs.Verdicts.{Tells, heads_are, next_is, next_again}
 use Rattle.fleet_scen.specs.declared.fault.ScenFault.{ScenFault}
 use Rattle.fleet_scen.specs.declared.fault.ScenFault.TheVariants.{OutOfMemory, Version, Fields, Number, OtherMap, Blocked, SharedStart, SharedGoal, NoAgents, TooMany, Fewer}
 use Rattle.fleet_scen.specs.Instance.{AreApart}
@@ -139,9 +140,6 @@ earlier_lacks : (asked : Option ℕ) (earlier : List Task) (t : Task) (new : Lis
 earlier_lacks None earlier t new h = refl
 earlier_lacks (Some count) earlier t new h = let range = h.range in lt-ltb (length earlier) count (omega (arith, range, length-append earlier (t ∷ new)))
 
-heads_are : (x y : Line) (xs ys : List Line) → x ∷ xs ≡ y ∷ ys → x ≡ y
-heads_are x y xs ys e = cc
-
 line_fault : (g : Ground) (asked : Option ℕ) (n : ℕ) (earlier : List Task) (ws : List Bytes) (ls : List Bytes) (f : ScenFault) → StopsAtLine g earlier (n, ws) f
     → (right_or (ltb (length earlier) 1024) TooMany >> line_next g asked n earlier ws ls) ≡ Err f
 line_fault g asked n earlier ws ls f (inl p) = rw (le-ltb (length earlier) 1024 (omega (arith, p.1))) (ap (λ (x : ScenFault). Err x) (sym p.0))
@@ -190,20 +188,6 @@ tasks_fault g asked n earlier (line ∷ ls) (t ∷ new) f h =
     ]
 
 -- ---- places in the lines
-
-next_is : (n : ℕ) (lines : List Line) (line : Line) (more : List Line) → drop n lines ≡ line ∷ more → slice_get lines n ≡ Some line
-next_is zero [] line more e = absurd cc
-next_is zero (l ∷ lines) line more e = ap (λ (x : Line). Some x) (heads_are l line lines more e)
-next_is (suc n) [] line more e = absurd cc
-next_is (suc n) (l ∷ lines) line more e = next_is n lines line more e
-
-some_line : (x y : Line) → Some x ≡ Some y → x ≡ y
-some_line x y e = cc
-
-next_again : (n : ℕ) (lines : List Line) (line : Line) → slice_get lines n ≡ Some line → (more : List Line) × (drop n lines ≡ line ∷ more)
-next_again n [] line e = absurd cc
-next_again zero (l ∷ lines) line e = (lines, ap (λ (x : Line). x ∷ lines) (some_line l line e))
-next_again (suc n) (l ∷ lines) line e = next_again n lines line e
 
 zip_length : (g : Ground) (lines : List Line) (tasks : List Task) → AllZip (StandsFor g) lines tasks → length lines ≡ length tasks
 zip_length g [] [] h = refl
@@ -351,14 +335,10 @@ is_fault g asked ls f e =
       | inr p ↦ elim (bind_err (after_version 0 ls) (λ rest. tasks_after g asked rest) f p.1) [
         | inl q ↦ (
             let v = version_fails 0 ls f q in
-            subst (IsFirstFault ls g asked) (sym v.0) (judged_asked asked p.0, λ t. true_false (is_version (version_line ls)) t v.1))
+            subst (IsFirstFault ls g asked) (sym v.0) (judged_asked asked p.0, both_ways (is_version (version_line ls)) v.1))
         | inr q ↦ (let v = version_is 0 ls q.0 q.1 in tasks_after_fail ls g asked q.0 f p.0 v.0 v.1 q.2)
       ]
     ]
-  where
-    true_false : (b : Bool) → b ≡ true → b ≡ false → ⊥
-    true_false true t f = cc
-    true_false false t f = cc
 
 -- ---- .. and back
 
@@ -424,23 +404,10 @@ is_told g asked ls Fewer h =
     let none_left : drop (length all) (agent_lines ls) ≡ [] = length_nil (drop (length all) (agent_lines ls)) (omega (arith, length-drop (length all) (agent_lines ls), size)) in
     told_at ls g asked all Fewer right (omega (arith, may, less)) (rw h.1 (omega (arith, less))) (inl (none_left, inr (count, refl, h.1, less)))
 
--- ---- one outcome
+-- ---- the reader's laws
 
-pub scen_or_fault : (g : Ground) (asked : Option ℕ) (ls : List Bytes) → ((tasks : List Task) × AreScenLines ls g asked tasks) ⊎ ((f : ScenFault) × IsFirstFault ls g asked f)
-scen_or_fault g asked ls =
-    elim (result_cases (scen_at g asked ls)) [
-      | inl p ↦ inl (p.0, is_found g asked ls p.0 p.1)
-      | inr p ↦ inr (p.0, is_fault g asked ls p.0 p.1)
-    ]
-
-pub not_both : (g : Ground) (asked : Option ℕ) (ls : List Bytes) (tasks : List Task) (f : ScenFault) → AreScenLines ls g asked tasks → IsFirstFault ls g asked f → ⊥
-not_both g asked ls tasks f a b = ok_err tasks f (sym (is_read g asked ls tasks a) ∙ is_told g asked ls f b)
-
-pub one_fault : (g : Ground) (asked : Option ℕ) (ls : List Bytes) (e f : ScenFault) → IsFirstFault ls g asked e → IsFirstFault ls g asked f → e ≡ f
-one_fault g asked ls e f a b = err_is {A = List Task} e f (sym (is_told g asked ls e a) ∙ is_told g asked ls f b)
-
-pub one_instance : (g : Ground) (asked : Option ℕ) (ls : List Bytes) (s t : List Task) → AreScenLines ls g asked s → AreScenLines ls g asked t → s ≡ t
-one_instance g asked ls s t a b = ok_is {E = ScenFault} s t (sym (is_read g asked ls s a) ∙ is_read g asked ls t b)
+pub tells : (g : Ground) (asked : Option ℕ) (ls : List Bytes) → Tells (AreScenLines ls g asked) (IsFirstFault ls g asked) (scen_at g asked ls)
+tells g asked ls = record { found = is_found g asked ls; read = is_read g asked ls; fault = is_fault g asked ls; told = is_told g asked ls }
 
 -- ---- the cells of an instance
 

@@ -1,7 +1,7 @@
 //! Why a text is no scenario.
 
 use fleet_text::{OutFault, Refusal, TraceOut, put_memory, put_named, put_named_at, put_named_by};
-use std::alloc::{AllocError, AllocFailed};
+use std::alloc::AllocFailed;
 use thiserror::Error;
 
 /// The first fault of a scenario text, from the front. Lines and fields count from 1, and empty lines count too.
@@ -39,17 +39,6 @@ pub enum ScenFault {
     /// There are fewer agents than were asked for.
     #[error("there are fewer agents than were asked for")]
     Fewer,
-}
-
-impl From<AllocError> for ScenFault {
-    ghost use Rattle.std.specs.Prelude.{◌≡◌};
-    ghost use Rattle.fleet_scen.specs.declared.fault.ScenFault.TheVariants.{OutOfMemory};
-
-    ghost from_gives = { λ _ e. e ≡ OutOfMemory };
-
-    fn from(_e: AllocError) -> ScenFault {
-        ScenFault::OutOfMemory
-    }
 }
 
 impl<T: Drop> From<AllocFailed<T>> for ScenFault {

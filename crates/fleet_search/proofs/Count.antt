@@ -5,6 +5,7 @@ use Rattle.std.specs.declared.alloc.Global.{Global}
 use Rattle.std.proofs.lemmas.Nat.{mul-add-lt, same_from_place}
 use Rattle.fleet_search.specs.declared.moment.Moment.{Moment}
 use Rattle.fleet_search.specs.declared.frontier.Question.{Question}
+use Rattle.fleet_search.specs.declared.labels.Labels.{Labels}
 use Rattle.fleet_search.specs.declared.frontier.Arrival.{Arrival}
 use Rattle.fleet_search.specs.Search.{IsFrontier, moment_in}
 use Rattle.fleet_model.proofs.Pigeon.{pigeonhole}
@@ -37,7 +38,7 @@ number_of-one w h t m n a b e =
 pub room_of : Question → ℕ
 room_of q = (q.grid.now.width * q.grid.now.height) * (q.horizon + 1)
 
-pub few_known : (q : Question) (f : ℕ) (left : Option ℕ) (r : List Arrival) (labels stacks : List (Vec ℕ Global)) → IsFrontier q f left r labels stacks → length r ≤ room_of q
+pub few_known : (q : Question) (f : ℕ) (left : Option ℕ) (r : List Arrival) (labels : Labels) (stacks : List (Vec ℕ Global)) → IsFrontier q f left r labels stacks → length r ≤ room_of q
 unfolding room_of
 few_known q f left r labels stacks fr =
     pigeonhole (length r) ((q.grid.now.width * q.grid.now.height) * (q.horizon + 1)) (λ i. number_of q.grid.now.width q.grid.now.height (moment_in r i)) (λ i l. number_of-lt q.grid.now.width q.grid.now.height (q.horizon + 1) (moment_in r i) (in_box i l)) (λ i j a b e. fr.apart i j a b (number_of-one q.grid.now.width q.grid.now.height (q.horizon + 1) (moment_in r i) (moment_in r j) (in_box i a) (in_box j b) e))

@@ -16,3 +16,4 @@ pub mod Count
 pub mod Optimal
 pub mod Trail
 pub mod InTurnLaws
+pub mod LabelLaws

@@ -9,6 +9,7 @@ use Rattle.fleet_model.specs.declared.geometry.Place.{Place}
 use Rattle.fleet_model.specs.Geometry.{place_of}
 use Rattle.fleet_plan.specs.Plan.{Plan, cell_at, AreNeighbours}
 use Rattle.fleet_search.specs.declared.frontier.Question.{Question}
+use Rattle.fleet_search.specs.declared.labels.Labels.{Labels}
 use Rattle.fleet_search.specs.declared.frontier.Arrival.{Arrival}
 use Rattle.fleet_grid.specs.Ground.{is_passable}
 use Rattle.fleet_search.specs.Way.{arrival, StepFits, IsWay, IsEarliest, HasNoWay}
@@ -71,7 +72,7 @@ way-free q path w = no-way-busy (is_passable q.grid.now) q.reserved.now q.start 
 pub no-way-far : (q : Question) → IsMeasured q → (path : List Cell) → IsWayOf q path → (horizon : ℕ) → horizon < far_of q q.start → arrival path ≤ horizon → ⊥
 no-way-far q m path w horizon l h = let least = way-least q m path w in omega arith
 
-module _ (q : Question) (f : ℕ) (left : Option ℕ) (r : List Arrival) (labels stacks : List (Vec ℕ Global)) (fr : IsFrontier q f left r labels stacks) (bound : (i : ℕ) → left ≡ Some i → IsSlot q (moment_in r i) f) (ask : IsAsked q) (path : List Cell) (w : IsWayOf q path) (in_time : arrival path ≤ q.horizon) (late : q.rest < f) (sooner : arrival path < f) where
+module _ (q : Question) (f : ℕ) (left : Option ℕ) (r : List Arrival) (labels : Labels) (stacks : List (Vec ℕ Global)) (fr : IsFrontier q f left r labels stacks) (bound : (i : ℕ) → left ≡ Some i → IsSlot q (moment_in r i) f) (ask : IsAsked q) (path : List Cell) (w : IsWayOf q path) (in_time : arrival path ≤ q.horizon) (late : q.rest < f) (sooner : arrival path < f) where
   -- all moves from the cell of the way at time t were noted, from a time since which it is free
   record IsLeftBy (t : ℕ) : Type 0 where
     since : ℕ
@@ -131,7 +132,7 @@ module _ (q : Question) (f : ℕ) (left : Option ℕ) (r : List Arrival) (labels
       )
 
 -- no way arrives before this time
-pub at_least : (q : Question) (f : ℕ) (left : Option ℕ) (r : List Arrival) (labels stacks : List (Vec ℕ Global)) → IsFrontier q f left r labels stacks → ((i : ℕ) → left ≡ Some i → IsSlot q (moment_in r i) f) → IsAsked q → (path : List Cell) → IsWayOf q path → arrival path ≤ q.horizon → q.rest < f → f ≤ arrival path
+pub at_least : (q : Question) (f : ℕ) (left : Option ℕ) (r : List Arrival) (labels : Labels) (stacks : List (Vec ℕ Global)) → IsFrontier q f left r labels stacks → ((i : ℕ) → left ≡ Some i → IsSlot q (moment_in r i) f) → IsAsked q → (path : List Cell) → IsWayOf q path → arrival path ≤ q.horizon → q.rest < f → f ≤ arrival path
 at_least q f left r labels stacks fr bound ask path w in_time late = elim (cases_lt (arrival path) f) [
   | inl s ↦ absurd (none-sooner q f left r labels stacks fr bound ask path w in_time late s)
   | inr h ↦ h
@@ -180,7 +181,7 @@ module _ (q : Question) (ask : IsAsked q) (n : ℕ) (path : List Cell) (tr : IsT
   }
 
 -- the first end that is found is one of an earliest way
-pub found_earliest : (q : Question) (f place : ℕ) (r : List Arrival) (labels stacks : List (Vec ℕ Global)) (path : List Cell) → IsAsked q → IsFrontier q f (Some place) r labels stacks → place < length r → IsSlot q (moment_in r place) f → IsEnd q (moment_in r place) → IsTrail q (moment_in r place).time (moment_in r place).cell path → IsEarliest (is_passable q.grid.now) q.reserved.now q.start q.goal q.horizon path
+pub found_earliest : (q : Question) (f place : ℕ) (r : List Arrival) (labels : Labels) (stacks : List (Vec ℕ Global)) (path : List Cell) → IsAsked q → IsFrontier q f (Some place) r labels stacks → place < length r → IsSlot q (moment_in r place) f → IsEnd q (moment_in r place) → IsTrail q (moment_in r place).time (moment_in r place).cell path → IsEarliest (is_passable q.grid.now) q.reserved.now q.start q.goal q.horizon path
 found_earliest q f place r labels stacks path ask fr within slot end tr = record {
   way = trail_is_way q ask (moment_in r place).time path (subst (λ z. IsTrail q (moment_in r place).time z path) end.0 tr) end.1;
   in_time = (let t = time in let b = (fr.sound place within).in_time in omega arith);
@@ -207,7 +208,7 @@ found_earliest q f place r labels stacks path ask fr within slot end tr = record
     ]
 
 -- where all stacks up to the horizon are empty there is no way
-pub all_looked : (q : Question) (f : ℕ) (r : List Arrival) (labels stacks : List (Vec ℕ Global)) → IsAsked q → IsFrontier q f None r labels stacks → q.rest ≤ q.horizon → q.horizon < f → HasNoWay (is_passable q.grid.now) q.reserved.now q.start q.goal q.horizon
+pub all_looked : (q : Question) (f : ℕ) (r : List Arrival) (labels : Labels) (stacks : List (Vec ℕ Global)) → IsAsked q → IsFrontier q f None r labels stacks → q.rest ≤ q.horizon → q.horizon < f → HasNoWay (is_passable q.grid.now) q.reserved.now q.start q.goal q.horizon
 all_looked q f r labels stacks ask fr rest h path w in_time =
     let a = at_least q f None r labels stacks fr (λ i s. absurd (none-some i s)) ask path w in_time (omega arith) in
     omega arith

@@ -4,7 +4,7 @@ use Rattle.std.specs.Prelude.{Vec, set}
 use Rattle.std.specs.declared.alloc.Global.{Global}
 use Rattle.std.proofs.lemmas.Bool.{cases_eq, cases_lt, eqb-true, eq-eqb, false_from_ne_true}
 use Rattle.std.proofs.lemmas.List.{get_or-set_same, get_or-set_other, get_or-map, map-set, map-append, get_or_past, get_or_push, get_or_append_left, length-map, length_push}
-use Rattle.fleet_search.specs.Rows.{row_in, IsPut, label_in, IsLabelSet}
+use Rattle.fleet_search.specs.Rows.{row_in, IsPut}
 
 pub row-past : (bs : List (Vec ℕ Global)) (k : ℕ) → length bs ≤ k → row_in bs k ≡ []
 unfolding row_in
@@ -47,22 +47,3 @@ is_put old wide key m v w same h e g k = elim (cases_eq k key) [
 pub no_numbers : (xs : List ℕ) → length xs ≡ 0 → xs ≡ []
 no_numbers [] h = refl
 no_numbers (x ∷ xs) h = absurd (omega arith)
-
--- ---- labels
-
-pub label-read : (rows : List (Vec ℕ Global)) (k i : ℕ) (v : Vec ℕ Global) (label : ℕ) → k < length rows → v ≡ get_or rows k v → get_or v.items i 0 ≡ label → label ≡ label_in rows k i
-label-read rows k i v label h e l = sym (ap (λ z. get_or z i 0) (row-read rows k v h e) ∙ l)
-
--- a row is exchanged for one that has the label, and says the same at other places
-pub label-set : (old new : List (Vec ℕ Global)) (k i label : ℕ) (row : Vec ℕ Global) → length new ≡ length old → k < length old → row_in new k ≡ row.items → ((j : ℕ) → j ≢ k → row_in new j ≡ row_in old j) → get_or row.items i 0 ≡ label → ((n : ℕ) → n ≢ i → get_or row.items n 0 ≡ label_in old k n) → IsLabelSet old new k i label
-label-set old new k i label row size h here elsewhere set others = record {
-  size = size;
-  set = ap (λ z. get_or z i 0) here ∙ set;
-  others = λ j n w. elim (cases_eq j k) [
-    | inr ne ↦ ap (λ z. get_or z n 0) (elsewhere j ne)
-    | inl e ↦ elim w [
-      | inl ne ↦ absurd (ne e)
-      | inr ne ↦ ap (λ z. get_or (row_in new z) n 0) e ∙ ap (λ z. get_or z n 0) here ∙ others n ne ∙ ap (λ z. get_or (row_in old z) n 0) (sym e)
-    ]
-  ];
-}

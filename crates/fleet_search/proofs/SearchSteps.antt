@@ -1,5 +1,5 @@
 -- The search, step by step.
-use Rattle.std.proofs.Common.{◌≡◌, ◌≢◌, ℕ, ◌+◌, ◌-◌, ◌*◌, ◌<◌, ◌≤◌, ◌==◌, cond, IsTrue, List, [], ◌∷◌, ◌++◌, length, get_or, Contains, Option, Some, None, ◌⊎◌, inl, inr, refl, sym, ap, ◌∙◌, subst, arith}
+use Rattle.std.proofs.Common.{◌≡◌, ◌≢◌, ℕ, ◌+◌, ◌-◌, ◌<◌, ◌≤◌, ◌==◌, cond, IsTrue, List, [], ◌∷◌, ◌++◌, length, get_or, Contains, Option, Some, None, ◌⊎◌, inl, inr, refl, sym, ap, ◌∙◌, subst, arith}
 use Rattle.std.specs.Prelude.{Vec}
 use Rattle.std.specs.declared.alloc.Global.{Global}
 use Rattle.std.proofs.lemmas.Bool.{cases_eq, cases_lt, eqb-true, eq-eqb, false_from_ne_true}
@@ -14,14 +14,16 @@ use Rattle.fleet_model.specs.Geometry.{place_of, moved}
 use Rattle.fleet_model.specs.declared.limits.TheConstants.{MAX_HORIZON}
 use Rattle.fleet_grid.specs.Ground.{is_passable, cell_index}
 use Rattle.fleet_search.specs.declared.moment.Moment.{Moment}
-use Rattle.fleet_search.specs.declared.stay.Stay.{Stay}
 use Rattle.fleet_search.specs.declared.frontier.Question.{Question}
+use Rattle.fleet_search.specs.declared.labels.Labels.{Labels}
 use Rattle.fleet_search.specs.declared.frontier.Arrival.{Arrival}
+use Rattle.fleet_search.specs.declared.frontier.Leaving.{Leaving}
 use Rattle.fleet_search.specs.declared.frontier.Frontier.{Frontier}
 use Rattle.fleet_search.specs.Reserved.{IsFree, IsFreeOn}
 use Rattle.fleet_search.specs.Gaps.{IsInGap, IsFirstIn}
-use Rattle.fleet_search.specs.Rows.{row_in, IsPut, IsLabelSet}
-use Rattle.fleet_search.specs.Search.{far_of, stays_on, IsMeasured, AreBeside, IsStep, least_arrival, IsSlot, IsEnd, no_arrival, moment_in, IsKnown, IsMove, IsReachedFrom, IsSound, IsCovered, IsExpanded, IsSeen, label_of, IsFrontier, IsAsked, IsLeft, Grows, IsFreeUntil, IsFoundAt, IsFoundIn, IsFoundFrom}
+use Rattle.fleet_search.specs.Rows.{row_in, IsPut}
+use Rattle.fleet_search.specs.Labels.{earliest_in, AreLabels, IsLabelSet, IsSeen}
+use Rattle.fleet_search.specs.Search.{far_of, stays_on, IsMeasured, AreBeside, IsStep, least_arrival, IsSlot, IsEnd, no_arrival, moment_in, IsKnown, IsMove, IsReachedFrom, IsSound, IsCovered, IsExpanded, earliest_of, IsFrontier, IsAsked, FrontierIs, IsLeft, IsLeaving, Grows, LeavesOn, IsFreeUntil, IsFoundAt, IsFoundIn, IsFoundFrom}
 use Rattle.fleet_search.proofs.Spread.{back, one_place}
 use Rattle.fleet_search.proofs.Chase.{step_ok-alone}
 use Rattle.fleet_search.proofs.GapLaws.{stays-apart, one_gap, gap-free_on}
@@ -73,16 +75,6 @@ module _ (q : Question) (old new : List Arrival) (more : length old ≤ length n
       reached (inl h) = inl h
       reached (inr (u, e, l, m)) = inr (u, e, omega arith, subst (λ z. IsMove q z u x.cell) (sym (same_at from l)) m)
 
-  pub seen-stays : (stays : List Stay) (c : Cell) (gap t i : ℕ) → IsSeen old stays c gap t i → IsSeen new stays c gap t i
-  seen-stays stays c gap t i s =
-      let l = s.within in
-      subst (λ z. IsSeen new stays c gap t i) (same_at i l) (record {
-        within = omega arith;
-        here = ap (λ (z : Moment). z.cell) (same_at i l) ∙ s.here;
-        inside = subst (λ (z : Moment). IsInGap stays gap z.time) (sym (same_at i l)) s.inside;
-        early = subst (λ (z : Moment). z.time ≤ t) (sym (same_at i l)) s.early;
-      })
-
   pub found_in-stays : (l : Moment) (c : Cell) (gap : ℕ) → IsFoundIn q old l c gap → IsFoundIn q new l c gap
   found_in-stays l c gap h u m g t = covered-stays c (u + 1) (h u m g t)
 
@@ -105,16 +97,28 @@ left-stays q f old new place m g l =
     let x = g.more in
     record { within = omega arith; here = same_at q old.reached.items new.reached.items g.more g.kept place w ∙ l.here; slot = l.slot }
 
+-- where the frontier grew, and is one again, the moment is still being left
+pub leaves_on : (q : Question) (f : ℕ) (l : Leaving) (old new : Frontier) → IsLeaving q f l old → FrontierIs q (f - 1) (Some l.place) new → Grows old new → LeavesOn q f l old new
+leaves_on q f l old new h frontier grows = record {
+  leaving = record { horizon = h.horizon; frontier = frontier; left = left-stays q f old new l.place l.at grows h.left; until = h.until };
+  grows = grows;
+}
+
+pub LeavesOn-then : (q : Question) (f : ℕ) (l : Leaving) (a b c : Frontier) → LeavesOn q f l a b → LeavesOn q f l b c → LeavesOn q f l a c
+LeavesOn-then q f l a b c g h = record { leaving = h.leaving; grows = Grows-then a b c g.grows h.grows }
+
 -- ---- what was seen before
 
 -- the cell was reached before, and is free since
-pub covered-seen : (q : Question) → IsMeasured q → (reached : List Arrival) (c : Cell) (gap t i : ℕ) → IsSeen reached (stays_on q c) c gap t i → IsInGap (stays_on q c) gap t → IsCovered q reached c t
-covered-seen q m reached c gap t i s g = record {
-  since = (moment_in reached i).time;
-  early = s.early;
-  known = (i, s.within, (let e = s.here in λ k. record { time = (moment_in reached i).time; cell = e k }));
-  free = gap-free_on q.reserved.now c (stays_on q c) (m.stays c) gap (moment_in reached i).time t s.inside g;
-}
+pub covered-seen : (q : Question) (f : ℕ) (left : Option ℕ) (reached : List Arrival) (labels : Labels) (stacks : List (Vec ℕ Global)) → IsFrontier q f left reached labels stacks → (c : Cell) (gap t : ℕ) → IsTrue (is_passable q.grid.now (place_of c)) → IsSeen (earliest_of q labels c gap) t → IsInGap (stays_on q c) gap t → IsCovered q reached c t
+covered-seen q f left reached labels stacks fr c gap t ground s g =
+    let before = fr.met c gap s.time ground g.bound s.is in
+    record {
+      since = s.time;
+      early = s.early;
+      known = before.1;
+      free = gap-free_on q.reserved.now c (stays_on q c) (fr.measured.stays c) gap s.time t before.0 g;
+    }
 
 pub covered-on : (q : Question) (reached : List Arrival) (c : Cell) (v t : ℕ) → v ≤ t → IsFreeOn q.reserved.now c v t → IsCovered q reached c v → IsCovered q reached c t
 covered-on q reached c v t h free cv = record {
@@ -127,8 +131,8 @@ covered-on q reached c v t h free cv = record {
 -- ---- one more moment is noted
 
 -- what the label of a gap says of the moment
-abbrev IsLabelled : Question → List Arrival → List (Vec ℕ Global) → Moment → Type 0
-IsLabelled q r labels m = (gap : ℕ) → IsInGap (stays_on q m.cell) gap m.time → IsSeen r (stays_on q m.cell) m.cell gap m.time (label_of q labels m.cell gap)
+abbrev IsLabelled : Question → Labels → Moment → Type 0
+IsLabelled q labels m = (gap : ℕ) → IsInGap (stays_on q m.cell) gap m.time → IsSeen (earliest_of q labels m.cell gap) m.time
 
 module _ (r r' : List Arrival) (a : Arrival) (e : r' ≡ r ++ a ∷ []) where
   pub push-long : length r' ≡ length r + 1
@@ -154,7 +158,7 @@ covered-new q r r' place u cell e free = record {
   free = λ x a b. subst (λ z. IsFree q.reserved.now z cell) (let s : u + 1 ≡ x = omega arith in s) free;
 }
 
-module _ (q : Question) (f place : ℕ) (r : List Arrival) (labels stacks : List (Vec ℕ Global)) (fr : IsFrontier q f (Some place) r labels stacks) (left : Moment) (within : place < length r) (here : moment_in r place ≡ left) (u : ℕ) (cell : Cell) (gap : ℕ) (inside : IsInGap (stays_on q cell) gap (u + 1)) (unseen : IsSeen r (stays_on q cell) cell gap (u + 1) (label_of q labels cell gap) → ⊥) (move : IsMove q left u cell) (in_time : u + 1 + far_of q cell ≤ q.horizon) (r' : List Arrival) (labels' stacks' : List (Vec ℕ Global)) (key : ℕ) (e : r' ≡ r ++ arrival_of (moment (u + 1) cell) place ∷ []) (set : IsLabelSet labels labels' (cell_index q.grid.now cell) gap (length r)) (slot : IsSlot q (moment (u + 1) cell) key) (put : IsPut stacks stacks' key (length r)) (late : f ≤ key) where
+module _ (q : Question) (f place : ℕ) (r : List Arrival) (labels : Labels) (stacks : List (Vec ℕ Global)) (fr : IsFrontier q f (Some place) r labels stacks) (left : Moment) (within : place < length r) (here : moment_in r place ≡ left) (u : ℕ) (cell : Cell) (gap : ℕ) (inside : IsInGap (stays_on q cell) gap (u + 1)) (unseen : IsSeen (earliest_of q labels cell gap) (u + 1) → ⊥) (move : IsMove q left u cell) (in_time : u + 1 + far_of q cell ≤ q.horizon) (r' : List Arrival) (labels' : Labels) (stacks' : List (Vec ℕ Global)) (key : ℕ) (e : r' ≡ r ++ arrival_of (moment (u + 1) cell) place ∷ []) (table : AreLabels labels') (set : IsLabelSet labels labels' (cell_index q.grid.now cell) gap (u + 1)) (slot : IsSlot q (moment (u + 1) cell) key) (put : IsPut stacks stacks' key (length r)) (late : f ≤ key) where
   long : length r' ≡ length r + 1
   long = push-long r r' (arrival_of (moment (u + 1) cell) place) e
 
@@ -185,7 +189,7 @@ module _ (q : Question) (f place : ℕ) (r : List Arrival) (labels stacks : List
   ]
 
   fresh : (i : ℕ) → i < length r → moment_in r i ≡ moment (u + 1) cell → ⊥
-  fresh i h s = unseen (subst (IsLabelled q r labels) s (fr.labelled i h) gap inside)
+  fresh i h s = unseen (subst (IsLabelled q labels) s (fr.labelled i h) gap inside)
 
   apart : (i k : ℕ) → i < length r' → k < length r' → moment_in r' i ≡ moment_in r' k → i ≡ k
   apart i k a b s = elim (cases i a) [
@@ -200,39 +204,51 @@ module _ (q : Question) (f place : ℕ) (r : List Arrival) (labels stacks : List
   ]
 
   -- the new arrival is the earliest in its gap
-  seen-new : (t : ℕ) → u + 1 ≤ t → IsSeen r' (stays_on q cell) cell gap t (label_of q labels' cell gap)
-  seen-new t h = subst (IsSeen r' (stays_on q cell) cell gap t) (sym set.set) (record {
-    within = (let l = long in omega arith);
-    here = ap (λ (z : Moment). z.cell) new_at;
-    inside = subst (λ (z : Moment). IsInGap (stays_on q cell) gap z.time) (sym new_at) inside;
-    early = (let s = ap (λ (z : Moment). z.time) new_at in omega arith);
-  })
+  seen-new : (t : ℕ) → u + 1 ≤ t → IsSeen (earliest_of q labels' cell gap) t
+  seen-new t h = record { time = u + 1; is = set.set; early = h }
 
-  seen-here : (t : ℕ) → IsSeen r (stays_on q cell) cell gap t (label_of q labels cell gap) → IsSeen r' (stays_on q cell) cell gap t (label_of q labels' cell gap)
+  seen-here : (t : ℕ) → IsSeen (earliest_of q labels cell gap) t → IsSeen (earliest_of q labels' cell gap) t
   seen-here t s = seen-new t (elim (cases_lt (u + 1) t) [
     | inl l ↦ (omega arith)
-    | inr l ↦ absurd (unseen (record { within = s.within; here = s.here; inside = s.inside; early = (let x = s.early in omega arith) }))
+    | inr l ↦ absurd (unseen (record { time = s.time; is = s.is; early = (let x = s.early in omega arith) }))
   ])
 
-  labelled-stays : (m : Moment) → IsTrue (is_passable q.grid.now (place_of m.cell)) → IsLabelled q r labels m → IsLabelled q r' labels' m
-  labelled-stays m ground lab k g = elim (cases_eq (cell_index q.grid.now m.cell) (cell_index q.grid.now cell)) [
-    | inr ne ↦ other (inl ne)
+  -- a gap of a cell is the one in which the new arrival is, or its label stays
+  one_or_other : (c : Cell) (k : ℕ) → IsTrue (is_passable q.grid.now (place_of c)) → ((c ≡ cell) × (k ≡ gap)) ⊎ (earliest_of q labels' c k ≡ earliest_of q labels c k)
+  one_or_other c k ground = elim (cases_eq (cell_index q.grid.now c) (cell_index q.grid.now cell)) [
+    | inr ne ↦ inr (set.others (cell_index q.grid.now c) k (inl ne))
     | inl s ↦ elim (cases_eq k gap) [
-      | inr ne ↦ other (inr ne)
-      | inl n ↦
-          let same : m.cell ≡ cell = one_place q.grid.now m.cell cell fr.measured.far.ready.map ground move.step.on_ground s in
-          let old : IsSeen r (stays_on q cell) cell gap m.time (label_of q labels cell gap) = subst (λ z. IsSeen r (stays_on q cell) cell z m.time (label_of q labels cell z)) n (subst (λ c. IsSeen r (stays_on q c) c k m.time (label_of q labels c k)) same (lab k g)) in
-          subst (λ c. IsSeen r' (stays_on q c) c k m.time (label_of q labels' c k)) (sym same) (subst (λ z. IsSeen r' (stays_on q cell) cell z m.time (label_of q labels' cell z)) (sym n) (seen-here m.time old))
+      | inr ne ↦ inr (set.others (cell_index q.grid.now c) k (inr ne))
+      | inl n ↦ inl (one_place q.grid.now c cell fr.measured.far.ready.map ground move.step.on_ground s, n)
     ]
   ]
-    where
-      other : (cell_index q.grid.now m.cell ≢ cell_index q.grid.now cell) ⊎ (k ≢ gap) → IsSeen r' (stays_on q m.cell) m.cell k m.time (label_of q labels' m.cell k)
-      other w = subst (IsSeen r' (stays_on q m.cell) m.cell k m.time) (sym (set.others (cell_index q.grid.now m.cell) k w)) (seen-stays q r r' more kept (stays_on q m.cell) m.cell k m.time (label_of q labels m.cell k) (lab k g))
 
-  labelled : (i : ℕ) → i < length r' → IsLabelled q r' labels' (moment_in r' i)
+  labelled-stays : (m : Moment) → IsTrue (is_passable q.grid.now (place_of m.cell)) → IsLabelled q labels m → IsLabelled q labels' m
+  labelled-stays m ground lab k g = elim (one_or_other m.cell k ground) [
+    | inr same ↦ subst (λ z. IsSeen z m.time) (sym same) (lab k g)
+    | inl w ↦
+        let old : IsSeen (earliest_of q labels cell gap) m.time = subst (λ z. IsSeen (earliest_of q labels cell z) m.time) w.1 (subst (λ c. IsSeen (earliest_of q labels c k) m.time) w.0 (lab k g)) in
+        subst (λ c. IsSeen (earliest_of q labels' c k) m.time) (sym w.0) (subst (λ z. IsSeen (earliest_of q labels' cell z) m.time) (sym w.1) (seen-here m.time old))
+  ]
+
+  labelled : (i : ℕ) → i < length r' → IsLabelled q labels' (moment_in r' i)
   labelled i h = elim (cases i h) [
-    | inl l ↦ subst (IsLabelled q r' labels') (sym (same_at q r r' more kept i l)) (labelled-stays (moment_in r i) (fr.sound i l).on_ground (fr.labelled i l))
-    | inr s ↦ subst (IsLabelled q r' labels') (sym (ap (moment_in r') s ∙ new_at)) (λ k g. subst (λ z. IsSeen r' (stays_on q cell) cell z (u + 1) (label_of q labels' cell z)) (one_gap (stays_on q cell) (stays-apart q.reserved.now cell (stays_on q cell) (fr.measured.stays cell)) (u + 1) gap k inside g) (seen-new (u + 1) (omega arith)))
+    | inl l ↦ subst (IsLabelled q labels') (sym (same_at q r r' more kept i l)) (labelled-stays (moment_in r i) (fr.sound i l).on_ground (fr.labelled i l))
+    | inr s ↦ subst (IsLabelled q labels') (sym (ap (moment_in r') s ∙ new_at)) (λ k g. subst (λ z. IsSeen (earliest_of q labels' cell z) (u + 1)) (one_gap (stays_on q cell) (stays-apart q.reserved.now cell (stays_on q cell) (fr.measured.stays cell)) (u + 1) gap k inside g) (seen-new (u + 1) (omega arith)))
+  ]
+
+  known-new : IsKnown r' (moment (u + 1) cell)
+  known-new = (length r, (let l = long in omega arith), new_at)
+
+  met : (c : Cell) (k time : ℕ) → IsTrue (is_passable q.grid.now (place_of c)) → k ≤ length (stays_on q c) → earliest_of q labels' c k ≡ Some time → IsInGap (stays_on q c) k time × IsKnown r' (record { time = time; cell = c })
+  met c k time ground bound e = elim (one_or_other c k ground) [
+    | inr same ↦ let w = fr.met c k time ground bound (sym same ∙ e) in (w.0, known-stays q r r' more kept (moment time c) w.1)
+    | inl w ↦
+        let there : earliest_of q labels' cell gap ≡ Some time = sym (λ t. earliest_of q labels' (w.0 t) (w.1 t)) ∙ e in
+        let now : u + 1 ≡ time = same_Some (u + 1) time (sym set.set ∙ there) in (
+          subst (λ z. IsInGap (stays_on q z) k time) (sym w.0) (subst (λ z. IsInGap (stays_on q cell) z time) (sym w.1) (subst (IsInGap (stays_on q cell) gap) now inside)),
+          subst (λ z. IsKnown r' (moment time z)) (sym w.0) (subst (λ z. IsKnown r' (moment z cell)) now known-new),
+        )
   ]
 
   others : (k : ℕ) → k ≢ key → row_in stacks' k ≡ row_in stacks k
@@ -274,11 +290,12 @@ module _ (q : Question) (f place : ℕ) (r : List Arrival) (labels stacks : List
   pub pushed : IsFrontier q f (Some place) r' labels' stacks'
   pushed = record {
     measured = fr.measured;
-    size = set.size ∙ fr.size;
+    table = table;
     origin = known-stays q r r' more kept (moment 0 q.start) fr.origin;
     sound = sound;
     apart = apart;
     labelled = labelled;
+    met = met;
     stacked = stacked;
     past = λ k h. others k (λ s. omega arith) ∙ fr.past k h;
     done = done;
@@ -333,14 +350,15 @@ pub expanded : (q : Question) (reached : List Arrival) (l : Moment) → ((dir : 
 expanded q reached l there not_end = record { moves = λ u c w m h. there w.0 c w.1 u m h; not_end = not_end }
 
 -- a frontier with other parts
-pub left_done : (q : Question) (f place : ℕ) (r : List Arrival) (labels stacks : List (Vec ℕ Global)) → IsFrontier q f (Some place) r labels stacks → IsExpanded q r (moment_in r place) → IsFrontier q f None r labels stacks
+pub left_done : (q : Question) (f place : ℕ) (r : List Arrival) (labels : Labels) (stacks : List (Vec ℕ Global)) → IsFrontier q f (Some place) r labels stacks → IsExpanded q r (moment_in r place) → IsFrontier q f None r labels stacks
 left_done q f place r labels stacks fr e = record {
   measured = fr.measured;
-  size = fr.size;
+  table = fr.table;
   origin = fr.origin;
   sound = fr.sound;
   apart = fr.apart;
   labelled = fr.labelled;
+  met = fr.met;
   stacked = fr.stacked;
   past = fr.past;
   done = λ i h. elim (fr.done i h) [
@@ -350,28 +368,30 @@ left_done q f place r labels stacks fr e = record {
 }
 
 -- fewer stacks need be empty
-pub lower : (q : Question) (f g : ℕ) (left : Option ℕ) (r : List Arrival) (labels stacks : List (Vec ℕ Global)) → g ≤ f → IsFrontier q f left r labels stacks → IsFrontier q g left r labels stacks
+pub lower : (q : Question) (f g : ℕ) (left : Option ℕ) (r : List Arrival) (labels : Labels) (stacks : List (Vec ℕ Global)) → g ≤ f → IsFrontier q f left r labels stacks → IsFrontier q g left r labels stacks
 lower q f g left r labels stacks h fr = record {
   measured = fr.measured;
-  size = fr.size;
+  table = fr.table;
   origin = fr.origin;
   sound = fr.sound;
   apart = fr.apart;
   labelled = fr.labelled;
+  met = fr.met;
   stacked = fr.stacked;
   past = λ k l. fr.past k (omega arith);
   done = fr.done;
 }
 
 -- where nothing new was put on the stacks, those that were empty still are
-pub raise : (q : Question) (f g : ℕ) (left : Option ℕ) (r : List Arrival) (labels stacks before : List (Vec ℕ Global)) → IsFrontier q g left r labels stacks → ((k : ℕ) → row_in stacks k ≡ row_in before k) → ((k : ℕ) → k < f → row_in before k ≡ []) → IsFrontier q f left r labels stacks
+pub raise : (q : Question) (f g : ℕ) (left : Option ℕ) (r : List Arrival) (labels : Labels) (stacks before : List (Vec ℕ Global)) → IsFrontier q g left r labels stacks → ((k : ℕ) → row_in stacks k ≡ row_in before k) → ((k : ℕ) → k < f → row_in before k ≡ []) → IsFrontier q f left r labels stacks
 raise q f g left r labels stacks before fr same past = record {
   measured = fr.measured;
-  size = fr.size;
+  table = fr.table;
   origin = fr.origin;
   sound = fr.sound;
   apart = fr.apart;
   labelled = fr.labelled;
+  met = fr.met;
   stacked = fr.stacked;
   past = λ k l. same k ∙ past k l;
   done = fr.done;
@@ -379,7 +399,7 @@ raise q f g left r labels stacks before fr same past = record {
 
 -- ---- the last moment of a stack is taken
 
-module _ (q : Question) (f : ℕ) (r : List Arrival) (labels stacks stacks' : List (Vec ℕ Global)) (place : ℕ) (fr : IsFrontier q f None r labels stacks) (e : row_in stacks f ≡ row_in stacks' f ++ place ∷ []) (others : (k : ℕ) → k ≢ f → row_in stacks' k ≡ row_in stacks k) where
+module _ (q : Question) (f : ℕ) (r : List Arrival) (labels : Labels) (stacks stacks' : List (Vec ℕ Global)) (place : ℕ) (fr : IsFrontier q f None r labels stacks) (e : row_in stacks f ≡ row_in stacks' f ++ place ∷ []) (others : (k : ℕ) → k ≢ f → row_in stacks' k ≡ row_in stacks k) where
   back-to : (k i : ℕ) → Contains (row_in stacks' k) i → Contains (row_in stacks k) i
   back-to k i h = elim (cases_eq k f) [
     | inl s ↦ subst (λ z. Contains (row_in stacks z) i) (sym s) (subst (λ z. Contains z i) (sym e) (Contains-append_left (row_in stacks' f) (place ∷ []) i (subst (λ z. Contains (row_in stacks' z) i) s h)))
@@ -401,11 +421,12 @@ module _ (q : Question) (f : ℕ) (r : List Arrival) (labels stacks stacks' : Li
   pub taken : IsFrontier q f (Some place) r labels stacks'
   taken = record {
     measured = fr.measured;
-    size = fr.size;
+    table = fr.table;
     origin = fr.origin;
     sound = fr.sound;
     apart = fr.apart;
     labelled = fr.labelled;
+    met = fr.met;
     stacked = λ k i h. fr.stacked k i (back-to k i h);
     past = λ k h. others k (λ s. omega arith) ∙ fr.past k h;
     done = λ i h. elim (fr.done i h) [
@@ -415,14 +436,15 @@ module _ (q : Question) (f : ℕ) (r : List Arrival) (labels stacks stacks' : Li
   }
 
 -- the stack is empty
-pub swept : (q : Question) (f : ℕ) (r : List Arrival) (labels stacks stacks' : List (Vec ℕ Global)) → IsFrontier q f None r labels stacks → row_in stacks f ≡ [] → row_in stacks' f ≡ [] → ((k : ℕ) → k ≢ f → row_in stacks' k ≡ row_in stacks k) → IsFrontier q (f + 1) None r labels stacks'
+pub swept : (q : Question) (f : ℕ) (r : List Arrival) (labels : Labels) (stacks stacks' : List (Vec ℕ Global)) → IsFrontier q f None r labels stacks → row_in stacks f ≡ [] → row_in stacks' f ≡ [] → ((k : ℕ) → k ≢ f → row_in stacks' k ≡ row_in stacks k) → IsFrontier q (f + 1) None r labels stacks'
 swept q f r labels stacks stacks' fr e e' others = record {
   measured = fr.measured;
-  size = fr.size;
+  table = fr.table;
   origin = fr.origin;
   sound = fr.sound;
   apart = fr.apart;
   labelled = fr.labelled;
+  met = fr.met;
   stacked = λ k i h. fr.stacked k i (subst (λ z. Contains z i) (same k) h);
   past = λ k h. same k ∙ elim (cases_eq k f) [ inl s ↦ ap (row_in stacks) s ∙ e | inr ne ↦ fr.past k (omega arith) ];
   done = λ i h. elim (fr.done i h) [
@@ -436,7 +458,7 @@ swept q f r labels stacks stacks' fr e e' others = record {
 
 -- ---- the start is reached, and nothing else
 
-module _ (q : Question) (ask : IsAsked q) (near : far_of q q.start ≤ q.horizon) (labels labels' none stacks : List (Vec ℕ Global)) (size : length labels ≡ q.grid.now.width * q.grid.now.height) (r : List Arrival) (e : r ≡ [] ++ arrival_of (moment 0 q.start) 0 ∷ []) (gap : ℕ) (inside : IsInGap (stays_on q q.start) gap 0) (set : IsLabelSet labels labels' (cell_index q.grid.now q.start) gap 0) (bare : (k : ℕ) → row_in none k ≡ []) (key : ℕ) (slot : IsSlot q (moment 0 q.start) key) (put : IsPut none stacks key 0) where
+module _ (q : Question) (ask : IsAsked q) (near : far_of q q.start ≤ q.horizon) (labels labels' : Labels) (none stacks : List (Vec ℕ Global)) (blank : (cell interval : ℕ) → earliest_in labels cell interval ≡ None) (table : AreLabels labels') (r : List Arrival) (e : r ≡ [] ++ arrival_of (moment 0 q.start) 0 ∷ []) (gap : ℕ) (inside : IsInGap (stays_on q q.start) gap 0) (set : IsLabelSet labels labels' (cell_index q.grid.now q.start) gap 0) (bare : (k : ℕ) → row_in none k ≡ []) (key : ℕ) (slot : IsSlot q (moment 0 q.start) key) (put : IsPut none stacks key 0) where
   open-long : length r ≡ 1
   open-long = let l = push-long [] r (arrival_of (moment 0 q.start) 0) e in omega arith
 
@@ -467,19 +489,30 @@ module _ (q : Question) (ask : IsAsked q) (near : far_of q q.start ≤ q.horizon
   within-first : 0 < length r
   within-first = let l = open-long in omega arith
 
+  open-met : (c : Cell) (k time : ℕ) → IsTrue (is_passable q.grid.now (place_of c)) → k ≤ length (stays_on q c) → earliest_of q labels' c k ≡ Some time → IsInGap (stays_on q c) k time × IsKnown r (record { time = time; cell = c })
+  open-met c k time ground bound e = elim (cases_eq (cell_index q.grid.now c) (cell_index q.grid.now q.start)) [
+    | inr ne ↦ absurd (none-some time (sym (set.others (cell_index q.grid.now c) k (inl ne) ∙ blank (cell_index q.grid.now c) k) ∙ e))
+    | inl s ↦ elim (cases_eq k gap) [
+      | inr ne ↦ absurd (none-some time (sym (set.others (cell_index q.grid.now c) k (inr ne) ∙ blank (cell_index q.grid.now c) k) ∙ e))
+      | inl n ↦
+          let here : c ≡ q.start = one_place q.grid.now c q.start ask.measured.far.ready.map ground ask.on_ground s in
+          let there : earliest_of q labels' q.start gap ≡ Some time = sym (λ t. earliest_of q labels' (here t) (n t)) ∙ e in
+          let now : 0 ≡ time = same_Some 0 time (sym set.set ∙ there) in (
+            subst (λ z. IsInGap (stays_on q z) k time) (sym here) (subst (λ z. IsInGap (stays_on q q.start) z time) (sym n) (subst (IsInGap (stays_on q q.start) gap) now inside)),
+            subst (λ z. IsKnown r (moment time z)) (sym here) (subst (λ z. IsKnown r (moment z q.start)) now (0, within-first, open-moment 0 within-first)),
+          )
+    ]
+  ]
+
   pub opening : IsFrontier q 0 None r labels' stacks
   opening = record {
     measured = ask.measured;
-    size = set.size ∙ size;
+    table = table;
     origin = (0, within-first, open-moment 0 within-first);
     sound = λ i h. subst (λ (z : Arrival). IsSound q r z.at z.from) (sym (open-at i h)) (record { reached_from = inl (refl, refl); in_time = (let b = near in omega arith); on_ground = ask.on_ground; free = ask.free });
     apart = λ i k a b s. first-place i a ∙ sym (first-place k b);
-    labelled = λ i h. subst (IsLabelled q r labels') (sym (open-moment i h)) (λ k g. subst (λ z. IsSeen r (stays_on q q.start) q.start z 0 (label_of q labels' q.start z)) (one_gap (stays_on q q.start) (stays-apart q.reserved.now q.start (stays_on q q.start) (ask.measured.stays q.start)) 0 gap k inside g) (subst (IsSeen r (stays_on q q.start) q.start gap 0) (sym set.set) (record {
-      within = within-first;
-      here = ap (λ (z : Moment). z.cell) (open-moment 0 within-first);
-      inside = subst (λ (z : Moment). IsInGap (stays_on q q.start) gap z.time) (sym (open-moment 0 within-first)) inside;
-      early = (let s = ap (λ (z : Moment). z.time) (open-moment 0 within-first) in omega arith);
-    })));
+    labelled = λ i h. subst (IsLabelled q labels') (sym (open-moment i h)) (λ k g. subst (λ z. IsSeen (earliest_of q labels' q.start z) 0) (one_gap (stays_on q q.start) (stays-apart q.reserved.now q.start (stays_on q q.start) (ask.measured.stays q.start)) 0 gap k inside g) (record { time = 0; is = set.set; early = omega arith }));
+    met = open-met;
     stacked = λ k i h. let w = only k i h in (let z = w.0 in let l = open-long in omega arith, subst (λ z. IsSlot q z k) (sym (open-moment i (let z = w.0 in let l = open-long in omega arith))) (subst (IsSlot q (moment 0 q.start)) (sym w.1) slot));
     past = λ k h. absurd (omega arith);
     done = λ i h. inl (key, subst (Contains (row_in stacks key)) (sym (first-place i h)) on-stack);

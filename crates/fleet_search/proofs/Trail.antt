@@ -9,6 +9,7 @@ use Rattle.fleet_model.specs.Geometry.{place_of}
 use Rattle.fleet_model.specs.Program.{origin}
 use Rattle.fleet_plan.specs.Plan.{cell_at}
 use Rattle.fleet_search.specs.declared.frontier.Question.{Question}
+use Rattle.fleet_search.specs.declared.labels.Labels.{Labels}
 use Rattle.fleet_search.specs.declared.frontier.Arrival.{Arrival}
 use Rattle.fleet_search.specs.declared.moment.Moment.{Moment}
 use Rattle.fleet_grid.specs.Ground.{is_passable}
@@ -34,7 +35,7 @@ pub record IsTraced (q : Question) (r : List Arrival) (n : ℕ) (last : Cell) (x
   pub free : IsFreeOn q.reserved.now (moment_in r visit).cell (moment_in r visit).time (n - back)
   pub steps : (k : ℕ) → k < back → IsStep q (n - (k + 1)) (get_or xs (k + 1) origin) (get_or xs k origin)
 
-before-came : (q : Question) (f : ℕ) (left : Option ℕ) (r : List Arrival) (labels stacks : List (Vec ℕ Global)) → IsFrontier q f left r labels stacks → (time visit : ℕ) → visit < length r → (moment_in r visit).time ≡ time → 1 ≤ time → IsBefore q r time (moment_in r visit) (get_or r visit no_arrival).from
+before-came : (q : Question) (f : ℕ) (left : Option ℕ) (r : List Arrival) (labels : Labels) (stacks : List (Vec ℕ Global)) → IsFrontier q f left r labels stacks → (time visit : ℕ) → visit < length r → (moment_in r visit).time ≡ time → 1 ≤ time → IsBefore q r time (moment_in r visit) (get_or r visit no_arrival).from
 before-came q f left r labels stacks fr time visit k e h = go (fr.sound visit k).reached_from
   where
     go : IsReachedFrom q r (moment_in r visit) (get_or r visit no_arrival).from → IsBefore q r time (moment_in r visit) (get_or r visit no_arrival).from
@@ -49,7 +50,7 @@ before-came q f left r labels stacks fr time visit k e h = go (fr.sound visit k)
           step = subst (λ z. IsStep q z from.cell (moment_in r visit).cell) at move.step;
         }
 
-before-waits : (q : Question) (f : ℕ) (left : Option ℕ) (r : List Arrival) (labels stacks : List (Vec ℕ Global)) → IsFrontier q f left r labels stacks → (time visit : ℕ) → visit < length r → (moment_in r visit).time ≢ time → (moment_in r visit).time ≤ time → IsFreeOn q.reserved.now (moment_in r visit).cell (moment_in r visit).time time → IsBefore q r time (moment_in r visit) visit
+before-waits : (q : Question) (f : ℕ) (left : Option ℕ) (r : List Arrival) (labels : Labels) (stacks : List (Vec ℕ Global)) → IsFrontier q f left r labels stacks → (time visit : ℕ) → visit < length r → (moment_in r visit).time ≢ time → (moment_in r visit).time ≤ time → IsFreeOn q.reserved.now (moment_in r visit).cell (moment_in r visit).time time → IsBefore q r time (moment_in r visit) visit
 before-waits q f left r labels stacks fr time visit k ne h free = record {
   known = k;
   early = omega arith;
@@ -62,11 +63,11 @@ before-waits q f left r labels stacks fr time visit k ne h free = record {
 }
 
 -- the visit at one step before: that from which the agent has just come, or the same
-pub before : (q : Question) (f : ℕ) (left : Option ℕ) (r : List Arrival) (labels stacks : List (Vec ℕ Global)) → IsFrontier q f left r labels stacks → (n : ℕ) (last : Cell) (xs : List Cell) (back visit next : ℕ) → IsTraced q r n last xs back visit → back < n → (((moment_in r visit).time ≡ n - back) × (next ≡ (get_or r visit no_arrival).from)) ⊎ (((moment_in r visit).time ≢ n - back) × (next ≡ visit)) → IsBefore q r (n - back) (moment_in r visit) next
+pub before : (q : Question) (f : ℕ) (left : Option ℕ) (r : List Arrival) (labels : Labels) (stacks : List (Vec ℕ Global)) → IsFrontier q f left r labels stacks → (n : ℕ) (last : Cell) (xs : List Cell) (back visit next : ℕ) → IsTraced q r n last xs back visit → back < n → (((moment_in r visit).time ≡ n - back) × (next ≡ (get_or r visit no_arrival).from)) ⊎ (((moment_in r visit).time ≢ n - back) × (next ≡ visit)) → IsBefore q r (n - back) (moment_in r visit) next
 before q f left r labels stacks fr n last xs back visit next tr h (inl w) = subst (IsBefore q r (n - back) (moment_in r visit)) (sym w.1) (before-came q f left r labels stacks fr (n - back) visit tr.known w.0 (omega arith))
 before q f left r labels stacks fr n last xs back visit next tr h (inr w) = subst (IsBefore q r (n - back) (moment_in r visit)) (sym w.1) (before-waits q f left r labels stacks fr (n - back) visit tr.known w.0 tr.early tr.free)
 
-module _ (q : Question) (f : ℕ) (left : Option ℕ) (r : List Arrival) (labels stacks : List (Vec ℕ Global)) (fr : IsFrontier q f left r labels stacks) (n : ℕ) (last : Cell) (xs : List Cell) (back : ℕ) (visit : ℕ) (tr : IsTraced q r n last xs back visit) where
+module _ (q : Question) (f : ℕ) (left : Option ℕ) (r : List Arrival) (labels : Labels) (stacks : List (Vec ℕ Global)) (fr : IsFrontier q f left r labels stacks) (n : ℕ) (last : Cell) (xs : List Cell) (back : ℕ) (visit : ℕ) (tr : IsTraced q r n last xs back visit) where
   pub traced-more : (next : ℕ) (ys : List Cell) → back < n → IsBefore q r (n - back) (moment_in r visit) next → ys ≡ xs ++ (moment_in r next).cell ∷ [] → IsTraced q r n last ys (back + 1) next
   traced-more next ys h b g = subst (λ z. IsTraced q r n last z (back + 1) next) (sym g) (record {
     long = omega (arith, length_push xs (moment_in r next).cell, tr.long);

@@ -1,41 +1,37 @@
 -- A cell is left for a neighbour, in each gap there.
-use Rattle.std.proofs.Common.{ℕ, ◌+◌, ◌-◌, ◌<◌, ◌≤◌, Some, inl, inr, sym, subst, arith}
+use Rattle.std.proofs.Common.{ℕ, ◌+◌, ◌-◌, ◌<◌, inl, inr, sym, subst, arith}
 use Rattle.std.proofs.lemmas.Bool.{cases_eq, cases_lt}
 use Rattle.fleet_model.specs.declared.geometry.Cell.{Cell}
-use Rattle.fleet_model.specs.declared.limits.TheConstants.{MAX_HORIZON}
 use Rattle.fleet_search.specs.declared.frontier.Question.{Question}
 use Rattle.fleet_search.specs.declared.frontier.Frontier.{Frontier}
 use Rattle.fleet_search.specs.declared.frontier.Leaving.{Leaving}
 use Rattle.fleet_search.specs.Gaps.{AreBegun}
-use Rattle.fleet_search.specs.Search.{stays_on, IsMeasured, FrontierIs, IsLeaving, Grows, IsFoundIn, IsFoundFrom}
+use Rattle.fleet_search.specs.Search.{stays_on, IsMeasured, LeavesOn, IsFoundIn, IsFoundFrom}
 use Rattle.fleet_search.proofs.GapLaws.{stays-apart, some_gap}
-use Rattle.fleet_search.proofs.SearchSteps.{Grows-then, left-stays, found_in-stays}
+use Rattle.fleet_search.proofs.SearchSteps.{LeavesOn-then, found_in-stays}
 
 pub record IsTurning (q : Question) (f : ℕ) (l : Leaving) (c : Cell) (gap : ℕ) (start now : Frontier) : Type 0 where
-  pub frontier : FrontierIs q (f - 1) (Some l.place) now
-  pub leaving : IsLeaving q f now l
-  pub grows : Grows start now
+  pub on : LeavesOn q f l start now
   pub each : (k : ℕ) → k < gap → IsFoundIn q now.reached.items l.at c k
 
-pub turning-more : (q : Question) (f : ℕ) (l : Leaving) (c : Cell) (gap : ℕ) (start now next : Frontier) → IsTurning q f l c gap start now → FrontierIs q (f - 1) (Some l.place) next → IsFoundIn q next.reached.items l.at c gap → Grows now next → IsTurning q f l c (gap + 1) start next
-turning-more q f l c gap start now next h fr found grows = record {
-  frontier = fr;
-  leaving = (left-stays q f now next l.place l.at grows h.leaving.0, h.leaving.1);
-  grows = Grows-then start now next h.grows grows;
+pub turning-more : (q : Question) (f : ℕ) (l : Leaving) (c : Cell) (gap : ℕ) (start now next : Frontier) → IsTurning q f l c gap start now → LeavesOn q f l now next → IsFoundIn q next.reached.items l.at c gap → IsTurning q f l c (gap + 1) start next
+turning-more q f l c gap start now next h on found = record {
+  on = LeavesOn-then q f l start now next h.on on;
   each = λ k l'. elim (cases_eq k gap) [
     | inl e ↦ subst (IsFoundIn q next.reached.items l.at c) (sym e) found
-    | inr ne ↦ found_in-stays q now.reached.items next.reached.items grows.more grows.kept l.at c k (h.each k (omega arith))
+    | inr ne ↦ found_in-stays q now.reached.items next.reached.items on.grows.more on.grows.kept l.at c k (h.each k (omega arith))
   ];
 }
 
 -- a gap after the last one begins too late
-pub turned : (q : Question) → IsMeasured q → (f : ℕ) (l : Leaving) (c : Cell) (gap last : ℕ) (start now : Frontier) → q.horizon ≤ MAX_HORIZON → IsTurning q f l c gap start now → AreBegun (stays_on q c) l.until last → last < gap → IsFoundFrom q now.reached.items l.at c
-turned q m f l c gap last start now few h b all u move in_time =
+pub turned : (q : Question) → IsMeasured q → (f : ℕ) (l : Leaving) (c : Cell) (gap last : ℕ) (start now : Frontier) → IsTurning q f l c gap start now → AreBegun (stays_on q c) l.until last → last < gap → IsFoundFrom q now.reached.items l.at c
+turned q m f l c gap last start now h b all u move in_time =
+    let horizon = h.on.leaving.horizon in
     let g = some_gap q.reserved.now c (stays_on q c) (m.stays c) (u + 1) (omega arith) move.step.fits.vertex in
     elim (cases_lt g.0 gap) [
       | inl k ↦ h.each g.0 k u move g.1 in_time
       | inr k ↦
-          let before = h.leaving.1.1 u (omega arith) move.free in
+          let before = h.on.leaving.until.1 u (omega arith) move.free in
           let bound = g.1.bound in
           let over = (g.1.over (g.0 - 1) (omega arith)).0 in
           let to_come = b.to_come (g.0 - 1) (omega arith) (omega arith) in

@@ -7,3 +7,4 @@ pub mod Distance
 pub mod Search
 pub mod InTurn
 pub mod Told
+pub mod Labels

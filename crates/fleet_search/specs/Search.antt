@@ -1,5 +1,5 @@
 -- The search over cells and times.
-use Rattle.std.specs.Prelude.{◌≡◌, ℕ, ◌+◌, ◌*◌, ◌-◌, ◌<◌, ◌≤◌, IsTrue, List, [], length, get_or, Contains, Option, None, Some, ◌↔◌, ◌⊎◌, Vec}
+use Rattle.std.specs.Prelude.{◌≡◌, ℕ, ◌+◌, ◌-◌, ◌<◌, ◌≤◌, IsTrue, List, [], length, get_or, Contains, Option, None, Some, ◌↔◌, ◌⊎◌, Vec}
 use Rattle.std.specs.declared.alloc.Global.{Global}
 use Rattle.fleet_model.specs.declared.geometry.Cell.{Cell}
 use Rattle.fleet_model.specs.Geometry.{place_of}
@@ -12,13 +12,15 @@ use Rattle.fleet_search.specs.declared.frontier.Arrival.{Arrival}
 use Rattle.fleet_search.specs.declared.frontier.Leaving.{Leaving}
 use Rattle.fleet_search.specs.declared.frontier.Frontier.{Frontier}
 use Rattle.fleet_search.specs.declared.frontier.Beside.{Beside}
-use Rattle.fleet_grid.specs.Ground.{Ground, is_passable, cell_index}
+use Rattle.fleet_grid.specs.Ground.{is_passable, cell_index}
 use Rattle.fleet_search.specs.Distance.{far, AreDistances}
 use Rattle.fleet_search.specs.Way.{StepFits}
 use Rattle.fleet_search.specs.Reserved.{IsFree, IsFreeFrom, IsFreeOn}
 use Rattle.fleet_search.specs.Stays.{HaveStays, stays_of}
 use Rattle.fleet_search.specs.Gaps.{IsInGap}
-use Rattle.fleet_search.specs.Rows.{row_in, label_in}
+use Rattle.fleet_search.specs.declared.labels.Labels.{Labels}
+use Rattle.fleet_search.specs.Labels.{earliest_in, AreLabels, IsSeen}
+use Rattle.fleet_search.specs.Rows.{row_in}
 
 -- how many moves lead from the cell to the goal at least
 abbrev pub far_of : Question → Cell → ℕ
@@ -96,36 +98,26 @@ pub record IsExpanded (q : Question) (reached : List Arrival) (m : Moment) : Typ
   pub moves : (u : ℕ) (c : Cell) → AreNeighbours m.cell c → IsMove q m u c → u + 1 + far_of q c ≤ q.horizon → IsCovered q reached c (u + 1)
   pub not_end : IsEnd q m → ⊥
 
--- the arrival at this place is one on the cell, in the gap of this number among the stays there, at the time or before
-pub record IsSeen (reached : List Arrival) (stays : List Stay) (c : Cell) (gap t i : ℕ) : Type 0 where
-  pub within : i < length reached
-  pub here : (moment_in reached i).cell ≡ c
-  pub inside : IsInGap stays gap (moment_in reached i).time
-  pub early : (moment_in reached i).time ≤ t
-
--- the label of the gap on the cell
-abbrev pub label_of : Question → List (Vec ℕ Global) → Cell → ℕ → ℕ
-label_of q labels c gap = label_in labels (cell_index q.grid.now c) gap
+-- the earliest time at which the cell was reached in the gap of this number among the stays there
+abbrev pub earliest_of : Question → Labels → Cell → ℕ → Option ℕ
+earliest_of q labels c gap = earliest_in labels (cell_index q.grid.now c) gap
 
 -- every moment that was reached is sound, and it is still to be left, or is just being left, or all moves from it were noted. Each gap in which a
--- cell was reached is labelled with the place of the earliest arrival there; so none was noted twice
-pub record IsFrontier (q : Question) (f : ℕ) (left : Option ℕ) (reached : List Arrival) (labels stacks : List (Vec ℕ Global)) : Type 0 where
+-- cell was reached is labelled with the earliest time; so none was noted twice
+pub record IsFrontier (q : Question) (f : ℕ) (left : Option ℕ) (reached : List Arrival) (labels : Labels) (stacks : List (Vec ℕ Global)) : Type 0 where
   pub measured : IsMeasured q
-  pub size : length labels ≡ q.grid.now.width * q.grid.now.height
+  pub table : AreLabels labels
   pub origin : IsKnown reached (record { time = 0; cell = q.start })
   pub sound : (i : ℕ) → i < length reached → IsSound q reached (moment_in reached i) (get_or reached i no_arrival).from
   pub apart : (i k : ℕ) → i < length reached → k < length reached → moment_in reached i ≡ moment_in reached k → i ≡ k
-  pub labelled : (i : ℕ) → i < length reached → (gap : ℕ) → IsInGap (stays_on q (moment_in reached i).cell) gap (moment_in reached i).time → IsSeen reached (stays_on q (moment_in reached i).cell) (moment_in reached i).cell gap (moment_in reached i).time (label_of q labels (moment_in reached i).cell gap)
+  pub labelled : (i : ℕ) → i < length reached → (gap : ℕ) → IsInGap (stays_on q (moment_in reached i).cell) gap (moment_in reached i).time → IsSeen (earliest_of q labels (moment_in reached i).cell gap) (moment_in reached i).time
+  pub met : (c : Cell) (gap time : ℕ) → IsTrue (is_passable q.grid.now (place_of c)) → gap ≤ length (stays_on q c) → earliest_of q labels c gap ≡ Some time → IsInGap (stays_on q c) gap time × IsKnown reached (record { time = time; cell = c })
   pub stacked : (k i : ℕ) → Contains (row_in stacks k) i → (i < length reached) × IsSlot q (moment_in reached i) k
   pub past : (k : ℕ) → k < f → row_in stacks k ≡ []
   pub done : (i : ℕ) → i < length reached → ((k : ℕ) × Contains (row_in stacks k) i) ⊎ ((left ≡ Some i) ⊎ IsExpanded q reached (moment_in reached i))
 
 abbrev pub FrontierIs : Question → ℕ → Option ℕ → Frontier → Type 0
-FrontierIs q f left s = IsFrontier q f left s.reached.items s.labels.items s.stacks.items
-
--- there is a row of labels for each cell of the map
-abbrev pub HasRows : Ground → Frontier → Type 0
-HasRows g s = length s.labels.items ≡ g.width * g.height
+FrontierIs q f left s = IsFrontier q f left s.reached.items s.labels s.stacks.items
 
 -- the moment may be left by moves that begin before this time, and by no later ones
 abbrev pub IsFreeUntil : Question → Moment → ℕ → Type 0
@@ -137,15 +129,23 @@ pub record IsLeft (q : Question) (f : ℕ) (s : Frontier) (place : ℕ) (m : Mom
   pub here : moment_in s.reached.items place ≡ m
   pub slot : IsSlot q m f
 
--- the same, with the time until which it may be left
-abbrev pub IsLeaving : Question → ℕ → Frontier → Leaving → Type 0
-IsLeaving q f s l = IsLeft q f s l.place l.at × IsFreeUntil q l.at l.until
+-- a moment of this stack is just being left in a search by a horizon, by moves that begin before a time
+pub record IsLeaving (q : Question) (f : ℕ) (l : Leaving) (s : Frontier) : Type 0 where
+  pub horizon : q.horizon ≤ MAX_HORIZON
+  pub frontier : FrontierIs q (f - 1) (Some l.place) s
+  pub left : IsLeft q f s l.place l.at
+  pub until : IsFreeUntil q l.at l.until
 
 -- what was reached stays so; where nothing new was reached, nothing new is to be left
 pub record Grows (old new : Frontier) : Type 0 where
   pub more : length old.reached.items ≤ length new.reached.items
   pub kept : (i : ℕ) → i < length old.reached.items → get_or new.reached.items i no_arrival ≡ get_or old.reached.items i no_arrival
   pub same : length new.reached.items ≡ length old.reached.items → (k : ℕ) → row_in new.stacks.items k ≡ row_in old.stacks.items k
+
+-- the moment is still being left, and nothing was lost of what was reached
+pub record LeavesOn (q : Question) (f : ℕ) (l : Leaving) (old new : Frontier) : Type 0 where
+  pub leaving : IsLeaving q f l new
+  pub grows : Grows old new
 
 -- the cell lies beside the one that is left, and these are the stays there
 pub record IsBeside (q : Question) (left : Cell) (b : Beside) : Type 0 where

@@ -3,7 +3,8 @@
 ghost use Rattle.std.specs.Prelude.{◌≡◌, IfOk, IfErr, OnOk};
 ghost use Rattle.fleet_grid.specs.Ground.{is_passable};
 ghost use Rattle.fleet_search.specs.Distance.{IsReady};
-ghost use Rattle.fleet_search.specs.Search.{IsAsked, HasRows};
+ghost use Rattle.fleet_search.specs.Search.{IsAsked};
+ghost use Rattle.fleet_search.specs.Labels.{AreLabels};
 ghost use Rattle.fleet_search.specs.Way.{IsEarliest, HasNoWay};
 
 use crate::distances::Distances;
@@ -18,10 +19,10 @@ use std::alloc::Global;
 /// Looks for paths in the order of their arrival.
 fn search(frontier: &mut Frontier, question: &Question) -> Result<Path, SearchFault>
     requires asked { IsAsked question.now }
-    requires rows { HasRows question.now.grid.now frontier.old }
+    requires labels { AreLabels frontier.old.labels }
     ensures ok { IfOk result (IsEarliest (is_passable question.now.grid.now) question.now.reserved.now question.now.start question.now.goal question.now.horizon) }
     ensures no_path { IfErr result (λ e. e ≡ SearchFault.NoPath → HasNoWay (is_passable question.now.grid.now) question.now.reserved.now question.now.start question.now.goal question.now.horizon) }
-    ensures rows { OnOk result (HasRows question.now.grid.now frontier.new) }
+    ensures labels { OnOk result (AreLabels frontier.new.labels) }
 {
     if question.far(question.start) > question.horizon {
         return Err(SearchFault::NoPath);
@@ -57,9 +58,9 @@ pub fn earliest_over(
     horizon: u16,
 ) -> Result<Path, SearchFault>
     requires ready { IsReady grid.now distances.old.labels.items distances.old.search }
-    requires rows { HasRows grid.now frontier.old }
+    requires labels { AreLabels frontier.old.labels }
     ensures ready { OnOk result (IsReady grid.now distances.new.labels.items distances.new.search) }
-    ensures rows { OnOk result (HasRows grid.now frontier.new) }
+    ensures labels { OnOk result (AreLabels frontier.new.labels) }
     ensures ok { IfOk result (IsEarliest (is_passable grid.now) reserved.now start goal horizon) }
     ensures no_path { IfErr result (λ e. e ≡ SearchFault.NoPath → HasNoWay (is_passable grid.now) reserved.now start goal horizon) }
 {
@@ -103,7 +104,7 @@ pub fn earliest(
     ensures no_path { IfErr result (λ e. e ≡ SearchFault.NoPath → HasNoWay (is_passable grid.now) reserved.now start goal horizon) }
 {
     let mut distances = Distances::new(alloc, grid)?;
-    let mut frontier = Frontier::new(alloc, grid)?;
+    let mut frontier = Frontier::new(alloc);
     earliest_over(
         grid,
         reserved,

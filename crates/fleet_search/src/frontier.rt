@@ -10,14 +10,16 @@ ghost use Rattle.fleet_model.specs.declared.geometry.Cell.{Cell};
 ghost use Rattle.fleet_model.specs.declared.limits.TheConstants.{MAX_HORIZON};
 ghost use Rattle.fleet_search.specs.Reserved.{IsFree};
 ghost use Rattle.fleet_search.specs.Way.{StepFits};
-ghost use Rattle.fleet_search.specs.Gaps.{AreApart, IsInGap};
-ghost use Rattle.fleet_search.specs.Search.{far_of, stays_on, IsMeasured, IsEnd, IsSlot, IsLeft, IsLeaving, FrontierIs, HasRows, Grows, IsAsked, IsSearched, IsTrailOf, IsFreeUntil, IsFoundAt, IsFoundIn, IsFoundFrom, IsBeside, IsSwept, IsFound, IsSeen};
+ghost use Rattle.fleet_search.specs.Gaps.{IsInGap};
+ghost use Rattle.fleet_search.specs.Search.{far_of, stays_on, IsMeasured, IsEnd, IsSlot, IsLeft, IsLeaving, LeavesOn, FrontierIs, Grows, IsAsked, IsSearched, IsTrailOf, IsFreeUntil, IsFoundAt, IsFoundIn, IsFoundFrom, IsBeside, IsSwept, IsFound};
+ghost use Rattle.fleet_search.specs.Labels.{AreLabels};
 
 use crate::distances::Distances;
-use crate::gaps::{first_in, is_in_gap, next_begin};
+use crate::gaps::{first_in, next_begin};
+use crate::labels::Labels;
 use crate::moment::Moment;
 use crate::reservations::Reservations;
-use crate::rows::{clear, label, put, set_label, take};
+use crate::rows::{clear, put, take};
 use crate::stay::Stay;
 use crate::timetable::{begun, stays_on};
 use fleet_grid::Grid;
@@ -121,40 +123,23 @@ pub struct Beside<'a> {
 pub struct Frontier {
     pub alloc: Global,
     pub reached: Vec<Arrival>,
-    /// For each cell and each gap between stays there the place of the earliest arrival. Labels of earlier searches stay:
-    /// a label counts only where what stands at its place is an arrival in the gap.
-    pub labels: Vec<Vec<usize>>,
+    /// For each gap between stays on a cell the earliest arrival.
+    pub labels: Labels,
     /// The places of the moments that are still to be left.
     pub stacks: Vec<Vec<usize>>,
 }
 
 impl Frontier {
-    pub fn new(alloc: Global, grid: &Grid) -> Result<Frontier, OutOfMemory>
-        ensures { IfOk result (HasRows grid.now) }
+    /// Nothing was reached. Takes no memory.
+    pub fn new(alloc: Global) -> Frontier
+        ensures { AreLabels result.labels }
     {
-        let mut labels = Vec::new(alloc);
-        for _row in 0..usize::from(grid.width()) * usize::from(grid.height()) {
-            labels.push(Vec::new(alloc))?;
-        }
-        Ok(Frontier {
+        Frontier {
             alloc,
             reached: Vec::new(alloc),
-            labels,
+            labels: Labels::new(alloc),
             stacks: Vec::new(alloc),
-        })
-    }
-
-    /// Whether the place is that of an arrival in the gap, at the time or before.
-    fn is_seen(&self, stays: &[Stay], cell: Cell, gap: usize, time: u32, place: usize) -> bool
-        requires apart { AreApart stays.now }
-        requires gap { gap ≤ length stays.now }
-        ensures { IsTrue result ↔ IsSeen self.now.reached.items stays.now cell gap time place }
-    {
-        if place >= self.reached.len() {
-            return false;
         }
-        let seen = self.reached[place].at;
-        seen.cell == cell && seen.time <= time && is_in_gap(stays, gap, seen.time)
     }
 
     /// Notes that the cell is reached in the gap by the step that begins at the time, where that fits and is not too late,
@@ -168,30 +153,25 @@ impl Frontier {
         gap: usize,
         begin: u32,
     ) -> Result<(), OutOfMemory>
-        requires horizon { question.now.horizon ≤ MAX_HORIZON }
-        requires frontier { FrontierIs question.now (slot - 1) (Some left.place) self.old }
-        requires left { IsLeaving question.now slot self.old left }
+        requires leaving { IsLeaving question.now slot left self.old }
         requires waits { left.at.time ≤ begin }
         requires free { begin < left.until }
         requires gap { IsInGap beside.now.stays.now gap (begin + 1) }
         requires beside { IsBeside question.now left.at.cell beside.now }
-        ensures frontier { OnOk result (FrontierIs question.now (slot - 1) (Some left.place) self.new) }
+        ensures leaves_on { OnOk result (LeavesOn question.now slot left self.old self.new) }
         ensures found { OnOk result (IsFoundAt question.now self.new.reached.items left.at beside.now.cell begin) }
-        ensures grows { OnOk result (Grows self.old self.new) }
-        ensures left { OnOk result (IsLeaving question.now slot self.new left) }
     {
         if begin >= question.horizon {
             return Ok(());
         }
         let time = begin + 1;
         let cell = beside.cell;
-        let far = question.far(cell);
-        if time + far > question.horizon {
+        let number = question.grid.cell_index(cell);
+        if self.labels.is_reached(number, gap, time) {
             return Ok(());
         }
-        let row = question.grid.cell_index(cell);
-        let seen = label(self.labels.as_slice(), row, gap);
-        if self.is_seen(beside.stays, cell, gap, time, seen) {
+        let far = question.far(cell);
+        if time + far > question.horizon {
             return Ok(());
         }
         if !question.fits(left, cell, begin) {
@@ -203,7 +183,7 @@ impl Frontier {
             at,
             from: left.place,
         })?;
-        set_label(&mut self.labels, row, gap, place)?;
+        self.labels.note(number, gap, time as u16)?;
         put(
             self.alloc,
             &mut self.stacks,
@@ -222,16 +202,11 @@ impl Frontier {
         beside: &Beside,
         gap: usize,
     ) -> Result<(), OutOfMemory>
-        requires horizon { question.now.horizon ≤ MAX_HORIZON }
-        requires frontier { FrontierIs question.now (slot - 1) (Some left.place) self.old }
-        requires left { IsLeaving question.now slot self.old left }
-        requires few { left.at.time < 4294967295 }
+        requires leaving { IsLeaving question.now slot left self.old }
         requires gap { gap ≤ length beside.now.stays.now }
         requires beside { IsBeside question.now left.at.cell beside.now }
-        ensures frontier { OnOk result (FrontierIs question.now (slot - 1) (Some left.place) self.new) }
+        ensures leaves_on { OnOk result (LeavesOn question.now slot left self.old self.new) }
         ensures found { OnOk result (IsFoundIn question.now self.new.reached.items left.at beside.now.cell gap) }
-        ensures grows { OnOk result (Grows self.old self.new) }
-        ensures left { OnOk result (IsLeaving question.now slot self.new left) }
     {
         let Some(time) = first_in(beside.stays, gap, left.at.time + 1) else {
             return Ok(());
@@ -251,15 +226,10 @@ impl Frontier {
         left: Leaving,
         beside: &Beside,
     ) -> Result<(), OutOfMemory>
-        requires horizon { question.now.horizon ≤ MAX_HORIZON }
-        requires frontier { FrontierIs question.now (slot - 1) (Some left.place) self.old }
-        requires left { IsLeaving question.now slot self.old left }
-        requires few { left.at.time < 4294967295 }
+        requires leaving { IsLeaving question.now slot left self.old }
         requires beside { IsBeside question.now left.at.cell beside.now }
-        ensures frontier { OnOk result (FrontierIs question.now (slot - 1) (Some left.place) self.new) }
+        ensures leaves_on { OnOk result (LeavesOn question.now slot left self.old self.new) }
         ensures found { OnOk result (IsFoundFrom question.now self.new.reached.items left.at beside.now.cell) }
-        ensures grows { OnOk result (Grows self.old self.new) }
-        ensures left { OnOk result (IsLeaving question.now slot self.new left) }
     {
         let first = begun(beside.stays, left.at.time + 1);
         let last = begun(beside.stays, left.until);
@@ -277,14 +247,9 @@ impl Frontier {
         left: Leaving,
         dir: Dir,
     ) -> Result<(), OutOfMemory>
-        requires horizon { question.now.horizon ≤ MAX_HORIZON }
-        requires frontier { FrontierIs question.now (slot - 1) (Some left.place) self.old }
-        requires left { IsLeaving question.now slot self.old left }
-        requires few { left.at.time < 4294967295 }
-        ensures frontier { OnOk result (FrontierIs question.now (slot - 1) (Some left.place) self.new) }
+        requires leaving { IsLeaving question.now slot left self.old }
+        ensures leaves_on { OnOk result (LeavesOn question.now slot left self.old self.new) }
         ensures found { OnOk result ((c : Cell) → place_of c ≡ moved (place_of left.at.cell) dir → IsFoundFrom question.now self.new.reached.items left.at c) }
-        ensures grows { OnOk result (Grows self.old self.new) }
-        ensures left { OnOk result (IsLeaving question.now slot self.new left) }
     {
         match question.grid.neighbour(left.at.cell, dir) {
             None => Ok(()),
@@ -344,7 +309,7 @@ impl Frontier {
     pub fn open(&mut self, question: &Question) -> Result<(), OutOfMemory>
         requires asked { IsAsked question.now }
         requires in_time { far_of question.now question.now.start ≤ question.now.horizon }
-        requires rows { HasRows question.now.grid.now self.old }
+        requires labels { AreLabels self.old.labels }
         ensures { OnOk result (FrontierIs question.now 0 None self.new) }
     {
         self.reached.clear();
@@ -355,9 +320,9 @@ impl Frontier {
             cell: start,
         };
         self.reached.push(Arrival { at, from: 0 })?;
-        let row = question.grid.cell_index(start);
         let gap = begun(question.stays(start), 0);
-        set_label(&mut self.labels, row, gap, 0)?;
+        self.labels.begin();
+        self.labels.note(question.grid.cell_index(start), gap, 0)?;
         let slot = question.slot(0, question.far(start));
         put(self.alloc, &mut self.stacks, slot, 0)?;
         Ok(())

@@ -8,6 +8,7 @@ mod earliest_path;
 mod fault;
 mod frontier;
 mod gaps;
+mod labels;
 mod laws;
 mod moment;
 mod planner;

@@ -28,7 +28,7 @@ fn plan_in_turn(
 {
     let mut reserved = Reservations::new(alloc);
     let mut distances = Distances::new(alloc, grid)?;
-    let mut frontier = Frontier::new(alloc, grid)?;
+    let mut frontier = Frontier::new(alloc);
     for agent in 0..instance.agents() {
         match earliest_over(
             grid,

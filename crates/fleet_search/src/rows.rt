@@ -1,7 +1,7 @@
-//! Rows of numbers: stacks, and labels.
+//! Rows of numbers: stacks.
 
-ghost use Rattle.std.specs.Prelude.{◌≡◌, ◌≢◌, ◌<◌, ◌++◌, ◌∷◌, [], ℕ, OnOk, IfSome, IfNone, length, get_or};
-ghost use Rattle.fleet_search.specs.Rows.{row_in, label_in, IsPut, IsLabelSet};
+ghost use Rattle.std.specs.Prelude.{◌≡◌, ◌≢◌, ◌<◌, ◌++◌, ◌∷◌, [], ℕ, OnOk, IfSome, IfNone, length};
+ghost use Rattle.fleet_search.specs.Rows.{row_in, IsPut};
 
 use fleet_model::OutOfMemory;
 use std::alloc::Global;
@@ -51,51 +51,15 @@ pub fn take(rows: &mut Vec<Vec<usize>>, key: u32) -> Option<usize>
     }
 }
 
-/// Takes all numbers out of the rows.
+/// How many rows are kept from one search to the next.
+const KEPT: usize = 8192;
+
+/// Takes all numbers out of the rows. After a search that used many, most of them are let go.
 pub fn clear(rows: &mut Vec<Vec<usize>>)
     ensures { (k : ℕ) → row_in rows.new.items k ≡ [] }
 {
+    rows.truncate(KEPT);
     for row in rows.iter_mut() {
         row.clear();
     }
-}
-
-/// The label at a place of the row.
-pub fn label(rows: &[Vec<usize>], key: usize, place: usize) -> usize
-    requires { key < length rows.now }
-    ensures { result ≡ label_in rows.now key place }
-{
-    let row = &rows[key];
-    if place >= row.len() {
-        return 0;
-    }
-    row[place]
-}
-
-/// Sets the label at a place of the one row.
-fn set_in(row: &mut Vec<usize>, place: usize, label: usize) -> Result<(), OutOfMemory>
-    requires { place < 4294967295 }
-    ensures set { OnOk result (get_or row.new.items place 0 ≡ label) }
-    ensures others { OnOk result ((n : ℕ) → n ≢ place → get_or row.new.items n 0 ≡ get_or row.old.items n 0) }
-{
-    if row.len() <= place {
-        row.resize(place + 1, 0)?;
-    }
-    row[place] = label;
-    Ok(())
-}
-
-/// Sets the label at a place of the row of this number.
-pub fn set_label(
-    rows: &mut Vec<Vec<usize>>,
-    key: usize,
-    place: usize,
-    label: usize,
-) -> Result<(), OutOfMemory>
-    requires row { key < length rows.old.items }
-    requires few { place < 4294967295 }
-    ensures { OnOk result (IsLabelSet rows.old.items rows.new.items key place label) }
-{
-    set_in(&mut rows[key], place, label)?;
-    Ok(())
 }

@@ -83,17 +83,17 @@ fn a_pair_is_driven(rt: HostRuntime) -> Result<(), Fail> {
     let alloc = rt.alloc();
     let grid = read_map(alloc, PAIR_MAP)?;
     let instance = read_scen(alloc, PAIR_SCEN, &grid, None)?;
-    let runs: [(&[u8], u32, &[u8]); 4] = [
-        (b"", 0, PAIR_TRACE),
+    let runs: [(&[u8], Report, &[u8]); 4] = [
+        (b"", report_of(3, 0), PAIR_TRACE),
         // The held agent was not ready.
-        (b"1\n", 0, PAIR_TRACE),
-        (b"0\r\n", 1, LATE_TRACE),
+        (b"1\n", report_of(3, 0), PAIR_TRACE),
+        (b"0\r\n", report_of(4, 1), LATE_TRACE),
         // The last line is never read.
-        (b"-\n-\n-\nxyz", 0, PAIR_TRACE),
+        (b"-\n-\n-\nxyz", report_of(3, 0), PAIR_TRACE),
     ];
-    for (holds, held, text) in runs {
+    for (holds, report, text) in runs {
         let fleet = fleet_of(alloc, pair(alloc)?, &grid, &instance)?;
-        check_run(&rt, alloc, fleet, holds, report_of(3 + held, held), text)?;
+        check_run(&rt, alloc, fleet, holds, report, text)?;
     }
     Ok(())
 }

@@ -1,4 +1,5 @@
 pub mod StepLaws
+pub mod Verdicts
 pub mod TextLaws
 pub mod BlockLaws
 pub mod DigitLemmas

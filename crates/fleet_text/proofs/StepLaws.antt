@@ -71,6 +71,15 @@ pub result_cases : {A E : Type 0} (r : Result A E) → ((x : A) × (r ≡ Ok x))
 result_cases (Ok x) = inl (x, refl)
 result_cases (Err e) = inr (e, refl)
 
+-- ---- no value
+
+pub none_some : {A : Type 0} (o : Option A) (x : A) → o ≡ None → o ≡ Some x → ⊥
+none_some o x e f = cc
+
+pub option_cases : {A : Type 0} (o : Option A) → (o ≡ None) ⊎ ((x : A) × (o ≡ Some x))
+option_cases None = inl refl
+option_cases (Some x) = inr (x, refl)
+
 -- ---- tests
 
 pub both : (a b : Bool) → (a && b) ≡ true → (a ≡ true) × (b ≡ true)

@@ -1,9 +1,10 @@
 -- The positions that begin in a tick, agent by agent, and the cells that a path comes to.
-use Rattle.std.proofs.Common.{◌≡◌, ℕ, zero, suc, ◌+◌, ◌<◌, Bool, true, false, List, [], ◌∷◌, ◌++◌, length, map, Option, None, Some, refl, ap, sym, ◌∙◌, subst, arith, add-one, rules, IsTrue}
+use Rattle.std.proofs.Common.{◌≡◌, ℕ, zero, suc, ◌+◌, ◌<◌, ◌≤◌, Bool, true, false, List, [], ◌∷◌, ◌++◌, length, map, Option, None, Some, refl, ap, sym, ◌∙◌, subst, arith, add-one, rules, IsTrue, inl, inr}
 use Rattle.std.specs.Prelude.{IfNone, IfSome, IsSome}
 use Rattle.std.specs.List.{filter}
 use Rattle.std.proofs.lemmas.List.{map-append, append_assoc}
 use Rattle.std.proofs.lemmas.List.Elements.{filter-append}
+use Rattle.std.proofs.lemmas.Bool.{cases_lt}
 use Rattle.std.proofs.lemmas.Option.{same_Some}
 use Rattle.fleet_model.specs.declared.geometry.Cell.{Cell}
 use Rattle.fleet_model.specs.declared.geometry.Step.{Step}
@@ -29,6 +30,18 @@ positions_no moving position n e = rw (indices_more n, filter-append, map-append
   where
     append-nil : map (λ i. visit i (position i)) (filter moving (indices n)) ++ [] ≡ map (λ i. visit i (position i)) (filter moving (indices n))
     append-nil = Rattle.std.proofs.lemmas.List.append-nil _
+
+-- where nobody moves from one agent up to another, there are no more positions
+pub positions_passed : (moving : ℕ → Bool) (position : ℕ → ℕ) (from n : ℕ) → from ≤ n → ((k : ℕ) → from ≤ k → k < n → moving k ≡ false)
+    → positions_of moving position n ≡ positions_of moving position from
+positions_passed moving position from zero le none = ap (positions_of moving position) (let e : zero ≡ from = omega (arith, le) in e)
+positions_passed moving position from (suc n) le none =
+    elim (cases_lt from (suc n)) [
+      | inl lt ↦ subst (λ x. positions_of moving position x ≡ positions_of moving position from) (add-one n)
+          (positions_no moving position n (none n (omega (arith, lt)) (omega arith))
+          ∙ positions_passed moving position from n (omega (arith, lt)) (λ k later below. none k later (omega (arith, below))))
+      | inr ge ↦ ap (positions_of moving position) (let e : suc n ≡ from = omega (arith, le, ge) in e)
+    ]
 
 pub begun_yes : (moving : ℕ → Bool) (count : ℕ → ℕ) (n : ℕ) → moving n ≡ true → begun_by moving count (n + 1) ≡ begun_by moving count n ++ visit n (count n + 1) ∷ []
 begun_yes moving count n e = positions_yes moving (λ i. count i + 1) n e

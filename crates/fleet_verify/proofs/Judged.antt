@@ -1,23 +1,23 @@
 -- The cells, one after another.
-use Rattle.std.proofs.Common.{◌≡◌, ℕ, ◌+◌, ◌<◌, ◌≤◌, Bool, true, false, List, [], ◌∷◌, length, Option, Some, None, refl, ap, sym, ◌∙◌, subst, arith, inl, inr}
-use Rattle.std.specs.Prelude.{◌⊎◌, All}
+use Rattle.std.proofs.Common.{◌≡◌, ℕ, suc, ◌+◌, ◌<◌, ◌≤◌, Bool, true, false, List, [], ◌∷◌, length, Option, Some, None, refl, ap, sym, ◌∙◌, subst, arith, inl, inr}
+use Rattle.std.specs.Prelude.{◌⊎◌, All, nat_eq}
 use Rattle.std.proofs.lemmas.Bool.{cases_eq}
 use Rattle.fleet_model.specs.declared.geometry.Cell.{Cell}
 use Rattle.fleet_model.specs.declared.geometry.Place.{Place}
 use Rattle.fleet_model.specs.declared.task.Task.{Task}
 use Rattle.fleet_model.specs.declared.program.Visit.{Visit}
-use Rattle.fleet_model.specs.Geometry.{is_same_cell, place_of, is_same_place}
-use Rattle.fleet_model.specs.Program.{Program, moves, path}
+use Rattle.fleet_model.specs.Geometry.{place_of, is_same_place}
+use Rattle.fleet_model.specs.Program.{Program, moves, path, IsCell}
 use Rattle.fleet_model.specs.Visit.{IsVisitOf, Adjacent, ComesAfter, IsOrderly}
 use Rattle.fleet_model.specs.Visit.{IsVisit}
 use Rattle.fleet_verify.proofs.Listing.{levels_number}
-use Rattle.fleet_verify.specs.declared.watch.Stay.{Stay}
+use Rattle.fleet_verify.specs.declared.visit_order.PlacedVisit.{PlacedVisit}
 use Rattle.fleet_verify.specs.declared.fault.VerifyFault.{VerifyFault}
 use Rattle.fleet_verify.specs.declared.fault.VerifyFault.TheVariants.{Unordered}
-use Rattle.fleet_verify.specs.declared.watch.Break.{Break}
+use Rattle.fleet_verify.specs.declared.visit_order.OrderViolation.{OrderViolation}
 use Rattle.indexmap.specs.IndexMap.{get}
-use Rattle.fleet_verify.specs.declared.watch.Watch.{Watch}
-use Rattle.fleet_verify.specs.Order.{visits_of, IsJudged, AreAllStays, AreBreaks, AreWatched}
+use Rattle.fleet_verify.specs.declared.visit_order.VisitOrder.{VisitOrder}
+use Rattle.fleet_verify.specs.Order.{number_of, visits_of, IsJudged, IsPlaced, AreAllPlaced, AreViolations, AreGrouped}
 use Rattle.fleet_model.proofs.Places.{is_same_place-true}
 use Rattle.fleet_model.proofs.Visits.{IsIn, is_in}
 use Rattle.fleet_verify.specs.Faults.{IsFirstBreak, HasRanges, IsFault, IsSooner, IsOrderlyAt}
@@ -46,7 +46,7 @@ judged_agent p agent n h l = record {
   here = λ m k. absurd (omega arith);
 }
 
-pub found_fault : (passable : Place → Bool) (tasks : List Task) (p : Program) (stays : List Stay) (agent n : ℕ) (c : Cell) → HasRanges passable tasks p → AreAllStays p stays → agent < length p → n ≤ moves p agent
+pub found_fault : (passable : Place → Bool) (tasks : List Task) (p : Program) (stays : List PlacedVisit) (agent n : ℕ) (c : Cell) → HasRanges passable tasks p → AreAllPlaced p stays → agent < length p → n ≤ moves p agent
     → place_of c ≡ path p agent n → AreJudged p agent n → (v w : Visit) → IsFirstBreak (ComesAfter p) (visits_of (place_of c) stays) v w → IsFault passable tasks p (Unordered c v w)
 found_fault passable tasks p stays agent n c right all a m e h v w broken = (
   record { before = right; number = all.level; numbering = levels_number p all.level all.levels },
@@ -71,7 +71,7 @@ found_fault passable tasks p stays agent n c right all a m e h v w broken = (
         turn (inl l) = h.before u.agent u.position l is.position
         turn (inr (g, l)) = subst (λ (i : ℕ). InTurn p (path p i u.position)) (sym g) (h.here u.position (omega (arith, l, begun.1.within)))
 
-pub all_in_turn : (p : Program) (stays : List Stay) (agent : ℕ) → AreAllStays p stays → AreJudged p agent 0 → length p ≤ agent → IsOrderly ComesAfter p
+pub all_in_turn : (p : Program) (stays : List PlacedVisit) (agent : ℕ) → AreAllPlaced p stays → AreJudged p agent 0 → length p ≤ agent → IsOrderly ComesAfter p
 all_in_turn p stays agent all h l q = go (visits_of q stays) refl
   where
     go : (vs : List Visit) → visits_of q stays ≡ vs → InTurn p q
@@ -89,32 +89,32 @@ judged_first p agent c h e t = subst (AreJudged p agent) (omega arith) (judged_m
 
 -- ---- by the breaks of the cells
 
-pub unbroken : (p : Program) (stays : List Stay) (breaks : Cell → Option Break) → AreAllStays p stays → AreBreaks p stays breaks → (c : Cell) → breaks c ≡ None → InTurn p (place_of c)
-unbroken p stays breaks all h c e = (visits_of (place_of c) stays, (all.sorted (place_of c)).lists, subst (IsJudged (ComesAfter p) (visits_of (place_of c) stays)) e (h c))
+pub unbroken : (p : Program) (stays : List PlacedVisit) (breaks : Cell → Option OrderViolation) → AreAllPlaced p stays → AreViolations p stays breaks → (c : Cell) → IsCell c → breaks c ≡ None → InTurn p (place_of c)
+unbroken p stays breaks all h c cell e = (visits_of (place_of c) stays, (all.sorted (place_of c)).lists, subst (IsJudged (ComesAfter p) (visits_of (place_of c) stays)) e (h c cell))
 
-pub broken_fault : (passable : Place → Bool) (tasks : List Task) (p : Program) (stays : List Stay) (breaks : Cell → Option Break) → AreBreaks p stays breaks → (agent n : ℕ) (c : Cell) → HasRanges passable tasks p → AreAllStays p stays → agent < length p → n ≤ moves p agent
-    → place_of c ≡ path p agent n → AreJudged p agent n → (f : VerifyFault) → ((b : Break) × (breaks c ≡ Some b) × (f ≡ Unordered c b.first b.second)) → IsFault passable tasks p f
-broken_fault passable tasks p stays breaks found agent n c right all a m e h f (b, is, told) =
+pub broken_fault : (passable : Place → Bool) (tasks : List Task) (p : Program) (stays : List PlacedVisit) (breaks : Cell → Option OrderViolation) → AreViolations p stays breaks → (agent n : ℕ) (c : Cell) → IsCell c → HasRanges passable tasks p → AreAllPlaced p stays → agent < length p → n ≤ moves p agent
+    → place_of c ≡ path p agent n → AreJudged p agent n → (f : VerifyFault) → ((b : OrderViolation) × (breaks c ≡ Some b) × (f ≡ Unordered c b.first b.second)) → IsFault passable tasks p f
+broken_fault passable tasks p stays breaks found agent n c cell right all a m e h f (b, is, told) =
     subst (IsFault passable tasks p) (sym told)
-    (found_fault passable tasks p stays agent n c right all a m e h b.first b.second (subst (IsJudged (ComesAfter p) (visits_of (place_of c) stays)) is (found c)))
+    (found_fault passable tasks p stays agent n c right all a m e h b.first b.second (subst (IsJudged (ComesAfter p) (visits_of (place_of c) stays)) is (found c cell)))
 
 -- a place without visits, or a cell
-some_cell : (q : Place) (stays : List Stay) → (visits_of q stays ≡ []) ⊎ ((c : Cell) × (place_of c ≡ q))
+some_cell : (p : Program) (q : Place) (stays : List PlacedVisit) → All (IsPlaced p) stays → (visits_of q stays ≡ []) ⊎ ((c : Cell) × IsCell c × (place_of c ≡ q))
 unfolding visits_of
-some_cell q [] = inl refl
-some_cell q (s ∷ stays) = go (is_same_place (place_of s.cell) q) refl (some_cell q stays)
+some_cell p q [] h = inl refl
+some_cell p q (s ∷ stays) h = go (is_same_place (place_of s.cell) q) refl (some_cell p q stays (λ k d l. h (suc k) d (omega arith)))
   where
-    go : (b : Bool) → is_same_place (place_of s.cell) q ≡ b → (visits_of q stays ≡ []) ⊎ ((c : Cell) × (place_of c ≡ q)) → (visits_of q (s ∷ stays) ≡ []) ⊎ ((c : Cell) × (place_of c ≡ q))
-    go true e rest = inr (s.cell, is_same_place-true (place_of s.cell) q e)
+    go : (b : Bool) → is_same_place (place_of s.cell) q ≡ b → (visits_of q stays ≡ []) ⊎ ((c : Cell) × IsCell c × (place_of c ≡ q)) → (visits_of q (s ∷ stays) ≡ []) ⊎ ((c : Cell) × IsCell c × (place_of c ≡ q))
+    go true e rest = inr (s.cell, (h 0 s (omega arith)).cell, is_same_place-true (place_of s.cell) q e)
     go false e (inl none) = inl (rw e none)
     go false e (inr c) = inr c
 
-pub none_broken : (p : Program) (stays : List Stay) (breaks : Cell → Option Break) → AreAllStays p stays → AreBreaks p stays breaks → ((c : Cell) → breaks c ≡ None) → IsOrderly ComesAfter p
-none_broken p stays breaks all found none q = elim (some_cell q stays) [
+pub none_broken : (p : Program) (stays : List PlacedVisit) (breaks : Cell → Option OrderViolation) → AreAllPlaced p stays → All (IsPlaced p) stays → AreViolations p stays breaks → ((c : Cell) → breaks c ≡ None) → IsOrderly ComesAfter p
+none_broken p stays breaks all each found none q = elim (some_cell p q stays each) [
   | inl e ↦ (visits_of q stays, (all.sorted q).lists, subst (Adjacent (ComesAfter p)) (sym e) tt)
-  | inr c ↦ subst (InTurn p) c.1 (unbroken p stays breaks all found c.0 (none c.0))
+  | inr (c, cell, here) ↦ subst (InTurn p) here (unbroken p stays breaks all found c cell (none c))
 ]
 
 -- what was watched
-pub breaks_of : (p : Program) (stays : List Stay) (w : Watch) → AreWatched p stays w → AreBreaks p stays (get is_same_cell w.breaks)
-breaks_of p stays w h c = (h c).judged
+pub breaks_of : (p : Program) (stays : List PlacedVisit) (w : VisitOrder) → AreGrouped p stays w → AreViolations p stays (λ c. get nat_eq w.violations (number_of c))
+breaks_of p stays w h c cell = (h c cell).judged

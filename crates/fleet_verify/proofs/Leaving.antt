@@ -1,12 +1,14 @@
 -- Whether an agent has left its visit.
-use Rattle.std.proofs.Common.{◌≡◌, ℕ, suc, ◌+◌, ◌<◌, ◌≤◌, true, false, Some, slice_get, length, ap, ◌∙◌, arith, add-one, inl, inr}
+use Rattle.std.proofs.Common.{◌≡◌, ℕ, zero, suc, ◌+◌, ◌<◌, ◌≤◌, true, false, List, [], ◌∷◌, Some, drop, slice_get, length, refl, ap, ◌∙◌, arith, add-one, inl, inr}
+use Rattle.std.specs.Option.{option_map_or}
 use Rattle.fleet_model.specs.declared.geometry.Step.{Step}
 use Rattle.fleet_model.specs.Geometry.{is_move}
 use Rattle.std.proofs.lemmas.Option.{slice_get-get_or, slice_get_within, get_or_from_slice_get}
 use Rattle.fleet_model.specs.declared.program.Await.{Await}
+use Rattle.fleet_model.specs.declared.program.Action.{Action}
 use Rattle.fleet_model.specs.declared.program.Visit.{Visit}
-use Rattle.fleet_model.specs.Program.{Program, actions_of, awaits_of, step_of}
-use Rattle.fleet_model.specs.Visit.{is_entry, next_move, leaving, IsLaterVisit, ComesAfterByAwait}
+use Rattle.fleet_model.specs.Program.{Program, moves, actions_of, awaits_of, step_of, AreMoves, NeverStays}
+use Rattle.fleet_model.specs.Visit.{is_entry, stays_before, next_move, leaving, IsLaterVisit, ComesAfterByAwait}
 use Rattle.fleet_model.proofs.Visits.{next_upto, stay_on}
 use Rattle.fleet_verify.proofs.Paths.{action_with}
 
@@ -41,3 +43,30 @@ pub after_none : (p : Program) (v w : Visit) (k : ℕ) → (IsLaterVisit v w →
 after_none p v w k own all none (inl h) = own h
 after_none p v w k own all none (inr (a, (m, l, e), f, g)) =
     none m a (omega arith) (slice_get-get_or (awaits_of p w.agent w.position) m a l ∙ ap (λ (x : Await). Some x) e) f g
+
+-- ---- a program that never stays
+
+-- there all actions of an agent are moves
+moves_of : (p : Program) (i : ℕ) → NeverStays p → AreMoves (actions_of p i)
+moves_of [] i never = λ k d l. absurd (omega arith)
+moves_of (a ∷ p) zero never = never 0 a (omega arith)
+moves_of (a ∷ p) (suc i) never = moves_of p i (λ k d l. never (suc k) d (omega arith))
+
+-- there the next action is a move
+next_at_once : (p : Program) (v : Visit) → NeverStays p → (leaving p v).number ≡ v.position + 1
+next_at_once p v never = omega (arith, none (drop v.position (actions_of p v.agent)) (moves_after v.position (actions_of p v.agent) (moves_of p v.agent never)))
+  where
+    none : (xs : List Action) → AreMoves xs → stays_before xs ≡ 0
+    none [] h = refl
+    none (x ∷ xs) h = rw (h 0 x (omega arith)) refl
+
+    moves_after : (n : ℕ) (xs : List Action) → AreMoves xs → AreMoves (drop n xs)
+    moves_after zero xs h = h
+    moves_after (suc n) [] h = h
+    moves_after (suc n) (x ∷ xs) h = moves_after n xs (λ k d l. h (suc k) d (omega arith))
+
+pub left_at_once : (p : Program) (v : Visit) (count : ℕ) → NeverStays p → v.position < count → (leaving p v).number ≤ count
+left_at_once p v count never l = omega (arith, next_at_once p v never)
+
+pub not_sooner : (p : Program) (v : Visit) (count : ℕ) → NeverStays p → (leaving p v).number ≤ count → v.position < count
+not_sooner p v count never l = omega (arith, next_at_once p v never)

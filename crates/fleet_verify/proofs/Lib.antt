@@ -27,6 +27,7 @@ pub mod Ordered
 pub mod Stays
 pub mod Wanted
 pub mod Waiting
+pub mod Arrived
 pub mod Judged
 pub mod Refuses
 pub mod Claimed

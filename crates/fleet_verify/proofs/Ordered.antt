@@ -1,22 +1,23 @@
 -- The visits of a place, one after another.
 use Rattle.std.proofs.Common.{◌≡◌, ◌≢◌, ℕ, zero, suc, ◌+◌, ◌<◌, Bool, true, false, cond, List, [], ◌∷◌, ◌++◌, length, map, get_or, Option, Some, None, slice_get, refl, ap, sym, ◌∙◌, subst, arith, inl, inr, add-one}
 use Rattle.std.specs.List.{filter}
+use Rattle.std.specs.Prelude.{◌*◌, nat_eq}
+use Rattle.std.proofs.lemmas.Bool.{cases_eq, eq-eqb, ne_eqb}
 use Rattle.std.proofs.lemmas.List.{map-append, append_assoc, append-nil, length-append}
 use Rattle.std.proofs.lemmas.List.Elements.{filter-append}
 use Rattle.std.proofs.lemmas.Option.{slice_get_within, get_or_from_slice_get}
 use Rattle.fleet_model.specs.declared.geometry.Cell.{Cell}
 use Rattle.fleet_model.specs.declared.geometry.Place.{Place}
 use Rattle.fleet_model.specs.declared.program.Visit.{Visit}
-use Rattle.fleet_model.specs.Geometry.{is_same_cell, place_of, is_same_place}
-use Rattle.fleet_model.specs.Program.{Program}
+use Rattle.fleet_model.specs.Geometry.{place_of, is_same_place}
+use Rattle.fleet_model.specs.Program.{Program, IsCell}
 use Rattle.fleet_model.specs.Visit.{is_entry, Adjacent, ComesAfter}
-use Rattle.fleet_model.proofs.Cells.{is_same_cell-true, is_same_cell-false}
 use Rattle.fleet_model.proofs.Places.{place_of-injective, is_same_place-true, is_same_place-eq}
 use Rattle.fleet_verify.proofs.Neighbours.{adjacent_at}
-use Rattle.fleet_verify.specs.declared.watch.Stay.{Stay}
-use Rattle.fleet_verify.specs.declared.watch.Break.{Break}
+use Rattle.fleet_verify.specs.declared.visit_order.PlacedVisit.{PlacedVisit}
+use Rattle.fleet_verify.specs.declared.visit_order.OrderViolation.{OrderViolation}
 use Rattle.fleet_verify.specs.Faults.{IsFirstBreak}
-use Rattle.fleet_verify.specs.Order.{visits_of, entries, IsJudged, IsJudgedNext, IsLast, IsWatched}
+use Rattle.fleet_verify.specs.Order.{number_of, visits_of, entries, IsJudged, IsJudgedNext, IsLast, IsGrouped}
 
 -- ---- the rule
 
@@ -57,20 +58,20 @@ first_break R l v w rest (xs, e) a n = subst (λ (ys : List Visit). IsFirstBreak
 
 -- ---- the visits of a place
 
-pub visits_of-append : (q : Place) (xs ys : List Stay) → visits_of q (xs ++ ys) ≡ visits_of q xs ++ visits_of q ys
+pub visits_of-append : (q : Place) (xs ys : List PlacedVisit) → visits_of q (xs ++ ys) ≡ visits_of q xs ++ visits_of q ys
 unfolding visits_of
-visits_of-append q xs ys = ap (map (λ (s : Stay). s.visit)) (filter-append (λ (s : Stay). is_same_place (place_of s.cell) q) xs ys) ∙ map-append (λ (s : Stay). s.visit) (filter (λ s. is_same_place (place_of s.cell) q) xs) (filter (λ s. is_same_place (place_of s.cell) q) ys)
+visits_of-append q xs ys = ap (map (λ (s : PlacedVisit). s.visit)) (filter-append (λ (s : PlacedVisit). is_same_place (place_of s.cell) q) xs ys) ∙ map-append (λ (s : PlacedVisit). s.visit) (filter (λ s. is_same_place (place_of s.cell) q) xs) (filter (λ s. is_same_place (place_of s.cell) q) ys)
 
 -- one stay more
-pub visits_on : (c : Cell) (s : Stay) → s.cell ≡ c → visits_of (place_of c) (s ∷ []) ≡ s.visit ∷ []
+pub visits_on : (c : Cell) (s : PlacedVisit) → s.cell ≡ c → visits_of (place_of c) (s ∷ []) ≡ s.visit ∷ []
 unfolding visits_of
 visits_on c s e = rw (e, is_same_place-eq (place_of c) (place_of c) refl) refl
 
-pub visits_off : (c : Cell) (s : Stay) → (s.cell ≡ c → ⊥) → visits_of (place_of c) (s ∷ []) ≡ []
+pub visits_off : (c : Cell) (s : PlacedVisit) → (s.cell ≡ c → ⊥) → visits_of (place_of c) (s ∷ []) ≡ []
 unfolding visits_of
 visits_off c s ne = go (is_same_place (place_of s.cell) (place_of c)) refl
   where
-    go : (b : Bool) → is_same_place (place_of s.cell) (place_of c) ≡ b → map (λ (s : Stay). s.visit) (filter (λ s. is_same_place (place_of s.cell) (place_of c)) (s ∷ [])) ≡ []
+    go : (b : Bool) → is_same_place (place_of s.cell) (place_of c) ≡ b → map (λ (s : PlacedVisit). s.visit) (filter (λ s. is_same_place (place_of s.cell) (place_of c)) (s ∷ [])) ≡ []
     go false e = rw e refl
     go true e = absurd (ne (place_of-injective s.cell c (is_same_place-true (place_of s.cell) (place_of c) e)))
 
@@ -87,12 +88,12 @@ first_break_on R l rest v w b = record {
       b.sooner k x y m (sym (slice_get_front l rest k (omega arith)) ∙ e) (sym (slice_get_front l rest (k + 1) (omega arith)) ∙ f);
 }
 
-pub watched_none : (p : Program) (c : Cell) → IsWatched p c [] None None
+pub grouped_none : (p : Program) (c : Cell) → IsGrouped p c [] None None
 unfolding visits_of
-watched_none p c = record { last = refl; judged = tt }
+grouped_none p c = record { last = refl; judged = tt }
 
 -- a list with one visit more
-judged_next : (R : Visit → Visit → Type 0) (l : List Visit) (last : Option Visit) (w : Visit) (old new : Option Break) → IsLast l last → IsJudged R l old → IsJudgedNext R last w old new → IsJudged R (l ++ w ∷ []) new
+judged_next : (R : Visit → Visit → Type 0) (l : List Visit) (last : Option Visit) (w : Visit) (old new : Option OrderViolation) → IsLast l last → IsJudged R l old → IsJudgedNext R last w old new → IsJudged R (l ++ w ∷ []) new
 judged_next R l last w None new is a (inl (h, e)) = subst (IsJudged R (l ++ w ∷ [])) (sym e) (adjacent_after R l last w is a h)
 judged_next R l last w (Some b) new is a (inl (h, e)) = subst (IsJudged R (l ++ w ∷ [])) (sym e) (first_break_on R l (w ∷ []) b.first b.second a)
 judged_next R l last w None new is a (inr (inl (b, e, f))) = absurd cc
@@ -101,47 +102,51 @@ judged_next R l last w old new is a (inr (inr (v, e, n, o, f))) =
     subst (IsJudged R (l ++ w ∷ [])) (sym f)
     (first_break R l v w [] (subst (IsLast l) e is) (subst (IsJudged R l) o a) n)
 
-pub watched_on : (p : Program) (c : Cell) (stays : List Stay) (s : Stay) (last : Option Visit) (old new : Option Break) → IsWatched p c stays last old → s.cell ≡ c → IsJudgedNext (ComesAfter p) last s.visit old new
-    → IsWatched p c (stays ++ s ∷ []) (Some s.visit) new
-watched_on p c stays s last old new h e r =
+pub grouped_on : (p : Program) (c : Cell) (stays : List PlacedVisit) (s : PlacedVisit) (last : Option Visit) (old new : Option OrderViolation) → IsGrouped p c stays last old → s.cell ≡ c → IsJudgedNext (ComesAfter p) last s.visit old new
+    → IsGrouped p c (stays ++ s ∷ []) (Some s.visit) new
+grouped_on p c stays s last old new h e r =
     let same : visits_of (place_of c) (stays ++ s ∷ []) ≡ visits_of (place_of c) stays ++ s.visit ∷ [] = visits_of-append (place_of c) stays (s ∷ []) ∙ ap (λ vs. visits_of (place_of c) stays ++ vs) (visits_on c s e) in
     record {
       last = (visits_of (place_of c) stays, same);
       judged = subst (λ (l : List Visit). IsJudged (ComesAfter p) l new) (sym same) (judged_next (ComesAfter p) (visits_of (place_of c) stays) last s.visit old new h.last h.judged r);
     }
 
-watched_off : (p : Program) (c : Cell) (stays : List Stay) (s : Stay) (last : Option Visit) (old : Option Break) → IsWatched p c stays last old → (s.cell ≡ c → ⊥) → IsWatched p c (stays ++ s ∷ []) last old
-watched_off p c stays s last old h ne =
+grouped_off : (p : Program) (c : Cell) (stays : List PlacedVisit) (s : PlacedVisit) (last : Option Visit) (old : Option OrderViolation) → IsGrouped p c stays last old → (s.cell ≡ c → ⊥) → IsGrouped p c (stays ++ s ∷ []) last old
+grouped_off p c stays s last old h ne =
     let same : visits_of (place_of c) (stays ++ s ∷ []) ≡ visits_of (place_of c) stays = visits_of-append (place_of c) stays (s ∷ []) ∙ (ap (λ vs. visits_of (place_of c) stays ++ vs) (visits_off c s ne) ∙ append-nil _) in
     record {
       last = subst (λ (vs : List Visit). IsLast vs last) (sym same) h.last;
       judged = subst (λ (vs : List Visit). IsJudged (ComesAfter p) vs old) (sym same) h.judged;
     }
 
--- one stay more, where maps have the last visit and the break of each cell
-pub watched_more : (p : Program) (stays : List Stay) (s : Stay) (c : Cell) (last last' : Option Visit) (old new : Option Break) → IsWatched p c stays last old
-    → last' ≡ cond (is_same_cell s.cell c) (Some s.visit) last → (c ≢ s.cell → new ≡ old) → (c ≡ s.cell → IsJudgedNext (ComesAfter p) last s.visit old new)
-    → IsWatched p c (stays ++ s ∷ []) last' new
-watched_more p stays s c last last' old new h e others here = go (is_same_cell s.cell c) refl
-  where
-    go : (b : Bool) → is_same_cell s.cell c ≡ b → IsWatched p c (stays ++ s ∷ []) last' new
-    go true f =
-        let on : s.cell ≡ c = is_same_cell-true s.cell c f in
-        let n : last' ≡ Some s.visit = e ∙ rw f refl in
-        subst (λ (l : Option Visit). IsWatched p c (stays ++ s ∷ []) l new) (sym n) (watched_on p c stays s last old new h on (here (sym on)))
-    go false f =
-        let off : s.cell ≡ c → ⊥ = is_same_cell-false s.cell c f in
-        let n : last' ≡ last = e ∙ rw f refl in
-        subst (λ (l : Option Visit). IsWatched p c (stays ++ s ∷ []) l new) (sym n)
-        (subst (IsWatched p c (stays ++ s ∷ []) last) (sym (others (λ g. off (sym g)))) (watched_off p c stays s last old h off))
+-- ---- cells by their numbers
 
--- what is put for one cell changes no other
-pub others_kept : (c d : Cell) (put old new : Option Break) → new ≡ cond (is_same_cell c d) put old → d ≢ c → new ≡ old
-others_kept c d put old new e apart = go (is_same_cell c d) refl
-  where
-    go : (b : Bool) → is_same_cell c d ≡ b → new ≡ old
-    go true f = absurd (apart (sym (is_same_cell-true c d f)))
-    go false f = e ∙ rw f refl
+-- no two cells have one number
+same_cell : (c d : Cell) → IsCell c → IsCell d → number_of c ≡ number_of d → c ≡ d
+same_cell c d cs ds e =
+    let y : c.y ≡ d.y = omega (arith, cs.x, ds.x) in
+    let x : c.x ≡ d.x = omega (arith, y) in
+    λ i. record { x = x i; y = y i }
+
+-- one visit more, where maps have the last visit and the violation of each cell by its number
+pub grouped_more : (p : Program) (placed : List PlacedVisit) (s : PlacedVisit) (c : Cell) (last last' : Option Visit) (old new : Option OrderViolation)
+    → IsCell s.cell → IsCell c → IsGrouped p c placed last old
+    → last' ≡ cond (nat_eq (number_of s.cell) (number_of c)) (Some s.visit) last → (number_of c ≢ number_of s.cell → new ≡ old)
+    → (c ≡ s.cell → IsJudgedNext (ComesAfter p) last s.visit old new) → IsGrouped p c (placed ++ s ∷ []) last' new
+grouped_more p placed s c last last' old new here there h e others judged = elim (cases_eq (number_of s.cell) (number_of c)) [
+  | inl f ↦
+      let on : s.cell ≡ c = same_cell s.cell c here there f in
+      let n : last' ≡ Some s.visit = e ∙ rw (eq-eqb (number_of s.cell) (number_of c) f) refl in
+      subst (λ (l : Option Visit). IsGrouped p c (placed ++ s ∷ []) l new) (sym n) (grouped_on p c placed s last old new h on (judged (sym on)))
+  | inr f ↦
+      let n : last' ≡ last = e ∙ rw (ne_eqb (number_of s.cell) (number_of c) f) refl in
+      subst (λ (l : Option Visit). IsGrouped p c (placed ++ s ∷ []) l new) (sym n)
+      (subst (IsGrouped p c (placed ++ s ∷ []) last) (sym (others (λ g. f (sym g)))) (grouped_off p c placed s last old h (λ g. f (ap number_of g))))
+]
+
+-- what is put for one number changes no other
+pub others_kept : (m n : ℕ) (put old new : Option OrderViolation) → new ≡ cond (nat_eq m n) put old → n ≢ m → new ≡ old
+others_kept m n put old new e apart = e ∙ rw (ne_eqb m n (λ f. apart (sym f))) refl
 
 pub no_entries : {X : Type 0} (xs : List X) → length xs ≡ 0 → xs ≡ []
 no_entries [] h = refl

@@ -24,10 +24,10 @@ use Rattle.fleet_verify.specs.Listing.{IsBefore, IsSortedListing}
 use Rattle.fleet_verify.proofs.Members.{contains_head, contains_later, contains_cases, contains_none, filter_has, filter_from}
 use Rattle.fleet_verify.proofs.Listing.{levels_number}
 use Rattle.fleet_verify.proofs.Neighbours.{adjacent_from}
-use Rattle.fleet_verify.specs.declared.watch.Stay.{Stay}
+use Rattle.fleet_verify.specs.declared.visit_order.PlacedVisit.{PlacedVisit}
 use Rattle.fleet_verify.specs.Walk.{begun_in}
-use Rattle.fleet_verify.specs.Order.{visits_of, entries, AreAllStays, IsStay, AreNoted, AreAllNoted}
-use Rattle.fleet_verify.specs.declared.watch.Watch.{Watch}
+use Rattle.fleet_verify.specs.Order.{visits_of, entries, AreAllPlaced, IsPlaced, AreAdded, AreAllAdded}
+use Rattle.fleet_verify.specs.declared.visit_order.VisitOrder.{VisitOrder}
 use Rattle.fleet_verify.specs.Faults.{HasRanges, AwaitsRight, EachAction}
 use Rattle.fleet_model.proofs.Places.{is_same_place-true, is_same_place-eq}
 use Rattle.fleet_verify.proofs.FreeRun.{level, levels_are, order_all, IsOrder}
@@ -60,7 +60,7 @@ contains_map f (y ∷ xs) x h = elim (contains_cases y xs x h) [
   | inr k ↦ contains_later (f y) (map f xs) (f x) (contains_map f xs x k)
 ]
 
-visit_at : (stays : List Stay) (i : ℕ) (d : Stay) → get_or (map (λ s. s.visit) stays) i d.visit ≡ (get_or stays i d).visit
+visit_at : (stays : List PlacedVisit) (i : ℕ) (d : PlacedVisit) → get_or (map (λ s. s.visit) stays) i d.visit ≡ (get_or stays i d).visit
 visit_at [] i d = refl
 visit_at (s ∷ stays) zero d = refl
 visit_at (s ∷ stays) (suc i) d = visit_at stays i d
@@ -85,16 +85,16 @@ once lev l h j k v e g = elim (cases_order j k) [
 abbrev is_at : Program → Place → Visit → Bool
 is_at p q v = is_same_place (path p v.agent v.position) q
 
-visits_are : (p : Program) (q : Place) (stays : List Stay) → All (IsStay p) stays → visits_of q stays ≡ filter (is_at p q) (map (λ s. s.visit) stays)
+visits_are : (p : Program) (q : Place) (stays : List PlacedVisit) → All (IsPlaced p) stays → visits_of q stays ≡ filter (is_at p q) (map (λ s. s.visit) stays)
 unfolding visits_of
 visits_are p q [] h = refl
 visits_are p q (s ∷ stays) h = go (is_same_place (place_of s.cell) q) refl (visits_are p q stays (λ k d l. h (suc k) d (omega arith)))
   where
     here : is_at p q s.visit ≡ is_same_place (place_of s.cell) q
-    here = ap (λ r. is_same_place r q) (sym (h 0 s (omega arith)))
+    here = ap (λ r. is_same_place r q) (sym (h 0 s (omega arith)).here)
 
-    go : (b : Bool) → is_same_place (place_of s.cell) q ≡ b → map (λ (s : Stay). s.visit) (filter (λ s. is_same_place (place_of s.cell) q) stays) ≡ filter (is_at p q) (map (λ s. s.visit) stays)
-        → map (λ (s : Stay). s.visit) (filter (λ s. is_same_place (place_of s.cell) q) (s ∷ stays)) ≡ filter (is_at p q) (map (λ s. s.visit) (s ∷ stays))
+    go : (b : Bool) → is_same_place (place_of s.cell) q ≡ b → map (λ (s : PlacedVisit). s.visit) (filter (λ s. is_same_place (place_of s.cell) q) stays) ≡ filter (is_at p q) (map (λ s. s.visit) stays)
+        → map (λ (s : PlacedVisit). s.visit) (filter (λ s. is_same_place (place_of s.cell) q) (s ∷ stays)) ≡ filter (is_at p q) (map (λ s. s.visit) (s ∷ stays))
     go true e rest = let f : is_at p q s.visit ≡ true = here ∙ e in rw (e, f) (ap (λ vs. s.visit ∷ vs) rest)
     go false e rest = let f : is_at p q s.visit ≡ false = here ∙ e in rw (e, f) rest
 
@@ -103,22 +103,23 @@ module _ (p : Program) (t : ℕ) (end : IsEnd p [] t) (fin : is_finished p (run 
   pub chain_is : AreInRange p → IsLongestChain p t
   chain_is range = unheld_is_longest p range t (record { holds = fin; least = λ s f. end.least s (rw f refl) })
 
-  pub all_stays : (w : Watch) → AreNoted p (begun_in p t) w → AreInRange p → AreAllNoted p w
-  all_stays w noted range = record {
-    stays = stays;
+  pub all_added : (w : VisitOrder) → AreAdded p (begun_in p t) w → AreInRange p → AreAllAdded p w
+  all_added w added range = record {
+    placed = placed;
     all = record {
       level = lev;
       levels = levels_are p range t fin;
       visits = visits;
-      all = λ v is. subst (λ (vs : List Visit). Contains vs v) (sym noted.same) (begins v is.agent is.position is.entered);
+      all = λ v is. subst (λ (vs : List Visit). Contains vs v) (sym added.same) (begins v is.agent is.position is.entered);
       in_order = in_order;
       sorted = sorted;
     };
-    watched = noted.watched;
+    each = added.each;
+    grouped = added.grouped;
   }
     where
-      stays : List Stay
-      stays = noted.stays
+      placed : List PlacedVisit
+      placed = added.placed
 
       lev : ActionId → ℕ
       lev = level p t fin
@@ -133,26 +134,26 @@ module _ (p : Program) (t : ℕ) (end : IsEnd p [] t) (fin : is_finished p (run 
       only_begun : (v : Visit) → Contains (entries p (begun_in p t)) v → (v.agent < length p) × (v.position ≤ moves p v.agent) × (is_entry p v.agent v.position ≡ true)
       only_begun v k = let f = filter_from (λ (w : Visit). is_entry p w.agent w.position) (begun_in p t) v k in let r = order.only v f.0 in (r.0, r.1, f.1)
 
-      visits : All (λ s. IsVisit p s.visit) stays
+      visits : All (λ s. IsVisit p s.visit) placed
       visits k d l =
-          let has : Contains (map (λ s. s.visit) stays) (get_or stays k d).visit = contains_map (λ (s : Stay). s.visit) stays (get_or stays k d) (k, l, get_or_default stays k (get_or stays k d) d l) in
-          let r = only_begun (get_or stays k d).visit (subst (λ (vs : List Visit). Contains vs (get_or stays k d).visit) noted.same has) in
+          let has : Contains (map (λ s. s.visit) placed) (get_or placed k d).visit = contains_map (λ (s : PlacedVisit). s.visit) placed (get_or placed k d) (k, l, get_or_default placed k (get_or placed k d) d l) in
+          let r = only_begun (get_or placed k d).visit (subst (λ (vs : List Visit). Contains vs (get_or placed k d).visit) added.same has) in
           record { agent = r.0; position = r.1; entered = r.2 }
 
-      in_order : AllPairs (λ s u. IsBefore lev s.visit u.visit) stays
+      in_order : AllPairs (λ s u. IsBefore lev s.visit u.visit) placed
       in_order i j d l m =
-          let pairs : AllPairs (IsBefore lev) (map (λ s. s.visit) stays) = subst (λ (vs : List Visit). AllPairs (IsBefore lev) vs) (sym noted.same) (AllPairs-filter (IsBefore lev) (λ (w : Visit). is_entry p w.agent w.position) (begun_in p t) order.sorted) in
-          let long : length (map (λ (s : Stay). s.visit) stays) ≡ length stays = length-map stays (λ (s : Stay). s.visit) in
-          subst (λ (v : Visit). IsBefore lev v (get_or stays j d).visit) (visit_at stays i d) (subst (λ (v : Visit). IsBefore lev (get_or (map (λ s. s.visit) stays) i d.visit) v) (visit_at stays j d) (pairs i j d.visit l (omega arith)))
+          let pairs : AllPairs (IsBefore lev) (map (λ s. s.visit) placed) = subst (λ (vs : List Visit). AllPairs (IsBefore lev) vs) (sym added.same) (AllPairs-filter (IsBefore lev) (λ (w : Visit). is_entry p w.agent w.position) (begun_in p t) order.sorted) in
+          let long : length (map (λ (s : PlacedVisit). s.visit) placed) ≡ length placed = length-map placed (λ (s : PlacedVisit). s.visit) in
+          subst (λ (v : Visit). IsBefore lev v (get_or placed j d).visit) (visit_at placed i d) (subst (λ (v : Visit). IsBefore lev (get_or (map (λ s. s.visit) placed) i d.visit) v) (visit_at placed j d) (pairs i j d.visit l (omega arith)))
 
-      sorted : (q : Place) → IsSortedListing p lev q (visits_of q stays)
+      sorted : (q : Place) → IsSortedListing p lev q (visits_of q placed)
       sorted q = subst (IsSortedListing p lev q) (sym same) (record { lists = lists; sorted = adjacent_from (IsBefore lev) l (λ k d m. pairs k (suc k) d (omega arith) m) })
         where
           l : List Visit
           l = filter (is_at p q) (entries p (begun_in p t))
 
-          same : visits_of q stays ≡ l
-          same = visits_are p q stays noted.each ∙ ap (filter (is_at p q)) noted.same
+          same : visits_of q placed ≡ l
+          same = visits_are p q placed added.each ∙ ap (filter (is_at p q)) added.same
 
           pairs : AllPairs (IsBefore lev) l
           pairs = AllPairs-filter (IsBefore lev) (is_at p q) (entries p (begun_in p t)) (AllPairs-filter (IsBefore lev) (λ (w : Visit). is_entry p w.agent w.position) (begun_in p t) order.sorted)
@@ -171,7 +172,7 @@ module _ (p : Program) (t : ℕ) (end : IsEnd p [] t) (fin : is_finished p (run 
 
 -- ---- accepted
 
-pub accepted : (passable : Place → Bool) (tasks : List Task) (p : Program) (stays : List Stay) → HasRanges passable tasks p → AreAllStays p stays → IsOrderly ComesAfter p → IsAccepted passable tasks p
+pub accepted : (passable : Place → Bool) (tasks : List Task) (p : Program) (stays : List PlacedVisit) → HasRanges passable tasks p → AreAllPlaced p stays → IsOrderly ComesAfter p → IsAccepted passable tasks p
 accepted passable tasks p stays h all o = record {
   right = record {
     agents = fleet;

@@ -12,7 +12,7 @@ use Rattle.fleet_model.proofs.Runs.{tick_agree}
 use Rattle.fleet_machine.specs.Machine.{MachineState, Runs, flag_of, moving_flags}
 use Rattle.fleet_machine.proofs.Indices.{indices_more}
 use Rattle.fleet_machine.proofs.Resting.{some_counted, none_counts, rests_if}
-use Rattle.fleet_verify.specs.Walk.{begun_in, moved_to, IsWalk}
+use Rattle.fleet_verify.specs.Walk.{begun_in, moved_to, IsEnded}
 use Rattle.fleet_verify.proofs.Held.{finished_all, any_below, held_past}
 use Rattle.fleet_verify.proofs.RunEnds.{run_ends, some_ready}
 use Rattle.fleet_verify.proofs.Counts.{tick_free, run_place}
@@ -69,15 +69,15 @@ pub record IsUnderWay (p : Program) (m : MachineState) (t : ℕ) : Type 0 where
   pub here : m.configuration ≡ run p [] t
   pub sooner : (s : ℕ) → s < t → is_over p (run p [] s) ≡ false
 
-walk_made : (p : Program) (m : MachineState) (t : ℕ) → IsUnderWay p m t → is_over p (run p [] t) ≡ true → IsWalk p m t
-walk_made p m t h over = record { runs = h.runs; here = h.here; end = record { holds = over; least = least } }
+made_end : (p : Program) (m : MachineState) (t : ℕ) → IsUnderWay p m t → is_over p (run p [] t) ≡ true → IsEnded p m t
+made_end p m t h over = record { runs = h.runs; here = h.here; end = record { holds = over; least = least } }
   where
     least : (s : ℕ) → IsTrue (is_over p (run p [] s)) → t ≤ s
     least s e = elim (cases_lt s t) [ inr l ↦ l | inl l ↦ absurd (let f = h.sooner s l in cc) ]
 
 -- so many ticks are enough
-pub walk_ends : (p : Program) (m : MachineState) (t : ℕ) → IsUnderWay p m t → total_moves p ≤ t → IsWalk p m t
-walk_ends p m t h enough = walk_made p m t h (go (cases_lt r.0 t))
+pub ends_by : (p : Program) (m : MachineState) (t : ℕ) → IsUnderWay p m t → total_moves p ≤ t → IsEnded p m t
+ends_by p m t h enough = made_end p m t h (go (cases_lt r.0 t))
   where
     r : (t : ℕ) × IsLeast (λ t. is_over p (run p [] t)) t × (t ≤ length {A = List ℕ} [] + total_moves p)
     r = run_ends p []
@@ -132,11 +132,11 @@ module _ (p : Program) (held : ℕ → Bool) (m : MachineState) (t : ℕ) (h : I
       at s (inr ne) l = h.sooner s (omega arith)
 
   -- nobody moved
-  pub stops : moved_in p held m.configuration ≡ 0 → IsWalk p after t
+  pub stops : moved_in p held m.configuration ≡ 0 → IsEnded p after t
   stops none =
       let still = λ (i : ℕ) (l : i < length p). none_counts (is_moving p held m.configuration) (length p) none i l in
       let rests : after.configuration ≡ run p [] t = ticked ∙ (rests_if p held m.configuration h.runs.agents still ∙ h.here) in
-      walk_made p after t (record { runs = runs; here = rests; sooner = h.sooner }) (none_over p (run p [] t) (λ i l. sym (ready_moving i l) ∙ still i l))
+      made_end p after t (record { runs = runs; here = rests; sooner = h.sooner }) (none_over p (run p [] t) (λ i l. sym (ready_moving i l) ∙ still i l))
 
   -- where it brought who moved
   pub arrived : after.moving ≡ moving_flags p held m.configuration → begun_in p t ++ moved_to after (length p) ≡ begun_in p (t + 1)

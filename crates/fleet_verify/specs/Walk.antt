@@ -1,10 +1,15 @@
 -- The run without holds, and the positions of the agents in the order in which it reaches them.
-use Rattle.std.specs.Prelude.{◌≡◌, ℕ, zero, suc, ◌+◌, ◌<◌, ◌≤◌, Bool, List, [], ◌++◌, length, map, filter, slice_index, Contains}
+use Rattle.std.specs.Prelude.{◌≡◌, ℕ, zero, suc, ◌+◌, ◌<◌, ◌≤◌, Bool, List, [], ◌++◌, length, map, filter, slice_index, Contains, All, IsTrue}
 use Rattle.fleet_model.specs.declared.program.Await.{Await}
 use Rattle.fleet_model.specs.declared.program.Visit.{Visit}
 use Rattle.fleet_model.specs.Program.{Program, moves, awaits_of}
-use Rattle.fleet_model.specs.Machine.{Configuration, count_at, is_ready, run, indices, IsEnd}
+use Rattle.fleet_model.specs.Machine.{Configuration, count_at, is_ready, is_finished, run, indices, IsEnd}
+use Rattle.fleet_model.specs.declared.geometry.Place.{Place}
+use Rattle.fleet_model.specs.declared.task.Task.{Task}
 use Rattle.fleet_machine.specs.Machine.{MachineState, Runs, flag_of}
+use Rattle.fleet_verify.specs.declared.unheld_run.UnheldRun.{UnheldRun}
+use Rattle.fleet_verify.specs.Faults.{EachAgent, EachAction, EndsRight, StandsRight}
+use Rattle.fleet_verify.specs.Order.{AreAdded}
 
 -- the counts of the configuration
 abbrev pub AreCounts : Configuration → List ℕ → Type 0
@@ -36,8 +41,31 @@ begun_in p (suc t) = begun_in p t ++ begun_by (is_ready p (run p [] t)) (count_a
 abbrev pub moved_to : MachineState → ℕ → List Visit
 moved_to m n = positions_of (flag_of m.moving) (count_at m.configuration) n
 
+-- the position of agent i: how many actions it has finished
+abbrev pub position_in : MachineState → ℕ → Visit
+position_in m i = record { agent = i; position = count_at m.configuration i }
+
 -- t ticks without holds have led the machine to the end of their run
-pub record IsWalk (p : Program) (m : MachineState) (t : ℕ) : Type 0 where
+pub record IsEnded (p : Program) (m : MachineState) (t : ℕ) : Type 0 where
   pub runs : Runs p m
   pub here : m.configuration ≡ run p [] t
   pub end : IsEnd p [] t
+
+-- at these positions of their paths the agents are on passable ground
+abbrev pub AreOnGround : (Place → Bool) → Program → List Visit → Type 0
+AreOnGround passable p positions = All (λ v. StandsRight passable p v.agent v.position) positions
+
+-- some path leaves passable ground
+abbrev pub LeavesGround : (Place → Bool) → Program → Type 0
+LeavesGround passable p = EachAction p (StandsRight passable p) → ⊥
+
+-- the run without holds to its end, with all visits that begin in it, each of them on passable ground
+pub record IsRunOnGround (passable : Place → Bool) (p : Program) (run : UnheldRun) : Type 0 where
+  pub ended : IsEnded p run.machine run.ticks
+  pub added : AreAdded p (begun_in p run.ticks) run.visits
+  pub on_ground : AreOnGround passable p (begun_in p run.ticks)
+
+-- all actions are finished, and each agent has the goal of its task and stands on it
+pub record HasArrived (tasks : List Task) (p : Program) (c : Configuration) : Type 0 where
+  pub finished : IsTrue (is_finished p c)
+  pub ends : EachAgent p (EndsRight tasks p)

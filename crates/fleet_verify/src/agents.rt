@@ -4,31 +4,21 @@ ghost use Rattle.std.specs.Prelude.{◌≡◌, ◌<◌, ◌↔◌, length, IsTru
 ghost use Rattle.std.specs.Option.{option_or};
 ghost use Rattle.fleet_model.specs.Program.{moves, path};
 ghost use Rattle.fleet_model.specs.declared.geometry.Place.{Place};
+ghost use Rattle.fleet_model.specs.Machine.{IsReached};
 ghost use Rattle.fleet_grid.specs.Ground.{is_passable};
+ghost use Rattle.fleet_machine.specs.Machine.{Runs};
 ghost use Rattle.fleet_verify.specs.Faults.{HasFleet, HasStarts, HasRanges, EndsRight, IsFault};
+ghost use Rattle.fleet_verify.specs.Walk.{HasArrived};
 
 use crate::fault::VerifyFault;
 use crate::path::judge_path;
 use fleet_grid::Grid;
+use fleet_machine::Machine;
 use fleet_model::{ActionId, Place, ProgramView};
 use fleet_scen::Instance;
 
-/// Whether fleet, starts, goals, steps and awaits are right.
-pub fn check_agents<P: ProgramView>(
-    program: &P,
-    grid: &Grid,
-    instance: &Instance,
-) -> Result<(), VerifyFault>
-    ensures ok { OnOk result (HasRanges (is_passable grid.now) instance.now (P.program program.now)) }
-    ensures err { IfErr result (λ f. IsFault (is_passable grid.now) instance.now (P.program program.now) f) }
-{
-    check_fleet(program, instance)?;
-    check_starts(program, instance)?;
-    check_paths(program, grid, instance)
-}
-
 /// Whether there are as many agents as tasks.
-fn check_fleet<P: ProgramView>(program: &P, instance: &Instance) -> Result<(), VerifyFault>
+pub fn check_fleet<P: ProgramView>(program: &P, instance: &Instance) -> Result<(), VerifyFault>
     ensures ok { OnOk result (HasFleet instance.now (P.program program.now)) }
     ensures err { IfErr result (λ f. (passable : Place → Bool) → IsFault passable instance.now (P.program program.now) f) }
 {
@@ -40,7 +30,7 @@ fn check_fleet<P: ProgramView>(program: &P, instance: &Instance) -> Result<(), V
 }
 
 /// Whether the agents start where their tasks say.
-fn check_starts<P: ProgramView>(program: &P, instance: &Instance) -> Result<(), VerifyFault>
+pub fn check_starts<P: ProgramView>(program: &P, instance: &Instance) -> Result<(), VerifyFault>
     requires { HasFleet instance.now (P.program program.now) }
     ensures ok { OnOk result (HasStarts instance.now (P.program program.now)) }
     ensures err { IfErr result (λ f. (passable : Place → Bool) → IsFault passable instance.now (P.program program.now) f) }
@@ -54,7 +44,7 @@ fn check_starts<P: ProgramView>(program: &P, instance: &Instance) -> Result<(), 
 }
 
 /// Whether goals, steps and awaits are right, by one walk along each path.
-fn check_paths<P: ProgramView>(
+pub fn check_paths<P: ProgramView>(
     program: &P,
     grid: &Grid,
     instance: &Instance,
@@ -97,6 +87,24 @@ fn ends_right<P: ProgramView>(program: &P, instance: &Instance, agent: u16, end:
 {
     let goal = program.goal(agent);
     goal == instance.goal(agent) && end == Place::from(goal)
+}
+
+/// Whether all actions are finished and each agent has the goal of its task and stands on it.
+pub fn has_arrived<P: ProgramView>(program: &P, instance: &Instance, machine: &Machine) -> bool
+    requires before { HasStarts instance.now (P.program program.now) }
+    requires runs { Runs (P.program program.now) machine.now }
+    requires reached { IsReached (P.program program.now) machine.now.configuration }
+    ensures { IsTrue result ↔ HasArrived instance.now (P.program program.now) machine.now.configuration }
+{
+    if !machine.is_finished(program) {
+        return false;
+    }
+    for agent in 0..program.agents() {
+        if !ends_right(program, instance, agent, machine.agent(agent).place) {
+            return false;
+        }
+    }
+    true
 }
 
 /// What was found before, or else this action of the agent.

@@ -13,9 +13,9 @@ mod orders;
 mod path;
 mod ring;
 mod runs;
+mod unheld_run;
 mod verifier;
-mod walk;
-mod watch;
+mod visit_order;
 
 pub use accepted::{Accepted, Refused};
 pub use fault::VerifyFault;

@@ -13,11 +13,11 @@ ghost use Rattle.fleet_verify.specs.Faults.{IsFault};
 ghost use Rattle.fleet_verify.specs.Parts.{IsAcceptedFor};
 
 use crate::accepted::{Accepted, Refused};
-use crate::agents::check_agents;
+use crate::agents::{check_fleet, check_paths, check_starts, has_arrived};
 use crate::fault::VerifyFault;
 use crate::order::check_order;
 use crate::ring::find_ring;
-use crate::walk::run_free;
+use crate::unheld_run::run_unheld;
 use fleet_grid::Grid;
 use fleet_model::ProgramView;
 use fleet_scen::Instance;
@@ -55,7 +55,8 @@ pub fn verify<'g, P: ProgramView>(
     }
 }
 
-/// The number of actions of the longest chain, if the program is accepted.
+/// The number of actions of the longest chain, if the program is accepted. A run in which nobody is held passes each action of
+/// such a program once. What is wrong is searched for in its order where that run goes wrong.
 fn judge<P: ProgramView>(
     alloc: Global,
     program: &P,
@@ -65,12 +66,17 @@ fn judge<P: ProgramView>(
     ensures ok { IfOk result (λ chain. IsAcceptedFor grid.now instance.now (P.program program.now) chain) }
     ensures err { IfErr result (λ f. IsFault (is_passable grid.now) instance.now (P.program program.now) f) }
 {
-    check_agents(program, grid, instance)?;
-    let walk = run_free(alloc, program, grid)?;
-    if !walk.machine.is_finished(program) {
-        let ring = find_ring(alloc, program, &walk.machine)?;
+    check_fleet(program, instance)?;
+    check_starts(program, instance)?;
+    let Some(run) = run_unheld(alloc, program, grid)? else {
+        check_paths(program, grid, instance)?;
+        unreachable!()
+    };
+    if !has_arrived(program, instance, &run.machine) {
+        check_paths(program, grid, instance)?;
+        let ring = find_ring(alloc, program, &run.machine)?;
         return Err(VerifyFault::Cyclic(ring));
     }
-    check_order(program, grid, instance, &walk.watch)?;
-    Ok(walk.ticks)
+    check_order(program, grid, instance, &run.visits)?;
+    Ok(run.ticks)
 }

@@ -1,10 +1,10 @@
-use Rattle.std.proofs.Common.{◌≡◌, ◌+◌, ◌*◌, ◌<◌, All, length, filter, drop, sym, ap, subst, ◌∙◌, arith}
+use Rattle.std.proofs.Common.{◌≡◌, ◌+◌, ◌<◌, All, length, filter, drop, sym, ap, subst, ◌∙◌, arith}
 use Rattle.std.proofs.lemmas.List.{take_at}
 use Rattle.fleet_model.specs.Machine.{indices}
 use Rattle.fleet_adg.specs.Leavings.{AreLeavingsAt}
 use Rattle.fleet_adg.specs.Sweep.{is_under_way, all_actions_by}
 use Rattle.fleet_adg.proofs.Limits.{steps_few}
-use Rattle.fleet_adg.proofs.SweepSteps.{agents_below, under_way_below, under_way-next, sweep_begins, actions_begin, plan_on_map, length-all_actions_by}
+use Rattle.fleet_adg.proofs.SweepSteps.{agents_below, under_way_below, under_way-next, sweep_begins, actions_begin, length-all_actions_by}
 use Rattle.fleet_adg.proofs.sweep.actions_of.Goals as goal
 
 pub loop-time-init : goal.loop-time-init
@@ -14,13 +14,13 @@ loop-time-init c =
     record {
       agents = ap (filter (is_under_way plan 0)) all;
       below = subst (All (λ i. i < length plan)) (sym all) (agents_below plan);
-      leavings = sweep_begins c.grid-grid.result.now plan c.args.deps c.in_ok-leavings.leavings (c.from.result * c.from-2.result) (λ t. (c.from.ensures ∙ c.width.ensures.value) t * (c.from-2.ensures ∙ c.height.ensures.value) t) c.in_ok-leavings.ensures.kind c.in_ok-leavings.ensures.rows;
+      leavings = sweep_begins c.grid-grid.result.now plan c.args.deps c.none-leavings.result c.none-leavings.ensures.kind c.none-leavings.ensures.apart c.none-leavings.ensures.rows;
       actions = c.in_ok-actions.ensures ∙ actions_begin plan c.args.deps;
     }
 
 pub note_leavings-requires-clause-on_map : goal.note_leavings-requires-clause-on_map
 note_leavings-requires-clause-on_map c =
-    rw (c.grid-grid.ensures, c.plan-plan.ensures.value) (plan_on_map c.args.checked.now.grid c.args.checked.now.instance c.args.checked.now.plan (rw c.grid-grid.ensures at c.width.ensures.sizes) c.plan-plan.ensures.checked.free)
+    rw (c.grid-grid.ensures, c.plan-plan.ensures.value) c.cells_are_on_map.ensures
 
 pub note_leavings-requires-clause-time : goal.note_leavings-requires-clause-time
 note_leavings-requires-clause-time c =
@@ -28,7 +28,7 @@ note_leavings-requires-clause-time c =
 
 pub add_actions-requires-clause-on_map : goal.add_actions-requires-clause-on_map
 add_actions-requires-clause-on_map c =
-    rw (c.grid-grid.ensures, c.plan-plan.ensures.value) (plan_on_map c.args.checked.now.grid c.args.checked.now.instance c.args.checked.now.plan (rw c.grid-grid.ensures at c.width.ensures.sizes) c.plan-plan.ensures.checked.free)
+    rw (c.grid-grid.ensures, c.plan-plan.ensures.value) c.cells_are_on_map.ensures
 
 pub add_actions-requires-clause-time : goal.add_actions-requires-clause-time
 add_actions-requires-clause-time c =

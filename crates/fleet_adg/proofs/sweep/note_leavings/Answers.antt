@@ -61,9 +61,10 @@ loop-i-preserved c =
           w.in-Some.ensures.cells.0
           (count_is plan deps x i w.len.result c.args.actions.now w.index-actions-from.result c.requires.actions below (w.index-actions-from.is ∙ ap (λ n. get_or c.args.actions.now n w.index-actions-from.result) w.from.ensures) w.len.ensures (sym w.in-Some.ensures.moves))
           b e (sym w.in-Some.ensures.moves)
-          (omega (arith, w.cell_index.ensures.value, w.cell_index.ensures.within, c.loop-i.invariant.places))
           w.in_ok-note.ensures.kind
-          (rw w.cell_index.ensures.value at w.in_ok-note.ensures.rows)
+          (rw w.cell_index.ensures.value at w.in_ok-note.ensures.here)
+          (rw w.cell_index.ensures.value at w.in_ok-note.ensures.others)
+          w.in_ok-note.ensures.apart
           c.loop-i.invariant)
       | in_default w ↦ rw w.leavings-is (one_stays g plan deps x agents k i l b e (sym w.in_default.ensures.moves) c.loop-i.invariant)
     ]

@@ -1,10 +1,12 @@
 use Rattle.fleet_text.specs.Text.{lines}
+use Rattle.fleet_text.proofs.Verdicts.{one_value}
+use Rattle.fleet_grid.proofs.FaultLaws.{tells}
 use Rattle.fleet_grid.proofs.StoredLaws.{off_map}
-use Rattle.fleet_grid.proofs.MapLaws.{one_ground, sizes_are, cell_of}
+use Rattle.fleet_grid.proofs.MapLaws.{sizes_are, cell_of}
 use Rattle.fleet_grid.proofs.laws.a_map_text_is_one_ground.Goals as goal
 
 pub returns-clause-one : goal.returns-clause-one
-returns-clause-one c = λ text g h a b. one_ground (lines text) g h a b
+returns-clause-one c = λ text. one_value (tells (lines text))
 
 pub returns-clause-sizes : goal.returns-clause-sizes
 returns-clause-sizes c = λ text g a. sizes_are (lines text) g a

@@ -1,6 +1,7 @@
 use Rattle.fleet_text.specs.Text.{lines}
-use Rattle.fleet_grid.proofs.FaultLaws.{map_or_fault, not_both, one_fault}
+use Rattle.fleet_text.proofs.Verdicts.{one_verdict}
+use Rattle.fleet_grid.proofs.FaultLaws.{tells}
 use Rattle.fleet_grid.proofs.laws.a_text_is_a_map_or_has_a_first_fault.Goals as goal
 
 pub returns : goal.returns
-returns c = λ text. record { either = map_or_fault (lines text); not_both = not_both (lines text); one = one_fault (lines text) }
+returns c = λ text. one_verdict (tells (lines text))

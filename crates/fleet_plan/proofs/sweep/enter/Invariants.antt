@@ -1,6 +1,7 @@
 use Rattle.std.proofs.Common.{◌≡◌, length, slice_index}
+use Rattle.fleet_table.specs.Table.{value_in}
 use Rattle.fleet_plan.proofs.RowLaws.{IsSoBut}
 use Rattle.fleet_plan.proofs.sweep.enter.Given as goal
 
 abbrev pub invariant-loop-i : goal.invariant-loop-i
-invariant-loop-i l = IsSoBut l.agents l.i-index (length l.places) (λ k. slice_index l.table (slice_index l.places k) ≡ k)
+invariant-loop-i l = IsSoBut l.agents l.i-index (length l.places) (λ k. value_in l.table (slice_index l.places k) ≡ k)

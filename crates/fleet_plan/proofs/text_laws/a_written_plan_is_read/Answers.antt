@@ -1,7 +1,8 @@
 use Rattle.std.proofs.Common.{subst, sym}
 use Rattle.fleet_text.specs.Text.{Bytes, lines}
+use Rattle.fleet_text.proofs.Verdicts.{one_value}
 use Rattle.fleet_plan.specs.PlanText.{plan_text, IsPlanText}
-use Rattle.fleet_plan.proofs.PlanLaws.{one_plan}
+use Rattle.fleet_plan.proofs.PlanFaults.{tells}
 use Rattle.fleet_plan.proofs.Written.{plan_again}
 use Rattle.fleet_plan.proofs.text_laws.a_written_plan_is_read.Goals as goal
 
@@ -9,7 +10,7 @@ pub returns-clause-read : goal.returns-clause-read
 returns-clause-read c = λ p h. plan_again p h
 
 pub returns-clause-no_other : goal.returns-clause-no_other
-returns-clause-no_other c = λ p q h a. one_plan (lines (plan_text p)) q p a (plan_again p h)
+returns-clause-no_other c = λ p q h a. one_value (tells (lines (plan_text p))) q p a (plan_again p h)
 
 pub returns-clause-one_text : goal.returns-clause-one_text
-returns-clause-one_text c = λ p q h k e. one_plan (lines (plan_text p)) p q (plan_again p h) (subst (λ (text : Bytes). IsPlanText text q) (sym e) (plan_again q k))
+returns-clause-one_text c = λ p q h k e. one_value (tells (lines (plan_text p))) p q (plan_again p h) (subst (λ (text : Bytes). IsPlanText text q) (sym e) (plan_again q k))

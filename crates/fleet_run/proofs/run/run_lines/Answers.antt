@@ -92,6 +92,7 @@ ticks-preserved g c =
     let on = one_tick_on p s _ c.ticks.machine.configuration c.ticks.ticks c.ticks.held c.ticks.ended before c.ask.new.flags c.in-Ok.more _ next.0 (goes_here g c) c.requires.runs.well_formed limit in
     record {
       runs = c.tick-tick.ensures.runs;
+      looked = let before = c.ticks.invariant.looked in omega (arith, c.tick-tick.ensures.looked.kept);
       flags = c.ask.auto.flags ∙ c.ticks.invariant.flags;
       under_way = rw (c.tick-tick.ensures.after, held) on;
       source = next.1;

@@ -1,4 +1,4 @@
-use Rattle.std.proofs.Common.{◌≡◌, ◌+◌, length}
+use Rattle.std.proofs.Common.{◌≡◌, ◌≤◌, ◌+◌, length}
 use Rattle.fleet_machine.specs.Machine.{Runs}
 use Rattle.fleet_run.specs.Text.{lines_below}
 use Rattle.fleet_text.specs.Sink.{Takes}
@@ -14,6 +14,7 @@ invariant-ticks g l =
     let now = g.S.HoldSource.state l.source in
     record {
       runs : Runs p l.machine;
+      looked : l.initial.machine.looked ≤ l.machine.looked;
       flags : length l.flags ≡ length p;
       under_way : IsUnderWay p first now l.machine.configuration l.ticks l.held l.ended;
       source : HasNotFailed now;

@@ -17,13 +17,13 @@ returns-in_err-reserve-in-Ok-clause-no_path c =
 
 pub loop-agent-preserved : goal.loop-agent-preserved
 loop-agent-preserved c =
-    (in_turn-more (is_passable c.args.grid.now) c.args.instance.now c.args.horizon c.loop-agent.agent c.loop-agent.reserved c.reserve.new.self c.in-Ok.path c.start.result c.goal.result c.loop-agent.invariant.0 c.start.ensures c.goal.ensures c.in-Ok.ensures.ok c.in_ok-reserve-in-Ok.ensures.ok, c.in-Ok.ensures.ready, c.in-Ok.ensures.rows)
+    (in_turn-more (is_passable c.args.grid.now) c.args.instance.now c.args.horizon c.loop-agent.agent c.loop-agent.reserved c.reserve.new.self c.in-Ok.path c.start.result c.goal.result c.loop-agent.invariant.0 c.start.ensures c.goal.ensures c.in-Ok.ensures.ok c.in_ok-reserve-in-Ok.ensures.ok, c.in-Ok.ensures.ready, c.in-Ok.ensures.labels)
 
 pub returns-clause-made : goal.returns-clause-made
 returns-clause-made c =
     let n : c.loop-agent.agent ≡ length c.args.instance.now = omega (arith, c.agents-agent-end.ensures.count) in
     let made = subst (λ z. IsMadeInTurn (is_passable c.args.grid.now) c.args.instance.now c.args.horizon z c.loop-agent.reserved) n c.loop-agent.invariant.0 in
-    subst (IsMadeInTurn (is_passable c.args.grid.now) c.args.instance.now c.args.horizon (length c.args.instance.now)) (sym (c.new-3.ensures ∙ c.into_paths.ensures)) made
+    subst (IsMadeInTurn (is_passable c.args.grid.now) c.args.instance.now c.args.horizon (length c.args.instance.now)) (sym (c.new-2.ensures ∙ c.into_paths.ensures)) made
 
 pub returns-clause-free : goal.returns-clause-free
-returns-clause-free c = in_turn_free (is_passable c.args.grid.now) c.args.instance.now c.args.horizon c.new-3.result (returns-clause-made c)
+returns-clause-free c = in_turn_free (is_passable c.args.grid.now) c.args.instance.now c.args.horizon c.new-2.result (returns-clause-made c)

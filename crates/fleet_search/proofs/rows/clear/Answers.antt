@@ -18,8 +18,8 @@ loop-row-preserved c = λ k h.
 pub returns : goal.returns
 returns c = λ k.
     let now = c.loop-row.row-items in
-    let size : length now ≡ c.args.rows.now.len = omega (arith, c.loop-row.auto.row-items, ap length c.deref_mut-row-items.ensures.value, c.args.rows.now.ok.0) in
-    ap (λ z. row_in z k) (with_items_is c.args.rows.now now size) ∙ elim (cases_lt k (length now)) [
+    let size : length now ≡ c.truncate.new.self.len = omega (arith, c.loop-row.auto.row-items, ap length c.deref_mut-row-items.ensures.value, c.truncate.new.self.ok.0) in
+    ap (λ z. row_in z k) (with_items_is c.truncate.new.self now size) ∙ elim (cases_lt k (length now)) [
       | inl l ↦ c.loop-row.invariant k (omega (arith, c.loop-row.auto.row-items))
       | inr l ↦ row-past now k l
     ]

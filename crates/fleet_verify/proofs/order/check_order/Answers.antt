@@ -1,6 +1,8 @@
 use Rattle.std.proofs.Common.{◌≡◌, ◌+◌, arith, refl}
 use Rattle.std.proofs.lemmas.Result.{err_from_is_err_and}
-use Rattle.fleet_model.specs.Geometry.{is_same_cell, place_of}
+use Rattle.std.specs.Prelude.{nat_eq}
+use Rattle.fleet_model.specs.Geometry.{place_of}
+use Rattle.fleet_verify.specs.Order.{number_of}
 use Rattle.fleet_model.specs.Program.{path}
 use Rattle.fleet_grid.specs.Ground.{is_passable}
 use Rattle.indexmap.specs.IndexMap.{get}
@@ -13,7 +15,7 @@ pub returns-in_err-check_cell-clause-err : goal.returns-in_err-check_cell-clause
 returns-in_err-check_cell-clause-err g c =
     let e = err_from_is_err_and c.from_residual.result c.from_residual.ensures.1 in
     rw (e.1, e.2)
-    (broken_fault (is_passable c.args.grid.now) c.args.instance.now (g.P.ProgramView.program c.args.program.now) c.requires.noted.stays (get is_same_cell c.args.watch.now.breaks) (breaks_of (g.P.ProgramView.program c.args.program.now) c.requires.noted.stays c.args.watch.now c.requires.noted.watched) c.loop-agent.agent 0 c.start-cell.result c.requires.before c.requires.noted.all
+    (broken_fault (is_passable c.args.grid.now) c.args.instance.now (g.P.ProgramView.program c.args.program.now) c.requires.added.placed (λ d. get nat_eq c.args.visits.now.violations (number_of d)) (breaks_of (g.P.ProgramView.program c.args.program.now) c.requires.added.placed c.args.visits.now c.requires.added.grouped) c.loop-agent.agent 0 c.start-cell.result c.in_err-check_cell.ensures.cell c.requires.before c.requires.added.all
     (omega (arith, c.agents-agent-end.ensures.count)) (omega arith) (starts_on (g.P.ProgramView.program c.args.program.now) c.loop-agent.agent c.start-cell.result c.start-cell.ensures) c.loop-agent.invariant
     c.in_err-check_cell.field-0.0 c.in_err-check_cell.ensures.err)
 
@@ -26,7 +28,7 @@ pub returns-in_err-check_cell-2-clause-err : goal.returns-in_err-check_cell-2-cl
 returns-in_err-check_cell-2-clause-err g c =
     let e = err_from_is_err_and c.from_residual-in_err-check_cell-2.result c.from_residual-in_err-check_cell-2.ensures.1 in
     rw (e.1, e.2)
-    (broken_fault (is_passable c.args.grid.now) c.args.instance.now (g.P.ProgramView.program c.args.program.now) c.requires.noted.stays (get is_same_cell c.args.watch.now.breaks) (breaks_of (g.P.ProgramView.program c.args.program.now) c.requires.noted.stays c.args.watch.now c.requires.noted.watched) c.loop-agent.agent (c.loop-finished.finished + 1) c.unwrap-cell.result c.requires.before c.requires.noted.all
+    (broken_fault (is_passable c.args.grid.now) c.args.instance.now (g.P.ProgramView.program c.args.program.now) c.requires.added.placed (λ d. get nat_eq c.args.visits.now.violations (number_of d)) (breaks_of (g.P.ProgramView.program c.args.program.now) c.requires.added.placed c.args.visits.now c.requires.added.grouped) c.loop-agent.agent (c.loop-finished.finished + 1) c.unwrap-cell.result c.in_err-check_cell-2.ensures.cell c.requires.before c.requires.added.all
     (omega (arith, c.agents-agent-end.ensures.count)) (omega (arith, c.moves-finished-end.ensures)) (next_cell (is_passable c.args.grid.now) (g.P.ProgramView.program c.args.program.now) c.loop-agent.agent c.loop-finished.finished c.loop-finished.cell c.unwrap-cell.result c.step.result c.cell_after.result
     c.loop-finished.invariant.here c.step.ensures c.unwrap-cell.ensures c.cell_after.ensures.some) c.loop-finished.invariant.judged
     c.in_err-check_cell-2.field-0.0 c.in_err-check_cell-2.ensures.err)
@@ -36,7 +38,7 @@ loop-finished-init g c =
     let p = g.P.ProgramView.program c.args.program.now in
     record {
       here = starts_on p c.loop-agent.agent c.start-cell.result c.start-cell.ensures;
-      judged = judged_first p c.loop-agent.agent c.start-cell.result c.loop-agent.invariant c.start-cell.ensures (unbroken p c.requires.noted.stays (get is_same_cell c.args.watch.now.breaks) c.requires.noted.all (breaks_of (g.P.ProgramView.program c.args.program.now) c.requires.noted.stays c.args.watch.now c.requires.noted.watched) c.start-cell.result c.in_ok-check_cell.ensures.ok);
+      judged = judged_first p c.loop-agent.agent c.start-cell.result c.loop-agent.invariant c.start-cell.ensures (unbroken p c.requires.added.placed (λ d. get nat_eq c.args.visits.now.violations (number_of d)) c.requires.added.all (breaks_of (g.P.ProgramView.program c.args.program.now) c.requires.added.placed c.args.visits.now c.requires.added.grouped) c.start-cell.result c.in_ok-check_cell.ensures.cell c.in_ok-check_cell.ensures.ok);
     }
 
 pub loop-finished-preserved : goal.loop-finished-preserved
@@ -46,7 +48,7 @@ loop-finished-preserved g c =
     c.loop-finished.invariant.here c.step.ensures c.unwrap-cell.ensures c.cell_after.ensures.some) in
     record {
       here = here;
-      judged = judged_more p c.loop-agent.agent (c.loop-finished.finished + 1) c.unwrap-cell.result c.loop-finished.invariant.judged here (unbroken p c.requires.noted.stays (get is_same_cell c.args.watch.now.breaks) c.requires.noted.all (breaks_of (g.P.ProgramView.program c.args.program.now) c.requires.noted.stays c.args.watch.now c.requires.noted.watched) c.unwrap-cell.result c.in_ok-check_cell-2.ensures.ok);
+      judged = judged_more p c.loop-agent.agent (c.loop-finished.finished + 1) c.unwrap-cell.result c.loop-finished.invariant.judged here (unbroken p c.requires.added.placed (λ d. get nat_eq c.args.visits.now.violations (number_of d)) c.requires.added.all (breaks_of (g.P.ProgramView.program c.args.program.now) c.requires.added.placed c.args.visits.now c.requires.added.grouped) c.unwrap-cell.result c.in_ok-check_cell-2.ensures.cell c.in_ok-check_cell-2.ensures.ok);
     }
 
 pub loop-agent-preserved : goal.loop-agent-preserved
@@ -55,9 +57,9 @@ loop-agent-preserved g c =
 
 pub returns-clause-ok : goal.returns-clause-ok
 returns-clause-ok g c =
-    all_in_turn (g.P.ProgramView.program c.args.program.now) c.requires.noted.stays c.loop-agent.agent c.requires.noted.all c.loop-agent.invariant (omega (arith, c.agents-agent-end.ensures.count))
+    all_in_turn (g.P.ProgramView.program c.args.program.now) c.requires.added.placed c.loop-agent.agent c.requires.added.all c.loop-agent.invariant (omega (arith, c.agents-agent-end.ensures.count))
 
 pub returns-then-is_empty-clause-ok : goal.returns-then-is_empty-clause-ok
 returns-then-is_empty-clause-ok g c =
-    none_broken (g.P.ProgramView.program c.args.program.now) c.requires.noted.stays (get is_same_cell c.args.watch.now.breaks) c.requires.noted.all (breaks_of (g.P.ProgramView.program c.args.program.now) c.requires.noted.stays c.args.watch.now c.requires.noted.watched)
-    (λ d. rw (no_entries c.args.watch.now.breaks.entries (c.is_empty.ensures.0 c.if-is_empty.true)) refl)
+    none_broken (g.P.ProgramView.program c.args.program.now) c.requires.added.placed (λ d. get nat_eq c.args.visits.now.violations (number_of d)) c.requires.added.all c.requires.added.each (breaks_of (g.P.ProgramView.program c.args.program.now) c.requires.added.placed c.args.visits.now c.requires.added.grouped)
+    (λ d. rw (no_entries c.args.visits.now.violations.entries (c.is_empty.ensures.0 c.if-is_empty.true)) refl)

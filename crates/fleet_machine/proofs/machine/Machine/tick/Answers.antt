@@ -1,33 +1,67 @@
-use Rattle.std.proofs.Common.{◌<◌, length, arith, sym, ◌∙◌}
-use Rattle.fleet_machine.specs.Machine.{flag_of}
-use Rattle.fleet_machine.proofs.Advanced.{left_if_flagged, one_moves, one_stays}
+use Rattle.std.proofs.Common.{length, arith, sym, ◌∙◌, ap, subst}
+use Rattle.std.proofs.lemmas.List.FromFn.{length-map-range_with_len}
+use Rattle.fleet_model.specs.Machine.{is_moving}
+use Rattle.fleet_model.proofs.Tick.{length-tick}
+use Rattle.fleet_machine.specs.Looked.{ready_in, awaiting_in, LooksAt}
+use Rattle.fleet_machine.specs.Machine.{MachineState, Runs, flag_of}
+use Rattle.fleet_machine.specs.Waking.{IsWoken}
+use Rattle.fleet_machine.proofs.Ticking.{configuration_woken, rows_woken, nowhere_if_due, runs_after, ready_counted, due_counted, looked_at}
 use Rattle.fleet_machine.proofs.machine.Machine.tick.Goals as goal
-use Rattle.fleet_machine.proofs.machine.Machine.tick.Goals.{then-is_flagged, else-is_flagged}
 
-pub finish_action-requires-clause-left : goal.finish_action-requires-clause-left
-finish_action-requires-clause-left g c =
-    let before = c.loop-i.invariant in
-    left_if_flagged (g.P.ProgramView.program c.args.program.now) (flag_of c.args.held.now) c.judge-ready_held.new.self.configuration c.loop-i.self.configuration c.loop-i.i c.loop-i.moved before.done
-    c.loop-i.self.moving before.moving (omega (arith, c.agents-i-end.ensures.count)) (sym c.is_flagged.ensures ∙ c.if-is_flagged.true)
+pub wake_all-requires-clause-few : goal.wake_all-requires-clause-few
+wake_all-requires-clause-few g c =
+    let p = g.P.ProgramView.program c.args.program.now in
+    let moving = length-map-range_with_len (is_moving p (flag_of c.args.held.now) c.args.self.now.configuration) 0 (length p) in
+    omega (arith, ap (λ (m : MachineState). length m.moving) c.advance-tick.ensures.after, c.requires.runs.well_formed.few_agents)
 
-pub loop-i-preserved : goal.loop-i-preserved
-loop-i-preserved g c =
+pub wake_all-requires-clause-lists : goal.wake_all-requires-clause-lists
+wake_all-requires-clause-lists g c =
+    let p = g.P.ProgramView.program c.args.program.now in
+    let moving = length-map-range_with_len (is_moving p (flag_of c.args.held.now) c.args.self.now.configuration) 0 (length p) in
+    rw c.advance-tick.ensures.after (c.requires.runs.rows.lists ∙ sym moving)
+
+pub judge_due-due-requires-clause-agents : goal.judge_due-due-requires-clause-agents
+judge_due-due-requires-clause-agents g c =
     let p = g.P.ProgramView.program c.args.program.now in
     let held = flag_of c.args.held.now in
-    let before = c.loop-i.invariant in
-    let agent : c.loop-i.i < length p = omega (arith, c.agents-i-end.ensures.count) in
-    let inside : c.loop-i.i < length c.loop-i.self.configuration = omega (arith, before.runs.agents) in
-    elim c.if-is_flagged.branch [
-      | then-is_flagged w ↦
-          rw (w.self-is, w.moved-is, w.finish_action.ensures.finished) record {
-            runs = rw w.finish_action.ensures.finished at w.finish_action.ensures.runs;
-            moving = before.moving;
-            done = one_moves p held c.judge-ready_held.new.self.configuration c.loop-i.self.configuration c.loop-i.i c.loop-i.moved before.done c.loop-i.self.moving before.moving agent (sym c.is_flagged.ensures ∙ w.if-is_flagged.true) inside;
-          }
-      | else-is_flagged w ↦
-          rw (w.self-is, w.moved-is) record {
-            runs = before.runs;
-            moving = before.moving;
-            done = one_stays p held c.judge-ready_held.new.self.configuration c.loop-i.self.configuration c.loop-i.i c.loop-i.moved before.done c.loop-i.self.moving before.moving agent (sym c.is_flagged.ensures ∙ w.if-is_flagged.false);
-          }
-    ]
+    let woken = c.wake_all.new.self in
+    let wakes = subst (λ (a : MachineState). IsWoken (flag_of a.moving) a woken) c.advance-tick.ensures.after c.wake_all.ensures in
+    ap length (configuration_woken p held c.args.self.now c.requires.runs woken wakes) ∙ length-tick p held c.args.self.now.configuration
+
+pub judge_due-due-requires-clause-rows : goal.judge_due-due-requires-clause-rows
+judge_due-due-requires-clause-rows g c =
+    let p = g.P.ProgramView.program c.args.program.now in
+    let held = flag_of c.args.held.now in
+    let woken = c.wake_all.new.self in
+    let wakes = subst (λ (a : MachineState). IsWoken (flag_of a.moving) a woken) c.advance-tick.ensures.after c.wake_all.ensures in
+    rows_woken p held c.args.self.now c.requires.runs woken wakes
+
+pub judge_due-due-requires-clause-nowhere : goal.judge_due-due-requires-clause-nowhere
+judge_due-due-requires-clause-nowhere g c =
+    let p = g.P.ProgramView.program c.args.program.now in
+    let held = flag_of c.args.held.now in
+    let woken = c.wake_all.new.self in
+    let wakes = subst (λ (a : MachineState). IsWoken (flag_of a.moving) a woken) c.advance-tick.ensures.after c.wake_all.ensures in
+    nowhere_if_due p held c.args.self.now c.requires.runs woken wakes
+
+pub returns-clause-runs : goal.returns-clause-runs
+returns-clause-runs g c =
+    let p = g.P.ProgramView.program c.args.program.now in
+    let held = flag_of c.args.held.now in
+    let woken = c.wake_all.new.self in
+    let wakes = subst (λ (a : MachineState). IsWoken (flag_of a.moving) a woken) c.advance-tick.ensures.after c.wake_all.ensures in
+    let judged = c.judge_due-due.ensures in
+    subst (λ m. Runs p m) (sym c.count_looked.ensures.same)
+    (runs_after p held c.args.self.now c.requires.runs woken wakes c.judge_due-due.new.self judged.same judged.rows judged.judged judged.others c.count_looked.new.self.looked)
+
+pub returns-clause-looked : goal.returns-clause-looked
+returns-clause-looked g c =
+    let p = g.P.ProgramView.program c.args.program.now in
+    let held = flag_of c.args.held.now in
+    let old = c.args.self.now in
+    let woken = c.wake_all.new.self in
+    let wakes = subst (λ (a : MachineState). IsWoken (flag_of a.moving) a woken) c.advance-tick.ensures.after c.wake_all.ensures in
+    let before = ap (λ (m : MachineState). m.looked) c.judge_due-due.ensures.same ∙ ap (λ (m : MachineState). m.looked) wakes.same in
+    looked_at (ready_in p old.configuration) (awaiting_in p held old.configuration) c.judge_due-due.result old.looked c.count_looked.new.self.looked
+    (rw c.judge_due-due.ensures.count (ready_counted p held old c.requires.runs woken wakes)) (rw c.judge_due-due.ensures.count (due_counted p held old c.requires.runs woken wakes))
+    (subst (λ n. LooksAt c.judge_due-due.result 0 n c.count_looked.new.self.looked) before c.count_looked.ensures.looked)

@@ -1,10 +1,11 @@
-use Rattle.std.proofs.Common.{◌≡◌, length, ◌∙◌, ap}
+use Rattle.std.proofs.Common.{◌≡◌, ℕ, length, ◌∙◌, ap, ap₂, subst, arith}
 use Rattle.fleet_grid.specs.Ground.{is_passable}
 use Rattle.fleet_model.specs.Run.{IsSafeStep}
 use Rattle.fleet_model.specs.Machine.{Configuration, tick, moved_in, is_ready_held}
 use Rattle.fleet_run.specs.Fleet.{FleetState}
+use Rattle.fleet_machine.specs.Looked.{ready_in, awaiting_in, LooksAt}
 use Rattle.fleet_machine.specs.Machine.{flag_of}
-use Rattle.fleet_run.proofs.Finished.{rests}
+use Rattle.fleet_run.proofs.Finished.{rests, looks_at_none}
 use Rattle.fleet_run.proofs.fleet.Fleet.tick.Goals as goal
 
 pub returns-clause-safe : goal.returns-clause-safe
@@ -33,6 +34,11 @@ returns-clause-rest g c =
     let after : c.tick.new.self.configuration ≡ tick p held before = c.tick.ensures.after ∙ ap (λ q. tick (g.P.ProgramView.program q) held before) same in
     let moved : c.tick.result.moved ≡ moved_in p held before = c.tick.ensures.moved ∙ ap (λ q. moved_in (g.P.ProgramView.program q) held before) same in
     let ready_held : c.tick.result.ready_held ≡ is_ready_held p held before = c.tick.ensures.held ∙ ap (λ q. is_ready_held (g.P.ProgramView.program q) held before) same in
-    let State : Configuration → FleetState _ = λ c. record { accepted = parts; configuration = c } in
+    let State : Configuration → ℕ → FleetState _ = λ c n. record { accepted = parts; configuration = c; looked = n } in
+    let looked = subst (λ q. LooksAt (ready_in (g.P.ProgramView.program q) before) (awaiting_in (g.P.ProgramView.program q) held before) c.self.inside.machine.looked c.tick.new.self.looked) same c.tick.ensures.looked in
     rw (← c.self.view_is)
-    (λ over. let calm = rests p held before running.runs.agents over in (ap State (after ∙ calm.0), moved ∙ calm.1, ready_held ∙ calm.2))
+    (λ over.
+    let calm = rests p held before running.runs.agents over in
+    let none = looks_at_none p held before over in
+    let kept : c.tick.new.self.looked ≡ c.self.inside.machine.looked = omega (arith, looked.kept, looked.most, none.0, none.1) in
+    (ap₂ State (after ∙ calm.0) kept, moved ∙ calm.1, ready_held ∙ calm.2))

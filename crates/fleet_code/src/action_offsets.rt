@@ -1,0 +1,101 @@
+//! The offsets of an agent's actions, of which no more are kept than tell them.
+
+ghost use Rattle.std.specs.Prelude.{◌≡◌, ◌<◌, ◌≤◌, ◌+◌, ◌^◌, All, length, slice_index_or};
+ghost use Rattle.std.specs.List.{range_with_len};
+ghost use Rattle.fleet_code.specs.Offsets.{IsEvenFrom};
+
+use std::alloc::Global;
+use std::marker::Model;
+
+/// Where each of so many actions begins, counted from the first, and last where the last one ends. Where from one action on
+/// all have as many bytes as each other, the offsets after its own are not kept.
+#[derive(Debug, Drop)]
+pub struct ActionOffsets {
+    actions: u16,
+    kept: Vec<u32>,
+    stride: u32,
+}
+
+impl Model for ActionOffsets {
+    ghost use Rattle.std.specs.Prelude.{ℕ, List};
+    ghost use Rattle.fleet_code.specs.Offsets.{offsets_of, AreOffsets};
+
+    ghost Value = { List ℕ };
+
+    ghost view = { λ o. offsets_of o.actions o.stride o.kept.items };
+
+    ghost invariant = { λ o. AreOffsets o.actions (offsets_of o.actions o.stride o.kept.items) };
+}
+
+impl ActionOffsets {
+    /// The offsets of actions of one byte each, of which none is kept.
+    pub fn bare(alloc: Global, actions: u16) -> Self
+        ensures { result ≡ range_with_len 0 (actions + 1) }
+    {
+        ActionOffsets {
+            actions,
+            kept: Vec::new(alloc),
+            stride: 1,
+        }
+    }
+
+    /// These offsets of so many actions.
+    pub fn of(actions: u16, offsets: Vec<u32>) -> Self
+        requires { length offsets.items ≡ actions + 1 }
+        ensures { result ≡ offsets.items }
+    {
+        let (last, stride) = even_from(offsets.as_slice());
+        let mut kept = offsets;
+        kept.truncate(last + 1);
+        kept.shrink_to_fit();
+        ActionOffsets {
+            actions,
+            kept,
+            stride,
+        }
+    }
+
+    /// How many actions there are.
+    pub fn actions(&self) -> u16
+        ensures { length self.now ≡ result + 1 }
+    {
+        self.actions
+    }
+
+    /// Where action `n + 1` begins, and after the last where that one ends.
+    pub fn get(&self, n: u32) -> u32
+        requires { n < length self.now }
+        ensures { result ≡ slice_index_or self.now n 0 }
+    {
+        let kept = self.kept.len();
+        if kept == 0 {
+            return n;
+        }
+        if (n as usize) < kept {
+            return self.kept[n as usize];
+        }
+        let last = kept - 1;
+        self.kept[last] + (n - last as u32) * self.stride
+    }
+}
+
+/// The first of the offsets from which on all are as far from each other, and how far.
+fn even_from(offsets: &[u32]) -> (usize, u32)
+    requires { 1 ≤ length offsets.now }
+    ensures first { result.0 < length offsets.now }
+    ensures even { IsEvenFrom offsets.now result.0 result.1 }
+    ensures fit { All (λ o. o < 2 ^ 32) offsets.now }
+{
+    let last = offsets.len() - 1;
+    if last == 0 {
+        return (0, 0);
+    }
+    let stride = offsets[last].saturating_sub(offsets[last - 1]);
+    for back in 0..last {
+        let at = last - back;
+        if u64::from(offsets[at - 1]) + u64::from(stride) != u64::from(offsets[at]) {
+            return (at, stride);
+        }
+    }
+    (0, stride)
+}

@@ -1,0 +1,74 @@
+//! What a program of one's own does with the crates: it runs a program under holds, or lets robots report and sends them on.
+#![tactic(auto)]
+
+ghost use Rattle.std.specs.Prelude.{◌≡◌, ◌<◌, IfOk, length};
+ghost use Rattle.fleet_model.specs.Claims.{order_of};
+ghost use Rattle.fleet_run.specs.Drive.{IsInTime};
+ghost use Rattle.fleet_text.specs.Sink.{IsWorking};
+
+use fleet_code::{LoadFault, view};
+use fleet_grid::{MapFault, read_map};
+use fleet_model::{ProgramView, Step};
+use fleet_run::{Fleet, HoldText, NotSent, Report, RunFault, TraceOut, drive};
+use fleet_scen::{ScenFault, read_scen};
+use fleet_verify::{VerifyFault, verify};
+use std::alloc::Global;
+use thiserror::Error;
+
+/// The first step that refuses.
+#[derive(Debug, Drop, Error)]
+pub enum Stop {
+    #[error("out of memory")]
+    OutOfMemory,
+    #[error("the map: {0}")]
+    Map(MapFault),
+    #[error("the scenario: {0}")]
+    Scen(ScenFault),
+    #[error("the bytes: {0}")]
+    Load(LoadFault),
+    #[error("the program: {0}")]
+    Verify(VerifyFault),
+    #[error("the run: {0}")]
+    Run(RunFault),
+}
+
+/// Verifies the program that the bytes spell for the map and the scenario, runs it under the holds, and writes its trace to `out`.
+pub fn run<O: TraceOut>(
+    alloc: Global,
+    map: &[u8],
+    scen: &[u8],
+    bytes: &[u8],
+    holds: &[u8],
+    out: &mut O,
+) -> Result<Report, Stop>
+    requires { IsWorking (O.state out.old) }
+    ensures { IfOk result IsInTime }
+{
+    let grid = read_map(alloc, map).map_err(Stop::Map)?;
+    let instance = read_scen(alloc, scen, &grid, None).map_err(Stop::Scen)?;
+    let program = view(alloc, bytes).map_err(Stop::Load)?;
+    let accepted = match verify(alloc, program, &grid, &instance) {
+        Ok(accepted) => accepted,
+        Err(refused) => return Err(Stop::Verify(refused.fault)),
+    };
+    let Ok(mut fleet) = Fleet::start(alloc, accepted) else {
+        return Err(Stop::OutOfMemory);
+    };
+    let mut source = HoldText::new(holds, fleet.agents());
+    drive(&mut fleet, &mut source, out).map_err(Stop::Run)
+}
+
+/// The flagged robots have arrived. Answers where robot `i` may be sent then: the step of its next move, if it has an order.
+pub fn report<P: ProgramView>(
+    fleet: &mut Fleet<'_, P>,
+    done: &mut [bool],
+    i: u16,
+) -> Result<Option<Step>, NotSent>
+    requires done { length done.old ≡ length (P.program fleet.old.accepted.program) }
+    requires robot { i < length (P.program fleet.old.accepted.program) }
+    ensures { IfOk result (λ step.
+        step ≡ order_of (P.program fleet.new.accepted.program) fleet.new.configuration i) }
+{
+    fleet.confirm(done)?;
+    Ok(fleet.order(i))
+}

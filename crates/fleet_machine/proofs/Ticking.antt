@@ -1,0 +1,243 @@
+-- The steps of a tick, one after another.
+use Rattle.std.proofs.Common.{◌≡◌, ◌<◌, ◌≤◌, ◌+◌, ◌||◌, ◌&&◌, not, ℕ, Bool, true, false, List, [], length, filter, slice_get, Option, Some, None, refl, ap, sym, ◌∙◌, subst, inl, inr, ◌⊎◌, arith, cond, add-one}
+use Rattle.std.specs.Prelude.{nat_le}
+use Rattle.std.proofs.lemmas.Bool.{cases_lt, cases_Bool, lt-ltb, or_parts}
+use Rattle.std.proofs.lemmas.List.{get_or_past}
+use Rattle.std.proofs.lemmas.List.Folds.{list_any_at}
+use Rattle.std.proofs.lemmas.List.FromFn.{get_or-map-range_with_len, length-map-range_with_len}
+use Rattle.std.proofs.lemmas.Option.{slice_get_past, slice_get_within, get_or_from_slice_get}
+use Rattle.fleet_model.specs.declared.program.Await.{Await}
+use Rattle.fleet_model.specs.declared.standing.Standing.{Standing}
+use Rattle.fleet_model.specs.Program.{Program, IsWellFormed, moves, actions_of, awaits_of}
+use Rattle.fleet_model.specs.Machine.{Configuration, standing_at, count_at, is_ready, is_moving, tick, indices}
+use Rattle.fleet_model.proofs.Tick.{length-tick, standing_at_tick, other_stays}
+use Rattle.fleet_machine.specs.AgentSet.{AreNoneFrom, IsNextFrom}
+use Rattle.fleet_machine.specs.Looked.{ready_in, awaits_moving, awaiting_in, LooksAt}
+use Rattle.fleet_machine.specs.WaitLists.{home_of}
+use Rattle.fleet_machine.specs.Machine.{MachineState, Runs, HasRows, IsHome, IsJudged, Lacks, flag_of, is_left, moving_flags}
+use Rattle.fleet_machine.specs.Waking.{is_on, if_not_on, IsWoken, IsAsBefore}
+use Rattle.fleet_machine.proofs.Advanced.{onward, filter_more, IsAdvanced, all_wait}
+use Rattle.fleet_machine.proofs.Ready.{no_action_left, next_of, not_ready_if_unmet, awaited_agent}
+
+true_is_false : true ≡ false → ⊥
+true_is_false e = absurd cc
+
+-- ---- who is ready moves, or is held
+
+module _ (p : Program) (held : ℕ → Bool) (old : MachineState) (runs : Runs p old) (flags : List Bool) (same : flags ≡ old.ready)
+    (rows : Configuration) (moving : List Bool) (from count : ℕ) (ready_held : Bool) (before : IsAdvanced p held old.configuration rows moving from count ready_held) where
+  ready_is : (k : ℕ) → k < length p → is_ready p old.configuration k ≡ flag_of flags k
+  ready_is k agent = sym (runs.judged k agent).ready ∙ ap (λ fs. flag_of fs k) (sym same)
+
+  pub ready_agent : (i : ℕ) → IsNextFrom flags from i → i < length p
+  ready_agent i next = omega (arith, next.agent, ap length same, runs.rows.ready)
+
+  pub next_is_ready : (i : ℕ) → IsNextFrom flags from i → is_ready p old.configuration i ≡ true
+  next_is_ready i next = ready_is i (ready_agent i next) ∙ next.member
+
+  pub up_to_ready : (i : ℕ) → IsNextFrom flags from i → IsAdvanced p held old.configuration rows moving i count ready_held
+  up_to_ready i next =
+      all_wait p held old.configuration rows moving from i count ready_held next.later
+      (λ k later below. let agent = ready_agent i next in ready_is k (omega arith) ∙ next.between k later below) before
+
+  pub up_to_end : from ≤ length p → AreNoneFrom flags from → IsAdvanced p held old.configuration rows moving (length p) count ready_held
+  up_to_end within none = all_wait p held old.configuration rows moving from (length p) count ready_held within (λ k later below. ready_is k below ∙ none k later) before
+
+-- ---- agents that lack a count
+
+module _ (p : Program) (c : Configuration) (i j : ℕ) (lacks : Lacks p c i j) where
+  left_if_lacking : count_at c i < moves p i
+  left_if_lacking =
+      elim (cases_lt (count_at c i) (moves p i)) [
+        | inl lt ↦ lt
+        | inr le ↦
+            let none : awaits_of p i (count_at c i + 1) ≡ [] = rw (add-one, slice_get_past (actions_of p i) (count_at c i) le) refl in
+            absurd (nothing (sym (ap (λ ws. slice_get ws lacks.place) none) ∙ lacks.at))
+      ]
+    where
+      nothing : {w : Await} → ◌≡◌ {A = Option Await} None (Some w) → ⊥
+      nothing e = absurd cc
+
+  unready_if_lacking : is_ready p c i ≡ false
+  unready_if_lacking = sym (not_ready_if_unmet p c i left_if_lacking lacks.place lacks.awaited lacks.at lacks.unmet)
+
+  lacked_agent : IsWellFormed p → j < length p
+  lacked_agent ok = let there = awaited_agent p i (count_at c i + 1) lacks.place lacks.awaited ok lacks.at in omega (arith, lacks.agent)
+
+  awaits_if_lacking : (held : ℕ → Bool) → is_moving p held c j ≡ true → awaits_moving p held c i ≡ true
+  awaits_if_lacking held moves =
+      let n = next_of p c i left_if_lacking in
+      let at : slice_get n.0.awaits lacks.place ≡ Some lacks.awaited = ap (λ ws. slice_get ws lacks.place) (sym n.1.awaits) ∙ lacks.at in
+      rw n.1.next (list_any_at (λ w. is_moving p held c w.agent) n.0.awaits lacks.place lacks.awaited (slice_get_within n.0.awaits lacks.place lacks.awaited at)
+      (rw (get_or_from_slice_get n.0.awaits lacks.place lacks.awaited lacks.awaited at, lacks.agent) moves))
+
+-- ---- how many pass a test
+
+one_more : (a b : ℕ) (x y : Bool) → (x ≡ true → y ≡ true) → a ≤ b → a + cond x 1 0 ≤ b + cond y 1 0
+one_more a b true true h le = omega arith
+one_more a b true false h le = absurd (true_is_false (sym (h refl)))
+one_more a b false true h le = omega arith
+one_more a b false false h le = omega arith
+
+fewer_pass : (test other : ℕ → Bool) (n : ℕ) → ((k : ℕ) → k < n → test k ≡ true → other k ≡ true) → length (filter test (indices n)) ≤ length (filter other (indices n))
+fewer_pass test other n h =
+    onward (λ k. length (filter test (indices k)) ≤ length (filter other (indices k))) 0 n (omega arith)
+    (λ k from below before. rw (filter_more test k, filter_more other k) (one_more _ _ (test k) (other k) (h k below) before)) (omega arith)
+
+one_of_two : (a b c : ℕ) (x y z : Bool) → (x ≡ true → (y ≡ true) ⊎ (z ≡ true)) → a ≤ b + c → a + cond x 1 0 ≤ b + cond y 1 0 + (c + cond z 1 0)
+one_of_two a b c false true true h le = omega arith
+one_of_two a b c false true false h le = omega arith
+one_of_two a b c false false true h le = omega arith
+one_of_two a b c false false false h le = omega arith
+one_of_two a b c true true true h le = omega arith
+one_of_two a b c true true false h le = omega arith
+one_of_two a b c true false true h le = omega arith
+one_of_two a b c true false false h le = elim (h refl) [ inl e ↦ absurd (true_is_false (sym e)) | inr e ↦ absurd (true_is_false (sym e)) ]
+
+either_passes : (test one other : ℕ → Bool) (n : ℕ) → ((k : ℕ) → k < n → test k ≡ true → (one k ≡ true) ⊎ (other k ≡ true))
+    → length (filter test (indices n)) ≤ length (filter one (indices n)) + length (filter other (indices n))
+either_passes test one other n h =
+    onward (λ k. length (filter test (indices k)) ≤ length (filter one (indices k)) + length (filter other (indices k))) 0 n (omega arith)
+    (λ k from below before. rw (filter_more test k, filter_more one k, filter_more other k) (one_of_two _ _ _ (test k) (one k) (other k) (h k below) before)) (omega arith)
+
+-- ---- a tick
+
+module _ (p : Program) (held : ℕ → Bool) (m : MachineState) (runs : Runs p m) where
+  abbrev c : Configuration
+  c = m.configuration
+
+  abbrev after : Configuration
+  after = tick p held c
+
+  flag_is_moving : (j : ℕ) → j < length p → flag_of (moving_flags p held c) j ≡ is_moving p held c j
+  flag_is_moving j agent = get_or-map-range_with_len (is_moving p held c) 0 (length p) j j false agent (omega arith)
+
+  -- an agent to which nothing happens
+  module _ (k : ℕ) (agent : k < length p) (unready : is_ready p c k ≡ false) where
+    stands : standing_at after k ≡ standing_at c k
+    stands = standing_at_tick p held c k agent ∙ other_stays p held c k (rw unready refl)
+
+    same_count : count_at after k ≡ count_at c k
+    same_count = ap (λ (s : Standing). s.count) stands
+
+    left_as_before : is_left p after k ≡ is_left p c k
+    left_as_before = rw same_count refl
+
+    lacks_still : (j : ℕ) → is_moving p held c j ≡ false → Lacks p c k j → Lacks p after k j
+    lacks_still j stays lacks =
+        let there = lacked_agent p c k j lacks runs.well_formed in
+        let same : standing_at after j ≡ standing_at c j = standing_at_tick p held c j there ∙ other_stays p held c j stays in
+        record {
+          place = lacks.place;
+          awaited = lacks.awaited;
+          at = rw same_count lacks.at;
+          agent = lacks.agent;
+          unmet = ap (λ n. nat_le lacks.awaited.count n) (ap (λ (s : Standing). s.count) (subst (λ a. standing_at after a ≡ standing_at c a) (sym lacks.agent) same)) ∙ lacks.unmet;
+        }
+
+    home_still : (h : Option ℕ) → is_on (flag_of (moving_flags p held c)) h ≡ false → IsHome p c k h → IsHome p after k h × (is_ready p after k ≡ false)
+    home_still None off home =
+        let done : is_left p after k ≡ false = left_as_before ∙ (sym home ∙ unready) in
+        let unready_after : is_ready p after k ≡ false = elim (cases_lt (count_at after k) (moves p k)) [
+          | inl lt ↦ absurd (true_is_false (sym (lt-ltb _ _ lt) ∙ done))
+          | inr le ↦ no_action_left p after k le
+        ] in
+        (unready_after ∙ sym done, unready_after)
+    home_still (Some j) off home =
+        let there = lacked_agent p c k j home runs.well_formed in
+        let lacks = lacks_still j (sym (flag_is_moving j there) ∙ off) home in
+        (lacks, unready_if_lacking p after k j lacks)
+
+  module _ (woken : MachineState) (wakes : IsWoken (flag_of (moving_flags p held c)) (record m { configuration = after; moving = moving_flags p held c; due = m.ready }) woken) where
+    pub configuration_woken : woken.configuration ≡ after
+    configuration_woken = ap (λ (w : MachineState). w.configuration) wakes.same
+
+    pub rows_woken : HasRows (length p) woken
+    rows_woken = record {
+      ready = ap (λ (w : MachineState). length w.ready) wakes.same ∙ runs.rows.ready;
+      left = ap (λ (w : MachineState). length w.left) wakes.same ∙ runs.rows.left;
+      due = wakes.long_due ∙ runs.rows.ready;
+      lists = ap (λ (w : MachineState). w.waiting.lists) wakes.same ∙ runs.rows.lists;
+      homes = wakes.long_homes ∙ runs.rows.homes;
+    }
+
+    -- who is due was ready, or stood in the list of one that moves
+    due_is : (k : ℕ) → k < length p → flag_of woken.due k ≡ (is_ready p c k || is_on (flag_of (moving_flags p held c)) (home_of m.waiting.homes k))
+    due_is k agent =
+        wakes.due k (let long = runs.rows.ready in omega arith)
+        ∙ ap (λ b. b || is_on (flag_of (moving_flags p held c)) (home_of m.waiting.homes k)) (runs.judged k agent).ready
+
+    freed : (h : Option ℕ) (k : ℕ) → IsHome p c k h → (is_ready p c k || is_on (flag_of (moving_flags p held c)) h) ≡ true → if_not_on (flag_of (moving_flags p held c)) h ≡ None
+    freed None k home is = refl
+    freed (Some j) k home is = go (flag_of (moving_flags p held c) j) (rw (unready_if_lacking p c k j home) at is)
+      where
+        go : (b : Bool) → b ≡ true → cond b None (Some j) ≡ None
+        go true e = refl
+        go false e = absurd cc
+
+    pub nowhere_if_due : (k : ℕ) → flag_of woken.due k ≡ true → home_of woken.waiting.homes k ≡ None
+    nowhere_if_due k due =
+        elim (cases_lt k (length p)) [
+          | inl agent ↦ wakes.homes k ∙ freed (home_of m.waiting.homes k) k (runs.judged k agent).home (sym (due_is k agent) ∙ due)
+          | inr past ↦ absurd (true_is_false (sym due ∙ get_or_past woken.due k false (let rows = rows_woken.due in omega arith)))
+        ]
+
+    module _ (new : MachineState) (same : new ≡ record woken { ready = new.ready; left = new.left; waiting = new.waiting }) (rows : HasRows (length p) new)
+        (judged : (k : ℕ) → k < length p → flag_of woken.due k ≡ true → IsJudged p new k)
+        (others : (k : ℕ) → flag_of woken.due k ≡ false → IsAsBefore woken new k) where
+      configuration_new : new.configuration ≡ after
+      configuration_new = ap (λ (w : MachineState). w.configuration) same ∙ configuration_woken
+
+      undisturbed : (k : ℕ) → k < length p → flag_of woken.due k ≡ false → IsJudged p new k
+      undisturbed k agent undue =
+          let calm = or_parts (is_ready p c k) (is_on (flag_of (moving_flags p held c)) (home_of m.waiting.homes k)) (sym (due_is k agent) ∙ undue) in
+          let still = home_still k agent calm.0 (home_of m.waiting.homes k) calm.1 (runs.judged k agent).home in
+          let kept = others k undue in
+          let here = runs.judged k agent in
+          record {
+            ready = kept.ready ∙ (ap (λ (w : MachineState). flag_of w.ready k) wakes.same ∙ (here.ready ∙ (calm.0 ∙ (sym still.1 ∙ ap (λ c. is_ready p c k) (sym configuration_new)))));
+            left = kept.left ∙ (ap (λ (w : MachineState). flag_of w.left k) wakes.same ∙ (here.left ∙ (sym (left_as_before k agent calm.0) ∙ ap (λ c. is_left p c k) (sym configuration_new))));
+            home = rw (configuration_new, kept.home, wakes.homes k) (not_freed (home_of m.waiting.homes k) calm.1 still.0);
+          }
+        where
+          not_freed : (h : Option ℕ) → is_on (flag_of (moving_flags p held c)) h ≡ false → IsHome p after k h → IsHome p after k (if_not_on (flag_of (moving_flags p held c)) h)
+          not_freed None off home = home
+          not_freed (Some j) off home = rw off home
+
+      pub runs_after : (looked : ℕ) → Runs p (record new { looked = looked })
+      runs_after looked = record {
+        well_formed = runs.well_formed;
+        agents = ap length configuration_new ∙ length-tick p held c;
+        flags = ap (λ (w : MachineState). length w.moving) (same ∙ ap (λ (w : MachineState). record w { ready = new.ready; left = new.left; waiting = new.waiting }) wakes.same)
+            ∙ length-map-range_with_len (is_moving p held c) 0 (length p);
+        rows = record { ready = rows.ready; left = rows.left; due = rows.due; lists = rows.lists; homes = rows.homes };
+        judged = λ k agent.
+            let here : IsJudged p new k = elim (cases_Bool (flag_of woken.due k)) [ inl due ↦ judged k agent due | inr undue ↦ undisturbed k agent undue ] in
+            record { ready = here.ready; left = here.left; home = here.home };
+      }
+
+    -- ---- how many were looked at
+
+    pub ready_counted : ready_in p c ≤ length (filter (flag_of woken.due) (indices (length p)))
+    ready_counted = fewer_pass (is_ready p c) (flag_of woken.due) (length p) (λ k agent ready. due_is k agent ∙ rw ready refl)
+
+    pub due_counted : length (filter (flag_of woken.due) (indices (length p))) ≤ ready_in p c + awaiting_in p held c
+    due_counted =
+        either_passes (flag_of woken.due) (is_ready p c) (λ k. not (is_ready p c k) && awaits_moving p held c k) (length p)
+        (λ k agent due. was (home_of m.waiting.homes k) k (is_ready p c k) refl (runs.judged k agent).home (sym (due_is k agent) ∙ due))
+      where
+        was : (h : Option ℕ) (k : ℕ) (r : Bool) → is_ready p c k ≡ r → IsHome p c k h → (is_ready p c k || is_on (flag_of (moving_flags p held c)) h) ≡ true
+            → (is_ready p c k ≡ true) ⊎ ((not (is_ready p c k) && awaits_moving p held c k) ≡ true)
+        was h k true e home is = inl e
+        was None k false e home is = absurd (true_is_false (sym is ∙ rw e refl))
+        was (Some j) k false e home is =
+            let there = lacked_agent p c k j home runs.well_formed in
+            inr (rw e (awaits_if_lacking p c k j home held (sym (flag_is_moving j there) ∙ (rw e at is))))
+
+-- the count of agents that were looked at, where so many were due
+pub looked_at : (r q due before after : ℕ) → r ≤ due → due ≤ r + q → LooksAt due 0 before after → LooksAt r q before after
+looked_at r q due before after le ge h = record {
+  kept = h.kept;
+  least = λ lt. omega (arith, h.least lt);
+  most = omega (arith, h.most);
+}

@@ -1,0 +1,201 @@
+-- Agents that are taken off lists.
+use Rattle.std.proofs.Common.{◌≡◌, ◌≢◌, ◌<◌, ◌+◌, ℕ, Bool, true, false, ◌||◌, ◌&&◌, List, length, set, Option, Some, None, refl, ap, sym, ◌∙◌, inl, inr, ◌⊎◌, arith, cond, get_or-set_same, get_or-set_other, length-set}
+use Rattle.std.specs.Prelude.{is_some, ◌==◌, nat_lt}
+use Rattle.std.specs.List.{count_by}
+use Rattle.std.proofs.lemmas.Bool.{cases_eq, cases_lt, lt-ltb, le-ltb}
+use Rattle.std.proofs.lemmas.Bool.Decides.{eqb_tells}
+use Rattle.std.proofs.lemmas.Option.{same_Some}
+use Rattle.std.proofs.lemmas.List.Sums.{sum_by-set}
+use Rattle.fleet_machine.specs.AgentSet.{AreNoneFrom, IsNextFrom}
+use Rattle.fleet_machine.specs.WaitLists.{home_of}
+use Rattle.fleet_machine.specs.Machine.{MachineState, flag_of}
+use Rattle.fleet_machine.specs.Waking.{is_on, if_not_on, IsWoken}
+
+or_no : (a : Bool) → a ≡ (a || false)
+or_no true = refl
+or_no false = refl
+
+or_yes : (a : Bool) → true ≡ (a || true)
+or_yes true = refl
+or_yes false = refl
+
+inside_some : {k j : ℕ} → Some k ≡ Some j → k ≡ j
+inside_some e = same_Some _ _ e
+
+eqb-refl : (n : ℕ) → (n == n) ≡ true
+eqb-refl n = elim (eqb_tells n n) [ inl h ↦ h.0 | inr h ↦ absurd (h.1 refl) ]
+
+ne-eqb : (a b : ℕ) → a ≢ b → (a == b) ≡ false
+ne-eqb a b other = elim (eqb_tells a b) [ inl h ↦ absurd (other h.1) | inr h ↦ h.0 ]
+
+none_is_some : {j : ℕ} → ◌≡◌ {A = Option ℕ} None (Some j) → ⊥
+none_is_some e = absurd cc
+
+-- ---- one list
+
+-- how many agents stand in lists
+abbrev pub standing_in : MachineState → ℕ
+standing_in m = count_by is_some m.waiting.homes
+
+-- so far some have been taken off list j
+pub record IsWaking (j : ℕ) (a b : MachineState) : Type 0 where
+  pub same : b ≡ record a { due = b.due; waiting = record a.waiting { homes = b.waiting.homes } }
+  pub long_due : length b.due ≡ length a.due
+  pub long_homes : length b.waiting.homes ≡ length a.waiting.homes
+  pub each : (i : ℕ) → ((home_of b.waiting.homes i ≡ home_of a.waiting.homes i) × (flag_of b.due i ≡ flag_of a.due i))
+      ⊎ ((home_of a.waiting.homes i ≡ Some j) × (home_of b.waiting.homes i ≡ None) × (i < length a.due → flag_of b.due i ≡ true))
+
+pub not_yet : (j : ℕ) (a : MachineState) → IsWaking j a a
+not_yet j a = record { same = refl; long_due = refl; long_homes = refl; each = λ i. inl (refl, refl) }
+
+module _ (j : ℕ) (a b : MachineState) (before : IsWaking j a b) where
+  pub one_taken : (i : ℕ) → i < length b.waiting.homes → home_of b.waiting.homes i ≡ Some j
+      → IsWaking j a (record b { due = set b.due i true; waiting = record b.waiting { homes = set b.waiting.homes i None } })
+  one_taken i there at = record {
+    same = ap (λ (m : MachineState). record m { due = set b.due i true; waiting = record m.waiting { homes = set b.waiting.homes i None } }) before.same;
+    long_due = length-set b.due i true ∙ before.long_due;
+    long_homes = length-set b.waiting.homes i None ∙ before.long_homes;
+    each = λ k. elim (cases_eq k i) [
+      | inl same ↦ inr (
+        rw same (first (before.each i)),
+        rw same (get_or-set_same b.waiting.homes i None None there),
+        λ inside. rw same (get_or-set_same b.due i true false (let here : k < length a.due = inside in omega (arith, before.long_due))),
+      )
+      | inr other ↦ elim (before.each k) [
+        | inl kept ↦ inl (get_or-set_other b.waiting.homes i k None None other ∙ kept.0, get_or-set_other b.due i k true false other ∙ kept.1)
+        | inr taken ↦ inr (taken.0, get_or-set_other b.waiting.homes i k None None other ∙ taken.1, λ inside. get_or-set_other b.due i k true false other ∙ taken.2 inside)
+      ]
+    ];
+  }
+    where
+      first : ((home_of b.waiting.homes i ≡ home_of a.waiting.homes i) × (flag_of b.due i ≡ flag_of a.due i))
+          ⊎ ((home_of a.waiting.homes i ≡ Some j) × (home_of b.waiting.homes i ≡ None) × (i < length a.due → flag_of b.due i ≡ true)) → home_of a.waiting.homes i ≡ Some j
+      first (inl kept) = sym kept.0 ∙ at
+      first (inr taken) = taken.0
+
+  pub all_taken : ((i : ℕ) → home_of b.waiting.homes i ≢ Some j) → IsWoken (λ k. k == j) a b
+  all_taken none = record {
+    same = before.same;
+    long_due = before.long_due;
+    long_homes = before.long_homes;
+    homes = λ i. homes_of (home_of a.waiting.homes i) refl (before.each i);
+    due = λ i inside. due_of (home_of a.waiting.homes i) refl inside (before.each i);
+  }
+    where
+      Each : ℕ → Type 0
+      Each i = ((home_of b.waiting.homes i ≡ home_of a.waiting.homes i) × (flag_of b.due i ≡ flag_of a.due i))
+          ⊎ ((home_of a.waiting.homes i ≡ Some j) × (home_of b.waiting.homes i ≡ None) × (i < length a.due → flag_of b.due i ≡ true))
+
+      off : (i k : ℕ) → home_of a.waiting.homes i ≡ Some k → home_of b.waiting.homes i ≡ home_of a.waiting.homes i → (k == j) ≡ false
+      off i k at kept = ne-eqb k j (λ same. none i (kept ∙ at ∙ ap Some same))
+
+      homes_of : {i : ℕ} (h : Option ℕ) → home_of a.waiting.homes i ≡ h → Each i → home_of b.waiting.homes i ≡ if_not_on (λ k. k == j) h
+      homes_of {i} None e (inl kept) = kept.0 ∙ e
+      homes_of {i} None e (inr taken) = taken.1
+      homes_of {i} (Some k) e (inl kept) = rw (off i k e kept.0) (kept.0 ∙ e)
+      homes_of {i} (Some k) e (inr taken) = let same : k ≡ j = inside_some (sym e ∙ taken.0) in rw (same, eqb-refl j) taken.1
+
+      due_of : {i : ℕ} (h : Option ℕ) → home_of a.waiting.homes i ≡ h → i < length a.due → Each i → flag_of b.due i ≡ (flag_of a.due i || is_on (λ k. k == j) h)
+      due_of {i} None e inside (inl kept) = kept.1 ∙ or_no (flag_of a.due i)
+      due_of {i} None e inside (inr taken) = absurd (none_is_some (sym e ∙ taken.0))
+      due_of {i} (Some k) e inside (inl kept) = rw (off i k e kept.0) (kept.1 ∙ or_no (flag_of a.due i))
+      due_of {i} (Some k) e inside (inr taken) = let same : k ≡ j = inside_some (sym e ∙ taken.0) in rw (same, eqb-refl j) (taken.2 inside ∙ or_yes (flag_of a.due i))
+
+-- fewer stand in lists
+pub fewer : (homes : List (Option ℕ)) (i j : ℕ) → i < length homes → home_of homes i ≡ Some j → count_by is_some (set homes i None) < count_by is_some homes
+fewer homes i j there at = less (sum_by-set one homes i None None there) (ap one at)
+  where
+    one : Option ℕ → ℕ
+    one h = cond (is_some h) 1 0
+
+    less : {before after here : ℕ} → after + here ≡ before + 0 → here ≡ 1 → after < before
+    less e h = omega arith
+
+pub fewer_after : (j : ℕ) (before after : MachineState) (i : ℕ) → (i < length before.waiting.homes) × (home_of before.waiting.homes i ≡ Some j)
+    × (after ≡ record before { due = set before.due i true; waiting = record before.waiting { homes = set before.waiting.homes i None } })
+    → standing_in after < standing_in before
+fewer_after j before after i h = rw h.2 (fewer before.waiting.homes i j h.0 h.1)
+
+-- ---- all lists of some
+
+home_law : (t u v : ℕ → Bool) (h : Option ℕ) → ((k : ℕ) → v k ≡ (t k || u k)) → if_not_on u (if_not_on t h) ≡ if_not_on v h
+home_law t u v None e = refl
+home_law t u v (Some k) e = rw (e k) (go (t k) (u k) refl)
+  where
+    go : (a b : Bool) → u k ≡ b → if_not_on u (cond a None (Some k)) ≡ cond (a || b) None (Some k)
+    go true b is = refl
+    go false b is = rw is refl
+
+due_law : (t u v : ℕ → Bool) (d : Bool) (h : Option ℕ) → ((k : ℕ) → v k ≡ (t k || u k)) → ((d || is_on t h) || is_on u (if_not_on t h)) ≡ (d || is_on v h)
+due_law t u v true h e = refl
+due_law t u v false None e = refl
+due_law t u v false (Some k) e = rw (e k) (go (t k) (u k) refl)
+  where
+    go : (a b : Bool) → u k ≡ b → (a || is_on u (cond a None (Some k))) ≡ (a || b)
+    go true b is = refl
+    go false b is = is
+
+pub none_woken : (t : ℕ → Bool) (m : MachineState) → ((k : ℕ) → t k ≡ false) → IsWoken t m m
+none_woken t m none = record {
+  same = refl;
+  long_due = refl;
+  long_homes = refl;
+  homes = λ i. kept (home_of m.waiting.homes i);
+  due = λ i inside. undue (home_of m.waiting.homes i) (flag_of m.due i);
+}
+  where
+    kept : (h : Option ℕ) → h ≡ if_not_on t h
+    kept None = refl
+    kept (Some k) = rw (none k) refl
+
+    undue : (h : Option ℕ) (d : Bool) → d ≡ (d || is_on t h)
+    undue None d = or_no d
+    undue (Some k) d = rw (none k) (or_no d)
+
+pub more_woken : (t u v : ℕ → Bool) (a b c : MachineState) → ((k : ℕ) → v k ≡ (t k || u k)) → IsWoken t a b → IsWoken u b c → IsWoken v a c
+more_woken t u v a b c e first then = record {
+  same = then.same ∙ ap (λ (m : MachineState). record m { due = c.due; waiting = record m.waiting { homes = c.waiting.homes } }) first.same;
+  long_due = then.long_due ∙ first.long_due;
+  long_homes = then.long_homes ∙ first.long_homes;
+  homes = λ i. then.homes i ∙ (ap (if_not_on u) (first.homes i) ∙ home_law t u v (home_of a.waiting.homes i) e);
+  due = λ i inside.
+      then.due i (omega (arith, first.long_due))
+      ∙ (rw (first.due i inside, first.homes i) (due_law t u v (flag_of a.due i) (home_of a.waiting.homes i) e));
+}
+
+-- those of the flagged agents that are below n
+abbrev pub below : List Bool → ℕ → ℕ → Bool
+below flags n k = flag_of flags k && nat_lt k n
+
+pub one_more_below : (flags : List Bool) (from i : ℕ) → IsNextFrom flags from i → (k : ℕ) → below flags (i + 1) k ≡ (below flags from k || (k == i))
+one_more_below flags from i next k =
+    elim (cases_lt k from) [
+      | inl lt ↦
+          let later = next.later in
+          rw (lt-ltb k from lt, lt-ltb k (i + 1) (omega arith), ne-eqb k i (omega arith)) (or_no _)
+      | inr ge ↦ elim (cases_eq k i) [
+        | inl same ↦ rw (same, next.member, lt-ltb i (i + 1) (omega arith), eqb-refl i) (or_yes _)
+        | inr other ↦ elim (cases_lt k i) [
+          | inl lt ↦ rw (next.between k ge lt, ne-eqb k i other) refl
+          | inr past ↦ rw (le-ltb k (i + 1) (omega arith), le-ltb k from ge, ne-eqb k i other) (or_no _)
+        ]
+      ]
+    ]
+
+pub all_below : (flags : List Bool) (from : ℕ) → AreNoneFrom flags from → (k : ℕ) → flag_of flags k ≡ (below flags from k || false)
+all_below flags from none k =
+    elim (cases_lt k from) [
+      | inl lt ↦ rw (lt-ltb k from lt) (and_yes (flag_of flags k))
+      | inr ge ↦ rw (none k ge) refl
+    ]
+  where
+    and_yes : (a : Bool) → a ≡ ((a && true) || false)
+    and_yes true = refl
+    and_yes false = refl
+
+pub none_below : (flags : List Bool) (k : ℕ) → below flags 0 k ≡ false
+none_below flags k = and_no (flag_of flags k)
+  where
+    and_no : (a : Bool) → (a && nat_lt k 0) ≡ false
+    and_no true = le-ltb k 0 (omega arith)
+    and_no false = refl

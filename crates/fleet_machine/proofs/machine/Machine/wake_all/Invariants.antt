@@ -1,0 +1,13 @@
+use Rattle.std.proofs.Common.{◌-◌, ◌≤◌, length}
+use Rattle.fleet_machine.specs.Waking.{IsWoken}
+use Rattle.fleet_machine.proofs.Waking.{below}
+use Rattle.fleet_machine.proofs.machine.Machine.wake_all.Given as goal
+
+abbrev pub invariant-loop-j : goal.invariant-loop-j
+invariant-loop-j l = record {
+  woken : IsWoken (below l.fn.self.moving l.from) l.fn.self l.self;
+  within : l.from ≤ length l.fn.self.moving;
+}
+
+abbrev pub decreases-loop-j : goal.decreases-loop-j
+decreases-loop-j l = length l.self.moving - l.from

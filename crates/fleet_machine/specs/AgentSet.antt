@@ -1,0 +1,39 @@
+-- Sets of agents, as bits of words.
+use Rattle.std.specs.Prelude.{◌≡◌, ℕ, ◌+◌, ◌/◌, ◌%◌, ◌^◌, ◌<◌, ◌≤◌, Bool, true, false, List, length, map, slice_index, if◌then◌else◌, ◌==◌}
+use Rattle.std.specs.Int.{bit_at}
+use Rattle.fleet_model.specs.Machine.{indices}
+use Rattle.fleet_machine.specs.Machine.{flag_of}
+
+abbrev pub bit_if : Bool → ℕ
+bit_if b = if b then 1 else 0
+
+-- bit i of the words, 64 to each, the first in the lowest bit of the first word
+abbrev pub is_bit : List ℕ → ℕ → Bool
+is_bit words i = bit_at (slice_index words (i / 64)) (i % 64) == 1
+
+-- a flag for each of n agents
+abbrev pub flags_in : List ℕ → ℕ → List Bool
+flags_in words n = map (is_bit words) (indices n)
+
+-- words for n agents, with no bit for another
+pub record AreBits (words : List ℕ) (n : ℕ) : Type 0 where
+  pub few : n < 2 ^ 16
+  pub long : length words ≡ n / 64 + 1
+  pub rest : (i : ℕ) → n ≤ i → is_bit words i ≡ false
+
+-- the lowest bit of the word that is set
+pub record IsLowest (word place : ℕ) : Type 0 where
+  pub within : place < 64
+  pub is_set : bit_at word place ≡ 1
+  pub lower : (k : ℕ) → k < place → bit_at word k ≡ 0
+
+-- no flag is set from there on
+abbrev pub AreNoneFrom : List Bool → ℕ → Type 0
+AreNoneFrom flags from = (k : ℕ) → from ≤ k → flag_of flags k ≡ false
+
+-- the first flag from there on that is set
+pub record IsNextFrom (flags : List Bool) (from i : ℕ) : Type 0 where
+  pub agent : i < length flags
+  pub later : from ≤ i
+  pub member : flag_of flags i ≡ true
+  pub between : (k : ℕ) → from ≤ k → k < i → flag_of flags k ≡ false

@@ -1,0 +1,40 @@
+-- Steps of a tick.
+use Rattle.std.specs.Prelude.{◌≡◌, ℕ, ◌<◌, Bool, false, ◌||◌, length, set, Option, Some, None, if◌then◌else◌}
+use Rattle.fleet_model.specs.Program.{Program}
+use Rattle.fleet_model.specs.Machine.{is_ready}
+use Rattle.fleet_machine.specs.WaitLists.{home_of}
+use Rattle.fleet_machine.specs.Machine.{MachineState, flag_of, is_left, IsHome}
+
+-- the list is one of these
+abbrev pub is_on : (ℕ → Bool) → Option ℕ → Bool
+is_on lists None = false
+is_on lists (Some j) = lists j
+
+-- the list, unless it is one of these
+abbrev pub if_not_on : (ℕ → Bool) → Option ℕ → Option ℕ
+if_not_on lists home = if is_on lists home then None else home
+
+-- who stood in these lists stands in none and is to be judged, and nothing else is changed
+pub record IsWoken (lists : ℕ → Bool) (before after : MachineState) : Type 0 where
+  pub same : after ≡ record before { due = after.due; waiting = record before.waiting { homes = after.waiting.homes } }
+  pub long_due : length after.due ≡ length before.due
+  pub long_homes : length after.waiting.homes ≡ length before.waiting.homes
+  pub homes : (i : ℕ) → home_of after.waiting.homes i ≡ if_not_on lists (home_of before.waiting.homes i)
+  pub due : (i : ℕ) → i < length before.due
+      → flag_of after.due i ≡ (flag_of before.due i || is_on lists (home_of before.waiting.homes i))
+
+-- agent i is flagged anew and stands where it belongs, and nothing else is changed
+pub record IsPlaced (p : Program) (before after : MachineState) (i : ℕ) : Type 0 where
+  pub home : Option ℕ
+  pub belongs : IsHome p before.configuration i home
+  pub same : after ≡ record before {
+    ready = set before.ready i (is_ready p before.configuration i);
+    left = set before.left i (is_left p before.configuration i);
+    waiting = record before.waiting { homes = set before.waiting.homes i home };
+  }
+
+-- agent i is flagged, and stands, as before
+pub record IsAsBefore (before after : MachineState) (i : ℕ) : Type 0 where
+  pub ready : flag_of after.ready i ≡ flag_of before.ready i
+  pub left : flag_of after.left i ≡ flag_of before.left i
+  pub home : home_of after.waiting.homes i ≡ home_of before.waiting.homes i

@@ -1,0 +1,25 @@
+use Rattle.std.proofs.Common.{◌≡◌, arith, sym, ◌∙◌, drop}
+use Rattle.fleet_run.specs.Text.{rehearsal_closing}
+use Rattle.fleet_run.proofs.Rehearsed.{over_at_end, closing_is, stops_in_closing, rest_of_row}
+use Rattle.fleet_model.specs.Machine.{run}
+use Rattle.fleet_run.proofs.report.run_rehearsal.Goals as goal
+
+pub returns-then-is_err : goal.returns-then-is_err
+returns-then-is_err g c =
+    let p = g.P.ProgramView.program c.args.program.now in
+    let holds = (g.S.HoldSource.state c.args.source.now).ticks in
+    let ran = c.in_ok-ran.ensures.lines.1 in
+    let t = c.in_ok-ran.ran.ticks in
+    let over = over_at_end p (run p holds t) c.in_ok-ran.ran.end ran.end in
+    let closing : drop c.write_rehearsal_closing-at.result c.write_rehearsal_closing-at.new.row ≡ rehearsal_closing p holds t =
+    c.write_rehearsal_closing-at.ensures.written ∙ closing_is p holds c.agents-agents.result t c.in_ok-ran.ran.held c.in_ok-ran.ran.end c.agents-agents.ensures.count ran.held ran.end in
+    let whole = rest_of_row c.write_rehearsal_closing-at.new.row 100 c.write_rehearsal_closing-at.result (omega arith) in
+    let stops = stops_in_closing p holds t (g.O.TraceOut.state c.args.out.now) (g.O.TraceOut.state c.run_lines.new.out) (g.O.TraceOut.state c.put_all.new.out) c.put_all.result _ over.0 ran.taken c.put_all.ensures (sym c.is_err.ensures.value ∙ c.if-is_err.true) (whole ∙ closing) in (
+      t,
+      record {
+        needed = ran.needed;
+        asked = record { left = ran.asked.left; kept = ran.asked.kept; ended = ran.asked.ended; fault = ran.asked.fault };
+        taken = stops.0;
+        failed = stops.1;
+      },
+    )

@@ -1,0 +1,48 @@
+-- Labels of safe intervals.
+use Rattle.std.specs.Prelude.{◌≡◌, ◌≢◌, ℕ, zero, suc, ◌≤◌, ◌==◌, ◌⊎◌, cond, List, [], ◌∷◌, length, map, get_or, Option, None, Some}
+use Rattle.fleet_table.specs.Table.{value_in}
+use Rattle.fleet_search.specs.declared.labels.Label.{Label}
+use Rattle.fleet_search.specs.declared.labels.Labels.{Labels}
+
+abbrev pub no_label : Label
+no_label = record { search = 0; time = 0 }
+
+-- the labels of the later intervals of a cell: its row, counted from 1
+abbrev pub later_in : Labels → ℕ → List Label
+later_in l cell = get_or ([] ∷ map (λ v. v.items) l.rows.items) (value_in l.numbers cell) []
+
+-- the label of an interval of a cell
+abbrev pub label_in : Labels → ℕ → ℕ → Label
+label_in l cell zero = value_in l.first cell
+label_in l cell (suc n) = get_or (later_in l cell) n no_label
+
+-- the earliest time in an interval, where the latest search has come there
+abbrev pub earliest_in : Labels → ℕ → ℕ → Option ℕ
+earliest_in l cell interval = cond ((label_in l cell interval).search == l.search) (Some (label_in l cell interval).time) None
+
+-- the earliest time is the one or before
+pub record IsSeen (earliest : Option ℕ) (t : ℕ) : Type 0 where
+  pub time : ℕ
+  pub is : earliest ≡ Some time
+  pub early : time ≤ t
+
+-- the numbers of rows are those of rows, and no two cells have one row
+pub record AreRowsApart (l : Labels) : Type 0 where
+  pub few : (cell : ℕ) → value_in l.numbers cell ≤ length l.rows.items
+  pub apart : (c d : ℕ) → c ≢ d → value_in l.numbers c ≡ value_in l.numbers d → value_in l.numbers c ≡ 0
+
+-- no label is one of a later search
+pub record AreLabels (l : Labels) : Type 0 where
+  pub past : (cell interval : ℕ) → (label_in l cell interval).search ≤ l.search
+  pub rows : AreRowsApart l
+
+-- the label is put, and the others stay
+pub record IsLabelPut (old new : Labels) (cell interval : ℕ) (label : Label) : Type 0 where
+  pub search : new.search ≡ old.search
+  pub set : label_in new cell interval ≡ label
+  pub others : (c n : ℕ) → (c ≢ cell) ⊎ (n ≢ interval) → label_in new c n ≡ label_in old c n
+
+-- the time is the earliest in the interval, and the others have theirs as before
+pub record IsLabelSet (old new : Labels) (cell interval time : ℕ) : Type 0 where
+  pub set : earliest_in new cell interval ≡ Some time
+  pub others : (c n : ℕ) → (c ≢ cell) ⊎ (n ≢ interval) → earliest_in new c n ≡ earliest_in old c n

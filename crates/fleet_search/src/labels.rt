@@ -1,0 +1,189 @@
+//! Labels of safe intervals: when a search has come there at the earliest.
+
+ghost use Rattle.std.specs.Prelude.{◌≡◌, ◌≢◌, ◌<◌, ◌↔◌, ℕ, IsTrue, suc, OnOk, None, get_or};
+ghost use Rattle.fleet_table.specs.Table.{value_in};
+ghost use Rattle.fleet_search.specs.Labels.{no_label, label_in, earliest_in, AreLabels, AreRowsApart, IsLabelPut, IsLabelSet, IsSeen};
+
+use fleet_model::OutOfMemory;
+use fleet_table::Table;
+use std::alloc::Global;
+
+/// The earliest time at which the search of this number comes to a safe interval.
+#[derive(Clone, Copy, Debug)]
+pub struct Label {
+    pub search: u16,
+    pub time: u16,
+}
+
+/// No search has come to the interval.
+const NONE: Label = Label { search: 0, time: 0 };
+
+/// For each safe interval of each cell the earliest time of the latest search there. Labels of earlier searches stay in the
+/// table, where their numbers tell them apart.
+#[derive(Drop)]
+pub struct Labels {
+    pub alloc: Global,
+    pub search: u16,
+    /// For each cell the label of its first interval.
+    pub first: Table<Label>,
+    /// For each cell how many rows there were when that of its later intervals was added, with it; 0 where it has none.
+    pub numbers: Table<usize>,
+    pub rows: Vec<Vec<Label>>,
+}
+
+impl Labels {
+    /// No interval has a label. Takes no memory.
+    pub fn new(alloc: Global) -> Labels
+        ensures labels { AreLabels result }
+        ensures search { result.search ≡ 0 }
+    {
+        Labels {
+            alloc,
+            search: 0,
+            first: Table::new(alloc, NONE),
+            numbers: Table::new(alloc, 0),
+            rows: Vec::new(alloc),
+        }
+    }
+
+    /// The earliest time in this safe interval of the cell.
+    fn earliest(&self, cell: usize, interval: usize) -> Option<u16>
+        requires { AreLabels self.now }
+        ensures { result ≡ earliest_in self.now cell interval }
+    {
+        let label = self.label(cell, interval);
+        if label.search == self.search {
+            Some(label.time)
+        } else {
+            None
+        }
+    }
+
+    /// Whether the search has come to this safe interval of the cell by the time.
+    pub fn is_reached(&self, cell: usize, interval: usize, time: u32) -> bool
+        requires { AreLabels self.now }
+        ensures { IsTrue result ↔ IsSeen (earliest_in self.now cell interval) time }
+    {
+        match self.earliest(cell, interval) {
+            Some(earliest) => u32::from(earliest) <= time,
+            None => false,
+        }
+    }
+
+    /// The label of this interval, by whichever search.
+    fn label(&self, cell: usize, interval: usize) -> Label
+        requires { AreLabels self.now }
+        ensures { result ≡ label_in self.now cell interval }
+    {
+        if interval == 0 {
+            self.first.get(cell)
+        } else {
+            self.later(cell, interval - 1)
+        }
+    }
+
+    /// The label at a place of the cell's row.
+    fn later(&self, cell: usize, place: usize) -> Label
+        requires { AreLabels self.now }
+        ensures { result ≡ label_in self.now cell (suc place) }
+    {
+        let number = self.numbers.get(cell);
+        if number == 0 {
+            NONE
+        } else {
+            label_at(&self.rows[number - 1], place)
+        }
+    }
+
+    /// Notes that the search comes to this safe interval of the cell at the time.
+    #[tactic(auto, using(crate::proofs::LabelLaws::label_is_set, crate::proofs::LabelLaws::labels_stay))]
+    pub fn note(&mut self, cell: usize, interval: usize, time: u16) -> Result<(), OutOfMemory>
+        requires labels { AreLabels self.old }
+        requires few { interval < 4294967295 }
+        ensures labels { OnOk result (AreLabels self.new) }
+        ensures set { OnOk result (IsLabelSet self.old self.new cell interval time) }
+    {
+        let search = self.search;
+        let label = Label { search, time };
+        if interval == 0 {
+            self.put_first(cell, label)
+        } else {
+            self.put_later(cell, interval - 1, label)
+        }
+    }
+
+    /// Puts the label of the cell's first interval.
+    fn put_first(&mut self, cell: usize, label: Label) -> Result<(), OutOfMemory>
+        requires { AreLabels self.old }
+        ensures apart { OnOk result (AreRowsApart self.new) }
+        ensures put { OnOk result (IsLabelPut self.old self.new cell 0 label) }
+    {
+        self.first.set(cell, label)?;
+        Ok(())
+    }
+
+    /// Puts the label at a place of the cell's row.
+    fn put_later(&mut self, cell: usize, place: usize, label: Label) -> Result<(), OutOfMemory>
+        requires labels { AreLabels self.old }
+        requires few { place < 4294967295 }
+        ensures apart { OnOk result (AreRowsApart self.new) }
+        ensures put { OnOk result (IsLabelPut self.old self.new cell (suc place) label) }
+    {
+        let number = self.numbers.get(cell);
+        if number == 0 {
+            return self.add_row(cell, place, label);
+        }
+        set_in(&mut self.rows[number - 1], place, label)?;
+        Ok(())
+    }
+
+    /// Adds a row with the label at a place of it, where the cell has none.
+    fn add_row(&mut self, cell: usize, place: usize, label: Label) -> Result<(), OutOfMemory>
+        requires labels { AreLabels self.old }
+        requires none { value_in self.old.numbers cell ≡ 0 }
+        requires few { place < 4294967295 }
+        ensures apart { OnOk result (AreRowsApart self.new) }
+        ensures put { OnOk result (IsLabelPut self.old self.new cell (suc place) label) }
+    {
+        let mut labels = Vec::new(self.alloc);
+        set_in(&mut labels, place, label)?;
+        self.rows.push(labels)?;
+        self.numbers.set(cell, self.rows.len())?;
+        Ok(())
+    }
+
+    /// Begins a search: no interval has a label of its number. Where the numbers end all labels are taken off.
+    pub fn begin(&mut self)
+        requires { AreLabels self.old }
+        ensures labels { AreLabels self.new }
+        ensures none { (cell : ℕ) (interval : ℕ) → earliest_in self.new cell interval ≡ None }
+    {
+        if self.search == u16::MAX {
+            *self = Labels::new(self.alloc);
+        }
+        self.search += 1;
+    }
+}
+
+/// The label at a place of the row.
+fn label_at(row: &[Label], place: usize) -> Label
+    ensures { result ≡ get_or row.now place no_label }
+{
+    match row.get(place) {
+        Some(label) => *label,
+        None => NONE,
+    }
+}
+
+/// Sets the label at a place of the row.
+fn set_in(row: &mut Vec<Label>, place: usize, label: Label) -> Result<(), OutOfMemory>
+    requires { place < 4294967295 }
+    ensures set { OnOk result (get_or row.new.items place no_label ≡ label) }
+    ensures others { OnOk result ((n : ℕ) → n ≢ place → get_or row.new.items n no_label ≡ get_or row.old.items n no_label) }
+{
+    if row.len() <= place {
+        row.resize(place + 1, NONE)?;
+    }
+    row[place] = label;
+    Ok(())
+}

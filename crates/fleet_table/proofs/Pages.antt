@@ -1,0 +1,38 @@
+-- Pages of values.
+use Rattle.std.proofs.Common.{◌≡◌, ◌≢◌, ℕ, ◌*◌, ◌+◌, ◌/◌, ◌%◌, ◌<◌, ◌≤◌, List, [], length, map, get_or, inl, inr, refl, sym, ap, ◌∙◌, arith}
+use Rattle.std.specs.Prelude.{Vec, set}
+use Rattle.std.specs.declared.alloc.Global.{Global}
+use Rattle.std.proofs.lemmas.Bool.{cases_eq}
+use Rattle.std.proofs.lemmas.List.{get_or-set_same, get_or-set_other, get_or-map, map-set, length-map}
+use Rattle.fleet_table.specs.declared.table.Table.{Table}
+use Rattle.fleet_table.specs.Table.{page_in, value_in, IsSet}
+
+pub page-read : {V : Type 0} (pages : List (Vec V Global)) (k : ℕ) (page : Vec V Global) → k < length pages → page ≡ get_or pages k page → page_in pages k ≡ page.items
+page-read pages k page h e = get_or-map (λ v. v.items) pages k page [] h ∙ ap (λ v. v.items) (sym e)
+
+pub page-set : {V : Type 0} (pages : List (Vec V Global)) (k : ℕ) (page : Vec V Global) → k < length pages → page_in (set pages k page) k ≡ page.items
+page-set {V} pages k page h = ap (λ z. get_or z k []) (map-set (λ v. v.items) pages k page) ∙ get_or-set_same (map (λ v. v.items) pages) k page.items [] (omega (arith, length-map pages (λ (v : Vec V Global). v.items)))
+
+pub page-other : {V : Type 0} (pages : List (Vec V Global)) (i k : ℕ) (page : Vec V Global) → k ≢ i → page_in (set pages i page) k ≡ page_in pages k
+page-other pages i k page ne = ap (λ z. get_or z k []) (map-set (λ v. v.items) pages i page) ∙ get_or-set_other (map (λ v. v.items) pages) i k page.items [] ne
+
+-- two numbers on one page stand in two places of it
+pub places-differ : (k n : ℕ) → k ≢ n → k / 1024 ≡ n / 1024 → k % 1024 ≢ n % 1024
+places-differ k n ne page place = ne (omega arith)
+
+-- a page is exchanged for one that has the value, and the same values at its other places
+pub page-exchanged : {V : Type 0} (old new : Table V) (reached : List (Vec V Global)) (number : ℕ) (value : V) (page written : Vec V Global) → ((k : ℕ) → page_in reached k ≡ page_in old.pages.items k) → number / 1024 < length reached → page ≡ get_or reached (number / 1024) page → new.pages.items ≡ set reached (number / 1024) written → new.blank ≡ old.blank → get_or written.items (number % 1024) old.blank ≡ value → ((k : ℕ) → k ≢ number % 1024 → get_or written.items k old.blank ≡ get_or page.items k old.blank) → IsSet old new number value
+page-exchanged old new reached number value page written same within read exchanged blank here others = record {
+  here = now_at number ∙ ap (λ z. get_or z (number % 1024) old.blank) (page-set reached (number / 1024) written within) ∙ here;
+  others = λ k ne. now_at k ∙ elim (cases_eq (k / 1024) (number / 1024)) [
+    | inl s ↦
+        ap (λ z. get_or (page_in (set reached (number / 1024) written) z) (k % 1024) old.blank) s
+        ∙ ap (λ z. get_or z (k % 1024) old.blank) (page-set reached (number / 1024) written within)
+        ∙ others (k % 1024) (places-differ k number ne s)
+        ∙ ap (λ z. get_or z (k % 1024) old.blank) (sym (page-read reached (number / 1024) page within read) ∙ same (number / 1024) ∙ ap (page_in old.pages.items) (sym s))
+    | inr other ↦ ap (λ z. get_or z (k % 1024) old.blank) (page-other reached (number / 1024) (k / 1024) written other ∙ same (k / 1024))
+  ];
+}
+  where
+    now_at : (k : ℕ) → value_in new k ≡ get_or (page_in (set reached (number / 1024) written) (k / 1024)) (k % 1024) old.blank
+    now_at k = ap (λ z. get_or (page_in z (k / 1024)) (k % 1024) new.blank) exchanged ∙ ap (get_or (page_in (set reached (number / 1024) written) (k / 1024)) (k % 1024)) blank

@@ -1,0 +1,17 @@
+-- Values by number, in pages.
+use Rattle.std.specs.Prelude.{◌≡◌, ◌≢◌, ℕ, ◌/◌, ◌%◌, List, [], map, get_or, Vec}
+use Rattle.std.specs.declared.alloc.Global.{Global}
+use Rattle.fleet_table.specs.declared.table.Table.{Table}
+
+-- the values of a page; past the last page there are none
+abbrev pub page_in : {V : Type 0} → List (Vec V Global) → ℕ → List V
+page_in pages page = get_or (map (λ v. v.items) pages) page []
+
+-- the value of a number; past the end of its page it is the blank one
+abbrev pub value_in : {V : Type 0} → Table V → ℕ → V
+value_in t number = get_or (page_in t.pages.items (number / 1024)) (number % 1024) t.blank
+
+-- the number has the value, and the others have theirs as before
+pub record IsSet {V : Type 0} (old new : Table V) (number : ℕ) (value : V) : Type 0 where
+  pub here : value_in new number ≡ value
+  pub others : (k : ℕ) → k ≢ number → value_in new k ≡ value_in old k

@@ -1,0 +1,93 @@
+//! Tables by number.
+
+ghost use Rattle.std.specs.Prelude.{◌≡◌, ◌≢◌, ◌≤◌, ◌<◌, ℕ, OnOk, length, get_or};
+ghost use Rattle.fleet_table.specs.declared.table.TheConstants.{PAGE};
+ghost use Rattle.fleet_table.specs.Table.{IsSet, page_in, value_in};
+
+use std::alloc::{AllocError, Global};
+
+/// How many values stand in a page.
+const PAGE: usize = 1024;
+
+/// A value for each number. It takes memory for the pages in which a value was set, and 24 bytes for each page before those.
+#[derive(Drop)]
+pub struct Table<V: Copy> {
+    alloc: Global,
+    /// The value of each number that was not set.
+    blank: V,
+    /// Past the end of a page, and of the pages, all values are blank.
+    pages: Vec<Vec<V>>,
+}
+
+impl<V: Copy> Table<V> {
+    /// The table in which each number has this value. Takes no memory.
+    pub fn new(alloc: Global, blank: V) -> Table<V>
+        ensures { (number : ℕ) → value_in result number ≡ blank }
+    {
+        Table {
+            alloc,
+            blank,
+            pages: Vec::new(alloc),
+        }
+    }
+
+    /// The value of the number.
+    pub fn get(&self, number: usize) -> V
+        ensures { result ≡ value_in self.now number }
+    {
+        let Some(page) = self.pages.get(number / PAGE) else {
+            return self.blank;
+        };
+        match page.get(number % PAGE) {
+            Some(value) => *value,
+            None => self.blank,
+        }
+    }
+
+    /// Sets the value of the number.
+    pub fn set(&mut self, number: usize, value: V) -> Result<(), AllocError>
+        ensures { OnOk result (IsSet self.old self.new number value) }
+    {
+        let page = number / PAGE;
+        reach(self.alloc, &mut self.pages, page)?;
+        write(&mut self.pages[page], number % PAGE, value, self.blank)?;
+        Ok(())
+    }
+}
+
+/// Makes the list of pages so long that it has this one.
+fn reach<V: Copy>(alloc: Global, pages: &mut Vec<Vec<V>>, page: usize) -> Result<(), AllocError>
+    requires { page < 18014398509481984 }
+    ensures room { OnOk result (page < length pages.new.items) }
+    ensures same { OnOk result ((k : ℕ) → page_in pages.new.items k ≡ page_in pages.old.items k) }
+{
+    for _more in pages.len()..page + 1 {
+        pages.push(Vec::new(alloc))?;
+    }
+    Ok(())
+}
+
+/// Writes the value at a place of the page.
+fn write<V: Copy>(page: &mut Vec<V>, place: usize, value: V, blank: V) -> Result<(), AllocError>
+    requires { place < PAGE }
+    ensures here { OnOk result (get_or page.new.items place blank ≡ value) }
+    ensures others { OnOk result ((k : ℕ) → k ≢ place → get_or page.new.items k blank ≡ get_or page.old.items k blank) }
+{
+    if page.len() <= place {
+        fill(page, blank)?;
+    }
+    page[place] = value;
+    Ok(())
+}
+
+/// Makes the page whole: the values that it lacks are blank.
+fn fill<V: Copy>(page: &mut Vec<V>, blank: V) -> Result<(), AllocError>
+    ensures whole { OnOk result (PAGE ≤ length page.new.items) }
+    ensures same { OnOk result ((place : ℕ) → get_or page.new.items place blank ≡ get_or page.old.items place blank) }
+{
+    page.reserve_exact(PAGE - page.len().min(PAGE))?;
+    for _more in page.len()..PAGE {
+        page.push(blank)?;
+    }
+    Ok(())
+}

@@ -1,0 +1,16 @@
+use Rattle.std.proofs.Common.{◌≡◌, ◌<◌, length, ap, sym, ◌∙◌, arith}
+use Rattle.fleet_model.specs.declared.standing.Standing.{Standing}
+use Rattle.fleet_model.specs.Program.{moves, path}
+use Rattle.fleet_model.specs.Machine.{count_at}
+use Rattle.fleet_verify.proofs.Held.{finished_all}
+use Rattle.fleet_verify.proofs.UnderWay.{on_path, within_moves}
+use Rattle.fleet_verify.proofs.agents.has_arrived.Goals as goal
+
+pub ends_right-requires-clause-end : goal.ends_right-requires-clause-end
+ends_right-requires-clause-end g c =
+    let p = g.P.ProgramView.program c.args.program.now in
+    let d = c.args.machine.now.configuration in
+    let i = c.loop-agent.agent in
+    let agent : i < length p = omega (arith, c.agents-agent-end.ensures.count) in
+    let all : count_at d i ≡ moves p i = omega (arith, finished_all p d (sym c.is_finished.ensures ∙ c.if-not-is_finished.false) i agent, within_moves p d c.requires.reached i) in
+    ap (λ (s : Standing). s.place) c.agent.ensures.standing ∙ (on_path p d c.requires.reached i agent ∙ ap (path p i) all)

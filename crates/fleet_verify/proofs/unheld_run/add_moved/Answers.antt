@@ -1,0 +1,48 @@
+use Rattle.std.proofs.Common.{◌≡◌, ◌<◌, ◌++◌, ◌∷◌, [], true, List, length, refl, sym, ◌∙◌, subst, arith}
+use Rattle.std.proofs.lemmas.List.Elements.{All-push}
+use Rattle.fleet_model.specs.declared.program.Visit.{Visit}
+use Rattle.fleet_model.specs.Machine.{count_at}
+use Rattle.fleet_grid.specs.Ground.{is_passable}
+use Rattle.fleet_machine.specs.Machine.{flag_of}
+use Rattle.fleet_machine.specs.AgentSet.{IsNextFrom, AreNoneFrom}
+use Rattle.fleet_verify.specs.Faults.{StandsRight}
+use Rattle.fleet_verify.specs.Order.{AreAdded}
+use Rattle.fleet_verify.specs.Walk.{moved_to, position_in, AreOnGround}
+use Rattle.fleet_verify.proofs.Begun.{positions_passed, positions_yes, one_moved}
+use Rattle.fleet_verify.proofs.unheld_run.add_moved.Goals as goal
+
+pub loop-agent-preserved : goal.loop-agent-preserved
+loop-agent-preserved g c =
+    let p = g.P.ProgramView.program c.args.program.now in
+    let m = c.args.machine.now in
+    let i = c.in-Some.agent in
+    let old = c.loop-agent.invariant in
+    let next : IsNextFrom m.moving c.loop-agent.from i = c.in-Some.ensures in
+    let passed = positions_passed (flag_of m.moving) (count_at m.configuration) c.loop-agent.from i next.later next.between in
+    let made = c.in_ok-add_position.ensures in
+    let Stands = λ (v : Visit). StandsRight (is_passable c.args.grid.now) p v.agent v.position in
+    let agent : i < length p = omega (arith, next.agent, c.requires.runs.flags) in
+    record {
+      added = λ before was.
+          subst (λ (vs : List Visit). AreAdded p vs c.add_position.new.visits) (one_moved before (flag_of m.moving) (count_at m.configuration) i (count_at m.configuration i) next.member refl)
+          (made.added c.if-not-branch.false (before ++ moved_to m i) (subst (λ (vs : List Visit). AreAdded p (before ++ vs) c.loop-agent.visits) (sym passed) (old.added before was)));
+      on_ground = subst (AreOnGround (is_passable c.args.grid.now) p) (sym (positions_yes (flag_of m.moving) (count_at m.configuration) i next.member))
+          (All-push Stands (moved_to m i) (position_in m i) (subst (AreOnGround (is_passable c.args.grid.now) p) (sym passed) old.on_ground) (made.on_ground c.if-not-branch.false));
+      within = omega (arith, agent);
+    }
+
+pub returns-clause-added : goal.returns-clause-added
+returns-clause-added g c =
+    let p = g.P.ProgramView.program c.args.program.now in
+    let m = c.args.machine.now in
+    let none : AreNoneFrom m.moving c.loop-agent.from = c.in_default.ensures in
+    let passed = positions_passed (flag_of m.moving) (count_at m.configuration) c.loop-agent.from (length p) c.loop-agent.invariant.within (λ k later below. none k later) in
+    λ yes before was. subst (λ (vs : List Visit). AreAdded p (before ++ vs) c.loop-agent.visits) (sym passed) (c.loop-agent.invariant.added before was)
+
+pub returns-clause-on_ground : goal.returns-clause-on_ground
+returns-clause-on_ground g c =
+    let p = g.P.ProgramView.program c.args.program.now in
+    let m = c.args.machine.now in
+    let none : AreNoneFrom m.moving c.loop-agent.from = c.in_default.ensures in
+    let passed = positions_passed (flag_of m.moving) (count_at m.configuration) c.loop-agent.from (length p) c.loop-agent.invariant.within (λ k later below. none k later) in
+    λ yes. subst (AreOnGround (is_passable c.args.grid.now) p) (sym passed) c.loop-agent.invariant.on_ground

@@ -1,0 +1,41 @@
+use Rattle.std.proofs.Common.{◌≡◌, ◌++◌, ◌∷◌, [], ℕ, List, length, ap, sym, ◌∙◌, subst, arith, refl}
+use Rattle.std.proofs.lemmas.List.Elements.{All-push}
+use Rattle.fleet_model.specs.declared.program.Visit.{Visit}
+use Rattle.fleet_model.specs.Machine.{Configuration, count_at}
+use Rattle.fleet_grid.specs.Ground.{is_passable}
+use Rattle.fleet_verify.specs.Faults.{StandsRight}
+use Rattle.fleet_verify.specs.Order.{AreAdded}
+use Rattle.fleet_verify.specs.Walk.{AreOnGround}
+use Rattle.fleet_verify.proofs.Counts.{count_opening}
+use Rattle.fleet_verify.proofs.UnderWay.{starts_of, starts_more, opened_visits}
+use Rattle.fleet_verify.proofs.unheld_run.add_starts.Goals as goal
+
+pub add_position-requires-clause-reached : goal.add_position-requires-clause-reached
+add_position-requires-clause-reached g c = record { holds = []; ticks = 0; same = sym c.requires.opening }
+
+pub loop-agent-preserved : goal.loop-agent-preserved
+loop-agent-preserved g c =
+    let p = g.P.ProgramView.program c.args.program.now in
+    let i = c.loop-agent.agent in
+    let old = c.loop-agent.invariant in
+    let made = c.in_ok-add_position.ensures in
+    let none : count_at c.args.machine.now.configuration i ≡ 0 = ap (λ (d : Configuration). count_at d i) c.requires.opening ∙ count_opening p [] i in
+    let Stands = λ (v : Visit). StandsRight (is_passable c.args.grid.now) p v.agent v.position in
+    record {
+      added = subst (λ (vs : List Visit). AreAdded p vs c.add_position.new.visits) (starts_more i)
+          (subst (λ (n : ℕ). AreAdded p (starts_of i ++ record { agent = i; position = n } ∷ []) c.add_position.new.visits) none (made.added c.if-not-branch.false (starts_of i) old.added));
+      on_ground = subst (AreOnGround (is_passable c.args.grid.now) p) (starts_more i)
+          (All-push Stands (starts_of i) (record { agent = i; position = 0 }) old.on_ground (subst (λ (n : ℕ). StandsRight (is_passable c.args.grid.now) p i n) none (made.on_ground c.if-not-branch.false)));
+    }
+
+pub returns-clause-added : goal.returns-clause-added
+returns-clause-added g c = λ on.
+    let p = g.P.ProgramView.program c.args.program.now in
+    let all : c.loop-agent.agent ≡ length p = omega (arith, c.agents-agent-end.ensures.count) in
+    subst (λ (vs : List Visit). AreAdded p vs c.loop-agent.visits) (ap starts_of all ∙ opened_visits p) c.loop-agent.invariant.added
+
+pub returns-clause-on_ground : goal.returns-clause-on_ground
+returns-clause-on_ground g c = λ on.
+    let p = g.P.ProgramView.program c.args.program.now in
+    let all : c.loop-agent.agent ≡ length p = omega (arith, c.agents-agent-end.ensures.count) in
+    subst (AreOnGround (is_passable c.args.grid.now) p) (ap starts_of all ∙ opened_visits p) c.loop-agent.invariant.on_ground

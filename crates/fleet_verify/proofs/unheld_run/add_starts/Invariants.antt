@@ -1,0 +1,11 @@
+use Rattle.fleet_grid.specs.Ground.{is_passable}
+use Rattle.fleet_verify.specs.Order.{AreAdded}
+use Rattle.fleet_verify.specs.Walk.{AreOnGround}
+use Rattle.fleet_verify.proofs.UnderWay.{starts_of}
+use Rattle.fleet_verify.proofs.unheld_run.add_starts.Given as goal
+
+abbrev pub invariant-loop-agent : goal.invariant-loop-agent
+invariant-loop-agent g l = record {
+  added : AreAdded (g.P.ProgramView.program l.program) (starts_of l.agent) l.visits;
+  on_ground : AreOnGround (is_passable l.grid) (g.P.ProgramView.program l.program) (starts_of l.agent);
+}

@@ -1,0 +1,167 @@
+//! The visits in the order in which they begin, grouped by cell, and neighbours among them of which the second may not come after
+//! the first.
+
+ghost use Rattle.std.specs.Prelude.{◌≡◌, ◌≢◌, ◌↔◌, ◌++◌, ◌<◌, ◌≤◌, [], ◌∷◌, ℕ, length, nat_eq, IsTrue, OnOk, Some};
+ghost use Rattle.indexmap.specs.IndexMap.{get, Updates};
+ghost use Rattle.fleet_model.specs.Program.{moves, IsCell};
+ghost use Rattle.fleet_model.specs.Visit.{is_entry, leaving, IsVisit, ComesAfter};
+ghost use Rattle.fleet_verify.specs.Order.{number_of, IsJudgedNext};
+
+use fleet_model::{Cell, MAX_COORDINATE, OutOfMemory, ProgramView, Step, Visit};
+use indexmap::IndexMap;
+use std::alloc::Global;
+
+/// An agent after so many of its actions, and the cell that it is on then.
+#[derive(Clone, Copy, Debug)]
+pub struct PlacedVisit {
+    pub visit: Visit,
+    pub cell: Cell,
+}
+
+/// Visits of a cell, one right after the other, of which the second may not come after the first.
+#[derive(Clone, Copy, Debug, Drop)]
+pub struct OrderViolation {
+    pub first: Visit,
+    pub second: Visit,
+}
+
+/// What is kept of the visits so far, in the order in which they began: by the number of each cell the last one, and the first
+/// neighbours that break the rule.
+#[derive(Drop)]
+pub struct VisitOrder {
+    pub last: IndexMap<u32, Visit>,
+    pub violations: IndexMap<u32, OrderViolation>,
+}
+
+/// The number of a cell, which no other cell has.
+pub fn number_of(cell: Cell) -> u32
+    ensures number { result ≡ number_of cell }
+    ensures cell { IsCell cell }
+{
+    let Cell { x, y } = cell;
+    u32::from(y) * (MAX_COORDINATE + 1) + u32::from(x)
+}
+
+impl VisitOrder {
+    ghost use Rattle.std.specs.Prelude.{List};
+    ghost use Rattle.fleet_model.specs.declared.program.Visit.{Visit};
+    ghost use Rattle.fleet_model.specs.Program.{Program};
+    ghost use Rattle.fleet_verify.specs.Order.{IsPlaced, AreAdded};
+
+    /// No visits.
+    pub fn new(alloc: Global) -> Self
+        ensures { (p : Program) → AreAdded p [] result }
+    {
+        VisitOrder {
+            last: IndexMap::new(alloc),
+            violations: IndexMap::new(alloc),
+        }
+    }
+
+    /// Adds what comes next, if it begins a visit.
+    pub fn add<P: ProgramView>(
+        &mut self,
+        program: &P,
+        placed: PlacedVisit,
+    ) -> Result<(), OutOfMemory>
+        requires agent { placed.visit.agent < length (P.program program.now) }
+        requires position { placed.visit.position ≤ moves (P.program program.now) placed.visit.agent }
+        requires placed { IsPlaced (P.program program.now) placed }
+        ensures { OnOk result ((visits : List Visit) → AreAdded (P.program program.now) visits self.old
+            → AreAdded (P.program program.now) (visits ++ placed.visit ∷ []) self.new) }
+    {
+        if begins_visit(program, placed.visit) {
+            append(program, &mut self.last, &mut self.violations, placed)?;
+        }
+        Ok(())
+    }
+}
+
+/// Whether the agent does not stay where it was: it is on its start, or its last action is a move.
+fn begins_visit<P: ProgramView>(program: &P, visit: Visit) -> bool
+    requires agent { visit.agent < length (P.program program.now) }
+    requires position { visit.position ≤ moves (P.program program.now) visit.agent }
+    ensures { result ≡ is_entry (P.program program.now) visit.agent visit.position }
+{
+    if visit.position == 0 || program.never_stays() {
+        return true;
+    }
+    match program.step(visit.agent, visit.position) {
+        Step::Go(_) => true,
+        Step::Dwell => false,
+    }
+}
+
+/// Keeps the visit as the last one of its cell, and that it breaks the rule, if no earlier one of the cell does.
+fn append<P: ProgramView>(
+    program: &P,
+    last: &mut IndexMap<u32, Visit>,
+    violations: &mut IndexMap<u32, OrderViolation>,
+    placed: PlacedVisit,
+) -> Result<(), OutOfMemory>
+    requires { IsVisit (P.program program.now) placed.visit }
+    ensures last { OnOk result (Updates nat_eq last.old last.new (number_of placed.cell) (Some placed.visit)) }
+    ensures others { OnOk result ((n : ℕ) → n ≢ number_of placed.cell
+        → get nat_eq violations.new n ≡ get nat_eq violations.old n) }
+    ensures here { OnOk result (IsJudgedNext (ComesAfter (P.program program.now))
+        (get nat_eq last.old (number_of placed.cell)) placed.visit
+        (get nat_eq violations.old (number_of placed.cell)) (get nat_eq violations.new (number_of placed.cell))) }
+    ensures cell { IsCell placed.cell }
+{
+    let PlacedVisit {
+        visit: second,
+        cell,
+    } = placed;
+    let number = number_of(cell);
+    let Some(first) = last.insert(number, second)? else {
+        return Ok(());
+    };
+    if comes_after(program, first, second) || violations.contains_key(&number) {
+        return Ok(());
+    }
+    violations.insert(number, OrderViolation { first, second })?;
+    Ok(())
+}
+
+/// Whether the second visit may come directly after the first: later by the same agent, or entered by an action that awaits the
+/// leaving of the first.
+fn comes_after<P: ProgramView>(program: &P, first: Visit, second: Visit) -> bool
+    requires { IsVisit (P.program program.now) second }
+    ensures { IsTrue result ↔ ComesAfter (P.program program.now) first second }
+{
+    if first.agent == second.agent && first.position < second.position {
+        return true;
+    }
+    if second.position == 0 {
+        return false;
+    }
+    let _agents = program.agents();
+    for k in 0..program.await_count(second.agent, second.position) {
+        let awaited = program.await_at(second.agent, second.position, k);
+        if awaited.agent == first.agent && is_left_by(program, first, awaited.count) {
+            return true;
+        }
+    }
+    false
+}
+
+/// Whether the action that leaves the visit is among so many of its agent's actions.
+fn is_left_by<P: ProgramView>(program: &P, visit: Visit, count: u32) -> bool
+    requires { visit.agent < length (P.program program.now) }
+    ensures { IsTrue result ↔ (leaving (P.program program.now) visit).number ≤ count }
+{
+    if program.never_stays() {
+        return visit.position < count;
+    }
+    let moves = program.moves(visit.agent);
+    for finished in visit.position..count {
+        if finished >= moves {
+            return true;
+        }
+        match program.step(visit.agent, finished + 1) {
+            Step::Go(_) => return true,
+            Step::Dwell => {}
+        }
+    }
+    false
+}

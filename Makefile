@@ -17,7 +17,7 @@ help:
 	@echo 'make test                  the gate: proofs, tests, edits that must fail, and then the examples'
 	@echo 'make examples              runs the program on every example of the documents, and on files and streams at their limits'
 	@echo 'make examples FLEET=PATH   the same of another program'
-	@echo 'make picture               draws docs/warehouse.svg anew'
+	@echo 'make picture               draws the film and the chart of the README anew, docs/warehouse.svg and docs/waits.svg'
 
 test:
 	rt ci
@@ -48,8 +48,9 @@ demo: $(FLEET)
 	@echo
 	@echo 'The program is $(FLEET); make install PREFIX=$$HOME/.local puts it on the path.'
 
-picture: $(FLEET)
-	$(FLEET) auto $(WAREHOUSE) --holds examples/warehouse.holds | awk -f examples/picture.awk examples/warehouse.map - > docs/warehouse.svg
+picture:
+	awk -f tools/run.awk -f tools/film.awk examples/warehouse.map examples/warehouse.trace examples/warehouse.holds > docs/warehouse.svg
+	awk -f tools/run.awk -f tools/waits.awk examples/warehouse.trace examples/warehouse.holds > docs/waits.svg
 
 install: $(FLEET)
 	install -D -m 755 $(FLEET) $(DESTDIR)$(PREFIX)/bin/fleet

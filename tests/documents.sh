@@ -25,3 +25,11 @@ cat "$work"/REFUSALS/*.err | sed "$plain" | sort -u > "$work/out"
 grep -v '^run 2 Source$' "$work/want.out" > "$work/want" && mv "$work/want" "$work/want.out"
 status=0
 judge 'docs/REFUSALS.md has an example of each refusal but run 2' 'examples of docs/REFUSALS.md' 0
+
+# The program of docs/LIBRARY.md is the crate that the gate proves.
+awk '/^```$/ { on = 0 } on; /^```rust$/ { on = 1 }' "$root/docs/LIBRARY.md" > "$work/out"
+cp "$root/crates/fleet_example/src/lib.rt" "$work/want.out"
+: > "$work/err"
+: > "$work/want.err"
+status=0
+judge 'docs/LIBRARY.md has the source of crates/fleet_example' 'docs/LIBRARY.md against crates/fleet_example/src/lib.rt' 0

@@ -21,11 +21,11 @@ export PATH LC_ALL
 passed=0 failed=0 skipped=0
 room=$work/room
 
-# A new folder in which commands run, with a copy of the examples.
+# A new folder in which commands run, with a copy of the examples and of the tools.
 enter() {
     room=$work/room/$1
     mkdir -p "$room"
-    cp -R "$root/examples" "$room/"
+    cp -R "$root/examples" "$root/tools" "$room/"
 }
 
 # Runs a command line in the room.
@@ -85,7 +85,7 @@ document() {
     done
 }
 
-for section in documents commands warehouse files limits streams; do
+for section in documents commands warehouse plans tools files limits streams memory; do
     . "$root/tests/$section.sh"
 done
 

@@ -44,6 +44,14 @@ else
     check 'OUT stays as it was' 0 'kept\n' '' 'cat kept'
 fi
 
+# in_full COMMAND..: with a small file system at the folder full.
+cat > "$work/bin/in_full" <<'EOF'
+#!/bin/sh
+mkdir -p full
+exec unshare -rm sh -c 'mount -t tmpfs -o size=16k none full && exec "$@"' sh "$@"
+EOF
+chmod +x "$work/bin/in_full"
+
 # OUT.
 numbers='agents 3\nmoves 6\nawaits 4\nbytes 62\n'
 check 'OUT is written' 0 "$numbers" '' "fleet compile $M $S $P out"
@@ -60,6 +68,21 @@ check 'so there is none' 1 '' '' 'ls | grep none'
 check 'OUT in no folder' 3 '' 'file no/out\n' "fleet compile $M $S $P no/out"
 check 'OUT is a folder' 3 '' 'file examples\n' "fleet compile $M $S $P examples"
 check 'OUT is full' 3 '' 'file /dev/full\n' "fleet compile $M $S $P /dev/full"
+# Limits and ends of the system, on the program of the warehouse, of 58,119 bytes.
+W='examples/warehouse.map examples/warehouse.scen'
+check 'a plan of the warehouse' 0 '' '' "fleet plan $W > many"
+check 'OUT beyond a file-size limit: the system ends the program by a signal' 0 '153\n' '' \
+    "exec 2> said; (ulimit -c 0; ulimit -f 1; fleet compile $W many big); echo \$?"
+check 'OUT beyond a file-size limit that ends no program' 3 '' 'file big\n' "(trap '' XFSZ; ulimit -f 1; fleet compile $W many big)"
+check 'OUT has no byte beyond the limit' 0 '' '' '[ $(wc -c < big) -le 1024 ]'
+if full=$(cd "$room" && in_full true 2>&1); then
+    check 'OUT in a full file system' 3 '' 'file full/out\n' "in_full fleet compile $W many full/out"
+    check 'a refused plan in a full file system' 1 '' 'check 2 Agents\n' "in_full fleet compile $W many full/out --agents 3"
+    check 'a trace into a full file system' 3 '' 'run 4 Write\n' "in_full sh -c 'fleet auto $W > full/trace'"
+    check 'a plan into a full file system' 3 '' 'file -\n' "in_full sh -c 'fleet plan $W > full/plan'"
+else
+    skip "a full file system: $full"
+fi
 check 'OUT has a blank in its name' 0 "$numbers" '' "fleet compile $M $S $P 'a b' && cmp 'a b' $B"
 check 'a name of one dash is a file' 0 "$numbers" '' "fleet compile $M $S $P - && cmp ./- $B && rm ./-"
 check 'a file of one dash is missing' 3 '' 'file -\n' 'fleet rehearse -'

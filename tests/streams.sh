@@ -46,3 +46,7 @@ check 'two refusals into one file are two lines' 0 'map 2 Header line 1\nscen 11
 # A file-size limit of the system ends the program by a signal, 25 of them here.
 check 'a file-size limit' 0 '153\n' '' \
     'exec 2> said; (ulimit -c 0; ulimit -f 1; fleet auto examples/warehouse.map examples/warehouse.scen > big); echo $?'
+check 'a file-size limit that ends no program' 3 '' 'run 4 Write\n' \
+    "(trap '' XFSZ; ulimit -f 1; fleet auto examples/warehouse.map examples/warehouse.scen > big)"
+check 'the file has the front of the trace' 0 '' '' \
+    'fleet auto examples/warehouse.map examples/warehouse.scen > whole; n=$(wc -c < big); [ $n -ge 512 ] && head -c $n whole | cmp - big'

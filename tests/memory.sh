@@ -1,0 +1,117 @@
+# Memory: the program with each growth refused in turn, and in address spaces from too small to ample. The answer is the command's own, or the line
+# `memory` with status 3, nothing on standard output, and OUT as it was.
+
+enter memory
+on='examples/pair.map examples/pair.scen'
+many='examples/warehouse.map examples/warehouse.scen'
+
+# due COMMAND..: runs a command, and keeps what is due of it.
+cat > "$work/bin/due" <<'EOF'
+echo kept > out
+"$@" > due.got 2> due.told < "$input"
+echo $? > due.status
+cp out due.out
+EOF
+
+# judged COMMAND..: runs it under $limits, and tells what it did if that is neither what is due nor want of memory. `was` then says which.
+# A status from 126 on is that of a program that the system could not start.
+cat > "$work/bin/judged" <<'EOF'
+echo kept > out
+$limits "$@" > got 2> told < "$input"
+status=$?
+line= more= bytes=
+{ read -r line; read -r more; } < told
+[ -s got ] || read -r bytes < out
+if [ "$status $line$more $bytes" = '3 memory kept' ]; then was=lacking
+elif [ "$status" = "$(cat due.status)" ] && cmp -s got due.got && cmp -s told due.told && cmp -s out due.out; then was=right
+elif [ "$status" -ge 126 ]; then was=unstarted
+else was=wrong; echo "$limits: status $status, $(wc -c < got) bytes, $line"
+fi
+EOF
+
+# growths COMMAND..: with each growth refused in turn. Tells wrong answers, and `each` where memory lacked each time, or all but twice: the buffer of
+# the output can be done without, and so can its growth.
+cat > "$work/bin/growths" <<'EOF'
+#!/bin/sh
+. due
+n=1 lacking=0
+GROWTHS=count LD_PRELOAD=$REFUSER "$@" > got 2>&1 < "$input"
+all=$(cat count)
+while [ "$n" -le "$all" ]; do
+    limits="env LD_PRELOAD=$REFUSER REFUSE=$n"
+    . judged 2> died
+    [ "$was" != lacking ] || lacking=$((lacking + 1))
+    n=$((n + 1))
+done
+if [ "$lacking" -ge 10 ] && [ "$((all - lacking))" -le 2 ]; then echo each; else echo "memory lacked in $lacking of $all"; fi
+EOF
+
+# within SPACE COMMAND..: in an address space of so many KB.
+cat > "$work/bin/within" <<'EOF'
+#!/bin/sh
+program=$(command -v "$2")
+ulimit -c 0
+ulimit -v "$1"
+shift 2
+exec "$program" "$@"
+EOF
+
+# spaces STEP COMMAND..: in address spaces that grow by STEP KB, from one in which the system cannot start the program to one in which the answer is
+# what is due. Tells wrong answers, and which kinds of answers came after one another.
+cat > "$work/bin/spaces" <<'EOF'
+#!/bin/sh
+step=$1
+shift
+. due
+space=1024 before= order=
+while [ "$before" != right ] && [ "$space" -le 262144 ]; do
+    limits="within $space"
+    . judged 2> died
+    [ "$was" = "$before" ] || order="$order $was"
+    before=$was
+    if [ "$was" = unstarted ]; then space=$((space + 16)); else space=$((space + step)); fi
+done
+echo $order
+EOF
+chmod +x "$work/bin/growths" "$work/bin/spaces" "$work/bin/within"
+input=/dev/null
+REFUSER=$work/bin/refuse.so
+export input REFUSER
+
+if ${CC:-cc} -shared -fPIC -o "$REFUSER" "$root/tests/refuse.c" -ldl 2> /dev/null; then
+    while read -r words; do
+        check "each growth refused: $words" 0 'each\n' '' "growths fleet $words"
+    done <<EOF
+instance $on
+check $on examples/pair.plan
+plan $on
+compile $on examples/pair.plan out
+compile $on examples/pair.plan out --deps all
+verify $on examples/pair.program
+run $on examples/pair.program
+run $on examples/pair.program --holds examples/corridor.holds
+rehearse examples/pair.program
+auto $on
+auto $on --horizon 1
+instance $on --agents 3
+verify examples/corridor.map examples/corridor.scen examples/pair.program
+EOF
+    check 'each growth refused: no words' 0 'each\n' '' 'input=examples/pair.hex growths fleet'
+else
+    skip 'each growth refused: there is no compiler of C'
+fi
+
+check 'a plan and its program' 0 '' '' "fleet plan $many > plan && fleet compile $many plan program > numbers"
+while read -r step words; do
+    check "small address spaces: $words" 0 'unstarted lacking right\n' '' "spaces $step fleet $words"
+done <<EOF
+4 instance $many
+4 check $many plan
+64 plan $many
+16 compile $many plan out
+16 verify $many program
+16 run $many program
+16 rehearse program
+64 auto $many --holds examples/warehouse.holds
+EOF
+rm -rf "$room"

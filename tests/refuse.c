@@ -1,0 +1,50 @@
+// Refuses one growth of a program. With LD_PRELOAD naming this library, the growth of that number in the variable REFUSE fails, counted from 1,
+// and the file named by GROWTHS, if any, gets how many were asked for.
+#define _GNU_SOURCE
+#include <dlfcn.h>
+#include <errno.h>
+#include <fcntl.h>
+#include <stdio.h>
+#include <stdlib.h>
+#include <unistd.h>
+
+static long growths;
+
+// Whether this growth is the one that is refused.
+static int is_refused(void)
+{
+    const char *number = getenv("REFUSE");
+    growths++;
+    if (!number || growths != atol(number))
+        return 0;
+    errno = ENOMEM;
+    return 1;
+}
+
+void *malloc(size_t size)
+{
+    static void *(*next)(size_t);
+    if (!next)
+        next = (void *(*)(size_t))dlsym(RTLD_NEXT, "malloc");
+    return is_refused() ? NULL : next(size);
+}
+
+void *realloc(void *old, size_t size)
+{
+    static void *(*next)(void *, size_t);
+    if (!next)
+        next = (void *(*)(void *, size_t))dlsym(RTLD_NEXT, "realloc");
+    return is_refused() ? NULL : next(old, size);
+}
+
+__attribute__((destructor)) static void tell(void)
+{
+    const char *name = getenv("GROWTHS");
+    char line[32];
+    if (!name)
+        return;
+    int file = open(name, O_WRONLY | O_CREAT | O_TRUNC, 0644);
+    int length = snprintf(line, sizeof line, "%ld\n", growths);
+    if (file >= 0 && write(file, line, length) == length)
+        close(file);
+}

@@ -1,0 +1,64 @@
+# Draws a run as a film, an SVG that moves by itself:
+#     awk -f tools/run.awk -f tools/film.awk MAP TRACE [HOLDS] > FILM
+# Blocked cells are grey. Each agent is a disc, with a ring on its goal; it is red and larger while it is held, and orange while it waits for
+# another. The bar below is the time. -v rate=N: N ticks a second (8).
+
+function colour(i) { return "hsl(" int((i * 137.5) % 360) ",70%,42%)" }
+
+function key(t) { return sprintf("%.5g", t / whole) }
+
+function centre(i, t) { return X[i, t] + 0.5 "," Y[i, t] + 0.5 }
+
+# An attribute that changes: its values, and the parts of the film at which they begin.
+function animation(tag, rest, values, keys) {
+    return "<" tag " " rest " values=\"" values "\" keyTimes=\"" keys "\" dur=\"" whole / rate "s\" repeatCount=\"indefinite\"/>"
+}
+
+# Where agent i goes: its corners and stops.
+function way(i,   t, values, keys) {
+    values = centre(i, 0)
+    keys = 0
+    for (t = 1; t < last; t++) {
+        if (X[i, t] - X[i, t - 1] != X[i, t + 1] - X[i, t] || Y[i, t] - Y[i, t - 1] != Y[i, t + 1] - Y[i, t]) {
+            values = values ";" centre(i, t)
+            keys = keys ";" key(t)
+        }
+    }
+    return animation("animateTransform", "attributeName=\"transform\" type=\"translate\"", \
+        values ";" centre(i, last) ";" centre(i, last), keys ";" key(last) ";1")
+}
+
+# How agent i looks from tick to tick.
+function looks(i,   t, now, before, fills, sizes, keys) {
+    before = "goes"
+    fills = colour(i)
+    sizes = ".45"
+    keys = 0
+    for (t = 1; t <= last; t++) {
+        now = state(i, t)
+        if (now == "rests") now = "goes"
+        if (now == before) continue
+        if (t == 1) fills = sizes = keys = ""
+        fills = fills (t == 1 ? "" : ";") (now == "held" ? "#e00" : now == "waits" ? "#f90" : colour(i))
+        sizes = sizes (t == 1 ? "" : ";") (now == "held" ? ".8" : ".45")
+        keys = keys (t == 1 ? "" : ";") (t == 1 ? 0 : key(t - 1))
+        before = now
+    }
+    if (keys == "0" && fills == colour(i)) return ""
+    return animation("animate", "attributeName=\"fill\" calcMode=\"discrete\"", fills, keys) \
+        (sizes ~ /8/ ? animation("animate", "attributeName=\"r\" calcMode=\"discrete\"", sizes, keys) : "")
+}
+
+END {
+    if (!rate) rate = 8
+    whole = last + 2 * rate
+    printf "<svg xmlns=\"http://www.w3.org/2000/svg\" viewBox=\"0 0 %d %d\" width=\"%d\" role=\"img\">\n", width, height + 3, width * 6
+    printf "<title>A run of %d agents in %d ticks</title>\n", agents, last
+    printf "<rect width=\"%d\" height=\"%d\" fill=\"#fff\"/>\n<path fill=\"#b8bcc2\" d=\"%s\"/>\n", width, height + 3, blocked
+    print "<g fill=\"none\" stroke-width=\".14\">"
+    for (i = 0; i < agents; i++) printf "<circle cx=\"%s\" cy=\"%s\" r=\".45\" stroke=\"%s\"/>\n", X[i, last] + 0.5, Y[i, last] + 0.5, colour(i)
+    print "</g>"
+    for (i = 0; i < agents; i++) printf "<circle r=\".45\" transform=\"translate(%s)\" fill=\"%s\">%s%s</circle>\n", centre(i, 0), colour(i), way(i), looks(i)
+    printf "<rect y=\"%d\" height=\"1\" width=\"%d\" fill=\"#eee\"/>\n<rect y=\"%d\" height=\"1\" width=\"0\" fill=\"#36c\">", height + 1, width, height + 1
+    printf "%s</rect>\n</svg>\n", animation("animate", "attributeName=\"width\"", "0;" width ";" width, "0;" key(last) ";1")
+}

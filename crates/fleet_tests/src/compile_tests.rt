@@ -1,6 +1,6 @@
 //! Plans that are compiled.
 
-use crate::commands::{Answer, expect_over, prints, program_of, refuses, worked_files};
+use crate::commands::{Answer, expect_over, fails, prints, program_of, refuses, worked_files};
 use crate::fixtures::*;
 use std::alloc::Global;
 use std::process::Abort;
@@ -65,26 +65,80 @@ fn plans_are_compiled(rt: HostRuntime) -> Result<(), Fail> {
     Ok(())
 }
 
+/// What the file `out` holds before a plan is compiled.
+const KEPT: &[u8] = b"kept\n";
+
+/// The words of this line are refused so, and the file `out` has its old bytes then; where there was none, there is none.
+fn expect_kept(
+    rt: &impl Abort,
+    alloc: Global,
+    line: &str,
+    plan: &[u8],
+    answer: Answer<'_>,
+) -> Result<(), Fail> {
+    expect_compiled(rt, alloc, line, plan, answer, None)?;
+    let given: [(&str, &[u8]); 2] = [("plan", plan), ("out", KEPT)];
+    let mut files = worked_files(alloc, &given).ok_or("memory")?;
+    expect_over(rt, alloc, line, &mut files, answer)?;
+    assert_eq!(rt; files.get("out"), Some(KEPT), "{line}");
+    Ok(())
+}
+
 #[test]
 fn refused_plans_are_not_written(rt: HostRuntime) -> Result<(), Fail> {
     let line = "compile pair.map pair.scen plan out";
-    let nobody = "compile pair.map pair.scen plan out --agents 0";
-    let rows: [(&str, &[u8], &[u8]); 4] = [
-        (line, b"1,0 2,0 3,0\n", b"check 2 Agents\n"),
+    let hasty = b"1,0 1,0 2,0 3,0\n0,0 1,0 2,0\n".as_slice();
+    let rows: [(&str, &[u8], Answer<'_>); 11] = [
+        (line, b"", refuses(b"text 4 AgentCount\n")),
+        (line, b"1,0 2,0 3,0\n", refuses(b"check 2 Agents\n")),
         (
             line,
             b"1,0 2,0 3,0\n0,0 1,0 2,0 \n\n",
-            b"text 2 Form line 3\n",
+            refuses(b"text 2 Form line 3\n"),
         ),
         (
             line,
-            b"1,0 1,0 2,0 3,0\n0,0 1,0 2,0\n",
-            b"check 6 Conflict Vertex time 1 i 0 j 1\n",
+            b"2,0 3,0\n0,0 1,0 2,0\n",
+            refuses(b"check 3 Start agent 0\n"),
         ),
-        (nobody, PAIR_PLAN, b"scen 9 NoAgents\n"),
+        (
+            line,
+            b"1,0 2,0 3,0\n0,0 1,0\n",
+            refuses(b"check 4 Goal agent 1\n"),
+        ),
+        (
+            line,
+            b"1,0 3,0\n0,0 1,0 2,0\n",
+            refuses(b"check 5 Step agent 0 time 1\n"),
+        ),
+        (
+            line,
+            hasty,
+            refuses(b"check 6 Conflict Vertex time 1 i 0 j 1\n"),
+        ),
+        (
+            "compile pair.map pair.scen plan out --agents 0",
+            PAIR_PLAN,
+            refuses(b"scen 9 NoAgents\n"),
+        ),
+        (
+            "compile pair.scen pair.scen plan out",
+            PAIR_PLAN,
+            refuses(b"map 2 Header line 1\n"),
+        ),
+        (
+            "compile pair.map pair.map plan out",
+            PAIR_PLAN,
+            refuses(b"scen 2 Version\n"),
+        ),
+        (
+            "compile pair.map pair.scen none out",
+            PAIR_PLAN,
+            fails(b"file none\n"),
+        ),
     ];
-    for (line, plan, told) in rows {
-        expect_compiled(&rt, rt.alloc(), line, plan, refuses(told), None)?;
+    for (line, plan, answer) in rows {
+        expect_kept(&rt, rt.alloc(), line, plan, answer)?;
     }
     Ok(())
 }

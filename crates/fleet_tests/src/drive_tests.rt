@@ -1,18 +1,22 @@
 //! Fleets that are started, ticked and driven: their texts, their refusals, and what can be done after those.
 
 ghost use Rattle.std.specs.Prelude.{◌≡◌, length, IfOk, All};
+ghost use Rattle.fleet_text.specs.Sink.{IsWorking};
 
-use crate::fixtures::{CELL_MAP, CELL_SCEN, LATE_TRACE, PAIR_MAP, PAIR_SCEN, PAIR_TRACE, TWO_MAP};
+use crate::fixtures::{
+    CELL_MAP, CELL_SCEN, LATE_TRACE, PAIR, PAIR_MAP, PAIR_SCEN, PAIR_TRACE, TWO_MAP,
+};
 use crate::rehearsal_tests::{self, pair, two_walkers};
-use crate::streams::{failing_source, short_out};
+use crate::streams::{Failing, failing_source, short_out, short_writer};
+use fleet_code::{load, read_hex, view};
 use fleet_grid::{Grid, read_map};
 use fleet_model::{
     Action, AgentProgram, Awaits, Cell, Dir, OutOfMemory, Place, Program, ProgramView, Step,
     well_formed,
 };
 use fleet_run::{
-    Fleet, HoldList, HoldSource, HoldText, NotSent, Report, RunFault, SourceFault, Tick, VecOut,
-    drive,
+    Fleet, HoldList, HoldSource, HoldText, NotSent, Report, RunFault, SourceFault, Tick, TraceOut,
+    VecOut, WriteOut, drive,
 };
 use fleet_scen::{Instance, read_scen};
 use fleet_verify::verify;
@@ -24,12 +28,12 @@ use std::test::Fail;
 const EAST: Option<Step> = Some(Step::Go(Dir::East));
 
 /// A fleet that runs a program, which has to be accepted.
-fn fleet_of<'g>(
+pub fn fleet_of<'g, P: ProgramView + Drop>(
     alloc: Global,
-    program: Program,
+    program: P,
     grid: &'g Grid,
     instance: &'g Instance,
-) -> Result<Fleet<'g, Program>, Fail>
+) -> Result<Fleet<'g, P>, Fail>
     ensures program { IfOk result (λ f. f.accepted.program ≡ program) }
     ensures counts { IfOk result (λ f. All (λ s. s.count ≡ 0) f.configuration) }
 {
@@ -244,8 +248,8 @@ fn both_are_held_for_long(rt: HostRuntime) -> Result<(), Fail> {
 }
 
 /// Ticks the pair on with nobody held, so often that it reaches its goals.
-fn check_arrival(rt: &impl Abort, fleet: &mut Fleet<'_, Program>)
-    requires { length fleet.old.accepted.program ≡ 2 }
+fn check_arrival<P: ProgramView>(rt: &impl Abort, fleet: &mut Fleet<'_, P>)
+    requires { length (P.program fleet.old.accepted.program) ≡ 2 }
 {
     fleet.tick(&[false, false]);
     fleet.tick(&[false, false]);
@@ -254,6 +258,23 @@ fn check_arrival(rt: &impl Abort, fleet: &mut Fleet<'_, Program>)
     assert_eq!(rt; [fleet.count(0), fleet.count(1)], [2, 2]);
     assert_eq!(rt; fleet.place(0), Place { x: 3, y: 0 });
     assert_eq!(rt; fleet.place(1), Place { x: 2, y: 0 });
+}
+
+/// The pair has run so many ticks with nobody held, and goes on to its goals.
+fn check_stop<P: ProgramView>(
+    rt: &impl Abort,
+    fleet: &mut Fleet<'_, P>,
+    ticks: u32,
+) -> Result<(), Fail> {
+    if fleet.agents() != 2 {
+        return Err(Fail::from("not two agents"));
+    }
+    assert_eq!(rt;
+        [fleet.count(0), fleet.count(1)],
+        [ticks.min(2), ticks.saturating_sub(1)]
+    );
+    check_arrival(rt, fleet);
+    Ok(())
 }
 
 #[test]
@@ -290,27 +311,72 @@ fn a_line_that_is_no_tick(rt: HostRuntime) -> Result<(), Fail> {
     Ok(())
 }
 
+/// The first lines of the pair's trace, so many. Each has 11 bytes.
+fn first_lines(lines: usize) -> &'static [u8] {
+    PAIR_TRACE
+        .get(..lines.saturating_mul(11))
+        .unwrap_or(PAIR_TRACE)
+}
+
+/// The run of a pair under a source that gives so many ticks and then breaks off.
+fn check_failing_source<P: ProgramView + Drop>(
+    rt: &impl Abort,
+    alloc: Global,
+    fleet: Fleet<'_, P>,
+    given: u8,
+) -> Result<(), Fail>
+    requires { All (λ s. s.count ≡ 0) fleet.configuration }
+{
+    let mut fleet = fleet;
+    let mut source = failing_source(given, SourceFault::Broken);
+    let mut out = VecOut::new(alloc);
+    let told = drive(&mut fleet, &mut source, &mut out);
+    // With three ticks the pair is at its goals, and asks for no more.
+    if given == 3 {
+        assert_eq!(rt; told, Ok(report_of(3, 0)));
+        assert_eq!(rt; source.failed(), None);
+        assert_eq!(rt; out.bytes(), PAIR_TRACE);
+    } else {
+        let tick = u32::from(given) + 1;
+        assert_eq!(rt; told, Err(RunFault::Source { tick }));
+        assert_eq!(rt; source.failed(), Some(SourceFault::Broken));
+        assert_eq!(rt; out.bytes(), first_lines(usize::from(given) + 1));
+    }
+    check_stop(rt, &mut fleet, u32::from(given))
+}
+
 #[test]
 fn a_source_breaks_off(rt: HostRuntime) -> Result<(), Fail> {
     let alloc = rt.alloc();
     let grid = read_map(alloc, PAIR_MAP)?;
     let instance = read_scen(alloc, PAIR_SCEN, &grid, None)?;
-    for (given, text) in [(0, &PAIR_TRACE[..11]), (2, &PAIR_TRACE[..33])] {
-        let mut fleet = fleet_of(alloc, pair(alloc)?, &grid, &instance)?;
-        let mut broken = failing_source(given, SourceFault::Broken);
-        let mut out = VecOut::new(alloc);
-        let told = drive(&mut fleet, &mut broken, &mut out);
-        let tick = u32::from(given) + 1;
-        assert_eq!(rt; told, Err(RunFault::Source { tick }));
-        assert_eq!(rt; out.bytes(), text);
-        check_arrival(&rt, &mut fleet);
+    let bytes = read_hex(alloc, PAIR)?;
+    for given in 0..4 {
+        let fleet = fleet_of(alloc, load(alloc, &bytes)?, &grid, &instance)?;
+        check_failing_source(&rt, alloc, fleet, given)?;
+        let fleet = fleet_of(alloc, view(alloc, &bytes)?, &grid, &instance)?;
+        check_failing_source(&rt, alloc, fleet, given)?;
     }
-    let mut fleet = fleet_of(alloc, pair(alloc)?, &grid, &instance)?;
-    let mut out = VecOut::new(alloc);
-    let mut late = failing_source(3, SourceFault::Broken);
-    assert_eq!(rt; drive(&mut fleet, &mut late, &mut out), Ok(report_of(3, 0)));
-    assert_eq!(rt; out.bytes(), PAIR_TRACE);
     Ok(())
+}
+
+/// The run of a pair into a sink that fails after so many bytes.
+fn check_failing_sink<P: ProgramView + Drop, O: TraceOut>(
+    rt: &impl Abort,
+    fleet: Fleet<'_, P>,
+    room: usize,
+    out: &mut O,
+) -> Result<(), Fail>
+    requires counts { All (λ s. s.count ≡ 0) fleet.configuration }
+    requires working { IsWorking (O.state out.old) }
+{
+    let mut fleet = fleet;
+    let told = drive(&mut fleet, &mut HoldText::new(b"", 2), out);
+    assert_eq!(rt; told, Err(RunFault::Write), "after {room}");
+    assert!(rt; out.failed());
+    // A tick is run once its line before it is written.
+    let ticks = u32::try_from(room / 11).unwrap_or(3).min(3);
+    check_stop(rt, &mut fleet, ticks)
 }
 
 #[test]
@@ -318,19 +384,34 @@ fn a_sink_fails_after_some_bytes(rt: HostRuntime) -> Result<(), Fail> {
     let alloc = rt.alloc();
     let grid = read_map(alloc, PAIR_MAP)?;
     let instance = read_scen(alloc, PAIR_SCEN, &grid, None)?;
+    let bytes = read_hex(alloc, PAIR)?;
     for room in 0..PAIR_TRACE.len() {
-        let mut fleet = fleet_of(alloc, pair(alloc)?, &grid, &instance)?;
+        let fleet = fleet_of(alloc, load(alloc, &bytes)?, &grid, &instance)?;
         let mut out = short_out(alloc, room);
-        let told = drive(&mut fleet, &mut HoldText::new(b"", 2), &mut out);
-        assert_eq!(rt; told, Err(RunFault::Write));
+        check_failing_sink(&rt, fleet, room, &mut out)?;
         assert_eq!(rt; out.bytes.as_slice(), &PAIR_TRACE[..room]);
-        // Each of the first four lines has 11 bytes.
-        let ticks = u32::try_from(room / 11).unwrap_or(3).min(3);
-        assert_eq!(rt;
-            [fleet.count(0), fleet.count(1)],
-            [ticks.min(2), ticks.saturating_sub(1)]
-        );
-        check_arrival(&rt, &mut fleet);
+        let fleet = fleet_of(alloc, view(alloc, &bytes)?, &grid, &instance)?;
+        let mut out = short_out(alloc, room);
+        check_failing_sink(&rt, fleet, room, &mut out)?;
+        assert_eq!(rt; out.bytes.as_slice(), &PAIR_TRACE[..room]);
+    }
+    Ok(())
+}
+
+#[test]
+fn a_writer_fails_after_some_bytes(rt: HostRuntime) -> Result<(), Fail> {
+    let alloc = rt.alloc();
+    let grid = read_map(alloc, PAIR_MAP)?;
+    let instance = read_scen(alloc, PAIR_SCEN, &grid, None)?;
+    let bytes = read_hex(alloc, PAIR)?;
+    for failing in [Failing::IsFull, Failing::IsInterrupted, Failing::IsBroken] {
+        for room in 0..PAIR_TRACE.len() {
+            let fleet = fleet_of(alloc, view(alloc, &bytes)?, &grid, &instance)?;
+            let mut taken = Vec::new(alloc);
+            let mut out = WriteOut::new(short_writer(&mut taken, room, failing));
+            check_failing_sink(&rt, fleet, room, &mut out)?;
+            assert_eq!(rt; taken.as_slice(), &PAIR_TRACE[..room], "{failing:?}");
+        }
     }
     Ok(())
 }

@@ -3,7 +3,10 @@
 use crate::commands::{Answer, expect, prints, refuses, status_of, worked_files};
 use crate::fixtures::*;
 use crate::streams::FailingFiles;
+use fleet_io::FileFault;
 use fleet_run::VecOut;
+use std::alloc::Global;
+use std::process::Abort;
 use std::test::Fail;
 
 const REHEARSE: &str = "rehearse pair.program --holds holds";
@@ -50,25 +53,79 @@ fn other_lines_are_refused(rt: HostRuntime) -> Result<(), Fail> {
     expect(&rt, rt.alloc(), REHEARSE, &[("holds", b"-\n1 0\n")], second)
 }
 
+/// What the file `out` holds before a command writes it.
+const KEPT: &[u8] = b"kept\n";
+
+/// The words of the line tell this, with this status, where so many reads and writes succeed and the next one fails so. Answers what the file
+/// `out` then holds.
+fn told_after(
+    rt: &impl Abort,
+    alloc: Global,
+    line: &str,
+    (left, fault): (u8, FileFault),
+    told: &[u8],
+    wanted: u8,
+) -> Result<Vec<u8>, Fail> {
+    let given: [(&str, &[u8]); 3] = [("holds", b"0\n"), ("plan", PAIR_PLAN), ("out", KEPT)];
+    let files = worked_files(alloc, &given).ok_or("memory")?;
+    let mut files = FailingFiles { files, left, fault };
+    let mut out = VecOut::new(alloc);
+    let mut err = VecOut::new(alloc);
+    let status = status_of(alloc, line, &mut files, &mut out, &mut err).ok_or("memory")?;
+    assert_eq!(rt; err.bytes(), told, "{line}, {left}");
+    assert_eq!(rt; status, wanted, "{line}, {left}");
+    assert_eq!(rt; out.bytes().is_empty(), wanted == 3, "{line}, {left}");
+    Ok(files.files.get("out").unwrap_or(b"").to_vec(alloc)?)
+}
+
+/// The files of these names are read and written in this order, and each that fails is told, as itself or as want of memory. Nothing is printed
+/// then, and the file `out` is as it was. Where none fails the command is done.
+fn expect_order(rt: &impl Abort, alloc: Global, line: &str, names: &[&str]) -> Result<(), Fail> {
+    let mut left = 0;
+    for name in names {
+        let told = format!(in alloc; "file {name}\n")?;
+        let failed = (left, FileFault::Failed);
+        let out = told_after(rt, alloc, line, failed, told.as_bytes(), 3)?;
+        assert_eq!(rt; out.as_slice(), KEPT, "{line}, {name}");
+        let refused = (left, FileFault::OutOfMemory);
+        let out = told_after(rt, alloc, line, refused, b"memory\n", 3)?;
+        assert_eq!(rt; out.as_slice(), KEPT, "{line}, {name}");
+        left = left.saturating_add(1);
+    }
+    let out = told_after(rt, alloc, line, (left, FileFault::Failed), b"", 0)?;
+    assert_eq!(rt; out.as_slice() != KEPT, names.contains(&"out"), "{line}");
+    Ok(())
+}
+
 #[test]
 fn files_that_fail_are_named(rt: HostRuntime) -> Result<(), Fail> {
-    let alloc = rt.alloc();
-    // So many reads and writes succeed.
-    let rows: [(&str, u8, &[u8]); 5] = [
-        (REHEARSE, 0, b"file pair.program\n"),
-        (REHEARSE, 1, b"file holds\n"),
-        ("instance pair.map pair.scen", 0, b"file pair.map\n"),
-        ("instance pair.map pair.scen", 1, b"file pair.scen\n"),
-        ("compile pair.map pair.scen plan out", 3, b"file out\n"),
+    let rows: [(&str, &[&str]); 8] = [
+        (REHEARSE, &["pair.program", "holds"]),
+        ("instance pair.map pair.scen", &["pair.map", "pair.scen"]),
+        (
+            "check pair.map pair.scen plan",
+            &["pair.map", "pair.scen", "plan"],
+        ),
+        ("plan pair.map pair.scen", &["pair.map", "pair.scen"]),
+        (
+            "compile pair.map pair.scen plan out",
+            &["pair.map", "pair.scen", "plan", "out"],
+        ),
+        (
+            "verify pair.map pair.scen pair.program",
+            &["pair.map", "pair.scen", "pair.program"],
+        ),
+        (
+            "run pair.map pair.scen pair.program --holds holds",
+            &["pair.map", "pair.scen", "pair.program", "holds"],
+        ),
+        (
+            "auto pair.map pair.scen --holds holds",
+            &["pair.map", "pair.scen", "holds"],
+        ),
     ];
-    for (line, left, told) in rows {
-        let files = worked_files(alloc, &[("holds", b"0\n"), ("plan", PAIR_PLAN)]).ok_or("memory")?;
-        let mut files = FailingFiles { files, left };
-        let mut out = VecOut::new(alloc);
-        let mut err = VecOut::new(alloc);
-        let status = status_of(alloc, line, &mut files, &mut out, &mut err).ok_or("memory")?;
-        assert_eq!(rt; err.bytes(), told, "{line}");
-        assert_eq!(rt; status, 3, "{line}");
+    for (line, names) in rows {
+        expect_order(&rt, rt.alloc(), line, names)?;
     }
     Ok(())
 }

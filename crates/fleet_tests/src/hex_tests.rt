@@ -1,7 +1,7 @@
 //! Texts and refusals of runs without words, and streams that fail.
 
 use crate::fixtures::{CELL, DEADLOCK, PAIR, PAIR_TEXT};
-use crate::streams::Broken;
+use crate::streams::{Failing, ShortReader, short_writer};
 use fleet_cli::run_hex;
 use fleet_run::{TraceOut, VecOut, WriteOut};
 use std::alloc::Global;
@@ -108,21 +108,36 @@ fn refusals_are_told(rt: HostRuntime) {
 }
 
 #[test]
-fn broken_streams(rt: HostRuntime) {
+fn outputs_that_fail(rt: HostRuntime) {
     let alloc = rt.alloc();
-    for interrupted in [false, true] {
-        let mut out = WriteOut::new(Broken { interrupted });
-        let mut err = VecOut::new(alloc);
-        let mut left = PAIR;
-        let status = run_hex(alloc, &mut left, &mut out, &mut err);
-        assert_eq!(rt; status, 3);
-        assert!(rt; out.failed());
-        assert_eq!(rt; err.bytes(), b"run 4 Write\n".as_slice());
+    for failing in [Failing::IsFull, Failing::IsInterrupted, Failing::IsBroken] {
+        for room in 0..=PAIR_TEXT.len() {
+            let mut taken = Vec::new(alloc);
+            let mut out = WriteOut::new(short_writer(&mut taken, room, failing));
+            let mut err = VecOut::new(alloc);
+            let mut left = PAIR;
+            let status = run_hex(alloc, &mut left, &mut out, &mut err);
+            assert!(rt; out.failed());
+            assert_eq!(rt; status, 3);
+            // Where all is taken it cannot be handed on.
+            assert_eq!(rt; err.bytes(), b"run 4 Write\n".as_slice());
+            assert_eq!(rt; taken.as_slice(), PAIR_TEXT.get(..room).unwrap_or(b""));
+        }
     }
-    let mut out = VecOut::new(alloc);
-    let mut err = VecOut::new(alloc);
-    let mut input = Broken { interrupted: true };
-    assert_eq!(rt; run_hex(alloc, &mut input, &mut out, &mut err), 3);
-    assert_eq!(rt; err.bytes(), b"file -\n".as_slice());
-    assert_eq!(rt; out.bytes(), b"".as_slice());
+}
+
+#[test]
+fn inputs_that_fail(rt: HostRuntime) {
+    let alloc = rt.alloc();
+    for failing in [Failing::IsInterrupted, Failing::IsBroken] {
+        for len in 0..=PAIR.len() {
+            let rest = PAIR.get(..len).unwrap_or(PAIR);
+            let mut input = ShortReader { rest, failing };
+            let mut out = VecOut::new(alloc);
+            let mut err = VecOut::new(alloc);
+            assert_eq!(rt; run_hex(alloc, &mut input, &mut out, &mut err), 3);
+            assert_eq!(rt; err.bytes(), b"file -\n".as_slice());
+            assert_eq!(rt; out.bytes(), b"".as_slice());
+        }
+    }
 }

@@ -13,6 +13,8 @@ mod commands;
 #[cfg(test)]
 mod compile_tests;
 #[cfg(test)]
+mod cut_tests;
+#[cfg(test)]
 mod disk_tests;
 #[cfg(test)]
 mod drive_tests;
@@ -27,11 +29,17 @@ mod hex_tests;
 #[cfg(test)]
 mod large_tests;
 #[cfg(test)]
+mod limit_tests;
+#[cfg(test)]
 mod memory_tests;
+#[cfg(test)]
+mod mutation_tests;
 #[cfg(test)]
 mod plan_tests;
 #[cfg(test)]
 mod program_tests;
+#[cfg(test)]
+mod readers;
 #[cfg(test)]
 mod refusal_tests;
 #[cfg(test)]

@@ -1,6 +1,7 @@
-//! Sinks, sources, streams and stores that fail, or that count what they take.
+//! The ends of a run that fail at a byte or at a call, or that count what they take: sinks, sources, writers, readers and stores. All tests use these.
 
-ghost use Rattle.std.specs.Prelude.{◌≡◌, false};
+ghost use Rattle.std.specs.Prelude.{◌≡◌, ◌∷◌, [], false};
+ghost use Rattle.fleet_run.specs.Source.{AreFlagsOf};
 
 use fleet_io::{FileFault, Files, MemFiles};
 use fleet_run::{HoldSource, OutFault, SourceFault, TraceOut};
@@ -111,30 +112,117 @@ pub fn failing_source(ticks: u8, kind: SourceFault) -> FailingSource
     }
 }
 
-// ---- streams
-
-/// A writer that takes nothing, or that is interrupted; and a reader that fails.
-#[derive(Drop)]
-pub struct Broken {
-    pub interrupted: bool,
+/// Sets the first flag alone.
+#[tactic(auto, using(crate::proofs::First::first_alone))]
+fn hold_first(flags: &mut [bool])
+    ensures { AreFlagsOf (0 ∷ []) flags.new }
+{
+    for i in 0..flags.len() {
+        flags[i] = i == 0;
+    }
 }
 
-impl Write for Broken {
-    fn write(&mut self, _buf: &[u8]) -> io::Result<usize> {
-        if self.interrupted {
-            return Err(io::Error::from(io::ErrorKind::Interrupted));
+/// A source that holds agent 0 in each of so many ticks. It keeps no list of them.
+#[derive(Drop)]
+pub struct HoldingSource {
+    ticks: u32,
+}
+
+impl HoldSource for HoldingSource {
+    ghost use Rattle.std.specs.Prelude.{None, [], ◌∷◌, replicate};
+
+    ghost state = { λ s. record { ticks = replicate s.ticks (0 ∷ []); last = None; fault = None } };
+
+    fn next(&mut self, held: &mut [bool]) -> Result<bool, SourceFault> {
+        if self.ticks == 0 {
+            return Ok(false);
         }
-        Ok(0)
+        self.ticks -= 1;
+        hold_first(held);
+        Ok(true)
+    }
+
+    fn failed(&self) -> Option<SourceFault> {
+        None
+    }
+}
+
+pub fn holding_source(ticks: u32) -> HoldingSource {
+    HoldingSource { ticks }
+}
+
+// ---- streams
+
+/// How a stream fails.
+#[derive(Clone, Copy, Debug, PartialEq, Eq)]
+pub enum Failing {
+    /// It takes no byte more.
+    IsFull,
+    IsInterrupted,
+    IsBroken,
+}
+
+fn error_of(failing: Failing) -> io::Error {
+    match failing {
+        Failing::IsInterrupted => io::Error::from(io::ErrorKind::Interrupted),
+        Failing::IsFull | Failing::IsBroken => io::Error::from(io::ErrorKind::BrokenPipe),
+    }
+}
+
+/// A writer that takes one byte at a time, and fails after some bytes.
+#[derive(Drop)]
+pub struct ShortWriter<'a> {
+    bytes: &'a mut Vec<u8>,
+    room: usize,
+    failing: Failing,
+}
+
+impl<'a> Write for ShortWriter<'a> {
+    fn write(&mut self, buf: &[u8]) -> io::Result<usize> {
+        if self.bytes.len() >= self.room {
+            return match self.failing {
+                Failing::IsFull => Ok(0),
+                _ => Err(error_of(self.failing)),
+            };
+        }
+        let Some(byte) = buf.first() else {
+            return Ok(0);
+        };
+        self.bytes.push(*byte)?;
+        Ok(1)
     }
 
     fn flush(&mut self) -> io::Result<()> {
-        Err(io::Error::from(io::ErrorKind::BrokenPipe))
+        Err(error_of(self.failing))
     }
 }
 
-impl Read for Broken {
-    fn read(&mut self, _buf: &mut [u8]) -> io::Result<usize> {
-        Err(io::Error::from(io::ErrorKind::Interrupted))
+pub fn short_writer<'a>(bytes: &'a mut Vec<u8>, room: usize, failing: Failing) -> ShortWriter<'a> {
+    ShortWriter {
+        bytes,
+        room,
+        failing,
+    }
+}
+
+/// A reader that gives one byte at a time, and fails after these bytes.
+#[derive(Drop)]
+pub struct ShortReader<'a> {
+    pub rest: &'a [u8],
+    pub failing: Failing,
+}
+
+impl<'a> Read for ShortReader<'a> {
+    fn read(&mut self, buf: &mut [u8]) -> io::Result<usize> {
+        let Some((byte, rest)) = self.rest.split_first() else {
+            return Err(error_of(self.failing));
+        };
+        let Some(place) = buf.first_mut() else {
+            return Ok(0);
+        };
+        *place = *byte;
+        self.rest = rest;
+        Ok(1)
     }
 }
 
@@ -160,11 +248,12 @@ impl Write for Buffer {
 
 // ---- stores
 
-/// A store that can be read and written so many times.
+/// A store that can be read and written so many times, and then fails so.
 #[derive(Drop)]
 pub struct FailingFiles {
     pub files: MemFiles,
     pub left: u8,
+    pub fault: FileFault,
 }
 
 impl Files for FailingFiles {
@@ -174,7 +263,7 @@ impl Files for FailingFiles {
 
     fn read(&mut self, alloc: Global, name: &str) -> Result<Vec<u8>, FileFault> {
         if self.left == 0 {
-            return Err(FileFault::Failed);
+            return Err(self.fault);
         }
         self.left -= 1;
         self.files.read(alloc, name)
@@ -182,7 +271,7 @@ impl Files for FailingFiles {
 
     fn write(&mut self, name: &str, bytes: &[u8]) -> Result<(), FileFault> {
         if self.left == 0 {
-            return Err(FileFault::Failed);
+            return Err(self.fault);
         }
         self.left -= 1;
         self.files.write(name, bytes)

@@ -8,3 +8,4 @@ pub mod HoldLemmas
 pub mod HoldLaws
 pub mod Driven
 pub mod Finished
+pub mod Lines

@@ -1,5 +1,5 @@
 -- A run on its way, one tick at a time.
-use Rattle.std.proofs.Common.{◌≡◌, ◌<◌, ◌≤◌, ◌*◌, subst, ℕ, zero, suc, ◌+◌, not, Bool, true, false, cond, None, List, [], ◌∷◌, get_or, drop, length, refl, ap, sym, ◌∙◌, add-one, inl, inr, ◌≢◌, arith, below_more, Result, Ok, Err}
+use Rattle.std.proofs.Common.{◌≡◌, ◌<◌, ◌≤◌, ◌*◌, take, subst, ℕ, zero, suc, ◌+◌, not, Bool, true, false, cond, None, List, [], ◌∷◌, get_or, drop, length, refl, ap, sym, ◌∙◌, add-one, inl, inr, ◌≢◌, arith, below_more, Result, Ok, Err}
 use Rattle.std.proofs.lemmas.Bool.{cases_Bool}
 use Rattle.std.proofs.lemmas.List.{length-drop}
 use Rattle.fleet_model.specs.declared.limits.TheConstants.{MAX_AGENTS, MAX_MOVES_V1}
@@ -10,14 +10,14 @@ use Rattle.fleet_run.specs.Source.{SourceState, HasNotFailed, AreFlagsOf, AsksTi
 use Rattle.fleet_run.specs.declared.source.SourceFault.{SourceFault}
 use Rattle.fleet_run.specs.declared.source.SourceFault.TheVariants.{Broken, Text}
 use Rattle.fleet_run.specs.declared.run.RunFault.{RunFault}
-use Rattle.fleet_run.specs.Outcome.{NeedsTicks, IsAskedFor, StopsAtSource, RunsLines, fault_of}
+use Rattle.fleet_run.specs.Outcome.{NeedsTicks, IsAskedFor, StopsAtSink, StopsAtSource, RunsLines, fault_of}
 use Rattle.std.specs.Prelude.{is_err}
-use Rattle.fleet_text.specs.Sink.{SinkState, Takes, TakesAll}
+use Rattle.fleet_text.specs.Sink.{SinkState, StopsWithin, Takes, TakesAll}
 use Rattle.fleet_run.specs.Text.{line_of, lines_below}
 use Rattle.fleet_machine.specs.Machine.{flag_of}
 use Rattle.fleet_model.proofs.Tick.{length-run}
 use Rattle.fleet_model.proofs.Runs.{tick_agree, held_ticks-le}
-use Rattle.fleet_text.proofs.SinkLemmas.{takes_more}
+use Rattle.fleet_text.proofs.SinkLemmas.{appends_more, takes_more}
 use Rattle.fleet_run.proofs.Progress.{ready_held_same, all_left, all_left_le, all_left_lt, all_left_few}
 
 pub first_of-drop : (holds : Holds) (t : ℕ) → first_of (drop t holds) ≡ get_or holds t []
@@ -114,6 +114,10 @@ not_true false h = refl
 not_false : (b : Bool) → not b ≡ false → b ≡ true
 not_false true h = refl
 not_false false h = absurd (cc)
+
+-- after the source has ended no flag is set
+pub unset_after : (p : Program) (now : SourceState) (ended : Bool) (flags : List Bool) (more : Bool) (after : SourceState) → IsNextTick p now ended flags more after → not more ≡ true → AreFlagsOf [] flags
+unset_after p now ended flags more after next h = subst (λ (ticks : Holds). AreFlagsOf (first_of ticks) flags) (next.none_left (not_true more h)) next.flags_are
 
 -- where nothing is left nobody is held
 nobody : (p : Program) (now : SourceState) (ended : Bool) (flags : List Bool) (more : Bool) (after : SourceState) → IsNextTick p now ended flags more after → now.ticks ≡ [] → (k : ℕ) → k < length p → flag_of flags k ≡ false
@@ -237,3 +241,20 @@ pub line_added : (p : Program) (holds : Holds) (t : ℕ) (c : Configuration) (be
 line_added p holds t c before now after here lines line =
     let one : Takes now after (line_of t (run p holds t)) = subst (λ d. Takes now after (line_of t d)) here line in
     rw add-one (takes_more before now after (lines_below p holds t) (line_of t (run p holds t)) lines one)
+
+-- The sink fails within a line.
+pub stops_at_sink : {T E : Type 0} (p : Program) (s now : SourceState) (c : Configuration) (t held : ℕ) (ended : Bool) (first mid last : SinkState) (r : Result T E)
+    → IsUnderWay p s now c t held ended → HasNotFailed now → Takes first mid (lines_below p s.ticks t) → TakesAll mid last r (line_of t c) → is_err r ≡ true
+    → (x : ℕ) × (c ≡ run p s.ticks x) × StopsAtSink is_over p s now first last (line_of x (run p s.ticks x)) x
+stops_at_sink p s now c t held ended first mid last (Ok x) b f lines line e = absurd cc
+stops_at_sink p s now c t held ended first mid last (Err x) b f lines line e =
+    let line' : StopsWithin mid last (line_of t (run p s.ticks t)) = subst (λ d. StopsWithin mid last (line_of t d)) b.here line in (
+      t,
+      b.here,
+      record {
+        needed = b.needed;
+        asked = asked_so_far p s now c t held ended b f;
+        taken = (line'.taken.0, line'.taken.1, appends_more first.taken mid.taken last.taken (lines_below p s.ticks t) (take line'.taken.0 (line_of t (run p s.ticks t))) lines.taken line'.taken.2);
+        failed = line'.failed;
+      },
+    )

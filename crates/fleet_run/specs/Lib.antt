@@ -6,3 +6,4 @@ pub mod HoldText
 pub mod Fleet
 pub mod Drive
 pub mod Told
+pub mod Line

@@ -5,6 +5,7 @@
 mod fleet;
 mod hold_list;
 mod hold_text;
+mod line;
 mod report;
 mod run;
 mod source;

@@ -1,17 +1,19 @@
 //! Runs, line by line.
 
-ghost use Rattle.std.specs.Prelude.{◌≡◌, ◌<◌, ◌≤◌, length};
-ghost use Rattle.fleet_model.specs.Machine.{opening};
+ghost use Rattle.std.specs.Prelude.{◌≡◌, ◌≤◌};
+ghost use Rattle.fleet_model.specs.Machine.{Configuration, opening};
 ghost use Rattle.fleet_machine.specs.Machine.{Runs};
 ghost use Rattle.fleet_run.specs.Text.{line_of};
+ghost use Rattle.fleet_run.specs.Line.{IsKept};
 ghost use Rattle.fleet_text.specs.Sink.{IsWorking, TakesAll};
 ghost use Rattle.fleet_run.specs.Source.{HasNotFailed};
 ghost use Rattle.fleet_run.specs.Outcome.{end_of, fault_of, RunsLines};
 
+use crate::line::{write_moved, write_places, write_time};
 use crate::source::{HoldSource, SourceFault, ask};
-use crate::text::{LINE, write_line};
+use crate::text::LINE;
 use fleet_machine::Machine;
-use fleet_model::{MAX_AGENTS, ProgramView, Standing};
+use fleet_model::{MAX_AGENTS, ProgramView};
 use fleet_text::{OutFault, Refusal, TraceOut, put_all, put_memory, put_named, put_named_at};
 use thiserror::Error;
 
@@ -85,20 +87,21 @@ fn end_at<P: ProgramView>(program: &P, machine: &Machine) -> Option<End>
     Some(End::Stuck)
 }
 
-/// Writes the line of a time to the sink.
+/// Writes the line of a time to the sink: the time, before the places that are kept.
 fn put_line<O: TraceOut>(
     out: &mut O,
     time: u32,
-    rows: &[Standing],
-    line: &mut [u8],
+    row: &mut [u8],
+    begins: &[usize],
 ) -> Result<(), OutFault>
     requires working { IsWorking (O.state out.old) }
-    requires agents { length rows.now ≤ MAX_AGENTS }
-    requires room { length line.old ≡ LINE }
-    ensures { TakesAll (O.state out.old) (O.state out.new) result (line_of time rows.now) }
+    requires kept { (c : Configuration) × IsKept c row.old begins.now }
+    ensures kept { (c : Configuration) → IsKept c row.old begins.now → IsKept c row.new begins.now }
+    ensures taken { (c : Configuration) → IsKept c row.old begins.now
+        → TakesAll (O.state out.old) (O.state out.new) result (line_of time c) }
 {
-    let at = write_line(time, rows, line);
-    put_all(out, &line[at..])
+    let at = write_time(time, row, begins[0]);
+    put_all(out, &row[at..])
 }
 
 /// How many ticks a run takes from its source.
@@ -133,12 +136,14 @@ pub fn run_lines<P: ProgramView, S: HoldSource, O: TraceOut>(
 {
     let mut flags = [false; MAX_AGENTS];
     let flags = &mut flags[..program.agents() as usize];
-    let mut line = [0; LINE];
+    let mut row = [0; LINE];
+    let mut begins = [0; MAX_AGENTS + 1];
+    write_places(machine.agents(), &mut row, &mut begins);
     let mut ticks = 0;
     let mut held = 0;
     let mut ended = false;
     'ticks: loop {
-        if put_line(out, ticks, machine.agents(), &mut line).is_err() {
+        if put_line(out, ticks, &mut row, &begins).is_err() {
             return Err(RunFault::Write);
         }
         if let Some(end) = end_at(program, machine) {
@@ -152,6 +157,7 @@ pub fn run_lines<P: ProgramView, S: HoldSource, O: TraceOut>(
             return Err(RunFault::HoldLimit);
         }
         let tick = machine.tick(program, flags);
+        write_moved(machine, &mut row, &mut begins);
         if tick.ready_held {
             held += 1;
         }

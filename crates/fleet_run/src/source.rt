@@ -47,7 +47,7 @@ pub fn flip(flags: &mut [bool])
     }
 }
 
-/// Asks the source for its next tick, unless it has ended, and then sets no flag. Answers whether there was one.
+/// Asks the source for its next tick, unless it has ended, and then no flag is set and none is written. Answers whether there was one.
 pub fn ask<S: HoldSource>(
     source: &mut S,
     has_ended: bool,
@@ -55,10 +55,10 @@ pub fn ask<S: HoldSource>(
 ) -> Result<bool, SourceFault>
     requires working { HasNotFailed (S.state source.old) }
     requires ended { has_ended ≡ true → (S.state source.old).ticks ≡ [] }
+    requires unset { has_ended ≡ true → AreFlagsOf [] flags.old }
     ensures { AsksTick has_ended (S.state source.old) (S.state source.new) result flags.new }
 {
     if has_ended {
-        clear(flags);
         return Ok(false);
     }
     if source.next(flags)? {

@@ -2,14 +2,14 @@
 
 ghost use Rattle.std.specs.Prelude.{◌≡◌, ◌+◌, ◌<◌, ◌≤◌, ◌++◌, length, drop};
 ghost use Rattle.std.specs.Fmt.{decimal, signed_decimal};
-ghost use Rattle.fleet_run.specs.Text.{place_text, line_of, number_line, last_line_of, closing_lines, trace_closing};
+ghost use Rattle.fleet_run.specs.Text.{place_text, number_line, last_line_of, closing_lines, trace_closing};
 
 use crate::run::End;
-use fleet_model::{MAX_AGENTS, Place, Standing};
+use fleet_model::{MAX_AGENTS, Place};
 use fleet_text::{write_byte, write_number};
 
 /// Writes the digits of a number of 32 bits so that they end before `end`, and answers where they begin.
-fn write_count(number: u32, row: &mut [u8], end: usize) -> usize
+pub fn write_count(number: u32, row: &mut [u8], end: usize) -> usize
     requires room { 10 ≤ end }
     requires within { end ≤ length row.old }
     ensures low { end ≤ result + 10 }
@@ -36,7 +36,7 @@ fn write_signed(number: i32, row: &mut [u8], end: usize) -> usize
 }
 
 /// Writes ` x,y`.
-fn write_place(place: Place, row: &mut [u8], end: usize) -> usize
+pub fn write_place(place: Place, row: &mut [u8], end: usize) -> usize
     requires room { 24 ≤ end }
     requires within { end ≤ length row.old }
     ensures low { end ≤ result + 24 }
@@ -49,23 +49,11 @@ fn write_place(place: Place, row: &mut [u8], end: usize) -> usize
     write_byte(b' ', row, at)
 }
 
-/// How many bytes the longest line has.
-pub const LINE: usize = MAX_AGENTS * 24 + 12;
+/// How many bytes the longest place has, with the space before it.
+pub const PLACE: usize = 24;
 
-/// Writes the line of a time, and answers where it begins. It ends with the row.
-pub fn write_line(time: u32, rows: &[Standing], row: &mut [u8]) -> usize
-    requires agents { length rows.now ≤ MAX_AGENTS }
-    requires room { length row.old ≡ LINE }
-    ensures within { result ≤ length row.new }
-    ensures written { drop result row.new ≡ line_of time rows.now }
-{
-    let mut at = write_byte(b'\n', row, LINE);
-    for i in (0..rows.len()).rev() {
-        at = write_place(rows[i].place, row, at);
-    }
-    let at = write_byte(b':', row, at);
-    write_count(time, row, at)
-}
+/// How many bytes the longest line has.
+pub const LINE: usize = MAX_AGENTS * PLACE + 12;
 
 /// Writes bytes so that they end before `end`, and answers where they begin.
 fn write_bytes(bytes: &[u8], row: &mut [u8], end: usize) -> usize

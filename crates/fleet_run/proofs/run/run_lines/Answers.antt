@@ -4,7 +4,8 @@ use Rattle.fleet_run.specs.declared.run.TheConstants.{MOST_TICKS}
 use Rattle.fleet_run.specs.Source.{HasNotFailed}
 use Rattle.fleet_machine.specs.Machine.{flag_of}
 use Rattle.fleet_run.proofs.Ending.{not_over}
-use Rattle.fleet_run.proofs.UnderWay.{IsNextTick, all_asked, asked_once_more, few_held, few_ticks, asked, falls, one_tick_on, stops_at_source, took_all, line_added, needs_more, more_than}
+use Rattle.fleet_run.proofs.Lines.{kept_before}
+use Rattle.fleet_run.proofs.UnderWay.{IsNextTick, all_asked, asked_once_more, few_held, few_ticks, asked, falls, one_tick_on, stops_at_source, took_all, line_added, stops_at_sink, needs_more, more_than, unset_after}
 use Rattle.fleet_run.proofs.run.run_lines.Goals as goal
 use Rattle.fleet_run.proofs.run.run_lines.Given
 use Rattle.fleet_run.proofs.run.run_lines.Goals.{Joined-tick, then-tick, else-tick, else-more-via-then-more+else-ticks-eq-MOST_TICKS, else-more-via-else-more}
@@ -20,7 +21,7 @@ returns-in-Err-clause-lines g c =
     let p = g.P.ProgramView.program c.args.program.now in
     let s = g.S.HoldSource.state c.args.source.now in
     let before = c.ticks.invariant.under_way in
-    let took = took_all (g.O.TraceOut.state c.ticks.out) (g.O.TraceOut.state c.put_line.new.out) c.put_line.result _ (rw c.agents-in-ticks.ensures at c.put_line.ensures) (sym c.is_err.ensures.value ∙ c.if-is_err.false) in
+    let took = took_all (g.O.TraceOut.state c.ticks.out) (g.O.TraceOut.state c.put_line.new.out) c.put_line.result _ (c.put_line.ensures.taken c.ticks.machine.configuration c.ticks.invariant.kept) (sym c.is_err.ensures.value ∙ c.if-is_err.false) in
     let goes = not_over p c.ticks.machine.configuration (sym c.in_default.is ∙ c.end_at.ensures) in
     stops_at_source p s _ _ _ c.ticks.machine.configuration c.in-Err.fault c.ticks.ticks c.fault_at.result c.fault_at.ensures before.here
     record {
@@ -39,7 +40,7 @@ returns-then-ticks-eq-MOST_TICKS-clause-lines g c =
     let p = g.P.ProgramView.program c.args.program.now in
     let s = g.S.HoldSource.state c.args.source.now in
     let before = c.ticks.invariant.under_way in
-    let took = took_all (g.O.TraceOut.state c.ticks.out) (g.O.TraceOut.state c.put_line.new.out) c.put_line.result _ (rw c.agents-in-ticks.ensures at c.put_line.ensures) (sym c.is_err.ensures.value ∙ c.if-is_err.false) in
+    let took = took_all (g.O.TraceOut.state c.ticks.out) (g.O.TraceOut.state c.put_line.new.out) c.put_line.result _ (c.put_line.ensures.taken c.ticks.machine.configuration c.ticks.invariant.kept) (sym c.is_err.ensures.value ∙ c.if-is_err.false) in
     let goes = not_over p c.ticks.machine.configuration (sym c.in_default.is ∙ c.end_at.ensures) in
     let next = asked p c.ticks.ended _ _ c.in-Ok.more c.ask.new.flags c.in-Ok.ensures (c.ask.auto.flags ∙ c.ticks.invariant.flags) in (
       c.ticks.ticks,
@@ -80,7 +81,7 @@ ticks-preserved g c =
     let p = g.P.ProgramView.program c.args.program.now in
     let s = g.S.HoldSource.state c.args.source.now in
     let before = c.ticks.invariant.under_way in
-    let took = took_all (g.O.TraceOut.state c.ticks.out) (g.O.TraceOut.state c.put_line.new.out) c.put_line.result _ (rw c.agents-in-ticks.ensures at c.put_line.ensures) (sym c.is_err.ensures.value ∙ c.if-is_err.false) in
+    let took = took_all (g.O.TraceOut.state c.ticks.out) (g.O.TraceOut.state c.put_line.new.out) c.put_line.result _ (c.put_line.ensures.taken c.ticks.machine.configuration c.ticks.invariant.kept) (sym c.is_err.ensures.value ∙ c.if-is_err.false) in
     let next = asked_here g c in
     let limit : c.in-Ok.more ≡ true → c.ticks.ticks ≢ MOST_TICKS = λ e.
     elim c.else-more.branch [ else-more-via-then-more+else-ticks-eq-MOST_TICKS w ↦ w.if-ticks-eq-MOST_TICKS.false | else-more-via-else-more w ↦ let no = w.if-more.false in absurd (cc) ] in
@@ -94,7 +95,21 @@ ticks-preserved g c =
       runs = c.tick-tick.ensures.runs;
       looked = let before = c.ticks.invariant.looked in omega (arith, c.tick-tick.ensures.looked.kept);
       flags = c.ask.auto.flags ∙ c.ticks.invariant.flags;
+      unset = unset_after p (g.S.HoldSource.state c.ticks.source) c.ticks.ended c.ask.new.flags c.in-Ok.more _ next.0;
       under_way = rw (c.tick-tick.ensures.after, held) on;
       source = next.1;
+      kept = c.write_moved.ensures;
       written = line_added p s.ticks c.ticks.ticks c.ticks.machine.configuration _ _ _ before.here c.ticks.invariant.written took;
     }
+
+pub write_moved-requires-clause-before : goal.write_moved-requires-clause-before
+write_moved-requires-clause-before g c =
+    let p = g.P.ProgramView.program c.args.program.now in
+    kept_before p _ c.ticks.machine.configuration _ _ _ c.ticks.invariant.runs.agents (c.put_line.ensures.kept c.ticks.machine.configuration c.ticks.invariant.kept) c.tick-tick.ensures.after c.tick-tick.ensures.moving
+
+pub returns-then-is_err-clause-lines : goal.returns-then-is_err-clause-lines
+returns-then-is_err-clause-lines g c =
+    stops_at_sink (g.P.ProgramView.program c.args.program.now) (g.S.HoldSource.state c.args.source.now) (g.S.HoldSource.state c.ticks.source) c.ticks.machine.configuration
+    c.ticks.ticks c.ticks.held c.ticks.ended (g.O.TraceOut.state c.args.out.now) (g.O.TraceOut.state c.ticks.out) (g.O.TraceOut.state c.put_line.new.out) c.put_line.result
+    c.ticks.invariant.under_way c.ticks.invariant.source c.ticks.invariant.written (c.put_line.ensures.taken c.ticks.machine.configuration c.ticks.invariant.kept)
+    (sym c.is_err.ensures.value ∙ c.if-is_err.true)

@@ -1,8 +1,9 @@
-use Rattle.std.proofs.Common.{◌≡◌, ◌≤◌, ◌+◌, length}
+use Rattle.std.proofs.Common.{◌≡◌, ◌≤◌, ◌+◌, [], true, length}
 use Rattle.fleet_machine.specs.Machine.{Runs}
 use Rattle.fleet_run.specs.Text.{lines_below}
+use Rattle.fleet_run.specs.Line.{IsKept}
 use Rattle.fleet_text.specs.Sink.{Takes}
-use Rattle.fleet_run.specs.Source.{HasNotFailed}
+use Rattle.fleet_run.specs.Source.{HasNotFailed, AreFlagsOf}
 use Rattle.fleet_run.proofs.Progress.{all_left}
 use Rattle.fleet_run.proofs.UnderWay.{IsUnderWay}
 use Rattle.fleet_run.proofs.run.run_lines.Given as goal
@@ -16,8 +17,10 @@ invariant-ticks g l =
       runs : Runs p l.machine;
       looked : l.initial.machine.looked ≤ l.machine.looked;
       flags : length l.flags ≡ length p;
+      unset : l.ended ≡ true → AreFlagsOf [] l.flags;
       under_way : IsUnderWay p first now l.machine.configuration l.ticks l.held l.ended;
       source : HasNotFailed now;
+      kept : IsKept l.machine.configuration l.row l.begins;
       written : Takes (g.O.TraceOut.state l.initial.out) (g.O.TraceOut.state l.out) (lines_below p first.ticks l.ticks);
     }
 

@@ -1,0 +1,270 @@
+-- Rows of bytes that end with kept places.
+use Rattle.std.proofs.Common.{◌≡◌, ◌≤◌, ◌<◌, ◌+◌, ◌-◌, ◌++◌, ◌∷◌, [], ◌⊎◌, get_or, zero, suc, inl, inr, refl, ℕ, List, length, take, drop, set, ap, sym, ◌∙◌, arith, length-append, subst, Bool, true, false, ◌≢◌}
+use Rattle.std.proofs.lemmas.List.{append_assoc, drop-append-le, drop-drop, drop-set-lt, drop-take, drop_all, ext_get_or, get_or_past, get_or-set_other, get_or-set_same, length-drop, length-set, length-take}
+use Rattle.std.specs.Prelude.{codes}
+use Rattle.std.specs.List.{flat_map}
+use Rattle.std.proofs.lemmas.List.FromFn.{get_or-map-range_with_len}
+use Rattle.std.proofs.lemmas.List.Concat.{flat_map-cons}
+use Rattle.std.proofs.Math.Seq.{drop-append-add, drop-append_seam, drop-cons, take-append-add}
+use Rattle.fleet_model.specs.declared.geometry.Place.{Place}
+use Rattle.fleet_model.specs.declared.standing.Standing.{Standing}
+use Rattle.fleet_model.specs.Program.{Program}
+use Rattle.fleet_model.specs.Machine.{Configuration, standing_at, standing_after, is_moving, tick}
+use Rattle.fleet_model.proofs.Tick.{length-tick, standing_at_tick}
+use Rattle.fleet_machine.specs.Machine.{MachineState, flag_of, moving_flags}
+use Rattle.fleet_machine.specs.AgentSet.{AreNoneFrom, IsNextFrom}
+use Rattle.fleet_run.specs.Text.{place_text}
+use Rattle.fleet_run.specs.Line.{places_text, IsKept, IsWrittenOver, WritesOver, IsKeptBefore}
+
+-- what was written before a place leaves what is behind it
+drop_behind : (row row' text : List ℕ) (at m : ℕ) → drop at row' ≡ text ++ drop (at + length text) row
+    → drop (at + length text + m) row' ≡ drop (at + length text + m) row
+drop_behind row row' text at m e =
+    let assoc : at + length text + m ≡ at + (length text + m) = omega arith in
+    ap (λ n. drop n row') assoc ∙ sym (drop-drop (length text + m) at row') ∙ ap (drop (length text + m)) e
+    ∙ drop-append-add text (drop (at + length text) row) m ∙ drop-drop m (at + length text) row
+
+pub written_length : (row row' text : List ℕ) (at end : ℕ) → drop at row' ≡ text ++ drop end row → length row' ≡ length row → at ≤ length row → end ≤ length row
+    → end ≡ at + length text
+written_length row row' text at end e same low high =
+    let lengths : length (drop at row') ≡ length (text ++ drop end row) = ap length e in
+    omega (arith, length-drop at row', length-drop end row, length-append text (drop end row), lengths, same)
+
+pub left_behind : (row row' text : List ℕ) (at end n : ℕ) → drop at row' ≡ text ++ drop end row → length row' ≡ length row → at ≤ end → end ≤ length row → end ≤ n
+    → drop n row' ≡ drop n row
+left_behind row row' text at end n e same low high later =
+    let is : end ≡ at + length text = written_length row row' text at end e same (omega arith) high in
+    let e' : drop at row' ≡ text ++ drop (at + length text) row = subst (λ m. drop at row' ≡ text ++ drop m row) is e in
+    let n_is : at + length text + (n - end) ≡ n = omega (arith, is) in
+    subst (λ m. drop m row' ≡ drop m row) n_is (drop_behind row row' text at (n - end) e')
+
+pub same_or_later : (i k : ℕ) → i ≤ k → (k ≡ i) ⊎ (i < k)
+same_or_later zero zero l = inl refl
+same_or_later zero (suc k) l = inr (omega arith)
+same_or_later (suc i) zero l = absurd (omega arith)
+same_or_later (suc i) (suc k) l = elim (same_or_later i k (omega arith)) [ inl e ↦ inl (ap suc e) | inr m ↦ inr (omega arith) ]
+
+-- behind the last place stands the end of the line
+pub last_place : (c : Configuration) (row : List ℕ) (at k : ℕ) → length c ≤ k → drop at row ≡ 10 ∷ [] → drop at row ≡ places_text (drop k c)
+last_place c row at k l e =
+    let none : drop k c ≡ [] = drop_all k c l in
+    rw none e
+
+-- a place that was written before those behind it
+pub placed : (c : Configuration) (row row' : List ℕ) (at end i j : ℕ) (d : Standing) → i < length c → j ≡ suc i → drop at row' ≡ place_text (get_or c i d).place ++ drop end row
+    → drop end row ≡ places_text (drop j c) → drop at row' ≡ places_text (drop i c)
+placed c row row' at end i j d l next e behind =
+    let text = place_text (get_or c i d).place in
+    e ∙ ap (λ x. text ++ x) (behind ∙ ap (λ k. places_text (drop k c)) next) ∙ sym (append_assoc text (flat_map (λ s. place_text s.place) (drop (suc i) c)) (codes "\n"))
+    ∙ ap (λ x. x ++ codes "\n") (sym (flat_map-cons (λ (s : Standing). place_text s.place) (get_or c i d) (drop (suc i) c))) ∙ ap places_text (sym (drop-cons c i d l))
+
+-- the same of the place of an agent
+pub place_before : (c : Configuration) (i : ℕ) (d : Standing) (row row' : List ℕ) (at end n : ℕ) → drop at row' ≡ place_text (get_or c i d).place ++ drop end row
+    → length row' ≡ length row → at ≤ end → end ≤ length row → end ≤ n → drop n row' ≡ drop n row
+place_before c i d row row' at end n e same low high later = left_behind row row' (place_text (get_or c i d).place) at end n e same low high later
+
+-- A piece of a row before what was written over
+pub piece_before : (row rest t : List ℕ) (n m at : ℕ) → m ≡ n + length t → m ≤ at → at ≤ length row → drop n row ≡ t ++ drop m row
+    → drop n (take at row ++ rest) ≡ t ++ drop m (take at row ++ rest)
+piece_before row rest t n m at next low high e =
+    let front : length (take at row) ≡ at = omega (arith, length-take at row) in
+    let k = at - m in
+    let split : at ≡ n + (length t + k) = omega (arith, next) in
+    let split' : at ≡ m + k = omega arith in
+    let left : drop n (take at row) ≡ t ++ take k (drop m row) =
+    ap (λ x. drop n (take x row)) split ∙ drop-take n (length t + k) row ∙ ap (take (length t + k)) e ∙ take-append-add t (drop m row) k in
+    let right : drop m (take at row) ≡ take k (drop m row) = ap (λ x. drop m (take x row)) split' ∙ drop-take m k row in
+    drop-append-le n (take at row) rest (omega (arith, front, next)) ∙ ap (λ x. x ++ rest) (left ∙ ap (λ x. t ++ x) (sym right)) ∙ append_assoc t (drop m (take at row)) rest
+    ∙ ap (λ x. t ++ x) (sym (drop-append-le m (take at row) rest (omega (arith, front))))
+
+pub eq_or_not : (j i : ℕ) → (j ≡ i) ⊎ (j ≢ i)
+eq_or_not zero zero = inl refl
+eq_or_not zero (suc i) = inr (λ e. absurd (omega arith))
+eq_or_not (suc j) zero = inr (λ e. absurd (omega arith))
+eq_or_not (suc j) (suc i) = elim (eq_or_not j i) [ inl e ↦ inl (ap suc e) | inr ne ↦ inr (λ e. ne (omega arith)) ]
+
+pub before_or_not : (k i : ℕ) → (k < i) ⊎ (i ≤ k)
+before_or_not zero zero = inr (omega arith)
+before_or_not zero (suc i) = inl (omega arith)
+before_or_not (suc k) zero = inr (omega arith)
+before_or_not (suc k) (suc i) = elim (before_or_not k i) [ inl m ↦ inl (omega arith) | inr l ↦ inr (omega arith) ]
+
+suc_is : (k : ℕ) → k + 1 ≡ suc k
+suc_is k = omega arith
+
+-- how far the next place is
+pub next_begin : (c : Configuration) (row begins : List ℕ) (k : ℕ) (d : Standing) → IsKept c row begins → k < length c
+    → (get_or begins (k + 1) 0 ≡ get_or begins k 0 + length (place_text (get_or c k d).place)) × (drop (get_or begins k 0) row ≡ place_text (get_or c k d).place ++ drop (get_or begins (k + 1) 0) row)
+next_begin c row begins k d kept agent =
+    let text = place_text (get_or c k d).place in
+    let e : drop (get_or begins k 0) row ≡ text ++ drop (get_or begins (k + 1) 0) row =
+    kept.places k (omega arith) ∙ ap places_text (drop-cons c k d agent)
+    ∙ ap (λ x. x ++ codes "\n") (flat_map-cons (λ (s : Standing). place_text s.place) (get_or c k d) (drop (suc k) c))
+    ∙ append_assoc text (flat_map (λ s. place_text s.place) (drop (suc k) c)) (codes "\n")
+    ∙ ap (λ n. text ++ places_text (drop n c)) (sym (suc_is k)) ∙ ap (λ x. text ++ x) (sym (kept.places (k + 1) (omega arith))) in
+    (written_length row row text (get_or begins k 0) (get_or begins (k + 1) 0) e refl (omega (arith, kept.room, kept.within k (omega arith))) (omega (arith, kept.room, kept.within (k + 1) (omega arith))), e)
+
+-- places behind one another begin one after the other
+pub begins_rise : (c : Configuration) (row begins : List ℕ) (d : Standing) → IsKept c row begins → (k m : ℕ) → k + m ≤ length c → get_or begins k 0 ≤ get_or begins (k + m) 0
+begins_rise c row begins d kept k zero h = let e : k + zero ≡ k = omega arith in rw e (omega arith)
+begins_rise c row begins d kept k (suc m) h =
+    let e : k + suc m ≡ k + m + 1 = omega arith in
+    let next = (next_begin c row begins (k + m) d kept (omega arith)).0 in
+    rw e (omega (arith, next, begins_rise c row begins d kept k m (omega arith)))
+
+-- A row in which a place was written over one that has as many bytes.
+module _ (c : Configuration) (row row' begins : List ℕ) (i : ℕ) (s : Standing) (kept : IsKept c row begins) (agent : i < length c)
+    (over : IsWrittenOver s.place (get_or begins i 0) (get_or begins (i + 1) 0) row row') where
+  abbrev at : ℕ
+  at = get_or begins i 0
+
+  abbrev end : ℕ
+  end = get_or begins (i + 1) 0
+
+  abbrev text : List ℕ
+  text = place_text s.place
+
+  abbrev after : Configuration
+  after = set c i s
+
+  at_within : at ≤ 24587
+  at_within = kept.within i (omega arith)
+
+  end_within : end ≤ 24587
+  end_within = kept.within (i + 1) (omega arith)
+
+  front : length (take at row) ≡ at
+  front = omega (arith, length-take at row, kept.room, at_within)
+
+  pub as_long : length row' ≡ 24588
+  as_long = let e : length row' ≡ length (take at row ++ (text ++ drop end row)) = ap length over.written in
+      omega (arith, e, front, length-append (take at row) (text ++ drop end row), length-append text (drop end row), length-drop end row, over.fits, kept.room, end_within)
+
+  -- from the place on
+  from_place : drop at row' ≡ text ++ drop end row
+  from_place = ap (drop at) over.written ∙ subst (λ n. drop n (take at row ++ (text ++ drop end row)) ≡ text ++ drop end row) front (drop-append_seam (take at row) (text ++ drop end row))
+
+  -- behind the place all is as it was
+  behind : (k : ℕ) → i < k → k ≤ length c → end ≤ get_or begins k 0 → drop (get_or begins k 0) row' ≡ places_text (drop k after)
+  behind k later h low =
+      left_behind row row' text at end (get_or begins k 0) from_place (omega (arith, as_long, kept.room)) (omega (arith, over.fits)) (omega (arith, kept.room, end_within)) low
+      ∙ kept.places k h ∙ ap places_text (sym (drop-set-lt k c i s later))
+
+  -- the place itself
+  pub here : drop at row' ≡ places_text (drop i after)
+  here = placed after row row' at end i (i + 1) s (omega (arith, length-set c i s)) (omega arith)
+      (from_place ∙ ap (λ (d : Standing). place_text d.place ++ drop end row) (sym (get_or-set_same c i s s agent)))
+      (kept.places (i + 1) (omega arith) ∙ ap places_text (sym (drop-set-lt (i + 1) c i s (omega arith))))
+
+  -- before the place all is as it was
+  pub before : (m k : ℕ) → k + m ≡ i → drop (get_or begins k 0) row' ≡ places_text (drop k after)
+  before zero k is = let e : k ≡ i = omega arith in rw e here
+  before (suc m) k is =
+      let next = next_begin c row begins k s kept (omega arith) in
+      let later = begins_rise c row begins s kept (k + 1) m (omega arith) in
+      let goes : k + 1 + m ≡ i = omega arith in
+      let low : get_or begins (k + 1) 0 ≤ at = subst (λ n. get_or begins (k + 1) 0 ≤ get_or begins n 0) goes later in
+      let piece = piece_before row (text ++ drop end row) (place_text (get_or c k s).place) (get_or begins k 0) (get_or begins (k + 1) 0) at next.0 low (omega (arith, kept.room, at_within)) next.1 in
+      let same : get_or after k s ≡ get_or c k s = get_or-set_other c i k s s (omega arith) in
+      placed after row' row' (get_or begins k 0) (get_or begins (k + 1) 0) k (k + 1) s (omega (arith, length-set c i s)) (omega arith)
+      (ap (drop (get_or begins k 0)) over.written ∙ piece ∙ ap (λ x. place_text (get_or c k s).place ++ drop (get_or begins (k + 1) 0) x) (sym over.written)
+      ∙ ap (λ (d : Standing). place_text d.place ++ drop (get_or begins (k + 1) 0) row') (sym same))
+      (before m (k + 1) (omega arith))
+
+  pub after_or_at : (k : ℕ) → k ≤ length c → i ≤ k → drop (get_or begins k 0) row' ≡ places_text (drop k after)
+  after_or_at k h low = elim (same_or_later i k low) [
+    | inl e ↦ rw e here
+    | inr l ↦ behind k l h (let r = begins_rise c row begins s kept (i + 1) (k - (i + 1)) (omega arith) in let goes : i + 1 + (k - (i + 1)) ≡ k = omega arith in subst (λ n. end ≤ get_or begins n 0) goes r)
+  ]
+
+-- What is kept of a configuration in which one place was written over.
+pub overwritten : (c : Configuration) (row row' begins : List ℕ) (i : ℕ) (s : Standing) → IsKept c row begins → i < length c
+    → IsWrittenOver s.place (get_or begins i 0) (get_or begins (i + 1) 0) row row' → IsKept (set c i s) row' begins
+overwritten c row row' begins i s kept agent over =
+    let same_length = length-set c i s in
+    record {
+      agents = omega (arith, same_length, kept.agents);
+      room = as_long c row row' begins i s kept agent over;
+      begun = kept.begun;
+      time = kept.time;
+      rising = λ k h. kept.rising k (omega (arith, same_length));
+      within = λ k h. kept.within k (omega (arith, same_length));
+      places = λ k h. elim (before_or_not k i) [
+        | inl m ↦ before c row row' begins i s kept agent over (i - k) k (omega arith)
+        | inr l ↦ after_or_at c row row' begins i s kept agent over k (omega (arith, same_length)) l
+      ];
+    }
+
+-- The row after a tick, with the places of the moved agents below one.
+pub record IsRewritten (m : MachineState) (from : ℕ) (row begins : List ℕ) : Type 0 where
+  pub now : Configuration
+  pub kept : IsKept now row begins
+  pub agents : length now ≡ length m.configuration
+  pub same : (i : ℕ) → (from ≤ i → flag_of m.moving i ≡ false) → standing_at now i ≡ standing_at m.configuration i
+
+pub rewritten_first : (m : MachineState) (row begins : List ℕ) → IsKeptBefore m row begins → IsRewritten m 0 row begins
+rewritten_first m row begins h = record { now = h.before; kept = h.kept; agents = h.agents; same = λ i none. h.same i (none (omega arith)) }
+
+pub rewritten_next : (m : MachineState) (from i : ℕ) (row row' begins : List ℕ) → IsRewritten m from row begins → IsNextFrom m.moving from i → i < length m.configuration
+    → IsWrittenOver (standing_at m.configuration i).place (get_or begins i 0) (get_or begins (i + 1) 0) row row' → IsRewritten m (i + 1) row' begins
+rewritten_next m from i row row' begins h next agent over =
+    let s = standing_at m.configuration i in
+    let within : i < length h.now = omega (arith, h.agents) in
+    record {
+      now = set h.now i s;
+      kept = overwritten h.now row row' begins i s h.kept within over;
+      agents = omega (arith, length-set h.now i s, h.agents);
+      same = λ j none. elim (eq_or_not j i) [
+        | inl e ↦ rw e (get_or-set_same h.now i s _ within)
+        | inr ne ↦ get_or-set_other h.now i j s _ ne ∙ h.same j (λ low. elim (before_or_not j i) [ inl l ↦ next.between j low l | inr l ↦ none (omega arith) ])
+      ];
+    }
+
+pub rewritten_all : (m : MachineState) (from : ℕ) (row begins : List ℕ) → IsRewritten m from row begins → AreNoneFrom m.moving from → IsKept m.configuration row begins
+rewritten_all m from row begins h none =
+    let all : h.now ≡ m.configuration = ext_get_or _ h.now m.configuration h.agents (λ i l. h.same i (none i)) in
+    subst (λ c. IsKept c row begins) all h.kept
+
+pub really_over : (b : Bool) (q : Place) (at end : ℕ) (row row' : List ℕ) → WritesOver b q at end row row' → b ≡ true → IsWrittenOver q at end row row'
+really_over true q at end row row' h e = h
+really_over false q at end row row' h e = absurd cc
+
+-- the begins of an agent's place and of the next are in order
+pub in_order : (m : MachineState) (from i : ℕ) (row begins : List ℕ) → IsRewritten m from row begins → i < length m.configuration → get_or begins i 0 ≤ get_or begins (i + 1) 0
+in_order m from i row begins h agent = begins_rise h.now row begins (standing_at h.now i) h.kept i 1 (omega (arith, h.agents))
+
+pub inside : (m : MachineState) (from i : ℕ) (row begins : List ℕ) → IsRewritten m from row begins → i < length m.configuration → get_or begins (i + 1) 0 ≤ 24588
+inside m from i row begins h agent = omega (arith, h.kept.within (i + 1) (omega (arith, h.agents)))
+
+-- the time is written before the places
+pub timed : (c : Configuration) (row row' begins digits : List ℕ) (at : ℕ) → IsKept c row begins → drop at row' ≡ digits ++ (58 ∷ drop (get_or begins 0 0) row)
+    → length row' ≡ length row → at ≤ get_or begins 0 0 → IsKept c row' begins
+timed c row row' begins digits at kept e same low = record {
+  agents = kept.agents;
+  room = same ∙ kept.room;
+  begun = kept.begun;
+  time = kept.time;
+  rising = kept.rising;
+  within = kept.within;
+  places = λ k h. left_behind row row' (digits ++ (58 ∷ [])) at (get_or begins 0 0) (get_or begins k 0) (e ∙ sym (append_assoc digits (58 ∷ []) (drop (get_or begins 0 0) row))) same low
+      (omega (arith, kept.room, kept.within 0 (omega arith))) (kept.rising k h) ∙ kept.places k h;
+}
+
+-- who does not move stands where it stood
+pub unmoved : (p : Program) (held : ℕ → Bool) (c : Configuration) (i : ℕ) → length c ≡ length p → flag_of (moving_flags p held c) i ≡ false → standing_at c i ≡ standing_at (tick p held c) i
+unmoved p held c i agents still = elim (before_or_not i (length p)) [
+  | inl agent ↦
+      let flag : is_moving p held c i ≡ false = sym (get_or-map-range_with_len (is_moving p held c) 0 (length p) i i false agent (omega arith)) ∙ still in
+      let after : standing_after p held c i ≡ standing_at c i = rw flag refl in
+      sym (standing_at_tick p held c i agent ∙ after)
+  | inr past ↦ get_or_past c i _ (omega (arith, agents)) ∙ sym (get_or_past (tick p held c) i _ (omega (arith, length-tick p held c)))
+]
+
+pub kept_before : (p : Program) (held : ℕ → Bool) (c : Configuration) (m : MachineState) (row begins : List ℕ) → length c ≡ length p → IsKept c row begins
+    → m.configuration ≡ tick p held c → m.moving ≡ moving_flags p held c → IsKeptBefore m row begins
+kept_before p held c m row begins agents kept after moving = record {
+  before = c;
+  kept = kept;
+  agents = agents ∙ sym (length-tick p held c) ∙ ap length (sym after);
+  same = λ i still. unmoved p held c i agents (ap (λ flags. flag_of flags i) (sym moving) ∙ still) ∙ ap (λ d. standing_at d i) (sym after);
+}

@@ -1,0 +1,14 @@
+use Rattle.std.proofs.Common.{◌≡◌, ◌≤◌, ◌-◌, length}
+use Rattle.fleet_run.proofs.Lines.{IsRewritten}
+use Rattle.fleet_run.proofs.line.write_moved.Given as goal
+
+abbrev pub invariant-loop-i : goal.invariant-loop-i
+invariant-loop-i l = record {
+  from : l.from ≤ 1024;
+  room : length l.row ≡ 24588;
+  begun : length l.begins ≡ 1025;
+  kept : IsRewritten l.machine l.from l.row l.begins;
+}
+
+abbrev pub decreases-loop-i : goal.decreases-loop-i
+decreases-loop-i l = 1025 - l.from

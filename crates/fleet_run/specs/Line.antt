@@ -1,0 +1,38 @@
+-- A line that is kept from tick to tick.
+use Rattle.std.specs.Prelude.{◌≡◌, ◌≤◌, ◌+◌, ◌++◌, ℕ, Bool, true, false, List, length, take, drop, get_or, codes}
+use Rattle.std.specs.List.{flat_map}
+use Rattle.fleet_model.specs.declared.geometry.Place.{Place}
+use Rattle.fleet_model.specs.Machine.{Configuration, standing_at}
+use Rattle.fleet_machine.specs.Machine.{MachineState, flag_of}
+use Rattle.fleet_run.specs.Text.{place_text}
+
+-- the places of the agents from one on, and the end of the line
+abbrev pub places_text : Configuration → List ℕ
+places_text c = flat_map (λ s. place_text s.place) c ++ codes "\n"
+
+-- The row ends with the places of the configuration: that of agent k begins where `begins` says, and after the last one is the line's end.
+pub record IsKept (c : Configuration) (row begins : List ℕ) : Type 0 where
+  pub agents : length c ≤ 1024
+  pub room : length row ≡ 24588
+  pub begun : length begins ≡ 1025
+  pub time : 11 ≤ get_or begins 0 0
+  pub rising : (k : ℕ) → k ≤ length c → get_or begins 0 0 ≤ get_or begins k 0
+  pub within : (k : ℕ) → k ≤ length c → get_or begins k 0 ≤ 24587
+  pub places : (k : ℕ) → k ≤ length c → drop (get_or begins k 0) row ≡ places_text (drop k c)
+
+-- a place was written over the bytes from `at` to `end`, and it has as many
+pub record IsWrittenOver (q : Place) (at end : ℕ) (row row' : List ℕ) : Type 0 where
+  pub fits : at + length (place_text q) ≡ end
+  pub written : row' ≡ take at row ++ (place_text q ++ drop end row)
+
+-- the place was written over those bytes, or all bytes are as they were
+abbrev pub WritesOver : Bool → (q : Place) (at end : ℕ) (row row' : List ℕ) → Type 0
+WritesOver true q at end row row' = IsWrittenOver q at end row row'
+WritesOver false q at end row row' = row' ≡ row
+
+-- the row has the places from before a tick: those that the machine's last tick did not move stand there still
+pub record IsKeptBefore (m : MachineState) (row begins : List ℕ) : Type 0 where
+  pub before : Configuration
+  pub kept : IsKept before row begins
+  pub agents : length before ≡ length m.configuration
+  pub same : (i : ℕ) → flag_of m.moving i ≡ false → standing_at before i ≡ standing_at m.configuration i

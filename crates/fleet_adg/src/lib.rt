@@ -17,6 +17,3 @@ pub use laws::{
     awaits_are_as_defined, compiled_plans_are_accepted, compiled_plans_are_well_formed,
     compiled_plans_run_equally,
 };
-
-#[cfg(test)]
-mod tests;

@@ -23,6 +23,3 @@ pub use rehearse::RehearseRequest;
 pub use request::{Request, WordStop, read_words};
 pub use run::RunRequest;
 pub use verify::VerifyRequest;
-
-#[cfg(test)]
-mod tests;

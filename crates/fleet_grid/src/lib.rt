@@ -16,6 +16,3 @@ pub use laws::{
     a_map_text_is_one_ground, a_text_is_a_map_or_has_a_first_fault, cells_have_places_of_their_own,
 };
 pub use reading::read_map;
-
-#[cfg(test)]
-mod tests;

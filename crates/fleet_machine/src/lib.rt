@@ -6,6 +6,3 @@ mod machine;
 mod wait_lists;
 
 pub use machine::{Machine, Tick};
-
-#[cfg(test)]
-mod tests;

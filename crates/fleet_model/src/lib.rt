@@ -21,6 +21,3 @@ pub use program::{Action, ActionId, Actions, AgentProgram, Await, Awaits, Progra
 pub use standing::Standing;
 pub use task::Task;
 pub use view::{ProgramView, total_awaits, total_moves};
-
-#[cfg(test)]
-mod tests;

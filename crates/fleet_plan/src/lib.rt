@@ -27,8 +27,3 @@ pub use text_laws::{
     a_plan_text_is_one_plan, a_text_is_a_plan_or_has_a_first_fault, a_written_plan_is_read,
 };
 pub use writing::write_plan;
-
-#[cfg(test)]
-mod check_tests;
-#[cfg(test)]
-mod text_tests;

@@ -13,6 +13,3 @@ pub use fault::ScenFault;
 pub use instance::Instance;
 pub use laws::{a_scenario_text_is_one_instance, a_text_is_a_scenario_or_has_a_first_fault};
 pub use reading::read_scen;
-
-#[cfg(test)]
-mod tests;

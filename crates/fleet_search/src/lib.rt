@@ -22,6 +22,3 @@ pub use fault::{PlanStop, SearchFault};
 pub use laws::{made_in_turn, planned_agent_by_agent, steps_decide};
 pub use planner::plan;
 pub use reservations::Reservations;
-
-#[cfg(test)]
-mod tests;

@@ -1,7 +1,7 @@
 //! Programs that are made of a map and a scenario, and run.
 
 use crate::commands::{Answer, expect, fails, prints, refuses};
-use crate::fixtures::*;
+use fleet_fixtures::worked::*;
 use std::test::Fail;
 
 #[test]

@@ -1,7 +1,7 @@
 //! Plans that are checked.
 
 use crate::commands::{expect, prints, refuses};
-use crate::fixtures::*;
+use fleet_fixtures::worked::*;
 use std::test::Fail;
 
 const PAIR_CHECK: &str = "check pair.map pair.scen plan";

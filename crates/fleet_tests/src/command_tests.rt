@@ -1,7 +1,7 @@
 //! Commands by their words.
 
 use crate::commands::{Answer, expect, fails, prints, refuses, status_of, worked_files};
-use crate::fixtures::*;
+use fleet_fixtures::worked::*;
 use fleet_run::VecOut;
 use std::test::Fail;
 

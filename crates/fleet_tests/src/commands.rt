@@ -3,9 +3,9 @@
 ghost use Rattle.std.specs.Prelude.{◌≡◌, false};
 ghost use Rattle.fleet_text.specs.Sink.{IsWorking};
 
-use crate::fixtures::*;
 use fleet_cli::{Files, MemFiles, run_command};
 use fleet_code::read_hex;
+use fleet_fixtures::worked::*;
 use fleet_run::{Flush, VecOut};
 use std::alloc::Global;
 use std::process::Abort;

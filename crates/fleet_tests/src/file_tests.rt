@@ -1,8 +1,8 @@
 //! Rehearsals under holds of files, and stores that fail.
 
 use crate::commands::{Answer, expect, prints, refuses, status_of, worked_files};
-use crate::fixtures::*;
-use crate::streams::FailingFiles;
+use fleet_fixtures::streams::FailingFiles;
+use fleet_fixtures::worked::*;
 use fleet_io::FileFault;
 use fleet_run::VecOut;
 use std::alloc::Global;

@@ -1,7 +1,7 @@
 //! Outputs that take all that is written and then refuse to hand it on.
 
 use crate::commands::{status_of, worked_files};
-use crate::streams::Buffer;
+use fleet_fixtures::streams::Buffer;
 use fleet_run::{TraceOut, VecOut, WriteOut};
 use std::alloc::Global;
 use std::process::Abort;

@@ -1,8 +1,8 @@
 //! Texts and refusals of runs without words, and streams that fail.
 
-use crate::fixtures::{CELL, DEADLOCK, PAIR, PAIR_TEXT};
-use crate::streams::{Failing, ShortReader, short_writer};
 use fleet_cli::run_hex;
+use fleet_fixtures::streams::{Failing, ShortReader, short_writer};
+use fleet_fixtures::worked::{CELL, DEADLOCK, PAIR, PAIR_TEXT};
 use fleet_run::{TraceOut, VecOut, WriteOut};
 use std::alloc::Global;
 use std::process::Abort;

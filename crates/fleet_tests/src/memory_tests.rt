@@ -2,7 +2,7 @@
 //! tries one answers as it should.
 
 use crate::commands::{Answer, prints, refuses, status_of, worked_files};
-use crate::fixtures::*;
+use fleet_fixtures::worked::*;
 use fleet_run::{TraceOut, VecOut};
 use std::alloc::Global;
 use std::process::Abort;

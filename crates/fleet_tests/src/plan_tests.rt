@@ -1,7 +1,7 @@
 //! Plans that are made.
 
 use crate::commands::{Answer, expect, fails, prints, refuses};
-use crate::fixtures::*;
+use fleet_fixtures::worked::*;
 use std::test::Fail;
 
 #[test]

@@ -1,7 +1,7 @@
 //! Programs that are verified and run.
 
 use crate::commands::{Answer, expect_over, fails, prints, program_of, refuses, worked_files};
-use crate::fixtures::*;
+use fleet_fixtures::worked::*;
 use std::alloc::Global;
 use std::process::Abort;
 use std::test::Fail;

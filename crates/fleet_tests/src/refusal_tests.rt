@@ -1,6 +1,6 @@
 //! Files in memory, lines of refusals, and flushes.
 
-use crate::streams::Counter;
+use fleet_fixtures::streams::Counter;
 use fleet_io::{Fault, Files, MemFiles};
 use fleet_model::ActionId;
 use fleet_run::{RunFault, TraceOut, VecOut};

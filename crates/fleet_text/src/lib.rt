@@ -25,6 +25,3 @@ pub use sink::{Flush, OutFault, TraceOut, put_all};
 pub use sinks::{VecOut, WriteOut};
 pub use words::{from_front, is_blank, next_word};
 pub use writing::{Word, put_count, put_line, put_next_word, put_words};
-
-#[cfg(test)]
-mod tests;

@@ -27,6 +27,3 @@ pub use runs::{
     runs_arrive, runs_end, ticks_are_safe, visits_come_in_turn,
 };
 pub use verifier::verify;
-
-#[cfg(test)]
-mod tests;

@@ -7,5 +7,3 @@ pub mod compiled;
 pub mod meetings;
 pub mod plans;
 pub mod programs;
-#[cfg(test)]
-mod tests;

@@ -8,6 +8,7 @@ use Rattle.std.proofs.lemmas.Nat.{pow-add}
 use Rattle.std.proofs.lemmas.Bool.{cases_eq, cases_lt}
 use Rattle.std.proofs.lemmas.List.{ext_get_or, get_or_past, get_or-replicate, length-replicate}
 use Rattle.std.proofs.lemmas.List.FromFn.{get_or-map-range_with_len, length-map-range_with_len}
+use Rattle.fleet_model.specs.declared.limits.TheConstants.{MAX_AGENTS}
 use Rattle.fleet_machine.specs.Machine.{flag_of}
 use Rattle.fleet_machine.specs.AgentSet.{is_bit, flags_in, AreBits, IsLowest, IsNextFrom, AreNoneFrom, bit_if}
 
@@ -68,8 +69,8 @@ true_is_false e = absurd cc
 
 -- ---- no bit
 
-module _ (words : List ℕ) (m n : ℕ) (e : words ≡ replicate m 0) (long : m ≡ n / 64 + 1) (few : n < 2 ^ 16) where
-  no_word : (i : ℕ) → slice_index words i ≡ 0
+module _ (words : List ℕ) (m n : ℕ) (e : words ≡ replicate m 0) (long : m ≡ n / 64 + 1) (few : n ≤ MAX_AGENTS) where
+  pub no_word : (i : ℕ) → slice_index words i ≡ 0
   no_word i =
       let nothing : ℕ = 0 in
       elim (cases_lt i m) [
@@ -174,16 +175,3 @@ module _ (words : List ℕ) (n : ℕ) (bits : AreBits words n) (from : ℕ) wher
               let here : k / 64 ≡ at = omega arith in
               rw (here, low.lower (k % 64) (omega arith)) refl
         ])
-
-    pub word_none : slice_index words at ≡ 0 → (k : ℕ) → from ≤ k → k < 64 * (at + 1) → is_bit words k ≡ false
-    word_none none k ge lt =
-        elim (cases_lt k (64 * at)) [
-          | inl below ↦ clear k ge below
-          | inr above ↦
-              let here : k / 64 ≡ at = omega arith in
-              rw (here, none, bit_at-zero (k % 64)) refl
-        ]
-
-    pub all_none : length words ≤ at → AreNoneFrom (flags_in words n) from
-    all_none all =
-        none_is (λ k ge. elim (cases_lt k (64 * at)) [ inl below ↦ clear k ge below | inr above ↦ bits.rest k (let long = bits.long in omega arith) ])

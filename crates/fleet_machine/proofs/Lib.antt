@@ -1,6 +1,7 @@
 pub mod Ready
 mod Linked
 pub mod Bits
+mod Marked
 pub mod Indices
 pub mod Lacking
 pub mod Judging

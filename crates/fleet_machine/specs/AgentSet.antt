@@ -1,6 +1,7 @@
 -- Sets of agents, as bits of words.
-use Rattle.std.specs.Prelude.{◌≡◌, ℕ, ◌+◌, ◌/◌, ◌%◌, ◌^◌, ◌<◌, ◌≤◌, Bool, true, false, List, length, map, slice_index, if◌then◌else◌, ◌==◌}
+use Rattle.std.specs.Prelude.{◌≡◌, ℕ, ◌+◌, ◌/◌, ◌%◌, ◌<◌, ◌≤◌, ◌↔◌, Bool, true, false, List, length, map, slice_index, if◌then◌else◌, ◌==◌}
 use Rattle.std.specs.Int.{bit_at}
+use Rattle.fleet_model.specs.declared.limits.TheConstants.{MAX_AGENTS}
 use Rattle.fleet_model.specs.Machine.{indices}
 use Rattle.fleet_machine.specs.Machine.{flag_of}
 
@@ -17,9 +18,18 @@ flags_in words n = map (is_bit words) (indices n)
 
 -- words for n agents, with no bit for another
 pub record AreBits (words : List ℕ) (n : ℕ) : Type 0 where
-  pub few : n < 2 ^ 16
+  pub few : n ≤ MAX_AGENTS
   pub long : length words ≡ n / 64 + 1
   pub rest : (i : ℕ) → n ≤ i → is_bit words i ≡ false
+
+-- bit k of the marks is clear exactly where word k has no bit
+abbrev pub AreMarks : List ℕ → ℕ → Type 0
+AreMarks words marks = (k : ℕ) → k < 64 → (bit_at marks k ≡ 0) ↔ (slice_index words k ≡ 0)
+
+-- words for n agents, and marks for the words
+pub record AreBitsMarked (words : List ℕ) (marks n : ℕ) : Type 0 where
+  pub bits : AreBits words n
+  pub marked : AreMarks words marks
 
 -- the lowest bit of the word that is set
 pub record IsLowest (word place : ℕ) : Type 0 where

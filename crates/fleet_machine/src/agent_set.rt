@@ -1,10 +1,11 @@
-//! Sets of agents, a bit for each agent. The next member is found at a look at few words.
+//! Sets of agents, a bit for each agent. The next member is found at a look at three words.
 
 ghost use Rattle.std.specs.Prelude.{◌≡◌, ◌≢◌, ◌<◌, ◌≤◌, ℕ, length, set, replicate, false, MatchOption, IfOk};
 ghost use Rattle.std.specs.Int.{bit_at};
 ghost use Rattle.fleet_machine.specs.Machine.{flag_of};
 ghost use Rattle.fleet_machine.specs.AgentSet.{bit_if, IsLowest, IsNextFrom, AreNoneFrom};
 
+use fleet_model::MAX_AGENTS;
 use std::alloc::{AllocError, Global};
 use std::marker::Model;
 
@@ -15,18 +16,20 @@ const WORD: usize = 64;
 #[derive(Drop)]
 pub struct AgentSet {
     words: Vec<u64>,
+    /// A bit for each word, set where the word has one.
+    filled: u64,
     agents: u16,
 }
 
 impl Model for AgentSet {
     ghost use Rattle.std.specs.Prelude.{List, Bool};
-    ghost use Rattle.fleet_machine.specs.AgentSet.{flags_in, AreBits};
+    ghost use Rattle.fleet_machine.specs.AgentSet.{flags_in, AreBitsMarked};
 
     ghost Value = { List Bool };
 
     ghost view = { λ s. flags_in s.words.items s.agents };
 
-    ghost invariant = { λ s. AreBits s.words.items s.agents };
+    ghost invariant = { λ s. AreBitsMarked s.words.items s.filled s.agents };
 }
 
 /// The place of the lowest bit that is set.
@@ -57,10 +60,15 @@ fn with_bit(word: u64, place: u16, is_set: bool) -> u64
 impl AgentSet {
     /// No agent of so many.
     pub fn new(alloc: Global, agents: u16) -> Result<AgentSet, AllocError>
+        requires { agents ≤ MAX_AGENTS }
         ensures { IfOk result (λ s. s ≡ replicate agents false) }
     {
         let words = vec![in alloc; 0; agents as usize / WORD + 1]?;
-        Ok(AgentSet { words, agents })
+        Ok(AgentSet {
+            words,
+            filled: 0,
+            agents,
+        })
     }
 
     /// Whether agent `i` is a member.
@@ -76,9 +84,14 @@ impl AgentSet {
         requires { i < length self.old }
         ensures { self.new ≡ set self.old i is_member }
     {
-        let at = i as usize / WORD;
-        let word = with_bit(self.words[at], i % 64, is_member);
-        self.words[at] = word;
+        let at = i / WORD as u16;
+        let old = self.words[at as usize];
+        let word = with_bit(old, i % 64, is_member);
+        if word == old {
+            return;
+        }
+        self.words[at as usize] = word;
+        self.filled = with_bit(self.filled, at, word != 0);
     }
 
     /// No agent is a member from now on.
@@ -86,6 +99,7 @@ impl AgentSet {
         ensures { self.new ≡ replicate (length self.old) false }
     {
         self.words.fill(0);
+        self.filled = 0;
     }
 
     /// The members are those of the other set from now on.
@@ -94,6 +108,7 @@ impl AgentSet {
         ensures { self.new ≡ other.now }
     {
         self.words.copy_from_slice(&other.words);
+        self.filled = other.filled;
     }
 
     /// The first member from this agent on.
@@ -108,12 +123,14 @@ impl AgentSet {
         if let Some(place) = lowest(word >> (from % 64)) {
             return Some(from + place as u16);
         }
-        for at in first + 1..self.words.len() {
-            let word = self.words[at];
-            if let Some(place) = lowest(word) {
-                return Some((WORD * at + place) as u16);
-            }
-        }
-        None
+        let filled = self.filled;
+        let Some(skipped) = lowest(filled >> (first + 1)) else {
+            return None;
+        };
+        let at = first + 1 + skipped;
+        let Some(place) = lowest(self.words[at]) else {
+            return None;
+        };
+        Some((WORD * at + place) as u16)
     }
 }

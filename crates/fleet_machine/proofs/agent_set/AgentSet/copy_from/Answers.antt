@@ -9,8 +9,8 @@ same_agents words others n m e = sym (long_flags words n) ∙ (e ∙ long_flags 
 pub copy_from_slice-requires : goal.copy_from_slice-requires
 copy_from_slice-requires c =
     let same = same_agents c.self.inside.words.items c.other.inside.words.items c.self.inside.agents c.other.inside.agents (ap length c.self.view_is ∙ c.requires ∙ sym (ap length c.other.view_is)) in
-    let long = c.self.invariant.long in
-    let other = c.other.invariant.long in
+    let long = c.self.invariant.bits.long in
+    let other = c.other.invariant.bits.long in
     let read = ap length c.deref.ensures.value in
     omega (arith, ap (λ n. n / 64 + 1) same)
 

@@ -22,7 +22,7 @@ use Rattle.fleet_plan.specs.Plan.{Plan, cell_of, steps, IsConflictFree}
 use Rattle.fleet_verify.proofs.Chains.{Reaches-trans, Reaches-rises}
 use Rattle.fleet_verify.proofs.Listing.{awaits_accepted}
 use Rattle.fleet_chains.specs.Reduced.{DiffersInAwaits, HaveSameChains}
-use Rattle.fleet_chains.proofs.Orders.{two_ordered}
+use Rattle.fleet_verify.proofs.OrderedPairs.{two_ordered}
 use Rattle.fleet_chains.proofs.SameChains.{run_over}
 use Rattle.fleet_model.specs.Machine.{Holds, run}
 use Rattle.fleet_adg.specs.Compiled.{changes, moves_by, entry_awaits, action_in, compiled}

@@ -1,16 +1,7 @@
 pub mod Rows
-pub mod Finishing
-pub mod Decide
-pub mod Needs
-pub mod RisingRows
-pub mod Orders
-pub mod Sorted
 pub mod Looking
-pub mod BreakingMeets
-pub mod BreakingExists
 pub mod BreakingCounts
 pub mod CountedUp
-pub mod Exact
 pub mod Alike
 pub mod SameChains
 pub mod Reductions

@@ -9,7 +9,7 @@ use Rattle.fleet_model.proofs.Chains.{chain_first, chain_last, chain_rises, Reac
 use Rattle.fleet_verify.proofs.Chains.{Reaches-trans}
 use Rattle.fleet_verify.proofs.Members.{same_action}
 use Rattle.fleet_chains.specs.Reduced.{IsImplied, DiffersInAwaits, IsThinned, IsReduced, HaveSameChains}
-use Rattle.fleet_chains.proofs.Decide.{some-dec, action-dec, before_in, needs_before, Reaches-dec}
+use Rattle.fleet_verify.proofs.Decide.{some-dec, action-dec, before_in, needs_before, Reaches-dec}
 use Rattle.fleet_chains.proofs.Alike.{same_moves, action_there, action_back}
 
 need_back : (p q : Program) → IsReduced p q → (a b : ActionId) → DirectlyNeeds q a b → DirectlyNeeds p a b

@@ -19,7 +19,7 @@ use Rattle.fleet_verify.proofs.Counts.{counts, readies, run_counts}
 use Rattle.fleet_verify.proofs.Finished.{chain_due}
 use Rattle.fleet_verify.proofs.Readiness.{ready_says, ready_from}
 use Rattle.fleet_chains.specs.Reduced.{HaveSameChains}
-use Rattle.fleet_chains.proofs.BreakingExists.{moves_within}
+use Rattle.fleet_verify.proofs.BreakingExists.{moves_within}
 use Rattle.fleet_chains.proofs.Alike.{same_moves, action_there, action_back, next_same, opening_same, path_there, leaving_there, lists_there}
 
 pub turned : (p q : Program) → HaveSameChains p q → HaveSameChains q p

@@ -3,7 +3,7 @@ use Rattle.std.specs.Prelude.{◌≡◌, ℕ, ◌≤◌, List, slice_index, ◌�
 use Rattle.fleet_model.specs.declared.program.Await.{Await}
 use Rattle.fleet_model.specs.declared.program.Visit.{Visit}
 use Rattle.fleet_model.specs.Program.{Program, awaits_of}
-use Rattle.fleet_chains.specs.Breaking.{IsNeededFor}
+use Rattle.fleet_model.specs.Breaking.{IsNeededFor}
 
 -- of each agent so many actions are needed, its first ones
 abbrev pub AreNeeded : Program → Visit → Visit → (ℕ → ℕ) → Type 0

@@ -8,7 +8,9 @@ ghost use Rattle.fleet_model.specs.Program.{AreInRange};
 ghost use Rattle.fleet_model.specs.Chain.{IsNumbering};
 ghost use Rattle.fleet_model.specs.Visit.{IsVisit};
 ghost use Rattle.fleet_verify.specs.Walk.{IsReadyBy};
-ghost use Rattle.fleet_chains.specs.Breaking.{AreUnordered, IsHeldBy, AreAdvanced, AreBreakingHolds, MeetOn};
+ghost use Rattle.fleet_model.specs.Visit.{AreUnordered};
+ghost use Rattle.fleet_chains.specs.Breaking.{IsHeldBy, AreAdvanced};
+ghost use Rattle.fleet_model.specs.Breaking.{AreBreakingHolds, MeetOn};
 ghost use Rattle.fleet_chains.specs.Needed.{AreNeeded};
 
 use crate::needed::needed_for;

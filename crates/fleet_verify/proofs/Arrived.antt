@@ -10,7 +10,6 @@ use Rattle.fleet_model.specs.declared.program.ActionId.{ActionId}
 use Rattle.fleet_model.specs.declared.program.Visit.{Visit}
 use Rattle.fleet_model.specs.Program.{Program, moves, awaits_of, IsWellFormed}
 use Rattle.fleet_model.specs.Machine.{count_at, run, is_finished, IsLeast}
-use Rattle.fleet_model.specs.Chain.{IsAction}
 use Rattle.fleet_verify.specs.Faults.{EachAgent, EachAction, EndsRight, StandsRight, AwaitsRight, HasStarts, HasRanges}
 use Rattle.fleet_verify.specs.Walk.{begun_in, AreOnGround}
 use Rattle.fleet_verify.proofs.Counts.{count_opening}

@@ -32,3 +32,12 @@ pub mod Judged
 pub mod Refuses
 pub mod Claimed
 pub mod Blocked
+pub mod Finishing
+pub mod Decide
+pub mod Needs
+pub mod RisingRows
+pub mod OrderedPairs
+pub mod Sorted
+pub mod BreakingMeets
+pub mod BreakingExists
+pub mod Exact

@@ -6,4 +6,5 @@ pub mod Order
 pub mod Faults
 pub mod Path
 pub mod Parts
+pub mod Rows
 pub mod Told

@@ -7,6 +7,7 @@
 
 mod accepted;
 mod agents;
+mod exactness;
 mod fault;
 mod order;
 mod orders;
@@ -18,6 +19,11 @@ mod verifier;
 mod visit_order;
 
 pub use accepted::{Accepted, Refused};
+pub use exactness::{
+    acceptance_is_exact, breaking_holds_are_one_list, breaking_holds_by_rows,
+    breaking_holds_end_in_a_conflict, listed_visits_are_chained, unordered_visits_are_found,
+    unordered_visits_meet,
+};
 pub use fault::VerifyFault;
 pub use orders::{
     awaits_are_chains, orderly_listings_rise, rings_are_never_finished, sorted_listings_decide,

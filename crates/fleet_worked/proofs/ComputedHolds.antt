@@ -17,13 +17,14 @@ use Rattle.fleet_worked.proofs.ComputedVisits.{is_visit_of, visit_is}
 use Rattle.fleet_model.proofs.Places.{is_same_place-true}
 use Rattle.fleet_model.proofs.Chains.{Reaches-first}
 use Rattle.fleet_verify.proofs.Chains.{Reaches-trans, own_reach}
-use Rattle.fleet_chains.specs.Breaking.{AreUnordered, IsNeededFor, IsHeldBack, IsPrepared, AreBreakingHolds}
+use Rattle.fleet_model.specs.Visit.{AreUnordered}
+use Rattle.fleet_model.specs.Breaking.{IsNeededFor, IsHeldBack, IsPrepared, AreBreakingHolds}
 use Rattle.fleet_chains.specs.Needed.{AreNeeded}
 use Rattle.fleet_worked.specs.Meetings.{MeetBy}
-use Rattle.fleet_chains.proofs.Orders.{as_visit}
-use Rattle.fleet_chains.proofs.RisingRows.{those_below, those_rise, those_has, those_keep}
+use Rattle.fleet_verify.proofs.OrderedPairs.{as_visit}
+use Rattle.fleet_verify.proofs.RisingRows.{those_below, those_rise, those_has, those_keep}
 use Rattle.fleet_chains.proofs.Looking.{looking_end}
-use Rattle.fleet_chains.proofs.BreakingExists.{moves_within, IsBegun, grown, prepared_by_counts}
+use Rattle.fleet_verify.proofs.BreakingExists.{moves_within, IsBegun, grown, prepared_by_counts}
 use Rattle.fleet_chains.proofs.BreakingCounts.{meeting_start}
 
 -- ---- what is needed

@@ -17,8 +17,8 @@ use Rattle.fleet_model.specs.Accepted.{IsRight, IsAcceptedBy}
 use Rattle.fleet_model.proofs.Places.{is_same_place-true}
 use Rattle.fleet_verify.specs.Listing.{entry_level}
 use Rattle.fleet_verify.proofs.Listing.{after_reaches, await_chain, adjacent_chains, sorted_passes}
-use Rattle.fleet_chains.specs.Breaking.{AreUnordered}
-use Rattle.fleet_chains.proofs.Orders.{unordered_refuses}
+use Rattle.fleet_model.specs.Visit.{AreUnordered}
+use Rattle.fleet_verify.proofs.OrderedPairs.{unordered_refuses}
 use Rattle.fleet_worked.specs.Programs.{HasNoOrder, IsRefusedAt}
 use Rattle.fleet_worked.proofs.Computed.{at_all_positions, at_position, weighed, is_numbered, numbered_is, is_chain, chain_is, task_of, is_right, right_is}
 use Rattle.fleet_worked.proofs.ComputedVisits.{is_visit_of, lists_visits, visits_are}

@@ -6,7 +6,8 @@ use Rattle.fleet_model.specs.declared.program.Visit.{Visit}
 use Rattle.fleet_model.specs.Program.{Program}
 use Rattle.fleet_model.specs.Machine.{Holds}
 use Rattle.fleet_worked.specs.Programs.{cell, await, go, agent_from}
-use Rattle.fleet_chains.specs.Breaking.{AreUnordered, AreBreakingHolds, MeetOn}
+use Rattle.fleet_model.specs.Visit.{AreUnordered}
+use Rattle.fleet_model.specs.Breaking.{AreBreakingHolds, MeetOn}
 
 -- agent 2 enters 1,0 and awaits agent 1 alone, which awaits nobody. So nothing tells that agent 0 has left it
 abbrev pub loose_relay : Program

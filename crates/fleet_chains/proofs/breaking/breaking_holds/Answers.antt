@@ -1,7 +1,7 @@
 use Rattle.std.proofs.Common.{ℕ, List, slice_index, map, subst, sym}
 use Rattle.std.proofs.lemmas.Result.{IfOk-weaker}
 use Rattle.fleet_chains.specs.Needed.{AreNeeded}
-use Rattle.fleet_chains.proofs.BreakingMeets.{breaking_conflict}
+use Rattle.fleet_verify.proofs.BreakingMeets.{breaking_conflict}
 use Rattle.fleet_chains.proofs.breaking.breaking_holds.Goals as goal
 
 pub holds_by-requires-clause-needed : goal.holds_by-requires-clause-needed

@@ -3,7 +3,7 @@ use Rattle.fleet_model.specs.declared.geometry.Place.{Place}
 use Rattle.fleet_model.specs.declared.program.ActionId.{ActionId}
 use Rattle.fleet_model.specs.Chain.{IsNumbering}
 use Rattle.fleet_worked.specs.Programs.{place, visit}
-use Rattle.fleet_chains.specs.Breaking.{AreUnordered}
+use Rattle.fleet_model.specs.Visit.{AreUnordered}
 use Rattle.fleet_plan_tests.proofs.worked_tests.agents_meet_where_one_stays.Goals as goal
 
 pub breaking_holds-requires-clause-numbering : goal.breaking_holds-requires-clause-numbering

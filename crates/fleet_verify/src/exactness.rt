@@ -11,11 +11,12 @@ ghost use Rattle.fleet_model.specs.Visit.{ListsVisits, Adjacent, ComesAfterByCha
 ghost use Rattle.fleet_model.specs.declared.task.Task.{Task};
 ghost use Rattle.fleet_model.specs.Accepted.{IsRight, IsAcceptedBy};
 ghost use Rattle.fleet_model.specs.Run.{HasBegun};
-ghost use Rattle.fleet_chains.specs.Breaking.{AreUnordered, IsHeldBack, IsPrepared, AreBreakingHolds, MeetOn};
+ghost use Rattle.fleet_model.specs.Visit.{AreUnordered};
+ghost use Rattle.fleet_model.specs.Breaking.{IsHeldBack, IsPrepared, AreBreakingHolds, MeetOn};
 ghost use Rattle.fleet_verify.specs.Faults.{IsUnordered};
 ghost use Rattle.fleet_verify.specs.Listing.{AreLevels, IsSortedListing};
-ghost use Rattle.fleet_chains.specs.Exact.{RunsWell};
-ghost use Rattle.fleet_chains.specs.Rows.{IsCountedUp, IsRow, IsJoined};
+ghost use Rattle.fleet_model.specs.Run.{RunsWell};
+ghost use Rattle.fleet_verify.specs.Rows.{IsCountedUp, IsRow, IsJoined};
 
 /// After the breaking holds of two visits of a place without an order, both agents stand on that
 /// place.
@@ -77,21 +78,6 @@ pub fn unordered_visits_are_found()
         IsUnordered ComesAfterByChain p q v w → AreUnordered p q v w }
     ensures refused { (p : Program) (q : Place) (v w : Visit) →
         AreUnordered p q v w → IsOrderly ComesAfterByChain p → ⊥ }
-{}
-
-/// Levels are found by counting up: an action's level is 1, or one more than that of an action that
-/// it directly needs, and above those of all of them.
-pub fn levels_are_counted_up()
-    ensures { (p : Program) (level : ActionId → ℕ) →
-        ((a : ActionId) → IsAction p a → IsCountedUp p level a) → AreLevels p level }
-{}
-
-/// The row of an action is made of the rows of the actions that it directly needs.
-pub fn rows_are_joined()
-    ensures { (p : Program) (a : ActionId) (rows : ActionId → ℕ → ℕ) (row : ℕ → ℕ) →
-        IsAction p a →
-        ((b : ActionId) → IsAction p b → DirectlyNeeds p a b → IsRow p b (rows b)) →
-        IsJoined p a rows row → IsRow p a row }
 {}
 
 /// A program with right agents, ends, steps and ranges is accepted exactly where it runs well under

@@ -7,7 +7,7 @@ use Rattle.fleet_model.specs.Chain.{IsAction, Reaches}
 use Rattle.fleet_model.specs.Visit.{entering}
 use Rattle.fleet_model.proofs.Chains.{Reaches-first}
 use Rattle.fleet_verify.proofs.Chains.{Reaches-trans}
-use Rattle.fleet_chains.specs.Breaking.{IsNeededFor}
+use Rattle.fleet_model.specs.Breaking.{IsNeededFor}
 
 pub needed_action : (p : Program) (v w : Visit) (a : ActionId) → IsNeededFor p v w a → IsAction p a
 needed_action p v w a (inl r) = Reaches-first p a (entering v) r

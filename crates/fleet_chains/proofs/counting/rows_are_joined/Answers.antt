@@ -1,5 +1,5 @@
 use Rattle.fleet_chains.proofs.CountedUp.{joined_row}
-use Rattle.fleet_chains.proofs.exactness.rows_are_joined.Goals as goal
+use Rattle.fleet_chains.proofs.counting.rows_are_joined.Goals as goal
 
 pub returns : goal.returns
 returns c = λ p a rows row k h j. joined_row p a k rows h row j

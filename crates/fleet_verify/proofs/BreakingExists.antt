@@ -12,17 +12,17 @@ use Rattle.fleet_model.specs.Program.{Program, moves, awaits_of, AreInRange}
 use Rattle.fleet_model.specs.Machine.{Configuration, count_at, Holds, is_held, tick, run, IsDone}
 use Rattle.fleet_model.specs.Chain.{IsAction, DirectlyNeeds, IsNumbering, awaited}
 use Rattle.fleet_model.specs.Visit.{IsVisit, entering}
-use Rattle.fleet_chains.specs.Breaking.{IsNeededFor, IsHeldBack, IsPrepared, AreBreakingHolds}
+use Rattle.fleet_model.specs.Breaking.{IsNeededFor, IsHeldBack, IsPrepared, AreBreakingHolds}
 use Rattle.fleet_verify.proofs.Readiness.{IsReadyTo, step}
 use Rattle.fleet_verify.proofs.Chains.{Reaches-refl, Reaches-rises}
 use Rattle.fleet_model.proofs.Chains.{Reaches-need}
 use Rattle.fleet_verify.proofs.Done.{count_grows}
-use Rattle.fleet_chains.proofs.Needs.{needed_action, needed_on}
-use Rattle.fleet_chains.proofs.Finishing.{Reaches-done}
-use Rattle.fleet_chains.proofs.Decide.{Reaches-dec, before_in}
-use Rattle.fleet_chains.specs.Rows.{IsRow}
-use Rattle.fleet_chains.proofs.RisingRows.{same_rising, those_below, those_rise, those_has, those_keep}
-use Rattle.fleet_chains.proofs.BreakingMeets.{any_Contains}
+use Rattle.fleet_verify.proofs.Needs.{needed_action, needed_on}
+use Rattle.fleet_verify.proofs.Finishing.{Reaches-done}
+use Rattle.fleet_verify.proofs.Decide.{Reaches-dec, before_in}
+use Rattle.fleet_verify.specs.Rows.{IsRow}
+use Rattle.fleet_verify.proofs.RisingRows.{same_rising, those_below, those_rise, those_has, those_keep}
+use Rattle.fleet_verify.proofs.BreakingMeets.{any_Contains}
 
 pub moves_within : (p : Program) (i : ℕ) → 0 < moves p i → i < length p
 moves_within [] i l = absurd (omega arith)

@@ -10,7 +10,8 @@ use Rattle.fleet_model.specs.Program.{Program}
 use Rattle.fleet_model.specs.Machine.{count_at, place_at, Holds, is_held, run}
 use Rattle.fleet_model.specs.Chain.{IsAction, Reaches, IsNumbering}
 use Rattle.fleet_model.specs.Visit.{next_move, IsVisitOf, entering, leaving}
-use Rattle.fleet_chains.specs.Breaking.{AreUnordered, IsNeededFor, IsHeldBack, AreBreakingHolds, MeetOn}
+use Rattle.fleet_model.specs.Visit.{AreUnordered}
+use Rattle.fleet_model.specs.Breaking.{IsNeededFor, IsHeldBack, AreBreakingHolds, MeetOn}
 use Rattle.fleet_verify.proofs.Readiness.{Moves, step}
 use Rattle.fleet_verify.proofs.Counts.{count_past, count_opening, run_place}
 use Rattle.fleet_model.proofs.Visits.{stays_to}

@@ -11,18 +11,19 @@ use Rattle.fleet_model.specs.Chain.{Reaches, IsNumbering}
 use Rattle.fleet_model.specs.Visit.{IsVisitOf, ComesAfterByChain, entering, leaving}
 use Rattle.fleet_model.specs.declared.task.Task.{Task}
 use Rattle.fleet_model.specs.Accepted.{IsRight, IsAcceptedBy}
-use Rattle.fleet_chains.specs.Breaking.{AreUnordered, AreBreakingHolds}
-use Rattle.fleet_chains.specs.Exact.{RunsWell}
-use Rattle.fleet_chains.proofs.Decide.{Reaches-dec}
-use Rattle.fleet_chains.proofs.BreakingMeets.{breaking_conflict}
-use Rattle.fleet_chains.proofs.Orders.{as_visit}
-use Rattle.fleet_chains.proofs.BreakingExists.{breaking_made}
+use Rattle.fleet_model.specs.Visit.{AreUnordered}
+use Rattle.fleet_model.specs.Breaking.{AreBreakingHolds}
+use Rattle.fleet_model.specs.Run.{RunsWell}
+use Rattle.fleet_verify.proofs.Decide.{Reaches-dec}
+use Rattle.fleet_verify.proofs.BreakingMeets.{breaking_conflict}
+use Rattle.fleet_verify.proofs.OrderedPairs.{as_visit}
+use Rattle.fleet_verify.proofs.BreakingExists.{breaking_made}
 use Rattle.fleet_verify.proofs.Listing.{after_reaches}
 use Rattle.fleet_verify.proofs.Finish.{done_after}
-use Rattle.fleet_chains.proofs.Finishing.{run_numbers}
+use Rattle.fleet_verify.proofs.Finishing.{run_numbers}
 use Rattle.fleet_verify.proofs.Free.{runs_free}
 use Rattle.fleet_verify.proofs.Arrive.{longest_exists, finish_exists}
-use Rattle.fleet_chains.proofs.Sorted.{ordered_listing}
+use Rattle.fleet_verify.proofs.Sorted.{ordered_listing}
 
 -- visits without an order would meet
 meet : (p : Program) (number : ActionId → ℕ) → IsNumbering p number → AreInRange p → RunsWell p → (q : Place) (v w : Visit) → AreUnordered p q v w → ⊥

@@ -1,7 +1,7 @@
 use Rattle.fleet_verify.proofs.Listing.{levels_number}
-use Rattle.fleet_chains.proofs.Orders.{as_visit}
-use Rattle.fleet_chains.proofs.BreakingExists.{breaking_made, breaking_unique, breaking_short}
-use Rattle.fleet_chains.proofs.exactness.breaking_holds_are_one_list.Goals as goal
+use Rattle.fleet_verify.proofs.OrderedPairs.{as_visit}
+use Rattle.fleet_verify.proofs.BreakingExists.{breaking_made, breaking_unique, breaking_short}
+use Rattle.fleet_verify.proofs.exactness.breaking_holds_are_one_list.Goals as goal
 
 pub returns : goal.returns
 returns c = record {

@@ -1,6 +1,6 @@
 use Rattle.fleet_verify.proofs.Listing.{levels_number}
-use Rattle.fleet_chains.proofs.Orders.{neighbours_unordered, unordered_refuses}
-use Rattle.fleet_chains.proofs.exactness.unordered_visits_are_found.Goals as goal
+use Rattle.fleet_verify.proofs.OrderedPairs.{neighbours_unordered, unordered_refuses}
+use Rattle.fleet_verify.proofs.exactness.unordered_visits_are_found.Goals as goal
 
 pub returns : goal.returns
 returns c = record {

@@ -1,6 +1,6 @@
-use Rattle.fleet_chains.proofs.Orders.{as_visit}
-use Rattle.fleet_chains.proofs.BreakingExists.{held_by_rows, prepared_by_counts}
-use Rattle.fleet_chains.proofs.exactness.breaking_holds_by_rows.Goals as goal
+use Rattle.fleet_verify.proofs.OrderedPairs.{as_visit}
+use Rattle.fleet_verify.proofs.BreakingExists.{held_by_rows, prepared_by_counts}
+use Rattle.fleet_verify.proofs.exactness.breaking_holds_by_rows.Goals as goal
 
 pub returns : goal.returns
 returns c = record {

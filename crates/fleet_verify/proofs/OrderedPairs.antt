@@ -10,7 +10,7 @@ use Rattle.fleet_model.specs.Program.{Program}
 use Rattle.fleet_model.specs.Chain.{IsAction, Reaches, IsNumbering}
 use Rattle.fleet_model.specs.Visit.{next_move, IsVisit, IsVisitOf, ListsVisits, Adjacent, ComesAfterByChain, entering, leaving}
 use Rattle.fleet_model.proofs.Chains.{Reaches-first, Reaches-last}
-use Rattle.fleet_chains.specs.Breaking.{AreUnordered}
+use Rattle.fleet_model.specs.Visit.{AreUnordered}
 use Rattle.fleet_verify.specs.Listing.{entry_level, IsBefore, IsSortedListing}
 use Rattle.fleet_verify.proofs.Chains.{Reaches-trans, own_reach}
 use Rattle.fleet_verify.proofs.Listing.{after_reaches, before_rank, chained, rank_rises}

@@ -1,5 +1,0 @@
-use Rattle.fleet_chains.proofs.Orders.{listed_reach}
-use Rattle.fleet_chains.proofs.exactness.listed_visits_are_chained.Goals as goal
-
-pub returns : goal.returns
-returns c = λ p q l i j v w h a m ev ew. listed_reach p q l h a i j v w m ev ew

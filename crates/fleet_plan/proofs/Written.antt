@@ -1,191 +1,37 @@
--- Written lines, words and numbers are read again.
-use Rattle.std.proofs.Common.{◌≡◌, ◌≢◌, ℕ, zero, suc, ◌+◌, ◌-◌, ◌*◌, ◌/◌, ◌%◌, ◌^◌, ◌≤◌, ◌<◌, Bool, true, false, eqb, List, [], ◌∷◌, ◌++◌, length, map, filter, get_or, Option, Some, None, refl, sym, ap, subst, ◌∙◌, append_assoc, arith, inl, inr}
+-- Written cells and paths are read again.
+use Rattle.std.proofs.Common.{◌≡◌, ℕ, ◌≤◌, false, eqb, List, [], ◌∷◌, ◌++◌, map, Option, Some, refl, sym, ap, subst, ◌∙◌, arith}
 use Rattle.std.specs.Prelude.{decimal}
-use Rattle.std.specs.List.{AllByRecursion, AllZip, slice_split, onto_first, join_with_byte}
-use Rattle.std.specs.Str.Lines.{strip_carriage_return}
-use Rattle.std.proofs.lemmas.Bool.{cases_Bool, ne_eqb, le-leb, lt-ltb}
-use Rattle.std.proofs.lemmas.Fmt.{decimal_by_steps}
-use Rattle.std.proofs.lemmas.List.{length-append, length-map}
+use Rattle.std.specs.List.{AllByRecursion, AllZip, slice_split}
+use Rattle.std.proofs.lemmas.List.{length-map}
 use Rattle.std.proofs.lemmas.List.Elements.{recursion_from_All}
 use Rattle.fleet_model.specs.declared.geometry.Cell.{Cell}
 use Rattle.fleet_model.specs.declared.limits.TheConstants.{MAX_COORDINATE}
 use Rattle.fleet_model.specs.Program.{IsCell}
-use Rattle.fleet_text.specs.Text.{Bytes, is_blank, is_word, starts_blank, is_digit, ended_lines, lines, words, words_from_front, number_after, number, small_number}
+use Rattle.fleet_text.specs.Text.{Bytes, lines}
+use Rattle.fleet_text.proofs.WrittenLaws.{spells, small_is, From, apart_from, from_less, from_append, from_join, decimal_from, split_first, split_last, IsToken, tokens_from, word_some, front_join, lines_written}
 use Rattle.fleet_plan.specs.Plan.{Path, Plan, IsPath, IsWithinLimits}
-use Rattle.fleet_plan.specs.PlanText.{cell_of_parts, spelled_cell, StandsFor, ArePlanLines, cell_text, path_text, ended_text, plan_text}
-
--- ---- numbers
-
-number_push : (m n d : ℕ) (ds : Bytes) → number_after m ds ≡ Some n → is_digit d ≡ true → number_after m (ds ++ d ∷ []) ≡ Some (10 * n + (d - 48))
-unfolding number_after
-number_push m n d [] e t = rw t (ap (λ (o : Option ℕ). o) (let f : m ≡ n = cc in ap (λ (x : ℕ). Some (10 * x + (d - 48))) f))
-number_push m n d (b ∷ ds) e t =
-    elim (cases_Bool (is_digit b)) [
-      | inl u ↦ (let f : number_after (10 * m + (b - 48)) ds ≡ Some n = rw u at e in rw u (number_push (10 * m + (b - 48)) n d ds f t))
-      | inr u ↦ absurd (let f : None ≡ Some n = rw u at e in cc)
-    ]
-
--- the text spells the number, and has digits alone
-pub record Spells (n : ℕ) (ds : Bytes) : Type 0 where
-  pub value : number_after 0 ds ≡ Some n
-  pub digits : AllByRecursion (λ d. (48 ≤ d) × (d ≤ 57)) ds
-  pub some : 1 ≤ length ds
-
-digit_is : (d : ℕ) → 48 ≤ d → d ≤ 57 → is_digit d ≡ true
-digit_is d low high = rw (le-leb 48 d low, le-leb d 57 high) refl
-
-digits_push : (ds : Bytes) (d : ℕ) → AllByRecursion (λ d. (48 ≤ d) × (d ≤ 57)) ds → 48 ≤ d → d ≤ 57 → AllByRecursion (λ d. (48 ≤ d) × (d ≤ 57)) (ds ++ d ∷ [])
-digits_push [] d h low high = ((low, high), tt)
-digits_push (b ∷ ds) d h low high = (h.0, digits_push ds d h.1 low high)
-
-spells_one : (n : ℕ) → n < 10 → Spells n ((48 + n) ∷ [])
-unfolding number_after
-spells_one n lt = record {
-  value = rw (digit_is (48 + n) (omega arith) (omega arith)) (let e : 10 * 0 + (48 + n - 48) ≡ n = omega arith in ap (λ (x : ℕ). Some x) e);
-  digits = ((omega arith, omega arith), tt);
-  some = omega arith;
-}
-
-spells_more : (n : ℕ) (ds : Bytes) → 10 ≤ n → Spells (n / 10) ds → Spells n (ds ++ ((48 + n % 10) ∷ []))
-spells_more n ds big h =
-    let low : 48 ≤ 48 + n % 10 = omega arith in
-    let high : 48 + n % 10 ≤ 57 = omega arith in
-    let e : 10 * (n / 10) + (48 + n % 10 - 48) ≡ n = omega arith in
-    record {
-      value = number_push 0 (n / 10) (48 + n % 10) ds h.value (digit_is (48 + n % 10) low high) ∙ ap (λ (x : ℕ). Some x) e;
-      digits = digits_push ds (48 + n % 10) h.digits low high;
-      some = omega (arith, length-append ds ((48 + n % 10) ∷ []));
-    }
-
-pub spells : (n : ℕ) → n < 2 ^ 64 → Spells n (decimal n)
-spells n lt = decimal_by_steps Spells spells_one spells_more n lt
-
-pub number_is : (n : ℕ) (ds : Bytes) → Spells n ds → number ds ≡ Some n
-unfolding number
-number_is n [] h = absurd (let some = h.some in omega (arith, some))
-number_is n (d ∷ ds) h = h.value
-
--- ---- bytes from a least one on
-
-abbrev From : ℕ → Bytes → Type 0
-From least bytes = AllByRecursion (λ b. least ≤ b) bytes
-
-from_less : (more less : ℕ) (bytes : Bytes) → less ≤ more → From more bytes → From less bytes
-from_less more less [] le h = tt
-from_less more less (b ∷ bytes) le h = (let here = h.0 in omega (arith, here), from_less more less bytes le h.1)
-
-from_append : (least : ℕ) (a b : Bytes) → From least a → From least b → From least (a ++ b)
-from_append least [] b h k = k
-from_append least (x ∷ a) b h k = (h.0, from_append least a b h.1 k)
-
-from_digits : (ds : Bytes) → AllByRecursion (λ d. (48 ≤ d) × (d ≤ 57)) ds → From 48 ds
-from_digits [] h = tt
-from_digits (d ∷ ds) h = (h.0.0, from_digits ds h.1)
-
-from_join : (ws : List Bytes) → AllByRecursion (From 33) ws → From 32 (join_with_byte 32 ws)
-from_join [] h = tt
-from_join (w ∷ []) h = from_less 33 32 w (omega arith) h.0
-from_join (w ∷ v ∷ ws) h = from_append 32 w (32 ∷ join_with_byte 32 (v ∷ ws)) (from_less 33 32 w (omega arith) h.0) (omega arith, from_join (v ∷ ws) h.1)
-
--- ---- words
-
-apart_from : (least b : ℕ) (c : ℕ) → c < least → least ≤ b → eqb b c ≡ false
-apart_from least b c lt le = ne_eqb b c (let differ : b ≢ c = omega arith in differ)
-
-split_first : (p : ℕ → Bool) (w : Bytes) (c : ℕ) (rest : Bytes) → AllByRecursion (λ b. p b ≡ false) w → p c ≡ true → slice_split p (w ++ c ∷ rest) ≡ w ∷ slice_split p rest
-split_first p [] c rest h e = rw e refl
-split_first p (b ∷ w) c rest h e = rw h.0 (ap (onto_first b) (split_first p w c rest h.1 e))
-
-split_last : (p : ℕ → Bool) (w : Bytes) → AllByRecursion (λ b. p b ≡ false) w → slice_split p w ≡ w ∷ []
-split_last p [] h = refl
-split_last p (b ∷ w) h = rw h.0 (ap (onto_first b) (split_last p w h.1))
-
-no_blank : (w : Bytes) → From 33 w → AllByRecursion (λ b. is_blank b ≡ false) w
-no_blank [] h = tt
-no_blank (b ∷ w) h = (rw (apart_from 33 b 32 (omega arith) h.0, apart_from 33 b 9 (omega arith) h.0) refl, no_blank w h.1)
-
-record IsToken (w : Bytes) : Type 0 where
-  some : is_word w ≡ true
-  bytes : From 33 w
-
-tokens_from : (ws : List Bytes) → AllByRecursion IsToken ws → AllByRecursion (From 33) ws
-tokens_from [] h = tt
-tokens_from (w ∷ ws) h = (h.0.bytes, tokens_from ws h.1)
-
-words_join : (ws : List Bytes) → AllByRecursion IsToken ws → words (join_with_byte 32 ws) ≡ ws
-unfolding words
-words_join [] h = refl
-words_join (w ∷ []) h = ap (filter is_word) (split_last is_blank w (no_blank w h.0.bytes)) ∙ rw h.0.some refl
-words_join (w ∷ v ∷ ws) h =
-    ap (filter is_word) (split_first is_blank w 32 (join_with_byte 32 (v ∷ ws)) (no_blank w h.0.bytes) refl) ∙ rw h.0.some (ap (λ (more : List Bytes). w ∷ more) (words_join (v ∷ ws) h.1))
-
-front_join : (ws : List Bytes) → AllByRecursion IsToken ws → 1 ≤ length ws → words_from_front (join_with_byte 32 ws) ≡ ws
-front_join [] h some = absurd (omega arith)
-front_join (w ∷ []) h some = rw (front w h.0) (words_join (w ∷ []) h)
-  where
-    front : (w : Bytes) → IsToken w → starts_blank w ≡ false
-    front [] t = refl
-    front (b ∷ w) t = (no_blank (b ∷ w) t.bytes).0
-front_join (w ∷ v ∷ ws) h some = rw (front w h.0 (32 ∷ join_with_byte 32 (v ∷ ws))) (words_join (w ∷ v ∷ ws) h)
-  where
-    front : (w : Bytes) → IsToken w → (rest : Bytes) → starts_blank (w ++ rest) ≡ false
-    front [] t rest = absurd (let e : false ≡ true = t.some in cc)
-    front (b ∷ w) t rest = (no_blank (b ∷ w) t.bytes).0
-
--- ---- lines
-
-ended_first : (l rest : Bytes) → From 32 l → ended_lines (l ++ 10 ∷ rest) ≡ l ∷ ended_lines rest
-unfolding ended_lines
-ended_first [] rest h = refl
-ended_first (b ∷ l) rest h = rw (apart_from 32 b 10 (omega arith) h.0) (ap (onto_first b) (ended_first l rest h.1))
-
-at_from : (l : Bytes) (k : ℕ) → From 32 l → k < length l → 32 ≤ get_or l k 0
-at_from [] k h lt = absurd (omega arith)
-at_from (b ∷ l) zero h lt = h.0
-at_from (b ∷ l) (suc k) h lt = at_from l k h.1 (omega arith)
-
-last_is_no_cr : (l : Bytes) → From 32 l → eqb (get_or l (length l - 1) 0) 13 ≡ false
-last_is_no_cr [] h = refl
-last_is_no_cr (b ∷ l) h = apart_from 32 (get_or (b ∷ l) (length (b ∷ l) - 1) 0) 13 (omega arith) (at_from (b ∷ l) (length (b ∷ l) - 1) h (omega arith))
-
-keeps_end : (l : Bytes) → From 32 l → strip_carriage_return l ≡ l
-keeps_end l h = rw (last_is_no_cr l h) refl
-
-pub lines_written : (ls : List Bytes) → AllByRecursion (From 32) ls → lines (ended_text ls) ≡ ls
-unfolding lines ended_lines
-lines_written [] h = refl
-lines_written (l ∷ ls) h =
-    let one : ended_text (l ∷ ls) ≡ l ++ 10 ∷ ended_text ls = append_assoc l (10 ∷ []) (ended_text ls) in
-    ap lines one ∙ ap (map strip_carriage_return) (ended_first l (ended_text ls) h.0) ∙ ap (λ (x : Bytes). x ∷ lines (ended_text ls)) (keeps_end l h.0) ∙ ap (λ (more : List Bytes). l ∷ more) (lines_written ls h.1)
+use Rattle.fleet_plan.specs.PlanText.{cell_of_parts, spelled_cell, StandsFor, ArePlanLines, cell_text, path_text, plan_text}
 
 -- ---- cells
-
-small_is : (n : ℕ) → n < 65536 → small_number (decimal n) ≡ Some n
-unfolding small_number
-small_is n lt = rw (number_is n (decimal n) (spells n (omega arith)), lt-ltb n 65536 lt) refl
 
 no_comma : (ds : Bytes) → From 48 ds → AllByRecursion (λ b. eqb b 44 ≡ false) ds
 no_comma [] h = tt
 no_comma (d ∷ ds) h = (apart_from 48 d 44 (omega arith) h.0, no_comma ds h.1)
 
-decimal_from : (n : ℕ) → n ≤ MAX_COORDINATE → From 48 (decimal n)
-decimal_from n lt = from_digits (decimal n) (spells n (omega arith)).digits
+coordinate_from : (n : ℕ) → n ≤ MAX_COORDINATE → From 48 (decimal n)
+coordinate_from n le = decimal_from n (omega arith)
 
 cell_again : (c : Cell) → IsCell c → spelled_cell (cell_text c) ≡ Some c
 unfolding spelled_cell
 cell_again c h =
     let parts : slice_split (λ b. eqb b 44) (decimal c.x ++ 44 ∷ decimal c.y) ≡ decimal c.x ∷ decimal c.y ∷ [] =
-    split_first (λ b. eqb b 44) (decimal c.x) 44 (decimal c.y) (no_comma (decimal c.x) (decimal_from c.x h.x)) refl ∙ ap (λ (ws : List Bytes). decimal c.x ∷ ws) (split_last (λ b. eqb b 44) (decimal c.y) (no_comma (decimal c.y) (decimal_from c.y h.y))) in
+    split_first (λ b. eqb b 44) (decimal c.x) 44 (decimal c.y) (no_comma (decimal c.x) (coordinate_from c.x h.x)) refl ∙ ap (λ (ws : List Bytes). decimal c.x ∷ ws) (split_last (λ b. eqb b 44) (decimal c.y) (no_comma (decimal c.y) (coordinate_from c.y h.y))) in
     ap cell_of_parts parts ∙ (let x = h.x in let y = h.y in rw (small_is c.x (omega (arith, x)), small_is c.y (omega (arith, y))) refl)
-
-word_some : (ds more : Bytes) → 1 ≤ length ds → is_word (ds ++ more) ≡ true
-word_some [] more some = absurd (omega arith)
-word_some (d ∷ ds) more some = refl
 
 cell_token : (c : Cell) → IsCell c → IsToken (cell_text c)
 cell_token c h = record {
   some = word_some (decimal c.x) (44 ∷ decimal c.y) (spells c.x (let x = h.x in omega (arith, x))).some;
-  bytes = from_append 33 (decimal c.x) (44 ∷ decimal c.y) (from_less 48 33 (decimal c.x) (omega arith) (decimal_from c.x h.x)) (omega arith, from_less 48 33 (decimal c.y) (omega arith) (decimal_from c.y h.y));
+  bytes = from_append 33 (decimal c.x) (44 ∷ decimal c.y) (from_less 48 33 (decimal c.x) (omega arith) (coordinate_from c.x h.x)) (omega arith, from_less 48 33 (decimal c.y) (omega arith) (coordinate_from c.y h.y));
 }
 
 -- ---- plans

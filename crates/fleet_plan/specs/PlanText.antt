@@ -1,10 +1,11 @@
 -- Which plan a text stands for, which fault is the first of a text that stands for none, and which text is written for a
 -- plan.
 use Rattle.std.specs.Prelude.{◌≡◌, ℕ, ◌+◌, ◌<◌, ◌≤◌, ◌==◌, List, [], ◌∷◌, ◌++◌, length, map, take, slice_get, All, Option, Some, None, option_and_then, decimal, ◌⊎◌}
-use Rattle.std.specs.List.{AllZip, slice_split, flat_map, join_with_byte}
+use Rattle.std.specs.List.{AllZip, slice_split, join_with_byte}
 use Rattle.fleet_model.specs.declared.limits.TheConstants.{MAX_AGENTS, MAX_HORIZON}
 use Rattle.fleet_model.specs.declared.geometry.Cell.{Cell}
 use Rattle.fleet_text.specs.Text.{Bytes, lines, words_from_front, small_number}
+use Rattle.fleet_text.specs.Words.{ended_text}
 use Rattle.fleet_plan.specs.Plan.{Path, Plan, IsFleet}
 use Rattle.fleet_plan.specs.declared.text_fault.TextFault.{TextFault}
 use Rattle.fleet_plan.specs.declared.text_fault.TextFault.TheVariants.{OutOfMemory, Form, Length, AgentCount}
@@ -74,10 +75,6 @@ cell_text c = decimal c.x ++ 44 ∷ decimal c.y
 -- cells with a space between
 abbrev pub path_text : Path → Bytes
 path_text path = join_with_byte 32 (map cell_text path)
-
--- each line ended by LF
-abbrev pub ended_text : List Bytes → Bytes
-ended_text ls = flat_map (λ line. line ++ 10 ∷ []) ls
 
 -- a line for each path
 abbrev pub plan_text : Plan → Bytes

@@ -6,6 +6,7 @@ pub mod UnderWay
 pub mod Rehearsed
 pub mod HoldLemmas
 pub mod HoldLaws
+pub mod HoldsWritten
 pub mod Driven
 pub mod Finished
 pub mod Lines

@@ -3,7 +3,8 @@ use Rattle.std.specs.Prelude.{◌≡◌, ℕ, ◌+◌, ◌<◌, Bool, true, fals
 use Rattle.std.specs.List.{slice_split, join_with_byte}
 use Rattle.std.specs.List.Sorted.{IsStrictlyIncreasing}
 use Rattle.fleet_model.specs.Machine.{Holds}
-use Rattle.fleet_text.specs.Text.{Bytes, number}
+use Rattle.fleet_text.specs.Text.{Bytes, lines, number}
+use Rattle.fleet_text.specs.Words.{ended_text}
 use Rattle.fleet_run.specs.Source.{SourceState}
 use Rattle.fleet_run.specs.declared.source.SourceFault.{SourceFault}
 use Rattle.fleet_run.specs.declared.source.SourceFault.TheVariants.{Text}
@@ -81,3 +82,13 @@ pub record HoldLines : Type 0 where
 
 abbrev pub source_of : HoldLines → SourceState
 source_of t = record { ticks = ticks_of t.agents t.lines; last = last_of t.agents t.lines; fault = if t.has_failed then Some Text else None }
+
+-- such a text, for so many agents, before its first tick is asked for
+abbrev pub text_source : ℕ → Bytes → SourceState
+text_source n text = source_of (record { lines = lines text; agents = n; has_failed = false })
+
+-- ---- what is written
+
+-- a line for each tick
+abbrev pub holds_text : Holds → Bytes
+holds_text ticks = ended_text (map tick_line ticks)

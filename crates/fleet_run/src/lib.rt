@@ -5,6 +5,7 @@
 mod fleet;
 mod hold_list;
 mod hold_text;
+mod hold_writing;
 mod line;
 mod report;
 mod run;
@@ -17,6 +18,7 @@ pub use fleet_machine::Tick;
 pub use fleet_text::{Flush, OutFault, TraceOut, VecOut, WriteOut, put_all};
 pub use hold_list::HoldList;
 pub use hold_text::{HoldText, a_tick_line_is_read};
+pub use hold_writing::write_holds;
 pub use report::{Rehearsal, rehearse};
 pub use run::{End, MOST_TICKS, RunFault};
 pub use source::{HoldSource, SourceFault};

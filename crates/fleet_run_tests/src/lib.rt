@@ -4,6 +4,8 @@
 #[cfg(test)]
 mod drive_tests;
 #[cfg(test)]
+mod holds_tests;
+#[cfg(test)]
 mod limit_tests;
 #[cfg(test)]
 mod machine_tests;

@@ -6,3 +6,4 @@ pub mod DigitLemmas
 pub mod SinkLemmas
 pub mod RowLemmas
 pub mod WordLemmas
+pub mod WrittenLaws

@@ -1,6 +1,6 @@
--- Words, and lines of words.
+-- Words, lines of words, and texts of lines.
 use Rattle.std.specs.Prelude.{ℕ, List, [], ◌∷◌, ◌++◌, decimal}
-use Rattle.std.specs.List.{join_with_byte}
+use Rattle.std.specs.List.{flat_map, join_with_byte}
 use Rattle.fleet_text.specs.declared.writing.Word.{Word}
 use Rattle.fleet_text.specs.declared.writing.Word.TheVariants.{Text, Number, Label, Pair, Of}
 
@@ -27,6 +27,10 @@ spaced = join_with_byte 32
 -- a line: words with one space between two, and its end
 abbrev pub line_text : List (List ℕ) → List ℕ
 line_text words = spaced words ++ 10 ∷ []
+
+-- a text of these lines, each with its end
+abbrev pub ended_text : List (List ℕ) → List ℕ
+ended_text lines = flat_map (λ line. line ++ 10 ∷ []) lines
 
 -- words that follow others, each after its space
 abbrev pub next_words : List (List ℕ) → List ℕ

@@ -1,7 +1,7 @@
 use Rattle.std.proofs.Common.{◌++◌, [], ◌∷◌, ◌∙◌, sym, ap}
 use Rattle.std.proofs.lemmas.List.{take_all}
-use Rattle.fleet_plan.specs.PlanText.{path_text}
-use Rattle.fleet_plan.proofs.WritingSteps.{spaced, line_written}
+use Rattle.fleet_text.proofs.WrittenLaws.{each_spaced, line_written}
+use Rattle.fleet_plan.specs.PlanText.{cell_text, path_text}
 use Rattle.fleet_plan.proofs.writing.put_path.Goals as goal
 
 pub returns : goal.returns
@@ -10,5 +10,5 @@ returns c =
     let others = c.in-Some.others.now in
     let all = take_all c.loop-cell.cell-index others c.loop-cell-test.false in
     let path_is = sym c.in-Some.ensures.cases.0 ∙ c.cells.ensures.value in
-    line_written before c.loop-cell.text.items _ others c.in-Some.last.now (c.loop-cell.invariant ∙ ap (λ cells. before ++ spaced cells) all) c.in_ok-put_cell-2.ensures
+    line_written cell_text before c.loop-cell.text.items _ others c.in-Some.last.now (c.loop-cell.invariant ∙ ap (λ cells. before ++ each_spaced cell_text cells) all) c.in_ok-put_cell-2.ensures
     ∙ ap (λ path. before ++ path_text path ++ 10 ∷ []) path_is

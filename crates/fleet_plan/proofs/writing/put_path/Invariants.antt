@@ -1,6 +1,7 @@
 use Rattle.std.proofs.Common.{◌≡◌, ◌++◌, take}
-use Rattle.fleet_plan.proofs.WritingSteps.{spaced}
+use Rattle.fleet_text.proofs.WrittenLaws.{each_spaced}
+use Rattle.fleet_plan.specs.PlanText.{cell_text}
 use Rattle.fleet_plan.proofs.writing.put_path.Given as goal
 
 abbrev pub invariant-loop-cell : goal.invariant-loop-cell
-invariant-loop-cell l = l.text.items ≡ l.fn.text.items ++ spaced (take l.cell-index l.others)
+invariant-loop-cell l = l.text.items ≡ l.fn.text.items ++ each_spaced cell_text (take l.cell-index l.others)

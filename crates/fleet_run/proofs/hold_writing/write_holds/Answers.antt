@@ -1,0 +1,12 @@
+use Rattle.std.proofs.Common.{◌∙◌, ap, map}
+use Rattle.std.proofs.lemmas.List.{take_all}
+use Rattle.fleet_run.specs.HoldText.{text_source, holds_text}
+use Rattle.fleet_run.proofs.HoldsWritten.{rows_again}
+use Rattle.fleet_run.proofs.hold_writing.write_holds.Goals as goal
+
+pub returns-clause-read : goal.returns-clause-read
+returns-clause-read c = λ n small below.
+    let rows = c.args.holds.now in
+    let all = take_all c.loop-held.held-index rows c.loop-held-test.false in
+    let text = c.loop-held.invariant ∙ ap (λ rows. holds_text (map (λ row. row.items) rows)) all in
+    ap (text_source n) text ∙ rows_again (λ row. row.items) n rows small c.requires.rising below

@@ -1,0 +1,127 @@
+-- The column of an action is made of those of the actions that it directly needs.
+use Rattle.std.proofs.Common.{rules, ◌≡◌, ◌≢◌, ℕ, ◌+◌, ◌<◌, ◌≤◌, List, length, get_or, max, refl, sym, ap, subst, ◌∙◌, arith, inl, inr, ◌⊎◌}
+use Rattle.std.specs.Prelude.{Contains, slice_get, Some}
+use Rattle.std.proofs.lemmas.Bool.{cases_lt, cases_eq}
+use Rattle.std.proofs.lemmas.Option.{slice_get-get_or, slice_get_within, get_or_from_slice_get}
+use Rattle.fleet_model.specs.declared.program.ActionId.{ActionId}
+use Rattle.fleet_model.specs.declared.program.Await.{Await}
+use Rattle.fleet_model.specs.Program.{Program, awaits_of, AreInRange}
+use Rattle.fleet_model.specs.Chain.{IsAction, Reaches, awaited}
+use Rattle.fleet_rows.specs.Rows.{IsColumn, ByAwait, IsPart}
+use Rattle.fleet_rows.proofs.Chains.{own_reach, LastStep, last_step, Reaches-trans}
+use Rattle.fleet_model.proofs.Chains.{Reaches-first, Reaches-last, Reaches-need}
+
+abbrev act : ℕ → ℕ → ActionId
+act j c = record { agent = j; number = c }
+
+-- before its first action nothing reaches an agent
+pub column_none : (p : Program) (i j : ℕ) → IsColumn p (record { agent = i; number = 0 }) j 0
+column_none p i j c = (
+  (λ r. absurd (let f = (Reaches-last p (act j c) (act i 0) r).first in omega arith)),
+  (λ b. absurd (let f : 1 ≤ c = b.0 in let l : c ≤ 0 = b.1 in omega arith)),
+)
+
+pub part_none : (p : Program) (i b j n : ℕ) → IsColumn p (record { agent = i; number = b }) j n → IsPart p i b j 0 n
+part_none p i b j n h = record {
+  into = λ c f l. inl ((h c).1 (f, l));
+  own = λ c r. ((h c).0 r).1;
+  awaits = λ c r. absurd (let l : r.place < 0 = r.below in omega arith);
+}
+
+one_more : (p : Program) (x : ActionId) (i b k : ℕ) → ByAwait p x i b k → ByAwait p x i b (k + 1)
+one_more p x i b k r = record { place = r.place; await = r.await; below = (let l : r.place < k = r.below in omega arith); at = r.at; reaches = r.reaches }
+
+pub part_more : (p : Program) (i b j k n : ℕ) (w : Await) (u : ℕ) → IsPart p i b j k n → slice_get (awaits_of p i (b + 1)) k ≡ Some w → IsColumn p (awaited w) j u
+    → IsPart p i b j (k + 1) (max n u)
+part_more p i b j k n w u h at col = record { into = into; own = λ c r. (let l : c ≤ n = h.own c r in omega arith); awaits = awaits }
+  where
+    into : (c : ℕ) → 1 ≤ c → c ≤ max n u → Reaches p (act j c) (act i b) ⊎ ByAwait p (act j c) i b (k + 1)
+    into c f l = elim (cases_lt n c) [
+      | inr le ↦ elim (h.into c f le) [ inl r ↦ inl r | inr r ↦ inr (one_more p (act j c) i b k r) ]
+      | inl lt ↦ inr (record { place = k; await = w; below = omega arith; at = at; reaches = (col c).1 (f, omega arith) })
+    ]
+
+    awaits : (c : ℕ) → ByAwait p (act j c) i b (k + 1) → c ≤ max n u
+    awaits c r = elim (cases_lt r.place k) [
+      | inl l ↦ (let le : c ≤ n = h.awaits c (record { place = r.place; await = r.await; below = l; at = r.at; reaches = r.reaches }) in omega arith)
+      | inr g ↦
+          let e : r.place ≡ k = (let l : r.place < k + 1 = r.below in omega arith) in
+          let same : r.await ≡ w = some_same _ _ (sym r.at ∙ ap (slice_get (awaits_of p i (b + 1))) e ∙ at) in
+          let le : c ≤ u = ((col c).0 (subst (λ v. Reaches p (act j c) (awaited v)) same r.reaches)).1 in
+          omega arith
+    ]
+      where
+        some_same : (v w : Await) → Some v ≡ Some w → v ≡ w
+        some_same v w e = search rules
+
+-- all of it, for another agent
+pub part_all : (p : Program) (i b j n : ℕ) → IsAction p (record { agent = i; number = b + 1 }) → j ≢ i → IsPart p i b j (length (awaits_of p i (b + 1))) n
+    → IsColumn p (record { agent = i; number = b + 1 }) j n
+part_all p i b j n k other h c = (into, out)
+  where
+    a : ActionId
+    a = act i (b + 1)
+
+    from : (act j c ≡ a) ⊎ LastStep p (act j c) a → 1 ≤ c → (1 ≤ c) × (c ≤ n)
+    from (inl e) f = absurd (other (ap (λ x. x.agent) e))
+    from (inr l) f = elim l.needs [
+      | inl (same, number, some) ↦
+          let before : l.before ≡ act i b = same_action l.before (act i b) (sym same) (omega arith) in
+          (f, h.own c (subst (Reaches p (act j c)) before l.reaches))
+      | inr w ↦ (
+        f,
+        h.awaits c (record {
+          place = w.0;
+          await = record { agent = l.before.agent; count = l.before.number };
+          below = w.1;
+          at = slice_get-get_or _ _ _ w.1 ∙ ap Some w.2;
+          reaches = l.reaches;
+        }),
+      )
+    ]
+      where
+        same_action : (x y : ActionId) → x.agent ≡ y.agent → x.number ≡ y.number → x ≡ y
+        same_action x y e g = λ t. record { agent = e t; number = g t }
+
+    into : Reaches p (act j c) a → (1 ≤ c) × (c ≤ n)
+    into r = from (last_step p (act j c) r.0 a r.1) (Reaches-first p (act j c) a r).first
+
+    out : (1 ≤ c) × (c ≤ n) → Reaches p (act j c) a
+    out (f, l) = elim (h.into c f l) [
+      | inl r ↦
+          let m = Reaches-last p (act j c) (act i b) r in
+          Reaches-trans p (act j c) (act i b) a r (Reaches-need p (act i b) a m k (inl (refl, refl, m.first)))
+      | inr r ↦
+          let m = Reaches-last p (act j c) (awaited r.await) r.reaches in
+          Reaches-trans p (act j c) (awaited r.await) a r.reaches (Reaches-need p (awaited r.await) a m k (inr (contained r)))
+    ]
+      where
+        contained : (r : ByAwait p (act j c) i b (length (awaits_of p i (b + 1)))) → Contains (awaits_of p i (b + 1)) r.await
+        contained r = (r.place, r.below, found (awaits_of p i (b + 1)) r.place r.await r.below r.at)
+          where
+            found : (ws : List Await) (m : ℕ) (w : Await) → m < length ws → slice_get ws m ≡ Some w → get_or ws m w ≡ w
+            found ws m w l e = get_or_from_slice_get ws m w w e
+
+-- and for its own, whose later actions do not reach it
+pub own_column : (p : Program) (i n : ℕ) → IsAction p (record { agent = i; number = n }) → ((c : ℕ) → Reaches p (record { agent = i; number = c }) (record { agent = i; number = n }) → c ≤ n)
+    → IsColumn p (record { agent = i; number = n }) i n
+own_column p i n k later c = (
+  (λ r. ((Reaches-first p (act i c) (act i n) r).first, later c r)),
+  (λ b. own_reach p i c n k.agent b.0 b.1 k.last),
+)
+
+-- an awaited action is one of the program
+pub awaited_action : (p : Program) → AreInRange p → (i n k : ℕ) (w : Await) → slice_get (awaits_of p i n) k ≡ Some w → IsAction p (awaited w)
+awaited_action p range i n k w e =
+    let known = range i n w (k, slice_get_within (awaits_of p i n) k w e, get_or_from_slice_get (awaits_of p i n) k w w e) in
+    record { agent = known.agent; first = known.first; last = known.last }
+
+-- the row of an action from the parts of the columns of the others, and its number in its own
+pub row_whole : (p : Program) (i b j n v : ℕ) → IsAction p (record { agent = i; number = b + 1 }) → ((c : ℕ) → Reaches p (record { agent = i; number = c }) (record { agent = i; number = b + 1 }) → c ≤ b + 1)
+    → (j ≡ i → v ≡ b + 1) → (j ≢ i → v ≡ n) → IsPart p i b j (length (awaits_of p i (b + 1))) n → IsColumn p (record { agent = i; number = b + 1 }) j v
+row_whole p i b j n v k later own other part = elim (cases_eq j i) [
+  | inl e ↦
+      let here : IsColumn p (act i (b + 1)) i (b + 1) = own_column p i (b + 1) k later in
+      subst (λ (m : ℕ). IsColumn p (act i (b + 1)) m v) (sym e) (subst (λ (m : ℕ). IsColumn p (act i (b + 1)) i m) (sym (own e)) here)
+  | inr ne ↦ subst (λ (m : ℕ). IsColumn p (act i (b + 1)) j m) (sym (other ne)) (part_all p i b j n k ne part)
+]

@@ -1,0 +1,15 @@
+use Rattle.std.proofs.Common.{◌≡◌, [], ℕ, false, length}
+use Rattle.fleet_model.specs.Machine.{run, count_at}
+use Rattle.fleet_machine.specs.Machine.{Runs, flag_of}
+use Rattle.fleet_rows.specs.Block.{AreRowsOf}
+use Rattle.fleet_rows.proofs.block.run_rows.Given as goal
+
+abbrev pub invariant-loop-t : goal.invariant-loop-t
+invariant-loop-t g l = record {
+  runs : Runs (g.P.ProgramView.program l.program) l.machine;
+  here : l.machine.configuration ≡ run (g.P.ProgramView.program l.program) [] l.t;
+  agents : length l.nobody ≡ length (g.P.ProgramView.program l.program);
+  nobody : (i : ℕ) → flag_of l.nobody i ≡ false;
+  rows : AreRowsOf (g.P.ProgramView.program l.program) l.block.places.firsts.items l.block.columns
+      (count_at (run (g.P.ProgramView.program l.program) [] l.t)) l.counts;
+}

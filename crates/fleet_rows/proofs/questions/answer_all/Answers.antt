@@ -1,0 +1,18 @@
+use Rattle.std.proofs.Common.{◌≡◌, ◌<◌, ℕ, length, arith}
+use Rattle.fleet_rows.proofs.Answering.{answered_to, question_at}
+use Rattle.fleet_rows.proofs.questions.answer_all.Goals as goal
+
+pub loop-from-preserved : goal.loop-from-preserved
+loop-from-preserved g c = record {
+  answered = answered_to (g.P.ProgramView.program c.args.program.now) c.args.asked.now c.loop-from.from c.in_ok-choose.field-0 c.in_ok-choose.ensures c.args.questions.now c.loop-from.flags c.answer.new.flags
+      c.in_ok-answer.ensures c.requires.flagged c.loop-from.invariant.answered;
+}
+
+pub returns : goal.returns
+returns g c = record {
+  all = omega (arith, c.loop-from.auto.flags, c.requires.flags);
+  each = λ k q e.
+      let p = g.P.ProgramView.program c.args.program.now in
+      let agent : q.first.agent < length p = (question_at p c.args.questions.now c.requires.questions k q e).agent in
+      c.loop-from.invariant.answered k q e (omega (arith, agent, c.loop-from-test.false, c.agents-agents.ensures.count));
+}

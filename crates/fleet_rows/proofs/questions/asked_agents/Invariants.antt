@@ -1,0 +1,10 @@
+use Rattle.std.proofs.Common.{◌≡◌, ◌<◌, ℕ, true, false, length, get_or, Some}
+use Rattle.std.specs.Prelude.{slice_get}
+use Rattle.fleet_rows.specs.declared.questions.Question.{Question}
+use Rattle.fleet_rows.proofs.questions.asked_agents.Given as goal
+
+abbrev pub invariant-loop-question : goal.invariant-loop-question
+invariant-loop-question l = record {
+  all : length l.asked.items ≡ l.agents;
+  flagged : (k : ℕ) (q : Question) → k < l.question-index → slice_get l.questions k ≡ Some q → get_or l.asked.items q.first.agent false ≡ true;
+}

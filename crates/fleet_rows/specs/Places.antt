@@ -1,0 +1,8 @@
+-- The places of actions among all actions of a program.
+use Rattle.std.specs.Prelude.{◌≡◌, ℕ, ◌<◌, List, length, take, slice_index}
+use Rattle.fleet_model.specs.Program.{Program, total_moves}
+
+-- for each agent, how many actions those before it have together
+pub record ArePlaces (p : Program) (firsts : List ℕ) : Type 0 where
+  pub all : length firsts ≡ length p
+  pub each : (i : ℕ) → i < length p → slice_index firsts i ≡ total_moves (take i p)

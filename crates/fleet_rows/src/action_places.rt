@@ -1,0 +1,43 @@
+//! The places of actions among all actions of a program.
+
+ghost use Rattle.std.specs.Prelude.{◌≡◌, ◌+◌, ◌<◌, ◌≤◌, length, take, slice_index, IfOk};
+ghost use Rattle.fleet_model.specs.Program.{moves, total_moves};
+ghost use Rattle.fleet_rows.specs.Places.{ArePlaces};
+
+use fleet_model::{OutOfMemory, ProgramView};
+use std::alloc::Global;
+
+/// Where the actions of each agent begin among all, which stand agent by agent.
+#[derive(Drop)]
+pub(crate) struct ActionPlaces {
+    firsts: Vec<u32>,
+}
+
+impl ActionPlaces {
+    /// The places of the actions of a program.
+    #[tactic(auto, using(fleet_model::proofs::Totals::moves_fit, fleet_model::proofs::Totals::moves_more))]
+    pub(crate) fn of<P: ProgramView>(
+        alloc: Global,
+        program: &P,
+    ) -> Result<ActionPlaces, OutOfMemory>
+        ensures { IfOk result (λ places. ArePlaces (P.program program.now) places.firsts.items) }
+    {
+        let agents = program.agents();
+        let mut firsts = Vec::with_capacity(alloc, usize::from(agents))?;
+        let mut total = 0;
+        for i in 0..agents {
+            firsts.push(total)?;
+            total += program.moves(i);
+        }
+        Ok(ActionPlaces { firsts })
+    }
+
+    /// The place of an action. Places count from 0.
+    pub(crate) fn place(&self, agent: u16, number: u32) -> usize
+        requires agent { agent < length self.now.firsts.items }
+        requires number { 1 ≤ number }
+        ensures { result + 1 ≡ slice_index self.now.firsts.items agent + number }
+    {
+        self.firsts[usize::from(agent)] as usize + number as usize - 1
+    }
+}

@@ -1,0 +1,57 @@
+//! The columns of one block of rows.
+
+ghost use Rattle.std.specs.Prelude.{◌≡◌, ◌+◌, ◌<◌, ◌≤◌, true, length, get_or, Some, None, IfOk};
+ghost use Rattle.fleet_model.specs.declared.limits.TheConstants.{MAX_AGENTS};
+ghost use Rattle.fleet_rows.specs.Columns.{AreColumns};
+
+use fleet_model::{MAX_AGENTS, OutOfMemory};
+use std::alloc::Global;
+
+/// Which column of a block belongs to an agent.
+#[derive(Drop)]
+pub(crate) struct Columns {
+    of_agent: Vec<Option<u16>>,
+    /// How many columns the block has.
+    pub(crate) width: u16,
+    /// The block has the asked agents up to here.
+    pub(crate) end: u16,
+}
+
+impl Columns {
+    /// Columns for so many of the flagged agents, from this agent on.
+    pub(crate) fn choose(
+        alloc: Global,
+        asked: &[bool],
+        from: u16,
+        most: u16,
+    ) -> Result<Columns, OutOfMemory>
+        requires agents { length asked.now ≤ MAX_AGENTS }
+        requires from { from < length asked.now }
+        requires some { 1 ≤ most }
+        ensures { IfOk result (AreColumns asked.now from) }
+    {
+        let mut of_agent = vec![in alloc; None; asked.len()]?;
+        let mut width = 0;
+        let mut end = from;
+        while usize::from(end) < asked.len() && width < most {
+            if asked[usize::from(end)] {
+                of_agent[usize::from(end)] = Some(width);
+                width += 1;
+            }
+            end += 1;
+        }
+        Ok(Columns {
+            of_agent,
+            width,
+            end,
+        })
+    }
+
+    /// The column of an agent, where it has one.
+    pub(crate) fn of(&self, agent: u16) -> Option<u16>
+        requires { agent < length self.now.of_agent.items }
+        ensures { result ≡ get_or self.now.of_agent.items agent None }
+    {
+        self.of_agent[usize::from(agent)]
+    }
+}

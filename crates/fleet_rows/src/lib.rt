@@ -1,0 +1,11 @@
+//! Which actions of a program begin a chain of needs that ends with another action, by rows of counts.
+#![tactic(auto)]
+
+mod action_places;
+mod block;
+mod columns;
+mod kernels;
+mod questions;
+
+pub use kernels::{join_rows, row_covers};
+pub use questions::{Question, unreached};

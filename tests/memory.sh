@@ -78,6 +78,7 @@ input=/dev/null
 REFUSER=$work/bin/refuse.so
 export input REFUSER
 
+check 'a program that holds break' 0 '' '' "{ head -c 28 examples/pair.program; printf '\\1\\20\\0\\0\\0\\2\\1'; } > unordered"
 if ${CC:-cc} -shared -fPIC -o "$REFUSER" "$root/tests/refuse.c" -ldl 2> /dev/null; then
     while read -r words; do
         check "each growth refused: $words" 0 'each\n' '' "growths fleet $words"
@@ -88,6 +89,7 @@ plan $on
 compile $on examples/pair.plan out
 compile $on examples/pair.plan out --deps all
 verify $on examples/pair.program
+verify $on unordered
 run $on examples/pair.program
 run $on examples/pair.program --holds examples/corridor.holds
 rehearse examples/pair.program

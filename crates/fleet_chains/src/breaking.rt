@@ -1,6 +1,6 @@
 //! Holds that bring two agents onto one cell, where their visits of it have no order.
 
-ghost use Rattle.std.specs.Prelude.{◌≡◌, ℕ, ◌+◌, ◌<◌, ◌≤◌, ◌↔◌, IsTrue, IfOk, Contains, length, slice_index, map};
+ghost use Rattle.std.specs.Prelude.{◌≡◌, ℕ, ◌+◌, ◌<◌, ◌≤◌, ◌↔◌, IsTrue, IfOk, All, Contains, length, slice_index, map};
 ghost use Rattle.std.specs.List.Sorted.{IsStrictlyIncreasing};
 ghost use Rattle.fleet_model.specs.declared.geometry.Place.{Place};
 ghost use Rattle.fleet_model.specs.declared.program.ActionId.{ActionId};
@@ -32,6 +32,8 @@ pub fn breaking_holds<P: ProgramView>(
     requires unordered { (q : Place) × AreUnordered (P.program program.now) q first second }
     ensures holds { IfOk result (λ holds.
         AreBreakingHolds (P.program program.now) first second (map (λ row. row.items) holds.items)) }
+    ensures rising { IfOk result (λ holds.
+        All (λ row. IsStrictlyIncreasing row.items) holds.items) }
     ensures meet { IfOk result (λ holds.
         (q : Place) → AreUnordered (P.program program.now) q first second →
         MeetOn (P.program program.now) q first second (map (λ row. row.items) holds.items)) }

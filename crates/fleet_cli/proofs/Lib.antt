@@ -6,3 +6,4 @@ pub mod CommandLemmas
 pub mod AutoLemmas
 pub mod CountLemmas
 pub mod OutputLemmas
+pub mod VerifyLemmas

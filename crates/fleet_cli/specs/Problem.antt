@@ -3,6 +3,7 @@ use Rattle.std.specs.Prelude.{◌≡◌, ℕ, List, Option}
 use Rattle.fleet_model.specs.declared.task.Task.{Task}
 use Rattle.fleet_model.specs.Program.{Program}
 use Rattle.fleet_grid.specs.Ground.{Ground}
+use Rattle.fleet_code.specs.LoadFaults.{IsFirstLoadFault}
 use Rattle.fleet_auto.specs.Texts.{AreTextsOf, IsProblemFault}
 use Rattle.fleet_auto.specs.Accepting.{Accepts, IsAcceptFault}
 use Rattle.fleet_auto.specs.declared.fault.AutoFault.TheVariants as a
@@ -18,6 +19,12 @@ IsProblemRefusal map scen asked f.Memory = IsProblemFault map scen asked a.OutOf
 IsProblemRefusal map scen asked (f.Map fault) = IsProblemFault map scen asked (a.Map fault)
 IsProblemRefusal map scen asked (f.Scen fault) = IsProblemFault map scen asked (a.Scen fault)
 IsProblemRefusal map scen asked _ = ⊥
+
+-- the bytes spell no program
+abbrev pub IsLoadRefusal : List ℕ → Fault → Type 0
+IsLoadRefusal bytes f.Memory = Unit {0}
+IsLoadRefusal bytes (f.Load fault) = IsFirstLoadFault bytes fault
+IsLoadRefusal bytes _ = ⊥
 
 -- the bytes of a program are refused
 abbrev pub IsAcceptRefusal : List ℕ → Ground → List Task → Fault → Type 0

@@ -1,6 +1,19 @@
 -- What the command `verify` prints: that a program is accepted, and its numbers.
 use Rattle.std.specs.Prelude.{◌≡◌, ℕ, List, [], ◌∷◌, length, ◌⊎◌, Option, codes}
+use Rattle.fleet_model.specs.declared.geometry.Cell.{Cell}
+use Rattle.fleet_model.specs.declared.program.Visit.{Visit}
+use Rattle.fleet_model.specs.declared.task.Task.{Task}
 use Rattle.fleet_model.specs.Program.{Program, total_moves, total_awaits}
+use Rattle.fleet_model.specs.Machine.{Holds}
+use Rattle.fleet_model.specs.Breaking.{AreBreakingHolds}
+use Rattle.fleet_grid.specs.Ground.{Ground, is_passable}
+use Rattle.fleet_code.specs.Spelling.{Spells}
+use Rattle.fleet_verify.specs.Faults.{IsFault}
+use Rattle.fleet_verify.specs.Broken.{IsBrokenBy}
+use Rattle.fleet_verify.specs.declared.fault.VerifyFault.{VerifyFault}
+use Rattle.fleet_verify.specs.declared.fault.VerifyFault.TheVariants as v
+use Rattle.fleet_run.specs.HoldText.{holds_text}
+use Rattle.fleet_auto.specs.Texts.{AreTextsOf}
 use Rattle.fleet_text.specs.Sink.{FailsAfter, SinkState, IsUnwritten, IsDelivered}
 use Rattle.fleet_files.specs.Files.{Store}
 use Rattle.fleet_args.specs.declared.verify.VerifyRequest.{VerifyRequest}
@@ -20,10 +33,42 @@ pub record PrintsAccepted (map scen : List ℕ) (asked : Option ℕ) (bytes : Li
   pub accepts : AcceptsTexts map scen asked bytes
   pub delivered : IsDelivered out out' (accepted_text accepts.program accepts.chain)
 
--- the first fault of the texts and the bytes; or the program is accepted, and the output failed
+-- the bytes are the text of the breaking holds of two visits
+pub record SpellsBreakingHolds (p : Program) (first second : Visit) (text : List ℕ) : Type 0 where
+  pub holds : Holds
+  pub breaking : AreBreakingHolds p first second holds
+  pub written : text ≡ holds_text holds
+
+-- how a refused program is told. Of two visits of a cell that no chain orders the breaking holds were printed and handed on before, or the
+-- output failed; of every other refusal nothing was printed
+abbrev pub TellsRefused : Program → VerifyFault → (out out' : SinkState) → Fault → Type 0
+TellsRefused p fault out out' f.Memory = IsUnwritten out out'
+TellsRefused p fault out out' (f.Verify (v.Unordered cell first second)) =
+    (fault ≡ v.Unordered cell first second) × (text : List ℕ) × SpellsBreakingHolds p first second text × IsDelivered out out' text
+TellsRefused p fault out out' (f.Verify told) = (fault ≡ told) × IsUnwritten out out'
+TellsRefused p fault out out' (f.File name) =
+    (name.now ≡ codes "-") × (cell : Cell) × (first second : Visit) × (fault ≡ v.Unordered cell first second)
+    × (text : List ℕ) × SpellsBreakingHolds p first second text × FailsAfter out out' text
+TellsRefused p fault out out' _ = ⊥
+
+-- the texts stand for a map and for tasks, and the program that the bytes spell is refused so, and that is told so
+pub record RefusesProgram (map scen : List ℕ) (asked : Option ℕ) (bytes : List ℕ) (out out' : SinkState) (told : Fault) : Type 0 where
+  pub ground : Ground
+  pub tasks : List Task
+  pub texts : AreTextsOf map scen asked ground tasks
+  pub program : Program
+  pub spelled : Spells bytes program
+  pub fault : VerifyFault
+  pub refused : IsFault (is_passable ground) tasks program fault
+  pub broken : IsBrokenBy program fault
+  pub tells : TellsRefused program fault out out' told
+
+-- the first fault of the texts and the bytes, or the program is refused; or it is accepted, and the output failed
 abbrev pub IsVerifyFault : (map scen : List ℕ) → Option ℕ → List ℕ → (out out' : SinkState) → Fault → Type 0
+IsVerifyFault map scen asked bytes out out' (f.Verify fault) = RefusesProgram map scen asked bytes out out' (f.Verify fault)
 IsVerifyFault map scen asked bytes out out' (f.File name) =
-    (a : AcceptsTexts map scen asked bytes) × (name.now ≡ codes "-") × FailsAfter out out' (accepted_text a.program a.chain)
+    RefusesProgram map scen asked bytes out out' (f.File name)
+    ⊎ ((a : AcceptsTexts map scen asked bytes) × (name.now ≡ codes "-") × FailsAfter out out' (accepted_text a.program a.chain))
 IsVerifyFault map scen asked bytes out out' fault = IsTextsRefusal map scen asked bytes fault × IsUnwritten out out'
 
 -- the program of the files is accepted, and that was printed

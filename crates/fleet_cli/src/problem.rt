@@ -3,10 +3,11 @@
 ghost use Rattle.std.specs.Prelude.{IfOk, IfErr};
 ghost use Rattle.fleet_auto.specs.Texts.{AreTextsOf};
 ghost use Rattle.fleet_auto.specs.Accepting.{Accepts};
-ghost use Rattle.fleet_cli.specs.Problem.{IsProblemRefusal, IsAcceptRefusal};
+ghost use Rattle.fleet_code.specs.Spelling.{Spells};
+ghost use Rattle.fleet_cli.specs.Problem.{IsProblemRefusal, IsLoadRefusal, IsAcceptRefusal};
 
-use fleet_auto::Problem;
-use fleet_code::CodeView;
+use fleet_auto::{AcceptFault, Problem};
+use fleet_code::{CodeView, view};
 use fleet_grid::Grid;
 use fleet_io::Fault;
 use fleet_scen::Instance;
@@ -37,4 +38,15 @@ pub fn accept<'g, 'a>(
     ensures fault { IfErr result (IsAcceptRefusal bytes.now grid.now instance.now) }
 {
     Ok(fleet_auto::accept(alloc, bytes, grid, instance)?)
+}
+
+/// The program that the bytes spell, read in place.
+pub fn view_program<'g, 'a>(alloc: Global, bytes: &'g [u8]) -> Result<CodeView<'g>, Fault<'a>>
+    ensures spelled { IfOk result (Spells bytes.now) }
+    ensures fault { IfErr result (IsLoadRefusal bytes.now) }
+{
+    match view(alloc, bytes) {
+        Ok(program) => Ok(program),
+        Err(fault) => Err(Fault::from(AcceptFault::from(fault))),
+    }
 }

@@ -1,17 +1,21 @@
 //! The command `verify`.
 
-ghost use Rattle.std.specs.Prelude.{◌≡◌, MatchResult};
+ghost use Rattle.std.specs.Prelude.{◌≡◌, MatchResult, IfOk, IfErr};
+ghost use Rattle.fleet_model.specs.declared.geometry.Place.{Place};
+ghost use Rattle.fleet_verify.specs.Broken.{MeetUnordered, IsBrokenBy};
 ghost use Rattle.fleet_text.specs.Sink.{IsWorking, Delivers};
 ghost use Rattle.fleet_files.specs.Files.{IsKept};
-ghost use Rattle.fleet_cli.specs.VerifyCommand.{accepted_text, PrintsAccepted, IsVerifyFault, DoesVerify, RefusesVerify};
+ghost use Rattle.fleet_cli.specs.VerifyCommand.{accepted_text, SpellsBreakingHolds, TellsRefused, PrintsAccepted, IsVerifyFault, DoesVerify, RefusesVerify};
 
 use crate::output::print_report;
-use crate::problem::{accept, read_problem};
+use crate::problem::{read_problem, view_program};
 use fleet_args::VerifyRequest;
-use fleet_io::{Fault, Files, read_files};
-use fleet_model::{ProgramView, total_awaits, total_moves};
-use fleet_run::{Flush, OutFault};
-use fleet_verify::Accepted;
+use fleet_auto::AcceptFault;
+use fleet_chains::breaking_holds;
+use fleet_io::{Fault, Files, deliver, read_files};
+use fleet_model::{OutOfMemory, ProgramView, Visit, total_awaits, total_moves};
+use fleet_run::{Flush, OutFault, write_holds};
+use fleet_verify::{Accepted, Refused, VerifyFault, verify};
 use std::alloc::Global;
 
 /// Prints that the program is accepted, with its numbers.
@@ -35,7 +39,45 @@ fn print_accepted<P: ProgramView, O: Flush>(
     )
 }
 
-/// Verifies the program that the bytes spell for the map and the instance of the texts, and prints that it is accepted.
+/// The breaking holds of two visits of a cell that no chain orders, as text.
+fn breaking_text<P: ProgramView>(
+    alloc: Global,
+    program: &P,
+    first: Visit,
+    second: Visit,
+) -> Result<Vec<u8>, OutOfMemory>
+    requires { (q : Place) × MeetUnordered (P.program program.now) q first second }
+    ensures { IfOk result (λ text. SpellsBreakingHolds (P.program program.now) first second text.items) }
+{
+    let holds = breaking_holds(alloc, program, first, second)?;
+    Ok(write_holds(alloc, &holds)?)
+}
+
+/// Why the program is refused. Before two visits of a cell that no chain orders are told, their breaking holds are printed.
+fn tell_refused<'a, P: ProgramView + Drop, O: Flush>(
+    alloc: Global,
+    refused: Refused<P>,
+    out: &mut O,
+) -> Fault<'a>
+    requires working { IsWorking (O.state out.old) }
+    requires broken { IsBrokenBy (P.program refused.program) refused.fault }
+    ensures { TellsRefused (P.program refused.program) refused.fault (O.state out.old) (O.state out.new) result }
+{
+    let Refused { fault, program } = refused;
+    let VerifyFault::Unordered { first, second, .. } = &fault else {
+        return Fault::from(AcceptFault::from(fault));
+    };
+    let Ok(text) = breaking_text(alloc, &program, *first, *second) else {
+        return Fault::Memory;
+    };
+    match deliver(out, &text) {
+        Ok(()) => Fault::Verify(fault),
+        Err(OutFault) => Fault::File("-"),
+    }
+}
+
+/// Verifies the program that the bytes spell for the map and the instance of the texts, and prints that it is accepted, or the holds
+/// that break it.
 fn verify_bytes<'a, O: Flush>(
     alloc: Global,
     map: &[u8],
@@ -50,15 +92,19 @@ fn verify_bytes<'a, O: Flush>(
         (IsVerifyFault map.now scen.now asked bytes.now (O.state out.old) (O.state out.new)) }
 {
     let problem = read_problem(alloc, map, scen, asked)?;
-    let accepted = accept(alloc, bytes, &problem.grid, &problem.instance)?;
+    let program = view_program(alloc, bytes)?;
+    let accepted = match verify(alloc, program, &problem.grid, &problem.instance) {
+        Ok(accepted) => accepted,
+        Err(refused) => return Err(tell_refused(alloc, refused, out)),
+    };
     match print_accepted(out, &accepted) {
         Ok(()) => Ok(0),
         Err(OutFault) => Err(Fault::File("-")),
     }
 }
 
-/// The command `verify`: reads the files whole, and prints to `out` that the program is accepted, with its numbers. Answers 0. No file
-/// is changed.
+/// The command `verify`: reads the files whole, and prints to `out` that the program is accepted, with its numbers, or, of a
+/// program that is refused for two visits which no chain orders, the holds that break it. Answers 0. No file is changed.
 pub(crate) fn do_verify<'a, F: Files, O: Flush>(
     alloc: Global,
     request: &VerifyRequest<'a>,

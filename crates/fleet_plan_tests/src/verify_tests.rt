@@ -146,7 +146,7 @@ fn cells_without_order(rt: HostRuntime) -> Result<(), Fail> {
 
 /// Agent 2 enters 1,0, which agent 0 has left, and awaits agent 1 alone, which awaits agent 0.
 #[test]
-fn a_need_through_another_agent_is_no_order(rt: HostRuntime) -> Result<(), Fail> {
+fn a_need_through_another_agent_is_an_order(rt: HostRuntime) -> Result<(), Fail> {
     let map = b"type octile\nheight 3\nwidth 3\nmap\n...\n...\n...\n";
     let scenario = b"version 1\n0 m 3 3 1 0 2 0 x\n0 m 3 3 0 2 1 2 x\n0 m 3 3 0 0 1 0 x\n";
     let agents: [Agent; 3] = [
@@ -156,7 +156,7 @@ fn a_need_through_another_agent_is_no_order(rt: HostRuntime) -> Result<(), Fail>
     ];
     assert_eq!(rt;
         verdict(&rt, rt.alloc(), map, scenario, &agents)?,
-        Err(unordered((1, 0), (0, 0), (2, 1)))
+        Ok(3)
     );
     Ok(())
 }

@@ -22,7 +22,7 @@ use fleet_machine::{Machine, Tick};
 use fleet_model::{Place, ProgramView, Step};
 use fleet_text::TraceOut;
 use fleet_verify::{
-    Accepted, awaits_are_chains, ready_moves_are_apart, runs_arrive, runs_end, ticks_are_safe,
+    Accepted, ready_moves_are_apart, runs_arrive, runs_end, ticks_are_safe,
 };
 use std::alloc::Global;
 use std::marker::Model;
@@ -102,7 +102,6 @@ impl<'g, P: ProgramView> Fleet<'g, P> {
         ensures kept { (i : ℕ) → i < length (P.program self.old.accepted.program) → IsTrue (flag_of held.now i) → KeepsOrder (P.program self.old.accepted.program) self.old.configuration self.new.configuration i }
         ensures rest { IsTrue (is_finished (P.program self.old.accepted.program) self.old.configuration) → (self.new ≡ self.old) × (result.moved ≡ 0) × (result.ready_held ≡ false) }
     {
-        awaits_are_chains();
         ticks_are_safe();
         ready_moves_are_apart();
         self.machine.tick(self.accepted.program(), held)
@@ -138,7 +137,6 @@ impl<'g, P: ProgramView> Fleet<'g, P> {
         ensures finished { result ≡ is_finished (P.program self.now.accepted.program) self.now.configuration }
         ensures arrived { IsTrue result → AreOnGoals (P.program self.now.accepted.program) self.now.configuration }
     {
-        awaits_are_chains();
         runs_arrive();
         self.machine.is_finished(self.accepted.program())
     }
@@ -188,7 +186,6 @@ impl<'g, P: ProgramView> Fleet<'g, P> {
     pub fn apart(&self)
         ensures { AreApart (is_passable self.now.accepted.grid) (P.program self.now.accepted.program) self.now.configuration }
     {
-        awaits_are_chains();
         ready_moves_are_apart();
         let _ = &self.machine;
     }
@@ -240,7 +237,6 @@ pub fn drive<P: ProgramView, S: HoldSource, O: TraceOut>(
     // It reports unless the source or the sink has failed, or the source had more ticks than a run takes.
     ensures reports { HasNotFailed (S.state source.new) → IsWorking (O.state out.new) → length (S.state source.old).ticks ≤ MOST_TICKS → IsOk result }
 {
-    awaits_are_chains();
     runs_arrive();
     runs_end();
     let chain = fleet.accepted.chain();

@@ -46,6 +46,10 @@ pub fn fails<'a>(told: &'a [u8]) -> Answer<'a> {
     }
 }
 
+/// Agent 1 of the pair does not await that agent 0 leaves its start.
+pub const SOON: &[u8] = b"4D504631 0002 0001 0000 0003 0000 0002 01 01
+    0000 0000 0002 0000 0002 01 10 0000 0002 01";
+
 /// The maps and scenarios of the worked fleets.
 const TEXTS: [(&str, &[u8]); 14] = [
     ("pair.map", PAIR_MAP),
@@ -64,14 +68,15 @@ const TEXTS: [(&str, &[u8]); 14] = [
     ("two.scen", TWO_SCEN),
 ];
 
-/// The worked fleets, the pair's program, and these files. None without memory.
+/// The worked fleets, the pair's program, the one that breaks, and these files. None without memory.
 pub fn worked_files(alloc: Global, others: &[(&str, &[u8])]) -> Option<MemFiles> {
     let mut files = MemFiles::new(alloc);
     for (name, bytes) in TEXTS {
         files.put(name, bytes).ok()?;
     }
-    let bytes = program_of(alloc, PAIR)?;
-    files.put("pair.program", &bytes).ok()?;
+    for (name, text) in [("pair.program", PAIR), ("soon.program", SOON)] {
+        files.put(name, &program_of(alloc, text)?).ok()?;
+    }
     for &(name, bytes) in others {
         files.put(name, bytes).ok()?;
     }

@@ -44,7 +44,12 @@ fn answers(
 fn only_memory_may_be_refused(rt: HostRuntime) {
     let write = b"run 4 Write\n".as_slice();
     let file = b"file -\n".as_slice();
-    let rows: [(&str, Answer<'_>, &[u8]); 9] = [
+    let unordered = Answer {
+        printed: b"0\n",
+        told: b"verify 8 Unordered cell 1,0 first 0:0 second 1:1\n",
+        status: 1,
+    };
+    let rows: [(&str, Answer<'_>, &[u8]); 10] = [
         ("", prints(PAIR_TEXT), write),
         (
             "rehearse pair.program --holds holds",
@@ -57,6 +62,11 @@ fn only_memory_may_be_refused(rt: HostRuntime) {
         (
             "verify pair.map pair.scen pair.program",
             prints(PAIR_ACCEPTED),
+            file,
+        ),
+        (
+            "verify pair.map pair.scen soon.program",
+            unordered,
             file,
         ),
         (

@@ -1,6 +1,8 @@
 //! Programs that are verified and run.
 
-use crate::commands::{Answer, expect_over, fails, prints, program_of, refuses, worked_files};
+use crate::commands::{
+    Answer, SOON, expect_over, fails, prints, program_of, refuses, worked_files,
+};
 use fleet_fixtures::worked::*;
 use std::alloc::Global;
 use std::process::Abort;
@@ -19,10 +21,6 @@ fn expect_program(
     files.put("program", &program_of(alloc, program).ok_or("hexadecimal")?)?;
     expect_over(rt, alloc, line, &mut files, answer)
 }
-
-/// Agent 1 of the pair does not await that agent 0 leaves its start.
-const SOON: &[u8] = b"4D504631 0002 0001 0000 0003 0000 0002 01 01
-    0000 0000 0002 0000 0002 01 10 0000 0002 01";
 
 /// Agent 1 awaits agent 0's first move before its second.
 const EARLY: &[u8] = b"4D504631 0002 0001 0000 0003 0000 0002 01 01
@@ -49,9 +47,11 @@ const RUN: &str = "run pair.map pair.scen program --holds holds";
 #[test]
 fn programs_are_accepted(rt: HostRuntime) -> Result<(), Fail> {
     let cell = b"accepted\nagents 1\nmoves 0\nawaits 0\nchain 0\n".as_slice();
-    let rows: [(&str, &[u8], &[u8]); 2] = [
+    let relay = b"accepted\nagents 3\nmoves 3\nawaits 2\nchain 3\n".as_slice();
+    let rows: [(&str, &[u8], &[u8]); 3] = [
         (VERIFY, PAIR, PAIR_ACCEPTED),
         ("verify cell.map cell.scen program", CELL, cell),
+        (VERIFY_RELAY, RELAY, relay),
     ];
     for (line, program, printed) in rows {
         expect_program(&rt, rt.alloc(), line, (program, b""), prints(printed))?;
@@ -59,34 +59,57 @@ fn programs_are_accepted(rt: HostRuntime) -> Result<(), Fail> {
     Ok(())
 }
 
+/// Agent 1 of the relay awaits nobody.
+const RELAY_BROKEN: &[u8] = b"4D504631 0003 0001 0000 0002 0000 0001 01
+    0000 0002 0001 0002 0001 01
+    0000 0000 0001 0000 0001 10 0001 0001 01";
+
 #[test]
 fn first_faults_of_programs_are_told(rt: HostRuntime) -> Result<(), Fail> {
     let fewer = "verify relay.map relay.scen program --agents 2";
-    let rows: [(&str, &[u8], &[u8]); 9] = [
-        (
-            VERIFY,
-            SOON,
-            b"verify 8 Unordered cell 1,0 first 0:0 second 1:1\n",
-        ),
-        (
-            VERIFY,
-            EARLY,
-            b"verify 8 Unordered cell 2,0 first 0:1 second 1:2\n",
-        ),
+    let rows: [(&str, &[u8], &[u8]); 6] = [
         (VERIFY, DEADLOCK, b"verify 7 Cyclic 0:1 1:1\n"),
         (VERIFY, BEYOND, b"verify 6 AwaitRange agent 1 action 2\n"),
         (VERIFY, BACK, b"verify 4 Goal agent 0\n"),
         (VERIFY, OFF, b"verify 5 Step agent 0 action 1\n"),
         (VERIFY, CELL, b"verify 2 OtherFleet\n"),
-        (
-            VERIFY_RELAY,
-            RELAY,
-            b"verify 8 Unordered cell 1,0 first 0:0 second 2:1\n",
-        ),
         (fewer, DEADLOCK, b"verify 3 Start agent 1\n"),
     ];
     for (line, program, told) in rows {
         expect_program(&rt, rt.alloc(), line, (program, b""), refuses(told))?;
+    }
+    Ok(())
+}
+
+#[test]
+fn breaking_holds_are_printed(rt: HostRuntime) -> Result<(), Fail> {
+    let rows: [(&str, &[u8], &[u8], &[u8]); 3] = [
+        (
+            VERIFY,
+            SOON,
+            b"0\n",
+            b"verify 8 Unordered cell 1,0 first 0:0 second 1:1\n",
+        ),
+        (
+            VERIFY,
+            EARLY,
+            b"-\n0\n0\n",
+            b"verify 8 Unordered cell 2,0 first 0:1 second 1:2\n",
+        ),
+        (
+            VERIFY_RELAY,
+            RELAY_BROKEN,
+            b"0\n0\n",
+            b"verify 8 Unordered cell 1,0 first 0:0 second 2:1\n",
+        ),
+    ];
+    for (line, program, printed, told) in rows {
+        let answer = Answer {
+            printed,
+            told,
+            status: 1,
+        };
+        expect_program(&rt, rt.alloc(), line, (program, b""), answer)?;
     }
     Ok(())
 }

@@ -1,6 +1,6 @@
 -- The cells, one after another.
 use Rattle.std.proofs.Common.{◌≡◌, ℕ, suc, ◌+◌, ◌<◌, ◌≤◌, Bool, true, false, List, [], ◌∷◌, length, Option, Some, None, refl, ap, sym, ◌∙◌, subst, arith, inl, inr}
-use Rattle.std.specs.Prelude.{◌⊎◌, All, nat_eq}
+use Rattle.std.specs.Prelude.{◌⊎◌, All}
 use Rattle.std.proofs.lemmas.Bool.{cases_eq}
 use Rattle.fleet_model.specs.declared.geometry.Cell.{Cell}
 use Rattle.fleet_model.specs.declared.geometry.Place.{Place}
@@ -14,10 +14,8 @@ use Rattle.fleet_verify.proofs.Listing.{levels_number}
 use Rattle.fleet_verify.specs.declared.visit_order.PlacedVisit.{PlacedVisit}
 use Rattle.fleet_verify.specs.declared.fault.VerifyFault.{VerifyFault}
 use Rattle.fleet_verify.specs.declared.fault.VerifyFault.TheVariants.{Unordered}
-use Rattle.fleet_verify.specs.declared.visit_order.OrderViolation.{OrderViolation}
-use Rattle.indexmap.specs.IndexMap.{get}
-use Rattle.fleet_verify.specs.declared.visit_order.VisitOrder.{VisitOrder}
-use Rattle.fleet_verify.specs.Order.{number_of, visits_of, IsJudged, IsPlaced, AreAllPlaced, AreViolations, AreGrouped}
+use Rattle.fleet_verify.specs.declared.open_pairs.OrderViolation.{OrderViolation}
+use Rattle.fleet_verify.specs.Order.{visits_of, IsJudged, IsPlaced, AreAllPlaced, AreViolations}
 use Rattle.fleet_model.proofs.Places.{is_same_place-true}
 use Rattle.fleet_model.proofs.Visits.{IsIn, is_in}
 use Rattle.fleet_verify.specs.Faults.{IsFirstBreak, HasRanges, IsFault, IsSooner, IsOrderlyAt}
@@ -114,7 +112,3 @@ none_broken p stays breaks all each found none q = elim (some_cell p q stays eac
   | inl e ↦ (visits_of q stays, (all.sorted q).lists, subst (Adjacent (ComesAfter p)) (sym e) tt)
   | inr (c, cell, here) ↦ subst (InTurn p) here (unbroken p stays breaks all found c cell (none c))
 ]
-
--- what was watched
-pub breaks_of : (p : Program) (stays : List PlacedVisit) (w : VisitOrder) → AreGrouped p stays w → AreViolations p stays (λ c. get nat_eq w.violations (number_of c))
-breaks_of p stays w h c cell = (h c cell).judged

@@ -30,10 +30,12 @@ pub mod Waiting
 pub mod Arrived
 pub mod Judged
 pub mod Refuses
+pub mod Decide
+pub mod Unordered
+pub mod OpenPairs
 pub mod Claimed
 pub mod Blocked
 pub mod Finishing
-pub mod Decide
 pub mod Needs
 pub mod RisingRows
 pub mod OrderedPairs
@@ -41,3 +43,4 @@ pub mod Sorted
 pub mod BreakingMeets
 pub mod BreakingExists
 pub mod Exact
+pub mod Broken

@@ -1,36 +1,27 @@
 -- The visits of a place, one after another.
-use Rattle.std.proofs.Common.{◌≡◌, ◌≢◌, ℕ, zero, suc, ◌+◌, ◌<◌, Bool, true, false, cond, List, [], ◌∷◌, ◌++◌, length, map, get_or, Option, Some, None, slice_get, refl, ap, sym, ◌∙◌, subst, arith, inl, inr, add-one}
+use Rattle.std.proofs.Common.{◌≡◌, ℕ, zero, suc, ◌+◌, ◌<◌, Bool, true, false, cond, List, [], ◌∷◌, ◌++◌, length, map, get_or, Option, Some, None, slice_get, refl, ap, sym, ◌∙◌, subst, arith, inl, inr}
 use Rattle.std.specs.List.{filter}
-use Rattle.std.specs.Prelude.{nat_eq}
-use Rattle.std.proofs.lemmas.Bool.{cases_eq, eq-eqb, ne_eqb}
+use Rattle.std.specs.Prelude.{nat_eq, All, Contains, ◌⊎◌}
+use Rattle.std.specs.List.{AllPairs}
+use Rattle.indexmap.specs.IndexMap.{get}
+use Rattle.std.proofs.lemmas.Bool.{cases_eq, cases_lt, eq-eqb, ne_eqb}
 use Rattle.std.proofs.lemmas.List.{map-append, append_assoc, append-nil, length-append}
-use Rattle.std.proofs.lemmas.List.Elements.{filter-append}
-use Rattle.std.proofs.lemmas.Option.{slice_get_within, get_or_from_slice_get}
+use Rattle.std.proofs.lemmas.List.Elements.{filter-append, All-push, Contains-push, Contains-append_left}
+use Rattle.std.proofs.lemmas.List.Quantifiers.{all_pairs_push}
+use Rattle.std.proofs.lemmas.Option.{slice_get_within, same_Some}
 use Rattle.fleet_model.specs.declared.geometry.Cell.{Cell}
 use Rattle.fleet_model.specs.declared.geometry.Place.{Place}
 use Rattle.fleet_model.specs.declared.program.Visit.{Visit}
 use Rattle.fleet_model.specs.Geometry.{place_of, is_same_place}
 use Rattle.fleet_model.specs.Program.{Program, IsCell}
-use Rattle.fleet_model.specs.Visit.{is_entry, Adjacent, ComesAfter}
+use Rattle.fleet_model.specs.Visit.{is_entry, ComesAfterByAwait}
 use Rattle.fleet_model.proofs.Places.{place_of-injective, is_same_place-true, is_same_place-eq}
-use Rattle.fleet_verify.proofs.Neighbours.{adjacent_at}
 use Rattle.fleet_verify.specs.declared.visit_order.PlacedVisit.{PlacedVisit}
-use Rattle.fleet_verify.specs.declared.visit_order.OrderViolation.{OrderViolation}
-use Rattle.fleet_verify.specs.Faults.{IsFirstBreak}
-use Rattle.fleet_verify.specs.Order.{number_of, visits_of, entries, IsJudged, IsJudgedNext, IsLast, IsGrouped}
-
--- ---- the rule
+use Rattle.fleet_verify.specs.declared.visit_order.OpenPair.{OpenPair}
+use Rattle.fleet_verify.specs.declared.visit_order.VisitOrder.{VisitOrder}
+use Rattle.fleet_verify.specs.Order.{number_of, visits_of, entries, IsOpenNext, IsLast, IsGrouped, IsOpen, AreGrouped, AreNeighbours, StandsBefore}
 
 -- ---- lists
-
-pub adjacent_push : (R : Visit → Visit → Type 0) (xs : List Visit) (v w : Visit) → Adjacent R (xs ++ v ∷ []) → R v w → Adjacent R ((xs ++ v ∷ []) ++ w ∷ [])
-adjacent_push R [] v w a r = (r, tt)
-adjacent_push R (x ∷ []) v w a r = (a.0, (r, tt))
-adjacent_push R (x ∷ y ∷ xs) v w a r = (a.0, adjacent_push R (y ∷ xs) v w a.1 r)
-
-pub adjacent_after : (R : Visit → Visit → Type 0) (l : List Visit) (last : Option Visit) (w : Visit) → IsLast l last → Adjacent R l → ((v : Visit) → last ≡ Some v → R v w) → Adjacent R (l ++ w ∷ [])
-adjacent_after R l None w e a r = subst (λ (xs : List Visit). Adjacent R (xs ++ w ∷ [])) (sym e) tt
-adjacent_after R l (Some v) w e a r = subst (λ (xs : List Visit). Adjacent R (xs ++ w ∷ [])) (sym e.1) (adjacent_push R e.0 v w (subst (Adjacent R) e.1 a) (r v refl))
 
 slice_get_at : {X : Type 0} (xs : List X) (v : X) (ys : List X) → slice_get (xs ++ v ∷ ys) (length xs) ≡ Some v
 slice_get_at [] v ys = refl
@@ -41,20 +32,49 @@ slice_get_front [] ys k l = absurd (omega arith)
 slice_get_front (x ∷ xs) ys zero l = refl
 slice_get_front (x ∷ xs) ys (suc k) l = slice_get_front xs ys k (omega arith)
 
-pub first_break : (R : Visit → Visit → Type 0) (l : List Visit) (v w : Visit) (rest : List Visit) → IsLast l (Some v) → Adjacent R l → (R v w → ⊥) → IsFirstBreak R (l ++ w ∷ rest) v w
-first_break R l v w rest (xs, e) a n = subst (λ (ys : List Visit). IsFirstBreak R (ys ++ w ∷ rest) v w) (sym e) (record {
+-- ---- neighbours
+
+pub neighbours_on : (l rest : List Visit) (v w : Visit) → AreNeighbours l v w → AreNeighbours (l ++ rest) v w
+neighbours_on l rest v w n =
+    let within = slice_get_within l (n.at + 1) w n.next in
+    record {
+      at = n.at;
+      here = slice_get_front l rest n.at (omega arith) ∙ n.here;
+      next = slice_get_front l rest (n.at + 1) within ∙ n.next;
+    }
+
+pub neighbours_last : (l : List Visit) (v w : Visit) → IsLast l (Some v) → AreNeighbours (l ++ w ∷ []) v w
+neighbours_last l v w (xs, e) = subst (λ (ys : List Visit). AreNeighbours (ys ++ w ∷ []) v w) (sym e) (record {
   at = length xs;
-  here = ap (λ (ys : List Visit). slice_get ys (length xs)) (append_assoc xs (v ∷ []) (w ∷ rest)) ∙ slice_get_at xs v (w ∷ rest);
-  next = ap (slice_get ((xs ++ v ∷ []) ++ w ∷ rest)) (sym (length-append xs (v ∷ []))) ∙ slice_get_at (xs ++ v ∷ []) w rest;
-  breaks = n;
-  sooner = λ k x y l f g.
-      let long : length (xs ++ v ∷ []) ≡ length xs + 1 = length-append xs (v ∷ []) in
-      let f' : slice_get (xs ++ v ∷ []) k ≡ Some x = sym (slice_get_front (xs ++ v ∷ []) (w ∷ rest) k (omega arith)) ∙ f in
-      let g' : slice_get (xs ++ v ∷ []) (k + 1) ≡ Some y = sym (slice_get_front (xs ++ v ∷ []) (w ∷ rest) (k + 1) (omega arith)) ∙ g in
-      let h : R (get_or (xs ++ v ∷ []) k x) (get_or (xs ++ v ∷ []) (suc k) x) = adjacent_at R (xs ++ v ∷ []) (subst (Adjacent R) e a) k x (omega arith) in
-      let i : get_or (xs ++ v ∷ []) (suc k) x ≡ y = ap (λ (m : ℕ). get_or (xs ++ v ∷ []) m x) (sym (add-one k)) ∙ get_or_from_slice_get (xs ++ v ∷ []) (k + 1) y x g' in
-      subst (R x) i (subst (λ (z : Visit). R z (get_or (xs ++ v ∷ []) (suc k) x)) (get_or_from_slice_get (xs ++ v ∷ []) k x x f') h);
+  here = ap (λ (ys : List Visit). slice_get ys (length xs)) (append_assoc xs (v ∷ []) (w ∷ [])) ∙ slice_get_at xs v (w ∷ []);
+  next = ap (slice_get ((xs ++ v ∷ []) ++ w ∷ [])) (sym (length-append xs (v ∷ []))) ∙ slice_get_at (xs ++ v ∷ []) w [];
 })
+
+-- neighbours before one visit more, or the last one and it
+neighbours_cases : (l : List Visit) (last : Option Visit) (w v x : Visit) → IsLast l last → AreNeighbours (l ++ w ∷ []) v x → AreNeighbours l v x ⊎ ((last ≡ Some v) × (x ≡ w))
+neighbours_cases l last w v x is n = elim (cases_lt (n.at + 1) (length l)) [
+  | inl k ↦ inl (record {
+    at = n.at;
+    here = sym (slice_get_front l (w ∷ []) n.at (omega arith)) ∙ n.here;
+    next = sym (slice_get_front l (w ∷ []) (n.at + 1) k) ∙ n.next;
+  })
+  | inr k ↦
+      let long : length (l ++ w ∷ []) ≡ length l + 1 = length-append l (w ∷ []) in
+      let within : n.at + 1 < length (l ++ w ∷ []) = slice_get_within (l ++ w ∷ []) (n.at + 1) x n.next in
+      let all : n.at + 1 ≡ length l = omega arith in
+      inr (ends all last is)
+]
+  where
+    ends : n.at + 1 ≡ length l → (o : Option Visit) → IsLast l o → (o ≡ Some v) × (x ≡ w)
+    ends all None e = absurd (let f : length l ≡ 0 = ap (λ (ys : List Visit). length ys) e in omega arith)
+    ends all (Some u) (xs, e) =
+        let long : length (xs ++ u ∷ []) ≡ length xs + 1 = length-append xs (u ∷ []) in
+        let same : length l ≡ length (xs ++ u ∷ []) = ap (λ (ys : List Visit). length ys) e in
+        let at : n.at ≡ length xs = omega arith in
+        let before : slice_get l n.at ≡ Some v = sym (slice_get_front l (w ∷ []) n.at (omega arith)) ∙ n.here in
+        let here : slice_get l n.at ≡ Some u = ap (λ (ys : List Visit). slice_get ys n.at) e ∙ (ap (slice_get (xs ++ u ∷ [])) at ∙ slice_get_at xs u []) in
+        let second : x ≡ w = same_Some x w (sym n.next ∙ (ap (slice_get (l ++ w ∷ [])) all ∙ slice_get_at l w [])) in
+        (sym here ∙ before, second)
 
 -- ---- the visits of a place
 
@@ -75,78 +95,180 @@ visits_off c s ne = go (is_same_place (place_of s.cell) (place_of c)) refl
     go false e = rw e refl
     go true e = absurd (ne (place_of-injective s.cell c (is_same_place-true (place_of s.cell) (place_of c) e)))
 
--- ---- the breaks
+-- ---- open pairs
 
-first_break_on : (R : Visit → Visit → Type 0) (l rest : List Visit) (v w : Visit) → IsFirstBreak R l v w → IsFirstBreak R (l ++ rest) v w
-first_break_on R l rest v w b = record {
-  at = b.at;
-  here = slice_get_front l rest b.at (omega (arith, slice_get_within l (b.at + 1) w b.next)) ∙ b.here;
-  next = slice_get_front l rest (b.at + 1) (slice_get_within l (b.at + 1) w b.next) ∙ b.next;
-  breaks = b.breaks;
-  sooner = λ k x y m e f.
-      let within = slice_get_within l (b.at + 1) w b.next in
-      b.sooner k x y m (sym (slice_get_front l rest k (omega arith)) ∙ e) (sym (slice_get_front l rest (k + 1) (omega arith)) ∙ f);
-}
-
-pub grouped_none : (p : Program) (c : Cell) → IsGrouped p c [] None None
+pub grouped_none : (p : Program) (c : Cell) → IsGrouped p c [] None []
 unfolding visits_of
-grouped_none p c = record { last = refl; judged = tt }
+grouped_none p c = record { last = refl; next = λ v w n. absurd (omega (arith, slice_get_within [] n.at v n.here)) }
 
--- a list with one visit more
-judged_next : (R : Visit → Visit → Type 0) (l : List Visit) (last : Option Visit) (w : Visit) (old new : Option OrderViolation) → IsLast l last → IsJudged R l old → IsJudgedNext R last w old new → IsJudged R (l ++ w ∷ []) new
-judged_next R l last w None new is a (inl (h, e)) = subst (IsJudged R (l ++ w ∷ [])) (sym e) (adjacent_after R l last w is a h)
-judged_next R l last w (Some b) new is a (inl (h, e)) = subst (IsJudged R (l ++ w ∷ [])) (sym e) (first_break_on R l (w ∷ []) b.first b.second a)
-judged_next R l last w None new is a (inr (inl (b, e, f))) = absurd cc
-judged_next R l last w (Some d) new is a (inr (inl (b, e, f))) = subst (IsJudged R (l ++ w ∷ [])) (sym f) (first_break_on R l (w ∷ []) d.first d.second a)
-judged_next R l last w old new is a (inr (inr (v, e, n, o, f))) =
-    subst (IsJudged R (l ++ w ∷ [])) (sym f)
-    (first_break R l v w [] (subst (IsLast l) e is) (subst (IsJudged R l) o a) n)
+abbrev pub pair_with : PlacedVisit → Visit → OpenPair
+pair_with s v = record { cell = s.cell; first = v; second = s.visit }
 
-pub grouped_on : (p : Program) (c : Cell) (stays : List PlacedVisit) (s : PlacedVisit) (last : Option Visit) (old new : Option OrderViolation) → IsGrouped p c stays last old → s.cell ≡ c → IsJudgedNext (ComesAfter p) last s.visit old new
+pairs_kept : (R : Visit → Visit → Type 0) (last : Option Visit) (s : PlacedVisit) (old new : List OpenPair) → IsOpenNext R last s old new → (o : OpenPair) → Contains old o → Contains new o
+pairs_kept R last s old new (inl (h, e)) o k = subst (λ (os : List OpenPair). Contains os o) (sym e) k
+pairs_kept R last s old new (inr (v, f, n, e)) o k =
+    subst (λ (os : List OpenPair). Contains os o) (sym e) (Contains-append_left old (pair_with s v ∷ []) o k)
+
+pub grouped_on : (p : Program) (c : Cell) (stays : List PlacedVisit) (s : PlacedVisit) (last : Option Visit) (old new : List OpenPair) → IsGrouped p c stays last old → s.cell ≡ c → IsOpenNext (ComesAfterByAwait p) last s old new
     → IsGrouped p c (stays ++ s ∷ []) (Some s.visit) new
-grouped_on p c stays s last old new h e r =
-    let same : visits_of (place_of c) (stays ++ s ∷ []) ≡ visits_of (place_of c) stays ++ s.visit ∷ [] = visits_of-append (place_of c) stays (s ∷ []) ∙ ap (λ vs. visits_of (place_of c) stays ++ vs) (visits_on c s e) in
-    record {
-      last = (visits_of (place_of c) stays, same);
-      judged = subst (λ (l : List Visit). IsJudged (ComesAfter p) l new) (sym same) (judged_next (ComesAfter p) (visits_of (place_of c) stays) last s.visit old new h.last h.judged r);
-    }
+grouped_on p c stays s last old new h e r = record { last = (l, same); next = λ v w n. next v w (neighbours_cases l last s.visit v w h.last (subst (λ (vs : List Visit). AreNeighbours vs v w) same n)) }
+  where
+    l : List Visit
+    l = visits_of (place_of c) stays
 
-grouped_off : (p : Program) (c : Cell) (stays : List PlacedVisit) (s : PlacedVisit) (last : Option Visit) (old : Option OrderViolation) → IsGrouped p c stays last old → (s.cell ≡ c → ⊥) → IsGrouped p c (stays ++ s ∷ []) last old
-grouped_off p c stays s last old h ne =
+    same : visits_of (place_of c) (stays ++ s ∷ []) ≡ l ++ s.visit ∷ []
+    same = visits_of-append (place_of c) stays (s ∷ []) ∙ ap (λ vs. l ++ vs) (visits_on c s e)
+
+    Next : Visit → Visit → Type 0
+    Next v w = ComesAfterByAwait p v w ⊎ Contains new (record { cell = c; first = v; second = w })
+
+    ends : (v w : Visit) → last ≡ Some v → w ≡ s.visit → IsOpenNext (ComesAfterByAwait p) last s old new → Next v w
+    ends v w is to (inl (a, k)) = subst (Next v) (sym to) (inl (a v is))
+    ends v w is to (inr (u, f, n, k)) =
+        let one : u ≡ v = same_Some u v (sym f ∙ is) in
+        let pair : pair_with s u ≡ record { cell = c; first = v; second = w } = λ i. record { cell = e i; first = one i; second = sym to i } in
+        inr (subst (λ (os : List OpenPair). Contains os (record { cell = c; first = v; second = w })) (sym k)
+        (subst (Contains (old ++ pair_with s u ∷ [])) pair (Contains-push old (pair_with s u))))
+
+    next : (v w : Visit) → AreNeighbours l v w ⊎ ((last ≡ Some v) × (w ≡ s.visit)) → Next v w
+    next v w (inl n) = elim (h.next v w n) [ inl a ↦ inl a | inr k ↦ inr (pairs_kept (ComesAfterByAwait p) last s old new r (record { cell = c; first = v; second = w }) k) ]
+    next v w (inr (is, to)) = ends v w is to r
+
+pub grouped_off : (p : Program) (c : Cell) (stays : List PlacedVisit) (s : PlacedVisit) (last : Option Visit) (old new : List OpenPair) → IsGrouped p c stays last old → (s.cell ≡ c → ⊥)
+    → ((o : OpenPair) → Contains old o → Contains new o) → IsGrouped p c (stays ++ s ∷ []) last new
+grouped_off p c stays s last old new h ne kept =
     let same : visits_of (place_of c) (stays ++ s ∷ []) ≡ visits_of (place_of c) stays = visits_of-append (place_of c) stays (s ∷ []) ∙ (ap (λ vs. visits_of (place_of c) stays ++ vs) (visits_off c s ne) ∙ append-nil _) in
     record {
       last = subst (λ (vs : List Visit). IsLast vs last) (sym same) h.last;
-      judged = subst (λ (vs : List Visit). IsJudged (ComesAfter p) vs old) (sym same) h.judged;
+      next = λ v w n. elim (h.next v w (subst (λ (vs : List Visit). AreNeighbours vs v w) same n)) [ inl a ↦ inl a | inr k ↦ inr (kept (record { cell = c; first = v; second = w }) k) ];
     }
+
+-- the visits of a place stand among all
+stands_in : (q : Place) (placed : List PlacedVisit) (w : Visit) (k : ℕ) → slice_get (visits_of q placed) k ≡ Some w → (i : ℕ) × (slice_get (map (λ s. s.visit) placed) i ≡ Some w)
+unfolding visits_of
+stands_in q [] w k e = absurd (omega (arith, slice_get_within [] k w e))
+stands_in q (s ∷ placed) w k e = go (is_same_place (place_of s.cell) q) refl e (stands_in q placed w)
+  where
+    Placed : Type 0
+    Placed = (i : ℕ) × (slice_get (map (λ x. x.visit) (s ∷ placed)) i ≡ Some w)
+
+    later : ((i : ℕ) × (slice_get (map (λ x. x.visit) placed) i ≡ Some w)) → Placed
+    later r = (suc r.0, r.1)
+
+    at : (j : ℕ) → slice_get (s.visit ∷ visits_of q placed) j ≡ Some w → ((j : ℕ) → slice_get (visits_of q placed) j ≡ Some w → (i : ℕ) × (slice_get (map (λ x. x.visit) placed) i ≡ Some w)) → Placed
+    at zero f rest = (0, f)
+    at (suc j) f rest = later (rest j f)
+
+    go : (b : Bool) → is_same_place (place_of s.cell) q ≡ b → slice_get (visits_of q (s ∷ placed)) k ≡ Some w → ((j : ℕ) → slice_get (visits_of q placed) j ≡ Some w → (i : ℕ) × (slice_get (map (λ x. x.visit) placed) i ≡ Some w)) → Placed
+    go true f g rest = at k (rw f at g) rest
+    go false f g rest = later (rest k (rw f at g))
+
+-- pairs that are open stay so
+open_on : (p : Program) (stays rest : List PlacedVisit) (o : OpenPair) → IsOpen p stays o → IsOpen p (stays ++ rest) o
+open_on p stays rest o h = record {
+  cell = h.cell;
+  neighbours = subst (λ (vs : List Visit). AreNeighbours vs o.first o.second) (sym (visits_of-append (place_of o.cell) stays rest)) (neighbours_on (visits_of (place_of o.cell) stays) (visits_of (place_of o.cell) rest) o.first o.second h.neighbours);
+  breaks = h.breaks;
+}
+
+open_more : (p : Program) (stays : List PlacedVisit) (s : PlacedVisit) (v : Visit) → IsCell s.cell → IsLast (visits_of (place_of s.cell) stays) (Some v) → (ComesAfterByAwait p v s.visit → ⊥) → IsOpen p (stays ++ s ∷ []) (pair_with s v)
+open_more p stays s v cell last n = record {
+  cell = cell;
+  neighbours =
+      let same : visits_of (place_of s.cell) (stays ++ s ∷ []) ≡ visits_of (place_of s.cell) stays ++ s.visit ∷ [] = visits_of-append (place_of s.cell) stays (s ∷ []) ∙ ap (λ vs. visits_of (place_of s.cell) stays ++ vs) (visits_on s.cell s refl) in
+      subst (λ (vs : List Visit). AreNeighbours vs v s.visit) (sym same) (neighbours_last (visits_of (place_of s.cell) stays) v s.visit last);
+  breaks = n;
+}
+
+stands_on : (l rest : List Visit) (v w : Visit) → StandsBefore l v w → StandsBefore (l ++ rest) v w
+stands_on l rest v w h =
+    let within = slice_get_within l h.later w h.second in
+    record {
+      sooner = h.sooner;
+      later = h.later;
+      order = h.order;
+      first = slice_get_front l rest h.sooner (omega (arith, h.order)) ∙ h.first;
+      second = slice_get_front l rest h.later within ∙ h.second;
+    }
+
+stands_last : (l : List Visit) (v w : Visit) (i : ℕ) → slice_get l i ≡ Some v → StandsBefore (l ++ w ∷ []) v w
+stands_last l v w i e =
+    let within = slice_get_within l i v e in
+    record {
+      sooner = i;
+      later = length l;
+      order = within;
+      first = slice_get_front l (w ∷ []) i within ∙ e;
+      second = slice_get_at l w [];
+    }
+
+abbrev InOrder : List PlacedVisit → List OpenPair → Type 0
+InOrder placed pairs = AllPairs (λ (o u : OpenPair). StandsBefore (map (λ s. s.visit) placed) o.second u.second) pairs
+
+visits_more : (stays : List PlacedVisit) (s : PlacedVisit) → map (λ (x : PlacedVisit). x.visit) (stays ++ s ∷ []) ≡ map (λ (x : PlacedVisit). x.visit) stays ++ s.visit ∷ []
+visits_more stays s = map-append (λ (x : PlacedVisit). x.visit) stays (s ∷ [])
+
+in_order_on : (stays : List PlacedVisit) (s : PlacedVisit) (pairs : List OpenPair) → InOrder stays pairs → InOrder (stays ++ s ∷ []) pairs
+in_order_on stays s pairs h = λ i j d l m.
+    subst (λ (vs : List Visit). StandsBefore vs (get_or pairs i d).second (get_or pairs j d).second) (sym (visits_more stays s))
+    (stands_on (map (λ x. x.visit) stays) (s.visit ∷ []) (get_or pairs i d).second (get_or pairs j d).second (h i j d l m))
+
+in_order_more : (p : Program) (stays : List PlacedVisit) (s : PlacedVisit) (v : Visit) (pairs : List OpenPair) → All (IsOpen p stays) pairs → InOrder stays pairs → InOrder (stays ++ s ∷ []) (pairs ++ pair_with s v ∷ [])
+in_order_more p stays s v pairs each h =
+    all_pairs_push (λ (o u : OpenPair). StandsBefore (map (λ x. x.visit) (stays ++ s ∷ [])) o.second u.second) pairs (pair_with s v) (in_order_on stays s pairs h)
+    (λ k d l.
+    let is : IsOpen p stays (get_or pairs k d) = each k d l in
+    let found = stands_in (place_of (get_or pairs k d).cell) stays (get_or pairs k d).second (is.neighbours.at + 1) is.neighbours.next in
+    subst (λ (vs : List Visit). StandsBefore vs (get_or pairs k d).second s.visit) (sym (visits_more stays s))
+    (stands_last (map (λ x. x.visit) stays) (get_or pairs k d).second s.visit found.0 found.1))
 
 -- ---- cells by their numbers
 
 -- no two cells have one number
-same_cell : (c d : Cell) → IsCell c → IsCell d → number_of c ≡ number_of d → c ≡ d
+pub same_cell : (c d : Cell) → IsCell c → IsCell d → number_of c ≡ number_of d → c ≡ d
 same_cell c d cs ds e =
     let y : c.y ≡ d.y = omega (arith, cs.x, ds.x) in
     let x : c.x ≡ d.x = omega (arith, y) in
     λ i. record { x = x i; y = y i }
 
--- one visit more, where maps have the last visit and the violation of each cell by its number
-pub grouped_more : (p : Program) (placed : List PlacedVisit) (s : PlacedVisit) (c : Cell) (last last' : Option Visit) (old new : Option OrderViolation)
-    → IsCell s.cell → IsCell c → IsGrouped p c placed last old
-    → last' ≡ cond (nat_eq (number_of s.cell) (number_of c)) (Some s.visit) last → (number_of c ≢ number_of s.cell → new ≡ old)
-    → (c ≡ s.cell → IsJudgedNext (ComesAfter p) last s.visit old new) → IsGrouped p c (placed ++ s ∷ []) last' new
-grouped_more p placed s c last last' old new here there h e others judged = elim (cases_eq (number_of s.cell) (number_of c)) [
-  | inl f ↦
-      let on : s.cell ≡ c = same_cell s.cell c here there f in
-      let n : last' ≡ Some s.visit = e ∙ rw (eq-eqb (number_of s.cell) (number_of c) f) refl in
-      subst (λ (l : Option Visit). IsGrouped p c (placed ++ s ∷ []) l new) (sym n) (grouped_on p c placed s last old new h on (judged (sym on)))
-  | inr f ↦
-      let n : last' ≡ last = e ∙ rw (ne_eqb (number_of s.cell) (number_of c) f) refl in
-      subst (λ (l : Option Visit). IsGrouped p c (placed ++ s ∷ []) l new) (sym n)
-      (subst (IsGrouped p c (placed ++ s ∷ []) last) (sym (others (λ g. f (sym g)))) (grouped_off p c placed s last old h (λ g. f (ap number_of g))))
-]
+-- one visit more, where a map has the last visit of each cell by its number
+pub grouped_more : (p : Program) (placed : List PlacedVisit) (s : PlacedVisit) (old new : VisitOrder) → IsCell s.cell → AreGrouped p placed old
+    → ((n : ℕ) → get nat_eq new.last n ≡ cond (nat_eq (number_of s.cell) n) (Some s.visit) (get nat_eq old.last n))
+    → IsOpenNext (ComesAfterByAwait p) (get nat_eq old.last (number_of s.cell)) s old.pairs.items new.pairs.items
+    → AreGrouped p (placed ++ s ∷ []) new
+grouped_more p placed s old new here h last r = record { cells = cells; each = (opened r).0; in_order = (opened r).1 }
+  where
+    o : List OpenPair
+    o = old.pairs.items
 
--- what is put for one number changes no other
-pub others_kept : (m n : ℕ) (put old new : Option OrderViolation) → new ≡ cond (nat_eq m n) put old → n ≢ m → new ≡ old
-others_kept m n put old new e apart = e ∙ rw (ne_eqb m n (λ f. apart (sym f))) refl
+    cells : (c : Cell) → IsCell c → IsGrouped p c (placed ++ s ∷ []) (get nat_eq new.last (number_of c)) new.pairs.items
+    cells c there = elim (cases_eq (number_of s.cell) (number_of c)) [
+      | inl f ↦
+          let on : s.cell ≡ c = same_cell s.cell c here there f in
+          let n : get nat_eq new.last (number_of c) ≡ Some s.visit = last (number_of c) ∙ rw (eq-eqb (number_of s.cell) (number_of c) f) refl in
+          let k : IsOpenNext (ComesAfterByAwait p) (get nat_eq old.last (number_of c)) s o new.pairs.items = subst (λ (m : ℕ). IsOpenNext (ComesAfterByAwait p) (get nat_eq old.last m) s o new.pairs.items) f r in
+          subst (λ (l : Option Visit). IsGrouped p c (placed ++ s ∷ []) l new.pairs.items) (sym n)
+          (grouped_on p c placed s (get nat_eq old.last (number_of c)) o new.pairs.items (h.cells c there) on k)
+      | inr f ↦
+          let n : get nat_eq new.last (number_of c) ≡ get nat_eq old.last (number_of c) = last (number_of c) ∙ rw (ne_eqb (number_of s.cell) (number_of c) f) refl in
+          subst (λ (l : Option Visit). IsGrouped p c (placed ++ s ∷ []) l new.pairs.items) (sym n)
+          (grouped_off p c placed s (get nat_eq old.last (number_of c)) o new.pairs.items (h.cells c there) (λ g. f (ap number_of g))
+          (pairs_kept (ComesAfterByAwait p) (get nat_eq old.last (number_of s.cell)) s o new.pairs.items r))
+    ]
+
+    kept : All (IsOpen p (placed ++ s ∷ [])) o
+    kept = λ k d l. open_on p placed (s ∷ []) (get_or o k d) (h.each k d l)
+
+    opened : IsOpenNext (ComesAfterByAwait p) (get nat_eq old.last (number_of s.cell)) s o new.pairs.items → All (IsOpen p (placed ++ s ∷ [])) new.pairs.items × InOrder (placed ++ s ∷ []) new.pairs.items
+    opened (inl (a, e)) = (
+      subst (λ (os : List OpenPair). All (IsOpen p (placed ++ s ∷ [])) os) (sym e) kept,
+      subst (λ (os : List OpenPair). InOrder (placed ++ s ∷ []) os) (sym e) (in_order_on placed s o h.in_order),
+    )
+    opened (inr (v, f, n, e)) = (
+      subst (λ (os : List OpenPair). All (IsOpen p (placed ++ s ∷ [])) os) (sym e)
+          (All-push (IsOpen p (placed ++ s ∷ [])) o (pair_with s v) kept (open_more p placed s v here (subst (IsLast (visits_of (place_of s.cell) placed)) f (h.cells s.cell here).last) n)),
+      subst (λ (os : List OpenPair). InOrder (placed ++ s ∷ []) os) (sym e) (in_order_more p placed s v o h.each h.in_order),
+    )
 
 pub no_entries : {X : Type 0} (xs : List X) → length xs ≡ 0 → xs ≡ []
 no_entries [] h = refl

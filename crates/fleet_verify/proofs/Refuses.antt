@@ -18,11 +18,12 @@ use Rattle.fleet_verify.proofs.Free.{runs_free, runs_on_ground, runs_owned}
 use Rattle.fleet_verify.proofs.Arrive.{finish_exists, finish_above, finish_below, finish_stays}
 use Rattle.fleet_verify.specs.Ring.{IsToldRing}
 use Rattle.fleet_verify.proofs.Finish.{ring_unnumbered}
-use Rattle.fleet_verify.proofs.Listing.{sorted_passes, after_reaches, await_chain, levels_number, adjacent_chains, awaits_accepted}
+use Rattle.fleet_verify.proofs.Listing.{sorted_passes, after_reaches, levels_number}
+use Rattle.fleet_verify.proofs.Unordered.{neighbours_unordered}
 use Rattle.fleet_verify.proofs.Neighbours.{adjacent_at}
 use Rattle.fleet_verify.specs.declared.fault.VerifyFault.{VerifyFault}
 use Rattle.fleet_verify.specs.declared.fault.VerifyFault.TheVariants.{OutOfMemory, OtherFleet, Start, Goal, Step, AwaitRange, Cyclic, Unordered}
-use Rattle.fleet_verify.specs.Faults.{IsFault, IsUnordered, StartsRight, EndsRight}
+use Rattle.fleet_verify.specs.Faults.{HasRanges, IsFault, IsOfOrder, IsUnordered, StartsRight, EndsRight}
 
 module _ (passable : Place → Bool) (tasks : List Task) (p : Program) (a : IsAccepted passable tasks p) where
   task_at : (i : ℕ) → i < length p → (t : Task) × (slice_get tasks i ≡ Some t)
@@ -47,7 +48,7 @@ module _ (passable : Place → Bool) (tasks : List Task) (p : Program) (a : IsAc
   no_break q v w u =
       let o = a.orderly q in
       let adj : Adjacent (ComesAfter p) u.sorted =
-      sorted_passes p u.level (levels_number p u.level u.levels) q (ComesAfter p) (λ x y is h. after_reaches p q x y is (await_chain p a.right.in_range q x y is h)) o.0 o.1 o.2 u.sorted u.listing in
+      sorted_passes p u.level (levels_number p u.level u.levels) q (ComesAfter p) (after_reaches p q) o.0 o.1 o.2 u.sorted u.listing in
       let b = u.broken in
       let l : b.at + 1 < length u.sorted = slice_get_within u.sorted (b.at + 1) w b.next in
       let r : ComesAfter p (get_or u.sorted b.at v) (get_or u.sorted (suc b.at) v) = adjacent_at (ComesAfter p) u.sorted adj b.at v (omega arith) in
@@ -68,12 +69,12 @@ module _ (passable : Place → Bool) (tasks : List Task) (p : Program) (a : IsAc
   -- ---- what is accepted
 
   pub safe : (holds : Holds) → IsSafe passable p holds
-  safe holds = record { on_ground = runs_on_ground passable p holds a.right.on_ground; free = runs_free p holds (awaits_accepted passable tasks p a).orderly }
+  safe holds = record { on_ground = runs_on_ground passable p holds a.right.on_ground; free = runs_free p holds a.orderly }
 
   pub owned : (q : Place) → (listing : List Visit) × ListsVisits p q listing × Adjacent (ComesAfter p) listing × ((holds : Holds) (t : ℕ) → IsOwnedInTurn p listing (run p holds t))
   owned q =
       let o = a.orderly q in
-      (o.0, o.1, o.2, λ holds t. runs_owned p holds t q o.0 o.1 (adjacent_chains p a.right.in_range q o.0 o.1.only o.2))
+      (o.0, o.1, o.2, λ holds t. runs_owned p holds t q o.0 o.1 o.2)
 
   pub arrives : (holds : Holds) (l : ℕ) → IsLongestChain p l → (f : ℕ) × IsFinish p holds f × Arrives p holds l f
   arrives holds l long =
@@ -86,3 +87,16 @@ module _ (passable : Place → Bool) (tasks : List Task) (p : Program) (a : IsAc
           on_goal = λ x i le h. finish_stays p holds fin.0 x i fin.1 le h ∙ a.right.arrives i h;
         },
       )
+
+-- a fault where all but the order is right
+pub of_order : (passable : Place → Bool) (tasks : List Task) (p : Program) → HasRanges passable tasks p → (f : VerifyFault) → IsFault passable tasks p f → IsOfOrder p f
+of_order passable tasks p h OutOfMemory f = tt
+of_order passable tasks p h OtherFleet f = f h.before.before.before.fleet
+of_order passable tasks p h (Start i) f = (f.1).wrong (h.before.before.before.starts i (f.1).agent)
+of_order passable tasks p h (Goal i) f = (f.1).wrong (h.before.before.ends i (f.1).agent)
+of_order passable tasks p h (Step i k) f = ((f.1).action).wrong (h.before.steps i k (f.1).agent ((f.1).action).within)
+of_order passable tasks p h (AwaitRange i k) f = ((f.1).action).wrong (h.ranges i k (f.1).agent ((f.1).action).within)
+of_order passable tasks p h (Cyclic ring) f = f.1
+of_order passable tasks p h (Unordered c v w) f =
+    let u = f.1 in
+    neighbours_unordered p u.level (levels_number p u.level u.levels) (place_of c) u.sorted u.listing u.broken.at v w u.broken.here u.broken.next u.broken.breaks

@@ -12,7 +12,7 @@ use Rattle.fleet_model.specs.declared.program.Await.{Await}
 use Rattle.fleet_model.specs.declared.program.ActionId.{ActionId}
 use Rattle.fleet_model.specs.declared.program.Visit.{Visit}
 use Rattle.fleet_model.specs.Geometry.{place_of, is_same_place}
-use Rattle.fleet_model.specs.Machine.{run, is_finished, IsEnd}
+use Rattle.fleet_model.specs.Machine.{run, is_finished, IsEnd, IsFinish}
 use Rattle.fleet_model.specs.Program.{Program, moves, actions_of, awaits_of, path, start_of, goal_of}
 use Rattle.fleet_model.specs.Chain.{IsLongestChain}
 use Rattle.fleet_model.specs.Visit.{is_entry, IsVisitOf, ListsVisits, ComesAfter, IsOrderly}
@@ -60,12 +60,12 @@ contains_map f (y ∷ xs) x h = elim (contains_cases y xs x h) [
   | inr k ↦ contains_later (f y) (map f xs) (f x) (contains_map f xs x k)
 ]
 
-visit_at : (stays : List PlacedVisit) (i : ℕ) (d : PlacedVisit) → get_or (map (λ s. s.visit) stays) i d.visit ≡ (get_or stays i d).visit
+pub visit_at : (stays : List PlacedVisit) (i : ℕ) (d : PlacedVisit) → get_or (map (λ s. s.visit) stays) i d.visit ≡ (get_or stays i d).visit
 visit_at [] i d = refl
 visit_at (s ∷ stays) zero d = refl
 visit_at (s ∷ stays) (suc i) d = visit_at stays i d
 
-before_itself : (lev : ActionId → ℕ) (v : Visit) → IsBefore lev v v → ⊥
+pub before_itself : (lev : ActionId → ℕ) (v : Visit) → IsBefore lev v v → ⊥
 before_itself lev v (inl h) = omega arith
 before_itself lev v (inr (e, inl h)) = omega arith
 before_itself lev v (inr (e, inr (f, h))) = omega arith
@@ -99,9 +99,13 @@ visits_are p q (s ∷ stays) h = go (is_same_place (place_of s.cell) q) refl (vi
     go false e rest = let f : is_at p q s.visit ≡ false = here ∙ e in rw (e, f) rest
 
 module _ (p : Program) (t : ℕ) (end : IsEnd p [] t) (fin : is_finished p (run p [] t) ≡ true) where
+  -- the run finishes with the last tick
+  pub finish_is : IsFinish p [] t
+  finish_is = record { holds = fin; least = λ s f. end.least s (rw f refl) }
+
   -- the longest chain has as many actions as there were ticks
   pub chain_is : AreInRange p → IsLongestChain p t
-  chain_is range = unheld_is_longest p range t (record { holds = fin; least = λ s f. end.least s (rw f refl) })
+  chain_is range = unheld_is_longest p range t finish_is
 
   pub all_added : (w : VisitOrder) → AreAdded p (begun_in p t) w → AreInRange p → AreAllAdded p w
   all_added w added range = record {

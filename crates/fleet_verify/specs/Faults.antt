@@ -8,7 +8,7 @@ use Rattle.fleet_model.specs.declared.program.Visit.{Visit}
 use Rattle.fleet_model.specs.Geometry.{place_of}
 use Rattle.fleet_model.specs.Program.{Program, start_of, goal_of, moves, awaits_of, path, IsInRange}
 use Rattle.fleet_model.specs.Chain.{IsNumbering}
-use Rattle.fleet_model.specs.Visit.{IsVisit, IsVisitOf, ListsVisits, Adjacent, ComesAfter}
+use Rattle.fleet_model.specs.Visit.{IsVisit, IsVisitOf, ListsVisits, Adjacent, ComesAfter, AreUnordered}
 use Rattle.fleet_verify.specs.Listing.{AreLevels, IsSortedListing}
 use Rattle.fleet_verify.specs.Ring.{IsToldRing}
 use Rattle.fleet_verify.specs.declared.fault.VerifyFault.{VerifyFault}
@@ -131,3 +131,10 @@ IsFault passable tasks p (Step i n) = HasEnds tasks p × IsFirstAction p (Stands
 IsFault passable tasks p (AwaitRange i n) = HasSteps passable tasks p × IsFirstAction p (AwaitsRight p) i n
 IsFault passable tasks p (Cyclic ring) = HasRanges passable tasks p × IsToldRing p ring.items
 IsFault passable tasks p (Unordered cell first second) = HasNumbering passable tasks p × IsUnordered ComesAfter p (place_of cell) first second
+
+-- a ring of needs, or two visits of a cell that have no order either way. Want of memory may stand in place of either
+abbrev pub IsOfOrder : Program → VerifyFault → Type 0
+IsOfOrder p OutOfMemory = Unit {0}
+IsOfOrder p (Cyclic ring) = IsToldRing p ring.items
+IsOfOrder p (Unordered cell first second) = AreUnordered p (place_of cell) first second
+IsOfOrder p _ = ⊥

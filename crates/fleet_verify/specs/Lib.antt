@@ -3,8 +3,10 @@ pub mod Listing
 pub mod Walk
 pub mod Blocked
 pub mod Order
+pub mod OpenPairs
 pub mod Faults
 pub mod Path
 pub mod Parts
 pub mod Rows
+pub mod Broken
 pub mod Told

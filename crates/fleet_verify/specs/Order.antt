@@ -1,5 +1,5 @@
 -- The visits of a place among all visits in their order, and the first neighbours that break a rule.
-use Rattle.std.specs.Prelude.{◌≡◌, ℕ, ◌+◌, ◌*◌, nat_eq, List, map, filter, Option, Some, None, All, Contains, ◌⊎◌, [], ◌∷◌, ◌++◌}
+use Rattle.std.specs.Prelude.{◌≡◌, ℕ, ◌+◌, ◌*◌, ◌<◌, nat_eq, List, map, slice_get, filter, Option, Some, None, All, Contains, ◌⊎◌, [], ◌∷◌, ◌++◌}
 use Rattle.std.specs.List.{AllPairs}
 use Rattle.fleet_model.specs.declared.limits.TheConstants.{MAX_COORDINATE}
 use Rattle.fleet_model.specs.declared.geometry.Cell.{Cell}
@@ -8,10 +8,11 @@ use Rattle.fleet_model.specs.declared.program.ActionId.{ActionId}
 use Rattle.fleet_model.specs.declared.program.Visit.{Visit}
 use Rattle.fleet_model.specs.Geometry.{place_of, is_same_place}
 use Rattle.fleet_model.specs.Program.{Program, path, IsCell}
-use Rattle.fleet_model.specs.Visit.{is_entry, IsVisit, Adjacent, ComesAfter}
+use Rattle.fleet_model.specs.Visit.{is_entry, IsVisit, Adjacent, ComesAfterByAwait, ComesAfter}
 use Rattle.fleet_verify.specs.Faults.{IsFirstBreak}
 use Rattle.fleet_verify.specs.Listing.{AreLevels, IsBefore, IsSortedListing}
-use Rattle.fleet_verify.specs.declared.visit_order.OrderViolation.{OrderViolation}
+use Rattle.fleet_verify.specs.declared.open_pairs.OrderViolation.{OrderViolation}
+use Rattle.fleet_verify.specs.declared.visit_order.OpenPair.{OpenPair}
 use Rattle.fleet_verify.specs.declared.visit_order.PlacedVisit.{PlacedVisit}
 use Rattle.fleet_verify.specs.declared.visit_order.VisitOrder.{VisitOrder}
 use Rattle.indexmap.specs.IndexMap.{get}
@@ -29,12 +30,25 @@ abbrev pub IsJudged : (Visit → Visit → Type 0) → List Visit → Option Ord
 IsJudged R l None = Adjacent R l
 IsJudged R l (Some b) = IsFirstBreak R l b.first b.second
 
--- how a list is judged once w comes after its last visit: as before where w may come there, or where neighbours before break the rule
-abbrev pub IsJudgedNext : (Visit → Visit → Type 0) → Option Visit → Visit → Option OrderViolation → Option OrderViolation → Type 0
-IsJudgedNext R last w old new =
-    (((v : Visit) → last ≡ Some v → R v w) × (new ≡ old))
-    ⊎ ((b : OrderViolation) × (old ≡ Some b) × (new ≡ old))
-    ⊎ ((v : Visit) × (last ≡ Some v) × (R v w → ⊥) × (old ≡ None) × (new ≡ Some (record { first = v; second = w })))
+-- v is in the list, and w right after it
+pub record AreNeighbours (l : List Visit) (v w : Visit) : Type 0 where
+  pub at : ℕ
+  pub here : slice_get l at ≡ Some v
+  pub next : slice_get l (at + 1) ≡ Some w
+
+-- v stands before w in the list
+pub record StandsBefore (l : List Visit) (v w : Visit) : Type 0 where
+  pub sooner : ℕ
+  pub later : ℕ
+  pub order : sooner < later
+  pub first : slice_get l sooner ≡ Some v
+  pub second : slice_get l later ≡ Some w
+
+-- which pairs are open once a visit comes after the last one of its cell: the same where it may come there, and otherwise those two more
+abbrev pub IsOpenNext : (Visit → Visit → Type 0) → Option Visit → PlacedVisit → List OpenPair → List OpenPair → Type 0
+IsOpenNext R last s old new =
+    (((v : Visit) → last ≡ Some v → R v s.visit) × (new ≡ old))
+    ⊎ ((v : Visit) × (last ≡ Some v) × (R v s.visit → ⊥) × (new ≡ old ++ record { cell = s.cell; first = v; second = s.visit } ∷ []))
 
 -- the placed visits are all visits, and those of each place are sorted by level, agent and position
 pub record AreAllPlaced (p : Program) (placed : List PlacedVisit) : Type 0 where
@@ -50,15 +64,23 @@ abbrev pub IsLast : List Visit → Option Visit → Type 0
 IsLast l None = l ≡ []
 IsLast l (Some v) = (xs : List Visit) × (l ≡ xs ++ v ∷ [])
 
--- the last visit of the cell among those so far, and how they are judged
-pub record IsGrouped (p : Program) (c : Cell) (placed : List PlacedVisit) (final : Option Visit) (found : Option OrderViolation) : Type 0 where
+-- the last visit of the cell among those so far; of its neighbouring visits each second one awaits that the first is left, or they are open
+pub record IsGrouped (p : Program) (c : Cell) (placed : List PlacedVisit) (final : Option Visit) (pairs : List OpenPair) : Type 0 where
   pub last : IsLast (visits_of (place_of c) placed) final
-  pub judged : IsJudged (ComesAfter p) (visits_of (place_of c) placed) found
+  pub next : (v w : Visit) → AreNeighbours (visits_of (place_of c) placed) v w
+      → ComesAfterByAwait p v w ⊎ Contains pairs (record { cell = c; first = v; second = w })
 
--- so it is for each cell, by its number
-abbrev pub AreGrouped : Program → List PlacedVisit → VisitOrder → Type 0
-AreGrouped p placed order =
-    (c : Cell) → IsCell c → IsGrouped p c placed (get nat_eq order.last (number_of c)) (get nat_eq order.violations (number_of c))
+-- neighbouring visits of a cell, of which the second does not await that the first is left
+pub record IsOpen (p : Program) (placed : List PlacedVisit) (o : OpenPair) : Type 0 where
+  pub cell : IsCell o.cell
+  pub neighbours : AreNeighbours (visits_of (place_of o.cell) placed) o.first o.second
+  pub breaks : ComesAfterByAwait p o.first o.second → ⊥
+
+-- so it is for each cell, by its number; the open pairs stand in the order of their second visits
+pub record AreGrouped (p : Program) (placed : List PlacedVisit) (order : VisitOrder) : Type 0 where
+  pub cells : (c : Cell) → IsCell c → IsGrouped p c placed (get nat_eq order.last (number_of c)) order.pairs.items
+  pub each : All (IsOpen p placed) order.pairs.items
+  pub in_order : AllPairs (λ o u. StandsBefore (map (λ s. s.visit) placed) o.second u.second) order.pairs.items
 
 -- each cell's first neighbours that break the rule
 abbrev pub AreViolations : Program → List PlacedVisit → (Cell → Option OrderViolation) → Type 0
@@ -86,3 +108,10 @@ pub record AreAllAdded (p : Program) (order : VisitOrder) : Type 0 where
   pub all : AreAllPlaced p placed
   pub each : All (IsPlaced p) placed
   pub grouped : AreGrouped p placed order
+
+-- of some order of all visits, those of each place sorted, each cell's first neighbours that break the rule
+pub record AreAllViolations (p : Program) (found : Cell → Option OrderViolation) : Type 0 where
+  pub placed : List PlacedVisit
+  pub all : AreAllPlaced p placed
+  pub each : All (IsPlaced p) placed
+  pub violations : AreViolations p placed found

@@ -9,6 +9,7 @@ mod accepted;
 mod agents;
 mod exactness;
 mod fault;
+mod open_pairs;
 mod order;
 mod orders;
 mod path;

@@ -8,7 +8,7 @@ ghost use Rattle.fleet_model.specs.declared.task.Task.{Task};
 ghost use Rattle.fleet_model.specs.Program.{Program, AreInRange};
 ghost use Rattle.fleet_model.specs.Machine.{Holds, run, count_at};
 ghost use Rattle.fleet_model.specs.Chain.{IsNumbering};
-ghost use Rattle.fleet_model.specs.Visit.{ListsVisits, Adjacent, ComesAfterByAwait, ComesAfterByChain, ComesAfter};
+ghost use Rattle.fleet_model.specs.Visit.{ListsVisits, Adjacent, ComesAfterByAwait, ComesAfterByChain};
 ghost use Rattle.fleet_model.specs.Accepted.{IsAcceptedBy};
 ghost use Rattle.fleet_verify.specs.Ring.{IsRing};
 ghost use Rattle.fleet_verify.specs.Listing.{AreLevels, entry_level, IsSortedListing};
@@ -24,7 +24,7 @@ pub fn orderly_listings_rise()
         AreLevels p level → ListsVisits p q listing → Adjacent (ComesAfterByChain p) listing →
         Adjacent (λ (v : Visit) (w : Visit). entry_level level v < entry_level level w) listing }
     ensures by_await { (p : Program) (level : ActionId → ℕ) (q : Place) (listing : List Visit) →
-        AreLevels p level → AreInRange p → ListsVisits p q listing → Adjacent (ComesAfter p) listing →
+        AreLevels p level → AreInRange p → ListsVisits p q listing → Adjacent (ComesAfterByAwait p) listing →
         Adjacent (λ (v : Visit) (w : Visit). entry_level level v < entry_level level w) listing }
 {}
 
@@ -35,7 +35,7 @@ pub fn sorted_listings_decide()
         ((listing : List Visit) × ListsVisits p q listing × Adjacent (ComesAfterByChain p) listing) ↔ Adjacent (ComesAfterByChain p) sorted }
     ensures by_await { (p : Program) (level : ActionId → ℕ) (q : Place) (sorted : List Visit) →
         AreLevels p level → AreInRange p → IsSortedListing p level q sorted →
-        ((listing : List Visit) × ListsVisits p q listing × Adjacent (ComesAfter p) listing) ↔ Adjacent (ComesAfter p) sorted }
+        ((listing : List Visit) × ListsVisits p q listing × Adjacent (ComesAfterByAwait p) listing) ↔ Adjacent (ComesAfterByAwait p) sorted }
 {}
 
 /// No list of holds ever finishes an action of a ring of needs, so a program that has one has no numbering.

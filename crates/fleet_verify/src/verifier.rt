@@ -5,11 +5,12 @@ ghost use Rattle.fleet_model.specs.declared.geometry.Place.{Place};
 ghost use Rattle.fleet_model.specs.declared.program.Visit.{Visit};
 ghost use Rattle.fleet_model.specs.Machine.{Holds, run, IsFinish};
 ghost use Rattle.fleet_model.specs.Visit.{ListsVisits, Adjacent, ComesAfter};
-ghost use Rattle.fleet_model.specs.Accepted.{IsAccepted};
-ghost use Rattle.fleet_model.specs.Run.{IsSafe, IsOwnedInTurn, Arrives};
+ghost use Rattle.fleet_model.specs.Accepted.{IsRight, IsAccepted};
+ghost use Rattle.fleet_model.specs.Run.{IsSafe, IsOwnedInTurn, Arrives, RunsWell};
 ghost use Rattle.fleet_verify.specs.declared.fault.VerifyFault.TheVariants.{OutOfMemory};
 ghost use Rattle.fleet_grid.specs.Ground.{is_passable};
-ghost use Rattle.fleet_verify.specs.Faults.{IsFault};
+ghost use Rattle.fleet_verify.specs.Broken.{IsBrokenBy};
+ghost use Rattle.fleet_verify.specs.Faults.{HasRanges, IsFault, IsOfOrder};
 ghost use Rattle.fleet_verify.specs.Parts.{IsAcceptedFor};
 
 use crate::accepted::{Accepted, Refused};
@@ -25,7 +26,8 @@ use std::alloc::Global;
 
 /// Whether the program is accepted for the map and the instance: as many agents, starts and goals those of the instance, all paths on
 /// passable cells, each await of another agent and of 1 to as many actions as it has, a numbering of the actions, and an order of the
-/// visits of each cell in which each awaits that the one before is left.
+/// visits of each cell in which each is a later one by the same agent, or a chain of needs leads from the action that leaves the one
+/// before to the action that enters it.
 ///
 /// If so, then whatever agents are held for however long, the run stays on passable cells without a vertex, following, swapping or cycle
 /// conflict (Stern et al. 2019), the visits of each cell are owned in turn, and the run finishes after no fewer ticks than the longest
@@ -48,6 +50,14 @@ pub fn verify<'g, P: ProgramView>(
     ensures fault { IfErr result (λ r. IsFault (is_passable grid.now) instance.now (P.program program) r.fault) }
     // What is refused for another cause than memory is not accepted.
     ensures refused { IfErr result (λ r. r.fault ≢ OutOfMemory → IsAccepted (is_passable grid.now) instance.now (P.program program) → ⊥) }
+    // Under every list of holds no two agents of an accepted program ever stand on one cell, and all actions are finished. A
+    // program that is right but for its order is refused, for another cause than memory, only where that is not so, and the
+    // refusal says how: no list of holds finishes an action of the ring, and after the breaking holds both agents stand on the cell.
+    ensures well { IfOk result (λ _. RunsWell (P.program program)) }
+    ensures badly { IfErr result (λ r. r.fault ≢ OutOfMemory → IsRight (is_passable grid.now) instance.now (P.program program) → RunsWell (P.program program) → ⊥) }
+    ensures broken { IfErr result (λ r. IsBrokenBy (P.program program) r.fault) }
+    // Where ends, steps and ranges are right, a refusal is a ring of needs or two visits without an order.
+    ensures of_order { IfErr result (λ r. HasRanges (is_passable grid.now) instance.now (P.program program) → IsOfOrder (P.program program) r.fault) }
 {
     match judge(alloc, &program, grid, instance) {
         Ok(chain) => Ok(Accepted::new(program, grid, instance, chain)),
@@ -77,6 +87,6 @@ fn judge<P: ProgramView>(
         let ring = find_ring(alloc, program, &run.machine)?;
         return Err(VerifyFault::Cyclic(ring));
     }
-    check_order(program, grid, instance, &run.visits)?;
+    check_order(alloc, program, grid, instance, &run)?;
     Ok(run.ticks)
 }

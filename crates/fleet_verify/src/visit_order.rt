@@ -1,11 +1,11 @@
-//! The visits in the order in which they begin, grouped by cell, and neighbours among them of which the second may not come after
-//! the first.
+//! The visits in the order in which they begin, grouped by cell, and neighbours among them of which the second does not await that
+//! the first is left.
 
 ghost use Rattle.std.specs.Prelude.{◌≡◌, ◌≢◌, ◌↔◌, ◌++◌, ◌<◌, ◌≤◌, [], ◌∷◌, ℕ, length, nat_eq, IsTrue, OnOk, Some};
 ghost use Rattle.indexmap.specs.IndexMap.{get, Updates};
 ghost use Rattle.fleet_model.specs.Program.{moves, IsCell};
-ghost use Rattle.fleet_model.specs.Visit.{is_entry, leaving, IsVisit, ComesAfter};
-ghost use Rattle.fleet_verify.specs.Order.{number_of, IsJudgedNext};
+ghost use Rattle.fleet_model.specs.Visit.{is_entry, leaving, IsVisit, ComesAfterByAwait};
+ghost use Rattle.fleet_verify.specs.Order.{number_of, IsOpenNext};
 
 use fleet_model::{Cell, MAX_COORDINATE, OutOfMemory, ProgramView, Step, Visit};
 use indexmap::IndexMap;
@@ -18,19 +18,21 @@ pub struct PlacedVisit {
     pub cell: Cell,
 }
 
-/// Visits of a cell, one right after the other, of which the second may not come after the first.
+/// Visits of a cell, one right after the other, of which the second is not by the same agent and does not await that the first is
+/// left. A chain of needs may still order them.
 #[derive(Clone, Copy, Debug, Drop)]
-pub struct OrderViolation {
+pub struct OpenPair {
+    pub cell: Cell,
     pub first: Visit,
     pub second: Visit,
 }
 
-/// What is kept of the visits so far, in the order in which they began: by the number of each cell the last one, and the first
-/// neighbours that break the rule.
+/// What is kept of the visits so far, in the order in which they began: by the number of each cell the last one, and the open pairs
+/// in the order in which their second visits began.
 #[derive(Drop)]
 pub struct VisitOrder {
     pub last: IndexMap<u32, Visit>,
-    pub violations: IndexMap<u32, OrderViolation>,
+    pub pairs: Vec<OpenPair>,
 }
 
 /// The number of a cell, which no other cell has.
@@ -54,7 +56,7 @@ impl VisitOrder {
     {
         VisitOrder {
             last: IndexMap::new(alloc),
-            violations: IndexMap::new(alloc),
+            pairs: Vec::new(alloc),
         }
     }
 
@@ -71,7 +73,7 @@ impl VisitOrder {
             → AreAdded (P.program program.now) (visits ++ placed.visit ∷ []) self.new) }
     {
         if begins_visit(program, placed.visit) {
-            append(program, &mut self.last, &mut self.violations, placed)?;
+            append(program, &mut self.last, &mut self.pairs, placed)?;
         }
         Ok(())
     }
@@ -92,42 +94,41 @@ fn begins_visit<P: ProgramView>(program: &P, visit: Visit) -> bool
     }
 }
 
-/// Keeps the visit as the last one of its cell, and that it breaks the rule, if no earlier one of the cell does.
+/// Keeps the visit as the last one of its cell, and with the one before as an open pair, if it does not await that this is left.
 fn append<P: ProgramView>(
     program: &P,
     last: &mut IndexMap<u32, Visit>,
-    violations: &mut IndexMap<u32, OrderViolation>,
+    pairs: &mut Vec<OpenPair>,
     placed: PlacedVisit,
 ) -> Result<(), OutOfMemory>
     requires { IsVisit (P.program program.now) placed.visit }
     ensures last { OnOk result (Updates nat_eq last.old last.new (number_of placed.cell) (Some placed.visit)) }
-    ensures others { OnOk result ((n : ℕ) → n ≢ number_of placed.cell
-        → get nat_eq violations.new n ≡ get nat_eq violations.old n) }
-    ensures here { OnOk result (IsJudgedNext (ComesAfter (P.program program.now))
-        (get nat_eq last.old (number_of placed.cell)) placed.visit
-        (get nat_eq violations.old (number_of placed.cell)) (get nat_eq violations.new (number_of placed.cell))) }
+    ensures pairs { OnOk result (IsOpenNext (ComesAfterByAwait (P.program program.now))
+        (get nat_eq last.old (number_of placed.cell)) placed pairs.old.items pairs.new.items) }
     ensures cell { IsCell placed.cell }
 {
     let PlacedVisit {
         visit: second,
         cell,
     } = placed;
-    let number = number_of(cell);
-    let Some(first) = last.insert(number, second)? else {
+    let Some(first) = last.insert(number_of(cell), second)? else {
         return Ok(());
     };
-    if comes_after(program, first, second) || violations.contains_key(&number) {
+    if comes_after(program, first, second) {
         return Ok(());
     }
-    violations.insert(number, OrderViolation { first, second })?;
+    pairs.push(OpenPair {
+        cell,
+        first,
+        second,
+    })?;
     Ok(())
 }
 
-/// Whether the second visit may come directly after the first: later by the same agent, or entered by an action that awaits the
-/// leaving of the first.
+/// Whether the second visit is a later one by the same agent, or entered by an action that awaits that the first is left.
 fn comes_after<P: ProgramView>(program: &P, first: Visit, second: Visit) -> bool
     requires { IsVisit (P.program program.now) second }
-    ensures { IsTrue result ↔ ComesAfter (P.program program.now) first second }
+    ensures { IsTrue result ↔ ComesAfterByAwait (P.program program.now) first second }
 {
     if first.agent == second.agent && first.position < second.position {
         return true;

@@ -7,6 +7,7 @@ use Rattle.fleet_adg.specs.Compiled.{moves_in_all, compiled}
 use Rattle.fleet_adg.proofs.Alike.{run_alike}
 use Rattle.fleet_model.specs.Accepted.{IsAccepted}
 use Rattle.fleet_grid.specs.Ground.{is_passable}
+use Rattle.fleet_verify.proofs.Listing.{awaits_accepted}
 use Rattle.fleet_adg.proofs.Accepted.{compiled-accepted}
 use Rattle.fleet_adg.proofs.Programs.{never_stays-compiled}
 use Rattle.fleet_adg.proofs.Limits.{compiled-well_formed}
@@ -36,7 +37,8 @@ returns-clause-accepted c =
     let ground = is_passable c.args.checked.now.grid in
     let tasks = c.args.checked.now.instance in
     let made = program_is plan c.plan-plan.result.now c.args.deps c.in_ok-actions.actions.items c.in_ok-agents.agents.items c.plan-plan.ensures.value c.in_ok-actions.ensures c.in_ok-agents.ensures in
-    subst (IsAccepted ground tasks) (sym (c.new.ensures ∙ made)) (compiled-accepted ground tasks plan c.plan-plan.ensures.checked.free c.args.deps)
+    subst (IsAccepted ground tasks) (sym (c.new.ensures ∙ made))
+    (awaits_accepted ground tasks (compiled plan c.args.deps) (compiled-accepted ground tasks plan c.plan-plan.ensures.checked.free c.args.deps))
 
 pub returns-clause-moves : goal.returns-clause-moves
 returns-clause-moves c =

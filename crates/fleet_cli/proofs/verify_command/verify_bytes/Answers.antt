@@ -1,18 +1,53 @@
-use Rattle.std.proofs.Common.{refl}
+use Rattle.std.proofs.Common.{refl, sym, subst, inr}
+use Rattle.fleet_code.specs.Spelling.{Spells}
+use Rattle.fleet_grid.specs.Ground.{is_passable}
+use Rattle.fleet_verify.specs.Faults.{IsFault}
+use Rattle.fleet_verify.specs.Broken.{IsBrokenBy}
+use Rattle.fleet_verify.specs.Parts.{IsAcceptedFor}
+use Rattle.fleet_cli.proofs.VerifyLemmas.{told_refused}
 use Rattle.fleet_cli.proofs.verify_command.verify_bytes.Goals as goal
 
-pub returns-in-Ok : goal.returns-in-Ok
-returns-in-Ok g c = (
+pub returns-in-Err : goal.returns-in-Err
+returns-in-Err g c =
+    told_refused c.args.map.now c.args.scen.now c.args.asked c.args.bytes.now _ _ c.in_ok-problem.problem.grid c.in_ok-problem.problem.instance
+    c.in-Err.refused.program c.in-Err.refused.fault c.in_ok-problem.ensures.read
+    (subst (Spells c.args.bytes.now) (sym c.in-Err.ensures.returned) c.in_ok-program.ensures.spelled)
+    (subst (λ p. IsFault (is_passable c.in_ok-problem.problem.grid) c.in_ok-problem.problem.instance p c.in-Err.refused.fault) (sym c.in-Err.ensures.returned) c.in-Err.ensures.fault)
+    (subst (λ p. IsBrokenBy p c.in-Err.refused.fault) (sym c.in-Err.ensures.returned) c.in-Err.ensures.broken)
+    c.tell_refused.result c.tell_refused.ensures
+
+pub returns-in-Ok-print_accepted : goal.returns-in-Ok-print_accepted
+returns-in-Ok-print_accepted g c = (
   record {
-    accepts = record { ground = c.in_ok-problem.problem.grid; tasks = c.in_ok-problem.problem.instance; texts = c.in_ok-problem.ensures.read; program = c.in_ok-accepted.accepted.program; chain = c.in_ok-accepted.accepted.chain; accepts = c.in_ok-accepted.ensures.accepted };
-    delivered = c.in-Ok.ensures;
+    accepts = record {
+      ground = c.in_ok-problem.problem.grid;
+      tasks = c.in_ok-problem.problem.instance;
+      texts = c.in_ok-problem.ensures.read;
+      program = c.in-Ok.accepted.program;
+      chain = c.in-Ok.accepted.chain;
+      accepts = record {
+        spelled = subst (Spells c.args.bytes.now) (sym (c.in-Ok.ensures.kept.0)) c.in_ok-program.ensures.spelled;
+        accepted_for = subst (λ p. IsAcceptedFor c.in_ok-problem.problem.grid c.in_ok-problem.problem.instance p c.in-Ok.accepted.chain) (sym (c.in-Ok.ensures.kept.0)) c.in-Ok.ensures.accepted;
+      };
+    };
+    delivered = c.in-Ok-print_accepted.ensures;
   },
   refl,
 )
 
 pub returns : goal.returns
-returns g c = (
-  record { ground = c.in_ok-problem.problem.grid; tasks = c.in_ok-problem.problem.instance; texts = c.in_ok-problem.ensures.read; program = c.in_ok-accepted.accepted.program; chain = c.in_ok-accepted.accepted.chain; accepts = c.in_ok-accepted.ensures.accepted },
+returns g c = inr (
+  record {
+    ground = c.in_ok-problem.problem.grid;
+    tasks = c.in_ok-problem.problem.instance;
+    texts = c.in_ok-problem.ensures.read;
+    program = c.in-Ok.accepted.program;
+    chain = c.in-Ok.accepted.chain;
+    accepts = record {
+      spelled = subst (Spells c.args.bytes.now) (sym (c.in-Ok.ensures.kept.0)) c.in_ok-program.ensures.spelled;
+      accepted_for = subst (λ p. IsAcceptedFor c.in_ok-problem.problem.grid c.in_ok-problem.problem.instance p c.in-Ok.accepted.chain) (sym (c.in-Ok.ensures.kept.0)) c.in-Ok.ensures.accepted;
+    };
+  },
   refl,
-  c.in-Err.ensures,
+  c.in-Err-print_accepted.ensures,
 )

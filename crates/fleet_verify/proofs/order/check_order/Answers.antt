@@ -1,65 +1,67 @@
-use Rattle.std.proofs.Common.{◌≡◌, ◌+◌, arith, refl}
+use Rattle.std.proofs.Common.{◌≡◌, ℕ, List, length, map, None, refl, sym, ◌∙◌, subst, arith}
 use Rattle.std.proofs.lemmas.Result.{err_from_is_err_and}
-use Rattle.std.specs.Prelude.{nat_eq}
-use Rattle.fleet_model.specs.Geometry.{place_of}
-use Rattle.fleet_verify.specs.Order.{number_of}
-use Rattle.fleet_model.specs.Program.{path}
-use Rattle.fleet_grid.specs.Ground.{is_passable}
+use Rattle.std.specs.Prelude.{nat_eq, All}
+use Rattle.std.proofs.lemmas.Bool.{eqb-true}
+use Rattle.fleet_rows.specs.Asked.{AreQuestions}
+use Rattle.fleet_verify.specs.declared.visit_order.OpenPair.{OpenPair}
+use Rattle.fleet_verify.specs.OpenPairs.{AreVisits, question_of, HasNoChain, TellsFirstBad}
 use Rattle.indexmap.specs.IndexMap.{get}
-use Rattle.fleet_verify.proofs.Begun.{next_cell, next_there}
+use Rattle.fleet_verify.specs.Order.{number_of}
+use Rattle.fleet_verify.proofs.Judged.{none_broken}
+use Rattle.fleet_verify.proofs.OpenPairs.{are_visits, are_questions, violations_are, none_open}
 use Rattle.fleet_verify.proofs.Ordered.{no_entries}
-use Rattle.fleet_verify.proofs.Judged.{broken_fault, breaks_of, unbroken, none_broken, starts_on, judged_first, judged_more, judged_agent, all_in_turn}
+use Rattle.fleet_verify.proofs.Stays.{ranges_all}
 use Rattle.fleet_verify.proofs.order.check_order.Goals as goal
-
-pub returns-in_err-check_cell-clause-err : goal.returns-in_err-check_cell-clause-err
-returns-in_err-check_cell-clause-err g c =
-    let e = err_from_is_err_and c.from_residual.result c.from_residual.ensures.1 in
-    rw (e.1, e.2)
-    (broken_fault (is_passable c.args.grid.now) c.args.instance.now (g.P.ProgramView.program c.args.program.now) c.requires.added.placed (λ d. get nat_eq c.args.visits.now.violations (number_of d)) (breaks_of (g.P.ProgramView.program c.args.program.now) c.requires.added.placed c.args.visits.now c.requires.added.grouped) c.loop-agent.agent 0 c.start-cell.result c.in_err-check_cell.ensures.cell c.requires.before c.requires.added.all
-    (omega (arith, c.agents-agent-end.ensures.count)) (omega arith) (starts_on (g.P.ProgramView.program c.args.program.now) c.loop-agent.agent c.start-cell.result c.start-cell.ensures) c.loop-agent.invariant
-    c.in_err-check_cell.field-0.0 c.in_err-check_cell.ensures.err)
-
-pub unwrap-cell-requires : goal.unwrap-cell-requires
-unwrap-cell-requires g c =
-    next_there (is_passable c.args.grid.now) (g.P.ProgramView.program c.args.program.now) c.loop-agent.agent c.loop-finished.finished c.loop-finished.cell c.step.result c.cell_after.result
-    c.requires.before.before.steps (omega (arith, c.agents-agent-end.ensures.count)) (omega (arith, c.moves-finished-end.ensures)) c.loop-finished.invariant.here c.step.ensures c.cell_after.ensures.none
-
-pub returns-in_err-check_cell-2-clause-err : goal.returns-in_err-check_cell-2-clause-err
-returns-in_err-check_cell-2-clause-err g c =
-    let e = err_from_is_err_and c.from_residual-in_err-check_cell-2.result c.from_residual-in_err-check_cell-2.ensures.1 in
-    rw (e.1, e.2)
-    (broken_fault (is_passable c.args.grid.now) c.args.instance.now (g.P.ProgramView.program c.args.program.now) c.requires.added.placed (λ d. get nat_eq c.args.visits.now.violations (number_of d)) (breaks_of (g.P.ProgramView.program c.args.program.now) c.requires.added.placed c.args.visits.now c.requires.added.grouped) c.loop-agent.agent (c.loop-finished.finished + 1) c.unwrap-cell.result c.in_err-check_cell-2.ensures.cell c.requires.before c.requires.added.all
-    (omega (arith, c.agents-agent-end.ensures.count)) (omega (arith, c.moves-finished-end.ensures)) (next_cell (is_passable c.args.grid.now) (g.P.ProgramView.program c.args.program.now) c.loop-agent.agent c.loop-finished.finished c.loop-finished.cell c.unwrap-cell.result c.step.result c.cell_after.result
-    c.loop-finished.invariant.here c.step.ensures c.unwrap-cell.ensures c.cell_after.ensures.some) c.loop-finished.invariant.judged
-    c.in_err-check_cell-2.field-0.0 c.in_err-check_cell-2.ensures.err)
-
-pub loop-finished-init : goal.loop-finished-init
-loop-finished-init g c =
-    let p = g.P.ProgramView.program c.args.program.now in
-    record {
-      here = starts_on p c.loop-agent.agent c.start-cell.result c.start-cell.ensures;
-      judged = judged_first p c.loop-agent.agent c.start-cell.result c.loop-agent.invariant c.start-cell.ensures (unbroken p c.requires.added.placed (λ d. get nat_eq c.args.visits.now.violations (number_of d)) c.requires.added.all (breaks_of (g.P.ProgramView.program c.args.program.now) c.requires.added.placed c.args.visits.now c.requires.added.grouped) c.start-cell.result c.in_ok-check_cell.ensures.cell c.in_ok-check_cell.ensures.ok);
-    }
-
-pub loop-finished-preserved : goal.loop-finished-preserved
-loop-finished-preserved g c =
-    let p = g.P.ProgramView.program c.args.program.now in
-    let here : place_of c.unwrap-cell.result ≡ path p c.loop-agent.agent (c.loop-finished.finished + 1) = (next_cell (is_passable c.args.grid.now) (g.P.ProgramView.program c.args.program.now) c.loop-agent.agent c.loop-finished.finished c.loop-finished.cell c.unwrap-cell.result c.step.result c.cell_after.result
-    c.loop-finished.invariant.here c.step.ensures c.unwrap-cell.ensures c.cell_after.ensures.some) in
-    record {
-      here = here;
-      judged = judged_more p c.loop-agent.agent (c.loop-finished.finished + 1) c.unwrap-cell.result c.loop-finished.invariant.judged here (unbroken p c.requires.added.placed (λ d. get nat_eq c.args.visits.now.violations (number_of d)) c.requires.added.all (breaks_of (g.P.ProgramView.program c.args.program.now) c.requires.added.placed c.args.visits.now c.requires.added.grouped) c.unwrap-cell.result c.in_ok-check_cell-2.ensures.cell c.in_ok-check_cell-2.ensures.ok);
-    }
-
-pub loop-agent-preserved : goal.loop-agent-preserved
-loop-agent-preserved g c =
-    judged_agent (g.P.ProgramView.program c.args.program.now) c.loop-agent.agent (c.loop-finished.finished + 1) c.loop-finished.invariant.judged (omega (arith, c.moves-finished-end.ensures))
-
-pub returns-clause-ok : goal.returns-clause-ok
-returns-clause-ok g c =
-    all_in_turn (g.P.ProgramView.program c.args.program.now) c.requires.added.placed c.loop-agent.agent c.requires.added.all c.loop-agent.invariant (omega (arith, c.agents-agent-end.ensures.count))
 
 pub returns-then-is_empty-clause-ok : goal.returns-then-is_empty-clause-ok
 returns-then-is_empty-clause-ok g c =
-    none_broken (g.P.ProgramView.program c.args.program.now) c.requires.added.placed (λ d. get nat_eq c.args.visits.now.violations (number_of d)) c.requires.added.all c.requires.added.each (breaks_of (g.P.ProgramView.program c.args.program.now) c.requires.added.placed c.args.visits.now c.requires.added.grouped)
-    (λ d. rw (no_entries c.args.visits.now.violations.entries (c.is_empty.ensures.0 c.if-is_empty.true)) refl)
+    let p = g.P.ProgramView.program c.args.program.now in
+    let added = c.requires.added in
+    let range = ranges_all p c.requires.before.ranges in
+    none_broken p added.placed (λ d. None) added.all added.each
+    (none_open p c.args.run.now.visits added.placed added.all added.grouped range (no_entries c.args.run.now.visits.pairs.items (let none : c.args.run.now.visits.pairs.len ≡ 0 = eqb-true c.args.run.now.visits.pairs.len 0 (sym c.is_empty.ensures ∙ c.if-is_empty.true) in omega (arith, c.args.run.now.visits.pairs.ok.0))))
+    (λ d. refl)
+
+pub find_violations-requires-clause-range : goal.find_violations-requires-clause-range
+find_violations-requires-clause-range g c = ranges_all (g.P.ProgramView.program c.args.program.now) c.requires.before.ranges
+
+pub find_violations-requires-clause-visits : goal.find_violations-requires-clause-visits
+find_violations-requires-clause-visits g c =
+    let added = c.requires.added in
+    let p = g.P.ProgramView.program c.args.program.now in
+    subst (All (AreVisits p)) (sym c.deref.ensures.value) (are_visits p c.args.run.now.visits added.placed added.all added.grouped)
+
+pub find_violations-requires-clause-questions : goal.find_violations-requires-clause-questions
+find_violations-requires-clause-questions g c =
+    let added = c.requires.added in
+    let p = g.P.ProgramView.program c.args.program.now in
+    subst (λ (ps : List OpenPair). AreQuestions p (map (question_of p) ps)) (sym c.deref.ensures.value)
+    (are_questions p c.args.run.now.visits added.placed added.all added.grouped c.args.instance.now c.requires.before.before.before.before c.agents-agents.ensures.instance)
+
+pub returns-in_err-violations-clause-err : goal.returns-in_err-violations-clause-err
+returns-in_err-violations-clause-err g c =
+    let e = err_from_is_err_and c.from_residual.result c.from_residual.ensures.1 in
+    rw (e.1, e.2) tt
+
+pub returns-then-is_empty-2-clause-ok : goal.returns-then-is_empty-2-clause-ok
+returns-then-is_empty-2-clause-ok g c =
+    let p = g.P.ProgramView.program c.args.program.now in
+    let added = c.requires.added in
+    let found = c.in_ok-violations.violations in
+    let tells = subst (λ (ps : List OpenPair). (n : ℕ) → TellsFirstBad (λ _ o. HasNoChain p o) ps (length ps) n (get nat_eq found n)) c.deref.ensures.value c.in_ok-violations.ensures in
+    none_broken p added.placed (λ d. get nat_eq found (number_of d)) added.all added.each
+    (violations_are p c.args.run.now.visits added.placed added.all added.grouped (ranges_all p c.requires.before.ranges) (λ n. get nat_eq found n) tells)
+    (λ d. rw (no_entries found.entries (c.is_empty-2.ensures.0 c.if-is_empty-2.true)) refl)
+
+pub check_cells-requires-clause-violations : goal.check_cells-requires-clause-violations
+check_cells-requires-clause-violations g c =
+    let p = g.P.ProgramView.program c.args.program.now in
+    let added = c.requires.added in
+    let found = c.in_ok-violations.violations in
+    let tells = subst (λ (ps : List OpenPair). (n : ℕ) → TellsFirstBad (λ _ o. HasNoChain p o) ps (length ps) n (get nat_eq found n)) c.deref.ensures.value c.in_ok-violations.ensures in
+    record {
+      placed = added.placed;
+      all = added.all;
+      each = added.each;
+      violations = violations_are p c.args.run.now.visits added.placed added.all added.grouped (ranges_all p c.requires.before.ranges) (λ n. get nat_eq found n) tells;
+    }

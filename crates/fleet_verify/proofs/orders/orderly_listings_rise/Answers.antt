@@ -1,5 +1,5 @@
 use Rattle.std.proofs.Common.{◌<◌}
-use Rattle.fleet_model.specs.Visit.{ComesAfter, ComesAfterByChain}
+use Rattle.fleet_model.specs.Visit.{ComesAfterByAwait, ComesAfterByChain}
 use Rattle.fleet_verify.specs.Listing.{entry_level}
 use Rattle.fleet_verify.proofs.Neighbours.{adjacent_from}
 use Rattle.fleet_verify.proofs.Listing.{levels_number, listing_rises, after_reaches, await_chain}
@@ -12,5 +12,5 @@ returns c = record {
       (listing_rises p level (levels_number p level h) q (ComesAfterByChain p) (after_reaches p q) listing l a);
   by_await = λ p level q listing h range l a.
       adjacent_from (λ v w. entry_level level v < entry_level level w) listing
-      (listing_rises p level (levels_number p level h) q (ComesAfter p) (λ v w k o. after_reaches p q v w k (await_chain p range q v w k o)) listing l a);
+      (listing_rises p level (levels_number p level h) q (ComesAfterByAwait p) (λ v w k o. after_reaches p q v w k (await_chain p range q v w k o)) listing l a);
 }

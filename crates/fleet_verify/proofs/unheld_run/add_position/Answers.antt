@@ -1,8 +1,8 @@
-use Rattle.std.proofs.Common.{◌≡◌, ◌<◌, false, length, ap, sym, ◌∙◌, subst, arith, IsTrue}
+use Rattle.std.proofs.Common.{◌≡◌, false, ap, sym, ◌∙◌, subst, arith, IsTrue}
 use Rattle.fleet_model.specs.declared.geometry.Place.{Place}
 use Rattle.fleet_model.specs.declared.standing.Standing.{Standing}
 use Rattle.fleet_model.specs.Program.{path}
-use Rattle.fleet_model.specs.Machine.{place_at, count_at}
+use Rattle.fleet_model.specs.Machine.{count_at}
 use Rattle.fleet_grid.specs.Ground.{is_passable}
 use Rattle.fleet_verify.proofs.UnderWay.{on_path, within_moves}
 use Rattle.fleet_verify.proofs.unheld_run.add_position.Goals as goal

@@ -7,7 +7,7 @@ use Rattle.fleet_verify.specs.declared.unheld_run.UnheldRun.{UnheldRun}
 use Rattle.fleet_verify.specs.Faults.{HasRanges}
 use Rattle.fleet_verify.specs.Walk.{LeavesGround, IsRunOnGround, HasArrived}
 use Rattle.fleet_verify.proofs.Arrived.{all_right}
-use Rattle.fleet_verify.proofs.Stays.{ranges_all, chain_is, all_added, accepted}
+use Rattle.fleet_verify.proofs.Stays.{ranges_all, finish_is, chain_is, all_added, accepted}
 use Rattle.fleet_verify.proofs.verifier.judge.Goals as goal
 
 pub returns-in_err-check_fleet-clause-err : goal.returns-in_err-check_fleet-clause-err
@@ -43,6 +43,16 @@ check_order-requires-clause-added g c =
     let fin : is_finished p (run p [] run'.ticks) ≡ true = ap (is_finished p) (sym right.ended.here) ∙ arrived.finished in
     let ranges : HasRanges passable c.args.instance.now p = all_right p run'.ticks fin passable c.args.instance.now c.in_ok-check_starts.ensures.ok right.ended.runs.well_formed right.on_ground arrived.ends in
     all_added p run'.ticks right.ended.end fin run'.visits right.added (ranges_all p ranges.ranges)
+
+pub check_order-requires-clause-finish : goal.check_order-requires-clause-finish
+check_order-requires-clause-finish g c =
+    let p = g.P.ProgramView.program c.args.program.now in
+    let passable = is_passable c.args.grid.now in
+    let run' = c.in-Some.run' in
+    let right : IsRunOnGround passable p run' = subst (λ (r : Option UnheldRun). MatchOption r (LeavesGround passable p) (IsRunOnGround passable p)) c.in-Some.is c.in_ok-run.ensures in
+    let arrived : HasArrived c.args.instance.now p run'.machine.configuration = c.has_arrived.ensures.0 c.if-not-has_arrived.false in
+    let fin : is_finished p (run p [] run'.ticks) ≡ true = ap (is_finished p) (sym right.ended.here) ∙ arrived.finished in
+    finish_is p run'.ticks right.ended.end fin
 
 pub returns-clause-ok : goal.returns-clause-ok
 returns-clause-ok g c =

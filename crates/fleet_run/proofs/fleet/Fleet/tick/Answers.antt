@@ -18,7 +18,7 @@ returns-clause-safe g c =
     let before = c.self.inside.machine.configuration in
     let after : c.tick.new.self.configuration ≡ tick p held before =
     c.tick.ensures.after ∙ ap (λ q. tick (g.P.ProgramView.program q) held before) c.program.ensures.program in
-    let accepted = c.awaits_are_chains.ensures passable parts.instance p running.accepted_for.accepted in
+    let accepted = running.accepted_for.accepted in
     let step : IsSafeStep passable (length p) before (tick p held before) = c.ticks_are_safe.ensures.safe passable parts.instance p accepted before held running.reached in
     let here : IsSafeStep passable (length p) before c.tick.new.self.configuration = rw after step in
     rw (← c.self.view_is) here

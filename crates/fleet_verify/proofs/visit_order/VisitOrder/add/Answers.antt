@@ -1,10 +1,8 @@
 use Rattle.std.proofs.Common.{◌∙◌, sym, ◌++◌, ◌∷◌, [], ap}
-use Rattle.std.specs.Prelude.{nat_eq}
 use Rattle.std.proofs.lemmas.List.{map-append}
 use Rattle.std.proofs.lemmas.List.Elements.{All-push}
-use Rattle.indexmap.specs.IndexMap.{get}
 use Rattle.fleet_verify.specs.declared.visit_order.PlacedVisit.{PlacedVisit}
-use Rattle.fleet_verify.specs.Order.{IsPlaced, number_of}
+use Rattle.fleet_verify.specs.Order.{IsPlaced}
 use Rattle.fleet_verify.proofs.Ordered.{grouped_more, entry_more, entry_none}
 use Rattle.fleet_verify.proofs.visit_order.VisitOrder.add.Goals as goal
 
@@ -18,9 +16,7 @@ returns-in_ok-append g c = λ visits old.
       placed = old.placed ++ s ∷ [];
       same = map-append (λ (x : PlacedVisit). x.visit) old.placed (s ∷ []) ∙ (ap (λ vs. vs ++ s.visit ∷ []) old.same ∙ sym (entry_more p visits s.visit (sym c.begins_visit.ensures ∙ c.if-begins_visit.true)));
       each = All-push (IsPlaced p) old.placed s old.each c.requires.placed;
-      grouped = λ d is.
-          grouped_more p old.placed s d (get nat_eq w.last (number_of d)) (get nat_eq c.append.new.last (number_of d)) (get nat_eq w.violations (number_of d)) (get nat_eq c.append.new.violations (number_of d))
-          made.cell is (old.grouped d is) (made.last.0 (number_of d)) (made.others (number_of d)) (λ on. rw on (made.here));
+      grouped = grouped_more p old.placed s w (record { last = c.append.new.last; pairs = c.append.new.pairs }) made.cell old.grouped (λ n. made.last.0 n) made.pairs;
     }
 
 pub returns-else-begins_visit : goal.returns-else-begins_visit

@@ -7,5 +7,9 @@ returns c = λ p. record {
   placed = [];
   same = refl;
   each = λ k s l. absurd (omega arith);
-  grouped = λ d is. rw (c.new.ensures.empty, c.new-2.ensures.empty) (grouped_none p d);
+  grouped = record {
+    cells = λ d is. rw (c.new.ensures.empty, c.new-2.ensures.items) (grouped_none p d);
+    each = rw c.new-2.ensures.items (λ k s l. absurd (omega arith));
+    in_order = rw c.new-2.ensures.items (λ i j d l m. absurd (omega arith));
+  };
 }

@@ -1,0 +1,34 @@
+-- What is told of a program that is refused.
+use Rattle.std.proofs.Common.{ℕ, List, Option, inl}
+use Rattle.fleet_text.specs.Sink.{SinkState}
+use Rattle.fleet_model.specs.declared.task.Task.{Task}
+use Rattle.fleet_model.specs.Program.{Program}
+use Rattle.fleet_grid.specs.Ground.{Ground, is_passable}
+use Rattle.fleet_code.specs.Spelling.{Spells}
+use Rattle.fleet_verify.specs.Faults.{IsFault}
+use Rattle.fleet_verify.specs.Broken.{IsBrokenBy}
+use Rattle.fleet_verify.specs.declared.fault.VerifyFault.{VerifyFault}
+use Rattle.fleet_auto.specs.Texts.{AreTextsOf}
+use Rattle.fleet_cli.specs.VerifyCommand.{TellsRefused, RefusesProgram, IsVerifyFault}
+use Rattle.fleet_io.specs.declared.fault.Fault.{Fault}
+use Rattle.fleet_io.specs.declared.fault.Fault.TheVariants as f
+
+module _ (map scen : List ℕ) (asked : Option ℕ) (bytes : List ℕ) (out out' : SinkState) (g : Ground) (tasks : List Task) (p : Program) (fault : VerifyFault)
+  (texts : AreTextsOf map scen asked g tasks) (spelled : Spells bytes p) (refused : IsFault (is_passable g) tasks p fault) (broken : IsBrokenBy p fault) where
+  refuses : (told : Fault) → TellsRefused p fault out out' told → RefusesProgram map scen asked bytes out out' told
+  refuses told h = record { ground = g; tasks = tasks; texts = texts; program = p; spelled = spelled; fault = fault; refused = refused; broken = broken; tells = h }
+
+  -- however a refused program is told, it is a refusal of the command
+  pub told_refused : (told : Fault) → TellsRefused p fault out out' told → IsVerifyFault map scen asked bytes out out' told
+  told_refused f.Memory h = (tt, h)
+  told_refused (f.Verify e) h = refuses (f.Verify e) h
+  told_refused (f.File name) h = inl (refuses (f.File name) h)
+  told_refused (f.Map e) h = absurd h
+  told_refused (f.Scen e) h = absurd h
+  told_refused (f.Text e) h = absurd h
+  told_refused (f.Check e) h = absurd h
+  told_refused (f.Search e) h = absurd h
+  told_refused (f.Hex e) h = absurd h
+  told_refused (f.Load e) h = absurd h
+  told_refused (f.Compile e) h = absurd h
+  told_refused (f.Run e) h = absurd h

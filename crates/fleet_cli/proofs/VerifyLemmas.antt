@@ -14,7 +14,7 @@ use Rattle.fleet_io.specs.declared.fault.Fault.{Fault}
 use Rattle.fleet_io.specs.declared.fault.Fault.TheVariants as f
 
 module _ (map scen : List ℕ) (asked : Option ℕ) (bytes : List ℕ) (out out' : SinkState) (g : Ground) (tasks : List Task) (p : Program) (fault : VerifyFault)
-  (texts : AreTextsOf map scen asked g tasks) (spelled : Spells bytes p) (refused : IsFault (is_passable g) tasks p fault) (broken : IsBrokenBy p fault) where
+    (texts : AreTextsOf map scen asked g tasks) (spelled : Spells bytes p) (refused : IsFault (is_passable g) tasks p fault) (broken : IsBrokenBy p fault) where
   refuses : (told : Fault) → TellsRefused p fault out out' told → RefusesProgram map scen asked bytes out out' told
   refuses told h = record { ground = g; tasks = tasks; texts = texts; program = p; spelled = spelled; fault = fault; refused = refused; broken = broken; tells = h }
 

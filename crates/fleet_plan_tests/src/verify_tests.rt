@@ -154,10 +154,7 @@ fn a_need_through_another_agent_is_an_order(rt: HostRuntime) -> Result<(), Fail>
         ((0, 2), (1, 2), &[(Step::Go(Dir::East), &[(0, 1)])]),
         ((0, 0), (1, 0), &[(Step::Go(Dir::East), &[(1, 1)])]),
     ];
-    assert_eq!(rt;
-        verdict(&rt, rt.alloc(), map, scenario, &agents)?,
-        Ok(3)
-    );
+    assert_eq!(rt; verdict(&rt, rt.alloc(), map, scenario, &agents)?, Ok(3));
     Ok(())
 }
 

@@ -21,9 +21,7 @@ use crate::trace::{Report, run_trace};
 use fleet_machine::{Machine, Tick};
 use fleet_model::{Place, ProgramView, Step};
 use fleet_text::TraceOut;
-use fleet_verify::{
-    Accepted, ready_moves_are_apart, runs_arrive, runs_end, ticks_are_safe,
-};
+use fleet_verify::{Accepted, ready_moves_are_apart, runs_arrive, runs_end, ticks_are_safe};
 use std::alloc::Global;
 use std::marker::Model;
 

@@ -64,11 +64,7 @@ fn only_memory_may_be_refused(rt: HostRuntime) {
             prints(PAIR_ACCEPTED),
             file,
         ),
-        (
-            "verify pair.map pair.scen soon.program",
-            unordered,
-            file,
-        ),
+        ("verify pair.map pair.scen soon.program", unordered, file),
         (
             "run pair.map pair.scen pair.program --holds holds",
             prints(LATE_TRACE),

@@ -19,7 +19,7 @@ use Rattle.fleet_model.specs.Accepted.{IsAcceptedBy}
 use Rattle.fleet_model.proofs.Visits.{goes_next, goes_enters}
 use Rattle.fleet_model.proofs.Chains.{chain_first, Reaches-first, Reaches-last, Reaches-need}
 use Rattle.fleet_plan.specs.Plan.{Plan, cell_of, steps, IsConflictFree}
-use Rattle.fleet_verify.proofs.Chains.{Reaches-trans, Reaches-rises}
+use Rattle.fleet_model.proofs.Reaching.{Reaches-trans, Reaches-rises}
 use Rattle.fleet_verify.proofs.Listing.{awaits_accepted}
 use Rattle.fleet_chains.specs.Reduced.{DiffersInAwaits, HaveSameChains}
 use Rattle.fleet_verify.proofs.OrderedPairs.{two_ordered}

@@ -8,7 +8,7 @@ use Rattle.fleet_model.specs.Program.{Program}
 use Rattle.fleet_model.specs.Chain.{IsAction, DirectlyNeeds, Reaches, EndsChain, IsNumbering}
 use Rattle.fleet_verify.specs.Listing.{AreLevels}
 use Rattle.fleet_verify.specs.Rows.{IsCountedUp, IsRow, IsJoined}
-use Rattle.fleet_verify.proofs.Chains.{chain_join, own_reach, LastStep, last_step, Reaches-trans}
+use Rattle.fleet_model.proofs.Reaching.{chain_join, own_reach, LastStep, last_step, Reaches-trans}
 use Rattle.fleet_model.proofs.Chains.{chain_rises, Reaches-first, Reaches-last, Reaches-need}
 
 module _ (p : Program) (level : ActionId → ℕ) (h : (a : ActionId) → IsAction p a → IsCountedUp p level a) where

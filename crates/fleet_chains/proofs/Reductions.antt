@@ -6,7 +6,7 @@ use Rattle.fleet_model.specs.declared.program.ActionId.{ActionId}
 use Rattle.fleet_model.specs.Program.{Program, moves, awaits_of, AreInRange}
 use Rattle.fleet_model.specs.Chain.{IsAction, DirectlyNeeds, ChainFrom, Reaches, IsNumbering, awaited}
 use Rattle.fleet_model.proofs.Chains.{chain_first, chain_last, chain_rises, Reaches-first, Reaches-last, Reaches-need}
-use Rattle.fleet_verify.proofs.Chains.{Reaches-trans}
+use Rattle.fleet_model.proofs.Reaching.{Reaches-trans}
 use Rattle.fleet_verify.proofs.Members.{same_action}
 use Rattle.fleet_chains.specs.Reduced.{IsImplied, DiffersInAwaits, IsThinned, IsReduced, HaveSameChains}
 use Rattle.fleet_verify.proofs.Decide.{some-dec, action-dec, before_in, needs_before, Reaches-dec}

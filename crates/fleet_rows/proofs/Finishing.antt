@@ -18,7 +18,7 @@ use Rattle.fleet_model.proofs.Tick.{ready_left, ready_met}
 use Rattle.fleet_model.proofs.Runs.{tick_agree}
 use Rattle.fleet_machine.specs.Machine.{MachineState, Runs, flag_of, moving_flags}
 use Rattle.fleet_machine.specs.AgentSet.{IsNextFrom, AreNoneFrom}
-use Rattle.fleet_rows.specs.Block.{IsTicked}
+use Rattle.fleet_rows.specs.Takers.{IsTicked}
 use Rattle.fleet_rows.proofs.Free.{count, count_start, moves_on, stays, grows, done_reaches}
 
 -- a row without flags
@@ -81,7 +81,7 @@ module _ (p : Program) (m : MachineState) (t : ℕ) (h : IsTicked p m t) where
     pub agent_of : i < length p
     agent_of = let l : i < length m.moving = next.agent in omega (arith, l, h.runs.flags)
 
-    ready_of : is_ready p (run p [] t) i ≡ true
+    pub ready_of : is_ready p (run p [] t) i ≡ true
     ready_of = sym (flag_is i agent_of) ∙ next.member
 
     pub counted : count_at m.configuration i ≡ count p t i + 1
@@ -89,6 +89,10 @@ module _ (p : Program) (m : MachineState) (t : ℕ) (h : IsTicked p m t) where
 
     pub next_action_of : IsAction p (record { agent = i; number = count p t i + 1 })
     next_action_of = record { agent = agent_of; first = omega arith; last = (let l : count p t i < moves p i = ready_left p (run p [] t) i ready_of in omega arith) }
+
+    -- the action that the tick has finished, by its number
+    pub finished_action : (n : ℕ) → n ≡ count_at m.configuration i → ◌≡◌ {A = ActionId} (record { agent = i; number = n }) (record { agent = i; number = count p t i + 1 })
+    finished_action n e = λ s. record { agent = i; number = (e ∙ counted) s }
 
     pub awaits_met : (k : ℕ) (w : Await) → slice_get (awaits_of p i (count p t i + 1)) k ≡ Some w → w.count ≤ count p t w.agent
     awaits_met k w e =

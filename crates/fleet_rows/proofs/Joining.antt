@@ -8,11 +8,15 @@ use Rattle.fleet_model.specs.declared.program.Await.{Await}
 use Rattle.fleet_model.specs.Program.{Program, awaits_of, AreInRange}
 use Rattle.fleet_model.specs.Chain.{IsAction, Reaches, awaited}
 use Rattle.fleet_rows.specs.Rows.{IsColumn, ByAwait, IsPart}
-use Rattle.fleet_rows.proofs.Chains.{own_reach, LastStep, last_step, Reaches-trans}
+use Rattle.fleet_model.proofs.Reaching.{own_reach, LastStep, last_step, Reaches-trans}
 use Rattle.fleet_model.proofs.Chains.{Reaches-first, Reaches-last, Reaches-need}
 
 abbrev act : ℕ → ℕ → ActionId
 act j c = record { agent = j; number = c }
+
+-- an action by its agent and its number
+pub numbered : (a : ActionId) (n : ℕ) → n ≡ a.number → record { agent = a.agent; number = n } ≡ a
+numbered a n e = λ t. record { agent = a.agent; number = e t }
 
 -- before its first action nothing reaches an agent
 pub column_none : (p : Program) (i j : ℕ) → IsColumn p (record { agent = i; number = 0 }) j 0

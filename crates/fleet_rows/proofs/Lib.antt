@@ -1,7 +1,10 @@
-pub mod Chains
 pub mod Free
 pub mod Joining
 mod Lanes
 pub mod Placed
 pub mod Finishing
 pub mod Answering
+pub mod Keeping
+pub mod Freeing
+pub mod Noting
+pub mod Passing

@@ -7,8 +7,7 @@ use Rattle.fleet_model.specs.declared.program.ActionId.{ActionId}
 use Rattle.fleet_model.specs.Program.{Program, moves, total_moves}
 use Rattle.fleet_model.specs.Chain.{IsAction}
 use Rattle.fleet_model.proofs.Totals.{moves_more}
-use Rattle.fleet_rows.specs.Places.{ArePlaces}
-use Rattle.fleet_rows.specs.Block.{place_of}
+use Rattle.fleet_rows.specs.Places.{ArePlaces, place_of}
 
 -- more agents have as many actions or more
 rising : (p : Program) (i k : ℕ) → total_moves (take i p) ≤ total_moves (take (i + k) p)

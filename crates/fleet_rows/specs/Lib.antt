@@ -3,4 +3,7 @@ pub mod Columns
 pub mod Kernels
 pub mod Places
 pub mod Rows
+pub mod Kept
+pub mod Takers
 pub mod Block
+pub mod Pass

@@ -1,8 +1,13 @@
 -- The places of actions among all actions of a program.
-use Rattle.std.specs.Prelude.{◌≡◌, ℕ, ◌<◌, List, length, take, slice_index}
+use Rattle.std.specs.Prelude.{◌≡◌, ℕ, ◌+◌, ◌-◌, ◌<◌, List, length, take, slice_index}
+use Rattle.fleet_model.specs.declared.program.ActionId.{ActionId}
 use Rattle.fleet_model.specs.Program.{Program, total_moves}
 
 -- for each agent, how many actions those before it have together
 pub record ArePlaces (p : Program) (firsts : List ℕ) : Type 0 where
   pub all : length firsts ≡ length p
   pub each : (i : ℕ) → i < length p → slice_index firsts i ≡ total_moves (take i p)
+
+-- the place of an action among all
+abbrev pub place_of : List ℕ → ActionId → ℕ
+place_of firsts a = slice_index firsts a.agent + a.number - 1

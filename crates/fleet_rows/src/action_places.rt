@@ -1,7 +1,7 @@
 //! The places of actions among all actions of a program.
 
-ghost use Rattle.std.specs.Prelude.{◌≡◌, ◌+◌, ◌<◌, ◌≤◌, length, take, slice_index, IfOk};
-ghost use Rattle.fleet_model.specs.Program.{moves, total_moves};
+ghost use Rattle.std.specs.Prelude.{◌≡◌, ◌+◌, ◌<◌, ◌≤◌, length, slice_index, IfOk};
+ghost use Rattle.fleet_model.specs.Program.{moves};
 ghost use Rattle.fleet_rows.specs.Places.{ArePlaces};
 
 use fleet_model::{OutOfMemory, ProgramView};

@@ -1,6 +1,6 @@
 //! The columns of one block of rows.
 
-ghost use Rattle.std.specs.Prelude.{◌≡◌, ◌+◌, ◌<◌, ◌≤◌, true, length, get_or, Some, None, IfOk};
+ghost use Rattle.std.specs.Prelude.{◌≡◌, ◌+◌, ◌<◌, ◌≤◌, ℕ, length, get_or, Some, None, IfOk};
 ghost use Rattle.fleet_model.specs.declared.limits.TheConstants.{MAX_AGENTS};
 ghost use Rattle.fleet_rows.specs.Columns.{AreColumns};
 
@@ -44,6 +44,18 @@ impl Columns {
             of_agent,
             width,
             end,
+        })
+    }
+
+    /// No columns, for so many agents.
+    pub(crate) fn none(alloc: Global, agents: u16) -> Result<Columns, OutOfMemory>
+        ensures agents { IfOk result (λ columns. length columns.of_agent.items ≡ agents) }
+        ensures none { IfOk result (λ columns. (j : ℕ) → get_or columns.of_agent.items j None ≡ None) }
+    {
+        Ok(Columns {
+            of_agent: vec![in alloc; None; usize::from(agents)]?,
+            width: 0,
+            end: 0,
         })
     }
 

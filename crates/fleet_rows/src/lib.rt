@@ -4,8 +4,11 @@
 mod action_places;
 mod block;
 mod columns;
+mod kept_rows;
 mod kernels;
+mod pass;
 mod questions;
+mod takers;
 
 pub use kernels::{join_rows, row_covers};
 pub use questions::{Question, unreached};

@@ -1,14 +1,17 @@
 //! Questions for chains of needs, and their answers.
 
-ghost use Rattle.std.specs.Prelude.{◌≡◌, ◌<◌, ◌≤◌, ℕ, [], true, false, length, get_or, slice_get, Some, All, IfOk, OnOk};
+ghost use Rattle.std.specs.Prelude.{◌≡◌, ◌<◌, ◌≤◌, ℕ, [], true, false, length, get_or, slice_get, Some, None, All, IfOk, OnOk};
 ghost use Rattle.fleet_model.specs.Program.{AreInRange};
 ghost use Rattle.fleet_model.specs.Machine.{IsFinish};
-ghost use Rattle.fleet_rows.specs.Asked.{IsQuestion, AreQuestions, AreAnswers};
+ghost use Rattle.fleet_rows.specs.Asked.{AreQuestions, AreAnswers};
+ghost use Rattle.fleet_rows.specs.Block.{AreBlock};
 
 use crate::action_places::ActionPlaces;
-use crate::block::{Block, answer};
+use crate::block::Block;
 use crate::columns::Columns;
-use fleet_model::{ActionId, OutOfMemory, ProgramView, total_moves};
+use crate::pass::answer;
+use crate::takers::last_takers;
+use fleet_model::{ActionId, MAX_AGENTS, OutOfMemory, ProgramView};
 use std::alloc::Global;
 
 /// The question whether a chain of needs begins with the first action and ends with the last.
@@ -19,13 +22,12 @@ pub struct Question {
 }
 
 /// For each question whether no chain of needs begins with its first action and ends with its last. The program finishes
-/// after so many ticks where nobody is held. Of the rows at most so many columns are kept at a time, and at least 8.
+/// after so many ticks where nobody is held. Rows of counts are kept as long as some action is still to take them.
 pub fn unreached<P: ProgramView>(
     alloc: Global,
     program: &P,
     ticks: u32,
     questions: &[Question],
-    columns: u16,
 ) -> Result<Vec<bool>, OutOfMemory>
     requires range { AreInRange (P.program program.now) }
     requires finish { IsFinish (P.program program.now) [] ticks }
@@ -33,37 +35,20 @@ pub fn unreached<P: ProgramView>(
     ensures { IfOk result (λ flags. AreAnswers (P.program program.now) questions.now flags.items) }
 {
     let mut flags = vec![in alloc; false; questions.len()]?;
-    if !questions.is_empty() {
-        let asked = asked_agents(alloc, program.agents(), questions)?;
-        let most = columns_at_once(program, columns);
-        answer_all(
-            alloc,
-            program,
-            Passes {
-                ticks,
-                columns: most,
-            },
-            questions,
-            &asked,
-            &mut flags,
-        )?;
+    if questions.is_empty() {
+        return Ok(flags);
     }
+    let asked = asked_agents(alloc, program.agents(), questions)?;
+    let places = ActionPlaces::of(alloc, program)?;
+    let lasts = last_takers(alloc, program, &places, ticks)?;
+    let block = Block {
+        places,
+        ticks,
+        lasts,
+        columns: Columns::none(alloc, program.agents())?,
+    };
+    answer_all(alloc, program, block, questions, &asked, &mut flags)?;
     Ok(flags)
-}
-
-/// How many counts of rows are kept at a time: as many as take 128 MB.
-const COUNTS: u32 = 33_554_432;
-
-/// The least number of columns of a block.
-const LEAST_COLUMNS: u16 = 8;
-
-/// How many columns a block has: so many, but no more than there are counts for, and at least 8.
-fn columns_at_once<P: ProgramView>(program: &P, columns: u16) -> u16
-    ensures { 1 ≤ result }
-{
-    let fit = COUNTS / total_moves(program).max(1);
-    let most = fit.min(u32::from(columns)) as u16;
-    most.max(LEAST_COLUMNS)
 }
 
 /// Flags the agents whose columns some question asks for.
@@ -84,42 +69,66 @@ fn asked_agents(
     Ok(asked)
 }
 
-/// How many ticks a run without holds has, and how many columns a block has at most.
-#[derive(Clone, Copy, Debug)]
-struct Passes {
-    ticks: u32,
-    columns: u16,
-}
-
-/// Answers the questions block by block, each with so many columns at most.
+/// Answers the questions block by block, each with so many columns as there is room for.
 fn answer_all<P: ProgramView>(
     alloc: Global,
     program: &P,
-    passes: Passes,
+    block: Block,
     questions: &[Question],
     asked: &[bool],
     flags: &mut [bool],
 ) -> Result<(), OutOfMemory>
     requires range { AreInRange (P.program program.now) }
-    requires finish { IsFinish (P.program program.now) [] passes.ticks }
-    requires most { 1 ≤ passes.columns }
-    requires questions { All (IsQuestion (P.program program.now)) questions.now }
+    requires block { AreBlock (P.program program.now) block }
+    requires none { (j : ℕ) → get_or block.columns.of_agent.items j None ≡ None }
+    requires finish { IsFinish (P.program program.now) [] block.ticks }
+    requires questions { AreQuestions (P.program program.now) questions.now }
     requires asked { length asked.now ≡ length (P.program program.now) }
     requires flagged { (k : ℕ) (q : Question) → slice_get questions.now k ≡ Some q
         → get_or asked.now q.first.agent false ≡ true }
     requires flags { length flags.old ≡ length questions.now }
     ensures { OnOk result (AreAnswers (P.program program.now) questions.now flags.new) }
 {
-    let Passes { ticks, columns } = passes;
+    let mut block = block;
+    let most = columns_at_once(alloc, program, &block, questions, asked)?;
     let agents = program.agents();
     let mut from = 0;
     while from < agents {
-        let block = Block {
-            places: ActionPlaces::of(alloc, program)?,
-            columns: Columns::choose(alloc, asked, from, columns)?,
-        };
-        answer(alloc, program, &block, ticks, questions, flags)?;
+        block.columns = Columns::choose(alloc, asked, from, most)?;
+        answer(alloc, program, &block, questions, flags)?;
         from = block.columns.end;
     }
     Ok(())
+}
+
+/// There is room for so many counts of rows at once, or for as many as the program has actions: 16 MB.
+const COUNTS: usize = 4_194_304;
+
+/// The least number of columns of a block.
+const LEAST_COLUMNS: usize = 8;
+
+/// How many columns a block has: all that are asked for where the rows of all actions have room; else as many as the most rows
+/// have that are kept at once, and at least 8.
+fn columns_at_once<P: ProgramView>(
+    alloc: Global,
+    program: &P,
+    block: &Block,
+    questions: &[Question],
+    asked: &[bool],
+) -> Result<u16, OutOfMemory>
+    requires range { AreInRange (P.program program.now) }
+    requires block { AreBlock (P.program program.now) block.now }
+    requires finish { IsFinish (P.program program.now) [] block.now.ticks }
+    requires questions { AreQuestions (P.program program.now) questions.now }
+    requires asked { length asked.now ≡ length (P.program program.now) }
+    ensures { IfOk result (λ columns. 1 ≤ columns) }
+{
+    let actions = block.lasts.len();
+    let all = asked.iter().filter(|&&asked| asked).count();
+    if all.saturating_mul(actions) <= COUNTS {
+        return Ok(MAX_AGENTS as u16);
+    }
+    let rows = answer(alloc, program, block, &[], &mut [])?;
+    let fit = COUNTS.max(actions) / rows.max(1);
+    Ok(fit.clamp(LEAST_COLUMNS, MAX_AGENTS) as u16)
 }

@@ -6,7 +6,7 @@ use Rattle.fleet_model.specs.Machine.{Holds, is_held, run, held_ticks, IsLeast, 
 use Rattle.fleet_model.specs.Chain.{IsAction, DirectlyNeeds, Reaches, EndsChain, IsLevel, IsNumbering}
 use Rattle.fleet_verify.proofs.Counts.{counts, readies, run_counts}
 use Rattle.fleet_model.proofs.Chains.{ends_within, ends_action}
-use Rattle.fleet_verify.proofs.Chains.{ends_more, numbers_bound}
+use Rattle.fleet_model.proofs.Reaching.{ends_more, numbers_bound}
 use Rattle.fleet_verify.proofs.Finished.{chain_due}
 use Rattle.fleet_verify.proofs.Held.{run_held, held_at_most, finished_all}
 use Rattle.fleet_verify.proofs.Least.{least_of}

@@ -1,5 +1,4 @@
 pub mod Members
-pub mod Chains
 pub mod Counts
 pub mod Readiness
 pub mod Finished

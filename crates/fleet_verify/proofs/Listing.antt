@@ -15,7 +15,7 @@ use Rattle.fleet_model.specs.Accepted.{IsAcceptedBy}
 use Rattle.fleet_verify.specs.Listing.{AreLevels, entry_level, IsBefore, IsSortedListing}
 use Rattle.fleet_model.proofs.Visits.{next_upto}
 use Rattle.fleet_model.proofs.Chains.{Reaches-first, Reaches-last, Reaches-need}
-use Rattle.fleet_verify.proofs.Chains.{chain_join, own_reach, Reaches-rises, Reaches-trans}
+use Rattle.fleet_model.proofs.Reaching.{chain_join, own_reach, Reaches-rises, Reaches-trans}
 use Rattle.fleet_verify.proofs.Members.{contains_none}
 use Rattle.fleet_verify.proofs.Neighbours.{adjacent_at, adjacent_from, same_neighbours}
 

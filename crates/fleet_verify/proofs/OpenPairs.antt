@@ -27,7 +27,7 @@ use Rattle.fleet_verify.specs.Faults.{HasStarts, IsFirstBreak}
 use Rattle.fleet_verify.specs.Listing.{entry_level, IsBefore}
 use Rattle.fleet_verify.specs.Order.{number_of, visits_of, IsJudged, AreAllPlaced, AreViolations, AreGrouped, IsOpen, AreNeighbours, StandsBefore}
 use Rattle.fleet_verify.specs.OpenPairs.{AreVisits, question_of, violation_of, HasNoChain, IsFirstBad, TellsFirstBad, IsFlagged}
-use Rattle.fleet_verify.proofs.Chains.{own_reach, Reaches-rises}
+use Rattle.fleet_model.proofs.Reaching.{own_reach, Reaches-rises}
 use Rattle.fleet_verify.proofs.Decide.{Reaches-dec}
 use Rattle.fleet_verify.proofs.Listing.{levels_number, await_chain, entry_start, entry_later, before_rank}
 use Rattle.fleet_verify.proofs.Neighbours.{adjacent_at, adjacent_from, any_two}

@@ -10,7 +10,7 @@ use Rattle.fleet_model.specs.Chain.{IsAction, Reaches}
 use Rattle.fleet_model.specs.Visit.{next_move, IsVisit, IsVisitOf, ListsVisits, Adjacent, ComesAfterByChain, entering, leaving}
 use Rattle.fleet_model.proofs.Chains.{Reaches-first, Reaches-last}
 use Rattle.fleet_model.specs.Visit.{AreUnordered}
-use Rattle.fleet_verify.proofs.Chains.{Reaches-trans, own_reach}
+use Rattle.fleet_model.proofs.Reaching.{Reaches-trans, own_reach}
 use Rattle.fleet_verify.proofs.Listing.{after_reaches, chained}
 use Rattle.fleet_verify.proofs.Neighbours.{any_two, Found, place_in}
 

@@ -6,7 +6,7 @@ ghost use Rattle.fleet_model.specs.declared.program.ActionId.{ActionId};
 ghost use Rattle.fleet_model.specs.declared.program.Visit.{Visit};
 ghost use Rattle.fleet_model.specs.Program.{Program, moves, AreInRange};
 ghost use Rattle.fleet_model.specs.Machine.{Configuration, Holds, run, count_at};
-ghost use Rattle.fleet_model.specs.Chain.{IsAction, DirectlyNeeds, IsNumbering, Reaches};
+ghost use Rattle.fleet_model.specs.Chain.{IsNumbering, Reaches};
 ghost use Rattle.fleet_model.specs.Visit.{ListsVisits, Adjacent, ComesAfterByChain, IsOrderly, entering, leaving};
 ghost use Rattle.fleet_model.specs.declared.task.Task.{Task};
 ghost use Rattle.fleet_model.specs.Accepted.{IsRight, IsAcceptedBy};
@@ -16,7 +16,7 @@ ghost use Rattle.fleet_model.specs.Breaking.{IsHeldBack, IsPrepared, AreBreaking
 ghost use Rattle.fleet_verify.specs.Faults.{IsUnordered};
 ghost use Rattle.fleet_verify.specs.Listing.{AreLevels, IsSortedListing};
 ghost use Rattle.fleet_model.specs.Run.{RunsWell};
-ghost use Rattle.fleet_verify.specs.Rows.{IsCountedUp, IsRow, IsJoined};
+ghost use Rattle.fleet_verify.specs.Rows.{IsRow};
 
 /// After the breaking holds of two visits of a place without an order, both agents stand on that
 /// place.

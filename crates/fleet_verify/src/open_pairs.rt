@@ -1,6 +1,6 @@
 //! The open pairs of visits that no chain of needs orders.
 
-ghost use Rattle.std.specs.Prelude.{◌≡◌, ◌≢◌, ◌≤◌, ℕ, [], nat_eq, length, map, All, Some, IfOk, OnOk};
+ghost use Rattle.std.specs.Prelude.{◌≡◌, ◌≢◌, ℕ, [], nat_eq, length, map, All, Some, IfOk, OnOk};
 ghost use Rattle.std.specs.Option.{option_or};
 ghost use Rattle.indexmap.specs.IndexMap.{get};
 ghost use Rattle.fleet_model.specs.Program.{AreInRange};
@@ -11,16 +11,10 @@ ghost use Rattle.fleet_verify.specs.Order.{number_of};
 ghost use Rattle.fleet_verify.specs.OpenPairs.{question_of, violation_of, AreVisits, HasNoChain, IsFlagged, TellsFirstBad};
 
 use crate::visit_order::{OpenPair, number_of};
-use fleet_model::{ActionId, OutOfMemory, ProgramView, Step, Visit, total_moves};
+use fleet_model::{ActionId, OutOfMemory, ProgramView, Step, Visit};
 use fleet_rows::{Question, unreached};
 use indexmap::IndexMap;
 use std::alloc::Global;
-
-/// The fewest columns that are kept at a time to answer questions for chains.
-const MIN_COLUMNS: u32 = 8;
-
-/// The most columns that are kept at a time to answer questions for chains.
-const MAX_COLUMNS: u32 = 1024;
 
 /// Visits of a cell, one right after the other, of which the second may not come after the first.
 #[derive(Clone, Copy, Debug, Drop)]
@@ -46,7 +40,7 @@ pub fn find_violations<P: ProgramView>(
         pairs.now (length pairs.now) n (get nat_eq found n)) }
 {
     let questions = questions_of(alloc, program, pairs)?;
-    let flags = unreached(alloc, program, ticks, &questions, columns_for(program))?;
+    let flags = unreached(alloc, program, ticks, &questions)?;
     first_flagged(alloc, pairs, &flags)
 }
 
@@ -97,15 +91,6 @@ fn leaving<P: ProgramView>(program: &P, visit: Visit) -> ActionId
         agent,
         number: moves + 1,
     }
-}
-
-/// As many columns as an agent has actions on average, so that all that are kept take about as much memory as the program.
-fn columns_for<P: ProgramView>(program: &P) -> u16
-    ensures least { MIN_COLUMNS ≤ result }
-    ensures most { result ≤ MAX_COLUMNS }
-{
-    let average = total_moves(program) / u32::from(program.agents());
-    average.clamp(MIN_COLUMNS, MAX_COLUMNS) as u16
 }
 
 /// By the number of each cell its first pair that is flagged.

@@ -1,6 +1,6 @@
 //! Whether the visits of each cell come one after another.
 
-ghost use Rattle.std.specs.Prelude.{◌≡◌, ◌<◌, nat_eq, Some, None, OnOk, IfErr, [], ℕ};
+ghost use Rattle.std.specs.Prelude.{◌≡◌, ◌<◌, nat_eq, Some, None, OnOk, IfErr, []};
 ghost use Rattle.indexmap.specs.IndexMap.{get};
 ghost use Rattle.fleet_model.specs.declared.geometry.Cell.{Cell};
 ghost use Rattle.fleet_model.specs.Machine.{IsFinish};

@@ -1,7 +1,7 @@
 //! The visits in the order in which they begin, grouped by cell, and neighbours among them of which the second does not await that
 //! the first is left.
 
-ghost use Rattle.std.specs.Prelude.{◌≡◌, ◌≢◌, ◌↔◌, ◌++◌, ◌<◌, ◌≤◌, [], ◌∷◌, ℕ, length, nat_eq, IsTrue, OnOk, Some};
+ghost use Rattle.std.specs.Prelude.{◌≡◌, ◌↔◌, ◌++◌, ◌<◌, ◌≤◌, [], ◌∷◌, length, nat_eq, IsTrue, OnOk, Some};
 ghost use Rattle.indexmap.specs.IndexMap.{get, Updates};
 ghost use Rattle.fleet_model.specs.Program.{moves, IsCell};
 ghost use Rattle.fleet_model.specs.Visit.{is_entry, leaving, IsVisit, ComesAfterByAwait};

@@ -16,7 +16,7 @@ use Rattle.fleet_worked.proofs.Computed.{at_all_positions, at_position, at_all_a
 use Rattle.fleet_worked.proofs.ComputedVisits.{is_visit_of, visit_is}
 use Rattle.fleet_model.proofs.Places.{is_same_place-true}
 use Rattle.fleet_model.proofs.Chains.{Reaches-first}
-use Rattle.fleet_verify.proofs.Chains.{Reaches-trans, own_reach}
+use Rattle.fleet_model.proofs.Reaching.{Reaches-trans, own_reach}
 use Rattle.fleet_model.specs.Visit.{AreUnordered}
 use Rattle.fleet_model.specs.Breaking.{IsNeededFor, IsHeldBack, IsPrepared, AreBreakingHolds}
 use Rattle.fleet_chains.specs.Needed.{AreNeeded}

@@ -1,11 +1,11 @@
-use Rattle.std.proofs.Common.{◌≡◌, ◌+◌, ◌*◌, ◌≤◌, ℕ, length, slice_index, sym, subst, ◌∙◌, ap, arith}
-use Rattle.fleet_model.specs.Program.{total_moves}
+use Rattle.std.proofs.Common.{◌≡◌, ◌≤◌, ℕ, length, slice_index, sym, subst, ◌∙◌, ap, arith}
 use Rattle.fleet_model.specs.declared.program.ActionId.{ActionId}
 use Rattle.fleet_model.specs.Chain.{IsAction}
 use Rattle.fleet_rows.specs.Rows.{IsColumn}
-use Rattle.fleet_rows.specs.Block.{place_of}
+use Rattle.fleet_rows.specs.Kept.{IsKept, count_in, mark_of}
+use Rattle.fleet_rows.specs.Places.{place_of}
 use Rattle.fleet_rows.proofs.Joining.{column_none}
-use Rattle.fleet_rows.proofs.Placed.{row_within, place_is}
+use Rattle.fleet_rows.proofs.Placed.{place_within, place_is}
 use Rattle.fleet_rows.proofs.block.begin_row.Goals as goal
 
 pub returns-then-finished-eq0 : goal.returns-then-finished-eq0
@@ -15,25 +15,27 @@ returns-then-finished-eq0 g c = λ j k h.
     subst (λ (n : ℕ). IsColumn p (record { agent = c.args.agent; number = n }) j (slice_index c.clear_row.new.row k)) (sym e)
     (subst (λ (v : ℕ). IsColumn p (record { agent = c.args.agent; number = 0 }) j v) (sym (c.clear_row.ensures k)) (column_none p c.args.agent j))
 
-pub read_row-requires : goal.read_row-requires
-read_row-requires g c =
+pub read_into-requires-clause-action : goal.read_into-requires-clause-action
+read_into-requires-clause-action g c =
     let p = g.P.ProgramView.program c.args.program.now in
-    let w = c.args.block.now.columns.width in
-    let e : c.from-width.result ≡ w = c.from-width.ensures in
     let f : 1 ≤ c.args.finished = omega (arith, c.if-finished-eq0.false) in
     let a : ActionId = record { agent = c.args.agent; number = c.args.finished } in
     let k : IsAction p a = record { agent = c.requires.agent; first = f; last = c.requires.finished } in
-    let l : c.place.result * w + w ≤ total_moves p * w = row_within p c.args.block.now.places.firsts.items c.requires.block.places a k w c.place.result c.place.ensures in
-    rw e (omega (arith, l, c.requires.counts, c.requires.row))
+    let l = place_within p c.args.block.now.places.firsts.items c.requires.block.places a k in
+    omega (arith, l, place_is c.args.block.now.places.firsts.items a c.place.result c.place.ensures, c.requires.kept.actions)
+
+pub read_into-requires-clause-kept : goal.read_into-requires-clause-kept
+read_into-requires-clause-kept g c =
+    let f : 1 ≤ c.args.finished = omega (arith, c.if-finished-eq0.false) in
+    let a : ActionId = record { agent = c.args.agent; number = c.args.finished } in
+    subst (IsKept c.args.kept.now) (sym (place_is c.args.block.now.places.firsts.items a c.place.result c.place.ensures)) (c.requires.before f).kept
 
 pub returns : goal.returns
 returns g c = λ j k h.
     let p = g.P.ProgramView.program c.args.program.now in
-    let w = c.args.block.now.columns.width in
-    let e : c.from-width.result ≡ w = c.from-width.ensures in
     let f : 1 ≤ c.args.finished = omega (arith, c.if-finished-eq0.false) in
     let a : ActionId = record { agent = c.args.agent; number = c.args.finished } in
     let at = place_is c.args.block.now.places.firsts.items a c.place.result c.place.ensures in
     let l = c.requires.block.within j k h in
-    let read = c.read_row.ensures k (omega (arith, l, c.requires.row)) in
-    subst (λ (v : ℕ). IsColumn p a j v) (sym (read ∙ ap (λ (x : ℕ). slice_index c.args.counts.now (x * c.from-width.result + k)) at ∙ ap (λ (x : ℕ). slice_index c.args.counts.now (place_of c.args.block.now.places.firsts.items a * x + k)) e)) (c.requires.before f j k h)
+    let read = c.read_into.ensures k (omega (arith, l, c.requires.row)) in
+    subst (λ (v : ℕ). IsColumn p a j v) (sym (read ∙ ap (λ (x : ℕ). count_in c.args.kept.now (mark_of c.args.kept.now x) k) at)) ((c.requires.before f).counts j k h)

@@ -1,11 +1,25 @@
-use Rattle.std.proofs.Common.{◌≡◌, ◌<◌, ℕ, length, arith}
+use Rattle.std.proofs.Common.{◌≡◌, ◌<◌, ℕ, length, ◌∙◌, arith}
 use Rattle.fleet_rows.proofs.Answering.{answered_to, question_at}
 use Rattle.fleet_rows.proofs.questions.answer_all.Goals as goal
 
+pub answer-requires-clause-block : goal.answer-requires-clause-block
+answer-requires-clause-block g c = record {
+  places = c.loop-from.invariant.places;
+  all = c.loop-from.invariant.all;
+  noted = c.loop-from.invariant.noted;
+  agents = c.in_ok-block.ensures.agents ∙ c.requires.asked;
+  within = c.in_ok-block.ensures.within;
+  apart = c.in_ok-block.ensures.apart;
+}
+
 pub loop-from-preserved : goal.loop-from-preserved
 loop-from-preserved g c = record {
-  answered = answered_to (g.P.ProgramView.program c.args.program.now) c.args.asked.now c.loop-from.from c.in_ok-choose.field-0 c.in_ok-choose.ensures c.args.questions.now c.loop-from.flags c.answer.new.flags
+  answered = answered_to (g.P.ProgramView.program c.args.program.now) c.args.asked.now c.loop-from.from c.in_ok-block.field-0 c.in_ok-block.ensures c.args.questions.now c.loop-from.flags c.answer.new.flags
       c.in_ok-answer.ensures c.requires.flagged c.loop-from.invariant.answered;
+  places = c.loop-from.invariant.places;
+  all = c.loop-from.invariant.all;
+  noted = c.loop-from.invariant.noted;
+  finish = c.loop-from.invariant.finish;
 }
 
 pub returns : goal.returns
@@ -13,6 +27,6 @@ returns g c = record {
   all = omega (arith, c.loop-from.auto.flags, c.requires.flags);
   each = λ k q e.
       let p = g.P.ProgramView.program c.args.program.now in
-      let agent : q.first.agent < length p = (question_at p c.args.questions.now c.requires.questions k q e).agent in
+      let agent : q.first.agent < length p = (question_at p c.args.questions.now c.requires.questions.each k q e).agent in
       c.loop-from.invariant.answered k q e (omega (arith, agent, c.loop-from-test.false, c.agents-agents.ensures.count));
 }

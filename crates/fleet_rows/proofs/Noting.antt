@@ -1,0 +1,81 @@
+-- The last takers of actions, noted tick by tick.
+use Rattle.std.proofs.Common.{rules, ◌≡◌, ℕ, ◌+◌, ◌<◌, ◌≤◌, Bool, true, false, List, [], length, get_or, slice_index, refl, sym, ap, subst, ◌∙◌, arith, inl, inr, ◌⊎◌}
+use Rattle.std.specs.Prelude.{slice_get, Some, Contains}
+use Rattle.std.proofs.lemmas.Bool.{cases_lt, cases_eq}
+use Rattle.std.proofs.lemmas.Option.{slice_get-get_or}
+use Rattle.fleet_model.specs.declared.program.ActionId.{ActionId}
+use Rattle.fleet_model.specs.declared.program.Await.{Await}
+use Rattle.fleet_model.specs.Program.{Program, awaits_of}
+use Rattle.fleet_model.specs.Machine.{run, count_at, is_ready}
+use Rattle.fleet_model.specs.Chain.{IsAction, DirectlyNeeds, awaited}
+use Rattle.fleet_machine.specs.Machine.{MachineState, flag_of}
+use Rattle.fleet_machine.specs.AgentSet.{IsNextFrom, AreNoneFrom}
+use Rattle.fleet_rows.specs.Places.{place_of}
+use Rattle.fleet_rows.specs.Takers.{IsTicked, AreRaised, IsNotedFor, IsNotedAt, AreNoted}
+
+-- what an action needs is the one before, or one that it awaits
+pub noted_for : (p : Program) (firsts : List ℕ) (a : ActionId) (tick : ℕ) (lasts : List ℕ)
+    → (2 ≤ a.number → (n : ℕ) → n + 1 ≡ a.number → tick ≤ slice_index lasts (place_of firsts (record { agent = a.agent; number = n })))
+    → ((k : ℕ) (w : Await) → slice_get (awaits_of p a.agent a.number) k ≡ Some w → tick ≤ slice_index lasts (place_of firsts (awaited w)))
+    → IsNotedFor p firsts a tick lasts
+noted_for p firsts a tick lasts own others b k (inl (same, number, some)) =
+    let e : b ≡ record { agent = a.agent; number = b.number } = (λ t. record { agent = (sym same) t; number = b.number }) in
+    subst (λ (x : ActionId). tick ≤ slice_index lasts (place_of firsts x)) (sym e) (own (omega arith) b.number (omega arith))
+noted_for p firsts a tick lasts own others b k (inr w) =
+    others w.0 (record { agent = b.agent; count = b.number }) (slice_get-get_or _ _ _ w.1 ∙ ap Some w.2)
+
+-- one await more that is noted
+pub awaited_more : (p : Program) (firsts : List ℕ) (a : ActionId) (tick k x : ℕ) (v : Await) (old new : List ℕ) → AreRaised old new
+    → ((m : ℕ) (w : Await) → m < k → slice_get (awaits_of p a.agent a.number) m ≡ Some w → tick ≤ slice_index old (place_of firsts (awaited w)))
+    → slice_get (awaits_of p a.agent a.number) k ≡ Some v → x ≡ place_of firsts (awaited v) → tick ≤ slice_index new x
+    → (m : ℕ) (w : Await) → m < k + 1 → slice_get (awaits_of p a.agent a.number) m ≡ Some w → tick ≤ slice_index new (place_of firsts (awaited w))
+awaited_more p firsts a tick k x v old new raised before at there noted m w l here = elim (cases_eq m k) [
+  | inl e ↦
+      let same : w ≡ v = some_same w v (sym here ∙ ap (slice_get (awaits_of p a.agent a.number)) e ∙ at) in
+      subst (λ (u : Await). tick ≤ slice_index new (place_of firsts (awaited u))) (sym same) (subst (λ (y : ℕ). tick ≤ slice_index new y) there noted)
+  | inr ne ↦
+      let low : tick ≤ slice_index old (place_of firsts (awaited w)) = before m w (omega arith) here in
+      let up : slice_index old (place_of firsts (awaited w)) ≤ slice_index new (place_of firsts (awaited w)) = raised.1 (place_of firsts (awaited w)) in
+      omega arith
+]
+  where
+    some_same : (y z : Await) → Some y ≡ Some z → y ≡ z
+    some_same y z e = search rules
+
+-- what was noted before stays noted
+pub noted_still : (p : Program) (firsts : List ℕ) (t n : ℕ) (old new : List ℕ) → AreRaised old new → IsNotedAt p firsts t n old → IsNotedAt p firsts t n new
+noted_still p firsts t n old new raised h i l agent ready b k needs =
+    let up : slice_index old (place_of firsts b) ≤ slice_index new (place_of firsts b) = raised.1 (place_of firsts b) in
+    omega (arith, h i l agent ready b k needs)
+
+pub raised_self : (xs : List ℕ) → AreRaised xs xs
+raised_self xs = (refl, λ k. omega arith)
+
+pub raised_on : (old mid new : List ℕ) → AreRaised old mid → AreRaised mid new → AreRaised old new
+raised_on old mid new h k = (k.0 ∙ h.0, λ n. let a : slice_index old n ≤ slice_index mid n = h.1 n in let b : slice_index mid n ≤ slice_index new n = k.1 n in omega arith)
+
+module _ (p : Program) (firsts : List ℕ) (m : MachineState) (t : ℕ) (h : IsTicked p m t) where
+  -- one agent more whose needs are noted, and none between who moved
+  pub noted_more : (from i : ℕ) (old new : List ℕ) → IsNextFrom m.moving from i → AreRaised old new → IsNotedAt p firsts t from old
+      → IsNotedFor p firsts (record { agent = i; number = count_at (run p [] t) i + 1 }) (t + 1) new → IsNotedAt p firsts t (i + 1) new
+  noted_more from i old new next raised before here j l agent ready = elim (cases_lt j from) [
+    | inl low ↦ noted_still p firsts t from old new raised before j low agent ready
+    | inr high ↦ elim (cases_eq j i) [
+      | inl e ↦ subst (λ (x : ℕ). IsNotedFor p firsts (record { agent = x; number = count_at (run p [] t) x + 1 }) (t + 1) new) (sym e) here
+      | inr ne ↦ absurd (let moved : flag_of m.moving j ≡ true = h.moved j agent ∙ ready in let none : flag_of m.moving j ≡ false = next.between j high (omega arith) in cc)
+    ]
+  ]
+
+  -- and nobody after moved
+  pub noted_all : (from : ℕ) (lasts : List ℕ) → AreNoneFrom m.moving from → IsNotedAt p firsts t from lasts → IsNotedAt p firsts t (length p) lasts
+  noted_all from lasts none before j l agent ready = elim (cases_lt j from) [
+    | inl low ↦ before j low agent ready
+    | inr high ↦ absurd (let moved : flag_of m.moving j ≡ true = h.moved j agent ∙ ready in let off : flag_of m.moving j ≡ false = none j high in cc)
+  ]
+
+-- one tick more
+pub noted_tick : (p : Program) (firsts : List ℕ) (t : ℕ) (old new : List ℕ) → AreRaised old new → AreNoted p firsts t old → IsNotedAt p firsts t (length p) new → AreNoted p firsts (t + 1) new
+noted_tick p firsts t old new raised before here s l = elim (cases_eq s t) [
+  | inl e ↦ subst (λ (x : ℕ). IsNotedAt p firsts x (length p) new) (sym e) here
+  | inr ne ↦ noted_still p firsts s (length p) old new raised (before s (omega arith))
+]

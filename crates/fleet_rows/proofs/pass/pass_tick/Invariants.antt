@@ -1,0 +1,14 @@
+use Rattle.std.proofs.Common.{◌≡◌, ◌≤◌, ◌-◌, length}
+use Rattle.fleet_rows.specs.Pass.{IsDoneMid, IsPassed, AreOthersLeft}
+use Rattle.fleet_rows.proofs.pass.pass_tick.Given as goal
+
+abbrev pub invariant-loop-agent : goal.invariant-loop-agent
+invariant-loop-agent g l = record {
+  passed : IsPassed (g.P.ProgramView.program l.program) l.block l.questions (IsDoneMid (g.P.ProgramView.program l.program) l.fn.pass.tick l.from) l.flags l.pass;
+  tick : l.pass.tick ≡ l.fn.pass.tick;
+  others : AreOthersLeft l.block.columns l.questions l.fn.flags l.flags;
+  within : l.from ≤ length (g.P.ProgramView.program l.program);
+}
+
+abbrev pub decreases-loop-agent : goal.decreases-loop-agent
+decreases-loop-agent g l = length l.machine.moving - l.from

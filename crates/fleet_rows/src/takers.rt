@@ -1,0 +1,144 @@
+//! The last ticks in which actions are taken by those that directly need them.
+
+ghost use Rattle.std.specs.Prelude.{◌≡◌, ◌+◌, ◌<◌, ◌≤◌, ℕ, [], length, slice_index, slice_get, Some, IfOk, OnOk};
+ghost use Rattle.fleet_model.specs.Program.{AreInRange, awaits_of, total_moves};
+ghost use Rattle.fleet_model.specs.declared.program.Await.{Await};
+ghost use Rattle.fleet_model.specs.Chain.{IsAction, awaited};
+ghost use Rattle.fleet_rows.specs.Places.{ArePlaces, place_of};
+ghost use Rattle.fleet_rows.specs.Takers.{IsTicked, AreRaised, AreNoted, IsNotedFor, IsNotedAt};
+
+use crate::action_places::ActionPlaces;
+use fleet_machine::Machine;
+use fleet_model::{ActionId, MAX_AGENTS, OutOfMemory, ProgramView, total_moves};
+use std::alloc::Global;
+
+/// More ticks no run without holds counts.
+const MAX_TICKS: u32 = u32::MAX;
+
+/// For each action, by its place, the last of so many ticks in which an action is finished that directly needs it, or 0.
+/// Ticks count from 1.
+pub(crate) fn last_takers<P: ProgramView>(
+    alloc: Global,
+    program: &P,
+    places: &ActionPlaces,
+    ticks: u32,
+) -> Result<Vec<u32>, OutOfMemory>
+    requires range { AreInRange (P.program program.now) }
+    requires places { ArePlaces (P.program program.now) places.now.firsts.items }
+    ensures all { IfOk result (λ lasts. length lasts.items ≡ total_moves (P.program program.now)) }
+    ensures noted { IfOk result (λ lasts.
+        AreNoted (P.program program.now) places.now.firsts.items ticks lasts.items) }
+{
+    let mut lasts = vec![in alloc; 0; total_moves(program) as usize]?;
+    note_ticks(alloc, program, places, ticks, &mut lasts)?;
+    Ok(lasts)
+}
+
+/// Notes what is taken in each of so many ticks.
+fn note_ticks<P: ProgramView>(
+    alloc: Global,
+    program: &P,
+    places: &ActionPlaces,
+    ticks: u32,
+    lasts: &mut [u32],
+) -> Result<(), OutOfMemory>
+    requires range { AreInRange (P.program program.now) }
+    requires places { ArePlaces (P.program program.now) places.now.firsts.items }
+    requires all { length lasts.old ≡ total_moves (P.program program.now) }
+    ensures { OnOk result (AreNoted (P.program program.now) places.now.firsts.items ticks lasts.new) }
+{
+    let mut machine = Machine::start(alloc, program)?;
+    let nobody = [false; MAX_AGENTS];
+    let nobody = &nobody[..program.agents() as usize];
+    for t in 0..ticks {
+        machine.tick(program, nobody);
+        note_moved(program, places, &machine, t, lasts);
+    }
+    Ok(())
+}
+
+/// Notes what the actions take that the last tick has finished, which came after so many ticks.
+fn note_moved<P: ProgramView>(
+    program: &P,
+    places: &ActionPlaces,
+    machine: &Machine,
+    ticks: u32,
+    lasts: &mut [u32],
+)
+    requires range { AreInRange (P.program program.now) }
+    requires places { ArePlaces (P.program program.now) places.now.firsts.items }
+    requires all { length lasts.old ≡ total_moves (P.program program.now) }
+    requires ticked { IsTicked (P.program program.now) machine.now ticks }
+    requires few { ticks < MAX_TICKS }
+    ensures raised { AreRaised lasts.old lasts.new }
+    ensures noted { IsNotedAt (P.program program.now) places.now.firsts.items ticks
+        (length (P.program program.now)) lasts.new }
+{
+    let _ = program.agents();
+    let mut from = 0;
+    while let Some(agent) = machine.next_moved(from) {
+        let number = machine.agent(agent).count;
+        note_needed(
+            program,
+            places,
+            ActionId { agent, number },
+            ticks + 1,
+            lasts,
+        );
+        from = agent + 1;
+    }
+}
+
+/// Notes that this tick takes what the action directly needs.
+fn note_needed<P: ProgramView>(
+    program: &P,
+    places: &ActionPlaces,
+    action: ActionId,
+    tick: u32,
+    lasts: &mut [u32],
+)
+    requires range { AreInRange (P.program program.now) }
+    requires places { ArePlaces (P.program program.now) places.now.firsts.items }
+    requires all { length lasts.old ≡ total_moves (P.program program.now) }
+    requires action { IsAction (P.program program.now) action }
+    ensures raised { AreRaised lasts.old lasts.new }
+    ensures noted { IsNotedFor (P.program program.now) places.now.firsts.items action tick lasts.new }
+{
+    note_awaited(program, places, action, tick, lasts);
+    if action.number > 1 {
+        raise(lasts, places.place(action.agent, action.number - 1), tick);
+    }
+}
+
+/// Notes that this tick takes what the action awaits.
+fn note_awaited<P: ProgramView>(
+    program: &P,
+    places: &ActionPlaces,
+    action: ActionId,
+    tick: u32,
+    lasts: &mut [u32],
+)
+    requires range { AreInRange (P.program program.now) }
+    requires places { ArePlaces (P.program program.now) places.now.firsts.items }
+    requires all { length lasts.old ≡ total_moves (P.program program.now) }
+    requires action { IsAction (P.program program.now) action }
+    ensures raised { AreRaised lasts.old lasts.new }
+    ensures noted { (k : ℕ) (w : Await)
+        → slice_get (awaits_of (P.program program.now) action.agent action.number) k ≡ Some w
+        → tick ≤ slice_index lasts.new (place_of places.now.firsts.items (awaited w)) }
+{
+    let ActionId { agent, number } = action;
+    for k in 0..program.await_count(agent, number) {
+        let awaited = program.await_at(agent, number, k);
+        raise(lasts, places.place(awaited.agent, awaited.count), tick);
+    }
+}
+
+/// Leaves the greater of the entry and the tick.
+fn raise(lasts: &mut [u32], place: usize, tick: u32)
+    requires { place < length lasts.old }
+    ensures raised { AreRaised lasts.old lasts.new }
+    ensures noted { tick ≤ slice_index lasts.new place }
+{
+    lasts[place] = lasts[place].max(tick);
+}

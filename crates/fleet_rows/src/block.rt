@@ -12,12 +12,13 @@ use crate::columns::Columns;
 use crate::kept_rows::KeptRows;
 use fleet_model::{ActionId, ProgramView};
 
-/// Where the actions stand, the last of so many ticks that takes each, and the columns of their rows.
+/// Where the actions stand, the last of so many ticks that takes each, the most rows that are kept at once, and their columns.
 #[derive(Drop)]
 pub(crate) struct Block {
     pub(crate) places: ActionPlaces,
     pub(crate) ticks: u32,
     pub(crate) lasts: Vec<u32>,
+    pub(crate) rows: usize,
     pub(crate) columns: Columns,
 }
 

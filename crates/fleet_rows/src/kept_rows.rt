@@ -52,11 +52,6 @@ impl KeptRows {
         })
     }
 
-    /// The most rows that were kept at once.
-    pub(crate) fn most(&self) -> usize {
-        self.slots.len()
-    }
-
     /// Whether the row of an action is kept.
     fn is_kept(&self, action: usize) -> bool
         requires { action < length self.now.marks.items }

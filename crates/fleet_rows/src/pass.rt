@@ -28,15 +28,14 @@ pub(crate) struct Pass {
     tick: u32,
 }
 
-/// Flags the questions whose agents have a column: whether no chain leads from the first action to the last. Answers the most
-/// rows that were kept at once.
+/// Flags the questions whose agents have a column: whether no chain leads from the first action to the last.
 pub(crate) fn answer<P: ProgramView>(
     alloc: Global,
     program: &P,
     block: &Block,
     questions: &[Question],
     flags: &mut [bool],
-) -> Result<usize, OutOfMemory>
+) -> Result<(), OutOfMemory>
     requires block { AreBlock (P.program program.now) block.now }
     requires range { AreInRange (P.program program.now) }
     requires finish { IsFinish (P.program program.now) [] block.now.ticks }
@@ -51,7 +50,7 @@ pub(crate) fn answer<P: ProgramView>(
         tick: 0,
     };
     run_on(alloc, program, block, questions, flags, &mut pass)?;
-    Ok(pass.kept.most())
+    Ok(())
 }
 
 /// Passes over all ticks.

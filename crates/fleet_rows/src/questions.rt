@@ -40,11 +40,13 @@ pub fn unreached<P: ProgramView>(
     }
     let asked = asked_agents(alloc, program.agents(), questions)?;
     let places = ActionPlaces::of(alloc, program)?;
-    let lasts = last_takers(alloc, program, &places, ticks)?;
+    let takers = last_takers(alloc, program, &places, ticks)?;
+    let rows = takers.most_rows(alloc)?;
     let block = Block {
         places,
         ticks,
-        lasts,
+        lasts: takers.lasts,
+        rows,
         columns: Columns::none(alloc, program.agents())?,
     };
     answer_all(alloc, program, block, questions, &asked, &mut flags)?;
@@ -90,7 +92,7 @@ fn answer_all<P: ProgramView>(
     ensures { OnOk result (AreAnswers (P.program program.now) questions.now flags.new) }
 {
     let mut block = block;
-    let most = columns_at_once(alloc, program, &block, questions, asked)?;
+    let most = columns_at_once(&block);
     let agents = program.agents();
     let mut from = 0;
     while from < agents {
@@ -107,28 +109,10 @@ const COUNTS: usize = 4_194_304;
 /// The least number of columns of a block.
 const LEAST_COLUMNS: usize = 8;
 
-/// How many columns a block has: all that are asked for where the rows of all actions have room; else as many as the most rows
-/// have that are kept at once, and at least 8.
-fn columns_at_once<P: ProgramView>(
-    alloc: Global,
-    program: &P,
-    block: &Block,
-    questions: &[Question],
-    asked: &[bool],
-) -> Result<u16, OutOfMemory>
-    requires range { AreInRange (P.program program.now) }
-    requires block { AreBlock (P.program program.now) block.now }
-    requires finish { IsFinish (P.program program.now) [] block.now.ticks }
-    requires questions { AreQuestions (P.program program.now) questions.now }
-    requires asked { length asked.now ≡ length (P.program program.now) }
-    ensures { IfOk result (λ columns. 1 ≤ columns) }
+/// How many columns a block has at most: as many as there is room for, where the most rows are kept at once, and at least 8.
+fn columns_at_once(block: &Block) -> u16
+    ensures { 1 ≤ result }
 {
-    let actions = block.lasts.len();
-    let all = asked.iter().filter(|&&asked| asked).count();
-    if all.saturating_mul(actions) <= COUNTS {
-        return Ok(MAX_AGENTS as u16);
-    }
-    let rows = answer(alloc, program, block, &[], &mut [])?;
-    let fit = COUNTS.max(actions) / rows.max(1);
-    Ok(fit.clamp(LEAST_COLUMNS, MAX_AGENTS) as u16)
+    let room = COUNTS.max(block.lasts.len()) / block.rows.max(1);
+    room.clamp(LEAST_COLUMNS, MAX_AGENTS) as u16
 }

@@ -15,33 +15,66 @@ use std::alloc::Global;
 /// More ticks no run without holds counts.
 const MAX_TICKS: u32 = u32::MAX;
 
-/// For each action, by its place, the last of so many ticks in which an action is finished that directly needs it, or 0.
-/// Ticks count from 1.
+/// For each action, by its place, the last tick in which an action is finished that directly needs it, or 0; and how many actions
+/// each tick finishes. Ticks count from 1.
+#[derive(Drop)]
+pub(crate) struct Takers {
+    pub(crate) lasts: Vec<u32>,
+    moved: Vec<u16>,
+}
+
+impl Takers {
+    /// How many rows are kept at once at most, where a row is kept from the tick that finishes its action to the last that takes it.
+    pub(crate) fn most_rows(&self, alloc: Global) -> Result<usize, OutOfMemory> {
+        let gone = self.taken_last(alloc)?;
+        let mut kept: usize = 0;
+        let mut most = 0;
+        for (t, &moved) in self.moved.iter().enumerate() {
+            kept = kept.saturating_add(usize::from(moved));
+            most = most.max(kept);
+            kept = kept.saturating_sub(gone.get(t).map_or(0, |&rows| rows as usize));
+        }
+        Ok(most)
+    }
+
+    /// For each tick how many rows it is the last to take.
+    fn taken_last(&self, alloc: Global) -> Result<Vec<u32>, OutOfMemory> {
+        let mut gone = vec![in alloc; 0u32; self.moved.len()]?;
+        for &last in &self.lasts {
+            if let Some(rows) = gone.get_mut((last as usize).wrapping_sub(1)) {
+                *rows = rows.saturating_add(1);
+            }
+        }
+        Ok(gone)
+    }
+}
+
+/// The last takers of all actions in so many ticks.
 pub(crate) fn last_takers<P: ProgramView>(
     alloc: Global,
     program: &P,
     places: &ActionPlaces,
     ticks: u32,
-) -> Result<Vec<u32>, OutOfMemory>
+) -> Result<Takers, OutOfMemory>
     requires range { AreInRange (P.program program.now) }
     requires places { ArePlaces (P.program program.now) places.now.firsts.items }
-    ensures all { IfOk result (λ lasts. length lasts.items ≡ total_moves (P.program program.now)) }
-    ensures noted { IfOk result (λ lasts.
-        AreNoted (P.program program.now) places.now.firsts.items ticks lasts.items) }
+    ensures all { IfOk result (λ takers. length takers.lasts.items ≡ total_moves (P.program program.now)) }
+    ensures noted { IfOk result (λ takers.
+        AreNoted (P.program program.now) places.now.firsts.items ticks takers.lasts.items) }
 {
     let mut lasts = vec![in alloc; 0; total_moves(program) as usize]?;
-    note_ticks(alloc, program, places, ticks, &mut lasts)?;
-    Ok(lasts)
+    let moved = note_ticks(alloc, program, places, ticks, &mut lasts)?;
+    Ok(Takers { lasts, moved })
 }
 
-/// Notes what is taken in each of so many ticks.
+/// Notes what is taken in each of so many ticks, and counts the actions that each finishes.
 fn note_ticks<P: ProgramView>(
     alloc: Global,
     program: &P,
     places: &ActionPlaces,
     ticks: u32,
     lasts: &mut [u32],
-) -> Result<(), OutOfMemory>
+) -> Result<Vec<u16>, OutOfMemory>
     requires range { AreInRange (P.program program.now) }
     requires places { ArePlaces (P.program program.now) places.now.firsts.items }
     requires all { length lasts.old ≡ total_moves (P.program program.now) }
@@ -50,11 +83,12 @@ fn note_ticks<P: ProgramView>(
     let mut machine = Machine::start(alloc, program)?;
     let nobody = [false; MAX_AGENTS];
     let nobody = &nobody[..program.agents() as usize];
+    let mut moved = Vec::new(alloc);
     for t in 0..ticks {
-        machine.tick(program, nobody);
+        moved.push(machine.tick(program, nobody).moved)?;
         note_moved(program, places, &machine, t, lasts);
     }
-    Ok(())
+    Ok(moved)
 }
 
 /// Notes what the actions take that the last tick has finished, which came after so many ticks.

@@ -1,5 +1,6 @@
-use Rattle.std.proofs.Common.{◌≡◌, ◌≤◌, [], ℕ, false, length, ◌∙◌, arith}
+use Rattle.std.proofs.Common.{◌≡◌, ◌≤◌, [], ℕ, false, length, subst, ◌∙◌, arith}
 use Rattle.fleet_model.specs.declared.limits.TheConstants.{MAX_AGENTS}
+use Rattle.fleet_rows.specs.Takers.{AreNoted}
 use Rattle.fleet_rows.proofs.Finishing.{none_flagged, ticks_on, flags_are, length_flagged}
 use Rattle.fleet_rows.proofs.Noting.{noted_tick}
 use Rattle.fleet_rows.proofs.takers.note_ticks.Goals as goal
@@ -34,3 +35,9 @@ loop-t-preserved g c =
       nobody = c.loop-t.invariant.nobody;
       noted = noted_tick p c.args.places.now.firsts.items c.loop-t.t c.loop-t.lasts c.note_moved.new.lasts c.note_moved.ensures.raised c.loop-t.invariant.noted c.note_moved.ensures.noted;
     }
+
+pub returns : goal.returns
+returns g c =
+    let p = g.P.ProgramView.program c.args.program.now in
+    let e : c.loop-t.t ≡ c.args.ticks = omega arith in
+    subst (λ (n : ℕ). AreNoted p c.args.places.now.firsts.items n c.loop-t.lasts) e c.loop-t.invariant.noted

@@ -1,5 +1,5 @@
--- What is told of a program that is refused.
-use Rattle.std.proofs.Common.{ℕ, List, Option, inl}
+-- What is told of a program that is accepted, or refused.
+use Rattle.std.proofs.Common.{◌≡◌, ℕ, List, Option, sym, subst, inl}
 use Rattle.fleet_text.specs.Sink.{SinkState}
 use Rattle.fleet_model.specs.declared.task.Task.{Task}
 use Rattle.fleet_model.specs.Program.{Program}
@@ -7,11 +7,20 @@ use Rattle.fleet_grid.specs.Ground.{Ground, is_passable}
 use Rattle.fleet_code.specs.Spelling.{Spells}
 use Rattle.fleet_verify.specs.Faults.{IsFault}
 use Rattle.fleet_verify.specs.Broken.{IsBrokenBy}
+use Rattle.fleet_verify.specs.Parts.{IsAcceptedFor}
 use Rattle.fleet_verify.specs.declared.fault.VerifyFault.{VerifyFault}
 use Rattle.fleet_auto.specs.Texts.{AreTextsOf}
+use Rattle.fleet_auto.specs.Accepting.{Accepts}
 use Rattle.fleet_cli.specs.VerifyCommand.{TellsRefused, RefusesProgram, IsVerifyFault}
 use Rattle.fleet_io.specs.declared.fault.Fault.{Fault}
 use Rattle.fleet_io.specs.declared.fault.Fault.TheVariants as f
+
+-- a program that is handed back accepted is spelled by the same bytes
+pub returned_accepts : (bytes : List ℕ) (g : Ground) (tasks : List Task) (p made : Program) (chain : ℕ) → Spells bytes p → made ≡ p → IsAcceptedFor g tasks p chain → Accepts bytes g tasks made chain
+returned_accepts bytes g tasks p made chain spelled same accepted = record {
+  spelled = subst (Spells bytes) (sym same) spelled;
+  accepted_for = subst (λ q. IsAcceptedFor g tasks q chain) (sym same) accepted;
+}
 
 module _ (map scen : List ℕ) (asked : Option ℕ) (bytes : List ℕ) (out out' : SinkState) (g : Ground) (tasks : List Task) (p : Program) (fault : VerifyFault)
     (texts : AreTextsOf map scen asked g tasks) (spelled : Spells bytes p) (refused : IsFault (is_passable g) tasks p fault) (broken : IsBrokenBy p fault) where

@@ -49,6 +49,11 @@ flags_are p nobody none t c here flags moved i l =
     free true = refl
     free false = refl
 
+-- both at once
+pub ticked : (p : Program) (nobody : List Bool) → ((i : ℕ) → flag_of nobody i ≡ false) → (t : ℕ) (c : Configuration) → c ≡ run p [] t → (m : MachineState) → Runs p m
+    → m.configuration ≡ tick p (flag_of nobody) c → m.moving ≡ moving_flags p (flag_of nobody) c → IsTicked p m t
+ticked p nobody none t c here m runs after moving = record { runs = runs; here = ticks_on p nobody none t c m.configuration here after; moved = flags_are p nobody none t c here m.moving moving }
+
 pub length_flagged : (n m : ℕ) → n ≤ m → length (take n (replicate m false)) ≡ n
 length_flagged n m fits = ap length (take-replicate n m false fits) ∙ length-replicate n false
 

@@ -4,7 +4,7 @@ use Rattle.std.specs.Prelude.{Some, None}
 use Rattle.std.proofs.lemmas.Bool.{cases_eq}
 use Rattle.fleet_rows.specs.declared.kept_rows.KeptRows.{KeptRows}
 use Rattle.fleet_rows.specs.declared.kept_rows.Slot.{Slot}
-use Rattle.fleet_rows.specs.Kept.{IsSound, IsKept, IsLast, slot_at, mark_of, count_in, HasSame, IsKeptAlike, IsKeptMore, IsReleased}
+use Rattle.fleet_rows.specs.Kept.{IsSound, IsKept, IsLast, slot_at, mark_of, count_in, HasSame, IsKeptAlike, IsKeptMore, IsReleased, IsVacated}
 
 -- where mark, slot and counts are as before
 alike : (old new : KeptRows) (b : ℕ) → mark_of new b ≡ mark_of old b → (slot_at new (mark_of old b)).owner ≡ (slot_at old (mark_of old b)).owner
@@ -74,15 +74,6 @@ module _ (old new : KeptRows) (a s : ℕ) (vacant : (slot_at old s).owner ≡ No
   filled = record { actions = h.actions; width = h.width; kept = kept; others = others; lasts = lasts }
 
 -- ---- one row less
-
-pub record IsVacated (old new : KeptRows) (a : ℕ) : Type 0 where
-  pub actions : length new.marks.items ≡ length old.marks.items
-  pub width : new.width ≡ old.width
-  pub mark : mark_of new a ≡ (slot_at old (mark_of old a)).last
-  pub marks : (b : ℕ) → b ≢ a → mark_of new b ≡ mark_of old b
-  pub owner : (slot_at new (mark_of old a)).owner ≡ None
-  pub slots : (t : ℕ) → t ≢ mark_of old a → slot_at new t ≡ slot_at old t
-  pub counts : (t k : ℕ) → count_in new t k ≡ count_in old t k
 
 module _ (old new : KeptRows) (a : ℕ) (sound : IsSound old) (had : IsKept old a) (h : IsVacated old new a) where
   pub none_owns : (t : ℕ) → (slot_at new t).owner ≡ Some a → ⊥
@@ -220,3 +211,7 @@ module _ (old mid : KeptRows) (h : HasSame old mid) where
     before = λ g. alike_after new a (m.before g);
     lasts = λ b n l. m.lasts b n (last b n l);
   }
+
+-- and so of one that has left its slot
+pub released : (old mid new : KeptRows) (a tick : ℕ) → IsVacated mid new a → IsSound mid → IsKept mid a → (slot_at mid (mark_of mid a)).last ≤ tick → HasSame old mid → IsReleased old new a tick
+released old mid new a tick h sound had late same = released_after_same old mid same new a tick (vacated mid new a sound had h tick late)

@@ -55,6 +55,16 @@ pub record IsKeptMore (old new : KeptRows) (a : ℕ) : Type 0 where
   pub others : (b : ℕ) → b ≢ a → IsKeptAlike old new b
   pub lasts : (b n : ℕ) → IsLast old b n → IsLast new b n
 
+-- the row of one action has left its slot, and the action has its last taker again
+pub record IsVacated (old new : KeptRows) (a : ℕ) : Type 0 where
+  pub actions : length new.marks.items ≡ length old.marks.items
+  pub width : new.width ≡ old.width
+  pub mark : mark_of new a ≡ (slot_at old (mark_of old a)).last
+  pub marks : (b : ℕ) → b ≢ a → mark_of new b ≡ mark_of old b
+  pub owner : (slot_at new (mark_of old a)).owner ≡ None
+  pub slots : (t : ℕ) → t ≢ mark_of old a → slot_at new t ≡ slot_at old t
+  pub counts : (t k : ℕ) → count_in new t k ≡ count_in old t k
+
 -- the row of one action has gone where no tick after this one takes it, and nothing else has changed
 pub record IsReleased (old new : KeptRows) (a tick : ℕ) : Type 0 where
   pub actions : length new.marks.items ≡ length old.marks.items

@@ -1,7 +1,7 @@
 //! Rows that are kept for those that take them later.
 
 ghost use Rattle.std.specs.Prelude.{◌≡◌, ◌+◌, ◌*◌, ◌<◌, ◌≤◌, ◌↔◌, ℕ, length, get_or, max, slice_index, Some, None, IfOk, IsTrue};
-ghost use Rattle.fleet_rows.specs.Kept.{IsSound, IsKept, IsLast, slot_at, mark_of, count_in, HasSame, IsKeptMore, IsReleased};
+ghost use Rattle.fleet_rows.specs.Kept.{IsSound, IsKept, IsLast, slot_at, mark_of, count_in, HasSame, IsKeptMore, IsReleased, IsVacated};
 
 use crate::kernels::join_rows;
 use fleet_model::OutOfMemory;
@@ -196,9 +196,9 @@ impl KeptRows {
         requires sound { IsSound self.old }
         requires action { action < length self.old.marks.items }
         requires kept { IsKept self.old action }
-        ensures sound { IsSound self.new }
-        ensures released { (tick : ℕ) → (slot_at self.old (mark_of self.old action)).last ≤ tick
-            → IsReleased self.old self.new action tick }
+        ensures vacated { IsVacated self.old self.new action }
+        ensures slots { length self.new.slots.items ≡ length self.old.slots.items }
+        ensures counts { length self.new.counts.items ≡ length self.old.counts.items }
     {
         let slot = self.marks[action] as usize;
         self.marks[action] = self.slots[slot].last;
@@ -215,9 +215,7 @@ fn write_row(counts: &mut [u32], from: usize, row: &[u32])
     ensures after { (n : ℕ) → from + length row.now ≤ n
         → get_or counts.new n 0 ≡ get_or counts.old n 0 }
 {
-    for k in 0..row.len() {
-        counts[from + k] = row[k];
-    }
+    counts[from..from + row.len()].copy_from_slice(row);
 }
 
 /// Whether the slot has the row of the action.

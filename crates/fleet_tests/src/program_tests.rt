@@ -114,10 +114,36 @@ fn breaking_holds_are_printed(rt: HostRuntime) -> Result<(), Fail> {
     Ok(())
 }
 
+/// Agent 0 stands on its goal, and agent 1 comes through there. The file `holds` has the scenario.
+#[test]
+fn a_standing_agent_is_met_though_nobody_is_held(rt: HostRuntime) -> Result<(), Fail> {
+    let program = b"4D504631 0002 0001 0000 0001 0000 0000 0000 0000 0002 0000 0002 01 01";
+    let scenario = b"version 1\n0 m 4 1 1 0 1 0 0\n0 m 4 1 0 0 2 0 2\n";
+    let answer = Answer {
+        printed: b"-\n",
+        told: b"verify 8 Unordered cell 1,0 first 0:0 second 1:1\n",
+        status: 1,
+    };
+    let line = "verify pair.map holds program";
+    expect_program(&rt, rt.alloc(), line, (program, scenario), answer)
+}
+
+/// Agent 2 of the relay enters the cell that agent 0 has left, and awaits agent 1.
+const RELAY_TRACE: &[u8] = b"0: 1,0 0,2 0,0
+1: 2,0 0,2 0,0
+2: 2,0 1,2 0,0
+3: 2,0 1,2 1,0
+agents 3
+ticks 3
+chain 3
+held 0
+";
+
 #[test]
 fn accepted_programs_run(rt: HostRuntime) -> Result<(), Fail> {
     let cell = b"0: 0,0\nagents 1\nticks 0\nchain 0\nheld 0\n".as_slice();
-    let rows: [(&str, &[u8], &[u8], &[u8]); 6] = [
+    let rows: [(&str, &[u8], &[u8], &[u8]); 7] = [
+        ("run relay.map relay.scen program", RELAY, b"", RELAY_TRACE),
         (RUN, PAIR, b"", PAIR_TRACE),
         (RUN, PAIR, b"1\n", PAIR_TRACE),
         (RUN, PAIR, b"0\n", LATE_TRACE),

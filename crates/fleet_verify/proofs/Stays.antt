@@ -25,10 +25,12 @@ use Rattle.fleet_verify.proofs.Members.{contains_head, contains_later, contains_
 use Rattle.fleet_verify.proofs.Listing.{levels_number}
 use Rattle.fleet_verify.proofs.Neighbours.{adjacent_from}
 use Rattle.fleet_verify.specs.declared.visit_order.PlacedVisit.{PlacedVisit}
-use Rattle.fleet_verify.specs.Walk.{begun_in}
+use Rattle.fleet_verify.specs.Walk.{begun_in, IsRunOnGround, HasArrived}
+use Rattle.fleet_verify.specs.declared.unheld_run.UnheldRun.{UnheldRun}
+use Rattle.fleet_verify.proofs.Arrived.{all_right}
 use Rattle.fleet_verify.specs.Order.{visits_of, entries, AreAllPlaced, IsPlaced, AreAdded, AreAllAdded}
 use Rattle.fleet_verify.specs.declared.visit_order.VisitOrder.{VisitOrder}
-use Rattle.fleet_verify.specs.Faults.{HasRanges, AwaitsRight, EachAction}
+use Rattle.fleet_verify.specs.Faults.{HasStarts, HasRanges, AwaitsRight, EachAction}
 use Rattle.fleet_model.proofs.Places.{is_same_place-true, is_same_place-eq}
 use Rattle.fleet_verify.proofs.FreeRun.{level, levels_are, order_all, IsOrder}
 
@@ -198,3 +200,27 @@ accepted passable tasks p stays h all o = record {
         let s : Some t.start ≡ Some (start_of p i) = sym (ap (option_map (λ (u : Task). u.start)) e) ∙ h.before.before.before.starts i l in
         let g : Some t.goal ≡ Some (goal_of p i) = sym (ap (option_map (λ (u : Task). u.goal)) e) ∙ (h.before.before.ends i l).goal in
         (sym (same_Some t.start (start_of p i) s), sym (same_Some t.goal (goal_of p i) g))
+
+-- ---- a run without holds that arrives
+
+-- all that is judged agent by agent is right, the visits kept are all visits, and the number of ticks is that of the longest chain
+pub record WholeRun (p : Program) (passable : Place → Bool) (tasks : List Task) (r : UnheldRun) : Type 0 where
+  pub ranges : HasRanges passable tasks p
+  pub added : AreAllAdded p r.visits
+  pub finish : IsFinish p [] r.ticks
+  pub longest : IsLongestChain p r.ticks
+
+pub whole_run : (p : Program) (passable : Place → Bool) (tasks : List Task) (r : UnheldRun) → HasStarts tasks p → IsRunOnGround passable p r → HasArrived tasks p r.machine.configuration
+    → WholeRun p passable tasks r
+whole_run p passable tasks r starts right arrived = record {
+  ranges = ranges;
+  added = all_added p r.ticks right.ended.end fin r.visits right.added (ranges_all p ranges.ranges);
+  finish = finish_is p r.ticks right.ended.end fin;
+  longest = chain_is p r.ticks right.ended.end fin (ranges_all p ranges.ranges);
+}
+  where
+    fin : is_finished p (run p [] r.ticks) ≡ true
+    fin = ap (is_finished p) (sym right.ended.here) ∙ arrived.finished
+
+    ranges : HasRanges passable tasks p
+    ranges = all_right p r.ticks fin passable tasks starts right.ended.runs.well_formed right.on_ground arrived.ends

@@ -3,8 +3,7 @@ use Rattle.fleet_code.specs.Spelling.{Spells}
 use Rattle.fleet_grid.specs.Ground.{is_passable}
 use Rattle.fleet_verify.specs.Faults.{IsFault}
 use Rattle.fleet_verify.specs.Broken.{IsBrokenBy}
-use Rattle.fleet_verify.specs.Parts.{IsAcceptedFor}
-use Rattle.fleet_cli.proofs.VerifyLemmas.{told_refused}
+use Rattle.fleet_cli.proofs.VerifyLemmas.{returned_accepts, told_refused}
 use Rattle.fleet_cli.proofs.verify_command.verify_bytes.Goals as goal
 
 pub returns-in-Err : goal.returns-in-Err
@@ -25,10 +24,7 @@ returns-in-Ok-print_accepted g c = (
       texts = c.in_ok-problem.ensures.read;
       program = c.in-Ok.accepted.program;
       chain = c.in-Ok.accepted.chain;
-      accepts = record {
-        spelled = subst (Spells c.args.bytes.now) (sym (c.in-Ok.ensures.kept.0)) c.in_ok-program.ensures.spelled;
-        accepted_for = subst (λ p. IsAcceptedFor c.in_ok-problem.problem.grid c.in_ok-problem.problem.instance p c.in-Ok.accepted.chain) (sym (c.in-Ok.ensures.kept.0)) c.in-Ok.ensures.accepted;
-      };
+      accepts = returned_accepts c.args.bytes.now c.in_ok-problem.problem.grid c.in_ok-problem.problem.instance _ c.in-Ok.accepted.program c.in-Ok.accepted.chain c.in_ok-program.ensures.spelled c.in-Ok.ensures.kept.0 c.in-Ok.ensures.accepted;
     };
     delivered = c.in-Ok-print_accepted.ensures;
   },
@@ -43,10 +39,7 @@ returns g c = inr (
     texts = c.in_ok-problem.ensures.read;
     program = c.in-Ok.accepted.program;
     chain = c.in-Ok.accepted.chain;
-    accepts = record {
-      spelled = subst (Spells c.args.bytes.now) (sym (c.in-Ok.ensures.kept.0)) c.in_ok-program.ensures.spelled;
-      accepted_for = subst (λ p. IsAcceptedFor c.in_ok-problem.problem.grid c.in_ok-problem.problem.instance p c.in-Ok.accepted.chain) (sym (c.in-Ok.ensures.kept.0)) c.in-Ok.ensures.accepted;
-    };
+    accepts = returned_accepts c.args.bytes.now c.in_ok-problem.problem.grid c.in_ok-problem.problem.instance _ c.in-Ok.accepted.program c.in-Ok.accepted.chain c.in_ok-program.ensures.spelled c.in-Ok.ensures.kept.0 c.in-Ok.ensures.accepted;
   },
   refl,
   c.in-Err-print_accepted.ensures,

@@ -2,7 +2,7 @@ use Rattle.std.proofs.Common.{◌≡◌, ◌≤◌, ◌+◌, [], ℕ, false, len
 use Rattle.fleet_model.specs.declared.limits.TheConstants.{MAX_AGENTS}
 use Rattle.fleet_rows.specs.Takers.{IsTicked}
 use Rattle.fleet_rows.specs.Pass.{IsDone, IsPassed}
-use Rattle.fleet_rows.proofs.Finishing.{none_flagged, ticks_on, flags_are, length_flagged}
+use Rattle.fleet_rows.proofs.Finishing.{none_flagged, ticked, length_flagged}
 use Rattle.fleet_rows.proofs.Passing.{passed_tick}
 use Rattle.fleet_rows.proofs.pass.run_on.Goals as goal
 
@@ -20,12 +20,8 @@ loop-t-init g c = record {
 pub pass_tick-requires-clause-ticked : goal.pass_tick-requires-clause-ticked
 pass_tick-requires-clause-ticked g c =
     let p = g.P.ProgramView.program c.args.program.now in
-    let made = c.tick.ensures in
-    subst (IsTicked p c.tick.new.self) (sym c.loop-t.invariant.tick) (record {
-      runs = made.runs;
-      here = ticks_on p _ c.loop-t.invariant.nobody c.loop-t.t c.loop-t.machine.configuration c.tick.new.self.configuration c.loop-t.invariant.here made.after;
-      moved = flags_are p _ c.loop-t.invariant.nobody c.loop-t.t c.loop-t.machine.configuration c.loop-t.invariant.here c.tick.new.self.moving made.moving;
-    })
+    subst (IsTicked p c.tick.new.self) (sym c.loop-t.invariant.tick)
+    (ticked p _ c.loop-t.invariant.nobody c.loop-t.t c.loop-t.machine.configuration c.loop-t.invariant.here c.tick.new.self c.tick.ensures.runs c.tick.ensures.after c.tick.ensures.moving)
 
 pub pass_tick-requires-clause-passed : goal.pass_tick-requires-clause-passed
 pass_tick-requires-clause-passed g c =
@@ -35,12 +31,7 @@ pass_tick-requires-clause-passed g c =
 pub free_moved-requires-clause-ticked : goal.free_moved-requires-clause-ticked
 free_moved-requires-clause-ticked g c =
     let p = g.P.ProgramView.program c.args.program.now in
-    let made = c.tick.ensures in
-    record {
-      runs = made.runs;
-      here = ticks_on p _ c.loop-t.invariant.nobody c.loop-t.t c.loop-t.machine.configuration c.tick.new.self.configuration c.loop-t.invariant.here made.after;
-      moved = flags_are p _ c.loop-t.invariant.nobody c.loop-t.t c.loop-t.machine.configuration c.loop-t.invariant.here c.tick.new.self.moving made.moving;
-    }
+    ticked p _ c.loop-t.invariant.nobody c.loop-t.t c.loop-t.machine.configuration c.loop-t.invariant.here c.tick.new.self c.tick.ensures.runs c.tick.ensures.after c.tick.ensures.moving
 
 pub loop-t-preserved : goal.loop-t-preserved
 loop-t-preserved g c =
@@ -49,7 +40,7 @@ loop-t-preserved g c =
     let passed = c.in_ok-pass_tick.ensures in
     record {
       runs = made.runs;
-      here = ticks_on p _ c.loop-t.invariant.nobody c.loop-t.t c.loop-t.machine.configuration c.tick.new.self.configuration c.loop-t.invariant.here made.after;
+      here = (ticked p _ c.loop-t.invariant.nobody c.loop-t.t c.loop-t.machine.configuration c.loop-t.invariant.here c.tick.new.self c.tick.ensures.runs c.tick.ensures.after c.tick.ensures.moving).here;
       agents = c.loop-t.invariant.agents;
       nobody = c.loop-t.invariant.nobody;
       tick = refl;

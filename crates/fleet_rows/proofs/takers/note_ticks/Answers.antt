@@ -1,7 +1,7 @@
 use Rattle.std.proofs.Common.{◌≡◌, ◌≤◌, [], ℕ, false, length, subst, ◌∙◌, arith}
 use Rattle.fleet_model.specs.declared.limits.TheConstants.{MAX_AGENTS}
 use Rattle.fleet_rows.specs.Takers.{AreNoted}
-use Rattle.fleet_rows.proofs.Finishing.{none_flagged, ticks_on, flags_are, length_flagged}
+use Rattle.fleet_rows.proofs.Finishing.{none_flagged, ticked, length_flagged}
 use Rattle.fleet_rows.proofs.Noting.{noted_tick}
 use Rattle.fleet_rows.proofs.takers.note_ticks.Goals as goal
 
@@ -17,12 +17,7 @@ loop-t-init g c = record {
 pub note_moved-requires-clause-ticked : goal.note_moved-requires-clause-ticked
 note_moved-requires-clause-ticked g c =
     let p = g.P.ProgramView.program c.args.program.now in
-    let made = c.tick.ensures in
-    record {
-      runs = made.runs;
-      here = ticks_on p _ c.loop-t.invariant.nobody c.loop-t.t c.loop-t.machine.configuration c.tick.new.self.configuration c.loop-t.invariant.here made.after;
-      moved = flags_are p _ c.loop-t.invariant.nobody c.loop-t.t c.loop-t.machine.configuration c.loop-t.invariant.here c.tick.new.self.moving made.moving;
-    }
+    ticked p _ c.loop-t.invariant.nobody c.loop-t.t c.loop-t.machine.configuration c.loop-t.invariant.here c.tick.new.self c.tick.ensures.runs c.tick.ensures.after c.tick.ensures.moving
 
 pub loop-t-preserved : goal.loop-t-preserved
 loop-t-preserved g c =
@@ -30,7 +25,7 @@ loop-t-preserved g c =
     let made = c.tick.ensures in
     record {
       runs = made.runs;
-      here = ticks_on p _ c.loop-t.invariant.nobody c.loop-t.t c.loop-t.machine.configuration c.tick.new.self.configuration c.loop-t.invariant.here made.after;
+      here = (ticked p _ c.loop-t.invariant.nobody c.loop-t.t c.loop-t.machine.configuration c.loop-t.invariant.here c.tick.new.self c.tick.ensures.runs c.tick.ensures.after c.tick.ensures.moving).here;
       agents = c.loop-t.invariant.agents;
       nobody = c.loop-t.invariant.nobody;
       noted = noted_tick p c.args.places.now.firsts.items c.loop-t.t c.loop-t.lasts c.note_moved.new.lasts c.note_moved.ensures.raised c.loop-t.invariant.noted c.note_moved.ensures.noted;

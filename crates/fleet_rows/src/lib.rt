@@ -6,6 +6,7 @@ mod block;
 mod columns;
 mod kept_rows;
 mod kernels;
+mod near;
 mod pass;
 mod questions;
 mod takers;

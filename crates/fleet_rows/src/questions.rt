@@ -1,14 +1,15 @@
 //! Questions for chains of needs, and their answers.
 
-ghost use Rattle.std.specs.Prelude.{◌≡◌, ◌<◌, ◌≤◌, ℕ, [], true, false, length, get_or, slice_get, Some, None, All, IfOk, OnOk};
+ghost use Rattle.std.specs.Prelude.{◌≡◌, ◌⊎◌, ◌<◌, ◌≤◌, ℕ, [], true, false, length, get_or, slice_get, Some, None, All, IfOk, OnOk};
 ghost use Rattle.fleet_model.specs.Program.{AreInRange};
 ghost use Rattle.fleet_model.specs.Machine.{IsFinish};
 ghost use Rattle.fleet_rows.specs.Asked.{AreQuestions, AreAnswers};
-ghost use Rattle.fleet_rows.specs.Block.{AreBlock};
+ghost use Rattle.fleet_rows.specs.Block.{AreBlock, IsAnswer};
 
 use crate::action_places::ActionPlaces;
 use crate::block::Block;
 use crate::columns::Columns;
+use crate::near::asked_agents;
 use crate::pass::answer;
 use crate::takers::last_takers;
 use fleet_model::{ActionId, MAX_AGENTS, OutOfMemory, ProgramView};
@@ -35,10 +36,10 @@ pub fn unreached<P: ProgramView>(
     ensures { IfOk result (λ flags. AreAnswers (P.program program.now) questions.now flags.items) }
 {
     let mut flags = vec![in alloc; false; questions.len()]?;
-    if questions.is_empty() {
+    let asked = asked_agents(alloc, program, questions)?;
+    if !is_any(&asked) {
         return Ok(flags);
     }
-    let asked = asked_agents(alloc, program.agents(), questions)?;
     let places = ActionPlaces::of(alloc, program)?;
     let takers = last_takers(alloc, program, &places, ticks)?;
     let rows = takers.most_rows(alloc)?;
@@ -53,22 +54,16 @@ pub fn unreached<P: ProgramView>(
     Ok(flags)
 }
 
-/// Flags the agents whose columns some question asks for.
-fn asked_agents(
-    alloc: Global,
-    agents: u16,
-    questions: &[Question],
-) -> Result<Vec<bool>, OutOfMemory>
-    requires { All (λ q. q.first.agent < agents) questions.now }
-    ensures all { IfOk result (λ asked. length asked.items ≡ agents) }
-    ensures flagged { IfOk result (λ asked. (k : ℕ) (q : Question) → slice_get questions.now k ≡ Some q
-        → get_or asked.items q.first.agent false ≡ true) }
+/// Whether some agent is flagged.
+fn is_any(asked: &[bool]) -> bool
+    ensures { (result ≡ false) → (k : ℕ) → get_or asked.now k false ≡ false }
 {
-    let mut asked = vec![in alloc; false; usize::from(agents)]?;
-    for question in questions {
-        asked[usize::from(question.first.agent)] = true;
+    for &agent in asked {
+        if agent {
+            return true;
+        }
     }
-    Ok(asked)
+    false
 }
 
 /// Answers the questions block by block, each with so many columns as there is room for.
@@ -87,7 +82,7 @@ fn answer_all<P: ProgramView>(
     requires questions { AreQuestions (P.program program.now) questions.now }
     requires asked { length asked.now ≡ length (P.program program.now) }
     requires flagged { (k : ℕ) (q : Question) → slice_get questions.now k ≡ Some q
-        → get_or asked.now q.first.agent false ≡ true }
+        → (get_or asked.now q.first.agent false ≡ true) ⊎ IsAnswer (P.program program.now) q (get_or flags.old k false) }
     requires flags { length flags.old ≡ length questions.now }
     ensures { OnOk result (AreAnswers (P.program program.now) questions.now flags.new) }
 {

@@ -1,5 +1,5 @@
 use Rattle.std.proofs.Common.{◌≡◌, ◌<◌, ℕ, length, ◌∙◌, arith}
-use Rattle.fleet_rows.proofs.Answering.{answered_to, question_at}
+use Rattle.fleet_rows.proofs.Answering.{answered_to, known_on, question_at}
 use Rattle.fleet_rows.proofs.questions.answer_all.Goals as goal
 
 pub answer-requires-clause-block : goal.answer-requires-clause-block
@@ -15,7 +15,8 @@ answer-requires-clause-block g c = record {
 pub loop-from-preserved : goal.loop-from-preserved
 loop-from-preserved g c = record {
   answered = answered_to (g.P.ProgramView.program c.args.program.now) c.args.asked.now c.loop-from.from c.in_ok-block.field-0 c.in_ok-block.ensures c.args.questions.now c.loop-from.flags c.answer.new.flags
-      c.in_ok-answer.ensures c.requires.flagged c.loop-from.invariant.answered;
+      c.in_ok-answer.ensures c.loop-from.invariant.known c.loop-from.invariant.answered;
+  known = known_on (g.P.ProgramView.program c.args.program.now) c.args.asked.now c.in_ok-block.field-0 c.args.questions.now c.loop-from.flags c.answer.new.flags c.in_ok-answer.ensures c.loop-from.invariant.known;
   places = c.loop-from.invariant.places;
   all = c.loop-from.invariant.all;
   noted = c.loop-from.invariant.noted;

@@ -1,5 +1,5 @@
 -- The actions that a tick finishes, and what is known of them before it.
-use Rattle.std.proofs.Common.{◌≡◌, ◌≢◌, ℕ, suc, ◌+◌, ◌<◌, ◌≤◌, Bool, true, false, List, [], length, map, replicate, take, get_or, refl, sym, ap, subst, ◌∙◌, arith, inl, inr, ◌⊎◌, add-one, ◌&&◌, not}
+use Rattle.std.proofs.Common.{◌≡◌, ◌≢◌, ℕ, suc, ◌+◌, ◌<◌, ◌≤◌, Bool, true, false, List, [], length, replicate, take, get_or, refl, sym, ap, subst, ◌∙◌, arith, inl, inr, ◌⊎◌, add-one, ◌&&◌, not}
 use Rattle.std.proofs.lemmas.Bool.{cases_lt, cases_eq}
 use Rattle.std.proofs.lemmas.List.{take-replicate, get_or-replicate, get_or_past, length-replicate}
 use Rattle.std.proofs.lemmas.List.FromFn.{get_or-map-range_with_len}
@@ -11,15 +11,15 @@ use Rattle.std.proofs.lemmas.List.FromFn.{length-range_with_len}
 use Rattle.std.proofs.Common.{leb-true}
 use Rattle.fleet_model.specs.declared.program.ActionId.{ActionId}
 use Rattle.fleet_model.specs.declared.program.Await.{Await}
-use Rattle.fleet_model.specs.Program.{Program, moves, awaits_of, AreInRange}
+use Rattle.fleet_model.specs.Program.{Program, moves, awaits_of}
 use Rattle.fleet_model.specs.Machine.{Configuration, is_finished, run, tick, is_held, is_ready, is_moving, count_at, indices}
-use Rattle.fleet_model.specs.Chain.{IsAction, Reaches, awaited}
+use Rattle.fleet_model.specs.Chain.{IsAction, Reaches}
 use Rattle.fleet_model.proofs.Tick.{ready_left, ready_met}
 use Rattle.fleet_model.proofs.Runs.{tick_agree}
 use Rattle.fleet_machine.specs.Machine.{MachineState, Runs, flag_of, moving_flags}
 use Rattle.fleet_machine.specs.AgentSet.{IsNextFrom, AreNoneFrom}
 use Rattle.fleet_rows.specs.Takers.{IsTicked}
-use Rattle.fleet_rows.proofs.Free.{count, count_start, moves_on, stays, grows, done_reaches}
+use Rattle.fleet_rows.proofs.Free.{count, count_start, moves_on, stays, done_reaches}
 
 -- a row without flags
 pub none_flagged : (n m i : ℕ) → n ≤ m → flag_of (take n (replicate m false)) i ≡ false

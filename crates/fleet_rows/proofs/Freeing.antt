@@ -1,5 +1,5 @@
 -- Rows that have gone since no later tick takes them, one after another.
-use Rattle.std.proofs.Common.{◌≡◌, ◌≢◌, ℕ, ◌<◌, refl, sym, subst, ◌∙◌, arith, inl, inr}
+use Rattle.std.proofs.Common.{◌≡◌, ℕ, refl, sym, subst, ◌∙◌, arith, inl, inr}
 use Rattle.std.proofs.lemmas.Bool.{cases_eq}
 use Rattle.fleet_rows.specs.declared.kept_rows.KeptRows.{KeptRows}
 use Rattle.fleet_rows.specs.Kept.{IsSound, IsKept, IsLast, IsKeptAlike, IsReleased, IsFreed}

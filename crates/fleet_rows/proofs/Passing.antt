@@ -1,7 +1,6 @@
 -- A pass over the run without holds: one action more, one tick more.
 use Rattle.std.proofs.Common.{rules, ◌≡◌, ◌≢◌, ℕ, suc, ◌+◌, ◌<◌, ◌≤◌, Bool, true, false, List, [], length, get_or, set, slice_index, refl, sym, ap, subst, ◌∙◌, arith, inl, inr, ◌⊎◌, add-one}
 use Rattle.std.specs.Prelude.{slice_get, Some, None, All}
-use Rattle.std.specs.List.{AllPairs}
 use Rattle.std.proofs.lemmas.Bool.{cases_lt, cases_eq, cases_order}
 use Rattle.std.proofs.lemmas.Option.{slice_get_within, get_or_from_slice_get, slice_get-get_or}
 use Rattle.std.proofs.lemmas.Grind.{common_steps}
@@ -9,13 +8,13 @@ use Rattle.fleet_model.specs.declared.program.ActionId.{ActionId}
 use Rattle.fleet_model.specs.Program.{Program, AreInRange}
 use Rattle.fleet_model.specs.Machine.{run, count_at, is_ready}
 use Rattle.fleet_model.specs.Chain.{IsAction, DirectlyNeeds, Reaches, IsLevel}
-use Rattle.fleet_machine.specs.Machine.{MachineState, flag_of}
+use Rattle.fleet_machine.specs.Machine.{MachineState}
 use Rattle.fleet_machine.specs.AgentSet.{IsNextFrom, AreNoneFrom}
 use Rattle.fleet_rows.specs.Asked.{IsQuestion, IsSoonerAction, AreQuestions}
 use Rattle.fleet_rows.specs.Rows.{IsColumn}
 use Rattle.fleet_rows.specs.Places.{place_of}
 use Rattle.fleet_rows.specs.Takers.{IsTicked, IsNotedFor}
-use Rattle.fleet_rows.specs.Kept.{IsKept, IsLast, IsKeptAlike, IsKeptMore, IsFreed, count_in, mark_of}
+use Rattle.fleet_rows.specs.Kept.{IsKept, IsKeptAlike, IsKeptMore, IsFreed, count_in, mark_of}
 use Rattle.fleet_rows.specs.Block.{HasColumn, AreBlock, IsRowOf, AreKept, HasRow, IsAnswer}
 use Rattle.fleet_rows.specs.Pass.{IsDone, IsDoneMid, AreRowsAt, AreAnsweredTo, AreOthersLeft, IsPassed, IsRowTaken, IsNextAnswered, IsAsked}
 use Rattle.fleet_rows.specs.declared.columns.Columns.{Columns}
@@ -26,7 +25,7 @@ use Rattle.fleet_rows.specs.declared.questions.Question.{Question}
 use Rattle.fleet_rows.proofs.Answering.{question_at}
 use Rattle.fleet_rows.proofs.Free.{count, moves_on, stays, grows, needs_done, level_done, done_level}
 use Rattle.fleet_rows.proofs.Placed.{place_apart}
-use Rattle.fleet_rows.proofs.Finishing.{agent_of, ready_of, counted, next_action_of, finished_action, none_later, one_more, apart, none_more, none_started}
+use Rattle.fleet_rows.proofs.Finishing.{agent_of, ready_of, next_action_of, finished_action, none_later, one_more, apart, none_more, none_started}
 
 -- two actions are the same or not
 same_or_not : (a b : ActionId) → (a ≡ b) ⊎ (a ≢ b)

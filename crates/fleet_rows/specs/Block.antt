@@ -1,8 +1,8 @@
 -- The rows of actions in the columns of one block, and what they answer.
-use Rattle.std.specs.Prelude.{◌≡◌, ◌≢◌, ℕ, ◌<◌, ◌≤◌, Bool, true, false, List, length, get_or, slice_index, slice_get, Some, None, ◌↔◌}
+use Rattle.std.specs.Prelude.{◌≡◌, ℕ, ◌<◌, Bool, true, false, List, length, get_or, slice_index, slice_get, Some, None, ◌↔◌}
 use Rattle.fleet_model.specs.declared.program.ActionId.{ActionId}
 use Rattle.fleet_model.specs.Program.{Program, total_moves}
-use Rattle.fleet_model.specs.Chain.{IsAction, Reaches}
+use Rattle.fleet_model.specs.Chain.{Reaches}
 use Rattle.fleet_rows.specs.Rows.{IsColumn}
 use Rattle.fleet_rows.specs.Places.{ArePlaces, place_of}
 use Rattle.fleet_rows.specs.Takers.{AreNoted}

@@ -1,9 +1,8 @@
-use Rattle.std.proofs.Common.{◌≡◌, ◌≤◌, ℕ, length, slice_index, sym, subst, ◌∙◌, ap, arith}
+use Rattle.std.proofs.Common.{◌≡◌, ◌≤◌, ℕ, slice_index, sym, subst, ◌∙◌, ap, arith}
 use Rattle.fleet_model.specs.declared.program.ActionId.{ActionId}
 use Rattle.fleet_model.specs.Chain.{IsAction}
 use Rattle.fleet_rows.specs.Rows.{IsColumn}
 use Rattle.fleet_rows.specs.Kept.{IsKept, count_in, mark_of}
-use Rattle.fleet_rows.specs.Places.{place_of}
 use Rattle.fleet_rows.proofs.Joining.{column_none}
 use Rattle.fleet_rows.proofs.Placed.{place_within, place_is}
 use Rattle.fleet_rows.proofs.block.begin_row.Goals as goal

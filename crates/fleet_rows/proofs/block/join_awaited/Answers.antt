@@ -1,9 +1,8 @@
-use Rattle.std.proofs.Common.{◌≡◌, ◌+◌, ◌≤◌, ℕ, length, slice_index, max, sym, subst, ap, ◌∙◌, arith}
+use Rattle.std.proofs.Common.{◌≡◌, ◌+◌, ℕ, length, slice_index, max, sym, subst, ap, ◌∙◌, arith}
 use Rattle.fleet_model.specs.declared.program.ActionId.{ActionId}
 use Rattle.fleet_model.specs.Program.{awaits_of}
 use Rattle.fleet_rows.specs.Rows.{IsPart}
 use Rattle.fleet_rows.specs.Kept.{IsKept, count_in, mark_of}
-use Rattle.fleet_rows.specs.Places.{place_of}
 use Rattle.fleet_rows.proofs.Joining.{part_none, part_more, awaited_action}
 use Rattle.fleet_rows.proofs.Placed.{place_within, place_is}
 use Rattle.fleet_rows.proofs.block.join_awaited.Goals as goal

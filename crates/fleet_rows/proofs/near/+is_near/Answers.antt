@@ -1,4 +1,4 @@
-use Rattle.std.proofs.Common.{◌≡◌, ◌+◌, ◌<◌, ◌≤◌, ◌-◌, leb-true, arith}
+use Rattle.std.proofs.Common.{leb-true, arith}
 use Rattle.fleet_rows.proofs.Joining.{awaited_action, own_first, by_await, by_before}
 use Rattle.fleet_rows.proofs.near.+is_near.Goals as goal
 

@@ -1,4 +1,4 @@
-use Rattle.std.proofs.Common.{◌≡◌, ℕ, List, length, slice_index, refl, sym, subst, ◌∙◌, ap, arith}
+use Rattle.std.proofs.Common.{ℕ, List, length, slice_index, refl, subst, ◌∙◌, ap, arith}
 use Rattle.fleet_rows.specs.Kept.{IsLast}
 use Rattle.fleet_rows.proofs.Answering.{question_at}
 use Rattle.fleet_rows.proofs.Finishing.{all_finished}

@@ -1,4 +1,4 @@
-use Rattle.std.proofs.Common.{◌≡◌, ◌<◌, ◌+◌, arith}
+use Rattle.std.proofs.Common.{arith}
 use Rattle.std.proofs.lemmas.Option.{slice_get_within}
 use Rattle.fleet_rows.proofs.Passing.{asked_row, asked_question, next_asked}
 use Rattle.fleet_rows.proofs.pass.answer_next.Goals as goal

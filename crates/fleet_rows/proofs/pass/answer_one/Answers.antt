@@ -1,4 +1,4 @@
-use Rattle.std.proofs.Common.{◌≡◌, ℕ, sym, subst, ◌∙◌, ap, get_or}
+use Rattle.std.proofs.Common.{ℕ, sym, subst, ◌∙◌, get_or}
 use Rattle.fleet_rows.specs.Rows.{IsColumn}
 use Rattle.fleet_rows.specs.Block.{HasColumn}
 use Rattle.fleet_rows.proofs.Answering.{answer_is}

@@ -1,5 +1,5 @@
-use Rattle.std.proofs.Common.{◌≡◌, ◌++◌, ℕ, List, length, sym, subst, ◌∙◌, ap, arith}
-use Rattle.std.specs.Prelude.{take, drop}
+use Rattle.std.proofs.Common.{◌≡◌, length, sym, subst, ◌∙◌, ap, arith}
+use Rattle.std.specs.Prelude.{drop}
 use Rattle.std.proofs.lemmas.List.{take_at}
 use Rattle.fleet_rows.specs.Block.{IsRowOf}
 use Rattle.fleet_rows.proofs.pass.finish.Goals as goal

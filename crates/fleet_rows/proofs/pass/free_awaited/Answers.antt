@@ -1,4 +1,4 @@
-use Rattle.std.proofs.Common.{◌≡◌, ◌<◌, arith, ◌∙◌}
+use Rattle.std.proofs.Common.{arith}
 use Rattle.fleet_model.specs.declared.program.ActionId.{ActionId}
 use Rattle.fleet_rows.proofs.Joining.{awaited_action}
 use Rattle.fleet_rows.proofs.Freeing.{freed_none, freed_on, freed_one}

@@ -1,4 +1,4 @@
-use Rattle.std.proofs.Common.{◌+◌, ◌∙◌, ap, arith}
+use Rattle.std.proofs.Common.{◌+◌, ap, arith}
 use Rattle.fleet_rows.proofs.Finishing.{agent_of}
 use Rattle.fleet_rows.proofs.Freeing.{freed_none, freed_on}
 use Rattle.fleet_rows.proofs.Passing.{moved_action}

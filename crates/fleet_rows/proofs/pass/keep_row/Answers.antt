@@ -1,9 +1,8 @@
-use Rattle.std.proofs.Common.{◌≡◌, ◌≢◌, ℕ, ◌<◌, sym, subst, ◌∙◌, ap, arith}
-use Rattle.fleet_model.specs.Program.{total_moves}
-use Rattle.fleet_rows.specs.Kept.{IsKept, IsKeptMore, count_in, mark_of}
+use Rattle.std.proofs.Common.{ℕ, sym, subst, ◌∙◌, ap, arith}
+use Rattle.fleet_rows.specs.Kept.{IsKeptMore, count_in, mark_of}
 use Rattle.fleet_rows.specs.Places.{place_of}
 use Rattle.fleet_rows.proofs.Placed.{place_within, place_is}
-use Rattle.fleet_rows.proofs.Passing.{row_taken, row_left}
+use Rattle.fleet_rows.proofs.Passing.{row_taken}
 use Rattle.fleet_rows.proofs.pass.keep_row.Goals as goal
 
 pub index-requires : goal.index-requires

@@ -1,5 +1,5 @@
-use Rattle.std.proofs.Common.{◌≡◌, ◌+◌, ℕ, List, sym, subst, ap, refl, ◌∙◌, arith}
-use Rattle.fleet_rows.specs.Pass.{IsDone, IsDoneMid, AreRowsAt, IsPassed, AreAnsweredTo}
+use Rattle.std.proofs.Common.{◌≡◌, ◌+◌, ℕ, sym, subst, ap, refl, ◌∙◌, arith}
+use Rattle.fleet_rows.specs.Pass.{IsDone, IsDoneMid, AreRowsAt}
 use Rattle.fleet_rows.proofs.Answering.{question_at}
 use Rattle.fleet_rows.proofs.Finishing.{agent_of}
 use Rattle.fleet_rows.proofs.Passing.{moved_action, moved_later, moved_needed, moved_not_kept, moved_rows, moved_answers, rows_moved, answers_moved, others_on, passed_mid}

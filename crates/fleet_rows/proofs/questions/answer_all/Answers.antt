@@ -1,4 +1,4 @@
-use Rattle.std.proofs.Common.{◌≡◌, ◌<◌, ℕ, length, ◌∙◌, arith}
+use Rattle.std.proofs.Common.{◌<◌, length, ◌∙◌, arith}
 use Rattle.fleet_rows.proofs.Answering.{answered_to, known_on, question_at}
 use Rattle.fleet_rows.proofs.questions.answer_all.Goals as goal
 

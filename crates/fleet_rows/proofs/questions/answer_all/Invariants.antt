@@ -1,4 +1,4 @@
-use Rattle.std.proofs.Common.{◌≡◌, ◌-◌, ◌<◌, ◌≤◌, [], ℕ, false, length, get_or, Some}
+use Rattle.std.proofs.Common.{◌≡◌, ◌-◌, ◌<◌, [], ℕ, false, length, get_or, Some}
 use Rattle.std.specs.Prelude.{slice_get}
 use Rattle.fleet_model.specs.Machine.{IsFinish}
 use Rattle.fleet_model.specs.Program.{total_moves}

@@ -1,5 +1,5 @@
-use Rattle.std.proofs.Common.{◌≡◌, ◌++◌, ℕ, Bool, true, false, List, length, get_or, sym, subst, ◌∙◌, ap, arith, inl, inr}
-use Rattle.std.specs.Prelude.{take, drop}
+use Rattle.std.proofs.Common.{◌≡◌, Bool, true, false, List, length, get_or, sym, subst, ◌∙◌, ap, arith, inl, inr}
+use Rattle.std.specs.Prelude.{drop}
 use Rattle.std.proofs.lemmas.List.{take_at, length-replicate}
 use Rattle.fleet_rows.specs.Asked.{AreAnswers}
 use Rattle.fleet_rows.proofs.Answering.{near_answer, none_asked, none_flagged_at}

@@ -1,4 +1,4 @@
-use Rattle.std.proofs.Common.{◌≡◌, ◌<◌, ◌≤◌, ℕ, refl, arith}
+use Rattle.std.proofs.Common.{arith}
 use Rattle.fleet_model.specs.declared.program.ActionId.{ActionId}
 use Rattle.fleet_rows.proofs.Joining.{awaited_action}
 use Rattle.fleet_rows.proofs.Noting.{awaited_more, raised_on, raised_self}

@@ -1,4 +1,4 @@
-use Rattle.std.proofs.Common.{◌≡◌, ◌≤◌, [], ℕ, false, length, subst, ◌∙◌, arith}
+use Rattle.std.proofs.Common.{◌≡◌, ℕ, subst, ◌∙◌, arith}
 use Rattle.fleet_model.specs.declared.limits.TheConstants.{MAX_AGENTS}
 use Rattle.fleet_rows.specs.Takers.{AreNoted}
 use Rattle.fleet_rows.proofs.Finishing.{none_flagged, ticked, length_flagged}

@@ -9,7 +9,7 @@ SOURCES = crates.txt $(shell find crates -path '*/out' -prune -o \( -name '*.rt'
 
 WAREHOUSE = examples/warehouse.map examples/warehouse.scen
 
-.PHONY: help test examples demo picture install
+.PHONY: help test examples demo picture definitions install
 
 help:
 	@echo 'make demo                  builds the program (the first time a quarter of an hour) and shows it on examples'
@@ -18,6 +18,7 @@ help:
 	@echo 'make examples              runs the program on every example of the documents, and on files and streams at their limits'
 	@echo 'make examples FLEET=PATH   the same of another program'
 	@echo 'make picture               draws the film and the chart of the README anew, docs/warehouse.svg and docs/waits.svg'
+	@echo 'make definitions           writes docs/DEFINITIONS.md anew, from the comments in crates/*/specs'
 
 test:
 	rt ci
@@ -51,6 +52,9 @@ demo: $(FLEET)
 picture:
 	awk -f tools/run.awk -f tools/film.awk examples/warehouse.map examples/warehouse.trace examples/warehouse.holds > docs/warehouse.svg
 	awk -f tools/run.awk -f tools/waits.awk examples/warehouse.trace examples/warehouse.holds > docs/waits.svg
+
+definitions:
+	sh tools/definitions.sh > docs/DEFINITIONS.md
 
 install: $(FLEET)
 	install -D -m 755 $(FLEET) $(DESTDIR)$(PREFIX)/bin/fleet

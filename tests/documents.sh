@@ -33,3 +33,11 @@ cp "$root/crates/fleet_example/src/lib.rt" "$work/want.out"
 : > "$work/want.err"
 status=0
 judge 'docs/LIBRARY.md has the source of crates/fleet_example' 'docs/LIBRARY.md against crates/fleet_example/src/lib.rt' 0
+
+# docs/DEFINITIONS.md says what the comments in specs/ say.
+sh "$root/tools/definitions.sh" > "$work/want.out"
+cp "$root/docs/DEFINITIONS.md" "$work/out"
+: > "$work/err"
+: > "$work/want.err"
+status=0
+judge 'docs/DEFINITIONS.md is current: make definitions' 'docs/DEFINITIONS.md against the comments in crates/*/specs' 0

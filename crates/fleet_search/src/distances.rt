@@ -9,6 +9,13 @@ use fleet_model::{Cell, Dir, OutOfMemory};
 use std::alloc::Global;
 use std::mem;
 
+/// What a search came to: how many steps later than its distance from the goal the agent arrived, and how many nodes it took.
+#[derive(Clone, Copy, Debug)]
+pub struct Effort {
+    pub delay: u32,
+    pub nodes: usize,
+}
+
 /// How many moves a cell is from the goal, noted by the search of this number.
 #[derive(Clone, Copy, Debug, PartialEq, Eq)]
 pub struct Label {
@@ -30,11 +37,9 @@ pub struct Distances {
     pub layer: Vec<Cell>,
     /// Cells over which a path of two moves more leads. A move changes that number by nothing or by two.
     pub next: Vec<Cell>,
+    /// What the search came to that was made last with such distances.
+    pub last: Effort,
 }
-
-/// How many moves longer than the shortest a path from the start may be, for the labels of its cells to be sought.
-/// A path that goes round others is looked for among these first.
-const SLACK: u32 = 16;
 
 /// How many columns and rows lie between two cells.
 #[tactic(auto, unfolding(crate::specs::Distance::manhattan))]
@@ -63,6 +68,7 @@ impl Distances {
             reach: 0,
             layer: Vec::new(alloc),
             next: Vec::new(alloc),
+            last: Effort { delay: 0, nodes: 0 },
         })
     }
 
@@ -253,8 +259,9 @@ impl Distances {
         self.search += 1;
     }
 
-    /// Whether there is more to be labelled: the start, and the cells over which paths lead that are little longer than the shortest.
-    fn is_wanted(&self, grid: &Grid, horizon: u16) -> bool
+    /// Whether there is more to be labelled, after so many cells: the start, and the cells over which paths lead that are no
+    /// more delayed than the last one, as long as this costs less than the last search. An agent is often held up as the one before it.
+    fn is_wanted(&self, grid: &Grid, horizon: u16, labelled: usize) -> bool
         requires ready { IsReady grid.now self.now.labels.items self.now.search }
         requires start { IsOnGround grid.now self.now.start }
         ensures { IsTrue result → (self.now.reach < MAX_HORIZON) }
@@ -264,7 +271,12 @@ impl Distances {
         }
         match self.label(grid, self.start) {
             None => true,
-            Some(distance) => self.reach <= u32::from(distance) + SLACK,
+            Some(distance) => {
+                let least = u32::from(distance);
+                self.reach <= least
+                    || labelled < self.last.nodes
+                        && self.reach <= least.saturating_add(self.last.delay)
+            }
         }
     }
 
@@ -277,18 +289,28 @@ impl Distances {
         ensures next { OnOk result (self.new.next.items ≡ []) }
         ensures goal { OnOk result (self.new.goal ≡ self.old.goal) }
     {
+        let mut labelled = 0usize;
         for _round in 0..horizon {
-            if !self.is_wanted(grid, horizon) {
+            if !self.is_wanted(grid, horizon, labelled) {
                 return Ok(());
             }
+            labelled = labelled.saturating_add(self.layer.len());
             self.spread(grid)?;
             self.turn();
         }
         Ok(())
     }
 
-    /// Labels the cells over which the shortest paths from the start to the goal lead, and those that are little longer, up to
-    /// the horizon.
+    /// Takes note of what the search came to. It decides how far the next one labels cells, and nothing else.
+    pub fn learn(&mut self, last: Effort)
+        ensures labels { self.new.labels ≡ self.old.labels }
+        ensures search { self.new.search ≡ self.old.search }
+    {
+        self.last = last;
+    }
+
+    /// Labels the cells over which the shortest paths from the start to the goal lead, and those over which paths lead that are
+    /// delayed as the last one was, up to the horizon.
     pub fn measure(
         &mut self,
         grid: &Grid,

@@ -7,7 +7,7 @@ ghost use Rattle.fleet_search.specs.Search.{IsAsked};
 ghost use Rattle.fleet_search.specs.Labels.{AreLabels};
 ghost use Rattle.fleet_search.specs.Way.{IsEarliest, HasNoWay};
 
-use crate::distances::Distances;
+use crate::distances::{Distances, Effort};
 use crate::fault::SearchFault;
 use crate::frontier::{Frontier, Question};
 use crate::reservations::Reservations;
@@ -87,7 +87,13 @@ pub fn earliest_over(
         horizon: u32::from(horizon),
         rest,
     };
-    search(frontier, &question)
+    let least = question.far(start);
+    let path = search(frontier, &question)?;
+    distances.learn(Effort {
+        delay: path.steps().saturating_sub(least),
+        nodes: frontier.reached.len(),
+    });
+    Ok(path)
 }
 
 /// A path from `start` to `goal` that fits the reserved ones, arrives by the horizon and as early as any such path.

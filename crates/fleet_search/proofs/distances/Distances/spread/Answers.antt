@@ -16,7 +16,7 @@ leave-requires-clause-cell c = c.loop-left.invariant.0.in_layer c.in-Some.left (
 pub loop-left-smaller : goal.loop-left-smaller
 loop-left-smaller c =
     let s = c.loop-left.self in
-    let popped : Distances = record { labels = s.labels; search = s.search; start = s.start; goal = s.goal; reach = s.reach; layer = c.pop.new.self; next = s.next } in
+    let popped : Distances = record { labels = s.labels; search = s.search; start = s.start; goal = s.goal; reach = s.reach; layer = c.pop.new.self; next = s.next; last = s.last } in
     let less = work-popped s popped c.in-Some.left refl refl c.in-Some.ensures.items in
     let more = c.in_ok-leave.ensures.work in
     omega arith

@@ -16,7 +16,7 @@ pub stays-apart : (plan : Plan) (c : Cell) (stays : List Stay) → AreStays plan
 stays-apart plan c stays s = record { some_time = λ i h. (s.each i h).some_time; apart = s.apart }
 
 -- each begins before all later ones
-apart-from : (stays : List Stay) → AreApart stays → (i j : ℕ) → i ≤ j → j < length stays → (stay_at stays i).from ≤ (stay_at stays j).from
+pub apart-from : (stays : List Stay) → AreApart stays → (i j : ℕ) → i ≤ j → j < length stays → (stay_at stays i).from ≤ (stay_at stays j).from
 apart-from stays a i j h l = elim (cases_eq i j) [
   | inl e ↦ let z = ap (λ z. (stay_at stays z).from) e in omega arith
   | inr ne ↦ let x = a.apart i j (omega arith) l in let y = a.some_time i (omega arith) in omega arith

@@ -15,7 +15,7 @@ ghost use Rattle.fleet_search.specs.Search.{far_of, stays_on, IsMeasured, IsEnd,
 ghost use Rattle.fleet_search.specs.Labels.{AreLabels};
 
 use crate::distances::Distances;
-use crate::gaps::{first_in, next_begin};
+use crate::gaps::{begins_after, first_in, next_begin};
 use crate::labels::Labels;
 use crate::moment::Moment;
 use crate::reservations::Reservations;
@@ -231,9 +231,14 @@ impl Frontier {
         ensures leaves_on { OnOk result (LeavesOn question.now slot left self.old self.new) }
         ensures found { OnOk result (IsFoundFrom question.now self.new.reached.items left.at beside.now.cell) }
     {
+        if beside.stays.is_empty() {
+            return self.step_in_gap(question, slot, left, beside, 0);
+        }
         let first = begun(beside.stays, left.at.time + 1);
-        let last = begun(beside.stays, left.until);
-        for gap in first..last + 1 {
+        for gap in first..beside.stays.len() + 1 {
+            if gap > first && begins_after(beside.stays, gap, left.until) {
+                return Ok(());
+            }
             self.step_in_gap(question, slot, left, beside, gap)?;
         }
         Ok(())
@@ -277,9 +282,9 @@ impl Frontier {
     {
         let until = question.until(at);
         let left = Leaving { place, at, until };
+        self.step_towards(question, slot, left, Dir::South)?;
         self.step_towards(question, slot, left, Dir::North)?;
         self.step_towards(question, slot, left, Dir::East)?;
-        self.step_towards(question, slot, left, Dir::South)?;
         self.step_towards(question, slot, left, Dir::West)?;
         Ok(())
     }

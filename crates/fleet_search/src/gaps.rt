@@ -54,6 +54,15 @@ pub fn first_in(stays: &[Stay], gap: usize, from: u32) -> Option<u32>
     }
 }
 
+/// Whether the stay before the gap begins after the time.
+pub fn begins_after(stays: &[Stay], gap: usize, time: u32) -> bool
+    requires some { 1 ≤ gap }
+    requires bound { gap ≤ length stays.now }
+    ensures { IsTrue result ↔ (time < (stay_at stays.now (gap - 1)).from) }
+{
+    time < stays[gap - 1].from
+}
+
 /// When the first of the stays begins that come after the time.
 pub fn next_begin(stays: &[Stay], time: u32) -> u32
     requires order { AreApart stays.now }

@@ -1,9 +1,10 @@
 //! Timetables: for each cell the stays on it, in the order of time. They stand in rows, first by `y` and then by `x`, which
 //! reach no further than the cells that were visited.
 
-ghost use Rattle.std.specs.Prelude.{◌≡◌, ◌<◌, ◌≤◌, ℕ, [], length, get_or, map, OnOk, OnErr};
+ghost use Rattle.std.specs.Prelude.{◌≡◌, ◌<◌, ◌≤◌, ℕ, [], length, get_or, map, IsTrue, OnOk, OnErr};
 ghost use Rattle.std.specs.List.Sorted.{IsPartitionPoint};
 ghost use Rattle.fleet_model.specs.declared.geometry.Cell.{Cell};
+ghost use Rattle.fleet_search.specs.declared.stay.Stay.{Stay};
 ghost use Rattle.fleet_search.specs.Way.{Fits, joined};
 ghost use Rattle.fleet_search.specs.Stays.{IsPlaced, AreInOrder, IsAdded, stays_of, without, HaveStays};
 
@@ -12,12 +13,27 @@ use fleet_model::{Cell, OutOfMemory};
 use fleet_plan::Path;
 use std::alloc::Global;
 
+/// Whether all of the stays have begun by the time.
+fn all_begun(stays: &[Stay], time: u32) -> bool
+    requires { AreInOrder stays.now }
+    ensures { IsTrue result → (i : ℕ) (d : Stay) → i < length stays.now → (get_or stays.now i d).from ≤ time }
+{
+    match stays.last() {
+        None => true,
+        Some(last) => last.from <= time,
+    }
+}
+
 /// How many of the stays have begun by the time.
 pub fn begun(stays: &[Stay], time: u32) -> usize
     requires { AreInOrder stays.now }
     ensures point { IsPartitionPoint (λ s. s.from ≤ time) (λ s. time < s.from) stays.now result }
     ensures bound { result ≤ length stays.now }
 {
+    // On a busy cell most stays are over, which the last one tells.
+    if all_begun(stays, time) {
+        return stays.len();
+    }
     stays.partition_point(|stay| stay.from <= time)
 }
 

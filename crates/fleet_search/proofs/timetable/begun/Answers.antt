@@ -1,4 +1,4 @@
-use Rattle.std.proofs.Common.{rules, leb}
+use Rattle.std.proofs.Common.{rules, leb, arith}
 use Rattle.std.proofs.lemmas.Bool.{leb-true, leb-false}
 use Rattle.std.proofs.lemmas.List.Sorted.{IsPartitionPoint-from_clause, IsPartitionedBy-leb}
 use Rattle.fleet_search.specs.declared.stay.Stay.{Stay}
@@ -11,3 +11,9 @@ returns-clause-point c =
       λ k d l m. leb-true _ _ (w.0 k d l m),
       λ k d l m. leb-false _ _ (w.1 k d l m),
     )
+
+pub returns-then-all_begun-clause-point : goal.returns-then-all_begun-clause-point
+returns-then-all_begun-clause-point c = (
+  λ k d l m. c.all_begun.ensures (c.if-all_begun.true) k d (omega arith),
+  λ k d l m. absurd (omega arith),
+)

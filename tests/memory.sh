@@ -79,6 +79,7 @@ REFUSER=$work/bin/refuse.so
 export input REFUSER
 
 check 'a program that holds break' 0 '' '' "{ head -c 28 examples/pair.program; printf '\\1\\20\\0\\0\\0\\2\\1'; } > unordered"
+check 'agents that find paths in the second order' 0 '' '' "printf 'type t\\nheight 2\\nwidth 3\\nmap\\n...\\n@.@\\n' > mouth.map && printf 'version 1\\n0 m 3 2 1 1 1 0 1\\n0 m 3 2 0 0 2 0 2\\n' > mouth.scen"
 if ${CC:-cc} -shared -fPIC -o "$REFUSER" "$root/tests/refuse.c" -ldl 2> /dev/null; then
     while read -r words; do
         check "each growth refused: $words" 0 'each\n' '' "growths fleet $words"
@@ -86,6 +87,7 @@ if ${CC:-cc} -shared -fPIC -o "$REFUSER" "$root/tests/refuse.c" -ldl 2> /dev/nul
 instance $on
 check $on examples/pair.plan
 plan $on
+plan mouth.map mouth.scen --tries 2
 compile $on examples/pair.plan out
 compile $on examples/pair.plan out --deps all
 verify $on examples/pair.program
@@ -95,6 +97,7 @@ run $on examples/pair.program --holds examples/corridor.holds
 rehearse examples/pair.program
 auto $on
 auto $on --horizon 1
+auto mouth.map mouth.scen --tries 2
 instance $on --agents 3
 verify examples/corridor.map examples/corridor.scen examples/pair.program
 EOF

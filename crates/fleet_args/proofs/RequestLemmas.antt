@@ -1,5 +1,5 @@
 -- From the getters of the matches to what the words ask.
-use Rattle.std.proofs.Common.{◌≡◌, ◌≢◌, ◌<◌, ◌∙◌, ◌⊎◌, inl, inr, ◌&&◌, ◌||◌, not, ℕ, Bool, true, false, List, [], ◌∷◌, Option, Some, None, Result, Ok, Err, length, MatchOption, nat_lt, option_map, refl, sym, ap, subst, true≢false, lt-ltb, ltb-true}
+use Rattle.std.proofs.Common.{◌≡◌, ◌≢◌, ◌<◌, ◌∙◌, ◌⊎◌, inl, inr, ◌&&◌, ◌||◌, not, ◌^◌, ℕ, Bool, true, false, List, [], ◌∷◌, Option, Some, None, Result, Ok, Err, length, MatchOption, nat_lt, option_map, refl, sym, ap, subst, true≢false, lt-ltb, ltb-true}
 use Rattle.std.specs.List.{list_all, list_any}
 use Rattle.std.specs.Option.{option_map_or}
 use Rattle.std.specs.Result.{result_ok}
@@ -34,19 +34,19 @@ digits_from (d ∷ ds) e =
     let parts = both _ _ e in
     (ltb-true _ _ parts.0, digits_from ds parts.1)
 
-abbrev pub is_small : List ℕ → Bool
-is_small ds = is_numeral ds && nat_lt (digits_value 10 ds) 65536
+abbrev pub is_small : ℕ → List ℕ → Bool
+is_small bits ds = is_numeral ds && nat_lt (digits_value 10 ds) (2 ^ bits)
 
-pub is_small_number : (ds : List ℕ) → IsNumeral 10 ds → digits_value 10 ds < 65536 → is_small ds ≡ true
-is_small_number ds h lt = rw (lt-ltb 0 (length ds) h.0, digits_pass ds h.1, lt-ltb (digits_value 10 ds) 65536 lt) refl
+pub is_small_number : (bits : ℕ) (ds : List ℕ) → IsNumeral 10 ds → digits_value 10 ds < 2 ^ bits → is_small bits ds ≡ true
+is_small_number bits ds h lt = rw (lt-ltb 0 (length ds) h.0, digits_pass ds h.1, lt-ltb (digits_value 10 ds) (2 ^ bits) lt) refl
 
-number_read : {E : Type 0} (text : Text) (r : Result ℕ E) → ParsesUnsigned 16 10 text r → result_ok r ≡ number_in text
-number_read text (Ok n) h =
+number_read : {E : Type 0} (bits : ℕ) (text : Text) (r : Result ℕ E) → ParsesUnsigned bits 10 text r → result_ok r ≡ number_in bits text
+number_read bits text (Ok n) h =
     let ds = without_leading_plus text in
-    rw (lt-ltb 0 (length ds) h.0.0.0, digits_pass ds h.0.0.1, lt-ltb (digits_value 10 ds) 65536 h.0.1) (ap (λ k. Some k) h.1)
-number_read text (Err e) h = go (is_small (without_leading_plus text)) refl
+    rw (lt-ltb 0 (length ds) h.0.0.0, digits_pass ds h.0.0.1, lt-ltb (digits_value 10 ds) (2 ^ bits) h.0.1) (ap (λ k. Some k) h.1)
+number_read bits text (Err e) h = go (is_small bits (without_leading_plus text)) refl
   where
-    go : (b : Bool) → is_small (without_leading_plus text) ≡ b → None ≡ number_in text
+    go : (b : Bool) → is_small bits (without_leading_plus text) ≡ b → None ≡ number_in bits text
     go false t = rw t refl
     go true t =
         let outer = both _ _ t in
@@ -54,23 +54,23 @@ number_read text (Err e) h = go (is_small (without_leading_plus text)) refl
         absurd (h ((ltb-true _ _ inner.0, digits_from (without_leading_plus text) inner.1), ltb-true _ _ outer.1))
 
 number_tried :
-    {E : Type 0} (gives : Text → Result ℕ E → Type 0) → ((t : Text) (r : Result ℕ E) → gives t r → ParsesUnsigned 16 10 t r)
-    → (text : Text) (r : Result (Option ℕ) E) → TriesOne gives text r → result_ok r ≡ option_map Some (number_in text)
-number_tried {E} gives parses text (Ok (Some n)) h = ap (option_map Some) (number_read {E = E} text (Ok n) (parses text (Ok n) h))
-number_tried gives parses text (Ok None) h = absurd h
-number_tried {E} gives parses text (Err e) h = ap (option_map Some) (number_read {E = E} text (Err e) (parses text (Err e) h))
+    {E : Type 0} (bits : ℕ) (gives : Text → Result ℕ E → Type 0) → ((t : Text) (r : Result ℕ E) → gives t r → ParsesUnsigned bits 10 t r)
+    → (text : Text) (r : Result (Option ℕ) E) → TriesOne gives text r → result_ok r ≡ option_map Some (number_in bits text)
+number_tried {E} bits gives parses text (Ok (Some n)) h = ap (option_map Some) (number_read {E = E} bits text (Ok n) (parses text (Ok n) h))
+number_tried bits gives parses text (Ok None) h = absurd h
+number_tried {E} bits gives parses text (Err e) h = ap (option_map Some) (number_read {E = E} bits text (Err e) (parses text (Err e) h))
 
 -- what `try_get_one` gives is the option's number
 pub number_gives :
-    {E : Type 0} (gives : Text → Result ℕ E → Type 0) → ((t : Text) (r : Result ℕ E) → gives t r → ParsesUnsigned 16 10 t r)
+    {E : Type 0} (bits : ℕ) (gives : Text → Result ℕ E → Type 0) → ((t : Text) (r : Result ℕ E) → gives t r → ParsesUnsigned bits 10 t r)
     → (f : Found) (id : Text) (r : Result (Option ℕ) E) → (one_text f id ≡ None → r ≡ Ok None)
     → ((t : List ℕ) → one_text f id ≡ Some t → TriesOne gives t r)
-    → result_ok r ≡ number_by (one_text f id)
-number_gives gives parses f id r none some = go (one_text f id) refl
+    → result_ok r ≡ number_by bits (one_text f id)
+number_gives bits gives parses f id r none some = go (one_text f id) refl
   where
-    go : (o : Option Text) → one_text f id ≡ o → result_ok r ≡ option_map_or (λ text. option_map Some (number_in text)) o (Some None)
+    go : (o : Option Text) → one_text f id ≡ o → result_ok r ≡ option_map_or (λ text. option_map Some (number_in bits text)) o (Some None)
     go None e = rw (none e) refl
-    go (Some t) e = number_tried gives parses t r (some t e)
+    go (Some t) e = number_tried bits gives parses t r (some t e)
 
 -- ---- the command
 

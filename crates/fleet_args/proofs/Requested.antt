@@ -20,7 +20,7 @@ use Rattle.clap.proofs.ValueTestLemmas.{accepts-Accepts}
 use Rattle.clap.proofs.WalkLemmas.{both}
 use Rattle.fleet_model.specs.declared.deps.Deps.{Deps}
 use Rattle.fleet_model.specs.declared.deps.Deps.TheVariants as deps
-use Rattle.fleet_args.specs.Arguments.{DepsNames, AreDeps, agents_rule, horizon_rule, deps_rule, word}
+use Rattle.fleet_args.specs.Arguments.{DepsNames, AreDeps, agents_rule, horizon_rule, tries_rule, deps_rule, word}
 use Rattle.fleet_args.specs.CommandLine.{fleet, fleet_top}
 use Rattle.fleet_args.specs.Instance.{instance_shape}
 use Rattle.fleet_args.specs.Check.{check_shape}
@@ -30,7 +30,7 @@ use Rattle.fleet_args.specs.Verify.{verify_shape}
 use Rattle.fleet_args.specs.Run.{run_shape}
 use Rattle.fleet_args.specs.Rehearse.{rehearse_shape}
 use Rattle.fleet_args.specs.Auto.{auto_shape}
-use Rattle.fleet_args.specs.Values.{Values, values_of, deps_in, number_by, number_in, has_text, reads_number, has_number, has_kind}
+use Rattle.fleet_args.specs.Values.{Values, values_of, deps_in, number_by, number_in, has_text, reads_number, has_number, has_count, has_kind}
 use Rattle.fleet_args.specs.Request.{is_answered_by}
 use Rattle.fleet_args.proofs.RequestLemmas.{digits_from, is_small, is_small_number}
 use Rattle.fleet_args.proofs.MatchedRows.{Among}
@@ -40,34 +40,34 @@ use Rattle.fleet_args.proofs.EnteredCommand.{enters}
 -- ---- numbers
 
 -- what a text is read as is its number, or it has none
-number_reads : (text : Text) → ReadsOne {T = ℕ} {E = Unit {0}} (ParsesUnsigned 16 10) text (number_in text)
-number_reads text = go (is_small (without_leading_plus text)) refl
+number_reads : (bits : ℕ) (text : Text) → ReadsOne {T = ℕ} {E = Unit {0}} (ParsesUnsigned bits 10) text (number_in bits text)
+number_reads bits text = go (is_small bits (without_leading_plus text)) refl
   where
-    go : (b : Bool) → is_small (without_leading_plus text) ≡ b
-        → ReadsOne {T = ℕ} {E = Unit {0}} (ParsesUnsigned 16 10) text (cond b (Some (digits_value 10 (without_leading_plus text))) None)
+    go : (b : Bool) → is_small bits (without_leading_plus text) ≡ b
+        → ReadsOne {T = ℕ} {E = Unit {0}} (ParsesUnsigned bits 10) text (cond b (Some (digits_value 10 (without_leading_plus text))) None)
     go true t =
         let outer = both _ _ t in
         let inner = both _ _ outer.0 in
         (((ltb-true _ _ inner.0, digits_from (without_leading_plus text) inner.1), ltb-true _ _ outer.1), refl)
-    go false t = (tt, λ h. true≢false (sym (is_small_number (without_leading_plus text) h.0 h.1) ∙ t))
+    go false t = (tt, λ h. true≢false (sym (is_small_number bits (without_leading_plus text) h.0 h.1) ∙ t))
 
--- a value that passed a range of numbers below 2 ^ 16 is a number
-number_value : (a : Rule) (rows : List Row) (low high : ℕ) → a.parser ≡ Some (parser.Signed (pos low) (pos high)) → high < 2 ^ 16 → HasValue a rows
-    → (n : ℕ) × (number_by (one_of a.id rows) ≡ Some (Some n))
-number_value a rows low high is fits value =
+-- a value that passed a range of numbers of so many bits is a number
+number_value : (bits : ℕ) (a : Rule) (rows : List Row) (low high : ℕ) → a.parser ≡ Some (parser.Signed (pos low) (pos high)) → high < 2 ^ bits → HasValue a rows
+    → (n : ℕ) × (number_by bits (one_of a.id rows) ≡ Some (Some n))
+number_value bits a rows low high is fits value =
     let pass : accepts a.ignore_case (parser.Signed (pos low) (pos high)) value.text ≡ true = ap (λ p. accepts a.ignore_case (parser_of_value p) value.text) (sym is) ∙ value.pass in
     let one : one_of a.id rows ≡ Some (without_minus value.text) = value.one ∙ ap (λ p. Some (read_as (reading_of (parser_of_value p)) value.text)) is in
-    let number = signed_reads (Unit {0}) (ParsesUnsigned 16 10) 16 low high value.text (number_in (without_minus value.text)) (number_reads (without_minus value.text)) (λ u x h. h) fits
+    let number = signed_reads (Unit {0}) (ParsesUnsigned bits 10) bits low high value.text (number_in bits (without_minus value.text)) (number_reads bits (without_minus value.text)) (λ u x h. h) fits
     (accepts-Accepts a.ignore_case (parser.Signed (pos low) (pos high)) value.text pass) in
-    (number.0, ap number_by one ∙ ap (option_map Some) number.1)
+    (number.0, ap (number_by bits) one ∙ ap (option_map Some) number.1)
 
 -- the number of an option that was used, or not
 number_option : (a : Rule) (rows : List Row) (low high : ℕ) → a.parser ≡ Some (parser.Signed (pos low) (pos high)) → high < 2 ^ 16
-    → (first_of a.id rows ≡ None) × (one_of a.id rows ≡ None) ⊎ HasValue a rows → (n : Option ℕ) × (number_by (one_of a.id rows) ≡ Some n)
+    → (first_of a.id rows ≡ None) × (one_of a.id rows ≡ None) ⊎ HasValue a rows → (n : Option ℕ) × (number_by 16 (one_of a.id rows) ≡ Some n)
 number_option a rows low high is fits value = elim value [
-  | inl none ↦ (None, ap number_by none.1)
+  | inl none ↦ (None, ap (number_by 16) none.1)
   | inr has ↦
-      let number = number_value a rows low high is fits has in
+      let number = number_value 16 a rows low high is fits has in
       (Some number.0, number.1)
 ]
 
@@ -131,7 +131,13 @@ module _ (shape : Shape) (negates : (leaf shape).subcommand_negates_reqs ≡ fal
   horizon : (place : ℕ) → IsAt shape place (codes "horizon") horizon_rule → has_number values (codes "horizon") ≡ true
   horizon place alone =
       let rows = rows_after (leaf shape).rules [] words in
-      let value = number_value (at place horizon_rule) rows 1 65535 refl (omega arith) (default_value (leaf shape) words none (at place horizon_rule) alone refl refl) in
+      let value = number_value 16 (at place horizon_rule) rows 1 65535 refl (omega arith) (default_value (leaf shape) words none (at place horizon_rule) alone refl refl) in
+      ap (λ number. is_some (option_and_then (λ n. n) number)) value.1
+
+  tries : (place : ℕ) → IsAt shape place (codes "tries") tries_rule → has_count values (codes "tries") ≡ true
+  tries place alone =
+      let rows = rows_after (leaf shape).rules [] words in
+      let value = number_value 32 (at place tries_rule) rows 1 1000000 refl (omega arith) (default_value (leaf shape) words none (at place tries_rule) alone refl refl) in
       ap (λ number. is_some (option_and_then (λ n. n) number)) value.1
 
   kind : (names : DepsNames) → AreDeps names → (place : ℕ) → IsAt shape place (codes "deps") (deps_rule names) → has_kind values (codes "deps") ≡ true
@@ -166,6 +172,7 @@ plan_answers words none =
       text plan_shape refl words none 2 (codes "scen") refl,
       agents plan_shape refl words none 3 refl,
       horizon plan_shape refl words none 4 refl,
+      tries plan_shape refl words none 5 refl,
     ) refl
 
 compile_answers : (names : DepsNames) → AreDeps names → (words : List Text) → Answers (compile_shape names) words
@@ -208,7 +215,8 @@ auto_answers names are words none =
       text (auto_shape names) refl words none 2 (codes "scen") refl,
       agents (auto_shape names) refl words none 3 refl,
       horizon (auto_shape names) refl words none 4 refl,
-      kind (auto_shape names) refl words none names are 5 refl,
+      tries (auto_shape names) refl words none 5 refl,
+      kind (auto_shape names) refl words none names are 6 refl,
     ) refl
 
 -- ---- the command line

@@ -23,6 +23,10 @@ agents_rule = record (option (codes "agents")) { parser = Some (parser.Signed (p
 abbrev pub horizon_rule : Rule
 horizon_rule = record (option (codes "horizon")) { parser = Some (parser.Signed (pos 1) (pos 65535)); defaults = codes "1024" ∷ [] }
 
+-- `--tries N`, where N is a number from 1 to 1000000, and 1 where it is not used
+abbrev pub tries_rule : Rule
+tries_rule = record (option (codes "tries")) { parser = Some (parser.Signed (pos 1) (pos 1000000)); defaults = codes "1" ∷ [] }
+
 -- the names of the kinds of awaits, as texts that are lent
 abbrev pub DepsNames : Type 0
 DepsNames = Bor (List (Bor Text))

@@ -1,13 +1,13 @@
 -- The command `auto`: its words and options, and the request that they are read as.
 use Rattle.std.specs.Prelude.{[], ◌∷◌, ◌&&◌, Bool, codes}
 use Rattle.clap.specs.Words.{Shape}
-use Rattle.fleet_args.specs.Arguments.{DepsNames, command, word, agents_rule, horizon_rule, deps_rule, option}
-use Rattle.fleet_args.specs.Values.{Values, IsText, has_text, IsNumberIfUsed, reads_number, IsNumber, has_number, IsKind, has_kind, IsTextIfUsed}
+use Rattle.fleet_args.specs.Arguments.{DepsNames, command, word, agents_rule, horizon_rule, tries_rule, deps_rule, option}
+use Rattle.fleet_args.specs.Values.{Values, IsText, has_text, IsNumberIfUsed, reads_number, IsNumber, has_number, IsCount, has_count, IsKind, has_kind, IsTextIfUsed}
 use Rattle.fleet_args.specs.declared.auto.AutoRequest.{AutoRequest}
 
 abbrev pub auto_shape : DepsNames → Shape
 auto_shape names = command (codes "auto")
-    (word (codes "map") ∷ word (codes "scen") ∷ agents_rule ∷ horizon_rule ∷ deps_rule names ∷
+    (word (codes "map") ∷ word (codes "scen") ∷ agents_rule ∷ horizon_rule ∷ tries_rule ∷ deps_rule names ∷
     option (codes "holds") ∷ [])
 
 -- each field has the value of its argument
@@ -16,6 +16,7 @@ pub record AsksAuto (values : Values) (request : AutoRequest) : Type 0 where
   pub scen : IsText values (codes "scen") request.scen
   pub agents : IsNumberIfUsed values (codes "agents") request.agents
   pub horizon : IsNumber values (codes "horizon") request.horizon
+  pub tries : IsCount values (codes "tries") request.tries
   pub deps : IsKind values (codes "deps") request.deps
   pub holds : IsTextIfUsed values (codes "holds") request.holds
 
@@ -26,4 +27,5 @@ has_auto_values values =
     && (has_text values (codes "scen")
     && (reads_number values (codes "agents")
     && (has_number values (codes "horizon")
-    && has_kind values (codes "deps"))))
+    && (has_count values (codes "tries")
+    && has_kind values (codes "deps")))))

@@ -1,13 +1,13 @@
 -- The command `plan`: its words and options, and the request that they are read as.
 use Rattle.std.specs.Prelude.{[], ◌∷◌, ◌&&◌, Bool, codes}
 use Rattle.clap.specs.Words.{Shape}
-use Rattle.fleet_args.specs.Arguments.{command, word, agents_rule, horizon_rule}
-use Rattle.fleet_args.specs.Values.{Values, IsText, has_text, IsNumberIfUsed, reads_number, IsNumber, has_number}
+use Rattle.fleet_args.specs.Arguments.{command, word, agents_rule, horizon_rule, tries_rule}
+use Rattle.fleet_args.specs.Values.{Values, IsText, has_text, IsNumberIfUsed, reads_number, IsNumber, has_number, IsCount, has_count}
 use Rattle.fleet_args.specs.declared.plan.PlanRequest.{PlanRequest}
 
 abbrev pub plan_shape : Shape
 plan_shape = command (codes "plan")
-    (word (codes "map") ∷ word (codes "scen") ∷ agents_rule ∷ horizon_rule ∷ [])
+    (word (codes "map") ∷ word (codes "scen") ∷ agents_rule ∷ horizon_rule ∷ tries_rule ∷ [])
 
 -- each field has the value of its argument
 pub record AsksPlan (values : Values) (request : PlanRequest) : Type 0 where
@@ -15,6 +15,7 @@ pub record AsksPlan (values : Values) (request : PlanRequest) : Type 0 where
   pub scen : IsText values (codes "scen") request.scen
   pub agents : IsNumberIfUsed values (codes "agents") request.agents
   pub horizon : IsNumber values (codes "horizon") request.horizon
+  pub tries : IsCount values (codes "tries") request.tries
 
 -- the arguments that the command cannot do without have values
 abbrev pub has_plan_values : Values → Bool
@@ -22,4 +23,5 @@ has_plan_values values =
     has_text values (codes "map")
     && (has_text values (codes "scen")
     && (reads_number values (codes "agents")
-    && has_number values (codes "horizon")))
+    && (has_number values (codes "horizon")
+    && has_count values (codes "tries"))))

@@ -1,5 +1,5 @@
 -- The values that the words of a command give to its arguments.
-use Rattle.std.specs.Prelude.{◌≡◌, ◌&&◌, ℕ, Bool, List, Option, Some, None, is_some, codes, option_map, option_and_then, nat_lt, if◌then◌else◌}
+use Rattle.std.specs.Prelude.{◌≡◌, ◌&&◌, ◌^◌, ℕ, Bool, List, Option, Some, None, is_some, codes, option_map, option_and_then, nat_lt, if◌then◌else◌}
 use Rattle.std.specs.Borrow.{Bor}
 use Rattle.std.specs.Option.{option_map_or}
 use Rattle.std.specs.Str.{bytes_eq}
@@ -27,15 +27,15 @@ values_found found = record { first = first_value found; one = one_text found }
 abbrev pub values_in : ArgMatches → Values
 values_in matches = values_found (found_of matches)
 
--- the number below 2 ^ 16 that the text spells
-abbrev pub number_in : Text → Option ℕ
-number_in text =
+-- the number of so many bits that the text spells
+abbrev pub number_in : ℕ → Text → Option ℕ
+number_in bits text =
     let digits = without_leading_plus text in
-    if is_numeral digits && nat_lt (digits_value 10 digits) 65536 then Some (digits_value 10 digits) else None
+    if is_numeral digits && nat_lt (digits_value 10 digits) (2 ^ bits) then Some (digits_value 10 digits) else None
 
 -- an option's number, by the option's text: none where the option was not used, and no answer where the text is no number
-abbrev pub number_by : Option Text → Option (Option ℕ)
-number_by text = option_map_or (λ t. option_map Some (number_in t)) text (Some None)
+abbrev pub number_by : ℕ → Option Text → Option (Option ℕ)
+number_by bits text = option_map_or (λ t. option_map Some (number_in bits t)) text (Some None)
 
 -- the kind of awaits of a name
 abbrev pub deps_in : Text → Option Deps
@@ -53,11 +53,15 @@ IsTextIfUsed values id text = values.first id ≡ option_map (λ t. t.now) text
 
 -- a number, where the option was used
 abbrev pub IsNumberIfUsed : Values → Text → Option ℕ → Type 0
-IsNumberIfUsed values id number = number_by (values.one id) ≡ Some number
+IsNumberIfUsed values id number = number_by 16 (values.one id) ≡ Some number
 
 -- a number that is there in any case
 abbrev pub IsNumber : Values → Text → ℕ → Type 0
-IsNumber values id number = number_by (values.one id) ≡ Some (Some number)
+IsNumber values id number = number_by 16 (values.one id) ≡ Some (Some number)
+
+-- a number of 32 bits that is there in any case
+abbrev pub IsCount : Values → Text → ℕ → Type 0
+IsCount values id number = number_by 32 (values.one id) ≡ Some (Some number)
 
 -- a kind of awaits that is there in any case
 abbrev pub IsKind : Values → Text → Deps → Type 0
@@ -70,10 +74,13 @@ has_text values id = is_some (values.first id)
 
 -- the option's text is a number, or it was not used
 abbrev pub reads_number : Values → Text → Bool
-reads_number values id = is_some (number_by (values.one id))
+reads_number values id = is_some (number_by 16 (values.one id))
 
 abbrev pub has_number : Values → Text → Bool
-has_number values id = is_some (option_and_then (λ n. n) (number_by (values.one id)))
+has_number values id = is_some (option_and_then (λ n. n) (number_by 16 (values.one id)))
+
+abbrev pub has_count : Values → Text → Bool
+has_count values id = is_some (option_and_then (λ n. n) (number_by 32 (values.one id)))
 
 abbrev pub has_kind : Values → Text → Bool
 has_kind values id = is_some (option_and_then deps_in (values.first id))

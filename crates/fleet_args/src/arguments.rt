@@ -1,7 +1,7 @@
 //! The words and options of the commands, as `clap` reads them.
 
 ghost use Rattle.std.specs.Prelude.{◌∷◌, [], IfOk, codes};
-ghost use Rattle.fleet_args.specs.Arguments.{IsArg, IsLeafCommand, word, option, agents_rule, horizon_rule, deps_rule, command};
+ghost use Rattle.fleet_args.specs.Arguments.{IsArg, IsLeafCommand, word, option, agents_rule, horizon_rule, tries_rule, deps_rule, command};
 
 use clap::{Arg, Command};
 use std::alloc::{AllocError, Global};
@@ -106,6 +106,19 @@ pub(crate) fn horizon<'a>(alloc: Global) -> Arg<'a>
     .default_value("1024")
 }
 
+pub(crate) fn tries<'a>(alloc: Global) -> Arg<'a>
+    ensures { IsArg tries_rule result }
+{
+    option(
+        alloc,
+        "tries",
+        "N",
+        "How many orders of the agents are tried, 1 to 1000000: an agent that finds no path is planned first in the next one",
+    )
+    .value_parser(clap::value_parser!(u32).range(1..=1_000_000))
+    .default_value("1")
+}
+
 /// Which earlier leavings of a cell an action awaits, by these names.
 pub(crate) fn deps<'a>(alloc: Global, names: &'a [&'a str]) -> Arg<'a>
     ensures { IsArg (deps_rule names.entry) result }
@@ -143,4 +156,19 @@ pub(crate) fn map_and_scen<'a>(
         .about(about)
         .arg(map(alloc))?
         .arg(scen(alloc))
+}
+
+/// A command that plans, before its other arguments.
+pub(crate) fn planning<'a>(
+    alloc: Global,
+    name: &'a str,
+    about: &'a str,
+) -> Result<Command<'a>, AllocError>
+    ensures { IfOk result (IsLeafCommand (command name.entry.now
+        (word (codes "map") ∷ word (codes "scen") ∷ agents_rule ∷ horizon_rule ∷ tries_rule ∷ []))) }
+{
+    map_and_scen(alloc, name, about)?
+        .arg(agents(alloc))?
+        .arg(horizon(alloc))?
+        .arg(tries(alloc))
 }

@@ -5,19 +5,20 @@ ghost use Rattle.fleet_args.specs.Arguments.{IsLeafCommand};
 ghost use Rattle.fleet_args.specs.Values.{values_in};
 ghost use Rattle.fleet_args.specs.Auto.{auto_shape, AsksAuto, has_auto_values};
 
-use crate::arguments::{agents, deps, holds, horizon, map_and_scen};
-use crate::values::{deps_of, number};
+use crate::arguments::{deps, holds, planning};
+use crate::values::{count, deps_of, number};
 use clap::{ArgMatches, Command};
 use fleet_model::Deps;
 use std::alloc::{AllocError, Global};
 
-/// `fleet auto MAP SCEN [--agents K] [--horizon H] [--deps DEPS] [--holds FILE]`
+/// `fleet auto MAP SCEN [--agents K] [--horizon H] [--tries N] [--deps DEPS] [--holds FILE]`
 #[derive(Clone, Copy, Debug, PartialEq, Eq)]
 pub struct AutoRequest<'a> {
     pub map: &'a str,
     pub scen: &'a str,
     pub agents: Option<u16>,
     pub horizon: u16,
+    pub tries: u32,
     pub deps: Deps,
     pub holds: Option<&'a str>,
 }
@@ -28,13 +29,11 @@ pub(crate) fn auto_command<'a>(
 ) -> Result<Command<'a>, AllocError>
     ensures { IfOk result (IsLeafCommand (auto_shape names.entry)) }
 {
-    map_and_scen(
+    planning(
         alloc,
         "auto",
         "Plans, compiles, verifies and runs: prints the positions tick by tick, then agents, ticks, chain and held",
     )?
-    .arg(agents(alloc))?
-    .arg(horizon(alloc))?
     .arg(deps(alloc, names))?
     .arg(holds(alloc))
 }
@@ -49,6 +48,7 @@ pub(crate) fn auto_in<'a>(matches: &ArgMatches<'a>) -> Option<AutoRequest<'a>>
         scen: matches.get_str("scen")?,
         agents: number(matches, "agents")?,
         horizon: number(matches, "horizon")??,
+        tries: count(matches, "tries")??,
         deps: deps_of(matches.get_str("deps")?)?,
         holds: matches.get_str("holds"),
     })

@@ -5,30 +5,29 @@ ghost use Rattle.fleet_args.specs.Arguments.{IsLeafCommand};
 ghost use Rattle.fleet_args.specs.Values.{values_in};
 ghost use Rattle.fleet_args.specs.Plan.{plan_shape, AsksPlan, has_plan_values};
 
-use crate::arguments::{agents, horizon, map_and_scen};
-use crate::values::number;
+use crate::arguments::planning;
+use crate::values::{count, number};
 use clap::{ArgMatches, Command};
 use std::alloc::{AllocError, Global};
 
-/// `fleet plan MAP SCEN [--agents K] [--horizon H]`
+/// `fleet plan MAP SCEN [--agents K] [--horizon H] [--tries N]`
 #[derive(Clone, Copy, Debug, PartialEq, Eq)]
 pub struct PlanRequest<'a> {
     pub map: &'a str,
     pub scen: &'a str,
     pub agents: Option<u16>,
     pub horizon: u16,
+    pub tries: u32,
 }
 
 pub(crate) fn plan_command<'a>(alloc: Global) -> Result<Command<'a>, AllocError>
     ensures { IfOk result (IsLeafCommand plan_shape) }
 {
-    map_and_scen(
+    planning(
         alloc,
         "plan",
         "Plans a path for each agent in turn, and prints the plan text",
-    )?
-    .arg(agents(alloc))?
-    .arg(horizon(alloc))
+    )
 }
 
 /// What the matches of the command ask: none where a word is missing, or a text is no number.
@@ -41,5 +40,6 @@ pub(crate) fn plan_in<'a>(matches: &ArgMatches<'a>) -> Option<PlanRequest<'a>>
         scen: matches.get_str("scen")?,
         agents: number(matches, "agents")?,
         horizon: number(matches, "horizon")??,
+        tries: count(matches, "tries")??,
     })
 }

@@ -9,9 +9,16 @@ use fleet_model::Deps;
 
 /// The number of an option, if it was used. No answer where its text is no number.
 pub(crate) fn number(matches: &ArgMatches<'_>, id: &str) -> Option<Option<u16>>
-    ensures { result ≡ number_by (one_text (found_of matches.now) id.now) }
+    ensures { result ≡ number_by 16 (one_text (found_of matches.now) id.now) }
 {
     matches.try_get_one::<u16>(id).ok()
+}
+
+/// The same of an option with larger numbers.
+pub(crate) fn count(matches: &ArgMatches<'_>, id: &str) -> Option<Option<u32>>
+    ensures { result ≡ number_by 32 (one_text (found_of matches.now) id.now) }
+{
+    matches.try_get_one::<u32>(id).ok()
 }
 
 /// The kind of awaits of a name.

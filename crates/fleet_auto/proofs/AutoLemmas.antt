@@ -11,16 +11,16 @@ use Rattle.fleet_model.specs.declared.deps.Deps.{Deps}
 use Rattle.fleet_text.specs.Sink.{SinkState}
 use Rattle.fleet_auto.specs.Trace.{Traces}
 use Rattle.fleet_auto.specs.Faults.{run_fault}
-use Rattle.fleet_auto.specs.Auto.{MakesProgram, AutoRuns}
+use Rattle.fleet_auto.specs.Auto.{MakesProgram, AutoRunsIn}
 use Rattle.fleet_run.specs.declared.trace.Report.{Report}
 use Rattle.fleet_run.specs.declared.run.RunFault.{RunFault}
 use Rattle.fleet_run.specs.declared.run.RunFault.TheVariants.{OutOfMemory, Source, Hold, Write, HoldLimit}
 
 -- bytes were made of the texts, and they are accepted: so the program that they spell was made of the texts
-module _ (one : OneProgramEach) (map scen : List ℕ) (asked : Option ℕ) (horizon : ℕ) (deps : Deps) (g : Ground) (tasks : List Task) (bytes : List ℕ) (q : Program)
-    (chain : ℕ) (texts : AreTextsOf map scen asked g tasks) (plan : SpellsMade g tasks horizon deps bytes) (accepts : Accepts bytes g tasks q chain) (held : List ℕ)
+module _ (one : OneProgramEach) (map scen : List ℕ) (asked : Option ℕ) (horizon tries : ℕ) (deps : Deps) (g : Ground) (tasks : List Task) (bytes : List ℕ) (q : Program)
+    (chain : ℕ) (texts : AreTextsOf map scen asked g tasks) (plan : SpellsMade g tasks horizon tries deps bytes) (accepts : Accepts bytes g tasks q chain) (held : List ℕ)
     (out out' : SinkState) where
-  abbrev made : MakesProgram map scen asked horizon deps
+  abbrev made : MakesProgram map scen asked horizon tries deps
   made = record {
     ground = g;
     tasks = tasks;
@@ -33,10 +33,10 @@ module _ (one : OneProgramEach) (map scen : List ℕ) (asked : Option ℕ) (hori
     accepted_for = accepts.accepted_for;
   }
 
-  pub auto_runs : (r : Report) → Traces q chain held out out' (Ok r) → AutoRuns map scen asked horizon deps held out out' (Ok r)
+  pub auto_runs : (r : Report) → Traces q chain held out out' (Ok r) → AutoRunsIn map scen asked horizon tries deps held out out' (Ok r)
   auto_runs r h = (made, h)
 
-  pub auto_stops : (fault : RunFault) → Traces q chain held out out' (Err fault) → AutoRuns map scen asked horizon deps held out out' (Err (run_fault fault))
+  pub auto_stops : (fault : RunFault) → Traces q chain held out out' (Err fault) → AutoRunsIn map scen asked horizon tries deps held out out' (Err (run_fault fault))
   auto_stops OutOfMemory h = h
   auto_stops (Source x) h = (made, h)
   auto_stops (Hold x) h = (made, h)

@@ -15,14 +15,14 @@ use Rattle.fleet_auto.specs.Trace.{WritesTrace, StopsTrace}
 use Rattle.fleet_auto.specs.declared.fault.AutoFault.{AutoFault}
 use Rattle.fleet_auto.specs.declared.fault.AutoFault.TheVariants.{OutOfMemory, Map, Scen, Plan as PlanStops, Compile, Run}
 
--- The texts stand for a map and for tasks. For these a plan is made agent by agent, each path the earliest against those before it; it is
+-- The texts stand for a map and for tasks. For these a plan is made agent by agent in one of the first orders, each path the earliest against those before it; it is
 -- free of conflict; and this is its program, which is accepted for the map and the tasks, and the longest chain of the program
-pub record MakesProgram (map scen : List ℕ) (asked : Option ℕ) (horizon : ℕ) (deps : Deps) : Type 0 where
+pub record MakesProgram (map scen : List ℕ) (asked : Option ℕ) (horizon tries : ℕ) (deps : Deps) : Type 0 where
   pub ground : Ground
   pub tasks : List Task
   pub texts : AreTextsOf map scen asked ground tasks
   pub plan : Plan
-  pub planned : IsPlannedFor ground tasks horizon plan
+  pub planned : IsPlannedFor ground tasks horizon tries plan
   pub program : Program
   pub compiled : compiled_if_few plan deps ≡ Ok program
   pub chain : ℕ
@@ -31,18 +31,22 @@ pub record MakesProgram (map scen : List ℕ) (asked : Option ℕ) (horizon : �
 -- The refusal is that of the first step that refuses: the first fault of the map's text, or of the scenario's on that map; or an agent is
 -- left without a path by those before it; or the agents of the plan make too many moves; or the run of the program stops. Memory may run
 -- out in each step before the run, and until the run nothing is written
-abbrev pub IsAutoFault : (map scen : List ℕ) → Option ℕ → ℕ → Deps → List ℕ → (out out' : SinkState) → AutoFault → Type 0
-IsAutoFault map scen asked horizon deps held out out' OutOfMemory = IsUnwritten out out'
-IsAutoFault map scen asked horizon deps held out out' (Map fault) = IsProblemFault map scen asked (Map fault) × IsUnwritten out out'
-IsAutoFault map scen asked horizon deps held out out' (Scen fault) = IsProblemFault map scen asked (Scen fault) × IsUnwritten out out'
-IsAutoFault map scen asked horizon deps held out out' (PlanStops stop) =
-    (g : Ground) × (tasks : List Task) × AreTextsOf map scen asked g tasks × IsMakingFault g tasks horizon deps (PlanStops stop) × IsUnwritten out out'
-IsAutoFault map scen asked horizon deps held out out' (Compile fault) =
-    (g : Ground) × (tasks : List Task) × AreTextsOf map scen asked g tasks × IsMakingFault g tasks horizon deps (Compile fault) × IsUnwritten out out'
-IsAutoFault map scen asked horizon deps held out out' (Run fault) =
-    (a : MakesProgram map scen asked horizon deps) × StopsTrace a.program a.chain held out out' fault
+abbrev pub IsAutoFault : (map scen : List ℕ) → Option ℕ → ℕ → ℕ → Deps → List ℕ → (out out' : SinkState) → AutoFault → Type 0
+IsAutoFault map scen asked horizon tries deps held out out' OutOfMemory = IsUnwritten out out'
+IsAutoFault map scen asked horizon tries deps held out out' (Map fault) = IsProblemFault map scen asked (Map fault) × IsUnwritten out out'
+IsAutoFault map scen asked horizon tries deps held out out' (Scen fault) = IsProblemFault map scen asked (Scen fault) × IsUnwritten out out'
+IsAutoFault map scen asked horizon tries deps held out out' (PlanStops stop) =
+    (g : Ground) × (tasks : List Task) × AreTextsOf map scen asked g tasks × IsMakingFault g tasks horizon tries deps (PlanStops stop) × IsUnwritten out out'
+IsAutoFault map scen asked horizon tries deps held out out' (Compile fault) =
+    (g : Ground) × (tasks : List Task) × AreTextsOf map scen asked g tasks × IsMakingFault g tasks horizon tries deps (Compile fault) × IsUnwritten out out'
+IsAutoFault map scen asked horizon tries deps held out out' (Run fault) =
+    (a : MakesProgram map scen asked horizon tries deps) × StopsTrace a.program a.chain held out out' fault
 
 -- the trace of the program that is made of the texts was written under the holds, and the report has its numbers; or a refusal
+abbrev pub AutoRunsIn : (map scen : List ℕ) → Option ℕ → ℕ → ℕ → Deps → List ℕ → (out out' : SinkState) → Result Report AutoFault → Type 0
+AutoRunsIn map scen asked horizon tries deps held out out' (Ok r) = (a : MakesProgram map scen asked horizon tries deps) × WritesTrace a.program a.chain held out out' r
+AutoRunsIn map scen asked horizon tries deps held out out' (Err fault) = IsAutoFault map scen asked horizon tries deps held out out' fault
+
+-- the same in one order, that of the agents' numbers
 abbrev pub AutoRuns : (map scen : List ℕ) → Option ℕ → ℕ → Deps → List ℕ → (out out' : SinkState) → Result Report AutoFault → Type 0
-AutoRuns map scen asked horizon deps held out out' (Ok r) = (a : MakesProgram map scen asked horizon deps) × WritesTrace a.program a.chain held out out' r
-AutoRuns map scen asked horizon deps held out out' (Err fault) = IsAutoFault map scen asked horizon deps held out out' fault
+AutoRuns map scen asked horizon deps held out out' result = AutoRunsIn map scen asked horizon 1 deps held out out' result

@@ -13,4 +13,4 @@ mod running;
 pub use accepting::accept;
 pub use fault::{AcceptFault, AutoFault};
 pub use problem::{Problem, read_problem};
-pub use running::{auto_run, run_accepted};
+pub use running::{AutoTask, auto_run, auto_run_in_orders, run_accepted};

@@ -10,7 +10,7 @@ use fleet_code::{EncodeFault, encode};
 use fleet_grid::Grid;
 use fleet_model::Program;
 use fleet_scen::Instance;
-use fleet_search::plan;
+use fleet_search::plan_in_orders;
 use std::alloc::Global;
 
 /// The program of the plan that is made for the map and the instance.
@@ -19,13 +19,14 @@ fn made_program(
     grid: &Grid,
     instance: &Instance,
     horizon: u16,
+    tries: u32,
     deps: Deps,
 ) -> Result<Program, AutoFault>
-    ensures made { IfOk result (IsMadeFor grid.now instance.now horizon deps) }
+    ensures made { IfOk result (IsMadeFor grid.now instance.now horizon tries deps) }
     ensures moves { IfOk result NeverStays }
-    ensures fault { IfErr result (IsMakingFault grid.now instance.now horizon deps) }
+    ensures fault { IfErr result (IsMakingFault grid.now instance.now horizon tries deps) }
 {
-    let checked = plan(alloc, grid, instance, horizon)?;
+    let checked = plan_in_orders(alloc, grid, instance, horizon, tries)?;
     let program = compile(alloc, &checked, deps)?;
     Ok(program)
 }
@@ -36,12 +37,13 @@ pub fn made_bytes(
     grid: &Grid,
     instance: &Instance,
     horizon: u16,
+    tries: u32,
     deps: Deps,
 ) -> Result<Vec<u8>, AutoFault>
-    ensures made { IfOk result (λ bytes. SpellsMade grid.now instance.now horizon deps bytes.items) }
-    ensures fault { IfErr result (IsMakingFault grid.now instance.now horizon deps) }
+    ensures made { IfOk result (λ bytes. SpellsMade grid.now instance.now horizon tries deps bytes.items) }
+    ensures fault { IfErr result (IsMakingFault grid.now instance.now horizon tries deps) }
 {
-    let program = made_program(alloc, grid, instance, horizon, deps)?;
+    let program = made_program(alloc, grid, instance, horizon, tries, deps)?;
     match encode(alloc, &program) {
         Ok(bytes) => Ok(bytes),
         Err(EncodeFault::OutOfMemory) => Err(AutoFault::OutOfMemory),

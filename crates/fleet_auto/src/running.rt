@@ -2,7 +2,7 @@
 
 ghost use Rattle.fleet_text.specs.Sink.{IsWorking};
 ghost use Rattle.fleet_auto.specs.Trace.{Traces};
-ghost use Rattle.fleet_auto.specs.Auto.{AutoRuns};
+ghost use Rattle.fleet_auto.specs.Auto.{AutoRuns, AutoRunsIn};
 
 use crate::accepting::accept_made;
 use crate::fault::AutoFault;
@@ -36,6 +36,45 @@ pub fn run_accepted<P: ProgramView + Drop, O: TraceOut>(
     drive(&mut fleet, &mut source, out)
 }
 
+/// What is planned, compiled and run: the texts of a map and a scenario, of whose agents the first `asked` or all; the latest arrival; how
+/// many orders of the agents are tried at most; the kind of awaits; and the text of the holds.
+#[derive(Clone, Copy, Debug)]
+pub struct AutoTask<'a> {
+    pub map: &'a [u8],
+    pub scen: &'a [u8],
+    pub asked: Option<u16>,
+    pub horizon: u16,
+    pub tries: u32,
+    pub deps: Deps,
+    pub holds: &'a [u8],
+}
+
+/// What `auto_run` does, with a plan that is made in one of up to so many orders of the agents (`plan_in_orders`).
+///
+/// Errors: those of `auto_run`.
+pub fn auto_run_in_orders<O: TraceOut>(
+    alloc: Global,
+    task: &AutoTask<'_>,
+    out: &mut O,
+) -> Result<Report, AutoFault>
+    requires { IsWorking (O.state out.old) }
+    ensures { AutoRunsIn task.now.map.now task.now.scen.now task.now.asked task.now.horizon task.now.tries
+        task.now.deps task.now.holds.now (O.state out.old) (O.state out.new) result }
+{
+    each_spelling_has_one_program();
+    let problem = read_problem(alloc, task.map, task.scen, task.asked)?;
+    let bytes = made_bytes(
+        alloc,
+        &problem.grid,
+        &problem.instance,
+        task.horizon,
+        task.tries,
+        task.deps,
+    )?;
+    let accepted = accept_made(alloc, &bytes, &problem.grid, &problem.instance)?;
+    Ok(run_accepted(alloc, accepted, task.holds, out)?)
+}
+
 /// Plans for the map and the scenario (of whose agents the first `asked`, or all), with paths that arrive by the horizon, compiles the plan,
 /// writes the program as bytes, loads and verifies these, and runs the program under the holds. The trace is written to `out`, which is not
 /// flushed. The report has the trace's numbers.
@@ -56,9 +95,14 @@ pub fn auto_run<O: TraceOut>(
     ensures { AutoRuns map.now scen.now asked horizon deps holds.now
         (O.state out.old) (O.state out.new) result }
 {
-    each_spelling_has_one_program();
-    let problem = read_problem(alloc, map, scen, asked)?;
-    let bytes = made_bytes(alloc, &problem.grid, &problem.instance, horizon, deps)?;
-    let accepted = accept_made(alloc, &bytes, &problem.grid, &problem.instance)?;
-    Ok(run_accepted(alloc, accepted, holds, out)?)
+    let task = AutoTask {
+        map,
+        scen,
+        asked,
+        horizon,
+        tries: 1,
+        deps,
+        holds,
+    };
+    auto_run_in_orders(alloc, &task, out)
 }

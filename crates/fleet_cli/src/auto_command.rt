@@ -5,9 +5,8 @@ ghost use Rattle.fleet_text.specs.Sink.{IsWorking};
 ghost use Rattle.fleet_files.specs.Files.{IsKept};
 ghost use Rattle.fleet_cli.specs.AutoCommand.{RunsMade, IsMadeFault, DoesAuto, RefusesAuto};
 
-use fleet_adg::Deps;
 use fleet_args::AutoRequest;
-use fleet_auto::{AutoFault, auto_run};
+use fleet_auto::{AutoFault, AutoTask, auto_run_in_orders};
 use fleet_io::{Fault, Files, flush_run, read_with_holds};
 use fleet_run::Flush;
 use std::alloc::Global;
@@ -15,20 +14,17 @@ use std::alloc::Global;
 /// Plans for the map and the scenario, compiles the plan and runs the program under the holds, and has the sink hand on the trace.
 fn auto_texts<'a, O: Flush>(
     alloc: Global,
-    map: &[u8],
-    scen: &[u8],
-    asked: Option<u16>,
-    horizon: u16,
-    deps: Deps,
-    held: &[u8],
+    task: &AutoTask<'_>,
     out: &mut O,
 ) -> Result<u8, Fault<'a>>
     requires { IsWorking (O.state out.old) }
     ensures { MatchResult result
-        (λ status. RunsMade map.now scen.now asked horizon deps held.now (O.state out.old) (O.state out.new) × (status ≡ 0))
-        (IsMadeFault map.now scen.now asked horizon deps held.now (O.state out.old) (O.state out.new)) }
+        (λ status. RunsMade task.now.map.now task.now.scen.now task.now.asked task.now.horizon task.now.tries
+        task.now.deps task.now.holds.now (O.state out.old) (O.state out.new) × (status ≡ 0))
+        (IsMadeFault task.now.map.now task.now.scen.now task.now.asked task.now.horizon task.now.tries
+        task.now.deps task.now.holds.now (O.state out.old) (O.state out.new)) }
 {
-    let ran = match auto_run(alloc, map, scen, asked, horizon, deps, held, out) {
+    let ran = match auto_run_in_orders(alloc, task, out) {
         Ok(report) => Ok(report),
         Err(AutoFault::Run(fault)) => Err(fault),
         Err(fault) => return Err(Fault::from(fault)),
@@ -58,14 +54,14 @@ pub(crate) fn do_auto<'a, F: Files, O: Flush>(
     let [map, scen] = read.as_slice() else {
         unreachable!()
     };
-    auto_texts(
-        alloc,
+    let task = AutoTask {
         map,
         scen,
-        request.agents,
-        request.horizon,
-        request.deps,
-        &held,
-        out,
-    )
+        asked: request.agents,
+        horizon: request.horizon,
+        tries: request.tries,
+        deps: request.deps,
+        holds: &held,
+    };
+    auto_texts(alloc, &task, out)
 }

@@ -11,7 +11,7 @@ use fleet_io::{Fault, Files, deliver, read_files};
 use fleet_model::OutOfMemory;
 use fleet_plan::write_plan;
 use fleet_run::{Flush, OutFault};
-use fleet_search::plan;
+use fleet_search::plan_in_orders;
 use std::alloc::Global;
 
 /// Plans for the map and the instance of the texts, and prints the plan.
@@ -19,17 +19,24 @@ fn plan_texts<'a, O: Flush>(
     alloc: Global,
     map: &[u8],
     scen: &[u8],
-    asked: Option<u16>,
-    horizon: u16,
+    request: &PlanRequest<'_>,
     out: &mut O,
 ) -> Result<u8, Fault<'a>>
     requires { IsWorking (O.state out.old) }
     ensures { MatchResult result
-        (λ status. PrintsPlan map.now scen.now asked horizon (O.state out.old) (O.state out.new) × (status ≡ 0))
-        (IsPlanCommandFault map.now scen.now asked horizon (O.state out.old) (O.state out.new)) }
+        (λ status. PrintsPlan map.now scen.now request.now.agents request.now.horizon request.now.tries
+        (O.state out.old) (O.state out.new) × (status ≡ 0))
+        (IsPlanCommandFault map.now scen.now request.now.agents request.now.horizon request.now.tries
+        (O.state out.old) (O.state out.new)) }
 {
-    let problem = read_problem(alloc, map, scen, asked)?;
-    let checked = match plan(alloc, &problem.grid, &problem.instance, horizon) {
+    let problem = read_problem(alloc, map, scen, request.agents)?;
+    let checked = match plan_in_orders(
+        alloc,
+        &problem.grid,
+        &problem.instance,
+        request.horizon,
+        request.tries,
+    ) {
         Ok(checked) => checked,
         Err(stop) => return Err(Fault::Search(stop)),
     };
@@ -44,7 +51,7 @@ fn plan_texts<'a, O: Flush>(
 }
 
 /// The command `plan`: reads both files whole, and prints to `out` a plan in which each agent's path is the earliest against those of
-/// the agents before it. Answers 0. No file is changed.
+/// the agents before it, in one of the first orders of the agents. Answers 0. No file is changed.
 pub(crate) fn do_plan<'a, F: Files, O: Flush>(
     alloc: Global,
     request: &PlanRequest<'a>,
@@ -61,5 +68,5 @@ pub(crate) fn do_plan<'a, F: Files, O: Flush>(
     let [map, scen] = read.as_slice() else {
         unreachable!()
     };
-    plan_texts(alloc, map, scen, request.agents, request.horizon, out)
+    plan_texts(alloc, map, scen, request, out)
 }

@@ -95,6 +95,22 @@ chain 4
 held 0
 ";
 
+// ---- mouth: agent 0 goes from the bay to its mouth and stays there, so agent 1, which goes past, has to be planned before it.
+
+pub const MOUTH_SCEN: &[u8] = b"version 1\n0 m 3 2 1 1 1 0 1\n0 m 3 2 0 0 2 0 2\n";
+
+pub const MOUTH_PLAN: &[u8] = b"1,1 1,1 1,0\n0,0 1,0 2,0\n";
+
+pub const MOUTH_TRACE: &[u8] = b"0: 1,1 0,0
+1: 1,1 1,0
+2: 1,1 2,0
+3: 1,0 2,0
+agents 2
+ticks 3
+chain 3
+held 0
+";
+
 // ---- square: four agents on a square of four cells, each of which would go to the next one's cell.
 
 pub const SQUARE_MAP: &[u8] = b"type octile\nheight 2\nwidth 2\nmap\n..\n..\n";

@@ -6,7 +6,7 @@ use fleet_grid::{Grid, read_map};
 use fleet_model::Cell;
 use fleet_plan::{Path, Plan};
 use fleet_scen::{Instance, read_scen};
-use fleet_search::{PlanStop, Reservations, SearchFault, earliest, plan};
+use fleet_search::{PlanStop, Reservations, SearchFault, earliest, plan, plan_in_orders};
 use std::alloc::{AllocError, Global};
 use std::process::Abort;
 use std::test::Fail;
@@ -255,5 +255,23 @@ fn many_agents(rt: HostRuntime) -> Result<(), Fail> {
     assert_eq!(rt; made.plan().agents(), 1024);
     assert_eq!(rt; made.plan().steps(), 1);
     assert_goes(&rt, made.plan(), 1023, &[at(1023, 0), at(1023, 1)]);
+    Ok(())
+}
+
+/// Agent 0 stays in the mouth of the bay, past which agent 1 goes: planned first it leaves agent 1 no path.
+#[test]
+fn the_agent_without_a_path_is_planned_first(rt: HostRuntime) -> Result<(), Fail> {
+    let map = b"type octile\nheight 2\nwidth 3\nmap\n...\n@.@\n";
+    let scen = b"version 1\n0 m 3 2 1 1 1 0 1\n0 m 3 2 0 0 2 0 2\n";
+    let grid = grid_of(&rt, rt.alloc(), map);
+    let instance = instance_of(&rt, rt.alloc(), &grid, scen);
+    for tries in 0..2 {
+        let stop = plan_in_orders(rt.alloc(), &grid, &instance, 1024, tries).err();
+        assert_eq!(rt; stop, Some(PlanStop::NoPath { agent: 1 }));
+    }
+    let made = plan_in_orders(rt.alloc(), &grid, &instance, 1024, 2)?;
+    assert_eq!(rt; made.plan().agents(), 2);
+    assert_goes(&rt, made.plan(), 0, &[at(1, 1), at(1, 1), at(1, 0)]);
+    assert_goes(&rt, made.plan(), 1, &[at(0, 0), at(1, 0), at(2, 0)]);
     Ok(())
 }

@@ -17,3 +17,5 @@ pub mod Optimal
 pub mod Trail
 pub mod InTurnLaws
 pub mod LabelLaws
+pub mod OrderLaws
+pub mod OrderConflicts

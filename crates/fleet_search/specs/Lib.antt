@@ -8,3 +8,5 @@ pub mod Search
 pub mod InTurn
 pub mod Told
 pub mod Labels
+pub mod Orders
+pub mod Attempts

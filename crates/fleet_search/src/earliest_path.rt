@@ -23,6 +23,7 @@ fn search(frontier: &mut Frontier, question: &Question) -> Result<Path, SearchFa
     ensures ok { IfOk result (IsEarliest (is_passable question.now.grid.now) question.now.reserved.now question.now.start question.now.goal question.now.horizon) }
     ensures no_path { IfErr result (λ e. e ≡ SearchFault.NoPath → HasNoWay (is_passable question.now.grid.now) question.now.reserved.now question.now.start question.now.goal question.now.horizon) }
     ensures labels { OnOk result (AreLabels frontier.new.labels) }
+    ensures kept { IfErr result (λ e. e ≡ SearchFault.NoPath → AreLabels frontier.new.labels) }
 {
     if question.far(question.start) > question.horizon {
         return Err(SearchFault::NoPath);
@@ -61,6 +62,8 @@ pub fn earliest_over(
     requires labels { AreLabels frontier.old.labels }
     ensures ready { OnOk result (IsReady grid.now distances.new.labels.items distances.new.search) }
     ensures labels { OnOk result (AreLabels frontier.new.labels) }
+    ensures kept { IfErr result (λ e. e ≡ SearchFault.NoPath
+        → IsReady grid.now distances.new.labels.items distances.new.search × AreLabels frontier.new.labels) }
     ensures ok { IfOk result (IsEarliest (is_passable grid.now) reserved.now start goal horizon) }
     ensures no_path { IfErr result (λ e. e ≡ SearchFault.NoPath → HasNoWay (is_passable grid.now) reserved.now start goal horizon) }
 {

@@ -5,7 +5,8 @@ ghost use Rattle.fleet_model.specs.declared.geometry.Cell.{Cell};
 ghost use Rattle.fleet_model.specs.declared.geometry.Place.{Place};
 ghost use Rattle.fleet_model.specs.declared.task.Task.{Task};
 ghost use Rattle.fleet_plan.specs.Plan.{Plan, IsConflictFree};
-ghost use Rattle.fleet_search.specs.InTurn.{IsMadeInTurn};
+ghost use Rattle.fleet_search.specs.InTurn.{IsMadeInTurn, IsStuckAt};
+ghost use Rattle.fleet_search.specs.Orders.{IsMadeInTries, IsStuckInTries};
 ghost use Rattle.fleet_search.specs.Way.{Fits, FitTogether, HasNoConflict, EachStepFits};
 
 /// Whether a path fits depends on each of its steps and the reserved paths alone.
@@ -21,4 +22,12 @@ pub fn planned_agent_by_agent()
 /// A plan that is made agent by agent is free of conflict.
 pub fn made_in_turn()
     ensures { (passable : Place → Bool) (tasks : List Task) (horizon : ℕ) (plan : Plan) → IsMadeInTurn passable tasks horizon (length tasks) plan → IsConflictFree passable tasks plan }
+{}
+
+/// One order that is tried is that of the agents' numbers.
+pub fn one_order()
+    ensures made { (passable : Place → Bool) (tasks : List Task) (horizon : ℕ) (plan : Plan)
+        → IsMadeInTries passable tasks horizon 1 plan → IsMadeInTurn passable tasks horizon (length tasks) plan }
+    ensures stuck { (passable : Place → Bool) (tasks : List Task) (horizon agent : ℕ)
+        → IsStuckInTries passable tasks horizon 1 agent → IsStuckAt passable tasks horizon agent }
 {}

@@ -11,6 +11,7 @@ mod gaps;
 mod labels;
 mod laws;
 mod moment;
+mod orders;
 mod planner;
 mod reservations;
 mod rows;
@@ -19,6 +20,7 @@ mod timetable;
 
 pub use earliest_path::earliest;
 pub use fault::{PlanStop, SearchFault};
-pub use laws::{made_in_turn, planned_agent_by_agent, steps_decide};
+pub use laws::{made_in_turn, one_order, planned_agent_by_agent, steps_decide};
+pub use orders::plan_in_orders;
 pub use planner::plan;
 pub use reservations::Reservations;

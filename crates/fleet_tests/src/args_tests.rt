@@ -30,6 +30,7 @@ fn auto<'a>(
     scen: &'a str,
     agents: Option<u16>,
     horizon: u16,
+    tries: u32,
     deps: Deps,
     holds: Option<&'a str>,
 ) -> Request<'a> {
@@ -38,6 +39,7 @@ fn auto<'a>(
         scen,
         agents,
         horizon,
+        tries,
         deps,
         holds,
     })
@@ -45,7 +47,7 @@ fn auto<'a>(
 
 #[test]
 fn words_make_a_request(rt: HostRuntime) -> Result<(), Fail> {
-    let rows: [(&[&str], Request<'_>); 22] = [
+    let rows: [(&[&str], Request<'_>); 23] = [
         (&["rehearse", "p"], rehearse("p", None)),
         (&["rehearse", "p", "--holds", "h"], rehearse("p", Some("h"))),
         (&["rehearse", "--holds=-", "p"], rehearse("p", Some("-"))),
@@ -92,6 +94,17 @@ fn words_make_a_request(rt: HostRuntime) -> Result<(), Fail> {
                 scen: "s",
                 agents: None,
                 horizon: 1024,
+                tries: 1,
+            }),
+        ),
+        (
+            &["plan", "m", "s", "--tries", "1000000"],
+            Request::Plan(PlanRequest {
+                map: "m",
+                scen: "s",
+                agents: None,
+                horizon: 1024,
+                tries: 1_000_000,
             }),
         ),
         (
@@ -101,6 +114,7 @@ fn words_make_a_request(rt: HostRuntime) -> Result<(), Fail> {
                 scen: "s",
                 agents: Some(2),
                 horizon: 65_535,
+                tries: 1,
             }),
         ),
         (
@@ -146,11 +160,11 @@ fn words_make_a_request(rt: HostRuntime) -> Result<(), Fail> {
         ),
         (
             &["auto", "m", "s"],
-            auto("m", "s", None, 1024, Deps::Last, None),
+            auto("m", "s", None, 1024, 1, Deps::Last, None),
         ),
         (
             &["auto", "m", "s", "--deps", "all", "--horizon", "1"],
-            auto("m", "s", None, 1, Deps::All, None),
+            auto("m", "s", None, 1, 1, Deps::All, None),
         ),
         (
             &[
@@ -161,9 +175,10 @@ fn words_make_a_request(rt: HostRuntime) -> Result<(), Fail> {
                 "--agents=3",
                 "s",
                 "--horizon=65535",
+                "--tries=70000",
                 "--deps=last",
             ],
-            auto("m", "s", Some(3), 65_535, Deps::Last, Some("h")),
+            auto("m", "s", Some(3), 65_535, 70_000, Deps::Last, Some("h")),
         ),
     ];
     for (texts, expected) in rows {
@@ -201,7 +216,7 @@ fn stops(
 
 #[test]
 fn usage_says_what_is_wrong(rt: HostRuntime) -> Result<(), Fail> {
-    let rows: [(&[&str], &str); 21] = [
+    let rows: [(&[&str], &str); 23] = [
         (
             &[],
             "error: 'fleet' requires a subcommand but one was not provided",
@@ -254,6 +269,14 @@ fn usage_says_what_is_wrong(rt: HostRuntime) -> Result<(), Fail> {
         (
             &["auto", "m", "s", "--horizon", "0"],
             "error: invalid value '0' for '--horizon <H>': 0 is not in 1..=65535",
+        ),
+        (
+            &["plan", "m", "s", "--tries", "0"],
+            "error: invalid value '0' for '--tries <N>': 0 is not in 1..=1000000",
+        ),
+        (
+            &["auto", "m", "s", "--tries", "1000001"],
+            "error: invalid value '1000001' for '--tries <N>': 1000001 is not in 1..=1000000",
         ),
         (
             &["auto", "m", "s", "--deps", "first"],

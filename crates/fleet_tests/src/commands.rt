@@ -51,13 +51,14 @@ pub const SOON: &[u8] = b"4D504631 0002 0001 0000 0003 0000 0002 01 01
     0000 0000 0002 0000 0002 01 10 0000 0002 01";
 
 /// The maps and scenarios of the worked fleets.
-const TEXTS: [(&str, &[u8]); 14] = [
+const TEXTS: [(&str, &[u8]); 15] = [
     ("pair.map", PAIR_MAP),
     ("pair.scen", PAIR_SCEN),
     ("row.map", ROW_MAP),
     ("row.scen", ROW_SCEN),
     ("bay.map", BAY_MAP),
     ("bay.scen", BAY_SCEN),
+    ("mouth.scen", MOUTH_SCEN),
     ("square.map", SQUARE_MAP),
     ("square.scen", SQUARE_SCEN),
     ("relay.map", RELAY_MAP),

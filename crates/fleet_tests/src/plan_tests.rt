@@ -44,3 +44,36 @@ fn agents_without_a_path_are_told(rt: HostRuntime) -> Result<(), Fail> {
     }
     Ok(())
 }
+
+#[test]
+fn other_orders_are_tried(rt: HostRuntime) -> Result<(), Fail> {
+    let rows: [(&str, Answer<'_>); 7] = [
+        (
+            "plan bay.map mouth.scen",
+            refuses(b"search 2 NoPath agent 1\n"),
+        ),
+        (
+            "plan bay.map mouth.scen --tries 1",
+            refuses(b"search 2 NoPath agent 1\n"),
+        ),
+        ("plan bay.map mouth.scen --tries 2", prints(MOUTH_PLAN)),
+        (
+            "plan bay.map mouth.scen --tries 1000000",
+            prints(MOUTH_PLAN),
+        ),
+        ("auto bay.map mouth.scen --tries 2", prints(MOUTH_TRACE)),
+        (
+            "auto bay.map mouth.scen",
+            refuses(b"search 2 NoPath agent 1\n"),
+        ),
+        // No order has a path of one step for agent 1, and none is tried more than once where it comes first.
+        (
+            "plan bay.map mouth.scen --tries 1000000 --horizon 1",
+            refuses(b"search 2 NoPath agent 1\n"),
+        ),
+    ];
+    for (line, answer) in rows {
+        expect(&rt, rt.alloc(), line, &[], answer)?;
+    }
+    Ok(())
+}

@@ -7,5 +7,5 @@ use Rattle.fleet_args.proofs.values.number.Goals as goal
 pub returns : goal.returns
 returns c =
     c.ok.ensures.value
-    ∙ number_gives (λ bs r. ParsesUnsigned 16 10 bs r × ExplainsUnsignedError 10 bs r × HasUnsignedDigitsIfOk bs r) (λ t r h. h.0)
+    ∙ number_gives 16 (λ bs r. ParsesUnsigned 16 10 bs r × ExplainsUnsignedError 10 bs r × HasUnsignedDigitsIfOk bs r) (λ t r h. h.0)
     (found_of c.args.matches.now) c.args.id.now c.try_get_one.result c.try_get_one.ensures.none c.try_get_one.ensures.value

@@ -4,7 +4,7 @@ use Rattle.fleet_cli.proofs.plan_command.plan_texts.Goals as goal
 
 pub returns-in-Ok-deliver : goal.returns-in-Ok-deliver
 returns-in-Ok-deliver g c =
-    let bytes : c.deref.result.now ≡ plan_text c.in-Ok.checked.plan = c.deref.ensures.value ∙ (c.in-Ok-write_plan.ensures ∙ ap plan_text c.plan-2.ensures.value) in
+    let bytes : c.deref.result.now ≡ plan_text c.in-Ok.checked.plan = c.deref.ensures.value ∙ (c.in-Ok-write_plan.ensures ∙ ap plan_text c.plan.ensures.value) in
     let delivered = c.in-Ok-deliver.ensures in (
       record {
         plans = record {
@@ -21,7 +21,7 @@ returns-in-Ok-deliver g c =
 
 pub returns : goal.returns
 returns g c =
-    let bytes : c.deref.result.now ≡ plan_text c.in-Ok.checked.plan = c.deref.ensures.value ∙ (c.in-Ok-write_plan.ensures ∙ ap plan_text c.plan-2.ensures.value) in (
+    let bytes : c.deref.result.now ≡ plan_text c.in-Ok.checked.plan = c.deref.ensures.value ∙ (c.in-Ok-write_plan.ensures ∙ ap plan_text c.plan.ensures.value) in (
       record {
         ground = c.in_ok-problem.problem.grid;
         tasks = c.in_ok-problem.problem.instance;

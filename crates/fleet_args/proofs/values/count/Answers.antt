@@ -1,0 +1,11 @@
+use Rattle.std.proofs.Common.{◌∙◌}
+use Rattle.std.specs.Str.Parse.{ParsesUnsigned, ExplainsUnsignedError, HasUnsignedDigitsIfOk}
+use Rattle.clap.specs.Words.{found_of}
+use Rattle.fleet_args.proofs.RequestLemmas.{number_gives}
+use Rattle.fleet_args.proofs.values.count.Goals as goal
+
+pub returns : goal.returns
+returns c =
+    c.ok.ensures.value
+    ∙ number_gives 32 (λ bs r. ParsesUnsigned 32 10 bs r × ExplainsUnsignedError 10 bs r × HasUnsignedDigitsIfOk bs r) (λ t r h. h.0)
+    (found_of c.args.matches.now) c.args.id.now c.try_get_one.result c.try_get_one.ensures.none c.try_get_one.ensures.value

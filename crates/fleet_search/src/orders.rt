@@ -1,0 +1,193 @@
+//! Plans made agent by agent in several orders: an agent that is left without a path comes first in the next one.
+
+ghost use Rattle.std.specs.Prelude.{◌≡◌, ◌<◌, ℕ, length, IfOk, IfErr, OnOk};
+ghost use Rattle.fleet_plan.specs.Plan.{IsConflictFree};
+ghost use Rattle.fleet_grid.specs.Ground.{is_passable};
+ghost use Rattle.fleet_search.specs.Orders.{rising, to_front, paths_by, IsMadeInTries, IsStuckInTries};
+ghost use Rattle.fleet_search.specs.Attempts.{AreTables, IsOrderOf, IsAttempt};
+
+use crate::distances::Distances;
+use crate::earliest_path::earliest_over;
+use crate::fault::{PlanStop, SearchFault};
+use crate::frontier::Frontier;
+use crate::reservations::Reservations;
+use fleet_grid::Grid;
+use fleet_model::OutOfMemory;
+use fleet_plan::{Checked, Path, Plan, PlanFault, check};
+use fleet_scen::Instance;
+use std::alloc::Global;
+
+/// What is planned for: paths that arrive by the horizon.
+#[derive(Drop)]
+struct Problem<'a> {
+    alloc: Global,
+    grid: &'a Grid,
+    instance: &'a Instance,
+    horizon: u16,
+}
+
+/// The tables of a search, which serve one after another.
+#[derive(Drop)]
+struct Tables {
+    distances: Distances,
+    frontier: Frontier,
+}
+
+/// What comes of an order: a path for each agent, as they stand in the order; or the place of the first agent that is left without one.
+#[derive(Drop)]
+enum Attempt {
+    Made(Vec<Path>),
+    Stuck(usize),
+}
+
+/// Plans in this order, each path the earliest past those of the agents before.
+fn plan_in_order(
+    problem: &Problem<'_>,
+    order: &[u16],
+    tables: &mut Tables,
+) -> Result<Attempt, OutOfMemory>
+    requires order { IsOrderOf problem.now order.now }
+    requires tables { AreTables problem.now tables.old }
+    ensures tables { OnOk result (AreTables problem.now tables.new) }
+    ensures attempt { IfOk result (IsAttempt problem.now order.now) }
+{
+    let mut reserved = Reservations::new(problem.alloc);
+    for place in 0..order.len() {
+        let number = order[place];
+        match earliest_over(
+            problem.grid,
+            &reserved,
+            &mut tables.distances,
+            &mut tables.frontier,
+            problem.instance.start(number),
+            problem.instance.goal(number),
+            problem.horizon,
+        ) {
+            Ok(path) => reserved.reserve(&path)?,
+            Err(SearchFault::NoPath) => return Ok(Attempt::Stuck(place)),
+            Err(SearchFault::OutOfMemory) => return Err(OutOfMemory),
+        }
+    }
+    Ok(Attempt::Made(reserved.into_paths()))
+}
+
+/// The numbers of so many agents, rising.
+fn rising(alloc: Global, agents: u16) -> Result<Vec<u16>, OutOfMemory>
+    ensures { IfOk result (λ order. order.items ≡ rising agents) }
+{
+    let mut order = Vec::new(alloc);
+    for agent in 0..agents {
+        order.push(agent)?;
+    }
+    Ok(order)
+}
+
+/// Has the agent at the place come first; the others follow as they did.
+fn raise(order: &mut Vec<u16>, place: usize) -> Result<(), OutOfMemory>
+    requires { place < length order.old.items }
+    ensures { OnOk result (order.new.items ≡ to_front order.old.items place) }
+{
+    let agent = order.remove(place);
+    order.insert(0, agent)?;
+    Ok(())
+}
+
+/// A path of one cell for each agent.
+fn starts(problem: &Problem<'_>) -> Result<Vec<Path>, OutOfMemory>
+    ensures { IfOk result (λ paths. length paths.items ≡ length problem.now.instance.now) }
+{
+    let mut paths = Vec::new(problem.alloc);
+    for agent in 0..problem.instance.agents() {
+        let mut cells = Vec::new(problem.alloc);
+        cells.push(problem.instance.start(agent))?;
+        paths.push(Path::new(cells))?;
+    }
+    Ok(paths)
+}
+
+/// The paths of an order, as they stand in the order, by the agents' numbers.
+fn by_number(
+    problem: &Problem<'_>,
+    order: &[u16],
+    paths: Vec<Path>,
+) -> Result<Vec<Path>, OutOfMemory>
+    requires order { IsOrderOf problem.now order.now }
+    requires paths { length paths.items ≡ length order.now }
+    ensures agents { IfOk result (λ plan. length plan.items ≡ length problem.now.instance.now) }
+    ensures same { IfOk result (λ plan. paths_by order.now plan.items ≡ paths.items) }
+{
+    let mut plan = starts(problem)?;
+    let mut left = paths;
+    while let Some(path) = left.pop() {
+        plan[usize::from(order[left.len()])] = path;
+    }
+    Ok(plan)
+}
+
+/// A plan whose paths are each earliest against those before in one of the first orders.
+fn plan_in_turns(problem: &Problem<'_>, tries: u32) -> Result<Plan, PlanStop>
+    ensures made { IfOk result (IsMadeInTries (is_passable problem.now.grid.now) problem.now.instance.now problem.now.horizon tries) }
+    ensures no_path { IfErr result (λ e. (agent : ℕ) → e ≡ PlanStop.NoPath agent
+        → IsStuckInTries (is_passable problem.now.grid.now) problem.now.instance.now problem.now.horizon tries agent) }
+{
+    let mut tables = Tables {
+        distances: Distances::new(problem.alloc, problem.grid)?,
+        frontier: Frontier::new(problem.alloc),
+    };
+    let mut order = rising(problem.alloc, problem.instance.agents())?;
+    for failed in 0..tries.max(1) {
+        match plan_in_order(problem, order.as_slice(), &mut tables)? {
+            Attempt::Made(paths) => {
+                return Ok(Plan::new(by_number(problem, order.as_slice(), paths)?));
+            }
+            Attempt::Stuck(place) => {
+                let agent = order[place];
+                // An agent that is first already finds no path in any later try.
+                if place == 0 {
+                    return Err(PlanStop::NoPath { agent });
+                }
+                if failed + 1 >= tries {
+                    return Err(PlanStop::NoPath { agent });
+                }
+                raise(&mut order, place)?;
+            }
+        }
+    }
+    unreachable!()
+}
+
+/// Plans agent by agent in up to so many orders, and answers the first plan that comes of one. The first order is that of the
+/// agents' numbers; after an order in which an agent is left without a path that agent is planned first, and the others after
+/// it as before. In the order that made the plan each path is earliest past those of the agents before it; the plan has the agents by
+/// their numbers. One order is tried in any case.
+///
+/// Errors: `NoPath` with the first agent that is left without a path in the last of so many orders.
+pub fn plan_in_orders<'g>(
+    alloc: Global,
+    grid: &'g Grid,
+    instance: &'g Instance,
+    horizon: u16,
+    tries: u32,
+) -> Result<Checked<'g>, PlanStop>
+    ensures made { IfOk result (λ checked. IsMadeInTries (is_passable grid.now) instance.now horizon tries checked.plan) }
+    ensures free { IfOk result (λ checked. IsConflictFree (is_passable grid.now) instance.now checked.plan) }
+    ensures grid { IfOk result (λ checked. checked.grid ≡ grid.now) }
+    ensures instance { IfOk result (λ checked. checked.instance ≡ instance.now) }
+    ensures no_path { IfErr result (λ e. (agent : ℕ) → e ≡ PlanStop.NoPath agent → IsStuckInTries (is_passable grid.now) instance.now horizon tries agent) }
+{
+    let problem = Problem {
+        alloc,
+        grid,
+        instance,
+        horizon,
+    };
+    let plan = plan_in_turns(&problem, tries)?;
+    match check(alloc, plan, grid, instance) {
+        Ok(checked) => Ok(checked),
+        Err(refusal) => match refusal.fault {
+            PlanFault::OutOfMemory => Err(PlanStop::OutOfMemory),
+            // The plan is right and free of conflict.
+            _ => unreachable!(),
+        },
+    }
+}

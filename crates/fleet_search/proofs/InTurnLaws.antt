@@ -44,7 +44,7 @@ in_turn_free passable tasks horizon plan made =
     }
 
 -- what was read of the agent's task is the task
-read_task : (tasks : List Task) (n : ℕ) (start goal : Cell) → option_map (λ (t : Task). t.start) (slice_get tasks n) ≡ Some start → option_map (λ (t : Task). t.goal) (slice_get tasks n) ≡ Some goal → (t : Task) → slice_get tasks n ≡ Some t → (start ≡ t.start) × (goal ≡ t.goal)
+pub read_task : (tasks : List Task) (n : ℕ) (start goal : Cell) → option_map (λ (t : Task). t.start) (slice_get tasks n) ≡ Some start → option_map (λ (t : Task). t.goal) (slice_get tasks n) ≡ Some goal → (t : Task) → slice_get tasks n ≡ Some t → (start ≡ t.start) × (goal ≡ t.goal)
 read_task tasks n start goal a b t e = (
   sym (same_Some t.start start (sym (ap (option_map (λ (z : Task). z.start)) e) ∙ a)),
   sym (same_Some t.goal goal (sym (ap (option_map (λ (z : Task). z.goal)) e) ∙ b)),

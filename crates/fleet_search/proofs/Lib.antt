@@ -18,4 +18,6 @@ pub mod Trail
 pub mod InTurnLaws
 pub mod LabelLaws
 pub mod OrderLaws
+pub mod KeptPaths
+pub mod Attempting
 pub mod OrderConflicts

@@ -1,5 +1,9 @@
 -- What comes of planning in one order.
-use Rattle.std.specs.Prelude.{ℕ, List, length, IsPermutation}
+use Rattle.std.specs.Prelude.{◌≡◌, ℕ, ◌<◌, ◌≤◌, Bool, true, false, List, [], ◌∷◌, ◌++◌, length, get_or, take, drop, slice_get, Some, IsPermutation}
+use Rattle.fleet_model.specs.declared.geometry.Cell.{Cell}
+use Rattle.fleet_model.specs.declared.task.Task.{Task}
+use Rattle.fleet_plan.specs.Plan.{Plan}
+use Rattle.fleet_search.specs.Way.{Fits, IsEarliest, HasNoWay}
 use Rattle.fleet_grid.specs.Ground.{is_passable}
 use Rattle.fleet_search.specs.Distance.{IsReady}
 use Rattle.fleet_search.specs.Labels.{AreLabels}
@@ -19,7 +23,29 @@ pub record AreTables (problem : Problem) (tables : Tables) : Type 0 where
 abbrev pub IsOrderOf : Problem → List ℕ → Type 0
 IsOrderOf problem order = IsPermutation (rising (length problem.instance.now)) order
 
--- paths of the agents as they stand in the order, each the earliest against those before it; or the agent at the place is left without one
+-- the agent's earliest path past the old ones is the last of the new ones; or it has none, and they stay
+abbrev pub IsPathAdded : Problem → ℕ → (old new : Plan) → Bool → Type 0
+IsPathAdded problem agent old new true =
+    (path : List Cell) × (new ≡ old ++ path ∷ [])
+    × ((task : Task) → slice_get problem.instance.now agent ≡ Some task → IsEarliest (is_passable problem.grid.now) old task.start task.goal problem.horizon path)
+IsPathAdded problem agent old new false =
+    (new ≡ old) × ((task : Task) → slice_get problem.instance.now agent ≡ Some task → HasNoWay (is_passable problem.grid.now) old task.start task.goal problem.horizon)
+
+-- so many of the paths came after the old ones, each of which fits those before it
+pub record ArePathsKept (old new paths : Plan) (kept : ℕ) : Type 0 where
+  pub bound : kept ≤ length paths
+  pub added : new ≡ old ++ take kept paths
+  pub fit : (i : ℕ) → i < kept → Fits (old ++ take i paths) (get_or paths i [])
+
+-- paths of the agents after the first one of the order, each the earliest against those before it
+abbrev pub IsMadeAfterFirst : Problem → List ℕ → Plan → Type 0
+IsMadeAfterFirst problem order paths =
+    IsMadeInTurn (is_passable problem.grid.now) (drop 1 (tasks_by order problem.instance.now)) problem.horizon (length paths) paths
+
+-- paths of the agents as they stand in the order, each the earliest against those before it; or such paths of the agents before one that is left
+-- without a path
 abbrev pub IsAttempt : Problem → List ℕ → Attempt → Type 0
 IsAttempt problem order (Made paths) = IsMadeInTurn (is_passable problem.grid.now) (tasks_by order problem.instance.now) problem.horizon (length order) paths.items
-IsAttempt problem order (Stuck place) = IsStuckInOrder (is_passable problem.grid.now) problem.instance.now problem.horizon order place
+IsAttempt problem order (Stuck paths) =
+    IsStuckInOrder (is_passable problem.grid.now) problem.instance.now problem.horizon order (length paths.items)
+    × IsMadeInTurn (is_passable problem.grid.now) (tasks_by order problem.instance.now) problem.horizon (length paths.items) paths.items

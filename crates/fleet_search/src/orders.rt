@@ -4,7 +4,7 @@ ghost use Rattle.std.specs.Prelude.{◌≡◌, ◌<◌, ℕ, length, IfOk, IfErr
 ghost use Rattle.fleet_plan.specs.Plan.{IsConflictFree};
 ghost use Rattle.fleet_grid.specs.Ground.{is_passable};
 ghost use Rattle.fleet_search.specs.Orders.{rising, to_front, paths_by, IsMadeInTries, IsStuckInTries};
-ghost use Rattle.fleet_search.specs.Attempts.{AreTables, IsOrderOf, IsAttempt};
+ghost use Rattle.fleet_search.specs.Attempts.{AreTables, ArePathsKept, IsPathAdded, IsMadeAfterFirst, IsOrderOf, IsAttempt};
 
 use crate::distances::Distances;
 use crate::earliest_path::earliest_over;
@@ -33,39 +33,81 @@ struct Tables {
     frontier: Frontier,
 }
 
-/// What comes of an order: a path for each agent, as they stand in the order; or the place of the first agent that is left without one.
+/// What comes of an order: a path for each agent, as they stand in the order; or, where an agent is left without one, the paths of those
+/// before it.
 #[derive(Drop)]
 enum Attempt {
     Made(Vec<Path>),
-    Stuck(usize),
+    Stuck(Vec<Path>),
 }
 
-/// Plans in this order, each path the earliest past those of the agents before.
+/// Reserves the earliest path of the agent past the reserved ones. False where it has none.
+fn add_path(
+    problem: &Problem<'_>,
+    agent: u16,
+    reserved: &mut Reservations,
+    tables: &mut Tables,
+) -> Result<bool, OutOfMemory>
+    requires agent { agent < length problem.now.instance.now }
+    requires tables { AreTables problem.now tables.old }
+    ensures tables { OnOk result (AreTables problem.now tables.new) }
+    ensures added { IfOk result (IsPathAdded problem.now agent reserved.old reserved.new) }
+{
+    match earliest_over(
+        problem.grid,
+        reserved,
+        &mut tables.distances,
+        &mut tables.frontier,
+        problem.instance.start(agent),
+        problem.instance.goal(agent),
+        problem.horizon,
+    ) {
+        Ok(path) => {
+            reserved.reserve(&path)?;
+            Ok(true)
+        }
+        Err(SearchFault::NoPath) => Ok(false),
+        Err(SearchFault::OutOfMemory) => Err(OutOfMemory),
+    }
+}
+
+/// Reserves the paths one after another, up to the first that does not fit, and answers how many.
+fn keep_paths(reserved: &mut Reservations, paths: &[Path]) -> Result<usize, OutOfMemory>
+    ensures { IfOk result (ArePathsKept reserved.old reserved.new paths.now) }
+{
+    for kept in 0..paths.len() {
+        if !reserved.fits(&paths[kept]) {
+            return Ok(kept);
+        }
+        reserved.reserve(&paths[kept])?;
+    }
+    Ok(paths.len())
+}
+
+/// Plans in this order, each path the earliest past those of the agents before. `kept` are such paths of the agents after the first one,
+/// made without it: up to the first that does not fit beside the first agent's path they are still the earliest.
 fn plan_in_order(
     problem: &Problem<'_>,
     order: &[u16],
+    kept: &[Path],
     tables: &mut Tables,
 ) -> Result<Attempt, OutOfMemory>
     requires order { IsOrderOf problem.now order.now }
+    requires kept { IsMadeAfterFirst problem.now order.now kept.now }
+    requires few { length kept.now < length order.now }
     requires tables { AreTables problem.now tables.old }
     ensures tables { OnOk result (AreTables problem.now tables.new) }
     ensures attempt { IfOk result (IsAttempt problem.now order.now) }
 {
     let mut reserved = Reservations::new(problem.alloc);
-    for place in 0..order.len() {
+    if !add_path(problem, order[0], &mut reserved, tables)? {
+        return Ok(Attempt::Stuck(reserved.into_paths()));
+    }
+    let first = keep_paths(&mut reserved, kept)? + 1;
+    for place in first..order.len() {
         let number = order[place];
-        match earliest_over(
-            problem.grid,
-            &reserved,
-            &mut tables.distances,
-            &mut tables.frontier,
-            problem.instance.start(number),
-            problem.instance.goal(number),
-            problem.horizon,
-        ) {
-            Ok(path) => reserved.reserve(&path)?,
-            Err(SearchFault::NoPath) => return Ok(Attempt::Stuck(place)),
-            Err(SearchFault::OutOfMemory) => return Err(OutOfMemory),
+        if !add_path(problem, number, &mut reserved, tables)? {
+            return Ok(Attempt::Stuck(reserved.into_paths()));
         }
     }
     Ok(Attempt::Made(reserved.into_paths()))
@@ -135,12 +177,14 @@ fn plan_in_turns(problem: &Problem<'_>, tries: u32) -> Result<Plan, PlanStop>
         frontier: Frontier::new(problem.alloc),
     };
     let mut order = rising(problem.alloc, problem.instance.agents())?;
+    let mut kept = Vec::new(problem.alloc);
     for failed in 0..tries.max(1) {
-        match plan_in_order(problem, order.as_slice(), &mut tables)? {
+        match plan_in_order(problem, order.as_slice(), kept.as_slice(), &mut tables)? {
             Attempt::Made(paths) => {
                 return Ok(Plan::new(by_number(problem, order.as_slice(), paths)?));
             }
-            Attempt::Stuck(place) => {
+            Attempt::Stuck(paths) => {
+                let place = paths.len();
                 let agent = order[place];
                 // An agent that is first already finds no path in any later try.
                 if place == 0 {
@@ -150,6 +194,7 @@ fn plan_in_turns(problem: &Problem<'_>, tries: u32) -> Result<Plan, PlanStop>
                     return Err(PlanStop::NoPath { agent });
                 }
                 raise(&mut order, place)?;
+                kept = paths;
             }
         }
     }

@@ -1,11 +1,14 @@
-use Rattle.std.proofs.Common.{◌≡◌, ◌+◌, ◌-◌, ◌≤◌, length, IsPermutation, sym, ap, ◌∙◌, subst, arith, inl, inr}
+use Rattle.std.proofs.Common.{◌≡◌, ◌+◌, ◌-◌, ◌<◌, ◌≤◌, length, drop, IsPermutation, sym, ap, ◌∙◌, subst, arith, inl, inr}
+use Rattle.std.proofs.lemmas.List.FromFn.{length-range_with_len}
 use Rattle.std.proofs.lemmas.List.Sorted.{IsPermutation-refl}
 use Rattle.std.proofs.lemmas.List.{get_or_default}
 use Rattle.std.proofs.lemmas.Result.{err_from_is_err_and}
 use Rattle.fleet_grid.specs.Ground.{is_passable}
-use Rattle.fleet_search.specs.Orders.{rising, to_front, IsOrderAfter, IsStuckInOrder, IsStuckInTries}
+use Rattle.fleet_search.specs.Orders.{tasks_by, rising, to_front, IsOrderAfter, IsStuckInOrder, IsStuckInTries}
+use Rattle.fleet_search.specs.InTurn.{IsMadeInTurn}
 use Rattle.fleet_search.proofs.InTurnLaws.{named}
-use Rattle.fleet_search.proofs.OrderLaws.{order_after-none, order_after-more, stuck_in_tries, stuck_within, raised}
+use Rattle.fleet_search.proofs.KeptPaths.{none_made, made_after_raise}
+use Rattle.fleet_search.proofs.OrderLaws.{order_after-none, order_after-more, order-length, stuck_in_tries, stuck_within, raised}
 use Rattle.fleet_search.proofs.orders.plan_in_turns.Goals as goal
 
 pub loop-failed-init : goal.loop-failed-init
@@ -17,6 +20,13 @@ loop-failed-init c =
       each_once = subst (IsPermutation (rising (length tasks))) (sym e) (IsPermutation-refl (rising (length tasks)));
       after = subst (IsOrderAfter (is_passable c.args.problem.now.grid.now) tasks c.args.problem.now.horizon 0) (sym e) (order_after-none (is_passable c.args.problem.now.grid.now) tasks c.args.problem.now.horizon);
       tables = record { distances = c.in_ok-new.ensures; labels = c.new-2.ensures };
+      kept = subst (λ z. IsMadeInTurn (is_passable c.args.problem.now.grid.now) (drop 1 (tasks_by c.in_ok-order.order.items tasks)) c.args.problem.now.horizon (length z) z) (sym c.new-kept.ensures.items)
+          (none_made (is_passable c.args.problem.now.grid.now) (drop 1 (tasks_by c.in_ok-order.order.items tasks)) c.args.problem.now.horizon);
+      fewer =
+          let none : length c.new-kept.result.items ≡ 0 = ap length c.new-kept.ensures.items in
+          let long : length c.in_ok-order.order.items ≡ length tasks = ap length e ∙ length-range_with_len 0 (length tasks) in
+          let some : 1 ≤ length tasks = c.agents.ensures.instance.some in
+          omega arith;
     }
 
 pub returns-then-place-eq0-clause-no_path : goal.returns-then-place-eq0-clause-no_path
@@ -25,12 +35,15 @@ returns-then-place-eq0-clause-no_path c = λ agent e.
     let tasks = c.args.problem.now.instance.now in
     let horizon = c.args.problem.now.horizon in
     let i = c.loop-failed.invariant in
-    let stuck = subst (λ z. IsStuckInOrder passable tasks horizon z c.in-Stuck.place) c.as_slice.ensures.value (rw c.in-Stuck.is at c.in_ok-paths.ensures.attempt) in
-    let inside = stuck_within passable tasks horizon c.loop-failed.order.items c.in-Stuck.place stuck in
+    let attempt = rw c.in-Stuck.is at c.in_ok-paths.ensures.attempt in
+    let at : c.len-place.result ≡ length c.in-Stuck.paths.items = c.len-place.ensures ∙ c.in-Stuck.paths.ok.0 in
+    let stuck = subst (IsStuckInOrder passable tasks horizon c.loop-failed.order.items) (sym at)
+    (subst (λ z. IsStuckInOrder passable tasks horizon z (length c.in-Stuck.paths.items)) c.as_slice.ensures.value attempt.0) in
+    let inside = stuck_within passable tasks horizon c.loop-failed.order.items c.len-place.result stuck in
     let few : c.loop-failed.failed ≤ c.args.tries - 1 = (let m = i.more in omega arith) in
     named (IsStuckInTries passable tasks horizon c.args.tries) c.index-agent.result.now agent e
-    (stuck_in_tries passable tasks horizon c.args.tries c.loop-failed.failed c.loop-failed.order.items c.in-Stuck.place c.index-agent.result.now few i.each_once i.after stuck
-    inside (c.index-agent.ensures ∙ get_or_default c.loop-failed.order.items c.in-Stuck.place c.index-agent.result.now 0 inside) (inl c.if-place-eq0.true))
+    (stuck_in_tries passable tasks horizon c.args.tries c.loop-failed.failed c.loop-failed.order.items c.len-place.result c.index-agent.result.now few i.each_once i.after stuck
+    inside (c.index-agent.ensures ∙ get_or_default c.loop-failed.order.items c.len-place.result c.index-agent.result.now 0 inside) (inl c.if-place-eq0.true))
 
 pub returns-then-failed-tries-clause-no_path : goal.returns-then-failed-tries-clause-no_path
 returns-then-failed-tries-clause-no_path c = λ agent e.
@@ -38,20 +51,39 @@ returns-then-failed-tries-clause-no_path c = λ agent e.
     let tasks = c.args.problem.now.instance.now in
     let horizon = c.args.problem.now.horizon in
     let i = c.loop-failed.invariant in
-    let stuck = subst (λ z. IsStuckInOrder passable tasks horizon z c.in-Stuck.place) c.as_slice.ensures.value (rw c.in-Stuck.is at c.in_ok-paths.ensures.attempt) in
-    let inside = stuck_within passable tasks horizon c.loop-failed.order.items c.in-Stuck.place stuck in
+    let attempt = rw c.in-Stuck.is at c.in_ok-paths.ensures.attempt in
+    let at : c.len-place.result ≡ length c.in-Stuck.paths.items = c.len-place.ensures ∙ c.in-Stuck.paths.ok.0 in
+    let stuck = subst (IsStuckInOrder passable tasks horizon c.loop-failed.order.items) (sym at)
+    (subst (λ z. IsStuckInOrder passable tasks horizon z (length c.in-Stuck.paths.items)) c.as_slice.ensures.value attempt.0) in
+    let inside = stuck_within passable tasks horizon c.loop-failed.order.items c.len-place.result stuck in
     let few : c.loop-failed.failed ≤ c.args.tries - 1 = (let m = i.more in omega arith) in
     let none : c.args.tries ≤ c.loop-failed.failed + 1 = omega arith in
     named (IsStuckInTries passable tasks horizon c.args.tries) c.index-agent.result.now agent e
-    (stuck_in_tries passable tasks horizon c.args.tries c.loop-failed.failed c.loop-failed.order.items c.in-Stuck.place c.index-agent.result.now few i.each_once i.after stuck
-    inside (c.index-agent.ensures ∙ get_or_default c.loop-failed.order.items c.in-Stuck.place c.index-agent.result.now 0 inside) (inr none))
+    (stuck_in_tries passable tasks horizon c.args.tries c.loop-failed.failed c.loop-failed.order.items c.len-place.result c.index-agent.result.now few i.each_once i.after stuck
+    inside (c.index-agent.ensures ∙ get_or_default c.loop-failed.order.items c.len-place.result c.index-agent.result.now 0 inside) (inr none))
 
 pub raise-requires : goal.raise-requires
 raise-requires c =
     let passable = is_passable c.args.problem.now.grid.now in
     let tasks = c.args.problem.now.instance.now in
-    let stuck = subst (λ z. IsStuckInOrder passable tasks c.args.problem.now.horizon z c.in-Stuck.place) c.as_slice.ensures.value (rw c.in-Stuck.is at c.in_ok-paths.ensures.attempt) in
-    stuck_within passable tasks c.args.problem.now.horizon c.loop-failed.order.items c.in-Stuck.place stuck
+    let horizon = c.args.problem.now.horizon in
+    let attempt = rw c.in-Stuck.is at c.in_ok-paths.ensures.attempt in
+    let at : c.len-place.result ≡ length c.in-Stuck.paths.items = c.len-place.ensures ∙ c.in-Stuck.paths.ok.0 in
+    let stuck = subst (IsStuckInOrder passable tasks horizon c.loop-failed.order.items) (sym at)
+    (subst (λ z. IsStuckInOrder passable tasks horizon z (length c.in-Stuck.paths.items)) c.as_slice.ensures.value attempt.0) in
+    stuck_within passable tasks c.args.problem.now.horizon c.loop-failed.order.items c.len-place.result stuck
+
+pub index-agent-requires : goal.index-agent-requires
+index-agent-requires c =
+    let passable = is_passable c.args.problem.now.grid.now in
+    let tasks = c.args.problem.now.instance.now in
+    let horizon = c.args.problem.now.horizon in
+    let attempt = rw c.in-Stuck.is at c.in_ok-paths.ensures.attempt in
+    let at : c.len-place.result ≡ length c.in-Stuck.paths.items = c.len-place.ensures ∙ c.in-Stuck.paths.ok.0 in
+    let stuck = subst (IsStuckInOrder passable tasks horizon c.loop-failed.order.items) (sym at)
+    (subst (λ z. IsStuckInOrder passable tasks horizon z (length c.in-Stuck.paths.items)) c.as_slice.ensures.value attempt.0) in
+    subst (λ z. c.len-place.result < z) (sym c.loop-failed.order.ok.0)
+    (stuck_within passable tasks c.args.problem.now.horizon c.loop-failed.order.items c.len-place.result stuck)
 
 pub returns-in_err-raise-in-Stuck-clause-no_path : goal.returns-in_err-raise-in-Stuck-clause-no_path
 returns-in_err-raise-in-Stuck-clause-no_path c =
@@ -65,12 +97,29 @@ loop-failed-preserved c =
     let horizon = c.args.problem.now.horizon in
     let i = c.loop-failed.invariant in
     let order = c.loop-failed.order.items in
-    let stuck = subst (λ z. IsStuckInOrder passable tasks horizon z c.in-Stuck.place) c.as_slice.ensures.value (rw c.in-Stuck.is at c.in_ok-paths.ensures.attempt) in
-    let inside = stuck_within passable tasks horizon order c.in-Stuck.place stuck in
-    let next : c.raise.new.order.items ≡ to_front order c.in-Stuck.place = c.in_ok-raise-in-Stuck.ensures in
+    let attempt = rw c.in-Stuck.is at c.in_ok-paths.ensures.attempt in
+    let at : c.len-place.result ≡ length c.in-Stuck.paths.items = c.len-place.ensures ∙ c.in-Stuck.paths.ok.0 in
+    let stuck = subst (IsStuckInOrder passable tasks horizon c.loop-failed.order.items) (sym at)
+    (subst (λ z. IsStuckInOrder passable tasks horizon z (length c.in-Stuck.paths.items)) c.as_slice.ensures.value attempt.0) in
+    let inside = stuck_within passable tasks horizon order c.len-place.result stuck in
+    let next : c.raise.new.order.items ≡ to_front order c.len-place.result = c.in_ok-raise-in-Stuck.ensures in
     record {
       more = omega arith;
-      each_once = subst (IsPermutation (rising (length tasks))) (sym next) (raised (length tasks) order c.in-Stuck.place i.each_once inside);
-      after = order_after-more passable tasks horizon c.loop-failed.failed c.in-Stuck.place order c.raise.new.order.items i.after stuck next;
+      each_once = subst (IsPermutation (rising (length tasks))) (sym next) (raised (length tasks) order c.len-place.result i.each_once inside);
+      after = order_after-more passable tasks horizon c.loop-failed.failed c.len-place.result order c.raise.new.order.items i.after stuck next;
       tables = c.in_ok-paths.ensures.tables;
+      kept =
+          let made = subst (λ z. IsMadeInTurn passable (tasks_by z tasks) horizon (length c.in-Stuck.paths.items) c.in-Stuck.paths.items) c.as_slice.ensures.value attempt.1 in
+          let few : length c.in-Stuck.paths.items < length order = omega arith in
+          subst (λ z. IsMadeInTurn passable (drop 1 (tasks_by z tasks)) horizon (length c.in-Stuck.paths.items) c.in-Stuck.paths.items) (sym (next ∙ ap (to_front order) at))
+          (made_after_raise passable tasks horizon order c.in-Stuck.paths.items few made);
+      fewer =
+          let long : length c.raise.new.order.items ≡ length tasks = order-length (length tasks) c.raise.new.order.items (subst (IsPermutation (rising (length tasks))) (sym next) (raised (length tasks) order c.len-place.result i.each_once inside)) in
+          let long' : length order ≡ length tasks = order-length (length tasks) order i.each_once in
+          omega arith;
     }
+
+pub returns-in_err-by_number-in-Made-clause-no_path : goal.returns-in_err-by_number-in-Made-clause-no_path
+returns-in_err-by_number-in-Made-clause-no_path c =
+    let p = err_from_is_err_and c.from_residual-in_err-by_number-in-Made.result c.from_residual-in_err-by_number-in-Made.ensures.1 in
+    rw p.1 (λ agent e. absurd (let z = sym p.2 ∙ e in cc z))

@@ -1,7 +1,7 @@
 use Rattle.std.proofs.Common.{◌<◌, max, length, IsPermutation}
 use Rattle.fleet_grid.specs.Ground.{is_passable}
 use Rattle.fleet_search.specs.Orders.{rising, IsOrderAfter}
-use Rattle.fleet_search.specs.Attempts.{AreTables}
+use Rattle.fleet_search.specs.Attempts.{AreTables, IsMadeAfterFirst}
 use Rattle.fleet_search.proofs.orders.plan_in_turns.Given as goal
 
 abbrev pub invariant-loop-failed : goal.invariant-loop-failed
@@ -10,4 +10,6 @@ invariant-loop-failed l = record {
   each_once : IsPermutation (rising (length l.problem.instance.now)) l.order.items;
   after : IsOrderAfter (is_passable l.problem.grid.now) l.problem.instance.now l.problem.horizon l.failed l.order.items;
   tables : AreTables l.problem l.tables;
+  kept : IsMadeAfterFirst l.problem l.order.items l.kept.items;
+  fewer : length l.kept.items < length l.order.items;
 }

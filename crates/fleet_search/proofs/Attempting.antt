@@ -1,0 +1,50 @@
+-- What comes of planning in one order, step by step.
+use Rattle.std.proofs.Common.{◌≡◌, ℕ, zero, suc, ◌+◌, ◌<◌, ◌≤◌, Bool, true, false, List, [], ◌∷◌, ◌++◌, length, map, take, drop, get_or, Some, refl, sym, ap, ◌∙◌, subst, arith}
+use Rattle.std.specs.Prelude.{slice_get}
+use Rattle.std.proofs.lemmas.Option.{slice_get-get_or}
+use Rattle.std.proofs.lemmas.List.{length-map}
+use Rattle.fleet_model.specs.declared.geometry.Cell.{Cell}
+use Rattle.fleet_model.specs.declared.task.Task.{Task}
+use Rattle.fleet_grid.specs.Ground.{is_passable}
+use Rattle.fleet_plan.specs.Plan.{Plan}
+use Rattle.fleet_search.specs.Way.{Fits}
+use Rattle.fleet_search.specs.InTurn.{IsMadeInTurn}
+use Rattle.fleet_search.specs.Orders.{no_task, tasks_by, IsStuckInOrder}
+use Rattle.fleet_search.specs.Attempts.{IsOrderOf, IsPathAdded, ArePathsKept, IsMadeAfterFirst}
+use Rattle.fleet_search.specs.declared.orders.Problem.{Problem}
+use Rattle.fleet_search.proofs.OrderLaws.{agents_below, task_in_order}
+use Rattle.fleet_search.proofs.KeptPaths.{kept_made, none_made, in_turn-added, stuck_here}
+
+module _ (problem : Problem) (order : List ℕ) (each : IsOrderOf problem order) where
+  abbrev tasks : List Task
+  tasks = problem.instance.now
+
+  abbrev Made : ℕ → Plan → Type 0
+  Made n plan = IsMadeInTurn (is_passable problem.grid.now) (tasks_by order tasks) problem.horizon n plan
+
+  within : (place : ℕ) → place < length order → place < length (tasks_by order tasks)
+  within place h = subst (λ z. place < z) (sym (length-map order (λ a. get_or tasks a no_task))) h
+
+  same_task : (place : ℕ) → place < length order → slice_get tasks (get_or order place 0) ≡ slice_get (tasks_by order tasks) place
+  same_task place h = sym (task_in_order tasks order place (get_or order place 0) (slice_get-get_or order place 0 h) (agents_below (length tasks) order each place 0 h))
+
+  pub added_made : (place : ℕ) (old new : Plan) → place < length order → Made place old → IsPathAdded problem (get_or order place 0) old new true → Made (place + 1) new
+  added_made place old new l made added =
+      in_turn-added (is_passable problem.grid.now) (tasks_by order tasks) problem.horizon place old new added.0 (within place l) made (λ task t. added.2 task (same_task place l ∙ t)) added.1
+
+  pub stuck_attempt : (place : ℕ) (old new paths : Plan) → place < length order → Made place old → IsPathAdded problem (get_or order place 0) old new false → paths ≡ new → IsStuckInOrder (is_passable problem.grid.now) tasks problem.horizon order (length paths) × Made (length paths) paths
+  stuck_attempt place old new paths l made added e =
+      let same : paths ≡ old = e ∙ added.0 in
+      let long : place ≡ length paths = sym (ap length same ∙ made.agents) in
+      let stuck = stuck_here (is_passable problem.grid.now) (tasks_by order tasks) problem.horizon place old (within place l) made (λ task t. added.1 task (same_task place l ∙ t)) in (
+        subst (IsStuckInOrder (is_passable problem.grid.now) tasks problem.horizon order) long stuck,
+        subst (λ z. Made z paths) long (subst (Made place) (sym same) made),
+      )
+
+  pub kept_attempt : (old new after kept : Plan) (n : ℕ) → 0 < length order → old ≡ [] → IsPathAdded problem (get_or order 0 0) old new true → IsMadeAfterFirst problem order kept → ArePathsKept new after kept n → Made (n + 1) after
+  kept_attempt old new after kept n some none added made are =
+      let one : Made 1 new = added_made 0 old new some (subst (Made 0) (sym none) (none_made (is_passable problem.grid.now) (tasks_by order tasks) problem.horizon)) added in
+      let is : new ≡ added.0 ∷ [] = added.1 ∙ ap (λ z. z ++ added.0 ∷ []) none in
+      let fits : (i : ℕ) → i < n → Fits (added.0 ∷ take i kept) (get_or kept i []) = λ i h. subst (λ z. Fits (z ++ take i kept) (get_or kept i [])) is (are.fit i h) in
+      subst (Made (n + 1)) (sym (are.added ∙ ap (λ z. z ++ take n kept) is))
+      (kept_made (is_passable problem.grid.now) (tasks_by order tasks) problem.horizon added.0 kept n (subst (Made 1) is one) made are.bound fits)

@@ -1,0 +1,133 @@
+-- Paths that are still the earliest where one more is reserved, and they fit it.
+use Rattle.std.proofs.Common.{◌≡◌, ◌≢◌, ℕ, zero, suc, ◌+◌, ◌<◌, ◌≤◌, Bool, List, [], ◌∷◌, ◌++◌, length, map, take, drop, get_or, remove, Some, refl, sym, ap, ◌∙◌, subst, arith}
+use Rattle.std.specs.Prelude.{slice_get, option_map}
+use Rattle.std.proofs.lemmas.Option.{slice_get-map}
+use Rattle.std.proofs.lemmas.List.{length_push, length-map}
+use Rattle.fleet_model.specs.declared.geometry.Cell.{Cell}
+use Rattle.fleet_model.specs.declared.geometry.Place.{Place}
+use Rattle.fleet_model.specs.declared.task.Task.{Task}
+use Rattle.fleet_plan.specs.Plan.{Plan, cell_of}
+use Rattle.fleet_search.specs.Way.{Fits, Follow, StepFits, EachStepFits, IsWay, IsEarliest, HasNoWay}
+use Rattle.fleet_search.specs.InTurn.{IsMadeInTurn, IsStuckAt}
+use Rattle.fleet_search.specs.Orders.{no_task, tasks_by, to_front}
+use Rattle.fleet_search.proofs.Steps.{each_step, from_each_step}
+use Rattle.fleet_search.proofs.InTurnLaws.{task_of, in_turn-more, stuck_at}
+
+-- ---- one path fewer
+
+follow-fewer : (first : List Cell) (reserved : Plan) (t : ℕ) (c : Cell) (js : List ℕ) (d : Cell) → Follow reserved t c js d → Follow (first ∷ reserved) t c (map suc js) d
+unfolding cell_of
+follow-fewer first reserved t c [] d h = h
+follow-fewer first reserved t c (j ∷ js) d h = (omega (arith, h.0), h.1, h.2, follow-fewer first reserved t (cell_of reserved j (t + 1)) js d h.3)
+
+fits-fewer : (first : List Cell) (reserved : Plan) (path : List Cell) → Fits (first ∷ reserved) path → Fits reserved path
+unfolding cell_of
+fits-fewer first reserved path fits =
+    let each = each_step (first ∷ reserved) path fits in
+    from_each_step reserved path (record {
+      first = λ j h. each.first (suc j) (omega arith);
+      steps = λ t. record {
+        vertex = λ j h. (each.steps t).vertex (suc j) (omega arith);
+        ring = λ ne js h. (each.steps t).ring ne (map suc js) (follow-fewer first reserved t _ js _ h);
+      };
+    })
+
+way-fewer : (passable : Place → Bool) (first : List Cell) (reserved : Plan) (start goal : Cell) (path : List Cell) → IsWay passable (first ∷ reserved) start goal path → IsWay passable reserved start goal path
+way-fewer passable first reserved start goal path w = record {
+  some_cells = w.some_cells;
+  starts = w.starts;
+  ends = w.ends;
+  on_ground = w.on_ground;
+  successive = w.successive;
+  fits = fits-fewer first reserved path w.fits;
+}
+
+-- what is the earliest among more ways is so among fewer
+earliest-more : (passable : Place → Bool) (first : List Cell) (reserved : Plan) (start goal : Cell) (horizon : ℕ) (path : List Cell) → IsEarliest passable reserved start goal horizon path → Fits (first ∷ reserved) path → IsEarliest passable (first ∷ reserved) start goal horizon path
+earliest-more passable first reserved start goal horizon path e fits = record {
+  way = record {
+    some_cells = e.way.some_cells;
+    starts = e.way.starts;
+    ends = e.way.ends;
+    on_ground = e.way.on_ground;
+    successive = e.way.successive;
+    fits = fits;
+  };
+  in_time = e.in_time;
+  none_sooner = λ other w. e.none_sooner other (way-fewer passable first reserved start goal other w);
+}
+
+-- ---- paths that are kept
+
+take-in-take : {X : Type 0} (xs : List X) (i n : ℕ) → i ≤ n → take i (take n xs) ≡ take i xs
+take-in-take [] zero n h = refl
+take-in-take [] (suc i) zero h = absurd (omega arith)
+take-in-take [] (suc i) (suc n) h = refl
+take-in-take (x ∷ xs) zero n h = refl
+take-in-take (x ∷ xs) (suc i) zero h = absurd (omega arith)
+take-in-take (x ∷ xs) (suc i) (suc n) h = ap (λ z. x ∷ z) (take-in-take xs i n (omega arith))
+
+get_or-in-take : {X : Type 0} (xs : List X) (i n : ℕ) (d : X) → i < n → get_or (take n xs) i d ≡ get_or xs i d
+get_or-in-take [] i zero d h = absurd (omega arith)
+get_or-in-take [] i (suc n) d h = refl
+get_or-in-take (x ∷ xs) i zero d h = absurd (omega arith)
+get_or-in-take (x ∷ xs) zero (suc n) d h = refl
+get_or-in-take (x ∷ xs) (suc i) (suc n) d h = get_or-in-take xs i n d (omega arith)
+
+length-in-take : {X : Type 0} (xs : List X) (n : ℕ) → n ≤ length xs → length (take n xs) ≡ n
+length-in-take xs zero h = refl
+length-in-take [] (suc n) h = absurd (omega arith)
+length-in-take (x ∷ xs) (suc n) h = ap suc (length-in-take xs n (omega arith))
+
+later_task : (tasks : List Task) (j : ℕ) → slice_get (drop 1 tasks) j ≡ slice_get tasks (suc j)
+later_task [] j = refl
+later_task (t ∷ tasks) j = refl
+
+pub kept_made : (passable : Place → Bool) (tasks : List Task) (horizon : ℕ) (first : List Cell) (paths : Plan) (n : ℕ) → IsMadeInTurn passable tasks horizon 1 (first ∷ []) → IsMadeInTurn passable (drop 1 tasks) horizon (length paths) paths → n ≤ length paths → ((i : ℕ) → i < n → Fits (first ∷ take i paths) (get_or paths i [])) → IsMadeInTurn passable tasks horizon (n + 1) (first ∷ take n paths)
+kept_made passable tasks horizon first paths n one made few fits = record {
+  agents = (let e : length (take n paths) ≡ n = length-in-take paths n few in omega arith);
+  each = each;
+}
+  where
+    each : (i : ℕ) (task : Task) → i < n + 1 → slice_get tasks i ≡ Some task → IsEarliest passable (take i (first ∷ take n paths)) task.start task.goal horizon (get_or (first ∷ take n paths) i [])
+    each zero task h t = one.each 0 task (omega arith) t
+    each (suc j) task h t =
+        let l : j < n = omega arith in
+        let front : take j (take n paths) ≡ take j paths = take-in-take paths j n (omega arith) in
+        let at : get_or (take n paths) j [] ≡ get_or paths j [] = get_or-in-take paths j n [] l in
+        let old : IsEarliest passable (take j paths) task.start task.goal horizon (get_or paths j []) = made.each j task (omega arith) (later_task tasks j ∙ t) in
+        let new : IsEarliest passable (first ∷ take j paths) task.start task.goal horizon (get_or paths j []) = earliest-more passable first (take j paths) task.start task.goal horizon (get_or paths j []) old (fits j l) in
+        subst (λ z. IsEarliest passable (first ∷ z) task.start task.goal horizon (get_or (take n paths) j [])) (sym front)
+        (subst (IsEarliest passable (first ∷ take j paths) task.start task.goal horizon) (sym at) new)
+
+-- ---- the next order
+
+front_stays : (order : List ℕ) (place i : ℕ) → i < place → place < length order → slice_get (remove order place) i ≡ slice_get order i
+front_stays [] place i h l = absurd (omega arith)
+front_stays (a ∷ order) zero i h l = absurd (omega arith)
+front_stays (a ∷ order) (suc place) zero h l = refl
+front_stays (a ∷ order) (suc place) (suc i) h l = front_stays order place i (omega arith) (omega arith)
+
+pub made_after_raise : (passable : Place → Bool) (tasks : List Task) (horizon : ℕ) (order : List ℕ) (paths : Plan) → length paths < length order → IsMadeInTurn passable (tasks_by order tasks) horizon (length paths) paths → IsMadeInTurn passable (drop 1 (tasks_by (to_front order (length paths)) tasks)) horizon (length paths) paths
+made_after_raise passable tasks horizon order paths few made = record {
+  agents = refl;
+  each = λ i task h t. made.each i task h (
+      slice_get-map (λ a. get_or tasks a no_task) order i
+      ∙ ap (option_map (λ a. get_or tasks a no_task)) (sym (front_stays order (length paths) i h few))
+      ∙ sym (slice_get-map (λ a. get_or tasks a no_task) (remove order (length paths)) i) ∙ t);
+}
+
+-- ---- one path more
+
+pub none_made : (passable : Place → Bool) (tasks : List Task) (horizon : ℕ) → IsMadeInTurn passable tasks horizon 0 []
+none_made passable tasks horizon = record { agents = refl; each = λ i task h t. absurd (omega arith) }
+
+pub in_turn-added : (passable : Place → Bool) (tasks : List Task) (horizon n : ℕ) (plan all : Plan) (path : List Cell) → n < length tasks → IsMadeInTurn passable tasks horizon n plan → ((task : Task) → slice_get tasks n ≡ Some task → IsEarliest passable plan task.start task.goal horizon path) → all ≡ plan ++ path ∷ [] → IsMadeInTurn passable tasks horizon (n + 1) all
+in_turn-added passable tasks horizon n plan all path l made here e =
+    let t = task_of tasks n l in
+    in_turn-more passable tasks horizon n plan all path t.0.start t.0.goal made (ap (option_map (λ (z : Task). z.start)) t.1) (ap (option_map (λ (z : Task). z.goal)) t.1) (here t.0 t.1) e
+
+pub stuck_here : (passable : Place → Bool) (tasks : List Task) (horizon n : ℕ) (plan : Plan) → n < length tasks → IsMadeInTurn passable tasks horizon n plan → ((task : Task) → slice_get tasks n ≡ Some task → HasNoWay passable plan task.start task.goal horizon) → IsStuckAt passable tasks horizon n
+stuck_here passable tasks horizon n plan l made none =
+    let t = task_of tasks n l in
+    stuck_at passable tasks horizon n plan t.0.start t.0.goal l made (ap (option_map (λ (z : Task). z.start)) t.1) (ap (option_map (λ (z : Task). z.goal)) t.1) (none t.0 t.1)

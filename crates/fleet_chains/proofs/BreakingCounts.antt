@@ -34,7 +34,7 @@ pub record IsRowBelow (P : ℕ → Type 0) (row : List ℕ) (i : ℕ) : Type 0 w
   pub rising : IsStrictlyIncreasing row
   pub who : (j : ℕ) → Contains row j ↔ ((j < i) × P j)
 
-push_rises : (row : List ℕ) (i : ℕ) → IsStrictlyIncreasing row → ((j : ℕ) → Contains row j → j < i) → IsStrictlyIncreasing (row ++ i ∷ [])
+pub push_rises : (row : List ℕ) (i : ℕ) → IsStrictlyIncreasing row → ((j : ℕ) → Contains row j → j < i) → IsStrictlyIncreasing (row ++ i ∷ [])
 push_rises row i h below k l =
     let n : length (row ++ i ∷ []) ≡ length row + 1 = length_push row i in
     elim (cases_eq (k + 1) (length row)) [

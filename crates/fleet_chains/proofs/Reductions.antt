@@ -1,5 +1,5 @@
 -- A program without its implied awaits has the same chains.
-use Rattle.std.proofs.Common.{◌≡◌, ◌≢◌, ℕ, zero, suc, ◌+◌, ◌<◌, ◌≤◌, List, [], ◌∷◌, length, sym, subst, arith, inl, inr}
+use Rattle.std.proofs.Common.{◌≡◌, ◌≢◌, ℕ, zero, suc, ◌+◌, ◌<◌, ◌≤◌, List, [], ◌∷◌, length, refl, sym, subst, arith, inl, inr}
 use Rattle.std.specs.Prelude.{Contains, ◌⊎◌}
 use Rattle.fleet_model.specs.declared.program.Await.{Await}
 use Rattle.fleet_model.specs.declared.program.ActionId.{ActionId}
@@ -8,7 +8,8 @@ use Rattle.fleet_model.specs.Chain.{IsAction, DirectlyNeeds, ChainFrom, Reaches,
 use Rattle.fleet_model.proofs.Chains.{chain_first, chain_last, chain_rises, Reaches-first, Reaches-last, Reaches-need}
 use Rattle.fleet_model.proofs.Reaching.{Reaches-trans}
 use Rattle.fleet_verify.proofs.Members.{same_action}
-use Rattle.fleet_chains.specs.Reduced.{IsImplied, DiffersInAwaits, IsThinned, IsReduced, HaveSameChains}
+use Rattle.fleet_rows.specs.Implied.{IsImplied}
+use Rattle.fleet_chains.specs.Reduced.{DiffersInAwaits, IsThinned, IsReduced, HaveSameChains}
 use Rattle.fleet_verify.proofs.Decide.{some-dec, action-dec, before_in, needs_before, Reaches-dec}
 use Rattle.fleet_chains.proofs.Alike.{same_moves, action_there, action_back}
 
@@ -134,3 +135,17 @@ thinned_reduced p q number s h = record {
     needed i n w k c (yes (x, apart, d, r)) =
         let b : ActionId = record { agent = i; number = n } in
         inr (step_in p q h number s (number b) (awaited w) b (Reaches-first p (awaited w) x r) k (inr c) (omega arith))
+
+-- what is left is not implied
+pub thinned_again : (p q : Program) (number : ActionId → ℕ) → IsNumbering p number → IsThinned p q → IsThinned q q
+thinned_again p q number s h = record {
+  rest = record { agents = refl; starts = λ i. refl; goals = λ i. refl; steps = λ i. refl };
+  awaits = λ i n w. ((λ c. (c, none i n w c)), (λ t. t.0));
+}
+  where
+    less : IsReduced p q
+    less = thinned_reduced p q number s h
+
+    none : (i n : ℕ) (w : Await) → Contains (awaits_of q i n) w → IsImplied q (record { agent = i; number = n }) w → ⊥
+    none i n w c (b, apart, d, r) =
+        ((h.awaits i n w).0 c).1 (b, apart, need_back p q less (record { agent = i; number = n }) b d, reach_back p q less (awaited w) b r)

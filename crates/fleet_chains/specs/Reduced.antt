@@ -1,14 +1,11 @@
 -- Programs that differ in awaits alone and have the same chains, as one without the awaits that others imply.
-use Rattle.std.specs.Prelude.{◌≡◌, ◌≢◌, ℕ, length, map, ◌↔◌, ◌⊎◌, Contains}
+use Rattle.std.specs.Prelude.{◌≡◌, ℕ, length, map, ◌↔◌, ◌⊎◌, Contains}
 use Rattle.fleet_model.specs.declared.program.Await.{Await}
 use Rattle.fleet_model.specs.declared.program.ActionId.{ActionId}
 use Rattle.fleet_model.specs.Program.{Program, start_of, goal_of, actions_of, awaits_of}
 use Rattle.fleet_model.specs.Machine.{Holds, run}
-use Rattle.fleet_model.specs.Chain.{IsAction, DirectlyNeeds, Reaches, awaited}
-
--- the awaited action begins a chain that ends with another action that a directly needs
-abbrev pub IsImplied : Program → ActionId → Await → Type 0
-IsImplied p a w = (b : ActionId) × (b ≢ awaited w) × DirectlyNeeds p a b × Reaches p (awaited w) b
+use Rattle.fleet_model.specs.Chain.{IsAction, Reaches, awaited}
+use Rattle.fleet_rows.specs.Implied.{IsImplied}
 
 -- the same but for the awaits
 pub record DiffersInAwaits (p q : Program) : Type 0 where

@@ -1,12 +1,12 @@
 -- The column of an action is made of those of the actions that it directly needs.
-use Rattle.std.proofs.Common.{rules, ◌≡◌, ◌≢◌, ℕ, ◌+◌, ◌<◌, ◌≤◌, List, length, get_or, max, refl, sym, ap, subst, ◌∙◌, arith, inl, inr, ◌⊎◌}
+use Rattle.std.proofs.Common.{rules, ◌≡◌, ◌≢◌, ℕ, ◌+◌, ◌-◌, ◌<◌, ◌≤◌, List, length, get_or, max, refl, sym, ap, subst, ◌∙◌, arith, inl, inr, ◌⊎◌}
 use Rattle.std.specs.Prelude.{Contains, slice_get, Some}
 use Rattle.std.proofs.lemmas.Bool.{cases_lt, cases_eq}
 use Rattle.std.proofs.lemmas.Option.{slice_get-get_or, slice_get_within, get_or_from_slice_get}
 use Rattle.fleet_model.specs.declared.program.ActionId.{ActionId}
 use Rattle.fleet_model.specs.declared.program.Await.{Await}
 use Rattle.fleet_model.specs.Program.{Program, moves, awaits_of, AreInRange}
-use Rattle.fleet_model.specs.Chain.{IsAction, Reaches, awaited}
+use Rattle.fleet_model.specs.Chain.{IsAction, DirectlyNeeds, Reaches, awaited}
 use Rattle.fleet_rows.specs.Rows.{IsColumn, ByAwait, IsPart}
 use Rattle.fleet_model.proofs.Reaching.{own_reach, LastStep, last_step, Reaches-trans}
 use Rattle.fleet_model.proofs.Chains.{Reaches-first, Reaches-last, Reaches-need}
@@ -148,3 +148,19 @@ pub by_before : (p : Program) (first last : ActionId) (n : ℕ) → IsAction p l
 by_before p first last n is some e r =
     let before : IsAction p (record { agent = last.agent; number = n }) = record { agent = is.agent; first = some; last = (let l : last.number ≤ moves p last.agent = is.last in omega arith) } in
     Reaches-trans p first (record { agent = last.agent; number = n }) last r (Reaches-need p (record { agent = last.agent; number = n }) last before is (inl (refl, omega arith, some)))
+
+-- ---- what is known of all that an action directly needs is known of the one before, and of each that is awaited
+
+pub needed_before : (p : Program) (a : ActionId) → IsAction p a → (Known : ActionId → Type 0) → ((x : ActionId) → IsAction p x → DirectlyNeeds p a x → Known x)
+    → 1 ≤ a.number - 1 → Known (record { agent = a.agent; number = a.number - 1 })
+needed_before p a is Known known some =
+    let l : a.number ≤ moves p a.agent = is.last in
+    known (record { agent = a.agent; number = a.number - 1 }) (record { agent = is.agent; first = some; last = omega arith }) (inl (refl, omega arith, some))
+
+pub needed_awaited : (p : Program) → AreInRange p → (a : ActionId) → IsAction p a → (Known : ActionId → Type 0) → ((x : ActionId) → IsAction p x → DirectlyNeeds p a x → Known x)
+    → (k : ℕ) (w : Await) → slice_get (awaits_of p a.agent (a.number - 1 + 1)) k ≡ Some w → Known (awaited w)
+needed_awaited p range a is Known known k w at =
+    let f : 1 ≤ a.number = is.first in
+    let e : a.number - 1 + 1 ≡ a.number = omega arith in
+    let there : slice_get (awaits_of p a.agent a.number) k ≡ Some w = subst (λ (n : ℕ). slice_get (awaits_of p a.agent n) k ≡ Some w) e at in
+    known (awaited w) (awaited_action p range a.agent a.number k w there) (inr (k, slice_get_within (awaits_of p a.agent a.number) k w there, get_or_from_slice_get (awaits_of p a.agent a.number) k w w there))

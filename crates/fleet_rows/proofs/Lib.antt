@@ -8,3 +8,5 @@ pub mod Keeping
 pub mod Freeing
 pub mod Noting
 pub mod Passing
+pub mod Implying
+pub mod Flagging

@@ -28,7 +28,7 @@ use Rattle.fleet_rows.proofs.Placed.{place_apart}
 use Rattle.fleet_rows.proofs.Finishing.{agent_of, ready_of, next_action_of, finished_action, none_later, one_more, apart, none_more, none_started}
 
 -- two actions are the same or not
-same_or_not : (a b : ActionId) → (a ≡ b) ⊎ (a ≢ b)
+pub same_or_not : (a b : ActionId) → (a ≡ b) ⊎ (a ≢ b)
 same_or_not a b = elim (cases_eq a.agent b.agent) [
   | inr ne ↦ inr (λ e. ne (ap (λ x. x.agent) e))
   | inl e ↦ elim (cases_eq a.number b.number) [
@@ -345,25 +345,28 @@ asked_question p questions a n d asked each = subst (IsQuestion p) (sym (get_or_
 -- ---- what is passed
 
 -- before the first agent of a tick
+pub only_before : (p : Program) (t : ℕ) (a : ActionId) → IsDoneMid p t 0 a → IsDone p t a
+only_before p t a (inl d) = d
+only_before p t a (inr (l, d)) = absurd (omega arith)
+
+pub rows_mid : (p : Program) (b : Block) (t : ℕ) (m : KeptRows) (tick : ℕ) → AreRowsAt p b (IsDone p t) tick m → AreRowsAt p b (IsDoneMid p t 0) tick m
+rows_mid p b t m tick h = record {
+  kept = h.kept;
+  right = λ a is k. (let was = h.right a is k in (inl was.0, was.1));
+  wanted = λ a is done l. h.wanted a is (only_before p t a done) l;
+}
+
 pub passed_mid : (p : Program) (b : Block) (questions : List Question) (t : ℕ) (flags : List Bool) (pass : Pass) → IsPassed p b questions (IsDone p t) flags pass
     → IsPassed p b questions (IsDoneMid p t 0) flags pass
 passed_mid p b questions t flags pass h = record {
   room = h.room;
-  rows = record {
-    kept = h.rows.kept;
-    right = λ a is k. (let was = h.rows.right a is k in (inl was.0, was.1));
-    wanted = λ a is done l. h.rows.wanted a is (only a done) l;
-  };
+  rows = rows_mid p b t pass.kept pass.tick h.rows;
   answers = record {
-    before = λ k q at done. h.answers.before k q at (only q.last done);
+    before = λ k q at done. h.answers.before k q at (only_before p t q.last done);
     done = λ k q at l. inl (h.answers.done k q at l);
     answered = h.answers.answered;
   };
 }
-  where
-    only : (a : ActionId) → IsDoneMid p t 0 a → IsDone p t a
-    only a (inl d) = d
-    only a (inr (l, d)) = absurd (omega arith)
 
 -- before the first tick
 pub passed_none : (p : Program) (b : Block) (questions : List Question) (flags : List Bool) (pass : Pass) → AreQuestions p questions → pass.tick ≡ 0 → pass.next ≡ 0

@@ -18,12 +18,12 @@ rising p i (suc k) =
     let before = rising p i k in
     rw e (omega (arith, more, before))
 
-rising_to : (p : Program) (i j : ℕ) → i ≤ j → total_moves (take i p) ≤ total_moves (take j p)
+pub rising_to : (p : Program) (i j : ℕ) → i ≤ j → total_moves (take i p) ≤ total_moves (take j p)
 rising_to p i j l = let e : i + (j - i) ≡ j = omega arith in subst (λ (n : ℕ). total_moves (take i p) ≤ total_moves (take n p)) e (rising p i (j - i))
 
 -- the actions of an agent stand before those of the next
 module _ (p : Program) (firsts : List ℕ) (h : ArePlaces p firsts) where
-  before_next : (a : ActionId) → IsAction p a → place_of firsts a < total_moves (take (a.agent + 1) p)
+  pub before_next : (a : ActionId) → IsAction p a → place_of firsts a < total_moves (take (a.agent + 1) p)
   before_next a k =
       let e = h.each a.agent k.agent in
       let f : 1 ≤ a.number = k.first in

@@ -7,3 +7,4 @@ pub mod Kept
 pub mod Takers
 pub mod Block
 pub mod Pass
+pub mod Implied

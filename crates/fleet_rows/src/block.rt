@@ -49,7 +49,7 @@ pub(crate) fn make_row<P: ProgramView>(
 }
 
 /// The row of the last of so many actions of the agent, or zeros where it is before its first.
-fn begin_row<P: ProgramView>(
+pub(crate) fn begin_row<P: ProgramView>(
     program: &P,
     block: &Block,
     kept: &KeptRows,
@@ -112,7 +112,7 @@ fn join_awaited<P: ProgramView>(
 }
 
 /// Sets the count of the agent's own column, where it has one.
-fn set_own(block: &Block, row: &mut [u32], agent: u16, number: u32)
+pub(crate) fn set_own(block: &Block, row: &mut [u32], agent: u16, number: u32)
     requires agent { agent < length block.now.columns.of_agent.items }
     requires within { (j k : ℕ) → HasColumn block.now.columns j k → k < length row.old }
     requires apart { (i j k : ℕ) → HasColumn block.now.columns i k → HasColumn block.now.columns j k → i ≡ j }

@@ -88,6 +88,17 @@ impl KeptRows {
         join_rows(row, &self.counts[from..from + width]);
     }
 
+    /// One count of the kept row of an action.
+    pub(crate) fn count(&self, action: usize, k: usize) -> u32
+        requires sound { IsSound self.now }
+        requires action { action < length self.now.marks.items }
+        requires kept { IsKept self.now action }
+        requires within { k < self.now.width }
+        ensures { result ≡ count_in self.now (mark_of self.now action) k }
+    {
+        self.counts[self.marks[action] as usize * usize::from(self.width) + k]
+    }
+
     /// Keeps a copy of the row of an action.
     pub(crate) fn keep(&mut self, action: usize, row: &[u32]) -> Result<(), OutOfMemory>
         requires sound { IsSound self.old }

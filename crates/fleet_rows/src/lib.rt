@@ -2,8 +2,12 @@
 #![tactic(auto)]
 
 mod action_places;
+mod await_places;
 mod block;
 mod columns;
+mod implied;
+mod implied_pass;
+mod implied_row;
 mod kept_rows;
 mod kernels;
 mod near;
@@ -11,5 +15,6 @@ mod pass;
 mod questions;
 mod takers;
 
+pub use implied::{ImpliedAwaits, implied_awaits};
 pub use kernels::{join_rows, row_covers};
 pub use questions::{Question, unreached};

@@ -214,7 +214,7 @@ fn answer_one<P: ProgramView>(
 }
 
 /// Keeps the row of an action where some tick takes it.
-fn keep_row<P: ProgramView>(
+pub(crate) fn keep_row<P: ProgramView>(
     program: &P,
     block: &Block,
     kept: &mut KeptRows,
@@ -238,7 +238,7 @@ fn keep_row<P: ProgramView>(
 }
 
 /// Lets the rows go that were taken last by the actions that the last tick has finished, which came after so many ticks.
-fn free_moved<P: ProgramView>(
+pub(crate) fn free_moved<P: ProgramView>(
     program: &P,
     block: &Block,
     machine: &Machine,

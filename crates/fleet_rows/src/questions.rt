@@ -105,7 +105,7 @@ const COUNTS: usize = 4_194_304;
 const LEAST_COLUMNS: usize = 8;
 
 /// How many columns a block has at most: as many as there is room for, where the most rows are kept at once, and at least 8.
-fn columns_at_once(block: &Block) -> u16
+pub(crate) fn columns_at_once(block: &Block) -> u16
     ensures { 1 ≤ result }
 {
     let room = COUNTS.max(block.lasts.len()) / block.rows.max(1);

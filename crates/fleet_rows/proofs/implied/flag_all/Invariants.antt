@@ -1,0 +1,25 @@
+use Rattle.std.proofs.Common.{◌≡◌, ◌+◌, ◌-◌, ◌<◌, [], ℕ, false, length, get_or}
+use Rattle.std.specs.Prelude.{slice_get, Some}
+use Rattle.fleet_model.specs.declared.program.ActionId.{ActionId}
+use Rattle.fleet_model.specs.declared.program.Await.{Await}
+use Rattle.fleet_model.specs.Chain.{IsAction}
+use Rattle.fleet_model.specs.Machine.{IsFinish}
+use Rattle.fleet_model.specs.Program.{awaits_of, total_moves, total_awaits}
+use Rattle.fleet_rows.specs.Places.{ArePlaces}
+use Rattle.fleet_rows.specs.Takers.{AreNoted}
+use Rattle.fleet_rows.specs.Implied.{IsTold, first_await}
+use Rattle.fleet_rows.proofs.implied.flag_all.Given as goal
+
+abbrev pub invariant-loop-from : goal.invariant-loop-from
+invariant-loop-from g l = record {
+  told : (a : ActionId) → IsAction (g.P.ProgramView.program l.program) a → (k : ℕ) (w : Await) → slice_get (awaits_of (g.P.ProgramView.program l.program) a.agent a.number) k ≡ Some w → w.agent < l.from
+      → IsTold (g.P.ProgramView.program l.program) a w (get_or l.flags (first_await (g.P.ProgramView.program l.program) a + k) false);
+  all : length l.flags ≡ total_awaits (g.P.ProgramView.program l.program);
+  places : ArePlaces (g.P.ProgramView.program l.program) l.block.places.firsts.items;
+  moves : length l.block.lasts.items ≡ total_moves (g.P.ProgramView.program l.program);
+  noted : AreNoted (g.P.ProgramView.program l.program) l.block.places.firsts.items l.block.ticks l.block.lasts.items;
+  finish : IsFinish (g.P.ProgramView.program l.program) [] l.block.ticks;
+}
+
+abbrev pub decreases-loop-from : goal.decreases-loop-from
+decreases-loop-from g l = l.agents - l.from

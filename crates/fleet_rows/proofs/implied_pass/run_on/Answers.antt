@@ -1,0 +1,53 @@
+use Rattle.std.proofs.Common.{◌≡◌, ◌+◌, ℕ, refl, sym, subst, ◌∙◌, arith}
+use Rattle.fleet_model.specs.declared.limits.TheConstants.{MAX_AGENTS}
+use Rattle.fleet_rows.specs.Takers.{IsTicked}
+use Rattle.fleet_rows.specs.Pass.{IsDone}
+use Rattle.fleet_rows.specs.Implied.{IsFlaggedTo}
+use Rattle.fleet_rows.proofs.Finishing.{none_flagged, ticked, length_flagged}
+use Rattle.fleet_rows.proofs.Flagging.{flagged_tick}
+use Rattle.fleet_rows.proofs.implied_pass.run_on.Goals as goal
+
+pub loop-t-init : goal.loop-t-init
+loop-t-init g c = record {
+  runs = c.in_ok-machine.ensures.runs;
+  here = c.in_ok-machine.ensures.opening;
+  agents = length_flagged c.agents.result MAX_AGENTS (omega (arith, c.agents.ensures.count, c.agents.ensures.well_formed.few_agents)) ∙ c.agents.ensures.count;
+  nobody = λ i. none_flagged c.agents.result MAX_AGENTS i (omega (arith, c.agents.ensures.count, c.agents.ensures.well_formed.few_agents));
+  tick = c.requires.first;
+  passed = c.requires.passed;
+  left = λ a is k w at none. refl;
+}
+
+pub flag_tick-requires-clause-ticked : goal.flag_tick-requires-clause-ticked
+flag_tick-requires-clause-ticked g c =
+    let p = g.P.ProgramView.program c.args.program.now in
+    subst (IsTicked p c.tick.new.self) (sym c.loop-t.invariant.tick)
+    (ticked p _ c.loop-t.invariant.nobody c.loop-t.t c.loop-t.machine.configuration c.loop-t.invariant.here c.tick.new.self c.tick.ensures.runs c.tick.ensures.after c.tick.ensures.moving)
+
+pub free_moved-requires-clause-ticked : goal.free_moved-requires-clause-ticked
+free_moved-requires-clause-ticked g c =
+    let p = g.P.ProgramView.program c.args.program.now in
+    ticked p _ c.loop-t.invariant.nobody c.loop-t.t c.loop-t.machine.configuration c.loop-t.invariant.here c.tick.new.self c.tick.ensures.runs c.tick.ensures.after c.tick.ensures.moving
+
+pub loop-t-preserved : goal.loop-t-preserved
+loop-t-preserved g c =
+    let p = g.P.ProgramView.program c.args.program.now in
+    let made = c.tick.ensures in
+    let passed = c.in_ok-flag_tick.ensures in
+    record {
+      runs = made.runs;
+      here = (ticked p _ c.loop-t.invariant.nobody c.loop-t.t c.loop-t.machine.configuration c.loop-t.invariant.here c.tick.new.self c.tick.ensures.runs c.tick.ensures.after c.tick.ensures.moving).here;
+      agents = c.loop-t.invariant.agents;
+      nobody = c.loop-t.invariant.nobody;
+      tick = refl;
+      passed = flagged_tick p c.args.block.now c.loop-t.t c.flag_tick.new.flags c.flag_tick.new.pass _ c.requires.block (passed.tick ∙ c.loop-t.invariant.tick)
+          (subst (λ (n : ℕ). IsFlaggedTo p c.args.block.now (IsDone p (n + 1)) c.flag_tick.new.flags c.flag_tick.new.pass) (sym passed.tick) passed.passed)
+          c.in_ok-free_moved.ensures refl refl;
+      left = λ a is k w at none. passed.left a is k w at none ∙ c.loop-t.invariant.left a is k w at none;
+    }
+
+pub returns-clause-passed : goal.returns-clause-passed
+returns-clause-passed g c =
+    let p = g.P.ProgramView.program c.args.program.now in
+    let e : c.loop-t.t ≡ c.args.block.now.ticks = omega (arith, c.loop-t-test.false, c.loop-t.auto.t-end) in
+    subst (λ (n : ℕ). IsFlaggedTo p c.args.block.now (IsDone p n) c.loop-t.flags c.loop-t.pass) e c.loop-t.invariant.passed

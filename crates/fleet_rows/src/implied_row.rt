@@ -1,0 +1,214 @@
+//! The row of all that an action needs but one await, for each of its awaits, in one row: each column leaves out the await of
+//! its own agent.
+
+ghost use Rattle.std.specs.Prelude.{◌≡◌, ◌≢◌, ◌+◌, ◌≤◌, ◌<◌, ℕ, false, nat_le, length, max, get_or, slice_index, slice_get, Some, None};
+ghost use Rattle.fleet_model.specs.Program.{awaits_of, total_awaits, AreInRange};
+ghost use Rattle.fleet_model.specs.declared.program.Await.{Await};
+ghost use Rattle.fleet_model.specs.Chain.{IsAction, DirectlyNeeds, Reaches, awaited};
+ghost use Rattle.fleet_rows.specs.Rows.{IsPart};
+ghost use Rattle.fleet_rows.specs.Kept.{IsSound, IsKept, count_in, mark_of};
+ghost use Rattle.fleet_rows.specs.Block.{HasColumn, AreBlock, IsRowOf, AreKept, HasRow};
+ghost use Rattle.fleet_rows.specs.Implied.{IsJoined, OfOthers, AreOthers, AreAwaitPlaces, AreFlagged};
+
+use crate::await_places::AwaitPlaces;
+use crate::block::{Block, begin_row, set_own};
+use crate::columns::Columns;
+use crate::kept_rows::KeptRows;
+use fleet_model::{ActionId, Await, ProgramView};
+
+/// Makes the row of all that an action directly needs, but for the count of each awaited action's own agent.
+pub(crate) fn others_row<P: ProgramView>(
+    program: &P,
+    block: &Block,
+    kept: &KeptRows,
+    row: &mut [u32],
+    action: ActionId,
+)
+    requires block { AreBlock (P.program program.now) block.now }
+    requires kept { AreKept (P.program program.now) block.now kept.now }
+    requires row { length row.old ≡ block.now.columns.width }
+    requires range { AreInRange (P.program program.now) }
+    requires action { IsAction (P.program program.now) action }
+    requires needed { (x : ActionId) → IsAction (P.program program.now) x
+        → DirectlyNeeds (P.program program.now) action x → HasRow (P.program program.now) block.now kept.now x }
+    ensures { AreOthers (P.program program.now) block.now.columns action row.new }
+{
+    let _ = program.agents();
+    let finished = action.number - 1;
+    begin_row(program, block, kept, row, action.agent, finished);
+    join_others(program, block, kept, row, action.agent, finished);
+}
+
+/// Makes it the row of the action.
+pub(crate) fn whole_row<P: ProgramView>(
+    program: &P,
+    block: &Block,
+    kept: &KeptRows,
+    row: &mut [u32],
+    action: ActionId,
+)
+    requires block { AreBlock (P.program program.now) block.now }
+    requires kept { AreKept (P.program program.now) block.now kept.now }
+    requires row { length row.old ≡ block.now.columns.width }
+    requires range { AreInRange (P.program program.now) }
+    requires action { IsAction (P.program program.now) action }
+    requires others { AreOthers (P.program program.now) block.now.columns action row.old }
+    requires needed { (x : ActionId) → IsAction (P.program program.now) x
+        → DirectlyNeeds (P.program program.now) action x → HasRow (P.program program.now) block.now kept.now x }
+    requires later { (c : ℕ) → Reaches (P.program program.now) (record { agent = action.agent; number = c }) action
+        → c ≤ action.number }
+    ensures { IsRowOf (P.program program.now) block.now.columns action row.new }
+{
+    let _ = program.agents();
+    let ActionId { agent, number } = action;
+    join_own(program, block, kept, row, agent, number - 1);
+    set_own(block, row, agent, number);
+}
+
+/// Joins the rows of all actions that the next one of the agent awaits into the row of the one before, but for the count of
+/// each one's own agent.
+fn join_others<P: ProgramView>(
+    program: &P,
+    block: &Block,
+    kept: &KeptRows,
+    row: &mut [u32],
+    agent: u16,
+    finished: u32,
+)
+    requires block { AreBlock (P.program program.now) block.now }
+    requires kept { AreKept (P.program program.now) block.now kept.now }
+    requires row { length row.old ≡ block.now.columns.width }
+    requires range { AreInRange (P.program program.now) }
+    requires next { IsAction (P.program program.now) (record { agent = agent; number = finished + 1 }) }
+    requires own { IsRowOf (P.program program.now) block.now.columns (record { agent = agent; number = finished }) row.old }
+    requires awaited { (k : ℕ) (w : Await) → slice_get (awaits_of (P.program program.now) agent (finished + 1)) k ≡ Some w
+        → HasRow (P.program program.now) block.now kept.now (awaited w) }
+    ensures { (j k : ℕ) → HasColumn block.now.columns j k
+        → IsJoined (OfOthers j (length (awaits_of (P.program program.now) agent (finished + 1))))
+        (P.program program.now) agent finished j (slice_index row.new k) }
+{
+    let _ = program.agents();
+    let number = finished + 1;
+    for k in 0..program.await_count(agent, number) {
+        let awaited = program.await_at(agent, number, k);
+        let place = block.places.place(awaited.agent, awaited.count);
+        join_but_own(&block.columns, kept, row, awaited.agent, place);
+    }
+}
+
+/// Joins the row of an action of the agent, but for the agent's own count.
+fn join_but_own(columns: &Columns, kept: &KeptRows, row: &mut [u32], agent: u16, place: usize)
+    requires agent { agent < length columns.now.of_agent.items }
+    requires within { (j k : ℕ) → HasColumn columns.now j k → k < length row.old }
+    requires apart { (i j k : ℕ) → HasColumn columns.now i k → HasColumn columns.now j k → i ≡ j }
+    requires sound { IsSound kept.now }
+    requires place { place < length kept.now.marks.items }
+    requires kept { IsKept kept.now place }
+    requires row { length row.old ≡ kept.now.width }
+    ensures own { (k : ℕ) → HasColumn columns.now agent k → slice_index row.new k ≡ slice_index row.old k }
+    ensures others { (j k : ℕ) → j ≢ agent → HasColumn columns.now j k
+        → slice_index row.new k ≡ max (slice_index row.old k) (count_in kept.now (mark_of kept.now place) k) }
+{
+    match columns.of(agent) {
+        Some(k) => {
+            let own = row[usize::from(k)];
+            kept.join_into(place, row);
+            row[usize::from(k)] = own;
+        }
+        None => kept.join_into(place, row),
+    }
+}
+
+/// Flags the awaits of the action whose agents have a column: whether others imply them.
+pub(crate) fn flag_awaits<P: ProgramView>(
+    program: &P,
+    columns: &Columns,
+    places: &AwaitPlaces,
+    row: &[u32],
+    action: ActionId,
+    flags: &mut [bool],
+)
+    requires range { AreInRange (P.program program.now) }
+    requires places { AreAwaitPlaces (P.program program.now) places.now }
+    requires agents { length columns.now.of_agent.items ≡ length (P.program program.now) }
+    requires within { (j k : ℕ) → HasColumn columns.now j k → k < length row.now }
+    requires action { IsAction (P.program program.now) action }
+    requires row { AreOthers (P.program program.now) columns.now action row.now }
+    requires flags { length flags.old ≡ total_awaits (P.program program.now) }
+    ensures { AreFlagged (P.program program.now) columns.now action flags.old flags.new }
+{
+    let _ = program.agents();
+    let ActionId { agent, number } = action;
+    let first = places.first(program, action);
+    for k in 0..program.await_count(agent, number) {
+        let awaited = program.await_at(agent, number, k);
+        flag_await(columns, row, awaited, first + usize::from(k), flags);
+    }
+}
+
+/// Flags an await whose agent has a column, where the agent's count in the row is no less than that of the await.
+fn flag_await(columns: &Columns, row: &[u32], awaited: Await, place: usize, flags: &mut [bool])
+    requires agent { awaited.agent < length columns.now.of_agent.items }
+    requires within { (j k : ℕ) → HasColumn columns.now j k → k < length row.now }
+    requires place { place < length flags.old }
+    ensures told { (k : ℕ) → HasColumn columns.now awaited.agent k
+        → get_or flags.new place false ≡ nat_le awaited.count (slice_index row.now k) }
+    ensures none { get_or columns.now.of_agent.items awaited.agent None ≡ None
+        → get_or flags.new place false ≡ get_or flags.old place false }
+    ensures others { (n : ℕ) → n ≢ place → get_or flags.new n false ≡ get_or flags.old n false }
+{
+    if let Some(k) = columns.of(awaited.agent) {
+        flags[place] = awaited.count <= row[usize::from(k)];
+    }
+}
+
+/// Joins what was left out: of each action that the next one of the agent awaits the count of its own agent.
+fn join_own<P: ProgramView>(
+    program: &P,
+    block: &Block,
+    kept: &KeptRows,
+    row: &mut [u32],
+    agent: u16,
+    finished: u32,
+)
+    requires block { AreBlock (P.program program.now) block.now }
+    requires kept { AreKept (P.program program.now) block.now kept.now }
+    requires row { length row.old ≡ block.now.columns.width }
+    requires range { AreInRange (P.program program.now) }
+    requires next { IsAction (P.program program.now) (record { agent = agent; number = finished + 1 }) }
+    requires joined { (j k : ℕ) → HasColumn block.now.columns j k
+        → IsJoined (OfOthers j (length (awaits_of (P.program program.now) agent (finished + 1))))
+        (P.program program.now) agent finished j (slice_index row.old k) }
+    requires awaited { (k : ℕ) (w : Await) → slice_get (awaits_of (P.program program.now) agent (finished + 1)) k ≡ Some w
+        → HasRow (P.program program.now) block.now kept.now (awaited w) }
+    ensures { (j k : ℕ) → HasColumn block.now.columns j k → IsPart (P.program program.now) agent finished j
+        (length (awaits_of (P.program program.now) agent (finished + 1))) (slice_index row.new k) }
+{
+    let _ = program.agents();
+    let number = finished + 1;
+    for k in 0..program.await_count(agent, number) {
+        let awaited = program.await_at(agent, number, k);
+        let place = block.places.place(awaited.agent, awaited.count);
+        join_own_count(&block.columns, kept, row, awaited.agent, place);
+    }
+}
+
+/// Joins of the row of an action of the agent the agent's own count alone.
+fn join_own_count(columns: &Columns, kept: &KeptRows, row: &mut [u32], agent: u16, place: usize)
+    requires agent { agent < length columns.now.of_agent.items }
+    requires within { (j k : ℕ) → HasColumn columns.now j k → k < length row.old }
+    requires apart { (i j k : ℕ) → HasColumn columns.now i k → HasColumn columns.now j k → i ≡ j }
+    requires sound { IsSound kept.now }
+    requires place { place < length kept.now.marks.items }
+    requires kept { IsKept kept.now place }
+    requires row { length row.old ≡ kept.now.width }
+    ensures own { (k : ℕ) → HasColumn columns.now agent k
+        → slice_index row.new k ≡ max (slice_index row.old k) (count_in kept.now (mark_of kept.now place) k) }
+    ensures others { (j k : ℕ) → j ≢ agent → HasColumn columns.now j k
+        → slice_index row.new k ≡ slice_index row.old k }
+{
+    if let Some(k) = columns.of(agent) {
+        let k = usize::from(k);
+        row[k] = row[k].max(kept.count(place, k));
+    }
+}

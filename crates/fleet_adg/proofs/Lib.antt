@@ -13,3 +13,4 @@ pub mod Follow
 pub mod Listing
 pub mod Accepted
 pub mod Alike
+pub mod Thinning

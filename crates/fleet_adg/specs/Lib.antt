@@ -2,3 +2,4 @@ pub mod Compiled
 pub mod Leavings
 pub mod Sweep
 pub mod Told
+pub mod Thinned

@@ -9,6 +9,8 @@ mod leavings;
 mod row;
 mod row_table;
 mod sweep;
+mod thin_fault;
+mod thinner;
 
 pub use compiler::compile;
 pub use fault::CompileFault;
@@ -17,3 +19,5 @@ pub use laws::{
     awaits_are_as_defined, compiled_plans_are_accepted, compiled_plans_are_well_formed,
     compiled_plans_run_equally,
 };
+pub use thin_fault::ThinFault;
+pub use thinner::thin;

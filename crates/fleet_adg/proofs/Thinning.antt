@@ -1,0 +1,285 @@
+-- A program whose implied awaits are gone, made action by action.
+use Rattle.std.proofs.Common.{rules, ◌≡◌, ◌≢◌, ℕ, zero, suc, ◌+◌, ◌<◌, ◌≤◌, List, [], ◌∷◌, ◌++◌, length, get_or, map, take, refl, sym, ap, subst, ◌∙◌, arith, inl, inr, ◌⊎◌, add-one}
+use Rattle.std.specs.Prelude.{slice_get, Option, Some, None, Contains, All, option_map, IsTrue}
+use Rattle.std.specs.Option.{option_map_or}
+use Rattle.std.specs.List.Sorted.{IsStrictlyIncreasing}
+use Rattle.std.proofs.lemmas.Bool.{cases_lt}
+use Rattle.std.proofs.lemmas.Option.{slice_get-map, slice_get-get_or, slice_get_within, slice_get_past, slice_get_cases, get_or_from_slice_get}
+use Rattle.std.proofs.lemmas.List.{take_all, map-append, length-map, ext_get_or, get_or-map, length_push, get_or_push, get_or_append_left, get_or_default}
+use Rattle.std.proofs.lemmas.List.Elements.{All-push, Contains-push, Contains-push_cases, Contains-append_left}
+use Rattle.fleet_model.specs.declared.program.Await.{Await}
+use Rattle.fleet_model.specs.declared.geometry.Step.{Step}
+use Rattle.fleet_model.specs.declared.geometry.Step.TheVariants.{Dwell}
+use Rattle.fleet_model.specs.Geometry.{is_move}
+use Rattle.fleet_model.specs.Machine.{IsFinish}
+use Rattle.fleet_model.specs.Chain.{IsLongestChain}
+use Rattle.fleet_model.specs.declared.program.Action.{Action}
+use Rattle.fleet_model.specs.declared.program.ActionId.{ActionId}
+use Rattle.fleet_model.specs.declared.program.AgentProgram.{AgentProgram}
+use Rattle.fleet_model.specs.Program.{Program, actions_of, moves, step_of, awaits_of, total_moves, AreAwaits, AreInRange, IsCell, IsWellFormed, NeverStays}
+use Rattle.fleet_model.proofs.Totals.{moves_more}
+use Rattle.fleet_model.specs.declared.limits.TheConstants.{MAX_AWAIT_V1}
+use Rattle.fleet_rows.specs.Implied.{IsImplied}
+use Rattle.fleet_rows.proofs.Implying.{await_below}
+use Rattle.fleet_model.proofs.Reaching.{longest_is_one}
+use Rattle.fleet_verify.proofs.Arrive.{finish_exists, unheld_is_longest}
+use Rattle.fleet_chains.specs.Reduced.{IsThinned}
+use Rattle.fleet_chains.proofs.BreakingCounts.{push_rises}
+use Rattle.fleet_adg.specs.Thinned.{AreUnimplied, IsThinnedAction, AreThinnedActions, IsThinnedAgent, AreThinnedAgents}
+
+-- what stands in a list with one more at its end
+push_at : {X : Type 0} (xs : List X) (x : X) (k : ℕ) (y : X) → slice_get (xs ++ x ∷ []) k ≡ Some y → (slice_get xs k ≡ Some y) ⊎ ((k ≡ length xs) × (x ≡ y))
+push_at xs x k y e =
+    let l : k < length (xs ++ x ∷ []) = slice_get_within (xs ++ x ∷ []) k y e in
+    let here : get_or (xs ++ x ∷ []) k y ≡ y = get_or_from_slice_get (xs ++ x ∷ []) k y y e in
+    elim (cases_lt k (length xs)) [
+      | inl low ↦ inl (slice_get-get_or xs k y low ∙ ap Some (sym (get_or_append_left xs (x ∷ []) y k low) ∙ here))
+      | inr high ↦
+          let at : k ≡ length xs = omega (arith, length_push xs x) in
+          inr (at, sym (get_or_push xs x y k (sym at)) ∙ here)
+    ]
+
+-- ---- awaits, one after another
+
+pub none_yet : (p : Program) (a : ActionId) → AreUnimplied p a 0 []
+none_yet p a = record {
+  formed = record { rising = λ k l. absurd (omega arith); agents = λ k d l. absurd (omega arith); others = λ k d l. absurd (omega arith); counts = λ k d l. absurd (omega arith); few = λ k d l. absurd (omega arith) };
+  known = λ w. ((λ c. absurd (let l : c.0 < 0 = c.1 in omega arith)), (λ m. absurd (let l : m.0 < 0 = m.1 in omega arith)));
+}
+
+module _ (p : Program) (formed : IsWellFormed p) (a : ActionId) (k : ℕ) (awaits : List Await) (h : AreUnimplied p a k awaits) (w : Await) (at : slice_get (awaits_of p a.agent a.number) k ≡ Some w) where
+  some_is : (x y : Await) → Some x ≡ Some y → x ≡ y
+  some_is x y e = search rules
+
+  whole : AreAwaits (length p) a.agent (awaits_of p a.agent a.number)
+  whole = formed.awaits a.agent a.number
+
+  here : (P : Await → Type 0) → All P (awaits_of p a.agent a.number) → P w
+  here P all = subst P (get_or_from_slice_get (awaits_of p a.agent a.number) k w w at) (all k w (slice_get_within (awaits_of p a.agent a.number) k w at))
+
+  longer : (v : Await) → (m : ℕ) × (m < k) × (slice_get (awaits_of p a.agent a.number) m ≡ Some v) × (IsImplied p a v → ⊥) → (m : ℕ) × (m < k + 1) × (slice_get (awaits_of p a.agent a.number) m ≡ Some v) × (IsImplied p a v → ⊥)
+  longer v (m, l, e, n) = (m, omega arith, e, n)
+
+  pub keep_one : (IsImplied p a w → ⊥) → AreUnimplied p a (k + 1) (awaits ++ w ∷ [])
+  keep_one none = record {
+    formed = record {
+      rising = subst IsStrictlyIncreasing (sym (map-append (λ (v : Await). v.agent) awaits (w ∷ []))) (push_rises (map (λ (v : Await). v.agent) awaits) w.agent h.formed.rising below);
+      agents = All-push (λ (v : Await). v.agent < length p) awaits w h.formed.agents (here (λ (v : Await). v.agent < length p) whole.agents);
+      others = All-push (λ (v : Await). v.agent ≢ a.agent) awaits w h.formed.others (here (λ (v : Await). v.agent ≢ a.agent) whole.others);
+      counts = All-push (λ (v : Await). 1 ≤ v.count) awaits w h.formed.counts (here (λ (v : Await). 1 ≤ v.count) whole.counts);
+      few = All-push (λ (v : Await). v.count ≤ MAX_AWAIT_V1) awaits w h.formed.few (here (λ (v : Await). v.count ≤ MAX_AWAIT_V1) whole.few);
+    };
+    known = λ v. (
+      (λ c. elim (Contains-push_cases awaits w v c) [
+        | inl old ↦ longer v ((h.known v).0 old)
+        | inr e ↦ (k, omega arith, at ∙ ap Some e, (λ i. none (subst (IsImplied p a) (sym e) i)))
+      ]),
+      (λ (m, l, e, n). elim (cases_lt m k) [
+        | inl low ↦ Contains-append_left awaits (w ∷ []) v ((h.known v).1 (m, low, e, n))
+        | inr high ↦
+            let same : k ≡ m = omega arith in
+            subst (Contains (awaits ++ w ∷ [])) (some_is w v (sym at ∙ ap (slice_get (awaits_of p a.agent a.number)) same ∙ e)) (Contains-push awaits w)
+      ]),
+    );
+  }
+    where
+      member : (j : ℕ) → Contains (map (λ (v : Await). v.agent) awaits) j → (v : Await) × Contains awaits v × (v.agent ≡ j)
+      member j (m, l, e) =
+          let within : m < length awaits = omega (arith, l, length-map awaits (λ (v : Await). v.agent)) in
+          let v : Await = get_or awaits m w in
+          (v, (m, within, get_or_default awaits m v w within), (sym (get_or-map (λ (x : Await). x.agent) awaits m w j within) ∙ e))
+
+      below : (j : ℕ) → Contains (map (λ (v : Await). v.agent) awaits) j → j < w.agent
+      below j c =
+          let v = member j c in
+          let m = (h.known v.0).0 v.1 in
+          let l : v.0.agent < w.agent = await_below (awaits_of p a.agent a.number) whole.rising m.0 k v.0 w m.2 at m.1 in
+          omega (arith, l, v.2)
+
+  pub drop_one : IsImplied p a w → AreUnimplied p a (k + 1) awaits
+  drop_one is = record {
+    formed = h.formed;
+    known = λ v. (
+      (λ c. longer v ((h.known v).0 c)),
+      (λ (m, l, e, n). elim (cases_lt m k) [
+        | inl low ↦ (h.known v).1 (m, low, e, n)
+        | inr high ↦
+            let same : k ≡ m = omega arith in
+            absurd (n (subst (IsImplied p a) (some_is w v (sym at ∙ ap (slice_get (awaits_of p a.agent a.number)) same ∙ e)) is))
+      ]),
+    );
+  }
+
+-- one that is implied goes
+pub drop_implied : (p : Program) → IsWellFormed p → (a : ActionId) (k : ℕ) (awaits : List Await) → AreUnimplied p a k awaits → k < length (awaits_of p a.agent a.number)
+    → ((w : Await) → slice_get (awaits_of p a.agent a.number) k ≡ Some w → IsImplied p a w) → AreUnimplied p a (k + 1) awaits
+drop_implied p formed a k awaits h l implied = elim ((slice_get_cases (awaits_of p a.agent a.number) k).1) [
+  | inl found ↦ drop_one p formed a k awaits h found.0 found.2 (implied found.0 found.2)
+  | inr past ↦ absurd (let g : length (awaits_of p a.agent a.number) ≤ k = past.0 in omega arith)
+]
+
+-- ---- actions, one after another
+
+pub action_more : (p : Program) (i n : ℕ) (actions : List Action) (s : Action) → AreThinnedActions p i n actions → IsThinnedAction p (record { agent = i; number = n + 1 }) s → AreThinnedActions p i (n + 1) (actions ++ s ∷ [])
+action_more p i n actions s h here = record {
+  long = length_push actions s ∙ ap (λ (m : ℕ). m + 1) h.long;
+  each = λ k t e. elim (push_at actions s k t e) [
+    | inl old ↦ h.each k t old
+    | inr (at, same) ↦
+        let number : n ≡ k = sym (at ∙ h.long) in
+        subst (λ (x : Action). IsThinnedAction p (record { agent = i; number = k + 1 }) x) same (subst (λ (m : ℕ). IsThinnedAction p (record { agent = i; number = m + 1 }) s) number here)
+  ];
+}
+
+pub agent_more : (p : Program) (n : ℕ) (agents : List AgentProgram) (a : AgentProgram) → AreThinnedAgents p n agents → IsThinnedAgent p n a → AreThinnedAgents p (n + 1) (agents ++ a ∷ [])
+agent_more p n agents a h here = record {
+  long = length_push agents a ∙ ap (λ (m : ℕ). m + 1) h.long;
+  each = λ i b e. elim (push_at agents a i b e) [
+    | inl old ↦ h.each i b old
+    | inr (at, same) ↦ subst (λ (x : AgentProgram). IsThinnedAgent p i x) same (subst (λ (m : ℕ). IsThinnedAgent p m a) (sym (at ∙ h.long)) here)
+  ];
+}
+
+-- ---- the whole program
+
+module _ (p q : Program) (h : AreThinnedAgents p (length p) q) where
+  -- an agent of the program has come from that of the other
+  agent_of : (i : ℕ) → (slice_get q i ≡ None) × (slice_get p i ≡ None) ⊎ ((a : AgentProgram) × (slice_get q i ≡ Some a) × (i < length p))
+  agent_of i = elim (cases_lt i (length p)) [
+    | inr high ↦ inl (slice_get_past q i (omega (arith, h.long)), slice_get_past p i high)
+    | inl low ↦ elim ((slice_get_cases q i).1) [
+      | inl found ↦ inr (found.0, found.2, low)
+      | inr past ↦ absurd (let l : length q ≤ i = past.0 in omega (arith, h.long))
+    ]
+  ]
+
+  same_moves : (i : ℕ) → moves q i ≡ moves p i
+  same_moves i = elim (agent_of i) [
+    | inl (e, f) ↦ rw (e, f) refl
+    | inr (a, e, l) ↦ rw e (h.each i a e).actions.long
+  ]
+
+  -- action n of agent i, and what is known of it
+  action_in : (i k : ℕ) → (slice_get (actions_of q i) k ≡ None) × (slice_get (actions_of p i) k ≡ None) ⊎ ((s : Action) × (slice_get (actions_of q i) k ≡ Some s) × IsThinnedAction p (record { agent = i; number = k + 1 }) s)
+  action_in i k = elim (cases_lt k (moves p i)) [
+    | inr high ↦ inl (slice_get_past (actions_of q i) k (omega (arith, same_moves i)), slice_get_past (actions_of p i) k high)
+    | inl low ↦ elim ((slice_get_cases (actions_of q i) k).1) [
+      | inr past ↦ absurd (let l : length (actions_of q i) ≤ k = past.0 in omega (arith, same_moves i))
+      | inl found ↦ elim (agent_of i) [
+        | inl (e, f) ↦ absurd (let none : moves p i ≡ 0 = rw f refl in omega arith)
+        | inr (a, e, l) ↦ inr (found.0, found.2, (h.each i a e).actions.each k found.0 (let same : actions_of q i ≡ a.actions = rw e refl in sym (ap (λ (xs : List Action). slice_get xs k) same) ∙ found.2))
+      ]
+    ]
+  ]
+
+  steps_same : (i : ℕ) → map (λ (s : Action). s.step) (actions_of q i) ≡ map (λ (s : Action). s.step) (actions_of p i)
+  steps_same i = ext_get_or Dwell (map (λ (s : Action). s.step) (actions_of q i)) (map (λ (s : Action). s.step) (actions_of p i)) long each
+    where
+      long : length (map (λ (s : Action). s.step) (actions_of q i)) ≡ length (map (λ (s : Action). s.step) (actions_of p i))
+      long = length-map (actions_of q i) (λ (s : Action). s.step) ∙ same_moves i ∙ sym (length-map (actions_of p i) (λ (s : Action). s.step))
+
+      each : (k : ℕ) → k < length (map (λ (s : Action). s.step) (actions_of q i)) → get_or (map (λ (s : Action). s.step) (actions_of q i)) k Dwell ≡ get_or (map (λ (s : Action). s.step) (actions_of p i)) k Dwell
+      each k l = elim (action_in i k) [
+        | inl (e, f) ↦ absurd (let past : length (actions_of q i) ≤ k = none_there e in omega (arith, length-map (actions_of q i) (λ (s : Action). s.step)))
+        | inr (s, e, t) ↦
+            let there : step_of p i (suc k) ≡ Some s.step = subst (λ (n : ℕ). step_of p i n ≡ Some s.step) (add-one k) t.step in
+            get_or_from_slice_get (map (λ (x : Action). x.step) (actions_of q i)) k s.step Dwell (slice_get-map (λ (x : Action). x.step) (actions_of q i) k ∙ ap (option_map (λ (x : Action). x.step)) e)
+            ∙ sym (get_or_from_slice_get (map (λ (x : Action). x.step) (actions_of p i)) k s.step Dwell (slice_get-map (λ (x : Action). x.step) (actions_of p i) k ∙ there))
+      ]
+        where
+          none_there : slice_get (actions_of q i) k ≡ None → length (actions_of q i) ≤ k
+          none_there e = elim ((slice_get_cases (actions_of q i) k).1) [
+            | inr past ↦ past.0
+            | inl found ↦ absurd (none_some found.0 (sym e ∙ found.2))
+          ]
+            where
+              none_some : (x : Action) → None ≡ Some x → ⊥
+              none_some x n = search rules
+
+  -- the awaits of an action are those of the program that are not implied
+  awaits_in : (i n : ℕ) → AreUnimplied p (record { agent = i; number = n }) (length (awaits_of p i n)) (awaits_of q i n)
+  awaits_in i zero = none_yet p (record { agent = i; number = 0 })
+  awaits_in i (suc k) = elim (action_in i k) [
+    | inr (s, e, t) ↦
+        let same : awaits_of q i (suc k) ≡ s.awaits = ap (λ (o : Option Action). option_map_or (λ (x : Action). x.awaits) o []) e in
+        subst (AreUnimplied p (record { agent = i; number = suc k }) (length (awaits_of p i (suc k)))) (sym same)
+        (subst (λ (n : ℕ). AreUnimplied p (record { agent = i; number = n }) (length (awaits_of p i n)) s.awaits) (add-one k) t.awaits)
+    | inl (e, f) ↦
+        let mine : awaits_of q i (suc k) ≡ [] = ap (λ (o : Option Action). option_map_or (λ (x : Action). x.awaits) o []) e in
+        let other : awaits_of p i (suc k) ≡ [] = ap (λ (o : Option Action). option_map_or (λ (x : Action). x.awaits) o []) f in
+        subst (AreUnimplied p (record { agent = i; number = suc k }) (length (awaits_of p i (suc k)))) (sym mine)
+        (subst (λ (m : ℕ). AreUnimplied p (record { agent = i; number = suc k }) m []) (sym (ap (λ (xs : List Await). length xs) other)) (none_yet p (record { agent = i; number = suc k })))
+  ]
+
+  pub thinned_is : IsThinned p q
+  thinned_is = record {
+    rest = record {
+      agents = h.long;
+      starts = λ i. elim (agent_of i) [ inl (e, f) ↦ rw (e, f) refl | inr (a, e, l) ↦ rw e (h.each i a e).start ];
+      goals = λ i. elim (agent_of i) [ inl (e, f) ↦ rw (e, f) refl | inr (a, e, l) ↦ rw e (h.each i a e).goal ];
+      steps = steps_same;
+    };
+    awaits = λ i n w. (
+      (λ c.
+          let m = ((awaits_in i n).known w).0 c in
+          ((m.0, m.1, get_or_from_slice_get (awaits_of p i n) m.0 w w m.2), m.3)),
+      (λ (c, none). ((awaits_in i n).known w).1 (c.0, c.1, slice_get-get_or (awaits_of p i n) c.0 w c.1 ∙ ap Some c.2, none)),
+    );
+  }
+
+  moves_to : (n : ℕ) → total_moves (take n q) ≡ total_moves (take n p)
+  moves_to zero = refl
+  moves_to (suc n) =
+      let e : suc n ≡ n + 1 = omega arith in
+      let before = moves_to n in
+      rw e (omega (arith, before, same_moves n, moves_more q n, moves_more p n))
+
+  pub thinned_formed : IsWellFormed p → IsWellFormed q
+  thinned_formed formed = record {
+    some_agents = omega (arith, h.long, formed.some_agents);
+    few_agents = omega (arith, h.long, formed.few_agents);
+    starts = λ i. subst IsCell (sym (thinned_is.rest.starts i)) (formed.starts i);
+    goals = λ i. subst IsCell (sym (thinned_is.rest.goals i)) (formed.goals i);
+    moves_each = λ i. (let l = formed.moves_each i in omega (arith, same_moves i, l));
+    moves_in_all =
+        let all : total_moves (take (length q) q) ≡ total_moves q = ap total_moves (take_all (length q) q (omega arith)) in
+        let other : total_moves (take (length q) p) ≡ total_moves p = ap total_moves (take_all (length q) p (omega (arith, h.long))) in
+        let l = formed.moves_in_all in
+        omega (arith, all, other, moves_to (length q), l);
+    awaits = λ i n. subst (λ (m : ℕ). AreAwaits m i (awaits_of q i n)) (sym h.long) (awaits_in i n).formed;
+  }
+
+  -- no action has become a stay
+  pub thinned_moves : NeverStays p → NeverStays q
+  thinned_moves none k d l m x within =
+      let a : AgentProgram = get_or q k d in
+      let there : slice_get q k ≡ Some a = slice_get-get_or q k d l in
+      let t = h.each k a there in
+      let s : Action = get_or a.actions m x in
+      let step : step_of p k (m + 1) ≡ Some s.step = (t.actions.each m s (slice_get-get_or a.actions m x within)).step in
+      let b : AgentProgram = get_or p k d in
+      let low : k < length p = omega (arith, h.long) in
+      let theirs : slice_get p k ≡ Some b = slice_get-get_or p k d low in
+      let actions : actions_of p k ≡ b.actions = ap (λ (o : Option AgentProgram). option_map_or (λ (y : AgentProgram). y.actions) o []) theirs in
+      let inside : m < length b.actions = omega (arith, t.actions.long, ap (λ (xs : List Action). length xs) actions) in
+      let their : slice_get (actions_of p k) m ≡ Some (get_or b.actions m x) = ap (λ (xs : List Action). slice_get xs m) actions ∙ slice_get-get_or b.actions m x inside in
+      let there : step_of p k (suc m) ≡ Some s.step = subst (λ (n : ℕ). step_of p k n ≡ Some s.step) (add-one m) step in
+      let same : (get_or b.actions m x).step ≡ s.step = some_step (get_or b.actions m x).step s.step (sym (ap (option_map (λ (y : Action). y.step)) their) ∙ there) in
+      subst (λ (y : Step). IsTrue (is_move y)) same (none k d low m x inside)
+    where
+      some_step : (y z : Step) → Some y ≡ Some z → y ≡ z
+      some_step y z e = search rules
+
+-- ---- what the thinned program is
+
+pub thinned_of : (p p' q v : Program) → p' ≡ p → AreThinnedAgents p' (length p') v → q ≡ v → IsThinned p q
+thinned_of p p' q v same h e = subst (λ (x : Program). IsThinned p x) (sym e) (subst (λ (x : Program). IsThinned x v) same (thinned_is p' v h))
+
+pub moves_of : (p p' q v : Program) → p' ≡ p → AreThinnedAgents p' (length p') v → q ≡ v → NeverStays p → NeverStays q
+moves_of p p' q v same h e none = subst NeverStays (sym e) (thinned_moves p' v h (subst NeverStays (sym same) none))
+
+-- without holds an accepted program finishes after as many ticks as its longest chain has actions
+pub chain_finish : (p : Program) → AreInRange p → (l : ℕ) → IsLongestChain p l → IsFinish p [] l
+chain_finish p range l h =
+    let f = finish_exists p [] range l h.most in
+    subst (IsFinish p []) (longest_is_one p f.0 l (unheld_is_longest p range f.0 f.1) h) f.1

@@ -1,0 +1,69 @@
+use Rattle.std.proofs.Common.{[], sym, ap, subst}
+use Rattle.fleet_model.specs.Program.{Program}
+use Rattle.fleet_model.specs.Machine.{IsFinish}
+use Rattle.fleet_grid.specs.Ground.{is_passable}
+use Rattle.fleet_verify.specs.Parts.{IsAcceptedFor}
+use Rattle.fleet_chains.specs.Reduced.{IsThinned}
+use Rattle.fleet_chains.proofs.Reductions.{thinned_reduced, thinned_again, reduced_chains, thinned_range}
+use Rattle.fleet_chains.proofs.SameChains.{longest_over, accepted_over, run_over}
+use Rattle.fleet_adg.proofs.Thinning.{thinned_of, thinned_formed, moves_of, chain_finish}
+use Rattle.fleet_adg.proofs.thinner.thin.Goals as goal
+
+pub implied_awaits-requires-clause-finish : goal.implied_awaits-requires-clause-finish
+implied_awaits-requires-clause-finish g c =
+    let p = g.P.ProgramView.program c.program-program.result.now in
+    let known = c.program-program.ensures.accepted in
+    subst (IsFinish p []) (sym c.chain.ensures.chain) (chain_finish p known.accepted.right.in_range c.args.accepted.now.chain known.longest)
+
+pub new-requires : goal.new-requires
+new-requires g c = thinned_formed (g.P.ProgramView.program c.program-program.result.now) c.in_ok-agents.agents.items c.in_ok-agents.ensures c.agents.ensures.well_formed
+
+pub returns-clause-thinned : goal.returns-clause-thinned
+returns-clause-thinned g c =
+    let p = g.P.ProgramView.program c.args.accepted.now.program in
+    let same = ap g.P.ProgramView.program c.program-program.ensures.program in
+    let made : IsThinned p c.new.result = thinned_of p (g.P.ProgramView.program c.program-program.result.now) c.new.result c.in_ok-agents.agents.items same c.in_ok-agents.ensures c.new.ensures in
+    made
+
+pub returns-clause-accepted : goal.returns-clause-accepted
+returns-clause-accepted g c =
+    let p = g.P.ProgramView.program c.args.accepted.now.program in
+    let same = ap g.P.ProgramView.program c.program-program.ensures.program in
+    let made : IsThinned p c.new.result = thinned_of p (g.P.ProgramView.program c.program-program.result.now) c.new.result c.in_ok-agents.agents.items same c.in_ok-agents.ensures c.new.ensures in
+    let known = subst (λ (x : Program). IsAcceptedFor c.args.accepted.now.grid c.args.accepted.now.instance x c.args.accepted.now.chain) same c.program-program.ensures.accepted in
+    let less = reduced_chains p c.new.result (thinned_reduced p c.new.result known.accepted.numbering.0 known.accepted.numbering.1 made) in
+    let range = thinned_range p c.new.result made known.accepted.right.in_range in
+    accepted_over p c.new.result range less (is_passable c.args.accepted.now.grid) c.args.accepted.now.instance known.accepted
+
+pub returns-clause-chain : goal.returns-clause-chain
+returns-clause-chain g c =
+    let p = g.P.ProgramView.program c.args.accepted.now.program in
+    let same = ap g.P.ProgramView.program c.program-program.ensures.program in
+    let made : IsThinned p c.new.result = thinned_of p (g.P.ProgramView.program c.program-program.result.now) c.new.result c.in_ok-agents.agents.items same c.in_ok-agents.ensures c.new.ensures in
+    let known = subst (λ (x : Program). IsAcceptedFor c.args.accepted.now.grid c.args.accepted.now.instance x c.args.accepted.now.chain) same c.program-program.ensures.accepted in
+    let less = reduced_chains p c.new.result (thinned_reduced p c.new.result known.accepted.numbering.0 known.accepted.numbering.1 made) in
+    let range = thinned_range p c.new.result made known.accepted.right.in_range in
+    longest_over p c.new.result known.accepted.right.in_range range less c.args.accepted.now.chain known.longest
+
+pub returns-clause-equally : goal.returns-clause-equally
+returns-clause-equally g c = λ holds t.
+    let p = g.P.ProgramView.program c.args.accepted.now.program in
+    let same = ap g.P.ProgramView.program c.program-program.ensures.program in
+    let made : IsThinned p c.new.result = thinned_of p (g.P.ProgramView.program c.program-program.result.now) c.new.result c.in_ok-agents.agents.items same c.in_ok-agents.ensures c.new.ensures in
+    let known = subst (λ (x : Program). IsAcceptedFor c.args.accepted.now.grid c.args.accepted.now.instance x c.args.accepted.now.chain) same c.program-program.ensures.accepted in
+    let less = reduced_chains p c.new.result (thinned_reduced p c.new.result known.accepted.numbering.0 known.accepted.numbering.1 made) in
+    let range = thinned_range p c.new.result made known.accepted.right.in_range in
+    run_over p c.new.result known.accepted.right.in_range range less holds t
+
+pub returns-clause-again : goal.returns-clause-again
+returns-clause-again g c =
+    let p = g.P.ProgramView.program c.args.accepted.now.program in
+    let same = ap g.P.ProgramView.program c.program-program.ensures.program in
+    let made : IsThinned p c.new.result = thinned_of p (g.P.ProgramView.program c.program-program.result.now) c.new.result c.in_ok-agents.agents.items same c.in_ok-agents.ensures c.new.ensures in
+    let known = subst (λ (x : Program). IsAcceptedFor c.args.accepted.now.grid c.args.accepted.now.instance x c.args.accepted.now.chain) same c.program-program.ensures.accepted in
+    thinned_again p c.new.result known.accepted.numbering.0 known.accepted.numbering.1 made
+
+pub returns-clause-moves : goal.returns-clause-moves
+returns-clause-moves g c =
+    let p = g.P.ProgramView.program c.args.accepted.now.program in
+    moves_of p (g.P.ProgramView.program c.program-program.result.now) c.new.result c.in_ok-agents.agents.items (ap g.P.ProgramView.program c.program-program.ensures.program) c.in_ok-agents.ensures c.new.ensures

@@ -1,0 +1,12 @@
+use Rattle.std.proofs.Common.{◌+◌, sym, subst}
+use Rattle.fleet_adg.specs.Thinned.{AreThinnedActions}
+use Rattle.fleet_adg.proofs.Thinning.{action_more}
+use Rattle.fleet_adg.proofs.thinner.thinned_actions.Goals as goal
+
+pub loop-finished-preserved : goal.loop-finished-preserved
+loop-finished-preserved g c =
+    let p = g.P.ProgramView.program c.args.program.now in
+    record {
+      made = subst (AreThinnedActions p c.args.i (c.loop-finished.finished + 1)) (sym c.in_ok-push.ensures.items)
+          (action_more p c.args.i c.loop-finished.finished c.loop-finished.actions.items _ c.loop-finished.invariant.made (record { step = c.step-step.ensures; awaits = c.in_ok-awaits.ensures }));
+    }

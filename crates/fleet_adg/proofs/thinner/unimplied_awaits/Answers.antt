@@ -1,0 +1,23 @@
+use Rattle.std.proofs.Common.{◌+◌, sym, subst, ◌∙◌, arith}
+use Rattle.fleet_adg.specs.Thinned.{AreUnimplied}
+use Rattle.fleet_adg.proofs.Thinning.{keep_one, drop_implied}
+use Rattle.fleet_adg.proofs.thinner.unimplied_awaits.Goals as goal
+use Rattle.fleet_adg.proofs.thinner.unimplied_awaits.Goals.{in-Some+in_ok-push, in_default}
+
+pub loop-k-preserved : goal.loop-k-preserved
+loop-k-preserved g c =
+    let p = g.P.ProgramView.program c.args.program.now in
+    let a = c.args.action in
+    let k = c.loop-k.k in
+    let made = c.loop-k.invariant.made in
+    let formed = c.agents.ensures.well_formed in
+    elim c.match-unimplied.branch [
+      | in-Some+in_ok-push w ↦
+          let some = c.unimplied.ensures.some w.in-Some.one w.in-Some.is in
+          record { made = subst (AreUnimplied p a (k + 1)) (sym (w.awaits-is ∙ w.in_ok-push.ensures.ok)) (keep_one p formed a k c.loop-k.awaits made w.in-Some.one some.0 some.1) }
+      | in_default w ↦
+          record {
+            made = subst (AreUnimplied p a (k + 1)) (sym w.awaits-is)
+                (drop_implied p formed a k c.loop-k.awaits made (omega (arith, c.loop-k-test.true, c.loop-k.auto.k-end, c.await_count-k-end.ensures)) (λ x at. c.unimplied.ensures.none x w.in_default.is at));
+          }
+    ]

@@ -1,0 +1,117 @@
+//! Programs without the awaits that others imply.
+
+ghost use Rattle.std.specs.Prelude.{◌≡◌, ◌≤◌, ◌<◌, IfOk, length};
+ghost use Rattle.fleet_model.specs.Program.{moves, awaits_of, NeverStays};
+ghost use Rattle.fleet_model.specs.Chain.{IsAction, IsLongestChain};
+ghost use Rattle.fleet_model.specs.Accepted.{IsAccepted};
+ghost use Rattle.fleet_grid.specs.Ground.{is_passable};
+ghost use Rattle.fleet_rows.specs.Implied.{AreImplied};
+ghost use Rattle.fleet_chains.specs.Reduced.{IsThinned, RunEqually};
+ghost use Rattle.fleet_adg.specs.Thinned.{AreUnimplied, IsThinnedAction, AreThinnedActions, IsThinnedAgent, AreThinnedAgents};
+
+use crate::thin_fault::ThinFault;
+use fleet_model::{Action, ActionId, AgentProgram, Awaits, OutOfMemory, Program, ProgramView};
+use fleet_rows::{ImpliedAwaits, implied_awaits};
+use fleet_verify::Accepted;
+use std::alloc::Global;
+
+/// The accepted program without its implied awaits: those whose awaited action begins a chain of needs that ends with another
+/// action which the same action directly needs. This is the transitive reduction of the action dependency graph (Aho et al.
+/// 1972) in all but the edges from an agent's action to its next one, which stay.
+///
+/// What is left is accepted for the same map and instance, has the same longest chain, and runs as before under every list of
+/// holds; none of its awaits is implied.
+pub fn thin<P: ProgramView>(alloc: Global, accepted: &Accepted<'_, P>) -> Result<Program, ThinFault>
+    ensures thinned { IfOk result (IsThinned (P.program accepted.now.program)) }
+    ensures accepted { IfOk result (IsAccepted (is_passable accepted.now.grid) accepted.now.instance) }
+    ensures chain { IfOk result (λ q. IsLongestChain q accepted.now.chain) }
+    ensures equally { IfOk result (RunEqually (P.program accepted.now.program)) }
+    // Thinning it again drops nothing.
+    ensures again { IfOk result (λ q. IsThinned q q) }
+    ensures moves { IfOk result (λ q. NeverStays (P.program accepted.now.program) → NeverStays q) }
+{
+    let program = accepted.program();
+    let _ = program.agents();
+    let implied = implied_awaits(alloc, program, accepted.chain())?;
+    let agents = thinned_agents(alloc, program, &implied)?;
+    Ok(Program::new(agents))
+}
+
+/// The agents of the program, without their implied awaits.
+fn thinned_agents<P: ProgramView>(
+    alloc: Global,
+    program: &P,
+    implied: &ImpliedAwaits,
+) -> Result<Vec<AgentProgram>, OutOfMemory>
+    requires { AreImplied (P.program program.now) implied.now }
+    ensures { IfOk result (λ v. AreThinnedAgents (P.program program.now) (length (P.program program.now)) v.items) }
+{
+    let count = program.agents();
+    let mut agents = Vec::with_capacity(alloc, usize::from(count))?;
+    for i in 0..count {
+        agents.push(thinned_agent(alloc, program, implied, i)?)?;
+    }
+    Ok(agents)
+}
+
+/// Agent `i` of the program, without its implied awaits.
+fn thinned_agent<P: ProgramView>(
+    alloc: Global,
+    program: &P,
+    implied: &ImpliedAwaits,
+    i: u16,
+) -> Result<AgentProgram, OutOfMemory>
+    requires implied { AreImplied (P.program program.now) implied.now }
+    requires agent { i < length (P.program program.now) }
+    ensures { IfOk result (IsThinnedAgent (P.program program.now) i) }
+{
+    let actions = thinned_actions(alloc, program, implied, i)?;
+    Ok(AgentProgram::new(program.start(i), program.goal(i), actions))
+}
+
+/// The actions of agent `i` of the program, without their implied awaits.
+fn thinned_actions<P: ProgramView>(
+    alloc: Global,
+    program: &P,
+    implied: &ImpliedAwaits,
+    i: u16,
+) -> Result<Vec<Action>, OutOfMemory>
+    requires implied { AreImplied (P.program program.now) implied.now }
+    requires agent { i < length (P.program program.now) }
+    ensures { IfOk result (λ v. AreThinnedActions (P.program program.now) i (moves (P.program program.now) i) v.items) }
+{
+    let count = program.moves(i);
+    let mut actions = Vec::with_capacity(alloc, count as usize)?;
+    for finished in 0..count {
+        let action = ActionId {
+            agent: i,
+            number: finished + 1,
+        };
+        let awaits = unimplied_awaits(alloc, program, implied, action)?;
+        let step = program.step(i, finished + 1);
+        actions.push(Action { step, awaits })?;
+    }
+    Ok(actions)
+}
+
+/// The awaits of the action that no others imply.
+fn unimplied_awaits<P: ProgramView>(
+    alloc: Global,
+    program: &P,
+    implied: &ImpliedAwaits,
+    action: ActionId,
+) -> Result<Awaits, OutOfMemory>
+    requires implied { AreImplied (P.program program.now) implied.now }
+    requires action { IsAction (P.program program.now) action }
+    ensures { IfOk result (AreUnimplied (P.program program.now) action
+        (length (awaits_of (P.program program.now) action.agent action.number))) }
+{
+    let _ = program.agents();
+    let mut awaits = Awaits::new(alloc);
+    for k in 0..program.await_count(action.agent, action.number) {
+        if let Some(one) = implied.unimplied(program, action, k) {
+            awaits.push(one)?;
+        }
+    }
+    Ok(awaits)
+}

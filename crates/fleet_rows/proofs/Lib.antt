@@ -10,3 +10,7 @@ pub mod Noting
 pub mod Passing
 pub mod Implying
 pub mod Flagging
+pub mod PiecePairs
+pub mod Gathered
+pub mod GatheredTicks
+pub mod LatestPiece

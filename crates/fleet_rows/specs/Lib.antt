@@ -8,3 +8,5 @@ pub mod Takers
 pub mod Block
 pub mod Pass
 pub mod Implied
+pub mod Pieces
+pub mod Gather

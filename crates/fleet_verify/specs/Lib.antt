@@ -10,3 +10,4 @@ pub mod Parts
 pub mod Rows
 pub mod Broken
 pub mod Told
+pub mod Reach

@@ -13,6 +13,7 @@ mod open_pairs;
 mod order;
 mod orders;
 mod path;
+mod reach;
 mod ring;
 mod runs;
 mod unheld_run;
@@ -30,6 +31,7 @@ pub use fleet_rows::{join_rows, row_covers};
 pub use orders::{
     awaits_are_chains, orderly_listings_rise, rings_are_never_finished, sorted_listings_decide,
 };
+pub use reach::Reach;
 pub use runs::{
     levels_rise, orders_are_given_once, ready_moves_are_apart, reports_make_a_run, runs_are_safe,
     runs_arrive, runs_end, ticks_are_safe, visits_come_in_turn,

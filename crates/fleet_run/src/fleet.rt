@@ -1,8 +1,10 @@
 //! A fleet that runs an accepted program.
 
-ghost use Rattle.std.specs.Prelude.{◌≡◌, ℕ, ◌<◌, ◌≤◌, length, IsOk, IfOk, IfErr, OnOk, OnErr, All, IsTrue, IsFalse, false};
+ghost use Rattle.std.specs.Prelude.{◌≡◌, ℕ, ◌<◌, ◌≤◌, length, IsOk, IfOk, IfErr, OnOk, OnErr, All, IsTrue, IsFalse, false, option_map};
 ghost use Rattle.fleet_grid.specs.Ground.{is_passable};
 ghost use Rattle.fleet_model.specs.Chain.{IsLongestChain};
+ghost use Rattle.fleet_model.specs.Geometry.{stepped};
+ghost use Rattle.fleet_verify.specs.Parts.{IsAcceptedFor};
 ghost use Rattle.fleet_model.specs.Machine.{opening, tick, moved_in, is_ready_held, is_finished, is_ready, place_at, count_at};
 ghost use Rattle.fleet_model.specs.Run.{IsSafeStep};
 ghost use Rattle.fleet_model.specs.Claims.{order_of, AreApart, KeepsOrder};
@@ -19,7 +21,7 @@ use crate::run::RunFault;
 use crate::source::{HoldSource, flip};
 use crate::trace::{Report, run_trace};
 use fleet_machine::{Machine, Tick};
-use fleet_model::{Place, ProgramView, Step};
+use fleet_model::{MAX_AGENTS, Place, ProgramView, Step};
 use fleet_text::TraceOut;
 use fleet_verify::{Accepted, ready_moves_are_apart, runs_arrive, runs_end, ticks_are_safe};
 use std::alloc::Global;
@@ -177,6 +179,25 @@ impl<'g, P: ProgramView> Fleet<'g, P> {
         ensures { result ≡ order_of (P.program self.now.accepted.program) self.now.configuration i }
     {
         self.machine.order(self.accepted.program(), i)
+    }
+
+    /// Where the order of agent `i` leads, if it has one. An order to stay leads to where it stands.
+    pub fn sent_to(&self, i: u16) -> Option<Place>
+        requires { i < length (P.program self.now.accepted.program) }
+        ensures { result ≡ option_map (stepped (place_at self.now.configuration i))
+            (order_of (P.program self.now.accepted.program) self.now.configuration i) }
+    {
+        let step = self.order(i)?;
+        Some(self.machine.agent(i).place.after(step))
+    }
+
+    /// The program is accepted for its ground and its tasks, so that every law of accepted programs is true of it.
+    pub fn acceptance(&self)
+        ensures accepted { IsAcceptedFor self.now.accepted.grid self.now.accepted.instance
+            (P.program self.now.accepted.program) self.now.accepted.chain }
+        ensures few { length (P.program self.now.accepted.program) ≤ MAX_AGENTS }
+    {
+        let _ = &self.machine;
     }
 
     /// However long the agents take for their orders, no two of them meet: the places on which they stand and those to which their

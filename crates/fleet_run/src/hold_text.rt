@@ -70,8 +70,8 @@ impl<'a> HoldSource for HoldText<'a> {
     }
 }
 
-/// Sets the flags of the agents that the line of a tick holds. Answers whether it is such a line.
-fn set_tick(line: &[u8], agents: u16, flags: &mut [bool]) -> bool
+/// Sets the flags of the agents that the line of a tick names, of which none is set yet. Answers whether it is such a line.
+pub fn set_tick(line: &[u8], agents: u16, flags: &mut [bool]) -> bool
     requires { AreFlagsOf [] flags.old }
     ensures { MatchBool result
         ((tick : List ℕ) × (tick_of agents line.now ≡ Some tick) × AreFlagsOf tick flags.new)

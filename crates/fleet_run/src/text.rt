@@ -56,7 +56,7 @@ pub const PLACE: usize = 24;
 pub const LINE: usize = MAX_AGENTS * PLACE + 12;
 
 /// Writes bytes so that they end before `end`, and answers where they begin.
-fn write_bytes(bytes: &[u8], row: &mut [u8], end: usize) -> usize
+pub fn write_bytes(bytes: &[u8], row: &mut [u8], end: usize) -> usize
     requires room { length bytes.now ≤ end }
     requires within { end ≤ length row.old }
     ensures start { result + length bytes.now ≡ end }
@@ -68,7 +68,7 @@ fn write_bytes(bytes: &[u8], row: &mut [u8], end: usize) -> usize
 }
 
 /// Writes a word and its number, in a line.
-fn write_number_line(word: &[u8], number: u32, row: &mut [u8], end: usize) -> usize
+pub fn write_number_line(word: &[u8], number: u32, row: &mut [u8], end: usize) -> usize
     requires room { length word.now + 12 ≤ end }
     requires within { end ≤ length row.old }
     ensures low { end ≤ result + length word.now + 12 }

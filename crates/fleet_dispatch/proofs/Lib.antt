@@ -1,0 +1,4 @@
+pub mod Fronts
+pub mod Written
+pub mod Reports
+pub mod Outcomes

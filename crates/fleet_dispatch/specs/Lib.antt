@@ -1,0 +1,4 @@
+pub mod Talk
+pub mod Orders
+pub mod Dispatch
+pub mod Told

@@ -1,0 +1,30 @@
+-- What is said to a floor of robots and heard from it, in turn.
+use Rattle.std.specs.Prelude.{ℕ, ◌≤◌, Bool, true, false, List, [], ◌∷◌, length, take, Result, Ok, Err}
+use Rattle.fleet_run.specs.Source.{AreFlagsOf}
+use Rattle.fleet_dispatch.specs.declared.floor.HearFault.{HearFault}
+use Rattle.fleet_dispatch.specs.declared.floor.HearFault.TheVariants.{Form, Broken}
+
+-- one thing that was said or heard
+pub data Turn : Type 0 where
+  Told : List ℕ → Turn  -- bytes that were handed on
+  Cut : List ℕ → Turn  -- a front of bytes, after which nothing more can be said
+  Heard : List ℕ → Turn  -- a report, by the agents that it names
+  Misheard : Turn  -- a line that is no report
+  NoMore : Turn  -- there is no further line
+  Unheard : Turn  -- a line cannot be heard
+
+-- what was said and heard, in turn
+abbrev pub Talk : Type 0
+Talk = List Turn
+
+-- All of the bytes were handed on, or a front of them was taken and nothing more can be said
+abbrev pub Tells : {T E : Type 0} → (talks : Talk → Type 0) (works : Type 0) → Result T E → List ℕ → Type 0
+Tells talks works (Ok _) bytes = talks (Told bytes ∷ []) × works
+Tells talks works (Err _) bytes = (k : ℕ) × (k ≤ length bytes) × talks (Cut (take k bytes) ∷ [])
+
+-- A report was heard, and the flags are set as it names the agents; or there was none, or no report, or nothing could be heard
+abbrev pub Hears : (talks : Talk → Type 0) (works : Type 0) → Result Bool HearFault → List Bool → Type 0
+Hears talks works (Ok true) flags = (report : List ℕ) × AreFlagsOf report flags × talks (Heard report ∷ []) × works
+Hears talks works (Ok false) flags = talks (NoMore ∷ [])
+Hears talks works (Err Form) flags = talks (Misheard ∷ [])
+Hears talks works (Err Broken) flags = talks (Unheard ∷ [])

@@ -1,0 +1,41 @@
+//! Floors: where the robots are told their orders, and where they report.
+
+use fleet_text::OutFault;
+
+/// Why no report was heard.
+#[derive(Clone, Copy, Debug, PartialEq, Eq)]
+pub enum HearFault {
+    /// The line is no report.
+    Form,
+    /// The line cannot be read.
+    Broken,
+}
+
+/// A floor of robots. What is said to it and heard from it is one talk, in turn, so that what was told before a report was told before
+/// it.
+pub trait Floor {
+    ghost use Rattle.std.specs.Prelude.{ℕ, List, [], ◌++◌};
+    ghost use Rattle.fleet_dispatch.specs.Talk.{Talk, Tells, Hears};
+
+    /// From the first to the second this was said and heard.
+    ghost talks: { Self → Self → Talk → Type 0 };
+
+    /// Whether it can be told more and heard further.
+    ghost works: { Self → Type 0 };
+
+    /// Hands on all of the bytes before it answers.
+    fn tell(&mut self, bytes: &[u8]) -> Result<(), OutFault>
+        requires { works self.old }
+        ensures { Tells (talks self.old self.new) (works self.new) result bytes.now };
+
+    /// Waits for a report, and sets flag i to whether it names agent i. `Ok(false)` where there is none any more.
+    fn hear(&mut self, done: &mut [bool]) -> Result<bool, HearFault>
+        requires { works self.old }
+        ensures { Hears (talks self.old self.new) (works self.new) result done.new };
+
+    /// From a floor to itself nothing was said.
+    ghost silent: { (f : Self) → talks f f [] };
+
+    /// What was said and heard in two stretches, one after the other, was said and heard in both.
+    ghost joined: { (f g h : Self) (before after : Talk) → talks f g before → talks g h after → talks f h (before ++ after) };
+}

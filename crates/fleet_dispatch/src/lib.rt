@@ -1,0 +1,10 @@
+//! Dispatch of robots whose moves overlap and take any time: each is told its order as soon as it has one, and reports when it has
+//! carried it out.
+#![tactic(auto)]
+
+mod floor;
+mod orders;
+mod run;
+
+pub use floor::{Floor, HearFault};
+pub use run::{DispatchFault, DispatchReport, MOST_REPORTS, dispatch};

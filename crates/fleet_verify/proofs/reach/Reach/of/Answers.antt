@@ -1,5 +1,4 @@
-use Rattle.std.proofs.Common.{[], ℕ, sym, subst, ap}
-use Rattle.fleet_model.specs.Program.{AreInRange}
+use Rattle.std.proofs.Common.{[], sym, subst}
 use Rattle.fleet_model.specs.Machine.{IsFinish}
 use Rattle.fleet_verify.proofs.ReachLaws.{longest_finishes}
 use Rattle.fleet_verify.proofs.reach.Reach.of.Goals as goal

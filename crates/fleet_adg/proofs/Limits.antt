@@ -9,7 +9,7 @@ use Rattle.fleet_model.specs.declared.geometry.Cell.{Cell}
 use Rattle.fleet_model.specs.declared.program.Await.{Await}
 use Rattle.fleet_model.specs.declared.program.AgentProgram.{AgentProgram}
 use Rattle.fleet_model.specs.declared.deps.Deps.{Deps}
-use Rattle.fleet_model.specs.declared.limits.TheConstants.{MAX_HORIZON, MAX_AWAIT_V1, MAX_MOVES_IN_ALL}
+use Rattle.fleet_model.specs.declared.limits.TheConstants.{MAX_HORIZON, MAX_AWAIT, MAX_MOVES_IN_ALL}
 use Rattle.fleet_model.specs.Program.{origin, awaits_of, total_moves, IsCell, AreAwaits, IsWellFormed}
 use Rattle.fleet_model.specs.Machine.{indices}
 use Rattle.fleet_plan.specs.Plan.{Plan, cell_at, cell_of, steps, IsPath, IsWithinLimits}
@@ -53,7 +53,7 @@ are_awaits plan deps i x few =
       agents = All-weaker (IsAwaitOf plan i x) (λ w. w.agent < length plan) (λ w h. h.agent) ws sound;
       others = All-weaker (IsAwaitOf plan i x) (λ w. w.agent ≢ i) (λ w h. h.other) ws sound;
       counts = All-weaker (IsAwaitOf plan i x) (λ w. 1 ≤ w.count) (λ w h. omega (arith, h.step.4)) ws sound;
-      few = All-weaker (IsAwaitOf plan i x) (λ w. w.count ≤ MAX_AWAIT_V1) (λ w h. omega (arith, count-le plan i x w h, moves_by-le plan w.agent (steps plan))) ws sound;
+      few = All-weaker (IsAwaitOf plan i x) (λ w. w.count ≤ MAX_AWAIT) (λ w h. omega (arith, count-le plan i x w h, moves_by-le plan w.agent (steps plan))) ws sound;
     }
 
 no_awaits : (n i : ℕ) → AreAwaits n i []

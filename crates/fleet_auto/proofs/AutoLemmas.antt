@@ -1,5 +1,6 @@
 -- What becomes of the texts, where a program was made of them and run.
-use Rattle.std.proofs.Common.{ℕ, List, Option, Ok, Err, ap, refl, ◌∙◌}
+use Rattle.std.proofs.Common.{◌≡◌, ℕ, List, Option, Result, Ok, Err, ap, ◌∙◌}
+use Rattle.fleet_code.specs.declared.fault.LoadFault.{LoadFault}
 use Rattle.fleet_model.specs.declared.task.Task.{Task}
 use Rattle.fleet_model.specs.Program.{Program}
 use Rattle.fleet_grid.specs.Ground.{Ground}
@@ -16,6 +17,9 @@ use Rattle.fleet_run.specs.declared.trace.Report.{Report}
 use Rattle.fleet_run.specs.declared.run.RunFault.{RunFault}
 use Rattle.fleet_run.specs.declared.run.RunFault.TheVariants.{OutOfMemory, Source, Hold, Write, HoldLimit}
 
+pub ok_program : {p q : Program} → ◌≡◌ {A = Result Program LoadFault} (Ok p) (Ok q) → p ≡ q
+ok_program e = cc
+
 -- bytes were made of the texts, and they are accepted: so the program that they spell was made of the texts
 module _ (one : OneProgramEach) (map scen : List ℕ) (asked : Option ℕ) (horizon tries : ℕ) (deps : Deps) (g : Ground) (tasks : List Task) (bytes : List ℕ) (q : Program)
     (chain : ℕ) (texts : AreTextsOf map scen asked g tasks) (plan : SpellsMade g tasks horizon tries deps bytes) (accepts : Accepts bytes g tasks q chain) (held : List ℕ)
@@ -28,7 +32,7 @@ module _ (one : OneProgramEach) (map scen : List ℕ) (asked : Option ℕ) (hori
     plan = plan.made.plan;
     planned = plan.made.planned;
     program = q;
-    compiled = plan.made.compiled ∙ ap Ok ((one bytes bytes plan.program q plan.spelled accepts.spelled).0 refl);
+    compiled = plan.made.compiled ∙ ap Ok ((one bytes plan.spelled.version accepts.spelled.version plan.program q plan.spelled.spelling accepts.spelled.spelling).1);
     chain = chain;
     accepted_for = accepts.accepted_for;
   }

@@ -22,7 +22,7 @@ pub fn accept<'g>(
     grid: &'g Grid,
     instance: &'g Instance,
 ) -> Result<Accepted<'g, CodeView<'g>>, AcceptFault>
-    ensures accepted { IfOk result (λ a. Accepts bytes.now grid.now instance.now a.program a.chain) }
+    ensures accepted { IfOk result (λ a. Accepts bytes.now grid.now instance.now a.program.program a.chain) }
     ensures fault { IfErr result (IsAcceptFault bytes.now grid.now instance.now) }
     // What is refused for another cause than memory is not accepted.
     ensures refused { IfErr result (λ e. e ≢ AcceptFault.OutOfMemory → AcceptsNothing bytes.now grid.now instance.now) }
@@ -42,7 +42,7 @@ pub fn accept_made<'g>(
     instance: &'g Instance,
 ) -> Result<Accepted<'g, CodeView<'g>>, OutOfMemory>
     requires { (p : Program) × Spells bytes.now p × IsAccepted (is_passable grid.now) instance.now p }
-    ensures { IfOk result (λ a. Accepts bytes.now grid.now instance.now a.program a.chain) }
+    ensures { IfOk result (λ a. Accepts bytes.now grid.now instance.now a.program.program a.chain) }
 {
     match accept(alloc, bytes, grid, instance) {
         Ok(accepted) => Ok(accepted),

@@ -6,7 +6,7 @@ ghost use Rattle.fleet_auto.specs.Making.{IsMadeFor, SpellsMade, IsMakingFault};
 
 use crate::fault::AutoFault;
 use fleet_adg::{Deps, compile};
-use fleet_code::{EncodeFault, encode};
+use fleet_code::{EncodeFault, encode_shortest};
 use fleet_grid::Grid;
 use fleet_model::Program;
 use fleet_scen::Instance;
@@ -44,10 +44,10 @@ pub fn made_bytes(
     ensures fault { IfErr result (IsMakingFault grid.now instance.now horizon tries deps) }
 {
     let program = made_program(alloc, grid, instance, horizon, tries, deps)?;
-    match encode(alloc, &program) {
+    match encode_shortest(alloc, &program) {
         Ok(bytes) => Ok(bytes),
         Err(EncodeFault::OutOfMemory) => Err(AutoFault::OutOfMemory),
-        // It never stays.
-        Err(EncodeFault::Dwell) => unreachable!(),
+        // It never stays, and version 2 has bytes for every count.
+        Err(_) => unreachable!(),
     }
 }

@@ -10,7 +10,7 @@ use crate::output::write_out;
 use crate::problem::read_problem;
 use fleet_adg::{Deps, compile};
 use fleet_args::CompileRequest;
-use fleet_code::{EncodeFault, encode};
+use fleet_code::{EncodeFault, encode_shortest};
 use fleet_io::{Fault, Files, read_files};
 use fleet_model::{Program, ProgramView, total_awaits, total_moves};
 use fleet_plan::{check, read_plan};
@@ -49,11 +49,11 @@ fn compile_texts<'a>(
         Ok(program) => program,
         Err(fault) => return Err(Fault::Compile(fault)),
     };
-    let bytes = match encode(alloc, &program) {
+    let bytes = match encode_shortest(alloc, &program) {
         Ok(bytes) => bytes,
         Err(EncodeFault::OutOfMemory) => return Err(Fault::Memory),
-        // A compiled program never stays.
-        Err(EncodeFault::Dwell) => unreachable!(),
+        // A compiled program never stays, and version 2 has bytes for every count.
+        Err(_) => unreachable!(),
     };
     Ok(Compiled { program, bytes })
 }

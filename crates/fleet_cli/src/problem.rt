@@ -34,7 +34,7 @@ pub fn accept<'g, 'a>(
     grid: &'g Grid,
     instance: &'g Instance,
 ) -> Result<Accepted<'g, CodeView<'g>>, Fault<'a>>
-    ensures accepted { IfOk result (λ a. Accepts bytes.now grid.now instance.now a.program a.chain) }
+    ensures accepted { IfOk result (λ a. Accepts bytes.now grid.now instance.now a.program.program a.chain) }
     ensures fault { IfErr result (IsAcceptRefusal bytes.now grid.now instance.now) }
 {
     Ok(fleet_auto::accept(alloc, bytes, grid, instance)?)
@@ -42,7 +42,7 @@ pub fn accept<'g, 'a>(
 
 /// The program that the bytes spell, read in place.
 pub fn view_program<'g, 'a>(alloc: Global, bytes: &'g [u8]) -> Result<CodeView<'g>, Fault<'a>>
-    ensures spelled { IfOk result (Spells bytes.now) }
+    ensures spelled { IfOk result (λ v. Spells bytes.now v.program) }
     ensures fault { IfErr result (IsLoadRefusal bytes.now) }
 {
     match view(alloc, bytes) {

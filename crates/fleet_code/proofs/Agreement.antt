@@ -4,15 +4,15 @@ use Rattle.fleet_model.specs.Program.{Program}
 use Rattle.fleet_code.specs.declared.fault.LoadFault.{LoadFault}
 use Rattle.fleet_code.specs.declared.fault.LoadFault.TheVariants.{OutOfMemory}
 use Rattle.fleet_code.specs.Spelling.{Spells}
+use Rattle.fleet_code.specs.Offsets.{Viewed}
 use Rattle.fleet_code.specs.LoadFaults.{IsFirstLoadFault}
 use Rattle.fleet_code.specs.Laws.{Agree}
-use Rattle.fleet_code.proofs.RoundTrip.{one_program_each}
-use Rattle.fleet_code.proofs.ToldFaults.{not_both, one_fault}
+use Rattle.fleet_code.proofs.Versions.{one_program_each, not_both, one_fault}
 
-pub agree : (bytes : List ℕ) (one other : Result Program LoadFault)
-    → IfOk one (Spells bytes) → IfErr one (λ e. e ≢ OutOfMemory → IsFirstLoadFault bytes e)
+pub agree : (bytes : List ℕ) (one : Result Viewed LoadFault) (other : Result Program LoadFault)
+    → IfOk one (λ v. Spells bytes v.program) → IfErr one (λ e. e ≢ OutOfMemory → IsFirstLoadFault bytes e)
     → IfOk other (Spells bytes) → IfErr other (λ e. e ≢ OutOfMemory → IsFirstLoadFault bytes e) → Agree one other
-agree bytes (Ok p) (Ok q) s e t f = (one_program_each bytes bytes p q s t).0 refl
+agree bytes (Ok p) (Ok q) s e t f = (one_program_each bytes s.version t.version p.program q s.spelling t.spelling).1
 agree bytes (Err d) (Err g) s e t f = λ first second. one_fault bytes d g (e first) (f second)
-agree bytes (Ok p) (Err g) s e t f = λ second. not_both bytes p g s (f second)
+agree bytes (Ok p) (Err g) s e t f = λ second. not_both bytes p.program g s (f second)
 agree bytes (Err d) (Ok q) s e t f = λ first. not_both bytes q d t (e first)

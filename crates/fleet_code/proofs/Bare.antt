@@ -6,6 +6,7 @@ use Rattle.fleet_model.specs.declared.geometry.Step.{Step}
 use Rattle.fleet_model.specs.declared.geometry.Step.TheVariants.{Go}
 use Rattle.fleet_model.specs.declared.geometry.Dir.TheVariants.{North, East, South, West}
 use Rattle.fleet_model.specs.declared.program.Action.{Action}
+use Rattle.fleet_code.specs.declared.format.Version.{Version}
 use Rattle.fleet_code.specs.Reading.{move_at, action_at, actions_at}
 use Rattle.fleet_code.specs.Offsets.{ends_of}
 
@@ -16,19 +17,19 @@ move_there (suc (suc zero)) le = (Go South, refl)
 move_there (suc (suc (suc zero))) le = (Go West, refl)
 move_there (suc (suc (suc (suc b)))) le = absurd (omega (arith, le))
 
-bare_action : (turns whole n i b : ℕ) (rest : List ℕ) (s : Step) → move_at b ≡ Some s → action_at (suc turns) whole n i 0 (b ∷ rest) ≡ Ok (record { step = s; awaits = [] }, rest)
+bare_action : (v : Version) (turns whole n i b : ℕ) (rest : List ℕ) (s : Step) → move_at b ≡ Some s → action_at v (suc turns) whole n i 0 (b ∷ rest) ≡ Ok (record { step = s; awaits = [] }, rest)
 unfolding action_at
-bare_action turns whole n i b rest s e = rw e refl
+bare_action v turns whole n i b rest s e = rw e refl
 
-pub bare_actions : (count whole n i at : ℕ) (bytes : List ℕ) → count ≤ length bytes → All (λ b. b ≤ 3) (take count bytes)
-    → (actions : List Action) × (actions_at count whole n i bytes ≡ Ok (actions, drop count bytes)) × (ends_of at actions ≡ range_with_len (at + 1) count)
+pub bare_actions : (v : Version) (count whole n i at : ℕ) (bytes : List ℕ) → count ≤ length bytes → All (λ b. b ≤ 3) (take count bytes)
+    → (actions : List Action) × (actions_at v count whole n i bytes ≡ Ok (actions, drop count bytes)) × (ends_of at actions ≡ range_with_len (at + 1) count)
 unfolding actions_at
-bare_actions zero whole n i at bytes le moves = ([], refl, refl)
-bare_actions (suc count) whole n i at [] le moves = absurd (omega (arith, le))
-bare_actions (suc count) whole n i at (b ∷ bytes) le moves =
+bare_actions v zero whole n i at bytes le moves = ([], refl, refl)
+bare_actions v (suc count) whole n i at [] le moves = absurd (omega (arith, le))
+bare_actions v (suc count) whole n i at (b ∷ bytes) le moves =
     let s = move_there b (All-head (λ (b : ℕ). b ≤ 3) b (take count bytes) moves) in
-    let others = bare_actions count whole n i (at + 1) bytes (omega (arith, le)) (All-tail (λ (b : ℕ). b ≤ 3) b (take count bytes) moves) in
-    let first = bare_action (length bytes) whole n i b bytes s.0 s.1 in
+    let others = bare_actions v count whole n i (at + 1) bytes (omega (arith, le)) (All-tail (λ (b : ℕ). b ≤ 3) b (take count bytes) moves) in
+    let first = bare_action v (length bytes) whole n i b bytes s.0 s.1 in
     (record { step = s.0; awaits = [] } ∷ others.0, rw (first, others.1) refl, ap (λ ends. (at + 1) ∷ ends) others.2)
 
 pub bare_offsets : (count : ℕ) (actions : List Action) → ends_of 0 actions ≡ range_with_len (0 + 1) count → range_with_len 0 (count + 1) ≡ 0 ∷ ends_of 0 actions

@@ -1,4 +1,4 @@
--- A beginning of a spelling has no fault but that it ends: it spells no program, and another fault would stay.
+-- A spelling is bytes, and so is each beginning of it.
 use Rattle.std.proofs.Common.{◌≡◌, ◌≢◌, ℕ, ◌<◌, List, [], ◌∷◌, ◌++◌, length, take, All, ◌⊎◌, sym, ap, subst, refl, arith, inl, inr}
 use Rattle.std.specs.Int.{byte_at}
 use Rattle.std.specs.List.{flat_map}
@@ -13,18 +13,15 @@ use Rattle.fleet_model.specs.declared.program.Await.{Await}
 use Rattle.fleet_model.specs.declared.program.Action.{Action}
 use Rattle.fleet_model.specs.declared.program.AgentProgram.{AgentProgram}
 use Rattle.fleet_model.specs.Program.{Program}
+use Rattle.fleet_code.specs.declared.format.Version.{Version}
+use Rattle.fleet_code.specs.declared.format.Version.TheVariants.{One, Two}
 use Rattle.fleet_code.specs.declared.fault.LoadFault.{LoadFault}
 use Rattle.fleet_code.specs.declared.fault.LoadFault.TheVariants.{OutOfMemory, Magic, Truncated, AgentCount, Total, Opcode, AwaitAgent, AwaitOrder, AwaitCount, Trailing}
-use Rattle.fleet_code.specs.Spelling.{magic, number, cell, opcode, await, action, agent, spelling, Spells}
-use Rattle.fleet_code.specs.LoadFaults.{IsFirstLoadFault}
-use Rattle.fleet_code.specs.Laws.{BeginningsAreTruncated}
-use Rattle.fleet_code.proofs.RoundTrip.{none_begins_another}
-use Rattle.fleet_code.proofs.ToldFaults.{program_or_fault, not_both}
-use Rattle.fleet_code.proofs.Continued.{faults_stay}
+use Rattle.fleet_code.specs.Spelling.{magic, number, count as count_of, cell, opcode, await, action, agent, spelling}
 
 -- ---- a spelling is bytes
 
-abbrev AreBytes : List ℕ → Type 0
+abbrev pub AreBytes : List ℕ → Type 0
 AreBytes bytes = All (λ b. b < 256) bytes
 
 one_byte : (b : ℕ) (bytes : List ℕ) → b < 256 → AreBytes bytes → AreBytes (b ∷ bytes)
@@ -40,12 +37,16 @@ each : {X : Type 0} (f : X → List ℕ) → ((x : X) → AreBytes (f x)) → (x
 each f h [] = no_bytes
 each f h (x ∷ xs) = rw flat_map-cons (both (f x) (flat_map f xs) (h x) (each f h xs))
 
-front_bytes : (front rest : List ℕ) → AreBytes (front ++ rest) → AreBytes front
+pub front_bytes : (front rest : List ℕ) → AreBytes (front ++ rest) → AreBytes front
 front_bytes front rest h =
     All-same (λ (b : ℕ). b < 256) front (take (length front) (front ++ rest)) (sym (take_at front rest (length front) refl)) (All-take (λ (b : ℕ). b < 256) (length front) (front ++ rest) h)
 
 number_bytes : (n : ℕ) → AreBytes (number n)
 number_bytes n = one_byte (byte_at 1 n) (byte_at 0 n ∷ []) (omega arith) (one_byte (byte_at 0 n) [] (omega arith) no_bytes)
+
+count_bytes : (v : Version) (n : ℕ) → AreBytes (count_of v n)
+count_bytes One n = number_bytes n
+count_bytes Two n = one_byte (byte_at 3 n) (byte_at 2 n ∷ byte_at 1 n ∷ byte_at 0 n ∷ []) (omega arith) (one_byte (byte_at 2 n) (byte_at 1 n ∷ byte_at 0 n ∷ []) (omega arith) (number_bytes n))
 
 cell_bytes : (c : Cell) → AreBytes (cell c)
 cell_bytes c = both (number c.x) (number c.y) (number_bytes c.x) (number_bytes c.y)
@@ -57,43 +58,20 @@ opcode_byte (Go South) = omega arith
 opcode_byte (Go West) = omega arith
 opcode_byte Dwell = omega arith
 
-await_bytes : (w : Await) → AreBytes (await w)
-await_bytes w = one_byte 16 (number w.agent ++ number w.count) (omega arith) (both (number w.agent) (number w.count) (number_bytes w.agent) (number_bytes w.count))
+await_bytes : (v : Version) (w : Await) → AreBytes (await v w)
+await_bytes v w = one_byte 16 (number w.agent ++ count_of v w.count) (omega arith) (both (number w.agent) (count_of v w.count) (number_bytes w.agent) (count_bytes v w.count))
 
-action_bytes : (a : Action) → AreBytes (action a)
-action_bytes a = both (flat_map await a.awaits) (opcode a.step ∷ []) (each await await_bytes a.awaits) (one_byte (opcode a.step) [] (opcode_byte a.step) no_bytes)
+action_bytes : (v : Version) (a : Action) → AreBytes (action v a)
+action_bytes v a = both (flat_map (await v) a.awaits) (opcode a.step ∷ []) (each (await v) (await_bytes v) a.awaits) (one_byte (opcode a.step) [] (opcode_byte a.step) no_bytes)
 
-agent_bytes : (a : AgentProgram) → AreBytes (agent a)
-agent_bytes a =
+agent_bytes : (v : Version) (a : AgentProgram) → AreBytes (agent v a)
+agent_bytes v a =
     let head = both (cell a.start) (cell a.goal) (cell_bytes a.start) (cell_bytes a.goal) in
-    both (cell a.start ++ cell a.goal ++ number (length a.actions)) (flat_map action a.actions) (both (cell a.start ++ cell a.goal) (number (length a.actions)) head (number_bytes (length a.actions))) (each action action_bytes a.actions)
+    both (cell a.start ++ cell a.goal ++ count_of v (length a.actions)) (flat_map (action v) a.actions) (both (cell a.start ++ cell a.goal) (count_of v (length a.actions)) head (count_bytes v (length a.actions))) (each (action v) (action_bytes v) a.actions)
 
-spelling_bytes : (p : Program) → AreBytes (spelling p)
-spelling_bytes p =
-    let magic_bytes : AreBytes magic = one_byte 77 (80 ∷ 70 ∷ 49 ∷ []) (omega arith) (one_byte 80 (70 ∷ 49 ∷ []) (omega arith) (one_byte 70 (49 ∷ []) (omega arith) (one_byte 49 [] (omega arith) no_bytes))) in
-    both (magic ++ number (length p)) (flat_map agent p) (both magic (number (length p)) magic_bytes (number_bytes (length p))) (each agent agent_bytes p)
+magic_bytes : (v : Version) → AreBytes (magic v)
+magic_bytes One = one_byte 77 (80 ∷ 70 ∷ 49 ∷ []) (omega arith) (one_byte 80 (70 ∷ 49 ∷ []) (omega arith) (one_byte 70 (49 ∷ []) (omega arith) (one_byte 49 [] (omega arith) no_bytes)))
+magic_bytes Two = one_byte 77 (80 ∷ 70 ∷ 50 ∷ []) (omega arith) (one_byte 80 (70 ∷ 50 ∷ []) (omega arith) (one_byte 70 (50 ∷ []) (omega arith) (one_byte 50 [] (omega arith) no_bytes)))
 
--- ---- the law
-
-truncated_or_other : (f : LoadFault) → (f ≡ Truncated) ⊎ (f ≢ Truncated)
-truncated_or_other Truncated = inl refl
-truncated_or_other OutOfMemory = inr (λ e. cc)
-truncated_or_other Magic = inr (λ e. cc)
-truncated_or_other AgentCount = inr (λ e. cc)
-truncated_or_other Total = inr (λ e. cc)
-truncated_or_other (Opcode at) = inr (λ e. cc)
-truncated_or_other (AwaitAgent at) = inr (λ e. cc)
-truncated_or_other (AwaitOrder at) = inr (λ e. cc)
-truncated_or_other (AwaitCount at) = inr (λ e. cc)
-truncated_or_other (Trailing at) = inr (λ e. cc)
-
-pub beginnings_are_truncated : BeginningsAreTruncated
-beginnings_are_truncated p front rest fits moves e left =
-    let whole : Spells (front ++ rest) p = record { well_formed = fits; moves = moves; spelled = sym e } in
-    elim (program_or_fault front (front_bytes front rest (subst AreBytes e (spelling_bytes p)))) [
-      | inl q ↦ (let nothing = ap length (none_begins_another front rest q.0 p q.1 whole).0 in absurd (omega (arith, nothing, left)))
-      | inr f ↦ elim (truncated_or_other f.0) [
-        | inl same ↦ subst (IsFirstLoadFault front) same f.1
-        | inr other ↦ absurd (not_both (front ++ rest) p f.0 whole (faults_stay front rest f.0 f.1 other))
-      ]
-    ]
+pub spelling_bytes : (v : Version) (p : Program) → AreBytes (spelling v p)
+spelling_bytes v p = both ((magic v) ++ number (length p)) (flat_map (agent v) p) (both (magic v) (number (length p)) (magic_bytes v) (number_bytes (length p))) (each (agent v) (agent_bytes v) p)

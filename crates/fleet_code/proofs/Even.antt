@@ -1,5 +1,5 @@
 -- Offsets of which those after one are as far from each other.
-use Rattle.std.proofs.Common.{◌≡◌, ℕ, suc, ◌+◌, ◌-◌, ◌*◌, ◌≤◌, ◌<◌, List, [], ◌∷◌, length, map, min, take, slice_index_or, get_or, ap, sym, ◌∙◌, arith, inl, inr}
+use Rattle.std.proofs.Common.{◌≡◌, ℕ, suc, ◌+◌, ◌-◌, ◌*◌, ◌^◌, ◌≤◌, ◌<◌, List, [], ◌∷◌, length, map, min, take, slice_index_or, get_or, ap, sym, ◌∙◌, arith, inl, inr}
 use Rattle.std.specs.List.{range_with_len}
 use Rattle.std.proofs.Math.Nat.{suc-mul}
 use Rattle.std.proofs.Math.Seq.{get_or-append_right}
@@ -26,7 +26,7 @@ even_more offsets at stride h e n a b = elim (cases_eq n at) [
 pub bare_offsets_at : (actions n : ℕ) → n < actions + 1 → slice_index_or (range_with_len 0 (actions + 1)) n 0 ≡ n
 bare_offsets_at actions n l = get_or-range_with_len 0 (actions + 1) n 0 l ∙ omega arith
 
-pub are_bare_offsets : (actions stride : ℕ) → actions < 65536 → AreOffsets actions (offsets_of actions stride [])
+pub are_bare_offsets : (actions stride : ℕ) → actions < 2 ^ 32 - 1 → AreOffsets actions (offsets_of actions stride [])
 are_bare_offsets actions stride few = record {
   count = length-range_with_len 0 (actions + 1);
   fit = λ k d l. let here = get_or-range_with_len 0 (actions + 1) k d (omega (arith, l, length-range_with_len 0 (actions + 1))) in let inside : k < actions + 1 = omega (arith, l, length-range_with_len 0 (actions + 1)) in omega (arith, here, inside, few);

@@ -1,7 +1,7 @@
 -- What reading refuses is the first fault.
 use Rattle.std.proofs.Common.{◌≡◌, ◌≢◌, ℕ, zero, suc, ◌+◌, ◌-◌, ◌≤◌, ◌<◌, ◌||◌, Bool, true, false, cond, not, ltb, leb, eqb, List, [], ◌∷◌, ◌++◌, length, get_or, take, drop, All, Option, Some, None, Result, Ok, Err, refl, sym, ap, subst, ◌∙◌, append_assoc, arith, inl, inr, ◌⊎◌}
 use Rattle.std.specs.Prelude.{nat_eq, IsTrue, slice_get}
-use Rattle.std.specs.Int.{w16, from_be_bytes}
+use Rattle.std.specs.Int.{w16, w32, from_be_bytes}
 use Rattle.std.specs.List.{Any, flat_map, starts_with}
 use Rattle.std.proofs.lemmas.Bool.{or_cases, or_parts, ltb-true, ltb-false, leb-true, leb-false, eqb-true, eqb-false, not-true, not-false, false_from_ne_true}
 use Rattle.std.proofs.lemmas.Bool.Decides.{Decides-eqb}
@@ -16,17 +16,19 @@ use Rattle.fleet_model.specs.declared.program.Await.{Await}
 use Rattle.fleet_model.specs.declared.program.Action.{Action}
 use Rattle.fleet_model.specs.declared.program.AgentProgram.{AgentProgram}
 use Rattle.fleet_model.specs.Geometry.{is_move}
-use Rattle.fleet_model.specs.Program.{Program, AreMoves, NeverStays, AreAwaits, IsAgent, total_moves}
+use Rattle.fleet_model.specs.Program.{Program, AreAwaits, IsAgent, total_moves}
 use Rattle.fleet_model.proofs.OnePass.{AwaitsFrom, awaits_are}
 use Rattle.fleet_text.specs.Steps.{◌>>=◌, ◌>>◌, fault_if}
 use Rattle.fleet_text.proofs.StepLaws.{bind_err, test_err, err_is}
+use Rattle.fleet_code.specs.declared.format.Version.{Version}
+use Rattle.fleet_code.specs.declared.format.Version.TheVariants.{One, Two}
 use Rattle.fleet_code.specs.declared.fault.LoadFault.{LoadFault}
 use Rattle.fleet_code.specs.declared.fault.LoadFault.TheVariants.{Magic, Truncated, AgentCount, Total, Opcode, AwaitAgent, AwaitOrder, AwaitCount, Trailing}
-use Rattle.fleet_code.specs.Spelling.{magic, number, cell, opcode, await, action, agent}
-use Rattle.fleet_code.specs.Reading.{Field, magic_at, number_at, cell_at, await_at, move_at, move_or, action_at, actions_at, agent_at, agents_at, program_at}
-use Rattle.fleet_code.specs.LoadFaults.{HasNumber, HasHead, IsOffset, ReachesAgent, ReachesAction, ReachesOpcode, ReachesAwait, ReachesOrder, ReachesCount, IsWithoutMagic, EndsWithin, IsFirstLoadFault}
-use Rattle.fleet_code.proofs.Parts.{IsBytes, Takes, number_takes, cell_takes, await_takes}
-use Rattle.fleet_code.proofs.RoundTrip.{joined, move_again, action_takes, agent_takes, agents_take, after_count, after_start, after_agents, after_agent_count}
+use Rattle.fleet_code.specs.Spelling.{magic, number, count as count_of, count_len, most_count, most_moves, cell, opcode, await, action, agent, IsSpellable, AreSpellable, IsSpellableAgent, CanSpell}
+use Rattle.fleet_code.specs.Reading.{Field, magic_at, number_at, long_number_at, count_at, cell_at, await_at, move_at, move_or, action_at, actions_at, agent_at, agents_at, program_as}
+use Rattle.fleet_code.specs.LoadFaults.{HasNumber, HasCount, HasHead, IsOffset, ReachesAgent, ReachesAction, ReachesOpcode, ReachesAwait, ReachesOrder, ReachesCount, IsWithoutMagic, EndsWithin, IsFirstFaultIn}
+use Rattle.fleet_code.proofs.Parts.{IsBytes, Takes, number_takes, count_takes, count_long, cell_takes, await_takes}
+use Rattle.fleet_code.proofs.RoundTrip.{joined, moves_fit, magic_long, move_again, action_takes, agent_takes, agents_take, after_count, after_start, after_agents, after_agent_count}
 use Rattle.fleet_code.proofs.Awaited.{least_after, after_more, from_more, all_below, some_above}
 use Rattle.fleet_code.proofs.Reached.{each_from, to_first, total_from, total_more, parts_more, agent_reached, opcode_left, agent_left}
 
@@ -43,6 +45,15 @@ number_fails : (bytes : List ℕ) (f : LoadFault) → number_at bytes ≡ Err f 
 number_fails bytes f e =
     let s = short (ltb (length bytes) 2) Truncated (from_be_bytes w16 (take 2 bytes), drop 2 bytes) f e in
     (s.1, ltb-true (length bytes) 2 s.0)
+
+long_number_fails : (bytes : List ℕ) (f : LoadFault) → long_number_at bytes ≡ Err f → (Truncated ≡ f) × (length bytes < 4)
+long_number_fails bytes f e =
+    let s = short (ltb (length bytes) 4) Truncated (from_be_bytes w32 (take 4 bytes), drop 4 bytes) f e in
+    (s.1, ltb-true (length bytes) 4 s.0)
+
+count_fails : (v : Version) (bytes : List ℕ) (f : LoadFault) → count_at v bytes ≡ Err f → (Truncated ≡ f) × (length bytes < (count_len v))
+count_fails One bytes f e = number_fails bytes f e
+count_fails Two bytes f e = long_number_fails bytes f e
 
 number_len : (bytes : List ℕ) (n : ℕ) (rest : List ℕ) → Takes bytes (number n) rest → length bytes ≡ 2 + length rest
 number_len bytes n rest t = let all = ap length t.parts in omega (arith, all)
@@ -66,20 +77,23 @@ cell_fails bytes f fits e =
 has_number : (bytes : List ℕ) (n : ℕ) (rest : List ℕ) → IsBytes bytes → number_at bytes ≡ Ok (n, rest) → HasNumber bytes n rest
 has_number bytes n rest fits e = let t = number_takes bytes n rest fits e in record { fits = t.1; parts = t.0.parts }
 
-ends : (bytes : List ℕ) (f : LoadFault) → Truncated ≡ f → EndsWithin bytes → IsFirstLoadFault bytes f
-ends bytes f e h = subst (IsFirstLoadFault bytes) e h
+has_count : (v : Version) (bytes : List ℕ) (n : ℕ) (rest : List ℕ) → IsBytes bytes → count_at v bytes ≡ Ok (n, rest) → HasCount v bytes n rest
+has_count v bytes n rest fits e = let t = count_takes v bytes n rest fits e in record { fits = t.1; parts = t.0.parts }
+
+ends : (v : Version) (bytes : List ℕ) (f : LoadFault) → Truncated ≡ f → EndsWithin v bytes → IsFirstFaultIn v bytes f
+ends v bytes f e h = subst (IsFirstFaultIn v bytes) e h
 
 -- ---- an await
 
-await_fails : (bytes : List ℕ) (n i : ℕ) (ws : List Await) (at : ℕ) (rest : List ℕ) (f : LoadFault) → ReachesAwait bytes n i ws at rest → AwaitsFrom n i 0 ws → IsBytes rest
-    → await_at at n i (least_after 0 ws) rest ≡ Err f → IsFirstLoadFault bytes f
+await_fails : (v : Version) (bytes : List ℕ) (n i : ℕ) (ws : List Await) (at : ℕ) (rest : List ℕ) (f : LoadFault) → ReachesAwait v bytes n i ws at rest → AwaitsFrom n i 0 ws → IsBytes rest
+    → await_at v at n i (least_after 0 ws) rest ≡ Err f → IsFirstFaultIn v bytes f
 unfolding await_at
-await_fails bytes n i ws at rest f r from fits e =
+await_fails v bytes n i ws at rest f r from fits e =
     let least = least_after 0 ws in
     let counted : ℕ → ℕ × List ℕ → Field Await = λ j count. fault_if (eqb count.0 0) (AwaitCount at) >> Ok (record { agent = j; count = count.0 }, count.1) in
-    let ordered : ℕ × List ℕ → Field Await = λ a. fault_if (ltb a.0 least) (AwaitOrder at) >> (number_at a.1 >>= counted a.0) in
+    let ordered : ℕ × List ℕ → Field Await = λ a. fault_if (ltb a.0 least) (AwaitOrder at) >> (count_at v a.1 >>= counted a.0) in
     elim (bind_err (number_at rest) (λ a. fault_if (leb n a.0 || eqb a.0 i) (AwaitAgent at) >> ordered a) f e) [
-      | inl h ↦ (let s = number_fails rest f h in ends bytes f s.0 (inr (inr (inr (inr (inl (n, i, ws, at, rest, r, s.1)))))))
+      | inl h ↦ (let s = number_fails rest f h in ends v bytes f s.0 (inr (inr (inr (inr (inl (n, i, ws, at, rest, r, s.1)))))))
       | inr a ↦ (
           let j = a.0.0 in
           let after = a.0.1 in
@@ -92,27 +106,27 @@ await_fails bytes n i ws at rest f r from fits e =
                   | inl none ↦ inl (leb-true n j none)
                   | inr own ↦ inr (eqb-true j i own)
                 ] in
-                subst (IsFirstLoadFault bytes) wrong.1 (n, i, ws, rest, j, after, r, has, which))
+                subst (IsFirstFaultIn v bytes) wrong.1 (n, i, ws, rest, j, after, r, has, which))
             | inr right ↦ (
                 let tests = or_parts (leb n j) (eqb j i) right.0 in
-                let reached : ReachesOrder bytes n ws at j after = record { i = i; at_agent = rest; opcode = r; agent = has; within = leb-false n j tests.0; other = eqb-false j i tests.1 } in
-                elim (test_err (ltb j least) (AwaitOrder at) (number_at after >>= counted j) f right.1) [
+                let reached : ReachesOrder v bytes n ws at j after = record { i = i; at_agent = rest; opcode = r; agent = has; within = leb-false n j tests.0; other = eqb-false j i tests.1 } in
+                elim (test_err (ltb j least) (AwaitOrder at) (count_at v after >>= counted j) f right.1) [
                   | inl low ↦ (
                       let above : Any (λ w. j ≤ w.agent) ws =
                       elim (some_above 0 ws j (ltb-true j least low.0)) [
                         | inl none ↦ absurd (omega (arith, none))
                         | inr some ↦ some
                       ] in
-                      subst (IsFirstLoadFault bytes) low.1 (n, ws, j, after, reached, above))
+                      subst (IsFirstFaultIn v bytes) low.1 (n, ws, j, after, reached, above))
                   | inr high ↦ (
-                      let counts : ReachesCount bytes at after = record { n = n; awaits = ws; j = j; agent = reached; rising = all_below n i 0 ws j from (ltb-false j least high.0) } in
-                      elim (bind_err (number_at after) (counted j) f high.1) [
-                        | inl h ↦ (let s = number_fails after f h in ends bytes f s.0 (inr (inr (inr (inr (inr (at, after, counts, s.1)))))))
+                      let counts : ReachesCount v bytes at after = record { n = n; awaits = ws; j = j; agent = reached; rising = all_below n i 0 ws j from (ltb-false j least high.0) } in
+                      elim (bind_err (count_at v after) (counted j) f high.1) [
+                        | inl h ↦ (let s = count_fails v after f h in ends v bytes f s.0 (inr (inr (inr (inr (inr (at, after, counts, s.1)))))))
                         | inr c ↦ elim (test_err (eqb c.0.0 0) (AwaitCount at) (Ok (record { agent = j; count = c.0.0 }, c.0.1)) f c.2) [
                           | inl nothing ↦ (
                               let zero_is = eqb-true c.0.0 0 nothing.0 in
-                              let has_count = has_number after c.0.0 c.0.1 named.0.rest_fits c.1 in
-                              subst (IsFirstLoadFault bytes) nothing.1 (after, c.0.1, counts, subst (λ (k : ℕ). HasNumber after k c.0.1) zero_is has_count))
+                              let counted_so = has_count v after c.0.0 c.0.1 named.0.rest_fits c.1 in
+                              subst (IsFirstFaultIn v bytes) nothing.1 (after, c.0.1, counts, subst (λ (k : ℕ). HasCount v after k c.0.1) zero_is counted_so))
                           | inr fine ↦ absurd (no_fault (record { agent = j; count = c.0.0 }, c.0.1) f fine.1)
                         ]
                       ])
@@ -129,41 +143,42 @@ move_fails (Some s) rest read f e = absurd cc
 no_move : (b : ℕ) → move_at b ≡ None → (d : Dir) → b ≢ opcode (Go d)
 no_move b none d e = let move : move_at b ≡ Some (Go d) = ap move_at e ∙ move_again (Go d) refl in cc
 
-await_begins : (bytes : List ℕ) (n i : ℕ) (ws : List Await) (b : ℕ) (rest : List ℕ) (at : ℕ) → b ≡ 16 → ReachesOpcode bytes n i ws (b ∷ rest) → IsOffset bytes (b ∷ rest) at → ReachesAwait bytes n i ws at rest
-await_begins bytes n i ws b rest at is r offset = record { opcode = subst (λ (c : ℕ). ReachesOpcode bytes n i ws (c ∷ rest)) is r; offset = offset }
+await_begins : (v : Version) (bytes : List ℕ) (n i : ℕ) (ws : List Await) (b : ℕ) (rest : List ℕ) (at : ℕ) → b ≡ 16 → ReachesOpcode v bytes n i ws (b ∷ rest) → IsOffset bytes (b ∷ rest) at → ReachesAwait v bytes n i ws at rest
+await_begins v bytes n i ws b rest at is r offset = record { opcode = subst (λ (c : ℕ). ReachesOpcode v bytes n i ws (c ∷ rest)) is r; offset = offset }
 
-opcode_fails : (bytes : List ℕ) (n i turns : ℕ) (ws : List Await) (at_action rest : List ℕ) (f : LoadFault) → ReachesAction bytes n i at_action → AwaitsFrom n i 0 ws → at_action ≡ flat_map await ws ++ rest → IsBytes rest
-    → length rest ≤ turns → action_at turns (length bytes) n i (least_after 0 ws) rest ≡ Err f → IsFirstLoadFault bytes f
+opcode_fails : (v : Version) (bytes : List ℕ) (n i turns : ℕ) (ws : List Await) (at_action rest : List ℕ) (f : LoadFault) → ReachesAction v bytes n i at_action → AwaitsFrom n i 0 ws → All (λ w. w.count ≤ (most_count v)) ws → at_action ≡ flat_map (await v) ws ++ rest → IsBytes rest
+    → length rest ≤ turns → action_at v turns (length bytes) n i (least_after 0 ws) rest ≡ Err f → IsFirstFaultIn v bytes f
 unfolding action_at
-opcode_fails bytes n i zero ws at_action [] f r from parts fits le e =
-    ends bytes f (err_is {A = Action × List ℕ} Truncated f e) (inr (inr (inr (inl (n, i, ws, record { at_action = at_action; actions = r; right = awaits_are n i 0 ws from; parts = parts })))))
-opcode_fails bytes n i zero ws at_action (b ∷ rest) f r from parts fits le e = absurd (omega (arith, le))
-opcode_fails bytes n i (suc turns) ws at_action [] f r from parts fits le e =
-    ends bytes f (err_is {A = Action × List ℕ} Truncated f e) (inr (inr (inr (inl (n, i, ws, record { at_action = at_action; actions = r; right = awaits_are n i 0 ws from; parts = parts })))))
-opcode_fails bytes n i (suc turns) ws at_action (b ∷ rest) f r from parts fits le e =
+opcode_fails v bytes n i zero ws at_action [] f r from fit parts fits le e =
+    ends v bytes f (err_is {A = Action × List ℕ} Truncated f e) (inr (inr (inr (inl (n, i, ws, record { at_action = at_action; actions = r; right = awaits_are n i 0 ws from; fit = fit; parts = parts })))))
+opcode_fails v bytes n i zero ws at_action (b ∷ rest) f r from fit parts fits le e = absurd (omega (arith, le))
+opcode_fails v bytes n i (suc turns) ws at_action [] f r from fit parts fits le e =
+    ends v bytes f (err_is {A = Action × List ℕ} Truncated f e) (inr (inr (inr (inl (n, i, ws, record { at_action = at_action; actions = r; right = awaits_are n i 0 ws from; fit = fit; parts = parts })))))
+opcode_fails v bytes n i (suc turns) ws at_action (b ∷ rest) f r from fit parts fits le e =
     let whole = length bytes in
     let at = whole - length (b ∷ rest) in
-    let reached : ReachesOpcode bytes n i ws (b ∷ rest) = record { at_action = at_action; actions = r; right = awaits_are n i 0 ws from; parts = parts } in
-    let offset : IsOffset bytes (b ∷ rest) at = omega (arith, opcode_left bytes n i ws (b ∷ rest) reached) in
-    let more = λ (one : Await × List ℕ). action_at turns whole n i (one.0.agent + 1) one.1 >>= λ others. Ok (joined one others) in
-    let read = await_at at n i (least_after 0 ws) rest in
+    let reached : ReachesOpcode v bytes n i ws (b ∷ rest) = record { at_action = at_action; actions = r; right = awaits_are n i 0 ws from; fit = fit; parts = parts } in
+    let offset : IsOffset bytes (b ∷ rest) at = omega (arith, opcode_left v bytes n i ws (b ∷ rest) reached) in
+    let more = λ (one : Await × List ℕ). action_at v turns whole n i (one.0.agent + 1) one.1 >>= λ others. Ok (joined one others) in
+    let read = await_at v at n i (least_after 0 ws) rest in
     let m = move_fails (move_at b) rest (fault_if (not (eqb b 16)) (Opcode at) >> (read >>= more)) f e in
     elim (test_err (not (eqb b 16)) (Opcode at) (read >>= more) f m.1) [
-      | inl other ↦ subst (IsFirstLoadFault bytes) other.1 (n, i, ws, b, rest, reached, offset, eqb-false b 16 (not-true (eqb b 16) other.0), no_move b m.0)
+      | inl other ↦ subst (IsFirstFaultIn v bytes) other.1 (n, i, ws, b, rest, reached, offset, eqb-false b 16 (not-true (eqb b 16) other.0), no_move b m.0)
       | inr awaits ↦ (
           let is16 = eqb-true b 16 (not-false (eqb b 16) awaits.0) in
           let rest_fits : IsBytes rest = λ k. fits (suc k) in
           elim (bind_err read more f awaits.1) [
-            | inl h ↦ await_fails bytes n i ws at rest f (await_begins bytes n i ws b rest at is16 reached offset) from rest_fits h
+            | inl h ↦ await_fails v bytes n i ws at rest f (await_begins v bytes n i ws b rest at is16 reached offset) from rest_fits h
             | inr one ↦ (
                 let w = one.0.0 in
                 let after = one.0.1 in
-                let taken = await_takes at n i (least_after 0 ws) rest one.0 rest_fits one.1 in
-                let here : b ∷ rest ≡ await w ++ after = rw is16 (ap (λ (t : List ℕ). 16 ∷ t) taken.0.parts) in
+                let taken = await_takes v at n i (least_after 0 ws) rest one.0 rest_fits one.1 in
+                let here : b ∷ rest ≡ await v w ++ after = rw is16 (ap (λ (t : List ℕ). 16 ∷ t) taken.0.parts) in
                 let shorter = ap length here in
-                elim (bind_err (action_at turns whole n i (w.agent + 1) after) (λ others. Ok (joined one.0 others)) f one.2) [
-                  | inl h ↦ opcode_fails bytes n i turns (ws ++ w ∷ []) at_action after f r (from_more n i 0 ws w from taken.1) (parts_more await ws w at_action (b ∷ rest) after parts here) taken.0.rest_fits
-                      (omega (arith, le, shorter)) (rw (after_more 0 ws w) h)
+                let long = length-append (await v w) after in
+                elim (bind_err (action_at v turns whole n i (w.agent + 1) after) (λ others. Ok (joined one.0 others)) f one.2) [
+                  | inl h ↦ opcode_fails v bytes n i turns (ws ++ w ∷ []) at_action after f r (from_more n i 0 ws w from taken.1) (All-append (λ (w : Await). w.count ≤ (most_count v)) ws (w ∷ []) fit (All-cons (λ (w : Await). w.count ≤ (most_count v)) w [] taken.2 (All-nil (λ (w : Await). w.count ≤ (most_count v))))) (parts_more (await v) ws w at_action (b ∷ rest) after parts here) taken.0.rest_fits
+                      (omega (arith, le, shorter, long)) (rw (after_more 0 ws w) h)
                   | inr others ↦ absurd (no_fault (joined one.0 others.0) f others.2)
                 ])
           ])
@@ -171,92 +186,98 @@ opcode_fails bytes n i (suc turns) ws at_action (b ∷ rest) f r from parts fits
 
 -- ---- the actions of an agent
 
-module _ (bytes : List ℕ) (n : ℕ) (p : Program) (at_agent : List ℕ) (count : ℕ) (at_actions : List ℕ) (reached : ReachesAgent bytes n p at_agent) (within : length p < n) (head : HasHead at_agent count at_actions) (total : total_moves p + count ≤ 4194304) where
-  actions_fail : (left : ℕ) (actions : List Action) (rest : List ℕ) (f : LoadFault) → length actions + left ≡ count → All (λ s. AreAwaits n (length p) s.awaits) actions → AreMoves actions → at_actions ≡ flat_map action actions ++ rest
-      → IsBytes rest → actions_at left (length bytes) n (length p) rest ≡ Err f → IsFirstLoadFault bytes f
+module _ (v : Version) (bytes : List ℕ) (n : ℕ) (p : Program) (at_agent : List ℕ) (count : ℕ) (at_actions : List ℕ) (reached : ReachesAgent v bytes n p at_agent) (within : length p < n) (head : HasHead v at_agent count at_actions) (few : count ≤ (most_moves v)) (total : total_moves p + count ≤ 4194304) where
+  actions_fail : (left : ℕ) (actions : List Action) (rest : List ℕ) (f : LoadFault) → length actions + left ≡ count → All (λ s. AreAwaits n (length p) s.awaits) actions → AreSpellable v actions → at_actions ≡ flat_map (action v) actions ++ rest
+      → IsBytes rest → actions_at v left (length bytes) n (length p) rest ≡ Err f → IsFirstFaultIn v bytes f
   unfolding actions_at
   actions_fail zero actions rest f size awaits moves parts fits e = absurd (no_fault ([], rest) f e)
   actions_fail (suc left) actions rest f size awaits moves parts fits e =
       let whole = length bytes in
       let i = length p in
-      let more : Action × List ℕ → Field (List Action) = λ first. actions_at left whole n i first.1 >>= λ others. Ok (first.0 ∷ others.0, others.1) in
-      let here : ReachesAction bytes n i rest = record { before = p; at_agent = at_agent; agents = reached; own = refl; within = within; count = count; at_actions = at_actions; head = head; total = total; actions = actions; more = omega (arith, size); awaits = awaits; moves = moves; parts = parts } in
-      elim (bind_err (action_at (length rest) whole n i 0 rest) more f e) [
-        | inl h ↦ opcode_fails bytes n i (length rest) [] rest rest f here tt refl fits (omega arith) h
+      let more : Action × List ℕ → Field (List Action) = λ first. actions_at v left whole n i first.1 >>= λ others. Ok (first.0 ∷ others.0, others.1) in
+      let here : ReachesAction v bytes n i rest = record { before = p; at_agent = at_agent; agents = reached; own = refl; within = within; count = count; at_actions = at_actions; head = head; few = few; total = total; actions = actions; more = omega (arith, size); awaits = awaits; spellable = moves; parts = parts } in
+      elim (bind_err (action_at v (length rest) whole n i 0 rest) more f e) [
+        | inl h ↦ opcode_fails v bytes n i (length rest) [] rest rest f here tt (All-nil (λ (w : Await). w.count ≤ (most_count v))) refl fits (omega arith) h
         | inr first ↦ (
             let a = first.0.0 in
             let after = first.0.1 in
-            let taken = action_takes (length rest) whole n i 0 rest first.0 fits first.1 in
-            elim (bind_err (actions_at left whole n i after) (λ others. Ok (a ∷ others.0, others.1)) f first.2) [
+            let taken = action_takes v (length rest) whole n i 0 rest first.0 fits first.1 in
+            elim (bind_err (actions_at v left whole n i after) (λ others. Ok (a ∷ others.0, others.1)) f first.2) [
               | inl h ↦ actions_fail left (actions ++ a ∷ []) after f (omega (arith, size, length-append actions (a ∷ [])))
                   (All-append (λ (s : Action). AreAwaits n i s.awaits) actions (a ∷ []) awaits (All-cons (λ (s : Action). AreAwaits n i s.awaits) a [] (awaits_are n i 0 a.awaits taken.1) (All-nil (λ (s : Action). AreAwaits n i s.awaits))))
-                  (All-append (λ (s : Action). IsTrue (is_move s.step)) actions (a ∷ []) moves (All-cons (λ (s : Action). IsTrue (is_move s.step)) a [] taken.2 (All-nil (λ (s : Action). IsTrue (is_move s.step)))))
-                  (parts_more action actions a at_actions rest after parts taken.0.parts) taken.0.rest_fits h
+                  (All-append (IsSpellable v) actions (a ∷ []) moves (All-cons (IsSpellable v) a [] taken.2 (All-nil (IsSpellable v))))
+                  (parts_more (action v) actions a at_actions rest after parts taken.0.parts) taken.0.rest_fits h
               | inr others ↦ absurd (no_fault (a ∷ others.0.0, others.0.1) f others.2)
             ])
       ]
 
 -- ---- agents
 
-ends_agent : (bytes : List ℕ) (n : ℕ) (p : Program) (rest : List ℕ) (f : LoadFault) → ReachesAgent bytes n p rest → length p < n → Truncated ≡ f → length rest < 10 → IsFirstLoadFault bytes f
-ends_agent bytes n p rest f r within e few = ends bytes f e (inr (inr (inl (n, p, rest, r, within, few))))
+ends_agent : (v : Version) (bytes : List ℕ) (n : ℕ) (p : Program) (rest : List ℕ) (f : LoadFault) → ReachesAgent v bytes n p rest → length p < n → Truncated ≡ f → length rest < 8 + (count_len v) → IsFirstFaultIn v bytes f
+ends_agent v bytes n p rest f r within e few = ends v bytes f e (inr (inr (inl (n, p, rest, r, within, few))))
 
-agent_fails : (bytes : List ℕ) (n : ℕ) (p : Program) (rest : List ℕ) (f : LoadFault) → ReachesAgent bytes n p rest → length p < n → IsBytes rest → agent_at (length bytes) n (length p) (total_moves p) rest ≡ Err f → IsFirstLoadFault bytes f
+agent_fails : (v : Version) (bytes : List ℕ) (n : ℕ) (p : Program) (rest : List ℕ) (f : LoadFault) → ReachesAgent v bytes n p rest → length p < n → IsBytes rest → agent_at v (length bytes) n (length p) (total_moves p) rest ≡ Err f → IsFirstFaultIn v bytes f
 unfolding agent_at
-agent_fails bytes n p rest f r within fits e =
+agent_fails v bytes n p rest f r within fits e =
     let whole = length bytes in
     let i = length p in
     let total = total_moves p in
-    elim (bind_err (cell_at rest) (after_start whole n i total) f e) [
-      | inl h ↦ (let s = cell_fails rest f fits h in let few = s.1 in ends_agent bytes n p rest f r within s.0 (omega (arith, few)))
+    elim (bind_err (cell_at rest) (after_start v whole n i total) f e) [
+      | inl h ↦ (let s = cell_fails rest f fits h in let few = s.1 in ends_agent v bytes n p rest f r within s.0 (omega (arith, few)))
       | inr start ↦ (
           let c = start.0.0 in
           let first = cell_takes rest start.0 fits start.1 in
           let len1 = cell_len rest c start.0.1 first.0 in
-          elim (bind_err (cell_at start.0.1) (λ goal. number_at goal.1 >>= after_count whole n i total c goal.0) f start.2) [
-            | inl h ↦ (let s = cell_fails start.0.1 f first.0.rest_fits h in let few = s.1 in ends_agent bytes n p rest f r within s.0 (omega (arith, few, len1)))
+          elim (bind_err (cell_at start.0.1) (λ goal. count_at v goal.1 >>= after_count v whole n i total c goal.0) f start.2) [
+            | inl h ↦ (let s = cell_fails start.0.1 f first.0.rest_fits h in let few = s.1 in ends_agent v bytes n p rest f r within s.0 (omega (arith, few, len1)))
             | inr goal ↦ (
                 let d = goal.0.0 in
                 let second = cell_takes start.0.1 goal.0 first.0.rest_fits goal.1 in
                 let len2 = cell_len start.0.1 d goal.0.1 second.0 in
-                elim (bind_err (number_at goal.0.1) (after_count whole n i total c d) f goal.2) [
-                  | inl h ↦ (let s = number_fails goal.0.1 f h in let few = s.1 in ends_agent bytes n p rest f r within s.0 (omega (arith, few, len1, len2)))
+                elim (bind_err (count_at v goal.0.1) (after_count v whole n i total c d) f goal.2) [
+                  | inl h ↦ (let s = count_fails v goal.0.1 f h in let few = s.1 in ends_agent v bytes n p rest f r within s.0 (omega (arith, few, len1, len2)))
                   | inr counted ↦ (
-                      let count = counted.0.0 in
+                      let many = counted.0.0 in
                       let after = counted.0.1 in
-                      let third = number_takes goal.0.1 count after second.0.rest_fits counted.1 in
-                      let parts : rest ≡ cell c ++ cell d ++ number count ++ after =
+                      let third = count_takes v goal.0.1 many after second.0.rest_fits counted.1 in
+                      let parts : rest ≡ cell c ++ cell d ++ count_of v many ++ after =
                       first.0.parts ∙ ap (λ (t : List ℕ). cell c ++ t) (second.0.parts ∙ ap (λ (t : List ℕ). cell d ++ t) third.0.parts) ∙ (simp append_assoc) in
-                      let head : HasHead rest count after = record { start = c; goal = d; start_fits = first.1; goal_fits = second.1; moves_fit = (let fits = third.1 in omega (arith, fits)); parts = parts } in
+                      let head : HasHead v rest many after = record { start = c; goal = d; start_fits = first.1; goal_fits = second.1; moves_fit = third.1; parts = parts } in
                       let made : List Action × List ℕ → Field AgentProgram = λ actions. Ok (record { start = c; goal = d; actions = actions.0 }, actions.1) in
-                      elim (test_err (ltb 4194304 (total + count)) Total (actions_at count whole n i after >>= made) f counted.2) [
-                        | inl many ↦ subst (IsFirstLoadFault bytes) many.1 (n, p, rest, count, after, r, within, head, ltb-true 4194304 (total + count) many.0)
-                        | inr few ↦ elim (bind_err (actions_at count whole n i after) made f few.1) [
-                          | inl h ↦ actions_fail bytes n p rest count after r within head (ltb-false 4194304 (total + count) few.0) count [] after f (omega arith) (All-nil (λ (s : Action). AreAwaits n i s.awaits)) (All-nil (λ (s : Action). IsTrue (is_move s.step))) refl third.0.rest_fits h
+                      elim (test_err (ltb (most_moves v) many || ltb 4194304 (total + many)) Total (actions_at v many whole n i after >>= made) f counted.2) [
+                        | inl over ↦ (
+                            let which : ((most_moves v) < many) ⊎ (4194304 < total + many) =
+                            elim (or_cases (ltb (most_moves v) many) (ltb 4194304 (total + many)) over.0) [
+                              | inl own ↦ inl (ltb-true (most_moves v) many own)
+                              | inr all ↦ inr (ltb-true 4194304 (total + many) all)
+                            ] in
+                            subst (IsFirstFaultIn v bytes) over.1 (n, p, rest, many, after, r, within, head, which))
+                        | inr few ↦ (let tests = or_parts (ltb (most_moves v) many) (ltb 4194304 (total + many)) few.0 in elim (bind_err (actions_at v many whole n i after) made f few.1) [
+                          | inl h ↦ actions_fail v bytes n p rest many after r within head (ltb-false (most_moves v) many tests.0) (ltb-false 4194304 (total + many) tests.1) many [] after f (omega arith) (All-nil (λ (s : Action). AreAwaits n i s.awaits)) (All-nil (IsSpellable v)) refl third.0.rest_fits h
                           | inr actions ↦ absurd (no_fault (record { start = c; goal = d; actions = actions.0.0 }, actions.0.1) f actions.2)
-                        ]
+                        ])
                       ])
                 ])
           ])
     ]
 
-agents_fail : (bytes : List ℕ) (n left i total : ℕ) (p : Program) (rest : List ℕ) (f : LoadFault) → ReachesAgent bytes n p rest → i ≡ length p → total ≡ total_moves p → i + left ≡ n → IsBytes rest
-    → agents_at left (length bytes) n i total rest ≡ Err f → IsFirstLoadFault bytes f
+agents_fail : (v : Version) (bytes : List ℕ) (n left i total : ℕ) (p : Program) (rest : List ℕ) (f : LoadFault) → ReachesAgent v bytes n p rest → i ≡ length p → total ≡ total_moves p → i + left ≡ n → IsBytes rest
+    → agents_at v left (length bytes) n i total rest ≡ Err f → IsFirstFaultIn v bytes f
 unfolding agents_at
-agents_fail bytes n zero i total p rest f r own moves size fits e = absurd (no_fault ([], rest) f e)
-agents_fail bytes n (suc left) i total p rest f r own moves size fits e =
+agents_fail v bytes n zero i total p rest f r own moves size fits e = absurd (no_fault ([], rest) f e)
+agents_fail v bytes n (suc left) i total p rest f r own moves size fits e =
     let whole = length bytes in
-    let more : AgentProgram × List ℕ → Field Program = λ first. agents_at left whole n (i + 1) (total + length first.0.actions) first.1 >>= λ others. Ok (first.0 ∷ others.0, others.1) in
-    elim (bind_err (agent_at whole n i total rest) more f e) [
-      | inl h ↦ agent_fails bytes n p rest f r (omega (arith, own, size)) fits (sym (ap (λ (k : ℕ). agent_at whole n k total rest) own ∙ ap (λ (t : ℕ). agent_at whole n (length p) t rest) moves) ∙ h)
+    let more : AgentProgram × List ℕ → Field Program = λ first. agents_at v left whole n (i + 1) (total + length first.0.actions) first.1 >>= λ others. Ok (first.0 ∷ others.0, others.1) in
+    elim (bind_err (agent_at v whole n i total rest) more f e) [
+      | inl h ↦ agent_fails v bytes n p rest f r (omega (arith, own, size)) fits (sym (ap (λ (k : ℕ). agent_at v whole n k total rest) own ∙ ap (λ (t : ℕ). agent_at v whole n (length p) t rest) moves) ∙ h)
       | inr first ↦ (
           let a = first.0.0 in
           let after = first.0.1 in
-          let taken = agent_takes whole n i total rest first.0 fits first.1 in
+          let taken = agent_takes v whole n i total rest first.0 fits first.1 in
           let few = taken.2 in
-          elim (bind_err (agents_at left whole n (i + 1) (total + length a.actions) after) (λ others. Ok (a ∷ others.0, others.1)) f first.2) [
-            | inl h ↦ agents_fail bytes n left (i + 1) (total + length a.actions) (p ++ a ∷ []) after f
-                (agent_reached bytes n p a rest after r (subst (λ (k : ℕ). IsAgent n k a) own taken.1) taken.3 (omega (arith, few, moves)) taken.0.parts) (omega (arith, own, length-append p (a ∷ []))) (omega (arith, moves, total_more p a)) (omega (arith, size))
+          elim (bind_err (agents_at v left whole n (i + 1) (total + length a.actions) after) (λ others. Ok (a ∷ others.0, others.1)) f first.2) [
+            | inl h ↦ agents_fail v bytes n left (i + 1) (total + length a.actions) (p ++ a ∷ []) after f
+                (agent_reached v bytes n p a rest after r (subst (λ (k : ℕ). IsAgent n k a) own taken.1) taken.3 (omega (arith, few, moves)) taken.0.parts) (omega (arith, own, length-append p (a ∷ []))) (omega (arith, moves, total_more p a)) (omega (arith, size))
                 taken.0.rest_fits h
             | inr others ↦ absurd (no_fault (a ∷ others.0.0, others.0.1) f others.2)
           ])
@@ -265,11 +286,11 @@ agents_fail bytes n (suc left) i total p rest f r own moves size fits e =
 -- ---- the magic
 
 -- the bytes begin with the text, or the text with the bytes, which are fewer, or they differ somewhere
-abbrev Compared : List ℕ → List ℕ → Type 0
+abbrev pub Compared : List ℕ → List ℕ → Type 0
 Compared bytes text =
     ((rest : List ℕ) × (bytes ≡ text ++ rest)) ⊎ ((rest : List ℕ) × (text ≡ bytes ++ rest) × (length bytes < length text)) ⊎ ((k : ℕ) × (k < length text) × (k < length bytes) × (get_or bytes k 0 ≢ get_or text k 0))
 
-differs : (bytes text : List ℕ) → Compared bytes text
+pub differs : (bytes text : List ℕ) → Compared bytes text
 differs bytes [] = inl (bytes, refl)
 differs [] (c ∷ text) = inr (inl (c ∷ text, refl, omega arith))
 differs (b ∷ bytes) (c ∷ text) = first (differs bytes text) (eqb b c) refl
@@ -284,73 +305,81 @@ differs (b ∷ bytes) (c ∷ text) = first (differs bytes text) (eqb b c) refl
           | inr (inr m) ↦ (let lt = m.1 in let lt2 = m.2 in inr (inr (suc m.0, omega (arith, lt), omega (arith, lt2), m.3)))
         ]
 
-begun : (s p rest : List ℕ) → s ≡ p ++ rest → starts_with nat_eq s p ≡ true
+pub begun : (s p rest : List ℕ) → s ≡ p ++ rest → starts_with nat_eq s p ≡ true
 begun s p rest e = (starts_is Decides-eqb s p (starts_with nat_eq s p) refl).1 rest e
 
-pub magic_read : (bytes rest : List ℕ) → bytes ≡ magic ++ rest → magic_at bytes ≡ Ok rest
+pub magic_read : (v : Version) (bytes rest : List ℕ) → bytes ≡ (magic v) ++ rest → magic_at v bytes ≡ Ok rest
 unfolding magic_at
-magic_read bytes rest e = rw e refl
+magic_read One bytes rest e = rw e refl
+magic_read Two bytes rest e = rw e refl
 
-pub magic_ends : (bytes rest : List ℕ) → magic ≡ bytes ++ rest → length bytes < 4 → magic_at bytes ≡ Err Truncated
+pub magic_ends : (v : Version) (bytes rest : List ℕ) → magic v ≡ bytes ++ rest → length bytes < 4 → magic_at v bytes ≡ Err Truncated
 unfolding magic_at
-magic_ends bytes rest e few =
-    let not_whole : starts_with nat_eq bytes magic ≡ false =
-    false_from_ne_true (starts_with nat_eq bytes magic) (λ t.
-    let same = ap length ((starts_is Decides-eqb bytes magic (starts_with nat_eq bytes magic) refl).0 t) in
-    omega (arith, same, few)) in
-    rw (not_whole, begun magic bytes rest e) refl
+magic_ends v bytes rest e few =
+    let not_whole : starts_with nat_eq bytes (magic v) ≡ false =
+    false_from_ne_true (starts_with nat_eq bytes (magic v)) (λ t.
+    let same = ap length ((starts_is Decides-eqb bytes (magic v) (starts_with nat_eq bytes (magic v)) refl).0 t) in
+    omega (arith, same, few, length-append (magic v) (drop (length (magic v)) bytes), (magic_long v))) in
+    rw (not_whole, begun (magic v) bytes rest e) refl
 
-pub magic_differs : (bytes : List ℕ) → IsWithoutMagic bytes → magic_at bytes ≡ Err Magic
+pub magic_differs : (v : Version) (bytes : List ℕ) → IsWithoutMagic v bytes → magic_at v bytes ≡ Err Magic
 unfolding magic_at
-magic_differs bytes h =
+magic_differs v bytes h =
     let k = h.0 in
-    let not_whole : starts_with nat_eq bytes magic ≡ false =
-    false_from_ne_true (starts_with nat_eq bytes magic) (λ t.
-    let e = (starts_is Decides-eqb bytes magic (starts_with nat_eq bytes magic) refl).0 t in
-    h.3 (ap (λ (b : List ℕ). get_or b k 0) e ∙ get_or_append_left magic (drop 4 bytes) 0 k h.1)) in
-    let no_part : starts_with nat_eq magic bytes ≡ false =
-    false_from_ne_true (starts_with nat_eq magic bytes) (λ t.
-    let e = (starts_is Decides-eqb magic bytes (starts_with nat_eq magic bytes) refl).0 t in
-    h.3 (sym (ap (λ (b : List ℕ). get_or b k 0) e ∙ get_or_append_left bytes (drop (length bytes) magic) 0 k h.2))) in
+    let not_whole : starts_with nat_eq bytes (magic v) ≡ false =
+    false_from_ne_true (starts_with nat_eq bytes (magic v)) (λ t.
+    let e = (starts_is Decides-eqb bytes (magic v) (starts_with nat_eq bytes (magic v)) refl).0 t in
+    h.3 (ap (λ (b : List ℕ). get_or b k 0) e ∙ get_or_append_left (magic v) (drop (length (magic v)) bytes) 0 k (let within = h.1 in omega (arith, within, (magic_long v))))) in
+    let no_part : starts_with nat_eq (magic v) bytes ≡ false =
+    false_from_ne_true (starts_with nat_eq (magic v) bytes) (λ t.
+    let e = (starts_is Decides-eqb (magic v) bytes (starts_with nat_eq (magic v) bytes) refl).0 t in
+    h.3 (sym (ap (λ (b : List ℕ). get_or b k 0) e ∙ get_or_append_left bytes (drop (length bytes) (magic v)) 0 k h.2))) in
     rw (not_whole, no_part) refl
+
+pub without_magic : (v : Version) (bytes : List ℕ) → (k : ℕ) × (k < length (magic v)) × (k < length bytes) × (get_or bytes k 0 ≢ get_or (magic v) k 0) → IsWithoutMagic v bytes
+without_magic v bytes h = (h.0, (let within = h.1 in omega (arith, within, (magic_long v))), h.2, h.3)
 
 -- ---- all of the bytes
 
-agents_reached : (bytes at_number : List ℕ) (n : ℕ) (at_agents : List ℕ) (p : Program) (rest : List ℕ) → bytes ≡ magic ++ at_number → at_number ≡ number n ++ at_agents → 1 ≤ n → n ≤ 1024
-    → ((i : ℕ) (a : AgentProgram) → slice_get p i ≡ Some a → IsAgent n i a) → NeverStays p → total_moves p ≤ 4194304 → at_agents ≡ flat_map agent p ++ rest → ReachesAgent bytes n p rest
-agents_reached bytes at_number n at_agents p rest e1 e2 some few agents moves total e3 = record {
+agents_reached : (v : Version) (bytes at_number : List ℕ) (n : ℕ) (at_agents : List ℕ) (p : Program) (rest : List ℕ) → bytes ≡ (magic v) ++ at_number → at_number ≡ number n ++ at_agents → 1 ≤ n → n ≤ 1024
+    → ((i : ℕ) (a : AgentProgram) → slice_get p i ≡ Some a → IsAgent n i a) → CanSpell v p → total_moves p ≤ 4194304 → at_agents ≡ flat_map (agent v) p ++ rest → ReachesAgent v bytes n p rest
+agents_reached v bytes at_number n at_agents p rest e1 e2 some few agents moves total e3 = record {
   some = some;
   few = few;
   agents = agents;
-  moves = moves;
+  spellable = moves;
   total = total;
-  parts = e1 ∙ ap (λ (t : List ℕ). magic ++ t) (e2 ∙ ap (λ (t : List ℕ). number n ++ t) e3) ∙ (simp append_assoc);
+  parts = e1 ∙ ap (λ (t : List ℕ). (magic v) ++ t) (e2 ∙ ap (λ (t : List ℕ). number n ++ t) e3) ∙ (simp append_assoc);
 }
 
-trailing : (bytes : List ℕ) (n : ℕ) (p : Program) (rest : List ℕ) (f : LoadFault) → ReachesAgent bytes n p rest → length p ≡ n → after_agents (length bytes) (p, rest) ≡ Err f → IsFirstLoadFault bytes f
-trailing bytes n p [] f r size e = absurd (no_fault p f e)
-trailing bytes n p (b ∷ rest) f r size e =
+trailing : (v : Version) (bytes : List ℕ) (n : ℕ) (p : Program) (rest : List ℕ) (f : LoadFault) → ReachesAgent v bytes n p rest → length p ≡ n → after_agents (length bytes) (p, rest) ≡ Err f → IsFirstFaultIn v bytes f
+trailing v bytes n p [] f r size e = absurd (no_fault p f e)
+trailing v bytes n p (b ∷ rest) f r size e =
     elim (test_err (not (eqb (length (b ∷ rest)) 0)) (Trailing (length bytes - length (b ∷ rest))) (Ok p) f e) [
-      | inl h ↦ subst (IsFirstLoadFault bytes) h.1 (p, b, rest, subst (λ (k : ℕ). ReachesAgent bytes k p (b ∷ rest)) (sym size) r, omega (arith, agent_left bytes n p (b ∷ rest) r))
+      | inl h ↦ subst (IsFirstFaultIn v bytes) h.1 (p, b, rest, subst (λ (k : ℕ). ReachesAgent v bytes k p (b ∷ rest)) (sym size) r, omega (arith, agent_left v bytes n p (b ∷ rest) r))
       | inr h ↦ absurd (no_fault p f h.1)
     ]
 
-pub is_first : (bytes : List ℕ) (f : LoadFault) → IsBytes bytes → program_at bytes ≡ Err f → IsFirstLoadFault bytes f
-unfolding program_at
-is_first bytes f fits e =
+rest_bytes : (v : Version) (bytes rest : List ℕ) → bytes ≡ (magic v) ++ rest → IsBytes bytes → IsBytes rest
+rest_bytes One bytes rest e fits = λ k. rw e at fits (suc (suc (suc (suc k))))
+rest_bytes Two bytes rest e fits = λ k. rw e at fits (suc (suc (suc (suc k))))
+
+pub is_first : (v : Version) (bytes : List ℕ) (f : LoadFault) → IsBytes bytes → program_as v bytes ≡ Err f → IsFirstFaultIn v bytes f
+unfolding program_as
+is_first v bytes f fits e =
     let whole = length bytes in
-    let after = λ (rest : List ℕ). number_at rest >>= after_agent_count whole in
-    elim (differs bytes magic) [
+    let after = λ (rest : List ℕ). number_at rest >>= after_agent_count v whole in
+    elim (differs bytes (magic v)) [
       | inl m ↦ (
           let at_number = m.0 in
-          let number_fits : IsBytes at_number = λ k. rw m.1 at fits (suc (suc (suc (suc k)))) in
-          elim (bind_err (number_at at_number) (after_agent_count whole) f (sym (ap (λ (r : Result (List ℕ) LoadFault). r >>= after) (magic_read bytes at_number m.1)) ∙ e)) [
-            | inl h ↦ (let s = number_fails at_number f h in ends bytes f s.0 (inr (inl (at_number, m.1, s.1))))
+          let number_fits : IsBytes at_number = rest_bytes v bytes at_number m.1 fits in
+          elim (bind_err (number_at at_number) (after_agent_count v whole) f (sym (ap (λ (r : Result (List ℕ) LoadFault). r >>= after) (magic_read v bytes at_number m.1)) ∙ e)) [
+            | inl h ↦ (let s = number_fails at_number f h in ends v bytes f s.0 (inr (inl (at_number, m.1, s.1))))
             | inr counted ↦ (
                 let n = counted.0.0 in
                 let at_agents = counted.0.1 in
                 let taken = number_takes at_number n at_agents number_fits counted.1 in
-                let all = agents_at n whole n 0 0 at_agents in
+                let all = agents_at v n whole n 0 0 at_agents in
                 elim (test_err (eqb n 0 || ltb 1024 n) AgentCount (all >>= after_agents whole) f counted.2) [
                   | inl wrong ↦ (
                       let which : (n ≡ 0) ⊎ (1024 < n) =
@@ -358,22 +387,22 @@ is_first bytes f fits e =
                         | inl none ↦ inl (eqb-true n 0 none)
                         | inr many ↦ inr (ltb-true 1024 n many)
                       ] in
-                      subst (IsFirstLoadFault bytes) wrong.1 (n, at_number, at_agents, m.1, has_number at_number n at_agents number_fits counted.1, which))
+                      subst (IsFirstFaultIn v bytes) wrong.1 (n, at_number, at_agents, m.1, has_number at_number n at_agents number_fits counted.1, which))
                   | inr right ↦ (
                       let tests = or_parts (eqb n 0) (ltb 1024 n) right.0 in
                       let some_agents = eqb-false n 0 tests.0 in
                       let some : 1 ≤ n = omega (arith, some_agents) in
                       let few = ltb-false 1024 n tests.1 in
-                      let reached = agents_reached bytes at_number n at_agents in
+                      let reached = agents_reached v bytes at_number n at_agents in
                       elim (bind_err all (after_agents whole) f right.1) [
-                        | inl h ↦ agents_fail bytes n n 0 0 [] at_agents f (reached [] at_agents m.1 taken.0.parts some few (λ i a none. absurd cc) (All-nil (λ (b : AgentProgram). AreMoves b.actions)) (omega arith) refl) refl refl (omega arith) taken.0.rest_fits h
+                        | inl h ↦ agents_fail v bytes n n 0 0 [] at_agents f (reached [] at_agents m.1 taken.0.parts some few (λ i a none. absurd cc) (All-nil (IsSpellableAgent v)) (omega arith) refl) refl refl (omega arith) taken.0.rest_fits h
                         | inr q ↦ (
                             let p = q.0.0 in
-                            let read = agents_take n whole n 0 0 at_agents q.0 taken.0.rest_fits q.1 in
-                            trailing bytes n p q.0.1 f (reached p q.0.1 m.1 taken.0.parts some few (to_first n p (each_from n 0 0 p read.2)) read.3 (total_from n p read.2) read.0.parts) read.1 q.2)
+                            let read = agents_take v n whole n 0 0 at_agents q.0 taken.0.rest_fits q.1 in
+                            trailing v bytes n p q.0.1 f (reached p q.0.1 m.1 taken.0.parts some few (to_first n p (each_from n 0 0 p read.2)) read.3 (total_from n p read.2) read.0.parts) read.1 q.2)
                       ])
                 ])
           ])
-      | inr (inl m) ↦ ends bytes f (err_is {A = Program} Truncated f (sym (ap (λ (r : Result (List ℕ) LoadFault). r >>= after) (magic_ends bytes m.0 m.1 m.2)) ∙ e)) (inl (m.0, m.1, m.2))
-      | inr (inr m) ↦ subst (IsFirstLoadFault bytes) (err_is {A = Program} Magic f (sym (ap (λ (r : Result (List ℕ) LoadFault). r >>= after) (magic_differs bytes m)) ∙ e)) m
+      | inr (inl m) ↦ ends v bytes f (err_is {A = Program} Truncated f (sym (ap (λ (r : Result (List ℕ) LoadFault). r >>= after) (magic_ends v bytes m.0 m.1 (let few = m.2 in omega (arith, few, (magic_long v))))) ∙ e)) (inl (m.0, m.1, (let few = m.2 in omega (arith, few, (magic_long v)))))
+      | inr (inr m) ↦ subst (IsFirstFaultIn v bytes) (err_is {A = Program} Magic f (sym (ap (λ (r : Result (List ℕ) LoadFault). r >>= after) (magic_differs v bytes (without_magic v bytes m))) ∙ e)) (without_magic v bytes m)
     ]

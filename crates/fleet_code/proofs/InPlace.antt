@@ -1,21 +1,29 @@
 -- Where the parts of a program stand in its bytes.
-use Rattle.std.proofs.Common.{◌≡◌, ℕ, zero, suc, ◌-◌, ◌+◌, ◌*◌, ◌/◌, ◌≤◌, ◌<◌, List, [], ◌∷◌, ◌++◌, length, take, drop, slice_get, slice_index_or, Option, Some, None, refl, sym, ap, subst, ◌∙◌, append_assoc, arith, inl, inr}
+use Rattle.std.proofs.Common.{◌≡◌, ℕ, zero, suc, ◌-◌, ◌+◌, ◌*◌, ◌/◌, ◌≤◌, ◌<◌, List, [], ◌∷◌, ◌++◌, length, take, drop, slice_get, slice_index_or, Option, Some, None, Result, Ok, refl, sym, ap, subst, ◌∙◌, append_assoc, arith, inl, inr, All}
 use Rattle.std.specs.List.{flat_map}
 use Rattle.std.proofs.lemmas.List.{append-nil, length-append, drop-drop, length-drop, length-take-le, drop_at, get_or-drop}
 use Rattle.std.proofs.lemmas.Option.{slice_get_cases, slice_get_within, get_or_from_slice_get}
 use Rattle.std.proofs.lemmas.List.Elements.{All-get_or}
 use Rattle.std.specs.Option.{option_map_or}
-use Rattle.std.specs.Prelude.{IsTrue}
+use Rattle.std.specs.Prelude.{IsTrue, sum_by}
+use Rattle.std.proofs.lemmas.List.Sums.{sum_by-cons}
 use Rattle.std.proofs.Math.Nat.{add-zero}
 use Rattle.fleet_model.specs.declared.program.Await.{Await}
 use Rattle.fleet_model.specs.declared.program.Action.{Action}
 use Rattle.fleet_model.specs.declared.program.AgentProgram.{AgentProgram}
-use Rattle.fleet_model.specs.Program.{Program, actions_of, action_of, moves, start_of, goal_of, awaits_of, AreMoves}
+use Rattle.fleet_model.specs.Program.{Program, actions_of, action_of, moves, start_of, goal_of, awaits_of}
 use Rattle.fleet_model.specs.Geometry.{is_move}
-use Rattle.fleet_code.specs.Spelling.{magic, number, cell, opcode, await, action, agent, spelling}
-use Rattle.fleet_code.specs.Offsets.{PartOffsets, StandsAt, IsViewOf, ends_of, part_of, parts_of, part_at, begin_of, end_of}
-use Rattle.fleet_code.specs.Reading.{move_at}
-use Rattle.fleet_code.proofs.RoundTrip.{move_again}
+use Rattle.fleet_code.specs.declared.format.Version.{Version}
+use Rattle.fleet_code.specs.declared.format.Version.TheVariants.{One, Two}
+use Rattle.fleet_code.specs.Spelling.{magic, number, count as count_of, count_len, most_count, cell, opcode, await, action, agent, spelling, IsSpellable, IsSpellableAgent, SpellsIn}
+use Rattle.fleet_code.specs.Offsets.{PartOffsets, Viewed, program_in, StandsAt, IsViewOf, opcodes, head_len, await_len, awaits_before, ends_of, part_of, parts_of, part_at, begin_of, end_of}
+use Rattle.std.specs.Result.{result_unwrap_or}
+use Rattle.fleet_code.specs.declared.fault.LoadFault.{LoadFault}
+use Rattle.fleet_code.specs.Reading.{move_at, program_at}
+use Rattle.fleet_model.proofs.Totals.{actions_more as awaits_more}
+use Rattle.fleet_code.proofs.Parts.{count_long}
+use Rattle.fleet_code.proofs.Written.{awaits_len, actions_len}
+use Rattle.fleet_code.proofs.RoundTrip.{move_again, magic_long}
 use Rattle.fleet_code.proofs.OffsetLoop.{ends_length}
 
 -- ---- texts in bytes
@@ -77,24 +85,28 @@ some_pieces f (y ∷ xs) (suc n) =
 
 -- ---- ends and parts
 
-pub end_found : (at : ℕ) (actions : List Action) (n : ℕ) → n ≤ length actions → slice_get (at ∷ ends_of at actions) n ≡ Some (at + length (flat_map action (take n actions)))
-end_found at [] zero le = rw add-zero refl
+-- how many awaits these actions have together
+abbrev pub awaits_in : List Action → ℕ
+awaits_in actions = sum_by (λ s. length s.awaits) actions
+
+pub end_found : (at : ℕ) (actions : List Action) (n : ℕ) → n ≤ length actions → slice_get (at ∷ ends_of at actions) n ≡ Some (at + (n + awaits_in (take n actions)))
+end_found at [] zero le = let same : at ≡ at + (0 + 0) = omega arith in ap (λ (k : ℕ). Some k) same
 end_found at [] (suc n) le = absurd (omega arith)
-end_found at (a ∷ actions) zero le = rw add-zero refl
+end_found at (a ∷ actions) zero le = let same : at ≡ at + (0 + 0) = omega arith in ap (λ (k : ℕ). Some k) same
 end_found at (a ∷ actions) (suc n) le =
-    let sum : at + length (action a) + length (flat_map action (take n actions)) ≡ at + length (action a ++ flat_map action (take n actions)) = let parts = length-append (action a) (flat_map action (take n actions)) in omega (arith, parts) in
-    subst (λ (k : ℕ). slice_get (ends_of at (a ∷ actions)) n ≡ Some k) sum (end_found (at + length (action a)) actions n (omega (arith, le)))
+    let sum : at + opcodes a + (n + awaits_in (take n actions)) ≡ at + (suc n + awaits_in (a ∷ take n actions)) = let all = sum_by-cons (λ (s : Action). length s.awaits) a (take n actions) in omega (arith, all) in
+    subst (λ (k : ℕ). slice_get (ends_of at (a ∷ actions)) n ≡ Some k) sum (end_found (at + opcodes a) actions n (omega (arith, le)))
 
-pub parts_length : (at : ℕ) (p : Program) → length (parts_of at p) ≡ length p
-parts_length at [] = refl
-parts_length at (a ∷ p) = ap suc (parts_length (at + length (agent a)) p)
+pub parts_length : (version : Version) (at : ℕ) (p : Program) → length (parts_of version at p) ≡ length p
+parts_length version at [] = refl
+parts_length version at (a ∷ p) = ap suc (parts_length version (at + length (agent version a)) p)
 
-part_found : (at : ℕ) (p : Program) (i : ℕ) (a : AgentProgram) → slice_get p i ≡ Some a → slice_get (parts_of at p) i ≡ Some (part_of (at + length (flat_map agent (take i p))) a)
-part_found at [] i a e = absurd cc
-part_found at (b ∷ p) zero a e = let same : b ≡ a = some_is e in subst (λ z. Some (part_of at b) ≡ Some (part_of (at + 0) z)) same (rw add-zero refl)
-part_found at (b ∷ p) (suc i) a e =
-    let sum : at + length (agent b) + length (flat_map agent (take i p)) ≡ at + length (agent b ++ flat_map agent (take i p)) = let parts = length-append (agent b) (flat_map agent (take i p)) in omega (arith, parts) in
-    subst (λ (k : ℕ). slice_get (parts_of (at + length (agent b)) p) i ≡ Some (part_of k a)) sum (part_found (at + length (agent b)) p i a e)
+part_found : (version : Version) (at : ℕ) (p : Program) (i : ℕ) (a : AgentProgram) → slice_get p i ≡ Some a → slice_get (parts_of version at p) i ≡ Some (part_of version (at + length (flat_map (agent version) (take i p))) a)
+part_found version at [] i a e = absurd cc
+part_found version at (b ∷ p) zero a e = let same : b ≡ a = some_is e in subst (λ z. Some (part_of version at b) ≡ Some (part_of version (at + 0) z)) same (rw add-zero refl)
+part_found version at (b ∷ p) (suc i) a e =
+    let sum : at + length (agent version b) + length (flat_map (agent version) (take i p)) ≡ at + length (agent version b ++ flat_map (agent version) (take i p)) = let parts = length-append (agent version b) (flat_map (agent version) (take i p)) in omega (arith, parts) in
+    subst (λ (k : ℕ). slice_get (parts_of version (at + length (agent version b)) p) i ≡ Some (part_of version k a)) sum (part_found version (at + length (agent version b)) p i a e)
 
 -- ---- what stands in the bytes of a program
 
@@ -109,81 +121,89 @@ action_there p i (suc n) some le =
       | inr past ↦ (let few = past.0 in absurd (omega (arith, few, le)))
     ]
 
-module _ {bytes : List ℕ} {p : Program} {parts : List PartOffsets} (v : IsViewOf bytes p parts) where
-  agents_stand : StandsAt bytes 6 (flat_map agent p)
-  agents_stand = rw v.spelled.spelled (back_stands (spelling p) 4 (number (length p)) (flat_map agent p) (back_stands (spelling p) 0 magic (number (length p) ++ flat_map agent p) (whole_stands (spelling p))))
+-- an agent has its head, and then its actions
+agent_long : (version : Version) (a : AgentProgram) → (1 ≤ length (agent version a)) × (length (agent version a) ≡ (head_len version) + length (flat_map (action version) a.actions))
+agent_long version a =
+    let wide = count_long version (length a.actions) in
+    let all = length-append (cell a.start ++ cell a.goal ++ count_of version (length a.actions)) (flat_map (action version) a.actions) in
+    let front = length-append (cell a.start ++ cell a.goal) (count_of version (length a.actions)) in
+    (omega (arith, wide, all, front), omega (arith, wide, all, front))
 
-  agent_stands : (i : ℕ) (a : AgentProgram) → slice_get p i ≡ Some a → StandsAt bytes (begin_of p i) (agent a)
-  agent_stands i a e = piece_stands agent bytes 6 p i a agents_stand e
+module _ {version : Version} {bytes : List ℕ} {p : Program} {parts : List PartOffsets} (v : IsViewOf version bytes p parts) where
+  agents_stand : StandsAt bytes 6 (flat_map (agent version) p)
+  agents_stand =
+      let front = length-append (magic version) (number (length p)) in
+      let six : 0 + length (magic version ++ number (length p)) ≡ 6 = omega (arith, front, magic_long version) in
+      rw v.spelled.spelled (subst (λ (k : ℕ). StandsAt (spelling version p) k (flat_map (agent version) p)) six (back_stands (spelling version p) 0 (magic version ++ number (length p)) (flat_map (agent version) p) (whole_stands (spelling version p))))
 
-  pub part_is : (i : ℕ) → i < length p → slice_get parts i ≡ Some (part_at p i)
+  agent_stands : (i : ℕ) (a : AgentProgram) → slice_get p i ≡ Some a → StandsAt bytes (begin_of version p i) (agent version a)
+  agent_stands i a e = piece_stands (agent version) bytes 6 p i a agents_stand e
+
+  pub part_is : (i : ℕ) → i < length p → slice_get parts i ≡ Some (part_at version p i)
   part_is i lt =
       let a = agent_there p i lt in
-      rw (v.parts_are, a.1) (part_found 6 p i a.0 a.1)
+      rw (v.parts_are, a.1) (part_found version 6 p i a.0 a.1)
 
   pub as_many_parts : length parts ≡ length p
-  as_many_parts = rw v.parts_are (parts_length 6 p)
+  as_many_parts = rw v.parts_are (parts_length version 6 p)
 
-  pub start_stands : (i : ℕ) → i < length p → StandsAt bytes (begin_of p i) (cell (start_of p i))
+  pub start_stands : (i : ℕ) → i < length p → StandsAt bytes (begin_of version p i) (cell (start_of p i))
   start_stands i lt =
       let a = agent_there p i lt in
-      rw a.1 (front_stands bytes (begin_of p i) (cell a.0.start) (cell a.0.goal ++ number (length a.0.actions) ++ flat_map action a.0.actions) (agent_stands i a.0 a.1))
+      rw a.1 (front_stands bytes (begin_of version p i) (cell a.0.start) (cell a.0.goal ++ count_of version (length a.0.actions) ++ flat_map (action version) a.0.actions) (agent_stands i a.0 a.1))
 
-  goal_on : (i : ℕ) (a : AgentProgram) → slice_get p i ≡ Some a → StandsAt bytes (begin_of p i + 4) (cell a.goal ++ number (length a.actions) ++ flat_map action a.actions)
-  goal_on i a e = back_stands bytes (begin_of p i) (cell a.start) (cell a.goal ++ number (length a.actions) ++ flat_map action a.actions) (agent_stands i a e)
+  goal_on : (i : ℕ) (a : AgentProgram) → slice_get p i ≡ Some a → StandsAt bytes (begin_of version p i + 4) (cell a.goal ++ count_of version (length a.actions) ++ flat_map (action version) a.actions)
+  goal_on i a e = back_stands bytes (begin_of version p i) (cell a.start) (cell a.goal ++ count_of version (length a.actions) ++ flat_map (action version) a.actions) (agent_stands i a e)
 
-  pub goal_stands : (i : ℕ) → i < length p → StandsAt bytes (begin_of p i + 4) (cell (goal_of p i))
+  pub goal_stands : (i : ℕ) → i < length p → StandsAt bytes (begin_of version p i + 4) (cell (goal_of p i))
   goal_stands i lt =
       let a = agent_there p i lt in
-      rw a.1 (front_stands bytes (begin_of p i + 4) (cell a.0.goal) (number (length a.0.actions) ++ flat_map action a.0.actions) (goal_on i a.0 a.1))
+      rw a.1 (front_stands bytes (begin_of version p i + 4) (cell a.0.goal) (count_of version (length a.0.actions) ++ flat_map (action version) a.0.actions) (goal_on i a.0 a.1))
 
-  pub actions_stand : (i : ℕ) → i < length p → StandsAt bytes (begin_of p i + 10) (flat_map action (actions_of p i))
+  pub actions_stand : (i : ℕ) → i < length p → StandsAt bytes (begin_of version p i + (head_len version)) (flat_map (action version) (actions_of p i))
   actions_stand i lt =
       let a = agent_there p i lt in
-      let number_on = back_stands bytes (begin_of p i + 4) (cell a.0.goal) (number (length a.0.actions) ++ flat_map action a.0.actions) (goal_on i a.0 a.1) in
-      let last = back_stands bytes (begin_of p i + 4 + 4) (number (length a.0.actions)) (flat_map action a.0.actions) number_on in
-      let sum : begin_of p i + 4 + 4 + 2 ≡ begin_of p i + 10 = omega arith in
-      rw a.1 (subst (λ k. StandsAt bytes k (flat_map action a.0.actions)) sum last)
+      let number_on = back_stands bytes (begin_of version p i + 4) (cell a.0.goal) (count_of version (length a.0.actions) ++ flat_map (action version) a.0.actions) (goal_on i a.0 a.1) in
+      let last = back_stands bytes (begin_of version p i + 4 + 4) (count_of version (length a.0.actions)) (flat_map (action version) a.0.actions) number_on in
+      let sum : begin_of version p i + 4 + 4 + length (count_of version (length a.0.actions)) ≡ begin_of version p i + head_len version = let wide = count_long version (length a.0.actions) in omega (arith, wide) in
+      rw a.1 (subst (λ k. StandsAt bytes k (flat_map (action version) a.0.actions)) sum last)
 
-  pub end_within : (i n : ℕ) → i < length p → end_of p i n ≤ length bytes
+  pub end_within : (i n : ℕ) → i < length p → end_of version p i n ≤ length bytes
   end_within i n lt =
       let a = agent_there p i lt in
-      let all = stands_within bytes (begin_of p i) (agent a.0) (agent_stands i a.0 a.1) (omega arith) in
-      let some = some_pieces action a.0.actions n in
-      rw a.1 (omega (arith, all, some))
+      let all = stands_within bytes (begin_of version p i) (agent version a.0) (agent_stands i a.0 a.1) (agent_long version a.0).0 in
+      let long = (agent_long version a.0).1 in
+      let some = some_pieces (action version) a.0.actions n in
+      rw a.1 (omega (arith, all, some, long))
 
-  pub action_stands : (i n : ℕ) (s : Action) → i < length p → slice_get (actions_of p i) n ≡ Some s → StandsAt bytes (end_of p i n) (action s)
-  action_stands i n s lt e = piece_stands action bytes (begin_of p i + 10) (actions_of p i) n s (actions_stand i lt) e
+  pub action_stands : (i n : ℕ) (s : Action) → i < length p → slice_get (actions_of p i) n ≡ Some s → StandsAt bytes (end_of version p i n) (action version s)
+  action_stands i n s lt e = piece_stands (action version) bytes (begin_of version p i + (head_len version)) (actions_of p i) n s (actions_stand i lt) e
 
-pub next_end : (p : Program) (i n : ℕ) (s : Action) → slice_get (actions_of p i) n ≡ Some s → end_of p i (suc n) ≡ end_of p i n + length (action s)
-next_end p i n s e = let more = one_more_piece action (actions_of p i) n s e in omega (arith, more)
+pub next_end : (version : Version) (p : Program) (i n : ℕ) (s : Action) → slice_get (actions_of p i) n ≡ Some s → end_of version p i (suc n) ≡ end_of version p i n + length (action version s)
+next_end version p i n s e = let more = one_more_piece (action version) (actions_of p i) n s e in omega (arith, more)
 
 -- ---- what stands in the bytes of an action
 
-pub awaits_length : (awaits : List Await) → length (flat_map await awaits) ≡ 5 * length awaits
-awaits_length [] = refl
-awaits_length (w ∷ awaits) = let rest = awaits_length awaits in omega (arith, rest)
+pub action_long : (version : Version) (s : Action) → length (action version s) ≡ await_len version * length s.awaits + 1
+action_long version s = let awaits = awaits_len version s.awaits in let sum = length-append (flat_map (await version) s.awaits) (opcode s.step ∷ []) in omega (arith, awaits, sum)
 
-pub action_long : (s : Action) → length (action s) ≡ 5 * length s.awaits + 1
-action_long s = let awaits = awaits_length s.awaits in let sum = length-append (flat_map await s.awaits) (opcode s.step ∷ []) in omega (arith, awaits, sum)
-
-module _ {bytes : List ℕ} {p : Program} {parts : List PartOffsets} (v : IsViewOf bytes p parts) where
+module _ {version : Version} {bytes : List ℕ} {p : Program} {parts : List PartOffsets} (v : IsViewOf version bytes p parts) where
   pub await_stands : (i n k : ℕ) (s : Action) (w : Await) → i < length p → slice_get (actions_of p i) n ≡ Some s → slice_get s.awaits k ≡ Some w
-      → StandsAt bytes (end_of p i n + 5 * k) (await w)
+      → StandsAt bytes (end_of version p i n + (await_len version) * k) (await version w)
   await_stands i n k s w lt e f =
-      let all = front_stands bytes (end_of p i n) (flat_map await s.awaits) (opcode s.step ∷ []) (action_stands v i n s lt e) in
+      let all = front_stands bytes (end_of version p i n) (flat_map (await version) s.awaits) (opcode s.step ∷ []) (action_stands v i n s lt e) in
       let few = slice_get_within s.awaits k w f in
-      let before : length (flat_map await (take k s.awaits)) ≡ 5 * k = awaits_length (take k s.awaits) ∙ ap (λ (n : ℕ). 5 * n) (length-take-le k s.awaits (omega (arith, few))) in
-      subst (λ (m : ℕ). StandsAt bytes (end_of p i n + m) (await w)) before (piece_stands await bytes (end_of p i n) s.awaits k w all f)
+      let before : length (flat_map (await version) (take k s.awaits)) ≡ await_len version * k = awaits_len version (take k s.awaits) ∙ ap (λ (n : ℕ). await_len version * n) (length-take-le k s.awaits (omega (arith, few))) in
+      subst (λ (m : ℕ). StandsAt bytes (end_of version p i n + m) (await version w)) before (piece_stands (await version) bytes (end_of version p i n) s.awaits k w all f)
 
   -- the last byte of an action
-  pub opcode_stands : (i n : ℕ) (s : Action) → i < length p → slice_get (actions_of p i) n ≡ Some s → StandsAt bytes (end_of p i (suc n) - 1) (opcode s.step ∷ [])
+  pub opcode_stands : (i n : ℕ) (s : Action) → i < length p → slice_get (actions_of p i) n ≡ Some s → StandsAt bytes (end_of version p i (suc n) - 1) (opcode s.step ∷ [])
   opcode_stands i n s lt e =
-      let next = next_end p i n s e in
-      let long = action_long s in
-      let awaits = awaits_length s.awaits in
-      let same : end_of p i n + length (flat_map await s.awaits) ≡ end_of p i (suc n) - 1 = omega (arith, next, long, awaits) in
-      subst (λ (m : ℕ). StandsAt bytes m (opcode s.step ∷ [])) same (back_stands bytes (end_of p i n) (flat_map await s.awaits) (opcode s.step ∷ []) (action_stands v i n s lt e))
+      let next = next_end version p i n s e in
+      let long = action_long version s in
+      let awaits = awaits_len version s.awaits in
+      let same : end_of version p i n + length (flat_map (await version) s.awaits) ≡ end_of version p i (suc n) - 1 = omega (arith, next, long, awaits) in
+      subst (λ (m : ℕ). StandsAt bytes m (opcode s.step ∷ [])) same (back_stands bytes (end_of version p i n) (flat_map (await version) s.awaits) (opcode s.step ∷ []) (action_stands v i n s lt e))
 
 -- the byte that stands there
 pub byte_is : (bytes : List ℕ) (at b d : ℕ) → StandsAt bytes at (b ∷ []) → slice_index_or bytes at d ≡ b
@@ -191,47 +211,62 @@ byte_is bytes at b d h =
     let moved : slice_index_or (drop at bytes) 0 d ≡ slice_index_or bytes at d = get_or-drop at bytes 0 d ∙ ap (λ (k : ℕ). slice_index_or bytes k d) (add-zero at) in
     sym moved ∙ ap (λ (text : List ℕ). slice_index_or text 0 d) h.1
 
--- the view of a program is that of what its bytes spell
-pub viewed : {bytes : List ℕ} {p q : Program} {parts : List PartOffsets} → p ≡ q → IsViewOf bytes p parts → IsViewOf bytes q parts
-viewed {bytes = bytes} {parts = parts} same v = subst (λ (r : Program). IsViewOf bytes r parts) same v
+-- what is read of the bytes is the program in them
+pub program_found : (bytes : List ℕ) (p : Program) → program_at bytes ≡ Ok p → program_in bytes ≡ p
+program_found bytes p e = ap (λ (r : Result Program LoadFault). result_unwrap_or r []) e
 
-pub end_is : (p : Program) (i n begin offset : ℕ) (part : PartOffsets) → part ≡ part_at p i → begin ≡ part.begin → offset ≡ slice_index_or part.offsets n 0 → n ≤ moves p i
-    → begin + offset ≡ end_of p i n
-end_is p i n begin offset part e f g le =
+pub view_is : (version : Version) (bytes : List ℕ) (p : Program) (parts : List PartOffsets) → program_at bytes ≡ Ok p → SpellsIn version bytes p → parts ≡ parts_of version 6 p → IsViewOf version bytes (program_in bytes) parts
+view_is version bytes p parts e spelled parts_are = subst (λ (q : Program). IsViewOf version bytes q parts) (sym (program_found bytes p e)) (record { spelled = spelled; parts_are = parts_are })
+
+-- the view of a program is that of what its bytes spell
+pub viewed : {version : Version} {bytes : List ℕ} {p : Program} {parts : List PartOffsets} {w : Viewed} → ◌≡◌ {A = Viewed} (record { version = version; program = p }) w → IsViewOf version bytes p parts → IsViewOf w.version bytes w.program parts
+viewed {bytes = bytes} {parts = parts} same v = subst (λ (w : Viewed). IsViewOf w.version bytes w.program parts) same v
+
+-- what is kept of an action's offset
+pub offset_is : (version : Version) (p : Program) (i n offset : ℕ) (part : PartOffsets) → part ≡ part_at version p i → offset ≡ slice_index_or part.offsets n 0 → n ≤ moves p i → offset ≡ n + awaits_before p i n
+offset_is version p i n offset part e g le =
     let found = get_or_from_slice_get (0 ∷ ends_of 0 (actions_of p i)) n _ 0 (end_found 0 (actions_of p i) n le) in
-    let begins : begin ≡ begin_of p i + 10 = f ∙ ap (λ (part : PartOffsets). part.begin) e in
-    let read : offset ≡ 0 + length (flat_map action (take n (actions_of p i))) = g ∙ ap (λ (part : PartOffsets). slice_index_or part.offsets n 0) e ∙ found in
-    omega (arith, begins, read)
+    let read : offset ≡ 0 + (n + awaits_in (take n (actions_of p i))) = g ∙ ap (λ (part : PartOffsets). slice_index_or part.offsets n 0) e ∙ found in
+    omega (arith, read)
+
+pub end_is : (version : Version) (p : Program) (i n begin awaits : ℕ) (part : PartOffsets) → part ≡ part_at version p i → begin ≡ part.begin → awaits ≡ awaits_before p i n → n ≤ moves p i
+    → begin + n + await_len version * awaits ≡ end_of version p i n
+end_is version p i n begin awaits part e f g le =
+    let begins : begin ≡ begin_of version p i + head_len version = f ∙ ap (λ (part : PartOffsets). part.begin) e in
+    let times : await_len version * awaits ≡ await_len version * awaits_in (take n (actions_of p i)) = ap (λ (k : ℕ). await_len version * k) g in
+    let long = actions_len version (take n (actions_of p i)) in
+    let taken = length-take-le n (actions_of p i) le in
+    omega (arith, begins, times, long, taken)
 
 -- as many offsets as actions, and one
-pub as_many_offsets : (p : Program) (i : ℕ) (part : PartOffsets) → part ≡ part_at p i → length part.offsets ≡ moves p i + 1
-as_many_offsets p i part e =
+pub as_many_offsets : (version : Version) (p : Program) (i : ℕ) (part : PartOffsets) → part ≡ part_at version p i → length part.offsets ≡ moves p i + 1
+as_many_offsets version p i part e =
     let all = ap (λ (part : PartOffsets). length part.offsets) e in
     let many = ends_length 0 (actions_of p i) in
     omega (arith, all, many)
 
 -- ---- the answers
 
-module _ {bytes : List ℕ} {p : Program} {parts : List PartOffsets} (v : IsViewOf bytes p parts) where
+module _ {version : Version} {bytes : List ℕ} {p : Program} {parts : List PartOffsets} (v : IsViewOf version bytes p parts) where
   -- action n of agent i ends with its opcode
-  pub action_read : (i n : ℕ) → i < length p → 1 ≤ n → n ≤ moves p i → (s : Action) × (action_of p i n ≡ Some s) × StandsAt bytes (end_of p i n - 1) (opcode s.step ∷ [])
+  pub action_read : (i n : ℕ) → i < length p → 1 ≤ n → n ≤ moves p i → (s : Action) × (action_of p i n ≡ Some s) × StandsAt bytes (end_of version p i n - 1) (opcode s.step ∷ [])
   action_read i zero lt some le = absurd (omega arith)
   action_read i (suc n) lt some le =
       let s = action_there p i (suc n) some le in
       let same : suc n - 1 ≡ n = omega arith in
       (s.0, s.1, opcode_stands v i n s.0 lt (rw same at s.2))
 
-  pub is_a_move : (i n : ℕ) (s : Action) → i < length p → action_of p i n ≡ Some s → IsTrue (is_move s.step)
-  is_a_move i zero s lt e = absurd cc
-  is_a_move i (suc n) s lt e =
+  pub is_spellable : (i n : ℕ) (s : Action) → i < length p → action_of p i n ≡ Some s → IsSpellable version s
+  is_spellable i zero s lt e = absurd cc
+  is_spellable i (suc n) s lt e =
       let a = agent_there p i lt in
       let there : slice_get a.0.actions n ≡ Some s = rw a.1 at e in
-      let moves = subst (λ (b : AgentProgram). AreMoves b.actions) (get_or_from_slice_get p i a.0 a.0 a.1) (All-get_or (λ (b : AgentProgram). AreMoves b.actions) p i a.0 lt v.spelled.moves) in
-      subst (λ (b : Action). IsTrue (is_move b.step)) (get_or_from_slice_get a.0.actions n s s there) (All-get_or (λ (b : Action). IsTrue (is_move b.step)) a.0.actions n s (slice_get_within a.0.actions n s there) moves)
+      let own = subst (IsSpellableAgent version) (get_or_from_slice_get p i a.0 a.0 a.1) (All-get_or (IsSpellableAgent version) p i a.0 lt v.spelled.spellable) in
+      subst (IsSpellable version) (get_or_from_slice_get a.0.actions n s s there) (All-get_or (IsSpellable version) a.0.actions n s (slice_get_within a.0.actions n s there) own.actions)
 
   -- await k of action n of agent i is there
   pub await_read : (i n k : ℕ) → i < length p → 1 ≤ n → n ≤ moves p i → k < length (awaits_of p i n)
-      → (w : Await) × (slice_get (awaits_of p i n) k ≡ Some w) × (w.agent < 65536) × (w.count < 65536) × StandsAt bytes (end_of p i (n - 1) + 5 * k) (await w)
+      → (w : Await) × (slice_get (awaits_of p i n) k ≡ Some w) × (w.agent < 65536) × (w.count ≤ (most_count version)) × StandsAt bytes (end_of version p i (n - 1) + (await_len version) * k) (await version w)
   await_read i n k lt some le within =
       let s = action_there p i n some le in
       let same : awaits_of p i n ≡ s.0.awaits = ap (λ (o : Option Action). option_map_or (λ a. a.awaits) o []) s.1 in
@@ -240,37 +275,31 @@ module _ {bytes : List ℕ} {p : Program} {parts : List PartOffsets} (v : IsView
             let w = found.0 in
             let right = v.spelled.well_formed.awaits i n in
             let few = v.spelled.well_formed.few_agents in
-            let agent : w.agent < length p = subst (λ (w : Await). w.agent < length p) found.3 (All-get_or (λ (w : Await). w.agent < length p) (awaits_of p i n) k w within right.agents) in
-            let count : w.count ≤ 65535 = subst (λ (w : Await). w.count ≤ 65535) found.3 (All-get_or (λ (w : Await). w.count ≤ 65535) (awaits_of p i n) k w within right.few) in
-            (w, found.2, omega (arith, agent, few), omega (arith, count), await_stands v i (n - 1) k s.0 w lt s.2 (rw same at found.2)))
+            let named : w.agent < length p = subst (λ (w : Await). w.agent < length p) found.3 (All-get_or (λ (w : Await). w.agent < length p) (awaits_of p i n) k w within right.agents) in
+            let counts : All (λ (w : Await). w.count ≤ (most_count version)) (awaits_of p i n) = rw same (is_spellable i n s.0 lt s.1).counts in
+            let fits : w.count ≤ most_count version = subst (λ (w : Await). w.count ≤ (most_count version)) found.3 (All-get_or (λ (w : Await). w.count ≤ (most_count version)) (awaits_of p i n) k w within counts) in
+            (w, found.2, omega (arith, named, few), fits, await_stands v i (n - 1) k s.0 w lt s.2 (rw same at found.2)))
         | inr past ↦ (let over = past.0 in absurd (omega (arith, over, within)))
       ]
 
   -- the byte there is the opcode of action n of agent i, which is a move
-  pub opcode_read : (i n at : ℕ) (s : Action) → i < length p → action_of p i n ≡ Some s → at ≡ end_of p i n - 1 → StandsAt bytes (end_of p i n - 1) (opcode s.step ∷ [])
+  pub opcode_read : (i n at : ℕ) (s : Action) → i < length p → action_of p i n ≡ Some s → at ≡ end_of version p i n - 1 → StandsAt bytes (end_of version p i n - 1) (opcode s.step ∷ [])
       → move_at (slice_index_or bytes at 0) ≡ Some s.step
-  opcode_read i n at s lt e f there = ap move_at (ap (λ (k : ℕ). slice_index_or bytes k 0) f ∙ byte_is bytes (end_of p i n - 1) (opcode s.step) 0 there) ∙ move_again s.step (is_a_move i n s lt e)
+  opcode_read i n at s lt e f there = ap move_at (ap (λ (k : ℕ). slice_index_or bytes k 0) f ∙ byte_is bytes (end_of version p i n - 1) (opcode s.step) 0 there) ∙ move_again s.step (is_spellable i n s lt e).move
 
 pub some_is_not_none : {A : Type 0} {x : A} → Some x ≡ None → ⊥
 some_is_not_none e = absurd cc
 
--- action n of agent i has five bytes for each await and one for its step
-action_ends : (p : Program) (i n : ℕ) → 1 ≤ n → n ≤ moves p i → (s : Action) × (action_of p i n ≡ Some s) × (end_of p i n ≡ end_of p i (n - 1) + (5 * length s.awaits + 1))
-action_ends p i zero some le = absurd (omega arith)
-action_ends p i (suc n) some le =
-    let s = action_there p i (suc n) some le in
-    let same : suc n - 1 ≡ n = omega arith in
-    let long = action_long s.0 in
-    let next = next_end p i n s.0 (rw same at s.2) in
-    (s.0, s.1, rw same (omega (arith, next, long)))
+-- an await's bytes
+pub await_long : (version : Version) (w : Await) → length (await version w) ≡ await_len version
+await_long One w = refl
+await_long Two w = refl
 
-pub ends_rise : (p : Program) (i n end before : ℕ) → 1 ≤ n → n ≤ moves p i → end ≡ end_of p i n → before ≡ end_of p i (n - 1) → before ≤ end
-ends_rise p i n end before some le e f = let more = (action_ends p i n some le).2 in omega (arith, more, e, f)
-
-pub as_many_awaits : (p : Program) (i n end before : ℕ) → 1 ≤ n → n ≤ moves p i → end ≡ end_of p i n → before ≡ end_of p i (n - 1) → (end - before) / 5 ≡ length (awaits_of p i n)
-as_many_awaits p i n end before some le e f =
-    let s = action_ends p i n some le in
-    let more = s.2 in
-    let same : awaits_of p i n ≡ s.0.awaits = ap (λ (o : Option Action). option_map_or (λ a. a.awaits) o []) s.1 in
-    let len = ap length same in
-    omega (arith, more, len, e, f)
+-- an action's own awaits
+pub own_awaits : (p : Program) (i n : ℕ) → 1 ≤ n → awaits_before p i n ≡ awaits_before p i (n - 1) + length (awaits_of p i n)
+own_awaits p i zero some = absurd (omega arith)
+own_awaits p i (suc n) some =
+    let one : suc n - 1 ≡ n = omega arith in
+    let next : n + 1 ≡ suc n = omega arith in
+    let more : awaits_before p i (suc n) ≡ awaits_before p i n + length (awaits_of p i (suc n)) = rw next at (awaits_more p i n) in
+    rw one more

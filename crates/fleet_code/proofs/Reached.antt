@@ -9,9 +9,10 @@ use Rattle.std.proofs.lemmas.List.Concat.{flat_map-cons}
 use Rattle.std.proofs.lemmas.Grind.{flat_map-append}
 use Rattle.fleet_model.specs.declared.program.Await.{Await}
 use Rattle.fleet_model.specs.declared.program.AgentProgram.{AgentProgram}
-use Rattle.fleet_model.specs.Program.{Program, AreMoves, IsAgent, total_moves}
+use Rattle.fleet_model.specs.Program.{Program, IsAgent, total_moves}
 use Rattle.fleet_model.proofs.OnePass.{AgentsFrom}
-use Rattle.fleet_code.specs.Spelling.{magic, number, cell, await, action, agent}
+use Rattle.fleet_code.specs.declared.format.Version.{Version}
+use Rattle.fleet_code.specs.Spelling.{magic, number, count as count_of, cell, await, action, agent, IsSpellableAgent}
 use Rattle.fleet_code.specs.LoadFaults.{ReachesAgent, ReachesAction, ReachesOpcode}
 
 -- ---- the agents before
@@ -88,15 +89,15 @@ pub front_more : {X : Type 0} (f : X → List ℕ) (front : List ℕ) (xs : List
 front_more f front xs x bytes rest after e here =
     e ∙ append_assoc front (flat_map f xs) rest ∙ ap (λ (t : List ℕ). front ++ t) (parts_more f xs x (flat_map f xs ++ rest) rest after refl here) ∙ sym (append_assoc front (flat_map f (xs ++ x ∷ [])) after)
 
-pub agent_reached : (bytes : List ℕ) (n : ℕ) (p : Program) (a : AgentProgram) (rest after : List ℕ) → ReachesAgent bytes n p rest → IsAgent n (length p) a → AreMoves a.actions
-    → total_moves p + length a.actions ≤ 4194304 → rest ≡ agent a ++ after → ReachesAgent bytes n (p ++ a ∷ []) after
-agent_reached bytes n p a rest after r own moves le parts = record {
+pub agent_reached : (v : Version) (bytes : List ℕ) (n : ℕ) (p : Program) (a : AgentProgram) (rest after : List ℕ) → ReachesAgent v bytes n p rest → IsAgent n (length p) a → IsSpellableAgent v a
+    → total_moves p + length a.actions ≤ 4194304 → rest ≡ agent v a ++ after → ReachesAgent v bytes n (p ++ a ∷ []) after
+agent_reached v bytes n p a rest after r own spellable le parts = record {
   some = r.some;
   few = r.few;
   agents = let same : 0 + length p ≡ length p = omega arith in to_first n (p ++ a ∷ []) (each_more n 0 p a (from_first n p r.agents) (rw same own));
-  moves = All-append (λ (b : AgentProgram). AreMoves b.actions) p (a ∷ []) r.moves (All-cons (λ (b : AgentProgram). AreMoves b.actions) a [] moves (All-nil (λ (b : AgentProgram). AreMoves b.actions)));
+  spellable = All-append (IsSpellableAgent v) p (a ∷ []) r.spellable (All-cons (IsSpellableAgent v) a [] spellable (All-nil (IsSpellableAgent v)));
   total = omega (arith, total_more p a, le);
-  parts = front_more agent (magic ++ number n) p a bytes rest after r.parts parts;
+  parts = front_more (agent v) ((magic v) ++ number n) p a bytes rest after r.parts parts;
 }
 
 -- ---- how many bytes are left
@@ -104,18 +105,18 @@ agent_reached bytes n p a rest after r own moves le parts = record {
 shorter : (bytes front rest : List ℕ) → bytes ≡ front ++ rest → length rest ≤ length bytes
 shorter bytes front rest e = let same = ap length e in omega (arith, same, length-append front rest)
 
-pub agent_left : (bytes : List ℕ) (n : ℕ) (p : Program) (rest : List ℕ) → ReachesAgent bytes n p rest → length rest ≤ length bytes
-agent_left bytes n p rest r = shorter bytes (magic ++ number n ++ flat_map agent p) rest r.parts
+pub agent_left : (v : Version) (bytes : List ℕ) (n : ℕ) (p : Program) (rest : List ℕ) → ReachesAgent v bytes n p rest → length rest ≤ length bytes
+agent_left v bytes n p rest r = shorter bytes ((magic v) ++ number n ++ flat_map (agent v) p) rest r.parts
 
-action_left : (bytes : List ℕ) (n i : ℕ) (rest : List ℕ) → ReachesAction bytes n i rest → length rest ≤ length bytes
-action_left bytes n i rest r =
-    let agents = agent_left bytes n r.before r.at_agent r.agents in
-    let head = shorter r.at_agent (cell r.head.start ++ cell r.head.goal ++ number r.count) r.at_actions r.head.parts in
-    let actions = shorter r.at_actions (flat_map action r.actions) rest r.parts in
+action_left : (v : Version) (bytes : List ℕ) (n i : ℕ) (rest : List ℕ) → ReachesAction v bytes n i rest → length rest ≤ length bytes
+action_left v bytes n i rest r =
+    let agents = agent_left v bytes n r.before r.at_agent r.agents in
+    let head = shorter r.at_agent (cell r.head.start ++ cell r.head.goal ++ count_of v r.count) r.at_actions r.head.parts in
+    let actions = shorter r.at_actions (flat_map (action v) r.actions) rest r.parts in
     omega (arith, agents, head, actions)
 
-pub opcode_left : (bytes : List ℕ) (n i : ℕ) (ws : List Await) (rest : List ℕ) → ReachesOpcode bytes n i ws rest → length rest ≤ length bytes
-opcode_left bytes n i ws rest r =
-    let action = action_left bytes n i r.at_action r.actions in
-    let awaits = shorter r.at_action (flat_map await ws) rest r.parts in
-    omega (arith, action, awaits)
+pub opcode_left : (v : Version) (bytes : List ℕ) (n i : ℕ) (ws : List Await) (rest : List ℕ) → ReachesOpcode v bytes n i ws rest → length rest ≤ length bytes
+opcode_left v bytes n i ws rest r =
+    let actions = action_left v bytes n i r.at_action r.actions in
+    let awaits = shorter r.at_action (flat_map (await v) ws) rest r.parts in
+    omega (arith, actions, awaits)

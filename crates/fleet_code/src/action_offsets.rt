@@ -1,17 +1,18 @@
-//! The offsets of an agent's actions, of which no more are kept than tell them.
+//! Where an agent's actions begin, counted in opcodes, of which no more is kept than tells it.
 
-ghost use Rattle.std.specs.Prelude.{◌≡◌, ◌<◌, ◌≤◌, ◌+◌, ◌^◌, All, length, slice_index_or};
+ghost use Rattle.std.specs.Prelude.{◌≡◌, ◌<◌, ◌≤◌, ◌+◌, ◌-◌, ◌^◌, All, length, slice_index_or};
 ghost use Rattle.std.specs.List.{range_with_len};
 ghost use Rattle.fleet_code.specs.Offsets.{IsEvenFrom};
 
 use std::alloc::Global;
 use std::marker::Model;
 
-/// Where each of so many actions begins, counted from the first, and last where the last one ends. Where from one action on
-/// all have as many bytes as each other, the offsets after its own are not kept.
+/// How many opcodes stand before each of so many actions, counted from the first, and last how many they have together: an
+/// action has one for each await and one for its move. Where from one action on all have as many as each other, the offsets
+/// after its own are not kept.
 #[derive(Debug, Drop)]
 pub struct ActionOffsets {
-    actions: u16,
+    actions: u32,
     kept: Vec<u32>,
     stride: u32,
 }
@@ -28,8 +29,9 @@ impl Model for ActionOffsets {
 }
 
 impl ActionOffsets {
-    /// The offsets of actions of one byte each, of which none is kept.
-    pub fn bare(alloc: Global, actions: u16) -> Self
+    /// The offsets of actions without awaits, of which none is kept.
+    pub fn bare(alloc: Global, actions: u32) -> Self
+        requires { actions < 2 ^ 32 - 1 }
         ensures { result ≡ range_with_len 0 (actions + 1) }
     {
         ActionOffsets {
@@ -40,7 +42,7 @@ impl ActionOffsets {
     }
 
     /// These offsets of so many actions.
-    pub fn of(actions: u16, offsets: Vec<u32>) -> Self
+    pub fn of(actions: u32, offsets: Vec<u32>) -> Self
         requires { length offsets.items ≡ actions + 1 }
         ensures { result ≡ offsets.items }
     {
@@ -56,13 +58,13 @@ impl ActionOffsets {
     }
 
     /// How many actions there are.
-    pub fn actions(&self) -> u16
+    pub fn actions(&self) -> u32
         ensures { length self.now ≡ result + 1 }
     {
         self.actions
     }
 
-    /// Where action `n + 1` begins, and after the last where that one ends.
+    /// How many opcodes stand before action `n + 1`, and after the last how many there are.
     pub fn get(&self, n: u32) -> u32
         requires { n < length self.now }
         ensures { result ≡ slice_index_or self.now n 0 }

@@ -6,12 +6,13 @@ ghost use Rattle.fleet_model.specs.declared.program.Await.{Await};
 ghost use Rattle.fleet_model.specs.declared.program.AgentProgram.{AgentProgram};
 ghost use Rattle.fleet_model.specs.Answer.{IsDueUnless};
 ghost use Rattle.fleet_model.specs.Program.{IsCell, IsWellFormed, moves};
-ghost use Rattle.fleet_code.specs.Spelling.{Spells, SpellsNothing, number, cell, await};
+ghost use Rattle.fleet_code.specs.Spelling.{Spells, SpellsNothing, number, count, count_len, most_count, cell, await};
 ghost use Rattle.fleet_code.specs.LoadFaults.{IsFirstLoadFault};
-ghost use Rattle.fleet_code.specs.Offsets.{StandsAt, begin_of, end_of, part_at};
+ghost use Rattle.fleet_code.specs.Offsets.{Viewed, StandsAt, await_len, awaits_before, begin_of, end_of, part_at};
 
 use crate::fault::LoadFault;
-use crate::format::{AGENT_LEN, AWAIT_LEN, CELL_LEN, NUMBER_LEN, move_of};
+use crate::fields::version_of;
+use crate::format::{CELL_LEN, NUMBER_LEN, Version, move_of};
 use crate::offsets::{Part, parts_in};
 use fleet_model::{Await, Cell, ProgramView, Step};
 use std::alloc::Global;
@@ -22,30 +23,30 @@ use std::marker::Model;
 #[derive(Debug, Drop)]
 pub struct CodeView<'a> {
     bytes: &'a [u8],
+    version: Version,
     parts: Vec<Part>,
 }
 
 impl<'a> Model for CodeView<'a> {
-    ghost use Rattle.std.specs.Prelude.{List};
-    ghost use Rattle.fleet_model.specs.declared.program.AgentProgram.{AgentProgram};
-    ghost use Rattle.fleet_code.specs.Offsets.{program_in, IsViewOf};
+    ghost use Rattle.fleet_code.specs.Offsets.{Viewed, program_in, IsViewOf};
 
-    ghost Value = { List AgentProgram };
+    ghost Value = { Viewed };
 
-    ghost view = { λ v. program_in v.bytes.now };
+    ghost view = { λ v. record { version = v.version; program = program_in v.bytes.now } };
 
-    ghost invariant = { λ v. IsViewOf v.bytes.now (program_in v.bytes.now) v.parts.items };
+    ghost invariant = { λ v. IsViewOf v.version v.bytes.now (program_in v.bytes.now) v.parts.items };
 }
 
-/// The program that the bytes spell, all of the bytes (this project's own format, version 1), read in place.
+/// The program that the bytes spell, all of the bytes (this project's own format, version 1 or 2), read in place.
 ///
 /// A number that the bytes announce reserves no more than the bytes that are there can fill.
 pub fn view(alloc: Global, bytes: &[u8]) -> Result<CodeView<'_>, LoadFault>
     // What is viewed is well formed, never stays, and is spelled so.
-    ensures found { IfOk result (Spells bytes.now) }
+    ensures found { IfOk result (λ v. Spells bytes.now v.program) }
 
     // What is spelled so is viewed, unless memory runs out.
-    ensures only { (p : List AgentProgram) → Spells bytes.now p → IsDueUnless (λ q. q) result (Ok p) LoadFault.OutOfMemory }
+    ensures only { (p : List AgentProgram) → Spells bytes.now p
+        → IsDueUnless (λ v. v.program) result (Ok p) LoadFault.OutOfMemory }
 
     // Which fault it is: the first one from the front.
     ensures fault { IfErr result (λ e. e ≢ LoadFault.OutOfMemory → IsFirstLoadFault bytes.now e) }
@@ -53,8 +54,13 @@ pub fn view(alloc: Global, bytes: &[u8]) -> Result<CodeView<'_>, LoadFault>
     // Bytes that are refused for another cause than memory spell no program.
     ensures refused { IfErr result (λ e. e ≢ LoadFault.OutOfMemory → SpellsNothing bytes.now) }
 {
-    let parts = parts_in(alloc, bytes)?;
-    Ok(CodeView { bytes, parts })
+    let version = version_of(bytes);
+    let parts = parts_in(alloc, version, bytes)?;
+    Ok(CodeView {
+        bytes,
+        version,
+        parts,
+    })
 }
 
 /// The number that stands there.
@@ -63,6 +69,25 @@ fn number_in(bytes: &[u8], at: usize) -> u16
     ensures { (n : ℕ) → n < 65536 → StandsAt bytes.now at (number n) → result ≡ n }
 {
     u16::from_be_bytes([bytes[at], bytes[at + 1]])
+}
+
+/// The number of four bytes that stands there.
+fn long_number_in(bytes: &[u8], at: usize) -> u32
+    requires { at + 4 ≤ length bytes.now }
+    ensures { (n : ℕ) → n < 4294967296 → StandsAt bytes.now at (count Version.Two n) → result ≡ n }
+{
+    u32::from_be_bytes([bytes[at], bytes[at + 1], bytes[at + 2], bytes[at + 3]])
+}
+
+/// The number of moves or the count that stands there.
+fn count_in(version: Version, bytes: &[u8], at: usize) -> u32
+    requires { at + count_len version ≤ length bytes.now }
+    ensures { (n : ℕ) → n ≤ most_count version → StandsAt bytes.now at (count version n) → result ≡ n }
+{
+    match version {
+        Version::One => u32::from(number_in(bytes, at)),
+        Version::Two => long_number_in(bytes, at),
+    }
 }
 
 /// The cell that stands there.
@@ -77,49 +102,59 @@ fn cell_in(bytes: &[u8], at: usize) -> Cell
 }
 
 /// The await that stands there, with its opcode.
-fn await_in(bytes: &[u8], at: usize) -> Await
-    requires { at + 5 ≤ length bytes.now }
-    ensures { (w : Await) → w.agent < 65536 → w.count < 65536 → StandsAt bytes.now at (await w) → result ≡ w }
+fn await_in(version: Version, bytes: &[u8], at: usize) -> Await
+    requires { at + await_len version ≤ length bytes.now }
+    ensures { (w : Await) → w.agent < 65536 → w.count ≤ most_count version
+        → StandsAt bytes.now at (await version w) → result ≡ w }
 {
     Await {
         agent: number_in(bytes, at + 1),
-        count: u32::from(number_in(bytes, at + 1 + NUMBER_LEN)),
+        count: count_in(version, bytes, at + 1 + NUMBER_LEN),
     }
 }
 
 impl<'a> CodeView<'a> {
     /// The part of agent `i`.
     fn part(&self, i: u16) -> &Part
-        requires { i < length self.now }
-        ensures value { result.now ≡ part_at self.now i }
-        ensures well_formed { IsWellFormed self.now }
-        ensures short { (n : ℕ) → end_of self.now i n < 2 ^ 64 }
+        requires { i < length self.now.program }
+        ensures value { result.now ≡ part_at self.now.version self.now.program i }
+        ensures well_formed { IsWellFormed self.now.program }
+        ensures short { (n : ℕ) → end_of self.now.version self.now.program i n < 2 ^ 64 }
     {
         &self.parts[usize::from(i)]
     }
 
     /// The offset in the bytes at which the part of agent `i` begins.
     fn begin(&self, i: u16) -> usize
-        requires { i < length self.now }
-        ensures value { result ≡ begin_of self.now i }
+        requires { i < length self.now.program }
+        ensures value { result ≡ begin_of self.now.version self.now.program i }
     {
-        self.part(i).begin() - AGENT_LEN
+        self.part(i).begin() - self.version.head_len()
+    }
+
+    /// How many awaits the first `n` actions of agent `i` have together.
+    fn awaits_before(&self, i: u16, n: u32) -> u32
+        requires agent { i < length self.now.program }
+        requires actions { n ≤ moves self.now.program i }
+        ensures value { result ≡ awaits_before self.now.program i n }
+        ensures well_formed { IsWellFormed self.now.program }
+    {
+        self.part(i).offset(n) - n
     }
 
     /// The offset in the bytes at which the first `n` actions of agent `i` end.
     fn end(&self, i: u16, n: u32) -> usize
-        requires agent { i < length self.now }
-        requires actions { n ≤ moves self.now i }
-        ensures value { result ≡ end_of self.now i n }
-        ensures well_formed { IsWellFormed self.now }
+        requires agent { i < length self.now.program }
+        requires actions { n ≤ moves self.now.program i }
+        ensures { result ≡ end_of self.now.version self.now.program i n }
     {
-        let part = self.part(i);
-        part.begin() + part.offset(n) as usize
+        let awaits = self.awaits_before(i, n) as usize;
+        self.part(i).begin() + n as usize + self.version.await_len() * awaits
     }
 }
 
 impl<'a> ProgramView for CodeView<'a> {
-    ghost program = { λ p. p };
+    ghost program = { λ v. v.program };
 
     fn agents(&self) -> u16 {
         self.parts.len() as u16
@@ -134,7 +169,7 @@ impl<'a> ProgramView for CodeView<'a> {
     }
 
     fn moves(&self, i: u16) -> u32 {
-        u32::from(self.part(i).moves())
+        self.part(i).moves()
     }
 
     fn step(&self, i: u16, p: u32) -> Step {
@@ -145,16 +180,17 @@ impl<'a> ProgramView for CodeView<'a> {
     }
 
     fn never_stays(&self) -> bool {
-        // A field that is read shows that the bytes spell the program, and no byte of version 1 is a stay.
+        // A field that is read shows that the bytes spell the program, and no byte of either version is a stay.
         let _ = &self.bytes;
         true
     }
 
     fn await_count(&self, i: u16, p: u32) -> u16 {
-        ((self.end(i, p) - self.end(i, p - 1)) / AWAIT_LEN) as u16
+        (self.awaits_before(i, p) - self.awaits_before(i, p - 1)) as u16
     }
 
     fn await_at(&self, i: u16, p: u32, k: u16) -> Await {
-        await_in(self.bytes, self.end(i, p - 1) + AWAIT_LEN * usize::from(k))
+        let at = self.end(i, p - 1) + self.version.await_len() * usize::from(k);
+        await_in(self.version, self.bytes, at)
     }
 }

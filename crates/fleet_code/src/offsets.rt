@@ -2,16 +2,16 @@
 
 ghost use Rattle.std.specs.Prelude.{◌≡◌, ◌<◌, ◌≤◌, ◌+◌, ◌-◌, ◌/◌, ◌∷◌, [], min, true, length, vec_len, vec_capacity, IfOk};
 ghost use Rattle.fleet_code.specs.Spelling.{action, agent};
-ghost use Rattle.fleet_code.specs.Reading.{action_at, actions_at, agent_at, agents_at, program_at};
-ghost use Rattle.fleet_code.specs.Offsets.{Finds, AreBare, ends_of, part_of, parts_of};
+ghost use Rattle.fleet_code.specs.Reading.{action_at, actions_at, agent_at, agents_at, program_as};
+ghost use Rattle.fleet_code.specs.Offsets.{Finds, AreBare, opcodes, ends_of, part_of, parts_of};
 
 use crate::action_offsets::ActionOffsets;
 use crate::fault::LoadFault;
-use crate::fields::{after_magic, await_of, cell_of, number_of};
+use crate::fields::{after_magic, await_of, cell_of, count_of, number_of};
 use crate::format::{
-    AGENT_LEN, AWAIT, HEAD_LEN, LAST_MOVE, LEAST_ACTION_LEN, MAX_ACTION_LEN, move_of,
+    AWAIT, HEAD_LEN, LAST_MOVE, LEAST_ACTION_LEN, LEAST_AGENT_LEN, Version, move_of,
 };
-use fleet_model::{MAX_AGENTS, MAX_MOVES_IN_ALL, OutOfMemory};
+use fleet_model::{MAX_AGENTS, MAX_MOVES, MAX_MOVES_IN_ALL, OutOfMemory};
 use std::alloc::Global;
 use std::marker::Model;
 
@@ -41,13 +41,13 @@ impl Part {
     }
 
     /// How many actions there are.
-    pub fn moves(&self) -> u16
+    pub fn moves(&self) -> u32
         ensures { length self.now.offsets ≡ result + 1 }
     {
         self.offsets.actions()
     }
 
-    /// Where action `n + 1` begins, counted from the first, and after the last where that one ends.
+    /// How many opcodes stand before action `n + 1`, counted from the first action, and after the last how many there are.
     pub fn offset(&self, n: u32) -> u32
         requires { n < length self.now.offsets }
         ensures { result ≡ slice_index_or self.now.offsets n 0 }
@@ -60,7 +60,7 @@ impl Part {
 /// and for one item more.
 fn list_for<T>(
     alloc: Global,
-    count: u16,
+    count: u32,
     item_len: usize,
     bytes: &[u8],
 ) -> Result<Vec<T>, OutOfMemory>
@@ -69,66 +69,79 @@ fn list_for<T>(
     ensures len { IfOk result (λ v. vec_len v ≡ 0) }
     ensures room { IfOk result (λ v. vec_capacity v ≡ min count (length bytes.now / item_len) + 1) }
 {
-    Ok(Vec::with_capacity(alloc, usize::from(count).min(bytes.len() / item_len) + 1)?)
+    Ok(Vec::with_capacity(alloc, (count as usize).min(bytes.len() / item_len) + 1)?)
 }
 
-/// The bytes after an action of agent `own`, whose awaits and move are judged.
-fn after_action(whole: usize, agents: u16, own: u16, bytes: &[u8]) -> Result<&[u8], LoadFault>
+/// How many opcodes an action of agent `own` has, whose awaits and move are judged, and the bytes after it.
+fn after_action(
+    version: Version,
+    whole: usize,
+    agents: u16,
+    own: u16,
+    bytes: &[u8],
+) -> Result<(u32, &[u8]), LoadFault>
     requires whole { length bytes.now ≤ whole }
     requires few { agents ≤ MAX_AGENTS }
     ensures value { Finds
-        (λ x due. (x.now ≡ due.1) × (length bytes.now ≡ length (action due.0) + length x.now))
-        result (action_at (length bytes.now) whole agents own 0 bytes.now) }
-    ensures long { IfOk result (λ x. length bytes.now ≤ length x.now + MAX_ACTION_LEN) }
+        (λ x due. (x.0 ≡ opcodes due.0) × (x.1.now ≡ due.1) × (length bytes.now ≡ length (action version due.0) + length x.1.now))
+        result (action_at version (length bytes.now) whole agents own 0 bytes.now) }
+    ensures few { IfOk result (λ x. x.0 ≤ MAX_AGENTS + 1) }
 {
     let mut least = 0;
+    let mut opcodes = 1;
     let mut rest = bytes;
     while let Some((&opcode, after)) = rest.split_first() {
         let at = (whole - rest.len()) as u64;
         if let Some(_) = move_of(opcode) {
-            return Ok(after);
+            return Ok((opcodes, after));
         }
         if opcode != AWAIT {
             return Err(LoadFault::Opcode { at });
         }
-        let (one, after) = await_of(at, agents, own, least, after)?;
+        let (one, after) = await_of(version, at, agents, own, least, after)?;
         least = one.agent + 1;
+        opcodes += 1;
         rest = after;
     }
     Err(LoadFault::Truncated)
 }
 
-/// Where each of the next `count` actions of agent `own` begins, counted from here, and last where the last one ends.
+/// How many opcodes stand before each of the next `count` actions of agent `own`, counted from here, and last how many they
+/// have together.
 fn actions_after(
     alloc: Global,
+    version: Version,
     whole: usize,
     agents: u16,
     own: u16,
-    count: u16,
+    count: u32,
     bytes: &[u8],
 ) -> Result<(Vec<u32>, &[u8]), LoadFault>
     requires whole { length bytes.now ≤ whole }
     requires few { agents ≤ MAX_AGENTS }
+    requires count { count ≤ MAX_MOVES }
     ensures value { Finds (λ x due. (x.0.items ≡ 0 ∷ ends_of 0 due.0) × (x.1.now ≡ due.1))
-        result (actions_at count whole agents own bytes.now) }
+        result (actions_at version count whole agents own bytes.now) }
     ensures count { IfOk result (λ x. vec_len x.0 ≡ count + 1) }
 {
     let mut offsets = list_for(alloc, count, LEAST_ACTION_LEN, bytes)?;
     offsets.push(0).map_err(OutOfMemory::from)?;
+    let mut end = 0;
     let mut rest = bytes;
     for _ in 0..count {
-        rest = after_action(whole, agents, own, rest)?;
-        let end = bytes.len() - rest.len();
-        offsets.push(end as u32).map_err(OutOfMemory::from)?;
+        let (opcodes, after) = after_action(version, whole, agents, own, rest)?;
+        end += opcodes;
+        offsets.push(end).map_err(OutOfMemory::from)?;
+        rest = after;
     }
     Ok((offsets, rest))
 }
 
 /// Whether each of the next `count` bytes is there and a move.
-fn are_bare(count: u16, bytes: &[u8]) -> bool
+fn are_bare(count: u32, bytes: &[u8]) -> bool
     ensures { result ≡ true → AreBare count bytes.now }
 {
-    match bytes.get(..usize::from(count)) {
+    match bytes.get(..count as usize) {
         Some(actions) => actions.iter().all(|&opcode| opcode <= LAST_MOVE),
         None => false,
     }
@@ -137,23 +150,25 @@ fn are_bare(count: u16, bytes: &[u8]) -> bool
 /// The same as `actions_after`, where no more offsets are kept than tell them.
 fn actions_in(
     alloc: Global,
+    version: Version,
     whole: usize,
     agents: u16,
     own: u16,
-    count: u16,
+    count: u32,
     bytes: &[u8],
 ) -> Result<(ActionOffsets, &[u8]), LoadFault>
     requires whole { length bytes.now ≤ whole }
     requires few { agents ≤ MAX_AGENTS }
+    requires count { count ≤ MAX_MOVES }
     ensures value { Finds (λ x due. (x.0 ≡ 0 ∷ ends_of 0 due.0) × (x.1.now ≡ due.1))
-        result (actions_at count whole agents own bytes.now) }
+        result (actions_at version count whole agents own bytes.now) }
     ensures count { IfOk result (λ x. length x.0 ≡ count + 1) }
 {
     if are_bare(count, bytes) {
-        let (_, rest) = bytes.split_at(usize::from(count));
+        let (_, rest) = bytes.split_at(count as usize);
         return Ok((ActionOffsets::bare(alloc, count), rest));
     }
-    let (offsets, rest) = actions_after(alloc, whole, agents, own, count, bytes)?;
+    let (offsets, rest) = actions_after(alloc, version, whole, agents, own, count, bytes)?;
     Ok((ActionOffsets::of(count, offsets), rest))
 }
 
@@ -161,6 +176,7 @@ fn actions_in(
 #[tactic(auto, unfolding(crate::specs::Reading::agent_at))]
 fn agent_after(
     alloc: Global,
+    version: Version,
     whole: usize,
     agents: u16,
     own: u16,
@@ -171,25 +187,26 @@ fn agent_after(
     requires few { agents ≤ MAX_AGENTS }
     requires total { total ≤ MAX_MOVES_IN_ALL }
     ensures value { Finds
-        (λ x due. (x.0 ≡ part_of (whole - length bytes.now) due.0) × (x.1.now ≡ due.1)
-        × (length bytes.now ≡ length (agent due.0) + length x.1.now))
-        result (agent_at whole agents own total bytes.now) }
+        (λ x due. (x.0 ≡ part_of version (whole - length bytes.now) due.0) × (x.1.now ≡ due.1)
+        × (length bytes.now ≡ length (agent version due.0) + length x.1.now))
+        result (agent_at version whole agents own total bytes.now) }
     ensures total { IfOk result (λ x. total + length x.0.offsets ≤ MAX_MOVES_IN_ALL + 1) }
 {
     let (_, rest) = cell_of(bytes)?;
     let (_, rest) = cell_of(rest)?;
-    let (count, rest) = number_of(rest)?;
-    if total + u32::from(count) > MAX_MOVES_IN_ALL {
+    let (count, rest) = count_of(version, rest)?;
+    if count > version.most_moves() || total + count > MAX_MOVES_IN_ALL {
         return Err(LoadFault::Total);
     }
     let begin = whole - rest.len();
-    let (offsets, rest) = actions_in(alloc, whole, agents, own, count, rest)?;
+    let (offsets, rest) = actions_in(alloc, version, whole, agents, own, count, rest)?;
     Ok((Part { begin, offsets }, rest))
 }
 
 /// The parts of all `agents` agents. The input has `whole` bytes, of which these are left.
 fn agents_after(
     alloc: Global,
+    version: Version,
     whole: usize,
     agents: u16,
     bytes: &[u8],
@@ -197,35 +214,35 @@ fn agents_after(
     requires whole { length bytes.now ≤ whole }
     requires few { agents ≤ MAX_AGENTS }
     ensures value { Finds
-        (λ x due. (x.0.items ≡ parts_of (whole - length bytes.now) due.0) × (x.1.now ≡ due.1))
-        result (agents_at agents whole agents 0 0 bytes.now) }
+        (λ x due. (x.0.items ≡ parts_of version (whole - length bytes.now) due.0) × (x.1.now ≡ due.1))
+        result (agents_at version agents whole agents 0 0 bytes.now) }
     ensures shorter { IfOk result (λ x. length x.1.now ≤ length bytes.now) }
 {
-    let mut parts = list_for(alloc, agents, AGENT_LEN, bytes)?;
+    let mut parts = list_for(alloc, u32::from(agents), LEAST_AGENT_LEN, bytes)?;
     let mut total = 0;
     let mut rest = bytes;
     for own in 0..agents {
-        let (part, after) = agent_after(alloc, whole, agents, own, total, rest)?;
-        total += u32::from(part.moves());
+        let (part, after) = agent_after(alloc, version, whole, agents, own, total, rest)?;
+        total += part.moves();
         parts.push(part).map_err(OutOfMemory::from)?;
         rest = after;
     }
     Ok((parts, rest))
 }
 
-/// The parts of the program that the bytes spell, all of the bytes.
+/// The parts of the program that the bytes spell in that version, all of the bytes.
 ///
 /// A number that the bytes announce reserves no more than the bytes that are there can fill.
-#[tactic(auto, unfolding(crate::specs::Reading::program_at))]
-pub fn parts_in(alloc: Global, bytes: &[u8]) -> Result<Vec<Part>, LoadFault>
-    ensures { Finds (λ v due. v.items ≡ parts_of HEAD_LEN due) result (program_at bytes.now) }
+#[tactic(auto, unfolding(crate::specs::Reading::program_as))]
+pub fn parts_in(alloc: Global, version: Version, bytes: &[u8]) -> Result<Vec<Part>, LoadFault>
+    ensures { Finds (λ v due. v.items ≡ parts_of version HEAD_LEN due) result (program_as version bytes.now) }
 {
-    let rest = after_magic(bytes)?;
+    let rest = after_magic(version, bytes)?;
     let (agents, rest) = number_of(rest)?;
     if agents == 0 || usize::from(agents) > MAX_AGENTS {
         return Err(LoadFault::AgentCount);
     }
-    let (parts, rest) = agents_after(alloc, bytes.len(), agents, rest)?;
+    let (parts, rest) = agents_after(alloc, version, bytes.len(), agents, rest)?;
     if !rest.is_empty() {
         let at = (bytes.len() - rest.len()) as u64;
         return Err(LoadFault::Trailing { at });

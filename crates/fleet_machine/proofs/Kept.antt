@@ -2,7 +2,7 @@
 use Rattle.std.proofs.Common.{◌≡◌, ◌<◌, ℕ, ◌+◌, Some, length, set, length-set, get_or-set_same, get_or-set_other, inl, inr, refl, arith}
 use Rattle.std.proofs.lemmas.Bool.{cases_eq}
 use Rattle.std.proofs.lemmas.Int.{ints}
-use Rattle.fleet_model.specs.declared.limits.TheConstants.{MAX_MOVES_V1}
+use Rattle.fleet_model.specs.declared.limits.TheConstants.{MAX_MOVES}
 use Rattle.fleet_model.specs.declared.standing.Standing.{Standing}
 use Rattle.fleet_model.specs.declared.geometry.Step.{Step}
 use Rattle.fleet_model.specs.declared.geometry.Dir.TheVariants.{North, East, South, West}
@@ -23,7 +23,7 @@ near_moved s Dwell h = record { west = omega (arith, ints, h.west); east = omega
 
 -- an agent with an action left finishes it
 module _ (p : Program) (c : Configuration) (i : ℕ) (left : count_at c i < moves p i) where
-  pub few_if_left : IsWellFormed p → count_at c i < MAX_MOVES_V1
+  pub few_if_left : IsWellFormed p → count_at c i < MAX_MOVES
   few_if_left ok = omega (arith, ok.moves_each i, left)
 
   pub finished_is : (step : Step) (place : Place) → step_of p i (count_at c i + 1) ≡ Some step → place ≡ stepped (standing_at c i).place step
@@ -34,7 +34,7 @@ module _ (p : Program) (c : Configuration) (i : ℕ) (left : count_at c i < move
       rw (n.1.next, same, e) refl
 
 -- each step from its place leads to a place
-pub near_place : (s : Standing) → IsNear s → s.count < MAX_MOVES_V1
+pub near_place : (s : Standing) → IsNear s → s.count < MAX_MOVES
     → IsInReach s.place
 near_place s here few = record {
   west = omega (arith, ints, here.west, few);

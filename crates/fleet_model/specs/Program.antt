@@ -10,7 +10,7 @@ use Rattle.fleet_model.specs.declared.geometry.Step.{Step}
 use Rattle.fleet_model.specs.declared.program.Await.{Await}
 use Rattle.fleet_model.specs.declared.program.Action.{Action}
 use Rattle.fleet_model.specs.declared.program.AgentProgram.{AgentProgram}
-use Rattle.fleet_model.specs.declared.limits.TheConstants.{MAX_AGENTS, MAX_COORDINATE, MAX_MOVES_V1, MAX_MOVES_IN_ALL, MAX_AWAIT_V1}
+use Rattle.fleet_model.specs.declared.limits.TheConstants.{MAX_AGENTS, MAX_COORDINATE, MAX_MOVES, MAX_MOVES_IN_ALL, MAX_AWAIT}
 use Rattle.fleet_model.specs.Geometry.{place_of, is_move, stepped}
 
 abbrev pub Program : Type 0
@@ -90,13 +90,13 @@ abbrev pub AreInRange : Program → Type 0
 AreInRange p = (i n : ℕ) (w : Await) → Contains (awaits_of p i n) w → IsInRange p i w
 
 -- the awaits of an action of agent i, where there are n agents: in strictly rising order of agent, each of another agent that is
--- there, with a count from 1 to 65,535, which may be above the awaited agent's actions
+-- there, with a count from 1 on that four bytes hold, which may be above the awaited agent's actions
 pub record AreAwaits (n i : ℕ) (awaits : List Await) : Type 0 where
   pub rising : IsStrictlyIncreasing (map (λ w. w.agent) awaits)
   pub agents : All (λ w. w.agent < n) awaits
   pub others : All (λ w. w.agent ≢ i) awaits
   pub counts : All (λ w. 1 ≤ w.count) awaits
-  pub few : All (λ w. w.count ≤ MAX_AWAIT_V1) awaits
+  pub few : All (λ w. w.count ≤ MAX_AWAIT) awaits
 
 -- column and row fit two bytes
 pub record IsCell (c : Cell) : Type 0 where
@@ -109,7 +109,7 @@ pub record IsWellFormed (p : Program) : Type 0 where
   pub few_agents : length p ≤ MAX_AGENTS
   pub starts : (i : ℕ) → IsCell (start_of p i)
   pub goals : (i : ℕ) → IsCell (goal_of p i)
-  pub moves_each : (i : ℕ) → moves p i ≤ MAX_MOVES_V1
+  pub moves_each : (i : ℕ) → moves p i ≤ MAX_MOVES
   pub moves_in_all : total_moves p ≤ MAX_MOVES_IN_ALL
   pub awaits : (i n : ℕ) → AreAwaits (length p) i (awaits_of p i n)
 
@@ -117,5 +117,5 @@ pub record IsWellFormed (p : Program) : Type 0 where
 pub record IsAgent (n i : ℕ) (a : AgentProgram) : Type 0 where
   pub start : IsCell a.start
   pub goal : IsCell a.goal
-  pub moves : length a.actions ≤ MAX_MOVES_V1
+  pub moves : length a.actions ≤ MAX_MOVES
   pub awaits : All (λ s. AreAwaits n i s.awaits) a.actions

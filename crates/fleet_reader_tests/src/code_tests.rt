@@ -300,6 +300,10 @@ fn faults_are_told_in_words(rt: HostRuntime) -> Result<(), Fail> {
         "the byte at offset 4 is no hexadecimal digit"
     );
     assert_eq!(rt;
+        EncodeFault::TooLong.to_string(alloc)?.as_str(),
+        "an agent has more than 65535 actions, or the count of an await is above 65535"
+    );
+    assert_eq!(rt;
         EncodeFault::Dwell.to_string(alloc)?.as_str(),
         "an action of the program stays on its cell"
     );

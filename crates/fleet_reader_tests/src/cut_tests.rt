@@ -175,7 +175,7 @@ fn programs_that_are_cut_or_changed(rt: HostRuntime) -> Result<(), Fail> {
         };
         count(&mut counts, kind);
     }
-    assert_eq!(rt; counts, [5110, 0, 1020, 770, 253, 0, 1506, 1521, 0, 2, 18]);
+    assert_eq!(rt; counts, [5110, 0, 1019, 770, 253, 0, 1506, 1522, 0, 2, 18]);
     Ok(())
 }
 

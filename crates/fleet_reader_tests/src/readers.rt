@@ -1,7 +1,7 @@
 //! Each reader, judged by another way to its answer: what it reads, written out, is the text but for what may differ, and is read again as the
 //! same; what it refuses is refused for what stands up to the fault alone, and not for what stands before it. Want of memory is no answer here.
 
-use fleet_code::{HexFault, LoadFault, encode, load, read_hex, view};
+use fleet_code::{HexFault, LoadFault, encode, encode2, load, read_hex, view};
 use fleet_grid::{Grid, MapFault, read_map};
 use fleet_model::{Cell, ProgramView};
 use fleet_plan::{TextFault, read_plan, write_plan};
@@ -335,7 +335,12 @@ pub fn program_fault(
             let program = load(alloc, bytes)?;
             let answered = answers(alloc, &viewed)?;
             assert_eq!(rt; answered.as_str(), answers(alloc, &program)?.as_str());
-            assert_eq!(rt; encode(alloc, &program)?.as_slice(), bytes);
+            let again = if bytes.starts_with(b"MPF2") {
+                encode2(alloc, &program)?
+            } else {
+                encode(alloc, &program)?
+            };
+            assert_eq!(rt; again.as_slice(), bytes);
             let text = rehearsed(alloc, &viewed, b"0\n-\n1\n")?;
             let again = rehearsed(alloc, &program, b"0\n-\n1\n")?;
             assert_eq!(rt; text.bytes(), again.bytes(), "{bytes:?}");

@@ -2,7 +2,7 @@
 use Rattle.std.proofs.Common.{◌≡◌, ◌<◌, ◌≤◌, ◌*◌, take, subst, ℕ, zero, suc, ◌+◌, not, Bool, true, false, cond, None, List, [], ◌∷◌, get_or, drop, length, refl, ap, sym, ◌∙◌, add-one, inl, inr, ◌≢◌, arith, below_more, Result, Ok, Err}
 use Rattle.std.proofs.lemmas.Bool.{cases_Bool}
 use Rattle.std.proofs.lemmas.List.{length-drop}
-use Rattle.fleet_model.specs.declared.limits.TheConstants.{MAX_AGENTS, MAX_MOVES_V1}
+use Rattle.fleet_model.specs.declared.limits.TheConstants.{MAX_AGENTS, MAX_MOVES}
 use Rattle.fleet_run.specs.declared.run.TheConstants.{MOST_TICKS}
 use Rattle.fleet_model.specs.Program.{Program, IsWellFormed}
 use Rattle.fleet_model.specs.Machine.{Configuration, Holds, is_ready_held, is_over, is_among, is_held, tick, run, held_ticks}
@@ -57,14 +57,14 @@ pub record IsUnderWay (p : Program) (s now : SourceState) (c : Configuration) (t
   pub not_past : ended ≡ false → ticks ≤ length s.ticks
   pub still_comes : ended ≡ false → now.last ≡ s.last
   pub while_asked : ended ≡ false → ticks ≤ MOST_TICKS
-  pub afterwards : ended ≡ true → ticks + all_left p c ≤ MOST_TICKS + MAX_AGENTS * MAX_MOVES_V1
+  pub afterwards : ended ≡ true → ticks + all_left p c ≤ MOST_TICKS + MAX_AGENTS * MAX_MOVES
 
 module _ (p : Program) (s now : SourceState) (c : Configuration) (ticks held : ℕ) (ended : Bool) (before : IsUnderWay p s now c ticks held ended) where
   pub agents_under_way : length c ≡ length p
   agents_under_way = ap length before.here ∙ length-run p s.ticks ticks
 
   -- the numbers fit
-  pub few_ticks : ticks ≤ MOST_TICKS + MAX_AGENTS * MAX_MOVES_V1
+  pub few_ticks : ticks ≤ MOST_TICKS + MAX_AGENTS * MAX_MOVES
   few_ticks =
       elim (cases_Bool ended) [
         | inl e ↦ omega (arith, before.afterwards e)

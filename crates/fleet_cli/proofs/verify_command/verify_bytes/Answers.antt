@@ -1,5 +1,6 @@
-use Rattle.std.proofs.Common.{refl, sym, subst, inr}
+use Rattle.std.proofs.Common.{ap, refl, sym, subst, inr}
 use Rattle.fleet_code.specs.Spelling.{Spells}
+use Rattle.fleet_code.specs.Offsets.{Viewed}
 use Rattle.fleet_grid.specs.Ground.{is_passable}
 use Rattle.fleet_verify.specs.Faults.{IsFault}
 use Rattle.fleet_verify.specs.Broken.{IsBrokenBy}
@@ -9,10 +10,10 @@ use Rattle.fleet_cli.proofs.verify_command.verify_bytes.Goals as goal
 pub returns-in-Err : goal.returns-in-Err
 returns-in-Err g c =
     told_refused c.args.map.now c.args.scen.now c.args.asked c.args.bytes.now _ _ c.in_ok-problem.problem.grid c.in_ok-problem.problem.instance
-    c.in-Err.refused.program c.in-Err.refused.fault c.in_ok-problem.ensures.read
-    (subst (Spells c.args.bytes.now) (sym c.in-Err.ensures.returned) c.in_ok-program.ensures.spelled)
-    (subst (λ p. IsFault (is_passable c.in_ok-problem.problem.grid) c.in_ok-problem.problem.instance p c.in-Err.refused.fault) (sym c.in-Err.ensures.returned) c.in-Err.ensures.fault)
-    (subst (λ p. IsBrokenBy p c.in-Err.refused.fault) (sym c.in-Err.ensures.returned) c.in-Err.ensures.broken)
+    c.in-Err.refused.program.program c.in-Err.refused.fault c.in_ok-problem.ensures.read
+    (subst (λ (w : Viewed). Spells c.args.bytes.now w.program) (sym c.in-Err.ensures.returned) c.in_ok-program.ensures.spelled)
+    (subst (λ (w : Viewed). IsFault (is_passable c.in_ok-problem.problem.grid) c.in_ok-problem.problem.instance w.program c.in-Err.refused.fault) (sym c.in-Err.ensures.returned) c.in-Err.ensures.fault)
+    (subst (λ (w : Viewed). IsBrokenBy w.program c.in-Err.refused.fault) (sym c.in-Err.ensures.returned) c.in-Err.ensures.broken)
     c.tell_refused.result c.tell_refused.ensures
 
 pub returns-in-Ok-print_accepted : goal.returns-in-Ok-print_accepted
@@ -22,9 +23,9 @@ returns-in-Ok-print_accepted g c = (
       ground = c.in_ok-problem.problem.grid;
       tasks = c.in_ok-problem.problem.instance;
       texts = c.in_ok-problem.ensures.read;
-      program = c.in-Ok.accepted.program;
+      program = c.in-Ok.accepted.program.program;
       chain = c.in-Ok.accepted.chain;
-      accepts = returned_accepts c.args.bytes.now c.in_ok-problem.problem.grid c.in_ok-problem.problem.instance _ c.in-Ok.accepted.program c.in-Ok.accepted.chain c.in_ok-program.ensures.spelled c.in-Ok.ensures.kept.0 c.in-Ok.ensures.accepted;
+      accepts = returned_accepts c.args.bytes.now c.in_ok-problem.problem.grid c.in_ok-problem.problem.instance _ c.in-Ok.accepted.program.program c.in-Ok.accepted.chain c.in_ok-program.ensures.spelled (ap (λ (w : Viewed). w.program) c.in-Ok.ensures.kept.0) c.in-Ok.ensures.accepted;
     };
     delivered = c.in-Ok-print_accepted.ensures;
   },
@@ -37,9 +38,9 @@ returns g c = inr (
     ground = c.in_ok-problem.problem.grid;
     tasks = c.in_ok-problem.problem.instance;
     texts = c.in_ok-problem.ensures.read;
-    program = c.in-Ok.accepted.program;
+    program = c.in-Ok.accepted.program.program;
     chain = c.in-Ok.accepted.chain;
-    accepts = returned_accepts c.args.bytes.now c.in_ok-problem.problem.grid c.in_ok-problem.problem.instance _ c.in-Ok.accepted.program c.in-Ok.accepted.chain c.in_ok-program.ensures.spelled c.in-Ok.ensures.kept.0 c.in-Ok.ensures.accepted;
+    accepts = returned_accepts c.args.bytes.now c.in_ok-problem.problem.grid c.in_ok-problem.problem.instance _ c.in-Ok.accepted.program.program c.in-Ok.accepted.chain c.in_ok-program.ensures.spelled (ap (λ (w : Viewed). w.program) c.in-Ok.ensures.kept.0) c.in-Ok.ensures.accepted;
   },
   refl,
   c.in-Err-print_accepted.ensures,

@@ -1,4 +1,4 @@
-use Rattle.fleet_code.proofs.ToldFaults.{program_or_fault, not_both, one_fault}
+use Rattle.fleet_code.proofs.Versions.{program_or_fault, not_both, one_fault}
 use Rattle.fleet_code.proofs.laws.bytes_are_a_program_or_have_a_first_fault.Goals as goal
 
 pub returns-clause-either : goal.returns-clause-either

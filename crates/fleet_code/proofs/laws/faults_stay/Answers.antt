@@ -1,4 +1,4 @@
-use Rattle.fleet_code.proofs.Continued.{faults_stay}
+use Rattle.fleet_code.proofs.Versions.{faults_stay}
 use Rattle.fleet_code.proofs.laws.faults_stay.Goals as goal
 
 pub returns : goal.returns

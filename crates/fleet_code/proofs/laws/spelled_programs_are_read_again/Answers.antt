@@ -1,4 +1,5 @@
-use Rattle.fleet_code.proofs.RoundTrip.{spells_own, no_other}
+use Rattle.fleet_code.proofs.RoundTrip.{spells_own}
+use Rattle.fleet_code.proofs.Versions.{no_other}
 use Rattle.fleet_code.proofs.laws.spelled_programs_are_read_again.Goals as goal
 
 pub returns-clause-own : goal.returns-clause-own

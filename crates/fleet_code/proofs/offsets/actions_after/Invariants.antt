@@ -1,4 +1,4 @@
-use Rattle.std.proofs.Common.{◌≡◌, ◌≤◌, ◌+◌, ◌-◌, ◌*◌, [], ◌∷◌, length, vec_len}
+use Rattle.std.proofs.Common.{◌≡◌, ◌≤◌, ◌+◌, ◌*◌, [], ◌∷◌, length, vec_len}
 use Rattle.fleet_code.specs.Reading.{actions_at}
 use Rattle.fleet_code.specs.Offsets.{with_ends}
 use Rattle.fleet_code.proofs.OffsetLoop.{EndsGoOn}
@@ -6,8 +6,8 @@ use Rattle.fleet_code.proofs.offsets.actions_after.Given as goal
 
 abbrev pub invariant-loop : goal.invariant-loop
 invariant-loop l = record {
-  so_far : EndsGoOn l.whole l.agents l.own l.count l.counter l.rest l.offsets.items (length l.bytes - length l.rest) (with_ends (0 ∷ []) 0 (actions_at l.count l.whole l.agents l.own l.bytes));
+  so_far : EndsGoOn l.version l.whole l.agents l.own l.count l.counter l.rest l.offsets.items l.end (with_ends (0 ∷ []) 0 (actions_at l.version l.count l.whole l.agents l.own l.bytes));
   counted : vec_len l.offsets ≡ l.counter + 1;
   shorter : length l.rest ≤ length l.bytes;
-  long : length l.bytes ≤ length l.rest + 5121 * l.counter;
+  long : l.end ≤ 1025 * l.counter;
 }

@@ -1,27 +1,50 @@
-use Rattle.std.proofs.Common.{sym, ◌∙◌, arith, refl, length, ℕ, List}
+use Rattle.std.proofs.Common.{◌++◌, ◌∷◌, [], sym, ◌∙◌, arith, refl, length, length-append, ℕ, List}
+use Rattle.fleet_model.specs.declared.program.Await.{Await}
 use Rattle.fleet_model.specs.declared.program.Action.{Action}
 use Rattle.std.proofs.lemmas.Result.{err_from_is_err_and}
-use Rattle.fleet_code.proofs.ActionLoop.{move_ends, other_opcode, await_goes_on, await_fails, action_lacks}
+use Rattle.fleet_code.proofs.ActionLoop.{action_begins, move_ends, other_opcode, await_goes_on, await_fails, action_lacks}
 use Rattle.fleet_code.proofs.OffsetLoop.{no_move, action_length}
 use Rattle.fleet_code.proofs.offsets.after_action.Goals as goal
+
+pub loop-opcode-init : goal.loop-opcode-init
+loop-opcode-init c = record {
+  so_far = ([], refl, action_begins c.args.version c.args.whole c.args.agents c.args.own c.args.bytes.now);
+  shorter = omega arith;
+  many = omega arith;
+  few = omega arith;
+}
 
 pub returns-in-Some-move_of-clause-value : goal.returns-in-Some-move_of-clause-value
 returns-in-Some-move_of-clause-value c =
     let so_far = c.loop-opcode.invariant.so_far in
-    let due = move_ends c.in-Some.ensures.cases.0 so_far.1 c.in-Some-move_of.field-0 (sym c.move_of.ensures ∙ c.in-Some-move_of.is) in
+    let due = move_ends c.args.version c.in-Some.ensures.cases.0 so_far.2 c.in-Some-move_of.field-0 (sym c.move_of.ensures ∙ c.in-Some-move_of.is) in
     let found : Action × List ℕ = (record { step = c.in-Some-move_of.field-0; awaits = so_far.0 }, c.in-Some.after.now) in
-    (found, due, (refl, action_length (length c.args.bytes.now) c.args.whole c.args.agents c.args.own 0 c.args.bytes.now found (λ i. omega (arith, c.type_inv.bytes i)) due))
+    (found, due, (so_far.1, refl, action_length c.args.version (length c.args.bytes.now) c.args.whole c.args.agents c.args.own 0 c.args.bytes.now found (λ i. omega (arith, c.type_inv.bytes i)) due))
+
+pub returns-in-Some-move_of-clause-few : goal.returns-in-Some-move_of-clause-few
+returns-in-Some-move_of-clause-few c =
+    let many = c.loop-opcode.invariant.many in
+    let few = c.loop-opcode.invariant.few in
+    let most = c.requires.few in
+    omega (arith, many, few, most)
+
+pub overflow_add-opcodes : goal.overflow_add-opcodes
+overflow_add-opcodes c =
+    let many = c.loop-opcode.invariant.many in
+    let few = c.loop-opcode.invariant.few in
+    let most = c.requires.few in
+    omega (arith, many, few, most)
 
 pub returns-then-opcode-ne-AWAIT-clause-value : goal.returns-then-opcode-ne-AWAIT-clause-value
 returns-then-opcode-ne-AWAIT-clause-value c =
-    λ other. other_opcode c.in-Some.ensures.cases.0 c.loop-opcode.invariant.so_far.1 (sym c.move_of.ensures ∙ no_move c.move_of.result c.in_default-move_of.not-Some) c.if-opcode-ne-AWAIT.true
+    λ other. other_opcode c.args.version c.in-Some.ensures.cases.0 c.loop-opcode.invariant.so_far.2 (sym c.move_of.ensures ∙ no_move c.move_of.result c.in_default-move_of.not-Some) c.if-opcode-ne-AWAIT.true
 
 pub returns-in_err-one-clause-value : goal.returns-in_err-one-clause-value
 returns-in_err-one-clause-value c =
     let p = err_from_is_err_and c.from_residual.result c.from_residual.ensures.1 in
     rw (p.1, p.2)
     (λ other.
-    await_fails c.in-Some.ensures.cases.0 c.loop-opcode.invariant.so_far.1 c.in_err-one.field-0.0 (sym c.move_of.ensures ∙ no_move c.move_of.result c.in_default-move_of.not-Some) c.if-opcode-ne-AWAIT.false
+    await_fails c.args.version c.in-Some.ensures.cases.0 c.loop-opcode.invariant.so_far.2 c.in_err-one.field-0.0 (sym c.move_of.ensures ∙ no_move c.move_of.result c.in_default-move_of.not-Some) c.if-opcode-ne-AWAIT.false
     (c.in_err-one.ensures.value other))
 
 pub loop-opcode-preserved : goal.loop-opcode-preserved
@@ -31,15 +54,15 @@ loop-opcode-preserved c =
     let within = c.in_ok-one.ensures.agent in
     let one_less = c.in-Some.ensures.cases.1 in
     let shorter = c.loop-opcode.invariant.shorter in
-    let long = c.loop-opcode.invariant.long in
+    let many = c.loop-opcode.invariant.many in
     let so_far = c.loop-opcode.invariant.so_far in
     let no = sym c.move_of.ensures ∙ no_move c.move_of.result c.in_default-move_of.not-Some in
     record {
-      so_far = (_, await_goes_on c.in-Some.ensures.cases.0 so_far.1 c.in_ok-one.one c.in_ok-one.after.now no c.if-opcode-ne-AWAIT.false c.in_ok-one.ensures.value);
+      so_far = (so_far.0 ++ c.in_ok-one.one ∷ [], omega (arith, so_far.1, length-append so_far.0 (c.in_ok-one.one ∷ [])), await_goes_on c.args.version c.in-Some.ensures.cases.0 so_far.2 c.in_ok-one.one c.in_ok-one.after.now no c.if-opcode-ne-AWAIT.false c.in_ok-one.ensures.value);
       shorter = omega (arith, read, one_less, shorter);
-      long = omega (arith, read, one_less, above, long);
+      many = omega (arith, above, many);
       few = omega (arith, within);
     }
 
 pub returns-clause-value : goal.returns-clause-value
-returns-clause-value c = λ other. action_lacks c.loop-opcode.invariant.so_far.1 c.in_default.ensures.cases
+returns-clause-value c = λ other. action_lacks c.args.version c.loop-opcode.invariant.so_far.2 c.in_default.ensures.cases

@@ -1,4 +1,4 @@
-use Rattle.std.proofs.Common.{◌≤◌, ◌+◌, ◌*◌, List, length}
+use Rattle.std.proofs.Common.{◌≡◌, ◌≤◌, ◌+◌, List, length}
 use Rattle.fleet_model.specs.declared.program.Await.{Await}
 use Rattle.fleet_code.specs.Reading.{action_at}
 use Rattle.fleet_code.proofs.ActionLoop.{ActionGoesOn}
@@ -6,9 +6,9 @@ use Rattle.fleet_code.proofs.offsets.after_action.Given as goal
 
 abbrev pub invariant-loop-opcode : goal.invariant-loop-opcode
 invariant-loop-opcode l = record {
-  so_far : (awaits : List Await) × ActionGoesOn l.whole l.agents l.own l.least l.rest awaits (action_at (length l.bytes) l.whole l.agents l.own 0 l.bytes);
+  so_far : (awaits : List Await) × (l.opcodes ≡ length awaits + 1) × ActionGoesOn l.version l.whole l.agents l.own l.least l.rest awaits (action_at l.version (length l.bytes) l.whole l.agents l.own 0 l.bytes);
   shorter : length l.rest ≤ length l.bytes;
-  long : length l.bytes ≤ length l.rest + 5 * l.least;
+  many : l.opcodes ≤ l.least + 1;
   few : l.least ≤ l.agents;
 }
 

@@ -13,7 +13,7 @@ returns c =
     let none = c.if-not-is_empty.ensures in
     let head : length c.args.bytes.now - length c.in_ok-agents.rest.now ≡ 6 = omega (arith, four, six) in (
       found.0.0,
-      program_is c.args.bytes.now c.in_ok-rest.rest.now (c.in_ok-agents.agents, c.in_ok-agents.rest.now) found.0 c.in_ok-rest.ensures.value c.in_ok-agents.ensures.value c.if-agents-eq0.false (omega (arith, few, same)) found.1
+      program_is c.args.version c.args.bytes.now c.in_ok-rest.rest.now (c.in_ok-agents.agents, c.in_ok-agents.rest.now) found.0 c.in_ok-rest.ensures.value c.in_ok-agents.ensures.value c.if-agents-eq0.false (omega (arith, few, same)) found.1
           (sym (ap length found.2.1) ∙ eqb-true (length c.in_ok-parts.rest.now) 0 (sym none)),
       rw head at found.2.0,
     )

@@ -17,7 +17,7 @@ returns c =
     let v = viewed c.self.view_is c.self.invariant in
     let fits = c.self.told.0 in
     record {
-      value = c.index.ensures ∙ rw c.from.ensures (get_or_from_slice_get c.self.inside.parts.items c.args.i (part_at c.args.self.now c.args.i) c.index.result.now (part_is v c.args.i c.requires));
+      value = c.index.ensures ∙ rw c.from.ensures (get_or_from_slice_get c.self.inside.parts.items c.args.i (part_at c.args.self.now.version c.args.self.now.program c.args.i) c.index.result.now (part_is v c.args.i c.requires));
       well_formed = v.spelled.well_formed;
       short = λ n. let within = end_within v c.args.i n c.requires in omega (arith, within, fits);
     }

@@ -8,19 +8,19 @@ use Rattle.fleet_code.proofs.code_view.CodeViewProgramView.goal.Goals as goal
 pub cell_in-requires : goal.cell_in-requires
 cell_in-requires c =
     let there = goal_stands (viewed c.self.view_is c.self.invariant) c.args.i c.requires in
-    let within = stands_within c.self.inside.bytes.now (begin_of c.args.self.now c.args.i + 4) (cell (goal_of c.args.self.now c.args.i)) there (omega arith) in
+    let within = stands_within c.self.inside.bytes.now (begin_of c.args.self.now.version c.args.self.now.program c.args.i + 4) (cell (goal_of c.args.self.now.program c.args.i)) there (omega arith) in
     let at = c.begin.ensures.value in
     omega (arith, within, at)
 
 pub returns : goal.returns
 returns c =
     let v = viewed c.self.view_is c.self.invariant in
-    c.cell_in.ensures (goal_of c.args.self.now c.args.i) (v.spelled.well_formed.goals c.args.i) (rw c.begin.ensures.value (goal_stands v c.args.i c.requires))
+    c.cell_in.ensures (goal_of c.args.self.now.program c.args.i) (v.spelled.well_formed.goals c.args.i) (rw c.begin.ensures.value (goal_stands v c.args.i c.requires))
 
 pub overflow_add-begin : goal.overflow_add-begin
 overflow_add-begin c =
     let there = goal_stands (viewed c.self.view_is c.self.invariant) c.args.i c.requires in
-    let within = stands_within c.self.inside.bytes.now (begin_of c.args.self.now c.args.i + 4) (cell (goal_of c.args.self.now c.args.i)) there (omega arith) in
+    let within = stands_within c.self.inside.bytes.now (begin_of c.args.self.now.version c.args.self.now.program c.args.i + 4) (cell (goal_of c.args.self.now.program c.args.i)) there (omega arith) in
     let at = c.begin.ensures.value in
     let fits = c.self.told.0 in
     omega (arith, within, at, fits)

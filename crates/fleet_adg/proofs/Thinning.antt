@@ -18,7 +18,7 @@ use Rattle.fleet_model.specs.declared.program.ActionId.{ActionId}
 use Rattle.fleet_model.specs.declared.program.AgentProgram.{AgentProgram}
 use Rattle.fleet_model.specs.Program.{Program, actions_of, moves, step_of, awaits_of, total_moves, AreAwaits, AreInRange, IsCell, IsWellFormed, NeverStays}
 use Rattle.fleet_model.proofs.Totals.{moves_more}
-use Rattle.fleet_model.specs.declared.limits.TheConstants.{MAX_AWAIT_V1}
+use Rattle.fleet_model.specs.declared.limits.TheConstants.{MAX_AWAIT}
 use Rattle.fleet_rows.specs.Implied.{IsImplied}
 use Rattle.fleet_rows.proofs.Implying.{await_below}
 use Rattle.fleet_model.proofs.Reaching.{longest_is_one}
@@ -67,7 +67,7 @@ module _ (p : Program) (formed : IsWellFormed p) (a : ActionId) (k : ℕ) (await
       agents = All-push (λ (v : Await). v.agent < length p) awaits w h.formed.agents (here (λ (v : Await). v.agent < length p) whole.agents);
       others = All-push (λ (v : Await). v.agent ≢ a.agent) awaits w h.formed.others (here (λ (v : Await). v.agent ≢ a.agent) whole.others);
       counts = All-push (λ (v : Await). 1 ≤ v.count) awaits w h.formed.counts (here (λ (v : Await). 1 ≤ v.count) whole.counts);
-      few = All-push (λ (v : Await). v.count ≤ MAX_AWAIT_V1) awaits w h.formed.few (here (λ (v : Await). v.count ≤ MAX_AWAIT_V1) whole.few);
+      few = All-push (λ (v : Await). v.count ≤ MAX_AWAIT) awaits w h.formed.few (here (λ (v : Await). v.count ≤ MAX_AWAIT) whole.few);
     };
     known = λ v. (
       (λ c. elim (Contains-push_cases awaits w v c) [

@@ -1,4 +1,3 @@
 pub mod Talk
 pub mod Orders
 pub mod Dispatch
-pub mod Told

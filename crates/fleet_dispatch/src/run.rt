@@ -14,9 +14,6 @@ use crate::floor::{Floor, HearFault};
 use crate::orders::{ORDERS, take_off, tell_closing, tell_orders};
 use fleet_model::{MAX_AGENTS, ProgramView, total_moves};
 use fleet_run::{Fleet, clear};
-use fleet_text::{
-    OutFault, Refusal, TraceOut, Word, put_line, put_memory, put_named, put_named_at, put_named_by,
-};
 use fleet_verify::{orders_are_given_once, ready_moves_are_apart, runs_end};
 use thiserror::Error;
 
@@ -40,42 +37,6 @@ pub enum DispatchFault {
     ReportLimit,
     #[error("the reports cannot be read")]
     Input,
-}
-
-impl Refusal for DispatchFault {
-    ghost use Rattle.fleet_dispatch.specs.Told.{dispatch_words, is_dispatch_failure};
-
-    ghost words = { dispatch_words };
-
-    ghost is_failure = { is_dispatch_failure };
-
-    fn put<O: TraceOut>(&self, out: &mut O) -> Result<(), OutFault> {
-        match *self {
-            DispatchFault::OutOfMemory => put_memory(out),
-            DispatchFault::Form { line } => put_named_at(out, "dispatch", 2, "Form", "line", line),
-            DispatchFault::NotOrdered { line, agent } => put_named_by(
-                out,
-                "dispatch",
-                3,
-                "NotOrdered",
-                ("line", line),
-                ("agent", agent as u64),
-            ),
-            DispatchFault::Ended { line } => put_named_at(
-                out, "dispatch", 4, "Ended", "line", line,
-            ),
-            DispatchFault::Write => put_named(out, "dispatch", 5, "Write"),
-            DispatchFault::ReportLimit => put_named(out, "dispatch", 6, "ReportLimit"),
-            DispatchFault::Input => put_line(out, &[Word::Text("file"), Word::Text("-")]),
-        }
-    }
-
-    fn is_failure(&self) -> bool {
-        matches!(
-            self,
-            DispatchFault::OutOfMemory | DispatchFault::Write | DispatchFault::Input
-        )
-    }
 }
 
 /// A dispatch after which all stand on their goals.

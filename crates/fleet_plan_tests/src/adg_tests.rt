@@ -1,10 +1,11 @@
 //! Programs that are compiled from plans: their awaits, and plans at the limits of a program.
 
-use fleet_adg::{CompileFault, Deps, compile};
+use fleet_adg::{CompileFault, Deps, compile, thin};
 use fleet_grid::{Grid, read_map};
-use fleet_model::{Cell, Dir, Program, Step, total_awaits, total_moves};
+use fleet_model::{ActionId, Cell, Dir, Program, ProgramView, Step, total_awaits, total_moves};
 use fleet_plan::{Checked, Path, Plan, check};
 use fleet_scen::{Instance, read_scen};
+use fleet_verify::{Reach, verify};
 use std::alloc::Global;
 use std::fmt::Write;
 use std::process::Abort;
@@ -325,6 +326,98 @@ fn only_memory_may_be_refused(rt: HostRuntime) {
         match compile(rt.alloc(), &checked, deps) {
             Ok(program) => assert_eq!(rt; total_awaits(&program), awaits),
             Err(fault) => assert_eq!(rt; fault, CompileFault::OutOfMemory),
+        }
+    }
+}
+
+/// The plan's program without its implied awaits, and how many awaits it had and has. Thinned once more it is the same.
+fn thinned(
+    rt: &impl Abort,
+    alloc: Global,
+    grid: &Grid,
+    plan: Plan,
+    deps: Deps,
+) -> (String, u32, u32) {
+    let instance = instance_for(rt, alloc, grid, &plan);
+    let program = compiled(rt, alloc, grid, plan, deps)
+        .ok()
+        .expect(rt, "a program");
+    let before = total_awaits(&program);
+    let accepted = verify(alloc, program, grid, &instance)
+        .ok()
+        .expect(rt, "accepted");
+    let less = thin(alloc, &accepted).ok().expect(rt, "memory");
+    let text = text_of(rt, alloc, &less);
+    let after = total_awaits(&less);
+    let accepted = verify(alloc, less, grid, &instance)
+        .ok()
+        .expect(rt, "accepted");
+    let again = thin(alloc, &accepted).ok().expect(rt, "memory");
+    assert_eq!(rt; text_of(rt, alloc, &again).as_str(), text.as_str());
+    (text, before, after)
+}
+
+#[test]
+fn implied_awaits_go(rt: HostRuntime) {
+    let row = map_of(&rt, rt.alloc(), 4, 1, &[]);
+    let (text, before, after) = thinned(
+        &rt,
+        rt.alloc(),
+        &row,
+        plan_of(&rt, rt.alloc(), BASE),
+        Deps::All,
+    );
+    assert_eq!(rt; text.as_str(), "1,0 3,0 E E\n0,0 2,0 (0:1)E (0:2)E\n");
+    assert_eq!(rt; (before, after), (2, 2));
+
+    let bay = map_of(&rt, rt.alloc(), 3, 2, &[(0, 1), (2, 1)]);
+    let plan = plan_of(
+        &rt,
+        rt.alloc(),
+        &[&[(0, 0), (1, 0), (2, 0)], &[(1, 1), (1, 1), (1, 0), (0, 0)]],
+    );
+    let (text, before, after) = thinned(&rt, rt.alloc(), &bay, plan, Deps::Last);
+    assert_eq!(rt; text.as_str(), "0,0 2,0 E E\n1,1 0,0 (0:2)N W\n");
+    assert_eq!(rt; (before, after), (2, 1));
+}
+
+/// Each agent of a train awaits under `All` what every agent before it has left, and needs the next one's alone.
+#[test]
+fn a_train_is_thinned(rt: HostRuntime) {
+    let grid = map_of(&rt, rt.alloc(), 256, 1, &[]);
+    let all = train(rt.alloc(), 128).expect(&rt, "memory");
+    let last = train(rt.alloc(), 128).expect(&rt, "memory");
+    let expected = compiled(&rt, rt.alloc(), &grid, last, Deps::Last)
+        .ok()
+        .expect(&rt, "a program");
+    let (text, before, after) = thinned(&rt, rt.alloc(), &grid, all, Deps::All);
+    assert_eq!(rt; text.as_str(), text_of(&rt, rt.alloc(), &expected).as_str());
+    assert!(rt; before > 3 * after);
+    assert_eq!(rt; after, total_awaits(&expected));
+}
+
+/// Each action of a train needs as many actions of every agent before it, and none of those behind it.
+#[test]
+fn a_train_reaches_back(rt: HostRuntime) {
+    let grid = map_of(&rt, rt.alloc(), 256, 1, &[]);
+    let plan = train(rt.alloc(), 128).expect(&rt, "memory");
+    let instance = instance_for(&rt, rt.alloc(), &grid, &plan);
+    let program = compiled(&rt, rt.alloc(), &grid, plan, Deps::Last)
+        .ok()
+        .expect(&rt, "a program");
+    let accepted = verify(rt.alloc(), program, &grid, &instance)
+        .ok()
+        .expect(&rt, "accepted");
+    let reach = Reach::of(rt.alloc(), &accepted)
+        .ok()
+        .expect(&rt, "memory");
+    let program = accepted.program();
+    for agent in 0..program.agents() {
+        for number in 1..=program.moves(agent) {
+            for first in 0..program.agents() {
+                let due = if first <= agent { number } else { 0 };
+                assert_eq!(rt; reach.greatest(ActionId { agent, number }, first), due);
+            }
         }
     }
 }

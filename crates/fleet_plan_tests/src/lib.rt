@@ -8,6 +8,8 @@ mod check_tests;
 #[cfg(test)]
 mod model_tests;
 #[cfg(test)]
+mod reach_tests;
+#[cfg(test)]
 mod rows_tests;
 #[cfg(test)]
 mod search_tests;

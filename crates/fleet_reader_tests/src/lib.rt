@@ -17,3 +17,5 @@ mod readers;
 mod scen_tests;
 #[cfg(test)]
 mod text_tests;
+#[cfg(test)]
+mod version_tests;

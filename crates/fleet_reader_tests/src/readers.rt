@@ -324,6 +324,11 @@ fn place_of(fault: LoadFault) -> Option<u64> {
     }
 }
 
+/// How many bytes an await has in the version of these bytes.
+fn await_len(bytes: &[u8]) -> u64 {
+    if bytes.starts_with(b"MPF2") { 7 } else { 5 }
+}
+
 /// Why the bytes are no program, if they are none. They are viewed and loaded alike.
 pub fn program_fault(
     rt: &impl Abort,
@@ -350,7 +355,7 @@ pub fn program_fault(
             assert!(rt; fault != LoadFault::OutOfMemory);
             assert_eq!(rt; load(alloc, bytes).err(), Some(fault), "{bytes:?}");
             if let Some(at) = place_of(fault) {
-                let again = view(alloc, bytes_of(bytes, at.saturating_add(5))).err();
+                let again = view(alloc, bytes_of(bytes, at.saturating_add(await_len(bytes)))).err();
                 assert_eq!(rt; again, Some(fault), "{bytes:?}");
                 let before = view(alloc, bytes_of(bytes, at)).err();
                 assert!(rt;

@@ -7,7 +7,7 @@ check 'docs/warehouse.svg is the film of the warehouse' 0 '' '' "awk -f tools/ru
 check 'docs/waits.svg is its chart' 0 '' '' "awk -f tools/run.awk -f tools/waits.awk $run | cmp waits.svg -"
 check 'a map with CR LF is drawn alike' 0 '' '' \
     "awk '{ printf \"%s\\r\\n\", \$0 }' examples/warehouse.map > crlf.map && awk -f tools/run.awk -f tools/film.awk crlf.map $run | cmp warehouse.svg -"
-check 'numbers of the warehouse' 0 'sum of costs 15371\nmakespan 218\nmoves 13178\nheld 96\nwaits 2097\n' '' \
+check 'numbers of the warehouse' 0 'sum of costs 14997\nmakespan 218\nmoves 13198\nheld 96\nwaits 1703\n' '' \
     "awk -f tools/run.awk -f tools/numbers.awk $run | tail -n 5"
-check 'its moves are those of the program' 0 'moves 13178\n' '' "awk -f tools/run.awk -f tools/numbers.awk examples/warehouse.trace | grep moves.1"
+check 'its moves are those of the program' 0 'moves 13198\n' '' "awk -f tools/run.awk -f tools/numbers.awk examples/warehouse.trace | grep moves.1"
 check 'the same seed gives the same holds' 0 '1 2\n0 1 2\n' '' "awk -v agents=3 -v ticks=2 -v chance=0.5 -v least=1 -v most=1 -v seed=1 -f tools/delays.awk"

@@ -6,9 +6,9 @@ holds='--holds examples/warehouse.holds'
 check 'auto writes the kept trace' 0 '' '' "fleet auto $on $holds > auto.trace && cmp auto.trace examples/warehouse.trace"
 check 'plan' 0 '' '' "fleet plan $on > plan"
 check 'check' 0 'conflict-free\nagents 100\nsteps 204\n' '' "fleet check $on plan"
-check 'compile' 0 'agents 100\nmoves 13178\nawaits 8787\nbytes 58119\n' '' "fleet compile $on plan program"
-check 'OUT has the bytes that compile tells' 0 '58119\n' '' 'wc -c < program | tr -d " "'
-check 'verify' 0 'accepted\nagents 100\nmoves 13178\nawaits 8787\nchain 204\n' '' "fleet verify $on program"
+check 'compile' 0 'agents 100\nmoves 13198\nawaits 8971\nbytes 59059\n' '' "fleet compile $on plan program"
+check 'OUT has the bytes that compile tells' 0 '59059\n' '' 'wc -c < program | tr -d " "'
+check 'verify' 0 'accepted\nagents 100\nmoves 13198\nawaits 8971\nchain 204\n' '' "fleet verify $on program"
 check 'run writes the kept trace' 0 '' '' "fleet run $on program $holds > run.trace && cmp run.trace examples/warehouse.trace"
 check 'nobody held' 0 'agents 100\nticks 204\nchain 204\nheld 0\n' '' "fleet run $on program | tail -n 4"
 check 'a rehearsal has the lines of the run' 0 '' '' \

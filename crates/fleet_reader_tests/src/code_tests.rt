@@ -4,7 +4,8 @@ ghost use Rattle.std.specs.Prelude.{◌≡◌, IfOk};
 
 use crate::readers::answers;
 use fleet_code::{
-    EncodeFault, HexFault, LoadFault, encode, load, read_hex, view, viewed_and_loaded,
+    EncodeFault, HexFault, LoadFault, each_spelling_has_one_program, encode, load, read_hex, view,
+    viewed_and_loaded,
 };
 use fleet_fixtures::worked::PAIR;
 use fleet_model::{
@@ -37,8 +38,9 @@ const THREE_AWAITS: &[u8] = b"4D504631 0004 0000 0000 0000 0001 0001 02
 fn reloaded(alloc: Global, program: &Program) -> Result<Program, LoadFault>
     ensures { IfOk result (λ p. p ≡ program.now) }
 {
+    each_spelling_has_one_program();
     match encode(alloc, program) {
-        Ok(bytes) => load(alloc, &bytes),
+        Ok(bytes) => Ok(load(alloc, &bytes)?),
         Err(_) => Err(LoadFault::OutOfMemory),
     }
 }

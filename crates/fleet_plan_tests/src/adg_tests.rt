@@ -408,9 +408,7 @@ fn a_train_reaches_back(rt: HostRuntime) {
     let accepted = verify(rt.alloc(), program, &grid, &instance)
         .ok()
         .expect(&rt, "accepted");
-    let reach = Reach::of(rt.alloc(), &accepted)
-        .ok()
-        .expect(&rt, "memory");
+    let reach = Reach::of(rt.alloc(), &accepted).ok().expect(&rt, "memory");
     let program = accepted.program();
     for agent in 0..program.agents() {
         for number in 1..=program.moves(agent) {

@@ -157,7 +157,10 @@ fn followers(rt: HostRuntime) -> Result<(), Fail> {
             &[(Dir::East, &[]), (Dir::East, &[(1, 1)]), TO_EAST],
         ),
     ];
-    assert_eq!(rt; compared_agents(&rt, rt.alloc(), map, scenario, agents)?, 13);
+    assert_eq!(rt;
+        compared_agents(&rt, rt.alloc(), map, scenario, agents)?,
+        13
+    );
     Ok(())
 }
 
@@ -166,8 +169,14 @@ fn followers(rt: HostRuntime) -> Result<(), Fail> {
 fn a_corridor(rt: HostRuntime) -> Result<(), Fail> {
     let map = b"type octile\nheight 1\nwidth 4\nmap\n....\n";
     let scenario = b"version 1\n0 m 4 1 1 0 3 0 x\n0 m 4 1 0 0 2 0 x\n";
-    assert_eq!(rt; compared_plan(&rt, rt.alloc(), map, scenario, Deps::All)?, 6);
-    assert_eq!(rt; compared_plan(&rt, rt.alloc(), map, scenario, Deps::Last)?, 6);
+    assert_eq!(rt;
+        compared_plan(&rt, rt.alloc(), map, scenario, Deps::All)?,
+        6
+    );
+    assert_eq!(rt;
+        compared_plan(&rt, rt.alloc(), map, scenario, Deps::Last)?,
+        6
+    );
     Ok(())
 }
 
@@ -175,9 +184,13 @@ fn a_corridor(rt: HostRuntime) -> Result<(), Fail> {
 #[test]
 fn agents_in_one_room(rt: HostRuntime) -> Result<(), Fail> {
     let map = b"type octile\nheight 4\nwidth 5\nmap\n.....\n.....\n.....\n.....\n";
-    let scenario = b"version 1\n0 m 5 4 0 0 4 2 x\n0 m 5 4 4 3 0 1 x\n0 m 5 4 2 3 2 0 x\n0 m 5 4 4 0 0 3 x\n0 m 5 4 2 1 3 3 x\n";
+    let scenario =
+        b"version 1\n0 m 5 4 0 0 4 2 x\n0 m 5 4 4 3 0 1 x\n0 m 5 4 2 3 2 0 x\n0 m 5 4 4 0 0 3 x\n0 m 5 4 2 1 3 3 x\n";
     let all = compared_plan(&rt, rt.alloc(), map, scenario, Deps::All)?;
     assert!(rt; all > 25);
-    assert_eq!(rt; compared_plan(&rt, rt.alloc(), map, scenario, Deps::Last)?, all);
+    assert_eq!(rt;
+        compared_plan(&rt, rt.alloc(), map, scenario, Deps::Last)?,
+        all
+    );
     Ok(())
 }

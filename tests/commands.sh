@@ -2,7 +2,7 @@
 
 enter commands
 commands=$(cd "$room" && fleet --help | awk '/^Commands:/ { on = 1; next } /^$/ { on = 0 } on && $1 != "help" { print $1 }')
-check 'help lists the commands' 0 'instance check plan compile verify run rehearse auto\n' '' "echo $(echo "$commands" | tr '\n' ' ')"
+check 'help lists the commands' 0 'instance check plan compile verify run rehearse auto thin migrate list\n' '' "echo $(echo "$commands" | tr '\n' ' ')"
 
 # Help in all its forms is that of docs/HELP.md, which is compared with the documents.
 for command in '' $commands; do
@@ -12,7 +12,7 @@ for command in '' $commands; do
     [ "$command" ] || continue
     # The words and options of the README's heading of the command, and those of its help.
     (cd "$room" && fleet "$command" --help) | awk -v command="$command" '
-        /^Usage:/ { for (i = 5; i <= NF; i++) words = words " " $i }
+        /^Usage:/ { for (i = 4; i <= NF; i++) words = words " " $i }
         /^ +--/ { option = $1; value = $2; values = ""
             if (match($0, /possible values: [^]]*/)) { values = substr($0, RSTART + 17, RLENGTH - 17); gsub(/, /, "|", values) }
             options = options " [" option " " (values == "" ? value : values) "]" }

@@ -31,6 +31,10 @@ rehearse $B --holds @
 auto @ $S
 auto $M @
 auto $M $S --holds @
+thin @ $S $B out
+thin $M @ $B out
+thin $M $S @ out
+migrate @ out
 EOF
 check 'the first of two missing files is told' 3 '' 'file a\n' 'fleet check a b c'
 check 'files are read before any is judged' 3 '' 'file nowhere\n' "fleet auto $S $S --holds nowhere"
@@ -83,6 +87,14 @@ if full=$(cd "$room" && in_full true 2>&1); then
 else
     skip "a full file system: $full"
 fi
+check 'a program in version 2' 0 'bytes 76\n' '' "fleet migrate $B out"
+check 'it runs as before' 0 '' '' "fleet rehearse out > a && fleet rehearse $B > b && cmp a b"
+check 'version 2 stays as it is' 0 'bytes 76\n' '' 'fleet migrate out again && cmp out again'
+check 'a program is written over itself' 0 'bytes 76\n' '' "cp $B same && fleet migrate same same && cmp same again"
+check 'no program' 1 '' 'load 2 Magic\n' "echo kept > out && fleet migrate $M out"
+check 'OUT stays as it was where there is no program' 0 'kept\n' '' 'cat out'
+check 'OUT of a program in no folder' 3 '' 'file no/out\n' "fleet migrate $B no/out"
+check 'OUT of a program is full' 3 '' 'file /dev/full\n' "fleet migrate $B /dev/full"
 check 'OUT has a blank in its name' 0 "$numbers" '' "fleet compile $M $S $P 'a b' && cmp 'a b' $B"
 check 'a name of one dash is a file' 0 "$numbers" '' "fleet compile $M $S $P - && cmp ./- $B && rm ./-"
 check 'a file of one dash is missing' 3 '' 'file -\n' 'fleet rehearse -'

@@ -42,5 +42,21 @@ check '4,194,304 lines of holds' 0 'agents 2\nticks 4194307\nchain 3\nheld 41943
 moves='BEGIN { m = "00"; while (length(m) < 131072) m = m m; print "4D504631 0041"; for (i = 0; i < 64; i++) print "0000000000000000 FFFF" substr(m, 3); print last }'
 check '4,194,304 moves' 0 'agents 65\nticks 65535\nheld 0\nfinished\n' '' \
     "awk -v last=\"0000000000000000 0040 \$(awk 'BEGIN { while (n++ < 64) printf \"00\" }')\" '$moves' | fleet | tail -n 4"
+far='BEGIN { m = "0103"; while (length(m) < 2000000) m = m m; printf "4D504632 0001 0000 0000 0000 0000 000F4240 %s", substr(m, 1, 2000000) }'
+check '1,000,000 moves of one agent' 0 'agents 1\nticks 1000000\nheld 0\nfinished\n' '' "awk '$far' | fleet | tail -n 4"
+check '1,000,001 moves of one agent' 1 '' 'load 5 Total\n' "echo '4D504632 0001 0000 0000 0000 0000 000F4241' | fleet"
+# The same in bytes, and 4,194,304 moves of five agents.
+cat > "$work/bin/east_and_back" <<'EOF'
+#!/bin/sh
+yes "$(printf '\1\3')" | tr -d '\n' | head -c "$1"
+EOF
+chmod +x "$work/bin/east_and_back"
+there="printf 'type t\nheight 1\nwidth 2\nmap\n..\n' > two.map && printf 'version 1\n0 m 2 1 0 0 0 0 0\n' > two.scen"
+check '1,000,000 moves in version 2 are accepted' 0 'accepted\nagents 1\nmoves 1000000\nawaits 0\nchain 1000000\n' '' \
+    "$there && { printf 'MPF2\0\1\0\0\0\0\0\0\0\0\0\17\102\100'; east_and_back 1000000; } > way && fleet verify two.map two.scen way"
+check '.. and run' 0 'agents 1\nticks 1000000\nchain 1000000\nheld 0\n' '' 'fleet run two.map two.scen way | tail -n 4'
+check '.. and stay as they are' 0 'bytes 1000018\n' '' 'fleet migrate way again && cmp way again'
+check '4,194,304 moves in version 2' 0 'agents 5\nticks 1000000\nheld 0\nfinished\n' '' \
+    "{ printf 'MPF2\0\5'; for agent in 0 1 2 3; do printf '\0\0\0\0\0\0\0\0\0\17\102\100'; east_and_back 1000000; done; printf '\0\0\0\0\0\0\0\0\0\2\367\0'; east_and_back 194304; } > most && fleet rehearse most | tail -n 4"
 check '4,194,305 moves' 1 '' 'load 5 Total\n' "awk -v last='0000000000000000 0041' '$moves' | fleet"
 rm -rf "$room"

@@ -79,7 +79,9 @@ REFUSER=$work/bin/refuse.so
 export input REFUSER
 
 check 'a program that holds break' 0 '' '' "{ head -c 28 examples/pair.program; printf '\\1\\20\\0\\0\\0\\2\\1'; } > unordered"
+check 'a program with implied awaits' 0 '' '' "fleet compile examples/corridor.map examples/corridor.scen examples/corridor.plan all --deps all > numbers"
 check 'agents that find paths in the second order' 0 '' '' "printf 'type t\\nheight 2\\nwidth 3\\nmap\\n...\\n@.@\\n' > mouth.map && printf 'version 1\\n0 m 3 2 1 1 1 0 1\\n0 m 3 2 0 0 2 0 2\\n' > mouth.scen"
+check 'a program in version 2' 0 'bytes 48\n' '' 'fleet migrate examples/pair.program pair2'
 if ${CC:-cc} -shared -fPIC -o "$REFUSER" "$root/tests/refuse.c" -ldl 2> /dev/null; then
     while read -r words; do
         check "each growth refused: $words" 0 'each\n' '' "growths fleet $words"
@@ -95,9 +97,13 @@ verify $on unordered
 run $on examples/pair.program
 run $on examples/pair.program --holds examples/corridor.holds
 rehearse examples/pair.program
+migrate examples/pair.program out
+migrate pair2 out
 auto $on
 auto $on --horizon 1
 auto mouth.map mouth.scen --tries 2
+thin $on examples/pair.program out
+thin examples/corridor.map examples/corridor.scen all out
 instance $on --agents 3
 verify examples/corridor.map examples/corridor.scen examples/pair.program
 EOF
@@ -115,8 +121,10 @@ done <<EOF
 64 plan $many
 16 compile $many plan out
 16 verify $many program
+16 thin $many program out
 16 run $many program
 16 rehearse program
+16 migrate program out
 64 auto $many --holds examples/warehouse.holds
 EOF
 rm -rf "$room"

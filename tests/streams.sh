@@ -20,6 +20,7 @@ verify $M $S $B
 run $M $S $B
 rehearse $B
 auto $M $S
+thin $M $S $B out
 EOF
 check 'standard output is full: no words' 3 '' 'run 4 Write\n' 'fleet < examples/corridor.hex > /dev/full'
 check 'standard output is closed: no words' 3 '' 'run 4 Write\n' 'fleet < examples/corridor.hex >&-'

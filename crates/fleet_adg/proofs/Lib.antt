@@ -13,4 +13,6 @@ pub mod Follow
 pub mod Listing
 pub mod Accepted
 pub mod Alike
+pub mod Staying
+pub mod StayingPlans
 pub mod Thinning

@@ -31,7 +31,7 @@ sum_by-map : {X Y : Type 0} (f : Y → ℕ) (g : X → Y) (xs : List X) → sum_
 sum_by-map f g [] = refl
 sum_by-map f g (x ∷ xs) = sum_by-cons f (g x) (map g xs) ∙ ap (λ s. f (g x) + s) (sum_by-map f g xs) ∙ sym (sum_by-cons (λ x. f (g x)) x xs)
 
-total_moves-compiled : (plan : Plan) (deps : Deps) → total_moves (compiled plan deps) ≡ moves_in_all plan
+pub total_moves-compiled : (plan : Plan) (deps : Deps) → total_moves (compiled plan deps) ≡ moves_in_all plan
 unfolding compiled agent_program moves_in_all moves_by
 total_moves-compiled plan deps =
     let f = λ (a : AgentProgram). length a.actions in

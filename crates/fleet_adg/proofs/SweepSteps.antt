@@ -1,8 +1,8 @@
 -- The steps of the sweep, as its loops take them.
-use Rattle.std.proofs.Common.{◌≡◌, ◌≢◌, ℕ, zero, suc, ◌+◌, ◌-◌, ◌<◌, ◌≤◌, Bool, true, false, cond, List, [], ◌∷◌, ◌++◌, map, set, take, replicate, filter, filter_map, not, ◌==◌, length, sum_by, get_or, slice_get, All, Some, Ok, Err, inl, inr, refl, sym, ap, ◌∙◌, subst, arith, add-one}
+use Rattle.std.proofs.Common.{◌≡◌, ◌≢◌, ℕ, zero, suc, ◌+◌, ◌-◌, ◌<◌, ◌≤◌, Bool, true, false, cond, List, [], ◌∷◌, ◌++◌, map, set, take, replicate, filter, filter_map, not, ◌==◌, length, sum_by, get_or, slice_get, All, Some, Ok, inl, inr, refl, sym, ap, ◌∙◌, subst, arith, add-one}
 use Rattle.std.specs.List.{range_with_len, fold}
-use Rattle.std.proofs.lemmas.Bool.{cases_Bool, cases_lt, cases_eq, lt-ltb, le-ltb, le-leb, both_ways, false_from_ne_true}
-use Rattle.std.proofs.lemmas.List.{length-set, get_or-set_same, get_or-set_other, get_or-replicate, get_or-drop, get_or_past, get_or_at, length-replicate, length_push, map_push}
+use Rattle.std.proofs.lemmas.Bool.{cases_Bool, cases_lt, cases_eq, lt-ltb, le-ltb, both_ways, false_from_ne_true}
+use Rattle.std.proofs.lemmas.List.{length-set, get_or-set_same, get_or-set_other, get_or-replicate, get_or-drop, get_or_past, get_or_at, length-map, length-replicate, length_push, map_push}
 use Rattle.std.proofs.lemmas.List.Sums.{fold_more, sum_by_push}
 use Rattle.std.proofs.lemmas.List.Filters.{FiltersInPlace}
 use Rattle.std.proofs.lemmas.List.FromFn.{length-map-range_with_len, get_or-map-range_with_len}
@@ -11,18 +11,16 @@ use Rattle.fleet_model.specs.declared.geometry.Cell.{Cell}
 use Rattle.fleet_model.specs.declared.geometry.Dir.{Dir}
 use Rattle.fleet_model.specs.declared.geometry.Step.TheVariants.{Go}
 use Rattle.fleet_model.specs.declared.task.Task.{Task}
-use Rattle.fleet_model.specs.declared.limits.TheConstants.{MAX_MOVES_IN_ALL}
 use Rattle.fleet_model.specs.Geometry.{place_of}
 use Rattle.fleet_model.specs.declared.program.Await.{Await}
 use Rattle.fleet_model.specs.declared.program.Action.{Action}
 use Rattle.fleet_model.specs.declared.program.AgentProgram.{AgentProgram}
 use Rattle.fleet_model.specs.Machine.{indices}
 use Rattle.fleet_model.specs.declared.deps.Deps.{Deps}
-use Rattle.fleet_adg.specs.declared.fault.CompileFault.{CompileFault}
 use Rattle.fleet_adg.specs.declared.leavings.Leavings.{Leavings}
 use Rattle.fleet_grid.specs.Ground.{Ground, IsGround, is_passable, cell_index}
 use Rattle.fleet_plan.specs.Plan.{Plan, cell_of, steps, IsConflictFree}
-use Rattle.fleet_adg.specs.Compiled.{direction, last_below, entry_awaits, changes_in, changes, moves_by, leaves, await_of, last_leaving_by, last_leaving, leavings, action_in, agent_program, compiled, moves_in_all, compiled_if_few}
+use Rattle.fleet_adg.specs.Compiled.{direction, last_below, entry_awaits, changes_in, changes, moves_by, leaves, await_of, last_leaving_by, last_leaving, leavings, action_in, agent_program, compiled, with_stays, compiled_staying, has_few_actions, compiled_staying_if_few}
 use Rattle.fleet_adg.specs.Leavings.{row_of, kind_of, noted, AreRowsApart, AreLeavingsAt}
 use Rattle.fleet_adg.specs.Sweep.{is_under_way, under_way, actions_by, all_actions_by, agent_from, IsOnMap}
 use Rattle.fleet_adg.proofs.Basics.{range_push}
@@ -303,15 +301,23 @@ agent_more plan actions done rest row agents a n made whole size is =
     ∙ sym (map_push (agent_from plan actions) (indices (length done)) (length done))
     ∙ ap (map (agent_from plan actions)) (ap (λ k. indices (length done) ++ k ∷ []) (sym z) ∙ sym (range_push 0 (length done)) ∙ ap indices (sym (length_push done row ∙ add-one (length done))))
 
+-- the same, where each agent stays so often after its actions
+pub staying_more : (stays : ℕ) (plan : Plan) (actions done rest : List (List Action)) (row : List Action) (agents : List AgentProgram) (a : AgentProgram) (n : ℕ) → agents ≡ map (with_stays stays) (map (agent_from plan actions) (indices (length done))) → done ++ row ∷ rest ≡ actions → n ≡ length agents → a ≡ with_stays stays (record { start = cell_of plan n 0; goal = cell_of plan n (steps plan); actions = row }) → agents ++ a ∷ [] ≡ map (with_stays stays) (map (agent_from plan actions) (indices (length (done ++ row ∷ []))))
+staying_more stays plan actions done rest row agents a n made whole size is =
+    let before : List AgentProgram = map (agent_from plan actions) (indices (length done)) in
+    let this : AgentProgram = record { start = cell_of plan n 0; goal = cell_of plan n (steps plan); actions = row } in
+    let more = agent_more plan actions done rest row before this n refl whole (size ∙ ap length made ∙ length-map before (with_stays stays)) refl in
+    (λ t. made t ++ is t ∷ []) ∙ sym (map_push (with_stays stays) before this) ∙ ap (map (with_stays stays)) more
+
 pub agent_there : (actions done rest : List (List Action)) (row : List Action) → done ++ row ∷ rest ≡ actions → length done < length actions
 agent_there actions done rest row e = omega (arith, ap length e, package.Rattle.std.proofs.lemmas.List.length-append done (row ∷ rest))
 
-pub length-agents : (plan : Plan) (actions : List (List Action)) (agents : List AgentProgram) (n : ℕ) → agents ≡ map (agent_from plan actions) (indices n) → length agents ≡ n
-length-agents plan actions agents n e = ap length e ∙ length-map-range_with_len (agent_from plan actions) 0 n
+pub length-agents : (stays : ℕ) (plan : Plan) (actions : List (List Action)) (agents : List AgentProgram) (n : ℕ) → agents ≡ map (with_stays stays) (map (agent_from plan actions) (indices n)) → length agents ≡ n
+length-agents stays plan actions agents n e = ap length e ∙ length-map (map (agent_from plan actions) (indices n)) (with_stays stays) ∙ length-map-range_with_len (agent_from plan actions) 0 n
 
 -- the program that is made is the one that is due
-pub program_is : (plan read : Plan) (deps : Deps) (actions : List (List Action)) (agents : List AgentProgram) → read ≡ plan → actions ≡ all_actions_by plan deps (steps plan) → agents ≡ map (agent_from read actions) (indices (length read)) → agents ≡ compiled plan deps
-program_is plan read deps actions agents e a h = h ∙ (λ t. map (agent_from (e t) (a t)) (indices (length (e t)))) ∙ compiled-from plan deps
+pub program_is : (stays : ℕ) (plan read : Plan) (deps : Deps) (actions : List (List Action)) (agents : List AgentProgram) → read ≡ plan → actions ≡ all_actions_by plan deps (steps plan) → agents ≡ map (with_stays stays) (map (agent_from read actions) (indices (length read))) → agents ≡ compiled_staying plan deps stays
+program_is stays plan read deps actions agents e a h = h ∙ ap (map (with_stays stays)) ((λ t. map (agent_from (e t) (a t)) (indices (length (e t)))) ∙ compiled-from plan deps)
 
-pub few_compile : (plan : Plan) (deps : Deps) (p : List AgentProgram) → moves_in_all plan ≤ MAX_MOVES_IN_ALL → p ≡ compiled plan deps → compiled_if_few plan deps ≡ Ok p
-few_compile plan deps p few e = ap (λ b. cond b (Ok (compiled plan deps)) (Err CompileFault.TooLong)) (le-leb (moves_in_all plan) MAX_MOVES_IN_ALL few) ∙ ap Ok (sym e)
+pub few_compile : (plan : Plan) (deps : Deps) (stays : ℕ) (p : List AgentProgram) → has_few_actions plan stays ≡ true → p ≡ compiled_staying plan deps stays → compiled_staying_if_few plan deps stays ≡ Ok p
+few_compile plan deps stays p few e = rw few (ap Ok (sym e))

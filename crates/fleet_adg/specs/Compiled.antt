@@ -1,16 +1,17 @@
 -- The program of a plan: the actions of an agent are its changes of cell, in order, and each awaits earlier leavings of the cell that it enters.
-use Rattle.std.specs.Prelude.{◌≡◌, ◌≢◌, ◌<◌, IsTrue, IsFalse, ℕ, zero, suc, ◌+◌, Bool, not, ◌&&◌, ◌==◌, nat_lt, nat_le, if◌then◌else◌, List, length, map, filter, filter_map, Option, Some, None, option_map, option_and_then, option_to_list, is_some, sum_by, Result, Ok, Err}
+use Rattle.std.specs.Prelude.{◌≡◌, ◌≢◌, ◌<◌, ◌*◌, IsTrue, IsFalse, ℕ, zero, suc, ◌+◌, Bool, not, ◌&&◌, ◌==◌, nat_lt, nat_le, if◌then◌else◌, List, [], length, map, filter, filter_map, replicate, ◌++◌, Option, Some, None, option_map, option_and_then, option_to_list, is_some, sum_by, Result, Ok, Err}
 use Rattle.fleet_model.specs.declared.geometry.Cell.{Cell}
 use Rattle.fleet_model.specs.declared.geometry.Dir.{Dir}
 use Rattle.fleet_model.specs.declared.geometry.Dir.TheVariants.{North, East, South, West}
-use Rattle.fleet_model.specs.declared.geometry.Step.TheVariants.{Go}
+use Rattle.std.specs.List.{list_all}
+use Rattle.fleet_model.specs.declared.geometry.Step.TheVariants.{Go, Dwell}
 use Rattle.fleet_model.specs.declared.program.Await.{Await}
 use Rattle.fleet_model.specs.declared.program.Action.{Action}
 use Rattle.fleet_model.specs.declared.program.AgentProgram.{AgentProgram}
 use Rattle.fleet_model.specs.declared.deps.Deps.{Deps}
 use Rattle.fleet_adg.specs.declared.fault.CompileFault.{CompileFault}
 use Rattle.fleet_adg.specs.declared.fault.CompileFault.TheVariants.{TooLong}
-use Rattle.fleet_model.specs.declared.limits.TheConstants.{MAX_MOVES_IN_ALL}
+use Rattle.fleet_model.specs.declared.limits.TheConstants.{MAX_MOVES, MAX_MOVES_IN_ALL}
 use Rattle.fleet_model.specs.Geometry.{is_same_cell}
 use Rattle.fleet_model.specs.Program.{Program}
 use Rattle.fleet_model.specs.Machine.{indices}
@@ -85,6 +86,34 @@ moves_in_all plan = sum_by (λ i. moves_by plan i (steps plan)) (indices (length
 -- the program, where all agents together make few enough moves
 abbrev pub compiled_if_few : Plan → Deps → Result Program CompileFault
 compiled_if_few plan deps = if nat_le (moves_in_all plan) MAX_MOVES_IN_ALL then Ok (compiled plan deps) else Err TooLong
+
+-- a stay that awaits nobody
+abbrev pub stay : Action
+stay = record { step = Dwell; awaits = [] }
+
+-- the agent, which stays so often after all that it does
+abbrev pub with_stays : ℕ → AgentProgram → AgentProgram
+with_stays n a = record { start = a.start; goal = a.goal; actions = a.actions ++ replicate n stay }
+
+-- the program of a plan, where each agent stays so often after its moves, as does one that makes no move
+abbrev pub compiled_staying : Plan → Deps → ℕ → Program
+compiled_staying plan deps stays = map (with_stays stays) (compiled plan deps)
+
+-- no agent has too many actions then
+abbrev pub each_has_few : Plan → ℕ → Bool
+each_has_few plan stays = list_all (λ i. nat_le (moves_by plan i (steps plan) + stays) MAX_MOVES) (indices (length plan))
+
+-- .. nor have all agents together
+abbrev pub all_have_few : Plan → ℕ → Bool
+all_have_few plan stays = nat_le (moves_in_all plan + length plan * stays) MAX_MOVES_IN_ALL
+
+abbrev pub has_few_actions : Plan → ℕ → Bool
+has_few_actions plan stays = each_has_few plan stays && all_have_few plan stays
+
+-- that program, where each agent and all together have few enough actions
+abbrev pub compiled_staying_if_few : Plan → Deps → ℕ → Result Program CompileFault
+compiled_staying_if_few plan deps stays =
+    if has_few_actions plan stays then Ok (compiled_staying plan deps stays) else Err TooLong
 
 -- agent j stands on q at time s, before time t, and nobody after it: the latest visit of q before time t is by j
 pub record IsLatestVisit (plan : Plan) (q : Cell) (t j s : ℕ) : Type 0 where

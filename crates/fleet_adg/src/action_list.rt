@@ -1,8 +1,9 @@
 //! The actions of one agent, while they are made.
 
-ghost use Rattle.std.specs.Prelude.{◌≡◌, ◌++◌, [], ◌∷◌, length, OnOk, IfOk};
+ghost use Rattle.std.specs.Prelude.{◌≡◌, ◌++◌, [], ◌∷◌, length, replicate, OnOk, IfOk};
+ghost use Rattle.fleet_adg.specs.Compiled.{stay};
 
-use fleet_model::Action;
+use fleet_model::{Action, Awaits, Step};
 use std::alloc::{AllocError, AllocFailed, Global};
 use std::marker::Model;
 
@@ -45,10 +46,22 @@ impl ActionList {
         self.actions.len()
     }
 
-    /// All of them, from the first.
-    pub(crate) fn into_vec(self) -> Vec<Action>
-        ensures { result.items ≡ self }
+    /// All of them, from the first, and then so many stays that await nobody.
+    pub(crate) fn into_vec_with_stays(
+        self,
+        alloc: Global,
+        stays: u32,
+    ) -> Result<Vec<Action>, AllocError>
+        ensures { IfOk result (λ v. v.items ≡ self ++ replicate stays stay) }
     {
-        self.actions
+        let mut actions = self.actions;
+        actions.reserve_exact(stays as usize)?;
+        for _ in 0..stays {
+            actions.push(Action {
+                step: Step::Dwell,
+                awaits: Awaits::new(alloc),
+            })?;
+        }
+        Ok(actions)
     }
 }

@@ -7,14 +7,14 @@ ghost use Rattle.fleet_model.specs.Answer.{IsDueUnless};
 ghost use Rattle.fleet_grid.specs.Ground.{is_passable};
 ghost use Rattle.fleet_model.specs.Machine.{indices};
 ghost use Rattle.fleet_model.specs.declared.deps.Deps.{Deps};
-ghost use Rattle.fleet_adg.specs.Compiled.{moves_in_all, compiled, compiled_if_few};
+ghost use Rattle.fleet_adg.specs.Compiled.{moves_in_all, compiled, compiled_if_few, with_stays, compiled_staying, each_has_few, all_have_few, has_few_actions, compiled_staying_if_few};
 ghost use Rattle.fleet_chains.specs.Reduced.{RunEqually};
 ghost use Rattle.fleet_adg.specs.Sweep.{agent_from};
 
 use crate::action_list::ActionList;
 use crate::fault::CompileFault;
 use crate::sweep::{actions_of, moves_of};
-use fleet_model::{AgentProgram, Deps, MAX_MOVES_IN_ALL, OutOfMemory, Program};
+use fleet_model::{AgentProgram, Deps, MAX_MOVES, MAX_MOVES_IN_ALL, OutOfMemory, Program};
 use fleet_plan::{Checked, Plan};
 use std::alloc::Global;
 
@@ -30,13 +30,63 @@ pub fn compile(alloc: Global, checked: &Checked<'_>, deps: Deps) -> Result<Progr
     // The programs of one plan run equally, whichever leavings they await.
     ensures equally { IfOk result (λ p. (other : Deps) → RunEqually p (compiled checked.now.plan other)) }
 {
+    // The plan that is read shows that it is within the limits, so no agent makes too many moves.
+    let _plan = checked.plan();
+    compile_dwell(alloc, checked, deps, 0)
+}
+
+/// The program of `compile`, where each agent stays on its last cell for `dwell` actions more, as does an agent that makes no
+/// move. These await nobody, and nobody awaits them.
+///
+/// It is refused as `TooLong` exactly where an agent would have more than 1,000,000 actions, or all agents more than
+/// 4,194,304 together. The program is accepted for the plan's map and instance. With either `deps` it runs equally.
+pub fn compile_dwell(
+    alloc: Global,
+    checked: &Checked<'_>,
+    deps: Deps,
+    dwell: u32,
+) -> Result<Program, CompileFault>
+    ensures program { IsDueUnless (λ p. p) result
+        (compiled_staying_if_few checked.now.plan deps dwell) CompileFault.OutOfMemory }
+    ensures accepted { IfOk result (IsAccepted (is_passable checked.now.grid) checked.now.instance) }
+    // The programs of one plan run equally, whichever leavings they await.
+    ensures equally { IfOk result (λ p. (other : Deps) → RunEqually p (compiled_staying checked.now.plan other dwell)) }
+{
     let plan = checked.plan();
-    if moves_of_all(plan) > MAX_MOVES_IN_ALL {
+    if !has_few_actions(plan, dwell) {
         return Err(CompileFault::TooLong);
     }
     let actions = actions_of(alloc, checked, deps)?;
-    let agents = agent_programs(alloc, plan, actions)?;
+    let agents = agent_programs(alloc, plan, actions, dwell)?;
     Ok(Program::new(agents))
+}
+
+/// Whether no agent has too many actions, nor all agents together, where each stays so often after its moves.
+fn has_few_actions(plan: &Plan, stays: u32) -> bool
+    ensures { result ≡ has_few_actions plan.now stays }
+{
+    each_has_few(plan, stays) && all_have_few(plan, stays)
+}
+
+/// Whether no agent has too many actions then.
+#[tactic(auto, using(crate::proofs::StayingPlans::each_few, crate::proofs::StayingPlans::some_too_long))]
+fn each_has_few(plan: &Plan, stays: u32) -> bool
+    ensures { result ≡ each_has_few plan.now stays }
+{
+    for i in 0..plan.agents() {
+        if u64::from(moves_of(plan, i)) + u64::from(stays) > u64::from(MAX_MOVES) {
+            return false;
+        }
+    }
+    true
+}
+
+/// Whether all agents together do not have too many then.
+fn all_have_few(plan: &Plan, stays: u32) -> bool
+    ensures { result ≡ all_have_few plan.now stays }
+{
+    let added = u64::from(plan.agents()) * u64::from(stays);
+    u64::from(moves_of_all(plan)) + added <= u64::from(MAX_MOVES_IN_ALL)
 }
 
 /// How many moves all agents make.
@@ -50,14 +100,16 @@ fn moves_of_all(plan: &Plan) -> u32
     moves
 }
 
-/// The program of each agent, from its actions.
+/// The program of each agent, from its actions, after which it stays so often.
 fn agent_programs(
     alloc: Global,
     plan: &Plan,
     actions: Vec<ActionList>,
+    stays: u32,
 ) -> Result<Vec<AgentProgram>, OutOfMemory>
     requires { length actions.items ≡ length plan.now }
-    ensures { IfOk result (λ agents. agents.items ≡ map (agent_from plan.now actions.items) (indices (length plan.now))) }
+    ensures { IfOk result (λ agents. agents.items
+        ≡ map (with_stays stays) (map (agent_from plan.now actions.items) (indices (length plan.now)))) }
 {
     let mut agents = Vec::with_capacity(alloc, actions.len())?;
     let end = plan.steps();
@@ -65,7 +117,8 @@ fn agent_programs(
         let i = agents.len() as u16;
         let start = plan.cell(i, 0);
         let goal = plan.cell(i, end);
-        agents.push(AgentProgram::new(start, goal, list.into_vec()))?;
+        let own = list.into_vec_with_stays(alloc, stays)?;
+        agents.push(AgentProgram::new(start, goal, own))?;
     }
     Ok(agents)
 }

@@ -9,8 +9,8 @@ use thiserror::Error;
 pub enum CompileFault {
     #[error("out of memory")]
     OutOfMemory,
-    /// All agents together make at most 4,194,304 moves.
-    #[error("the agents make more than 4194304 moves together")]
+    /// An agent has at most 1,000,000 actions, and all agents together have at most 4,194,304.
+    #[error("an agent has more than 1000000 actions, or the agents have more than 4194304 together")]
     TooLong,
 }
 

@@ -12,7 +12,7 @@ mod sweep;
 mod thin_fault;
 mod thinner;
 
-pub use compiler::compile;
+pub use compiler::{compile, compile_dwell};
 pub use fault::CompileFault;
 pub use fleet_model::Deps;
 pub use laws::{

@@ -20,7 +20,7 @@ use Rattle.clap.proofs.ValueTestLemmas.{accepts-Accepts}
 use Rattle.clap.proofs.WalkLemmas.{both}
 use Rattle.fleet_model.specs.declared.deps.Deps.{Deps}
 use Rattle.fleet_model.specs.declared.deps.Deps.TheVariants as deps
-use Rattle.fleet_args.specs.Arguments.{DepsNames, AreDeps, agents_rule, horizon_rule, tries_rule, deps_rule, word}
+use Rattle.fleet_args.specs.Arguments.{DepsNames, AreDeps, agents_rule, horizon_rule, tries_rule, deps_rule, dwell_rule, word}
 use Rattle.fleet_args.specs.CommandLine.{fleet, fleet_top}
 use Rattle.fleet_args.specs.Instance.{instance_shape}
 use Rattle.fleet_args.specs.Check.{check_shape}
@@ -30,6 +30,9 @@ use Rattle.fleet_args.specs.Verify.{verify_shape}
 use Rattle.fleet_args.specs.Run.{run_shape}
 use Rattle.fleet_args.specs.Rehearse.{rehearse_shape}
 use Rattle.fleet_args.specs.Auto.{auto_shape}
+use Rattle.fleet_args.specs.Thin.{thin_shape}
+use Rattle.fleet_args.specs.Migrate.{migrate_shape}
+use Rattle.fleet_args.specs.List.{list_shape}
 use Rattle.fleet_args.specs.Values.{Values, values_of, deps_in, number_by, number_in, has_text, reads_number, has_number, has_count, has_kind}
 use Rattle.fleet_args.specs.Request.{is_answered_by}
 use Rattle.fleet_args.proofs.RequestLemmas.{digits_from, is_small, is_small_number}
@@ -140,6 +143,12 @@ module _ (shape : Shape) (negates : (leaf shape).subcommand_negates_reqs ≡ fal
       let value = number_value 32 (at place tries_rule) rows 1 1000000 refl (omega arith) (default_value (leaf shape) words none (at place tries_rule) alone refl refl) in
       ap (λ number. is_some (option_and_then (λ n. n) number)) value.1
 
+  dwell : (place : ℕ) → IsAt shape place (codes "dwell") dwell_rule → has_count values (codes "dwell") ≡ true
+  dwell place alone =
+      let rows = rows_after (leaf shape).rules [] words in
+      let value = number_value 32 (at place dwell_rule) rows 0 1000000 refl (omega arith) (default_value (leaf shape) words none (at place dwell_rule) alone refl refl) in
+      ap (λ number. is_some (option_and_then (λ n. n) number)) value.1
+
   kind : (names : DepsNames) → AreDeps names → (place : ℕ) → IsAt shape place (codes "deps") (deps_rule names) → has_kind values (codes "deps") ≡ true
   kind names are place alone =
       let rows = rows_after (leaf shape).rules [] words in
@@ -184,6 +193,7 @@ compile_answers names are words none =
       text (compile_shape names) refl words none 4 (codes "out") refl,
       agents (compile_shape names) refl words none 5 refl,
       kind (compile_shape names) refl words none names are 6 refl,
+      dwell (compile_shape names) refl words none 7 refl,
     ) refl
 
 verify_answers : (words : List Text) → Answers verify_shape words
@@ -219,6 +229,27 @@ auto_answers names are words none =
       kind (auto_shape names) refl words none names are 6 refl,
     ) refl
 
+thin_answers : (words : List Text) → Answers thin_shape words
+thin_answers words none =
+    rw (
+      text thin_shape refl words none 1 (codes "map") refl,
+      text thin_shape refl words none 2 (codes "scen") refl,
+      text thin_shape refl words none 3 (codes "program") refl,
+      text thin_shape refl words none 4 (codes "out") refl,
+      agents thin_shape refl words none 5 refl,
+    ) refl
+
+migrate_answers : (words : List Text) → Answers migrate_shape words
+migrate_answers words none =
+    rw (
+      text migrate_shape refl words none 1 (codes "program") refl,
+      text migrate_shape refl words none 2 (codes "out") refl,
+    ) refl
+
+list_answers : (words : List Text) → Answers list_shape words
+list_answers words none =
+    rw (text list_shape refl words none 1 (codes "program") refl) refl
+
 -- ---- the command line
 
 answers_each : (names : DepsNames) → AreDeps names → (s : Shape) (words : List Text) → Among s (built (fleet names)).subs → (name : Text) → answers_to name (label_of s) ≡ true
@@ -239,9 +270,18 @@ answers_each names are s words among name named no_help = elim among [
               | inl same ↦ subst P (sym same) (rehearse_answers words)
               | inr eighth ↦ elim eighth [
                 | inl same ↦ subst P (sym same) (auto_answers names are words)
-                | inr last ↦ elim last [
-                  | inl same ↦ λ none. absurd (true≢false (sym (helps (ap (λ x. answers_to name (label_of x)) (sym same) ∙ named)) ∙ no_help))
-                  | inr nothing ↦ absurd nothing
+                | inr ninth ↦ elim ninth [
+                  | inl same ↦ subst P (sym same) (thin_answers words)
+                  | inr tenth ↦ elim tenth [
+                    | inl same ↦ subst P (sym same) (migrate_answers words)
+                    | inr eleventh ↦ elim eleventh [
+                      | inl same ↦ subst P (sym same) (list_answers words)
+                      | inr last ↦ elim last [
+                        | inl same ↦ λ none. absurd (true≢false (sym (helps (ap (λ x. answers_to name (label_of x)) (sym same) ∙ named)) ∙ no_help))
+                        | inr nothing ↦ absurd nothing
+                      ]
+                    ]
+                  ]
                 ]
               ]
             ]

@@ -39,6 +39,10 @@ AreDeps names = map (λ name. name.now) names.now ≡ codes "all" ∷ codes "las
 abbrev pub deps_rule : DepsNames → Rule
 deps_rule names = record (option (codes "deps")) { parser = Some (parser.Names names); defaults = codes "last" ∷ [] }
 
+-- `--dwell N`, where N is a number up to 1000000, and 0 where it is not used
+abbrev pub dwell_rule : Rule
+dwell_rule = record (option (codes "dwell")) { parser = Some (parser.Signed (pos 0) (pos 1000000)); defaults = codes "0" ∷ [] }
+
 -- a command without subcommands, by its name and its arguments
 abbrev pub command : Text → List Rule → Shape
 command name rules = (fold with_rule (new_app name) rules).top

@@ -8,5 +8,8 @@ pub mod Verify
 pub mod Run
 pub mod Rehearse
 pub mod Auto
+pub mod Thin
+pub mod Migrate
+pub mod List
 pub mod CommandLine
 pub mod Request

@@ -15,6 +15,9 @@ use Rattle.fleet_args.specs.Verify.{AsksVerify, has_verify_values}
 use Rattle.fleet_args.specs.Run.{AsksRun, has_run_values}
 use Rattle.fleet_args.specs.Rehearse.{AsksRehearse, has_rehearse_values}
 use Rattle.fleet_args.specs.Auto.{AsksAuto, has_auto_values}
+use Rattle.fleet_args.specs.Thin.{AsksThin, has_thin_values}
+use Rattle.fleet_args.specs.Migrate.{AsksMigrate, has_migrate_values}
+use Rattle.fleet_args.specs.List.{AsksList, has_list_values}
 use Rattle.fleet_args.specs.declared.request.Request.{Request}
 use Rattle.fleet_args.specs.declared.request.Request.TheVariants as r
 use Rattle.fleet_args.specs.declared.request.WordStop.{WordStop}
@@ -30,6 +33,9 @@ AsksCommand name values (r.Verify request) = (name ≡ codes "verify") × AsksVe
 AsksCommand name values (r.Run request) = (name ≡ codes "run") × AsksRun values request
 AsksCommand name values (r.Rehearse request) = (name ≡ codes "rehearse") × AsksRehearse values request
 AsksCommand name values (r.Auto request) = (name ≡ codes "auto") × AsksAuto values request
+AsksCommand name values (r.Thin request) = (name ≡ codes "thin") × AsksThin values request
+AsksCommand name values (r.Migrate request) = (name ≡ codes "migrate") × AsksMigrate values request
+AsksCommand name values (r.List request) = (name ≡ codes "list") × AsksList values request
 
 -- this is the name of a command, and what it cannot do without has values
 abbrev pub has_values : Text → Values → Bool
@@ -41,7 +47,11 @@ has_values name values =
     else (if bytes_eq name (codes "verify") then has_verify_values values
     else (if bytes_eq name (codes "run") then has_run_values values
     else (if bytes_eq name (codes "rehearse") then has_rehearse_values values
-    else (if bytes_eq name (codes "auto") then has_auto_values values else false)))))))
+    else (if bytes_eq name (codes "auto") then has_auto_values values
+    else (if bytes_eq name (codes "thin") then has_thin_values values
+    else (if bytes_eq name (codes "migrate") then has_migrate_values values
+    else (if bytes_eq name (codes "list") then has_list_values values
+    else false))))))))))
 
 -- the command that was found, with its rows, asks this
 abbrev pub AsksBy : Option (Text × List Row) → Request → Type 0

@@ -1,7 +1,7 @@
 //! The words and options of the commands, as `clap` reads them.
 
 ghost use Rattle.std.specs.Prelude.{◌∷◌, [], IfOk, codes};
-ghost use Rattle.fleet_args.specs.Arguments.{IsArg, IsLeafCommand, word, option, agents_rule, horizon_rule, tries_rule, deps_rule, command};
+ghost use Rattle.fleet_args.specs.Arguments.{IsArg, IsLeafCommand, word, option, agents_rule, horizon_rule, tries_rule, deps_rule, dwell_rule, command};
 
 use clap::{Arg, Command};
 use std::alloc::{AllocError, Global};
@@ -131,6 +131,19 @@ pub(crate) fn deps<'a>(alloc: Global, names: &'a [&'a str]) -> Arg<'a>
     )
     .value_parser(names)
     .default_value("last")
+}
+
+pub(crate) fn dwell<'a>(alloc: Global) -> Arg<'a>
+    ensures { IsArg dwell_rule result }
+{
+    option(
+        alloc,
+        "dwell",
+        "N",
+        "How many actions each agent stays on its last cell after its moves, 0 to 1000000",
+    )
+    .value_parser(clap::value_parser!(u32).range(0..=1_000_000))
+    .default_value("0")
 }
 
 pub(crate) fn holds<'a>(alloc: Global) -> Arg<'a>

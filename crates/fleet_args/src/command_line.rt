@@ -8,9 +8,12 @@ use crate::auto::auto_command;
 use crate::check::check_command;
 use crate::compile::compile_command;
 use crate::instance::instance_command;
+use crate::list::list_command;
+use crate::migrate::migrate_command;
 use crate::plan::plan_command;
 use crate::rehearse::rehearse_command;
 use crate::run::run_command;
+use crate::thin::thin_command;
 use crate::verify::verify_command;
 use clap::Command;
 use std::alloc::{AllocError, Global};
@@ -45,5 +48,8 @@ pub fn fleet_command<'a>(alloc: Global, names: &'a [&'a str]) -> Result<Command<
         .subcommand(verify_command(alloc)?)?
         .subcommand(run_command(alloc)?)?
         .subcommand(rehearse_command(alloc)?)?
-        .subcommand(auto_command(alloc, names)?)
+        .subcommand(auto_command(alloc, names)?)?
+        .subcommand(thin_command(alloc)?)?
+        .subcommand(migrate_command(alloc)?)?
+        .subcommand(list_command(alloc)?)
 }

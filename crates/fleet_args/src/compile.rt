@@ -1,17 +1,17 @@
 //! The command `compile`: what it is asked for, its words and options, and how they are read.
 
-ghost use Rattle.std.specs.Prelude.{◌≡◌, false, IfOk, MatchOption};
-ghost use Rattle.fleet_args.specs.Arguments.{IsLeafCommand};
+ghost use Rattle.std.specs.Prelude.{◌≡◌, ◌∷◌, [], false, IfOk, MatchOption, codes};
+ghost use Rattle.fleet_args.specs.Arguments.{IsLeafCommand, command, word};
 ghost use Rattle.fleet_args.specs.Values.{values_in};
 ghost use Rattle.fleet_args.specs.Compile.{compile_shape, AsksCompile, has_compile_values};
 
-use crate::arguments::{agents, deps, map_and_scen, out, plan};
-use crate::values::{deps_of, number};
+use crate::arguments::{agents, deps, dwell, map_and_scen, out, plan};
+use crate::values::{count, deps_of, number};
 use clap::{ArgMatches, Command};
 use fleet_model::Deps;
 use std::alloc::{AllocError, Global};
 
-/// `fleet compile MAP SCEN PLAN OUT [--agents K] [--deps DEPS]`
+/// `fleet compile MAP SCEN PLAN OUT [--agents K] [--deps DEPS] [--dwell N]`
 #[derive(Clone, Copy, Debug, PartialEq, Eq)]
 pub struct CompileRequest<'a> {
     pub map: &'a str,
@@ -20,6 +20,21 @@ pub struct CompileRequest<'a> {
     pub out: &'a str,
     pub agents: Option<u16>,
     pub deps: Deps,
+    pub dwell: u32,
+}
+
+/// The command with its words, before its options.
+fn compile_words<'a>(alloc: Global) -> Result<Command<'a>, AllocError>
+    ensures { IfOk result (IsLeafCommand (command (codes "compile")
+        (word (codes "map") ∷ word (codes "scen") ∷ word (codes "plan") ∷ word (codes "out") ∷ []))) }
+{
+    map_and_scen(
+        alloc,
+        "compile",
+        "Compiles a conflict-free plan into a program, writes it to OUT, and prints its agents, moves, awaits and bytes",
+    )?
+    .arg(plan(alloc))?
+    .arg(out(alloc))
 }
 
 pub(crate) fn compile_command<'a>(
@@ -28,15 +43,10 @@ pub(crate) fn compile_command<'a>(
 ) -> Result<Command<'a>, AllocError>
     ensures { IfOk result (IsLeafCommand (compile_shape names.entry)) }
 {
-    map_and_scen(
-        alloc,
-        "compile",
-        "Compiles a conflict-free plan into a program, writes it to OUT, and prints its agents, moves, awaits and bytes",
-    )?
-    .arg(plan(alloc))?
-    .arg(out(alloc))?
-    .arg(agents(alloc))?
-    .arg(deps(alloc, names))
+    compile_words(alloc)?
+        .arg(agents(alloc))?
+        .arg(deps(alloc, names))?
+        .arg(dwell(alloc))
 }
 
 /// What the matches of the command ask: none where a word is missing, or a text is no number or name.
@@ -51,5 +61,6 @@ pub(crate) fn compile_in<'a>(matches: &ArgMatches<'a>) -> Option<CompileRequest<
         out: matches.get_str("out")?,
         agents: number(matches, "agents")?,
         deps: deps_of(matches.get_str("deps")?)?,
+        dwell: count(matches, "dwell")??,
     })
 }

@@ -11,9 +11,12 @@ use crate::check::{CheckRequest, check_in};
 use crate::command_line::fleet_command;
 use crate::compile::{CompileRequest, compile_in};
 use crate::instance::{InstanceRequest, instance_in};
+use crate::list::{ListRequest, list_in};
+use crate::migrate::{MigrateRequest, migrate_in};
 use crate::plan::{PlanRequest, plan_in};
 use crate::rehearse::{RehearseRequest, rehearse_in};
 use crate::run::{RunRequest, run_in};
+use crate::thin::{ThinRequest, thin_in};
 use crate::verify::{VerifyRequest, verify_in};
 use clap::ArgMatches;
 use clap::error::ErrorKind;
@@ -31,6 +34,9 @@ pub enum Request<'a> {
     Run(RunRequest<'a>),
     Rehearse(RehearseRequest<'a>),
     Auto(AutoRequest<'a>),
+    Thin(ThinRequest<'a>),
+    Migrate(MigrateRequest<'a>),
+    List(ListRequest<'a>),
 }
 
 /// Why the words are no request. The texts are `clap`'s, of whole lines: what is wrong and how to get help, or the help.
@@ -58,6 +64,9 @@ fn request_by<'a>(name: &str, matches: &ArgMatches<'a>) -> Option<Request<'a>>
         "run" => Some(Request::Run(run_in(matches)?)),
         "rehearse" => Some(Request::Rehearse(rehearse_in(matches)?)),
         "auto" => Some(Request::Auto(auto_in(matches)?)),
+        "thin" => Some(Request::Thin(thin_in(matches)?)),
+        "migrate" => Some(Request::Migrate(migrate_in(matches)?)),
+        "list" => Some(Request::List(list_in(matches)?)),
         _ => None,
     }
 }

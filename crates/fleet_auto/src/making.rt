@@ -1,7 +1,6 @@
 //! The steps from a map and an instance to the bytes of a program that is accepted for them.
 
 ghost use Rattle.std.specs.Prelude.{IfOk, IfErr};
-ghost use Rattle.fleet_model.specs.Program.{NeverStays};
 ghost use Rattle.fleet_auto.specs.Making.{IsMadeFor, SpellsMade, IsMakingFault};
 
 use crate::fault::AutoFault;
@@ -23,7 +22,6 @@ fn made_program(
     deps: Deps,
 ) -> Result<Program, AutoFault>
     ensures made { IfOk result (IsMadeFor grid.now instance.now horizon tries deps) }
-    ensures moves { IfOk result NeverStays }
     ensures fault { IfErr result (IsMakingFault grid.now instance.now horizon tries deps) }
 {
     let checked = plan_in_orders(alloc, grid, instance, horizon, tries)?;
@@ -47,7 +45,7 @@ pub fn made_bytes(
     match encode_shortest(alloc, &program) {
         Ok(bytes) => Ok(bytes),
         Err(EncodeFault::OutOfMemory) => Err(AutoFault::OutOfMemory),
-        // It never stays, and version 2 has bytes for every count.
+        // Version 2 has bytes for every program.
         Err(_) => unreachable!(),
     }
 }

@@ -20,10 +20,13 @@ use Rattle.fleet_cli.specs.CompileCommand.{DoesCompile, RefusesCompile}
 use Rattle.fleet_cli.specs.VerifyCommand.{DoesVerify, RefusesVerify}
 use Rattle.fleet_cli.specs.DriveCommand.{DoesRun, RefusesRun}
 use Rattle.fleet_cli.specs.AutoCommand.{DoesAuto, RefusesAuto}
+use Rattle.fleet_cli.specs.ThinCommand.{DoesThin, RefusesThin}
+use Rattle.fleet_cli.specs.MigrateCommand.{DoesMigrate, RefusesMigrate}
+use Rattle.fleet_cli.specs.ListCommand.{DoesList, RefusesList}
 use Rattle.fleet_io.specs.declared.fault.Fault.{Fault}
 use Rattle.fleet_io.specs.declared.fault.Fault.TheVariants as f
 
--- what each command does: all but `compile` leave every file as before
+-- what each command does: all but `compile`, `thin` and `migrate` leave every file as before
 abbrev pub DoesRequest : (files after : Option Store) → Request → (out out' : SinkState) → ℕ → Type 0
 DoesRequest files after (r.Instance request) out out' status = DoesInstance files request out out' status × IsKept files after
 DoesRequest files after (r.Check request) out out' status = DoesCheck files request out out' status × IsKept files after
@@ -33,6 +36,9 @@ DoesRequest files after (r.Verify request) out out' status = DoesVerify files re
 DoesRequest files after (r.Run request) out out' status = DoesRun files request out out' status × IsKept files after
 DoesRequest files after (r.Rehearse request) out out' status = DoesRehearse files request out out' status × IsKept files after
 DoesRequest files after (r.Auto request) out out' status = DoesAuto files request out out' status × IsKept files after
+DoesRequest files after (r.Thin request) out out' status = DoesThin files after request out out' status
+DoesRequest files after (r.Migrate request) out out' status = DoesMigrate files after request out out' status
+DoesRequest files after (r.List request) out out' status = DoesList files request out out' status × IsKept files after
 
 -- the refusals of each command
 abbrev pub RefusesRequest : (files after : Option Store) → Request → (out out' : SinkState) → Fault → Type 0
@@ -44,6 +50,9 @@ RefusesRequest files after (r.Verify request) out out' fault = RefusesVerify fil
 RefusesRequest files after (r.Run request) out out' fault = RefusesRun files request out out' fault × IsKept files after
 RefusesRequest files after (r.Rehearse request) out out' fault = RefusesRehearse files request out out' fault × IsKept files after
 RefusesRequest files after (r.Auto request) out out' fault = RefusesAuto files request out out' fault × IsKept files after
+RefusesRequest files after (r.Thin request) out out' fault = RefusesThin files after request out out' fault
+RefusesRequest files after (r.Migrate request) out out' fault = RefusesMigrate files after request out out' fault
+RefusesRequest files after (r.List request) out out' fault = RefusesList files request out out' fault × IsKept files after
 
 -- the request was done, and its status is answered; or a refusal was told, and the refusal's status is answered: the other output took
 -- that one line, or failed within it
@@ -61,7 +70,7 @@ StopsAtWords (w.Help text) out out' err err' status =
     × Receives err err' (line_text (codes "file" ∷ codes "-" ∷ [])))
 
 -- without words the run of the input; else the command that the words ask, or a stop at words that the command line does not take. Every
--- file is as before, but for what the command `compile` writes
+-- file is as before, but for what the commands `compile`, `thin` and `migrate` write
 abbrev pub RunsCommand : List Text → Option (List ℕ) → (files after : Option Store) → (out out' err err' : SinkState) → ℕ → Type 0
 RunsCommand [] input files after out out' err err' status = RunsHex input out out' err err' status × IsKept files after
 RunsCommand (word ∷ words) input files after out out' err err' status =

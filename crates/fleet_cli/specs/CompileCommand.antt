@@ -9,7 +9,7 @@ use Rattle.fleet_plan.specs.PlanText.{IsFirstTextFault}
 use Rattle.fleet_plan.specs.FirstFault.{IsFirstPlanFault}
 use Rattle.fleet_plan.specs.declared.text_fault.TextFault.TheVariants as t
 use Rattle.fleet_plan.specs.declared.plan_fault.PlanFault.TheVariants as p
-use Rattle.fleet_adg.specs.Compiled.{compiled_if_few}
+use Rattle.fleet_adg.specs.Compiled.{compiled_staying_if_few}
 use Rattle.fleet_model.specs.declared.deps.Deps.{Deps}
 use Rattle.fleet_adg.specs.declared.fault.CompileFault.TheVariants as c
 use Rattle.fleet_code.specs.Spelling.{Spells}
@@ -24,29 +24,29 @@ use Rattle.fleet_cli.specs.Problem.{IsProblemRefusal}
 use Rattle.fleet_io.specs.declared.fault.Fault.{Fault}
 use Rattle.fleet_io.specs.declared.fault.Fault.TheVariants as f
 
--- the texts stand for a map, for tasks and for a plan that is free of conflict; the program is that of the plan, and is accepted; and the
--- bytes spell it
-pub record CompilesTexts (map scen plan : List ℕ) (asked : Option ℕ) (deps : Deps) (program : Program) (bytes : List ℕ) : Type 0 where
+-- the texts stand for a map, for tasks and for a plan that is free of conflict; the program is that of the plan with so many stays after the
+-- moves of each agent, and is accepted; and the bytes spell it
+pub record CompilesTexts (map scen plan : List ℕ) (asked : Option ℕ) (deps : Deps) (dwell : ℕ) (program : Program) (bytes : List ℕ) : Type 0 where
   pub ground : Ground
   pub tasks : List Task
   pub paths : Plan
   pub texts : ArePlanTexts map scen plan asked ground tasks paths
   pub free : IsConflictFree (is_passable ground) tasks paths
-  pub compiled : compiled_if_few paths deps ≡ Ok program
+  pub compiled : compiled_staying_if_few paths deps dwell ≡ Ok program
   pub accepted : IsAccepted (is_passable ground) tasks program
   pub spelled : Spells bytes program
 
 -- the first fault of the texts, judged in this order: map, scenario, plan text, plan, program; or memory ran out
-abbrev pub IsCompileFault : (map scen plan : List ℕ) → Option ℕ → Deps → Fault → Type 0
-IsCompileFault map scen plan asked deps (f.Text fault) =
+abbrev pub IsCompileFault : (map scen plan : List ℕ) → Option ℕ → Deps → ℕ → Fault → Type 0
+IsCompileFault map scen plan asked deps dwell (f.Text fault) =
     (g : Ground) × (tasks : List Task) × AreTextsOf map scen asked g tasks × (fault ≢ t.OutOfMemory → IsFirstTextFault plan fault)
-IsCompileFault map scen plan asked deps (f.Check fault) =
+IsCompileFault map scen plan asked deps dwell (f.Check fault) =
     (g : Ground) × (tasks : List Task) × (paths : Plan) × ArePlanTexts map scen plan asked g tasks paths
     × (fault ≢ p.OutOfMemory → IsFirstPlanFault (is_passable g) tasks paths fault)
-IsCompileFault map scen plan asked deps (f.Compile fault) =
+IsCompileFault map scen plan asked deps dwell (f.Compile fault) =
     (g : Ground) × (tasks : List Task) × (paths : Plan) × ArePlanTexts map scen plan asked g tasks paths × IsConflictFree (is_passable g) tasks paths
-    × (fault ≢ c.OutOfMemory → compiled_if_few paths deps ≡ Err fault)
-IsCompileFault map scen plan asked deps fault = IsProblemRefusal map scen asked fault
+    × (fault ≢ c.OutOfMemory → compiled_staying_if_few paths deps dwell ≡ Err fault)
+IsCompileFault map scen plan asked deps dwell fault = IsProblemRefusal map scen asked fault
 
 -- the agents, the moves and the awaits of the program, and its bytes, each with its number
 abbrev pub compiled_text : Program → List ℕ → List ℕ
@@ -57,14 +57,14 @@ compiled_text p bytes =
 abbrev pub CompilesFiles : Option Store → CompileRequest → Program → List ℕ → Type 0
 CompilesFiles files r program bytes =
     (map scen plan : List ℕ) × AreRead files (r.map.now ∷ r.scen.now ∷ r.plan.now ∷ []) (map ∷ scen ∷ plan ∷ [])
-    × CompilesTexts map scen plan r.agents r.deps program bytes
+    × CompilesTexts map scen plan r.agents r.deps r.dwell program bytes
 
 -- a file was not read; or all were, and what they hold is refused
 abbrev pub IsCompileRefusal : Option Store → CompileRequest → Fault → Type 0
 IsCompileRefusal files r fault =
     IsUnread files (r.map.now ∷ r.scen.now ∷ r.plan.now ∷ []) fault
     ⊎ ((map scen plan : List ℕ) × AreRead files (r.map.now ∷ r.scen.now ∷ r.plan.now ∷ []) (map ∷ scen ∷ plan ∷ [])
-    × IsCompileFault map scen plan r.agents r.deps fault)
+    × IsCompileFault map scen plan r.agents r.deps r.dwell fault)
 
 -- the file of the program holds its bytes, every other file is as before, and the program's numbers were printed
 abbrev pub DoesCompile : (files after : Option Store) → CompileRequest → (out out' : SinkState) → ℕ → Type 0

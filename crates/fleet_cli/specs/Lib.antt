@@ -10,3 +10,6 @@ pub mod DriveCommand
 pub mod PlanCommand
 pub mod CompileCommand
 pub mod AutoCommand
+pub mod ThinCommand
+pub mod MigrateCommand
+pub mod ListCommand

@@ -10,8 +10,11 @@ use crate::compile_command::do_compile;
 use crate::drive_command::do_run;
 use crate::hex_run::run_hex;
 use crate::instance_command::do_instance;
+use crate::list_command::do_list;
+use crate::migrate_command::do_migrate;
 use crate::plan_command::do_plan;
 use crate::rehearse_command::do_rehearse;
+use crate::thin_command::do_thin;
 use crate::verify_command::do_verify;
 use fleet_args::{Request, WordStop, read_words};
 use fleet_io::{Fault, Files, deliver, finish, refuse};
@@ -40,6 +43,9 @@ fn do_request<'a, F: Files, O: Flush>(
         Request::Run(request) => do_run(alloc, request, files, out),
         Request::Rehearse(request) => do_rehearse(alloc, request, files, out),
         Request::Auto(request) => do_auto(alloc, request, files, out),
+        Request::Thin(request) => do_thin(alloc, request, files, out),
+        Request::Migrate(request) => do_migrate(alloc, request, files, out),
+        Request::List(request) => do_list(alloc, request, files, out),
     }
 }
 

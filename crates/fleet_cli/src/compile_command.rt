@@ -8,7 +8,7 @@ ghost use Rattle.fleet_cli.specs.CompileCommand.{CompilesTexts, IsCompileFault, 
 
 use crate::output::write_out;
 use crate::problem::read_problem;
-use fleet_adg::{Deps, compile};
+use fleet_adg::compile_dwell;
 use fleet_args::CompileRequest;
 use fleet_code::{EncodeFault, encode_shortest};
 use fleet_io::{Fault, Files, read_files};
@@ -24,19 +24,20 @@ struct Compiled {
     bytes: Vec<u8>,
 }
 
-/// The program of the plan for which the texts stand.
+/// The program, as it is asked for, of the plan for which the texts stand.
 fn compile_texts<'a>(
     alloc: Global,
     map: &[u8],
     scen: &[u8],
     plan: &[u8],
-    asked: Option<u16>,
-    deps: Deps,
+    request: &CompileRequest<'_>,
 ) -> Result<Compiled, Fault<'a>>
-    ensures compiled { IfOk result (λ c. CompilesTexts map.now scen.now plan.now asked deps c.program c.bytes.items) }
-    ensures fault { IfErr result (IsCompileFault map.now scen.now plan.now asked deps) }
+    ensures compiled { IfOk result (λ c. CompilesTexts map.now scen.now plan.now
+        request.now.agents request.now.deps request.now.dwell c.program c.bytes.items) }
+    ensures fault { IfErr result (IsCompileFault map.now scen.now plan.now
+        request.now.agents request.now.deps request.now.dwell) }
 {
-    let problem = read_problem(alloc, map, scen, asked)?;
+    let problem = read_problem(alloc, map, scen, request.agents)?;
     let plan = match read_plan(alloc, plan) {
         Ok(plan) => plan,
         Err(fault) => return Err(Fault::Text(fault)),
@@ -45,14 +46,14 @@ fn compile_texts<'a>(
         Ok(checked) => checked,
         Err(refusal) => return Err(Fault::Check(refusal.fault)),
     };
-    let program = match compile(alloc, &checked, deps) {
+    let program = match compile_dwell(alloc, &checked, request.deps, request.dwell) {
         Ok(program) => program,
         Err(fault) => return Err(Fault::Compile(fault)),
     };
     let bytes = match encode_shortest(alloc, &program) {
         Ok(bytes) => bytes,
         Err(EncodeFault::OutOfMemory) => return Err(Fault::Memory),
-        // A compiled program never stays, and version 2 has bytes for every count.
+        // Version 2 has bytes for every program.
         Err(_) => unreachable!(),
     };
     Ok(Compiled { program, bytes })
@@ -72,7 +73,7 @@ fn compile_files<'a, F: Files>(
     let [map, scen, plan] = read.as_slice() else {
         unreachable!()
     };
-    compile_texts(alloc, map, scen, plan, request.agents, request.deps)
+    compile_texts(alloc, map, scen, plan, request)
 }
 
 /// Writes the bytes of the program to the file OUT, and prints its numbers.

@@ -8,10 +8,13 @@ mod compile_command;
 mod drive_command;
 mod hex_run;
 mod instance_command;
+mod list_command;
+mod migrate_command;
 mod output;
 mod plan_command;
 mod problem;
 mod rehearse_command;
+mod thin_command;
 mod verify_command;
 
 pub use command::{run_command, run_request};

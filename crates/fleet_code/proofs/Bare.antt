@@ -3,32 +3,42 @@ use Rattle.std.proofs.Common.{◌≡◌, ℕ, zero, suc, ◌+◌, ◌≤◌, Lis
 use Rattle.std.specs.List.{range_with_len}
 use Rattle.std.proofs.lemmas.List.Elements.{All-head, All-tail}
 use Rattle.fleet_model.specs.declared.geometry.Step.{Step}
-use Rattle.fleet_model.specs.declared.geometry.Step.TheVariants.{Go}
+use Rattle.fleet_model.specs.declared.geometry.Step.TheVariants.{Go, Dwell}
 use Rattle.fleet_model.specs.declared.geometry.Dir.TheVariants.{North, East, South, West}
 use Rattle.fleet_model.specs.declared.program.Action.{Action}
 use Rattle.fleet_code.specs.declared.format.Version.{Version}
-use Rattle.fleet_code.specs.Reading.{move_at, action_at, actions_at}
-use Rattle.fleet_code.specs.Offsets.{ends_of}
+use Rattle.fleet_code.specs.declared.format.Version.TheVariants.{One, Two}
+use Rattle.fleet_code.specs.Reading.{stay_in, step_at, action_at, actions_at}
+use Rattle.fleet_code.specs.Offsets.{last_step, ends_of}
 
-move_there : (b : ℕ) → b ≤ 3 → (s : Step) × (move_at b ≡ Some s)
-move_there zero le = (Go North, refl)
-move_there (suc zero) le = (Go East, refl)
-move_there (suc (suc zero)) le = (Go South, refl)
-move_there (suc (suc (suc zero))) le = (Go West, refl)
-move_there (suc (suc (suc (suc b)))) le = absurd (omega (arith, le))
+stay_there : (v : Version) → 4 ≤ last_step v → (s : Step) × (stay_in v ≡ Some s)
+stay_there One le = absurd (omega (arith, le))
+stay_there Two le = (Dwell, refl)
 
-bare_action : (v : Version) (turns whole n i b : ℕ) (rest : List ℕ) (s : Step) → move_at b ≡ Some s → action_at v (suc turns) whole n i 0 (b ∷ rest) ≡ Ok (record { step = s; awaits = [] }, rest)
+past_steps : (v : Version) (b : ℕ) → b + 5 ≤ last_step v → ⊥
+past_steps One b le = omega (arith, le)
+past_steps Two b le = omega (arith, le)
+
+step_there : (v : Version) (b : ℕ) → b ≤ last_step v → (s : Step) × (step_at v b ≡ Some s)
+step_there v zero le = (Go North, refl)
+step_there v (suc zero) le = (Go East, refl)
+step_there v (suc (suc zero)) le = (Go South, refl)
+step_there v (suc (suc (suc zero))) le = (Go West, refl)
+step_there v (suc (suc (suc (suc zero)))) le = stay_there v le
+step_there v (suc (suc (suc (suc (suc b))))) le = absurd (past_steps v b (omega (arith, le)))
+
+bare_action : (v : Version) (turns whole n i b : ℕ) (rest : List ℕ) (s : Step) → step_at v b ≡ Some s → action_at v (suc turns) whole n i 0 (b ∷ rest) ≡ Ok (record { step = s; awaits = [] }, rest)
 unfolding action_at
 bare_action v turns whole n i b rest s e = rw e refl
 
-pub bare_actions : (v : Version) (count whole n i at : ℕ) (bytes : List ℕ) → count ≤ length bytes → All (λ b. b ≤ 3) (take count bytes)
+pub bare_actions : (v : Version) (count whole n i at : ℕ) (bytes : List ℕ) → count ≤ length bytes → All (λ b. b ≤ last_step v) (take count bytes)
     → (actions : List Action) × (actions_at v count whole n i bytes ≡ Ok (actions, drop count bytes)) × (ends_of at actions ≡ range_with_len (at + 1) count)
 unfolding actions_at
-bare_actions v zero whole n i at bytes le moves = ([], refl, refl)
-bare_actions v (suc count) whole n i at [] le moves = absurd (omega (arith, le))
-bare_actions v (suc count) whole n i at (b ∷ bytes) le moves =
-    let s = move_there b (All-head (λ (b : ℕ). b ≤ 3) b (take count bytes) moves) in
-    let others = bare_actions v count whole n i (at + 1) bytes (omega (arith, le)) (All-tail (λ (b : ℕ). b ≤ 3) b (take count bytes) moves) in
+bare_actions v zero whole n i at bytes le steps = ([], refl, refl)
+bare_actions v (suc count) whole n i at [] le steps = absurd (omega (arith, le))
+bare_actions v (suc count) whole n i at (b ∷ bytes) le steps =
+    let s = step_there v b (All-head (λ (b : ℕ). b ≤ last_step v) b (take count bytes) steps) in
+    let others = bare_actions v count whole n i (at + 1) bytes (omega (arith, le)) (All-tail (λ (b : ℕ). b ≤ last_step v) b (take count bytes) steps) in
     let first = bare_action v (length bytes) whole n i b bytes s.0 s.1 in
     (record { step = s.0; awaits = [] } ∷ others.0, rw (first, others.1) refl, ap (λ ends. (at + 1) ∷ ends) others.2)
 

@@ -1,5 +1,5 @@
 -- A spelling is bytes, and so is each beginning of it.
-use Rattle.std.proofs.Common.{◌≡◌, ◌≢◌, ℕ, ◌<◌, List, [], ◌∷◌, ◌++◌, length, take, All, ◌⊎◌, sym, ap, subst, refl, arith, inl, inr}
+use Rattle.std.proofs.Common.{ℕ, ◌<◌, List, [], ◌∷◌, ◌++◌, length, take, All, sym, refl, arith}
 use Rattle.std.specs.Int.{byte_at}
 use Rattle.std.specs.List.{flat_map}
 use Rattle.std.proofs.lemmas.List.{take_at}
@@ -15,8 +15,6 @@ use Rattle.fleet_model.specs.declared.program.AgentProgram.{AgentProgram}
 use Rattle.fleet_model.specs.Program.{Program}
 use Rattle.fleet_code.specs.declared.format.Version.{Version}
 use Rattle.fleet_code.specs.declared.format.Version.TheVariants.{One, Two}
-use Rattle.fleet_code.specs.declared.fault.LoadFault.{LoadFault}
-use Rattle.fleet_code.specs.declared.fault.LoadFault.TheVariants.{OutOfMemory, Magic, Truncated, AgentCount, Total, Opcode, AwaitAgent, AwaitOrder, AwaitCount, Trailing}
 use Rattle.fleet_code.specs.Spelling.{magic, number, count as count_of, cell, opcode, await, action, agent, spelling}
 
 -- ---- a spelling is bytes

@@ -9,13 +9,10 @@ use Rattle.std.proofs.lemmas.Slice.Eq.{starts_is}
 use Rattle.std.proofs.lemmas.List.{length-append, get_or_append_left}
 use Rattle.std.proofs.lemmas.List.Elements.{All-nil, All-cons, All-append}
 use Rattle.fleet_model.specs.declared.geometry.Cell.{Cell}
-use Rattle.fleet_model.specs.declared.geometry.Dir.{Dir}
 use Rattle.fleet_model.specs.declared.geometry.Step.{Step}
-use Rattle.fleet_model.specs.declared.geometry.Step.TheVariants.{Go}
 use Rattle.fleet_model.specs.declared.program.Await.{Await}
 use Rattle.fleet_model.specs.declared.program.Action.{Action}
 use Rattle.fleet_model.specs.declared.program.AgentProgram.{AgentProgram}
-use Rattle.fleet_model.specs.Geometry.{is_move}
 use Rattle.fleet_model.specs.Program.{Program, AreAwaits, IsAgent, total_moves}
 use Rattle.fleet_model.proofs.OnePass.{AwaitsFrom, awaits_are}
 use Rattle.fleet_text.specs.Steps.{◌>>=◌, ◌>>◌, fault_if}
@@ -24,11 +21,11 @@ use Rattle.fleet_code.specs.declared.format.Version.{Version}
 use Rattle.fleet_code.specs.declared.format.Version.TheVariants.{One, Two}
 use Rattle.fleet_code.specs.declared.fault.LoadFault.{LoadFault}
 use Rattle.fleet_code.specs.declared.fault.LoadFault.TheVariants.{Magic, Truncated, AgentCount, Total, Opcode, AwaitAgent, AwaitOrder, AwaitCount, Trailing}
-use Rattle.fleet_code.specs.Spelling.{magic, number, count as count_of, count_len, most_count, most_moves, cell, opcode, await, action, agent, IsSpellable, AreSpellable, IsSpellableAgent, CanSpell}
-use Rattle.fleet_code.specs.Reading.{Field, magic_at, number_at, long_number_at, count_at, cell_at, await_at, move_at, move_or, action_at, actions_at, agent_at, agents_at, program_as}
+use Rattle.fleet_code.specs.Spelling.{magic, number, count as count_of, count_len, most_count, most_moves, cell, opcode, has_opcode, await, action, agent, IsSpellable, AreSpellable, IsSpellableAgent, CanSpell}
+use Rattle.fleet_code.specs.Reading.{Field, magic_at, number_at, long_number_at, count_at, cell_at, await_at, step_at, step_or, action_at, actions_at, agent_at, agents_at, program_as}
 use Rattle.fleet_code.specs.LoadFaults.{HasNumber, HasCount, HasHead, IsOffset, ReachesAgent, ReachesAction, ReachesOpcode, ReachesAwait, ReachesOrder, ReachesCount, IsWithoutMagic, EndsWithin, IsFirstFaultIn}
-use Rattle.fleet_code.proofs.Parts.{IsBytes, Takes, number_takes, count_takes, count_long, cell_takes, await_takes}
-use Rattle.fleet_code.proofs.RoundTrip.{joined, moves_fit, magic_long, move_again, action_takes, agent_takes, agents_take, after_count, after_start, after_agents, after_agent_count}
+use Rattle.fleet_code.proofs.Parts.{IsBytes, Takes, number_takes, count_takes, cell_takes, await_takes}
+use Rattle.fleet_code.proofs.RoundTrip.{joined, magic_long, step_again, action_takes, agent_takes, agents_take, after_count, after_start, after_agents, after_agent_count}
 use Rattle.fleet_code.proofs.Awaited.{least_after, after_more, from_more, all_below, some_above}
 use Rattle.fleet_code.proofs.Reached.{each_from, to_first, total_from, total_more, parts_more, agent_reached, opcode_left, agent_left}
 
@@ -136,12 +133,12 @@ await_fails v bytes n i ws at rest f r from fits e =
 
 -- ---- an action
 
-move_fails : (o : Option Step) (rest : List ℕ) (read : Field Action) (f : LoadFault) → move_or o rest read ≡ Err f → (o ≡ None) × (read ≡ Err f)
-move_fails None rest read f e = (refl, e)
-move_fails (Some s) rest read f e = absurd cc
+step_fails : (o : Option Step) (rest : List ℕ) (read : Field Action) (f : LoadFault) → step_or o rest read ≡ Err f → (o ≡ None) × (read ≡ Err f)
+step_fails None rest read f e = (refl, e)
+step_fails (Some s) rest read f e = absurd cc
 
-no_move : (b : ℕ) → move_at b ≡ None → (d : Dir) → b ≢ opcode (Go d)
-no_move b none d e = let move : move_at b ≡ Some (Go d) = ap move_at e ∙ move_again (Go d) refl in cc
+no_step : (v : Version) (b : ℕ) → step_at v b ≡ None → (s : Step) → IsTrue (has_opcode v s) → b ≢ opcode s
+no_step v b none s has e = let step : step_at v b ≡ Some s = ap (step_at v) e ∙ step_again v s has in cc
 
 await_begins : (v : Version) (bytes : List ℕ) (n i : ℕ) (ws : List Await) (b : ℕ) (rest : List ℕ) (at : ℕ) → b ≡ 16 → ReachesOpcode v bytes n i ws (b ∷ rest) → IsOffset bytes (b ∷ rest) at → ReachesAwait v bytes n i ws at rest
 await_begins v bytes n i ws b rest at is r offset = record { opcode = subst (λ (c : ℕ). ReachesOpcode v bytes n i ws (c ∷ rest)) is r; offset = offset }
@@ -161,9 +158,9 @@ opcode_fails v bytes n i (suc turns) ws at_action (b ∷ rest) f r from fit part
     let offset : IsOffset bytes (b ∷ rest) at = omega (arith, opcode_left v bytes n i ws (b ∷ rest) reached) in
     let more = λ (one : Await × List ℕ). action_at v turns whole n i (one.0.agent + 1) one.1 >>= λ others. Ok (joined one others) in
     let read = await_at v at n i (least_after 0 ws) rest in
-    let m = move_fails (move_at b) rest (fault_if (not (eqb b 16)) (Opcode at) >> (read >>= more)) f e in
+    let m = step_fails (step_at v b) rest (fault_if (not (eqb b 16)) (Opcode at) >> (read >>= more)) f e in
     elim (test_err (not (eqb b 16)) (Opcode at) (read >>= more) f m.1) [
-      | inl other ↦ subst (IsFirstFaultIn v bytes) other.1 (n, i, ws, b, rest, reached, offset, eqb-false b 16 (not-true (eqb b 16) other.0), no_move b m.0)
+      | inl other ↦ subst (IsFirstFaultIn v bytes) other.1 (n, i, ws, b, rest, reached, offset, eqb-false b 16 (not-true (eqb b 16) other.0), no_step v b m.0)
       | inr awaits ↦ (
           let is16 = eqb-true b 16 (not-false (eqb b 16) awaits.0) in
           let rest_fits : IsBytes rest = λ k. fits (suc k) in

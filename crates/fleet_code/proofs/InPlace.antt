@@ -1,29 +1,28 @@
 -- Where the parts of a program stand in its bytes.
-use Rattle.std.proofs.Common.{◌≡◌, ℕ, zero, suc, ◌-◌, ◌+◌, ◌*◌, ◌/◌, ◌≤◌, ◌<◌, List, [], ◌∷◌, ◌++◌, length, take, drop, slice_get, slice_index_or, Option, Some, None, Result, Ok, refl, sym, ap, subst, ◌∙◌, append_assoc, arith, inl, inr, All}
+use Rattle.std.proofs.Common.{◌≡◌, ℕ, zero, suc, ◌-◌, ◌+◌, ◌*◌, ◌≤◌, ◌<◌, List, [], ◌∷◌, ◌++◌, length, take, drop, slice_get, slice_index_or, Option, Some, None, Result, Ok, refl, sym, ap, subst, ◌∙◌, append_assoc, arith, inl, inr, All}
 use Rattle.std.specs.List.{flat_map}
 use Rattle.std.proofs.lemmas.List.{append-nil, length-append, drop-drop, length-drop, length-take-le, drop_at, get_or-drop}
 use Rattle.std.proofs.lemmas.Option.{slice_get_cases, slice_get_within, get_or_from_slice_get}
 use Rattle.std.proofs.lemmas.List.Elements.{All-get_or}
 use Rattle.std.specs.Option.{option_map_or}
-use Rattle.std.specs.Prelude.{IsTrue, sum_by}
+use Rattle.std.specs.Prelude.{sum_by}
 use Rattle.std.proofs.lemmas.List.Sums.{sum_by-cons}
 use Rattle.std.proofs.Math.Nat.{add-zero}
 use Rattle.fleet_model.specs.declared.program.Await.{Await}
 use Rattle.fleet_model.specs.declared.program.Action.{Action}
 use Rattle.fleet_model.specs.declared.program.AgentProgram.{AgentProgram}
 use Rattle.fleet_model.specs.Program.{Program, actions_of, action_of, moves, start_of, goal_of, awaits_of}
-use Rattle.fleet_model.specs.Geometry.{is_move}
 use Rattle.fleet_code.specs.declared.format.Version.{Version}
 use Rattle.fleet_code.specs.declared.format.Version.TheVariants.{One, Two}
-use Rattle.fleet_code.specs.Spelling.{magic, number, count as count_of, count_len, most_count, cell, opcode, await, action, agent, spelling, IsSpellable, IsSpellableAgent, SpellsIn}
+use Rattle.fleet_code.specs.Spelling.{magic, number, count as count_of, most_count, cell, opcode, await, action, agent, spelling, IsSpellable, IsSpellableAgent, SpellsIn}
 use Rattle.fleet_code.specs.Offsets.{PartOffsets, Viewed, program_in, StandsAt, IsViewOf, opcodes, head_len, await_len, awaits_before, ends_of, part_of, parts_of, part_at, begin_of, end_of}
 use Rattle.std.specs.Result.{result_unwrap_or}
 use Rattle.fleet_code.specs.declared.fault.LoadFault.{LoadFault}
-use Rattle.fleet_code.specs.Reading.{move_at, program_at}
+use Rattle.fleet_code.specs.Reading.{step_at, program_at}
 use Rattle.fleet_model.proofs.Totals.{actions_more as awaits_more}
 use Rattle.fleet_code.proofs.Parts.{count_long}
 use Rattle.fleet_code.proofs.Written.{awaits_len, actions_len}
-use Rattle.fleet_code.proofs.RoundTrip.{move_again, magic_long}
+use Rattle.fleet_code.proofs.RoundTrip.{step_again, magic_long}
 use Rattle.fleet_code.proofs.OffsetLoop.{ends_length}
 
 -- ---- texts in bytes
@@ -282,10 +281,10 @@ module _ {version : Version} {bytes : List ℕ} {p : Program} {parts : List Part
         | inr past ↦ (let over = past.0 in absurd (omega (arith, over, within)))
       ]
 
-  -- the byte there is the opcode of action n of agent i, which is a move
+  -- the byte there is the opcode of action n of agent i, which the version has
   pub opcode_read : (i n at : ℕ) (s : Action) → i < length p → action_of p i n ≡ Some s → at ≡ end_of version p i n - 1 → StandsAt bytes (end_of version p i n - 1) (opcode s.step ∷ [])
-      → move_at (slice_index_or bytes at 0) ≡ Some s.step
-  opcode_read i n at s lt e f there = ap move_at (ap (λ (k : ℕ). slice_index_or bytes k 0) f ∙ byte_is bytes (end_of version p i n - 1) (opcode s.step) 0 there) ∙ move_again s.step (is_spellable i n s lt e).move
+      → step_at version (slice_index_or bytes at 0) ≡ Some s.step
+  opcode_read i n at s lt e f there = ap (step_at version) (ap (λ (k : ℕ). slice_index_or bytes k 0) f ∙ byte_is bytes (end_of version p i n - 1) (opcode s.step) 0 there) ∙ step_again version s.step (is_spellable i n s lt e).step
 
 pub some_is_not_none : {A : Type 0} {x : A} → Some x ≡ None → ⊥
 some_is_not_none e = absurd cc

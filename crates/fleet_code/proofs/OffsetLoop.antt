@@ -20,9 +20,9 @@ use Rattle.fleet_code.proofs.RoundTrip.{action_takes, agent_takes}
 
 -- ---- one action
 
-pub no_move : (o : Option Step) → ((s : Step) → o ≡ Some s → ⊥) → o ≡ None
-no_move None h = refl
-no_move (Some s) h = absurd (h s refl)
+pub no_step : (o : Option Step) → ((s : Step) → o ≡ Some s → ⊥) → o ≡ None
+no_step None h = refl
+no_step (Some s) h = absurd (h s refl)
 
 pub action_length : (v : Version) (turns whole n i least : ℕ) (bytes : List ℕ) (x : Action × List ℕ) → IsBytes bytes → action_at v turns whole n i least bytes ≡ Ok x
     → length bytes ≡ length (action v x.0) + length x.1

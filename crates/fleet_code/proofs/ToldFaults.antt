@@ -1,5 +1,5 @@
 -- The first fault is what reading refuses. So there is one at most, and none where the bytes spell a program.
-use Rattle.std.proofs.Common.{◌≡◌, ◌≢◌, ℕ, zero, suc, ◌+◌, ◌-◌, ◌≤◌, ◌<◌, ◌||◌, Bool, true, false, ltb, leb, eqb, List, [], ◌∷◌, ◌++◌, length, All, None, Result, Ok, Err, refl, sym, ap, ◌∙◌, append_assoc, arith, inl, inr, ◌⊎◌}
+use Rattle.std.proofs.Common.{◌≡◌, ◌≢◌, ℕ, zero, suc, ◌+◌, ◌-◌, ◌≤◌, ◌<◌, ◌||◌, Bool, true, false, ltb, leb, eqb, List, [], ◌∷◌, ◌++◌, length, All, None, Result, Ok, Err, refl, ap, ◌∙◌, append_assoc, arith, inl, inr, ◌⊎◌}
 use Rattle.std.specs.Prelude.{IsTrue}
 use Rattle.std.specs.List.{flat_map}
 use Rattle.std.proofs.lemmas.Bool.{or_left, or_right, or_from, lt-ltb, le-ltb, le-leb, lt-leb, ne_eqb, eq-eqb}
@@ -7,26 +7,24 @@ use Rattle.std.proofs.lemmas.List.{length-append}
 use Rattle.std.proofs.lemmas.List.Elements.{All-head, All-tail}
 use Rattle.std.proofs.lemmas.List.Concat.{flat_map-cons}
 use Rattle.std.proofs.lemmas.List.Sums.{sum_by-cons}
-use Rattle.fleet_model.specs.declared.geometry.Dir.{Dir}
 use Rattle.fleet_model.specs.declared.geometry.Dir.TheVariants.{North, East, South, West}
-use Rattle.fleet_model.specs.declared.geometry.Step.TheVariants.{Go}
+use Rattle.fleet_model.specs.declared.geometry.Step.{Step}
+use Rattle.fleet_model.specs.declared.geometry.Step.TheVariants.{Go, Dwell}
 use Rattle.fleet_model.specs.declared.program.Await.{Await}
 use Rattle.fleet_model.specs.declared.program.Action.{Action}
 use Rattle.fleet_model.specs.declared.program.AgentProgram.{AgentProgram}
-use Rattle.fleet_model.specs.Geometry.{is_move}
 use Rattle.fleet_model.specs.Program.{Program, AreAwaits, total_moves}
 use Rattle.fleet_model.proofs.OnePass.{AwaitsFrom, AgentsFrom, awaits_from, any_begins}
 use Rattle.fleet_text.specs.Steps.{◌>>=◌, ◌>>◌, fault_if}
-use Rattle.fleet_text.proofs.StepLaws.{err_is, ok_err, result_cases}
 use Rattle.fleet_code.specs.declared.format.Version.{Version}
 use Rattle.fleet_code.specs.declared.format.Version.TheVariants.{One, Two}
 use Rattle.fleet_code.specs.declared.fault.LoadFault.{LoadFault}
 use Rattle.fleet_code.specs.declared.fault.LoadFault.TheVariants.{OutOfMemory, Magic, Truncated, AgentCount, Total, Opcode, AwaitAgent, AwaitOrder, AwaitCount, Trailing}
-use Rattle.fleet_code.specs.Spelling.{magic, number, count as count_of, count_len, most_count, most_moves, cell, opcode, await, action, agent, IsSpellable, AreSpellable, IsSpellableAgent, CanSpell}
-use Rattle.fleet_code.specs.Reading.{Field, magic_at, number_at, count_at, cell_at, await_at, move_at, action_at, actions_at, agent_at, agents_at, program_as}
+use Rattle.fleet_code.specs.Spelling.{magic, number, count as count_of, count_len, most_count, most_moves, cell, opcode, has_opcode, await, action, agent, IsSpellable, AreSpellable, IsSpellableAgent, CanSpell}
+use Rattle.fleet_code.specs.Reading.{Field, magic_at, number_at, count_at, cell_at, await_at, stay_in, step_at, action_at, actions_at, agent_at, agents_at, program_as}
 use Rattle.fleet_code.specs.LoadFaults.{HasHead, IsOffset, ReachesAgent, ReachesAction, ReachesOpcode, ReachesAwait, ReachesOrder, ReachesCount, EndsWithin, IsFirstFaultIn}
 use Rattle.fleet_code.proofs.Parts.{number_again, count_again, cell_again, await_again}
-use Rattle.fleet_code.proofs.RoundTrip.{joined, action_again, agent_again, agents_again, regroup_three, after_count, after_start, after_agents, after_agent_count}
+use Rattle.fleet_code.proofs.RoundTrip.{joined, move_has, action_again, agent_again, agents_again, regroup_three, after_count, after_start, after_agents, after_agent_count}
 use Rattle.fleet_code.proofs.Awaited.{least_after, from_below, below_some}
 use Rattle.fleet_code.proofs.Reached.{from_first, from_each}
 use Rattle.fleet_code.proofs.FirstFaults.{magic_read, magic_ends, magic_differs}
@@ -78,7 +76,7 @@ actions_front v (a ∷ actions) left whole n i rest f few awaits moves fails =
     let regrouped : flat_map (action v) (a ∷ actions) ++ rest ≡ action v a ++ others = ap (λ (t : List ℕ). t ++ rest) (flat_map-cons (action v) a actions) ∙ append_assoc (action v a) (flat_map (action v) actions) rest in
     let size : length (a ∷ actions) + suc left ≡ suc (length actions + suc left) = omega arith in
     let from = awaits_from n i 0 a.awaits (any_begins a.awaits) (All-head (λ (s : Action). AreAwaits n i s.awaits) a actions awaits) in
-    let one = action_again v (length (action v a ++ others)) whole n i 0 a.awaits a.step others few from (All-head (IsSpellable v) a actions moves).move (All-head (IsSpellable v) a actions moves).counts (omega arith) in
+    let one = action_again v (length (action v a ++ others)) whole n i 0 a.awaits a.step others few from (All-head (IsSpellable v) a actions moves).step (All-head (IsSpellable v) a actions moves).counts (omega arith) in
     let again = actions_front v actions left whole n i rest f few (All-tail (λ (s : Action). AreAwaits n i s.awaits) a actions awaits) (All-tail (IsSpellable v) a actions moves) fails in
     let more : Action × List ℕ → Field (List Action) = λ first. actions_at v (length actions + suc left) whole n i first.1 >>= λ x. Ok (first.0 ∷ x.0, x.1) in
     rw (size, regrouped)
@@ -209,12 +207,17 @@ told_count v bytes at rest f r fails =
     let high : ltb r.j (least_after 0 r.awaits) ≡ false = le-ltb r.j (least_after 0 r.awaits) (from_below 0 r.awaits r.j (omega arith) r.rising) in
     told_order v bytes r.n r.awaits at r.j rest f r.agent (rw high (fails r.j))
 
-no_opcode : (b : ℕ) → ((d : Dir) → b ≢ opcode (Go d)) → move_at b ≡ None
-no_opcode zero h = absurd (h North refl)
-no_opcode (suc zero) h = absurd (h East refl)
-no_opcode (suc (suc zero)) h = absurd (h South refl)
-no_opcode (suc (suc (suc zero))) h = absurd (h West refl)
-no_opcode (suc (suc (suc (suc b)))) h = refl
+no_stay : (v : Version) → (IsTrue (has_opcode v Dwell) → ⊥) → stay_in v ≡ None
+no_stay One h = refl
+no_stay Two h = absurd (h refl)
+
+no_opcode : (v : Version) (b : ℕ) → ((s : Step) → IsTrue (has_opcode v s) → b ≢ opcode s) → step_at v b ≡ None
+no_opcode v zero h = absurd (h (Go North) (move_has v North) refl)
+no_opcode v (suc zero) h = absurd (h (Go East) (move_has v East) refl)
+no_opcode v (suc (suc zero)) h = absurd (h (Go South) (move_has v South) refl)
+no_opcode v (suc (suc (suc zero))) h = absurd (h (Go West) (move_has v West) refl)
+no_opcode v (suc (suc (suc (suc zero)))) h = no_stay v (λ has. h Dwell has refl)
+no_opcode v (suc (suc (suc (suc (suc b))))) h = refl
 
 -- an agent whose head is not wholly there
 head_ends : (v : Version) (whole n i total : ℕ) (rest : List ℕ) → length rest < 8 + (count_len v) → agent_at v whole n i total rest ≡ Err Truncated
@@ -289,7 +292,7 @@ is_told v bytes (Opcode at) h = told_opcode v bytes h.0 h.1 h.2 (h.3 ∷ h.4) (O
 
     turned : length bytes - length (h.3 ∷ h.4) ≡ at → (t : ℕ) → length (h.3 ∷ h.4) ≤ t → action_at v t (length bytes) h.0 h.1 (least_after 0 h.2) (h.3 ∷ h.4) ≡ Err (Opcode at)
     turned here zero le = absurd (omega (arith, le))
-    turned here (suc t) le = rw (no_opcode h.3 h.8, ne_eqb h.3 16 h.7, here) refl
+    turned here (suc t) le = rw (no_opcode v h.3 h.8, ne_eqb h.3 16 h.7, here) refl
 is_told v bytes (AwaitAgent at) h =
     let n = h.0 in
     let i = h.1 in

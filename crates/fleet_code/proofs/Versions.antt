@@ -1,16 +1,15 @@
 -- What holds of both versions: bytes have the magic of one at most, and so what is known of each is known of both.
-use Rattle.std.proofs.Common.{◌≡◌, ◌≢◌, ℕ, zero, suc, ◌+◌, ◌≤◌, ◌<◌, Bool, true, false, eqb, List, [], ◌∷◌, ◌++◌, length, get_or, All, ◌⊎◌, Result, Ok, Err, refl, sym, ap, subst, ◌∙◌, append_assoc, arith, inl, inr}
+use Rattle.std.proofs.Common.{◌≡◌, ◌≢◌, ℕ, ◌<◌, Bool, true, false, List, [], ◌∷◌, ◌++◌, length, get_or, All, ◌⊎◌, Ok, Err, refl, sym, ap, subst, ◌∙◌, arith, inl, inr}
 use Rattle.std.specs.Prelude.{nat_eq}
-use Rattle.std.specs.List.{starts_with, flat_map}
+use Rattle.std.specs.List.{starts_with}
 use Rattle.std.proofs.lemmas.List.{append-nil, get_or_append_left}
-use Rattle.std.proofs.lemmas.Bool.{cases_Bool, cases_eq, ne_eqb}
 use Rattle.fleet_model.specs.Program.{Program, IsWellFormed}
 use Rattle.fleet_text.proofs.StepLaws.{err_is, ok_err, ok_is, result_cases}
 use Rattle.fleet_code.specs.declared.fault.LoadFault.{LoadFault}
 use Rattle.fleet_code.specs.declared.fault.LoadFault.TheVariants.{OutOfMemory, Magic, Truncated, AgentCount, Total, Opcode, AwaitAgent, AwaitOrder, AwaitCount, Trailing}
 use Rattle.fleet_code.specs.declared.format.Version.{Version}
 use Rattle.fleet_code.specs.declared.format.Version.TheVariants.{One, Two}
-use Rattle.fleet_code.specs.Spelling.{magic, number, agent, spelling, CanSpell, SpellsIn, Spells, SpellsNothing}
+use Rattle.fleet_code.specs.Spelling.{magic, spelling, CanSpell, SpellsIn, Spells, SpellsNothing}
 use Rattle.fleet_text.specs.Steps.{◌>>=◌}
 use Rattle.std.proofs.lemmas.Bool.Decides.{Decides-eqb}
 use Rattle.std.proofs.lemmas.Slice.Eq.{starts_is}
@@ -19,7 +18,7 @@ use Rattle.fleet_code.specs.LoadFaults.{IsWithoutMagic, IsFirstFaultIn, IsFirstL
 use Rattle.fleet_code.specs.Laws.{NoneBeginsAnother, OneSpellingEach, OneProgramEach, BeginningsAreTruncated, FaultsStay}
 use Rattle.fleet_code.proofs.Parts.{IsBytes, IsBytes-from_All}
 use Rattle.fleet_code.proofs.RoundTrip.{after_agent_count, program_takes, program_again, none_begins_in, one_spelling_each, spells_own}
-use Rattle.fleet_code.proofs.FirstFaults.{Compared, differs, begun, magic_ends, magic_differs, without_magic, is_first}
+use Rattle.fleet_code.proofs.FirstFaults.{differs, begun, magic_ends, magic_differs, is_first}
 use Rattle.fleet_code.proofs.ToldFaults.{fails_with, is_told}
 use Rattle.fleet_code.proofs.Continued.{fault_stays}
 use Rattle.fleet_code.proofs.Beginnings.{AreBytes, front_bytes, spelling_bytes}

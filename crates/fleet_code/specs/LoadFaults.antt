@@ -1,10 +1,9 @@
 -- Which fault is the first of bytes that spell no program: what stands before it is right, up to the field that is not.
-use Rattle.std.specs.Prelude.{◌≡◌, ◌≢◌, ℕ, ◌+◌, ◌<◌, ◌≤◌, List, [], ◌∷◌, ◌++◌, length, get_or, slice_get, Some, All, ◌⊎◌}
+use Rattle.std.specs.Prelude.{◌≡◌, ◌≢◌, ℕ, ◌+◌, ◌<◌, ◌≤◌, List, [], ◌∷◌, ◌++◌, length, get_or, slice_get, Some, All, IsTrue, ◌⊎◌}
 use Rattle.std.specs.List.{Any, flat_map}
 use Rattle.fleet_model.specs.declared.limits.TheConstants.{MAX_AGENTS, MAX_MOVES_IN_ALL}
 use Rattle.fleet_model.specs.declared.geometry.Cell.{Cell}
-use Rattle.fleet_model.specs.declared.geometry.Dir.{Dir}
-use Rattle.fleet_model.specs.declared.geometry.Step.TheVariants.{Go}
+use Rattle.fleet_model.specs.declared.geometry.Step.{Step}
 use Rattle.fleet_model.specs.declared.program.Await.{Await}
 use Rattle.fleet_model.specs.declared.program.Action.{Action}
 use Rattle.fleet_model.specs.declared.program.AgentProgram.{AgentProgram}
@@ -12,7 +11,7 @@ use Rattle.fleet_model.specs.Program.{Program, AreAwaits, IsCell, IsAgent, total
 use Rattle.fleet_code.specs.declared.fault.LoadFault.{LoadFault}
 use Rattle.fleet_code.specs.declared.fault.LoadFault.TheVariants.{OutOfMemory, Magic, Truncated, AgentCount, Total, Opcode, AwaitAgent, AwaitOrder, AwaitCount, Trailing}
 use Rattle.fleet_code.specs.declared.format.Version.{Version}
-use Rattle.fleet_code.specs.Spelling.{magic, number, count, count_len, most_count, most_moves, cell, opcode, await, action, agent, AreSpellable, CanSpell}
+use Rattle.fleet_code.specs.Spelling.{magic, number, count, count_len, most_count, most_moves, cell, opcode, has_opcode, await, action, agent, AreSpellable, CanSpell}
 
 -- ---- fields
 
@@ -126,7 +125,7 @@ IsFirstFaultIn v bytes Total =
     × HasHead v at_agent moves rest × ((most_moves v < moves) ⊎ (MAX_MOVES_IN_ALL < total_moves p + moves))
 IsFirstFaultIn v bytes (Opcode at) =
     (n i : ℕ) × (awaits : List Await) × (b : ℕ) × (rest : List ℕ) × ReachesOpcode v bytes n i awaits (b ∷ rest) × IsOffset bytes (b ∷ rest) at
-    × (b ≢ 16) × ((d : Dir) → b ≢ opcode (Go d))
+    × (b ≢ 16) × ((s : Step) → IsTrue (has_opcode v s) → b ≢ opcode s)
 IsFirstFaultIn v bytes (AwaitAgent at) =
     (n i : ℕ) × (awaits : List Await) × (at_agent : List ℕ) × (j : ℕ) × (rest : List ℕ) × ReachesAwait v bytes n i awaits at at_agent × HasNumber at_agent j rest
     × ((n ≤ j) ⊎ (j ≡ i))

@@ -7,8 +7,9 @@ use Rattle.fleet_model.specs.declared.program.AgentProgram.{AgentProgram}
 use Rattle.fleet_model.specs.Program.{Program, actions_of}
 use Rattle.fleet_code.specs.declared.fault.LoadFault.{LoadFault}
 use Rattle.fleet_code.specs.declared.fault.LoadFault.TheVariants.{OutOfMemory}
-use Rattle.fleet_code.specs.declared.format.TheConstants.{HEAD_LEN, LAST_MOVE}
+use Rattle.fleet_code.specs.declared.format.TheConstants.{HEAD_LEN}
 use Rattle.fleet_code.specs.declared.format.Version.{Version}
+use Rattle.fleet_code.specs.declared.format.Version.TheVariants.{One, Two}
 use Rattle.fleet_code.specs.Spelling.{count_len, action, agent, SpellsIn}
 use Rattle.fleet_code.specs.Reading.{Field, program_at}
 
@@ -20,7 +21,7 @@ head_len v = 8 + count_len v
 abbrev pub await_len : Version → ℕ
 await_len v = 3 + count_len v
 
--- how many opcodes an action has: one for each await, and one for its move
+-- how many opcodes an action has: one for each await, and one for its step
 abbrev pub opcodes : Action → ℕ
 opcodes a = length a.awaits + 1
 
@@ -64,10 +65,15 @@ abbrev pub IsEvenFrom : List ℕ → ℕ → ℕ → Type 0
 IsEvenFrom offsets at stride =
     (n : ℕ) → at ≤ n → n < length offsets → slice_index_or offsets n 0 ≡ slice_index_or offsets at 0 + (n - at) * stride
 
--- each of the next bytes is there and a move
-pub record AreBare (count : ℕ) (bytes : List ℕ) : Type 0 where
+-- the greatest opcode of a step
+abbrev pub last_step : Version → ℕ
+last_step One = 3
+last_step Two = 4
+
+-- each of the next bytes is there and a step
+pub record AreBare (v : Version) (count : ℕ) (bytes : List ℕ) : Type 0 where
   pub there : count ≤ length bytes
-  pub moves : All (λ b. b ≤ LAST_MOVE) (take count bytes)
+  pub steps : All (λ b. b ≤ last_step v) (take count bytes)
 
 -- the actions, one after the other, with their ends after the offsets that are known
 abbrev pub with_ends : List ℕ → ℕ → Field (List Action) → Field (List ℕ)

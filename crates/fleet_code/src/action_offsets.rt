@@ -8,7 +8,7 @@ use std::alloc::Global;
 use std::marker::Model;
 
 /// How many opcodes stand before each of so many actions, counted from the first, and last how many they have together: an
-/// action has one for each await and one for its move. Where from one action on all have as many as each other, the offsets
+/// action has one for each await and one for its step. Where from one action on all have as many as each other, the offsets
 /// after its own are not kept.
 #[derive(Debug, Drop)]
 pub struct ActionOffsets {

@@ -12,7 +12,7 @@ ghost use Rattle.fleet_code.specs.Offsets.{Viewed, StandsAt, await_len, awaits_b
 
 use crate::fault::LoadFault;
 use crate::fields::version_of;
-use crate::format::{CELL_LEN, NUMBER_LEN, Version, move_of};
+use crate::format::{CELL_LEN, NUMBER_LEN, Version, step_of};
 use crate::offsets::{Part, parts_in};
 use fleet_model::{Await, Cell, ProgramView, Step};
 use std::alloc::Global;
@@ -41,7 +41,7 @@ impl<'a> Model for CodeView<'a> {
 ///
 /// A number that the bytes announce reserves no more than the bytes that are there can fill.
 pub fn view(alloc: Global, bytes: &[u8]) -> Result<CodeView<'_>, LoadFault>
-    // What is viewed is well formed, never stays, and is spelled so.
+    // What is viewed is well formed, and is spelled so.
     ensures found { IfOk result (λ v. Spells bytes.now v.program) }
 
     // What is spelled so is viewed, unless memory runs out.
@@ -173,16 +173,18 @@ impl<'a> ProgramView for CodeView<'a> {
     }
 
     fn step(&self, i: u16, p: u32) -> Step {
-        match move_of(self.bytes[self.end(i, p) - 1]) {
+        match step_of(self.version, self.bytes[self.end(i, p) - 1]) {
             Some(step) => step,
             None => unreachable!(),
         }
     }
 
     fn never_stays(&self) -> bool {
-        // A field that is read shows that the bytes spell the program, and no byte of either version is a stay.
-        let _ = &self.bytes;
-        true
+        // Version 1 has no byte for a stay.
+        match self.version {
+            Version::One => true,
+            Version::Two => false,
+        }
     }
 
     fn await_count(&self, i: u16, p: u32) -> u16 {

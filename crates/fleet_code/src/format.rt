@@ -1,9 +1,8 @@
 //! The fixed bytes of the format, and what its versions have of their own.
 
 ghost use Rattle.std.specs.Prelude.{◌≡◌};
-ghost use Rattle.fleet_model.specs.declared.geometry.Step.TheVariants.{Go};
 ghost use Rattle.fleet_code.specs.Spelling.{opcode};
-ghost use Rattle.fleet_code.specs.Reading.{move_at};
+ghost use Rattle.fleet_code.specs.Reading.{step_at};
 
 use fleet_model::{Dir, MAX_MOVES, MAX_MOVES_V1, Step};
 
@@ -15,9 +14,6 @@ pub const MAGIC_V2: &[u8] = b"MPF2";
 
 /// How many bytes the magic of either version has.
 pub const MAGIC_LEN: usize = 4;
-
-/// The opcodes up to this one are moves.
-pub const LAST_MOVE: u8 = 3;
 
 /// The opcode of an await. An agent and a count follow it.
 pub const AWAIT: u8 = 0x10;
@@ -34,11 +30,11 @@ pub const CELL_LEN: usize = 2 * NUMBER_LEN;
 /// How many bytes an agent takes at least.
 pub const LEAST_AGENT_LEN: usize = 10;
 
-/// How many bytes an action takes at least: its move.
+/// How many bytes an action takes at least: its step.
 pub const LEAST_ACTION_LEN: usize = 1;
 
-/// A version of the bytes. They differ in the magic, in how wide a number of moves and a count are, and in the most moves of
-/// an agent.
+/// A version of the bytes. They differ in the magic, in how wide a number of moves and a count are, in the most moves of an
+/// agent, and in that version 2 alone has a byte for a stay.
 #[derive(Clone, Copy, Debug, PartialEq, Eq)]
 pub enum Version {
     One,
@@ -48,7 +44,7 @@ pub enum Version {
 impl Version {
     ghost use Rattle.std.specs.Prelude.{◌≡◌};
     ghost use Rattle.fleet_code.specs.Spelling.{magic, count_len, most_moves};
-    ghost use Rattle.fleet_code.specs.Offsets.{head_len, await_len};
+    ghost use Rattle.fleet_code.specs.Offsets.{head_len, await_len, last_step};
 
     /// What the bytes begin with.
     pub fn magic(self) -> &'static [u8]
@@ -80,6 +76,16 @@ impl Version {
         }
     }
 
+    /// The greatest opcode of a step.
+    pub fn last_step(self) -> u8
+        ensures { result ≡ last_step self }
+    {
+        match self {
+            Version::One => 3,
+            Version::Two => 4,
+        }
+    }
+
     /// How many bytes an agent takes beside its actions: two cells and the number of moves.
     pub fn head_len(self) -> usize
         ensures { result ≡ head_len self }
@@ -95,27 +101,29 @@ impl Version {
     }
 }
 
-/// The opcode of a move in this direction.
-pub fn opcode_of(dir: Dir) -> u8
-    ensures { result ≡ opcode (Go dir) }
+/// The opcode of a step. That of a stay is written in version 2 alone.
+pub fn opcode_of(step: Step) -> u8
+    ensures { result ≡ opcode step }
 {
-    match dir {
-        Dir::North => 0,
-        Dir::East => 1,
-        Dir::South => 2,
-        Dir::West => 3,
+    match step {
+        Step::Go(Dir::North) => 0,
+        Step::Go(Dir::East) => 1,
+        Step::Go(Dir::South) => 2,
+        Step::Go(Dir::West) => 3,
+        Step::Dwell => 4,
     }
 }
 
-/// The move that has this opcode, if one has it.
-pub fn move_of(opcode: u8) -> Option<Step>
-    ensures { result ≡ move_at opcode }
+/// The step that has this opcode in the version, if one has it.
+pub fn step_of(version: Version, opcode: u8) -> Option<Step>
+    ensures { result ≡ step_at version opcode }
 {
-    match opcode {
-        0 => Some(Step::Go(Dir::North)),
-        1 => Some(Step::Go(Dir::East)),
-        2 => Some(Step::Go(Dir::South)),
-        3 => Some(Step::Go(Dir::West)),
+    match (version, opcode) {
+        (_, 0) => Some(Step::Go(Dir::North)),
+        (_, 1) => Some(Step::Go(Dir::East)),
+        (_, 2) => Some(Step::Go(Dir::South)),
+        (_, 3) => Some(Step::Go(Dir::West)),
+        (Version::Two, 4) => Some(Step::Dwell),
         _ => None,
     }
 }

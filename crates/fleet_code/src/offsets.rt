@@ -8,9 +8,7 @@ ghost use Rattle.fleet_code.specs.Offsets.{Finds, AreBare, opcodes, ends_of, par
 use crate::action_offsets::ActionOffsets;
 use crate::fault::LoadFault;
 use crate::fields::{after_magic, await_of, cell_of, count_of, number_of};
-use crate::format::{
-    AWAIT, HEAD_LEN, LAST_MOVE, LEAST_ACTION_LEN, LEAST_AGENT_LEN, Version, move_of,
-};
+use crate::format::{AWAIT, HEAD_LEN, LEAST_ACTION_LEN, LEAST_AGENT_LEN, Version, step_of};
 use fleet_model::{MAX_AGENTS, MAX_MOVES, MAX_MOVES_IN_ALL, OutOfMemory};
 use std::alloc::Global;
 use std::marker::Model;
@@ -72,7 +70,7 @@ fn list_for<T>(
     Ok(Vec::with_capacity(alloc, (count as usize).min(bytes.len() / item_len) + 1)?)
 }
 
-/// How many opcodes an action of agent `own` has, whose awaits and move are judged, and the bytes after it.
+/// How many opcodes an action of agent `own` has, whose awaits and step are judged, and the bytes after it.
 fn after_action(
     version: Version,
     whole: usize,
@@ -92,7 +90,7 @@ fn after_action(
     let mut rest = bytes;
     while let Some((&opcode, after)) = rest.split_first() {
         let at = (whole - rest.len()) as u64;
-        if let Some(_) = move_of(opcode) {
+        if let Some(_) = step_of(version, opcode) {
             return Ok((opcodes, after));
         }
         if opcode != AWAIT {
@@ -137,12 +135,13 @@ fn actions_after(
     Ok((offsets, rest))
 }
 
-/// Whether each of the next `count` bytes is there and a move.
-fn are_bare(count: u32, bytes: &[u8]) -> bool
-    ensures { result ≡ true → AreBare count bytes.now }
+/// Whether each of the next `count` bytes is there and a step.
+fn are_bare(version: Version, count: u32, bytes: &[u8]) -> bool
+    ensures { result ≡ true → AreBare version count bytes.now }
 {
+    let last = version.last_step();
     match bytes.get(..count as usize) {
-        Some(actions) => actions.iter().all(|&opcode| opcode <= LAST_MOVE),
+        Some(actions) => actions.iter().all(|&opcode| opcode <= last),
         None => false,
     }
 }
@@ -164,7 +163,7 @@ fn actions_in(
         result (actions_at version count whole agents own bytes.now) }
     ensures count { IfOk result (λ x. length x.0 ≡ count + 1) }
 {
-    if are_bare(count, bytes) {
+    if are_bare(version, count, bytes) {
         let (_, rest) = bytes.split_at(count as usize);
         return Ok((ActionOffsets::bare(alloc, count), rest));
     }

@@ -16,6 +16,23 @@ pub const PAIR_PLAN: &[u8] = b"1,0 2,0 3,0\n0,0 1,0 2,0\n";
 pub const PAIR: &[u8] = b"4D504631 0002 0001 0000 0003 0000 0002 01 01
     0000 0000 0002 0000 0002 10 0000 0001 01 10 0000 0002 01\n";
 
+/// The same in version 2.
+pub const PAIR_2: &[u8] = b"4D504632 0002 0001 0000 0003 0000 00000002 01 01
+    0000 0000 0002 0000 00000002 10 0000 00000001 01 10 0000 00000002 01\n";
+
+/// .. where agent 1 at last awaits more actions than any agent has.
+pub const PAIR_LATE: &[u8] = b"4D504632 0002 0001 0000 0003 0000 00000002 01 01
+    0000 0000 0002 0000 00000002 10 0000 00000001 01 10 0000 FFFFFFFF 01\n";
+
+/// The program as text.
+pub const PAIR_LISTING: &[u8] = b"agent 0: 1,0 to 3,0
+0:1 east to 2,0
+0:2 east to 3,0
+agent 1: 0,0 to 2,0
+1:1 east to 1,0 after 0:1
+1:2 east to 2,0 after 0:2
+";
+
 /// Its rehearsal with nobody held.
 pub const PAIR_TEXT: &[u8] =
     b"0: 1,0 0,0\n1: 2,0 0,0\n2: 3,0 1,0\n3: 3,0 2,0\nagents 2\nticks 3\nheld 0\nfinished\n";

@@ -1,6 +1,6 @@
 //! Programs that are compiled from plans: their awaits, and plans at the limits of a program.
 
-use fleet_adg::{CompileFault, Deps, compile, thin};
+use fleet_adg::{CompileFault, Deps, compile, compile_dwell, thin};
 use fleet_grid::{Grid, read_map};
 use fleet_model::{ActionId, Cell, Dir, Program, ProgramView, Step, total_awaits, total_moves};
 use fleet_plan::{Checked, Path, Plan, check};
@@ -80,6 +80,23 @@ fn compiled(
     compile(alloc, &checked, deps)
 }
 
+/// The same, where each agent stays so often after its moves.
+fn compiled_staying(
+    rt: &impl Abort,
+    alloc: Global,
+    grid: &Grid,
+    paths: &[&[(u16, u16)]],
+    deps: Deps,
+    dwell: u32,
+) -> Result<Program, CompileFault> {
+    let plan = plan_of(rt, alloc, paths);
+    let instance = instance_for(rt, alloc, grid, &plan);
+    let checked: Checked = check(alloc, plan, grid, &instance)
+        .ok()
+        .expect(rt, "free of conflict");
+    compile_dwell(alloc, &checked, deps, dwell)
+}
+
 fn letter(step: Step) -> char {
     match step {
         Step::Go(Dir::North) => 'N',
@@ -139,6 +156,51 @@ fn one_agent_follows_another(rt: HostRuntime) {
         .expect(&rt, "a program");
     assert_eq!(rt; total_moves(&program), 4);
     assert_eq!(rt; total_awaits(&program), 2);
+}
+
+/// Agent 2 makes no move, and stays as the others do.
+#[test]
+fn agents_stay_after_their_moves(rt: HostRuntime) {
+    let alloc = rt.alloc();
+    let grid = map_of(&rt, alloc, 5, 1, &[]);
+    let paths: &[&[(u16, u16)]] = &[
+        &[(1, 0), (2, 0), (3, 0)],
+        &[(0, 0), (1, 0), (2, 0)],
+        &[(4, 0)],
+    ];
+    for deps in [Deps::All, Deps::Last] {
+        let program = compiled_staying(&rt, alloc, &grid, paths, deps, 2)
+            .ok()
+            .expect(&rt, "a program");
+        assert_eq!(rt;
+            text_of(&rt, alloc, &program).as_str(),
+            "1,0 3,0 E E - -\n0,0 2,0 (0:1)E (0:2)E - -\n4,0 4,0 - -\n"
+        );
+        let instance = instance_for(&rt, alloc, &grid, &plan_of(&rt, alloc, paths));
+        let accepted = verify(alloc, program, &grid, &instance)
+            .ok()
+            .expect(&rt, "accepted");
+        assert_eq!(rt; accepted.chain(), 5);
+    }
+}
+
+#[test]
+fn the_most_stays(rt: HostRuntime) {
+    let alloc = rt.alloc();
+    let grid = map_of(&rt, alloc, 8, 1, &[]);
+    let still: &[&[(u16, u16)]] = &[&[(0, 0)]];
+    let goes: &[&[(u16, u16)]] = &[&[(0, 0), (1, 0)]];
+    let many: &[&[(u16, u16)]] = &[&[(0, 0)], &[(1, 0)], &[(2, 0)], &[(3, 0)], &[(4, 0)]];
+    let moves = |paths, dwell| {
+        compiled_staying(&rt, alloc, &grid, paths, Deps::Last, dwell).map(|p| total_moves(&p))
+    };
+    assert_eq!(rt; moves(still, 1_000_000), Ok(1_000_000));
+    assert_eq!(rt; moves(still, 1_000_001), Err(CompileFault::TooLong));
+    assert_eq!(rt; moves(still, u32::MAX), Err(CompileFault::TooLong));
+    assert_eq!(rt; moves(goes, 999_999), Ok(1_000_000));
+    assert_eq!(rt; moves(goes, 1_000_000), Err(CompileFault::TooLong));
+    // Five agents have 4,194,304 actions at most together.
+    assert_eq!(rt; moves(many, 838_861), Err(CompileFault::TooLong));
 }
 
 #[test]

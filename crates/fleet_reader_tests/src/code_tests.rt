@@ -4,8 +4,8 @@ ghost use Rattle.std.specs.Prelude.{◌≡◌, IfOk};
 
 use crate::readers::answers;
 use fleet_code::{
-    EncodeFault, HexFault, LoadFault, each_spelling_has_one_program, encode, load, read_hex, view,
-    viewed_and_loaded,
+    EncodeFault, HexFault, LoadFault, each_spelling_has_one_program, encode, encode_shortest,
+    encode2, load, read_hex, view, viewed_and_loaded,
 };
 use fleet_fixtures::worked::PAIR;
 use fleet_model::{
@@ -136,9 +136,13 @@ fn each_part_is_viewed(rt: HostRuntime) -> Result<(), Fail> {
     Ok(())
 }
 
+/// The pair in version 2, where both stay for two actions after their moves.
+const PAIR_STAYING: &[u8] = b"4D504632 0002 0001 0000 0003 0000 00000004 01 01 04 04
+    0000 0000 0002 0000 00000004 10 0000 00000001 01 10 0000 00000002 01 04 04";
+
 /// Agent 0 goes from 1,0 to 3,0, agent 1 follows it from 0,0 to 2,0, and then both stay for two actions.
 #[test]
-fn a_stay_is_not_written(rt: HostRuntime) -> Result<(), Fail> {
+fn a_stay_is_written_in_version_2(rt: HostRuntime) -> Result<(), Fail> {
     let alloc = rt.alloc();
     let east = Step::Go(Dir::East);
     let stay = (Step::Dwell, None);
@@ -151,6 +155,21 @@ fn a_stay_is_not_written(rt: HostRuntime) -> Result<(), Fail> {
     assert!(rt; well_formed(&agents));
     let program = Program::new(agents);
     assert_eq!(rt; encode(alloc, &program).err(), Some(EncodeFault::Dwell));
+    let bytes = read_hex(alloc, PAIR_STAYING)?;
+    assert_eq!(rt; bytes.len(), 52);
+    assert_eq!(rt; encode2(alloc, &program)?.as_slice(), bytes.as_slice());
+    assert_eq!(rt;
+        encode_shortest(alloc, &program)?.as_slice(),
+        bytes.as_slice()
+    );
+    assert_eq!(rt;
+        answers(alloc, &load(alloc, &bytes)?)?.as_str(),
+        answers(alloc, &program)?.as_str()
+    );
+    assert_eq!(rt;
+        answers(alloc, &view(alloc, &bytes)?)?.as_str(),
+        answers(alloc, &program)?.as_str()
+    );
     Ok(())
 }
 

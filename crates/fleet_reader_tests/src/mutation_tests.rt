@@ -1,7 +1,7 @@
 //! Readers over texts and bytes that are changed at random, the same in each run of the tests. What each reader has to answer is in `readers`.
 
 use crate::readers::{hex_fault, holds_of, map_fault, plan_fault, program_fault, scen_fault};
-use fleet_code::read_hex;
+use fleet_code::{encode2, load, read_hex};
 use fleet_fixtures::worked::*;
 use fleet_grid::read_map;
 use std::alloc::{AllocError, Global};
@@ -164,6 +164,23 @@ fn programs_at_random(rt: HostRuntime) -> Result<(), Fail> {
     let mut dice = Dice::new(14);
     for text in [PAIR, ROW_ALL, RELAY, DEADLOCK] {
         let bytes = read_hex(alloc, text)?;
+        let mut seen = NOTHING;
+        for _ in 0..CHANGED {
+            let program = changed(alloc, &mut dice, &bytes, &[0, 1, 2, 3, 4, 0x10])?;
+            seen.note(program_fault(&rt, alloc, &program)?.is_none());
+        }
+        assert!(rt; seen.is_mixed(), "{seen:?}");
+    }
+    Ok(())
+}
+
+#[test]
+fn programs_of_version_2_at_random(rt: HostRuntime) -> Result<(), Fail> {
+    let alloc = rt.alloc();
+    let mut dice = Dice::new(17);
+    for text in [PAIR, ROW_ALL, RELAY, DEADLOCK] {
+        let program = load(alloc, &read_hex(alloc, text)?)?;
+        let bytes = encode2(alloc, &program)?;
         let mut seen = NOTHING;
         for _ in 0..CHANGED {
             let program = changed(alloc, &mut dice, &bytes, &[0, 1, 2, 3, 4, 0x10])?;

@@ -2,19 +2,11 @@
 
 use crate::readers::{answers, program_fault};
 use fleet_code::{EncodeFault, LoadFault, encode, encode_shortest, encode2, load, read_hex, view};
-use fleet_fixtures::worked::PAIR;
+use fleet_fixtures::worked::{PAIR, PAIR_2, PAIR_LATE};
 use fleet_model::{Program, ProgramView, total_moves};
 use std::alloc::Global;
 use std::process::Abort;
 use std::test::Fail;
-
-/// The two following agents in version 2.
-const PAIR_2: &[u8] = b"4D504632 0002 0001 0000 0003 0000 00000002 01 01
-    0000 0000 0002 0000 00000002 10 0000 00000001 01 10 0000 00000002 01";
-
-/// The same, but that agent 1 awaits at last more actions than any agent has.
-const PAIR_LATE: &[u8] = b"4D504632 0002 0001 0000 0003 0000 00000002 01 01
-    0000 0000 0002 0000 00000002 10 0000 00000001 01 10 0000 FFFFFFFF 01";
 
 /// One agent from 0,0 to 0,0 that goes east and back so often, in version 2.
 fn back_and_forth(alloc: Global, moves: u32) -> Result<Vec<u8>, Fail> {
@@ -78,7 +70,7 @@ fn heads_of_version_2(rt: HostRuntime) -> Result<(), Fail> {
             LoadFault::Truncated,
         ),
         (
-            b"4D504632 0001 0000 0000 0000 0000 00000001 04",
+            b"4D504632 0001 0000 0000 0000 0000 00000001 05",
             LoadFault::Opcode { at: 18 },
         ),
         (

@@ -8,6 +8,8 @@ mod holds_tests;
 #[cfg(test)]
 mod limit_tests;
 #[cfg(test)]
+mod list_tests;
+#[cfg(test)]
 mod machine_tests;
 #[cfg(test)]
 mod rehearsal_tests;

@@ -1,8 +1,9 @@
 //! Words of the command line, and the requests that they make.
 
 use fleet_args::{
-    AutoRequest, CheckRequest, CompileRequest, InstanceRequest, PlanRequest, RehearseRequest,
-    Request, RunRequest, VerifyRequest, WordStop, read_words,
+    AutoRequest, CheckRequest, CompileRequest, InstanceRequest, ListRequest, MigrateRequest,
+    PlanRequest, RehearseRequest, Request, RunRequest, ThinRequest, VerifyRequest, WordStop,
+    read_words,
 };
 use fleet_model::Deps;
 use std::alloc::{AllocError, Global};
@@ -47,7 +48,8 @@ fn auto<'a>(
 
 #[test]
 fn words_make_a_request(rt: HostRuntime) -> Result<(), Fail> {
-    let rows: [(&[&str], Request<'_>); 23] = [
+    let rows: [(&[&str], Request<'_>); 27] = [
+        (&["list", "p"], Request::List(ListRequest { program: "p" })),
         (&["rehearse", "p"], rehearse("p", None)),
         (&["rehearse", "p", "--holds", "h"], rehearse("p", Some("h"))),
         (&["rehearse", "--holds=-", "p"], rehearse("p", Some("-"))),
@@ -126,6 +128,19 @@ fn words_make_a_request(rt: HostRuntime) -> Result<(), Fail> {
                 out: "o",
                 agents: None,
                 deps: Deps::Last,
+                dwell: 0,
+            }),
+        ),
+        (
+            &["compile", "m", "s", "p", "o", "--dwell", "1000000"],
+            Request::Compile(CompileRequest {
+                map: "m",
+                scen: "s",
+                plan: "p",
+                out: "o",
+                agents: None,
+                deps: Deps::Last,
+                dwell: 1_000_000,
             }),
         ),
         (
@@ -137,6 +152,7 @@ fn words_make_a_request(rt: HostRuntime) -> Result<(), Fail> {
                 out: "o",
                 agents: Some(7),
                 deps: Deps::All,
+                dwell: 0,
             }),
         ),
         (
@@ -180,6 +196,23 @@ fn words_make_a_request(rt: HostRuntime) -> Result<(), Fail> {
             ],
             auto("m", "s", Some(3), 65_535, 70_000, Deps::Last, Some("h")),
         ),
+        (
+            &["thin", "m", "s", "--agents", "5", "p", "o"],
+            Request::Thin(ThinRequest {
+                map: "m",
+                scen: "s",
+                program: "p",
+                out: "o",
+                agents: Some(5),
+            }),
+        ),
+        (
+            &["migrate", "p", "o"],
+            Request::Migrate(MigrateRequest {
+                program: "p",
+                out: "o",
+            }),
+        ),
     ];
     for (texts, expected) in rows {
         let words = words(rt.alloc(), texts)?;
@@ -216,7 +249,7 @@ fn stops(
 
 #[test]
 fn usage_says_what_is_wrong(rt: HostRuntime) -> Result<(), Fail> {
-    let rows: [(&[&str], &str); 23] = [
+    let rows: [(&[&str], &str); 24] = [
         (
             &[],
             "error: 'fleet' requires a subcommand but one was not provided",
@@ -275,6 +308,10 @@ fn usage_says_what_is_wrong(rt: HostRuntime) -> Result<(), Fail> {
             "error: invalid value '0' for '--tries <N>': 0 is not in 1..=1000000",
         ),
         (
+            &["compile", "m", "s", "p", "o", "--dwell", "1000001"],
+            "error: invalid value '1000001' for '--dwell <N>': 1000001 is not in 0..=1000000",
+        ),
+        (
             &["auto", "m", "s", "--tries", "1000001"],
             "error: invalid value '1000001' for '--tries <N>': 1000001 is not in 1..=1000000",
         ),
@@ -300,7 +337,7 @@ fn usage_says_what_is_wrong(rt: HostRuntime) -> Result<(), Fail> {
 
 #[test]
 fn help_tells_the_words(rt: HostRuntime) -> Result<(), Fail> {
-    let rows: [(&[&str], &str); 10] = [
+    let rows: [(&[&str], &str); 11] = [
         (&["--help"], "Usage: fleet <COMMAND>"),
         (
             &["--help"],
@@ -323,6 +360,10 @@ fn help_tells_the_words(rt: HostRuntime) -> Result<(), Fail> {
         (
             &["help", "auto"],
             "Plans, compiles, verifies and runs: prints the positions tick by tick, then agents, ticks, chain and held",
+        ),
+        (
+            &["thin", "--help"],
+            "Usage: fleet thin [OPTIONS] <MAP> <SCEN> <PROGRAM> <OUT>",
         ),
         (
             &["instance", "-h"],

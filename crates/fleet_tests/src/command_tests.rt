@@ -8,12 +8,13 @@ use std::test::Fail;
 #[test]
 fn commands_print(rt: HostRuntime) -> Result<(), Fail> {
     let one = b"map 4 1\nground 4\nagents 1\n0: 1,0 3,0\n".as_slice();
-    let rows: [(&str, &[u8]); 5] = [
+    let rows: [(&str, &[u8]); 6] = [
         ("", PAIR_TEXT),
         ("rehearse pair.program", PAIR_TEXT),
         ("rehearse pair.program --holds holds", LATE_TEXT),
         ("instance pair.map pair.scen", PAIR_INSTANCE),
         ("instance pair.map pair.scen --agents=1", one),
+        ("list pair.program", PAIR_LISTING),
     ];
     for (line, printed) in rows {
         expect(&rt, rt.alloc(), line, &[("holds", b"0\n")], prints(printed))?;
@@ -23,7 +24,7 @@ fn commands_print(rt: HostRuntime) -> Result<(), Fail> {
 
 #[test]
 fn commands_refuse(rt: HostRuntime) -> Result<(), Fail> {
-    let rows: [(&str, Answer<'_>); 7] = [
+    let rows: [(&str, Answer<'_>); 9] = [
         (
             "instance pair.map pair.scen --agents 0",
             refuses(b"scen 9 NoAgents\n"),
@@ -40,6 +41,8 @@ fn commands_refuse(rt: HostRuntime) -> Result<(), Fail> {
         ("instance none pair.scen", fails(b"file none\n")),
         ("instance pair.map none", fails(b"file none\n")),
         ("rehearse pair.map", refuses(b"load 2 Magic\n")),
+        ("list pair.map", refuses(b"load 2 Magic\n")),
+        ("list none", fails(b"file none\n")),
     ];
     for (line, answer) in rows {
         expect(&rt, rt.alloc(), line, &[], answer)?;
@@ -55,6 +58,8 @@ fn other_words_are_wrong_usage(rt: HostRuntime) -> Result<(), Fail> {
         "instance",
         "instance a b c",
         "rehearse",
+        "list",
+        "list pair.program --holds holds",
         "instance pair.map pair.scen --agents x",
         "instance pair.map pair.scen --agents 65536",
         "rehearse pair.program --agents 1",

@@ -36,6 +36,12 @@ const LAST_NUMBERS: &[u8] = b"agents 3\nmoves 6\nawaits 4\nbytes 62\n";
 
 const TWO_NUMBERS: &[u8] = b"agents 1\nmoves 2\nawaits 0\nbytes 18\n";
 
+/// The pair, where both stay for two actions after their moves.
+const PAIR_STAYING: &[u8] = b"4D504632 0002 0001 0000 0003 0000 00000004 01 01 04 04
+    0000 0000 0002 0000 00000004 10 0000 00000001 01 10 0000 00000002 01 04 04";
+
+const STAYING_NUMBERS: &[u8] = b"agents 2\nmoves 8\nawaits 2\nbytes 52\n";
+
 /// The program of a plan on a map with a scenario, and what is printed of it.
 type Row<'a> = (&'a str, &'a [u8], &'a [u8], &'a [u8]);
 
@@ -49,9 +55,13 @@ fn plans_are_compiled(rt: HostRuntime) -> Result<(), Fail> {
     let two = "compile two.map two.scen plan out";
     let two_all = "compile two.map two.scen plan out --deps all";
     let two_last = "compile two.map two.scen plan out --deps last";
-    let rows: [Row<'_>; 8] = [
+    let dwell = "compile pair.map pair.scen plan out --dwell 2";
+    let dwell_all = "compile pair.map pair.scen plan out --dwell 2 --deps all";
+    let rows: [Row<'_>; 10] = [
         (pair, PAIR_PLAN, PAIR_NUMBERS, PAIR),
         (pair_all, PAIR_PLAN, PAIR_NUMBERS, PAIR),
+        (dwell, PAIR_PLAN, STAYING_NUMBERS, PAIR_STAYING),
+        (dwell_all, PAIR_PLAN, STAYING_NUMBERS, PAIR_STAYING),
         (row, ROW_PLAN, LAST_NUMBERS, ROW_LAST),
         (row_all, ROW_PLAN, ALL_NUMBERS, ROW_ALL),
         (row_last, ROW_PLAN, LAST_NUMBERS, ROW_LAST),

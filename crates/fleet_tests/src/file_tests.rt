@@ -99,7 +99,7 @@ fn expect_order(rt: &impl Abort, alloc: Global, line: &str, names: &[&str]) -> R
 
 #[test]
 fn files_that_fail_are_named(rt: HostRuntime) -> Result<(), Fail> {
-    let rows: [(&str, &[&str]); 8] = [
+    let rows: [(&str, &[&str]); 10] = [
         (REHEARSE, &["pair.program", "holds"]),
         ("instance pair.map pair.scen", &["pair.map", "pair.scen"]),
         (
@@ -123,6 +123,11 @@ fn files_that_fail_are_named(rt: HostRuntime) -> Result<(), Fail> {
             "auto pair.map pair.scen --holds holds",
             &["pair.map", "pair.scen", "holds"],
         ),
+        (
+            "thin pair.map pair.scen pair.program out",
+            &["pair.map", "pair.scen", "pair.program", "out"],
+        ),
+        ("migrate pair.program out", &["pair.program", "out"]),
     ];
     for (line, names) in rows {
         expect_order(&rt, rt.alloc(), line, names)?;

@@ -31,13 +31,14 @@ fn one_refusal_is_told(rt: HostRuntime) -> Result<(), Fail> {
     let write = b"run 4 Write\n".as_slice();
     let hold = b"run 3 Hold line 3\n".as_slice();
     let file = b"file -\n".as_slice();
-    let rows: [(&str, &[u8], &[u8], u8); 7] = [
+    let rows: [(&str, &[u8], &[u8], u8); 8] = [
         ("", write, b"", 0),
         ("rehearse pair.program", write, b"", 0),
         ("rehearse pair.program --holds holds", write, hold, 1),
         ("auto pair.map pair.scen", write, b"", 0),
         ("auto pair.map pair.scen --holds holds", write, hold, 1),
         ("instance pair.map pair.scen", file, b"", 0),
+        ("list pair.program", file, b"", 0),
         ("--help", file, b"", 0),
     ];
     for (line, lost, told, status) in rows {

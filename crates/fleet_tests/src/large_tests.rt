@@ -23,25 +23,27 @@ fn printed_by(
 }
 
 /// The files `map` and `scen` are planned so, and the plan's text is a plan of so many steps, whose program has these numbers, is
-/// accepted with these, and runs so, as does the program that `auto` makes.
+/// accepted with these, runs so, as does the program that `auto` makes, and is thinned with these, and then runs so too.
 fn expect_way(
     rt: &impl Abort,
     alloc: Global,
     files: &mut MemFiles,
     plan: &[u8],
-    numbers: [&[u8]; 3],
+    numbers: [&[u8]; 4],
     trace: &[u8],
 ) -> Result<(), Fail> {
-    let [checked, compiled, accepted] = numbers;
+    let [checked, compiled, accepted, thinned] = numbers;
     let planned = printed_by(rt, alloc, "plan map scen", files)?;
     assert!(rt; planned.bytes() == plan);
     files.put("plan", plan)?;
-    let rows: [(&str, &[u8]); 5] = [
+    let rows: [(&str, &[u8]); 7] = [
         ("check map scen plan", checked),
         ("compile map scen plan program", compiled),
         ("verify map scen program", accepted),
         ("run map scen program", trace),
         ("auto map scen", trace),
+        ("thin map scen program thinned", thinned),
+        ("run map scen thinned", trace),
     ];
     for (line, wanted) in rows {
         let out = printed_by(rt, alloc, line, files)?;
@@ -96,10 +98,11 @@ fn a_train_on_its_whole_way(rt: HostRuntime) -> Result<(), Fail> {
     let mut files = train_files(rt.alloc())?;
     let plan = train_plan(rt.alloc())?;
     let trace = train_trace(rt.alloc())?;
-    let numbers: [&[u8]; 3] = [
+    let numbers: [&[u8]; 4] = [
         b"conflict-free\nagents 128\nsteps 128\n",
         b"agents 128\nmoves 16384\nawaits 16256\nbytes 98950\n",
         b"accepted\nagents 128\nmoves 16384\nawaits 16256\nchain 255\n",
+        b"awaits 16256\nawaits 16256\n",
     ];
     expect_way(
         &rt,
@@ -132,10 +135,11 @@ fn a_thousand_agents_on_their_whole_way(rt: HostRuntime) -> Result<(), Fail> {
     let mut files = MemFiles::new(alloc);
     files.put("map", map.as_bytes())?;
     files.put("scen", scen.as_bytes())?;
-    let numbers: [&[u8]; 3] = [
+    let numbers: [&[u8]; 4] = [
         b"conflict-free\nagents 1024\nsteps 1\n",
         b"agents 1024\nmoves 1024\nawaits 0\nbytes 11270\n",
         b"accepted\nagents 1024\nmoves 1024\nawaits 0\nchain 1\n",
+        b"awaits 0\nawaits 0\n",
     ];
     expect_way(
         &rt,

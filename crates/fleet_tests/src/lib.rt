@@ -26,8 +26,12 @@ mod large_tests;
 #[cfg(test)]
 mod memory_tests;
 #[cfg(test)]
+mod migrate_tests;
+#[cfg(test)]
 mod plan_tests;
 #[cfg(test)]
 mod program_tests;
 #[cfg(test)]
 mod refusal_tests;
+#[cfg(test)]
+mod thin_tests;

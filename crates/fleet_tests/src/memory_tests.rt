@@ -49,7 +49,7 @@ fn only_memory_may_be_refused(rt: HostRuntime) {
         told: b"verify 8 Unordered cell 1,0 first 0:0 second 1:1\n",
         status: 1,
     };
-    let rows: [(&str, Answer<'_>, &[u8]); 10] = [
+    let rows: [(&str, Answer<'_>, &[u8]); 14] = [
         ("", prints(PAIR_TEXT), write),
         (
             "rehearse pair.program --holds holds",
@@ -59,6 +59,7 @@ fn only_memory_may_be_refused(rt: HostRuntime) {
         ("rehearse pair.map", refuses(b"load 2 Magic\n"), write),
         ("instance pair.map pair.scen", prints(PAIR_INSTANCE), file),
         ("plan pair.map pair.scen", prints(PAIR_PLAN), file),
+        ("list pair.program", prints(PAIR_LISTING), file),
         (
             "verify pair.map pair.scen pair.program",
             prints(PAIR_ACCEPTED),
@@ -76,10 +77,17 @@ fn only_memory_may_be_refused(rt: HostRuntime) {
             write,
         ),
         (
+            "thin pair.map pair.scen pair.program out",
+            prints(b"awaits 2\nawaits 2\n"),
+            file,
+        ),
+        (
             "instance pair.map pair.scen --agents 3",
             refuses(b"scen 11 Fewer\n"),
             file,
         ),
+        ("migrate pair.program out", prints(b"bytes 48\n"), file),
+        ("migrate pair.map out", refuses(b"load 2 Magic\n"), file),
     ];
     for (line, answer, lost) in rows {
         let first = answers(&rt, rt.alloc(), line, answer, lost);

@@ -67,9 +67,10 @@ const RELAY_BROKEN: &[u8] = b"4D504631 0003 0001 0000 0002 0000 0001 01
 #[test]
 fn first_faults_of_programs_are_told(rt: HostRuntime) -> Result<(), Fail> {
     let fewer = "verify relay.map relay.scen program --agents 2";
-    let rows: [(&str, &[u8], &[u8]); 6] = [
+    let rows: [(&str, &[u8], &[u8]); 7] = [
         (VERIFY, DEADLOCK, b"verify 7 Cyclic 0:1 1:1\n"),
         (VERIFY, BEYOND, b"verify 6 AwaitRange agent 1 action 2\n"),
+        (VERIFY, PAIR_LATE, b"verify 6 AwaitRange agent 1 action 2\n"),
         (VERIFY, BACK, b"verify 4 Goal agent 0\n"),
         (VERIFY, OFF, b"verify 5 Step agent 0 action 1\n"),
         (VERIFY, CELL, b"verify 2 OtherFleet\n"),

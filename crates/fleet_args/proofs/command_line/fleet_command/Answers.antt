@@ -11,4 +11,7 @@ returns c =
     let five = joins _ _ _ _ _ four c.in_ok-verify_command.ensures c.in_ok-subcommand-5.ensures in
     let six = joins _ _ _ _ _ five c.in_ok-run_command.ensures c.in_ok-subcommand-6.ensures in
     let seven = joins _ _ _ _ _ six c.in_ok-rehearse_command.ensures c.in_ok-subcommand-7.ensures in
-    IfOk-weaker c.subcommand-8.result _ _ (λ r h. joins _ _ r _ _ seven c.in_ok-auto_command.ensures h) c.subcommand-8.ensures
+    let eight = joins _ _ _ _ _ seven c.in_ok-auto_command.ensures c.in_ok-subcommand-8.ensures in
+    let nine = joins _ _ _ _ _ eight c.in_ok-thin_command.ensures c.in_ok-subcommand-9.ensures in
+    let ten = joins _ _ _ _ _ nine c.in_ok-migrate_command.ensures c.in_ok-subcommand-10.ensures in
+    IfOk-weaker c.subcommand-11.result _ _ (λ r h. joins _ _ r _ _ ten c.in_ok-list_command.ensures h) c.subcommand-11.ensures

@@ -22,5 +22,14 @@ returns-in-Rehearse g c = rw c.in-Rehearse.is (result_and _ _ c.do_rehearse.resu
 pub returns-in-Auto : goal.returns-in-Auto
 returns-in-Auto g c = rw c.in-Auto.is (result_and _ _ c.do_auto.result c.do_auto.ensures.did c.do_auto.ensures.kept)
 
+pub returns-in-List : goal.returns-in-List
+returns-in-List g c = rw c.in-List.is (result_and _ _ c.do_list.result c.do_list.ensures.did c.do_list.ensures.kept)
+
 pub returns-in-Compile : goal.returns-in-Compile
 returns-in-Compile g c = rw c.in-Compile.is c.do_compile.ensures
+
+pub returns-in-Thin : goal.returns-in-Thin
+returns-in-Thin g c = rw c.in-Thin.is c.do_thin.ensures
+
+pub returns-in-Migrate : goal.returns-in-Migrate
+returns-in-Migrate g c = rw c.in-Migrate.is c.do_migrate.ensures

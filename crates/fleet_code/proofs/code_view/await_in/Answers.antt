@@ -1,4 +1,4 @@
-use Rattle.std.proofs.Common.{◌+◌, ◌∷◌, [], ◌++◌, refl, ◌∙◌}
+use Rattle.std.proofs.Common.{◌+◌, ◌∷◌, [], ◌++◌, refl}
 use Rattle.fleet_code.specs.Spelling.{number, count}
 use Rattle.fleet_code.specs.Offsets.{StandsAt}
 use Rattle.fleet_code.proofs.InPlace.{front_stands, back_stands}

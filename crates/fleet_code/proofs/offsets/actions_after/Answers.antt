@@ -1,4 +1,4 @@
-use Rattle.std.proofs.Common.{◌++◌, ◌∷◌, [], ◌+◌, ◌-◌, ◌≡◌, length, vec_len, arith, rules}
+use Rattle.std.proofs.Common.{◌++◌, ◌∷◌, [], ◌+◌, ◌≡◌, vec_len, arith, rules}
 use Rattle.std.proofs.lemmas.Result.{err_from_is_err_and}
 use Rattle.fleet_code.proofs.OffsetLoop.{ends_found, ends_failed, end_goes_on, end_fails, ends_done}
 use Rattle.fleet_code.proofs.offsets.actions_after.Goals as goal

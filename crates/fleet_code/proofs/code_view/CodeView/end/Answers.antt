@@ -1,4 +1,4 @@
-use Rattle.std.proofs.Common.{◌≡◌, ◌+◌, ◌*◌, ◌∙◌, ap, arith, ℕ}
+use Rattle.std.proofs.Common.{◌≡◌, ◌*◌, ◌∙◌, ap, arith, ℕ}
 use Rattle.fleet_code.specs.Offsets.{Viewed, await_len}
 use Rattle.fleet_code.proofs.InPlace.{end_is}
 use Rattle.fleet_code.proofs.code_view.CodeView.end.Goals as goal

@@ -1,0 +1,8 @@
+use Rattle.std.proofs.Common.{ℕ, ◌+◌, ◌<◌, ◌≤◌}
+use Rattle.fleet_model.specs.declared.limits.TheConstants.{MAX_MOVES}
+use Rattle.fleet_plan.specs.Plan.{steps}
+use Rattle.fleet_adg.specs.Compiled.{moves_by}
+use Rattle.fleet_adg.proofs.compiler.each_has_few.Given as goal
+
+abbrev pub invariant-loop-i : goal.invariant-loop-i
+invariant-loop-i l = (k : ℕ) → k < l.i → moves_by l.plan k (steps l.plan) + l.stays ≤ MAX_MOVES

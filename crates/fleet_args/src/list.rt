@@ -1,0 +1,36 @@
+//! The command `list`: what it is asked for, its words and options, and how they are read.
+
+ghost use Rattle.std.specs.Prelude.{◌≡◌, false, IfOk, MatchOption};
+ghost use Rattle.fleet_args.specs.Arguments.{IsLeafCommand};
+ghost use Rattle.fleet_args.specs.Values.{values_in};
+ghost use Rattle.fleet_args.specs.List.{list_shape, AsksList, has_list_values};
+
+use crate::arguments::program;
+use clap::{ArgMatches, Command};
+use std::alloc::{AllocError, Global};
+
+/// `fleet list PROGRAM`
+#[derive(Clone, Copy, Debug, PartialEq, Eq)]
+pub struct ListRequest<'a> {
+    pub program: &'a str,
+}
+
+pub(crate) fn list_command<'a>(alloc: Global) -> Result<Command<'a>, AllocError>
+    ensures { IfOk result (IsLeafCommand list_shape) }
+{
+    Command::new(alloc, "list")
+        .about(
+            "Prints any program as text: a line for each agent, and after it one for each of its actions",
+        )
+        .arg(program(alloc))
+}
+
+/// What the matches of the command ask: none where the word is missing.
+pub(crate) fn list_in<'a>(matches: &ArgMatches<'a>) -> Option<ListRequest<'a>>
+    ensures { MatchOption result (has_list_values (values_in matches.now) ≡ false)
+        (AsksList (values_in matches.now)) }
+{
+    Some(ListRequest {
+        program: matches.get_str("program")?,
+    })
+}

@@ -1,0 +1,37 @@
+//! The command `migrate`: what it is asked for, its words, and how they are read.
+
+ghost use Rattle.std.specs.Prelude.{◌≡◌, false, IfOk, MatchOption};
+ghost use Rattle.fleet_args.specs.Arguments.{IsLeafCommand};
+ghost use Rattle.fleet_args.specs.Values.{values_in};
+ghost use Rattle.fleet_args.specs.Migrate.{migrate_shape, AsksMigrate, has_migrate_values};
+
+use crate::arguments::{out, program};
+use clap::{ArgMatches, Command};
+use std::alloc::{AllocError, Global};
+
+/// `fleet migrate PROGRAM OUT`
+#[derive(Clone, Copy, Debug, PartialEq, Eq)]
+pub struct MigrateRequest<'a> {
+    pub program: &'a str,
+    pub out: &'a str,
+}
+
+pub(crate) fn migrate_command<'a>(alloc: Global) -> Result<Command<'a>, AllocError>
+    ensures { IfOk result (IsLeafCommand migrate_shape) }
+{
+    Command::new(alloc, "migrate")
+        .about("Writes a program to OUT in version 2 of the bytes, and prints how many they are")
+        .arg(program(alloc))?
+        .arg(out(alloc))
+}
+
+/// What the matches of the command ask: none where a word is missing.
+pub(crate) fn migrate_in<'a>(matches: &ArgMatches<'a>) -> Option<MigrateRequest<'a>>
+    ensures { MatchOption result (has_migrate_values (values_in matches.now) ≡ false)
+        (AsksMigrate (values_in matches.now)) }
+{
+    Some(MigrateRequest {
+        program: matches.get_str("program")?,
+        out: matches.get_str("out")?,
+    })
+}

@@ -1,0 +1,48 @@
+//! The command `thin`: what it is asked for, its words and options, and how they are read.
+
+ghost use Rattle.std.specs.Prelude.{◌≡◌, false, IfOk, MatchOption};
+ghost use Rattle.fleet_args.specs.Arguments.{IsLeafCommand};
+ghost use Rattle.fleet_args.specs.Values.{values_in};
+ghost use Rattle.fleet_args.specs.Thin.{thin_shape, AsksThin, has_thin_values};
+
+use crate::arguments::{agents, map_and_scen, out, program};
+use crate::values::number;
+use clap::{ArgMatches, Command};
+use std::alloc::{AllocError, Global};
+
+/// `fleet thin MAP SCEN PROGRAM OUT [--agents K]`
+#[derive(Clone, Copy, Debug, PartialEq, Eq)]
+pub struct ThinRequest<'a> {
+    pub map: &'a str,
+    pub scen: &'a str,
+    pub program: &'a str,
+    pub out: &'a str,
+    pub agents: Option<u16>,
+}
+
+pub(crate) fn thin_command<'a>(alloc: Global) -> Result<Command<'a>, AllocError>
+    ensures { IfOk result (IsLeafCommand thin_shape) }
+{
+    map_and_scen(
+        alloc,
+        "thin",
+        "Drops the awaits of an accepted program that others imply, writes it to OUT, and prints its awaits before and after",
+    )?
+    .arg(program(alloc))?
+    .arg(out(alloc))?
+    .arg(agents(alloc))
+}
+
+/// What the matches of the command ask: none where a word is missing, or a text is no number.
+pub(crate) fn thin_in<'a>(matches: &ArgMatches<'a>) -> Option<ThinRequest<'a>>
+    ensures { MatchOption result (has_thin_values (values_in matches.now) ≡ false)
+        (AsksThin (values_in matches.now)) }
+{
+    Some(ThinRequest {
+        map: matches.get_str("map")?,
+        scen: matches.get_str("scen")?,
+        program: matches.get_str("program")?,
+        out: matches.get_str("out")?,
+        agents: number(matches, "agents")?,
+    })
+}

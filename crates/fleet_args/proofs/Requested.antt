@@ -19,6 +19,7 @@ use Rattle.clap.proofs.CallerReads.{signed_reads}
 use Rattle.clap.proofs.ValueTestLemmas.{accepts-Accepts}
 use Rattle.clap.proofs.WalkLemmas.{both}
 use Rattle.fleet_model.specs.declared.deps.Deps.{Deps}
+use Rattle.fleet_model.specs.declared.limits.TheConstants.{MAX_MOVES, MAX_TRIES}
 use Rattle.fleet_model.specs.declared.deps.Deps.TheVariants as deps
 use Rattle.fleet_args.specs.Arguments.{DepsNames, AreDeps, agents_rule, horizon_rule, tries_rule, deps_rule, dwell_rule, word}
 use Rattle.fleet_args.specs.CommandLine.{fleet, fleet_top}
@@ -140,13 +141,13 @@ module _ (shape : Shape) (negates : (leaf shape).subcommand_negates_reqs ≡ fal
   tries : (place : ℕ) → IsAt shape place (codes "tries") tries_rule → has_count values (codes "tries") ≡ true
   tries place alone =
       let rows = rows_after (leaf shape).rules [] words in
-      let value = number_value 32 (at place tries_rule) rows 1 1000000 refl (omega arith) (default_value (leaf shape) words none (at place tries_rule) alone refl refl) in
+      let value = number_value 32 (at place tries_rule) rows 1 MAX_TRIES refl (omega arith) (default_value (leaf shape) words none (at place tries_rule) alone refl refl) in
       ap (λ number. is_some (option_and_then (λ n. n) number)) value.1
 
   dwell : (place : ℕ) → IsAt shape place (codes "dwell") dwell_rule → has_count values (codes "dwell") ≡ true
   dwell place alone =
       let rows = rows_after (leaf shape).rules [] words in
-      let value = number_value 32 (at place dwell_rule) rows 0 1000000 refl (omega arith) (default_value (leaf shape) words none (at place dwell_rule) alone refl refl) in
+      let value = number_value 32 (at place dwell_rule) rows 0 MAX_MOVES refl (omega arith) (default_value (leaf shape) words none (at place dwell_rule) alone refl refl) in
       ap (λ number. is_some (option_and_then (λ n. n) number)) value.1
 
   kind : (names : DepsNames) → AreDeps names → (place : ℕ) → IsAt shape place (codes "deps") (deps_rule names) → has_kind values (codes "deps") ≡ true

@@ -6,6 +6,7 @@ use Rattle.clap.specs.declared.builder.Arg.{Arg}
 use Rattle.clap.specs.declared.builder.Command.TheViews.{out-Command as fields_of}
 use Rattle.clap.specs.declared.builder.Command.{Command}
 use Rattle.clap.specs.declared.builder.ValueParser.TheVariants as parser
+use Rattle.fleet_model.specs.declared.limits.TheConstants.{MAX_MOVES, MAX_TRIES}
 
 -- a word that has to be there, at its place among such words
 abbrev pub word : Text → Rule
@@ -23,9 +24,9 @@ agents_rule = record (option (codes "agents")) { parser = Some (parser.Signed (p
 abbrev pub horizon_rule : Rule
 horizon_rule = record (option (codes "horizon")) { parser = Some (parser.Signed (pos 1) (pos 65535)); defaults = codes "1024" ∷ [] }
 
--- `--tries N`, where N is a number from 1 to 1000000, and 1 where it is not used
+-- `--tries N`, where N is a number from 1 to 1,000,000, and 1 where it is not used
 abbrev pub tries_rule : Rule
-tries_rule = record (option (codes "tries")) { parser = Some (parser.Signed (pos 1) (pos 1000000)); defaults = codes "1" ∷ [] }
+tries_rule = record (option (codes "tries")) { parser = Some (parser.Signed (pos 1) (pos MAX_TRIES)); defaults = codes "1" ∷ [] }
 
 -- the names of the kinds of awaits, as texts that are lent
 abbrev pub DepsNames : Type 0
@@ -39,9 +40,9 @@ AreDeps names = map (λ name. name.now) names.now ≡ codes "all" ∷ codes "las
 abbrev pub deps_rule : DepsNames → Rule
 deps_rule names = record (option (codes "deps")) { parser = Some (parser.Names names); defaults = codes "last" ∷ [] }
 
--- `--dwell N`, where N is a number up to 1000000, and 0 where it is not used
+-- `--dwell N`, where N is a number up to 1,000,000, and 0 where it is not used
 abbrev pub dwell_rule : Rule
-dwell_rule = record (option (codes "dwell")) { parser = Some (parser.Signed (pos 0) (pos 1000000)); defaults = codes "0" ∷ [] }
+dwell_rule = record (option (codes "dwell")) { parser = Some (parser.Signed (pos 0) (pos MAX_MOVES)); defaults = codes "0" ∷ [] }
 
 -- a command without subcommands, by its name and its arguments
 abbrev pub command : Text → List Rule → Shape

@@ -4,6 +4,7 @@ ghost use Rattle.std.specs.Prelude.{◌∷◌, [], IfOk, codes};
 ghost use Rattle.fleet_args.specs.Arguments.{IsArg, IsLeafCommand, word, option, agents_rule, horizon_rule, tries_rule, deps_rule, dwell_rule, command};
 
 use clap::{Arg, Command};
+use fleet_model::limits::{MAX_MOVES, MAX_TRIES};
 use std::alloc::{AllocError, Global};
 
 /// A word that the command needs, at its place among such words.
@@ -115,7 +116,7 @@ pub(crate) fn tries<'a>(alloc: Global) -> Arg<'a>
         "N",
         "How many orders of the agents are tried, 1 to 1000000: an agent that finds no path is planned first in the next one",
     )
-    .value_parser(clap::value_parser!(u32).range(1..=1_000_000))
+    .value_parser(clap::value_parser!(u32).range(1..=MAX_TRIES as i64))
     .default_value("1")
 }
 
@@ -142,7 +143,7 @@ pub(crate) fn dwell<'a>(alloc: Global) -> Arg<'a>
         "N",
         "How many actions each agent stays on its last cell after its moves, 0 to 1000000",
     )
-    .value_parser(clap::value_parser!(u32).range(0..=1_000_000))
+    .value_parser(clap::value_parser!(u32).range(0..=MAX_MOVES as i64))
     .default_value("0")
 }
 

@@ -12,13 +12,16 @@ use std::alloc::AllocError;
 use thiserror::Error;
 
 /// A conflict between agents of a plan (Stern et al. 2019). Step `time` leads from `time` to `time + 1`.
-#[derive(Clone, Copy, Debug, PartialEq, Eq, Hash)]
+#[derive(Clone, Copy, Debug, PartialEq, Eq, Hash, Error)]
 pub enum Conflict {
     /// Agents `i` and `j` stand on one cell at `time`; `i` is below `j`.
+    #[error("agents {i} and {j} are on one cell at time {time}")]
     Vertex { time: u32, i: u16, j: u16 },
     /// Agents `i` and `j` change places in step `time`; `i` is below `j`.
+    #[error("agents {i} and {j} change places after time {time}")]
     Swapping { time: u32, i: u16, j: u16 },
     /// Three or more agents, of which `least` is the least, each go in step `time` to the cell of the next one.
+    #[error("agent {least} and others go round in a ring after time {time}")]
     Cycle { time: u32, least: u16 },
 }
 
@@ -41,7 +44,7 @@ pub enum PlanFault {
     #[error("agent {agent} goes wrong at time {time}")]
     Step { agent: u16, time: u32 },
     /// The first conflict by time, then by kind in the order of `Conflict`, then by agents.
-    #[error("agents are in conflict: {0:?}")]
+    #[error("{0}")]
     Conflict(Conflict),
 }
 

@@ -7,11 +7,11 @@
 # Where the last command of a pipe is another than fleet, its status is 0.
 
 function is_refusal(line) {
-    return line ~ /^(map|scen|text|check|search|hex|load|compile|verify|run) [0-9]+ [A-Z]/ || line == "memory" || line ~ /^file /
+    return line ~ /^(map|scen|text|check|search|hex|load|compile|verify|run|dispatch) [0-9]+ [A-Z]/ || line == "memory" || line ~ /^file /
 }
 
 function status_of(line) {
-    return line ~ /^(run [24] |memory$|file )/ ? 3 : 1
+    return line ~ /^(run [24] |dispatch 5 |memory$|file )/ ? 3 : 1
 }
 
 function close_example() {

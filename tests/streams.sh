@@ -7,6 +7,7 @@ M=examples/corridor.map S=examples/corridor.scen P=examples/corridor.plan B=exam
 while read -r words; do
     case $words in
         auto* | run* | rehearse*) line='run 4 Write\n' ;;
+        dispatch*) line='dispatch 5 Write\n' ;;
         *) line='file -\n' ;;
     esac
     check "standard output is full: $words" 3 '' "$line" "fleet $words > /dev/full"
@@ -21,6 +22,7 @@ run $M $S $B
 rehearse $B
 auto $M $S
 thin $M $S $B out
+dispatch $M $S $B
 EOF
 check 'standard output is full: no words' 3 '' 'run 4 Write\n' 'fleet < examples/corridor.hex > /dev/full'
 check 'standard output is closed: no words' 3 '' 'run 4 Write\n' 'fleet < examples/corridor.hex >&-'
@@ -36,6 +38,22 @@ check 'standard input is a folder' 3 '' 'file -\n' 'fleet < examples'
 check 'standard input is a pipe that comes in pieces' 0 'finished\n' '' '{ head -c 9 examples/pair.hex; sleep 1; tail -c +10 examples/pair.hex; } | fleet | tail -n 1'
 check 'standard input is read by name' 0 'finished\n' '' "fleet rehearse /dev/stdin < $B | tail -n 1"
 check 'commands do not read standard input' 0 "$(sed 1q "$room/$P")\n" '' "fleet plan $M $S < examples/warehouse.trace | head -n 1"
+
+# A dispatch: each order comes before the report of it is waited for, and each report as it comes.
+pair='examples/pair.map examples/pair.scen examples/pair.program'
+check 'orders come before reports are waited for' 0 'go 0 1,0 2,0\ngo 0 2,0 3,0, go 1 0,0 1,0\ngo 1 1,0 2,0\narrived\nagents 2\nmoves 4\nreports 3\n' '' "
+    mkfifo reports orders
+    fleet dispatch $pair < reports > orders &
+    exec 3> reports 4< orders
+    read -r one <&4; echo \"\$one\"; echo 0 >&3
+    read -r one <&4; read -r other <&4; echo \"\$one, \$other\"; echo '0 1' >&3
+    read -r one <&4; echo \"\$one\"; echo 1 >&3
+    cat <&4"
+check 'a report that comes byte by byte' 0 'go 1 1,0 2,0\narrived\n' '' \
+    "{ printf 0; sleep 0.2; printf '\\n0'; sleep 0.2; printf ' '; sleep 0.2; printf '1\\n1'; sleep 0.2; printf '\\n'; } | fleet dispatch $pair | sed -n 4,5p"
+check 'a dispatch stops at its end' 0 'reports 3\n' '' "printf '%s\\n' 0 '0 1' 1 0 x | fleet dispatch $pair | tail -n 1"
+check 'reports are closed' 3 'go 0 1,0 2,0\n' 'file -\n' "fleet dispatch $pair <&-"
+check 'reports are a folder' 3 'go 0 1,0 2,0\n' 'file -\n' "fleet dispatch $pair < examples"
 
 # A reader that goes away: what is longer than a pipe takes is a failed write, what is shorter is done.
 check 'a long trace into head' 0 "$(sed 1q "$root/examples/warehouse.trace")\n3\nrun 4 Write\n" '' \

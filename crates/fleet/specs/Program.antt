@@ -14,6 +14,7 @@ use Rattle.fleet_files.specs.Files.{Store, IsKept}
 use Rattle.fleet_text.specs.Sink.{SinkState, IsUnwritten}
 use Rattle.fleet_io.specs.Output.{IsTold}
 use Rattle.fleet_cli.specs.Command.{RunsCommand}
+use Rattle.fleet_dispatch.specs.Talk.{Talk}
 use Rattle.fleet_io.specs.declared.fault.Fault.TheVariants as f
 
 -- what is told where a word is no text
@@ -34,8 +35,8 @@ pub record TellsNoWords (kind : ErrorKind) (err err' : SinkState) (status : ℕ)
 
 -- what the words after the first ask was done, unless there was no memory for them; or the words cannot be had. Of the last two that alone was
 -- told
-abbrev pub RunsProgram : Result (IntoIter (String Global) Global) Error → Option (List ℕ) → (files after : Option Store) → (out out' err err' : SinkState) → ℕ → Type 0
-RunsProgram (Ok args) input files after out out' err err' status =
-    RunsCommand (map string_bytes (drop 1 (into_iter_items args))) input files after out out' err err' status
-    ⊎ (TellsNoWords OutOfMemory err err' status × IsUnwritten out out' × IsKept files after)
-RunsProgram (Err error) input files after out out' err err' status = TellsNoWords (error_kind error) err err' status × IsUnwritten out out' × IsKept files after
+abbrev pub RunsProgram : Result (IntoIter (String Global) Global) Error → Option (List ℕ) → (files after : Option Store) → (Talk → Type 0) → (out out' err err' : SinkState) → ℕ → Type 0
+RunsProgram (Ok args) input files after talks out out' err err' status =
+    RunsCommand (map string_bytes (drop 1 (into_iter_items args))) input files after talks out out' err err' status
+    ⊎ (TellsNoWords OutOfMemory err err' status × IsUnwritten out out' × IsKept files after × talks [])
+RunsProgram (Err error) input files after talks out out' err err' status = TellsNoWords (error_kind error) err err' status × IsUnwritten out out' × IsKept files after × talks []

@@ -8,6 +8,7 @@ ghost use Rattle.std.specs.Process.{exit_status};
 ghost use Rattle.fleet.specs.Program.{AreWordsOf, TellsNoWords, RunsProgram};
 
 use fleet_cli::{Disk, Fault, Files, run_command};
+use fleet_dispatch::{Floor, StreamFloor};
 use fleet_io::refuse;
 use fleet_run::{Flush, TraceOut, WriteOut, put_all};
 use std::alloc::Global;
@@ -42,7 +43,7 @@ fn tell_no_words<E: TraceOut>(error: &io::Error, err: &mut E) -> u8
 }
 
 /// Does what the words of the command line ask, or tells why there are none. Answers the status.
-fn run_program<R: Read, F: Files, O: Flush, E: TraceOut>(
+fn run_program<R: Read + Floor, F: Files, O: Flush, E: TraceOut>(
     alloc: Global,
     args: io::Result<Args>,
     input: &mut R,
@@ -52,7 +53,9 @@ fn run_program<R: Read, F: Files, O: Flush, E: TraceOut>(
 ) -> ExitCode
     requires out_working { IsWorking (O.state out.old) }
     requires err_working { IsWorking (E.state err.old) }
+    requires floor_works { R.works input.old }
     ensures { RunsProgram args (R.remaining input.old) (F.contents files.old) (F.contents files.new)
+        (R.talks input.old input.new)
         (O.state out.old) (O.state out.new)
         (E.state err.old) (E.state err.new)
         (exit_status result) }
@@ -72,7 +75,7 @@ fn main(rt: HostRuntime) -> ExitCode {
     run_program(
         rt.alloc(),
         env::args(&rt),
-        &mut rt.reader(),
+        &mut StreamFloor::new(rt.reader(), WriteOut::new(io::writer(&rt))),
         &mut Disk::new(&rt),
         &mut WriteOut::new(writer),
         &mut err,

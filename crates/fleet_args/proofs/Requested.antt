@@ -34,6 +34,7 @@ use Rattle.fleet_args.specs.Auto.{auto_shape}
 use Rattle.fleet_args.specs.Thin.{thin_shape}
 use Rattle.fleet_args.specs.Migrate.{migrate_shape}
 use Rattle.fleet_args.specs.List.{list_shape}
+use Rattle.fleet_args.specs.Dispatch.{dispatch_shape}
 use Rattle.fleet_args.specs.Values.{Values, values_of, deps_in, number_by, number_in, has_text, reads_number, has_number, has_count, has_kind}
 use Rattle.fleet_args.specs.Request.{is_answered_by}
 use Rattle.fleet_args.proofs.RequestLemmas.{digits_from, is_small, is_small_number}
@@ -251,6 +252,15 @@ list_answers : (words : List Text) → Answers list_shape words
 list_answers words none =
     rw (text list_shape refl words none 1 (codes "program") refl) refl
 
+dispatch_answers : (words : List Text) → Answers dispatch_shape words
+dispatch_answers words none =
+    rw (
+      text dispatch_shape refl words none 1 (codes "map") refl,
+      text dispatch_shape refl words none 2 (codes "scen") refl,
+      text dispatch_shape refl words none 3 (codes "program") refl,
+      agents dispatch_shape refl words none 4 refl,
+    ) refl
+
 -- ---- the command line
 
 answers_each : (names : DepsNames) → AreDeps names → (s : Shape) (words : List Text) → Among s (built (fleet names)).subs → (name : Text) → answers_to name (label_of s) ≡ true
@@ -277,9 +287,12 @@ answers_each names are s words among name named no_help = elim among [
                     | inl same ↦ subst P (sym same) (migrate_answers words)
                     | inr eleventh ↦ elim eleventh [
                       | inl same ↦ subst P (sym same) (list_answers words)
-                      | inr last ↦ elim last [
-                        | inl same ↦ λ none. absurd (true≢false (sym (helps (ap (λ x. answers_to name (label_of x)) (sym same) ∙ named)) ∙ no_help))
-                        | inr nothing ↦ absurd nothing
+                      | inr twelfth ↦ elim twelfth [
+                        | inl same ↦ subst P (sym same) (dispatch_answers words)
+                        | inr last ↦ elim last [
+                          | inl same ↦ λ none. absurd (true≢false (sym (helps (ap (λ x. answers_to name (label_of x)) (sym same) ∙ named)) ∙ no_help))
+                          | inr nothing ↦ absurd nothing
+                        ]
                       ]
                     ]
                   ]

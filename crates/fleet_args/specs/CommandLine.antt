@@ -13,6 +13,7 @@ use Rattle.fleet_args.specs.Auto.{auto_shape}
 use Rattle.fleet_args.specs.Thin.{thin_shape}
 use Rattle.fleet_args.specs.Migrate.{migrate_shape}
 use Rattle.fleet_args.specs.List.{list_shape}
+use Rattle.fleet_args.specs.Dispatch.{dispatch_shape}
 
 -- the program: its words do not begin with its name, it has a version, and one of the commands is wanted
 abbrev pub fleet_top : App
@@ -24,4 +25,4 @@ fleet_top = record (new_app (codes "fleet")) {
 abbrev pub fleet : DepsNames → App
 fleet names = fold with_subcommand fleet_top
     (instance_shape ∷ check_shape ∷ plan_shape ∷ compile_shape names ∷ verify_shape ∷ run_shape ∷ rehearse_shape ∷ auto_shape names ∷
-    thin_shape ∷ migrate_shape ∷ list_shape ∷ [])
+    thin_shape ∷ migrate_shape ∷ list_shape ∷ dispatch_shape ∷ [])

@@ -11,5 +11,6 @@ pub mod Auto
 pub mod Thin
 pub mod Migrate
 pub mod List
+pub mod Dispatch
 pub mod CommandLine
 pub mod Request

@@ -18,6 +18,7 @@ use Rattle.fleet_args.specs.Auto.{AsksAuto, has_auto_values}
 use Rattle.fleet_args.specs.Thin.{AsksThin, has_thin_values}
 use Rattle.fleet_args.specs.Migrate.{AsksMigrate, has_migrate_values}
 use Rattle.fleet_args.specs.List.{AsksList, has_list_values}
+use Rattle.fleet_args.specs.Dispatch.{AsksDispatch, has_dispatch_values}
 use Rattle.fleet_args.specs.declared.request.Request.{Request}
 use Rattle.fleet_args.specs.declared.request.Request.TheVariants as r
 use Rattle.fleet_args.specs.declared.request.WordStop.{WordStop}
@@ -36,6 +37,7 @@ AsksCommand name values (r.Auto request) = (name ≡ codes "auto") × AsksAuto v
 AsksCommand name values (r.Thin request) = (name ≡ codes "thin") × AsksThin values request
 AsksCommand name values (r.Migrate request) = (name ≡ codes "migrate") × AsksMigrate values request
 AsksCommand name values (r.List request) = (name ≡ codes "list") × AsksList values request
+AsksCommand name values (r.Dispatch request) = (name ≡ codes "dispatch") × AsksDispatch values request
 
 -- this is the name of a command, and what it cannot do without has values
 abbrev pub has_values : Text → Values → Bool
@@ -51,7 +53,8 @@ has_values name values =
     else (if bytes_eq name (codes "thin") then has_thin_values values
     else (if bytes_eq name (codes "migrate") then has_migrate_values values
     else (if bytes_eq name (codes "list") then has_list_values values
-    else false))))))))))
+    else (if bytes_eq name (codes "dispatch") then has_dispatch_values values
+    else false)))))))))))
 
 -- the command that was found, with its rows, asks this
 abbrev pub AsksBy : Option (Text × List Row) → Request → Type 0

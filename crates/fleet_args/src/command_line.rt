@@ -7,6 +7,7 @@ ghost use Rattle.fleet_args.specs.CommandLine.{fleet_top, fleet};
 use crate::auto::auto_command;
 use crate::check::check_command;
 use crate::compile::compile_command;
+use crate::dispatch::dispatch_command;
 use crate::instance::instance_command;
 use crate::list::list_command;
 use crate::migrate::migrate_command;
@@ -51,5 +52,6 @@ pub fn fleet_command<'a>(alloc: Global, names: &'a [&'a str]) -> Result<Command<
         .subcommand(auto_command(alloc, names)?)?
         .subcommand(thin_command(alloc)?)?
         .subcommand(migrate_command(alloc)?)?
-        .subcommand(list_command(alloc)?)
+        .subcommand(list_command(alloc)?)?
+        .subcommand(dispatch_command(alloc)?)
 }

@@ -10,6 +10,7 @@ use crate::auto::{AutoRequest, auto_in};
 use crate::check::{CheckRequest, check_in};
 use crate::command_line::fleet_command;
 use crate::compile::{CompileRequest, compile_in};
+use crate::dispatch::{DispatchRequest, dispatch_in};
 use crate::instance::{InstanceRequest, instance_in};
 use crate::list::{ListRequest, list_in};
 use crate::migrate::{MigrateRequest, migrate_in};
@@ -37,6 +38,7 @@ pub enum Request<'a> {
     Thin(ThinRequest<'a>),
     Migrate(MigrateRequest<'a>),
     List(ListRequest<'a>),
+    Dispatch(DispatchRequest<'a>),
 }
 
 /// Why the words are no request. The texts are `clap`'s, of whole lines: what is wrong and how to get help, or the help.
@@ -67,6 +69,7 @@ fn request_by<'a>(name: &str, matches: &ArgMatches<'a>) -> Option<Request<'a>>
         "thin" => Some(Request::Thin(thin_in(matches)?)),
         "migrate" => Some(Request::Migrate(migrate_in(matches)?)),
         "list" => Some(Request::List(list_in(matches)?)),
+        "dispatch" => Some(Request::Dispatch(dispatch_in(matches)?)),
         _ => None,
     }
 }

@@ -23,42 +23,46 @@ use Rattle.fleet_cli.specs.AutoCommand.{DoesAuto, RefusesAuto}
 use Rattle.fleet_cli.specs.ThinCommand.{DoesThin, RefusesThin}
 use Rattle.fleet_cli.specs.MigrateCommand.{DoesMigrate, RefusesMigrate}
 use Rattle.fleet_cli.specs.ListCommand.{DoesList, RefusesList}
+use Rattle.fleet_cli.specs.DispatchCommand.{DoesDispatch, RefusesDispatch}
+use Rattle.fleet_dispatch.specs.Talk.{Talk}
 use Rattle.fleet_io.specs.declared.fault.Fault.{Fault}
 use Rattle.fleet_io.specs.declared.fault.Fault.TheVariants as f
 
--- what each command does: all but `compile`, `thin` and `migrate` leave every file as before
-abbrev pub DoesRequest : (files after : Option Store) → Request → (out out' : SinkState) → ℕ → Type 0
-DoesRequest files after (r.Instance request) out out' status = DoesInstance files request out out' status × IsKept files after
-DoesRequest files after (r.Check request) out out' status = DoesCheck files request out out' status × IsKept files after
-DoesRequest files after (r.Plan request) out out' status = DoesPlan files request out out' status × IsKept files after
-DoesRequest files after (r.Compile request) out out' status = DoesCompile files after request out out' status
-DoesRequest files after (r.Verify request) out out' status = DoesVerify files request out out' status × IsKept files after
-DoesRequest files after (r.Run request) out out' status = DoesRun files request out out' status × IsKept files after
-DoesRequest files after (r.Rehearse request) out out' status = DoesRehearse files request out out' status × IsKept files after
-DoesRequest files after (r.Auto request) out out' status = DoesAuto files request out out' status × IsKept files after
-DoesRequest files after (r.Thin request) out out' status = DoesThin files after request out out' status
-DoesRequest files after (r.Migrate request) out out' status = DoesMigrate files after request out out' status
-DoesRequest files after (r.List request) out out' status = DoesList files request out out' status × IsKept files after
+-- what each command does: all but `compile`, `thin` and `migrate` leave every file as before, and all but `dispatch` say nothing to robots
+abbrev pub DoesRequest : (files after : Option Store) → (Talk → Type 0) → Request → (out out' : SinkState) → ℕ → Type 0
+DoesRequest files after talks (r.Instance request) out out' status = DoesInstance files request out out' status × IsKept files after × talks []
+DoesRequest files after talks (r.Check request) out out' status = DoesCheck files request out out' status × IsKept files after × talks []
+DoesRequest files after talks (r.Plan request) out out' status = DoesPlan files request out out' status × IsKept files after × talks []
+DoesRequest files after talks (r.Compile request) out out' status = DoesCompile files after request out out' status × talks []
+DoesRequest files after talks (r.Verify request) out out' status = DoesVerify files request out out' status × IsKept files after × talks []
+DoesRequest files after talks (r.Run request) out out' status = DoesRun files request out out' status × IsKept files after × talks []
+DoesRequest files after talks (r.Rehearse request) out out' status = DoesRehearse files request out out' status × IsKept files after × talks []
+DoesRequest files after talks (r.Auto request) out out' status = DoesAuto files request out out' status × IsKept files after × talks []
+DoesRequest files after talks (r.Thin request) out out' status = DoesThin files after request out out' status × talks []
+DoesRequest files after talks (r.Migrate request) out out' status = DoesMigrate files after request out out' status × talks []
+DoesRequest files after talks (r.List request) out out' status = DoesList files request out out' status × IsKept files after × talks []
+DoesRequest files after talks (r.Dispatch request) out out' status = DoesDispatch files request talks status × IsKept files after × IsUnwritten out out'
 
 -- the refusals of each command
-abbrev pub RefusesRequest : (files after : Option Store) → Request → (out out' : SinkState) → Fault → Type 0
-RefusesRequest files after (r.Instance request) out out' fault = RefusesInstance files request out out' fault × IsKept files after
-RefusesRequest files after (r.Check request) out out' fault = RefusesCheck files request out out' fault × IsKept files after
-RefusesRequest files after (r.Plan request) out out' fault = RefusesPlan files request out out' fault × IsKept files after
-RefusesRequest files after (r.Compile request) out out' fault = RefusesCompile files after request out out' fault
-RefusesRequest files after (r.Verify request) out out' fault = RefusesVerify files request out out' fault × IsKept files after
-RefusesRequest files after (r.Run request) out out' fault = RefusesRun files request out out' fault × IsKept files after
-RefusesRequest files after (r.Rehearse request) out out' fault = RefusesRehearse files request out out' fault × IsKept files after
-RefusesRequest files after (r.Auto request) out out' fault = RefusesAuto files request out out' fault × IsKept files after
-RefusesRequest files after (r.Thin request) out out' fault = RefusesThin files after request out out' fault
-RefusesRequest files after (r.Migrate request) out out' fault = RefusesMigrate files after request out out' fault
-RefusesRequest files after (r.List request) out out' fault = RefusesList files request out out' fault × IsKept files after
+abbrev pub RefusesRequest : (files after : Option Store) → (Talk → Type 0) → Request → (out out' : SinkState) → Fault → Type 0
+RefusesRequest files after talks (r.Instance request) out out' fault = RefusesInstance files request out out' fault × IsKept files after × talks []
+RefusesRequest files after talks (r.Check request) out out' fault = RefusesCheck files request out out' fault × IsKept files after × talks []
+RefusesRequest files after talks (r.Plan request) out out' fault = RefusesPlan files request out out' fault × IsKept files after × talks []
+RefusesRequest files after talks (r.Compile request) out out' fault = RefusesCompile files after request out out' fault × talks []
+RefusesRequest files after talks (r.Verify request) out out' fault = RefusesVerify files request out out' fault × IsKept files after × talks []
+RefusesRequest files after talks (r.Run request) out out' fault = RefusesRun files request out out' fault × IsKept files after × talks []
+RefusesRequest files after talks (r.Rehearse request) out out' fault = RefusesRehearse files request out out' fault × IsKept files after × talks []
+RefusesRequest files after talks (r.Auto request) out out' fault = RefusesAuto files request out out' fault × IsKept files after × talks []
+RefusesRequest files after talks (r.Thin request) out out' fault = RefusesThin files after request out out' fault × talks []
+RefusesRequest files after talks (r.Migrate request) out out' fault = RefusesMigrate files after request out out' fault × talks []
+RefusesRequest files after talks (r.List request) out out' fault = RefusesList files request out out' fault × IsKept files after × talks []
+RefusesRequest files after talks (r.Dispatch request) out out' fault = RefusesDispatch files request talks fault × IsKept files after × IsUnwritten out out'
 
 -- the request was done, and its status is answered; or a refusal was told, and the refusal's status is answered: the other output took
 -- that one line, or failed within it
-abbrev pub RunsRequest : (files after : Option Store) → Request → (out out' err err' : SinkState) → ℕ → Type 0
-RunsRequest files after request out out' err err' status =
-    Outcome (DoesRequest files after request out out') (RefusesRequest files after request out out') err err' status
+abbrev pub RunsRequest : (files after : Option Store) → (Talk → Type 0) → Request → (out out' err err' : SinkState) → ℕ → Type 0
+RunsRequest files after talks request out out' err err' status =
+    Outcome (DoesRequest files after talks request out out') (RefusesRequest files after talks request out out') err err' status
 
 -- why the words are no request was told: help on the output, usage on the other
 abbrev pub StopsAtWords : WordStop → (out out' err err' : SinkState) → ℕ → Type 0
@@ -70,10 +74,10 @@ StopsAtWords (w.Help text) out out' err err' status =
     × Receives err err' (line_text (codes "file" ∷ codes "-" ∷ [])))
 
 -- without words the run of the input; else the command that the words ask, or a stop at words that the command line does not take. Every
--- file is as before, but for what the commands `compile`, `thin` and `migrate` write
-abbrev pub RunsCommand : List Text → Option (List ℕ) → (files after : Option Store) → (out out' err err' : SinkState) → ℕ → Type 0
-RunsCommand [] input files after out out' err err' status = RunsHex input out out' err err' status × IsKept files after
-RunsCommand (word ∷ words) input files after out out' err err' status =
+-- file is as before, but for what the commands `compile`, `thin` and `migrate` write. The input is read whole without words, and else robots alone report by it
+abbrev pub RunsCommand : List Text → Option (List ℕ) → (files after : Option Store) → (Talk → Type 0) → (out out' err err' : SinkState) → ℕ → Type 0
+RunsCommand [] input files after talks out out' err err' status = RunsHex input out out' err err' status × IsKept files after
+RunsCommand (word ∷ words) input files after talks out out' err err' status =
     (names : DepsNames) × AreDeps names
-    × (((request : Request) × Asks (fleet names) (word ∷ words) request × RunsRequest files after request out out' err err' status)
-    ⊎ ((stop : WordStop) × StopsFor (fleet names) (word ∷ words) stop × StopsAtWords stop out out' err err' status × IsKept files after))
+    × (((request : Request) × Asks (fleet names) (word ∷ words) request × RunsRequest files after talks request out out' err err' status)
+    ⊎ ((stop : WordStop) × StopsFor (fleet names) (word ∷ words) stop × StopsAtWords stop out out' err err' status × IsKept files after × talks []))

@@ -13,3 +13,4 @@ pub mod AutoCommand
 pub mod ThinCommand
 pub mod MigrateCommand
 pub mod ListCommand
+pub mod DispatchCommand

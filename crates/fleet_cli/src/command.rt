@@ -7,6 +7,7 @@ ghost use Rattle.fleet_cli.specs.Command.{DoesRequest, RefusesRequest, RunsReque
 use crate::auto_command::do_auto;
 use crate::check_command::do_check;
 use crate::compile_command::do_compile;
+use crate::dispatch_command::do_dispatch;
 use crate::drive_command::do_run;
 use crate::hex_run::run_hex;
 use crate::instance_command::do_instance;
@@ -17,22 +18,26 @@ use crate::rehearse_command::do_rehearse;
 use crate::thin_command::do_thin;
 use crate::verify_command::do_verify;
 use fleet_args::{Request, WordStop, read_words};
+use fleet_dispatch::Floor;
 use fleet_io::{Fault, Files, deliver, finish, refuse};
 use fleet_run::{Flush, OutFault, TraceOut, put_all};
 use std::alloc::Global;
 use std::io::Read;
 
-/// Does what the request asks: its output goes to `out`. Answers the status, or the refusal that is to be told.
-fn do_request<'a, F: Files, O: Flush>(
+/// Does what the request asks: its output goes to `out`, and what it says to robots to the floor. Answers the status, or the refusal
+/// that is to be told.
+fn do_request<'a, F: Files, O: Flush, D: Floor>(
     alloc: Global,
     request: &Request<'a>,
     files: &mut F,
     out: &mut O,
+    floor: &mut D,
 ) -> Result<u8, Fault<'a>>
-    requires { IsWorking (O.state out.old) }
+    requires out_working { IsWorking (O.state out.old) }
+    requires floor_works { D.works floor.old }
     ensures { MatchResult result
-        (DoesRequest (F.contents files.old) (F.contents files.new) request.now (O.state out.old) (O.state out.new))
-        (RefusesRequest (F.contents files.old) (F.contents files.new) request.now (O.state out.old) (O.state out.new)) }
+        (DoesRequest (F.contents files.old) (F.contents files.new) (D.talks floor.old floor.new) request.now (O.state out.old) (O.state out.new))
+        (RefusesRequest (F.contents files.old) (F.contents files.new) (D.talks floor.old floor.new) request.now (O.state out.old) (O.state out.new)) }
 {
     match request {
         Request::Instance(request) => do_instance(alloc, request, files, out),
@@ -46,23 +51,27 @@ fn do_request<'a, F: Files, O: Flush>(
         Request::Thin(request) => do_thin(alloc, request, files, out),
         Request::Migrate(request) => do_migrate(alloc, request, files, out),
         Request::List(request) => do_list(alloc, request, files, out),
+        Request::Dispatch(request) => do_dispatch(alloc, request, files, floor),
     }
 }
 
-/// Does what the request asks: its output goes to `out`, a refusal's line to `err`. Answers the status.
-pub fn run_request<F: Files, O: Flush, E: TraceOut>(
+/// Does what the request asks: its output goes to `out`, a refusal's line to `err`, and what it says to robots to the floor. Answers the
+/// status.
+pub fn run_request<F: Files, O: Flush, E: TraceOut, D: Floor>(
     alloc: Global,
     request: &Request<'_>,
     files: &mut F,
     out: &mut O,
     err: &mut E,
+    floor: &mut D,
 ) -> u8
     requires out_working { IsWorking (O.state out.old) }
     requires err_working { IsWorking (E.state err.old) }
-    ensures { RunsRequest (F.contents files.old) (F.contents files.new) request.now
+    requires floor_works { D.works floor.old }
+    ensures { RunsRequest (F.contents files.old) (F.contents files.new) (D.talks floor.old floor.new) request.now
         (O.state out.old) (O.state out.new) (E.state err.old) (E.state err.new) result }
 {
-    finish(do_request(alloc, request, files, out), err)
+    finish(do_request(alloc, request, files, out, floor), err)
 }
 
 /// Tells why the words are no request: help on `out` with status 0, usage on `err` with status 2.
@@ -88,8 +97,8 @@ fn stop_at<O: Flush, E: TraceOut>(stop: &WordStop, out: &mut O, err: &mut E) -> 
 }
 
 /// What the program does for the words after its name: without words it runs what `input` gives in hexadecimal, and else the command
-/// that the words ask. Answers the status: 2 only where the words ask no command.
-pub fn run_command<R: Read, F: Files, O: Flush, E: TraceOut>(
+/// that the words ask, of which `dispatch` alone hears `input`, as a floor. Answers the status: 2 only where the words ask no command.
+pub fn run_command<R: Read + Floor, F: Files, O: Flush, E: TraceOut>(
     alloc: Global,
     words: &[String],
     input: &mut R,
@@ -99,7 +108,9 @@ pub fn run_command<R: Read, F: Files, O: Flush, E: TraceOut>(
 ) -> u8
     requires out_working { IsWorking (O.state out.old) }
     requires err_working { IsWorking (E.state err.old) }
+    requires floor_works { R.works input.old }
     ensures { RunsCommand (map string_bytes words.now) (R.remaining input.old) (F.contents files.old) (F.contents files.new)
+        (R.talks input.old input.new)
         (O.state out.old) (O.state out.new)
         (E.state err.old) (E.state err.new)
         result }
@@ -108,7 +119,7 @@ pub fn run_command<R: Read, F: Files, O: Flush, E: TraceOut>(
         return run_hex(alloc, input, out, err);
     }
     match read_words(alloc, words) {
-        Ok(request) => run_request(alloc, &request, files, out, err),
+        Ok(request) => run_request(alloc, &request, files, out, err, input),
         Err(stop) => stop_at(&stop, out, err),
     }
 }

@@ -5,6 +5,7 @@ mod auto_command;
 mod check_command;
 mod command;
 mod compile_command;
+mod dispatch_command;
 mod drive_command;
 mod hex_run;
 mod instance_command;

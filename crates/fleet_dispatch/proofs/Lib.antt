@@ -2,3 +2,5 @@ pub mod Fronts
 pub mod Written
 pub mod Reports
 pub mod Outcomes
+mod WindowLemmas
+mod StreamLemmas

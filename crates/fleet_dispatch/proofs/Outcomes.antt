@@ -1,18 +1,19 @@
 -- How a dispatch goes on, and how it ends.
 use Rattle.std.proofs.Common.{◌≡◌, ℕ, ◌+◌, ◌<◌, ◌≤◌, ◌++◌, ◌∷◌, [], Bool, true, false, List, length, take, Result, Ok, Err, refl, ap, sym, ◌∙◌, arith, subst, inl, inr, IsTrue}
 use Rattle.std.proofs.lemmas.Bool.{cases_lt}
-use Rattle.std.specs.Prelude.{is_err}
+use Rattle.std.specs.Prelude.{is_err, IfOk, ⊤}
 use Rattle.fleet_model.specs.Program.{Program, total_moves}
 use Rattle.fleet_model.specs.Machine.{Configuration, Holds, indices, run, is_finished, IsFinish, opening}
 use Rattle.fleet_model.specs.Claims.{holds_of}
 use Rattle.fleet_machine.specs.Machine.{flag_of}
+use Rattle.fleet_run.specs.Fleet.{AreOnGoals}
 use Rattle.fleet_dispatch.specs.declared.run.TheConstants.{MOST_REPORTS}
 use Rattle.fleet_dispatch.specs.declared.run.DispatchFault.{DispatchFault}
 use Rattle.fleet_dispatch.specs.declared.run.DispatchFault.TheVariants as f
 use Rattle.fleet_dispatch.specs.declared.run.DispatchReport.{DispatchReport}
 use Rattle.fleet_dispatch.specs.Talk.{Talk, Told, Cut, Tells}
 use Rattle.fleet_dispatch.specs.Orders.{orders_but, new_orders, talk_of, closing}
-use Rattle.fleet_dispatch.specs.Dispatch.{AreTaken, Dispatches, Concludes, TakesReport, IsTaken}
+use Rattle.fleet_dispatch.specs.Dispatch.{AreTaken, Dispatches, DispatchesFrom, Concludes, TakesReport, IsTaken}
 use Rattle.fleet_dispatch.proofs.Reports.{IsUnderWay, more, taken_more, talk_more, due_more, due_first}
 use Rattle.fleet_dispatch.proofs.Fronts.{talk_none}
 
@@ -129,3 +130,15 @@ one_report_on p first then both works w c c' sent k reports report j told left h
   talk = subst both (talk_more p reports report) (j.join _ _ told.talk h.heard);
   due = due_more p reports report c c' sent told.taken.here h.after h.flags;
 }
+
+-- a dispatch of a fleet that was started
+pub from_start : (p p' : Program) (talks : Talk → Type 0) (c : Configuration) (r : Result DispatchReport DispatchFault) → p' ≡ p → Dispatches p' talks c r
+    → IfOk r (λ _. AreOnGoals p' c) → DispatchesFrom p talks r
+from_start p p' talks c (Ok x) same h goals = subst (λ (q : Program). (d : Configuration) × Dispatches q talks d (Ok x) × AreOnGoals q d) same (c, h, goals)
+from_start p p' talks c (Err f.OutOfMemory) same h goals = absurd h
+from_start p p' talks c (Err (f.Form line)) same h goals = subst (λ (q : Program). (d : Configuration) × Dispatches q talks d (Err (f.Form line)) × ⊤) same (c, h, tt)
+from_start p p' talks c (Err (f.NotOrdered line agent)) same h goals = subst (λ (q : Program). (d : Configuration) × Dispatches q talks d (Err (f.NotOrdered line agent)) × ⊤) same (c, h, tt)
+from_start p p' talks c (Err (f.Ended line)) same h goals = subst (λ (q : Program). (d : Configuration) × Dispatches q talks d (Err (f.Ended line)) × ⊤) same (c, h, tt)
+from_start p p' talks c (Err f.Write) same h goals = subst (λ (q : Program). (d : Configuration) × Dispatches q talks d (Err f.Write) × ⊤) same (c, h, tt)
+from_start p p' talks c (Err f.ReportLimit) same h goals = subst (λ (q : Program). (d : Configuration) × Dispatches q talks d (Err f.ReportLimit) × ⊤) same (c, h, tt)
+from_start p p' talks c (Err f.Input) same h goals = subst (λ (q : Program). (d : Configuration) × Dispatches q talks d (Err f.Input) × ⊤) same (c, h, tt)

@@ -1,10 +1,11 @@
 -- What dispatching a fleet says, hears and answers.
-use Rattle.std.specs.Prelude.{◌≡◌, ℕ, ◌+◌, ◌<◌, ◌≤◌, ◌⊎◌, Bool, true, false, not, ◌&&◌, List, [], ◌∷◌, ◌++◌, length, take, get_or, Result, Ok, Err}
+use Rattle.std.specs.Prelude.{◌≡◌, ℕ, ◌+◌, ◌<◌, ◌≤◌, ◌⊎◌, Bool, true, false, not, ◌&&◌, List, [], ◌∷◌, ◌++◌, length, take, get_or, Result, Ok, Err, IfOk}
 use Rattle.fleet_model.specs.Program.{Program, total_moves}
 use Rattle.fleet_model.specs.Machine.{Configuration, run, tick, is_among, is_ready, is_finished, IsFinish}
 use Rattle.fleet_model.specs.Claims.{holds_of}
 use Rattle.fleet_machine.specs.Confirmed.{AreSent, IsFirstUnsent}
 use Rattle.fleet_machine.specs.Machine.{flag_of}
+use Rattle.fleet_run.specs.Fleet.{AreOnGoals}
 use Rattle.fleet_dispatch.specs.declared.run.TheConstants.{MOST_REPORTS}
 use Rattle.fleet_dispatch.specs.declared.run.DispatchFault.{DispatchFault}
 use Rattle.fleet_dispatch.specs.declared.run.DispatchFault.TheVariants.{OutOfMemory, Form, NotOrdered, Ended, Write, ReportLimit, Input}
@@ -62,12 +63,17 @@ pub record StopsAtLimit (p : Program) (talks : Talk → Type 0) (c : Configurati
 abbrev pub Dispatches : Program → (Talk → Type 0) → Configuration → Result DispatchReport DispatchFault → Type 0
 Dispatches p talks c (Ok r) = (reports : List (List ℕ)) × IsDispatched p talks c r reports
 Dispatches p talks c (Err OutOfMemory) = ⊥
-Dispatches p talks c (Err (Form line)) = (reports : List (List ℕ)) × StopsAtLine p talks c Misheard line reports
+Dispatches p talks c (Err (Form line)) = (reports : List (List ℕ)) × StopsAtLine p talks c (Misheard (length p)) line reports
 Dispatches p talks c (Err (NotOrdered line agent)) = (reports : List (List ℕ)) × StopsAtReport p talks c line agent reports
 Dispatches p talks c (Err (Ended line)) = (reports : List (List ℕ)) × StopsAtLine p talks c NoMore line reports
 Dispatches p talks c (Err Write) = (reports : List (List ℕ)) × StopsAtTelling p talks c reports
 Dispatches p talks c (Err ReportLimit) = (reports : List (List ℕ)) × StopsAtLimit p talks c reports
 Dispatches p talks c (Err Input) = (reports : List (List ℕ)) × StopsAtLine p talks c Unheard (length reports + 1) reports
+
+-- from the start of a fleet, for which there may be no memory before anything is said
+abbrev pub DispatchesFrom : Program → (Talk → Type 0) → Result DispatchReport DispatchFault → Type 0
+DispatchesFrom p talks (Err OutOfMemory) = talks []
+DispatchesFrom p talks result = (c : Configuration) × Dispatches p talks c result × IfOk result (λ _. AreOnGoals p c)
 
 -- ---- one report
 
@@ -87,7 +93,7 @@ pub record IsRefused (p : Program) (talks : Talk → Type 0) (c : Configuration)
 -- a line was heard, and was taken as a report or refused with nothing changed
 abbrev pub TakesReport : {T : Type 0} → Program → (Talk → Type 0) → (works : Type 0) (c c' : Configuration) (sent : List Bool) → ℕ → Result T DispatchFault → Type 0
 TakesReport p talks works c c' sent n (Ok _) = (report : List ℕ) × IsTaken p talks works c c' sent report
-TakesReport p talks works c c' sent n (Err (Form line)) = (c' ≡ c) × (line ≡ n) × talks (Misheard ∷ [])
+TakesReport p talks works c c' sent n (Err (Form line)) = (c' ≡ c) × (line ≡ n) × talks (Misheard (length p) ∷ [])
 TakesReport p talks works c c' sent n (Err (NotOrdered line agent)) = (c' ≡ c) × (line ≡ n) × ((report : List ℕ) × IsRefused p talks c agent report)
 TakesReport p talks works c c' sent n (Err (Ended line)) = (c' ≡ c) × (line ≡ n) × talks (NoMore ∷ [])
 TakesReport p talks works c c' sent n (Err Input) = (c' ≡ c) × talks (Unheard ∷ [])

@@ -9,7 +9,7 @@ pub data Turn : Type 0 where
   Told : List ℕ → Turn  -- bytes that were handed on
   Cut : List ℕ → Turn  -- a front of bytes, after which nothing more can be said
   Heard : List ℕ → Turn  -- a report, by the agents that it names
-  Misheard : Turn  -- a line that is no report
+  Misheard : ℕ → Turn  -- a line that is no report of so many agents
   NoMore : Turn  -- there is no further line
   Unheard : Turn  -- a line cannot be heard
 
@@ -26,5 +26,5 @@ Tells talks works (Err _) bytes = (k : ℕ) × (k ≤ length bytes) × talks (Cu
 abbrev pub Hears : (talks : Talk → Type 0) (works : Type 0) → Result Bool HearFault → List Bool → Type 0
 Hears talks works (Ok true) flags = (report : List ℕ) × AreFlagsOf report flags × talks (Heard report ∷ []) × works
 Hears talks works (Ok false) flags = talks (NoMore ∷ [])
-Hears talks works (Err Form) flags = talks (Misheard ∷ [])
+Hears talks works (Err Form) flags = talks (Misheard (length flags) ∷ [])
 Hears talks works (Err Broken) flags = talks (Unheard ∷ [])

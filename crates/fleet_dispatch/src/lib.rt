@@ -5,6 +5,10 @@
 mod floor;
 mod orders;
 mod run;
+mod stream_floor;
+mod window;
 
 pub use floor::{Floor, HearFault};
-pub use run::{DispatchFault, DispatchReport, MOST_REPORTS, dispatch};
+pub use run::{DispatchFault, DispatchReport, MOST_REPORTS, dispatch, dispatch_accepted};
+pub use stream_floor::StreamFloor;
+pub use window::LINE_ROOM;

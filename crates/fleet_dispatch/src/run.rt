@@ -7,14 +7,16 @@ ghost use Rattle.fleet_model.specs.Machine.{Holds, opening, run, is_ready, is_st
 ghost use Rattle.fleet_model.specs.Claims.{MayBeOn, orders_given};
 ghost use Rattle.fleet_machine.specs.Machine.{flag_of};
 ghost use Rattle.fleet_run.specs.Fleet.{AreOnGoals};
-ghost use Rattle.fleet_dispatch.specs.Dispatch.{Dispatches, Concludes, TakesReport};
+ghost use Rattle.fleet_dispatch.specs.Dispatch.{Dispatches, DispatchesFrom, Concludes, TakesReport};
 ghost use Rattle.fleet_dispatch.specs.Orders.{AreReadyFlags};
 
 use crate::floor::{Floor, HearFault};
 use crate::orders::{ORDERS, take_off, tell_closing, tell_orders};
 use fleet_model::{MAX_AGENTS, ProgramView, total_moves};
 use fleet_run::{Fleet, clear};
-use fleet_verify::{orders_are_given_once, ready_moves_are_apart, runs_end};
+use fleet_text::{OutFault, Refusal, TraceOut, Word, put_line, put_memory, put_named, put_named_at, put_named_by};
+use fleet_verify::{Accepted, orders_are_given_once, ready_moves_are_apart, runs_end};
+use std::alloc::Global;
 use thiserror::Error;
 
 /// How many reports are taken at most.
@@ -37,6 +39,42 @@ pub enum DispatchFault {
     ReportLimit,
     #[error("the reports cannot be read")]
     Input,
+}
+
+impl Refusal for DispatchFault {
+    ghost use Rattle.fleet_dispatch.specs.Told.{dispatch_words, is_dispatch_failure};
+
+    ghost words = { dispatch_words };
+
+    ghost is_failure = { is_dispatch_failure };
+
+    fn put<O: TraceOut>(&self, out: &mut O) -> Result<(), OutFault> {
+        match *self {
+            DispatchFault::OutOfMemory => put_memory(out),
+            DispatchFault::Form { line } => put_named_at(out, "dispatch", 2, "Form", "line", line),
+            DispatchFault::NotOrdered { line, agent } => put_named_by(
+                out,
+                "dispatch",
+                3,
+                "NotOrdered",
+                ("line", line),
+                ("agent", agent as u64),
+            ),
+            DispatchFault::Ended { line } => {
+                put_named_at(out, "dispatch", 4, "Ended", "line", line)
+            }
+            DispatchFault::Write => put_named(out, "dispatch", 5, "Write"),
+            DispatchFault::ReportLimit => put_named(out, "dispatch", 6, "ReportLimit"),
+            DispatchFault::Input => put_line(out, &[Word::Text("file"), Word::Text("-")]),
+        }
+    }
+
+    fn is_failure(&self) -> bool {
+        matches!(
+            self,
+            DispatchFault::OutOfMemory | DispatchFault::Write | DispatchFault::Input
+        )
+    }
 }
 
 /// A dispatch after which all stand on their goals.
@@ -176,4 +214,21 @@ pub fn dispatch<P: ProgramView, F: Floor>(
         &mut row,
         floor,
     )
+}
+
+/// Dispatches the agents of an accepted program from their starts until all stand on their goals.
+///
+/// Errors: `OutOfMemory` before anything is said; and else those of `dispatch`.
+pub fn dispatch_accepted<P: ProgramView + Drop, F: Floor>(
+    alloc: Global,
+    accepted: Accepted<'_, P>,
+    floor: &mut F,
+) -> Result<DispatchReport, DispatchFault>
+    requires { F.works floor.old }
+    ensures { DispatchesFrom (P.program accepted.entry.program) (F.talks floor.old floor.new) result }
+{
+    let Ok(mut fleet) = Fleet::start(alloc, accepted) else {
+        return Err(DispatchFault::OutOfMemory);
+    };
+    dispatch(&mut fleet, floor)
 }

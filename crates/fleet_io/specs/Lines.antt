@@ -10,6 +10,7 @@ use Rattle.fleet_code.specs.Told.{hex_words, is_hex_failure, load_words, is_load
 use Rattle.fleet_adg.specs.Told.{compile_words, is_compile_failure}
 use Rattle.fleet_verify.specs.Told.{verify_words, is_verify_failure}
 use Rattle.fleet_run.specs.Told.{run_words, is_run_failure}
+use Rattle.fleet_dispatch.specs.Told.{dispatch_words, is_dispatch_failure}
 use Rattle.fleet_auto.specs.declared.fault.AutoFault.{AutoFault}
 use Rattle.fleet_auto.specs.declared.fault.AutoFault.TheVariants as a
 use Rattle.fleet_auto.specs.declared.fault.AcceptFault.{AcceptFault}
@@ -29,6 +30,7 @@ words_of (f.Load fault) = load_words fault
 words_of (f.Compile fault) = compile_words fault
 words_of (f.Verify fault) = verify_words fault
 words_of (f.Run fault) = run_words fault
+words_of (f.Dispatch fault) = dispatch_words fault
 words_of f.Memory = memory_words
 words_of (f.File name) = codes "file" ∷ name.now ∷ []
 
@@ -48,6 +50,7 @@ is_failure_of (f.Load fault) = is_load_failure fault
 is_failure_of (f.Compile fault) = is_compile_failure fault
 is_failure_of (f.Verify fault) = is_verify_failure fault
 is_failure_of (f.Run fault) = is_run_failure fault
+is_failure_of (f.Dispatch fault) = is_dispatch_failure fault
 is_failure_of f.Memory = true
 is_failure_of (f.File _) = true
 

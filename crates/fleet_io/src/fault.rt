@@ -8,6 +8,7 @@ ghost use Rattle.fleet_io.specs.Lines.{line_of, status_of};
 use fleet_adg::CompileFault;
 use fleet_auto::{AcceptFault, AutoFault};
 use fleet_code::{HexFault, LoadFault};
+use fleet_dispatch::DispatchFault;
 use fleet_grid::MapFault;
 use fleet_plan::{PlanFault, TextFault};
 use fleet_run::RunFault;
@@ -30,6 +31,7 @@ pub enum Fault<'a> {
     Compile(CompileFault),
     Verify(VerifyFault),
     Run(RunFault),
+    Dispatch(DispatchFault),
     Memory,
     File(&'a str),
 }
@@ -87,6 +89,7 @@ impl Refusal for Fault<'_> {
             Fault::Compile(fault) => fault.put(out),
             Fault::Verify(fault) => fault.put(out),
             Fault::Run(fault) => fault.put(out),
+            Fault::Dispatch(fault) => fault.put(out),
             Fault::Memory => put_memory(out),
             Fault::File(name) => put_line(out, &[Word::Text("file"), Word::Text(name)]),
         }
@@ -104,6 +107,7 @@ impl Refusal for Fault<'_> {
             Fault::Compile(fault) => fault.is_failure(),
             Fault::Verify(fault) => fault.is_failure(),
             Fault::Run(fault) => fault.is_failure(),
+            Fault::Dispatch(fault) => fault.is_failure(),
             Fault::Memory | Fault::File(_) => true,
         }
     }

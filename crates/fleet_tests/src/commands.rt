@@ -5,6 +5,7 @@ ghost use Rattle.fleet_text.specs.Sink.{IsWorking};
 
 use fleet_cli::{Files, MemFiles, run_command};
 use fleet_code::read_hex;
+use fleet_dispatch::StreamFloor;
 use fleet_fixtures::worked::*;
 use fleet_run::{Flush, VecOut};
 use std::alloc::Global;
@@ -89,7 +90,7 @@ pub fn program_of(alloc: Global, text: &[u8]) -> Option<Vec<u8>> {
     read_hex(alloc, text).ok()
 }
 
-fn words_of(alloc: Global, line: &str) -> Option<Vec<String>> {
+pub fn words_of(alloc: Global, line: &str) -> Option<Vec<String>> {
     let mut words = Vec::new(alloc);
     for word in line.split_whitespace() {
         words.push(String::from_str(alloc, word).ok()?).ok()?;
@@ -109,7 +110,7 @@ pub fn status_of<F: Files, O: Flush>(
     requires err_working { err.old.has_failed ≡ false }
 {
     let words = words_of(alloc, line)?;
-    let mut input = PAIR;
+    let mut input = StreamFloor::new(PAIR, VecOut::new(alloc));
     Some(run_command(alloc, words.as_slice(), &mut input, files, out, err))
 }
 

@@ -16,6 +16,8 @@ mod compile_tests;
 #[cfg(test)]
 mod disk_tests;
 #[cfg(test)]
+mod dispatch_tests;
+#[cfg(test)]
 mod file_tests;
 #[cfg(test)]
 mod flush_tests;

@@ -14,4 +14,5 @@ returns c =
     let eight = joins _ _ _ _ _ seven c.in_ok-auto_command.ensures c.in_ok-subcommand-8.ensures in
     let nine = joins _ _ _ _ _ eight c.in_ok-thin_command.ensures c.in_ok-subcommand-9.ensures in
     let ten = joins _ _ _ _ _ nine c.in_ok-migrate_command.ensures c.in_ok-subcommand-10.ensures in
-    IfOk-weaker c.subcommand-11.result _ _ (λ r h. joins _ _ r _ _ ten c.in_ok-list_command.ensures h) c.subcommand-11.ensures
+    let eleven = joins _ _ _ _ _ ten c.in_ok-list_command.ensures c.in_ok-subcommand-11.ensures in
+    IfOk-weaker c.subcommand-12.result _ _ (λ r h. joins _ _ r _ _ eleven c.in_ok-dispatch_command.ensures h) c.subcommand-12.ensures

@@ -1,0 +1,45 @@
+//! The command `dispatch`: what it is asked for, its words and options, and how they are read.
+
+ghost use Rattle.std.specs.Prelude.{◌≡◌, false, IfOk, MatchOption};
+ghost use Rattle.fleet_args.specs.Arguments.{IsLeafCommand};
+ghost use Rattle.fleet_args.specs.Values.{values_in};
+ghost use Rattle.fleet_args.specs.Dispatch.{dispatch_shape, AsksDispatch, has_dispatch_values};
+
+use crate::arguments::{agents, map_and_scen, program};
+use crate::values::number;
+use clap::{ArgMatches, Command};
+use std::alloc::{AllocError, Global};
+
+/// `fleet dispatch MAP SCEN PROGRAM [--agents K]`
+#[derive(Clone, Copy, Debug, PartialEq, Eq)]
+pub struct DispatchRequest<'a> {
+    pub map: &'a str,
+    pub scen: &'a str,
+    pub program: &'a str,
+    pub agents: Option<u16>,
+}
+
+pub(crate) fn dispatch_command<'a>(alloc: Global) -> Result<Command<'a>, AllocError>
+    ensures { IfOk result (IsLeafCommand dispatch_shape) }
+{
+    map_and_scen(
+        alloc,
+        "dispatch",
+        "Dispatches robots: prints go AGENT FROM TO as each move may begin, and reads a line for each report of who has moved",
+    )?
+    .arg(program(alloc))?
+    .arg(agents(alloc))
+}
+
+/// What the matches of the command ask: none where a word is missing, or a text is no number.
+pub(crate) fn dispatch_in<'a>(matches: &ArgMatches<'a>) -> Option<DispatchRequest<'a>>
+    ensures { MatchOption result (has_dispatch_values (values_in matches.now) ≡ false)
+        (AsksDispatch (values_in matches.now)) }
+{
+    Some(DispatchRequest {
+        map: matches.get_str("map")?,
+        scen: matches.get_str("scen")?,
+        program: matches.get_str("program")?,
+        agents: number(matches, "agents")?,
+    })
+}

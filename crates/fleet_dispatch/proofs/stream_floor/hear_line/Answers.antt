@@ -1,0 +1,11 @@
+use Rattle.fleet_dispatch.proofs.StreamLemmas.{unfound, unset}
+use Rattle.fleet_dispatch.proofs.stream_floor.hear_line.Goals as goal
+
+pub returns-in_err-found : goal.returns-in_err-found
+returns-in_err-found g c =
+    unfound _ _ _ _ c.in_err-found.field-0.0 c.from_residual.result c.args.done.now c.from_residual.ensures.1 c.in_err-found.ensures.0 c.in_err-found.ensures.1
+
+pub returns-in_err-set_report : goal.returns-in_err-set_report
+returns-in_err-set_report g c =
+    unset _ _ _ _ c.in-Some.line.now c.in_err-set_report.field-0.0 c.from_residual-in_err-set_report.result c.set_report.new.done c.from_residual-in_err-set_report.ensures.1
+    c.in_ok-found.ensures.0 (c.in-Some.ensures _ c.in_ok-found.ensures.1.1).1 c.in_err-set_report.ensures

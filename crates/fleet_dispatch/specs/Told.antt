@@ -1,0 +1,22 @@
+-- What is told of a dispatch that stopped before its end.
+use Rattle.std.specs.Prelude.{ℕ, Bool, true, false, List, [], ◌∷◌, codes}
+use Rattle.fleet_text.specs.Refusals.{memory_words, named, named_at, named_by}
+use Rattle.fleet_dispatch.specs.declared.run.DispatchFault.{DispatchFault}
+use Rattle.fleet_dispatch.specs.declared.run.DispatchFault.TheVariants as d
+
+-- the words of the line of a dispatch that stopped
+abbrev pub dispatch_words : DispatchFault → List (List ℕ)
+dispatch_words d.OutOfMemory = memory_words
+dispatch_words (d.Form line) = named_at (codes "dispatch") 2 (codes "Form") (codes "line") line
+dispatch_words (d.NotOrdered line agent) = named_by (codes "dispatch") 3 (codes "NotOrdered") (codes "line") line (codes "agent") agent
+dispatch_words (d.Ended line) = named_at (codes "dispatch") 4 (codes "Ended") (codes "line") line
+dispatch_words d.Write = named (codes "dispatch") 5 (codes "Write")
+dispatch_words d.ReportLimit = named (codes "dispatch") 6 (codes "ReportLimit")
+dispatch_words d.Input = codes "file" ∷ codes "-" ∷ []
+
+-- whether memory, the reports or the orders failed
+abbrev pub is_dispatch_failure : DispatchFault → Bool
+is_dispatch_failure d.OutOfMemory = true
+is_dispatch_failure d.Write = true
+is_dispatch_failure d.Input = true
+is_dispatch_failure _ = false

@@ -1,0 +1,167 @@
+//! A floor whose robots report in the lines of an input, and are told their orders over an output.
+
+ghost use Rattle.std.specs.Prelude.{◌≡◌, ℕ, ◌≤◌, List, [], length, drop, position, Option, None, IfSome, MatchOption};
+ghost use Rattle.std.specs.Str.Lines.{strip_carriage_return};
+ghost use Rattle.std.specs.Io.KnownBytes.{prepend_known, IsAtEnd};
+ghost use Rattle.fleet_text.specs.Text.{is_lf, lines};
+ghost use Rattle.fleet_text.specs.Sink.{IsWorking, Delivers};
+ghost use Rattle.fleet_dispatch.specs.Window.{unpassed};
+ghost use Rattle.fleet_dispatch.specs.Stream.{GivesLine};
+ghost use Rattle.fleet_dispatch.specs.StreamFloor.{FindsLine, SetsReport, HearsLine};
+
+use crate::floor::{Floor, HearFault};
+use crate::window::{LINE_ROOM, Window};
+use fleet_run::{Flush, OutFault, a_tick_line_is_read, clear, put_all, set_tick};
+use std::io;
+use std::io::Read;
+
+/// A floor over an input and an output. A report is a line of the input, read as it comes: `-` for nobody, or the numbers of the agents
+/// that have carried out their orders, in strictly rising order with one space between two. What is told is handed on before a line is waited for.
+/// Takes no memory.
+#[derive(Drop)]
+pub struct StreamFloor<R: Read, O: Flush> {
+    input: R,
+    window: Window,
+    pub orders: O,
+}
+
+impl<R: Read, O: Flush> StreamFloor<R, O> {
+    pub fn new(input: R, orders: O) -> StreamFloor<R, O>
+        requires { IsWorking (O.state orders) }
+        ensures { ⟦<StreamFloor<R, O> as Floor>⟧.works result }
+    {
+        StreamFloor {
+            input,
+            window: Window::new(),
+            orders,
+        }
+    }
+}
+
+/// Where the first line of the bytes ends, if it ends within them.
+fn end_in(bytes: &[u8]) -> Option<usize>
+    ensures { result ≡ position is_lf bytes.now }
+{
+    bytes.iter().position(|b| *b == b'\n')
+}
+
+/// The line without one CR at its end.
+fn without_cr(line: &[u8]) -> &[u8]
+    ensures { result.now ≡ strip_carriage_return line.now }
+{
+    match line {
+        [front @ .., b'\r'] => front,
+        _ => line,
+    }
+}
+
+/// Reads until a line ends in the window, and answers where; at the end of the input nowhere.
+fn find_line<R: Read>(input: &mut R, window: &mut Window) -> Result<Option<usize>, HearFault>
+    ensures { FindsLine (R.remaining input.old) (R.remaining input.new) (unpassed window.old) (unpassed window.new) result }
+{
+    'reads: loop {
+        if let Some(end) = end_in(window.unpassed()) {
+            return Ok(Some(end));
+        }
+        if window.unpassed().len() >= LINE_ROOM {
+            return Err(HearFault::Form);
+        }
+        window.move_to_front();
+        match window.read_from(input) {
+            Ok(0) => return Ok(None),
+            Ok(_) => {}
+            Err(_) => return Err(HearFault::Broken),
+        }
+    }
+}
+
+/// The next line of the bytes that were read, which ends where it was found or with them all, and how many bytes are passed with it.
+fn line_in(read: &[u8], found: Option<usize>) -> Option<(&[u8], usize)>
+    requires { position is_lf read.now ≡ found }
+    ensures { (left : Option (List ℕ)) → (found ≡ None → IsAtEnd left) → MatchOption result
+        (IfSome (prepend_known read.now left) (λ text. lines text ≡ []))
+        (λ x. (x.1 ≤ length read.now) × GivesLine (prepend_known read.now left) (prepend_known (drop x.1 read.now) left) x.0.now) }
+{
+    match found {
+        Some(end) => Some((without_cr(&read[..end]), end + 1)),
+        None if read.is_empty() => None,
+        None => Some((without_cr(read), read.len())),
+    }
+}
+
+/// Sets the flags as the line reports.
+fn set_report(line: &[u8], done: &mut [bool]) -> Result<(), HearFault>
+    ensures { SetsReport line.now result done.new }
+{
+    a_tick_line_is_read();
+    let Ok(agents) = u16::try_from(done.len()) else {
+        return Err(HearFault::Broken);
+    };
+    clear(done);
+    if set_tick(line, agents, done) {
+        Ok(())
+    } else {
+        Err(HearFault::Form)
+    }
+}
+
+/// Hears the next line of the input.
+fn hear_line<R: Read>(
+    input: &mut R,
+    window: &mut Window,
+    done: &mut [bool],
+) -> Result<bool, HearFault>
+    ensures { HearsLine (prepend_known (unpassed window.old) (R.remaining input.old)) (prepend_known (unpassed window.new) (R.remaining input.new)) result done.new }
+{
+    let found = find_line(input, window)?;
+    let Some((line, past)) = line_in(window.unpassed(), found) else {
+        return Ok(false);
+    };
+    set_report(line, done)?;
+    window.pass(past);
+    Ok(true)
+}
+
+/// Puts all of the bytes and has the sink hand them on, or stops at its failure.
+fn deliver<O: Flush>(out: &mut O, bytes: &[u8]) -> Result<(), OutFault>
+    requires { IsWorking (O.state out.old) }
+    ensures { Delivers (O.state out.old) (O.state out.new) result bytes.now }
+{
+    put_all(out, bytes)?;
+    out.flush()
+}
+
+impl<R: Read, O: Flush> Floor for StreamFloor<R, O> {
+    ghost use Rattle.std.specs.Io.KnownBytes.{prepend_known};
+    ghost use Rattle.fleet_text.specs.Sink.{IsWorking};
+    ghost use Rattle.fleet_dispatch.specs.Window.{unpassed};
+    ghost use Rattle.fleet_dispatch.specs.Stream.{TakesTurns};
+    ghost use Rattle.fleet_dispatch.specs.StreamTalk.{takes_more};
+
+    ghost talks = { λ f g talk. TakesTurns
+        (record { out = O.state f.orders; left = prepend_known (unpassed f.window) (R.remaining f.input) })
+        (record { out = O.state g.orders; left = prepend_known (unpassed g.window) (R.remaining g.input) }) talk };
+
+    ghost works = { λ f. IsWorking (O.state f.orders) };
+
+    fn tell(&mut self, bytes: &[u8]) -> Result<(), OutFault> {
+        deliver(&mut self.orders, bytes)
+    }
+
+    fn hear(&mut self, done: &mut [bool]) -> Result<bool, HearFault> {
+        hear_line(&mut self.input, &mut self.window, done)
+    }
+
+    ghost silent = { λ f. refl };
+
+    ghost joined = { λ f g h before after. takes_more _ _ _ before after };
+}
+
+/// What is read is what the input gives past the bytes that were read for lines.
+impl<R: Read, O: Flush> Read for StreamFloor<R, O> {
+    ghost remaining = { λ f. R.remaining f.input };
+
+    fn read(&mut self, buf: &mut [u8]) -> io::Result<usize> {
+        self.input.read(buf)
+    }
+}

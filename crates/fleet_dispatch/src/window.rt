@@ -1,0 +1,74 @@
+//! The bytes of an input that were read and are not yet passed.
+
+ghost use Rattle.std.specs.Prelude.{◌≡◌, ℕ, ◌+◌, ◌<◌, ◌≤◌, List, [], ◌++◌, length, drop, IfOk, OnErr};
+ghost use Rattle.std.specs.Io.KnownBytes.{Keeps, Consumes, IsAtEnd};
+
+use std::io;
+use std::io::Read;
+
+/// How many bytes of a line are heard. The longest report, of 1,024 agents, has 4,009.
+pub const LINE_ROOM: usize = 8_192;
+
+/// The bytes from `start` to `end`, and room after them.
+#[derive(Drop)]
+pub struct Window {
+    bytes: [u8; LINE_ROOM],
+    start: usize,
+    end: usize,
+    ghost ordered: { start ≤ end },
+    ghost within: { end ≤ 8192 },
+}
+
+impl Window {
+    ghost use Rattle.fleet_dispatch.specs.Window.{unpassed, room_of};
+
+    /// A window in which nothing is.
+    pub fn new() -> Window
+        ensures { unpassed result ≡ [] }
+    {
+        Window {
+            bytes: [0; LINE_ROOM],
+            start: 0,
+            end: 0,
+        }
+    }
+
+    /// The bytes that are not yet passed.
+    pub fn unpassed(&self) -> &[u8]
+        ensures { result.now ≡ unpassed self.now }
+    {
+        &self.bytes[self.start..self.end]
+    }
+
+    /// Passes the first bytes.
+    pub fn pass(&mut self, count: usize)
+        requires { count ≤ length (unpassed self.old) }
+        ensures { unpassed self.new ≡ drop count (unpassed self.old) }
+    {
+        self.start += count;
+    }
+
+    /// Makes all the room that there is behind the bytes that are not yet passed.
+    pub fn move_to_front(&mut self)
+        ensures bytes { unpassed self.new ≡ unpassed self.old }
+        ensures room { room_of self.new + length (unpassed self.new) ≡ LINE_ROOM }
+    {
+        let (start, end) = (self.start, self.end);
+        self.bytes.copy_within(start..end, 0);
+        self.start = 0;
+        self.end = end - start;
+    }
+
+    /// Reads once, into the room behind. Answers how many bytes came.
+    pub fn read_from<R: Read>(&mut self, input: &mut R) -> io::Result<usize>
+        ensures read { IfOk result (λ n. (more : List ℕ) × (length more ≡ n) × (unpassed self.new ≡ unpassed self.old ++ more)
+            × Consumes (R.remaining input.old) (R.remaining input.new) more) }
+        ensures end { IfOk result (λ n. n ≡ 0 → 0 < room_of self.old → IsAtEnd (R.remaining input.new)) }
+        ensures err { OnErr result ((unpassed self.new ≡ unpassed self.old) × Keeps (R.remaining input.old) (R.remaining input.new)) }
+    {
+        let end = self.end;
+        let count = input.read(&mut self.bytes[end..])?;
+        self.end = end + count;
+        Ok(count)
+    }
+}

@@ -1,0 +1,19 @@
+#!/bin/sh
+# Robots of different speeds against `fleet dispatch`, through two pipes:
+#     sh tools/robots.sh MAP SCEN PROGRAM [SEED] [TRACE]
+# The robots are in robots.awk, which checks from outside that no two of them claim one cell. The clock ticks every hundredth of a second.
+# How long it took is told on standard error. In TRACE, if it is named, is where the robots were in each tick, for tools/film.awk.
+
+here=$(cd "$(dirname "$0")" && pwd) || exit 2
+pipes=$(mktemp -d) || exit 2
+trap 'rm -rf "$pipes"' EXIT
+mkfifo "$pipes/reports" "$pipes/orders" || exit 2
+fleet instance "$1" "$2" > "$pipes/instance" || exit 2
+{
+    fleet dispatch "$1" "$2" "$3" < "$pipes/reports" &
+    while kill -0 $! 2> "$pipes/gone"; do
+        echo tick
+        sleep 0.01
+    done
+} > "$pipes/orders" &
+awk -v reports="$pipes/reports" -v seed="${4:-1}" -v trace="$5" -f "$here/robots.awk" "$pipes/instance" "$pipes/orders"

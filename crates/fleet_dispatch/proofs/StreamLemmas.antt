@@ -44,8 +44,8 @@ found_before p xs ys i e =
     let at = position-Some p xs i 0 e in
     let long : i < length (xs ++ ys) = omega (arith, length-append xs ys, at.0) in
     let here : position_or_len p (xs ++ ys) ≡ i = position_or_len_is p (xs ++ ys) i 0 (omega (arith, long))
-        (λ k before. ap p (get_or-append xs ys 0 k (omega (arith, at.0))) ∙ at.2 k before)
-        (λ inside. ap p (get_or-append xs ys 0 i at.0) ∙ at.1) in
+    (λ k before. ap p (get_or-append xs ys 0 k (omega (arith, at.0))) ∙ at.2 k before)
+    (λ inside. ap p (get_or-append xs ys 0 i at.0) ∙ at.1) in
     rw here (elim (cases_Bool (ltb i (length (xs ++ ys)))) [
       | inl t ↦ rw t refl
       | inr t ↦ absurd (let h = ltb-false _ _ t in omega (arith, long))

@@ -1,9 +1,14 @@
 -- Stretches of talk, one after another.
 use Rattle.std.specs.Prelude.{[], ◌∷◌, ◌++◌}
-use Rattle.std.proofs.Common.{subst, sym}
+use Rattle.std.proofs.Common.{refl, subst, sym}
 use Rattle.fleet_dispatch.specs.Talk.{Turn, Talk}
 use Rattle.fleet_dispatch.specs.Stream.{Ends, TakesTurns}
 
+-- nothing
+pub takes_nothing : (ends : Ends) → TakesTurns ends ends []
+takes_nothing ends = refl
+
+-- one stretch and then another
 pub takes_more : (a b c : Ends) (before after : Talk) → TakesTurns a b before → TakesTurns b c after → TakesTurns a c (before ++ after)
 takes_more a b c [] after same then = subst (λ (x : Ends). TakesTurns x c after) same then
 takes_more a b c (turn ∷ before) after first then = (first.0, first.1, takes_more first.0 b c before after first.2 then)

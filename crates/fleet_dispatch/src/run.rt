@@ -14,7 +14,9 @@ use crate::floor::{Floor, HearFault};
 use crate::orders::{ORDERS, take_off, tell_closing, tell_orders};
 use fleet_model::{MAX_AGENTS, ProgramView, total_moves};
 use fleet_run::{Fleet, clear};
-use fleet_text::{OutFault, Refusal, TraceOut, Word, put_line, put_memory, put_named, put_named_at, put_named_by};
+use fleet_text::{
+    OutFault, Refusal, TraceOut, Word, put_line, put_memory, put_named, put_named_at, put_named_by,
+};
 use fleet_verify::{Accepted, orders_are_given_once, ready_moves_are_apart, runs_end};
 use std::alloc::Global;
 use thiserror::Error;

@@ -25,7 +25,14 @@ fn expect_of<R: Read + Drop>(
     let mut floor = StreamFloor::new(reports, VecOut::new(alloc));
     let mut out = VecOut::new(alloc);
     let mut err = VecOut::new(alloc);
-    let status = run_command(alloc, words.as_slice(), &mut floor, &mut files, &mut out, &mut err);
+    let status = run_command(
+        alloc,
+        words.as_slice(),
+        &mut floor,
+        &mut files,
+        &mut out,
+        &mut err,
+    );
     assert_eq!(rt; floor.orders.bytes(), answer.printed, "{line}");
     assert_eq!(rt; out.bytes(), b"".as_slice(), "{line}");
     assert_eq!(rt; err.bytes(), answer.told, "{line}");
@@ -43,17 +50,38 @@ fn stops<'a>(printed: &'a [u8], told: &'a [u8]) -> Answer<'a> {
 }
 
 const FIRST: &[u8] = b"go 0 1,0 2,0\n";
+
 const SECOND: &[u8] = b"go 0 1,0 2,0\ngo 0 2,0 3,0\ngo 1 0,0 1,0\n";
 
 /// Robot 1 is sent on as it reports together with robot 0, or once robot 0 has reported alone.
 #[test]
 fn orders_come_as_they_are_due(rt: HostRuntime) -> Result<(), Fail> {
     let alloc = rt.alloc();
-    let together = b"go 0 1,0 2,0\ngo 0 2,0 3,0\ngo 1 0,0 1,0\ngo 1 1,0 2,0\narrived\nagents 2\nmoves 4\nreports 3\n";
-    let apart = b"go 0 1,0 2,0\ngo 0 2,0 3,0\ngo 1 0,0 1,0\ngo 1 1,0 2,0\narrived\nagents 2\nmoves 4\nreports 6\n";
-    expect_of(&rt, alloc, PAIR, b"0\n0 1\n1\n".as_slice(), prints(together))?;
-    expect_of(&rt, alloc, PAIR, b"0\r\n0 1\r\n1".as_slice(), prints(together))?;
-    expect_of(&rt, alloc, PAIR, b"-\n0\n1\n-\n0\n1\nwhat follows is not read".as_slice(), prints(apart))
+    let together =
+        b"go 0 1,0 2,0\ngo 0 2,0 3,0\ngo 1 0,0 1,0\ngo 1 1,0 2,0\narrived\nagents 2\nmoves 4\nreports 3\n";
+    let apart =
+        b"go 0 1,0 2,0\ngo 0 2,0 3,0\ngo 1 0,0 1,0\ngo 1 1,0 2,0\narrived\nagents 2\nmoves 4\nreports 6\n";
+    expect_of(
+        &rt,
+        alloc,
+        PAIR,
+        b"0\n0 1\n1\n".as_slice(),
+        prints(together),
+    )?;
+    expect_of(
+        &rt,
+        alloc,
+        PAIR,
+        b"0\r\n0 1\r\n1".as_slice(),
+        prints(together),
+    )?;
+    expect_of(
+        &rt,
+        alloc,
+        PAIR,
+        b"-\n0\n1\n-\n0\n1\nwhat follows is not read".as_slice(),
+        prints(apart),
+    )
 }
 
 /// Reports that come byte by byte.
@@ -62,8 +90,15 @@ fn reports_may_come_in_pieces(rt: HostRuntime) -> Result<(), Fail> {
     let alloc = rt.alloc();
     let rest = b"0\n0 1\n1\n".as_slice();
     let failing = Failing::IsBroken;
-    let together = b"go 0 1,0 2,0\ngo 0 2,0 3,0\ngo 1 0,0 1,0\ngo 1 1,0 2,0\narrived\nagents 2\nmoves 4\nreports 3\n";
-    expect_of(&rt, alloc, PAIR, ShortReader { rest, failing }, prints(together))
+    let together =
+        b"go 0 1,0 2,0\ngo 0 2,0 3,0\ngo 1 0,0 1,0\ngo 1 1,0 2,0\narrived\nagents 2\nmoves 4\nreports 3\n";
+    expect_of(
+        &rt,
+        alloc,
+        PAIR,
+        ShortReader { rest, failing },
+        prints(together),
+    )
 }
 
 #[test]
@@ -79,9 +114,18 @@ fn wrong_reports_are_refused(rt: HostRuntime) -> Result<(), Fail> {
         (b"-\n00\n", stops(FIRST, b"dispatch 2 Form line 2\n")),
         (b"2\n", stops(FIRST, b"dispatch 2 Form line 1\n")),
         (b"0 \n", stops(FIRST, b"dispatch 2 Form line 1\n")),
-        (b"1\n", stops(FIRST, b"dispatch 3 NotOrdered line 1 agent 1\n")),
-        (b"0 1\n", stops(FIRST, b"dispatch 3 NotOrdered line 1 agent 1\n")),
-        (b"0\n1\n1\n", stops(SECOND, b"dispatch 3 NotOrdered line 3 agent 1\n")),
+        (
+            b"1\n",
+            stops(FIRST, b"dispatch 3 NotOrdered line 1 agent 1\n"),
+        ),
+        (
+            b"0 1\n",
+            stops(FIRST, b"dispatch 3 NotOrdered line 1 agent 1\n"),
+        ),
+        (
+            b"0\n1\n1\n",
+            stops(SECOND, b"dispatch 3 NotOrdered line 3 agent 1\n"),
+        ),
     ];
     for (reports, answer) in rows {
         expect_of(&rt, alloc, PAIR, reports, answer)?;
@@ -94,7 +138,13 @@ fn wrong_reports_are_refused(rt: HostRuntime) -> Result<(), Fail> {
 fn a_line_is_heard_up_to_a_length(rt: HostRuntime) -> Result<(), Fail> {
     let alloc = rt.alloc();
     let long = vec![in alloc; b'0'; 20_000].ok_or("memory")?;
-    expect_of(&rt, alloc, PAIR, long.as_slice(), stops(FIRST, b"dispatch 2 Form line 1\n"))
+    expect_of(
+        &rt,
+        alloc,
+        PAIR,
+        long.as_slice(),
+        stops(FIRST, b"dispatch 2 Form line 1\n"),
+    )
 }
 
 #[test]
@@ -117,11 +167,26 @@ fn reports_that_cannot_be_read_end_a_dispatch(rt: HostRuntime) -> Result<(), Fai
 fn dispatches_begin_once_the_program_is_accepted(rt: HostRuntime) -> Result<(), Fail> {
     let alloc = rt.alloc();
     let rows: [(&str, Answer<'_>); 5] = [
-        ("dispatch nowhere pair.scen pair.program", fails(b"file nowhere\n")),
-        ("dispatch pair.map pair.scen pair.map", refuses(b"load 2 Magic\n")),
-        ("dispatch pair.map pair.scen soon.program", refuses(b"verify 8 Unordered cell 1,0 first 0:0 second 1:1\n")),
-        ("dispatch pair.map pair.scen pair.program --agents 1", refuses(b"verify 2 OtherFleet\n")),
-        ("dispatch pair.scen pair.scen pair.program", refuses(b"map 2 Header line 1\n")),
+        (
+            "dispatch nowhere pair.scen pair.program",
+            fails(b"file nowhere\n"),
+        ),
+        (
+            "dispatch pair.map pair.scen pair.map",
+            refuses(b"load 2 Magic\n"),
+        ),
+        (
+            "dispatch pair.map pair.scen soon.program",
+            refuses(b"verify 8 Unordered cell 1,0 first 0:0 second 1:1\n"),
+        ),
+        (
+            "dispatch pair.map pair.scen pair.program --agents 1",
+            refuses(b"verify 2 OtherFleet\n"),
+        ),
+        (
+            "dispatch pair.scen pair.scen pair.program",
+            refuses(b"map 2 Header line 1\n"),
+        ),
     ];
     for (line, answer) in rows {
         expect_of(&rt, alloc, line, b"".as_slice(), answer)?;

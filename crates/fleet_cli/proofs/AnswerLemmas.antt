@@ -10,3 +10,8 @@ match_result (Err e) ok err h = err e h
 pub result_and : {T E K : Type 0} (P : T → Type 0) (Q : E → Type 0) (r : Result T E) → MatchResult r P Q → K → MatchResult r (λ x. P x × K) (λ e. Q e × K)
 result_and P Q (Ok x) h k = (h, k)
 result_and P Q (Err e) h k = (h, k)
+
+-- .. and beside it two such facts
+pub result_and_two : {T E K L : Type 0} (P : T → Type 0) (Q : E → Type 0) (r : Result T E) → MatchResult r P Q → K → L → MatchResult r (λ x. P x × K × L) (λ e. Q e × K × L)
+result_and_two P Q (Ok x) h k l = (h, k, l)
+result_and_two P Q (Err e) h k l = (h, k, l)

@@ -20,7 +20,7 @@ module _ {X : Type 0} (text : X → Text) (input : Option (List ℕ)) (files aft
   pub stopped : (ws : List X) (stop : WordStop) → (ws ≡ [] → ⊥) → ReadsFleet (map text ws) (Err stop) → StopsAtWords stop out out' err err' status → IsKept files after → talks []
       → RunsCommand (map text ws) input files after talks out out' err err' status
   stopped [] stop some h r kept silent = absurd (some refl)
-  stopped (w ∷ ws) stop some (names, are, stops) r kept silent = (names, are, inr (stop, stops, r, (kept, silent)))
+  stopped (w ∷ ws) stop some (names, are, stops) r kept silent = (names, are, inr (stop, stops, r, kept, silent))
 
 -- what is told of a command's answer is its outcome
 pub outcome_of : (Does : ℕ → Type 0) (Refuses : Fault → Type 0) (done : Result ℕ Fault) (err err' : SinkState) (status : ℕ) → MatchResult done Does Refuses → Finishes done err err' status

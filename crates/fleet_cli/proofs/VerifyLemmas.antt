@@ -41,3 +41,4 @@ module _ (map scen : List ℕ) (asked : Option ℕ) (bytes : List ℕ) (out out'
   told_refused (f.Load e) h = absurd h
   told_refused (f.Compile e) h = absurd h
   told_refused (f.Run e) h = absurd h
+  told_refused (f.Dispatch e) h = absurd h

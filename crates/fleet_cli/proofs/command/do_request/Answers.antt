@@ -33,7 +33,7 @@ pub returns-in-Migrate : goal.returns-in-Migrate
 returns-in-Migrate g c = rw c.in-Migrate.is (result_and _ _ c.do_migrate.result c.do_migrate.ensures (g.met.D.Floor.silent c.args.floor.now))
 
 pub returns-in-List : goal.returns-in-List
-returns-in-List g c = rw c.in-List.is (result_and _ _ c.do_list.result c.do_list.ensures.did (c.do_list.ensures.kept, g.met.D.Floor.silent c.args.floor.now))
+returns-in-List g c = rw c.in-List.is (result_and_two _ _ c.do_list.result c.do_list.ensures.did c.do_list.ensures.kept (g.met.D.Floor.silent c.args.floor.now))
 
 pub returns-in-Dispatch : goal.returns-in-Dispatch
 returns-in-Dispatch g c =

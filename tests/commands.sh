@@ -26,7 +26,7 @@ done
 
 # Wrong usage.
 hint="\nFor more information, try '--help'.\n"
-check 'an unknown command' 2 '' "error: unrecognized subcommand 'nothing'\n\nUsage: fleet <COMMAND>\n       fleet < HEXADECIMAL\n$hint" 'fleet nothing'
+check 'an unknown command' 2 '' "error: unrecognized subcommand 'fly'\n\nUsage: fleet <COMMAND>\n       fleet < HEXADECIMAL\n$hint" 'fleet fly'
 check 'a word too few' 2 '' "error: the following required arguments were not provided:\n  <SCEN>\n\nUsage: fleet auto <MAP> <SCEN>\n$hint" 'fleet auto m'
 check 'a word too many' 2 '' "error: unexpected argument 'x' found\n\nUsage: fleet auto [OPTIONS] <MAP> <SCEN>\n$hint" 'fleet auto m s x'
 check 'a number too large' 2 '' "error: invalid value '65536' for '--agents <K>': 65536 is not in 0..=65535\n$hint" 'fleet auto m s --agents 65536'

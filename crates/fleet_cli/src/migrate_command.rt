@@ -15,7 +15,6 @@ use fleet_run::Flush;
 use std::alloc::Global;
 
 /// The bytes, in version 2, of the program that these spell in either version.
-#[tactic(auto, using(fleet_code::proofs::Written::never_stays))]
 fn migrate_bytes<'a>(alloc: Global, bytes: &[u8]) -> Result<Vec<u8>, Fault<'a>>
     ensures migrated { IfOk result (λ v. MigratesBytes bytes.now v.items) }
     ensures fault { IfErr result (IsLoadRefusal bytes.now) }
@@ -28,7 +27,7 @@ fn migrate_bytes<'a>(alloc: Global, bytes: &[u8]) -> Result<Vec<u8>, Fault<'a>>
     match encode2(alloc, &program) {
         Ok(migrated) => Ok(migrated),
         Err(EncodeFault::OutOfMemory) => Err(Fault::Memory),
-        // What is loaded never stays, and version 2 has bytes for every count.
+        // Version 2 has bytes for every program.
         Err(_) => unreachable!(),
     }
 }

@@ -45,7 +45,7 @@ fn thin_texts<'a>(
     let bytes = match encode_shortest(alloc, &thinned) {
         Ok(bytes) => bytes,
         Err(EncodeFault::OutOfMemory) => return Err(Fault::Memory),
-        // A program that is read never stays, and neither does what is left of it; version 2 has bytes for every count.
+        // One of the two versions has bytes for every program.
         Err(_) => unreachable!(),
     };
     Ok(Thinned {

@@ -18,6 +18,8 @@ mod disk_tests;
 #[cfg(test)]
 mod dispatch_tests;
 #[cfg(test)]
+mod dwell_tests;
+#[cfg(test)]
 mod file_tests;
 #[cfg(test)]
 mod flush_tests;

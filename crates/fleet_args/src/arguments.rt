@@ -4,7 +4,7 @@ ghost use Rattle.std.specs.Prelude.{◌∷◌, [], IfOk, codes};
 ghost use Rattle.fleet_args.specs.Arguments.{IsArg, IsLeafCommand, word, option, agents_rule, horizon_rule, tries_rule, deps_rule, dwell_rule, command};
 
 use clap::{Arg, Command};
-use fleet_model::limits::{MAX_MOVES, MAX_TRIES};
+use fleet_model::{MAX_MOVES, MAX_TRIES};
 use std::alloc::{AllocError, Global};
 
 /// A word that the command needs, at its place among such words.

@@ -14,7 +14,7 @@ pub use deps::Deps;
 pub use geometry::{Cell, Dir, MAX_OFFSET, Place, Step};
 pub use limits::{
     MAX_AGENTS, MAX_AWAIT, MAX_AWAIT_V1, MAX_COORDINATE, MAX_HORIZON, MAX_MOVES, MAX_MOVES_IN_ALL,
-    MAX_MOVES_V1, well_formed,
+    MAX_MOVES_V1, MAX_TRIES, well_formed,
 };
 pub use memory::OutOfMemory;
 pub use program::{Action, ActionId, Actions, AgentProgram, Await, Awaits, Program, Visit};

@@ -41,3 +41,17 @@ cp "$root/docs/DEFINITIONS.md" "$work/out"
 : > "$work/want.err"
 status=0
 judge 'docs/DEFINITIONS.md is current: make definitions' 'docs/DEFINITIONS.md against the comments in crates/*/specs' 0
+
+# The clauses that docs/PROVED.md quotes stand in the source, and the definitions of its table have so many lines.
+awk '/^```$/ { on = 0 } on; /^```rust$/ { on = 1 }' "$root/docs/PROVED.md" | sort -u > "$work/want.out"
+sed 's/^ *//' "$root"/crates/*/src/*.rt | grep -Fxf "$work/want.out" | sort -u > "$work/out"
+: > "$work/err"
+: > "$work/want.err"
+status=0
+judge 'docs/PROVED.md quotes clauses of the source' 'clauses of docs/PROVED.md against crates/*/src' 0
+sed -n 's/^|[^|]*| `\([A-Z][A-Za-z. _]*\)` | \([0-9]*\) |.*/\2 \1/p' "$root/docs/PROVED.md" > "$work/want.out"
+while read -r _ names; do
+    # The names are words, each a FILE.NAME.
+    echo "$(sh "$root/tools/believed.sh" $names | sed -n '$s/ .*//p') $names"
+done < "$work/want.out" > "$work/out"
+judge 'docs/PROVED.md has the lines of definitions: tools/believed.sh' 'table of docs/PROVED.md against crates/*/specs' 0

@@ -1,5 +1,5 @@
 #!/bin/sh
-# Runs a built program as a user would, and compares what it prints, what it tells on standard error and its status with what is due, to the letter:
+# Runs a built program as a user would, and compares what it prints, what it prints on standard error and its status with what is due, to the letter:
 #     tests/examples.sh FLEET
 # Every fenced example of README.md and docs/, and what they cannot show: help, files, standard streams, the warehouse. `make examples` calls it.
 # The last line counts: `examples: N passed, M failed`.

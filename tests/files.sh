@@ -1,4 +1,4 @@
-# Files: what is read, what is written, and what is told of those that cannot be.
+# Files: what is read, what is written, and what is reported of those that cannot be.
 
 enter files
 M=examples/corridor.map S=examples/corridor.scen P=examples/corridor.plan B=examples/corridor.program H=examples/corridor.holds
@@ -35,8 +35,12 @@ thin @ $S $B out
 thin $M @ $B out
 thin $M $S @ out
 migrate @ out
+list @
+dispatch @ $S $B
+dispatch $M @ $B
+dispatch $M $S @
 EOF
-check 'the first of two missing files is told' 3 '' 'file a\n' 'fleet check a b c'
+check 'the first of two missing files is reported' 3 '' 'file a\n' 'fleet check a b c'
 check 'files are read before any is judged' 3 '' 'file nowhere\n' "fleet auto $S $S --holds nowhere"
 check 'no OUT where a file is missing' 1 '' '' 'ls | grep out'
 

@@ -13,7 +13,7 @@ echo $? > due.status
 cp out due.out
 EOF
 
-# judged COMMAND..: runs it under $limits, and tells what it did if that is neither what is due nor want of memory. `was` then says which.
+# judged COMMAND..: runs it under $limits, and says what it did if that is neither what is due nor want of memory. `was` then says which.
 # A status from 126 on is that of a program that the system could not start.
 cat > "$work/bin/judged" <<'EOF'
 echo kept > out
@@ -29,7 +29,7 @@ else was=wrong; echo "$limits: status $status, $(wc -c < got) bytes, $line"
 fi
 EOF
 
-# growths COMMAND..: with each growth refused in turn. Tells wrong answers, and `each` where memory lacked each time, or all but twice: the buffer of
+# growths COMMAND..: with each growth refused in turn. Prints wrong answers, and `each` where memory lacked each time, or all but twice: the buffer of
 # the output can be done without, and so can its growth.
 cat > "$work/bin/growths" <<'EOF'
 #!/bin/sh
@@ -57,7 +57,7 @@ exec "$program" "$@"
 EOF
 
 # spaces STEP COMMAND..: in address spaces that grow by STEP KB, from one in which the system cannot start the program to one in which the answer is
-# what is due. Tells wrong answers, and which kinds of answers came after one another.
+# what is due. Prints wrong answers, and which kinds of answers came after one another.
 cat > "$work/bin/spaces" <<'EOF'
 #!/bin/sh
 step=$1
@@ -92,11 +92,13 @@ plan $on
 plan mouth.map mouth.scen --tries 2
 compile $on examples/pair.plan out
 compile $on examples/pair.plan out --deps all
+compile $on examples/pair.plan out --dwell 2
 verify $on examples/pair.program
 verify $on unordered
 run $on examples/pair.program
 run $on examples/pair.program --holds examples/corridor.holds
 rehearse examples/pair.program
+list examples/pair.program
 migrate examples/pair.program out
 migrate pair2 out
 auto $on
@@ -121,6 +123,7 @@ done <<EOF
 64 plan $many
 16 compile $many plan out
 16 verify $many program
+16 list program
 16 thin $many program out
 16 run $many program
 16 rehearse program

@@ -22,13 +22,14 @@ run $M $S $B
 rehearse $B
 auto $M $S
 thin $M $S $B out
+list $B
 dispatch $M $S $B
 EOF
 check 'standard output is full: no words' 3 '' 'run 4 Write\n' 'fleet < examples/corridor.hex > /dev/full'
 check 'standard output is closed: no words' 3 '' 'run 4 Write\n' 'fleet < examples/corridor.hex >&-'
 check 'OUT stands where the numbers cannot be printed' 0 '' '' "cmp out $B"
 check 'a refusal writes nothing to a full standard output' 1 '' 'scen 11 Fewer\n' "fleet instance $M $S --agents 9 > /dev/full"
-check 'a refusal that cannot be told has its status' 1 '' '' "fleet instance $M $S --agents 9 2> /dev/full"
+check 'a refusal that cannot be written has its status' 1 '' '' "fleet instance $M $S --agents 9 2> /dev/full"
 check 'the same of a missing file' 3 '' '' 'fleet rehearse nowhere 2>&-'
 check 'the same of wrong usage' 2 '' '' 'fleet nothing 2> /dev/full'
 

@@ -7,7 +7,7 @@ check 'auto writes the kept trace' 0 '' '' "fleet auto $on $holds > auto.trace &
 check 'plan' 0 '' '' "fleet plan $on > plan"
 check 'check' 0 'conflict-free\nagents 100\nsteps 204\n' '' "fleet check $on plan"
 check 'compile' 0 'agents 100\nmoves 13198\nawaits 8971\nbytes 59059\n' '' "fleet compile $on plan program"
-check 'OUT has the bytes that compile tells' 0 '59059\n' '' 'wc -c < program | tr -d " "'
+check 'OUT has the bytes that compile counts' 0 '59059\n' '' 'wc -c < program | tr -d " "'
 check 'verify' 0 'accepted\nagents 100\nmoves 13198\nawaits 8971\nchain 204\n' '' "fleet verify $on program"
 check 'list has a line for each agent and action, and a word for each await' 0 '100 13198 8971\n' '' \
     "fleet list program | awk '\$1 == \"agent\" { agents++; next } { actions++; if (NF > 5) awaits += NF - 5 } END { print agents, actions, awaits }'"

@@ -29,8 +29,8 @@ else was=wrong; echo "$limits: status $status, $(wc -c < got) bytes, $line"
 fi
 EOF
 
-# growths COMMAND..: with each growth refused in turn. Prints wrong answers, and `each` where memory lacked each time, or all but twice: the buffer of
-# the output can be done without, and so can its growth.
+# growths COMMAND..: with each growth refused in turn. Prints wrong answers, and `each` where memory lacked each time, or all but three times: the
+# buffer of the output can be done without, and what is kept of an agent that awaits others need not be cut to its length (two do at most here).
 cat > "$work/bin/growths" <<'EOF'
 #!/bin/sh
 . due
@@ -43,7 +43,7 @@ while [ "$n" -le "$all" ]; do
     [ "$was" != lacking ] || lacking=$((lacking + 1))
     n=$((n + 1))
 done
-if [ "$lacking" -ge 10 ] && [ "$((all - lacking))" -le 2 ]; then echo each; else echo "memory lacked in $lacking of $all"; fi
+if [ "$lacking" -ge 10 ] && [ "$((all - lacking))" -le 3 ]; then echo each; else echo "memory lacked in $lacking of $all"; fi
 EOF
 
 # within SPACE COMMAND..: in an address space of so many KB.

@@ -37,6 +37,7 @@ fn auto_texts<'a, O: Flush>(
 
 /// The command `auto`: reads the files whole, that of the holds last, plans for the map and the scenario, compiles the plan, and writes
 /// the trace of the program, under the holds, to `out`. Answers 0. No file is changed.
+#[inline(never)]
 pub(crate) fn do_auto<'a, F: Files, O: Flush>(
     alloc: Global,
     request: &AutoRequest<'a>,

@@ -59,6 +59,7 @@ fn show_check<'a, O: Flush>(
 
 /// The command `check`: reads the files whole, and prints to `out` that the plan is free of conflict, with its agents and its steps.
 /// Answers 0. A plan's first fault is a refusal. No file is changed.
+#[inline(never)]
 pub(crate) fn do_check<'a, F: Files, O: Flush>(
     alloc: Global,
     request: &CheckRequest<'a>,

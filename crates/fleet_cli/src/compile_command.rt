@@ -107,6 +107,7 @@ fn write_compiled<'a, F: Files, O: Flush>(
 
 /// The command `compile`: reads the files whole, writes the bytes of the program of the plan to the file OUT once all before it
 /// succeeded, and prints its numbers to `out`. Answers 0.
+#[inline(never)]
 pub(crate) fn do_compile<'a, F: Files, O: Flush>(
     alloc: Global,
     request: &CompileRequest<'a>,

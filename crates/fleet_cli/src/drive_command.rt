@@ -36,6 +36,7 @@ fn run_bytes<'a, O: Flush>(
 
 /// The command `run`: reads the files whole, that of the holds last, verifies the program, and writes its trace, under the holds, to
 /// `out`. Answers 0. No file is changed.
+#[inline(never)]
 pub(crate) fn do_run<'a, F: Files, O: Flush>(
     alloc: Global,
     request: &RunRequest<'a>,

@@ -86,6 +86,7 @@ fn show_instance<'a, O: Flush>(
 
 /// The command `instance`: reads both files whole, and prints to `out` the sizes of the map, its passable cells, and the start and the
 /// goal of each agent. Answers 0. No file is changed.
+#[inline(never)]
 pub(crate) fn do_instance<'a, F: Files, O: Flush>(
     alloc: Global,
     request: &InstanceRequest<'a>,

@@ -39,6 +39,7 @@ fn list_bytes<'a, O: Flush>(alloc: Global, bytes: &[u8], out: &mut O) -> Result<
 }
 
 /// The command `list`: reads the file whole, and prints the program that it spells to `out`, as text. Answers 0. No file is changed.
+#[inline(never)]
 pub(crate) fn do_list<'a, F: Files, O: Flush>(
     alloc: Global,
     request: &ListRequest<'a>,

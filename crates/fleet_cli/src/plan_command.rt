@@ -52,6 +52,7 @@ fn plan_texts<'a, O: Flush>(
 
 /// The command `plan`: reads both files whole, and prints to `out` a plan in which each agent's path is the earliest against those of
 /// the agents before it, in one of the first orders of the agents. Answers 0. No file is changed.
+#[inline(never)]
 pub(crate) fn do_plan<'a, F: Files, O: Flush>(
     alloc: Global,
     request: &PlanRequest<'a>,

@@ -49,6 +49,7 @@ fn rehearse_bytes<'a, O: Flush>(
 
 /// The command `rehearse`: reads both files whole, that of the holds last, and writes the rehearsal of the program, under the holds, to
 /// `out`. Answers 0 where it ends finished and 1 where it ends stuck. No file is changed.
+#[inline(never)]
 pub(crate) fn do_rehearse<'a, F: Files, O: Flush>(
     alloc: Global,
     request: &RehearseRequest<'a>,

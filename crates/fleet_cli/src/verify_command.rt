@@ -105,6 +105,7 @@ fn verify_bytes<'a, O: Flush>(
 
 /// The command `verify`: reads the files whole, and prints to `out` that the program is accepted, with its numbers, or, of a
 /// program that is refused for two visits which no chain orders, the holds that break it. Answers 0. No file is changed.
+#[inline(never)]
 pub(crate) fn do_verify<'a, F: Files, O: Flush>(
     alloc: Global,
     request: &VerifyRequest<'a>,

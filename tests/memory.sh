@@ -110,6 +110,8 @@ instance $on --agents 3
 verify examples/corridor.map examples/corridor.scen examples/pair.program
 EOF
     check 'each growth refused: no words' 0 'each\n' '' 'input=examples/pair.hex growths fleet'
+    check 'each growth refused: dispatch' 0 'each\n' '' "printf '%s\n' 0 '0 1' 1 > reports && input=reports growths fleet dispatch $on examples/pair.program"
+    check '.. which stops at a report' 0 'each\n' '' "printf '%s\n' 0 1 1 > reports && input=reports growths fleet dispatch $on examples/pair.program"
 else
     skip 'each growth refused: there is no compiler of C'
 fi
@@ -128,6 +130,7 @@ done <<EOF
 16 run $many program
 16 rehearse program
 16 migrate program out
+16 dispatch $many program
 64 auto $many --holds examples/warehouse.holds
 EOF
 rm -rf "$room"

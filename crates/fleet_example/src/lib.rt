@@ -1,16 +1,19 @@
-//! What a program of one's own does with the crates: it runs a program under holds, or lets robots report and sends them on.
+//! What a program of one's own does with the crates: it runs a program under holds, dispatches its robots, or lets them report and sends
+//! them on.
 #![tactic(auto)]
 
-ghost use Rattle.std.specs.Prelude.{◌≡◌, ◌<◌, IfOk, length};
+ghost use Rattle.std.specs.Prelude.{◌≡◌, ◌<◌, IfOk, Ok, length};
+ghost use Rattle.fleet_dispatch.specs.Dispatch.{DispatchesFrom};
 ghost use Rattle.fleet_model.specs.Claims.{order_of};
 ghost use Rattle.fleet_run.specs.Drive.{IsInTime};
 ghost use Rattle.fleet_text.specs.Sink.{IsWorking};
 
 use fleet_code::{LoadFault, view};
-use fleet_grid::{MapFault, read_map};
+use fleet_dispatch::{DispatchFault, DispatchReport, Floor, dispatch_accepted};
+use fleet_grid::{Grid, MapFault, read_map};
 use fleet_model::{ProgramView, Step};
 use fleet_run::{Fleet, HoldText, NotSent, Report, RunFault, TraceOut, drive};
-use fleet_scen::{ScenFault, read_scen};
+use fleet_scen::{Instance, ScenFault, read_scen};
 use fleet_verify::{VerifyFault, verify};
 use std::alloc::Global;
 use thiserror::Error;
@@ -30,6 +33,8 @@ pub enum Stop {
     Verify(VerifyFault),
     #[error("the run: {0}")]
     Run(RunFault),
+    #[error("the dispatch: {0}")]
+    Dispatch(DispatchFault),
 }
 
 /// Verifies the program that the bytes spell for the map and the scenario, runs it under the holds, and writes its trace to `out`.
@@ -56,6 +61,29 @@ pub fn run<O: TraceOut>(
     };
     let mut source = HoldText::new(holds, fleet.agents());
     drive(&mut fleet, &mut source, out).map_err(Stop::Run)
+}
+
+/// Verifies the program for the map and the tasks, and dispatches its robots over the floor until all stand on their goals: each is told
+/// its order as soon as it has one, and before the next report is waited for.
+pub fn send<P: ProgramView + Drop, F: Floor>(
+    alloc: Global,
+    program: P,
+    grid: &Grid,
+    instance: &Instance,
+    floor: &mut F,
+) -> Result<DispatchReport, Stop>
+    requires { F.works floor.old }
+    ensures { IfOk result (λ report.
+        DispatchesFrom (P.program program) (F.talks floor.old floor.new) (Ok report)) }
+{
+    let accepted = match verify(alloc, program, grid, instance) {
+        Ok(accepted) => accepted,
+        Err(refused) => return Err(Stop::Verify(refused.fault)),
+    };
+    match dispatch_accepted(alloc, accepted, floor) {
+        Ok(report) => Ok(report),
+        Err(fault) => Err(Stop::Dispatch(fault)),
+    }
 }
 
 /// The flagged robots have arrived. Answers where robot `i` may be sent then: the step of its next move, if it has an order.

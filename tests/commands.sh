@@ -2,7 +2,7 @@
 
 enter commands
 commands=$(cd "$room" && fleet --help | awk '/^Commands:/ { on = 1; next } /^$/ { on = 0 } on && $1 != "help" { print $1 }')
-check 'help lists the commands' 0 'instance check plan compile verify run rehearse auto thin migrate list\n' '' "echo $(echo "$commands" | tr '\n' ' ')"
+check 'help lists the commands' 0 'instance check plan compile verify run rehearse auto thin migrate list dispatch\n' '' "echo $(echo "$commands" | tr '\n' ' ')"
 
 # Help in all its forms is that of docs/HELP.md, which is compared with the documents.
 for command in '' $commands; do

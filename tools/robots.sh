@@ -16,4 +16,7 @@ fleet instance "$1" "$2" > "$pipes/instance" || exit 2
         sleep 0.01
     done
 } > "$pipes/orders" &
-awk -v reports="$pipes/reports" -v seed="${4:-1}" -v trace="$5" -f "$here/robots.awk" "$pipes/instance" "$pipes/orders"
+# An awk that waits for a whole block of a pipe, as mawk does, is asked to take it line by line.
+by_line=
+awk -W version < /dev/null 2>&1 | grep -q '^mawk' && by_line='-W interactive'
+awk $by_line -v reports="$pipes/reports" -v seed="${4:-1}" -v trace="$5" -f "$here/robots.awk" "$pipes/instance" - < "$pipes/orders"

@@ -1,13 +1,13 @@
 -- The latest piece of two agents, in a sorted list.
-use Rattle.std.proofs.Common.{rules, ◌≡◌, ◌≢◌, ℕ, ◌+◌, ◌-◌, ◌*◌, ◌<◌, ◌≤◌, List, length, get_or, refl, sym, ap, subst, ◌∙◌, arith, inl, inr, ◌⊎◌}
+use Rattle.std.proofs.Common.{◌≡◌, ℕ, ◌+◌, ◌-◌, ◌*◌, ◌<◌, ◌≤◌, List, length, get_or, ap, subst, ◌∙◌, arith, inl, inr}
 use Rattle.std.specs.Prelude.{Contains}
 use Rattle.std.specs.List.Sorted.{IsPartitionPoint, IsPermutation}
-use Rattle.std.proofs.lemmas.Bool.{cases_lt, cases_eq, cases_order}
+use Rattle.std.proofs.lemmas.Bool.{cases_lt}
 use Rattle.std.proofs.lemmas.Nat.{mul-le}
 use Rattle.std.proofs.lemmas.List.{get_or_default}
 use Rattle.std.proofs.lemmas.List.Sorted.{Contains-permutation, IsPermutation-sym}
 use Rattle.fleet_model.specs.Program.{Program}
-use Rattle.fleet_rows.specs.Pieces.{count_by, key_of, AreSorted, IsOf, IsLatest, AreLater, IsTold, AreTold}
+use Rattle.fleet_rows.specs.Pieces.{key_of, AreSorted, IsOf, IsLatest, AreLater, AreTold}
 use Rattle.fleet_rows.specs.declared.piece.Piece.{Piece}
 use Rattle.fleet_rows.specs.declared.piece.TheConstants.{AGENTS, NUMBERS}
 

@@ -1,6 +1,6 @@
 //! The row of an action in the columns of one block, made of the rows of all that the action directly needs.
 
-ghost use Rattle.std.specs.Prelude.{◌≡◌, ◌≢◌, ◌+◌, ◌<◌, ◌≤◌, ℕ, length, slice_index, slice_get, Some};
+ghost use Rattle.std.specs.Prelude.{◌≡◌, ◌≢◌, ◌+◌, ◌<◌, ◌≤◌, ℕ, length, get_or, slice_index, slice_get, Some, None, IfOk};
 ghost use Rattle.fleet_model.specs.Program.{moves, awaits_of, AreInRange};
 ghost use Rattle.fleet_model.specs.declared.program.Await.{Await};
 ghost use Rattle.fleet_model.specs.Chain.{IsAction, DirectlyNeeds, Reaches, awaited};
@@ -9,17 +9,49 @@ ghost use Rattle.fleet_rows.specs.Block.{HasColumn, AreBlock, IsRowOf, AreKept, 
 
 use crate::action_places::ActionPlaces;
 use crate::columns::Columns;
+use crate::due_rows::DueRows;
 use crate::kept_rows::KeptRows;
-use fleet_model::{ActionId, ProgramView};
+use crate::takers::last_takers;
+use fleet_model::{ActionId, OutOfMemory, ProgramView};
+use std::alloc::Global;
 
-/// Where the actions stand, the last of so many ticks that takes each, the most rows that are kept at once, and their columns.
+/// Where the actions stand, the last of so many ticks that takes each, which are due after each tick, the most rows that are
+/// kept at once, and their columns.
 #[derive(Drop)]
 pub(crate) struct Block {
     pub(crate) places: ActionPlaces,
     pub(crate) ticks: u32,
     pub(crate) lasts: Vec<u32>,
+    pub(crate) due: DueRows,
     pub(crate) rows: usize,
     pub(crate) columns: Columns,
+}
+
+impl Block {
+    /// That of a program and so many ticks, without columns.
+    pub(crate) fn of<P: ProgramView>(
+        alloc: Global,
+        program: &P,
+        ticks: u32,
+    ) -> Result<Block, OutOfMemory>
+        requires { AreInRange (P.program program.now) }
+        ensures block { IfOk result (AreBlock (P.program program.now)) }
+        ensures ticks { IfOk result (λ b. b.ticks ≡ ticks) }
+        ensures none { IfOk result (λ b. (j : ℕ) → get_or b.columns.of_agent.items j None ≡ None) }
+    {
+        let places = ActionPlaces::of(alloc, program)?;
+        let takers = last_takers(alloc, program, &places, ticks)?;
+        let due = DueRows::of(alloc, &takers.lasts, ticks)?;
+        let rows = takers.most_rows(&due);
+        Ok(Block {
+            places,
+            ticks,
+            lasts: takers.lasts,
+            due,
+            rows,
+            columns: Columns::none(alloc, program.agents())?,
+        })
+    }
 }
 
 /// Makes the row of an action, where the rows of all that it directly needs are kept.

@@ -8,13 +8,11 @@ ghost use Rattle.fleet_model.specs.Chain.{IsAction};
 ghost use Rattle.fleet_rows.specs.Block.{AreBlock};
 ghost use Rattle.fleet_rows.specs.Implied.{IsImplied, IsTold, AreAwaitPlaces, AreImplied, first_await};
 
-use crate::action_places::ActionPlaces;
 use crate::await_places::AwaitPlaces;
 use crate::block::Block;
 use crate::columns::Columns;
 use crate::implied_pass::flag_implied;
 use crate::questions::columns_at_once;
-use crate::takers::last_takers;
 use fleet_model::{ActionId, Await, OutOfMemory, ProgramView, total_awaits};
 use std::alloc::Global;
 
@@ -61,16 +59,7 @@ pub fn implied_awaits<P: ProgramView>(
 {
     let awaits = AwaitPlaces::of(alloc, program)?;
     let mut flags = vec![in alloc; false; total_awaits(program) as usize]?;
-    let places = ActionPlaces::of(alloc, program)?;
-    let takers = last_takers(alloc, program, &places, ticks)?;
-    let rows = takers.most_rows(alloc)?;
-    let block = Block {
-        places,
-        ticks,
-        lasts: takers.lasts,
-        rows,
-        columns: Columns::none(alloc, program.agents())?,
-    };
+    let block = Block::of(alloc, program, ticks)?;
     flag_all(alloc, program, block, &awaits, &mut flags)?;
     Ok(ImpliedAwaits {
         places: awaits,

@@ -15,7 +15,7 @@ use crate::await_places::AwaitPlaces;
 use crate::block::Block;
 use crate::implied_row::{flag_awaits, others_row, whole_row};
 use crate::kept_rows::KeptRows;
-use crate::pass::{free_moved, keep_row};
+use crate::pass::{free_rows, keep_row};
 use fleet_machine::Machine;
 use fleet_model::{ActionId, MAX_AGENTS, OutOfMemory, ProgramView};
 use std::alloc::Global;
@@ -79,7 +79,7 @@ fn run_on<P: ProgramView>(
     for t in 0..block.ticks {
         machine.tick(program, nobody);
         flag_tick(program, block, places, &machine, flags, pass)?;
-        free_moved(program, block, &machine, &mut pass.kept, t)?;
+        free_rows(&mut pass.kept, block.due.after(t + 1), t + 1)?;
         pass.tick = t + 1;
     }
     Ok(())

@@ -52,6 +52,13 @@ impl KeptRows {
         })
     }
 
+    /// How many actions there are.
+    pub(crate) fn actions(&self) -> usize
+        ensures { result ≡ length self.now.marks.items }
+    {
+        self.marks.len()
+    }
+
     /// Whether the row of an action is kept.
     fn is_kept(&self, action: usize) -> bool
         requires { action < length self.now.marks.items }

@@ -5,6 +5,7 @@ mod action_places;
 mod await_places;
 mod block;
 mod columns;
+mod due_rows;
 mod gather;
 mod implied;
 mod implied_pass;

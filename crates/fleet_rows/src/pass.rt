@@ -11,7 +11,6 @@ ghost use Rattle.fleet_rows.specs.Places.{ArePlaces, place_of};
 ghost use Rattle.fleet_rows.specs.Takers.{IsTicked};
 ghost use Rattle.fleet_rows.specs.Pass.{IsDone, IsPassed, IsRowTaken, IsAsked, AreOthersLeft};
 
-use crate::action_places::ActionPlaces;
 use crate::block::{Block, make_row};
 use crate::kept_rows::KeptRows;
 use crate::questions::Question;
@@ -79,7 +78,7 @@ fn run_on<P: ProgramView>(
     for t in 0..block.ticks {
         machine.tick(program, nobody);
         pass_tick(program, block, &machine, questions, flags, pass)?;
-        free_moved(program, block, &machine, &mut pass.kept, t)?;
+        free_rows(&mut pass.kept, block.due.after(t + 1), t + 1)?;
         pass.tick = t + 1;
     }
     Ok(())
@@ -237,79 +236,16 @@ pub(crate) fn keep_row<P: ProgramView>(
     Ok(())
 }
 
-/// Lets the rows go that were taken last by the actions that the last tick has finished, which came after so many ticks.
-pub(crate) fn free_moved<P: ProgramView>(
-    program: &P,
-    block: &Block,
-    machine: &Machine,
-    kept: &mut KeptRows,
-    ticks: u32,
-) -> Result<(), OutOfMemory>
-    requires block { AreBlock (P.program program.now) block.now }
-    requires range { AreInRange (P.program program.now) }
-    requires sound { IsSound kept.old }
-    requires actions { length kept.old.marks.items ≡ total_moves (P.program program.now) }
-    requires ticked { IsTicked (P.program program.now) machine.now ticks }
-    requires tick { ticks < block.now.ticks }
-    ensures { OnOk result (IsFreed (ticks + 1) kept.old kept.new) }
-{
-    let _ = program.agents();
-    let mut from = 0;
-    while let Some(agent) = machine.next_moved(from) {
-        let number = machine.agent(agent).count;
-        free_needed(
-            program,
-            &block.places,
-            ActionId { agent, number },
-            kept,
-            ticks + 1,
-        )?;
-        from = agent + 1;
-    }
-    Ok(())
-}
-
-/// Lets the rows go of what the action directly needs, where no tick after this one takes them.
-fn free_needed<P: ProgramView>(
-    program: &P,
-    places: &ActionPlaces,
-    action: ActionId,
-    kept: &mut KeptRows,
-    tick: u32,
-) -> Result<(), OutOfMemory>
-    requires places { ArePlaces (P.program program.now) places.now.firsts.items }
-    requires range { AreInRange (P.program program.now) }
-    requires sound { IsSound kept.old }
-    requires actions { length kept.old.marks.items ≡ total_moves (P.program program.now) }
-    requires action { IsAction (P.program program.now) action }
+/// Lets the rows of these actions go, where no tick after this one takes them.
+pub(crate) fn free_rows(kept: &mut KeptRows, due: &[u32], tick: u32) -> Result<(), OutOfMemory>
+    requires { IsSound kept.old }
     ensures { OnOk result (IsFreed tick kept.old kept.new) }
 {
-    free_awaited(program, places, action, kept, tick)?;
-    if action.number > 1 {
-        kept.release(places.place(action.agent, action.number - 1), tick)?;
-    }
-    Ok(())
-}
-
-/// Lets the rows go of what the action awaits, where no tick after this one takes them.
-fn free_awaited<P: ProgramView>(
-    program: &P,
-    places: &ActionPlaces,
-    action: ActionId,
-    kept: &mut KeptRows,
-    tick: u32,
-) -> Result<(), OutOfMemory>
-    requires places { ArePlaces (P.program program.now) places.now.firsts.items }
-    requires range { AreInRange (P.program program.now) }
-    requires sound { IsSound kept.old }
-    requires actions { length kept.old.marks.items ≡ total_moves (P.program program.now) }
-    requires action { IsAction (P.program program.now) action }
-    ensures { OnOk result (IsFreed tick kept.old kept.new) }
-{
-    let ActionId { agent, number } = action;
-    for k in 0..program.await_count(agent, number) {
-        let awaited = program.await_at(agent, number, k);
-        kept.release(places.place(awaited.agent, awaited.count), tick)?;
+    for &place in due {
+        let action = place as usize;
+        if action < kept.actions() {
+            kept.release(action, tick)?;
+        }
     }
     Ok(())
 }

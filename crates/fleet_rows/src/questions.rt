@@ -6,12 +6,10 @@ ghost use Rattle.fleet_model.specs.Machine.{IsFinish};
 ghost use Rattle.fleet_rows.specs.Asked.{AreQuestions, AreAnswers};
 ghost use Rattle.fleet_rows.specs.Block.{AreBlock, IsAnswer};
 
-use crate::action_places::ActionPlaces;
 use crate::block::Block;
 use crate::columns::Columns;
 use crate::near::asked_agents;
 use crate::pass::answer;
-use crate::takers::last_takers;
 use fleet_model::{ActionId, MAX_AGENTS, OutOfMemory, ProgramView};
 use std::alloc::Global;
 
@@ -40,16 +38,7 @@ pub fn unreached<P: ProgramView>(
     if !is_any(&asked) {
         return Ok(flags);
     }
-    let places = ActionPlaces::of(alloc, program)?;
-    let takers = last_takers(alloc, program, &places, ticks)?;
-    let rows = takers.most_rows(alloc)?;
-    let block = Block {
-        places,
-        ticks,
-        lasts: takers.lasts,
-        rows,
-        columns: Columns::none(alloc, program.agents())?,
-    };
+    let block = Block::of(alloc, program, ticks)?;
     answer_all(alloc, program, block, questions, &asked, &mut flags)?;
     Ok(flags)
 }

@@ -8,6 +8,7 @@ ghost use Rattle.fleet_rows.specs.Places.{ArePlaces, place_of};
 ghost use Rattle.fleet_rows.specs.Takers.{IsTicked, AreRaised, AreNoted, IsNotedFor, IsNotedAt};
 
 use crate::action_places::ActionPlaces;
+use crate::due_rows::DueRows;
 use fleet_machine::Machine;
 use fleet_model::{ActionId, MAX_AGENTS, OutOfMemory, ProgramView, total_moves};
 use std::alloc::Global;
@@ -25,27 +26,17 @@ pub(crate) struct Takers {
 
 impl Takers {
     /// How many rows are kept at once at most, where a row is kept from the tick that finishes its action to the last that takes it.
-    pub(crate) fn most_rows(&self, alloc: Global) -> Result<usize, OutOfMemory> {
-        let gone = self.taken_last(alloc)?;
+    pub(crate) fn most_rows(&self, due: &DueRows) -> usize {
         let mut kept: usize = 0;
         let mut most = 0;
-        for (t, &moved) in self.moved.iter().enumerate() {
+        let mut tick: u32 = 0;
+        for &moved in &self.moved {
+            tick = tick.saturating_add(1);
             kept = kept.saturating_add(usize::from(moved));
             most = most.max(kept);
-            kept = kept.saturating_sub(gone.get(t).map_or(0, |&rows| rows as usize));
+            kept = kept.saturating_sub(due.after(tick).len());
         }
-        Ok(most)
-    }
-
-    /// For each tick how many rows it is the last to take.
-    fn taken_last(&self, alloc: Global) -> Result<Vec<u32>, OutOfMemory> {
-        let mut gone = vec![in alloc; 0u32; self.moved.len()]?;
-        for &last in &self.lasts {
-            if let Some(rows) = gone.get_mut((last as usize).wrapping_sub(1)) {
-                *rows = rows.saturating_add(1);
-            }
-        }
-        Ok(gone)
+        most
     }
 }
 

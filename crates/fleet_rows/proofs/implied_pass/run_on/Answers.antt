@@ -24,11 +24,6 @@ flag_tick-requires-clause-ticked g c =
     subst (IsTicked p c.tick.new.self) (sym c.loop-t.invariant.tick)
     (ticked p _ c.loop-t.invariant.nobody c.loop-t.t c.loop-t.machine.configuration c.loop-t.invariant.here c.tick.new.self c.tick.ensures.runs c.tick.ensures.after c.tick.ensures.moving)
 
-pub free_moved-requires-clause-ticked : goal.free_moved-requires-clause-ticked
-free_moved-requires-clause-ticked g c =
-    let p = g.P.ProgramView.program c.args.program.now in
-    ticked p _ c.loop-t.invariant.nobody c.loop-t.t c.loop-t.machine.configuration c.loop-t.invariant.here c.tick.new.self c.tick.ensures.runs c.tick.ensures.after c.tick.ensures.moving
-
 pub loop-t-preserved : goal.loop-t-preserved
 loop-t-preserved g c =
     let p = g.P.ProgramView.program c.args.program.now in
@@ -42,7 +37,7 @@ loop-t-preserved g c =
       tick = refl;
       passed = flagged_tick p c.args.block.now c.loop-t.t c.flag_tick.new.flags c.flag_tick.new.pass _ c.requires.block (passed.tick ∙ c.loop-t.invariant.tick)
           (subst (λ (n : ℕ). IsFlaggedTo p c.args.block.now (IsDone p (n + 1)) c.flag_tick.new.flags c.flag_tick.new.pass) (sym passed.tick) passed.passed)
-          c.in_ok-free_moved.ensures refl refl;
+          c.in_ok-free_rows.ensures refl refl;
       left = λ a is k w at none. passed.left a is k w at none ∙ c.loop-t.invariant.left a is k w at none;
     }
 

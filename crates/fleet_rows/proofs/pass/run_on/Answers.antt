@@ -28,11 +28,6 @@ pass_tick-requires-clause-passed g c =
     let p = g.P.ProgramView.program c.args.program.now in
     subst (λ (n : ℕ). IsPassed p c.args.block.now c.args.questions.now (IsDone p n) c.loop-t.flags c.loop-t.pass) (sym c.loop-t.invariant.tick) c.loop-t.invariant.passed
 
-pub free_moved-requires-clause-ticked : goal.free_moved-requires-clause-ticked
-free_moved-requires-clause-ticked g c =
-    let p = g.P.ProgramView.program c.args.program.now in
-    ticked p _ c.loop-t.invariant.nobody c.loop-t.t c.loop-t.machine.configuration c.loop-t.invariant.here c.tick.new.self c.tick.ensures.runs c.tick.ensures.after c.tick.ensures.moving
-
 pub loop-t-preserved : goal.loop-t-preserved
 loop-t-preserved g c =
     let p = g.P.ProgramView.program c.args.program.now in
@@ -46,7 +41,7 @@ loop-t-preserved g c =
       tick = refl;
       passed = passed_tick p c.args.block.now c.args.questions.now c.loop-t.t c.pass_tick.new.flags c.pass_tick.new.pass _ c.requires.block (passed.tick ∙ c.loop-t.invariant.tick)
           (subst (λ (n : ℕ). IsPassed p c.args.block.now c.args.questions.now (IsDone p (n + 1)) c.pass_tick.new.flags c.pass_tick.new.pass) (sym passed.tick) passed.passed)
-          c.in_ok-free_moved.ensures refl refl refl;
+          c.in_ok-free_rows.ensures refl refl refl;
       others = λ k q at none. passed.others k q at none ∙ c.loop-t.invariant.others k q at none;
     }
 

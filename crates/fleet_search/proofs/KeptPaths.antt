@@ -1,13 +1,12 @@
 -- Paths that are still the earliest where one more is reserved, and they fit it.
-use Rattle.std.proofs.Common.{◌≡◌, ◌≢◌, ℕ, zero, suc, ◌+◌, ◌<◌, ◌≤◌, Bool, List, [], ◌∷◌, ◌++◌, length, map, take, drop, get_or, remove, Some, refl, sym, ap, ◌∙◌, subst, arith}
+use Rattle.std.proofs.Common.{◌≡◌, ℕ, zero, suc, ◌+◌, ◌<◌, ◌≤◌, Bool, List, [], ◌∷◌, ◌++◌, length, map, take, drop, get_or, remove, Some, refl, sym, ap, ◌∙◌, subst, arith}
 use Rattle.std.specs.Prelude.{slice_get, option_map}
 use Rattle.std.proofs.lemmas.Option.{slice_get-map}
-use Rattle.std.proofs.lemmas.List.{length_push, length-map}
 use Rattle.fleet_model.specs.declared.geometry.Cell.{Cell}
 use Rattle.fleet_model.specs.declared.geometry.Place.{Place}
 use Rattle.fleet_model.specs.declared.task.Task.{Task}
 use Rattle.fleet_plan.specs.Plan.{Plan, cell_of}
-use Rattle.fleet_search.specs.Way.{Fits, Follow, StepFits, EachStepFits, IsWay, IsEarliest, HasNoWay}
+use Rattle.fleet_search.specs.Way.{Fits, Follow, IsWay, IsEarliest, HasNoWay}
 use Rattle.fleet_search.specs.InTurn.{IsMadeInTurn, IsStuckAt}
 use Rattle.fleet_search.specs.Orders.{no_task, tasks_by, to_front}
 use Rattle.fleet_search.proofs.Steps.{each_step, from_each_step}

@@ -17,6 +17,7 @@ use Rattle.fleet_search.specs.Rows.{row_in}
 use Rattle.fleet_search.specs.Reserved.{IsFree, IsFreeFrom, IsFreeOn}
 use Rattle.fleet_search.specs.Search.{far_of, IsMeasured, IsStep, IsSlot, IsEnd, moment_in, IsKnown, IsCovered, IsExpanded, IsSuperseded, IsSettled, IsFrontier, IsAsked, IsTrail}
 use Rattle.fleet_search.proofs.Steps.{each_step, from_each_step}
+use Rattle.fleet_search.proofs.FitCode.{fits-free}
 use Rattle.fleet_search.proofs.Occupancy.{cell_at-late}
 use Rattle.fleet_search.proofs.SearchSteps.{near-beside, slot-below}
 
@@ -51,8 +52,7 @@ way-least q m path w = let h = way-bound q m path w 0 (omega arith) in let e = a
 
 module _ (passable : Place → Bool) (reserved : Plan) (start goal : Cell) (path : List Cell) (w : IsWay passable reserved start goal path) where
   way-free_at : (t : ℕ) → IsFree reserved t (cell_at path t)
-  way-free_at zero = (each_step reserved path w.fits).first
-  way-free_at (suc t) = rw (← add-one) (((each_step reserved path w.fits).steps t).vertex)
+  way-free_at t = fits-free reserved path w.fits t
 
   -- the goal is free from the arrival on
   pub no-way-busy : IsFreeFrom reserved goal (arrival path)

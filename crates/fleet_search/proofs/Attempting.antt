@@ -1,19 +1,18 @@
 -- What comes of planning in one order, step by step.
-use Rattle.std.proofs.Common.{◌≡◌, ℕ, zero, suc, ◌+◌, ◌<◌, ◌≤◌, Bool, true, false, List, [], ◌∷◌, ◌++◌, length, map, take, drop, get_or, Some, refl, sym, ap, ◌∙◌, subst, arith}
+use Rattle.std.proofs.Common.{◌≡◌, ℕ, suc, ◌+◌, ◌<◌, true, false, List, [], ◌∷◌, ◌++◌, length, take, get_or, sym, ap, ◌∙◌, subst}
 use Rattle.std.specs.Prelude.{slice_get}
 use Rattle.std.proofs.lemmas.Option.{slice_get-get_or}
 use Rattle.std.proofs.lemmas.List.{length-map}
-use Rattle.fleet_model.specs.declared.geometry.Cell.{Cell}
 use Rattle.fleet_model.specs.declared.task.Task.{Task}
 use Rattle.fleet_grid.specs.Ground.{is_passable}
 use Rattle.fleet_plan.specs.Plan.{Plan}
 use Rattle.fleet_search.specs.Way.{Fits}
 use Rattle.fleet_search.specs.InTurn.{IsMadeInTurn}
 use Rattle.fleet_search.specs.Orders.{no_task, tasks_by, IsStuckInOrder}
-use Rattle.fleet_search.specs.Attempts.{IsOrderOf, IsPathAdded, ArePathsKept, IsMadeAfterFirst}
+use Rattle.fleet_search.specs.Attempts.{IsOrderOf, IsPathAdded, ArePathsKept, IsMadeAfterFirst, IsOldPath}
 use Rattle.fleet_search.specs.declared.orders.Problem.{Problem}
 use Rattle.fleet_search.proofs.OrderLaws.{agents_below, task_in_order}
-use Rattle.fleet_search.proofs.KeptPaths.{kept_made, none_made, in_turn-added, stuck_here}
+use Rattle.fleet_search.proofs.KeptPaths.{later_task, kept_made, none_made, in_turn-added, stuck_here}
 
 module _ (problem : Problem) (order : List ℕ) (each : IsOrderOf problem order) where
   abbrev tasks : List Task
@@ -48,3 +47,7 @@ module _ (problem : Problem) (order : List ℕ) (each : IsOrderOf problem order)
       let fits : (i : ℕ) → i < n → Fits (added.0 ∷ take i kept) (get_or kept i []) = λ i h. subst (λ z. Fits (z ++ take i kept) (get_or kept i [])) is (are.fit i h) in
       subst (Made (n + 1)) (sym (are.added ∙ ap (λ z. z ++ take n kept) is))
       (kept_made (is_passable problem.grid.now) (tasks_by order tasks) problem.horizon added.0 kept n (subst (Made 1) is one) made are.bound fits)
+
+  -- a kept path was the earliest of its agent
+  pub old_path : (kept : Plan) (i : ℕ) → suc i < length order → IsMadeAfterFirst problem order kept → i < length kept → IsOldPath problem (get_or order (suc i) 0) (get_or kept i [])
+  old_path kept i l made h = λ task t. (take i kept, made.each i task h (later_task (tasks_by order tasks) i ∙ sym (same_task (suc i) l) ∙ t))

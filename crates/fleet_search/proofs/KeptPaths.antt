@@ -1,13 +1,13 @@
 -- Paths that are still the earliest where one more is reserved, and they fit it.
-use Rattle.std.proofs.Common.{◌≡◌, ◌≢◌, ℕ, zero, suc, ◌+◌, ◌<◌, ◌≤◌, Bool, List, [], ◌∷◌, ◌++◌, length, map, take, drop, get_or, remove, Some, refl, sym, ap, ◌∙◌, subst, arith}
+use Rattle.std.proofs.lemmas.Bool.{cases_lt}
+use Rattle.std.proofs.Common.{inl, inr, ◌≡◌, ℕ, zero, suc, ◌+◌, ◌<◌, ◌≤◌, Bool, List, [], ◌∷◌, ◌++◌, length, map, take, drop, get_or, remove, Some, refl, sym, ap, ◌∙◌, subst, arith}
 use Rattle.std.specs.Prelude.{slice_get, option_map}
 use Rattle.std.proofs.lemmas.Option.{slice_get-map}
-use Rattle.std.proofs.lemmas.List.{length_push, length-map}
 use Rattle.fleet_model.specs.declared.geometry.Cell.{Cell}
 use Rattle.fleet_model.specs.declared.geometry.Place.{Place}
 use Rattle.fleet_model.specs.declared.task.Task.{Task}
 use Rattle.fleet_plan.specs.Plan.{Plan, cell_of}
-use Rattle.fleet_search.specs.Way.{Fits, Follow, StepFits, EachStepFits, IsWay, IsEarliest, HasNoWay}
+use Rattle.fleet_search.specs.Way.{arrival, Fits, Follow, IsWay, IsEarliest, HasNoWay}
 use Rattle.fleet_search.specs.InTurn.{IsMadeInTurn, IsStuckAt}
 use Rattle.fleet_search.specs.Orders.{no_task, tasks_by, to_front}
 use Rattle.fleet_search.proofs.Steps.{each_step, from_each_step}
@@ -57,6 +57,24 @@ earliest-more passable first reserved start goal horizon path e fits = record {
   none_sooner = λ other w. e.none_sooner other (way-fewer passable first reserved start goal other w);
 }
 
+-- what was the earliest among other ways is so among these, if it fits and none of them arrives sooner
+pub earliest-again : (passable : Place → Bool) (others reserved : Plan) (start goal : Cell) (horizon sooner : ℕ) (path : List Cell) → IsEarliest passable others start goal horizon path → Fits reserved path → arrival path ≤ sooner + 1 → (1 ≤ arrival path → HasNoWay passable reserved start goal sooner) → IsEarliest passable reserved start goal horizon path
+earliest-again passable others reserved start goal horizon sooner path e fits late none = record {
+  way = record {
+    some_cells = e.way.some_cells;
+    starts = e.way.starts;
+    ends = e.way.ends;
+    on_ground = e.way.on_ground;
+    successive = e.way.successive;
+    fits = fits;
+  };
+  in_time = e.in_time;
+  none_sooner = λ other w. elim (cases_lt (arrival other) (arrival path)) [
+    | inl l ↦ absurd (none (omega arith) other w (omega arith))
+    | inr l ↦ l
+  ];
+}
+
 -- ---- paths that are kept
 
 take-in-take : {X : Type 0} (xs : List X) (i n : ℕ) → i ≤ n → take i (take n xs) ≡ take i xs
@@ -79,7 +97,7 @@ length-in-take xs zero h = refl
 length-in-take [] (suc n) h = absurd (omega arith)
 length-in-take (x ∷ xs) (suc n) h = ap suc (length-in-take xs n (omega arith))
 
-later_task : (tasks : List Task) (j : ℕ) → slice_get (drop 1 tasks) j ≡ slice_get tasks (suc j)
+pub later_task : (tasks : List Task) (j : ℕ) → slice_get (drop 1 tasks) j ≡ slice_get tasks (suc j)
 later_task [] j = refl
 later_task (t ∷ tasks) j = refl
 

@@ -15,8 +15,9 @@ use Rattle.fleet_grid.specs.Ground.{is_passable}
 use Rattle.fleet_search.specs.Way.{arrival, StepFits, IsWay, IsEarliest, HasNoWay}
 use Rattle.fleet_search.specs.Rows.{row_in}
 use Rattle.fleet_search.specs.Reserved.{IsFree, IsFreeFrom, IsFreeOn}
-use Rattle.fleet_search.specs.Search.{far_of, IsMeasured, IsStep, IsSlot, IsEnd, moment_in, IsKnown, IsCovered, IsExpanded, IsFrontier, IsAsked, IsTrail}
+use Rattle.fleet_search.specs.Search.{far_of, IsMeasured, IsStep, IsSlot, IsEnd, moment_in, IsKnown, IsCovered, IsExpanded, IsSuperseded, IsSettled, IsFrontier, IsAsked, IsTrail}
 use Rattle.fleet_search.proofs.Steps.{each_step, from_each_step}
+use Rattle.fleet_search.proofs.FitCode.{fits-free}
 use Rattle.fleet_search.proofs.Occupancy.{cell_at-late}
 use Rattle.fleet_search.proofs.SearchSteps.{near-beside, slot-below}
 
@@ -51,8 +52,7 @@ way-least q m path w = let h = way-bound q m path w 0 (omega arith) in let e = a
 
 module _ (passable : Place → Bool) (reserved : Plan) (start goal : Cell) (path : List Cell) (w : IsWay passable reserved start goal path) where
   way-free_at : (t : ℕ) → IsFree reserved t (cell_at path t)
-  way-free_at zero = (each_step reserved path w.fits).first
-  way-free_at (suc t) = rw (← add-one) (((each_step reserved path w.fits).steps t).vertex)
+  way-free_at t = fits-free reserved path w.fits t
 
   -- the goal is free from the arrival on
   pub no-way-busy : IsFreeFrom reserved goal (arrival path)
@@ -86,15 +86,35 @@ module _ (q : Question) (f : ℕ) (left : Option ℕ) (r : List Arrival) (labels
       let b = way-bound q fr.measured path w t h in
       slot-below q (record { time = s; cell = cell_at path t }) k f (subst (λ z. IsSlot q z k) e slot) (omega arith) late
 
-  left-by : (t : ℕ) → t ≤ arrival path → IsCovered q r (cell_at path t) t → IsLeftBy t
-  left-by t h cv = record { since = cv.since; early = cv.early; free = cv.free; expanded = subst (IsExpanded q r) cv.known.2 (go (fr.done cv.known.0 cv.known.1)) }
+  -- all moves from the moment were noted, or from one that was reached sooner
+  left-after : (t : ℕ) → t ≤ arrival path → (cv : IsCovered q r (cell_at path t) t) → ((before : IsCovered q r (cell_at path t) t) → before.since < cv.since → IsLeftBy t) → IsLeftBy t
+  left-after t h cv sooner = go (fr.done cv.known.0 cv.known.1)
     where
-      go : ((k : ℕ) × Contains (row_in stacks k) cv.known.0) ⊎ ((left ≡ Some cv.known.0) ⊎ IsExpanded q r (moment_in r cv.known.0)) → IsExpanded q r (moment_in r cv.known.0)
+      go : ((k : ℕ) × Contains (row_in stacks k) cv.known.0) ⊎ ((left ≡ Some cv.known.0) ⊎ IsSettled q r (moment_in r cv.known.0)) → IsLeftBy t
       go (inl x) =
           let l = not-open t cv.since x.0 cv.known.0 h cv.early cv.known.2 (fr.stacked x.0 cv.known.0 x.1).1 in
           absurd (let z = (subst (λ z. Contains z cv.known.0) (fr.past x.0 l) x.1).1 in omega arith)
       go (inr (inl x)) = absurd (let l = not-open t cv.since f cv.known.0 h cv.early cv.known.2 (bound cv.known.0 x) in omega arith)
-      go (inr (inr e)) = e
+      go (inr (inr (inl e))) = record { since = cv.since; early = cv.early; free = cv.free; expanded = subst (IsExpanded q r) cv.known.2 e }
+      go (inr (inr (inr x))) =
+          let s = subst (IsSuperseded q r) cv.known.2 x in
+          let early = cv.early in
+          let less = s.sooner in
+          sooner
+          (record {
+            since = s.since;
+            early = omega arith;
+            known = s.known;
+            free = λ u a b. elim (cases_lt cv.since u) [ inl l ↦ cv.free u (omega arith) b | inr l ↦ s.free u a l ];
+          })
+          less
+
+  left-within : (n t : ℕ) → t ≤ arrival path → (cv : IsCovered q r (cell_at path t) t) → cv.since < n → IsLeftBy t
+  left-within zero t h cv low = absurd (omega arith)
+  left-within (suc n) t h cv low = left-after t h cv (λ before l. left-within n t h before (omega arith))
+
+  left-by : (t : ℕ) → t ≤ arrival path → IsCovered q r (cell_at path t) t → IsLeftBy t
+  left-by t h cv = left-within (cv.since + 1) t h cv (omega arith)
 
   left-on : (t : ℕ) → t ≤ arrival path → IsLeftBy t
   left-on zero h = left-by 0 h (record {

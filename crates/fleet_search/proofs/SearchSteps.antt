@@ -23,7 +23,7 @@ use Rattle.fleet_search.specs.Reserved.{IsFree, IsFreeOn}
 use Rattle.fleet_search.specs.Gaps.{IsInGap, IsFirstIn}
 use Rattle.fleet_search.specs.Rows.{row_in, IsPut}
 use Rattle.fleet_search.specs.Labels.{earliest_in, AreLabels, IsLabelSet, IsSeen}
-use Rattle.fleet_search.specs.Search.{far_of, stays_on, IsMeasured, AreBeside, IsStep, least_arrival, IsSlot, IsEnd, no_arrival, moment_in, IsKnown, IsMove, IsReachedFrom, IsSound, IsCovered, IsExpanded, earliest_of, IsFrontier, IsAsked, FrontierIs, IsLeft, IsLeaving, Grows, LeavesOn, IsFreeUntil, IsFoundAt, IsFoundIn, IsFoundFrom}
+use Rattle.fleet_search.specs.Search.{far_of, stays_on, IsMeasured, AreBeside, IsStep, least_arrival, IsSlot, IsEnd, no_arrival, moment_in, IsKnown, IsMove, IsReachedFrom, IsSound, IsCovered, IsExpanded, IsSuperseded, IsSettled, earliest_of, IsFrontier, IsAsked, FrontierIs, IsLeft, IsLeaving, Grows, LeavesOn, IsFreeUntil, IsFoundAt, IsFoundIn, IsFoundFrom}
 use Rattle.fleet_search.proofs.Spread.{back, one_place}
 use Rattle.fleet_search.proofs.Chase.{step_ok-alone}
 use Rattle.fleet_search.proofs.GapLaws.{stays-apart, one_gap, gap-free_on}
@@ -67,6 +67,10 @@ module _ (q : Question) (old new : List Arrival) (more : length old ≤ length n
 
   pub expanded-stays : (x : Moment) → IsExpanded q old x → IsExpanded q new x
   expanded-stays x e = record { moves = λ v c n m h. covered-stays c (v + 1) (e.moves v c n m h); not_end = e.not_end }
+
+  pub settled-stays : (x : Moment) → IsSettled q old x → IsSettled q new x
+  settled-stays x (inl e) = inl (expanded-stays x e)
+  settled-stays x (inr s) = inr (record { since = s.since; sooner = s.sooner; known = known-stays (record { time = s.since; cell = x.cell }) s.known; free = s.free })
 
   pub sound-stays : (x : Moment) (from : ℕ) → IsSound q old x from → IsSound q new x from
   sound-stays x from s = record { reached_from = reached s.reached_from; in_time = s.in_time; on_ground = s.on_ground; free = s.free }
@@ -118,6 +122,17 @@ covered-seen q f left reached labels stacks fr c gap t ground s g =
       early = s.early;
       known = before.1;
       free = gap-free_on q.reserved.now c (stays_on q c) (fr.measured.stays c) gap s.time t before.0 g;
+    }
+
+-- the cell was reached sooner in the gap of the moment
+pub superseded-seen : (q : Question) (f : ℕ) (left : Option ℕ) (reached : List Arrival) (labels : Labels) (stacks : List (Vec ℕ Global)) → IsFrontier q f left reached labels stacks → (m : Moment) (gap : ℕ) → IsTrue (is_passable q.grid.now (place_of m.cell)) → IsSeen (earliest_of q labels m.cell gap) (m.time - 1) → 1 ≤ m.time → IsInGap (stays_on q m.cell) gap m.time → IsSuperseded q reached m
+superseded-seen q f left reached labels stacks fr m gap ground s late g =
+    let before = fr.met m.cell gap s.time ground g.bound s.is in
+    record {
+      since = s.time;
+      sooner = (let early = s.early in omega arith);
+      known = before.1;
+      free = gap-free_on q.reserved.now m.cell (stays_on q m.cell) (fr.measured.stays m.cell) gap s.time m.time before.0 g;
     }
 
 pub covered-on : (q : Question) (reached : List Arrival) (c : Cell) (v t : ℕ) → v ≤ t → IsFreeOn q.reserved.now c v t → IsCovered q reached c v → IsCovered q reached c t
@@ -275,14 +290,14 @@ module _ (q : Question) (f place : ℕ) (r : List Arrival) (labels : Labels) (st
     | inr ne ↦ subst (λ z. Contains z i) (sym (others k ne)) h
   ]
 
-  done : (i : ℕ) → i < length r' → ((k : ℕ) × Contains (row_in stacks' k) i) ⊎ ((let o : Option ℕ = Some place in o ≡ Some i) ⊎ IsExpanded q r' (moment_in r' i))
+  done : (i : ℕ) → i < length r' → ((k : ℕ) × Contains (row_in stacks' k) i) ⊎ ((let o : Option ℕ = Some place in o ≡ Some i) ⊎ IsSettled q r' (moment_in r' i))
   done i h = elim (cases i h) [
     | inr s ↦ inl (key, subst (Contains (row_in stacks' key)) (sym s) (subst (λ z. Contains z (length r)) (sym (there key refl)) (Contains-push (row_in stacks key) (length r))))
     | inl l ↦ elim (fr.done i l) [
       | inl w ↦ inl (w.0, keep w.0 i w.1)
       | inr w ↦ elim w [
         | inl s ↦ inr (inl s)
-        | inr x ↦ inr (inr (subst (IsExpanded q r') (sym (same_at q r r' more kept i l)) (expanded-stays q r r' more kept (moment_in r i) x)))
+        | inr x ↦ inr (inr (subst (IsSettled q r') (sym (same_at q r r' more kept i l)) (settled-stays q r r' more kept (moment_in r i) x)))
       ]
     ]
   ]
@@ -350,7 +365,7 @@ pub expanded : (q : Question) (reached : List Arrival) (l : Moment) → ((dir : 
 expanded q reached l there not_end = record { moves = λ u c w m h. there w.0 c w.1 u m h; not_end = not_end }
 
 -- a frontier with other parts
-pub left_done : (q : Question) (f place : ℕ) (r : List Arrival) (labels : Labels) (stacks : List (Vec ℕ Global)) → IsFrontier q f (Some place) r labels stacks → IsExpanded q r (moment_in r place) → IsFrontier q f None r labels stacks
+pub left_done : (q : Question) (f place : ℕ) (r : List Arrival) (labels : Labels) (stacks : List (Vec ℕ Global)) → IsFrontier q f (Some place) r labels stacks → IsSettled q r (moment_in r place) → IsFrontier q f None r labels stacks
 left_done q f place r labels stacks fr e = record {
   measured = fr.measured;
   table = fr.table;
@@ -363,7 +378,7 @@ left_done q f place r labels stacks fr e = record {
   past = fr.past;
   done = λ i h. elim (fr.done i h) [
     | inl a ↦ inl a
-    | inr w ↦ elim w [ inl s ↦ inr (inr (subst (λ z. IsExpanded q r (moment_in r z)) (same_Some place i s) e)) | inr x ↦ inr (inr x) ]
+    | inr w ↦ elim w [ inl s ↦ inr (inr (subst (λ z. IsSettled q r (moment_in r z)) (same_Some place i s) e)) | inr x ↦ inr (inr x) ]
   ];
 }
 

@@ -31,6 +31,12 @@ IsPathAdded problem agent old new true =
 IsPathAdded problem agent old new false =
     (new ≡ old) × ((task : Task) → slice_get problem.instance.now agent ≡ Some task → HasNoWay (is_passable problem.grid.now) old task.start task.goal problem.horizon)
 
+-- the path was the agent's earliest past some others
+abbrev pub IsOldPath : Problem → ℕ → List Cell → Type 0
+IsOldPath problem agent path =
+    (task : Task) → slice_get problem.instance.now agent ≡ Some task
+    → (others : Plan) × IsEarliest (is_passable problem.grid.now) others task.start task.goal problem.horizon path
+
 -- so many of the paths came after the old ones, each of which fits those before it
 pub record ArePathsKept (old new paths : Plan) (kept : ℕ) : Type 0 where
   pub bound : kept ≤ length paths

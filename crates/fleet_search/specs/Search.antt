@@ -98,11 +98,22 @@ pub record IsExpanded (q : Question) (reached : List Arrival) (m : Moment) : Typ
   pub moves : (u : ℕ) (c : Cell) → AreNeighbours m.cell c → IsMove q m u c → u + 1 + far_of q c ≤ q.horizon → IsCovered q reached c (u + 1)
   pub not_end : IsEnd q m → ⊥
 
+-- the cell was reached sooner, and is free from then to the moment
+pub record IsSuperseded (q : Question) (reached : List Arrival) (m : Moment) : Type 0 where
+  pub since : ℕ
+  pub sooner : since < m.time
+  pub known : IsKnown reached (record { time = since; cell = m.cell })
+  pub free : IsFreeOn q.reserved.now m.cell since m.time
+
+-- what can be reached from the moment was noted, or will be from a sooner one
+abbrev pub IsSettled : Question → List Arrival → Moment → Type 0
+IsSettled q reached m = IsExpanded q reached m ⊎ IsSuperseded q reached m
+
 -- the earliest time at which the cell was reached in the gap of this number among the stays there
 abbrev pub earliest_of : Question → Labels → Cell → ℕ → Option ℕ
 earliest_of q labels c gap = earliest_in labels (cell_index q.grid.now c) gap
 
--- every moment that was reached is sound, and it is still to be left, or is just being left, or all moves from it were noted. Each gap in which a
+-- every moment that was reached is sound, and it is still to be left, or is just being left, or is settled. Each gap in which a
 -- cell was reached is labelled with the earliest time; so none was noted twice
 pub record IsFrontier (q : Question) (f : ℕ) (left : Option ℕ) (reached : List Arrival) (labels : Labels) (stacks : List (Vec ℕ Global)) : Type 0 where
   pub measured : IsMeasured q
@@ -114,7 +125,7 @@ pub record IsFrontier (q : Question) (f : ℕ) (left : Option ℕ) (reached : Li
   pub met : (c : Cell) (gap time : ℕ) → IsTrue (is_passable q.grid.now (place_of c)) → gap ≤ length (stays_on q c) → earliest_of q labels c gap ≡ Some time → IsInGap (stays_on q c) gap time × IsKnown reached (record { time = time; cell = c })
   pub stacked : (k i : ℕ) → Contains (row_in stacks k) i → (i < length reached) × IsSlot q (moment_in reached i) k
   pub past : (k : ℕ) → k < f → row_in stacks k ≡ []
-  pub done : (i : ℕ) → i < length reached → ((k : ℕ) × Contains (row_in stacks k) i) ⊎ ((left ≡ Some i) ⊎ IsExpanded q reached (moment_in reached i))
+  pub done : (i : ℕ) → i < length reached → ((k : ℕ) × Contains (row_in stacks k) i) ⊎ ((left ≡ Some i) ⊎ IsSettled q reached (moment_in reached i))
 
 abbrev pub FrontierIs : Question → ℕ → Option ℕ → Frontier → Type 0
 FrontierIs q f left s = IsFrontier q f left s.reached.items s.labels s.stacks.items

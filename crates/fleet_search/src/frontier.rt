@@ -11,7 +11,7 @@ ghost use Rattle.fleet_model.specs.declared.limits.TheConstants.{MAX_HORIZON};
 ghost use Rattle.fleet_search.specs.Reserved.{IsFree};
 ghost use Rattle.fleet_search.specs.Way.{StepFits};
 ghost use Rattle.fleet_search.specs.Gaps.{IsInGap};
-ghost use Rattle.fleet_search.specs.Search.{far_of, stays_on, IsMeasured, IsEnd, IsSlot, IsLeft, IsLeaving, LeavesOn, FrontierIs, Grows, IsAsked, IsSearched, IsTrailOf, IsFreeUntil, IsFoundAt, IsFoundIn, IsFoundFrom, IsBeside, IsSwept, IsFound};
+ghost use Rattle.fleet_search.specs.Search.{far_of, stays_on, IsMeasured, IsEnd, IsSlot, IsLeft, IsLeaving, LeavesOn, FrontierIs, Grows, IsAsked, IsSearched, IsTrailOf, IsFreeUntil, IsFoundAt, IsFoundIn, IsFoundFrom, IsBeside, IsSwept, IsFound, IsSuperseded};
 ghost use Rattle.fleet_search.specs.Labels.{AreLabels};
 
 use crate::distances::Distances;
@@ -265,7 +265,21 @@ impl Frontier {
         }
     }
 
-    /// Notes all that is reached from the moment that is left.
+    /// Whether the cell was reached sooner in the gap in which the moment at this place is.
+    fn is_superseded(&self, question: &Question, slot: u32, place: usize, at: Moment) -> bool
+        requires frontier { FrontierIs question.now (slot - 1) (Some place) self.now }
+        requires left { IsLeft question.now slot self.now place at }
+        ensures { IsTrue result → IsSuperseded question.now self.now.reached.items at }
+    {
+        if at.time == 0 {
+            return false;
+        }
+        let gap = begun(question.stays(at.cell), at.time);
+        let number = question.grid.cell_index(at.cell);
+        self.labels.is_reached(number, gap, at.time - 1)
+    }
+
+    /// Notes all that is reached from the moment that is left, unless its cell was reached sooner: then that is noted from the sooner one.
     fn leave(
         &mut self,
         question: &Question,
@@ -280,6 +294,9 @@ impl Frontier {
         ensures frontier { OnOk result (FrontierIs question.now (slot - 1) None self.new) }
         ensures grows { OnOk result (Grows self.old self.new) }
     {
+        if self.is_superseded(question, slot, place, at) {
+            return Ok(());
+        }
         let until = question.until(at);
         let left = Leaving { place, at, until };
         self.step_towards(question, slot, left, Dir::South)?;

@@ -1,10 +1,11 @@
 //! Plans made agent by agent in several orders: an agent that is left without a path comes first in the next one.
 
-ghost use Rattle.std.specs.Prelude.{◌≡◌, ◌<◌, ℕ, length, IfOk, IfErr, OnOk};
+ghost use Rattle.std.specs.Prelude.{◌≡◌, ◌<◌, ℕ, [], true, length, get_or, IfOk, IfErr, OnOk};
 ghost use Rattle.fleet_plan.specs.Plan.{IsConflictFree};
 ghost use Rattle.fleet_grid.specs.Ground.{is_passable};
+ghost use Rattle.fleet_search.specs.Way.{Fits};
 ghost use Rattle.fleet_search.specs.Orders.{rising, to_front, paths_by, IsMadeInTries, IsStuckInTries};
-ghost use Rattle.fleet_search.specs.Attempts.{AreTables, ArePathsKept, IsPathAdded, IsMadeAfterFirst, IsOrderOf, IsAttempt};
+ghost use Rattle.fleet_search.specs.Attempts.{AreTables, ArePathsKept, IsPathAdded, IsMadeAfterFirst, IsOrderOf, IsAttempt, IsOldPath};
 
 use crate::distances::Distances;
 use crate::earliest_path::earliest_over;
@@ -71,6 +72,67 @@ fn add_path(
     }
 }
 
+/// Reserves the agent's earliest path past the reserved ones: this one, which was the earliest past others and fits, unless one arrives
+/// sooner. Only that is searched for.
+fn renew_path(
+    problem: &Problem<'_>,
+    agent: u16,
+    old: &Path,
+    reserved: &mut Reservations,
+    tables: &mut Tables,
+) -> Result<(), OutOfMemory>
+    requires agent { agent < length problem.now.instance.now }
+    requires old { IsOldPath problem.now agent old.now }
+    requires fits { Fits reserved.old old.now }
+    requires tables { AreTables problem.now tables.old }
+    ensures tables { OnOk result (AreTables problem.now tables.new) }
+    ensures added { OnOk result (IsPathAdded problem.now agent reserved.old reserved.new true) }
+{
+    let steps = old.steps();
+    if steps > 0 {
+        match earliest_over(
+            problem.grid,
+            reserved,
+            &mut tables.distances,
+            &mut tables.frontier,
+            problem.instance.start(agent),
+            problem.instance.goal(agent),
+            (steps - 1) as u16,
+        ) {
+            Ok(sooner) => return reserved.reserve(&sooner),
+            Err(SearchFault::NoPath) => (),
+            Err(SearchFault::OutOfMemory) => return Err(OutOfMemory),
+        }
+    }
+    reserved.reserve(old)
+}
+
+/// The same as `add_path`, where the agent may have had a path past others: the one of this number.
+fn add_path_again(
+    problem: &Problem<'_>,
+    agent: u16,
+    olds: &[Path],
+    number: usize,
+    reserved: &mut Reservations,
+    tables: &mut Tables,
+) -> Result<bool, OutOfMemory>
+    requires agent { agent < length problem.now.instance.now }
+    requires old { number < length olds.now → IsOldPath problem.now agent (get_or olds.now number []) }
+    requires tables { AreTables problem.now tables.old }
+    ensures tables { OnOk result (AreTables problem.now tables.new) }
+    ensures added { IfOk result (IsPathAdded problem.now agent reserved.old reserved.new) }
+{
+    if number >= olds.len() {
+        return add_path(problem, agent, reserved, tables);
+    }
+    let old = &olds[number];
+    if !reserved.fits(old) {
+        return add_path(problem, agent, reserved, tables);
+    }
+    renew_path(problem, agent, old, reserved, tables)?;
+    Ok(true)
+}
+
 /// Reserves the paths one after another, up to the first that does not fit, and answers how many.
 fn keep_paths(reserved: &mut Reservations, paths: &[Path]) -> Result<usize, OutOfMemory>
     ensures { IfOk result (ArePathsKept reserved.old reserved.new paths.now) }
@@ -85,7 +147,8 @@ fn keep_paths(reserved: &mut Reservations, paths: &[Path]) -> Result<usize, OutO
 }
 
 /// Plans in this order, each path the earliest past those of the agents before. `kept` are such paths of the agents after the first one,
-/// made without it: up to the first that does not fit beside the first agent's path they are still the earliest.
+/// made without it: up to the first that does not fit beside the first agent's path they are still the earliest. Of the others those that
+/// fit are left only for sooner ones.
 fn plan_in_order(
     problem: &Problem<'_>,
     order: &[u16],
@@ -106,7 +169,7 @@ fn plan_in_order(
     let first = keep_paths(&mut reserved, kept)? + 1;
     for place in first..order.len() {
         let number = order[place];
-        if !add_path(problem, number, &mut reserved, tables)? {
+        if !add_path_again(problem, number, kept, place - 1, &mut reserved, tables)? {
             return Ok(Attempt::Stuck(reserved.into_paths()));
         }
     }

@@ -138,10 +138,14 @@ impl Reservations {
     pub fn fits(&self, path: &Path) -> bool
         ensures { IsTrue result ↔ Fits self.now path.now }
     {
+        // From its end on the agent stays, so no step after that is looked at.
+        let end = path.steps();
+        if !self.is_free_from(path.cell(end), end) {
+            return false;
+        }
         if self.occupant(0, path.cell(0)).is_some() {
             return false;
         }
-        let end = self.steps().max(path.steps());
         for time in 0..end {
             if !self.step_fits(time, path.cell(time), path.cell(time + 1)) {
                 return false;
@@ -164,6 +168,16 @@ impl Reservations {
                     Some(stay.until + 1)
                 }
             }
+        }
+    }
+
+    /// Whether nobody stands on the cell from the time on.
+    fn is_free_from(&self, cell: Cell, time: u32) -> bool
+        ensures { IsTrue result ↔ IsFreeFrom self.now cell time }
+    {
+        match self.free_from(cell) {
+            None => false,
+            Some(from) => from <= time,
         }
     }
 

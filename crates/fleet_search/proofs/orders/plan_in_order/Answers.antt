@@ -1,10 +1,11 @@
-use Rattle.std.proofs.Common.{◌≡◌, ◌+◌, ◌<◌, ◌≤◌, length, sym, subst, arith}
+use Rattle.std.proofs.Common.{◌≡◌, [], suc, ◌-◌, get_or, ◌+◌, ◌<◌, ◌≤◌, length, sym, subst, arith}
 use Rattle.fleet_grid.specs.Ground.{is_passable}
 use Rattle.fleet_search.specs.InTurn.{IsMadeInTurn}
 use Rattle.fleet_search.specs.Orders.{tasks_by}
+use Rattle.fleet_search.specs.Attempts.{IsOldPath}
 use Rattle.fleet_search.proofs.OrderLaws.{agents_below}
 use Rattle.fleet_search.proofs.KeptPaths.{none_made}
-use Rattle.fleet_search.proofs.Attempting.{added_made, stuck_attempt, kept_attempt}
+use Rattle.fleet_search.proofs.Attempting.{old_path, added_made, stuck_attempt, kept_attempt}
 use Rattle.fleet_search.proofs.orders.plan_in_order.Goals as goal
 
 pub add_path-requires-clause-agent : goal.add_path-requires-clause-agent
@@ -28,21 +29,30 @@ loop-place-init c =
       c.in_ok-add_path.ensures.tables,
     )
 
-pub add_path-requires-in-loop-place-clause-agent : goal.add_path-requires-in-loop-place-clause-agent
-add_path-requires-in-loop-place-clause-agent c = agents_below (length c.args.problem.now.instance.now) c.args.order.now c.requires.order c.loop-place.place 0 (omega arith)
+pub add_path_again-requires-clause-agent : goal.add_path_again-requires-clause-agent
+add_path_again-requires-clause-agent c = agents_below (length c.args.problem.now.instance.now) c.args.order.now c.requires.order c.loop-place.place 0 (omega arith)
+
+pub add_path_again-requires-clause-old : goal.add_path_again-requires-clause-old
+add_path_again-requires-clause-old c = λ h.
+    let problem = c.args.problem.now in
+    let order = c.args.order.now in
+    let kept = c.args.kept.now in
+    let place = c.loop-place.place in
+    let e : suc (place - 1) ≡ place = omega arith in
+    subst (λ z. IsOldPath problem (get_or order z 0) (get_or kept (place - 1) [])) e (old_path problem order c.requires.order kept (place - 1) (omega arith) c.requires.kept h)
 
 pub returns-then-not-branch-2-clause-attempt : goal.returns-then-not-branch-2-clause-attempt
 returns-then-not-branch-2-clause-attempt c =
     let l : c.loop-place.place < length c.args.order.now = omega arith in
-    stuck_attempt c.args.problem.now c.args.order.now c.requires.order c.loop-place.place c.loop-place.reserved c.add_path-in-loop-place.new.reserved c.into_paths-then-not-branch-2.result.items l c.loop-place.invariant.0
-    (rw c.if-not-branch-2.true at c.in_ok-add_path-2.ensures.added) c.into_paths-then-not-branch-2.ensures
+    stuck_attempt c.args.problem.now c.args.order.now c.requires.order c.loop-place.place c.loop-place.reserved c.add_path_again.new.reserved c.into_paths-then-not-branch-2.result.items l c.loop-place.invariant.0
+    (rw c.if-not-branch-2.true at c.in_ok-add_path_again.ensures.added) c.into_paths-then-not-branch-2.ensures
 
 pub loop-place-preserved : goal.loop-place-preserved
 loop-place-preserved c =
     let l : c.loop-place.place < length c.args.order.now = omega arith in (
-      added_made c.args.problem.now c.args.order.now c.requires.order c.loop-place.place c.loop-place.reserved c.add_path-in-loop-place.new.reserved l c.loop-place.invariant.0
-          (rw c.if-not-branch-2.false at c.in_ok-add_path-2.ensures.added),
-      c.in_ok-add_path-2.ensures.tables,
+      added_made c.args.problem.now c.args.order.now c.requires.order c.loop-place.place c.loop-place.reserved c.add_path_again.new.reserved l c.loop-place.invariant.0
+          (rw c.if-not-branch-2.false at c.in_ok-add_path_again.ensures.added),
+      c.in_ok-add_path_again.ensures.tables,
     )
 
 pub returns-clause-attempt : goal.returns-clause-attempt

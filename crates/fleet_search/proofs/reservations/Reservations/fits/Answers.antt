@@ -1,16 +1,24 @@
-use Rattle.std.proofs.Common.{◌≤◌, refl, sym, subst, arith}
-use Rattle.fleet_plan.specs.Plan.{steps}
+use Rattle.std.proofs.Common.{◌≡◌, ◌≤◌, refl, sym, subst, arith}
+use Rattle.fleet_plan.specs.Plan.{cell_at}
 use Rattle.fleet_search.specs.Way.{StepFits, arrival}
-use Rattle.fleet_search.specs.Reserved.{IsOn}
-use Rattle.fleet_search.proofs.Occupancy.{no_from_false}
+use Rattle.fleet_search.specs.Reserved.{IsOn, IsFreeFrom}
+use Rattle.fleet_search.proofs.Occupancy.{no_from_false, yes_from_true}
 use Rattle.fleet_search.proofs.Chase.{none_iff, of_some}
-use Rattle.fleet_search.proofs.FitCode.{misfit_first, misfit_step, up_to-all}
+use Rattle.fleet_search.proofs.FitCode.{misfit_first, misfit_step, fits-rest, up_to-all}
 use Rattle.fleet_search.proofs.reservations.Reservations.fits.Goals as goal
+
+pub returns-then-not-is_free_from : goal.returns-then-not-is_free_from
+returns-then-not-is_free_from c =
+    let plan = c.args.self.now in
+    let path = c.args.path.now in
+    let b : arrival path ≤ c.steps-end.result = omega (arith, c.steps-end.ensures.time) in
+    none_iff (λ fits. no_from_false c.is_free_from.result c.if-not-is_free_from.true c.is_free_from.ensures
+    (subst (λ z. IsFreeFrom plan z c.steps-end.result) (sym c.cell.ensures) (fits-rest plan path c.steps-end.result b fits)))
 
 pub returns-then-is_some : goal.returns-then-is_some
 returns-then-is_some c =
     let w = of_some c.occupant.result c.is_some.result c.is_some.ensures c.if-is_some.true c.occupant.ensures.some in
-    none_iff (misfit_first c.args.self.now c.args.path.now w.0 (subst (λ z. IsOn c.args.self.now 0 z w.0) c.cell.ensures w.1))
+    none_iff (misfit_first c.args.self.now c.args.path.now w.0 (subst (λ z. IsOn c.args.self.now 0 z w.0) c.cell-2.ensures w.1))
 
 pub returns-then-not-step_fits : goal.returns-then-not-step_fits
 returns-then-not-step_fits c =
@@ -23,6 +31,9 @@ pub returns : goal.returns
 returns c =
     let plan = c.args.self.now in
     let path = c.args.path.now in
-    let a : steps plan ≤ c.loop-time.time = omega (arith, c.steps.ensures.value) in
-    let b : arrival path ≤ c.loop-time.time = omega (arith, c.steps-2.ensures.time) in
-    (λ h. up_to-all plan path c.loop-time.time c.loop-time.invariant a b, λ h. refl)
+    let end = c.steps-end.result in
+    let b : arrival path ≤ c.loop-time.time = omega (arith, c.steps-end.ensures.time) in
+    let same : end ≡ c.loop-time.time = omega arith in
+    let free = yes_from_true c.is_free_from.result c.if-not-is_free_from.false c.is_free_from.ensures in
+    let rest = subst (λ z. IsFreeFrom plan (cell_at path z) z) same (subst (λ z. IsFreeFrom plan z end) c.cell.ensures free) in
+    (λ h. up_to-all plan path c.loop-time.time c.loop-time.invariant b rest, λ h. refl)

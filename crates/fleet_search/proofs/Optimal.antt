@@ -232,7 +232,3 @@ pub all_looked : (q : Question) (f : ℕ) (r : List Arrival) (labels : Labels) (
 all_looked q f r labels stacks ask fr rest h path w in_time =
     let a = at_least q f None r labels stacks fr (λ i s. absurd (none-some i s)) ask path w in_time (omega arith) in
     omega arith
-
--- where the goal is free too late there is no way
-pub no-way-late : (q : Question) → IsAsked q → q.horizon < q.rest → HasNoWay (is_passable q.grid.now) q.reserved.now q.start q.goal q.horizon
-no-way-late q ask late path w in_time = let r = way-rest q ask path w in omega arith

@@ -1,6 +1,6 @@
 //! The earliest path of one agent past the reserved ones.
 
-ghost use Rattle.std.specs.Prelude.{◌≡◌, IfOk, IfErr, OnOk};
+ghost use Rattle.std.specs.Prelude.{◌≡◌, ◌≤◌, IfOk, IfErr, OnOk};
 ghost use Rattle.fleet_grid.specs.Ground.{is_passable};
 ghost use Rattle.fleet_search.specs.Distance.{IsReady};
 ghost use Rattle.fleet_search.specs.Search.{IsAsked};
@@ -19,6 +19,7 @@ use std::alloc::Global;
 /// Looks for paths in the order of their arrival.
 fn search(frontier: &mut Frontier, question: &Question) -> Result<Path, SearchFault>
     requires asked { IsAsked question.now }
+    requires rest { question.now.rest ≤ question.now.horizon }
     requires labels { AreLabels frontier.old.labels }
     ensures ok { IfOk result (IsEarliest (is_passable question.now.grid.now) question.now.reserved.now question.now.start question.now.goal question.now.horizon) }
     ensures no_path { IfErr result (λ e. e ≡ SearchFault.NoPath → HasNoWay (is_passable question.now.grid.now) question.now.reserved.now question.now.start question.now.goal question.now.horizon) }
@@ -26,9 +27,6 @@ fn search(frontier: &mut Frontier, question: &Question) -> Result<Path, SearchFa
     ensures kept { IfErr result (λ e. e ≡ SearchFault.NoPath → AreLabels frontier.new.labels) }
 {
     if question.far(question.start) > question.horizon {
-        return Err(SearchFault::NoPath);
-    }
-    if question.rest > question.horizon {
         return Err(SearchFault::NoPath);
     }
     frontier.open(question)?;
@@ -79,6 +77,9 @@ pub fn earliest_over(
     let Some(rest) = reserved.free_from(goal) else {
         return Err(SearchFault::NoPath);
     };
+    if rest > u32::from(horizon) {
+        return Err(SearchFault::NoPath);
+    }
     distances.measure(grid, start, goal, horizon)?;
     let question = Question {
         grid,

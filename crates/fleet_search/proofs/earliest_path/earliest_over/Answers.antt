@@ -1,4 +1,4 @@
-use Rattle.std.proofs.Common.{sym, ap, ◌∙◌}
+use Rattle.std.proofs.Common.{◌≤◌, sym, ap, ◌∙◌, arith}
 use Rattle.std.proofs.lemmas.Bool.{both_ways}
 use Rattle.fleet_model.specs.Geometry.{place_of}
 use Rattle.fleet_grid.specs.Ground.{is_passable}
@@ -23,3 +23,8 @@ returns-then-is_some-clause-no_path c = λ e path w h.
 pub returns-in_default-clause-no_path : goal.returns-in_default-clause-no_path
 returns-in_default-clause-no_path c = λ e path w h.
     c.in_default.ensures.none (arrival path) (no-way-busy (is_passable c.args.grid.now) c.args.reserved.now c.args.start c.args.goal path w)
+
+pub returns-then-rest-from-clause-no_path : goal.returns-then-rest-from-clause-no_path
+returns-then-rest-from-clause-no_path c = λ e path w h.
+    let late : c.in-Some.rest ≤ arrival path = (c.in-Some.ensures.some (arrival path)).0 (no-way-busy (is_passable c.args.grid.now) c.args.reserved.now c.args.start c.args.goal path w) in
+    absurd (omega arith)

@@ -28,7 +28,7 @@ fn words_of(alloc: Global, args: io::Result<Args>) -> io::Result<Vec<String>>
     Ok(words)
 }
 
-/// Tells why the words cannot be had, and answers the status: a word that is no text is wrong usage.
+/// Writes why the words cannot be had, and answers the status: a word that is no text is wrong usage.
 fn tell_no_words<E: TraceOut>(error: &io::Error, err: &mut E) -> u8
     requires { IsWorking (E.state err.old) }
     ensures { TellsNoWords (error_kind error.now)
@@ -42,7 +42,7 @@ fn tell_no_words<E: TraceOut>(error: &io::Error, err: &mut E) -> u8
     2
 }
 
-/// Does what the words of the command line ask, or tells why there are none. Answers the status.
+/// Does what the words of the command line ask, or writes why there are none. Answers the status.
 fn run_args<R: Read + Floor, F: Files, O: Flush, E: TraceOut>(
     alloc: Global,
     args: io::Result<Args>,

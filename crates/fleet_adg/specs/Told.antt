@@ -1,4 +1,4 @@
--- What is told of a plan that was not compiled.
+-- The line of a plan that was not compiled.
 use Rattle.std.specs.Prelude.{ℕ, Bool, true, false, List, codes}
 use Rattle.fleet_text.specs.Refusals.{memory_words, named}
 use Rattle.fleet_adg.specs.declared.fault.CompileFault.{CompileFault}

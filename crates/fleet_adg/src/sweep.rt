@@ -42,7 +42,7 @@ fn cells_are_on_map(checked: &Checked<'_>)
     ensures { IsOnMap checked.now.grid checked.now.plan }
 {
     let _plan = checked.plan();
-    // What is asked of a map tells of its sizes.
+    // What is asked of a map gives its sizes.
     let _width = checked.grid().width();
 }
 

@@ -49,7 +49,7 @@ IsRefusalOf input out out' f.Memory = IsUnwritten out out'
 IsRefusalOf input out out' (f.File name) = (name.now ≡ codes "-") × IsUnwritten out out'
 IsRefusalOf input out out' _ = ⊥
 
--- the rehearsal of the program of the input was written, and the status tells how it ended
+-- the rehearsal of the program of the input was written, and the status says how it ended
 abbrev pub DoesHex : Option (List ℕ) → (out out' : SinkState) → ℕ → Type 0
 DoesHex input out out' status = (end : End) × RehearsesInput input out out' end × (status ≡ end_status end)
 

@@ -1,4 +1,4 @@
--- Refusals of a map, an instance and a program that texts and bytes stand for, as commands tell them.
+-- Refusals of a map, an instance and a program that texts and bytes stand for, as commands report them.
 use Rattle.std.specs.Prelude.{◌≡◌, ℕ, List, Option}
 use Rattle.fleet_model.specs.declared.task.Task.{Task}
 use Rattle.fleet_model.specs.Program.{Program}

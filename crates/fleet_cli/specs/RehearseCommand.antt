@@ -32,7 +32,7 @@ IsRehearseFault bytes held out out' (f.Run fault) =
     (p : Program) × (source : SourceState) × Spells bytes p × RehearsesFlushed p (hold_source p held) source out out' (Err fault)
 IsRehearseFault bytes held out out' _ = ⊥
 
--- the rehearsal of the program of the files was written, and the status tells how it ended
+-- the rehearsal of the program of the files was written, and the status says how it ended
 abbrev pub DoesRehearse : Option Store → RehearseRequest → (out out' : SinkState) → ℕ → Type 0
 DoesRehearse files r out out' status =
     (bytes held : List ℕ) × IsRead files r.program.now bytes × AreHoldBytes files (given_name r.holds) held

@@ -25,7 +25,7 @@ use std::alloc::Global;
 use std::io::Read;
 
 /// Does what the request asks: its output goes to `out`, and what it says to robots to the floor. Answers the status, or the refusal
-/// that is to be told.
+/// that is to be written.
 fn do_request<'a, F: Files, O: Flush, D: Floor>(
     alloc: Global,
     request: &Request<'a>,

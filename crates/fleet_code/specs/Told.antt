@@ -1,4 +1,4 @@
--- What is told of bytes that are no program, and of a text that stands for no bytes.
+-- The lines of bytes that are no program, and of a text that stands for no bytes.
 use Rattle.std.specs.Prelude.{ℕ, Bool, true, false, List, codes}
 use Rattle.fleet_text.specs.Refusals.{memory_words, named, named_at}
 use Rattle.fleet_code.specs.declared.fault.HexFault.{HexFault}

@@ -1,4 +1,4 @@
-//! Where an agent's actions begin, counted in opcodes, of which no more is kept than tells it.
+//! Where an agent's actions begin, counted in opcodes, of which no more are kept than are needed to find all.
 
 ghost use Rattle.std.specs.Prelude.{◌≡◌, ◌<◌, ◌≤◌, ◌+◌, ◌-◌, ◌^◌, All, length, slice_index_or};
 ghost use Rattle.std.specs.List.{range_with_len};

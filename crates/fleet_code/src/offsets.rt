@@ -146,7 +146,7 @@ fn are_bare(version: Version, count: u32, bytes: &[u8]) -> bool
     }
 }
 
-/// The same as `actions_after`, where no more offsets are kept than tell them.
+/// The same as `actions_after`, with no more offsets kept than are needed to find all.
 fn actions_in(
     alloc: Global,
     version: Version,

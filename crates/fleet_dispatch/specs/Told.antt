@@ -1,4 +1,4 @@
--- What is told of a dispatch that stopped before its end.
+-- The line of a dispatch that stopped before its end.
 use Rattle.std.specs.Prelude.{ℕ, Bool, true, false, List, [], ◌∷◌, codes}
 use Rattle.fleet_text.specs.Refusals.{memory_words, named, named_at, named_by}
 use Rattle.fleet_dispatch.specs.declared.run.DispatchFault.{DispatchFault}

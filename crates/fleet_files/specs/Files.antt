@@ -1,4 +1,4 @@
--- What a store of files holds, where it tells.
+-- What a store of files holds, if it says so.
 use Rattle.std.specs.Prelude.{◌≡◌, ◌≢◌, ◌<◌, ◌≤◌, ℕ, List, length, Option, Some, None, ⊤}
 use Rattle.fleet_files.specs.declared.input.TheConstants.{MOST_BYTES}
 

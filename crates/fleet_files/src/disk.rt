@@ -1,4 +1,4 @@
-//! Files on the disk. They tell nothing: what a file holds is the operator's premise.
+//! Files on the disk. Contracts do not say what they hold: that is the operator's premise.
 
 use crate::files::Files;
 use crate::input::{FileFault, read_whole};

@@ -11,7 +11,7 @@ pub trait Files {
     ghost use Rattle.std.specs.Prelude.{ℕ, List, Option, ⊤};
     ghost use Rattle.fleet_files.specs.declared.input.FileFault.{FileFault};
 
-    /// The bytes of each file by its name, where the store tells.
+    /// The bytes of each file by its name, if the store says what it holds.
     ghost contents: { Self → Option Store };
 
     /// Whether a read of the named file may end in this fault.

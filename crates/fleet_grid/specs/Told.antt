@@ -1,4 +1,4 @@
--- What is told of a fault of a map.
+-- The line of a fault of a map.
 use Rattle.std.specs.Prelude.{ℕ, Bool, true, false, List, codes}
 use Rattle.fleet_text.specs.Refusals.{memory_words, named, named_at, named_by}
 use Rattle.fleet_grid.specs.declared.fault.MapFault.{MapFault}

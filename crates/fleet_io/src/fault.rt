@@ -131,7 +131,7 @@ impl Fault<'_> {
     }
 }
 
-/// Tells the refusal, and answers its status.
+/// Writes the line of the refusal, and answers its status.
 pub fn refuse<E: TraceOut>(fault: &Fault<'_>, err: &mut E) -> u8
     requires { IsWorking (E.state err.old) }
     ensures status { result ≡ status_of fault.now }
@@ -141,7 +141,7 @@ pub fn refuse<E: TraceOut>(fault: &Fault<'_>, err: &mut E) -> u8
     fault.status()
 }
 
-/// What a command answers: the status with which it is done; or its refusal is told, and the refusal's status answered.
+/// What a command answers: the status with which it is done; or its refusal is written, and the refusal's status answered.
 pub fn finish<E: TraceOut>(done: Result<u8, Fault<'_>>, err: &mut E) -> u8
     requires { IsWorking (E.state err.old) }
     ensures { Finishes done.entry (E.state err.old) (E.state err.new) result }

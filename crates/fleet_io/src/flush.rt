@@ -1,4 +1,4 @@
-//! Outputs that are flushed once all is written, before anything is told of them.
+//! Outputs that are flushed once all is written, before anything is reported of them.
 
 ghost use Rattle.fleet_text.specs.Sink.{IsWorking, Delivers};
 ghost use Rattle.fleet_run.specs.Source.{HasNotFailed};

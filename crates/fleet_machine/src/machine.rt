@@ -305,7 +305,7 @@ impl Machine {
         }
     }
 
-    /// Judges the agents that are due, and tells how many they are.
+    /// Judges the agents that are due, and answers how many they are.
     fn judge_due<P: ProgramView>(&mut self, program: &P) -> u16
         requires well_formed { IsWellFormed (P.program program.now) }
         requires agents { length self.old.configuration ≡ length (P.program program.now) }

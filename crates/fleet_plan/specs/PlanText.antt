@@ -56,7 +56,7 @@ pub record Reaches (ls : List Bytes) (k : ℕ) (line : Bytes) : Type 0 where
   pub before : All IsRight (take k ls)
   pub here : slice_get ls k ≡ Some line
 
--- the fault is there, and all that is judged before it is right. The lines that are told count from 1
+-- the fault is there, and all that is judged before it is right. The lines that are reported count from 1
 abbrev pub IsFirstFault : List Bytes → TextFault → Type 0
 IsFirstFault ls OutOfMemory = ⊥
 IsFirstFault ls (Form number) = (k : ℕ) × (line : Bytes) × (number ≡ k + 1) × Reaches ls k line × ((path : Path) → Spells line path → ⊥)

@@ -1,4 +1,4 @@
--- What is told of a fault of a plan, and of its text.
+-- The lines of the faults of a plan, and of its text.
 use Rattle.std.specs.Prelude.{ℕ, Bool, true, false, List, [], ◌∷◌, codes, decimal}
 use Rattle.fleet_text.specs.Refusals.{memory_words, named, named_at, named_by}
 use Rattle.fleet_plan.specs.declared.plan_fault.Conflict.{Conflict}

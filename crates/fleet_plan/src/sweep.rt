@@ -334,7 +334,7 @@ pub(crate) fn first_conflict(
     ensures none { IfOk result (λ found. IfNone found (HasNoConflict plan.now)) }
 {
     let agents = usize::from(plan.agents());
-    // What is asked of a map tells of its sizes.
+    // What is asked of a map gives its sizes.
     let _width = grid.width();
     let mut table = Table::new(alloc, 0);
     let mut places = vec![in alloc; 0usize; agents]?;

@@ -1,4 +1,4 @@
--- Awaits that others imply, and flags that tell which are.
+-- Awaits that others imply, and flags that say which are.
 use Rattle.std.specs.Prelude.{◌≡◌, ◌≢◌, ℕ, ◌+◌, ◌-◌, ◌<◌, ◌≤◌, Bool, true, false, List, length, take, sum_by, get_or, slice_get, slice_index, Some, None, ◌⊎◌, ◌↔◌}
 use Rattle.fleet_model.specs.declared.program.Await.{Await}
 use Rattle.fleet_model.specs.declared.program.ActionId.{ActionId}

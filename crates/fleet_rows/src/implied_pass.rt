@@ -1,4 +1,4 @@
-//! A pass over the run in which nobody is held, which keeps rows as long as they are taken and tells which awaits others imply.
+//! A pass over the run in which nobody is held, which keeps rows as long as they are taken and finds which awaits others imply.
 
 ghost use Rattle.std.specs.Prelude.{◌≡◌, ◌+◌, ◌<◌, ◌≤◌, ℕ, [], length, OnOk};
 ghost use Rattle.fleet_model.specs.Program.{AreInRange, total_awaits};

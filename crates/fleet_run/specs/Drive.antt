@@ -1,4 +1,4 @@
--- What driving a fleet writes, asks and tells.
+-- What driving a fleet writes, asks and answers.
 use Rattle.std.specs.Prelude.{◌≡◌, ℕ, ◌+◌, ◌≤◌, ◌++◌, List, [], length, Result, Ok, Err, if◌then◌else◌}
 use Rattle.std.specs.Io.KnownBytes.{Appends}
 use Rattle.fleet_model.specs.Program.{Program}
@@ -12,7 +12,7 @@ use Rattle.fleet_text.specs.Sink.{SinkState, IsWorking}
 use Rattle.fleet_run.specs.Source.{SourceState}
 use Rattle.fleet_run.specs.Outcome.{IsAskedFor, StopsAtSource, StopsAtSink, StopsAtLimit}
 
--- the whole trace text was written, and the report tells its numbers
+-- the whole trace text was written, and the report has its numbers
 pub record IsDriven (p : Program) (chain : ℕ) (source source' : SourceState) (out out' : SinkState) (r : Report) : Type 0 where
   pub finish : IsFinish p source.ticks r.ticks
   pub taken : Appends out.taken out'.taken (trace_text p source.ticks r.ticks chain)

@@ -19,7 +19,7 @@ use Rattle.fleet_run.specs.Source.{SourceState, HasNotFailed}
 abbrev pub end_of : Program → Configuration → Option End
 end_of p c = if is_finished p c then Some Finished else (if is_stuck p c then Some Stuck else None)
 
--- what is told where the source fails so when it is asked for this tick
+-- what is answered if the source fails so when it is asked for this tick
 abbrev pub fault_of : SourceFault → ℕ → RunFault
 fault_of Broken tick = Source tick
 fault_of Text tick = Hold tick

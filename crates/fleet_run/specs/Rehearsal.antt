@@ -1,4 +1,4 @@
--- What a rehearsal writes, asks and tells.
+-- What a rehearsal writes, asks and answers.
 use Rattle.std.specs.Prelude.{◌≡◌, ℕ, ◌+◌, ◌++◌, List, [], length, Some, Result, Ok, Err, if◌then◌else◌}
 use Rattle.std.specs.Io.KnownBytes.{Keeps, Appends}
 use Rattle.fleet_model.specs.Program.{Program}
@@ -12,7 +12,7 @@ use Rattle.fleet_text.specs.Sink.{SinkState, IsWorking}
 use Rattle.fleet_run.specs.Source.{SourceState}
 use Rattle.fleet_run.specs.Outcome.{IsAskedFor, end_of, StopsAtSource, StopsAtSink, StopsAtLimit}
 
--- the whole rehearsal text was written, and the rehearsal tells its numbers and its last word
+-- the whole rehearsal text was written, and the answer has its numbers and its last word
 pub record IsRehearsed (p : Program) (source source' : SourceState) (out out' : SinkState) (r : Rehearsal) : Type 0 where
   pub ends : IsEnd p source.ticks r.ticks
   pub taken : Appends out.taken out'.taken (rehearsal_text p source.ticks r.ticks)

@@ -1,4 +1,4 @@
--- What is told of a run that stopped before its end.
+-- The line of a run that stopped before its end.
 use Rattle.std.specs.Prelude.{ℕ, Bool, true, false, List, codes}
 use Rattle.fleet_text.specs.Refusals.{memory_words, named, named_at}
 use Rattle.fleet_run.specs.declared.run.RunFault.{RunFault}

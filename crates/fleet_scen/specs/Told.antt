@@ -1,4 +1,4 @@
--- What is told of a fault of a scenario.
+-- The line of a fault of a scenario.
 use Rattle.std.specs.Prelude.{ℕ, Bool, true, false, List, codes}
 use Rattle.fleet_text.specs.Refusals.{memory_words, named, named_at, named_by}
 use Rattle.fleet_scen.specs.declared.fault.ScenFault.{ScenFault}

@@ -1,4 +1,4 @@
--- What is told where there is no plan.
+-- The line of a refusal if there is no plan.
 use Rattle.std.specs.Prelude.{ℕ, Bool, true, false, List, codes}
 use Rattle.fleet_text.specs.Refusals.{memory_words, named_at}
 use Rattle.fleet_search.specs.declared.fault.PlanStop.{PlanStop}

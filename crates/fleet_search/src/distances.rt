@@ -72,7 +72,7 @@ impl Distances {
         })
     }
 
-    /// How many moves lead from the cell to the goal at least, as far as the sides of the map tell.
+    /// How many moves lead from the cell to the goal at least, as far as the sides of the map show.
     #[tactic(auto, unfolding(crate::specs::Distance::least_moves))]
     fn least_moves(&self, cell: Cell) -> u32
         ensures { result ≡ least_moves self.now cell }

@@ -30,7 +30,7 @@ pub fn begun(stays: &[Stay], time: u32) -> usize
     ensures point { IsPartitionPoint (λ s. s.from ≤ time) (λ s. time < s.from) stays.now result }
     ensures bound { result ≤ length stays.now }
 {
-    // On a busy cell most stays are over, which the last one tells.
+    // On a busy cell most stays are over, which the last one shows.
     if all_begun(stays, time) {
         return stays.len();
     }

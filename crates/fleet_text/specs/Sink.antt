@@ -12,7 +12,7 @@ pub record SinkState : Type 0 where
 abbrev pub IsWorking : SinkState → Type 0
 IsWorking out = out.has_failed ≡ false
 
--- it has failed, and tells no more
+-- it has failed, and does not say why
 abbrev pub HasFailed : SinkState → Type 0
 HasFailed out = out.has_failed ≡ true
 

@@ -56,7 +56,7 @@ unfoldable pub number_front : Bytes → Option (ℕ × Bytes)
 number_front [] = None
 number_front (d ∷ text) = if is_digit d then Some (digits_front (d - 48) text) else None
 
--- .. where from most on it is only told to be most
+-- .. and most stands for every number from most on
 abbrev pub capped : ℕ → ℕ × Bytes → ℕ × Bytes
 capped most x = (min x.0 most, x.1)
 

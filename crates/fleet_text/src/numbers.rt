@@ -3,7 +3,7 @@
 ghost use Rattle.std.specs.Prelude.{◌≡◌, min, option_map};
 ghost use Rattle.fleet_text.specs.Text.{number_front, capped, number, small_number, small_number_front};
 
-/// The least number that is only told to be too large for any number of a text.
+/// What stands for every number that is too large for a number of a text.
 pub const TOO_LARGE: u32 = 65_536;
 
 /// The number in front of a text, and what follows its digits, however many they are. From `TOO_LARGE` on it is

@@ -1,4 +1,4 @@
-//! Refusals: what each tells in a line.
+//! Refusals: the line of each.
 
 ghost use Rattle.fleet_text.specs.Sink.{IsWorking, TakesAll};
 ghost use Rattle.fleet_text.specs.Words.{line_text};
@@ -7,7 +7,7 @@ ghost use Rattle.fleet_text.specs.Refusals.{memory_words, named, named_at, named
 use crate::sink::{OutFault, TraceOut};
 use crate::writing::{Word, put_line};
 
-/// Why something was not done. Beside each enum of faults stands what is told of it.
+/// Why something was not done. Beside each enum of faults stands its line.
 pub trait Refusal {
     ghost use Rattle.std.specs.Prelude.{◌≡◌, ℕ, Bool, List};
 

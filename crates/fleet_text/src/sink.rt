@@ -1,8 +1,8 @@
-//! Sinks of bytes: a sink stands for the bytes that it took, and tells whether it has failed.
+//! Sinks of bytes: a sink stands for the bytes that it took, and says whether it has failed.
 ghost use Rattle.std.specs.Prelude.{◌≡◌, ◌<◌, length, IfErr};
 ghost use Rattle.fleet_text.specs.Sink.{IsWorking, TakesPiece, HandsOn, TakesAll};
 
-/// A sink that failed. It tells no more.
+/// A sink that failed. It does not say why.
 #[derive(Clone, Copy, Debug, PartialEq, Eq)]
 pub struct OutFault;
 

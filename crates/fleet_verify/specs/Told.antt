@@ -1,4 +1,4 @@
--- What is told of a program that is not accepted.
+-- The line of a program that is not accepted.
 use Rattle.std.specs.Prelude.{ℕ, Bool, true, false, List, [], ◌∷◌, map, codes, decimal}
 use Rattle.fleet_text.specs.Refusals.{memory_words, named, named_at, named_by}
 use Rattle.fleet_text.specs.Words.{pair_text, numbered_text}

@@ -13,7 +13,7 @@ use fleet_text::{
 };
 use thiserror::Error;
 
-/// The first fault of a program for a map and an instance, in the order of the variants; of the agents the least is told, and then the
+/// The first fault of a program for a map and an instance, in the order of the variants; of the agents the least is reported, and then the
 /// least of its actions.
 #[derive(Debug, Drop, PartialEq, Eq, Error)]
 pub enum VerifyFault {

@@ -7,7 +7,7 @@ use Rattle.fleet_model.specs.declared.task.Task.{Task}
 use Rattle.fleet_grid.specs.Ground.{is_passable}
 use Rattle.fleet_plan.specs.Plan.{Plan}
 use Rattle.fleet_search.specs.Way.{Fits}
-use Rattle.fleet_search.specs.InTurn.{IsMadeInTurn}
+use Rattle.fleet_search.specs.InTurn.{IsPrioritisedPlan}
 use Rattle.fleet_search.specs.Orders.{no_task, tasks_by, IsStuckInOrder}
 use Rattle.fleet_search.specs.Attempts.{IsOrderOf, IsPathAdded, ArePathsKept, IsMadeAfterFirst, IsOldPath}
 use Rattle.fleet_search.specs.declared.orders.Problem.{Problem}
@@ -19,7 +19,7 @@ module _ (problem : Problem) (order : List ℕ) (each : IsOrderOf problem order)
   tasks = problem.instance.now
 
   abbrev Made : ℕ → Plan → Type 0
-  Made n plan = IsMadeInTurn (is_passable problem.grid.now) (tasks_by order tasks) problem.horizon n plan
+  Made n plan = IsPrioritisedPlan (is_passable problem.grid.now) (tasks_by order tasks) problem.horizon n plan
 
   within : (place : ℕ) → place < length order → place < length (tasks_by order tasks)
   within place h = subst (λ z. place < z) (sym (length-map order (λ a. get_or tasks a no_task))) h

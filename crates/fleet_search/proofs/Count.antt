@@ -1,30 +1,30 @@
--- How many moments there are to be reached.
+-- How many states there are to be reached.
 use Rattle.std.proofs.Common.{◌≡◌, ℕ, ◌+◌, ◌*◌, ◌<◌, ◌≤◌, List, length, Option, arith}
 use Rattle.std.specs.Prelude.{Vec}
 use Rattle.std.specs.declared.alloc.Global.{Global}
 use Rattle.std.proofs.lemmas.Nat.{mul-add-lt, same_from_place}
-use Rattle.fleet_search.specs.declared.moment.Moment.{Moment}
-use Rattle.fleet_search.specs.declared.frontier.Question.{Question}
+use Rattle.fleet_search.specs.declared.state.State.{State}
+use Rattle.fleet_search.specs.declared.frontier.Query.{Query}
 use Rattle.fleet_search.specs.declared.labels.Labels.{Labels}
-use Rattle.fleet_search.specs.declared.frontier.Arrival.{Arrival}
-use Rattle.fleet_search.specs.Search.{IsFrontier, moment_in}
+use Rattle.fleet_search.specs.declared.frontier.Node.{Node}
+use Rattle.fleet_search.specs.Search.{IsFrontier, state_in}
 use Rattle.fleet_model.proofs.Pigeon.{pigeonhole}
 use Rattle.fleet_search.proofs.Spread.{on_map}
 
--- the moments up to a time on a map of so many columns and rows, by numbers
-number_of : ℕ → ℕ → Moment → ℕ
+-- the states up to a time on a map of so many columns and rows, by numbers
+number_of : ℕ → ℕ → State → ℕ
 number_of w h m = m.time * (w * h) + (m.cell.y * w + m.cell.x)
 
-record IsInBox (w h t : ℕ) (m : Moment) : Type 0 where
+record IsInBox (w h t : ℕ) (m : State) : Type 0 where
   x : m.cell.x < w
   y : m.cell.y < h
   time : m.time < t
 
-number_of-lt : (w h t : ℕ) (m : Moment) → IsInBox w h t m → number_of w h m < (w * h) * t
+number_of-lt : (w h t : ℕ) (m : State) → IsInBox w h t m → number_of w h m < (w * h) * t
 unfolding number_of
 number_of-lt w h t m b = mul-add-lt m.time (w * h) (m.cell.y * w + m.cell.x) t b.time (mul-add-lt m.cell.y w m.cell.x h b.y b.x)
 
-number_of-one : (w h t : ℕ) (m n : Moment) → IsInBox w h t m → IsInBox w h t n → number_of w h m ≡ number_of w h n → m ≡ n
+number_of-one : (w h t : ℕ) (m n : State) → IsInBox w h t m → IsInBox w h t n → number_of w h m ≡ number_of w h n → m ≡ n
 unfolding number_of
 number_of-one w h t m n a b e =
     let p = same_from_place m.time (m.cell.y * w + m.cell.x) n.time (n.cell.y * w + n.cell.x) (w * h) (mul-add-lt m.cell.y w m.cell.x h a.y a.x) (mul-add-lt n.cell.y w n.cell.x h b.y b.x) e in
@@ -34,17 +34,17 @@ number_of-one w h t m n a b e =
     let ex = r.1 in
     λ i. record { time = et i; cell = record { x = ex i; y = ey i } }
 
--- how many moments there are up to the horizon
-pub room_of : Question → ℕ
+-- how many states there are up to the horizon
+pub room_of : Query → ℕ
 room_of q = (q.grid.now.width * q.grid.now.height) * (q.horizon + 1)
 
-pub few_known : (q : Question) (f : ℕ) (left : Option ℕ) (r : List Arrival) (labels : Labels) (stacks : List (Vec ℕ Global)) → IsFrontier q f left r labels stacks → length r ≤ room_of q
+pub few_known : (q : Query) (f : ℕ) (left : Option ℕ) (r : List Node) (labels : Labels) (stacks : List (Vec ℕ Global)) → IsFrontier q f left r labels stacks → length r ≤ room_of q
 unfolding room_of
 few_known q f left r labels stacks fr =
-    pigeonhole (length r) ((q.grid.now.width * q.grid.now.height) * (q.horizon + 1)) (λ i. number_of q.grid.now.width q.grid.now.height (moment_in r i)) (λ i l. number_of-lt q.grid.now.width q.grid.now.height (q.horizon + 1) (moment_in r i) (in_box i l)) (λ i j a b e. fr.apart i j a b (number_of-one q.grid.now.width q.grid.now.height (q.horizon + 1) (moment_in r i) (moment_in r j) (in_box i a) (in_box j b) e))
+    pigeonhole (length r) ((q.grid.now.width * q.grid.now.height) * (q.horizon + 1)) (λ i. number_of q.grid.now.width q.grid.now.height (state_in r i)) (λ i l. number_of-lt q.grid.now.width q.grid.now.height (q.horizon + 1) (state_in r i) (in_box i l)) (λ i j a b e. fr.apart i j a b (number_of-one q.grid.now.width q.grid.now.height (q.horizon + 1) (state_in r i) (state_in r j) (in_box i a) (in_box j b) e))
   where
-    in_box : (i : ℕ) → i < length r → IsInBox q.grid.now.width q.grid.now.height (q.horizon + 1) (moment_in r i)
+    in_box : (i : ℕ) → i < length r → IsInBox q.grid.now.width q.grid.now.height (q.horizon + 1) (state_in r i)
     in_box i h =
         let s = fr.sound i h in
-        let p = on_map q.grid.now (moment_in r i).cell fr.measured.far.ready.map s.on_ground in
+        let p = on_map q.grid.now (state_in r i).cell fr.measured.heuristic.ready.map s.on_ground in
         record { x = p.0; y = p.1; time = let b = s.in_time in omega arith }

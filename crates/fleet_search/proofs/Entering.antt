@@ -6,12 +6,12 @@ use Rattle.fleet_model.specs.declared.geometry.Cell.{Cell}
 use Rattle.fleet_model.proofs.Cells.{cell_cases}
 use Rattle.fleet_model.specs.declared.limits.TheConstants.{MAX_HORIZON}
 use Rattle.fleet_plan.specs.Plan.{Plan, cell_at}
-use Rattle.fleet_search.specs.declared.stay.Stay.{Stay}
+use Rattle.fleet_search.specs.declared.occupancy.Occupancy.{Occupancy}
 use Rattle.fleet_search.specs.Way.{Fits, joined, arrival}
-use Rattle.fleet_search.specs.Stays.{Rows, stays_of, IsDuring, IsAdded, AreInOrder, AreStays, HaveStays, without}
-use Rattle.fleet_search.proofs.Occupancy.{cell_at-late}
-use Rattle.fleet_search.proofs.Timetables.{AreStaysTo, AreInOrder-to, to-none, to-other, to-all_other, to-placed, to-last}
-use Rattle.fleet_search.proofs.StayRows.{without-placed, without-others}
+use Rattle.fleet_search.specs.Occupancies.{Rows, occupancies_of, IsDuring, IsAdded, AreInOrder, AreStays, HaveOccupancies, without}
+use Rattle.fleet_search.proofs.Occupants.{cell_at-late}
+use Rattle.fleet_search.proofs.ReservationTables.{AreStaysTo, AreInOrder-to, to-none, to-other, to-all_other, to-placed, to-last}
+use Rattle.fleet_search.proofs.OccupancyRows.{without-placed, without-others}
 
 -- what follows from both answers of a call
 pub either : {T E P Q X : Type 0} (r : Result T E) → OnOk r P → OnErr r Q → (P → X) → (Q → X) → X
@@ -20,23 +20,23 @@ either (Err e) p q f g = g q
 
 -- the stays before the time `from` are added, and since then the agent is on one cell
 pub record AreEntered (plan : Plan) (path : List Cell) (old new : Rows) (from time : ℕ) : Type 0 where
-  pub stays : (c : Cell) → AreStaysTo plan path from c (stays_of new c)
-  pub rest : (c : Cell) → without (length plan) (stays_of new c) ≡ stays_of old c
+  pub occupancies : (c : Cell) → AreStaysTo plan path from c (occupancies_of new c)
+  pub rest : (c : Cell) → without (length plan) (occupancies_of new c) ≡ occupancies_of old c
   pub since : from ≤ time
   pub same : (t : ℕ) → from ≤ t → t ≤ time → cell_at path t ≡ cell_at path time
 
-pub entered-none : (plan : Plan) (path : List Cell) (rows : Rows) → HaveStays plan rows → AreEntered plan path rows rows 0 0
+pub entered-none : (plan : Plan) (path : List Cell) (rows : Rows) → HaveOccupancies plan rows → AreEntered plan path rows rows 0 0
 entered-none plan path rows h = record {
-  stays = λ c. to-none plan path c (stays_of rows c) (h c);
-  rest = λ c. without-others plan c (stays_of rows c) (h c);
+  occupancies = λ c. to-none plan path c (occupancies_of rows c) (h c);
+  rest = λ c. without-others plan c (occupancies_of rows c) (h c);
   since = omega arith;
   same = λ t a b. ap (cell_at path) (omega arith);
 }
 
 -- the rest stays as it was, when a stay of the agent is added
-pub rest-added : (plan : Plan) (old now new : Rows) (cell : Cell) (stay : Stay) → ((c : Cell) → without (length plan) (stays_of now c) ≡ stays_of old c) → IsAdded now new cell stay → stay.agent ≡ length plan → (same : (c : Cell) → (c ≡ cell) ⊎ (c ≢ cell)) → (c : Cell) → without (length plan) (stays_of new c) ≡ stays_of old c
-rest-added plan old now new cell stay h a e same c = elim (same c) [
-  | inl s ↦ ap (λ z. without (length plan) (stays_of new z)) s ∙ without-placed (stays_of now cell) (stays_of new cell) stay (length plan) a.here e ∙ ap (λ z. without (length plan) (stays_of now z)) (sym s) ∙ h c
+pub rest-added : (plan : Plan) (old now new : Rows) (cell : Cell) (occupancy : Occupancy) → ((c : Cell) → without (length plan) (occupancies_of now c) ≡ occupancies_of old c) → IsAdded now new cell occupancy → occupancy.agent ≡ length plan → (same : (c : Cell) → (c ≡ cell) ⊎ (c ≢ cell)) → (c : Cell) → without (length plan) (occupancies_of new c) ≡ occupancies_of old c
+rest-added plan old now new cell occupancy h a e same c = elim (same c) [
+  | inl s ↦ ap (λ z. without (length plan) (occupancies_of new z)) s ∙ without-placed (occupancies_of now cell) (occupancies_of new cell) occupancy (length plan) a.here e ∙ ap (λ z. without (length plan) (occupancies_of now z)) (sym s) ∙ h c
   | inr ne ↦ ap (without (length plan)) (a.others c ne) ∙ h c
 ]
 
@@ -44,7 +44,7 @@ module _ (plan : Plan) (path : List Cell) (fits : Fits plan path) (old now : Row
   -- the agent stays
   pub entered-same : cell_at path time ≡ cell_at path (time + 1) → AreEntered plan path old now from (time + 1)
   entered-same e = record {
-    stays = h.stays;
+    occupancies = h.occupancies;
     rest = h.rest;
     since = let s = h.since in omega arith;
     same = λ t a b. elim (cases_eq t (time + 1)) [
@@ -53,30 +53,30 @@ module _ (plan : Plan) (path : List Cell) (fits : Fits plan path) (old now : Row
     ];
   }
 
-  pub entered-order : (c : Cell) → AreInOrder (stays_of now c)
-  entered-order c = AreInOrder-to plan path from c (stays_of now c) (h.stays c)
+  pub entered-order : (c : Cell) → AreInOrder (occupancies_of now c)
+  entered-order c = AreInOrder-to plan path from c (occupancies_of now c) (h.occupancies c)
 
-  module _ (new : Rows) (cell : Cell) (stay : Stay) (a : IsAdded now new cell stay) (at : cell ≡ cell_at path time) (agent : stay.agent ≡ length plan) (begin : stay.from ≡ from) (few : time ≤ MAX_HORIZON) where
+  module _ (new : Rows) (cell : Cell) (occupancy : Occupancy) (a : IsAdded now new cell occupancy) (at : cell ≡ cell_at path time) (agent : occupancy.agent ≡ length plan) (begin : occupancy.from ≡ from) (few : time ≤ MAX_HORIZON) where
     -- the agent goes on
-    pub entered-more : stay.until ≡ time → AreEntered plan path old new (time + 1) (time + 1)
+    pub entered-more : occupancy.until ≡ time → AreEntered plan path old new (time + 1) (time + 1)
     entered-more u = record {
-      stays = λ c. elim (cell_cases c cell) [
-        | inl s ↦ subst (λ z. AreStaysTo plan path (time + 1) z (stays_of new z)) (sym s) (to-placed plan path fits from cell (stays_of now cell) (stays_of new cell) stay (h.stays cell) a.here agent begin (let z = h.since in omega arith) (let z = h.since in omega arith) there time u h.since few)
-        | inr ne ↦ subst (λ z. AreStaysTo plan path (time + 1) c z) (sym (a.others c ne)) (to-other plan path from c (stays_of now c) (h.stays c) (time + 1) (let z = h.since in omega arith) (λ t l m e. ne (e ∙ h.same t l (omega arith) ∙ sym at)))
+      occupancies = λ c. elim (cell_cases c cell) [
+        | inl s ↦ subst (λ z. AreStaysTo plan path (time + 1) z (occupancies_of new z)) (sym s) (to-placed plan path fits from cell (occupancies_of now cell) (occupancies_of new cell) occupancy (h.occupancies cell) a.here agent begin (let z = h.since in omega arith) (let z = h.since in omega arith) there time u h.since few)
+        | inr ne ↦ subst (λ z. AreStaysTo plan path (time + 1) c z) (sym (a.others c ne)) (to-other plan path from c (occupancies_of now c) (h.occupancies c) (time + 1) (let z = h.since in omega arith) (λ t l m e. ne (e ∙ h.same t l (omega arith) ∙ sym at)))
       ];
-      rest = rest-added plan old now new cell stay h.rest a agent (λ c. cell_cases c cell);
+      rest = rest-added plan old now new cell occupancy h.rest a agent (λ c. cell_cases c cell);
       since = omega arith;
       same = λ t l m. ap (cell_at path) (omega arith);
     }
       where
-        there : (t : ℕ) → IsDuring stay t → cell_at path t ≡ cell
+        there : (t : ℕ) → IsDuring occupancy t → cell_at path t ≡ cell
         there t d = h.same t (let l = d.0 in omega arith) (elim (d.1) [ inl l ↦ omega arith | inr l ↦ omega arith ]) ∙ sym at
 
     -- the agent has arrived
-    pub entered-all : stay.until ≡ 4294967295 → arrival path ≤ time → HaveStays (joined plan path) new
+    pub entered-all : occupancy.until ≡ 4294967295 → arrival path ≤ time → HaveOccupancies (joined plan path) new
     entered-all u arrived c = elim (cell_cases c cell) [
-      | inl s ↦ subst (λ z. AreStays (joined plan path) z (stays_of new z)) (sym s) (to-last plan path fits from cell (stays_of now cell) (stays_of new cell) stay (h.stays cell) a.here agent begin (let z = h.since in omega arith) (let z = h.since in omega arith) (λ t d. there t (let l = d.0 in omega arith)) u)
-      | inr ne ↦ subst (AreStays (joined plan path) c) (sym (a.others c ne)) (to-all_other plan path from c (stays_of now c) (h.stays c) (λ t l e. ne (e ∙ there t l)))
+      | inl s ↦ subst (λ z. AreStays (joined plan path) z (occupancies_of new z)) (sym s) (to-last plan path fits from cell (occupancies_of now cell) (occupancies_of new cell) occupancy (h.occupancies cell) a.here agent begin (let z = h.since in omega arith) (let z = h.since in omega arith) (λ t d. there t (let l = d.0 in omega arith)) u)
+      | inr ne ↦ subst (AreStays (joined plan path) c) (sym (a.others c ne)) (to-all_other plan path from c (occupancies_of now c) (h.occupancies c) (λ t l e. ne (e ∙ there t l)))
     ]
       where
         there : (t : ℕ) → from ≤ t → cell_at path t ≡ cell
@@ -85,5 +85,5 @@ module _ (plan : Plan) (path : List Cell) (fits : Fits plan path) (old now : Row
           | inr m ↦ cell_at-late path t (omega arith) ∙ sym (cell_at-late path time arrived) ∙ sym at
         ]
 
-    pub entered-rest : (c : Cell) → without (length plan) (stays_of new c) ≡ stays_of old c
-    entered-rest = rest-added plan old now new cell stay h.rest a agent (λ c. cell_cases c cell)
+    pub entered-rest : (c : Cell) → without (length plan) (occupancies_of new c) ≡ occupancies_of old c
+    entered-rest = rest-added plan old now new cell occupancy h.rest a agent (λ c. cell_cases c cell)

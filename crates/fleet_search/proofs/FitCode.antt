@@ -6,7 +6,7 @@ use Rattle.fleet_plan.specs.Plan.{Plan, cell_at}
 use Rattle.fleet_search.specs.Way.{Fits, StepFits, arrival}
 use Rattle.fleet_search.specs.Reserved.{IsOn, IsFree, IsFreeFrom}
 use Rattle.fleet_search.proofs.Steps.{each_step, from_each_step}
-use Rattle.fleet_search.proofs.Occupancy.{cell_at-late}
+use Rattle.fleet_search.proofs.Occupants.{cell_at-late}
 
 -- each step before the time fits, and nobody stands on the first cell
 pub record FitsUpTo (plan : Plan) (path : List Cell) (n : ℕ) : Type 0 where

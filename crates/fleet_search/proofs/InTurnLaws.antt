@@ -9,8 +9,8 @@ use Rattle.fleet_model.specs.declared.geometry.Place.{Place}
 use Rattle.fleet_model.specs.Program.{origin}
 use Rattle.fleet_model.specs.declared.task.Task.{Task}
 use Rattle.fleet_plan.specs.Plan.{Plan, cell_of, last_cell, IsConflictFree}
-use Rattle.fleet_search.specs.Way.{FitTogether, IsEarliest, HasNoWay}
-use Rattle.fleet_search.specs.InTurn.{IsMadeInTurn, IsStuckAt}
+use Rattle.fleet_search.specs.Way.{FitTogether, IsEarliest, IsInfeasible}
+use Rattle.fleet_search.specs.InTurn.{IsPrioritisedPlan, HasNoPathFor}
 use Rattle.fleet_search.specs.declared.fault.PlanStop.{PlanStop}
 use Rattle.fleet_search.specs.declared.fault.PlanStop.TheVariants.{OutOfMemory, NoPath}
 use Rattle.fleet_search.proofs.OneByOne.{one_by_one}
@@ -22,13 +22,13 @@ nobody = record { start = origin; goal = origin }
 pub task_of : (tasks : List Task) (i : ℕ) → i < length tasks → (t : Task) × (slice_get tasks i ≡ Some t)
 task_of tasks i h = (get_or tasks i nobody, slice_get-get_or tasks i nobody h)
 
-pub in_turn_together : (passable : Place → Bool) (tasks : List Task) (horizon n : ℕ) (plan : Plan) → n ≤ length tasks → IsMadeInTurn passable tasks horizon n plan → FitTogether plan
+pub in_turn_together : (passable : Place → Bool) (tasks : List Task) (horizon n : ℕ) (plan : Plan) → n ≤ length tasks → IsPrioritisedPlan passable tasks horizon n plan → FitTogether plan
 in_turn_together passable tasks horizon n plan few made i h =
     let l : i < n = (let a = made.agents in omega arith) in
     let t = task_of tasks i (omega arith) in
     (made.each i t.0 l t.1).way.fits
 
-pub in_turn_free : (passable : Place → Bool) (tasks : List Task) (horizon : ℕ) (plan : Plan) → IsMadeInTurn passable tasks horizon (length tasks) plan → IsConflictFree passable tasks plan
+pub in_turn_free : (passable : Place → Bool) (tasks : List Task) (horizon : ℕ) (plan : Plan) → IsPrioritisedPlan passable tasks horizon (length tasks) plan → IsConflictFree passable tasks plan
 unfolding cell_of last_cell
 in_turn_free passable tasks horizon plan made =
     let free = one_by_one plan (in_turn_together passable tasks horizon (length tasks) plan (omega arith) made) in
@@ -50,8 +50,8 @@ read_task tasks n start goal a b t e = (
   sym (same_Some t.goal goal (sym (ap (option_map (λ (z : Task). z.goal)) e) ∙ b)),
 )
 
-pub in_turn-more : (passable : Place → Bool) (tasks : List Task) (horizon n : ℕ) (plan all : Plan) (path : List Cell) (start goal : Cell) → IsMadeInTurn passable tasks horizon n plan → option_map (λ (t : Task). t.start) (slice_get tasks n) ≡ Some start → option_map (λ (t : Task). t.goal) (slice_get tasks n) ≡ Some goal → IsEarliest passable plan start goal horizon path → all ≡ plan ++ path ∷ [] → IsMadeInTurn passable tasks horizon (n + 1) all
-in_turn-more passable tasks horizon n plan all path start goal made a b here e = subst (IsMadeInTurn passable tasks horizon (n + 1)) (sym e) (record {
+pub in_turn-more : (passable : Place → Bool) (tasks : List Task) (horizon n : ℕ) (plan all : Plan) (path : List Cell) (start goal : Cell) → IsPrioritisedPlan passable tasks horizon n plan → option_map (λ (t : Task). t.start) (slice_get tasks n) ≡ Some start → option_map (λ (t : Task). t.goal) (slice_get tasks n) ≡ Some goal → IsEarliest passable plan start goal horizon path → all ≡ plan ++ path ∷ [] → IsPrioritisedPlan passable tasks horizon (n + 1) all
+in_turn-more passable tasks horizon n plan all path start goal made a b here e = subst (IsPrioritisedPlan passable tasks horizon (n + 1)) (sym e) (record {
   agents = length_push plan path ∙ ap (λ z. z + 1) made.agents;
   each = λ i t h g. elim (cases_eq i n) [
     | inl s ↦
@@ -69,7 +69,7 @@ in_turn-more passable tasks horizon n plan all path start goal made a b here e =
 })
 
 -- the agent that has no way is stuck
-pub stuck_at : (passable : Place → Bool) (tasks : List Task) (horizon n : ℕ) (plan : Plan) (start goal : Cell) → n < length tasks → IsMadeInTurn passable tasks horizon n plan → option_map (λ (t : Task). t.start) (slice_get tasks n) ≡ Some start → option_map (λ (t : Task). t.goal) (slice_get tasks n) ≡ Some goal → HasNoWay passable plan start goal horizon → IsStuckAt passable tasks horizon n
+pub stuck_at : (passable : Place → Bool) (tasks : List Task) (horizon n : ℕ) (plan : Plan) (start goal : Cell) → n < length tasks → IsPrioritisedPlan passable tasks horizon n plan → option_map (λ (t : Task). t.start) (slice_get tasks n) ≡ Some start → option_map (λ (t : Task). t.goal) (slice_get tasks n) ≡ Some goal → IsInfeasible passable plan start goal horizon → HasNoPathFor passable tasks horizon n
 stuck_at passable tasks horizon n plan start goal l made a b none =
     let t = task_of tasks n l in
     let r = read_task tasks n start goal a b t.0 t.1 in
@@ -78,7 +78,7 @@ stuck_at passable tasks horizon n plan start goal l made a b none =
       here = t.1;
       plan = plan;
       before = made;
-      stuck = subst (λ z. HasNoWay passable plan z t.0.goal horizon) r.0 (subst (λ z. HasNoWay passable plan start z horizon) r.1 none);
+      stuck = subst (λ z. IsInfeasible passable plan z t.0.goal horizon) r.0 (subst (λ z. IsInfeasible passable plan start z horizon) r.1 none);
     }
 
 -- the agent that is named

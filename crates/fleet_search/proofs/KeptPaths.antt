@@ -7,8 +7,8 @@ use Rattle.fleet_model.specs.declared.geometry.Cell.{Cell}
 use Rattle.fleet_model.specs.declared.geometry.Place.{Place}
 use Rattle.fleet_model.specs.declared.task.Task.{Task}
 use Rattle.fleet_plan.specs.Plan.{Plan, cell_of}
-use Rattle.fleet_search.specs.Way.{arrival, Fits, Follow, IsWay, IsEarliest, HasNoWay}
-use Rattle.fleet_search.specs.InTurn.{IsMadeInTurn, IsStuckAt}
+use Rattle.fleet_search.specs.Way.{arrival, Fits, Follow, IsFeasiblePath, IsEarliest, IsInfeasible}
+use Rattle.fleet_search.specs.InTurn.{IsPrioritisedPlan, HasNoPathFor}
 use Rattle.fleet_search.specs.Orders.{no_task, tasks_by, to_front}
 use Rattle.fleet_search.proofs.Steps.{each_step, from_each_step}
 use Rattle.fleet_search.proofs.InTurnLaws.{task_of, in_turn-more, stuck_at}
@@ -32,7 +32,7 @@ fits-fewer first reserved path fits =
       };
     })
 
-way-fewer : (passable : Place → Bool) (first : List Cell) (reserved : Plan) (start goal : Cell) (path : List Cell) → IsWay passable (first ∷ reserved) start goal path → IsWay passable reserved start goal path
+way-fewer : (passable : Place → Bool) (first : List Cell) (reserved : Plan) (start goal : Cell) (path : List Cell) → IsFeasiblePath passable (first ∷ reserved) start goal path → IsFeasiblePath passable reserved start goal path
 way-fewer passable first reserved start goal path w = record {
   some_cells = w.some_cells;
   starts = w.starts;
@@ -58,7 +58,7 @@ earliest-more passable first reserved start goal horizon path e fits = record {
 }
 
 -- what was the earliest among other ways is so among these, if it fits and none of them arrives sooner
-pub earliest-again : (passable : Place → Bool) (others reserved : Plan) (start goal : Cell) (horizon sooner : ℕ) (path : List Cell) → IsEarliest passable others start goal horizon path → Fits reserved path → arrival path ≤ sooner + 1 → (1 ≤ arrival path → HasNoWay passable reserved start goal sooner) → IsEarliest passable reserved start goal horizon path
+pub earliest-again : (passable : Place → Bool) (others reserved : Plan) (start goal : Cell) (horizon sooner : ℕ) (path : List Cell) → IsEarliest passable others start goal horizon path → Fits reserved path → arrival path ≤ sooner + 1 → (1 ≤ arrival path → IsInfeasible passable reserved start goal sooner) → IsEarliest passable reserved start goal horizon path
 earliest-again passable others reserved start goal horizon sooner path e fits late none = record {
   way = record {
     some_cells = e.way.some_cells;
@@ -101,7 +101,7 @@ pub later_task : (tasks : List Task) (j : ℕ) → slice_get (drop 1 tasks) j �
 later_task [] j = refl
 later_task (t ∷ tasks) j = refl
 
-pub kept_made : (passable : Place → Bool) (tasks : List Task) (horizon : ℕ) (first : List Cell) (paths : Plan) (n : ℕ) → IsMadeInTurn passable tasks horizon 1 (first ∷ []) → IsMadeInTurn passable (drop 1 tasks) horizon (length paths) paths → n ≤ length paths → ((i : ℕ) → i < n → Fits (first ∷ take i paths) (get_or paths i [])) → IsMadeInTurn passable tasks horizon (n + 1) (first ∷ take n paths)
+pub kept_made : (passable : Place → Bool) (tasks : List Task) (horizon : ℕ) (first : List Cell) (paths : Plan) (n : ℕ) → IsPrioritisedPlan passable tasks horizon 1 (first ∷ []) → IsPrioritisedPlan passable (drop 1 tasks) horizon (length paths) paths → n ≤ length paths → ((i : ℕ) → i < n → Fits (first ∷ take i paths) (get_or paths i [])) → IsPrioritisedPlan passable tasks horizon (n + 1) (first ∷ take n paths)
 kept_made passable tasks horizon first paths n one made few fits = record {
   agents = (let e : length (take n paths) ≡ n = length-in-take paths n few in omega arith);
   each = each;
@@ -126,7 +126,7 @@ front_stays (a ∷ order) zero i h l = absurd (omega arith)
 front_stays (a ∷ order) (suc place) zero h l = refl
 front_stays (a ∷ order) (suc place) (suc i) h l = front_stays order place i (omega arith) (omega arith)
 
-pub made_after_raise : (passable : Place → Bool) (tasks : List Task) (horizon : ℕ) (order : List ℕ) (paths : Plan) → length paths < length order → IsMadeInTurn passable (tasks_by order tasks) horizon (length paths) paths → IsMadeInTurn passable (drop 1 (tasks_by (to_front order (length paths)) tasks)) horizon (length paths) paths
+pub made_after_raise : (passable : Place → Bool) (tasks : List Task) (horizon : ℕ) (order : List ℕ) (paths : Plan) → length paths < length order → IsPrioritisedPlan passable (tasks_by order tasks) horizon (length paths) paths → IsPrioritisedPlan passable (drop 1 (tasks_by (to_front order (length paths)) tasks)) horizon (length paths) paths
 made_after_raise passable tasks horizon order paths few made = record {
   agents = refl;
   each = λ i task h t. made.each i task h (
@@ -137,15 +137,15 @@ made_after_raise passable tasks horizon order paths few made = record {
 
 -- ---- one path more
 
-pub none_made : (passable : Place → Bool) (tasks : List Task) (horizon : ℕ) → IsMadeInTurn passable tasks horizon 0 []
+pub none_made : (passable : Place → Bool) (tasks : List Task) (horizon : ℕ) → IsPrioritisedPlan passable tasks horizon 0 []
 none_made passable tasks horizon = record { agents = refl; each = λ i task h t. absurd (omega arith) }
 
-pub in_turn-added : (passable : Place → Bool) (tasks : List Task) (horizon n : ℕ) (plan all : Plan) (path : List Cell) → n < length tasks → IsMadeInTurn passable tasks horizon n plan → ((task : Task) → slice_get tasks n ≡ Some task → IsEarliest passable plan task.start task.goal horizon path) → all ≡ plan ++ path ∷ [] → IsMadeInTurn passable tasks horizon (n + 1) all
+pub in_turn-added : (passable : Place → Bool) (tasks : List Task) (horizon n : ℕ) (plan all : Plan) (path : List Cell) → n < length tasks → IsPrioritisedPlan passable tasks horizon n plan → ((task : Task) → slice_get tasks n ≡ Some task → IsEarliest passable plan task.start task.goal horizon path) → all ≡ plan ++ path ∷ [] → IsPrioritisedPlan passable tasks horizon (n + 1) all
 in_turn-added passable tasks horizon n plan all path l made here e =
     let t = task_of tasks n l in
     in_turn-more passable tasks horizon n plan all path t.0.start t.0.goal made (ap (option_map (λ (z : Task). z.start)) t.1) (ap (option_map (λ (z : Task). z.goal)) t.1) (here t.0 t.1) e
 
-pub stuck_here : (passable : Place → Bool) (tasks : List Task) (horizon n : ℕ) (plan : Plan) → n < length tasks → IsMadeInTurn passable tasks horizon n plan → ((task : Task) → slice_get tasks n ≡ Some task → HasNoWay passable plan task.start task.goal horizon) → IsStuckAt passable tasks horizon n
+pub stuck_here : (passable : Place → Bool) (tasks : List Task) (horizon n : ℕ) (plan : Plan) → n < length tasks → IsPrioritisedPlan passable tasks horizon n plan → ((task : Task) → slice_get tasks n ≡ Some task → IsInfeasible passable plan task.start task.goal horizon) → HasNoPathFor passable tasks horizon n
 stuck_here passable tasks horizon n plan l made none =
     let t = task_of tasks n l in
     stuck_at passable tasks horizon n plan t.0.start t.0.goal l made (ap (option_map (λ (z : Task). z.start)) t.1) (ap (option_map (λ (z : Task). z.goal)) t.1) (none t.0 t.1)

@@ -5,7 +5,7 @@ use Rattle.std.specs.declared.alloc.Global.{Global}
 use Rattle.std.proofs.lemmas.Bool.{cases_eq, eq-eqb, eqb-true, false_from_ne_true}
 use Rattle.std.proofs.lemmas.List.{get_or_push, get_or_append_left, length-map, map-append}
 use Rattle.fleet_table.specs.Table.{value_in, IsSet}
-use Rattle.fleet_search.proofs.StayRows.{list-read, list-set, list-other}
+use Rattle.fleet_search.proofs.OccupancyRows.{list-read, list-set, list-other}
 use Rattle.fleet_search.specs.declared.labels.Label.{Label}
 use Rattle.fleet_search.specs.declared.labels.Labels.{Labels}
 use Rattle.fleet_search.specs.Labels.{no_label, later_in, label_in, earliest_in, AreLabels, AreRowsApart, IsLabelPut, IsLabelSet}

@@ -8,24 +8,24 @@ use Rattle.fleet_model.specs.declared.geometry.Cell.{Cell}
 use Rattle.fleet_model.specs.declared.geometry.Place.{Place}
 use Rattle.fleet_model.specs.Geometry.{place_of}
 use Rattle.fleet_plan.specs.Plan.{Plan, cell_at, AreNeighbours}
-use Rattle.fleet_search.specs.declared.frontier.Question.{Question}
+use Rattle.fleet_search.specs.declared.frontier.Query.{Query}
 use Rattle.fleet_search.specs.declared.labels.Labels.{Labels}
-use Rattle.fleet_search.specs.declared.frontier.Arrival.{Arrival}
+use Rattle.fleet_search.specs.declared.frontier.Node.{Node}
 use Rattle.fleet_grid.specs.Ground.{is_passable}
-use Rattle.fleet_search.specs.Way.{arrival, StepFits, IsWay, IsEarliest, HasNoWay}
+use Rattle.fleet_search.specs.Way.{arrival, StepFits, IsFeasiblePath, IsEarliest, IsInfeasible}
 use Rattle.fleet_search.specs.Rows.{row_in}
 use Rattle.fleet_search.specs.Reserved.{IsFree, IsFreeFrom, IsFreeOn}
-use Rattle.fleet_search.specs.Search.{far_of, IsMeasured, IsStep, IsSlot, IsEnd, moment_in, IsKnown, IsCovered, IsExpanded, IsSuperseded, IsSettled, IsFrontier, IsAsked, IsTrail}
+use Rattle.fleet_search.specs.Search.{heuristic_of, IsMeasured, IsStep, IsBucket, IsEnd, state_in, IsKnown, IsCovered, IsExpanded, IsSuperseded, IsSettled, IsFrontier, IsAsked, IsTrail}
 use Rattle.fleet_search.proofs.Steps.{each_step, from_each_step}
 use Rattle.fleet_search.proofs.FitCode.{fits-free}
-use Rattle.fleet_search.proofs.Occupancy.{cell_at-late}
-use Rattle.fleet_search.proofs.SearchSteps.{near-beside, slot-below}
+use Rattle.fleet_search.proofs.Occupants.{cell_at-late}
+use Rattle.fleet_search.proofs.SearchSteps.{near-beside, bucket-below}
 
 -- a way of what is asked
-abbrev pub IsWayOf : Question → List Cell → Type 0
-IsWayOf q path = IsWay (is_passable q.grid.now) q.reserved.now q.start q.goal path
+abbrev pub IsFeasiblePathOf : Query → List Cell → Type 0
+IsFeasiblePathOf q path = IsFeasiblePath (is_passable q.grid.now) q.reserved.now q.start q.goal path
 
-way-step : (q : Question) (path : List Cell) → IsWayOf q path → (t : ℕ) → IsStep q t (cell_at path t) (cell_at path (t + 1))
+way-step : (q : Query) (path : List Cell) → IsFeasiblePathOf q path → (t : ℕ) → IsStep q t (cell_at path t) (cell_at path (t + 1))
 way-step q path w t = record {
   beside = w.successive t;
   on_ground = w.on_ground (t + 1);
@@ -33,24 +33,24 @@ way-step q path w t = record {
 }
 
 -- as many steps are left as the distance at least
-way-far : (q : Question) → IsMeasured q → (path : List Cell) → IsWayOf q path → (k t : ℕ) → t + k ≡ arrival path → t + far_of q (cell_at path t) ≤ arrival path
-way-far q m path w zero t e =
+way-heuristic : (q : Query) → IsMeasured q → (path : List Cell) → IsFeasiblePathOf q path → (k t : ℕ) → t + k ≡ arrival path → t + heuristic_of q (cell_at path t) ≤ arrival path
+way-heuristic q m path w zero t e =
     let there : cell_at path t ≡ q.goal = ap (cell_at path) (let z : t ≡ arrival path = omega arith in z) ∙ w.ends in
-    let none : far_of q (cell_at path t) ≡ 0 = ap (far_of q) there ∙ m.far.at_goal in
+    let none : heuristic_of q (cell_at path t) ≡ 0 = ap (heuristic_of q) there ∙ m.heuristic.at_goal in
     omega arith
-way-far q m path w (suc k) t e =
-    let rest = way-far q m path w k (t + 1) (omega arith) in
+way-heuristic q m path w (suc k) t e =
+    let goal_free_from = way-heuristic q m path w k (t + 1) (omega arith) in
     let n = near-beside q m (cell_at path t) (cell_at path (t + 1)) (w.on_ground t) (w.on_ground (t + 1)) (way-step q path w t).beside in
     let a = n.1 in
     omega arith
 
-way-bound : (q : Question) → IsMeasured q → (path : List Cell) → IsWayOf q path → (t : ℕ) → t ≤ arrival path → t + far_of q (cell_at path t) ≤ arrival path
-way-bound q m path w t h = way-far q m path w (arrival path - t) t (omega arith)
+way-bound : (q : Query) → IsMeasured q → (path : List Cell) → IsFeasiblePathOf q path → (t : ℕ) → t ≤ arrival path → t + heuristic_of q (cell_at path t) ≤ arrival path
+way-bound q m path w t h = way-heuristic q m path w (arrival path - t) t (omega arith)
 
-way-least : (q : Question) → IsMeasured q → (path : List Cell) → IsWayOf q path → far_of q q.start ≤ arrival path
-way-least q m path w = let h = way-bound q m path w 0 (omega arith) in let e = ap (far_of q) w.starts in omega arith
+way-least : (q : Query) → IsMeasured q → (path : List Cell) → IsFeasiblePathOf q path → heuristic_of q q.start ≤ arrival path
+way-least q m path w = let h = way-bound q m path w 0 (omega arith) in let e = ap (heuristic_of q) w.starts in omega arith
 
-module _ (passable : Place → Bool) (reserved : Plan) (start goal : Cell) (path : List Cell) (w : IsWay passable reserved start goal path) where
+module _ (passable : Place → Bool) (reserved : Plan) (start goal : Cell) (path : List Cell) (w : IsFeasiblePath passable reserved start goal path) where
   way-free_at : (t : ℕ) → IsFree reserved t (cell_at path t)
   way-free_at t = fits-free reserved path w.fits t
 
@@ -62,17 +62,17 @@ module _ (passable : Place → Bool) (reserved : Plan) (start goal : Cell) (path
   pub no-way-taken : IsFree reserved 0 start
   no-way-taken j p e = way-free_at 0 j p (e ∙ sym w.starts)
 
-free-always : (q : Question) (path : List Cell) → IsWayOf q path → (t : ℕ) → IsFree q.reserved.now t (cell_at path t)
+free-always : (q : Query) (path : List Cell) → IsFeasiblePathOf q path → (t : ℕ) → IsFree q.reserved.now t (cell_at path t)
 free-always q path w t = way-free_at (is_passable q.grid.now) q.reserved.now q.start q.goal path w t
 
-way-free : (q : Question) (path : List Cell) → IsWayOf q path → IsFreeFrom q.reserved.now q.goal (arrival path)
+way-free : (q : Query) (path : List Cell) → IsFeasiblePathOf q path → IsFreeFrom q.reserved.now q.goal (arrival path)
 way-free q path w = no-way-busy (is_passable q.grid.now) q.reserved.now q.start q.goal path w
 
 -- no way is shorter than the distance
-pub no-way-far : (q : Question) → IsMeasured q → (path : List Cell) → IsWayOf q path → (horizon : ℕ) → horizon < far_of q q.start → arrival path ≤ horizon → ⊥
-no-way-far q m path w horizon l h = let least = way-least q m path w in omega arith
+pub no-way-heuristic : (q : Query) → IsMeasured q → (path : List Cell) → IsFeasiblePathOf q path → (horizon : ℕ) → horizon < heuristic_of q q.start → arrival path ≤ horizon → ⊥
+no-way-heuristic q m path w horizon l h = let least = way-least q m path w in omega arith
 
-module _ (q : Question) (f : ℕ) (left : Option ℕ) (r : List Arrival) (labels : Labels) (stacks : List (Vec ℕ Global)) (fr : IsFrontier q f left r labels stacks) (bound : (i : ℕ) → left ≡ Some i → IsSlot q (moment_in r i) f) (ask : IsAsked q) (path : List Cell) (w : IsWayOf q path) (in_time : arrival path ≤ q.horizon) (late : q.rest < f) (sooner : arrival path < f) where
+module _ (q : Query) (f : ℕ) (left : Option ℕ) (r : List Node) (labels : Labels) (open_list : List (Vec ℕ Global)) (fr : IsFrontier q f left r labels open_list) (bound : (i : ℕ) → left ≡ Some i → IsBucket q (state_in r i) f) (ask : IsAsked q) (path : List Cell) (w : IsFeasiblePathOf q path) (in_time : arrival path ≤ q.horizon) (late : q.goal_free_from < f) (sooner : arrival path < f) where
   -- all moves from the cell of the way at time t were noted, from a time since which it is free
   record IsLeftBy (t : ℕ) : Type 0 where
     since : ℕ
@@ -80,17 +80,17 @@ module _ (q : Question) (f : ℕ) (left : Option ℕ) (r : List Arrival) (labels
     free : IsFreeOn q.reserved.now (cell_at path t) since t
     expanded : IsExpanded q r (record { time = since; cell = cell_at path t })
 
-  -- a moment of the way is on no stack, and is not just being left
-  not-open : (t s k i : ℕ) → t ≤ arrival path → s ≤ t → moment_in r i ≡ record { time = s; cell = cell_at path t } → IsSlot q (moment_in r i) k → k < f
-  not-open t s k i h l e slot =
+  -- a state of the way is on no bucket, and is not just being left
+  not-open : (t s k i : ℕ) → t ≤ arrival path → s ≤ t → state_in r i ≡ record { time = s; cell = cell_at path t } → IsBucket q (state_in r i) k → k < f
+  not-open t s k i h l e bucket =
       let b = way-bound q fr.measured path w t h in
-      slot-below q (record { time = s; cell = cell_at path t }) k f (subst (λ z. IsSlot q z k) e slot) (omega arith) late
+      bucket-below q (record { time = s; cell = cell_at path t }) k f (subst (λ z. IsBucket q z k) e bucket) (omega arith) late
 
-  -- all moves from the moment were noted, or from one that was reached sooner
+  -- all moves from the state were noted, or from one that was reached sooner
   left-after : (t : ℕ) → t ≤ arrival path → (cv : IsCovered q r (cell_at path t) t) → ((before : IsCovered q r (cell_at path t) t) → before.since < cv.since → IsLeftBy t) → IsLeftBy t
   left-after t h cv sooner = go (fr.done cv.known.0 cv.known.1)
     where
-      go : ((k : ℕ) × Contains (row_in stacks k) cv.known.0) ⊎ ((left ≡ Some cv.known.0) ⊎ IsSettled q r (moment_in r cv.known.0)) → IsLeftBy t
+      go : ((k : ℕ) × Contains (row_in open_list k) cv.known.0) ⊎ ((left ≡ Some cv.known.0) ⊎ IsSettled q r (state_in r cv.known.0)) → IsLeftBy t
       go (inl x) =
           let l = not-open t cv.since x.0 cv.known.0 h cv.early cv.known.2 (fr.stacked x.0 cv.known.0 x.1).1 in
           absurd (let z = (subst (λ z. Contains z cv.known.0) (fr.past x.0 l) x.1).1 in omega arith)
@@ -145,26 +145,26 @@ module _ (q : Question) (f : ℕ) (left : Option ℕ) (r : List Arrival) (labels
       let b = left-on T (omega arith) in
       b.expanded.not_end (
         w.ends,
-        (ask.rest b.since).0 (λ u x. elim (cases_lt T u) [
+        (ask.goal_free_from b.since).0 (λ u x. elim (cases_lt T u) [
           | inl l ↦ way-free q path w u (omega arith)
           | inr l ↦ subst (IsFree q.reserved.now u) w.ends (b.free u x l)
         ]),
       )
 
 -- no way arrives before this time
-pub at_least : (q : Question) (f : ℕ) (left : Option ℕ) (r : List Arrival) (labels : Labels) (stacks : List (Vec ℕ Global)) → IsFrontier q f left r labels stacks → ((i : ℕ) → left ≡ Some i → IsSlot q (moment_in r i) f) → IsAsked q → (path : List Cell) → IsWayOf q path → arrival path ≤ q.horizon → q.rest < f → f ≤ arrival path
-at_least q f left r labels stacks fr bound ask path w in_time late = elim (cases_lt (arrival path) f) [
-  | inl s ↦ absurd (none-sooner q f left r labels stacks fr bound ask path w in_time late s)
+pub at_least : (q : Query) (f : ℕ) (left : Option ℕ) (r : List Node) (labels : Labels) (open_list : List (Vec ℕ Global)) → IsFrontier q f left r labels open_list → ((i : ℕ) → left ≡ Some i → IsBucket q (state_in r i) f) → IsAsked q → (path : List Cell) → IsFeasiblePathOf q path → arrival path ≤ q.horizon → q.goal_free_from < f → f ≤ arrival path
+at_least q f left r labels open_list fr bound ask path w in_time late = elim (cases_lt (arrival path) f) [
+  | inl s ↦ absurd (none-sooner q f left r labels open_list fr bound ask path w in_time late s)
   | inr h ↦ h
 ]
 
 -- no way arrives before the goal is free for good
-pub way-rest : (q : Question) → IsAsked q → (path : List Cell) → IsWayOf q path → q.rest ≤ arrival path
-way-rest q ask path w = (ask.rest (arrival path)).0 (way-free q path w)
+pub way-goal_free_from : (q : Query) → IsAsked q → (path : List Cell) → IsFeasiblePathOf q path → q.goal_free_from ≤ arrival path
+way-goal_free_from q ask path w = (ask.goal_free_from (arrival path)).0 (way-free q path w)
 
 -- ---- a trail that ends at the goal, when it is free for good, is a way
 
-module _ (q : Question) (ask : IsAsked q) (n : ℕ) (path : List Cell) (tr : IsTrail q n q.goal path) (rest : q.rest ≤ n) where
+module _ (q : Query) (ask : IsAsked q) (n : ℕ) (path : List Cell) (tr : IsTrail q n q.goal path) (goal_free_from : q.goal_free_from ≤ n) where
   arrives : arrival path ≡ n
   arrives = let l = tr.long in omega arith
 
@@ -177,11 +177,11 @@ module _ (q : Question) (ask : IsAsked q) (n : ℕ) (path : List Cell) (tr : IsT
 
   resting : (t : ℕ) → n ≤ t → StepFits q.reserved.now t (cell_at path t) (cell_at path (t + 1))
   resting t h = record {
-    vertex = λ j p e. (ask.rest n).1 rest (t + 1) (omega arith) j p (e ∙ late (t + 1) (omega arith));
+    vertex = λ j p e. (ask.goal_free_from n).1 goal_free_from (t + 1) (omega arith) j p (e ∙ late (t + 1) (omega arith));
     ring = λ ne. absurd (ne (late t h ∙ sym (late (t + 1) (omega arith))));
   }
 
-  pub trail_is_way : IsWayOf q path
+  pub trail_is_way : IsFeasiblePathOf q path
   trail_is_way = record {
     some_cells = (let l = tr.long in omega arith);
     starts = tr.starts;
@@ -201,21 +201,21 @@ module _ (q : Question) (ask : IsAsked q) (n : ℕ) (path : List Cell) (tr : IsT
   }
 
 -- the first end that is found is one of an earliest way
-pub found_earliest : (q : Question) (f place : ℕ) (r : List Arrival) (labels : Labels) (stacks : List (Vec ℕ Global)) (path : List Cell) → IsAsked q → IsFrontier q f (Some place) r labels stacks → place < length r → IsSlot q (moment_in r place) f → IsEnd q (moment_in r place) → IsTrail q (moment_in r place).time (moment_in r place).cell path → IsEarliest (is_passable q.grid.now) q.reserved.now q.start q.goal q.horizon path
-found_earliest q f place r labels stacks path ask fr within slot end tr = record {
-  way = trail_is_way q ask (moment_in r place).time path (subst (λ z. IsTrail q (moment_in r place).time z path) end.0 tr) end.1;
+pub found_earliest : (q : Query) (f place : ℕ) (r : List Node) (labels : Labels) (open_list : List (Vec ℕ Global)) (path : List Cell) → IsAsked q → IsFrontier q f (Some place) r labels open_list → place < length r → IsBucket q (state_in r place) f → IsEnd q (state_in r place) → IsTrail q (state_in r place).time (state_in r place).cell path → IsEarliest (is_passable q.grid.now) q.reserved.now q.start q.goal q.horizon path
+found_earliest q f place r labels open_list path ask fr within bucket end tr = record {
+  way = trail_is_way q ask (state_in r place).time path (subst (λ z. IsTrail q (state_in r place).time z path) end.0 tr) end.1;
   in_time = (let t = time in let b = (fr.sound place within).in_time in omega arith);
-  none_sooner = λ other w. sooner other w slot;
+  none_sooner = λ other w. sooner other w bucket;
 }
   where
-    time : arrival path ≡ (moment_in r place).time
+    time : arrival path ≡ (state_in r place).time
     time = let l = tr.long in omega arith
 
-    near : far_of q (moment_in r place).cell ≡ 0
-    near = ap (far_of q) end.0 ∙ fr.measured.far.at_goal
+    near : heuristic_of q (state_in r place).cell ≡ 0
+    near = ap (heuristic_of q) end.0 ∙ fr.measured.heuristic.at_goal
 
-    sooner : (other : List Cell) → IsWayOf q other → IsSlot q (moment_in r place) f → arrival path ≤ arrival other
-    sooner other w (inl a) = let x = a.0 in let y = way-rest q ask other w in let t = time in omega arith
+    sooner : (other : List Cell) → IsFeasiblePathOf q other → IsBucket q (state_in r place) f → arrival path ≤ arrival other
+    sooner other w (inl a) = let x = a.0 in let y = way-goal_free_from q ask other w in let t = time in omega arith
     sooner other w (inr a) = elim (cases_lt q.horizon (arrival other)) [
       | inl l ↦ (let t = time in let b = (fr.sound place within).in_time in omega arith)
       | inr l ↦
@@ -223,12 +223,12 @@ found_earliest q f place r labels stacks path ask fr within slot end tr = record
           let n = near in
           let x = a.0 in
           let y = a.1 in
-          let z = at_least q f (Some place) r labels stacks fr (λ i s. subst (λ z. IsSlot q (moment_in r z) f) (same_Some place i s) slot) ask other w l (omega arith) in
+          let z = at_least q f (Some place) r labels open_list fr (λ i s. subst (λ z. IsBucket q (state_in r z) f) (same_Some place i s) bucket) ask other w l (omega arith) in
           omega arith
     ]
 
--- where all stacks up to the horizon are empty there is no way
-pub all_looked : (q : Question) (f : ℕ) (r : List Arrival) (labels : Labels) (stacks : List (Vec ℕ Global)) → IsAsked q → IsFrontier q f None r labels stacks → q.rest ≤ q.horizon → q.horizon < f → HasNoWay (is_passable q.grid.now) q.reserved.now q.start q.goal q.horizon
-all_looked q f r labels stacks ask fr rest h path w in_time =
-    let a = at_least q f None r labels stacks fr (λ i s. absurd (none-some i s)) ask path w in_time (omega arith) in
+-- where all buckets up to the horizon are empty there is no way
+pub all_looked : (q : Query) (f : ℕ) (r : List Node) (labels : Labels) (open_list : List (Vec ℕ Global)) → IsAsked q → IsFrontier q f None r labels open_list → q.goal_free_from ≤ q.horizon → q.horizon < f → IsInfeasible (is_passable q.grid.now) q.reserved.now q.start q.goal q.horizon
+all_looked q f r labels open_list ask fr goal_free_from h path w in_time =
+    let a = at_least q f None r labels open_list fr (λ i s. absurd (none-some i s)) ask path w in_time (omega arith) in
     omega arith

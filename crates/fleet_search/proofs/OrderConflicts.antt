@@ -11,7 +11,7 @@ use Rattle.fleet_model.specs.declared.task.Task.{Task}
 use Rattle.fleet_model.specs.Conflict.{Motion, HasVertexConflict, HasSwappingConflict, HasCycleConflict, after_in}
 use Rattle.fleet_plan.specs.Plan.{Plan, cell_at, cell_of, last_cell, planned, AreNeighbours, IsConflictFree}
 use Rattle.fleet_search.specs.Orders.{no_task, tasks_by, paths_by, rising, IsMadeInTries}
-use Rattle.fleet_search.specs.InTurn.{IsMadeInTurn}
+use Rattle.fleet_search.specs.InTurn.{IsPrioritisedPlan}
 use Rattle.fleet_search.proofs.InTurnLaws.{in_turn_free}
 use Rattle.fleet_search.proofs.OrderLaws.{order-length, place_of_agent, task_in_order, get_or-by}
 
@@ -149,6 +149,6 @@ module _ (passable : Place → Bool) (tasks : List Task) (plan : Plan) (order : 
 
 pub in_tries_free : (passable : Place → Bool) (tasks : List Task) (horizon tries : ℕ) (plan : Plan) → IsMadeInTries passable tasks horizon tries plan → IsConflictFree passable tasks plan
 in_tries_free passable tasks horizon tries plan m =
-    let made : IsMadeInTurn passable (tasks_by m.order tasks) horizon (length (tasks_by m.order tasks)) (paths_by m.order plan) =
-    subst (λ z. IsMadeInTurn passable (tasks_by m.order tasks) horizon z (paths_by m.order plan)) (sym (length-map m.order (λ a. get_or tasks a no_task))) m.made in
+    let made : IsPrioritisedPlan passable (tasks_by m.order tasks) horizon (length (tasks_by m.order tasks)) (paths_by m.order plan) =
+    subst (λ z. IsPrioritisedPlan passable (tasks_by m.order tasks) horizon z (paths_by m.order plan)) (sym (length-map m.order (λ a. get_or tasks a no_task))) m.made in
     free_by passable tasks plan m.order m.each_once m.agents (in_turn_free passable (tasks_by m.order tasks) horizon (paths_by m.order plan) made)

@@ -12,7 +12,7 @@ use Rattle.fleet_model.specs.declared.geometry.Cell.{Cell}
 use Rattle.fleet_model.specs.declared.geometry.Place.{Place}
 use Rattle.fleet_model.specs.declared.task.Task.{Task}
 use Rattle.fleet_plan.specs.Plan.{Plan}
-use Rattle.fleet_search.specs.InTurn.{IsMadeInTurn, IsStuckAt}
+use Rattle.fleet_search.specs.InTurn.{IsPrioritisedPlan, HasNoPathFor}
 use Rattle.fleet_search.specs.Orders.{no_task, tasks_by, paths_by, rising, to_front, IsMadeInOrder, IsStuckInOrder, IsOrderAfter, IsMadeInTries, IsStuckInTries}
 
 -- ---- each agent once
@@ -118,24 +118,24 @@ task_in_order tasks order place agent e h =
     slice_get-map (λ a. get_or tasks a no_task) order place ∙ ap (option_map (λ a. get_or tasks a no_task)) e ∙ sym (slice_get-get_or tasks agent no_task h)
 
 module _ (passable : Place → Bool) (tasks : List Task) (horizon : ℕ) where
-  pub one_try-made : (plan : Plan) → IsMadeInTries passable tasks horizon 1 plan → IsMadeInTurn passable tasks horizon (length tasks) plan
+  pub one_try-made : (plan : Plan) → IsMadeInTries passable tasks horizon 1 plan → IsPrioritisedPlan passable tasks horizon (length tasks) plan
   one_try-made plan m =
       let none : m.failed ≡ 0 = (let f : m.failed ≤ 1 - 1 = m.few in omega arith) in
       let is : m.order ≡ rising (length tasks) = order_after-none_is passable tasks horizon m.order (subst (λ z. IsOrderAfter passable tasks horizon z m.order) none m.after) in
       let made : IsMadeInOrder passable tasks horizon (rising (length tasks)) plan = subst (λ z. IsMadeInOrder passable tasks horizon z plan) is m.made in
       let by_paths : paths_by (rising (length tasks)) plan ≡ plan = ap (λ z. paths_by (rising z) plan) (sym m.agents) ∙ in_rising plan [] in
-      subst (IsMadeInTurn passable tasks horizon (length tasks)) by_paths
-      (subst (λ z. IsMadeInTurn passable tasks horizon z (paths_by (rising (length tasks)) plan)) (length-range_with_len 0 (length tasks))
-      (subst (λ z. IsMadeInTurn passable z horizon (length (rising (length tasks))) (paths_by (rising (length tasks)) plan)) (in_rising tasks no_task) made))
+      subst (IsPrioritisedPlan passable tasks horizon (length tasks)) by_paths
+      (subst (λ z. IsPrioritisedPlan passable tasks horizon z (paths_by (rising (length tasks)) plan)) (length-range_with_len 0 (length tasks))
+      (subst (λ z. IsPrioritisedPlan passable z horizon (length (rising (length tasks))) (paths_by (rising (length tasks)) plan)) (in_rising tasks no_task) made))
 
-  pub one_try-stuck : (agent : ℕ) → IsStuckInTries passable tasks horizon 1 agent → IsStuckAt passable tasks horizon agent
+  pub one_try-stuck : (agent : ℕ) → IsStuckInTries passable tasks horizon 1 agent → HasNoPathFor passable tasks horizon agent
   one_try-stuck agent s =
       let is : s.order ≡ rising (length tasks) = order_after-none_is passable tasks horizon s.order s.after in
       let here : slice_get (rising (length tasks)) s.place ≡ Some agent = subst (λ z. slice_get z s.place ≡ Some agent) is s.here in
       let few : s.place < length tasks = subst (λ z. s.place < z) (length-range_with_len 0 (length tasks)) (slice_get_within (rising (length tasks)) s.place agent here) in
       let same : s.place ≡ agent = sym (get_or-rising (length tasks) s.place 0 few) ∙ get_or_from_slice_get (rising (length tasks)) s.place agent 0 here in
-      let stuck : IsStuckAt passable (tasks_by (rising (length tasks)) tasks) horizon s.place = subst (λ z. IsStuckInOrder passable tasks horizon z s.place) is s.stuck in
-      subst (IsStuckAt passable tasks horizon) same (subst (λ z. IsStuckAt passable z horizon s.place) (in_rising tasks no_task) stuck)
+      let stuck : HasNoPathFor passable (tasks_by (rising (length tasks)) tasks) horizon s.place = subst (λ z. IsStuckInOrder passable tasks horizon z s.place) is s.stuck in
+      subst (HasNoPathFor passable tasks horizon) same (subst (λ z. HasNoPathFor passable z horizon s.place) (in_rising tasks no_task) stuck)
 
 -- the last of so many orders leaves the agent at the place without a path: there are no more, or the agent is first already
 pub stuck_in_tries : (passable : Place → Bool) (tasks : List Task) (horizon tries failed : ℕ) (order : List ℕ) (place agent : ℕ) → failed ≤ tries - 1 → IsPermutation (rising (length tasks)) order → IsOrderAfter passable tasks horizon failed order → IsStuckInOrder passable tasks horizon order place → place < length order → agent ≡ get_or order place 0 → (place ≡ 0) ⊎ (tries ≤ failed + 1) → IsStuckInTries passable tasks horizon tries agent

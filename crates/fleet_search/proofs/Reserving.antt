@@ -5,7 +5,7 @@ use Rattle.fleet_model.specs.declared.geometry.Cell.{Cell}
 use Rattle.fleet_model.specs.Program.{origin}
 use Rattle.fleet_plan.specs.Plan.{Plan, IsPath, cell_at, steps}
 use Rattle.fleet_search.specs.Way.{joined, Fits}
-use Rattle.fleet_search.specs.Stays.{AreReserved, HaveStays, Rows, stays_of}
+use Rattle.fleet_search.specs.Occupancies.{AreReserved, HaveOccupancies, Rows, occupancies_of}
 use Rattle.fleet_search.proofs.OneByOne.{FitTogether-push}
 
 pub take-cell : (path : List Cell) (t : ℕ) (xs ys : List Cell) (c : Cell) → xs ≡ take t path → c ≡ cell_at path t → ys ≡ xs ++ c ∷ [] → t < length path → ys ≡ take (t + 1) path
@@ -30,12 +30,12 @@ unfolding steps
 steps-none = refl
 
 pub reserved-none : (paths : Plan) (rows : Rows) → paths ≡ [] → rows ≡ [] → AreReserved paths rows 0
-unfolding stays_of
+unfolding occupancies_of
 reserved-none paths rows e f = subst (λ z. AreReserved z rows 0) (sym e) (subst (λ z. AreReserved [] z 0) (sym f) (record {
   together = λ i h. absurd (omega arith);
   all_paths = λ k d h. absurd (omega arith);
   latest = sym steps-none;
-  stays = λ c. record {
+  occupancies = λ c. record {
     each = λ i l. absurd (omega arith);
     apart = λ i k l m. absurd (omega arith);
     all = λ t j on. let a = on.agent in absurd (omega arith);
@@ -43,20 +43,20 @@ reserved-none paths rows e f = subst (λ z. AreReserved z rows 0) (sym e) (subst
 }))
 
 -- the lists changed, and say what they said
-pub reserved-kept : (paths : Plan) (old new : Rows) (last : ℕ) → AreReserved paths old last → HaveStays paths new → AreReserved paths new last
-reserved-kept paths old new last h stays = record {
+pub reserved-kept : (paths : Plan) (old new : Rows) (last : ℕ) → AreReserved paths old last → HaveOccupancies paths new → AreReserved paths new last
+reserved-kept paths old new last h occupancies = record {
   together = h.together;
   all_paths = h.all_paths;
   latest = h.latest;
-  stays = stays;
+  occupancies = occupancies;
 }
 
-pub reserved-pushed : (paths all : Plan) (old new : Rows) (last last' : ℕ) (path copy : List Cell) (end : ℕ) → AreReserved paths old last → Fits paths path → IsPath path → HaveStays (joined paths path) new → copy ≡ path → all ≡ paths ++ copy ∷ [] → end + 1 ≡ length path → last' ≡ max last end → AreReserved all new last'
-reserved-pushed paths all old new last last' path copy end h fits is_path stays f g e m =
+pub reserved-pushed : (paths all : Plan) (old new : Rows) (last last' : ℕ) (path copy : List Cell) (end : ℕ) → AreReserved paths old last → Fits paths path → IsPath path → HaveOccupancies (joined paths path) new → copy ≡ path → all ≡ paths ++ copy ∷ [] → end + 1 ≡ length path → last' ≡ max last end → AreReserved all new last'
+reserved-pushed paths all old new last last' path copy end h fits is_path occupancies f g e m =
     let p : joined paths path ≡ all = ap (λ z. paths ++ z ∷ []) (sym f) ∙ sym g in
     subst (λ z. AreReserved z new last') p (record {
       together = FitTogether-push paths path h.together fits;
       all_paths = all-push paths path h.all_paths is_path;
       latest = let l = h.latest in omega (arith, steps_push paths path);
-      stays = stays;
+      occupancies = occupancies;
     })

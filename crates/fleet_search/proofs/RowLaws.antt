@@ -1,4 +1,4 @@
--- Rows of numbers: stacks, and labels.
+-- Rows of numbers: buckets, and labels.
 use Rattle.std.proofs.Common.{◌≡◌, ◌≢◌, ℕ, ◌<◌, ◌≤◌, ◌==◌, cond, List, [], ◌∷◌, ◌++◌, length, map, get_or, inl, inr, refl, sym, ap, ◌∙◌, arith}
 use Rattle.std.specs.Prelude.{Vec, set}
 use Rattle.std.specs.declared.alloc.Global.{Global}

@@ -22,7 +22,7 @@ use Rattle.fleet_grid.proofs.StoredLaws.{off_map}
 use Rattle.fleet_plan.specs.Plan.{AreNeighbours}
 use Rattle.fleet_search.specs.declared.distances.Label.{Label}
 use Rattle.fleet_search.specs.declared.distances.Distances.{Distances}
-use Rattle.fleet_search.specs.Distance.{no_label, label_in, labelled, manhattan, least_moves, far, AreDistances, IsOnGround, IsClosed, IsWaiting, IsSpread, SpreadIs, IsLabelled, LabelsFall, IsFoundTowards, IsPutFrom, IsNear, label_weight, work_left}
+use Rattle.fleet_search.specs.Distance.{no_label, label_in, labelled, manhattan, least_moves, heuristic, AreDistances, IsOnGround, IsClosed, IsWaiting, IsSpread, IsSpreadOf, IsLabelled, LabelsFall, IsFoundTowards, IsPutFrom, IsNear, label_weight, work_left}
 
 -- ---- the places of cells in a table
 
@@ -123,7 +123,7 @@ manhattan-few g a b s ha hb = let p = on_map g a s ha in let q = on_map g b s hb
 
 -- ---- a cell is labelled
 
-module _ (g : Ground) (labels : List Label) (search : ℕ) (start goal : Cell) (reach : ℕ) (left : Cell) (layer next : List Cell) (sp : IsSpread g labels search start goal reach (Some left) layer next) (d : ℕ) (few : d < MAX_HORIZON) (on_left : IsOnGround g left) (at_left : label_in g labels search left ≡ Some d) (over : d + manhattan left start ≡ reach) (b : Cell) (beside : AreNeighbours left b) (on : IsOnGround g b) (within : cell_index g b < length labels) (more : (n : ℕ) → label_in g labels search b ≡ Some n → d + 1 < n) (labels' : List Label) (put : labels' ≡ set labels (cell_index g b) (record { search = search; distance = d + 1 })) where
+module _ (g : Ground) (labels : List Label) (search : ℕ) (start goal : Cell) (f_bound : ℕ) (left : Cell) (layer next : List Cell) (sp : IsSpread g labels search start goal f_bound (Some left) layer next) (d : ℕ) (few : d < MAX_HORIZON) (on_left : IsOnGround g left) (at_left : label_in g labels search left ≡ Some d) (over : d + manhattan left start ≡ f_bound) (b : Cell) (beside : AreNeighbours left b) (on : IsOnGround g b) (within : cell_index g b < length labels) (more : (n : ℕ) → label_in g labels search b ≡ Some n → d + 1 < n) (labels' : List Label) (put : labels' ≡ set labels (cell_index g b) (record { search = search; distance = d + 1 })) where
   here : label_in g labels' search b ≡ Some (d + 1)
   unfolding label_in
   here = ap (λ z. labelled search (get_or z (cell_index g b) no_label)) put ∙ ap (labelled search) (get_or-set_same labels (cell_index g b) (record { search = search; distance = d + 1 }) no_label within) ∙ labelled-here search (d + 1)
@@ -165,8 +165,8 @@ module _ (g : Ground) (labels : List Label) (search : ℕ) (start goal : Cell) (
         omega arith
   ]
 
-  closed-stays : (c : Cell) (n : ℕ) → IsClosed g labels search c n → IsClosed g labels' search c n
-  closed-stays c n h e nb on' = let w = h e nb on' in let f = falls e w.0 on' w.1 in let l = f.2 in let l' = w.2 in (f.0, f.1, (omega arith))
+  closed-occupancies : (c : Cell) (n : ℕ) → IsClosed g labels search c n → IsClosed g labels' search c n
+  closed-occupancies c n h e nb on' = let w = h e nb on' in let f = falls e w.0 on' w.1 in let l = f.2 in let l' = w.2 in (f.0, f.1, (omega arith))
 
   -- where the cell waits
   record IsPut (layer' next' : List Cell) : Type 0 where
@@ -174,9 +174,9 @@ module _ (g : Ground) (labels : List Label) (search : ℕ) (start goal : Cell) (
     keeps_next : (c : Cell) → Contains next c → Contains next' c
     only : (c : Cell) → Contains layer' c → Contains layer c ⊎ (b ≡ c)
     only_next : (c : Cell) → Contains next' c → Contains next c ⊎ (b ≡ c)
-    waits : IsWaiting reach (d + 1 + manhattan b start) layer' next' (Some left) b
+    waits : IsWaiting f_bound (d + 1 + manhattan b start) layer' next' (Some left) b
 
-  spread-put : (layer' next' : List Cell) → IsPut layer' next' → IsSpread g labels' search start goal reach (Some left) layer' next'
+  spread-put : (layer' next' : List Cell) → IsPut layer' next' → IsSpread g labels' search start goal f_bound (Some left) layer' next'
   spread-put layer' next' p = record {
     ready = record { map = sp.ready.map; size = ap length put ∙ length-set labels (cell_index g b) (record { search = search; distance = d + 1 }) ∙ sp.ready.size; old = old };
     goal_on_ground = sp.goal_on_ground;
@@ -195,9 +195,9 @@ module _ (g : Ground) (labels : List Label) (search : ℕ) (start goal : Cell) (
     closed = λ c n h e. elim (cases c h) [
       | inl s ↦
           let k : n ≡ d + 1 = same_Some n (d + 1) (sym e ∙ ap (label_in g labels' search) (sym s) ∙ here) in
-          inr (subst (λ v. IsWaiting reach (v + manhattan c start) layer' next' (Some left) c) (sym k) (subst (λ v. IsWaiting reach (d + 1 + manhattan v start) layer' next' (Some left) v) s p.waits))
+          inr (subst (λ v. IsWaiting f_bound (v + manhattan c start) layer' next' (Some left) c) (sym k) (subst (λ v. IsWaiting f_bound (d + 1 + manhattan v start) layer' next' (Some left) v) s p.waits))
       | inr s ↦ elim (sp.closed c n h (sym s ∙ e)) [
-        | inl k ↦ inl (closed-stays c n k)
+        | inl k ↦ inl (closed-occupancies c n k)
         | inr w ↦ inr (elim w [
           | inl x ↦ inl (x.0, elim x.1 [ inl y ↦ inl (p.keeps c y) | inr y ↦ inr y ])
           | inr x ↦ inr (x.0, p.keeps_next c x.1)
@@ -207,7 +207,7 @@ module _ (g : Ground) (labels : List Label) (search : ℕ) (start goal : Cell) (
   }
 
   -- nearer to the start: on the layer
-  pub spread-near : (layer' next' : List Cell) → manhattan b start < manhattan left start → layer' ≡ layer ++ b ∷ [] → next' ≡ next → IsSpread g labels' search start goal reach (Some left) layer' next'
+  pub spread-near : (layer' next' : List Cell) → manhattan b start < manhattan left start → layer' ≡ layer ++ b ∷ [] → next' ≡ next → IsSpread g labels' search start goal f_bound (Some left) layer' next'
   spread-near layer' next' l e f = spread-put layer' next' (record {
     keeps = λ c h. subst (λ z. Contains z c) (sym e) (Contains-append_left layer (b ∷ []) c h);
     keeps_next = λ c h. subst (λ z. Contains z c) (sym f) h;
@@ -217,7 +217,7 @@ module _ (g : Ground) (labels : List Label) (search : ℕ) (start goal : Cell) (
   })
 
   -- farther from it: on the next list
-  pub spread-far : (layer' next' : List Cell) → manhattan left start ≤ manhattan b start → layer' ≡ layer → next' ≡ next ++ b ∷ [] → IsSpread g labels' search start goal reach (Some left) layer' next'
+  pub spread-far : (layer' next' : List Cell) → manhattan left start ≤ manhattan b start → layer' ≡ layer → next' ≡ next ++ b ∷ [] → IsSpread g labels' search start goal f_bound (Some left) layer' next'
   spread-far layer' next' l e f = spread-put layer' next' (record {
     keeps = λ c h. subst (λ z. Contains z c) (sym e) h;
     keeps_next = λ c h. subst (λ z. Contains z c) (sym f) (Contains-append_left next (b ∷ []) c h);
@@ -261,8 +261,8 @@ not-near g labels search d b not n e =
 
 -- ---- a cell is left
 
-pub spread-popped : (g : Ground) (labels : List Label) (search : ℕ) (start goal : Cell) (reach : ℕ) (c : Cell) (layer layer' next : List Cell) → IsSpread g labels search start goal reach None layer next → layer ≡ layer' ++ c ∷ [] → IsSpread g labels search start goal reach (Some c) layer' next
-spread-popped g labels search start goal reach c layer layer' next sp e = record {
+pub spread-popped : (g : Ground) (labels : List Label) (search : ℕ) (start goal : Cell) (f_bound : ℕ) (c : Cell) (layer layer' next : List Cell) → IsSpread g labels search start goal f_bound None layer next → layer ≡ layer' ++ c ∷ [] → IsSpread g labels search start goal f_bound (Some c) layer' next
+spread-popped g labels search start goal f_bound c layer layer' next sp e = record {
   ready = sp.ready;
   goal_on_ground = sp.goal_on_ground;
   at_goal = sp.at_goal;
@@ -281,7 +281,7 @@ spread-popped g labels search start goal reach c layer layer' next sp e = record
   ];
 }
 
-module _ (g : Ground) (s1 s2 s3 s4 : Distances) (d : ℕ) (left : Cell) (sp : SpreadIs g (Some left) s4) (n : IsFoundTowards g s1 d left North) (e : IsFoundTowards g s2 d left East) (s : IsFoundTowards g s3 d left South) (w : IsFoundTowards g s4 d left West) (t2 : LabelsFall g s1 s2) (t3 : LabelsFall g s2 s3) (t4 : LabelsFall g s3 s4) where
+module _ (g : Ground) (s1 s2 s3 s4 : Distances) (d : ℕ) (left : Cell) (sp : IsSpreadOf g (Some left) s4) (n : IsFoundTowards g s1 d left North) (e : IsFoundTowards g s2 d left East) (s : IsFoundTowards g s3 d left South) (w : IsFoundTowards g s4 d left West) (t2 : LabelsFall g s1 s2) (t3 : LabelsFall g s2 s3) (t4 : LabelsFall g s3 s4) where
   Found : Distances → Cell → Type 0
   Found t x = (m : ℕ) × IsLabelled g t x m × (m ≤ d + 1)
 
@@ -296,7 +296,7 @@ module _ (g : Ground) (s1 s2 s3 s4 : Distances) (d : ℕ) (left : Cell) (sp : Sp
   left-closed x (South, p) h = on s3 s4 t4 x h (s x p h)
   left-closed x (West, p) h = w x p h
 
-  pub spread-left : IsLabelled g s4 left d → SpreadIs g None s4
+  pub spread-left : IsLabelled g s4 left d → IsSpreadOf g None s4
   spread-left here = record {
     ready = sp.ready;
     goal_on_ground = sp.goal_on_ground;
@@ -321,8 +321,8 @@ module _ (g : Ground) (s1 s2 s3 s4 : Distances) (d : ℕ) (left : Cell) (sp : Sp
 
 -- ---- the next list
 
-pub spread-turned : (g : Ground) (labels : List Label) (search : ℕ) (start goal : Cell) (reach : ℕ) (layer next : List Cell) → IsSpread g labels search start goal reach None layer next → layer ≡ [] → IsSpread g labels search start goal (reach + 2) None next []
-spread-turned g labels search start goal reach layer next sp e = record {
+pub spread-turned : (g : Ground) (labels : List Label) (search : ℕ) (start goal : Cell) (f_bound : ℕ) (layer next : List Cell) → IsSpread g labels search start goal f_bound None layer next → layer ≡ [] → IsSpread g labels search start goal (f_bound + 2) None next []
+spread-turned g labels search start goal f_bound layer next sp e = record {
   ready = sp.ready;
   goal_on_ground = sp.goal_on_ground;
   at_goal = sp.at_goal;
@@ -341,16 +341,16 @@ spread-turned g labels search start goal reach layer next sp e = record {
   ];
 }
 
-pub turned_to : (g : Ground) (s t : Distances) → SpreadIs g None s → s.layer.items ≡ [] → t.labels ≡ s.labels → t.search ≡ s.search → t.start ≡ s.start → t.goal ≡ s.goal → t.reach ≡ s.reach + 2 → t.layer.items ≡ s.next.items → t.next.items ≡ [] → SpreadIs g None t
+pub turned_to : (g : Ground) (s t : Distances) → IsSpreadOf g None s → s.layer.items ≡ [] → t.labels ≡ s.labels → t.search ≡ s.search → t.start ≡ s.start → t.goal ≡ s.goal → t.f_bound ≡ s.f_bound + 2 → t.layer.items ≡ s.next.items → t.next.items ≡ [] → IsSpreadOf g None t
 turned_to g s t sp e a b st go r l n =
-    subst (λ z. IsSpread g z.items t.search t.start t.goal t.reach None t.layer.items t.next.items) (sym a)
-    (subst (λ z. IsSpread g s.labels.items z t.start t.goal t.reach None t.layer.items t.next.items) (sym b)
-    (subst (λ z. IsSpread g s.labels.items s.search z t.goal t.reach None t.layer.items t.next.items) (sym st)
-    (subst (λ z. IsSpread g s.labels.items s.search s.start z t.reach None t.layer.items t.next.items) (sym go)
+    subst (λ z. IsSpread g z.items t.search t.start t.goal t.f_bound None t.layer.items t.next.items) (sym a)
+    (subst (λ z. IsSpread g s.labels.items z t.start t.goal t.f_bound None t.layer.items t.next.items) (sym b)
+    (subst (λ z. IsSpread g s.labels.items s.search z t.goal t.f_bound None t.layer.items t.next.items) (sym st)
+    (subst (λ z. IsSpread g s.labels.items s.search s.start z t.f_bound None t.layer.items t.next.items) (sym go)
     (subst (λ z. IsSpread g s.labels.items s.search s.start s.goal z None t.layer.items t.next.items) (sym r)
-    (subst (λ z. IsSpread g s.labels.items s.search s.start s.goal (s.reach + 2) None z t.next.items) (sym l)
-    (subst (λ z. IsSpread g s.labels.items s.search s.start s.goal (s.reach + 2) None s.next.items z) (sym n)
-    (spread-turned g s.labels.items s.search s.start s.goal s.reach s.layer.items s.next.items sp e)))))))
+    (subst (λ z. IsSpread g s.labels.items s.search s.start s.goal (s.f_bound + 2) None z t.next.items) (sym l)
+    (subst (λ z. IsSpread g s.labels.items s.search s.start s.goal (s.f_bound + 2) None s.next.items z) (sym n)
+    (spread-turned g s.labels.items s.search s.start s.goal s.f_bound s.layer.items s.next.items sp e)))))))
 
 -- ---- the distances that come of it
 
@@ -359,17 +359,17 @@ label_cases : (o : Option ℕ) → (o ≡ None) ⊎ ((n : ℕ) × (o ≡ Some n)
 label_cases None = inl refl
 label_cases (Some n) = inr (n, refl)
 
-pub far-none : (g : Ground) (s : Distances) (c : Cell) → label_in g s.labels.items s.search c ≡ None → far g s c ≡ least_moves s c
-unfolding far
-far-none g s c e = let k = ap (λ o. unwrap_or o (least_moves s c)) e in omega arith
+pub heuristic-none : (g : Ground) (s : Distances) (c : Cell) → label_in g s.labels.items s.search c ≡ None → heuristic g s c ≡ least_moves s c
+unfolding heuristic
+heuristic-none g s c e = let k = ap (λ o. unwrap_or o (least_moves s c)) e in omega arith
 
-pub far-some : (g : Ground) (s : Distances) (c : Cell) (n : ℕ) → label_in g s.labels.items s.search c ≡ Some n → far g s c ≡ min n (least_moves s c)
-unfolding far
-far-some g s c n e = let k = ap (λ o. unwrap_or o (least_moves s c)) e in omega arith
+pub heuristic-some : (g : Ground) (s : Distances) (c : Cell) (n : ℕ) → label_in g s.labels.items s.search c ≡ Some n → heuristic g s c ≡ min n (least_moves s c)
+unfolding heuristic
+heuristic-some g s c n e = let k = ap (λ o. unwrap_or o (least_moves s c)) e in omega arith
 
-far-within : (g : Ground) (s : Distances) (c : Cell) → far g s c ≤ least_moves s c
-unfolding far
-far-within g s c = omega arith
+heuristic-within : (g : Ground) (s : Distances) (c : Cell) → heuristic g s c ≤ least_moves s c
+unfolding heuristic
+heuristic-within g s c = omega arith
 
 least-near : (s : Distances) (x y : Cell) → AreNeighbours x y → least_moves s y ≤ least_moves s x + 1
 unfolding least_moves
@@ -378,42 +378,42 @@ least-near s x y n = elim (manhattan-step x y s.start n) [
   | inr e ↦ let k = manhattan-near x y s.goal n in omega arith
 ]
 
-least-within : (s : Distances) (x : Cell) (n : ℕ) → manhattan x s.goal ≤ n → s.reach ≤ n + manhattan x s.start → least_moves s x ≤ n
+least-within : (s : Distances) (x : Cell) (n : ℕ) → manhattan x s.goal ≤ n → s.f_bound ≤ n + manhattan x s.start → least_moves s x ≤ n
 unfolding least_moves
 least-within s x n a b = omega arith
 
-pub least-few : (g : Ground) (s : Distances) (c : Cell) → IsGround g → IsOnGround g c → IsOnGround g s.goal → s.reach ≤ MAX_HORIZON + 1 → least_moves s c ≤ MAX_HORIZON + 1
+pub least-few : (g : Ground) (s : Distances) (c : Cell) → IsGround g → IsOnGround g c → IsOnGround g s.goal → s.f_bound ≤ MAX_HORIZON + 1 → least_moves s c ≤ MAX_HORIZON + 1
 unfolding least_moves
 least-few g s c map h h' few = let m = manhattan-few g c s.goal map h h' in omega arith
 
 -- nothing waits at fewer moves, or nothing at all
-pub distances-of : (g : Ground) (s : Distances) (reach : ℕ) → IsSpread g s.labels.items s.search s.start s.goal reach None s.layer.items s.next.items → (s.reach ≤ reach) ⊎ ((s.layer.items ≡ []) × (s.next.items ≡ [])) → s.reach ≤ MAX_HORIZON + 1 → AreDistances g s s.goal
-distances-of g s reach sp low few = record {
+pub distances-of : (g : Ground) (s : Distances) (f_bound : ℕ) → IsSpread g s.labels.items s.search s.start s.goal f_bound None s.layer.items s.next.items → (s.f_bound ≤ f_bound) ⊎ ((s.layer.items ≡ []) × (s.next.items ≡ [])) → s.f_bound ≤ MAX_HORIZON + 1 → AreDistances g s s.goal
+distances-of g s f_bound sp low few = record {
   ready = sp.ready;
   goal_on_ground = sp.goal_on_ground;
   few = few;
-  at_goal = let k = far-some g s s.goal 0 sp.at_goal in omega arith;
+  at_goal = let k = heuristic-some g s s.goal 0 sp.at_goal in omega arith;
   near = λ x y hx hy nb. step x y hx hy nb (label_cases (label_in g s.labels.items s.search x));
 }
   where
     no : (xs : List Cell) (x : Cell) → xs ≡ [] → Contains xs x → ⊥
     no xs x e h = let l = (subst (λ v. Contains v x) e h).1 in omega arith
 
-    step : (x y : Cell) → IsOnGround g x → IsOnGround g y → AreNeighbours x y → (label_in g s.labels.items s.search x ≡ None) ⊎ ((n : ℕ) × (label_in g s.labels.items s.search x ≡ Some n)) → far g s y ≤ far g s x + 1
-    step x y hx hy nb (inl p) = let a = far-within g s y in let b = least-near s x y nb in let c = far-none g s x p in omega arith
+    step : (x y : Cell) → IsOnGround g x → IsOnGround g y → AreNeighbours x y → (label_in g s.labels.items s.search x ≡ None) ⊎ ((n : ℕ) × (label_in g s.labels.items s.search x ≡ Some n)) → heuristic g s y ≤ heuristic g s x + 1
+    step x y hx hy nb (inl p) = let a = heuristic-within g s y in let b = least-near s x y nb in let c = heuristic-none g s x p in omega arith
     step x y hx hy nb (inr (n, p)) = elim (sp.closed x n hx p) [
       | inl k ↦
           let w = k y nb hy in
           let l = w.2 in
-          let a = far-within g s y in
+          let a = heuristic-within g s y in
           let b = least-near s x y nb in
-          let c = far-some g s x n p in
-          let d = far-some g s y w.0 w.1 in
+          let c = heuristic-some g s x n p in
+          let d = heuristic-some g s y w.0 w.1 in
           omega arith
       | inr k ↦
-          let a = far-within g s y in
+          let a = heuristic-within g s y in
           let b = least-near s x y nb in
-          let c = far-some g s x n p in
+          let c = heuristic-some g s x n p in
           elim low [
             | inl l ↦
                 let d : least_moves s x ≤ n = least-within s x n (sp.apart x n hx p) (elim k [ inl z ↦ let e = z.0 in omega arith | inr z ↦ let e = z.0 in omega arith ]) in
@@ -427,9 +427,9 @@ distances-of g s reach sp low few = record {
 
 -- ---- the goal is labelled
 
-pub spread-open : (g : Ground) (labels labels' : List Label) (search : ℕ) (start goal : Cell) (reach : ℕ) (layer next : List Cell) → IsGround g → length labels ≡ g.width * g.height → ((i : ℕ) → i < length labels → (get_or labels i no_label).search < search) → IsOnGround g goal → cell_index g goal < length labels → labels' ≡ set labels (cell_index g goal) (record { search = search; distance = 0 }) → manhattan goal start ≡ reach → layer ≡ goal ∷ [] → next ≡ [] → IsSpread g labels' search start goal reach None layer next
+pub spread-begin : (g : Ground) (labels labels' : List Label) (search : ℕ) (start goal : Cell) (f_bound : ℕ) (layer next : List Cell) → IsGround g → length labels ≡ g.width * g.height → ((i : ℕ) → i < length labels → (get_or labels i no_label).search < search) → IsOnGround g goal → cell_index g goal < length labels → labels' ≡ set labels (cell_index g goal) (record { search = search; distance = 0 }) → manhattan goal start ≡ f_bound → layer ≡ goal ∷ [] → next ≡ [] → IsSpread g labels' search start goal f_bound None layer next
 unfolding label_in
-spread-open g labels labels' search start goal reach layer next map size fresh on within put at_reach a b = subst (λ z. IsSpread g labels' search start goal reach None z next) (sym a) (subst (λ z. IsSpread g labels' search start goal reach None (goal ∷ []) z) (sym b) (record {
+spread-begin g labels labels' search start goal f_bound layer next map size fresh on within put at_reach a b = subst (λ z. IsSpread g labels' search start goal f_bound None z next) (sym a) (subst (λ z. IsSpread g labels' search start goal f_bound None (goal ∷ []) z) (sym b) (record {
   ready = record { map = map; size = long ∙ size; old = old };
   goal_on_ground = on;
   at_goal = here;
@@ -485,9 +485,9 @@ pub work-near : (old new : Distances) (b : Cell) → sum_by (label_weight new.se
 unfolding work_left
 work-near old new b w e = let k = ap length e ∙ length-append old.layer.items (b ∷ []) in omega arith
 
-pub work-far : (old new : Distances) → sum_by (label_weight new.search) new.labels.items + 1 ≤ sum_by (label_weight old.search) old.labels.items → new.layer.items ≡ old.layer.items → work_left new ≤ work_left old
+pub work-heuristic : (old new : Distances) → sum_by (label_weight new.search) new.labels.items + 1 ≤ sum_by (label_weight old.search) old.labels.items → new.layer.items ≡ old.layer.items → work_left new ≤ work_left old
 unfolding work_left
-work-far old new w e = let k = ap length e in omega arith
+work-heuristic old new w e = let k = ap length e in omega arith
 
 pub work-popped : (old new : Distances) (c : Cell) → new.labels ≡ old.labels → new.search ≡ old.search → old.layer.items ≡ new.layer.items ++ c ∷ [] → work_left new < work_left old
 unfolding work_left
@@ -499,7 +499,7 @@ work-popped old new c e f h =
 
 -- ---- a cell that was labelled is put on its list
 
-module _ (g : Ground) (s s' new : Distances) (left : Cell) (sp : SpreadIs g (Some left) s) (d : ℕ) (few : d < MAX_HORIZON) (on_left : IsOnGround g left) (at_left : IsLabelled g s left d) (over : d + manhattan left s.start ≡ s.reach) (b : Cell) (beside : AreNeighbours left b) (on_b : IsOnGround g b) (within : cell_index g b < length s.labels.items) (more : (n : ℕ) → IsLabelled g s b n → d + 1 < n) (put : s'.labels.items ≡ set s.labels.items (cell_index g b) (record { search = s.search; distance = d + 1 })) (search : s'.search ≡ s.search) (start : s'.start ≡ s.start) (goal : s'.goal ≡ s.goal) (reach : s'.reach ≡ s.reach) (layer : s'.layer.items ≡ s.layer.items) (next : s'.next.items ≡ s.next.items) (p : IsPutFrom left b s' new) where
+module _ (g : Ground) (s s' new : Distances) (left : Cell) (sp : IsSpreadOf g (Some left) s) (d : ℕ) (few : d < MAX_HORIZON) (on_left : IsOnGround g left) (at_left : IsLabelled g s left d) (over : d + manhattan left s.start ≡ s.f_bound) (b : Cell) (beside : AreNeighbours left b) (on_b : IsOnGround g b) (within : cell_index g b < length s.labels.items) (more : (n : ℕ) → IsLabelled g s b n → d + 1 < n) (put : s'.labels.items ≡ set s.labels.items (cell_index g b) (record { search = s.search; distance = d + 1 })) (search : s'.search ≡ s.search) (start : s'.start ≡ s.start) (goal : s'.goal ≡ s.goal) (f_bound : s'.f_bound ≡ s.f_bound) (layer : s'.layer.items ≡ s.layer.items) (next : s'.next.items ≡ s.next.items) (p : IsPutFrom left b s' new) where
   labels_put : new.labels.items ≡ set s.labels.items (cell_index g b) (record { search = s.search; distance = d + 1 })
   labels_put = ap (λ (v : _). v.items) p.labels ∙ put
 
@@ -509,27 +509,27 @@ module _ (g : Ground) (s s' new : Distances) (left : Cell) (sp : SpreadIs g (Som
   Spreads : ℕ → Cell → Cell → ℕ → Type 0
   Spreads k a z r = IsSpread g new.labels.items k a z r (Some left) new.layer.items new.next.items
 
-  moved-on : IsSpread g new.labels.items s.search s.start s.goal s.reach (Some left) new.layer.items new.next.items → SpreadIs g (Some left) new
+  moved-on : IsSpread g new.labels.items s.search s.start s.goal s.f_bound (Some left) new.layer.items new.next.items → IsSpreadOf g (Some left) new
   unfolding Spreads
-  moved-on h = subst (λ k. Spreads k new.start new.goal new.reach) (sym same_search) (subst (λ k. Spreads s.search k new.goal new.reach) (sym (p.same.start ∙ start)) (subst (λ k. Spreads s.search s.start k new.reach) (sym (p.same.goal ∙ goal)) (subst (λ k. Spreads s.search s.start s.goal k) (sym (p.same.reach ∙ reach)) h)))
+  moved-on h = subst (λ k. Spreads k new.start new.goal new.f_bound) (sym same_search) (subst (λ k. Spreads s.search k new.goal new.f_bound) (sym (p.same.start ∙ start)) (subst (λ k. Spreads s.search s.start k new.f_bound) (sym (p.same.goal ∙ goal)) (subst (λ k. Spreads s.search s.start s.goal k) (sym (p.same.f_bound ∙ f_bound)) h)))
 
-  pub put-spread : SpreadIs g (Some left) new
+  pub put-spread : IsSpreadOf g (Some left) new
   put-spread = elim p.put [
-    | inl n ↦ let z = ap (manhattan b) start in let z' = ap (manhattan left) start in let l = n.0 in moved-on (spread-near g s.labels.items s.search s.start s.goal s.reach left s.layer.items s.next.items sp d few on_left at_left over b beside on_b within more new.labels.items labels_put new.layer.items new.next.items (omega arith) (n.1 ∙ ap (λ v. v ++ b ∷ []) layer) (n.2 ∙ next))
-    | inr n ↦ let z = ap (manhattan b) start in let z' = ap (manhattan left) start in let l = n.0 in moved-on (spread-far g s.labels.items s.search s.start s.goal s.reach left s.layer.items s.next.items sp d few on_left at_left over b beside on_b within more new.labels.items labels_put new.layer.items new.next.items (omega arith) (n.1 ∙ layer) (n.2 ∙ ap (λ v. v ++ b ∷ []) next))
+    | inl n ↦ let z = ap (manhattan b) start in let z' = ap (manhattan left) start in let l = n.0 in moved-on (spread-near g s.labels.items s.search s.start s.goal s.f_bound left s.layer.items s.next.items sp d few on_left at_left over b beside on_b within more new.labels.items labels_put new.layer.items new.next.items (omega arith) (n.1 ∙ ap (λ v. v ++ b ∷ []) layer) (n.2 ∙ next))
+    | inr n ↦ let z = ap (manhattan b) start in let z' = ap (manhattan left) start in let l = n.0 in moved-on (spread-far g s.labels.items s.search s.start s.goal s.f_bound left s.layer.items s.next.items sp d few on_left at_left over b beside on_b within more new.labels.items labels_put new.layer.items new.next.items (omega arith) (n.1 ∙ layer) (n.2 ∙ ap (λ v. v ++ b ∷ []) next))
   ]
 
   pub put-left : IsLabelled g new left d
-  put-left = subst (λ k. label_in g new.labels.items k left ≡ Some d) (sym same_search) (left-stays g s.labels.items s.search s.start s.goal s.reach left s.layer.items s.next.items sp d few on_left at_left over b beside on_b within more new.labels.items labels_put)
+  put-left = subst (λ k. label_in g new.labels.items k left ≡ Some d) (sym same_search) (left-stays g s.labels.items s.search s.start s.goal s.f_bound left s.layer.items s.next.items sp d few on_left at_left over b beside on_b within more new.labels.items labels_put)
 
   pub put-found : (dir : Dir) → place_of b ≡ moved (place_of left) dir → IsFoundTowards g new d left dir
-  put-found dir h = subst (λ k. (e : Cell) → place_of e ≡ moved (place_of left) dir → IsOnGround g e → (m : ℕ) × (label_in g new.labels.items k e ≡ Some m) × (m ≤ d + 1)) (sym same_search) (found-put g s.labels.items s.search s.start s.goal s.reach left s.layer.items s.next.items sp d few on_left at_left over b beside on_b within more new.labels.items labels_put dir h)
+  put-found dir h = subst (λ k. (e : Cell) → place_of e ≡ moved (place_of left) dir → IsOnGround g e → (m : ℕ) × (label_in g new.labels.items k e ≡ Some m) × (m ≤ d + 1)) (sym same_search) (found-put g s.labels.items s.search s.start s.goal s.f_bound left s.layer.items s.next.items sp d few on_left at_left over b beside on_b within more new.labels.items labels_put dir h)
 
   pub put-falls : LabelsFall g s new
-  put-falls = subst (λ k. (c : Cell) (n : ℕ) → IsOnGround g c → label_in g s.labels.items s.search c ≡ Some n → (m : ℕ) × (label_in g new.labels.items k c ≡ Some m) × (m ≤ n)) (sym same_search) (falls g s.labels.items s.search s.start s.goal s.reach left s.layer.items s.next.items sp d few on_left at_left over b beside on_b within more new.labels.items labels_put)
+  put-falls = subst (λ k. (c : Cell) (n : ℕ) → IsOnGround g c → label_in g s.labels.items s.search c ≡ Some n → (m : ℕ) × (label_in g new.labels.items k c ≡ Some m) × (m ≤ n)) (sym same_search) (falls g s.labels.items s.search s.start s.goal s.f_bound left s.layer.items s.next.items sp d few on_left at_left over b beside on_b within more new.labels.items labels_put)
 
   pub put-works : work_left new ≤ work_left s
-  put-works = elim p.put [ inl n ↦ work-near s new b lighter (n.1 ∙ ap (λ v. v ++ b ∷ []) layer) | inr n ↦ work-far s new lighter (n.1 ∙ layer) ]
+  put-works = elim p.put [ inl n ↦ work-near s new b lighter (n.1 ∙ ap (λ v. v ++ b ∷ []) layer) | inr n ↦ work-heuristic s new lighter (n.1 ∙ layer) ]
     where
       lighter : sum_by (label_weight new.search) new.labels.items + 1 ≤ sum_by (label_weight s.search) s.labels.items
-      lighter = subst (λ k. sum_by (label_weight k) new.labels.items + 1 ≤ sum_by (label_weight s.search) s.labels.items) (sym same_search) (weight g s.labels.items s.search s.start s.goal s.reach left s.layer.items s.next.items sp d few on_left at_left over b beside on_b within more new.labels.items labels_put)
+      lighter = subst (λ k. sum_by (label_weight k) new.labels.items + 1 ≤ sum_by (label_weight s.search) s.labels.items) (sym same_search) (weight g s.labels.items s.search s.start s.goal s.f_bound left s.layer.items s.next.items sp d few on_left at_left over b beside on_b within more new.labels.items labels_put)

@@ -1,4 +1,4 @@
--- The path to a moment, read backwards from what was noted.
+-- The path to a state, read backwards from what was noted.
 use Rattle.std.proofs.Common.{◌≡◌, ◌≢◌, ℕ, ◌+◌, ◌-◌, ◌<◌, ◌≤◌, min, IsTrue, List, [], ◌∷◌, ◌++◌, length, get_or, reverse, Option, inl, inr, ◌⊎◌, refl, sym, ap, ◌∙◌, subst, arith}
 use Rattle.std.specs.Prelude.{Vec}
 use Rattle.std.specs.declared.alloc.Global.{Global}
@@ -8,95 +8,95 @@ use Rattle.fleet_model.specs.declared.geometry.Cell.{Cell}
 use Rattle.fleet_model.specs.Geometry.{place_of}
 use Rattle.fleet_model.specs.Program.{origin}
 use Rattle.fleet_plan.specs.Plan.{cell_at}
-use Rattle.fleet_search.specs.declared.frontier.Question.{Question}
+use Rattle.fleet_search.specs.declared.frontier.Query.{Query}
 use Rattle.fleet_search.specs.declared.labels.Labels.{Labels}
-use Rattle.fleet_search.specs.declared.frontier.Arrival.{Arrival}
-use Rattle.fleet_search.specs.declared.moment.Moment.{Moment}
+use Rattle.fleet_search.specs.declared.frontier.Node.{Node}
+use Rattle.fleet_search.specs.declared.state.State.{State}
 use Rattle.fleet_grid.specs.Ground.{is_passable}
 use Rattle.fleet_search.specs.Reserved.{IsFree, IsFreeOn}
-use Rattle.fleet_search.specs.Search.{IsStep, no_arrival, moment_in, IsReachedFrom, IsFrontier, IsTrail}
+use Rattle.fleet_search.specs.Search.{IsStep, no_node, state_in, IsReachedFrom, IsFrontier, IsTrail}
 use Rattle.fleet_search.proofs.Chase.{step_ok-same}
 
 -- one step before the time of a visit the agent is on this one, from which the step leads there
-pub record IsBefore (q : Question) (reached : List Arrival) (time : ℕ) (visit : Moment) (next : ℕ) : Type 0 where
-  pub known : next < length reached
-  pub early : (moment_in reached next).time ≤ time - 1
-  pub free : IsFreeOn q.reserved.now (moment_in reached next).cell (moment_in reached next).time (time - 1)
-  pub step : IsStep q (time - 1) (moment_in reached next).cell visit.cell
+pub record IsBefore (q : Query) (nodes : List Node) (time : ℕ) (visit : State) (next : ℕ) : Type 0 where
+  pub known : next < length nodes
+  pub early : (state_in nodes next).time ≤ time - 1
+  pub free : IsFreeOn q.reserved.now (state_in nodes next).cell (state_in nodes next).time (time - 1)
+  pub step : IsStep q (time - 1) (state_in nodes next).cell visit.cell
 
--- the cells from the last one back over so many steps; the agent came to the one that was found last at this moment
-pub record IsTraced (q : Question) (r : List Arrival) (n : ℕ) (last : Cell) (xs : List Cell) (back : ℕ) (visit : ℕ) : Type 0 where
+-- the cells from the last one back over so many steps; the agent came to the one that was found last at this state
+pub record IsTraced (q : Query) (r : List Node) (n : ℕ) (last : Cell) (xs : List Cell) (back : ℕ) (visit : ℕ) : Type 0 where
   pub long : length xs ≡ back + 1
   pub bound : back ≤ n
   pub front : get_or xs 0 origin ≡ last
-  pub end : get_or xs back origin ≡ (moment_in r visit).cell
+  pub end : get_or xs back origin ≡ (state_in r visit).cell
   pub known : visit < length r
-  pub early : (moment_in r visit).time ≤ n - back
-  pub free : IsFreeOn q.reserved.now (moment_in r visit).cell (moment_in r visit).time (n - back)
+  pub early : (state_in r visit).time ≤ n - back
+  pub free : IsFreeOn q.reserved.now (state_in r visit).cell (state_in r visit).time (n - back)
   pub steps : (k : ℕ) → k < back → IsStep q (n - (k + 1)) (get_or xs (k + 1) origin) (get_or xs k origin)
 
-before-came : (q : Question) (f : ℕ) (left : Option ℕ) (r : List Arrival) (labels : Labels) (stacks : List (Vec ℕ Global)) → IsFrontier q f left r labels stacks → (time visit : ℕ) → visit < length r → (moment_in r visit).time ≡ time → 1 ≤ time → IsBefore q r time (moment_in r visit) (get_or r visit no_arrival).from
-before-came q f left r labels stacks fr time visit k e h = go (fr.sound visit k).reached_from
+before-came : (q : Query) (f : ℕ) (left : Option ℕ) (r : List Node) (labels : Labels) (open_list : List (Vec ℕ Global)) → IsFrontier q f left r labels open_list → (time visit : ℕ) → visit < length r → (state_in r visit).time ≡ time → 1 ≤ time → IsBefore q r time (state_in r visit) (get_or r visit no_node).parent
+before-came q f left r labels open_list fr time visit k e h = go (fr.sound visit k).reached_from
   where
-    go : IsReachedFrom q r (moment_in r visit) (get_or r visit no_arrival).from → IsBefore q r time (moment_in r visit) (get_or r visit no_arrival).from
+    go : IsReachedFrom q r (state_in r visit) (get_or r visit no_node).parent → IsBefore q r time (state_in r visit) (get_or r visit no_node).parent
     go (inl p) = absurd (let z = p.0 in omega arith)
     go (inr (u, s, known, move)) =
         let at : u ≡ time - 1 = omega arith in
-        let from = moment_in r (get_or r visit no_arrival).from in
+        let from = state_in r (get_or r visit no_node).parent in
         record {
           known = known;
           early = (let w = move.waits in omega arith);
           free = subst (IsFreeOn q.reserved.now from.cell from.time) at move.free;
-          step = subst (λ z. IsStep q z from.cell (moment_in r visit).cell) at move.step;
+          step = subst (λ z. IsStep q z from.cell (state_in r visit).cell) at move.step;
         }
 
-before-waits : (q : Question) (f : ℕ) (left : Option ℕ) (r : List Arrival) (labels : Labels) (stacks : List (Vec ℕ Global)) → IsFrontier q f left r labels stacks → (time visit : ℕ) → visit < length r → (moment_in r visit).time ≢ time → (moment_in r visit).time ≤ time → IsFreeOn q.reserved.now (moment_in r visit).cell (moment_in r visit).time time → IsBefore q r time (moment_in r visit) visit
-before-waits q f left r labels stacks fr time visit k ne h free = record {
+before-waits : (q : Query) (f : ℕ) (left : Option ℕ) (r : List Node) (labels : Labels) (open_list : List (Vec ℕ Global)) → IsFrontier q f left r labels open_list → (time visit : ℕ) → visit < length r → (state_in r visit).time ≢ time → (state_in r visit).time ≤ time → IsFreeOn q.reserved.now (state_in r visit).cell (state_in r visit).time time → IsBefore q r time (state_in r visit) visit
+before-waits q f left r labels open_list fr time visit k ne h free = record {
   known = k;
   early = omega arith;
   free = λ u x y. free u x (omega arith);
   step = record {
     beside = inl refl;
     on_ground = (fr.sound visit k).on_ground;
-    fits = step_ok-same q.reserved.now (time - 1) (moment_in r visit).cell (moment_in r visit).cell (subst (λ z. IsFree q.reserved.now z (moment_in r visit).cell) (let e : time ≡ time - 1 + 1 = omega arith in e) (free time h (omega arith))) refl;
+    fits = step_ok-same q.reserved.now (time - 1) (state_in r visit).cell (state_in r visit).cell (subst (λ z. IsFree q.reserved.now z (state_in r visit).cell) (let e : time ≡ time - 1 + 1 = omega arith in e) (free time h (omega arith))) refl;
   };
 }
 
 -- the visit at one step before: that from which the agent has just come, or the same
-pub before : (q : Question) (f : ℕ) (left : Option ℕ) (r : List Arrival) (labels : Labels) (stacks : List (Vec ℕ Global)) → IsFrontier q f left r labels stacks → (n : ℕ) (last : Cell) (xs : List Cell) (back visit next : ℕ) → IsTraced q r n last xs back visit → back < n → (((moment_in r visit).time ≡ n - back) × (next ≡ (get_or r visit no_arrival).from)) ⊎ (((moment_in r visit).time ≢ n - back) × (next ≡ visit)) → IsBefore q r (n - back) (moment_in r visit) next
-before q f left r labels stacks fr n last xs back visit next tr h (inl w) = subst (IsBefore q r (n - back) (moment_in r visit)) (sym w.1) (before-came q f left r labels stacks fr (n - back) visit tr.known w.0 (omega arith))
-before q f left r labels stacks fr n last xs back visit next tr h (inr w) = subst (IsBefore q r (n - back) (moment_in r visit)) (sym w.1) (before-waits q f left r labels stacks fr (n - back) visit tr.known w.0 tr.early tr.free)
+pub before : (q : Query) (f : ℕ) (left : Option ℕ) (r : List Node) (labels : Labels) (open_list : List (Vec ℕ Global)) → IsFrontier q f left r labels open_list → (n : ℕ) (last : Cell) (xs : List Cell) (back visit next : ℕ) → IsTraced q r n last xs back visit → back < n → (((state_in r visit).time ≡ n - back) × (next ≡ (get_or r visit no_node).parent)) ⊎ (((state_in r visit).time ≢ n - back) × (next ≡ visit)) → IsBefore q r (n - back) (state_in r visit) next
+before q f left r labels open_list fr n last xs back visit next tr h (inl w) = subst (IsBefore q r (n - back) (state_in r visit)) (sym w.1) (before-came q f left r labels open_list fr (n - back) visit tr.known w.0 (omega arith))
+before q f left r labels open_list fr n last xs back visit next tr h (inr w) = subst (IsBefore q r (n - back) (state_in r visit)) (sym w.1) (before-waits q f left r labels open_list fr (n - back) visit tr.known w.0 tr.early tr.free)
 
-module _ (q : Question) (f : ℕ) (left : Option ℕ) (r : List Arrival) (labels : Labels) (stacks : List (Vec ℕ Global)) (fr : IsFrontier q f left r labels stacks) (n : ℕ) (last : Cell) (xs : List Cell) (back : ℕ) (visit : ℕ) (tr : IsTraced q r n last xs back visit) where
-  pub traced-more : (next : ℕ) (ys : List Cell) → back < n → IsBefore q r (n - back) (moment_in r visit) next → ys ≡ xs ++ (moment_in r next).cell ∷ [] → IsTraced q r n last ys (back + 1) next
+module _ (q : Query) (f : ℕ) (left : Option ℕ) (r : List Node) (labels : Labels) (open_list : List (Vec ℕ Global)) (fr : IsFrontier q f left r labels open_list) (n : ℕ) (last : Cell) (xs : List Cell) (back : ℕ) (visit : ℕ) (tr : IsTraced q r n last xs back visit) where
+  pub traced-more : (next : ℕ) (ys : List Cell) → back < n → IsBefore q r (n - back) (state_in r visit) next → ys ≡ xs ++ (state_in r next).cell ∷ [] → IsTraced q r n last ys (back + 1) next
   traced-more next ys h b g = subst (λ z. IsTraced q r n last z (back + 1) next) (sym g) (record {
-    long = omega (arith, length_push xs (moment_in r next).cell, tr.long);
+    long = omega (arith, length_push xs (state_in r next).cell, tr.long);
     bound = omega arith;
-    front = get_or_append_left xs ((moment_in r next).cell ∷ []) origin 0 (omega (arith, tr.long)) ∙ tr.front;
-    end = get_or_push xs (moment_in r next).cell origin (back + 1) tr.long;
+    front = get_or_append_left xs ((state_in r next).cell ∷ []) origin 0 (omega (arith, tr.long)) ∙ tr.front;
+    end = get_or_push xs (state_in r next).cell origin (back + 1) tr.long;
     known = b.known;
     early = (let e = b.early in omega arith);
     free = λ u x y. b.free u x (omega arith);
     steps = λ k l. elim (cases_eq k back) [
       | inl s ↦
-          let a : get_or (xs ++ (moment_in r next).cell ∷ []) (k + 1) origin ≡ (moment_in r next).cell = ap (λ z. get_or (xs ++ (moment_in r next).cell ∷ []) (z + 1) origin) s ∙ get_or_push xs (moment_in r next).cell origin (back + 1) tr.long in
-          let c : get_or (xs ++ (moment_in r next).cell ∷ []) k origin ≡ (moment_in r visit).cell = get_or_append_left xs ((moment_in r next).cell ∷ []) origin k (omega (arith, tr.long)) ∙ ap (λ z. get_or xs z origin) s ∙ tr.end in
+          let a : get_or (xs ++ (state_in r next).cell ∷ []) (k + 1) origin ≡ (state_in r next).cell = ap (λ z. get_or (xs ++ (state_in r next).cell ∷ []) (z + 1) origin) s ∙ get_or_push xs (state_in r next).cell origin (back + 1) tr.long in
+          let c : get_or (xs ++ (state_in r next).cell ∷ []) k origin ≡ (state_in r visit).cell = get_or_append_left xs ((state_in r next).cell ∷ []) origin k (omega (arith, tr.long)) ∙ ap (λ z. get_or xs z origin) s ∙ tr.end in
           let t : n - back - 1 ≡ n - (k + 1) = omega arith in
-          subst (λ z. IsStep q z (get_or (xs ++ (moment_in r next).cell ∷ []) (k + 1) origin) (get_or (xs ++ (moment_in r next).cell ∷ []) k origin)) t (subst (λ z. IsStep q (n - back - 1) z (get_or (xs ++ (moment_in r next).cell ∷ []) k origin)) (sym a) (subst (IsStep q (n - back - 1) (moment_in r next).cell) (sym c) b.step))
+          subst (λ z. IsStep q z (get_or (xs ++ (state_in r next).cell ∷ []) (k + 1) origin) (get_or (xs ++ (state_in r next).cell ∷ []) k origin)) t (subst (λ z. IsStep q (n - back - 1) z (get_or (xs ++ (state_in r next).cell ∷ []) k origin)) (sym a) (subst (IsStep q (n - back - 1) (state_in r next).cell) (sym c) b.step))
       | inr ne ↦
-          let a : get_or (xs ++ (moment_in r next).cell ∷ []) (k + 1) origin ≡ get_or xs (k + 1) origin = get_or_append_left xs ((moment_in r next).cell ∷ []) origin (k + 1) (omega (arith, tr.long)) in
-          let c : get_or (xs ++ (moment_in r next).cell ∷ []) k origin ≡ get_or xs k origin = get_or_append_left xs ((moment_in r next).cell ∷ []) origin k (omega (arith, tr.long)) in
-          subst (λ z. IsStep q (n - (k + 1)) z (get_or (xs ++ (moment_in r next).cell ∷ []) k origin)) (sym a) (subst (IsStep q (n - (k + 1)) (get_or xs (k + 1) origin)) (sym c) (tr.steps k (omega arith)))
+          let a : get_or (xs ++ (state_in r next).cell ∷ []) (k + 1) origin ≡ get_or xs (k + 1) origin = get_or_append_left xs ((state_in r next).cell ∷ []) origin (k + 1) (omega (arith, tr.long)) in
+          let c : get_or (xs ++ (state_in r next).cell ∷ []) k origin ≡ get_or xs k origin = get_or_append_left xs ((state_in r next).cell ∷ []) origin k (omega (arith, tr.long)) in
+          subst (λ z. IsStep q (n - (k + 1)) z (get_or (xs ++ (state_in r next).cell ∷ []) k origin)) (sym a) (subst (IsStep q (n - (k + 1)) (get_or xs (k + 1) origin)) (sym c) (tr.steps k (omega arith)))
     ];
   })
 
   -- the start is reached
-  at-start : n ≤ back → ((moment_in r visit).cell ≡ q.start) × IsTrue (is_passable q.grid.now (place_of (moment_in r visit).cell))
+  at-start : n ≤ back → ((state_in r visit).cell ≡ q.start) × IsTrue (is_passable q.grid.now (place_of (state_in r visit).cell))
   at-start h =
       let s = fr.sound visit tr.known in
       (go s.reached_from, s.on_ground)
     where
-      go : IsReachedFrom q r (moment_in r visit) (get_or r visit no_arrival).from → (moment_in r visit).cell ≡ q.start
+      go : IsReachedFrom q r (state_in r visit) (get_or r visit no_node).parent → (state_in r visit).cell ≡ q.start
       go (inl p) = p.1
       go (inr (t, e, k, step)) = absurd (let z = tr.early in omega arith)
 
@@ -112,7 +112,7 @@ module _ (q : Question) (f : ℕ) (left : Option ℕ) (r : List Arrival) (labels
   pub traced-all : (ys : List Cell) → ys ≡ reverse xs → n ≤ back → IsTrail q n last ys
   traced-all ys e h =
       let b = tr.bound in
-      let first : cell_at ys 0 ≡ (moment_in r visit).cell = turned ys e h 0 (omega arith) ∙ ap (λ z. get_or xs z origin) (let z : n - 0 ≡ back = omega arith in z) ∙ tr.end in
+      let first : cell_at ys 0 ≡ (state_in r visit).cell = turned ys e h 0 (omega arith) ∙ ap (λ z. get_or xs z origin) (let z : n - 0 ≡ back = omega arith in z) ∙ tr.end in
       let s = at-start h in
       record {
         long = ap length e ∙ length-reverse xs ∙ tr.long ∙ (let z : back + 1 ≡ n + 1 = omega arith in z);

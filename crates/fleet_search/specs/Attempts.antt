@@ -3,11 +3,11 @@ use Rattle.std.specs.Prelude.{◌≡◌, ℕ, ◌<◌, ◌≤◌, Bool, true, fa
 use Rattle.fleet_model.specs.declared.geometry.Cell.{Cell}
 use Rattle.fleet_model.specs.declared.task.Task.{Task}
 use Rattle.fleet_plan.specs.Plan.{Plan}
-use Rattle.fleet_search.specs.Way.{Fits, IsEarliest, HasNoWay}
+use Rattle.fleet_search.specs.Way.{Fits, IsEarliest, IsInfeasible}
 use Rattle.fleet_grid.specs.Ground.{is_passable}
 use Rattle.fleet_search.specs.Distance.{IsReady}
 use Rattle.fleet_search.specs.Labels.{AreLabels}
-use Rattle.fleet_search.specs.InTurn.{IsMadeInTurn}
+use Rattle.fleet_search.specs.InTurn.{IsPrioritisedPlan}
 use Rattle.fleet_search.specs.Orders.{rising, tasks_by, IsStuckInOrder}
 use Rattle.fleet_search.specs.declared.orders.Problem.{Problem}
 use Rattle.fleet_search.specs.declared.orders.Tables.{Tables}
@@ -29,7 +29,7 @@ IsPathAdded problem agent old new true =
     (path : List Cell) × (new ≡ old ++ path ∷ [])
     × ((task : Task) → slice_get problem.instance.now agent ≡ Some task → IsEarliest (is_passable problem.grid.now) old task.start task.goal problem.horizon path)
 IsPathAdded problem agent old new false =
-    (new ≡ old) × ((task : Task) → slice_get problem.instance.now agent ≡ Some task → HasNoWay (is_passable problem.grid.now) old task.start task.goal problem.horizon)
+    (new ≡ old) × ((task : Task) → slice_get problem.instance.now agent ≡ Some task → IsInfeasible (is_passable problem.grid.now) old task.start task.goal problem.horizon)
 
 -- the path was the agent's earliest past some others
 abbrev pub IsOldPath : Problem → ℕ → List Cell → Type 0
@@ -46,12 +46,12 @@ pub record ArePathsKept (old new paths : Plan) (kept : ℕ) : Type 0 where
 -- paths of the agents after the first one of the order, each the earliest against those before it
 abbrev pub IsMadeAfterFirst : Problem → List ℕ → Plan → Type 0
 IsMadeAfterFirst problem order paths =
-    IsMadeInTurn (is_passable problem.grid.now) (drop 1 (tasks_by order problem.instance.now)) problem.horizon (length paths) paths
+    IsPrioritisedPlan (is_passable problem.grid.now) (drop 1 (tasks_by order problem.instance.now)) problem.horizon (length paths) paths
 
 -- paths of the agents as they stand in the order, each the earliest against those before it; or such paths of the agents before one that is left
 -- without a path
 abbrev pub IsAttempt : Problem → List ℕ → Attempt → Type 0
-IsAttempt problem order (Made paths) = IsMadeInTurn (is_passable problem.grid.now) (tasks_by order problem.instance.now) problem.horizon (length order) paths.items
+IsAttempt problem order (Made paths) = IsPrioritisedPlan (is_passable problem.grid.now) (tasks_by order problem.instance.now) problem.horizon (length order) paths.items
 IsAttempt problem order (Stuck paths) =
     IsStuckInOrder (is_passable problem.grid.now) problem.instance.now problem.horizon order (length paths.items)
-    × IsMadeInTurn (is_passable problem.grid.now) (tasks_by order problem.instance.now) problem.horizon (length paths.items) paths.items
+    × IsPrioritisedPlan (is_passable problem.grid.now) (tasks_by order problem.instance.now) problem.horizon (length paths.items) paths.items

@@ -31,14 +31,14 @@ label_in g labels search c = labelled search (get_or labels (cell_index g c) no_
 unfoldable pub manhattan : Cell → Cell → ℕ
 manhattan a b = abs_diff a.x b.x + abs_diff a.y b.y
 
--- how many moves lead from the cell to the goal at least, by the sides alone, and where a path of fewer moves than `reach` from the start
+-- how many moves lead from the cell to the goal at least, by the sides alone, and where a path of fewer moves than `f_bound` from the start
 -- to the goal does not lead over it
 unfoldable pub least_moves : Distances → Cell → ℕ
-least_moves d c = max (manhattan c d.goal) (d.reach - manhattan c d.start)
+least_moves d c = max (manhattan c d.goal) (d.f_bound - manhattan c d.start)
 
 -- how many moves lead from the cell to the goal at least: its label, where that is no more
-unfoldable pub far : Ground → Distances → Cell → ℕ
-far g d c = min (unwrap_or (label_in g d.labels.items d.search c) (least_moves d c)) (least_moves d c)
+unfoldable pub heuristic : Ground → Distances → Cell → ℕ
+heuristic g d c = min (unwrap_or (label_in g d.labels.items d.search c) (least_moves d c)) (least_moves d c)
 
 -- a table for the map, with no label of a later search
 pub record IsReady (g : Ground) (labels : List Label) (search : ℕ) : Type 0 where
@@ -50,31 +50,31 @@ pub record IsReady (g : Ground) (labels : List Label) (search : ℕ) : Type 0 wh
 pub record AreDistances (g : Ground) (d : Distances) (goal : Cell) : Type 0 where
   pub ready : IsReady g d.labels.items d.search
   pub goal_on_ground : IsOnGround g d.goal
-  pub few : d.reach ≤ MAX_HORIZON + 1
-  pub at_goal : far g d goal ≡ 0
-  pub near : (c e : Cell) → IsOnGround g c → IsOnGround g e → AreNeighbours c e → far g d e ≤ far g d c + 1
+  pub few : d.f_bound ≤ MAX_HORIZON + 1
+  pub at_goal : heuristic g d goal ≡ 0
+  pub near : (c e : Cell) → IsOnGround g c → IsOnGround g e → AreNeighbours c e → heuristic g d e ≤ heuristic g d c + 1
 
 -- all passable neighbours of the cell are labelled, with at most one move more
 abbrev pub IsClosed : Ground → List Label → ℕ → Cell → ℕ → Type 0
 IsClosed g labels search c n = (e : Cell) → AreNeighbours c e → IsOnGround g e → (m : ℕ) × (label_in g labels search e ≡ Some m) × (m ≤ n + 1)
 
 -- the cell's neighbours are still to be labelled, now or after those of the layer
-abbrev pub IsWaiting : (reach distance : ℕ) → List Cell → List Cell → Option Cell → Cell → Type 0
-IsWaiting reach distance layer next left c =
-    ((distance ≡ reach) × (Contains layer c ⊎ (left ≡ Some c))) ⊎ ((distance ≡ reach + 2) × Contains next c)
+abbrev pub IsWaiting : (f_bound distance : ℕ) → List Cell → List Cell → Option Cell → Cell → Type 0
+IsWaiting f_bound distance layer next left c =
+    ((distance ≡ f_bound) × (Contains layer c ⊎ (left ≡ Some c))) ⊎ ((distance ≡ f_bound + 2) × Contains next c)
 
 -- a labelled cell is closed, or waits on the list of the moves of a path from the start over it
-pub record IsSpread (g : Ground) (labels : List Label) (search : ℕ) (start goal : Cell) (reach : ℕ) (left : Option Cell) (layer next : List Cell) : Type 0 where
+pub record IsSpread (g : Ground) (labels : List Label) (search : ℕ) (start goal : Cell) (f_bound : ℕ) (left : Option Cell) (layer next : List Cell) : Type 0 where
   pub ready : IsReady g labels search
   pub goal_on_ground : IsOnGround g goal
   pub at_goal : label_in g labels search goal ≡ Some 0
   pub apart : (c : Cell) (n : ℕ) → IsOnGround g c → label_in g labels search c ≡ Some n → manhattan c goal ≤ n
   pub in_layer : (c : Cell) → Contains layer c → IsOnGround g c
   pub in_next : (c : Cell) → Contains next c → IsOnGround g c
-  pub closed : (c : Cell) (n : ℕ) → IsOnGround g c → label_in g labels search c ≡ Some n → IsClosed g labels search c n ⊎ IsWaiting reach (n + manhattan c start) layer next left c
+  pub closed : (c : Cell) (n : ℕ) → IsOnGround g c → label_in g labels search c ≡ Some n → IsClosed g labels search c n ⊎ IsWaiting f_bound (n + manhattan c start) layer next left c
 
-abbrev pub SpreadIs : Ground → Option Cell → Distances → Type 0
-SpreadIs g left s = IsSpread g s.labels.items s.search s.start s.goal s.reach left s.layer.items s.next.items
+abbrev pub IsSpreadOf : Ground → Option Cell → Distances → Type 0
+IsSpreadOf g left s = IsSpread g s.labels.items s.search s.start s.goal s.f_bound left s.layer.items s.next.items
 
 -- the cell that is left is labelled with d moves
 abbrev pub IsLabelled : Ground → Distances → Cell → ℕ → Type 0
@@ -92,7 +92,7 @@ IsFoundTowards g s d left dir = (e : Cell) → place_of e ≡ moved (place_of le
 pub record IsSameSearch (old new : Distances) : Type 0 where
   pub start : new.start ≡ old.start
   pub goal : new.goal ≡ old.goal
-  pub reach : new.reach ≡ old.reach
+  pub f_bound : new.f_bound ≡ old.f_bound
 
 -- how much there is still to be labelled, and on the layer to be left
 abbrev pub label_weight : ℕ → Label → ℕ

@@ -1,7 +1,7 @@
 pub mod Way
 pub mod Reserved
-pub mod Stays
-pub mod Gaps
+pub mod Occupancies
+pub mod Intervals
 pub mod Rows
 pub mod Distance
 pub mod Search

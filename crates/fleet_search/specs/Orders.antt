@@ -5,7 +5,7 @@ use Rattle.fleet_model.specs.declared.geometry.Place.{Place}
 use Rattle.fleet_model.specs.declared.task.Task.{Task}
 use Rattle.fleet_model.specs.Program.{origin}
 use Rattle.fleet_plan.specs.Plan.{Plan}
-use Rattle.fleet_search.specs.InTurn.{IsMadeInTurn, IsStuckAt}
+use Rattle.fleet_search.specs.InTurn.{IsPrioritisedPlan, HasNoPathFor}
 
 pub no_task : Task
 no_task = record { start = origin; goal = origin }
@@ -29,11 +29,11 @@ to_front order place = get_or order place 0 ∷ remove order place
 -- in the order each path is the earliest against those before it
 abbrev pub IsMadeInOrder : (Place → Bool) → List Task → ℕ → List ℕ → Plan → Type 0
 IsMadeInOrder passable tasks horizon order plan =
-    IsMadeInTurn passable (tasks_by order tasks) horizon (length order) (paths_by order plan)
+    IsPrioritisedPlan passable (tasks_by order tasks) horizon (length order) (paths_by order plan)
 
 -- paths so made for the agents before it in the order leave the agent at the place none
 abbrev pub IsStuckInOrder : (Place → Bool) → List Task → ℕ → List ℕ → ℕ → Type 0
-IsStuckInOrder passable tasks horizon order place = IsStuckAt passable (tasks_by order tasks) horizon place
+IsStuckInOrder passable tasks horizon order place = HasNoPathFor passable (tasks_by order tasks) horizon place
 
 -- The order comes after so many others: none comes before that of the agents' numbers, and after an order that leaves an agent without a path
 -- comes the one in which that agent is first

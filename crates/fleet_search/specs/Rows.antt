@@ -1,4 +1,4 @@
--- Rows of numbers: stacks.
+-- Rows of numbers: buckets.
 use Rattle.std.specs.Prelude.{◌≡◌, ℕ, ◌==◌, cond, List, [], ◌∷◌, ◌++◌, map, get_or, Vec}
 use Rattle.std.specs.declared.alloc.Global.{Global}
 

@@ -47,7 +47,7 @@ abbrev pub arrival : List Cell → ℕ
 arrival path = length path - 1
 
 -- a path from start to goal over passable cells, by equal or neighbouring cells, that fits the reserved ones and stays on the goal for good
-pub record IsWay (passable : Place → Bool) (reserved : Plan) (start goal : Cell) (path : List Cell) : Type 0 where
+pub record IsFeasiblePath (passable : Place → Bool) (reserved : Plan) (start goal : Cell) (path : List Cell) : Type 0 where
   pub some_cells : 1 ≤ length path
   pub starts : cell_at path 0 ≡ start
   pub ends : cell_at path (arrival path) ≡ goal
@@ -57,10 +57,10 @@ pub record IsWay (passable : Place → Bool) (reserved : Plan) (start goal : Cel
 
 -- a way that arrives by the horizon, and none arrives sooner
 pub record IsEarliest (passable : Place → Bool) (reserved : Plan) (start goal : Cell) (horizon : ℕ) (path : List Cell) : Type 0 where
-  pub way : IsWay passable reserved start goal path
+  pub way : IsFeasiblePath passable reserved start goal path
   pub in_time : arrival path ≤ horizon
-  pub none_sooner : (other : List Cell) → IsWay passable reserved start goal other → arrival path ≤ arrival other
+  pub none_sooner : (other : List Cell) → IsFeasiblePath passable reserved start goal other → arrival path ≤ arrival other
 
 -- no way arrives by the horizon
-abbrev pub HasNoWay : (Place → Bool) → Plan → Cell → Cell → ℕ → Type 0
-HasNoWay passable reserved start goal horizon = (path : List Cell) → IsWay passable reserved start goal path → arrival path ≤ horizon → ⊥
+abbrev pub IsInfeasible : (Place → Bool) → Plan → Cell → Cell → ℕ → Type 0
+IsInfeasible passable reserved start goal horizon = (path : List Cell) → IsFeasiblePath passable reserved start goal path → arrival path ≤ horizon → ⊥

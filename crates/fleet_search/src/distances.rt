@@ -2,7 +2,7 @@
 
 ghost use Rattle.std.specs.Prelude.{◌≡◌, ◌+◌, ◌<◌, ◌≤◌, ◌↔◌, ℕ, IsTrue, IfOk, OnOk, Some, None, [], length, get_or};
 ghost use Rattle.fleet_model.specs.declared.limits.TheConstants.{MAX_HORIZON};
-ghost use Rattle.fleet_search.specs.Distance.{no_label, label_in, manhattan, least_moves, far, IsReady, AreDistances, IsOnGround, SpreadIs, IsLabelled, IsFoundTowards, LabelsFall, IsSameSearch, IsNear, IsPutFrom, work_left};
+ghost use Rattle.fleet_search.specs.Distance.{no_label, label_in, manhattan, least_moves, heuristic, IsReady, AreDistances, IsOnGround, IsSpreadOf, IsLabelled, IsFoundTowards, LabelsFall, IsSameSearch, IsNear, IsPutFrom, work_left};
 
 use fleet_grid::Grid;
 use fleet_model::{Cell, Dir, OutOfMemory};
@@ -32,8 +32,8 @@ pub struct Distances {
     pub start: Cell,
     pub goal: Cell,
     /// Cells over which a path of fewer moves from the start to the goal leads have been left.
-    pub reach: u32,
-    /// Cells whose neighbours are being labelled: those over which a path of `reach` moves leads.
+    pub f_bound: u32,
+    /// Cells whose neighbours are being labelled: those over which a path of `f_bound` moves leads.
     pub layer: Vec<Cell>,
     /// Cells over which a path of two moves more leads. A move changes that number by nothing or by two.
     pub next: Vec<Cell>,
@@ -65,7 +65,7 @@ impl Distances {
             search: 0,
             start: corner,
             goal: corner,
-            reach: 0,
+            f_bound: 0,
             layer: Vec::new(alloc),
             next: Vec::new(alloc),
             last: Effort { delay: 0, nodes: 0 },
@@ -77,18 +77,18 @@ impl Distances {
     fn least_moves(&self, cell: Cell) -> u32
         ensures { result ≡ least_moves self.now cell }
     {
-        let behind = self.reach.saturating_sub(manhattan(cell, self.start));
+        let behind = self.f_bound.saturating_sub(manhattan(cell, self.start));
         manhattan(cell, self.goal).max(behind)
     }
 
     /// How many moves lead from the cell to the goal at least.
-    #[tactic(auto, unfolding(crate::specs::Distance::far))]
-    pub fn from(&self, grid: &Grid, cell: Cell) -> u32
+    #[tactic(auto, unfolding(crate::specs::Distance::heuristic))]
+    pub fn heuristic(&self, grid: &Grid, cell: Cell) -> u32
         requires ready { IsReady grid.now self.now.labels.items self.now.search }
         requires cell { IsOnGround grid.now cell }
         requires goal { IsOnGround grid.now self.now.goal }
-        requires few { self.now.reach ≤ MAX_HORIZON + 1 }
-        ensures value { result ≡ far grid.now self.now cell }
+        requires few { self.now.f_bound ≤ MAX_HORIZON + 1 }
+        ensures value { result ≡ heuristic grid.now self.now cell }
         ensures limit { result ≤ MAX_HORIZON + 1 }
     {
         let least = self.least_moves(cell);
@@ -140,11 +140,11 @@ impl Distances {
         dir: Dir,
     ) -> Result<(), OutOfMemory>
         requires few { distance < MAX_HORIZON }
-        requires spread { SpreadIs grid.now (Some left) self.old }
+        requires spread { IsSpreadOf grid.now (Some left) self.old }
         requires left { IsLabelled grid.now self.old left distance }
         requires cell { IsOnGround grid.now left }
-        requires reach { distance + manhattan left self.old.start ≡ self.old.reach }
-        ensures spread { OnOk result (SpreadIs grid.now (Some left) self.new) }
+        requires f_bound { distance + manhattan left self.old.start ≡ self.old.f_bound }
+        ensures spread { OnOk result (IsSpreadOf grid.now (Some left) self.new) }
         ensures left { OnOk result (IsLabelled grid.now self.new left distance) }
         ensures found { OnOk result (IsFoundTowards grid.now self.new distance left dir) }
         ensures fall { OnOk result (LabelsFall grid.now self.old self.new) }
@@ -166,19 +166,19 @@ impl Distances {
         Ok(())
     }
 
-    /// Labels the neighbours of a cell, where a path of `reach` moves leads over it; else it was left before.
-    fn leave(&mut self, grid: &Grid, left: Cell) -> Result<(), OutOfMemory>
-        requires few { self.old.reach < MAX_HORIZON }
-        requires spread { SpreadIs grid.now (Some left) self.old }
+    /// Labels the neighbours of a cell, where a path of `f_bound` moves leads over it; else it was left before.
+    fn expand(&mut self, grid: &Grid, left: Cell) -> Result<(), OutOfMemory>
+        requires few { self.old.f_bound < MAX_HORIZON }
+        requires spread { IsSpreadOf grid.now (Some left) self.old }
         requires cell { IsOnGround grid.now left }
-        ensures spread { OnOk result (SpreadIs grid.now None self.new) }
+        ensures spread { OnOk result (IsSpreadOf grid.now None self.new) }
         ensures same { OnOk result (IsSameSearch self.old self.new) }
         ensures work { OnOk result (work_left self.new ≤ work_left self.old) }
     {
         let Some(distance) = self.label(grid, left) else {
             return Ok(());
         };
-        if u32::from(distance) + manhattan(left, self.start) != self.reach {
+        if u32::from(distance) + manhattan(left, self.start) != self.f_bound {
             return Ok(());
         }
         self.label_towards(grid, distance, left, Dir::North)?;
@@ -189,40 +189,40 @@ impl Distances {
     }
 
     /// Leaves the cells of the layer, and those that come onto it.
-    fn spread(&mut self, grid: &Grid) -> Result<(), OutOfMemory>
-        requires few { self.old.reach < MAX_HORIZON }
-        requires spread { SpreadIs grid.now None self.old }
-        ensures spread { OnOk result (SpreadIs grid.now None self.new) }
+    fn expand_layer(&mut self, grid: &Grid) -> Result<(), OutOfMemory>
+        requires few { self.old.f_bound < MAX_HORIZON }
+        requires spread { IsSpreadOf grid.now None self.old }
+        ensures spread { OnOk result (IsSpreadOf grid.now None self.new) }
         ensures layer { OnOk result (self.new.layer.items ≡ []) }
         ensures same { OnOk result (IsSameSearch self.old self.new) }
     {
         while let Some(left) = self.layer.pop() {
-            self.leave(grid, left)?;
+            self.expand(grid, left)?;
         }
         Ok(())
     }
 
     /// Turns to the cells over which a path of two moves more leads.
-    fn turn(&mut self)
-        requires few { self.old.reach < MAX_HORIZON }
+    fn next_layer(&mut self)
+        requires few { self.old.f_bound < MAX_HORIZON }
         requires layer { self.old.layer.items ≡ [] }
         ensures labels { self.new.labels ≡ self.old.labels }
         ensures search { self.new.search ≡ self.old.search }
         ensures start { self.new.start ≡ self.old.start }
         ensures goal { self.new.goal ≡ self.old.goal }
-        ensures reach { self.new.reach ≡ self.old.reach + 2 }
+        ensures f_bound { self.new.f_bound ≡ self.old.f_bound + 2 }
         ensures layer { self.new.layer.items ≡ self.old.next.items }
         ensures next { self.new.next.items ≡ [] }
     {
         mem::swap(&mut self.layer, &mut self.next);
-        self.reach += 2;
+        self.f_bound += 2;
     }
 
     /// Labels the goal, and nothing else in this search.
-    fn open(&mut self, grid: &Grid, start: Cell, goal: Cell) -> Result<(), OutOfMemory>
+    fn begin(&mut self, grid: &Grid, start: Cell, goal: Cell) -> Result<(), OutOfMemory>
         requires ready { IsReady grid.now self.old.labels.items self.old.search }
         requires goal { IsOnGround grid.now goal }
-        ensures spread { OnOk result (SpreadIs grid.now None self.new) }
+        ensures spread { OnOk result (IsSpreadOf grid.now None self.new) }
         ensures next { OnOk result (self.new.next.items ≡ []) }
         ensures start { OnOk result (self.new.start ≡ start) }
         ensures goal { OnOk result (self.new.goal ≡ goal) }
@@ -230,7 +230,7 @@ impl Distances {
         self.renumber();
         self.start = start;
         self.goal = goal;
-        self.reach = manhattan(goal, start);
+        self.f_bound = manhattan(goal, start);
         self.layer.clear();
         self.next.clear();
         let place = grid.cell_index(goal);
@@ -264,28 +264,28 @@ impl Distances {
     fn is_wanted(&self, grid: &Grid, horizon: u16, labelled: usize) -> bool
         requires ready { IsReady grid.now self.now.labels.items self.now.search }
         requires start { IsOnGround grid.now self.now.start }
-        ensures { IsTrue result → (self.now.reach < MAX_HORIZON) }
+        ensures { IsTrue result → (self.now.f_bound < MAX_HORIZON) }
     {
-        if self.layer.is_empty() || self.reach > u32::from(horizon.min(65534)) {
+        if self.layer.is_empty() || self.f_bound > u32::from(horizon.min(65534)) {
             return false;
         }
         match self.label(grid, self.start) {
             None => true,
             Some(distance) => {
                 let least = u32::from(distance);
-                self.reach <= least
+                self.f_bound <= least
                     || labelled < self.last.nodes
-                        && self.reach <= least.saturating_add(self.last.delay)
+                        && self.f_bound <= least.saturating_add(self.last.delay)
             }
         }
     }
 
     /// Labels cells as far as that is wanted.
-    fn sweep(&mut self, grid: &Grid, horizon: u16) -> Result<(), OutOfMemory>
-        requires spread { SpreadIs grid.now None self.old }
+    fn expand_layers(&mut self, grid: &Grid, horizon: u16) -> Result<(), OutOfMemory>
+        requires spread { IsSpreadOf grid.now None self.old }
         requires start { IsOnGround grid.now self.old.start }
         requires next { self.old.next.items ≡ [] }
-        ensures spread { OnOk result (SpreadIs grid.now None self.new) }
+        ensures spread { OnOk result (IsSpreadOf grid.now None self.new) }
         ensures next { OnOk result (self.new.next.items ≡ []) }
         ensures goal { OnOk result (self.new.goal ≡ self.old.goal) }
     {
@@ -295,8 +295,8 @@ impl Distances {
                 return Ok(());
             }
             labelled = labelled.saturating_add(self.layer.len());
-            self.spread(grid)?;
-            self.turn();
+            self.expand_layer(grid)?;
+            self.next_layer();
         }
         Ok(())
     }
@@ -311,7 +311,7 @@ impl Distances {
 
     /// Labels the cells over which the shortest paths from the start to the goal lead, and those over which paths lead that are
     /// delayed as the last one was, up to the horizon.
-    pub fn measure(
+    pub fn compute(
         &mut self,
         grid: &Grid,
         start: Cell,
@@ -323,15 +323,15 @@ impl Distances {
         requires goal { IsOnGround grid.now goal }
         ensures { OnOk result (AreDistances grid.now self.new goal) }
     {
-        self.open(grid, start, goal)?;
-        self.sweep(grid, horizon)?;
+        self.begin(grid, start, goal)?;
+        self.expand_layers(grid, horizon)?;
         // Where nothing is left to be labelled, no path from the start leads to the goal over the cells that are not: they
         // count as beyond the horizon.
         let beyond = u32::from(horizon) + 1;
         if self.layer.is_empty() {
-            self.reach = beyond;
+            self.f_bound = beyond;
         } else {
-            self.reach = self.reach.min(beyond);
+            self.f_bound = self.f_bound.min(beyond);
         }
         Ok(())
     }

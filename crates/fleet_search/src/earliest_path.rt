@@ -5,11 +5,11 @@ ghost use Rattle.fleet_grid.specs.Ground.{is_passable};
 ghost use Rattle.fleet_search.specs.Distance.{IsReady};
 ghost use Rattle.fleet_search.specs.Search.{IsAsked};
 ghost use Rattle.fleet_search.specs.Labels.{AreLabels};
-ghost use Rattle.fleet_search.specs.Way.{IsEarliest, HasNoWay};
+ghost use Rattle.fleet_search.specs.Way.{IsEarliest, IsInfeasible};
 
 use crate::distances::{Distances, Effort};
 use crate::fault::SearchFault;
-use crate::frontier::{Frontier, Question};
+use crate::frontier::{BucketEnd, Frontier, Query};
 use crate::reservations::Reservations;
 use fleet_grid::Grid;
 use fleet_model::Cell;
@@ -17,30 +17,28 @@ use fleet_plan::Path;
 use std::alloc::Global;
 
 /// Looks for paths in the order of their arrival.
-fn search(frontier: &mut Frontier, question: &Question) -> Result<Path, SearchFault>
-    requires asked { IsAsked question.now }
-    requires rest { question.now.rest ≤ question.now.horizon }
+fn search(frontier: &mut Frontier, query: &Query) -> Result<Path, SearchFault>
+    requires asked { IsAsked query.now }
+    requires goal_free_from { query.now.goal_free_from ≤ query.now.horizon }
     requires labels { AreLabels frontier.old.labels }
-    ensures ok { IfOk result (IsEarliest (is_passable question.now.grid.now) question.now.reserved.now question.now.start question.now.goal question.now.horizon) }
-    ensures no_path { IfErr result (λ e. e ≡ SearchFault.NoPath → HasNoWay (is_passable question.now.grid.now) question.now.reserved.now question.now.start question.now.goal question.now.horizon) }
+    ensures ok { IfOk result (IsEarliest (is_passable query.now.grid.now) query.now.reserved.now query.now.start query.now.goal query.now.horizon) }
+    ensures no_path { IfErr result (λ e. e ≡ SearchFault.NoPath → IsInfeasible (is_passable query.now.grid.now) query.now.reserved.now query.now.start query.now.goal query.now.horizon) }
     ensures labels { OnOk result (AreLabels frontier.new.labels) }
     ensures kept { IfErr result (λ e. e ≡ SearchFault.NoPath → AreLabels frontier.new.labels) }
 {
-    if question.far(question.start) > question.horizon {
+    if query.heuristic(query.start) > query.horizon {
         return Err(SearchFault::NoPath);
     }
-    frontier.open(question)?;
-    let mut slot = 0;
-    while slot <= question.horizon {
-        let before = frontier.reached.len();
-        if let Some(last) = frontier.sweep(question, slot)? {
-            let path = frontier.path_to(last)?;
-            return Ok(path);
-        }
-        if frontier.reached.len() > before {
-            slot = slot.saturating_sub(1);
-        } else {
-            slot += 1;
+    frontier.begin(query)?;
+    let mut bucket = 0;
+    while bucket <= query.horizon {
+        match frontier.expand_bucket(query, bucket)? {
+            BucketEnd::Goal(last) => {
+                let path = frontier.path_to(last)?;
+                return Ok(path);
+            }
+            BucketEnd::Grew => bucket = bucket.saturating_sub(1),
+            BucketEnd::Empty => bucket += 1,
         }
     }
     Err(SearchFault::NoPath)
@@ -63,7 +61,7 @@ pub fn earliest_over(
     ensures kept { IfErr result (λ e. e ≡ SearchFault.NoPath
         → IsReady grid.now distances.new.labels.items distances.new.search × AreLabels frontier.new.labels) }
     ensures ok { IfOk result (IsEarliest (is_passable grid.now) reserved.now start goal horizon) }
-    ensures no_path { IfErr result (λ e. e ≡ SearchFault.NoPath → HasNoWay (is_passable grid.now) reserved.now start goal horizon) }
+    ensures no_path { IfErr result (λ e. e ≡ SearchFault.NoPath → IsInfeasible (is_passable grid.now) reserved.now start goal horizon) }
 {
     if !grid.passable(start) {
         return Err(SearchFault::NoPath);
@@ -74,14 +72,14 @@ pub fn earliest_over(
     if reserved.occupant(0, start).is_some() {
         return Err(SearchFault::NoPath);
     }
-    let Some(rest) = reserved.free_from(goal) else {
+    let Some(goal_free_from) = reserved.free_from(goal) else {
         return Err(SearchFault::NoPath);
     };
-    if rest > u32::from(horizon) {
+    if goal_free_from > u32::from(horizon) {
         return Err(SearchFault::NoPath);
     }
-    distances.measure(grid, start, goal, horizon)?;
-    let question = Question {
+    distances.compute(grid, start, goal, horizon)?;
+    let query = Query {
         grid,
         reserved,
         rows: reserved.rows(),
@@ -89,13 +87,13 @@ pub fn earliest_over(
         start,
         goal,
         horizon: u32::from(horizon),
-        rest,
+        goal_free_from,
     };
-    let least = question.far(start);
-    let path = search(frontier, &question)?;
+    let least = query.heuristic(start);
+    let path = search(frontier, &query)?;
     distances.learn(Effort {
         delay: path.steps().saturating_sub(least),
-        nodes: frontier.reached.len(),
+        nodes: frontier.nodes.len(),
     });
     Ok(path)
 }
@@ -111,7 +109,7 @@ pub fn earliest(
     horizon: u16,
 ) -> Result<Path, SearchFault>
     ensures ok { IfOk result (IsEarliest (is_passable grid.now) reserved.now start goal horizon) }
-    ensures no_path { IfErr result (λ e. e ≡ SearchFault.NoPath → HasNoWay (is_passable grid.now) reserved.now start goal horizon) }
+    ensures no_path { IfErr result (λ e. e ≡ SearchFault.NoPath → IsInfeasible (is_passable grid.now) reserved.now start goal horizon) }
 {
     let mut distances = Distances::new(alloc, grid)?;
     let mut frontier = Frontier::new(alloc);

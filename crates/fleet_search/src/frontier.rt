@@ -1,372 +1,388 @@
-//! The search over cells and times: what has been reached, and what is still to be left.
+//! The search over states, that is cells at times: the nodes that were made, and those that are still to be expanded.
 //!
-//! An agent that comes to a cell may wait there for as long as nobody else comes. So of the times in a gap between the
+//! An agent that comes to a cell may wait there for as long as nobody else comes. So of the times in a safe interval between the
 //! stays of others on a cell only the earliest counts (safe intervals: Phillips and Likhachev 2011).
 
-ghost use Rattle.std.specs.Prelude.{◌≡◌, ◌+◌, ◌-◌, ◌<◌, ◌≤◌, ◌↔◌, IsTrue, IfOk, OnOk, Some, None, MatchOption, length};
+ghost use Rattle.std.specs.Prelude.{◌≡◌, ◌+◌, ◌-◌, ◌<◌, ◌≤◌, ◌↔◌, IsTrue, IfOk, OnOk, Some, None, length};
 ghost use Rattle.fleet_model.specs.Geometry.{place_of, moved};
 ghost use Rattle.fleet_grid.specs.Ground.{is_passable};
 ghost use Rattle.fleet_model.specs.declared.geometry.Cell.{Cell};
 ghost use Rattle.fleet_model.specs.declared.limits.TheConstants.{MAX_HORIZON};
 ghost use Rattle.fleet_search.specs.Reserved.{IsFree};
 ghost use Rattle.fleet_search.specs.Way.{StepFits};
-ghost use Rattle.fleet_search.specs.Gaps.{IsInGap};
-ghost use Rattle.fleet_search.specs.Search.{far_of, stays_on, IsMeasured, IsEnd, IsSlot, IsLeft, IsLeaving, LeavesOn, FrontierIs, Grows, IsAsked, IsSearched, IsTrailOf, IsFreeUntil, IsFoundAt, IsFoundIn, IsFoundFrom, IsBeside, IsSwept, IsFound, IsSuperseded};
+ghost use Rattle.fleet_search.specs.Intervals.{IsInInterval};
+ghost use Rattle.fleet_search.specs.Search.{heuristic_of, occupancies_on, IsMeasured, IsEnd, IsBucket, IsLeft, IsExpansion, ExpandsOn, IsFrontierOf, Grows, IsAsked, IsSearched, IsTrailOf, IsFreeUntil, IsFoundAt, IsFoundIn, IsFoundFrom, IsNeighbour, HasEnded, IsSuperseded};
 ghost use Rattle.fleet_search.specs.Labels.{AreLabels};
 
 use crate::distances::Distances;
-use crate::gaps::{begins_after, first_in, next_begin};
+use crate::intervals::{begins_after, earliest_within, end_after};
 use crate::labels::Labels;
-use crate::moment::Moment;
+use crate::occupancy::Occupancy;
+use crate::reservation_table::{occupancies_on, started_by};
 use crate::reservations::Reservations;
 use crate::rows::{clear, put, take};
-use crate::stay::Stay;
-use crate::timetable::{begun, stays_on};
+use crate::state::State;
 use fleet_grid::Grid;
 use fleet_model::{Cell, Dir, OutOfMemory};
 use fleet_plan::Path;
 use std::alloc::Global;
 
-/// What is searched for: a path from `start` to `goal` that arrives by the horizon, and not before `rest`.
+/// What is searched for: a path from `start` to `goal` that arrives by the horizon, and not before `goal_free_from`.
 #[derive(Drop)]
-pub struct Question<'a> {
+pub struct Query<'a> {
     pub grid: &'a Grid,
     pub reserved: &'a Reservations,
-    /// For each cell the stays of the reserved agents there.
-    pub rows: &'a [Vec<Vec<Stay>>],
+    /// For each cell the occupancies of the reserved agents there.
+    pub rows: &'a [Vec<Vec<Occupancy>>],
     pub distances: &'a Distances,
     pub start: Cell,
     pub goal: Cell,
     pub horizon: u32,
-    pub rest: u32,
+    pub goal_free_from: u32,
 }
 
-impl Question<'_> {
+impl Query<'_> {
     /// How many moves lead from the cell to the goal at least.
-    pub fn far(&self, cell: Cell) -> u32
+    pub fn heuristic(&self, cell: Cell) -> u32
         requires measured { IsMeasured self.now }
         requires cell { IsTrue (is_passable self.now.grid.now (place_of cell)) }
-        ensures value { result ≡ far_of self.now cell }
+        ensures value { result ≡ heuristic_of self.now cell }
         ensures limit { result ≤ MAX_HORIZON + 1 }
     {
-        self.distances.from(self.grid, cell)
+        self.distances.heuristic(self.grid, cell)
     }
 
-    /// The stays of the reserved agents on the cell, in the order of time.
-    fn stays(&self, cell: Cell) -> &[Stay]
-        ensures { result.now ≡ stays_on self.now cell }
+    /// The occupancies of the reserved agents on the cell, in the order of time.
+    fn occupancies(&self, cell: Cell) -> &[Occupancy]
+        ensures { result.now ≡ occupancies_on self.now cell }
     {
-        stays_on(self.rows, cell)
+        occupancies_on(self.rows, cell)
     }
 
     /// Until when the agent may wait on the cell.
-    fn until(&self, at: Moment) -> u32
+    fn until(&self, state: State) -> u32
         requires measured { IsMeasured self.now }
-        requires free { IsFree self.now.reserved.now at.time at.cell }
-        ensures { IsFreeUntil self.now at result }
+        requires free { IsFree self.now.reserved.now state.time state.cell }
+        ensures { IsFreeUntil self.now state result }
     {
-        next_begin(self.stays(at.cell), at.time)
+        end_after(self.occupancies(state.cell), state.time)
     }
 
     /// Whether the step that begins at the time fits, where nobody is on the cell at its end.
-    fn fits(&self, left: Leaving, cell: Cell, begin: u32) -> bool
+    fn fits(&self, left: Expansion, cell: Cell, begin: u32) -> bool
         requires few { begin < 4294967295 }
-        requires until { IsFreeUntil self.now left.at left.until }
-        requires waits { left.at.time ≤ begin }
+        requires until { IsFreeUntil self.now left.state left.until }
+        requires waits { left.state.time ≤ begin }
         requires free { IsFree self.now.reserved.now (begin + 1) cell }
-        ensures { IsTrue result ↔ StepFits self.now.reserved.now begin left.at.cell cell }
+        ensures { IsTrue result ↔ StepFits self.now.reserved.now begin left.state.cell cell }
     {
         // Nobody comes to the cell that is left.
         if begin + 1 < left.until {
             return true;
         }
-        self.reserved.step_fits(begin, left.at.cell, cell)
+        self.reserved.step_fits(begin, left.state.cell, cell)
     }
 
-    /// The stack for a moment at this time, so far from the goal.
-    fn slot(&self, time: u32, far: u32) -> u32
-        requires horizon { time + far ≤ MAX_HORIZON }
-        ensures { (cell : Cell) → far ≡ far_of self.now cell → IsSlot self.now (record { time = time; cell = cell }) result }
+    /// The bucket for a state at this time, so far from the goal.
+    fn bucket(&self, time: u32, heuristic: u32) -> u32
+        requires horizon { time + heuristic ≤ MAX_HORIZON }
+        ensures { (cell : Cell) → heuristic ≡ heuristic_of self.now cell → IsBucket self.now (record { time = time; cell = cell }) result }
     {
-        if time + far <= self.rest {
-            far
+        if time + heuristic <= self.goal_free_from {
+            heuristic
         } else {
-            time + far
+            time + heuristic
         }
     }
 }
 
-/// A moment that was reached, and the place in the list of the moment from which it was.
+/// A state that was reached, and the place in the list of the node from which it was.
 #[derive(Clone, Copy, Debug)]
-pub struct Arrival {
-    pub at: Moment,
-    pub from: usize,
+pub struct Node {
+    pub state: State,
+    pub parent: usize,
 }
 
-/// A moment that is being left: its place in the list, and until when the agent may wait there.
+/// A node that is being expanded: its place in the list, and until when the agent may wait there.
 #[derive(Clone, Copy, Debug)]
-pub struct Leaving {
+pub struct Expansion {
     pub place: usize,
-    pub at: Moment,
+    pub state: State,
     pub until: u32,
 }
 
-/// A cell beside the one that is left, with the stays of the reserved agents there.
+/// A cell beside that of the node that is expanded, with the occupancies of the reserved agents there.
 #[derive(Clone, Copy)]
-pub struct Beside<'a> {
+pub struct Neighbour<'a> {
     pub cell: Cell,
-    pub stays: &'a [Stay],
+    pub occupancies: &'a [Occupancy],
 }
 
-/// The moments that were reached, and those that are still to be left.
+/// What came of the expansion of a bucket.
+#[derive(Clone, Copy, Debug, PartialEq, Eq)]
+pub enum BucketEnd {
+    /// The node at this place is at the goal, and may stay there.
+    Goal(usize),
+    /// A node was added.
+    Grew,
+    /// Nothing is left in the bucket.
+    Empty,
+}
+
+/// The nodes of a search, and those of them that are open.
 #[derive(Drop)]
 pub struct Frontier {
     pub alloc: Global,
-    pub reached: Vec<Arrival>,
-    /// For each gap between stays on a cell the earliest arrival.
+    pub nodes: Vec<Node>,
+    /// For each safe interval of a cell the earliest time at which a node was made in it.
     pub labels: Labels,
-    /// The places of the moments that are still to be left.
-    pub stacks: Vec<Vec<usize>>,
+    /// The places of the nodes that are still to be expanded, bucket by bucket.
+    pub open_list: Vec<Vec<usize>>,
 }
 
 impl Frontier {
-    /// Nothing was reached. Takes no memory.
+    /// No nodes. Takes no memory.
     pub fn new(alloc: Global) -> Frontier
         ensures { AreLabels result.labels }
     {
         Frontier {
             alloc,
-            reached: Vec::new(alloc),
+            nodes: Vec::new(alloc),
             labels: Labels::new(alloc),
-            stacks: Vec::new(alloc),
+            open_list: Vec::new(alloc),
         }
     }
 
-    /// Notes that the cell is reached in the gap by the step that begins at the time, where that fits and is not too late,
-    /// and the cell was not reached before in the gap.
-    fn step_to(
+    /// Adds a node for the cell in the safe interval, reached by the step that begins at the time, if that fits and is not too
+    /// late, and the interval was not reached by then.
+    fn push_successor(
         &mut self,
-        question: &Question,
-        slot: u32,
-        left: Leaving,
-        beside: &Beside,
-        gap: usize,
+        query: &Query,
+        bucket: u32,
+        left: Expansion,
+        neighbour: &Neighbour,
+        interval: usize,
         begin: u32,
     ) -> Result<(), OutOfMemory>
-        requires leaving { IsLeaving question.now slot left self.old }
-        requires waits { left.at.time ≤ begin }
+        requires leaving { IsExpansion query.now bucket left self.old }
+        requires waits { left.state.time ≤ begin }
         requires free { begin < left.until }
-        requires gap { IsInGap beside.now.stays.now gap (begin + 1) }
-        requires beside { IsBeside question.now left.at.cell beside.now }
-        ensures leaves_on { OnOk result (LeavesOn question.now slot left self.old self.new) }
-        ensures found { OnOk result (IsFoundAt question.now self.new.reached.items left.at beside.now.cell begin) }
+        requires interval { IsInInterval neighbour.now.occupancies.now interval (begin + 1) }
+        requires neighbour { IsNeighbour query.now left.state.cell neighbour.now }
+        ensures expands_on { OnOk result (ExpandsOn query.now bucket left self.old self.new) }
+        ensures found { OnOk result (IsFoundAt query.now self.new.nodes.items left.state neighbour.now.cell begin) }
     {
-        if begin >= question.horizon {
+        if begin >= query.horizon {
             return Ok(());
         }
         let time = begin + 1;
-        let cell = beside.cell;
-        let number = question.grid.cell_index(cell);
-        if self.labels.is_reached(number, gap, time) {
+        let cell = neighbour.cell;
+        let number = query.grid.cell_index(cell);
+        if self.labels.is_reached(number, interval, time) {
             return Ok(());
         }
-        let far = question.far(cell);
-        if time + far > question.horizon {
+        let heuristic = query.heuristic(cell);
+        if time + heuristic > query.horizon {
             return Ok(());
         }
-        if !question.fits(left, cell, begin) {
+        if !query.fits(left, cell, begin) {
             return Ok(());
         }
-        let place = self.reached.len();
-        let at = Moment { time, cell };
-        self.reached.push(Arrival {
-            at,
-            from: left.place,
+        let place = self.nodes.len();
+        let state = State { time, cell };
+        self.nodes.push(Node {
+            state,
+            parent: left.place,
         })?;
-        self.labels.note(number, gap, time as u16)?;
+        self.labels.note(number, interval, time as u16)?;
         put(
             self.alloc,
-            &mut self.stacks,
-            question.slot(time, far),
+            &mut self.open_list,
+            query.bucket(time, heuristic),
             place,
         )?;
         Ok(())
     }
 
-    /// The same for the earliest time in the gap at which the agent may come to the cell.
-    fn step_in_gap(
+    /// The same for the earliest time in the safe interval at which the agent may come to the cell.
+    fn successor_in(
         &mut self,
-        question: &Question,
-        slot: u32,
-        left: Leaving,
-        beside: &Beside,
-        gap: usize,
+        query: &Query,
+        bucket: u32,
+        left: Expansion,
+        neighbour: &Neighbour,
+        interval: usize,
     ) -> Result<(), OutOfMemory>
-        requires leaving { IsLeaving question.now slot left self.old }
-        requires gap { gap ≤ length beside.now.stays.now }
-        requires beside { IsBeside question.now left.at.cell beside.now }
-        ensures leaves_on { OnOk result (LeavesOn question.now slot left self.old self.new) }
-        ensures found { OnOk result (IsFoundIn question.now self.new.reached.items left.at beside.now.cell gap) }
+        requires leaving { IsExpansion query.now bucket left self.old }
+        requires interval { interval ≤ length neighbour.now.occupancies.now }
+        requires neighbour { IsNeighbour query.now left.state.cell neighbour.now }
+        ensures expands_on { OnOk result (ExpandsOn query.now bucket left self.old self.new) }
+        ensures found { OnOk result (IsFoundIn query.now self.new.nodes.items left.state neighbour.now.cell interval) }
     {
-        let Some(time) = first_in(beside.stays, gap, left.at.time + 1) else {
+        let Some(time) = earliest_within(neighbour.occupancies, interval, left.state.time + 1)
+        else {
             return Ok(());
         };
         if time > left.until {
             return Ok(());
         }
-        self.step_to(question, slot, left, beside, gap, time - 1)?;
+        self.push_successor(query, bucket, left, neighbour, interval, time - 1)?;
         Ok(())
     }
 
-    /// The same for each gap in which the agent may come to the cell.
-    fn step_in_turn(
+    /// The same for each safe interval in which the agent may come to the cell.
+    fn successors_at(
         &mut self,
-        question: &Question,
-        slot: u32,
-        left: Leaving,
-        beside: &Beside,
+        query: &Query,
+        bucket: u32,
+        left: Expansion,
+        neighbour: &Neighbour,
     ) -> Result<(), OutOfMemory>
-        requires leaving { IsLeaving question.now slot left self.old }
-        requires beside { IsBeside question.now left.at.cell beside.now }
-        ensures leaves_on { OnOk result (LeavesOn question.now slot left self.old self.new) }
-        ensures found { OnOk result (IsFoundFrom question.now self.new.reached.items left.at beside.now.cell) }
+        requires leaving { IsExpansion query.now bucket left self.old }
+        requires neighbour { IsNeighbour query.now left.state.cell neighbour.now }
+        ensures expands_on { OnOk result (ExpandsOn query.now bucket left self.old self.new) }
+        ensures found { OnOk result (IsFoundFrom query.now self.new.nodes.items left.state neighbour.now.cell) }
     {
-        if beside.stays.is_empty() {
-            return self.step_in_gap(question, slot, left, beside, 0);
+        if neighbour.occupancies.is_empty() {
+            return self.successor_in(query, bucket, left, neighbour, 0);
         }
-        let first = begun(beside.stays, left.at.time + 1);
-        for gap in first..beside.stays.len() + 1 {
-            if gap > first && begins_after(beside.stays, gap, left.until) {
+        let first = started_by(neighbour.occupancies, left.state.time + 1);
+        for interval in first..neighbour.occupancies.len() + 1 {
+            if interval > first && begins_after(neighbour.occupancies, interval, left.until) {
                 return Ok(());
             }
-            self.step_in_gap(question, slot, left, beside, gap)?;
+            self.successor_in(query, bucket, left, neighbour, interval)?;
         }
         Ok(())
     }
 
     /// The same for the neighbour in one direction.
-    fn step_towards(
+    fn successors_towards(
         &mut self,
-        question: &Question,
-        slot: u32,
-        left: Leaving,
+        query: &Query,
+        bucket: u32,
+        left: Expansion,
         dir: Dir,
     ) -> Result<(), OutOfMemory>
-        requires leaving { IsLeaving question.now slot left self.old }
-        ensures leaves_on { OnOk result (LeavesOn question.now slot left self.old self.new) }
-        ensures found { OnOk result ((c : Cell) → place_of c ≡ moved (place_of left.at.cell) dir → IsFoundFrom question.now self.new.reached.items left.at c) }
+        requires leaving { IsExpansion query.now bucket left self.old }
+        ensures expands_on { OnOk result (ExpandsOn query.now bucket left self.old self.new) }
+        ensures found { OnOk result ((c : Cell) → place_of c ≡ moved (place_of left.state.cell) dir → IsFoundFrom query.now self.new.nodes.items left.state c) }
     {
-        match question.grid.neighbour(left.at.cell, dir) {
+        match query.grid.neighbour(left.state.cell, dir) {
             None => Ok(()),
             Some(cell) => {
-                let stays = question.stays(cell);
-                self.step_in_turn(question, slot, left, &Beside { cell, stays })
+                let occupancies = query.occupancies(cell);
+                self.successors_at(query, bucket, left, &Neighbour { cell, occupancies })
             }
         }
     }
 
-    /// Whether the cell was reached sooner in the gap in which the moment at this place is.
-    fn is_superseded(&self, question: &Question, slot: u32, place: usize, at: Moment) -> bool
-        requires frontier { FrontierIs question.now (slot - 1) (Some place) self.now }
-        requires left { IsLeft question.now slot self.now place at }
-        ensures { IsTrue result → IsSuperseded question.now self.now.reached.items at }
+    /// Whether the cell was reached sooner in the safe interval in which the state at this place is.
+    fn is_superseded(&self, query: &Query, bucket: u32, place: usize, state: State) -> bool
+        requires frontier { IsFrontierOf query.now (bucket - 1) (Some place) self.now }
+        requires left { IsLeft query.now bucket self.now place state }
+        ensures { IsTrue result → IsSuperseded query.now self.now.nodes.items state }
     {
-        if at.time == 0 {
+        if state.time == 0 {
             return false;
         }
-        let gap = begun(question.stays(at.cell), at.time);
-        let number = question.grid.cell_index(at.cell);
-        self.labels.is_reached(number, gap, at.time - 1)
+        let interval = started_by(query.occupancies(state.cell), state.time);
+        let number = query.grid.cell_index(state.cell);
+        self.labels.is_reached(number, interval, state.time - 1)
     }
 
-    /// Notes all that is reached from the moment that is left, unless its cell was reached sooner: then that is noted from the sooner one.
-    fn leave(
+    /// Adds the successors of the node, unless its safe interval was reached sooner: then the sooner node has them.
+    fn expand(
         &mut self,
-        question: &Question,
-        slot: u32,
+        query: &Query,
+        bucket: u32,
         place: usize,
-        at: Moment,
+        state: State,
     ) -> Result<(), OutOfMemory>
-        requires horizon { question.now.horizon ≤ MAX_HORIZON }
-        requires frontier { FrontierIs question.now (slot - 1) (Some place) self.old }
-        requires left { IsLeft question.now slot self.old place at }
-        requires not_end { IsEnd question.now at → ⊥ }
-        ensures frontier { OnOk result (FrontierIs question.now (slot - 1) None self.new) }
+        requires horizon { query.now.horizon ≤ MAX_HORIZON }
+        requires frontier { IsFrontierOf query.now (bucket - 1) (Some place) self.old }
+        requires left { IsLeft query.now bucket self.old place state }
+        requires not_end { IsEnd query.now state → ⊥ }
+        ensures frontier { OnOk result (IsFrontierOf query.now (bucket - 1) None self.new) }
         ensures grows { OnOk result (Grows self.old self.new) }
     {
-        if self.is_superseded(question, slot, place, at) {
+        if self.is_superseded(query, bucket, place, state) {
             return Ok(());
         }
-        let until = question.until(at);
-        let left = Leaving { place, at, until };
-        self.step_towards(question, slot, left, Dir::South)?;
-        self.step_towards(question, slot, left, Dir::North)?;
-        self.step_towards(question, slot, left, Dir::East)?;
-        self.step_towards(question, slot, left, Dir::West)?;
+        let until = query.until(state);
+        let left = Expansion {
+            place,
+            state,
+            until,
+        };
+        self.successors_towards(query, bucket, left, Dir::South)?;
+        self.successors_towards(query, bucket, left, Dir::North)?;
+        self.successors_towards(query, bucket, left, Dir::East)?;
+        self.successors_towards(query, bucket, left, Dir::West)?;
         Ok(())
     }
 
-    /// Leaves the moments of the stack, the one that was put on last first, until one is an end, something new is reached,
-    /// or none is left on the stack.
-    pub fn sweep(&mut self, question: &Question, slot: u32) -> Result<Option<usize>, OutOfMemory>
-        requires horizon { question.now.horizon ≤ MAX_HORIZON }
-        requires frontier { FrontierIs question.now slot None self.old }
-        ensures swept { IfOk result (λ end. MatchOption end (IsSwept question.now slot self.old self.new) (IsFound question.now slot self.new)) }
+    /// Expands the nodes of the bucket, the one that was put in last first, until one is at the goal for good, a node was added,
+    /// or the bucket is empty.
+    pub fn expand_bucket(&mut self, query: &Query, bucket: u32) -> Result<BucketEnd, OutOfMemory>
+        requires horizon { query.now.horizon ≤ MAX_HORIZON }
+        requires frontier { IsFrontierOf query.now bucket None self.old }
+        ensures { IfOk result (HasEnded query.now bucket self.old self.new) }
     {
-        let before = self.reached.len();
-        while let Some(place) = take(&mut self.stacks, slot) {
-            let at = self.reached[place].at;
-            if at.cell == question.goal && question.rest <= at.time {
-                return Ok(Some(place));
+        let before = self.nodes.len();
+        while let Some(place) = take(&mut self.open_list, bucket) {
+            let state = self.nodes[place].state;
+            if state.cell == query.goal && query.goal_free_from <= state.time {
+                return Ok(BucketEnd::Goal(place));
             }
-            self.leave(question, slot, place, at)?;
-            if self.reached.len() > before {
-                return Ok(None);
+            self.expand(query, bucket, place, state)?;
+            if self.nodes.len() > before {
+                return Ok(BucketEnd::Grew);
             }
         }
-        Ok(None)
+        Ok(BucketEnd::Empty)
     }
 
     /// Begins a search: the start is reached, and nothing else.
-    pub fn open(&mut self, question: &Question) -> Result<(), OutOfMemory>
-        requires asked { IsAsked question.now }
-        requires in_time { far_of question.now question.now.start ≤ question.now.horizon }
+    pub fn begin(&mut self, query: &Query) -> Result<(), OutOfMemory>
+        requires asked { IsAsked query.now }
+        requires in_time { heuristic_of query.now query.now.start ≤ query.now.horizon }
         requires labels { AreLabels self.old.labels }
-        ensures { OnOk result (FrontierIs question.now 0 None self.new) }
+        ensures { OnOk result (IsFrontierOf query.now 0 None self.new) }
     {
-        self.reached.clear();
-        clear(&mut self.stacks);
-        let start = question.start;
-        let at = Moment {
+        self.nodes.clear();
+        clear(&mut self.open_list);
+        let start = query.start;
+        let state = State {
             time: 0,
             cell: start,
         };
-        self.reached.push(Arrival { at, from: 0 })?;
-        let gap = begun(question.stays(start), 0);
+        self.nodes.push(Node { state, parent: 0 })?;
+        let interval = started_by(query.occupancies(start), 0);
         self.labels.begin();
-        self.labels.note(question.grid.cell_index(start), gap, 0)?;
-        let slot = question.slot(0, question.far(start));
-        put(self.alloc, &mut self.stacks, slot, 0)?;
+        self.labels.note(query.grid.cell_index(start), interval, 0)?;
+        let bucket = query.bucket(0, query.heuristic(start));
+        put(self.alloc, &mut self.open_list, bucket, 0)?;
         Ok(())
     }
 
-    /// The path by which the moment at this place was reached.
+    /// The path that leads to the node at this place.
     pub fn path_to(&self, last: usize) -> Result<Path, OutOfMemory>
-        requires within { last < length self.now.reached.items }
+        requires within { last < length self.now.nodes.items }
         requires searched { IsSearched self.now last }
         ensures { IfOk result (IsTrailOf self.now last) }
     {
-        let end = self.reached[last].at;
+        let end = self.nodes[last].state;
         let mut cells = Vec::new(self.alloc);
         let mut visit = last;
         cells.push(end.cell)?;
         for back in 0..end.time {
-            let arrival = self.reached[visit];
+            let node = self.nodes[visit];
             // Before the agent came to the cell it was where it came from.
-            if arrival.at.time == end.time - back {
-                visit = arrival.from;
+            if node.state.time == end.time - back {
+                visit = node.parent;
             }
-            cells.push(self.reached[visit].at.cell)?;
+            cells.push(self.nodes[visit].state.cell)?;
         }
         cells.reverse();
         Ok(Path::new(cells))

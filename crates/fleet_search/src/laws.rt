@@ -5,12 +5,12 @@ ghost use Rattle.fleet_model.specs.declared.geometry.Cell.{Cell};
 ghost use Rattle.fleet_model.specs.declared.geometry.Place.{Place};
 ghost use Rattle.fleet_model.specs.declared.task.Task.{Task};
 ghost use Rattle.fleet_plan.specs.Plan.{Plan, IsConflictFree};
-ghost use Rattle.fleet_search.specs.InTurn.{IsMadeInTurn, IsStuckAt};
+ghost use Rattle.fleet_search.specs.InTurn.{IsPrioritisedPlan, HasNoPathFor};
 ghost use Rattle.fleet_search.specs.Orders.{IsMadeInTries, IsStuckInTries};
 ghost use Rattle.fleet_search.specs.Way.{Fits, FitTogether, HasNoConflict, EachStepFits};
 
 /// Whether a path fits depends on each of its steps and the reserved paths alone.
-pub fn steps_decide()
+pub fn fits_by_steps()
     ensures { (reserved : Plan) (path : List Cell) → Fits reserved path ↔ EachStepFits reserved path }
 {}
 
@@ -20,14 +20,14 @@ pub fn planned_agent_by_agent()
 {}
 
 /// A plan that is made agent by agent is free of conflict.
-pub fn made_in_turn()
-    ensures { (passable : Place → Bool) (tasks : List Task) (horizon : ℕ) (plan : Plan) → IsMadeInTurn passable tasks horizon (length tasks) plan → IsConflictFree passable tasks plan }
+pub fn prioritised_plans_are_conflict_free()
+    ensures { (passable : Place → Bool) (tasks : List Task) (horizon : ℕ) (plan : Plan) → IsPrioritisedPlan passable tasks horizon (length tasks) plan → IsConflictFree passable tasks plan }
 {}
 
 /// One order that is tried is that of the agents' numbers.
 pub fn one_order()
     ensures made { (passable : Place → Bool) (tasks : List Task) (horizon : ℕ) (plan : Plan)
-        → IsMadeInTries passable tasks horizon 1 plan → IsMadeInTurn passable tasks horizon (length tasks) plan }
+        → IsMadeInTries passable tasks horizon 1 plan → IsPrioritisedPlan passable tasks horizon (length tasks) plan }
     ensures stuck { (passable : Place → Bool) (tasks : List Task) (horizon agent : ℕ)
-        → IsStuckInTries passable tasks horizon 1 agent → IsStuckAt passable tasks horizon agent }
+        → IsStuckInTries passable tasks horizon 1 agent → HasNoPathFor passable tasks horizon agent }
 {}

@@ -7,20 +7,22 @@ mod distances;
 mod earliest_path;
 mod fault;
 mod frontier;
-mod gaps;
+mod intervals;
 mod labels;
 mod laws;
-mod moment;
+mod occupancy;
 mod orders;
 mod planner;
+mod reservation_table;
 mod reservations;
 mod rows;
-mod stay;
-mod timetable;
+mod state;
 
 pub use earliest_path::earliest;
 pub use fault::{PlanStop, SearchFault};
-pub use laws::{made_in_turn, one_order, planned_agent_by_agent, steps_decide};
+pub use laws::{
+    fits_by_steps, one_order, planned_agent_by_agent, prioritised_plans_are_conflict_free,
+};
 pub use orders::plan_in_orders;
 pub use planner::plan;
 pub use reservations::Reservations;

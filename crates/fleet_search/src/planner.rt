@@ -3,7 +3,7 @@
 ghost use Rattle.std.specs.Prelude.{◌≡◌, ℕ, length, IfOk, IfErr};
 ghost use Rattle.fleet_plan.specs.Plan.{IsConflictFree};
 ghost use Rattle.fleet_grid.specs.Ground.{is_passable};
-ghost use Rattle.fleet_search.specs.InTurn.{IsMadeInTurn, IsStuckAt};
+ghost use Rattle.fleet_search.specs.InTurn.{IsPrioritisedPlan, HasNoPathFor};
 
 use crate::distances::Distances;
 use crate::earliest_path::earliest_over;
@@ -22,9 +22,9 @@ fn plan_in_turn(
     instance: &Instance,
     horizon: u16,
 ) -> Result<Plan, PlanStop>
-    ensures made { IfOk result (IsMadeInTurn (is_passable grid.now) instance.now horizon (length instance.now)) }
+    ensures made { IfOk result (IsPrioritisedPlan (is_passable grid.now) instance.now horizon (length instance.now)) }
     ensures free { IfOk result (IsConflictFree (is_passable grid.now) instance.now) }
-    ensures no_path { IfErr result (λ e. (agent : ℕ) → e ≡ PlanStop.NoPath agent → IsStuckAt (is_passable grid.now) instance.now horizon agent) }
+    ensures no_path { IfErr result (λ e. (agent : ℕ) → e ≡ PlanStop.NoPath agent → HasNoPathFor (is_passable grid.now) instance.now horizon agent) }
 {
     let mut reserved = Reservations::new(alloc);
     let mut distances = Distances::new(alloc, grid)?;
@@ -58,11 +58,11 @@ pub fn plan<'g>(
     instance: &'g Instance,
     horizon: u16,
 ) -> Result<Checked<'g>, PlanStop>
-    ensures made { IfOk result (λ checked. IsMadeInTurn (is_passable grid.now) instance.now horizon (length instance.now) checked.plan) }
+    ensures made { IfOk result (λ checked. IsPrioritisedPlan (is_passable grid.now) instance.now horizon (length instance.now) checked.plan) }
     ensures free { IfOk result (λ checked. IsConflictFree (is_passable grid.now) instance.now checked.plan) }
     ensures grid { IfOk result (λ checked. checked.grid ≡ grid.now) }
     ensures instance { IfOk result (λ checked. checked.instance ≡ instance.now) }
-    ensures no_path { IfErr result (λ e. (agent : ℕ) → e ≡ PlanStop.NoPath agent → IsStuckAt (is_passable grid.now) instance.now horizon agent) }
+    ensures no_path { IfErr result (λ e. (agent : ℕ) → e ≡ PlanStop.NoPath agent → HasNoPathFor (is_passable grid.now) instance.now horizon agent) }
 {
     let plan = plan_in_turn(alloc, grid, instance, horizon)?;
     match check(alloc, plan, grid, instance) {

@@ -5,11 +5,11 @@ ghost use Rattle.fleet_model.specs.declared.geometry.Cell.{Cell};
 ghost use Rattle.fleet_model.specs.declared.limits.TheConstants.{MAX_HORIZON};
 ghost use Rattle.fleet_plan.specs.Plan.{steps};
 ghost use Rattle.fleet_search.specs.Way.{Fits, FitTogether, StepFits};
-ghost use Rattle.fleet_search.specs.Stays.{HaveStays};
+ghost use Rattle.fleet_search.specs.Occupancies.{HaveOccupancies};
 ghost use Rattle.fleet_search.specs.Reserved.{IsOn, IsFree, IsFreeFrom, LeadsBack};
 
-use crate::stay::Stay;
-use crate::timetable::{begun, enter, stays_on};
+use crate::occupancy::Occupancy;
+use crate::reservation_table::{insert_path, occupancies_on, started_by};
 use fleet_model::{Cell, OutOfMemory};
 use fleet_plan::Path;
 use std::alloc::Global;
@@ -20,14 +20,14 @@ use std::marker::Model;
 pub struct Reservations {
     alloc: Global,
     paths: Vec<Path>,
-    rows: Vec<Vec<Vec<Stay>>>,
+    rows: Vec<Vec<Vec<Occupancy>>>,
     last: u32,
 }
 
 impl Model for Reservations {
     ghost use Rattle.std.specs.Prelude.{List};
     ghost use Rattle.fleet_model.specs.declared.geometry.Cell.{Cell};
-    ghost use Rattle.fleet_search.specs.Stays.{AreReserved};
+    ghost use Rattle.fleet_search.specs.Occupancies.{AreReserved};
 
     ghost Value = { List (List Cell) };
 
@@ -68,9 +68,9 @@ impl Reservations {
         self.last
     }
 
-    /// The timetable: for each cell the stays on it.
-    pub(crate) fn rows(&self) -> &[Vec<Vec<Stay>>]
-        ensures { HaveStays self.now result.now }
+    /// The reservation table: for each cell the occupancies on it.
+    pub(crate) fn rows(&self) -> &[Vec<Vec<Occupancy>>]
+        ensures { HaveOccupancies self.now result.now }
     {
         self.rows.as_slice()
     }
@@ -80,14 +80,14 @@ impl Reservations {
         ensures some { IfSome result (IsOn self.now time cell) }
         ensures none { IfNone result (IsFree self.now time cell) }
     {
-        let stays = stays_on(self.rows(), cell);
-        let count = begun(stays, time);
+        let occupancies = occupancies_on(self.rows(), cell);
+        let count = started_by(occupancies, time);
         if count == 0 {
             return None;
         }
-        let stay = stays[count - 1];
-        if time <= stay.until {
-            Some(stay.agent)
+        let occupancy = occupancies[count - 1];
+        if time <= occupancy.until {
+            Some(occupancy.agent)
         } else {
             None
         }
@@ -159,13 +159,13 @@ impl Reservations {
         ensures some { IfSome result (λ s. (t : ℕ) → IsFreeFrom self.now cell t ↔ (s ≤ t)) }
         ensures none { IfNone result ((t : ℕ) → IsFreeFrom self.now cell t → ⊥) }
     {
-        match stays_on(self.rows(), cell).last() {
+        match occupancies_on(self.rows(), cell).last() {
             None => Some(0),
-            Some(stay) => {
-                if stay.until == u32::MAX {
+            Some(occupancy) => {
+                if occupancy.until == u32::MAX {
                     None
                 } else {
-                    Some(stay.until + 1)
+                    Some(occupancy.until + 1)
                 }
             }
         }
@@ -189,7 +189,7 @@ impl Reservations {
     {
         let copy = copy_of(self.alloc, path)?;
         self.paths.reserve(1)?;
-        enter(self.alloc, &mut self.rows, self.paths.as_slice(), path)?;
+        insert_path(self.alloc, &mut self.rows, self.paths.as_slice(), path)?;
         self.paths.push(copy)?;
         self.last = self.last.max(path.steps());
         Ok(())

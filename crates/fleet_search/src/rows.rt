@@ -1,4 +1,4 @@
-//! Rows of numbers: stacks.
+//! Rows of numbers: buckets.
 
 ghost use Rattle.std.specs.Prelude.{◌≡◌, ◌≢◌, ◌<◌, ◌++◌, ◌∷◌, [], ℕ, OnOk, IfSome, IfNone, length};
 ghost use Rattle.fleet_search.specs.Rows.{row_in, IsPut};

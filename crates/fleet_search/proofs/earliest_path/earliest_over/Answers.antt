@@ -24,7 +24,7 @@ pub returns-in_default-clause-no_path : goal.returns-in_default-clause-no_path
 returns-in_default-clause-no_path c = λ e path w h.
     c.in_default.ensures.none (arrival path) (no-way-busy (is_passable c.args.grid.now) c.args.reserved.now c.args.start c.args.goal path w)
 
-pub returns-then-rest-from-clause-no_path : goal.returns-then-rest-from-clause-no_path
-returns-then-rest-from-clause-no_path c = λ e path w h.
-    let late : c.in-Some.rest ≤ arrival path = (c.in-Some.ensures.some (arrival path)).0 (no-way-busy (is_passable c.args.grid.now) c.args.reserved.now c.args.start c.args.goal path w) in
+pub returns-then-goal_free_from-from-clause-no_path : goal.returns-then-goal_free_from-from-clause-no_path
+returns-then-goal_free_from-from-clause-no_path c = λ e path w h.
+    let late : c.in-Some.goal_free_from ≤ arrival path = (c.in-Some.ensures.some (arrival path)).0 (no-way-busy (is_passable c.args.grid.now) c.args.reserved.now c.args.start c.args.goal path w) in
     absurd (omega arith)

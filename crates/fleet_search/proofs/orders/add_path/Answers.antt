@@ -1,6 +1,6 @@
 use Rattle.std.proofs.Common.{refl, subst}
 use Rattle.fleet_grid.specs.Ground.{is_passable}
-use Rattle.fleet_search.specs.Way.{HasNoWay}
+use Rattle.fleet_search.specs.Way.{IsInfeasible}
 use Rattle.fleet_search.proofs.InTurnLaws.{read_task}
 use Rattle.fleet_search.proofs.orders.add_path.Goals as goal
 
@@ -12,5 +12,5 @@ returns-in-Err-NoPath-clause-added c = (
       let plan = c.args.reserved.now in
       let horizon = c.args.problem.now.horizon in
       let r = read_task c.args.problem.now.instance.now c.args.agent c.start.result c.goal.result c.start.ensures c.goal.ensures task t in
-      subst (λ z. HasNoWay passable plan z task.goal horizon) r.0 (subst (λ z. HasNoWay passable plan c.start.result z horizon) r.1 (c.in-Err-NoPath.ensures.no_path c.in-Err-NoPath.field-0-is)),
+      subst (λ z. IsInfeasible passable plan z task.goal horizon) r.0 (subst (λ z. IsInfeasible passable plan c.start.result z horizon) r.1 (c.in-Err-NoPath.ensures.no_path c.in-Err-NoPath.field-0-is)),
 )

@@ -1,6 +1,6 @@
 use Rattle.std.proofs.Common.{◌≡◌, [], suc, ◌-◌, get_or, ◌+◌, ◌<◌, ◌≤◌, length, sym, subst, arith}
 use Rattle.fleet_grid.specs.Ground.{is_passable}
-use Rattle.fleet_search.specs.InTurn.{IsMadeInTurn}
+use Rattle.fleet_search.specs.InTurn.{IsPrioritisedPlan}
 use Rattle.fleet_search.specs.Orders.{tasks_by}
 use Rattle.fleet_search.specs.Attempts.{IsOldPath}
 use Rattle.fleet_search.proofs.OrderLaws.{agents_below}
@@ -16,7 +16,7 @@ returns-then-not-branch-clause-attempt c =
     let problem = c.args.problem.now in
     let order = c.args.order.now in
     let some : 0 < length order = (let f = c.requires.few in omega arith) in
-    let none = subst (IsMadeInTurn (is_passable problem.grid.now) (tasks_by order problem.instance.now) problem.horizon 0) (sym c.new-reserved.ensures) (none_made (is_passable problem.grid.now) (tasks_by order problem.instance.now) problem.horizon) in
+    let none = subst (IsPrioritisedPlan (is_passable problem.grid.now) (tasks_by order problem.instance.now) problem.horizon 0) (sym c.new-reserved.ensures) (none_made (is_passable problem.grid.now) (tasks_by order problem.instance.now) problem.horizon) in
     stuck_attempt problem order c.requires.order 0 c.new-reserved.result c.add_path.new.reserved c.into_paths.result.items some none (rw c.if-not-branch.true at c.in_ok-add_path.ensures.added) c.into_paths.ensures
 
 pub loop-place-init : goal.loop-place-init
@@ -60,5 +60,5 @@ returns-clause-attempt c =
     let few : c.in_ok-first.field-0 + 1 ≤ length c.args.order.now = (let f = c.requires.few in let b = c.in_ok-first.ensures.bound in omega arith) in
     let all : c.loop-place.place ≡ length c.args.order.now = omega arith in
     let tasks = tasks_by c.args.order.now c.args.problem.now.instance.now in
-    let made = subst (λ z. IsMadeInTurn (is_passable c.args.problem.now.grid.now) tasks c.args.problem.now.horizon z c.loop-place.reserved) all c.loop-place.invariant.0 in
-    subst (IsMadeInTurn (is_passable c.args.problem.now.grid.now) tasks c.args.problem.now.horizon (length c.args.order.now)) (sym c.into_paths-2.ensures) made
+    let made = subst (λ z. IsPrioritisedPlan (is_passable c.args.problem.now.grid.now) tasks c.args.problem.now.horizon z c.loop-place.reserved) all c.loop-place.invariant.0 in
+    subst (IsPrioritisedPlan (is_passable c.args.problem.now.grid.now) tasks c.args.problem.now.horizon (length c.args.order.now)) (sym c.into_paths-2.ensures) made

@@ -5,7 +5,7 @@ use Rattle.std.proofs.lemmas.List.{get_or_default}
 use Rattle.std.proofs.lemmas.Result.{err_from_is_err_and}
 use Rattle.fleet_grid.specs.Ground.{is_passable}
 use Rattle.fleet_search.specs.Orders.{tasks_by, rising, to_front, IsOrderAfter, IsStuckInOrder, IsStuckInTries}
-use Rattle.fleet_search.specs.InTurn.{IsMadeInTurn}
+use Rattle.fleet_search.specs.InTurn.{IsPrioritisedPlan}
 use Rattle.fleet_search.proofs.InTurnLaws.{named}
 use Rattle.fleet_search.proofs.KeptPaths.{none_made, made_after_raise}
 use Rattle.fleet_search.proofs.OrderLaws.{order_after-none, order_after-more, order-length, stuck_in_tries, stuck_within, raised}
@@ -20,7 +20,7 @@ loop-failed-init c =
       each_once = subst (IsPermutation (rising (length tasks))) (sym e) (IsPermutation-refl (rising (length tasks)));
       after = subst (IsOrderAfter (is_passable c.args.problem.now.grid.now) tasks c.args.problem.now.horizon 0) (sym e) (order_after-none (is_passable c.args.problem.now.grid.now) tasks c.args.problem.now.horizon);
       tables = record { distances = c.in_ok-new.ensures; labels = c.new-2.ensures };
-      kept = subst (λ z. IsMadeInTurn (is_passable c.args.problem.now.grid.now) (drop 1 (tasks_by c.in_ok-order.order.items tasks)) c.args.problem.now.horizon (length z) z) (sym c.new-kept.ensures.items)
+      kept = subst (λ z. IsPrioritisedPlan (is_passable c.args.problem.now.grid.now) (drop 1 (tasks_by c.in_ok-order.order.items tasks)) c.args.problem.now.horizon (length z) z) (sym c.new-kept.ensures.items)
           (none_made (is_passable c.args.problem.now.grid.now) (drop 1 (tasks_by c.in_ok-order.order.items tasks)) c.args.problem.now.horizon);
       fewer =
           let none : length c.new-kept.result.items ≡ 0 = ap length c.new-kept.ensures.items in
@@ -109,9 +109,9 @@ loop-failed-preserved c =
       after = order_after-more passable tasks horizon c.loop-failed.failed c.len-place.result order c.raise.new.order.items i.after stuck next;
       tables = c.in_ok-paths.ensures.tables;
       kept =
-          let made = subst (λ z. IsMadeInTurn passable (tasks_by z tasks) horizon (length c.in-Stuck.paths.items) c.in-Stuck.paths.items) c.as_slice.ensures.value attempt.1 in
+          let made = subst (λ z. IsPrioritisedPlan passable (tasks_by z tasks) horizon (length c.in-Stuck.paths.items) c.in-Stuck.paths.items) c.as_slice.ensures.value attempt.1 in
           let few : length c.in-Stuck.paths.items < length order = omega arith in
-          subst (λ z. IsMadeInTurn passable (drop 1 (tasks_by z tasks)) horizon (length c.in-Stuck.paths.items) c.in-Stuck.paths.items) (sym (next ∙ ap (to_front order) at))
+          subst (λ z. IsPrioritisedPlan passable (drop 1 (tasks_by z tasks)) horizon (length c.in-Stuck.paths.items) c.in-Stuck.paths.items) (sym (next ∙ ap (to_front order) at))
           (made_after_raise passable tasks horizon order c.in-Stuck.paths.items few made);
       fewer =
           let long : length c.raise.new.order.items ≡ length tasks = order-length (length tasks) c.raise.new.order.items (subst (IsPermutation (rising (length tasks))) (sym next) (raised (length tasks) order c.len-place.result i.each_once inside)) in

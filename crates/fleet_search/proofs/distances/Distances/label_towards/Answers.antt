@@ -3,7 +3,7 @@ use Rattle.std.specs.Prelude.{set}
 use Rattle.std.proofs.lemmas.List.{get_or_default}
 use Rattle.fleet_grid.specs.Ground.{cell_index}
 use Rattle.fleet_search.specs.Distance.{no_label, label_in, IsNear, IsLabelled}
-use Rattle.fleet_search.proofs.Occupancy.{yes_from_true, no_from_false}
+use Rattle.fleet_search.proofs.Occupants.{yes_from_true, no_from_false}
 use Rattle.fleet_search.proofs.Spread.{label_read, labelled-same, not-near, found-before, put-spread, put-left, put-found, put-falls, put-works}
 use Rattle.fleet_search.proofs.distances.Distances.label_towards.Goals as goal
 
@@ -27,7 +27,7 @@ returns-clause-spread c =
     let at : c.index.result.now ≡ get_or s.labels.items (cell_index g b) no_label = c.index.ensures ∙ ap (λ i. get_or s.labels.items i c.index.result.now) c.cell_index-place.ensures.value ∙ get_or_default s.labels.items (cell_index g b) c.index.result.now no_label within in
     let not : IsNear s.search (get_or s.labels.items (cell_index g b) no_label) (c.args.distance + 1) → ⊥ = λ h. no_from_false c.is_near.result c.if-is_near.false c.is_near.ensures (subst (λ l. IsNear s.search l (c.args.distance + 1)) (sym at) h) in
     let more : (n : ℕ) → IsLabelled g s b n → c.args.distance + 1 < n = not-near g s.labels.items s.search c.args.distance b not in
-    put-spread g s _ c.put.new.self c.args.left c.requires.spread c.args.distance c.requires.few c.requires.cell c.requires.left c.requires.reach b (c.args.dir, c.in-Some.ensures.some.0) c.in-Some.ensures.some.1 within more (ap (λ i. set s.labels.items i (record { search = s.search; distance = c.args.distance + 1 })) c.cell_index-place.ensures.value) refl refl refl refl refl refl c.in_ok-put.ensures
+    put-spread g s _ c.put.new.self c.args.left c.requires.spread c.args.distance c.requires.few c.requires.cell c.requires.left c.requires.f_bound b (c.args.dir, c.in-Some.ensures.some.0) c.in-Some.ensures.some.1 within more (ap (λ i. set s.labels.items i (record { search = s.search; distance = c.args.distance + 1 })) c.cell_index-place.ensures.value) refl refl refl refl refl refl c.in_ok-put.ensures
 
 pub returns-clause-left : goal.returns-clause-left
 returns-clause-left c =
@@ -38,7 +38,7 @@ returns-clause-left c =
     let at : c.index.result.now ≡ get_or s.labels.items (cell_index g b) no_label = c.index.ensures ∙ ap (λ i. get_or s.labels.items i c.index.result.now) c.cell_index-place.ensures.value ∙ get_or_default s.labels.items (cell_index g b) c.index.result.now no_label within in
     let not : IsNear s.search (get_or s.labels.items (cell_index g b) no_label) (c.args.distance + 1) → ⊥ = λ h. no_from_false c.is_near.result c.if-is_near.false c.is_near.ensures (subst (λ l. IsNear s.search l (c.args.distance + 1)) (sym at) h) in
     let more : (n : ℕ) → IsLabelled g s b n → c.args.distance + 1 < n = not-near g s.labels.items s.search c.args.distance b not in
-    put-left g s _ c.put.new.self c.args.left c.requires.spread c.args.distance c.requires.few c.requires.cell c.requires.left c.requires.reach b (c.args.dir, c.in-Some.ensures.some.0) c.in-Some.ensures.some.1 within more (ap (λ i. set s.labels.items i (record { search = s.search; distance = c.args.distance + 1 })) c.cell_index-place.ensures.value) refl refl refl refl refl refl c.in_ok-put.ensures
+    put-left g s _ c.put.new.self c.args.left c.requires.spread c.args.distance c.requires.few c.requires.cell c.requires.left c.requires.f_bound b (c.args.dir, c.in-Some.ensures.some.0) c.in-Some.ensures.some.1 within more (ap (λ i. set s.labels.items i (record { search = s.search; distance = c.args.distance + 1 })) c.cell_index-place.ensures.value) refl refl refl refl refl refl c.in_ok-put.ensures
 
 pub returns-clause-found : goal.returns-clause-found
 returns-clause-found c =
@@ -49,7 +49,7 @@ returns-clause-found c =
     let at : c.index.result.now ≡ get_or s.labels.items (cell_index g b) no_label = c.index.ensures ∙ ap (λ i. get_or s.labels.items i c.index.result.now) c.cell_index-place.ensures.value ∙ get_or_default s.labels.items (cell_index g b) c.index.result.now no_label within in
     let not : IsNear s.search (get_or s.labels.items (cell_index g b) no_label) (c.args.distance + 1) → ⊥ = λ h. no_from_false c.is_near.result c.if-is_near.false c.is_near.ensures (subst (λ l. IsNear s.search l (c.args.distance + 1)) (sym at) h) in
     let more : (n : ℕ) → IsLabelled g s b n → c.args.distance + 1 < n = not-near g s.labels.items s.search c.args.distance b not in
-    put-found g s _ c.put.new.self c.args.left c.requires.spread c.args.distance c.requires.few c.requires.cell c.requires.left c.requires.reach b (c.args.dir, c.in-Some.ensures.some.0) c.in-Some.ensures.some.1 within more (ap (λ i. set s.labels.items i (record { search = s.search; distance = c.args.distance + 1 })) c.cell_index-place.ensures.value) refl refl refl refl refl refl c.in_ok-put.ensures c.args.dir c.in-Some.ensures.some.0
+    put-found g s _ c.put.new.self c.args.left c.requires.spread c.args.distance c.requires.few c.requires.cell c.requires.left c.requires.f_bound b (c.args.dir, c.in-Some.ensures.some.0) c.in-Some.ensures.some.1 within more (ap (λ i. set s.labels.items i (record { search = s.search; distance = c.args.distance + 1 })) c.cell_index-place.ensures.value) refl refl refl refl refl refl c.in_ok-put.ensures c.args.dir c.in-Some.ensures.some.0
 
 pub returns-clause-fall : goal.returns-clause-fall
 returns-clause-fall c =
@@ -60,7 +60,7 @@ returns-clause-fall c =
     let at : c.index.result.now ≡ get_or s.labels.items (cell_index g b) no_label = c.index.ensures ∙ ap (λ i. get_or s.labels.items i c.index.result.now) c.cell_index-place.ensures.value ∙ get_or_default s.labels.items (cell_index g b) c.index.result.now no_label within in
     let not : IsNear s.search (get_or s.labels.items (cell_index g b) no_label) (c.args.distance + 1) → ⊥ = λ h. no_from_false c.is_near.result c.if-is_near.false c.is_near.ensures (subst (λ l. IsNear s.search l (c.args.distance + 1)) (sym at) h) in
     let more : (n : ℕ) → IsLabelled g s b n → c.args.distance + 1 < n = not-near g s.labels.items s.search c.args.distance b not in
-    put-falls g s _ c.put.new.self c.args.left c.requires.spread c.args.distance c.requires.few c.requires.cell c.requires.left c.requires.reach b (c.args.dir, c.in-Some.ensures.some.0) c.in-Some.ensures.some.1 within more (ap (λ i. set s.labels.items i (record { search = s.search; distance = c.args.distance + 1 })) c.cell_index-place.ensures.value) refl refl refl refl refl refl c.in_ok-put.ensures
+    put-falls g s _ c.put.new.self c.args.left c.requires.spread c.args.distance c.requires.few c.requires.cell c.requires.left c.requires.f_bound b (c.args.dir, c.in-Some.ensures.some.0) c.in-Some.ensures.some.1 within more (ap (λ i. set s.labels.items i (record { search = s.search; distance = c.args.distance + 1 })) c.cell_index-place.ensures.value) refl refl refl refl refl refl c.in_ok-put.ensures
 
 pub returns-clause-work : goal.returns-clause-work
 returns-clause-work c =
@@ -71,4 +71,4 @@ returns-clause-work c =
     let at : c.index.result.now ≡ get_or s.labels.items (cell_index g b) no_label = c.index.ensures ∙ ap (λ i. get_or s.labels.items i c.index.result.now) c.cell_index-place.ensures.value ∙ get_or_default s.labels.items (cell_index g b) c.index.result.now no_label within in
     let not : IsNear s.search (get_or s.labels.items (cell_index g b) no_label) (c.args.distance + 1) → ⊥ = λ h. no_from_false c.is_near.result c.if-is_near.false c.is_near.ensures (subst (λ l. IsNear s.search l (c.args.distance + 1)) (sym at) h) in
     let more : (n : ℕ) → IsLabelled g s b n → c.args.distance + 1 < n = not-near g s.labels.items s.search c.args.distance b not in
-    put-works g s _ c.put.new.self c.args.left c.requires.spread c.args.distance c.requires.few c.requires.cell c.requires.left c.requires.reach b (c.args.dir, c.in-Some.ensures.some.0) c.in-Some.ensures.some.1 within more (ap (λ i. set s.labels.items i (record { search = s.search; distance = c.args.distance + 1 })) c.cell_index-place.ensures.value) refl refl refl refl refl refl c.in_ok-put.ensures
+    put-works g s _ c.put.new.self c.args.left c.requires.spread c.args.distance c.requires.few c.requires.cell c.requires.left c.requires.f_bound b (c.args.dir, c.in-Some.ensures.some.0) c.in-Some.ensures.some.1 within more (ap (λ i. set s.labels.items i (record { search = s.search; distance = c.args.distance + 1 })) c.cell_index-place.ensures.value) refl refl refl refl refl refl c.in_ok-put.ensures

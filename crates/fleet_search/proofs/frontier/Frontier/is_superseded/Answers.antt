@@ -1,42 +1,42 @@
 use Rattle.std.proofs.Common.{◌-◌, ◌<◌, sym, ap, subst, ◌∙◌, arith}
 use Rattle.fleet_model.specs.Geometry.{place_of}
 use Rattle.fleet_grid.specs.Ground.{is_passable}
-use Rattle.fleet_search.specs.declared.moment.Moment.{Moment}
-use Rattle.fleet_search.specs.Gaps.{AreBegun}
+use Rattle.fleet_search.specs.declared.state.State.{State}
+use Rattle.fleet_search.specs.Intervals.{AreBegun}
 use Rattle.fleet_search.specs.Labels.{earliest_in, IsSeen}
 use Rattle.fleet_search.specs.Reserved.{IsFree}
-use Rattle.fleet_search.specs.Search.{stays_on}
-use Rattle.fleet_search.proofs.GapLaws.{begun-point, free-gap}
+use Rattle.fleet_search.specs.Search.{occupancies_on}
+use Rattle.fleet_search.proofs.IntervalLaws.{started_by-point, free-interval}
 use Rattle.fleet_search.proofs.SearchSteps.{superseded-seen}
 use Rattle.fleet_search.proofs.Spread.{on_map}
 use Rattle.fleet_search.proofs.frontier.Frontier.is_superseded.Goals as goal
 
 pub cell_index-number-requires-clause-column : goal.cell_index-number-requires-clause-column
 cell_index-number-requires-clause-column c =
-    let q = c.args.question.now in
+    let q = c.args.query.now in
     let fr = c.requires.frontier in
     let left = c.requires.left in
-    (subst (λ (z : Moment). (z.cell.x < q.grid.now.width)) left.here (on_map q.grid.now _ fr.measured.far.ready.map (fr.sound c.args.place left.within).on_ground).0)
+    (subst (λ (z : State). (z.cell.x < q.grid.now.width)) left.here (on_map q.grid.now _ fr.measured.heuristic.ready.map (fr.sound c.args.place left.within).on_ground).0)
 
 pub cell_index-number-requires-clause-row : goal.cell_index-number-requires-clause-row
 cell_index-number-requires-clause-row c =
-    let q = c.args.question.now in
+    let q = c.args.query.now in
     let fr = c.requires.frontier in
     let left = c.requires.left in
-    (subst (λ (z : Moment). (z.cell.y < q.grid.now.height)) left.here (on_map q.grid.now _ fr.measured.far.ready.map (fr.sound c.args.place left.within).on_ground).1)
+    (subst (λ (z : State). (z.cell.y < q.grid.now.height)) left.here (on_map q.grid.now _ fr.measured.heuristic.ready.map (fr.sound c.args.place left.within).on_ground).1)
 
 pub returns : goal.returns
 returns c = λ seen.
-    let q = c.args.question.now in
+    let q = c.args.query.now in
     let s = c.args.self.now in
-    let m = c.args.at in
+    let m = c.args.state in
     let fr = c.requires.frontier in
     let left = c.requires.left in
-    let gap = c.begun-gap.result in
+    let interval = c.started_by-interval.result in
     let sound = fr.sound c.args.place left.within in
-    let ground = ap (λ (z : Moment). is_passable q.grid.now (place_of z.cell)) (sym left.here) ∙ sound.on_ground in
-    let free = subst (λ (z : Moment). IsFree q.reserved.now z.time z.cell) left.here sound.free in
-    let begun = subst (λ z. AreBegun z m.time gap) c.stays.ensures (begun-point _ m.time gap c.begun-gap.ensures.bound c.begun-gap.ensures.point) in
-    let inside = free-gap q.reserved.now m.cell (stays_on q m.cell) (fr.measured.stays m.cell) m.time gap (omega arith) begun free in
-    let here = subst (λ z. IsSeen (earliest_in s.labels z gap) (m.time - 1)) c.cell_index-number.ensures.value (c.is_reached.ensures.0 seen) in
-    superseded-seen q (c.args.slot - 1) _ s.reached.items s.labels s.stacks.items fr m gap ground here (omega arith) inside
+    let ground = ap (λ (z : State). is_passable q.grid.now (place_of z.cell)) (sym left.here) ∙ sound.on_ground in
+    let free = subst (λ (z : State). IsFree q.reserved.now z.time z.cell) left.here sound.free in
+    let started_by = subst (λ z. AreBegun z m.time interval) c.occupancies.ensures (started_by-point _ m.time interval c.started_by-interval.ensures.bound c.started_by-interval.ensures.point) in
+    let inside = free-interval q.reserved.now m.cell (occupancies_on q m.cell) (fr.measured.occupancies m.cell) m.time interval (omega arith) started_by free in
+    let here = subst (λ z. IsSeen (earliest_in s.labels z interval) (m.time - 1)) c.cell_index-number.ensures.value (c.is_reached.ensures.0 seen) in
+    superseded-seen q (c.args.bucket - 1) _ s.nodes.items s.labels s.open_list.items fr m interval ground here (omega arith) inside

@@ -2,7 +2,7 @@ use Rattle.std.proofs.Common.{◌≡◌, ◌≤◌, refl, sym, subst, arith}
 use Rattle.fleet_plan.specs.Plan.{cell_at}
 use Rattle.fleet_search.specs.Way.{StepFits, arrival}
 use Rattle.fleet_search.specs.Reserved.{IsOn, IsFreeFrom}
-use Rattle.fleet_search.proofs.Occupancy.{no_from_false, yes_from_true}
+use Rattle.fleet_search.proofs.Occupants.{no_from_false, yes_from_true}
 use Rattle.fleet_search.proofs.Chase.{none_iff, of_some}
 use Rattle.fleet_search.proofs.FitCode.{misfit_first, misfit_step, fits-rest, up_to-all}
 use Rattle.fleet_search.proofs.reservations.Reservations.fits.Goals as goal

@@ -1,0 +1,38 @@
+use Rattle.std.proofs.Common.{◌+◌, ◌-◌, ◌<◌, length, sym, ap, subst, arith}
+use Rattle.fleet_search.specs.Occupancies.{AreInOrder, occupancy_at}
+use Rattle.fleet_search.specs.Intervals.{AreBegun}
+use Rattle.fleet_search.proofs.IntervalLaws.{started_by-point}
+use Rattle.fleet_search.proofs.Occupants.{yes_from_true}
+use Rattle.fleet_search.proofs.ReservationTables.{AreInOrder-occupancies}
+use Rattle.fleet_search.proofs.Turning.{turning-begin, turning-more, turned, all_later}
+use Rattle.fleet_search.proofs.frontier.Frontier.successors_at.Goals as goal
+
+pub started_by-first-requires : goal.started_by-first-requires
+started_by-first-requires c =
+    let q = c.args.query.now in
+    let cell = c.args.neighbour.now.cell in
+    subst AreInOrder (sym c.requires.neighbour.occupancies) (AreInOrder-occupancies q.reserved.now cell _ (c.requires.leaving.frontier.measured.occupancies cell))
+
+pub loop-interval-init : goal.loop-interval-init
+loop-interval-init c =
+    let started_by = started_by-point _ (c.args.left.state.time + 1) c.started_by-first.result c.started_by-first.ensures.bound c.started_by-first.ensures.point in
+    turning-begin c.args.query.now c.args.bucket c.args.left c.args.neighbour.now.cell c.started_by-first.result c.args.self.now c.requires.leaving (subst (λ z. AreBegun z (c.args.left.state.time + 1) c.started_by-first.result) c.requires.neighbour.occupancies started_by)
+
+pub loop-interval-preserved : goal.loop-interval-preserved
+loop-interval-preserved c = turning-more c.args.query.now c.args.bucket c.args.left c.args.neighbour.now.cell c.loop-interval.interval c.args.self.now c.loop-interval.self c.successor_in-in-loop-interval.new.self c.loop-interval.invariant c.in_ok-successor_in.ensures.expands_on c.in_ok-successor_in.ensures.found
+
+pub returns-then-begins_after-clause-found : goal.returns-then-begins_after-clause-found
+returns-then-begins_after-clause-found c =
+    let q = c.args.query.now in
+    let cell = c.args.neighbour.now.cell in
+    let m = c.requires.leaving.frontier.measured in
+    let interval = c.loop-interval.interval in
+    let same = ap length c.requires.neighbour.occupancies in
+    let late = subst (λ z. c.args.left.until < (occupancy_at z (interval - 1)).from) c.requires.neighbour.occupancies (yes_from_true c.begins_after.result c.if-begins_after.true c.begins_after.ensures) in
+    turned q m c.args.bucket c.args.left cell interval c.args.self.now c.loop-interval.self c.loop-interval.invariant (omega arith) (λ i h l. all_later q m cell c.args.left.until (interval - 1) (omega arith) late i (omega arith) l)
+
+pub returns-clause-found : goal.returns-clause-found
+returns-clause-found c =
+    let q = c.args.query.now in
+    let same = ap length c.requires.neighbour.occupancies in
+    turned q c.requires.leaving.frontier.measured c.args.bucket c.args.left c.args.neighbour.now.cell c.loop-interval.interval c.args.self.now c.loop-interval.self c.loop-interval.invariant (omega arith) (λ i h l. absurd (omega arith))

@@ -1,0 +1,78 @@
+-- The occupancies of agents on cells, one after another.
+use Rattle.std.specs.Prelude.{◌≡◌, ◌≢◌, ℕ, ◌<◌, ◌≤◌, ◌⊎◌, ◌==◌, not, List, [], length, get_or, map, All, Vec}
+use Rattle.std.specs.List.{filter, insert}
+use Rattle.std.specs.List.Sorted.{IsNonDecreasingBy}
+use Rattle.std.specs.declared.alloc.Global.{Global}
+use Rattle.fleet_model.specs.declared.geometry.Cell.{Cell}
+use Rattle.fleet_model.specs.declared.limits.TheConstants.{MAX_HORIZON}
+use Rattle.fleet_plan.specs.Plan.{Plan, IsPath, cell_of, steps}
+use Rattle.fleet_search.specs.declared.occupancy.Occupancy.{Occupancy}
+use Rattle.fleet_search.specs.Way.{FitTogether}
+use Rattle.fleet_search.specs.Reserved.{IsOn}
+
+-- what stands for an occupancy past the end of a list
+abbrev pub no_stay : Occupancy
+no_stay = record { from = 0; until = 0; agent = 0 }
+
+-- the occupancy of this number
+abbrev pub occupancy_at : List Occupancy → ℕ → Occupancy
+occupancy_at occupancies i = get_or occupancies i no_stay
+
+-- the occupancy includes the time
+abbrev pub IsDuring : Occupancy → ℕ → Type 0
+IsDuring occupancy t = (occupancy.from ≤ t) × ((t ≤ occupancy.until) ⊎ (occupancy.until ≡ 4294967295))
+
+-- the agent is on the cell throughout
+pub record IsStay (plan : Plan) (c : Cell) (occupancy : Occupancy) : Type 0 where
+  pub agent : occupancy.agent < length plan
+  pub early : occupancy.from ≤ MAX_HORIZON
+  pub some_time : occupancy.from ≤ occupancy.until
+  pub on : (t : ℕ) → IsDuring occupancy t → cell_of plan occupancy.agent t ≡ c
+
+-- the occupancies on the cell are these, one after another
+pub record AreStays (plan : Plan) (c : Cell) (occupancies : List Occupancy) : Type 0 where
+  pub each : (i : ℕ) → i < length occupancies → IsStay plan c (occupancy_at occupancies i)
+  pub apart : (i k : ℕ) → i < k → k < length occupancies → (occupancy_at occupancies i).until < (occupancy_at occupancies k).from
+  pub all : (t j : ℕ) → IsOn plan t c j → (i : ℕ) × (i < length occupancies) × IsDuring (occupancy_at occupancies i) t
+
+-- ---- reservation tables
+
+-- the lists of the occupancies on cells, in rows
+abbrev pub Rows : Type 0
+Rows = List (Vec (Vec Occupancy Global) Global)
+
+-- the occupancies on the cell
+unfoldable pub occupancies_of : Rows → Cell → List Occupancy
+occupancies_of rows c = get_or (map (λ v. v.items) (get_or (map (λ v. v.items) rows) c.y [])) c.x []
+
+-- the occupancies on each cell
+abbrev pub HaveOccupancies : Plan → Rows → Type 0
+HaveOccupancies plan rows = (c : Cell) → AreStays plan c (occupancies_of rows c)
+
+-- each path fits those before it, and the occupancies of all stand in the reservation table
+pub record AreReserved (paths : Plan) (rows : Rows) (last : ℕ) : Type 0 where
+  pub together : FitTogether paths
+  pub all_paths : All IsPath paths
+  pub latest : last ≡ steps paths
+  pub occupancies : HaveOccupancies paths rows
+
+-- the occupancies begin one after another
+abbrev pub AreInOrder : List Occupancy → Type 0
+AreInOrder = IsNonDecreasingBy (λ s. s.from)
+
+-- the occupancy was put in, behind those that begin no later
+pub record IsPlaced (old new : List Occupancy) (occupancy : Occupancy) : Type 0 where
+  pub index : ℕ
+  pub bound : index ≤ length old
+  pub is : new ≡ insert old index occupancy
+  pub before : (i : ℕ) → i < index → (occupancy_at old i).from ≤ occupancy.from
+  pub after : (i : ℕ) → index ≤ i → i < length old → occupancy.from < (occupancy_at old i).from
+
+-- the occupancy was put in on the cell, and the others have the same
+pub record IsAdded (old new : Rows) (cell : Cell) (occupancy : Occupancy) : Type 0 where
+  pub here : IsPlaced (occupancies_of old cell) (occupancies_of new cell) occupancy
+  pub others : (c : Cell) → c ≢ cell → occupancies_of new c ≡ occupancies_of old c
+
+-- the occupancies of the other agents
+abbrev pub without : ℕ → List Occupancy → List Occupancy
+without agent = filter (λ s. not (s.agent == agent))

@@ -1,0 +1,77 @@
+//! Safe intervals: the times between the occupancies of agents on a cell.
+
+ghost use Rattle.std.specs.Prelude.{◌↔◌, ◌≤◌, ◌<◌, ◌-◌, ℕ, length, IsTrue, IfSome, IfNone};
+ghost use Rattle.fleet_search.specs.Occupancies.{occupancy_at};
+ghost use Rattle.fleet_search.specs.Intervals.{AreApart, IsInInterval, IsEarliestWithin, IsEndAfter};
+
+use crate::occupancy::Occupancy;
+use crate::reservation_table::started_by;
+
+/// Whether the time is in the safe interval of this number.
+pub fn is_in_interval(occupancies: &[Occupancy], interval: usize, time: u32) -> bool
+    requires order { AreApart occupancies.now }
+    requires bound { interval ≤ length occupancies.now }
+    ensures { IsTrue result ↔ IsInInterval occupancies.now interval time }
+{
+    if interval > 0 && time <= occupancies[interval - 1].until {
+        return false;
+    }
+    interval == occupancies.len() || time < occupancies[interval].from
+}
+
+/// The first time after the occupancy before the safe interval, from the one on.
+fn past_occupancy(occupancies: &[Occupancy], interval: usize, from: u32) -> Option<u32>
+    requires bound { interval ≤ length occupancies.now }
+    ensures later { IfSome result (λ t. from ≤ t) }
+    ensures past { IfSome result (λ t. 1 ≤ interval → (occupancy_at occupancies.now (interval - 1)).until < t) }
+    ensures first { IfSome result (λ t. (s : ℕ) → from ≤ s → IsInInterval occupancies.now interval s → t ≤ s) }
+    ensures none { IfNone result ((s : ℕ) → IsInInterval occupancies.now interval s → ⊥) }
+{
+    if interval == 0 {
+        return Some(from);
+    }
+    let until = occupancies[interval - 1].until;
+    if until == u32::MAX {
+        return None;
+    }
+    Some(from.max(until + 1))
+}
+
+/// The first time in the safe interval, from the one on.
+pub fn earliest_within(occupancies: &[Occupancy], interval: usize, from: u32) -> Option<u32>
+    requires order { AreApart occupancies.now }
+    requires bound { interval ≤ length occupancies.now }
+    ensures some { IfSome result (IsEarliestWithin occupancies.now interval from) }
+    ensures none { IfNone result ((s : ℕ) → from ≤ s → IsInInterval occupancies.now interval s → ⊥) }
+{
+    let Some(time) = past_occupancy(occupancies, interval, from) else {
+        return None;
+    };
+    if is_in_interval(occupancies, interval, time) {
+        Some(time)
+    } else {
+        None
+    }
+}
+
+/// Whether the occupancy before the safe interval begins after the time.
+pub fn begins_after(occupancies: &[Occupancy], interval: usize, time: u32) -> bool
+    requires some { 1 ≤ interval }
+    requires bound { interval ≤ length occupancies.now }
+    ensures { IsTrue result ↔ (time < (occupancy_at occupancies.now (interval - 1)).from) }
+{
+    time < occupancies[interval - 1].from
+}
+
+/// When the first of the occupancies begins that come after the time.
+pub fn end_after(occupancies: &[Occupancy], time: u32) -> u32
+    requires order { AreApart occupancies.now }
+    ensures { IsEndAfter occupancies.now time result }
+{
+    let next = started_by(occupancies, time);
+    if next < occupancies.len() {
+        occupancies[next].from
+    } else {
+        u32::MAX
+    }
+}

@@ -1,0 +1,10 @@
+//! Cells at times.
+
+use fleet_model::Cell;
+
+/// A cell at a time.
+#[derive(Clone, Copy, Debug, PartialEq, Eq)]
+pub struct State {
+    pub time: u32,
+    pub cell: Cell,
+}

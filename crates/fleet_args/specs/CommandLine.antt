@@ -1,6 +1,6 @@
 -- The program's command line, as what a parse reads of it.
-use Rattle.std.specs.Prelude.{true, [], ◌∷◌, codes, fold}
-use Rattle.clap.specs.Words.{App, new_app, with_subcommand}
+use Rattle.std.specs.Prelude.{List, true, [], ◌∷◌, ◌++◌, codes, fold}
+use Rattle.clap.specs.Words.{App, Shape, new_app, with_subcommand}
 pub use Rattle.fleet_args.specs.Arguments.{DepsNames, AreDeps}
 use Rattle.fleet_args.specs.Instance.{instance_shape}
 use Rattle.fleet_args.specs.Check.{check_shape}
@@ -21,8 +21,22 @@ fleet_top = record (new_app (codes "fleet")) {
   top = record (new_app (codes "fleet")).top { no_binary_name = true; has_version = true; subcommand_required = true };
 }
 
+-- the command line with commands of these shapes, one after another
+abbrev pub with_shapes : App → List Shape → App
+with_shapes = fold with_subcommand
+
+-- the commands that make plans and programs
+abbrev pub making : DepsNames → List Shape
+making names = instance_shape ∷ check_shape ∷ plan_shape ∷ compile_shape names ∷ []
+
+-- those that verify programs and run them
+abbrev pub running : DepsNames → List Shape
+running names = verify_shape ∷ run_shape ∷ rehearse_shape ∷ auto_shape names ∷ []
+
+-- and the others
+abbrev pub others : List Shape
+others = thin_shape ∷ migrate_shape ∷ list_shape ∷ dispatch_shape ∷ []
+
 -- the whole command line
 abbrev pub fleet : DepsNames → App
-fleet names = fold with_subcommand fleet_top
-    (instance_shape ∷ check_shape ∷ plan_shape ∷ compile_shape names ∷ verify_shape ∷ run_shape ∷ rehearse_shape ∷ auto_shape names ∷
-    thin_shape ∷ migrate_shape ∷ list_shape ∷ dispatch_shape ∷ [])
+fleet names = with_shapes fleet_top (making names ++ running names ++ others)

@@ -2,7 +2,7 @@
 
 ghost use Rattle.std.specs.Prelude.{◌≡◌, IfOk};
 ghost use Rattle.clap.specs.Words.{app_of};
-ghost use Rattle.fleet_args.specs.CommandLine.{fleet_top, fleet};
+ghost use Rattle.fleet_args.specs.CommandLine.{fleet_top, with_shapes, making, running, others, fleet};
 
 use crate::auto::auto_command;
 use crate::check::check_command;
@@ -37,21 +37,50 @@ fn without_commands<'a>(alloc: Global) -> Result<Command<'a>, AllocError>
     )
 }
 
+/// The command line, and the commands that make plans and programs after those that it has.
+fn with_making<'a>(
+    alloc: Global,
+    line: Command<'a>,
+    names: &'a [&'a str],
+) -> Result<Command<'a>, AllocError>
+    ensures { IfOk result (λ command. app_of command ≡ with_shapes (app_of line.entry) (making names.entry)) }
+{
+    line.subcommand(instance_command(alloc)?)?
+        .subcommand(check_command(alloc)?)?
+        .subcommand(plan_command(alloc)?)?
+        .subcommand(compile_command(alloc, names)?)
+}
+
+/// The command line, and the commands that verify programs and run them after those that it has.
+fn with_running<'a>(
+    alloc: Global,
+    line: Command<'a>,
+    names: &'a [&'a str],
+) -> Result<Command<'a>, AllocError>
+    ensures { IfOk result (λ command. app_of command ≡ with_shapes (app_of line.entry) (running names.entry)) }
+{
+    line.subcommand(verify_command(alloc)?)?
+        .subcommand(run_command(alloc)?)?
+        .subcommand(rehearse_command(alloc)?)?
+        .subcommand(auto_command(alloc, names)?)
+}
+
+/// The command line, and the other commands after those that it has.
+fn with_others<'a>(alloc: Global, line: Command<'a>) -> Result<Command<'a>, AllocError>
+    ensures { IfOk result (λ command. app_of command ≡ with_shapes (app_of line.entry) others) }
+{
+    line.subcommand(thin_command(alloc)?)?
+        .subcommand(migrate_command(alloc)?)?
+        .subcommand(list_command(alloc)?)?
+        .subcommand(dispatch_command(alloc)?)
+}
+
 /// The whole command line, where these are the names of the kinds of awaits.
 pub fn fleet_command<'a>(alloc: Global, names: &'a [&'a str]) -> Result<Command<'a>, AllocError>
     ensures { IfOk result (λ command. app_of command ≡ fleet names.entry) }
 {
-    without_commands(alloc)?
-        .subcommand(instance_command(alloc)?)?
-        .subcommand(check_command(alloc)?)?
-        .subcommand(plan_command(alloc)?)?
-        .subcommand(compile_command(alloc, names)?)?
-        .subcommand(verify_command(alloc)?)?
-        .subcommand(run_command(alloc)?)?
-        .subcommand(rehearse_command(alloc)?)?
-        .subcommand(auto_command(alloc, names)?)?
-        .subcommand(thin_command(alloc)?)?
-        .subcommand(migrate_command(alloc)?)?
-        .subcommand(list_command(alloc)?)?
-        .subcommand(dispatch_command(alloc)?)
+    let line = without_commands(alloc)?;
+    let line = with_making(alloc, line, names)?;
+    let line = with_running(alloc, line, names)?;
+    with_others(alloc, line)
 }

@@ -10,7 +10,8 @@ ghost use Rattle.fleet_model.specs.Run.{IsSafe, IsOwnedInTurn, Arrives, RunsWell
 ghost use Rattle.fleet_verify.specs.declared.fault.VerifyFault.TheVariants.{OutOfMemory};
 ghost use Rattle.fleet_grid.specs.Ground.{is_passable};
 ghost use Rattle.fleet_verify.specs.Broken.{IsBrokenBy};
-ghost use Rattle.fleet_verify.specs.Faults.{HasRanges, IsFault, IsOfOrder};
+ghost use Rattle.fleet_verify.specs.Faults.{HasRanges, HasStarts, IsFault, IsOfOrder};
+ghost use Rattle.fleet_verify.specs.Walk.{IsRunOnGround};
 ghost use Rattle.fleet_verify.specs.Parts.{IsAcceptedFor};
 
 use crate::accepted::{Accepted, Refused};
@@ -18,7 +19,7 @@ use crate::agents::{check_fleet, check_paths, check_starts, has_arrived};
 use crate::fault::VerifyFault;
 use crate::order::check_order;
 use crate::ring::find_ring;
-use crate::unheld_run::run_unheld;
+use crate::unheld_run::{UnheldRun, run_unheld};
 use fleet_grid::Grid;
 use fleet_model::ProgramView;
 use fleet_scen::Instance;
@@ -78,15 +79,33 @@ fn judge<P: ProgramView>(
 {
     check_fleet(program, instance)?;
     check_starts(program, instance)?;
-    let Some(run) = run_unheld(alloc, program, grid)? else {
-        check_paths(program, grid, instance)?;
-        unreachable!()
-    };
+    match run_unheld(alloc, program, grid)? {
+        Some(run) => judge_run(alloc, program, grid, instance, &run),
+        None => {
+            check_paths(program, grid, instance)?;
+            unreachable!()
+        }
+    }
+}
+
+/// The same from the run in which nobody is held, if that stays on passable ground.
+fn judge_run<P: ProgramView>(
+    alloc: Global,
+    program: &P,
+    grid: &Grid,
+    instance: &Instance,
+    run: &UnheldRun,
+) -> Result<u32, VerifyFault>
+    requires starts { HasStarts instance.now (P.program program.now) }
+    requires run { IsRunOnGround (is_passable grid.now) (P.program program.now) run.now }
+    ensures ok { IfOk result (λ chain. IsAcceptedFor grid.now instance.now (P.program program.now) chain) }
+    ensures err { IfErr result (λ f. IsFault (is_passable grid.now) instance.now (P.program program.now) f) }
+{
     if !has_arrived(program, instance, &run.machine) {
         check_paths(program, grid, instance)?;
         let ring = find_ring(alloc, program, &run.machine)?;
         return Err(VerifyFault::Cyclic(ring));
     }
-    check_order(alloc, program, grid, instance, &run)?;
+    check_order(alloc, program, grid, instance, run)?;
     Ok(run.ticks)
 }

@@ -14,12 +14,15 @@ function animation(tag, rest, values, keys) {
     return "<" tag " " rest " values=\"" values "\" keyTimes=\"" keys "\" dur=\"" whole / rate "s\" repeatCount=\"indefinite\"/>"
 }
 
+# Whether the speed changes, by more than places are rounded that lie between two cells.
+function bends(a, b, c) { return c - 2 * b + a > .05 || c - 2 * b + a < -.05 }
+
 # Where agent i goes: its corners and stops.
 function way(i,   t, values, keys) {
     values = centre(i, 0)
     keys = 0
     for (t = 1; t < last; t++) {
-        if (X[i, t] - X[i, t - 1] != X[i, t + 1] - X[i, t] || Y[i, t] - Y[i, t - 1] != Y[i, t + 1] - Y[i, t]) {
+        if (bends(X[i, t - 1], X[i, t], X[i, t + 1]) || bends(Y[i, t - 1], Y[i, t], Y[i, t + 1])) {
             values = values ";" centre(i, t)
             keys = keys ";" key(t)
         }

@@ -22,7 +22,7 @@ function place(i,   from, to, part) {
     if (!(i in there)) return here[i]
     split(there[i], to, ",")
     part = (now - began[i]) / (ends[i] - began[i])
-    return sprintf("%.3g,%.3g", from[1] + part * (to[1] - from[1]), from[2] + part * (to[2] - from[2]))
+    return sprintf("%.2f,%.2f", from[1] + part * (to[1] - from[1]), from[2] + part * (to[2] - from[2]))
 }
 
 function note(   i, line) {
@@ -34,6 +34,7 @@ function note(   i, line) {
 
 BEGIN {
     srand(seed)
+    now = 0
     # A report of nobody, which opens the pipe.
     print "-" > reports
     fflush(reports)

@@ -22,8 +22,8 @@ kind == "trace" && /^[0-9]+:/ {
     agents = NF - 1
     for (i = 0; i < agents; i++) {
         split($(i + 2), at, ",")
-        X[i, last] = at[1]
-        Y[i, last] = at[2]
+        X[i, last] = at[1] + 0
+        Y[i, last] = at[2] + 0
     }
 }
 

@@ -23,10 +23,10 @@ use Rattle.fleet_rows.specs.Takers.{IsTicked}
 use Rattle.fleet_rows.specs.declared.columns.Columns.{Columns}
 use Rattle.fleet_rows.specs.declared.block.Block.{Block}
 use Rattle.fleet_rows.specs.declared.implied_pass.ImpliedPass.{ImpliedPass}
-use Rattle.fleet_rows.specs.Implied.{IsTold, AreOthers, AreFlagged, AreToldOf, AreLeft, IsFlaggedTo, first_await}
+use Rattle.fleet_rows.specs.Implied.{IsTold, AreOthers, AreFlagged, AreToldOf, AreLeft, IsFlaggedTo, AreTold, first_await}
+use Rattle.fleet_rows.specs.Settled.{AreSettled}
 use Rattle.fleet_rows.proofs.Implying.{told}
 use Rattle.fleet_rows.proofs.Placed.{before_next, rising_to}
-use Rattle.fleet_rows.proofs.Joining.{awaited_action}
 use Rattle.fleet_rows.proofs.Finishing.{next_action_of, finished_action, one_more, apart, none_more, none_started}
 use Rattle.fleet_rows.proofs.Passing.{same_or_not, rows_begin, rows_freed, rows_mid, only_before}
 
@@ -229,16 +229,33 @@ flagged_tick p b t flags mid new block at h freed row tick = record {
 
 -- ---- the flags of one block more
 
-pub told_to : (p : Program) (asked : List Bool) (from : ℕ) (columns : Columns) → AreColumns asked from columns → ((j : ℕ) → j < length p → get_or asked j false ≡ true) → AreInRange p → (old new : List Bool)
+-- flags that tell of awaits of agents who are not asked for still do
+pub settled_after : (p : Program) (asked : List Bool) (columns : Columns) (old new : List Bool)
     → ((a : ActionId) → IsAction p a → (k c : ℕ) (w : Await) → slice_get (awaits_of p a.agent a.number) k ≡ Some w → HasColumn columns w.agent c → IsTold p a w (get_or new (first_await p a + k) false))
-    → AreLeft p columns old new
+    → AreLeft p columns old new → AreSettled p asked old → AreSettled p asked new
+settled_after p asked columns old new here left before a is k w at = elim (before a is k w at) [ inl set ↦ inl set | inr was ↦ inr (go was (get_or columns.of_agent.items w.agent None) refl) ]
+  where
+    go : IsTold p a w (get_or old (first_await p a + k) false) → (o : Option ℕ) → get_or columns.of_agent.items w.agent None ≡ o → IsTold p a w (get_or new (first_await p a + k) false)
+    go was (Some c) f = here a is k c w at f
+    go was None f = subst (IsTold p a w) (sym (left a is k w at f)) was
+
+pub told_to : (p : Program) (asked : List Bool) (from : ℕ) (columns : Columns) → AreColumns asked from columns → (old new : List Bool)
+    → ((a : ActionId) → IsAction p a → (k c : ℕ) (w : Await) → slice_get (awaits_of p a.agent a.number) k ≡ Some w → HasColumn columns w.agent c → IsTold p a w (get_or new (first_await p a + k) false))
+    → AreLeft p columns old new → AreSettled p asked old
     → ((a : ActionId) → IsAction p a → (k : ℕ) (w : Await) → slice_get (awaits_of p a.agent a.number) k ≡ Some w → w.agent < from → IsTold p a w (get_or old (first_await p a + k) false))
     → (a : ActionId) → IsAction p a → (k : ℕ) (w : Await) → slice_get (awaits_of p a.agent a.number) k ≡ Some w → w.agent < columns.end → IsTold p a w (get_or new (first_await p a + k) false)
-told_to p asked from columns h all range old new here left before a is k w at l = go (get_or columns.of_agent.items w.agent None) refl
+told_to p asked from columns h old new here left settled before a is k w at l = go (get_or columns.of_agent.items w.agent None) refl
   where
     go : (o : Option ℕ) → get_or columns.of_agent.items w.agent None ≡ o → IsTold p a w (get_or new (first_await p a + k) false)
     go (Some c) f = here a is k c w at f
     go None f = subst (IsTold p a w) (sym (left a is k w at f)) (elim (cases_lt w.agent from) [
       | inl low ↦ before a is k w at low
-      | inr high ↦ absurd (h.chosen w.agent high l (all w.agent (awaited_action p range a.agent a.number k w at).agent) f)
+      | inr high ↦ elim (settled a is k w at) [ inl set ↦ absurd (h.chosen w.agent high l set f) | inr was ↦ was ]
     ])
+
+-- where nobody is asked for all are told
+pub told_if_none : (p : Program) (asked flags : List Bool) → ((j : ℕ) → get_or asked j false ≡ false) → AreSettled p asked flags → AreTold p flags
+told_if_none p asked flags none settled a is k w at = elim (settled a is k w at) [ inr was ↦ was | inl set ↦ absurd (unset (sym (none w.agent) ∙ set)) ]
+  where
+    unset : false ≡ true → ⊥
+    unset e = search rules

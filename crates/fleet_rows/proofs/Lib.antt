@@ -2,6 +2,8 @@ pub mod Free
 pub mod Joining
 mod Lanes
 pub mod Placed
+mod Settling
+mod Ticking
 pub mod Finishing
 pub mod Answering
 pub mod Keeping

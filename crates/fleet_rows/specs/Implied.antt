@@ -87,9 +87,13 @@ pub record IsFlaggedTo (p : Program) (b : Block) (Done : ActionId → Type 0) (f
   pub rows : AreRowsAt p b Done pass.tick pass.kept
   pub told : AreToldOf p b.columns Done flags
 
+-- the flags of all awaits of the program tell it
+abbrev pub AreTold : Program → List Bool → Type 0
+AreTold p flags =
+    (a : ActionId) → IsAction p a → (k : ℕ) (w : Await) → slice_get (awaits_of p a.agent a.number) k ≡ Some w → IsTold p a w (get_or flags (first_await p a + k) false)
+
 -- of each await of the program it is known whether it is implied
 pub record AreImplied (p : Program) (m : ImpliedAwaits) : Type 0 where
   pub places : AreAwaitPlaces p m.places
   pub all : length m.flags.items ≡ total_awaits p
-  pub told : (a : ActionId) → IsAction p a → (k : ℕ) (w : Await) → slice_get (awaits_of p a.agent a.number) k ≡ Some w
-      → IsTold p a w (get_or m.flags.items (first_await p a + k) false)
+  pub told : AreTold p m.flags.items

@@ -10,3 +10,4 @@ pub mod Pass
 pub mod Implied
 pub mod Pieces
 pub mod Gather
+pub mod Settled

@@ -1,18 +1,20 @@
 //! Awaits that others imply.
 
-ghost use Rattle.std.specs.Prelude.{◌≡◌, ◌+◌, ◌<◌, ℕ, [], None, Some, false, length, get_or, slice_get, IfOk, OnOk};
+ghost use Rattle.std.specs.Prelude.{◌≡◌, ◌<◌, ℕ, [], None, Some, length, slice_get, IfOk, OnOk};
 ghost use Rattle.fleet_model.specs.declared.program.Await.{Await};
 ghost use Rattle.fleet_model.specs.Program.{AreInRange, awaits_of, total_awaits};
 ghost use Rattle.fleet_model.specs.Machine.{IsFinish};
 ghost use Rattle.fleet_model.specs.Chain.{IsAction};
 ghost use Rattle.fleet_rows.specs.Block.{AreBlock};
-ghost use Rattle.fleet_rows.specs.Implied.{IsImplied, IsTold, AreAwaitPlaces, AreImplied, first_await};
+ghost use Rattle.fleet_rows.specs.Implied.{IsImplied, AreAwaitPlaces, AreImplied, AreTold};
+ghost use Rattle.fleet_rows.specs.Settled.{AreSettled};
 
 use crate::await_places::AwaitPlaces;
 use crate::block::Block;
 use crate::columns::Columns;
 use crate::implied_pass::flag_implied;
-use crate::questions::columns_at_once;
+use crate::questions::{columns_at_once, is_any};
+use crate::settled::settle_all;
 use fleet_model::{ActionId, Await, OutOfMemory, ProgramView, total_awaits};
 use std::alloc::Global;
 
@@ -59,20 +61,42 @@ pub fn implied_awaits<P: ProgramView>(
 {
     let awaits = AwaitPlaces::of(alloc, program)?;
     let mut flags = vec![in alloc; false; total_awaits(program) as usize]?;
-    let block = Block::of(alloc, program, ticks)?;
-    flag_all(alloc, program, block, &awaits, &mut flags)?;
+    tell_all(alloc, program, ticks, &awaits, &mut flags)?;
     Ok(ImpliedAwaits {
         places: awaits,
         flags,
     })
 }
 
-/// Flags all awaits block by block, each with so many columns as there is room for.
+/// Flags the awaits that others imply: those that few steps tell, and then, where there are others, those of their agents.
+fn tell_all<P: ProgramView>(
+    alloc: Global,
+    program: &P,
+    ticks: u32,
+    awaits: &AwaitPlaces,
+    flags: &mut [bool],
+) -> Result<(), OutOfMemory>
+    requires range { AreInRange (P.program program.now) }
+    requires awaits { AreAwaitPlaces (P.program program.now) awaits.now }
+    requires finish { IsFinish (P.program program.now) [] ticks }
+    requires flags { length flags.old ≡ total_awaits (P.program program.now) }
+    ensures { OnOk result (AreTold (P.program program.now) flags.new) }
+{
+    let asked = settle_all(alloc, program, ticks, awaits, flags)?;
+    if !is_any(&asked) {
+        return Ok(());
+    }
+    let block = Block::of(alloc, program, ticks)?;
+    flag_all(alloc, program, block, awaits, &asked, flags)
+}
+
+/// Flags the awaits of the asked agents block by block, each with so many columns as there is room for.
 fn flag_all<P: ProgramView>(
     alloc: Global,
     program: &P,
     block: Block,
     awaits: &AwaitPlaces,
+    asked: &[bool],
     flags: &mut [bool],
 ) -> Result<(), OutOfMemory>
     requires range { AreInRange (P.program program.now) }
@@ -80,17 +104,16 @@ fn flag_all<P: ProgramView>(
     requires awaits { AreAwaitPlaces (P.program program.now) awaits.now }
     requires finish { IsFinish (P.program program.now) [] block.ticks }
     requires flags { length flags.old ≡ total_awaits (P.program program.now) }
-    ensures { OnOk result ((a : ActionId) → IsAction (P.program program.now) a → (k : ℕ) (w : Await)
-        → slice_get (awaits_of (P.program program.now) a.agent a.number) k ≡ Some w
-        → IsTold (P.program program.now) a w (get_or flags.new (first_await (P.program program.now) a + k) false)) }
+    requires asked { length asked.now ≡ length (P.program program.now) }
+    requires settled { AreSettled (P.program program.now) asked.now flags.old }
+    ensures { OnOk result (AreTold (P.program program.now) flags.new) }
 {
     let mut block = block;
     let most = columns_at_once(&block);
     let agents = program.agents();
-    let asked = vec![in alloc; true; usize::from(agents)]?;
     let mut from = 0;
     while from < agents {
-        block.columns = Columns::choose(alloc, &asked, from, most)?;
+        block.columns = Columns::choose(alloc, asked, from, most)?;
         flag_implied(alloc, program, &block, awaits, flags)?;
         from = block.columns.end;
     }

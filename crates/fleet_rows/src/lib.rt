@@ -6,6 +6,7 @@ mod await_places;
 mod block;
 mod columns;
 mod due_rows;
+mod finish_ticks;
 mod gather;
 mod implied;
 mod implied_pass;
@@ -16,6 +17,7 @@ mod near;
 mod pass;
 mod piece;
 mod questions;
+mod settled;
 mod takers;
 
 pub use implied::{ImpliedAwaits, implied_awaits};

@@ -44,7 +44,7 @@ pub fn unreached<P: ProgramView>(
 }
 
 /// Whether some agent is flagged.
-fn is_any(asked: &[bool]) -> bool
+pub(crate) fn is_any(asked: &[bool]) -> bool
     ensures { (result ≡ false) → (k : ℕ) → get_or asked.now k false ≡ false }
 {
     for &agent in asked {

@@ -11,12 +11,12 @@ use Rattle.fleet_rows.proofs.implied.implied_awaits.Goals as goal
 pub returns : goal.returns
 returns g c =
     let p = g.P.ProgramView.program c.args.program.now in
-    let new : List Bool = c.flag_all.new.flags in
-    let long : length new ≡ c.in_ok-flags.flags.len = omega (arith, c.flag_all.auto.flags, c.deref_mut.ensures.len) in
+    let new : List Bool = c.tell_all.new.flags in
+    let long : length new ≡ c.in_ok-flags.flags.len = omega (arith, c.tell_all.auto.flags, c.deref_mut.ensures.len) in
     let same = take_at new (drop (length new) c.in_ok-flags.flags.items) c.in_ok-flags.flags.len long in
     record {
       places = c.in_ok-awaits.ensures;
       all = ap (λ (xs : List Bool). length xs) same ∙ long ∙ omega (arith, c.in_ok-flags.ensures.len, c.total_awaits.ensures);
       told = subst (λ (xs : List Bool). (a : ActionId) → IsAction p a → (k : ℕ) (w : Await) → slice_get (awaits_of p a.agent a.number) k ≡ Some w → IsTold p a w (get_or xs (first_await p a + k) false))
-          (sym same) c.in_ok-flag_all.ensures;
+          (sym same) c.in_ok-tell_all.ensures;
     }

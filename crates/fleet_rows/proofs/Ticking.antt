@@ -1,0 +1,94 @@
+-- The tick that finishes each action where nobody is held: noted tick by tick, it rises along chains.
+use Rattle.std.proofs.Common.{◌≡◌, ◌≢◌, ℕ, zero, suc, ◌+◌, ◌-◌, ◌<◌, ◌≤◌, true, List, [], length, set, slice_index, sym, ap, subst, ◌∙◌, arith, inl, inr, add-one}
+use Rattle.std.proofs.lemmas.Bool.{cases_lt}
+use Rattle.std.proofs.lemmas.List.{get_or-set_same, get_or-set_other}
+use Rattle.fleet_model.specs.declared.program.ActionId.{ActionId}
+use Rattle.fleet_model.specs.Program.{Program, total_moves}
+use Rattle.fleet_model.specs.Machine.{run, count_at, is_finished}
+use Rattle.fleet_model.specs.Chain.{IsAction, DirectlyNeeds, IsNumbering}
+use Rattle.fleet_machine.specs.Machine.{MachineState}
+use Rattle.fleet_machine.specs.AgentSet.{IsNextFrom, AreNoneFrom}
+use Rattle.fleet_rows.specs.Places.{ArePlaces, place_of}
+use Rattle.fleet_rows.specs.Takers.{IsTicked}
+use Rattle.fleet_rows.specs.Pass.{IsDone, IsDoneMid}
+use Rattle.fleet_rows.specs.Settled.{IsFinishTick, AreFinishTicks}
+use Rattle.fleet_rows.proofs.Free.{count, moves_on, grows, needs_done}
+use Rattle.fleet_rows.proofs.Placed.{place_apart, place_within}
+use Rattle.fleet_rows.proofs.Finishing.{agent_of, ready_of, next_action_of, finished_action, one_more, apart, none_more, none_started, all_finished}
+use Rattle.fleet_rows.proofs.Passing.{only_before}
+
+pub noted_none : (p : Program) (firsts ticks : List ℕ) → AreFinishTicks p firsts (IsDone p 0) ticks
+noted_none p firsts ticks a k done = absurd (none_started p a k done)
+
+pub noted_mid : (p : Program) (firsts : List ℕ) (t : ℕ) (ticks : List ℕ) → AreFinishTicks p firsts (IsDone p t) ticks → AreFinishTicks p firsts (IsDoneMid p t 0) ticks
+noted_mid p firsts t ticks h a k done = h a k (only_before p t a done)
+
+module _ (p : Program) (firsts : List ℕ) (places : ArePlaces p firsts) (m : MachineState) (t : ℕ) (h : IsTicked p m t) (from : ℕ) where
+  -- an action that the tick has finished
+  pub noted_on : (i : ℕ) (next : IsNextFrom m.moving from i) (n : ℕ) → n ≡ count_at m.configuration i → (x : ℕ) → x + 1 ≡ slice_index firsts i + n → (old : List ℕ) → length old ≡ total_moves p
+      → AreFinishTicks p firsts (IsDoneMid p t from) old → AreFinishTicks p firsts (IsDoneMid p t (i + 1)) (set old x (t + 1))
+  noted_on i next n e x at old all before a k done = elim (one_more p m t h from i next a k done) [
+    | inl was ↦
+        let ne : place_of firsts a ≢ x = (λ same. place_apart p firsts places a here k is (apart p m t h from i next a was) (same ∙ place)) in
+        subst (IsFinishTick p a) (sym (get_or-set_other old x (place_of firsts a) (t + 1) 0 ne)) (before a k was)
+    | inr same ↦
+        let there : place_of firsts a ≡ x = ap (place_of firsts) same ∙ sym place in
+        let entry : slice_index (set old x (t + 1)) (place_of firsts a) ≡ t + 1 = ap (slice_index (set old x (t + 1))) there ∙ get_or-set_same old x (t + 1) 0 within in
+        subst (IsFinishTick p a) (sym entry) (subst (λ (y : ActionId). IsFinishTick p y (t + 1)) (sym same) finished)
+  ]
+    where
+      here : ActionId
+      here = record { agent = i; number = count p t i + 1 }
+
+      is : IsAction p here
+      is = next_action_of p m t h from i next
+
+      number : n ≡ count p t i + 1
+      number = ap (λ (y : ActionId). y.number) (finished_action p m t h from i next n e)
+
+      place : x ≡ place_of firsts here
+      place = omega (arith, at, number)
+
+      within : x < length old
+      within = (let l = place_within p firsts places here is in omega (arith, l, all, place))
+
+      up : count p (t + 1) i ≡ count p t i + 1
+      up = ap (λ (s : ℕ). count p s i) (add-one t) ∙ moves_on p t i (agent_of p m t h from i next) (ready_of p m t h from i next)
+
+      finished : IsFinishTick p here (t + 1)
+      finished = record { some = omega arith; done = omega (arith, up); not_yet = λ done. (let e : t + 1 - 1 ≡ t = omega arith in let l : count p t i + 1 ≤ count p t i = subst (λ (s : ℕ). count p t i + 1 ≤ count p s i) e done in omega arith) }
+
+  -- where nobody else was moved
+  pub noted_all : AreNoneFrom m.moving from → (ticks : List ℕ) → AreFinishTicks p firsts (IsDoneMid p t from) ticks → AreFinishTicks p firsts (IsDone p (t + 1)) ticks
+  noted_all none ticks before a k done = before a k (none_more p m t h from none a k done)
+
+module _ (p : Program) where
+  grows_by : (s n i : ℕ) → i < length p → count p s i ≤ count p (s + n) i
+  grows_by s zero i l = let e : s + zero ≡ s = omega arith in rw e (omega arith)
+  grows_by s (suc n) i l =
+      let e : s + suc n ≡ suc (s + n) = omega arith in
+      let up = grows p (s + n) i l in
+      let before = grows_by s n i l in
+      rw e (omega (arith, up, before))
+
+  grows_to : (s t i : ℕ) → i < length p → s ≤ t → count p s i ≤ count p t i
+  grows_to s t i l le = let e : s + (t - s) ≡ t = omega arith in subst (λ (n : ℕ). count p s i ≤ count p n i) e (grows_by s (t - s) i l)
+
+  -- what an action directly needs is finished in an earlier tick
+  pub finishes_later : (a b : ActionId) (s t : ℕ) → IsAction p a → IsAction p b → IsFinishTick p a t → IsFinishTick p b s → DirectlyNeeds p a b → s < t
+  finishes_later a b s t k m h f needs = elim (cases_lt s t) [
+    | inl l ↦ l
+    | inr g ↦
+        let some : 1 ≤ t = h.some in
+        let e : suc (t - 1) ≡ t = omega arith in
+        let not_yet : count p (t - 1) a.agent < a.number = elim (cases_lt (count p (t - 1) a.agent) a.number) [ inl l ↦ l | inr done ↦ absurd (h.not_yet done) ] in
+        let done : a.number ≤ count p (suc (t - 1)) a.agent = subst (λ (n : ℕ). a.number ≤ count p n a.agent) (sym e) h.done in
+        let needed : b.number ≤ count p (t - 1) b.agent = needs_done p (t - 1) a b k not_yet done needs in
+        absurd (f.not_yet (omega (arith, needed, grows_to (t - 1) (s - 1) b.agent m.agent (omega arith))))
+  ]
+
+  pub ticks_rise : (firsts ticks : List ℕ) (t : ℕ) → is_finished p (run p [] t) ≡ true → AreFinishTicks p firsts (IsDone p t) ticks → IsNumbering p (λ a. slice_index ticks (place_of firsts a))
+  ticks_rise firsts ticks t finished h = record {
+    positive = λ a k. (h a k (all_finished p t finished a k)).some;
+    rising = λ a b k m needs. finishes_later a b _ _ k m (h a k (all_finished p t finished a k)) (h b m (all_finished p t finished b m)) needs;
+  }

@@ -10,9 +10,9 @@ use Rattle.std.specs.declared.string.String.{String}
 use Rattle.std.specs.declared.vec.Vec.{Vec}
 use Rattle.std.specs.declared.vec.IntoIter.{IntoIter}
 use Rattle.fleet_text.specs.Sink.{Receives}
-use Rattle.fleet_files.specs.Files.{Store, IsKept}
+use Rattle.fleet_files.specs.Files.{Store, AreUnchanged}
 use Rattle.fleet_text.specs.Sink.{SinkState, IsUnwritten}
-use Rattle.fleet_io.specs.Output.{IsTold}
+use Rattle.fleet_io.specs.Output.{IsRefusalTold}
 use Rattle.fleet_cli.specs.Command.{RunsCommand}
 use Rattle.fleet_dispatch.specs.Talk.{Talk}
 use Rattle.fleet_io.specs.declared.fault.Fault.TheVariants as f
@@ -30,7 +30,7 @@ AreWordsOf (Err error) (Err told) = told ≡ error
 
 -- why the words cannot be had was told: memory ran out, or else a word is no text, which is wrong usage
 pub record TellsNoWords (kind : ErrorKind) (err err' : SinkState) (status : ℕ) : Type 0 where
-  pub memory : kind ≡ OutOfMemory → (status ≡ 3) × IsTold f.Memory err err'
+  pub memory : kind ≡ OutOfMemory → (status ≡ 3) × IsRefusalTold f.Memory err err'
   pub usage : kind ≢ OutOfMemory → (status ≡ 2) × Receives err err' no_text_line
 
 -- what the words after the first ask was done, unless there was no memory for them; or the words cannot be had. Of the last two that alone was
@@ -38,5 +38,5 @@ pub record TellsNoWords (kind : ErrorKind) (err err' : SinkState) (status : ℕ)
 abbrev pub RunsProgram : Result (IntoIter (String Global) Global) Error → Option (List ℕ) → (files after : Option Store) → (Talk → Type 0) → (out out' err err' : SinkState) → ℕ → Type 0
 RunsProgram (Ok args) input files after talks out out' err err' status =
     RunsCommand (map string_bytes (drop 1 (into_iter_items args))) input files after talks out out' err err' status
-    ⊎ (TellsNoWords OutOfMemory err err' status × IsUnwritten out out' × IsKept files after × talks [])
-RunsProgram (Err error) input files after talks out out' err err' status = TellsNoWords (error_kind error) err err' status × IsUnwritten out out' × IsKept files after × talks []
+    ⊎ (TellsNoWords OutOfMemory err err' status × IsUnwritten out out' × AreUnchanged files after × talks [])
+RunsProgram (Err error) input files after talks out out' err err' status = TellsNoWords (error_kind error) err err' status × IsUnwritten out out' × AreUnchanged files after × talks []

@@ -15,7 +15,8 @@ use Rattle.fleet_model.specs.declared.deps.Deps.{Deps}
 use Rattle.fleet_plan.specs.Plan.{Plan, cell_at, cell_of}
 use Rattle.fleet_adg.specs.Compiled.{changes_in, leaves, await_of, last_below, leaver, last_leaving_by, last_leaving, leavings, action_in}
 use Rattle.fleet_adg.specs.Leavings.{with_leaving, noted}
-use Rattle.fleet_adg.specs.Sweep.{is_under_way, under_way, actions_by, all_actions_by}
+use Rattle.fleet_adg.specs.Sweep.{under_way, actions_by, all_actions_by}
+use Rattle.fleet_plan.specs.UnderWay.{is_under_way}
 use Rattle.fleet_adg.proofs.Basics.{range_push, last_below-zero, last_below-here, last_below-before}
 use Rattle.fleet_adg.proofs.Moves.{changes_in-ne}
 use Rattle.fleet_adg.proofs.Entry.{leaves-parts, last_leaving_by-agent}

@@ -22,7 +22,8 @@ use Rattle.fleet_grid.specs.Ground.{Ground, IsGround, is_passable, cell_index}
 use Rattle.fleet_plan.specs.Plan.{Plan, cell_of, steps, IsConflictFree}
 use Rattle.fleet_adg.specs.Compiled.{direction, last_below, entry_awaits, changes_in, changes, moves_by, leaves, await_of, last_leaving_by, last_leaving, leavings, action_in, agent_program, compiled, with_stays, compiled_staying, has_few_actions, compiled_staying_if_few}
 use Rattle.fleet_adg.specs.Leavings.{row_of, kind_of, noted, AreRowsApart, AreLeavingsAt}
-use Rattle.fleet_adg.specs.Sweep.{is_under_way, under_way, actions_by, all_actions_by, agent_from, IsOnMap}
+use Rattle.fleet_adg.specs.Sweep.{under_way, actions_by, all_actions_by, agent_from, IsOnMap}
+use Rattle.fleet_plan.specs.UnderWay.{is_under_way}
 use Rattle.fleet_adg.proofs.Basics.{range_push}
 use Rattle.fleet_adg.proofs.Moves.{moves_by-yes, moves_by-no, moves_by-le, steps-ge}
 use Rattle.fleet_adg.proofs.Entry.{leaves-parts, leaves-from}

@@ -6,11 +6,8 @@ use Rattle.fleet_model.specs.Machine.{indices}
 use Rattle.fleet_model.specs.declared.deps.Deps.{Deps}
 use Rattle.fleet_grid.specs.Ground.{Ground}
 use Rattle.fleet_plan.specs.Plan.{Plan, cell_of, steps}
+use Rattle.fleet_plan.specs.UnderWay.{is_under_way}
 use Rattle.fleet_adg.specs.Compiled.{changes, action_in}
-
--- the path of agent i goes on after time t
-abbrev pub is_under_way : Plan → ℕ → ℕ → Bool
-is_under_way plan t i = nat_lt t (length (get_or plan i []) - 1)
 
 -- the agents whose paths go on after time t
 abbrev pub under_way : Plan → ℕ → List ℕ

@@ -6,7 +6,8 @@ ghost use Rattle.fleet_model.specs.declared.limits.TheConstants.{MAX_HORIZON};
 ghost use Rattle.fleet_model.specs.Machine.{indices};
 ghost use Rattle.fleet_adg.specs.Compiled.{direction, changes_in, moves_by};
 ghost use Rattle.fleet_adg.specs.Leavings.{kind_of, AreLeavingsAt};
-ghost use Rattle.fleet_adg.specs.Sweep.{is_under_way, under_way, all_actions_by, IsOnMap};
+ghost use Rattle.fleet_adg.specs.Sweep.{under_way, all_actions_by, IsOnMap};
+ghost use Rattle.fleet_plan.specs.UnderWay.{is_under_way};
 
 use crate::action_list::ActionList;
 use crate::leavings::{Leaving, Leavings};

@@ -5,7 +5,7 @@ ghost use Rattle.fleet_model.specs.declared.program.ActionId.{ActionId};
 ghost use Rattle.fleet_model.specs.Program.{Program};
 ghost use Rattle.fleet_model.specs.Chain.{IsAction, DirectlyNeeds};
 ghost use Rattle.fleet_verify.specs.Listing.{AreLevels};
-ghost use Rattle.fleet_verify.specs.Rows.{IsCountedUp, IsRow, IsJoined};
+ghost use Rattle.fleet_verify.specs.Rows.{IsCountedUp, IsRow, IsRowOfNeeds};
 
 /// Levels are found by counting up: an action's level is 1, or one more than that of an action that
 /// it directly needs, and above those of all of them.
@@ -19,5 +19,5 @@ pub fn rows_are_joined()
     ensures { (p : Program) (a : ActionId) (rows : ActionId → ℕ → ℕ) (row : ℕ → ℕ) →
         IsAction p a →
         ((b : ActionId) → IsAction p b → DirectlyNeeds p a b → IsRow p b (rows b)) →
-        IsJoined p a rows row → IsRow p a row }
+        IsRowOfNeeds p a rows row → IsRow p a row }
 {}

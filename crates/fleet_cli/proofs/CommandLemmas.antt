@@ -6,7 +6,7 @@ use Rattle.clap.specs.Words.{Text}
 use Rattle.fleet_args.specs.Request.{ReadsFleet}
 use Rattle.fleet_args.specs.declared.request.Request.{Request}
 use Rattle.fleet_args.specs.declared.request.WordStop.{WordStop}
-use Rattle.fleet_files.specs.Files.{Store, IsKept}
+use Rattle.fleet_files.specs.Files.{Store, AreUnchanged}
 use Rattle.fleet_text.specs.Sink.{SinkState}
 use Rattle.fleet_dispatch.specs.Talk.{Talk}
 use Rattle.fleet_cli.specs.Command.{RunsRequest, StopsAtWords, RunsCommand}
@@ -17,7 +17,7 @@ module _ {X : Type 0} (text : X → Text) (input : Option (List ℕ)) (files aft
   asked [] request some h r = absurd (some refl)
   asked (w ∷ ws) request some (names, are, asks) r = (names, are, inl (request, asks, r))
 
-  pub stopped : (ws : List X) (stop : WordStop) → (ws ≡ [] → ⊥) → ReadsFleet (map text ws) (Err stop) → StopsAtWords stop out out' err err' status → IsKept files after → talks []
+  pub stopped : (ws : List X) (stop : WordStop) → (ws ≡ [] → ⊥) → ReadsFleet (map text ws) (Err stop) → StopsAtWords stop out out' err err' status → AreUnchanged files after → talks []
       → RunsCommand (map text ws) input files after talks out out' err err' status
   stopped [] stop some h r kept silent = absurd (some refl)
   stopped (w ∷ ws) stop some (names, are, stops) r kept silent = (names, are, inr (stop, stops, r, kept, silent))

@@ -7,10 +7,10 @@ use Rattle.fleet_args.specs.declared.request.Request.{Request}
 use Rattle.fleet_args.specs.declared.request.Request.TheVariants as r
 use Rattle.fleet_args.specs.declared.request.WordStop.{WordStop}
 use Rattle.fleet_args.specs.declared.request.WordStop.TheVariants as w
-use Rattle.fleet_files.specs.Files.{Store, IsKept}
+use Rattle.fleet_files.specs.Files.{Store, AreUnchanged}
 use Rattle.fleet_text.specs.Sink.{Receives, FailsAfter, SinkState, IsUnwritten, IsDelivered}
 use Rattle.fleet_text.specs.Words.{line_text}
-use Rattle.fleet_io.specs.Output.{IsTold, Outcome}
+use Rattle.fleet_io.specs.Output.{IsRefusalTold, Outcome}
 use Rattle.fleet_cli.specs.HexRun.{RunsHex}
 use Rattle.fleet_cli.specs.RehearseCommand.{DoesRehearse, RefusesRehearse}
 use Rattle.fleet_cli.specs.InstanceCommand.{DoesInstance, RefusesInstance}
@@ -30,33 +30,33 @@ use Rattle.fleet_io.specs.declared.fault.Fault.TheVariants as f
 
 -- what each command does: all but `compile`, `thin` and `migrate` leave every file as before, and all but `dispatch` say nothing to robots
 abbrev pub DoesRequest : (files after : Option Store) → (Talk → Type 0) → Request → (out out' : SinkState) → ℕ → Type 0
-DoesRequest files after talks (r.Instance request) out out' status = DoesInstance files request out out' status × IsKept files after × talks []
-DoesRequest files after talks (r.Check request) out out' status = DoesCheck files request out out' status × IsKept files after × talks []
-DoesRequest files after talks (r.Plan request) out out' status = DoesPlan files request out out' status × IsKept files after × talks []
+DoesRequest files after talks (r.Instance request) out out' status = DoesInstance files request out out' status × AreUnchanged files after × talks []
+DoesRequest files after talks (r.Check request) out out' status = DoesCheck files request out out' status × AreUnchanged files after × talks []
+DoesRequest files after talks (r.Plan request) out out' status = DoesPlan files request out out' status × AreUnchanged files after × talks []
 DoesRequest files after talks (r.Compile request) out out' status = DoesCompile files after request out out' status × talks []
-DoesRequest files after talks (r.Verify request) out out' status = DoesVerify files request out out' status × IsKept files after × talks []
-DoesRequest files after talks (r.Run request) out out' status = DoesRun files request out out' status × IsKept files after × talks []
-DoesRequest files after talks (r.Rehearse request) out out' status = DoesRehearse files request out out' status × IsKept files after × talks []
-DoesRequest files after talks (r.Auto request) out out' status = DoesAuto files request out out' status × IsKept files after × talks []
+DoesRequest files after talks (r.Verify request) out out' status = DoesVerify files request out out' status × AreUnchanged files after × talks []
+DoesRequest files after talks (r.Run request) out out' status = DoesRun files request out out' status × AreUnchanged files after × talks []
+DoesRequest files after talks (r.Rehearse request) out out' status = DoesRehearse files request out out' status × AreUnchanged files after × talks []
+DoesRequest files after talks (r.Auto request) out out' status = DoesAuto files request out out' status × AreUnchanged files after × talks []
 DoesRequest files after talks (r.Thin request) out out' status = DoesThin files after request out out' status × talks []
 DoesRequest files after talks (r.Migrate request) out out' status = DoesMigrate files after request out out' status × talks []
-DoesRequest files after talks (r.List request) out out' status = DoesList files request out out' status × IsKept files after × talks []
-DoesRequest files after talks (r.Dispatch request) out out' status = DoesDispatch files request talks status × IsKept files after × IsUnwritten out out'
+DoesRequest files after talks (r.List request) out out' status = DoesList files request out out' status × AreUnchanged files after × talks []
+DoesRequest files after talks (r.Dispatch request) out out' status = DoesDispatch files request talks status × AreUnchanged files after × IsUnwritten out out'
 
 -- the refusals of each command
 abbrev pub RefusesRequest : (files after : Option Store) → (Talk → Type 0) → Request → (out out' : SinkState) → Fault → Type 0
-RefusesRequest files after talks (r.Instance request) out out' fault = RefusesInstance files request out out' fault × IsKept files after × talks []
-RefusesRequest files after talks (r.Check request) out out' fault = RefusesCheck files request out out' fault × IsKept files after × talks []
-RefusesRequest files after talks (r.Plan request) out out' fault = RefusesPlan files request out out' fault × IsKept files after × talks []
+RefusesRequest files after talks (r.Instance request) out out' fault = RefusesInstance files request out out' fault × AreUnchanged files after × talks []
+RefusesRequest files after talks (r.Check request) out out' fault = RefusesCheck files request out out' fault × AreUnchanged files after × talks []
+RefusesRequest files after talks (r.Plan request) out out' fault = RefusesPlan files request out out' fault × AreUnchanged files after × talks []
 RefusesRequest files after talks (r.Compile request) out out' fault = RefusesCompile files after request out out' fault × talks []
-RefusesRequest files after talks (r.Verify request) out out' fault = RefusesVerify files request out out' fault × IsKept files after × talks []
-RefusesRequest files after talks (r.Run request) out out' fault = RefusesRun files request out out' fault × IsKept files after × talks []
-RefusesRequest files after talks (r.Rehearse request) out out' fault = RefusesRehearse files request out out' fault × IsKept files after × talks []
-RefusesRequest files after talks (r.Auto request) out out' fault = RefusesAuto files request out out' fault × IsKept files after × talks []
+RefusesRequest files after talks (r.Verify request) out out' fault = RefusesVerify files request out out' fault × AreUnchanged files after × talks []
+RefusesRequest files after talks (r.Run request) out out' fault = RefusesRun files request out out' fault × AreUnchanged files after × talks []
+RefusesRequest files after talks (r.Rehearse request) out out' fault = RefusesRehearse files request out out' fault × AreUnchanged files after × talks []
+RefusesRequest files after talks (r.Auto request) out out' fault = RefusesAuto files request out out' fault × AreUnchanged files after × talks []
 RefusesRequest files after talks (r.Thin request) out out' fault = RefusesThin files after request out out' fault × talks []
 RefusesRequest files after talks (r.Migrate request) out out' fault = RefusesMigrate files after request out out' fault × talks []
-RefusesRequest files after talks (r.List request) out out' fault = RefusesList files request out out' fault × IsKept files after × talks []
-RefusesRequest files after talks (r.Dispatch request) out out' fault = RefusesDispatch files request talks fault × IsKept files after × IsUnwritten out out'
+RefusesRequest files after talks (r.List request) out out' fault = RefusesList files request out out' fault × AreUnchanged files after × talks []
+RefusesRequest files after talks (r.Dispatch request) out out' fault = RefusesDispatch files request talks fault × AreUnchanged files after × IsUnwritten out out'
 
 -- the request was done, and its status is answered; or a refusal was told, and the refusal's status is answered: the other output took
 -- that one line, or failed within it
@@ -66,7 +66,7 @@ RunsRequest files after talks request out out' err err' status =
 
 -- why the words are no request was told: help on the output, usage on the other
 abbrev pub StopsAtWords : WordStop → (out out' err err' : SinkState) → ℕ → Type 0
-StopsAtWords w.OutOfMemory out out' err err' status = (status ≡ 3) × IsTold f.Memory err err' × IsUnwritten out out'
+StopsAtWords w.OutOfMemory out out' err err' status = (status ≡ 3) × IsRefusalTold f.Memory err err' × IsUnwritten out out'
 StopsAtWords (w.Usage text) out out' err err' status = (status ≡ 2) × Receives err err' (string_bytes text) × IsUnwritten out out'
 StopsAtWords (w.Help text) out out' err err' status =
     ((status ≡ 0) × IsDelivered out out' (string_bytes text) × IsUnwritten err err')
@@ -76,8 +76,8 @@ StopsAtWords (w.Help text) out out' err err' status =
 -- without words the run of the input; else the command that the words ask, or a stop at words that the command line does not take. Every
 -- file is as before, but for what the commands `compile`, `thin` and `migrate` write. The input is read whole without words, and else robots alone report by it
 abbrev pub RunsCommand : List Text → Option (List ℕ) → (files after : Option Store) → (Talk → Type 0) → (out out' err err' : SinkState) → ℕ → Type 0
-RunsCommand [] input files after talks out out' err err' status = RunsHex input out out' err err' status × IsKept files after
+RunsCommand [] input files after talks out out' err err' status = RunsHex input out out' err err' status × AreUnchanged files after
 RunsCommand (word ∷ words) input files after talks out out' err err' status =
     (names : DepsNames) × AreDeps names
     × (((request : Request) × Asks (fleet names) (word ∷ words) request × RunsRequest files after talks request out out' err err' status)
-    ⊎ ((stop : WordStop) × StopsFor (fleet names) (word ∷ words) stop × StopsAtWords stop out out' err err' status × IsKept files after × talks []))
+    ⊎ ((stop : WordStop) × StopsFor (fleet names) (word ∷ words) stop × StopsAtWords stop out out' err err' status × AreUnchanged files after × talks []))

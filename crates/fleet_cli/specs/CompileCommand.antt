@@ -14,7 +14,7 @@ use Rattle.fleet_model.specs.declared.deps.Deps.{Deps}
 use Rattle.fleet_adg.specs.declared.fault.CompileFault.TheVariants as c
 use Rattle.fleet_code.specs.Spelling.{Spells}
 use Rattle.fleet_text.specs.Sink.{SinkState, IsUnwritten}
-use Rattle.fleet_files.specs.Files.{Store, IsKept}
+use Rattle.fleet_files.specs.Files.{Store, AreUnchanged}
 use Rattle.fleet_args.specs.declared.compile.CompileRequest.{CompileRequest}
 use Rattle.fleet_io.specs.Named.{IsUnread, AreRead}
 use Rattle.fleet_cli.specs.Output.{count_lines, WritesOut, IsOutRefusal}
@@ -76,6 +76,6 @@ DoesCompile files after r out out' status =
 -- output failed
 abbrev pub RefusesCompile : (files after : Option Store) → CompileRequest → (out out' : SinkState) → Fault → Type 0
 RefusesCompile files after r out out' fault =
-    (IsCompileRefusal files r fault × IsKept files after × IsUnwritten out out')
+    (IsCompileRefusal files r fault × AreUnchanged files after × IsUnwritten out out')
     ⊎ ((program : Program) × (bytes : List ℕ) × CompilesFiles files r program bytes
     × IsOutRefusal files after r.out.now bytes out out' (compiled_text program bytes) fault)

@@ -22,7 +22,7 @@ pub record IsTextOf (input : Option (List ℕ)) (text : List ℕ) : Type 0 where
   pub within : length text ≤ MOST_BYTES
 
 -- the text stands, in hexadecimal, for the bytes that spell the program
-pub record StandsFor (text : List ℕ) (p : Program) : Type 0 where
+pub record StandsForProgram (text : List ℕ) (p : Program) : Type 0 where
   pub bytes : List ℕ
   pub pairs : bytes_of text ≡ Ok bytes
   pub spelled : Spells bytes p
@@ -32,7 +32,7 @@ pub record RehearsesInput (input : Option (List ℕ)) (out out' : SinkState) (en
   pub text : List ℕ
   pub read : IsTextOf input text
   pub program : Program
-  pub stands : StandsFor text program
+  pub stands : StandsForProgram text program
   pub writes : WritesRehearsal program [] out out' end
 
 -- the refusal is one that the input allows: the first fault of its text, or of the bytes for which that stands; or the sink failed
@@ -43,7 +43,7 @@ IsRefusalOf input out out' (f.Hex fault) =
 IsRefusalOf input out out' (f.Load fault) =
     (text bytes : List ℕ) × IsTextOf input text × (bytes_of text ≡ Ok bytes) × (fault ≢ l.OutOfMemory → IsFirstLoadFault bytes fault) × IsUnwritten out out'
 IsRefusalOf input out out' (f.Run fault) =
-    (text : List ℕ) × (p : Program) × (left : Holds) × IsTextOf input text × StandsFor text p
+    (text : List ℕ) × (p : Program) × (left : Holds) × IsTextOf input text × StandsForProgram text p
     × RehearsesFlushed p (list_source []) (list_source left) out out' (Err fault)
 IsRefusalOf input out out' f.Memory = IsUnwritten out out'
 IsRefusalOf input out out' (f.File name) = (name.now ≡ codes "-") × IsUnwritten out out'

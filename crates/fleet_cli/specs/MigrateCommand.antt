@@ -4,7 +4,7 @@ use Rattle.fleet_model.specs.Program.{Program}
 use Rattle.fleet_code.specs.Spelling.{SpellsIn, Spells}
 use Rattle.fleet_code.specs.declared.format.Version.TheVariants.{Two}
 use Rattle.fleet_text.specs.Sink.{SinkState, IsUnwritten}
-use Rattle.fleet_files.specs.Files.{Store, IsKept}
+use Rattle.fleet_files.specs.Files.{Store, AreUnchanged}
 use Rattle.fleet_args.specs.declared.migrate.MigrateRequest.{MigrateRequest}
 use Rattle.fleet_io.specs.Named.{IsUnread, AreRead}
 use Rattle.fleet_cli.specs.Output.{count_lines, WritesOut, IsOutRefusal}
@@ -38,5 +38,5 @@ DoesMigrate files after r out out' status =
 -- A refusal before anything is written: every file is as before. Or OUT could not be written or the output failed
 abbrev pub RefusesMigrate : (files after : Option Store) → MigrateRequest → (out out' : SinkState) → Fault → Type 0
 RefusesMigrate files after r out out' fault =
-    (IsMigrateRefusal files r fault × IsKept files after × IsUnwritten out out')
+    (IsMigrateRefusal files r fault × AreUnchanged files after × IsUnwritten out out')
     ⊎ ((migrated : List ℕ) × MigratesFile files r migrated × IsOutRefusal files after r.out.now migrated out out' (migrated_text migrated) fault)

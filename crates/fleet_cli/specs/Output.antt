@@ -9,8 +9,8 @@ use Rattle.fleet_io.specs.Output.{IsOutFault}
 use Rattle.fleet_io.specs.declared.fault.Fault.{Fault}
 
 -- counts with their labels
-abbrev pub labelled : List (Bor (List ℕ) × ℕ) → List (List ℕ × ℕ)
-labelled counts = map (λ c. (c.0.now, c.1)) counts
+abbrev pub with_labels : List (Bor (List ℕ) × ℕ) → List (List ℕ × ℕ)
+with_labels counts = map (λ c. (c.0.now, c.1)) counts
 
 -- a line for each count: its label and its number
 abbrev pub count_lines : List (List ℕ × ℕ) → List ℕ

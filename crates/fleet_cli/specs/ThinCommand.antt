@@ -8,7 +8,7 @@ use Rattle.fleet_grid.specs.Ground.{is_passable}
 use Rattle.fleet_chains.specs.Reduced.{IsThinned, RunEqually}
 use Rattle.fleet_code.specs.Spelling.{Spells}
 use Rattle.fleet_text.specs.Sink.{SinkState, IsUnwritten}
-use Rattle.fleet_files.specs.Files.{Store, IsKept}
+use Rattle.fleet_files.specs.Files.{Store, AreUnchanged}
 use Rattle.fleet_args.specs.declared.thin.ThinRequest.{ThinRequest}
 use Rattle.fleet_io.specs.Named.{IsUnread, AreRead}
 use Rattle.fleet_cli.specs.Output.{count_lines, WritesOut, IsOutRefusal}
@@ -55,6 +55,6 @@ DoesThin files after r out out' status =
 -- failed
 abbrev pub RefusesThin : (files after : Option Store) → ThinRequest → (out out' : SinkState) → Fault → Type 0
 RefusesThin files after r out out' fault =
-    (IsThinRefusal files r fault × IsKept files after × IsUnwritten out out')
+    (IsThinRefusal files r fault × AreUnchanged files after × IsUnwritten out out')
     ⊎ ((more less : ℕ) × (bytes : List ℕ) × ThinsFiles files r more less bytes
     × IsOutRefusal files after r.out.now bytes out out' (thinned_text more less) fault)

@@ -2,7 +2,7 @@
 
 ghost use Rattle.std.specs.Prelude.{◌≡◌, MatchResult};
 ghost use Rattle.fleet_text.specs.Sink.{IsWorking};
-ghost use Rattle.fleet_files.specs.Files.{IsKept};
+ghost use Rattle.fleet_files.specs.Files.{AreUnchanged};
 ghost use Rattle.fleet_cli.specs.AutoCommand.{RunsMade, IsMadeFault, DoesAuto, RefusesAuto};
 
 use fleet_args::AutoRequest;
@@ -48,7 +48,7 @@ pub(crate) fn do_auto<'a, F: Files, O: Flush>(
     ensures did { MatchResult result
         (DoesAuto (F.contents files.old) request.now (O.state out.old) (O.state out.new))
         (RefusesAuto (F.contents files.old) request.now (O.state out.old) (O.state out.new)) }
-    ensures kept { IsKept (F.contents files.old) (F.contents files.new) }
+    ensures kept { AreUnchanged (F.contents files.old) (F.contents files.new) }
 {
     let names = [request.map, request.scen];
     let (read, held) = read_with_holds(alloc, files, &names, request.holds)?;

@@ -2,7 +2,7 @@
 
 ghost use Rattle.std.specs.Prelude.{◌≡◌, MatchResult};
 ghost use Rattle.fleet_text.specs.Sink.{IsWorking, Delivers};
-ghost use Rattle.fleet_files.specs.Files.{IsKept};
+ghost use Rattle.fleet_files.specs.Files.{AreUnchanged};
 ghost use Rattle.fleet_cli.specs.CheckCommand.{check_text, PrintsCheck, IsCheckFault, DoesCheck, RefusesCheck};
 
 use crate::output::print_report;
@@ -70,7 +70,7 @@ pub(crate) fn do_check<'a, F: Files, O: Flush>(
     ensures did { MatchResult result
         (DoesCheck (F.contents files.old) request.now (O.state out.old) (O.state out.new))
         (RefusesCheck (F.contents files.old) request.now (O.state out.old) (O.state out.new)) }
-    ensures kept { IsKept (F.contents files.old) (F.contents files.new) }
+    ensures kept { AreUnchanged (F.contents files.old) (F.contents files.new) }
 {
     let read = read_files(alloc, files, &[request.map, request.scen, request.plan])?;
     let [map, scen, plan] = read.as_slice() else {

@@ -2,7 +2,7 @@
 
 ghost use Rattle.std.specs.Prelude.{◌≡◌, IfOk, IfErr, MatchResult};
 ghost use Rattle.fleet_text.specs.Sink.{IsWorking};
-ghost use Rattle.fleet_files.specs.Files.{IsKept};
+ghost use Rattle.fleet_files.specs.Files.{AreUnchanged};
 ghost use Rattle.fleet_cli.specs.Output.{WritesOut, IsOutRefusal};
 ghost use Rattle.fleet_cli.specs.CompileCommand.{CompilesTexts, IsCompileFault, compiled_text, CompilesFiles, IsCompileRefusal, DoesCompile, RefusesCompile};
 
@@ -67,7 +67,7 @@ fn compile_files<'a, F: Files>(
 ) -> Result<Compiled, Fault<'a>>
     ensures compiled { IfOk result (λ c. CompilesFiles (F.contents files.old) request.now c.program c.bytes.items) }
     ensures fault { IfErr result (IsCompileRefusal (F.contents files.old) request.now) }
-    ensures kept { IsKept (F.contents files.old) (F.contents files.new) }
+    ensures kept { AreUnchanged (F.contents files.old) (F.contents files.new) }
 {
     let read = read_files(alloc, files, &[request.map, request.scen, request.plan])?;
     let [map, scen, plan] = read.as_slice() else {

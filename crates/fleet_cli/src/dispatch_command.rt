@@ -1,7 +1,7 @@
 //! The command `dispatch`.
 
 ghost use Rattle.std.specs.Prelude.{◌≡◌, MatchResult};
-ghost use Rattle.fleet_files.specs.Files.{IsKept};
+ghost use Rattle.fleet_files.specs.Files.{AreUnchanged};
 ghost use Rattle.fleet_cli.specs.DispatchCommand.{DispatchesTexts, IsDispatchRefusal, DoesDispatch, RefusesDispatch};
 
 use crate::problem::{accept, read_problem};
@@ -45,7 +45,7 @@ pub(crate) fn do_dispatch<'a, F: Files, D: Floor>(
     ensures did { MatchResult result
         (DoesDispatch (F.contents files.old) request.now (D.talks floor.old floor.new))
         (RefusesDispatch (F.contents files.old) request.now (D.talks floor.old floor.new)) }
-    ensures kept { IsKept (F.contents files.old) (F.contents files.new) }
+    ensures kept { AreUnchanged (F.contents files.old) (F.contents files.new) }
 {
     let names = [request.map, request.scen, request.program];
     let read = read_files(alloc, files, &names)?;

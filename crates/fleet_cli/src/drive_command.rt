@@ -2,7 +2,7 @@
 
 ghost use Rattle.std.specs.Prelude.{◌≡◌, MatchResult};
 ghost use Rattle.fleet_text.specs.Sink.{IsWorking};
-ghost use Rattle.fleet_files.specs.Files.{IsKept};
+ghost use Rattle.fleet_files.specs.Files.{AreUnchanged};
 ghost use Rattle.fleet_cli.specs.DriveCommand.{RunsTexts, IsRunFault, DoesRun, RefusesRun};
 
 use crate::problem::{accept, read_problem};
@@ -47,7 +47,7 @@ pub(crate) fn do_run<'a, F: Files, O: Flush>(
     ensures did { MatchResult result
         (DoesRun (F.contents files.old) request.now (O.state out.old) (O.state out.new))
         (RefusesRun (F.contents files.old) request.now (O.state out.old) (O.state out.new)) }
-    ensures kept { IsKept (F.contents files.old) (F.contents files.new) }
+    ensures kept { AreUnchanged (F.contents files.old) (F.contents files.new) }
 {
     let names = [request.map, request.scen, request.program];
     let (read, held) = read_with_holds(alloc, files, &names, request.holds)?;

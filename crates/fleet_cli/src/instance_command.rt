@@ -2,7 +2,7 @@
 
 ghost use Rattle.std.specs.Prelude.{◌≡◌, ◌<◌, ◌∷◌, [], length, List, ℕ, MatchResult};
 ghost use Rattle.fleet_text.specs.Sink.{IsWorking, TakesAll, Delivers};
-ghost use Rattle.fleet_files.specs.Files.{IsKept};
+ghost use Rattle.fleet_files.specs.Files.{AreUnchanged};
 ghost use Rattle.fleet_cli.specs.InstanceCommand.{task_line, task_lines, map_line, instance_text, PrintsInstance, IsInstanceFault, DoesInstance, RefusesInstance};
 
 use crate::problem::read_problem;
@@ -97,7 +97,7 @@ pub(crate) fn do_instance<'a, F: Files, O: Flush>(
     ensures did { MatchResult result
         (DoesInstance (F.contents files.old) request.now (O.state out.old) (O.state out.new))
         (RefusesInstance (F.contents files.old) request.now (O.state out.old) (O.state out.new)) }
-    ensures kept { IsKept (F.contents files.old) (F.contents files.new) }
+    ensures kept { AreUnchanged (F.contents files.old) (F.contents files.new) }
 {
     let read = read_files(alloc, files, &[request.map, request.scen])?;
     let [map, scen] = read.as_slice() else {

@@ -3,7 +3,7 @@
 ghost use Rattle.std.specs.Prelude.{◌≡◌, MatchResult};
 ghost use Rattle.fleet_list.specs.Listing.{program_text};
 ghost use Rattle.fleet_text.specs.Sink.{IsWorking, Delivers};
-ghost use Rattle.fleet_files.specs.Files.{IsKept};
+ghost use Rattle.fleet_files.specs.Files.{AreUnchanged};
 ghost use Rattle.fleet_cli.specs.ListCommand.{PrintsProgram, IsListFault, DoesList, RefusesList};
 
 use crate::problem::view_program;
@@ -50,7 +50,7 @@ pub(crate) fn do_list<'a, F: Files, O: Flush>(
     ensures did { MatchResult result
         (DoesList (F.contents files.old) request.now (O.state out.old) (O.state out.new))
         (RefusesList (F.contents files.old) request.now (O.state out.old) (O.state out.new)) }
-    ensures kept { IsKept (F.contents files.old) (F.contents files.new) }
+    ensures kept { AreUnchanged (F.contents files.old) (F.contents files.new) }
 {
     let read = read_files(alloc, files, &[request.program])?;
     let [program] = read.as_slice() else {

@@ -2,7 +2,7 @@
 
 ghost use Rattle.std.specs.Prelude.{◌≡◌, IfOk, IfErr, MatchResult};
 ghost use Rattle.fleet_text.specs.Sink.{IsWorking};
-ghost use Rattle.fleet_files.specs.Files.{IsKept};
+ghost use Rattle.fleet_files.specs.Files.{AreUnchanged};
 ghost use Rattle.fleet_cli.specs.Output.{WritesOut, IsOutRefusal};
 ghost use Rattle.fleet_cli.specs.Problem.{IsLoadRefusal};
 ghost use Rattle.fleet_cli.specs.MigrateCommand.{MigratesBytes, migrated_text, MigratesFile, IsMigrateRefusal, DoesMigrate, RefusesMigrate};
@@ -40,7 +40,7 @@ fn migrate_file<'a, F: Files>(
 ) -> Result<Vec<u8>, Fault<'a>>
     ensures migrated { IfOk result (λ v. MigratesFile (F.contents files.old) request.now v.items) }
     ensures fault { IfErr result (IsMigrateRefusal (F.contents files.old) request.now) }
-    ensures kept { IsKept (F.contents files.old) (F.contents files.new) }
+    ensures kept { AreUnchanged (F.contents files.old) (F.contents files.new) }
 {
     let read = read_files(alloc, files, &[request.program])?;
     let [program] = read.as_slice() else {

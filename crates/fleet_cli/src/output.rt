@@ -2,7 +2,7 @@
 
 ghost use Rattle.std.specs.Prelude.{◌≡◌, MatchResult};
 ghost use Rattle.fleet_text.specs.Sink.{IsWorking, TakesAll, Delivers};
-ghost use Rattle.fleet_cli.specs.Output.{labelled, count_lines, report, WritesOut, IsOutRefusal};
+ghost use Rattle.fleet_cli.specs.Output.{with_labels, count_lines, report, WritesOut, IsOutRefusal};
 
 use fleet_io::{Fault, Files, Word, put_count, put_line, write_file};
 use fleet_run::{Flush, OutFault, TraceOut};
@@ -10,7 +10,7 @@ use fleet_run::{Flush, OutFault, TraceOut};
 /// Writes a line for each count: its label and its number.
 fn put_counts<O: TraceOut>(out: &mut O, counts: &[(&'static str, u64)]) -> Result<(), OutFault>
     requires { IsWorking (O.state out.old) }
-    ensures { TakesAll (O.state out.old) (O.state out.new) result (count_lines (labelled counts.now)) }
+    ensures { TakesAll (O.state out.old) (O.state out.new) result (count_lines (with_labels counts.now)) }
 {
     for (label, number) in counts {
         put_count(out, label, *number)?;
@@ -21,7 +21,7 @@ fn put_counts<O: TraceOut>(out: &mut O, counts: &[(&'static str, u64)]) -> Resul
 /// Prints the counts, and has the sink hand them on.
 fn print_counts<O: Flush>(out: &mut O, counts: &[(&'static str, u64)]) -> Result<(), OutFault>
     requires { IsWorking (O.state out.old) }
-    ensures { Delivers (O.state out.old) (O.state out.new) result (count_lines (labelled counts.now)) }
+    ensures { Delivers (O.state out.old) (O.state out.new) result (count_lines (with_labels counts.now)) }
 {
     put_counts(out, counts)?;
     out.flush()
@@ -34,7 +34,7 @@ fn put_report<O: TraceOut>(
     counts: &[(&'static str, u64)],
 ) -> Result<(), OutFault>
     requires { IsWorking (O.state out.old) }
-    ensures { TakesAll (O.state out.old) (O.state out.new) result (report title.now (labelled counts.now)) }
+    ensures { TakesAll (O.state out.old) (O.state out.new) result (report title.now (with_labels counts.now)) }
 {
     put_line(out, &[Word::Text(title)])?;
     put_counts(out, counts)
@@ -47,7 +47,7 @@ pub(crate) fn print_report<O: Flush>(
     counts: &[(&'static str, u64)],
 ) -> Result<(), OutFault>
     requires { IsWorking (O.state out.old) }
-    ensures { Delivers (O.state out.old) (O.state out.new) result (report title.now (labelled counts.now)) }
+    ensures { Delivers (O.state out.old) (O.state out.new) result (report title.now (with_labels counts.now)) }
 {
     put_report(out, title, counts)?;
     out.flush()
@@ -64,9 +64,9 @@ pub(crate) fn write_out<'a, F: Files, O: Flush>(
     requires { IsWorking (O.state out.old) }
     ensures { MatchResult result
         (λ status. WritesOut (F.contents files.old) (F.contents files.new) name.entry.now bytes.now
-        (O.state out.old) (O.state out.new) (count_lines (labelled counts.now)) × (status ≡ 0))
+        (O.state out.old) (O.state out.new) (count_lines (with_labels counts.now)) × (status ≡ 0))
         (IsOutRefusal (F.contents files.old) (F.contents files.new) name.entry.now bytes.now
-        (O.state out.old) (O.state out.new) (count_lines (labelled counts.now))) }
+        (O.state out.old) (O.state out.new) (count_lines (with_labels counts.now))) }
 {
     write_file(files, name, bytes)?;
     match print_counts(out, counts) {

@@ -2,7 +2,7 @@
 
 ghost use Rattle.std.specs.Prelude.{◌≡◌, MatchResult};
 ghost use Rattle.fleet_text.specs.Sink.{IsWorking};
-ghost use Rattle.fleet_files.specs.Files.{IsKept};
+ghost use Rattle.fleet_files.specs.Files.{AreUnchanged};
 ghost use Rattle.fleet_cli.specs.PlanCommand.{PrintsPlan, IsPlanCommandFault, DoesPlan, RefusesPlan};
 
 use crate::problem::read_problem;
@@ -63,7 +63,7 @@ pub(crate) fn do_plan<'a, F: Files, O: Flush>(
     ensures did { MatchResult result
         (DoesPlan (F.contents files.old) request.now (O.state out.old) (O.state out.new))
         (RefusesPlan (F.contents files.old) request.now (O.state out.old) (O.state out.new)) }
-    ensures kept { IsKept (F.contents files.old) (F.contents files.new) }
+    ensures kept { AreUnchanged (F.contents files.old) (F.contents files.new) }
 {
     let read = read_files(alloc, files, &[request.map, request.scen])?;
     let [map, scen] = read.as_slice() else {

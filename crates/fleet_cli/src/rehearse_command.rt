@@ -4,7 +4,7 @@ ghost use Rattle.std.specs.Prelude.{◌≡◌, MatchResult};
 ghost use Rattle.fleet_run.specs.declared.run.End.{End};
 ghost use Rattle.fleet_io.specs.Output.{end_status};
 ghost use Rattle.fleet_text.specs.Sink.{IsWorking};
-ghost use Rattle.fleet_files.specs.Files.{IsKept};
+ghost use Rattle.fleet_files.specs.Files.{AreUnchanged};
 ghost use Rattle.fleet_cli.specs.RehearseCommand.{RehearsesBytes, IsRehearseFault, DoesRehearse, RefusesRehearse};
 
 use fleet_args::RehearseRequest;
@@ -60,7 +60,7 @@ pub(crate) fn do_rehearse<'a, F: Files, O: Flush>(
     ensures did { MatchResult result
         (DoesRehearse (F.contents files.old) request.now (O.state out.old) (O.state out.new))
         (RefusesRehearse (F.contents files.old) request.now (O.state out.old) (O.state out.new)) }
-    ensures kept { IsKept (F.contents files.old) (F.contents files.new) }
+    ensures kept { AreUnchanged (F.contents files.old) (F.contents files.new) }
 {
     let (read, held) = read_with_holds(alloc, files, &[request.program], request.holds)?;
     let [program] = read.as_slice() else {

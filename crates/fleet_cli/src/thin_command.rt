@@ -2,7 +2,7 @@
 
 ghost use Rattle.std.specs.Prelude.{◌≡◌, IfOk, IfErr, MatchResult};
 ghost use Rattle.fleet_text.specs.Sink.{IsWorking};
-ghost use Rattle.fleet_files.specs.Files.{IsKept};
+ghost use Rattle.fleet_files.specs.Files.{AreUnchanged};
 ghost use Rattle.fleet_cli.specs.Output.{WritesOut, IsOutRefusal};
 ghost use Rattle.fleet_cli.specs.Problem.{IsTextsRefusal};
 ghost use Rattle.fleet_cli.specs.ThinCommand.{ThinsTexts, ThinsFiles, IsThinRefusal, thinned_text, DoesThin, RefusesThin};
@@ -63,7 +63,7 @@ fn thin_files<'a, F: Files>(
 ) -> Result<Thinned, Fault<'a>>
     ensures thinned { IfOk result (λ t. ThinsFiles (F.contents files.old) request.now t.before t.after t.bytes.items) }
     ensures fault { IfErr result (IsThinRefusal (F.contents files.old) request.now) }
-    ensures kept { IsKept (F.contents files.old) (F.contents files.new) }
+    ensures kept { AreUnchanged (F.contents files.old) (F.contents files.new) }
 {
     let read = read_files(alloc, files, &[request.map, request.scen, request.program])?;
     let [map, scen, program] = read.as_slice() else {

@@ -4,7 +4,7 @@ ghost use Rattle.std.specs.Prelude.{◌≡◌, MatchResult, IfOk};
 ghost use Rattle.fleet_model.specs.declared.geometry.Place.{Place};
 ghost use Rattle.fleet_verify.specs.Broken.{MeetUnordered, IsBrokenBy};
 ghost use Rattle.fleet_text.specs.Sink.{IsWorking, Delivers};
-ghost use Rattle.fleet_files.specs.Files.{IsKept};
+ghost use Rattle.fleet_files.specs.Files.{AreUnchanged};
 ghost use Rattle.fleet_cli.specs.VerifyCommand.{accepted_text, SpellsBreakingHolds, TellsRefused, PrintsAccepted, IsVerifyFault, DoesVerify, RefusesVerify};
 
 use crate::output::print_report;
@@ -116,7 +116,7 @@ pub(crate) fn do_verify<'a, F: Files, O: Flush>(
     ensures did { MatchResult result
         (DoesVerify (F.contents files.old) request.now (O.state out.old) (O.state out.new))
         (RefusesVerify (F.contents files.old) request.now (O.state out.old) (O.state out.new)) }
-    ensures kept { IsKept (F.contents files.old) (F.contents files.new) }
+    ensures kept { AreUnchanged (F.contents files.old) (F.contents files.new) }
 {
     let read = read_files(alloc, files, &[request.map, request.scen, request.program])?;
     let [map, scen, program] = read.as_slice() else {

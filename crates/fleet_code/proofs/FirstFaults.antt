@@ -22,7 +22,7 @@ use Rattle.fleet_code.specs.declared.format.Version.TheVariants.{One, Two}
 use Rattle.fleet_code.specs.declared.fault.LoadFault.{LoadFault}
 use Rattle.fleet_code.specs.declared.fault.LoadFault.TheVariants.{Magic, Truncated, AgentCount, Total, Opcode, AwaitAgent, AwaitOrder, AwaitCount, Trailing}
 use Rattle.fleet_code.specs.Spelling.{magic, number, count as count_of, count_len, most_count, most_moves, cell, opcode, has_opcode, await, action, agent, IsSpellable, AreSpellable, IsSpellableAgent, CanSpell}
-use Rattle.fleet_code.specs.Reading.{Field, magic_at, number_at, long_number_at, count_at, cell_at, await_at, step_at, step_or, action_at, actions_at, agent_at, agents_at, program_as}
+use Rattle.fleet_code.specs.Reading.{Field, magic_at, number_at, long_number_at, count_from, cell_from, await_at, step_at, step_or, action_at, actions_at, agent_at, agents_at, program_as}
 use Rattle.fleet_code.specs.LoadFaults.{HasNumber, HasCount, HasHead, IsOffset, ReachesAgent, ReachesAction, ReachesOpcode, ReachesAwait, ReachesOrder, ReachesCount, IsWithoutMagic, EndsWithin, IsFirstFaultIn}
 use Rattle.fleet_code.proofs.Parts.{IsBytes, Takes, number_takes, count_takes, cell_takes, await_takes}
 use Rattle.fleet_code.proofs.RoundTrip.{joined, magic_long, step_again, action_takes, agent_takes, agents_take, after_count, after_start, after_agents, after_agent_count}
@@ -48,7 +48,7 @@ long_number_fails bytes f e =
     let s = short (ltb (length bytes) 4) Truncated (from_be_bytes w32 (take 4 bytes), drop 4 bytes) f e in
     (s.1, ltb-true (length bytes) 4 s.0)
 
-count_fails : (v : Version) (bytes : List ℕ) (f : LoadFault) → count_at v bytes ≡ Err f → (Truncated ≡ f) × (length bytes < (count_len v))
+count_fails : (v : Version) (bytes : List ℕ) (f : LoadFault) → count_from v bytes ≡ Err f → (Truncated ≡ f) × (length bytes < (count_len v))
 count_fails One bytes f e = number_fails bytes f e
 count_fails Two bytes f e = long_number_fails bytes f e
 
@@ -58,8 +58,8 @@ number_len bytes n rest t = let all = ap length t.parts in omega (arith, all)
 cell_len : (bytes : List ℕ) (c : Cell) (rest : List ℕ) → Takes bytes (cell c) rest → length bytes ≡ 4 + length rest
 cell_len bytes c rest t = let all = ap length t.parts in omega (arith, all)
 
-cell_fails : (bytes : List ℕ) (f : LoadFault) → IsBytes bytes → cell_at bytes ≡ Err f → (Truncated ≡ f) × (length bytes < 4)
-unfolding cell_at
+cell_fails : (bytes : List ℕ) (f : LoadFault) → IsBytes bytes → cell_from bytes ≡ Err f → (Truncated ≡ f) × (length bytes < 4)
+unfolding cell_from
 cell_fails bytes f fits e =
     elim (bind_err (number_at bytes) (λ x. number_at x.1 >>= λ y. Ok (record { x = x.0; y = y.0 }, y.1)) f e) [
       | inl h ↦ (let s = number_fails bytes f h in let few = s.1 in (s.0, omega (arith, few)))
@@ -74,7 +74,7 @@ cell_fails bytes f fits e =
 has_number : (bytes : List ℕ) (n : ℕ) (rest : List ℕ) → IsBytes bytes → number_at bytes ≡ Ok (n, rest) → HasNumber bytes n rest
 has_number bytes n rest fits e = let t = number_takes bytes n rest fits e in record { fits = t.1; parts = t.0.parts }
 
-has_count : (v : Version) (bytes : List ℕ) (n : ℕ) (rest : List ℕ) → IsBytes bytes → count_at v bytes ≡ Ok (n, rest) → HasCount v bytes n rest
+has_count : (v : Version) (bytes : List ℕ) (n : ℕ) (rest : List ℕ) → IsBytes bytes → count_from v bytes ≡ Ok (n, rest) → HasCount v bytes n rest
 has_count v bytes n rest fits e = let t = count_takes v bytes n rest fits e in record { fits = t.1; parts = t.0.parts }
 
 ends : (v : Version) (bytes : List ℕ) (f : LoadFault) → Truncated ≡ f → EndsWithin v bytes → IsFirstFaultIn v bytes f
@@ -88,7 +88,7 @@ unfolding await_at
 await_fails v bytes n i ws at rest f r from fits e =
     let least = least_after 0 ws in
     let counted : ℕ → ℕ × List ℕ → Field Await = λ j count. fault_if (eqb count.0 0) (AwaitCount at) >> Ok (record { agent = j; count = count.0 }, count.1) in
-    let ordered : ℕ × List ℕ → Field Await = λ a. fault_if (ltb a.0 least) (AwaitOrder at) >> (count_at v a.1 >>= counted a.0) in
+    let ordered : ℕ × List ℕ → Field Await = λ a. fault_if (ltb a.0 least) (AwaitOrder at) >> (count_from v a.1 >>= counted a.0) in
     elim (bind_err (number_at rest) (λ a. fault_if (leb n a.0 || eqb a.0 i) (AwaitAgent at) >> ordered a) f e) [
       | inl h ↦ (let s = number_fails rest f h in ends v bytes f s.0 (inr (inr (inr (inr (inl (n, i, ws, at, rest, r, s.1)))))))
       | inr a ↦ (
@@ -107,7 +107,7 @@ await_fails v bytes n i ws at rest f r from fits e =
             | inr right ↦ (
                 let tests = or_parts (leb n j) (eqb j i) right.0 in
                 let reached : ReachesOrder v bytes n ws at j after = record { i = i; at_agent = rest; opcode = r; agent = has; within = leb-false n j tests.0; other = eqb-false j i tests.1 } in
-                elim (test_err (ltb j least) (AwaitOrder at) (count_at v after >>= counted j) f right.1) [
+                elim (test_err (ltb j least) (AwaitOrder at) (count_from v after >>= counted j) f right.1) [
                   | inl low ↦ (
                       let above : Any (λ w. j ≤ w.agent) ws =
                       elim (some_above 0 ws j (ltb-true j least low.0)) [
@@ -117,7 +117,7 @@ await_fails v bytes n i ws at rest f r from fits e =
                       subst (IsFirstFaultIn v bytes) low.1 (n, ws, j, after, reached, above))
                   | inr high ↦ (
                       let counts : ReachesCount v bytes at after = record { n = n; awaits = ws; j = j; agent = reached; rising = all_below n i 0 ws j from (ltb-false j least high.0) } in
-                      elim (bind_err (count_at v after) (counted j) f high.1) [
+                      elim (bind_err (count_from v after) (counted j) f high.1) [
                         | inl h ↦ (let s = count_fails v after f h in ends v bytes f s.0 (inr (inr (inr (inr (inr (at, after, counts, s.1)))))))
                         | inr c ↦ elim (test_err (eqb c.0.0 0) (AwaitCount at) (Ok (record { agent = j; count = c.0.0 }, c.0.1)) f c.2) [
                           | inl nothing ↦ (
@@ -219,19 +219,19 @@ agent_fails v bytes n p rest f r within fits e =
     let whole = length bytes in
     let i = length p in
     let total = total_moves p in
-    elim (bind_err (cell_at rest) (after_start v whole n i total) f e) [
+    elim (bind_err (cell_from rest) (after_start v whole n i total) f e) [
       | inl h ↦ (let s = cell_fails rest f fits h in let few = s.1 in ends_agent v bytes n p rest f r within s.0 (omega (arith, few)))
       | inr start ↦ (
           let c = start.0.0 in
           let first = cell_takes rest start.0 fits start.1 in
           let len1 = cell_len rest c start.0.1 first.0 in
-          elim (bind_err (cell_at start.0.1) (λ goal. count_at v goal.1 >>= after_count v whole n i total c goal.0) f start.2) [
+          elim (bind_err (cell_from start.0.1) (λ goal. count_from v goal.1 >>= after_count v whole n i total c goal.0) f start.2) [
             | inl h ↦ (let s = cell_fails start.0.1 f first.0.rest_fits h in let few = s.1 in ends_agent v bytes n p rest f r within s.0 (omega (arith, few, len1)))
             | inr goal ↦ (
                 let d = goal.0.0 in
                 let second = cell_takes start.0.1 goal.0 first.0.rest_fits goal.1 in
                 let len2 = cell_len start.0.1 d goal.0.1 second.0 in
-                elim (bind_err (count_at v goal.0.1) (after_count v whole n i total c d) f goal.2) [
+                elim (bind_err (count_from v goal.0.1) (after_count v whole n i total c d) f goal.2) [
                   | inl h ↦ (let s = count_fails v goal.0.1 f h in let few = s.1 in ends_agent v bytes n p rest f r within s.0 (omega (arith, few, len1, len2)))
                   | inr counted ↦ (
                       let many = counted.0.0 in

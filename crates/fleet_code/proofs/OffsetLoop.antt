@@ -13,7 +13,7 @@ use Rattle.fleet_text.proofs.StepLaws.{ok_is}
 use Rattle.fleet_code.specs.declared.format.Version.{Version}
 use Rattle.fleet_code.specs.declared.fault.LoadFault.{LoadFault}
 use Rattle.fleet_code.specs.Spelling.{most_moves, action, agent}
-use Rattle.fleet_code.specs.Reading.{Field, magic_at, number_at, count_at, cell_at, action_at, actions_at, agent_at, agents_at, program_as}
+use Rattle.fleet_code.specs.Reading.{Field, magic_at, number_at, count_from, cell_from, action_at, actions_at, agent_at, agents_at, program_as}
 use Rattle.fleet_code.specs.Offsets.{PartOffsets, opcodes, ends_of, part_of, parts_of, with_ends, with_parts}
 use Rattle.fleet_code.proofs.Parts.{IsBytes}
 use Rattle.fleet_code.proofs.RoundTrip.{action_takes, agent_takes}
@@ -144,7 +144,7 @@ ends_length at (a ∷ actions) = ap suc (ends_length (at + opcodes a) actions)
 
 -- an agent that was read field by field
 pub agent_is : (v : Version) (whole n i total : ℕ) (bytes : List ℕ) (start goal : Cell × List ℕ) (count : ℕ × List ℕ) (x : List Action × List ℕ)
-    → cell_at bytes ≡ Ok start → cell_at start.1 ≡ Ok goal → count_at v goal.1 ≡ Ok count → count.0 ≤ (most_moves v) → total + count.0 ≤ 4194304 → actions_at v count.0 whole n i count.1 ≡ Ok x
+    → cell_from bytes ≡ Ok start → cell_from start.1 ≡ Ok goal → count_from v goal.1 ≡ Ok count → count.0 ≤ (most_moves v) → total + count.0 ≤ 4194304 → actions_at v count.0 whole n i count.1 ≡ Ok x
     → agent_at v whole n i total bytes ≡ Ok (record { start = start.0; goal = goal.0; actions = x.0 }, x.1)
 unfolding agent_at
 agent_is v whole n i total bytes start goal count x e f g few_each few h =

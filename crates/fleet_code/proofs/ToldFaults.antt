@@ -21,7 +21,7 @@ use Rattle.fleet_code.specs.declared.format.Version.TheVariants.{One, Two}
 use Rattle.fleet_code.specs.declared.fault.LoadFault.{LoadFault}
 use Rattle.fleet_code.specs.declared.fault.LoadFault.TheVariants.{OutOfMemory, Magic, Truncated, AgentCount, Total, Opcode, AwaitAgent, AwaitOrder, AwaitCount, Trailing}
 use Rattle.fleet_code.specs.Spelling.{magic, number, count as count_of, count_len, most_count, most_moves, cell, opcode, has_opcode, await, action, agent, IsSpellable, AreSpellable, IsSpellableAgent, CanSpell}
-use Rattle.fleet_code.specs.Reading.{Field, magic_at, number_at, count_at, cell_at, await_at, stay_in, step_at, action_at, actions_at, agent_at, agents_at, program_as}
+use Rattle.fleet_code.specs.Reading.{Field, magic_at, number_at, count_from, cell_from, await_at, stay_in, step_at, action_at, actions_at, agent_at, agents_at, program_as}
 use Rattle.fleet_code.specs.LoadFaults.{HasHead, IsOffset, ReachesAgent, ReachesAction, ReachesOpcode, ReachesAwait, ReachesOrder, ReachesCount, EndsWithin, IsFirstFaultIn}
 use Rattle.fleet_code.proofs.Parts.{number_again, count_again, cell_again, await_again}
 use Rattle.fleet_code.proofs.RoundTrip.{joined, move_has, action_again, agent_again, agents_again, regroup_three, after_count, after_start, after_agents, after_agent_count}
@@ -40,7 +40,7 @@ goes_on {A = A} r g x e = ap (λ (s : Result A LoadFault). s >>= g) e
 few_bytes : (bytes : List ℕ) → length bytes < 2 → number_at bytes ≡ Err Truncated
 few_bytes bytes lt = rw (lt-ltb (length bytes) 2 lt) refl
 
-few_count_bytes : (v : Version) (bytes : List ℕ) → length bytes < (count_len v) → count_at v bytes ≡ Err Truncated
+few_count_bytes : (v : Version) (bytes : List ℕ) → length bytes < (count_len v) → count_from v bytes ≡ Err Truncated
 few_count_bytes One bytes lt = few_bytes bytes lt
 few_count_bytes Two bytes lt = rw (lt-ltb (length bytes) 4 lt) refl
 
@@ -143,9 +143,9 @@ head_read v whole n i total bytes count rest f h fails =
     let numbered = count_of v count ++ rest in
     let regrouped : bytes ≡ cell c ++ (cell d ++ numbered) = h.parts ∙ regroup_three (cell c) (cell d) (count_of v count) rest in
     ap (agent_at v whole n i total) regrouped
-    ∙ goes_on (cell_at (cell c ++ (cell d ++ numbered))) (after_start v whole n i total) (c, cell d ++ numbered) (cell_again c (cell d ++ numbered) h.start_fits)
-    ∙ goes_on (cell_at (cell d ++ numbered)) (λ goal. count_at v goal.1 >>= after_count v whole n i total c goal.0) (d, numbered) (cell_again d numbered h.goal_fits)
-    ∙ goes_on (count_at v numbered) (after_count v whole n i total c d) (count, rest) (count_again v count rest h.moves_fit)
+    ∙ goes_on (cell_from (cell c ++ (cell d ++ numbered))) (after_start v whole n i total) (c, cell d ++ numbered) (cell_again c (cell d ++ numbered) h.start_fits)
+    ∙ goes_on (cell_from (cell d ++ numbered)) (λ goal. count_from v goal.1 >>= after_count v whole n i total c goal.0) (d, numbered) (cell_again d numbered h.goal_fits)
+    ∙ goes_on (count_from v numbered) (after_count v whole n i total c d) (count, rest) (count_again v count rest h.moves_fit)
     ∙ fails
 
 told_action : (v : Version) (bytes : List ℕ) (n i : ℕ) (rest : List ℕ) (f : LoadFault) → ReachesAction v bytes n i rest → action_at v (length rest) (length bytes) n i 0 rest ≡ Err f → program_as v bytes ≡ Err f
@@ -194,7 +194,7 @@ counted at j count = fault_if (eqb count.0 0) (AwaitCount at) >> Ok (record { ag
 
 -- an await whose agent is there and is not the own one
 told_order : (v : Version) (bytes : List ℕ) (n : ℕ) (ws : List Await) (at j : ℕ) (rest : List ℕ) (f : LoadFault) → (r : ReachesOrder v bytes n ws at j rest)
-    → (fault_if (ltb j (least_after 0 ws)) (AwaitOrder at) >> (count_at v rest >>= counted at j)) ≡ Err f → program_as v bytes ≡ Err f
+    → (fault_if (ltb j (least_after 0 ws)) (AwaitOrder at) >> (count_from v rest >>= counted at j)) ≡ Err f → program_as v bytes ≡ Err f
 unfolding await_at
 told_order v bytes n ws at j rest f r fails =
     let i = r.i in
@@ -202,7 +202,7 @@ told_order v bytes n ws at j rest f r fails =
     told_await v bytes n i ws at r.at_agent f r.opcode
     (ap (await_at v at n i (least_after 0 ws)) r.agent.parts ∙ rw (number_again j rest r.agent.fits, right) fails)
 
-told_count : (v : Version) (bytes : List ℕ) (at : ℕ) (rest : List ℕ) (f : LoadFault) → ReachesCount v bytes at rest → ((j : ℕ) → (count_at v rest >>= counted at j) ≡ Err f) → program_as v bytes ≡ Err f
+told_count : (v : Version) (bytes : List ℕ) (at : ℕ) (rest : List ℕ) (f : LoadFault) → ReachesCount v bytes at rest → ((j : ℕ) → (count_from v rest >>= counted at j) ≡ Err f) → program_as v bytes ≡ Err f
 told_count v bytes at rest f r fails =
     let high : ltb r.j (least_after 0 r.awaits) ≡ false = le-ltb r.j (least_after 0 r.awaits) (from_below 0 r.awaits r.j (omega arith) r.rising) in
     told_order v bytes r.n r.awaits at r.j rest f r.agent (rw high (fails r.j))
@@ -221,7 +221,7 @@ no_opcode v (suc (suc (suc (suc (suc b))))) h = refl
 
 -- an agent whose head is not wholly there
 head_ends : (v : Version) (whole n i total : ℕ) (rest : List ℕ) → length rest < 8 + (count_len v) → agent_at v whole n i total rest ≡ Err Truncated
-unfolding agent_at cell_at
+unfolding agent_at cell_from
 head_ends One whole n own total [] lt = refl
 head_ends One whole n own total (a ∷ []) lt = refl
 head_ends One whole n own total (a ∷ b ∷ []) lt = refl
@@ -248,7 +248,7 @@ head_ends Two whole n own total (a ∷ b ∷ c ∷ d ∷ e ∷ f ∷ g ∷ h ∷
 head_ends Two whole n own total (a ∷ b ∷ c ∷ d ∷ e ∷ f ∷ g ∷ h ∷ j ∷ k ∷ l ∷ m ∷ rest) lt = absurd (omega (arith, lt))
 
 told_end : (v : Version) (bytes : List ℕ) → EndsWithin v bytes → program_as v bytes ≡ Err Truncated
-unfolding program_as action_at agent_at await_at cell_at
+unfolding program_as action_at agent_at await_at cell_from
 told_end v bytes (inl m) = fails_with (magic_at v bytes) (λ r. number_at r >>= after_agent_count v (length bytes)) Truncated (magic_ends v bytes m.0 m.1 m.2)
 told_end v bytes (inr (inl m)) =
     goes_on (magic_at v bytes) (λ r. number_at r >>= after_agent_count v (length bytes)) m.0 (magic_read v bytes m.0 m.1)

@@ -7,13 +7,13 @@ abbrev pub Store : Type 0
 Store = List ℕ → Option (List ℕ)
 
 -- the named file holds the bytes
-abbrev pub Holds : Option Store → List ℕ → List ℕ → Type 0
-Holds None name bytes = ⊤
-Holds (Some files) name bytes = files name ≡ Some bytes
+abbrev pub HoldsBytes : Option Store → List ℕ → List ℕ → Type 0
+HoldsBytes None name bytes = ⊤
+HoldsBytes (Some files) name bytes = files name ≡ Some bytes
 
 -- the named file was read: it holds the bytes, and they are no more than are read
 pub record IsRead (files : Option Store) (name bytes : List ℕ) : Type 0 where
-  pub held : Holds files name bytes
+  pub held : HoldsBytes files name bytes
   pub within : length bytes ≤ MOST_BYTES
 
 -- there is no file of this name, or it has more bytes than are read
@@ -22,10 +22,10 @@ IsUnreadable None name = ⊤
 IsUnreadable (Some files) name = (bytes : List ℕ) → files name ≡ Some bytes → MOST_BYTES < length bytes
 
 -- every file is as before
-abbrev pub IsKept : Option Store → Option Store → Type 0
-IsKept None new = ⊤
-IsKept (Some files) None = ⊥
-IsKept (Some files) (Some others) = (n : List ℕ) → others n ≡ files n
+abbrev pub AreUnchanged : Option Store → Option Store → Type 0
+AreUnchanged None new = ⊤
+AreUnchanged (Some files) None = ⊥
+AreUnchanged (Some files) (Some others) = (n : List ℕ) → others n ≡ files n
 
 -- every file but the named one is as before
 abbrev pub ChangesOnly : Option Store → Option Store → List ℕ → Type 0
@@ -35,5 +35,5 @@ ChangesOnly (Some files) (Some others) name = (n : List ℕ) → n ≢ name → 
 
 -- the named file holds the bytes now, and every other file is as before
 pub record Replaces (old new : Option Store) (name bytes : List ℕ) : Type 0 where
-  pub held : Holds new name bytes
+  pub held : HoldsBytes new name bytes
   pub others : ChangesOnly old new name

@@ -5,7 +5,7 @@ use Rattle.fleet_files.specs.declared.input.InputStop.{InputStop}
 use Rattle.fleet_files.specs.declared.input.InputStop.TheVariants as s
 
 -- an input that cannot be read, or is too long, has failed
-abbrev pub fault_of : InputStop → FileFault
-fault_of s.OutOfMemory = f.OutOfMemory
-fault_of s.Unreadable = f.Failed
-fault_of s.TooLong = f.Failed
+abbrev pub input_fault : InputStop → FileFault
+input_fault s.OutOfMemory = f.OutOfMemory
+input_fault s.Unreadable = f.Failed
+input_fault s.TooLong = f.Failed

@@ -1,7 +1,7 @@
 //! Files by name.
 
 ghost use Rattle.std.specs.Prelude.{◌≡◌, ◌≤◌, Err, IfOk, IfErr, OnOk, length};
-ghost use Rattle.fleet_files.specs.Files.{Store, Holds, IsUnreadable, IsKept, ChangesOnly, Replaces};
+ghost use Rattle.fleet_files.specs.Files.{Store, HoldsBytes, IsUnreadable, AreUnchanged, ChangesOnly, Replaces};
 
 use crate::input::{FileFault, MOST_BYTES};
 use std::alloc::Global;
@@ -23,11 +23,11 @@ pub trait Files {
     /// The whole file. `Failed` where it cannot be read, or has more than `MOST_BYTES` bytes; of a store that tells, only where there is no
     /// such file or it has that many.
     fn read(&mut self, alloc: Global, name: &str) -> Result<Vec<u8>, FileFault>
-        ensures bytes { IfOk result (λ bytes. Holds (contents self.old) name.now bytes.items) }
+        ensures bytes { IfOk result (λ bytes. HoldsBytes (contents self.old) name.now bytes.items) }
         ensures within { IfOk result (λ bytes. length bytes.items ≤ MOST_BYTES) }
         ensures refused { IfErr result (refuses_read self.old name.now) }
         ensures unreadable { result ≡ Err FileFault.Failed → IsUnreadable (contents self.old) name.now }
-        ensures kept { IsKept (contents self.old) (contents self.new) };
+        ensures kept { AreUnchanged (contents self.old) (contents self.new) };
 
     /// Makes the file hold the bytes. After `Failed` it may hold any bytes.
     fn write(&mut self, name: &str, bytes: &[u8]) -> Result<(), FileFault>

@@ -34,9 +34,9 @@ enum InputStop {
 
 impl From<InputStop> for FileFault {
     ghost use Rattle.std.specs.Prelude.{◌≡◌};
-    ghost use Rattle.fleet_files.specs.Input.{fault_of};
+    ghost use Rattle.fleet_files.specs.Input.{input_fault};
 
-    ghost from_gives = { λ stop fault. fault ≡ fault_of stop };
+    ghost from_gives = { λ stop fault. fault ≡ input_fault stop };
 
     fn from(stop: InputStop) -> FileFault {
         match stop {

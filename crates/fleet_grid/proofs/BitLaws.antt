@@ -5,7 +5,7 @@ use Rattle.std.proofs.lemmas.Nat.{field_of, mod-pow-add, mod-mul-add}
 use Rattle.std.proofs.lemmas.List.{length-append, length-take-le, take_at, take-append-drop}
 use Rattle.std.specs.Int.{byte_at, bytes_low_first, to_le_bytes}
 use Rattle.std.specs.Simd.Lanes.{mask_l}
-use Rattle.fleet_grid.specs.Stored.{bits_of, cells_in}
+use Rattle.fleet_grid.specs.Stored.{bits_of, stored_cells}
 
 -- ---- the bits of a number
 
@@ -47,22 +47,22 @@ bits_of-split (suc j) k n =
 
 -- ---- the cells of bytes
 
-pub length-cells_in : (bytes : List ℕ) → length (cells_in bytes) ≡ 8 * length bytes
-unfolding cells_in
+pub length-cells_in : (bytes : List ℕ) → length (stored_cells bytes) ≡ 8 * length bytes
+unfolding stored_cells
 length-cells_in [] = refl
-length-cells_in (b ∷ bytes) = omega (arith, length-append (bits_of 8 b) (cells_in bytes), length-bits_of 8 b, length-cells_in bytes)
+length-cells_in (b ∷ bytes) = omega (arith, length-append (bits_of 8 b) (stored_cells bytes), length-bits_of 8 b, length-cells_in bytes)
 
-pub cells_in-append : (xs ys : List ℕ) → cells_in (xs ++ ys) ≡ cells_in xs ++ cells_in ys
-unfolding cells_in
+pub cells_in-append : (xs ys : List ℕ) → stored_cells (xs ++ ys) ≡ stored_cells xs ++ stored_cells ys
+unfolding stored_cells
 cells_in-append [] ys = refl
-cells_in-append (b ∷ xs) ys = ap (λ cells. bits_of 8 b ++ cells) (cells_in-append xs ys) ∙ sym (append_assoc (bits_of 8 b) (cells_in xs) (cells_in ys))
+cells_in-append (b ∷ xs) ys = ap (λ cells. bits_of 8 b ++ cells) (cells_in-append xs ys) ∙ sym (append_assoc (bits_of 8 b) (stored_cells xs) (stored_cells ys))
 
 byte_at_is : (i n : ℕ) → byte_at i n ≡ n / 256 ^ i % 256
 byte_at_is zero n = ap (λ m. m % 256) (omega arith)
 byte_at_is (suc i) n = refl
 
-cells_in-low_first : (k i n : ℕ) → cells_in (bytes_low_first i k n) ≡ bits_of (8 * k) (n / 256 ^ i)
-unfolding cells_in bits_of
+cells_in-low_first : (k i n : ℕ) → stored_cells (bytes_low_first i k n) ≡ bits_of (8 * k) (n / 256 ^ i)
+unfolding stored_cells bits_of
 cells_in-low_first zero i n = refl
 cells_in-low_first (suc k) i n =
     let more : 8 * suc k ≡ 8 + 8 * k = omega arith in
@@ -70,22 +70,22 @@ cells_in-low_first (suc k) i n =
     rw (more, byte_at_is i n) (ap (λ cells. bits_of 8 (n / 256 ^ i % 256) ++ cells) (cells_in-low_first k (suc i) n ∙ ap (bits_of (8 * k)) (sym next)) ∙ sym (bits_of-split 8 (8 * k) (n / 256 ^ i)))
 
 -- the bytes of a mask of 64 lanes keep the lanes
-pub cells_in-mask_l : (ms : List Bool) → length ms ≡ 64 → cells_in (to_le_bytes w64 (mask_l ms)) ≡ ms
+pub cells_in-mask_l : (ms : List Bool) → length ms ≡ 64 → stored_cells (to_le_bytes w64 (mask_l ms)) ≡ ms
 cells_in-mask_l ms size =
     let whole : mask_l ms / 1 ≡ mask_l ms = omega arith in
     cells_in-low_first 8 0 (mask_l ms) ∙ rw whole (ap (λ k. bits_of k (mask_l ms)) (sym size) ∙ bits_of-mask_l ms)
 
 -- the first so many bytes
-pub cells_in-take : (k : ℕ) (bytes : List ℕ) → k ≤ length bytes → cells_in (take k bytes) ≡ take (8 * k) (cells_in bytes)
+pub cells_in-take : (k : ℕ) (bytes : List ℕ) → k ≤ length bytes → stored_cells (take k bytes) ≡ take (8 * k) (stored_cells bytes)
 cells_in-take k bytes within =
-    let front = cells_in (take k bytes) in
+    let front = stored_cells (take k bytes) in
     let size : length front ≡ 8 * k = omega (arith, length-cells_in (take k bytes), length-take-le k bytes within) in
-    sym (take_at front (cells_in (drop k bytes)) (8 * k) size) ∙ ap (take (8 * k)) (sym (cells_in-append (take k bytes) (drop k bytes)) ∙ ap cells_in (take-append-drop k bytes))
+    sym (take_at front (stored_cells (drop k bytes)) (8 * k) size) ∙ ap (take (8 * k)) (sym (cells_in-append (take k bytes) (drop k bytes)) ∙ ap stored_cells (take-append-drop k bytes))
 
 -- the first k bytes of the mask m of 64 lanes, put after those that are there
 pub cells_in-put : (old new bytes : List ℕ) (ms : List Bool) (m j k : ℕ) → length ms ≡ 64 → m ≡ mask_l ms → bytes ≡ to_le_bytes w64 m → j ≡ k → k ≤ 8 → new ≡ old ++ take j bytes
-    → cells_in new ≡ cells_in old ++ take (8 * k) ms
+    → stored_cells new ≡ stored_cells old ++ take (8 * k) ms
 cells_in-put old new bytes ms m j k size is spelled same few e =
     let put : new ≡ old ++ take k (to_le_bytes w64 (mask_l ms)) = e ∙ rw (same, spelled, is) refl in
-    ap cells_in put ∙ cells_in-append old (take k (to_le_bytes w64 (mask_l ms)))
-    ∙ ap (λ cells. cells_in old ++ cells) (cells_in-take k (to_le_bytes w64 (mask_l ms)) few ∙ ap (take (8 * k)) (cells_in-mask_l ms size))
+    ap stored_cells put ∙ cells_in-append old (take k (to_le_bytes w64 (mask_l ms)))
+    ∙ ap (λ cells. stored_cells old ++ cells) (cells_in-take k (to_le_bytes w64 (mask_l ms)) few ∙ ap (take (8 * k)) (cells_in-mask_l ms size))

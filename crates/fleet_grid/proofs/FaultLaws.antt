@@ -9,7 +9,7 @@ use Rattle.fleet_grid.specs.declared.fault.MapFault.{MapFault}
 use Rattle.fleet_grid.specs.declared.fault.MapFault.TheVariants.{OutOfMemory, Header, Size, RowCount, RowLength, Glyph, Trailing}
 use Rattle.fleet_text.specs.Text.{Bytes, words_from_front}
 use Rattle.fleet_grid.specs.Ground.{Ground, IsSide}
-use Rattle.fleet_grid.specs.MapText.{line_at, is_no_glyph, cells_of, is_space, IsKindLine, IsNumberLine, IsMapLine, IsHeader, IsSizedHeader, AreRows, AreMapLines, HasForm, IsFirstWithoutForm, IsRightUpTo, IsFirstFault}
+use Rattle.fleet_grid.specs.MapText.{line_at, is_no_glyph, cells_of, is_row_space, IsKindLine, IsNumberLine, IsMapLine, IsHeader, IsSizedHeader, AreRows, AreMapLines, HasForm, IsFirstWithoutForm, IsMapRightUpTo, IsFirstMapLineFault}
 use Rattle.fleet_text.specs.Steps.{none_or, ◌>>=◌, ◌>>◌, some_or}
 use Rattle.fleet_grid.specs.MapReading.{is_alone, field, number_field, is_side, header_at, row_at, rows_at, map_at}
 use Rattle.fleet_text.proofs.StepLaws.{bind_err, right_err, some_err, some_ok, err_is, ok_err, none_some, option_cases}
@@ -46,48 +46,48 @@ three_before ls w h kind height width (suc zero) lt = (h, height)
 three_before ls w h kind height width (suc (suc zero)) lt = (w, width)
 three_before ls w h kind height width (suc (suc (suc i))) lt = absurd (omega arith)
 
-wrong_line : (ls : List Bytes) (k : ℕ) → k < 4 → Before ls k → (HasForm ls k → ⊥) → IsFirstFault ls (Header (k + 1))
+wrong_line : (ls : List Bytes) (k : ℕ) → k < 4 → Before ls k → (HasForm ls k → ⊥) → IsFirstMapLineFault ls (Header (k + 1))
 wrong_line ls k within before wrong = (k, refl, record { within = within; before = before; wrong = wrong })
 
-wrong_size : (ls : List Bytes) (w h : ℕ) (f : MapFault) → IsHeader ls w h → sized h w ≡ Err f → IsFirstFault ls f
+wrong_size : (ls : List Bytes) (w h : ℕ) (f : MapFault) → IsHeader ls w h → sized h w ≡ Err f → IsFirstMapLineFault ls f
 wrong_size ls w h f header e =
     elim (right_err (is_side h && is_side w) Size (Ok (w, h)) f e) [
-      | inl p ↦ subst (IsFirstFault ls) p.1 (w, h, header, λ sides. both_ways (is_side h && is_side w) p.0 (sides_again h w sides.0 sides.1))
+      | inl p ↦ subst (IsFirstMapLineFault ls) p.1 (w, h, header, λ sides. both_ways (is_side h && is_side w) p.0 (sides_again h w sides.0 sides.1))
       | inr p ↦ absurd (let g : Ok (w, h) ≡ Err f = p.1 in cc)
     ]
 
-after_width_fails : (ls : List Bytes) (w h : ℕ) (f : MapFault) → IsKindLine (line_at ls 0) → IsNumberLine (codes "height") (line_at ls 1) h → IsNumberLine (codes "width") (line_at ls 2) w → after_width ls h w ≡ Err f → IsFirstFault ls f
+after_width_fails : (ls : List Bytes) (w h : ℕ) (f : MapFault) → IsKindLine (line_at ls 0) → IsNumberLine (codes "height") (line_at ls 1) h → IsNumberLine (codes "width") (line_at ls 2) w → after_width ls h w ≡ Err f → IsFirstMapLineFault ls f
 after_width_fails ls w h f kind height width e =
     elim (right_err (is_alone (codes "map") (words_from_front (line_at ls 3))) (Header 4) (sized h w) f e) [
-      | inl p ↦ subst (IsFirstFault ls) p.1 (wrong_line ls 3 (omega arith) (three_before ls w h kind height width) (λ form. both_ways (is_alone (codes "map") (words_from_front (line_at ls 3))) p.0 (map_line_again (line_at ls 3) form)))
+      | inl p ↦ subst (IsFirstMapLineFault ls) p.1 (wrong_line ls 3 (omega arith) (three_before ls w h kind height width) (λ form. both_ways (is_alone (codes "map") (words_from_front (line_at ls 3))) p.0 (map_line_again (line_at ls 3) form)))
       | inr p ↦ wrong_size ls w h f (record { kind = kind; height = height; width = width; map = map_line_is (line_at ls 3) p.0 }) p.1
     ]
 
-after_height_fails : (ls : List Bytes) (h : ℕ) (f : MapFault) → IsKindLine (line_at ls 0) → IsNumberLine (codes "height") (line_at ls 1) h → after_height ls h ≡ Err f → IsFirstFault ls f
+after_height_fails : (ls : List Bytes) (h : ℕ) (f : MapFault) → IsKindLine (line_at ls 0) → IsNumberLine (codes "height") (line_at ls 1) h → after_height ls h ≡ Err f → IsFirstMapLineFault ls f
 after_height_fails ls h f kind height e =
     elim (bind_err (some_or (number_field (codes "width") (line_at ls 2)) (Header 3)) (λ width. after_width ls h width) f e) [
       | inl p ↦ (
           let none = some_err (number_field (codes "width") (line_at ls 2)) (Header 3) f p in
-          subst (IsFirstFault ls) none.1 (wrong_line ls 2 (omega arith) (two_before ls h kind height) (number_missing (codes "width") (line_at ls 2) none.0)))
+          subst (IsFirstMapLineFault ls) none.1 (wrong_line ls 2 (omega arith) (two_before ls h kind height) (number_missing (codes "width") (line_at ls 2) none.0)))
       | inr p ↦ after_width_fails ls p.0 h f kind height (number_is (codes "width") (line_at ls 2) p.0 (some_ok (number_field (codes "width") (line_at ls 2)) (Header 3) p.0 p.1)) p.2
     ]
 
-after_kind_fails : (ls : List Bytes) (f : MapFault) → IsKindLine (line_at ls 0) → after_kind ls ≡ Err f → IsFirstFault ls f
+after_kind_fails : (ls : List Bytes) (f : MapFault) → IsKindLine (line_at ls 0) → after_kind ls ≡ Err f → IsFirstMapLineFault ls f
 after_kind_fails ls f kind e =
     elim (bind_err (some_or (number_field (codes "height") (line_at ls 1)) (Header 2)) (λ height. after_height ls height) f e) [
       | inl p ↦ (
           let none = some_err (number_field (codes "height") (line_at ls 1)) (Header 2) f p in
-          subst (IsFirstFault ls) none.1 (wrong_line ls 1 (omega arith) (one_before ls kind) (number_missing (codes "height") (line_at ls 1) none.0)))
+          subst (IsFirstMapLineFault ls) none.1 (wrong_line ls 1 (omega arith) (one_before ls kind) (number_missing (codes "height") (line_at ls 1) none.0)))
       | inr p ↦ after_height_fails ls p.0 f kind (number_is (codes "height") (line_at ls 1) p.0 (some_ok (number_field (codes "height") (line_at ls 1)) (Header 2) p.0 p.1)) p.2
     ]
 
-header_fails : (ls : List Bytes) (f : MapFault) → header_at ls ≡ Err f → IsFirstFault ls f
+header_fails : (ls : List Bytes) (f : MapFault) → header_at ls ≡ Err f → IsFirstMapLineFault ls f
 unfolding header_at
 header_fails ls f e =
     elim (bind_err (some_or (field (codes "type") (line_at ls 0)) (Header 1)) (λ kind. after_kind ls) f e) [
       | inl p ↦ (
           let none = some_err (field (codes "type") (line_at ls 0)) (Header 1) f p in
-          subst (IsFirstFault ls) none.1 (wrong_line ls 0 (omega arith) (none_before ls) (kind_missing (line_at ls 0) none.0)))
+          subst (IsFirstMapLineFault ls) none.1 (wrong_line ls 0 (omega arith) (none_before ls) (kind_missing (line_at ls 0) none.0)))
       | inr p ↦ after_kind_fails ls f (kind_is (line_at ls 0) p.0 (some_ok (field (codes "type") (line_at ls 0)) (Header 1) p.0 p.1)) p.2
     ]
 
@@ -201,25 +201,25 @@ rows_fault (suc left) w row (suc k) (line ∷ ls) f lt h stops =
 row_of : (ls : List Bytes) (k : ℕ) → get_or (drop 4 ls) k [] ≡ line_at ls (4 + k)
 row_of ls k = get_or-drop 4 ls k []
 
-map_rows_fail : (ls : List Bytes) (w h : ℕ) (f : MapFault) → IsSizedHeader ls w h → rows_at h w 0 (drop 4 ls) ≡ Err f → IsFirstFault ls f
+map_rows_fail : (ls : List Bytes) (w h : ℕ) (f : MapFault) → IsSizedHeader ls w h → rows_at h w 0 (drop 4 ls) ≡ Err f → IsFirstMapLineFault ls f
 map_rows_fail ls w h f header e =
     let r = rows_fail h w 0 (drop 4 ls) f e in
     let k = r.0 in
-    let right : IsRightUpTo k ls w h = record { header = header; rows = rows_to k w (drop 4 ls) r.2; within = r.1 } in
+    let right : IsMapRightUpTo k ls w h = record { header = header; rows = rows_to k w (drop 4 ls) r.2; within = r.1 } in
     let four = four_lines ls header.header.map in
     let zero_less : 0 + k ≡ k = omega arith in
     elim r.3 [
-      | inl s ↦ (let n = s.1 in subst (IsFirstFault ls) (sym s.0) (w, h, k, right, omega (arith, length-drop 4 ls, n)))
+      | inl s ↦ (let n = s.1 in subst (IsFirstMapLineFault ls) (sym s.0) (w, h, k, right, omega (arith, length-drop 4 ls, n)))
       | inr s ↦ (
           let lt = s.0 in
           let here : 4 + k < length ls = omega (arith, length-drop 4 ls, lt) in
           elim s.1 [
-            | inl p ↦ subst (IsFirstFault ls) (ap (λ (n : ℕ). RowLength n) (sym zero_less) ∙ sym p.0) (w, h, right, here, λ same. p.1 (ap length (row_of ls k) ∙ same))
-            | inr p ↦ subst (IsFirstFault ls) (ap (λ (n : ℕ). Glyph n p.0) (sym zero_less) ∙ sym p.1) (w, h, right, here, ap length (sym (row_of ls k)) ∙ p.2, ap (position is_no_glyph) (sym (row_of ls k)) ∙ p.3)
+            | inl p ↦ subst (IsFirstMapLineFault ls) (ap (λ (n : ℕ). RowLength n) (sym zero_less) ∙ sym p.0) (w, h, right, here, λ same. p.1 (ap length (row_of ls k) ∙ same))
+            | inr p ↦ subst (IsFirstMapLineFault ls) (ap (λ (n : ℕ). Glyph n p.0) (sym zero_less) ∙ sym p.1) (w, h, right, here, ap length (sym (row_of ls k)) ∙ p.2, ap (position is_no_glyph) (sym (row_of ls k)) ∙ p.3)
           ])
     ]
 
-map_rows_fault : (ls : List Bytes) (w h k : ℕ) (f : MapFault) → IsRightUpTo k ls w h → StopsAt k w k (drop 4 ls) f → map_at ls ≡ Err f
+map_rows_fault : (ls : List Bytes) (w h k : ℕ) (f : MapFault) → IsMapRightUpTo k ls w h → StopsAt k w k (drop 4 ls) f → map_at ls ≡ Err f
 unfolding map_at
 map_rows_fault ls w h k f right stops =
     let zero_less : k ≡ 0 + k = omega arith in
@@ -228,14 +228,14 @@ map_rows_fault ls w h k f right stops =
 
 -- ---- the whole map
 
-after_rows_fail : (ls : List Bytes) (w h : ℕ) (rows : List (List Bool) × List Bytes) (f : MapFault) → IsSizedHeader ls w h → AreRows w h (drop 4 ls) → rows.1 ≡ drop (4 + h) ls → after_rows_read w h rows ≡ Err f → IsFirstFault ls f
+after_rows_fail : (ls : List Bytes) (w h : ℕ) (rows : List (List Bool) × List Bytes) (f : MapFault) → IsSizedHeader ls w h → AreRows w h (drop 4 ls) → rows.1 ≡ drop (4 + h) ls → after_rows_read w h rows ≡ Err f → IsFirstMapLineFault ls f
 after_rows_fail ls w h rows f header are rest e =
-    elim (right_err (list_all (list_all is_space) rows.1) Trailing (Ok (record { width = w; height = h; rows = rows.0 })) f e) [
-      | inl p ↦ subst (IsFirstFault ls) p.1 (w, h, header, are, λ empty. both_ways (list_all (list_all is_space) rows.1) p.0 (ap (list_all (list_all is_space)) rest ∙ empty_again (drop (4 + h) ls) empty))
+    elim (right_err (list_all (list_all is_row_space) rows.1) Trailing (Ok (record { width = w; height = h; rows = rows.0 })) f e) [
+      | inl p ↦ subst (IsFirstMapLineFault ls) p.1 (w, h, header, are, λ empty. both_ways (list_all (list_all is_row_space) rows.1) p.0 (ap (list_all (list_all is_row_space)) rest ∙ empty_again (drop (4 + h) ls) empty))
       | inr p ↦ absurd (let g : Ok (record { width = w; height = h; rows = rows.0 }) ≡ Err f = p.1 in cc)
     ]
 
-after_header_fails : (ls : List Bytes) (w h : ℕ) (f : MapFault) → IsSizedHeader ls w h → after_header ls (w, h) ≡ Err f → IsFirstFault ls f
+after_header_fails : (ls : List Bytes) (w h : ℕ) (f : MapFault) → IsSizedHeader ls w h → after_header ls (w, h) ≡ Err f → IsFirstMapLineFault ls f
 after_header_fails ls w h f header e =
     elim (bind_err (rows_at h w 0 (drop 4 ls)) (λ rows. after_rows_read w h rows) f e) [
       | inl p ↦ map_rows_fail ls w h f header p
@@ -245,7 +245,7 @@ after_header_fails ls w h f header e =
     ]
 
 -- what reading fails with is the first fault
-pub is_fault : (ls : List Bytes) (f : MapFault) → map_at ls ≡ Err f → IsFirstFault ls f
+pub is_fault : (ls : List Bytes) (f : MapFault) → map_at ls ≡ Err f → IsFirstMapLineFault ls f
 unfolding map_at
 is_fault ls f e =
     elim (bind_err (header_at ls) (λ sizes. after_header ls sizes) f e) [
@@ -254,7 +254,7 @@ is_fault ls f e =
     ]
 
 -- .. and the first fault is what reading fails with
-pub is_told : (ls : List Bytes) (f : MapFault) → IsFirstFault ls f → map_at ls ≡ Err f
+pub is_told : (ls : List Bytes) (f : MapFault) → IsFirstMapLineFault ls f → map_at ls ≡ Err f
 unfolding map_at
 is_told ls OutOfMemory h = absurd h
 is_told ls (Header line) h = rw (header_fault ls h.0 h.2) (ap (λ (n : ℕ). Err (Header n)) (sym h.1))
@@ -270,12 +270,12 @@ is_told ls (Glyph row column) h =
 is_told ls Trailing h =
     let w = h.0 in
     let height = h.1 in
-    let shows : list_all (list_all is_space) (drop height (drop 4 ls)) ≡ false = ap (list_all (list_all is_space)) (drop-drop height 4 ls) ∙ false_from_ne_true (list_all (list_all is_space) (drop (4 + height) ls)) (λ t. h.4 (empty_are (drop (4 + height) ls) t)) in
+    let shows : list_all (list_all is_row_space) (drop height (drop 4 ls)) ≡ false = ap (list_all (list_all is_row_space)) (drop-drop height 4 ls) ∙ false_from_ne_true (list_all (list_all is_row_space) (drop (4 + height) ls)) (λ t. h.4 (empty_are (drop (4 + height) ls) t)) in
     rw (header_again ls w height h.2, rows_again height w 0 (drop 4 ls) h.3, shows) refl
 
 -- ---- the reader's laws
 
-pub tells : (ls : List Bytes) → Tells (AreMapLines ls) (IsFirstFault ls) (map_at ls)
+pub tells : (ls : List Bytes) → Tells (AreMapLines ls) (IsFirstMapLineFault ls) (map_at ls)
 tells ls = record { found = is_found ls; read = is_read ls; fault = is_fault ls; told = is_told ls }
 
 -- ---- what the reader returned
@@ -289,6 +289,6 @@ read ls (Ok h) e g a = tt
 read ls (Err OutOfMemory) e g a = refl
 read ls (Err f) e g a = absurd (ok_err g f (sym (is_read ls g a) ∙ e (λ memory. cc)))
 
-pub told : (ls : List Bytes) (made : Result Ground MapFault) → IsDueUnless (λ g. g) made (map_at ls) OutOfMemory → IfErr made (λ f. f ≢ OutOfMemory → IsFirstFault ls f)
+pub told : (ls : List Bytes) (made : Result Ground MapFault) → IsDueUnless (λ g. g) made (map_at ls) OutOfMemory → IfErr made (λ f. f ≢ OutOfMemory → IsFirstMapLineFault ls f)
 told ls (Ok g) e = tt
 told ls (Err f) e = λ other. is_fault ls f (e other)

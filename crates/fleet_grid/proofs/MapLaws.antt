@@ -12,7 +12,7 @@ use Rattle.fleet_grid.specs.declared.fault.MapFault.{MapFault}
 use Rattle.fleet_grid.specs.declared.fault.MapFault.TheVariants.{Header, Size, RowLength, Glyph, Trailing}
 use Rattle.fleet_text.specs.Text.{Bytes, words, words_from_front, number}
 use Rattle.fleet_grid.specs.Ground.{Ground, cell_at, IsSide, IsGround}
-use Rattle.fleet_grid.specs.MapText.{line_at, is_ground_glyph, is_glyph, is_no_glyph, cells_of, is_space, IsKindLine, IsNumberLine, IsMapLine, IsHeader, IsSizedHeader, IsRow, AreRows, AreEmpty, AreMapLines}
+use Rattle.fleet_grid.specs.MapText.{line_at, is_ground_glyph, is_glyph, is_no_glyph, cells_of, is_row_space, IsKindLine, IsNumberLine, IsMapLine, IsHeader, IsSizedHeader, IsGlyphRow, AreRows, AreEmpty, AreMapLines}
 use Rattle.fleet_text.specs.Steps.{none_or, ◌>>=◌, ◌>>◌, right_or, some_or}
 use Rattle.fleet_grid.specs.MapReading.{after_keyword, is_alone, field, number_field, is_side, header_at, row_at, rows_at, map_at}
 use Rattle.fleet_text.proofs.TextLaws.{found_nowhere}
@@ -152,7 +152,7 @@ glyphs_are line e = AllPass-from_list_all is_glyph line (all_from_none line (fou
 pub glyphs_again : (line : Bytes) → AllPass is_glyph line → position is_no_glyph line ≡ None
 glyphs_again line h = no_position is_no_glyph line (none_from_all line (list_all-from_AllPass is_glyph line h))
 
-pub row_is : (w row : ℕ) (line : Bytes) (cells : List Bool) → row_at w row line ≡ Ok cells → IsRow w line × (cells ≡ cells_of line)
+pub row_is : (w row : ℕ) (line : Bytes) (cells : List Bool) → row_at w row line ≡ Ok cells → IsGlyphRow w line × (cells ≡ cells_of line)
 unfolding row_at
 row_is w row line cells e =
     let r = right_ok (eqb (length line) w) (RowLength row) (none_or (position is_no_glyph line) (Glyph row) >> Ok (cells_of line)) cells e in
@@ -160,20 +160,20 @@ row_is w row line cells e =
     let none = none_ok (position is_no_glyph line) (Glyph row) n.0 in
     (record { width = eqb-true (length line) w r.0; glyphs = glyphs_are line none }, sym (ok_is (cells_of line) cells n.1))
 
-pub row_again : (w row : ℕ) (line : Bytes) → IsRow w line → row_at w row line ≡ Ok (cells_of line)
+pub row_again : (w row : ℕ) (line : Bytes) → IsGlyphRow w line → row_at w row line ≡ Ok (cells_of line)
 unfolding row_at
 row_again w row line h = rw (eq-eqb (length line) w h.width, glyphs_again line h.glyphs) refl
 
 -- so many lines, each a row: as AreRows, by recursion
 pub record StartWithRows (left w : ℕ) (ls : List Bytes) : Type 0 where
   pub count : left ≤ length ls
-  pub rows : AllByRecursion (IsRow w) (take left ls)
+  pub rows : AllByRecursion (IsGlyphRow w) (take left ls)
 
 pub rows_to : (left w : ℕ) (ls : List Bytes) → StartWithRows left w ls → AreRows w left ls
-rows_to left w ls h = record { count = h.count; rows = All-from_recursion (IsRow w) (take left ls) h.rows }
+rows_to left w ls h = record { count = h.count; rows = All-from_recursion (IsGlyphRow w) (take left ls) h.rows }
 
 pub rows_from : (left w : ℕ) (ls : List Bytes) → AreRows w left ls → StartWithRows left w ls
-rows_from left w ls h = record { count = h.count; rows = recursion_from_All (IsRow w) (take left ls) h.rows }
+rows_from left w ls h = record { count = h.count; rows = recursion_from_All (IsGlyphRow w) (take left ls) h.rows }
 
 pub rows_are : (left w row : ℕ) (ls : List Bytes) (x : List (List Bool) × List Bytes) → rows_at left w row ls ≡ Ok x → StartWithRows left w ls × (x.0 ≡ map cells_of (take left ls)) × (x.1 ≡ drop left ls)
 unfolding rows_at
@@ -206,25 +206,25 @@ rows_again left w row ls h = rows_read left w row ls (rows_from left w ls h)
 
 -- ---- what follows the rows
 
-empty_is : (ls : List Bytes) → list_all (list_all is_space) ls ≡ true → AllByRecursion (AllPass is_space) ls
+empty_is : (ls : List Bytes) → list_all (list_all is_row_space) ls ≡ true → AllByRecursion (AllPass is_row_space) ls
 empty_is [] e = tt
-empty_is (l ∷ ls) e = let p = both (list_all is_space l) (list_all (list_all is_space) ls) e in (AllPass-from_list_all is_space l p.0, empty_is ls p.1)
+empty_is (l ∷ ls) e = let p = both (list_all is_row_space l) (list_all (list_all is_row_space) ls) e in (AllPass-from_list_all is_row_space l p.0, empty_is ls p.1)
 
-pub empty_are : (ls : List Bytes) → list_all (list_all is_space) ls ≡ true → AreEmpty ls
-empty_are ls e = All-from_recursion (AllPass is_space) ls (empty_is ls e)
+pub empty_are : (ls : List Bytes) → list_all (list_all is_row_space) ls ≡ true → AreEmpty ls
+empty_are ls e = All-from_recursion (AllPass is_row_space) ls (empty_is ls e)
 
-empty_read : (ls : List Bytes) → AllByRecursion (AllPass is_space) ls → list_all (list_all is_space) ls ≡ true
+empty_read : (ls : List Bytes) → AllByRecursion (AllPass is_row_space) ls → list_all (list_all is_row_space) ls ≡ true
 empty_read [] h = refl
-empty_read (l ∷ ls) h = rw (list_all-from_AllPass is_space l h.0) (empty_read ls h.1)
+empty_read (l ∷ ls) h = rw (list_all-from_AllPass is_row_space l h.0) (empty_read ls h.1)
 
-pub empty_again : (ls : List Bytes) → AreEmpty ls → list_all (list_all is_space) ls ≡ true
-empty_again ls h = empty_read ls (recursion_from_All (AllPass is_space) ls h)
+pub empty_again : (ls : List Bytes) → AreEmpty ls → list_all (list_all is_row_space) ls ≡ true
+empty_again ls h = empty_read ls (recursion_from_All (AllPass is_row_space) ls h)
 
 -- ---- the whole map
 
 -- the steps after the header, and after the rows
 abbrev pub after_rows_read : ℕ → ℕ → List (List Bool) × List Bytes → Result Ground MapFault
-after_rows_read w h rows = right_or (list_all (list_all is_space) rows.1) Trailing >> Ok (record { width = w; height = h; rows = rows.0 })
+after_rows_read w h rows = right_or (list_all (list_all is_row_space) rows.1) Trailing >> Ok (record { width = w; height = h; rows = rows.0 })
 
 abbrev pub after_header : List Bytes → ℕ × ℕ → Result Ground MapFault
 after_header ls sizes = rows_at sizes.1 sizes.0 0 (drop 4 ls) >>= λ rows. after_rows_read sizes.0 sizes.1 rows
@@ -236,7 +236,7 @@ is_found ls g e =
     let w = a.0.0 in
     let h = a.0.1 in
     let b = bind_ok (rows_at h w 0 (drop 4 ls)) (λ rows. after_rows_read w h rows) g a.2 in
-    let c = right_ok (list_all (list_all is_space) b.0.1) Trailing (Ok (record { width = w; height = h; rows = b.0.0 })) g b.2 in
+    let c = right_ok (list_all (list_all is_row_space) b.0.1) Trailing (Ok (record { width = w; height = h; rows = b.0.0 })) g b.2 in
     let rows = rows_are h w 0 (drop 4 ls) b.0 b.1 in
     let rest : b.0.1 ≡ drop (4 + h) ls = rows.2 ∙ drop-drop h 4 ls in
     let made : AreMapLines ls (record { width = w; height = h; rows = b.0.0 }) = record {
@@ -251,20 +251,20 @@ pub is_read : (ls : List Bytes) (g : Ground) → AreMapLines ls g → map_at ls 
 unfolding map_at
 is_read ls g h =
     let lines = take g.height (drop 4 ls) in
-    let rest : list_all (list_all is_space) (drop g.height (drop 4 ls)) ≡ true = ap (list_all (list_all is_space)) (drop-drop g.height 4 ls) ∙ empty_again (drop (4 + g.height) ls) h.rest in
+    let rest : list_all (list_all is_row_space) (drop g.height (drop 4 ls)) ≡ true = ap (list_all (list_all is_row_space)) (drop-drop g.height 4 ls) ∙ empty_again (drop (4 + g.height) ls) h.rest in
     let same : record { width = g.width; height = g.height; rows = map cells_of lines } ≡ g = ap (λ (rs : List (List Bool)). record { width = g.width; height = g.height; rows = rs }) (sym h.cells) in
     rw (header_again ls g.width g.height h.header, rows_again g.height g.width 0 (drop 4 ls) h.rows, rest) (ap (λ (x : Ground). Ok x) same)
 
 -- ---- the cells of a ground
 
-widths_are : (w : ℕ) (ls : List Bytes) → AllByRecursion (IsRow w) ls → AllByRecursion (λ row. length row ≡ w) (map cells_of ls)
+widths_are : (w : ℕ) (ls : List Bytes) → AllByRecursion (IsGlyphRow w) ls → AllByRecursion (λ row. length row ≡ w) (map cells_of ls)
 widths_are w [] h = tt
 widths_are w (l ∷ ls) h = (length-map l is_ground_glyph ∙ h.0.width, widths_are w ls h.1)
 
 pub sizes_are : (ls : List Bytes) (g : Ground) → AreMapLines ls g → IsGround g
 sizes_are ls g a =
     let lines = take g.height (drop 4 ls) in
-    let widths : AllByRecursion (λ row. length row ≡ g.width) g.rows = subst (AllByRecursion (λ (row : List Bool). length row ≡ g.width)) (sym a.cells) (widths_are g.width lines (recursion_from_All (IsRow g.width) lines a.rows.rows)) in
+    let widths : AllByRecursion (λ row. length row ≡ g.width) g.rows = subst (AllByRecursion (λ (row : List Bool). length row ≡ g.width)) (sym a.cells) (widths_are g.width lines (recursion_from_All (IsGlyphRow g.width) lines a.rows.rows)) in
     record {
       width = a.header.width;
       height = a.header.height;
@@ -278,6 +278,6 @@ cell_of ls g x y a in_row in_rows =
     let count : length lines ≡ g.height = length-take-le g.height (drop 4 ls) a.rows.count in
     let line = get_or lines y [] in
     let row : get_or g.rows y [] ≡ cells_of line = ap (λ (rs : List (List Bool)). get_or rs y []) a.cells ∙ get_or-map cells_of lines y [] [] (omega arith) in
-    let width : length line ≡ g.width = (All-get_or (IsRow g.width) lines y [] (omega arith) a.rows.rows).width in
+    let width : length line ≡ g.width = (All-get_or (IsGlyphRow g.width) lines y [] (omega arith) a.rows.rows).width in
     let same : line ≡ line_at ls (4 + y) = get_or-take g.height (drop 4 ls) y [] in_rows ∙ get_or-drop 4 ls y [] in
     ap (λ (r : List Bool). get_or r x false) row ∙ get_or-map is_ground_glyph line x 0 false (omega arith) ∙ ap (λ (l : Bytes). is_ground_glyph (get_or l x 0)) same

@@ -8,7 +8,7 @@ use Rattle.fleet_grid.specs.declared.fault.MapFault.TheVariants.{OutOfMemory, Ro
 use Rattle.fleet_text.specs.Text.{Bytes}
 use Rattle.fleet_grid.specs.Ground.{passable_cells}
 use Rattle.fleet_grid.specs.MapText.{is_ground_glyph, cells_of}
-use Rattle.fleet_grid.specs.Stored.{cells_in, byte_count, padded, rows_of, ground_of}
+use Rattle.fleet_grid.specs.Stored.{stored_cells, byte_count, padded, rows_of, ground_of}
 use Rattle.fleet_text.specs.Steps.{◌>>=◌}
 use Rattle.fleet_grid.specs.MapReading.{row_at, rows_at}
 use Rattle.fleet_grid.proofs.BitLaws.{length-cells_in}
@@ -79,7 +79,7 @@ count-cells_of [] = refl
 count-cells_of (b ∷ line) =
     sum_by-cons (λ (cell : Bool). cond cell 1 0) (is_ground_glyph b) (cells_of line) ∙ ap (λ n. cond (is_ground_glyph b) 1 0 + n) (count-cells_of line) ∙ sym (sum_by-cons (λ (g : ℕ). cond (is_ground_glyph g) 1 0) b line)
 
-module _ (w k : ℕ) (old new : List ℕ) (line : Bytes) (size : length old ≡ byte_count w * k) (width : length line ≡ w) (put : cells_in new ≡ cells_in old ++ padded (cells_of line)) where
+module _ (w k : ℕ) (old new : List ℕ) (line : Bytes) (size : length old ≡ byte_count w * k) (width : length line ≡ w) (put : stored_cells new ≡ stored_cells old ++ padded (cells_of line)) where
   length-cells : length (cells_of line) ≡ w
   length-cells = length-map line is_ground_glyph ∙ width
 
@@ -89,15 +89,15 @@ module _ (w k : ℕ) (old new : List ℕ) (line : Bytes) (size : length old ≡ 
 
   pub size_put : length new ≡ byte_count w * (k + 1)
   size_put =
-      let bits : 8 * length new ≡ 8 * length old + 8 * byte_count w = sym (length-cells_in new) ∙ ap length put ∙ length-append (cells_in old) (padded (cells_of line)) ∙ omega (arith, length-cells_in old, length-padded) in
+      let bits : 8 * length new ≡ 8 * length old + 8 * byte_count w = sym (length-cells_in new) ∙ ap length put ∙ length-append (stored_cells old) (padded (cells_of line)) ∙ omega (arith, length-cells_in old, length-padded) in
       omega (arith, bits, size)
 
   pub rows_put : stored_rows w (k + 1) new ≡ stored_rows w k old ++ cells_of line ∷ []
   unfolding padded
   rows_put =
       let pad = replicate (8 * byte_count (length (cells_of line)) - length (cells_of line)) false in
-      let long : length (cells_in old) ≡ 8 * byte_count w * k = length-cells_in old ∙ ap (λ n. 8 * n) size ∙ omega arith in
-      ap (rows_of w (8 * byte_count w) (k + 1)) put ∙ rows_of-push w (8 * byte_count w) k (cells_in old) (cells_of line) pad long length-cells length-padded
+      let long : length (stored_cells old) ≡ 8 * byte_count w * k = length-cells_in old ∙ ap (λ n. 8 * n) size ∙ omega arith in
+      ap (rows_of w (8 * byte_count w) (k + 1)) put ∙ rows_of-push w (8 * byte_count w) k (stored_cells old) (cells_of line) pad long length-cells length-padded
 
   pub count_put : (m n : ℕ) → m ≡ passable_cells (ground_of w k old) → n ≡ m + count_by is_ground_glyph line → n ≡ passable_cells (ground_of w (k + 1) new)
   count_put m n was added =

@@ -8,7 +8,7 @@ use Rattle.std.proofs.lemmas.List.{length-append, length-take-le, length-drop, g
 use Rattle.std.proofs.lemmas.List.Elements.{All-from_recursion, All-get_or}
 use Rattle.fleet_model.specs.declared.geometry.Place.{Place}
 use Rattle.fleet_grid.specs.Ground.{Ground, cell_at, passable_at, is_passable, IsNoNumber, IsNoCell, IsSide, IsGround}
-use Rattle.fleet_grid.specs.Stored.{bits_of, cells_in, byte_count, rows_of, ground_of, IsStored}
+use Rattle.fleet_grid.specs.Stored.{bits_of, stored_cells, byte_count, rows_of, ground_of, IsStored}
 use Rattle.fleet_grid.proofs.BitLaws.{length-bits_of, length-cells_in}
 
 abbrev Row : Type 0
@@ -25,15 +25,15 @@ bit_is (suc k) (suc j) n few =
     bit_is k j (n / 2) (omega arith) ∙ ap (λ m. eqb (m % 2) 1) halved
 
 -- the cell that bit j of byte i keeps
-pub kept_cell : (bytes : List ℕ) (i j : ℕ) → i < length bytes → j < 8 → get_or (cells_in bytes) (8 * i + j) false ≡ eqb (get_or bytes i 0 / 2 ^ j % 2) 1
-unfolding cells_in
+pub kept_cell : (bytes : List ℕ) (i j : ℕ) → i < length bytes → j < 8 → get_or (stored_cells bytes) (8 * i + j) false ≡ eqb (get_or bytes i 0 / 2 ^ j % 2) 1
+unfolding stored_cells
 kept_cell [] i j here few = absurd (omega arith)
 kept_cell (b ∷ bytes) zero j here few =
     let place : 8 * 0 + j ≡ j = omega arith in
-    rw place (get_or_append_left (bits_of 8 b) (cells_in bytes) false j (omega (arith, length-bits_of 8 b)) ∙ bit_is 8 j b few)
+    rw place (get_or_append_left (bits_of 8 b) (stored_cells bytes) false j (omega (arith, length-bits_of 8 b)) ∙ bit_is 8 j b few)
 kept_cell (b ∷ bytes) (suc i) j here few =
     let place : 8 * suc i + j - 8 ≡ 8 * i + j = omega arith in
-    get_or-append_right (bits_of 8 b) (cells_in bytes) 8 (8 * suc i + j) false (length-bits_of 8 b) (omega arith) ∙ ap (λ k. get_or (cells_in bytes) k false) place ∙ kept_cell bytes i j (omega arith) few
+    get_or-append_right (bits_of 8 b) (stored_cells bytes) 8 (8 * suc i + j) false (length-bits_of 8 b) (omega arith) ∙ ap (λ k. get_or (stored_cells bytes) k false) place ∙ kept_cell bytes i j (omega arith) few
 
 -- ---- rows of w cells, each of which begins p cells after the one before
 
@@ -82,15 +82,15 @@ bit_place : (b y x : ℕ) → y * (8 * b) + x ≡ 8 * (y * b + x / 8) + x % 8
 bit_place b y x = omega arith
 
 module _ (w h n : ℕ) (bytes : List ℕ) (s : IsStored w h n bytes) where
-  size : length (cells_in bytes) ≡ 8 * byte_count w * h
+  size : length (stored_cells bytes) ≡ 8 * byte_count w * h
   size = length-cells_in bytes ∙ ap (λ k. 8 * k) s.size ∙ omega arith
 
   pub is_ground_of : IsSide w → IsSide h → IsGround (ground_of w h bytes)
   is_ground_of side_w side_h = record {
     width = side_w;
     height = side_h;
-    rows = length-rows_of w (8 * byte_count w) h (cells_in bytes);
-    cells = All-from_recursion (λ row. length row ≡ w) (rows_of w (8 * byte_count w) h (cells_in bytes)) (widths w (8 * byte_count w) h (cells_in bytes) (omega arith) size);
+    rows = length-rows_of w (8 * byte_count w) h (stored_cells bytes);
+    cells = All-from_recursion (λ row. length row ≡ w) (rows_of w (8 * byte_count w) h (stored_cells bytes)) (widths w (8 * byte_count w) h (stored_cells bytes) (omega arith) size);
   }
 
   -- where a cell's byte is
@@ -103,7 +103,7 @@ module _ (w h n : ℕ) (bytes : List ℕ) (s : IsStored w h n bytes) where
   pub stored_cell : (x y : ℕ) → x < w → y < h → cell_at (ground_of w h bytes) x y ≡ eqb (get_or bytes (y * byte_count w + x / 8) 0 / 2 ^ (x % 8) % 2) 1
   stored_cell x y in_row in_rows =
       let place : y * (8 * byte_count w) + x ≡ 8 * (y * byte_count w + x / 8) + x % 8 = bit_place (byte_count w) y x in
-      cell_is w (8 * byte_count w) h x y (cells_in bytes) in_row in_rows ∙ ap (λ k. get_or (cells_in bytes) k false) place ∙ kept_cell bytes (y * byte_count w + x / 8) (x % 8) (byte_within x y in_row in_rows) (omega arith)
+      cell_is w (8 * byte_count w) h x y (stored_cells bytes) in_row in_rows ∙ ap (λ k. get_or (stored_cells bytes) k false) place ∙ kept_cell bytes (y * byte_count w + x / 8) (x % 8) (byte_within x y in_row in_rows) (omega arith)
 
 -- ---- off the map
 

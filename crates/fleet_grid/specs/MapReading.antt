@@ -7,7 +7,7 @@ use Rattle.fleet_grid.specs.declared.fault.MapFault.TheVariants.{Header, Size, R
 use Rattle.fleet_text.specs.Text.{Bytes, words_from_front, number}
 use Rattle.fleet_grid.specs.Ground.{Ground}
 use Rattle.fleet_text.specs.Steps.{◌>>=◌, ◌>>◌, right_or, some_or, none_or}
-use Rattle.fleet_grid.specs.MapText.{line_at, is_no_glyph, cells_of, is_space}
+use Rattle.fleet_grid.specs.MapText.{line_at, is_no_glyph, cells_of, is_row_space}
 
 -- the one word after the keyword
 abbrev pub after_keyword : Bytes → List Bytes → Option Bytes
@@ -63,5 +63,5 @@ unfoldable pub map_at : List Bytes → Result Ground MapFault
 map_at ls = do
   sizes ← header_at ls
   rows ← rows_at sizes.1 sizes.0 0 (drop 4 ls)
-  right_or (list_all (list_all is_space) rows.1) Trailing
+  right_or (list_all (list_all is_row_space) rows.1) Trailing
   Ok (record { width = sizes.0; height = sizes.1; rows = rows.0 })

@@ -30,8 +30,8 @@ abbrev pub cells_of : Bytes → List Bool
 cells_of glyphs = map is_ground_glyph glyphs
 
 -- a space, a tab or a CR
-abbrev pub is_space : ℕ → Bool
-is_space b = is_blank b || (b == 13)
+abbrev pub is_row_space : ℕ → Bool
+is_row_space b = is_blank b || (b == 13)
 
 -- `type` and any word
 abbrev pub IsKindLine : Bytes → Type 0
@@ -59,18 +59,18 @@ pub record IsSizedHeader (ls : List Bytes) (w h : ℕ) : Type 0 where
   pub height : IsSide h
 
 -- as many glyphs as the map is wide, and nothing else
-pub record IsRow (w : ℕ) (line : Bytes) : Type 0 where
+pub record IsGlyphRow (w : ℕ) (line : Bytes) : Type 0 where
   pub width : length line ≡ w
   pub glyphs : AllPass is_glyph line
 
 -- so many lines are there, and each is a row
 pub record AreRows (w n : ℕ) (ls : List Bytes) : Type 0 where
   pub count : n ≤ length ls
-  pub rows : All (IsRow w) (take n ls)
+  pub rows : All (IsGlyphRow w) (take n ls)
 
 -- nothing shows in these lines
 abbrev pub AreEmpty : List Bytes → Type 0
-AreEmpty ls = All (AllPass is_space) ls
+AreEmpty ls = All (AllPass is_row_space) ls
 
 -- ---- a map text
 
@@ -101,21 +101,21 @@ pub record IsFirstWithoutForm (ls : List Bytes) (k : ℕ) : Type 0 where
   pub wrong : HasForm ls k → ⊥
 
 -- all that is judged before this row is right, and the map is to have the row
-pub record IsRightUpTo (row : ℕ) (ls : List Bytes) (w h : ℕ) : Type 0 where
+pub record IsMapRightUpTo (row : ℕ) (ls : List Bytes) (w h : ℕ) : Type 0 where
   pub header : IsSizedHeader ls w h
   pub rows : AreRows w row (drop 4 ls)
   pub within : row < h
 
 -- the fault is there, and all that is judged before it is right. The header's lines count from 1, rows and columns from 0
-abbrev pub IsFirstFault : List Bytes → MapFault → Type 0
-IsFirstFault ls OutOfMemory = ⊥
-IsFirstFault ls (Header line) = (k : ℕ) × (line ≡ k + 1) × IsFirstWithoutForm ls k
-IsFirstFault ls Size = (w h : ℕ) × IsHeader ls w h × (IsSide w × IsSide h → ⊥)
-IsFirstFault ls RowCount = (w h row : ℕ) × IsRightUpTo row ls w h × (length ls ≡ 4 + row)
-IsFirstFault ls (RowLength row) = (w h : ℕ) × IsRightUpTo row ls w h × (4 + row < length ls) × (length (line_at ls (4 + row)) ≢ w)
-IsFirstFault ls (Glyph row column) =
-    (w h : ℕ) × IsRightUpTo row ls w h × (4 + row < length ls) × (length (line_at ls (4 + row)) ≡ w) × (position is_no_glyph (line_at ls (4 + row)) ≡ Some column)
-IsFirstFault ls Trailing = (w h : ℕ) × IsSizedHeader ls w h × AreRows w h (drop 4 ls) × (AreEmpty (drop (4 + h) ls) → ⊥)
+abbrev pub IsFirstMapLineFault : List Bytes → MapFault → Type 0
+IsFirstMapLineFault ls OutOfMemory = ⊥
+IsFirstMapLineFault ls (Header line) = (k : ℕ) × (line ≡ k + 1) × IsFirstWithoutForm ls k
+IsFirstMapLineFault ls Size = (w h : ℕ) × IsHeader ls w h × (IsSide w × IsSide h → ⊥)
+IsFirstMapLineFault ls RowCount = (w h row : ℕ) × IsMapRightUpTo row ls w h × (length ls ≡ 4 + row)
+IsFirstMapLineFault ls (RowLength row) = (w h : ℕ) × IsMapRightUpTo row ls w h × (4 + row < length ls) × (length (line_at ls (4 + row)) ≢ w)
+IsFirstMapLineFault ls (Glyph row column) =
+    (w h : ℕ) × IsMapRightUpTo row ls w h × (4 + row < length ls) × (length (line_at ls (4 + row)) ≡ w) × (position is_no_glyph (line_at ls (4 + row)) ≡ Some column)
+IsFirstMapLineFault ls Trailing = (w h : ℕ) × IsSizedHeader ls w h × AreRows w h (drop 4 ls) × (AreEmpty (drop (4 + h) ls) → ⊥)
 
 abbrev pub IsFirstMapFault : Bytes → MapFault → Type 0
-IsFirstMapFault text fault = IsFirstFault (lines text) fault
+IsFirstMapFault text fault = IsFirstMapLineFault (lines text) fault

@@ -9,9 +9,9 @@ bits_of zero n = []
 bits_of (suc k) n = (n % 2 == 1) ∷ bits_of k (n / 2)
 
 -- the cells that the bytes keep
-unfoldable pub cells_in : List ℕ → List Bool
-cells_in [] = []
-cells_in (b ∷ bytes) = bits_of 8 b ++ cells_in bytes
+unfoldable pub stored_cells : List ℕ → List Bool
+stored_cells [] = []
+stored_cells (b ∷ bytes) = bits_of 8 b ++ stored_cells bytes
 
 -- how many bytes keep so many cells
 abbrev pub byte_count : ℕ → ℕ
@@ -28,7 +28,7 @@ rows_of w p (suc h) cells = take w cells ∷ rows_of w p h (drop p cells)
 
 -- the ground that the bytes keep
 abbrev pub ground_of : (w h : ℕ) → List ℕ → Ground
-ground_of w h bytes = record { width = w; height = h; rows = rows_of w (8 * byte_count w) h (cells_in bytes) }
+ground_of w h bytes = record { width = w; height = h; rows = rows_of w (8 * byte_count w) h (stored_cells bytes) }
 
 -- a map of these sizes is kept in the bytes, and n of its cells are passable
 pub record IsStored (w h n : ℕ) (bytes : List ℕ) : Type 0 where

@@ -5,7 +5,7 @@ ghost use Rattle.std.specs.List.{list_all};
 ghost use Rattle.fleet_model.specs.Answer.{IsDueUnless};
 ghost use Rattle.fleet_text.specs.Text.{lines, words_from_front};
 ghost use Rattle.fleet_grid.specs.Ground.{Ground, IsSide};
-ghost use Rattle.fleet_grid.specs.MapText.{line_at, is_space, cells_of, IsMapText, IsFirstMapFault};
+ghost use Rattle.fleet_grid.specs.MapText.{line_at, is_row_space, cells_of, IsMapText, IsFirstMapFault};
 ghost use Rattle.fleet_grid.specs.MapReading.{field, number_field, is_alone, is_side, header_at, row_at, rows_at, map_at};
 ghost use Rattle.fleet_grid.specs.Stored.{ground_of, IsStored};
 
@@ -122,7 +122,7 @@ fn cells_of(alloc: Global, width: u16, height: u16, lines: &mut Cursor) -> Resul
 
 /// Whether nothing that shows is left.
 fn is_ended(lines: &mut Cursor) -> bool
-    ensures { result ≡ list_all (list_all is_space) lines.old }
+    ensures { result ≡ list_all (list_all is_row_space) lines.old }
 {
     while let Some(line) = lines.next_line() {
         if !is_empty(line) {
@@ -133,7 +133,7 @@ fn is_ended(lines: &mut Cursor) -> bool
 }
 
 fn is_empty(line: &[u8]) -> bool
-    ensures { result ≡ list_all is_space line.now }
+    ensures { result ≡ list_all is_row_space line.now }
 {
     line.iter().all(|b| is_blank(*b) || *b == b'\r')
 }

@@ -3,7 +3,7 @@
 ghost use Rattle.std.specs.Prelude.{◌≡◌, ◌+◌, ◌-◌, ◌*◌, ◌<◌, ◌≤◌, ◌^◌, ◌++◌, ◌==◌, ◌/◌, ◌%◌, length, map, take, replicate, count_by, min, vec_capacity, OnOk, IfOk, []};
 ghost use Rattle.fleet_grid.specs.declared.grid.TheConstants.{MAX_SIDE};
 ghost use Rattle.fleet_grid.specs.MapText.{is_ground_glyph, cells_of};
-ghost use Rattle.fleet_grid.specs.Stored.{cells_in, byte_count, padded};
+ghost use Rattle.fleet_grid.specs.Stored.{stored_cells, byte_count, padded};
 
 use crate::glyphs::ground_mask;
 use fleet_text::BLOCK;
@@ -63,7 +63,7 @@ impl Cells {
     pub(crate) fn put_row(&mut self, line: &[u8]) -> Result<(), AllocError>
         requires few { length line.now ≤ MAX_SIDE }
         requires count { self.old.passable_count + length line.now ≤ 2 ^ 24 }
-        ensures bytes { OnOk result (cells_in self.new.bytes.items ≡ cells_in self.old.bytes.items ++ padded (cells_of line.now)) }
+        ensures bytes { OnOk result (stored_cells self.new.bytes.items ≡ stored_cells self.old.bytes.items ++ padded (cells_of line.now)) }
         ensures count { OnOk result (self.new.passable_count ≡ self.old.passable_count + count_by is_ground_glyph line.now) }
     {
         let mut rest = line;
@@ -81,7 +81,7 @@ impl Cells {
     fn put_block(&mut self, block: &[u8; BLOCK], len: usize) -> Result<(), AllocError>
         requires len { len ≤ BLOCK }
         requires count { self.old.passable_count ≤ 2 ^ 24 }
-        ensures bytes { OnOk result (cells_in self.new.bytes.items ≡ cells_in self.old.bytes.items ++ take (8 * byte_count len) (map is_ground_glyph block.now)) }
+        ensures bytes { OnOk result (stored_cells self.new.bytes.items ≡ stored_cells self.old.bytes.items ++ take (8 * byte_count len) (map is_ground_glyph block.now)) }
         ensures count { OnOk result (self.new.passable_count ≡ self.old.passable_count + count_by is_ground_glyph block.now) }
     {
         let mask = ground_mask(u8x64::from_array(*block));

@@ -6,7 +6,7 @@ use Rattle.fleet_model.specs.Program.{Program}
 use Rattle.fleet_model.specs.Machine.{is_over}
 use Rattle.fleet_text.specs.Sink.{SinkState, IsWorking, HasFailed, Takes, HandsOn, Delivers}
 use Rattle.fleet_run.specs.Source.{SourceState}
-use Rattle.fleet_run.specs.Outcome.{EndTest, StopsAtSource, StopsAtSink, StopsAtLimit}
+use Rattle.fleet_run.specs.Outcome.{EndTest, StopsAtSource, StopsAtSink, StopsAtTickLimit}
 use Rattle.fleet_run.specs.Rehearsal.{Rehearses}
 use Rattle.fleet_io.specs.Flushed.{RehearsesFlushed, unfailed}
 use Rattle.fleet_run.specs.declared.source.SourceFault.{SourceFault}
@@ -59,7 +59,7 @@ module _ (p : Program) (s s' : SourceState) (before mid after : SinkState) (kept
     failed = same ∙ h.failed;
   }
 
-  pub limit_kept : (over : EndTest) (t : ℕ) → StopsAtLimit over p s s' before mid t → StopsAtLimit over p s s' before after t
+  pub limit_kept : (over : EndTest) (t : ℕ) → StopsAtTickLimit over p s s' before mid t → StopsAtTickLimit over p s s' before after t
   limit_kept over t h = record {
     limit = h.limit;
     needed = h.needed;

@@ -4,14 +4,14 @@ use Rattle.std.proofs.lemmas.List.{take_more, map-append, take-append-drop}
 use Rattle.std.specs.Prelude.{Vec}
 use Rattle.std.specs.Borrow.{Bor}
 use Rattle.std.specs.declared.alloc.Global.{Global}
-use Rattle.fleet_files.specs.Files.{Store, IsKept, IsRead}
+use Rattle.fleet_files.specs.Files.{Store, AreUnchanged, IsRead}
 use Rattle.fleet_files.proofs.FileLemmas.{read_before, unreadable_before}
 use Rattle.fleet_io.specs.Named.{IsReadFault, IsUnread, AreRead, texts_of, items_of}
 use Rattle.fleet_io.specs.declared.fault.Fault.{Fault}
 use Rattle.fleet_io.specs.declared.fault.Fault.TheVariants as f
 
 -- a file that cannot be read of a store that was only read before could not be read at first
-pub read_fault_before : (old new : Option Store) (name : List ℕ) (fault : Fault) → IsKept old new → IsReadFault new name fault → IsReadFault old name fault
+pub read_fault_before : (old new : Option Store) (name : List ℕ) (fault : Fault) → AreUnchanged old new → IsReadFault new name fault → IsReadFault old name fault
 read_fault_before old new name f.Memory kept h = tt
 read_fault_before old new name (f.File n) kept h = (h.0, unreadable_before old new name kept h.1)
 read_fault_before old new name (f.Map x) kept h = absurd h
@@ -26,7 +26,7 @@ read_fault_before old new name (f.Verify x) kept h = absurd h
 read_fault_before old new name (f.Run x) kept h = absurd h
 read_fault_before old new name (f.Dispatch x) kept h = absurd h
 
-pub unread_before : (old new : Option Store) (names : List (List ℕ)) (fault : Fault) → IsKept old new → IsUnread new names fault → IsUnread old names fault
+pub unread_before : (old new : Option Store) (names : List (List ℕ)) (fault : Fault) → AreUnchanged old new → IsUnread new names fault → IsUnread old names fault
 unread_before old new [] fault kept h = absurd h
 unread_before old new (name ∷ names) fault kept (inl h) = inl (read_fault_before old new name fault kept h)
 unread_before old new (name ∷ names) fault kept (inr (bytes, held, h)) = inr (bytes, read_before old new name bytes kept held, unread_before old new names fault kept h)

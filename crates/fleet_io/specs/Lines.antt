@@ -35,8 +35,8 @@ words_of f.Memory = memory_words
 words_of (f.File name) = codes "file" ∷ name.now ∷ []
 
 -- the line of a refusal
-abbrev pub line_of : Fault → List ℕ
-line_of fault = line_text (words_of fault)
+abbrev pub refusal_line : Fault → List ℕ
+refusal_line fault = line_text (words_of fault)
 
 -- whether memory, a file, the source or the sink failed
 abbrev pub is_failure_of : Fault → Bool

@@ -3,7 +3,7 @@
 ghost use Rattle.std.specs.Prelude.{◌≡◌};
 ghost use Rattle.fleet_text.specs.Sink.{IsWorking, Receives};
 ghost use Rattle.fleet_io.specs.Output.{Finishes};
-ghost use Rattle.fleet_io.specs.Lines.{line_of, status_of};
+ghost use Rattle.fleet_io.specs.Lines.{refusal_line, status_of};
 
 use fleet_adg::CompileFault;
 use fleet_auto::{AcceptFault, AutoFault};
@@ -125,7 +125,7 @@ impl Fault<'_> {
     /// fails it has taken a proper prefix.
     pub fn tell<E: TraceOut>(&self, err: &mut E)
         requires { IsWorking (E.state err.old) }
-        ensures { Receives (E.state err.old) (E.state err.new) (line_of self.now) }
+        ensures { Receives (E.state err.old) (E.state err.new) (refusal_line self.now) }
     {
         let _ = self.put(err);
     }
@@ -135,7 +135,7 @@ impl Fault<'_> {
 pub fn refuse<E: TraceOut>(fault: &Fault<'_>, err: &mut E) -> u8
     requires { IsWorking (E.state err.old) }
     ensures status { result ≡ status_of fault.now }
-    ensures told { Receives (E.state err.old) (E.state err.new) (line_of fault.now) }
+    ensures told { Receives (E.state err.old) (E.state err.new) (refusal_line fault.now) }
 {
     fault.tell(err);
     fault.status()

@@ -1,7 +1,7 @@
 //! Files that a command names.
 
 ghost use Rattle.std.specs.Prelude.{◌++◌, IfOk, IfErr, OnOk};
-ghost use Rattle.fleet_files.specs.Files.{IsRead, IsKept, ChangesOnly, Replaces};
+ghost use Rattle.fleet_files.specs.Files.{IsRead, AreUnchanged, ChangesOnly, Replaces};
 ghost use Rattle.fleet_io.specs.Named.{IsRefusedAs, IsReadFault, IsWriteFault, IsUnread, AreRead, texts_of, items_of, given_name, hold_names, AreHoldBytes};
 
 use crate::fault::Fault;
@@ -17,7 +17,7 @@ pub fn read_file<'a, F: Files>(
     ensures bytes { IfOk result (λ bytes. IsRead (F.contents files.old) name.entry.now bytes.items) }
     ensures refused { IfErr result (IsRefusedAs (F.refuses_read files.old name.entry.now) name.entry.now) }
     ensures fault { IfErr result (IsReadFault (F.contents files.old) name.entry.now) }
-    ensures kept { IsKept (F.contents files.old) (F.contents files.new) }
+    ensures kept { AreUnchanged (F.contents files.old) (F.contents files.new) }
 {
     match files.read(alloc, name) {
         Ok(bytes) => Ok(bytes),
@@ -34,7 +34,7 @@ pub fn read_files<'a, F: Files>(
 ) -> Result<Vec<Vec<u8>>, Fault<'a>>
     ensures bytes { IfOk result (λ read. AreRead (F.contents files.old) (texts_of names.now) (items_of read.items)) }
     ensures fault { IfErr result (IsUnread (F.contents files.old) (texts_of names.now)) }
-    ensures kept { IsKept (F.contents files.old) (F.contents files.new) }
+    ensures kept { AreUnchanged (F.contents files.old) (F.contents files.new) }
 {
     let mut read = Vec::new(alloc);
     for name in names {
@@ -54,7 +54,7 @@ fn read_holds<'a, F: Files>(
 ) -> Result<Vec<u8>, Fault<'a>>
     ensures bytes { IfOk result (λ bytes. AreHoldBytes (F.contents files.old) (given_name name.entry) bytes.items) }
     ensures fault { IfErr result (IsUnread (F.contents files.old) (hold_names (given_name name.entry))) }
-    ensures kept { IsKept (F.contents files.old) (F.contents files.new) }
+    ensures kept { AreUnchanged (F.contents files.old) (F.contents files.new) }
 {
     match name {
         None => Ok(Vec::new(alloc)),
@@ -72,7 +72,7 @@ pub fn read_with_holds<'a, F: Files>(
     ensures bytes { IfOk result (λ read. AreRead (F.contents files.old) (texts_of names.now) (items_of read.0.items)
         × AreHoldBytes (F.contents files.old) (given_name holds.entry) read.1.items) }
     ensures fault { IfErr result (IsUnread (F.contents files.old) (texts_of names.now ++ hold_names (given_name holds.entry))) }
-    ensures kept { IsKept (F.contents files.old) (F.contents files.new) }
+    ensures kept { AreUnchanged (F.contents files.old) (F.contents files.new) }
 {
     let read = read_files(alloc, files, names)?;
     let held = read_holds(alloc, files, holds)?;

@@ -1,7 +1,7 @@
 -- A walk once round a ring.
 use Rattle.std.proofs.Common.{◌≡◌, ◌≢◌, ℕ, ◌+◌, ◌≤◌, List, [], ◌∷◌, ◌++◌, length, Option, Some, ◌⊎◌, inl, inr, refl, sym, ◌∙◌, subst, arith}
 use Rattle.std.specs.List.{AllByRecursion}
-use Rattle.fleet_plan.specs.Rings.{AreAgents, ahead_of, Leads, Reaches, IsOnRing}
+use Rattle.fleet_plan.specs.Rings.{AreAgents, ahead_of, Leads, LeadsTo, IsOnRing}
 use Rattle.fleet_plan.proofs.RingLaws.{some_is, leads-append, reaches-itself, short_way, all_round}
 
 -- after so many steps ahead from the first agent, of which least is the least so far
@@ -10,7 +10,7 @@ pub record IsAround (ahead : List (Option ℕ)) (first agent least steps : ℕ) 
   pub led : Leads ahead first passed agent
   pub least_passed : AllByRecursion (λ m. least ≤ m) passed
   pub least_first : least ≤ first
-  pub among : Reaches ahead first least
+  pub among : LeadsTo ahead first least
   pub next : ℕ
   pub rest : List ℕ
   pub left : Leads ahead agent (next ∷ rest) first
@@ -33,7 +33,7 @@ module _ (ahead : List (Option ℕ)) (first agent least steps : ℕ) (w : IsArou
   pub around-ahead : ahead_of ahead agent ≡ Some w.next
   around-ahead = w.left.0
 
-  pub around-back : ahead_of ahead agent ≡ Some first → (j : ℕ) → Reaches ahead first j → least ≤ j
+  pub around-back : ahead_of ahead agent ≡ Some first → (j : ℕ) → LeadsTo ahead first j → least ≤ j
   around-back back = all_round ahead (λ m. least ≤ m) first w.passed agent w.led back w.least_first w.least_passed
 
   pub around-more : (next least' : ℕ) → ahead_of ahead agent ≡ Some next → next ≢ first → least' ≤ least → least' ≤ next → (least' ≡ least) ⊎ (least' ≡ next) → IsAround ahead first next least' (steps + 1)
@@ -45,10 +45,10 @@ module _ (ahead : List (Option ℕ)) (first agent least steps : ℕ) (w : IsArou
       led : Leads ahead first (w.passed ++ next ∷ []) next
       led = leads-append ahead first w.passed agent (next ∷ []) next w.led (e, refl)
 
-      among : Reaches ahead first least'
+      among : LeadsTo ahead first least'
       among = elim which [
-        | inl s ↦ subst (Reaches ahead first) (sym s) w.among
-        | inr s ↦ subst (Reaches ahead first) (sym s) (w.passed ++ next ∷ [], led)
+        | inl s ↦ subst (LeadsTo ahead first) (sym s) w.among
+        | inr s ↦ subst (LeadsTo ahead first) (sym s) (w.passed ++ next ∷ [], led)
       ]
 
       go : (rest : List ℕ) → Leads ahead w.next rest first → length rest + 1 + steps ≤ length ahead → IsAround ahead first next least' (steps + 1)

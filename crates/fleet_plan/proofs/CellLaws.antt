@@ -7,7 +7,7 @@ use Rattle.std.proofs.lemmas.List.{append-nil}
 use Rattle.fleet_model.specs.declared.geometry.Cell.{Cell}
 use Rattle.fleet_text.specs.Text.{Bytes, is_blank, is_word, starts_blank, is_digit, words, digits_front, number_front, number_after, number, small, small_number, small_number_front}
 use Rattle.fleet_plan.specs.PlanText.{cell_of_parts, spelled_cell}
-use Rattle.fleet_plan.specs.PlanReading.{cells_in}
+use Rattle.fleet_plan.specs.PlanReading.{spelled_cells}
 use Rattle.fleet_plan.specs.CellReading.{after_comma, after_blanks, after_word, cell_front, begins_with_word}
 
 -- ---- the word in front
@@ -418,18 +418,18 @@ passes (b ∷ text) cell after e found =
           subst (λ (x : Cell × Bytes). Passes (b ∷ text) x.0 x.1) same p)
     ]
 
-pub cells_next : (text : Bytes) (cell : Cell) (after : Bytes) → Passes text cell after → cells_in (words text) ≡ option_map (λ cells. cell ∷ cells) (cells_in (words after))
-unfolding cells_in
-cells_next text cell after p = ap cells_in p.words_are ∙ rw p.spelled refl
+pub cells_next : (text : Bytes) (cell : Cell) (after : Bytes) → Passes text cell after → spelled_cells (words text) ≡ option_map (λ cells. cell ∷ cells) (spelled_cells (words after))
+unfolding spelled_cells
+cells_next text cell after p = ap spelled_cells p.words_are ∙ rw p.spelled refl
 
-pub cells_none : (text : Bytes) → begins_with_word text ≡ true → cell_front text ≡ None → cells_in (words text) ≡ None
-unfolding cells_in
+pub cells_none : (text : Bytes) → begins_with_word text ≡ true → cell_front text ≡ None → spelled_cells (words text) ≡ None
+unfolding spelled_cells
 cells_none [] e none = absurd cc
 cells_none (b ∷ text) e none =
     elim (cases_Bool (is_blank b)) [
       | inl t ↦ absurd (let f : false ≡ true = rw t at e in cc)
       | inr t ↦ elim (reads_cell (b ∷ text)) [
-        | inl h ↦ ap cells_in (words_front b text t) ∙ rw h.1 refl
+        | inl h ↦ ap spelled_cells (words_front b text t) ∙ rw h.1 refl
         | inr h ↦ absurd (none_is_no (h.0, h.1) (sym none ∙ h.2))
       ]
     ]

@@ -14,9 +14,9 @@ use Rattle.fleet_plan.specs.declared.plan_fault.Conflict.TheVariants.{Vertex, Sw
 use Rattle.fleet_plan.specs.declared.plan_fault.PlanFault.{PlanFault}
 use Rattle.fleet_plan.specs.declared.plan_fault.PlanFault.TheVariants as fault
 use Rattle.fleet_plan.specs.Plan.{Plan, Path, cell_at, cell_of, last_cell, steps, IsPath, IsWithinLimits, IsConflictFree}
-use Rattle.fleet_plan.specs.FirstFault.{AllAgents, IsFirstAgent, StartsRight, EndsRight, IsRightAt, GoesOver, GoesRight, IsFirstTime, IsFirstStep, path_of, HasConflict, HasNoConflict, HasEnds, time_of, IsFirstConflict, IsFirstPlanFault}
+use Rattle.fleet_plan.specs.FirstFault.{AllAgents, IsFirstFaultyAgent, StartsOnStart, EndsOnGoal, IsRightAt, GoesOver, GoesRight, IsFirstTime, IsFirstStep, path_of, HasConflict, HasNoConflict, HasStartsAndGoals, time_of, IsFirstConflict, IsFirstPlanFault}
 use Rattle.fleet_plan.specs.Rings.{ahead_of, Leads, IsOnRing, IsLeastOnRing}
-use Rattle.fleet_plan.specs.Sweep.{IsOnMap, ArePlaces, Meet, IsFirstMeeting, IsAhead, AreAhead, Exchange, IsFirstExchange, HasNoMeeting, IsFirstIn, IsFreeIn}
+use Rattle.fleet_plan.specs.Sweep.{StandOnMap, StandOnPlaces, Meet, IsFirstMeeting, IsAhead, AreAhead, Exchange, IsFirstExchange, HasNoMeeting, IsFirstIn, IsFreeIn}
 use Rattle.fleet_plan.proofs.PathLaws.{beside_if, beside_only, right_at, not_on_ground, not_beside, right_all}
 use Rattle.fleet_plan.proofs.RingLaws.{some_is, none_is_not, ahead_within, short_way}
 use Rattle.fleet_plan.proofs.MeetLaws.{ahead_agents}
@@ -257,7 +257,7 @@ step_or places next t =
 abbrev box : Ground
 box = record { width = 65536; height = 65536; rows = [] }
 
-in_box : (plan : Plan) → IsWithinLimits plan → IsOnMap box plan
+in_box : (plan : Plan) → IsWithinLimits plan → StandOnMap box plan
 unfolding cell_of cell_at
 in_box plan limits i t l =
     let path = path_of plan i in
@@ -271,7 +271,7 @@ in_box plan limits i t l =
 places_at : Plan → ℕ → List ℕ
 places_at plan t = map (λ (path : Path). cell_index box (cell_at path t)) plan
 
-are_places : (plan : Plan) (t : ℕ) → ArePlaces box plan t (places_at plan t)
+are_places : (plan : Plan) (t : ℕ) → StandOnPlaces box plan t (places_at plan t)
 unfolding places_at cell_of
 are_places plan t = record { all = all plan; each = each plan }
   where
@@ -305,7 +305,7 @@ same_length plan tasks = cases_eq (length plan) (length tasks)
 abbrev HasFault : (Place → Bool) → List Task → Plan → Type 0
 HasFault passable tasks plan = (f : PlanFault) × IsFirstPlanFault passable tasks plan f
 
-agent_or : (plan : Plan) (P : ℕ → Type 0) → ((i : ℕ) → Decided (P i)) → AllAgents plan P ⊎ ((i : ℕ) × IsFirstAgent plan P i)
+agent_or : (plan : Plan) (P : ℕ → Type 0) → ((i : ℕ) → Decided (P i)) → AllAgents plan P ⊎ ((i : ℕ) × IsFirstFaultyAgent plan P i)
 agent_or plan P dec = elim (first_or_all P dec (length plan)) [
   | inl all ↦ inl all
   | inr f ↦ inr (f.0, record { agent = f.1; wrong = f.2; least = f.3 })
@@ -330,16 +330,16 @@ goes_or passable plan limits = go (length plan) (omega arith)
 pub free_or_fault : HavePlaces → (passable : Place → Bool) (tasks : List Task) (plan : Plan) → IsWithinLimits plan → IsConflictFree passable tasks plan ⊎ HasFault passable tasks plan
 free_or_fault have passable tasks plan limits = elim (same_length plan tasks) [
   | inr ne ↦ inr (fault.Agents, ne)
-  | inl e ↦ elim (agent_or plan (StartsRight tasks plan) (λ i. task_right (slice_get tasks i) (cell_of plan i 0) (λ t. t.start))) [
+  | inl e ↦ elim (agent_or plan (StartsOnStart tasks plan) (λ i. task_right (slice_get tasks i) (cell_of plan i 0) (λ t. t.start))) [
     | inr f ↦ inr (fault.Start f.0, (e, f.1))
-    | inl starts ↦ elim (agent_or plan (EndsRight tasks plan) (λ i. task_right (slice_get tasks i) (last_cell plan i) (λ t. t.goal))) [
+    | inl starts ↦ elim (agent_or plan (EndsOnGoal tasks plan) (λ i. task_right (slice_get tasks i) (last_cell plan i) (λ t. t.goal))) [
       | inr f ↦ inr (fault.Goal f.0, (e, starts, f.1))
       | inl goals ↦ on (record { agents = e; starts = starts; goals = goals })
     ]
   ]
 ]
   where
-    on : HasEnds tasks plan → IsConflictFree passable tasks plan ⊎ HasFault passable tasks plan
+    on : HasStartsAndGoals tasks plan → IsConflictFree passable tasks plan ⊎ HasFault passable tasks plan
     on ends = elim (goes_or passable plan limits) [
       | inr f ↦ inr (fault.Step f.0 f.1, (ends, f.2))
       | inl goes ↦ elim (conflict_or have plan limits) [

@@ -10,7 +10,7 @@ use Rattle.fleet_plan.specs.declared.plan_fault.Conflict.TheVariants.{Vertex, Sw
 use Rattle.fleet_plan.specs.declared.plan_fault.PlanFault.{PlanFault}
 use Rattle.fleet_plan.specs.declared.plan_fault.PlanFault.TheVariants as fault
 use Rattle.fleet_plan.specs.Plan.{Plan, cell_at, cell_of, planned, AreNeighbours, IsConflictFree}
-use Rattle.fleet_plan.specs.FirstFault.{AllAgents, IsFirstAgent, StartsRight, EndsRight, IsRightAt, GoesRight, IsFirstStep, HasNoConflict, HasEnds, time_of, IsPairUpTo, IsKindUpTo, IsUpTo, IsFirstConflict, IsFirstPlanFault, path_of}
+use Rattle.fleet_plan.specs.FirstFault.{AllAgents, IsFirstFaultyAgent, StartsOnStart, EndsOnGoal, IsRightAt, GoesRight, IsFirstStep, HasNoConflict, HasStartsAndGoals, time_of, IsPairUpTo, IsKindUpTo, IsConflictUpTo, IsFirstConflict, IsFirstPlanFault, path_of}
 
 -- the least of numbers
 abbrev HasLeast : List ℕ → Type 0
@@ -43,7 +43,7 @@ some_least [] l = absurd (omega arith)
 some_least (x ∷ xs) l = least_of x xs
 
 -- all is right, and nobody is in conflict
-pub free_from : (passable : Place → Bool) (tasks : List Task) (plan : Plan) → HasEnds tasks plan → AllAgents plan (GoesRight passable plan) → HasNoConflict plan → IsConflictFree passable tasks plan
+pub free_from : (passable : Place → Bool) (tasks : List Task) (plan : Plan) → HasStartsAndGoals tasks plan → AllAgents plan (GoesRight passable plan) → HasNoConflict plan → IsConflictFree passable tasks plan
 unfolding cell_of
 free_from passable tasks plan ends goes none = record {
   agents = ends.agents;
@@ -96,7 +96,7 @@ not_free passable tasks plan (fault.Conflict c) h free = conflict_free passable 
 
 -- ---- one first fault at most
 
-one_agent : (plan : Plan) (P : ℕ → Type 0) (i k : ℕ) → IsFirstAgent plan P i → IsFirstAgent plan P k → i ≡ k
+one_agent : (plan : Plan) (P : ℕ → Type 0) (i k : ℕ) → IsFirstFaultyAgent plan P i → IsFirstFaultyAgent plan P k → i ≡ k
 one_agent plan P i k a b = elim (cases_order i k) [
   | inl e ↦ e
   | inr u ↦ absurd (elim u [ inl l ↦ a.wrong (b.least i l) | inr l ↦ b.wrong (a.least k l) ])
@@ -123,7 +123,7 @@ one_conflict plan c d a b = same c d (a.first d b.conflict) (b.first c a.conflic
     pair : (i j k l : ℕ) → IsPairUpTo i j k l → IsPairUpTo k l i j → (i ≡ k) × (j ≡ l)
     pair i j k l u v = (grind arith, grind arith)
 
-    kind : (c d : Conflict) → IsUpTo c d → IsUpTo d c → (time_of c ≡ time_of d) × IsKindUpTo c d × IsKindUpTo d c
+    kind : (c d : Conflict) → IsConflictUpTo c d → IsConflictUpTo d c → (time_of c ≡ time_of d) × IsKindUpTo c d × IsKindUpTo d c
     kind c d (inl l) (inl m) = absurd (omega arith)
     kind c d (inl l) (inr m) = absurd (omega (arith, m.0))
     kind c d (inr l) (inl m) = absurd (omega (arith, l.0))
@@ -140,7 +140,7 @@ one_conflict plan c d a b = same c d (a.first d b.conflict) (b.first c a.conflic
     equal (Cycle x a) (Swapping y k l) h = absurd h.1
     equal (Cycle x a) (Cycle y b) h = let le : a ≤ b = h.1 in let ge : b ≤ a = h.2 in let e : a ≡ b = omega arith in λ z. Cycle (h.0 z) (e z)
 
-    same : (c d : Conflict) → IsUpTo c d → IsUpTo d c → c ≡ d
+    same : (c d : Conflict) → IsConflictUpTo c d → IsConflictUpTo d c → c ≡ d
     same c d u v = equal c d (kind c d u v)
 
 module _ (passable : Place → Bool) (tasks : List Task) (plan : Plan) where
@@ -156,13 +156,13 @@ module _ (passable : Place → Bool) (tasks : List Task) (plan : Plan) where
   one_fault fault.Agents (fault.Step k s) h g = absurd (h g.0.agents)
   one_fault fault.Agents (fault.Conflict d) h g = absurd (h g.0.agents)
   one_fault (fault.Start i) fault.Agents h g = absurd (g h.0)
-  one_fault (fault.Start i) (fault.Start k) h g = ap (λ (z : ℕ). fault.Start z) (one_agent plan (StartsRight tasks plan) i k h.1 g.1)
+  one_fault (fault.Start i) (fault.Start k) h g = ap (λ (z : ℕ). fault.Start z) (one_agent plan (StartsOnStart tasks plan) i k h.1 g.1)
   one_fault (fault.Start i) (fault.Goal k) h g = absurd (h.1.wrong (g.1 i h.1.agent))
   one_fault (fault.Start i) (fault.Step k s) h g = absurd (h.1.wrong (g.0.starts i h.1.agent))
   one_fault (fault.Start i) (fault.Conflict d) h g = absurd (h.1.wrong (g.0.starts i h.1.agent))
   one_fault (fault.Goal i) fault.Agents h g = absurd (g h.0)
   one_fault (fault.Goal i) (fault.Start k) h g = absurd (g.1.wrong (h.1 k g.1.agent))
-  one_fault (fault.Goal i) (fault.Goal k) h g = ap (λ (z : ℕ). fault.Goal z) (one_agent plan (EndsRight tasks plan) i k h.2 g.2)
+  one_fault (fault.Goal i) (fault.Goal k) h g = ap (λ (z : ℕ). fault.Goal z) (one_agent plan (EndsOnGoal tasks plan) i k h.2 g.2)
   one_fault (fault.Goal i) (fault.Step k s) h g = absurd (h.2.wrong (g.0.goals i h.2.agent))
   one_fault (fault.Goal i) (fault.Conflict d) h g = absurd (h.2.wrong (g.0.goals i h.2.agent))
   one_fault (fault.Step i t) fault.Agents h g = absurd (g h.0.agents)

@@ -8,7 +8,7 @@ use Rattle.fleet_plan.specs.Plan.{Path, Plan}
 use Rattle.fleet_plan.specs.declared.text_fault.TextFault.{TextFault}
 use Rattle.fleet_plan.specs.declared.text_fault.TextFault.TheVariants.{Form, Length, AgentCount}
 use Rattle.fleet_plan.specs.CellReading.{cell_front, begins_with_word}
-use Rattle.fleet_plan.specs.PlanReading.{cells_in, some_cells, too_long, path_at, ended, paths_at}
+use Rattle.fleet_plan.specs.PlanReading.{spelled_cells, some_cells, too_long, path_at, plan_judged, paths_at}
 use Rattle.fleet_plan.proofs.CellLaws.{Passes, passes, cells_next, cells_none}
 
 -- ---- words
@@ -17,8 +17,8 @@ begins : (rest : Bytes) → 0 < length rest → starts_blank rest ≡ false → 
 begins [] some e = absurd (omega arith)
 begins (b ∷ rest) some e = rw e refl
 
-no_words : (rest : Bytes) → length rest ≡ 0 → cells_in (words rest) ≡ Some []
-unfolding cells_in words
+no_words : (rest : Bytes) → length rest ≡ 0 → spelled_cells (words rest) ≡ Some []
+unfolding spelled_cells words
 no_words [] e = refl
 no_words (b ∷ rest) e = absurd (omega arith)
 
@@ -45,7 +45,7 @@ long_fails number rest total some front none so_far =
 pub long_next : (number : ℕ) (rest : Bytes) (cell : Cell) (after : Bytes) (total : TextFault) → starts_blank rest ≡ false → cell_front rest ≡ Some (cell, after) → too_long number rest ≡ total → too_long number after ≡ total
 long_next number rest cell after total front found so_far =
     let e = cells_next rest cell after (passes rest cell after front found) in
-    let same : too_long number rest ≡ too_long number after = rw e (alike (cells_in (words after))) in
+    let same : too_long number rest ≡ too_long number after = rw e (alike (spelled_cells (words after))) in
     sym same ∙ so_far
   where
     alike : (o : Option Path) → cond (is_some (option_map (λ cells. cell ∷ cells) o)) (Length number) (Form number) ≡ cond (is_some o) (Length number) (Form number)
@@ -64,10 +64,10 @@ no_words_from_front (b ∷ line) e =
     ]
 
 pub begins_with_no_word : (number : ℕ) (line : Bytes) → begins_with_word line ≡ false → path_at number line ≡ Err (Form number)
-unfolding path_at cells_in
+unfolding path_at spelled_cells
 begins_with_no_word number line e = rw (no_words_from_front line e) refl
 
-no_path : (number : ℕ) (line : Bytes) → cells_in (words_from_front line) ≡ None → path_at number line ≡ Err (Form number)
+no_path : (number : ℕ) (line : Bytes) → spelled_cells (words_from_front line) ≡ None → path_at number line ≡ Err (Form number)
 unfolding path_at
 no_path number line e = rw e refl
 
@@ -75,52 +75,52 @@ some_path : (path : Path) → 1 ≤ length path → some_cells path ≡ Some pat
 some_path [] some = absurd (omega arith)
 some_path (cell ∷ path) some = refl
 
-a_path : (number : ℕ) (line : Bytes) (path : Path) → cells_in (words_from_front line) ≡ Some path → 1 ≤ length path → length path ≤ 65536 → path_at number line ≡ Ok path
+a_path : (number : ℕ) (line : Bytes) (path : Path) → spelled_cells (words_from_front line) ≡ Some path → 1 ≤ length path → length path ≤ 65536 → path_at number line ≡ Ok path
 unfolding path_at
 a_path number line path e some few = rw (e, some_path path some, le-leb (length path) 65536 few) refl
 
-a_long_path : (number : ℕ) (line : Bytes) (path : Path) → cells_in (words_from_front line) ≡ Some path → 65536 < length path → path_at number line ≡ Err (Length number)
+a_long_path : (number : ℕ) (line : Bytes) (path : Path) → spelled_cells (words_from_front line) ≡ Some path → 65536 < length path → path_at number line ≡ Err (Length number)
 unfolding path_at
 a_long_path number line path e many = rw (e, some_path path (omega arith), lt-leb (length path) 65536 many) refl
 
-module _ (number : ℕ) (line : Bytes) (cells : Path) (rest : Bytes) (so_far : option_map (λ more. cells ++ more) (cells_in (words rest)) ≡ cells_in (words_from_front line)) where
+module _ (number : ℕ) (line : Bytes) (cells : Path) (rest : Bytes) (so_far : option_map (λ more. cells ++ more) (spelled_cells (words rest)) ≡ spelled_cells (words_from_front line)) where
   pub cells_end : length rest ≡ 0 → 1 ≤ length cells → length cells ≤ 65536 → path_at number line ≡ Ok cells
   cells_end e some few =
       let none = no_words rest e in
-      let all : cells_in (words_from_front line) ≡ Some cells = sym so_far ∙ rw none (ap (λ (path : Path). Some path) (append-nil cells)) in
+      let all : spelled_cells (words_from_front line) ≡ Some cells = sym so_far ∙ rw none (ap (λ (path : Path). Some path) (append-nil cells)) in
       a_path number line cells all some few
 
   module _ (front : starts_blank rest ≡ false) where
     pub cells_fail : 0 < length rest → cell_front rest ≡ None → path_at number line ≡ Err (Form number)
     cells_fail some none =
         let e = cells_none rest (begins rest some front) none in
-        let all : cells_in (words_from_front line) ≡ None = sym so_far ∙ rw e refl in
+        let all : spelled_cells (words_from_front line) ≡ None = sym so_far ∙ rw e refl in
         no_path number line all
 
     module _ (cell : Cell) (after : Bytes) (found : cell_front rest ≡ Some (cell, after)) where
-      pub cells_more : option_map (λ more. (cells ++ cell ∷ []) ++ more) (cells_in (words after)) ≡ cells_in (words_from_front line)
-      cells_more = regroup (cells_in (words after)) ∙ ap (option_map (λ more. cells ++ more)) (sym (cells_next rest cell after (passes rest cell after front found))) ∙ so_far
+      pub cells_more : option_map (λ more. (cells ++ cell ∷ []) ++ more) (spelled_cells (words after)) ≡ spelled_cells (words_from_front line)
+      cells_more = regroup (spelled_cells (words after)) ∙ ap (option_map (λ more. cells ++ more)) (sym (cells_next rest cell after (passes rest cell after front found))) ∙ so_far
         where
           regroup : (o : Option Path) → option_map (λ more. (cells ++ cell ∷ []) ++ more) o ≡ option_map (λ more. cells ++ more) (option_map (λ more. cell ∷ more) o)
           regroup None = refl
           regroup (Some more) = ap (λ (path : Path). Some path) (append_assoc cells (cell ∷ []) more)
 
       pub too_many_cells : 65536 ≤ length cells → path_at number line ≡ Err (too_long number after)
-      too_many_cells many = judged (cells_in (words after)) refl
+      too_many_cells many = judged (spelled_cells (words after)) refl
         where
-          judged : (o : Option Path) → cells_in (words after) ≡ o → path_at number line ≡ Err (too_long number after)
+          judged : (o : Option Path) → spelled_cells (words after) ≡ o → path_at number line ≡ Err (too_long number after)
           judged None e =
-              let all : cells_in (words_from_front line) ≡ None = sym cells_more ∙ rw e refl in
+              let all : spelled_cells (words_from_front line) ≡ None = sym cells_more ∙ rw e refl in
               rw e (no_path number line all)
           judged (Some more) e =
-              let all : cells_in (words_from_front line) ≡ Some ((cells ++ cell ∷ []) ++ more) = sym cells_more ∙ rw e refl in
+              let all : spelled_cells (words_from_front line) ≡ Some ((cells ++ cell ∷ []) ++ more) = sym cells_more ∙ rw e refl in
               let long : 65536 < length ((cells ++ cell ∷ []) ++ more) = omega (arith, many, length-append (cells ++ cell ∷ []) more, length-append cells (cell ∷ [])) in
               rw e (a_long_path number line ((cells ++ cell ∷ []) ++ more) all long)
 
 -- ---- lines
 
 module _ (earlier : Plan) (ls : List Bytes) (total : Result Plan TextFault) (so_far : paths_at earlier ls ≡ total) where
-  pub lines_end : ls ≡ [] → total ≡ ended earlier
+  pub lines_end : ls ≡ [] → total ≡ plan_judged earlier
   unfolding paths_at
   lines_end e = sym so_far ∙ ap (paths_at earlier) e
 
@@ -145,10 +145,10 @@ module _ (earlier : Plan) (ls : List Bytes) (total : Result Plan TextFault) (so_
           let one : paths_at earlier ls ≡ paths_at (earlier ++ path ∷ []) after = ap (paths_at earlier) next ∙ rw (room, right) refl in
           sym one ∙ so_far
 
-pub none_ended : (plan : Plan) → length plan ≡ 0 → ended plan ≡ Err AgentCount
+pub none_ended : (plan : Plan) → length plan ≡ 0 → plan_judged plan ≡ Err AgentCount
 none_ended [] e = refl
 none_ended (path ∷ plan) e = absurd (omega arith)
 
-pub some_ended : (plan : Plan) → 0 < length plan → ended plan ≡ Ok plan
+pub some_ended : (plan : Plan) → 0 < length plan → plan_judged plan ≡ Ok plan
 some_ended [] some = absurd (omega arith)
 some_ended (path ∷ plan) some = refl

@@ -6,7 +6,7 @@ use Rattle.fleet_table.specs.declared.table.Table.{Table}
 use Rattle.fleet_table.specs.Table.{value_in, IsSet}
 use Rattle.fleet_plan.specs.FirstFault.{IsPairUpTo}
 use Rattle.fleet_plan.specs.Rings.{AreAgents, ahead_of}
-use Rattle.fleet_plan.specs.Sweep.{IsAhead, AreAhead, IsEntered, Exchange, HasNone, HasNoMeeting, IsFirstIn, IsFreeIn, IsFirstAhead, IsFreeAhead, IsSettled}
+use Rattle.fleet_plan.specs.Sweep.{IsAhead, AreAhead, IsEntered, Exchange, HasNone, HasNoMeeting, IsFirstIn, IsFreeIn, IsFirstAhead, IsFreeAhead, IsAgentSettled}
 use Rattle.fleet_plan.specs.declared.plan_fault.Conflict.{Conflict}
 use Rattle.fleet_plan.specs.declared.plan_fault.Conflict.TheVariants.{Vertex, Swapping, Cycle}
 use Rattle.fleet_plan.proofs.RingLaws.{ahead_within, some_is, none_is_not}
@@ -246,8 +246,8 @@ ahead_more row places next ahead k n p o e l a h = subst (λ z. IsSoBut row (k +
     i : ℕ
     i = slice_index row k
 
-pub settled_more : (row places next : List ℕ) (ahead walks : List (Option ℕ)) (k n p v : ℕ) → p ≡ slice_index row k → v ≡ slice_index next (slice_index row k) → slice_index row k < length places → slice_index row k < length ahead → slice_index row k < length walks → IsSoBut row k n (IsSettled places next ahead walks) → IsSoBut row (k + 1) n (IsSettled (set places p v) next (set ahead p None) (set walks p None))
-settled_more row places next ahead walks k n p v e w l la lw h = subst (λ z. IsSoBut row (k + 1) n (IsSettled (set places z v) next (set ahead z None) (set walks z None))) (sym e) (but_more row k n (IsSettled places next ahead walks) (IsSettled (set places i v) next (set ahead i None) (set walks i None)) h
+pub settled_more : (row places next : List ℕ) (ahead walks : List (Option ℕ)) (k n p v : ℕ) → p ≡ slice_index row k → v ≡ slice_index next (slice_index row k) → slice_index row k < length places → slice_index row k < length ahead → slice_index row k < length walks → IsSoBut row k n (IsAgentSettled places next ahead walks) → IsSoBut row (k + 1) n (IsAgentSettled (set places p v) next (set ahead p None) (set walks p None))
+settled_more row places next ahead walks k n p v e w l la lw h = subst (λ z. IsSoBut row (k + 1) n (IsAgentSettled (set places z v) next (set ahead z None) (set walks z None))) (sym e) (but_more row k n (IsAgentSettled places next ahead walks) (IsAgentSettled (set places i v) next (set ahead i None) (set walks i None)) h
     (record { same = sym (get_or-set_same places i v 0 l ∙ w); nobody = get_or-set_same ahead i None None la; unwalked = get_or-set_same walks i None None lw })
     (λ j b ne r. record {
       same = r.same ∙ sym (get_or-set_other places i j v 0 ne);

@@ -13,15 +13,15 @@ use Rattle.fleet_text.proofs.Verdicts.{Tells, heads_are, next_is, next_again}
 use Rattle.fleet_plan.specs.Plan.{Path, Plan}
 use Rattle.fleet_plan.specs.declared.text_fault.TextFault.{TextFault}
 use Rattle.fleet_plan.specs.declared.text_fault.TextFault.TheVariants.{OutOfMemory, Form, Length, AgentCount}
-use Rattle.fleet_plan.specs.PlanText.{Spells, ArePlanLines, IsRight, Reaches, IsFirstFault}
-use Rattle.fleet_plan.specs.PlanReading.{path_at, ended, paths_at}
+use Rattle.fleet_plan.specs.PlanText.{SpellsPath, ArePlanLines, IsRightLine, ReachesPlanLine, IsFirstPlanLineFault}
+use Rattle.fleet_plan.specs.PlanReading.{path_at, plan_judged, paths_at}
 use Rattle.fleet_plan.proofs.PlanLaws.{path_in, spells_again, spells_is, judged, path_is, path_again, paths_next, is_found, is_read}
 
 -- ---- a line
 
 -- why the line, of this number, stands for no path
 abbrev IsLineFault : ℕ → Bytes → TextFault → Type 0
-IsLineFault number line f = ((f ≡ Form number) × ((path : Path) → Spells line path → ⊥)) ⊎ ((f ≡ Length number) × (path : Path) × Spells line path × (65536 < length path))
+IsLineFault number line f = ((f ≡ Form number) × ((path : Path) → SpellsPath line path → ⊥)) ⊎ ((f ≡ Length number) × (path : Path) × SpellsPath line path × (65536 < length path))
 
 path_fails : (number : ℕ) (line : Bytes) (f : TextFault) → path_at number line ≡ Err f → IsLineFault number line f
 unfolding path_at
@@ -58,13 +58,13 @@ Stops n rest f =
 
 -- .. after k more lines, which are right
 record StopsAfter (n : ℕ) (ls : List Bytes) (k : ℕ) (f : TextFault) : Type 0 where
-  right : AllByRecursion IsRight (take k ls)
+  right : AllByRecursion IsRightLine (take k ls)
   stops : Stops (n + k) (drop k ls) f
 
 stops_here : (n : ℕ) (ls : List Bytes) (f : TextFault) → Stops n ls f → StopsAfter n ls 0 f
 stops_here n ls f s = let same : n ≡ n + 0 = omega arith in record { right = tt; stops = subst (λ (m : ℕ). Stops m ls f) same s }
 
-stops_later : (n : ℕ) (line : Bytes) (ls : List Bytes) (k : ℕ) (f : TextFault) → IsRight line → StopsAfter (n + 1) ls k f → StopsAfter n (line ∷ ls) (suc k) f
+stops_later : (n : ℕ) (line : Bytes) (ls : List Bytes) (k : ℕ) (f : TextFault) → IsRightLine line → StopsAfter (n + 1) ls k f → StopsAfter n (line ∷ ls) (suc k) f
 stops_later n line ls k f right s =
     let same : n + 1 + k ≡ n + suc k = omega arith in
     record { right = (right, s.right); stops = subst (λ (m : ℕ). Stops m (drop k ls) f) same s.stops }
@@ -101,7 +101,7 @@ no_line line more e = cc
 some_line : (line : Bytes) (more : List Bytes) → line ∷ more ≡ [] → ⊥
 some_line line more e = cc
 
-ends_fault : (earlier : Plan) (k : ℕ) (f : TextFault) → Stops (length earlier + k) [] f → ended earlier ≡ Err f
+ends_fault : (earlier : Plan) (k : ℕ) (f : TextFault) → Stops (length earlier + k) [] f → plan_judged earlier ≡ Err f
 ends_fault [] k f (inl s) = ap (λ (x : TextFault). Err x) (sym s.0)
 ends_fault (p ∷ earlier) k f (inl s) = absurd (let none = s.1 in omega (arith, none))
 ends_fault earlier k f (inr (inl s)) = absurd (let some = s.2 in omega (arith, some))
@@ -139,49 +139,49 @@ paths_fault earlier (line ∷ ls) (suc k) f h =
 
 -- ---- the first fault
 
-line_is_first : (ls : List Bytes) (k : ℕ) (line : Bytes) (f : TextFault) → Reaches ls k line → IsLineFault (k + 1) line f → IsFirstFault ls f
-line_is_first ls k line f r (inl h) = subst (IsFirstFault ls) (sym h.0) (k, line, refl, r, h.1)
-line_is_first ls k line f r (inr h) = subst (IsFirstFault ls) (sym h.0) (k, line, refl, r, h.1, h.2, h.3)
+line_is_first : (ls : List Bytes) (k : ℕ) (line : Bytes) (f : TextFault) → ReachesPlanLine ls k line → IsLineFault (k + 1) line f → IsFirstPlanLineFault ls f
+line_is_first ls k line f r (inl h) = subst (IsFirstPlanLineFault ls) (sym h.0) (k, line, refl, r, h.1)
+line_is_first ls k line f r (inr h) = subst (IsFirstPlanLineFault ls) (sym h.0) (k, line, refl, r, h.1, h.2, h.3)
 
-stops_first : (ls : List Bytes) (k : ℕ) (f : TextFault) → AllByRecursion IsRight (take k ls) → Stops k (drop k ls) f → IsFirstFault ls f
+stops_first : (ls : List Bytes) (k : ℕ) (f : TextFault) → AllByRecursion IsRightLine (take k ls) → Stops k (drop k ls) f → IsFirstPlanLineFault ls f
 stops_first ls k f right (inl s) =
     let none : ls ≡ [] = subst (λ (m : ℕ). drop m ls ≡ []) s.1 s.2 in
-    subst (IsFirstFault ls) (sym s.0) (inl none)
+    subst (IsFirstPlanLineFault ls) (sym s.0) (inl none)
 stops_first ls k f right (inr (inl s)) =
     let some = s.2 in
     let all = s.1 in
     let longer : 1024 < length ls = omega (arith, some, all, length-drop k ls) in
-    let before : All IsRight (take 1024 ls) = subst (λ (m : ℕ). All IsRight (take m ls)) all (All-from_recursion IsRight (take k ls) right) in
-    subst (IsFirstFault ls) (sym s.0) (inr (longer, before))
+    let before : All IsRightLine (take 1024 ls) = subst (λ (m : ℕ). All IsRightLine (take m ls)) all (All-from_recursion IsRightLine (take k ls) right) in
+    subst (IsFirstPlanLineFault ls) (sym s.0) (inr (longer, before))
 stops_first ls k f right (inr (inr s)) =
-    line_is_first ls k s.1 f (record { few = s.0; before = All-from_recursion IsRight (take k ls) right; here = next_is k ls s.1 s.2 s.3 }) s.4
+    line_is_first ls k s.1 f (record { few = s.0; before = All-from_recursion IsRightLine (take k ls) right; here = next_is k ls s.1 s.2 s.3 }) s.4
 
 -- what reading fails with is the first fault
-pub is_fault : (ls : List Bytes) (f : TextFault) → paths_at [] ls ≡ Err f → IsFirstFault ls f
+pub is_fault : (ls : List Bytes) (f : TextFault) → paths_at [] ls ≡ Err f → IsFirstPlanLineFault ls f
 is_fault ls f e =
     let r = paths_fail [] ls f (omega arith) e in
     let same : 0 + r.0 ≡ r.0 = omega arith in
     stops_first ls r.0 f r.1.right (subst (λ (m : ℕ). Stops m (drop r.0 ls) f) same r.1.stops)
 
-told_at : (ls : List Bytes) (k : ℕ) (f : TextFault) → All IsRight (take k ls) → Stops k (drop k ls) f → paths_at [] ls ≡ Err f
+told_at : (ls : List Bytes) (k : ℕ) (f : TextFault) → All IsRightLine (take k ls) → Stops k (drop k ls) f → paths_at [] ls ≡ Err f
 told_at ls k f right stops =
     let same : k ≡ 0 + k = omega arith in
-    paths_fault [] ls k f (record { right = recursion_from_All IsRight (take k ls) right; stops = subst (λ (m : ℕ). Stops m (drop k ls) f) same stops })
+    paths_fault [] ls k f (record { right = recursion_from_All IsRightLine (take k ls) right; stops = subst (λ (m : ℕ). Stops m (drop k ls) f) same stops })
 
-told_line : (ls : List Bytes) (k : ℕ) (line : Bytes) (f : TextFault) → Reaches ls k line → IsLineFault (k + 1) line f → paths_at [] ls ≡ Err f
+told_line : (ls : List Bytes) (k : ℕ) (line : Bytes) (f : TextFault) → ReachesPlanLine ls k line → IsLineFault (k + 1) line f → paths_at [] ls ≡ Err f
 told_line ls k line f r wrong = let next = next_again k ls line r.here in told_at ls k f r.before (inr (inr (r.few, line, next.0, next.1, wrong)))
 
 -- the first fault is what reading fails with
-pub is_told : (ls : List Bytes) (f : TextFault) → IsFirstFault ls f → paths_at [] ls ≡ Err f
+pub is_told : (ls : List Bytes) (f : TextFault) → IsFirstPlanLineFault ls f → paths_at [] ls ≡ Err f
 is_told ls OutOfMemory h = absurd h
 is_told ls (Form number) h = told_line ls h.0 h.1 (Form number) h.3 (inl (ap (λ (n : ℕ). Form n) h.2, h.4))
 is_told ls (Length number) h = told_line ls h.0 h.1 (Length number) h.3 (inr (ap (λ (n : ℕ). Length n) h.2, h.4, h.5, h.6))
-is_told ls AgentCount (inl none) = told_at ls 0 AgentCount (All-from_recursion IsRight [] tt) (inl (refl, refl, none))
+is_told ls AgentCount (inl none) = told_at ls 0 AgentCount (All-from_recursion IsRightLine [] tt) (inl (refl, refl, none))
 is_told ls AgentCount (inr h) = (let longer = h.0 in told_at ls 1024 AgentCount h.1 (inr (inl (refl, refl, omega (arith, longer, length-drop 1024 ls)))))
 
 -- ---- the reader's laws
 
-pub tells : (ls : List Bytes) → Tells (ArePlanLines ls) (IsFirstFault ls) (paths_at [] ls)
+pub tells : (ls : List Bytes) → Tells (ArePlanLines ls) (IsFirstPlanLineFault ls) (paths_at [] ls)
 tells ls = record { found = is_found ls; read = is_read ls; fault = is_fault ls; told = is_told ls }
 
 -- ---- what the reader refuses
@@ -192,5 +192,5 @@ read ls (Form number) e plan a = absurd (ok_err plan (Form number) (sym (is_read
 read ls (Length number) e plan a = absurd (ok_err plan (Length number) (sym (is_read ls plan a) ∙ e (λ memory. cc)))
 read ls AgentCount e plan a = absurd (ok_err plan AgentCount (sym (is_read ls plan a) ∙ e (λ memory. cc)))
 
-pub told : (ls : List Bytes) (f : TextFault) → IsDueUnless {X = Plan} (λ plan. plan) (Err f) (paths_at [] ls) OutOfMemory → f ≢ OutOfMemory → IsFirstFault ls f
+pub told : (ls : List Bytes) (f : TextFault) → IsDueUnless {X = Plan} (λ plan. plan) (Err f) (paths_at [] ls) OutOfMemory → f ≢ OutOfMemory → IsFirstPlanLineFault ls f
 told ls f e other = is_fault ls f (e other)

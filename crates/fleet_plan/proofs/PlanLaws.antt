@@ -13,8 +13,8 @@ use Rattle.fleet_text.proofs.StepLaws.{bind_ok, right_ok, some_ok, ok_is}
 use Rattle.fleet_plan.specs.Plan.{Path, Plan, IsPath, IsFleet, IsWithinLimits}
 use Rattle.fleet_plan.specs.declared.text_fault.TextFault.{TextFault}
 use Rattle.fleet_plan.specs.declared.text_fault.TextFault.TheVariants.{Form, Length, AgentCount}
-use Rattle.fleet_plan.specs.PlanText.{cell_of_parts, spelled_cell, Spells, StandsFor, ArePlanLines}
-use Rattle.fleet_plan.specs.PlanReading.{cells_in, some_cells, path_at, ended, paths_at}
+use Rattle.fleet_plan.specs.PlanText.{cell_of_parts, spelled_cell, SpellsPath, StandsForPath, ArePlanLines}
+use Rattle.fleet_plan.specs.PlanReading.{spelled_cells, some_cells, path_at, plan_judged, paths_at}
 
 -- ---- the cells of words
 
@@ -30,8 +30,8 @@ first_is x y xs ys e = cc
 others_are : (x y : Option Cell) (xs ys : List (Option Cell)) → x ∷ xs ≡ y ∷ ys → xs ≡ ys
 others_are x y xs ys e = cc
 
-pub cells_again : (ws : List Bytes) (cells : Path) → map spelled_cell ws ≡ map (λ cell. Some cell) cells → cells_in ws ≡ Some cells
-unfolding cells_in
+pub cells_again : (ws : List Bytes) (cells : Path) → map spelled_cell ws ≡ map (λ cell. Some cell) cells → spelled_cells ws ≡ Some cells
+unfolding spelled_cells
 cells_again [] [] e = refl
 cells_again [] (c ∷ cells) e = absurd cc
 cells_again (w ∷ ws) [] e = absurd cc
@@ -40,12 +40,12 @@ cells_again (w ∷ ws) (c ∷ cells) e =
     let more = cells_again ws cells (others_are (spelled_cell w) (Some c) (map spelled_cell ws) (map (λ cell. Some cell) cells) e) in
     rw (here, more) refl
 
-pub cells_are : (ws : List Bytes) (cells : Path) → cells_in ws ≡ Some cells → map spelled_cell ws ≡ map (λ cell. Some cell) cells
-unfolding cells_in
+pub cells_are : (ws : List Bytes) (cells : Path) → spelled_cells ws ≡ Some cells → map spelled_cell ws ≡ map (λ cell. Some cell) cells
+unfolding spelled_cells
 cells_are [] cells e = ap (map (λ (cell : Cell). Some cell)) (some_is [] cells e)
-cells_are (w ∷ ws) cells e = both (λ more. cells_are ws more) (spelled_cell w) refl (cells_in ws) refl
+cells_are (w ∷ ws) cells e = both (λ more. cells_are ws more) (spelled_cell w) refl (spelled_cells ws) refl
   where
-    both : ((more : Path) → cells_in ws ≡ Some more → map spelled_cell ws ≡ map (λ cell. Some cell) more) → (o : Option Cell) → spelled_cell w ≡ o → (p : Option Path) → cells_in ws ≡ p → map spelled_cell (w ∷ ws) ≡ map (λ cell. Some cell) cells
+    both : ((more : Path) → spelled_cells ws ≡ Some more → map spelled_cell ws ≡ map (λ cell. Some cell) more) → (o : Option Cell) → spelled_cell w ≡ o → (p : Option Path) → spelled_cells ws ≡ p → map spelled_cell (w ∷ ws) ≡ map (λ cell. Some cell) cells
     both others None h p k = absurd (let f : None ≡ Some cells = rw h at e in no_some cells f)
     both others (Some c) h None k = absurd (let f : None ≡ Some cells = rw (h, k) at e in no_some cells f)
     both others (Some c) h (Some more) k =
@@ -55,38 +55,38 @@ cells_are (w ∷ ws) cells e = both (λ more. cells_are ws more) (spelled_cell w
 -- ---- the path of a line
 
 abbrev pub path_in : Bytes → Option Path
-path_in line = option_and_then some_cells (cells_in (words_from_front line))
+path_in line = option_and_then some_cells (spelled_cells (words_from_front line))
 
-pub spells_again : (line : Bytes) (path : Path) → Spells line path → path_in line ≡ Some path
+pub spells_again : (line : Bytes) (path : Path) → SpellsPath line path → path_in line ≡ Some path
 spells_again line path s = ap (λ (o : Option Path). option_and_then some_cells o) (cells_again (words_from_front line) path s.cells) ∙ some_again path s.some
   where
     some_again : (path : Path) → 1 ≤ length path → some_cells path ≡ Some path
     some_again [] some = absurd (omega arith)
     some_again (c ∷ path) some = refl
 
-pub spells_is : (line : Bytes) (path : Path) → path_in line ≡ Some path → Spells line path
-spells_is line path e = found (cells_in (words_from_front line)) refl
+pub spells_is : (line : Bytes) (path : Path) → path_in line ≡ Some path → SpellsPath line path
+spells_is line path e = found (spelled_cells (words_from_front line)) refl
   where
-    found : (o : Option Path) → cells_in (words_from_front line) ≡ o → Spells line path
+    found : (o : Option Path) → spelled_cells (words_from_front line) ≡ o → SpellsPath line path
     found None h = absurd (let f : None ≡ Some path = rw h at e in no_some path f)
     found (Some []) h = absurd (let f : None ≡ Some path = rw h at e in no_some path f)
     found (Some (c ∷ cells)) h =
         let f : Some (c ∷ cells) ≡ Some path = rw h at e in
         let same = some_is (c ∷ cells) path f in
-        subst (Spells line) same (record { some = omega arith; cells = cells_are (words_from_front line) (c ∷ cells) h })
+        subst (SpellsPath line) same (record { some = omega arith; cells = cells_are (words_from_front line) (c ∷ cells) h })
 
 abbrev pub judged : ℕ → Path → Result Path TextFault
 judged number path = right_or (leb (length path) 65536) (Length number) >> Ok path
 
-pub path_is : (number : ℕ) (line : Bytes) (path : Path) → path_at number line ≡ Ok path → StandsFor line path
+pub path_is : (number : ℕ) (line : Bytes) (path : Path) → path_at number line ≡ Ok path → StandsForPath line path
 unfolding path_at
 path_is number line path e =
     let a = bind_ok (some_or (path_in line) (Form number)) (judged number) path e in
     let spells = spells_is line a.0 (some_ok (path_in line) (Form number) a.0 a.1) in
     let b = right_ok (leb (length a.0) 65536) (Length number) (Ok a.0) path a.2 in
-    subst (StandsFor line) (ok_is a.0 path b.1) (record { spells = spells; few = leb-true (length a.0) 65536 b.0 })
+    subst (StandsForPath line) (ok_is a.0 path b.1) (record { spells = spells; few = leb-true (length a.0) 65536 b.0 })
 
-pub path_again : (number : ℕ) (line : Bytes) (path : Path) → StandsFor line path → path_at number line ≡ Ok path
+pub path_again : (number : ℕ) (line : Bytes) (path : Path) → StandsForPath line path → path_at number line ≡ Ok path
 unfolding path_at
 path_again number line path s = rw (spells_again line path s.spells, le-leb (length path) 65536 s.few) refl
 
@@ -95,13 +95,13 @@ path_again number line path s = rw (spells_again line path s.spells, le-leb (len
 -- the lines stand for these paths, which follow earlier ones
 record Follows (earlier : Plan) (ls : List Bytes) (plan new : Plan) : Type 0 where
   all : plan ≡ earlier ++ new
-  paths : AllZip StandsFor ls new
+  paths : AllZip StandsForPath ls new
   agents : IsFleet plan
 
-follows_next : (earlier : Plan) (line : Bytes) (ls : List Bytes) (plan : Plan) (path : Path) (new : Plan) → StandsFor line path → Follows (earlier ++ path ∷ []) ls plan new → Follows earlier (line ∷ ls) plan (path ∷ new)
+follows_next : (earlier : Plan) (line : Bytes) (ls : List Bytes) (plan : Plan) (path : Path) (new : Plan) → StandsForPath line path → Follows (earlier ++ path ∷ []) ls plan new → Follows earlier (line ∷ ls) plan (path ∷ new)
 follows_next earlier line ls plan path new s f = record { all = f.all ∙ append_assoc earlier (path ∷ []) new; paths = (s, f.paths); agents = f.agents }
 
-follows_end : (earlier plan : Plan) → length earlier ≤ 1024 → ended earlier ≡ Ok plan → Follows earlier [] plan []
+follows_end : (earlier plan : Plan) → length earlier ≤ 1024 → plan_judged earlier ≡ Ok plan → Follows earlier [] plan []
 follows_end [] plan few e = absurd (let f : Err AgentCount ≡ Ok plan = e in cc)
 follows_end (p ∷ earlier) plan few e =
     let same : p ∷ earlier ≡ plan = ok_is {E = TextFault} (p ∷ earlier) plan e in
@@ -123,11 +123,11 @@ paths_are earlier (line ∷ ls) plan few e =
     let more = paths_are (earlier ++ path ∷ []) ls plan (omega (arith, fewer, length-append earlier (path ∷ []))) b.2 in
     (path ∷ more.0, follows_next earlier line ls plan path more.0 (path_is number line path b.1) more.1)
 
-ended_again : (earlier : Plan) → 1 ≤ length earlier → ended earlier ≡ Ok earlier
+ended_again : (earlier : Plan) → 1 ≤ length earlier → plan_judged earlier ≡ Ok earlier
 ended_again [] some = absurd (omega arith)
 ended_again (p ∷ earlier) some = refl
 
-paths_again : (earlier : Plan) (ls : List Bytes) (new : Plan) → AllZip StandsFor ls new → IsFleet (earlier ++ new) → paths_at earlier ls ≡ Ok (earlier ++ new)
+paths_again : (earlier : Plan) (ls : List Bytes) (new : Plan) → AllZip StandsForPath ls new → IsFleet (earlier ++ new) → paths_at earlier ls ≡ Ok (earlier ++ new)
 unfolding paths_at
 paths_again earlier [] [] h fleet =
     let same = append-nil earlier in
@@ -147,7 +147,7 @@ paths_again earlier (line ∷ ls) (path ∷ new) h fleet =
 pub is_found : (ls : List Bytes) (plan : Plan) → paths_at [] ls ≡ Ok plan → ArePlanLines ls plan
 is_found ls plan e =
     let r = paths_are [] ls plan (omega arith) e in
-    record { agents = r.1.agents; paths = subst (AllZip StandsFor ls) (sym r.1.all) r.1.paths }
+    record { agents = r.1.agents; paths = subst (AllZip StandsForPath ls) (sym r.1.all) r.1.paths }
 
 pub is_read : (ls : List Bytes) (plan : Plan) → ArePlanLines ls plan → paths_at [] ls ≡ Ok plan
 is_read ls plan h = paths_again [] ls plan h.paths h.agents
@@ -188,7 +188,7 @@ cells_are_few (w ∷ ws) (c ∷ cells) e =
     let here : spelled_cell w ≡ Some c = first_is (spelled_cell w) (Some c) (map spelled_cell ws) (map (λ cell. Some cell) cells) e in
     (parts_are_few (slice_split (λ b. b == 44) w) c here, cells_are_few ws cells (others_are (spelled_cell w) (Some c) (map spelled_cell ws) (map (λ cell. Some cell) cells) e))
 
-paths_are_few : (ls : List Bytes) (plan : Plan) → AllZip StandsFor ls plan → AllByRecursion IsPath plan
+paths_are_few : (ls : List Bytes) (plan : Plan) → AllZip StandsForPath ls plan → AllByRecursion IsPath plan
 paths_are_few [] [] h = tt
 paths_are_few [] (p ∷ plan) h = absurd h
 paths_are_few (l ∷ ls) [] h = absurd h

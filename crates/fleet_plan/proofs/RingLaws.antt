@@ -6,7 +6,7 @@ use Rattle.std.proofs.lemmas.List.{get_or_past, get_or_default}
 use Rattle.std.proofs.lemmas.Map.Keys.{IsDistinct-tail}
 use Rattle.std.proofs.lemmas.Map.Steps.{length-le_from_distinct_below}
 use Rattle.fleet_model.specs.Conflict.{after_in}
-use Rattle.fleet_plan.specs.Rings.{AreAgents, ahead_of, Leads, Reaches, IsOnRing}
+use Rattle.fleet_plan.specs.Rings.{AreAgents, ahead_of, Leads, LeadsTo, IsOnRing}
 
 pub some_is : (j k : ℕ) (o : Option ℕ) → o ≡ Some j → o ≡ Some k → j ≡ k
 some_is j k o a b = let e : Some j ≡ Some k = sym a ∙ b in cc
@@ -26,27 +26,27 @@ module _ (ahead : List (Option ℕ)) where
   leads-append i [] m ks e f g = subst (λ z. Leads ahead z ks e) (sym f) g
   leads-append i (j ∷ js) m ks e f g = (f.0, leads-append j js m ks e f.1 g)
 
-  pub reaches-on : (i m e : ℕ) → Reaches ahead i m → Reaches ahead m e → Reaches ahead i e
+  pub reaches-on : (i m e : ℕ) → LeadsTo ahead i m → LeadsTo ahead m e → LeadsTo ahead i e
   reaches-on i m e f g = (f.0 ++ g.0, leads-append i f.0 m g.0 e f.1 g.1)
 
-  pub reaches-itself : (i : ℕ) → Reaches ahead i i
+  pub reaches-itself : (i : ℕ) → LeadsTo ahead i i
   reaches-itself i = ([], refl)
 
-  pub reaches-next : (i j : ℕ) → ahead_of ahead i ≡ Some j → Reaches ahead i j
+  pub reaches-next : (i j : ℕ) → ahead_of ahead i ≡ Some j → LeadsTo ahead i j
   reaches-next i j e = (j ∷ [], (e, refl))
 
   -- who is ahead of an agent on a ring is on the ring
-  pub ring-next : (i j : ℕ) → IsOnRing ahead i → ahead_of ahead i ≡ Some j → IsOnRing ahead j × Reaches ahead j i
+  pub ring-next : (i j : ℕ) → IsOnRing ahead i → ahead_of ahead i ≡ Some j → IsOnRing ahead j × LeadsTo ahead j i
   ring-next i j r e =
       let same : r.next ≡ j = some_is r.next j (ahead_of ahead i) r.ahead_is e in
-      let back : Reaches ahead j i = subst (λ z. Reaches ahead z i) same r.back in
+      let back : LeadsTo ahead j i = subst (λ z. LeadsTo ahead z i) same r.back in
       (on back.0 back.1, back)
     where
       on : (js : List ℕ) → Leads ahead j js i → IsOnRing ahead j
       on [] f = subst (IsOnRing ahead) (sym f) r
       on (k ∷ ks) f = record { next = k; ahead_is = f.0; back = reaches-on k i j (ks, f.1) (reaches-next i j e) }
 
-  pub ring-reaches : (i : ℕ) (js : List ℕ) (e : ℕ) → IsOnRing ahead i → Leads ahead i js e → IsOnRing ahead e × Reaches ahead e i
+  pub ring-reaches : (i : ℕ) (js : List ℕ) (e : ℕ) → IsOnRing ahead i → Leads ahead i js e → IsOnRing ahead e × LeadsTo ahead e i
   ring-reaches i [] e r f = (subst (IsOnRing ahead) f r, ([], sym f))
   ring-reaches i (j ∷ js) e r f =
       let one = ring-next i j r f.0 in
@@ -100,7 +100,7 @@ module _ (ahead : List (Option ℕ)) where
 
   -- what holds of a first agent, of a list of agents that leads on from it, and the last of which has the first one ahead of it, holds of
   -- each agent that the first one reaches
-  pub all_round : (P : ℕ → Type 0) (first : ℕ) (js : List ℕ) (last : ℕ) → Leads ahead first js last → ahead_of ahead last ≡ Some first → P first → AllByRecursion P js → (e : ℕ) → Reaches ahead first e → P e
+  pub all_round : (P : ℕ → Type 0) (first : ℕ) (js : List ℕ) (last : ℕ) → Leads ahead first js last → ahead_of ahead last ≡ Some first → P first → AllByRecursion P js → (e : ℕ) → LeadsTo ahead first e → P e
   all_round P first js last f back here all e g = go g.0 first js f here all g.1
     where
       go : (bs : List ℕ) (i : ℕ) (ks : List ℕ) → Leads ahead i ks last → P i → AllByRecursion P ks → Leads ahead i bs e → P e
@@ -122,7 +122,7 @@ module _ (ahead : List (Option ℕ)) where
   each_ahead i (j ∷ m ∷ js) e d f back zero l = f.1.0
   each_ahead i (j ∷ m ∷ js) e d f back (suc k) l = each_ahead j (m ∷ js) e d f.1 back k (omega arith)
 
-  pub each_reached : (i : ℕ) (js : List ℕ) (e : ℕ) → Leads ahead i js e → (k d : ℕ) → k < length js → Reaches ahead i (get_or js k d)
+  pub each_reached : (i : ℕ) (js : List ℕ) (e : ℕ) → Leads ahead i js e → (k d : ℕ) → k < length js → LeadsTo ahead i (get_or js k d)
   each_reached i [] e f k d l = absurd (omega arith)
   each_reached i (j ∷ js) e f zero d l = reaches-next i j f.0
   each_reached i (j ∷ js) e f (suc k) d l = reaches-on i j (get_or js k d) (reaches-next i j f.0) (each_reached j js e f.1 k d (omega arith))
@@ -133,34 +133,34 @@ module _ (ahead : List (Option ℕ)) where
 
   -- ahead of each agent of a list is the next one, and of the last the first
   module _ (ring : List ℕ) (next : (k : ℕ) → k < length ring → ahead_of ahead (get_or ring k 0) ≡ Some (after_in ring k)) where
-    on : (m k : ℕ) → k + m < length ring → Reaches ahead (get_or ring k 0) (get_or ring (k + m) 0)
-    on zero k l = subst (λ z. Reaches ahead (get_or ring k 0) (get_or ring z 0)) (let e : k ≡ k + 0 = omega arith in e) (reaches-itself (get_or ring k 0))
+    on : (m k : ℕ) → k + m < length ring → LeadsTo ahead (get_or ring k 0) (get_or ring (k + m) 0)
+    on zero k l = subst (λ z. LeadsTo ahead (get_or ring k 0) (get_or ring z 0)) (let e : k ≡ k + 0 = omega arith in e) (reaches-itself (get_or ring k 0))
     on (suc m) k l =
-        let one : Reaches ahead (get_or ring k 0) (after_in ring k) = reaches-next (get_or ring k 0) (after_in ring k) (next k (omega arith)) in
+        let one : LeadsTo ahead (get_or ring k 0) (after_in ring k) = reaches-next (get_or ring k 0) (after_in ring k) (next k (omega arith)) in
         let same : after_in ring k ≡ get_or ring (k + 1) 0 = get_or_default ring (k + 1) (get_or ring 0 0) 0 (omega arith) in
         let e : k + 1 + m ≡ k + suc m = omega arith in
         reaches-on (get_or ring k 0) (get_or ring (k + 1) 0) (get_or ring (k + suc m) 0)
-        (subst (Reaches ahead (get_or ring k 0)) same one)
-        (subst (λ z. Reaches ahead (get_or ring (k + 1) 0) (get_or ring z 0)) e (on m (k + 1) (omega arith)))
+        (subst (LeadsTo ahead (get_or ring k 0)) same one)
+        (subst (λ z. LeadsTo ahead (get_or ring (k + 1) 0) (get_or ring z 0)) e (on m (k + 1) (omega arith)))
 
     -- from the first agent, and on to it
-    from_first : (k : ℕ) → k < length ring → Reaches ahead (get_or ring 0 0) (get_or ring k 0)
-    from_first k l = subst (λ z. Reaches ahead (get_or ring 0 0) (get_or ring z 0)) (let e : 0 + k ≡ k = omega arith in e) (on k 0 (omega arith))
+    from_first : (k : ℕ) → k < length ring → LeadsTo ahead (get_or ring 0 0) (get_or ring k 0)
+    from_first k l = subst (λ z. LeadsTo ahead (get_or ring 0 0) (get_or ring z 0)) (let e : 0 + k ≡ k = omega arith in e) (on k 0 (omega arith))
 
-    to_first : (k : ℕ) → k < length ring → Reaches ahead (after_in ring k) (get_or ring 0 0)
+    to_first : (k : ℕ) → k < length ring → LeadsTo ahead (after_in ring k) (get_or ring 0 0)
     to_first k l = elim (cases_lt (k + 1) (length ring)) [
       | inl g ↦
           let m = length ring - 1 - (k + 1) in
           let e : k + 1 + m ≡ length ring - 1 = omega arith in
           let same : get_or ring (k + 1) 0 ≡ after_in ring k = get_or_default ring (k + 1) 0 (get_or ring 0 0) g in
           let last = get_or ring (length ring - 1) 0 in
-          let there : Reaches ahead (get_or ring (k + 1) 0) last = subst (λ z. Reaches ahead (get_or ring (k + 1) 0) (get_or ring z 0)) e (on m (k + 1) (omega arith)) in
+          let there : LeadsTo ahead (get_or ring (k + 1) 0) last = subst (λ z. LeadsTo ahead (get_or ring (k + 1) 0) (get_or ring z 0)) e (on m (k + 1) (omega arith)) in
           let back : after_in ring (length ring - 1) ≡ get_or ring 0 0 = get_or_past ring (length ring - 1 + 1) (get_or ring 0 0) (omega arith) in
           let step : ahead_of ahead last ≡ Some (get_or ring 0 0) = next (length ring - 1) (omega arith) ∙ ap (λ (n : ℕ). Some n) back in
-          reaches-on (after_in ring k) last (get_or ring 0 0) (subst (λ z. Reaches ahead z last) same there) (reaches-next last (get_or ring 0 0) step)
+          reaches-on (after_in ring k) last (get_or ring 0 0) (subst (λ z. LeadsTo ahead z last) same there) (reaches-next last (get_or ring 0 0) step)
       | inr g ↦
           let back : get_or ring 0 0 ≡ after_in ring k = sym (get_or_past ring (k + 1) (get_or ring 0 0) g) in
-          subst (λ z. Reaches ahead z (get_or ring 0 0)) back (reaches-itself (get_or ring 0 0))
+          subst (λ z. LeadsTo ahead z (get_or ring 0 0)) back (reaches-itself (get_or ring 0 0))
     ]
 
     pub each_on_ring : (k : ℕ) → k < length ring → IsOnRing ahead (get_or ring k 0)

@@ -14,9 +14,9 @@ use Rattle.fleet_grid.specs.Ground.{Ground, IsGround, is_passable, cell_index, c
 use Rattle.fleet_plan.specs.declared.plan_fault.Conflict.{Conflict}
 use Rattle.fleet_plan.specs.declared.plan_fault.Conflict.TheVariants.{Vertex, Swapping, Cycle}
 use Rattle.fleet_plan.specs.Plan.{Plan, cell_of, planned, steps, IsPath}
-use Rattle.fleet_plan.specs.FirstFault.{AllAgents, GoesRight, path_of, HasConflict, HasNoConflict, time_of, IsKindUpTo, IsUpTo, IsFirstConflict}
+use Rattle.fleet_plan.specs.FirstFault.{AllAgents, GoesRight, path_of, HasConflict, HasNoConflict, time_of, IsKindUpTo, IsConflictUpTo, IsFirstConflict}
 use Rattle.fleet_plan.specs.Rings.{AreAgents, ahead_of, walk_of, Leads, IsOnRing, IsLeastOnRing}
-use Rattle.fleet_plan.specs.Sweep.{IsOnMap, ArePlaces, Meet, IsFirstMeeting, IsAhead, AreAhead, Exchange, IsFirstExchange, HasNoMeeting, HasNoExchange, IsFirstIn, IsFreeIn, IsEntered, IsSettled}
+use Rattle.fleet_plan.specs.Sweep.{StandOnMap, StandOnPlaces, Meet, IsFirstMeeting, IsAhead, AreAhead, Exchange, IsFirstExchange, HasNoMeeting, HasNoExchange, IsFirstIn, IsFreeIn, IsEntered, IsAgentSettled}
 use Rattle.fleet_plan.specs.UnderWay.{IsSoForOthers, Covers}
 use Rattle.fleet_plan.proofs.RingLaws.{some_is, none_is_not, shortened, each_ahead, each_reached, ends_with, each_on_ring, ring-reaches}
 use Rattle.fleet_plan.proofs.PathLaws.{at_past}
@@ -46,7 +46,7 @@ passable_on_map g sizes c p = (column, row)
           let z : true ≡ false = sym p ∙ e in absurd (cc)
     ]
 
-pub all_on_map : (g : Ground) → IsGround g → (plan : Plan) → AllAgents plan (GoesRight (is_passable g) plan) → IsOnMap g plan
+pub all_on_map : (g : Ground) → IsGround g → (plan : Plan) → AllAgents plan (GoesRight (is_passable g) plan) → StandOnMap g plan
 unfolding cell_of
 all_on_map g sizes plan goes i t l = passable_on_map g sizes (cell_of plan i t) (goes i l t).on_ground
 
@@ -95,7 +95,7 @@ none_later plan later (Cycle x least) h =
 abbrev pub HavePlaces : Type 0
 HavePlaces = (g : Ground) (c d : Cell) → c.x < g.width → d.x < g.width → cell_index g c ≡ cell_index g d → c ≡ d
 
-module _ (have : HavePlaces) (g : Ground) (plan : Plan) (on : IsOnMap g plan) (t : ℕ) (places next : List ℕ) (now : ArePlaces g plan t places) (then : ArePlaces g plan (t + 1) next) where
+module _ (have : HavePlaces) (g : Ground) (plan : Plan) (on : StandOnMap g plan) (t : ℕ) (places next : List ℕ) (now : StandOnPlaces g plan t places) (then : StandOnPlaces g plan (t + 1) next) where
   n : ℕ
   n = length plan
 
@@ -238,7 +238,7 @@ module _ (have : HavePlaces) (g : Ground) (plan : Plan) (on : IsOnMap g plan) (t
 
   -- no conflict is earlier
   module _ (earlier : (d : Conflict) → HasConflict plan d → t ≤ time_of d) where
-    up_to : (c d : Conflict) → time_of c ≡ t → HasConflict plan d → (time_of d ≡ t → IsKindUpTo c d) → IsUpTo c d
+    up_to : (c d : Conflict) → time_of c ≡ t → HasConflict plan d → (time_of d ≡ t → IsKindUpTo c d) → IsConflictUpTo c d
     up_to c d e h kind =
         let l : t ≤ time_of d = earlier d h in
         elim (cases_eq (time_of d) t) [
@@ -306,7 +306,7 @@ module _ (have : HavePlaces) (g : Ground) (plan : Plan) (on : IsOnMap g plan) (t
 
 -- no conflict is earlier than time t, at which the agents stand in these places
 pub record IsSweep (g : Ground) (plan : Plan) (places : List ℕ) (t : ℕ) : Type 0 where
-  pub here : ArePlaces g plan t places
+  pub here : StandOnPlaces g plan t places
   pub earlier : (d : Conflict) → HasConflict plan d → t ≤ time_of d
 
 pub swept_all : (plan : Plan) (t : ℕ) → ((d : Conflict) → HasConflict plan d → t ≤ time_of d) → steps plan + 1 ≤ t → HasNoConflict plan
@@ -321,23 +321,23 @@ few_steps (path ∷ plan) all =
     omega (arith, here.few_cells)
 
 -- the agents have places at any time
-places_at : (g : Ground) (plan : Plan) (t : ℕ) → (next : List ℕ) × ArePlaces g plan t next
+places_at : (g : Ground) (plan : Plan) (t : ℕ) → (next : List ℕ) × StandOnPlaces g plan t next
 places_at g plan t = (map f (range_with_len 0 (length plan)), record { all = length-map-range_with_len f 0 (length plan); each = λ i l. get_or-map-range_with_len f 0 (length plan) i i 0 l (omega arith) })
   where
     f : ℕ → ℕ
     f i = cell_index g (cell_of plan i t)
 
 -- two agents in one place are the first conflict
-pub first_meets : HavePlaces → (g : Ground) (plan : Plan) → IsOnMap g plan → (t : ℕ) (places : List ℕ) → IsSweep g plan places t → (i j : ℕ) → IsFirstMeeting places i j → IsFirstConflict plan (Vertex t i j)
+pub first_meets : HavePlaces → (g : Ground) (plan : Plan) → StandOnMap g plan → (t : ℕ) (places : List ℕ) → IsSweep g plan places t → (i j : ℕ) → IsFirstMeeting places i j → IsFirstConflict plan (Vertex t i j)
 first_meets have g plan on t places s i j m =
     let next = places_at g plan (t + 1) in
     first_is have g plan on t places next.0 s.here next.1 s.earlier (Vertex t i j) (refl, m)
 
-pub sweep_begins : (g : Ground) (plan : Plan) (places : List ℕ) → ArePlaces g plan 0 places → IsSweep g plan places 0
+pub sweep_begins : (g : Ground) (plan : Plan) (places : List ℕ) → StandOnPlaces g plan 0 places → IsSweep g plan places 0
 sweep_begins g plan places h = record { here = h; earlier = λ d c. omega arith }
 
 -- what one step of the loop found
-module _ (have : HavePlaces) (g : Ground) (plan : Plan) (on : IsOnMap g plan) (t : ℕ) (places next : List ℕ) (s : IsSweep g plan places t) (then : ArePlaces g plan (t + 1) next) (found : Option Conflict) where
+module _ (have : HavePlaces) (g : Ground) (plan : Plan) (on : StandOnMap g plan) (t : ℕ) (places next : List ℕ) (s : IsSweep g plan places t) (then : StandOnPlaces g plan (t + 1) next) (found : Option Conflict) where
   pub found_first : IfSome found (IsFirstIn places next t) → IfSome found (IsFirstConflict plan)
   found_first h = go found h
     where
@@ -363,7 +363,7 @@ stays_there g plan t i l = ap (cell_index g) (at_past (path_of plan i) t l ∙ s
 pub record IsSwept (g : Ground) (plan : Plan) (table : Table ℕ) (places next : List ℕ) (ahead walks : List (Option ℕ)) (row : List ℕ) (t : ℕ) : Type 0 where
   pub sweep : IsSweep g plan places t
   pub entered : IsEntered table places
-  pub settled : (i : ℕ) → i < length next → IsSettled places next ahead walks i
+  pub settled : (i : ℕ) → i < length next → IsAgentSettled places next ahead walks i
   pub covers : Covers plan t row
 
 module _ (g : Ground) (plan : Plan) (table : Table ℕ) (places next : List ℕ) (ahead walks : List (Option ℕ)) (row : List ℕ) (t : ℕ) (s : IsSwept g plan table places next ahead walks row t) (all : length next ≡ length plan) where
@@ -386,7 +386,7 @@ module _ (g : Ground) (plan : Plan) (table : Table ℕ) (places next : List ℕ)
     | inr l ↦ get_or_past walks i None l
   ]
 
-  module _ (next' : List ℕ) (then : ArePlaces g plan (t + 1) next') where
+  module _ (next' : List ℕ) (then : StandOnPlaces g plan (t + 1) next') where
     pub others_stay : IsSoForOthers row (length places) (λ i. slice_index next' i ≡ slice_index places i)
     others_stay i l = let b : i < length plan = omega (arith, s.sweep.here.all) in elim (s.covers.others i b) [
       | inl c ↦ inl c
@@ -406,14 +406,14 @@ module _ (g : Ground) (plan : Plan) (table : Table ℕ) (places next : List ℕ)
         | inr e ↦ inr (nobody_ahead places next' ahead' are i b e)
       ]
 
-      pub others_settled : (walks' : List (Option ℕ)) → ((i : ℕ) → ahead_of ahead' i ≡ None → walk_of walks' i ≡ None) → IsSoForOthers row (length next') (IsSettled places next' ahead' walks')
+      pub others_settled : (walks' : List (Option ℕ)) → ((i : ℕ) → ahead_of ahead' i ≡ None → walk_of walks' i ≡ None) → IsSoForOthers row (length next') (IsAgentSettled places next' ahead' walks')
       others_settled walks' none i l = let b : i < length places = omega (arith, then.all, s.sweep.here.all) in elim (others_stay i b) [
         | inl c ↦ inl c
         | inr e ↦ let alone = nobody_ahead places next' ahead' are i b e in inr (record { same = e; nobody = alone; unwalked = none i alone })
       ]
 
 -- the step is done
-pub swept_on : (g : Ground) (plan : Plan) (table : Table ℕ) (places next : List ℕ) (ahead walks : List (Option ℕ)) (row : List ℕ) (t : ℕ) → IsSweep g plan next t → length places ≡ length next → IsEntered table next → ((i : ℕ) → i < length next → IsSettled places next ahead walks i) → Covers plan t row → IsSwept g plan table places next ahead walks row t
+pub swept_on : (g : Ground) (plan : Plan) (table : Table ℕ) (places next : List ℕ) (ahead walks : List (Option ℕ)) (row : List ℕ) (t : ℕ) → IsSweep g plan next t → length places ≡ length next → IsEntered table next → ((i : ℕ) → i < length next → IsAgentSettled places next ahead walks i) → Covers plan t row → IsSwept g plan table places next ahead walks row t
 swept_on g plan table places next ahead walks row t s all entered settled covers = record {
   sweep = record {
     here = record {

@@ -3,7 +3,7 @@ use Rattle.std.proofs.Common.{◌≡◌, ◌≢◌, ℕ, ◌+◌, ◌<◌, ◌�
 use Rattle.std.proofs.lemmas.Bool.{cases_eq}
 use Rattle.std.proofs.lemmas.List.{get_or-set_same, get_or-set_other, length-set}
 use Rattle.std.proofs.lemmas.List.Sums.{sum_by-set}
-use Rattle.fleet_plan.specs.Rings.{AreAgents, ahead_of, Leads, Reaches, IsOnRing, IsLeastOnRing, walk_of, IsWalked, AreClosed}
+use Rattle.fleet_plan.specs.Rings.{AreAgents, ahead_of, Leads, LeadsTo, IsOnRing, IsLeastOnRing, walk_of, IsWalked, AreClosed}
 use Rattle.fleet_plan.specs.UnderWay.{IsSoForOthers}
 use Rattle.fleet_plan.proofs.RowLaws.{IsSoBut, but_more, but_ends}
 use Rattle.fleet_plan.proofs.RingLaws.{some_is, none_is_not, ahead_within, reaches-on, reaches-next, ring-reaches}
@@ -26,7 +26,7 @@ pub record IsWalk (ahead old walks : List (Option ℕ)) (i first agent : ℕ) : 
   pub old_or_new : (k w : ℕ) → walk_of walks k ≡ Some w → (walk_of old k ≡ Some w) ⊎ (w ≡ i)
   pub kept : (k w : ℕ) → walk_of old k ≡ Some w → walk_of walks k ≡ Some w
   pub ahead_too : (k j : ℕ) → walk_of walks k ≡ Some i → ahead_of ahead k ≡ Some j → IsWalked walks j ⊎ (j ≡ agent)
-  pub leads : (k : ℕ) → walk_of walks k ≡ Some i → (j : ℕ) × (ahead_of ahead k ≡ Some j) × Reaches ahead j agent
+  pub leads : (k : ℕ) → walk_of walks k ≡ Some i → (j : ℕ) × (ahead_of ahead k ≡ Some j) × LeadsTo ahead j agent
   pub started : (agent ≡ first) ⊎ IsWalked walks first
 
 pub walk_begins : (ahead old : List (Option ℕ)) (i first : ℕ) → AreClosed ahead old i → first < length ahead → IsWalk ahead old old i first first
@@ -165,7 +165,7 @@ module _ (ahead old walks : List (Option ℕ)) (i first agent : ℕ) (w : IsWalk
     pub stop-ring : walk_of walks agent ≡ Some i → IsOnRing ahead agent
     stop-ring e = let l = w.leads agent e in record { next = l.0; ahead_is = l.1; back = l.2 }
 
-    pub stop-some : (k : ℕ) → IsWalked walks k → IsOnRing ahead k → IsWalked old k ⊎ Reaches ahead agent k
+    pub stop-some : (k : ℕ) → IsWalked walks k → IsOnRing ahead k → IsWalked old k ⊎ LeadsTo ahead agent k
     stop-some k h r = elim (w.old_or_new k h.0 h.1) [
       | inl g ↦ inl (h.0, g)
       | inr g ↦
@@ -242,7 +242,7 @@ module _ (row : List ℕ) (ahead old walks : List (Option ℕ)) (least : Option 
       go None h = λ k v r. h k (none k v r) r
       go (Some m) h = (h.0, λ k v r. h.1 k (none k v r) r)
 
-  pub walked-more_some : (agent m m' : ℕ) → IsOnRing ahead m → ((k : ℕ) → Reaches ahead agent k → m ≤ k) → m' ≤ m → IfSome least (λ b. m' ≤ b) → (m' ≡ m) ⊎ (Some m' ≡ least) → ((k : ℕ) → IsWalked walks k → IsOnRing ahead k → IsWalked old k ⊎ Reaches ahead agent k) → AreWalked row ahead walks (Some m') (i + 1)
+  pub walked-more_some : (agent m m' : ℕ) → IsOnRing ahead m → ((k : ℕ) → LeadsTo ahead agent k → m ≤ k) → m' ≤ m → IfSome least (λ b. m' ≤ b) → (m' ≡ m) ⊎ (Some m' ≡ least) → ((k : ℕ) → IsWalked walks k → IsOnRing ahead k → IsWalked old k ⊎ LeadsTo ahead agent k) → AreWalked row ahead walks (Some m') (i + 1)
   walked-more_some agent m m' ring round le below which some = record { closed = closed; walked = walked_on; least_met = go least a.least_met below which }
     where
       go : (b : Option ℕ) → IsLeastMet ahead old b → IfSome b (λ b. m' ≤ b) → (m' ≡ m) ⊎ (Some m' ≡ b) → IsLeastMet ahead walks (Some m')

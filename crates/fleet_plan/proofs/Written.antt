@@ -10,7 +10,7 @@ use Rattle.fleet_model.specs.Program.{IsCell}
 use Rattle.fleet_text.specs.Text.{Bytes, lines}
 use Rattle.fleet_text.proofs.WrittenLaws.{spells, small_is, From, apart_from, from_less, from_append, from_join, decimal_from, split_first, split_last, IsToken, tokens_from, word_some, front_join, lines_written}
 use Rattle.fleet_plan.specs.Plan.{Path, Plan, IsPath, IsWithinLimits}
-use Rattle.fleet_plan.specs.PlanText.{cell_of_parts, spelled_cell, StandsFor, ArePlanLines, cell_text, path_text, plan_text}
+use Rattle.fleet_plan.specs.PlanText.{cell_of_parts, spelled_cell, StandsForPath, ArePlanLines, cell_text, path_text, plan_text}
 
 -- ---- cells
 
@@ -44,14 +44,14 @@ cells_again : (path : Path) → AllByRecursion IsCell path → map spelled_cell 
 cells_again [] h = refl
 cells_again (c ∷ path) h = ap (λ (o : Option Cell). o ∷ map spelled_cell (map cell_text path)) (cell_again c h.0) ∙ ap (λ (os : List (Option Cell)). Some c ∷ os) (cells_again path h.1)
 
-path_again : (path : Path) → IsPath path → StandsFor (path_text path) path
+path_again : (path : Path) → IsPath path → StandsForPath (path_text path) path
 path_again path h =
     let cells = recursion_from_All IsCell path h.cells in
     let some = h.some_cells in
     let front = front_join (map cell_text path) (tokens path cells) (omega (arith, some, length-map path cell_text)) in
     record { spells = record { some = some; cells = ap (map spelled_cell) front ∙ cells_again path cells }; few = h.few_cells }
 
-paths_again : (plan : Plan) → AllByRecursion IsPath plan → AllZip StandsFor (map path_text plan) plan
+paths_again : (plan : Plan) → AllByRecursion IsPath plan → AllZip StandsForPath (map path_text plan) plan
 paths_again [] h = tt
 paths_again (path ∷ plan) h = (path_again path h.0, paths_again plan h.1)
 
@@ -63,4 +63,4 @@ pub plan_again : (plan : Plan) → IsWithinLimits plan → ArePlanLines (lines (
 plan_again plan h =
     let each = recursion_from_All IsPath plan h.paths in
     let written = lines_written (map path_text plan) (written_bytes plan each) in
-    record { agents = h.fleet; paths = subst (λ (ls : List Bytes). AllZip StandsFor ls plan) (sym written) (paths_again plan each) }
+    record { agents = h.fleet; paths = subst (λ (ls : List Bytes). AllZip StandsForPath ls plan) (sym written) (paths_again plan each) }

@@ -17,18 +17,18 @@ abbrev pub AllAgents : Plan → (ℕ → Type 0) → Type 0
 AllAgents plan IsRight = (i : ℕ) → i < length plan → IsRight i
 
 -- the least agent for which it is not so
-pub record IsFirstAgent (plan : Plan) (IsRight : ℕ → Type 0) (i : ℕ) : Type 0 where
+pub record IsFirstFaultyAgent (plan : Plan) (IsRight : ℕ → Type 0) (i : ℕ) : Type 0 where
   pub agent : i < length plan
   pub wrong : IsRight i → ⊥
   pub least : (k : ℕ) → k < i → IsRight k
 
 -- the first cell of the agent is its start
-abbrev pub StartsRight : List Task → Plan → ℕ → Type 0
-StartsRight tasks plan i = (t : Task) → slice_get tasks i ≡ Some t → cell_of plan i 0 ≡ t.start
+abbrev pub StartsOnStart : List Task → Plan → ℕ → Type 0
+StartsOnStart tasks plan i = (t : Task) → slice_get tasks i ≡ Some t → cell_of plan i 0 ≡ t.start
 
 -- the last cell of the agent is its goal
-abbrev pub EndsRight : List Task → Plan → ℕ → Type 0
-EndsRight tasks plan i = (t : Task) → slice_get tasks i ≡ Some t → last_cell plan i ≡ t.goal
+abbrev pub EndsOnGoal : List Task → Plan → ℕ → Type 0
+EndsOnGoal tasks plan i = (t : Task) → slice_get tasks i ≡ Some t → last_cell plan i ≡ t.goal
 
 -- ---- steps
 
@@ -95,13 +95,13 @@ IsKindUpTo (Cycle x a) (Swapping y k l) = ⊥
 IsKindUpTo (Cycle x a) (Cycle y b) = a ≤ b
 
 -- the conflict is the other one or comes before it: by time, then by kind, then by agents
-abbrev pub IsUpTo : Conflict → Conflict → Type 0
-IsUpTo c d = (time_of c < time_of d) ⊎ ((time_of c ≡ time_of d) × IsKindUpTo c d)
+abbrev pub IsConflictUpTo : Conflict → Conflict → Type 0
+IsConflictUpTo c d = (time_of c < time_of d) ⊎ ((time_of c ≡ time_of d) × IsKindUpTo c d)
 
 -- no conflict of the plan comes before it
 pub record IsFirstConflict (plan : Plan) (c : Conflict) : Type 0 where
   pub conflict : HasConflict plan c
-  pub first : (d : Conflict) → HasConflict plan d → IsUpTo c d
+  pub first : (d : Conflict) → HasConflict plan d → IsConflictUpTo c d
 
 -- no agents of the plan are in conflict, at any time
 abbrev pub HasNoConflict : Plan → Type 0
@@ -109,16 +109,16 @@ HasNoConflict plan = (c : Conflict) → HasConflict plan c → ⊥
 
 -- ---- faults
 
-pub record HasEnds (tasks : List Task) (plan : Plan) : Type 0 where
+pub record HasStartsAndGoals (tasks : List Task) (plan : Plan) : Type 0 where
   pub agents : length plan ≡ length tasks
-  pub starts : AllAgents plan (StartsRight tasks plan)
-  pub goals : AllAgents plan (EndsRight tasks plan)
+  pub starts : AllAgents plan (StartsOnStart tasks plan)
+  pub goals : AllAgents plan (EndsOnGoal tasks plan)
 
 -- the fault is one of the plan, and all that is judged before it is right
 abbrev pub IsFirstPlanFault : (Place → Bool) → List Task → Plan → PlanFault → Type 0
 IsFirstPlanFault passable tasks plan fault.OutOfMemory = ⊥
 IsFirstPlanFault passable tasks plan fault.Agents = length plan ≢ length tasks
-IsFirstPlanFault passable tasks plan (fault.Start i) = (length plan ≡ length tasks) × IsFirstAgent plan (StartsRight tasks plan) i
-IsFirstPlanFault passable tasks plan (fault.Goal i) = (length plan ≡ length tasks) × AllAgents plan (StartsRight tasks plan) × IsFirstAgent plan (EndsRight tasks plan) i
-IsFirstPlanFault passable tasks plan (fault.Step i t) = HasEnds tasks plan × IsFirstStep passable plan i t
-IsFirstPlanFault passable tasks plan (fault.Conflict c) = HasEnds tasks plan × AllAgents plan (GoesRight passable plan) × IsFirstConflict plan c
+IsFirstPlanFault passable tasks plan (fault.Start i) = (length plan ≡ length tasks) × IsFirstFaultyAgent plan (StartsOnStart tasks plan) i
+IsFirstPlanFault passable tasks plan (fault.Goal i) = (length plan ≡ length tasks) × AllAgents plan (StartsOnStart tasks plan) × IsFirstFaultyAgent plan (EndsOnGoal tasks plan) i
+IsFirstPlanFault passable tasks plan (fault.Step i t) = HasStartsAndGoals tasks plan × IsFirstStep passable plan i t
+IsFirstPlanFault passable tasks plan (fault.Conflict c) = HasStartsAndGoals tasks plan × AllAgents plan (GoesRight passable plan) × IsFirstConflict plan c

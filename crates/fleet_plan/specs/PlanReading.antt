@@ -9,13 +9,13 @@ use Rattle.fleet_plan.specs.declared.text_fault.TextFault.{TextFault}
 use Rattle.fleet_plan.specs.declared.text_fault.TextFault.TheVariants.{Form, Length, AgentCount}
 
 -- the cells that these words spell, where each spells one
-unfoldable pub cells_in : List Bytes → Option Path
-cells_in [] = Some []
-cells_in (word ∷ others) = option_and_then (λ cell. option_map (λ cells. cell ∷ cells) (cells_in others)) (spelled_cell word)
+unfoldable pub spelled_cells : List Bytes → Option Path
+spelled_cells [] = Some []
+spelled_cells (word ∷ others) = option_and_then (λ cell. option_map (λ cells. cell ∷ cells) (spelled_cells others)) (spelled_cell word)
 
 -- why a line with too many cells in front is no path, by what follows these
 abbrev pub too_long : ℕ → Bytes → TextFault
-too_long number rest = if is_some (cells_in (words rest)) then Length number else Form number
+too_long number rest = if is_some (spelled_cells (words rest)) then Length number else Form number
 
 -- one cell or more
 abbrev pub some_cells : Path → Option Path
@@ -25,16 +25,16 @@ some_cells (cell ∷ cells) = Some (cell ∷ cells)
 -- the path of a line
 unfoldable pub path_at : ℕ → Bytes → Result Path TextFault
 path_at number line = do
-  path ← some_or (option_and_then some_cells (cells_in (words_from_front line))) (Form number)
+  path ← some_or (option_and_then some_cells (spelled_cells (words_from_front line))) (Form number)
   right_or (nat_le (length path) (MAX_HORIZON + 1)) (Length number)
   Ok path
 
 -- the judgement at the end of the text
-abbrev pub ended : Plan → Result Plan TextFault
-ended [] = Err AgentCount
-ended (path ∷ plan) = Ok (path ∷ plan)
+abbrev pub plan_judged : Plan → Result Plan TextFault
+plan_judged [] = Err AgentCount
+plan_judged (path ∷ plan) = Ok (path ∷ plan)
 
 -- the paths of the lines, after those of the lines before
 unfoldable pub paths_at : Plan → List Bytes → Result Plan TextFault
-paths_at earlier [] = ended earlier
+paths_at earlier [] = plan_judged earlier
 paths_at earlier (line ∷ ls) = right_or (nat_lt (length earlier) MAX_AGENTS) AgentCount >> (path_at (length earlier + 1) line >>= λ path. paths_at (earlier ++ path ∷ []) ls)

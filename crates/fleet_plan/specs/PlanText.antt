@@ -24,13 +24,13 @@ unfoldable pub spelled_cell : Bytes → Option Cell
 spelled_cell word = cell_of_parts (slice_split (λ b. b == 44) word)
 
 -- one word or more, and each spells a cell of the path. No blank stands in front
-pub record Spells (line : Bytes) (path : Path) : Type 0 where
+pub record SpellsPath (line : Bytes) (path : Path) : Type 0 where
   pub some : 1 ≤ length path
   pub cells : map spelled_cell (words_from_front line) ≡ map (λ cell. Some cell) path
 
 -- the line stands for the path
-pub record StandsFor (line : Bytes) (path : Path) : Type 0 where
-  pub spells : Spells line path
+pub record StandsForPath (line : Bytes) (path : Path) : Type 0 where
+  pub spells : SpellsPath line path
   pub few : length path ≤ MAX_HORIZON + 1
 
 -- ---- a plan text
@@ -38,7 +38,7 @@ pub record StandsFor (line : Bytes) (path : Path) : Type 0 where
 -- a line for each path
 pub record ArePlanLines (ls : List Bytes) (plan : Plan) : Type 0 where
   pub agents : IsFleet plan
-  pub paths : AllZip StandsFor ls plan
+  pub paths : AllZip StandsForPath ls plan
 
 -- the text stands for the plan
 abbrev pub IsPlanText : Bytes → Plan → Type 0
@@ -47,24 +47,24 @@ IsPlanText text plan = ArePlanLines (lines text) plan
 -- ---- the first fault
 
 -- the line stands for some path
-abbrev pub IsRight : Bytes → Type 0
-IsRight line = (path : Path) × StandsFor line path
+abbrev pub IsRightLine : Bytes → Type 0
+IsRightLine line = (path : Path) × StandsForPath line path
 
 -- this is line k, counted from 0, there may be so many agents, and all lines before it are right
-pub record Reaches (ls : List Bytes) (k : ℕ) (line : Bytes) : Type 0 where
+pub record ReachesPlanLine (ls : List Bytes) (k : ℕ) (line : Bytes) : Type 0 where
   pub few : k < MAX_AGENTS
-  pub before : All IsRight (take k ls)
+  pub before : All IsRightLine (take k ls)
   pub here : slice_get ls k ≡ Some line
 
 -- the fault is there, and all that is judged before it is right. The lines that are reported count from 1
-abbrev pub IsFirstFault : List Bytes → TextFault → Type 0
-IsFirstFault ls OutOfMemory = ⊥
-IsFirstFault ls (Form number) = (k : ℕ) × (line : Bytes) × (number ≡ k + 1) × Reaches ls k line × ((path : Path) → Spells line path → ⊥)
-IsFirstFault ls (Length number) = (k : ℕ) × (line : Bytes) × (number ≡ k + 1) × Reaches ls k line × (path : Path) × Spells line path × (MAX_HORIZON + 1 < length path)
-IsFirstFault ls AgentCount = (ls ≡ []) ⊎ ((MAX_AGENTS < length ls) × All IsRight (take MAX_AGENTS ls))
+abbrev pub IsFirstPlanLineFault : List Bytes → TextFault → Type 0
+IsFirstPlanLineFault ls OutOfMemory = ⊥
+IsFirstPlanLineFault ls (Form number) = (k : ℕ) × (line : Bytes) × (number ≡ k + 1) × ReachesPlanLine ls k line × ((path : Path) → SpellsPath line path → ⊥)
+IsFirstPlanLineFault ls (Length number) = (k : ℕ) × (line : Bytes) × (number ≡ k + 1) × ReachesPlanLine ls k line × (path : Path) × SpellsPath line path × (MAX_HORIZON + 1 < length path)
+IsFirstPlanLineFault ls AgentCount = (ls ≡ []) ⊎ ((MAX_AGENTS < length ls) × All IsRightLine (take MAX_AGENTS ls))
 
 abbrev pub IsFirstTextFault : Bytes → TextFault → Type 0
-IsFirstTextFault text fault = IsFirstFault (lines text) fault
+IsFirstTextFault text fault = IsFirstPlanLineFault (lines text) fault
 
 -- ---- what is written
 

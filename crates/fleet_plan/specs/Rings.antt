@@ -15,14 +15,14 @@ Leads ahead i [] e = i ≡ e
 Leads ahead i (j ∷ js) e = (ahead_of ahead i ≡ Some j) × Leads ahead j js e
 
 -- the agents ahead of agent i, one after another, lead to agent e
-abbrev pub Reaches : List (Option ℕ) → ℕ → ℕ → Type 0
-Reaches ahead i e = (js : List ℕ) × Leads ahead i js e
+abbrev pub LeadsTo : List (Option ℕ) → ℕ → ℕ → Type 0
+LeadsTo ahead i e = (js : List ℕ) × Leads ahead i js e
 
 -- the agents ahead of agent i lead back to it
 pub record IsOnRing (ahead : List (Option ℕ)) (i : ℕ) : Type 0 where
   pub next : ℕ
   pub ahead_is : ahead_of ahead i ≡ Some next
-  pub back : Reaches ahead next i
+  pub back : LeadsTo ahead next i
 
 -- the least agent on a ring
 pub record IsLeastOnRing (ahead : List (Option ℕ)) (i : ℕ) : Type 0 where

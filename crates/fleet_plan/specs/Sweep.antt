@@ -11,19 +11,19 @@ use Rattle.fleet_plan.specs.UnderWay.{IsSoForOthers}
 use Rattle.fleet_plan.specs.Rings.{ahead_of, walk_of, IsOnRing, IsLeastOnRing}
 
 -- every agent stands on a cell of the map, at every time
-abbrev pub IsOnMap : Ground → Plan → Type 0
-IsOnMap g plan = (i t : ℕ) → i < length plan → ((cell_of plan i t).x < g.width) × ((cell_of plan i t).y < g.height)
+abbrev pub StandOnMap : Ground → Plan → Type 0
+StandOnMap g plan = (i t : ℕ) → i < length plan → ((cell_of plan i t).x < g.width) × ((cell_of plan i t).y < g.height)
 
 -- the agent stands in its place at time t
-abbrev pub StandsAt : Ground → Plan → ℕ → List ℕ → ℕ → Type 0
-StandsAt g plan t places i = slice_index places i ≡ cell_index g (cell_of plan i t)
+abbrev pub StandsInPlace : Ground → Plan → ℕ → List ℕ → ℕ → Type 0
+StandsInPlace g plan t places i = slice_index places i ≡ cell_index g (cell_of plan i t)
 
 -- those that stand nowhere in the row do
 abbrev pub OthersStandAt : Ground → Plan → ℕ → List ℕ → List ℕ → Type 0
-OthersStandAt g plan t row places = IsSoForOthers row (length plan) (StandsAt g plan t places)
+OthersStandAt g plan t row places = IsSoForOthers row (length plan) (StandsInPlace g plan t places)
 
 -- the agents stand in these places at time t
-pub record ArePlaces (g : Ground) (plan : Plan) (t : ℕ) (places : List ℕ) : Type 0 where
+pub record StandOnPlaces (g : Ground) (plan : Plan) (t : ℕ) (places : List ℕ) : Type 0 where
   pub all : length places ≡ length plan
   pub each : (i : ℕ) → i < length plan → slice_index places i ≡ cell_index g (cell_of plan i t)
 
@@ -50,8 +50,8 @@ abbrev pub Stays : List ℕ → List ℕ → ℕ → Type 0
 Stays places next i = slice_index next i ≡ slice_index places i
 
 -- nobody is ahead of the agent
-abbrev pub IsFree : List (Option ℕ) → ℕ → Type 0
-IsFree ahead i = ahead_of ahead i ≡ None
+abbrev pub IsUnblocked : List (Option ℕ) → ℕ → Type 0
+IsUnblocked ahead i = ahead_of ahead i ≡ None
 
 -- who is ahead of the agent: who stands in the place to which it goes, where it goes to another one
 abbrev pub IsAhead : List ℕ → List ℕ → ℕ → Option ℕ → Type 0
@@ -109,15 +109,15 @@ pub record IsFreeAhead (ahead : List (Option ℕ)) : Type 0 where
   pub no_ring : (i : ℕ) → IsOnRing ahead i → ⊥
 
 -- the agent is where it goes, nobody is ahead of it, and no walk has met it
-pub record IsSettled (places next : List ℕ) (ahead walks : List (Option ℕ)) (i : ℕ) : Type 0 where
+pub record IsAgentSettled (places next : List ℕ) (ahead walks : List (Option ℕ)) (i : ℕ) : Type 0 where
   pub same : slice_index next i ≡ slice_index places i
   pub nobody : ahead_of ahead i ≡ None
   pub unwalked : walk_of walks i ≡ None
 
 -- all agents are settled
 abbrev pub AreSettled : List ℕ → List ℕ → List (Option ℕ) → List (Option ℕ) → Type 0
-AreSettled places next ahead walks = (i : ℕ) → i < length next → IsSettled places next ahead walks i
+AreSettled places next ahead walks = (i : ℕ) → i < length next → IsAgentSettled places next ahead walks i
 
 -- those that stand nowhere in the row are
 abbrev pub AreOthersSettled : List ℕ → List ℕ → List ℕ → List (Option ℕ) → List (Option ℕ) → Type 0
-AreOthersSettled row places next ahead walks = IsSoForOthers row (length next) (IsSettled places next ahead walks)
+AreOthersSettled row places next ahead walks = IsSoForOthers row (length next) (IsAgentSettled places next ahead walks)

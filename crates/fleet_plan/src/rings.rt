@@ -2,9 +2,9 @@
 
 ghost use Rattle.std.specs.Prelude.{◌≡◌, ℕ, ◌+◌, ◌<◌, ◌≤◌, ◌⊎◌, All, length, IfSome, IfNone, Some, None};
 ghost use Rattle.fleet_model.specs.declared.limits.TheConstants.{MAX_AGENTS};
-ghost use Rattle.fleet_plan.specs.Rings.{AreAgents, ahead_of, walk_of, IsOnRing, IsLeastOnRing, Reaches, IsWalked, AreClosed};
+ghost use Rattle.fleet_plan.specs.Rings.{AreAgents, ahead_of, walk_of, IsOnRing, IsLeastOnRing, LeadsTo, IsWalked, AreClosed};
 ghost use Rattle.fleet_plan.specs.UnderWay.{IsSoForOthers};
-ghost use Rattle.fleet_plan.specs.Sweep.{IsFree};
+ghost use Rattle.fleet_plan.specs.Sweep.{IsUnblocked};
 
 /// The least agent that is on a ring, where each agent has at most one that is ahead of it, and nobody is ahead of those
 /// that are not in the row. `walks` is for own use: an agent that nobody is ahead of is not noted there.
@@ -16,7 +16,7 @@ pub(crate) fn least_on_ring(
     requires agents { AreAgents ahead.now }
     requires row { All (λ i. i < length ahead.now) row.now }
     requires few { length row.now ≤ MAX_AGENTS }
-    requires others { IsSoForOthers row.now (length ahead.now) (IsFree ahead.now) }
+    requires others { IsSoForOthers row.now (length ahead.now) (IsUnblocked ahead.now) }
     requires walks { length walks.old ≡ length ahead.now }
     requires unwalked { (i : ℕ) → walk_of walks.old i ≡ None }
     ensures some { IfSome result (IsLeastOnRing ahead.now) }
@@ -54,7 +54,7 @@ fn walk(ahead: &[Option<u16>], walks: &mut [Option<u16>], number: u16, first: u1
     ensures closed { AreClosed ahead.now walks.new (number + 1) }
     ensures walked { IsWalked walks.new first ⊎ (ahead_of ahead.now first ≡ None) }
     ensures kept { (k : ℕ) → IsWalked walks.old k → IsWalked walks.new k }
-    ensures some { IfSome result (λ agent. IsOnRing ahead.now agent × ((k : ℕ) → IsWalked walks.new k → IsOnRing ahead.now k → IsWalked walks.old k ⊎ Reaches ahead.now agent k)) }
+    ensures some { IfSome result (λ agent. IsOnRing ahead.now agent × ((k : ℕ) → IsWalked walks.new k → IsOnRing ahead.now k → IsWalked walks.old k ⊎ LeadsTo ahead.now agent k)) }
     ensures none { IfNone result ((k : ℕ) → IsWalked walks.new k → IsOnRing ahead.now k → IsWalked walks.old k) }
 {
     let mut agent = first;
@@ -73,7 +73,7 @@ fn least_around(ahead: &[Option<u16>], first: u16) -> u16
     requires agents { AreAgents ahead.now }
     requires ring { IsOnRing ahead.now first }
     ensures ring { IsOnRing ahead.now result }
-    ensures least { (j : ℕ) → Reaches ahead.now first j → result ≤ j }
+    ensures least { (j : ℕ) → LeadsTo ahead.now first j → result ≤ j }
 {
     let mut least = first;
     let mut agent = first;

@@ -6,7 +6,7 @@ ghost use Rattle.fleet_grid.specs.Ground.{is_passable};
 ghost use Rattle.fleet_model.specs.declared.limits.TheConstants.{MAX_AGENTS};
 ghost use Rattle.fleet_plan.specs.FirstFault.{AllAgents, GoesRight, IsFirstConflict, HasNoConflict};
 ghost use Rattle.fleet_plan.specs.Rings.{AreAgents, ahead_of, walk_of};
-ghost use Rattle.fleet_plan.specs.Sweep.{IsOnMap, ArePlaces, IsFirstMeeting, IsEntered, IsAhead, AreAhead, Exchange, IsFirstExchange, HasNone, IsFirstAhead, IsFreeAhead, OthersStandAt, HasIn, Stays, IsFree, AreSettled, AreOthersSettled};
+ghost use Rattle.fleet_plan.specs.Sweep.{StandOnMap, StandOnPlaces, IsFirstMeeting, IsEntered, IsAhead, AreAhead, Exchange, IsFirstExchange, HasNone, IsFirstAhead, IsFreeAhead, OthersStandAt, HasIn, Stays, IsUnblocked, AreSettled, AreOthersSettled};
 ghost use Rattle.fleet_plan.specs.UnderWay.{IsSoForOthers, is_under_way, Covers};
 
 use crate::plan::Plan;
@@ -18,9 +18,9 @@ use std::alloc::{AllocError, Global};
 
 /// The places in a table of the map's cells on which the agents stand at `time`.
 fn fill_places(plan: &Plan, grid: &Grid, time: u32, places: &mut [usize])
-    requires on_map { IsOnMap grid.now plan.now }
+    requires on_map { StandOnMap grid.now plan.now }
     requires agents { length places.old ≡ length plan.now }
-    ensures { ArePlaces grid.now plan.now time places.new }
+    ensures { StandOnPlaces grid.now plan.now time places.new }
 {
     for i in 0..plan.agents() {
         places[usize::from(i)] = grid.cell_index(plan.cell(i, time));
@@ -29,11 +29,11 @@ fn fill_places(plan: &Plan, grid: &Grid, time: u32, places: &mut [usize])
 
 /// The same for the agents of the row alone, where all others stay.
 fn fill_next(plan: &Plan, grid: &Grid, time: u32, agents: &[u16], next: &mut [usize])
-    requires on_map { IsOnMap grid.now plan.now }
+    requires on_map { StandOnMap grid.now plan.now }
     requires agents { All (λ i. i < length plan.now) agents.now }
     requires all { length next.old ≡ length plan.now }
     requires others { OthersStandAt grid.now plan.now time agents.now next.old }
-    ensures { ArePlaces grid.now plan.now time next.new }
+    ensures { StandOnPlaces grid.now plan.now time next.new }
 {
     for &i in agents {
         next[usize::from(i)] = grid.cell_index(plan.cell(i, time));
@@ -169,7 +169,7 @@ fn conflict_in(
     requires apart { IsTrue apart → HasNone (Exchange ahead.now) }
     requires agents { All (λ i. i < length ahead.now) agents.now }
     requires few_agents { length agents.now ≤ MAX_AGENTS }
-    requires others { IsSoForOthers agents.now (length ahead.now) (IsFree ahead.now) }
+    requires others { IsSoForOthers agents.now (length ahead.now) (IsUnblocked ahead.now) }
     requires walks { length walks.old ≡ length ahead.now }
     requires unwalked { (i : ℕ) → walk_of walks.old i ≡ None }
     ensures some { IfSome result (IsFirstAhead ahead.now time) }
@@ -274,7 +274,7 @@ fn sweep(
     walks: &mut [Option<u16>],
     agents: &mut Vec<u16>,
 ) -> Result<Option<Conflict>, AllocError>
-    requires on_map { IsOnMap grid.now plan.now }
+    requires on_map { StandOnMap grid.now plan.now }
     requires places { length places.old ≡ length plan.now }
     requires next { length next.old ≡ length plan.now }
     requires ahead { length ahead.old ≡ length plan.now }

@@ -19,7 +19,7 @@ use Rattle.fleet_run.specs.declared.trace.Report.{Report}
 use Rattle.fleet_text.specs.Sink.{SinkState, HasFailed, TakesAll}
 use Rattle.fleet_run.specs.Source.{SourceState}
 use Rattle.fleet_run.specs.Text.{line_of, lines_below, trace_closing}
-use Rattle.fleet_run.specs.Outcome.{NeedsTicks, RunsLines, StopsAtSource, end_of}
+use Rattle.fleet_run.specs.Outcome.{NeedsTicks, RunsLines, StopsAtSource, run_end}
 use Rattle.fleet_run.specs.Drive.{Drives, IsInTime, trace_from}
 use Rattle.fleet_model.proofs.Tick.{length-tick, length-run, standing_at_tick}
 use Rattle.fleet_run.proofs.Rehearsed.{within_closing}
@@ -62,7 +62,7 @@ drives_so p chain s s' o o' c HoldLimit h =
     (h.0, h.1, record { limit = stop.limit; needed = needed_to_finish p s.ticks (h.0 + 1) stop.needed; more = stop.more; asked = stop.asked; taken = stop.taken; working = stop.working })
 
 -- a run of an accepted program that has ended is finished
-pub finished_at_end : (p : Program) (c : Configuration) (end : End) → is_stuck p c ≡ false → end_of p c ≡ Some end → is_finished p c ≡ true
+pub finished_at_end : (p : Program) (c : Configuration) (end : End) → is_stuck p c ≡ false → run_end p c ≡ Some end → is_finished p c ≡ true
 finished_at_end p c end never e = cases (is_finished p c) (is_stuck p c) never e
   where
     cases : (finished stuck : Bool) → stuck ≡ false → cond finished (Some Finished) (cond stuck (Some Stuck) None) ≡ Some end → finished ≡ true

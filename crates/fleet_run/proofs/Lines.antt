@@ -14,7 +14,7 @@ use Rattle.fleet_model.proofs.Tick.{length-tick, standing_at_tick}
 use Rattle.fleet_machine.specs.Machine.{MachineState, flag_of, moving_flags}
 use Rattle.fleet_machine.specs.AgentSet.{AreNoneFrom, IsNextFrom}
 use Rattle.fleet_run.specs.Text.{place_text}
-use Rattle.fleet_run.specs.Line.{places_text, IsKept, IsWrittenOver, WritesOver, IsKeptBefore}
+use Rattle.fleet_run.specs.Line.{places_text, IsLineKept, IsWrittenOver, WritesOver, IsKeptBefore}
 
 -- what was written before a place leaves what is behind it
 drop_behind : (row row' text : List ℕ) (at m : ℕ) → drop at row' ≡ text ++ drop (at + length text) row
@@ -93,7 +93,7 @@ suc_is : (k : ℕ) → k + 1 ≡ suc k
 suc_is k = omega arith
 
 -- how far the next place is
-pub next_begin : (c : Configuration) (row begins : List ℕ) (k : ℕ) (d : Standing) → IsKept c row begins → k < length c
+pub next_begin : (c : Configuration) (row begins : List ℕ) (k : ℕ) (d : Standing) → IsLineKept c row begins → k < length c
     → (get_or begins (k + 1) 0 ≡ get_or begins k 0 + length (place_text (get_or c k d).place)) × (drop (get_or begins k 0) row ≡ place_text (get_or c k d).place ++ drop (get_or begins (k + 1) 0) row)
 next_begin c row begins k d kept agent =
     let text = place_text (get_or c k d).place in
@@ -105,7 +105,7 @@ next_begin c row begins k d kept agent =
     (written_length row row text (get_or begins k 0) (get_or begins (k + 1) 0) e refl (omega (arith, kept.room, kept.within k (omega arith))) (omega (arith, kept.room, kept.within (k + 1) (omega arith))), e)
 
 -- places behind one another begin one after the other
-pub begins_rise : (c : Configuration) (row begins : List ℕ) (d : Standing) → IsKept c row begins → (k m : ℕ) → k + m ≤ length c → get_or begins k 0 ≤ get_or begins (k + m) 0
+pub begins_rise : (c : Configuration) (row begins : List ℕ) (d : Standing) → IsLineKept c row begins → (k m : ℕ) → k + m ≤ length c → get_or begins k 0 ≤ get_or begins (k + m) 0
 begins_rise c row begins d kept k zero h = let e : k + zero ≡ k = omega arith in rw e (omega arith)
 begins_rise c row begins d kept k (suc m) h =
     let e : k + suc m ≡ k + m + 1 = omega arith in
@@ -113,7 +113,7 @@ begins_rise c row begins d kept k (suc m) h =
     rw e (omega (arith, next, begins_rise c row begins d kept k m (omega arith)))
 
 -- A row in which a place was written over one that has as many bytes.
-module _ (c : Configuration) (row row' begins : List ℕ) (i : ℕ) (s : Standing) (kept : IsKept c row begins) (agent : i < length c)
+module _ (c : Configuration) (row row' begins : List ℕ) (i : ℕ) (s : Standing) (kept : IsLineKept c row begins) (agent : i < length c)
     (over : IsWrittenOver s.place (get_or begins i 0) (get_or begins (i + 1) 0) row row') where
   abbrev at : ℕ
   at = get_or begins i 0
@@ -178,8 +178,8 @@ module _ (c : Configuration) (row row' begins : List ℕ) (i : ℕ) (s : Standin
   ]
 
 -- What is kept of a configuration in which one place was written over.
-pub overwritten : (c : Configuration) (row row' begins : List ℕ) (i : ℕ) (s : Standing) → IsKept c row begins → i < length c
-    → IsWrittenOver s.place (get_or begins i 0) (get_or begins (i + 1) 0) row row' → IsKept (set c i s) row' begins
+pub overwritten : (c : Configuration) (row row' begins : List ℕ) (i : ℕ) (s : Standing) → IsLineKept c row begins → i < length c
+    → IsWrittenOver s.place (get_or begins i 0) (get_or begins (i + 1) 0) row row' → IsLineKept (set c i s) row' begins
 overwritten c row row' begins i s kept agent over =
     let same_length = length-set c i s in
     record {
@@ -198,7 +198,7 @@ overwritten c row row' begins i s kept agent over =
 -- The row after a tick, with the places of the moved agents below one.
 pub record IsRewritten (m : MachineState) (from : ℕ) (row begins : List ℕ) : Type 0 where
   pub now : Configuration
-  pub kept : IsKept now row begins
+  pub kept : IsLineKept now row begins
   pub agents : length now ≡ length m.configuration
   pub same : (i : ℕ) → (from ≤ i → flag_of m.moving i ≡ false) → standing_at now i ≡ standing_at m.configuration i
 
@@ -220,10 +220,10 @@ rewritten_next m from i row row' begins h next agent over =
       ];
     }
 
-pub rewritten_all : (m : MachineState) (from : ℕ) (row begins : List ℕ) → IsRewritten m from row begins → AreNoneFrom m.moving from → IsKept m.configuration row begins
+pub rewritten_all : (m : MachineState) (from : ℕ) (row begins : List ℕ) → IsRewritten m from row begins → AreNoneFrom m.moving from → IsLineKept m.configuration row begins
 rewritten_all m from row begins h none =
     let all : h.now ≡ m.configuration = ext_get_or _ h.now m.configuration h.agents (λ i l. h.same i (none i)) in
-    subst (λ c. IsKept c row begins) all h.kept
+    subst (λ c. IsLineKept c row begins) all h.kept
 
 pub really_over : (b : Bool) (q : Place) (at end : ℕ) (row row' : List ℕ) → WritesOver b q at end row row' → b ≡ true → IsWrittenOver q at end row row'
 really_over true q at end row row' h e = h
@@ -237,8 +237,8 @@ pub inside : (m : MachineState) (from i : ℕ) (row begins : List ℕ) → IsRew
 inside m from i row begins h agent = omega (arith, h.kept.within (i + 1) (omega (arith, h.agents)))
 
 -- the time is written before the places
-pub timed : (c : Configuration) (row row' begins digits : List ℕ) (at : ℕ) → IsKept c row begins → drop at row' ≡ digits ++ (58 ∷ drop (get_or begins 0 0) row)
-    → length row' ≡ length row → at ≤ get_or begins 0 0 → IsKept c row' begins
+pub timed : (c : Configuration) (row row' begins digits : List ℕ) (at : ℕ) → IsLineKept c row begins → drop at row' ≡ digits ++ (58 ∷ drop (get_or begins 0 0) row)
+    → length row' ≡ length row → at ≤ get_or begins 0 0 → IsLineKept c row' begins
 timed c row row' begins digits at kept e same low = record {
   agents = kept.agents;
   room = same ∙ kept.room;
@@ -260,7 +260,7 @@ unmoved p held c i agents still = elim (before_or_not i (length p)) [
   | inr past ↦ get_or_past c i _ (omega (arith, agents)) ∙ sym (get_or_past (tick p held c) i _ (omega (arith, length-tick p held c)))
 ]
 
-pub kept_before : (p : Program) (held : ℕ → Bool) (c : Configuration) (m : MachineState) (row begins : List ℕ) → length c ≡ length p → IsKept c row begins
+pub kept_before : (p : Program) (held : ℕ → Bool) (c : Configuration) (m : MachineState) (row begins : List ℕ) → length c ≡ length p → IsLineKept c row begins
     → m.configuration ≡ tick p held c → m.moving ≡ moving_flags p held c → IsKeptBefore m row begins
 kept_before p held c m row begins agents kept after moving = record {
   before = c;

@@ -10,7 +10,7 @@ use Rattle.fleet_run.specs.declared.trace.Report.{Report}
 use Rattle.fleet_run.specs.Text.{line_of, trace_closing, trace_text}
 use Rattle.fleet_text.specs.Sink.{SinkState, IsWorking}
 use Rattle.fleet_run.specs.Source.{SourceState}
-use Rattle.fleet_run.specs.Outcome.{IsAskedFor, StopsAtSource, StopsAtSink, StopsAtLimit}
+use Rattle.fleet_run.specs.Outcome.{IsAskedFor, StopsAtSource, StopsAtSink, StopsAtTickLimit}
 
 -- the whole trace text was written, and the report has its numbers
 pub record IsDriven (p : Program) (chain : ℕ) (source source' : SourceState) (out out' : SinkState) (r : Report) : Type 0 where
@@ -34,7 +34,7 @@ Drives p chain s s' o o' c (Err OutOfMemory) = ⊥
 Drives p chain s s' o o' c (Err (Source n)) = (t : ℕ) × (n ≡ t + 1) × (c ≡ run p s.ticks t) × StopsAtSource is_finished p s s' o o' Broken t
 Drives p chain s s' o o' c (Err (Hold n)) = (t : ℕ) × (n ≡ t + 1) × (c ≡ run p s.ticks t) × StopsAtSource is_finished p s s' o o' Text t
 Drives p chain s s' o o' c (Err Write) = (t : ℕ) × (c ≡ run p s.ticks t) × StopsAtSink is_finished p s s' o o' (trace_from p chain s.ticks t) t
-Drives p chain s s' o o' c (Err HoldLimit) = (t : ℕ) × (c ≡ run p s.ticks t) × StopsAtLimit is_finished p s s' o o' t
+Drives p chain s s' o o' c (Err HoldLimit) = (t : ℕ) × (c ≡ run p s.ticks t) × StopsAtTickLimit is_finished p s s' o o' t
 
 -- the report's ticks are at least the longest chain, and at most that and the ticks in which a ready agent was held
 pub record IsInTime (r : Report) : Type 0 where

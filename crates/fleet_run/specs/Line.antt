@@ -11,7 +11,7 @@ abbrev pub places_text : Configuration → List ℕ
 places_text c = flat_map (λ s. place_text s.place) c ++ codes "\n"
 
 -- The row ends with the places of the configuration: that of agent k begins where `begins` says, and after the last one is the line's end.
-pub record IsKept (c : Configuration) (row begins : List ℕ) : Type 0 where
+pub record IsLineKept (c : Configuration) (row begins : List ℕ) : Type 0 where
   pub agents : length c ≤ 1024
   pub room : length row ≡ 24588
   pub begun : length begins ≡ 1025
@@ -33,6 +33,6 @@ WritesOver false q at end row row' = row' ≡ row
 -- the row has the places from before a tick: those that the machine's last tick did not move stand there still
 pub record IsKeptBefore (m : MachineState) (row begins : List ℕ) : Type 0 where
   pub before : Configuration
-  pub kept : IsKept before row begins
+  pub kept : IsLineKept before row begins
   pub agents : length before ≡ length m.configuration
   pub same : (i : ℕ) → flag_of m.moving i ≡ false → standing_at before i ≡ standing_at m.configuration i

@@ -16,8 +16,8 @@ use Rattle.fleet_text.specs.Sink.{SinkState, IsWorking, HasFailed}
 use Rattle.fleet_run.specs.Source.{SourceState, HasNotFailed}
 
 -- how the run has ended at this configuration, if it has
-abbrev pub end_of : Program → Configuration → Option End
-end_of p c = if is_finished p c then Some Finished else (if is_stuck p c then Some Stuck else None)
+abbrev pub run_end : Program → Configuration → Option End
+run_end p c = if is_finished p c then Some Finished else (if is_stuck p c then Some Stuck else None)
 
 -- what is answered if the source fails so when it is asked for this tick
 abbrev pub fault_of : SourceFault → ℕ → RunFault
@@ -43,7 +43,7 @@ pub record IsAskedFor (t : ℕ) (source source' : SourceState) : Type 0 where
 -- the run came to its end: the source was asked for each of its ticks, and the sink has all lines
 pub record RunsToEnd (p : Program) (source source' : SourceState) (out out' : SinkState) (r : Ran) : Type 0 where
   pub needed : NeedsTicks is_over p source.ticks r.ticks
-  pub end : end_of p (run p source.ticks r.ticks) ≡ Some r.end
+  pub end : run_end p (run p source.ticks r.ticks) ≡ Some r.end
   pub held : r.held ≡ held_ticks p source.ticks r.ticks
   pub asked : IsAskedFor r.ticks source source'
   pub taken : Appends out.taken out'.taken (lines_below p source.ticks (r.ticks + 1))
@@ -68,7 +68,7 @@ pub record StopsAtSink (over : EndTest) (p : Program) (source source' : SourceSt
   pub failed : HasFailed out'
 
 -- the source gave one more tick than a run takes
-pub record StopsAtLimit (over : EndTest) (p : Program) (source source' : SourceState) (out out' : SinkState) (t : ℕ) : Type 0 where
+pub record StopsAtTickLimit (over : EndTest) (p : Program) (source source' : SourceState) (out out' : SinkState) (t : ℕ) : Type 0 where
   pub limit : t ≡ MOST_TICKS
   pub needed : NeedsTicks over p source.ticks (t + 1)
   pub more : t < length source.ticks
@@ -83,4 +83,4 @@ RunsLines p s s' o o' c (Err OutOfMemory) = ⊥
 RunsLines p s s' o o' c (Err (Source n)) = (t : ℕ) × (n ≡ t + 1) × (c ≡ run p s.ticks t) × StopsAtSource is_over p s s' o o' Broken t
 RunsLines p s s' o o' c (Err (Hold n)) = (t : ℕ) × (n ≡ t + 1) × (c ≡ run p s.ticks t) × StopsAtSource is_over p s s' o o' Text t
 RunsLines p s s' o o' c (Err Write) = (t : ℕ) × (c ≡ run p s.ticks t) × StopsAtSink is_over p s s' o o' (line_of t (run p s.ticks t)) t
-RunsLines p s s' o o' c (Err HoldLimit) = (t : ℕ) × (c ≡ run p s.ticks t) × StopsAtLimit is_over p s s' o o' t
+RunsLines p s s' o o' c (Err HoldLimit) = (t : ℕ) × (c ≡ run p s.ticks t) × StopsAtTickLimit is_over p s s' o o' t

@@ -10,7 +10,7 @@ use Rattle.fleet_run.specs.declared.report.Rehearsal.{Rehearsal}
 use Rattle.fleet_run.specs.Text.{line_of, rehearsal_closing, rehearsal_text}
 use Rattle.fleet_text.specs.Sink.{SinkState, IsWorking}
 use Rattle.fleet_run.specs.Source.{SourceState}
-use Rattle.fleet_run.specs.Outcome.{IsAskedFor, end_of, StopsAtSource, StopsAtSink, StopsAtLimit}
+use Rattle.fleet_run.specs.Outcome.{IsAskedFor, run_end, StopsAtSource, StopsAtSink, StopsAtTickLimit}
 
 -- the whole rehearsal text was written, and the answer has its numbers and its last word
 pub record IsRehearsed (p : Program) (source source' : SourceState) (out out' : SinkState) (r : Rehearsal) : Type 0 where
@@ -20,7 +20,7 @@ pub record IsRehearsed (p : Program) (source source' : SourceState) (out out' : 
   pub asked : IsAskedFor r.ticks source source'
   pub agents : r.agents ≡ length p
   pub held : r.held ≡ held_ticks p source.ticks r.ticks
-  pub end : end_of p (run p source.ticks r.ticks) ≡ Some r.end
+  pub end : run_end p (run p source.ticks r.ticks) ≡ Some r.end
 
 -- nothing was asked, and nothing was written
 pub record IsUntouched (source source' : SourceState) (out out' : SinkState) : Type 0 where
@@ -38,4 +38,4 @@ Rehearses p s s' o o' (Err OutOfMemory) = IsUntouched s s' o o'
 Rehearses p s s' o o' (Err (Source n)) = (t : ℕ) × (n ≡ t + 1) × StopsAtSource is_over p s s' o o' Broken t
 Rehearses p s s' o o' (Err (Hold n)) = (t : ℕ) × (n ≡ t + 1) × StopsAtSource is_over p s s' o o' Text t
 Rehearses p s s' o o' (Err Write) = (t : ℕ) × StopsAtSink is_over p s s' o o' (text_from p s.ticks t) t
-Rehearses p s s' o o' (Err HoldLimit) = (t : ℕ) × StopsAtLimit is_over p s s' o o' t
+Rehearses p s s' o o' (Err HoldLimit) = (t : ℕ) × StopsAtTickLimit is_over p s s' o o' t

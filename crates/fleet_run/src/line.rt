@@ -2,7 +2,7 @@
 
 ghost use Rattle.std.specs.Prelude.{◌≡◌, ◌+◌, ◌<◌, ◌≤◌, ◌++◌, ◌∷◌, length, drop, get_or};
 ghost use Rattle.std.specs.Fmt.{decimal};
-ghost use Rattle.fleet_run.specs.Line.{IsKept, IsKeptBefore, WritesOver};
+ghost use Rattle.fleet_run.specs.Line.{IsLineKept, IsKeptBefore, WritesOver};
 
 use crate::text::{LINE, PLACE, write_count, write_place};
 use fleet_machine::Machine;
@@ -14,7 +14,7 @@ pub fn write_places(rows: &[Standing], row: &mut [u8], begins: &mut [usize])
     requires agents { length rows.now ≤ MAX_AGENTS }
     requires room { length row.old ≡ LINE }
     requires begins { length begins.old ≡ MAX_AGENTS + 1 }
-    ensures { IsKept rows.now row.new begins.new }
+    ensures { IsLineKept rows.now row.new begins.new }
 {
     let mut at = write_byte(b'\n', row, LINE);
     begins[rows.len()] = at;
@@ -62,7 +62,7 @@ pub fn write_moved(machine: &Machine, row: &mut [u8], begins: &mut [usize])
     requires agents { length machine.now.configuration ≤ MAX_AGENTS }
     requires before { IsKeptBefore machine.now row.old begins.old }
     requires moved { length machine.now.moving ≡ length machine.now.configuration }
-    ensures { IsKept machine.now.configuration row.new begins.new }
+    ensures { IsLineKept machine.now.configuration row.new begins.new }
 {
     let rows = machine.agents();
     let mut from = 0;

@@ -4,10 +4,10 @@ ghost use Rattle.std.specs.Prelude.{◌≡◌, ◌≤◌};
 ghost use Rattle.fleet_model.specs.Machine.{Configuration, opening};
 ghost use Rattle.fleet_machine.specs.Machine.{Runs};
 ghost use Rattle.fleet_run.specs.Text.{line_of};
-ghost use Rattle.fleet_run.specs.Line.{IsKept};
+ghost use Rattle.fleet_run.specs.Line.{IsLineKept};
 ghost use Rattle.fleet_text.specs.Sink.{IsWorking, TakesAll};
 ghost use Rattle.fleet_run.specs.Source.{HasNotFailed};
-ghost use Rattle.fleet_run.specs.Outcome.{end_of, fault_of, RunsLines};
+ghost use Rattle.fleet_run.specs.Outcome.{run_end, fault_of, RunsLines};
 
 use crate::line::{write_moved, write_places, write_time};
 use crate::source::{HoldSource, SourceFault, ask};
@@ -76,7 +76,7 @@ pub struct Ran {
 #[tactic(auto, using(crate::proofs::Ending::goes_on, crate::proofs::Ending::is_stuck_if))]
 fn end_at<P: ProgramView>(program: &P, machine: &Machine) -> Option<End>
     requires runs { Runs (P.program program.now) machine.now }
-    ensures { result ≡ end_of (P.program program.now) machine.now.configuration }
+    ensures { result ≡ run_end (P.program program.now) machine.now.configuration }
 {
     if machine.is_finished(program) {
         return Some(End::Finished);
@@ -95,9 +95,9 @@ fn put_line<O: TraceOut>(
     begins: &[usize],
 ) -> Result<(), OutFault>
     requires working { IsWorking (O.state out.old) }
-    requires kept { (c : Configuration) × IsKept c row.old begins.now }
-    ensures kept { (c : Configuration) → IsKept c row.old begins.now → IsKept c row.new begins.now }
-    ensures taken { (c : Configuration) → IsKept c row.old begins.now
+    requires kept { (c : Configuration) × IsLineKept c row.old begins.now }
+    ensures kept { (c : Configuration) → IsLineKept c row.old begins.now → IsLineKept c row.new begins.now }
+    ensures taken { (c : Configuration) → IsLineKept c row.old begins.now
         → TakesAll (O.state out.old) (O.state out.new) result (line_of time c) }
 {
     let at = write_time(time, row, begins[0]);

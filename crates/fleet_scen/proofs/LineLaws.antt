@@ -16,7 +16,7 @@ use Rattle.fleet_scen.specs.declared.fault.ScenFault.{ScenFault}
 use Rattle.fleet_scen.specs.declared.fault.ScenFault.TheVariants.{Fields, Number, OtherMap, Blocked, SharedStart, SharedGoal}
 use Rattle.fleet_scen.specs.declared.fields.Fields as fields_type
 use Rattle.fleet_scen.specs.Fields.{fields_of}
-use Rattle.fleet_scen.specs.ScenText.{Line, numbers_in, numbers_of, Spells, IsOpen, StandsFor}
+use Rattle.fleet_scen.specs.ScenText.{Line, numbers_in, numbers_of, SpellsTask, HasPassableEnds, StandsForTask}
 use Rattle.fleet_scen.specs.ScenReading.{starts_at, ends_at, numbers_at, task_at, apart_at}
 
 -- ---- the fields of a line
@@ -90,7 +90,7 @@ made_fault line (Some a) (Some b) (Some c) (Some d) (Some e) (Some f) k p = absu
 abbrev pub IsNoSpelling : ℕ → List Bytes → ScenFault → Type 0
 IsNoSpelling line ws f = ((f ≡ Fields line) × (length ws ≢ 9)) ⊎ ((k : ℕ) × (f ≡ Number line (k + 3)) × (length ws ≡ 9) × (position is_none (numbers_in ws) ≡ Some k))
 
-numbers_ok : (line : ℕ) (ws : List Bytes) (n : ℕ × ℕ × Task) → numbers_at line ws ≡ Ok n → Spells ws n.0 n.1 n.2
+numbers_ok : (line : ℕ) (ws : List Bytes) (n : ℕ × ℕ × Task) → numbers_at line ws ≡ Ok n → SpellsTask ws n.0 n.1 n.2
 unfolding numbers_at
 numbers_ok line ws n e =
     elim (nine_or_not ws) [
@@ -101,7 +101,7 @@ numbers_ok line ws n e =
           record { fields = nine.2; numbers = nine.3 ∙ made_is line f.width f.height f.start_x f.start_y f.goal_x f.goal_y n g })
     ]
 
-numbers_again : (line : ℕ) (ws : List Bytes) (w h : ℕ) (t : Task) → Spells ws w h t → numbers_at line ws ≡ Ok (w, h, t)
+numbers_again : (line : ℕ) (ws : List Bytes) (w h : ℕ) (t : Task) → SpellsTask ws w h t → numbers_at line ws ≡ Ok (w, h, t)
 unfolding numbers_at
 numbers_again line ws w h t s =
     elim (nine_or_not ws) [
@@ -141,10 +141,10 @@ numbers_fault line ws x (inr p) =
 abbrev is_open : Ground → Task → Bool
 is_open g t = is_passable g (place_of t.start) && is_passable g (place_of t.goal)
 
-open_is : (g : Ground) (t : Task) → is_open g t ≡ true → IsOpen g t
+open_is : (g : Ground) (t : Task) → is_open g t ≡ true → HasPassableEnds g t
 open_is g t e = let p = both (is_passable g (place_of t.start)) (is_passable g (place_of t.goal)) e in record { start = p.0; goal = p.1 }
 
-open_again : (g : Ground) (t : Task) → IsOpen g t → is_open g t ≡ true
+open_again : (g : Ground) (t : Task) → HasPassableEnds g t → is_open g t ≡ true
 open_again g t h = rw (h.start, h.goal) refl
 
 same_sizes : (g : Ground) (w h : ℕ) → (eqb w g.width && eqb h g.height) ≡ true → (w ≡ g.width) × (h ≡ g.height)
@@ -153,21 +153,21 @@ same_sizes g w h e = let p = both (eqb w g.width) (eqb h g.height) e in (eqb-tru
 sizes_again : (g : Ground) (w h : ℕ) → (w ≡ g.width) × (h ≡ g.height) → (eqb w g.width && eqb h g.height) ≡ true
 sizes_again g w h e = rw (eq-eqb w g.width e.0, eq-eqb h g.height e.1) refl
 
-spells_here : (g : Ground) (ws : List Bytes) (w h : ℕ) (t : Task) → (w ≡ g.width) × (h ≡ g.height) → Spells ws w h t → Spells ws g.width g.height t
-spells_here g ws w h t e s = subst (λ (x : ℕ). Spells ws x g.height t) e.0 (subst (λ (y : ℕ). Spells ws w y t) e.1 s)
+spells_here : (g : Ground) (ws : List Bytes) (w h : ℕ) (t : Task) → (w ≡ g.width) × (h ≡ g.height) → SpellsTask ws w h t → SpellsTask ws g.width g.height t
+spells_here g ws w h t e s = subst (λ (x : ℕ). SpellsTask ws x g.height t) e.0 (subst (λ (y : ℕ). SpellsTask ws w y t) e.1 s)
 
 -- why the line stands for no task on the map
 abbrev pub IsLineFault : Ground → Line → ScenFault → Type 0
 IsLineFault g line f =
     IsNoSpelling line.0 line.1 f
-    ⊎ (((w h : ℕ) × (t : Task) × (f ≡ OtherMap line.0) × Spells line.1 w h t × ((w ≡ g.width) × (h ≡ g.height) → ⊥))
-    ⊎ ((t : Task) × (f ≡ Blocked line.0) × Spells line.1 g.width g.height t × (IsOpen g t → ⊥)))
+    ⊎ (((w h : ℕ) × (t : Task) × (f ≡ OtherMap line.0) × SpellsTask line.1 w h t × ((w ≡ g.width) × (h ≡ g.height) → ⊥))
+    ⊎ ((t : Task) × (f ≡ Blocked line.0) × SpellsTask line.1 g.width g.height t × (HasPassableEnds g t → ⊥)))
 
 -- the steps after the numbers
 abbrev judged : Ground → ℕ → ℕ × ℕ × Task → Result Task ScenFault
 judged g line n = right_or (eqb n.0 g.width && eqb n.1 g.height) (OtherMap line) >> (right_or (is_open g n.2) (Blocked line) >> Ok n.2)
 
-pub task_is : (g : Ground) (line : ℕ) (ws : List Bytes) (t : Task) → task_at g line ws ≡ Ok t → StandsFor g (line, ws) t
+pub task_is : (g : Ground) (line : ℕ) (ws : List Bytes) (t : Task) → task_at g line ws ≡ Ok t → StandsForTask g (line, ws) t
 unfolding task_at
 task_is g line ws t e =
     let a = bind_ok (numbers_at line ws) (λ n. judged g line n) t e in
@@ -176,10 +176,10 @@ task_is g line ws t e =
     let c = right_ok (is_open g n.2) (Blocked line) (Ok n.2) t b.1 in
     let sizes = same_sizes g n.0 n.1 b.0 in
     let spells = spells_here g ws n.0 n.1 n.2 sizes (numbers_ok line ws n a.1) in
-    let stands : StandsFor g (line, ws) n.2 = record { spells = spells; cells = open_is g n.2 c.0 } in
-    subst (StandsFor g (line, ws)) (ok_is n.2 t c.1) stands
+    let stands : StandsForTask g (line, ws) n.2 = record { spells = spells; cells = open_is g n.2 c.0 } in
+    subst (StandsForTask g (line, ws)) (ok_is n.2 t c.1) stands
 
-pub task_again : (g : Ground) (line : ℕ) (ws : List Bytes) (t : Task) → StandsFor g (line, ws) t → task_at g line ws ≡ Ok t
+pub task_again : (g : Ground) (line : ℕ) (ws : List Bytes) (t : Task) → StandsForTask g (line, ws) t → task_at g line ws ≡ Ok t
 unfolding task_at
 task_again g line ws t s = rw (numbers_again line ws g.width g.height t s.spells, sizes_again g g.width g.height (refl, refl), open_again g t s.cells) refl
 

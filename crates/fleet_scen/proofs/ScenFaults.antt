@@ -14,9 +14,9 @@ use Rattle.fleet_text.proofs.StepLaws.{bind_err, right_err, then_err, err_is, ok
 use Rattle.fleet_text.proofs.Verdicts.{Tells, heads_are, next_is, next_again}
 use Rattle.fleet_scen.specs.declared.fault.ScenFault.{ScenFault}
 use Rattle.fleet_scen.specs.declared.fault.ScenFault.TheVariants.{OutOfMemory, Version, Fields, Number, OtherMap, Blocked, SharedStart, SharedGoal, NoAgents, TooMany, Fewer}
-use Rattle.fleet_scen.specs.Instance.{AreApart}
-use Rattle.fleet_scen.specs.ScenText.{is_filled, Line, agent_lines, version_line, is_version, IsOpen, StandsFor, AreScenLines, MayBeAsked, IsRightUpTo, Reaches, IsFirstFault}
-use Rattle.fleet_scen.specs.ScenReading.{task_at, apart_at, lacks, ended, tasks_at, after_version, judge_asked, scen_at}
+use Rattle.fleet_scen.specs.Instance.{AreTasksApart}
+use Rattle.fleet_scen.specs.ScenText.{is_filled, Line, agent_lines, version_line, is_version, HasPassableEnds, StandsForTask, AreScenLines, MayBeAsked, IsScenRightUpTo, ReachesScenLine, IsFirstScenLineFault}
+use Rattle.fleet_scen.specs.ScenReading.{task_at, apart_at, lacks, scen_judged, tasks_at, after_version, judge_asked, scen_at}
 use Rattle.fleet_scen.proofs.LineLaws.{IsLineFault, task_is, task_again, task_fails, task_fault, apart_is, apart_again, IsShared, apart_fails, apart_fault}
 use Rattle.fleet_scen.proofs.ScenLaws.{filled_from, filled_skip, filled_next, AreEarlier, new_at, apart_none, earlier_more, task_next, line_next, first_words, version_is, version_again, asked_again, none_earlier, tasks_after, after_asked, is_found, is_read}
 
@@ -30,7 +30,7 @@ not_false false e = absurd cc
 abbrev IsShort : Option ℕ → List Task → ScenFault → Type 0
 IsShort asked all f = ((f ≡ NoAgents) × (asked ≡ None) × (all ≡ [])) ⊎ ((count : ℕ) × (f ≡ Fewer) × (asked ≡ Some count) × (length all < count))
 
-ended_fails : (asked : Option ℕ) (all : List Task) (f : ScenFault) → ended asked all ≡ Err f → IsShort asked all f
+ended_fails : (asked : Option ℕ) (all : List Task) (f : ScenFault) → scen_judged asked all ≡ Err f → IsShort asked all f
 ended_fails None [] f e = inl (sym (err_is {A = List Task} NoAgents f e), refl, refl)
 ended_fails None (t ∷ all) f e = absurd cc
 ended_fails (Some count) all f e =
@@ -39,7 +39,7 @@ ended_fails (Some count) all f e =
       | inr p ↦ absurd (let g : Ok all ≡ Err f = p.1 in cc)
     ]
 
-ended_fault : (asked : Option ℕ) (all : List Task) (f : ScenFault) → IsShort asked all f → ended asked all ≡ Err f
+ended_fault : (asked : Option ℕ) (all : List Task) (f : ScenFault) → IsShort asked all f → scen_judged asked all ≡ Err f
 ended_fault asked all f (inl p) = rw (p.1, p.2) (ap (λ (x : ScenFault). Err x) (sym p.0))
 ended_fault asked all f (inr p) = rw (p.2, lt-ltb (length all) p.0 p.3) (ap (λ (x : ScenFault). Err x) (sym p.1))
 
@@ -47,14 +47,14 @@ short_lacks : (asked : Option ℕ) (all : List Task) (f : ScenFault) → IsShort
 short_lacks asked all f (inl p) = rw p.1 refl
 short_lacks asked all f (inr p) = rw p.2 (lt-ltb (length all) p.0 p.3)
 
-enough_is_read : (asked : Option ℕ) (all : List Task) → lacks asked (length all) ≡ false → ended asked all ≡ Ok all
+enough_is_read : (asked : Option ℕ) (all : List Task) → lacks asked (length all) ≡ false → scen_judged asked all ≡ Ok all
 enough_is_read None all e = absurd cc
 enough_is_read (Some count) all e = rw e refl
 
 -- ---- where reading stops, after all these agents, at the rest of the lines
 
 abbrev IsJudged : Ground → List Task → Line → ScenFault → Type 0
-IsJudged g all line f = IsLineFault g line f ⊎ ((t : Task) × StandsFor g line t × IsShared all t line.0 f)
+IsJudged g all line f = IsLineFault g line f ⊎ ((t : Task) × StandsForTask g line t × IsShared all t line.0 f)
 
 abbrev StopsAtLine : Ground → List Task → Line → ScenFault → Type 0
 StopsAtLine g all line f = ((f ≡ TooMany) × (length all ≡ 1024)) ⊎ ((length all < 1024) × IsJudged g all line f)
@@ -64,7 +64,7 @@ Stops g asked all rest f = ((rest ≡ []) × IsShort asked all f) ⊎ ((line : L
 
 -- it stops after the new agents of these lines
 record StopsAfter (g : Ground) (asked : Option ℕ) (lines : List Line) (earlier new : List Task) (f : ScenFault) : Type 0 where
-  stand : AllZip (StandsFor g) (take (length new) lines) new
+  stand : AllZip (StandsForTask g) (take (length new) lines) new
   earlier_all : AreEarlier asked (earlier ++ new)
   stops : Stops g asked (earlier ++ new) (drop (length new) lines) f
 
@@ -78,7 +78,7 @@ at_line : (g : Ground) (asked : Option ℕ) (earlier : List Task) (line : Line) 
     → (new : List Task) × StopsAfter g asked (line ∷ rest) earlier new f
 at_line g asked earlier line rest f h more s = ([], stops_here g asked (line ∷ rest) earlier f h (inr (line, rest, refl, more, s)))
 
-after_line : (g : Ground) (asked : Option ℕ) (earlier : List Task) (line : Line) (rest : List Line) (t : Task) (new : List Task) (f : ScenFault) → StandsFor g line t → StopsAfter g asked rest (earlier ++ t ∷ []) new f
+after_line : (g : Ground) (asked : Option ℕ) (earlier : List Task) (line : Line) (rest : List Line) (t : Task) (new : List Task) (f : ScenFault) → StandsForTask g line t → StopsAfter g asked rest (earlier ++ t ∷ []) new f
     → StopsAfter g asked (line ∷ rest) earlier (t ∷ new) f
 after_line g asked earlier line rest t new f stands s =
     let regrouped : earlier ++ t ∷ [] ++ new ≡ earlier ++ (t ∷ new) = append_assoc earlier (t ∷ []) new in
@@ -96,7 +96,7 @@ tasks_fail g asked n earlier (line ∷ ls) f h e =
     let rest = filled_from (n + 1 + 1) ls in
     let here : Line = (n + 1, words line) in
     elim (cases_Bool (lacks asked (length earlier))) [
-      | inr stop ↦ absurd (let k : ended asked earlier ≡ Err f = rw stop at e in let m : Ok earlier ≡ Err f = sym (enough_is_read asked earlier stop) ∙ k in cc)
+      | inr stop ↦ absurd (let k : scen_judged asked earlier ≡ Err f = rw stop at e in let m : Ok earlier ≡ Err f = sym (enough_is_read asked earlier stop) ∙ k in cc)
       | inl more ↦ elim (cases_Bool (is_filled (words line))) [
         | inr empty ↦ (
             let k : tasks_at g asked (n + 1) earlier ls ≡ Err f = rw (more, empty) at e in
@@ -189,7 +189,7 @@ tasks_fault g asked n earlier (line ∷ ls) (t ∷ new) f h =
 
 -- ---- places in the lines
 
-zip_length : (g : Ground) (lines : List Line) (tasks : List Task) → AllZip (StandsFor g) lines tasks → length lines ≡ length tasks
+zip_length : (g : Ground) (lines : List Line) (tasks : List Task) → AllZip (StandsForTask g) lines tasks → length lines ≡ length tasks
 zip_length g [] [] h = refl
 zip_length g [] (t ∷ tasks) h = absurd h
 zip_length g (l ∷ lines) [] h = absurd h
@@ -215,16 +215,16 @@ judged_asked (Some count) e =
       ]
     ]
 
-asked_fails : (ls : List Bytes) (g : Ground) (asked : Option ℕ) (f : ScenFault) → judge_asked asked ≡ Err f → IsFirstFault ls g asked f
+asked_fails : (ls : List Bytes) (g : Ground) (asked : Option ℕ) (f : ScenFault) → judge_asked asked ≡ Err f → IsFirstScenLineFault ls g asked f
 asked_fails ls g None f e = absurd cc
 asked_fails ls g (Some count) f e =
     elim (right_err (ltb 0 count) NoAgents (right_or (leb count 1024) TooMany) f e) [
-      | inl p ↦ subst (IsFirstFault ls g (Some count)) p.1 (inl (let none = ltb-false 0 count p.0 in ap (λ (n : ℕ). Some n) (omega arith)))
+      | inl p ↦ subst (IsFirstScenLineFault ls g (Some count)) p.1 (inl (let none = ltb-false 0 count p.0 in ap (λ (n : ℕ). Some n) (omega arith)))
       | inr p ↦ elim (cases_Bool (leb count 1024)) [
         | inl few ↦ absurd (let k : Ok tt ≡ Err f = rw few at p.1 in cc)
         | inr many ↦ (
             let k : Err TooMany ≡ Err f = rw many at p.1 in
-            subst (IsFirstFault ls g (Some count)) (err_is {A = Unit {0}} TooMany f k) (inl (count, refl, leb-false count 1024 many)))
+            subst (IsFirstScenLineFault ls g (Some count)) (err_is {A = Unit {0}} TooMany f k) (inl (count, refl, leb-false count 1024 many)))
       ]
     ]
 
@@ -283,26 +283,26 @@ not_asked : (asked : Option ℕ) → MayBeAsked asked → lacks asked 1024 ≡ t
 not_asked None h e = refl
 not_asked (Some count) h e = absurd (let lt = ltb-true 1024 count e in omega (arith, h, lt))
 
-judged_fault : (ls : List Bytes) (g : Ground) (asked : Option ℕ) (all : List Task) (line : Line) (f : ScenFault) → Reaches all line ls g asked → IsJudged g all line f → IsFirstFault ls g asked f
-judged_fault ls g asked all line f r (inl (inl (inl p))) = subst (IsFirstFault ls g asked) (sym p.0) (all, line.1, r, p.1)
-judged_fault ls g asked all line f r (inl (inl (inr p))) = subst (IsFirstFault ls g asked) (sym p.1) (all, line.1, r, p.2, p.0, refl, p.3)
-judged_fault ls g asked all line f r (inl (inr (inl p))) = subst (IsFirstFault ls g asked) (sym p.3) (all, line.1, r, p.0, p.1, p.2, p.4, p.5)
-judged_fault ls g asked all line f r (inl (inr (inr p))) = subst (IsFirstFault ls g asked) (sym p.1) (all, line.1, r, p.0, p.2, p.3)
+judged_fault : (ls : List Bytes) (g : Ground) (asked : Option ℕ) (all : List Task) (line : Line) (f : ScenFault) → ReachesScenLine all line ls g asked → IsJudged g all line f → IsFirstScenLineFault ls g asked f
+judged_fault ls g asked all line f r (inl (inl (inl p))) = subst (IsFirstScenLineFault ls g asked) (sym p.0) (all, line.1, r, p.1)
+judged_fault ls g asked all line f r (inl (inl (inr p))) = subst (IsFirstScenLineFault ls g asked) (sym p.1) (all, line.1, r, p.2, p.0, refl, p.3)
+judged_fault ls g asked all line f r (inl (inr (inl p))) = subst (IsFirstScenLineFault ls g asked) (sym p.3) (all, line.1, r, p.0, p.1, p.2, p.4, p.5)
+judged_fault ls g asked all line f r (inl (inr (inr p))) = subst (IsFirstScenLineFault ls g asked) (sym p.1) (all, line.1, r, p.0, p.2, p.3)
 judged_fault ls g asked all line f r (inr p) =
     elim p.2 [
-      | inl s ↦ subst (IsFirstFault ls g asked) (sym s.0) (all, line.1, r, p.0, p.1, s.1)
-      | inr s ↦ subst (IsFirstFault ls g asked) (sym s.0) (all, line.1, r, p.0, p.1, s.1, s.2)
+      | inl s ↦ subst (IsFirstScenLineFault ls g asked) (sym s.0) (all, line.1, r, p.0, p.1, s.1)
+      | inr s ↦ subst (IsFirstScenLineFault ls g asked) (sym s.0) (all, line.1, r, p.0, p.1, s.1, s.2)
     ]
 
-stops_fault : (ls : List Bytes) (g : Ground) (asked : Option ℕ) (all : List Task) (f : ScenFault) → IsRightUpTo all ls g asked → Stops g asked all (drop (length all) (agent_lines ls)) f → IsFirstFault ls g asked f
+stops_fault : (ls : List Bytes) (g : Ground) (asked : Option ℕ) (all : List Task) (f : ScenFault) → IsScenRightUpTo all ls g asked → Stops g asked all (drop (length all) (agent_lines ls)) f → IsFirstScenLineFault ls g asked f
 stops_fault ls g asked all f right (inl p) =
     let lines = agent_lines ls in
     let taken : length (take (length all) lines) ≡ length all = zip_length g (take (length all) lines) all right.agents in
     let left = nil_length (drop (length all) lines) p.0 in
     let size : length lines ≡ length all = omega (arith, taken, left, length-take (length all) lines, length-drop (length all) lines) in
     elim p.1 [
-      | inl s ↦ subst (IsFirstFault ls g asked) (sym s.0) (inr (s.1, right.version, length_nil lines (size ∙ ap length s.2)))
-      | inr s ↦ subst (IsFirstFault ls g asked) (sym s.1) (s.0, s.2, all, right, size, s.3)
+      | inl s ↦ subst (IsFirstScenLineFault ls g asked) (sym s.0) (inr (s.1, right.version, length_nil lines (size ∙ ap length s.2)))
+      | inr s ↦ subst (IsFirstScenLineFault ls g asked) (sym s.1) (s.0, s.2, all, right, size, s.3)
     ]
 stops_fault ls g asked all f right (inr p) =
     let lines = agent_lines ls in
@@ -312,22 +312,22 @@ stops_fault ls g asked all f right (inr p) =
       | inl s ↦ (
           let none = not_asked asked right.may_be_asked (subst (λ (n : ℕ). lacks asked n ≡ true) s.1 p.3) in
           let longer : 1024 < length lines = let more = ap length p.2 in omega (arith, more, length-drop (length all) lines, s.1) in
-          subst (IsFirstFault ls g asked) (sym s.0) (inr (none, all, right, s.1, longer)))
+          subst (IsFirstScenLineFault ls g asked) (sym s.0) (inr (none, all, right, s.1, longer)))
       | inr s ↦ judged_fault ls g asked all line f (record { right = right; wanted = lacks_wanted asked (length all) p.3; few = s.0; is_next = is_next }) s.1
     ]
 
 -- ---- the whole scenario
 
 tasks_after_fail : (ls : List Bytes) (g : Ground) (asked : Option ℕ) (rest : ℕ × List Bytes) (f : ScenFault) → judge_asked asked ≡ Ok tt → is_version (version_line ls) ≡ true → agent_lines ls ≡ filled_from (rest.0 + 1) rest.1
-    → tasks_after g asked rest ≡ Err f → IsFirstFault ls g asked f
+    → tasks_after g asked rest ≡ Err f → IsFirstScenLineFault ls g asked f
 tasks_after_fail ls g asked rest f may version same e =
     let r = tasks_fail g asked rest.0 [] rest.1 f (none_earlier asked may) e in
     let s : StopsAfter g asked (agent_lines ls) [] r.0 f = subst (λ (lines : List Line). StopsAfter g asked lines [] r.0 f) (sym same) r.1 in
-    let right : IsRightUpTo r.0 ls g asked = record { may_be_asked = judged_asked asked may; version = version; agents = s.stand; apart = s.earlier_all.apart } in
+    let right : IsScenRightUpTo r.0 ls g asked = record { may_be_asked = judged_asked asked may; version = version; agents = s.stand; apart = s.earlier_all.apart } in
     stops_fault ls g asked r.0 f right s.stops
 
 -- what reading fails with is the first fault
-pub is_fault : (g : Ground) (asked : Option ℕ) (ls : List Bytes) (f : ScenFault) → scen_at g asked ls ≡ Err f → IsFirstFault ls g asked f
+pub is_fault : (g : Ground) (asked : Option ℕ) (ls : List Bytes) (f : ScenFault) → scen_at g asked ls ≡ Err f → IsFirstScenLineFault ls g asked f
 unfolding scen_at
 is_fault g asked ls f e =
     elim (then_err (judge_asked asked) (after_asked g asked ls) f e) [
@@ -335,14 +335,14 @@ is_fault g asked ls f e =
       | inr p ↦ elim (bind_err (after_version 0 ls) (λ rest. tasks_after g asked rest) f p.1) [
         | inl q ↦ (
             let v = version_fails 0 ls f q in
-            subst (IsFirstFault ls g asked) (sym v.0) (judged_asked asked p.0, both_ways (is_version (version_line ls)) v.1))
+            subst (IsFirstScenLineFault ls g asked) (sym v.0) (judged_asked asked p.0, both_ways (is_version (version_line ls)) v.1))
         | inr q ↦ (let v = version_is 0 ls q.0 q.1 in tasks_after_fail ls g asked q.0 f p.0 v.0 v.1 q.2)
       ]
     ]
 
 -- ---- .. and back
 
-earlier_are : (asked : Option ℕ) (all : List Task) → MayBeAsked asked → AreApart all → length all ≤ 1024 → MatchOption asked (Unit {0}) (λ count. length all ≤ count) → AreEarlier asked all
+earlier_are : (asked : Option ℕ) (all : List Task) → MayBeAsked asked → AreTasksApart all → length all ≤ 1024 → MatchOption asked (Unit {0}) (λ count. length all ≤ count) → AreEarlier asked all
 earlier_are None all may apart few h = record { few = few; apart = apart; range = tt }
 earlier_are (Some count) all may apart few h = record { few = few; apart = apart; range = (omega (arith, may), h) }
 
@@ -350,7 +350,7 @@ wanted_less : (asked : Option ℕ) (n : ℕ) → MatchOption asked (Unit {0}) (�
 wanted_less None n h = tt
 wanted_less (Some count) n h = omega (arith, h)
 
-told_at : (ls : List Bytes) (g : Ground) (asked : Option ℕ) (all : List Task) (f : ScenFault) → IsRightUpTo all ls g asked → length all ≤ 1024 → MatchOption asked (Unit {0}) (λ count. length all ≤ count)
+told_at : (ls : List Bytes) (g : Ground) (asked : Option ℕ) (all : List Task) (f : ScenFault) → IsScenRightUpTo all ls g asked → length all ≤ 1024 → MatchOption asked (Unit {0}) (λ count. length all ≤ count)
     → Stops g asked all (drop (length all) (agent_lines ls)) f → scen_at g asked ls ≡ Err f
 unfolding scen_at
 told_at ls g asked all f right few range stops =
@@ -359,14 +359,14 @@ told_at ls g asked all f right few range stops =
     let there : StopsAfter g asked (filled_from (v.0.0 + 1) v.0.1) [] all f = subst (λ (lines : List Line). StopsAfter g asked lines [] all f) v.2 here in
     rw (asked_again asked right.may_be_asked, v.1) (tasks_fault g asked v.0.0 [] v.0.1 all f there)
 
-told_line : (ls : List Bytes) (g : Ground) (asked : Option ℕ) (all : List Task) (line : Line) (f : ScenFault) → Reaches all line ls g asked → IsJudged g all line f → scen_at g asked ls ≡ Err f
+told_line : (ls : List Bytes) (g : Ground) (asked : Option ℕ) (all : List Task) (line : Line) (f : ScenFault) → ReachesScenLine all line ls g asked → IsJudged g all line f → scen_at g asked ls ≡ Err f
 told_line ls g asked all line f r judged =
     let next = next_again (length all) (agent_lines ls) line r.is_next in
     let few = r.few in
     told_at ls g asked all f r.right (omega (arith, few)) (wanted_less asked (length all) r.wanted) (inr (line, next.0, next.1, wanted_lacks asked (length all) r.wanted, inr (few, judged)))
 
 -- the first fault is what reading fails with
-pub is_told : (g : Ground) (asked : Option ℕ) (ls : List Bytes) (f : ScenFault) → IsFirstFault ls g asked f → scen_at g asked ls ≡ Err f
+pub is_told : (g : Ground) (asked : Option ℕ) (ls : List Bytes) (f : ScenFault) → IsFirstScenLineFault ls g asked f → scen_at g asked ls ≡ Err f
 unfolding scen_at
 is_told g asked ls OutOfMemory h = absurd h
 is_told g asked ls Version h =
@@ -380,7 +380,7 @@ is_told g asked ls (SharedStart line) h = told_line ls g asked h.0 (line, h.1) (
 is_told g asked ls (SharedGoal line) h = told_line ls g asked h.0 (line, h.1) (SharedGoal line) h.2 (inr (h.3, h.4, inr (refl, h.5, h.6)))
 is_told g asked ls NoAgents (inl p) = rw (none_asked asked p) refl
 is_told g asked ls NoAgents (inr p) =
-    let right : IsRightUpTo [] ls g asked = record { may_be_asked = rw p.0 tt; version = p.1; agents = tt; apart = apart_none } in
+    let right : IsScenRightUpTo [] ls g asked = record { may_be_asked = rw p.0 tt; version = p.1; agents = tt; apart = apart_none } in
     told_at ls g asked [] NoAgents right (omega arith) (rw p.0 tt) (inl (p.2, inl (refl, p.0, refl)))
 is_told g asked ls TooMany (inl p) = rw (many_asked asked p.0 p.1 p.2) refl
 is_told g asked ls TooMany (inr p) =
@@ -406,19 +406,19 @@ is_told g asked ls Fewer h =
 
 -- ---- the reader's laws
 
-pub tells : (g : Ground) (asked : Option ℕ) (ls : List Bytes) → Tells (AreScenLines ls g asked) (IsFirstFault ls g asked) (scen_at g asked ls)
+pub tells : (g : Ground) (asked : Option ℕ) (ls : List Bytes) → Tells (AreScenLines ls g asked) (IsFirstScenLineFault ls g asked) (scen_at g asked ls)
 tells g asked ls = record { found = is_found g asked ls; read = is_read g asked ls; fault = is_fault g asked ls; told = is_told g asked ls }
 
 -- ---- the cells of an instance
 
-cells_open : (g : Ground) (lines : List Line) (tasks : List Task) → AllZip (StandsFor g) lines tasks → AllByRecursion (IsOpen g) tasks
+cells_open : (g : Ground) (lines : List Line) (tasks : List Task) → AllZip (StandsForTask g) lines tasks → AllByRecursion (HasPassableEnds g) tasks
 cells_open g [] [] h = tt
 cells_open g [] (t ∷ tasks) h = absurd h
 cells_open g (l ∷ lines) [] h = absurd h
 cells_open g (l ∷ lines) (t ∷ tasks) h = (h.0.cells, cells_open g lines tasks h.1)
 
-pub all_open : (g : Ground) (asked : Option ℕ) (ls : List Bytes) (tasks : List Task) → AreScenLines ls g asked tasks → All (IsOpen g) tasks
-all_open g asked ls tasks h = All-from_recursion (IsOpen g) tasks (cells_open g (take (length tasks) (agent_lines ls)) tasks h.agents)
+pub all_open : (g : Ground) (asked : Option ℕ) (ls : List Bytes) (tasks : List Task) → AreScenLines ls g asked tasks → All (HasPassableEnds g) tasks
+all_open g asked ls tasks h = All-from_recursion (HasPassableEnds g) tasks (cells_open g (take (length tasks) (agent_lines ls)) tasks h.agents)
 
 -- ---- what the reader refuses
 
@@ -426,5 +426,5 @@ pub read : (g : Ground) (asked : Option ℕ) (ls : List Bytes) (f : ScenFault) �
 read g asked ls OutOfMemory e tasks a = refl
 read g asked ls f e tasks a = absurd (ok_err tasks f (sym (is_read g asked ls tasks a) ∙ e (λ memory. cc)))
 
-pub told : (g : Ground) (asked : Option ℕ) (ls : List Bytes) (f : ScenFault) → IsDueUnless {X = List Task} (λ t. t) (Err f) (scen_at g asked ls) OutOfMemory → f ≢ OutOfMemory → IsFirstFault ls g asked f
+pub told : (g : Ground) (asked : Option ℕ) (ls : List Bytes) (f : ScenFault) → IsDueUnless {X = List Task} (λ t. t) (Err f) (scen_at g asked ls) OutOfMemory → f ≢ OutOfMemory → IsFirstScenLineFault ls g asked f
 told g asked ls f e other = is_fault g asked ls f (e other)

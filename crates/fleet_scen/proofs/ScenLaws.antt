@@ -16,9 +16,9 @@ use Rattle.fleet_text.specs.Steps.{◌>>=◌, ◌>>◌, right_or}
 use Rattle.fleet_text.proofs.StepLaws.{bind_ok, right_ok, then_ok, ok_is}
 use Rattle.fleet_scen.specs.declared.fault.ScenFault.{ScenFault}
 use Rattle.fleet_scen.specs.declared.fault.ScenFault.TheVariants.{Version, NoAgents, TooMany, Fewer}
-use Rattle.fleet_scen.specs.Instance.{AreApart, IsInstance}
-use Rattle.fleet_scen.specs.ScenText.{is_filled, Line, agent_lines, is_version, StandsFor, AreScenLines, MayBeAsked}
-use Rattle.fleet_scen.specs.ScenReading.{task_at, apart_at, lacks, ended, tasks_at, after_version, judge_asked, scen_at}
+use Rattle.fleet_scen.specs.Instance.{AreTasksApart, IsInstance}
+use Rattle.fleet_scen.specs.ScenText.{is_filled, Line, agent_lines, is_version, StandsForTask, AreScenLines, MayBeAsked}
+use Rattle.fleet_scen.specs.ScenReading.{task_at, apart_at, lacks, scen_judged, tasks_at, after_version, judge_asked, scen_at}
 use Rattle.fleet_scen.proofs.LineLaws.{task_is, task_again, IsNew, apart_is, apart_again}
 
 -- ---- the lines that have some word
@@ -57,13 +57,13 @@ distinct_at cell earlier t more h =
       | inr other ↦ other
     ])
 
-pub apart_more : (earlier : List Task) (t : Task) → AreApart earlier → IsNew earlier t → AreApart (earlier ++ t ∷ [])
+pub apart_more : (earlier : List Task) (t : Task) → AreTasksApart earlier → IsNew earlier t → AreTasksApart (earlier ++ t ∷ [])
 apart_more earlier t h new = record { starts = distinct_more (λ s. s.start) earlier t h.starts new.start; goals = distinct_more (λ s. s.goal) earlier t h.goals new.goal }
 
-pub new_at : (earlier : List Task) (t : Task) (more : List Task) → AreApart (earlier ++ t ∷ more) → IsNew earlier t
+pub new_at : (earlier : List Task) (t : Task) (more : List Task) → AreTasksApart (earlier ++ t ∷ more) → IsNew earlier t
 new_at earlier t more h = record { start = distinct_at (λ s. s.start) earlier t more h.starts; goal = distinct_at (λ s. s.goal) earlier t more h.goals }
 
-pub apart_none : AreApart []
+pub apart_none : AreTasksApart []
 apart_none = record { starts = λ i j d lt past. absurd (omega arith); goals = λ i j d lt past. absurd (omega arith) }
 
 -- ---- the tasks of lines
@@ -71,7 +71,7 @@ apart_none = record { starts = λ i j d lt past. absurd (omega arith); goals = �
 -- earlier agents are apart, and not more than were asked for
 pub record AreEarlier (asked : Option ℕ) (earlier : List Task) : Type 0 where
   pub few : length earlier ≤ 1024
-  pub apart : AreApart earlier
+  pub apart : AreTasksApart earlier
   pub range : MatchOption asked (Unit {0}) (λ count. (1 ≤ count) × (length earlier ≤ count))
 
 -- all lines were read, or as many as were asked for
@@ -80,11 +80,11 @@ ReadsAll asked lines new tasks = MatchOption asked (length lines ≡ length new)
 
 -- the new tasks are those of lines
 record AreNew (g : Ground) (asked : Option ℕ) (lines : List Line) (earlier new : List Task) : Type 0 where
-  stand : AllZip (StandsFor g) (take (length new) lines) new
+  stand : AllZip (StandsForTask g) (take (length new) lines) new
   all : ReadsAll asked lines new (earlier ++ new)
   instance : IsInstance (earlier ++ new)
 
-none_left : (asked : Option ℕ) (earlier tasks : List Task) → AreEarlier asked earlier → ended asked earlier ≡ Ok tasks → (tasks ≡ earlier) × (1 ≤ length earlier) × MatchOption asked (Unit {0}) (λ count. length earlier ≡ count)
+none_left : (asked : Option ℕ) (earlier tasks : List Task) → AreEarlier asked earlier → scen_judged asked earlier ≡ Ok tasks → (tasks ≡ earlier) × (1 ≤ length earlier) × MatchOption asked (Unit {0}) (λ count. length earlier ≡ count)
 none_left None [] tasks h e = absurd cc
 none_left None (t ∷ earlier) tasks h e = (sym (ok_is (t ∷ earlier) tasks e), omega arith, tt)
 none_left (Some count) earlier tasks h e =
@@ -121,7 +121,7 @@ reads_less : (asked : Option ℕ) (w : Line) (lines : List Line) (t : Task) (new
 reads_less None w lines t new tasks others e h = omega (arith, h)
 reads_less (Some count) w lines t new tasks others e h = ap length (sym e) ∙ h
 
-nothing_new : (g : Ground) (asked : Option ℕ) (lines : List Line) (earlier tasks : List Task) → AreEarlier asked earlier → ended asked earlier ≡ Ok tasks → Rest asked lines
+nothing_new : (g : Ground) (asked : Option ℕ) (lines : List Line) (earlier tasks : List Task) → AreEarlier asked earlier → scen_judged asked earlier ≡ Ok tasks → Rest asked lines
     → (new : List Task) × (tasks ≡ earlier ++ new) × AreNew g asked lines earlier new
 nothing_new g asked lines earlier tasks h e rest =
     let p = none_left asked earlier tasks h e in
@@ -148,12 +148,12 @@ abbrev pub line_next : Ground → Option ℕ → ℕ → List Task → List Byte
 line_next g asked n earlier ws ls = task_at g n ws >>= λ task. task_next g asked n earlier ls task
 
 -- the task of one line more in front
-new_more : (g : Ground) (asked : Option ℕ) (earlier : List Task) (line : Line) (lines : List Line) (t : Task) (new : List Task) → StandsFor g line t → AreNew g asked lines (earlier ++ t ∷ []) new → AreNew g asked (line ∷ lines) earlier (t ∷ new)
+new_more : (g : Ground) (asked : Option ℕ) (earlier : List Task) (line : Line) (lines : List Line) (t : Task) (new : List Task) → StandsForTask g line t → AreNew g asked lines (earlier ++ t ∷ []) new → AreNew g asked (line ∷ lines) earlier (t ∷ new)
 new_more g asked earlier line lines t new stands h =
     let regrouped : earlier ++ t ∷ [] ++ new ≡ earlier ++ (t ∷ new) = append_assoc earlier (t ∷ []) new in
     record { stand = (stands, h.stand); all = reads_more asked line lines t new (earlier ++ t ∷ [] ++ new) (earlier ++ (t ∷ new)) regrouped h.all; instance = subst IsInstance regrouped h.instance }
 
-found_more : (g : Ground) (asked : Option ℕ) (earlier : List Task) (line : Line) (lines : List Line) (t : Task) (tasks : List Task) → StandsFor g line t → (new : List Task) × (tasks ≡ earlier ++ t ∷ [] ++ new) × AreNew g asked lines (earlier ++ t ∷ []) new
+found_more : (g : Ground) (asked : Option ℕ) (earlier : List Task) (line : Line) (lines : List Line) (t : Task) (tasks : List Task) → StandsForTask g line t → (new : List Task) × (tasks ≡ earlier ++ t ∷ [] ++ new) × AreNew g asked lines (earlier ++ t ∷ []) new
     → (new : List Task) × (tasks ≡ earlier ++ new) × AreNew g asked (line ∷ lines) earlier new
 found_more g asked earlier line lines t tasks stands r = (t ∷ r.0, r.1 ∙ append_assoc earlier (t ∷ []) r.0, new_more g asked earlier line lines t r.0 stands r.2)
 
@@ -168,7 +168,7 @@ unfolding tasks_at
 tasks_are g asked n earlier [] tasks h e = nothing_new g asked [] earlier tasks h e (no_rest asked)
 tasks_are g asked n earlier (line ∷ ls) tasks h e =
     elim (cases_Bool (lacks asked (length earlier))) [
-      | inr stop ↦ (let f : ended asked earlier ≡ Ok tasks = rw stop at e in nothing_new g asked (filled_from (n + 1) (line ∷ ls)) earlier tasks h f (stopped_early asked (length earlier) (filled_from (n + 1) (line ∷ ls)) stop))
+      | inr stop ↦ (let f : scen_judged asked earlier ≡ Ok tasks = rw stop at e in nothing_new g asked (filled_from (n + 1) (line ∷ ls)) earlier tasks h f (stopped_early asked (length earlier) (filled_from (n + 1) (line ∷ ls)) stop))
       | inl more ↦ elim (cases_Bool (is_filled (words line))) [
         | inr empty ↦ (
             let f : tasks_at g asked (n + 1) earlier ls ≡ Ok tasks = rw (more, empty) at e in
@@ -188,7 +188,7 @@ tasks_are g asked n earlier (line ∷ ls) tasks h e =
       ]
     ]
 
-end_again : (asked : Option ℕ) (lines : List Line) (earlier : List Task) → 1 ≤ length (earlier ++ []) → ReadsAll asked lines [] (earlier ++ []) → ended asked earlier ≡ Ok (earlier ++ [])
+end_again : (asked : Option ℕ) (lines : List Line) (earlier : List Task) → 1 ≤ length (earlier ++ []) → ReadsAll asked lines [] (earlier ++ []) → scen_judged asked earlier ≡ Ok (earlier ++ [])
 end_again None lines [] some h = absurd (omega arith)
 end_again None lines (t ∷ earlier) some h = ap (λ (ts : List Task). Ok ts) (sym (append-nil (t ∷ earlier)))
 end_again (Some count) lines earlier some h =

@@ -4,7 +4,7 @@ use Rattle.fleet_model.specs.declared.limits.TheConstants.{MAX_AGENTS}
 use Rattle.fleet_model.specs.declared.task.Task.{Task}
 
 -- no two agents begin on one cell, and no two end on one
-pub record AreApart (tasks : List Task) : Type 0 where
+pub record AreTasksApart (tasks : List Task) : Type 0 where
   pub starts : AllPairs (λ s t. s.start ≢ t.start) tasks
   pub goals : AllPairs (λ s t. s.goal ≢ t.goal) tasks
 
@@ -12,4 +12,4 @@ pub record AreApart (tasks : List Task) : Type 0 where
 pub record IsInstance (tasks : List Task) : Type 0 where
   pub some : 1 ≤ length tasks
   pub few : length tasks ≤ MAX_AGENTS
-  pub apart : AreApart tasks
+  pub apart : AreTasksApart tasks

@@ -51,16 +51,16 @@ lacks None count = true
 lacks (Some asked) count = nat_lt count asked
 
 -- the judgement at the end of the text, or once all that were asked for are read
-abbrev pub ended : Option ℕ → List Task → Result (List Task) ScenFault
-ended None [] = Err NoAgents
-ended None (t ∷ tasks) = Ok (t ∷ tasks)
-ended (Some asked) tasks = right_or (not (nat_lt (length tasks) asked)) Fewer >> Ok tasks
+abbrev pub scen_judged : Option ℕ → List Task → Result (List Task) ScenFault
+scen_judged None [] = Err NoAgents
+scen_judged None (t ∷ tasks) = Ok (t ∷ tasks)
+scen_judged (Some asked) tasks = right_or (not (nat_lt (length tasks) asked)) Fewer >> Ok tasks
 
 -- the tasks of the lines, before which as many lines stand; earlier agents come first
 unfoldable pub tasks_at : Ground → Option ℕ → ℕ → List Task → List Bytes → Result (List Task) ScenFault
-tasks_at g asked before earlier [] = ended asked earlier
+tasks_at g asked before earlier [] = scen_judged asked earlier
 tasks_at g asked before earlier (line ∷ ls) =
-    if not (lacks asked (length earlier)) then ended asked earlier
+    if not (lacks asked (length earlier)) then scen_judged asked earlier
     else if not (is_filled (words line)) then tasks_at g asked (before + 1) earlier ls
     else right_or (nat_lt (length earlier) MAX_AGENTS) TooMany >> (task_at g (before + 1) (words line) >>= λ task. apart_at (before + 1) earlier task >> tasks_at g asked (before + 1) (earlier ++ task ∷ []) ls)
 

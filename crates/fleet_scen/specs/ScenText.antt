@@ -9,7 +9,7 @@ use Rattle.fleet_text.specs.Text.{Bytes, lines, words, small_number}
 use Rattle.fleet_grid.specs.Ground.{Ground, is_passable}
 use Rattle.fleet_scen.specs.declared.fault.ScenFault.{ScenFault}
 use Rattle.fleet_scen.specs.declared.fault.ScenFault.TheVariants.{OutOfMemory, Version, Fields, Number, OtherMap, Blocked, SharedStart, SharedGoal, NoAgents, TooMany, Fewer}
-use Rattle.fleet_scen.specs.Instance.{AreApart, IsInstance}
+use Rattle.fleet_scen.specs.Instance.{AreTasksApart, IsInstance}
 
 -- ---- the parts of a scenario text
 
@@ -50,26 +50,26 @@ abbrev pub numbers_of : (width height : ℕ) → Task → List (Option ℕ)
 numbers_of width height t = Some width ∷ Some height ∷ Some t.start.x ∷ Some t.start.y ∷ Some t.goal.x ∷ Some t.goal.y ∷ []
 
 -- nine words, of which six are the numbers of these sizes and this task
-pub record Spells (ws : List Bytes) (width height : ℕ) (t : Task) : Type 0 where
+pub record SpellsTask (ws : List Bytes) (width height : ℕ) (t : Task) : Type 0 where
   pub fields : length ws ≡ 9
   pub numbers : numbers_in ws ≡ numbers_of width height t
 
 -- both cells of the task are passable
-pub record IsOpen (g : Ground) (t : Task) : Type 0 where
+pub record HasPassableEnds (g : Ground) (t : Task) : Type 0 where
   pub start : IsTrue (is_passable g (place_of t.start))
   pub goal : IsTrue (is_passable g (place_of t.goal))
 
 -- the line stands for the task, on this map
-pub record StandsFor (g : Ground) (line : Line) (t : Task) : Type 0 where
-  pub spells : Spells line.1 g.width g.height t
-  pub cells : IsOpen g t
+pub record StandsForTask (g : Ground) (line : Line) (t : Task) : Type 0 where
+  pub spells : SpellsTask line.1 g.width g.height t
+  pub cells : HasPassableEnds g t
 
 -- ---- a scenario text
 
 -- a version line, then a line for each agent: all lines, or as many as were asked for
 pub record AreScenLines (ls : List Bytes) (g : Ground) (asked : Option ℕ) (tasks : List Task) : Type 0 where
   pub version : IsTrue (is_version (version_line ls))
-  pub agents : AllZip (StandsFor g) (take (length tasks) (agent_lines ls)) tasks
+  pub agents : AllZip (StandsForTask g) (take (length tasks) (agent_lines ls)) tasks
   pub all : MatchOption asked (length (agent_lines ls) ≡ length tasks) (λ count. length tasks ≡ count)
   pub instance : IsInstance tasks
 
@@ -84,47 +84,47 @@ abbrev pub MayBeAsked : Option ℕ → Type 0
 MayBeAsked asked = MatchOption asked (Unit {0}) (λ count. (1 ≤ count) × (count ≤ MAX_AGENTS))
 
 -- what was asked for and the version line are right, and the first agent lines stand for these tasks, which are apart
-pub record IsRightUpTo (earlier : List Task) (ls : List Bytes) (g : Ground) (asked : Option ℕ) : Type 0 where
+pub record IsScenRightUpTo (earlier : List Task) (ls : List Bytes) (g : Ground) (asked : Option ℕ) : Type 0 where
   pub may_be_asked : MayBeAsked asked
   pub version : IsTrue (is_version (version_line ls))
-  pub agents : AllZip (StandsFor g) (take (length earlier) (agent_lines ls)) earlier
-  pub apart : AreApart earlier
+  pub agents : AllZip (StandsForTask g) (take (length earlier) (agent_lines ls)) earlier
+  pub apart : AreTasksApart earlier
 
 -- all that is judged before this agent line is right, and the line is to be read
-pub record Reaches (earlier : List Task) (line : Line) (ls : List Bytes) (g : Ground) (asked : Option ℕ) : Type 0 where
-  pub right : IsRightUpTo earlier ls g asked
+pub record ReachesScenLine (earlier : List Task) (line : Line) (ls : List Bytes) (g : Ground) (asked : Option ℕ) : Type 0 where
+  pub right : IsScenRightUpTo earlier ls g asked
   pub wanted : MatchOption asked (Unit {0}) (λ count. length earlier < count)
   pub few : length earlier < MAX_AGENTS
   pub is_next : slice_get (agent_lines ls) (length earlier) ≡ Some line
 
 -- the fault is there, and all that is judged before it is right. Lines and fields count from 1
-abbrev pub IsFirstFault : List Bytes → Ground → Option ℕ → ScenFault → Type 0
-IsFirstFault ls g asked OutOfMemory = ⊥
-IsFirstFault ls g asked Version = MayBeAsked asked × (IsTrue (is_version (version_line ls)) → ⊥)
-IsFirstFault ls g asked (Fields line) =
-    (earlier : List Task) × (ws : List Bytes) × Reaches earlier (line, ws) ls g asked × (length ws ≢ 9)
-IsFirstFault ls g asked (Number line field) =
-    (earlier : List Task) × (ws : List Bytes) × Reaches earlier (line, ws) ls g asked × (length ws ≡ 9)
+abbrev pub IsFirstScenLineFault : List Bytes → Ground → Option ℕ → ScenFault → Type 0
+IsFirstScenLineFault ls g asked OutOfMemory = ⊥
+IsFirstScenLineFault ls g asked Version = MayBeAsked asked × (IsTrue (is_version (version_line ls)) → ⊥)
+IsFirstScenLineFault ls g asked (Fields line) =
+    (earlier : List Task) × (ws : List Bytes) × ReachesScenLine earlier (line, ws) ls g asked × (length ws ≢ 9)
+IsFirstScenLineFault ls g asked (Number line field) =
+    (earlier : List Task) × (ws : List Bytes) × ReachesScenLine earlier (line, ws) ls g asked × (length ws ≡ 9)
     × (k : ℕ) × (field ≡ k + 3) × (position is_none (numbers_in ws) ≡ Some k)
-IsFirstFault ls g asked (OtherMap line) =
-    (earlier : List Task) × (ws : List Bytes) × Reaches earlier (line, ws) ls g asked
-    × (w h : ℕ) × (t : Task) × Spells ws w h t × ((w ≡ g.width) × (h ≡ g.height) → ⊥)
-IsFirstFault ls g asked (Blocked line) =
-    (earlier : List Task) × (ws : List Bytes) × Reaches earlier (line, ws) ls g asked
-    × (t : Task) × Spells ws g.width g.height t × (IsOpen g t → ⊥)
-IsFirstFault ls g asked (SharedStart line) =
-    (earlier : List Task) × (ws : List Bytes) × Reaches earlier (line, ws) ls g asked
-    × (t : Task) × StandsFor g (line, ws) t × Any (λ s. s.start ≡ t.start) earlier
-IsFirstFault ls g asked (SharedGoal line) =
-    (earlier : List Task) × (ws : List Bytes) × Reaches earlier (line, ws) ls g asked
-    × (t : Task) × StandsFor g (line, ws) t × (Any (λ s. s.start ≡ t.start) earlier → ⊥) × Any (λ s. s.goal ≡ t.goal) earlier
-IsFirstFault ls g asked NoAgents =
+IsFirstScenLineFault ls g asked (OtherMap line) =
+    (earlier : List Task) × (ws : List Bytes) × ReachesScenLine earlier (line, ws) ls g asked
+    × (w h : ℕ) × (t : Task) × SpellsTask ws w h t × ((w ≡ g.width) × (h ≡ g.height) → ⊥)
+IsFirstScenLineFault ls g asked (Blocked line) =
+    (earlier : List Task) × (ws : List Bytes) × ReachesScenLine earlier (line, ws) ls g asked
+    × (t : Task) × SpellsTask ws g.width g.height t × (HasPassableEnds g t → ⊥)
+IsFirstScenLineFault ls g asked (SharedStart line) =
+    (earlier : List Task) × (ws : List Bytes) × ReachesScenLine earlier (line, ws) ls g asked
+    × (t : Task) × StandsForTask g (line, ws) t × Any (λ s. s.start ≡ t.start) earlier
+IsFirstScenLineFault ls g asked (SharedGoal line) =
+    (earlier : List Task) × (ws : List Bytes) × ReachesScenLine earlier (line, ws) ls g asked
+    × (t : Task) × StandsForTask g (line, ws) t × (Any (λ s. s.start ≡ t.start) earlier → ⊥) × Any (λ s. s.goal ≡ t.goal) earlier
+IsFirstScenLineFault ls g asked NoAgents =
     (asked ≡ Some 0) ⊎ ((asked ≡ None) × IsTrue (is_version (version_line ls)) × (agent_lines ls ≡ []))
-IsFirstFault ls g asked TooMany =
+IsFirstScenLineFault ls g asked TooMany =
     ((count : ℕ) × (asked ≡ Some count) × (MAX_AGENTS < count))
-    ⊎ ((asked ≡ None) × (earlier : List Task) × IsRightUpTo earlier ls g asked × (length earlier ≡ MAX_AGENTS) × (MAX_AGENTS < length (agent_lines ls)))
-IsFirstFault ls g asked Fewer =
-    (count : ℕ) × (asked ≡ Some count) × (earlier : List Task) × IsRightUpTo earlier ls g asked × (length (agent_lines ls) ≡ length earlier) × (length earlier < count)
+    ⊎ ((asked ≡ None) × (earlier : List Task) × IsScenRightUpTo earlier ls g asked × (length earlier ≡ MAX_AGENTS) × (MAX_AGENTS < length (agent_lines ls)))
+IsFirstScenLineFault ls g asked Fewer =
+    (count : ℕ) × (asked ≡ Some count) × (earlier : List Task) × IsScenRightUpTo earlier ls g asked × (length (agent_lines ls) ≡ length earlier) × (length earlier < count)
 
 abbrev pub IsFirstScenFault : Bytes → Ground → Option ℕ → ScenFault → Type 0
-IsFirstScenFault text g asked fault = IsFirstFault (lines text) g asked fault
+IsFirstScenFault text g asked fault = IsFirstScenLineFault (lines text) g asked fault

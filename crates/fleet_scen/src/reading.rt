@@ -4,8 +4,8 @@ ghost use Rattle.std.specs.Prelude.{◌≡◌, ◌≢◌, ◌<◌, ◌+◌, ◌^
 ghost use Rattle.fleet_model.specs.declared.task.Task.{Task};
 ghost use Rattle.fleet_model.specs.Answer.{IsDueUnless};
 ghost use Rattle.fleet_text.specs.Text.{lines, words};
-ghost use Rattle.fleet_scen.specs.ScenText.{is_filled, is_version, IsOpen, IsScenText, IsFirstScenFault};
-ghost use Rattle.fleet_scen.specs.ScenReading.{numbers_at, task_at, lacks, ended, tasks_at, after_version, judge_asked, scen_at};
+ghost use Rattle.fleet_scen.specs.ScenText.{is_filled, is_version, HasPassableEnds, IsScenText, IsFirstScenFault};
+ghost use Rattle.fleet_scen.specs.ScenReading.{numbers_at, task_at, lacks, scen_judged, tasks_at, after_version, judge_asked, scen_at};
 
 use crate::fault::ScenFault;
 use crate::fields::fields_of;
@@ -153,7 +153,7 @@ fn tasks_of(
 
 /// The tasks, where they are enough.
 fn enough_tasks(asked: Option<u16>, tasks: Vec<Task>) -> Result<Vec<Task>, ScenFault>
-    ensures { IsDueUnless (λ v. v.items) result (ended asked tasks.items) ScenFault.OutOfMemory }
+    ensures { IsDueUnless (λ v. v.items) result (scen_judged asked tasks.items) ScenFault.OutOfMemory }
 {
     match asked {
         None if tasks.is_empty() => Err(ScenFault::NoAgents),
@@ -199,7 +199,7 @@ pub fn read_scen(
 ) -> Result<Instance, ScenFault>
     // The text stands for what is read.
     ensures found { IfOk result (λ tasks. IsScenText bytes.now grid.now asked tasks) }
-    ensures cells { IfOk result (All (IsOpen grid.now)) }
+    ensures cells { IfOk result (All (HasPassableEnds grid.now)) }
     // What stands for tasks is read, unless memory runs out.
     ensures read { (tasks : List Task) → IsScenText bytes.now grid.now asked tasks → IsOkUnless result ScenFault.OutOfMemory }
     // Which fault it is.

@@ -9,7 +9,7 @@ use Rattle.fleet_model.specs.declared.geometry.Cell.{Cell}
 use Rattle.fleet_model.specs.Geometry.{place_of}
 use Rattle.fleet_plan.specs.Plan.{Plan, cell_at, cell_of}
 use Rattle.fleet_search.specs.Way.{FitTogether, Follow, StepFits}
-use Rattle.fleet_search.specs.Reserved.{IsOn, IsFree, LeadsBack}
+use Rattle.fleet_search.specs.Reserved.{IsOn, IsUnoccupied, LeadsBack}
 use Rattle.fleet_search.proofs.Steps.{shortened, Follow-append}
 use Rattle.fleet_search.proofs.OneByOne.{one_by_one}
 
@@ -49,7 +49,7 @@ module _ (plan : Plan) (fit : FitTogether plan) (t : ℕ) (from to : Cell) (i : 
           let same : j ≡ a = only_one plan fit t cell j a (record { agent = g.0; on = g.1 }) on in
           (js, subst (λ z. Follow plan t z js from) (ap (λ z. cell_of plan z (t + 1)) same ∙ sym e) g.3, omega arith)
 
-  pub chase-nobody : IsFree plan t cell → cell ≢ from → LeadsBack plan t from to → ⊥
+  pub chase-nobody : IsUnoccupied plan t cell → cell ≢ from → LeadsBack plan t from to → ⊥
   chase-nobody free ne back = go (ch.rest back.0 back.1)
     where
       go : (js : List ℕ) × Follow plan t cell js from × (length back.0 ≡ i + length js) → ⊥
@@ -81,7 +81,7 @@ module _ (plan : Plan) (fit : FitTogether plan) (t : ℕ) (from to : Cell) (i : 
 -- ---- the test of a step
 
 -- where somebody else enters the cell that is left, or nobody does
-pub enters : (plan : Plan) (t : ℕ) (c : Cell) (js : List ℕ) (d : Cell) → c ≢ d → Follow plan t c js d → IsFree plan (t + 1) d → ⊥
+pub enters : (plan : Plan) (t : ℕ) (c : Cell) (js : List ℕ) (d : Cell) → c ≢ d → Follow plan t c js d → IsUnoccupied plan (t + 1) d → ⊥
 enters plan t c [] d ne f free = ne f
 enters plan t c (j ∷ []) d ne f free = free j f.0 f.3
 enters plan t c (j ∷ k ∷ js) d ne f free = enters-on (cell_of plan j (t + 1)) (k ∷ js) f.3 (omega arith)
@@ -101,10 +101,10 @@ unfolding cell_of
 goes_to paths plan a t p c d e on g f = f ∙ ap (λ z. cell_at z (t + 1)) (get_or_read paths a p (subst (λ z. a < length z) (sym e) on.agent) g []) ∙ ap (λ z. cell_of z a (t + 1)) e
 
 -- the whole test: nobody stands there at the end, and no ring is closed
-pub step_ok-same : (plan : Plan) (t : ℕ) (from to : Cell) → IsFree plan (t + 1) to → from ≡ to → StepFits plan t from to
+pub step_ok-same : (plan : Plan) (t : ℕ) (from to : Cell) → IsUnoccupied plan (t + 1) to → from ≡ to → StepFits plan t from to
 step_ok-same plan t from to free e = record { vertex = free; ring = λ ne. absurd (ne e) }
 
-pub step_ok-alone : (plan : Plan) (t : ℕ) (from to : Cell) → IsFree plan (t + 1) to → IsFree plan (t + 1) from → StepFits plan t from to
+pub step_ok-alone : (plan : Plan) (t : ℕ) (from to : Cell) → IsUnoccupied plan (t + 1) to → IsUnoccupied plan (t + 1) from → StepFits plan t from to
 step_ok-alone plan t from to free alone = record { vertex = free; ring = λ ne js f. enters plan t to js from (λ e. ne (sym e)) f alone }
 
 pub of_none : {P : Type 0} (o : Option ℕ) (b : Bool) → b ≡ is_some o → b ≡ false → IfNone o P → P

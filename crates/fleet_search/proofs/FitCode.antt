@@ -4,17 +4,17 @@ use Rattle.std.proofs.lemmas.Bool.{cases_lt}
 use Rattle.fleet_model.specs.declared.geometry.Cell.{Cell}
 use Rattle.fleet_plan.specs.Plan.{Plan, cell_at}
 use Rattle.fleet_search.specs.Way.{Fits, StepFits, arrival}
-use Rattle.fleet_search.specs.Reserved.{IsOn, IsFree, IsFreeFrom}
+use Rattle.fleet_search.specs.Reserved.{IsOn, IsUnoccupied, IsFreeFrom}
 use Rattle.fleet_search.proofs.Steps.{each_step, from_each_step}
 use Rattle.fleet_search.proofs.Occupants.{cell_at-late}
 
 -- each step before the time fits, and nobody stands on the first cell
 pub record FitsUpTo (plan : Plan) (path : List Cell) (n : ℕ) : Type 0 where
-  pub first : IsFree plan 0 (cell_at path 0)
+  pub first : IsUnoccupied plan 0 (cell_at path 0)
   pub steps : (t : ℕ) → t < n → StepFits plan t (cell_at path t) (cell_at path (t + 1))
 
 -- nobody stands where the path is
-pub fits-free : (plan : Plan) (path : List Cell) → Fits plan path → (t : ℕ) → IsFree plan t (cell_at path t)
+pub fits-free : (plan : Plan) (path : List Cell) → Fits plan path → (t : ℕ) → IsUnoccupied plan t (cell_at path t)
 fits-free plan path fits zero = (each_step plan path fits).first
 fits-free plan path fits (suc t) = rw (← add-one) (((each_step plan path fits).steps t).vertex)
 

@@ -7,16 +7,16 @@ use Rattle.fleet_model.specs.declared.limits.TheConstants.{MAX_HORIZON}
 use Rattle.fleet_plan.specs.Plan.{Plan}
 use Rattle.fleet_search.specs.declared.occupancy.Occupancy.{Occupancy}
 use Rattle.fleet_search.specs.Occupancies.{occupancy_at, no_stay, IsDuring, AreStays}
-use Rattle.fleet_search.specs.Intervals.{AreApart, IsInInterval, AreBegun}
-use Rattle.fleet_search.specs.Reserved.{IsFree, IsFreeOn}
+use Rattle.fleet_search.specs.Intervals.{AreSuccessive, IsInInterval, AreBegun}
+use Rattle.fleet_search.specs.Reserved.{IsUnoccupied, IsFreeOn}
 
 -- ---- lists of stays
 
-pub stays-apart : (plan : Plan) (c : Cell) (occupancies : List Occupancy) → AreStays plan c occupancies → AreApart occupancies
+pub stays-apart : (plan : Plan) (c : Cell) (occupancies : List Occupancy) → AreStays plan c occupancies → AreSuccessive occupancies
 stays-apart plan c occupancies s = record { some_time = λ i h. (s.each i h).some_time; apart = s.apart }
 
 -- each begins before all later ones
-pub apart-from : (occupancies : List Occupancy) → AreApart occupancies → (i j : ℕ) → i ≤ j → j < length occupancies → (occupancy_at occupancies i).from ≤ (occupancy_at occupancies j).from
+pub apart-from : (occupancies : List Occupancy) → AreSuccessive occupancies → (i j : ℕ) → i ≤ j → j < length occupancies → (occupancy_at occupancies i).from ≤ (occupancy_at occupancies j).from
 apart-from occupancies a i j h l = elim (cases_eq i j) [
   | inl e ↦ let z = ap (λ z. (occupancy_at occupancies z).from) e in omega arith
   | inr ne ↦ let x = a.apart i j (omega arith) l in let y = a.some_time i (omega arith) in omega arith
@@ -27,7 +27,7 @@ started_by-point occupancies t n b p = record { bound = b; started_by = λ i h. 
 
 -- ---- the safe interval of a time
 
-earlier : (occupancies : List Occupancy) → AreApart occupancies → (t n k : ℕ) → n < k → IsInInterval occupancies n t → IsInInterval occupancies k t → ⊥
+earlier : (occupancies : List Occupancy) → AreSuccessive occupancies → (t n k : ℕ) → n < k → IsInInterval occupancies n t → IsInInterval occupancies k t → ⊥
 earlier occupancies a t n k l g h =
     let b = h.bound in
     let c = g.to_come n (omega arith) (omega arith) in
@@ -35,7 +35,7 @@ earlier occupancies a t n k l g h =
     let s = a.some_time n (omega arith) in
     omega arith
 
-pub one_gap : (occupancies : List Occupancy) → AreApart occupancies → (t n k : ℕ) → IsInInterval occupancies n t → IsInInterval occupancies k t → n ≡ k
+pub one_gap : (occupancies : List Occupancy) → AreSuccessive occupancies → (t n k : ℕ) → IsInInterval occupancies n t → IsInInterval occupancies k t → n ≡ k
 one_gap occupancies a t n k g h = elim (cases_eq n k) [
   | inl e ↦ e
   | inr ne ↦ elim (cases_lt n k) [
@@ -53,7 +53,7 @@ interval-between occupancies k s t u g h a b = record {
 }
 
 -- what has to be looked at: the stays at both ends of the safe interval
-pub interval-from_ends : (occupancies : List Occupancy) → AreApart occupancies → (k t : ℕ) → k ≤ length occupancies → t ≤ 4294967295 → (1 ≤ k → (occupancy_at occupancies (k - 1)).until < t) → (k < length occupancies → t < (occupancy_at occupancies k).from) → IsInInterval occupancies k t
+pub interval-from_ends : (occupancies : List Occupancy) → AreSuccessive occupancies → (k t : ℕ) → k ≤ length occupancies → t ≤ 4294967295 → (1 ≤ k → (occupancy_at occupancies (k - 1)).until < t) → (k < length occupancies → t < (occupancy_at occupancies k).from) → IsInInterval occupancies k t
 interval-from_ends occupancies a k t b few past next = record {
   bound = b;
   over = λ i h.
@@ -65,13 +65,13 @@ interval-from_ends occupancies a k t b few past next = record {
   to_come = λ i h l. let n = next (omega arith) in let z = apart-from occupancies a k i h l in omega arith;
 }
 
-pub first-none : (occupancies : List Occupancy) → AreApart occupancies → (k from t : ℕ) → k ≤ length occupancies → t ≤ 4294967295 → (1 ≤ k → (occupancy_at occupancies (k - 1)).until < t) → ((s : ℕ) → from ≤ s → IsInInterval occupancies k s → t ≤ s) → (IsInInterval occupancies k t → ⊥) → (s : ℕ) → from ≤ s → IsInInterval occupancies k s → ⊥
+pub first-none : (occupancies : List Occupancy) → AreSuccessive occupancies → (k from t : ℕ) → k ≤ length occupancies → t ≤ 4294967295 → (1 ≤ k → (occupancy_at occupancies (k - 1)).until < t) → ((s : ℕ) → from ≤ s → IsInInterval occupancies k s → t ≤ s) → (IsInInterval occupancies k t → ⊥) → (s : ℕ) → from ≤ s → IsInInterval occupancies k s → ⊥
 first-none occupancies a k from t b few past first out s h g =
     out (interval-from_ends occupancies a k t b few past (λ l. let z = g.to_come k (omega arith) l in let f = first s h g in omega arith))
 
 -- ---- how many stays have begun
 
-started_by-below : (occupancies : List Occupancy) → AreApart occupancies → (t m : ℕ) → m ≤ length occupancies → (n : ℕ) × (n ≤ m) × ((i : ℕ) → i < n → (occupancy_at occupancies i).from ≤ t) × ((i : ℕ) → n ≤ i → i < m → t < (occupancy_at occupancies i).from)
+started_by-below : (occupancies : List Occupancy) → AreSuccessive occupancies → (t m : ℕ) → m ≤ length occupancies → (n : ℕ) × (n ≤ m) × ((i : ℕ) → i < n → (occupancy_at occupancies i).from ≤ t) × ((i : ℕ) → n ≤ i → i < m → t < (occupancy_at occupancies i).from)
 started_by-below occupancies a t zero b = (0, omega arith, (λ i h. absurd (omega arith)), (λ i h l. absurd (omega arith)))
 started_by-below occupancies a t (suc m) b = elim (cases_lt t (occupancy_at occupancies m).from) [
   | inr l ↦ (m + 1, omega arith, (λ i h. let z = apart-from occupancies a i m (omega arith) (omega arith) in omega arith), (λ i h k. absurd (omega arith)))
@@ -88,7 +88,7 @@ started_by-below occupancies a t (suc m) b = elim (cases_lt t (occupancy_at occu
       )
 ]
 
-started_by-some : (occupancies : List Occupancy) → AreApart occupancies → (t : ℕ) → (n : ℕ) × AreBegun occupancies t n
+started_by-some : (occupancies : List Occupancy) → AreSuccessive occupancies → (t : ℕ) → (n : ℕ) × AreBegun occupancies t n
 started_by-some occupancies a t =
     let w = started_by-below occupancies a t (length occupancies) (omega arith) in
     (w.0, record { bound = w.1; started_by = w.2; to_come = w.3 })
@@ -97,7 +97,7 @@ started_by-some occupancies a t =
 
 module _ (plan : Plan) (c : Cell) (occupancies : List Occupancy) (s : AreStays plan c occupancies) where
   -- in a safe interval nobody is on the cell
-  pub interval-free : (k t : ℕ) → IsInInterval occupancies k t → IsFree plan t c
+  pub interval-free : (k t : ℕ) → IsInInterval occupancies k t → IsUnoccupied plan t c
   interval-free k t g j h on =
       let w = s.all t j (record { agent = h; on = on }) in
       elim (cases_lt w.0 k) [
@@ -109,11 +109,11 @@ module _ (plan : Plan) (c : Cell) (occupancies : List Occupancy) (s : AreStays p
   interval-free_on k t u g h x a b = interval-free k x (interval-between occupancies k t u x g h a b)
 
   -- somebody is on the cell during a stay
-  during-taken : (i t : ℕ) → i < length occupancies → IsDuring (occupancy_at occupancies i) t → IsFree plan t c → ⊥
+  during-taken : (i t : ℕ) → i < length occupancies → IsDuring (occupancy_at occupancies i) t → IsUnoccupied plan t c → ⊥
   during-taken i t h d free = free (occupancy_at occupancies i).agent (s.each i h).agent ((s.each i h).on t d)
 
   -- where nobody is on the cell, the time is in the safe interval after the stays that have begun
-  pub free-interval : (t n : ℕ) → t ≤ 4294967295 → AreBegun occupancies t n → IsFree plan t c → IsInInterval occupancies n t
+  pub free-interval : (t n : ℕ) → t ≤ 4294967295 → AreBegun occupancies t n → IsUnoccupied plan t c → IsInInterval occupancies n t
   free-interval t n few b free = record {
     bound = b.bound;
     over = λ i h. elim (cases_lt (occupancy_at occupancies i).until t) [
@@ -123,7 +123,7 @@ module _ (plan : Plan) (c : Cell) (occupancies : List Occupancy) (s : AreStays p
     to_come = b.to_come;
   }
 
-  pub some_gap : (t : ℕ) → t ≤ 4294967295 → IsFree plan t c → (n : ℕ) × IsInInterval occupancies n t
+  pub some_gap : (t : ℕ) → t ≤ 4294967295 → IsUnoccupied plan t c → (n : ℕ) × IsInInterval occupancies n t
   some_gap t few free = let w = started_by-some occupancies (stays-apart plan c occupancies s) t in (w.0, free-interval t w.0 few w.1 free)
 
   -- they begin at different times, and none begins late

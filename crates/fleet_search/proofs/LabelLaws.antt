@@ -8,7 +8,7 @@ use Rattle.fleet_table.specs.Table.{value_in, IsSet}
 use Rattle.fleet_search.proofs.OccupancyRows.{list-read, list-set, list-other}
 use Rattle.fleet_search.specs.declared.labels.Label.{Label}
 use Rattle.fleet_search.specs.declared.labels.Labels.{Labels}
-use Rattle.fleet_search.specs.Labels.{no_label, later_in, label_in, earliest_in, AreLabels, AreRowsApart, IsLabelPut, IsLabelSet}
+use Rattle.fleet_search.specs.Labels.{no_label, later_in, label_in, earliest_in, AreLabels, HaveOwnRows, IsLabelPut, IsLabelSet}
 
 -- what a label says to a search
 abbrev said : ℕ → Label → Option ℕ
@@ -21,7 +21,7 @@ label_is_set old new cell interval label mine put = record {
   others = λ c n w. ap (said new.search) (put.others c n w) ∙ ap (λ z. said z (label_in old c n)) put.search;
 }
 
-pub labels_stay : (old new : Labels) (cell interval : ℕ) (label : Label) → label.search ≡ old.search → AreLabels old → AreRowsApart new → IsLabelPut old new cell interval label → AreLabels new
+pub labels_stay : (old new : Labels) (cell interval : ℕ) (label : Label) → label.search ≡ old.search → AreLabels old → HaveOwnRows new → IsLabelPut old new cell interval label → AreLabels new
 labels_stay old new cell interval label mine were rows put = record {
   past = λ c n. elim (cases_eq c cell) [
     | inr ne ↦ other c n (inl ne)
@@ -43,7 +43,7 @@ labels_stay old new cell interval label mine were rows put = record {
         omega (arith, same, before, put.search)
 
 -- a search begins
-pub next_search : (l m : Labels) → AreLabels l → AreRowsApart m → m.search ≡ l.search + 1 → ((c n : ℕ) → label_in m c n ≡ label_in l c n) → AreLabels m × ((c n : ℕ) → earliest_in m c n ≡ None)
+pub next_search : (l m : Labels) → AreLabels l → HaveOwnRows m → m.search ≡ l.search + 1 → ((c n : ℕ) → label_in m c n ≡ label_in l c n) → AreLabels m × ((c n : ℕ) → earliest_in m c n ≡ None)
 next_search l m were rows later same = (
   record {
     past = λ c n. (let s = ap (λ (z : Label). z.search) (same c n) in let p = were.past c n in omega (arith, s, p, later));

@@ -9,7 +9,7 @@ use Rattle.fleet_model.specs.declared.geometry.Cell.{Cell}
 use Rattle.fleet_model.proofs.Cells.{cell_from_parts}
 use Rattle.fleet_plan.specs.Plan.{Plan}
 use Rattle.fleet_search.specs.declared.occupancy.Occupancy.{Occupancy}
-use Rattle.fleet_search.specs.Occupancies.{Rows, occupancies_of, IsPlaced, IsAdded, AreStays, without, occupancy_at}
+use Rattle.fleet_search.specs.Occupancies.{Rows, occupancies_of, IsPutIn, IsAdded, AreStays, without, occupancy_at}
 
 -- ---- lists of lists
 
@@ -111,16 +111,16 @@ module _ (rows : Rows) (cell : Cell) (y x : ℕ) (ey : y ≡ cell.y) (ex : x ≡
     ]
   ]
 
-  pub list-added : (occupancy : Occupancy) (old : Rows) → ((c : Cell) → occupancies_of rows c ≡ occupancies_of old c) → IsPlaced list.items list'.items occupancy → IsAdded old (set rows y new) cell occupancy
+  pub list-added : (occupancy : Occupancy) (old : Rows) → ((c : Cell) → occupancies_of rows c ≡ occupancies_of old c) → IsPutIn list.items list'.items occupancy → IsAdded old (set rows y new) cell occupancy
   list-added occupancy old h p = record {
-    here = subst (λ z. IsPlaced z (occupancies_of (set rows y new) cell) occupancy) (sym (list-here rows cell y x ey ex row lists list l e same m f) ∙ h cell) (subst (λ z. IsPlaced list.items z occupancy) (sym list-put) p);
+    here = subst (λ z. IsPutIn z (occupancies_of (set rows y new) cell) occupancy) (sym (list-here rows cell y x ey ex row lists list l e same m f) ∙ h cell) (subst (λ z. IsPutIn list.items z occupancy) (sym list-put) p);
     others = λ c ne. list-kept c ne ∙ h c;
   }
 
 -- ---- the stays of one agent are taken out
 
 -- the others stay
-pub without-placed : (old new : List Occupancy) (occupancy : Occupancy) (agent : ℕ) → IsPlaced old new occupancy → occupancy.agent ≡ agent → without agent new ≡ without agent old
+pub without-placed : (old new : List Occupancy) (occupancy : Occupancy) (agent : ℕ) → IsPutIn old new occupancy → occupancy.agent ≡ agent → without agent new ≡ without agent old
 without-placed old new occupancy agent p e =
     let test : Occupancy → Bool = λ s. not (s.agent == agent) in
     ap (without agent) p.is

@@ -6,7 +6,7 @@ use Rattle.fleet_model.specs.declared.geometry.Cell.{Cell}
 use Rattle.fleet_model.specs.Geometry.{place_of}
 use Rattle.fleet_model.specs.Conflict.{Motion, HasVertexConflict, HasSwappingConflict, HasCycleConflict, after_in}
 use Rattle.fleet_plan.specs.Plan.{Plan, planned}
-use Rattle.fleet_search.specs.Way.{joined, Fits, FitTogether, HasNoConflict}
+use Rattle.fleet_search.specs.Way.{joined, Fits, FitTogether, AreConflictFree}
 use Rattle.fleet_search.proofs.Steps.{joined-old, length-joined}
 
 -- ---- conflicts among agents that move alike
@@ -64,7 +64,7 @@ in_or_not (a ∷ ring) n = elim (cases_eq a n) [
 
 -- ---- one more path
 
-module _ (xs : Plan) (path : List Cell) (free : HasNoConflict xs) (fits : Fits xs path) where
+module _ (xs : Plan) (path : List Cell) (free : AreConflictFree xs) (fits : Fits xs path) where
   alike : (x i : ℕ) → i < length xs → planned (joined xs path) x i ≡ planned xs x i
   alike x i h = ap place_of (joined-old xs path i x h)
 
@@ -109,24 +109,24 @@ module _ (xs : Plan) (path : List Cell) (free : HasNoConflict xs) (fits : Fits x
           let ne : get_or ring k e ≢ length xs = none k e h in
           omega (arith, length-joined xs path)
 
-  pub joined_free : HasNoConflict (joined xs path)
+  pub joined_free : AreConflictFree (joined xs path)
   joined_free = record { vertex = no_vertex; swapping = no_swapping; cycle = no_cycle }
 
-pub none_free : HasNoConflict []
+pub none_free : AreConflictFree []
 none_free = record {
   vertex = λ x i j a b w. absurd (omega arith);
   swapping = λ x i j a b w. absurd (omega arith);
   cycle = λ x ring inside w. absurd (let long : 3 ≤ length ring = w.three in let h : get_or ring 0 0 < 0 = inside 0 0 (omega arith) in omega arith);
 }
 
-front-free : (plan : Plan) → FitTogether plan → (n : ℕ) → n ≤ length plan → HasNoConflict (take n plan)
+front-free : (plan : Plan) → FitTogether plan → (n : ℕ) → n ≤ length plan → AreConflictFree (take n plan)
 front-free plan fit zero h = none_free
 front-free plan fit (suc n) h =
     let e : take (suc n) plan ≡ joined (take n plan) (get_or plan n []) = ap (λ z. take z plan) (sym (add-one n)) ∙ take_more plan n [] (omega arith) in
-    subst HasNoConflict (sym e) (joined_free (take n plan) (get_or plan n []) (front-free plan fit n (omega arith)) (fit n (omega arith)))
+    subst AreConflictFree (sym e) (joined_free (take n plan) (get_or plan n []) (front-free plan fit n (omega arith)) (fit n (omega arith)))
 
-pub one_by_one : (plan : Plan) → FitTogether plan → HasNoConflict plan
-one_by_one plan fit = subst HasNoConflict (take_all (length plan) plan (omega arith)) (front-free plan fit (length plan) (omega arith))
+pub one_by_one : (plan : Plan) → FitTogether plan → AreConflictFree plan
+one_by_one plan fit = subst AreConflictFree (take_all (length plan) plan (omega arith)) (front-free plan fit (length plan) (omega arith))
 
 -- one more that fits
 pub FitTogether-push : (plan : Plan) (path : List Cell) → FitTogether plan → Fits plan path → FitTogether (joined plan path)

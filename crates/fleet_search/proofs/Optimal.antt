@@ -13,9 +13,9 @@ use Rattle.fleet_search.specs.declared.labels.Labels.{Labels}
 use Rattle.fleet_search.specs.declared.frontier.Node.{Node}
 use Rattle.fleet_grid.specs.Ground.{is_passable}
 use Rattle.fleet_search.specs.Way.{arrival, StepFits, IsFeasiblePath, IsEarliest, IsInfeasible}
-use Rattle.fleet_search.specs.Rows.{row_in}
-use Rattle.fleet_search.specs.Reserved.{IsFree, IsFreeFrom, IsFreeOn}
-use Rattle.fleet_search.specs.Search.{heuristic_of, IsMeasured, IsStep, IsBucket, IsEnd, state_in, IsKnown, IsCovered, IsExpanded, IsSuperseded, IsSettled, IsFrontier, IsAsked, IsTrail}
+use Rattle.fleet_search.specs.Rows.{bucket_in}
+use Rattle.fleet_search.specs.Reserved.{IsUnoccupied, IsFreeFrom, IsFreeOn}
+use Rattle.fleet_search.specs.Search.{heuristic_of, IsMeasured, IsStep, IsBucket, IsGoalState, state_in, IsKnown, IsCovered, IsExpanded, IsSuperseded, IsStateSettled, IsFrontier, IsPosed, IsTrail}
 use Rattle.fleet_search.proofs.Steps.{each_step, from_each_step}
 use Rattle.fleet_search.proofs.FitCode.{fits-free}
 use Rattle.fleet_search.proofs.Occupants.{cell_at-late}
@@ -51,7 +51,7 @@ way-least : (q : Query) → IsMeasured q → (path : List Cell) → IsFeasiblePa
 way-least q m path w = let h = way-bound q m path w 0 (omega arith) in let e = ap (heuristic_of q) w.starts in omega arith
 
 module _ (passable : Place → Bool) (reserved : Plan) (start goal : Cell) (path : List Cell) (w : IsFeasiblePath passable reserved start goal path) where
-  way-free_at : (t : ℕ) → IsFree reserved t (cell_at path t)
+  way-free_at : (t : ℕ) → IsUnoccupied reserved t (cell_at path t)
   way-free_at t = fits-free reserved path w.fits t
 
   -- the goal is free from the arrival on
@@ -59,10 +59,10 @@ module _ (passable : Place → Bool) (reserved : Plan) (start goal : Cell) (path
   no-way-busy u h j p e = way-free_at u j p (e ∙ sym w.ends ∙ sym (cell_at-late path u h))
 
   -- nobody stands on the start
-  pub no-way-taken : IsFree reserved 0 start
+  pub no-way-taken : IsUnoccupied reserved 0 start
   no-way-taken j p e = way-free_at 0 j p (e ∙ sym w.starts)
 
-free-always : (q : Query) (path : List Cell) → IsFeasiblePathOf q path → (t : ℕ) → IsFree q.reserved.now t (cell_at path t)
+free-always : (q : Query) (path : List Cell) → IsFeasiblePathOf q path → (t : ℕ) → IsUnoccupied q.reserved.now t (cell_at path t)
 free-always q path w t = way-free_at (is_passable q.grid.now) q.reserved.now q.start q.goal path w t
 
 way-free : (q : Query) (path : List Cell) → IsFeasiblePathOf q path → IsFreeFrom q.reserved.now q.goal (arrival path)
@@ -72,7 +72,7 @@ way-free q path w = no-way-busy (is_passable q.grid.now) q.reserved.now q.start 
 pub no-way-heuristic : (q : Query) → IsMeasured q → (path : List Cell) → IsFeasiblePathOf q path → (horizon : ℕ) → horizon < heuristic_of q q.start → arrival path ≤ horizon → ⊥
 no-way-heuristic q m path w horizon l h = let least = way-least q m path w in omega arith
 
-module _ (q : Query) (f : ℕ) (left : Option ℕ) (r : List Node) (labels : Labels) (open_list : List (Vec ℕ Global)) (fr : IsFrontier q f left r labels open_list) (bound : (i : ℕ) → left ≡ Some i → IsBucket q (state_in r i) f) (ask : IsAsked q) (path : List Cell) (w : IsFeasiblePathOf q path) (in_time : arrival path ≤ q.horizon) (late : q.goal_free_from < f) (sooner : arrival path < f) where
+module _ (q : Query) (f : ℕ) (left : Option ℕ) (r : List Node) (labels : Labels) (open_list : List (Vec ℕ Global)) (fr : IsFrontier q f left r labels open_list) (bound : (i : ℕ) → left ≡ Some i → IsBucket q (state_in r i) f) (ask : IsPosed q) (path : List Cell) (w : IsFeasiblePathOf q path) (in_time : arrival path ≤ q.horizon) (late : q.goal_free_from < f) (sooner : arrival path < f) where
   -- all moves from the cell of the way at time t were noted, from a time since which it is free
   record IsLeftBy (t : ℕ) : Type 0 where
     since : ℕ
@@ -90,7 +90,7 @@ module _ (q : Query) (f : ℕ) (left : Option ℕ) (r : List Node) (labels : Lab
   left-after : (t : ℕ) → t ≤ arrival path → (cv : IsCovered q r (cell_at path t) t) → ((before : IsCovered q r (cell_at path t) t) → before.since < cv.since → IsLeftBy t) → IsLeftBy t
   left-after t h cv sooner = go (fr.done cv.known.0 cv.known.1)
     where
-      go : ((k : ℕ) × Contains (row_in open_list k) cv.known.0) ⊎ ((left ≡ Some cv.known.0) ⊎ IsSettled q r (state_in r cv.known.0)) → IsLeftBy t
+      go : ((k : ℕ) × Contains (bucket_in open_list k) cv.known.0) ⊎ ((left ≡ Some cv.known.0) ⊎ IsStateSettled q r (state_in r cv.known.0)) → IsLeftBy t
       go (inl x) =
           let l = not-open t cv.since x.0 cv.known.0 h cv.early cv.known.2 (fr.stacked x.0 cv.known.0 x.1).1 in
           absurd (let z = (subst (λ z. Contains z cv.known.0) (fr.past x.0 l) x.1).1 in omega arith)
@@ -121,7 +121,7 @@ module _ (q : Query) (f : ℕ) (left : Option ℕ) (r : List Node) (labels : Lab
     since = 0;
     early = omega arith;
     known = subst (λ z. IsKnown r (record { time = 0; cell = z })) (sym w.starts) fr.origin;
-    free = λ u x y. subst (λ v. IsFree q.reserved.now v (cell_at path 0)) (let g : 0 ≡ u = omega arith in g) (free-always q path w 0);
+    free = λ u x y. subst (λ v. IsUnoccupied q.reserved.now v (cell_at path 0)) (let g : 0 ≡ u = omega arith in g) (free-always q path w 0);
   })
   left-on (suc t) h = subst IsLeftBy (add-one t) (onward (left-on t (omega arith)) (w.successive t))
     where
@@ -130,8 +130,8 @@ module _ (q : Query) (f : ℕ) (left : Option ℕ) (r : List Node) (labels : Lab
         since = b.since;
         early = (let e = b.early in omega arith);
         free = λ u x y. elim (cases_lt t u) [
-          | inl l ↦ subst (λ v. IsFree q.reserved.now v (cell_at path (t + 1))) (let g : t + 1 ≡ u = omega arith in g) (free-always q path w (t + 1))
-          | inr l ↦ subst (IsFree q.reserved.now u) same (b.free u x l)
+          | inl l ↦ subst (λ v. IsUnoccupied q.reserved.now v (cell_at path (t + 1))) (let g : t + 1 ≡ u = omega arith in g) (free-always q path w (t + 1))
+          | inr l ↦ subst (IsUnoccupied q.reserved.now u) same (b.free u x l)
         ];
         expanded = subst (λ z. IsExpanded q r (record { time = b.since; cell = z })) same b.expanded;
       }
@@ -147,24 +147,24 @@ module _ (q : Query) (f : ℕ) (left : Option ℕ) (r : List Node) (labels : Lab
         w.ends,
         (ask.goal_free_from b.since).0 (λ u x. elim (cases_lt T u) [
           | inl l ↦ way-free q path w u (omega arith)
-          | inr l ↦ subst (IsFree q.reserved.now u) w.ends (b.free u x l)
+          | inr l ↦ subst (IsUnoccupied q.reserved.now u) w.ends (b.free u x l)
         ]),
       )
 
 -- no way arrives before this time
-pub at_least : (q : Query) (f : ℕ) (left : Option ℕ) (r : List Node) (labels : Labels) (open_list : List (Vec ℕ Global)) → IsFrontier q f left r labels open_list → ((i : ℕ) → left ≡ Some i → IsBucket q (state_in r i) f) → IsAsked q → (path : List Cell) → IsFeasiblePathOf q path → arrival path ≤ q.horizon → q.goal_free_from < f → f ≤ arrival path
+pub at_least : (q : Query) (f : ℕ) (left : Option ℕ) (r : List Node) (labels : Labels) (open_list : List (Vec ℕ Global)) → IsFrontier q f left r labels open_list → ((i : ℕ) → left ≡ Some i → IsBucket q (state_in r i) f) → IsPosed q → (path : List Cell) → IsFeasiblePathOf q path → arrival path ≤ q.horizon → q.goal_free_from < f → f ≤ arrival path
 at_least q f left r labels open_list fr bound ask path w in_time late = elim (cases_lt (arrival path) f) [
   | inl s ↦ absurd (none-sooner q f left r labels open_list fr bound ask path w in_time late s)
   | inr h ↦ h
 ]
 
 -- no way arrives before the goal is free for good
-pub way-goal_free_from : (q : Query) → IsAsked q → (path : List Cell) → IsFeasiblePathOf q path → q.goal_free_from ≤ arrival path
+pub way-goal_free_from : (q : Query) → IsPosed q → (path : List Cell) → IsFeasiblePathOf q path → q.goal_free_from ≤ arrival path
 way-goal_free_from q ask path w = (ask.goal_free_from (arrival path)).0 (way-free q path w)
 
 -- ---- a trail that ends at the goal, when it is free for good, is a way
 
-module _ (q : Query) (ask : IsAsked q) (n : ℕ) (path : List Cell) (tr : IsTrail q n q.goal path) (goal_free_from : q.goal_free_from ≤ n) where
+module _ (q : Query) (ask : IsPosed q) (n : ℕ) (path : List Cell) (tr : IsTrail q n q.goal path) (goal_free_from : q.goal_free_from ≤ n) where
   arrives : arrival path ≡ n
   arrives = let l = tr.long in omega arith
 
@@ -201,7 +201,7 @@ module _ (q : Query) (ask : IsAsked q) (n : ℕ) (path : List Cell) (tr : IsTrai
   }
 
 -- the first end that is found is one of an earliest way
-pub found_earliest : (q : Query) (f place : ℕ) (r : List Node) (labels : Labels) (open_list : List (Vec ℕ Global)) (path : List Cell) → IsAsked q → IsFrontier q f (Some place) r labels open_list → place < length r → IsBucket q (state_in r place) f → IsEnd q (state_in r place) → IsTrail q (state_in r place).time (state_in r place).cell path → IsEarliest (is_passable q.grid.now) q.reserved.now q.start q.goal q.horizon path
+pub found_earliest : (q : Query) (f place : ℕ) (r : List Node) (labels : Labels) (open_list : List (Vec ℕ Global)) (path : List Cell) → IsPosed q → IsFrontier q f (Some place) r labels open_list → place < length r → IsBucket q (state_in r place) f → IsGoalState q (state_in r place) → IsTrail q (state_in r place).time (state_in r place).cell path → IsEarliest (is_passable q.grid.now) q.reserved.now q.start q.goal q.horizon path
 found_earliest q f place r labels open_list path ask fr within bucket end tr = record {
   way = trail_is_way q ask (state_in r place).time path (subst (λ z. IsTrail q (state_in r place).time z path) end.0 tr) end.1;
   in_time = (let t = time in let b = (fr.sound place within).in_time in omega arith);
@@ -228,7 +228,7 @@ found_earliest q f place r labels open_list path ask fr within bucket end tr = r
     ]
 
 -- where all buckets up to the horizon are empty there is no way
-pub all_looked : (q : Query) (f : ℕ) (r : List Node) (labels : Labels) (open_list : List (Vec ℕ Global)) → IsAsked q → IsFrontier q f None r labels open_list → q.goal_free_from ≤ q.horizon → q.horizon < f → IsInfeasible (is_passable q.grid.now) q.reserved.now q.start q.goal q.horizon
+pub all_looked : (q : Query) (f : ℕ) (r : List Node) (labels : Labels) (open_list : List (Vec ℕ Global)) → IsPosed q → IsFrontier q f None r labels open_list → q.goal_free_from ≤ q.horizon → q.horizon < f → IsInfeasible (is_passable q.grid.now) q.reserved.now q.start q.goal q.horizon
 all_looked q f r labels open_list ask fr goal_free_from h path w in_time =
     let a = at_least q f None r labels open_list fr (λ i s. absurd (none-some i s)) ask path w in_time (omega arith) in
     omega arith

@@ -9,8 +9,8 @@ use Rattle.fleet_model.specs.declared.limits.TheConstants.{MAX_HORIZON}
 use Rattle.fleet_plan.specs.Plan.{Plan, cell_at, cell_of}
 use Rattle.fleet_search.specs.declared.occupancy.Occupancy.{Occupancy}
 use Rattle.fleet_search.specs.Way.{Fits, joined}
-use Rattle.fleet_search.specs.Reserved.{IsOn, IsFree, IsFreeFrom}
-use Rattle.fleet_search.specs.Occupancies.{IsDuring, IsStay, AreStays, AreInOrder, IsPlaced, no_stay, occupancy_at}
+use Rattle.fleet_search.specs.Reserved.{IsOn, IsUnoccupied, IsFreeFrom}
+use Rattle.fleet_search.specs.Occupancies.{IsDuring, IsStay, AreStays, AreInOrder, IsPutIn, no_stay, occupancy_at}
 use Rattle.fleet_search.proofs.Steps.{each_step, joined-old, joined-new, length-joined}
 
 -- ---- the order of time
@@ -39,7 +39,7 @@ module _ (plan : Plan) (c : Cell) (occupancies : List Occupancy) (h : AreStays p
     | inr a ↦ let later = point.1 i no_stay a l in let by = on.0 in absurd (omega arith)
   ]
 
-  pub nobody_yet : n ≡ 0 → IsFree plan t c
+  pub nobody_yet : n ≡ 0 → IsUnoccupied plan t c
   nobody_yet z j p e =
       let w = h.all t j (record { agent = p; on = e }) in
       let b = started_by-by w.0 w.1 w.2 in
@@ -52,7 +52,7 @@ module _ (plan : Plan) (c : Cell) (occupancies : List Occupancy) (h : AreStays p
       let u : occupancy.until ≡ (occupancy_at occupancies (n - 1)).until = ap (λ (s : Occupancy). s.until) e in
       subst (λ (z : Occupancy). IsOn plan t c z.agent) (sym e) (record { agent = s.agent; on = s.on t (by, inl (omega arith)) })
 
-  pub gone : (occupancy : Occupancy) → occupancy ≡ occupancy_at occupancies (n - 1) → 0 < n → occupancy.until < t → IsFree plan t c
+  pub gone : (occupancy : Occupancy) → occupancy ≡ occupancy_at occupancies (n - 1) → 0 < n → occupancy.until < t → IsUnoccupied plan t c
   gone occupancy e some l j p on =
       let w = h.all t j (record { agent = p; on = on }) in
       let b = started_by-by w.0 w.1 w.2 in
@@ -180,7 +180,7 @@ module _ (plan : Plan) (path : List Cell) (n : ℕ) (c : Cell) (occupancies : Li
   }
 
 -- a stay of the agent is put in
-module _ (plan : Plan) (path : List Cell) (fits : Fits plan path) (n : ℕ) (c : Cell) (xs ys : List Occupancy) (occupancy : Occupancy) (h : AreStaysTo plan path n c xs) (p : IsPlaced xs ys occupancy) (agent : occupancy.agent ≡ length plan) (from : occupancy.from ≡ n) (early : n ≤ MAX_HORIZON) (some_time : occupancy.from ≤ occupancy.until) (there : (t : ℕ) → IsDuring occupancy t → cell_at path t ≡ c) where
+module _ (plan : Plan) (path : List Cell) (fits : Fits plan path) (n : ℕ) (c : Cell) (xs ys : List Occupancy) (occupancy : Occupancy) (h : AreStaysTo plan path n c xs) (p : IsPutIn xs ys occupancy) (agent : occupancy.agent ≡ length plan) (from : occupancy.from ≡ n) (early : n ≤ MAX_HORIZON) (some_time : occupancy.from ≤ occupancy.until) (there : (t : ℕ) → IsDuring occupancy t → cell_at path t ≡ c) where
   long : length ys ≡ length xs + 1
   long = ap length p.is ∙ length-insert xs p.index occupancy p.bound
 

@@ -19,11 +19,11 @@ use Rattle.fleet_search.specs.declared.labels.Labels.{Labels}
 use Rattle.fleet_search.specs.declared.frontier.Node.{Node}
 use Rattle.fleet_search.specs.declared.frontier.Expansion.{Expansion}
 use Rattle.fleet_search.specs.declared.frontier.Frontier.{Frontier}
-use Rattle.fleet_search.specs.Reserved.{IsFree, IsFreeOn}
+use Rattle.fleet_search.specs.Reserved.{IsUnoccupied, IsFreeOn}
 use Rattle.fleet_search.specs.Intervals.{IsInInterval, IsEarliestWithin}
-use Rattle.fleet_search.specs.Rows.{row_in, IsPut}
+use Rattle.fleet_search.specs.Rows.{bucket_in, IsPut}
 use Rattle.fleet_search.specs.Labels.{earliest_in, AreLabels, IsLabelSet, IsSeen}
-use Rattle.fleet_search.specs.Search.{heuristic_of, occupancies_on, IsMeasured, AreBeside, IsStep, least_arrival, IsBucket, IsEnd, no_node, state_in, IsKnown, IsMove, IsReachedFrom, IsSound, IsCovered, IsExpanded, IsSuperseded, IsSettled, earliest_of, IsFrontier, IsAsked, IsFrontierOf, IsLeft, IsExpansion, Grows, ExpandsOn, IsFreeUntil, IsFoundAt, IsFoundIn, IsFoundFrom}
+use Rattle.fleet_search.specs.Search.{heuristic_of, occupancies_on, IsMeasured, AreBeside, IsStep, least_arrival, IsBucket, IsGoalState, no_node, state_in, IsKnown, IsMove, IsReachedFrom, IsSoundNode, IsCovered, IsExpanded, IsSuperseded, IsStateSettled, earliest_of, IsFrontier, IsPosed, IsFrontierOf, IsLeft, IsExpansion, Grows, ExpandsOn, IsFreeUntil, IsFoundAt, IsFoundIn, IsFoundFrom}
 use Rattle.fleet_search.proofs.Spread.{back, one_place}
 use Rattle.fleet_search.proofs.Chase.{step_ok-alone}
 use Rattle.fleet_search.proofs.IntervalLaws.{stays-apart, one_gap, interval-free_on}
@@ -68,11 +68,11 @@ module _ (q : Query) (old new : List Node) (more : length old ≤ length new) (k
   pub expanded-occupancies : (x : State) → IsExpanded q old x → IsExpanded q new x
   expanded-occupancies x e = record { moves = λ v c n m h. covered-stays c (v + 1) (e.moves v c n m h); not_end = e.not_end }
 
-  pub settled-occupancies : (x : State) → IsSettled q old x → IsSettled q new x
+  pub settled-occupancies : (x : State) → IsStateSettled q old x → IsStateSettled q new x
   settled-occupancies x (inl e) = inl (expanded-occupancies x e)
   settled-occupancies x (inr s) = inr (record { since = s.since; sooner = s.sooner; known = known-stays (record { time = s.since; cell = x.cell }) s.known; free = s.free })
 
-  pub sound-stays : (x : State) (from : ℕ) → IsSound q old x from → IsSound q new x from
+  pub sound-stays : (x : State) (from : ℕ) → IsSoundNode q old x from → IsSoundNode q new x from
   sound-stays x from s = record { reached_from = nodes s.reached_from; in_time = s.in_time; on_ground = s.on_ground; free = s.free }
     where
       nodes : IsReachedFrom q old x from → IsReachedFrom q new x from
@@ -165,12 +165,12 @@ module _ (r r' : List Node) (a : Node) (e : r' ≡ r ++ a ∷ []) where
   pub push-cases : (i : ℕ) → i < length r' → (i < length r) ⊎ (i ≡ length r)
   push-cases i h = let l = push-long in elim (cases_lt i (length r)) [ inl k ↦ inl k | inr k ↦ inr (omega arith) ]
 
-pub covered-new : (q : Query) (r r' : List Node) (place u : ℕ) (cell : Cell) → r' ≡ r ++ node_of (state (u + 1) cell) place ∷ [] → IsFree q.reserved.now (u + 1) cell → IsCovered q r' cell (u + 1)
+pub covered-new : (q : Query) (r r' : List Node) (place u : ℕ) (cell : Cell) → r' ≡ r ++ node_of (state (u + 1) cell) place ∷ [] → IsUnoccupied q.reserved.now (u + 1) cell → IsCovered q r' cell (u + 1)
 covered-new q r r' place u cell e free = record {
   since = u + 1;
   early = omega arith;
   known = (length r, (let l = push-long r r' (node_of (state (u + 1) cell) place) e in omega arith), ap (λ (z : Node). z.state) (push-end r r' (node_of (state (u + 1) cell) place) e));
-  free = λ x a b. subst (λ z. IsFree q.reserved.now z cell) (let s : u + 1 ≡ x = omega arith in s) free;
+  free = λ x a b. subst (λ z. IsUnoccupied q.reserved.now z cell) (let s : u + 1 ≡ x = omega arith in s) free;
 }
 
 module _ (q : Query) (f place : ℕ) (r : List Node) (labels : Labels) (open_list : List (Vec ℕ Global)) (fr : IsFrontier q f (Some place) r labels open_list) (left : State) (within : place < length r) (here : state_in r place ≡ left) (u : ℕ) (cell : Cell) (interval : ℕ) (inside : IsInInterval (occupancies_on q cell) interval (u + 1)) (unseen : IsSeen (earliest_of q labels cell interval) (u + 1) → ⊥) (move : IsMove q left u cell) (in_time : u + 1 + heuristic_of q cell ≤ q.horizon) (r' : List Node) (labels' : Labels) (open_list' : List (Vec ℕ Global)) (key : ℕ) (e : r' ≡ r ++ node_of (state (u + 1) cell) place ∷ []) (table : AreLabels labels') (set : IsLabelSet labels labels' (cell_index q.grid.now cell) interval (u + 1)) (bucket : IsBucket q (state (u + 1) cell) key) (put : IsPut open_list open_list' key (length r)) (late : f ≤ key) where
@@ -192,10 +192,10 @@ module _ (q : Query) (f place : ℕ) (r : List Node) (labels : Labels) (open_lis
   cases : (i : ℕ) → i < length r' → (i < length r) ⊎ (i ≡ length r)
   cases = push-cases r r' (node_of (state (u + 1) cell) place) e
 
-  sound : (i : ℕ) → i < length r' → IsSound q r' (state_in r' i) (get_or r' i no_node).parent
+  sound : (i : ℕ) → i < length r' → IsSoundNode q r' (state_in r' i) (get_or r' i no_node).parent
   sound i h = elim (cases i h) [
-    | inl l ↦ subst (λ (z : Node). IsSound q r' z.state z.parent) (sym (kept i l)) (sound-stays q r r' more kept (state_in r i) (get_or r i no_node).parent (fr.sound i l))
-    | inr s ↦ subst (λ i. IsSound q r' (state_in r' i) (get_or r' i no_node).parent) (sym s) (subst (λ (z : Node). IsSound q r' z.state z.parent) (sym at_end) (record {
+    | inl l ↦ subst (λ (z : Node). IsSoundNode q r' z.state z.parent) (sym (kept i l)) (sound-stays q r r' more kept (state_in r i) (get_or r i no_node).parent (fr.sound i l))
+    | inr s ↦ subst (λ i. IsSoundNode q r' (state_in r' i) (get_or r' i no_node).parent) (sym s) (subst (λ (z : Node). IsSoundNode q r' z.state z.parent) (sym at_end) (record {
       reached_from = inr (u, refl, (let m = more in omega arith), subst (λ z. IsMove q z u cell) (sym (same_at q r r' more kept place within ∙ here)) move);
       in_time = in_time;
       on_ground = move.step.on_ground;
@@ -266,38 +266,38 @@ module _ (q : Query) (f place : ℕ) (r : List Node) (labels : Labels) (open_lis
         )
   ]
 
-  others : (k : ℕ) → k ≢ key → row_in open_list' k ≡ row_in open_list k
-  others k ne = put k ∙ ap (λ b. cond b (row_in open_list k ++ length r ∷ []) (row_in open_list k)) (false_from_ne_true (k == key) (λ s. ne (eqb-true k key s)))
+  others : (k : ℕ) → k ≢ key → bucket_in open_list' k ≡ bucket_in open_list k
+  others k ne = put k ∙ ap (λ b. cond b (bucket_in open_list k ++ length r ∷ []) (bucket_in open_list k)) (false_from_ne_true (k == key) (λ s. ne (eqb-true k key s)))
 
-  there : (k : ℕ) → k ≡ key → row_in open_list' k ≡ row_in open_list k ++ length r ∷ []
-  there k s = put k ∙ ap (λ b. cond b (row_in open_list k ++ length r ∷ []) (row_in open_list k)) (eq-eqb k key s)
+  there : (k : ℕ) → k ≡ key → bucket_in open_list' k ≡ bucket_in open_list k ++ length r ∷ []
+  there k s = put k ∙ ap (λ b. cond b (bucket_in open_list k ++ length r ∷ []) (bucket_in open_list k)) (eq-eqb k key s)
 
-  stacked : (k i : ℕ) → Contains (row_in open_list' k) i → (i < length r') × IsBucket q (state_in r' i) k
+  stacked : (k i : ℕ) → Contains (bucket_in open_list' k) i → (i < length r') × IsBucket q (state_in r' i) k
   stacked k i h = elim (cases_eq k key) [
     | inr ne ↦ old (subst (λ z. Contains z i) (others k ne) h)
-    | inl s ↦ elim (Contains-push_cases (row_in open_list k) (length r) i (subst (λ z. Contains z i) (there k s) h)) [
+    | inl s ↦ elim (Contains-push_cases (bucket_in open_list k) (length r) i (subst (λ z. Contains z i) (there k s) h)) [
       | inl o ↦ old o
       | inr n ↦ subst (λ i. (i < length r') × IsBucket q (state_in r' i) k) n ((let l = long in omega arith), subst (λ z. IsBucket q z k) (sym new_at) (subst (IsBucket q (state (u + 1) cell)) (sym s) bucket))
     ]
   ]
     where
-      old : Contains (row_in open_list k) i → (i < length r') × IsBucket q (state_in r' i) k
+      old : Contains (bucket_in open_list k) i → (i < length r') × IsBucket q (state_in r' i) k
       old c = let w = fr.stacked k i c in let l = w.0 in let m = more in (omega arith, subst (λ z. IsBucket q z k) (sym (same_at q r r' more kept i w.0)) w.1)
 
-  keep : (k i : ℕ) → Contains (row_in open_list k) i → Contains (row_in open_list' k) i
+  keep : (k i : ℕ) → Contains (bucket_in open_list k) i → Contains (bucket_in open_list' k) i
   keep k i h = elim (cases_eq k key) [
-    | inl s ↦ subst (λ z. Contains z i) (sym (there k s)) (Contains-append_left (row_in open_list k) (length r ∷ []) i h)
+    | inl s ↦ subst (λ z. Contains z i) (sym (there k s)) (Contains-append_left (bucket_in open_list k) (length r ∷ []) i h)
     | inr ne ↦ subst (λ z. Contains z i) (sym (others k ne)) h
   ]
 
-  done : (i : ℕ) → i < length r' → ((k : ℕ) × Contains (row_in open_list' k) i) ⊎ ((let o : Option ℕ = Some place in o ≡ Some i) ⊎ IsSettled q r' (state_in r' i))
+  done : (i : ℕ) → i < length r' → ((k : ℕ) × Contains (bucket_in open_list' k) i) ⊎ ((let o : Option ℕ = Some place in o ≡ Some i) ⊎ IsStateSettled q r' (state_in r' i))
   done i h = elim (cases i h) [
-    | inr s ↦ inl (key, subst (Contains (row_in open_list' key)) (sym s) (subst (λ z. Contains z (length r)) (sym (there key refl)) (Contains-push (row_in open_list key) (length r))))
+    | inr s ↦ inl (key, subst (Contains (bucket_in open_list' key)) (sym s) (subst (λ z. Contains z (length r)) (sym (there key refl)) (Contains-push (bucket_in open_list key) (length r))))
     | inl l ↦ elim (fr.done i l) [
       | inl w ↦ inl (w.0, keep w.0 i w.1)
       | inr w ↦ elim w [
         | inl s ↦ inr (inl s)
-        | inr x ↦ inr (inr (subst (IsSettled q r') (sym (same_at q r r' more kept i l)) (settled-occupancies q r r' more kept (state_in r i) x)))
+        | inr x ↦ inr (inr (subst (IsStateSettled q r') (sym (same_at q r r' more kept i l)) (settled-occupancies q r r' more kept (state_in r i) x)))
       ]
     ]
   ]
@@ -319,7 +319,7 @@ module _ (q : Query) (f place : ℕ) (r : List Node) (labels : Labels) (open_lis
 -- ---- a state is left
 
 -- the step that the move makes can be made as soon as the cell is free
-step-early : (q : Query) (l : State) (c : Cell) (u v : ℕ) → IsMove q l u c → l.time ≤ v → v ≤ u → IsFree q.reserved.now (v + 1) c → IsStep q v l.cell c
+step-early : (q : Query) (l : State) (c : Cell) (u v : ℕ) → IsMove q l u c → l.time ≤ v → v ≤ u → IsUnoccupied q.reserved.now (v + 1) c → IsStep q v l.cell c
 step-early q l c u v move a b free = elim (cases_eq v u) [
   | inl e ↦ subst (λ z. IsStep q z l.cell c) (sym e) move.step
   | inr ne ↦ record {
@@ -361,11 +361,11 @@ found_dir q nodes l beside dir e found c g = subst (IsFoundFrom q nodes l) (plac
 abbrev pub Dir-found : Query → List Node → State → Dir → Type 0
 Dir-found q nodes l dir = (c : Cell) → place_of c ≡ moved (place_of l.cell) dir → IsFoundFrom q nodes l c
 
-pub expanded : (q : Query) (nodes : List Node) (l : State) → ((dir : Dir) → Dir-found q nodes l dir) → (IsEnd q l → ⊥) → IsExpanded q nodes l
+pub expanded : (q : Query) (nodes : List Node) (l : State) → ((dir : Dir) → Dir-found q nodes l dir) → (IsGoalState q l → ⊥) → IsExpanded q nodes l
 expanded q nodes l there not_end = record { moves = λ u c w m h. there w.0 c w.1 u m h; not_end = not_end }
 
 -- a frontier with other parts
-pub left_done : (q : Query) (f place : ℕ) (r : List Node) (labels : Labels) (open_list : List (Vec ℕ Global)) → IsFrontier q f (Some place) r labels open_list → IsSettled q r (state_in r place) → IsFrontier q f None r labels open_list
+pub left_done : (q : Query) (f place : ℕ) (r : List Node) (labels : Labels) (open_list : List (Vec ℕ Global)) → IsFrontier q f (Some place) r labels open_list → IsStateSettled q r (state_in r place) → IsFrontier q f None r labels open_list
 left_done q f place r labels open_list fr e = record {
   measured = fr.measured;
   table = fr.table;
@@ -378,7 +378,7 @@ left_done q f place r labels open_list fr e = record {
   past = fr.past;
   done = λ i h. elim (fr.done i h) [
     | inl a ↦ inl a
-    | inr w ↦ elim w [ inl s ↦ inr (inr (subst (λ z. IsSettled q r (state_in r z)) (same_Some place i s) e)) | inr x ↦ inr (inr x) ]
+    | inr w ↦ elim w [ inl s ↦ inr (inr (subst (λ z. IsStateSettled q r (state_in r z)) (same_Some place i s) e)) | inr x ↦ inr (inr x) ]
   ];
 }
 
@@ -398,7 +398,7 @@ lower q f g left r labels open_list h fr = record {
 }
 
 -- where nothing new was put on the buckets, those that were empty still are
-pub raise : (q : Query) (f g : ℕ) (left : Option ℕ) (r : List Node) (labels : Labels) (open_list before : List (Vec ℕ Global)) → IsFrontier q g left r labels open_list → ((k : ℕ) → row_in open_list k ≡ row_in before k) → ((k : ℕ) → k < f → row_in before k ≡ []) → IsFrontier q f left r labels open_list
+pub raise : (q : Query) (f g : ℕ) (left : Option ℕ) (r : List Node) (labels : Labels) (open_list before : List (Vec ℕ Global)) → IsFrontier q g left r labels open_list → ((k : ℕ) → bucket_in open_list k ≡ bucket_in before k) → ((k : ℕ) → k < f → bucket_in before k ≡ []) → IsFrontier q f left r labels open_list
 raise q f g left r labels open_list before fr same past = record {
   measured = fr.measured;
   table = fr.table;
@@ -414,24 +414,24 @@ raise q f g left r labels open_list before fr same past = record {
 
 -- ---- the last state of a bucket is taken
 
-module _ (q : Query) (f : ℕ) (r : List Node) (labels : Labels) (open_list open_list' : List (Vec ℕ Global)) (place : ℕ) (fr : IsFrontier q f None r labels open_list) (e : row_in open_list f ≡ row_in open_list' f ++ place ∷ []) (others : (k : ℕ) → k ≢ f → row_in open_list' k ≡ row_in open_list k) where
-  back-to : (k i : ℕ) → Contains (row_in open_list' k) i → Contains (row_in open_list k) i
+module _ (q : Query) (f : ℕ) (r : List Node) (labels : Labels) (open_list open_list' : List (Vec ℕ Global)) (place : ℕ) (fr : IsFrontier q f None r labels open_list) (e : bucket_in open_list f ≡ bucket_in open_list' f ++ place ∷ []) (others : (k : ℕ) → k ≢ f → bucket_in open_list' k ≡ bucket_in open_list k) where
+  back-to : (k i : ℕ) → Contains (bucket_in open_list' k) i → Contains (bucket_in open_list k) i
   back-to k i h = elim (cases_eq k f) [
-    | inl s ↦ subst (λ z. Contains (row_in open_list z) i) (sym s) (subst (λ z. Contains z i) (sym e) (Contains-append_left (row_in open_list' f) (place ∷ []) i (subst (λ z. Contains (row_in open_list' z) i) s h)))
+    | inl s ↦ subst (λ z. Contains (bucket_in open_list z) i) (sym s) (subst (λ z. Contains z i) (sym e) (Contains-append_left (bucket_in open_list' f) (place ∷ []) i (subst (λ z. Contains (bucket_in open_list' z) i) s h)))
     | inr ne ↦ subst (λ z. Contains z i) (others k ne) h
   ]
 
-  still : (i k : ℕ) → Contains (row_in open_list k) i → ((n : ℕ) × Contains (row_in open_list' n) i) ⊎ (let o : Option ℕ = Some place in o ≡ Some i)
+  still : (i k : ℕ) → Contains (bucket_in open_list k) i → ((n : ℕ) × Contains (bucket_in open_list' n) i) ⊎ (let o : Option ℕ = Some place in o ≡ Some i)
   still i k h = elim (cases_eq k f) [
     | inr ne ↦ inl (k, subst (λ z. Contains z i) (sym (others k ne)) h)
-    | inl s ↦ elim (Contains-push_cases (row_in open_list' f) place i (subst (λ z. Contains z i) e (subst (λ z. Contains (row_in open_list z) i) s h))) [
+    | inl s ↦ elim (Contains-push_cases (bucket_in open_list' f) place i (subst (λ z. Contains z i) e (subst (λ z. Contains (bucket_in open_list z) i) s h))) [
       | inl a ↦ inl (f, a)
       | inr t ↦ inr (ap (λ z. Some z) t)
     ]
   ]
 
   pub taken-known : (place < length r) × IsBucket q (state_in r place) f
-  taken-known = fr.stacked f place (subst (λ z. Contains z place) (sym e) (Contains-push (row_in open_list' f) place))
+  taken-known = fr.stacked f place (subst (λ z. Contains z place) (sym e) (Contains-push (bucket_in open_list' f) place))
 
   pub taken : IsFrontier q f (Some place) r labels open_list'
   taken = record {
@@ -451,7 +451,7 @@ module _ (q : Query) (f : ℕ) (r : List Node) (labels : Labels) (open_list open
   }
 
 -- the bucket is empty
-pub swept : (q : Query) (f : ℕ) (r : List Node) (labels : Labels) (open_list open_list' : List (Vec ℕ Global)) → IsFrontier q f None r labels open_list → row_in open_list f ≡ [] → row_in open_list' f ≡ [] → ((k : ℕ) → k ≢ f → row_in open_list' k ≡ row_in open_list k) → IsFrontier q (f + 1) None r labels open_list'
+pub swept : (q : Query) (f : ℕ) (r : List Node) (labels : Labels) (open_list open_list' : List (Vec ℕ Global)) → IsFrontier q f None r labels open_list → bucket_in open_list f ≡ [] → bucket_in open_list' f ≡ [] → ((k : ℕ) → k ≢ f → bucket_in open_list' k ≡ bucket_in open_list k) → IsFrontier q (f + 1) None r labels open_list'
 swept q f r labels open_list open_list' fr e e' others = record {
   measured = fr.measured;
   table = fr.table;
@@ -461,19 +461,19 @@ swept q f r labels open_list open_list' fr e e' others = record {
   labelled = fr.labelled;
   met = fr.met;
   stacked = λ k i h. fr.stacked k i (subst (λ z. Contains z i) (same k) h);
-  past = λ k h. same k ∙ elim (cases_eq k f) [ inl s ↦ ap (row_in open_list) s ∙ e | inr ne ↦ fr.past k (omega arith) ];
+  past = λ k h. same k ∙ elim (cases_eq k f) [ inl s ↦ ap (bucket_in open_list) s ∙ e | inr ne ↦ fr.past k (omega arith) ];
   done = λ i h. elim (fr.done i h) [
     | inl w ↦ inl (w.0, subst (λ z. Contains z i) (sym (same w.0)) w.1)
     | inr w ↦ inr w
   ];
 }
   where
-    same : (k : ℕ) → row_in open_list' k ≡ row_in open_list k
-    same k = elim (cases_eq k f) [ inl s ↦ ap (row_in open_list') s ∙ e' ∙ sym e ∙ ap (row_in open_list) (sym s) | inr ne ↦ others k ne ]
+    same : (k : ℕ) → bucket_in open_list' k ≡ bucket_in open_list k
+    same k = elim (cases_eq k f) [ inl s ↦ ap (bucket_in open_list') s ∙ e' ∙ sym e ∙ ap (bucket_in open_list) (sym s) | inr ne ↦ others k ne ]
 
 -- ---- the start is reached, and nothing else
 
-module _ (q : Query) (ask : IsAsked q) (near : heuristic_of q q.start ≤ q.horizon) (labels labels' : Labels) (none open_list : List (Vec ℕ Global)) (blank : (cell interval : ℕ) → earliest_in labels cell interval ≡ None) (table : AreLabels labels') (r : List Node) (e : r ≡ [] ++ node_of (state 0 q.start) 0 ∷ []) (interval : ℕ) (inside : IsInInterval (occupancies_on q q.start) interval 0) (set : IsLabelSet labels labels' (cell_index q.grid.now q.start) interval 0) (bare : (k : ℕ) → row_in none k ≡ []) (key : ℕ) (bucket : IsBucket q (state 0 q.start) key) (put : IsPut none open_list key 0) where
+module _ (q : Query) (ask : IsPosed q) (near : heuristic_of q q.start ≤ q.horizon) (labels labels' : Labels) (none open_list : List (Vec ℕ Global)) (blank : (cell interval : ℕ) → earliest_in labels cell interval ≡ None) (table : AreLabels labels') (r : List Node) (e : r ≡ [] ++ node_of (state 0 q.start) 0 ∷ []) (interval : ℕ) (inside : IsInInterval (occupancies_on q q.start) interval 0) (set : IsLabelSet labels labels' (cell_index q.grid.now q.start) interval 0) (bare : (k : ℕ) → bucket_in none k ≡ []) (key : ℕ) (bucket : IsBucket q (state 0 q.start) key) (put : IsPut none open_list key 0) where
   open-long : length r ≡ 1
   open-long = let l = push-long [] r (node_of (state 0 q.start) 0) e in omega arith
 
@@ -489,17 +489,17 @@ module _ (q : Query) (ask : IsAsked q) (near : heuristic_of q q.start ≤ q.hori
   first-place : (i : ℕ) → i < length r → i ≡ 0
   first-place i h = let l = open-long in omega arith
 
-  only : (k i : ℕ) → Contains (row_in open_list k) i → (i ≡ 0) × (k ≡ key)
+  only : (k i : ℕ) → Contains (bucket_in open_list k) i → (i ≡ 0) × (k ≡ key)
   only k i h = elim (cases_eq k key) [
-    | inl s ↦ elim (Contains-push_cases (row_in none k) 0 i (subst (λ z. Contains z i) (put k ∙ ap (λ b. cond b (row_in none k ++ 0 ∷ []) (row_in none k)) (eq-eqb k key s)) h)) [
+    | inl s ↦ elim (Contains-push_cases (bucket_in none k) 0 i (subst (λ z. Contains z i) (put k ∙ ap (λ b. cond b (bucket_in none k ++ 0 ∷ []) (bucket_in none k)) (eq-eqb k key s)) h)) [
       | inl o ↦ absurd (let l = (subst (λ z. Contains z i) (bare k) o).1 in omega arith)
       | inr t ↦ (sym t, s)
     ]
-    | inr ne ↦ absurd (let l = (subst (λ z. Contains z i) (put k ∙ ap (λ b. cond b (row_in none k ++ 0 ∷ []) (row_in none k)) (false_from_ne_true (k == key) (λ s. ne (eqb-true k key s))) ∙ bare k) h).1 in omega arith)
+    | inr ne ↦ absurd (let l = (subst (λ z. Contains z i) (put k ∙ ap (λ b. cond b (bucket_in none k ++ 0 ∷ []) (bucket_in none k)) (false_from_ne_true (k == key) (λ s. ne (eqb-true k key s))) ∙ bare k) h).1 in omega arith)
   ]
 
-  on-stack : Contains (row_in open_list key) 0
-  on-stack = subst (λ z. Contains z 0) (sym (put key ∙ ap (λ b. cond b (row_in none key ++ 0 ∷ []) (row_in none key)) (eq-eqb key key refl))) (Contains-push (row_in none key) 0)
+  on-stack : Contains (bucket_in open_list key) 0
+  on-stack = subst (λ z. Contains z 0) (sym (put key ∙ ap (λ b. cond b (bucket_in none key ++ 0 ∷ []) (bucket_in none key)) (eq-eqb key key refl))) (Contains-push (bucket_in none key) 0)
 
   within-first : 0 < length r
   within-first = let l = open-long in omega arith
@@ -524,11 +524,11 @@ module _ (q : Query) (ask : IsAsked q) (near : heuristic_of q q.start ≤ q.hori
     measured = ask.measured;
     table = table;
     origin = (0, within-first, open-state 0 within-first);
-    sound = λ i h. subst (λ (z : Node). IsSound q r z.state z.parent) (sym (open-at i h)) (record { reached_from = inl (refl, refl); in_time = (let b = near in omega arith); on_ground = ask.on_ground; free = ask.free });
+    sound = λ i h. subst (λ (z : Node). IsSoundNode q r z.state z.parent) (sym (open-at i h)) (record { reached_from = inl (refl, refl); in_time = (let b = near in omega arith); on_ground = ask.on_ground; free = ask.free });
     apart = λ i k a b s. first-place i a ∙ sym (first-place k b);
     labelled = λ i h. subst (IsLabelled q labels') (sym (open-state i h)) (λ k g. subst (λ z. IsSeen (earliest_of q labels' q.start z) 0) (one_gap (occupancies_on q q.start) (stays-apart q.reserved.now q.start (occupancies_on q q.start) (ask.measured.occupancies q.start)) 0 interval k inside g) (record { time = 0; is = set.set; early = omega arith }));
     met = open-met;
     stacked = λ k i h. let w = only k i h in (let z = w.0 in let l = open-long in omega arith, subst (λ z. IsBucket q z k) (sym (open-state i (let z = w.0 in let l = open-long in omega arith))) (subst (IsBucket q (state 0 q.start)) (sym w.1) bucket));
     past = λ k h. absurd (omega arith);
-    done = λ i h. inl (key, subst (Contains (row_in open_list key)) (sym (first-place i h)) on-stack);
+    done = λ i h. inl (key, subst (Contains (bucket_in open_list key)) (sym (first-place i h)) on-stack);
   }

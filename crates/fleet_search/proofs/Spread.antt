@@ -22,7 +22,7 @@ use Rattle.fleet_grid.proofs.StoredLaws.{off_map}
 use Rattle.fleet_plan.specs.Plan.{AreNeighbours}
 use Rattle.fleet_search.specs.declared.distances.Label.{Label}
 use Rattle.fleet_search.specs.declared.distances.Distances.{Distances}
-use Rattle.fleet_search.specs.Distance.{no_label, label_in, labelled, manhattan, least_moves, heuristic, AreDistances, IsOnGround, IsClosed, IsWaiting, IsSpread, IsSpreadOf, IsLabelled, LabelsFall, IsFoundTowards, IsPutFrom, IsNear, label_weight, work_left}
+use Rattle.fleet_search.specs.Distance.{no_label, label_in, labelled, manhattan, least_moves, heuristic, AreDistances, IsOnGround, IsClosed, IsWaiting, IsSpread, IsSpreadOf, IsLabelled, LabelsFall, IsFoundTowards, IsPutFrom, IsLabelNear, label_weight, work_left}
 
 -- ---- the places of cells in a table
 
@@ -248,7 +248,7 @@ pub found-before : (g : Ground) (labels : List Label) (search d : ℕ) (left b :
 found-before g labels search d left b n h l dir p e p' on' = (n, subst (λ z. label_in g labels search z ≡ Some n) (place_of-injective b e (p ∙ sym p')) h, l)
 
 -- a label that is none of this search, or says more moves
-pub not-near : (g : Ground) (labels : List Label) (search d : ℕ) (b : Cell) → (IsNear search (get_or labels (cell_index g b) no_label) (d + 1) → ⊥) → (n : ℕ) → label_in g labels search b ≡ Some n → d + 1 < n
+pub not-near : (g : Ground) (labels : List Label) (search d : ℕ) (b : Cell) → (IsLabelNear search (get_or labels (cell_index g b) no_label) (d + 1) → ⊥) → (n : ℕ) → label_in g labels search b ≡ Some n → d + 1 < n
 unfolding label_in
 not-near g labels search d b not n e =
     let l = get_or labels (cell_index g b) no_label in

@@ -13,7 +13,7 @@ use Rattle.fleet_search.specs.declared.labels.Labels.{Labels}
 use Rattle.fleet_search.specs.declared.frontier.Node.{Node}
 use Rattle.fleet_search.specs.declared.state.State.{State}
 use Rattle.fleet_grid.specs.Ground.{is_passable}
-use Rattle.fleet_search.specs.Reserved.{IsFree, IsFreeOn}
+use Rattle.fleet_search.specs.Reserved.{IsUnoccupied, IsFreeOn}
 use Rattle.fleet_search.specs.Search.{IsStep, no_node, state_in, IsReachedFrom, IsFrontier, IsTrail}
 use Rattle.fleet_search.proofs.Chase.{step_ok-same}
 
@@ -58,7 +58,7 @@ before-waits q f left r labels open_list fr time visit k ne h free = record {
   step = record {
     beside = inl refl;
     on_ground = (fr.sound visit k).on_ground;
-    fits = step_ok-same q.reserved.now (time - 1) (state_in r visit).cell (state_in r visit).cell (subst (λ z. IsFree q.reserved.now z (state_in r visit).cell) (let e : time ≡ time - 1 + 1 = omega arith in e) (free time h (omega arith))) refl;
+    fits = step_ok-same q.reserved.now (time - 1) (state_in r visit).cell (state_in r visit).cell (subst (λ z. IsUnoccupied q.reserved.now z (state_in r visit).cell) (let e : time ≡ time - 1 + 1 = omega arith in e) (free time h (omega arith))) refl;
   };
 }
 

@@ -102,7 +102,7 @@ unfoldable pub work_left : Distances → ℕ
 work_left s = 2 * sum_by (label_weight s.search) s.labels.items + length s.layer.items
 
 -- the label is one of this search, and says no more moves
-pub record IsNear (search : ℕ) (l : Label) (distance : ℕ) : Type 0 where
+pub record IsLabelNear (search : ℕ) (l : Label) (distance : ℕ) : Type 0 where
   pub current : l.search ≡ search
   pub near : l.distance ≤ distance
 

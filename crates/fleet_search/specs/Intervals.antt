@@ -4,7 +4,7 @@ use Rattle.fleet_search.specs.declared.occupancy.Occupancy.{Occupancy}
 use Rattle.fleet_search.specs.Occupancies.{occupancy_at}
 
 -- each occupancy begins after those before it have ended
-pub record AreApart (occupancies : List Occupancy) : Type 0 where
+pub record AreSuccessive (occupancies : List Occupancy) : Type 0 where
   pub some_time : (i : ℕ) → i < length occupancies → (occupancy_at occupancies i).from ≤ (occupancy_at occupancies i).until
   pub apart : (i k : ℕ) → i < k → k < length occupancies → (occupancy_at occupancies i).until < (occupancy_at occupancies k).from
 

@@ -27,14 +27,14 @@ pub record IsSeen (earliest : Option ℕ) (t : ℕ) : Type 0 where
   pub early : time ≤ t
 
 -- the numbers of rows are those of rows, and no two cells have one row
-pub record AreRowsApart (l : Labels) : Type 0 where
+pub record HaveOwnRows (l : Labels) : Type 0 where
   pub few : (cell : ℕ) → value_in l.numbers cell ≤ length l.rows.items
   pub apart : (c d : ℕ) → c ≢ d → value_in l.numbers c ≡ value_in l.numbers d → value_in l.numbers c ≡ 0
 
 -- no label is one of a later search
 pub record AreLabels (l : Labels) : Type 0 where
   pub past : (cell interval : ℕ) → (label_in l cell interval).search ≤ l.search
-  pub rows : AreRowsApart l
+  pub rows : HaveOwnRows l
 
 -- the label is put, and the others stay
 pub record IsLabelPut (old new : Labels) (cell interval : ℕ) (label : Label) : Type 0 where

@@ -61,7 +61,7 @@ abbrev pub AreInOrder : List Occupancy → Type 0
 AreInOrder = IsNonDecreasingBy (λ s. s.from)
 
 -- the occupancy was put in, behind those that begin no later
-pub record IsPlaced (old new : List Occupancy) (occupancy : Occupancy) : Type 0 where
+pub record IsPutIn (old new : List Occupancy) (occupancy : Occupancy) : Type 0 where
   pub index : ℕ
   pub bound : index ≤ length old
   pub is : new ≡ insert old index occupancy
@@ -70,7 +70,7 @@ pub record IsPlaced (old new : List Occupancy) (occupancy : Occupancy) : Type 0 
 
 -- the occupancy was put in on the cell, and the others have the same
 pub record IsAdded (old new : Rows) (cell : Cell) (occupancy : Occupancy) : Type 0 where
-  pub here : IsPlaced (occupancies_of old cell) (occupancies_of new cell) occupancy
+  pub here : IsPutIn (occupancies_of old cell) (occupancies_of new cell) occupancy
   pub others : (c : Cell) → c ≢ cell → occupancies_of new c ≡ occupancies_of old c
 
 -- the occupancies of the other agents

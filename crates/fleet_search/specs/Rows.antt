@@ -3,9 +3,9 @@ use Rattle.std.specs.Prelude.{◌≡◌, ℕ, ◌==◌, cond, List, [], ◌∷�
 use Rattle.std.specs.declared.alloc.Global.{Global}
 
 -- the row of this number; past the last one there is nothing
-unfoldable pub row_in : List (Vec ℕ Global) → ℕ → List ℕ
-row_in rows k = get_or (map (λ v. v.items) rows) k []
+unfoldable pub bucket_in : List (Vec ℕ Global) → ℕ → List ℕ
+bucket_in rows k = get_or (map (λ v. v.items) rows) k []
 
 -- the number is last in its row, and the others are as before
 abbrev pub IsPut : List (Vec ℕ Global) → List (Vec ℕ Global) → ℕ → ℕ → Type 0
-IsPut old new key n = (k : ℕ) → row_in new k ≡ cond (k == key) (row_in old k ++ n ∷ []) (row_in old k)
+IsPut old new key n = (k : ℕ) → bucket_in new k ≡ cond (k == key) (bucket_in old k ++ n ∷ []) (bucket_in old k)

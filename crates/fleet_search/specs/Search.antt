@@ -16,12 +16,12 @@ use Rattle.fleet_search.specs.declared.frontier.Neighbour.{Neighbour}
 use Rattle.fleet_grid.specs.Ground.{is_passable, cell_index}
 use Rattle.fleet_search.specs.Distance.{heuristic, AreDistances}
 use Rattle.fleet_search.specs.Way.{StepFits}
-use Rattle.fleet_search.specs.Reserved.{IsFree, IsFreeFrom, IsFreeOn}
+use Rattle.fleet_search.specs.Reserved.{IsUnoccupied, IsFreeFrom, IsFreeOn}
 use Rattle.fleet_search.specs.Occupancies.{HaveOccupancies, occupancies_of}
 use Rattle.fleet_search.specs.Intervals.{IsInInterval}
 use Rattle.fleet_search.specs.declared.labels.Labels.{Labels}
 use Rattle.fleet_search.specs.Labels.{earliest_in, AreLabels, IsSeen}
-use Rattle.fleet_search.specs.Rows.{row_in}
+use Rattle.fleet_search.specs.Rows.{bucket_in}
 
 -- how many moves lead from the cell to the goal at least
 abbrev pub heuristic_of : Query → Cell → ℕ
@@ -55,8 +55,8 @@ abbrev pub IsBucket : Query → State → ℕ → Type 0
 IsBucket q m k = ((least_arrival q m ≤ q.goal_free_from) × (k ≡ heuristic_of q m.cell)) ⊎ ((q.goal_free_from < least_arrival q m) × (k ≡ least_arrival q m))
 
 -- the agent may come to rest at the state
-abbrev pub IsEnd : Query → State → Type 0
-IsEnd q m = (m.cell ≡ q.goal) × (q.goal_free_from ≤ m.time)
+abbrev pub IsGoalState : Query → State → Type 0
+IsGoalState q m = (m.cell ≡ q.goal) × (q.goal_free_from ≤ m.time)
 
 -- what stands for a node past the end of a list
 abbrev pub no_node : Node
@@ -81,11 +81,11 @@ abbrev pub IsReachedFrom : Query → List Node → State → ℕ → Type 0
 IsReachedFrom q nodes m from = ((m.time ≡ 0) × (m.cell ≡ q.start)) ⊎ ((u : ℕ) × (m.time ≡ u + 1) × (from < length nodes) × IsMove q (state_in nodes from) u m.cell)
 
 -- what was reached, and not too late
-pub record IsSound (q : Query) (nodes : List Node) (m : State) (from : ℕ) : Type 0 where
+pub record IsSoundNode (q : Query) (nodes : List Node) (m : State) (from : ℕ) : Type 0 where
   pub reached_from : IsReachedFrom q nodes m from
   pub in_time : least_arrival q m ≤ q.horizon
   pub on_ground : IsTrue (is_passable q.grid.now (place_of m.cell))
-  pub free : IsFree q.reserved.now m.time m.cell
+  pub free : IsUnoccupied q.reserved.now m.time m.cell
 
 -- the cell was reached at this time or before, and is free since
 pub record IsCovered (q : Query) (nodes : List Node) (c : Cell) (t : ℕ) : Type 0 where
@@ -97,7 +97,7 @@ pub record IsCovered (q : Query) (nodes : List Node) (c : Cell) (t : ℕ) : Type
 -- where a move leads to a cell in time, the cell was reached by then; the state is no end
 pub record IsExpanded (q : Query) (nodes : List Node) (m : State) : Type 0 where
   pub moves : (u : ℕ) (c : Cell) → AreNeighbours m.cell c → IsMove q m u c → u + 1 + heuristic_of q c ≤ q.horizon → IsCovered q nodes c (u + 1)
-  pub not_end : IsEnd q m → ⊥
+  pub not_end : IsGoalState q m → ⊥
 
 -- the cell was reached sooner, and is free from then to the state
 pub record IsSuperseded (q : Query) (nodes : List Node) (m : State) : Type 0 where
@@ -107,8 +107,8 @@ pub record IsSuperseded (q : Query) (nodes : List Node) (m : State) : Type 0 whe
   pub free : IsFreeOn q.reserved.now m.cell since m.time
 
 -- what can be reached from the state was noted, or will be from a sooner one
-abbrev pub IsSettled : Query → List Node → State → Type 0
-IsSettled q nodes m = IsExpanded q nodes m ⊎ IsSuperseded q nodes m
+abbrev pub IsStateSettled : Query → List Node → State → Type 0
+IsStateSettled q nodes m = IsExpanded q nodes m ⊎ IsSuperseded q nodes m
 
 -- the earliest time at which the cell was reached in the safe interval of this number among the occupancies there
 abbrev pub earliest_of : Query → Labels → Cell → ℕ → Option ℕ
@@ -120,20 +120,20 @@ pub record IsFrontier (q : Query) (f : ℕ) (left : Option ℕ) (nodes : List No
   pub measured : IsMeasured q
   pub table : AreLabels labels
   pub origin : IsKnown nodes (record { time = 0; cell = q.start })
-  pub sound : (i : ℕ) → i < length nodes → IsSound q nodes (state_in nodes i) (get_or nodes i no_node).parent
+  pub sound : (i : ℕ) → i < length nodes → IsSoundNode q nodes (state_in nodes i) (get_or nodes i no_node).parent
   pub apart : (i k : ℕ) → i < length nodes → k < length nodes → state_in nodes i ≡ state_in nodes k → i ≡ k
   pub labelled : (i : ℕ) → i < length nodes → (interval : ℕ) → IsInInterval (occupancies_on q (state_in nodes i).cell) interval (state_in nodes i).time → IsSeen (earliest_of q labels (state_in nodes i).cell interval) (state_in nodes i).time
   pub met : (c : Cell) (interval time : ℕ) → IsTrue (is_passable q.grid.now (place_of c)) → interval ≤ length (occupancies_on q c) → earliest_of q labels c interval ≡ Some time → IsInInterval (occupancies_on q c) interval time × IsKnown nodes (record { time = time; cell = c })
-  pub stacked : (k i : ℕ) → Contains (row_in open_list k) i → (i < length nodes) × IsBucket q (state_in nodes i) k
-  pub past : (k : ℕ) → k < f → row_in open_list k ≡ []
-  pub done : (i : ℕ) → i < length nodes → ((k : ℕ) × Contains (row_in open_list k) i) ⊎ ((left ≡ Some i) ⊎ IsSettled q nodes (state_in nodes i))
+  pub stacked : (k i : ℕ) → Contains (bucket_in open_list k) i → (i < length nodes) × IsBucket q (state_in nodes i) k
+  pub past : (k : ℕ) → k < f → bucket_in open_list k ≡ []
+  pub done : (i : ℕ) → i < length nodes → ((k : ℕ) × Contains (bucket_in open_list k) i) ⊎ ((left ≡ Some i) ⊎ IsStateSettled q nodes (state_in nodes i))
 
 abbrev pub IsFrontierOf : Query → ℕ → Option ℕ → Frontier → Type 0
 IsFrontierOf q f left s = IsFrontier q f left s.nodes.items s.labels s.open_list.items
 
 -- the state may be left by moves that begin before this time, and by no later ones
 abbrev pub IsFreeUntil : Query → State → ℕ → Type 0
-IsFreeUntil q m until = ((t : ℕ) → m.time ≤ t → t < until → IsFree q.reserved.now t m.cell) × ((t : ℕ) → t < 4294967295 → IsFreeOn q.reserved.now m.cell m.time t → t < until)
+IsFreeUntil q m until = ((t : ℕ) → m.time ≤ t → t < until → IsUnoccupied q.reserved.now t m.cell) × ((t : ℕ) → t < 4294967295 → IsFreeOn q.reserved.now m.cell m.time t → t < until)
 
 -- the state that is expanded was reached, and waited in this bucket
 pub record IsLeft (q : Query) (f : ℕ) (s : Frontier) (place : ℕ) (m : State) : Type 0 where
@@ -152,7 +152,7 @@ pub record IsExpansion (q : Query) (f : ℕ) (l : Expansion) (s : Frontier) : Ty
 pub record Grows (old new : Frontier) : Type 0 where
   pub more : length old.nodes.items ≤ length new.nodes.items
   pub kept : (i : ℕ) → i < length old.nodes.items → get_or new.nodes.items i no_node ≡ get_or old.nodes.items i no_node
-  pub same : length new.nodes.items ≡ length old.nodes.items → (k : ℕ) → row_in new.open_list.items k ≡ row_in old.open_list.items k
+  pub same : length new.nodes.items ≡ length old.nodes.items → (k : ℕ) → bucket_in new.open_list.items k ≡ bucket_in old.open_list.items k
 
 -- the state is still being expanded, and nothing was lost of what was reached
 pub record ExpandsOn (q : Query) (f : ℕ) (l : Expansion) (old new : Frontier) : Type 0 where
@@ -181,15 +181,15 @@ IsFoundFrom q nodes left c = (u : ℕ) → IsMove q left u c → u + 1 + heurist
 -- in the bucket
 abbrev pub HasEnded : Query → ℕ → Frontier → Frontier → BucketEnd → Type 0
 HasEnded q f old new (BucketEnd.Goal place) =
-    IsFrontierOf q f (Some place) new × IsLeft q f new place (state_in new.nodes.items place) × IsEnd q (state_in new.nodes.items place)
+    IsFrontierOf q f (Some place) new × IsLeft q f new place (state_in new.nodes.items place) × IsGoalState q (state_in new.nodes.items place)
 HasEnded q f old new BucketEnd.Grew = (length old.nodes.items < length new.nodes.items) × IsFrontierOf q (f - 1) None new
 HasEnded q f old new BucketEnd.Empty = (length new.nodes.items ≡ length old.nodes.items) × IsFrontierOf q (f + 1) None new
 
 -- the agent may stand on the start, the goal is not too far, and from `goal_free_from` on it is free
-pub record IsAsked (q : Query) : Type 0 where
+pub record IsPosed (q : Query) : Type 0 where
   pub measured : IsMeasured q
   pub on_ground : IsTrue (is_passable q.grid.now (place_of q.start))
-  pub free : IsFree q.reserved.now 0 q.start
+  pub free : IsUnoccupied q.reserved.now 0 q.start
   pub horizon : q.horizon ≤ MAX_HORIZON
   pub goal_free_from : (t : ℕ) → IsFreeFrom q.reserved.now q.goal t ↔ (q.goal_free_from ≤ t)
 

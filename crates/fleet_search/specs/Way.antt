@@ -21,7 +21,7 @@ abbrev pub FitTogether : Plan → Type 0
 FitTogether plan = (i : ℕ) → i < length plan → Fits (take i plan) (get_or plan i [])
 
 -- no two or more agents of the plan are in conflict, at any time
-pub record HasNoConflict (plan : Plan) : Type 0 where
+pub record AreConflictFree (plan : Plan) : Type 0 where
   pub vertex : (x i j : ℕ) → i < length plan → j < length plan → HasVertexConflict (planned plan) x i j → ⊥
   pub swapping : (x i j : ℕ) → i < length plan → j < length plan → HasSwappingConflict (planned plan) x i j → ⊥
   pub cycle : (x : ℕ) (ring : List ℕ) → All (λ i. i < length plan) ring → HasCycleConflict (planned plan) x ring → ⊥

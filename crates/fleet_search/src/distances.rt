@@ -2,7 +2,7 @@
 
 ghost use Rattle.std.specs.Prelude.{◌≡◌, ◌+◌, ◌<◌, ◌≤◌, ◌↔◌, ℕ, IsTrue, IfOk, OnOk, Some, None, [], length, get_or};
 ghost use Rattle.fleet_model.specs.declared.limits.TheConstants.{MAX_HORIZON};
-ghost use Rattle.fleet_search.specs.Distance.{no_label, label_in, manhattan, least_moves, heuristic, IsReady, AreDistances, IsOnGround, IsSpreadOf, IsLabelled, IsFoundTowards, LabelsFall, IsSameSearch, IsNear, IsPutFrom, work_left};
+ghost use Rattle.fleet_search.specs.Distance.{no_label, label_in, manhattan, least_moves, heuristic, IsReady, AreDistances, IsOnGround, IsSpreadOf, IsLabelled, IsFoundTowards, LabelsFall, IsSameSearch, IsLabelNear, IsPutFrom, work_left};
 
 use fleet_grid::Grid;
 use fleet_model::{Cell, Dir, OutOfMemory};
@@ -114,7 +114,7 @@ impl Distances {
 
     /// Whether the label says no more moves than this.
     fn is_near(&self, label: Label, distance: u16) -> bool
-        ensures { IsTrue result ↔ IsNear self.now.search label distance }
+        ensures { IsTrue result ↔ IsLabelNear self.now.search label distance }
     {
         label.search == self.search && label.distance <= distance
     }

@@ -3,7 +3,7 @@
 ghost use Rattle.std.specs.Prelude.{◌≡◌, ◌≤◌, IfOk, IfErr, OnOk};
 ghost use Rattle.fleet_grid.specs.Ground.{is_passable};
 ghost use Rattle.fleet_search.specs.Distance.{IsReady};
-ghost use Rattle.fleet_search.specs.Search.{IsAsked};
+ghost use Rattle.fleet_search.specs.Search.{IsPosed};
 ghost use Rattle.fleet_search.specs.Labels.{AreLabels};
 ghost use Rattle.fleet_search.specs.Way.{IsEarliest, IsInfeasible};
 
@@ -18,7 +18,7 @@ use std::alloc::Global;
 
 /// Looks for paths in the order of their arrival.
 fn search(frontier: &mut Frontier, query: &Query) -> Result<Path, SearchFault>
-    requires asked { IsAsked query.now }
+    requires asked { IsPosed query.now }
     requires goal_free_from { query.now.goal_free_from ≤ query.now.horizon }
     requires labels { AreLabels frontier.old.labels }
     ensures ok { IfOk result (IsEarliest (is_passable query.now.grid.now) query.now.reserved.now query.now.start query.now.goal query.now.horizon) }

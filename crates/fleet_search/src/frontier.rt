@@ -8,10 +8,10 @@ ghost use Rattle.fleet_model.specs.Geometry.{place_of, moved};
 ghost use Rattle.fleet_grid.specs.Ground.{is_passable};
 ghost use Rattle.fleet_model.specs.declared.geometry.Cell.{Cell};
 ghost use Rattle.fleet_model.specs.declared.limits.TheConstants.{MAX_HORIZON};
-ghost use Rattle.fleet_search.specs.Reserved.{IsFree};
+ghost use Rattle.fleet_search.specs.Reserved.{IsUnoccupied};
 ghost use Rattle.fleet_search.specs.Way.{StepFits};
 ghost use Rattle.fleet_search.specs.Intervals.{IsInInterval};
-ghost use Rattle.fleet_search.specs.Search.{heuristic_of, occupancies_on, IsMeasured, IsEnd, IsBucket, IsLeft, IsExpansion, ExpandsOn, IsFrontierOf, Grows, IsAsked, IsSearched, IsTrailOf, IsFreeUntil, IsFoundAt, IsFoundIn, IsFoundFrom, IsNeighbour, HasEnded, IsSuperseded};
+ghost use Rattle.fleet_search.specs.Search.{heuristic_of, occupancies_on, IsMeasured, IsGoalState, IsBucket, IsLeft, IsExpansion, ExpandsOn, IsFrontierOf, Grows, IsPosed, IsSearched, IsTrailOf, IsFreeUntil, IsFoundAt, IsFoundIn, IsFoundFrom, IsNeighbour, HasEnded, IsSuperseded};
 ghost use Rattle.fleet_search.specs.Labels.{AreLabels};
 
 use crate::distances::Distances;
@@ -62,7 +62,7 @@ impl Query<'_> {
     /// Until when the agent may wait on the cell.
     fn until(&self, state: State) -> u32
         requires measured { IsMeasured self.now }
-        requires free { IsFree self.now.reserved.now state.time state.cell }
+        requires free { IsUnoccupied self.now.reserved.now state.time state.cell }
         ensures { IsFreeUntil self.now state result }
     {
         end_after(self.occupancies(state.cell), state.time)
@@ -73,7 +73,7 @@ impl Query<'_> {
         requires few { begin < 4294967295 }
         requires until { IsFreeUntil self.now left.state left.until }
         requires waits { left.state.time ≤ begin }
-        requires free { IsFree self.now.reserved.now (begin + 1) cell }
+        requires free { IsUnoccupied self.now.reserved.now (begin + 1) cell }
         ensures { IsTrue result ↔ StepFits self.now.reserved.now begin left.state.cell cell }
     {
         // Nobody comes to the cell that is left.
@@ -302,7 +302,7 @@ impl Frontier {
         requires horizon { query.now.horizon ≤ MAX_HORIZON }
         requires frontier { IsFrontierOf query.now (bucket - 1) (Some place) self.old }
         requires left { IsLeft query.now bucket self.old place state }
-        requires not_end { IsEnd query.now state → ⊥ }
+        requires not_end { IsGoalState query.now state → ⊥ }
         ensures frontier { OnOk result (IsFrontierOf query.now (bucket - 1) None self.new) }
         ensures grows { OnOk result (Grows self.old self.new) }
     {
@@ -345,7 +345,7 @@ impl Frontier {
 
     /// Begins a search: the start is reached, and nothing else.
     pub fn begin(&mut self, query: &Query) -> Result<(), OutOfMemory>
-        requires asked { IsAsked query.now }
+        requires asked { IsPosed query.now }
         requires in_time { heuristic_of query.now query.now.start ≤ query.now.horizon }
         requires labels { AreLabels self.old.labels }
         ensures { OnOk result (IsFrontierOf query.now 0 None self.new) }

@@ -2,14 +2,14 @@
 
 ghost use Rattle.std.specs.Prelude.{◌↔◌, ◌≤◌, ◌<◌, ◌-◌, ℕ, length, IsTrue, IfSome, IfNone};
 ghost use Rattle.fleet_search.specs.Occupancies.{occupancy_at};
-ghost use Rattle.fleet_search.specs.Intervals.{AreApart, IsInInterval, IsEarliestWithin, IsEndAfter};
+ghost use Rattle.fleet_search.specs.Intervals.{AreSuccessive, IsInInterval, IsEarliestWithin, IsEndAfter};
 
 use crate::occupancy::Occupancy;
 use crate::reservation_table::started_by;
 
 /// Whether the time is in the safe interval of this number.
 pub fn is_in_interval(occupancies: &[Occupancy], interval: usize, time: u32) -> bool
-    requires order { AreApart occupancies.now }
+    requires order { AreSuccessive occupancies.now }
     requires bound { interval ≤ length occupancies.now }
     ensures { IsTrue result ↔ IsInInterval occupancies.now interval time }
 {
@@ -39,7 +39,7 @@ fn past_occupancy(occupancies: &[Occupancy], interval: usize, from: u32) -> Opti
 
 /// The first time in the safe interval, from the one on.
 pub fn earliest_within(occupancies: &[Occupancy], interval: usize, from: u32) -> Option<u32>
-    requires order { AreApart occupancies.now }
+    requires order { AreSuccessive occupancies.now }
     requires bound { interval ≤ length occupancies.now }
     ensures some { IfSome result (IsEarliestWithin occupancies.now interval from) }
     ensures none { IfNone result ((s : ℕ) → from ≤ s → IsInInterval occupancies.now interval s → ⊥) }
@@ -65,7 +65,7 @@ pub fn begins_after(occupancies: &[Occupancy], interval: usize, time: u32) -> bo
 
 /// When the first of the occupancies begins that come after the time.
 pub fn end_after(occupancies: &[Occupancy], time: u32) -> u32
-    requires order { AreApart occupancies.now }
+    requires order { AreSuccessive occupancies.now }
     ensures { IsEndAfter occupancies.now time result }
 {
     let next = started_by(occupancies, time);

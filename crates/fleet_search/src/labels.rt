@@ -2,7 +2,7 @@
 
 ghost use Rattle.std.specs.Prelude.{◌≡◌, ◌≢◌, ◌<◌, ◌↔◌, ℕ, IsTrue, suc, OnOk, None, get_or};
 ghost use Rattle.fleet_table.specs.Table.{value_in};
-ghost use Rattle.fleet_search.specs.Labels.{no_label, label_in, earliest_in, AreLabels, AreRowsApart, IsLabelPut, IsLabelSet, IsSeen};
+ghost use Rattle.fleet_search.specs.Labels.{no_label, label_in, earliest_in, AreLabels, HaveOwnRows, IsLabelPut, IsLabelSet, IsSeen};
 
 use fleet_model::OutOfMemory;
 use fleet_table::Table;
@@ -115,7 +115,7 @@ impl Labels {
     /// Puts the label of the cell's first interval.
     fn put_first(&mut self, cell: usize, label: Label) -> Result<(), OutOfMemory>
         requires { AreLabels self.old }
-        ensures apart { OnOk result (AreRowsApart self.new) }
+        ensures apart { OnOk result (HaveOwnRows self.new) }
         ensures put { OnOk result (IsLabelPut self.old self.new cell 0 label) }
     {
         self.first.set(cell, label)?;
@@ -126,7 +126,7 @@ impl Labels {
     fn put_later(&mut self, cell: usize, place: usize, label: Label) -> Result<(), OutOfMemory>
         requires labels { AreLabels self.old }
         requires few { place < 4294967295 }
-        ensures apart { OnOk result (AreRowsApart self.new) }
+        ensures apart { OnOk result (HaveOwnRows self.new) }
         ensures put { OnOk result (IsLabelPut self.old self.new cell (suc place) label) }
     {
         let number = self.numbers.get(cell);
@@ -142,7 +142,7 @@ impl Labels {
         requires labels { AreLabels self.old }
         requires none { value_in self.old.numbers cell ≡ 0 }
         requires few { place < 4294967295 }
-        ensures apart { OnOk result (AreRowsApart self.new) }
+        ensures apart { OnOk result (HaveOwnRows self.new) }
         ensures put { OnOk result (IsLabelPut self.old self.new cell (suc place) label) }
     {
         let mut labels = Vec::new(self.alloc);

@@ -7,7 +7,7 @@ ghost use Rattle.fleet_model.specs.declared.task.Task.{Task};
 ghost use Rattle.fleet_plan.specs.Plan.{Plan, IsConflictFree};
 ghost use Rattle.fleet_search.specs.InTurn.{IsPrioritisedPlan, HasNoPathFor};
 ghost use Rattle.fleet_search.specs.Orders.{IsMadeInTries, IsStuckInTries};
-ghost use Rattle.fleet_search.specs.Way.{Fits, FitTogether, HasNoConflict, EachStepFits};
+ghost use Rattle.fleet_search.specs.Way.{Fits, FitTogether, AreConflictFree, EachStepFits};
 
 /// Whether a path fits depends on each of its steps and the reserved paths alone.
 pub fn fits_by_steps()
@@ -16,7 +16,7 @@ pub fn fits_by_steps()
 
 /// Paths that each fit those before them are free of conflict.
 pub fn planned_agent_by_agent()
-    ensures { (plan : Plan) → FitTogether plan → HasNoConflict plan }
+    ensures { (plan : Plan) → FitTogether plan → AreConflictFree plan }
 {}
 
 /// A plan that is made agent by agent is free of conflict.

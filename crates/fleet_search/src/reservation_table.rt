@@ -6,7 +6,7 @@ ghost use Rattle.std.specs.List.Sorted.{IsPartitionPoint};
 ghost use Rattle.fleet_model.specs.declared.geometry.Cell.{Cell};
 ghost use Rattle.fleet_search.specs.declared.occupancy.Occupancy.{Occupancy};
 ghost use Rattle.fleet_search.specs.Way.{Fits, joined};
-ghost use Rattle.fleet_search.specs.Occupancies.{IsPlaced, AreInOrder, IsAdded, occupancies_of, without, HaveOccupancies};
+ghost use Rattle.fleet_search.specs.Occupancies.{IsPutIn, AreInOrder, IsAdded, occupancies_of, without, HaveOccupancies};
 
 use crate::occupancy::Occupancy;
 use fleet_model::{Cell, OutOfMemory};
@@ -67,7 +67,7 @@ fn widen<T: Drop>(alloc: Global, lists: &mut Vec<Vec<T>>, len: usize) -> Result<
 /// Puts the occupancy where it belongs in the order of time. A refusal changes nothing.
 fn place(occupancies: &mut Vec<Occupancy>, occupancy: Occupancy) -> Result<(), OutOfMemory>
     requires { AreInOrder occupancies.old.items }
-    ensures ok { OnOk result (IsPlaced occupancies.old.items occupancies.new.items occupancy) }
+    ensures ok { OnOk result (IsPutIn occupancies.old.items occupancies.new.items occupancy) }
     ensures err { OnErr result (occupancies.new.items ≡ occupancies.old.items) }
 {
     let index = started_by(occupancies.as_slice(), occupancy.from);

@@ -6,7 +6,7 @@ ghost use Rattle.fleet_model.specs.declared.limits.TheConstants.{MAX_HORIZON};
 ghost use Rattle.fleet_plan.specs.Plan.{steps};
 ghost use Rattle.fleet_search.specs.Way.{Fits, FitTogether, StepFits};
 ghost use Rattle.fleet_search.specs.Occupancies.{HaveOccupancies};
-ghost use Rattle.fleet_search.specs.Reserved.{IsOn, IsFree, IsFreeFrom, LeadsBack};
+ghost use Rattle.fleet_search.specs.Reserved.{IsOn, IsUnoccupied, IsFreeFrom, LeadsBack};
 
 use crate::occupancy::Occupancy;
 use crate::reservation_table::{insert_path, occupancies_on, started_by};
@@ -78,7 +78,7 @@ impl Reservations {
     /// The agent that stands on the cell at the time.
     pub(crate) fn occupant(&self, time: u32, cell: Cell) -> Option<usize>
         ensures some { IfSome result (IsOn self.now time cell) }
-        ensures none { IfNone result (IsFree self.now time cell) }
+        ensures none { IfNone result (IsUnoccupied self.now time cell) }
     {
         let occupancies = occupancies_on(self.rows(), cell);
         let count = started_by(occupancies, time);

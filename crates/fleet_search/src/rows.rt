@@ -1,7 +1,7 @@
 //! Rows of numbers: buckets.
 
 ghost use Rattle.std.specs.Prelude.{◌≡◌, ◌≢◌, ◌<◌, ◌++◌, ◌∷◌, [], ℕ, OnOk, IfSome, IfNone, length};
-ghost use Rattle.fleet_search.specs.Rows.{row_in, IsPut};
+ghost use Rattle.fleet_search.specs.Rows.{bucket_in, IsPut};
 
 use fleet_model::OutOfMemory;
 use std::alloc::Global;
@@ -10,7 +10,7 @@ use std::alloc::Global;
 fn widen(alloc: Global, rows: &mut Vec<Vec<usize>>, key: usize) -> Result<(), OutOfMemory>
     requires { key < 4294967295 }
     ensures room { OnOk result (key < length rows.new.items) }
-    ensures same { OnOk result ((k : ℕ) → row_in rows.new.items k ≡ row_in rows.old.items k) }
+    ensures same { OnOk result ((k : ℕ) → bucket_in rows.new.items k ≡ bucket_in rows.old.items k) }
 {
     for _more in rows.len()..key + 1 {
         rows.push(Vec::new(alloc))?;
@@ -36,10 +36,10 @@ pub fn put(
 
 /// Takes the number off that is last in the row.
 pub fn take(rows: &mut Vec<Vec<usize>>, key: u32) -> Option<usize>
-    ensures some { IfSome result (λ m. row_in rows.old.items key ≡ row_in rows.new.items key ++ m ∷ []) }
-    ensures none { IfNone result (row_in rows.new.items key ≡ []) }
-    ensures others { (k : ℕ) → k ≢ key → row_in rows.new.items k ≡ row_in rows.old.items k }
-    ensures kept { IfNone result (row_in rows.old.items key ≡ []) }
+    ensures some { IfSome result (λ m. bucket_in rows.old.items key ≡ bucket_in rows.new.items key ++ m ∷ []) }
+    ensures none { IfNone result (bucket_in rows.new.items key ≡ []) }
+    ensures others { (k : ℕ) → k ≢ key → bucket_in rows.new.items k ≡ bucket_in rows.old.items k }
+    ensures kept { IfNone result (bucket_in rows.old.items key ≡ []) }
 {
     let key = key as usize;
     if key >= rows.len() {
@@ -56,7 +56,7 @@ const KEPT: usize = 8192;
 
 /// Takes all numbers out of the rows. After a search that used many, most of them are let go.
 pub fn clear(rows: &mut Vec<Vec<usize>>)
-    ensures { (k : ℕ) → row_in rows.new.items k ≡ [] }
+    ensures { (k : ℕ) → bucket_in rows.new.items k ≡ [] }
 {
     rows.truncate(KEPT);
     for row in rows.iter_mut() {

@@ -15,7 +15,7 @@ use Rattle.fleet_verify.specs.declared.visit_order.PlacedVisit.{PlacedVisit}
 use Rattle.fleet_verify.specs.declared.fault.VerifyFault.{VerifyFault}
 use Rattle.fleet_verify.specs.declared.fault.VerifyFault.TheVariants.{Unordered}
 use Rattle.fleet_verify.specs.declared.open_pairs.OrderViolation.{OrderViolation}
-use Rattle.fleet_verify.specs.Order.{visits_of, IsJudged, IsPlaced, AreAllPlaced, AreViolations}
+use Rattle.fleet_verify.specs.Order.{visits_of, IsListJudged, IsVisitPlaced, AreAllPlaced, AreViolations}
 use Rattle.fleet_model.proofs.Places.{is_same_place-true}
 use Rattle.fleet_model.proofs.Visits.{IsIn, is_in}
 use Rattle.fleet_verify.specs.Faults.{IsFirstBreak, HasRanges, IsFault, IsSooner, IsOrderlyAt}
@@ -88,16 +88,16 @@ judged_first p agent c h e t = subst (AreJudged p agent) (omega arith) (judged_m
 -- ---- by the breaks of the cells
 
 pub unbroken : (p : Program) (stays : List PlacedVisit) (breaks : Cell → Option OrderViolation) → AreAllPlaced p stays → AreViolations p stays breaks → (c : Cell) → IsCell c → breaks c ≡ None → InTurn p (place_of c)
-unbroken p stays breaks all h c cell e = (visits_of (place_of c) stays, (all.sorted (place_of c)).lists, subst (IsJudged (ComesAfter p) (visits_of (place_of c) stays)) e (h c cell))
+unbroken p stays breaks all h c cell e = (visits_of (place_of c) stays, (all.sorted (place_of c)).lists, subst (IsListJudged (ComesAfter p) (visits_of (place_of c) stays)) e (h c cell))
 
 pub broken_fault : (passable : Place → Bool) (tasks : List Task) (p : Program) (stays : List PlacedVisit) (breaks : Cell → Option OrderViolation) → AreViolations p stays breaks → (agent n : ℕ) (c : Cell) → IsCell c → HasRanges passable tasks p → AreAllPlaced p stays → agent < length p → n ≤ moves p agent
     → place_of c ≡ path p agent n → AreJudged p agent n → (f : VerifyFault) → ((b : OrderViolation) × (breaks c ≡ Some b) × (f ≡ Unordered c b.first b.second)) → IsFault passable tasks p f
 broken_fault passable tasks p stays breaks found agent n c cell right all a m e h f (b, is, told) =
     subst (IsFault passable tasks p) (sym told)
-    (found_fault passable tasks p stays agent n c right all a m e h b.first b.second (subst (IsJudged (ComesAfter p) (visits_of (place_of c) stays)) is (found c cell)))
+    (found_fault passable tasks p stays agent n c right all a m e h b.first b.second (subst (IsListJudged (ComesAfter p) (visits_of (place_of c) stays)) is (found c cell)))
 
 -- a place without visits, or a cell
-some_cell : (p : Program) (q : Place) (stays : List PlacedVisit) → All (IsPlaced p) stays → (visits_of q stays ≡ []) ⊎ ((c : Cell) × IsCell c × (place_of c ≡ q))
+some_cell : (p : Program) (q : Place) (stays : List PlacedVisit) → All (IsVisitPlaced p) stays → (visits_of q stays ≡ []) ⊎ ((c : Cell) × IsCell c × (place_of c ≡ q))
 unfolding visits_of
 some_cell p q [] h = inl refl
 some_cell p q (s ∷ stays) h = go (is_same_place (place_of s.cell) q) refl (some_cell p q stays (λ k d l. h (suc k) d (omega arith)))
@@ -107,7 +107,7 @@ some_cell p q (s ∷ stays) h = go (is_same_place (place_of s.cell) q) refl (som
     go false e (inl none) = inl (rw e none)
     go false e (inr c) = inr c
 
-pub none_broken : (p : Program) (stays : List PlacedVisit) (breaks : Cell → Option OrderViolation) → AreAllPlaced p stays → All (IsPlaced p) stays → AreViolations p stays breaks → ((c : Cell) → breaks c ≡ None) → IsOrderly ComesAfter p
+pub none_broken : (p : Program) (stays : List PlacedVisit) (breaks : Cell → Option OrderViolation) → AreAllPlaced p stays → All (IsVisitPlaced p) stays → AreViolations p stays breaks → ((c : Cell) → breaks c ≡ None) → IsOrderly ComesAfter p
 none_broken p stays breaks all each found none q = elim (some_cell p q stays each) [
   | inl e ↦ (visits_of q stays, (all.sorted q).lists, subst (Adjacent (ComesAfter p)) (sym e) tt)
   | inr (c, cell, here) ↦ subst (InTurn p) here (unbroken p stays breaks all found c cell (none c))

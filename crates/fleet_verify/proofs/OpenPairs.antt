@@ -25,7 +25,7 @@ use Rattle.fleet_verify.specs.declared.visit_order.PlacedVisit.{PlacedVisit}
 use Rattle.fleet_verify.specs.declared.visit_order.VisitOrder.{VisitOrder}
 use Rattle.fleet_verify.specs.Faults.{HasStarts, IsFirstBreak}
 use Rattle.fleet_verify.specs.Listing.{entry_level, IsBefore}
-use Rattle.fleet_verify.specs.Order.{number_of, visits_of, IsJudged, AreAllPlaced, AreViolations, AreGrouped, IsOpen, AreNeighbours, StandsBefore}
+use Rattle.fleet_verify.specs.Order.{number_of, visits_of, IsListJudged, AreAllPlaced, AreViolations, AreGrouped, IsOpenPair, AreConsecutive, StandsBefore}
 use Rattle.fleet_verify.specs.OpenPairs.{AreVisits, question_of, violation_of, HasNoChain, IsFirstBad, TellsFirstBad, IsFlagged}
 use Rattle.fleet_model.proofs.Reaching.{own_reach, Reaches-rises}
 use Rattle.fleet_verify.proofs.Decide.{Reaches-dec}
@@ -170,14 +170,14 @@ module _ (p : Program) (order : VisitOrder) (placed : List PlacedVisit) (all : A
   pub are_visits : All (AreVisits p) pairs_of
   are_visits = λ k d l. visits (get_or pairs_of k d) (grouped.each k d l)
     where
-      visits : (o : OpenPair) → IsOpen p placed o → AreVisits p o
+      visits : (o : OpenPair) → IsOpenPair p placed o → AreVisits p o
       visits o is = record {
         first = as_visit (place_of o.cell) o.first (visit_here (place_of o.cell) is.neighbours.at o.first is.neighbours.here);
         second = as_visit (place_of o.cell) o.second (visit_here (place_of o.cell) (is.neighbours.at + 1) o.second is.neighbours.next);
       }
 
   -- no two agents begin on one cell, so the second visit of a pair is no start
-  not_start : (tasks : List Task) → HasStarts tasks p → IsInstance tasks → (o : OpenPair) → IsOpen p placed o → 1 ≤ o.second.position
+  not_start : (tasks : List Task) → HasStarts tasks p → IsInstance tasks → (o : OpenPair) → IsOpenPair p placed o → 1 ≤ o.second.position
   not_start tasks starts apart o is = elim (cases_lt 0 o.second.position) [ inl l ↦ l | inr z ↦ absurd (never (omega arith)) ]
     where
       v : Visit
@@ -230,14 +230,14 @@ module _ (p : Program) (order : VisitOrder) (placed : List PlacedVisit) (all : A
     in_order = λ i j d l m. ordered i j d l m;
   }
     where
-      question : (o : OpenPair) → AreVisits p o → IsOpen p placed o → IsQuestion p (question_of p o)
+      question : (o : OpenPair) → AreVisits p o → IsOpenPair p placed o → IsQuestion p (question_of p o)
       question o v is = record {
         agent = v.first.agent;
         number = omega arith;
         last = record { agent = v.second.agent; first = not_start tasks starts apart o is; last = v.second.position };
       }
 
-      sooner : (o u : OpenPair) → IsOpen p placed o → IsOpen p placed u → IsVisit p u.second → IsBefore all.level o.second u.second → IsSoonerAction all.level (entering o.second) (entering u.second)
+      sooner : (o u : OpenPair) → IsOpenPair p placed o → IsOpenPair p placed u → IsVisit p u.second → IsBefore all.level o.second u.second → IsSoonerAction all.level (entering o.second) (entering u.second)
       sooner o u ho hu v h = sooner_action p all.level numbered o.second u.second v (not_start tasks starts apart o ho) (not_start tasks starts apart u hu) h
 
       ordered : (i j : ℕ) (d : Question) → i < j → j < length (map (question_of p) pairs_of) → IsSoonerAction all.level (get_or (map (question_of p) pairs_of) i d).last (get_or (map (question_of p) pairs_of) j d).last
@@ -255,7 +255,7 @@ module _ (p : Program) (order : VisitOrder) (placed : List PlacedVisit) (all : A
 
   -- ---- what is told
 
-  next_or : AreInRange p → (c : Cell) → IsCell c → (v w : Visit) → AreNeighbours (visits_of (place_of c) placed) v w → ComesAfterByChain p v w ⊎ Contains pairs_of (record { cell = c; first = v; second = w })
+  next_or : AreInRange p → (c : Cell) → IsCell c → (v w : Visit) → AreConsecutive (visits_of (place_of c) placed) v w → ComesAfterByChain p v w ⊎ Contains pairs_of (record { cell = c; first = v; second = w })
   next_or range c cell v w n = elim ((grouped.cells c cell).next v w n) [
     | inl a ↦ inl (await_chain p range (place_of c) v w (visit_here (place_of c) (n.at + 1) w n.next) a)
     | inr k ↦ inr k
@@ -268,14 +268,14 @@ module _ (p : Program) (order : VisitOrder) (placed : List PlacedVisit) (all : A
   pair_get : (o : OpenPair) (k : ℕ) → k < length pairs_of → get_or pairs_of k o ≡ o → slice_get pairs_of k ≡ Some o
   pair_get o k l e = slice_get-get_or pairs_of k o l ∙ ap (λ (x : OpenPair). Some x) e
 
-  judged_none : AreInRange p → (c : Cell) → IsCell c → TellsFirstBad (λ _ o. HasNoChain p o) pairs_of (length pairs_of) (number_of c) None → IsJudged (ComesAfter p) (visits_of (place_of c) placed) None
+  judged_none : AreInRange p → (c : Cell) → IsCell c → TellsFirstBad (λ _ o. HasNoChain p o) pairs_of (length pairs_of) (number_of c) None → IsListJudged (ComesAfter p) (visits_of (place_of c) placed) None
   judged_none range c cell none = adjacent_from (ComesAfterByChain p) vs (λ k d l. pair (get_or vs k d) (get_or vs (suc k) d)
       (record { at = k; here = slice_get-get_or vs k d (omega arith); next = ap (slice_get vs) (add-one k) ∙ slice_get-get_or vs (suc k) d l }))
     where
       vs : List Visit
       vs = visits_of (place_of c) placed
 
-      pair : (v w : Visit) → AreNeighbours (visits_of (place_of c) placed) v w → ComesAfterByChain p v w
+      pair : (v w : Visit) → AreConsecutive (visits_of (place_of c) placed) v w → ComesAfterByChain p v w
       pair v w n = elim (next_or range c cell v w n) [
         | inl a ↦ a
         | inr (k, l, e) ↦ inr (chain_unless (record { cell = c; first = v; second = w }) (λ m. none k (record { cell = c; first = v; second = w }) l (pair_get (record { cell = c; first = v; second = w }) k l e) refl m))
@@ -287,11 +287,11 @@ module _ (p : Program) (order : VisitOrder) (placed : List PlacedVisit) (all : A
       o : OpenPair
       o = record { cell = f.cell; first = first; second = second }
 
-      is : IsOpen p placed o
-      is = subst (IsOpen p placed) (get_or_from_slice_get pairs_of f.at o o f.here) (grouped.each f.at o f.within)
+      is : IsOpenPair p placed o
+      is = subst (IsOpenPair p placed) (get_or_from_slice_get pairs_of f.at o o f.here) (grouped.each f.at o f.within)
 
-      n : AreNeighbours (visits_of (place_of c) placed) first second
-      n = subst (λ (d : Cell). AreNeighbours (visits_of (place_of d) placed) first second) (same_cell f.cell c is.cell cell f.number) is.neighbours
+      n : AreConsecutive (visits_of (place_of c) placed) first second
+      n = subst (λ (d : Cell). AreConsecutive (visits_of (place_of d) placed) first second) (same_cell f.cell c is.cell cell f.number) is.neighbours
 
       breaks : ComesAfterByChain p first second → ⊥
       breaks (inl l) = is.breaks (inl l)
@@ -334,7 +334,7 @@ module _ (p : Program) (order : VisitOrder) (placed : List PlacedVisit) (all : A
   pub violations_are : AreInRange p → (found : ℕ → Option OrderViolation) → ((n : ℕ) → TellsFirstBad (λ _ o. HasNoChain p o) pairs_of (length pairs_of) n (found n)) → AreViolations p placed (λ c. found (number_of c))
   violations_are range found h c cell = go (found (number_of c)) (h (number_of c))
     where
-      go : (m : Option OrderViolation) → TellsFirstBad (λ _ o. HasNoChain p o) pairs_of (length pairs_of) (number_of c) m → IsJudged (ComesAfter p) (visits_of (place_of c) placed) m
+      go : (m : Option OrderViolation) → TellsFirstBad (λ _ o. HasNoChain p o) pairs_of (length pairs_of) (number_of c) m → IsListJudged (ComesAfter p) (visits_of (place_of c) placed) m
       go None t = judged_none range c cell t
       go (Some b) t = judged_some range c cell b.first b.second t
 

@@ -19,7 +19,7 @@ use Rattle.fleet_model.proofs.Places.{place_of-injective, is_same_place-true, is
 use Rattle.fleet_verify.specs.declared.visit_order.PlacedVisit.{PlacedVisit}
 use Rattle.fleet_verify.specs.declared.visit_order.OpenPair.{OpenPair}
 use Rattle.fleet_verify.specs.declared.visit_order.VisitOrder.{VisitOrder}
-use Rattle.fleet_verify.specs.Order.{number_of, visits_of, entries, IsOpenNext, IsLast, IsGrouped, IsOpen, AreGrouped, AreNeighbours, StandsBefore}
+use Rattle.fleet_verify.specs.Order.{number_of, visits_of, entries, IsOpenNext, IsLastVisit, IsGrouped, IsOpenPair, AreGrouped, AreConsecutive, StandsBefore}
 
 -- ---- lists
 
@@ -34,7 +34,7 @@ slice_get_front (x ∷ xs) ys (suc k) l = slice_get_front xs ys k (omega arith)
 
 -- ---- neighbours
 
-pub neighbours_on : (l rest : List Visit) (v w : Visit) → AreNeighbours l v w → AreNeighbours (l ++ rest) v w
+pub neighbours_on : (l rest : List Visit) (v w : Visit) → AreConsecutive l v w → AreConsecutive (l ++ rest) v w
 neighbours_on l rest v w n =
     let within = slice_get_within l (n.at + 1) w n.next in
     record {
@@ -43,15 +43,15 @@ neighbours_on l rest v w n =
       next = slice_get_front l rest (n.at + 1) within ∙ n.next;
     }
 
-pub neighbours_last : (l : List Visit) (v w : Visit) → IsLast l (Some v) → AreNeighbours (l ++ w ∷ []) v w
-neighbours_last l v w (xs, e) = subst (λ (ys : List Visit). AreNeighbours (ys ++ w ∷ []) v w) (sym e) (record {
+pub neighbours_last : (l : List Visit) (v w : Visit) → IsLastVisit l (Some v) → AreConsecutive (l ++ w ∷ []) v w
+neighbours_last l v w (xs, e) = subst (λ (ys : List Visit). AreConsecutive (ys ++ w ∷ []) v w) (sym e) (record {
   at = length xs;
   here = ap (λ (ys : List Visit). slice_get ys (length xs)) (append_assoc xs (v ∷ []) (w ∷ [])) ∙ slice_get_at xs v (w ∷ []);
   next = ap (slice_get ((xs ++ v ∷ []) ++ w ∷ [])) (sym (length-append xs (v ∷ []))) ∙ slice_get_at (xs ++ v ∷ []) w [];
 })
 
 -- neighbours before one visit more, or the last one and it
-neighbours_cases : (l : List Visit) (last : Option Visit) (w v x : Visit) → IsLast l last → AreNeighbours (l ++ w ∷ []) v x → AreNeighbours l v x ⊎ ((last ≡ Some v) × (x ≡ w))
+neighbours_cases : (l : List Visit) (last : Option Visit) (w v x : Visit) → IsLastVisit l last → AreConsecutive (l ++ w ∷ []) v x → AreConsecutive l v x ⊎ ((last ≡ Some v) × (x ≡ w))
 neighbours_cases l last w v x is n = elim (cases_lt (n.at + 1) (length l)) [
   | inl k ↦ inl (record {
     at = n.at;
@@ -65,7 +65,7 @@ neighbours_cases l last w v x is n = elim (cases_lt (n.at + 1) (length l)) [
       inr (ends all last is)
 ]
   where
-    ends : n.at + 1 ≡ length l → (o : Option Visit) → IsLast l o → (o ≡ Some v) × (x ≡ w)
+    ends : n.at + 1 ≡ length l → (o : Option Visit) → IsLastVisit l o → (o ≡ Some v) × (x ≡ w)
     ends all None e = absurd (let f : length l ≡ 0 = ap (λ (ys : List Visit). length ys) e in omega arith)
     ends all (Some u) (xs, e) =
         let long : length (xs ++ u ∷ []) ≡ length xs + 1 = length-append xs (u ∷ []) in
@@ -111,7 +111,7 @@ pairs_kept R last s old new (inr (v, f, n, e)) o k =
 
 pub grouped_on : (p : Program) (c : Cell) (stays : List PlacedVisit) (s : PlacedVisit) (last : Option Visit) (old new : List OpenPair) → IsGrouped p c stays last old → s.cell ≡ c → IsOpenNext (ComesAfterByAwait p) last s old new
     → IsGrouped p c (stays ++ s ∷ []) (Some s.visit) new
-grouped_on p c stays s last old new h e r = record { last = (l, same); next = λ v w n. next v w (neighbours_cases l last s.visit v w h.last (subst (λ (vs : List Visit). AreNeighbours vs v w) same n)) }
+grouped_on p c stays s last old new h e r = record { last = (l, same); next = λ v w n. next v w (neighbours_cases l last s.visit v w h.last (subst (λ (vs : List Visit). AreConsecutive vs v w) same n)) }
   where
     l : List Visit
     l = visits_of (place_of c) stays
@@ -130,7 +130,7 @@ grouped_on p c stays s last old new h e r = record { last = (l, same); next = λ
         inr (subst (λ (os : List OpenPair). Contains os (record { cell = c; first = v; second = w })) (sym k)
         (subst (Contains (old ++ pair_with s u ∷ [])) pair (Contains-push old (pair_with s u))))
 
-    next : (v w : Visit) → AreNeighbours l v w ⊎ ((last ≡ Some v) × (w ≡ s.visit)) → Next v w
+    next : (v w : Visit) → AreConsecutive l v w ⊎ ((last ≡ Some v) × (w ≡ s.visit)) → Next v w
     next v w (inl n) = elim (h.next v w n) [ inl a ↦ inl a | inr k ↦ inr (pairs_kept (ComesAfterByAwait p) last s old new r (record { cell = c; first = v; second = w }) k) ]
     next v w (inr (is, to)) = ends v w is to r
 
@@ -139,8 +139,8 @@ pub grouped_off : (p : Program) (c : Cell) (stays : List PlacedVisit) (s : Place
 grouped_off p c stays s last old new h ne kept =
     let same : visits_of (place_of c) (stays ++ s ∷ []) ≡ visits_of (place_of c) stays = visits_of-append (place_of c) stays (s ∷ []) ∙ (ap (λ vs. visits_of (place_of c) stays ++ vs) (visits_off c s ne) ∙ append-nil _) in
     record {
-      last = subst (λ (vs : List Visit). IsLast vs last) (sym same) h.last;
-      next = λ v w n. elim (h.next v w (subst (λ (vs : List Visit). AreNeighbours vs v w) same n)) [ inl a ↦ inl a | inr k ↦ inr (kept (record { cell = c; first = v; second = w }) k) ];
+      last = subst (λ (vs : List Visit). IsLastVisit vs last) (sym same) h.last;
+      next = λ v w n. elim (h.next v w (subst (λ (vs : List Visit). AreConsecutive vs v w) same n)) [ inl a ↦ inl a | inr k ↦ inr (kept (record { cell = c; first = v; second = w }) k) ];
     }
 
 -- the visits of a place stand among all
@@ -164,19 +164,19 @@ stands_in q (s ∷ placed) w k e = go (is_same_place (place_of s.cell) q) refl e
     go false f g rest = later (rest k (rw f at g))
 
 -- pairs that are open stay so
-open_on : (p : Program) (stays rest : List PlacedVisit) (o : OpenPair) → IsOpen p stays o → IsOpen p (stays ++ rest) o
+open_on : (p : Program) (stays rest : List PlacedVisit) (o : OpenPair) → IsOpenPair p stays o → IsOpenPair p (stays ++ rest) o
 open_on p stays rest o h = record {
   cell = h.cell;
-  neighbours = subst (λ (vs : List Visit). AreNeighbours vs o.first o.second) (sym (visits_of-append (place_of o.cell) stays rest)) (neighbours_on (visits_of (place_of o.cell) stays) (visits_of (place_of o.cell) rest) o.first o.second h.neighbours);
+  neighbours = subst (λ (vs : List Visit). AreConsecutive vs o.first o.second) (sym (visits_of-append (place_of o.cell) stays rest)) (neighbours_on (visits_of (place_of o.cell) stays) (visits_of (place_of o.cell) rest) o.first o.second h.neighbours);
   breaks = h.breaks;
 }
 
-open_more : (p : Program) (stays : List PlacedVisit) (s : PlacedVisit) (v : Visit) → IsCell s.cell → IsLast (visits_of (place_of s.cell) stays) (Some v) → (ComesAfterByAwait p v s.visit → ⊥) → IsOpen p (stays ++ s ∷ []) (pair_with s v)
+open_more : (p : Program) (stays : List PlacedVisit) (s : PlacedVisit) (v : Visit) → IsCell s.cell → IsLastVisit (visits_of (place_of s.cell) stays) (Some v) → (ComesAfterByAwait p v s.visit → ⊥) → IsOpenPair p (stays ++ s ∷ []) (pair_with s v)
 open_more p stays s v cell last n = record {
   cell = cell;
   neighbours =
       let same : visits_of (place_of s.cell) (stays ++ s ∷ []) ≡ visits_of (place_of s.cell) stays ++ s.visit ∷ [] = visits_of-append (place_of s.cell) stays (s ∷ []) ∙ ap (λ vs. visits_of (place_of s.cell) stays ++ vs) (visits_on s.cell s refl) in
-      subst (λ (vs : List Visit). AreNeighbours vs v s.visit) (sym same) (neighbours_last (visits_of (place_of s.cell) stays) v s.visit last);
+      subst (λ (vs : List Visit). AreConsecutive vs v s.visit) (sym same) (neighbours_last (visits_of (place_of s.cell) stays) v s.visit last);
   breaks = n;
 }
 
@@ -213,11 +213,11 @@ in_order_on stays s pairs h = λ i j d l m.
     subst (λ (vs : List Visit). StandsBefore vs (get_or pairs i d).second (get_or pairs j d).second) (sym (visits_more stays s))
     (stands_on (map (λ x. x.visit) stays) (s.visit ∷ []) (get_or pairs i d).second (get_or pairs j d).second (h i j d l m))
 
-in_order_more : (p : Program) (stays : List PlacedVisit) (s : PlacedVisit) (v : Visit) (pairs : List OpenPair) → All (IsOpen p stays) pairs → InOrder stays pairs → InOrder (stays ++ s ∷ []) (pairs ++ pair_with s v ∷ [])
+in_order_more : (p : Program) (stays : List PlacedVisit) (s : PlacedVisit) (v : Visit) (pairs : List OpenPair) → All (IsOpenPair p stays) pairs → InOrder stays pairs → InOrder (stays ++ s ∷ []) (pairs ++ pair_with s v ∷ [])
 in_order_more p stays s v pairs each h =
     all_pairs_push (λ (o u : OpenPair). StandsBefore (map (λ x. x.visit) (stays ++ s ∷ [])) o.second u.second) pairs (pair_with s v) (in_order_on stays s pairs h)
     (λ k d l.
-    let is : IsOpen p stays (get_or pairs k d) = each k d l in
+    let is : IsOpenPair p stays (get_or pairs k d) = each k d l in
     let found = stands_in (place_of (get_or pairs k d).cell) stays (get_or pairs k d).second (is.neighbours.at + 1) is.neighbours.next in
     subst (λ (vs : List Visit). StandsBefore vs (get_or pairs k d).second s.visit) (sym (visits_more stays s))
     (stands_last (map (λ x. x.visit) stays) (get_or pairs k d).second s.visit found.0 found.1))
@@ -256,17 +256,17 @@ grouped_more p placed s old new here h last r = record { cells = cells; each = (
           (pairs_kept (ComesAfterByAwait p) (get nat_eq old.last (number_of s.cell)) s o new.pairs.items r))
     ]
 
-    kept : All (IsOpen p (placed ++ s ∷ [])) o
+    kept : All (IsOpenPair p (placed ++ s ∷ [])) o
     kept = λ k d l. open_on p placed (s ∷ []) (get_or o k d) (h.each k d l)
 
-    opened : IsOpenNext (ComesAfterByAwait p) (get nat_eq old.last (number_of s.cell)) s o new.pairs.items → All (IsOpen p (placed ++ s ∷ [])) new.pairs.items × InOrder (placed ++ s ∷ []) new.pairs.items
+    opened : IsOpenNext (ComesAfterByAwait p) (get nat_eq old.last (number_of s.cell)) s o new.pairs.items → All (IsOpenPair p (placed ++ s ∷ [])) new.pairs.items × InOrder (placed ++ s ∷ []) new.pairs.items
     opened (inl (a, e)) = (
-      subst (λ (os : List OpenPair). All (IsOpen p (placed ++ s ∷ [])) os) (sym e) kept,
+      subst (λ (os : List OpenPair). All (IsOpenPair p (placed ++ s ∷ [])) os) (sym e) kept,
       subst (λ (os : List OpenPair). InOrder (placed ++ s ∷ []) os) (sym e) (in_order_on placed s o h.in_order),
     )
     opened (inr (v, f, n, e)) = (
-      subst (λ (os : List OpenPair). All (IsOpen p (placed ++ s ∷ [])) os) (sym e)
-          (All-push (IsOpen p (placed ++ s ∷ [])) o (pair_with s v) kept (open_more p placed s v here (subst (IsLast (visits_of (place_of s.cell) placed)) f (h.cells s.cell here).last) n)),
+      subst (λ (os : List OpenPair). All (IsOpenPair p (placed ++ s ∷ [])) os) (sym e)
+          (All-push (IsOpenPair p (placed ++ s ∷ [])) o (pair_with s v) kept (open_more p placed s v here (subst (IsLastVisit (visits_of (place_of s.cell) placed)) f (h.cells s.cell here).last) n)),
       subst (λ (os : List OpenPair). InOrder (placed ++ s ∷ []) os) (sym e) (in_order_more p placed s v o h.each h.in_order),
     )
 

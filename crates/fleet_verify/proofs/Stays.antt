@@ -28,7 +28,7 @@ use Rattle.fleet_verify.specs.declared.visit_order.PlacedVisit.{PlacedVisit}
 use Rattle.fleet_verify.specs.Walk.{begun_in, IsRunOnGround, HasArrived}
 use Rattle.fleet_verify.specs.declared.unheld_run.UnheldRun.{UnheldRun}
 use Rattle.fleet_verify.proofs.Arrived.{all_right}
-use Rattle.fleet_verify.specs.Order.{visits_of, entries, AreAllPlaced, IsPlaced, AreAdded, AreAllAdded}
+use Rattle.fleet_verify.specs.Order.{visits_of, entries, AreAllPlaced, IsVisitPlaced, AreAdded, AreAllAdded}
 use Rattle.fleet_verify.specs.declared.visit_order.VisitOrder.{VisitOrder}
 use Rattle.fleet_verify.specs.Faults.{HasStarts, HasRanges, AwaitsRight, EachAction}
 use Rattle.fleet_model.proofs.Places.{is_same_place-true, is_same_place-eq}
@@ -87,7 +87,7 @@ once lev l h j k v e g = elim (cases_order j k) [
 abbrev is_at : Program → Place → Visit → Bool
 is_at p q v = is_same_place (path p v.agent v.position) q
 
-visits_are : (p : Program) (q : Place) (stays : List PlacedVisit) → All (IsPlaced p) stays → visits_of q stays ≡ filter (is_at p q) (map (λ s. s.visit) stays)
+visits_are : (p : Program) (q : Place) (stays : List PlacedVisit) → All (IsVisitPlaced p) stays → visits_of q stays ≡ filter (is_at p q) (map (λ s. s.visit) stays)
 unfolding visits_of
 visits_are p q [] h = refl
 visits_are p q (s ∷ stays) h = go (is_same_place (place_of s.cell) q) refl (visits_are p q stays (λ k d l. h (suc k) d (omega arith)))

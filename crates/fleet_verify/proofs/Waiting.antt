@@ -8,8 +8,8 @@ use Rattle.fleet_model.specs.Program.{Program, moves, awaits_of}
 use Rattle.fleet_model.specs.Chain.{IsAction, DirectlyNeeds}
 use Rattle.fleet_model.specs.Program.{AreInRange}
 use Rattle.fleet_verify.proofs.Members.{same_action}
-use Rattle.fleet_verify.specs.Ring.{IsToldRing, IsUpTo}
-use Rattle.fleet_verify.specs.Blocked.{nth, IsBlocked, want_at, AreWants, next_of, need_of, LeadsBack, IsLeastBack, down_from}
+use Rattle.fleet_verify.specs.Ring.{IsToldRing, IsActionUpTo}
+use Rattle.fleet_verify.specs.Blocked.{nth, IsBlocked, want_at, AreWants, next_of, need_of, WaitsBack, IsLeastBack, down_from}
 use Rattle.std.proofs.lemmas.List.{get_or_append_left, get_or-append_right, length-append, get_or-reverse, length-reverse, get_or_default}
 use Rattle.std.proofs.lemmas.List.FromFn.{get_or-map-range_with_len, length-map-range_with_len}
 use Rattle.std.proofs.lemmas.Option.{slice_get_within, get_or_from_slice_get}
@@ -45,10 +45,10 @@ module _ (p : Program) (counts : List ℕ) (wants : List Await) (range : AreInRa
   blocked_nth i (suc k) b = blocked_next (nth (next_of wants) k i) (blocked_nth i k b)
 
   -- some agent's waiting leads back to it
-  pub some_back : (i : ℕ) → IsBlocked p counts i → (j : ℕ) × IsBlocked p counts j × LeadsBack wants (length p) j
+  pub some_back : (i : ℕ) → IsBlocked p counts i → (j : ℕ) × IsBlocked p counts j × WaitsBack wants (length p) j
   some_back i b = go (repeated (length p) (suc (length p)) (λ k. nth (next_of wants) k i) (omega arith) (λ k l. (blocked_nth i k b).agent))
     where
-      go : IsRepeat (λ k. nth (next_of wants) k i) (suc (length p)) → (j : ℕ) × IsBlocked p counts j × LeadsBack wants (length p) j
+      go : IsRepeat (λ k. nth (next_of wants) k i) (suc (length p)) → (j : ℕ) × IsBlocked p counts j × WaitsBack wants (length p) j
       go r =
           let m : ℕ = r.second - r.first in
           let e : m + r.first ≡ r.second = omega (arith, r.order) in (
@@ -284,16 +284,16 @@ module _ (p : Program) (counts : List ℕ) (wants : List Await) (range : AreInRa
             ]
           ]
 
-      least : (a : ActionId) → slice_get (reverse trail) 0 ≡ Some a → (k : ℕ) (d : ActionId) → k < length (reverse trail) → IsUpTo a (get_or (reverse trail) k d)
+      least : (a : ActionId) → slice_get (reverse trail) 0 ≡ Some a → (k : ℕ) (d : ActionId) → k < length (reverse trail) → IsActionUpTo a (get_or (reverse trail) k d)
       least a e k d h =
           let x = is 0 a e in
           let z : m - 0 ≡ m = omega arith in
           let a' : a ≡ next_action first = x.1 ∙ (ap (nth_need first) z ∙ t.here) in
           let h' : k < m = omega (arith, long) in
           let b : get_or (reverse trail) k d ≡ nth_need first (m - k) = get_or_default (reverse trail) k d (next_action first) h ∙ at k h' in
-          subst (λ v. IsUpTo v (get_or (reverse trail) k d)) (sym a') (subst (IsUpTo (next_action first)) (sym b) (up (m - k)))
+          subst (λ v. IsActionUpTo v (get_or (reverse trail) k d)) (sym a') (subst (IsActionUpTo (next_action first)) (sym b) (up (m - k)))
         where
-          up : (n : ℕ) → IsUpTo (next_action first) (nth_need first n)
+          up : (n : ℕ) → IsActionUpTo (next_action first) (nth_need first n)
           up n =
               let u = unfinished_nth first n l.blocked in
               let g = agent_nth first n l.blocked in

@@ -26,12 +26,12 @@ unfoldable pub visits_of : Place → List PlacedVisit → List Visit
 visits_of q stays = map (λ s. s.visit) (filter (λ s. is_same_place (place_of s.cell) q) stays)
 
 -- no neighbours in the list break the rule, or these are the first that do
-abbrev pub IsJudged : (Visit → Visit → Type 0) → List Visit → Option OrderViolation → Type 0
-IsJudged R l None = Adjacent R l
-IsJudged R l (Some b) = IsFirstBreak R l b.first b.second
+abbrev pub IsListJudged : (Visit → Visit → Type 0) → List Visit → Option OrderViolation → Type 0
+IsListJudged R l None = Adjacent R l
+IsListJudged R l (Some b) = IsFirstBreak R l b.first b.second
 
 -- v is in the list, and w right after it
-pub record AreNeighbours (l : List Visit) (v w : Visit) : Type 0 where
+pub record AreConsecutive (l : List Visit) (v w : Visit) : Type 0 where
   pub at : ℕ
   pub here : slice_get l at ≡ Some v
   pub next : slice_get l (at + 1) ≡ Some w
@@ -60,34 +60,34 @@ pub record AreAllPlaced (p : Program) (placed : List PlacedVisit) : Type 0 where
   pub sorted : (q : Place) → IsSortedListing p level q (visits_of q placed)
 
 -- the last visit of the list, if it has one
-abbrev pub IsLast : List Visit → Option Visit → Type 0
-IsLast l None = l ≡ []
-IsLast l (Some v) = (xs : List Visit) × (l ≡ xs ++ v ∷ [])
+abbrev pub IsLastVisit : List Visit → Option Visit → Type 0
+IsLastVisit l None = l ≡ []
+IsLastVisit l (Some v) = (xs : List Visit) × (l ≡ xs ++ v ∷ [])
 
 -- the last visit of the cell among those so far; of its neighbouring visits each second one awaits that the first is left, or they are open
 pub record IsGrouped (p : Program) (c : Cell) (placed : List PlacedVisit) (final : Option Visit) (pairs : List OpenPair) : Type 0 where
-  pub last : IsLast (visits_of (place_of c) placed) final
-  pub next : (v w : Visit) → AreNeighbours (visits_of (place_of c) placed) v w
+  pub last : IsLastVisit (visits_of (place_of c) placed) final
+  pub next : (v w : Visit) → AreConsecutive (visits_of (place_of c) placed) v w
       → ComesAfterByAwait p v w ⊎ Contains pairs (record { cell = c; first = v; second = w })
 
 -- neighbouring visits of a cell, of which the second does not await that the first is left
-pub record IsOpen (p : Program) (placed : List PlacedVisit) (o : OpenPair) : Type 0 where
+pub record IsOpenPair (p : Program) (placed : List PlacedVisit) (o : OpenPair) : Type 0 where
   pub cell : IsCell o.cell
-  pub neighbours : AreNeighbours (visits_of (place_of o.cell) placed) o.first o.second
+  pub neighbours : AreConsecutive (visits_of (place_of o.cell) placed) o.first o.second
   pub breaks : ComesAfterByAwait p o.first o.second → ⊥
 
 -- so it is for each cell, by its number; the open pairs stand in the order of their second visits
 pub record AreGrouped (p : Program) (placed : List PlacedVisit) (order : VisitOrder) : Type 0 where
   pub cells : (c : Cell) → IsCell c → IsGrouped p c placed (get nat_eq order.last (number_of c)) order.pairs.items
-  pub each : All (IsOpen p placed) order.pairs.items
+  pub each : All (IsOpenPair p placed) order.pairs.items
   pub in_order : AllPairs (λ o u. StandsBefore (map (λ s. s.visit) placed) o.second u.second) order.pairs.items
 
 -- each cell's first neighbours that break the rule
 abbrev pub AreViolations : Program → List PlacedVisit → (Cell → Option OrderViolation) → Type 0
-AreViolations p placed found = (c : Cell) → IsCell c → IsJudged (ComesAfter p) (visits_of (place_of c) placed) (found c)
+AreViolations p placed found = (c : Cell) → IsCell c → IsListJudged (ComesAfter p) (visits_of (place_of c) placed) (found c)
 
 -- the visit's agent is on this cell then
-pub record IsPlaced (p : Program) (s : PlacedVisit) : Type 0 where
+pub record IsVisitPlaced (p : Program) (s : PlacedVisit) : Type 0 where
   pub cell : IsCell s.cell
   pub here : place_of s.cell ≡ path p s.visit.agent s.visit.position
 
@@ -99,19 +99,19 @@ entries p positions = filter (λ v. is_entry p v.agent v.position) positions
 pub record AreAdded (p : Program) (positions : List Visit) (order : VisitOrder) : Type 0 where
   pub placed : List PlacedVisit
   pub same : map (λ s. s.visit) placed ≡ entries p positions
-  pub each : All (IsPlaced p) placed
+  pub each : All (IsVisitPlaced p) placed
   pub grouped : AreGrouped p placed order
 
 -- all visits were added, those of each place sorted
 pub record AreAllAdded (p : Program) (order : VisitOrder) : Type 0 where
   pub placed : List PlacedVisit
   pub all : AreAllPlaced p placed
-  pub each : All (IsPlaced p) placed
+  pub each : All (IsVisitPlaced p) placed
   pub grouped : AreGrouped p placed order
 
 -- of some order of all visits, those of each place sorted, each cell's first neighbours that break the rule
 pub record AreAllViolations (p : Program) (found : Cell → Option OrderViolation) : Type 0 where
   pub placed : List PlacedVisit
   pub all : AreAllPlaced p placed
-  pub each : All (IsPlaced p) placed
+  pub each : All (IsVisitPlaced p) placed
   pub violations : AreViolations p placed found

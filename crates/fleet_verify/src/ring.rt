@@ -6,7 +6,7 @@ ghost use Rattle.fleet_model.specs.Machine.{is_stuck};
 ghost use Rattle.fleet_machine.specs.Machine.{Runs};
 ghost use Rattle.fleet_verify.specs.Walk.{IsReadyBy, counts_of};
 ghost use Rattle.fleet_model.specs.Program.{AreInRange};
-ghost use Rattle.fleet_verify.specs.Blocked.{IsBlocked, IsUnmet, AreWants, LeadsBack, IsLeastBack, down_from};
+ghost use Rattle.fleet_verify.specs.Blocked.{IsBlocked, IsUnmet, AreWants, WaitsBack, IsLeastBack, down_from};
 ghost use Rattle.fleet_verify.specs.Ring.{IsToldRing};
 
 use fleet_machine::Machine;
@@ -103,7 +103,7 @@ fn leads_back<P: ProgramView>(program: &P, counts: &[u32], wants: &[Await], i: u
     requires ranges { AreInRange (P.program program.now) }
     requires wants { AreWants (P.program program.now) counts.now wants.now }
     requires blocked { IsBlocked (P.program program.now) counts.now i }
-    ensures { IsTrue result ↔ LeadsBack wants.now (length (P.program program.now)) i }
+    ensures { IsTrue result ↔ WaitsBack wants.now (length (P.program program.now)) i }
 {
     let mut agent = i;
     for _steps in 0..program.agents() {

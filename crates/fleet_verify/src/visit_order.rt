@@ -48,7 +48,7 @@ impl VisitOrder {
     ghost use Rattle.std.specs.Prelude.{List};
     ghost use Rattle.fleet_model.specs.declared.program.Visit.{Visit};
     ghost use Rattle.fleet_model.specs.Program.{Program};
-    ghost use Rattle.fleet_verify.specs.Order.{IsPlaced, AreAdded};
+    ghost use Rattle.fleet_verify.specs.Order.{IsVisitPlaced, AreAdded};
 
     /// No visits.
     pub fn new(alloc: Global) -> Self
@@ -68,7 +68,7 @@ impl VisitOrder {
     ) -> Result<(), OutOfMemory>
         requires agent { placed.visit.agent < length (P.program program.now) }
         requires position { placed.visit.position ≤ moves (P.program program.now) placed.visit.agent }
-        requires placed { IsPlaced (P.program program.now) placed }
+        requires placed { IsVisitPlaced (P.program program.now) placed }
         ensures { OnOk result ((visits : List Visit) → AreAdded (P.program program.now) visits self.old
             → AreAdded (P.program program.now) (visits ++ placed.visit ∷ []) self.new) }
     {

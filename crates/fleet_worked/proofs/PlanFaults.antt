@@ -14,7 +14,7 @@ use Rattle.fleet_model.specs.Conflict.{HasSwappingConflict, HasCycleConflict}
 use Rattle.fleet_plan.specs.declared.plan_fault.Conflict.{Conflict}
 use Rattle.fleet_plan.specs.declared.plan_fault.Conflict.TheVariants.{Vertex, Swapping, Cycle}
 use Rattle.fleet_plan.specs.Plan.{cell_at, cell_of, last_cell, planned, AreNeighbours}
-use Rattle.fleet_plan.specs.FirstFault.{AllAgents, StartsRight, EndsRight, GoesOver, GoesRight, HasConflict, IsCycle, IsPairUpTo, IsUpTo, HasEnds, IsFirstPlanFault}
+use Rattle.fleet_plan.specs.FirstFault.{AllAgents, StartsOnStart, EndsOnGoal, GoesOver, GoesRight, HasConflict, IsCycle, IsPairUpTo, IsConflictUpTo, HasStartsAndGoals, IsFirstPlanFault}
 use Rattle.fleet_worked.specs.Programs.{cell}
 use Rattle.fleet_worked.specs.Plans.{swap_plan, swap_tasks, swap_fault, ring_plan, ring_tasks, ring_fault}
 
@@ -46,16 +46,16 @@ pair_up_to (suc i) j h = inl (omega arith)
 
 -- ---- an exchange
 
-swap_ends : HasEnds swap_tasks swap_plan
+swap_ends : HasStartsAndGoals swap_tasks swap_plan
 unfolding last_cell cell_of cell_at task_of
 swap_ends = record { agents = refl; starts = starts; goals = goals }
   where
-    starts : AllAgents swap_plan (StartsRight swap_tasks swap_plan)
+    starts : AllAgents swap_plan (StartsOnStart swap_tasks swap_plan)
     starts zero h t e = ap (λ o. (task_of o).start) e
     starts (suc zero) h t e = ap (λ o. (task_of o).start) e
     starts (suc (suc i)) h t e = absurd (none-some t e)
 
-    goals : AllAgents swap_plan (EndsRight swap_tasks swap_plan)
+    goals : AllAgents swap_plan (EndsOnGoal swap_tasks swap_plan)
     goals zero h t e = ap (λ o. (task_of o).goal) e
     goals (suc zero) h t e = ap (λ o. (task_of o).goal) e
     goals (suc (suc i)) h t e = absurd (none-some t e)
@@ -80,7 +80,7 @@ swap_apart (suc i) (suc j) h g e = absurd (omega arith)
 pub swap_is_first : IsFirstPlanFault (λ q. true) swap_tasks swap_plan swap_fault
 swap_is_first = (swap_ends, swap_steps, record { conflict = (omega arith, omega arith, swapping); first = first })
   where
-    first : (d : Conflict) → HasConflict swap_plan d → IsUpTo (Swapping 0 0 1) d
+    first : (d : Conflict) → HasConflict swap_plan d → IsConflictUpTo (Swapping 0 0 1) d
     first (Vertex zero i j) h = absurd (swap_apart i j h.0 h.1 h.2.same)
     first (Vertex (suc x) i j) h = inl (omega arith)
     first (Swapping zero i j) h = inr (refl, pair_up_to i j h.0)
@@ -90,18 +90,18 @@ swap_is_first = (swap_ends, swap_steps, record { conflict = (omega arith, omega 
 
 -- ---- a ring of four
 
-ring_ends : HasEnds ring_tasks ring_plan
+ring_ends : HasStartsAndGoals ring_tasks ring_plan
 unfolding last_cell cell_of cell_at task_of
 ring_ends = record { agents = refl; starts = starts; goals = goals }
   where
-    starts : AllAgents ring_plan (StartsRight ring_tasks ring_plan)
+    starts : AllAgents ring_plan (StartsOnStart ring_tasks ring_plan)
     starts zero h t e = ap (λ o. (task_of o).start) e
     starts (suc zero) h t e = ap (λ o. (task_of o).start) e
     starts (suc (suc zero)) h t e = ap (λ o. (task_of o).start) e
     starts (suc (suc (suc zero))) h t e = ap (λ o. (task_of o).start) e
     starts (suc (suc (suc (suc i)))) h t e = absurd (none-some t e)
 
-    goals : AllAgents ring_plan (EndsRight ring_tasks ring_plan)
+    goals : AllAgents ring_plan (EndsOnGoal ring_tasks ring_plan)
     goals zero h t e = ap (λ o. (task_of o).goal) e
     goals (suc zero) h t e = ap (λ o. (task_of o).goal) e
     goals (suc (suc zero)) h t e = ap (λ o. (task_of o).goal) e
@@ -196,7 +196,7 @@ is_cycle = record { agents = each_below; conflict = cycle; among = (0, omega ari
 pub ring_is_first : IsFirstPlanFault (λ q. true) ring_tasks ring_plan ring_fault
 ring_is_first = (ring_ends, ring_steps, record { conflict = (four, is_cycle); first = first })
   where
-    first : (d : Conflict) → HasConflict ring_plan d → IsUpTo (Cycle 0 0) d
+    first : (d : Conflict) → HasConflict ring_plan d → IsConflictUpTo (Cycle 0 0) d
     first (Vertex zero i j) h = absurd (of_four (λ i j. planned ring_plan 0 i ≢ planned ring_plan 0 j) ring_apart i j h.0 h.1 h.2.same)
     first (Vertex (suc x) i j) h = inl (omega arith)
     first (Swapping zero i j) h = absurd (of_four (λ i j. HasSwappingConflict (planned ring_plan) 0 i j → ⊥) ring_unswapped i j h.0 h.1 h.2)

@@ -37,8 +37,8 @@ go d awaits = record { step = Go d; awaits = awaits }
 abbrev pub dwell : List Await → Action
 dwell awaits = record { step = Dwell; awaits = awaits }
 
-abbrev pub agent_from : Cell → Cell → List Action → AgentProgram
-agent_from start goal actions = record { start = start; goal = goal; actions = actions }
+abbrev pub agent_with : Cell → Cell → List Action → AgentProgram
+agent_with start goal actions = record { start = start; goal = goal; actions = actions }
 
 abbrev pub task : Cell → Cell → Task
 task start goal = record { start = start; goal = goal }
@@ -64,8 +64,8 @@ is_on_open_map columns rows q = is_below q.x columns && is_below q.y rows
 -- agent 0 goes from 1,0 to 3,0, and agent 1 behind it from 0,0 to 2,0. Each action of agent 1 awaits that its next cell has been left
 abbrev pub pair : Program
 pair =
-    agent_from (cell 1 0) (cell 3 0) (go East [] ∷ go East [] ∷ [])
-    ∷ agent_from (cell 0 0) (cell 2 0) (go East (await 0 1 ∷ []) ∷ go East (await 0 2 ∷ []) ∷ [])
+    agent_with (cell 1 0) (cell 3 0) (go East [] ∷ go East [] ∷ [])
+    ∷ agent_with (cell 0 0) (cell 2 0) (go East (await 0 1 ∷ []) ∷ go East (await 0 2 ∷ []) ∷ [])
     ∷ []
 
 abbrev pub pair_tasks : List Task
@@ -74,47 +74,47 @@ pair_tasks = task (cell 1 0) (cell 3 0) ∷ task (cell 0 0) (cell 2 0) ∷ []
 -- the pair, where agent 1 sets out without an await
 abbrev pub rash_pair : Program
 rash_pair =
-    agent_from (cell 1 0) (cell 3 0) (go East [] ∷ go East [] ∷ [])
-    ∷ agent_from (cell 0 0) (cell 2 0) (go East [] ∷ go East (await 0 2 ∷ []) ∷ [])
+    agent_with (cell 1 0) (cell 3 0) (go East [] ∷ go East [] ∷ [])
+    ∷ agent_with (cell 0 0) (cell 2 0) (go East [] ∷ go East (await 0 2 ∷ []) ∷ [])
     ∷ []
 
 -- the pair, where agent 1 awaits in its last action that agent 0 has come to 2,0 and not that it has left it
 abbrev pub early_pair : Program
 early_pair =
-    agent_from (cell 1 0) (cell 3 0) (go East [] ∷ go East [] ∷ [])
-    ∷ agent_from (cell 0 0) (cell 2 0) (go East (await 0 1 ∷ []) ∷ go East (await 0 1 ∷ []) ∷ [])
+    agent_with (cell 1 0) (cell 3 0) (go East [] ∷ go East [] ∷ [])
+    ∷ agent_with (cell 0 0) (cell 2 0) (go East (await 0 1 ∷ []) ∷ go East (await 0 1 ∷ []) ∷ [])
     ∷ []
 
 -- the pair, where agent 0 first stays where it is
 abbrev pub late_pair : Program
 late_pair =
-    agent_from (cell 1 0) (cell 3 0) (dwell [] ∷ go East [] ∷ go East [] ∷ [])
-    ∷ agent_from (cell 0 0) (cell 2 0) (go East (await 0 2 ∷ []) ∷ go East (await 0 3 ∷ []) ∷ [])
+    agent_with (cell 1 0) (cell 3 0) (dwell [] ∷ go East [] ∷ go East [] ∷ [])
+    ∷ agent_with (cell 0 0) (cell 2 0) (go East (await 0 2 ∷ []) ∷ go East (await 0 3 ∷ []) ∷ [])
     ∷ []
 
 -- the same, where agent 1 awaits at first that agent 0 has stayed and not that it has left
 abbrev pub hasty_pair : Program
 hasty_pair =
-    agent_from (cell 1 0) (cell 3 0) (dwell [] ∷ go East [] ∷ go East [] ∷ [])
-    ∷ agent_from (cell 0 0) (cell 2 0) (go East (await 0 1 ∷ []) ∷ go East (await 0 3 ∷ []) ∷ [])
+    agent_with (cell 1 0) (cell 3 0) (dwell [] ∷ go East [] ∷ go East [] ∷ [])
+    ∷ agent_with (cell 0 0) (cell 2 0) (go East (await 0 1 ∷ []) ∷ go East (await 0 3 ∷ []) ∷ [])
     ∷ []
 
 -- the pair, after which both agents stay two actions longer
 abbrev pub staying_pair : Program
 staying_pair =
-    agent_from (cell 1 0) (cell 3 0) (go East [] ∷ go East [] ∷ dwell [] ∷ dwell [] ∷ [])
-    ∷ agent_from (cell 0 0) (cell 2 0) (go East (await 0 1 ∷ []) ∷ go East (await 0 2 ∷ []) ∷ dwell [] ∷ dwell [] ∷ [])
+    agent_with (cell 1 0) (cell 3 0) (go East [] ∷ go East [] ∷ dwell [] ∷ dwell [] ∷ [])
+    ∷ agent_with (cell 0 0) (cell 2 0) (go East (await 0 1 ∷ []) ∷ go East (await 0 2 ∷ []) ∷ dwell [] ∷ dwell [] ∷ [])
     ∷ []
 
 -- one agent that comes back to its start, and stays on it at first and at last
 abbrev pub sentry : Program
-sentry = agent_from (cell 0 0) (cell 0 0) (dwell [] ∷ go East [] ∷ go West [] ∷ dwell [] ∷ []) ∷ []
+sentry = agent_with (cell 0 0) (cell 0 0) (dwell [] ∷ go East [] ∷ go West [] ∷ dwell [] ∷ []) ∷ []
 
 -- agent 0 stands on 1,0 for good, and agent 1 goes through it from 0,0 to 2,0
 abbrev pub blocked_pair : Program
 blocked_pair =
-    agent_from (cell 1 0) (cell 1 0) []
-    ∷ agent_from (cell 0 0) (cell 2 0) (go East [] ∷ go East [] ∷ [])
+    agent_with (cell 1 0) (cell 1 0) []
+    ∷ agent_with (cell 0 0) (cell 2 0) (go East [] ∷ go East [] ∷ [])
     ∷ []
 
 abbrev pub blocked_tasks : List Task
@@ -123,20 +123,20 @@ blocked_tasks = task (cell 1 0) (cell 1 0) ∷ task (cell 0 0) (cell 2 0) ∷ []
 -- the first action of either agent awaits that of the other
 abbrev pub deadlock : Program
 deadlock =
-    agent_from (cell 1 0) (cell 3 0) (go East (await 1 1 ∷ []) ∷ go East [] ∷ [])
-    ∷ agent_from (cell 0 0) (cell 2 0) (go East (await 0 1 ∷ []) ∷ go East [] ∷ [])
+    agent_with (cell 1 0) (cell 3 0) (go East (await 1 1 ∷ []) ∷ go East [] ∷ [])
+    ∷ agent_with (cell 0 0) (cell 2 0) (go East (await 0 1 ∷ []) ∷ go East [] ∷ [])
     ∷ []
 
 -- one agent that has nothing to do
 abbrev pub idler : Program
-idler = agent_from (cell 0 0) (cell 0 0) [] ∷ []
+idler = agent_with (cell 0 0) (cell 0 0) [] ∷ []
 
 -- agent 2 enters 1,0, which agent 0 has left. It awaits agent 1 alone, which awaits agent 0
 abbrev pub relay : Program
 relay =
-    agent_from (cell 1 0) (cell 2 0) (go East [] ∷ [])
-    ∷ agent_from (cell 0 2) (cell 1 2) (go East (await 0 1 ∷ []) ∷ [])
-    ∷ agent_from (cell 0 0) (cell 1 0) (go East (await 1 1 ∷ []) ∷ [])
+    agent_with (cell 1 0) (cell 2 0) (go East [] ∷ [])
+    ∷ agent_with (cell 0 2) (cell 1 2) (go East (await 0 1 ∷ []) ∷ [])
+    ∷ agent_with (cell 0 0) (cell 1 0) (go East (await 1 1 ∷ []) ∷ [])
     ∷ []
 
 abbrev pub relay_tasks : List Task
@@ -144,22 +144,22 @@ relay_tasks = task (cell 1 0) (cell 2 0) ∷ task (cell 0 2) (cell 1 2) ∷ task
 
 -- one agent that leaves the map to the west and comes back
 abbrev pub excursion : Program
-excursion = agent_from (cell 0 0) (cell 0 0) (go West [] ∷ go East [] ∷ []) ∷ []
+excursion = agent_with (cell 0 0) (cell 0 0) (go West [] ∷ go East [] ∷ []) ∷ []
 
 -- two agents that change places
 abbrev pub exchange : Program
 exchange =
-    agent_from (cell 0 0) (cell 1 0) (go East [] ∷ [])
-    ∷ agent_from (cell 1 0) (cell 0 0) (go West [] ∷ [])
+    agent_with (cell 0 0) (cell 1 0) (go East [] ∷ [])
+    ∷ agent_with (cell 1 0) (cell 0 0) (go West [] ∷ [])
     ∷ []
 
 -- four agents on a square, each of which goes to the next one's cell
 abbrev pub carousel : Program
 carousel =
-    agent_from (cell 0 0) (cell 1 0) (go East [] ∷ [])
-    ∷ agent_from (cell 1 0) (cell 1 1) (go South [] ∷ [])
-    ∷ agent_from (cell 1 1) (cell 0 1) (go West [] ∷ [])
-    ∷ agent_from (cell 0 1) (cell 0 0) (go North [] ∷ [])
+    agent_with (cell 0 0) (cell 1 0) (go East [] ∷ [])
+    ∷ agent_with (cell 1 0) (cell 1 1) (go South [] ∷ [])
+    ∷ agent_with (cell 1 1) (cell 0 1) (go West [] ∷ [])
+    ∷ agent_with (cell 0 1) (cell 0 0) (go North [] ∷ [])
     ∷ []
 
 -- ---- what is said of them
@@ -185,7 +185,7 @@ abbrev pub HasNoOrder : (Program → Visit → Visit → Type 0) → Program →
 HasNoOrder After p q = (listing : List Visit) → ListsVisits p q listing → Adjacent (After p) listing → ⊥
 
 -- for no map and for no tasks is the program accepted, neither by awaits nor by chains
-pub record IsRefused (p : Program) : Type 0 where
+pub record IsRefusedAlways (p : Program) : Type 0 where
   pub by_await : (passable : Place → Bool) (tasks : List Task) → IsAcceptedBy ComesAfterByAwait passable tasks p → ⊥
   pub by_chain : (passable : Place → Bool) (tasks : List Task) → IsAcceptedBy ComesAfterByChain passable tasks p → ⊥
 
@@ -196,4 +196,4 @@ pub record IsRefusedAt (passable : Place → Bool) (tasks : List Task) (p : Prog
   pub numbered : (number : ActionId → ℕ) × IsNumbering p number
   pub not_by_await : HasNoOrder ComesAfterByAwait p q
   pub not_by_chain : HasNoOrder ComesAfterByChain p q
-  pub refused : IsRefused p
+  pub refused : IsRefusedAlways p

@@ -11,7 +11,7 @@ ghost use Rattle.fleet_model.specs.Visit.{leaving, IsVisit, IsLongestRun, ListsV
 ghost use Rattle.fleet_model.specs.Accepted.{IsRight, IsAcceptedBy};
 ghost use Rattle.fleet_model.specs.Conflict.{HasVertexConflict, HasFollowingConflict, HasSwappingConflict, HasCycleConflict};
 ghost use Rattle.fleet_model.specs.Run.{motion};
-ghost use Rattle.fleet_worked.specs.Programs.{place, action, visit, is_on_open_map, pair, pair_tasks, rash_pair, early_pair, late_pair, hasty_pair, staying_pair, sentry, blocked_pair, blocked_tasks, deadlock, idler, relay, relay_tasks, excursion, exchange, carousel, both_held, ShowsPlaces, RunsAs, HasNoOrder, IsRefused, IsRefusedAt};
+ghost use Rattle.fleet_worked.specs.Programs.{place, action, visit, is_on_open_map, pair, pair_tasks, rash_pair, early_pair, late_pair, hasty_pair, staying_pair, sentry, blocked_pair, blocked_tasks, deadlock, idler, relay, relay_tasks, excursion, exchange, carousel, both_held, ShowsPlaces, RunsAs, HasNoOrder, IsRefusedAlways, IsRefusedAt};
 
 /// Agent 1 of the pair waits for one tick. To hold it in that tick changes nothing, and to hold agent 0 costs a tick.
 pub fn pair_runs()
@@ -202,5 +202,5 @@ pub fn excursion_is_refused()
 pub fn deadlock_is_refused()
     ensures right { IsRight (is_on_open_map 4 1) pair_tasks deadlock }
     ensures not_numbered { (number : ActionId → ℕ) → IsNumbering deadlock number → ⊥ }
-    ensures refused { IsRefused deadlock }
+    ensures refused { IsRefusedAlways deadlock }
 {}

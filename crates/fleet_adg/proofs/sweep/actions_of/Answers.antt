@@ -2,7 +2,8 @@ use Rattle.std.proofs.Common.{◌≡◌, ◌+◌, ◌<◌, All, length, filter, 
 use Rattle.std.proofs.lemmas.List.{take_at}
 use Rattle.fleet_model.specs.Machine.{indices}
 use Rattle.fleet_adg.specs.Leavings.{AreLeavingsAt}
-use Rattle.fleet_adg.specs.Sweep.{is_under_way, all_actions_by}
+use Rattle.fleet_adg.specs.Sweep.{all_actions_by}
+use Rattle.fleet_plan.specs.UnderWay.{is_under_way}
 use Rattle.fleet_adg.proofs.Limits.{steps_few}
 use Rattle.fleet_adg.proofs.SweepSteps.{agents_below, under_way_below, under_way-next, sweep_begins, actions_begin, length-all_actions_by}
 use Rattle.fleet_adg.proofs.sweep.actions_of.Goals as goal

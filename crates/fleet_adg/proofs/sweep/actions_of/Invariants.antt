@@ -1,6 +1,7 @@
 use Rattle.std.proofs.Common.{◌≡◌, ◌<◌, All, length, filter}
 use Rattle.fleet_adg.specs.Leavings.{AreLeavingsAt}
-use Rattle.fleet_adg.specs.Sweep.{is_under_way, under_way, all_actions_by}
+use Rattle.fleet_adg.specs.Sweep.{under_way, all_actions_by}
+use Rattle.fleet_plan.specs.UnderWay.{is_under_way}
 use Rattle.fleet_adg.proofs.sweep.actions_of.Given as goal
 
 abbrev pub invariant-loop-time : goal.invariant-loop-time

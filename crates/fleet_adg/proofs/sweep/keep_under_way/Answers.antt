@@ -1,6 +1,6 @@
 use Rattle.std.proofs.Common.{rules, length, ◌<◌}
 use Rattle.std.proofs.lemmas.List.Filters.{FiltersInPlace-more_no, FiltersInPlace-more_set}
-use Rattle.fleet_adg.specs.Sweep.{is_under_way}
+use Rattle.fleet_plan.specs.UnderWay.{is_under_way}
 use Rattle.fleet_adg.proofs.SweepSteps.{goes_on, has_ended, still_there}
 use Rattle.fleet_adg.proofs.sweep.keep_under_way.Goals as goal
 use Rattle.fleet_adg.proofs.sweep.keep_under_way.Goals.{then-time-steps, else-time-steps}

@@ -1,5 +1,5 @@
 use Rattle.std.proofs.lemmas.List.Filters.{FiltersInPlace}
-use Rattle.fleet_adg.specs.Sweep.{is_under_way}
+use Rattle.fleet_plan.specs.UnderWay.{is_under_way}
 use Rattle.fleet_adg.proofs.sweep.keep_under_way.Given as goal
 
 abbrev pub invariant-loop-next : goal.invariant-loop-next

@@ -1,6 +1,6 @@
 use Rattle.std.proofs.Common.{◌≡◌, ◌+◌, ◌≤◌, false, ◌++◌, length, option_map}
 use Rattle.fleet_text.specs.Text.{starts_blank, words, words_from_front}
-use Rattle.fleet_plan.specs.PlanReading.{cells_in}
+use Rattle.fleet_plan.specs.PlanReading.{spelled_cells}
 use Rattle.fleet_plan.proofs.reading.path_of.Given as goal
 
 abbrev pub invariant-loop-rest : goal.invariant-loop-rest
@@ -8,7 +8,7 @@ invariant-loop-rest l = record {
   front : starts_blank l.rest ≡ false;
   some : 1 ≤ length l.rest + length l.cells.items;
   few : length l.cells.items ≤ 65536;
-  so_far : option_map (λ cells. l.cells.items ++ cells) (cells_in (words l.rest)) ≡ cells_in (words_from_front l.line);
+  so_far : option_map (λ cells. l.cells.items ++ cells) (spelled_cells (words l.rest)) ≡ spelled_cells (words_from_front l.line);
 }
 
 abbrev pub decreases-loop-rest : goal.decreases-loop-rest

@@ -1,7 +1,7 @@
 use Rattle.std.proofs.Common.{◌≡◌, ◌≤◌, ◌+◌, [], true, length}
 use Rattle.fleet_machine.specs.Machine.{Runs}
 use Rattle.fleet_run.specs.Text.{lines_below}
-use Rattle.fleet_run.specs.Line.{IsKept}
+use Rattle.fleet_run.specs.Line.{IsLineKept}
 use Rattle.fleet_text.specs.Sink.{Takes}
 use Rattle.fleet_run.specs.Source.{HasNotFailed, AreFlagsOf}
 use Rattle.fleet_run.proofs.Progress.{all_left}
@@ -20,7 +20,7 @@ invariant-ticks g l =
       unset : l.ended ≡ true → AreFlagsOf [] l.flags;
       under_way : IsUnderWay p first now l.machine.configuration l.ticks l.held l.ended;
       source : HasNotFailed now;
-      kept : IsKept l.machine.configuration l.row l.begins;
+      kept : IsLineKept l.machine.configuration l.row l.begins;
       written : Takes (g.O.TraceOut.state l.initial.out) (g.O.TraceOut.state l.out) (lines_below p first.ticks l.ticks);
     }
 

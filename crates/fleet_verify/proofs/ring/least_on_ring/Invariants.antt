@@ -1,6 +1,6 @@
 use Rattle.std.proofs.Common.{ℕ, ◌<◌, length}
-use Rattle.fleet_verify.specs.Blocked.{IsBlocked, LeadsBack}
+use Rattle.fleet_verify.specs.Blocked.{IsBlocked, WaitsBack}
 use Rattle.fleet_verify.proofs.ring.least_on_ring.Given as goal
 
 abbrev pub invariant-loop-i : goal.invariant-loop-i
-invariant-loop-i g l = (j : ℕ) → j < l.i → IsBlocked (g.P.ProgramView.program l.program) l.counts j → LeadsBack l.wants (length (g.P.ProgramView.program l.program)) j → ⊥
+invariant-loop-i g l = (j : ℕ) → j < l.i → IsBlocked (g.P.ProgramView.program l.program) l.counts j → WaitsBack l.wants (length (g.P.ProgramView.program l.program)) j → ⊥

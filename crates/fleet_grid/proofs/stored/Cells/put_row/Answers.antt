@@ -1,5 +1,5 @@
 use Rattle.std.proofs.Common.{◌≡◌, ◌++◌, ◌<◌, length, sym, ap, arith, length-append, take-append-drop}
-use Rattle.fleet_grid.specs.Stored.{cells_in}
+use Rattle.fleet_grid.specs.Stored.{stored_cells}
 use Rattle.fleet_grid.proofs.RowLaws.{row_goes_on, count_goes_on, row_ends, count_ends}
 use Rattle.fleet_grid.proofs.stored.Cells.put_row.Goals as goal
 
@@ -13,7 +13,7 @@ loop-block-preserved c =
     let size : length block ≡ 64 = omega (arith, found.2, length-append block after, ap length whole) in
     record {
       within = omega (arith, found.2, c.loop-block.invariant.within);
-      bytes = row_goes_on rest block after whole size (cells_in c.loop-block.self.bytes.items) (cells_in c.put_block.new.self.bytes.items) _ c.loop-block.invariant.bytes c.in_ok-put_block.ensures.bytes;
+      bytes = row_goes_on rest block after whole size (stored_cells c.loop-block.self.bytes.items) (stored_cells c.put_block.new.self.bytes.items) _ c.loop-block.invariant.bytes c.in_ok-put_block.ensures.bytes;
       count = count_goes_on rest block after whole size c.loop-block.self.passable_count c.put_block.new.self.passable_count _ c.loop-block.invariant.count c.in_ok-put_block.ensures.count;
     }
 
@@ -21,7 +21,7 @@ pub returns-clause-bytes : goal.returns-clause-bytes
 returns-clause-bytes c =
     let rest = c.loop-block.rest.now in
     let few : length rest < 64 = c.in_default.ensures.cases in
-    row_ends rest c.block_of.result few c.block_of.ensures (cells_in c.loop-block.self.bytes.items) (cells_in c.put_block-2.new.self.bytes.items) _ c.loop-block.invariant.bytes c.in_ok-put_block-2.ensures.bytes
+    row_ends rest c.block_of.result few c.block_of.ensures (stored_cells c.loop-block.self.bytes.items) (stored_cells c.put_block-2.new.self.bytes.items) _ c.loop-block.invariant.bytes c.in_ok-put_block-2.ensures.bytes
 
 pub returns-clause-count : goal.returns-clause-count
 returns-clause-count c =

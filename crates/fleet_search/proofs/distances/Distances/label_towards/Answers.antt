@@ -2,7 +2,7 @@ use Rattle.std.proofs.Common.{◌≡◌, ◌+◌, ◌<◌, ℕ, length, get_or, 
 use Rattle.std.specs.Prelude.{set}
 use Rattle.std.proofs.lemmas.List.{get_or_default}
 use Rattle.fleet_grid.specs.Ground.{cell_index}
-use Rattle.fleet_search.specs.Distance.{no_label, label_in, IsNear, IsLabelled}
+use Rattle.fleet_search.specs.Distance.{no_label, label_in, IsLabelNear, IsLabelled}
 use Rattle.fleet_search.proofs.Occupants.{yes_from_true, no_from_false}
 use Rattle.fleet_search.proofs.Spread.{label_read, labelled-same, not-near, found-before, put-spread, put-left, put-found, put-falls, put-works}
 use Rattle.fleet_search.proofs.distances.Distances.label_towards.Goals as goal
@@ -25,7 +25,7 @@ returns-clause-spread c =
     let b = c.in-Some.beside in
     let within : cell_index g b < length s.labels.items = omega (arith, c.cell_index-place.ensures.value, c.cell_index-place.ensures.within, c.requires.spread.ready.size) in
     let at : c.index.result.now ≡ get_or s.labels.items (cell_index g b) no_label = c.index.ensures ∙ ap (λ i. get_or s.labels.items i c.index.result.now) c.cell_index-place.ensures.value ∙ get_or_default s.labels.items (cell_index g b) c.index.result.now no_label within in
-    let not : IsNear s.search (get_or s.labels.items (cell_index g b) no_label) (c.args.distance + 1) → ⊥ = λ h. no_from_false c.is_near.result c.if-is_near.false c.is_near.ensures (subst (λ l. IsNear s.search l (c.args.distance + 1)) (sym at) h) in
+    let not : IsLabelNear s.search (get_or s.labels.items (cell_index g b) no_label) (c.args.distance + 1) → ⊥ = λ h. no_from_false c.is_near.result c.if-is_near.false c.is_near.ensures (subst (λ l. IsLabelNear s.search l (c.args.distance + 1)) (sym at) h) in
     let more : (n : ℕ) → IsLabelled g s b n → c.args.distance + 1 < n = not-near g s.labels.items s.search c.args.distance b not in
     put-spread g s _ c.put.new.self c.args.left c.requires.spread c.args.distance c.requires.few c.requires.cell c.requires.left c.requires.f_bound b (c.args.dir, c.in-Some.ensures.some.0) c.in-Some.ensures.some.1 within more (ap (λ i. set s.labels.items i (record { search = s.search; distance = c.args.distance + 1 })) c.cell_index-place.ensures.value) refl refl refl refl refl refl c.in_ok-put.ensures
 
@@ -36,7 +36,7 @@ returns-clause-left c =
     let b = c.in-Some.beside in
     let within : cell_index g b < length s.labels.items = omega (arith, c.cell_index-place.ensures.value, c.cell_index-place.ensures.within, c.requires.spread.ready.size) in
     let at : c.index.result.now ≡ get_or s.labels.items (cell_index g b) no_label = c.index.ensures ∙ ap (λ i. get_or s.labels.items i c.index.result.now) c.cell_index-place.ensures.value ∙ get_or_default s.labels.items (cell_index g b) c.index.result.now no_label within in
-    let not : IsNear s.search (get_or s.labels.items (cell_index g b) no_label) (c.args.distance + 1) → ⊥ = λ h. no_from_false c.is_near.result c.if-is_near.false c.is_near.ensures (subst (λ l. IsNear s.search l (c.args.distance + 1)) (sym at) h) in
+    let not : IsLabelNear s.search (get_or s.labels.items (cell_index g b) no_label) (c.args.distance + 1) → ⊥ = λ h. no_from_false c.is_near.result c.if-is_near.false c.is_near.ensures (subst (λ l. IsLabelNear s.search l (c.args.distance + 1)) (sym at) h) in
     let more : (n : ℕ) → IsLabelled g s b n → c.args.distance + 1 < n = not-near g s.labels.items s.search c.args.distance b not in
     put-left g s _ c.put.new.self c.args.left c.requires.spread c.args.distance c.requires.few c.requires.cell c.requires.left c.requires.f_bound b (c.args.dir, c.in-Some.ensures.some.0) c.in-Some.ensures.some.1 within more (ap (λ i. set s.labels.items i (record { search = s.search; distance = c.args.distance + 1 })) c.cell_index-place.ensures.value) refl refl refl refl refl refl c.in_ok-put.ensures
 
@@ -47,7 +47,7 @@ returns-clause-found c =
     let b = c.in-Some.beside in
     let within : cell_index g b < length s.labels.items = omega (arith, c.cell_index-place.ensures.value, c.cell_index-place.ensures.within, c.requires.spread.ready.size) in
     let at : c.index.result.now ≡ get_or s.labels.items (cell_index g b) no_label = c.index.ensures ∙ ap (λ i. get_or s.labels.items i c.index.result.now) c.cell_index-place.ensures.value ∙ get_or_default s.labels.items (cell_index g b) c.index.result.now no_label within in
-    let not : IsNear s.search (get_or s.labels.items (cell_index g b) no_label) (c.args.distance + 1) → ⊥ = λ h. no_from_false c.is_near.result c.if-is_near.false c.is_near.ensures (subst (λ l. IsNear s.search l (c.args.distance + 1)) (sym at) h) in
+    let not : IsLabelNear s.search (get_or s.labels.items (cell_index g b) no_label) (c.args.distance + 1) → ⊥ = λ h. no_from_false c.is_near.result c.if-is_near.false c.is_near.ensures (subst (λ l. IsLabelNear s.search l (c.args.distance + 1)) (sym at) h) in
     let more : (n : ℕ) → IsLabelled g s b n → c.args.distance + 1 < n = not-near g s.labels.items s.search c.args.distance b not in
     put-found g s _ c.put.new.self c.args.left c.requires.spread c.args.distance c.requires.few c.requires.cell c.requires.left c.requires.f_bound b (c.args.dir, c.in-Some.ensures.some.0) c.in-Some.ensures.some.1 within more (ap (λ i. set s.labels.items i (record { search = s.search; distance = c.args.distance + 1 })) c.cell_index-place.ensures.value) refl refl refl refl refl refl c.in_ok-put.ensures c.args.dir c.in-Some.ensures.some.0
 
@@ -58,7 +58,7 @@ returns-clause-fall c =
     let b = c.in-Some.beside in
     let within : cell_index g b < length s.labels.items = omega (arith, c.cell_index-place.ensures.value, c.cell_index-place.ensures.within, c.requires.spread.ready.size) in
     let at : c.index.result.now ≡ get_or s.labels.items (cell_index g b) no_label = c.index.ensures ∙ ap (λ i. get_or s.labels.items i c.index.result.now) c.cell_index-place.ensures.value ∙ get_or_default s.labels.items (cell_index g b) c.index.result.now no_label within in
-    let not : IsNear s.search (get_or s.labels.items (cell_index g b) no_label) (c.args.distance + 1) → ⊥ = λ h. no_from_false c.is_near.result c.if-is_near.false c.is_near.ensures (subst (λ l. IsNear s.search l (c.args.distance + 1)) (sym at) h) in
+    let not : IsLabelNear s.search (get_or s.labels.items (cell_index g b) no_label) (c.args.distance + 1) → ⊥ = λ h. no_from_false c.is_near.result c.if-is_near.false c.is_near.ensures (subst (λ l. IsLabelNear s.search l (c.args.distance + 1)) (sym at) h) in
     let more : (n : ℕ) → IsLabelled g s b n → c.args.distance + 1 < n = not-near g s.labels.items s.search c.args.distance b not in
     put-falls g s _ c.put.new.self c.args.left c.requires.spread c.args.distance c.requires.few c.requires.cell c.requires.left c.requires.f_bound b (c.args.dir, c.in-Some.ensures.some.0) c.in-Some.ensures.some.1 within more (ap (λ i. set s.labels.items i (record { search = s.search; distance = c.args.distance + 1 })) c.cell_index-place.ensures.value) refl refl refl refl refl refl c.in_ok-put.ensures
 
@@ -69,6 +69,6 @@ returns-clause-work c =
     let b = c.in-Some.beside in
     let within : cell_index g b < length s.labels.items = omega (arith, c.cell_index-place.ensures.value, c.cell_index-place.ensures.within, c.requires.spread.ready.size) in
     let at : c.index.result.now ≡ get_or s.labels.items (cell_index g b) no_label = c.index.ensures ∙ ap (λ i. get_or s.labels.items i c.index.result.now) c.cell_index-place.ensures.value ∙ get_or_default s.labels.items (cell_index g b) c.index.result.now no_label within in
-    let not : IsNear s.search (get_or s.labels.items (cell_index g b) no_label) (c.args.distance + 1) → ⊥ = λ h. no_from_false c.is_near.result c.if-is_near.false c.is_near.ensures (subst (λ l. IsNear s.search l (c.args.distance + 1)) (sym at) h) in
+    let not : IsLabelNear s.search (get_or s.labels.items (cell_index g b) no_label) (c.args.distance + 1) → ⊥ = λ h. no_from_false c.is_near.result c.if-is_near.false c.is_near.ensures (subst (λ l. IsLabelNear s.search l (c.args.distance + 1)) (sym at) h) in
     let more : (n : ℕ) → IsLabelled g s b n → c.args.distance + 1 < n = not-near g s.labels.items s.search c.args.distance b not in
     put-works g s _ c.put.new.self c.args.left c.requires.spread c.args.distance c.requires.few c.requires.cell c.requires.left c.requires.f_bound b (c.args.dir, c.in-Some.ensures.some.0) c.in-Some.ensures.some.1 within more (ap (λ i. set s.labels.items i (record { search = s.search; distance = c.args.distance + 1 })) c.cell_index-place.ensures.value) refl refl refl refl refl refl c.in_ok-put.ensures

@@ -2,8 +2,8 @@ use Rattle.std.proofs.Common.{◌≡◌, ◌-◌, None, Some, length, inl, inr, 
 use Rattle.std.proofs.lemmas.List.{get_or_default, length_push}
 use Rattle.fleet_model.proofs.Cells.{is_same_cell-true}
 use Rattle.fleet_search.specs.declared.frontier.Node.{Node}
-use Rattle.fleet_search.specs.Rows.{row_in}
-use Rattle.fleet_search.specs.Search.{no_node, IsBucket, IsEnd}
+use Rattle.fleet_search.specs.Rows.{bucket_in}
+use Rattle.fleet_search.specs.Search.{no_node, IsBucket, IsGoalState}
 use Rattle.fleet_search.proofs.SearchSteps.{taken, taken-known, lower, raise, swept}
 use Rattle.fleet_search.proofs.frontier.Frontier.expand_bucket.Goals as goal
 
@@ -33,7 +33,7 @@ returns-then-query-state c =
     let q = c.args.query.now in
     let known = taken-known q c.args.bucket r s.labels s.open_list.items c.take.new.rows.items c.in-Some.place c.loop-place.invariant.0 c.in-Some.ensures.some c.in-Some.ensures.others in
     let here = ap (λ (z : Node). z.state) (c.index.ensures ∙ get_or_default r c.in-Some.place c.index.result.now no_node known.0) in
-    let end = subst (IsEnd q) here (is_same_cell-true c.index.result.now.state.cell q.goal (sym c.eq.ensures ∙ c.if-eq.true), c.if-query-state.true) in
+    let end = subst (IsGoalState q) here (is_same_cell-true c.index.result.now.state.cell q.goal (sym c.eq.ensures ∙ c.if-eq.true), c.if-query-state.true) in
     (taken q c.args.bucket r s.labels s.open_list.items c.take.new.rows.items c.in-Some.place c.loop-place.invariant.0 c.in-Some.ensures.some c.in-Some.ensures.others, record { within = known.0; here = refl; bucket = known.1 }, end)
 
 pub returns-then-len-before : goal.returns-then-len-before
@@ -62,7 +62,7 @@ loop-place-smaller c =
     let long = c.loop-place.invariant.1 in
     let same : length n.nodes.items ≡ length s.nodes.items = omega (arith, c.len.ensures, c.len-before.ensures) in
     let row = ap length (g.same same c.args.bucket) in
-    let one = ap length c.in-Some.ensures.some ∙ length_push (row_in c.take.new.rows.items c.args.bucket) c.in-Some.place in
+    let one = ap length c.in-Some.ensures.some ∙ length_push (bucket_in c.take.new.rows.items c.args.bucket) c.in-Some.place in
     omega arith
 
 pub returns : goal.returns

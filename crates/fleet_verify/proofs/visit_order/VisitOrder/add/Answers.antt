@@ -2,7 +2,7 @@ use Rattle.std.proofs.Common.{◌∙◌, sym, ◌++◌, ◌∷◌, [], ap}
 use Rattle.std.proofs.lemmas.List.{map-append}
 use Rattle.std.proofs.lemmas.List.Elements.{All-push}
 use Rattle.fleet_verify.specs.declared.visit_order.PlacedVisit.{PlacedVisit}
-use Rattle.fleet_verify.specs.Order.{IsPlaced}
+use Rattle.fleet_verify.specs.Order.{IsVisitPlaced}
 use Rattle.fleet_verify.proofs.Ordered.{grouped_more, entry_more, entry_none}
 use Rattle.fleet_verify.proofs.visit_order.VisitOrder.add.Goals as goal
 
@@ -15,7 +15,7 @@ returns-in_ok-append g c = λ visits old.
     record {
       placed = old.placed ++ s ∷ [];
       same = map-append (λ (x : PlacedVisit). x.visit) old.placed (s ∷ []) ∙ (ap (λ vs. vs ++ s.visit ∷ []) old.same ∙ sym (entry_more p visits s.visit (sym c.begins_visit.ensures ∙ c.if-begins_visit.true)));
-      each = All-push (IsPlaced p) old.placed s old.each c.requires.placed;
+      each = All-push (IsVisitPlaced p) old.placed s old.each c.requires.placed;
       grouped = grouped_more p old.placed s w (record { last = c.append.new.last; pairs = c.append.new.pairs }) made.cell old.grouped (λ n. made.last.0 n) made.pairs;
     }
 

@@ -1,12 +1,12 @@
 //! Awaits of which few steps back from their action tell whether others imply them.
 
-ghost use Rattle.std.specs.Prelude.{◌≡◌, ◌+◌, ◌<◌, ◌≤◌, ℕ, [], true, false, length, get_or, slice_get, Some, IfOk, IsTrue};
+ghost use Rattle.std.specs.Prelude.{◌≡◌, ◌+◌, ◌<◌, ◌≤◌, ℕ, [], true, false, length, slice_get, Some, IfOk, IsTrue};
 ghost use Rattle.fleet_model.specs.Program.{AreInRange, awaits_of, moves, total_awaits};
 ghost use Rattle.fleet_model.specs.declared.program.Await.{Await};
 ghost use Rattle.fleet_model.specs.Machine.{IsFinish};
-ghost use Rattle.fleet_model.specs.Chain.{IsAction, Reaches, awaited};
+ghost use Rattle.fleet_model.specs.Chain.{IsAction, Reaches};
 ghost use Rattle.fleet_rows.specs.Implied.{IsImplied, AreAwaitPlaces};
-ghost use Rattle.fleet_rows.specs.Settled.{AreTicks, AreSettled, AreSettledOf, AreMoreAsked, IsActionSettled, IsUpTo};
+ghost use Rattle.fleet_rows.specs.Settled.{AreTicks, AreSettled, AreSettledOf, IsActionSettled, IsUpTo};
 
 use crate::await_places::AwaitPlaces;
 use crate::finish_ticks::FinishTicks;

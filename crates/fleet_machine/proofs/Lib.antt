@@ -7,6 +7,7 @@ pub mod Lacking
 pub mod Judging
 pub mod Waking
 pub mod Advanced
+mod Lasting
 pub mod Ticking
 pub mod Opened
 pub mod Kept

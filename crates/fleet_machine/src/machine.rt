@@ -410,16 +410,19 @@ impl Machine {
         self.set_agent(i, finished);
     }
 
-    /// Nobody moves yet, and who is ready is due.
+    /// Nobody moves yet.
     fn begin_tick(&mut self)
-        requires { length self.old.due ≡ length self.old.ready }
-        ensures { self.new ≡ record self.old {
-          moving = replicate (length self.old.moving) false;
-          due = self.old.ready;
-        } }
+        ensures { self.new ≡ record self.old { moving = replicate (length self.old.moving) false } }
     {
         self.moving.clear();
-        self.due.copy_from(&self.ready);
+    }
+
+    /// Who moves is due, and nobody else.
+    fn flag_due(&mut self)
+        requires { length self.old.due ≡ length self.old.moving }
+        ensures { self.new ≡ record self.old { due = self.old.moving } }
+    {
+        self.due.copy_from(&self.moving);
     }
 
     /// Flags agent `i` as moving.
@@ -430,22 +433,24 @@ impl Machine {
         self.moving.set(i, true);
     }
 
-    /// Whoever is ready and not held finishes an action. Who was ready is due.
-    fn advance<P: ProgramView>(&mut self, program: &P, held: &[bool]) -> Tick
+    /// Whoever is ready and not held finishes an action, and is due. Answers also how many were ready.
+    fn advance<P: ProgramView>(&mut self, program: &P, held: &[bool]) -> (Tick, u16)
         requires runs { Runs (P.program program.now) self.old }
         requires held { length held.now ≡ length (P.program program.now) }
         ensures after { self.new ≡ record self.old {
           configuration = tick (P.program program.now) (flag_of held.now) self.old.configuration;
           moving = moving_flags (P.program program.now) (flag_of held.now) self.old.configuration;
-          due = self.old.ready;
+          due = moving_flags (P.program program.now) (flag_of held.now) self.old.configuration;
         } }
-        ensures moved { result.moved
+        ensures moved { result.0.moved
             ≡ moved_in (P.program program.now) (flag_of held.now) self.old.configuration }
-        ensures held { result.ready_held
+        ensures held { result.0.ready_held
             ≡ is_ready_held (P.program program.now) (flag_of held.now) self.old.configuration }
+        ensures ready { result.1 ≡ ready_in (P.program program.now) self.old.configuration }
     {
         self.begin_tick();
         let mut moved = 0;
+        let mut ready = 0;
         let mut ready_held = false;
         let mut from = 0;
         while let Some(i) = self.next_ready(from) {
@@ -456,9 +461,11 @@ impl Machine {
                 self.flag_moving(i);
                 moved += 1;
             }
+            ready += 1;
             from = i + 1;
         }
-        Tick { moved, ready_held }
+        self.flag_due();
+        (Tick { moved, ready_held }, ready)
     }
 
     /// So many agents more have been looked at.
@@ -470,7 +477,7 @@ impl Machine {
     }
 
     /// One tick, in which the flagged agents are held. It looks at those that are ready, and at those in the list of an agent
-    /// that it moves. Who moves was judged before the tick.
+    /// that it moves. Who moves was judged before the tick, and who is ready and held stays ready.
     pub fn tick<P: ProgramView>(&mut self, program: &P, held: &[bool]) -> Tick
         requires runs { Runs (P.program program.now) self.old }
         requires held { length held.now ≡ length (P.program program.now) }
@@ -487,10 +494,10 @@ impl Machine {
             (awaiting_in (P.program program.now) (flag_of held.now) self.old.configuration)
             self.old.looked self.new.looked }
     {
-        let tick = self.advance(program, held);
+        let (tick, ready) = self.advance(program, held);
         self.wake_all();
-        let due = self.judge_due(program);
-        self.count_looked(due);
+        let woken = self.judge_due(program) - tick.moved;
+        self.count_looked(ready + woken);
         tick
     }
 }

@@ -1,6 +1,7 @@
 pub mod Ready
 mod Linked
 pub mod Bits
+mod Flags
 mod Marked
 pub mod Indices
 pub mod Lacking
@@ -8,6 +9,7 @@ pub mod Judging
 pub mod Waking
 pub mod Advanced
 mod Lasting
+mod Carried
 pub mod Ticking
 pub mod Opened
 pub mod Kept

@@ -15,10 +15,10 @@ use Rattle.fleet_machine.specs.AgentSet.{AreNoneFrom, IsNextFrom}
 use Rattle.fleet_machine.specs.Looked.{ready_in, awaits_moving, awaiting_in, LooksAt}
 use Rattle.fleet_machine.specs.WaitLists.{home_of}
 use Rattle.fleet_machine.specs.Machine.{MachineState, Runs, HasRows, IsHome, IsJudged, Lacks, flag_of, is_left, moving_flags}
-use Rattle.fleet_machine.specs.Waking.{is_on, if_not_on, IsWoken, IsAsBefore}
+use Rattle.fleet_machine.specs.Waking.{is_on, if_not_on, IsWoken, IsSettled, IsAsBefore}
 use Rattle.fleet_machine.proofs.Advanced.{onward, filter_more, IsAdvanced, all_wait}
 use Rattle.fleet_machine.proofs.Lasting.{ready_lasts}
-use Rattle.fleet_machine.proofs.Judging.{none_more_counted, one_more_counted}
+use Rattle.fleet_machine.proofs.Judging.{none_more_counted, one_more_counted, counted_le}
 use Rattle.fleet_machine.proofs.Ready.{no_action_left, next_of, not_ready_if_unmet, awaited_agent}
 
 true_is_false : true ≡ false → ⊥
@@ -202,6 +202,24 @@ module _ (p : Program) (held : ℕ → Bool) (m : MachineState) (runs : Runs p m
           | inr past ↦ absurd (true_is_false (sym due ∙ get_or_past woken.due k false (let rows = rows_woken.due in omega arith)))
         ]
 
+    -- ---- how many were looked at
+
+    moved_counted : moved_in p held c ≤ length (filter (flag_of woken.due) (indices (length p)))
+    moved_counted = fewer_pass (is_moving p held c) (flag_of woken.due) (length p) (λ k agent moves. due_is k agent ∙ rw moves refl)
+
+    due_counted : length (filter (flag_of woken.due) (indices (length p))) ≤ moved_in p held c + awaiting_in p held c
+    due_counted =
+        either_passes (flag_of woken.due) (is_moving p held c) (λ k. not (is_ready p c k) && awaits_moving p held c k) (length p)
+        (λ k agent due. was (home_of m.waiting.homes k) k (is_moving p held c k) refl (runs.judged k agent).home (sym (due_is k agent) ∙ due))
+      where
+        was : (h : Option ℕ) (k : ℕ) (r : Bool) → is_moving p held c k ≡ r → IsHome p c k h → (is_moving p held c k || is_on (flag_of (moving_flags p held c)) h) ≡ true
+            → (is_moving p held c k ≡ true) ⊎ ((not (is_ready p c k) && awaits_moving p held c k) ≡ true)
+        was h k true e home is = inl e
+        was None k false e home is = absurd (true_is_false (sym is ∙ rw e refl))
+        was (Some j) k false e home is =
+            let there = lacked_agent p c k j home runs.well_formed in
+            inr (rw (unready_if_lacking p c k j home) (awaits_if_lacking p c k j home held (sym (flag_is_moving j there) ∙ (rw e at is))))
+
     module _ (new : MachineState) (same : new ≡ record woken { ready = new.ready; left = new.left; waiting = new.waiting }) (rows : HasRows (length p) new)
         (judged : (k : ℕ) → k < length p → flag_of woken.due k ≡ true → IsJudged p new k)
         (others : (k : ℕ) → flag_of woken.due k ≡ false → IsAsBefore woken new k) where
@@ -224,8 +242,8 @@ module _ (p : Program) (held : ℕ → Bool) (m : MachineState) (runs : Runs p m
           not_freed None off home = home
           not_freed (Some j) off home = rw off home
 
-      pub runs_after : (looked : ℕ) → Runs p (record new { looked = looked })
-      runs_after looked = record {
+      runs_after : Runs p new
+      runs_after = record {
         well_formed = runs.well_formed;
         agents = ap length configuration_new ∙ length-tick p held c;
         flags = ap (λ (w : MachineState). length w.moving) (same ∙ ap (λ (w : MachineState). record w { ready = new.ready; left = new.left; waiting = new.waiting }) wakes.same)
@@ -236,23 +254,26 @@ module _ (p : Program) (held : ℕ → Bool) (m : MachineState) (runs : Runs p m
             record { ready = here.ready; left = here.left; home = here.home };
       }
 
-    -- ---- how many were looked at
+      pub settled : (count : ℕ) → count ≡ length (filter (flag_of woken.due) (indices (length p))) → IsSettled p held m new count
+      settled count is = record {
+        runs = runs_after;
+        configuration = configuration_new;
+        moving = ap (λ (w : MachineState). w.moving) (same ∙ ap (λ (w : MachineState). record w { ready = new.ready; left = new.left; waiting = new.waiting }) wakes.same);
+        looked = ap (λ (w : MachineState). w.looked) (same ∙ ap (λ (w : MachineState). record w { ready = new.ready; left = new.left; waiting = new.waiting }) wakes.same);
+        least = omega (arith, moved_counted);
+        most = omega (arith, due_counted);
+        few = let few = counted_le (flag_of woken.due) (length p) in omega arith;
+      }
 
-    pub moved_counted : moved_in p held c ≤ length (filter (flag_of woken.due) (indices (length p)))
-    moved_counted = fewer_pass (is_moving p held c) (flag_of woken.due) (length p) (λ k agent moves. due_is k agent ∙ rw moves refl)
-
-    pub due_counted : length (filter (flag_of woken.due) (indices (length p))) ≤ moved_in p held c + awaiting_in p held c
-    due_counted =
-        either_passes (flag_of woken.due) (is_moving p held c) (λ k. not (is_ready p c k) && awaits_moving p held c k) (length p)
-        (λ k agent due. was (home_of m.waiting.homes k) k (is_moving p held c k) refl (runs.judged k agent).home (sym (due_is k agent) ∙ due))
-      where
-        was : (h : Option ℕ) (k : ℕ) (r : Bool) → is_moving p held c k ≡ r → IsHome p c k h → (is_moving p held c k || is_on (flag_of (moving_flags p held c)) h) ≡ true
-            → (is_moving p held c k ≡ true) ⊎ ((not (is_ready p c k) && awaits_moving p held c k) ≡ true)
-        was h k true e home is = inl e
-        was None k false e home is = absurd (true_is_false (sym is ∙ rw e refl))
-        was (Some j) k false e home is =
-            let there = lacked_agent p c k j home runs.well_formed in
-            inr (rw (unready_if_lacking p c k j home) (awaits_if_lacking p c k j home held (sym (flag_is_moving j there) ∙ (rw e at is))))
+-- a machine runs its program, however many agents have been looked at
+pub runs_looked : (p : Program) (m : MachineState) (looked : ℕ) → Runs p m → Runs p (record m { looked = looked })
+runs_looked p m looked runs = record {
+  well_formed = runs.well_formed;
+  agents = runs.agents;
+  flags = runs.flags;
+  rows = record { ready = runs.rows.ready; left = runs.rows.left; due = runs.rows.due; lists = runs.rows.lists; homes = runs.rows.homes };
+  judged = λ k agent. let here = runs.judged k agent in record { ready = here.ready; left = here.left; home = here.home };
+}
 
 -- the count of agents that were looked at, where so many were due
 pub looked_at : (r q due before after : ℕ) → r ≤ due → due ≤ r + q → LooksAt due 0 before after → LooksAt r q before after

@@ -1,21 +1,23 @@
 //! Sets of agents, a bit for each agent. The next member is found at a look at three words.
 
-ghost use Rattle.std.specs.Prelude.{◌≡◌, ◌≢◌, ◌<◌, ◌≤◌, ℕ, length, set, replicate, false, MatchOption, IfOk};
+ghost use Rattle.std.specs.Prelude.{◌≡◌, ◌≢◌, ◌<◌, ◌≤◌, ◌+◌, ◌^◌, ℕ, length, set, replicate, false, MatchOption};
 ghost use Rattle.std.specs.Int.{bit_at};
 ghost use Rattle.fleet_machine.specs.Machine.{flag_of};
-ghost use Rattle.fleet_machine.specs.AgentSet.{bit_if, IsLowest, IsNextFrom, AreNoneFrom};
+ghost use Rattle.fleet_machine.specs.AgentSet.{bit_if, IsLowest, IsNextFrom, AreNoneFrom, AreNoneIn};
 
 use fleet_model::MAX_AGENTS;
-use std::alloc::{AllocError, Global};
 use std::marker::Model;
 
 /// How many agents have their bits in one word.
 const WORD: usize = 64;
 
-/// A set of agents below some number.
+/// How many words there are.
+const WORDS: usize = MAX_AGENTS / WORD + 1;
+
+/// A set of agents below some number. It takes no memory beside itself.
 #[derive(Drop)]
 pub struct AgentSet {
-    words: Vec<u64>,
+    words: [u64; WORDS],
     /// A bit for each word, set where the word has one.
     filled: u64,
     agents: u16,
@@ -27,9 +29,9 @@ impl Model for AgentSet {
 
     ghost Value = { List Bool };
 
-    ghost view = { λ s. flags_in s.words.items s.agents };
+    ghost view = { λ s. flags_in s.words s.agents };
 
-    ghost invariant = { λ s. AreBitsMarked s.words.items s.filled s.agents };
+    ghost invariant = { λ s. AreBitsMarked s.words s.filled s.agents };
 }
 
 /// The place of the lowest bit that is set.
@@ -57,18 +59,57 @@ fn with_bit(word: u64, place: u16, is_set: bool) -> u64
     }
 }
 
+/// Whether one of the flags of a stretch is set. It looks at all of them, which many processors do some at a time.
+fn is_any_set(flags: &[bool], from: usize, end: usize) -> bool
+    requires { end ≤ length flags.now }
+    ensures { result ≡ false → AreNoneIn flags.now from end }
+{
+    let mut is_any = false;
+    for i in from..end {
+        is_any |= flags[i];
+    }
+    is_any
+}
+
+/// Passes over stretches without a set flag from there on.
+fn past_clear(flags: &[bool], from: usize) -> usize
+    requires { from + length flags.now < 2 ^ 32 }
+    ensures later { from ≤ result }
+    ensures clear { AreNoneIn flags.now from result }
+{
+    let mut at = from;
+    while at + WORD <= flags.len() && !is_any_set(flags, at, at + WORD) {
+        at += WORD;
+    }
+    at
+}
+
+/// The first flag from this one on that is set.
+pub fn next_flag(flags: &[bool], from: u16) -> Option<u16>
+    requires { length flags.now ≤ MAX_AGENTS }
+    ensures { MatchOption result (AreNoneFrom flags.now from) (IsNextFrom flags.now from) }
+{
+    let mut at = past_clear(flags, from as usize);
+    while at < flags.len() {
+        if flags[at] {
+            return Some(at as u16);
+        }
+        at += 1;
+    }
+    None
+}
+
 impl AgentSet {
     /// No agent of so many.
-    pub fn new(alloc: Global, agents: u16) -> Result<AgentSet, AllocError>
+    pub fn new(agents: u16) -> AgentSet
         requires { agents ≤ MAX_AGENTS }
-        ensures { IfOk result (λ s. s ≡ replicate agents false) }
+        ensures { result ≡ replicate agents false }
     {
-        let words = vec![in alloc; 0; agents as usize / WORD + 1]?;
-        Ok(AgentSet {
-            words,
+        AgentSet {
+            words: [0; WORDS],
             filled: 0,
             agents,
-        })
+        }
     }
 
     /// Whether agent `i` is a member.
@@ -98,7 +139,7 @@ impl AgentSet {
     pub fn clear(&mut self)
         ensures { self.new ≡ replicate (length self.old) false }
     {
-        self.words.fill(0);
+        self.words = [0; WORDS];
         self.filled = 0;
     }
 
@@ -107,23 +148,37 @@ impl AgentSet {
         requires { length self.old ≡ length other.now }
         ensures { self.new ≡ other.now }
     {
-        self.words.copy_from_slice(&other.words);
+        self.words = other.words;
         self.filled = other.filled;
+    }
+
+    /// The members are the flagged agents from now on.
+    pub fn set_to(&mut self, flags: &[bool])
+        requires few { length flags.now ≤ MAX_AGENTS }
+        requires flags { length self.old ≡ length flags.now }
+        ensures { self.new ≡ flags.now }
+    {
+        self.clear();
+        let mut from = 0;
+        while let Some(i) = next_flag(flags, from) {
+            self.set(i, true);
+            from = i + 1;
+        }
     }
 
     /// The first member from this agent on.
     pub fn next(&self, from: u16) -> Option<u16>
         ensures { MatchOption result (AreNoneFrom self.now from) (IsNextFrom self.now from) }
     {
+        let filled = self.filled;
         let first = from as usize / WORD;
-        if first >= self.words.len() {
+        if first >= WORDS {
             return None;
         }
         let word = self.words[first];
         if let Some(place) = lowest(word >> (from % 64)) {
             return Some(from + place as u16);
         }
-        let filled = self.filled;
         let Some(skipped) = lowest(filled >> (first + 1)) else {
             return None;
         };

@@ -1,8 +1,10 @@
 pub mod Ready
 mod Linked
 pub mod Bits
-mod Flags
+pub mod Flags
 mod Marked
+pub mod Below
+pub mod Without
 pub mod Indices
 pub mod Lacking
 pub mod Judging

@@ -20,7 +20,7 @@ ghost use Rattle.fleet_machine.specs.Machine.{flag_of};
 use crate::run::RunFault;
 use crate::source::HoldSource;
 use crate::trace::{Report, run_trace};
-use fleet_machine::{Machine, Tick};
+use fleet_machine::{AgentSet, Machine, Tick};
 use fleet_model::{MAX_AGENTS, Place, ProgramView, Step};
 use fleet_text::TraceOut;
 use fleet_verify::{Accepted, ready_moves_are_apart, runs_arrive, runs_end, ticks_are_safe};
@@ -174,6 +174,15 @@ impl<'g, P: ProgramView> Fleet<'g, P> {
         ensures { result ≡ is_ready (P.program self.now.accepted.program) self.now.configuration i }
     {
         self.machine.is_ready(self.accepted.program(), i)
+    }
+
+    /// The agents that have orders.
+    pub fn ready_agents(&self) -> &AgentSet
+        ensures agents { length result.now ≡ length (P.program self.now.accepted.program) }
+        ensures ready { (i : ℕ) → i < length (P.program self.now.accepted.program)
+            → flag_of result.now i ≡ is_ready (P.program self.now.accepted.program) self.now.configuration i }
+    {
+        self.machine.ready_agents(self.accepted.program())
     }
 
     /// The order that agent `i` may be given: the step of its next action, where it is ready. It stays the same until it is carried

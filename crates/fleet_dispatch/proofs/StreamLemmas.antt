@@ -1,7 +1,7 @@
 -- Bytes that are read on, and the next line among them.
-use Rattle.std.proofs.Common.{◌≡◌, ℕ, ◌+◌, ◌-◌, ◌≤◌, ◌<◌, ◌++◌, ◌⊎◌, Bool, true, false, List, [], ◌∷◌, length, get_or, take, drop, slice_range, Option, Some, None, Result, Ok, Err, eqb, ltb, refl, sym, ap, subst, ◌∙◌, arith, inl, inr, append_assoc, true≢false}
+use Rattle.std.proofs.Common.{◌≡◌, ℕ, ◌+◌, ◌-◌, ◌≤◌, ◌<◌, ◌++◌, Bool, true, List, [], ◌∷◌, length, get_or, take, drop, Option, Some, None, Result, Ok, Err, ltb, refl, sym, ap, subst, ◌∙◌, arith, inl, inr, append_assoc, true≢false}
 use Rattle.std.proofs.lemmas.List.{append-nil, length-append, length-take, take-append-le, drop-append-le, drop_all}
-use Rattle.std.proofs.lemmas.Bool.{cases_Bool, cases_lt, ltb-true, ltb-false}
+use Rattle.std.proofs.lemmas.Bool.{cases_Bool, cases_lt, ltb-false}
 use Rattle.std.proofs.lemmas.List.Quantifiers.{position-Some}
 use Rattle.std.proofs.lemmas.List.Sums.{position_or_len_is, fails_before_first}
 use Rattle.std.proofs.Math.ListN.{get_or-append}

@@ -1,7 +1,7 @@
 -- Stretches of talk, one after another.
 use Rattle.std.specs.Prelude.{[], ◌∷◌, ◌++◌}
-use Rattle.std.proofs.Common.{refl, subst, sym}
-use Rattle.fleet_dispatch.specs.Talk.{Turn, Talk}
+use Rattle.std.proofs.Common.{refl, subst}
+use Rattle.fleet_dispatch.specs.Talk.{Talk}
 use Rattle.fleet_dispatch.specs.Stream.{Ends, TakesTurns}
 
 -- nothing

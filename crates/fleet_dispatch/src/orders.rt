@@ -1,12 +1,13 @@
 //! The orders that are due, as lines.
 
-ghost use Rattle.std.specs.Prelude.{◌≡◌, ℕ, ◌+◌, ◌<◌, ◌≤◌, ◌++◌, ◌&&◌, not, length, drop};
+ghost use Rattle.std.specs.Prelude.{◌≡◌, ℕ, ◌+◌, ◌<◌, ◌≤◌, ◌++◌, length, drop};
 ghost use Rattle.fleet_model.specs.Machine.{indices};
 ghost use Rattle.fleet_machine.specs.Machine.{flag_of};
 ghost use Rattle.fleet_dispatch.specs.Orders.{order_line, orders_but, AreReadyFlags, closing};
 ghost use Rattle.fleet_dispatch.specs.Talk.{Tells};
 
 use crate::floor::Floor;
+use fleet_machine::AgentSet;
 use fleet_model::{MAX_AGENTS, ProgramView};
 use fleet_run::{Fleet, PLACE, write_bytes, write_count, write_number_line, write_place};
 use fleet_text::{OutFault, write_byte};
@@ -37,38 +38,29 @@ fn write_order<P: ProgramView>(fleet: &Fleet<'_, P>, i: u16, row: &mut [u8], end
     write_bytes(b"go ", row, at)
 }
 
-/// Writes the orders of the agents that are not flagged, in rising order of agent, and answers where they begin. They end with the row.
-fn write_orders<P: ProgramView>(fleet: &Fleet<'_, P>, sent: &[bool], row: &mut [u8]) -> usize
+/// Writes the orders of the agents that were not sent theirs, in rising order of agent, and answers where they begin. They end with the
+/// row. It looks at those alone that have an order and were not sent it.
+fn write_orders<P: ProgramView>(fleet: &Fleet<'_, P>, sent: &AgentSet, row: &mut [u8]) -> usize
     requires few { length (P.program fleet.now.accepted.program) ≤ MAX_AGENTS }
-    requires sent { length sent.now ≡ length (P.program fleet.now.accepted.program) }
     requires room { length row.old ≡ ORDERS }
     ensures within { result ≤ length row.new }
     ensures written { drop result row.new ≡ orders_but (flag_of sent.now) (P.program fleet.now.accepted.program) fleet.now.configuration
         (indices (length (P.program fleet.now.accepted.program))) }
 {
+    let unsent = fleet.ready_agents().without(sent);
     let mut at = ORDERS;
-    for i in (0..fleet.agents()).rev() {
-        if !sent[usize::from(i)] {
-            at = write_order(fleet, i, row, at);
-        }
+    let mut end = fleet.agents();
+    while let Some(i) = unsent.last_before(end) {
+        at = write_order(fleet, i, row, at);
+        end = i;
     }
     at
 }
 
-/// Flags the agents that have an order.
-fn flag_ready<P: ProgramView>(fleet: &Fleet<'_, P>, sent: &mut [bool])
-    requires sent { length sent.old ≡ length (P.program fleet.now.accepted.program) }
-    ensures { AreReadyFlags (P.program fleet.now.accepted.program) fleet.now.configuration sent.new }
-{
-    for i in 0..fleet.agents() {
-        sent[usize::from(i)] = fleet.ready(i);
-    }
-}
-
-/// Tells the orders of the agents that are not flagged, and flags all that have one.
+/// Tells the orders of the agents that were not sent theirs. All that have one were sent it then.
 pub fn tell_orders<P: ProgramView, F: Floor>(
     fleet: &Fleet<'_, P>,
-    sent: &mut [bool],
+    sent: &mut AgentSet,
     row: &mut [u8],
     floor: &mut F,
 ) -> Result<(), OutFault>
@@ -79,21 +71,12 @@ pub fn tell_orders<P: ProgramView, F: Floor>(
     ensures told { Tells (F.talks floor.old floor.new) (F.works floor.new) result
         (orders_but (flag_of sent.old) (P.program fleet.now.accepted.program) fleet.now.configuration
         (indices (length (P.program fleet.now.accepted.program)))) }
+    ensures agents { length sent.new ≡ length (P.program fleet.now.accepted.program) }
     ensures ready { AreReadyFlags (P.program fleet.now.accepted.program) fleet.now.configuration sent.new }
 {
     let at = write_orders(fleet, sent, row);
-    flag_ready(fleet, sent);
+    sent.copy_from(fleet.ready_agents());
     floor.tell(&row[at..])
-}
-
-/// Takes the flags off the agents that have carried out their orders.
-pub fn take_off(sent: &mut [bool], done: &[bool])
-    requires { length sent.old ≡ length done.now }
-    ensures { (i : ℕ) → i < length done.now → flag_of sent.new i ≡ (flag_of sent.old i && not (flag_of done.now i)) }
-{
-    for i in 0..sent.len() {
-        sent[i] = sent[i] && !done[i];
-    }
 }
 
 /// How many bytes the closing lines have at most.

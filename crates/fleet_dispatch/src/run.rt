@@ -11,9 +11,10 @@ ghost use Rattle.fleet_dispatch.specs.Dispatch.{Dispatches, DispatchesFrom, Conc
 ghost use Rattle.fleet_dispatch.specs.Orders.{AreReadyFlags};
 
 use crate::floor::{Floor, HearFault};
-use crate::orders::{ORDERS, take_off, tell_closing, tell_orders};
+use crate::orders::{ORDERS, tell_closing, tell_orders};
+use fleet_machine::AgentSet;
 use fleet_model::{MAX_AGENTS, ProgramView, total_moves};
-use fleet_run::{Fleet, clear};
+use fleet_run::Fleet;
 use fleet_text::{
     OutFault, Refusal, TraceOut, Word, put_line, put_memory, put_named, put_named_at, put_named_by,
 };
@@ -87,20 +88,21 @@ pub struct DispatchReport {
     pub reports: u32,
 }
 
-/// Hears the line of this number, and takes it as a report: those that it names have carried out their orders, and are no longer
-/// flagged.
+/// Hears the line of this number, and takes it as a report: those that it names have carried out their orders, and were sent none since.
 fn take_report<P: ProgramView, F: Floor>(
     fleet: &mut Fleet<'_, P>,
-    sent: &mut [bool],
+    sent: &mut AgentSet,
     done: &mut [bool],
     floor: &mut F,
     line: u64,
 ) -> Result<(), DispatchFault>
+    requires few { length (P.program fleet.old.accepted.program) ≤ MAX_AGENTS }
     requires sent { length sent.old ≡ length (P.program fleet.old.accepted.program) }
     requires done { length done.old ≡ length (P.program fleet.old.accepted.program) }
     requires ready { AreReadyFlags (P.program fleet.old.accepted.program) fleet.old.configuration sent.old }
     requires floor { F.works floor.old }
     ensures accepted { fleet.new.accepted ≡ fleet.old.accepted }
+    ensures agents { length sent.new ≡ length sent.old }
     ensures report { TakesReport (P.program fleet.old.accepted.program) (F.talks floor.old floor.new) (F.works floor.new)
         fleet.old.configuration fleet.new.configuration sent.new line result }
 {
@@ -110,7 +112,7 @@ fn take_report<P: ProgramView, F: Floor>(
         Err(HearFault::Form) => return Err(DispatchFault::Form { line }),
         Err(HearFault::Broken) => return Err(DispatchFault::Input),
     }
-    take_off(sent, done);
+    sent.remove(done);
     if let Err(refused) = fleet.confirm(done) {
         return Err(DispatchFault::NotOrdered {
             line,
@@ -143,7 +145,7 @@ fn conclude<F: Floor>(
 /// The orders, the reports and the closing lines of a fleet, from its start until all stand on their goals.
 fn run_reports<P: ProgramView, F: Floor>(
     fleet: &mut Fleet<'_, P>,
-    sent: &mut [bool],
+    sent: &mut AgentSet,
     done: &mut [bool],
     row: &mut [u8],
     floor: &mut F,
@@ -158,7 +160,7 @@ fn run_reports<P: ProgramView, F: Floor>(
     ensures outcome { Dispatches (P.program fleet.old.accepted.program) (F.talks floor.old floor.new) fleet.new.configuration result }
     ensures arrived { IfOk result (λ _. AreOnGoals (P.program fleet.old.accepted.program) fleet.new.configuration) }
 {
-    clear(sent);
+    sent.clear();
     let mut reports = 0;
     'reports: loop {
         if tell_orders(fleet, sent, row, floor).is_err() {
@@ -205,14 +207,14 @@ pub fn dispatch<P: ProgramView, F: Floor>(
     runs_end();
     orders_are_given_once();
     fleet.acceptance();
-    let agents = fleet.agents() as usize;
-    let mut sent = [false; MAX_AGENTS];
+    let agents = fleet.agents();
+    let mut sent = AgentSet::new(agents);
     let mut done = [false; MAX_AGENTS];
     let mut row = [0; ORDERS];
     run_reports(
         fleet,
-        &mut sent[..agents],
-        &mut done[..agents],
+        &mut sent,
+        &mut done[..agents as usize],
         &mut row,
         floor,
     )

@@ -89,10 +89,10 @@ pub fn send<P: ProgramView + Drop, F: Floor>(
 /// The flagged robots have arrived. Answers where robot `i` may be sent then: the step of its next move, if it has an order.
 pub fn report<P: ProgramView>(
     fleet: &mut Fleet<'_, P>,
-    done: &mut [bool],
+    done: &[bool],
     i: u16,
 ) -> Result<Option<Step>, NotSent>
-    requires done { length done.old ≡ length (P.program fleet.old.accepted.program) }
+    requires done { length done.now ≡ length (P.program fleet.old.accepted.program) }
     requires robot { i < length (P.program fleet.old.accepted.program) }
     ensures { IfOk result (λ step.
         step ≡ order_of (P.program fleet.new.accepted.program) fleet.new.configuration i) }

@@ -18,7 +18,7 @@ left_if_ready p c i ready =
     elim (cases_lt (count_at c i) (moves p i)) [ Rattle.std.proofs.Common.inl h ↦ h | Rattle.std.proofs.Common.inr h ↦ let none = no_action_left p c i h in absurd (cc) ]
 
 -- where an agent that moves stands afterwards
-after_move : (p : Program) (held : ℕ → Bool) (old rows : Configuration) (i : ℕ) → is_moving p held old i ≡ true → standing_at rows i ≡ standing_at old i
+pub after_move : (p : Program) (held : ℕ → Bool) (old rows : Configuration) (i : ℕ) → is_moving p held old i ≡ true → standing_at rows i ≡ standing_at old i
     → finished_one (standing_at rows i) (next_action p rows i) ≡ standing_after p held old i
 after_move p held old rows i flag here =
     rw flag (ap (λ (s : Standing). finished_one s (slice_get (actions_of p i) s.count)) here)

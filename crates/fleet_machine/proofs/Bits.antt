@@ -69,7 +69,7 @@ true_is_false e = absurd cc
 
 -- ---- no bit
 
-module _ (words : List ℕ) (m n : ℕ) (e : words ≡ replicate m 0) (long : m ≡ n / 64 + 1) (few : n ≤ MAX_AGENTS) where
+module _ (words : List ℕ) (m n : ℕ) (e : words ≡ replicate m 0) (long : m ≡ MAX_AGENTS / 64 + 1) (few : n ≤ MAX_AGENTS) where
   pub no_word : (i : ℕ) → slice_index words i ≡ 0
   no_word i =
       let nothing : ℕ = 0 in
@@ -95,7 +95,7 @@ module _ (words : List ℕ) (m n : ℕ) (e : words ≡ replicate m 0) (long : m 
 
 module _ (words : List ℕ) (n i : ℕ) (bits : AreBits words n) (agent : i < n) where
   pub word_within : i / 64 < length words
-  word_within = let long = bits.long in omega arith
+  word_within = let long = bits.long in let few = bits.few in omega arith
 
   module _ (word : ℕ) (b : Bool) (here : bit_at word (i % 64) ≡ bit_if b)
       (others : (k : ℕ) → k < 64 → k ≢ i % 64 → bit_at word k ≡ bit_at (slice_index words (i / 64)) k) where
@@ -140,7 +140,7 @@ module _ (words : List ℕ) (n : ℕ) (bits : AreBits words n) (from : ℕ) wher
   none_is none k ge = flag_is words n k bits ∙ none k ge
 
   pub past_words : length words ≤ from / 64 → AreNoneFrom (flags_in words n) from
-  past_words le = none_is (λ k ge. bits.rest k (let long = bits.long in omega arith))
+  past_words le = none_is (λ k ge. bits.rest k (let long = bits.long in let few = bits.few in omega arith))
 
   -- in the first word
   module _ (word : ℕ) (read : word ≡ slice_index words (from / 64)) where

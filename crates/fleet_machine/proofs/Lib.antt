@@ -1,12 +1,17 @@
 pub mod Ready
 mod Linked
 pub mod Bits
+pub mod Flags
 mod Marked
+pub mod Below
+pub mod Without
 pub mod Indices
 pub mod Lacking
 pub mod Judging
 pub mod Waking
 pub mod Advanced
+mod Lasting
+mod Carried
 pub mod Ticking
 pub mod Opened
 pub mod Kept

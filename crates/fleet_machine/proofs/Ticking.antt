@@ -9,14 +9,16 @@ use Rattle.std.proofs.lemmas.Option.{slice_get_past, slice_get_within, get_or_fr
 use Rattle.fleet_model.specs.declared.program.Await.{Await}
 use Rattle.fleet_model.specs.declared.standing.Standing.{Standing}
 use Rattle.fleet_model.specs.Program.{Program, IsWellFormed, moves, actions_of, awaits_of}
-use Rattle.fleet_model.specs.Machine.{Configuration, standing_at, count_at, is_ready, is_moving, tick, indices}
+use Rattle.fleet_model.specs.Machine.{Configuration, standing_at, count_at, is_ready, is_moving, moved_in, tick, indices}
 use Rattle.fleet_model.proofs.Tick.{length-tick, standing_at_tick, other_stays}
 use Rattle.fleet_machine.specs.AgentSet.{AreNoneFrom, IsNextFrom}
 use Rattle.fleet_machine.specs.Looked.{ready_in, awaits_moving, awaiting_in, LooksAt}
 use Rattle.fleet_machine.specs.WaitLists.{home_of}
 use Rattle.fleet_machine.specs.Machine.{MachineState, Runs, HasRows, IsHome, IsJudged, Lacks, flag_of, is_left, moving_flags}
-use Rattle.fleet_machine.specs.Waking.{is_on, if_not_on, IsWoken, IsAsBefore}
+use Rattle.fleet_machine.specs.Waking.{is_on, if_not_on, IsWoken, IsSettled, IsAsBefore}
 use Rattle.fleet_machine.proofs.Advanced.{onward, filter_more, IsAdvanced, all_wait}
+use Rattle.fleet_machine.proofs.Lasting.{ready_lasts}
+use Rattle.fleet_machine.proofs.Judging.{none_more_counted, one_more_counted, counted_le}
 use Rattle.fleet_machine.proofs.Ready.{no_action_left, next_of, not_ready_if_unmet, awaited_agent}
 
 true_is_false : true ≡ false → ⊥
@@ -39,6 +41,17 @@ module _ (p : Program) (held : ℕ → Bool) (old : MachineState) (runs : Runs p
   up_to_ready i next =
       all_wait p held old.configuration rows moving from i count ready_held next.later
       (λ k later below. let agent = ready_agent i next in ready_is k (omega arith) ∙ next.between k later below) before
+
+  pub one_ready_more : (i : ℕ) → IsNextFrom flags from i → (n : ℕ) → n ≡ length (filter (is_ready p old.configuration) (indices from))
+      → n + 1 ≡ length (filter (is_ready p old.configuration) (indices (i + 1)))
+  one_ready_more i next n so_far =
+      one_more_counted (is_ready p old.configuration) i n (next_is_ready i next)
+      (none_more_counted (is_ready p old.configuration) from i n next.later
+      (λ k later below. let agent = ready_agent i next in ready_is k (omega arith) ∙ next.between k later below) so_far)
+
+  pub all_ready : from ≤ length p → AreNoneFrom flags from → (n : ℕ) → n ≡ length (filter (is_ready p old.configuration) (indices from)) → n ≡ ready_in p old.configuration
+  all_ready within none n so_far =
+      none_more_counted (is_ready p old.configuration) from (length p) n within (λ k later below. ready_is k below ∙ none k later) so_far
 
   pub up_to_end : from ≤ length p → AreNoneFrom flags from → IsAdvanced p held old.configuration rows moving (length p) count ready_held
   up_to_end within none = all_wait p held old.configuration rows moving from (length p) count ready_held within (λ k later below. ready_is k below ∙ none k later) before
@@ -112,10 +125,10 @@ module _ (p : Program) (held : ℕ → Bool) (m : MachineState) (runs : Runs p m
   flag_is_moving : (j : ℕ) → j < length p → flag_of (moving_flags p held c) j ≡ is_moving p held c j
   flag_is_moving j agent = get_or-map-range_with_len (is_moving p held c) 0 (length p) j j false agent (omega arith)
 
-  -- an agent to which nothing happens
-  module _ (k : ℕ) (agent : k < length p) (unready : is_ready p c k ≡ false) where
+  -- an agent that stays
+  module _ (k : ℕ) (agent : k < length p) (stays : is_moving p held c k ≡ false) where
     stands : standing_at after k ≡ standing_at c k
-    stands = standing_at_tick p held c k agent ∙ other_stays p held c k (rw unready refl)
+    stands = standing_at_tick p held c k agent ∙ other_stays p held c k stays
 
     same_count : count_at after k ≡ count_at c k
     same_count = ap (λ (s : Standing). s.count) stands
@@ -124,9 +137,9 @@ module _ (p : Program) (held : ℕ → Bool) (m : MachineState) (runs : Runs p m
     left_as_before = rw same_count refl
 
     lacks_still : (j : ℕ) → is_moving p held c j ≡ false → Lacks p c k j → Lacks p after k j
-    lacks_still j stays lacks =
+    lacks_still j rests lacks =
         let there = lacked_agent p c k j lacks runs.well_formed in
-        let same : standing_at after j ≡ standing_at c j = standing_at_tick p held c j there ∙ other_stays p held c j stays in
+        let same : standing_at after j ≡ standing_at c j = standing_at_tick p held c j there ∙ other_stays p held c j rests in
         record {
           place = lacks.place;
           awaited = lacks.awaited;
@@ -135,20 +148,27 @@ module _ (p : Program) (held : ℕ → Bool) (m : MachineState) (runs : Runs p m
           unmet = ap (λ n. nat_le lacks.awaited.count n) (ap (λ (s : Standing). s.count) (subst (λ a. standing_at after a ≡ standing_at c a) (sym lacks.agent) same)) ∙ lacks.unmet;
         }
 
-    home_still : (h : Option ℕ) → is_on (flag_of (moving_flags p held c)) h ≡ false → IsHome p c k h → IsHome p after k h × (is_ready p after k ≡ false)
-    home_still None off home =
-        let done : is_left p after k ≡ false = left_as_before ∙ (sym home ∙ unready) in
-        let unready_after : is_ready p after k ≡ false = elim (cases_lt (count_at after k) (moves p k)) [
-          | inl lt ↦ absurd (true_is_false (sym (lt-ltb _ _ lt) ∙ done))
+    ready_or_done : (r : Bool) → is_ready p c k ≡ r → is_left p c k ≡ r → is_ready p after k ≡ r
+    ready_or_done true ready left = ready_lasts p held c runs.agents k same_count ready
+    ready_or_done false unready done =
+        elim (cases_lt (count_at after k) (moves p k)) [
+          | inl lt ↦ absurd (true_is_false (sym (lt-ltb _ _ lt) ∙ (left_as_before ∙ done)))
           | inr le ↦ no_action_left p after k le
-        ] in
-        (unready_after ∙ sym done, unready_after)
+        ]
+
+    home_still : (h : Option ℕ) → is_on (flag_of (moving_flags p held c)) h ≡ false → IsHome p c k h → IsHome p after k h × (is_ready p after k ≡ is_ready p c k)
+    home_still None off home =
+        let still = ready_or_done (is_ready p c k) refl (sym home) in
+        (still ∙ (home ∙ sym left_as_before), still)
     home_still (Some j) off home =
         let there = lacked_agent p c k j home runs.well_formed in
         let lacks = lacks_still j (sym (flag_is_moving j there) ∙ off) home in
-        (lacks, unready_if_lacking p after k j lacks)
+        (lacks, unready_if_lacking p after k j lacks ∙ sym (unready_if_lacking p c k j home))
 
-  module _ (woken : MachineState) (wakes : IsWoken (flag_of (moving_flags p held c)) (record m { configuration = after; moving = moving_flags p held c; due = m.ready }) woken) where
+  module _ (woken : MachineState) (wakes : IsWoken (flag_of (moving_flags p held c)) (record m { configuration = after; moving = moving_flags p held c; due = moving_flags p held c }) woken) where
+    long_moving : length (moving_flags p held c) ≡ length p
+    long_moving = length-map-range_with_len (is_moving p held c) 0 (length p)
+
     pub configuration_woken : woken.configuration ≡ after
     configuration_woken = ap (λ (w : MachineState). w.configuration) wakes.same
 
@@ -156,18 +176,18 @@ module _ (p : Program) (held : ℕ → Bool) (m : MachineState) (runs : Runs p m
     rows_woken = record {
       ready = ap (λ (w : MachineState). length w.ready) wakes.same ∙ runs.rows.ready;
       left = ap (λ (w : MachineState). length w.left) wakes.same ∙ runs.rows.left;
-      due = wakes.long_due ∙ runs.rows.ready;
+      due = wakes.long_due ∙ long_moving;
       lists = ap (λ (w : MachineState). w.waiting.lists) wakes.same ∙ runs.rows.lists;
       homes = wakes.long_homes ∙ runs.rows.homes;
     }
 
-    -- who is due was ready, or stood in the list of one that moves
-    due_is : (k : ℕ) → k < length p → flag_of woken.due k ≡ (is_ready p c k || is_on (flag_of (moving_flags p held c)) (home_of m.waiting.homes k))
+    -- who is due moved, or stood in the list of one that moves
+    due_is : (k : ℕ) → k < length p → flag_of woken.due k ≡ (is_moving p held c k || is_on (flag_of (moving_flags p held c)) (home_of m.waiting.homes k))
     due_is k agent =
-        wakes.due k (let long = runs.rows.ready in omega arith)
-        ∙ ap (λ b. b || is_on (flag_of (moving_flags p held c)) (home_of m.waiting.homes k)) (runs.judged k agent).ready
+        wakes.due k (omega (arith, long_moving))
+        ∙ ap (λ b. b || is_on (flag_of (moving_flags p held c)) (home_of m.waiting.homes k)) (flag_is_moving k agent)
 
-    freed : (h : Option ℕ) (k : ℕ) → IsHome p c k h → (is_ready p c k || is_on (flag_of (moving_flags p held c)) h) ≡ true → if_not_on (flag_of (moving_flags p held c)) h ≡ None
+    freed : (h : Option ℕ) (k : ℕ) → IsHome p c k h → (is_moving p held c k || is_on (flag_of (moving_flags p held c)) h) ≡ true → if_not_on (flag_of (moving_flags p held c)) h ≡ None
     freed None k home is = refl
     freed (Some j) k home is = go (flag_of (moving_flags p held c) j) (rw (unready_if_lacking p c k j home) at is)
       where
@@ -182,6 +202,24 @@ module _ (p : Program) (held : ℕ → Bool) (m : MachineState) (runs : Runs p m
           | inr past ↦ absurd (true_is_false (sym due ∙ get_or_past woken.due k false (let rows = rows_woken.due in omega arith)))
         ]
 
+    -- ---- how many were looked at
+
+    moved_counted : moved_in p held c ≤ length (filter (flag_of woken.due) (indices (length p)))
+    moved_counted = fewer_pass (is_moving p held c) (flag_of woken.due) (length p) (λ k agent moves. due_is k agent ∙ rw moves refl)
+
+    due_counted : length (filter (flag_of woken.due) (indices (length p))) ≤ moved_in p held c + awaiting_in p held c
+    due_counted =
+        either_passes (flag_of woken.due) (is_moving p held c) (λ k. not (is_ready p c k) && awaits_moving p held c k) (length p)
+        (λ k agent due. was (home_of m.waiting.homes k) k (is_moving p held c k) refl (runs.judged k agent).home (sym (due_is k agent) ∙ due))
+      where
+        was : (h : Option ℕ) (k : ℕ) (r : Bool) → is_moving p held c k ≡ r → IsHome p c k h → (is_moving p held c k || is_on (flag_of (moving_flags p held c)) h) ≡ true
+            → (is_moving p held c k ≡ true) ⊎ ((not (is_ready p c k) && awaits_moving p held c k) ≡ true)
+        was h k true e home is = inl e
+        was None k false e home is = absurd (true_is_false (sym is ∙ rw e refl))
+        was (Some j) k false e home is =
+            let there = lacked_agent p c k j home runs.well_formed in
+            inr (rw (unready_if_lacking p c k j home) (awaits_if_lacking p c k j home held (sym (flag_is_moving j there) ∙ (rw e at is))))
+
     module _ (new : MachineState) (same : new ≡ record woken { ready = new.ready; left = new.left; waiting = new.waiting }) (rows : HasRows (length p) new)
         (judged : (k : ℕ) → k < length p → flag_of woken.due k ≡ true → IsJudged p new k)
         (others : (k : ℕ) → flag_of woken.due k ≡ false → IsAsBefore woken new k) where
@@ -190,12 +228,12 @@ module _ (p : Program) (held : ℕ → Bool) (m : MachineState) (runs : Runs p m
 
       undisturbed : (k : ℕ) → k < length p → flag_of woken.due k ≡ false → IsJudged p new k
       undisturbed k agent undue =
-          let calm = or_parts (is_ready p c k) (is_on (flag_of (moving_flags p held c)) (home_of m.waiting.homes k)) (sym (due_is k agent) ∙ undue) in
+          let calm = or_parts (is_moving p held c k) (is_on (flag_of (moving_flags p held c)) (home_of m.waiting.homes k)) (sym (due_is k agent) ∙ undue) in
           let still = home_still k agent calm.0 (home_of m.waiting.homes k) calm.1 (runs.judged k agent).home in
           let kept = others k undue in
           let here = runs.judged k agent in
           record {
-            ready = kept.ready ∙ (ap (λ (w : MachineState). flag_of w.ready k) wakes.same ∙ (here.ready ∙ (calm.0 ∙ (sym still.1 ∙ ap (λ c. is_ready p c k) (sym configuration_new)))));
+            ready = kept.ready ∙ (ap (λ (w : MachineState). flag_of w.ready k) wakes.same ∙ (here.ready ∙ (sym still.1 ∙ ap (λ c. is_ready p c k) (sym configuration_new))));
             left = kept.left ∙ (ap (λ (w : MachineState). flag_of w.left k) wakes.same ∙ (here.left ∙ (sym (left_as_before k agent calm.0) ∙ ap (λ c. is_left p c k) (sym configuration_new))));
             home = rw (configuration_new, kept.home, wakes.homes k) (not_freed (home_of m.waiting.homes k) calm.1 still.0);
           }
@@ -204,8 +242,8 @@ module _ (p : Program) (held : ℕ → Bool) (m : MachineState) (runs : Runs p m
           not_freed None off home = home
           not_freed (Some j) off home = rw off home
 
-      pub runs_after : (looked : ℕ) → Runs p (record new { looked = looked })
-      runs_after looked = record {
+      runs_after : Runs p new
+      runs_after = record {
         well_formed = runs.well_formed;
         agents = ap length configuration_new ∙ length-tick p held c;
         flags = ap (λ (w : MachineState). length w.moving) (same ∙ ap (λ (w : MachineState). record w { ready = new.ready; left = new.left; waiting = new.waiting }) wakes.same)
@@ -216,23 +254,26 @@ module _ (p : Program) (held : ℕ → Bool) (m : MachineState) (runs : Runs p m
             record { ready = here.ready; left = here.left; home = here.home };
       }
 
-    -- ---- how many were looked at
+      pub settled : (count : ℕ) → count ≡ length (filter (flag_of woken.due) (indices (length p))) → IsSettled p held m new count
+      settled count is = record {
+        runs = runs_after;
+        configuration = configuration_new;
+        moving = ap (λ (w : MachineState). w.moving) (same ∙ ap (λ (w : MachineState). record w { ready = new.ready; left = new.left; waiting = new.waiting }) wakes.same);
+        looked = ap (λ (w : MachineState). w.looked) (same ∙ ap (λ (w : MachineState). record w { ready = new.ready; left = new.left; waiting = new.waiting }) wakes.same);
+        least = omega (arith, moved_counted);
+        most = omega (arith, due_counted);
+        few = let few = counted_le (flag_of woken.due) (length p) in omega arith;
+      }
 
-    pub ready_counted : ready_in p c ≤ length (filter (flag_of woken.due) (indices (length p)))
-    ready_counted = fewer_pass (is_ready p c) (flag_of woken.due) (length p) (λ k agent ready. due_is k agent ∙ rw ready refl)
-
-    pub due_counted : length (filter (flag_of woken.due) (indices (length p))) ≤ ready_in p c + awaiting_in p held c
-    due_counted =
-        either_passes (flag_of woken.due) (is_ready p c) (λ k. not (is_ready p c k) && awaits_moving p held c k) (length p)
-        (λ k agent due. was (home_of m.waiting.homes k) k (is_ready p c k) refl (runs.judged k agent).home (sym (due_is k agent) ∙ due))
-      where
-        was : (h : Option ℕ) (k : ℕ) (r : Bool) → is_ready p c k ≡ r → IsHome p c k h → (is_ready p c k || is_on (flag_of (moving_flags p held c)) h) ≡ true
-            → (is_ready p c k ≡ true) ⊎ ((not (is_ready p c k) && awaits_moving p held c k) ≡ true)
-        was h k true e home is = inl e
-        was None k false e home is = absurd (true_is_false (sym is ∙ rw e refl))
-        was (Some j) k false e home is =
-            let there = lacked_agent p c k j home runs.well_formed in
-            inr (rw e (awaits_if_lacking p c k j home held (sym (flag_is_moving j there) ∙ (rw e at is))))
+-- a machine runs its program, however many agents have been looked at
+pub runs_looked : (p : Program) (m : MachineState) (looked : ℕ) → Runs p m → Runs p (record m { looked = looked })
+runs_looked p m looked runs = record {
+  well_formed = runs.well_formed;
+  agents = runs.agents;
+  flags = runs.flags;
+  rows = record { ready = runs.rows.ready; left = runs.rows.left; due = runs.rows.due; lists = runs.rows.lists; homes = runs.rows.homes };
+  judged = λ k agent. let here = runs.judged k agent in record { ready = here.ready; left = here.left; home = here.home };
+}
 
 -- the count of agents that were looked at, where so many were due
 pub looked_at : (r q due before after : ℕ) → r ≤ due → due ≤ r + q → LooksAt due 0 before after → LooksAt r q before after

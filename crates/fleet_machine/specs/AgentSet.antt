@@ -16,10 +16,10 @@ is_bit words i = bit_at (slice_index words (i / 64)) (i % 64) == 1
 abbrev pub flags_in : List ℕ → ℕ → List Bool
 flags_in words n = map (is_bit words) (indices n)
 
--- words for n agents, with no bit for another
+-- words for all agents that there can be, with no bit for another than the first n
 pub record AreBits (words : List ℕ) (n : ℕ) : Type 0 where
   pub few : n ≤ MAX_AGENTS
-  pub long : length words ≡ n / 64 + 1
+  pub long : length words ≡ MAX_AGENTS / 64 + 1
   pub rest : (i : ℕ) → n ≤ i → is_bit words i ≡ false
 
 -- bit k of the marks is clear exactly where word k has no bit
@@ -37,9 +37,24 @@ pub record IsLowest (word place : ℕ) : Type 0 where
   pub is_set : bit_at word place ≡ 1
   pub lower : (k : ℕ) → k < place → bit_at word k ≡ 0
 
+-- no bit of the word is set below the end
+abbrev pub HasNoneBelow : (word end : ℕ) → Type 0
+HasNoneBelow word end = (k : ℕ) → k < end → bit_at word k ≡ 0
+
+-- the highest bit of the word below the end that is set
+pub record IsHighestBelow (word end place : ℕ) : Type 0 where
+  pub within : place < 64
+  pub below : place < end
+  pub is_set : bit_at word place ≡ 1
+  pub higher : (k : ℕ) → place < k → k < end → bit_at word k ≡ 0
+
 -- no flag is set from there on
 abbrev pub AreNoneFrom : List Bool → ℕ → Type 0
 AreNoneFrom flags from = (k : ℕ) → from ≤ k → flag_of flags k ≡ false
+
+-- no flag is set from there on before the end
+abbrev pub AreNoneIn : List Bool → (from end : ℕ) → Type 0
+AreNoneIn flags from end = (k : ℕ) → from ≤ k → k < end → flag_of flags k ≡ false
 
 -- the first flag from there on that is set
 pub record IsNextFrom (flags : List Bool) (from i : ℕ) : Type 0 where
@@ -47,3 +62,9 @@ pub record IsNextFrom (flags : List Bool) (from i : ℕ) : Type 0 where
   pub later : from ≤ i
   pub member : flag_of flags i ≡ true
   pub between : (k : ℕ) → from ≤ k → k < i → flag_of flags k ≡ false
+
+-- the last flag before the end that is set
+pub record IsLastBefore (flags : List Bool) (end i : ℕ) : Type 0 where
+  pub before : i < end
+  pub member : flag_of flags i ≡ true
+  pub between : (k : ℕ) → i < k → k < end → flag_of flags k ≡ false

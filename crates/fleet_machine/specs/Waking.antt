@@ -1,9 +1,10 @@
 -- Steps of a tick.
-use Rattle.std.specs.Prelude.{◌≡◌, ℕ, ◌<◌, Bool, false, ◌||◌, length, set, Option, Some, None, if◌then◌else◌}
+use Rattle.std.specs.Prelude.{◌≡◌, ℕ, ◌+◌, ◌<◌, ◌≤◌, Bool, false, ◌||◌, length, set, Option, Some, None, if◌then◌else◌}
 use Rattle.fleet_model.specs.Program.{Program}
-use Rattle.fleet_model.specs.Machine.{is_ready}
+use Rattle.fleet_model.specs.Machine.{is_ready, tick, moved_in}
 use Rattle.fleet_machine.specs.WaitLists.{home_of}
-use Rattle.fleet_machine.specs.Machine.{MachineState, flag_of, is_left, IsHome}
+use Rattle.fleet_machine.specs.Machine.{MachineState, Runs, flag_of, is_left, IsHome, moving_flags}
+use Rattle.fleet_machine.specs.Looked.{awaiting_in}
 
 -- the list is one of these
 abbrev pub is_on : (ℕ → Bool) → Option ℕ → Bool
@@ -22,6 +23,26 @@ pub record IsWoken (lists : ℕ → Bool) (before after : MachineState) : Type 0
   pub homes : (i : ℕ) → home_of after.waiting.homes i ≡ if_not_on lists (home_of before.waiting.homes i)
   pub due : (i : ℕ) → i < length before.due
       → flag_of after.due i ≡ (flag_of before.due i || is_on lists (home_of before.waiting.homes i))
+
+-- the agents that a tick moves have moved, and are due, and nothing else is done yet of the tick in which these are held
+pub record HasMoved (p : Program) (held : ℕ → Bool) (before after : MachineState) : Type 0 where
+  pub runs : Runs p before
+  pub same : after ≡ record before {
+    configuration = tick p held before.configuration;
+    moving = moving_flags p held before.configuration;
+    due = moving_flags p held before.configuration;
+  }
+
+-- after the tick in which these are held the machine runs the program, and so many agents were judged: those that it moved, and
+-- some of those that await one of them
+pub record IsSettled (p : Program) (held : ℕ → Bool) (before after : MachineState) (judged : ℕ) : Type 0 where
+  pub runs : Runs p after
+  pub configuration : after.configuration ≡ tick p held before.configuration
+  pub moving : after.moving ≡ moving_flags p held before.configuration
+  pub looked : after.looked ≡ before.looked
+  pub least : moved_in p held before.configuration ≤ judged
+  pub most : judged ≤ moved_in p held before.configuration + awaiting_in p held before.configuration
+  pub few : judged ≤ length p
 
 -- agent i is flagged anew and stands where it belongs, and nothing else is changed
 pub record IsPlaced (p : Program) (before after : MachineState) (i : ℕ) : Type 0 where

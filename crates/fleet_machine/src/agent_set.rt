@@ -1,21 +1,23 @@
 //! Sets of agents, a bit for each agent. The next member is found at a look at three words.
 
-ghost use Rattle.std.specs.Prelude.{◌≡◌, ◌≢◌, ◌<◌, ◌≤◌, ℕ, length, set, replicate, false, MatchOption, IfOk};
+ghost use Rattle.std.specs.Prelude.{◌≡◌, ◌≢◌, ◌<◌, ◌≤◌, ◌+◌, ◌^◌, ℕ, length, set, replicate, true, false, not, ◌&&◌, ◌==◌, MatchOption};
 ghost use Rattle.std.specs.Int.{bit_at};
 ghost use Rattle.fleet_machine.specs.Machine.{flag_of};
-ghost use Rattle.fleet_machine.specs.AgentSet.{bit_if, IsLowest, IsNextFrom, AreNoneFrom};
+ghost use Rattle.fleet_machine.specs.AgentSet.{bit_if, IsLowest, IsHighestBelow, HasNoneBelow, IsNextFrom, IsLastBefore, AreNoneFrom, AreNoneIn};
 
 use fleet_model::MAX_AGENTS;
-use std::alloc::{AllocError, Global};
 use std::marker::Model;
 
 /// How many agents have their bits in one word.
 const WORD: usize = 64;
 
-/// A set of agents below some number.
+/// How many words there are.
+const WORDS: usize = MAX_AGENTS / WORD + 1;
+
+/// A set of agents below some number. It takes no memory beside itself.
 #[derive(Drop)]
 pub struct AgentSet {
-    words: Vec<u64>,
+    words: [u64; WORDS],
     /// A bit for each word, set where the word has one.
     filled: u64,
     agents: u16,
@@ -27,9 +29,9 @@ impl Model for AgentSet {
 
     ghost Value = { List Bool };
 
-    ghost view = { λ s. flags_in s.words.items s.agents };
+    ghost view = { λ s. flags_in s.words s.agents };
 
-    ghost invariant = { λ s. AreBitsMarked s.words.items s.filled s.agents };
+    ghost invariant = { λ s. AreBitsMarked s.words s.filled s.agents };
 }
 
 /// The place of the lowest bit that is set.
@@ -57,18 +59,85 @@ fn with_bit(word: u64, place: u16, is_set: bool) -> u64
     }
 }
 
+/// The place of the highest bit below this place that is set.
+fn highest_below(word: u64, end: usize) -> Option<usize>
+    ensures { MatchOption result (HasNoneBelow word end) (IsHighestBelow word end) }
+{
+    let Some(first) = lowest(word) else {
+        return None;
+    };
+    let mut place = first;
+    if place >= end {
+        return None;
+    }
+    while let Some(skipped) = lowest(word >> place >> 1) {
+        let higher = place + 1 + skipped;
+        if higher >= end {
+            return Some(place);
+        }
+        place = higher;
+    }
+    Some(place)
+}
+
+/// The bits of the word that the other has not.
+fn without_bits(word: u64, others: u64) -> u64
+    ensures { (k : ℕ) → k < 64 → bit_at result k ≡ bit_if (bit_at word k == 1 && not (bit_at others k == 1)) }
+{
+    word & !others
+}
+
+/// Whether one of the flags of a stretch is set. It looks at all of them, which many processors do some at a time.
+fn is_any_set(flags: &[bool], from: usize, end: usize) -> bool
+    requires { end ≤ length flags.now }
+    ensures { result ≡ false → AreNoneIn flags.now from end }
+{
+    let mut is_any = false;
+    for i in from..end {
+        is_any |= flags[i];
+    }
+    is_any
+}
+
+/// Passes over stretches without a set flag from there on.
+fn past_clear(flags: &[bool], from: usize) -> usize
+    requires { from + length flags.now < 2 ^ 32 }
+    ensures later { from ≤ result }
+    ensures clear { AreNoneIn flags.now from result }
+{
+    let mut at = from;
+    while at + WORD <= flags.len() && !is_any_set(flags, at, at + WORD) {
+        at += WORD;
+    }
+    at
+}
+
+/// The first flag from this one on that is set.
+pub fn next_flag(flags: &[bool], from: u16) -> Option<u16>
+    requires { length flags.now ≤ MAX_AGENTS }
+    ensures { MatchOption result (AreNoneFrom flags.now from) (IsNextFrom flags.now from) }
+{
+    let mut at = past_clear(flags, from as usize);
+    while at < flags.len() {
+        if flags[at] {
+            return Some(at as u16);
+        }
+        at += 1;
+    }
+    None
+}
+
 impl AgentSet {
     /// No agent of so many.
-    pub fn new(alloc: Global, agents: u16) -> Result<AgentSet, AllocError>
+    pub fn new(agents: u16) -> AgentSet
         requires { agents ≤ MAX_AGENTS }
-        ensures { IfOk result (λ s. s ≡ replicate agents false) }
+        ensures { result ≡ replicate agents false }
     {
-        let words = vec![in alloc; 0; agents as usize / WORD + 1]?;
-        Ok(AgentSet {
-            words,
+        AgentSet {
+            words: [0; WORDS],
             filled: 0,
             agents,
-        })
+        }
     }
 
     /// Whether agent `i` is a member.
@@ -98,7 +167,7 @@ impl AgentSet {
     pub fn clear(&mut self)
         ensures { self.new ≡ replicate (length self.old) false }
     {
-        self.words.fill(0);
+        self.words = [0; WORDS];
         self.filled = 0;
     }
 
@@ -107,23 +176,91 @@ impl AgentSet {
         requires { length self.old ≡ length other.now }
         ensures { self.new ≡ other.now }
     {
-        self.words.copy_from_slice(&other.words);
+        self.words = other.words;
         self.filled = other.filled;
+    }
+
+    /// The members are the flagged agents from now on.
+    pub fn set_to(&mut self, flags: &[bool])
+        requires few { length flags.now ≤ MAX_AGENTS }
+        requires flags { length self.old ≡ length flags.now }
+        ensures { self.new ≡ flags.now }
+    {
+        self.clear();
+        let mut from = 0;
+        while let Some(i) = next_flag(flags, from) {
+            self.set(i, true);
+            from = i + 1;
+        }
+    }
+
+    /// The flagged agents are no members from now on.
+    pub fn remove(&mut self, flags: &[bool])
+        requires few { length flags.now ≤ MAX_AGENTS }
+        requires flags { length self.old ≡ length flags.now }
+        ensures agents { length self.new ≡ length self.old }
+        ensures members { (i : ℕ) → flag_of self.new i ≡ (flag_of self.old i && not (flag_of flags.now i)) }
+    {
+        let mut from = 0;
+        while let Some(i) = next_flag(flags, from) {
+            self.set(i, false);
+            from = i + 1;
+        }
+    }
+
+    /// The members that are not members of the other set.
+    pub fn without(&self, others: &AgentSet) -> AgentSet
+        ensures agents { length result ≡ length self.now }
+        ensures members { (i : ℕ) → flag_of result i ≡ (flag_of self.now i && not (flag_of others.now i)) }
+    {
+        let all = self.words;
+        let taken = others.words;
+        let mut words = all;
+        let mut filled = self.filled;
+        for at in 0..WORDS {
+            let word = without_bits(all[at], taken[at]);
+            words[at] = word;
+            filled = with_bit(filled, at as u16, word != 0);
+        }
+        AgentSet {
+            words,
+            filled,
+            agents: self.agents,
+        }
+    }
+
+    /// The last member before this agent.
+    pub fn last_before(&self, end: u16) -> Option<u16>
+        requires { end ≤ length self.now }
+        ensures { MatchOption result (AreNoneIn self.now 0 end) (IsLastBefore self.now end) }
+    {
+        let filled = self.filled;
+        let first = end as usize / WORD;
+        if let Some(place) = highest_below(self.words[first], end as usize % WORD) {
+            return Some((WORD * first + place) as u16);
+        }
+        let Some(at) = highest_below(filled, first) else {
+            return None;
+        };
+        let Some(place) = highest_below(self.words[at], WORD) else {
+            return None;
+        };
+        Some((WORD * at + place) as u16)
     }
 
     /// The first member from this agent on.
     pub fn next(&self, from: u16) -> Option<u16>
         ensures { MatchOption result (AreNoneFrom self.now from) (IsNextFrom self.now from) }
     {
+        let filled = self.filled;
         let first = from as usize / WORD;
-        if first >= self.words.len() {
+        if first >= WORDS {
             return None;
         }
         let word = self.words[first];
         if let Some(place) = lowest(word >> (from % 64)) {
             return Some(from + place as u16);
         }
-        let filled = self.filled;
         let Some(skipped) = lowest(filled >> (first + 1)) else {
             return None;
         };

@@ -5,4 +5,5 @@ mod agent_set;
 mod machine;
 mod wait_lists;
 
+pub use agent_set::AgentSet;
 pub use machine::{Machine, Tick};

@@ -1,20 +1,20 @@
 //! The agents of a program on their way, and one tick of all of them.
 
-ghost use Rattle.std.specs.Prelude.{◌≡◌, ◌≢◌, ◌<◌, ◌≤◌, ◌&&◌, ◌==◌, ℕ, true, false, length, set, replicate, Some, None, filter, is_none, IfOk, IfSome, IfNone, MatchOption};
+ghost use Rattle.std.specs.Prelude.{◌≡◌, ◌≢◌, ◌<◌, ◌≤◌, ◌&&◌, ◌==◌, ℕ, Bool, true, false, length, set, replicate, Some, None, filter, is_none, IfOk, IfSome, IfNone, MatchOption};
 ghost use Rattle.std.specs.List.{list_any};
 ghost use Rattle.fleet_model.specs.Geometry.{place_of};
 ghost use Rattle.fleet_model.specs.Program.{moves, IsWellFormed};
 ghost use Rattle.fleet_model.specs.Machine.{opening, is_finished, is_ready, is_met, tick, moved_in, is_ready_held, standing_at, count_at, indices};
 ghost use Rattle.fleet_model.specs.Claims.{order_of};
 ghost use Rattle.fleet_machine.specs.AgentSet.{AreNoneFrom, IsNextFrom};
-ghost use Rattle.fleet_machine.specs.Confirmed.{AreSent, IsFirstUnsent};
+ghost use Rattle.fleet_machine.specs.Confirmed.{all_but, AreSent, IsFirstUnsent};
 ghost use Rattle.fleet_machine.specs.Looked.{ready_in, awaiting_in, LooksAt};
 ghost use Rattle.fleet_machine.specs.Near.{IsNear};
-ghost use Rattle.fleet_machine.specs.Machine.{Runs, HasRows, IsHome, IsJudged, is_left, after_next, moving_flags, flag_of};
-ghost use Rattle.fleet_machine.specs.Waking.{IsWoken, IsPlaced, IsAsBefore};
+ghost use Rattle.fleet_machine.specs.Machine.{MachineState, Runs, HasRows, IsHome, IsJudged, is_left, after_next, moving_flags, flag_of};
+ghost use Rattle.fleet_machine.specs.Waking.{IsWoken, HasMoved, IsSettled, IsPlaced, IsAsBefore};
 ghost use Rattle.fleet_machine.specs.WaitLists.{home_of};
 
-use crate::agent_set::AgentSet;
+use crate::agent_set::{AgentSet, next_flag};
 use crate::wait_lists::WaitLists;
 use fleet_model::{Await, Cell, MAX_AGENTS, Place, ProgramView, Standing, Step};
 use std::alloc::{AllocError, Global};
@@ -88,10 +88,10 @@ impl Machine {
         }
         let mut machine = Machine {
             agents,
-            moving: AgentSet::new(alloc, count)?,
-            ready: AgentSet::new(alloc, count)?,
-            left: AgentSet::new(alloc, count)?,
-            due: AgentSet::new(alloc, count)?,
+            moving: AgentSet::new(count),
+            ready: AgentSet::new(count),
+            left: AgentSet::new(count),
+            due: AgentSet::new(count),
             waiting: WaitLists::new(alloc, count as usize, count as usize)?,
             looked: 0,
         };
@@ -144,6 +144,17 @@ impl Machine {
     {
         let _ = program;
         self.ready.contains(i)
+    }
+
+    /// The agents that may finish their next actions.
+    pub fn ready_agents<P: ProgramView>(&self, program: &P) -> &AgentSet
+        requires runs { Runs (P.program program.now) self.now }
+        ensures agents { length result.now ≡ length (P.program program.now) }
+        ensures ready { (i : ℕ) → i < length (P.program program.now)
+            → flag_of result.now i ≡ is_ready (P.program program.now) self.now.configuration i }
+    {
+        let _ = program;
+        &self.ready
     }
 
     /// How many agents the ticks have looked at so far. The count stays at the greatest value once there.
@@ -206,10 +217,13 @@ impl Machine {
             (AreSent (P.program program.now) self.now.configuration (flag_of done.now))
             (IsFirstUnsent (P.program program.now) self.now.configuration (flag_of done.now)) }
     {
-        for i in 0..program.agents() {
-            if done[i as usize] && !self.is_ready(program, i) {
+        let mut from = 0;
+        while let Some(i) = next_flag(done, from) {
+            let is_sent = self.is_ready(program, i);
+            if !is_sent {
                 return Some(i);
             }
+            from = i + 1;
         }
         None
     }
@@ -410,16 +424,19 @@ impl Machine {
         self.set_agent(i, finished);
     }
 
-    /// Nobody moves yet, and who is ready is due.
+    /// Nobody moves yet.
     fn begin_tick(&mut self)
-        requires { length self.old.due ≡ length self.old.ready }
-        ensures { self.new ≡ record self.old {
-          moving = replicate (length self.old.moving) false;
-          due = self.old.ready;
-        } }
+        ensures { self.new ≡ record self.old { moving = replicate (length self.old.moving) false } }
     {
         self.moving.clear();
-        self.due.copy_from(&self.ready);
+    }
+
+    /// Who moves is due, and nobody else.
+    fn flag_due(&mut self)
+        requires { length self.old.due ≡ length self.old.moving }
+        ensures { self.new ≡ record self.old { due = self.old.moving } }
+    {
+        self.due.copy_from(&self.moving);
     }
 
     /// Flags agent `i` as moving.
@@ -430,22 +447,24 @@ impl Machine {
         self.moving.set(i, true);
     }
 
-    /// Whoever is ready and not held finishes an action. Who was ready is due.
-    fn advance<P: ProgramView>(&mut self, program: &P, held: &[bool]) -> Tick
+    /// Whoever is ready and not held finishes an action, and is due. Answers also how many were ready.
+    fn advance<P: ProgramView>(&mut self, program: &P, held: &[bool]) -> (Tick, u16)
         requires runs { Runs (P.program program.now) self.old }
         requires held { length held.now ≡ length (P.program program.now) }
         ensures after { self.new ≡ record self.old {
           configuration = tick (P.program program.now) (flag_of held.now) self.old.configuration;
           moving = moving_flags (P.program program.now) (flag_of held.now) self.old.configuration;
-          due = self.old.ready;
+          due = moving_flags (P.program program.now) (flag_of held.now) self.old.configuration;
         } }
-        ensures moved { result.moved
+        ensures moved { result.0.moved
             ≡ moved_in (P.program program.now) (flag_of held.now) self.old.configuration }
-        ensures held { result.ready_held
+        ensures held { result.0.ready_held
             ≡ is_ready_held (P.program program.now) (flag_of held.now) self.old.configuration }
+        ensures ready { result.1 ≡ ready_in (P.program program.now) self.old.configuration }
     {
         self.begin_tick();
         let mut moved = 0;
+        let mut ready = 0;
         let mut ready_held = false;
         let mut from = 0;
         while let Some(i) = self.next_ready(from) {
@@ -456,9 +475,11 @@ impl Machine {
                 self.flag_moving(i);
                 moved += 1;
             }
+            ready += 1;
             from = i + 1;
         }
-        Tick { moved, ready_held }
+        self.flag_due();
+        (Tick { moved, ready_held }, ready)
     }
 
     /// So many agents more have been looked at.
@@ -469,8 +490,18 @@ impl Machine {
         self.looked = self.looked.saturating_add(u64::from(agents));
     }
 
+    /// Takes all agents off the lists of those that a tick moved, and judges these and those. Answers how many they are.
+    fn settle<P: ProgramView>(&mut self, program: &P) -> u16
+        requires moved { (before : MachineState) × (held : ℕ → Bool) × HasMoved (P.program program.now) held before self.old }
+        ensures { (before : MachineState) → (held : ℕ → Bool) → HasMoved (P.program program.now) held before self.old
+            → IsSettled (P.program program.now) held before self.new result }
+    {
+        self.wake_all();
+        self.judge_due(program)
+    }
+
     /// One tick, in which the flagged agents are held. It looks at those that are ready, and at those in the list of an agent
-    /// that it moves. Who moves was judged before the tick.
+    /// that it moves. Who moves was judged before the tick, and who is ready and held stays ready.
     pub fn tick<P: ProgramView>(&mut self, program: &P, held: &[bool]) -> Tick
         requires runs { Runs (P.program program.now) self.old }
         requires held { length held.now ≡ length (P.program program.now) }
@@ -487,10 +518,57 @@ impl Machine {
             (awaiting_in (P.program program.now) (flag_of held.now) self.old.configuration)
             self.old.looked self.new.looked }
     {
-        let tick = self.advance(program, held);
-        self.wake_all();
-        let due = self.judge_due(program);
-        self.count_looked(due);
+        let (tick, ready) = self.advance(program, held);
+        let woken = self.settle(program) - tick.moved;
+        self.count_looked(ready + woken);
         tick
+    }
+
+    /// The flagged agents move, and are due, and nobody else.
+    fn choose(&mut self, flags: &[bool])
+        requires few { length flags.now ≤ MAX_AGENTS }
+        requires moving { length self.old.moving ≡ length flags.now }
+        requires due { length self.old.due ≡ length flags.now }
+        ensures { self.new ≡ record self.old { moving = flags.now; due = flags.now } }
+    {
+        self.moving.set_to(flags);
+        self.flag_due();
+    }
+
+    /// The agents that move, all of which are ready, finish their next actions.
+    fn move_all<P: ProgramView>(&mut self, program: &P)
+        requires well_formed { IsWellFormed (P.program program.now) }
+        requires agents { length self.old.configuration ≡ length (P.program program.now) }
+        requires moving { length self.old.moving ≡ length (P.program program.now) }
+        requires sent { AreSent (P.program program.now) self.old.configuration (flag_of self.old.moving) }
+        ensures { self.new ≡ record self.old {
+          configuration = tick (P.program program.now) (all_but (flag_of self.old.moving)) self.old.configuration;
+        } }
+    {
+        let mut from = 0;
+        while let Some(i) = self.next_moved(from) {
+            self.finish_action(program, i);
+            from = i + 1;
+        }
+    }
+
+    /// The flagged agents, all of which are ready, finish their next actions: one tick, in which all others are held. It looks at
+    /// those, and at the agents in their lists, and at no others.
+    pub fn carry_out<P: ProgramView>(&mut self, program: &P, done: &[bool])
+        requires runs { Runs (P.program program.now) self.old }
+        requires done { length done.now ≡ length (P.program program.now) }
+        requires sent { AreSent (P.program program.now) self.old.configuration (flag_of done.now) }
+        ensures runs { Runs (P.program program.now) self.new }
+        ensures after { self.new.configuration
+            ≡ tick (P.program program.now) (all_but (flag_of done.now)) self.old.configuration }
+        ensures moving { self.new.moving ≡ done.now }
+        ensures looked { LooksAt (moved_in (P.program program.now) (all_but (flag_of done.now)) self.old.configuration)
+            (awaiting_in (P.program program.now) (all_but (flag_of done.now)) self.old.configuration)
+            self.old.looked self.new.looked }
+    {
+        self.choose(done);
+        self.move_all(program);
+        let judged = self.settle(program);
+        self.count_looked(judged);
     }
 }

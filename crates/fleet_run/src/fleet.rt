@@ -18,9 +18,9 @@ ghost use Rattle.fleet_machine.specs.Looked.{ready_in, awaiting_in, LooksAt};
 ghost use Rattle.fleet_machine.specs.Machine.{flag_of};
 
 use crate::run::RunFault;
-use crate::source::{HoldSource, flip};
+use crate::source::HoldSource;
 use crate::trace::{Report, run_trace};
-use fleet_machine::{Machine, Tick};
+use fleet_machine::{AgentSet, Machine, Tick};
 use fleet_model::{MAX_AGENTS, Place, ProgramView, Step};
 use fleet_text::TraceOut;
 use fleet_verify::{Accepted, ready_moves_are_apart, runs_arrive, runs_end, ticks_are_safe};
@@ -108,27 +108,31 @@ impl<'g, P: ProgramView> Fleet<'g, P> {
     }
 
     /// The flagged agents have carried out their orders, and all others are still on their way or wait: a tick in which all others are
-    /// held. Where one of them had no order the first such agent is refused, and nothing changes. `done` has a flag for each agent, and
-    /// is overwritten. Takes no memory.
-    pub fn confirm(&mut self, done: &mut [bool]) -> Result<(), NotSent>
-        requires { length done.old ≡ length (P.program self.old.accepted.program) }
+    /// held. It looks at those that are flagged, and at no others but those that are not ready and await one of these. Where one of them
+    /// had no order the first such agent is refused, and nothing changes. `done` has a flag for each agent. Takes no memory.
+    pub fn confirm(&mut self, done: &[bool]) -> Result<(), NotSent>
+        requires { length done.now ≡ length (P.program self.old.accepted.program) }
         ensures accepted { self.new.accepted ≡ self.old.accepted }
         ensures after { OnOk result (self.new ≡ record self.old {
-          configuration = tick (P.program self.old.accepted.program) (all_but (flag_of done.old)) self.old.configuration;
+          configuration = tick (P.program self.old.accepted.program) (all_but (flag_of done.now)) self.old.configuration;
           looked = self.new.looked;
         }) }
         ensures looked { self.old.looked ≤ self.new.looked }
-        ensures sent { OnOk result (AreSent (P.program self.old.accepted.program) self.old.configuration (flag_of done.old)) }
+        ensures looks { OnOk result (LooksAt (moved_in (P.program self.old.accepted.program) (all_but (flag_of done.now)) self.old.configuration)
+            (awaiting_in (P.program self.old.accepted.program) (all_but (flag_of done.now)) self.old.configuration)
+            self.old.looked self.new.looked) }
+        ensures sent { OnOk result (AreSent (P.program self.old.accepted.program) self.old.configuration (flag_of done.now)) }
         // Who is not among them stays, and keeps its order.
-        ensures kept { OnOk result ((i : ℕ) → i < length (P.program self.old.accepted.program) → IsFalse (flag_of done.old i) → KeepsOrder (P.program self.old.accepted.program) self.old.configuration self.new.configuration i) }
-        ensures refused { IfErr result (λ e. IsFirstUnsent (P.program self.old.accepted.program) self.old.configuration (flag_of done.old) e.agent) }
+        ensures kept { OnOk result ((i : ℕ) → i < length (P.program self.old.accepted.program) → IsFalse (flag_of done.now i) → KeepsOrder (P.program self.old.accepted.program) self.old.configuration self.new.configuration i) }
+        ensures refused { IfErr result (λ e. IsFirstUnsent (P.program self.old.accepted.program) self.old.configuration (flag_of done.now) e.agent) }
         ensures unchanged { OnErr result (self.new ≡ self.old) }
     {
+        ticks_are_safe();
+        ready_moves_are_apart();
         if let Some(agent) = self.machine.first_unsent(self.accepted.program(), done) {
             return Err(NotSent { agent });
         }
-        flip(done);
-        self.tick(done);
+        self.machine.carry_out(self.accepted.program(), done);
         Ok(())
     }
 
@@ -170,6 +174,15 @@ impl<'g, P: ProgramView> Fleet<'g, P> {
         ensures { result ≡ is_ready (P.program self.now.accepted.program) self.now.configuration i }
     {
         self.machine.is_ready(self.accepted.program(), i)
+    }
+
+    /// The agents that have orders.
+    pub fn ready_agents(&self) -> &AgentSet
+        ensures agents { length result.now ≡ length (P.program self.now.accepted.program) }
+        ensures ready { (i : ℕ) → i < length (P.program self.now.accepted.program)
+            → flag_of result.now i ≡ is_ready (P.program self.now.accepted.program) self.now.configuration i }
+    {
+        self.machine.ready_agents(self.accepted.program())
     }
 
     /// The order that agent `i` may be given: the step of its next action, where it is ready. It stays the same until it is carried

@@ -38,15 +38,6 @@ pub fn clear(flags: &mut [bool])
     }
 }
 
-/// Turns each flag over.
-pub fn flip(flags: &mut [bool])
-    ensures { (i : ℕ) → i < length flags.old → flag_of flags.new i ≡ not (flag_of flags.old i) }
-{
-    for i in 0..flags.len() {
-        flags[i] = !flags[i];
-    }
-}
-
 /// Asks the source for its next tick, unless it has ended, and then no flag is set and none is written. Answers whether there was one.
 pub fn ask<S: HoldSource>(
     source: &mut S,

@@ -510,8 +510,7 @@ fn check_confirm(
     requires { length fleet.old.accepted.program ≡ 2 }
     ensures { fleet.new.accepted ≡ fleet.old.accepted }
 {
-    let mut done = done;
-    assert_eq!(rt; fleet.confirm(&mut done), answer);
+    assert_eq!(rt; fleet.confirm(&done), answer);
 }
 
 #[test]

@@ -8,8 +8,12 @@ abbrev pub invariant-loop-i : goal.invariant-loop-i
 invariant-loop-i g l =
     let p = g.P.ProgramView.program l.fleet.accepted.program in
     record {
-      low : 62 * l.i ≤ l.at;
+      low : 62 * l.end ≤ l.at;
       high : l.at ≤ 63488;
       row : length l.row ≡ 63488;
-      written : drop l.at l.row ≡ orders_but (flag_of l.sent) p l.fleet.configuration (range_with_len l.i (length p - l.i));
+      within : l.end ≤ length p;
+      written : drop l.at l.row ≡ orders_but (flag_of l.sent) p l.fleet.configuration (range_with_len l.end (length p - l.end));
     }
+
+abbrev pub decreases-loop-i : goal.decreases-loop-i
+decreases-loop-i g l = l.end

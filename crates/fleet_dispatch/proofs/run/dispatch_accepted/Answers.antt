@@ -1,4 +1,4 @@
-use Rattle.std.proofs.Common.{◌≡◌, ap, ◌∙◌}
+use Rattle.std.proofs.Common.{◌≡◌, ap}
 use Rattle.fleet_dispatch.proofs.Outcomes.{from_start}
 use Rattle.fleet_dispatch.proofs.run.dispatch_accepted.Goals as goal
 

@@ -1,5 +1,7 @@
-use Rattle.std.proofs.Common.{◌≡◌, ◌+◌, [], length, ap, sym, ◌∙◌, refl, arith, subst, Result, Err, Ok}
+use Rattle.std.proofs.Common.{◌≡◌, ◌+◌, [], false, length, ap, sym, ◌∙◌, refl, subst, Result, Err, Ok}
+use Rattle.std.proofs.lemmas.List.{length-replicate}
 use Rattle.std.specs.Result.{IsErrAnd}
+use Rattle.fleet_machine.proofs.Flags.{none_flagged}
 use Rattle.fleet_model.specs.Program.{Program, total_moves}
 use Rattle.fleet_model.specs.Machine.{Configuration}
 use Rattle.fleet_machine.specs.Machine.{flag_of}
@@ -28,14 +30,14 @@ reports-init g c =
     let p = g.P.ProgramView.program c.args.fleet.now.accepted.program in
     record {
       accepted = refl;
-      sent = c.clear.auto.flags ∙ c.requires.sent;
+      sent = ap length c.clear.ensures ∙ (length-replicate (length c.args.sent.now) false ∙ c.requires.sent);
       done = c.requires.done;
       row = c.requires.room;
       works = c.requires.floor;
       under_way = (
         [],
-        at_start p (g.F.Floor.talks c.args.floor.now c.args.floor.now) c.args.fleet.now.configuration (flag_of c.clear.new.flags) (g.met.F.Floor.silent c.args.floor.now) c.requires.opening
-            (λ i inside. c.clear.ensures i (let long = c.clear.auto.flags ∙ c.requires.sent in omega arith)),
+        at_start p (g.F.Floor.talks c.args.floor.now c.args.floor.now) c.args.fleet.now.configuration (flag_of c.clear.new.self) (g.met.F.Floor.silent c.args.floor.now) c.requires.opening
+            (λ i inside. ap (λ flags. flag_of flags i) c.clear.ensures ∙ none_flagged (length c.args.sent.now) i),
       );
     }
 
@@ -95,7 +97,7 @@ reports-preserved g c =
     (joins g c.args.floor.now c.tell_orders.new.floor c.take_report.new.floor) told (sym c.finished.ensures.finished ∙ c.if-finished.false) taken.1 in
     record {
       accepted = c.take_report.ensures.accepted ∙ c.reports.invariant.accepted;
-      sent = c.take_report.auto.sent ∙ c.tell_orders.auto.sent ∙ c.reports.invariant.sent ∙ ap length same;
+      sent = c.take_report.ensures.agents ∙ c.tell_orders.ensures.agents ∙ ap length same;
       done = c.take_report.auto.done ∙ c.reports.invariant.done ∙ ap length same;
       row = c.tell_orders.auto.row ∙ c.reports.invariant.row;
       works = taken.1.still;

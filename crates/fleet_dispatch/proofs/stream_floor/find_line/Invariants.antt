@@ -1,4 +1,4 @@
-use Rattle.std.proofs.Common.{◌≡◌, ◌-◌, length}
+use Rattle.std.proofs.Common.{◌-◌, length}
 use Rattle.std.specs.Io.KnownBytes.{prepend_known, Keeps}
 use Rattle.fleet_dispatch.specs.Window.{unpassed}
 use Rattle.fleet_dispatch.specs.declared.window.TheConstants.{LINE_ROOM}

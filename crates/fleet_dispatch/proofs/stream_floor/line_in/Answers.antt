@@ -1,4 +1,4 @@
-use Rattle.std.proofs.Common.{◌≡◌, ℕ, ◌+◌, ◌≤◌, ◌∙◌, sym, ap, subst, arith, drop, length, List, rules}
+use Rattle.std.proofs.Common.{ℕ, ◌+◌, ◌∙◌, sym, subst, arith, drop, length, List, rules}
 use Rattle.std.specs.Io.KnownBytes.{prepend_known}
 use Rattle.std.proofs.lemmas.List.Quantifiers.{position-Some}
 use Rattle.fleet_text.specs.Text.{is_lf}

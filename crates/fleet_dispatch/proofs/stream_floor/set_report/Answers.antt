@@ -1,4 +1,4 @@
-use Rattle.std.proofs.Common.{◌<◌, ◌^◌, arith}
+use Rattle.std.proofs.Common.{arith}
 use Rattle.fleet_dispatch.proofs.stream_floor.set_report.Goals as goal
 
 pub returns-then-set_tick : goal.returns-then-set_tick

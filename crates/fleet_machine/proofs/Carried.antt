@@ -1,0 +1,94 @@
+-- Agents that carry out their orders, one after another.
+use Rattle.std.proofs.Common.{◌≡◌, ◌≢◌, ◌<◌, ◌≤◌, ◌&&◌, ℕ, ◌+◌, Bool, true, false, List, [], length, set, refl, ap, sym, ◌∙◌, inl, inr, arith, get_or-set_same, get_or-set_other, length-set}
+use Rattle.std.proofs.lemmas.Bool.{cases_eq, cases_lt, cases_Bool}
+use Rattle.std.proofs.lemmas.List.FromFn.{fill_by_all}
+use Rattle.fleet_model.specs.declared.standing.Standing.{Standing}
+use Rattle.fleet_model.specs.Program.{Program, moves}
+use Rattle.fleet_model.specs.Machine.{Configuration, standing_at, count_at, is_ready, is_moving, standing_after, tick}
+use Rattle.fleet_machine.specs.AgentSet.{AreNoneFrom, IsNextFrom}
+use Rattle.fleet_machine.specs.Confirmed.{all_but, AreSent}
+use Rattle.fleet_machine.specs.Machine.{MachineState, Runs, flag_of, after_next, moving_flags}
+use Rattle.fleet_machine.specs.Waking.{HasMoved}
+use Rattle.fleet_machine.proofs.Advanced.{left_if_ready, after_move, stays}
+
+-- the flagged agents below n have moved, and all others stand where they stood
+pub record AreCarried (p : Program) (flags : List Bool) (old rows : Configuration) (n : ℕ) : Type 0 where
+  pub done : (k : ℕ) → k < n → standing_at rows k ≡ standing_after p (all_but (flag_of flags)) old k
+  pub rest : (k : ℕ) → n ≤ k → standing_at rows k ≡ standing_at old k
+  pub long : length rows ≡ length p
+
+pub none_carried : (p : Program) (done : List Bool) (old : Configuration) → length old ≡ length p → AreCarried p done old old 0
+none_carried p done old long = record { done = λ k lt. absurd (omega arith); rest = λ k ge. refl; long = long }
+
+module _ (p : Program) (done : List Bool) (old : Configuration) (sent : AreSent p old (flag_of done)) where
+  moves_if : (k : ℕ) → k < length p → flag_of done k ≡ true → is_moving p (all_but (flag_of done)) old k ≡ true
+  moves_if k agent flag = rw (sent k agent flag, flag) refl
+
+  stays_if : (k : ℕ) → flag_of done k ≡ false → is_moving p (all_but (flag_of done)) old k ≡ false
+  stays_if k flag = rw flag (and_no (is_ready p old k))
+    where
+      and_no : (b : Bool) → (b && false) ≡ false
+      and_no true = refl
+      and_no false = refl
+
+  -- those that are flagged are those that the tick moves
+  pub all_moving : length done ≡ length p → done ≡ moving_flags p (all_but (flag_of done)) old
+  all_moving long =
+      fill_by_all (is_moving p (all_but (flag_of done)) old) done (length p) false long
+      (λ k agent.
+      elim (cases_Bool (flag_of done k)) [
+        | inl flag ↦ flag ∙ sym (moves_if k agent flag)
+        | inr flag ↦ flag ∙ sym (stays_if k flag)
+      ])
+
+  module _ (rows : Configuration) (from : ℕ) (before : AreCarried p done old rows from) where
+    pub left_if_next : (i : ℕ) → i < length p → IsNextFrom done from i → count_at rows i < moves p i
+    left_if_next i agent next =
+        let left = left_if_ready p old i (sent i agent next.member) in
+        let same : count_at rows i ≡ count_at old i = ap (λ (s : Standing). s.count) (before.rest i next.later) in
+        omega arith
+
+    -- who is not flagged is passed over
+    passed : (k : ℕ) → from ≤ k → flag_of done k ≡ false → standing_at rows k ≡ standing_after p (all_but (flag_of done)) old k
+    passed k later flag = before.rest k later ∙ stays p (all_but (flag_of done)) old k (stays_if k flag)
+
+    pub one_carried : (i : ℕ) → i < length p → IsNextFrom done from i → AreCarried p done old (set rows i (after_next p rows i)) (i + 1)
+    one_carried i agent next =
+        let later = next.later in
+        let s = after_next p rows i in
+        let inside : i < length rows = omega (arith, before.long) in
+        record {
+          done = λ k lt. elim (cases_eq k i) [
+            | inl same ↦ rw same (get_or-set_same rows i s (standing_at [] 0) inside ∙ after_move p (all_but (flag_of done)) old rows i (moves_if i agent next.member) (before.rest i later))
+            | inr other ↦ get_or-set_other rows i k s (standing_at [] 0) other ∙ elim (cases_lt k from) [
+              | inl below ↦ before.done k below
+              | inr above ↦ passed k above (next.between k above (omega arith))
+            ]
+          ];
+          rest = λ k ge. let other : k ≢ i = omega arith in get_or-set_other rows i k s (standing_at [] 0) other ∙ before.rest k (omega arith);
+          long = length-set rows i s ∙ before.long;
+        }
+
+    pub all_carried : AreNoneFrom done from → rows ≡ tick p (all_but (flag_of done)) old
+    all_carried none =
+        fill_by_all (standing_after p (all_but (flag_of done)) old) rows (length p) (standing_at [] 0) before.long
+        (λ k agent.
+        elim (cases_lt k from) [
+          | inl below ↦ before.done k below
+          | inr above ↦ passed k above (none k above)
+        ])
+
+-- the flagged agents were chosen, and have moved
+pub chosen_moved : (p : Program) (done : List Bool) (old chosen moved : MachineState) → Runs p old → AreSent p old.configuration (flag_of done) → length done ≡ length p
+    → chosen ≡ record old { moving = done; due = done }
+    → moved ≡ record chosen { configuration = tick p (all_but (flag_of chosen.moving)) chosen.configuration }
+    → HasMoved p (all_but (flag_of done)) old moved
+chosen_moved p done old chosen moved runs sent long choice moves =
+    record {
+      runs = runs;
+      same =
+          moves
+          ∙ (ap (λ (m : MachineState). record m { configuration = tick p (all_but (flag_of m.moving)) m.configuration }) choice
+          ∙ ap (λ (flags : List Bool). record old { configuration = tick p (all_but (flag_of done)) old.configuration; moving = flags; due = flags })
+          (all_moving p done old.configuration sent long));
+    }

@@ -1,0 +1,13 @@
+use Rattle.std.proofs.Common.{◌+◌, ◌-◌, ◌≤◌, length}
+use Rattle.fleet_machine.specs.AgentSet.{AreNoneIn}
+use Rattle.fleet_machine.proofs.agent_set.past_clear.Given as goal
+
+abbrev pub invariant-loop-at : goal.invariant-loop-at
+invariant-loop-at l = record {
+  later : l.from ≤ l.at;
+  within : l.at ≤ l.from + length l.flags;
+  clear : AreNoneIn l.flags l.from l.at;
+}
+
+abbrev pub decreases-loop-at : goal.decreases-loop-at
+decreases-loop-at l = l.from + length l.flags - l.at

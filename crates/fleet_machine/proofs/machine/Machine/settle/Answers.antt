@@ -1,0 +1,64 @@
+use Rattle.std.proofs.Common.{length, arith, sym, ◌∙◌, ap, subst}
+use Rattle.std.proofs.lemmas.List.FromFn.{length-map-range_with_len}
+use Rattle.fleet_model.specs.Machine.{is_moving}
+use Rattle.fleet_model.proofs.Tick.{length-tick}
+use Rattle.fleet_machine.specs.Machine.{MachineState, flag_of}
+use Rattle.fleet_machine.specs.Waking.{IsWoken}
+use Rattle.fleet_machine.proofs.Ticking.{configuration_woken, rows_woken, nowhere_if_due, settled}
+use Rattle.fleet_machine.proofs.machine.Machine.settle.Goals as goal
+
+pub wake_all-requires-clause-few : goal.wake_all-requires-clause-few
+wake_all-requires-clause-few g c =
+    let p = g.P.ProgramView.program c.args.program.now in
+    let h = c.requires.moved.2 in
+    let moving = length-map-range_with_len (is_moving p c.requires.moved.1 c.requires.moved.0.configuration) 0 (length p) in
+    omega (arith, ap (λ (m : MachineState). length m.moving) h.same, h.runs.well_formed.few_agents)
+
+pub wake_all-requires-clause-lists : goal.wake_all-requires-clause-lists
+wake_all-requires-clause-lists g c =
+    let p = g.P.ProgramView.program c.args.program.now in
+    let h = c.requires.moved.2 in
+    let moving = length-map-range_with_len (is_moving p c.requires.moved.1 c.requires.moved.0.configuration) 0 (length p) in
+    rw h.same (h.runs.rows.lists ∙ sym moving)
+
+pub wake_all-requires-clause-due : goal.wake_all-requires-clause-due
+wake_all-requires-clause-due g c =
+    let p = g.P.ProgramView.program c.args.program.now in
+    let h = c.requires.moved.2 in
+    let moving = length-map-range_with_len (is_moving p c.requires.moved.1 c.requires.moved.0.configuration) 0 (length p) in
+    rw h.same (moving ∙ sym h.runs.rows.homes)
+
+pub judge_due-requires-clause-agents : goal.judge_due-requires-clause-agents
+judge_due-requires-clause-agents g c =
+    let p = g.P.ProgramView.program c.args.program.now in
+    let before = c.requires.moved.0 in
+    let held = c.requires.moved.1 in
+    let h = c.requires.moved.2 in
+    let woken = c.wake_all.new.self in
+    let wakes = subst (λ (a : MachineState). IsWoken (flag_of a.moving) a woken) h.same c.wake_all.ensures in
+    ap length (configuration_woken p held before h.runs woken wakes) ∙ length-tick p held before.configuration
+
+pub judge_due-requires-clause-rows : goal.judge_due-requires-clause-rows
+judge_due-requires-clause-rows g c =
+    let p = g.P.ProgramView.program c.args.program.now in
+    let h = c.requires.moved.2 in
+    let woken = c.wake_all.new.self in
+    let wakes = subst (λ (a : MachineState). IsWoken (flag_of a.moving) a woken) h.same c.wake_all.ensures in
+    rows_woken p c.requires.moved.1 c.requires.moved.0 h.runs woken wakes
+
+pub judge_due-requires-clause-nowhere : goal.judge_due-requires-clause-nowhere
+judge_due-requires-clause-nowhere g c =
+    let p = g.P.ProgramView.program c.args.program.now in
+    let h = c.requires.moved.2 in
+    let woken = c.wake_all.new.self in
+    let wakes = subst (λ (a : MachineState). IsWoken (flag_of a.moving) a woken) h.same c.wake_all.ensures in
+    nowhere_if_due p c.requires.moved.1 c.requires.moved.0 h.runs woken wakes
+
+pub returns : goal.returns
+returns g c =
+    λ before held h.
+    let p = g.P.ProgramView.program c.args.program.now in
+    let woken = c.wake_all.new.self in
+    let wakes = subst (λ (a : MachineState). IsWoken (flag_of a.moving) a woken) h.same c.wake_all.ensures in
+    let judged = c.judge_due.ensures in
+    settled p held before h.runs woken wakes c.judge_due.new.self judged.same judged.rows judged.judged judged.others c.judge_due.result judged.count

@@ -225,35 +225,53 @@ pub fn scen_fault(
 ) -> Result<Option<ScenFault>, Fail> {
     match read_scen(alloc, text, grid, None) {
         Ok(instance) => {
-            let written = scen_text(alloc, grid, &instance)?;
-            assert_eq!(rt;
-                plain_scen(alloc, text)?.as_str(),
-                written.as_str(),
-                "{text:?}"
-            );
-            assert!(rt; is_possible(grid, &instance), "{text:?}");
-            for again in [text, written.as_bytes()] {
-                let asked = read_scen(alloc, again, grid, Some(instance.agents()))?;
-                let asked = scen_text(alloc, grid, &asked)?;
-                assert_eq!(rt; asked.as_str(), written.as_str(), "{text:?}");
-            }
+            check_scen(rt, alloc, text, grid, &instance)?;
             Ok(None)
         }
         Err(fault) => {
-            assert!(rt; fault != ScenFault::OutOfMemory);
-            if let Some(line) = line_of(fault) {
-                let again = read_scen(alloc, front_of(text, line), grid, None).err();
-                assert_eq!(rt; again, Some(fault), "{text:?}");
-                let before = front_of(text, line.saturating_sub(1));
-                let before = read_scen(alloc, before, grid, None).err();
-                assert!(rt;
-                    matches!(before, None | Some(ScenFault::NoAgents)),
-                    "{text:?}"
-                );
-            }
+            check_scen_fault(rt, alloc, text, grid, fault);
             Ok(Some(fault))
         }
     }
+}
+
+/// The tasks are those that the text spells, and what they are written as is read as them again.
+fn check_scen(
+    rt: &impl Abort,
+    alloc: Global,
+    text: &[u8],
+    grid: &Grid,
+    instance: &Instance,
+) -> Result<(), Fail> {
+    let written = scen_text(alloc, grid, instance)?;
+    assert_eq!(rt;
+        plain_scen(alloc, text)?.as_str(),
+        written.as_str(),
+        "{text:?}"
+    );
+    assert!(rt; is_possible(grid, instance), "{text:?}");
+    for again in [text, written.as_bytes()] {
+        let asked = read_scen(alloc, again, grid, Some(instance.agents()))?;
+        let asked = scen_text(alloc, grid, &asked)?;
+        assert_eq!(rt; asked.as_str(), written.as_str(), "{text:?}");
+    }
+    Ok(())
+}
+
+/// The text up to the line of the fault has the same fault, and the text before it has none but that no agents are there.
+fn check_scen_fault(rt: &impl Abort, alloc: Global, text: &[u8], grid: &Grid, fault: ScenFault) {
+    assert!(rt; fault != ScenFault::OutOfMemory);
+    let Some(line) = line_of(fault) else {
+        return;
+    };
+    let again = read_scen(alloc, front_of(text, line), grid, None).err();
+    assert_eq!(rt; again, Some(fault), "{text:?}");
+    let before = front_of(text, line.saturating_sub(1));
+    let before = read_scen(alloc, before, grid, None).err();
+    assert!(rt;
+        matches!(before, None | Some(ScenFault::NoAgents)),
+        "{text:?}"
+    );
 }
 
 // ---- plans
@@ -392,27 +410,39 @@ fn hex_of(alloc: Global, bytes: &[u8]) -> Result<String, AllocError> {
 pub fn hex_fault(rt: &impl Abort, alloc: Global, text: &[u8]) -> Result<Option<HexFault>, Fail> {
     match read_hex(alloc, text) {
         Ok(bytes) => {
-            let written = hex_of(alloc, &bytes)?;
-            assert_eq!(rt;
-                written.as_str(),
-                plain_hex(alloc, text)?.as_str(),
-                "{text:?}"
-            );
-            let again = read_hex(alloc, written.as_bytes())?;
-            assert_eq!(rt; again.as_slice(), bytes.as_slice(), "{text:?}");
+            check_hex(rt, alloc, text, &bytes)?;
             Ok(None)
         }
         Err(fault) => {
-            assert!(rt; fault != HexFault::OutOfMemory);
-            if let HexFault::Digit { at } = fault {
-                let again = read_hex(alloc, bytes_of(text, at.saturating_add(1))).err();
-                assert_eq!(rt; again, Some(fault), "{text:?}");
-                let before = read_hex(alloc, bytes_of(text, at)).err();
-                assert!(rt; matches!(before, None | Some(HexFault::Odd)), "{text:?}");
-            }
+            check_hex_fault(rt, alloc, text, fault);
             Ok(Some(fault))
         }
     }
+}
+
+/// The bytes are those that the text spells, and what they are written as is read as them again.
+fn check_hex(rt: &impl Abort, alloc: Global, text: &[u8], bytes: &[u8]) -> Result<(), Fail> {
+    let written = hex_of(alloc, bytes)?;
+    assert_eq!(rt;
+        written.as_str(),
+        plain_hex(alloc, text)?.as_str(),
+        "{text:?}"
+    );
+    let again = read_hex(alloc, written.as_bytes())?;
+    assert_eq!(rt; again.as_slice(), bytes, "{text:?}");
+    Ok(())
+}
+
+/// The text up to a wrong digit has the same fault, and the text before it has none but that a digit is missing.
+fn check_hex_fault(rt: &impl Abort, alloc: Global, text: &[u8], fault: HexFault) {
+    assert!(rt; fault != HexFault::OutOfMemory);
+    let HexFault::Digit { at } = fault else {
+        return;
+    };
+    let again = read_hex(alloc, bytes_of(text, at.saturating_add(1))).err();
+    assert_eq!(rt; again, Some(fault), "{text:?}");
+    let before = read_hex(alloc, bytes_of(text, at)).err();
+    assert!(rt; matches!(before, None | Some(HexFault::Odd)), "{text:?}");
 }
 
 // ---- holds

@@ -23,7 +23,7 @@ use Rattle.fleet_rows.specs.Takers.{IsTicked}
 use Rattle.fleet_rows.specs.declared.columns.Columns.{Columns}
 use Rattle.fleet_rows.specs.declared.block.Block.{Block}
 use Rattle.fleet_rows.specs.declared.implied_pass.ImpliedPass.{ImpliedPass}
-use Rattle.fleet_rows.specs.Implied.{IsTold, AreOthers, AreFlagged, AreToldOf, AreLeft, IsFlaggedTo, AreTold, first_await}
+use Rattle.fleet_rows.specs.Implied.{IsTold, AreOthers, AreFlagged, AreToldOf, AreLeft, IsFlaggedTo, AreAllTold, first_await}
 use Rattle.fleet_rows.specs.Settled.{AreSettled}
 use Rattle.fleet_rows.proofs.Implying.{told}
 use Rattle.fleet_rows.proofs.Placed.{before_next, rising_to}
@@ -254,7 +254,7 @@ told_to p asked from columns h old new here left settled before a is k w at l = 
     ])
 
 -- where nobody is asked for all are told
-pub told_if_none : (p : Program) (asked flags : List Bool) → ((j : ℕ) → get_or asked j false ≡ false) → AreSettled p asked flags → AreTold p flags
+pub told_if_none : (p : Program) (asked flags : List Bool) → ((j : ℕ) → get_or asked j false ≡ false) → AreSettled p asked flags → AreAllTold p flags
 told_if_none p asked flags none settled a is k w at = elim (settled a is k w at) [ inr was ↦ was | inl set ↦ absurd (unset (sym (none w.agent) ∙ set)) ]
   where
     unset : false ≡ true → ⊥

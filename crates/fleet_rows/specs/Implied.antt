@@ -88,12 +88,12 @@ pub record IsFlaggedTo (p : Program) (b : Block) (Done : ActionId → Type 0) (f
   pub told : AreToldOf p b.columns Done flags
 
 -- the flags of all awaits of the program tell it
-abbrev pub AreTold : Program → List Bool → Type 0
-AreTold p flags =
+abbrev pub AreAllTold : Program → List Bool → Type 0
+AreAllTold p flags =
     (a : ActionId) → IsAction p a → (k : ℕ) (w : Await) → slice_get (awaits_of p a.agent a.number) k ≡ Some w → IsTold p a w (get_or flags (first_await p a + k) false)
 
 -- of each await of the program it is known whether it is implied
 pub record AreImplied (p : Program) (m : ImpliedAwaits) : Type 0 where
   pub places : AreAwaitPlaces p m.places
   pub all : length m.flags.items ≡ total_awaits p
-  pub told : AreTold p m.flags.items
+  pub told : AreAllTold p m.flags.items

@@ -6,7 +6,7 @@ ghost use Rattle.fleet_model.specs.Program.{AreInRange, awaits_of, total_awaits}
 ghost use Rattle.fleet_model.specs.Machine.{IsFinish};
 ghost use Rattle.fleet_model.specs.Chain.{IsAction};
 ghost use Rattle.fleet_rows.specs.Block.{AreBlock};
-ghost use Rattle.fleet_rows.specs.Implied.{IsImplied, AreAwaitPlaces, AreImplied, AreTold};
+ghost use Rattle.fleet_rows.specs.Implied.{IsImplied, AreAwaitPlaces, AreImplied, AreAllTold};
 ghost use Rattle.fleet_rows.specs.Settled.{AreSettled};
 
 use crate::await_places::AwaitPlaces;
@@ -80,7 +80,7 @@ fn tell_all<P: ProgramView>(
     requires awaits { AreAwaitPlaces (P.program program.now) awaits.now }
     requires finish { IsFinish (P.program program.now) [] ticks }
     requires flags { length flags.old ≡ total_awaits (P.program program.now) }
-    ensures { OnOk result (AreTold (P.program program.now) flags.new) }
+    ensures { OnOk result (AreAllTold (P.program program.now) flags.new) }
 {
     let asked = settle_all(alloc, program, ticks, awaits, flags)?;
     if !is_any(&asked) {
@@ -106,7 +106,7 @@ fn flag_all<P: ProgramView>(
     requires flags { length flags.old ≡ total_awaits (P.program program.now) }
     requires asked { length asked.now ≡ length (P.program program.now) }
     requires settled { AreSettled (P.program program.now) asked.now flags.old }
-    ensures { OnOk result (AreTold (P.program program.now) flags.new) }
+    ensures { OnOk result (AreAllTold (P.program program.now) flags.new) }
 {
     let mut block = block;
     let most = columns_at_once(&block);

@@ -10,5 +10,5 @@ returns-clause-looks g c =
     let held = all_but (flag_of c.args.done.now) in
     let before = c.self.inside.machine.configuration in
     let looks = subst (λ q. LooksAt (moved_in (g.P.ProgramView.program q) held before) (awaiting_in (g.P.ProgramView.program q) held before) c.self.inside.machine.looked c.carry_out.new.self.looked)
-        c.program-2.ensures.program c.carry_out.ensures.looked in
+    c.program-2.ensures.program c.carry_out.ensures.looked in
     rw (← c.self.view_is) looks

@@ -1,20 +1,22 @@
 //! The compiler of plans.
 
-ghost use Rattle.std.specs.Prelude.{◌≡◌, IfOk, length, map};
+ghost use Rattle.std.specs.Prelude.{◌≡◌, ◌++◌, IfOk, length, map, replicate};
 ghost use Rattle.fleet_model.specs.Program.{NeverStays};
 ghost use Rattle.fleet_model.specs.Accepted.{IsAccepted};
 ghost use Rattle.fleet_model.specs.Answer.{IsDueUnless};
 ghost use Rattle.fleet_grid.specs.Ground.{is_passable};
 ghost use Rattle.fleet_model.specs.Machine.{indices};
 ghost use Rattle.fleet_model.specs.declared.deps.Deps.{Deps};
-ghost use Rattle.fleet_adg.specs.Compiled.{moves_in_all, compiled, compiled_if_few, with_stays, compiled_staying, each_has_few, all_have_few, has_few_actions, compiled_staying_if_few};
+ghost use Rattle.fleet_adg.specs.Compiled.{moves_in_all, compiled, compiled_if_few, stay, with_stays, compiled_staying, each_has_few, all_have_few, has_few_actions, compiled_staying_if_few};
 ghost use Rattle.fleet_chains.specs.Reduced.{RunEqually};
 ghost use Rattle.fleet_adg.specs.Sweep.{agent_from};
 
-use crate::action_list::ActionList;
 use crate::fault::CompileFault;
 use crate::sweep::{actions_of, moves_of};
-use fleet_model::{AgentProgram, Deps, MAX_MOVES, MAX_MOVES_IN_ALL, OutOfMemory, Program};
+use fleet_model::{
+    Action, Actions, AgentProgram, Awaits, Deps, MAX_MOVES, MAX_MOVES_IN_ALL, OutOfMemory, Program,
+    Step,
+};
 use fleet_plan::{Checked, Plan};
 use std::alloc::Global;
 
@@ -104,7 +106,7 @@ fn moves_of_all(plan: &Plan) -> u32
 fn agent_programs(
     alloc: Global,
     plan: &Plan,
-    actions: Vec<ActionList>,
+    actions: Vec<Actions>,
     stays: u32,
 ) -> Result<Vec<AgentProgram>, OutOfMemory>
     requires { length actions.items ≡ length plan.now }
@@ -117,8 +119,23 @@ fn agent_programs(
         let i = agents.len() as u16;
         let start = plan.cell(i, 0);
         let goal = plan.cell(i, end);
-        let own = list.into_vec_with_stays(alloc, stays)?;
+        let own = with_stays(alloc, list, stays)?;
         agents.push(AgentProgram::new(start, goal, own))?;
     }
     Ok(agents)
+}
+
+/// These actions, and then so many stays that await nobody.
+fn with_stays(alloc: Global, list: Actions, stays: u32) -> Result<Actions, OutOfMemory>
+    ensures { IfOk result (λ actions. actions ≡ list ++ replicate stays stay) }
+{
+    let mut actions = list;
+    actions.reserve_exact(stays as usize, 0)?;
+    for _ in 0..stays {
+        actions.push(Action {
+            step: Step::Dwell,
+            awaits: Awaits::new(alloc),
+        })?;
+    }
+    Ok(actions)
 }

@@ -1,7 +1,6 @@
 //! Programs made from plans.
 #![tactic(auto)]
 
-mod action_list;
 mod compiler;
 mod fault;
 mod laws;

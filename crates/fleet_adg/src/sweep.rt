@@ -8,10 +8,9 @@ ghost use Rattle.fleet_adg.specs.Compiled.{direction, changes_in, moves_by};
 ghost use Rattle.fleet_adg.specs.Leavings.{kind_of, AreLeavingsAt};
 ghost use Rattle.fleet_adg.specs.Sweep.{is_under_way, under_way, all_actions_by, IsOnMap};
 
-use crate::action_list::ActionList;
 use crate::leavings::{Leaving, Leavings};
 use fleet_grid::{Grid, cells_have_places_of_their_own};
-use fleet_model::{Action, Cell, Deps, Dir, OutOfMemory, Step};
+use fleet_model::{Action, Actions, Cell, Deps, Dir, OutOfMemory, Step};
 use fleet_plan::{Checked, Plan};
 use std::alloc::{AllocError, Global};
 
@@ -20,14 +19,14 @@ pub(crate) fn actions_of(
     alloc: Global,
     checked: &Checked<'_>,
     deps: Deps,
-) -> Result<Vec<ActionList>, OutOfMemory>
+) -> Result<Vec<Actions>, OutOfMemory>
     ensures { IfOk result (λ actions. actions.items ≡ all_actions_by checked.now.plan deps (steps checked.now.plan)) }
 {
     let plan = checked.plan();
     let grid = checked.grid();
     cells_are_on_map(checked);
     let mut leavings = Leavings::none(alloc, deps);
-    let mut actions = empty_lists(alloc, plan)?;
+    let mut actions = empty_lists(alloc, plan, deps)?;
     let mut agents = agents_of(alloc, plan.agents())?;
     for time in 0..plan.steps() {
         keep_under_way(&mut agents, plan, time);
@@ -46,15 +45,27 @@ fn cells_are_on_map(checked: &Checked<'_>)
     let _width = checked.grid().width();
 }
 
-/// For each agent no action, and room for its moves.
-fn empty_lists(alloc: Global, plan: &Plan) -> Result<Vec<ActionList>, AllocError>
+/// For each agent no action, and room for its moves, and for their awaits where each has at most one.
+fn empty_lists(alloc: Global, plan: &Plan, deps: Deps) -> Result<Vec<Actions>, OutOfMemory>
     ensures { IfOk result (λ actions. actions.items ≡ replicate (length plan.now) []) }
 {
     let mut lists = Vec::with_capacity(alloc, usize::from(plan.agents()))?;
     for i in 0..plan.agents() {
-        lists.push(ActionList::with_capacity(alloc, moves_of(plan, i) as usize)?)?;
+        lists.push(empty_list(alloc, moves_of(plan, i) as usize, deps)?)?;
     }
     Ok(lists)
+}
+
+fn empty_list(alloc: Global, moves: usize, deps: Deps) -> Result<Actions, OutOfMemory>
+    ensures { IfOk result (λ actions. actions ≡ []) }
+{
+    let awaits = match deps {
+        Deps::All => 0,
+        Deps::Last => moves,
+    };
+    let mut actions = Actions::new(alloc);
+    actions.reserve_exact(moves, awaits)?;
+    Ok(actions)
 }
 
 /// How many moves agent `i` makes.
@@ -117,7 +128,7 @@ fn note_leavings(
     grid: &Grid,
     time: u32,
     agents: &[u16],
-    actions: &[ActionList],
+    actions: &[Actions],
     leavings: &mut Leavings,
 ) -> Result<(), AllocError>
     requires on_map { IsOnMap grid.now plan.now }
@@ -146,7 +157,7 @@ fn add_actions(
     time: u32,
     agents: &[u16],
     leavings: &Leavings,
-    actions: &mut [ActionList],
+    actions: &mut [Actions],
 ) -> Result<(), OutOfMemory>
     requires on_map { IsOnMap grid.now plan.now }
     requires time { time ≤ MAX_HORIZON }

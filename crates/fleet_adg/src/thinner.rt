@@ -10,7 +10,9 @@ ghost use Rattle.fleet_chains.specs.Reduced.{IsThinned, RunEqually};
 ghost use Rattle.fleet_adg.specs.Thinned.{AreUnimplied, IsThinnedAction, AreThinnedActions, IsThinnedAgent, AreThinnedAgents};
 
 use crate::thin_fault::ThinFault;
-use fleet_model::{Action, ActionId, AgentProgram, Awaits, OutOfMemory, Program, ProgramView};
+use fleet_model::{
+    Action, ActionId, Actions, AgentProgram, Awaits, OutOfMemory, Program, ProgramView,
+};
 use fleet_rows::{ImpliedAwaits, implied_awaits};
 use fleet_verify::Accepted;
 use std::alloc::Global;
@@ -75,13 +77,14 @@ fn thinned_actions<P: ProgramView>(
     program: &P,
     implied: &ImpliedAwaits,
     i: u16,
-) -> Result<Vec<Action>, OutOfMemory>
+) -> Result<Actions, OutOfMemory>
     requires implied { AreImplied (P.program program.now) implied.now }
     requires agent { i < length (P.program program.now) }
-    ensures { IfOk result (λ v. AreThinnedActions (P.program program.now) i (moves (P.program program.now) i) v.items) }
+    ensures { IfOk result (AreThinnedActions (P.program program.now) i (moves (P.program program.now) i)) }
 {
     let count = program.moves(i);
-    let mut actions = Vec::with_capacity(alloc, count as usize)?;
+    let mut actions = Actions::new(alloc);
+    actions.reserve_exact(count as usize, 0)?;
     for finished in 0..count {
         let action = ActionId {
             agent: i,

@@ -1,7 +1,8 @@
 //! The command `compile`.
 
-ghost use Rattle.std.specs.Prelude.{◌≡◌, IfOk, IfErr, MatchResult};
+ghost use Rattle.std.specs.Prelude.{◌≡◌, ℕ, List, IfOk, IfErr, MatchResult};
 ghost use Rattle.fleet_text.specs.Sink.{IsWorking};
+ghost use Rattle.fleet_code.specs.Spelling.{Spells};
 ghost use Rattle.fleet_files.specs.Files.{IsKept};
 ghost use Rattle.fleet_cli.specs.Output.{WritesOut, IsOutRefusal};
 ghost use Rattle.fleet_cli.specs.CompileCommand.{CompilesTexts, IsCompileFault, compiled_text, CompilesFiles, IsCompileRefusal, DoesCompile, RefusesCompile};
@@ -24,32 +25,49 @@ struct Compiled {
     bytes: Vec<u8>,
 }
 
-/// The program, as it is asked for, of the plan for which the texts stand.
+/// The program, as it is asked for, of the plan for which the texts stand. The text of the plan is let go once it is read.
+fn compiled_program<'a>(
+    alloc: Global,
+    map: &[u8],
+    scen: &[u8],
+    plan: Vec<u8>,
+    request: &CompileRequest<'_>,
+) -> Result<Program, Fault<'a>>
+    ensures compiled { IfOk result (λ p. (bytes : List ℕ) → Spells bytes p → CompilesTexts map.now scen.now plan.items
+        request.now.agents request.now.deps request.now.dwell p bytes) }
+    ensures fault { IfErr result (IsCompileFault map.now scen.now plan.items
+        request.now.agents request.now.deps request.now.dwell) }
+{
+    let problem = read_problem(alloc, map, scen, request.agents)?;
+    let read = match read_plan(alloc, &plan) {
+        Ok(read) => read,
+        Err(fault) => return Err(Fault::Text(fault)),
+    };
+    drop(plan);
+    let checked = match check(alloc, read, &problem.grid, &problem.instance) {
+        Ok(checked) => checked,
+        Err(refusal) => return Err(Fault::Check(refusal.fault)),
+    };
+    match compile_dwell(alloc, &checked, request.deps, request.dwell) {
+        Ok(program) => Ok(program),
+        Err(fault) => Err(Fault::Compile(fault)),
+    }
+}
+
+/// The program, and the bytes that spell it. The plan is let go before the bytes are made.
 fn compile_texts<'a>(
     alloc: Global,
     map: &[u8],
     scen: &[u8],
-    plan: &[u8],
+    plan: Vec<u8>,
     request: &CompileRequest<'_>,
 ) -> Result<Compiled, Fault<'a>>
-    ensures compiled { IfOk result (λ c. CompilesTexts map.now scen.now plan.now
+    ensures compiled { IfOk result (λ c. CompilesTexts map.now scen.now plan.items
         request.now.agents request.now.deps request.now.dwell c.program c.bytes.items) }
-    ensures fault { IfErr result (IsCompileFault map.now scen.now plan.now
+    ensures fault { IfErr result (IsCompileFault map.now scen.now plan.items
         request.now.agents request.now.deps request.now.dwell) }
 {
-    let problem = read_problem(alloc, map, scen, request.agents)?;
-    let plan = match read_plan(alloc, plan) {
-        Ok(plan) => plan,
-        Err(fault) => return Err(Fault::Text(fault)),
-    };
-    let checked = match check(alloc, plan, &problem.grid, &problem.instance) {
-        Ok(checked) => checked,
-        Err(refusal) => return Err(Fault::Check(refusal.fault)),
-    };
-    let program = match compile_dwell(alloc, &checked, request.deps, request.dwell) {
-        Ok(program) => program,
-        Err(fault) => return Err(Fault::Compile(fault)),
-    };
+    let program = compiled_program(alloc, map, scen, plan, request)?;
     let bytes = match encode_shortest(alloc, &program) {
         Ok(bytes) => bytes,
         Err(EncodeFault::OutOfMemory) => return Err(Fault::Memory),
@@ -69,8 +87,11 @@ fn compile_files<'a, F: Files>(
     ensures fault { IfErr result (IsCompileRefusal (F.contents files.old) request.now) }
     ensures kept { IsKept (F.contents files.old) (F.contents files.new) }
 {
-    let read = read_files(alloc, files, &[request.map, request.scen, request.plan])?;
-    let [map, scen, plan] = read.as_slice() else {
+    let mut read = read_files(alloc, files, &[request.map, request.scen, request.plan])?;
+    let Some(plan) = read.pop() else {
+        unreachable!()
+    };
+    let [map, scen] = read.as_slice() else {
         unreachable!()
     };
     compile_texts(alloc, map, scen, plan, request)

@@ -20,4 +20,4 @@ pub use memory::OutOfMemory;
 pub use program::{Action, ActionId, Actions, AgentProgram, Await, Awaits, Program, Visit};
 pub use standing::Standing;
 pub use task::Task;
-pub use view::{ProgramView, total_awaits, total_moves};
+pub use view::{ProgramView, agent_awaits, total_awaits, total_moves};

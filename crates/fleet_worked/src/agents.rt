@@ -3,7 +3,7 @@
 ghost use Rattle.std.specs.Prelude.{◌≡◌, [], ◌∷◌, IfOk};
 ghost use Rattle.fleet_worked.specs.Programs.{hasty_pair};
 
-use fleet_model::{Action, AgentProgram, Await, Awaits, Cell, Dir, OutOfMemory, Step};
+use fleet_model::{Action, Actions, AgentProgram, Await, Awaits, Cell, Dir, OutOfMemory, Step};
 use std::alloc::Global;
 
 /// An action that awaits nobody.
@@ -32,11 +32,11 @@ pub fn hasty_agents(alloc: Global) -> Result<Vec<AgentProgram>, OutOfMemory>
     ensures { IfOk result (λ agents. agents.items ≡ hasty_pair) }
 {
     let east = Step::Go(Dir::East);
-    let mut front = Vec::new(alloc);
+    let mut front = Actions::new(alloc);
     front.push(free(alloc, Step::Dwell))?;
     front.push(free(alloc, east))?;
     front.push(free(alloc, east))?;
-    let mut back = Vec::new(alloc);
+    let mut back = Actions::new(alloc);
     back.push(bound(alloc, east, 1)?)?;
     back.push(bound(alloc, east, 3)?)?;
     let mut agents = Vec::new(alloc);

@@ -53,7 +53,7 @@ loop-i-preserved c =
           (rw w.in-Some.ensures.cells.1 (c.requires.on_map.rows i (x + 1) below))
           w.direction-dir.ensures
           (rw w.cell_index.ensures.value at w.in_ok-awaits.ensures) in
-          w.actions-is ∙ ap (set rows w.from.result) w.in_ok-push.ensures ∙ ap (λ n. set rows n (get_or rows n found ++ action ∷ [])) w.from.ensures
+          w.actions-is ∙ ap (set rows w.from.result) w.in_ok-push.ensures.ok ∙ ap (λ n. set rows n (get_or rows n found ++ action ∷ [])) w.from.ensures
           ∙ row_grows plan deps x agents k i c.args.actions.now rows (get_or rows i found) action b e (sym w.in-Some.ensures.moves) within (get_or_default rows i found (get_or rows i found) within) this c.loop-i.invariant
       | in_default w ↦ w.actions-is ∙ row_stays plan deps x agents k i c.args.actions.now rows b e (sym w.in_default.ensures.moves) c.loop-i.invariant
     ]

@@ -1,0 +1,26 @@
+-- The actions of an agent as three rows: the step of each, after how many awaits each ends, and the awaits of all, one action after the other.
+use Rattle.std.specs.Prelude.{◌≡◌, ℕ, ◌-◌, ◌≤◌, List, [], ◌∷◌, length, slice_range}
+use Rattle.fleet_model.specs.declared.geometry.Step.{Step}
+use Rattle.fleet_model.specs.declared.program.Await.{Await}
+use Rattle.fleet_model.specs.declared.program.Action.{Action}
+
+-- the actions that have these steps, where so many awaits stand before those of the first
+abbrev pub actions_after : ℕ → List Step → List ℕ → List Await → List Action
+actions_after begin [] ends awaits = []
+actions_after begin (s ∷ steps) [] awaits = []
+actions_after begin (s ∷ steps) (e ∷ ends) awaits =
+    record { step = s; awaits = slice_range awaits begin e } ∷ actions_after e steps ends awaits
+
+-- the actions in these rows
+abbrev pub actions_in : List Step → List ℕ → List Await → List Action
+actions_in steps ends awaits = actions_after 0 steps ends awaits
+
+-- each end is at least the one before, of which the first is at least begin and the last is n
+abbrev pub RiseTo : ℕ → List ℕ → ℕ → Type 0
+RiseTo begin [] n = begin ≡ n
+RiseTo begin (e ∷ ends) n = (begin ≤ e) × RiseTo e ends n
+
+-- every step has an end, and the last action ends after all awaits
+pub record AreRows (steps : List Step) (ends : List ℕ) (awaits : List Await) : Type 0 where
+  pub count : length ends ≡ length steps
+  pub rising : RiseTo 0 ends (length awaits)

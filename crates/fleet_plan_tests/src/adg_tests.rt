@@ -113,12 +113,13 @@ fn text_of(rt: &impl Abort, alloc: Global, program: &Program) -> String {
     for agent in program.as_slice() {
         let (start, goal) = (agent.start, agent.goal);
         write!(text, "{},{} {},{}", start.x, start.y, goal.x, goal.y).expect(rt, "memory");
-        for action in agent.actions.as_slice() {
+        for k in 0..agent.actions.len() {
             text.push(' ').expect(rt, "memory");
-            for one in action.awaits.as_slice() {
+            for one in agent.actions.awaits(k) {
                 write!(text, "({}:{})", one.agent, one.count).expect(rt, "memory");
             }
-            text.push(letter(action.step)).expect(rt, "memory");
+            text.push(letter(agent.actions.step(k)))
+                .expect(rt, "memory");
         }
         text.push('\n').expect(rt, "memory");
     }

@@ -24,8 +24,9 @@ fn go(alloc: Global, dir: Dir, pairs: &[(u16, u32)]) -> Result<Action, OutOfMemo
 }
 
 /// So many moves to the east, without awaits.
-fn easts(alloc: Global, moves: u32) -> Result<Vec<Action>, OutOfMemory> {
-    let mut actions = Vec::with_capacity(alloc, moves as usize)?;
+fn easts(alloc: Global, moves: u32) -> Result<Actions, OutOfMemory> {
+    let mut actions = Actions::new(alloc);
+    actions.reserve_exact(moves as usize, 0)?;
     for _ in 0..moves {
         actions.push(go(alloc, Dir::East, &[])?)?;
     }
@@ -34,7 +35,7 @@ fn easts(alloc: Global, moves: u32) -> Result<Vec<Action>, OutOfMemory> {
 
 /// Agent 0 goes from 1,0 to 3,0, and agent 1 after it from 0,0 to 2,1, with these awaits in its last action.
 fn two_agents(alloc: Global, last: &[(u16, u32)]) -> Result<Vec<AgentProgram>, OutOfMemory> {
-    let mut second = Vec::new(alloc);
+    let mut second = Actions::new(alloc);
     second.push(go(alloc, Dir::East, &[(0, 1)])?)?;
     second.push(go(alloc, Dir::East, &[])?)?;
     second.push(go(alloc, Dir::South, last)?)?;
@@ -116,20 +117,25 @@ fn awaits_are_kept_in_order(rt: HostRuntime) -> Result<(), Fail> {
 
 #[test]
 fn actions_are_kept_in_order(rt: HostRuntime) -> Result<(), Fail> {
-    let mut list = Vec::new(rt.alloc());
-    list.push(go(rt.alloc(), Dir::North, &[(3, 4)])?)?;
-    list.push(Action {
+    let alloc = rt.alloc();
+    let mut actions = Actions::new(alloc);
+    actions.push(go(alloc, Dir::North, &[(3, 4)])?)?;
+    actions.push(Action {
         step: Step::Dwell,
-        awaits: awaits(rt.alloc(), &[])?,
+        awaits: awaits(alloc, &[])?,
     })?;
-    let actions = Actions::new(list);
-    let kept = actions.as_slice();
-    assert_eq!(rt; kept.len(), 2);
-    assert_eq!(rt; kept[0].step, Step::Go(Dir::North));
-    assert_eq!(rt; kept[0].awaits.as_slice().len(), 1);
-    assert_eq!(rt; kept[0].awaits.as_slice()[0], Await { agent: 3, count: 4 });
-    assert_eq!(rt; kept[1].step, Step::Dwell);
-    assert!(rt; kept[1].awaits.as_slice().is_empty());
+    actions.push(go(alloc, Dir::West, &[(1, 5), (3, 6), (4, 7)])?)?;
+    assert_eq!(rt; actions.len(), 3);
+    assert_eq!(rt; actions.step(0), Step::Go(Dir::North));
+    let first = actions.awaits(0);
+    assert_eq!(rt; first.len(), 1);
+    assert_eq!(rt; first[0], Await { agent: 3, count: 4 });
+    assert_eq!(rt; actions.step(1), Step::Dwell);
+    assert!(rt; actions.awaits(1).is_empty());
+    assert_eq!(rt; actions.step(2), Step::Go(Dir::West));
+    let last = actions.awaits(2);
+    assert_eq!(rt; last.len(), 3);
+    assert_eq!(rt; last[1], Await { agent: 3, count: 6 });
     Ok(())
 }
 

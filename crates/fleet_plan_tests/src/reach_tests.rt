@@ -3,8 +3,8 @@
 use fleet_adg::{Deps, compile};
 use fleet_grid::read_map;
 use fleet_model::{
-    Action, ActionId, AgentProgram, Await, Awaits, Cell, Dir, OutOfMemory, Program, ProgramView,
-    Step, well_formed,
+    Action, ActionId, Actions, AgentProgram, Await, Awaits, Cell, Dir, OutOfMemory, Program,
+    ProgramView, Step, well_formed,
 };
 use fleet_plan::check;
 use fleet_scen::read_scen;
@@ -23,7 +23,7 @@ type Agent<'a> = ((u16, u16), (u16, u16), &'a [Move<'a>]);
 fn program_of(rt: &impl Abort, alloc: Global, agents: &[Agent]) -> Result<Program, Fail> {
     let mut all = Vec::new(alloc);
     for &((x, y), (goal_x, goal_y), moves) in agents {
-        let mut actions = Vec::new(alloc);
+        let mut actions = Actions::new(alloc);
         for &(dir, pairs) in moves {
             let mut awaits = Awaits::new(alloc);
             for &(agent, count) in pairs {

@@ -2,7 +2,8 @@
 
 use fleet_grid::read_map;
 use fleet_model::{
-    Action, AgentProgram, Await, Awaits, Cell, Dir, OutOfMemory, Program, Step, Visit, well_formed,
+    Action, Actions, AgentProgram, Await, Awaits, Cell, Dir, OutOfMemory, Program, Step, Visit,
+    well_formed,
 };
 use fleet_scen::read_scen;
 use fleet_verify::{VerifyFault, join_rows, row_covers, verify};
@@ -64,7 +65,7 @@ fn relay_of(alloc: Global, agents: u16, free: u16) -> Result<Vec<AgentProgram>, 
             })?;
         }
         let (start, goal) = ends_of(k, agents);
-        let mut actions = Vec::new(alloc);
+        let mut actions = Actions::new(alloc);
         actions.push(Action {
             step: Step::Go(Dir::East),
             awaits,

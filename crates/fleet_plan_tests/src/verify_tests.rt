@@ -2,8 +2,8 @@
 
 use fleet_grid::{Grid, read_map};
 use fleet_model::{
-    Action, ActionId, AgentProgram, Await, Awaits, Cell, Dir, OutOfMemory, Program, ProgramView,
-    Step, Visit, well_formed,
+    Action, ActionId, Actions, AgentProgram, Await, Awaits, Cell, Dir, OutOfMemory, Program,
+    ProgramView, Step, Visit, well_formed,
 };
 use fleet_scen::{Instance, read_scen};
 use fleet_verify::{VerifyFault, verify};
@@ -27,8 +27,8 @@ const FOUR_CELLS: &[u8] = b"type octile\nheight 1\nwidth 4\nmap\n....\n";
 /// Agent 0 from 1,0 to 3,0 and agent 1 from 0,0 to 2,0.
 const TWO_AGENTS: &[u8] = b"version 1\n0 m 4 1 1 0 3 0 x\n0 m 4 1 0 0 2 0 x\n";
 
-fn actions_of(alloc: Global, moves: &[Move]) -> Result<Vec<Action>, OutOfMemory> {
-    let mut actions = Vec::new(alloc);
+fn actions_of(alloc: Global, moves: &[Move]) -> Result<Actions, OutOfMemory> {
+    let mut actions = Actions::new(alloc);
     for &(step, pairs) in moves {
         let mut awaits = Awaits::new(alloc);
         for &(agent, count) in pairs {

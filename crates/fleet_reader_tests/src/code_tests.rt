@@ -9,8 +9,8 @@ use fleet_code::{
 };
 use fleet_fixtures::worked::PAIR;
 use fleet_model::{
-    Action, AgentProgram, Await, Awaits, Cell, Dir, Program, ProgramView, Step, total_awaits,
-    total_moves, well_formed,
+    Action, Actions, AgentProgram, Await, Awaits, Cell, Dir, Program, ProgramView, Step,
+    total_awaits, total_moves, well_formed,
 };
 use std::alloc::{AllocError, Global};
 use std::process::Abort;
@@ -74,8 +74,8 @@ fn fault_at(
 }
 
 /// These steps in order, each with its await, if it has one.
-fn actions(alloc: Global, steps: &[(Step, Option<Await>)]) -> Result<Vec<Action>, Fail> {
-    let mut actions = Vec::new(alloc);
+fn actions(alloc: Global, steps: &[(Step, Option<Await>)]) -> Result<Actions, Fail> {
+    let mut actions = Actions::new(alloc);
     for &(step, one) in steps {
         let mut awaits = Awaits::new(alloc);
         if let Some(one) = one {

@@ -11,8 +11,8 @@ use fleet_fixtures::worked::{
 };
 use fleet_grid::{Grid, read_map};
 use fleet_model::{
-    Action, AgentProgram, Awaits, Cell, Dir, OutOfMemory, Place, Program, ProgramView, Step,
-    well_formed,
+    Action, Actions, AgentProgram, Awaits, Cell, Dir, OutOfMemory, Place, Program, ProgramView,
+    Step, well_formed,
 };
 use fleet_run::{
     Fleet, HoldList, HoldSource, HoldText, NotSent, Report, RunFault, SourceFault, Tick, TraceOut,
@@ -194,7 +194,7 @@ fn an_idle_fleet_asks_for_nothing(rt: HostRuntime) -> Result<(), Fail> {
 
 /// One agent that goes to and fro between 0,0 and 1,0, so many moves, and ends at this column.
 fn walker(alloc: Global, moves: u32, column: u16) -> Result<AgentProgram, Fail> {
-    let mut actions = Vec::new(alloc);
+    let mut actions = Actions::new(alloc);
     for n in 0..moves {
         actions.push(Action {
             step: Step::Go(if n % 2 == 0 { Dir::East } else { Dir::West }),
@@ -248,7 +248,7 @@ fn standing_program(alloc: Global, moves: u32) -> Result<Program, Fail> {
     let mut agents = vec![in alloc; walker(alloc, moves, 1)?]?;
     for column in 2..1025u16 {
         let cell = Cell { x: column, y: 0 };
-        agents.push(AgentProgram::new(cell, cell, Vec::new(alloc)))?;
+        agents.push(AgentProgram::new(cell, cell, Actions::new(alloc)))?;
     }
     program_of(agents)
 }

@@ -2,7 +2,8 @@
 
 use fleet_machine::Machine;
 use fleet_model::{
-    Action, AgentProgram, Await, Awaits, Cell, OutOfMemory, Program, ProgramView, Step, well_formed,
+    Action, Actions, AgentProgram, Await, Awaits, Cell, OutOfMemory, Program, ProgramView, Step,
+    well_formed,
 };
 use std::alloc::Global;
 use std::process::Abort;
@@ -25,7 +26,7 @@ fn stayers(alloc: Global, agents: &[&[&[(u16, u32)]]]) -> Result<Program, Fail> 
     let cell = Cell { x: 0, y: 0 };
     let mut list = Vec::new(alloc);
     for actions in agents {
-        let mut stays = Vec::new(alloc);
+        let mut stays = Actions::new(alloc);
         for awaits in *actions {
             stays.push(action(alloc, Step::Dwell, awaits)?)?;
         }

@@ -5,7 +5,8 @@ ghost use Rattle.std.specs.Prelude.{◌≡◌, length, IfOk};
 use fleet_fixtures::streams::{failing_source, short_out};
 use fleet_fixtures::worked::{LATE_TEXT, PAIR_TEXT};
 use fleet_model::{
-    Action, AgentProgram, Await, Awaits, Cell, Dir, OutOfMemory, Program, Step, well_formed,
+    Action, Actions, AgentProgram, Await, Awaits, Cell, Dir, OutOfMemory, Program, Step,
+    well_formed,
 };
 use fleet_run::{
     End, HoldList, HoldSource, HoldText, Rehearsal, RunFault, SourceFault, VecOut, rehearse,
@@ -32,7 +33,7 @@ fn walker(
     to: u16,
     steps: &[(Step, u32)],
 ) -> Result<AgentProgram, OutOfMemory> {
-    let mut actions = Vec::new(alloc);
+    let mut actions = Actions::new(alloc);
     for &(step, count) in steps {
         actions.push(action(alloc, step, count)?)?;
     }

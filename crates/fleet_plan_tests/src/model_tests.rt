@@ -127,13 +127,15 @@ fn actions_are_kept_in_order(rt: HostRuntime) -> Result<(), Fail> {
     actions.push(go(alloc, Dir::West, &[(1, 5), (3, 6), (4, 7)])?)?;
     assert_eq!(rt; actions.len(), 3);
     assert_eq!(rt; actions.step(0), Step::Go(Dir::North));
-    assert_eq!(rt; actions.awaits(0).len(), 1);
-    assert_eq!(rt; actions.awaits(0)[0], Await { agent: 3, count: 4 });
+    let first = actions.awaits(0);
+    assert_eq!(rt; first.len(), 1);
+    assert_eq!(rt; first[0], Await { agent: 3, count: 4 });
     assert_eq!(rt; actions.step(1), Step::Dwell);
     assert!(rt; actions.awaits(1).is_empty());
     assert_eq!(rt; actions.step(2), Step::Go(Dir::West));
-    assert_eq!(rt; actions.awaits(2).len(), 3);
-    assert_eq!(rt; actions.awaits(2)[1], Await { agent: 3, count: 6 });
+    let last = actions.awaits(2);
+    assert_eq!(rt; last.len(), 3);
+    assert_eq!(rt; last[1], Await { agent: 3, count: 6 });
     Ok(())
 }
 

@@ -15,7 +15,7 @@ use Rattle.fleet_model.specs.declared.task.Task.{Task}
 use Rattle.fleet_model.specs.Accepted.{IsAcceptedBy}
 use Rattle.fleet_plan.specs.Plan.{Plan, cell_of, steps, IsConflictFree}
 use Rattle.fleet_adg.specs.Compiled.{changes_in, changes, moves_by, entry_awaits, compiled}
-use Rattle.fleet_adg.proofs.Moves.{cell_of-end, moves_by-mono, move_once, time_of}
+use Rattle.fleet_adg.proofs.Moves.{cell_of-end, moves_by-mono, move_once, time_of_count}
 use Rattle.fleet_adg.proofs.Depth.{depth}
 use Rattle.fleet_adg.proofs.Follow.{ahead, depth_of-lt, depth_of-ahead}
 use Rattle.fleet_adg.proofs.Entry.{IsAwaitOf, entry-sound}
@@ -41,28 +41,28 @@ rank-positive : (n x d : ℕ) → 1 ≤ rank n x d
 unfolding rank
 rank-positive n x d = omega arith
 
-step_of : Plan → ActionId → ℕ
-step_of plan a = get_or (changes plan a.agent (steps plan)) (a.number - 1) 0
+action_step : Plan → ActionId → ℕ
+action_step plan a = get_or (changes plan a.agent (steps plan)) (a.number - 1) 0
 
-pub number_of : Plan → ActionId → ℕ
-number_of plan a = rank (length plan) (step_of plan a) (depth (ahead plan (step_of plan a)) (length plan) a.agent)
+pub action_number : Plan → ActionId → ℕ
+action_number plan a = rank (length plan) (action_step plan a) (depth (ahead plan (action_step plan a)) (length plan) a.agent)
 
-number_of-at : (plan : Plan) (a : ActionId) (x : ℕ) → step_of plan a ≡ x → number_of plan a ≡ rank (length plan) x (depth (ahead plan x) (length plan) a.agent)
-unfolding number_of
-number_of-at plan a x e = ap (λ z. rank (length plan) z (depth (ahead plan z) (length plan) a.agent)) e
+action_number-at : (plan : Plan) (a : ActionId) (x : ℕ) → action_step plan a ≡ x → action_number plan a ≡ rank (length plan) x (depth (ahead plan x) (length plan) a.agent)
+unfolding action_number
+action_number-at plan a x e = ap (λ z. rank (length plan) z (depth (ahead plan z) (length plan) a.agent)) e
 
 module _ (passable : Place → Bool) (tasks : List Task) (plan : Plan) (free : IsConflictFree passable tasks plan) (deps : Deps) where
   -- a move of another step, or that of the agent ahead in the same step
-  number-lt : (a b : ActionId) (x y : ℕ) → step_of plan a ≡ x → step_of plan b ≡ y → a.agent < length plan → b.agent < length plan → (y < x) ⊎ ((y ≡ x) × (changes_in plan a.agent x ≡ true) × (cell_of plan a.agent (suc x) ≡ cell_of plan b.agent x)) → number_of plan b < number_of plan a
+  number-lt : (a b : ActionId) (x y : ℕ) → action_step plan a ≡ x → action_step plan b ≡ y → a.agent < length plan → b.agent < length plan → (y < x) ⊎ ((y ≡ x) × (changes_in plan a.agent x ≡ true) × (cell_of plan a.agent (suc x) ≡ cell_of plan b.agent x)) → action_number plan b < action_number plan a
   number-lt a b x y ex ey ha hb (inl l) =
-      omega (arith, number_of-at plan a x ex, number_of-at plan b y ey, rank-step (length plan) x y (depth (ahead plan x) (length plan) a.agent) (depth (ahead plan y) (length plan) b.agent) l (depth_of-lt passable tasks plan free y b.agent hb))
+      omega (arith, action_number-at plan a x ex, action_number-at plan b y ey, rank-step (length plan) x y (depth (ahead plan x) (length plan) a.agent) (depth (ahead plan y) (length plan) b.agent) l (depth_of-lt passable tasks plan free y b.agent hb))
   number-lt a b x y ex ey ha hb (inr (e, c, there)) =
-      omega (arith, number_of-at plan a x ex, number_of-at plan b x (ey ∙ e), rank-depth (length plan) x (depth (ahead plan x) (length plan) a.agent) (depth (ahead plan x) (length plan) b.agent) (depth_of-ahead passable tasks plan free x a.agent b.agent ha hb c there))
+      omega (arith, action_number-at plan a x ex, action_number-at plan b x (ey ∙ e), rank-depth (length plan) x (depth (ahead plan x) (length plan) a.agent) (depth (ahead plan x) (length plan) b.agent) (depth_of-ahead passable tasks plan free x a.agent b.agent ha hb c there))
 
-  pub numbering : IsNumbering (compiled plan deps) (number_of plan)
-  unfolding step_of number_of
+  pub numbering : IsNumbering (compiled plan deps) (action_number plan)
+  unfolding action_step action_number
   numbering = record {
-    positive = λ a h. rank-positive (length plan) (step_of plan a) (depth (ahead plan (step_of plan a)) (length plan) a.agent);
+    positive = λ a h. rank-positive (length plan) (action_step plan a) (depth (ahead plan (action_step plan a)) (length plan) a.agent);
     rising = λ a b ha hb needs.
         let wa = action_in-number plan deps a.agent a.number ha.first ha.last in
         let wb = action_in-number plan deps b.agent b.number hb.first hb.last in
@@ -94,7 +94,7 @@ module _ (passable : Place → Bool) (tasks : List Task) (plan : Plan) (free : I
           (start_of-compiled plan deps i b ∙ w.0, goal_of-compiled plan deps i b ∙ cell_of-end plan i (steps plan) (omega arith) ∙ w.1);
       on_ground = λ i n l m.
           let b : i < length plan = omega (arith, length-compiled plan deps) in
-          let w = time_of plan i (steps plan) n (omega (arith, moves-compiled plan deps i b)) in
+          let w = time_of_count plan i (steps plan) n (omega (arith, moves-compiled plan deps i b)) in
           let here : path (compiled plan deps) i n ≡ place_of (cell_of plan i w.0) = ap (path (compiled plan deps) i) (sym w.2) ∙ path-compiled passable tasks plan free deps i w.0 b w.1 in
           subst (λ q. IsTrue (passable q)) (sym here) (free.on_ground i w.0 b);
       arrives = λ i l.
@@ -112,6 +112,6 @@ module _ (passable : Place → Bool) (tasks : List Task) (plan : Plan) (free : I
             }
       ];
     };
-    numbering = (number_of plan, numbering);
+    numbering = (action_number plan, numbering);
     orderly = compiled-orderly passable tasks plan free deps;
   }

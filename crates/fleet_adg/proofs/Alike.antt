@@ -29,7 +29,7 @@ use Rattle.fleet_adg.specs.Compiled.{changes, moves_by, entry_awaits, action_in,
 use Rattle.fleet_adg.proofs.Moves.{moves_by-yes, moves_by-mono}
 use Rattle.fleet_adg.proofs.Entry.{IsAwaitOf, entry-sound}
 use Rattle.fleet_adg.proofs.Programs.{length-compiled, no_agent-compiled, start_of-compiled, goal_of-compiled, actions_of-compiled, moves-compiled, goes-compiled, awaits_cases, path-compiled, IsActionIn}
-use Rattle.fleet_adg.proofs.Accepted.{number_of, numbering, compiled-accepted}
+use Rattle.fleet_adg.proofs.Accepted.{action_number, numbering, compiled-accepted}
 
 steps_alike : (plan : Plan) (d e : Deps) (i : ℕ) (xs : List ℕ) → map (λ (a : Action). a.step) (map (action_in plan d i) xs) ≡ map (λ (a : Action). a.step) (map (action_in plan e i) xs)
 unfolding action_in
@@ -95,10 +95,10 @@ module _ (passable : Place → Bool) (tasks : List Task) (plan : Plan) (free : I
             let left : IsAction (compiled plan e) (leaving (compiled plan e) u) = Reaches-first (compiled plan e) (leaving (compiled plan e) u) (entering v) r in
             let came : IsAction (compiled plan e) (entering v) = Reaches-last (compiled plan e) (leaving (compiled plan e) u) (entering v) r in
             let ne = numbering passable tasks plan free e in
-            let a1 : number_of plan (awaited w) < number_of plan b = (numbering passable tasks plan free d).rising b (awaited w) k m (inr c) in
-            let a2 : number_of plan b < number_of plan (leaving (compiled plan e) u) = ne.rising (leaving (compiled plan e) u) b left (action_too d e b k) (inl (refl, omega (arith, next, number), k.first)) in
-            let a3 : number_of plan (leaving (compiled plan e) u) ≤ number_of plan (entering v) = Reaches-rises (compiled plan e) (number_of plan) ne (leaving (compiled plan e) u) (entering v) r in
-            let a4 : number_of plan (entering v) < number_of plan (awaited w) = ne.rising (awaited w) (entering v) (action_too d e (awaited w) m) came (inl (refl, omega (arith, h.step.4), came.first)) in
+            let a1 : action_number plan (awaited w) < action_number plan b = (numbering passable tasks plan free d).rising b (awaited w) k m (inr c) in
+            let a2 : action_number plan b < action_number plan (leaving (compiled plan e) u) = ne.rising (leaving (compiled plan e) u) b left (action_too d e b k) (inl (refl, omega (arith, next, number), k.first)) in
+            let a3 : action_number plan (leaving (compiled plan e) u) ≤ action_number plan (entering v) = Reaches-rises (compiled plan e) (action_number plan) ne (leaving (compiled plan e) u) (entering v) r in
+            let a4 : action_number plan (entering v) < action_number plan (awaited w) = ne.rising (awaited w) (entering v) (action_too d e (awaited w) m) came (inl (refl, omega (arith, h.step.4), came.first)) in
             absurd (omega arith)
       ]
 

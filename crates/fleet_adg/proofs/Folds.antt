@@ -85,17 +85,17 @@ last_at-begin : (plan : Plan) (q : Cell) (x : ℕ) → last_at plan q x 0 ≡ le
 unfolding last_at leavings
 last_at-begin plan q x = ap (λ o. option_to_list (option_or (option_map (await_of plan x) o) (last_leaving plan q x))) (last_below-zero (leaves plan q x))
 
-last_of : Plan → Cell → ℕ → Option ℕ → List Await
-last_of plan q x o = option_to_list (option_or (option_map (await_of plan x) o) (last_leaving plan q x))
+last_leaving_of : Plan → Cell → ℕ → Option ℕ → List Await
+last_leaving_of plan q x o = option_to_list (option_or (option_map (await_of plan x) o) (last_leaving plan q x))
 
-last_of-leaver : (plan : Plan) (q : Cell) (x : ℕ) (o : Option ℕ) → leaver plan q x ≡ o → last_of plan q x o ≡ option_to_list (last_leaving plan q (suc x))
-unfolding last_of
-last_of-leaver plan q x None e = ap option_to_list (sym (last_leaving-same plan q x e))
-last_of-leaver plan q x (Some j) e = ap option_to_list (sym (last_leaving-next plan q x j e))
+last_leaving_of-leaver : (plan : Plan) (q : Cell) (x : ℕ) (o : Option ℕ) → leaver plan q x ≡ o → last_leaving_of plan q x o ≡ option_to_list (last_leaving plan q (suc x))
+unfolding last_leaving_of
+last_leaving_of-leaver plan q x None e = ap option_to_list (sym (last_leaving-same plan q x e))
+last_leaving_of-leaver plan q x (Some j) e = ap option_to_list (sym (last_leaving-next plan q x j e))
 
 last_at-end : (plan : Plan) (q : Cell) (x : ℕ) → last_at plan q x (length plan) ≡ leavings plan Deps.Last q (suc x)
-unfolding last_at leavings leaver last_of
-last_at-end plan q x = last_of-leaver plan q x (leaver plan q x) refl
+unfolding last_at leavings leaver last_leaving_of
+last_at-end plan q x = last_leaving_of-leaver plan q x (leaver plan q x) refl
 
 -- under `All`, of agent j, after the agents below m
 by_agent : Plan → Cell → ℕ → ℕ → ℕ → Option Await

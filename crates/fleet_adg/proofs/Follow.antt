@@ -23,12 +23,12 @@ pub ahead : Plan → ℕ → ℕ → Option ℕ
 ahead plan x i = cond (changes_in plan i x) (last_below (λ j. is_same_cell (cell_of plan j x) (cell_of plan i (suc x))) (length plan)) None
 
 -- what it is
-pub record IsAhead (plan : Plan) (x i j : ℕ) : Type 0 where
+pub record StandsAhead (plan : Plan) (x i j : ℕ) : Type 0 where
   pub changes : changes_in plan i x ≡ true
   pub below : j < length plan
   pub there : cell_of plan i (suc x) ≡ cell_of plan j x
 
-pub ahead-some : (plan : Plan) (x i j : ℕ) → ahead plan x i ≡ Some j → IsAhead plan x i j
+pub ahead-some : (plan : Plan) (x i j : ℕ) → ahead plan x i ≡ Some j → StandsAhead plan x i j
 unfolding ahead
 ahead-some plan x i j e =
     let test = λ (j : ℕ). is_same_cell (cell_of plan j x) (cell_of plan i (suc x)) in

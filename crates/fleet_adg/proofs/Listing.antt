@@ -15,7 +15,7 @@ use Rattle.fleet_model.specs.declared.task.Task.{Task}
 use Rattle.fleet_plan.specs.Plan.{Plan, cell_of, steps, IsConflictFree}
 use Rattle.fleet_adg.specs.Compiled.{changes_in, moves_by, compiled}
 use Rattle.fleet_adg.proofs.Basics.{last_cases}
-use Rattle.fleet_adg.proofs.Moves.{changes_in-same, changes_in-end, moves_by-yes, moves_by-no, moves_by-mono, time_of}
+use Rattle.fleet_adg.proofs.Moves.{changes_in-same, changes_in-end, moves_by-yes, moves_by-no, moves_by-mono, time_of_count}
 use Rattle.fleet_model.proofs.Cells.{is_same_cell-true, is_same_cell-eq}
 use Rattle.fleet_model.proofs.Places.{place_of-injective}
 use Rattle.fleet_adg.proofs.Follow.{only_one}
@@ -67,8 +67,8 @@ record IsVisitTo (plan : Plan) (q : Cell) (t : ℕ) (v : Visit) : Type 0 where
   time : (s : ℕ) × (s ≤ t) × (cell_of plan v.agent s ≡ q) × (v.position ≡ moves_by plan v.agent s)
 
 -- nobody stands on q after time s, up to time t
-abbrev IsLeft : Plan → Cell → ℕ → ℕ → Type 0
-IsLeft plan q s t = (u k : ℕ) → s < u → u ≤ t → k < length plan → cell_of plan k u ≢ q
+abbrev IsDeserted : Plan → Cell → ℕ → ℕ → Type 0
+IsDeserted plan q s t = (u k : ℕ) → s < u → u ≤ t → k < length plan → cell_of plan k u ≢ q
 
 -- the last visit of the list is by j, who stood on q at time s, and nobody since
 record EndsWith (plan : Plan) (q : Cell) (t : ℕ) (vs : List Visit) : Type 0 where
@@ -79,7 +79,7 @@ record EndsWith (plan : Plan) (q : Cell) (t : ℕ) (vs : List Visit) : Type 0 wh
   below : agent < length plan
   past : time ≤ t
   on : cell_of plan agent time ≡ q
-  left : IsLeft plan q time t
+  left : IsDeserted plan q time t
 
 -- the visits of q that are begun up to time t
 record IsListingTo (plan : Plan) (deps : Deps) (q : Cell) (t : ℕ) (vs : List Visit) : Type 0 where
@@ -182,7 +182,7 @@ module _ (passable : Place → Bool) (tasks : List Task) (plan : Plan) (free : I
       }
 
   -- the visit that agent i begins in step t comes after the one before
-  comes_after : (q : Cell) (t i j s : ℕ) → i < length plan → j < length plan → s ≤ t → cell_of plan i (suc t) ≡ q → changes_in plan i t ≡ true → cell_of plan j s ≡ q → IsLeft plan q s t → ComesAfterByAwait (compiled plan deps) (visit_at plan j s) (visit_at plan i (suc t))
+  comes_after : (q : Cell) (t i j s : ℕ) → i < length plan → j < length plan → s ≤ t → cell_of plan i (suc t) ≡ q → changes_in plan i t ≡ true → cell_of plan j s ≡ q → IsDeserted plan q s t → ComesAfterByAwait (compiled plan deps) (visit_at plan j s) (visit_at plan i (suc t))
   comes_after q t i j s bi bj l on c was left = elim (cases_eq j i) [
     | inl e ↦ inl (e, subst (λ k. moves_by plan k s < moves_by plan i (suc t)) (sym e) (omega (arith, moves_by-yes plan i t c, moves_by-mono plan i s t l)))
     | inr ne ↦
@@ -233,7 +233,7 @@ module _ (passable : Place → Bool) (tasks : List Task) (plan : Plan) (free : I
   time_of_visit : (q : Place) (v : Visit) → IsVisitOf (compiled plan deps) q v → (v.agent < length plan) × (s : ℕ) × (s ≤ steps plan) × (moves_by plan v.agent s ≡ v.position) × (place_of (cell_of plan v.agent s) ≡ q)
   time_of_visit q v h =
       let b : v.agent < length plan = omega (arith, h.agent, length-compiled plan deps) in
-      let w = time_of plan v.agent (steps plan) v.position (omega (arith, h.position, moves-compiled plan deps v.agent b)) in
+      let w = time_of_count plan v.agent (steps plan) v.position (omega (arith, h.position, moves-compiled plan deps v.agent b)) in
       (b, w.0, w.1, w.2, sym (path-compiled passable tasks plan free deps v.agent w.0 b w.1) ∙ ap (path (compiled plan deps) v.agent) w.2 ∙ h.place)
 
   is_visit : (q : Cell) (v : Visit) → IsVisitTo plan q (steps plan) v → IsVisitOf (compiled plan deps) (place_of q) v

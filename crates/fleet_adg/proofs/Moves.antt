@@ -95,13 +95,13 @@ same_cell-while plan i s (suc t) h e =
     ]
 
 -- the step of each move
-pub record IsMove (plan : Plan) (i t n x : ℕ) : Type 0 where
+pub record IsMoveAt (plan : Plan) (i t n x : ℕ) : Type 0 where
   pub before : x < t
   pub changes : changes_in plan i x ≡ true
   pub number : moves_by plan i x ≡ n
   pub listed : (d : ℕ) → get_or (package.Rattle.fleet_adg.specs.Compiled.changes plan i t) n d ≡ x
 
-pub move_at : (plan : Plan) (i t n : ℕ) → n < moves_by plan i t → (x : ℕ) × IsMove plan i t n x
+pub move_at : (plan : Plan) (i t n : ℕ) → n < moves_by plan i t → (x : ℕ) × IsMoveAt plan i t n x
 unfolding moves_by
 move_at plan i zero n h = absurd (omega (arith, moves_by-zero plan i))
 move_at plan i (suc t) n h =
@@ -154,10 +154,10 @@ listed_at plan i t x d l c =
     w.1.listed d ∙ move_once plan i w.0 x w.1.changes c w.1.number
 
 -- each number of moves is that of a time
-pub time_of : (plan : Plan) (i t p : ℕ) → p ≤ moves_by plan i t → (s : ℕ) × (s ≤ t) × (moves_by plan i s ≡ p)
-time_of plan i zero p h = (zero, omega arith, omega (arith, moves_by-zero plan i))
-time_of plan i (suc t) p h =
-    let before = λ (l : p ≤ moves_by plan i t). time_of plan i t p l in
+pub time_of_count : (plan : Plan) (i t p : ℕ) → p ≤ moves_by plan i t → (s : ℕ) × (s ≤ t) × (moves_by plan i s ≡ p)
+time_of_count plan i zero p h = (zero, omega arith, omega (arith, moves_by-zero plan i))
+time_of_count plan i (suc t) p h =
+    let before = λ (l : p ≤ moves_by plan i t). time_of_count plan i t p l in
     elim (cases_lt (moves_by plan i t) p) [
       | inl l ↦ (suc t, omega arith, omega (arith, moves_by-step plan i t))
       | inr l ↦ let w = before l in (w.0, omega (arith, w.1), w.2)

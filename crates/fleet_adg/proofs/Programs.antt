@@ -21,8 +21,8 @@ use Rattle.std.proofs.lemmas.List.Elements.{All-map}
 use Rattle.fleet_model.specs.declared.task.Task.{Task}
 use Rattle.fleet_plan.specs.Plan.{Plan, cell_of, steps, AreNeighbours, IsConflictFree}
 use Rattle.fleet_adg.specs.Compiled.{direction, changes_in, changes, moves_by, entry_awaits, action_in, agent_program, compiled}
-use Rattle.fleet_model.proofs.Visits.{GoesOn}
-use Rattle.fleet_adg.proofs.Moves.{changes_in-ne, changes_in-same, changes-yes, changes-no, moves_by-yes, moves_by-mono, IsMove, move_at, listed_at}
+use Rattle.fleet_model.proofs.Visits.{NeverDwells}
+use Rattle.fleet_adg.proofs.Moves.{changes_in-ne, changes_in-same, changes-yes, changes-no, moves_by-yes, moves_by-mono, IsMoveAt, move_at, listed_at}
 
 -- ---- directions
 
@@ -109,7 +109,7 @@ no_moves-compiled plan deps i h = ap length (no_actions-compiled plan deps i h)
 
 -- ---- awaits
 
-awaits-in : (plan : Plan) (deps : Deps) (i n x : ℕ) → i < length plan → IsMove plan i (steps plan) n x → n < moves_by plan i (steps plan) → awaits_of (compiled plan deps) i (suc n) ≡ entry_awaits plan deps i x
+awaits-in : (plan : Plan) (deps : Deps) (i n x : ℕ) → i < length plan → IsMoveAt plan i (steps plan) n x → n < moves_by plan i (steps plan) → awaits_of (compiled plan deps) i (suc n) ≡ entry_awaits plan deps i x
 unfolding action_in moves_by
 awaits-in plan deps i n x h m l =
     ap (λ xs. option_map_or (λ (a : Action). a.awaits) (slice_get xs n) []) (actions_of-compiled plan deps i h)
@@ -164,7 +164,7 @@ goes plan deps i [] n a e = absurd cc
 goes plan deps i (x ∷ xs) zero a e = ap (λ (b : Action). is_move b.step) (sym (same_Some (action_in plan deps i x) a e))
 goes plan deps i (x ∷ xs) (suc n) a e = goes plan deps i xs n a e
 
-pub goes-compiled : (plan : Plan) (deps : Deps) (i : ℕ) → i < length plan → GoesOn (compiled plan deps) i
+pub goes-compiled : (plan : Plan) (deps : Deps) (i : ℕ) → i < length plan → NeverDwells (compiled plan deps) i
 goes-compiled plan deps i h n a e = goes plan deps i (changes plan i (steps plan)) n a (ap (λ xs. slice_get xs n) (sym (actions_of-compiled plan deps i h)) ∙ e)
 
 -- each action is a move, whatever the plan

@@ -120,18 +120,18 @@ agent_at plan t agents k e l = let all = subst (All (λ i. i < length plan)) (sy
 -- ---- leavings noted
 
 -- the table after these agents have made step x
-pub record AreNoted (g : Ground) (plan : Plan) (deps : Deps) (x : ℕ) (done : List ℕ) (l : Leavings) : Type 0 where
+pub record IsNotedBelow (g : Ground) (plan : Plan) (deps : Deps) (x : ℕ) (done : List ℕ) (l : Leavings) : Type 0 where
   pub kind : kind_of l ≡ deps
   pub apart : AreRowsApart l
   pub rows : (q : Cell) → q.x < g.width → q.y < g.height → row_of l (cell_index g q) ≡ fold (note_by plan deps q x) (leavings plan deps q x) done
 
-pub noting_begins : (g : Ground) (plan : Plan) (deps : Deps) (x : ℕ) (l : Leavings) → AreLeavingsAt g plan deps x l → AreNoted g plan deps x [] l
+pub noting_begins : (g : Ground) (plan : Plan) (deps : Deps) (x : ℕ) (l : Leavings) → AreLeavingsAt g plan deps x l → IsNotedBelow g plan deps x [] l
 noting_begins g plan deps x l h = record { kind = h.kind; apart = h.apart; rows = h.rows }
 
-pub noting_ends : (g : Ground) (plan : Plan) (deps : Deps) (x : ℕ) (l : Leavings) → AreNoted g plan deps x (under_way plan x) l → AreLeavingsAt g plan deps (x + 1) l
+pub noting_ends : (g : Ground) (plan : Plan) (deps : Deps) (x : ℕ) (l : Leavings) → IsNotedBelow g plan deps x (under_way plan x) l → AreLeavingsAt g plan deps (x + 1) l
 noting_ends g plan deps x l h = record { kind = h.kind; apart = h.apart; rows = λ q a b. h.rows q a b ∙ leavings-next plan deps q x }
 
-pub one_stays : (g : Ground) (plan : Plan) (deps : Deps) (x : ℕ) (agents : List ℕ) (k i : ℕ) (l : Leavings) → k < length agents → i ≡ get_or agents k i → changes_in plan i x ≡ false → AreNoted g plan deps x (take k agents) l → AreNoted g plan deps x (take (k + 1) agents) l
+pub one_stays : (g : Ground) (plan : Plan) (deps : Deps) (x : ℕ) (agents : List ℕ) (k i : ℕ) (l : Leavings) → k < length agents → i ≡ get_or agents k i → changes_in plan i x ≡ false → IsNotedBelow g plan deps x (take k agents) l → IsNotedBelow g plan deps x (take (k + 1) agents) l
 one_stays g plan deps x agents k i l b e c h = record {
   kind = h.kind;
   apart = h.apart;
@@ -146,7 +146,7 @@ pub one_leaves : (g : Ground) (plan : Plan) (deps : Deps) (x : ℕ) (agents : Li
     → p.x < g.width → p ≡ cell_of plan i x → w ≡ await_of plan x i
     → k < length agents → i ≡ get_or agents k i → changes_in plan i x ≡ true
     → kind_of m ≡ kind_of l → row_of m (cell_index g p) ≡ noted (kind_of l) (row_of l (cell_index g p)) w → ((k : ℕ) → k ≢ cell_index g p → row_of m k ≡ row_of l k) → AreRowsApart m
-    → AreNoted g plan deps x (take k agents) l → AreNoted g plan deps x (take (k + 1) agents) m
+    → IsNotedBelow g plan deps x (take k agents) l → IsNotedBelow g plan deps x (take (k + 1) agents) m
 one_leaves g plan deps x agents k i l m p w own column at is b e c kind there others rows_apart h =
     record {
       kind = kind ∙ h.kind;

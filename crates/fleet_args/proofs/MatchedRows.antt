@@ -79,25 +79,25 @@ abbrev pub least_values : Rule → ℕ
 least_values a = (unwrap_or_range a.range).start_inclusive
 
 -- the row is as the argument's rule says
-pub record IsRowOf (a : Rule) (r : Row) : Type 0 where
+pub record IsRowByRule (a : Rule) (r : Row) : Type 0 where
   pub pass : values_pass a r.values ≡ true
   pub reading : r.reading ≡ reading_by a
   pub some : nat_lt 0 (least_values a) ≡ true → nat_lt 0 (length r.values) ≡ true
 
 -- a row of this argument is as its rule says
-abbrev pub Fits : Rule → Row → Type 0
-Fits a r = bytes_eq r.id a.id ≡ true → IsRowOf a r
+abbrev pub IsRuled : Rule → Row → Type 0
+IsRuled a r = bytes_eq r.id a.id ≡ true → IsRowByRule a r
 
 abbrev pub EachFits : Rule → List Row → Type 0
 EachFits a [] = Unit {0}
-EachFits a (r ∷ rs) = Fits a r × EachFits a rs
+EachFits a (r ∷ rs) = IsRuled a r × EachFits a rs
 
 each_append : (a : Rule) (xs ys : List Row) → EachFits a xs → EachFits a ys → EachFits a (xs ++ ys)
 each_append a [] ys f g = g
 each_append a (x ∷ xs) ys f g = (f.0, each_append a xs ys f.1 g)
 
 at_row_each : (a : Rule) (id : Text) (change : Row → List Row) (missing rows : List Row)
-    → ((r : Row) → bytes_eq r.id id ≡ true → Fits a r → EachFits a (change r)) → EachFits a missing → EachFits a rows → EachFits a (at_row id change missing rows)
+    → ((r : Row) → bytes_eq r.id id ≡ true → IsRuled a r → EachFits a (change r)) → EachFits a missing → EachFits a rows → EachFits a (at_row id change missing rows)
 at_row_each a id change missing [] changed new f = new
 at_row_each a id change missing (r ∷ rs) changed new f = go (bytes_eq r.id id) refl (at_row_each a id change missing rs changed new f.1)
   where
@@ -110,7 +110,7 @@ without_each : (a : Rule) (id : Text) (rows : List Row) → EachFits a rows → 
 without_each a id rows f = at_row_each a id (λ _. []) [] rows (λ r t g. tt) tt f
 
 -- more values that pass
-grown : (a : Rule) (r : Row) (vs : List Text) → IsRowOf a r → values_pass a vs ≡ true → (values_pass a (r.values ++ vs) ≡ true)
+grown : (a : Rule) (r : Row) (vs : List Text) → IsRowByRule a r → values_pass a vs ≡ true → (values_pass a (r.values ++ vs) ≡ true)
     × (nat_lt 0 (least_values a) ≡ true → nat_lt 0 (length (r.values ++ vs)) ≡ true)
 grown a r vs is pass = (
   rw (list_all-append (value_passes a) r.values vs) (rw (is.pass) pass),
@@ -123,11 +123,11 @@ module _ (c : List Rule) (a : Rule) (alone : filter (λ x. bytes_eq x.id a.id) c
   only x h t = elim (subst (Among x) alone (kept_among (λ y. bytes_eq y.id a.id) c x h t)) [ inl e ↦ e | inr none ↦ absurd none ]
 
   -- values of an argument that pass
-  new_fits : (x : Rule) (r : Row) → Among x c → r.id ≡ x.id → IsRowOf x r → Fits a r
-  new_fits x r h id is t = subst (λ (y : Rule). IsRowOf y r) (only x h (subst (λ (i : Text). bytes_eq i a.id ≡ true) id t)) is
+  new_fits : (x : Rule) (r : Row) → Among x c → r.id ≡ x.id → IsRowByRule x r → IsRuled a r
+  new_fits x r h id is t = subst (λ (y : Rule). IsRowByRule y r) (only x h (subst (λ (i : Text). bytes_eq i a.id ≡ true) id t)) is
 
-  more_fits : (x : Rule) (r s : Row) (vs : List Text) → Among x c → bytes_eq r.id x.id ≡ true → Fits a r → s.id ≡ r.id → s.values ≡ r.values ++ vs → s.reading ≡ r.reading
-      → values_pass x vs ≡ true → Fits a s
+  more_fits : (x : Rule) (r s : Row) (vs : List Text) → Among x c → bytes_eq r.id x.id ≡ true → IsRuled a r → s.id ≡ r.id → s.values ≡ r.values ++ vs → s.reading ≡ r.reading
+      → values_pass x vs ≡ true → IsRuled a s
   more_fits x r s vs h same fits id values reading pass t =
       let named : r.id ≡ x.id = (bytes_eq-Decides r.id x.id).0 same in
       let mine : bytes_eq r.id a.id ≡ true = subst (λ (i : Text). bytes_eq i a.id ≡ true) id t in

@@ -15,7 +15,7 @@ use Rattle.clap.specs.declared.builder.value_parser.Reading.{Reading}
 use Rattle.clap.specs.declared.parser.matches.ValueSource.{ValueSource}
 use Rattle.clap.specs.declared.parser.matches.ValueSource.TheVariants.{DefaultValue}
 use Rattle.clap.proofs.WalkLemmas.{both}
-use Rattle.fleet_args.proofs.MatchedRows.{Among, EachFits, Fits, IsRowOf, finished_each, found_among, least_values, no_fault}
+use Rattle.fleet_args.proofs.MatchedRows.{Among, EachFits, IsRuled, IsRowByRule, finished_each, found_among, least_values, no_fault}
 
 -- ---- lists
 
@@ -52,9 +52,9 @@ pub record HasValue (a : Rule) (rows : List Row) : Type 0 where
   pub one : one_of a.id rows ≡ Some (read_as (reading_by a) text)
   pub pass : value_passes a text ≡ true
 
-each_at : (a : Rule) (rows : List Row) (r : Row) → EachFits a rows → Among r rows → Fits a r
+each_at : (a : Rule) (rows : List Row) (r : Row) → EachFits a rows → Among r rows → IsRuled a r
 each_at a [] r f h = absurd h
-each_at a (x ∷ xs) r f h = elim h [ inl same ↦ subst (Fits a) (sym same) f.0 | inr rest ↦ each_at a xs r f.1 rest ]
+each_at a (x ∷ xs) r f h = elim h [ inl same ↦ subst (IsRuled a) (sym same) f.0 | inr rest ↦ each_at a xs r f.1 rest ]
 
 value_of_row : (a : Rule) (rows : List Row) (r : Row) → EachFits a rows → nat_lt 0 (least_values a) ≡ true → find (λ x. bytes_eq x.id a.id) rows ≡ Some r
     → HasValue a rows
@@ -62,7 +62,7 @@ value_of_row a rows r fits least found =
     let at = found_among (λ (x : Row). bytes_eq x.id a.id) rows r found in
     go (each_at a rows r fits at.0 at.1) r.values refl
   where
-    go : IsRowOf a r → (vs : List Text) → r.values ≡ vs → HasValue a rows
+    go : IsRowByRule a r → (vs : List Text) → r.values ≡ vs → HasValue a rows
     go is [] e =
         let none : nat_lt 0 (length r.values) ≡ false = rw e refl in
         absurd (true≢false (sym (is.some least) ∙ none))

@@ -8,7 +8,7 @@ use Rattle.fleet_model.specs.Program.{Program}
 use Rattle.fleet_model.specs.Chain.{IsAction, DirectlyNeeds, Reaches, EndsChain, IsNumbering}
 use Rattle.fleet_verify.specs.Listing.{AreLevels}
 use Rattle.fleet_verify.specs.Rows.{IsCountedUp, IsRow, IsRowOfNeeds}
-use Rattle.fleet_model.proofs.Reaching.{chain_join, own_reach, LastStep, last_step, Reaches-trans}
+use Rattle.fleet_model.proofs.Reaching.{chain_join, own_reach, LastStep, chain_ends_by_step, Reaches-trans}
 use Rattle.fleet_model.proofs.Chains.{chain_rises, Reaches-first, Reaches-last, Reaches-need}
 
 module _ (p : Program) (level : ActionId → ℕ) (h : (a : ActionId) → IsAction p a → IsCountedUp p level a) where
@@ -45,7 +45,7 @@ module _ (p : Program) (level : ActionId → ℕ) (h : (a : ActionId) → IsActi
 
 -- the row of an action, joined from those of what it directly needs
 pub joined_row : (p : Program) (a : ActionId) → IsAction p a → (rows : ActionId → ℕ → ℕ) → ((b : ActionId) → IsAction p b → DirectlyNeeds p a b → IsRow p b (rows b)) → (row : ℕ → ℕ) → IsRowOfNeeds p a rows row → IsRow p a row
-joined_row p a k rows h row r j c = ((λ g. into (last_step p x g.0 a g.1) (Reaches-first p x a g)), (λ (f, l). out f l (cases_eq j a.agent)))
+joined_row p a k rows h row r j c = ((λ g. into (chain_ends_by_step p x g.0 a g.1) (Reaches-first p x a g)), (λ (f, l). out f l (cases_eq j a.agent)))
   where
     x : ActionId
     x = record { agent = j; number = c }

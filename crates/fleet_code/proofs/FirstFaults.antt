@@ -24,8 +24,8 @@ use Rattle.fleet_code.specs.declared.fault.LoadFault.TheVariants.{Magic, Truncat
 use Rattle.fleet_code.specs.Spelling.{magic, number, count as count_of, count_len, most_count, most_moves, cell, opcode, has_opcode, await, action, agent, IsSpellable, AreSpellable, IsSpellableAgent, CanSpell}
 use Rattle.fleet_code.specs.Reading.{Field, magic_at, number_at, long_number_at, count_from, cell_from, await_at, step_at, step_or, action_at, actions_at, agent_at, agents_at, program_as}
 use Rattle.fleet_code.specs.LoadFaults.{HasNumber, HasCount, HasHead, IsOffset, ReachesAgent, ReachesAction, ReachesOpcode, ReachesAwait, ReachesOrder, ReachesCount, IsWithoutMagic, EndsWithin, IsFirstFaultIn}
-use Rattle.fleet_code.proofs.Parts.{IsBytes, Takes, number_takes, count_takes, cell_takes, await_takes}
-use Rattle.fleet_code.proofs.RoundTrip.{joined, magic_long, step_again, action_takes, agent_takes, agents_take, after_count, after_start, after_agents, after_agent_count}
+use Rattle.fleet_code.proofs.Parts.{IsBytes, TakesFront, number_takes, count_takes, cell_takes, await_takes}
+use Rattle.fleet_code.proofs.RoundTrip.{with_await, magic_long, step_again, action_takes, agent_takes, agents_take, after_count, after_start, after_agents, after_agent_count}
 use Rattle.fleet_code.proofs.Awaited.{least_after, after_more, from_more, all_below, some_above}
 use Rattle.fleet_code.proofs.Reached.{each_from, to_first, total_from, total_more, parts_more, agent_reached, opcode_left, agent_left}
 
@@ -52,10 +52,10 @@ count_fails : (v : Version) (bytes : List ℕ) (f : LoadFault) → count_from v 
 count_fails One bytes f e = number_fails bytes f e
 count_fails Two bytes f e = long_number_fails bytes f e
 
-number_len : (bytes : List ℕ) (n : ℕ) (rest : List ℕ) → Takes bytes (number n) rest → length bytes ≡ 2 + length rest
+number_len : (bytes : List ℕ) (n : ℕ) (rest : List ℕ) → TakesFront bytes (number n) rest → length bytes ≡ 2 + length rest
 number_len bytes n rest t = let all = ap length t.parts in omega (arith, all)
 
-cell_len : (bytes : List ℕ) (c : Cell) (rest : List ℕ) → Takes bytes (cell c) rest → length bytes ≡ 4 + length rest
+cell_len : (bytes : List ℕ) (c : Cell) (rest : List ℕ) → TakesFront bytes (cell c) rest → length bytes ≡ 4 + length rest
 cell_len bytes c rest t = let all = ap length t.parts in omega (arith, all)
 
 cell_fails : (bytes : List ℕ) (f : LoadFault) → IsBytes bytes → cell_from bytes ≡ Err f → (Truncated ≡ f) × (length bytes < 4)
@@ -71,11 +71,11 @@ cell_fails bytes f fits e =
           ])
     ]
 
-has_number : (bytes : List ℕ) (n : ℕ) (rest : List ℕ) → IsBytes bytes → number_at bytes ≡ Ok (n, rest) → HasNumber bytes n rest
-has_number bytes n rest fits e = let t = number_takes bytes n rest fits e in record { fits = t.1; parts = t.0.parts }
+number_is_read : (bytes : List ℕ) (n : ℕ) (rest : List ℕ) → IsBytes bytes → number_at bytes ≡ Ok (n, rest) → HasNumber bytes n rest
+number_is_read bytes n rest fits e = let t = number_takes bytes n rest fits e in record { fits = t.1; parts = t.0.parts }
 
-has_count : (v : Version) (bytes : List ℕ) (n : ℕ) (rest : List ℕ) → IsBytes bytes → count_from v bytes ≡ Ok (n, rest) → HasCount v bytes n rest
-has_count v bytes n rest fits e = let t = count_takes v bytes n rest fits e in record { fits = t.1; parts = t.0.parts }
+count_is_read : (v : Version) (bytes : List ℕ) (n : ℕ) (rest : List ℕ) → IsBytes bytes → count_from v bytes ≡ Ok (n, rest) → HasCount v bytes n rest
+count_is_read v bytes n rest fits e = let t = count_takes v bytes n rest fits e in record { fits = t.1; parts = t.0.parts }
 
 ends : (v : Version) (bytes : List ℕ) (f : LoadFault) → Truncated ≡ f → EndsWithin v bytes → IsFirstFaultIn v bytes f
 ends v bytes f e h = subst (IsFirstFaultIn v bytes) e h
@@ -95,7 +95,7 @@ await_fails v bytes n i ws at rest f r from fits e =
           let j = a.0.0 in
           let after = a.0.1 in
           let named = number_takes rest j after fits a.1 in
-          let has = has_number rest j after fits a.1 in
+          let has = number_is_read rest j after fits a.1 in
           elim (test_err (leb n j || eqb j i) (AwaitAgent at) (ordered a.0) f a.2) [
             | inl wrong ↦ (
                 let which : (n ≤ j) ⊎ (j ≡ i) =
@@ -122,7 +122,7 @@ await_fails v bytes n i ws at rest f r from fits e =
                         | inr c ↦ elim (test_err (eqb c.0.0 0) (AwaitCount at) (Ok (record { agent = j; count = c.0.0 }, c.0.1)) f c.2) [
                           | inl nothing ↦ (
                               let zero_is = eqb-true c.0.0 0 nothing.0 in
-                              let counted_so = has_count v after c.0.0 c.0.1 named.0.rest_fits c.1 in
+                              let counted_so = count_is_read v after c.0.0 c.0.1 named.0.rest_fits c.1 in
                               subst (IsFirstFaultIn v bytes) nothing.1 (after, c.0.1, counts, subst (λ (k : ℕ). HasCount v after k c.0.1) zero_is counted_so))
                           | inr fine ↦ absurd (no_fault (record { agent = j; count = c.0.0 }, c.0.1) f fine.1)
                         ]
@@ -156,7 +156,7 @@ opcode_fails v bytes n i (suc turns) ws at_action (b ∷ rest) f r from fit part
     let at = whole - length (b ∷ rest) in
     let reached : ReachesOpcode v bytes n i ws (b ∷ rest) = record { at_action = at_action; actions = r; right = awaits_are n i 0 ws from; fit = fit; parts = parts } in
     let offset : IsOffset bytes (b ∷ rest) at = omega (arith, opcode_left v bytes n i ws (b ∷ rest) reached) in
-    let more = λ (one : Await × List ℕ). action_at v turns whole n i (one.0.agent + 1) one.1 >>= λ others. Ok (joined one others) in
+    let more = λ (one : Await × List ℕ). action_at v turns whole n i (one.0.agent + 1) one.1 >>= λ others. Ok (with_await one others) in
     let read = await_at v at n i (least_after 0 ws) rest in
     let m = step_fails (step_at v b) rest (fault_if (not (eqb b 16)) (Opcode at) >> (read >>= more)) f e in
     elim (test_err (not (eqb b 16)) (Opcode at) (read >>= more) f m.1) [
@@ -173,10 +173,10 @@ opcode_fails v bytes n i (suc turns) ws at_action (b ∷ rest) f r from fit part
                 let here : b ∷ rest ≡ await v w ++ after = rw is16 (ap (λ (t : List ℕ). 16 ∷ t) taken.0.parts) in
                 let shorter = ap length here in
                 let long = length-append (await v w) after in
-                elim (bind_err (action_at v turns whole n i (w.agent + 1) after) (λ others. Ok (joined one.0 others)) f one.2) [
+                elim (bind_err (action_at v turns whole n i (w.agent + 1) after) (λ others. Ok (with_await one.0 others)) f one.2) [
                   | inl h ↦ opcode_fails v bytes n i turns (ws ++ w ∷ []) at_action after f r (from_more n i 0 ws w from taken.1) (All-append (λ (w : Await). w.count ≤ (most_count v)) ws (w ∷ []) fit (All-cons (λ (w : Await). w.count ≤ (most_count v)) w [] taken.2 (All-nil (λ (w : Await). w.count ≤ (most_count v))))) (parts_more (await v) ws w at_action (b ∷ rest) after parts here) taken.0.rest_fits
                       (omega (arith, le, shorter, long)) (rw (after_more 0 ws w) h)
-                  | inr others ↦ absurd (no_fault (joined one.0 others.0) f others.2)
+                  | inr others ↦ absurd (no_fault (with_await one.0 others.0) f others.2)
                 ])
           ])
     ]
@@ -384,7 +384,7 @@ is_first v bytes f fits e =
                         | inl none ↦ inl (eqb-true n 0 none)
                         | inr many ↦ inr (ltb-true 1024 n many)
                       ] in
-                      subst (IsFirstFaultIn v bytes) wrong.1 (n, at_number, at_agents, m.1, has_number at_number n at_agents number_fits counted.1, which))
+                      subst (IsFirstFaultIn v bytes) wrong.1 (n, at_number, at_agents, m.1, number_is_read at_number n at_agents number_fits counted.1, which))
                   | inr right ↦ (
                       let tests = or_parts (eqb n 0) (ltb 1024 n) right.0 in
                       let some_agents = eqb-false n 0 tests.0 in

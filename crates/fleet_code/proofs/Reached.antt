@@ -59,13 +59,13 @@ each_more n i (c ∷ p) a h last (suc j) b e =
     rw same (each_more n (i + 1) p a (λ k d f. let at : i + suc k ≡ i + 1 + k = omega arith in rw at at (h (suc k) d f)) (rw end at last) j b e)
 
 -- the same of all agents, from agent 0 on
-abbrev pub AreAgents : ℕ → Program → Type 0
-AreAgents n p = (i : ℕ) (a : AgentProgram) → slice_get p i ≡ Some a → IsAgent n i a
+abbrev pub AreAllAgents : ℕ → Program → Type 0
+AreAllAgents n p = (i : ℕ) (a : AgentProgram) → slice_get p i ≡ Some a → IsAgent n i a
 
-pub from_first : (n : ℕ) (p : Program) → AreAgents n p → EachIs n 0 p
+pub from_first : (n : ℕ) (p : Program) → AreAllAgents n p → EachIs n 0 p
 from_first n p h j a e = let same : 0 + j ≡ j = omega arith in rw same (h j a e)
 
-pub to_first : (n : ℕ) (p : Program) → EachIs n 0 p → AreAgents n p
+pub to_first : (n : ℕ) (p : Program) → EachIs n 0 p → AreAllAgents n p
 to_first n p h j a e = let same : 0 + j ≡ j = omega arith in rw same at (h j a e)
 
 pub total_more : (p : Program) (a : AgentProgram) → total_moves (p ++ a ∷ []) ≡ total_moves p + length a.actions

@@ -24,7 +24,7 @@ use Rattle.fleet_code.specs.Spelling.{magic, number, count as count_of, count_le
 use Rattle.fleet_code.specs.Reading.{Field, magic_at, number_at, count_from, cell_from, await_at, stay_in, step_at, action_at, actions_at, agent_at, agents_at, program_as}
 use Rattle.fleet_code.specs.LoadFaults.{HasHead, IsOffset, ReachesAgent, ReachesAction, ReachesOpcode, ReachesAwait, ReachesOrder, ReachesCount, EndsWithin, IsFirstFaultIn}
 use Rattle.fleet_code.proofs.Parts.{number_again, count_again, cell_again, await_again}
-use Rattle.fleet_code.proofs.RoundTrip.{joined, move_has, action_again, agent_again, agents_again, regroup_three, after_count, after_start, after_agents, after_agent_count}
+use Rattle.fleet_code.proofs.RoundTrip.{with_await, move_has, action_again, agent_again, agents_again, regroup_three, after_count, after_start, after_agents, after_agent_count}
 use Rattle.fleet_code.proofs.Awaited.{least_after, from_below, below_some}
 use Rattle.fleet_code.proofs.Reached.{from_first, from_each}
 use Rattle.fleet_code.proofs.FirstFaults.{magic_read, magic_ends, magic_differs}
@@ -58,10 +58,10 @@ awaits_front v (suc turns) whole n i least (w ∷ ws) rest f few from fit le fai
     let shorter = ap length regrouped in
     let long = length-append (number w.agent ++ count_of v w.count) others in
     let at = whole - length (16 ∷ ((number w.agent ++ count_of v w.count) ++ others)) in
-    let more : Await × List ℕ → Field Action = λ one. action_at v turns whole n i (one.0.agent + 1) one.1 >>= λ x. Ok (joined one x) in
+    let more : Await × List ℕ → Field Action = λ one. action_at v turns whole n i (one.0.agent + 1) one.1 >>= λ x. Ok (with_await one x) in
     ap (action_at v (suc turns) whole n i least) regrouped
     ∙ goes_on (await_at v at n i least ((number w.agent ++ count_of v w.count) ++ others)) more (w, others) (await_again v at n i least w others few from.0 (All-head (λ (w : Await). w.count ≤ (most_count v)) w ws fit))
-    ∙ fails_with (action_at v turns whole n i (w.agent + 1) others) (λ x. Ok (joined (w, others) x)) f (awaits_front v turns whole n i (w.agent + 1) ws rest f few from.1 (All-tail (λ (w : Await). w.count ≤ (most_count v)) w ws fit) (omega (arith, le, shorter, long)) fails)
+    ∙ fails_with (action_at v turns whole n i (w.agent + 1) others) (λ x. Ok (with_await (w, others) x)) f (awaits_front v turns whole n i (w.agent + 1) ws rest f few from.1 (All-tail (λ (w : Await). w.count ≤ (most_count v)) w ws fit) (omega (arith, le, shorter, long)) fails)
 
 -- ---- the actions of an agent
 
@@ -185,7 +185,7 @@ told_await v bytes n i ws at rest f r fails =
     turned : length bytes - length (16 ∷ rest) ≡ at → (t : ℕ) → length (16 ∷ rest) ≤ t → action_at v t (length bytes) n i (least_after 0 ws) (16 ∷ rest) ≡ Err f
     turned here zero le = absurd (omega (arith, le))
     turned here (suc t) le =
-        let more : Await × List ℕ → Field Action = λ one. action_at v t (length bytes) n i (one.0.agent + 1) one.1 >>= λ x. Ok (joined one x) in
+        let more : Await × List ℕ → Field Action = λ one. action_at v t (length bytes) n i (one.0.agent + 1) one.1 >>= λ x. Ok (with_await one x) in
         rw here (fails_with (await_at v at n i (least_after 0 ws) rest) more f fails)
 
 -- an await, after its count
@@ -207,16 +207,16 @@ told_count v bytes at rest f r fails =
     let high : ltb r.j (least_after 0 r.awaits) ≡ false = le-ltb r.j (least_after 0 r.awaits) (from_below 0 r.awaits r.j (omega arith) r.rising) in
     told_order v bytes r.n r.awaits at r.j rest f r.agent (rw high (fails r.j))
 
-no_stay : (v : Version) → (IsTrue (has_opcode v Dwell) → ⊥) → stay_in v ≡ None
-no_stay One h = refl
-no_stay Two h = absurd (h refl)
+no_stay_opcode : (v : Version) → (IsTrue (has_opcode v Dwell) → ⊥) → stay_in v ≡ None
+no_stay_opcode One h = refl
+no_stay_opcode Two h = absurd (h refl)
 
 no_opcode : (v : Version) (b : ℕ) → ((s : Step) → IsTrue (has_opcode v s) → b ≢ opcode s) → step_at v b ≡ None
 no_opcode v zero h = absurd (h (Go North) (move_has v North) refl)
 no_opcode v (suc zero) h = absurd (h (Go East) (move_has v East) refl)
 no_opcode v (suc (suc zero)) h = absurd (h (Go South) (move_has v South) refl)
 no_opcode v (suc (suc (suc zero))) h = absurd (h (Go West) (move_has v West) refl)
-no_opcode v (suc (suc (suc (suc zero)))) h = no_stay v (λ has. h Dwell has refl)
+no_opcode v (suc (suc (suc (suc zero)))) h = no_stay_opcode v (λ has. h Dwell has refl)
 no_opcode v (suc (suc (suc (suc (suc b))))) h = refl
 
 -- an agent whose head is not wholly there

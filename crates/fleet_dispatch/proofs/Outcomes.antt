@@ -40,7 +40,7 @@ write_stops p first then both works c sent k reports (Err x) j way told e =
     (reports, record { taken = way.taken; told = inl (cut.0, cut.1, j.join _ _ way.talk cut.2) })
 
 -- after the orders are told that are due after these reports
-pub record IsTold (p : Program) (talks : Talk → Type 0) (works : Type 0) (c : Configuration) (k : ℕ) (reports : List (List ℕ)) : Type 0 where
+pub record AreOrdersTold (p : Program) (talks : Talk → Type 0) (works : Type 0) (c : Configuration) (k : ℕ) (reports : List (List ℕ)) : Type 0 where
   pub taken : AreTaken p reports c
   pub count : k ≡ length reports
   pub talk : talks (talk_of p reports (length reports))
@@ -48,7 +48,7 @@ pub record IsTold (p : Program) (talks : Talk → Type 0) (works : Type 0) (c : 
 
 pub now_told : {T E : Type 0} (p : Program) (first then both : Talk → Type 0) (works : Type 0) (c : Configuration) (sent : ℕ → Bool) (k : ℕ) (reports : List (List ℕ)) (r : Result T E)
     → Joins first then both → IsUnderWay p first c sent k reports → Tells then works r (orders_but sent p c (indices (length p))) → is_err r ≡ false
-    → IsTold p both works c k reports
+    → AreOrdersTold p both works c k reports
 now_told p first then both works c sent k reports (Err x) j way told e = absurd (cc)
 now_told p first then both works c sent k reports (Ok x) j way told e =
     let P : List ℕ → Type 0 = λ bytes. then (Told bytes ∷ []) × works in
@@ -62,7 +62,7 @@ finish_is p holds k needed over = record {
 }
 
 pub concludes : (p : Program) (first then both : Talk → Type 0) (works : Type 0) (c : Configuration) (k agents moves : ℕ) (reports : List (List ℕ)) (r : Result DispatchReport DispatchFault)
-    → Joins first then both → IsTold p first works c k reports → is_finished p c ≡ true → agents ≡ length p → moves ≡ total_moves p
+    → Joins first then both → AreOrdersTold p first works c k reports → is_finished p c ≡ true → agents ≡ length p → moves ≡ total_moves p
     → Concludes then agents moves k r → Dispatches p both c r
 concludes p first then both works c k agents moves reports (Ok r) j told over e m h =
     let text : closing agents moves k ≡ closing (length p) (total_moves p) (length reports) = cc (e, m, told.count) in (
@@ -88,12 +88,12 @@ concludes p first then both works c k agents moves reports (Err (f.Ended _)) j t
 concludes p first then both works c k agents moves reports (Err f.ReportLimit) j told over e m h = absurd h
 concludes p first then both works c k agents moves reports (Err f.Input) j told over e m h = absurd h
 
-pub limit_stops : (p : Program) (talks : Talk → Type 0) (works : Type 0) (c : Configuration) (k : ℕ) (reports : List (List ℕ)) → IsTold p talks works c k reports → is_finished p c ≡ false
+pub limit_stops : (p : Program) (talks : Talk → Type 0) (works : Type 0) (c : Configuration) (k : ℕ) (reports : List (List ℕ)) → AreOrdersTold p talks works c k reports → is_finished p c ≡ false
     → k ≡ MOST_REPORTS → Dispatches p talks c (Err f.ReportLimit)
 limit_stops p talks works c k reports told left limit = (reports, record { taken = told.taken; left = left; talk = told.talk; limit = sym told.count ∙ limit })
 
 pub report_stops : (T : Type 0) (p : Program) (first then both : Talk → Type 0) (works w : Type 0) (c c' : Configuration) (sent : List Bool) (k n : ℕ) (reports : List (List ℕ)) (e : DispatchFault)
-    → Joins first then both → IsTold p first works c k reports → is_finished p c ≡ false → n ≡ k + 1
+    → Joins first then both → AreOrdersTold p first works c k reports → is_finished p c ≡ false → n ≡ k + 1
     → TakesReport {T = T} p then w c c' sent n (Err e) → Dispatches p both c' (Err e)
 report_stops T p first then both works w c c' sent k n reports (f.Form line) j told left next h =
     let count = told.count in
@@ -122,7 +122,7 @@ report_stops T p first then both works w c c' sent k n reports f.Write j told le
 report_stops T p first then both works w c c' sent k n reports f.ReportLimit j told left next h = absurd h
 
 pub one_report_on : (p : Program) (first then both : Talk → Type 0) (works w : Type 0) (c c' : Configuration) (sent : List Bool) (k : ℕ) (reports : List (List ℕ)) (report : List ℕ)
-    → Joins first then both → IsTold p first works c k reports → is_finished p c ≡ false → IsTaken p then w c c' sent report
+    → Joins first then both → AreOrdersTold p first works c k reports → is_finished p c ≡ false → IsTaken p then w c c' sent report
     → IsUnderWay p both c' (flag_of sent) (k + 1) (more p reports report)
 one_report_on p first then both works w c c' sent k reports report j told left h = record {
   taken = taken_more p reports report c c' told.taken left h.answers h.after;

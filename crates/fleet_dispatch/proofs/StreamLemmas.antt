@@ -123,11 +123,11 @@ long_line read more none long = go (position is_lf (read ++ more)) refl
         let at = position-Some is_lf text i 0 e in
         (strip_carriage_return (take i text), lines (drop (i + 1) text), lines_first text i e, omega (arith, stripped_long (take i text), length-take i text, behind, at.0))
 
-pub too_long : (n : ℕ) (a : Option (List ℕ)) (read : List ℕ) (left : Option (List ℕ)) → Keeps a (prepend_known read left) → position is_lf read ≡ None → LINE_ROOM ≤ length read
+pub line_too_long : (n : ℕ) (a : Option (List ℕ)) (read : List ℕ) (left : Option (List ℕ)) → Keeps a (prepend_known read left) → position is_lf read ≡ None → LINE_ROOM ≤ length read
     → IfSome a (IsMisheard n)
-too_long n None read left k none long = tt
-too_long n (Some t) read None k none long = absurd k
-too_long n (Some t) read (Some more) k none long =
+line_too_long n None read left k none long = tt
+line_too_long n (Some t) read None k none long = absurd k
+line_too_long n (Some t) read (Some more) k none long =
     let l = long_line read more none long in
     subst (IsMisheard n) k (l.0, l.1, l.2, inr l.3)
 
@@ -137,7 +137,7 @@ too_long n (Some t) read (Some more) k none long =
 pub unfound : (a b left : Option (List ℕ)) (read : List ℕ) (e : HearFault) (r : Result Bool HearFault) (flags : List Bool) → IsErrAnd r (λ x. x ≡ e)
     → Keeps a (prepend_known read left) → EndsLine left read (Err e) → HearsLine a b r flags
 unfound a b left read e (Ok x) flags same k h = absurd same
-unfound a b left read h.Form (Err f) flags same k ends = subst (λ x. HearsLine a b (Err x) flags) (sym same) (too_long (length flags) a read left k ends.0 ends.1)
+unfound a b left read h.Form (Err f) flags same k ends = subst (λ x. HearsLine a b (Err x) flags) (sym same) (line_too_long (length flags) a read left k ends.0 ends.1)
 unfound a b left read h.Broken (Err f) flags same k ends = subst (λ x. HearsLine a b (Err x) flags) (sym same) tt
 
 -- the line is no report

@@ -9,6 +9,6 @@ pub takes_nothing : (ends : Ends) → TakesTurns ends ends []
 takes_nothing ends = refl
 
 -- one stretch and then another
-pub takes_more : (a b c : Ends) (before after : Talk) → TakesTurns a b before → TakesTurns b c after → TakesTurns a c (before ++ after)
-takes_more a b c [] after same then = subst (λ (x : Ends). TakesTurns x c after) same then
-takes_more a b c (turn ∷ before) after first then = (first.0, first.1, takes_more first.0 b c before after first.2 then)
+pub takes_turns_more : (a b c : Ends) (before after : Talk) → TakesTurns a b before → TakesTurns b c after → TakesTurns a c (before ++ after)
+takes_turns_more a b c [] after same then = subst (λ (x : Ends). TakesTurns x c after) same then
+takes_turns_more a b c (turn ∷ before) after first then = (first.0, first.1, takes_turns_more first.0 b c before after first.2 then)

@@ -136,7 +136,7 @@ impl<R: Read, O: Flush> Floor for StreamFloor<R, O> {
     ghost use Rattle.fleet_text.specs.Sink.{IsWorking};
     ghost use Rattle.fleet_dispatch.specs.Window.{unpassed};
     ghost use Rattle.fleet_dispatch.specs.Stream.{TakesTurns};
-    ghost use Rattle.fleet_dispatch.specs.StreamTalk.{takes_nothing, takes_more};
+    ghost use Rattle.fleet_dispatch.specs.StreamTalk.{takes_nothing, takes_turns_more};
 
     ghost talks = { λ f g talk. TakesTurns
         (record { out = O.state f.orders; left = prepend_known (unpassed f.window) (R.remaining f.input) })
@@ -154,7 +154,7 @@ impl<R: Read, O: Flush> Floor for StreamFloor<R, O> {
 
     ghost silent = { λ f. takes_nothing _ };
 
-    ghost joined = { λ f g h before after. takes_more _ _ _ before after };
+    ghost joined = { λ f g h before after. takes_turns_more _ _ _ before after };
 }
 
 /// What is read is what the input gives past the bytes that were read for lines.

@@ -9,7 +9,7 @@ use Rattle.fleet_grid.specs.declared.fault.MapFault.{MapFault}
 use Rattle.fleet_grid.specs.declared.fault.MapFault.TheVariants.{OutOfMemory, Header, Size, RowCount, RowLength, Glyph, Trailing}
 use Rattle.fleet_text.specs.Text.{Bytes, words_from_front}
 use Rattle.fleet_grid.specs.Ground.{Ground, IsSide}
-use Rattle.fleet_grid.specs.MapText.{line_at, is_no_glyph, cells_of, is_row_space, IsKindLine, IsNumberLine, IsMapLine, IsHeader, IsSizedHeader, AreRows, AreMapLines, HasForm, IsFirstWithoutForm, IsMapRightUpTo, IsFirstMapLineFault}
+use Rattle.fleet_grid.specs.MapText.{line_at, is_no_glyph, cells_of, is_row_space, IsKindLine, IsNumberLine, IsMapLine, IsHeader, IsSizedHeader, AreMapRows, AreMapLines, HasForm, IsFirstWithoutForm, IsMapRightUpTo, IsFirstMapLineFault}
 use Rattle.fleet_text.specs.Steps.{none_or, ◌>>=◌, ◌>>◌, some_or}
 use Rattle.fleet_grid.specs.MapReading.{is_alone, field, number_field, is_side, header_at, row_at, rows_at, map_at}
 use Rattle.fleet_text.proofs.StepLaws.{bind_err, right_err, some_err, some_ok, err_is, ok_err, none_some, option_cases}
@@ -198,8 +198,8 @@ rows_fault (suc left) w row (suc k) (line ∷ ls) f lt h stops =
 
 -- ---- rows of a map
 
-row_of : (ls : List Bytes) (k : ℕ) → get_or (drop 4 ls) k [] ≡ line_at ls (4 + k)
-row_of ls k = get_or-drop 4 ls k []
+row_at_line : (ls : List Bytes) (k : ℕ) → get_or (drop 4 ls) k [] ≡ line_at ls (4 + k)
+row_at_line ls k = get_or-drop 4 ls k []
 
 map_rows_fail : (ls : List Bytes) (w h : ℕ) (f : MapFault) → IsSizedHeader ls w h → rows_at h w 0 (drop 4 ls) ≡ Err f → IsFirstMapLineFault ls f
 map_rows_fail ls w h f header e =
@@ -214,8 +214,8 @@ map_rows_fail ls w h f header e =
           let lt = s.0 in
           let here : 4 + k < length ls = omega (arith, length-drop 4 ls, lt) in
           elim s.1 [
-            | inl p ↦ subst (IsFirstMapLineFault ls) (ap (λ (n : ℕ). RowLength n) (sym zero_less) ∙ sym p.0) (w, h, right, here, λ same. p.1 (ap length (row_of ls k) ∙ same))
-            | inr p ↦ subst (IsFirstMapLineFault ls) (ap (λ (n : ℕ). Glyph n p.0) (sym zero_less) ∙ sym p.1) (w, h, right, here, ap length (sym (row_of ls k)) ∙ p.2, ap (position is_no_glyph) (sym (row_of ls k)) ∙ p.3)
+            | inl p ↦ subst (IsFirstMapLineFault ls) (ap (λ (n : ℕ). RowLength n) (sym zero_less) ∙ sym p.0) (w, h, right, here, λ same. p.1 (ap length (row_at_line ls k) ∙ same))
+            | inr p ↦ subst (IsFirstMapLineFault ls) (ap (λ (n : ℕ). Glyph n p.0) (sym zero_less) ∙ sym p.1) (w, h, right, here, ap length (sym (row_at_line ls k)) ∙ p.2, ap (position is_no_glyph) (sym (row_at_line ls k)) ∙ p.3)
           ])
     ]
 
@@ -228,7 +228,7 @@ map_rows_fault ls w h k f right stops =
 
 -- ---- the whole map
 
-after_rows_fail : (ls : List Bytes) (w h : ℕ) (rows : List (List Bool) × List Bytes) (f : MapFault) → IsSizedHeader ls w h → AreRows w h (drop 4 ls) → rows.1 ≡ drop (4 + h) ls → after_rows_read w h rows ≡ Err f → IsFirstMapLineFault ls f
+after_rows_fail : (ls : List Bytes) (w h : ℕ) (rows : List (List Bool) × List Bytes) (f : MapFault) → IsSizedHeader ls w h → AreMapRows w h (drop 4 ls) → rows.1 ≡ drop (4 + h) ls → after_rows_read w h rows ≡ Err f → IsFirstMapLineFault ls f
 after_rows_fail ls w h rows f header are rest e =
     elim (right_err (list_all (list_all is_row_space) rows.1) Trailing (Ok (record { width = w; height = h; rows = rows.0 })) f e) [
       | inl p ↦ subst (IsFirstMapLineFault ls) p.1 (w, h, header, are, λ empty. both_ways (list_all (list_all is_row_space) rows.1) p.0 (ap (list_all (list_all is_row_space)) rest ∙ empty_again (drop (4 + h) ls) empty))
@@ -262,11 +262,11 @@ is_told ls Size h = rw (size_fault ls h.0 h.1 h.2 h.3) refl
 is_told ls RowCount h = map_rows_fault ls h.0 h.1 h.2 RowCount h.3 (inl (refl, let n = h.4 in omega (arith, length-drop 4 ls, n)))
 is_told ls (RowLength row) h =
     let here = h.3 in
-    map_rows_fault ls h.0 h.1 row (RowLength row) h.2 (inr (omega (arith, length-drop 4 ls, here), inl (refl, λ same. h.4 (ap length (sym (row_of ls row)) ∙ same))))
+    map_rows_fault ls h.0 h.1 row (RowLength row) h.2 (inr (omega (arith, length-drop 4 ls, here), inl (refl, λ same. h.4 (ap length (sym (row_at_line ls row)) ∙ same))))
 is_told ls (Glyph row column) h =
     let here = h.3 in
     map_rows_fault ls h.0 h.1 row (Glyph row column) h.2
-    (inr (omega (arith, length-drop 4 ls, here), inr (column, refl, ap length (row_of ls row) ∙ h.4, ap (position is_no_glyph) (row_of ls row) ∙ h.5)))
+    (inr (omega (arith, length-drop 4 ls, here), inr (column, refl, ap length (row_at_line ls row) ∙ h.4, ap (position is_no_glyph) (row_at_line ls row) ∙ h.5)))
 is_told ls Trailing h =
     let w = h.0 in
     let height = h.1 in

@@ -12,7 +12,7 @@ use Rattle.fleet_grid.specs.declared.fault.MapFault.{MapFault}
 use Rattle.fleet_grid.specs.declared.fault.MapFault.TheVariants.{Header, Size, RowLength, Glyph, Trailing}
 use Rattle.fleet_text.specs.Text.{Bytes, words, words_from_front, number}
 use Rattle.fleet_grid.specs.Ground.{Ground, cell_at, IsSide, IsGround}
-use Rattle.fleet_grid.specs.MapText.{line_at, is_ground_glyph, is_glyph, is_no_glyph, cells_of, is_row_space, IsKindLine, IsNumberLine, IsMapLine, IsHeader, IsSizedHeader, IsGlyphRow, AreRows, AreEmpty, AreMapLines}
+use Rattle.fleet_grid.specs.MapText.{line_at, is_ground_glyph, is_glyph, is_no_glyph, cells_of, is_row_space, IsKindLine, IsNumberLine, IsMapLine, IsHeader, IsSizedHeader, IsGlyphRow, AreMapRows, AreEmpty, AreMapLines}
 use Rattle.fleet_text.specs.Steps.{none_or, ◌>>=◌, ◌>>◌, right_or, some_or}
 use Rattle.fleet_grid.specs.MapReading.{after_keyword, is_alone, field, number_field, is_side, header_at, row_at, rows_at, map_at}
 use Rattle.fleet_text.proofs.TextLaws.{found_nowhere}
@@ -164,15 +164,15 @@ pub row_again : (w row : ℕ) (line : Bytes) → IsGlyphRow w line → row_at w 
 unfolding row_at
 row_again w row line h = rw (eq-eqb (length line) w h.width, glyphs_again line h.glyphs) refl
 
--- so many lines, each a row: as AreRows, by recursion
+-- so many lines, each a row: as AreMapRows, by recursion
 pub record StartWithRows (left w : ℕ) (ls : List Bytes) : Type 0 where
   pub count : left ≤ length ls
   pub rows : AllByRecursion (IsGlyphRow w) (take left ls)
 
-pub rows_to : (left w : ℕ) (ls : List Bytes) → StartWithRows left w ls → AreRows w left ls
+pub rows_to : (left w : ℕ) (ls : List Bytes) → StartWithRows left w ls → AreMapRows w left ls
 rows_to left w ls h = record { count = h.count; rows = All-from_recursion (IsGlyphRow w) (take left ls) h.rows }
 
-pub rows_from : (left w : ℕ) (ls : List Bytes) → AreRows w left ls → StartWithRows left w ls
+pub rows_from : (left w : ℕ) (ls : List Bytes) → AreMapRows w left ls → StartWithRows left w ls
 rows_from left w ls h = record { count = h.count; rows = recursion_from_All (IsGlyphRow w) (take left ls) h.rows }
 
 pub rows_are : (left w row : ℕ) (ls : List Bytes) (x : List (List Bool) × List Bytes) → rows_at left w row ls ≡ Ok x → StartWithRows left w ls × (x.0 ≡ map cells_of (take left ls)) × (x.1 ≡ drop left ls)
@@ -201,7 +201,7 @@ rows_read (suc left) w row (line ∷ ls) h =
     let rest : StartWithRows left w ls = record { count = (let few = h.count in omega (arith, few)); rows = h.rows.1 } in
     rw (row_again w row line h.rows.0, rows_read left w (row + 1) ls rest) refl
 
-pub rows_again : (left w row : ℕ) (ls : List Bytes) → AreRows w left ls → rows_at left w row ls ≡ Ok (map cells_of (take left ls), drop left ls)
+pub rows_again : (left w row : ℕ) (ls : List Bytes) → AreMapRows w left ls → rows_at left w row ls ≡ Ok (map cells_of (take left ls), drop left ls)
 rows_again left w row ls h = rows_read left w row ls (rows_from left w ls h)
 
 -- ---- what follows the rows

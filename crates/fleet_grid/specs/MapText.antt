@@ -64,7 +64,7 @@ pub record IsGlyphRow (w : ℕ) (line : Bytes) : Type 0 where
   pub glyphs : AllPass is_glyph line
 
 -- so many lines are there, and each is a row
-pub record AreRows (w n : ℕ) (ls : List Bytes) : Type 0 where
+pub record AreMapRows (w n : ℕ) (ls : List Bytes) : Type 0 where
   pub count : n ≤ length ls
   pub rows : All (IsGlyphRow w) (take n ls)
 
@@ -77,7 +77,7 @@ AreEmpty ls = All (AllPass is_row_space) ls
 -- a header, then a row of glyphs for each row of the ground, and then nothing that shows
 pub record AreMapLines (ls : List Bytes) (g : Ground) : Type 0 where
   pub header : IsSizedHeader ls g.width g.height
-  pub rows : AreRows g.width g.height (drop 4 ls)
+  pub rows : AreMapRows g.width g.height (drop 4 ls)
   pub cells : g.rows ≡ map cells_of (take g.height (drop 4 ls))
   pub rest : AreEmpty (drop (4 + g.height) ls)
 
@@ -103,7 +103,7 @@ pub record IsFirstWithoutForm (ls : List Bytes) (k : ℕ) : Type 0 where
 -- all that is judged before this row is right, and the map is to have the row
 pub record IsMapRightUpTo (row : ℕ) (ls : List Bytes) (w h : ℕ) : Type 0 where
   pub header : IsSizedHeader ls w h
-  pub rows : AreRows w row (drop 4 ls)
+  pub rows : AreMapRows w row (drop 4 ls)
   pub within : row < h
 
 -- the fault is there, and all that is judged before it is right. The header's lines count from 1, rows and columns from 0
@@ -115,7 +115,7 @@ IsFirstMapLineFault ls RowCount = (w h row : ℕ) × IsMapRightUpTo row ls w h �
 IsFirstMapLineFault ls (RowLength row) = (w h : ℕ) × IsMapRightUpTo row ls w h × (4 + row < length ls) × (length (line_at ls (4 + row)) ≢ w)
 IsFirstMapLineFault ls (Glyph row column) =
     (w h : ℕ) × IsMapRightUpTo row ls w h × (4 + row < length ls) × (length (line_at ls (4 + row)) ≡ w) × (position is_no_glyph (line_at ls (4 + row)) ≡ Some column)
-IsFirstMapLineFault ls Trailing = (w h : ℕ) × IsSizedHeader ls w h × AreRows w h (drop 4 ls) × (AreEmpty (drop (4 + h) ls) → ⊥)
+IsFirstMapLineFault ls Trailing = (w h : ℕ) × IsSizedHeader ls w h × AreMapRows w h (drop 4 ls) × (AreEmpty (drop (4 + h) ls) → ⊥)
 
 abbrev pub IsFirstMapFault : Bytes → MapFault → Type 0
 IsFirstMapFault text fault = IsFirstMapLineFault (lines text) fault

@@ -12,7 +12,7 @@ use Rattle.fleet_model.specs.Program.{Program, IsWellFormed, moves, step_of}
 use Rattle.fleet_model.specs.Machine.{Configuration, standing_at, count_at, next_action, finished_one}
 use Rattle.fleet_model.specs.declared.geometry.Place.{Place}
 use Rattle.fleet_machine.specs.Near.{IsNear, AreNear}
-use Rattle.fleet_machine.proofs.Ready.{next_of}
+use Rattle.fleet_machine.proofs.Ready.{has_next}
 
 pub near_moved : (s : Standing) (d : Step) → IsNear s → IsNear (record { place = stepped s.place d; count = s.count + 1 })
 near_moved s (Go North) h = record { west = omega (arith, ints, h.west); east = omega (arith, ints, h.east); north = omega (arith, ints, h.north); south = omega (arith, ints, h.south) }
@@ -29,7 +29,7 @@ module _ (p : Program) (c : Configuration) (i : ℕ) (left : count_at c i < move
   pub finished_is : (step : Step) (place : Place) → step_of p i (count_at c i + 1) ≡ Some step → place ≡ stepped (standing_at c i).place step
       → ◌≡◌ {A = Standing} (record { place = place; count = count_at c i + 1 }) (finished_one (standing_at c i) (next_action p c i))
   finished_is step place d e =
-      let n = next_of p c i left in
+      let n = has_next p c i left in
       let same : n.0.step ≡ step = let t = n.1.step in cc in
       rw (n.1.next, same, e) refl
 

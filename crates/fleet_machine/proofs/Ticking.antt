@@ -15,11 +15,11 @@ use Rattle.fleet_machine.specs.AgentSet.{AreNoneFrom, IsNextFrom}
 use Rattle.fleet_machine.specs.Looked.{ready_in, awaits_moving, awaiting_in, LooksAt}
 use Rattle.fleet_machine.specs.WaitLists.{home_of}
 use Rattle.fleet_machine.specs.Machine.{MachineState, Runs, HasRows, IsHome, IsJudged, Lacks, flag_of, is_left, moving_flags}
-use Rattle.fleet_machine.specs.Waking.{is_on, if_not_on, IsWoken, IsSettled, IsAsBefore}
+use Rattle.fleet_machine.specs.Waking.{is_on, if_not_on, IsWoken, IsCarriedOut, IsAsBefore}
 use Rattle.fleet_machine.proofs.Advanced.{onward, filter_more, IsAdvanced, all_wait}
 use Rattle.fleet_machine.proofs.Lasting.{ready_lasts}
 use Rattle.fleet_machine.proofs.Judging.{none_more_counted, one_more_counted, counted_le}
-use Rattle.fleet_machine.proofs.Ready.{no_action_left, next_of, not_ready_if_unmet, awaited_agent}
+use Rattle.fleet_machine.proofs.Ready.{no_action_left, has_next, not_ready_if_unmet, awaited_agent}
 
 true_is_false : true ≡ false → ⊥
 true_is_false e = absurd cc
@@ -79,7 +79,7 @@ module _ (p : Program) (c : Configuration) (i j : ℕ) (lacks : Lacks p c i j) w
 
   awaits_if_lacking : (held : ℕ → Bool) → is_moving p held c j ≡ true → awaits_moving p held c i ≡ true
   awaits_if_lacking held moves =
-      let n = next_of p c i left_if_lacking in
+      let n = has_next p c i left_if_lacking in
       let at : slice_get n.0.awaits lacks.place ≡ Some lacks.awaited = ap (λ ws. slice_get ws lacks.place) (sym n.1.awaits) ∙ lacks.at in
       rw n.1.next (list_any_at (λ w. is_moving p held c w.agent) n.0.awaits lacks.place lacks.awaited (slice_get_within n.0.awaits lacks.place lacks.awaited at)
       (rw (get_or_from_slice_get n.0.awaits lacks.place lacks.awaited lacks.awaited at, lacks.agent) moves))
@@ -254,7 +254,7 @@ module _ (p : Program) (held : ℕ → Bool) (m : MachineState) (runs : Runs p m
             record { ready = here.ready; left = here.left; home = here.home };
       }
 
-      pub settled : (count : ℕ) → count ≡ length (filter (flag_of woken.due) (indices (length p))) → IsSettled p held m new count
+      pub settled : (count : ℕ) → count ≡ length (filter (flag_of woken.due) (indices (length p))) → IsCarriedOut p held m new count
       settled count is = record {
         runs = runs_after;
         configuration = configuration_new;

@@ -35,7 +35,7 @@ pub record HasMoved (p : Program) (held : ℕ → Bool) (before after : MachineS
 
 -- after the tick in which these are held the machine runs the program, and so many agents were judged: those that it moved, and
 -- some of those that await one of them
-pub record IsSettled (p : Program) (held : ℕ → Bool) (before after : MachineState) (judged : ℕ) : Type 0 where
+pub record IsCarriedOut (p : Program) (held : ℕ → Bool) (before after : MachineState) (judged : ℕ) : Type 0 where
   pub runs : Runs p after
   pub configuration : after.configuration ≡ tick p held before.configuration
   pub moving : after.moving ≡ moving_flags p held before.configuration

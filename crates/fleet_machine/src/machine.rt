@@ -11,7 +11,7 @@ ghost use Rattle.fleet_machine.specs.Confirmed.{all_but, AreSent, IsFirstUnsent}
 ghost use Rattle.fleet_machine.specs.Looked.{ready_in, awaiting_in, LooksAt};
 ghost use Rattle.fleet_machine.specs.Near.{IsNear};
 ghost use Rattle.fleet_machine.specs.Machine.{MachineState, Runs, HasRows, IsHome, IsJudged, is_left, after_next, moving_flags, flag_of};
-ghost use Rattle.fleet_machine.specs.Waking.{IsWoken, HasMoved, IsSettled, IsPlaced, IsAsBefore};
+ghost use Rattle.fleet_machine.specs.Waking.{IsWoken, HasMoved, IsCarriedOut, IsPlaced, IsAsBefore};
 ghost use Rattle.fleet_machine.specs.WaitLists.{home_of};
 
 use crate::agent_set::{AgentSet, next_flag};
@@ -494,7 +494,7 @@ impl Machine {
     fn settle<P: ProgramView>(&mut self, program: &P) -> u16
         requires moved { (before : MachineState) × (held : ℕ → Bool) × HasMoved (P.program program.now) held before self.old }
         ensures { (before : MachineState) → (held : ℕ → Bool) → HasMoved (P.program program.now) held before self.old
-            → IsSettled (P.program program.now) held before self.new result }
+            → IsCarriedOut (P.program program.now) held before self.new result }
     {
         self.wake_all();
         self.judge_due(program)

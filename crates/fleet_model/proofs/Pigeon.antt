@@ -26,8 +26,8 @@ among f (suc m) v = elim (cases_eq (f m) v) [
 ]
 
 -- the values, the greatest one moved onto another
-moved_to : (ℕ → ℕ) → ℕ → ℕ → ℕ → ℕ
-moved_to f top v i = cond (eqb (f i) top) v (f i)
+greatest_moved : (ℕ → ℕ) → ℕ → ℕ → ℕ → ℕ
+greatest_moved f top v i = cond (eqb (f i) top) v (f i)
 
 abbrev IsMoved : ℕ → ℕ → ℕ → ℕ → Type 0
 IsMoved x top v r = ((x ≡ top) × (r ≡ v)) ⊎ ((x ≡ top → ⊥) × (r ≡ x))
@@ -36,8 +36,8 @@ moved_by : (x top v : ℕ) (t : Bool) → eqb x top ≡ t → IsMoved x top v (c
 moved_by x top v true e = inl (eqb-true x top e, refl)
 moved_by x top v false e = inr (eqb-false x top e, refl)
 
-moved_is : (f : ℕ → ℕ) (top v i : ℕ) → IsMoved (f i) top v (moved_to f top v i)
-unfolding moved_to
+moved_is : (f : ℕ → ℕ) (top v i : ℕ) → IsMoved (f i) top v (greatest_moved f top v i)
+unfolding greatest_moved
 moved_is f top v i = moved_by (f i) top v (eqb (f i) top) refl
 
 pub repeated : (n m : ℕ) (f : ℕ → ℕ) → n < m → ((i : ℕ) → i < m → f i < n) → IsRepeat f m
@@ -46,20 +46,20 @@ repeated (suc n) zero f l into = absurd (omega arith)
 repeated (suc n) (suc m) f l into =
     elim (among f m (f m)) [
       | inl r ↦ record { first = r.0; second = m; order = r.1; within = omega arith; same = r.2 }
-      | inr none ↦ back (repeated n m (moved_to f n (f m)) (omega arith) (smaller none)) none
+      | inr none ↦ back (repeated n m (greatest_moved f n (f m)) (omega arith) (smaller none)) none
     ]
   where
-    smaller : (IsAmong f m (f m) → ⊥) → (i : ℕ) → i < m → moved_to f n (f m) i < n
+    smaller : (IsAmong f m (f m) → ⊥) → (i : ℕ) → i < m → greatest_moved f n (f m) i < n
     smaller none i h =
         let a : f i < suc n = into i (omega arith) in
         let b : f m < suc n = into m (omega arith) in
         let ne : f i ≡ f m → ⊥ = λ e. none (i, h, e) in
         elim (moved_is f n (f m) i) [ inl w ↦ (elim (cases_eq (f m) n) [ inl e ↦ absurd (ne (w.0 ∙ sym e)) | inr g ↦ omega (arith, w.1) ]) | inr w ↦ omega (arith, w.0, w.1) ]
 
-    back : IsRepeat (moved_to f n (f m)) m → (IsAmong f m (f m) → ⊥) → IsRepeat f (suc m)
+    back : IsRepeat (greatest_moved f n (f m)) m → (IsAmong f m (f m) → ⊥) → IsRepeat f (suc m)
     back r none = record { first = r.first; second = r.second; order = r.order; within = omega (arith, r.within); same = same (moved_is f n (f m) r.first) (moved_is f n (f m) r.second) }
       where
-        same : IsMoved (f r.first) n (f m) (moved_to f n (f m) r.first) → IsMoved (f r.second) n (f m) (moved_to f n (f m) r.second) → f r.first ≡ f r.second
+        same : IsMoved (f r.first) n (f m) (greatest_moved f n (f m) r.first) → IsMoved (f r.second) n (f m) (greatest_moved f n (f m) r.second) → f r.first ≡ f r.second
         same (inl v) (inl w) = v.0 ∙ sym w.0
         same (inl v) (inr w) = absurd (none (r.second, r.within, sym (sym v.1 ∙ (r.same ∙ w.1))))
         same (inr v) (inl w) = absurd (none (r.first, omega (arith, r.order, r.within), sym v.1 ∙ (r.same ∙ w.1)))

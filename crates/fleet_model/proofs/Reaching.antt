@@ -21,10 +21,10 @@ pub record LastStep (p : Program) (a b : ActionId) : Type 0 where
   pub reaches : Reaches p a before
   pub needs : DirectlyNeeds p b before
 
-pub last_step : (p : Program) (a : ActionId) (cs : List ActionId) (b : ActionId) → ChainFrom p a cs b → (a ≡ b) ⊎ LastStep p a b
-last_step p a [] b (h, e) = inl e
-last_step p a (c ∷ cs) b (h, n, k) =
-    elim (last_step p c cs b k) [
+pub chain_ends_by_step : (p : Program) (a : ActionId) (cs : List ActionId) (b : ActionId) → ChainFrom p a cs b → (a ≡ b) ⊎ LastStep p a b
+chain_ends_by_step p a [] b (h, e) = inl e
+chain_ends_by_step p a (c ∷ cs) b (h, n, k) =
+    elim (chain_ends_by_step p c cs b k) [
       | inl e ↦ inr (record { before = a; reaches = Reaches-refl p a h; needs = subst (λ x. DirectlyNeeds p x a) e n })
       | inr l ↦ inr (record { before = l.before; reaches = Reaches-trans p a c l.before (Reaches-need p a c h (Reaches-first p c l.before l.reaches) n) l.reaches; needs = l.needs })
     ]

@@ -170,10 +170,10 @@ past_moves p i m n le all =
 
 -- ---- an agent that never stays
 
-abbrev pub GoesOn : Program → ℕ → Type 0
-GoesOn p i = (n : ℕ) (a : Action) → there p i n a → is_move a.step ≡ true
+abbrev pub NeverDwells : Program → ℕ → Type 0
+NeverDwells p i = (n : ℕ) (a : Action) → there p i n a → is_move a.step ≡ true
 
-pub goes_next : (p : Program) (i n : ℕ) → GoesOn p i → next_move p i n ≡ n + 1
+pub goes_next : (p : Program) (i n : ℕ) → NeverDwells p i → next_move p i n ≡ n + 1
 goes_next p i n goes = elim (cases_lt 0 (stays_before (drop n (actions_of p i)))) [
   | inr none ↦ omega arith
   | inl some ↦ (
@@ -183,7 +183,7 @@ goes_next p i n goes = elim (cases_lt 0 (stays_before (drop n (actions_of p i)))
       absurd (both_ways (is_move a.0.step) (stays_are (drop n (actions_of p i)) 0 a.0 (get-drop (actions_of p i) n 0 n (omega arith) ∙ a.1) some) (goes n a.0 a.1)))
 ]
 
-pub goes_enters : (p : Program) (i n : ℕ) → GoesOn p i → n ≤ moves p i → is_entry p i n ≡ true
+pub goes_enters : (p : Program) (i n : ℕ) → NeverDwells p i → n ≤ moves p i → is_entry p i n ≡ true
 goes_enters p i zero goes le = refl
 goes_enters p i (suc n) goes le = let a = action_there p i n (omega arith) in move_enters p i n a.0 a.1 (goes n a.0 a.1)
 

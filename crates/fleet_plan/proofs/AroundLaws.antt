@@ -1,7 +1,7 @@
 -- A walk once round a ring.
 use Rattle.std.proofs.Common.{◌≡◌, ◌≢◌, ℕ, ◌+◌, ◌≤◌, List, [], ◌∷◌, ◌++◌, length, Option, Some, ◌⊎◌, inl, inr, refl, sym, ◌∙◌, subst, arith}
 use Rattle.std.specs.List.{AllByRecursion}
-use Rattle.fleet_plan.specs.Rings.{AreAgents, ahead_of, Leads, LeadsTo, IsOnRing}
+use Rattle.fleet_plan.specs.Rings.{NamesAgents, ahead_of, Leads, LeadsTo, IsOnRing}
 use Rattle.fleet_plan.proofs.RingLaws.{some_is, leads-append, reaches-itself, short_way, all_round}
 
 -- after so many steps ahead from the first agent, of which least is the least so far
@@ -24,7 +24,7 @@ push : (a k : ℕ) (js : List ℕ) → a ≤ k → AllByRecursion (λ m. a ≤ m
 push a k [] l h = (l, tt)
 push a k (j ∷ js) l h = (h.0, push a k js l h.1)
 
-pub around-none : (ahead : List (Option ℕ)) (first : ℕ) → AreAgents ahead → IsOnRing ahead first → IsAround ahead first first first 0
+pub around-none : (ahead : List (Option ℕ)) (first : ℕ) → NamesAgents ahead → IsOnRing ahead first → IsAround ahead first first first 0
 around-none ahead first agents ring =
     let s = short_way ahead agents first ring in
     record { passed = []; led = refl; least_passed = tt; least_first = omega arith; among = reaches-itself ahead first; next = s.0; rest = s.1; left = s.2; few = omega (arith, s.3) }

@@ -21,11 +21,11 @@ abbrev pub rest_front : Bytes → Bytes
 rest_front [] = []
 rest_front (b ∷ text) = cond (is_blank b) (b ∷ text) (rest_front text)
 
-abbrev others : Bytes → List Bytes
-others [] = []
-others (b ∷ text) = cond (is_blank b) (slice_split is_blank text) (others text)
+abbrev later_words : Bytes → List Bytes
+later_words [] = []
+later_words (b ∷ text) = cond (is_blank b) (slice_split is_blank text) (later_words text)
 
-split_front : (text : Bytes) → slice_split is_blank text ≡ word_front text ∷ others text
+split_front : (text : Bytes) → slice_split is_blank text ≡ word_front text ∷ later_words text
 split_front [] = refl
 split_front (b ∷ text) =
     elim (cases_Bool (is_blank b)) [
@@ -37,13 +37,13 @@ words_blank : (b : ℕ) (text : Bytes) → is_blank b ≡ true → words (b ∷ 
 unfolding words
 words_blank b text t = rw t refl
 
-others_are : (text : Bytes) → filter is_word (others text) ≡ words (rest_front text)
+others_are : (text : Bytes) → filter is_word (later_words text) ≡ words (rest_front text)
 unfolding words
 others_are [] = refl
 others_are (b ∷ text) =
     elim (cases_Bool (is_blank b)) [
       | inl t ↦ (
-          let here : others (b ∷ text) ≡ slice_split is_blank text = rw t refl in
+          let here : later_words (b ∷ text) ≡ slice_split is_blank text = rw t refl in
           let rest : rest_front (b ∷ text) ≡ b ∷ text = rw t refl in
           ap (filter is_word) here ∙ sym (words_blank b text t) ∙ ap words (sym rest))
       | inr t ↦ rw t (others_are text)
@@ -162,7 +162,7 @@ record IsAlone (text part rest : Bytes) : Type 0 where
   rest_is : rest_front text ≡ rest
   ended : begins_with_word rest ≡ false
 
--- a comma and others follow the first
+-- a comma and later_words follow the first
 record IsFirstOfMore (text part after : Bytes) : Type 0 where
   parts : parts_front text ≡ part ∷ parts_front after
   rest_is : rest_front text ≡ rest_front after
@@ -173,8 +173,8 @@ record IsOther (b : ℕ) : Type 0 where
   no_comma : eqb b 44 ≡ false
 
 -- how a word goes on after the digits in front
-abbrev GoesOn : (text ds rest : Bytes) → Type 0
-GoesOn text ds rest =
+abbrev EndsDigits : (text ds rest : Bytes) → Type 0
+EndsDigits text ds rest =
     IsAlone text ds rest
     ⊎ (((after : Bytes) × (rest ≡ 44 ∷ after) × IsFirstOfMore text ds after)
     ⊎ ((b : ℕ) × (after : Bytes) × (rest ≡ b ∷ after) × IsOther b × IsWrong text))
@@ -186,7 +186,7 @@ module _ (text : Bytes) (d : ℕ) (ds : Bytes) (digits : AllByRecursion (λ d. i
   rest_then : (rest : Bytes) → text ≡ (d ∷ ds) ++ rest → rest_front text ≡ rest_front rest
   rest_then rest e = ap rest_front e ∙ rest_digits (d ∷ ds) rest digits
 
-  goes_on : (rest : Bytes) → text ≡ (d ∷ ds) ++ rest → ((e : ℕ) (after : Bytes) → rest ≡ e ∷ after → is_digit e ≡ false) → GoesOn text (d ∷ ds) rest
+  goes_on : (rest : Bytes) → text ≡ (d ∷ ds) ++ rest → ((e : ℕ) (after : Bytes) → rest ≡ e ∷ after → is_digit e ≡ false) → EndsDigits text (d ∷ ds) rest
   goes_on [] e end =
       let parts : parts_front text ≡ (d ∷ ds) ∷ [] = parts_then [] [] [] e refl ∙ ap (λ (x : Bytes). x ∷ []) (append-nil (d ∷ ds)) in
       inl (record { parts = parts; rest_is = rest_then [] e; ended = refl })
@@ -236,7 +236,7 @@ wrong_first d text t =
 abbrev Goes : Bytes → Type 0
 Goes text =
     ((small_number_front text ≡ None) × IsWrong text)
-    ⊎ ((n : ℕ) × (ds rest : Bytes) × (small_number_front text ≡ Some (n, rest)) × (small_number ds ≡ Some n) × GoesOn text ds rest)
+    ⊎ ((n : ℕ) × (ds rest : Bytes) × (small_number_front text ≡ Some (n, rest)) × (small_number ds ≡ Some n) × EndsDigits text ds rest)
 
 small_number_is : (d : ℕ) (ds : Bytes) (n : ℕ) → is_digit d ≡ true → number_after (d - 48) ds ≡ Some n → small_number (d ∷ ds) ≡ small n
 unfolding small_number number number_after
@@ -245,7 +245,7 @@ small_number_is d ds n t e =
     let h : number_after (10 * 0 + (d - 48)) ds ≡ Some n = ap (λ (x : ℕ). number_after x ds) same ∙ e in
     rw (t, h) refl
 
-wrong_front : (text ds rest : Bytes) → small_number ds ≡ None → GoesOn text ds rest → IsWrong text
+wrong_front : (text ds rest : Bytes) → small_number ds ≡ None → EndsDigits text ds rest → IsWrong text
 wrong_front text ds rest none (inl h) = record { part = ds; more = []; parts = h.parts; none = none }
 wrong_front text ds rest none (inr (inl h)) = record { part = ds; more = parts_front h.0; parts = h.2.parts; none = none }
 wrong_front text ds rest none (inr (inr h)) = h.4
@@ -260,7 +260,7 @@ goes (d ∷ text) =
           let ds = found.0 in
           let h = found.1 in
           let x = digits_front (d - 48) text in
-          let on : GoesOn (d ∷ text) (d ∷ ds) x.1 = goes_on (d ∷ text) d ds (t, h.digits) x.1 (ap (λ (u : Bytes). d ∷ u) h.all) h.end in
+          let on : EndsDigits (d ∷ text) (d ∷ ds) x.1 = goes_on (d ∷ text) d ds (t, h.digits) x.1 (ap (λ (u : Bytes). d ∷ u) h.all) h.end in
           let value = small_number_is d ds x.0 t h.spelled in
           elim (cases_Bool (ltb x.0 65536)) [
             | inl few ↦ (
@@ -338,7 +338,7 @@ module _ (text : Bytes) (x : ℕ) (ds rest : Bytes) (front : small_number_front 
         let parts : parts_front text ≡ ds ∷ wrong.part ∷ wrong.more = more.parts ∙ ap (λ (ws : List Bytes). ds ∷ ws) wrong.parts in
         inl (c, ap cell_of_parts parts ∙ no_cell_second ds wrong.part wrong.more wrong.none)
 
-    second : (y : ℕ) (es rest2 : Bytes) → small_number_front after ≡ Some (y, rest2) → small_number es ≡ Some y → GoesOn after es rest2 → ReadsCell text
+    second : (y : ℕ) (es rest2 : Bytes) → small_number_front after ≡ Some (y, rest2) → small_number es ≡ Some y → EndsDigits after es rest2 → ReadsCell text
     unfolding cell_front spelled_cell
     second y es rest2 found row (inl alone) =
         let next = next_word rest2 alone.ended in
@@ -362,7 +362,7 @@ module _ (text : Bytes) (x : ℕ) (ds rest : Bytes) (front : small_number_front 
         let parts : parts_front text ≡ ds ∷ wrong.part ∷ wrong.more = more.parts ∙ ap (λ (ws : List Bytes). ds ∷ ws) wrong.parts in
         inl (c, ap cell_of_parts parts ∙ no_cell_second ds wrong.part wrong.more wrong.none)
 
-  first : GoesOn text ds rest → ReadsCell text
+  first : EndsDigits text ds rest → ReadsCell text
   unfolding spelled_cell
   first (inl alone) = inl (no_comma (no_comma_after rest alone.ended), ap cell_of_parts alone.parts)
   first (inr (inl h)) =

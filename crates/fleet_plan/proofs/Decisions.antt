@@ -238,8 +238,8 @@ first_ring_or places next ahead are = elim (first_or_all (λ i. IsOnRing ahead i
 
 -- ---- one step
 
-step_or : (places next : List ℕ) (t : ℕ) → IsFreeIn places next ⊎ ((c : Conflict) × IsFirstIn places next t c)
-step_or places next t =
+free_or_first : (places next : List ℕ) (t : ℕ) → IsFreeIn places next ⊎ ((c : Conflict) × IsFirstIn places next t c)
+free_or_first places next t =
     let a = all_ahead places next in
     elim (meeting_or places) [
       | inr m ↦ inr (Vertex t m.0 m.1, (refl, m.2))
@@ -292,7 +292,7 @@ conflict_or have plan limits = go (steps plan + 1) 0 (omega arith) (λ d h. omeg
     go (suc n) t e earlier =
         let now = are_places plan t in
         let then = are_places plan (t + 1) in
-        elim (step_or (places_at plan t) (places_at plan (t + 1)) t) [
+        elim (free_or_first (places_at plan t) (places_at plan (t + 1)) t) [
           | inr f ↦ inr (f.0, first_is have box plan (in_box plan limits) t (places_at plan t) (places_at plan (t + 1)) now then earlier f.0 f.1)
           | inl free ↦ go n (t + 1) (omega arith) (none_here have box plan (in_box plan limits) t (places_at plan t) (places_at plan (t + 1)) now then earlier free)
         ]

@@ -5,7 +5,7 @@ use Rattle.std.proofs.lemmas.List.{get_or-set_same, get_or-set_other}
 use Rattle.fleet_table.specs.declared.table.Table.{Table}
 use Rattle.fleet_table.specs.Table.{value_in, IsSet}
 use Rattle.fleet_plan.specs.FirstFault.{IsPairUpTo}
-use Rattle.fleet_plan.specs.Rings.{AreAgents, ahead_of}
+use Rattle.fleet_plan.specs.Rings.{NamesAgents, ahead_of}
 use Rattle.fleet_plan.specs.Sweep.{IsAhead, AreAhead, IsEntered, Exchange, HasNone, HasNoMeeting, IsFirstIn, IsFreeIn, IsFirstAhead, IsFreeAhead, IsAgentSettled}
 use Rattle.fleet_plan.specs.declared.plan_fault.Conflict.{Conflict}
 use Rattle.fleet_plan.specs.declared.plan_fault.Conflict.TheVariants.{Vertex, Swapping, Cycle}
@@ -155,7 +155,7 @@ module _ (table : Table ℕ) (places : List ℕ) (found : Option (ℕ × ℕ)) (
 
 -- ---- what follows where nobody meets another
 
-pub ahead_agents : (places next : List ℕ) (ahead : List (Option ℕ)) → AreAhead places next ahead → AreAgents ahead
+pub ahead_agents : (places next : List ℕ) (ahead : List (Option ℕ)) → AreAhead places next ahead → NamesAgents ahead
 ahead_agents places next ahead a i j e =
     let within : i < length ahead = ahead_within ahead i j e in
     let h : IsAhead places next i (Some j) = subst (IsAhead places next i) e (a.each i (omega (arith, a.all))) in

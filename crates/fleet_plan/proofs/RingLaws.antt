@@ -6,7 +6,7 @@ use Rattle.std.proofs.lemmas.List.{get_or_past, get_or_default}
 use Rattle.std.proofs.lemmas.Map.Keys.{IsDistinct-tail}
 use Rattle.std.proofs.lemmas.Map.Steps.{length-le_from_distinct_below}
 use Rattle.fleet_model.specs.Conflict.{after_in}
-use Rattle.fleet_plan.specs.Rings.{AreAgents, ahead_of, Leads, LeadsTo, IsOnRing}
+use Rattle.fleet_plan.specs.Rings.{NamesAgents, ahead_of, Leads, LeadsTo, IsOnRing}
 
 pub some_is : (j k : ℕ) (o : Option ℕ) → o ≡ Some j → o ≡ Some k → j ≡ k
 some_is j k o a b = let e : Some j ≡ Some k = sym a ∙ b in cc
@@ -82,7 +82,7 @@ module _ (ahead : List (Option ℕ)) where
         | inr w ↦ (j, s.0 ∷ s.1, (f.0, s.2), (w, s.3))
       ]
 
-  pub leads-below : AreAgents ahead → (i : ℕ) (js : List ℕ) (e : ℕ) → Leads ahead i js e → (q : ℕ) → list_any (eqb q) js ≡ true → q < length ahead
+  pub leads-below : NamesAgents ahead → (i : ℕ) (js : List ℕ) (e : ℕ) → Leads ahead i js e → (q : ℕ) → list_any (eqb q) js ≡ true → q < length ahead
   leads-below agents i [] e f q h = absurd (cc)
   leads-below agents i (j ∷ js) e f q h = elim (or_cases (eqb q j) (list_any (eqb q) js) h) [
     | inl s ↦ subst (λ z. z < length ahead) (sym (eqb-true q j s)) (agents i j f.0)
@@ -90,7 +90,7 @@ module _ (ahead : List (Option ℕ)) where
   ]
 
   -- a way back to an agent on a ring that is not too long
-  pub short_way : AreAgents ahead → (i : ℕ) → IsOnRing ahead i → (j : ℕ) × (js : List ℕ) × Leads ahead i (j ∷ js) i × (length js + 1 ≤ length ahead)
+  pub short_way : NamesAgents ahead → (i : ℕ) → IsOnRing ahead i → (j : ℕ) × (js : List ℕ) × Leads ahead i (j ∷ js) i × (length js + 1 ≤ length ahead)
   short_way agents i r =
       let s = shortened i r.next r.back.0 i (r.ahead_is, r.back.1) in
       let few : length (s.0 ∷ s.1) ≤ length ahead = length-le_from_distinct_below (s.0 ∷ s.1) (length ahead) s.3 (leads-below agents i (s.0 ∷ s.1) i s.2) in

@@ -15,7 +15,7 @@ use Rattle.fleet_plan.specs.declared.plan_fault.Conflict.{Conflict}
 use Rattle.fleet_plan.specs.declared.plan_fault.Conflict.TheVariants.{Vertex, Swapping, Cycle}
 use Rattle.fleet_plan.specs.Plan.{Plan, cell_of, planned, steps, IsPath}
 use Rattle.fleet_plan.specs.FirstFault.{AllAgents, GoesRight, path_of, HasConflict, HasNoConflict, time_of, IsKindUpTo, IsConflictUpTo, IsFirstConflict}
-use Rattle.fleet_plan.specs.Rings.{AreAgents, ahead_of, walk_of, Leads, IsOnRing, IsLeastOnRing}
+use Rattle.fleet_plan.specs.Rings.{NamesAgents, ahead_of, walk_of, Leads, IsOnRing, IsLeastOnRing}
 use Rattle.fleet_plan.specs.Sweep.{StandOnMap, StandOnPlaces, Meet, IsFirstMeeting, IsAhead, AreAhead, Exchange, IsFirstExchange, HasNoMeeting, HasNoExchange, IsFirstIn, IsFreeIn, IsEntered, IsAgentSettled}
 use Rattle.fleet_plan.specs.UnderWay.{IsSoForOthers, Covers}
 use Rattle.fleet_plan.proofs.RingLaws.{some_is, none_is_not, shortened, each_ahead, each_reached, ends_with, each_on_ring, ring-reaches}
@@ -119,7 +119,7 @@ module _ (have : HavePlaces) (g : Ground) (plan : Plan) (on : StandOnMap g plan)
       record { order = order; agents = omega (arith, now.all); same = now.each i (omega arith) ∙ same_index i j t t h.2.same ∙ sym (now.each j within) }
 
   module _ (ahead : List (Option ℕ)) (are : AreAhead places next ahead) where
-    agents : AreAgents ahead
+    agents : NamesAgents ahead
     agents = ahead_agents places next ahead are
 
     inside : (i j : ℕ) → ahead_of ahead i ≡ Some j → i < length plan

@@ -3,20 +3,20 @@ use Rattle.std.proofs.Common.{◌≡◌, ◌≢◌, ℕ, ◌+◌, ◌<◌, ◌�
 use Rattle.std.proofs.lemmas.Bool.{cases_eq}
 use Rattle.std.proofs.lemmas.List.{get_or-set_same, get_or-set_other, length-set}
 use Rattle.std.proofs.lemmas.List.Sums.{sum_by-set}
-use Rattle.fleet_plan.specs.Rings.{AreAgents, ahead_of, Leads, LeadsTo, IsOnRing, IsLeastOnRing, walk_of, IsWalked, AreClosed}
+use Rattle.fleet_plan.specs.Rings.{NamesAgents, ahead_of, Leads, LeadsTo, IsOnRing, IsLeastOnRing, walk_of, IsWalked, AreClosed}
 use Rattle.fleet_plan.specs.UnderWay.{IsSoForOthers}
 use Rattle.fleet_plan.proofs.RowLaws.{IsSoBut, but_more, but_ends}
 use Rattle.fleet_plan.proofs.RingLaws.{some_is, none_is_not, ahead_within, reaches-on, reaches-next, ring-reaches}
 
 -- how many agents were not met
-abbrev pub vacant : Option ℕ → ℕ
-vacant None = 1
-vacant (Some w) = 0
+abbrev pub unmet_agents : Option ℕ → ℕ
+unmet_agents None = 1
+unmet_agents (Some w) = 0
 
-pub fewer : (walks : List (Option ℕ)) (k i : ℕ) → k < length walks → walk_of walks k ≡ None → sum_by vacant (set walks k (Some i)) < sum_by vacant walks
+pub fewer : (walks : List (Option ℕ)) (k i : ℕ) → k < length walks → walk_of walks k ≡ None → sum_by unmet_agents (set walks k (Some i)) < sum_by unmet_agents walks
 fewer walks k i l e =
-    let s : sum_by vacant (set walks k (Some i)) + vacant (get_or walks k None) ≡ sum_by vacant walks + 0 = sum_by-set vacant walks k (Some i) None l in
-    let one : vacant (get_or walks k None) ≡ 1 = ap vacant e in
+    let s : sum_by unmet_agents (set walks k (Some i)) + unmet_agents (get_or walks k None) ≡ sum_by unmet_agents walks + 0 = sum_by-set unmet_agents walks k (Some i) None l in
+    let one : unmet_agents (get_or walks k None) ≡ 1 = ap unmet_agents e in
     omega arith
 
 -- walk i, from a first agent on, has come to an agent; old are the walks before it
@@ -89,7 +89,7 @@ module _ (ahead old walks : List (Option ℕ)) (i first agent : ℕ) (w : IsWalk
       | inr s ↦ subst (IsWalked after) (sym s) met
     ]
 
-    pub walk-more : AreAgents ahead → (next : ℕ) → ahead_of ahead agent ≡ Some next → IsWalk ahead old after i first next
+    pub walk-more : NamesAgents ahead → (next : ℕ) → ahead_of ahead agent ≡ Some next → IsWalk ahead old after i first next
     walk-more agents next e = record {
       all = length-set walks agent (Some i) ∙ w.all;
       within = agents agent next e;

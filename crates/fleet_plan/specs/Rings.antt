@@ -6,8 +6,8 @@ abbrev pub ahead_of : List (Option ℕ) → ℕ → Option ℕ
 ahead_of ahead i = get_or ahead i None
 
 -- who is ahead is an agent
-abbrev pub AreAgents : List (Option ℕ) → Type 0
-AreAgents ahead = (i j : ℕ) → ahead_of ahead i ≡ Some j → j < length ahead
+abbrev pub NamesAgents : List (Option ℕ) → Type 0
+NamesAgents ahead = (i j : ℕ) → ahead_of ahead i ≡ Some j → j < length ahead
 
 -- the list leads from agent i to agent e: each agent of it is ahead of the one before it, the first of i, and the last is e
 abbrev pub Leads : List (Option ℕ) → ℕ → List ℕ → ℕ → Type 0

@@ -115,9 +115,9 @@ pub record IsAgentSettled (places next : List ℕ) (ahead walks : List (Option �
   pub unwalked : walk_of walks i ≡ None
 
 -- all agents are settled
-abbrev pub AreSettled : List ℕ → List ℕ → List (Option ℕ) → List (Option ℕ) → Type 0
-AreSettled places next ahead walks = (i : ℕ) → i < length next → IsAgentSettled places next ahead walks i
+abbrev pub AreAgentsSettled : List ℕ → List ℕ → List (Option ℕ) → List (Option ℕ) → Type 0
+AreAgentsSettled places next ahead walks = (i : ℕ) → i < length next → IsAgentSettled places next ahead walks i
 
 -- those that stand nowhere in the row are
-abbrev pub AreOthersSettled : List ℕ → List ℕ → List ℕ → List (Option ℕ) → List (Option ℕ) → Type 0
-AreOthersSettled row places next ahead walks = IsSoForOthers row (length next) (IsAgentSettled places next ahead walks)
+abbrev pub AreOtherAgentsSettled : List ℕ → List ℕ → List ℕ → List (Option ℕ) → List (Option ℕ) → Type 0
+AreOtherAgentsSettled row places next ahead walks = IsSoForOthers row (length next) (IsAgentSettled places next ahead walks)

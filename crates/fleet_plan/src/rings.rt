@@ -2,7 +2,7 @@
 
 ghost use Rattle.std.specs.Prelude.{◌≡◌, ℕ, ◌+◌, ◌<◌, ◌≤◌, ◌⊎◌, All, length, IfSome, IfNone, Some, None};
 ghost use Rattle.fleet_model.specs.declared.limits.TheConstants.{MAX_AGENTS};
-ghost use Rattle.fleet_plan.specs.Rings.{AreAgents, ahead_of, walk_of, IsOnRing, IsLeastOnRing, LeadsTo, IsWalked, AreClosed};
+ghost use Rattle.fleet_plan.specs.Rings.{NamesAgents, ahead_of, walk_of, IsOnRing, IsLeastOnRing, LeadsTo, IsWalked, AreClosed};
 ghost use Rattle.fleet_plan.specs.UnderWay.{IsSoForOthers};
 ghost use Rattle.fleet_plan.specs.Sweep.{IsUnblocked};
 
@@ -13,7 +13,7 @@ pub(crate) fn least_on_ring(
     ahead: &[Option<u16>],
     walks: &mut [Option<u16>],
 ) -> Option<u16>
-    requires agents { AreAgents ahead.now }
+    requires agents { NamesAgents ahead.now }
     requires row { All (λ i. i < length ahead.now) row.now }
     requires few { length row.now ≤ MAX_AGENTS }
     requires others { IsSoForOthers row.now (length ahead.now) (IsUnblocked ahead.now) }
@@ -47,7 +47,7 @@ fn lesser(least: Option<u16>, other: u16) -> u16
 /// Walks ahead from an agent to one that was walked on before, or that nobody is ahead of. The answer is an agent where
 /// this walk met itself.
 fn walk(ahead: &[Option<u16>], walks: &mut [Option<u16>], number: u16, first: u16) -> Option<u16>
-    requires agents { AreAgents ahead.now }
+    requires agents { NamesAgents ahead.now }
     requires walks { length walks.old ≡ length ahead.now }
     requires closed { AreClosed ahead.now walks.old number }
     requires agent { first < length ahead.now }
@@ -70,7 +70,7 @@ fn walk(ahead: &[Option<u16>], walks: &mut [Option<u16>], number: u16, first: u1
 
 /// The least agent of the ring on which an agent is.
 fn least_around(ahead: &[Option<u16>], first: u16) -> u16
-    requires agents { AreAgents ahead.now }
+    requires agents { NamesAgents ahead.now }
     requires ring { IsOnRing ahead.now first }
     ensures ring { IsOnRing ahead.now result }
     ensures least { (j : ℕ) → LeadsTo ahead.now first j → result ≤ j }

@@ -5,8 +5,8 @@ ghost use Rattle.std.specs.Prelude.{◌≡◌, ◌≢◌, ℕ, ◌+◌, ◌<◌,
 ghost use Rattle.fleet_grid.specs.Ground.{is_passable};
 ghost use Rattle.fleet_model.specs.declared.limits.TheConstants.{MAX_AGENTS};
 ghost use Rattle.fleet_plan.specs.FirstFault.{AllAgents, GoesRight, IsFirstConflict, HasNoConflict};
-ghost use Rattle.fleet_plan.specs.Rings.{AreAgents, ahead_of, walk_of};
-ghost use Rattle.fleet_plan.specs.Sweep.{StandOnMap, StandOnPlaces, IsFirstMeeting, IsEntered, IsAhead, AreAhead, Exchange, IsFirstExchange, HasNone, IsFirstAhead, IsFreeAhead, OthersStandAt, HasIn, Stays, IsUnblocked, AreSettled, AreOthersSettled};
+ghost use Rattle.fleet_plan.specs.Rings.{NamesAgents, ahead_of, walk_of};
+ghost use Rattle.fleet_plan.specs.Sweep.{StandOnMap, StandOnPlaces, IsFirstMeeting, IsEntered, IsAhead, AreAhead, Exchange, IsFirstExchange, HasNone, IsFirstAhead, IsFreeAhead, OthersStandAt, HasIn, Stays, IsUnblocked, AreAgentsSettled, AreOtherAgentsSettled};
 ghost use Rattle.fleet_plan.specs.UnderWay.{IsSoForOthers, is_under_way, Covers};
 
 use crate::plan::Plan;
@@ -140,7 +140,7 @@ fn is_behind(ahead: &[Option<u16>], other: Option<u16>, i: u16) -> bool
 
 /// The first two agents that are ahead of each other.
 fn first_exchange(ahead: &[Option<u16>]) -> Option<(u16, u16)>
-    requires agents { AreAgents ahead.now }
+    requires agents { NamesAgents ahead.now }
     requires few { length ahead.now ≤ MAX_AGENTS }
     ensures some { IfSome result (λ pair. IsFirstExchange ahead.now pair.0 pair.1) }
     ensures none { IfNone result ((i j : ℕ) → Exchange ahead.now i j → ⊥) }
@@ -164,7 +164,7 @@ fn conflict_in(
     ahead: &[Option<u16>],
     walks: &mut [Option<u16>],
 ) -> Option<Conflict>
-    requires ahead { AreAgents ahead.now }
+    requires ahead { NamesAgents ahead.now }
     requires few { length ahead.now ≤ MAX_AGENTS }
     requires apart { IsTrue apart → HasNone (Exchange ahead.now) }
     requires agents { All (λ i. i < length ahead.now) agents.now }
@@ -236,8 +236,8 @@ fn settle(
     requires places { length places.old ≡ length next.now }
     requires ahead { length ahead.old ≡ length next.now }
     requires walks { length walks.old ≡ length next.now }
-    requires others { AreOthersSettled agents.now places.old next.now ahead.old walks.old }
-    ensures { AreSettled places.new next.now ahead.new walks.new }
+    requires others { AreOtherAgentsSettled agents.now places.old next.now ahead.old walks.old }
+    ensures { AreAgentsSettled places.new next.now ahead.new walks.new }
 {
     for &i in agents {
         let agent = usize::from(i);

@@ -16,9 +16,9 @@ use Rattle.fleet_machine.specs.Machine.{MachineState}
 use Rattle.fleet_machine.specs.AgentSet.{IsNextFrom, AreNoneFrom}
 use Rattle.fleet_rows.specs.Block.{HasColumn, AreBlock, AreKept}
 use Rattle.fleet_rows.specs.Columns.{AreColumns}
-use Rattle.fleet_rows.specs.Places.{ArePlaces, place_of}
+use Rattle.fleet_rows.specs.Places.{ArePlaces, action_place}
 use Rattle.fleet_rows.specs.Kept.{IsKept, IsFreed}
-use Rattle.fleet_rows.specs.Pass.{IsDone, IsDoneMid, AreRowsAt}
+use Rattle.fleet_rows.specs.Pass.{IsFinishedBy, IsDoneMid, AreRowsAt}
 use Rattle.fleet_rows.specs.Takers.{IsTicked}
 use Rattle.fleet_rows.specs.declared.columns.Columns.{Columns}
 use Rattle.fleet_rows.specs.declared.block.Block.{Block}
@@ -105,13 +105,13 @@ module _ (p : Program) where
 pub agent_more : (p : Program) (i : ℕ) (places old new : List ℕ) (total : ℕ) → ArePlaces p places → total ≡ total_awaits (take i p) → length old ≡ total_moves (take i p)
     → ((k : ℕ) → k < length old → slice_index new k ≡ slice_index old k)
     → ((n : ℕ) → n < moves p i → slice_index new (length old + n) ≡ total + own_awaits p i n)
-    → ((a : ActionId) → IsAction p a → a.agent < i → slice_index old (place_of places a) ≡ first_await p a)
-    → (a : ActionId) → IsAction p a → a.agent < i + 1 → slice_index new (place_of places a) ≡ first_await p a
+    → ((a : ActionId) → IsAction p a → a.agent < i → slice_index old (action_place places a) ≡ first_await p a)
+    → (a : ActionId) → IsAction p a → a.agent < i + 1 → slice_index new (action_place places a) ≡ first_await p a
 agent_more p i places old new total h sum long others here each a k l = elim (cases_lt a.agent i) [
   | inl low ↦
       let up : total_moves (take (a.agent + 1) p) ≤ total_moves (take i p) = rising_to p (a.agent + 1) i (omega arith) in
-      let within : place_of places a < length old = (let b = before_next p places h a k in omega (arith, b, up, long)) in
-      others (place_of places a) within ∙ each a k low
+      let within : action_place places a < length old = (let b = before_next p places h a k in omega (arith, b, up, long)) in
+      others (action_place places a) within ∙ each a k low
   | inr high ↦
       let e : a.agent ≡ i = omega arith in
       let f : 1 ≤ a.number = k.first in
@@ -119,7 +119,7 @@ agent_more p i places old new total h sum long others here each a k l = elim (ca
       let same : moves p a.agent ≡ moves p i = ap (moves p) e in
       let first : slice_index places a.agent ≡ total_moves (take a.agent p) = h.each a.agent k.agent in
       let moved : total_moves (take a.agent p) ≡ total_moves (take i p) = ap (λ (n : ℕ). total_moves (take n p)) e in
-      let at : place_of places a ≡ length old + (a.number - 1) = omega (arith, first, moved, long) in
+      let at : action_place places a ≡ length old + (a.number - 1) = omega (arith, first, moved, long) in
       let own : own_awaits p i (a.number - 1) ≡ own_awaits p a.agent (a.number - 1) = ap (λ (n : ℕ). own_awaits p n (a.number - 1)) (sym e) in
       let awaits : total_awaits (take a.agent p) ≡ total_awaits (take i p) = ap (λ (n : ℕ). total_awaits (take n p)) e in
       ap (slice_index new) at ∙ here (a.number - 1) (omega arith) ∙ (let whole : total + own_awaits p i (a.number - 1) ≡ first_await p a = omega (arith, own, awaits, sum) in whole)
@@ -199,32 +199,32 @@ module _ (p : Program) (m : MachineState) (t : ℕ) (h : IsTicked p m t) (from :
       (subst (λ (y : ActionId). AreFlagged p columns y old new) same flagged) before
 
   -- where nobody else was moved
-  pub told_moved : AreNoneFrom m.moving from → (columns : Columns) (flags : List Bool) → AreToldOf p columns (IsDoneMid p t from) flags → AreToldOf p columns (IsDone p (t + 1)) flags
+  pub told_moved : AreNoneFrom m.moving from → (columns : Columns) (flags : List Bool) → AreToldOf p columns (IsDoneMid p t from) flags → AreToldOf p columns (IsFinishedBy p (t + 1)) flags
   told_moved none columns flags told a k done = told a k (none_more_done a k done)
     where
-      none_more_done : (a : ActionId) → IsAction p a → IsDone p (t + 1) a → IsDoneMid p t from a
+      none_more_done : (a : ActionId) → IsAction p a → IsFinishedBy p (t + 1) a → IsDoneMid p t from a
       none_more_done a k done = none_more p m t h from none a k done
 
 -- ---- what is passed
 
-pub flagged_mid : (p : Program) (b : Block) (t : ℕ) (flags : List Bool) (pass : ImpliedPass) → IsFlaggedTo p b (IsDone p t) flags pass → IsFlaggedTo p b (IsDoneMid p t 0) flags pass
+pub flagged_mid : (p : Program) (b : Block) (t : ℕ) (flags : List Bool) (pass : ImpliedPass) → IsFlaggedTo p b (IsFinishedBy p t) flags pass → IsFlaggedTo p b (IsDoneMid p t 0) flags pass
 flagged_mid p b t flags pass h = record { room = h.room; rows = rows_mid p b t pass.kept pass.tick h.rows; told = λ a k done. h.told a k (only_before p t a done) }
 
 pub flagged_none : (p : Program) (b : Block) (flags : List Bool) (pass : ImpliedPass) → pass.tick ≡ 0 → length pass.row.items ≡ b.columns.width → AreKept p b pass.kept → ((x : ℕ) → IsKept pass.kept x → ⊥)
-    → IsFlaggedTo p b (IsDone p 0) flags pass
+    → IsFlaggedTo p b (IsFinishedBy p 0) flags pass
 flagged_none p b flags pass tick room kept none = record {
   room = room;
-  rows = subst (λ (n : ℕ). AreRowsAt p b (IsDone p 0) n pass.kept) (sym tick) (rows_begin p b pass.kept kept none);
+  rows = subst (λ (n : ℕ). AreRowsAt p b (IsFinishedBy p 0) n pass.kept) (sym tick) (rows_begin p b pass.kept kept none);
   told = λ a k done. absurd (none_started p a k done);
 }
 
-pub flagged_tick : (p : Program) (b : Block) (t : ℕ) (flags : List Bool) (mid new : ImpliedPass) → AreBlock p b → mid.tick ≡ t → IsFlaggedTo p b (IsDone p (mid.tick + 1)) flags mid
-    → IsFreed (t + 1) mid.kept new.kept → new.row ≡ mid.row → new.tick ≡ t + 1 → IsFlaggedTo p b (IsDone p (t + 1)) flags new
+pub flagged_tick : (p : Program) (b : Block) (t : ℕ) (flags : List Bool) (mid new : ImpliedPass) → AreBlock p b → mid.tick ≡ t → IsFlaggedTo p b (IsFinishedBy p (mid.tick + 1)) flags mid
+    → IsFreed (t + 1) mid.kept new.kept → new.row ≡ mid.row → new.tick ≡ t + 1 → IsFlaggedTo p b (IsFinishedBy p (t + 1)) flags new
 flagged_tick p b t flags mid new block at h freed row tick = record {
   room = ap (λ v. length v.items) row ∙ h.room;
-  rows = subst (λ (n : ℕ). AreRowsAt p b (IsDone p (t + 1)) n new.kept) (sym tick)
-      (rows_freed p b (IsDone p (t + 1)) t mid.kept new.kept block (subst (λ (n : ℕ). AreRowsAt p b (IsDone p (n + 1)) n mid.kept) at h.rows) freed);
-  told = subst (λ (n : ℕ). AreToldOf p b.columns (IsDone p (n + 1)) flags) at h.told;
+  rows = subst (λ (n : ℕ). AreRowsAt p b (IsFinishedBy p (t + 1)) n new.kept) (sym tick)
+      (rows_freed p b (IsFinishedBy p (t + 1)) t mid.kept new.kept block (subst (λ (n : ℕ). AreRowsAt p b (IsFinishedBy p (n + 1)) n mid.kept) at h.rows) freed);
+  told = subst (λ (n : ℕ). AreToldOf p b.columns (IsFinishedBy p (n + 1)) flags) at h.told;
 }
 
 -- ---- the flags of one block more

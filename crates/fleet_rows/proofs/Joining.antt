@@ -8,7 +8,7 @@ use Rattle.fleet_model.specs.declared.program.Await.{Await}
 use Rattle.fleet_model.specs.Program.{Program, moves, awaits_of, AreInRange}
 use Rattle.fleet_model.specs.Chain.{IsAction, DirectlyNeeds, Reaches, awaited}
 use Rattle.fleet_rows.specs.Rows.{IsColumn, ByAwait, IsPart}
-use Rattle.fleet_model.proofs.Reaching.{own_reach, LastStep, last_step, Reaches-trans}
+use Rattle.fleet_model.proofs.Reaching.{own_reach, LastStep, chain_ends_by_step, Reaches-trans}
 use Rattle.fleet_model.proofs.Chains.{Reaches-first, Reaches-last, Reaches-need}
 
 abbrev act : ℕ → ℕ → ActionId
@@ -88,7 +88,7 @@ part_all p i b j n k other h c = (into, out)
         same_action x y e g = λ t. record { agent = e t; number = g t }
 
     into : Reaches p (act j c) a → (1 ≤ c) × (c ≤ n)
-    into r = from (last_step p (act j c) r.0 a r.1) (Reaches-first p (act j c) a r).first
+    into r = from (chain_ends_by_step p (act j c) r.0 a r.1) (Reaches-first p (act j c) a r).first
 
     out : (1 ≤ c) × (c ≤ n) → Reaches p (act j c) a
     out (f, l) = elim (h.into c f l) [

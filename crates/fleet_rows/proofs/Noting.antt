@@ -10,32 +10,32 @@ use Rattle.fleet_model.specs.Machine.{run, count_at}
 use Rattle.fleet_model.specs.Chain.{awaited}
 use Rattle.fleet_machine.specs.Machine.{MachineState, flag_of}
 use Rattle.fleet_machine.specs.AgentSet.{IsNextFrom, AreNoneFrom}
-use Rattle.fleet_rows.specs.Places.{place_of}
+use Rattle.fleet_rows.specs.Places.{action_place}
 use Rattle.fleet_rows.specs.Takers.{IsTicked, AreRaised, IsNotedFor, IsNotedAt, AreNoted}
 
 -- what an action needs is the one before, or one that it awaits
 pub noted_for : (p : Program) (firsts : List ℕ) (a : ActionId) (tick : ℕ) (lasts : List ℕ)
-    → (2 ≤ a.number → (n : ℕ) → n + 1 ≡ a.number → tick ≤ slice_index lasts (place_of firsts (record { agent = a.agent; number = n })))
-    → ((k : ℕ) (w : Await) → slice_get (awaits_of p a.agent a.number) k ≡ Some w → tick ≤ slice_index lasts (place_of firsts (awaited w)))
+    → (2 ≤ a.number → (n : ℕ) → n + 1 ≡ a.number → tick ≤ slice_index lasts (action_place firsts (record { agent = a.agent; number = n })))
+    → ((k : ℕ) (w : Await) → slice_get (awaits_of p a.agent a.number) k ≡ Some w → tick ≤ slice_index lasts (action_place firsts (awaited w)))
     → IsNotedFor p firsts a tick lasts
 noted_for p firsts a tick lasts own others b k (inl (same, number, some)) =
     let e : b ≡ record { agent = a.agent; number = b.number } = (λ t. record { agent = (sym same) t; number = b.number }) in
-    subst (λ (x : ActionId). tick ≤ slice_index lasts (place_of firsts x)) (sym e) (own (omega arith) b.number (omega arith))
+    subst (λ (x : ActionId). tick ≤ slice_index lasts (action_place firsts x)) (sym e) (own (omega arith) b.number (omega arith))
 noted_for p firsts a tick lasts own others b k (inr w) =
     others w.0 (record { agent = b.agent; count = b.number }) (slice_get-get_or _ _ _ w.1 ∙ ap Some w.2)
 
 -- one await more that is noted
 pub awaited_more : (p : Program) (firsts : List ℕ) (a : ActionId) (tick k x : ℕ) (v : Await) (old new : List ℕ) → AreRaised old new
-    → ((m : ℕ) (w : Await) → m < k → slice_get (awaits_of p a.agent a.number) m ≡ Some w → tick ≤ slice_index old (place_of firsts (awaited w)))
-    → slice_get (awaits_of p a.agent a.number) k ≡ Some v → x ≡ place_of firsts (awaited v) → tick ≤ slice_index new x
-    → (m : ℕ) (w : Await) → m < k + 1 → slice_get (awaits_of p a.agent a.number) m ≡ Some w → tick ≤ slice_index new (place_of firsts (awaited w))
+    → ((m : ℕ) (w : Await) → m < k → slice_get (awaits_of p a.agent a.number) m ≡ Some w → tick ≤ slice_index old (action_place firsts (awaited w)))
+    → slice_get (awaits_of p a.agent a.number) k ≡ Some v → x ≡ action_place firsts (awaited v) → tick ≤ slice_index new x
+    → (m : ℕ) (w : Await) → m < k + 1 → slice_get (awaits_of p a.agent a.number) m ≡ Some w → tick ≤ slice_index new (action_place firsts (awaited w))
 awaited_more p firsts a tick k x v old new raised before at there noted m w l here = elim (cases_eq m k) [
   | inl e ↦
       let same : w ≡ v = some_same w v (sym here ∙ ap (slice_get (awaits_of p a.agent a.number)) e ∙ at) in
-      subst (λ (u : Await). tick ≤ slice_index new (place_of firsts (awaited u))) (sym same) (subst (λ (y : ℕ). tick ≤ slice_index new y) there noted)
+      subst (λ (u : Await). tick ≤ slice_index new (action_place firsts (awaited u))) (sym same) (subst (λ (y : ℕ). tick ≤ slice_index new y) there noted)
   | inr ne ↦
-      let low : tick ≤ slice_index old (place_of firsts (awaited w)) = before m w (omega arith) here in
-      let up : slice_index old (place_of firsts (awaited w)) ≤ slice_index new (place_of firsts (awaited w)) = raised.1 (place_of firsts (awaited w)) in
+      let low : tick ≤ slice_index old (action_place firsts (awaited w)) = before m w (omega arith) here in
+      let up : slice_index old (action_place firsts (awaited w)) ≤ slice_index new (action_place firsts (awaited w)) = raised.1 (action_place firsts (awaited w)) in
       omega arith
 ]
   where
@@ -45,7 +45,7 @@ awaited_more p firsts a tick k x v old new raised before at there noted m w l he
 -- what was noted before stays noted
 pub noted_still : (p : Program) (firsts : List ℕ) (t n : ℕ) (old new : List ℕ) → AreRaised old new → IsNotedAt p firsts t n old → IsNotedAt p firsts t n new
 noted_still p firsts t n old new raised h i l agent ready b k needs =
-    let up : slice_index old (place_of firsts b) ≤ slice_index new (place_of firsts b) = raised.1 (place_of firsts b) in
+    let up : slice_index old (action_place firsts b) ≤ slice_index new (action_place firsts b) = raised.1 (action_place firsts b) in
     omega (arith, h i l agent ready b k needs)
 
 pub raised_self : (xs : List ℕ) → AreRaised xs xs

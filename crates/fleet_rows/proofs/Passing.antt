@@ -12,11 +12,11 @@ use Rattle.fleet_machine.specs.Machine.{MachineState}
 use Rattle.fleet_machine.specs.AgentSet.{IsNextFrom, AreNoneFrom}
 use Rattle.fleet_rows.specs.Asked.{IsQuestion, IsSoonerAction, AreQuestions}
 use Rattle.fleet_rows.specs.Rows.{IsColumn}
-use Rattle.fleet_rows.specs.Places.{place_of}
+use Rattle.fleet_rows.specs.Places.{action_place}
 use Rattle.fleet_rows.specs.Takers.{IsTicked, IsNotedFor}
 use Rattle.fleet_rows.specs.Kept.{IsKept, IsKeptAlike, IsKeptMore, IsFreed, count_in, mark_of}
 use Rattle.fleet_rows.specs.Block.{HasColumn, AreBlock, IsRowOf, AreKept, HasRow, IsAnswer}
-use Rattle.fleet_rows.specs.Pass.{IsDone, IsDoneMid, AreRowsAt, AreAnsweredTo, AreOthersLeft, IsPassed, IsRowTaken, IsNextAnswered, IsAsked}
+use Rattle.fleet_rows.specs.Pass.{IsFinishedBy, IsDoneMid, AreRowsAt, AreAnsweredTo, AreOthersLeft, IsPassed, IsRowTaken, IsNextAnswered, IsAsked}
 use Rattle.fleet_rows.specs.declared.columns.Columns.{Columns}
 use Rattle.fleet_rows.specs.declared.block.Block.{Block}
 use Rattle.fleet_rows.specs.declared.kept_rows.KeptRows.{KeptRows}
@@ -38,7 +38,7 @@ same_or_not a b = elim (cases_eq a.agent b.agent) [
 ]
 
 -- a row that is kept alike
-pub row_alike : (p : Program) (b : Block) (old new : KeptRows) (a : ActionId) → AreBlock p b → old.width ≡ b.columns.width → IsKeptAlike old new (place_of b.places.firsts.items a) → HasRow p b old a → HasRow p b new a
+pub row_alike : (p : Program) (b : Block) (old new : KeptRows) (a : ActionId) → AreBlock p b → old.width ≡ b.columns.width → IsKeptAlike old new (action_place b.places.firsts.items a) → HasRow p b old a → HasRow p b new a
 row_alike p b old new a block width h r = record {
   kept = h.still r.kept;
   counts = λ j k c.
@@ -49,8 +49,8 @@ row_alike p b old new a block width h r = record {
 -- ---- a row more
 
 pub row_taken : (p : Program) (b : Block) (old new : KeptRows) (a : ActionId) (row : List ℕ) → AreBlock p b → AreKept p b old → IsAction p a
-    → AreKept p b new → IsKeptMore old new (place_of b.places.firsts.items a) → length row ≡ b.columns.width
-    → ((k : ℕ) → k < length row → count_in new (mark_of new (place_of b.places.firsts.items a)) k ≡ get_or row k 0)
+    → AreKept p b new → IsKeptMore old new (action_place b.places.firsts.items a) → length row ≡ b.columns.width
+    → ((k : ℕ) → k < length row → count_in new (mark_of new (action_place b.places.firsts.items a)) k ≡ get_or row k 0)
     → IsRowOf p b.columns a row → IsRowTaken p b a old new
 row_taken p b old new a row block kept act after more long counts made = record {
   kept = after;
@@ -59,12 +59,12 @@ row_taken p b old new a row block kept act after more long counts made = record 
     kept = k;
     counts = λ j n c. (let l : n < b.columns.width = block.within j n c in subst (λ (v : ℕ). IsColumn p a j v) (sym (counts n (omega arith))) (made j n c));
   };
-  others = λ x is ne r. row_alike p b old new x block kept.width (more.others (place_of b.places.firsts.items x) (place_apart p b.places.firsts.items block.places x a is act ne)) r;
-  back = λ x is ne k. (more.others (place_of b.places.firsts.items x) (place_apart p b.places.firsts.items block.places x a is act ne)).before k;
+  others = λ x is ne r. row_alike p b old new x block kept.width (more.others (action_place b.places.firsts.items x) (place_apart p b.places.firsts.items block.places x a is act ne)) r;
+  back = λ x is ne k. (more.others (action_place b.places.firsts.items x) (place_apart p b.places.firsts.items block.places x a is act ne)).before k;
 }
 
-pub row_left : (p : Program) (b : Block) (m : KeptRows) (a : ActionId) → AreKept p b m → slice_index b.lasts.items (place_of b.places.firsts.items a) ≡ 0
-    → (IsKept m (place_of b.places.firsts.items a) → ⊥) → IsRowTaken p b a m m
+pub row_left : (p : Program) (b : Block) (m : KeptRows) (a : ActionId) → AreKept p b m → slice_index b.lasts.items (action_place b.places.firsts.items a) ≡ 0
+    → (IsKept m (action_place b.places.firsts.items a) → ⊥) → IsRowTaken p b a m m
 row_left p b m a kept none not_yet = record {
   kept = kept;
   here = λ some. absurd (omega arith);
@@ -75,10 +75,10 @@ row_left p b m a kept none not_yet = record {
 
 -- ---- rows before the first tick, and after those of a tick have gone
 
-pub rows_begin : (p : Program) (b : Block) (m : KeptRows) → AreKept p b m → ((x : ℕ) → IsKept m x → ⊥) → AreRowsAt p b (IsDone p 0) 0 m
+pub rows_begin : (p : Program) (b : Block) (m : KeptRows) → AreKept p b m → ((x : ℕ) → IsKept m x → ⊥) → AreRowsAt p b (IsFinishedBy p 0) 0 m
 rows_begin p b m kept none = record {
   kept = kept;
-  right = λ a is k. absurd (none (place_of b.places.firsts.items a) k);
+  right = λ a is k. absurd (none (action_place b.places.firsts.items a) k);
   wanted = λ a is done l. absurd (none_started p a is done);
 }
 
@@ -86,24 +86,24 @@ pub rows_freed : (p : Program) (b : Block) (Done : ActionId → Type 0) (t : ℕ
 rows_freed p b Done t old new block h f = record {
   kept = record { sound = f.sound; actions = f.actions ∙ h.kept.actions; width = f.width ∙ h.kept.width; lasts = λ x. f.lasts x (slice_index b.lasts.items x) (h.kept.lasts x) };
   right = λ a is k.
-      let alike = f.before (place_of b.places.firsts.items a) k in
+      let alike = f.before (action_place b.places.firsts.items a) k in
       let was = h.right a is (alike.before k) in
       (was.0, row_alike p b old new a block h.kept.width alike was.1);
   wanted = λ a is done l.
-      let x : ℕ = place_of b.places.firsts.items a in
+      let x : ℕ = action_place b.places.firsts.items a in
       (f.wanted x (slice_index b.lasts.items x) (h.kept.lasts x) l).still (h.wanted a is done (omega arith));
 }
 
 module _ (p : Program) (m : MachineState) (t : ℕ) (h : IsTicked p m t) where
   -- what is finished in the midst of a tick is finished after it
-  done_after : (from : ℕ) (a : ActionId) → IsAction p a → IsDoneMid p t from a → IsDone p (t + 1) a
+  done_after : (from : ℕ) (a : ActionId) → IsAction p a → IsDoneMid p t from a → IsFinishedBy p (t + 1) a
   done_after from a is (inr (l, d)) = d
   done_after from a is (inl d) =
       let up : count p t a.agent ≤ count p (suc t) a.agent = grows p t a.agent is.agent in
       let e : count p (t + 1) a.agent ≡ count p (suc t) a.agent = ap (λ (n : ℕ). count p n a.agent) (add-one t) in
       omega arith
 
-  pub rows_moved : (b : Block) (from : ℕ) (k : KeptRows) → AreNoneFrom m.moving from → AreRowsAt p b (IsDoneMid p t from) t k → AreRowsAt p b (IsDone p (t + 1)) t k
+  pub rows_moved : (b : Block) (from : ℕ) (k : KeptRows) → AreNoneFrom m.moving from → AreRowsAt p b (IsDoneMid p t from) t k → AreRowsAt p b (IsFinishedBy p (t + 1)) t k
   rows_moved b from k none r = record {
     kept = r.kept;
     right = λ a is kept. (let was = r.right a is kept in (done_after from a is was.0, was.1));
@@ -111,7 +111,7 @@ module _ (p : Program) (m : MachineState) (t : ℕ) (h : IsTicked p m t) where
   }
 
   pub answers_moved : (columns : Columns) (questions : List Question) (from : ℕ) (flags : List Bool) (n : ℕ) → ((k : ℕ) (q : Question) → slice_get questions k ≡ Some q → IsAction p q.last)
-      → AreNoneFrom m.moving from → AreAnsweredTo p columns questions (IsDoneMid p t from) flags n → AreAnsweredTo p columns questions (IsDone p (t + 1)) flags n
+      → AreNoneFrom m.moving from → AreAnsweredTo p columns questions (IsDoneMid p t from) flags n → AreAnsweredTo p columns questions (IsFinishedBy p (t + 1)) flags n
   answers_moved columns questions from flags n act none r = record {
     before = λ k q at done. r.before k q at (none_more p m t h from none q.last (act k q at) done);
     done = λ k q at l. done_after from q.last (act k q at) (r.done k q at l);
@@ -125,7 +125,7 @@ module _ (p : Program) (m : MachineState) (t : ℕ) (h : IsTicked p m t) where
     ready : is_ready p (run p [] t) i ≡ true
     ready = ready_of p m t h from i next
 
-    done_here : IsDone p (t + 1) here
+    done_here : IsFinishedBy p (t + 1) here
     done_here =
         let up : count p (suc t) i ≡ count p t i + 1 = moves_on p t i (agent_of p m t h from i next) ready in
         let e : count p (t + 1) i ≡ count p (suc t) i = ap (λ (n : ℕ). count p n i) (add-one t) in
@@ -141,24 +141,24 @@ module _ (p : Program) (m : MachineState) (t : ℕ) (h : IsTicked p m t) where
         → (x : ActionId) → IsAction p x → DirectlyNeeds p here x → HasRow p b k x
     needed_rows b k block l r x is needs =
         let up : count p (suc t) i ≡ count p t i + 1 = moves_on p t i (agent_of p m t h from i next) ready in
-        let done : IsDone p t x = needs_done p t here x (next_action_of p m t h from i next) (omega arith) (omega arith) needs in
-        let last : t + 1 ≤ slice_index b.lasts.items (place_of b.places.firsts.items x) = block.noted t l i (agent_of p m t h from i next) (agent_of p m t h from i next) ready x is needs in
+        let done : IsFinishedBy p t x = needs_done p t here x (next_action_of p m t h from i next) (omega arith) (omega arith) needs in
+        let last : t + 1 ≤ slice_index b.lasts.items (action_place b.places.firsts.items x) = block.noted t l i (agent_of p m t h from i next) (agent_of p m t h from i next) ready x is needs in
         (r.right x is (r.wanted x is (inl done) (omega arith))).1
 
     -- and its own is not yet
-    pub not_kept_yet : (b : Block) (k : KeptRows) → AreRowsAt p b (IsDoneMid p t from) t k → IsKept k (place_of b.places.firsts.items here) → ⊥
+    pub not_kept_yet : (b : Block) (k : KeptRows) → AreRowsAt p b (IsDoneMid p t from) t k → IsKept k (action_place b.places.firsts.items here) → ⊥
     not_kept_yet b k r kept = apart p m t h from i next here (r.right here (next_action_of p m t h from i next) kept).0 refl
 
     pub rows_on : (b : Block) (old new : KeptRows) → AreRowsAt p b (IsDoneMid p t from) t old → IsRowTaken p b here old new → AreRowsAt p b (IsDoneMid p t (i + 1)) t new
     rows_on b old new r taken = record {
       kept = taken.kept;
       right = λ x is k. elim (same_or_not x here) [
-        | inl e ↦ subst (λ (y : ActionId). IsDoneMid p t (i + 1) y × HasRow p b new y) (sym e) (inr (omega arith, done_here), taken.right (subst (λ (y : ActionId). IsKept new (place_of b.places.firsts.items y)) e k))
+        | inl e ↦ subst (λ (y : ActionId). IsDoneMid p t (i + 1) y × HasRow p b new y) (sym e) (inr (omega arith, done_here), taken.right (subst (λ (y : ActionId). IsKept new (action_place b.places.firsts.items y)) e k))
         | inr ne ↦ (let was = r.right x is (taken.back x is ne k) in (wider x was.0, taken.others x is ne was.1))
       ];
       wanted = λ x is done l. elim (one_more p m t h from i next x is done) [
-        | inr e ↦ subst (λ (y : ActionId). IsKept new (place_of b.places.firsts.items y)) (sym e)
-            (taken.here (let more : t < slice_index b.lasts.items (place_of b.places.firsts.items here) = subst (λ (y : ActionId). t < slice_index b.lasts.items (place_of b.places.firsts.items y)) e l in omega arith))
+        | inr e ↦ subst (λ (y : ActionId). IsKept new (action_place b.places.firsts.items y)) (sym e)
+            (taken.here (let more : t < slice_index b.lasts.items (action_place b.places.firsts.items here) = subst (λ (y : ActionId). t < slice_index b.lasts.items (action_place b.places.firsts.items y)) e l in omega arith))
         | inl before ↦
             let was = r.right x is (r.wanted x is before l) in
             (taken.others x is (apart p m t h from i next x before) was.1).kept
@@ -177,7 +177,7 @@ module _ (p : Program) (m : MachineState) (t : ℕ) (h : IsTicked p m t) where
         go : IsSoonerAction level x here → IsDoneMid p t from x
         go (inl less) = inl (level_done p range t (level x) x is (levels x is) (omega (arith, top)))
         go (inr (same, agent)) =
-            let done : IsDone p (t + 1) x = level_done p range (t + 1) (level x) x is (levels x is) (omega (arith, top, same)) in
+            let done : IsFinishedBy p (t + 1) x = level_done p range (t + 1) (level x) x is (levels x is) (omega (arith, top, same)) in
             elim (cases_lt x.agent from) [
               | inl low ↦ inr (low, done)
               | inr high ↦
@@ -223,7 +223,7 @@ module _ (p : Program) (m : MachineState) (t : ℕ) (h : IsTicked p m t) where
                   let is : q ≡ a.question = some_same q a.question (sym at ∙ ap (slice_get questions) at_n ∙ a.at) in
                   inr (
                     (let ag : q.last.agent ≡ i = ap (λ (x : Question). x.last.agent) is ∙ ap (λ (x : ActionId). x.agent) a.last in omega arith),
-                    subst (IsDone p (t + 1)) (sym (ap (λ (x : Question). x.last) is ∙ a.last)) done_here,
+                    subst (IsFinishedBy p (t + 1)) (sym (ap (λ (x : Question). x.last) is ∙ a.last)) done_here,
                   )
               | inr ne ↦ wider q.last (r.done k q at (omega arith))
             ];
@@ -278,8 +278,8 @@ module _ (p : Program) (m : MachineState) (t : ℕ) (h : IsTicked p m t) (from i
       → (x : ActionId) → IsAction p x → DirectlyNeeds p (record { agent = i; number = n }) x → HasRow p b k x
   moved_needed b k block l r x is needs = needed_rows p m t h from i next b k block l r x is (subst (λ (y : ActionId). DirectlyNeeds p y x) same needs)
 
-  pub moved_not_kept : (b : Block) (k : KeptRows) → AreRowsAt p b (IsDoneMid p t from) t k → IsKept k (place_of b.places.firsts.items (record { agent = i; number = n })) → ⊥
-  moved_not_kept b k r kept = not_kept_yet p m t h from i next b k r (subst (λ (y : ActionId). IsKept k (place_of b.places.firsts.items y)) same kept)
+  pub moved_not_kept : (b : Block) (k : KeptRows) → AreRowsAt p b (IsDoneMid p t from) t k → IsKept k (action_place b.places.firsts.items (record { agent = i; number = n })) → ⊥
+  moved_not_kept b k r kept = not_kept_yet p m t h from i next b k r (subst (λ (y : ActionId). IsKept k (action_place b.places.firsts.items y)) same kept)
 
   pub moved_rows : (b : Block) (old new : KeptRows) → AreRowsAt p b (IsDoneMid p t from) t old → IsRowTaken p b (record { agent = i; number = n }) old new → AreRowsAt p b (IsDoneMid p t (i + 1)) t new
   moved_rows b old new r taken = rows_on p m t h from i next b old new r (subst (λ (y : ActionId). IsRowTaken p b y old new) same taken)
@@ -345,18 +345,18 @@ asked_question p questions a n d asked each = subst (IsQuestion p) (sym (get_or_
 -- ---- what is passed
 
 -- before the first agent of a tick
-pub only_before : (p : Program) (t : ℕ) (a : ActionId) → IsDoneMid p t 0 a → IsDone p t a
+pub only_before : (p : Program) (t : ℕ) (a : ActionId) → IsDoneMid p t 0 a → IsFinishedBy p t a
 only_before p t a (inl d) = d
 only_before p t a (inr (l, d)) = absurd (omega arith)
 
-pub rows_mid : (p : Program) (b : Block) (t : ℕ) (m : KeptRows) (tick : ℕ) → AreRowsAt p b (IsDone p t) tick m → AreRowsAt p b (IsDoneMid p t 0) tick m
+pub rows_mid : (p : Program) (b : Block) (t : ℕ) (m : KeptRows) (tick : ℕ) → AreRowsAt p b (IsFinishedBy p t) tick m → AreRowsAt p b (IsDoneMid p t 0) tick m
 rows_mid p b t m tick h = record {
   kept = h.kept;
   right = λ a is k. (let was = h.right a is k in (inl was.0, was.1));
   wanted = λ a is done l. h.wanted a is (only_before p t a done) l;
 }
 
-pub passed_mid : (p : Program) (b : Block) (questions : List Question) (t : ℕ) (flags : List Bool) (pass : Pass) → IsPassed p b questions (IsDone p t) flags pass
+pub passed_mid : (p : Program) (b : Block) (questions : List Question) (t : ℕ) (flags : List Bool) (pass : Pass) → IsPassed p b questions (IsFinishedBy p t) flags pass
     → IsPassed p b questions (IsDoneMid p t 0) flags pass
 passed_mid p b questions t flags pass h = record {
   room = h.room;
@@ -370,10 +370,10 @@ passed_mid p b questions t flags pass h = record {
 
 -- before the first tick
 pub passed_none : (p : Program) (b : Block) (questions : List Question) (flags : List Bool) (pass : Pass) → AreQuestions p questions → pass.tick ≡ 0 → pass.next ≡ 0
-    → length pass.row.items ≡ b.columns.width → AreKept p b pass.kept → ((x : ℕ) → IsKept pass.kept x → ⊥) → IsPassed p b questions (IsDone p 0) flags pass
+    → length pass.row.items ≡ b.columns.width → AreKept p b pass.kept → ((x : ℕ) → IsKept pass.kept x → ⊥) → IsPassed p b questions (IsFinishedBy p 0) flags pass
 passed_none p b questions flags pass asked tick next room kept none = record {
   room = room;
-  rows = subst (λ (n : ℕ). AreRowsAt p b (IsDone p 0) n pass.kept) (sym tick) (rows_begin p b pass.kept kept none);
+  rows = subst (λ (n : ℕ). AreRowsAt p b (IsFinishedBy p 0) n pass.kept) (sym tick) (rows_begin p b pass.kept kept none);
   answers = record {
     before = λ k q at done. absurd (none_started p q.last (question_at p questions asked.each k q at).last done);
     done = λ k q at l. absurd (omega arith);
@@ -382,13 +382,13 @@ passed_none p b questions flags pass asked tick next room kept none = record {
 }
 
 -- after a tick, where its rows have gone
-pub passed_tick : (p : Program) (b : Block) (questions : List Question) (t : ℕ) (flags : List Bool) (mid new : Pass) → AreBlock p b → mid.tick ≡ t → IsPassed p b questions (IsDone p (mid.tick + 1)) flags mid
-    → IsFreed (t + 1) mid.kept new.kept → new.row ≡ mid.row → new.next ≡ mid.next → new.tick ≡ t + 1 → IsPassed p b questions (IsDone p (t + 1)) flags new
+pub passed_tick : (p : Program) (b : Block) (questions : List Question) (t : ℕ) (flags : List Bool) (mid new : Pass) → AreBlock p b → mid.tick ≡ t → IsPassed p b questions (IsFinishedBy p (mid.tick + 1)) flags mid
+    → IsFreed (t + 1) mid.kept new.kept → new.row ≡ mid.row → new.next ≡ mid.next → new.tick ≡ t + 1 → IsPassed p b questions (IsFinishedBy p (t + 1)) flags new
 passed_tick p b questions t flags mid new block at h freed row next tick = record {
   room = ap (λ v. length v.items) row ∙ h.room;
-  rows = subst (λ (n : ℕ). AreRowsAt p b (IsDone p (t + 1)) n new.kept) (sym tick) (rows_freed p b (IsDone p (t + 1)) t mid.kept new.kept block here freed);
-  answers = subst (λ (n : ℕ). AreAnsweredTo p b.columns questions (IsDone p (t + 1)) flags n) (sym next) (subst (λ (n : ℕ). AreAnsweredTo p b.columns questions (IsDone p (n + 1)) flags mid.next) at h.answers);
+  rows = subst (λ (n : ℕ). AreRowsAt p b (IsFinishedBy p (t + 1)) n new.kept) (sym tick) (rows_freed p b (IsFinishedBy p (t + 1)) t mid.kept new.kept block here freed);
+  answers = subst (λ (n : ℕ). AreAnsweredTo p b.columns questions (IsFinishedBy p (t + 1)) flags n) (sym next) (subst (λ (n : ℕ). AreAnsweredTo p b.columns questions (IsFinishedBy p (n + 1)) flags mid.next) at h.answers);
 }
   where
-    here : AreRowsAt p b (IsDone p (t + 1)) t mid.kept
-    here = subst (λ (n : ℕ). AreRowsAt p b (IsDone p (n + 1)) n mid.kept) at h.rows
+    here : AreRowsAt p b (IsFinishedBy p (t + 1)) t mid.kept
+    here = subst (λ (n : ℕ). AreRowsAt p b (IsFinishedBy p (n + 1)) n mid.kept) at h.rows

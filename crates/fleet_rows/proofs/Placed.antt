@@ -7,43 +7,43 @@ use Rattle.fleet_model.specs.declared.program.ActionId.{ActionId}
 use Rattle.fleet_model.specs.Program.{Program, moves, total_moves}
 use Rattle.fleet_model.specs.Chain.{IsAction}
 use Rattle.fleet_model.proofs.Totals.{moves_more}
-use Rattle.fleet_rows.specs.Places.{ArePlaces, place_of}
+use Rattle.fleet_rows.specs.Places.{ArePlaces, action_place}
 
 -- more agents have as many actions or more
-rising : (p : Program) (i k : ℕ) → total_moves (take i p) ≤ total_moves (take (i + k) p)
-rising p i zero = let e : i + zero ≡ i = omega arith in rw e (omega arith)
-rising p i (suc k) =
+firsts_rise : (p : Program) (i k : ℕ) → total_moves (take i p) ≤ total_moves (take (i + k) p)
+firsts_rise p i zero = let e : i + zero ≡ i = omega arith in rw e (omega arith)
+firsts_rise p i (suc k) =
     let e : i + suc k ≡ i + k + 1 = omega arith in
     let more = moves_more p (i + k) in
-    let before = rising p i k in
+    let before = firsts_rise p i k in
     rw e (omega (arith, more, before))
 
 pub rising_to : (p : Program) (i j : ℕ) → i ≤ j → total_moves (take i p) ≤ total_moves (take j p)
-rising_to p i j l = let e : i + (j - i) ≡ j = omega arith in subst (λ (n : ℕ). total_moves (take i p) ≤ total_moves (take n p)) e (rising p i (j - i))
+rising_to p i j l = let e : i + (j - i) ≡ j = omega arith in subst (λ (n : ℕ). total_moves (take i p) ≤ total_moves (take n p)) e (firsts_rise p i (j - i))
 
 -- the actions of an agent stand before those of the next
 module _ (p : Program) (firsts : List ℕ) (h : ArePlaces p firsts) where
-  pub before_next : (a : ActionId) → IsAction p a → place_of firsts a < total_moves (take (a.agent + 1) p)
+  pub before_next : (a : ActionId) → IsAction p a → action_place firsts a < total_moves (take (a.agent + 1) p)
   before_next a k =
       let e = h.each a.agent k.agent in
       let f : 1 ≤ a.number = k.first in
       let l : a.number ≤ moves p a.agent = k.last in
       omega (arith, e, moves_more p a.agent)
 
-  pub place_within : (a : ActionId) → IsAction p a → place_of firsts a < total_moves p
+  pub place_within : (a : ActionId) → IsAction p a → action_place firsts a < total_moves p
   place_within a k =
       let up : total_moves (take (a.agent + 1) p) ≤ total_moves (take (length p) p) = rising_to p (a.agent + 1) (length p) (let l : a.agent < length p = k.agent in omega arith) in
       let e : total_moves (take (length p) p) ≡ total_moves p = ap total_moves (take_all (length p) p (omega arith)) in
       omega (arith, before_next a k)
 
-  sooner : (a b : ActionId) → IsAction p a → IsAction p b → a.agent < b.agent → place_of firsts a < place_of firsts b
+  sooner : (a b : ActionId) → IsAction p a → IsAction p b → a.agent < b.agent → action_place firsts a < action_place firsts b
   sooner a b k m l =
       let up : total_moves (take (a.agent + 1) p) ≤ total_moves (take b.agent p) = rising_to p (a.agent + 1) b.agent (omega arith) in
       let e = h.each b.agent m.agent in
       let f : 1 ≤ b.number = m.first in
       omega (arith, before_next a k, e)
 
-  pub place_apart : (a b : ActionId) → IsAction p a → IsAction p b → a ≢ b → place_of firsts a ≢ place_of firsts b
+  pub place_apart : (a b : ActionId) → IsAction p a → IsAction p b → a ≢ b → action_place firsts a ≢ action_place firsts b
   place_apart a b k m n e = elim (cases_order a.agent b.agent) [
     | inl same ↦
         let f : 1 ≤ a.number = k.first in
@@ -63,10 +63,10 @@ row_ends w x y l = let s : (x + 1) * w ≤ y * w = mul-le (x + 1) w y w (omega a
 pub row_within : (p : Program) (firsts : List ℕ) → ArePlaces p firsts → (a : ActionId) → IsAction p a → (w x : ℕ) → x + 1 ≡ slice_index firsts a.agent + a.number
     → x * w + w ≤ total_moves p * w
 row_within p firsts h a k w x e =
-    let here : place_of firsts a < total_moves p = place_within p firsts h a k in
+    let here : action_place firsts a < total_moves p = place_within p firsts h a k in
     row_ends w x (total_moves p) (omega arith)
 
-pub place_is : (firsts : List ℕ) (a : ActionId) (x : ℕ) → x + 1 ≡ slice_index firsts a.agent + a.number → x ≡ place_of firsts a
+pub place_is : (firsts : List ℕ) (a : ActionId) (x : ℕ) → x + 1 ≡ slice_index firsts a.agent + a.number → x ≡ action_place firsts a
 place_is firsts a x e = omega arith
 
 -- the counts of a row are no counts of the row at another place

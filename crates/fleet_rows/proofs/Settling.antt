@@ -8,7 +8,7 @@ use Rattle.fleet_model.specs.declared.program.ActionId.{ActionId}
 use Rattle.fleet_model.specs.declared.program.Await.{Await}
 use Rattle.fleet_model.specs.Program.{Program, moves, awaits_of, AreInRange, IsWellFormed}
 use Rattle.fleet_model.specs.Chain.{IsAction, DirectlyNeeds, Reaches, IsNumbering, awaited}
-use Rattle.fleet_model.proofs.Reaching.{last_step, Reaches-rises}
+use Rattle.fleet_model.proofs.Reaching.{chain_ends_by_step, Reaches-rises}
 use Rattle.fleet_model.proofs.Chains.{Reaches-last}
 use Rattle.fleet_rows.specs.Implied.{IsImplied, IsTold, first_await}
 use Rattle.fleet_rows.specs.Settled.{IsSettled, AreSettledOf, AreMoreAsked, IsActionSettled, IsUpTo}
@@ -34,7 +34,7 @@ await_of a = record { agent = a.agent; count = a.number }
 module _ (p : Program) (number : ActionId → ℕ) (rising : IsNumbering p number) where
   -- what another action reaches has a greater number
   rises : (a b : ActionId) → a ≢ b → Reaches p a b → number a < number b
-  rises a b apart (cs, h) = elim (last_step p a cs b h) [
+  rises a b apart (cs, h) = elim (chain_ends_by_step p a cs b h) [
     | inl e ↦ absurd (apart e)
     | inr l ↦
         let up : number a ≤ number l.before = Reaches-rises p number rising a l.before l.reaches in
@@ -59,8 +59,8 @@ module _ (p : Program) (number : ActionId → ℕ) (rising : IsNumbering p numbe
 -- ---- by what the last action directly needs
 
 -- no action that is awaited from place from on, up to another, is reached
-abbrev pub AreApart : Program → ActionId → ActionId → (ℕ → Type 0) → Type 0
-AreApart p first a These = (m : ℕ) (w : Await) → These m → slice_get (awaits_of p a.agent a.number) m ≡ Some w → Reaches p first (awaited w) → ⊥
+abbrev pub NoneIsReached : Program → ActionId → ActionId → (ℕ → Type 0) → Type 0
+NoneIsReached p first a These = (m : ℕ) (w : Await) → These m → slice_get (awaits_of p a.agent a.number) m ≡ Some w → Reaches p first (awaited w) → ⊥
 
 module _ (p : Program) (a b : ActionId) where
   own_is : (same : a.agent ≡ b.agent) (number : a.number ≡ b.number + 1) (before : ActionId) → before.agent ≡ a.agent → before.number + 1 ≡ a.number → b ≡ before
@@ -71,7 +71,7 @@ module _ (p : Program) (a b : ActionId) where
 
 -- one more is not
 pub apart_more : (p : Program) (first a : ActionId) (k : ℕ) (v : Await) → slice_get (awaits_of p a.agent a.number) k ≡ Some v → (Reaches p first (awaited v) → ⊥)
-    → AreApart p first a (λ m. m < k) → AreApart p first a (λ m. m < k + 1)
+    → NoneIsReached p first a (λ m. m < k) → NoneIsReached p first a (λ m. m < k + 1)
 apart_more p first a k v at none before m w l there r = elim (cases_lt m k) [
   | inl less ↦ before m w less there r
   | inr more ↦
@@ -81,7 +81,7 @@ apart_more p first a k v at none before m w l there r = elim (cases_lt m k) [
 
 -- and so among all but one
 pub apart_but : (p : Program) (first a : ActionId) (k n : ℕ) (v : Await) → slice_get (awaits_of p a.agent a.number) n ≡ Some v → (n ≢ k → Reaches p first (awaited v) → ⊥)
-    → AreApart p first a (λ m. (m < n) × (m ≢ k)) → AreApart p first a (λ m. (m < n + 1) × (m ≢ k))
+    → NoneIsReached p first a (λ m. (m < n) × (m ≢ k)) → NoneIsReached p first a (λ m. (m < n + 1) × (m ≢ k))
 apart_but p first a k n v at none before m w l there r = elim (cases_lt m n) [
   | inl less ↦ before m w (less, l.1) there r
   | inr more ↦
@@ -90,10 +90,10 @@ apart_but p first a k n v at none before m w l there r = elim (cases_lt m n) [
 ]
 
 -- where none of all that the last action directly needs is reached, nor is the last
-pub none_reached : (p : Program) (first last : ActionId) → (last.agent ≡ first.agent → ⊥) → AreApart p first last (λ m. m < length (awaits_of p last.agent last.number))
+pub none_reached : (p : Program) (first last : ActionId) → (last.agent ≡ first.agent → ⊥) → NoneIsReached p first last (λ m. m < length (awaits_of p last.agent last.number))
     → ((before : ActionId) → before.agent ≡ last.agent → before.number + 1 ≡ last.number → 1 ≤ before.number → Reaches p first before → ⊥)
     → Reaches p first last → ⊥
-none_reached p first last other awaits own (cs, h) = elim (last_step p first cs last h) [
+none_reached p first last other awaits own (cs, h) = elim (chain_ends_by_step p first cs last h) [
   | inl e ↦ other (ap (λ (x : ActionId). x.agent) (sym e))
   | inr l ↦ by l.before l.needs l.reaches
 ]
@@ -130,7 +130,7 @@ module _ (p : Program) (formed : IsWellFormed p) (a : ActionId) (k : ℕ) (w : A
         subst (λ (x : ActionId). Reaches p x before) e r,
       )
 
-  pub none_implied : (first : ActionId) → first ≡ awaited w → AreApart p first a (λ m. (m < length (awaits_of p a.agent a.number)) × (m ≢ k))
+  pub none_implied : (first : ActionId) → first ≡ awaited w → NoneIsReached p first a (λ m. (m < length (awaits_of p a.agent a.number)) × (m ≢ k))
       → ((before : ActionId) → before.agent ≡ a.agent → before.number + 1 ≡ a.number → 1 ≤ before.number → Reaches p first before → ⊥)
       → IsImplied p a w → ⊥
   none_implied first e awaits own (b, apart, inl (same, number, some), r) = own b (sym same) (sym number) some (subst (λ (x : ActionId). Reaches p x b) (sym e) r)

@@ -8,19 +8,19 @@ use Rattle.fleet_model.specs.Machine.{run, count_at, is_finished}
 use Rattle.fleet_model.specs.Chain.{IsAction, DirectlyNeeds, IsNumbering}
 use Rattle.fleet_machine.specs.Machine.{MachineState}
 use Rattle.fleet_machine.specs.AgentSet.{IsNextFrom, AreNoneFrom}
-use Rattle.fleet_rows.specs.Places.{ArePlaces, place_of}
+use Rattle.fleet_rows.specs.Places.{ArePlaces, action_place}
 use Rattle.fleet_rows.specs.Takers.{IsTicked}
-use Rattle.fleet_rows.specs.Pass.{IsDone, IsDoneMid}
+use Rattle.fleet_rows.specs.Pass.{IsFinishedBy, IsDoneMid}
 use Rattle.fleet_rows.specs.Settled.{IsFinishTick, AreFinishTicks}
 use Rattle.fleet_rows.proofs.Free.{count, moves_on, grows, needs_done}
 use Rattle.fleet_rows.proofs.Placed.{place_apart, place_within}
 use Rattle.fleet_rows.proofs.Finishing.{agent_of, ready_of, next_action_of, finished_action, one_more, apart, none_more, none_started, all_finished}
 use Rattle.fleet_rows.proofs.Passing.{only_before}
 
-pub noted_none : (p : Program) (firsts ticks : List ℕ) → AreFinishTicks p firsts (IsDone p 0) ticks
+pub noted_none : (p : Program) (firsts ticks : List ℕ) → AreFinishTicks p firsts (IsFinishedBy p 0) ticks
 noted_none p firsts ticks a k done = absurd (none_started p a k done)
 
-pub noted_mid : (p : Program) (firsts : List ℕ) (t : ℕ) (ticks : List ℕ) → AreFinishTicks p firsts (IsDone p t) ticks → AreFinishTicks p firsts (IsDoneMid p t 0) ticks
+pub noted_mid : (p : Program) (firsts : List ℕ) (t : ℕ) (ticks : List ℕ) → AreFinishTicks p firsts (IsFinishedBy p t) ticks → AreFinishTicks p firsts (IsDoneMid p t 0) ticks
 noted_mid p firsts t ticks h a k done = h a k (only_before p t a done)
 
 module _ (p : Program) (firsts : List ℕ) (places : ArePlaces p firsts) (m : MachineState) (t : ℕ) (h : IsTicked p m t) (from : ℕ) where
@@ -29,11 +29,11 @@ module _ (p : Program) (firsts : List ℕ) (places : ArePlaces p firsts) (m : Ma
       → AreFinishTicks p firsts (IsDoneMid p t from) old → AreFinishTicks p firsts (IsDoneMid p t (i + 1)) (set old x (t + 1))
   noted_on i next n e x at old all before a k done = elim (one_more p m t h from i next a k done) [
     | inl was ↦
-        let ne : place_of firsts a ≢ x = (λ same. place_apart p firsts places a here k is (apart p m t h from i next a was) (same ∙ place)) in
-        subst (IsFinishTick p a) (sym (get_or-set_other old x (place_of firsts a) (t + 1) 0 ne)) (before a k was)
+        let ne : action_place firsts a ≢ x = (λ same. place_apart p firsts places a here k is (apart p m t h from i next a was) (same ∙ place)) in
+        subst (IsFinishTick p a) (sym (get_or-set_other old x (action_place firsts a) (t + 1) 0 ne)) (before a k was)
     | inr same ↦
-        let there : place_of firsts a ≡ x = ap (place_of firsts) same ∙ sym place in
-        let entry : slice_index (set old x (t + 1)) (place_of firsts a) ≡ t + 1 = ap (slice_index (set old x (t + 1))) there ∙ get_or-set_same old x (t + 1) 0 within in
+        let there : action_place firsts a ≡ x = ap (action_place firsts) same ∙ sym place in
+        let entry : slice_index (set old x (t + 1)) (action_place firsts a) ≡ t + 1 = ap (slice_index (set old x (t + 1))) there ∙ get_or-set_same old x (t + 1) 0 within in
         subst (IsFinishTick p a) (sym entry) (subst (λ (y : ActionId). IsFinishTick p y (t + 1)) (sym same) finished)
   ]
     where
@@ -46,7 +46,7 @@ module _ (p : Program) (firsts : List ℕ) (places : ArePlaces p firsts) (m : Ma
       number : n ≡ count p t i + 1
       number = ap (λ (y : ActionId). y.number) (finished_action p m t h from i next n e)
 
-      place : x ≡ place_of firsts here
+      place : x ≡ action_place firsts here
       place = omega (arith, at, number)
 
       within : x < length old
@@ -59,7 +59,7 @@ module _ (p : Program) (firsts : List ℕ) (places : ArePlaces p firsts) (m : Ma
       finished = record { some = omega arith; done = omega (arith, up); not_yet = λ done. (let e : t + 1 - 1 ≡ t = omega arith in let l : count p t i + 1 ≤ count p t i = subst (λ (s : ℕ). count p t i + 1 ≤ count p s i) e done in omega arith) }
 
   -- where nobody else was moved
-  pub noted_all : AreNoneFrom m.moving from → (ticks : List ℕ) → AreFinishTicks p firsts (IsDoneMid p t from) ticks → AreFinishTicks p firsts (IsDone p (t + 1)) ticks
+  pub noted_all : AreNoneFrom m.moving from → (ticks : List ℕ) → AreFinishTicks p firsts (IsDoneMid p t from) ticks → AreFinishTicks p firsts (IsFinishedBy p (t + 1)) ticks
   noted_all none ticks before a k done = before a k (none_more p m t h from none a k done)
 
 module _ (p : Program) where
@@ -87,7 +87,7 @@ module _ (p : Program) where
         absurd (f.not_yet (omega (arith, needed, grows_to (t - 1) (s - 1) b.agent m.agent (omega arith))))
   ]
 
-  pub ticks_rise : (firsts ticks : List ℕ) (t : ℕ) → is_finished p (run p [] t) ≡ true → AreFinishTicks p firsts (IsDone p t) ticks → IsNumbering p (λ a. slice_index ticks (place_of firsts a))
+  pub ticks_rise : (firsts ticks : List ℕ) (t : ℕ) → is_finished p (run p [] t) ≡ true → AreFinishTicks p firsts (IsFinishedBy p t) ticks → IsNumbering p (λ a. slice_index ticks (action_place firsts a))
   ticks_rise firsts ticks t finished h = record {
     positive = λ a k. (h a k (all_finished p t finished a k)).some;
     rising = λ a b k m needs. finishes_later a b _ _ k m (h a k (all_finished p t finished a k)) (h b m (all_finished p t finished b m)) needs;

@@ -4,7 +4,7 @@ use Rattle.fleet_model.specs.declared.program.ActionId.{ActionId}
 use Rattle.fleet_model.specs.Program.{Program, total_moves}
 use Rattle.fleet_model.specs.Chain.{Reaches}
 use Rattle.fleet_rows.specs.Rows.{IsColumn}
-use Rattle.fleet_rows.specs.Places.{ArePlaces, place_of}
+use Rattle.fleet_rows.specs.Places.{ArePlaces, action_place}
 use Rattle.fleet_rows.specs.Takers.{AreNoted}
 use Rattle.fleet_rows.specs.Kept.{IsSound, IsKept, IsLast, count_in, mark_of}
 use Rattle.fleet_rows.specs.declared.columns.Columns.{Columns}
@@ -38,8 +38,8 @@ pub record AreKept (p : Program) (b : Block) (m : KeptRows) : Type 0 where
 
 -- the row of the action is kept
 pub record HasRow (p : Program) (b : Block) (m : KeptRows) (a : ActionId) : Type 0 where
-  pub kept : IsKept m (place_of b.places.firsts.items a)
-  pub counts : (j k : ℕ) → HasColumn b.columns j k → IsColumn p a j (count_in m (mark_of m (place_of b.places.firsts.items a)) k)
+  pub kept : IsKept m (action_place b.places.firsts.items a)
+  pub counts : (j k : ℕ) → HasColumn b.columns j k → IsColumn p a j (count_in m (mark_of m (action_place b.places.firsts.items a)) k)
 
 -- the flag says whether no chain begins with the first action and ends with the last
 abbrev pub IsAnswer : Program → Question → Bool → Type 0

@@ -4,7 +4,7 @@ use Rattle.fleet_model.specs.declared.program.Await.{Await}
 use Rattle.fleet_model.specs.declared.program.ActionId.{ActionId}
 use Rattle.fleet_model.specs.Program.{Program, actions_of, awaits_of, total_moves, total_awaits}
 use Rattle.fleet_model.specs.Chain.{IsAction, DirectlyNeeds, Reaches, awaited}
-use Rattle.fleet_rows.specs.Places.{ArePlaces, place_of}
+use Rattle.fleet_rows.specs.Places.{ArePlaces, action_place}
 use Rattle.fleet_rows.specs.Block.{HasColumn}
 use Rattle.fleet_rows.specs.Pass.{AreRowsAt}
 use Rattle.fleet_rows.specs.declared.columns.Columns.{Columns}
@@ -56,7 +56,7 @@ first_await p a = total_awaits (take a.agent p) + sum_by (λ s. length s.awaits)
 pub record AreAwaitPlaces (p : Program) (m : AwaitPlaces) : Type 0 where
   pub places : ArePlaces p m.actions.firsts.items
   pub all : length m.firsts.items ≡ total_moves p
-  pub each : (a : ActionId) → IsAction p a → slice_index m.firsts.items (place_of m.actions.firsts.items a) ≡ first_await p a
+  pub each : (a : ActionId) → IsAction p a → slice_index m.firsts.items (action_place m.actions.firsts.items a) ≡ first_await p a
 
 -- the flag says whether the await of the action is implied
 abbrev pub IsTold : Program → ActionId → Await → Bool → Type 0

@@ -6,7 +6,7 @@ use Rattle.fleet_model.specs.Machine.{run, count_at}
 use Rattle.fleet_model.specs.Chain.{IsAction}
 use Rattle.fleet_rows.specs.Block.{HasColumn, AreKept, HasRow, IsAnswer}
 use Rattle.fleet_rows.specs.Kept.{IsKept}
-use Rattle.fleet_rows.specs.Places.{place_of}
+use Rattle.fleet_rows.specs.Places.{action_place}
 use Rattle.fleet_rows.specs.declared.columns.Columns.{Columns}
 use Rattle.fleet_rows.specs.declared.block.Block.{Block}
 use Rattle.fleet_rows.specs.declared.kept_rows.KeptRows.{KeptRows}
@@ -14,19 +14,19 @@ use Rattle.fleet_rows.specs.declared.pass.Pass.{Pass}
 use Rattle.fleet_rows.specs.declared.questions.Question.{Question}
 
 -- so many ticks finish the action
-abbrev pub IsDone : Program → ℕ → ActionId → Type 0
-IsDone p t a = a.number ≤ count_at (run p [] t) a.agent
+abbrev pub IsFinishedBy : Program → ℕ → ActionId → Type 0
+IsFinishedBy p t a = a.number ≤ count_at (run p [] t) a.agent
 
 -- so do so many ticks, or one more where its agent is below this one
 abbrev pub IsDoneMid : Program → ℕ → ℕ → ActionId → Type 0
-IsDoneMid p t from a = IsDone p t a ⊎ ((a.agent < from) × IsDone p (t + 1) a)
+IsDoneMid p t from a = IsFinishedBy p t a ⊎ ((a.agent < from) × IsFinishedBy p (t + 1) a)
 
 -- the kept rows are those of finished actions, among them of all that a tick after these takes
 pub record AreRowsAt (p : Program) (b : Block) (Done : ActionId → Type 0) (t : ℕ) (m : KeptRows) : Type 0 where
   pub kept : AreKept p b m
-  pub right : (a : ActionId) → IsAction p a → IsKept m (place_of b.places.firsts.items a) → Done a × HasRow p b m a
-  pub wanted : (a : ActionId) → IsAction p a → Done a → t < slice_index b.lasts.items (place_of b.places.firsts.items a)
-      → IsKept m (place_of b.places.firsts.items a)
+  pub right : (a : ActionId) → IsAction p a → IsKept m (action_place b.places.firsts.items a) → Done a × HasRow p b m a
+  pub wanted : (a : ActionId) → IsAction p a → Done a → t < slice_index b.lasts.items (action_place b.places.firsts.items a)
+      → IsKept m (action_place b.places.firsts.items a)
 
 -- the questions before the next one are those for chains that end with finished actions, and are answered where a column is there
 pub record AreAnsweredTo (p : Program) (columns : Columns) (questions : List Question) (Done : ActionId → Type 0) (flags : List Bool) (next : ℕ) : Type 0 where
@@ -50,10 +50,10 @@ pub record IsPassed (p : Program) (b : Block) (questions : List Question) (Done 
 -- its row is kept where some tick takes it, and no other row comes or goes
 pub record IsRowTaken (p : Program) (b : Block) (a : ActionId) (old new : KeptRows) : Type 0 where
   pub kept : AreKept p b new
-  pub here : 1 ≤ slice_index b.lasts.items (place_of b.places.firsts.items a) → IsKept new (place_of b.places.firsts.items a)
-  pub right : IsKept new (place_of b.places.firsts.items a) → HasRow p b new a
+  pub here : 1 ≤ slice_index b.lasts.items (action_place b.places.firsts.items a) → IsKept new (action_place b.places.firsts.items a)
+  pub right : IsKept new (action_place b.places.firsts.items a) → HasRow p b new a
   pub others : (x : ActionId) → IsAction p x → x ≢ a → HasRow p b old x → HasRow p b new x
-  pub back : (x : ActionId) → IsAction p x → x ≢ a → IsKept new (place_of b.places.firsts.items x) → IsKept old (place_of b.places.firsts.items x)
+  pub back : (x : ActionId) → IsAction p x → x ≢ a → IsKept new (action_place b.places.firsts.items x) → IsKept old (action_place b.places.firsts.items x)
 
 -- the next question ends with the action and is answered where a column is there
 pub record IsNextAnswered (p : Program) (columns : Columns) (questions : List Question) (a : ActionId) (n : ℕ) (old new : List Bool) : Type 0 where

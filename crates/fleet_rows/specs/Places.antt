@@ -9,5 +9,5 @@ pub record ArePlaces (p : Program) (firsts : List ℕ) : Type 0 where
   pub each : (i : ℕ) → i < length p → slice_index firsts i ≡ total_moves (take i p)
 
 -- the place of an action among all
-abbrev pub place_of : List ℕ → ActionId → ℕ
-place_of firsts a = slice_index firsts a.agent + a.number - 1
+abbrev pub action_place : List ℕ → ActionId → ℕ
+action_place firsts a = slice_index firsts a.agent + a.number - 1

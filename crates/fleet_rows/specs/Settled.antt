@@ -4,8 +4,8 @@ use Rattle.fleet_model.specs.declared.program.Await.{Await}
 use Rattle.fleet_model.specs.declared.program.ActionId.{ActionId}
 use Rattle.fleet_model.specs.Program.{Program, awaits_of, total_moves}
 use Rattle.fleet_model.specs.Chain.{IsAction, IsNumbering}
-use Rattle.fleet_rows.specs.Places.{ArePlaces, place_of}
-use Rattle.fleet_rows.specs.Pass.{IsDone}
+use Rattle.fleet_rows.specs.Places.{ArePlaces, action_place}
+use Rattle.fleet_rows.specs.Pass.{IsFinishedBy}
 use Rattle.fleet_rows.specs.Implied.{IsTold, first_await}
 use Rattle.fleet_rows.specs.declared.finish_ticks.FinishTicks.{FinishTicks}
 
@@ -14,22 +14,22 @@ use Rattle.fleet_rows.specs.declared.finish_ticks.FinishTicks.{FinishTicks}
 -- so many ticks finish the action, and one less do not
 pub record IsFinishTick (p : Program) (a : ActionId) (t : ℕ) : Type 0 where
   pub some : 1 ≤ t
-  pub done : IsDone p t a
-  pub not_yet : IsDone p (t - 1) a → ⊥
+  pub done : IsFinishedBy p t a
+  pub not_yet : IsFinishedBy p (t - 1) a → ⊥
 
 -- the entries of these actions are the ticks that finish them
 abbrev pub AreFinishTicks : Program → List ℕ → (ActionId → Type 0) → List ℕ → Type 0
-AreFinishTicks p firsts These ticks = (a : ActionId) → IsAction p a → These a → IsFinishTick p a (slice_index ticks (place_of firsts a))
+AreFinishTicks p firsts These ticks = (a : ActionId) → IsAction p a → These a → IsFinishTick p a (slice_index ticks (action_place firsts a))
 
 -- the tick of an action
-abbrev pub tick_of : FinishTicks → ActionId → ℕ
-tick_of m a = slice_index m.ticks.items (place_of m.places.firsts.items a)
+abbrev pub finish_tick : FinishTicks → ActionId → ℕ
+finish_tick m a = slice_index m.ticks.items (action_place m.places.firsts.items a)
 
 -- each action has its tick, and what an action directly needs has a lower one
 pub record AreTicks (p : Program) (m : FinishTicks) : Type 0 where
   pub places : ArePlaces p m.places.firsts.items
   pub all : length m.ticks.items ≡ total_moves p
-  pub rising : IsNumbering p (tick_of m)
+  pub rising : IsNumbering p (finish_tick m)
 
 -- ---- the awaits
 

@@ -5,7 +5,7 @@ use Rattle.fleet_model.specs.Program.{Program}
 use Rattle.fleet_model.specs.Machine.{run, count_at, is_ready}
 use Rattle.fleet_model.specs.Chain.{IsAction, DirectlyNeeds}
 use Rattle.fleet_machine.specs.Machine.{MachineState, Runs, flag_of}
-use Rattle.fleet_rows.specs.Places.{place_of}
+use Rattle.fleet_rows.specs.Places.{action_place}
 
 -- the machine is where so many ticks and one more without holds lead, and the last one moved who was ready
 pub record IsTicked (p : Program) (m : MachineState) (t : ℕ) : Type 0 where
@@ -19,7 +19,7 @@ AreRaised old new = (length new ≡ length old) × ((k : ℕ) → slice_index ol
 
 -- all that the action directly needs is noted with this tick or a later one
 abbrev pub IsNotedFor : Program → List ℕ → ActionId → ℕ → List ℕ → Type 0
-IsNotedFor p firsts a tick lasts = (b : ActionId) → IsAction p b → DirectlyNeeds p a b → tick ≤ slice_index lasts (place_of firsts b)
+IsNotedFor p firsts a tick lasts = (b : ActionId) → IsAction p b → DirectlyNeeds p a b → tick ≤ slice_index lasts (action_place firsts b)
 
 -- so is what the next actions need of the agents below n who are ready after t ticks
 abbrev pub IsNotedAt : Program → List ℕ → ℕ → ℕ → List ℕ → Type 0

@@ -6,8 +6,8 @@ ghost use Rattle.fleet_model.specs.Machine.{IsFinish};
 ghost use Rattle.fleet_model.specs.Chain.{IsAction};
 ghost use Rattle.fleet_rows.specs.Places.{ArePlaces};
 ghost use Rattle.fleet_rows.specs.Takers.{IsTicked};
-ghost use Rattle.fleet_rows.specs.Pass.{IsDone};
-ghost use Rattle.fleet_rows.specs.Settled.{AreFinishTicks, AreTicks, tick_of};
+ghost use Rattle.fleet_rows.specs.Pass.{IsFinishedBy};
+ghost use Rattle.fleet_rows.specs.Settled.{AreFinishTicks, AreTicks, finish_tick};
 
 use crate::action_places::ActionPlaces;
 use fleet_machine::Machine;
@@ -48,7 +48,7 @@ impl FinishTicks {
     pub(crate) fn tick<P: ProgramView>(&self, program: &P, action: ActionId) -> u32
         requires ticks { AreTicks (P.program program.now) self.now }
         requires action { IsAction (P.program program.now) action }
-        ensures { result ≡ tick_of self.now action }
+        ensures { result ≡ finish_tick self.now action }
     {
         let _ = program.agents();
         self.ticks[self.places.place(action.agent, action.number)]
@@ -66,7 +66,7 @@ fn note_ticks<P: ProgramView>(
     requires places { ArePlaces (P.program program.now) places.now.firsts.items }
     requires all { length entries.old ≡ total_moves (P.program program.now) }
     ensures { OnOk result (AreFinishTicks (P.program program.now) places.now.firsts.items
-        (IsDone (P.program program.now) ticks) entries.new) }
+        (IsFinishedBy (P.program program.now) ticks) entries.new) }
 {
     let mut machine = Machine::start(alloc, program)?;
     let nobody = [false; MAX_AGENTS];
@@ -91,9 +91,9 @@ fn note_finished<P: ProgramView>(
     requires ticked { IsTicked (P.program program.now) machine.now ticks }
     requires few { ticks < MAX_TICKS }
     requires noted { AreFinishTicks (P.program program.now) places.now.firsts.items
-        (IsDone (P.program program.now) ticks) entries.old }
+        (IsFinishedBy (P.program program.now) ticks) entries.old }
     ensures { AreFinishTicks (P.program program.now) places.now.firsts.items
-        (IsDone (P.program program.now) (ticks + 1)) entries.new }
+        (IsFinishedBy (P.program program.now) (ticks + 1)) entries.new }
 {
     let _ = program.agents();
     let mut from = 0;

@@ -6,9 +6,9 @@ ghost use Rattle.fleet_model.specs.Machine.{IsFinish};
 ghost use Rattle.fleet_model.specs.Chain.{IsAction, DirectlyNeeds, Reaches};
 ghost use Rattle.fleet_rows.specs.Block.{AreBlock, IsRowOf, AreKept, HasRow};
 ghost use Rattle.fleet_rows.specs.Kept.{IsKept};
-ghost use Rattle.fleet_rows.specs.Places.{place_of};
+ghost use Rattle.fleet_rows.specs.Places.{action_place};
 ghost use Rattle.fleet_rows.specs.Takers.{IsTicked};
-ghost use Rattle.fleet_rows.specs.Pass.{IsDone, IsRowTaken};
+ghost use Rattle.fleet_rows.specs.Pass.{IsFinishedBy, IsRowTaken};
 ghost use Rattle.fleet_rows.specs.Implied.{AreAwaitPlaces, AreFlagged, AreToldOf, AreLeft, IsFlaggedTo};
 
 use crate::await_places::AwaitPlaces;
@@ -42,7 +42,7 @@ pub(crate) fn flag_implied<P: ProgramView>(
     requires finish { IsFinish (P.program program.now) [] block.now.ticks }
     requires flags { length flags.old ≡ total_awaits (P.program program.now) }
     ensures told { OnOk result (AreToldOf (P.program program.now) block.now.columns
-        (IsDone (P.program program.now) block.now.ticks) flags.new) }
+        (IsFinishedBy (P.program program.now) block.now.ticks) flags.new) }
     ensures left { OnOk result (AreLeft (P.program program.now) block.now.columns flags.old flags.new) }
 {
     let mut pass = ImpliedPass {
@@ -68,9 +68,9 @@ fn run_on<P: ProgramView>(
     requires flags { length flags.old ≡ total_awaits (P.program program.now) }
     requires first { pass.old.tick ≡ 0 }
     requires passed { IsFlaggedTo (P.program program.now) block.now
-        (IsDone (P.program program.now) 0) flags.old pass.old }
+        (IsFinishedBy (P.program program.now) 0) flags.old pass.old }
     ensures passed { OnOk result (IsFlaggedTo (P.program program.now) block.now
-        (IsDone (P.program program.now) block.now.ticks) flags.new pass.new) }
+        (IsFinishedBy (P.program program.now) block.now.ticks) flags.new pass.new) }
     ensures left { OnOk result (AreLeft (P.program program.now) block.now.columns flags.old flags.new) }
 {
     let mut machine = Machine::start(alloc, program)?;
@@ -101,9 +101,9 @@ fn flag_tick<P: ProgramView>(
     requires ticked { IsTicked (P.program program.now) machine.now pass.old.tick }
     requires tick { pass.old.tick < block.now.ticks }
     requires passed { IsFlaggedTo (P.program program.now) block.now
-        (IsDone (P.program program.now) pass.old.tick) flags.old pass.old }
+        (IsFinishedBy (P.program program.now) pass.old.tick) flags.old pass.old }
     ensures passed { OnOk result (IsFlaggedTo (P.program program.now) block.now
-        (IsDone (P.program program.now) (pass.old.tick + 1)) flags.new pass.new) }
+        (IsFinishedBy (P.program program.now) (pass.old.tick + 1)) flags.new pass.new) }
     ensures tick { OnOk result (pass.new.tick ≡ pass.old.tick) }
     ensures left { OnOk result (AreLeft (P.program program.now) block.now.columns flags.old flags.new) }
 {
@@ -144,7 +144,7 @@ fn flag_action<P: ProgramView>(
         → DirectlyNeeds (P.program program.now) action x → HasRow (P.program program.now) block.now pass.old.kept x }
     requires later { (c : ℕ) → Reaches (P.program program.now) (record { agent = action.agent; number = c }) action
         → c ≤ action.number }
-    requires not_yet { IsKept pass.old.kept (place_of block.now.places.firsts.items action) → ⊥ }
+    requires not_yet { IsKept pass.old.kept (action_place block.now.places.firsts.items action) → ⊥ }
     ensures room { length pass.new.row.items ≡ length pass.old.row.items }
     ensures tick { pass.new.tick ≡ pass.old.tick }
     ensures row { OnOk result (IsRowTaken (P.program program.now) block.now action pass.old.kept pass.new.kept) }

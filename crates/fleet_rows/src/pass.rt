@@ -7,9 +7,9 @@ ghost use Rattle.fleet_model.specs.Chain.{IsAction, DirectlyNeeds, Reaches};
 ghost use Rattle.fleet_rows.specs.Asked.{AreQuestions, IsQuestion};
 ghost use Rattle.fleet_rows.specs.Block.{HasColumn, AreBlock, IsRowOf, AreKept, HasRow, IsAnswer, AreAnswered};
 ghost use Rattle.fleet_rows.specs.Kept.{IsSound, IsKept, IsFreed};
-ghost use Rattle.fleet_rows.specs.Places.{ArePlaces, place_of};
+ghost use Rattle.fleet_rows.specs.Places.{ArePlaces, action_place};
 ghost use Rattle.fleet_rows.specs.Takers.{IsTicked};
-ghost use Rattle.fleet_rows.specs.Pass.{IsDone, IsPassed, IsRowTaken, IsAsked, AreOthersLeft};
+ghost use Rattle.fleet_rows.specs.Pass.{IsFinishedBy, IsPassed, IsRowTaken, IsAsked, AreOthersLeft};
 
 use crate::block::{Block, make_row};
 use crate::kept_rows::KeptRows;
@@ -67,9 +67,9 @@ fn run_on<P: ProgramView>(
     requires flags { length flags.old ≡ length questions.now }
     requires first { pass.old.tick ≡ 0 }
     requires passed { IsPassed (P.program program.now) block.now questions.now
-        (IsDone (P.program program.now) 0) flags.old pass.old }
+        (IsFinishedBy (P.program program.now) 0) flags.old pass.old }
     ensures passed { OnOk result (IsPassed (P.program program.now) block.now questions.now
-        (IsDone (P.program program.now) block.now.ticks) flags.new pass.new) }
+        (IsFinishedBy (P.program program.now) block.now.ticks) flags.new pass.new) }
     ensures others { OnOk result (AreOthersLeft block.now.columns questions.now flags.old flags.new) }
 {
     let mut machine = Machine::start(alloc, program)?;
@@ -101,9 +101,9 @@ fn pass_tick<P: ProgramView>(
     requires ticked { IsTicked (P.program program.now) machine.now pass.old.tick }
     requires tick { pass.old.tick < block.now.ticks }
     requires passed { IsPassed (P.program program.now) block.now questions.now
-        (IsDone (P.program program.now) pass.old.tick) flags.old pass.old }
+        (IsFinishedBy (P.program program.now) pass.old.tick) flags.old pass.old }
     ensures passed { OnOk result (IsPassed (P.program program.now) block.now questions.now
-        (IsDone (P.program program.now) (pass.old.tick + 1)) flags.new pass.new) }
+        (IsFinishedBy (P.program program.now) (pass.old.tick + 1)) flags.new pass.new) }
     ensures tick { OnOk result (pass.new.tick ≡ pass.old.tick) }
     ensures others { OnOk result (AreOthersLeft block.now.columns questions.now flags.old flags.new) }
 {
@@ -144,7 +144,7 @@ fn finish<P: ProgramView>(
         → DirectlyNeeds (P.program program.now) action x → HasRow (P.program program.now) block.now pass.old.kept x }
     requires later { (c : ℕ) → Reaches (P.program program.now) (record { agent = action.agent; number = c }) action
         → c ≤ action.number }
-    requires not_yet { IsKept pass.old.kept (place_of block.now.places.firsts.items action) → ⊥ }
+    requires not_yet { IsKept pass.old.kept (action_place block.now.places.firsts.items action) → ⊥ }
     ensures room { length pass.new.row.items ≡ length pass.old.row.items }
     ensures tick { pass.new.tick ≡ pass.old.tick }
     ensures row { OnOk result (IsRowTaken (P.program program.now) block.now action pass.old.kept pass.new.kept) }
@@ -225,7 +225,7 @@ pub(crate) fn keep_row<P: ProgramView>(
     requires row { IsRowOf (P.program program.now) block.now.columns action row.now }
     requires kept { AreKept (P.program program.now) block.now kept.old }
     requires action { IsAction (P.program program.now) action }
-    requires not_yet { IsKept kept.old (place_of block.now.places.firsts.items action) → ⊥ }
+    requires not_yet { IsKept kept.old (action_place block.now.places.firsts.items action) → ⊥ }
     ensures { OnOk result (IsRowTaken (P.program program.now) block.now action kept.old kept.new) }
 {
     let _ = program.agents();

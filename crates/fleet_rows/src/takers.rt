@@ -4,7 +4,7 @@ ghost use Rattle.std.specs.Prelude.{◌≡◌, ◌+◌, ◌<◌, ◌≤◌, ℕ,
 ghost use Rattle.fleet_model.specs.Program.{AreInRange, awaits_of, total_moves};
 ghost use Rattle.fleet_model.specs.declared.program.Await.{Await};
 ghost use Rattle.fleet_model.specs.Chain.{IsAction, awaited};
-ghost use Rattle.fleet_rows.specs.Places.{ArePlaces, place_of};
+ghost use Rattle.fleet_rows.specs.Places.{ArePlaces, action_place};
 ghost use Rattle.fleet_rows.specs.Takers.{IsTicked, AreRaised, AreNoted, IsNotedFor, IsNotedAt};
 
 use crate::action_places::ActionPlaces;
@@ -150,7 +150,7 @@ fn note_awaited<P: ProgramView>(
     ensures raised { AreRaised lasts.old lasts.new }
     ensures noted { (k : ℕ) (w : Await)
         → slice_get (awaits_of (P.program program.now) action.agent action.number) k ≡ Some w
-        → tick ≤ slice_index lasts.new (place_of places.now.firsts.items (awaited w)) }
+        → tick ≤ slice_index lasts.new (action_place places.now.firsts.items (awaited w)) }
 {
     let ActionId { agent, number } = action;
     for k in 0..program.await_count(agent, number) {

@@ -97,32 +97,32 @@ some_step true true i None held e = absurd cc
 some_step true true i (Some others) held e = (refl, refl, (others, refl, cc))
 
 -- the words are those of the agents, which rise from the least on and are below n
-pub record AreWordsOf (n least : ℕ) (words : List Bytes) (held : List ℕ) : Type 0 where
+pub record AreAgentWords (n least : ℕ) (words : List Bytes) (held : List ℕ) : Type 0 where
   pub written : words ≡ map decimal held
   pub rising : RisesFrom least held
   pub agents : AllByRecursion (λ i. i < n) held
 
-words_are : (n least : ℕ) (words : List Bytes) (held : List ℕ) → n < 65536 → agents_of n least words ≡ Some held → AreWordsOf n least words held
+words_are : (n least : ℕ) (words : List Bytes) (held : List ℕ) → n < 65536 → agents_of n least words ≡ Some held → AreAgentWords n least words held
 words_are n least [] held small e =
     let none : [] ≡ held = cc in
-    subst (AreWordsOf n least []) none (record { written = refl; rising = tt; agents = tt })
+    subst (AreAgentWords n least []) none (record { written = refl; rising = tt; agents = tt })
 words_are n least (word ∷ words) held small e = at (λ i others f. words_are n (i + 1) words others small f) (plain_number word) refl e
   where
-    at : ((i : ℕ) (others : List ℕ) → agents_of n (i + 1) words ≡ Some others → AreWordsOf n (i + 1) words others) → (o : Option ℕ) → plain_number word ≡ o
+    at : ((i : ℕ) (others : List ℕ) → agents_of n (i + 1) words ≡ Some others → AreAgentWords n (i + 1) words others) → (o : Option ℕ) → plain_number word ≡ o
         → option_and_then (λ (i : ℕ). cond (nat_le least i && nat_lt i n) (option_map (λ (others : List ℕ). i ∷ others) (agents_of n (i + 1) words)) None) o ≡ Some held
-        → AreWordsOf n least (word ∷ words) held
+        → AreAgentWords n least (word ∷ words) held
     at later None is f = absurd cc
     at later (Some i) is f =
         let s = some_step (nat_le least i) (nat_lt i n) i (agents_of n (i + 1) words) held f in
         let below : i < n = ltb-true i n s.1 in
         let r = later i s.2.0 s.2.1 in
         let one : word ≡ decimal i = plain_is_decimal word i is (omega arith) in
-        let all : AreWordsOf n least (word ∷ words) (i ∷ s.2.0) = record {
+        let all : AreAgentWords n least (word ∷ words) (i ∷ s.2.0) = record {
           written = ap (λ (w : Bytes). w ∷ words) one ∙ ap (λ (ws : List Bytes). decimal i ∷ ws) r.written;
           rising = (leb-true least i s.0, r.rising);
           agents = (below, r.agents);
         } in
-        subst (AreWordsOf n least (word ∷ words)) s.2.2 all
+        subst (AreAgentWords n least (word ∷ words)) s.2.2 all
 
 are_words : (n least : ℕ) (held : List ℕ) → n < 65536 → RisesFrom least held → AllByRecursion (λ i. i < n) held → agents_of n least (map decimal held) ≡ Some held
 are_words n least [] small up below = refl

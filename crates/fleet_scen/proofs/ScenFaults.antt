@@ -27,10 +27,10 @@ not_false false e = absurd cc
 -- ---- the end
 
 -- why reading ends with too few agents
-abbrev IsShort : Option ℕ → List Task → ScenFault → Type 0
-IsShort asked all f = ((f ≡ NoAgents) × (asked ≡ None) × (all ≡ [])) ⊎ ((count : ℕ) × (f ≡ Fewer) × (asked ≡ Some count) × (length all < count))
+abbrev LacksAgents : Option ℕ → List Task → ScenFault → Type 0
+LacksAgents asked all f = ((f ≡ NoAgents) × (asked ≡ None) × (all ≡ [])) ⊎ ((count : ℕ) × (f ≡ Fewer) × (asked ≡ Some count) × (length all < count))
 
-ended_fails : (asked : Option ℕ) (all : List Task) (f : ScenFault) → scen_judged asked all ≡ Err f → IsShort asked all f
+ended_fails : (asked : Option ℕ) (all : List Task) (f : ScenFault) → scen_judged asked all ≡ Err f → LacksAgents asked all f
 ended_fails None [] f e = inl (sym (err_is {A = List Task} NoAgents f e), refl, refl)
 ended_fails None (t ∷ all) f e = absurd cc
 ended_fails (Some count) all f e =
@@ -39,11 +39,11 @@ ended_fails (Some count) all f e =
       | inr p ↦ absurd (let g : Ok all ≡ Err f = p.1 in cc)
     ]
 
-ended_fault : (asked : Option ℕ) (all : List Task) (f : ScenFault) → IsShort asked all f → scen_judged asked all ≡ Err f
+ended_fault : (asked : Option ℕ) (all : List Task) (f : ScenFault) → LacksAgents asked all f → scen_judged asked all ≡ Err f
 ended_fault asked all f (inl p) = rw (p.1, p.2) (ap (λ (x : ScenFault). Err x) (sym p.0))
 ended_fault asked all f (inr p) = rw (p.2, lt-ltb (length all) p.0 p.3) (ap (λ (x : ScenFault). Err x) (sym p.1))
 
-short_lacks : (asked : Option ℕ) (all : List Task) (f : ScenFault) → IsShort asked all f → lacks asked (length all) ≡ true
+short_lacks : (asked : Option ℕ) (all : List Task) (f : ScenFault) → LacksAgents asked all f → lacks asked (length all) ≡ true
 short_lacks asked all f (inl p) = rw p.1 refl
 short_lacks asked all f (inr p) = rw p.2 (lt-ltb (length all) p.0 p.3)
 
@@ -53,14 +53,14 @@ enough_is_read (Some count) all e = rw e refl
 
 -- ---- where reading stops, after all these agents, at the rest of the lines
 
-abbrev IsJudged : Ground → List Task → Line → ScenFault → Type 0
-IsJudged g all line f = IsLineFault g line f ⊎ ((t : Task) × StandsForTask g line t × IsShared all t line.0 f)
+abbrev IsFaultyLine : Ground → List Task → Line → ScenFault → Type 0
+IsFaultyLine g all line f = IsLineFault g line f ⊎ ((t : Task) × StandsForTask g line t × IsShared all t line.0 f)
 
-abbrev StopsAtLine : Ground → List Task → Line → ScenFault → Type 0
-StopsAtLine g all line f = ((f ≡ TooMany) × (length all ≡ 1024)) ⊎ ((length all < 1024) × IsJudged g all line f)
+abbrev FailsAtLine : Ground → List Task → Line → ScenFault → Type 0
+FailsAtLine g all line f = ((f ≡ TooMany) × (length all ≡ 1024)) ⊎ ((length all < 1024) × IsFaultyLine g all line f)
 
 abbrev Stops : Ground → Option ℕ → List Task → List Line → ScenFault → Type 0
-Stops g asked all rest f = ((rest ≡ []) × IsShort asked all f) ⊎ ((line : Line) × (more : List Line) × (rest ≡ line ∷ more) × (lacks asked (length all) ≡ true) × StopsAtLine g all line f)
+Stops g asked all rest f = ((rest ≡ []) × LacksAgents asked all f) ⊎ ((line : Line) × (more : List Line) × (rest ≡ line ∷ more) × (lacks asked (length all) ≡ true) × FailsAtLine g all line f)
 
 -- it stops after the new agents of these lines
 record StopsAfter (g : Ground) (asked : Option ℕ) (lines : List Line) (earlier new : List Task) (f : ScenFault) : Type 0 where
@@ -74,7 +74,7 @@ stops_here g asked lines earlier f h s =
     record { stand = tt; earlier_all = subst (AreEarlier asked) all h; stops = subst (λ (ts : List Task). Stops g asked ts lines f) all s }
 
 -- .. before the first of them, or after one more
-at_line : (g : Ground) (asked : Option ℕ) (earlier : List Task) (line : Line) (rest : List Line) (f : ScenFault) → AreEarlier asked earlier → lacks asked (length earlier) ≡ true → StopsAtLine g earlier line f
+at_line : (g : Ground) (asked : Option ℕ) (earlier : List Task) (line : Line) (rest : List Line) (f : ScenFault) → AreEarlier asked earlier → lacks asked (length earlier) ≡ true → FailsAtLine g earlier line f
     → (new : List Task) × StopsAfter g asked (line ∷ rest) earlier new f
 at_line g asked earlier line rest f h more s = ([], stops_here g asked (line ∷ rest) earlier f h (inr (line, rest, refl, more, s)))
 
@@ -140,7 +140,7 @@ earlier_lacks : (asked : Option ℕ) (earlier : List Task) (t : Task) (new : Lis
 earlier_lacks None earlier t new h = refl
 earlier_lacks (Some count) earlier t new h = let range = h.range in lt-ltb (length earlier) count (omega (arith, range, length-append earlier (t ∷ new)))
 
-line_fault : (g : Ground) (asked : Option ℕ) (n : ℕ) (earlier : List Task) (ws : List Bytes) (ls : List Bytes) (f : ScenFault) → StopsAtLine g earlier (n, ws) f
+line_fault : (g : Ground) (asked : Option ℕ) (n : ℕ) (earlier : List Task) (ws : List Bytes) (ls : List Bytes) (f : ScenFault) → FailsAtLine g earlier (n, ws) f
     → (right_or (ltb (length earlier) 1024) TooMany >> line_next g asked n earlier ws ls) ≡ Err f
 line_fault g asked n earlier ws ls f (inl p) = rw (le-ltb (length earlier) 1024 (omega (arith, p.1))) (ap (λ (x : ScenFault). Err x) (sym p.0))
 line_fault g asked n earlier ws ls f (inr p) =
@@ -153,7 +153,7 @@ tasks_fault : (g : Ground) (asked : Option ℕ) (n : ℕ) (earlier : List Task) 
 unfolding tasks_at
 tasks_fault g asked n earlier [] [] f h =
     elim h.stops [
-      | inl p ↦ ended_fault asked earlier f (subst (λ (ts : List Task). IsShort asked ts f) (append-nil earlier) p.1)
+      | inl p ↦ ended_fault asked earlier f (subst (λ (ts : List Task). LacksAgents asked ts f) (append-nil earlier) p.1)
       | inr p ↦ absurd (let none : [] ≡ p.0 ∷ p.1 = p.2 in cc)
     ]
 tasks_fault g asked n earlier [] (t ∷ new) f h = absurd h.stand
@@ -168,7 +168,7 @@ tasks_fault g asked n earlier (line ∷ ls) [] f h =
             | inl p ↦ absurd (let none : (n + 1, words line) ∷ filled_from (n + 1 + 1) ls ≡ [] = sym next ∙ p.0 in cc)
             | inr p ↦ (
                 let same : p.0 ≡ (n + 1, words line) = heads_are p.0 (n + 1, words line) p.1 (filled_from (n + 1 + 1) ls) (sym p.2 ∙ next) in
-                rw (more, filled) (line_fault g asked (n + 1) earlier (words line) ls f (subst (λ (l : Line). StopsAtLine g earlier l f) same p.4)))
+                rw (more, filled) (line_fault g asked (n + 1) earlier (words line) ls f (subst (λ (l : Line). FailsAtLine g earlier l f) same p.4)))
           ])
     ]
 tasks_fault g asked n earlier (line ∷ ls) (t ∷ new) f h =
@@ -283,7 +283,7 @@ not_asked : (asked : Option ℕ) → MayBeAsked asked → lacks asked 1024 ≡ t
 not_asked None h e = refl
 not_asked (Some count) h e = absurd (let lt = ltb-true 1024 count e in omega (arith, h, lt))
 
-judged_fault : (ls : List Bytes) (g : Ground) (asked : Option ℕ) (all : List Task) (line : Line) (f : ScenFault) → ReachesScenLine all line ls g asked → IsJudged g all line f → IsFirstScenLineFault ls g asked f
+judged_fault : (ls : List Bytes) (g : Ground) (asked : Option ℕ) (all : List Task) (line : Line) (f : ScenFault) → ReachesScenLine all line ls g asked → IsFaultyLine g all line f → IsFirstScenLineFault ls g asked f
 judged_fault ls g asked all line f r (inl (inl (inl p))) = subst (IsFirstScenLineFault ls g asked) (sym p.0) (all, line.1, r, p.1)
 judged_fault ls g asked all line f r (inl (inl (inr p))) = subst (IsFirstScenLineFault ls g asked) (sym p.1) (all, line.1, r, p.2, p.0, refl, p.3)
 judged_fault ls g asked all line f r (inl (inr (inl p))) = subst (IsFirstScenLineFault ls g asked) (sym p.3) (all, line.1, r, p.0, p.1, p.2, p.4, p.5)
@@ -359,7 +359,7 @@ told_at ls g asked all f right few range stops =
     let there : StopsAfter g asked (filled_from (v.0.0 + 1) v.0.1) [] all f = subst (λ (lines : List Line). StopsAfter g asked lines [] all f) v.2 here in
     rw (asked_again asked right.may_be_asked, v.1) (tasks_fault g asked v.0.0 [] v.0.1 all f there)
 
-told_line : (ls : List Bytes) (g : Ground) (asked : Option ℕ) (all : List Task) (line : Line) (f : ScenFault) → ReachesScenLine all line ls g asked → IsJudged g all line f → scen_at g asked ls ≡ Err f
+told_line : (ls : List Bytes) (g : Ground) (asked : Option ℕ) (all : List Task) (line : Line) (f : ScenFault) → ReachesScenLine all line ls g asked → IsFaultyLine g all line f → scen_at g asked ls ≡ Err f
 told_line ls g asked all line f r judged =
     let next = next_again (length all) (agent_lines ls) line r.is_next in
     let few = r.few in

@@ -75,8 +75,8 @@ module _ (g : Ground) (asked : Option ℕ) (n : ℕ) (earlier : List Task) (ls :
 -- ---- the cells that were seen
 
 -- a set has a cell where one of the tasks has it
-abbrev pub Holds : (Cell → Bool) → (Task → Cell) → List Task → Type 0
-Holds has cell tasks = (c : Cell) → has c ≡ list_any (λ t. is_same_cell (cell t) c) tasks
+abbrev pub HasTaskCells : (Cell → Bool) → (Task → Cell) → List Task → Type 0
+HasTaskCells has cell tasks = (c : Cell) → has c ≡ list_any (λ t. is_same_cell (cell t) c) tasks
 
 either : (b x : Bool) → cond b true x ≡ (x || (b || false))
 either true true = refl
@@ -85,7 +85,7 @@ either false true = refl
 either false false = refl
 
 -- .. and the cell of one task more, once it is put in
-pub holds_more : (old new : Cell → Bool) (cell : Task → Cell) (tasks : List Task) (t : Task) → Holds old cell tasks → ((c : Cell) → new c ≡ cond (is_same_cell (cell t) c) true (old c)) → Holds new cell (tasks ++ t ∷ [])
+pub holds_more : (old new : Cell → Bool) (cell : Task → Cell) (tasks : List Task) (t : Task) → HasTaskCells old cell tasks → ((c : Cell) → new c ≡ cond (is_same_cell (cell t) c) true (old c)) → HasTaskCells new cell (tasks ++ t ∷ [])
 holds_more old new cell tasks t h put = λ c.
     let p : Task → Bool = λ s. is_same_cell (cell s) c in
     put c ∙ ap (λ x. cond (p t) true x) (h c) ∙ either (p t) (list_any p tasks) ∙ sym (list_any-append p tasks (t ∷ []))

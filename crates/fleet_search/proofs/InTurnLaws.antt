@@ -81,11 +81,11 @@ stuck_at passable tasks horizon n plan start goal l made a b none =
       stuck = subst (λ z. IsInfeasible passable plan z t.0.goal horizon) r.0 (subst (λ z. IsInfeasible passable plan start z horizon) r.1 none);
     }
 
--- the agent that is named
+-- the agent that is same_agent
 agent_of : PlanStop → ℕ
 agent_of OutOfMemory = 0
 agent_of (NoPath agent) = agent
 
-pub named : (P : ℕ → Type 0) (a b : ℕ) → NoPath a ≡ NoPath b → P a → P b
+pub same_agent : (P : ℕ → Type 0) (a b : ℕ) → NoPath a ≡ NoPath b → P a → P b
 unfolding agent_of
-named P a b e h = subst P (ap agent_of e) h
+same_agent P a b e h = subst P (ap agent_of e) h

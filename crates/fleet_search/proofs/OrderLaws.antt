@@ -68,14 +68,14 @@ inserted_again [] i d h = absurd (omega arith)
 inserted_again (x ∷ xs) zero d h = refl
 inserted_again (x ∷ xs) (suc i) d h = ap (λ z. x ∷ z) (inserted_again xs i d (omega arith))
 
-pub raised : (n : ℕ) (order : List ℕ) (place : ℕ) → IsPermutation (rising n) order → place < length order → IsPermutation (rising n) (to_front order place)
-raised n order place p h =
+pub order_with_raised : (n : ℕ) (order : List ℕ) (place : ℕ) → IsPermutation (rising n) order → place < length order → IsPermutation (rising n) (to_front order place)
+order_with_raised n order place p h =
     let back : IsPermutation (to_front order place) (insert (remove order place) place (get_or order place 0)) = IsPermutation-insert (remove order place) place (get_or order place 0) in
     IsPermutation-trans _ _ _ p (IsPermutation-sym _ _ (subst (IsPermutation (to_front order place)) (inserted_again order place 0 h) back))
 
-raised-first : (order : List ℕ) → 0 < length order → to_front order 0 ≡ order
-raised-first [] h = absurd (omega arith)
-raised-first (a ∷ order) h = refl
+order_with_raised-first : (order : List ℕ) → 0 < length order → to_front order 0 ≡ order
+order_with_raised-first [] h = absurd (omega arith)
+order_with_raised-first (a ∷ order) h = refl
 
 -- ---- orders in turn
 
@@ -89,7 +89,7 @@ module _ (passable : Place → Bool) (tasks : List Task) (horizon : ℕ) where
   unfolding IsOrderAfter
   order_after-again n zero order h after stuck = rw zero-add after
   order_after-again n (suc more) order h after stuck = rw suc-add
-      (order, 0, order_after-again n more order h after stuck, stuck, sym (raised-first order h))
+      (order, 0, order_after-again n more order h after stuck, stuck, sym (order_with_raised-first order h))
 
   pub order_after-none : IsOrderAfter passable tasks horizon 0 (rising (length tasks))
   unfolding IsOrderAfter

@@ -18,7 +18,7 @@ use Rattle.fleet_search.specs.Search.{IsStep, no_node, state_in, IsReachedFrom, 
 use Rattle.fleet_search.proofs.Chase.{step_ok-same}
 
 -- one step before the time of a visit the agent is on this one, from which the step leads there
-pub record IsBefore (q : Query) (nodes : List Node) (time : ℕ) (visit : State) (next : ℕ) : Type 0 where
+pub record StepsToVisit (q : Query) (nodes : List Node) (time : ℕ) (visit : State) (next : ℕ) : Type 0 where
   pub known : next < length nodes
   pub early : (state_in nodes next).time ≤ time - 1
   pub free : IsFreeOn q.reserved.now (state_in nodes next).cell (state_in nodes next).time (time - 1)
@@ -35,10 +35,10 @@ pub record IsTraced (q : Query) (r : List Node) (n : ℕ) (last : Cell) (xs : Li
   pub free : IsFreeOn q.reserved.now (state_in r visit).cell (state_in r visit).time (n - back)
   pub steps : (k : ℕ) → k < back → IsStep q (n - (k + 1)) (get_or xs (k + 1) origin) (get_or xs k origin)
 
-before-came : (q : Query) (f : ℕ) (left : Option ℕ) (r : List Node) (labels : Labels) (open_list : List (Vec ℕ Global)) → IsFrontier q f left r labels open_list → (time visit : ℕ) → visit < length r → (state_in r visit).time ≡ time → 1 ≤ time → IsBefore q r time (state_in r visit) (get_or r visit no_node).parent
+before-came : (q : Query) (f : ℕ) (left : Option ℕ) (r : List Node) (labels : Labels) (open_list : List (Vec ℕ Global)) → IsFrontier q f left r labels open_list → (time visit : ℕ) → visit < length r → (state_in r visit).time ≡ time → 1 ≤ time → StepsToVisit q r time (state_in r visit) (get_or r visit no_node).parent
 before-came q f left r labels open_list fr time visit k e h = go (fr.sound visit k).reached_from
   where
-    go : IsReachedFrom q r (state_in r visit) (get_or r visit no_node).parent → IsBefore q r time (state_in r visit) (get_or r visit no_node).parent
+    go : IsReachedFrom q r (state_in r visit) (get_or r visit no_node).parent → StepsToVisit q r time (state_in r visit) (get_or r visit no_node).parent
     go (inl p) = absurd (let z = p.0 in omega arith)
     go (inr (u, s, known, move)) =
         let at : u ≡ time - 1 = omega arith in
@@ -50,7 +50,7 @@ before-came q f left r labels open_list fr time visit k e h = go (fr.sound visit
           step = subst (λ z. IsStep q z from.cell (state_in r visit).cell) at move.step;
         }
 
-before-waits : (q : Query) (f : ℕ) (left : Option ℕ) (r : List Node) (labels : Labels) (open_list : List (Vec ℕ Global)) → IsFrontier q f left r labels open_list → (time visit : ℕ) → visit < length r → (state_in r visit).time ≢ time → (state_in r visit).time ≤ time → IsFreeOn q.reserved.now (state_in r visit).cell (state_in r visit).time time → IsBefore q r time (state_in r visit) visit
+before-waits : (q : Query) (f : ℕ) (left : Option ℕ) (r : List Node) (labels : Labels) (open_list : List (Vec ℕ Global)) → IsFrontier q f left r labels open_list → (time visit : ℕ) → visit < length r → (state_in r visit).time ≢ time → (state_in r visit).time ≤ time → IsFreeOn q.reserved.now (state_in r visit).cell (state_in r visit).time time → StepsToVisit q r time (state_in r visit) visit
 before-waits q f left r labels open_list fr time visit k ne h free = record {
   known = k;
   early = omega arith;
@@ -63,12 +63,12 @@ before-waits q f left r labels open_list fr time visit k ne h free = record {
 }
 
 -- the visit at one step before: that from which the agent has just come, or the same
-pub before : (q : Query) (f : ℕ) (left : Option ℕ) (r : List Node) (labels : Labels) (open_list : List (Vec ℕ Global)) → IsFrontier q f left r labels open_list → (n : ℕ) (last : Cell) (xs : List Cell) (back visit next : ℕ) → IsTraced q r n last xs back visit → back < n → (((state_in r visit).time ≡ n - back) × (next ≡ (get_or r visit no_node).parent)) ⊎ (((state_in r visit).time ≢ n - back) × (next ≡ visit)) → IsBefore q r (n - back) (state_in r visit) next
-before q f left r labels open_list fr n last xs back visit next tr h (inl w) = subst (IsBefore q r (n - back) (state_in r visit)) (sym w.1) (before-came q f left r labels open_list fr (n - back) visit tr.known w.0 (omega arith))
-before q f left r labels open_list fr n last xs back visit next tr h (inr w) = subst (IsBefore q r (n - back) (state_in r visit)) (sym w.1) (before-waits q f left r labels open_list fr (n - back) visit tr.known w.0 tr.early tr.free)
+pub before : (q : Query) (f : ℕ) (left : Option ℕ) (r : List Node) (labels : Labels) (open_list : List (Vec ℕ Global)) → IsFrontier q f left r labels open_list → (n : ℕ) (last : Cell) (xs : List Cell) (back visit next : ℕ) → IsTraced q r n last xs back visit → back < n → (((state_in r visit).time ≡ n - back) × (next ≡ (get_or r visit no_node).parent)) ⊎ (((state_in r visit).time ≢ n - back) × (next ≡ visit)) → StepsToVisit q r (n - back) (state_in r visit) next
+before q f left r labels open_list fr n last xs back visit next tr h (inl w) = subst (StepsToVisit q r (n - back) (state_in r visit)) (sym w.1) (before-came q f left r labels open_list fr (n - back) visit tr.known w.0 (omega arith))
+before q f left r labels open_list fr n last xs back visit next tr h (inr w) = subst (StepsToVisit q r (n - back) (state_in r visit)) (sym w.1) (before-waits q f left r labels open_list fr (n - back) visit tr.known w.0 tr.early tr.free)
 
 module _ (q : Query) (f : ℕ) (left : Option ℕ) (r : List Node) (labels : Labels) (open_list : List (Vec ℕ Global)) (fr : IsFrontier q f left r labels open_list) (n : ℕ) (last : Cell) (xs : List Cell) (back : ℕ) (visit : ℕ) (tr : IsTraced q r n last xs back visit) where
-  pub traced-more : (next : ℕ) (ys : List Cell) → back < n → IsBefore q r (n - back) (state_in r visit) next → ys ≡ xs ++ (state_in r next).cell ∷ [] → IsTraced q r n last ys (back + 1) next
+  pub traced-more : (next : ℕ) (ys : List Cell) → back < n → StepsToVisit q r (n - back) (state_in r visit) next → ys ≡ xs ++ (state_in r next).cell ∷ [] → IsTraced q r n last ys (back + 1) next
   traced-more next ys h b g = subst (λ z. IsTraced q r n last z (back + 1) next) (sym g) (record {
     long = omega (arith, length_push xs (state_in r next).cell, tr.long);
     bound = omega arith;

@@ -82,32 +82,32 @@ words_blank : (b : ℕ) (line : Bytes) → is_blank b ≡ true → words (b ∷ 
 unfolding words
 words_blank b line t = rw t refl
 
-abbrev pub is_other : ℕ → Bool
-is_other b = not (is_blank b)
+abbrev pub is_no_blank : ℕ → Bool
+is_no_blank b = not (is_blank b)
 
-words_drop : (line : Bytes) → words line ≡ words (drop (position_or_len is_other line) line)
+words_drop : (line : Bytes) → words line ≡ words (drop (position_or_len is_no_blank line) line)
 words_drop [] = refl
 words_drop (b ∷ line) =
     elim (cases_Bool (is_blank b)) [
-      | inl t ↦ rw (t, one_more (position_or_len is_other line)) (words_blank b line t ∙ words_drop line)
+      | inl t ↦ rw (t, one_more (position_or_len is_no_blank line)) (words_blank b line t ∙ words_drop line)
       | inr t ↦ rw t refl
     ]
 
-pub words_from : (line : Bytes) (start : ℕ) → position is_other line ≡ Some start → words line ≡ words (drop start line)
-words_from line start e = subst (λ (i : ℕ). words line ≡ words (drop i line)) (found_at is_other line start e).0 (words_drop line)
+pub words_from : (line : Bytes) (start : ℕ) → position is_no_blank line ≡ Some start → words line ≡ words (drop start line)
+words_from line start e = subst (λ (i : ℕ). words line ≡ words (drop i line)) (found_at is_no_blank line start e).0 (words_drop line)
 
-pub words_none : (line : Bytes) → position is_other line ≡ None → words line ≡ []
+pub words_none : (line : Bytes) → position is_no_blank line ≡ None → words line ≡ []
 unfolding words
-words_none line e = words_drop line ∙ ap words (drop_all (position_or_len is_other line) line (found_nowhere is_other line e))
+words_none line e = words_drop line ∙ ap words (drop_all (position_or_len is_no_blank line) line (found_nowhere is_no_blank line e))
 
 not_true : (b : Bool) → not b ≡ true → b ≡ false
 not_true true e = absurd cc
 not_true false e = refl
 
 -- a word begins at the place that was found
-pub begins : (line : Bytes) (start : ℕ) → position is_other line ≡ Some start → (0 < length (drop start line)) × (is_blank (get_or (drop start line) 0 0) ≡ false)
+pub begins : (line : Bytes) (start : ℕ) → position is_no_blank line ≡ Some start → (0 < length (drop start line)) × (is_blank (get_or (drop start line) 0 0) ≡ false)
 begins line start e =
-    let f = position-Some is_other line start 0 e in
+    let f = position-Some is_no_blank line start 0 e in
     let here : is_blank (get_or line start 0) ≡ false = not_true (is_blank (get_or line start 0)) f.1 in
     let same : get_or (drop start line) 0 0 ≡ get_or line start 0 = get_or-drop start line 0 0 ∙ ap (λ (i : ℕ). get_or line i 0) (add-zero start) in
     (omega (arith, f.0, length-drop start line), ap is_blank same ∙ here)

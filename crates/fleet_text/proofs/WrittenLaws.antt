@@ -16,11 +16,11 @@ abbrev pub each_spaced : {X : Type 0} → (X → Bytes) → List X → Bytes
 each_spaced text xs = flat_map (λ x. text x ++ 32 ∷ []) xs
 
 -- those before the last, and the last one
-joined : {X : Type 0} (text : X → Bytes) (xs : List X) (last : X) → join_with_byte 32 (map text (xs ++ last ∷ [])) ≡ each_spaced text xs ++ text last
-joined text [] last = refl
-joined text (x ∷ []) last = sym (append_assoc (text x) (32 ∷ []) (text last)) ∙ ap (λ (t : Bytes). t ++ text last) (sym (append-nil (text x ++ 32 ∷ [])))
-joined text (x ∷ y ∷ xs) last =
-    ap (λ (t : Bytes). text x ++ 32 ∷ t) (joined text (y ∷ xs) last)
+join_last : {X : Type 0} (text : X → Bytes) (xs : List X) (last : X) → join_with_byte 32 (map text (xs ++ last ∷ [])) ≡ each_spaced text xs ++ text last
+join_last text [] last = refl
+join_last text (x ∷ []) last = sym (append_assoc (text x) (32 ∷ []) (text last)) ∙ ap (λ (t : Bytes). t ++ text last) (sym (append-nil (text x ++ 32 ∷ [])))
+join_last text (x ∷ y ∷ xs) last =
+    ap (λ (t : Bytes). text x ++ 32 ∷ t) (join_last text (y ∷ xs) last)
     ∙ sym (append_assoc (text x) (32 ∷ []) (each_spaced text (y ∷ xs) ++ text last))
     ∙ sym (append_assoc (text x ++ 32 ∷ []) (each_spaced text (y ∷ xs)) (text last))
 
@@ -29,7 +29,7 @@ pub line_written :
     {X : Type 0} (text : X → Bytes) (before front all : Bytes) (xs : List X) (last : X) → front ≡ before ++ each_spaced text xs
     → all ≡ front ++ text last ++ 10 ∷ [] → all ≡ before ++ join_with_byte 32 (map text (xs ++ last ∷ [])) ++ 10 ∷ []
 line_written text before front all xs last e f =
-    f ∙ ap (λ (t : Bytes). t ++ 10 ∷ []) (ap (λ (t : Bytes). t ++ text last) e ∙ append_assoc before (each_spaced text xs) (text last) ∙ ap (λ (t : Bytes). before ++ t) (sym (joined text xs last)))
+    f ∙ ap (λ (t : Bytes). t ++ 10 ∷ []) (ap (λ (t : Bytes). t ++ text last) e ∙ append_assoc before (each_spaced text xs) (text last) ∙ ap (λ (t : Bytes). before ++ t) (sym (join_last text xs last)))
 
 ended_push : {X : Type 0} (text : X → Bytes) (xs : List X) (x : X) → ended_text (map text (xs ++ x ∷ [])) ≡ ended_text (map text xs) ++ (text x ++ 10 ∷ [])
 ended_push text [] x = append-nil (text x ++ 10 ∷ [])
@@ -56,7 +56,7 @@ number_push m n d (b ∷ ds) e t =
     ]
 
 -- the text spells the number, and has digits alone
-pub record Spells (n : ℕ) (ds : Bytes) : Type 0 where
+pub record SpellsNumber (n : ℕ) (ds : Bytes) : Type 0 where
   pub value : number_after 0 ds ≡ Some n
   pub digits : AllByRecursion (λ d. (48 ≤ d) × (d ≤ 57)) ds
   pub some : 1 ≤ length ds
@@ -68,7 +68,7 @@ digits_push : (ds : Bytes) (d : ℕ) → AllByRecursion (λ d. (48 ≤ d) × (d 
 digits_push [] d h low high = ((low, high), tt)
 digits_push (b ∷ ds) d h low high = (h.0, digits_push ds d h.1 low high)
 
-spells_one : (n : ℕ) → n < 10 → Spells n ((48 + n) ∷ [])
+spells_one : (n : ℕ) → n < 10 → SpellsNumber n ((48 + n) ∷ [])
 unfolding number_after
 spells_one n lt = record {
   value = rw (digit_is (48 + n) (omega arith) (omega arith)) (let e : 10 * 0 + (48 + n - 48) ≡ n = omega arith in ap (λ (x : ℕ). Some x) e);
@@ -76,7 +76,7 @@ spells_one n lt = record {
   some = omega arith;
 }
 
-spells_more : (n : ℕ) (ds : Bytes) → 10 ≤ n → Spells (n / 10) ds → Spells n (ds ++ ((48 + n % 10) ∷ []))
+spells_more : (n : ℕ) (ds : Bytes) → 10 ≤ n → SpellsNumber (n / 10) ds → SpellsNumber n (ds ++ ((48 + n % 10) ∷ []))
 spells_more n ds big h =
     let low : 48 ≤ 48 + n % 10 = omega arith in
     let high : 48 + n % 10 ≤ 57 = omega arith in
@@ -87,10 +87,10 @@ spells_more n ds big h =
       some = omega (arith, length-append ds ((48 + n % 10) ∷ []));
     }
 
-pub spells : (n : ℕ) → n < 2 ^ 64 → Spells n (decimal n)
-spells n lt = decimal_by_steps Spells spells_one spells_more n lt
+pub spells : (n : ℕ) → n < 2 ^ 64 → SpellsNumber n (decimal n)
+spells n lt = decimal_by_steps SpellsNumber spells_one spells_more n lt
 
-pub number_is : (n : ℕ) (ds : Bytes) → Spells n ds → number ds ≡ Some n
+pub number_is : (n : ℕ) (ds : Bytes) → SpellsNumber n ds → number ds ≡ Some n
 unfolding number
 number_is n [] h = absurd (let some = h.some in omega (arith, some))
 number_is n (d ∷ ds) h = h.value

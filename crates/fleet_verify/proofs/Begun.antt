@@ -18,17 +18,17 @@ use Rattle.fleet_verify.specs.Faults.{EachAction, StandsRight}
 use Rattle.fleet_verify.specs.Walk.{positions_of, begun_by}
 use Rattle.fleet_verify.proofs.Paths.{path_step}
 
-abbrev visit : ℕ → ℕ → Visit
-visit i n = record { agent = i; position = n }
+abbrev visit_of : ℕ → ℕ → Visit
+visit_of i n = record { agent = i; position = n }
 
 -- one agent more
-pub positions_yes : (moving : ℕ → Bool) (position : ℕ → ℕ) (n : ℕ) → moving n ≡ true → positions_of moving position (n + 1) ≡ positions_of moving position n ++ visit n (position n) ∷ []
+pub positions_yes : (moving : ℕ → Bool) (position : ℕ → ℕ) (n : ℕ) → moving n ≡ true → positions_of moving position (n + 1) ≡ positions_of moving position n ++ visit_of n (position n) ∷ []
 positions_yes moving position n e = rw (indices_more n, filter-append, map-append, e) refl
 
 pub positions_no : (moving : ℕ → Bool) (position : ℕ → ℕ) (n : ℕ) → moving n ≡ false → positions_of moving position (n + 1) ≡ positions_of moving position n
 positions_no moving position n e = rw (indices_more n, filter-append, map-append, e) append-nil
   where
-    append-nil : map (λ i. visit i (position i)) (filter moving (indices n)) ++ [] ≡ map (λ i. visit i (position i)) (filter moving (indices n))
+    append-nil : map (λ i. visit_of i (position i)) (filter moving (indices n)) ++ [] ≡ map (λ i. visit_of i (position i)) (filter moving (indices n))
     append-nil = Rattle.std.proofs.lemmas.List.append-nil _
 
 -- where nobody moves from one agent up to another, there are no more positions
@@ -43,7 +43,7 @@ positions_passed moving position from (suc n) le none =
       | inr ge ↦ ap (positions_of moving position) (let e : suc n ≡ from = omega (arith, le, ge) in e)
     ]
 
-pub begun_yes : (moving : ℕ → Bool) (count : ℕ → ℕ) (n : ℕ) → moving n ≡ true → begun_by moving count (n + 1) ≡ begun_by moving count n ++ visit n (count n + 1) ∷ []
+pub begun_yes : (moving : ℕ → Bool) (count : ℕ → ℕ) (n : ℕ) → moving n ≡ true → begun_by moving count (n + 1) ≡ begun_by moving count n ++ visit_of n (count n + 1) ∷ []
 begun_yes moving count n e = positions_yes moving (λ i. count i + 1) n e
 
 pub begun_no : (moving : ℕ → Bool) (count : ℕ → ℕ) (n : ℕ) → moving n ≡ false → begun_by moving count (n + 1) ≡ begun_by moving count n
@@ -51,10 +51,10 @@ begun_no moving count n e = positions_no moving (λ i. count i + 1) n e
 
 -- the positions so far, with one more
 pub one_moved : (visits : List Visit) (moving : ℕ → Bool) (position : ℕ → ℕ) (i n : ℕ) → moving i ≡ true → n ≡ position i
-    → (visits ++ positions_of moving position i) ++ visit i n ∷ [] ≡ visits ++ positions_of moving position (i + 1)
+    → (visits ++ positions_of moving position i) ++ visit_of i n ∷ [] ≡ visits ++ positions_of moving position (i + 1)
 one_moved visits moving position i n flag e =
-    append_assoc visits (positions_of moving position i) (visit i n ∷ [])
-    ∙ ap (λ vs. visits ++ vs) (ap (λ k. positions_of moving position i ++ visit i k ∷ []) e ∙ sym (positions_yes moving position i flag))
+    append_assoc visits (positions_of moving position i) (visit_of i n ∷ [])
+    ∙ ap (λ vs. visits ++ vs) (ap (λ k. positions_of moving position i ++ visit_of i k ∷ []) e ∙ sym (positions_yes moving position i flag))
 
 pub positions_same : (m k : ℕ → Bool) (c d : ℕ → ℕ) (n : ℕ) → ((i : ℕ) → i < n → m i ≡ k i) → ((i : ℕ) → i < n → k i ≡ true → c i ≡ d i) → positions_of m c n ≡ positions_of k d n
 positions_same m k c d zero h e = refl
@@ -64,7 +64,7 @@ positions_same m k c d (suc n) h e =
     go : (b : Bool) → m n ≡ b → positions_of m c n ≡ positions_of k d n → positions_of m c (n + 1) ≡ positions_of k d (n + 1)
     go true f rest =
         let g : k n ≡ true = sym (h n (omega arith)) ∙ f in
-        positions_yes m c n f ∙ (ap (λ vs. vs ++ visit n (c n) ∷ []) rest ∙ (ap (λ x. positions_of k d n ++ visit n x ∷ []) (e n (omega arith) g) ∙ sym (positions_yes k d n g)))
+        positions_yes m c n f ∙ (ap (λ vs. vs ++ visit_of n (c n) ∷ []) rest ∙ (ap (λ x. positions_of k d n ++ visit_of n x ∷ []) (e n (omega arith) g) ∙ sym (positions_yes k d n g)))
     go false f rest = positions_no m c n f ∙ (rest ∙ sym (positions_no k d n (sym (h n (omega arith)) ∙ f)))
 
 -- ---- cells

@@ -149,15 +149,15 @@ held-dec p number s v w c i =
     next = record { agent = i; number = count_at c i + 1 }
 
 -- the row of a configuration
-row_of : (p : Program) (number : ActionId → ℕ) → IsNumbering p number → (v w : Visit) (c : Configuration) → List ℕ
-row_of p number s v w c = those_below (λ i. is_yes (held-dec p number s v w c i)) (length p)
+row_of_configuration : (p : Program) (number : ActionId → ℕ) → IsNumbering p number → (v w : Visit) (c : Configuration) → List ℕ
+row_of_configuration p number s v w c = those_below (λ i. is_yes (held-dec p number s v w c i)) (length p)
 
-row_rises : (p : Program) (number : ActionId → ℕ) (s : IsNumbering p number) (v w : Visit) (c : Configuration) → IsStrictlyIncreasing (row_of p number s v w c)
-unfolding row_of
+row_rises : (p : Program) (number : ActionId → ℕ) (s : IsNumbering p number) (v w : Visit) (c : Configuration) → IsStrictlyIncreasing (row_of_configuration p number s v w c)
+unfolding row_of_configuration
 row_rises p number s v w c = those_rise (λ i. is_yes (held-dec p number s v w c i)) (length p)
 
-row_has : (p : Program) (number : ActionId → ℕ) (s : IsNumbering p number) (v w : Visit) (c : Configuration) (i : ℕ) → Contains (row_of p number s v w c) i ↔ IsHeldBack p v w c i
-unfolding row_of
+row_has : (p : Program) (number : ActionId → ℕ) (s : IsNumbering p number) (v w : Visit) (c : Configuration) (i : ℕ) → Contains (row_of_configuration p number s v w c) i ↔ IsHeldBack p v w c i
+unfolding row_of_configuration
 row_has p number s v w c i = (
   (λ h. from_yes (held-dec p number s v w c i) (those_has (λ j. is_yes (held-dec p number s v w c j)) (length p) i h)),
   (λ h. let l : count_at c i < moves p i = h.left in those_keep (λ j. is_yes (held-dec p number s v w c j)) (length p) i (moves_within p i (omega arith)) (to_yes (held-dec p number s v w c i) h)),
@@ -262,9 +262,9 @@ grow p number s range v w a b zero holds g l =
 grow p number s range v w a b (suc fuel) holds g l =
     elim (prepared-dec p v w holds (length holds) a b) [
       | yes h ↦ (holds, record { rising = g.rising; rows = g.rows; sooner = g.sooner; prepared = h })
-      | no n ↦ grow p number s range v w a b fuel (holds ++ row_of p number s v w (run p holds (length holds)) ∷ [])
-          (grown p v w holds g n (row_of p number s v w (run p holds (length holds))) (row_rises p number s v w (run p holds (length holds))) (row_has p number s v w (run p holds (length holds))))
-          (let e : length (holds ++ row_of p number s v w (run p holds (length holds)) ∷ []) ≡ length holds + 1 = length_push holds (row_of p number s v w (run p holds (length holds))) in omega arith)
+      | no n ↦ grow p number s range v w a b fuel (holds ++ row_of_configuration p number s v w (run p holds (length holds)) ∷ [])
+          (grown p v w holds g n (row_of_configuration p number s v w (run p holds (length holds))) (row_rises p number s v w (run p holds (length holds))) (row_has p number s v w (run p holds (length holds))))
+          (let e : length (holds ++ row_of_configuration p number s v w (run p holds (length holds)) ∷ []) ≡ length holds + 1 = length_push holds (row_of_configuration p number s v w (run p holds (length holds))) in omega arith)
     ]
 
 pub breaking_made : (p : Program) (number : ActionId → ℕ) → IsNumbering p number → AreInRange p → (v w : Visit) → IsVisit p v → IsVisit p w → (h : Holds) × AreBreakingHolds p v w h

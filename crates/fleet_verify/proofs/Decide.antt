@@ -8,7 +8,7 @@ use Rattle.fleet_model.specs.Program.{Program, moves, awaits_of}
 use Rattle.fleet_verify.proofs.Members.{same_action, contains_head, contains_later, contains_none, contains_cases}
 use Rattle.fleet_model.specs.Chain.{IsAction, DirectlyNeeds, ChainFrom, Reaches, IsNumbering, awaited}
 use Rattle.fleet_model.proofs.Chains.{chain_last, Reaches-need}
-use Rattle.fleet_model.proofs.Reaching.{Reaches-trans, LastStep, last_step}
+use Rattle.fleet_model.proofs.Reaching.{Reaches-trans, LastStep, chain_ends_by_step}
 
 pub IsAction-dec : (p : Program) (a : ActionId) → Dec (IsAction p a)
 IsAction-dec p a =
@@ -60,7 +60,7 @@ needs_before p b k = let f : 1 ≤ b.number - 1 = k.first in inl (refl, omega ar
 
 -- no chain leads to an action that is another one, where none leads to what it directly needs
 none_leads : (p : Program) (a b : ActionId) → (a ≡ b → ⊥) → (Reaches p a (before_in b) → ⊥) → ((w : Await) × Contains (awaits_of p b.agent b.number) w × Reaches p a (awaited w) → ⊥) → (cs : List ActionId) → ChainFrom p a cs b → ⊥
-none_leads p a b apart own other cs r = go (last_step p a cs b r)
+none_leads p a b apart own other cs r = go (chain_ends_by_step p a cs b r)
   where
     split : (l : LastStep p a b) → DirectlyNeeds p b l.before → ⊥
     split l (inl (e, n, f)) = own (subst (Reaches p a) (same_action l.before (before_in b) (sym e) (omega arith)) l.reaches)

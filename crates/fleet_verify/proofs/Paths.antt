@@ -41,33 +41,33 @@ falls_off passable p i n q d before here dir off = record {
 }
 
 -- a place no further from the cells of a map than by so many steps
-record IsNear (q : Place) (n : ℕ) : Type 0 where
+record IsWithinSteps (q : Place) (n : ℕ) : Type 0 where
   west : pos 0 ≤ℤ (q.x +ℤ pos n)
   east : q.x ≤ℤ pos (MAX_COORDINATE + n)
   north : pos 0 ≤ℤ (q.y +ℤ pos n)
   south : q.y ≤ℤ pos (MAX_COORDINATE + n)
 
-near_cell : (c : Cell) → IsCell c → IsNear (place_of c) 0
+near_cell : (c : Cell) → IsCell c → IsWithinSteps (place_of c) 0
 near_cell c h = record { west = omega (arith, ints, h.x); east = omega (arith, ints, h.x); north = omega (arith, ints, h.y); south = omega (arith, ints, h.y) }
 
-near_step : (q : Place) (d : Step) (n : ℕ) → IsNear q n → IsNear (stepped q d) (n + 1)
+near_step : (q : Place) (d : Step) (n : ℕ) → IsWithinSteps q n → IsWithinSteps (stepped q d) (n + 1)
 near_step q (Go North) n h = record { west = omega (arith, ints, h.west); east = omega (arith, ints, h.east); north = omega (arith, ints, h.north); south = omega (arith, ints, h.south) }
 near_step q (Go East) n h = record { west = omega (arith, ints, h.west); east = omega (arith, ints, h.east); north = omega (arith, ints, h.north); south = omega (arith, ints, h.south) }
 near_step q (Go South) n h = record { west = omega (arith, ints, h.west); east = omega (arith, ints, h.east); north = omega (arith, ints, h.north); south = omega (arith, ints, h.south) }
 near_step q (Go West) n h = record { west = omega (arith, ints, h.west); east = omega (arith, ints, h.east); north = omega (arith, ints, h.north); south = omega (arith, ints, h.south) }
 near_step q Dwell n h = record { west = omega (arith, ints, h.west); east = omega (arith, ints, h.east); north = omega (arith, ints, h.north); south = omega (arith, ints, h.south) }
 
-near_path : (p : Program) → IsWellFormed p → (i n : ℕ) → n ≤ moves p i → IsNear (path p i n) n
+near_path : (p : Program) → IsWellFormed p → (i n : ℕ) → n ≤ moves p i → IsWithinSteps (path p i n) n
 near_path p wf i zero l = near_cell (start_of p i) (wf.starts i)
 near_path p wf i (suc n) l =
     let d : Action = record { step = Dwell; awaits = [] } in
     let e = slice_get-get_or (actions_of p i) n d (omega arith) in
     let on : path p i (n + 1) ≡ stepped (path p i n) (get_or (actions_of p i) n d).step = path_more p i n (get_or (actions_of p i) n d) e in
-    subst (λ (m : ℕ). IsNear (path p i m) m) (add-one n) (subst (λ (q : Place). IsNear q (n + 1)) (sym on) (near_step (path p i n) (get_or (actions_of p i) n d).step n (near_path p wf i n (omega arith))))
+    subst (λ (m : ℕ). IsWithinSteps (path p i m) m) (add-one n) (subst (λ (q : Place). IsWithinSteps q (n + 1)) (sym on) (near_step (path p i n) (get_or (actions_of p i) n d).step n (near_path p wf i n (omega arith))))
 
 -- from each place of a path a step leads to a place
 pub in_reach : (p : Program) → IsWellFormed p → (i n : ℕ) (q : Place) → n ≤ moves p i → q ≡ path p i n → IsInReach q
 in_reach p wf i n q l e =
-    let h : IsNear q n = subst (λ (r : Place). IsNear r n) (sym e) (near_path p wf i n l) in
+    let h : IsWithinSteps q n = subst (λ (r : Place). IsWithinSteps r n) (sym e) (near_path p wf i n l) in
     let few = wf.moves_each i in
     record { west = omega (arith, ints, h.west, few); east = omega (arith, ints, h.east, few); north = omega (arith, ints, h.north, few); south = omega (arith, ints, h.south, few) }

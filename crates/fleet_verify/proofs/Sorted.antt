@@ -130,19 +130,19 @@ insert p q total v h (u ∷ us) r =
     later c (ms, i) = (u ∷ ms, put_later p q v u us ms r c i)
 
 -- a row that has all visits of the place that are so
-record IsRowOf (p : Program) (q : Place) (P : Visit → Type 0) (l : List Visit) : Type 0 where
+record IsRowOfPlace (p : Program) (q : Place) (P : Visit → Type 0) (l : List Visit) : Type 0 where
   row : IsRow p q l
   has : (v : Visit) → IsVisitOf p q v → P v → Contains l v
 
 -- the visits of agent i up to a position, beside those of the agents before it
-by_position : (p : Program) (q : Place) → IsTotal p q → (i n : ℕ) → (l : List Visit) → IsRowOf p q (λ v. v.agent < i) l → (m : List Visit) × IsRowOf p q (λ v. (v.agent < i) ⊎ ((v.agent ≡ i) × (v.position < n))) m
+by_position : (p : Program) (q : Place) → IsTotal p q → (i n : ℕ) → (l : List Visit) → IsRowOfPlace p q (λ v. v.agent < i) l → (m : List Visit) × IsRowOfPlace p q (λ v. (v.agent < i) ⊎ ((v.agent ≡ i) × (v.position < n))) m
 by_position p q total i zero l r = (l, record { row = r.row; has = λ v h k. elim k [ inl g ↦ r.has v h g | inr g ↦ absurd (let x : v.position < 0 = g.1 in omega arith) ] })
 by_position p q total i (suc n) l r = next (by_position p q total i n l r)
   where
     v : Visit
     v = record { agent = i; position = n }
 
-    more : (m : List Visit) → IsRowOf p q (λ v. (v.agent < i) ⊎ ((v.agent ≡ i) × (v.position < n))) m → (IsVisitOf p q v → Contains m v) → IsRowOf p q (λ v. (v.agent < i) ⊎ ((v.agent ≡ i) × (v.position < suc n))) m
+    more : (m : List Visit) → IsRowOfPlace p q (λ v. (v.agent < i) ⊎ ((v.agent ≡ i) × (v.position < n))) m → (IsVisitOf p q v → Contains m v) → IsRowOfPlace p q (λ v. (v.agent < i) ⊎ ((v.agent ≡ i) × (v.position < suc n))) m
     more m k here = record { row = k.row; has = has }
       where
         has : (x : Visit) → IsVisitOf p q x → (x.agent < i) ⊎ ((x.agent ≡ i) × (x.position < suc n)) → Contains m x
@@ -153,27 +153,27 @@ by_position p q total i (suc n) l r = next (by_position p q total i n l r)
               | inr f ↦ k.has x h (inr (e, (omega arith)))
             ]
 
-    keep : (m o : List Visit) → IsRowOf p q (λ v. (v.agent < i) ⊎ ((v.agent ≡ i) × (v.position < n))) m → IsInserted p q v m o → IsRowOf p q (λ v. (v.agent < i) ⊎ ((v.agent ≡ i) × (v.position < n))) o
+    keep : (m o : List Visit) → IsRowOfPlace p q (λ v. (v.agent < i) ⊎ ((v.agent ≡ i) × (v.position < n))) m → IsInserted p q v m o → IsRowOfPlace p q (λ v. (v.agent < i) ⊎ ((v.agent ≡ i) × (v.position < n))) o
     keep m o k j = record { row = j.row; has = λ x h g. j.keeps x (k.has x h g) }
 
-    next : ((m : List Visit) × IsRowOf p q (λ v. (v.agent < i) ⊎ ((v.agent ≡ i) × (v.position < n))) m) → (m : List Visit) × IsRowOf p q (λ v. (v.agent < i) ⊎ ((v.agent ≡ i) × (v.position < suc n))) m
+    next : ((m : List Visit) × IsRowOfPlace p q (λ v. (v.agent < i) ⊎ ((v.agent ≡ i) × (v.position < n))) m) → (m : List Visit) × IsRowOfPlace p q (λ v. (v.agent < i) ⊎ ((v.agent ≡ i) × (v.position < suc n))) m
     next (m, k) =
         elim (visit_of-dec p q v) [
           | no n ↦ (m, more m k (λ h. absurd (n h)))
           | yes h ↦ added m k (insert p q total v h m k.row)
         ]
       where
-        added : (m : List Visit) → IsRowOf p q (λ v. (v.agent < i) ⊎ ((v.agent ≡ i) × (v.position < n))) m → ((o : List Visit) × IsInserted p q v m o) → (o : List Visit) × IsRowOf p q (λ v. (v.agent < i) ⊎ ((v.agent ≡ i) × (v.position < suc n))) o
+        added : (m : List Visit) → IsRowOfPlace p q (λ v. (v.agent < i) ⊎ ((v.agent ≡ i) × (v.position < n))) m → ((o : List Visit) × IsInserted p q v m o) → (o : List Visit) × IsRowOfPlace p q (λ v. (v.agent < i) ⊎ ((v.agent ≡ i) × (v.position < suc n))) o
         added m k (o, j) = (o, more o (keep m o k j) (λ h. j.has))
 
-by_agent : (p : Program) (q : Place) → IsTotal p q → (i : ℕ) → (l : List Visit) × IsRowOf p q (λ v. v.agent < i) l
+by_agent : (p : Program) (q : Place) → IsTotal p q → (i : ℕ) → (l : List Visit) × IsRowOfPlace p q (λ v. v.agent < i) l
 by_agent p q total zero = ([], record { row = record { only = λ v c. absurd (contains_none v c); chained = tt }; has = λ v h k. absurd (omega arith) })
 by_agent p q total (suc i) = next (by_agent p q total i)
   where
-    next : ((l : List Visit) × IsRowOf p q (λ v. v.agent < i) l) → (l : List Visit) × IsRowOf p q (λ v. v.agent < suc i) l
+    next : ((l : List Visit) × IsRowOfPlace p q (λ v. v.agent < i) l) → (l : List Visit) × IsRowOfPlace p q (λ v. v.agent < suc i) l
     next (l, k) = done (by_position p q total i (suc (moves p i)) l k)
       where
-        done : ((m : List Visit) × IsRowOf p q (λ v. (v.agent < i) ⊎ ((v.agent ≡ i) × (v.position < suc (moves p i)))) m) → (m : List Visit) × IsRowOf p q (λ v. v.agent < suc i) m
+        done : ((m : List Visit) × IsRowOfPlace p q (λ v. (v.agent < i) ⊎ ((v.agent ≡ i) × (v.position < suc (moves p i)))) m) → (m : List Visit) × IsRowOfPlace p q (λ v. v.agent < suc i) m
         done (m, r) = (m, record { row = r.row; has = λ v h g. r.has v h (split v h g (cases_eq v.agent i)) })
           where
             split : (v : Visit) → IsVisitOf p q v → v.agent < suc i → (v.agent ≡ i) ⊎ (v.agent ≡ i → ⊥) → (v.agent < i) ⊎ ((v.agent ≡ i) × (v.position < suc (moves p i)))
@@ -184,7 +184,7 @@ by_agent p q total (suc i) = next (by_agent p q total i)
 pub ordered_listing : (p : Program) (number : ActionId → ℕ) → IsNumbering p number → (q : Place) → IsTotal p q → (l : List Visit) × ListsVisits p q l × Adjacent (ComesAfterByChain p) l
 ordered_listing p number s q total = made (by_agent p q total (length p))
   where
-    made : ((l : List Visit) × IsRowOf p q (λ v. v.agent < length p) l) → (l : List Visit) × ListsVisits p q l × Adjacent (ComesAfterByChain p) l
+    made : ((l : List Visit) × IsRowOfPlace p q (λ v. v.agent < length p) l) → (l : List Visit) × ListsVisits p q l × Adjacent (ComesAfterByChain p) l
     made (l, r) = (l, lists, after l r.row.chained)
       where
         up : (i j : ℕ) (d : Visit) → i < j → j < length l → entry_level number (get_or l i d) < entry_level number (get_or l j d)

@@ -28,7 +28,7 @@ abbrev pub nth_need_of : List ℕ → List Await → ℕ → ℕ → ActionId
 nth_need_of counts wants i k = nth (need_of counts wants) k (next_of_agent counts i)
 
 -- the trail has the needs in order, ends at the next action of an agent, and has not come back before
-pub record IsTrail (counts : List ℕ) (wants : List Await) (first agent : ℕ) (trail : List ActionId) : Type 0 where
+pub record IsWaitTrail (counts : List ℕ) (wants : List Await) (first agent : ℕ) (trail : List ActionId) : Type 0 where
   pub needs : (k : ℕ) → k < length trail → get_or trail k (next_of_agent counts first) ≡ nth_need_of counts wants first (suc k)
   pub here : nth_need_of counts wants first (length trail) ≡ next_of_agent counts agent
   pub not_back : (k : ℕ) → 1 ≤ k → k < length trail → nth_need_of counts wants first k ≢ next_of_agent counts first
@@ -138,8 +138,8 @@ module _ (p : Program) (counts : List ℕ) (wants : List Await) (range : AreInRa
       ∙ (need_own x (omega arith) ∙ same_action (record { agent = next_of wants i; number = (want_at wants i).count - k - 1 }) (record { agent = next_of wants i; number = (want_at wants i).count - suc k }) refl (omega arith)))
 
   -- the next ones for whom the waiting goes on
-  pub trail_on : (first i : ℕ) (trail : List ActionId) → IsTrail counts wants first i trail → (1 ≤ length trail → i ≢ first) → IsBlocked p counts i
-      → IsTrail counts wants first (next_of wants i) (trail ++ down_from (next_of wants i) (want_at wants i).count ((want_at wants i).count - slice_index counts (next_of wants i)))
+  pub trail_on : (first i : ℕ) (trail : List ActionId) → IsWaitTrail counts wants first i trail → (1 ≤ length trail → i ≢ first) → IsBlocked p counts i
+      → IsWaitTrail counts wants first (next_of wants i) (trail ++ down_from (next_of wants i) (want_at wants i).count ((want_at wants i).count - slice_index counts (next_of wants i)))
   trail_on first i trail t apart b = record { needs = needs; here = here; not_back = not_back }
     where
       j : ℕ
@@ -211,7 +211,7 @@ module _ (p : Program) (counts : List ℕ) (wants : List Await) (range : AreInRa
       let a : m + k ≡ k + m = omega arith in
       sym (nth_add (next_of wants) m k first) ∙ (ap (λ n. nth (next_of wants) n first) a ∙ (nth_add (next_of wants) k m first ∙ ap (nth (next_of wants) k) e))
 
-  pub told : (first : ℕ) (trail : List ActionId) → IsLeastBack p counts wants first → IsTrail counts wants first first trail → 1 ≤ length trail → IsToldRing p (reverse trail)
+  pub told : (first : ℕ) (trail : List ActionId) → IsLeastBack p counts wants first → IsWaitTrail counts wants first first trail → 1 ≤ length trail → IsToldRing p (reverse trail)
   told first trail l t f = record {
     some = omega (arith, long);
     around = record { actions = λ k d h. act k d h; next = next; closes = closes };

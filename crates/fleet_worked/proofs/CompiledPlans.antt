@@ -3,7 +3,7 @@ use Rattle.std.proofs.Common.{◌≡◌, refl, [], ◌∷◌}
 use Rattle.fleet_model.specs.declared.deps.Deps.{Deps}
 use Rattle.fleet_model.specs.Program.{Program}
 use Rattle.fleet_worked.specs.Plans.{base_plan, corridor, there_and_back_plan, pass_plan}
-use Rattle.fleet_worked.specs.Programs.{await, pair}
+use Rattle.fleet_worked.specs.Programs.{await_on, pair}
 use Rattle.fleet_worked.specs.Compiled.{corridor_program, there_and_back_program, pass_program}
 use Rattle.fleet_plan.specs.Plan.{Plan, cell_at, cell_of, steps}
 use Rattle.fleet_adg.specs.Compiled.{direction, changes_in, changes, moves_by, leaves, await_of, last_below, leaver, last_leaving_by, last_leaving, leavings, entry_awaits, action_in, agent_program, compiled}
@@ -18,11 +18,11 @@ unfolding computed
 base Deps.All = refl
 base Deps.Last = refl
 
-pub corridor_all : compiled corridor Deps.All ≡ corridor_program (await 0 1 ∷ await 1 2 ∷ [])
+pub corridor_all : compiled corridor Deps.All ≡ corridor_program (await_on 0 1 ∷ await_on 1 2 ∷ [])
 unfolding computed
 corridor_all = refl
 
-pub corridor_last : compiled corridor Deps.Last ≡ corridor_program (await 1 2 ∷ [])
+pub corridor_last : compiled corridor Deps.Last ≡ corridor_program (await_on 1 2 ∷ [])
 unfolding computed
 corridor_last = refl
 

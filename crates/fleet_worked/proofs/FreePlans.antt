@@ -11,31 +11,31 @@ use Rattle.fleet_model.specs.Program.{origin}
 use Rattle.fleet_model.specs.Conflict.{HasVertexConflict, HasSwappingConflict}
 use Rattle.fleet_model.specs.declared.task.Task.{Task}
 use Rattle.fleet_plan.specs.Plan.{cell_at, cell_of, last_cell, planned, IsConflictFree}
-use Rattle.fleet_worked.specs.Programs.{cell, pair_tasks}
+use Rattle.fleet_worked.specs.Programs.{cell_xy, pair_tasks}
 use Rattle.fleet_worked.specs.Plans.{base_plan}
 use Rattle.fleet_model.proofs.Places.{place_of-injective}
 
 -- ---- the base plan
 
-first_cell : (t : ℕ) → cell_of base_plan 0 t ≡ cell (1 + min t 2) 0
+first_cell : (t : ℕ) → cell_of base_plan 0 t ≡ cell_xy (1 + min t 2) 0
 unfolding cell_of cell_at
 first_cell zero = refl
 first_cell (suc zero) = refl
-first_cell (suc (suc t)) = let e : min (suc (suc t)) 2 ≡ 2 = omega arith in ap (λ k. get_or (cell 1 0 ∷ cell 2 0 ∷ cell 3 0 ∷ []) k origin) e ∙ ap (λ k. cell (1 + k) 0) (sym e)
+first_cell (suc (suc t)) = let e : min (suc (suc t)) 2 ≡ 2 = omega arith in ap (λ k. get_or (cell_xy 1 0 ∷ cell_xy 2 0 ∷ cell_xy 3 0 ∷ []) k origin) e ∙ ap (λ k. cell_xy (1 + k) 0) (sym e)
 
-second_cell : (t : ℕ) → cell_of base_plan 1 t ≡ cell (min t 2) 0
+second_cell : (t : ℕ) → cell_of base_plan 1 t ≡ cell_xy (min t 2) 0
 unfolding cell_of cell_at
 second_cell zero = refl
 second_cell (suc zero) = refl
-second_cell (suc (suc t)) = let e : min (suc (suc t)) 2 ≡ 2 = omega arith in ap (λ k. get_or (cell 0 0 ∷ cell 1 0 ∷ cell 2 0 ∷ []) k origin) e ∙ ap (λ k. cell k 0) (sym e)
+second_cell (suc (suc t)) = let e : min (suc (suc t)) 2 ≡ 2 = omega arith in ap (λ k. get_or (cell_xy 0 0 ∷ cell_xy 1 0 ∷ cell_xy 2 0 ∷ []) k origin) e ∙ ap (λ k. cell_xy k 0) (sym e)
 
 column : ℕ → ℕ → ℕ
 column i t = 1 - i + min t 2
 
-cell_is : (i t : ℕ) → i < 2 → cell_of base_plan i t ≡ cell (column i t) 0
+cell_is : (i t : ℕ) → i < 2 → cell_of base_plan i t ≡ cell_xy (column i t) 0
 unfolding column
 cell_is zero t h = first_cell t
-cell_is (suc zero) t h = second_cell t ∙ ap (λ k. cell k 0) (let e : min t 2 ≡ 1 - 1 + min t 2 = omega arith in e)
+cell_is (suc zero) t h = second_cell t ∙ ap (λ k. cell_xy k 0) (let e : min t 2 ≡ 1 - 1 + min t 2 = omega arith in e)
 cell_is (suc (suc i)) t h = absurd (omega arith)
 
 -- equal places are in equal columns
@@ -69,7 +69,7 @@ successive : (i x : ℕ) → i < 2 → (cell_of base_plan i x ≡ cell_of base_p
 unfolding column
 successive i x h = elim (cases x) [
   | inl l ↦ inr (East, ap place_of (cell_is i (x + 1) h) ∙ (λ k. record { x = pos (next l k); y = pos 0 }) ∙ ap (λ c. moved (place_of c) East) (sym (cell_is i x h)))
-  | inr l ↦ inl (cell_is i x h ∙ ap (λ k. cell k 0) (same l) ∙ sym (cell_is i (x + 1) h))
+  | inr l ↦ inl (cell_is i x h ∙ ap (λ k. cell_xy k 0) (same l) ∙ sym (cell_is i (x + 1) h))
 ]
   where
     cases : (x : ℕ) → (x < 2) ⊎ (2 ≤ x)

@@ -15,7 +15,7 @@ use Rattle.fleet_plan.specs.declared.plan_fault.Conflict.{Conflict}
 use Rattle.fleet_plan.specs.declared.plan_fault.Conflict.TheVariants.{Vertex, Swapping, Cycle}
 use Rattle.fleet_plan.specs.Plan.{cell_at, cell_of, last_cell, planned, AreNeighbours}
 use Rattle.fleet_plan.specs.FirstFault.{AllAgents, StartsOnStart, EndsOnGoal, GoesOver, GoesRight, HasConflict, IsCycle, IsPairUpTo, IsConflictUpTo, HasStartsAndGoals, IsFirstPlanFault}
-use Rattle.fleet_worked.specs.Programs.{cell}
+use Rattle.fleet_worked.specs.Programs.{cell_xy}
 use Rattle.fleet_worked.specs.Plans.{swap_plan, swap_tasks, swap_fault, ring_plan, ring_tasks, ring_fault}
 
 -- ---- paths over two neighbouring cells
@@ -61,8 +61,8 @@ swap_ends = record { agents = refl; starts = starts; goals = goals }
     goals (suc (suc i)) h t e = absurd (none-some t e)
 
 swap_steps : AllAgents swap_plan (GoesRight (λ q. true) swap_plan)
-swap_steps zero h = two_cells (cell 0 0) (cell 1 0) East refl
-swap_steps (suc zero) h = two_cells (cell 1 0) (cell 0 0) West refl
+swap_steps zero h = two_cells (cell_xy 0 0) (cell_xy 1 0) East refl
+swap_steps (suc zero) h = two_cells (cell_xy 1 0) (cell_xy 0 0) West refl
 swap_steps (suc (suc i)) h = let g : suc (suc i) < 2 = h in absurd (omega arith)
 
 swapping : HasSwappingConflict (planned swap_plan) 0 0 1
@@ -109,10 +109,10 @@ ring_ends = record { agents = refl; starts = starts; goals = goals }
     goals (suc (suc (suc (suc i)))) h t e = absurd (none-some t e)
 
 ring_steps : AllAgents ring_plan (GoesRight (λ q. true) ring_plan)
-ring_steps zero h = two_cells (cell 0 0) (cell 1 0) East refl
-ring_steps (suc zero) h = two_cells (cell 1 0) (cell 1 1) South refl
-ring_steps (suc (suc zero)) h = two_cells (cell 1 1) (cell 0 1) West refl
-ring_steps (suc (suc (suc zero))) h = two_cells (cell 0 1) (cell 0 0) North refl
+ring_steps zero h = two_cells (cell_xy 0 0) (cell_xy 1 0) East refl
+ring_steps (suc zero) h = two_cells (cell_xy 1 0) (cell_xy 1 1) South refl
+ring_steps (suc (suc zero)) h = two_cells (cell_xy 1 1) (cell_xy 0 1) West refl
+ring_steps (suc (suc (suc zero))) h = two_cells (cell_xy 0 1) (cell_xy 0 0) North refl
 ring_steps (suc (suc (suc (suc i)))) h = let g : suc (suc (suc (suc i))) < 4 = h in absurd (omega arith)
 
 four : List ℕ

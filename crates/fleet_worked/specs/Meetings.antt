@@ -5,24 +5,24 @@ use Rattle.fleet_model.specs.declared.geometry.Dir.TheVariants.{East}
 use Rattle.fleet_model.specs.declared.program.Visit.{Visit}
 use Rattle.fleet_model.specs.Program.{Program}
 use Rattle.fleet_model.specs.Machine.{Holds}
-use Rattle.fleet_worked.specs.Programs.{cell, await, go, agent_with}
+use Rattle.fleet_worked.specs.Programs.{cell_xy, await_on, go, agent_with}
 use Rattle.fleet_model.specs.Visit.{AreUnordered}
 use Rattle.fleet_model.specs.Breaking.{AreBreakingHolds, MeetOn}
 
 -- agent 2 enters 1,0 and awaits agent 1 alone, which awaits nobody. So nothing tells that agent 0 has left it
 abbrev pub loose_relay : Program
 loose_relay =
-    agent_with (cell 1 0) (cell 2 0) (go East [] ∷ [])
-    ∷ agent_with (cell 0 2) (cell 1 2) (go East [] ∷ [])
-    ∷ agent_with (cell 0 0) (cell 1 0) (go East (await 1 1 ∷ []) ∷ [])
+    agent_with (cell_xy 1 0) (cell_xy 2 0) (go East [] ∷ [])
+    ∷ agent_with (cell_xy 0 2) (cell_xy 1 2) (go East [] ∷ [])
+    ∷ agent_with (cell_xy 0 0) (cell_xy 1 0) (go East (await_on 1 1 ∷ []) ∷ [])
     ∷ []
 
 -- the relay, where agent 2 awaits agent 0 too
 abbrev pub tight_relay : Program
 tight_relay =
-    agent_with (cell 1 0) (cell 2 0) (go East [] ∷ [])
-    ∷ agent_with (cell 0 2) (cell 1 2) (go East (await 0 1 ∷ []) ∷ [])
-    ∷ agent_with (cell 0 0) (cell 1 0) (go East (await 0 1 ∷ await 1 1 ∷ []) ∷ [])
+    agent_with (cell_xy 1 0) (cell_xy 2 0) (go East [] ∷ [])
+    ∷ agent_with (cell_xy 0 2) (cell_xy 1 2) (go East (await_on 0 1 ∷ []) ∷ [])
+    ∷ agent_with (cell_xy 0 0) (cell_xy 1 0) (go East (await_on 0 1 ∷ await_on 1 1 ∷ []) ∷ [])
     ∷ []
 
 -- the visits have no order, these are their breaking holds, and after them both agents stand on the place

@@ -5,28 +5,28 @@ use Rattle.fleet_plan.specs.Plan.{Plan}
 use Rattle.fleet_plan.specs.declared.plan_fault.Conflict.TheVariants.{Swapping, Cycle}
 use Rattle.fleet_plan.specs.declared.plan_fault.PlanFault.{PlanFault}
 use Rattle.fleet_plan.specs.declared.plan_fault.PlanFault.TheVariants as fault
-use Rattle.fleet_worked.specs.Programs.{cell, task}
+use Rattle.fleet_worked.specs.Programs.{cell_xy, task_between}
 
 -- the plan of the pair, whose tasks are its own
 abbrev pub base_plan : Plan
-base_plan = (cell 1 0 ∷ cell 2 0 ∷ cell 3 0 ∷ []) ∷ (cell 0 0 ∷ cell 1 0 ∷ cell 2 0 ∷ []) ∷ []
+base_plan = (cell_xy 1 0 ∷ cell_xy 2 0 ∷ cell_xy 3 0 ∷ []) ∷ (cell_xy 0 0 ∷ cell_xy 1 0 ∷ cell_xy 2 0 ∷ []) ∷ []
 
 abbrev pub corridor : Plan
-corridor = (cell 2 0 ∷ cell 3 0 ∷ cell 4 0 ∷ []) ∷ (cell 1 0 ∷ cell 2 0 ∷ cell 3 0 ∷ []) ∷ (cell 0 0 ∷ cell 1 0 ∷ cell 2 0 ∷ []) ∷ []
+corridor = (cell_xy 2 0 ∷ cell_xy 3 0 ∷ cell_xy 4 0 ∷ []) ∷ (cell_xy 1 0 ∷ cell_xy 2 0 ∷ cell_xy 3 0 ∷ []) ∷ (cell_xy 0 0 ∷ cell_xy 1 0 ∷ cell_xy 2 0 ∷ []) ∷ []
 
 abbrev pub there_and_back_plan : Plan
-there_and_back_plan = (cell 0 0 ∷ cell 1 0 ∷ cell 0 0 ∷ []) ∷ []
+there_and_back_plan = (cell_xy 0 0 ∷ cell_xy 1 0 ∷ cell_xy 0 0 ∷ []) ∷ []
 
 -- an agent lets another pass, and then goes where that was
 abbrev pub pass_plan : Plan
-pass_plan = (cell 0 0 ∷ cell 1 0 ∷ cell 2 0 ∷ []) ∷ (cell 1 1 ∷ cell 1 1 ∷ cell 1 0 ∷ cell 0 0 ∷ []) ∷ []
+pass_plan = (cell_xy 0 0 ∷ cell_xy 1 0 ∷ cell_xy 2 0 ∷ []) ∷ (cell_xy 1 1 ∷ cell_xy 1 1 ∷ cell_xy 1 0 ∷ cell_xy 0 0 ∷ []) ∷ []
 
 -- two agents exchange their cells
 abbrev pub swap_plan : Plan
-swap_plan = (cell 0 0 ∷ cell 1 0 ∷ []) ∷ (cell 1 0 ∷ cell 0 0 ∷ []) ∷ []
+swap_plan = (cell_xy 0 0 ∷ cell_xy 1 0 ∷ []) ∷ (cell_xy 1 0 ∷ cell_xy 0 0 ∷ []) ∷ []
 
 abbrev pub swap_tasks : List Task
-swap_tasks = task (cell 0 0) (cell 1 0) ∷ task (cell 1 0) (cell 0 0) ∷ []
+swap_tasks = task_between (cell_xy 0 0) (cell_xy 1 0) ∷ task_between (cell_xy 1 0) (cell_xy 0 0) ∷ []
 
 -- .. in the step from time 0 to 1
 abbrev pub swap_fault : PlanFault
@@ -34,10 +34,10 @@ swap_fault = fault.Conflict (Swapping 0 0 1)
 
 -- four agents go round on four cells
 abbrev pub ring_plan : Plan
-ring_plan = (cell 0 0 ∷ cell 1 0 ∷ []) ∷ (cell 1 0 ∷ cell 1 1 ∷ []) ∷ (cell 1 1 ∷ cell 0 1 ∷ []) ∷ (cell 0 1 ∷ cell 0 0 ∷ []) ∷ []
+ring_plan = (cell_xy 0 0 ∷ cell_xy 1 0 ∷ []) ∷ (cell_xy 1 0 ∷ cell_xy 1 1 ∷ []) ∷ (cell_xy 1 1 ∷ cell_xy 0 1 ∷ []) ∷ (cell_xy 0 1 ∷ cell_xy 0 0 ∷ []) ∷ []
 
 abbrev pub ring_tasks : List Task
-ring_tasks = task (cell 0 0) (cell 1 0) ∷ task (cell 1 0) (cell 1 1) ∷ task (cell 1 1) (cell 0 1) ∷ task (cell 0 1) (cell 0 0) ∷ []
+ring_tasks = task_between (cell_xy 0 0) (cell_xy 1 0) ∷ task_between (cell_xy 1 0) (cell_xy 1 1) ∷ task_between (cell_xy 1 1) (cell_xy 0 1) ∷ task_between (cell_xy 0 1) (cell_xy 0 0) ∷ []
 
 -- .. in the step from time 0 to 1
 abbrev pub ring_fault : PlanFault

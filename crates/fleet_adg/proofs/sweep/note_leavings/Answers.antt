@@ -2,7 +2,7 @@ use Rattle.std.proofs.Common.{◌≡◌, ◌+◌, length, get_or, take, sym, ap,
 use Rattle.std.proofs.lemmas.List.{get_or_default, take_all}
 use Rattle.fleet_adg.specs.Leavings.{kind_of}
 use Rattle.fleet_adg.specs.Sweep.{under_way}
-use Rattle.fleet_adg.proofs.SweepSteps.{AreNoted, agent_at, row_short, count_is, length-all_actions_by, noting_begins, noting_ends, one_stays, one_leaves}
+use Rattle.fleet_adg.proofs.SweepSteps.{IsNotedBelow, agent_at, row_short, count_is, length-all_actions_by, noting_begins, noting_ends, one_stays, one_leaves}
 use Rattle.fleet_adg.proofs.sweep.note_leavings.Goals as goal
 use Rattle.fleet_adg.proofs.sweep.note_leavings.Goals.{in-Some+in_ok-note, in_default}
 
@@ -73,4 +73,4 @@ pub returns : goal.returns
 returns c =
     let done : take c.loop-i.i-index c.args.agents.now ≡ under_way c.args.plan.now c.args.time = take_all c.loop-i.i-index c.args.agents.now c.loop-i-test.false ∙ c.requires.agents in
     noting_ends c.args.grid.now c.args.plan.now (kind_of c.args.leavings.now) c.args.time c.loop-i.leavings
-    (subst (λ zs. AreNoted c.args.grid.now c.args.plan.now (kind_of c.args.leavings.now) c.args.time zs c.loop-i.leavings) done c.loop-i.invariant)
+    (subst (λ zs. IsNotedBelow c.args.grid.now c.args.plan.now (kind_of c.args.leavings.now) c.args.time zs c.loop-i.leavings) done c.loop-i.invariant)

@@ -2,7 +2,7 @@ use Rattle.std.proofs.Common.{ℕ, sym, subst}
 use Rattle.fleet_model.specs.declared.geometry.Place.{Place}
 use Rattle.fleet_model.specs.declared.program.ActionId.{ActionId}
 use Rattle.fleet_model.specs.Chain.{IsNumbering}
-use Rattle.fleet_worked.specs.Programs.{place, visit}
+use Rattle.fleet_worked.specs.Programs.{place_xy, nth_visit}
 use Rattle.fleet_model.specs.Visit.{AreUnordered}
 use Rattle.fleet_plan_tests.proofs.worked_tests.agents_meet_where_one_stays.Goals as goal
 
@@ -12,4 +12,4 @@ breaking_holds-requires-clause-numbering g c =
 
 pub breaking_holds-requires-clause-unordered : goal.breaking_holds-requires-clause-unordered
 breaking_holds-requires-clause-unordered g c =
-    subst (λ p. (q : Place) × AreUnordered p q (visit 0 0) (visit 1 1)) (sym c.in_ok-program.ensures) (place 1 0, c.worked_visits_meet.ensures.staying.unordered)
+    subst (λ p. (q : Place) × AreUnordered p q (nth_visit 0 0) (nth_visit 1 1)) (sym c.in_ok-program.ensures) (place_xy 1 0, c.worked_visits_meet.ensures.staying.unordered)

@@ -1,7 +1,7 @@
 use Rattle.std.proofs.Common.{◌≡◌, [], ℕ, false, length}
 use Rattle.fleet_model.specs.Machine.{run}
 use Rattle.fleet_machine.specs.Machine.{Runs, flag_of}
-use Rattle.fleet_rows.specs.Pass.{IsDone}
+use Rattle.fleet_rows.specs.Pass.{IsFinishedBy}
 use Rattle.fleet_rows.specs.Settled.{AreFinishTicks}
 use Rattle.fleet_rows.proofs.finish_ticks.note_ticks.Given as goal
 
@@ -11,5 +11,5 @@ invariant-loop-t g l = record {
   here : l.machine.configuration ≡ run (g.P.ProgramView.program l.program) [] l.t;
   agents : length l.nobody ≡ length (g.P.ProgramView.program l.program);
   nobody : (i : ℕ) → flag_of l.nobody i ≡ false;
-  noted : AreFinishTicks (g.P.ProgramView.program l.program) l.places.firsts.items (IsDone (g.P.ProgramView.program l.program) l.t) l.entries;
+  noted : AreFinishTicks (g.P.ProgramView.program l.program) l.places.firsts.items (IsFinishedBy (g.P.ProgramView.program l.program) l.t) l.entries;
 }

@@ -1,5 +1,5 @@
 use Rattle.std.proofs.Common.{◌≡◌, ◌+◌, ℕ, sym, subst, ap, ◌∙◌, arith}
-use Rattle.fleet_rows.specs.Pass.{IsDone, IsDoneMid, AreRowsAt}
+use Rattle.fleet_rows.specs.Pass.{IsFinishedBy, IsDoneMid, AreRowsAt}
 use Rattle.fleet_rows.proofs.Flagging.{left_on, moved_told, told_moved}
 use Rattle.fleet_rows.proofs.Finishing.{agent_of}
 use Rattle.fleet_rows.proofs.Passing.{moved_action, moved_later, moved_needed, moved_not_kept, moved_rows, rows_moved}
@@ -62,7 +62,7 @@ returns-clause-passed g c =
     let was = c.loop-agent.invariant.passed in
     record {
       room = was.room;
-      rows = subst (λ (x : ℕ). AreRowsAt p b (IsDone p (t + 1)) x c.loop-agent.pass.kept) (sym c.loop-agent.invariant.tick)
+      rows = subst (λ (x : ℕ). AreRowsAt p b (IsFinishedBy p (t + 1)) x c.loop-agent.pass.kept) (sym c.loop-agent.invariant.tick)
           (rows_moved p c.args.machine.now t c.requires.ticked b c.loop-agent.from c.loop-agent.pass.kept c.in_default.ensures
           (subst (λ (x : ℕ). AreRowsAt p b (IsDoneMid p t c.loop-agent.from) x c.loop-agent.pass.kept) c.loop-agent.invariant.tick was.rows));
       told = told_moved p c.args.machine.now t c.requires.ticked c.loop-agent.from c.in_default.ensures b.columns c.loop-agent.flags was.told;

@@ -1,7 +1,7 @@
 use Rattle.std.proofs.Common.{◌≡◌, ◌+◌, ℕ, refl, sym, subst, ◌∙◌, arith}
 use Rattle.fleet_model.specs.declared.limits.TheConstants.{MAX_AGENTS}
 use Rattle.fleet_rows.specs.Takers.{IsTicked}
-use Rattle.fleet_rows.specs.Pass.{IsDone}
+use Rattle.fleet_rows.specs.Pass.{IsFinishedBy}
 use Rattle.fleet_rows.specs.Implied.{IsFlaggedTo}
 use Rattle.fleet_rows.proofs.Finishing.{none_flagged, ticked, length_flagged}
 use Rattle.fleet_rows.proofs.Flagging.{flagged_tick}
@@ -36,7 +36,7 @@ loop-t-preserved g c =
       nobody = c.loop-t.invariant.nobody;
       tick = refl;
       passed = flagged_tick p c.args.block.now c.loop-t.t c.flag_tick.new.flags c.flag_tick.new.pass _ c.requires.block (passed.tick ∙ c.loop-t.invariant.tick)
-          (subst (λ (n : ℕ). IsFlaggedTo p c.args.block.now (IsDone p (n + 1)) c.flag_tick.new.flags c.flag_tick.new.pass) (sym passed.tick) passed.passed)
+          (subst (λ (n : ℕ). IsFlaggedTo p c.args.block.now (IsFinishedBy p (n + 1)) c.flag_tick.new.flags c.flag_tick.new.pass) (sym passed.tick) passed.passed)
           c.in_ok-free_rows.ensures refl refl;
       left = λ a is k w at none. passed.left a is k w at none ∙ c.loop-t.invariant.left a is k w at none;
     }
@@ -45,4 +45,4 @@ pub returns-clause-passed : goal.returns-clause-passed
 returns-clause-passed g c =
     let p = g.P.ProgramView.program c.args.program.now in
     let e : c.loop-t.t ≡ c.args.block.now.ticks = omega (arith, c.loop-t-test.false, c.loop-t.auto.t-end) in
-    subst (λ (n : ℕ). IsFlaggedTo p c.args.block.now (IsDone p n) c.loop-t.flags c.loop-t.pass) e c.loop-t.invariant.passed
+    subst (λ (n : ℕ). IsFlaggedTo p c.args.block.now (IsFinishedBy p n) c.loop-t.flags c.loop-t.pass) e c.loop-t.invariant.passed

@@ -1,6 +1,6 @@
 use Rattle.std.proofs.Common.{ℕ, sym, subst, ◌∙◌, ap, arith}
 use Rattle.fleet_rows.specs.Kept.{IsKeptMore, count_in, mark_of}
-use Rattle.fleet_rows.specs.Places.{place_of}
+use Rattle.fleet_rows.specs.Places.{action_place}
 use Rattle.fleet_rows.proofs.Placed.{place_within, place_is}
 use Rattle.fleet_rows.proofs.Passing.{row_taken}
 use Rattle.fleet_rows.proofs.pass.keep_row.Goals as goal
@@ -22,7 +22,7 @@ returns-in_ok-keep g c =
     let p = g.P.ProgramView.program c.args.program.now in
     let at = place_is c.args.block.now.places.firsts.items c.args.action c.place-place.result c.place-place.ensures in
     let made = c.in_ok-keep.ensures in
-    let more : IsKeptMore c.args.kept.now c.keep.new.self (place_of c.args.block.now.places.firsts.items c.args.action) = subst (IsKeptMore c.args.kept.now c.keep.new.self) at made.more in
+    let more : IsKeptMore c.args.kept.now c.keep.new.self (action_place c.args.block.now.places.firsts.items c.args.action) = subst (IsKeptMore c.args.kept.now c.keep.new.self) at made.more in
     row_taken p c.args.block.now c.args.kept.now c.keep.new.self c.args.action c.args.row.now c.requires.block c.requires.kept c.requires.action
     (record {
       sound = made.sound;

@@ -1,7 +1,7 @@
 use Rattle.std.proofs.Common.{◌≡◌, [], ℕ, false, length}
 use Rattle.fleet_model.specs.Machine.{run}
 use Rattle.fleet_machine.specs.Machine.{Runs, flag_of}
-use Rattle.fleet_rows.specs.Pass.{IsDone, IsPassed, AreOthersLeft}
+use Rattle.fleet_rows.specs.Pass.{IsFinishedBy, IsPassed, AreOthersLeft}
 use Rattle.fleet_rows.proofs.pass.run_on.Given as goal
 
 abbrev pub invariant-loop-t : goal.invariant-loop-t
@@ -11,6 +11,6 @@ invariant-loop-t g l = record {
   agents : length l.nobody ≡ length (g.P.ProgramView.program l.program);
   nobody : (i : ℕ) → flag_of l.nobody i ≡ false;
   tick : l.pass.tick ≡ l.t;
-  passed : IsPassed (g.P.ProgramView.program l.program) l.block l.questions (IsDone (g.P.ProgramView.program l.program) l.t) l.flags l.pass;
+  passed : IsPassed (g.P.ProgramView.program l.program) l.block l.questions (IsFinishedBy (g.P.ProgramView.program l.program) l.t) l.flags l.pass;
   others : AreOthersLeft l.block.columns l.questions l.fn.flags l.flags;
 }

@@ -3,7 +3,7 @@ use Rattle.std.specs.Prelude.{Some}
 use Rattle.fleet_model.specs.declared.program.ActionId.{ActionId}
 use Rattle.fleet_model.specs.Program.{awaits_of}
 use Rattle.fleet_model.specs.Chain.{Reaches}
-use Rattle.fleet_rows.specs.Settled.{tick_of}
+use Rattle.fleet_rows.specs.Settled.{finish_tick}
 use Rattle.fleet_rows.proofs.Joining.{own_first, by_await, by_before}
 use Rattle.fleet_rows.proofs.Settling.{some_flag, await_of, none_if_low, own_only, apart_more, none_reached}
 use Rattle.fleet_rows.proofs.settled.+reaches.Goals as goal
@@ -16,12 +16,12 @@ returns-then-last-first-clause-yes g t c = λ e.
 
 pub returns-then-last-first-clause-no : goal.returns-then-last-first-clause-no
 returns-then-last-first-clause-no g t c = λ e r.
-    let le = own_only (g.P.ProgramView.program c.args.program.now) (tick_of c.args.ticks.now) c.requires.ticks.rising c.args.first c.args.last c.requires.first c.requires.last c.if-last-first.true r in
+    let le = own_only (g.P.ProgramView.program c.args.program.now) (finish_tick c.args.ticks.now) c.requires.ticks.rising c.args.first c.args.last c.requires.first c.requires.last c.if-last-first.true r in
     grind (arith, some_flag _ _ e, le-leb c.args.first.number c.args.last.number le)
 
 pub returns-then-tick-clause-no : goal.returns-then-tick-clause-no
 returns-then-tick-clause-no g t c = λ e.
-    none_if_low (g.P.ProgramView.program c.args.program.now) (tick_of c.args.ticks.now) c.requires.ticks.rising c.args.first c.args.last c.if-last-first.false
+    none_if_low (g.P.ProgramView.program c.args.program.now) (finish_tick c.args.ticks.now) c.requires.ticks.rising c.args.first c.args.last c.if-last-first.false
     (omega (arith, c.if-tick.true, c.tick.ensures, c.tick-2.ensures))
 
 pub returns-in-Some-true-clause-yes : goal.returns-in-Some-true-clause-yes

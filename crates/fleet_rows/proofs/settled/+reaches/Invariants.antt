@@ -1,5 +1,5 @@
 use Rattle.std.proofs.Common.{◌≡◌, ◌<◌, true}
-use Rattle.fleet_rows.proofs.Settling.{AreApart}
+use Rattle.fleet_rows.proofs.Settling.{NoneIsReached}
 use Rattle.fleet_rows.proofs.settled.+reaches.Given as goal
 
 abbrev pub decreases-reaches : goal.decreases-reaches
@@ -8,5 +8,5 @@ decreases-reaches g l = l.steps.now
 abbrev pub invariant-loop-k : goal.invariant-loop-k
 invariant-loop-k g l = record {
   fewer : l.steps < l.fn.steps;
-  apart : l.known ≡ true → AreApart (g.P.ProgramView.program l.program) l.first l.last (λ m. m < l.k);
+  apart : l.known ≡ true → NoneIsReached (g.P.ProgramView.program l.program) l.first l.last (λ m. m < l.k);
 }

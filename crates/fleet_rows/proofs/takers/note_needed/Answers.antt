@@ -1,7 +1,7 @@
 use Rattle.std.proofs.Common.{◌≡◌, ◌≤◌, ◌-◌, ℕ, subst, slice_index, arith}
 use Rattle.fleet_model.specs.declared.program.ActionId.{ActionId}
 use Rattle.fleet_model.specs.Chain.{IsAction, awaited}
-use Rattle.fleet_rows.specs.Places.{place_of}
+use Rattle.fleet_rows.specs.Places.{action_place}
 use Rattle.fleet_rows.proofs.Noting.{noted_for}
 use Rattle.fleet_rows.proofs.Placed.{place_within, place_is}
 use Rattle.fleet_rows.proofs.takers.note_needed.Goals as goal
@@ -20,11 +20,11 @@ returns-then-action-gt1-clause-noted g c =
     let p = g.P.ProgramView.program c.args.program.now in
     let firsts = c.args.places.now.firsts.items in
     let a : ActionId = record { agent = c.args.action.agent; number = c.args.action.number - 1 } in
-    let at : c.place.result ≡ place_of firsts a = place_is firsts a c.place.result c.place.ensures in
+    let at : c.place.result ≡ action_place firsts a = place_is firsts a c.place.result c.place.ensures in
     let own = subst (λ (x : ℕ). c.args.tick ≤ slice_index c.raise.new.lasts x) at c.raise.ensures.noted in
     noted_for p firsts c.args.action c.args.tick c.raise.new.lasts
-    (λ two n e. (let same : c.args.action.number - 1 ≡ n = omega arith in subst (λ (x : ℕ). c.args.tick ≤ slice_index c.raise.new.lasts (place_of firsts (record { agent = c.args.action.agent; number = x }))) same own))
-    (λ k w l. (let low = c.note_awaited.ensures.noted k w l in let up = c.raise.ensures.raised.1 (place_of firsts (awaited w)) in omega arith))
+    (λ two n e. (let same : c.args.action.number - 1 ≡ n = omega arith in subst (λ (x : ℕ). c.args.tick ≤ slice_index c.raise.new.lasts (action_place firsts (record { agent = c.args.action.agent; number = x }))) same own))
+    (λ k w l. (let low = c.note_awaited.ensures.noted k w l in let up = c.raise.ensures.raised.1 (action_place firsts (awaited w)) in omega arith))
 
 pub returns-else-action-gt1-clause-noted : goal.returns-else-action-gt1-clause-noted
 returns-else-action-gt1-clause-noted g c =

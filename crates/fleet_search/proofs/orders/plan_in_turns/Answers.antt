@@ -6,9 +6,9 @@ use Rattle.std.proofs.lemmas.Result.{err_from_is_err_and}
 use Rattle.fleet_grid.specs.Ground.{is_passable}
 use Rattle.fleet_search.specs.Orders.{tasks_by, rising, to_front, IsOrderAfter, IsStuckInOrder, IsStuckInTries}
 use Rattle.fleet_search.specs.InTurn.{IsPrioritisedPlan}
-use Rattle.fleet_search.proofs.InTurnLaws.{named}
+use Rattle.fleet_search.proofs.InTurnLaws.{same_agent}
 use Rattle.fleet_search.proofs.KeptPaths.{none_made, made_after_raise}
-use Rattle.fleet_search.proofs.OrderLaws.{order_after-none, order_after-more, order-length, stuck_in_tries, stuck_within, raised}
+use Rattle.fleet_search.proofs.OrderLaws.{order_after-none, order_after-more, order-length, stuck_in_tries, stuck_within, order_with_raised}
 use Rattle.fleet_search.proofs.orders.plan_in_turns.Goals as goal
 
 pub loop-failed-init : goal.loop-failed-init
@@ -41,7 +41,7 @@ returns-then-place-eq0-clause-no_path c = λ agent e.
     (subst (λ z. IsStuckInOrder passable tasks horizon z (length c.in-Stuck.paths.items)) c.as_slice.ensures.value attempt.0) in
     let inside = stuck_within passable tasks horizon c.loop-failed.order.items c.len-place.result stuck in
     let few : c.loop-failed.failed ≤ c.args.tries - 1 = (let m = i.more in omega arith) in
-    named (IsStuckInTries passable tasks horizon c.args.tries) c.index-agent.result.now agent e
+    same_agent (IsStuckInTries passable tasks horizon c.args.tries) c.index-agent.result.now agent e
     (stuck_in_tries passable tasks horizon c.args.tries c.loop-failed.failed c.loop-failed.order.items c.len-place.result c.index-agent.result.now few i.each_once i.after stuck
     inside (c.index-agent.ensures ∙ get_or_default c.loop-failed.order.items c.len-place.result c.index-agent.result.now 0 inside) (inl c.if-place-eq0.true))
 
@@ -58,7 +58,7 @@ returns-then-failed-tries-clause-no_path c = λ agent e.
     let inside = stuck_within passable tasks horizon c.loop-failed.order.items c.len-place.result stuck in
     let few : c.loop-failed.failed ≤ c.args.tries - 1 = (let m = i.more in omega arith) in
     let none : c.args.tries ≤ c.loop-failed.failed + 1 = omega arith in
-    named (IsStuckInTries passable tasks horizon c.args.tries) c.index-agent.result.now agent e
+    same_agent (IsStuckInTries passable tasks horizon c.args.tries) c.index-agent.result.now agent e
     (stuck_in_tries passable tasks horizon c.args.tries c.loop-failed.failed c.loop-failed.order.items c.len-place.result c.index-agent.result.now few i.each_once i.after stuck
     inside (c.index-agent.ensures ∙ get_or_default c.loop-failed.order.items c.len-place.result c.index-agent.result.now 0 inside) (inr none))
 
@@ -105,7 +105,7 @@ loop-failed-preserved c =
     let next : c.raise.new.order.items ≡ to_front order c.len-place.result = c.in_ok-raise-in-Stuck.ensures in
     record {
       more = omega arith;
-      each_once = subst (IsPermutation (rising (length tasks))) (sym next) (raised (length tasks) order c.len-place.result i.each_once inside);
+      each_once = subst (IsPermutation (rising (length tasks))) (sym next) (order_with_raised (length tasks) order c.len-place.result i.each_once inside);
       after = order_after-more passable tasks horizon c.loop-failed.failed c.len-place.result order c.raise.new.order.items i.after stuck next;
       tables = c.in_ok-paths.ensures.tables;
       kept =
@@ -114,7 +114,7 @@ loop-failed-preserved c =
           subst (λ z. IsPrioritisedPlan passable (drop 1 (tasks_by z tasks)) horizon (length c.in-Stuck.paths.items) c.in-Stuck.paths.items) (sym (next ∙ ap (to_front order) at))
           (made_after_raise passable tasks horizon order c.in-Stuck.paths.items few made);
       fewer =
-          let long : length c.raise.new.order.items ≡ length tasks = order-length (length tasks) c.raise.new.order.items (subst (IsPermutation (rising (length tasks))) (sym next) (raised (length tasks) order c.len-place.result i.each_once inside)) in
+          let long : length c.raise.new.order.items ≡ length tasks = order-length (length tasks) c.raise.new.order.items (subst (IsPermutation (rising (length tasks))) (sym next) (order_with_raised (length tasks) order c.len-place.result i.each_once inside)) in
           let long' : length order ≡ length tasks = order-length (length tasks) order i.each_once in
           omega arith;
     }

@@ -2,13 +2,13 @@ use Rattle.std.proofs.Common.{◌≡◌, ◌<◌, length, sym, ◌∙◌, subst,
 use Rattle.std.proofs.lemmas.Result.{err_from_is_err_and}
 use Rattle.fleet_grid.specs.Ground.{is_passable}
 use Rattle.fleet_search.specs.InTurn.{IsPrioritisedPlan, HasNoPathFor}
-use Rattle.fleet_search.proofs.InTurnLaws.{in_turn_free, in_turn-more, stuck_at, named}
+use Rattle.fleet_search.proofs.InTurnLaws.{in_turn_free, in_turn-more, stuck_at, same_agent}
 use Rattle.fleet_search.proofs.planner.plan_in_turn.Goals as goal
 
 pub returns-in-Err-NoPath-clause-no_path : goal.returns-in-Err-NoPath-clause-no_path
 returns-in-Err-NoPath-clause-no_path c = λ agent e.
     let there : c.loop-agent.agent < length c.args.instance.now = omega (arith, c.agents-agent-end.ensures.count) in
-    named (HasNoPathFor (is_passable c.args.grid.now) c.args.instance.now c.args.horizon) c.loop-agent.agent agent e (stuck_at (is_passable c.args.grid.now) c.args.instance.now c.args.horizon c.loop-agent.agent c.loop-agent.reserved c.start.result c.goal.result there c.loop-agent.invariant.0 c.start.ensures c.goal.ensures (c.in-Err-NoPath.ensures.no_path c.in-Err-NoPath.field-0-is))
+    same_agent (HasNoPathFor (is_passable c.args.grid.now) c.args.instance.now c.args.horizon) c.loop-agent.agent agent e (stuck_at (is_passable c.args.grid.now) c.args.instance.now c.args.horizon c.loop-agent.agent c.loop-agent.reserved c.start.result c.goal.result there c.loop-agent.invariant.0 c.start.ensures c.goal.ensures (c.in-Err-NoPath.ensures.no_path c.in-Err-NoPath.field-0-is))
 
 pub returns-in_err-reserve-in-Ok-clause-no_path : goal.returns-in_err-reserve-in-Ok-clause-no_path
 returns-in_err-reserve-in-Ok-clause-no_path c =

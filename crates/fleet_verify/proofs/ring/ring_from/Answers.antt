@@ -1,7 +1,7 @@
 use Rattle.std.proofs.Common.{◌≡◌, ◌+◌, ℕ, arith, ◌∙◌, subst, List, slice_index, ◌++◌, ◌-◌}
 use Rattle.fleet_model.specs.declared.program.ActionId.{ActionId}
 use Rattle.fleet_verify.specs.Blocked.{nth, next_of, want_at, down_from}
-use Rattle.fleet_verify.proofs.Waiting.{blocked_next, steps_more, nth_more, trail_on, some_on, told, IsTrail}
+use Rattle.fleet_verify.proofs.Waiting.{blocked_next, steps_more, nth_more, trail_on, some_on, told, IsWaitTrail}
 use Rattle.fleet_verify.proofs.ring.ring_from.Goals as goal
 
 pub prove-unreachable-requires : goal.prove-unreachable-requires
@@ -16,9 +16,9 @@ returns-then-agent-first g c =
     let i = c.loop-steps.agent in
     let b = c.loop-steps.invariant.blocked in
     let trail : List ActionId = c.loop-steps.trail.items ++ down_from (next_of wants i) (want_at wants i).count ((want_at wants i).count - slice_index counts (next_of wants i)) in
-    let on : IsTrail counts wants c.args.first (next_of wants i) trail = trail_on p counts wants c.requires.ranges c.requires.wants c.args.first i c.loop-steps.trail.items c.loop-steps.invariant.trail c.loop-steps.invariant.not_back b in
+    let on : IsWaitTrail counts wants c.args.first (next_of wants i) trail = trail_on p counts wants c.requires.ranges c.requires.wants c.args.first i c.loop-steps.trail.items c.loop-steps.invariant.trail c.loop-steps.invariant.not_back b in
     rw (c.reverse.ensures.items, c.in_ok-push_down.ensures)
-    (told p counts wants c.requires.ranges c.requires.wants c.args.first trail c.requires.first (subst (λ (j : ℕ). IsTrail counts wants c.args.first j trail) c.if-agent-first.true on)
+    (told p counts wants c.requires.ranges c.requires.wants c.args.first trail c.requires.first (subst (λ (j : ℕ). IsWaitTrail counts wants c.args.first j trail) c.if-agent-first.true on)
     (some_on p counts wants c.requires.ranges c.requires.wants i c.loop-steps.trail.items b))
 
 pub loop-steps-preserved : goal.loop-steps-preserved

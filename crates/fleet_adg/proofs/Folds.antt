@@ -24,7 +24,7 @@ use Rattle.fleet_adg.proofs.Pass.{last_leaving-next, last_leaving-same, last_lea
 
 -- ---- folds
 
-fold-filter : {A B : Type 0} (f : B → A → B) (p : A → Bool) → ((b : B) (x : A) → p x ≡ false → f b x ≡ b) → (b : B) (xs : List A) → fold f b (filter p xs) ≡ fold f b xs
+pub fold-filter : {A B : Type 0} (f : B → A → B) (p : A → Bool) → ((b : B) (x : A) → p x ≡ false → f b x ≡ b) → (b : B) (xs : List A) → fold f b (filter p xs) ≡ fold f b xs
 fold-filter f p skip b [] = refl
 fold-filter f p skip b (x ∷ xs) =
     elim (cases_Bool (p x)) [

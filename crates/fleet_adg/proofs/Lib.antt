@@ -8,6 +8,7 @@ pub mod Pass
 pub mod Folds
 pub mod Rows
 pub mod SweepSteps
+pub mod MoveRows
 pub mod Depth
 pub mod Follow
 pub mod Listing

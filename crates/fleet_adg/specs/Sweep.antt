@@ -1,5 +1,5 @@
 -- What the compiler has found up to a step of the plan.
-use Rattle.std.specs.Prelude.{ℕ, ◌-◌, ◌<◌, Bool, nat_lt, List, [], length, map, filter, get_or}
+use Rattle.std.specs.Prelude.{ℕ, ◌+◌, ◌-◌, ◌<◌, Bool, nat_lt, List, [], length, map, filter, get_or}
 use Rattle.fleet_model.specs.declared.program.Action.{Action}
 use Rattle.fleet_model.specs.declared.program.AgentProgram.{AgentProgram}
 use Rattle.fleet_model.specs.Machine.{indices}
@@ -7,11 +7,24 @@ use Rattle.fleet_model.specs.declared.deps.Deps.{Deps}
 use Rattle.fleet_grid.specs.Ground.{Ground}
 use Rattle.fleet_plan.specs.Plan.{Plan, cell_of, steps}
 use Rattle.fleet_plan.specs.UnderWay.{is_under_way}
-use Rattle.fleet_adg.specs.Compiled.{changes, action_in}
+use Rattle.fleet_adg.specs.declared.sweep.Move.{Move}
+use Rattle.fleet_adg.specs.Compiled.{changes_in, changes, action_in}
 
 -- the agents whose paths go on after time t
 abbrev pub under_way : Plan → ℕ → List ℕ
 under_way plan t = filter (is_under_way plan t) (indices (length plan))
+
+-- the agents that change their cells in the step after time t
+abbrev pub movers : Plan → ℕ → List ℕ
+movers plan t = filter (λ i. changes_in plan i t) (under_way plan t)
+
+-- what agent i does in that step, if it changes its cell
+abbrev pub move_by : Plan → ℕ → ℕ → Move
+move_by plan t i = record { agent = i; from = cell_of plan i t; to = cell_of plan i (t + 1) }
+
+-- the changes of cell in that step, in order of agent
+abbrev pub moves_in : Plan → ℕ → List Move
+moves_in plan t = map (move_by plan t) (movers plan t)
 
 -- the actions of agent i in the steps before time t
 abbrev pub actions_by : Plan → Deps → ℕ → ℕ → List Action

@@ -1,10 +1,10 @@
 //! Who has left the cells of a map so far.
 
-ghost use Rattle.std.specs.Prelude.{◌≡◌, ◌≢◌, ℕ, [], OnOk, IfOk, not, ◌==◌, filter};
+ghost use Rattle.std.specs.Prelude.{◌≡◌, ◌≢◌, ℕ, [], ◌∷◌, ◌++◌, OnOk, IfOk, not, ◌==◌, filter};
 ghost use Rattle.fleet_adg.specs.Leavings.{await_for, row_of, kind_of, noted, AreRowsApart};
 
 use crate::row_table::RowTable;
-use fleet_model::{Await, Awaits, Deps, OutOfMemory};
+use fleet_model::{Action, Actions, Await, Awaits, Deps, OutOfMemory, Step};
 use fleet_table::Table;
 use std::alloc::{AllocError, Global};
 
@@ -64,33 +64,43 @@ impl Leavings {
         }
     }
 
-    /// What the action of agent `own` that enters the cell at `place` awaits.
-    pub(crate) fn awaits(
+    /// Adds the action of agent `own` that enters the cell at `place` by this step, with what it awaits, to its actions.
+    pub(crate) fn add_action(
         &self,
         alloc: Global,
         place: usize,
         own: u16,
-    ) -> Result<Awaits, OutOfMemory>
+        step: Step,
+        actions: &mut Actions,
+    ) -> Result<(), OutOfMemory>
         requires { AreRowsApart self.now }
-        ensures { IfOk result (λ awaits. awaits ≡ filter (λ w. not (w.agent == own)) (row_of self.now place)) }
+        ensures { OnOk result (actions.new ≡ actions.old
+            ++ record { step = step; awaits = filter (λ w. not (w.agent == own)) (row_of self.now place) } ∷ []) }
     {
-        let mut awaits = Awaits::new(alloc);
         match self {
             Leavings::All(rows) => {
-                for leaving in rows.row(place) {
-                    if leaving.agent != own {
-                        awaits.push(*leaving)?;
-                    }
-                }
+                let awaits = by_others(alloc, rows.row(place), own)?;
+                actions.push(Action { step, awaits })
             }
-            Leavings::Last(last) => {
-                if let Some(leaving) = last.get(place) {
-                    if leaving.agent != own {
-                        awaits.push(leaving.as_await())?;
-                    }
+            Leavings::Last(last) => match last.get(place) {
+                Some(leaving) if leaving.agent != own => {
+                    actions.push_parts(step, &[leaving.as_await()])
                 }
-            }
+                _ => actions.push_parts(step, &[]),
+            },
         }
-        Ok(awaits)
     }
+}
+
+/// The leavings of a row that are not by agent `own`.
+fn by_others(alloc: Global, row: &[Await], own: u16) -> Result<Awaits, OutOfMemory>
+    ensures { IfOk result (λ awaits. awaits ≡ filter (λ w. not (w.agent == own)) row.now) }
+{
+    let mut awaits = Awaits::new(alloc);
+    for leaving in row {
+        if leaving.agent != own {
+            awaits.push(*leaving)?;
+        }
+    }
+    Ok(awaits)
 }

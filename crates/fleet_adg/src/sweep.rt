@@ -6,14 +6,22 @@ ghost use Rattle.fleet_model.specs.declared.limits.TheConstants.{MAX_HORIZON};
 ghost use Rattle.fleet_model.specs.Machine.{indices};
 ghost use Rattle.fleet_adg.specs.Compiled.{direction, changes_in, moves_by};
 ghost use Rattle.fleet_adg.specs.Leavings.{kind_of, AreLeavingsAt};
-ghost use Rattle.fleet_adg.specs.Sweep.{under_way, all_actions_by, IsOnMap};
+ghost use Rattle.fleet_adg.specs.Sweep.{under_way, moves_in, all_actions_by, IsOnMap};
 ghost use Rattle.fleet_plan.specs.UnderWay.{is_under_way};
 
 use crate::leavings::{Leaving, Leavings};
 use fleet_grid::{Grid, cells_have_places_of_their_own};
-use fleet_model::{Action, Actions, Cell, Deps, Dir, OutOfMemory, Step};
+use fleet_model::{Actions, Cell, Deps, Dir, OutOfMemory, Step};
 use fleet_plan::{Checked, Plan};
 use std::alloc::{AllocError, Global};
+
+/// A change of cell by an agent in one step.
+#[derive(Clone, Copy, Debug)]
+struct Move {
+    agent: u16,
+    from: Cell,
+    to: Cell,
+}
 
 /// The actions of each agent. An agent whose path has ended is not looked at again.
 pub(crate) fn actions_of(
@@ -29,10 +37,12 @@ pub(crate) fn actions_of(
     let mut leavings = Leavings::none(alloc, deps);
     let mut actions = empty_lists(alloc, plan, deps)?;
     let mut agents = agents_of(alloc, plan.agents())?;
+    let mut moves = Vec::with_capacity(alloc, agents.len())?;
     for time in 0..plan.steps() {
         keep_under_way(&mut agents, plan, time);
-        note_leavings(plan, grid, time, &agents, &actions, &mut leavings)?;
-        add_actions(alloc, plan, grid, time, &agents, &leavings, &mut actions)?;
+        list_moves(plan, time, &agents, &mut moves)?;
+        note_leavings(plan, grid, time, &moves, &actions, &mut leavings)?;
+        add_actions(alloc, plan, grid, time, &moves, &leavings, &mut actions)?;
     }
     Ok(actions)
 }
@@ -123,29 +133,48 @@ fn keep_under_way(agents: &mut Vec<u16>, plan: &Plan, time: u32)
     agents.truncate(kept);
 }
 
+/// Lists who moves in the step after `time`, in order of agent.
+fn list_moves(
+    plan: &Plan,
+    time: u32,
+    agents: &[u16],
+    moves: &mut Vec<Move>,
+) -> Result<(), AllocError>
+    requires time { time ≤ MAX_HORIZON }
+    requires agents { agents.now ≡ under_way plan.now time }
+    ensures { OnOk result (moves.new.items ≡ moves_in plan.now time) }
+{
+    moves.clear();
+    for &i in agents {
+        if let Some((from, to)) = move_in(plan, i, time) {
+            moves.push(Move { agent: i, from, to })?;
+        }
+    }
+    Ok(())
+}
+
 /// Notes who leaves which cell in the step after `time`.
 fn note_leavings(
     plan: &Plan,
     grid: &Grid,
     time: u32,
-    agents: &[u16],
+    moves: &[Move],
     actions: &[Actions],
     leavings: &mut Leavings,
 ) -> Result<(), AllocError>
     requires on_map { IsOnMap grid.now plan.now }
     requires time { time < MAX_HORIZON }
-    requires agents { agents.now ≡ under_way plan.now time }
+    requires moves { moves.now ≡ moves_in plan.now time }
     requires actions { actions.now ≡ all_actions_by plan.now (kind_of leavings.old) time }
     requires leavings { AreLeavingsAt grid.now plan.now (kind_of leavings.old) time leavings.old }
     ensures { OnOk result (AreLeavingsAt grid.now plan.now (kind_of leavings.old) (time + 1) leavings.new) }
 {
     // Two cells have two places in the table.
     cells_have_places_of_their_own();
-    for &i in agents {
-        if let Some((from, _)) = move_in(plan, i, time) {
-            let number = actions[usize::from(i)].len() as u16 + 1;
-            leavings.note(grid.cell_index(from), Leaving { agent: i, number })?;
-        }
+    for one in moves {
+        let agent = one.agent;
+        let number = actions[usize::from(agent)].len() as u16 + 1;
+        leavings.note(grid.cell_index(one.from), Leaving { agent, number })?;
     }
     Ok(())
 }
@@ -156,24 +185,22 @@ fn add_actions(
     plan: &Plan,
     grid: &Grid,
     time: u32,
-    agents: &[u16],
+    moves: &[Move],
     leavings: &Leavings,
     actions: &mut [Actions],
 ) -> Result<(), OutOfMemory>
     requires on_map { IsOnMap grid.now plan.now }
     requires time { time ≤ MAX_HORIZON }
-    requires agents { agents.now ≡ under_way plan.now time }
+    requires moves { moves.now ≡ moves_in plan.now time }
     requires leavings { AreLeavingsAt grid.now plan.now (kind_of leavings.now) (time + 1) leavings.now }
     requires actions { actions.old ≡ all_actions_by plan.now (kind_of leavings.now) time }
     ensures { OnOk result (actions.new ≡ all_actions_by plan.now (kind_of leavings.now) (time + 1)) }
 {
-    for &i in agents {
-        if let Some((from, to)) = move_in(plan, i, time) {
-            let awaits = leavings.awaits(alloc, grid.cell_index(to), i)?;
-            let dir = direction(from, to);
-            let step = Step::Go(dir);
-            actions[usize::from(i)].push(Action { step, awaits })?;
-        }
+    for one in moves {
+        let agent = one.agent;
+        let place = grid.cell_index(one.to);
+        let step = Step::Go(direction(one.from, one.to));
+        leavings.add_action(alloc, place, agent, step, &mut actions[usize::from(agent)])?;
     }
     Ok(())
 }

@@ -1,15 +1,16 @@
 -- The actions in three rows: how many they are, each of them, and one more.
-use Rattle.std.proofs.Common.{◌≡◌, ℕ, zero, suc, ◌+◌, ◌-◌, ◌<◌, ◌≤◌, List, [], ◌∷◌, ◌++◌, length, take, drop, get_or, refl, sym, ap, ◌∙◌, arith}
+use Rattle.std.proofs.Common.{◌≡◌, ℕ, zero, suc, ◌+◌, ◌-◌, ◌<◌, ◌≤◌, List, [], ◌∷◌, ◌++◌, length, map, take, drop, get_or, refl, sym, ap, ◌∙◌, arith}
 use Rattle.std.specs.Prelude.{slice_get, slice_range, option_map, Some, All}
 use Rattle.std.proofs.lemmas.List.Elements.{All-get_or, All-more}
 use Rattle.std.proofs.lemmas.Option.{same_Some, slice_get-get_or}
-use Rattle.std.proofs.lemmas.List.{get_or_default, take-append-le, drop-append-le, length-append, length-drop}
+use Rattle.std.proofs.lemmas.List.{get_or_default, take-append-le, drop-append-le, length-append, length-drop, length-map, map-append, get_or-map}
 use Rattle.std.proofs.Math.Seq.{drop-append_seam, take-length}
 use Rattle.fleet_model.specs.declared.geometry.Step.{Step}
 use Rattle.fleet_model.specs.declared.geometry.Step.TheVariants.{Dwell}
 use Rattle.fleet_model.specs.declared.program.Await.{Await}
 use Rattle.fleet_model.specs.declared.program.Action.{Action}
-use Rattle.fleet_model.specs.ActionRows.{actions_after, actions_in, RiseTo, AreRows}
+use Rattle.fleet_model.specs.declared.step_code.StepCode.{StepCode}
+use Rattle.fleet_model.specs.ActionRows.{step_of, steps_in, actions_after, actions_in, RiseTo, AreRows}
 
 -- as many as there are steps
 length_after : (begin : ℕ) (steps : List Step) (ends : List ℕ) (awaits : List Await) → length ends ≡ length steps
@@ -20,6 +21,23 @@ length_after begin (s ∷ steps) (e ∷ ends) awaits same = ap suc (length_after
 
 pub actions_long : (steps : List Step) (ends : List ℕ) (awaits : List Await) → AreRows steps ends awaits → length (actions_in steps ends awaits) ≡ length steps
 actions_long steps ends awaits rows = length_after 0 steps ends awaits rows.count
+
+-- as many as there are codes
+pub codes_long : (codes : List StepCode) (ends : List ℕ) (awaits : List Await) → AreRows (steps_in codes) ends awaits
+    → length (actions_in (steps_in codes) ends awaits) ≡ length codes
+codes_long codes ends awaits rows = actions_long (steps_in codes) ends awaits rows ∙ length-map codes step_of
+
+-- the step at a place, by its code
+pub code_there : (codes : List StepCode) (k : ℕ) (code : StepCode) (s : Step) → k < length (steps_in codes) → code ≡ get_or codes k code → s ≡ step_of code
+    → s ≡ get_or (steps_in codes) k s
+code_there codes k code s lt is coded =
+    let within : k < length codes = rw (length-map codes step_of) at lt in
+    coded ∙ ap step_of is ∙ sym (get_or-map step_of codes k code s within)
+
+-- one more step, by its code
+pub code_more : (codes codes' : List StepCode) (code : StepCode) (s : Step) → codes' ≡ codes ++ code ∷ [] → step_of code ≡ s
+    → steps_in codes' ≡ steps_in codes ++ s ∷ []
+code_more codes codes' code s more coded = ap steps_in more ∙ map-append step_of codes (code ∷ []) ∙ ap (λ x. steps_in codes ++ x ∷ []) coded
 
 -- the action at a place
 there_after : (begin : ℕ) (steps : List Step) (ends : List ℕ) (awaits : List Await) (k : ℕ) (d : Step) → length ends ≡ length steps → k < length steps

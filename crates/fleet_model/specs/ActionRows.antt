@@ -1,8 +1,24 @@
--- The actions of an agent as three rows: the step of each, after how many awaits each ends, and the awaits of all, one action after the other.
-use Rattle.std.specs.Prelude.{◌≡◌, ℕ, ◌-◌, ◌≤◌, List, [], ◌∷◌, length, slice_range}
+-- The actions of an agent as three rows: the code of the step of each, after how many awaits each ends, and the awaits of all, one action after the other.
+use Rattle.std.specs.Prelude.{◌≡◌, ℕ, ◌-◌, ◌≤◌, List, [], ◌∷◌, length, map, slice_range}
+use Rattle.fleet_model.specs.declared.geometry.Dir.TheVariants.{North, East, South, West}
 use Rattle.fleet_model.specs.declared.geometry.Step.{Step}
+use Rattle.fleet_model.specs.declared.geometry.Step.TheVariants.{Go, Dwell}
+use Rattle.fleet_model.specs.declared.step_code.StepCode.{StepCode}
+use Rattle.fleet_model.specs.declared.step_code.StepCode.TheVariants.{North as ToNorth, East as ToEast, South as ToSouth, West as ToWest, Stay}
 use Rattle.fleet_model.specs.declared.program.Await.{Await}
 use Rattle.fleet_model.specs.declared.program.Action.{Action}
+
+-- the step that has this code
+abbrev pub step_of : StepCode → Step
+step_of ToNorth = Go North
+step_of ToEast = Go East
+step_of ToSouth = Go South
+step_of ToWest = Go West
+step_of Stay = Dwell
+
+-- the steps that have these codes
+abbrev pub steps_in : List StepCode → List Step
+steps_in codes = map step_of codes
 
 -- the actions that have these steps, where so many awaits stand before those of the first
 abbrev pub actions_after : ℕ → List Step → List ℕ → List Await → List Action

@@ -7,6 +7,7 @@ mod limits;
 mod memory;
 mod program;
 mod standing;
+mod step_code;
 mod task;
 mod view;
 

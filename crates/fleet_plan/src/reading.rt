@@ -1,6 +1,6 @@
 //! The reader of plans.
 
-ghost use Rattle.std.specs.Prelude.{◌≡◌, ◌≢◌, [], false, IfOk, IfErr, IsOkUnless};
+ghost use Rattle.std.specs.Prelude.{◌≡◌, ◌≢◌, ◌==◌, [], false, IfOk, IfErr, IsOkUnless, count_by};
 ghost use Rattle.fleet_model.specs.Answer.{IsDueUnless};
 ghost use Rattle.fleet_text.specs.Text.{lines, starts_blank};
 ghost use Rattle.fleet_plan.specs.Plan.{Plan as PlanValue};
@@ -10,7 +10,7 @@ ghost use Rattle.fleet_plan.specs.PlanReading.{too_long, path_at, paths_at};
 use crate::cells::{begins_with_word, cell_front};
 use crate::plan::{Path, Plan};
 use crate::text_fault::TextFault;
-use fleet_model::{MAX_AGENTS, MAX_HORIZON};
+use fleet_model::{Cell, MAX_AGENTS, MAX_HORIZON};
 use fleet_text::Cursor;
 use std::alloc::Global;
 
@@ -32,6 +32,30 @@ fn too_long(number: u64, text: &[u8]) -> TextFault
     TextFault::Length { line: number }
 }
 
+/// How many commas there are.
+fn comma_count(text: &[u8]) -> usize
+    ensures { result ≡ count_by (λ byte. byte == 44) text.now }
+{
+    let mut count = 0;
+    for byte in text {
+        if *byte == b',' {
+            count += 1;
+        }
+    }
+    count
+}
+
+/// No cell, and room for those of a line, each of which has a comma.
+fn room_for(alloc: Global, line: &[u8]) -> Result<Vec<Cell>, TextFault>
+    ensures none { IfOk result (λ cells. cells.items ≡ []) }
+    ensures memory { IsOkUnless result TextFault.OutOfMemory }
+{
+    match Vec::with_capacity(alloc, comma_count(line).min(MAX_CELLS)) {
+        Ok(cells) => Ok(cells),
+        Err(_) => Err(TextFault::OutOfMemory),
+    }
+}
+
 /// The path of a line.
 fn path_of(alloc: Global, number: u64, line: &[u8]) -> Result<Path, TextFault>
     ensures { IsDueUnless (λ p. p) result (path_at number line.now) TextFault.OutOfMemory }
@@ -39,7 +63,7 @@ fn path_of(alloc: Global, number: u64, line: &[u8]) -> Result<Path, TextFault>
     if !begins_with_word(line) {
         return Err(TextFault::Form { line: number });
     }
-    let mut cells = Vec::new(alloc);
+    let mut cells = room_for(alloc, line)?;
     let mut rest = line;
     while !rest.is_empty() {
         let Some((cell, after)) = cell_front(rest) else {

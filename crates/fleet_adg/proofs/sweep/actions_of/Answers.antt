@@ -19,6 +19,10 @@ loop-time-init c =
       actions = c.in_ok-actions.ensures ∙ actions_begin plan c.args.deps;
     }
 
+pub list_moves-requires-clause-time : goal.list_moves-requires-clause-time
+list_moves-requires-clause-time c =
+    omega (arith, c.loop-time-test.true, c.steps-time-end.ensures.time, steps_few c.plan-plan.result.now c.steps-time-end.ensures.limits)
+
 pub note_leavings-requires-clause-on_map : goal.note_leavings-requires-clause-on_map
 note_leavings-requires-clause-on_map c =
     rw (c.grid-grid.ensures, c.plan-plan.ensures.value) c.cells_are_on_map.ensures

@@ -1,15 +1,17 @@
 use Rattle.std.proofs.Common.{◌≡◌, ◌<◌, length, option_map, Some, slice_get, sym, ap, ◌∙◌, arith}
 use Rattle.fleet_model.specs.declared.program.Action.{Action}
-use Rattle.fleet_model.proofs.ActionRows.{actions_long, step_there}
+use Rattle.fleet_model.specs.ActionRows.{steps_in}
+use Rattle.fleet_model.proofs.ActionRows.{actions_long, codes_long, code_there, step_there}
 use Rattle.fleet_model.proofs.program.Actions.step.Goals as goal
 
 pub index-requires : goal.index-requires
 index-requires c =
     let s = c.self.inside in
-    omega (arith, c.requires, s.steps.ok.0, actions_long s.steps.items s.ends.items s.awaits.items c.self.invariant, ap length c.self.view_is)
+    omega (arith, c.requires, s.codes.ok.0, codes_long s.codes.items s.ends.items s.awaits.items c.self.invariant, ap length c.self.view_is)
 
 pub returns : goal.returns
 returns c =
     let s = c.self.inside in
-    let within : c.args.k < length s.steps.items = omega (arith, c.requires, actions_long s.steps.items s.ends.items s.awaits.items c.self.invariant, ap length c.self.view_is) in
-    rw c.self.view_is at (step_there s.steps.items s.ends.items s.awaits.items c.args.k c.index.result.now c.self.invariant within c.index.ensures)
+    let within : c.args.k < length (steps_in s.codes.items) = omega (arith, c.requires, actions_long (steps_in s.codes.items) s.ends.items s.awaits.items c.self.invariant, ap length c.self.view_is) in
+    rw c.self.view_is at (step_there (steps_in s.codes.items) s.ends.items s.awaits.items c.args.k c.step.result c.self.invariant within
+    (code_there s.codes.items c.args.k c.index.result.now c.step.result within c.index.ensures c.step.ensures))

@@ -70,33 +70,35 @@ fn list_for<T>(
     Ok(Vec::with_capacity(alloc, (count as usize).min(bytes.len() / item_len) + 1)?)
 }
 
-/// How many opcodes an action of agent `own` has, whose awaits and step are judged, and the bytes after it.
-fn after_action(
+/// What is known of the bytes before the first agent is read: their version, how many they are, and how many agents there are.
+#[derive(Clone, Copy)]
+struct Head {
     version: Version,
     whole: usize,
     agents: u16,
-    own: u16,
-    bytes: &[u8],
-) -> Result<(u32, &[u8]), LoadFault>
-    requires whole { length bytes.now ≤ whole }
-    requires few { agents ≤ MAX_AGENTS }
+}
+
+/// How many opcodes an action of agent `own` has, whose awaits and step are judged, and the bytes after it.
+fn after_action(head: Head, own: u16, bytes: &[u8]) -> Result<(u32, &[u8]), LoadFault>
+    requires whole { length bytes.now ≤ head.whole }
+    requires few { head.agents ≤ MAX_AGENTS }
     ensures value { Finds
-        (λ x due. (x.0 ≡ opcodes due.0) × (x.1.now ≡ due.1) × (length bytes.now ≡ length (action version due.0) + length x.1.now))
-        result (action_at version (length bytes.now) whole agents own 0 bytes.now) }
+        (λ x due. (x.0 ≡ opcodes due.0) × (x.1.now ≡ due.1) × (length bytes.now ≡ length (action head.version due.0) + length x.1.now))
+        result (action_at head.version (length bytes.now) head.whole head.agents own 0 bytes.now) }
     ensures few { IfOk result (λ x. x.0 ≤ MAX_AGENTS + 1) }
 {
     let mut least = 0;
     let mut opcodes = 1;
     let mut rest = bytes;
     while let Some((&opcode, after)) = rest.split_first() {
-        let at = (whole - rest.len()) as u64;
-        if let Some(_) = step_of(version, opcode) {
+        let at = (head.whole - rest.len()) as u64;
+        if let Some(_) = step_of(head.version, opcode) {
             return Ok((opcodes, after));
         }
         if opcode != AWAIT {
             return Err(LoadFault::Opcode { at });
         }
-        let (one, after) = await_of(version, at, agents, own, least, after)?;
+        let (one, after) = await_of(head.version, at, head.agents, own, least, after)?;
         least = one.agent + 1;
         opcodes += 1;
         rest = after;
@@ -108,18 +110,16 @@ fn after_action(
 /// have together.
 fn actions_after(
     alloc: Global,
-    version: Version,
-    whole: usize,
-    agents: u16,
+    head: Head,
     own: u16,
     count: u32,
     bytes: &[u8],
 ) -> Result<(Vec<u32>, &[u8]), LoadFault>
-    requires whole { length bytes.now ≤ whole }
-    requires few { agents ≤ MAX_AGENTS }
+    requires whole { length bytes.now ≤ head.whole }
+    requires few { head.agents ≤ MAX_AGENTS }
     requires count { count ≤ MAX_MOVES }
     ensures value { Finds (λ x due. (x.0.items ≡ 0 ∷ ends_of 0 due.0) × (x.1.now ≡ due.1))
-        result (actions_at version count whole agents own bytes.now) }
+        result (actions_at head.version count head.whole head.agents own bytes.now) }
     ensures count { IfOk result (λ x. vec_len x.0 ≡ count + 1) }
 {
     let mut offsets = list_for(alloc, count, LEAST_ACTION_LEN, bytes)?;
@@ -127,7 +127,7 @@ fn actions_after(
     let mut end = 0;
     let mut rest = bytes;
     for _ in 0..count {
-        let (opcodes, after) = after_action(version, whole, agents, own, rest)?;
+        let (opcodes, after) = after_action(head, own, rest)?;
         end += opcodes;
         offsets.push(end).map_err(OutOfMemory::from)?;
         rest = after;
@@ -149,25 +149,23 @@ fn are_bare(version: Version, count: u32, bytes: &[u8]) -> bool
 /// The same as `actions_after`, with no more offsets kept than are needed to find all.
 fn actions_in(
     alloc: Global,
-    version: Version,
-    whole: usize,
-    agents: u16,
+    head: Head,
     own: u16,
     count: u32,
     bytes: &[u8],
 ) -> Result<(ActionOffsets, &[u8]), LoadFault>
-    requires whole { length bytes.now ≤ whole }
-    requires few { agents ≤ MAX_AGENTS }
+    requires whole { length bytes.now ≤ head.whole }
+    requires few { head.agents ≤ MAX_AGENTS }
     requires count { count ≤ MAX_MOVES }
     ensures value { Finds (λ x due. (x.0 ≡ 0 ∷ ends_of 0 due.0) × (x.1.now ≡ due.1))
-        result (actions_at version count whole agents own bytes.now) }
+        result (actions_at head.version count head.whole head.agents own bytes.now) }
     ensures count { IfOk result (λ x. length x.0 ≡ count + 1) }
 {
-    if are_bare(version, count, bytes) {
+    if are_bare(head.version, count, bytes) {
         let (_, rest) = bytes.split_at(count as usize);
         return Ok((ActionOffsets::bare(alloc, count), rest));
     }
-    let (offsets, rest) = actions_after(alloc, version, whole, agents, own, count, bytes)?;
+    let (offsets, rest) = actions_after(alloc, head, own, count, bytes)?;
     Ok((ActionOffsets::of(count, offsets), rest))
 }
 
@@ -175,53 +173,45 @@ fn actions_in(
 #[tactic(auto, unfolding(crate::specs::Reading::agent_at))]
 fn agent_after(
     alloc: Global,
-    version: Version,
-    whole: usize,
-    agents: u16,
+    head: Head,
     own: u16,
     total: u32,
     bytes: &[u8],
 ) -> Result<(Part, &[u8]), LoadFault>
-    requires whole { length bytes.now ≤ whole }
-    requires few { agents ≤ MAX_AGENTS }
+    requires whole { length bytes.now ≤ head.whole }
+    requires few { head.agents ≤ MAX_AGENTS }
     requires total { total ≤ MAX_MOVES_IN_ALL }
     ensures value { Finds
-        (λ x due. (x.0 ≡ part_of version (whole - length bytes.now) due.0) × (x.1.now ≡ due.1)
-        × (length bytes.now ≡ length (agent version due.0) + length x.1.now))
-        result (agent_at version whole agents own total bytes.now) }
+        (λ x due. (x.0 ≡ part_of head.version (head.whole - length bytes.now) due.0) × (x.1.now ≡ due.1)
+        × (length bytes.now ≡ length (agent head.version due.0) + length x.1.now))
+        result (agent_at head.version head.whole head.agents own total bytes.now) }
     ensures total { IfOk result (λ x. total + length x.0.offsets ≤ MAX_MOVES_IN_ALL + 1) }
 {
     let (_, rest) = cell_of(bytes)?;
     let (_, rest) = cell_of(rest)?;
-    let (count, rest) = count_of(version, rest)?;
-    if count > version.most_moves() || total + count > MAX_MOVES_IN_ALL {
+    let (count, rest) = count_of(head.version, rest)?;
+    if count > head.version.most_moves() || total + count > MAX_MOVES_IN_ALL {
         return Err(LoadFault::Total);
     }
-    let begin = whole - rest.len();
-    let (offsets, rest) = actions_in(alloc, version, whole, agents, own, count, rest)?;
+    let begin = head.whole - rest.len();
+    let (offsets, rest) = actions_in(alloc, head, own, count, rest)?;
     Ok((Part { begin, offsets }, rest))
 }
 
-/// The parts of all `agents` agents. The input has `whole` bytes, of which these are left.
-fn agents_after(
-    alloc: Global,
-    version: Version,
-    whole: usize,
-    agents: u16,
-    bytes: &[u8],
-) -> Result<(Vec<Part>, &[u8]), LoadFault>
-    requires whole { length bytes.now ≤ whole }
-    requires few { agents ≤ MAX_AGENTS }
+/// The parts of all agents. Of the bytes these are left.
+fn agents_after(alloc: Global, head: Head, bytes: &[u8]) -> Result<(Vec<Part>, &[u8]), LoadFault>
+    requires whole { length bytes.now ≤ head.whole }
+    requires few { head.agents ≤ MAX_AGENTS }
     ensures value { Finds
-        (λ x due. (x.0.items ≡ parts_of version (whole - length bytes.now) due.0) × (x.1.now ≡ due.1))
-        result (agents_at version agents whole agents 0 0 bytes.now) }
+        (λ x due. (x.0.items ≡ parts_of head.version (head.whole - length bytes.now) due.0) × (x.1.now ≡ due.1))
+        result (agents_at head.version head.agents head.whole head.agents 0 0 bytes.now) }
     ensures shorter { IfOk result (λ x. length x.1.now ≤ length bytes.now) }
 {
-    let mut parts = list_for(alloc, u32::from(agents), LEAST_AGENT_LEN, bytes)?;
+    let mut parts = list_for(alloc, u32::from(head.agents), LEAST_AGENT_LEN, bytes)?;
     let mut total = 0;
     let mut rest = bytes;
-    for own in 0..agents {
-        let (part, after) = agent_after(alloc, version, whole, agents, own, total, rest)?;
+    for own in 0..head.agents {
+        let (part, after) = agent_after(alloc, head, own, total, rest)?;
         total += part.moves();
         parts.push(part).map_err(OutOfMemory::from)?;
         rest = after;
@@ -241,7 +231,12 @@ pub fn parts_in(alloc: Global, version: Version, bytes: &[u8]) -> Result<Vec<Par
     if agents == 0 || usize::from(agents) > MAX_AGENTS {
         return Err(LoadFault::AgentCount);
     }
-    let (parts, rest) = agents_after(alloc, version, bytes.len(), agents, rest)?;
+    let head = Head {
+        version,
+        whole: bytes.len(),
+        agents,
+    };
+    let (parts, rest) = agents_after(alloc, head, rest)?;
     if !rest.is_empty() {
         let at = (bytes.len() - rest.len()) as u64;
         return Err(LoadFault::Trailing { at });

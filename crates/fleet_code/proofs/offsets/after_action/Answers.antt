@@ -7,7 +7,7 @@ use Rattle.fleet_code.proofs.offsets.after_action.Goals as goal
 
 pub loop-opcode-init : goal.loop-opcode-init
 loop-opcode-init c = record {
-  so_far = ([], refl, action_begins c.args.version c.args.whole c.args.agents c.args.own c.args.bytes.now);
+  so_far = ([], refl, action_begins c.args.head.version c.args.head.whole c.args.head.agents c.args.own c.args.bytes.now);
   shorter = omega arith;
   many = omega arith;
   few = omega arith;
@@ -16,9 +16,9 @@ loop-opcode-init c = record {
 pub returns-in-Some-step_of-clause-value : goal.returns-in-Some-step_of-clause-value
 returns-in-Some-step_of-clause-value c =
     let so_far = c.loop-opcode.invariant.so_far in
-    let due = step_ends c.args.version c.in-Some.ensures.cases.0 so_far.2 c.in-Some-step_of.field-0 (sym c.step_of.ensures ∙ c.in-Some-step_of.is) in
+    let due = step_ends c.args.head.version c.in-Some.ensures.cases.0 so_far.2 c.in-Some-step_of.field-0 (sym c.step_of.ensures ∙ c.in-Some-step_of.is) in
     let found : Action × List ℕ = (record { step = c.in-Some-step_of.field-0; awaits = so_far.0 }, c.in-Some.after.now) in
-    (found, due, (so_far.1, refl, action_length c.args.version (length c.args.bytes.now) c.args.whole c.args.agents c.args.own 0 c.args.bytes.now found (λ i. omega (arith, c.type_inv.bytes i)) due))
+    (found, due, (so_far.1, refl, action_length c.args.head.version (length c.args.bytes.now) c.args.head.whole c.args.head.agents c.args.own 0 c.args.bytes.now found (λ i. omega (arith, c.type_inv.bytes i)) due))
 
 pub returns-in-Some-step_of-clause-few : goal.returns-in-Some-step_of-clause-few
 returns-in-Some-step_of-clause-few c =
@@ -36,14 +36,14 @@ overflow_add-opcodes c =
 
 pub returns-then-opcode-ne-AWAIT-clause-value : goal.returns-then-opcode-ne-AWAIT-clause-value
 returns-then-opcode-ne-AWAIT-clause-value c =
-    λ other. other_opcode c.args.version c.in-Some.ensures.cases.0 c.loop-opcode.invariant.so_far.2 (sym c.step_of.ensures ∙ no_step c.step_of.result c.in_default-step_of.not-Some) c.if-opcode-ne-AWAIT.true
+    λ other. other_opcode c.args.head.version c.in-Some.ensures.cases.0 c.loop-opcode.invariant.so_far.2 (sym c.step_of.ensures ∙ no_step c.step_of.result c.in_default-step_of.not-Some) c.if-opcode-ne-AWAIT.true
 
 pub returns-in_err-one-clause-value : goal.returns-in_err-one-clause-value
 returns-in_err-one-clause-value c =
     let p = err_from_is_err_and c.from_residual.result c.from_residual.ensures.1 in
     rw (p.1, p.2)
     (λ other.
-    await_fails c.args.version c.in-Some.ensures.cases.0 c.loop-opcode.invariant.so_far.2 c.in_err-one.field-0.0 (sym c.step_of.ensures ∙ no_step c.step_of.result c.in_default-step_of.not-Some) c.if-opcode-ne-AWAIT.false
+    await_fails c.args.head.version c.in-Some.ensures.cases.0 c.loop-opcode.invariant.so_far.2 c.in_err-one.field-0.0 (sym c.step_of.ensures ∙ no_step c.step_of.result c.in_default-step_of.not-Some) c.if-opcode-ne-AWAIT.false
     (c.in_err-one.ensures.value other))
 
 pub loop-opcode-preserved : goal.loop-opcode-preserved
@@ -57,11 +57,11 @@ loop-opcode-preserved c =
     let so_far = c.loop-opcode.invariant.so_far in
     let no = sym c.step_of.ensures ∙ no_step c.step_of.result c.in_default-step_of.not-Some in
     record {
-      so_far = (so_far.0 ++ c.in_ok-one.one ∷ [], omega (arith, so_far.1, length-append so_far.0 (c.in_ok-one.one ∷ [])), await_goes_on c.args.version c.in-Some.ensures.cases.0 so_far.2 c.in_ok-one.one c.in_ok-one.after.now no c.if-opcode-ne-AWAIT.false c.in_ok-one.ensures.value);
+      so_far = (so_far.0 ++ c.in_ok-one.one ∷ [], omega (arith, so_far.1, length-append so_far.0 (c.in_ok-one.one ∷ [])), await_goes_on c.args.head.version c.in-Some.ensures.cases.0 so_far.2 c.in_ok-one.one c.in_ok-one.after.now no c.if-opcode-ne-AWAIT.false c.in_ok-one.ensures.value);
       shorter = omega (arith, read, one_less, shorter);
       many = omega (arith, above, many);
       few = omega (arith, within);
     }
 
 pub returns-clause-value : goal.returns-clause-value
-returns-clause-value c = λ other. action_lacks c.args.version c.loop-opcode.invariant.so_far.2 c.in_default.ensures.cases
+returns-clause-value c = λ other. action_lacks c.args.head.version c.loop-opcode.invariant.so_far.2 c.in_default.ensures.cases

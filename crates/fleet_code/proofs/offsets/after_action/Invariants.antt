@@ -6,10 +6,10 @@ use Rattle.fleet_code.proofs.offsets.after_action.Given as goal
 
 abbrev pub invariant-loop-opcode : goal.invariant-loop-opcode
 invariant-loop-opcode l = record {
-  so_far : (awaits : List Await) × (l.opcodes ≡ length awaits + 1) × ActionGoesOn l.version l.whole l.agents l.own l.least l.rest awaits (action_at l.version (length l.bytes) l.whole l.agents l.own 0 l.bytes);
+  so_far : (awaits : List Await) × (l.opcodes ≡ length awaits + 1) × ActionGoesOn l.head.version l.head.whole l.head.agents l.own l.least l.rest awaits (action_at l.head.version (length l.bytes) l.head.whole l.head.agents l.own 0 l.bytes);
   shorter : length l.rest ≤ length l.bytes;
   many : l.opcodes ≤ l.least + 1;
-  few : l.least ≤ l.agents;
+  few : l.least ≤ l.head.agents;
 }
 
 abbrev pub decreases-loop-opcode : goal.decreases-loop-opcode

@@ -1,24 +1,22 @@
 -- The actions that a tick finishes, and what is known of them before it.
-use Rattle.std.proofs.Common.{◌≡◌, ◌≢◌, ℕ, suc, ◌+◌, ◌<◌, ◌≤◌, Bool, true, false, List, [], length, replicate, take, get_or, refl, sym, ap, subst, ◌∙◌, arith, inl, inr, ◌⊎◌, add-one, ◌&&◌, not}
+use Rattle.std.proofs.Common.{◌≡◌, ◌≢◌, ℕ, suc, ◌+◌, ◌<◌, ◌≤◌, Bool, true, false, List, [], length, replicate, take, get_or, refl, sym, ap, ◌∙◌, arith, inl, inr, ◌⊎◌, add-one, ◌&&◌, not}
 use Rattle.std.proofs.lemmas.Bool.{cases_lt, cases_eq}
 use Rattle.std.proofs.lemmas.List.{take-replicate, get_or-replicate, get_or_past, length-replicate}
 use Rattle.std.proofs.lemmas.List.FromFn.{get_or-map-range_with_len}
-use Rattle.std.proofs.lemmas.Option.{slice_get_within, get_or_from_slice_get}
-use Rattle.std.specs.Prelude.{slice_get, Some, nat_le}
+use Rattle.std.specs.Prelude.{nat_le}
 use Rattle.std.proofs.lemmas.List.FromFn.{get_or-range_with_len}
 use Rattle.std.proofs.lemmas.List.Sums.{AllPass-from_list_all}
 use Rattle.std.proofs.lemmas.List.FromFn.{length-range_with_len}
 use Rattle.std.proofs.Common.{leb-true}
 use Rattle.fleet_model.specs.declared.program.ActionId.{ActionId}
-use Rattle.fleet_model.specs.declared.program.Await.{Await}
-use Rattle.fleet_model.specs.Program.{Program, moves, awaits_of}
+use Rattle.fleet_model.specs.Program.{Program, moves}
 use Rattle.fleet_model.specs.Machine.{Configuration, is_finished, run, tick, is_held, is_ready, is_moving, count_at, indices}
 use Rattle.fleet_model.specs.Chain.{IsAction, Reaches}
-use Rattle.fleet_model.proofs.Tick.{ready_left, ready_met}
+use Rattle.fleet_model.proofs.Tick.{ready_left}
 use Rattle.fleet_model.proofs.Runs.{tick_agree}
 use Rattle.fleet_machine.specs.Machine.{MachineState, Runs, flag_of, moving_flags}
 use Rattle.fleet_machine.specs.AgentSet.{IsNextFrom, AreNoneFrom}
-use Rattle.fleet_rows.specs.Takers.{IsTicked}
+use Rattle.fleet_rows.specs.Order.{IsTicked, IsNextReady, AreNoneReady}
 use Rattle.fleet_rows.proofs.Free.{count, count_start, moves_on, stays, done_reaches}
 
 -- a row without flags
@@ -72,83 +70,82 @@ all_finished p t h a k =
     let l : a.number ≤ moves p a.agent = k.last in
     omega arith
 
-module _ (p : Program) (m : MachineState) (t : ℕ) (h : IsTicked p m t) where
-  flag_is : (i : ℕ) → i < length p → flag_of m.moving i ≡ is_ready p (run p [] t) i
-  flag_is i l = h.moved i l
+module _ (p : Program) (m : MachineState) (t : ℕ) (h : IsTicked p m t) (from : ℕ) where
+  -- the next agent that a tick has moved is the next one that was ready before it
+  pub next_ready : (i : ℕ) → IsNextFrom m.moving from i → IsNextReady p t from i
+  next_ready i next = record {
+    agent = agent;
+    later = next.later;
+    ready = sym (h.moved i agent) ∙ next.member;
+    between = λ j l less. sym (h.moved j (omega arith)) ∙ next.between j l less;
+  }
+    where
+      agent : i < length p
+      agent = let l : i < length m.moving = next.agent in omega (arith, l, h.runs.flags)
 
-  after : (i : ℕ) → count_at m.configuration i ≡ count p (suc t) i
-  after i = ap (λ c. count_at c i) h.here ∙ ap (λ (n : ℕ). count p n i) (add-one t)
+  -- where it has moved nobody from there on, nobody was ready
+  pub none_ready : AreNoneFrom m.moving from → AreNoneReady p t from
+  none_ready none j l agent = sym (h.moved j agent) ∙ none j l
 
-  next_on : (i : ℕ) → count p (t + 1) i ≡ count p (suc t) i
-  next_on i = ap (λ (n : ℕ). count p n i) (add-one t)
+  -- and the machine has the number of the action
+  pub machine_number : (i : ℕ) → IsNextReady p t from i → (n : ℕ) → n ≡ count_at m.configuration i → n ≡ count p t i + 1
+  machine_number i next n e = e ∙ ap (λ c. count_at c i) h.here ∙ ap (λ (k : ℕ). count p k i) (add-one t) ∙ moves_on p t i next.agent next.ready
 
-  module _ (from i : ℕ) (next : IsNextFrom m.moving from i) where
-    pub agent_of : i < length p
-    agent_of = let l : i < length m.moving = next.agent in omega (arith, l, h.runs.flags)
+module _ (p : Program) (t from : ℕ) where
+  -- where nobody from there on was ready, all that is finished was finished before or is of an agent before
+  pub none_more : AreNoneReady p t from → (a : ActionId) → IsAction p a → a.number ≤ count p (t + 1) a.agent
+      → (a.number ≤ count p t a.agent) ⊎ ((a.agent < from) × (a.number ≤ count p (t + 1) a.agent))
+  none_more none a k done = elim (cases_lt a.agent from) [
+    | inl low ↦ inr (low, done)
+    | inr high ↦
+        let still : count p (suc t) a.agent ≡ count p t a.agent = stays p t a.agent k.agent (none a.agent high k.agent) in
+        let e : count p (t + 1) a.agent ≡ count p (suc t) a.agent = ap (λ (n : ℕ). count p n a.agent) (add-one t) in
+        inl (omega (arith, still, e, done))
+  ]
 
-    pub ready_of : is_ready p (run p [] t) i ≡ true
-    ready_of = sym (flag_is i agent_of) ∙ next.member
+  module _ (i : ℕ) (next : IsNextReady p t from i) (n : ℕ) (number : n ≡ count p t i + 1) where
+    abbrev here : ActionId
+    here = record { agent = i; number = n }
 
-    pub counted : count_at m.configuration i ≡ count p t i + 1
-    counted = after i ∙ moves_on p t i agent_of ready_of
+    pub moved : count p (t + 1) i ≡ n
+    moved = ap (λ (k : ℕ). count p k i) (add-one t) ∙ moves_on p t i next.agent next.ready ∙ sym number
 
-    pub next_action_of : IsAction p (record { agent = i; number = count p t i + 1 })
-    next_action_of = record { agent = agent_of; first = omega arith; last = (let l : count p t i < moves p i = ready_left p (run p [] t) i ready_of in omega arith) }
+    pub next_action : IsAction p here
+    next_action = record { agent = next.agent; first = omega arith; last = (let l : count p t i < moves p i = ready_left p (run p [] t) i next.ready in omega arith) }
 
-    -- the action that the tick has finished, by its number
-    pub finished_action : (n : ℕ) → n ≡ count_at m.configuration i → ◌≡◌ {A = ActionId} (record { agent = i; number = n }) (record { agent = i; number = count p t i + 1 })
-    finished_action n e = λ s. record { agent = i; number = (e ∙ counted) s }
-
-    pub awaits_met : (k : ℕ) (w : Await) → slice_get (awaits_of p i (count p t i + 1)) k ≡ Some w → w.count ≤ count p t w.agent
-    awaits_met k w e =
-        let same : count p t i + 1 ≡ suc (count p t i) = add-one (count p t i) in
-        let there : slice_get (awaits_of p i (suc (count p t i))) k ≡ Some w = subst (λ (n : ℕ). slice_get (awaits_of p i n) k ≡ Some w) same e in
-        ready_met p (run p [] t) i w ready_of (k, slice_get_within (awaits_of p i (suc (count p t i))) k w there, get_or_from_slice_get (awaits_of p i (suc (count p t i))) k w w there)
-
-    pub none_later : (c : ℕ) → Reaches p (record { agent = i; number = c }) (record { agent = i; number = count p t i + 1 }) → c ≤ count p t i + 1
+    pub none_later : (c : ℕ) → Reaches p (record { agent = i; number = c }) here → c ≤ n
     none_later c r =
-        let up = moves_on p t i agent_of ready_of in
-        let done : c ≤ count p (suc t) i = done_reaches p (suc t) (record { agent = i; number = c }) (record { agent = i; number = count p t i + 1 }) next_action_of (omega (arith, up)) r in
-        omega (arith, up, done)
+        let done : c ≤ count p (t + 1) i = done_reaches p (t + 1) (record { agent = i; number = c }) here next_action (omega (arith, moved)) r in
+        omega (arith, moved, done)
 
     -- an action that is finished after the tick, of an agent up to this one, was finished before it, or is its next one, or is of an agent before the others
     pub one_more : (a : ActionId) → IsAction p a → (a.number ≤ count p t a.agent) ⊎ ((a.agent < i + 1) × (a.number ≤ count p (t + 1) a.agent))
-        → ((a.number ≤ count p t a.agent) ⊎ ((a.agent < from) × (a.number ≤ count p (t + 1) a.agent))) ⊎ (a ≡ record { agent = i; number = count p t i + 1 })
+        → ((a.number ≤ count p t a.agent) ⊎ ((a.agent < from) × (a.number ≤ count p (t + 1) a.agent))) ⊎ (a ≡ here)
     one_more a k (inl done) = inl (inl done)
     one_more a k (inr (l, done)) = elim (cases_lt a.agent from) [
       | inl low ↦ inl (inr (low, done))
       | inr high ↦ elim (cases_eq a.agent i) [
         | inr ne ↦
-            let still : count p (suc t) a.agent ≡ count p t a.agent = stays p t a.agent k.agent (sym (flag_is a.agent k.agent) ∙ next.between a.agent high (omega arith)) in
-            inl (inl (omega (arith, still, next_on a.agent, done)))
+            let still : count p (suc t) a.agent ≡ count p t a.agent = stays p t a.agent k.agent (next.between a.agent high (omega arith)) in
+            let e : count p (t + 1) a.agent ≡ count p (suc t) a.agent = ap (λ (s : ℕ). count p s a.agent) (add-one t) in
+            inl (inl (omega (arith, still, e, done)))
         | inl e ↦ elim (cases_lt (count p t a.agent) a.number) [
           | inr g ↦ inl (inl g)
           | inl more ↦
-              let up : count p (suc t) i ≡ count p t i + 1 = moves_on p t i agent_of ready_of in
               let at : count p t a.agent ≡ count p t i = ap (count p t) e in
-              let to : count p (suc t) a.agent ≡ count p (suc t) i = ap (count p (suc t)) e in
-              let number : a.number ≡ count p t i + 1 = omega (arith, up, at, to, next_on a.agent, done, more) in
-              inr (λ s. record { agent = e s; number = number s })
+              let to : count p (t + 1) a.agent ≡ count p (t + 1) i = ap (count p (t + 1)) e in
+              let same : a.number ≡ n = omega (arith, moved, at, to, done, more, number) in
+              inr (λ s. record { agent = e s; number = same s })
         ]
       ]
     ]
 
-    pub apart : (a : ActionId) → (a.number ≤ count p t a.agent) ⊎ ((a.agent < from) × (a.number ≤ count p (t + 1) a.agent)) → a ≢ record { agent = i; number = count p t i + 1 }
+    pub apart : (a : ActionId) → (a.number ≤ count p t a.agent) ⊎ ((a.agent < from) × (a.number ≤ count p (t + 1) a.agent)) → a ≢ here
     apart a (inl l) e =
-        let number : a.number ≡ count p t i + 1 = ap (λ x. x.number) e in
+        let same : a.number ≡ n = ap (λ x. x.number) e in
         let at : count p t a.agent ≡ count p t i = ap (λ x. count p t x.agent) e in
         omega arith
     apart a (inr (l, d)) e =
         let agent : a.agent ≡ i = ap (λ x. x.agent) e in
         let later : from ≤ i = next.later in
         omega arith
-
-  -- where nobody from there on was moved, all that is finished was finished before or is of an agent before
-  pub none_more : (from : ℕ) → AreNoneFrom m.moving from → (a : ActionId) → IsAction p a → a.number ≤ count p (t + 1) a.agent
-      → (a.number ≤ count p t a.agent) ⊎ ((a.agent < from) × (a.number ≤ count p (t + 1) a.agent))
-  none_more from none a k done = elim (cases_lt a.agent from) [
-    | inl low ↦ inr (low, done)
-    | inr high ↦
-        let still : count p (suc t) a.agent ≡ count p t a.agent = stays p t a.agent k.agent (sym (flag_is a.agent k.agent) ∙ none a.agent high) in
-        inl (omega (arith, still, next_on a.agent, done))
-  ]

@@ -5,14 +5,16 @@ pub mod Placed
 mod Settling
 mod Ticking
 pub mod Finishing
-pub mod Answering
+pub mod Counting
+pub mod Ordering
+pub mod Answered
 pub mod Keeping
 pub mod Freeing
 pub mod Noting
 pub mod Passing
 pub mod Implying
-pub mod Flagging
+pub mod Flagged
 pub mod PiecePairs
 pub mod Gathered
-pub mod GatheredTicks
+pub mod GatheredAll
 pub mod LatestPiece

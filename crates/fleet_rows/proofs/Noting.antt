@@ -1,17 +1,16 @@
 -- The last takers of actions, noted tick by tick.
-use Rattle.std.proofs.Common.{rules, ◌≡◌, ℕ, ◌+◌, ◌<◌, ◌≤◌, true, false, List, [], length, slice_index, refl, sym, ap, subst, ◌∙◌, arith, inl, inr}
+use Rattle.std.proofs.Common.{rules, ◌≡◌, ℕ, ◌+◌, ◌<◌, ◌≤◌, false, List, [], length, slice_index, refl, sym, ap, subst, ◌∙◌, arith, inl, inr}
 use Rattle.std.specs.Prelude.{slice_get, Some}
 use Rattle.std.proofs.lemmas.Bool.{cases_lt, cases_eq}
 use Rattle.std.proofs.lemmas.Option.{slice_get-get_or}
 use Rattle.fleet_model.specs.declared.program.ActionId.{ActionId}
 use Rattle.fleet_model.specs.declared.program.Await.{Await}
 use Rattle.fleet_model.specs.Program.{Program, awaits_of}
-use Rattle.fleet_model.specs.Machine.{run, count_at}
+use Rattle.fleet_model.specs.Machine.{run, count_at, is_ready}
 use Rattle.fleet_model.specs.Chain.{awaited}
-use Rattle.fleet_machine.specs.Machine.{MachineState, flag_of}
-use Rattle.fleet_machine.specs.AgentSet.{IsNextFrom, AreNoneFrom}
 use Rattle.fleet_rows.specs.Places.{action_place}
-use Rattle.fleet_rows.specs.Takers.{IsTicked, AreRaised, IsNotedFor, IsNotedAt, AreNoted}
+use Rattle.fleet_rows.specs.Order.{IsNextReady, AreNoneReady}
+use Rattle.fleet_rows.specs.Takers.{AreRaised, IsNotedFor, IsNotedAt, AreNoted}
 
 -- what an action needs is the one before, or one that it awaits
 pub noted_for : (p : Program) (firsts : List ℕ) (a : ActionId) (tick : ℕ) (lasts : List ℕ)
@@ -54,23 +53,24 @@ raised_self xs = (refl, λ k. omega arith)
 pub raised_on : (old mid new : List ℕ) → AreRaised old mid → AreRaised mid new → AreRaised old new
 raised_on old mid new h k = (k.0 ∙ h.0, λ n. let a : slice_index old n ≤ slice_index mid n = h.1 n in let b : slice_index mid n ≤ slice_index new n = k.1 n in omega arith)
 
-module _ (p : Program) (firsts : List ℕ) (m : MachineState) (t : ℕ) (h : IsTicked p m t) where
-  -- one agent more whose needs are noted, and none between who moved
-  pub noted_more : (from i : ℕ) (old new : List ℕ) → IsNextFrom m.moving from i → AreRaised old new → IsNotedAt p firsts t from old
-      → IsNotedFor p firsts (record { agent = i; number = count_at (run p [] t) i + 1 }) (t + 1) new → IsNotedAt p firsts t (i + 1) new
-  noted_more from i old new next raised before here j l agent ready = elim (cases_lt j from) [
+module _ (p : Program) (firsts : List ℕ) (t from : ℕ) where
+  -- one agent more whose needs are noted, and none between was ready
+  pub noted_more : (i n : ℕ) (old new : List ℕ) → IsNextReady p t from i → n ≡ count_at (run p [] t) i + 1 → AreRaised old new → IsNotedAt p firsts t from old
+      → IsNotedFor p firsts (record { agent = i; number = n }) (t + 1) new → IsNotedAt p firsts t (i + 1) new
+  noted_more i n old new next number raised before here j l agent ready = elim (cases_lt j from) [
     | inl low ↦ noted_still p firsts t from old new raised before j low agent ready
     | inr high ↦ elim (cases_eq j i) [
-      | inl e ↦ subst (λ (x : ℕ). IsNotedFor p firsts (record { agent = x; number = count_at (run p [] t) x + 1 }) (t + 1) new) (sym e) here
-      | inr ne ↦ absurd (let moved : flag_of m.moving j ≡ true = h.moved j agent ∙ ready in let none : flag_of m.moving j ≡ false = next.between j high (omega arith) in cc)
+      | inl e ↦ subst (λ (x : ℕ). IsNotedFor p firsts (record { agent = x; number = count_at (run p [] t) x + 1 }) (t + 1) new) (sym e)
+          (subst (λ (k : ℕ). IsNotedFor p firsts (record { agent = i; number = k }) (t + 1) new) number here)
+      | inr ne ↦ absurd (let off : is_ready p (run p [] t) j ≡ false = next.between j high (omega arith) in cc)
     ]
   ]
 
-  -- and nobody after moved
-  pub noted_all : (from : ℕ) (lasts : List ℕ) → AreNoneFrom m.moving from → IsNotedAt p firsts t from lasts → IsNotedAt p firsts t (length p) lasts
-  noted_all from lasts none before j l agent ready = elim (cases_lt j from) [
+  -- and nobody after was
+  pub noted_all : (lasts : List ℕ) → AreNoneReady p t from → IsNotedAt p firsts t from lasts → IsNotedAt p firsts t (length p) lasts
+  noted_all lasts none before j l agent ready = elim (cases_lt j from) [
     | inl low ↦ before j low agent ready
-    | inr high ↦ absurd (let moved : flag_of m.moving j ≡ true = h.moved j agent ∙ ready in let off : flag_of m.moving j ≡ false = none j high in cc)
+    | inr high ↦ absurd (let off : is_ready p (run p [] t) j ≡ false = none j high agent in cc)
   ]
 
 -- one tick more

@@ -13,7 +13,7 @@ use Rattle.fleet_model.proofs.Chains.{Reaches-last}
 use Rattle.fleet_rows.specs.Implied.{IsImplied, IsTold, first_await}
 use Rattle.fleet_rows.specs.Settled.{IsSettled, AreSettledOf, AreMoreAsked, IsActionSettled, IsUpTo}
 use Rattle.fleet_rows.proofs.Implying.{await_below}
-use Rattle.fleet_rows.proofs.Flagging.{flag_apart}
+use Rattle.fleet_rows.proofs.Flagged.{flag_apart}
 use Rattle.fleet_rows.proofs.Joining.{own_first, by_await}
 
 abbrev act : ℕ → ℕ → ActionId

@@ -1,35 +1,33 @@
 -- The tick that finishes each action where nobody is held: noted tick by tick, it rises along chains.
-use Rattle.std.proofs.Common.{◌≡◌, ◌≢◌, ℕ, zero, suc, ◌+◌, ◌-◌, ◌<◌, ◌≤◌, true, List, [], length, set, slice_index, sym, ap, subst, ◌∙◌, arith, inl, inr, add-one}
+use Rattle.std.proofs.Common.{◌≡◌, ◌≢◌, ℕ, zero, suc, ◌+◌, ◌-◌, ◌<◌, ◌≤◌, true, List, [], length, set, slice_index, sym, ap, subst, ◌∙◌, arith, inl, inr}
 use Rattle.std.proofs.lemmas.Bool.{cases_lt}
 use Rattle.std.proofs.lemmas.List.{get_or-set_same, get_or-set_other}
 use Rattle.fleet_model.specs.declared.program.ActionId.{ActionId}
 use Rattle.fleet_model.specs.Program.{Program, total_moves}
-use Rattle.fleet_model.specs.Machine.{run, count_at, is_finished}
+use Rattle.fleet_model.specs.Machine.{run, is_finished}
 use Rattle.fleet_model.specs.Chain.{IsAction, DirectlyNeeds, IsNumbering}
-use Rattle.fleet_machine.specs.Machine.{MachineState}
-use Rattle.fleet_machine.specs.AgentSet.{IsNextFrom, AreNoneFrom}
 use Rattle.fleet_rows.specs.Places.{ArePlaces, action_place}
-use Rattle.fleet_rows.specs.Takers.{IsTicked}
-use Rattle.fleet_rows.specs.Pass.{IsFinishedBy, IsDoneMid}
-use Rattle.fleet_rows.specs.Settled.{IsFinishTick, AreFinishTicks}
-use Rattle.fleet_rows.proofs.Free.{count, moves_on, grows, needs_done}
+use Rattle.fleet_rows.specs.Order.{IsNextReady, AreNoneReady}
+use Rattle.fleet_rows.specs.Settled.{IsFinishedBy, IsDoneMid, IsFinishTick, AreFinishTicks}
+use Rattle.fleet_rows.proofs.Free.{count, grows, needs_done}
 use Rattle.fleet_rows.proofs.Placed.{place_apart, place_within}
-use Rattle.fleet_rows.proofs.Finishing.{agent_of, ready_of, next_action_of, finished_action, one_more, apart, none_more, none_started, all_finished}
-use Rattle.fleet_rows.proofs.Passing.{only_before}
+use Rattle.fleet_rows.proofs.Finishing.{moved, next_action, one_more, apart, none_more, none_started, all_finished}
 
 pub noted_none : (p : Program) (firsts ticks : List ℕ) → AreFinishTicks p firsts (IsFinishedBy p 0) ticks
 noted_none p firsts ticks a k done = absurd (none_started p a k done)
 
+-- before the first agent of a tick
 pub noted_mid : (p : Program) (firsts : List ℕ) (t : ℕ) (ticks : List ℕ) → AreFinishTicks p firsts (IsFinishedBy p t) ticks → AreFinishTicks p firsts (IsDoneMid p t 0) ticks
-noted_mid p firsts t ticks h a k done = h a k (only_before p t a done)
+noted_mid p firsts t ticks h a k (inl done) = h a k done
+noted_mid p firsts t ticks h a k (inr (l, done)) = absurd (omega arith)
 
-module _ (p : Program) (firsts : List ℕ) (places : ArePlaces p firsts) (m : MachineState) (t : ℕ) (h : IsTicked p m t) (from : ℕ) where
+module _ (p : Program) (firsts : List ℕ) (places : ArePlaces p firsts) (t from : ℕ) where
   -- an action that the tick has finished
-  pub noted_on : (i : ℕ) (next : IsNextFrom m.moving from i) (n : ℕ) → n ≡ count_at m.configuration i → (x : ℕ) → x + 1 ≡ slice_index firsts i + n → (old : List ℕ) → length old ≡ total_moves p
+  pub noted_on : (i : ℕ) → IsNextReady p t from i → (n : ℕ) → n ≡ count p t i + 1 → (x : ℕ) → x + 1 ≡ slice_index firsts i + n → (old : List ℕ) → length old ≡ total_moves p
       → AreFinishTicks p firsts (IsDoneMid p t from) old → AreFinishTicks p firsts (IsDoneMid p t (i + 1)) (set old x (t + 1))
-  noted_on i next n e x at old all before a k done = elim (one_more p m t h from i next a k done) [
+  noted_on i next n number x at old all before a k done = elim (one_more p t from i next n number a k done) [
     | inl was ↦
-        let ne : action_place firsts a ≢ x = (λ same. place_apart p firsts places a here k is (apart p m t h from i next a was) (same ∙ place)) in
+        let ne : action_place firsts a ≢ x = (λ same. place_apart p firsts places a here k is (apart p t from i next n number a was) (same ∙ place)) in
         subst (IsFinishTick p a) (sym (get_or-set_other old x (action_place firsts a) (t + 1) 0 ne)) (before a k was)
     | inr same ↦
         let there : action_place firsts a ≡ x = ap (action_place firsts) same ∙ sym place in
@@ -38,29 +36,23 @@ module _ (p : Program) (firsts : List ℕ) (places : ArePlaces p firsts) (m : Ma
   ]
     where
       here : ActionId
-      here = record { agent = i; number = count p t i + 1 }
+      here = record { agent = i; number = n }
 
       is : IsAction p here
-      is = next_action_of p m t h from i next
-
-      number : n ≡ count p t i + 1
-      number = ap (λ (y : ActionId). y.number) (finished_action p m t h from i next n e)
+      is = next_action p t from i next n number
 
       place : x ≡ action_place firsts here
-      place = omega (arith, at, number)
+      place = omega (arith, at)
 
       within : x < length old
       within = (let l = place_within p firsts places here is in omega (arith, l, all, place))
 
-      up : count p (t + 1) i ≡ count p t i + 1
-      up = ap (λ (s : ℕ). count p s i) (add-one t) ∙ moves_on p t i (agent_of p m t h from i next) (ready_of p m t h from i next)
-
       finished : IsFinishTick p here (t + 1)
-      finished = record { some = omega arith; done = omega (arith, up); not_yet = λ done. (let e : t + 1 - 1 ≡ t = omega arith in let l : count p t i + 1 ≤ count p t i = subst (λ (s : ℕ). count p t i + 1 ≤ count p s i) e done in omega arith) }
+      finished = record { some = omega arith; done = omega (arith, moved p t from i next n number); not_yet = λ done. (let e : t + 1 - 1 ≡ t = omega arith in let l : n ≤ count p t i = subst (λ (s : ℕ). n ≤ count p s i) e done in omega (arith, l, number)) }
 
-  -- where nobody else was moved
-  pub noted_all : AreNoneFrom m.moving from → (ticks : List ℕ) → AreFinishTicks p firsts (IsDoneMid p t from) ticks → AreFinishTicks p firsts (IsFinishedBy p (t + 1)) ticks
-  noted_all none ticks before a k done = before a k (none_more p m t h from none a k done)
+  -- where nobody else was ready
+  pub noted_all : AreNoneReady p t from → (ticks : List ℕ) → AreFinishTicks p firsts (IsDoneMid p t from) ticks → AreFinishTicks p firsts (IsFinishedBy p (t + 1)) ticks
+  noted_all none ticks before a k done = before a k (none_more p t from none a k done)
 
 module _ (p : Program) where
   grows_by : (s n i : ℕ) → i < length p → count p s i ≤ count p (s + n) i

@@ -1,10 +1,11 @@
 -- The rows of actions in the columns of one block, and what they answer.
-use Rattle.std.specs.Prelude.{◌≡◌, ℕ, ◌<◌, Bool, true, false, List, length, get_or, slice_index, slice_get, Some, None, ◌↔◌}
+use Rattle.std.specs.Prelude.{◌≡◌, ℕ, ◌+◌, ◌<◌, ◌≤◌, Bool, true, false, List, length, get_or, slice_index, slice_get, Some, None, ◌↔◌}
 use Rattle.fleet_model.specs.declared.program.ActionId.{ActionId}
 use Rattle.fleet_model.specs.Program.{Program, total_moves}
-use Rattle.fleet_model.specs.Chain.{Reaches}
+use Rattle.fleet_model.specs.Chain.{IsAction, DirectlyNeeds, Reaches}
 use Rattle.fleet_rows.specs.Rows.{IsColumn}
 use Rattle.fleet_rows.specs.Places.{ArePlaces, action_place}
+use Rattle.fleet_rows.specs.Order.{IsOrder}
 use Rattle.fleet_rows.specs.Takers.{AreNoted}
 use Rattle.fleet_rows.specs.Kept.{IsSound, IsKept, IsLast, count_in, mark_of}
 use Rattle.fleet_rows.specs.declared.columns.Columns.{Columns}
@@ -16,11 +17,13 @@ use Rattle.fleet_rows.specs.declared.questions.Question.{Question}
 abbrev pub HasColumn : Columns → ℕ → ℕ → Type 0
 HasColumn columns j k = get_or columns.of_agent.items j None ≡ Some k
 
--- the places and the last takers of the program's actions, and columns of its agents, no two in one
+-- the places, the last takers and the order of the program's actions, and columns of its agents, no two in one
 pub record AreBlock (p : Program) (b : Block) : Type 0 where
   pub places : ArePlaces p b.places.firsts.items
   pub all : length b.lasts.items ≡ total_moves p
   pub noted : AreNoted p b.places.firsts.items b.ticks b.lasts.items
+  pub order : IsOrder p b.order
+  pub ticks : length b.order.ends.items ≡ b.ticks + 1
   pub agents : length b.columns.of_agent.items ≡ length p
   pub within : (j k : ℕ) → HasColumn b.columns j k → k < b.columns.width
   pub apart : (i j k : ℕ) → HasColumn b.columns i k → HasColumn b.columns j k → i ≡ j
@@ -40,6 +43,14 @@ pub record AreKept (p : Program) (b : Block) (m : KeptRows) : Type 0 where
 pub record HasRow (p : Program) (b : Block) (m : KeptRows) (a : ActionId) : Type 0 where
   pub kept : IsKept m (action_place b.places.firsts.items a)
   pub counts : (j k : ℕ) → HasColumn b.columns j k → IsColumn p a j (count_in m (mark_of m (action_place b.places.firsts.items a)) k)
+
+-- the row of the action can be made: those of all that it directly needs are kept, and it needs no later action of its agent
+pub record CanMakeRow (p : Program) (b : Block) (m : KeptRows) (a : ActionId) : Type 0 where
+  pub block : AreBlock p b
+  pub kept : AreKept p b m
+  pub action : IsAction p a
+  pub needed : (x : ActionId) → IsAction p x → DirectlyNeeds p a x → HasRow p b m x
+  pub later : (c : ℕ) → Reaches p (record { agent = a.agent; number = c }) a → c ≤ a.number
 
 -- the flag says whether no chain begins with the first action and ends with the last
 abbrev pub IsAnswer : Program → Question → Bool → Type 0

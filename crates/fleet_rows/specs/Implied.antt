@@ -6,11 +6,8 @@ use Rattle.fleet_model.specs.Program.{Program, actions_of, awaits_of, total_move
 use Rattle.fleet_model.specs.Chain.{IsAction, DirectlyNeeds, Reaches, awaited}
 use Rattle.fleet_rows.specs.Places.{ArePlaces, action_place}
 use Rattle.fleet_rows.specs.Block.{HasColumn}
-use Rattle.fleet_rows.specs.Pass.{AreRowsAt}
 use Rattle.fleet_rows.specs.declared.columns.Columns.{Columns}
-use Rattle.fleet_rows.specs.declared.block.Block.{Block}
 use Rattle.fleet_rows.specs.declared.await_places.AwaitPlaces.{AwaitPlaces}
-use Rattle.fleet_rows.specs.declared.implied_pass.ImpliedPass.{ImpliedPass}
 use Rattle.fleet_rows.specs.declared.implied.ImpliedAwaits.{ImpliedAwaits}
 
 -- the awaited action begins a chain that ends with another action that a directly needs
@@ -75,17 +72,17 @@ AreToldOf p columns Done flags =
     (a : ActionId) → IsAction p a → Done a → (k c : ℕ) (w : Await) → slice_get (awaits_of p a.agent a.number) k ≡ Some w → HasColumn columns w.agent c
     → IsTold p a w (get_or flags (first_await p a + k) false)
 
+-- and so of all actions of the program
+abbrev pub AreAllToldIn : Program → Columns → List Bool → Type 0
+AreAllToldIn p columns flags =
+    (a : ActionId) → IsAction p a → (k c : ℕ) (w : Await) → slice_get (awaits_of p a.agent a.number) k ≡ Some w → HasColumn columns w.agent c
+    → IsTold p a w (get_or flags (first_await p a + k) false)
+
 -- the flags of awaits of agents without a column are as before
 abbrev pub AreLeft : Program → Columns → List Bool → List Bool → Type 0
 AreLeft p columns old new =
     (a : ActionId) → IsAction p a → (k : ℕ) (w : Await) → slice_get (awaits_of p a.agent a.number) k ≡ Some w → get_or columns.of_agent.items w.agent None ≡ None
     → get_or new (first_await p a + k) false ≡ get_or old (first_await p a + k) false
-
--- where a pass stands once these actions are finished
-pub record IsFlaggedTo (p : Program) (b : Block) (Done : ActionId → Type 0) (flags : List Bool) (pass : ImpliedPass) : Type 0 where
-  pub room : length pass.row.items ≡ b.columns.width
-  pub rows : AreRowsAt p b Done pass.tick pass.kept
-  pub told : AreToldOf p b.columns Done flags
 
 -- the flags of all awaits of the program tell it
 abbrev pub AreAllTold : Program → List Bool → Type 0

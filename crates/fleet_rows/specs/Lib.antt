@@ -4,10 +4,13 @@ pub mod Kernels
 pub mod Places
 pub mod Rows
 pub mod Kept
+pub mod Order
 pub mod Takers
 pub mod Block
 pub mod Pass
+pub mod Answering
 pub mod Implied
+pub mod Flagging
 pub mod Pieces
 pub mod Gather
 pub mod Settled

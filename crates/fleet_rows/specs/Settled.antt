@@ -1,15 +1,23 @@
 -- The tick that finishes each action where nobody is held, and awaits that few steps tell.
-use Rattle.std.specs.Prelude.{◌≡◌, ℕ, ◌+◌, ◌-◌, ◌<◌, ◌≤◌, ◌⊎◌, Bool, true, false, List, length, get_or, slice_get, slice_index, Some}
+use Rattle.std.specs.Prelude.{◌≡◌, ℕ, ◌+◌, ◌-◌, ◌<◌, ◌≤◌, ◌⊎◌, Bool, true, false, List, [], length, get_or, slice_get, slice_index, Some}
 use Rattle.fleet_model.specs.declared.program.Await.{Await}
 use Rattle.fleet_model.specs.declared.program.ActionId.{ActionId}
 use Rattle.fleet_model.specs.Program.{Program, awaits_of, total_moves}
 use Rattle.fleet_model.specs.Chain.{IsAction, IsNumbering}
 use Rattle.fleet_rows.specs.Places.{ArePlaces, action_place}
-use Rattle.fleet_rows.specs.Pass.{IsFinishedBy}
+use Rattle.fleet_model.specs.Machine.{run, count_at}
 use Rattle.fleet_rows.specs.Implied.{IsTold, first_await}
 use Rattle.fleet_rows.specs.declared.finish_ticks.FinishTicks.{FinishTicks}
 
 -- ---- the ticks
+
+-- so many ticks finish the action
+abbrev pub IsFinishedBy : Program → ℕ → ActionId → Type 0
+IsFinishedBy p t a = a.number ≤ count_at (run p [] t) a.agent
+
+-- so do so many ticks, or one more where its agent is below this one
+abbrev pub IsDoneMid : Program → ℕ → ℕ → ActionId → Type 0
+IsDoneMid p t from a = IsFinishedBy p t a ⊎ ((a.agent < from) × IsFinishedBy p (t + 1) a)
 
 -- so many ticks finish the action, and one less do not
 pub record IsFinishTick (p : Program) (a : ActionId) (t : ℕ) : Type 0 where

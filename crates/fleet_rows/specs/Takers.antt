@@ -4,14 +4,7 @@ use Rattle.fleet_model.specs.declared.program.ActionId.{ActionId}
 use Rattle.fleet_model.specs.Program.{Program}
 use Rattle.fleet_model.specs.Machine.{run, count_at, is_ready}
 use Rattle.fleet_model.specs.Chain.{IsAction, DirectlyNeeds}
-use Rattle.fleet_machine.specs.Machine.{MachineState, Runs, flag_of}
 use Rattle.fleet_rows.specs.Places.{action_place}
-
--- the machine is where so many ticks and one more without holds lead, and the last one moved who was ready
-pub record IsTicked (p : Program) (m : MachineState) (t : ℕ) : Type 0 where
-  pub runs : Runs p m
-  pub here : m.configuration ≡ run p [] (t + 1)
-  pub moved : (i : ℕ) → i < length p → flag_of m.moving i ≡ is_ready p (run p [] t) i
 
 -- no entry has become less
 abbrev pub AreRaised : List ℕ → List ℕ → Type 0

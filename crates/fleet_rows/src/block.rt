@@ -3,27 +3,28 @@
 ghost use Rattle.std.specs.Prelude.{◌≡◌, ◌≢◌, ◌+◌, ◌<◌, ◌≤◌, ℕ, length, get_or, slice_index, slice_get, Some, None, IfOk};
 ghost use Rattle.fleet_model.specs.Program.{moves, awaits_of, AreInRange};
 ghost use Rattle.fleet_model.specs.declared.program.Await.{Await};
-ghost use Rattle.fleet_model.specs.Chain.{IsAction, DirectlyNeeds, Reaches, awaited};
+ghost use Rattle.fleet_model.specs.Chain.{IsAction, awaited};
 ghost use Rattle.fleet_rows.specs.Rows.{IsPart};
-ghost use Rattle.fleet_rows.specs.Block.{HasColumn, AreBlock, IsRowOf, AreKept, HasRow};
+ghost use Rattle.fleet_rows.specs.Block.{HasColumn, AreBlock, IsRowOf, AreKept, HasRow, CanMakeRow};
 
 use crate::action_places::ActionPlaces;
 use crate::columns::Columns;
 use crate::due_rows::DueRows;
+use crate::finish_order::FinishOrder;
 use crate::kept_rows::KeptRows;
 use crate::takers::last_takers;
 use fleet_model::{ActionId, OutOfMemory, ProgramView};
 use std::alloc::Global;
 
-/// Where the actions stand, the last of so many ticks that takes each, which are due after each tick, the most rows that are
-/// kept at once, and their columns.
+/// Where the actions stand, the last of so many ticks that takes each, the order in which they finish, which are due after each
+/// tick, and the columns of their rows.
 #[derive(Drop)]
 pub(crate) struct Block {
     pub(crate) places: ActionPlaces,
     pub(crate) ticks: u32,
     pub(crate) lasts: Vec<u32>,
+    pub(crate) order: FinishOrder,
     pub(crate) due: DueRows,
-    pub(crate) rows: usize,
     pub(crate) columns: Columns,
 }
 
@@ -42,19 +43,18 @@ impl Block {
         let places = ActionPlaces::of(alloc, program)?;
         let takers = last_takers(alloc, program, &places, ticks)?;
         let due = DueRows::of(alloc, &takers.lasts, ticks)?;
-        let rows = takers.most_rows(&due);
         Ok(Block {
             places,
             ticks,
             lasts: takers.lasts,
+            order: takers.order,
             due,
-            rows,
             columns: Columns::none(alloc, program.agents())?,
         })
     }
 }
 
-/// Makes the row of an action, where the rows of all that it directly needs are kept.
+/// Makes the row of an action.
 pub(crate) fn make_row<P: ProgramView>(
     program: &P,
     block: &Block,
@@ -62,15 +62,9 @@ pub(crate) fn make_row<P: ProgramView>(
     row: &mut [u32],
     action: ActionId,
 )
-    requires block { AreBlock (P.program program.now) block.now }
-    requires kept { AreKept (P.program program.now) block.now kept.now }
-    requires row { length row.old ≡ block.now.columns.width }
     requires range { AreInRange (P.program program.now) }
-    requires action { IsAction (P.program program.now) action }
-    requires needed { (x : ActionId) → IsAction (P.program program.now) x
-        → DirectlyNeeds (P.program program.now) action x → HasRow (P.program program.now) block.now kept.now x }
-    requires later { (c : ℕ) → Reaches (P.program program.now) (record { agent = action.agent; number = c }) action
-        → c ≤ action.number }
+    requires can { CanMakeRow (P.program program.now) block.now kept.now action }
+    requires row { length row.old ≡ block.now.columns.width }
     ensures { IsRowOf (P.program program.now) block.now.columns action row.new }
 {
     let _ = program.agents();

@@ -5,9 +5,8 @@ ghost use Rattle.fleet_model.specs.Program.{AreInRange, total_moves};
 ghost use Rattle.fleet_model.specs.Machine.{IsFinish};
 ghost use Rattle.fleet_model.specs.Chain.{IsAction};
 ghost use Rattle.fleet_rows.specs.Places.{ArePlaces};
-ghost use Rattle.fleet_rows.specs.Takers.{IsTicked};
-ghost use Rattle.fleet_rows.specs.Pass.{IsFinishedBy};
-ghost use Rattle.fleet_rows.specs.Settled.{AreFinishTicks, AreTicks, finish_tick};
+ghost use Rattle.fleet_rows.specs.Order.{IsTicked};
+ghost use Rattle.fleet_rows.specs.Settled.{IsFinishedBy, AreFinishTicks, AreTicks, finish_tick};
 
 use crate::action_places::ActionPlaces;
 use fleet_machine::Machine;

@@ -1,6 +1,6 @@
 //! Awaits that others imply.
 
-ghost use Rattle.std.specs.Prelude.{◌≡◌, ◌<◌, ℕ, [], None, Some, length, slice_get, IfOk, OnOk};
+ghost use Rattle.std.specs.Prelude.{◌≡◌, ◌<◌, ℕ, [], None, Some, length, slice_get, IfOk};
 ghost use Rattle.fleet_model.specs.declared.program.Await.{Await};
 ghost use Rattle.fleet_model.specs.Program.{AreInRange, awaits_of, total_awaits};
 ghost use Rattle.fleet_model.specs.Machine.{IsFinish};
@@ -12,7 +12,7 @@ ghost use Rattle.fleet_rows.specs.Settled.{AreSettled};
 use crate::await_places::AwaitPlaces;
 use crate::block::Block;
 use crate::columns::Columns;
-use crate::implied_pass::flag_implied;
+use crate::flagging::flag_implied;
 use crate::questions::{columns_at_once, is_any};
 use crate::settled::settle_all;
 use fleet_model::{ActionId, Await, OutOfMemory, ProgramView, total_awaits};
@@ -59,63 +59,64 @@ pub fn implied_awaits<P: ProgramView>(
     requires finish { IsFinish (P.program program.now) [] ticks }
     ensures { IfOk result (AreImplied (P.program program.now)) }
 {
-    let awaits = AwaitPlaces::of(alloc, program)?;
-    let mut flags = vec![in alloc; false; total_awaits(program) as usize]?;
-    tell_all(alloc, program, ticks, &awaits, &mut flags)?;
-    Ok(ImpliedAwaits {
-        places: awaits,
-        flags,
-    })
+    let places = AwaitPlaces::of(alloc, program)?;
+    let flags = vec![in alloc; false; total_awaits(program) as usize]?;
+    let flags = tell_all(alloc, program, ticks, &places, flags)?;
+    Ok(ImpliedAwaits { places, flags })
 }
 
-/// Flags the awaits that others imply: those that few steps tell, and then, where there are others, those of their agents.
+/// The flags of awaits that others imply: of those that few steps tell, and then, where there are others, of those of their agents.
 fn tell_all<P: ProgramView>(
     alloc: Global,
     program: &P,
     ticks: u32,
-    awaits: &AwaitPlaces,
-    flags: &mut [bool],
-) -> Result<(), OutOfMemory>
+    places: &AwaitPlaces,
+    flags: Vec<bool>,
+) -> Result<Vec<bool>, OutOfMemory>
     requires range { AreInRange (P.program program.now) }
-    requires awaits { AreAwaitPlaces (P.program program.now) awaits.now }
+    requires places { AreAwaitPlaces (P.program program.now) places.now }
     requires finish { IsFinish (P.program program.now) [] ticks }
-    requires flags { length flags.old ≡ total_awaits (P.program program.now) }
-    ensures { OnOk result (AreAllTold (P.program program.now) flags.new) }
+    requires flags { length flags.items ≡ total_awaits (P.program program.now) }
+    ensures all { IfOk result (λ flags. length flags.items ≡ total_awaits (P.program program.now)) }
+    ensures told { IfOk result (λ flags. AreAllTold (P.program program.now) flags.items) }
 {
-    let asked = settle_all(alloc, program, ticks, awaits, flags)?;
+    let mut flags = flags;
+    let asked = settle_all(alloc, program, ticks, places, &mut flags)?;
     if !is_any(&asked) {
-        return Ok(());
+        return Ok(flags);
     }
     let block = Block::of(alloc, program, ticks)?;
-    flag_all(alloc, program, block, awaits, &asked, flags)
+    flag_all(alloc, program, block, places, &asked, flags)
 }
 
-/// Flags the awaits of the asked agents block by block, each with so many columns as there is room for.
+/// The flags of the awaits of the asked agents, block by block, each with so many columns as there is room for.
 fn flag_all<P: ProgramView>(
     alloc: Global,
     program: &P,
     block: Block,
-    awaits: &AwaitPlaces,
+    places: &AwaitPlaces,
     asked: &[bool],
-    flags: &mut [bool],
-) -> Result<(), OutOfMemory>
+    flags: Vec<bool>,
+) -> Result<Vec<bool>, OutOfMemory>
     requires range { AreInRange (P.program program.now) }
     requires block { AreBlock (P.program program.now) block }
-    requires awaits { AreAwaitPlaces (P.program program.now) awaits.now }
+    requires places { AreAwaitPlaces (P.program program.now) places.now }
     requires finish { IsFinish (P.program program.now) [] block.ticks }
-    requires flags { length flags.old ≡ total_awaits (P.program program.now) }
+    requires flags { length flags.items ≡ total_awaits (P.program program.now) }
     requires asked { length asked.now ≡ length (P.program program.now) }
-    requires settled { AreSettled (P.program program.now) asked.now flags.old }
-    ensures { OnOk result (AreAllTold (P.program program.now) flags.new) }
+    requires settled { AreSettled (P.program program.now) asked.now flags.items }
+    ensures all { IfOk result (λ flags. length flags.items ≡ total_awaits (P.program program.now)) }
+    ensures told { IfOk result (λ flags. AreAllTold (P.program program.now) flags.items) }
 {
     let mut block = block;
+    let mut flags = flags;
     let most = columns_at_once(&block);
     let agents = program.agents();
     let mut from = 0;
     while from < agents {
         block.columns = Columns::choose(alloc, asked, from, most)?;
-        flag_implied(alloc, program, &block, awaits, flags)?;
+        flags = flag_implied(alloc, program, &block, places, flags)?;
         from = block.columns.end;
     }
-    Ok(())
+    Ok(flags)
 }

@@ -4,10 +4,10 @@
 ghost use Rattle.std.specs.Prelude.{◌≡◌, ◌≢◌, ◌+◌, ◌≤◌, ◌<◌, ℕ, false, nat_le, length, max, get_or, slice_index, slice_get, Some, None};
 ghost use Rattle.fleet_model.specs.Program.{awaits_of, total_awaits, AreInRange};
 ghost use Rattle.fleet_model.specs.declared.program.Await.{Await};
-ghost use Rattle.fleet_model.specs.Chain.{IsAction, DirectlyNeeds, Reaches, awaited};
+ghost use Rattle.fleet_model.specs.Chain.{IsAction, awaited};
 ghost use Rattle.fleet_rows.specs.Rows.{IsPart};
 ghost use Rattle.fleet_rows.specs.Kept.{IsSound, IsKept, count_in, mark_of};
-ghost use Rattle.fleet_rows.specs.Block.{HasColumn, AreBlock, IsRowOf, AreKept, HasRow};
+ghost use Rattle.fleet_rows.specs.Block.{HasColumn, AreBlock, IsRowOf, AreKept, HasRow, CanMakeRow};
 ghost use Rattle.fleet_rows.specs.Implied.{IsJoined, OfOthers, AreOthers, AreAwaitPlaces, AreFlagged};
 
 use crate::await_places::AwaitPlaces;
@@ -24,13 +24,9 @@ pub(crate) fn others_row<P: ProgramView>(
     row: &mut [u32],
     action: ActionId,
 )
-    requires block { AreBlock (P.program program.now) block.now }
-    requires kept { AreKept (P.program program.now) block.now kept.now }
-    requires row { length row.old ≡ block.now.columns.width }
     requires range { AreInRange (P.program program.now) }
-    requires action { IsAction (P.program program.now) action }
-    requires needed { (x : ActionId) → IsAction (P.program program.now) x
-        → DirectlyNeeds (P.program program.now) action x → HasRow (P.program program.now) block.now kept.now x }
+    requires can { CanMakeRow (P.program program.now) block.now kept.now action }
+    requires row { length row.old ≡ block.now.columns.width }
     ensures { AreOthers (P.program program.now) block.now.columns action row.new }
 {
     let _ = program.agents();
@@ -47,16 +43,10 @@ pub(crate) fn whole_row<P: ProgramView>(
     row: &mut [u32],
     action: ActionId,
 )
-    requires block { AreBlock (P.program program.now) block.now }
-    requires kept { AreKept (P.program program.now) block.now kept.now }
-    requires row { length row.old ≡ block.now.columns.width }
     requires range { AreInRange (P.program program.now) }
-    requires action { IsAction (P.program program.now) action }
+    requires can { CanMakeRow (P.program program.now) block.now kept.now action }
+    requires row { length row.old ≡ block.now.columns.width }
     requires others { AreOthers (P.program program.now) block.now.columns action row.old }
-    requires needed { (x : ActionId) → IsAction (P.program program.now) x
-        → DirectlyNeeds (P.program program.now) action x → HasRow (P.program program.now) block.now kept.now x }
-    requires later { (c : ℕ) → Reaches (P.program program.now) (record { agent = action.agent; number = c }) action
-        → c ≤ action.number }
     ensures { IsRowOf (P.program program.now) block.now.columns action row.new }
 {
     let _ = program.agents();

@@ -2,21 +2,23 @@
 #![tactic(auto)]
 
 mod action_places;
+mod answering;
 mod await_places;
 mod block;
 mod columns;
 mod due_rows;
+mod finish_order;
 mod finish_ticks;
+mod flagging;
 mod gather;
 mod implied;
-mod implied_pass;
 mod implied_row;
 mod kept_rows;
 mod kernels;
 mod near;
-mod pass;
 mod piece;
 mod questions;
+mod row_pass;
 mod settled;
 mod takers;
 

@@ -1,15 +1,15 @@
 //! Questions for chains of needs, and their answers.
 
-ghost use Rattle.std.specs.Prelude.{◌≡◌, ◌⊎◌, ◌<◌, ◌≤◌, ℕ, [], true, false, length, get_or, slice_get, Some, None, All, IfOk, OnOk};
+ghost use Rattle.std.specs.Prelude.{◌≡◌, ◌⊎◌, ◌<◌, ◌≤◌, ℕ, [], true, false, length, get_or, slice_get, Some, None, All, IfOk};
 ghost use Rattle.fleet_model.specs.Program.{AreInRange};
 ghost use Rattle.fleet_model.specs.Machine.{IsFinish};
 ghost use Rattle.fleet_rows.specs.Asked.{AreQuestions, AreAnswers};
 ghost use Rattle.fleet_rows.specs.Block.{AreBlock, IsAnswer};
 
+use crate::answering::answer;
 use crate::block::Block;
 use crate::columns::Columns;
 use crate::near::asked_agents;
-use crate::pass::answer;
 use fleet_model::{ActionId, MAX_AGENTS, OutOfMemory, ProgramView};
 use std::alloc::Global;
 
@@ -33,14 +33,13 @@ pub fn unreached<P: ProgramView>(
     requires questions { AreQuestions (P.program program.now) questions.now }
     ensures { IfOk result (λ flags. AreAnswers (P.program program.now) questions.now flags.items) }
 {
-    let mut flags = vec![in alloc; false; questions.len()]?;
+    let flags = vec![in alloc; false; questions.len()]?;
     let asked = asked_agents(alloc, program, questions)?;
     if !is_any(&asked) {
         return Ok(flags);
     }
     let block = Block::of(alloc, program, ticks)?;
-    answer_all(alloc, program, block, questions, &asked, &mut flags)?;
-    Ok(flags)
+    answer_all(alloc, program, block, questions, &asked, flags)
 }
 
 /// Whether some agent is flagged.
@@ -55,15 +54,15 @@ pub(crate) fn is_any(asked: &[bool]) -> bool
     false
 }
 
-/// Answers the questions block by block, each with so many columns as there is room for.
+/// The answers to the questions, block by block, each with so many columns as there is room for.
 fn answer_all<P: ProgramView>(
     alloc: Global,
     program: &P,
     block: Block,
     questions: &[Question],
     asked: &[bool],
-    flags: &mut [bool],
-) -> Result<(), OutOfMemory>
+    flags: Vec<bool>,
+) -> Result<Vec<bool>, OutOfMemory>
     requires range { AreInRange (P.program program.now) }
     requires block { AreBlock (P.program program.now) block }
     requires none { (j : ℕ) → get_or block.columns.of_agent.items j None ≡ None }
@@ -71,20 +70,21 @@ fn answer_all<P: ProgramView>(
     requires questions { AreQuestions (P.program program.now) questions.now }
     requires asked { length asked.now ≡ length (P.program program.now) }
     requires flagged { (k : ℕ) (q : Question) → slice_get questions.now k ≡ Some q
-        → (get_or asked.now q.first.agent false ≡ true) ⊎ IsAnswer (P.program program.now) q (get_or flags.old k false) }
-    requires flags { length flags.old ≡ length questions.now }
-    ensures { OnOk result (AreAnswers (P.program program.now) questions.now flags.new) }
+        → (get_or asked.now q.first.agent false ≡ true) ⊎ IsAnswer (P.program program.now) q (get_or flags.items k false) }
+    requires flags { length flags.items ≡ length questions.now }
+    ensures { IfOk result (λ flags. AreAnswers (P.program program.now) questions.now flags.items) }
 {
     let mut block = block;
+    let mut flags = flags;
     let most = columns_at_once(&block);
     let agents = program.agents();
     let mut from = 0;
     while from < agents {
         block.columns = Columns::choose(alloc, asked, from, most)?;
-        answer(alloc, program, &block, questions, flags)?;
+        flags = answer(alloc, program, &block, questions, flags)?;
         from = block.columns.end;
     }
-    Ok(())
+    Ok(flags)
 }
 
 /// There is room for so many counts of rows at once, or for as many as the program has actions: 16 MB.
@@ -97,6 +97,6 @@ const LEAST_COLUMNS: usize = 8;
 pub(crate) fn columns_at_once(block: &Block) -> u16
     ensures { 1 ≤ result }
 {
-    let room = COUNTS.max(block.lasts.len()) / block.rows.max(1);
+    let room = COUNTS.max(block.lasts.len()) / block.order.most_rows(&block.due).max(1);
     room.clamp(LEAST_COLUMNS, MAX_AGENTS) as u16
 }

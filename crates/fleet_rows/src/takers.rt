@@ -1,14 +1,15 @@
-//! The last ticks in which actions are taken by those that directly need them.
+//! The last ticks in which actions are taken by those that directly need them, and the order in which the actions finish.
 
 ghost use Rattle.std.specs.Prelude.{◌≡◌, ◌+◌, ◌<◌, ◌≤◌, ℕ, [], length, slice_index, slice_get, Some, IfOk, OnOk};
 ghost use Rattle.fleet_model.specs.Program.{AreInRange, awaits_of, total_moves};
 ghost use Rattle.fleet_model.specs.declared.program.Await.{Await};
 ghost use Rattle.fleet_model.specs.Chain.{IsAction, awaited};
 ghost use Rattle.fleet_rows.specs.Places.{ArePlaces, action_place};
-ghost use Rattle.fleet_rows.specs.Takers.{IsTicked, AreRaised, AreNoted, IsNotedFor, IsNotedAt};
+ghost use Rattle.fleet_rows.specs.Order.{IsTicked, IsOrder};
+ghost use Rattle.fleet_rows.specs.Takers.{AreRaised, AreNoted, IsNotedFor, IsNotedAt};
 
 use crate::action_places::ActionPlaces;
-use crate::due_rows::DueRows;
+use crate::finish_order::FinishOrder;
 use fleet_machine::Machine;
 use fleet_model::{ActionId, MAX_AGENTS, OutOfMemory, ProgramView, total_moves};
 use std::alloc::Global;
@@ -16,28 +17,12 @@ use std::alloc::Global;
 /// More ticks no run without holds counts.
 const MAX_TICKS: u32 = u32::MAX;
 
-/// For each action, by its place, the last tick in which an action is finished that directly needs it, or 0; and how many actions
-/// each tick finishes. Ticks count from 1.
+/// For each action, by its place, the last tick in which an action is finished that directly needs it, or 0; and the order in which
+/// they finish. Ticks count from 1.
 #[derive(Drop)]
 pub(crate) struct Takers {
     pub(crate) lasts: Vec<u32>,
-    moved: Vec<u16>,
-}
-
-impl Takers {
-    /// How many rows are kept at once at most, where a row is kept from the tick that finishes its action to the last that takes it.
-    pub(crate) fn most_rows(&self, due: &DueRows) -> usize {
-        let mut kept: usize = 0;
-        let mut most = 0;
-        let mut tick: u32 = 0;
-        for &moved in &self.moved {
-            tick = tick.saturating_add(1);
-            kept = kept.saturating_add(usize::from(moved));
-            most = most.max(kept);
-            kept = kept.saturating_sub(due.after(tick).len());
-        }
-        most
-    }
+    pub(crate) order: FinishOrder,
 }
 
 /// The last takers of all actions in so many ticks.
@@ -52,34 +37,43 @@ pub(crate) fn last_takers<P: ProgramView>(
     ensures all { IfOk result (λ takers. length takers.lasts.items ≡ total_moves (P.program program.now)) }
     ensures noted { IfOk result (λ takers.
         AreNoted (P.program program.now) places.now.firsts.items ticks takers.lasts.items) }
+    ensures order { IfOk result (λ takers. IsOrder (P.program program.now) takers.order) }
+    ensures ticks { IfOk result (λ takers. length takers.order.ends.items ≡ ticks + 1) }
 {
-    let mut lasts = vec![in alloc; 0; total_moves(program) as usize]?;
-    let moved = note_ticks(alloc, program, places, ticks, &mut lasts)?;
-    Ok(Takers { lasts, moved })
+    let actions = total_moves(program) as usize;
+    let mut lasts = vec![in alloc; 0; actions]?;
+    let mut order = FinishOrder::new(alloc, actions)?;
+    note_ticks(alloc, program, places, ticks, &mut lasts, &mut order)?;
+    Ok(Takers { lasts, order })
 }
 
-/// Notes what is taken in each of so many ticks, and counts the actions that each finishes.
+/// Notes what is taken in each of so many ticks, and who finishes.
 fn note_ticks<P: ProgramView>(
     alloc: Global,
     program: &P,
     places: &ActionPlaces,
     ticks: u32,
     lasts: &mut [u32],
-) -> Result<Vec<u16>, OutOfMemory>
+    order: &mut FinishOrder,
+) -> Result<(), OutOfMemory>
     requires range { AreInRange (P.program program.now) }
     requires places { ArePlaces (P.program program.now) places.now.firsts.items }
     requires all { length lasts.old ≡ total_moves (P.program program.now) }
-    ensures { OnOk result (AreNoted (P.program program.now) places.now.firsts.items ticks lasts.new) }
+    requires order { IsOrder (P.program program.now) order.old }
+    requires first { length order.old.ends.items ≡ 1 }
+    ensures noted { OnOk result (AreNoted (P.program program.now) places.now.firsts.items ticks lasts.new) }
+    ensures order { OnOk result (IsOrder (P.program program.now) order.new) }
+    ensures ticks { OnOk result (length order.new.ends.items ≡ ticks + 1) }
 {
     let mut machine = Machine::start(alloc, program)?;
     let nobody = [false; MAX_AGENTS];
     let nobody = &nobody[..program.agents() as usize];
-    let mut moved = Vec::new(alloc);
     for t in 0..ticks {
-        moved.push(machine.tick(program, nobody).moved)?;
+        machine.tick(program, nobody);
         note_moved(program, places, &machine, t, lasts);
+        order.add_tick(program, &machine)?;
     }
-    Ok(moved)
+    Ok(())
 }
 
 /// Notes what the actions take that the last tick has finished, which came after so many ticks.

@@ -1,6 +1,5 @@
 use Rattle.std.proofs.Common.{◌≤◌, ◌-◌, length}
-use Rattle.fleet_rows.specs.Pass.{IsDoneMid}
-use Rattle.fleet_rows.specs.Settled.{AreFinishTicks}
+use Rattle.fleet_rows.specs.Settled.{IsDoneMid, AreFinishTicks}
 use Rattle.fleet_rows.proofs.finish_ticks.note_finished.Given as goal
 
 abbrev pub invariant-loop-agent : goal.invariant-loop-agent

@@ -1,8 +1,7 @@
 use Rattle.std.proofs.Common.{◌≡◌, [], ℕ, false, length}
 use Rattle.fleet_model.specs.Machine.{run}
 use Rattle.fleet_machine.specs.Machine.{Runs, flag_of}
-use Rattle.fleet_rows.specs.Pass.{IsFinishedBy}
-use Rattle.fleet_rows.specs.Settled.{AreFinishTicks}
+use Rattle.fleet_rows.specs.Settled.{IsFinishedBy, AreFinishTicks}
 use Rattle.fleet_rows.proofs.finish_ticks.note_ticks.Given as goal
 
 abbrev pub invariant-loop-t : goal.invariant-loop-t

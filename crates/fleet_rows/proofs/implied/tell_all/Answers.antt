@@ -1,8 +1,14 @@
-use Rattle.std.proofs.Common.{◌∙◌, Bool, false, List, get_or, sym, ap}
-use Rattle.fleet_rows.proofs.Flagging.{told_if_none}
+use Rattle.std.proofs.Common.{◌≡◌, ◌∙◌, Bool, false, List, length, get_or, sym, subst, ap, arith}
+use Rattle.std.specs.Prelude.{drop}
+use Rattle.std.proofs.lemmas.List.{take_at}
+use Rattle.fleet_rows.specs.Implied.{AreAllTold}
+use Rattle.fleet_rows.proofs.Flagged.{told_if_none}
 use Rattle.fleet_rows.proofs.implied.tell_all.Goals as goal
 
-pub returns-then-not-is_any : goal.returns-then-not-is_any
-returns-then-not-is_any g c =
-    told_if_none (g.P.ProgramView.program c.args.program.now) c.in_ok-asked.asked.items c.settle_all.new.flags
-    (λ j. ap (λ (xs : List Bool). get_or xs j false) (sym c.deref.ensures.value) ∙ c.is_any.ensures c.if-not-is_any.true j) c.in_ok-asked.ensures.settled
+pub returns-then-not-is_any-clause-told : goal.returns-then-not-is_any-clause-told
+returns-then-not-is_any-clause-told g c =
+    let p = g.P.ProgramView.program c.args.program.now in
+    let new : List Bool = c.settle_all.new.flags in
+    let long : length new ≡ c.args.flags.len = omega (arith, c.settle_all.auto.flags, c.deref_mut.ensures.len) in
+    subst (AreAllTold p) (sym (take_at new (drop (length new) c.args.flags.items) c.args.flags.len long))
+    (told_if_none p c.in_ok-asked.asked.items new (λ j. ap (λ (xs : List Bool). get_or xs j false) (sym c.deref.ensures.value) ∙ c.is_any.ensures c.if-not-is_any.true j) c.in_ok-asked.ensures.settled)

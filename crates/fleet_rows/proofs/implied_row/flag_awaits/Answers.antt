@@ -4,7 +4,7 @@ use Rattle.fleet_model.specs.Program.{awaits_of}
 use Rattle.fleet_model.proofs.Totals.{total_awaits_fit}
 use Rattle.fleet_rows.specs.Implied.{IsTold}
 use Rattle.fleet_rows.proofs.Joining.{awaited_action}
-use Rattle.fleet_rows.proofs.Flagging.{flag_within, told_of, told_more, left_more}
+use Rattle.fleet_rows.proofs.Flagged.{flag_within, told_of, told_more, left_more}
 use Rattle.fleet_rows.proofs.implied_row.flag_awaits.Goals as goal
 
 pub loop-k-init : goal.loop-k-init

@@ -5,9 +5,9 @@ use Rattle.fleet_rows.proofs.implied_row.others_row.Goals as goal
 pub begin_row-requires-clause-before : goal.begin_row-requires-clause-before
 begin_row-requires-clause-before g c = λ some.
     let p = g.P.ProgramView.program c.args.program.now in
-    needed_before p c.args.action c.requires.action (HasRow p c.args.block.now c.args.kept.now) c.requires.needed some
+    needed_before p c.args.action c.requires.can.action (HasRow p c.args.block.now c.args.kept.now) c.requires.can.needed some
 
 pub join_others-requires-clause-awaited : goal.join_others-requires-clause-awaited
 join_others-requires-clause-awaited g c =
     let p = g.P.ProgramView.program c.args.program.now in
-    needed_awaited p c.requires.range c.args.action c.requires.action (HasRow p c.args.block.now c.args.kept.now) c.requires.needed
+    needed_awaited p c.requires.range c.args.action c.requires.can.action (HasRow p c.args.block.now c.args.kept.now) c.requires.can.needed

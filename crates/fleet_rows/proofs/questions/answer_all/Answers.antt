@@ -1,5 +1,5 @@
 use Rattle.std.proofs.Common.{◌<◌, length, ◌∙◌, arith}
-use Rattle.fleet_rows.proofs.Answering.{answered_to, known_on, question_at}
+use Rattle.fleet_rows.proofs.Answered.{answered_to, known_on, question_at}
 use Rattle.fleet_rows.proofs.questions.answer_all.Goals as goal
 
 pub answer-requires-clause-block : goal.answer-requires-clause-block
@@ -7,6 +7,8 @@ answer-requires-clause-block g c = record {
   places = c.loop-from.invariant.places;
   all = c.loop-from.invariant.all;
   noted = c.loop-from.invariant.noted;
+  order = c.loop-from.invariant.order;
+  ticks = c.loop-from.invariant.ticks;
   agents = c.in_ok-block.ensures.agents ∙ c.requires.asked;
   within = c.in_ok-block.ensures.within;
   apart = c.in_ok-block.ensures.apart;
@@ -14,18 +16,21 @@ answer-requires-clause-block g c = record {
 
 pub loop-from-preserved : goal.loop-from-preserved
 loop-from-preserved g c = record {
-  answered = answered_to (g.P.ProgramView.program c.args.program.now) c.args.asked.now c.loop-from.from c.in_ok-block.field-0 c.in_ok-block.ensures c.args.questions.now c.loop-from.flags c.answer.new.flags
-      c.in_ok-answer.ensures c.loop-from.invariant.known c.loop-from.invariant.answered;
-  known = known_on (g.P.ProgramView.program c.args.program.now) c.args.asked.now c.in_ok-block.field-0 c.args.questions.now c.loop-from.flags c.answer.new.flags c.in_ok-answer.ensures c.loop-from.invariant.known;
+  answered = answered_to (g.P.ProgramView.program c.args.program.now) c.args.asked.now c.loop-from.from c.in_ok-block.field-0 c.in_ok-block.ensures c.args.questions.now c.loop-from.flags.items c.in_ok-flags.flags.items
+      c.in_ok-flags.ensures c.loop-from.invariant.known c.loop-from.invariant.answered;
+  known = known_on (g.P.ProgramView.program c.args.program.now) c.args.asked.now c.in_ok-block.field-0 c.args.questions.now c.loop-from.flags.items c.in_ok-flags.flags.items c.in_ok-flags.ensures c.loop-from.invariant.known;
+  all_flags = c.in_ok-flags.ensures.all ∙ c.loop-from.invariant.all_flags;
   places = c.loop-from.invariant.places;
   all = c.loop-from.invariant.all;
   noted = c.loop-from.invariant.noted;
+  order = c.loop-from.invariant.order;
+  ticks = c.loop-from.invariant.ticks;
   finish = c.loop-from.invariant.finish;
 }
 
 pub returns : goal.returns
 returns g c = record {
-  all = omega (arith, c.loop-from.auto.flags, c.requires.flags);
+  all = c.loop-from.invariant.all_flags;
   each = λ k q e.
       let p = g.P.ProgramView.program c.args.program.now in
       let agent : q.first.agent < length p = (question_at p c.args.questions.now c.requires.questions.each k q e).agent in

@@ -1,16 +1,14 @@
-use Rattle.std.proofs.Common.{◌≡◌, Bool, true, false, List, length, get_or, sym, subst, ◌∙◌, ap, arith, inl, inr}
-use Rattle.std.specs.Prelude.{drop}
-use Rattle.std.proofs.lemmas.List.{take_at, length-replicate}
-use Rattle.fleet_rows.specs.Asked.{AreAnswers}
-use Rattle.fleet_rows.proofs.Answering.{near_answer, none_asked, none_flagged_at}
+use Rattle.std.proofs.Common.{◌≡◌, Bool, true, false, List, length, get_or, sym, subst, ◌∙◌, ap, inl, inr}
+use Rattle.std.proofs.lemmas.List.{length-replicate}
+use Rattle.fleet_rows.proofs.Answered.{near_answer, none_asked, none_flagged_at}
 use Rattle.fleet_rows.proofs.questions.unreached.Goals as goal
 
 pub answer_all-requires-clause-flagged : goal.answer_all-requires-clause-flagged
 answer_all-requires-clause-flagged g c = λ k q e.
     elim (c.in_ok-asked.ensures.flagged k q e) [
       | inl set ↦ inl (subst (λ (xs : List Bool). get_or xs q.first.agent false ≡ true) (sym c.deref-2.ensures.value) set)
-      | inr near ↦ inr (near_answer (g.P.ProgramView.program c.args.program.now) q (get_or c.deref_mut.result.now k false)
-          (ap (λ (xs : List Bool). get_or xs k false) (c.deref_mut.ensures.value ∙ c.in_ok-flags.ensures.items_if_clones_equal (λ y same. same)) ∙ none_flagged_at (length c.args.questions.now) k) near)
+      | inr near ↦ inr (near_answer (g.P.ProgramView.program c.args.program.now) q (get_or c.in_ok-flags.flags.items k false)
+          (ap (λ (xs : List Bool). get_or xs k false) (c.in_ok-flags.ensures.items_if_clones_equal (λ y same. same)) ∙ none_flagged_at (length c.args.questions.now) k) near)
     ]
 
 pub returns-then-not-is_any : goal.returns-then-not-is_any
@@ -20,9 +18,3 @@ returns-then-not-is_any g c =
     (λ k. ap (λ (xs : List Bool). get_or xs k false) (sym c.deref.ensures.value) ∙ c.is_any.ensures c.if-not-is_any.true k)
     (ap (λ (xs : List Bool). length xs) (c.in_ok-flags.ensures.items_if_clones_equal (λ y same. same)) ∙ length-replicate (length c.args.questions.now) false)
     (λ k. ap (λ (xs : List Bool). get_or xs k false) (c.in_ok-flags.ensures.items_if_clones_equal (λ y same. same)) ∙ none_flagged_at (length c.args.questions.now) k)
-
-pub returns : goal.returns
-returns g c =
-    let p = g.P.ProgramView.program c.args.program.now in
-    let long : length c.answer_all.new.flags ≡ c.in_ok-flags.flags.len = omega (arith, c.answer_all.auto.flags, c.deref_mut.ensures.len) in
-    subst (AreAnswers p c.args.questions.now) (sym (take_at c.answer_all.new.flags (drop (length c.answer_all.new.flags) c.in_ok-flags.flags.items) c.in_ok-flags.flags.len long)) c.in_ok-answer_all.ensures

@@ -6,7 +6,7 @@ use Rattle.fleet_model.specs.declared.program.Await.{Await}
 use Rattle.fleet_model.specs.Program.{awaits_of}
 use Rattle.fleet_model.proofs.Totals.{total_awaits_fit}
 use Rattle.fleet_rows.specs.Settled.{IsSettled, AreMoreAsked}
-use Rattle.fleet_rows.proofs.Flagging.{flag_within}
+use Rattle.fleet_rows.proofs.Flagged.{flag_within}
 use Rattle.fleet_rows.proofs.Joining.{awaited_action}
 use Rattle.fleet_rows.proofs.Settling.{some_await, settled_more, told_by, asked_more}
 use Rattle.fleet_rows.proofs.settled.settle_action.Goals as goal

@@ -2,7 +2,7 @@ use Rattle.std.proofs.Common.{◌≡◌, ◌+◌, ℕ, false, get_or, sym, ap, �
 use Rattle.std.proofs.lemmas.List.{get_or_read}
 use Rattle.fleet_model.proofs.Totals.{total_awaits_fit}
 use Rattle.fleet_rows.specs.Implied.{first_await}
-use Rattle.fleet_rows.proofs.Flagging.{flag_within}
+use Rattle.fleet_rows.proofs.Flagged.{flag_within}
 use Rattle.fleet_rows.proofs.implied.ImpliedAwaits.unimplied.Goals as goal
 
 pub overflow_add-place : goal.overflow_add-place

@@ -1,0 +1,15 @@
+use Rattle.fleet_rows.specs.Order.{IsCounted}
+use Rattle.fleet_rows.proofs.Passing.{rows_freed}
+use Rattle.fleet_rows.proofs.row_pass.run_on.Goals as goal
+
+pub loop-t-preserved : goal.loop-t-preserved
+loop-t-preserved g c =
+    let p = g.P.ProgramView.program c.args.program.now in
+    let b = c.args.block.now in
+    let made = c.in_ok-use_tick.ensures in
+    record {
+      rows = rows_freed p b (IsCounted c.use_tick.new.pass.counts.items) c.loop-t.t c.use_tick.new.pass.kept c.free_rows.new.kept c.requires.block made.rows c.in_ok-free_rows.ensures;
+      counts = made.counts;
+      used = made.used;
+      keeps = g.met.U.RowUse.joined p b c.args.uses.now c.loop-t.uses c.use_tick.new.uses c.loop-t.invariant.keeps made.keeps;
+    }

@@ -1,0 +1,129 @@
+//! Answers of questions for chains of needs, by the rows of a block.
+
+ghost use Rattle.std.specs.Prelude.{◌≡◌, ◌+◌, ◌<◌, ◌≤◌, ◌↔◌, ℕ, [], length, get_or, slice_get, Some, None, All, IsTrue, IfOk};
+ghost use Rattle.fleet_model.specs.Program.{AreInRange};
+ghost use Rattle.fleet_model.specs.Machine.{IsFinish};
+ghost use Rattle.fleet_rows.specs.Asked.{AreQuestions, IsQuestion};
+ghost use Rattle.fleet_rows.specs.Block.{HasColumn, AreBlock, IsRowOf, IsAnswer, AreAnswered};
+ghost use Rattle.fleet_rows.specs.Answering.{IsAsked};
+
+use crate::block::{Block, make_row};
+use crate::questions::Question;
+use crate::row_pass::{RowPass, RowUse, use_rows};
+use fleet_model::{ActionId, OutOfMemory, ProgramView};
+use std::alloc::Global;
+
+/// Questions, a flag for each, and which comes next.
+#[derive(Drop)]
+pub(crate) struct Answering<'a> {
+    questions: &'a [Question],
+    flags: Vec<bool>,
+    next: usize,
+}
+
+/// The flags of the questions, where those whose agents have a column say whether no chain leads from the first action to the last.
+pub(crate) fn answer<P: ProgramView>(
+    alloc: Global,
+    program: &P,
+    block: &Block,
+    questions: &[Question],
+    flags: Vec<bool>,
+) -> Result<Vec<bool>, OutOfMemory>
+    requires block { AreBlock (P.program program.now) block.now }
+    requires range { AreInRange (P.program program.now) }
+    requires finish { IsFinish (P.program program.now) [] block.now.ticks }
+    requires questions { AreQuestions (P.program program.now) questions.now }
+    requires flags { length flags.items ≡ length questions.now }
+    ensures { IfOk result (λ new. AreAnswered (P.program program.now) block.now.columns questions.now flags.items new.items) }
+{
+    let mut answering = Answering {
+        questions,
+        flags,
+        next: 0,
+    };
+    use_rows(alloc, program, block, &mut answering)?;
+    Ok(answering.flags)
+}
+
+impl<'a> RowUse for Answering<'a> {
+    ghost use Rattle.std.specs.Prelude.{refl};
+    ghost use Rattle.fleet_rows.specs.Answering.{IsAnswering, AreOthersLeft, others_same, others_joined};
+
+    ghost used = { IsAnswering };
+
+    ghost keeps = { AreOthersLeft };
+
+    fn use_row<P: ProgramView>(
+        &mut self,
+        program: &P,
+        block: &Block,
+        pass: &RowPass,
+        row: &mut [u32],
+        action: ActionId,
+    ) -> Result<(), OutOfMemory> {
+        make_row(program, block, &pass.kept, row, action);
+        self.answer_next(program, block, row, action);
+        Ok(())
+    }
+
+    ghost same = { others_same };
+
+    ghost joined = { others_joined };
+}
+
+impl<'a> Answering<'a> {
+    /// Answers the next question where it ends with the action, of which this is the row.
+    fn answer_next<P: ProgramView>(
+        &mut self,
+        program: &P,
+        block: &Block,
+        row: &[u32],
+        action: ActionId,
+    )
+        requires block { AreBlock (P.program program.now) block.now }
+        requires questions { All (IsQuestion (P.program program.now)) self.old.questions.now }
+        requires flags { length self.old.flags.items ≡ length self.old.questions.now }
+        requires row { length row.now ≡ block.now.columns.width }
+        requires of { IsRowOf (P.program program.now) block.now.columns action row.now }
+        ensures questions { self.new.questions ≡ self.old.questions }
+        ensures flags { length self.new.flags.items ≡ length self.old.flags.items }
+        ensures asked { IsAsked (P.program program.now) block.now.columns self.old.questions.now action
+            self.old.next self.old.flags.items self.new.flags.items self.new.next }
+    {
+        let next = self.next;
+        if ends_with(self.questions, next, action) {
+            let question = self.questions[next];
+            self.flags[next] = answer_one(program, block, row, question, self.flags[next]);
+            self.next = next + 1;
+        }
+    }
+}
+
+/// Whether there is such a question, and it ends with the action.
+fn ends_with(questions: &[Question], k: usize, action: ActionId) -> bool
+    ensures { IsTrue result ↔ ((q : Question) × (slice_get questions.now k ≡ Some q) × (q.last ≡ action)) }
+{
+    k < questions.len() && questions[k].last == action
+}
+
+/// The answer to a question whose agent has a column, by the row of its last action, or else the flag.
+fn answer_one<P: ProgramView>(
+    program: &P,
+    block: &Block,
+    row: &[u32],
+    question: Question,
+    flag: bool,
+) -> bool
+    requires block { AreBlock (P.program program.now) block.now }
+    requires room { length row.now ≡ block.now.columns.width }
+    requires row { IsRowOf (P.program program.now) block.now.columns question.last row.now }
+    requires question { IsQuestion (P.program program.now) question }
+    ensures answer { (k : ℕ) → HasColumn block.now.columns question.first.agent k → IsAnswer (P.program program.now) question result }
+    ensures none { get_or block.now.columns.of_agent.items question.first.agent None ≡ None → result ≡ flag }
+{
+    let _ = program.agents();
+    match block.columns.of(question.first.agent) {
+        Some(k) => row[usize::from(k)] < question.first.number,
+        None => flag,
+    }
+}

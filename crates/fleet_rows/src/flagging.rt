@@ -1,0 +1,77 @@
+//! Flags of awaits that others imply, by the rows of a block.
+
+ghost use Rattle.std.specs.Prelude.{◌≡◌, ◌<◌, ◌≤◌, ℕ, [], length, IfOk};
+ghost use Rattle.fleet_model.specs.Program.{AreInRange, total_awaits};
+ghost use Rattle.fleet_model.specs.Machine.{IsFinish};
+ghost use Rattle.fleet_rows.specs.Block.{AreBlock};
+ghost use Rattle.fleet_rows.specs.Implied.{AreAwaitPlaces, AreAllToldIn, AreLeft};
+
+use crate::await_places::AwaitPlaces;
+use crate::block::Block;
+use crate::implied_row::{flag_awaits, others_row, whole_row};
+use crate::row_pass::{RowPass, RowUse, use_rows};
+use fleet_model::{ActionId, OutOfMemory, ProgramView};
+use std::alloc::Global;
+
+/// The flags of all awaits, which stand at their places.
+#[derive(Drop)]
+pub(crate) struct Flagging<'a> {
+    places: &'a AwaitPlaces,
+    flags: Vec<bool>,
+}
+
+/// The flags of the awaits, where those of agents that have a column say whether others imply the await.
+pub(crate) fn flag_implied<P: ProgramView>(
+    alloc: Global,
+    program: &P,
+    block: &Block,
+    places: &AwaitPlaces,
+    flags: Vec<bool>,
+) -> Result<Vec<bool>, OutOfMemory>
+    requires block { AreBlock (P.program program.now) block.now }
+    requires places { AreAwaitPlaces (P.program program.now) places.now }
+    requires range { AreInRange (P.program program.now) }
+    requires finish { IsFinish (P.program program.now) [] block.now.ticks }
+    requires flags { length flags.items ≡ total_awaits (P.program program.now) }
+    ensures all { IfOk result (λ new. length new.items ≡ total_awaits (P.program program.now)) }
+    ensures told { IfOk result (λ new. AreAllToldIn (P.program program.now) block.now.columns new.items) }
+    ensures left { IfOk result (λ new. AreLeft (P.program program.now) block.now.columns flags.items new.items) }
+{
+    let mut flagging = Flagging { places, flags };
+    use_rows(alloc, program, block, &mut flagging)?;
+    Ok(flagging.flags)
+}
+
+impl<'a> RowUse for Flagging<'a> {
+    ghost use Rattle.fleet_rows.specs.Flagging.{IsFlagging, AreFlagsLeft, left_same, left_joined};
+
+    ghost used = { IsFlagging };
+
+    ghost keeps = { AreFlagsLeft };
+
+    /// On the way to the row of the action its awaits are flagged.
+    fn use_row<P: ProgramView>(
+        &mut self,
+        program: &P,
+        block: &Block,
+        pass: &RowPass,
+        row: &mut [u32],
+        action: ActionId,
+    ) -> Result<(), OutOfMemory> {
+        others_row(program, block, &pass.kept, row, action);
+        flag_awaits(
+            program,
+            &block.columns,
+            self.places,
+            row,
+            action,
+            &mut self.flags,
+        );
+        whole_row(program, block, &pass.kept, row, action);
+        Ok(())
+    }
+
+    ghost same = { left_same };
+
+    ghost joined = { left_joined };
+}

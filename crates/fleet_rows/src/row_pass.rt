@@ -1,0 +1,205 @@
+//! A pass over the actions of a program in the order in which they finish where nobody is held: the row of each is made, used, and
+//! kept as long as some action is still to take it.
+
+ghost use Rattle.std.specs.Prelude.{◌≡◌, ◌+◌, ◌<◌, ◌≤◌, ℕ, [], List, length, replicate, set, OnOk};
+ghost use Rattle.fleet_model.specs.Program.{AreInRange};
+ghost use Rattle.fleet_model.specs.Machine.{IsFinish};
+ghost use Rattle.fleet_model.specs.Chain.{IsAction};
+ghost use Rattle.fleet_rows.specs.Block.{AreBlock, IsRowOf, AreKept, CanMakeRow};
+ghost use Rattle.fleet_rows.specs.Kept.{IsSound, IsKept, IsFreed};
+ghost use Rattle.fleet_rows.specs.Places.{action_place};
+ghost use Rattle.fleet_rows.specs.Order.{IsCounted, AreMid, IsNextAction, AreAllCounted};
+ghost use Rattle.fleet_rows.specs.Pass.{AreRowsAt, IsRowTaken};
+
+use crate::block::Block;
+use crate::kept_rows::KeptRows;
+use fleet_model::{ActionId, OutOfMemory, ProgramView};
+use std::alloc::Global;
+
+/// A use of the rows of a block, which come in the order in which the actions finish.
+pub(crate) trait RowUse {
+    ghost use Rattle.std.specs.Prelude.{ℕ, List, length, set, OnOk, ◌≡◌};
+    ghost use Rattle.fleet_model.specs.Program.{Program};
+    ghost use Rattle.fleet_rows.specs.declared.block.Block.{Block};
+
+    /// Where it stands once the rows were used of so many actions of each agent.
+    ghost used: { Program → Block → List ℕ → Self → Type 0 };
+
+    /// What the rows of a block leave as it was.
+    ghost keeps: { Program → Block → Self → Self → Type 0 };
+
+    /// Makes the row of the next action, and uses it.
+    fn use_row<P: ProgramView>(
+        &mut self,
+        program: &P,
+        block: &Block,
+        pass: &RowPass,
+        row: &mut [u32],
+        action: ActionId,
+    ) -> Result<(), OutOfMemory>
+        requires range { AreInRange (P.program program.now) }
+        requires can { CanMakeRow (P.program program.now) block.now pass.now.kept action }
+        requires row { length row.old ≡ block.now.columns.width }
+        requires next { IsNextAction (P.program program.now) pass.now.counts.items action }
+        requires used { used (P.program program.now) block.now pass.now.counts.items self.old }
+        ensures row { OnOk result (IsRowOf (P.program program.now) block.now.columns action row.new) }
+        ensures used { OnOk result (used (P.program program.now) block.now
+            (set pass.now.counts.items action.agent action.number) self.new) }
+        ensures keeps { OnOk result (keeps (P.program program.now) block.now self.old self.new) };
+
+    /// No rows leave all as it was.
+    ghost same: { (p : Program) (b : Block) (s : Self) → keeps p b s s };
+
+    /// What some rows leave as it was and then others, all of them do.
+    ghost joined: { (p : Program) (b : Block) (s t u : Self) → keeps p b s t → keeps p b t u → keeps p b s u };
+}
+
+/// The rows that are kept, and how many actions of each agent are finished.
+#[derive(Drop)]
+pub(crate) struct RowPass {
+    pub(crate) kept: KeptRows,
+    counts: Vec<u32>,
+}
+
+/// Makes and uses the rows of all actions.
+pub(crate) fn use_rows<P: ProgramView, U: RowUse>(
+    alloc: Global,
+    program: &P,
+    block: &Block,
+    uses: &mut U,
+) -> Result<(), OutOfMemory>
+    requires block { AreBlock (P.program program.now) block.now }
+    requires range { AreInRange (P.program program.now) }
+    requires finish { IsFinish (P.program program.now) [] block.now.ticks }
+    requires used { U.used (P.program program.now) block.now (replicate (length (P.program program.now)) 0) uses.old }
+    ensures used { OnOk result ((counts : List ℕ) × AreAllCounted (P.program program.now) counts
+        × U.used (P.program program.now) block.now counts uses.new) }
+    ensures keeps { OnOk result (U.keeps (P.program program.now) block.now uses.old uses.new) }
+{
+    let mut pass = RowPass {
+        kept: KeptRows::new(alloc, &block.lasts, block.columns.width)?,
+        counts: vec![in alloc; 0; usize::from(program.agents())]?,
+    };
+    let mut row = vec![in alloc; 0; usize::from(block.columns.width)]?;
+    run_on(program, block, &mut pass, &mut row, uses)?;
+    Ok(())
+}
+
+/// Passes over all ticks.
+fn run_on<P: ProgramView, U: RowUse>(
+    program: &P,
+    block: &Block,
+    pass: &mut RowPass,
+    row: &mut [u32],
+    uses: &mut U,
+) -> Result<(), OutOfMemory>
+    requires block { AreBlock (P.program program.now) block.now }
+    requires range { AreInRange (P.program program.now) }
+    requires row { length row.old ≡ block.now.columns.width }
+    requires rows { AreRowsAt (P.program program.now) block.now (IsCounted pass.old.counts.items) 0 pass.old.kept }
+    requires counts { AreMid (P.program program.now) 0 0 pass.old.counts.items }
+    requires used { U.used (P.program program.now) block.now pass.old.counts.items uses.old }
+    ensures counts { OnOk result (AreMid (P.program program.now) block.now.ticks 0 pass.new.counts.items) }
+    ensures used { OnOk result (U.used (P.program program.now) block.now pass.new.counts.items uses.new) }
+    ensures keeps { OnOk result (U.keeps (P.program program.now) block.now uses.old uses.new) }
+{
+    for t in 0..block.ticks {
+        use_tick(program, block, t, pass, row, uses)?;
+        free_rows(&mut pass.kept, block.due.after(t + 1), t + 1)?;
+    }
+    Ok(())
+}
+
+/// Makes and uses the rows of the actions that are finished by the tick that comes after so many, and keeps those that are taken.
+fn use_tick<P: ProgramView, U: RowUse>(
+    program: &P,
+    block: &Block,
+    ticks: u32,
+    pass: &mut RowPass,
+    row: &mut [u32],
+    uses: &mut U,
+) -> Result<(), OutOfMemory>
+    requires block { AreBlock (P.program program.now) block.now }
+    requires range { AreInRange (P.program program.now) }
+    requires row { length row.old ≡ block.now.columns.width }
+    requires tick { ticks < block.now.ticks }
+    requires rows { AreRowsAt (P.program program.now) block.now (IsCounted pass.old.counts.items) ticks pass.old.kept }
+    requires counts { AreMid (P.program program.now) ticks 0 pass.old.counts.items }
+    requires used { U.used (P.program program.now) block.now pass.old.counts.items uses.old }
+    ensures rows { OnOk result (AreRowsAt (P.program program.now) block.now (IsCounted pass.new.counts.items) ticks pass.new.kept) }
+    ensures counts { OnOk result (AreMid (P.program program.now) (ticks + 1) 0 pass.new.counts.items) }
+    ensures used { OnOk result (U.used (P.program program.now) block.now pass.new.counts.items uses.new) }
+    ensures keeps { OnOk result (U.keeps (P.program program.now) block.now uses.old uses.new) }
+{
+    let _ = program.agents();
+    for k in block.order.begin(ticks)..block.order.begin(ticks + 1) {
+        let agent = block.order.agent(k);
+        let number = pass.counts[usize::from(agent)] + 1;
+        finish(program, block, pass, row, uses, ActionId { agent, number })?;
+    }
+    Ok(())
+}
+
+/// Makes and uses the row of an action, and keeps it where it is taken.
+fn finish<P: ProgramView, U: RowUse>(
+    program: &P,
+    block: &Block,
+    pass: &mut RowPass,
+    row: &mut [u32],
+    uses: &mut U,
+    action: ActionId,
+) -> Result<(), OutOfMemory>
+    requires range { AreInRange (P.program program.now) }
+    requires can { CanMakeRow (P.program program.now) block.now pass.old.kept action }
+    requires row { length row.old ≡ block.now.columns.width }
+    requires next { IsNextAction (P.program program.now) pass.old.counts.items action }
+    requires not_yet { IsKept pass.old.kept (action_place block.now.places.firsts.items action) → ⊥ }
+    requires used { U.used (P.program program.now) block.now pass.old.counts.items uses.old }
+    ensures taken { OnOk result (IsRowTaken (P.program program.now) block.now action pass.old.kept pass.new.kept) }
+    ensures counts { OnOk result (pass.new.counts.items ≡ set pass.old.counts.items action.agent action.number) }
+    ensures used { OnOk result (U.used (P.program program.now) block.now pass.new.counts.items uses.new) }
+    ensures keeps { OnOk result (U.keeps (P.program program.now) block.now uses.old uses.new) }
+{
+    uses.use_row(program, block, pass, row, action)?;
+    keep_row(program, block, &mut pass.kept, row, action)?;
+    pass.counts[usize::from(action.agent)] = action.number;
+    Ok(())
+}
+
+/// Keeps the row of an action where some tick takes it.
+fn keep_row<P: ProgramView>(
+    program: &P,
+    block: &Block,
+    kept: &mut KeptRows,
+    row: &[u32],
+    action: ActionId,
+) -> Result<(), OutOfMemory>
+    requires block { AreBlock (P.program program.now) block.now }
+    requires room { length row.now ≡ block.now.columns.width }
+    requires row { IsRowOf (P.program program.now) block.now.columns action row.now }
+    requires kept { AreKept (P.program program.now) block.now kept.old }
+    requires action { IsAction (P.program program.now) action }
+    requires not_yet { IsKept kept.old (action_place block.now.places.firsts.items action) → ⊥ }
+    ensures { OnOk result (IsRowTaken (P.program program.now) block.now action kept.old kept.new) }
+{
+    let _ = program.agents();
+    let place = block.places.place(action.agent, action.number);
+    if block.lasts[place] > 0 {
+        kept.keep(place, row)?;
+    }
+    Ok(())
+}
+
+/// Lets the rows of these actions go, where no tick after this one takes them.
+fn free_rows(kept: &mut KeptRows, due: &[u32], tick: u32) -> Result<(), OutOfMemory>
+    requires { IsSound kept.old }
+    ensures { OnOk result (IsFreed tick kept.old kept.new) }
+{
+    for &place in due {
+        let action = place as usize;
+        if action < kept.actions() {
+            kept.release(action, tick)?;
+        }
+    }
+    Ok(())
+}

@@ -1,5 +1,6 @@
 pub mod Compiled
 pub mod Leavings
+pub mod Growing
 pub mod Sweep
 pub mod Told
 pub mod Thinned

@@ -12,6 +12,7 @@ ghost use Rattle.fleet_chains.specs.Reduced.{RunEqually};
 ghost use Rattle.fleet_adg.specs.Sweep.{agent_from};
 
 use crate::fault::CompileFault;
+use crate::growing::Growing;
 use crate::sweep::{actions_of, moves_of};
 use fleet_model::{
     Action, Actions, AgentProgram, Awaits, Deps, MAX_MOVES, MAX_MOVES_IN_ALL, OutOfMemory, Program,
@@ -106,7 +107,7 @@ fn moves_of_all(plan: &Plan) -> u32
 fn agent_programs(
     alloc: Global,
     plan: &Plan,
-    actions: Vec<Actions>,
+    actions: Vec<Growing>,
     stays: u32,
 ) -> Result<Vec<AgentProgram>, OutOfMemory>
     requires { length actions.items ≡ length plan.now }
@@ -119,7 +120,7 @@ fn agent_programs(
         let i = agents.len() as u16;
         let start = plan.cell(i, 0);
         let goal = plan.cell(i, end);
-        let own = with_stays(alloc, list, stays)?;
+        let own = with_stays(alloc, list.into_actions()?, stays)?;
         agents.push(AgentProgram::new(start, goal, own))?;
     }
     Ok(agents)

@@ -1,10 +1,11 @@
 //! Who has left the cells of a map so far.
 
-ghost use Rattle.std.specs.Prelude.{◌≡◌, ◌≢◌, ℕ, [], ◌∷◌, ◌++◌, OnOk, IfOk, not, ◌==◌, filter};
+ghost use Rattle.std.specs.Prelude.{◌≡◌, ◌≢◌, ℕ, [], ◌∷◌, ◌++◌, OnOk, IfOk, not, ◌==◌, filter, option_map, option_to_list};
 ghost use Rattle.fleet_adg.specs.Leavings.{await_for, row_of, kind_of, noted, AreRowsApart};
 
+use crate::growing::{Entry, Growing};
 use crate::row_table::RowTable;
-use fleet_model::{Action, Actions, Await, Awaits, Deps, OutOfMemory, Step};
+use fleet_model::{Action, Await, Awaits, Deps, OutOfMemory, Step};
 use fleet_table::Table;
 use std::alloc::{AllocError, Global};
 
@@ -17,7 +18,7 @@ pub(crate) struct Leaving {
 
 impl Leaving {
     /// To wait for this move.
-    fn as_await(self) -> Await
+    pub(crate) fn as_await(self) -> Await
         ensures { result ≡ await_for self }
     {
         Await {
@@ -71,7 +72,7 @@ impl Leavings {
         place: usize,
         own: u16,
         step: Step,
-        actions: &mut Actions,
+        actions: &mut Growing,
     ) -> Result<(), OutOfMemory>
         requires { AreRowsApart self.now }
         ensures { OnOk result (actions.new ≡ actions.old
@@ -80,15 +81,24 @@ impl Leavings {
         match self {
             Leavings::All(rows) => {
                 let awaits = by_others(alloc, rows.row(place), own)?;
-                actions.push(Action { step, awaits })
+                actions.push_action(Action { step, awaits })
             }
-            Leavings::Last(last) => match last.get(place) {
-                Some(leaving) if leaving.agent != own => {
-                    actions.push_parts(step, &[leaving.as_await()])
-                }
-                _ => actions.push_parts(step, &[]),
-            },
+            Leavings::Last(last) => {
+                let awaited = by_another(last.get(place), own);
+                actions.push(Entry { step, awaited })
+            }
         }
+    }
+}
+
+/// The leaving, unless it is by agent `own`.
+fn by_another(leaving: Option<Leaving>, own: u16) -> Option<Leaving>
+    ensures { option_to_list (option_map await_for result)
+        ≡ filter (λ w. not (w.agent == own)) (option_to_list (option_map await_for leaving)) }
+{
+    match leaving {
+        Some(last) if last.agent != own => leaving,
+        _ => None,
     }
 }
 

@@ -3,6 +3,7 @@
 
 mod compiler;
 mod fault;
+mod growing;
 mod laws;
 mod leavings;
 mod row;

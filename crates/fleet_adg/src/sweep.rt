@@ -9,9 +9,10 @@ ghost use Rattle.fleet_adg.specs.Leavings.{kind_of, AreLeavingsAt};
 ghost use Rattle.fleet_adg.specs.Sweep.{under_way, moves_in, all_actions_by, IsOnMap};
 ghost use Rattle.fleet_plan.specs.UnderWay.{is_under_way};
 
+use crate::growing::Growing;
 use crate::leavings::{Leaving, Leavings};
 use fleet_grid::{Grid, cells_have_places_of_their_own};
-use fleet_model::{Actions, Cell, Deps, Dir, OutOfMemory, Step};
+use fleet_model::{Cell, Deps, Dir, OutOfMemory, Step};
 use fleet_plan::{Checked, Plan};
 use std::alloc::{AllocError, Global};
 
@@ -28,7 +29,7 @@ pub(crate) fn actions_of(
     alloc: Global,
     checked: &Checked<'_>,
     deps: Deps,
-) -> Result<Vec<Actions>, OutOfMemory>
+) -> Result<Vec<Growing>, OutOfMemory>
     ensures { IfOk result (λ actions. actions.items ≡ all_actions_by checked.now.plan deps (steps checked.now.plan)) }
 {
     let plan = checked.plan();
@@ -57,7 +58,7 @@ fn cells_are_on_map(checked: &Checked<'_>)
 }
 
 /// For each agent no action, and room for its moves, and for their awaits where each has at most one.
-fn empty_lists(alloc: Global, plan: &Plan, deps: Deps) -> Result<Vec<Actions>, OutOfMemory>
+fn empty_lists(alloc: Global, plan: &Plan, deps: Deps) -> Result<Vec<Growing>, OutOfMemory>
     ensures { IfOk result (λ actions. actions.items ≡ replicate (length plan.now) []) }
 {
     let mut lists = Vec::with_capacity(alloc, usize::from(plan.agents()))?;
@@ -67,16 +68,14 @@ fn empty_lists(alloc: Global, plan: &Plan, deps: Deps) -> Result<Vec<Actions>, O
     Ok(lists)
 }
 
-fn empty_list(alloc: Global, moves: usize, deps: Deps) -> Result<Actions, OutOfMemory>
+fn empty_list(alloc: Global, moves: usize, deps: Deps) -> Result<Growing, OutOfMemory>
     ensures { IfOk result (λ actions. actions ≡ []) }
 {
     let awaits = match deps {
         Deps::All => 0,
         Deps::Last => moves,
     };
-    let mut actions = Actions::new(alloc);
-    actions.reserve_exact(moves, awaits)?;
-    Ok(actions)
+    Growing::new(alloc, moves, awaits)
 }
 
 /// How many moves agent `i` makes.
@@ -159,7 +158,7 @@ fn note_leavings(
     grid: &Grid,
     time: u32,
     moves: &[Move],
-    actions: &[Actions],
+    actions: &[Growing],
     leavings: &mut Leavings,
 ) -> Result<(), AllocError>
     requires on_map { IsOnMap grid.now plan.now }
@@ -187,7 +186,7 @@ fn add_actions(
     time: u32,
     moves: &[Move],
     leavings: &Leavings,
-    actions: &mut [Actions],
+    actions: &mut [Growing],
 ) -> Result<(), OutOfMemory>
     requires on_map { IsOnMap grid.now plan.now }
     requires time { time ≤ MAX_HORIZON }

@@ -15,6 +15,13 @@ bounds-actions-from c =
     let m = move_at plan c.args.time c.loop-one.one-index c.args.moves.now c.requires.moves c.loop-one-test.true in
     omega (arith, c.from.ensures, m.below, ap length c.requires.actions, length-all_actions_by plan (kind_of c.args.leavings.now) c.args.time)
 
+pub len-requires : goal.len-requires
+len-requires c =
+    let plan = c.args.plan.now in
+    let m = move_at plan c.args.time c.loop-one.one-index c.args.moves.now c.requires.moves c.loop-one-test.true in
+    let short = row_short plan (kind_of c.args.leavings.now) c.args.time c.from.result c.args.actions.now c.index-actions-from.result c.requires.actions (omega (arith, c.from.ensures, m.below)) c.index-actions-from.is in
+    omega (arith, short, c.requires.time)
+
 pub overflow_cast-number : goal.overflow_cast-number
 overflow_cast-number c =
     let plan = c.args.plan.now in

@@ -1,5 +1,5 @@
 -- Awaits that others imply, told by rows of what the action needs.
-use Rattle.std.proofs.Common.{rules, ◌≡◌, ◌≢◌, ℕ, ◌+◌, ◌<◌, ◌≤◌, List, length, get_or, max, map, refl, sym, ap, subst, ◌∙◌, arith, inl, inr, ◌⊎◌}
+use Rattle.std.proofs.Common.{rules, ◌≡◌, ◌≢◌, ℕ, ◌+◌, ◌<◌, ◌≤◌, List, length, get_or, max, map, refl, sym, ap, subst, ◌∙◌, arith, inl, inr}
 use Rattle.std.specs.Prelude.{Contains, slice_get, Some, nat_le}
 use Rattle.std.proofs.lemmas.Bool.{cases_lt, cases_order, leb-true, le-leb}
 use Rattle.std.proofs.lemmas.List.{get_or-map, length-map}
@@ -11,71 +11,26 @@ use Rattle.fleet_model.specs.declared.program.Await.{Await}
 use Rattle.fleet_model.specs.Program.{Program, awaits_of, AreInRange, AreAwaits}
 use Rattle.fleet_model.specs.Chain.{Reaches, awaited}
 use Rattle.fleet_model.proofs.Chains.{Reaches-last}
-use Rattle.fleet_rows.specs.Rows.{IsColumn, IsPart}
-use Rattle.fleet_rows.specs.Implied.{IsImplied, ByOneOf, IsJoined, OfOthers, OfOthersOrFirst, IsTold}
+use Rattle.fleet_rows.specs.Rows.{IsColumn, IsJoined, OfFirst}
+use Rattle.fleet_rows.specs.Implied.{IsImplied, OfOthers, OfOthersOrFirst, IsTold}
+use Rattle.fleet_rows.proofs.Joining.{joined_same, joined_more}
 
 abbrev act : ℕ → ℕ → ActionId
 act j c = record { agent = j; number = c }
 
--- ---- joined awaits
-
 module _ (p : Program) (i b j : ℕ) where
-  At : ℕ → Await → Type 0
-  At k w = slice_get (awaits_of p i (b + 1)) k ≡ Some w
-
-  one_of : (S T : ℕ → Await → Type 0) (x : ActionId) → ((k : ℕ) (w : Await) → slice_get (awaits_of p i (b + 1)) k ≡ Some w → S k w → T k w) → ByOneOf S p x i (b + 1) → ByOneOf T p x i (b + 1)
-  one_of S T x wider r = record { place = r.place; await = r.await; this = wider r.place r.await r.at r.this; at = r.at; reaches = r.reaches }
-
-  pub joined_same : (S T : ℕ → Await → Type 0) (n : ℕ) → IsJoined S p i b j n → ((k : ℕ) (w : Await) → slice_get (awaits_of p i (b + 1)) k ≡ Some w → S k w → T k w)
-      → ((k : ℕ) (w : Await) → slice_get (awaits_of p i (b + 1)) k ≡ Some w → T k w → S k w) → IsJoined T p i b j n
-  joined_same S T n h there back = record {
-    into = λ c f l. elim (h.into c f l) [ inl r ↦ inl r | inr r ↦ inr (one_of S T (act j c) there r) ];
-    own = h.own;
-    awaits = λ c r. h.awaits c (one_of T S (act j c) back r);
-  }
-
-  pub joined_more : (S T : ℕ → Await → Type 0) (n k : ℕ) (w : Await) (u : ℕ) → IsJoined S p i b j n → slice_get (awaits_of p i (b + 1)) k ≡ Some w → IsColumn p (awaited w) j u → T k w
-      → ((m : ℕ) (v : Await) → slice_get (awaits_of p i (b + 1)) m ≡ Some v → S m v → T m v) → ((m : ℕ) (v : Await) → slice_get (awaits_of p i (b + 1)) m ≡ Some v → T m v → S m v ⊎ (m ≡ k))
-      → IsJoined T p i b j (max n u)
-  joined_more S T n k w u h at col this there back = record { into = into; own = λ c r. (let l : c ≤ n = h.own c r in omega arith); awaits = awaits }
-    where
-      into : (c : ℕ) → 1 ≤ c → c ≤ max n u → Reaches p (act j c) (act i b) ⊎ ByOneOf T p (act j c) i (b + 1)
-      into c f l = elim (cases_lt n c) [
-        | inr le ↦ elim (h.into c f le) [ inl r ↦ inl r | inr r ↦ inr (one_of S T (act j c) there r) ]
-        | inl lt ↦ inr (record { place = k; await = w; this = this; at = at; reaches = (col c).1 (f, omega arith) })
-      ]
-
-      some_same : (v w : Await) → Some v ≡ Some w → v ≡ w
-      some_same v w e = search rules
-
-      awaits : (c : ℕ) → ByOneOf T p (act j c) i (b + 1) → c ≤ max n u
-      awaits c r = elim (back r.place r.await r.at r.this) [
-        | inl s ↦ (let le : c ≤ n = h.awaits c (record { place = r.place; await = r.await; this = s; at = r.at; reaches = r.reaches }) in omega arith)
-        | inr e ↦
-            let same : r.await ≡ w = some_same _ _ (sym r.at ∙ ap (slice_get (awaits_of p i (b + 1))) e ∙ at) in
-            let le : c ≤ u = ((col c).0 (subst (λ v. Reaches p (act j c) (awaited v)) same r.reaches)).1 in
-            omega arith
-      ]
-
   -- ---- those of other agents, one after another
-
-  pub others_none : (n : ℕ) → IsColumn p (record { agent = i; number = b }) j n → IsJoined (OfOthers j 0) p i b j n
-  others_none n h = record {
-    into = λ c f l. inl ((h c).1 (f, l));
-    own = λ c r. ((h c).0 r).1;
-    awaits = λ c r. absurd (let l : r.place < 0 = r.this.0 in omega arith);
-  }
 
   pub others_more : (n k : ℕ) (w : Await) (u : ℕ) → IsJoined (OfOthers j k) p i b j n → slice_get (awaits_of p i (b + 1)) k ≡ Some w → w.agent ≢ j → IsColumn p (awaited w) j u
       → IsJoined (OfOthers j (k + 1)) p i b j (max n u)
   others_more n k w u h at other col =
-      joined_more (OfOthers j k) (OfOthers j (k + 1)) n k w u h at col (omega arith, other)
+      joined_more p i b j (OfOthers j k) (OfOthers j (k + 1)) n k w u h at col (omega arith, other)
       (λ m v a s. (let l : m < k = s.0 in omega arith, s.1))
       (λ m v a t. elim (cases_lt m k) [ inl l ↦ inl (l, t.1) | inr g ↦ inr (let l : m < k + 1 = t.0 in omega arith) ])
 
   pub others_same : (n k : ℕ) (w : Await) → IsJoined (OfOthers j k) p i b j n → slice_get (awaits_of p i (b + 1)) k ≡ Some w → w.agent ≡ j → IsJoined (OfOthers j (k + 1)) p i b j n
   others_same n k w h at same =
-      joined_same (OfOthers j k) (OfOthers j (k + 1)) n h
+      joined_same p i b j (OfOthers j k) (OfOthers j (k + 1)) n h
       (λ m v a s. (let l : m < k = s.0 in omega arith, s.1))
       (λ m v a t. elim (cases_lt m k) [
         | inl l ↦ (l, t.1)
@@ -91,20 +46,20 @@ module _ (p : Program) (i b j : ℕ) where
 
   pub first_none : (n : ℕ) → IsJoined (OfOthers j (length (awaits_of p i (b + 1)))) p i b j n → IsJoined (OfOthersOrFirst j 0) p i b j n
   first_none n h =
-      joined_same (OfOthers j (length (awaits_of p i (b + 1)))) (OfOthersOrFirst j 0) n h
+      joined_same p i b j (OfOthers j (length (awaits_of p i (b + 1)))) (OfOthersOrFirst j 0) n h
       (λ m v a s. inl s.1)
       (λ m v a t. elim t [ inl other ↦ (slice_get_within (awaits_of p i (b + 1)) m v a, other) | inr l ↦ absurd (omega arith) ])
 
   pub first_more : (n k : ℕ) (w : Await) (u : ℕ) → IsJoined (OfOthersOrFirst j k) p i b j n → slice_get (awaits_of p i (b + 1)) k ≡ Some w → IsColumn p (awaited w) j u
       → IsJoined (OfOthersOrFirst j (k + 1)) p i b j (max n u)
   first_more n k w u h at col =
-      joined_more (OfOthersOrFirst j k) (OfOthersOrFirst j (k + 1)) n k w u h at col (inr (omega arith))
+      joined_more p i b j (OfOthersOrFirst j k) (OfOthersOrFirst j (k + 1)) n k w u h at col (inr (omega arith))
       (λ m v a s. elim s [ inl other ↦ inl other | inr l ↦ inr (omega arith) ])
       (λ m v a t. elim t [ inl other ↦ inl (inl other) | inr l ↦ elim (cases_lt m k) [ inl less ↦ inl (inr less) | inr g ↦ inr (omega arith) ] ])
 
   pub first_same : (n k : ℕ) (w : Await) → IsJoined (OfOthersOrFirst j k) p i b j n → slice_get (awaits_of p i (b + 1)) k ≡ Some w → w.agent ≢ j → IsJoined (OfOthersOrFirst j (k + 1)) p i b j n
   first_same n k w h at other =
-      joined_same (OfOthersOrFirst j k) (OfOthersOrFirst j (k + 1)) n h
+      joined_same p i b j (OfOthersOrFirst j k) (OfOthersOrFirst j (k + 1)) n h
       (λ m v a s. elim s [ inl o ↦ inl o | inr l ↦ inr (omega arith) ])
       (λ m v a t. elim t [
         | inl o ↦ inl o
@@ -120,15 +75,11 @@ module _ (p : Program) (i b j : ℕ) where
       some_is v w e = search rules
 
   -- all of them
-  pub first_all : (n : ℕ) → IsJoined (OfOthersOrFirst j (length (awaits_of p i (b + 1)))) p i b j n → IsPart p i b j (length (awaits_of p i (b + 1))) n
-  first_all n h = record {
-    into = λ c f l. elim (h.into c f l) [
-      | inl r ↦ inl r
-      | inr r ↦ inr (record { place = r.place; await = r.await; below = slice_get_within (awaits_of p i (b + 1)) r.place r.await r.at; at = r.at; reaches = r.reaches })
-    ];
-    own = h.own;
-    awaits = λ c r. h.awaits c (record { place = r.place; await = r.await; this = inr r.below; at = r.at; reaches = r.reaches });
-  }
+  pub first_all : (n : ℕ) → IsJoined (OfOthersOrFirst j (length (awaits_of p i (b + 1)))) p i b j n → IsJoined (OfFirst (length (awaits_of p i (b + 1)))) p i b j n
+  first_all n h =
+      joined_same p i b j (OfOthersOrFirst j (length (awaits_of p i (b + 1)))) (OfFirst (length (awaits_of p i (b + 1)))) n h
+      (λ m v a s. slice_get_within (awaits_of p i (b + 1)) m v a)
+      (λ m v a t. inr t)
 
 -- ---- an await is implied where its count is no more than that of the others
 

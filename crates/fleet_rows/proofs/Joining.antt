@@ -7,7 +7,7 @@ use Rattle.fleet_model.specs.declared.program.ActionId.{ActionId}
 use Rattle.fleet_model.specs.declared.program.Await.{Await}
 use Rattle.fleet_model.specs.Program.{Program, moves, awaits_of, AreInRange}
 use Rattle.fleet_model.specs.Chain.{IsAction, DirectlyNeeds, Reaches, awaited}
-use Rattle.fleet_rows.specs.Rows.{IsColumn, ByAwait, IsPart}
+use Rattle.fleet_rows.specs.Rows.{IsColumn, ByOneOf, IsJoined, OfFirst}
 use Rattle.fleet_model.proofs.Reaching.{own_reach, LastStep, chain_ends_by_step, Reaches-trans}
 use Rattle.fleet_model.proofs.Chains.{Reaches-first, Reaches-last, Reaches-need}
 
@@ -25,41 +25,60 @@ column_none p i j c = (
   (λ b. absurd (let f : 1 ≤ c = b.0 in let l : c ≤ 0 = b.1 in omega arith)),
 )
 
-pub part_none : (p : Program) (i b j n : ℕ) → IsColumn p (record { agent = i; number = b }) j n → IsPart p i b j 0 n
-part_none p i b j n h = record {
-  into = λ c f l. inl ((h c).1 (f, l));
-  own = λ c r. ((h c).0 r).1;
-  awaits = λ c r. absurd (let l : r.place < 0 = r.below in omega arith);
-}
+-- ---- joined awaits
 
-one_more : (p : Program) (x : ActionId) (i b k : ℕ) → ByAwait p x i b k → ByAwait p x i b (k + 1)
-one_more p x i b k r = record { place = r.place; await = r.await; below = (let l : r.place < k = r.below in omega arith); at = r.at; reaches = r.reaches }
+module _ (p : Program) (i b j : ℕ) where
+  one_of : (S T : ℕ → Await → Type 0) (x : ActionId) → ((k : ℕ) (w : Await) → slice_get (awaits_of p i (b + 1)) k ≡ Some w → S k w → T k w) → ByOneOf S p x i (b + 1) → ByOneOf T p x i (b + 1)
+  one_of S T x wider r = record { place = r.place; await = r.await; this = wider r.place r.await r.at r.this; at = r.at; reaches = r.reaches }
 
-pub part_more : (p : Program) (i b j k n : ℕ) (w : Await) (u : ℕ) → IsPart p i b j k n → slice_get (awaits_of p i (b + 1)) k ≡ Some w → IsColumn p (awaited w) j u
-    → IsPart p i b j (k + 1) (max n u)
-part_more p i b j k n w u h at col = record { into = into; own = λ c r. (let l : c ≤ n = h.own c r in omega arith); awaits = awaits }
-  where
-    into : (c : ℕ) → 1 ≤ c → c ≤ max n u → Reaches p (act j c) (act i b) ⊎ ByAwait p (act j c) i b (k + 1)
-    into c f l = elim (cases_lt n c) [
-      | inr le ↦ elim (h.into c f le) [ inl r ↦ inl r | inr r ↦ inr (one_more p (act j c) i b k r) ]
-      | inl lt ↦ inr (record { place = k; await = w; below = omega arith; at = at; reaches = (col c).1 (f, omega arith) })
-    ]
+  pub joined_same : (S T : ℕ → Await → Type 0) (n : ℕ) → IsJoined S p i b j n → ((k : ℕ) (w : Await) → slice_get (awaits_of p i (b + 1)) k ≡ Some w → S k w → T k w)
+      → ((k : ℕ) (w : Await) → slice_get (awaits_of p i (b + 1)) k ≡ Some w → T k w → S k w) → IsJoined T p i b j n
+  joined_same S T n h there back = record {
+    into = λ c f l. elim (h.into c f l) [ inl r ↦ inl r | inr r ↦ inr (one_of S T (act j c) there r) ];
+    own = h.own;
+    awaits = λ c r. h.awaits c (one_of T S (act j c) back r);
+  }
 
-    awaits : (c : ℕ) → ByAwait p (act j c) i b (k + 1) → c ≤ max n u
-    awaits c r = elim (cases_lt r.place k) [
-      | inl l ↦ (let le : c ≤ n = h.awaits c (record { place = r.place; await = r.await; below = l; at = r.at; reaches = r.reaches }) in omega arith)
-      | inr g ↦
-          let e : r.place ≡ k = (let l : r.place < k + 1 = r.below in omega arith) in
-          let same : r.await ≡ w = some_same _ _ (sym r.at ∙ ap (slice_get (awaits_of p i (b + 1))) e ∙ at) in
-          let le : c ≤ u = ((col c).0 (subst (λ v. Reaches p (act j c) (awaited v)) same r.reaches)).1 in
-          omega arith
-    ]
-      where
-        some_same : (v w : Await) → Some v ≡ Some w → v ≡ w
-        some_same v w e = search rules
+  pub joined_more : (S T : ℕ → Await → Type 0) (n k : ℕ) (w : Await) (u : ℕ) → IsJoined S p i b j n → slice_get (awaits_of p i (b + 1)) k ≡ Some w → IsColumn p (awaited w) j u → T k w
+      → ((m : ℕ) (v : Await) → slice_get (awaits_of p i (b + 1)) m ≡ Some v → S m v → T m v) → ((m : ℕ) (v : Await) → slice_get (awaits_of p i (b + 1)) m ≡ Some v → T m v → S m v ⊎ (m ≡ k))
+      → IsJoined T p i b j (max n u)
+  joined_more S T n k w u h at col this there back = record { into = into; own = λ c r. (let l : c ≤ n = h.own c r in omega arith); awaits = awaits }
+    where
+      into : (c : ℕ) → 1 ≤ c → c ≤ max n u → Reaches p (act j c) (act i b) ⊎ ByOneOf T p (act j c) i (b + 1)
+      into c f l = elim (cases_lt n c) [
+        | inr le ↦ elim (h.into c f le) [ inl r ↦ inl r | inr r ↦ inr (one_of S T (act j c) there r) ]
+        | inl lt ↦ inr (record { place = k; await = w; this = this; at = at; reaches = (col c).1 (f, omega arith) })
+      ]
+
+      some_same : (v w : Await) → Some v ≡ Some w → v ≡ w
+      some_same v w e = search rules
+
+      awaits : (c : ℕ) → ByOneOf T p (act j c) i (b + 1) → c ≤ max n u
+      awaits c r = elim (back r.place r.await r.at r.this) [
+        | inl s ↦ (let le : c ≤ n = h.awaits c (record { place = r.place; await = r.await; this = s; at = r.at; reaches = r.reaches }) in omega arith)
+        | inr e ↦
+            let same : r.await ≡ w = some_same _ _ (sym r.at ∙ ap (slice_get (awaits_of p i (b + 1))) e ∙ at) in
+            let le : c ≤ u = ((col c).0 (subst (λ v. Reaches p (act j c) (awaited v)) same r.reaches)).1 in
+            omega arith
+      ]
+
+  -- where there are none of these awaits
+  pub joined_none : (S : ℕ → Await → Type 0) (n : ℕ) → ((k : ℕ) (w : Await) → S k w → ⊥) → IsColumn p (record { agent = i; number = b }) j n → IsJoined S p i b j n
+  joined_none S n none h = record {
+    into = λ c f l. inl ((h c).1 (f, l));
+    own = λ c r. ((h c).0 r).1;
+    awaits = λ c r. absurd (none r.place r.await r.this);
+  }
+
+  -- one more of the first
+  pub part_more : (k n : ℕ) (w : Await) (u : ℕ) → IsJoined (OfFirst k) p i b j n → slice_get (awaits_of p i (b + 1)) k ≡ Some w → IsColumn p (awaited w) j u → IsJoined (OfFirst (k + 1)) p i b j (max n u)
+  part_more k n w u h at col =
+      joined_more (OfFirst k) (OfFirst (k + 1)) n k w u h at col (omega arith)
+      (λ m v a s. omega arith)
+      (λ m v a t. elim (cases_lt m k) [ inl l ↦ inl l | inr g ↦ inr (omega arith) ])
 
 -- all of it, for another agent
-pub part_all : (p : Program) (i b j n : ℕ) → IsAction p (record { agent = i; number = b + 1 }) → j ≢ i → IsPart p i b j (length (awaits_of p i (b + 1))) n
+pub part_all : (p : Program) (i b j n : ℕ) → IsAction p (record { agent = i; number = b + 1 }) → j ≢ i → IsJoined (OfFirst (length (awaits_of p i (b + 1)))) p i b j n
     → IsColumn p (record { agent = i; number = b + 1 }) j n
 part_all p i b j n k other h c = (into, out)
   where
@@ -77,7 +96,7 @@ part_all p i b j n k other h c = (into, out)
         h.awaits c (record {
           place = w.0;
           await = record { agent = l.before.agent; count = l.before.number };
-          below = w.1;
+          this = w.1;
           at = slice_get-get_or _ _ _ w.1 ∙ ap Some w.2;
           reaches = l.reaches;
         }),
@@ -100,8 +119,8 @@ part_all p i b j n k other h c = (into, out)
           Reaches-trans p (act j c) (awaited r.await) a r.reaches (Reaches-need p (awaited r.await) a m k (inr (contained r)))
     ]
       where
-        contained : (r : ByAwait p (act j c) i b (length (awaits_of p i (b + 1)))) → Contains (awaits_of p i (b + 1)) r.await
-        contained r = (r.place, r.below, found (awaits_of p i (b + 1)) r.place r.await r.below r.at)
+        contained : (r : ByOneOf (OfFirst (length (awaits_of p i (b + 1)))) p (act j c) i (b + 1)) → Contains (awaits_of p i (b + 1)) r.await
+        contained r = (r.place, r.this, found (awaits_of p i (b + 1)) r.place r.await r.this r.at)
           where
             found : (ws : List Await) (m : ℕ) (w : Await) → m < length ws → slice_get ws m ≡ Some w → get_or ws m w ≡ w
             found ws m w l e = get_or_from_slice_get ws m w w e
@@ -122,7 +141,7 @@ awaited_action p range i n k w e =
 
 -- the row of an action from the parts of the columns of the others, and its number in its own
 pub row_whole : (p : Program) (i b j n v : ℕ) → IsAction p (record { agent = i; number = b + 1 }) → ((c : ℕ) → Reaches p (record { agent = i; number = c }) (record { agent = i; number = b + 1 }) → c ≤ b + 1)
-    → (j ≡ i → v ≡ b + 1) → (j ≢ i → v ≡ n) → IsPart p i b j (length (awaits_of p i (b + 1))) n → IsColumn p (record { agent = i; number = b + 1 }) j v
+    → (j ≡ i → v ≡ b + 1) → (j ≢ i → v ≡ n) → IsJoined (OfFirst (length (awaits_of p i (b + 1)))) p i b j n → IsColumn p (record { agent = i; number = b + 1 }) j v
 row_whole p i b j n v k later own other part = elim (cases_eq j i) [
   | inl e ↦
       let here : IsColumn p (act i (b + 1)) i (b + 1) = own_column p i (b + 1) k later in

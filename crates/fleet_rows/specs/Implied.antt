@@ -4,6 +4,7 @@ use Rattle.fleet_model.specs.declared.program.Await.{Await}
 use Rattle.fleet_model.specs.declared.program.ActionId.{ActionId}
 use Rattle.fleet_model.specs.Program.{Program, actions_of, awaits_of, total_moves, total_awaits}
 use Rattle.fleet_model.specs.Chain.{IsAction, DirectlyNeeds, Reaches, awaited}
+use Rattle.fleet_rows.specs.Rows.{IsJoined}
 use Rattle.fleet_rows.specs.Places.{ArePlaces, action_place}
 use Rattle.fleet_rows.specs.Block.{HasColumn}
 use Rattle.fleet_rows.specs.declared.columns.Columns.{Columns}
@@ -15,20 +16,6 @@ abbrev pub IsImplied : Program → ActionId → Await → Type 0
 IsImplied p a w = (b : ActionId) × (b ≢ awaited w) × DirectlyNeeds p a b × Reaches p (awaited w) b
 
 -- ---- rows of what an action needs
-
--- x is reached from one of these awaits of action n of agent i
-pub record ByOneOf (These : ℕ → Await → Type 0) (p : Program) (x : ActionId) (i n : ℕ) : Type 0 where
-  pub place : ℕ
-  pub await : Await
-  pub this : These place await
-  pub at : slice_get (awaits_of p i n) place ≡ Some await
-  pub reaches : Reaches p x (awaited await)
-
--- the column of agent j is that of action b of agent i and of these awaits of the next one
-pub record IsJoined (These : ℕ → Await → Type 0) (p : Program) (i b j n : ℕ) : Type 0 where
-  pub into : (c : ℕ) → 1 ≤ c → c ≤ n → Reaches p (record { agent = j; number = c }) (record { agent = i; number = b }) ⊎ ByOneOf These p (record { agent = j; number = c }) i (b + 1)
-  pub own : (c : ℕ) → Reaches p (record { agent = j; number = c }) (record { agent = i; number = b }) → c ≤ n
-  pub awaits : (c : ℕ) → ByOneOf These p (record { agent = j; number = c }) i (b + 1) → c ≤ n
 
 -- among the first k, those of other agents than j
 abbrev pub OfOthers : ℕ → ℕ → ℕ → Await → Type 0

@@ -9,16 +9,20 @@ use Rattle.fleet_model.specs.Chain.{Reaches, awaited}
 abbrev pub IsColumn : Program → ActionId → ℕ → ℕ → Type 0
 IsColumn p a j n = (c : ℕ) → Reaches p (record { agent = j; number = c }) a ↔ ((1 ≤ c) × (c ≤ n))
 
--- an await of the next action, among the first k, that is reached from the action
-pub record ByAwait (p : Program) (x : ActionId) (i b k : ℕ) : Type 0 where
+-- x is reached from one of these awaits of action n of agent i
+pub record ByOneOf (These : ℕ → Await → Type 0) (p : Program) (x : ActionId) (i n : ℕ) : Type 0 where
   pub place : ℕ
   pub await : Await
-  pub below : place < k
-  pub at : slice_get (awaits_of p i (b + 1)) place ≡ Some await
+  pub this : These place await
+  pub at : slice_get (awaits_of p i n) place ≡ Some await
   pub reaches : Reaches p x (awaited await)
 
--- so far the column is that of action b of agent i and of the first k awaits of the next one
-pub record IsPart (p : Program) (i b j k n : ℕ) : Type 0 where
-  pub into : (c : ℕ) → 1 ≤ c → c ≤ n → Reaches p (record { agent = j; number = c }) (record { agent = i; number = b }) ⊎ ByAwait p (record { agent = j; number = c }) i b k
+-- the column of agent j is that of action b of agent i and of these awaits of the next one
+pub record IsJoined (These : ℕ → Await → Type 0) (p : Program) (i b j n : ℕ) : Type 0 where
+  pub into : (c : ℕ) → 1 ≤ c → c ≤ n → Reaches p (record { agent = j; number = c }) (record { agent = i; number = b }) ⊎ ByOneOf These p (record { agent = j; number = c }) i (b + 1)
   pub own : (c : ℕ) → Reaches p (record { agent = j; number = c }) (record { agent = i; number = b }) → c ≤ n
-  pub awaits : (c : ℕ) → ByAwait p (record { agent = j; number = c }) i b k → c ≤ n
+  pub awaits : (c : ℕ) → ByOneOf These p (record { agent = j; number = c }) i (b + 1) → c ≤ n
+
+-- the first k
+abbrev pub OfFirst : ℕ → ℕ → Await → Type 0
+OfFirst k place w = place < k

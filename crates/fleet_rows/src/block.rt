@@ -4,7 +4,8 @@ ghost use Rattle.std.specs.Prelude.{◌≡◌, ◌≢◌, ◌+◌, ◌<◌, ◌�
 ghost use Rattle.fleet_model.specs.Program.{moves, awaits_of, AreInRange};
 ghost use Rattle.fleet_model.specs.declared.program.Await.{Await};
 ghost use Rattle.fleet_model.specs.Chain.{IsAction, awaited};
-ghost use Rattle.fleet_rows.specs.Rows.{IsPart};
+ghost use Rattle.fleet_rows.specs.Rows.{IsColumn, IsJoined, OfFirst};
+ghost use Rattle.fleet_rows.specs.Kept.{IsKept, count_in, mark_of};
 ghost use Rattle.fleet_rows.specs.Block.{HasColumn, AreBlock, IsRowOf, AreKept, HasRow, CanMakeRow};
 
 use crate::action_places::ActionPlaces;
@@ -13,7 +14,7 @@ use crate::due_rows::DueRows;
 use crate::finish_order::FinishOrder;
 use crate::kept_rows::KeptRows;
 use crate::takers::last_takers;
-use fleet_model::{ActionId, OutOfMemory, ProgramView};
+use fleet_model::{ActionId, Await, OutOfMemory, ProgramView};
 use std::alloc::Global;
 
 /// Where the actions stand, the last of so many ticks that takes each, the order in which they finish, which are due after each
@@ -126,15 +127,43 @@ fn join_awaited<P: ProgramView>(
     requires own { IsRowOf (P.program program.now) block.now.columns (record { agent = agent; number = finished }) row.old }
     requires awaited { (k : ℕ) (w : Await) → slice_get (awaits_of (P.program program.now) agent (finished + 1)) k ≡ Some w
         → HasRow (P.program program.now) block.now kept.now (awaited w) }
-    ensures { (j k : ℕ) → HasColumn block.now.columns j k → IsPart (P.program program.now) agent finished j
-        (length (awaits_of (P.program program.now) agent (finished + 1))) (slice_index row.new k) }
+    ensures { (j k : ℕ) → HasColumn block.now.columns j k
+        → IsJoined (OfFirst (length (awaits_of (P.program program.now) agent (finished + 1))))
+        (P.program program.now) agent finished j (slice_index row.new k) }
 {
     let _ = program.agents();
     let number = finished + 1;
     for k in 0..program.await_count(agent, number) {
-        let awaited = program.await_at(agent, number, k);
-        kept.join_into(block.places.place(awaited.agent, awaited.count), row);
+        let (_, place) = awaited_row(program, block, kept, ActionId { agent, number }, k);
+        kept.join_into(place, row);
     }
+}
+
+/// Await `k` of an action, and the place of the awaited action, whose row is kept.
+pub(crate) fn awaited_row<P: ProgramView>(
+    program: &P,
+    block: &Block,
+    kept: &KeptRows,
+    action: ActionId,
+    k: u16,
+) -> (Await, usize)
+    requires block { AreBlock (P.program program.now) block.now }
+    requires kept { AreKept (P.program program.now) block.now kept.now }
+    requires range { AreInRange (P.program program.now) }
+    requires action { IsAction (P.program program.now) action }
+    requires within { k < length (awaits_of (P.program program.now) action.agent action.number) }
+    requires awaited { (m : ℕ) (w : Await) → slice_get (awaits_of (P.program program.now) action.agent action.number) m ≡ Some w
+        → HasRow (P.program program.now) block.now kept.now (awaited w) }
+    ensures at { slice_get (awaits_of (P.program program.now) action.agent action.number) k ≡ Some result.0 }
+    ensures agent { result.0.agent < length block.now.columns.of_agent.items }
+    ensures place { result.1 < length kept.now.marks.items }
+    ensures kept { IsKept kept.now result.1 }
+    ensures counts { (j c : ℕ) → HasColumn block.now.columns j c
+        → IsColumn (P.program program.now) (awaited result.0) j (count_in kept.now (mark_of kept.now result.1) c) }
+{
+    let _ = program.agents();
+    let awaited = program.await_at(action.agent, action.number, k);
+    (awaited, block.places.place(awaited.agent, awaited.count))
 }
 
 /// Sets the count of the agent's own column, where it has one.

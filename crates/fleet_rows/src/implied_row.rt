@@ -5,13 +5,13 @@ ghost use Rattle.std.specs.Prelude.{◌≡◌, ◌≢◌, ◌+◌, ◌≤◌, �
 ghost use Rattle.fleet_model.specs.Program.{awaits_of, total_awaits, AreInRange};
 ghost use Rattle.fleet_model.specs.declared.program.Await.{Await};
 ghost use Rattle.fleet_model.specs.Chain.{IsAction, awaited};
-ghost use Rattle.fleet_rows.specs.Rows.{IsPart};
+ghost use Rattle.fleet_rows.specs.Rows.{IsJoined, OfFirst};
 ghost use Rattle.fleet_rows.specs.Kept.{IsSound, IsKept, count_in, mark_of};
 ghost use Rattle.fleet_rows.specs.Block.{HasColumn, AreBlock, IsRowOf, AreKept, HasRow, CanMakeRow};
-ghost use Rattle.fleet_rows.specs.Implied.{IsJoined, OfOthers, AreOthers, AreAwaitPlaces, AreFlagged};
+ghost use Rattle.fleet_rows.specs.Implied.{OfOthers, AreOthers, AreAwaitPlaces, AreFlagged};
 
 use crate::await_places::AwaitPlaces;
-use crate::block::{Block, begin_row, set_own};
+use crate::block::{Block, awaited_row, begin_row, set_own};
 use crate::columns::Columns;
 use crate::kept_rows::KeptRows;
 use fleet_model::{ActionId, Await, ProgramView};
@@ -80,8 +80,7 @@ fn join_others<P: ProgramView>(
     let _ = program.agents();
     let number = finished + 1;
     for k in 0..program.await_count(agent, number) {
-        let awaited = program.await_at(agent, number, k);
-        let place = block.places.place(awaited.agent, awaited.count);
+        let (awaited, place) = awaited_row(program, block, kept, ActionId { agent, number }, k);
         join_but_own(&block.columns, kept, row, awaited.agent, place);
     }
 }
@@ -171,14 +170,14 @@ fn join_own<P: ProgramView>(
         (P.program program.now) agent finished j (slice_index row.old k) }
     requires awaited { (k : ℕ) (w : Await) → slice_get (awaits_of (P.program program.now) agent (finished + 1)) k ≡ Some w
         → HasRow (P.program program.now) block.now kept.now (awaited w) }
-    ensures { (j k : ℕ) → HasColumn block.now.columns j k → IsPart (P.program program.now) agent finished j
-        (length (awaits_of (P.program program.now) agent (finished + 1))) (slice_index row.new k) }
+    ensures { (j k : ℕ) → HasColumn block.now.columns j k
+        → IsJoined (OfFirst (length (awaits_of (P.program program.now) agent (finished + 1))))
+        (P.program program.now) agent finished j (slice_index row.new k) }
 {
     let _ = program.agents();
     let number = finished + 1;
     for k in 0..program.await_count(agent, number) {
-        let awaited = program.await_at(agent, number, k);
-        let place = block.places.place(awaited.agent, awaited.count);
+        let (awaited, place) = awaited_row(program, block, kept, ActionId { agent, number }, k);
         join_own_count(&block.columns, kept, row, awaited.agent, place);
     }
 }

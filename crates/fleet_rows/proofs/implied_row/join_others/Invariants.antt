@@ -1,5 +1,6 @@
 use Rattle.std.proofs.Common.{ℕ, slice_index}
-use Rattle.fleet_rows.specs.Implied.{IsJoined, OfOthers}
+use Rattle.fleet_rows.specs.Rows.{IsJoined}
+use Rattle.fleet_rows.specs.Implied.{OfOthers}
 use Rattle.fleet_rows.specs.Block.{HasColumn}
 use Rattle.fleet_rows.proofs.implied_row.join_others.Given as goal
 

@@ -1,5 +1,6 @@
 use Rattle.std.proofs.Common.{ℕ, slice_index}
-use Rattle.fleet_rows.specs.Implied.{IsJoined, OfOthersOrFirst}
+use Rattle.fleet_rows.specs.Rows.{IsJoined}
+use Rattle.fleet_rows.specs.Implied.{OfOthersOrFirst}
 use Rattle.fleet_rows.specs.Block.{HasColumn}
 use Rattle.fleet_rows.proofs.implied_row.join_own.Given as goal
 

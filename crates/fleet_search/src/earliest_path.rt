@@ -82,7 +82,7 @@ pub fn earliest_over(
     let query = Query {
         grid,
         reserved,
-        rows: reserved.rows(),
+        table: reserved.table(),
         distances,
         start,
         goal,

@@ -17,8 +17,8 @@ ghost use Rattle.fleet_search.specs.Labels.{AreLabels};
 use crate::distances::Distances;
 use crate::intervals::{begins_after, earliest_within, end_after};
 use crate::labels::Labels;
-use crate::occupancy::Occupancy;
-use crate::reservation_table::{occupancies_on, started_by};
+use crate::occupancy::{Occupancy, started_by};
+use crate::reservation_table::ReservationTable;
 use crate::reservations::Reservations;
 use crate::rows::{clear, put, take};
 use crate::state::State;
@@ -33,7 +33,7 @@ pub struct Query<'a> {
     pub grid: &'a Grid,
     pub reserved: &'a Reservations,
     /// For each cell the occupancies of the reserved agents there.
-    pub rows: &'a [Vec<Vec<Occupancy>>],
+    pub table: &'a ReservationTable,
     pub distances: &'a Distances,
     pub start: Cell,
     pub goal: Cell,
@@ -56,7 +56,7 @@ impl Query<'_> {
     fn occupancies(&self, cell: Cell) -> &[Occupancy]
         ensures { result.now ≡ occupancies_on self.now cell }
     {
-        occupancies_on(self.rows, cell)
+        self.table.occupancies(cell)
     }
 
     /// Until when the agent may wait on the cell.

@@ -4,8 +4,7 @@ ghost use Rattle.std.specs.Prelude.{◌↔◌, ◌≤◌, ◌<◌, ◌-◌, ℕ,
 ghost use Rattle.fleet_search.specs.Occupancies.{occupancy_at};
 ghost use Rattle.fleet_search.specs.Intervals.{AreSuccessive, IsInInterval, IsEarliestWithin, IsEndAfter};
 
-use crate::occupancy::Occupancy;
-use crate::reservation_table::started_by;
+use crate::occupancy::{Occupancy, started_by};
 
 /// Whether the time is in the safe interval of this number.
 pub fn is_in_interval(occupancies: &[Occupancy], interval: usize, time: u32) -> bool

@@ -7,8 +7,9 @@ use Rattle.fleet_model.proofs.Cells.{cell_cases}
 use Rattle.fleet_model.specs.declared.limits.TheConstants.{MAX_HORIZON}
 use Rattle.fleet_plan.specs.Plan.{Plan, cell_at}
 use Rattle.fleet_search.specs.declared.occupancy.Occupancy.{Occupancy}
+use Rattle.fleet_search.specs.declared.reservation_table.ReservationTable.{ReservationTable}
 use Rattle.fleet_search.specs.Way.{Fits, joined, arrival}
-use Rattle.fleet_search.specs.Occupancies.{Rows, occupancies_of, IsDuring, IsAdded, AreInOrder, AreStays, HaveOccupancies, without}
+use Rattle.fleet_search.specs.Occupancies.{occupancies_of, IsDuring, IsAdded, AreInOrder, AreStays, HaveOccupancies, without}
 use Rattle.fleet_search.proofs.Occupants.{cell_at-late}
 use Rattle.fleet_search.proofs.ReservationTables.{AreStaysTo, AreInOrder-to, to-none, to-other, to-all_other, to-placed, to-last}
 use Rattle.fleet_search.proofs.OccupancyRows.{without-placed, without-others}
@@ -19,13 +20,13 @@ either (Ok x) p q f g = f p
 either (Err e) p q f g = g q
 
 -- the stays before the time `from` are added, and since then the agent is on one cell
-pub record AreEntered (plan : Plan) (path : List Cell) (old new : Rows) (from time : ℕ) : Type 0 where
+pub record AreEntered (plan : Plan) (path : List Cell) (old new : ReservationTable) (from time : ℕ) : Type 0 where
   pub occupancies : (c : Cell) → AreStaysTo plan path from c (occupancies_of new c)
   pub rest : (c : Cell) → without (length plan) (occupancies_of new c) ≡ occupancies_of old c
   pub since : from ≤ time
   pub same : (t : ℕ) → from ≤ t → t ≤ time → cell_at path t ≡ cell_at path time
 
-pub entered-none : (plan : Plan) (path : List Cell) (rows : Rows) → HaveOccupancies plan rows → AreEntered plan path rows rows 0 0
+pub entered-none : (plan : Plan) (path : List Cell) (rows : ReservationTable) → HaveOccupancies plan rows → AreEntered plan path rows rows 0 0
 entered-none plan path rows h = record {
   occupancies = λ c. to-none plan path c (occupancies_of rows c) (h c);
   rest = λ c. without-others plan c (occupancies_of rows c) (h c);
@@ -34,13 +35,13 @@ entered-none plan path rows h = record {
 }
 
 -- the rest stays as it was, when a stay of the agent is added
-pub rest-added : (plan : Plan) (old now new : Rows) (cell : Cell) (occupancy : Occupancy) → ((c : Cell) → without (length plan) (occupancies_of now c) ≡ occupancies_of old c) → IsAdded now new cell occupancy → occupancy.agent ≡ length plan → (same : (c : Cell) → (c ≡ cell) ⊎ (c ≢ cell)) → (c : Cell) → without (length plan) (occupancies_of new c) ≡ occupancies_of old c
+pub rest-added : (plan : Plan) (old now new : ReservationTable) (cell : Cell) (occupancy : Occupancy) → ((c : Cell) → without (length plan) (occupancies_of now c) ≡ occupancies_of old c) → IsAdded now new cell occupancy → occupancy.agent ≡ length plan → (same : (c : Cell) → (c ≡ cell) ⊎ (c ≢ cell)) → (c : Cell) → without (length plan) (occupancies_of new c) ≡ occupancies_of old c
 rest-added plan old now new cell occupancy h a e same c = elim (same c) [
   | inl s ↦ ap (λ z. without (length plan) (occupancies_of new z)) s ∙ without-placed (occupancies_of now cell) (occupancies_of new cell) occupancy (length plan) a.here e ∙ ap (λ z. without (length plan) (occupancies_of now z)) (sym s) ∙ h c
   | inr ne ↦ ap (without (length plan)) (a.others c ne) ∙ h c
 ]
 
-module _ (plan : Plan) (path : List Cell) (fits : Fits plan path) (old now : Rows) (from time : ℕ) (h : AreEntered plan path old now from time) where
+module _ (plan : Plan) (path : List Cell) (fits : Fits plan path) (old now : ReservationTable) (from time : ℕ) (h : AreEntered plan path old now from time) where
   -- the agent stays
   pub entered-same : cell_at path time ≡ cell_at path (time + 1) → AreEntered plan path old now from (time + 1)
   entered-same e = record {
@@ -56,7 +57,7 @@ module _ (plan : Plan) (path : List Cell) (fits : Fits plan path) (old now : Row
   pub entered-order : (c : Cell) → AreInOrder (occupancies_of now c)
   entered-order c = AreInOrder-to plan path from c (occupancies_of now c) (h.occupancies c)
 
-  module _ (new : Rows) (cell : Cell) (occupancy : Occupancy) (a : IsAdded now new cell occupancy) (at : cell ≡ cell_at path time) (agent : occupancy.agent ≡ length plan) (begin : occupancy.from ≡ from) (few : time ≤ MAX_HORIZON) where
+  module _ (new : ReservationTable) (cell : Cell) (occupancy : Occupancy) (a : IsAdded now new cell occupancy) (at : cell ≡ cell_at path time) (agent : occupancy.agent ≡ length plan) (begin : occupancy.from ≡ from) (few : time ≤ MAX_HORIZON) where
     -- the agent goes on
     pub entered-more : occupancy.until ≡ time → AreEntered plan path old new (time + 1) (time + 1)
     entered-more u = record {

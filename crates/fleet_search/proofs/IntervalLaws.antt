@@ -7,7 +7,7 @@ use Rattle.fleet_model.specs.declared.limits.TheConstants.{MAX_HORIZON}
 use Rattle.fleet_plan.specs.Plan.{Plan}
 use Rattle.fleet_search.specs.declared.occupancy.Occupancy.{Occupancy}
 use Rattle.fleet_search.specs.Occupancies.{occupancy_at, no_stay, IsDuring, AreStays}
-use Rattle.fleet_search.specs.Intervals.{AreSuccessive, IsInInterval, AreBegun}
+use Rattle.fleet_search.specs.Intervals.{AreSuccessive, IsInInterval, AreBegun, IsEndAfter}
 use Rattle.fleet_search.specs.Reserved.{IsUnoccupied, IsFreeOn}
 
 -- ---- lists of stays
@@ -122,6 +122,30 @@ module _ (plan : Plan) (c : Cell) (occupancies : List Occupancy) (s : AreStays p
     ];
     to_come = b.to_come;
   }
+
+  -- from a time at which nobody is on the cell nobody is there until the next stay begins, and then somebody is
+  pub free-until : (t until : ℕ) → t ≤ 4294967295 → IsUnoccupied plan t c → IsEndAfter occupancies t until → ((u : ℕ) → t ≤ u → u < until → IsUnoccupied plan u c) × ((u : ℕ) → u < 4294967295 → IsFreeOn plan c t u → u < until)
+  free-until t until few free e = (
+    λ u a b. interval-free e.next u (within u a b),
+    λ u small on. elim (cases_lt u until) [
+      | inl l ↦ l
+      | inr l ↦ elim (cases_lt e.next (length occupancies)) [
+        | inl m ↦
+            let z = e.here m in
+            let after = e.started_by.to_come e.next (omega arith) m in
+            let d = (s.each e.next m).some_time in
+            absurd (during-taken e.next until m (omega arith, inl (omega arith)) (on until (omega arith) l))
+        | inr m ↦ let z = e.none m in omega arith
+      ]
+    ],
+  )
+    where
+      within : (u : ℕ) → t ≤ u → u < until → IsInInterval occupancies e.next u
+      within u a b = record {
+        bound = e.started_by.bound;
+        over = λ i h. let o = (free-interval t e.next few e.started_by free).over i h in (let x = o.0 in omega arith, o.1);
+        to_come = λ i h l. let z = e.here (omega arith) in let x = apart-from occupancies (stays-apart plan c occupancies s) e.next i h l in omega arith;
+      }
 
   pub some_gap : (t : ℕ) → t ≤ 4294967295 → IsUnoccupied plan t c → (n : ℕ) × IsInInterval occupancies n t
   some_gap t few free = let w = started_by-some occupancies (stays-apart plan c occupancies s) t in (w.0, free-interval t w.0 few w.1 free)

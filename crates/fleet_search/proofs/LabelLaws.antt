@@ -5,7 +5,7 @@ use Rattle.std.specs.declared.alloc.Global.{Global}
 use Rattle.std.proofs.lemmas.Bool.{cases_eq, eq-eqb, eqb-true, false_from_ne_true}
 use Rattle.std.proofs.lemmas.List.{get_or_push, get_or_append_left, length-map, map-append}
 use Rattle.fleet_table.specs.Table.{value_in, IsSet}
-use Rattle.fleet_search.proofs.OccupancyRows.{list-read, list-set, list-other}
+use Rattle.fleet_search.proofs.OccupancyRows.{list_at-read, list_at-set, list_at-other, list_at-before, list_at-last}
 use Rattle.fleet_search.specs.declared.labels.Label.{Label}
 use Rattle.fleet_search.specs.declared.labels.Labels.{Labels}
 use Rattle.fleet_search.specs.Labels.{no_label, later_in, label_in, earliest_in, AreLabels, HaveOwnRows, IsLabelPut, IsLabelSet}
@@ -56,27 +56,6 @@ next_search l m were rows later same = (
       absurd (omega (arith, e, s, p, later)))),
 )
 
--- ---- rows by number, counted from 1
-
-row_at-read : (rows : List (Vec Label Global)) (k : ℕ) (v : Vec Label Global) → 1 ≤ k → k ≤ length rows → v ≡ get_or rows (k - 1) v → get_or ([] ∷ map (λ v. v.items) rows) k [] ≡ v.items
-row_at-read rows zero v h l e = absurd (omega arith)
-row_at-read rows (suc k) v h l e = list-read rows k v (omega arith) (e ∙ ap (λ n. get_or rows n v) (let z : suc k - 1 ≡ k = omega arith in z))
-
-row_at-set : (rows : List (Vec Label Global)) (k : ℕ) (w : Vec Label Global) → 1 ≤ k → k ≤ length rows → get_or ([] ∷ map (λ v. v.items) (set rows (k - 1) w)) k [] ≡ w.items
-row_at-set rows zero w h l = absurd (omega arith)
-row_at-set rows (suc k) w h l = ap (λ n. get_or (map (λ v. v.items) (set rows n w)) k []) (let z : suc k - 1 ≡ k = omega arith in z) ∙ list-set rows k w (omega arith)
-
-row_at-other : (rows : List (Vec Label Global)) (k j : ℕ) (w : Vec Label Global) → 1 ≤ k → j ≢ k → get_or ([] ∷ map (λ v. v.items) (set rows (k - 1) w)) j [] ≡ get_or ([] ∷ map (λ v. v.items) rows) j []
-row_at-other rows k zero w h ne = refl
-row_at-other rows k (suc j) w h ne = list-other rows (k - 1) j w (λ s. ne (omega arith))
-
-row_at-before : (rows : List (Vec Label Global)) (j : ℕ) (w : Vec Label Global) → j ≤ length rows → get_or ([] ∷ map (λ v. v.items) (rows ++ w ∷ [])) j [] ≡ get_or ([] ∷ map (λ v. v.items) rows) j []
-row_at-before rows zero w h = refl
-row_at-before rows (suc j) w h = ap (λ z. get_or z j []) (map-append (λ v. v.items) rows (w ∷ [])) ∙ get_or_append_left (map (λ v. v.items) rows) (w.items ∷ []) [] j (omega (arith, length-map rows (λ (v : Vec Label Global). v.items)))
-
-row_at-last : (rows : List (Vec Label Global)) (w : Vec Label Global) → get_or ([] ∷ map (λ v. v.items) (rows ++ w ∷ [])) (length rows + 1) [] ≡ w.items
-row_at-last rows w = rw add-one (ap (λ z. get_or z (length rows) []) (map-append (λ v. v.items) rows (w ∷ [])) ∙ get_or_push (map (λ v. v.items) rows) w.items [] (length rows) (length-map rows (λ (v : Vec Label Global). v.items)))
-
 -- a cell's row is exchanged for one that has the label, and the same at its other places
 pub row_exchanged : (old new : Labels) (cell place k : ℕ) (label : Label) (v w : Vec Label Global) → AreLabels old → k ≡ value_in old.numbers cell → 1 ≤ k → new.search ≡ old.search → new.first ≡ old.first → new.numbers ≡ old.numbers → new.rows.items ≡ set old.rows.items (k - 1) w → v ≡ get_or old.rows.items (k - 1) v → get_or w.items place no_label ≡ label → ((n : ℕ) → n ≢ place → get_or w.items n no_label ≡ get_or v.items n no_label) → IsLabelPut old new cell (suc place) label
 row_exchanged old new cell place k label v w were mine some number first numbers rows read here others = record {
@@ -92,10 +71,10 @@ row_exchanged old new cell place k label v w were mine some number first numbers
     now c n = λ t. get_or (get_or ([] ∷ map (λ v. v.items) (rows t)) (value_in {V = ℕ} (numbers t) c) []) n no_label
 
     own : (c : ℕ) → c ≡ cell → get_or ([] ∷ map (λ v. v.items) (set old.rows.items (k - 1) w)) (value_in old.numbers c) [] ≡ w.items
-    own c s = ap (λ z. get_or ([] ∷ map (λ v. v.items) (set old.rows.items (k - 1) w)) (value_in old.numbers z) []) s ∙ ap (λ z. get_or ([] ∷ map (λ v. v.items) (set old.rows.items (k - 1) w)) z []) (sym mine) ∙ row_at-set old.rows.items k w some few
+    own c s = ap (λ z. get_or ([] ∷ map (λ v. v.items) (set old.rows.items (k - 1) w)) (value_in old.numbers z) []) s ∙ ap (λ z. get_or ([] ∷ map (λ v. v.items) (set old.rows.items (k - 1) w)) z []) (sym mine) ∙ list_at-set old.rows.items k w some few
 
     was : (c : ℕ) → c ≡ cell → get_or ([] ∷ map (λ v. v.items) old.rows.items) (value_in old.numbers c) [] ≡ v.items
-    was c s = ap (λ z. get_or ([] ∷ map (λ v. v.items) old.rows.items) (value_in old.numbers z) []) s ∙ ap (λ z. get_or ([] ∷ map (λ v. v.items) old.rows.items) z []) (sym mine) ∙ row_at-read old.rows.items k v some few read
+    was c s = ap (λ z. get_or ([] ∷ map (λ v. v.items) old.rows.items) (value_in old.numbers z) []) s ∙ ap (λ z. get_or ([] ∷ map (λ v. v.items) old.rows.items) z []) (sym mine) ∙ list_at-read old.rows.items k v some few read
 
     elsewhere : (c : ℕ) → c ≢ cell → (value_in old.numbers c) ≢ k
     elsewhere c ne s = let z = were.rows.apart c cell ne (s ∙ mine) in omega arith
@@ -103,7 +82,7 @@ row_exchanged old new cell place k label v w were mine some number first numbers
     other : (c n : ℕ) → (c ≢ cell) ⊎ (n ≢ suc place) → label_in new c n ≡ label_in old c n
     other c zero d = ap (λ z. value_in {V = Label} z c) first
     other c (suc n) d = now c n ∙ elim (cases_eq c cell) [
-      | inr ne ↦ ap (λ z. get_or z n no_label) (row_at-other old.rows.items k (value_in old.numbers c) w some (elsewhere c ne))
+      | inr ne ↦ ap (λ z. get_or z n no_label) (list_at-other old.rows.items k (value_in old.numbers c) w some (elsewhere c ne))
       | inl s ↦ elim d [
         | inl ne ↦ absurd (ne s)
         | inr ne ↦ ap (λ z. get_or z n no_label) (own c s) ∙ others n (λ e. ne (ap suc e)) ∙ ap (λ z. get_or z n no_label) (sym (was c s))
@@ -122,7 +101,7 @@ row_added old new cell place label w were none number first put rows here others
     now c = ap (λ z. get_or ([] ∷ map (λ v. v.items) z) (value_in new.numbers c) []) rows
 
     own : (c : ℕ) → c ≡ cell → later_in new c ≡ w.items
-    own c s = now c ∙ ap (λ z. get_or ([] ∷ map (λ v. v.items) (old.rows.items ++ w ∷ [])) (value_in new.numbers z) []) s ∙ ap (λ z. get_or ([] ∷ map (λ v. v.items) (old.rows.items ++ w ∷ [])) z []) put.here ∙ row_at-last old.rows.items w
+    own c s = now c ∙ ap (λ z. get_or ([] ∷ map (λ v. v.items) (old.rows.items ++ w ∷ [])) (value_in new.numbers z) []) s ∙ ap (λ z. get_or ([] ∷ map (λ v. v.items) (old.rows.items ++ w ∷ [])) z []) put.here ∙ list_at-last old.rows.items w
 
     was : (c : ℕ) → c ≡ cell → later_in old c ≡ []
     was c s = ap (λ z. get_or ([] ∷ map (λ v. v.items) old.rows.items) (value_in old.numbers z) []) s ∙ ap (λ z. get_or ([] ∷ map (λ v. v.items) old.rows.items) z []) none
@@ -130,7 +109,7 @@ row_added old new cell place label w were none number first put rows here others
     other : (c n : ℕ) → (c ≢ cell) ⊎ (n ≢ suc place) → label_in new c n ≡ label_in old c n
     other c zero d = ap (λ z. value_in {V = Label} z c) first
     other c (suc n) d = elim (cases_eq c cell) [
-      | inr ne ↦ ap (λ z. get_or z n no_label) (now c ∙ ap (λ z. get_or ([] ∷ map (λ v. v.items) (old.rows.items ++ w ∷ [])) z []) (put.others c ne) ∙ row_at-before old.rows.items (value_in old.numbers c) w (were.rows.few c))
+      | inr ne ↦ ap (λ z. get_or z n no_label) (now c ∙ ap (λ z. get_or ([] ∷ map (λ v. v.items) (old.rows.items ++ w ∷ [])) z []) (put.others c ne) ∙ list_at-before old.rows.items (value_in old.numbers c) w (were.rows.few c))
       | inl s ↦ elim d [
         | inl ne ↦ absurd (ne s)
         | inr ne ↦ ap (λ z. get_or z n no_label) (own c s) ∙ others n (λ e. ne (ap suc e)) ∙ ap (λ z. get_or z n no_label) (sym (was c s))

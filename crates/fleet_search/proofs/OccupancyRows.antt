@@ -1,15 +1,17 @@
--- The rows of a reservation table.
-use Rattle.std.proofs.Common.{◌≡◌, ◌≢◌, ℕ, ◌+◌, ◌<◌, ◌≤◌, ◌==◌, Bool, cond, List, [], ◌∷◌, ◌++◌, length, map, get_or, take, drop, inl, inr, refl, sym, ap, ◌∙◌, subst, arith, add-one}
+-- Lists by number, and those of a reservation table.
+use Rattle.std.proofs.Common.{◌≡◌, ◌≢◌, ℕ, zero, suc, ◌+◌, ◌-◌, ◌<◌, ◌≤◌, ◌==◌, Bool, cond, List, [], ◌∷◌, ◌++◌, length, map, get_or, take, drop, inl, inr, refl, sym, ap, ◌∙◌, subst, arith, add-one}
 use Rattle.std.specs.Prelude.{Vec, set, not}
 use Rattle.std.specs.declared.alloc.Global.{Global}
 use Rattle.std.proofs.lemmas.Bool.{cases_eq, cases_lt, ne_eqb, eq-eqb}
-use Rattle.std.proofs.lemmas.List.{get_or-set_same, get_or-set_other, get_or-map, map-set, get_or_past, length-map, take-append-drop}
+use Rattle.std.proofs.lemmas.List.{get_or-set_same, get_or-set_other, get_or-map, map-set, map-append, get_or_past, get_or_push, get_or_append_left, length-map, take-append-drop}
 use Rattle.std.proofs.lemmas.List.Elements.{filter-append}
 use Rattle.fleet_model.specs.declared.geometry.Cell.{Cell}
-use Rattle.fleet_model.proofs.Cells.{cell_from_parts}
+use Rattle.fleet_model.proofs.Cells.{cell_from_parts, cell_cases}
 use Rattle.fleet_plan.specs.Plan.{Plan}
 use Rattle.fleet_search.specs.declared.occupancy.Occupancy.{Occupancy}
-use Rattle.fleet_search.specs.Occupancies.{Rows, occupancies_of, IsPutIn, IsAdded, AreStays, without, occupancy_at}
+use Rattle.fleet_search.specs.declared.reservation_table.ReservationTable.{ReservationTable}
+use Rattle.fleet_search.specs.Numbers.{number_in, IsNumbered, HaveOwnLists}
+use Rattle.fleet_search.specs.Occupancies.{occupancies_of, IsPutIn, IsAdded, AreStays, without, occupancy_at}
 
 -- ---- lists of lists
 
@@ -54,67 +56,179 @@ changed-all f old now i h l e k = elim (cases_lt k i) [
       none ∙ sym e ∙ ap f (sym none ∙ h.left k m)
 ]
 
--- ---- the stays on a cell
+-- ---- lists by number, counted from 1
 
-pub no_row : (rows : Rows) (c : Cell) → length rows ≤ c.y → occupancies_of rows c ≡ []
-unfolding occupancies_of
-no_row rows c l = ap (λ z. list_in z c.x) (list-past rows c.y l)
+-- the list of this number; number 0 has none
+abbrev pub list_at : {X : Type 0} → List (Vec X Global) → ℕ → List X
+list_at lists n = get_or ([] ∷ map (λ v. v.items) lists) n []
 
-pub row-read : (rows : Rows) (c : Cell) (row : Vec (Vec Occupancy Global) Global) → c.y < length rows → row ≡ get_or rows c.y row → occupancies_of rows c ≡ list_in row.items c.x
-unfolding occupancies_of
-row-read rows c row l e = ap (λ z. list_in z c.x) (list-read rows c.y row l e)
+pub list_at-read : {X : Type 0} (lists : List (Vec X Global)) (k : ℕ) (v : Vec X Global) → 1 ≤ k → k ≤ length lists → v ≡ get_or lists (k - 1) v → list_at lists k ≡ v.items
+list_at-read lists zero v h l e = absurd (omega arith)
+list_at-read lists (suc k) v h l e = list-read lists k v (omega arith) (e ∙ ap (λ n. get_or lists n v) (let z : suc k - 1 ≡ k = omega arith in z))
 
--- the rows hold the same
-pub same-rows : (old new : Rows) → ((k : ℕ) → list_in new k ≡ list_in old k) → (c : Cell) → occupancies_of new c ≡ occupancies_of old c
-unfolding occupancies_of
-same-rows old new h c = ap (λ z. list_in z c.x) (h c.y)
+pub list_at-set : {X : Type 0} (lists : List (Vec X Global)) (k : ℕ) (w : Vec X Global) → 1 ≤ k → k ≤ length lists → list_at (set lists (k - 1) w) k ≡ w.items
+list_at-set lists zero w h l = absurd (omega arith)
+list_at-set lists (suc k) w h l = ap (λ n. get_or (map (λ v. v.items) (set lists n w)) k []) (let z : suc k - 1 ≡ k = omega arith in z) ∙ list-set lists k w (omega arith)
+
+pub list_at-other : {X : Type 0} (lists : List (Vec X Global)) (k j : ℕ) (w : Vec X Global) → 1 ≤ k → j ≢ k → list_at (set lists (k - 1) w) j ≡ list_at lists j
+list_at-other lists k zero w h ne = refl
+list_at-other lists k (suc j) w h ne = list-other lists (k - 1) j w (λ s. ne (omega arith))
+
+pub list_at-before : {X : Type 0} (lists : List (Vec X Global)) (j : ℕ) (w : Vec X Global) → j ≤ length lists → list_at (lists ++ w ∷ []) j ≡ list_at lists j
+list_at-before lists zero w h = refl
+list_at-before {X} lists (suc j) w h = ap (λ z. get_or z j []) (map-append (λ v. v.items) lists (w ∷ [])) ∙ get_or_append_left (map (λ v. v.items) lists) (w.items ∷ []) [] j (omega (arith, length-map lists (λ (v : Vec X Global). v.items)))
+
+pub list_at-last : {X : Type 0} (lists : List (Vec X Global)) (w : Vec X Global) → list_at (lists ++ w ∷ []) (length lists + 1) ≡ w.items
+list_at-last {X} lists w = rw add-one (ap (λ z. get_or z (length lists) []) (map-append (λ v. v.items) lists (w ∷ [])) ∙ get_or_push (map (λ v. v.items) lists) w.items [] (length lists) (length-map lists (λ (v : Vec X Global). v.items)))
+
+-- ---- numbers of cells
+
+number-past : (rows : List (Vec ℕ Global)) (c : Cell) → length rows ≤ c.y → number_in rows c ≡ 0
+unfolding number_in
+number-past rows c l = ap (λ z. get_or z c.x 0) (list-past rows c.y l)
+
+pub number-read : (rows : List (Vec ℕ Global)) (c : Cell) (row : Vec ℕ Global) → c.y < length rows → row ≡ get_or rows c.y row → number_in rows c ≡ get_or row.items c.x 0
+unfolding number_in
+number-read rows c row l e = ap (λ z. get_or z c.x 0) (list-read rows c.y row l e)
+
+pub same-numbers : (old new : List (Vec ℕ Global)) → ((k : ℕ) → list_in new k ≡ list_in old k) → (c : Cell) → number_in new c ≡ number_in old c
+unfolding number_in
+same-numbers old new h c = ap (λ z. get_or z c.x 0) (h c.y)
 
 -- a row is replaced
-pub row-set : (rows : Rows) (y : ℕ) (row : Vec (Vec Occupancy Global) Global) (c : Cell) → y < length rows → c.y ≡ y → occupancies_of (set rows y row) c ≡ list_in row.items c.x
-unfolding occupancies_of
-row-set rows y row c l e = ap (λ z. list_in z c.x) (ap (list_in (set rows y row)) e ∙ list-set rows y row l)
+number-set : (rows : List (Vec ℕ Global)) (y : ℕ) (row : Vec ℕ Global) (c : Cell) → y < length rows → c.y ≡ y → number_in (set rows y row) c ≡ get_or row.items c.x 0
+unfolding number_in
+number-set rows y row c l e = ap (λ z. get_or z c.x 0) (ap (list_in (set rows y row)) e ∙ list-set rows y row l)
 
-pub row-other : (rows : Rows) (y : ℕ) (row : Vec (Vec Occupancy Global) Global) (c : Cell) → c.y ≢ y → occupancies_of (set rows y row) c ≡ occupancies_of rows c
-unfolding occupancies_of
-row-other rows y row c ne = ap (λ z. list_in z c.x) (list-other rows y c.y row ne)
+number-other : (rows : List (Vec ℕ Global)) (y : ℕ) (row : Vec ℕ Global) (c : Cell) → c.y ≢ y → number_in (set rows y row) c ≡ number_in rows c
+unfolding number_in
+number-other rows y row c ne = ap (λ z. get_or z c.x 0) (list-other rows y c.y row ne)
 
--- a row is replaced by one that holds the same
-pub same-row : (rows : Rows) (y : ℕ) (old new : Vec (Vec Occupancy Global) Global) → y < length rows → old ≡ get_or rows y old → ((k : ℕ) → list_in new.items k ≡ list_in old.items k) → (c : Cell) → occupancies_of (set rows y new) c ≡ occupancies_of rows c
-same-row rows y old new l e h c = elim (cases_eq c.y y) [
-  | inl s ↦ row-set rows y new c l s ∙ h c.x ∙ sym (row-read rows c old (omega arith) (subst (λ z. old ≡ get_or rows z old) (sym s) e))
-  | inr ne ↦ row-other rows y new c ne
-]
+module _ (old wide : List (Vec ℕ Global)) (y : ℕ) (row new : Vec ℕ Global) (same : (k : ℕ) → list_in wide k ≡ list_in old k) (l : y < length wide) (e : row ≡ get_or wide y row) where
+  was : (c : Cell) → c.y ≡ y → get_or row.items c.x 0 ≡ number_in old c
+  was c s = sym (number-read wide c row (omega arith) (subst (λ z. row ≡ get_or wide z row) (sym s) e)) ∙ same-numbers old wide same c
 
-pub list-here : (rows : Rows) (cell : Cell) (y x : ℕ) (ey : y ≡ cell.y) (ex : x ≡ cell.x) (row : Vec (Vec Occupancy Global) Global) (lists : List (Vec Occupancy Global)) (list : Vec Occupancy Global) → y < length rows → row ≡ get_or rows y row → ((k : ℕ) → list_in lists k ≡ list_in row.items k) → x < length lists → list ≡ get_or lists x list → occupancies_of rows cell ≡ list.items
-list-here rows cell y x ey ex row lists list l e same m f =
-    row-read rows cell row (omega arith) (subst (λ z. row ≡ get_or rows z row) ey e)
-    ∙ sym (same cell.x)
-    ∙ list-read lists cell.x list (omega arith) (subst (λ z. list ≡ get_or lists z list) ex f)
+  elsewhere : (c : Cell) → c.y ≢ y → number_in (set wide y new) c ≡ number_in old c
+  elsewhere c ne = number-other wide y new c ne ∙ same-numbers old wide same c
 
--- a list of a row is replaced
-module _ (rows : Rows) (cell : Cell) (y x : ℕ) (ey : y ≡ cell.y) (ex : x ≡ cell.x) (row new : Vec (Vec Occupancy Global) Global) (lists : List (Vec Occupancy Global)) (list list' : Vec Occupancy Global) (l : y < length rows) (e : row ≡ get_or rows y row) (same : (k : ℕ) → list_in lists k ≡ list_in row.items k) (m : x < length lists) (f : list ≡ get_or lists x list) (g : new.items ≡ set lists x list') where
-  list-put : occupancies_of (set rows y new) cell ≡ list'.items
-  list-put = row-set rows y new cell l (sym ey) ∙ ap (λ z. list_in z cell.x) g ∙ ap (list_in (set lists x list')) (sym ex) ∙ list-set lists x list' m
-
-  list-kept : (c : Cell) → c ≢ cell → occupancies_of (set rows y new) c ≡ occupancies_of rows c
-  list-kept c ne = elim (cases_eq c.y y) [
-    | inr a ↦ row-other rows y new c a
-    | inl s ↦ row-set rows y new c l s ∙ ap (λ z. list_in z c.x) g ∙ list-other lists x c.x list' (λ a. ne (cell_from_parts c cell (a ∙ ex) (s ∙ ey))) ∙ same c.x ∙ sym (row-read rows c row (omega arith) (subst (λ z. row ≡ get_or rows z row) (sym s) e))
+  pub numbers-kept : new.items ≡ row.items → (c : Cell) → number_in (set wide y new) c ≡ number_in old c
+  numbers-kept h c = elim (cases_eq c.y y) [
+    | inr ne ↦ elsewhere c ne
+    | inl s ↦ number-set wide y new c l s ∙ ap (λ z. get_or z c.x 0) h ∙ was c s
   ]
 
-  pub list-same : list'.items ≡ list.items → (c : Cell) → occupancies_of (set rows y new) c ≡ occupancies_of rows c
-  list-same h c = elim (cases_eq c.y y) [
-    | inr a ↦ row-other rows y new c a
-    | inl s ↦ elim (cases_eq c.x x) [
-      | inr a ↦ list-kept c (λ z. a (ap (λ (d : Cell). d.x) z ∙ sym ex))
-      | inl a ↦ let z = cell_from_parts c cell (a ∙ ex) (s ∙ ey) in ap (occupancies_of (set rows y new)) z ∙ list-put ∙ h ∙ sym (list-here rows cell y x ey ex row lists list l e same m f) ∙ ap (occupancies_of rows) (sym z)
+  pub numbered : (cell : Cell) (x number : ℕ) → y ≡ cell.y → x ≡ cell.x → get_or new.items x 0 ≡ number → ((k : ℕ) → k ≢ x → get_or new.items k 0 ≡ get_or row.items k 0) → IsNumbered old (set wide y new) cell number
+  numbered cell x number ey ex here others = record {
+    here = number-set wide y new cell l (sym ey) ∙ ap (λ k. get_or new.items k 0) (sym ex) ∙ here;
+    others = λ c ne. elim (cases_eq c.y y) [
+      | inr a ↦ elsewhere c a
+      | inl s ↦ number-set wide y new c l s ∙ others c.x (λ a. ne (cell_from_parts c cell (a ∙ ex) (s ∙ ey))) ∙ was c s
+    ];
+  }
+
+-- ---- each list is that of one cell
+
+pub own-none : HaveOwnLists [] []
+own-none = record {
+  few = λ c. (let z = number-past [] c (omega arith) in omega arith);
+  apart = λ c d ne e. number-past [] c (omega arith);
+}
+
+pub own-kept : (old new : List (Vec ℕ Global)) (lists more : List (Vec Occupancy Global)) → HaveOwnLists old lists → ((c : Cell) → number_in new c ≡ number_in old c) → length lists ≤ length more → HaveOwnLists new more
+own-kept old new lists more own same long = record {
+  few = λ c. (let z = same c in let f = own.few c in omega arith);
+  apart = λ c d ne e. same c ∙ own.apart c d ne (sym (same c) ∙ e ∙ same d);
+}
+
+pub own-numbered : (old new : List (Vec ℕ Global)) (lists more : List (Vec Occupancy Global)) (cell : Cell) → HaveOwnLists old lists → IsNumbered old new cell (length lists + 1) → length more ≡ length lists + 1 → HaveOwnLists new more
+own-numbered old new lists more cell own put long = record {
+  few = λ c. elim (cell_cases c cell) [
+    | inl s ↦ (let z = here c s in omega arith)
+    | inr ne ↦ (let z = put.others c ne in let f = own.few c in omega arith)
+  ];
+  apart = λ c d ne e. elim (cell_cases c cell) [
+    | inl s ↦ (let z = here c s in let f = below d (λ t. ne (s ∙ sym t)) in absurd (omega arith))
+    | inr a ↦ elim (cell_cases d cell) [
+      | inl t ↦ (let z = here d t in let f = below c a in absurd (omega arith))
+      | inr b ↦ put.others c a ∙ own.apart c d ne (sym (put.others c a) ∙ e ∙ put.others d b)
     ]
+  ];
+}
+  where
+    here : (c : Cell) → c ≡ cell → number_in new c ≡ length lists + 1
+    here c s = ap (number_in new) s ∙ put.here
+
+    below : (c : Cell) → c ≢ cell → number_in new c ≤ length lists
+    below c ne = let z = put.others c ne in let f = own.few c in omega arith
+
+-- ---- the stays on a cell
+
+pub stays-numbered : (t : ReservationTable) (c : Cell) (n : ℕ) → number_in t.numbers.items c ≡ n → occupancies_of t c ≡ list_at t.lists.items n
+unfolding occupancies_of
+stays-numbered t c n e = ap (list_at t.lists.items) e
+
+pub stays-none : (t : ReservationTable) → t.numbers.items ≡ [] → (c : Cell) → occupancies_of t c ≡ []
+stays-none t e c = stays-numbered t c 0 (ap (λ z. number_in z c) e ∙ number-past [] c (omega arith))
+
+pub stays-same : (old new : ReservationTable) → new.numbers.items ≡ old.numbers.items → new.lists.items ≡ old.lists.items → (c : Cell) → occupancies_of new c ≡ occupancies_of old c
+stays-same old new e h c =
+    let n = number_in old.numbers.items c in
+    stays-numbered new c n (ap (λ z. number_in z c) e) ∙ ap (λ z. list_at z n) h ∙ sym (stays-numbered old c n refl)
+
+-- the list at this place is that of the cell
+pub list-here : (t : ReservationTable) (cell : Cell) (k : ℕ) (v : Vec Occupancy Global) → number_in t.numbers.items cell ≡ k + 1 → k < length t.lists.items → v ≡ get_or t.lists.items k v → occupancies_of t cell ≡ v.items
+list-here t cell k v n l e = stays-numbered t cell (k + 1) n ∙ list_at-read t.lists.items (k + 1) v (omega arith) (omega arith) (e ∙ ap (λ j. get_or t.lists.items j v) (omega arith))
+
+-- a list is added
+module _ (old new : ReservationTable) (own : HaveOwnLists old.numbers.items old.lists.items) (w : Vec Occupancy Global) (more : new.lists.items ≡ old.lists.items ++ w ∷ []) where
+  others-more : (c : Cell) → number_in new.numbers.items c ≡ number_in old.numbers.items c → occupancies_of new c ≡ occupancies_of old c
+  others-more c e =
+      stays-numbered new c (number_in old.numbers.items c) e
+      ∙ ap (λ z. list_at z (number_in old.numbers.items c)) more
+      ∙ list_at-before old.lists.items (number_in old.numbers.items c) w (own.few c)
+      ∙ sym (stays-numbered old c (number_in old.numbers.items c) refl)
+
+  pub list-unused : ((c : Cell) → number_in new.numbers.items c ≡ number_in old.numbers.items c) → (c : Cell) → occupancies_of new c ≡ occupancies_of old c
+  list-unused same c = others-more c (same c)
+
+  pub list-begun : (cell : Cell) → w.items ≡ [] → number_in old.numbers.items cell ≡ 0 → IsNumbered old.numbers.items new.numbers.items cell (length old.lists.items + 1) → (c : Cell) → occupancies_of new c ≡ occupancies_of old c
+  list-begun cell none zero_before put c = elim (cell_cases c cell) [
+    | inr ne ↦ others-more c (put.others c ne)
+    | inl s ↦
+        stays-numbered new c (length old.lists.items + 1) (ap (number_in new.numbers.items) s ∙ put.here)
+        ∙ ap (λ z. list_at z (length old.lists.items + 1)) more
+        ∙ list_at-last old.lists.items w
+        ∙ none
+        ∙ sym (stays-numbered old c 0 (ap (number_in old.numbers.items) s ∙ zero_before))
   ]
 
-  pub list-added : (occupancy : Occupancy) (old : Rows) → ((c : Cell) → occupancies_of rows c ≡ occupancies_of old c) → IsPutIn list.items list'.items occupancy → IsAdded old (set rows y new) cell occupancy
-  list-added occupancy old h p = record {
-    here = subst (λ z. IsPutIn z (occupancies_of (set rows y new) cell) occupancy) (sym (list-here rows cell y x ey ex row lists list l e same m f) ∙ h cell) (subst (λ z. IsPutIn list.items z occupancy) (sym list-put) p);
-    others = λ c ne. list-kept c ne ∙ h c;
+-- a list is exchanged
+module _ (t new : ReservationTable) (own : HaveOwnLists t.numbers.items t.lists.items) (cell : Cell) (k : ℕ) (v w : Vec Occupancy Global) (n : number_in t.numbers.items cell ≡ k + 1) (l : k < length t.lists.items) (e : v ≡ get_or t.lists.items k v) (numbers : new.numbers.items ≡ t.numbers.items) (lists : new.lists.items ≡ set t.lists.items k w) where
+  at : (j : ℕ) → list_at new.lists.items j ≡ list_at (set t.lists.items (k + 1 - 1) w) j
+  at j = ap (λ z. list_at z j) lists ∙ ap (λ i. list_at (set t.lists.items i w) j) (omega arith)
+
+  number : (c : Cell) → number_in new.numbers.items c ≡ number_in t.numbers.items c
+  number c = ap (λ z. number_in z c) numbers
+
+  list-put : occupancies_of new cell ≡ w.items
+  list-put = stays-numbered new cell (k + 1) (number cell ∙ n) ∙ at (k + 1) ∙ list_at-set t.lists.items (k + 1) w (omega arith) (omega arith)
+
+  list-kept : (c : Cell) → c ≢ cell → occupancies_of new c ≡ occupancies_of t c
+  list-kept c ne =
+      let j = number_in t.numbers.items c in
+      let apart : j ≢ k + 1 = λ s. (let z = own.apart c cell ne (s ∙ sym n) in omega arith) in
+      stays-numbered new c j (number c) ∙ at j ∙ list_at-other t.lists.items (k + 1) j w (omega arith) apart ∙ sym (stays-numbered t c j refl)
+
+  pub list-same : w.items ≡ v.items → (c : Cell) → occupancies_of new c ≡ occupancies_of t c
+  list-same h c = elim (cell_cases c cell) [
+    | inr ne ↦ list-kept c ne
+    | inl s ↦ ap (occupancies_of new) s ∙ list-put ∙ h ∙ sym (list-here t cell k v n l e) ∙ ap (occupancies_of t) (sym s)
+  ]
+
+  pub list-added : (old : ReservationTable) (occupancy : Occupancy) → ((c : Cell) → occupancies_of t c ≡ occupancies_of old c) → IsPutIn v.items w.items occupancy → IsAdded old new cell occupancy
+  list-added old occupancy same p = record {
+    here = subst (λ z. IsPutIn z (occupancies_of new cell) occupancy) (sym (list-here t cell k v n l e) ∙ same cell) (subst (λ z. IsPutIn v.items z occupancy) (sym list-put) p);
+    others = λ c ne. list-kept c ne ∙ same c;
   }
 
 -- ---- the stays of one agent are taken out
@@ -140,27 +254,12 @@ without-none agent (s ∷ ss) h =
 pub without-others : (plan : Plan) (c : Cell) (occupancies : List Occupancy) → AreStays plan c occupancies → without (length plan) occupancies ≡ occupancies
 without-others plan c occupancies h = without-none (length plan) occupancies (λ i l. (h.each i l).agent)
 
--- the stays of the agent are gone from the rows before y
-pub record ChangedRows (agent : ℕ) (old new : Rows) (y : ℕ) : Type 0 where
-  pub done : (c : Cell) → c.y < y → occupancies_of new c ≡ without agent (occupancies_of old c)
-  pub left : (c : Cell) → y ≤ c.y → occupancies_of new c ≡ occupancies_of old c
-
-pub rows-none : (agent : ℕ) (old : Rows) → ChangedRows agent old old 0
-rows-none agent old = record { done = λ c l. absurd (omega arith); left = λ c l. refl }
-
-pub rows-more : (agent : ℕ) (old now : Rows) (y : ℕ) (v w : Vec (Vec Occupancy Global) Global) → ChangedRows agent old now y → y < length now → v ≡ get_or now y v → ((k : ℕ) → list_in w.items k ≡ without agent (list_in v.items k)) → ChangedRows agent old (set now y w) (y + 1)
-rows-more agent old now y v w h l e g = record {
-  done = λ c m. elim (cases_eq c.y y) [
-    | inl s ↦ row-set now y w c l s ∙ g c.x ∙ ap (without agent) (sym (row-read now c v (omega arith) (subst (λ z. v ≡ get_or now z v) (sym s) e)) ∙ h.left c (omega arith))
-    | inr ne ↦ row-other now y w c ne ∙ h.done c (omega arith)
-  ];
-  left = λ c m. row-other now y w c (λ s. omega arith) ∙ h.left c (omega arith);
-}
-
-pub rows-all : (agent : ℕ) (old now : Rows) (y : ℕ) → ChangedRows agent old now y → length now ≤ y → (c : Cell) → occupancies_of now c ≡ without agent (occupancies_of old c)
-rows-all agent old now y h l c = elim (cases_lt c.y y) [
-  | inl m ↦ h.done c m
-  | inr m ↦
-      let none = no_row now c (omega arith) in
-      none ∙ ap (without agent) (sym none ∙ h.left c m)
-]
+-- the stays of the agent are gone from all lists
+pub stays-removed : (agent : ℕ) (old new : ReservationTable) → new.numbers.items ≡ old.numbers.items → ((k : ℕ) → list_in new.lists.items k ≡ without agent (list_in old.lists.items k)) → (c : Cell) → occupancies_of new c ≡ without agent (occupancies_of old c)
+stays-removed agent old new e h c =
+    let n = number_in old.numbers.items c in
+    stays-numbered new c n (ap (λ z. number_in z c) e) ∙ by_number n ∙ ap (without agent) (sym (stays-numbered old c n refl))
+  where
+    by_number : (n : ℕ) → list_at new.lists.items n ≡ without agent (list_at old.lists.items n)
+    by_number zero = refl
+    by_number (suc n) = h n

@@ -4,8 +4,9 @@ use Rattle.std.proofs.lemmas.List.{take_more}
 use Rattle.fleet_model.specs.declared.geometry.Cell.{Cell}
 use Rattle.fleet_model.specs.Program.{origin}
 use Rattle.fleet_plan.specs.Plan.{Plan, IsPath, cell_at, steps}
+use Rattle.fleet_search.specs.declared.reservation_table.ReservationTable.{ReservationTable}
 use Rattle.fleet_search.specs.Way.{joined, Fits}
-use Rattle.fleet_search.specs.Occupancies.{AreReserved, HaveOccupancies, Rows, occupancies_of}
+use Rattle.fleet_search.specs.Occupancies.{AreReserved, AreStays, HaveOccupancies, occupancies_of}
 use Rattle.fleet_search.proofs.OneByOne.{FitTogether-push}
 
 pub take-cell : (path : List Cell) (t : ℕ) (xs ys : List Cell) (c : Cell) → xs ≡ take t path → c ≡ cell_at path t → ys ≡ xs ++ c ∷ [] → t < length path → ys ≡ take (t + 1) path
@@ -29,21 +30,24 @@ steps-none : steps [] ≡ 0
 unfolding steps
 steps-none = refl
 
-pub reserved-none : (paths : Plan) (rows : Rows) → paths ≡ [] → rows ≡ [] → AreReserved paths rows 0
-unfolding occupancies_of
-reserved-none paths rows e f = subst (λ z. AreReserved z rows 0) (sym e) (subst (λ z. AreReserved [] z 0) (sym f) (record {
+-- nobody was on the cell
+no_stays : (c : Cell) → AreStays [] c []
+no_stays c = record {
+  each = λ i l. absurd (omega arith);
+  apart = λ i k l m. absurd (omega arith);
+  all = λ t j on. let a = on.agent in absurd (omega arith);
+}
+
+pub reserved-none : (paths : Plan) (table : ReservationTable) → paths ≡ [] → ((c : Cell) → occupancies_of table c ≡ []) → AreReserved paths table 0
+reserved-none paths table e f = subst (λ z. AreReserved z table 0) (sym e) (record {
   together = λ i h. absurd (omega arith);
   all_paths = λ k d h. absurd (omega arith);
   latest = sym steps-none;
-  occupancies = λ c. record {
-    each = λ i l. absurd (omega arith);
-    apart = λ i k l m. absurd (omega arith);
-    all = λ t j on. let a = on.agent in absurd (omega arith);
-  };
-}))
+  occupancies = λ c. subst (AreStays [] c) (sym (f c)) (no_stays c);
+})
 
 -- the lists changed, and say what they said
-pub reserved-kept : (paths : Plan) (old new : Rows) (last : ℕ) → AreReserved paths old last → HaveOccupancies paths new → AreReserved paths new last
+pub reserved-kept : (paths : Plan) (old new : ReservationTable) (last : ℕ) → AreReserved paths old last → HaveOccupancies paths new → AreReserved paths new last
 reserved-kept paths old new last h occupancies = record {
   together = h.together;
   all_paths = h.all_paths;
@@ -51,7 +55,7 @@ reserved-kept paths old new last h occupancies = record {
   occupancies = occupancies;
 }
 
-pub reserved-pushed : (paths all : Plan) (old new : Rows) (last last' : ℕ) (path copy : List Cell) (end : ℕ) → AreReserved paths old last → Fits paths path → IsPath path → HaveOccupancies (joined paths path) new → copy ≡ path → all ≡ paths ++ copy ∷ [] → end + 1 ≡ length path → last' ≡ max last end → AreReserved all new last'
+pub reserved-pushed : (paths all : Plan) (old new : ReservationTable) (last last' : ℕ) (path copy : List Cell) (end : ℕ) → AreReserved paths old last → Fits paths path → IsPath path → HaveOccupancies (joined paths path) new → copy ≡ path → all ≡ paths ++ copy ∷ [] → end + 1 ≡ length path → last' ≡ max last end → AreReserved all new last'
 reserved-pushed paths all old new last last' path copy end h fits is_path occupancies f g e m =
     let p : joined paths path ≡ all = ap (λ z. paths ++ z ∷ []) (sym f) ∙ sym g in
     subst (λ z. AreReserved z new last') p (record {

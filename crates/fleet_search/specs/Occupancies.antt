@@ -7,6 +7,8 @@ use Rattle.fleet_model.specs.declared.geometry.Cell.{Cell}
 use Rattle.fleet_model.specs.declared.limits.TheConstants.{MAX_HORIZON}
 use Rattle.fleet_plan.specs.Plan.{Plan, IsPath, cell_of, steps}
 use Rattle.fleet_search.specs.declared.occupancy.Occupancy.{Occupancy}
+use Rattle.fleet_search.specs.declared.reservation_table.ReservationTable.{ReservationTable}
+use Rattle.fleet_search.specs.Numbers.{number_in, list_of}
 use Rattle.fleet_search.specs.Way.{FitTogether}
 use Rattle.fleet_search.specs.Reserved.{IsOn}
 
@@ -37,24 +39,20 @@ pub record AreStays (plan : Plan) (c : Cell) (occupancies : List Occupancy) : Ty
 
 -- ---- reservation tables
 
--- the lists of the occupancies on cells, in rows
-abbrev pub Rows : Type 0
-Rows = List (Vec (Vec Occupancy Global) Global)
-
 -- the occupancies on the cell
-unfoldable pub occupancies_of : Rows → Cell → List Occupancy
-occupancies_of rows c = get_or (map (λ v. v.items) (get_or (map (λ v. v.items) rows) c.y [])) c.x []
+unfoldable pub occupancies_of : ReservationTable → Cell → List Occupancy
+occupancies_of t c = list_of t.lists.items (number_in t.numbers.items c)
 
 -- the occupancies on each cell
-abbrev pub HaveOccupancies : Plan → Rows → Type 0
-HaveOccupancies plan rows = (c : Cell) → AreStays plan c (occupancies_of rows c)
+abbrev pub HaveOccupancies : Plan → ReservationTable → Type 0
+HaveOccupancies plan t = (c : Cell) → AreStays plan c (occupancies_of t c)
 
 -- each path fits those before it, and the occupancies of all stand in the reservation table
-pub record AreReserved (paths : Plan) (rows : Rows) (last : ℕ) : Type 0 where
+pub record AreReserved (paths : Plan) (table : ReservationTable) (last : ℕ) : Type 0 where
   pub together : FitTogether paths
   pub all_paths : All IsPath paths
   pub latest : last ≡ steps paths
-  pub occupancies : HaveOccupancies paths rows
+  pub occupancies : HaveOccupancies paths table
 
 -- the occupancies begin one after another
 abbrev pub AreInOrder : List Occupancy → Type 0
@@ -69,7 +67,7 @@ pub record IsPutIn (old new : List Occupancy) (occupancy : Occupancy) : Type 0 w
   pub after : (i : ℕ) → index ≤ i → i < length old → occupancy.from < (occupancy_at old i).from
 
 -- the occupancy was put in on the cell, and the others have the same
-pub record IsAdded (old new : Rows) (cell : Cell) (occupancy : Occupancy) : Type 0 where
+pub record IsAdded (old new : ReservationTable) (cell : Cell) (occupancy : Occupancy) : Type 0 where
   pub here : IsPutIn (occupancies_of old cell) (occupancies_of new cell) occupancy
   pub others : (c : Cell) → c ≢ cell → occupancies_of new c ≡ occupancies_of old c
 

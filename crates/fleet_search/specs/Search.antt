@@ -29,12 +29,12 @@ heuristic_of q c = heuristic q.grid.now q.distances.now c
 
 -- the occupancies of the reserved agents on the cell
 abbrev pub occupancies_on : Query → Cell → List Occupancy
-occupancies_on q c = occupancies_of q.rows.now c
+occupancies_on q c = occupancies_of q.table.now c
 
 -- the tables of the query are right: that of distances for its goal, that of occupancies for the reserved agents
 pub record IsMeasured (q : Query) : Type 0 where
   pub heuristic : AreDistances q.grid.now q.distances.now q.goal
-  pub occupancies : HaveOccupancies q.reserved.now q.rows.now
+  pub occupancies : HaveOccupancies q.reserved.now q.table.now
 
 abbrev pub AreBeside : Cell → Cell → Type 0
 AreBeside c d = (c ≡ d) ⊎ AreNeighbours c d

@@ -260,8 +260,9 @@ impl Distances {
     }
 
     /// Whether there is more to be labelled, after so many cells: the start, and the cells over which paths lead that are no
-    /// more delayed than the last one, as long as this costs less than the last search. An agent is often held up as the one before it.
-    fn is_wanted(&self, grid: &Grid, horizon: u16, labelled: usize) -> bool
+    /// more delayed than the last one, or arrive before the goal is free, as long as this costs less than the last search. An agent is
+    /// often held up as the one before it.
+    fn is_wanted(&self, grid: &Grid, horizon: u16, goal_free_from: u32, labelled: usize) -> bool
         requires ready { IsReady grid.now self.now.labels.items self.now.search }
         requires start { IsOnGround grid.now self.now.start }
         ensures { IsTrue result → (self.now.f_bound < MAX_HORIZON) }
@@ -275,13 +276,18 @@ impl Distances {
                 let least = u32::from(distance);
                 self.f_bound <= least
                     || labelled < self.last.nodes
-                        && self.f_bound <= least.saturating_add(self.last.delay)
+                        && self.f_bound <= goal_free_from.max(least.saturating_add(self.last.delay))
             }
         }
     }
 
     /// Labels cells as far as that is wanted.
-    fn expand_layers(&mut self, grid: &Grid, horizon: u16) -> Result<(), OutOfMemory>
+    fn expand_layers(
+        &mut self,
+        grid: &Grid,
+        horizon: u16,
+        goal_free_from: u32,
+    ) -> Result<(), OutOfMemory>
         requires spread { IsSpreadOf grid.now None self.old }
         requires start { IsOnGround grid.now self.old.start }
         requires next { self.old.next.items ≡ [] }
@@ -291,7 +297,7 @@ impl Distances {
     {
         let mut labelled = 0usize;
         for _round in 0..horizon {
-            if !self.is_wanted(grid, horizon, labelled) {
+            if !self.is_wanted(grid, horizon, goal_free_from, labelled) {
                 return Ok(());
             }
             labelled = labelled.saturating_add(self.layer.len());
@@ -310,12 +316,13 @@ impl Distances {
     }
 
     /// Labels the cells over which the shortest paths from the start to the goal lead, and those over which paths lead that are
-    /// delayed as the last one was, up to the horizon.
+    /// delayed as the last one was or arrive before the goal is free, up to the horizon.
     pub fn compute(
         &mut self,
         grid: &Grid,
         start: Cell,
         goal: Cell,
+        goal_free_from: u32,
         horizon: u16,
     ) -> Result<(), OutOfMemory>
         requires ready { IsReady grid.now self.old.labels.items self.old.search }
@@ -324,7 +331,7 @@ impl Distances {
         ensures { OnOk result (AreDistances grid.now self.new goal) }
     {
         self.begin(grid, start, goal)?;
-        self.expand_layers(grid, horizon)?;
+        self.expand_layers(grid, horizon, goal_free_from)?;
         // Where nothing is left to be labelled, no path from the start leads to the goal over the cells that are not: they
         // count as beyond the horizon.
         let beyond = u32::from(horizon) + 1;

@@ -78,11 +78,11 @@ pub fn earliest_over(
     if goal_free_from > u32::from(horizon) {
         return Err(SearchFault::NoPath);
     }
-    distances.compute(grid, start, goal, horizon)?;
+    distances.compute(grid, start, goal, goal_free_from, horizon)?;
     let query = Query {
         grid,
         reserved,
-        rows: reserved.rows(),
+        table: reserved.table(),
         distances,
         start,
         goal,

@@ -15,10 +15,10 @@ ghost use Rattle.fleet_search.specs.Search.{heuristic_of, occupancies_on, IsMeas
 ghost use Rattle.fleet_search.specs.Labels.{AreLabels};
 
 use crate::distances::Distances;
-use crate::intervals::{begins_after, earliest_within, end_after};
+use crate::intervals::{SafeInterval, begins_after, earliest_within, interval_after};
 use crate::labels::Labels;
-use crate::occupancy::Occupancy;
-use crate::reservation_table::{occupancies_on, started_by};
+use crate::occupancy::{Occupancy, started_by};
+use crate::reservation_table::ReservationTable;
 use crate::reservations::Reservations;
 use crate::rows::{clear, put, take};
 use crate::state::State;
@@ -33,7 +33,7 @@ pub struct Query<'a> {
     pub grid: &'a Grid,
     pub reserved: &'a Reservations,
     /// For each cell the occupancies of the reserved agents there.
-    pub rows: &'a [Vec<Vec<Occupancy>>],
+    pub table: &'a ReservationTable,
     pub distances: &'a Distances,
     pub start: Cell,
     pub goal: Cell,
@@ -56,16 +56,17 @@ impl Query<'_> {
     fn occupancies(&self, cell: Cell) -> &[Occupancy]
         ensures { result.now ≡ occupancies_on self.now cell }
     {
-        occupancies_on(self.rows, cell)
+        self.table.occupancies(cell)
     }
 
-    /// Until when the agent may wait on the cell.
-    fn until(&self, state: State) -> u32
+    /// The safe interval in which the state is: until its end the agent may wait there.
+    fn interval(&self, state: State) -> SafeInterval
         requires measured { IsMeasured self.now }
         requires free { IsUnoccupied self.now.reserved.now state.time state.cell }
-        ensures { IsFreeUntil self.now state result }
+        ensures inside { IsInInterval (occupancies_on self.now state.cell) result.number state.time }
+        ensures until { IsFreeUntil self.now state result.until }
     {
-        end_after(self.occupancies(state.cell), state.time)
+        interval_after(self.occupancies(state.cell), state.time)
     }
 
     /// Whether the step that begins at the time fits, where nobody is on the cell at its end.
@@ -277,16 +278,23 @@ impl Frontier {
         }
     }
 
-    /// Whether the cell was reached sooner in the safe interval in which the state at this place is.
-    fn is_superseded(&self, query: &Query, bucket: u32, place: usize, state: State) -> bool
+    /// Whether the cell was reached sooner in the safe interval of this number, in which the state at this place is.
+    fn is_superseded(
+        &self,
+        query: &Query,
+        bucket: u32,
+        place: usize,
+        state: State,
+        interval: usize,
+    ) -> bool
         requires frontier { IsFrontierOf query.now (bucket - 1) (Some place) self.now }
         requires left { IsLeft query.now bucket self.now place state }
+        requires inside { IsInInterval (occupancies_on query.now state.cell) interval state.time }
         ensures { IsTrue result → IsSuperseded query.now self.now.nodes.items state }
     {
         if state.time == 0 {
             return false;
         }
-        let interval = started_by(query.occupancies(state.cell), state.time);
         let number = query.grid.cell_index(state.cell);
         self.labels.is_reached(number, interval, state.time - 1)
     }
@@ -306,14 +314,14 @@ impl Frontier {
         ensures frontier { OnOk result (IsFrontierOf query.now (bucket - 1) None self.new) }
         ensures grows { OnOk result (Grows self.old self.new) }
     {
-        if self.is_superseded(query, bucket, place, state) {
+        let interval = query.interval(state);
+        if self.is_superseded(query, bucket, place, state, interval.number) {
             return Ok(());
         }
-        let until = query.until(state);
         let left = Expansion {
             place,
             state,
-            until,
+            until: interval.until,
         };
         self.successors_towards(query, bucket, left, Dir::South)?;
         self.successors_towards(query, bucket, left, Dir::North)?;

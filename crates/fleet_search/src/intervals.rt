@@ -2,10 +2,9 @@
 
 ghost use Rattle.std.specs.Prelude.{◌↔◌, ◌≤◌, ◌<◌, ◌-◌, ℕ, length, IsTrue, IfSome, IfNone};
 ghost use Rattle.fleet_search.specs.Occupancies.{occupancy_at};
-ghost use Rattle.fleet_search.specs.Intervals.{AreSuccessive, IsInInterval, IsEarliestWithin, IsEndAfter};
+ghost use Rattle.fleet_search.specs.Intervals.{AreSuccessive, AreBegun, IsInInterval, IsEarliestWithin, IsEndAfter};
 
-use crate::occupancy::Occupancy;
-use crate::reservation_table::started_by;
+use crate::occupancy::{Occupancy, started_by};
 
 /// Whether the time is in the safe interval of this number.
 pub fn is_in_interval(occupancies: &[Occupancy], interval: usize, time: u32) -> bool
@@ -63,15 +62,24 @@ pub fn begins_after(occupancies: &[Occupancy], interval: usize, time: u32) -> bo
     time < occupancies[interval - 1].from
 }
 
-/// When the first of the occupancies begins that come after the time.
-pub fn end_after(occupancies: &[Occupancy], time: u32) -> u32
+/// A safe interval of a cell: how many occupancies there are before it, and when the next one begins.
+#[derive(Clone, Copy, Debug)]
+pub struct SafeInterval {
+    pub number: usize,
+    pub until: u32,
+}
+
+/// How many of the occupancies have begun by the time, and when the first of those begins that come after it.
+pub fn interval_after(occupancies: &[Occupancy], time: u32) -> SafeInterval
     requires order { AreSuccessive occupancies.now }
-    ensures { IsEndAfter occupancies.now time result }
+    ensures begun { AreBegun occupancies.now time result.number }
+    ensures end { IsEndAfter occupancies.now time result.until }
 {
-    let next = started_by(occupancies, time);
-    if next < occupancies.len() {
-        occupancies[next].from
+    let number = started_by(occupancies, time);
+    let until = if number < occupancies.len() {
+        occupancies[number].from
     } else {
         u32::MAX
-    }
+    };
+    SafeInterval { number, until }
 }

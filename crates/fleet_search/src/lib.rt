@@ -10,6 +10,7 @@ mod frontier;
 mod intervals;
 mod labels;
 mod laws;
+mod numbers;
 mod occupancy;
 mod orders;
 mod planner;

@@ -8,8 +8,8 @@ ghost use Rattle.fleet_search.specs.Way.{Fits, FitTogether, StepFits};
 ghost use Rattle.fleet_search.specs.Occupancies.{HaveOccupancies};
 ghost use Rattle.fleet_search.specs.Reserved.{IsOn, IsUnoccupied, IsFreeFrom, LeadsBack};
 
-use crate::occupancy::Occupancy;
-use crate::reservation_table::{insert_path, occupancies_on, started_by};
+use crate::occupancy::started_by;
+use crate::reservation_table::ReservationTable;
 use fleet_model::{Cell, OutOfMemory};
 use fleet_plan::Path;
 use std::alloc::Global;
@@ -20,7 +20,7 @@ use std::marker::Model;
 pub struct Reservations {
     alloc: Global,
     paths: Vec<Path>,
-    rows: Vec<Vec<Vec<Occupancy>>>,
+    table: ReservationTable,
     last: u32,
 }
 
@@ -33,7 +33,7 @@ impl Model for Reservations {
 
     ghost view = { λ r. r.paths.items };
 
-    ghost invariant = { λ r. AreReserved r.paths.items r.rows.items r.last };
+    ghost invariant = { λ r. AreReserved r.paths.items r.table r.last };
 }
 
 /// A copy of the path.
@@ -54,7 +54,7 @@ impl Reservations {
         Reservations {
             alloc,
             paths: Vec::new(alloc),
-            rows: Vec::new(alloc),
+            table: ReservationTable::new(alloc),
             last: 0,
         }
     }
@@ -68,11 +68,11 @@ impl Reservations {
         self.last
     }
 
-    /// The reservation table: for each cell the occupancies on it.
-    pub(crate) fn rows(&self) -> &[Vec<Vec<Occupancy>>]
+    /// For each cell the occupancies on it.
+    pub(crate) fn table(&self) -> &ReservationTable
         ensures { HaveOccupancies self.now result.now }
     {
-        self.rows.as_slice()
+        &self.table
     }
 
     /// The agent that stands on the cell at the time.
@@ -80,7 +80,7 @@ impl Reservations {
         ensures some { IfSome result (IsOn self.now time cell) }
         ensures none { IfNone result (IsUnoccupied self.now time cell) }
     {
-        let occupancies = occupancies_on(self.rows(), cell);
+        let occupancies = self.table().occupancies(cell);
         let count = started_by(occupancies, time);
         if count == 0 {
             return None;
@@ -159,7 +159,7 @@ impl Reservations {
         ensures some { IfSome result (λ s. (t : ℕ) → IsFreeFrom self.now cell t ↔ (s ≤ t)) }
         ensures none { IfNone result ((t : ℕ) → IsFreeFrom self.now cell t → ⊥) }
     {
-        match occupancies_on(self.rows(), cell).last() {
+        match self.table().occupancies(cell).last() {
             None => Some(0),
             Some(occupancy) => {
                 if occupancy.until == u32::MAX {
@@ -189,7 +189,7 @@ impl Reservations {
     {
         let copy = copy_of(self.alloc, path)?;
         self.paths.reserve(1)?;
-        insert_path(self.alloc, &mut self.rows, self.paths.as_slice(), path)?;
+        self.table.insert(self.paths.as_slice(), path)?;
         self.paths.push(copy)?;
         self.last = self.last.max(path.steps());
         Ok(())
@@ -202,7 +202,7 @@ impl Reservations {
         let Reservations {
             alloc: _,
             paths,
-            rows: _,
+            table: _,
             last: _,
         } = self;
         paths

@@ -2,11 +2,7 @@ use Rattle.std.proofs.Common.{◌-◌, ◌<◌, sym, ap, subst, ◌∙◌, arith
 use Rattle.fleet_model.specs.Geometry.{place_of}
 use Rattle.fleet_grid.specs.Ground.{is_passable}
 use Rattle.fleet_search.specs.declared.state.State.{State}
-use Rattle.fleet_search.specs.Intervals.{AreBegun}
 use Rattle.fleet_search.specs.Labels.{earliest_in, IsSeen}
-use Rattle.fleet_search.specs.Reserved.{IsUnoccupied}
-use Rattle.fleet_search.specs.Search.{occupancies_on}
-use Rattle.fleet_search.proofs.IntervalLaws.{started_by-point, free-interval}
 use Rattle.fleet_search.proofs.SearchSteps.{superseded-seen}
 use Rattle.fleet_search.proofs.Spread.{on_map}
 use Rattle.fleet_search.proofs.frontier.Frontier.is_superseded.Goals as goal
@@ -32,11 +28,7 @@ returns c = λ seen.
     let m = c.args.state in
     let fr = c.requires.frontier in
     let left = c.requires.left in
-    let interval = c.started_by-interval.result in
     let sound = fr.sound c.args.place left.within in
     let ground = ap (λ (z : State). is_passable q.grid.now (place_of z.cell)) (sym left.here) ∙ sound.on_ground in
-    let free = subst (λ (z : State). IsUnoccupied q.reserved.now z.time z.cell) left.here sound.free in
-    let started_by = subst (λ z. AreBegun z m.time interval) c.occupancies.ensures (started_by-point _ m.time interval c.started_by-interval.ensures.bound c.started_by-interval.ensures.point) in
-    let inside = free-interval q.reserved.now m.cell (occupancies_on q m.cell) (fr.measured.occupancies m.cell) m.time interval (omega arith) started_by free in
-    let here = subst (λ z. IsSeen (earliest_in s.labels z interval) (m.time - 1)) c.cell_index-number.ensures.value (c.is_reached.ensures.0 seen) in
-    superseded-seen q (c.args.bucket - 1) _ s.nodes.items s.labels s.open_list.items fr m interval ground here (omega arith) inside
+    let here = subst (λ z. IsSeen (earliest_in s.labels z c.args.interval) (m.time - 1)) c.cell_index-number.ensures.value (c.is_reached.ensures.0 seen) in
+    superseded-seen q (c.args.bucket - 1) _ s.nodes.items s.labels s.open_list.items fr m c.args.interval ground here (omega arith) c.requires.inside

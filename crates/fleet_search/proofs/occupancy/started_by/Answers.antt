@@ -2,7 +2,7 @@ use Rattle.std.proofs.Common.{rules, leb, arith}
 use Rattle.std.proofs.lemmas.Bool.{leb-true, leb-false}
 use Rattle.std.proofs.lemmas.List.Sorted.{IsPartitionPoint-from_clause, IsPartitionedBy-leb}
 use Rattle.fleet_search.specs.declared.occupancy.Occupancy.{Occupancy}
-use Rattle.fleet_search.proofs.reservation_table.started_by.Goals as goal
+use Rattle.fleet_search.proofs.occupancy.started_by.Goals as goal
 
 pub returns-clause-point : goal.returns-clause-point
 returns-clause-point c =

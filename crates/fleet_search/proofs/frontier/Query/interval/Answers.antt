@@ -1,0 +1,19 @@
+use Rattle.std.proofs.Common.{subst, arith}
+use Rattle.fleet_search.specs.Intervals.{AreBegun, IsEndAfter}
+use Rattle.fleet_search.specs.Search.{occupancies_on}
+use Rattle.fleet_search.proofs.IntervalLaws.{free-interval, free-until}
+use Rattle.fleet_search.proofs.frontier.Query.interval.Goals as goal
+
+pub returns-clause-inside : goal.returns-clause-inside
+returns-clause-inside c =
+    let q = c.args.self.now in
+    let m = c.args.state in
+    let begun = subst (λ z. AreBegun z m.time c.interval_after.result.number) c.occupancies.ensures c.interval_after.ensures.begun in
+    free-interval q.reserved.now m.cell (occupancies_on q m.cell) (c.requires.measured.occupancies m.cell) m.time c.interval_after.result.number (omega arith) begun c.requires.free
+
+pub returns-clause-until : goal.returns-clause-until
+returns-clause-until c =
+    let q = c.args.self.now in
+    let m = c.args.state in
+    let until = c.interval_after.result.until in
+    free-until q.reserved.now m.cell (occupancies_on q m.cell) (c.requires.measured.occupancies m.cell) m.time until (omega arith) c.requires.free (subst (λ z. IsEndAfter z m.time until) c.occupancies.ensures c.interval_after.ensures.end)

@@ -28,7 +28,7 @@ same_or_not a b = elim (cases_eq a.agent b.agent) [
 ]
 
 -- a row that is kept alike
-pub row_alike : (p : Program) (b : Block) (old new : KeptRows) (a : ActionId) → AreBlock p b → old.width ≡ b.columns.width → IsKeptAlike old new (action_place b.places.firsts.items a) → HasRow p b old a → HasRow p b new a
+pub row_alike : (p : Program) (b : Block) (old new : KeptRows) (a : ActionId) → AreBlock p b → old.width ≡ b.columns.width → IsKeptAlike old new (action_place b.notes.now.places.firsts.items a) → HasRow p b old a → HasRow p b new a
 row_alike p b old new a block width h r = record {
   kept = h.still r.kept;
   counts = λ j k c.
@@ -39,8 +39,8 @@ row_alike p b old new a block width h r = record {
 -- ---- a row more
 
 pub row_taken : (p : Program) (b : Block) (old new : KeptRows) (a : ActionId) (row : List ℕ) → AreBlock p b → AreKept p b old → IsAction p a
-    → AreKept p b new → IsKeptMore old new (action_place b.places.firsts.items a) → length row ≡ b.columns.width
-    → ((k : ℕ) → k < length row → count_in new (mark_of new (action_place b.places.firsts.items a)) k ≡ get_or row k 0)
+    → AreKept p b new → IsKeptMore old new (action_place b.notes.now.places.firsts.items a) → length row ≡ b.columns.width
+    → ((k : ℕ) → k < length row → count_in new (mark_of new (action_place b.notes.now.places.firsts.items a)) k ≡ get_or row k 0)
     → IsRowOf p b.columns a row → IsRowTaken p b a old new
 row_taken p b old new a row block kept act after more long counts made = record {
   kept = after;
@@ -49,12 +49,12 @@ row_taken p b old new a row block kept act after more long counts made = record 
     kept = k;
     counts = λ j n c. (let l : n < b.columns.width = block.within j n c in subst (λ (v : ℕ). IsColumn p a j v) (sym (counts n (omega arith))) (made j n c));
   };
-  others = λ x is ne r. row_alike p b old new x block kept.width (more.others (action_place b.places.firsts.items x) (place_apart p b.places.firsts.items block.places x a is act ne)) r;
-  back = λ x is ne k. (more.others (action_place b.places.firsts.items x) (place_apart p b.places.firsts.items block.places x a is act ne)).before k;
+  others = λ x is ne r. row_alike p b old new x block kept.width (more.others (action_place b.notes.now.places.firsts.items x) (place_apart p b.notes.now.places.firsts.items block.notes.places x a is act ne)) r;
+  back = λ x is ne k. (more.others (action_place b.notes.now.places.firsts.items x) (place_apart p b.notes.now.places.firsts.items block.notes.places x a is act ne)).before k;
 }
 
-pub row_left : (p : Program) (b : Block) (m : KeptRows) (a : ActionId) → AreKept p b m → slice_index b.lasts.items (action_place b.places.firsts.items a) ≡ 0
-    → (IsKept m (action_place b.places.firsts.items a) → ⊥) → IsRowTaken p b a m m
+pub row_left : (p : Program) (b : Block) (m : KeptRows) (a : ActionId) → AreKept p b m → slice_index b.notes.now.lasts.items (action_place b.notes.now.places.firsts.items a) ≡ 0
+    → (IsKept m (action_place b.notes.now.places.firsts.items a) → ⊥) → IsRowTaken p b a m m
 row_left p b m a kept none not_yet = record {
   kept = kept;
   here = λ some. absurd (omega arith);
@@ -68,20 +68,20 @@ row_left p b m a kept none not_yet = record {
 pub rows_begin : (p : Program) (b : Block) (m : KeptRows) (n : ℕ) → AreKept p b m → ((x : ℕ) → IsKept m x → ⊥) → AreRowsAt p b (IsCounted (replicate n 0)) 0 m
 rows_begin p b m n kept none = record {
   kept = kept;
-  right = λ a is k. absurd (none (action_place b.places.firsts.items a) k);
+  right = λ a is k. absurd (none (action_place b.notes.now.places.firsts.items a) k);
   wanted = λ a is done l. absurd (none_counted n a is.first done);
 }
 
 pub rows_freed : (p : Program) (b : Block) (Done : ActionId → Type 0) (t : ℕ) (old new : KeptRows) → AreBlock p b → AreRowsAt p b Done t old → IsFreed (t + 1) old new → AreRowsAt p b Done (t + 1) new
 rows_freed p b Done t old new block h f = record {
-  kept = record { sound = f.sound; actions = f.actions ∙ h.kept.actions; width = f.width ∙ h.kept.width; lasts = λ x. f.lasts x (slice_index b.lasts.items x) (h.kept.lasts x) };
+  kept = record { sound = f.sound; actions = f.actions ∙ h.kept.actions; width = f.width ∙ h.kept.width; lasts = λ x. f.lasts x (slice_index b.notes.now.lasts.items x) (h.kept.lasts x) };
   right = λ a is k.
-      let alike = f.before (action_place b.places.firsts.items a) k in
+      let alike = f.before (action_place b.notes.now.places.firsts.items a) k in
       let was = h.right a is (alike.before k) in
       (was.0, row_alike p b old new a block h.kept.width alike was.1);
   wanted = λ a is done l.
-      let x : ℕ = action_place b.places.firsts.items a in
-      (f.wanted x (slice_index b.lasts.items x) (h.kept.lasts x) l).still (h.wanted a is done (omega arith));
+      let x : ℕ = action_place b.notes.now.places.firsts.items a in
+      (f.wanted x (slice_index b.notes.now.lasts.items x) (h.kept.lasts x) l).still (h.wanted a is done (omega arith));
 }
 
 -- ---- an action more
@@ -92,12 +92,12 @@ rows_on p b t counts a within number old new r taken = record {
   kept = taken.kept;
   right = λ x is k. elim (same_or_not x a) [
     | inl e ↦ subst (λ (y : ActionId). IsCounted (set counts a.agent a.number) y × HasRow p b new y) (sym e)
-        (counted_here counts a within number, taken.right (subst (λ (y : ActionId). IsKept new (action_place b.places.firsts.items y)) e k))
+        (counted_here counts a within number, taken.right (subst (λ (y : ActionId). IsKept new (action_place b.notes.now.places.firsts.items y)) e k))
     | inr ne ↦ (let was = r.right x is (taken.back x is ne k) in (counted_still counts a within number x was.0, taken.others x is ne was.1))
   ];
   wanted = λ x is done l. elim (counted_back counts a within number x done) [
-    | inr e ↦ subst (λ (y : ActionId). IsKept new (action_place b.places.firsts.items y)) (sym e)
-        (taken.here (let more : t < slice_index b.lasts.items (action_place b.places.firsts.items a) = subst (λ (y : ActionId). t < slice_index b.lasts.items (action_place b.places.firsts.items y)) e l in omega arith))
+    | inr e ↦ subst (λ (y : ActionId). IsKept new (action_place b.notes.now.places.firsts.items y)) (sym e)
+        (taken.here (let more : t < slice_index b.notes.now.lasts.items (action_place b.notes.now.places.firsts.items a) = subst (λ (y : ActionId). t < slice_index b.notes.now.lasts.items (action_place b.notes.now.places.firsts.items y)) e l in omega arith))
     | inl before ↦ (let was = r.right x is (r.wanted x is before l) in (taken.others x is (counted_apart counts a within number x before) was.1).kept)
   ];
 }
@@ -110,7 +110,7 @@ module _ (p : Program) (t from : ℕ) (counts : List ℕ) (mid : AreMid p t from
   number = number_is p t from counts mid i next n more
 
   -- the row of the next action can be made
-  pub can_make : (b : Block) (k : KeptRows) → AreBlock p b → t < b.ticks → AreRowsAt p b (IsCounted counts) t k → CanMakeRow p b k here
+  pub can_make : (b : Block) (k : KeptRows) → AreBlock p b → t < b.notes.now.ticks → AreRowsAt p b (IsCounted counts) t k → CanMakeRow p b k here
   can_make b k block l r = record {
     block = block;
     kept = r.kept;
@@ -119,13 +119,13 @@ module _ (p : Program) (t from : ℕ) (counts : List ℕ) (mid : AreMid p t from
         let same : here ≡ record { agent = i; number = count p t i + 1 } = (λ s. record { agent = i; number = number s }) in
         let up : count p (suc t) i ≡ count p t i + 1 = moves_on p t i next.agent next.ready in
         let done : x.number ≤ count p t x.agent = needs_done p t here x (next_action p t from i next n number) (omega (arith, number)) (omega (arith, number, up)) needs in
-        let last : t + 1 ≤ slice_index b.lasts.items (action_place b.places.firsts.items x) = block.noted t l i next.agent next.agent next.ready x is (subst (λ (y : ActionId). DirectlyNeeds p y x) same needs) in
+        let last : t + 1 ≤ slice_index b.notes.now.lasts.items (action_place b.notes.now.places.firsts.items x) = block.notes.noted t l i next.agent next.agent next.ready x is (subst (λ (y : ActionId). DirectlyNeeds p y x) same needs) in
         (r.right x is (r.wanted x is (counted_before p t from counts mid x is done) (omega (arith, last)))).1;
     later = none_later p t from i next n number;
   }
 
   -- and it is not kept yet
-  pub not_kept_yet : (b : Block) (k : KeptRows) → AreRowsAt p b (IsCounted counts) t k → IsKept k (action_place b.places.firsts.items here) → ⊥
+  pub not_kept_yet : (b : Block) (k : KeptRows) → AreRowsAt p b (IsCounted counts) t k → IsKept k (action_place b.notes.now.places.firsts.items here) → ⊥
   not_kept_yet b k r kept =
       let done : n ≤ slice_index counts i = (r.right here (next_action p t from i next n number) kept).0 in
       omega (arith, done, more)

@@ -10,6 +10,7 @@ use Rattle.fleet_rows.specs.Takers.{AreNoted}
 use Rattle.fleet_rows.specs.Kept.{IsSound, IsKept, IsLast, count_in, mark_of}
 use Rattle.fleet_rows.specs.declared.columns.Columns.{Columns}
 use Rattle.fleet_rows.specs.declared.block.Block.{Block}
+use Rattle.fleet_rows.specs.declared.run_notes.RunNotes.{RunNotes}
 use Rattle.fleet_rows.specs.declared.kept_rows.KeptRows.{KeptRows}
 use Rattle.fleet_rows.specs.declared.questions.Question.{Question}
 
@@ -17,13 +18,17 @@ use Rattle.fleet_rows.specs.declared.questions.Question.{Question}
 abbrev pub HasColumn : Columns → ℕ → ℕ → Type 0
 HasColumn columns j k = get_or columns.of_agent.items j None ≡ Some k
 
--- the places, the last takers and the order of the program's actions, and columns of its agents, no two in one
+-- the places, the last takers and the order of the program's actions
+pub record AreNotes (p : Program) (n : RunNotes) : Type 0 where
+  pub places : ArePlaces p n.places.firsts.items
+  pub all : length n.lasts.items ≡ total_moves p
+  pub noted : AreNoted p n.places.firsts.items n.ticks n.lasts.items
+  pub order : IsOrder p n.order
+  pub ends : length n.order.ends.items ≡ n.ticks + 1
+
+-- so they are, and the columns are those of agents of the program, no two in one
 pub record AreBlock (p : Program) (b : Block) : Type 0 where
-  pub places : ArePlaces p b.places.firsts.items
-  pub all : length b.lasts.items ≡ total_moves p
-  pub noted : AreNoted p b.places.firsts.items b.ticks b.lasts.items
-  pub order : IsOrder p b.order
-  pub ticks : length b.order.ends.items ≡ b.ticks + 1
+  pub notes : AreNotes p b.notes.now
   pub agents : length b.columns.of_agent.items ≡ length p
   pub within : (j k : ℕ) → HasColumn b.columns j k → k < b.columns.width
   pub apart : (i j k : ℕ) → HasColumn b.columns i k → HasColumn b.columns j k → i ≡ j
@@ -37,12 +42,12 @@ pub record AreKept (p : Program) (b : Block) (m : KeptRows) : Type 0 where
   pub sound : IsSound m
   pub actions : length m.marks.items ≡ total_moves p
   pub width : m.width ≡ b.columns.width
-  pub lasts : (x : ℕ) → IsLast m x (slice_index b.lasts.items x)
+  pub lasts : (x : ℕ) → IsLast m x (slice_index b.notes.now.lasts.items x)
 
 -- the row of the action is kept
 pub record HasRow (p : Program) (b : Block) (m : KeptRows) (a : ActionId) : Type 0 where
-  pub kept : IsKept m (action_place b.places.firsts.items a)
-  pub counts : (j k : ℕ) → HasColumn b.columns j k → IsColumn p a j (count_in m (mark_of m (action_place b.places.firsts.items a)) k)
+  pub kept : IsKept m (action_place b.notes.now.places.firsts.items a)
+  pub counts : (j k : ℕ) → HasColumn b.columns j k → IsColumn p a j (count_in m (mark_of m (action_place b.notes.now.places.firsts.items a)) k)
 
 -- the row of the action can be made: those of all that it directly needs are kept, and it needs no later action of its agent
 pub record CanMakeRow (p : Program) (b : Block) (m : KeptRows) (a : ActionId) : Type 0 where

@@ -59,12 +59,6 @@ AreToldOf p columns Done flags =
     (a : ActionId) → IsAction p a → Done a → (k c : ℕ) (w : Await) → slice_get (awaits_of p a.agent a.number) k ≡ Some w → HasColumn columns w.agent c
     → IsTold p a w (get_or flags (first_await p a + k) false)
 
--- and so of all actions of the program
-abbrev pub AreAllToldIn : Program → Columns → List Bool → Type 0
-AreAllToldIn p columns flags =
-    (a : ActionId) → IsAction p a → (k c : ℕ) (w : Await) → slice_get (awaits_of p a.agent a.number) k ≡ Some w → HasColumn columns w.agent c
-    → IsTold p a w (get_or flags (first_await p a + k) false)
-
 -- the flags of awaits of agents without a column are as before
 abbrev pub AreLeft : Program → Columns → List Bool → List Bool → Type 0
 AreLeft p columns old new =

@@ -25,13 +25,13 @@ pub(crate) struct Answering<'a> {
 pub(crate) fn answer<P: ProgramView>(
     alloc: Global,
     program: &P,
-    block: &Block,
+    block: &Block<'_>,
     questions: &[Question],
     flags: Vec<bool>,
 ) -> Result<Vec<bool>, OutOfMemory>
     requires block { AreBlock (P.program program.now) block.now }
     requires range { AreInRange (P.program program.now) }
-    requires finish { IsFinish (P.program program.now) [] block.now.ticks }
+    requires finish { IsFinish (P.program program.now) [] block.now.notes.now.ticks }
     requires questions { AreQuestions (P.program program.now) questions.now }
     requires flags { length flags.items ≡ length questions.now }
     ensures { IfOk result (λ new. AreAnswered (P.program program.now) block.now.columns questions.now flags.items new.items) }
@@ -56,7 +56,7 @@ impl<'a> RowUse for Answering<'a> {
     fn use_row<P: ProgramView>(
         &mut self,
         program: &P,
-        block: &Block,
+        block: &Block<'_>,
         pass: &RowPass,
         row: &mut [u32],
         action: ActionId,
@@ -76,7 +76,7 @@ impl<'a> Answering<'a> {
     fn answer_next<P: ProgramView>(
         &mut self,
         program: &P,
-        block: &Block,
+        block: &Block<'_>,
         row: &[u32],
         action: ActionId,
     )
@@ -109,7 +109,7 @@ fn ends_with(questions: &[Question], k: usize, action: ActionId) -> bool
 /// The answer to a question whose agent has a column, by the row of its last action, or else the flag.
 fn answer_one<P: ProgramView>(
     program: &P,
-    block: &Block,
+    block: &Block<'_>,
     row: &[u32],
     question: Question,
     flag: bool,

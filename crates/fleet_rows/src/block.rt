@@ -8,57 +8,22 @@ ghost use Rattle.fleet_rows.specs.Rows.{IsColumn, IsJoined, OfFirst};
 ghost use Rattle.fleet_rows.specs.Kept.{IsKept, count_in, mark_of};
 ghost use Rattle.fleet_rows.specs.Block.{HasColumn, AreBlock, IsRowOf, AreKept, HasRow, CanMakeRow};
 
-use crate::action_places::ActionPlaces;
 use crate::columns::Columns;
-use crate::due_rows::DueRows;
-use crate::finish_order::FinishOrder;
 use crate::kept_rows::KeptRows;
-use crate::takers::last_takers;
-use fleet_model::{ActionId, Await, OutOfMemory, ProgramView};
-use std::alloc::Global;
+use crate::run_notes::RunNotes;
+use fleet_model::{ActionId, Await, ProgramView};
 
-/// Where the actions stand, the last of so many ticks that takes each, the order in which they finish, which are due after each
-/// tick, and the columns of their rows.
+/// What is noted of the actions, and the columns of their rows.
 #[derive(Drop)]
-pub(crate) struct Block {
-    pub(crate) places: ActionPlaces,
-    pub(crate) ticks: u32,
-    pub(crate) lasts: Vec<u32>,
-    pub(crate) order: FinishOrder,
-    pub(crate) due: DueRows,
+pub(crate) struct Block<'a> {
+    pub(crate) notes: &'a RunNotes,
     pub(crate) columns: Columns,
-}
-
-impl Block {
-    /// That of a program and so many ticks, without columns.
-    pub(crate) fn of<P: ProgramView>(
-        alloc: Global,
-        program: &P,
-        ticks: u32,
-    ) -> Result<Block, OutOfMemory>
-        requires { AreInRange (P.program program.now) }
-        ensures block { IfOk result (AreBlock (P.program program.now)) }
-        ensures ticks { IfOk result (λ b. b.ticks ≡ ticks) }
-        ensures none { IfOk result (λ b. (j : ℕ) → get_or b.columns.of_agent.items j None ≡ None) }
-    {
-        let places = ActionPlaces::of(alloc, program)?;
-        let takers = last_takers(alloc, program, &places, ticks)?;
-        let due = DueRows::of(alloc, &takers.lasts, ticks)?;
-        Ok(Block {
-            places,
-            ticks,
-            lasts: takers.lasts,
-            order: takers.order,
-            due,
-            columns: Columns::none(alloc, program.agents())?,
-        })
-    }
 }
 
 /// Makes the row of an action.
 pub(crate) fn make_row<P: ProgramView>(
     program: &P,
-    block: &Block,
+    block: &Block<'_>,
     kept: &KeptRows,
     row: &mut [u32],
     action: ActionId,
@@ -78,7 +43,7 @@ pub(crate) fn make_row<P: ProgramView>(
 /// The row of the last of so many actions of the agent, or zeros where it is before its first.
 pub(crate) fn begin_row<P: ProgramView>(
     program: &P,
-    block: &Block,
+    block: &Block<'_>,
     kept: &KeptRows,
     row: &mut [u32],
     agent: u16,
@@ -98,7 +63,7 @@ pub(crate) fn begin_row<P: ProgramView>(
         clear_row(row);
         return;
     }
-    kept.read_into(block.places.place(agent, finished), row);
+    kept.read_into(block.notes.places.place(agent, finished), row);
 }
 
 /// Zeros at all places.
@@ -113,7 +78,7 @@ fn clear_row(row: &mut [u32])
 /// Joins the rows of all actions that the next one of the agent awaits into the row of the one before.
 fn join_awaited<P: ProgramView>(
     program: &P,
-    block: &Block,
+    block: &Block<'_>,
     kept: &KeptRows,
     row: &mut [u32],
     agent: u16,
@@ -142,7 +107,7 @@ fn join_awaited<P: ProgramView>(
 /// Await `k` of an action, and the place of the awaited action, whose row is kept.
 pub(crate) fn awaited_row<P: ProgramView>(
     program: &P,
-    block: &Block,
+    block: &Block<'_>,
     kept: &KeptRows,
     action: ActionId,
     k: u16,
@@ -163,11 +128,14 @@ pub(crate) fn awaited_row<P: ProgramView>(
 {
     let _ = program.agents();
     let awaited = program.await_at(action.agent, action.number, k);
-    (awaited, block.places.place(awaited.agent, awaited.count))
+    (
+        awaited,
+        block.notes.places.place(awaited.agent, awaited.count),
+    )
 }
 
 /// Sets the count of the agent's own column, where it has one.
-pub(crate) fn set_own(block: &Block, row: &mut [u32], agent: u16, number: u32)
+pub(crate) fn set_own(block: &Block<'_>, row: &mut [u32], agent: u16, number: u32)
     requires agent { agent < length block.now.columns.of_agent.items }
     requires within { (j k : ℕ) → HasColumn block.now.columns j k → k < length row.old }
     requires apart { (i j k : ℕ) → HasColumn block.now.columns i k → HasColumn block.now.columns j k → i ≡ j }

@@ -47,18 +47,6 @@ impl Columns {
         })
     }
 
-    /// No columns, for so many agents.
-    pub(crate) fn none(alloc: Global, agents: u16) -> Result<Columns, OutOfMemory>
-        ensures agents { IfOk result (λ columns. length columns.of_agent.items ≡ agents) }
-        ensures none { IfOk result (λ columns. (j : ℕ) → get_or columns.of_agent.items j None ≡ None) }
-    {
-        Ok(Columns {
-            of_agent: vec![in alloc; None; usize::from(agents)]?,
-            width: 0,
-            end: 0,
-        })
-    }
-
     /// The column of an agent, where it has one.
     pub(crate) fn of(&self, agent: u16) -> Option<u16>
         requires { agent < length self.now.of_agent.items }

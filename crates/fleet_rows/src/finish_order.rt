@@ -55,11 +55,11 @@ impl FinishOrder {
     }
 
     /// Where the agents begin of the tick that comes after so many.
-    pub(crate) fn begin(&self, ticks: u32) -> usize
+    pub(crate) fn begin(&self, ticks: usize) -> usize
         requires { ticks < length self.now.ends.items }
         ensures { result ≡ slice_index self.now.ends.items ticks }
     {
-        self.ends[ticks as usize] as usize
+        self.ends[ticks] as usize
     }
 
     /// The agent at a place.

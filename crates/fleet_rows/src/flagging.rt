@@ -3,8 +3,9 @@
 ghost use Rattle.std.specs.Prelude.{◌≡◌, ◌<◌, ◌≤◌, ℕ, [], length, IfOk};
 ghost use Rattle.fleet_model.specs.Program.{AreInRange, total_awaits};
 ghost use Rattle.fleet_model.specs.Machine.{IsFinish};
+ghost use Rattle.fleet_model.specs.Chain.{IsAction};
 ghost use Rattle.fleet_rows.specs.Block.{AreBlock};
-ghost use Rattle.fleet_rows.specs.Implied.{AreAwaitPlaces, AreAllToldIn, AreLeft};
+ghost use Rattle.fleet_rows.specs.Implied.{AreAwaitPlaces, AreToldOf, AreLeft};
 
 use crate::await_places::AwaitPlaces;
 use crate::block::Block;
@@ -24,17 +25,17 @@ pub(crate) struct Flagging<'a> {
 pub(crate) fn flag_implied<P: ProgramView>(
     alloc: Global,
     program: &P,
-    block: &Block,
+    block: &Block<'_>,
     places: &AwaitPlaces,
     flags: Vec<bool>,
 ) -> Result<Vec<bool>, OutOfMemory>
     requires block { AreBlock (P.program program.now) block.now }
     requires places { AreAwaitPlaces (P.program program.now) places.now }
     requires range { AreInRange (P.program program.now) }
-    requires finish { IsFinish (P.program program.now) [] block.now.ticks }
+    requires finish { IsFinish (P.program program.now) [] block.now.notes.now.ticks }
     requires flags { length flags.items ≡ total_awaits (P.program program.now) }
     ensures all { IfOk result (λ new. length new.items ≡ total_awaits (P.program program.now)) }
-    ensures told { IfOk result (λ new. AreAllToldIn (P.program program.now) block.now.columns new.items) }
+    ensures told { IfOk result (λ new. AreToldOf (P.program program.now) block.now.columns (IsAction (P.program program.now)) new.items) }
     ensures left { IfOk result (λ new. AreLeft (P.program program.now) block.now.columns flags.items new.items) }
 {
     let mut flagging = Flagging { places, flags };
@@ -43,17 +44,18 @@ pub(crate) fn flag_implied<P: ProgramView>(
 }
 
 impl<'a> RowUse for Flagging<'a> {
-    ghost use Rattle.fleet_rows.specs.Flagging.{IsFlagging, AreFlagsLeft, left_same, left_joined};
+    ghost use Rattle.std.proofs.Common.{refl, ◌∙◌};
+    ghost use Rattle.fleet_rows.specs.Flagging.{IsFlagging};
 
     ghost used = { IsFlagging };
 
-    ghost keeps = { AreFlagsLeft };
+    ghost keeps = { λ p b old new. AreLeft p b.columns old.flags.items new.flags.items };
 
     /// On the way to the row of the action its awaits are flagged.
     fn use_row<P: ProgramView>(
         &mut self,
         program: &P,
-        block: &Block,
+        block: &Block<'_>,
         pass: &RowPass,
         row: &mut [u32],
         action: ActionId,
@@ -71,7 +73,7 @@ impl<'a> RowUse for Flagging<'a> {
         Ok(())
     }
 
-    ghost same = { left_same };
+    ghost same = { λ p b s a is k w at none. refl };
 
-    ghost joined = { left_joined };
+    ghost joined = { λ p b s t u h g a is k w at none. g a is k w at none ∙ h a is k w at none };
 }

@@ -5,7 +5,7 @@ ghost use Rattle.fleet_model.specs.declared.program.Await.{Await};
 ghost use Rattle.fleet_model.specs.Program.{AreInRange, awaits_of, total_awaits};
 ghost use Rattle.fleet_model.specs.Machine.{IsFinish};
 ghost use Rattle.fleet_model.specs.Chain.{IsAction};
-ghost use Rattle.fleet_rows.specs.Block.{AreBlock};
+ghost use Rattle.fleet_rows.specs.Block.{AreNotes};
 ghost use Rattle.fleet_rows.specs.Implied.{IsImplied, AreAwaitPlaces, AreImplied, AreAllTold};
 ghost use Rattle.fleet_rows.specs.Settled.{AreSettled};
 
@@ -14,6 +14,7 @@ use crate::block::Block;
 use crate::columns::Columns;
 use crate::flagging::flag_implied;
 use crate::questions::{columns_at_once, is_any};
+use crate::run_notes::RunNotes;
 use crate::settled::settle_all;
 use fleet_model::{ActionId, Await, OutOfMemory, ProgramView, total_awaits};
 use std::alloc::Global;
@@ -85,36 +86,36 @@ fn tell_all<P: ProgramView>(
     if !is_any(&asked) {
         return Ok(flags);
     }
-    let block = Block::of(alloc, program, ticks)?;
-    flag_all(alloc, program, block, places, &asked, flags)
+    let notes = RunNotes::of(alloc, program, ticks)?;
+    flag_all(alloc, program, &notes, places, &asked, flags)
 }
 
 /// The flags of the awaits of the asked agents, block by block, each with so many columns as there is room for.
 fn flag_all<P: ProgramView>(
     alloc: Global,
     program: &P,
-    block: Block,
+    notes: &RunNotes,
     places: &AwaitPlaces,
     asked: &[bool],
     flags: Vec<bool>,
 ) -> Result<Vec<bool>, OutOfMemory>
     requires range { AreInRange (P.program program.now) }
-    requires block { AreBlock (P.program program.now) block }
+    requires notes { AreNotes (P.program program.now) notes.now }
     requires places { AreAwaitPlaces (P.program program.now) places.now }
-    requires finish { IsFinish (P.program program.now) [] block.ticks }
+    requires finish { IsFinish (P.program program.now) [] notes.now.ticks }
     requires flags { length flags.items ≡ total_awaits (P.program program.now) }
     requires asked { length asked.now ≡ length (P.program program.now) }
     requires settled { AreSettled (P.program program.now) asked.now flags.items }
     ensures all { IfOk result (λ flags. length flags.items ≡ total_awaits (P.program program.now)) }
     ensures told { IfOk result (λ flags. AreAllTold (P.program program.now) flags.items) }
 {
-    let mut block = block;
     let mut flags = flags;
-    let most = columns_at_once(&block);
+    let most = columns_at_once(notes);
     let agents = program.agents();
     let mut from = 0;
     while from < agents {
-        block.columns = Columns::choose(alloc, asked, from, most)?;
+        let columns = Columns::choose(alloc, asked, from, most)?;
+        let block = Block { notes, columns };
         flags = flag_implied(alloc, program, &block, places, flags)?;
         from = block.columns.end;
     }

@@ -19,7 +19,7 @@ use fleet_model::{ActionId, Await, ProgramView};
 /// Makes the row of all that an action directly needs, but for the count of each awaited action's own agent.
 pub(crate) fn others_row<P: ProgramView>(
     program: &P,
-    block: &Block,
+    block: &Block<'_>,
     kept: &KeptRows,
     row: &mut [u32],
     action: ActionId,
@@ -38,7 +38,7 @@ pub(crate) fn others_row<P: ProgramView>(
 /// Makes it the row of the action.
 pub(crate) fn whole_row<P: ProgramView>(
     program: &P,
-    block: &Block,
+    block: &Block<'_>,
     kept: &KeptRows,
     row: &mut [u32],
     action: ActionId,
@@ -59,7 +59,7 @@ pub(crate) fn whole_row<P: ProgramView>(
 /// each one's own agent.
 fn join_others<P: ProgramView>(
     program: &P,
-    block: &Block,
+    block: &Block<'_>,
     kept: &KeptRows,
     row: &mut [u32],
     agent: u16,
@@ -154,7 +154,7 @@ fn flag_await(columns: &Columns, row: &[u32], awaited: Await, place: usize, flag
 /// Joins what was left out: of each action that the next one of the agent awaits the count of its own agent.
 fn join_own<P: ProgramView>(
     program: &P,
-    block: &Block,
+    block: &Block<'_>,
     kept: &KeptRows,
     row: &mut [u32],
     agent: u16,

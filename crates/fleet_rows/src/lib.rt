@@ -19,6 +19,7 @@ mod near;
 mod piece;
 mod questions;
 mod row_pass;
+mod run_notes;
 mod settled;
 mod takers;
 

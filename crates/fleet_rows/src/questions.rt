@@ -1,15 +1,16 @@
 //! Questions for chains of needs, and their answers.
 
-ghost use Rattle.std.specs.Prelude.{◌≡◌, ◌⊎◌, ◌<◌, ◌≤◌, ℕ, [], true, false, length, get_or, slice_get, Some, None, All, IfOk};
+ghost use Rattle.std.specs.Prelude.{◌≡◌, ◌⊎◌, ◌<◌, ◌≤◌, ℕ, [], true, false, length, get_or, slice_get, Some, All, IfOk};
 ghost use Rattle.fleet_model.specs.Program.{AreInRange};
 ghost use Rattle.fleet_model.specs.Machine.{IsFinish};
 ghost use Rattle.fleet_rows.specs.Asked.{AreQuestions, AreAnswers};
-ghost use Rattle.fleet_rows.specs.Block.{AreBlock, IsAnswer};
+ghost use Rattle.fleet_rows.specs.Block.{AreNotes, IsAnswer};
 
 use crate::answering::answer;
 use crate::block::Block;
 use crate::columns::Columns;
 use crate::near::asked_agents;
+use crate::run_notes::RunNotes;
 use fleet_model::{ActionId, MAX_AGENTS, OutOfMemory, ProgramView};
 use std::alloc::Global;
 
@@ -38,8 +39,8 @@ pub fn unreached<P: ProgramView>(
     if !is_any(&asked) {
         return Ok(flags);
     }
-    let block = Block::of(alloc, program, ticks)?;
-    answer_all(alloc, program, block, questions, &asked, flags)
+    let notes = RunNotes::of(alloc, program, ticks)?;
+    answer_all(alloc, program, &notes, questions, &asked, flags)
 }
 
 /// Whether some agent is flagged.
@@ -58,15 +59,14 @@ pub(crate) fn is_any(asked: &[bool]) -> bool
 fn answer_all<P: ProgramView>(
     alloc: Global,
     program: &P,
-    block: Block,
+    notes: &RunNotes,
     questions: &[Question],
     asked: &[bool],
     flags: Vec<bool>,
 ) -> Result<Vec<bool>, OutOfMemory>
     requires range { AreInRange (P.program program.now) }
-    requires block { AreBlock (P.program program.now) block }
-    requires none { (j : ℕ) → get_or block.columns.of_agent.items j None ≡ None }
-    requires finish { IsFinish (P.program program.now) [] block.ticks }
+    requires notes { AreNotes (P.program program.now) notes.now }
+    requires finish { IsFinish (P.program program.now) [] notes.now.ticks }
     requires questions { AreQuestions (P.program program.now) questions.now }
     requires asked { length asked.now ≡ length (P.program program.now) }
     requires flagged { (k : ℕ) (q : Question) → slice_get questions.now k ≡ Some q
@@ -74,13 +74,13 @@ fn answer_all<P: ProgramView>(
     requires flags { length flags.items ≡ length questions.now }
     ensures { IfOk result (λ flags. AreAnswers (P.program program.now) questions.now flags.items) }
 {
-    let mut block = block;
     let mut flags = flags;
-    let most = columns_at_once(&block);
+    let most = columns_at_once(notes);
     let agents = program.agents();
     let mut from = 0;
     while from < agents {
-        block.columns = Columns::choose(alloc, asked, from, most)?;
+        let columns = Columns::choose(alloc, asked, from, most)?;
+        let block = Block { notes, columns };
         flags = answer(alloc, program, &block, questions, flags)?;
         from = block.columns.end;
     }
@@ -94,9 +94,9 @@ const COUNTS: usize = 4_194_304;
 const LEAST_COLUMNS: usize = 8;
 
 /// How many columns a block has at most: as many as there is room for, where the most rows are kept at once, and at least 8.
-pub(crate) fn columns_at_once(block: &Block) -> u16
+pub(crate) fn columns_at_once(notes: &RunNotes) -> u16
     ensures { 1 ≤ result }
 {
-    let room = COUNTS.max(block.lasts.len()) / block.order.most_rows(&block.due).max(1);
+    let room = COUNTS.max(notes.lasts.len()) / notes.order.most_rows(&notes.due).max(1);
     room.clamp(LEAST_COLUMNS, MAX_AGENTS) as u16
 }

@@ -32,7 +32,7 @@ pub(crate) trait RowUse {
     fn use_row<P: ProgramView>(
         &mut self,
         program: &P,
-        block: &Block,
+        block: &Block<'_>,
         pass: &RowPass,
         row: &mut [u32],
         action: ActionId,
@@ -65,19 +65,19 @@ pub(crate) struct RowPass {
 pub(crate) fn use_rows<P: ProgramView, U: RowUse>(
     alloc: Global,
     program: &P,
-    block: &Block,
+    block: &Block<'_>,
     uses: &mut U,
 ) -> Result<(), OutOfMemory>
     requires block { AreBlock (P.program program.now) block.now }
     requires range { AreInRange (P.program program.now) }
-    requires finish { IsFinish (P.program program.now) [] block.now.ticks }
+    requires finish { IsFinish (P.program program.now) [] block.now.notes.now.ticks }
     requires used { U.used (P.program program.now) block.now (replicate (length (P.program program.now)) 0) uses.old }
     ensures used { OnOk result ((counts : List ℕ) × AreAllCounted (P.program program.now) counts
         × U.used (P.program program.now) block.now counts uses.new) }
     ensures keeps { OnOk result (U.keeps (P.program program.now) block.now uses.old uses.new) }
 {
     let mut pass = RowPass {
-        kept: KeptRows::new(alloc, &block.lasts, block.columns.width)?,
+        kept: KeptRows::new(alloc, &block.notes.lasts, block.columns.width)?,
         counts: vec![in alloc; 0; usize::from(program.agents())]?,
     };
     let mut row = vec![in alloc; 0; usize::from(block.columns.width)]?;
@@ -88,7 +88,7 @@ pub(crate) fn use_rows<P: ProgramView, U: RowUse>(
 /// Passes over all ticks.
 fn run_on<P: ProgramView, U: RowUse>(
     program: &P,
-    block: &Block,
+    block: &Block<'_>,
     pass: &mut RowPass,
     row: &mut [u32],
     uses: &mut U,
@@ -99,13 +99,13 @@ fn run_on<P: ProgramView, U: RowUse>(
     requires rows { AreRowsAt (P.program program.now) block.now (IsCounted pass.old.counts.items) 0 pass.old.kept }
     requires counts { AreMid (P.program program.now) 0 0 pass.old.counts.items }
     requires used { U.used (P.program program.now) block.now pass.old.counts.items uses.old }
-    ensures counts { OnOk result (AreMid (P.program program.now) block.now.ticks 0 pass.new.counts.items) }
+    ensures counts { OnOk result (AreMid (P.program program.now) block.now.notes.now.ticks 0 pass.new.counts.items) }
     ensures used { OnOk result (U.used (P.program program.now) block.now pass.new.counts.items uses.new) }
     ensures keeps { OnOk result (U.keeps (P.program program.now) block.now uses.old uses.new) }
 {
-    for t in 0..block.ticks {
+    for t in 0..block.notes.ticks {
         use_tick(program, block, t, pass, row, uses)?;
-        free_rows(&mut pass.kept, block.due.after(t + 1), t + 1)?;
+        free_rows(&mut pass.kept, block.notes.due.after(t + 1), t + 1)?;
     }
     Ok(())
 }
@@ -113,7 +113,7 @@ fn run_on<P: ProgramView, U: RowUse>(
 /// Makes and uses the rows of the actions that are finished by the tick that comes after so many, and keeps those that are taken.
 fn use_tick<P: ProgramView, U: RowUse>(
     program: &P,
-    block: &Block,
+    block: &Block<'_>,
     ticks: u32,
     pass: &mut RowPass,
     row: &mut [u32],
@@ -122,7 +122,7 @@ fn use_tick<P: ProgramView, U: RowUse>(
     requires block { AreBlock (P.program program.now) block.now }
     requires range { AreInRange (P.program program.now) }
     requires row { length row.old ≡ block.now.columns.width }
-    requires tick { ticks < block.now.ticks }
+    requires tick { ticks < block.now.notes.now.ticks }
     requires rows { AreRowsAt (P.program program.now) block.now (IsCounted pass.old.counts.items) ticks pass.old.kept }
     requires counts { AreMid (P.program program.now) ticks 0 pass.old.counts.items }
     requires used { U.used (P.program program.now) block.now pass.old.counts.items uses.old }
@@ -132,8 +132,9 @@ fn use_tick<P: ProgramView, U: RowUse>(
     ensures keeps { OnOk result (U.keeps (P.program program.now) block.now uses.old uses.new) }
 {
     let _ = program.agents();
-    for k in block.order.begin(ticks)..block.order.begin(ticks + 1) {
-        let agent = block.order.agent(k);
+    let order = &block.notes.order;
+    for k in order.begin(ticks as usize)..order.begin(ticks as usize + 1) {
+        let agent = order.agent(k);
         let number = pass.counts[usize::from(agent)] + 1;
         finish(program, block, pass, row, uses, ActionId { agent, number })?;
     }
@@ -143,7 +144,7 @@ fn use_tick<P: ProgramView, U: RowUse>(
 /// Makes and uses the row of an action, and keeps it where it is taken.
 fn finish<P: ProgramView, U: RowUse>(
     program: &P,
-    block: &Block,
+    block: &Block<'_>,
     pass: &mut RowPass,
     row: &mut [u32],
     uses: &mut U,
@@ -153,7 +154,7 @@ fn finish<P: ProgramView, U: RowUse>(
     requires can { CanMakeRow (P.program program.now) block.now pass.old.kept action }
     requires row { length row.old ≡ block.now.columns.width }
     requires next { IsNextAction (P.program program.now) pass.old.counts.items action }
-    requires not_yet { IsKept pass.old.kept (action_place block.now.places.firsts.items action) → ⊥ }
+    requires not_yet { IsKept pass.old.kept (action_place block.now.notes.now.places.firsts.items action) → ⊥ }
     requires used { U.used (P.program program.now) block.now pass.old.counts.items uses.old }
     ensures taken { OnOk result (IsRowTaken (P.program program.now) block.now action pass.old.kept pass.new.kept) }
     ensures counts { OnOk result (pass.new.counts.items ≡ set pass.old.counts.items action.agent action.number) }
@@ -169,7 +170,7 @@ fn finish<P: ProgramView, U: RowUse>(
 /// Keeps the row of an action where some tick takes it.
 fn keep_row<P: ProgramView>(
     program: &P,
-    block: &Block,
+    block: &Block<'_>,
     kept: &mut KeptRows,
     row: &[u32],
     action: ActionId,
@@ -179,12 +180,12 @@ fn keep_row<P: ProgramView>(
     requires row { IsRowOf (P.program program.now) block.now.columns action row.now }
     requires kept { AreKept (P.program program.now) block.now kept.old }
     requires action { IsAction (P.program program.now) action }
-    requires not_yet { IsKept kept.old (action_place block.now.places.firsts.items action) → ⊥ }
+    requires not_yet { IsKept kept.old (action_place block.now.notes.now.places.firsts.items action) → ⊥ }
     ensures { OnOk result (IsRowTaken (P.program program.now) block.now action kept.old kept.new) }
 {
     let _ = program.agents();
-    let place = block.places.place(action.agent, action.number);
-    if block.lasts[place] > 0 {
+    let place = block.notes.places.place(action.agent, action.number);
+    if block.notes.lasts[place] > 0 {
         kept.keep(place, row)?;
     }
     Ok(())

@@ -1,6 +1,6 @@
 //! The last ticks in which actions are taken by those that directly need them, and the order in which the actions finish.
 
-ghost use Rattle.std.specs.Prelude.{◌≡◌, ◌+◌, ◌<◌, ◌≤◌, ℕ, [], length, slice_index, slice_get, Some, IfOk, OnOk};
+ghost use Rattle.std.specs.Prelude.{◌≡◌, ◌+◌, ◌<◌, ◌≤◌, ℕ, [], length, slice_index, slice_get, Some, OnOk};
 ghost use Rattle.fleet_model.specs.Program.{AreInRange, awaits_of, total_moves};
 ghost use Rattle.fleet_model.specs.declared.program.Await.{Await};
 ghost use Rattle.fleet_model.specs.Chain.{IsAction, awaited};
@@ -11,44 +11,15 @@ ghost use Rattle.fleet_rows.specs.Takers.{AreRaised, AreNoted, IsNotedFor, IsNot
 use crate::action_places::ActionPlaces;
 use crate::finish_order::FinishOrder;
 use fleet_machine::Machine;
-use fleet_model::{ActionId, MAX_AGENTS, OutOfMemory, ProgramView, total_moves};
+use fleet_model::{ActionId, MAX_AGENTS, OutOfMemory, ProgramView};
 use std::alloc::Global;
 
 /// More ticks no run without holds counts.
 const MAX_TICKS: u32 = u32::MAX;
 
-/// For each action, by its place, the last tick in which an action is finished that directly needs it, or 0; and the order in which
-/// they finish. Ticks count from 1.
-#[derive(Drop)]
-pub(crate) struct Takers {
-    pub(crate) lasts: Vec<u32>,
-    pub(crate) order: FinishOrder,
-}
-
-/// The last takers of all actions in so many ticks.
-pub(crate) fn last_takers<P: ProgramView>(
-    alloc: Global,
-    program: &P,
-    places: &ActionPlaces,
-    ticks: u32,
-) -> Result<Takers, OutOfMemory>
-    requires range { AreInRange (P.program program.now) }
-    requires places { ArePlaces (P.program program.now) places.now.firsts.items }
-    ensures all { IfOk result (λ takers. length takers.lasts.items ≡ total_moves (P.program program.now)) }
-    ensures noted { IfOk result (λ takers.
-        AreNoted (P.program program.now) places.now.firsts.items ticks takers.lasts.items) }
-    ensures order { IfOk result (λ takers. IsOrder (P.program program.now) takers.order) }
-    ensures ticks { IfOk result (λ takers. length takers.order.ends.items ≡ ticks + 1) }
-{
-    let actions = total_moves(program) as usize;
-    let mut lasts = vec![in alloc; 0; actions]?;
-    let mut order = FinishOrder::new(alloc, actions)?;
-    note_ticks(alloc, program, places, ticks, &mut lasts, &mut order)?;
-    Ok(Takers { lasts, order })
-}
-
-/// Notes what is taken in each of so many ticks, and who finishes.
-fn note_ticks<P: ProgramView>(
+/// Notes for each action, by its place, the last of so many ticks in which an action is finished that directly needs it, where the
+/// list has 0 for each, and the order in which the actions finish. Ticks count from 1.
+pub(crate) fn note_ticks<P: ProgramView>(
     alloc: Global,
     program: &P,
     places: &ActionPlaces,

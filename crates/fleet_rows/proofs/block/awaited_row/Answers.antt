@@ -9,7 +9,7 @@ use Rattle.fleet_rows.proofs.block.awaited_row.Goals as goal
 pub place-requires-clause-agent : goal.place-requires-clause-agent
 place-requires-clause-agent g c =
     let is = awaited_action (g.P.ProgramView.program c.args.program.now) c.requires.range c.args.action.agent c.args.action.number c.args.k c.await_at-awaited.result c.await_at-awaited.ensures in
-    omega (arith, is.agent, c.requires.block.places.all)
+    omega (arith, is.agent, c.requires.block.notes.places.all)
 
 pub place-requires-clause-number : goal.place-requires-clause-number
 place-requires-clause-number g c =
@@ -19,10 +19,10 @@ pub returns : goal.returns
 returns g c =
     let p = g.P.ProgramView.program c.args.program.now in
     let w = c.await_at-awaited.result in
-    let firsts = c.args.block.now.places.firsts.items in
+    let firsts = c.args.block.now.notes.now.places.firsts.items in
     let is = awaited_action p c.requires.range c.args.action.agent c.args.action.number c.args.k w c.await_at-awaited.ensures in
     let there = place_is firsts (awaited w) c.place.result c.place.ensures in
-    let within = place_within p firsts c.requires.block.places (awaited w) is in
+    let within = place_within p firsts c.requires.block.notes.places (awaited w) is in
     let row = c.requires.awaited c.args.k w c.await_at-awaited.ensures in
     record {
       at = c.await_at-awaited.ensures;

@@ -5,14 +5,10 @@ use Rattle.fleet_rows.proofs.implied.flag_all.Goals as goal
 
 pub flag_implied-requires-clause-block : goal.flag_implied-requires-clause-block
 flag_implied-requires-clause-block g c = record {
-  places = c.loop-from.invariant.places;
-  all = c.loop-from.invariant.moves;
-  noted = c.loop-from.invariant.noted;
-  order = c.loop-from.invariant.order;
-  ticks = c.loop-from.invariant.ticks;
-  agents = c.in_ok-block.ensures.agents ∙ c.requires.asked;
-  within = c.in_ok-block.ensures.within;
-  apart = c.in_ok-block.ensures.apart;
+  notes = c.requires.notes;
+  agents = c.in_ok-columns.ensures.agents ∙ c.requires.asked;
+  within = c.in_ok-columns.ensures.within;
+  apart = c.in_ok-columns.ensures.apart;
 }
 
 pub loop-from-preserved : goal.loop-from-preserved
@@ -21,16 +17,10 @@ loop-from-preserved g c =
     let new = c.in_ok-flags.flags.items in
     let made = c.in_ok-flags.ensures in
     record {
-      told = told_to p c.args.asked.now c.loop-from.from c.in_ok-block.field-0 c.in_ok-block.ensures c.loop-from.flags.items new made.told
+      told = told_to p c.args.asked.now c.loop-from.from c.in_ok-columns.columns c.in_ok-columns.ensures c.loop-from.flags.items new (λ a is. made.told a is is)
           made.left c.loop-from.invariant.settled c.loop-from.invariant.told;
-      settled = settled_after p c.args.asked.now c.in_ok-block.field-0 c.loop-from.flags.items new made.told made.left c.loop-from.invariant.settled;
+      settled = settled_after p c.args.asked.now c.in_ok-columns.columns c.loop-from.flags.items new (λ a is. made.told a is is) made.left c.loop-from.invariant.settled;
       all = made.all;
-      places = c.loop-from.invariant.places;
-      moves = c.loop-from.invariant.moves;
-      noted = c.loop-from.invariant.noted;
-      order = c.loop-from.invariant.order;
-      ticks = c.loop-from.invariant.ticks;
-      finish = c.loop-from.invariant.finish;
     }
 
 pub returns-clause-told : goal.returns-clause-told

@@ -1,13 +1,9 @@
-use Rattle.std.proofs.Common.{◌≡◌, ◌+◌, ◌-◌, ◌<◌, [], ℕ, false, length, get_or}
+use Rattle.std.proofs.Common.{◌≡◌, ◌+◌, ◌-◌, ◌<◌, ℕ, false, length, get_or}
 use Rattle.std.specs.Prelude.{slice_get, Some}
 use Rattle.fleet_model.specs.declared.program.ActionId.{ActionId}
 use Rattle.fleet_model.specs.declared.program.Await.{Await}
 use Rattle.fleet_model.specs.Chain.{IsAction}
-use Rattle.fleet_model.specs.Machine.{IsFinish}
-use Rattle.fleet_model.specs.Program.{awaits_of, total_moves, total_awaits}
-use Rattle.fleet_rows.specs.Places.{ArePlaces}
-use Rattle.fleet_rows.specs.Order.{IsOrder}
-use Rattle.fleet_rows.specs.Takers.{AreNoted}
+use Rattle.fleet_model.specs.Program.{awaits_of, total_awaits}
 use Rattle.fleet_rows.specs.Implied.{IsTold, first_await}
 use Rattle.fleet_rows.specs.Settled.{AreSettled}
 use Rattle.fleet_rows.proofs.implied.flag_all.Given as goal
@@ -18,12 +14,6 @@ invariant-loop-from g l = record {
       → IsTold (g.P.ProgramView.program l.program) a w (get_or l.flags.items (first_await (g.P.ProgramView.program l.program) a + k) false);
   settled : AreSettled (g.P.ProgramView.program l.program) l.asked l.flags.items;
   all : length l.flags.items ≡ total_awaits (g.P.ProgramView.program l.program);
-  places : ArePlaces (g.P.ProgramView.program l.program) l.block.places.firsts.items;
-  moves : length l.block.lasts.items ≡ total_moves (g.P.ProgramView.program l.program);
-  noted : AreNoted (g.P.ProgramView.program l.program) l.block.places.firsts.items l.block.ticks l.block.lasts.items;
-  order : IsOrder (g.P.ProgramView.program l.program) l.block.order;
-  ticks : length l.block.order.ends.items ≡ l.block.ticks + 1;
-  finish : IsFinish (g.P.ProgramView.program l.program) [] l.block.ticks;
 }
 
 abbrev pub decreases-loop-from : goal.decreases-loop-from

@@ -4,28 +4,18 @@ use Rattle.fleet_rows.proofs.questions.answer_all.Goals as goal
 
 pub answer-requires-clause-block : goal.answer-requires-clause-block
 answer-requires-clause-block g c = record {
-  places = c.loop-from.invariant.places;
-  all = c.loop-from.invariant.all;
-  noted = c.loop-from.invariant.noted;
-  order = c.loop-from.invariant.order;
-  ticks = c.loop-from.invariant.ticks;
-  agents = c.in_ok-block.ensures.agents ∙ c.requires.asked;
-  within = c.in_ok-block.ensures.within;
-  apart = c.in_ok-block.ensures.apart;
+  notes = c.requires.notes;
+  agents = c.in_ok-columns.ensures.agents ∙ c.requires.asked;
+  within = c.in_ok-columns.ensures.within;
+  apart = c.in_ok-columns.ensures.apart;
 }
 
 pub loop-from-preserved : goal.loop-from-preserved
 loop-from-preserved g c = record {
-  answered = answered_to (g.P.ProgramView.program c.args.program.now) c.args.asked.now c.loop-from.from c.in_ok-block.field-0 c.in_ok-block.ensures c.args.questions.now c.loop-from.flags.items c.in_ok-flags.flags.items
+  answered = answered_to (g.P.ProgramView.program c.args.program.now) c.args.asked.now c.loop-from.from c.in_ok-columns.columns c.in_ok-columns.ensures c.args.questions.now c.loop-from.flags.items c.in_ok-flags.flags.items
       c.in_ok-flags.ensures c.loop-from.invariant.known c.loop-from.invariant.answered;
-  known = known_on (g.P.ProgramView.program c.args.program.now) c.args.asked.now c.in_ok-block.field-0 c.args.questions.now c.loop-from.flags.items c.in_ok-flags.flags.items c.in_ok-flags.ensures c.loop-from.invariant.known;
+  known = known_on (g.P.ProgramView.program c.args.program.now) c.args.asked.now c.in_ok-columns.columns c.args.questions.now c.loop-from.flags.items c.in_ok-flags.flags.items c.in_ok-flags.ensures c.loop-from.invariant.known;
   all_flags = c.in_ok-flags.ensures.all ∙ c.loop-from.invariant.all_flags;
-  places = c.loop-from.invariant.places;
-  all = c.loop-from.invariant.all;
-  noted = c.loop-from.invariant.noted;
-  order = c.loop-from.invariant.order;
-  ticks = c.loop-from.invariant.ticks;
-  finish = c.loop-from.invariant.finish;
 }
 
 pub returns : goal.returns

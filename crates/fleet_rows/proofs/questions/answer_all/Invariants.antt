@@ -1,11 +1,6 @@
-use Rattle.std.proofs.Common.{◌≡◌, ◌+◌, ◌-◌, ◌<◌, [], ℕ, false, length, get_or, Some}
+use Rattle.std.proofs.Common.{◌≡◌, ◌-◌, ◌<◌, ℕ, false, length, get_or, Some}
 use Rattle.std.specs.Prelude.{slice_get}
-use Rattle.fleet_model.specs.Machine.{IsFinish}
-use Rattle.fleet_model.specs.Program.{total_moves}
 use Rattle.fleet_rows.specs.Block.{IsAnswer}
-use Rattle.fleet_rows.specs.Places.{ArePlaces}
-use Rattle.fleet_rows.specs.Order.{IsOrder}
-use Rattle.fleet_rows.specs.Takers.{AreNoted}
 use Rattle.fleet_rows.specs.declared.questions.Question.{Question}
 use Rattle.fleet_rows.proofs.Answered.{AreKnown}
 use Rattle.fleet_rows.proofs.questions.answer_all.Given as goal
@@ -15,12 +10,6 @@ invariant-loop-from g l = record {
   answered : (m : ℕ) (q : Question) → slice_get l.questions m ≡ Some q → q.first.agent < l.from → IsAnswer (g.P.ProgramView.program l.program) q (get_or l.flags.items m false);
   all_flags : length l.flags.items ≡ length l.questions;
   known : AreKnown (g.P.ProgramView.program l.program) l.asked l.questions l.flags.items;
-  places : ArePlaces (g.P.ProgramView.program l.program) l.block.places.firsts.items;
-  all : length l.block.lasts.items ≡ total_moves (g.P.ProgramView.program l.program);
-  noted : AreNoted (g.P.ProgramView.program l.program) l.block.places.firsts.items l.block.ticks l.block.lasts.items;
-  order : IsOrder (g.P.ProgramView.program l.program) l.block.order;
-  ticks : length l.block.order.ends.items ≡ l.block.ticks + 1;
-  finish : IsFinish (g.P.ProgramView.program l.program) [] l.block.ticks;
 }
 
 abbrev pub decreases-loop-from : goal.decreases-loop-from

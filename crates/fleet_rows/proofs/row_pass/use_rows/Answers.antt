@@ -15,7 +15,7 @@ run_on-requires-clause-rows g c =
     (rows_begin p c.args.block.now c.in_ok-new.field-0 (length p)
     (record {
       sound = made.sound;
-      actions = made.actions ∙ ap (λ (xs : List ℕ). length xs) c.deref.ensures.value ∙ c.requires.block.all;
+      actions = made.actions ∙ ap (λ (xs : List ℕ). length xs) c.deref.ensures.value ∙ c.requires.block.notes.all;
       width = made.width;
       lasts = λ x. subst (λ (xs : List ℕ). IsLast c.in_ok-new.field-0 x (slice_index xs x)) c.deref.ensures.value (made.lasts x);
     })
@@ -37,4 +37,4 @@ pub returns-clause-used : goal.returns-clause-used
 returns-clause-used g c =
     let p = g.P.ProgramView.program c.args.program.now in
     let made = c.in_ok-run_on.ensures in
-    (c.run_on.new.pass.counts.items, all_counted p c.args.block.now.ticks c.run_on.new.pass.counts.items c.requires.finish.holds made.counts, made.used)
+    (c.run_on.new.pass.counts.items, all_counted p c.args.block.now.notes.now.ticks c.run_on.new.pass.counts.items c.requires.finish.holds made.counts, made.used)

@@ -18,11 +18,11 @@ overflow_add-number g c =
     let n = c.index.result.now + 1 in
     let counts : List ℕ = c.loop-k.pass.counts.items in
     let mid = c.loop-k.invariant.counts in
-    let next = tick_next p b.order t c.loop-k.k c.begin-k.result c.begin-k-end.result i c.requires.block.order (omega (arith, c.requires.tick, c.requires.block.ticks)) c.begin-k.ensures c.begin-k-end.ensures
+    let next = tick_next p b.notes.now.order t c.loop-k.k c.begin-k.result c.begin-k-end.result i c.requires.block.notes.order (omega (arith, c.requires.tick, c.requires.block.notes.ends)) c.begin-k.ensures c.begin-k-end.ensures
     c.loop-k.auto.k c.loop-k-test.true c.agent-agent.ensures in
     let more : n ≡ slice_index counts i + 1 = (let read = count_read counts c.from.result i c.index.result.now c.from.ensures (omega (arith, next.agent, mid.all)) c.index.ensures in omega (arith, read)) in
     let is = next_action p t _ i next n (number_is p t _ counts mid i next n more) in
-    let l = place_within p b.places.firsts.items c.requires.block.places (record { agent = i; number = n }) is in
+    let l = place_within p b.notes.now.places.firsts.items c.requires.block.notes.places (record { agent = i; number = n }) is in
     omega (arith, l, is.first, c.agents.ensures.well_formed.moves_in_all)
 
 pub finish-requires-clause-can : goal.finish-requires-clause-can
@@ -34,7 +34,7 @@ finish-requires-clause-can g c =
     let n = c.index.result.now + 1 in
     let counts : List ℕ = c.loop-k.pass.counts.items in
     let mid = c.loop-k.invariant.counts in
-    let next = tick_next p b.order t c.loop-k.k c.begin-k.result c.begin-k-end.result i c.requires.block.order (omega (arith, c.requires.tick, c.requires.block.ticks)) c.begin-k.ensures c.begin-k-end.ensures
+    let next = tick_next p b.notes.now.order t c.loop-k.k c.begin-k.result c.begin-k-end.result i c.requires.block.notes.order (omega (arith, c.requires.tick, c.requires.block.notes.ends)) c.begin-k.ensures c.begin-k-end.ensures
     c.loop-k.auto.k c.loop-k-test.true c.agent-agent.ensures in
     let more : n ≡ slice_index counts i + 1 = (let read = count_read counts c.from.result i c.index.result.now c.from.ensures (omega (arith, next.agent, mid.all)) c.index.ensures in omega (arith, read)) in
     can_make p t _ counts mid i next n more b c.loop-k.pass.kept c.requires.block c.requires.tick c.loop-k.invariant.rows
@@ -48,7 +48,7 @@ finish-requires-clause-next g c =
     let n = c.index.result.now + 1 in
     let counts : List ℕ = c.loop-k.pass.counts.items in
     let mid = c.loop-k.invariant.counts in
-    let next = tick_next p b.order t c.loop-k.k c.begin-k.result c.begin-k-end.result i c.requires.block.order (omega (arith, c.requires.tick, c.requires.block.ticks)) c.begin-k.ensures c.begin-k-end.ensures
+    let next = tick_next p b.notes.now.order t c.loop-k.k c.begin-k.result c.begin-k-end.result i c.requires.block.notes.order (omega (arith, c.requires.tick, c.requires.block.notes.ends)) c.begin-k.ensures c.begin-k-end.ensures
     c.loop-k.auto.k c.loop-k-test.true c.agent-agent.ensures in
     let more : n ≡ slice_index counts i + 1 = (let read = count_read counts c.from.result i c.index.result.now c.from.ensures (omega (arith, next.agent, mid.all)) c.index.ensures in omega (arith, read)) in
     next_counted p t _ counts mid i next n more c.requires.range
@@ -62,7 +62,7 @@ finish-requires-clause-not_yet g c =
     let n = c.index.result.now + 1 in
     let counts : List ℕ = c.loop-k.pass.counts.items in
     let mid = c.loop-k.invariant.counts in
-    let next = tick_next p b.order t c.loop-k.k c.begin-k.result c.begin-k-end.result i c.requires.block.order (omega (arith, c.requires.tick, c.requires.block.ticks)) c.begin-k.ensures c.begin-k-end.ensures
+    let next = tick_next p b.notes.now.order t c.loop-k.k c.begin-k.result c.begin-k-end.result i c.requires.block.notes.order (omega (arith, c.requires.tick, c.requires.block.notes.ends)) c.begin-k.ensures c.begin-k-end.ensures
     c.loop-k.auto.k c.loop-k-test.true c.agent-agent.ensures in
     let more : n ≡ slice_index counts i + 1 = (let read = count_read counts c.from.result i c.index.result.now c.from.ensures (omega (arith, next.agent, mid.all)) c.index.ensures in omega (arith, read)) in
     not_kept_yet p t _ counts mid i next n more b c.loop-k.pass.kept c.loop-k.invariant.rows
@@ -76,14 +76,14 @@ loop-k-preserved g c =
     let n = c.index.result.now + 1 in
     let counts : List ℕ = c.loop-k.pass.counts.items in
     let mid = c.loop-k.invariant.counts in
-    let next = tick_next p b.order t c.loop-k.k c.begin-k.result c.begin-k-end.result i c.requires.block.order (omega (arith, c.requires.tick, c.requires.block.ticks)) c.begin-k.ensures c.begin-k-end.ensures
+    let next = tick_next p b.notes.now.order t c.loop-k.k c.begin-k.result c.begin-k-end.result i c.requires.block.notes.order (omega (arith, c.requires.tick, c.requires.block.notes.ends)) c.begin-k.ensures c.begin-k-end.ensures
     c.loop-k.auto.k c.loop-k-test.true c.agent-agent.ensures in
     let more : n ≡ slice_index counts i + 1 = (let read = count_read counts c.from.result i c.index.result.now c.from.ensures (omega (arith, next.agent, mid.all)) c.index.ensures in omega (arith, read)) in
     let a : ActionId = record { agent = i; number = n } in
     let made = c.in_ok-finish.ensures in
-    let begin : c.begin-k.result ≡ slice_index b.order.ends.items t = c.begin-k.ensures in
-    let place : after_place b.order.agents.items (slice_index b.order.ends.items t) (c.loop-k.k + 1) ≡ i + 1 =
-    after_next b.order.agents.items (slice_index b.order.ends.items t) c.loop-k.k (omega (arith, begin, c.loop-k.auto.k)) ∙ ap (λ (m : ℕ). m + 1) (sym c.agent-agent.ensures) in
+    let begin : c.begin-k.result ≡ slice_index b.notes.now.order.ends.items t = c.begin-k.ensures in
+    let place : after_place b.notes.now.order.agents.items (slice_index b.notes.now.order.ends.items t) (c.loop-k.k + 1) ≡ i + 1 =
+    after_next b.notes.now.order.agents.items (slice_index b.notes.now.order.ends.items t) c.loop-k.k (omega (arith, begin, c.loop-k.auto.k)) ∙ ap (λ (m : ℕ). m + 1) (sym c.agent-agent.ensures) in
     record {
       rows = subst (λ (xs : List ℕ). AreRowsAt p b (IsCounted xs) t c.finish.new.pass.kept) (sym made.counts)
           (rows_on p b t counts a (omega (arith, next.agent, mid.all)) more c.loop-k.pass.kept c.finish.new.pass.kept c.loop-k.invariant.rows made.taken);
@@ -96,5 +96,5 @@ pub returns-clause-counts : goal.returns-clause-counts
 returns-clause-counts g c =
     let p = g.P.ProgramView.program c.args.program.now in
     mid_over p c.args.ticks _ c.loop-k.pass.counts.items c.loop-k.invariant.counts
-    (tick_none p c.args.block.now.order c.args.ticks c.loop-k.k c.begin-k.result c.begin-k-end.result c.requires.block.order (omega (arith, c.requires.tick, c.requires.block.ticks)) c.begin-k.ensures c.begin-k-end.ensures
+    (tick_none p c.args.block.now.notes.now.order c.args.ticks c.loop-k.k c.begin-k.result c.begin-k-end.result c.requires.block.notes.order (omega (arith, c.requires.tick, c.requires.block.notes.ends)) c.begin-k.ensures c.begin-k-end.ensures
     c.loop-k.auto.k-end c.loop-k-test.false)

@@ -110,6 +110,7 @@ impl Growing {
 }
 
 /// Adds these actions at the end.
+#[inline(never)]
 fn add_all(actions: &mut Actions, recent: &[Entry]) -> Result<(), OutOfMemory>
     ensures { OnOk result (actions.new ≡ actions.old ++ map action_of recent.now) }
 {

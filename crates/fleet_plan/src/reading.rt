@@ -1,6 +1,6 @@
 //! The reader of plans.
 
-ghost use Rattle.std.specs.Prelude.{◌≡◌, ◌≢◌, ◌==◌, [], false, IfOk, IfErr, IsOkUnless, count_by};
+ghost use Rattle.std.specs.Prelude.{◌≡◌, ◌≢◌, [], false, IfOk, IfErr, IsOkUnless};
 ghost use Rattle.fleet_model.specs.Answer.{IsDueUnless};
 ghost use Rattle.fleet_text.specs.Text.{lines, starts_blank};
 ghost use Rattle.fleet_plan.specs.Plan.{Plan as PlanValue};
@@ -32,31 +32,22 @@ fn too_long(number: u64, text: &[u8]) -> TextFault
     TextFault::Length { line: number }
 }
 
-/// How many commas there are.
-fn comma_count(text: &[u8]) -> usize
-    ensures { result ≡ count_by (λ byte. byte == 44) text.now }
-{
-    let mut count = 0;
-    for byte in text {
-        if *byte == b',' {
-            count += 1;
-        }
-    }
-    count
-}
+/// How many bytes of a line a cell mostly takes, with the blank before the next one.
+const USUAL_CELL_LEN: usize = 6;
 
-/// No cell, and room for those of a line, each of which has a comma.
+/// No cell, and room for so many as a line of this length mostly has.
 fn room_for(alloc: Global, line: &[u8]) -> Result<Vec<Cell>, TextFault>
     ensures none { IfOk result (λ cells. cells.items ≡ []) }
     ensures memory { IsOkUnless result TextFault.OutOfMemory }
 {
-    match Vec::with_capacity(alloc, comma_count(line).min(MAX_CELLS)) {
+    match Vec::with_capacity(alloc, (line.len() / USUAL_CELL_LEN + 1).min(MAX_CELLS)) {
         Ok(cells) => Ok(cells),
         Err(_) => Err(TextFault::OutOfMemory),
     }
 }
 
 /// The path of a line.
+#[inline(never)]
 fn path_of(alloc: Global, number: u64, line: &[u8]) -> Result<Path, TextFault>
     ensures { IsDueUnless (λ p. p) result (path_at number line.now) TextFault.OutOfMemory }
 {

@@ -17,6 +17,7 @@ fn is_beside(from: Cell, to: Cell) -> bool
 }
 
 /// The first time at which a path does not go on over passable cells.
+#[inline(never)]
 fn first_wrong_time(path: &Path, grid: &Grid) -> Option<u32>
     ensures some { IfSome result (IsFirstTime (is_passable grid.now) path.now) }
     ensures none { IfNone result (GoesOver (is_passable grid.now) path.now) }

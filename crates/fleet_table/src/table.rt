@@ -32,6 +32,7 @@ impl<V: Copy> Table<V> {
     }
 
     /// The value of the number.
+    #[inline(always)]
     pub fn get(&self, number: usize) -> V
         ensures { result ≡ value_in self.now number }
     {
@@ -45,6 +46,7 @@ impl<V: Copy> Table<V> {
     }
 
     /// Sets the value of the number.
+    #[inline(always)]
     pub fn set(&mut self, number: usize, value: V) -> Result<(), AllocError>
         ensures { OnOk result (IsSet self.old self.new number value) }
     {
@@ -56,6 +58,7 @@ impl<V: Copy> Table<V> {
 }
 
 /// Makes the list of pages so long that it has this one.
+#[inline(always)]
 fn reach<V: Copy>(alloc: Global, pages: &mut Vec<Vec<V>>, page: usize) -> Result<(), AllocError>
     requires { page < 18014398509481984 }
     ensures room { OnOk result (page < length pages.new.items) }
@@ -68,6 +71,7 @@ fn reach<V: Copy>(alloc: Global, pages: &mut Vec<Vec<V>>, page: usize) -> Result
 }
 
 /// Writes the value at a place of the page.
+#[inline(always)]
 fn write<V: Copy>(page: &mut Vec<V>, place: usize, value: V, blank: V) -> Result<(), AllocError>
     requires { place < PAGE }
     ensures here { OnOk result (get_or page.new.items place blank ≡ value) }
@@ -81,6 +85,7 @@ fn write<V: Copy>(page: &mut Vec<V>, place: usize, value: V, blank: V) -> Result
 }
 
 /// Makes the page whole: the values that it lacks are blank.
+#[inline(never)]
 fn fill<V: Copy>(page: &mut Vec<V>, blank: V) -> Result<(), AllocError>
     ensures whole { OnOk result (PAGE ≤ length page.new.items) }
     ensures same { OnOk result ((place : ℕ) → get_or page.new.items place blank ≡ get_or page.old.items place blank) }

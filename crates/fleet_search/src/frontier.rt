@@ -101,13 +101,13 @@ impl Query<'_> {
 #[derive(Clone, Copy, Debug)]
 pub struct Node {
     pub state: State,
-    pub parent: usize,
+    pub parent: u32,
 }
 
 /// A node that is being expanded: its place in the list, and until when the agent may wait there.
 #[derive(Clone, Copy, Debug)]
 pub struct Expansion {
-    pub place: usize,
+    pub place: u32,
     pub state: State,
     pub until: u32,
 }
@@ -123,7 +123,7 @@ pub struct Neighbour<'a> {
 #[derive(Clone, Copy, Debug, PartialEq, Eq)]
 pub enum BucketEnd {
     /// The node at this place is at the goal, and may stay there.
-    Goal(usize),
+    Goal(u32),
     /// A node was added.
     Grew,
     /// Nothing is left in the bucket.
@@ -138,7 +138,7 @@ pub struct Frontier {
     /// For each safe interval of a cell the earliest time at which a node was made in it.
     pub labels: Labels,
     /// The places of the nodes that are still to be expanded, bucket by bucket.
-    pub open_list: Vec<Vec<usize>>,
+    pub open_list: Vec<Vec<u32>>,
 }
 
 impl Frontier {
@@ -152,6 +152,17 @@ impl Frontier {
             labels: Labels::new(alloc),
             open_list: Vec::new(alloc),
         }
+    }
+
+    /// The place of the node that is added next.
+    fn next_place(&self) -> Result<u32, OutOfMemory>
+        ensures { IfOk result (λ place. place ≡ length self.now.nodes.items) }
+    {
+        let place = self.nodes.len();
+        if place > u32::MAX as usize {
+            return Err(OutOfMemory);
+        }
+        Ok(place as u32)
     }
 
     /// Adds a node for the cell in the safe interval, reached by the step that begins at the time, if that fits and is not too
@@ -189,7 +200,7 @@ impl Frontier {
         if !query.fits(left, cell, begin) {
             return Ok(());
         }
-        let place = self.nodes.len();
+        let place = self.next_place()?;
         let state = State { time, cell };
         self.nodes.push(Node {
             state,
@@ -283,7 +294,7 @@ impl Frontier {
         &self,
         query: &Query,
         bucket: u32,
-        place: usize,
+        place: u32,
         state: State,
         interval: usize,
     ) -> bool
@@ -304,7 +315,7 @@ impl Frontier {
         &mut self,
         query: &Query,
         bucket: u32,
-        place: usize,
+        place: u32,
         state: State,
     ) -> Result<(), OutOfMemory>
         requires horizon { query.now.horizon ≤ MAX_HORIZON }
@@ -339,7 +350,7 @@ impl Frontier {
     {
         let before = self.nodes.len();
         while let Some(place) = take(&mut self.open_list, bucket) {
-            let state = self.nodes[place].state;
+            let state = self.nodes[place as usize].state;
             if state.cell == query.goal && query.goal_free_from <= state.time {
                 return Ok(BucketEnd::Goal(place));
             }
@@ -375,22 +386,22 @@ impl Frontier {
     }
 
     /// The path that leads to the node at this place.
-    pub fn path_to(&self, last: usize) -> Result<Path, OutOfMemory>
+    pub fn path_to(&self, last: u32) -> Result<Path, OutOfMemory>
         requires within { last < length self.now.nodes.items }
         requires searched { IsSearched self.now last }
         ensures { IfOk result (IsTrailOf self.now last) }
     {
-        let end = self.nodes[last].state;
+        let end = self.nodes[last as usize].state;
         let mut cells = Vec::new(self.alloc);
         let mut visit = last;
         cells.push(end.cell)?;
         for back in 0..end.time {
-            let node = self.nodes[visit];
+            let node = self.nodes[visit as usize];
             // Before the agent came to the cell it was where it came from.
             if node.state.time == end.time - back {
                 visit = node.parent;
             }
-            cells.push(self.nodes[visit].state.cell)?;
+            cells.push(self.nodes[visit as usize].state.cell)?;
         }
         cells.reverse();
         Ok(Path::new(cells))

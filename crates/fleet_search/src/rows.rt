@@ -7,7 +7,7 @@ use fleet_model::OutOfMemory;
 use std::alloc::Global;
 
 /// Makes room for the row of this number.
-fn widen(alloc: Global, rows: &mut Vec<Vec<usize>>, key: usize) -> Result<(), OutOfMemory>
+fn widen(alloc: Global, rows: &mut Vec<Vec<u32>>, key: usize) -> Result<(), OutOfMemory>
     requires { key < 4294967295 }
     ensures room { OnOk result (key < length rows.new.items) }
     ensures same { OnOk result ((k : ℕ) → bucket_in rows.new.items k ≡ bucket_in rows.old.items k) }
@@ -21,9 +21,9 @@ fn widen(alloc: Global, rows: &mut Vec<Vec<usize>>, key: usize) -> Result<(), Ou
 /// Puts the number last in the row.
 pub fn put(
     alloc: Global,
-    rows: &mut Vec<Vec<usize>>,
+    rows: &mut Vec<Vec<u32>>,
     key: u32,
-    number: usize,
+    number: u32,
 ) -> Result<(), OutOfMemory>
     requires { key < 4294967295 }
     ensures { OnOk result (IsPut rows.old.items rows.new.items key number) }
@@ -35,7 +35,7 @@ pub fn put(
 }
 
 /// Takes the number off that is last in the row.
-pub fn take(rows: &mut Vec<Vec<usize>>, key: u32) -> Option<usize>
+pub fn take(rows: &mut Vec<Vec<u32>>, key: u32) -> Option<u32>
     ensures some { IfSome result (λ m. bucket_in rows.old.items key ≡ bucket_in rows.new.items key ++ m ∷ []) }
     ensures none { IfNone result (bucket_in rows.new.items key ≡ []) }
     ensures others { (k : ℕ) → k ≢ key → bucket_in rows.new.items k ≡ bucket_in rows.old.items k }
@@ -55,7 +55,7 @@ pub fn take(rows: &mut Vec<Vec<usize>>, key: u32) -> Option<usize>
 const KEPT: usize = 8192;
 
 /// Takes all numbers out of the rows. After a search that used many, most of them are let go.
-pub fn clear(rows: &mut Vec<Vec<usize>>)
+pub fn clear(rows: &mut Vec<Vec<u32>>)
     ensures { (k : ℕ) → bucket_in rows.new.items k ≡ [] }
 {
     rows.truncate(KEPT);

@@ -48,7 +48,7 @@ returns-clause-expands_on c =
     let step : IsStep q c.args.begin l.state.cell cell = record { beside = inr c.requires.neighbour.neighbours; on_ground = c.requires.neighbour.on_ground; fits = c.fits.ensures.0 c.if-not-fits.false } in
     let move : IsMove q l.state c.args.begin cell = record { waits = c.requires.waits; free = λ x a b. c.requires.leaving.until.0 x a (omega arith); step = step } in
     let in_time : c.args.begin + 1 + heuristic_of q cell ≤ q.horizon = omega (arith, c.heuristic-heuristic.ensures.value) in
-    let place : c.len-place.result ≡ length r = omega (arith, c.len-place.ensures) in
+    let place : c.in_ok-place.place ≡ length r = omega (arith, c.in_ok-place.ensures) in
     let set : IsLabelSet labels new _ c.args.interval (c.args.begin + 1) = subst (λ z. IsLabelSet labels new z c.args.interval (c.args.begin + 1)) c.cell_index-number.ensures.value c.in_ok-note.ensures.set in
     let bucket = c.bucket.ensures cell c.heuristic-heuristic.ensures.value in
     let put = subst (IsPut s.open_list.items c.put.new.rows.items c.bucket.result) place c.in_ok-put.ensures in

@@ -1,6 +1,6 @@
 //! Answers of questions for chains of needs, by the rows of a block.
 
-ghost use Rattle.std.specs.Prelude.{◌≡◌, ◌+◌, ◌<◌, ◌≤◌, ◌↔◌, ℕ, [], length, get_or, slice_get, Some, None, All, IsTrue, IfOk};
+ghost use Rattle.std.specs.Prelude.{◌≡◌, ◌↔◌, ℕ, [], length, get_or, slice_get, Some, None, All, IsTrue, IfOk};
 ghost use Rattle.fleet_model.specs.Program.{AreInRange};
 ghost use Rattle.fleet_model.specs.Machine.{IsFinish};
 ghost use Rattle.fleet_rows.specs.Asked.{AreQuestions, IsQuestion};
@@ -46,7 +46,6 @@ pub(crate) fn answer<P: ProgramView>(
 }
 
 impl<'a> RowUse for Answering<'a> {
-    ghost use Rattle.std.specs.Prelude.{refl};
     ghost use Rattle.fleet_rows.specs.Answering.{IsAnswering, AreOthersLeft, others_same, others_joined};
 
     ghost used = { IsAnswering };

@@ -19,13 +19,14 @@ pub(crate) struct FinishOrder {
 }
 
 impl FinishOrder {
-    /// No ticks yet, with room for so many actions.
-    pub(crate) fn new(alloc: Global, actions: usize) -> Result<FinishOrder, OutOfMemory>
+    /// No ticks yet, with room for so many actions and ticks.
+    pub(crate) fn new(alloc: Global, actions: usize, ticks: u32) -> Result<FinishOrder, OutOfMemory>
         ensures order { IfOk result (λ order. (p : Program) → IsOrder p order) }
         ensures ticks { IfOk result (λ order. length order.ends.items ≡ 1) }
     {
         let agents = Vec::with_capacity(alloc, actions)?;
-        let ends = vec![in alloc; 0; 1]?;
+        let mut ends = Vec::with_capacity(alloc, ticks as usize + 1)?;
+        ends.push(0)?;
         Ok(FinishOrder { agents, ends })
     }
 

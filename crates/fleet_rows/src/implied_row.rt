@@ -1,7 +1,7 @@
 //! The row of all that an action needs but one await, for each of its awaits, in one row: each column leaves out the await of
 //! its own agent.
 
-ghost use Rattle.std.specs.Prelude.{◌≡◌, ◌≢◌, ◌+◌, ◌≤◌, ◌<◌, ℕ, false, nat_le, length, max, get_or, slice_index, slice_get, Some, None};
+ghost use Rattle.std.specs.Prelude.{◌≡◌, ◌≢◌, ◌+◌, ◌<◌, ℕ, false, nat_le, length, max, get_or, slice_index, slice_get, Some, None};
 ghost use Rattle.fleet_model.specs.Program.{awaits_of, total_awaits, AreInRange};
 ghost use Rattle.fleet_model.specs.declared.program.Await.{Await};
 ghost use Rattle.fleet_model.specs.Chain.{IsAction, awaited};

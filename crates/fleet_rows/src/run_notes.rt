@@ -36,7 +36,7 @@ impl RunNotes {
         let places = ActionPlaces::of(alloc, program)?;
         let actions = total_moves(program) as usize;
         let mut lasts = vec![in alloc; 0; actions]?;
-        let mut order = FinishOrder::new(alloc, actions)?;
+        let mut order = FinishOrder::new(alloc, actions, ticks)?;
         note_ticks(alloc, program, &places, ticks, &mut lasts, &mut order)?;
         let due = DueRows::of(alloc, &lasts, ticks)?;
         Ok(RunNotes {

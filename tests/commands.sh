@@ -34,3 +34,25 @@ check 'a horizon of 0' 2 '' "error: invalid value '0' for '--horizon <H>': 0 is 
 check 'a value that is none' 2 '' "error: invalid value 'x' for '--deps <DEPS>'\n  [possible values: all, last]\n$hint" 'fleet auto m s --deps x'
 check 'wrong usage before files' 2 '' "error: unexpected argument '--holds' found\n\n  tip: to pass '--holds' as a value, use '-- --holds'\n\nUsage: fleet plan <MAP> <SCEN>\n$hint" 'fleet plan m s --holds h'
 check 'a word that is no text' 2 '' 'error: a word of the command line is no text\n' "fleet \"\$(printf '\\377')\""
+while read -r line; do
+    check "wrong usage: $line" 2 "${line#*: }\n" '' "fleet ${line%%: *} > said 2> told; status=\$?; cat said; sed 1q told; exit \$status"
+done <<'EOF'
+--agents 1: error: unexpected argument '--agents' found
+inst m s: error: unrecognized subcommand 'inst'
+help fly: error: unrecognized subcommand 'fly'
+instance: error: the following required arguments were not provided:
+instance a b c: error: unexpected argument 'c' found
+instance x y z --help: error: unexpected argument 'z' found
+instance m s --agents: error: a value is required for '--agents <K>' but none was supplied
+instance m s --agents x: error: invalid value 'x' for '--agents <K>': invalid digit found in string
+instance m s --agents=-1: error: invalid value '-1' for '--agents <K>': -1 is not in 0..=65535
+instance m s --agents 1 --agents 1: error: the argument '--agents <K>' cannot be used multiple times
+instance m s --agent 1: error: unexpected argument '--agent' found
+plan m s --tries 0: error: invalid value '0' for '--tries <N>': 0 is not in 1..=1000000
+auto m s --tries 1000001: error: invalid value '1000001' for '--tries <N>': 1000001 is not in 1..=1000000
+compile m s p o --dwell 1000001: error: invalid value '1000001' for '--dwell <N>': 1000001 is not in 0..=1000000
+rehearse p q: error: unexpected argument 'q' found
+rehearse p --agents 1: error: unexpected argument '--agents' found
+rehearse p --holds a --holds b: error: the argument '--holds <FILE>' cannot be used multiple times
+list p --holds h: error: unexpected argument '--holds' found
+EOF

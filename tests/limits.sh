@@ -67,4 +67,34 @@ check '.. and stay as they are' 0 'bytes 1000018\n' '' 'fleet migrate way again 
 check '4,194,304 moves in version 2' 0 'agents 5\nticks 1000000\nheld 0\nfinished\n' '' \
     "{ printf 'MPF2\0\5'; for agent in 0 1 2 3; do printf '\0\0\0\0\0\0\0\0\0\17\102\100'; east_and_back 1000000; done; printf '\0\0\0\0\0\0\0\0\0\2\367\0'; east_and_back 194304; } > most && fleet rehearse most | tail -n 4"
 check '4,194,305 moves' 1 '' 'load 5 Total\n' "awk -v last='0000000000000000 0041' '$moves' | fleet"
+# A plan over a large map, plans as long and as many as may be, and one more; programs with as many moves as there may be.
+check 'a plan from corner to corner of a map of 512 by 512' 0 'conflict-free\nagents 1\nsteps 1022\n' '' \
+    "awk 'BEGIN { r = \".\"; while (length(r) < 512) r = r r; print \"type t\nheight 512\nwidth 512\nmap\"; for (y = 0; y < 512; y++) print r }' > room &&
+    printf 'version 1\n0 m 512 512 0 0 511 511 0\n' > corners && fleet plan room corners > plan && fleet check room corners plan"
+check 'a path of 65,537 cells' 1 '' 'text 3 Length line 1\n' "awk 'BEGIN { for (t = 0; t < 65537; t++) printf \"1,0 \" }' | fleet check $M $S /dev/stdin --agents 1"
+check 'a plan of 1,024 agents' 1 '' 'check 2 Agents\n' "yes 65535,65535 | head -n 1024 | fleet check $M $S /dev/stdin"
+check 'a plan of 1,025 agents' 1 '' 'text 4 AgentCount\n' "yes 65535,65535 | head -n 1025 | fleet check $M $S /dev/stdin"
+# shuttles N: 64 agents that go to and fro 65,535 times, and one that does so N times.
+cat > "$work/bin/shuttles" <<'EOF'
+#!/bin/sh
+awk 'BEGIN { print "type t\nheight 65\nwidth 2\nmap"; for (y = 0; y < 65; y++) print ".." }' > shuttles.map
+awk -v n="$1" 'BEGIN { print "version 1"; for (y = 0; y < 65; y++) print "0 m 2 65 0", y, y < 64 ? 1 : n % 2, y, 0 }' > shuttles.scen
+awk -v n="$1" 'BEGIN { for (y = 0; y < 65; y++) { m = y < 64 ? 65535 : n; for (t = 0; t < m; t++) printf "%d,%d ", t % 2, y; print m % 2 "," y } }' > shuttles.plan
+EOF
+chmod +x "$work/bin/shuttles"
+check '4,194,304 moves are compiled' 0 'agents 65\nmoves 4194304\nawaits 0\nbytes 4194960\n' '' 'shuttles 64 && fleet compile shuttles.map shuttles.scen shuttles.plan moves'
+check '.. and one more is too many' 1 '' 'compile 2 TooLong\n' 'shuttles 65 && fleet compile shuttles.map shuttles.scen shuttles.plan moves'
+# relay FREE: 1,024 agents that go one step east each, the last one to where the first has begun. Each but the first and agent FREE awaits the one before it.
+cat > "$work/bin/relay" <<'EOF'
+#!/bin/sh
+awk 'BEGIN { r = "."; while (length(r) < 2048) r = r r; print "type t\nheight 2\nwidth 2049\nmap\n" r ".\n" r "." }' > relay.map
+ends='function ends(k) { y = k > 0 && k < 1023; x = k == 0 ? 1 : k == 1023 ? 0 : 2 * k }'
+awk "$ends"' BEGIN { print "version 1"; for (k = 0; k < 1024; k++) { ends(k); print "0 m 2049 2", x, y, x + 1, y, 0 } }' > relay.scen
+printf "$(awk -v free="$1" "$ends"' function two(n) { return sprintf("\\%03o\\%03o", n / 256, n % 256) }
+    BEGIN { printf "MPF1" two(1024); for (k = 0; k < 1024; k++) { ends(k)
+        printf "%s", two(x) two(y) two(x + 1) two(y) two(1) (k > 0 && k != free ? "\\020" two(k - 1) two(1) : "") "\\001" } }')" > relay.program
+EOF
+chmod +x "$work/bin/relay"
+check 'an order by a chain through 1,024 agents' 0 'accepted\nagents 1024\nmoves 1024\nawaits 1023\nchain 1024\n' '' 'relay 0 && fleet verify relay.map relay.scen relay.program'
+check 'no order where two long chains do not meet' 1 '' 'verify 8 Unordered cell 1,0 first 0:0 second 1023:1\n' 'relay 512 && fleet verify relay.map relay.scen relay.program > holds'
 rm -rf "$room"

@@ -1,7 +1,6 @@
 //! The ends of a run that fail at a byte or at a call, or that count what they take: sinks, sources, writers, readers and stores. All tests use these.
 
-ghost use Rattle.std.specs.Prelude.{◌≡◌, ◌∷◌, [], false};
-ghost use Rattle.fleet_run.specs.Source.{AreFlagsOf};
+ghost use Rattle.std.specs.Prelude.{◌≡◌, false};
 
 use fleet_files::{FileFault, Files, MemFiles};
 use fleet_run::{HoldSource, OutFault, SourceFault, TraceOut};
@@ -10,42 +9,6 @@ use std::io;
 use std::io::{Read, Write};
 
 // ---- sinks
-
-/// A sink that takes one byte at a time, and fails after some bytes.
-#[derive(Drop)]
-pub struct ShortOut {
-    pub bytes: Vec<u8>,
-    room: usize,
-    failed: bool,
-}
-
-impl TraceOut for ShortOut {
-    ghost use Rattle.std.specs.Prelude.{Some, false};
-
-    ghost state = { λ s. record { taken = Some s.bytes.items; has_failed = s.failed; is_flushed = false } };
-
-    fn put(&mut self, bytes: &[u8]) -> Result<usize, OutFault> {
-        if self.bytes.len() >= self.room || self.bytes.push(bytes[0]).is_err() {
-            self.failed = true;
-            return Err(OutFault);
-        }
-        Ok(1)
-    }
-
-    fn failed(&self) -> bool {
-        self.failed
-    }
-}
-
-pub fn short_out(alloc: Global, room: usize) -> ShortOut
-    ensures { result.failed ≡ false }
-{
-    ShortOut {
-        bytes: Vec::new(alloc),
-        room,
-        failed: false,
-    }
-}
 
 /// A sink that counts the pieces and the bytes that it takes.
 #[derive(Drop)]
@@ -110,45 +73,6 @@ pub fn failing_source(ticks: u8, kind: SourceFault) -> FailingSource
         kind,
         failed: false,
     }
-}
-
-/// Sets the first flag alone.
-#[tactic(auto, using(crate::proofs::First::first_alone))]
-fn hold_first(flags: &mut [bool])
-    ensures { AreFlagsOf (0 ∷ []) flags.new }
-{
-    for i in 0..flags.len() {
-        flags[i] = i == 0;
-    }
-}
-
-/// A source that holds agent 0 in each of so many ticks. It keeps no list of them.
-#[derive(Drop)]
-pub struct HoldingSource {
-    ticks: u32,
-}
-
-impl HoldSource for HoldingSource {
-    ghost use Rattle.std.specs.Prelude.{None, [], ◌∷◌, replicate};
-
-    ghost state = { λ s. record { ticks = replicate s.ticks (0 ∷ []); last = None; fault = None } };
-
-    fn next(&mut self, held: &mut [bool]) -> Result<bool, SourceFault> {
-        if self.ticks == 0 {
-            return Ok(false);
-        }
-        self.ticks -= 1;
-        hold_first(held);
-        Ok(true)
-    }
-
-    fn failed(&self) -> Option<SourceFault> {
-        None
-    }
-}
-
-pub fn holding_source(ticks: u32) -> HoldingSource {
-    HoldingSource { ticks }
 }
 
 // ---- streams

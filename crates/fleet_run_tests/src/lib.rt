@@ -1,17 +1,9 @@
-//! Tests of runs through public functions: ticks, traces and rehearsals, sources and sinks that fail, and holds to their limits.
+//! Tests of runs through their public functions: sources that fail, lists of holds, and what no command calls.
 #![tactic(auto)]
 
 #[cfg(test)]
-mod drive_tests;
+mod auto_tests;
 #[cfg(test)]
 mod holds_tests;
 #[cfg(test)]
-mod limit_tests;
-#[cfg(test)]
-mod list_tests;
-#[cfg(test)]
-mod machine_tests;
-#[cfg(test)]
-mod rehearsal_tests;
-#[cfg(test)]
-mod trace_tests;
+mod source_tests;

@@ -1,73 +1,89 @@
 //! Programs that are made of a map and a scenario, and run.
 
-use crate::commands::{Answer, expect, fails, prints, refuses};
-use fleet_fixtures::worked::*;
+use crate::commands::expect;
 use std::test::Fail;
+
+const WHAT_IS_MADE_RUNS: &[u8] = br"
+$ fleet auto pair.map pair.scen
+@ pair.trace
+$ fleet auto pair.map pair.scen --horizon 2
+@ pair.trace
+: holds
+0
+$ fleet auto pair.map pair.scen --holds holds
+@ held.trace
+: holds
+-
+-
+-
+xyz
+$ fleet auto pair.map pair.scen --holds holds
+@ pair.trace
+: holds
+-
+0
+$ fleet auto pair.map pair.scen --agents 1 --holds holds
+0: 1,0
+1: 2,0
+2: 2,0
+3: 3,0
+agents 1
+ticks 3
+chain 2
+held 1
+$ fleet auto row.map row.scen
+@ row.trace
+$ fleet auto row.map row.scen --deps all
+@ row.trace
+$ fleet auto bay.map bay.scen
+@ bay.trace
+";
 
 #[test]
 fn what_is_made_runs(rt: HostRuntime) -> Result<(), Fail> {
-    let one = b"0: 1,0\n1: 2,0\n2: 2,0\n3: 3,0\nagents 1\nticks 3\nchain 2\nheld 1\n".as_slice();
-    let unread = b"-\n-\n-\nxyz\n".as_slice();
-    let rows: [(&str, &[u8], &[u8]); 9] = [
-        ("auto pair.map pair.scen", b"0\n", PAIR_TRACE),
-        ("auto pair.map pair.scen --horizon 2", b"0\n", PAIR_TRACE),
-        ("auto pair.map pair.scen --holds holds", b"0\n", LATE_TRACE),
-        ("auto pair.map pair.scen --holds holds", unread, PAIR_TRACE),
-        (
-            "auto pair.map pair.scen --agents 1 --holds holds",
-            b"-\n0\n",
-            one,
-        ),
-        ("auto row.map row.scen", b"", ROW_TRACE),
-        ("auto row.map row.scen --deps last", b"", ROW_TRACE),
-        ("auto row.map row.scen --deps all", b"", ROW_TRACE),
-        ("auto bay.map bay.scen", b"", BAY_TRACE),
-    ];
-    for (line, holds, printed) in rows {
-        expect(&rt, rt.alloc(), line, &[("holds", holds)], prints(printed))?;
-    }
-    Ok(())
+    expect(&rt, rt.alloc(), WHAT_IS_MADE_RUNS)
 }
+
+const STEPS_THAT_REFUSE_ARE_TOLD: &[u8] = br"
+$ fleet auto square.map square.scen
+! search 2 NoPath agent 3
+? 1
+$ fleet auto pair.map pair.scen --horizon 1
+! search 2 NoPath agent 0
+? 1
+$ fleet auto pair.map pair.scen --agents 3
+! scen 11 Fewer
+? 1
+$ fleet auto pair.scen pair.scen
+! map 2 Header line 1
+? 1
+$ fleet auto pair.map pair.map
+! scen 2 Version
+? 1
+$ fleet auto none pair.scen
+! file none
+? 3
+# All files are read before the first of them is judged, that of the holds last.
+$ fleet auto pair.scen none
+! file none
+? 3
+$ fleet auto pair.scen pair.map --holds none
+! file none
+? 3
+$ fleet auto pair.scen no.scen --holds none
+! file no.scen
+? 3
+: holds
+-
+1 0
+$ fleet auto pair.map pair.scen --holds holds
+0: 1,0 0,0
+1: 2,0 0,0
+! run 3 Hold line 2
+? 1
+";
 
 #[test]
 fn steps_that_refuse_are_told(rt: HostRuntime) -> Result<(), Fail> {
-    let rows: [(&str, Answer<'_>); 9] = [
-        (
-            "auto square.map square.scen",
-            refuses(b"search 2 NoPath agent 3\n"),
-        ),
-        (
-            "auto pair.map pair.scen --horizon 1",
-            refuses(b"search 2 NoPath agent 0\n"),
-        ),
-        (
-            "auto pair.map pair.scen --agents 3",
-            refuses(b"scen 11 Fewer\n"),
-        ),
-        (
-            "auto pair.scen pair.scen",
-            refuses(b"map 2 Header line 1\n"),
-        ),
-        ("auto pair.map pair.map", refuses(b"scen 2 Version\n")),
-        ("auto none pair.scen", fails(b"file none\n")),
-        // All files are read before the first of them is judged, that of the holds last.
-        ("auto pair.scen none", fails(b"file none\n")),
-        (
-            "auto pair.scen pair.map --holds none",
-            fails(b"file none\n"),
-        ),
-        (
-            "auto pair.scen no.scen --holds none",
-            fails(b"file no.scen\n"),
-        ),
-    ];
-    for (line, answer) in rows {
-        expect(&rt, rt.alloc(), line, &[], answer)?;
-    }
-    let line = "auto pair.map pair.scen --holds holds";
-    let answer = Answer {
-        printed: b"0: 1,0 0,0\n1: 2,0 0,0\n",
-        ..refuses(b"run 3 Hold line 2\n")
-    };
-    expect(&rt, rt.alloc(), line, &[("holds", b"-\n1 0\n")], answer)
+    expect(&rt, rt.alloc(), STEPS_THAT_REFUSE_ARE_TOLD)
 }

@@ -1,144 +1,174 @@
-//! Commands by their words, over files in memory.
+//! Commands by their words, over files in memory, and what they answer, as transcripts.
 
 ghost use Rattle.std.specs.Prelude.{◌≡◌, false};
 ghost use Rattle.fleet_text.specs.Sink.{IsWorking};
 
 use fleet_cli::{Files, MemFiles, run_command};
-use fleet_code::read_hex;
-use fleet_dispatch::StreamFloor;
-use fleet_fixtures::worked::*;
+use fleet_dispatch::{Floor, StreamFloor};
+use fleet_fixtures::table::{Part, parted, parts, rows, text_of, unescaped};
+use fleet_fixtures::worked::{put_part, worked_files};
 use fleet_run::{Flush, VecOut};
-use std::alloc::Global;
+use fleet_text::{next_word, small_number_of};
+use std::alloc::{AllocError, Global};
+use std::io::Read;
 use std::process::Abort;
 use std::test::Fail;
 
-/// What a command prints and tells, and its status.
-#[derive(Clone, Copy)]
-pub struct Answer<'a> {
-    pub printed: &'a [u8],
-    pub told: &'a [u8],
-    pub status: u8,
-}
-
-/// It is done.
-pub fn prints<'a>(printed: &'a [u8]) -> Answer<'a> {
-    Answer {
-        printed,
-        told: b"",
-        status: 0,
-    }
-}
-
-/// It is refused before anything is printed.
-pub fn refuses<'a>(told: &'a [u8]) -> Answer<'a> {
-    Answer {
-        printed: b"",
-        told,
-        status: 1,
-    }
-}
-
-/// A file fails before anything is printed.
-pub fn fails<'a>(told: &'a [u8]) -> Answer<'a> {
-    Answer {
-        printed: b"",
-        told,
-        status: 3,
-    }
-}
-
-/// Agent 1 of the pair does not await that agent 0 leaves its start.
-pub const SOON: &[u8] = b"4D504631 0002 0001 0000 0003 0000 0002 01 01
-    0000 0000 0002 0000 0002 01 10 0000 0002 01";
-
-/// The maps and scenarios of the worked fleets.
-const TEXTS: [(&str, &[u8]); 15] = [
-    ("pair.map", PAIR_MAP),
-    ("pair.scen", PAIR_SCEN),
-    ("row.map", ROW_MAP),
-    ("row.scen", ROW_SCEN),
-    ("bay.map", BAY_MAP),
-    ("bay.scen", BAY_SCEN),
-    ("mouth.scen", MOUTH_SCEN),
-    ("square.map", SQUARE_MAP),
-    ("square.scen", SQUARE_SCEN),
-    ("relay.map", RELAY_MAP),
-    ("relay.scen", RELAY_SCEN),
-    ("cell.map", CELL_MAP),
-    ("cell.scen", CELL_SCEN),
-    ("two.map", TWO_MAP),
-    ("two.scen", TWO_SCEN),
-];
-
-/// The worked fleets, the pair's program, the one that breaks, and these files. None without memory.
-pub fn worked_files(alloc: Global, others: &[(&str, &[u8])]) -> Option<MemFiles> {
-    let mut files = MemFiles::new(alloc);
-    for (name, bytes) in TEXTS {
-        files.put(name, bytes).ok()?;
-    }
-    for (name, text) in [("pair.program", PAIR), ("soon.program", SOON)] {
-        files.put(name, &program_of(alloc, text)?).ok()?;
-    }
-    for &(name, bytes) in others {
-        files.put(name, bytes).ok()?;
-    }
-    Some(files)
-}
-
-/// The bytes of a program that is written in hexadecimal.
-pub fn program_of(alloc: Global, text: &[u8]) -> Option<Vec<u8>> {
-    read_hex(alloc, text).ok()
-}
-
-pub fn words_of(alloc: Global, line: &str) -> Option<Vec<String>> {
+/// The words of a line.
+pub fn words_of(alloc: Global, line: &[u8]) -> Result<Vec<String>, AllocError> {
     let mut words = Vec::new(alloc);
-    for word in line.split_whitespace() {
-        words.push(String::from_str(alloc, word).ok()?).ok()?;
+    let mut rest = line;
+    for _ in 0..line.len() {
+        let Some((word, after)) = next_word(rest) else {
+            break;
+        };
+        words.push(text_of(alloc, word)?)?;
+        rest = after;
     }
-    Some(words)
+    Ok(words)
 }
 
-/// The status of the words of the line over these files, with the pair as the input. None without memory for the words.
-pub fn status_of<F: Files, O: Flush>(
+/// The status of the words over this input, these files and these outputs. None without memory for the words.
+pub fn status_of<R: Read + Floor, F: Files, O: Flush>(
     alloc: Global,
-    line: &str,
+    line: &[u8],
+    input: &mut R,
     files: &mut F,
     out: &mut O,
     err: &mut VecOut,
 ) -> Option<u8>
+    requires floor_works { R.works input.old }
     requires out_working { IsWorking (O.state out.old) }
     requires err_working { err.old.has_failed ≡ false }
 {
-    let words = words_of(alloc, line)?;
-    let mut input = StreamFloor::new(PAIR, VecOut::new(alloc));
-    Some(run_command(alloc, words.as_slice(), &mut input, files, out, err))
+    let words = words_of(alloc, line).ok()?;
+    Some(run_command(alloc, words.as_slice(), input, files, out, err))
 }
 
-/// The words of the line answer so over these files.
-pub fn expect_over<F: Files>(
-    rt: &impl Abort,
-    alloc: Global,
-    line: &str,
-    files: &mut F,
-    answer: Answer<'_>,
-) -> Result<(), Fail> {
-    let mut out = VecOut::new(alloc);
-    let mut err = VecOut::new(alloc);
-    let status = status_of(alloc, line, files, &mut out, &mut err).ok_or("memory")?;
-    assert_eq!(rt; out.bytes(), answer.printed, "{line}");
-    assert_eq!(rt; err.bytes(), answer.told, "{line}");
-    assert_eq!(rt; status, answer.status, "{line}");
+/// What a command is given on standard input, and what it prints and tells, and its status.
+#[derive(Drop)]
+pub struct Answer {
+    pub input: Vec<u8>,
+    pub printed: Vec<u8>,
+    pub told: Vec<u8>,
+    pub status: u8,
+}
+
+/// Adds a line to what the text stands for.
+fn add_line(alloc: Global, text: &mut Vec<u8>, line: &[u8]) -> Result<(), AllocError> {
+    text.extend_from_slice(&unescaped(alloc, line)?)?;
+    if !line.ends_with(b"\\") {
+        text.push(b'\n')?;
+    }
     Ok(())
 }
 
-/// .. over the worked fleets and these files.
-pub fn expect(
+/// Adds the whole file of this name.
+fn add_file(
+    alloc: Global,
+    text: &mut Vec<u8>,
+    files: &MemFiles,
+    name: &[u8],
+) -> Result<(), AllocError> {
+    let name = text_of(alloc, name)?;
+    text.extend_from_slice(files.get(&name).unwrap_or(b"no such file"))
+}
+
+/// The answer of which these are the lines: behind `<` what the command is given, behind `!` what it tells, behind `?` its status where it is not 0, behind `@` a file
+/// that it prints whole, and else what it prints.
+fn answer_of(alloc: Global, files: &MemFiles, lines: &[u8]) -> Result<Answer, AllocError> {
+    let mut answer = Answer {
+        input: Vec::new(alloc),
+        printed: Vec::new(alloc),
+        told: Vec::new(alloc),
+        status: 0,
+    };
+    for line in &rows(alloc, lines)? {
+        let (sign, rest) = parted(line, b' ');
+        match sign {
+            [b'<'] => add_line(alloc, &mut answer.input, rest)?,
+            [b'!'] => add_line(alloc, &mut answer.told, rest)?,
+            [b'@'] => add_file(alloc, &mut answer.printed, files, rest)?,
+            [b'?'] => answer.status = (small_number_of(rest).unwrap_or(255) & 255) as u8,
+            _ => add_line(alloc, &mut answer.printed, line)?,
+        }
+    }
+    Ok(answer)
+}
+
+/// The words of the line answer so over these files.
+fn expect_answer(
     rt: &impl Abort,
     alloc: Global,
-    line: &str,
-    others: &[(&str, &[u8])],
-    answer: Answer<'_>,
+    line: &[u8],
+    files: &mut MemFiles,
+    answer: &Answer,
 ) -> Result<(), Fail> {
-    let mut files = worked_files(alloc, others).ok_or("memory")?;
-    expect_over(rt, alloc, line, &mut files, answer)
+    let mut floor = StreamFloor::new(answer.input.as_slice(), VecOut::new(alloc));
+    let mut out = VecOut::new(alloc);
+    let mut err = VecOut::new(alloc);
+    // The first word is the program's name.
+    let words = parted(line, b' ').1;
+    let status = status_of(alloc, words, &mut floor, files, &mut out, &mut err);
+    let name = text_of(alloc, line)?;
+    // A dispatch prints orders, and each other command what is no order.
+    if floor.orders.bytes().is_empty() {
+        assert_eq!(rt; out.bytes(), answer.printed.as_slice(), "{name}");
+    } else {
+        assert_eq!(rt; floor.orders.bytes(), answer.printed.as_slice(), "{name}");
+        assert!(rt; out.bytes().is_empty(), "{name}");
+    }
+    assert_eq!(rt; err.bytes(), answer.told.as_slice(), "{name}");
+    assert_eq!(rt; status, Some(answer.status), "{name}");
+    Ok(())
+}
+
+/// The two files of the words are the same; where the second is `none`, there is no first.
+fn expect_same(rt: &impl Abort, alloc: Global, files: &MemFiles, line: &[u8]) -> Result<(), Fail> {
+    let (first, second) = parted(line, b' ');
+    let first = text_of(alloc, first)?;
+    let second = text_of(alloc, second)?;
+    assert!(rt; second.as_str() == "none" || files.get(&second).is_some());
+    assert!(rt; files.get(&first) == files.get(&second), "{first}");
+    Ok(())
+}
+
+/// Goes through a transcript over the worked fleets: files that are put, commands with their answers, and files that have to be the same.
+pub fn expect(rt: &impl Abort, alloc: Global, transcript: &[u8]) -> Result<(), Fail> {
+    let mut files = worked_files(alloc).ok_or("memory")?;
+    expect_over(rt, alloc, &mut files, transcript)
+}
+
+/// .. over these files.
+pub fn expect_over(
+    rt: &impl Abort,
+    alloc: Global,
+    files: &mut MemFiles,
+    transcript: &[u8],
+) -> Result<(), Fail> {
+    let parts = parts(alloc, transcript)?;
+    assert!(rt; !parts.is_empty());
+    for part in &parts {
+        expect_part(rt, alloc, files, part)?;
+    }
+    Ok(())
+}
+
+fn expect_part(
+    rt: &impl Abort,
+    alloc: Global,
+    files: &mut MemFiles,
+    part: &Part<'_>,
+) -> Result<(), Fail> {
+    match part.sign {
+        b'$' => {
+            let answer = answer_of(alloc, files, part.lines)?;
+            expect_answer(rt, alloc, part.name, files, &answer)
+        }
+        b'=' => expect_same(rt, alloc, files, part.name),
+        _ => {
+            put_part(alloc, files, part).ok_or("no such file")?;
+            Ok(())
+        }
+    }
 }

@@ -2,8 +2,6 @@
 #![tactic(auto)]
 
 #[cfg(test)]
-mod args_tests;
-#[cfg(test)]
 mod auto_tests;
 #[cfg(test)]
 mod check_tests;
@@ -14,15 +12,9 @@ mod commands;
 #[cfg(test)]
 mod compile_tests;
 #[cfg(test)]
-mod disk_tests;
-#[cfg(test)]
 mod dispatch_tests;
 #[cfg(test)]
-mod dwell_tests;
-#[cfg(test)]
 mod file_tests;
-#[cfg(test)]
-mod flush_tests;
 #[cfg(test)]
 mod hex_tests;
 #[cfg(test)]
@@ -37,5 +29,7 @@ mod plan_tests;
 mod program_tests;
 #[cfg(test)]
 mod refusal_tests;
+#[cfg(test)]
+mod stream_tests;
 #[cfg(test)]
 mod thin_tests;

@@ -1,79 +1,89 @@
 //! Plans that are made.
 
-use crate::commands::{Answer, expect, fails, prints, refuses};
-use fleet_fixtures::worked::*;
+use crate::commands::expect;
 use std::test::Fail;
+
+const PLANS_ARE_PRINTED: &[u8] = br"
+$ fleet plan pair.map pair.scen
+@ pair.plan
+$ fleet plan pair.map pair.scen --horizon 2 --agents 1
+1,0 2,0 3,0
+$ fleet plan bay.map bay.scen
+@ bay.plan
+$ fleet plan square.map square.scen --agents 3
+0,0 1,0
+1,0 1,1
+1,1 0,1
+";
 
 #[test]
 fn plans_are_printed(rt: HostRuntime) -> Result<(), Fail> {
-    let three = b"0,0 1,0\n1,0 1,1\n1,1 0,1\n".as_slice();
-    let rows: [(&str, &[u8]); 4] = [
-        ("plan pair.map pair.scen", PAIR_PLAN),
-        (
-            "plan pair.map pair.scen --horizon 2 --agents 1",
-            b"1,0 2,0 3,0\n",
-        ),
-        ("plan bay.map bay.scen", BAY_PLAN),
-        ("plan square.map square.scen --agents 3", three),
-    ];
-    for (line, printed) in rows {
-        expect(&rt, rt.alloc(), line, &[], prints(printed))?;
-    }
-    Ok(())
+    expect(&rt, rt.alloc(), PLANS_ARE_PRINTED)
 }
+
+const AGENTS_WITHOUT_A_PATH_ARE_TOLD: &[u8] = br"
+$ fleet plan square.map square.scen
+! search 2 NoPath agent 3
+? 1
+$ fleet plan pair.map pair.scen --horizon 1
+! search 2 NoPath agent 0
+? 1
+$ fleet plan pair.map pair.scen --agents 3
+! scen 11 Fewer
+? 1
+$ fleet plan pair.map none
+! file none
+? 3
+# The agents exchange their cells, and a wall is between start and goal.
+: line.map
+type octile
+height 1
+width 5
+map
+...@.
+: exchange
+version 1
+0 m 5 1 0 0 2 0 2
+0 m 5 1 2 0 0 0 2
+$ fleet plan line.map exchange
+! search 2 NoPath agent 1
+? 1
+: through
+version 1
+0 m 5 1 0 0 4 0 4
+$ fleet plan line.map through
+! search 2 NoPath agent 0
+? 1
+";
 
 #[test]
 fn agents_without_a_path_are_told(rt: HostRuntime) -> Result<(), Fail> {
-    let rows: [(&str, Answer<'_>); 4] = [
-        (
-            "plan square.map square.scen",
-            refuses(b"search 2 NoPath agent 3\n"),
-        ),
-        (
-            "plan pair.map pair.scen --horizon 1",
-            refuses(b"search 2 NoPath agent 0\n"),
-        ),
-        (
-            "plan pair.map pair.scen --agents 3",
-            refuses(b"scen 11 Fewer\n"),
-        ),
-        ("plan pair.map none", fails(b"file none\n")),
-    ];
-    for (line, answer) in rows {
-        expect(&rt, rt.alloc(), line, &[], answer)?;
-    }
-    Ok(())
+    expect(&rt, rt.alloc(), AGENTS_WITHOUT_A_PATH_ARE_TOLD)
 }
+
+const OTHER_ORDERS_ARE_TRIED: &[u8] = br"
+$ fleet plan bay.map mouth.scen
+! search 2 NoPath agent 1
+? 1
+$ fleet plan bay.map mouth.scen --tries 1
+! search 2 NoPath agent 1
+? 1
+$ fleet plan bay.map mouth.scen --tries 2
+@ mouth.plan
+$ fleet plan bay.map mouth.scen --tries 1000000
+@ mouth.plan
+$ fleet auto bay.map mouth.scen --tries 2
+@ mouth.trace
+$ fleet auto bay.map mouth.scen
+! search 2 NoPath agent 1
+? 1
+# No order has a path of one step for agent 1, and none is tried more than once where it comes first.
+$ fleet plan bay.map mouth.scen --tries 1000000 --horizon 1
+! search 2 NoPath agent 1
+? 1
+";
 
 #[test]
 fn other_orders_are_tried(rt: HostRuntime) -> Result<(), Fail> {
-    let rows: [(&str, Answer<'_>); 7] = [
-        (
-            "plan bay.map mouth.scen",
-            refuses(b"search 2 NoPath agent 1\n"),
-        ),
-        (
-            "plan bay.map mouth.scen --tries 1",
-            refuses(b"search 2 NoPath agent 1\n"),
-        ),
-        ("plan bay.map mouth.scen --tries 2", prints(MOUTH_PLAN)),
-        (
-            "plan bay.map mouth.scen --tries 1000000",
-            prints(MOUTH_PLAN),
-        ),
-        ("auto bay.map mouth.scen --tries 2", prints(MOUTH_TRACE)),
-        (
-            "auto bay.map mouth.scen",
-            refuses(b"search 2 NoPath agent 1\n"),
-        ),
-        // No order has a path of one step for agent 1, and none is tried more than once where it comes first.
-        (
-            "plan bay.map mouth.scen --tries 1000000 --horizon 1",
-            refuses(b"search 2 NoPath agent 1\n"),
-        ),
-    ];
-    for (line, answer) in rows {
-        expect(&rt, rt.alloc(), line, &[], answer)?;
-    }
-    Ok(())
+    expect(&rt, rt.alloc(), OTHER_ORDERS_ARE_TRIED)
 }

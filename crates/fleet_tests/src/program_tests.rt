@@ -1,136 +1,130 @@
 //! Programs that are verified and run.
 
-use crate::commands::{
-    Answer, SOON, expect_over, fails, prints, program_of, refuses, worked_files,
-};
-use fleet_fixtures::worked::*;
-use std::alloc::Global;
-use std::process::Abort;
+use crate::commands::expect;
 use std::test::Fail;
 
-/// The words of this line answer so, where the file `program` has the bytes of this program, which is written in hexadecimal, and
-/// `holds` this text.
-fn expect_program(
-    rt: &impl Abort,
-    alloc: Global,
-    line: &str,
-    (program, holds): (&[u8], &[u8]),
-    answer: Answer<'_>,
-) -> Result<(), Fail> {
-    let mut files = worked_files(alloc, &[("holds", holds)]).ok_or("memory")?;
-    files.put("program", &program_of(alloc, program).ok_or("hexadecimal")?)?;
-    expect_over(rt, alloc, line, &mut files, answer)
-}
-
-/// Agent 1 awaits agent 0's first move before its second.
-const EARLY: &[u8] = b"4D504631 0002 0001 0000 0003 0000 0002 01 01
-    0000 0000 0002 0000 0002 10 0000 0001 01 10 0000 0001 01";
-
-/// An await beyond the other agent's moves.
-const BEYOND: &[u8] = b"4D504631 0002 0001 0000 0003 0000 0002 01 01
-    0000 0000 0002 0000 0002 10 0000 0001 01 10 0000 0003 01";
-
-/// Agent 0 goes back.
-const BACK: &[u8] = b"4D504631 0002 0001 0000 0003 0000 0002 01 03
-    0000 0000 0002 0000 0002 10 0000 0001 01 10 0000 0002 01";
-
-/// Agent 0 leaves the map.
-const OFF: &[u8] = b"4D504631 0002 0001 0000 0003 0000 0004 00 02 01 01
-    0000 0000 0002 0000 0002 10 0000 0003 01 10 0000 0004 01";
-
-const VERIFY: &str = "verify pair.map pair.scen program";
-
-const VERIFY_RELAY: &str = "verify relay.map relay.scen program";
-
-const RUN: &str = "run pair.map pair.scen program --holds holds";
+const PROGRAMS_ARE_ACCEPTED: &[u8] = br"
+$ fleet verify pair.map pair.scen pair.program
+accepted
+agents 2
+moves 4
+awaits 2
+chain 3
+$ fleet verify cell.map cell.scen cell.program
+accepted
+agents 1
+moves 0
+awaits 0
+chain 0
+# Agent 2 of the relay enters the cell that agent 0 has left, and awaits agent 1, which awaits agent 0.
+$ fleet verify relay.map relay.scen relay.program
+accepted
+agents 3
+moves 3
+awaits 2
+chain 3
+";
 
 #[test]
 fn programs_are_accepted(rt: HostRuntime) -> Result<(), Fail> {
-    let cell = b"accepted\nagents 1\nmoves 0\nawaits 0\nchain 0\n".as_slice();
-    let relay = b"accepted\nagents 3\nmoves 3\nawaits 2\nchain 3\n".as_slice();
-    let rows: [(&str, &[u8], &[u8]); 3] = [
-        (VERIFY, PAIR, PAIR_ACCEPTED),
-        ("verify cell.map cell.scen program", CELL, cell),
-        (VERIFY_RELAY, RELAY, relay),
-    ];
-    for (line, program, printed) in rows {
-        expect_program(&rt, rt.alloc(), line, (program, b""), prints(printed))?;
-    }
-    Ok(())
+    expect(&rt, rt.alloc(), PROGRAMS_ARE_ACCEPTED)
 }
 
-/// Agent 1 of the relay awaits nobody.
-const RELAY_BROKEN: &[u8] = b"4D504631 0003 0001 0000 0002 0000 0001 01
-    0000 0002 0001 0002 0001 01
-    0000 0000 0001 0000 0001 10 0001 0001 01";
+const FIRST_FAULTS_OF_PROGRAMS_ARE_TOLD: &[u8] = br"
+$ fleet verify pair.map pair.scen deadlock.program
+! verify 7 Cyclic 0:1 1:1
+? 1
+$ fleet verify pair.map pair.scen late.program
+! verify 6 AwaitRange agent 1 action 2
+? 1
+$ fleet verify pair.map pair.scen cell.program
+! verify 2 OtherFleet
+? 1
+$ fleet verify relay.map relay.scen deadlock.program --agents 2
+! verify 3 Start agent 1
+? 1
+# Agent 1 awaits more moves than agent 0 has.
+% program
+4D504631 0002 0001 0000 0003 0000 0002 01 01
+0000 0000 0002 0000 0002 10 0000 0001 01 10 0000 0003 01
+$ fleet verify pair.map pair.scen program
+! verify 6 AwaitRange agent 1 action 2
+? 1
+# Agent 0 goes back.
+% program
+4D504631 0002 0001 0000 0003 0000 0002 01 03
+0000 0000 0002 0000 0002 10 0000 0001 01 10 0000 0002 01
+$ fleet verify pair.map pair.scen program
+! verify 4 Goal agent 0
+? 1
+# Agent 0 leaves the map.
+% program
+4D504631 0002 0001 0000 0003 0000 0004 00 02 01 01
+0000 0000 0002 0000 0002 10 0000 0003 01 10 0000 0004 01
+$ fleet verify pair.map pair.scen program
+! verify 5 Step agent 0 action 1
+? 1
+";
 
 #[test]
 fn first_faults_of_programs_are_told(rt: HostRuntime) -> Result<(), Fail> {
-    let fewer = "verify relay.map relay.scen program --agents 2";
-    let rows: [(&str, &[u8], &[u8]); 7] = [
-        (VERIFY, DEADLOCK, b"verify 7 Cyclic 0:1 1:1\n"),
-        (VERIFY, BEYOND, b"verify 6 AwaitRange agent 1 action 2\n"),
-        (VERIFY, PAIR_LATE, b"verify 6 AwaitRange agent 1 action 2\n"),
-        (VERIFY, BACK, b"verify 4 Goal agent 0\n"),
-        (VERIFY, OFF, b"verify 5 Step agent 0 action 1\n"),
-        (VERIFY, CELL, b"verify 2 OtherFleet\n"),
-        (fewer, DEADLOCK, b"verify 3 Start agent 1\n"),
-    ];
-    for (line, program, told) in rows {
-        expect_program(&rt, rt.alloc(), line, (program, b""), refuses(told))?;
-    }
-    Ok(())
+    expect(&rt, rt.alloc(), FIRST_FAULTS_OF_PROGRAMS_ARE_TOLD)
 }
+
+const BREAKING_HOLDS_ARE_PRINTED: &[u8] = br"
+$ fleet verify pair.map pair.scen soon.program
+0
+! verify 8 Unordered cell 1,0 first 0:0 second 1:1
+? 1
+# Agent 1 awaits agent 0's first move before its second.
+% program
+4D504631 0002 0001 0000 0003 0000 0002 01 01
+0000 0000 0002 0000 0002 10 0000 0001 01 10 0000 0001 01
+$ fleet verify pair.map pair.scen program
+-
+0
+0
+! verify 8 Unordered cell 2,0 first 0:1 second 1:2
+? 1
+# Agent 1 of the relay awaits nobody.
+% program
+4D504631 0003 0001 0000 0002 0000 0001 01
+0000 0002 0001 0002 0001 01
+0000 0000 0001 0000 0001 10 0001 0001 01
+$ fleet verify relay.map relay.scen program
+0
+0
+! verify 8 Unordered cell 1,0 first 0:0 second 2:1
+? 1
+# Agent 0 stands on its goal, and agent 1 comes through there though nobody is held.
+: through
+version 1
+0 m 4 1 1 0 1 0 0
+0 m 4 1 0 0 2 0 2
+% program
+4D504631 0002 0001 0000 0001 0000 0000 0000 0000 0002 0000 0002 01 01
+$ fleet verify pair.map through program
+-
+! verify 8 Unordered cell 1,0 first 0:0 second 1:1
+? 1
+# Nobody awaits anybody, and each of three cells is entered too soon. The visits of agent 0 begin with 2,0.
+% program
+4D504631 0003 0002 0000 0004 0000 0002 01 01
+0001 0000 0003 0000 0002 01 01 0000 0000 0002 0000 0002 01 01
+$ fleet verify row.map row.scen program
+0 2
+! verify 8 Unordered cell 2,0 first 0:0 second 1:1
+? 1
+";
 
 #[test]
 fn breaking_holds_are_printed(rt: HostRuntime) -> Result<(), Fail> {
-    let rows: [(&str, &[u8], &[u8], &[u8]); 3] = [
-        (
-            VERIFY,
-            SOON,
-            b"0\n",
-            b"verify 8 Unordered cell 1,0 first 0:0 second 1:1\n",
-        ),
-        (
-            VERIFY,
-            EARLY,
-            b"-\n0\n0\n",
-            b"verify 8 Unordered cell 2,0 first 0:1 second 1:2\n",
-        ),
-        (
-            VERIFY_RELAY,
-            RELAY_BROKEN,
-            b"0\n0\n",
-            b"verify 8 Unordered cell 1,0 first 0:0 second 2:1\n",
-        ),
-    ];
-    for (line, program, printed, told) in rows {
-        let answer = Answer {
-            printed,
-            told,
-            status: 1,
-        };
-        expect_program(&rt, rt.alloc(), line, (program, b""), answer)?;
-    }
-    Ok(())
+    expect(&rt, rt.alloc(), BREAKING_HOLDS_ARE_PRINTED)
 }
 
-/// Agent 0 stands on its goal, and agent 1 comes through there. The file `holds` has the scenario.
-#[test]
-fn a_standing_agent_is_met_though_nobody_is_held(rt: HostRuntime) -> Result<(), Fail> {
-    let program = b"4D504631 0002 0001 0000 0001 0000 0000 0000 0000 0002 0000 0002 01 01";
-    let scenario = b"version 1\n0 m 4 1 1 0 1 0 0\n0 m 4 1 0 0 2 0 2\n";
-    let answer = Answer {
-        printed: b"-\n",
-        told: b"verify 8 Unordered cell 1,0 first 0:0 second 1:1\n",
-        status: 1,
-    };
-    let line = "verify pair.map holds program";
-    expect_program(&rt, rt.alloc(), line, (program, scenario), answer)
-}
-
-/// Agent 2 of the relay enters the cell that agent 0 has left, and awaits agent 1.
-const RELAY_TRACE: &[u8] = b"0: 1,0 0,2 0,0
+const ACCEPTED_PROGRAMS_RUN: &[u8] = br"
+$ fleet run relay.map relay.scen relay.program
+0: 1,0 0,2 0,0
 1: 2,0 0,2 0,0
 2: 2,0 1,2 0,0
 3: 2,0 1,2 1,0
@@ -138,47 +132,183 @@ agents 3
 ticks 3
 chain 3
 held 0
+$ fleet run pair.map pair.scen pair.program
+@ pair.trace
+: holds
+0\r
+$ fleet run pair.map pair.scen pair.program --holds holds
+@ held.trace
+# Who is held was not ready.
+: holds
+1
+$ fleet run pair.map pair.scen pair.program --holds holds
+@ pair.trace
+# The last line is asked for by nobody.
+: holds
+-
+-
+-
+xyz
+$ fleet run pair.map pair.scen pair.program --holds holds
+@ pair.trace
+$ fleet run cell.map cell.scen cell.program --holds holds
+0: 0,0
+agents 1
+ticks 0
+chain 0
+held 0
 ";
 
 #[test]
 fn accepted_programs_run(rt: HostRuntime) -> Result<(), Fail> {
-    let cell = b"0: 0,0\nagents 1\nticks 0\nchain 0\nheld 0\n".as_slice();
-    let rows: [(&str, &[u8], &[u8], &[u8]); 7] = [
-        ("run relay.map relay.scen program", RELAY, b"", RELAY_TRACE),
-        (RUN, PAIR, b"", PAIR_TRACE),
-        (RUN, PAIR, b"1\n", PAIR_TRACE),
-        (RUN, PAIR, b"0\n", LATE_TRACE),
-        (RUN, PAIR, b"-\n-\n-\nxyz\n", PAIR_TRACE),
-        ("run pair.map pair.scen program", PAIR, b"0\n", PAIR_TRACE),
-        (
-            "run cell.map cell.scen program --holds holds",
-            CELL,
-            b"0\n0\n0\n",
-            cell,
-        ),
-    ];
-    for (line, program, holds, printed) in rows {
-        expect_program(&rt, rt.alloc(), line, (program, holds), prints(printed))?;
-    }
-    Ok(())
+    expect(&rt, rt.alloc(), ACCEPTED_PROGRAMS_RUN)
 }
+
+const RUNS_ARE_REFUSED: &[u8] = br"
+: holds
+-
+1 0
+$ fleet run pair.map pair.scen pair.program --holds holds
+0: 1,0 0,0
+1: 2,0 0,0
+! run 3 Hold line 2
+? 1
+$ fleet run pair.map pair.scen deadlock.program --holds holds
+! verify 7 Cyclic 0:1 1:1
+? 1
+$ fleet run pair.map pair.scen deadlock.program --holds none
+! file none
+? 3
+$ fleet run pair.map pair.scen pair.map --holds holds
+! load 2 Magic
+? 1
+";
 
 #[test]
 fn runs_are_refused(rt: HostRuntime) -> Result<(), Fail> {
-    let held = Answer {
-        printed: b"0: 1,0 0,0\n1: 2,0 0,0\n",
-        ..refuses(b"run 3 Hold line 2\n")
-    };
-    let no_holds = "run pair.map pair.scen program --holds none";
-    let no_program = "run pair.map pair.scen pair.map --holds holds";
-    let rows: [(&str, &[u8], &[u8], Answer<'_>); 4] = [
-        (RUN, PAIR, b"-\n1 0\n", held),
-        (RUN, DEADLOCK, b"", refuses(b"verify 7 Cyclic 0:1 1:1\n")),
-        (no_holds, DEADLOCK, b"", fails(b"file none\n")),
-        (no_program, PAIR, b"", refuses(b"load 2 Magic\n")),
-    ];
-    for (line, program, holds, answer) in rows {
-        expect_program(&rt, rt.alloc(), line, (program, holds), answer)?;
-    }
-    Ok(())
+    expect(&rt, rt.alloc(), RUNS_ARE_REFUSED)
+}
+
+/// Agents stay before a move, between two, after the last, and without a move.
+const STAYS_ARE_ACCEPTED_AND_RUN: &[u8] = br"
+# Agent 0 stays, and then goes; agent 1 awaits its moves.
+% program
+4D504632 0002 0001 0000 0003 0000 00000003 04 01 01
+0000 0000 0002 0000 00000002 10 0000 00000002 01 10 0000 00000003 01
+$ fleet run pair.map pair.scen program
+0: 1,0 0,0
+1: 1,0 0,0
+2: 2,0 0,0
+3: 3,0 1,0
+4: 3,0 2,0
+agents 2
+ticks 4
+chain 4
+held 0
+# Agent 0 stays on the cell between its two.
+% program
+4D504632 0002 0001 0000 0003 0000 00000003 01 04 01
+0000 0000 0002 0000 00000002 10 0000 00000001 01 10 0000 00000003 01
+: holds
+-
+0
+$ fleet run pair.map pair.scen program --holds holds
+0: 1,0 0,0
+1: 2,0 0,0
+2: 2,0 1,0
+3: 2,0 1,0
+4: 3,0 1,0
+5: 3,0 2,0
+agents 2
+ticks 5
+chain 4
+held 1
+# Both stay twice where they have arrived.
+$ fleet run pair.map pair.scen staying.program
+0: 1,0 0,0
+1: 2,0 0,0
+2: 3,0 1,0
+3: 3,0 2,0
+4: 3,0 2,0
+5: 3,0 2,0
+agents 2
+ticks 5
+chain 5
+held 0
+# Agent 1 awaits the stay of agent 0 too, before it stays itself.
+% program
+4D504632 0002 0001 0000 0003 0000 00000003 04 01 01
+0000 0000 0002 0000 00000003 10 0000 00000001 04 10 0000 00000002 01 10 0000 00000003 01
+$ fleet verify pair.map pair.scen program
+accepted
+agents 2
+moves 6
+awaits 3
+chain 4
+$ fleet run pair.map pair.scen program
+0: 1,0 0,0
+1: 1,0 0,0
+2: 2,0 0,0
+3: 3,0 1,0
+4: 3,0 2,0
+agents 2
+ticks 4
+chain 4
+held 0
+# The agent makes no move.
+% program
+4D504632 0001 0000 0000 0000 0000 00000002 04 04
+$ fleet run cell.map cell.scen program
+0: 0,0
+1: 0,0
+2: 0,0
+agents 1
+ticks 2
+chain 2
+held 0
+";
+
+#[test]
+fn stays_are_accepted_and_run(rt: HostRuntime) -> Result<(), Fail> {
+    expect(&rt, rt.alloc(), STAYS_ARE_ACCEPTED_AND_RUN)
+}
+
+/// A stay that is awaited is no leaving: agent 1 comes while agent 0 is held.
+const HOLDS_BREAK_THROUGH_A_STAY: &[u8] = br"
+% program
+4D504632 0002 0001 0000 0003 0000 00000003 04 01 01
+0000 0000 0002 0000 00000002 10 0000 00000001 01 10 0000 00000003 01
+$ fleet verify pair.map pair.scen program
+-
+0
+! verify 8 Unordered cell 1,0 first 0:0 second 1:1
+? 1
+% program
+4D504632 0002 0001 0000 0003 0000 00000003 01 04 01
+0000 0000 0002 0000 00000002 10 0000 00000001 01 10 0000 00000002 01
+$ fleet verify pair.map pair.scen program
+-
+-
+0
+! verify 8 Unordered cell 2,0 first 0:1 second 1:2
+? 1
+# An agent that stays on its last cell never leaves it.
+: through
+version 1
+0 m 4 1 1 0 1 0 0
+0 m 4 1 0 0 2 0 2
+% program
+4D504632 0002 0001 0000 0001 0000 00000002 04 04
+0000 0000 0002 0000 00000002 10 0000 00000002 01 01
+$ fleet verify pair.map through program
+-
+-
+-
+! verify 8 Unordered cell 1,0 first 0:0 second 1:1
+? 1
+";
+
+#[test]
+fn holds_break_through_a_stay(rt: HostRuntime) -> Result<(), Fail> {
+    expect(&rt, rt.alloc(), HOLDS_BREAK_THROUGH_A_STAY)
 }

@@ -42,7 +42,31 @@ fn tell_no_words<E: TraceOut>(error: &io::Error, err: &mut E) -> u8
     2
 }
 
-/// Does what the words of the command line ask, or writes why there are none. Answers the status with which the process ends.
+/// Does what the words of the command line ask, or writes why there are none. Answers the status.
+fn run_args<R: Read + Floor, F: Files, O: Flush, E: TraceOut>(
+    alloc: Global,
+    args: io::Result<Args>,
+    input: &mut R,
+    files: &mut F,
+    out: &mut O,
+    err: &mut E,
+) -> u8
+    requires out_working { IsWorking (O.state out.old) }
+    requires err_working { IsWorking (E.state err.old) }
+    requires floor_works { R.works input.old }
+    ensures { RunsProgram args (R.remaining input.old) (F.contents files.old) (F.contents files.new)
+        (R.talks input.old input.new)
+        (O.state out.old) (O.state out.new)
+        (E.state err.old) (E.state err.new)
+        result }
+{
+    match words_of(alloc, args) {
+        Ok(words) => run_command(alloc, words.as_slice(), input, files, out, err),
+        Err(error) => tell_no_words(&error, err),
+    }
+}
+
+/// The same, with the status as the process ends with it.
 fn run_program<R: Read + Floor, F: Files, O: Flush, E: TraceOut>(
     alloc: Global,
     args: io::Result<Args>,
@@ -60,11 +84,7 @@ fn run_program<R: Read + Floor, F: Files, O: Flush, E: TraceOut>(
         (E.state err.old) (E.state err.new)
         (exit_status result) }
 {
-    let status = match words_of(alloc, args) {
-        Ok(words) => run_command(alloc, words.as_slice(), input, files, out, err),
-        Err(error) => tell_no_words(&error, err),
-    };
-    ExitCode::from(status)
+    ExitCode::from(run_args(alloc, args, input, files, out, err))
 }
 
 fn main(rt: HostRuntime) -> ExitCode {

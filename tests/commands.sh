@@ -1,4 +1,4 @@
-# Help, wrong usage and statuses; and that what the README and docs/HELP.md say of the commands is what the program's help says.
+# Help, wrong usage and statuses; and that what docs/COMMANDS.md and docs/HELP.md say of the commands is what the program's help says.
 
 enter commands
 commands=$(cd "$room" && fleet --help | awk '/^Commands:/ { on = 1; next } /^$/ { on = 0 } on && $1 != "help" { print $1 }')
@@ -10,18 +10,18 @@ for command in '' $commands; do
     check "fleet ${command:+$command }-h" 0 '' '' "fleet $command --help > a && fleet $command -h > b && cmp a b"
     check "fleet help $command" 0 '' '' "fleet $command --help > a && fleet help $command > b && cmp a b"
     [ "$command" ] || continue
-    # The words and options of the README's heading of the command, and those of its help.
+    # The words and options of the command's heading in docs/COMMANDS.md, and those of its help.
     (cd "$room" && fleet "$command" --help) | awk -v command="$command" '
         /^Usage:/ { for (i = 4; i <= NF; i++) words = words " " $i }
         /^ +--/ { option = $1; value = $2; values = ""
             if (match($0, /possible values: [^]]*/)) { values = substr($0, RSTART + 17, RLENGTH - 17); gsub(/, /, "|", values) }
             options = options " [" option " " (values == "" ? value : values) "]" }
         END { sub(/ \[OPTIONS\]/, "", words); line = words options; gsub(/[<>]/, "", line); print "### `fleet " command line "`" }' > "$work/want.out"
-    grep "^### \`fleet $command " "$root/README.md" > "$work/out"
+    grep "^### \`fleet $command " "$root/docs/COMMANDS.md" > "$work/out"
     : > "$work/err"
     : > "$work/want.err"
     status=0
-    judge "the README's heading of $command has its words and options" "fleet $command --help" 0
+    judge "docs/COMMANDS.md's heading of $command has its words and options" "fleet $command --help" 0
 done
 
 # Wrong usage.

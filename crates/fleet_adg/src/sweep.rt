@@ -79,7 +79,6 @@ fn empty_list(alloc: Global, moves: usize, deps: Deps) -> Result<Growing, OutOfM
 }
 
 /// How many moves agent `i` makes.
-#[inline(never)]
 pub(crate) fn moves_of(plan: &Plan, i: u16) -> u32
     requires { i < length plan.now }
     ensures value { result ≡ moves_by plan.now i (steps plan.now) }
@@ -118,7 +117,6 @@ fn agents_of(alloc: Global, count: u16) -> Result<Vec<u16>, AllocError>
 }
 
 /// Keeps the agents whose paths go on after `time`.
-#[inline(never)]
 fn keep_under_way(agents: &mut Vec<u16>, plan: &Plan, time: u32)
     requires { All (λ i. i < length plan.now) agents.old.items }
     ensures { agents.new.items ≡ filter (is_under_way plan.now time) agents.old.items }
@@ -135,7 +133,6 @@ fn keep_under_way(agents: &mut Vec<u16>, plan: &Plan, time: u32)
 }
 
 /// Lists who moves in the step after `time`, in order of agent.
-#[inline(never)]
 fn list_moves(
     plan: &Plan,
     time: u32,
@@ -156,7 +153,6 @@ fn list_moves(
 }
 
 /// Notes who leaves which cell in the step after `time`.
-#[inline(never)]
 fn note_leavings(
     plan: &Plan,
     grid: &Grid,
@@ -183,7 +179,6 @@ fn note_leavings(
 }
 
 /// Adds the moves of the step after `time`, with what they await.
-#[inline(never)]
 fn add_actions(
     alloc: Global,
     plan: &Plan,

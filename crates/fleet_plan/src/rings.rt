@@ -8,7 +8,6 @@ ghost use Rattle.fleet_plan.specs.Sweep.{IsUnblocked};
 
 /// The least agent that is on a ring, where each agent has at most one that is ahead of it, and nobody is ahead of those
 /// that are not in the row. `walks` is for own use: an agent that nobody is ahead of is not noted there.
-#[inline(never)]
 pub(crate) fn least_on_ring(
     row: &[u16],
     ahead: &[Option<u16>],

@@ -28,7 +28,6 @@ fn fill_places(plan: &Plan, grid: &Grid, time: u32, places: &mut [usize])
 }
 
 /// The same for the agents of the row alone, where all others stay.
-#[inline(never)]
 fn fill_next(plan: &Plan, grid: &Grid, time: u32, agents: &[u16], next: &mut [usize])
     requires on_map { StandOnMap grid.now plan.now }
     requires agents { All (λ i. i < length plan.now) agents.now }
@@ -101,7 +100,6 @@ fn agent_ahead(table: &Table<u16>, places: &[usize], next: &[usize], i: u16) -> 
 
 /// Notes for each agent of the row who is ahead of it; nobody is ahead of the others, who stay. Answers whether no two
 /// are ahead of each other.
-#[inline(never)]
 fn fill_ahead(
     table: &Table<u16>,
     places: &[usize],
@@ -189,7 +187,6 @@ fn conflict_in(
 
 /// Enters the agents of the row in their places of the table, where the others are entered in theirs. Answers whether it
 /// found none of them in the place of another agent.
-#[inline(never)]
 fn enter(table: &mut Table<u16>, agents: &[u16], places: &[usize]) -> Result<bool, AllocError>
     requires agents { All (λ i. i < length places.now) agents.now }
     requires others { IsSoForOthers agents.now (length places.now) (HasIn table.old places.now) }
@@ -228,7 +225,6 @@ fn meeting(
 }
 
 /// The agents of the row have come to their next places. Nobody is then ahead of anybody, and the walks are forgotten.
-#[inline(never)]
 fn settle(
     agents: &[u16],
     next: &[usize],
@@ -252,7 +248,6 @@ fn settle(
 }
 
 /// Keeps the agents whose paths go on after `time`.
-#[inline(never)]
 fn keep_under_way(agents: &mut Vec<u16>, plan: &Plan, time: u32)
     requires { All (λ i. i < length plan.now) agents.old.items }
     ensures { agents.new.items ≡ filter (is_under_way plan.now time) agents.old.items }

@@ -167,6 +167,7 @@ impl Frontier {
 
     /// Adds a node for the cell in the safe interval, reached by the step that begins at the time, if that fits and is not too
     /// late, and the interval was not reached by then.
+    #[inline(always)]
     fn push_successor(
         &mut self,
         query: &Query,
@@ -217,6 +218,7 @@ impl Frontier {
     }
 
     /// The same for the earliest time in the safe interval at which the agent may come to the cell.
+    #[inline(always)]
     fn successor_in(
         &mut self,
         query: &Query,

@@ -38,6 +38,7 @@ impl<'a> Model for CodeView<'a> {
 }
 
 /// The program that the bytes spell, all of the bytes (this project's own format, version 1 or 2), read in place.
+/// Errors: the first fault from the front, or `OutOfMemory` in place of any answer.
 ///
 /// A number that the bytes announce reserves no more than the bytes that are there can fill.
 pub fn view(alloc: Global, bytes: &[u8]) -> Result<CodeView<'_>, LoadFault>

@@ -29,8 +29,8 @@ else was=wrong; echo "$limits: status $status, $(wc -c < got) bytes, $line"
 fi
 EOF
 
-# growths COMMAND..: with each growth refused in turn. Prints wrong answers, and `each` where memory lacked each time, or all but three times: the
-# buffer of the output can be done without, and what is kept of an agent that awaits others need not be cut to its length (two do at most here).
+# growths COMMAND..: with each growth refused in turn. Prints wrong answers, and `each` if memory lacked each time, or all but three times: the
+# buffer of the output can be done without, and the row of an agent that awaits others need not be cut to its length (two agents do so here at most).
 cat > "$work/bin/growths" <<'EOF'
 #!/bin/sh
 . due

@@ -2,7 +2,7 @@
 # Robots of different speeds against `fleet dispatch`, through two pipes:
 #     sh tools/robots.sh MAP SCEN PROGRAM [SEED] [TRACE]
 # The robots are in robots.awk, which checks from outside that no two of them claim one cell. The clock ticks every hundredth of a second.
-# How long it took is printed on standard error. In TRACE, if it is named, is where the robots were in each tick, for tools/film.awk.
+# Its number of ticks is printed on standard error. TRACE, if it is named, gets the places of the robots in each tick, for tools/film.awk.
 
 here=$(cd "$(dirname "$0")" && pwd) || exit 2
 pipes=$(mktemp -d) || exit 2

@@ -1,4 +1,4 @@
--- What the program does with the words that it was given.
+-- The acts of the program for the words that it was given.
 use Rattle.std.specs.Prelude.{◌≡◌, ◌≢◌, ℕ, List, [], ◌∷◌, ◌++◌, ◌⊎◌, Option, Result, Ok, Err, codes, map, drop, string_bytes}
 use Rattle.std.specs.Vec.Iter.{into_iter_items}
 use Rattle.std.specs.IoError.{error_kind}
@@ -17,7 +17,7 @@ use Rattle.fleet_cli.specs.Command.{RunsCommand}
 use Rattle.fleet_dispatch.specs.Talk.{Talk}
 use Rattle.fleet_io.specs.declared.fault.Fault.TheVariants as f
 
--- what is told where a word is no text
+-- the line that is reported if a word is no text
 abbrev pub no_text_line : List ℕ
 no_text_line = codes "error: a word of the command line is no text" ++ 10 ∷ []
 
@@ -28,13 +28,13 @@ AreWordsOf (Ok args) (Err error) = error_kind error ≡ OutOfMemory
 AreWordsOf (Err error) (Ok words) = ⊥
 AreWordsOf (Err error) (Err told) = told ≡ error
 
--- why the words cannot be had was told: memory ran out, or else a word is no text, which is wrong usage
+-- it was reported why the words cannot be had: memory ran out, or else a word is no text, which is wrong usage
 pub record TellsNoWords (kind : ErrorKind) (err err' : SinkState) (status : ℕ) : Type 0 where
   pub memory : kind ≡ OutOfMemory → (status ≡ 3) × IsRefusalTold f.Memory err err'
   pub usage : kind ≢ OutOfMemory → (status ≡ 2) × Receives err err' no_text_line
 
--- what the words after the first ask was done, unless there was no memory for them; or the words cannot be had. Of the last two that alone was
--- told
+-- the command that the words after the first ask was done; or there was no memory for the words, or they cannot be had, and then that alone
+-- was reported
 abbrev pub RunsProgram : Result (IntoIter (String Global) Global) Error → Option (List ℕ) → (files after : Option Store) → (Talk → Type 0) → (out out' err err' : SinkState) → ℕ → Type 0
 RunsProgram (Ok args) input files after talks out out' err err' status =
     RunsCommand (map string_bytes (drop 1 (into_iter_items args))) input files after talks out out' err err' status

@@ -1,4 +1,5 @@
--- The program of a plan: the actions of an agent are its changes of cell, in order, and each awaits earlier leavings of the cell that it enters.
+-- The program of a plan: the actions of an agent are its changes of cell, in order, and each awaits earlier leavings of
+-- the cell that it enters.
 use Rattle.std.specs.Prelude.{◌≡◌, ◌≢◌, ◌<◌, ◌*◌, IsTrue, IsFalse, ℕ, zero, suc, ◌+◌, Bool, not, ◌&&◌, ◌==◌, nat_lt, nat_le, if◌then◌else◌, List, [], length, map, filter, filter_map, replicate, ◌++◌, Option, Some, None, option_map, option_and_then, option_to_list, is_some, sum_by, Result, Ok, Err}
 use Rattle.fleet_model.specs.declared.geometry.Cell.{Cell}
 use Rattle.fleet_model.specs.declared.geometry.Dir.{Dir}
@@ -63,7 +64,7 @@ unfoldable pub leavings : Plan → Deps → Cell → ℕ → List Await
 leavings plan Deps.All q t = filter_map (last_leaving_by plan q t) (indices (length plan))
 leavings plan Deps.Last q t = option_to_list (last_leaving plan q t)
 
--- what the action of agent i in step x awaits: leavings, by other agents, of the cell that it enters
+-- the awaits of the action of agent i in step x: leavings, by other agents, of the cell that it enters
 unfoldable pub entry_awaits : Plan → Deps → ℕ → ℕ → List Await
 entry_awaits plan deps i x = filter (λ w. not (w.agent == i)) (leavings plan deps (cell_of plan i (x + 1)) (x + 1))
 
@@ -83,7 +84,7 @@ compiled plan deps = map (agent_program plan deps) (indices (length plan))
 unfoldable pub moves_in_all : Plan → ℕ
 moves_in_all plan = sum_by (λ i. moves_by plan i (steps plan)) (indices (length plan))
 
--- the program, where all agents together make few enough moves
+-- the program of a plan, if all agents together make few enough moves
 abbrev pub compiled_if_few : Plan → Deps → Result Program CompileFault
 compiled_if_few plan deps = if nat_le (moves_in_all plan) MAX_MOVES_IN_ALL then Ok (compiled plan deps) else Err TooLong
 
@@ -95,7 +96,7 @@ stay = record { step = Dwell; awaits = [] }
 abbrev pub with_stays : ℕ → AgentProgram → AgentProgram
 with_stays n a = record { start = a.start; goal = a.goal; actions = a.actions ++ replicate n stay }
 
--- the program of a plan, where each agent stays so often after its moves, as does one that makes no move
+-- the program of a plan, in which each agent stays so often after its moves, also one that makes no move
 abbrev pub compiled_staying : Plan → Deps → ℕ → Program
 compiled_staying plan deps stays = map (with_stays stays) (compiled plan deps)
 
@@ -110,7 +111,7 @@ all_have_few plan stays = nat_le (moves_in_all plan + length plan * stays) MAX_M
 abbrev pub has_few_actions : Plan → ℕ → Bool
 has_few_actions plan stays = each_has_few plan stays && all_have_few plan stays
 
--- that program, where each agent and all together have few enough actions
+-- that program, if each agent and all together have few enough actions
 abbrev pub compiled_staying_if_few : Plan → Deps → ℕ → Result Program CompileFault
 compiled_staying_if_few plan deps stays =
     if has_few_actions plan stays then Ok (compiled_staying plan deps stays) else Err TooLong

@@ -38,7 +38,7 @@ abbrev pub kind_of : Leavings → Deps
 kind_of (Leavings.All rows) = Deps.All
 kind_of (Leavings.Last last) = Deps.Last
 
--- a leaving in its place among those in rising order of agent, where it replaces that by the same agent
+-- a leaving in its place among those in rising order of agent, in which it replaces that by the same agent
 abbrev pub with_leaving : List Await → Await → List Await
 with_leaving [] w = w ∷ []
 with_leaving (v ∷ vs) w = if nat_lt v.agent w.agent then v ∷ with_leaving vs w else if v.agent == w.agent then w ∷ vs else w ∷ v ∷ vs
@@ -48,7 +48,7 @@ abbrev pub noted : Deps → List Await → Await → List Await
 noted Deps.All ws w = with_leaving ws w
 noted Deps.Last ws w = w ∷ []
 
--- the table has for each cell of the map what was to be awaited of it at time t of the plan
+-- the table has for each cell of the map the leavings before time t of the plan that an action awaits
 pub record AreLeavingsAt (g : Ground) (plan : Plan) (deps : Deps) (t : ℕ) (l : Leavings) : Type 0 where
   pub kind : kind_of l ≡ deps
   pub apart : AreRowsApart l

@@ -1,4 +1,4 @@
--- What the compiler has found up to a step of the plan.
+-- The moves and actions that the compiler has found up to a step of the plan.
 use Rattle.std.specs.Prelude.{ℕ, ◌+◌, ◌-◌, ◌<◌, Bool, nat_lt, List, [], length, map, filter, get_or}
 use Rattle.fleet_model.specs.declared.program.Action.{Action}
 use Rattle.fleet_model.specs.declared.program.AgentProgram.{AgentProgram}
@@ -18,7 +18,7 @@ under_way plan t = filter (is_under_way plan t) (indices (length plan))
 abbrev pub movers : Plan → ℕ → List ℕ
 movers plan t = filter (λ i. changes_in plan i t) (under_way plan t)
 
--- what agent i does in that step, if it changes its cell
+-- the change of cell by agent i in that step
 abbrev pub move_by : Plan → ℕ → ℕ → Move
 move_by plan t i = record { agent = i; from = cell_of plan i t; to = cell_of plan i (t + 1) }
 

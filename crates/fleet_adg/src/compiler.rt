@@ -24,7 +24,7 @@ use std::alloc::Global;
 /// The program of a plan (after the action dependency graph of Hönig et al. 2019): the actions of each agent are its
 /// changes of cell, in order, and each awaits earlier leavings of the cell that it enters.
 ///
-/// It is refused as `TooLong` exactly where the agents make more than 4,194,304 moves together. The program is accepted
+/// It is refused as `TooLong` exactly if the agents make more than 4,194,304 moves together. The program is accepted
 /// for the plan's map and instance, and each of its actions is a move. With either `deps` it runs equally.
 pub fn compile(alloc: Global, checked: &Checked<'_>, deps: Deps) -> Result<Program, CompileFault>
     ensures program { IsDueUnless (λ p. p) result (compiled_if_few checked.now.plan deps) CompileFault.OutOfMemory }
@@ -38,10 +38,10 @@ pub fn compile(alloc: Global, checked: &Checked<'_>, deps: Deps) -> Result<Progr
     compile_dwell(alloc, checked, deps, 0)
 }
 
-/// The program of `compile`, where each agent stays on its last cell for `dwell` actions more, as does an agent that makes no
-/// move. These await nobody, and nobody awaits them.
+/// The program of `compile`, in which each agent stays on its last cell for `dwell` actions more, also one that makes
+/// no move. These actions await nobody, and nobody awaits them.
 ///
-/// It is refused as `TooLong` exactly where an agent would have more than 1,000,000 actions, or all agents more than
+/// It is refused as `TooLong` exactly if an agent would have more than 1,000,000 actions, or all agents more than
 /// 4,194,304 together. The program is accepted for the plan's map and instance. With either `deps` it runs equally.
 pub fn compile_dwell(
     alloc: Global,
@@ -64,7 +64,7 @@ pub fn compile_dwell(
     Ok(Program::new(agents))
 }
 
-/// Whether no agent has too many actions, nor all agents together, where each stays so often after its moves.
+/// Whether no agent has too many actions, nor all agents together, if each stays so often after its moves.
 fn has_few_actions(plan: &Plan, stays: u32) -> bool
     ensures { result ≡ has_few_actions plan.now stays }
 {

@@ -32,8 +32,8 @@ impl Entry {
 /// How many actions are kept apart at most.
 const MOST_RECENT: usize = 32;
 
-/// The actions of an agent so far. A step of the sweep adds one to each of many agents, whose rows lie far apart, so the
-/// last few are kept here, close to those of the next agent, and go to the rows together.
+/// The actions of an agent so far. A step of the sweep adds one to each of many agents, whose rows lie far apart, so
+/// the last few are kept here, close to those of the next agent, and go to the rows together.
 #[derive(Drop)]
 pub(crate) struct Growing {
     actions: Actions,

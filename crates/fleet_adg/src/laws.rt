@@ -1,4 +1,4 @@
-//! What the programs of conflict-free plans are. These functions do nothing: their contracts are the laws.
+//! Laws of the programs of conflict-free plans. These functions do nothing: their contracts are the laws.
 
 ghost use Rattle.std.specs.Prelude.{◌≡◌, ◌≢◌, ◌≤◌, ◌<◌, ◌+◌, ◌↔◌, ℕ, Bool, IsTrue, List, [], ◌∷◌, length, Contains};
 ghost use Rattle.fleet_model.specs.declared.geometry.Place.{Place};
@@ -18,7 +18,7 @@ pub fn compiled_plans_are_well_formed()
     ensures { (plan : Plan) (deps : Deps) → IsWithinLimits plan → moves_in_all plan ≤ MAX_MOVES_IN_ALL → IsWellFormed (compiled plan deps) }
 {}
 
-/// What the action of agent `i` in step `x` awaits, said by visits and by leavings.
+/// The awaits of the action of agent `i` in step `x`, by visits and by leavings.
 pub fn awaits_are_as_defined()
     ensures last_by_other { (passable : Place → Bool) (tasks : List Task) (plan : Plan) (i x s j : ℕ) → IsConflictFree passable tasks plan → i < length plan → IsTrue (changes_in plan i x) → IsLatestVisit plan (cell_of plan i (x + 1)) (x + 1) j s → j ≢ i → entry_awaits plan Deps.Last i x ≡ await_of plan s j ∷ [] }
     ensures last_its_own { (passable : Place → Bool) (tasks : List Task) (plan : Plan) (i x s : ℕ) → IsConflictFree passable tasks plan → i < length plan → IsTrue (changes_in plan i x) → IsLatestVisit plan (cell_of plan i (x + 1)) (x + 1) i s → entry_awaits plan Deps.Last i x ≡ [] }
@@ -31,7 +31,8 @@ pub fn compiled_plans_are_accepted()
     ensures { (passable : Place → Bool) (tasks : List Task) (plan : Plan) (deps : Deps) → IsConflictFree passable tasks plan → IsAcceptedBy ComesAfterByAwait passable tasks (compiled plan deps) }
 {}
 
-/// The programs of one plan that is free of conflict have the same chains and run equally, whichever leavings are awaited.
+/// The programs of one plan that is free of conflict have the same chains and run equally, whichever leavings are
+/// awaited.
 pub fn compiled_plans_run_equally()
     ensures chains { (passable : Place → Bool) (tasks : List Task) (plan : Plan) (d e : Deps) → IsConflictFree passable tasks plan → HaveSameChains (compiled plan d) (compiled plan e) }
     ensures equally { (passable : Place → Bool) (tasks : List Task) (plan : Plan) (d e : Deps) → IsConflictFree passable tasks plan → RunEqually (compiled plan d) (compiled plan e) }

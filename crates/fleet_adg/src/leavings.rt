@@ -1,4 +1,4 @@
-//! Who has left the cells of a map so far.
+//! The leavings of the cells of a map so far.
 
 ghost use Rattle.std.specs.Prelude.{◌≡◌, ◌≢◌, ℕ, [], ◌∷◌, ◌++◌, OnOk, IfOk, not, ◌==◌, filter, option_map, option_to_list};
 ghost use Rattle.fleet_adg.specs.Leavings.{await_for, row_of, kind_of, noted, AreRowsApart};
@@ -9,7 +9,8 @@ use fleet_model::{Action, Await, Awaits, Deps, OutOfMemory, Step};
 use fleet_table::Table;
 use std::alloc::{AllocError, Global};
 
-/// A move by which a cell was left: `number` of `agent`, from 1 on. There may be one for each cell of a map, so it is small.
+/// A move by which a cell was left: `number` of `agent`, from 1 on. There may be one for each cell of a map, so it is
+/// small.
 #[derive(Clone, Copy, Debug)]
 pub(crate) struct Leaving {
     pub(crate) agent: u16,
@@ -28,8 +29,8 @@ impl Leaving {
     }
 }
 
-/// For each place of a map what an action that enters it would await. It takes memory for the parts of the map alone in
-/// which a cell was left.
+/// For each place of a map the leavings that an action that enters it would await. It takes memory for the parts of the
+/// map alone in which a cell was left.
 #[derive(Drop)]
 pub(crate) enum Leavings {
     /// The last leaving by each agent that has left the cell.
@@ -65,7 +66,8 @@ impl Leavings {
         }
     }
 
-    /// Adds the action of agent `own` that enters the cell at `place` by this step, with what it awaits, to its actions.
+    /// Adds the action of agent `own` that enters the cell at `place` by this step, with what it awaits, to its
+    /// actions.
     pub(crate) fn add_action(
         &self,
         alloc: Global,

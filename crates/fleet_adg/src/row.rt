@@ -1,4 +1,4 @@
-//! Who has left a cell of the map.
+//! The leavings of one cell of the map.
 
 ghost use Rattle.std.specs.Prelude.{◌≡◌, [], OnOk, nat_le};
 ghost use Rattle.std.specs.List.{position};

@@ -1,4 +1,4 @@
-//! Who has left the cells of a map, agent by agent.
+//! The leavings of the cells of a map, agent by agent.
 
 ghost use Rattle.std.specs.Prelude.{◌≡◌, ◌≢◌, ℕ, [], OnOk};
 ghost use Rattle.fleet_adg.specs.Leavings.{row_in, with_leaving, HasRowsApart};
@@ -12,7 +12,7 @@ use std::alloc::{AllocError, Global};
 #[derive(Drop)]
 pub(crate) struct RowTable {
     alloc: Global,
-    /// How many rows there were when that of the place was added, with it; 0 where the place has none.
+    /// The number of the row of each place, counted from 1; 0 if it has none.
     numbers: Table<usize>,
     rows: Vec<Row>,
 }

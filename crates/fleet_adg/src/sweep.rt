@@ -53,11 +53,11 @@ fn cells_are_on_map(checked: &Checked<'_>)
     ensures { IsOnMap checked.now.grid checked.now.plan }
 {
     let _plan = checked.plan();
-    // What is asked of a map gives its sizes.
+    // The contract of this call says the sizes of the map.
     let _width = checked.grid().width();
 }
 
-/// For each agent no action, and room for its moves, and for their awaits where each has at most one.
+/// For each agent no action, and room for its moves, and for their awaits if each has at most one.
 fn empty_lists(alloc: Global, plan: &Plan, deps: Deps) -> Result<Vec<Growing>, OutOfMemory>
     ensures { IfOk result (λ actions. actions.items ≡ replicate (length plan.now) []) }
 {
@@ -116,7 +116,7 @@ fn agents_of(alloc: Global, count: u16) -> Result<Vec<u16>, AllocError>
     Ok(agents)
 }
 
-/// Keeps the agents whose paths go on after `time`.
+/// Keeps those of the agents whose paths go on after `time`.
 fn keep_under_way(agents: &mut Vec<u16>, plan: &Plan, time: u32)
     requires { All (λ i. i < length plan.now) agents.old.items }
     ensures { agents.new.items ≡ filter (is_under_way plan.now time) agents.old.items }
@@ -132,7 +132,7 @@ fn keep_under_way(agents: &mut Vec<u16>, plan: &Plan, time: u32)
     agents.truncate(kept);
 }
 
-/// Lists who moves in the step after `time`, in order of agent.
+/// Lists the moves in the step after `time`, in order of agent.
 fn list_moves(
     plan: &Plan,
     time: u32,
@@ -152,7 +152,7 @@ fn list_moves(
     Ok(())
 }
 
-/// Notes who leaves which cell in the step after `time`.
+/// Notes the leavings of cells in the step after `time`.
 fn note_leavings(
     plan: &Plan,
     grid: &Grid,

@@ -17,12 +17,12 @@ use fleet_rows::{ImpliedAwaits, implied_awaits};
 use fleet_verify::Accepted;
 use std::alloc::Global;
 
-/// The accepted program without its implied awaits: those whose awaited action begins a chain of needs that ends with another
-/// action which the same action directly needs. This is the transitive reduction of the action dependency graph (Aho et al.
-/// 1972) in all but the edges from an agent's action to its next one, which stay.
+/// The accepted program without its implied awaits: those whose awaited action begins a chain of needs that ends with
+/// another action which the same action directly needs. This is the transitive reduction of the action dependency graph
+/// (Aho et al. 1972) in all but the edges from an agent's action to its next one, which stay.
 ///
-/// What is left is accepted for the same map and instance, has the same longest chain, and runs as before under every list of
-/// holds; none of its awaits is implied.
+/// The program that is left is accepted for the same map and instance, has the same longest chain, and runs as before
+/// under every list of holds; none of its awaits is implied.
 pub fn thin<P: ProgramView>(alloc: Global, accepted: &Accepted<'_, P>) -> Result<Program, ThinFault>
     ensures thinned { IfOk result (IsThinned (P.program accepted.now.program)) }
     ensures accepted { IfOk result (IsAccepted (is_passable accepted.now.grid) accepted.now.instance) }

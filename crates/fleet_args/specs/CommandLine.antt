@@ -15,7 +15,8 @@ use Rattle.fleet_args.specs.Migrate.{migrate_shape}
 use Rattle.fleet_args.specs.List.{list_shape}
 use Rattle.fleet_args.specs.Dispatch.{dispatch_shape}
 
--- the program: its words do not begin with its name, it has a version, and one of the commands is wanted
+-- the command line before it has commands: its words do not begin with the program's name, it has a version, and one of the commands is
+-- wanted
 abbrev pub fleet_top : App
 fleet_top = record (new_app (codes "fleet")) {
   top = record (new_app (codes "fleet")).top { no_binary_name = true; has_version = true; subcommand_required = true };

@@ -39,7 +39,7 @@ AsksCommand name values (r.Migrate request) = (name ≡ codes "migrate") × Asks
 AsksCommand name values (r.List request) = (name ≡ codes "list") × AsksList values request
 AsksCommand name values (r.Dispatch request) = (name ≡ codes "dispatch") × AsksDispatch values request
 
--- this is the name of a command, and what it cannot do without has values
+-- this is the name of a command, and the arguments that it cannot do without have values
 abbrev pub has_values : Text → Values → Bool
 has_values name values =
     if bytes_eq name (codes "instance") then has_instance_values values
@@ -61,7 +61,7 @@ abbrev pub AsksBy : Option (Text × List Row) → Request → Type 0
 AsksBy None request = ⊥
 AsksBy (Some found) request = AsksCommand found.0 (values_of found.1) request
 
--- .. and what it cannot do without has values
+-- a command was found, and in its rows the arguments that it cannot do without have values
 abbrev pub is_answered_by : Option (Text × List Row) → Bool
 is_answered_by None = false
 is_answered_by (Some found) = has_values found.0 (values_of found.1)
@@ -72,7 +72,7 @@ is_help kind.DisplayHelp = true
 is_help kind.DisplayVersion = true
 is_help _ = false
 
--- what is made of an error of this kind
+-- the stop that an error of this kind becomes
 abbrev pub IsStopOf : ErrorKind → WordStop → Type 0
 IsStopOf k stop.OutOfMemory = ⊤
 IsStopOf k (stop.Usage text) = (is_help k ≡ false) × (k ≢ kind.OutOfMemory)
@@ -82,7 +82,7 @@ IsStopOf k (stop.Help text) = is_help k ≡ true
 abbrev pub Refuses : (ErrorKind → Bool) → App → List Text → Type 0
 Refuses passes app words = (takes app words ≡ false) × (list_any passes (fault_of app words) ≡ true)
 
--- usage and help come only where the command line does not take the words, and help only where they ask for it
+-- usage and help come only if the command line does not take the words, and help only if they ask for it
 abbrev pub StopsFor : App → List Text → WordStop → Type 0
 StopsFor app words stop.OutOfMemory = ⊤
 StopsFor app words (stop.Usage text) = Refuses (λ k. not (is_help k)) app words
@@ -96,6 +96,6 @@ Asks app words request = (fault_of app words ≡ []) × AsksBy (subcommand_of ap
 abbrev pub Reads : App → List Text → Result Request WordStop → Type 0
 Reads app words result = MatchResult result (Asks app words) (StopsFor app words)
 
--- .. of the program's command line, whatever texts hold the names
+-- the same of the program's command line, whatever texts hold the names of the kinds of awaits
 abbrev pub ReadsFleet : List Text → Result Request WordStop → Type 0
 ReadsFleet words result = (names : DepsNames) × AreDeps names × Reads (fleet names) words result

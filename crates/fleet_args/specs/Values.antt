@@ -24,6 +24,7 @@ values_of rows = record { first = λ id. first_of id rows; one = λ id. one_of i
 abbrev pub values_found : Found → Values
 values_found found = record { first = first_value found; one = one_text found }
 
+-- the same of all matches of a command
 abbrev pub values_in : ArgMatches → Values
 values_in matches = values_found (found_of matches)
 
@@ -33,7 +34,7 @@ number_in bits text =
     let digits = without_leading_plus text in
     if is_numeral digits && nat_lt (digits_value 10 digits) (2 ^ bits) then Some (digits_value 10 digits) else None
 
--- an option's number, by the option's text: none where the option was not used, and no answer where the text is no number
+-- an option's number, by the option's text: none if the option was not used, and no answer if the text is no number of so many bits
 abbrev pub number_by : ℕ → Option Text → Option (Option ℕ)
 number_by bits text = option_map_or (λ t. option_map Some (number_in bits t)) text (Some None)
 
@@ -47,15 +48,15 @@ deps_in text = if bytes_eq text (codes "all") then Some deps.All else (if bytes_
 abbrev pub IsText : Values → Text → Bor Text → Type 0
 IsText values id text = values.first id ≡ Some text.now
 
--- a text, where the option was used
+-- a text, if the option was used
 abbrev pub IsTextIfUsed : Values → Text → Option (Bor Text) → Type 0
 IsTextIfUsed values id text = values.first id ≡ option_map (λ t. t.now) text
 
--- a number, where the option was used
+-- a number of 16 bits, if the option was used
 abbrev pub IsNumberIfUsed : Values → Text → Option ℕ → Type 0
 IsNumberIfUsed values id number = number_by 16 (values.one id) ≡ Some number
 
--- a number that is there in any case
+-- a number of 16 bits that is there in any case
 abbrev pub IsNumber : Values → Text → ℕ → Type 0
 IsNumber values id number = number_by 16 (values.one id) ≡ Some (Some number)
 
@@ -69,18 +70,22 @@ IsKind values id kind = option_and_then deps_in (values.first id) ≡ Some kind
 
 -- ---- there is such a value
 
+-- the argument has a text
 abbrev pub has_text : Values → Text → Bool
 has_text values id = is_some (values.first id)
 
--- the option's text is a number, or it was not used
+-- the option's text is a number of 16 bits, or it was not used
 abbrev pub reads_number : Values → Text → Bool
 reads_number values id = is_some (number_by 16 (values.one id))
 
+-- the argument has a number of 16 bits
 abbrev pub has_number : Values → Text → Bool
 has_number values id = is_some (option_and_then (λ n. n) (number_by 16 (values.one id)))
 
+-- the argument has a number of 32 bits
 abbrev pub has_count : Values → Text → Bool
 has_count values id = is_some (option_and_then (λ n. n) (number_by 32 (values.one id)))
 
+-- the argument has the name of a kind of awaits
 abbrev pub has_kind : Values → Text → Bool
 has_kind values id = is_some (option_and_then deps_in (values.first id))

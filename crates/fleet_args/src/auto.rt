@@ -38,7 +38,7 @@ pub(crate) fn auto_command<'a>(
     .arg(holds(alloc))
 }
 
-/// What the matches of the command ask: none where a word is missing, or a text is no number or name.
+/// The request that the matches of the command make: none if a word is missing, or a text is no number or name.
 pub(crate) fn auto_in<'a>(matches: &ArgMatches<'a>) -> Option<AutoRequest<'a>>
     ensures { MatchOption result (has_auto_values (values_in matches.now) ≡ false)
         (AsksAuto (values_in matches.now)) }

@@ -31,7 +31,7 @@ pub(crate) fn check_command<'a>(alloc: Global) -> Result<Command<'a>, AllocError
     .arg(agents(alloc))
 }
 
-/// What the matches of the command ask: none where a word is missing, or a text is no number.
+/// The request that the matches of the command make: none if a word is missing, or a text is no number.
 pub(crate) fn check_in<'a>(matches: &ArgMatches<'a>) -> Option<CheckRequest<'a>>
     ensures { MatchOption result (has_check_values (values_in matches.now) ≡ false)
         (AsksCheck (values_in matches.now)) }

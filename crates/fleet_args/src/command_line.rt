@@ -75,7 +75,7 @@ fn with_others<'a>(alloc: Global, line: Command<'a>) -> Result<Command<'a>, Allo
         .subcommand(dispatch_command(alloc)?)
 }
 
-/// The whole command line, where these are the names of the kinds of awaits.
+/// The whole command line, with these names of the kinds of awaits.
 pub fn fleet_command<'a>(alloc: Global, names: &'a [&'a str]) -> Result<Command<'a>, AllocError>
     ensures { IfOk result (λ command. app_of command ≡ fleet names.entry) }
 {

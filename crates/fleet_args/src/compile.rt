@@ -49,7 +49,7 @@ pub(crate) fn compile_command<'a>(
         .arg(dwell(alloc))
 }
 
-/// What the matches of the command ask: none where a word is missing, or a text is no number or name.
+/// The request that the matches of the command make: none if a word is missing, or a text is no number or name.
 pub(crate) fn compile_in<'a>(matches: &ArgMatches<'a>) -> Option<CompileRequest<'a>>
     ensures { MatchOption result (has_compile_values (values_in matches.now) ≡ false)
         (AsksCompile (values_in matches.now)) }

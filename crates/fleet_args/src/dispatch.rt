@@ -31,7 +31,7 @@ pub(crate) fn dispatch_command<'a>(alloc: Global) -> Result<Command<'a>, AllocEr
     .arg(agents(alloc))
 }
 
-/// What the matches of the command ask: none where a word is missing, or a text is no number.
+/// The request that the matches of the command make: none if a word is missing, or a text is no number.
 pub(crate) fn dispatch_in<'a>(matches: &ArgMatches<'a>) -> Option<DispatchRequest<'a>>
     ensures { MatchOption result (has_dispatch_values (values_in matches.now) ≡ false)
         (AsksDispatch (values_in matches.now)) }

@@ -29,7 +29,7 @@ pub(crate) fn instance_command<'a>(alloc: Global) -> Result<Command<'a>, AllocEr
     .arg(agents(alloc))
 }
 
-/// What the matches of the command ask: none where a word is missing, or a text is no number.
+/// The request that the matches of the command make: none if a word is missing, or a text is no number.
 pub(crate) fn instance_in<'a>(matches: &ArgMatches<'a>) -> Option<InstanceRequest<'a>>
     ensures { MatchOption result (has_instance_values (values_in matches.now) ≡ false)
         (AsksInstance (values_in matches.now)) }

@@ -25,7 +25,7 @@ pub(crate) fn list_command<'a>(alloc: Global) -> Result<Command<'a>, AllocError>
         .arg(program(alloc))
 }
 
-/// What the matches of the command ask: none where the word is missing.
+/// The request that the matches of the command make: none if the word is missing.
 pub(crate) fn list_in<'a>(matches: &ArgMatches<'a>) -> Option<ListRequest<'a>>
     ensures { MatchOption result (has_list_values (values_in matches.now) ≡ false)
         (AsksList (values_in matches.now)) }

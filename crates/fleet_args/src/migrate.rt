@@ -25,7 +25,7 @@ pub(crate) fn migrate_command<'a>(alloc: Global) -> Result<Command<'a>, AllocErr
         .arg(out(alloc))
 }
 
-/// What the matches of the command ask: none where a word is missing.
+/// The request that the matches of the command make: none if a word is missing.
 pub(crate) fn migrate_in<'a>(matches: &ArgMatches<'a>) -> Option<MigrateRequest<'a>>
     ensures { MatchOption result (has_migrate_values (values_in matches.now) ≡ false)
         (AsksMigrate (values_in matches.now)) }

@@ -30,7 +30,7 @@ pub(crate) fn plan_command<'a>(alloc: Global) -> Result<Command<'a>, AllocError>
     )
 }
 
-/// What the matches of the command ask: none where a word is missing, or a text is no number.
+/// The request that the matches of the command make: none if a word is missing, or a text is no number.
 pub(crate) fn plan_in<'a>(matches: &ArgMatches<'a>) -> Option<PlanRequest<'a>>
     ensures { MatchOption result (has_plan_values (values_in matches.now) ≡ false)
         (AsksPlan (values_in matches.now)) }

@@ -27,7 +27,7 @@ pub(crate) fn rehearse_command<'a>(alloc: Global) -> Result<Command<'a>, AllocEr
         .arg(holds(alloc))
 }
 
-/// What the matches of the command ask: none where the word is missing.
+/// The request that the matches of the command make: none if the word is missing.
 pub(crate) fn rehearse_in<'a>(matches: &ArgMatches<'a>) -> Option<RehearseRequest<'a>>
     ensures { MatchOption result (has_rehearse_values (values_in matches.now) ≡ false)
         (AsksRehearse (values_in matches.now)) }

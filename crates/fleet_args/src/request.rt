@@ -41,7 +41,7 @@ pub enum Request<'a> {
     Dispatch(DispatchRequest<'a>),
 }
 
-/// Why the words are no request. The texts are `clap`'s, of whole lines: what is wrong and how to get help, or the help.
+/// Why the words are no request. The texts are `clap`'s, of whole lines: the error and how to get help, or the help.
 #[derive(Debug, Drop, Error)]
 pub enum WordStop {
     #[error("out of memory")]
@@ -120,8 +120,10 @@ fn read_by<'a>(
 
 static DEPS: [&str; 2] = ["all", "last"];
 
-/// Reads the words after the program's name, as `clap` reads them by the definition of the command line. `Usage` and `Help` come
-/// only where that definition does not take the words, and `Help` only where they ask for help.
+/// Reads the words after the program's name, as `clap` reads them by the definition of the command line.
+///
+/// Errors: `Usage` and `Help` only if that definition does not take the words, and `Help` only if they ask for help or for the version;
+/// `OutOfMemory`.
 pub fn read_words<'a>(alloc: Global, words: &'a [String]) -> Result<Request<'a>, WordStop>
     ensures { ReadsFleet (map string_bytes words.entry.now) result }
 {

@@ -33,7 +33,7 @@ pub(crate) fn run_command<'a>(alloc: Global) -> Result<Command<'a>, AllocError>
     .arg(holds(alloc))
 }
 
-/// What the matches of the command ask: none where a word is missing, or a text is no number.
+/// The request that the matches of the command make: none if a word is missing, or a text is no number.
 pub(crate) fn run_in<'a>(matches: &ArgMatches<'a>) -> Option<RunRequest<'a>>
     ensures { MatchOption result (has_run_values (values_in matches.now) ≡ false)
         (AsksRun (values_in matches.now)) }

@@ -33,7 +33,7 @@ pub(crate) fn thin_command<'a>(alloc: Global) -> Result<Command<'a>, AllocError>
     .arg(agents(alloc))
 }
 
-/// What the matches of the command ask: none where a word is missing, or a text is no number.
+/// The request that the matches of the command make: none if a word is missing, or a text is no number.
 pub(crate) fn thin_in<'a>(matches: &ArgMatches<'a>) -> Option<ThinRequest<'a>>
     ensures { MatchOption result (has_thin_values (values_in matches.now) ≡ false)
         (AsksThin (values_in matches.now)) }

@@ -31,7 +31,7 @@ pub(crate) fn verify_command<'a>(alloc: Global) -> Result<Command<'a>, AllocErro
     .arg(agents(alloc))
 }
 
-/// What the matches of the command ask: none where a word is missing, or a text is no number.
+/// The request that the matches of the command make: none if a word is missing, or a text is no number.
 pub(crate) fn verify_in<'a>(matches: &ArgMatches<'a>) -> Option<VerifyRequest<'a>>
     ensures { MatchOption result (has_verify_values (values_in matches.now) ≡ false)
         (AsksVerify (values_in matches.now)) }

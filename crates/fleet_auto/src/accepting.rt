@@ -16,6 +16,8 @@ use fleet_verify::{Accepted, verify};
 use std::alloc::Global;
 
 /// The program that the bytes spell, read in place and accepted for the map and the instance.
+///
+/// Errors: `Load` with the first fault of the bytes, `Verify` with that of the program, `OutOfMemory`.
 pub fn accept<'g>(
     alloc: Global,
     bytes: &'g [u8],
@@ -24,7 +26,7 @@ pub fn accept<'g>(
 ) -> Result<Accepted<'g, CodeView<'g>>, AcceptFault>
     ensures accepted { IfOk result (λ a. Accepts bytes.now grid.now instance.now a.program.program a.chain) }
     ensures fault { IfErr result (IsAcceptFault bytes.now grid.now instance.now) }
-    // What is refused for another cause than memory is not accepted.
+    // A program that is refused for another cause than memory is not accepted.
     ensures refused { IfErr result (λ e. e ≢ AcceptFault.OutOfMemory → AcceptsNothing bytes.now grid.now instance.now) }
 {
     let program = view(alloc, bytes)?;

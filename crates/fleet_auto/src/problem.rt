@@ -15,7 +15,9 @@ pub struct Problem {
     pub instance: Instance,
 }
 
-/// The map and the instance for which the texts stand.
+/// The map and the instance for which the texts stand: of the scenario's agents the first `asked`, or all.
+///
+/// Errors: `Map` with the first fault of the map's text, `Scen` with that of the scenario's on the map, `OutOfMemory`.
 pub fn read_problem(
     alloc: Global,
     map: &[u8],

@@ -1,4 +1,4 @@
-//! The run of what was made, and the whole way.
+//! The run of an accepted program, and the whole way from a map and a scenario to a trace.
 
 ghost use Rattle.fleet_text.specs.Sink.{IsWorking};
 ghost use Rattle.fleet_auto.specs.Trace.{Traces};
@@ -49,7 +49,7 @@ pub struct AutoTask<'a> {
     pub holds: &'a [u8],
 }
 
-/// What `auto_run` does, with a plan that is made in one of up to so many orders of the agents (`plan_in_orders`).
+/// Does the same as `auto_run`, with a plan that is made in one of up to `tries` orders of the agents (`plan_in_orders`).
 ///
 /// Errors: those of `auto_run`.
 pub fn auto_run_in_orders<O: TraceOut>(

@@ -1,4 +1,4 @@
--- What two visits need through chains, as a count for each agent.
+-- The actions that two visits need through chains, as a count for each agent.
 use Rattle.std.specs.Prelude.{◌≡◌, ℕ, ◌≤◌, List, slice_index, ◌⊎◌, ◌↔◌, Contains}
 use Rattle.fleet_model.specs.declared.program.Await.{Await}
 use Rattle.fleet_model.specs.declared.program.Visit.{Visit}

@@ -1,4 +1,4 @@
-//! Holds that bring two agents onto one cell, where their visits of it have no order.
+//! Holds that bring two agents onto one cell, if their visits of it have no order.
 
 ghost use Rattle.std.specs.Prelude.{◌≡◌, ℕ, ◌+◌, ◌<◌, ◌≤◌, ◌↔◌, IsTrue, IfOk, All, Contains, length, slice_index, map};
 ghost use Rattle.std.specs.List.Sorted.{IsStrictlyIncreasing};
@@ -17,10 +17,9 @@ use crate::needed::needed_for;
 use fleet_model::{OutOfMemory, ProgramView, Visit, total_moves};
 use std::alloc::Global;
 
-/// The holds that bring the agents of two visits onto their cell, where the visits have no order
-/// either way: a row for each tick, with the numbers of the agents that are held in it, in strictly
-/// rising order. In each tick those are held whose next action is not needed for the visits, until
-/// both visits have begun. It fails only where memory is refused.
+/// The holds that bring the agents of two visits, which have no order either way, onto their cell: a row for each tick,
+/// with the numbers of the agents that are held in it, in strictly rising order. In each tick those are held whose next
+/// action is not needed for the visits, until both visits have begun. It fails only if memory is refused.
 pub fn breaking_holds<P: ProgramView>(
     alloc: Global,
     program: &P,
@@ -42,7 +41,7 @@ pub fn breaking_holds<P: ProgramView>(
     holds_by(alloc, program, first, second, &needed)
 }
 
-/// The holds, by how many actions of each agent are needed.
+/// The same holds, by how many actions of each agent are needed.
 fn holds_by<P: ProgramView>(
     alloc: Global,
     program: &P,
@@ -76,7 +75,7 @@ fn holds_by<P: ProgramView>(
     Ok(holds)
 }
 
-/// Whether an agent has an action left, and all that it awaits is finished, where so many actions of each agent are.
+/// Whether an agent has an action left, and all that it awaits is finished, by how many actions of each agent are.
 fn is_ready<P: ProgramView>(program: &P, counts: &[u32], i: u16) -> bool
     requires agent { i < length (P.program program.now) }
     requires counts { length counts.now ≡ length (P.program program.now) }

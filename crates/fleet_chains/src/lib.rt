@@ -1,4 +1,4 @@
-//! What chains of needs say of runs: two visits without an order are brought together by holds, and awaits that others imply
+//! Chains of needs and runs: two visits without an order are brought together by holds, and awaits that others imply
 //! change no run.
 #![tactic(auto)]
 

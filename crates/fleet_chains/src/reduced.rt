@@ -10,8 +10,8 @@ ghost use Rattle.fleet_model.specs.declared.task.Task.{Task};
 ghost use Rattle.fleet_model.specs.Accepted.{IsAcceptedBy};
 ghost use Rattle.fleet_chains.specs.Reduced.{IsThinned, IsReduced, HaveSameChains, RunEqually};
 
-/// Without its implied awaits a program has the same chains and no implied awaits, and so has one the same chains that still
-/// needs through a chain whatever it no longer awaits.
+/// Without its implied awaits a program has the same chains and no implied awaits, and so has one the same chains that
+/// still needs through a chain whatever it no longer awaits.
 pub fn thinning_keeps_chains()
     ensures thinned { (p q : Program) (number : ActionId → ℕ) →
         IsNumbering p number → IsThinned p q → HaveSameChains p q }

@@ -58,13 +58,13 @@ RefusesRequest files after talks (r.Migrate request) out out' fault = RefusesMig
 RefusesRequest files after talks (r.List request) out out' fault = RefusesList files request out out' fault × AreUnchanged files after × talks []
 RefusesRequest files after talks (r.Dispatch request) out out' fault = RefusesDispatch files request talks fault × AreUnchanged files after × IsUnwritten out out'
 
--- the request was done, and its status is answered; or a refusal was told, and the refusal's status is answered: the other output took
+-- the request was done, and its status is answered; or a refusal was reported, and the refusal's status is answered: the other output took
 -- that one line, or failed within it
 abbrev pub RunsRequest : (files after : Option Store) → (Talk → Type 0) → Request → (out out' err err' : SinkState) → ℕ → Type 0
 RunsRequest files after talks request out out' err err' status =
     Outcome (DoesRequest files after talks request out out') (RefusesRequest files after talks request out out') err err' status
 
--- why the words are no request was told: help on the output, usage on the other
+-- it was reported why the words are no request: by help on the output, by usage on the other
 abbrev pub StopsAtWords : WordStop → (out out' err err' : SinkState) → ℕ → Type 0
 StopsAtWords w.OutOfMemory out out' err err' status = (status ≡ 3) × IsRefusalTold f.Memory err err' × IsUnwritten out out'
 StopsAtWords (w.Usage text) out out' err err' status = (status ≡ 2) × Receives err err' (string_bytes text) × IsUnwritten out out'
@@ -74,7 +74,7 @@ StopsAtWords (w.Help text) out out' err err' status =
     × Receives err err' (line_text (codes "file" ∷ codes "-" ∷ [])))
 
 -- without words the run of the input; else the command that the words ask, or a stop at words that the command line does not take. Every
--- file is as before, but for what the commands `compile`, `thin` and `migrate` write. The input is read whole without words, and else robots alone report by it
+-- file is as before, but for the file OUT of `compile`, `thin` and `migrate`. The input is read whole without words, and else robots alone report by it
 abbrev pub RunsCommand : List Text → Option (List ℕ) → (files after : Option Store) → (Talk → Type 0) → (out out' err err' : SinkState) → ℕ → Type 0
 RunsCommand [] input files after talks out out' err err' status = RunsHex input out out' err err' status × AreUnchanged files after
 RunsCommand (word ∷ words) input files after talks out out' err err' status =

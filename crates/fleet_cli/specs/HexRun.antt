@@ -16,7 +16,7 @@ use Rattle.fleet_run.specs.declared.run.End.{End}
 use Rattle.fleet_io.specs.declared.fault.Fault.{Fault}
 use Rattle.fleet_io.specs.declared.fault.Fault.TheVariants as f
 
--- the text is what the input had, where the input tells, and is no more than is read
+-- the text is all that the input had, if the input says it, and is no longer than a text that is read
 pub record IsTextOf (input : Option (List ℕ)) (text : List ℕ) : Type 0 where
   pub whole : IfSome input (λ rest. text ≡ rest)
   pub within : length text ≤ MOST_BYTES
@@ -53,7 +53,7 @@ IsRefusalOf input out out' _ = ⊥
 abbrev pub DoesHex : Option (List ℕ) → (out out' : SinkState) → ℕ → Type 0
 DoesHex input out out' status = (end : End) × RehearsesInput input out out' end × (status ≡ end_status end)
 
--- 0 where the rehearsal was written and ends finished, 1 where it was written and ends stuck, and else the status of a refusal
--- that was told: the other output took that one line, or failed within it
+-- 0 if the rehearsal was written and ends finished, 1 if it was written and ends stuck, and else the status of a refusal
+-- that was reported: the other output took that one line, or failed within it
 abbrev pub RunsHex : Option (List ℕ) → (out out' err err' : SinkState) → ℕ → Type 0
 RunsHex input out out' err err' status = Outcome (DoesHex input out out') (IsRefusalOf input out out') err err' status

@@ -15,9 +15,11 @@ use Rattle.fleet_cli.specs.Problem.{IsProblemRefusal}
 use Rattle.fleet_io.specs.declared.fault.Fault.{Fault}
 use Rattle.fleet_io.specs.declared.fault.Fault.TheVariants as f
 
+-- the start of agent i
 abbrev pub start_in : List Task → ℕ → Cell
 start_in tasks i = option_map_or (λ t. t.start) (slice_get tasks i) origin
 
+-- its goal
 abbrev pub goal_in : List Task → ℕ → Cell
 goal_in tasks i = option_map_or (λ t. t.goal) (slice_get tasks i) origin
 
@@ -39,7 +41,7 @@ unfoldable pub instance_text : Ground → List Task → List ℕ
 instance_text g tasks =
     map_line g ++ (count_line (codes "ground") (passable_cells g) ++ (count_line (codes "agents") (length tasks) ++ task_lines tasks (length tasks)))
 
--- what the texts stand for was printed, and handed on
+-- the instance for which the texts stand was printed, and handed on
 pub record PrintsInstance (map scen : List ℕ) (asked : Option ℕ) (out out' : SinkState) : Type 0 where
   pub ground : Ground
   pub tasks : List Task
@@ -53,7 +55,7 @@ IsInstanceFault map scen asked out out' (f.File name) =
     × FailsAfter out out' (instance_text g tasks)
 IsInstanceFault map scen asked out out' fault = IsProblemRefusal map scen asked fault × IsUnwritten out out'
 
--- what the files stand for was printed
+-- the instance for which the files stand was printed
 abbrev pub DoesInstance : Option Store → InstanceRequest → (out out' : SinkState) → ℕ → Type 0
 DoesInstance files r out out' status =
     (map scen : List ℕ) × AreRead files (r.map.now ∷ r.scen.now ∷ []) (map ∷ scen ∷ []) × PrintsInstance map scen r.agents out out' × (status ≡ 0)

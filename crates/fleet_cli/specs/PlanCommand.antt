@@ -39,7 +39,7 @@ IsPlanCommandFault map scen asked horizon tries out out' (f.File name) =
     (a : PlansTexts map scen asked horizon tries) × (name.now ≡ codes "-") × FailsAfter out out' (plan_text a.plan)
 IsPlanCommandFault map scen asked horizon tries out out' fault = IsProblemRefusal map scen asked fault × IsUnwritten out out'
 
--- a plan for what the files stand for was printed
+-- a plan for the instance for which the files stand was printed
 abbrev pub DoesPlan : Option Store → PlanRequest → (out out' : SinkState) → ℕ → Type 0
 DoesPlan files r out out' status =
     (map scen : List ℕ) × AreRead files (r.map.now ∷ r.scen.now ∷ []) (map ∷ scen ∷ []) × PrintsPlan map scen r.agents r.horizon r.tries out out' × (status ≡ 0)

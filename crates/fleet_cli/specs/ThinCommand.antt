@@ -15,8 +15,8 @@ use Rattle.fleet_cli.specs.Output.{count_lines, WritesOut, IsOutRefusal}
 use Rattle.fleet_cli.specs.Problem.{AcceptsTexts, IsTextsRefusal}
 use Rattle.fleet_io.specs.declared.fault.Fault.{Fault}
 
--- the program of the texts is accepted; what is written is that program without its implied awaits, which is accepted for the same map and
--- tasks, has the same longest chain and runs equally; and so many awaits the two have
+-- the program of the bytes is accepted for the texts; the bytes that are written spell that program without its implied awaits, which is
+-- accepted for the same map and tasks, has the same longest chain and runs equally; and the two have so many awaits
 pub record ThinsTexts (map scen : List ℕ) (asked : Option ℕ) (program : List ℕ) (before after : ℕ) (bytes : List ℕ) : Type 0 where
   pub accepts : AcceptsTexts map scen asked program
   pub thinned : Program

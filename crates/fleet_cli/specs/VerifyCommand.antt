@@ -39,7 +39,7 @@ pub record SpellsBreakingHolds (p : Program) (first second : Visit) (text : List
   pub breaking : AreBreakingHolds p first second holds
   pub written : text ≡ holds_text holds
 
--- how a refused program is told. Of two visits of a cell that no chain orders the breaking holds were printed and handed on before, or the
+-- how a refused program is reported. Of two visits of a cell that no chain orders the breaking holds were printed and handed on before, or the
 -- output failed; of every other refusal nothing was printed
 abbrev pub TellsRefused : Program → VerifyFault → (out out' : SinkState) → Fault → Type 0
 TellsRefused p fault out out' f.Memory = IsUnwritten out out'
@@ -51,7 +51,7 @@ TellsRefused p fault out out' (f.File name) =
     × (text : List ℕ) × SpellsBreakingHolds p first second text × FailsAfter out out' text
 TellsRefused p fault out out' _ = ⊥
 
--- the texts stand for a map and for tasks, and the program that the bytes spell is refused so, and that is told so
+-- the texts stand for a map and for tasks, and the program that the bytes spell is refused, which is reported by this refusal
 pub record RefusesProgram (map scen : List ℕ) (asked : Option ℕ) (bytes : List ℕ) (out out' : SinkState) (told : Fault) : Type 0 where
   pub ground : Ground
   pub tasks : List Task

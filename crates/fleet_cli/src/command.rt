@@ -74,7 +74,7 @@ pub fn run_request<F: Files, O: Flush, E: TraceOut, D: Floor>(
     finish(do_request(alloc, request, files, out, floor), err)
 }
 
-/// Tells why the words are no request: help on `out` with status 0, usage on `err` with status 2.
+/// Reports why the words are no request: help on `out` with status 0, usage on `err` with status 2, want of memory with status 3.
 fn stop_at<O: Flush, E: TraceOut>(stop: &WordStop, out: &mut O, err: &mut E) -> u8
     requires out_working { IsWorking (O.state out.old) }
     requires err_working { IsWorking (E.state err.old) }

@@ -77,7 +77,7 @@ fn compile_texts<'a>(
     Ok(Compiled { program, bytes })
 }
 
-/// Reads the files, and then compiles.
+/// Reads the files, and then compiles. The text of the plan is handed over, and is let go once it is read.
 fn compile_files<'a, F: Files>(
     alloc: Global,
     request: &CompileRequest<'a>,

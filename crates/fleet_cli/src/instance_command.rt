@@ -14,6 +14,7 @@ use fleet_run::{Flush, OutFault, TraceOut};
 use fleet_scen::Instance;
 use std::alloc::Global;
 
+/// Writes the line of an agent, with its start and its goal.
 #[tactic(auto, unfolding(crate::specs::InstanceCommand::task_line))]
 fn put_task<O: TraceOut>(out: &mut O, i: u16, start: Cell, goal: Cell) -> Result<(), OutFault>
     requires { IsWorking (O.state out.old) }
@@ -24,7 +25,7 @@ fn put_task<O: TraceOut>(out: &mut O, i: u16, start: Cell, goal: Cell) -> Result
     put_line(out, &[Word::Label(i as u64), start, goal])
 }
 
-/// The line of each agent.
+/// Writes the line of each agent.
 fn put_tasks<O: TraceOut>(out: &mut O, instance: &Instance) -> Result<(), OutFault>
     requires { IsWorking (O.state out.old) }
     ensures { TakesAll (O.state out.old) (O.state out.new) result (task_lines instance.now (length instance.now)) }
@@ -35,6 +36,7 @@ fn put_tasks<O: TraceOut>(out: &mut O, instance: &Instance) -> Result<(), OutFau
     Ok(())
 }
 
+/// Writes the line of the map's columns and rows.
 #[tactic(auto, unfolding(crate::specs::InstanceCommand::map_line))]
 fn put_sizes<O: TraceOut>(out: &mut O, grid: &Grid) -> Result<(), OutFault>
     requires { IsWorking (O.state out.old) }
@@ -45,6 +47,7 @@ fn put_sizes<O: TraceOut>(out: &mut O, grid: &Grid) -> Result<(), OutFault>
     put_line(out, &[Word::Text("map"), width, height])
 }
 
+/// Writes the sizes of the map, its passable cells, and the tasks of the agents.
 fn put_instance<O: TraceOut>(out: &mut O, grid: &Grid, instance: &Instance) -> Result<(), OutFault>
     requires { IsWorking (O.state out.old) }
     ensures { TakesAll (O.state out.old) (O.state out.new) result (instance_text grid.now instance.now) }

@@ -14,7 +14,7 @@ use fleet_scen::Instance;
 use fleet_verify::Accepted;
 use std::alloc::Global;
 
-/// The map and the instance for which the texts stand.
+/// The map and the instance for which the texts stand, or the refusal of the program.
 pub fn read_problem<'a>(
     alloc: Global,
     map: &[u8],
@@ -27,7 +27,7 @@ pub fn read_problem<'a>(
     Ok(fleet_auto::read_problem(alloc, map, scen, asked)?)
 }
 
-/// The program that the bytes spell, read in place and accepted for the map and the instance.
+/// The program that the bytes spell, read in place and accepted for the map and the instance, or the refusal of the program.
 pub fn accept<'g, 'a>(
     alloc: Global,
     bytes: &'g [u8],
@@ -40,7 +40,7 @@ pub fn accept<'g, 'a>(
     Ok(fleet_auto::accept(alloc, bytes, grid, instance)?)
 }
 
-/// The program that the bytes spell, read in place.
+/// The program that the bytes spell, read in place, or the refusal of the program.
 pub fn view_program<'g, 'a>(alloc: Global, bytes: &'g [u8]) -> Result<CodeView<'g>, Fault<'a>>
     ensures spelled { IfOk result (λ v. Spells bytes.now v.program) }
     ensures fault { IfErr result (IsLoadRefusal bytes.now) }

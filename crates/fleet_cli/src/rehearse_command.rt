@@ -14,7 +14,7 @@ use fleet_model::ProgramView;
 use fleet_run::{End, Flush, HoldText};
 use std::alloc::Global;
 
-/// How a rehearsal ended, as a status.
+/// The status of a rehearsal that ended so: 0 if finished, 1 if stuck.
 pub(crate) fn end_status(end: End) -> u8
     ensures { result ≡ end_status end }
 {
@@ -24,7 +24,7 @@ pub(crate) fn end_status(end: End) -> u8
     }
 }
 
-/// Rehearses the program that the bytes spell, under the holds for which the others stand.
+/// Rehearses the program that the bytes spell, under the holds for which the bytes `held` stand.
 fn rehearse_bytes<'a, O: Flush>(
     alloc: Global,
     bytes: &[u8],
@@ -47,8 +47,8 @@ fn rehearse_bytes<'a, O: Flush>(
     }
 }
 
-/// The command `rehearse`: reads both files whole, that of the holds last, and writes the rehearsal of the program, under the holds, to
-/// `out`. Answers 0 where it ends finished and 1 where it ends stuck. No file is changed.
+/// The command `rehearse`: reads the files whole, that of the holds last, and writes the rehearsal of the program, under the holds, to
+/// `out`. Answers 0 if it ends finished and 1 if it ends stuck. No file is changed.
 #[inline(never)]
 pub(crate) fn do_rehearse<'a, F: Files, O: Flush>(
     alloc: Global,

@@ -53,7 +53,7 @@ fn breaking_text<P: ProgramView>(
     Ok(write_holds(alloc, &holds)?)
 }
 
-/// Why the program is refused. Before two visits of a cell that no chain orders are reported, their breaking holds are printed.
+/// The refusal of a program. If it is of two visits of a cell that no chain orders, their breaking holds are printed.
 fn tell_refused<'a, P: ProgramView + Drop, O: Flush>(
     alloc: Global,
     refused: Refused<P>,

@@ -8,11 +8,11 @@ use Rattle.fleet_code.specs.Spelling.{spelling, CanSpell, SpellsIn, Spells}
 use Rattle.fleet_code.specs.LoadFaults.{IsFirstLoadFault}
 use Rattle.fleet_code.specs.Offsets.{Viewed}
 
--- where a spelling begins another, of either version, nothing follows it and both spell one program
+-- if a spelling begins another, of either version, nothing follows it and both spell one program
 abbrev pub NoneBeginsAnother : Type 0
 NoneBeginsAnother = (front rest : List ℕ) (p q : Program) → Spells front p → Spells (front ++ rest) q → (rest ≡ []) × (p ≡ q)
 
--- two spellings of one version are one exactly where the programs are
+-- two spellings of one version are the same exactly if their programs are
 abbrev pub OneSpellingEach : Type 0
 OneSpellingEach = (v : Version) (a b : List ℕ) (p q : Program) → SpellsIn v a p → SpellsIn v b q → (a ≡ b) ↔ (p ≡ q)
 

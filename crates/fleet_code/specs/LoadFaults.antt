@@ -20,7 +20,7 @@ pub record HasNumber (bytes : List ℕ) (n : ℕ) (rest : List ℕ) : Type 0 whe
   pub fits : n < 65536
   pub parts : bytes ≡ number n ++ rest
 
--- .. as wide as a number of moves and a count are
+-- .. a number of moves or a count, as wide as the version has it, and then the rest
 pub record HasCount (v : Version) (bytes : List ℕ) (n : ℕ) (rest : List ℕ) : Type 0 where
   pub fits : n ≤ most_count v
   pub parts : bytes ≡ count v n ++ rest

@@ -45,12 +45,12 @@ abbrev pub parts_of : Version → ℕ → Program → List PartOffsets
 parts_of v at [] = []
 parts_of v at (a ∷ p) = part_of v at a ∷ parts_of v (at + length (agent v a)) p
 
--- n offsets more after this one, each so far from the one before
+-- the n offsets after this one, each so far from the one before it
 abbrev pub further : ℕ → ℕ → ℕ → List ℕ
 further last stride n = map (λ k. last + (k + 1) * stride) (range_with_len 0 n)
 
 -- the numbers of opcodes before so many actions, and last in all of them: those that are kept, and after the last of them others that are
--- so far from each other. Where none is kept each action has one opcode
+-- so far from each other. If none is kept, each action has one opcode
 abbrev pub offsets_of : ℕ → ℕ → List ℕ → List ℕ
 offsets_of actions stride [] = range_with_len 0 (actions + 1)
 offsets_of actions stride (o ∷ kept) = (o ∷ kept) ++ further (slice_index_or (o ∷ kept) (length kept) 0) stride (actions + 1 - length (o ∷ kept))
@@ -60,7 +60,7 @@ pub record AreOffsets (actions : ℕ) (offsets : List ℕ) : Type 0 where
   pub count : length offsets ≡ actions + 1
   pub fit : All (λ o. o < 2 ^ 32) offsets
 
--- from that offset on all are so far from each other
+-- from that offset on each is so far from the one before it
 abbrev pub IsEvenFrom : List ℕ → ℕ → ℕ → Type 0
 IsEvenFrom offsets at stride =
     (n : ℕ) → at ≤ n → n < length offsets → slice_index_or offsets n 0 ≡ slice_index_or offsets at 0 + (n - at) * stride

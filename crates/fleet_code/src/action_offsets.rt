@@ -8,7 +8,7 @@ use std::alloc::Global;
 use std::marker::Model;
 
 /// How many opcodes stand before each of so many actions, counted from the first, and last how many they have together: an
-/// action has one for each await and one for its step. Where from one action on all have as many as each other, the offsets
+/// action has one for each await and one for its step. If from one action on all have as many as each other, the offsets
 /// after its own are not kept.
 #[derive(Debug, Drop)]
 pub struct ActionOffsets {
@@ -81,7 +81,7 @@ impl ActionOffsets {
     }
 }
 
-/// The first of the offsets from which on all are as far from each other, and how far.
+/// The number of the first offset from which on each is as far from the one before it, and how far.
 fn even_from(offsets: &[u32]) -> (usize, u32)
     requires { 1 ≤ length offsets.now }
     ensures first { result.0 < length offsets.now }

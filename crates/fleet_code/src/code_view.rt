@@ -38,6 +38,7 @@ impl<'a> Model for CodeView<'a> {
 }
 
 /// The program that the bytes spell, all of the bytes (this project's own format, version 1 or 2), read in place.
+/// Errors: the first fault from the front, or `OutOfMemory` in place of any answer.
 ///
 /// A number that the bytes announce reserves no more than the bytes that are there can fill.
 pub fn view(alloc: Global, bytes: &[u8]) -> Result<CodeView<'_>, LoadFault>
@@ -63,7 +64,7 @@ pub fn view(alloc: Global, bytes: &[u8]) -> Result<CodeView<'_>, LoadFault>
     })
 }
 
-/// The number that stands there.
+/// The number of two bytes at the offset `at`.
 fn number_in(bytes: &[u8], at: usize) -> u16
     requires { at + 2 ≤ length bytes.now }
     ensures { (n : ℕ) → n < 65536 → StandsAt bytes.now at (number n) → result ≡ n }
@@ -71,7 +72,7 @@ fn number_in(bytes: &[u8], at: usize) -> u16
     u16::from_be_bytes([bytes[at], bytes[at + 1]])
 }
 
-/// The number of four bytes that stands there.
+/// The number of four bytes at the offset `at`.
 fn long_number_in(bytes: &[u8], at: usize) -> u32
     requires { at + 4 ≤ length bytes.now }
     ensures { (n : ℕ) → n < 4294967296 → StandsAt bytes.now at (count Version.Two n) → result ≡ n }
@@ -79,7 +80,7 @@ fn long_number_in(bytes: &[u8], at: usize) -> u32
     u32::from_be_bytes([bytes[at], bytes[at + 1], bytes[at + 2], bytes[at + 3]])
 }
 
-/// The number of moves or the count that stands there.
+/// The number of moves or the count at the offset `at`, as wide as the version has it.
 fn count_in(version: Version, bytes: &[u8], at: usize) -> u32
     requires { at + count_len version ≤ length bytes.now }
     ensures { (n : ℕ) → n ≤ most_count version → StandsAt bytes.now at (count version n) → result ≡ n }
@@ -90,7 +91,7 @@ fn count_in(version: Version, bytes: &[u8], at: usize) -> u32
     }
 }
 
-/// The cell that stands there.
+/// The cell at the offset `at`.
 fn cell_in(bytes: &[u8], at: usize) -> Cell
     requires { at + 4 ≤ length bytes.now }
     ensures { (c : Cell) → IsCell c → StandsAt bytes.now at (cell c) → result ≡ c }
@@ -101,7 +102,7 @@ fn cell_in(bytes: &[u8], at: usize) -> Cell
     }
 }
 
-/// The await that stands there, with its opcode.
+/// The await whose opcode is at the offset `at`.
 fn await_in(version: Version, bytes: &[u8], at: usize) -> Await
     requires { at + await_len version ≤ length bytes.now }
     ensures { (w : Await) → w.agent < 65536 → w.count ≤ most_count version

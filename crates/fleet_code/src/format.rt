@@ -21,7 +21,7 @@ pub const AWAIT: u8 = 0x10;
 /// How many bytes stand before the first agent: the magic and the number of agents.
 pub const HEAD_LEN: usize = 6;
 
-/// How many bytes a number takes.
+/// How many bytes a number takes that is as wide in both versions: of agents, an agent, a column or a row.
 pub const NUMBER_LEN: usize = 2;
 
 /// How many bytes a cell takes.

@@ -78,7 +78,7 @@ struct Head {
     agents: u16,
 }
 
-/// How many opcodes an action of agent `own` has, whose awaits and step are judged, and the bytes after it.
+/// Judges the awaits and the step of an action of agent `own`: how many opcodes it has, and the bytes after it.
 fn after_action(head: Head, own: u16, bytes: &[u8]) -> Result<(u32, &[u8]), LoadFault>
     requires whole { length bytes.now ≤ head.whole }
     requires few { head.agents ≤ MAX_AGENTS }
@@ -169,7 +169,7 @@ fn actions_in(
     Ok((ActionOffsets::of(count, offsets), rest))
 }
 
-/// The part of agent `own`, where the agents before it have `total` moves.
+/// The part of agent `own`, if the agents before it have `total` actions together, and the bytes after it.
 #[tactic(auto, unfolding(crate::specs::Reading::agent_at))]
 fn agent_after(
     alloc: Global,
@@ -198,7 +198,7 @@ fn agent_after(
     Ok((Part { begin, offsets }, rest))
 }
 
-/// The parts of all agents. Of the bytes these are left.
+/// The parts of all agents, and the bytes after the last one.
 fn agents_after(alloc: Global, head: Head, bytes: &[u8]) -> Result<(Vec<Part>, &[u8]), LoadFault>
     requires whole { length bytes.now ≤ head.whole }
     requires few { head.agents ≤ MAX_AGENTS }

@@ -1,36 +1,17 @@
 -- Reports that are taken one after another.
-use Rattle.std.proofs.Common.{◌≡◌, ℕ, suc, ◌+◌, ◌<◌, ◌≤◌, ◌++◌, ◌∷◌, [], Bool, true, false, not, ◌&&◌, cond, List, length, get_or, refl, ap, sym, ◌∙◌, arith, subst, below_more, length-append, add-one, IsTrue}
+use Rattle.std.proofs.Common.{◌≡◌, ℕ, suc, ◌+◌, ◌<◌, ◌≤◌, ◌++◌, ◌∷◌, [], Bool, true, false, not, ◌&&◌, cond, List, length, get_or, refl, ap, sym, ◌∙◌, arith, subst, below_more, length-append, add-one}
 use Rattle.std.proofs.Math.ListN.{get_or-append}
 use Rattle.std.proofs.Math.Seq.{get_or-append_seam}
 use Rattle.fleet_model.specs.Program.{Program}
 use Rattle.fleet_model.specs.Machine.{Configuration, indices, is_among, is_held, is_ready, is_finished, run, tick}
 use Rattle.fleet_model.specs.Claims.{holds_of, is_new}
-use Rattle.fleet_machine.specs.Confirmed.{AreSent, IsFirstUnsent, all_but}
+use Rattle.fleet_machine.specs.Confirmed.{AreSent}
 use Rattle.fleet_machine.specs.Machine.{flag_of}
-use Rattle.fleet_model.proofs.Runs.{tick_agree}
 use Rattle.fleet_verify.proofs.Claimed.{reports_hold, reports_tick}
-use Rattle.fleet_run.specs.Source.{AreFlagsOf}
 use Rattle.fleet_dispatch.specs.Talk.{Talk, Told, Heard}
 use Rattle.fleet_dispatch.specs.Orders.{order_line, orders_but, new_orders, talk_before, talk_of}
 use Rattle.fleet_dispatch.specs.Dispatch.{AreTaken}
 use Rattle.fleet_dispatch.proofs.Fronts.{reports_run, reports_talk, talk_heard, flat_agree}
-
--- ---- what the flags of a report say
-
-module _ (p : Program) (c : Configuration) (report : List ℕ) (flags : List Bool) (are : AreFlagsOf report flags) (long : length flags ≡ length p) where
-  pub report_sent : AreSent p c (flag_of flags) → AreSent p c (is_among report)
-  report_sent h = λ i inside named. h i inside (subst IsTrue (sym (are i (omega arith))) named)
-
-  pub report_tick : tick p (all_but (flag_of flags)) c ≡ tick p (λ i. not (is_among report i)) c
-  report_tick = tick_agree p (all_but (flag_of flags)) (λ i. not (is_among report i)) c (λ i inside. ap not (are i (omega arith)))
-
-  pub report_unsent : (i : ℕ) → IsFirstUnsent p c (flag_of flags) i → IsFirstUnsent p c (is_among report) i
-  report_unsent i h = record {
-    agent = h.agent;
-    reported = sym (are i (let inside = h.agent in omega arith)) ∙ h.reported;
-    unready = h.unready;
-    sooner = λ j before named. h.sooner j before (subst IsTrue (sym (are j (let inside = h.agent in omega arith))) named);
-  }
 
 -- ---- one report more
 

@@ -1,5 +1,5 @@
--- Bytes that are read on, and the next line among them.
-use Rattle.std.proofs.Common.{◌≡◌, ℕ, ◌+◌, ◌-◌, ◌≤◌, ◌<◌, ◌++◌, Bool, true, List, [], ◌∷◌, length, get_or, take, drop, Option, Some, None, Result, Ok, Err, ltb, refl, sym, ap, subst, ◌∙◌, arith, inl, inr, append_assoc, true≢false}
+-- The next line among bytes that were read.
+use Rattle.std.proofs.Common.{◌≡◌, ℕ, ◌+◌, ◌-◌, ◌≤◌, ◌<◌, ◌++◌, Bool, true, List, [], ◌∷◌, length, get_or, take, drop, Option, Some, None, Result, Ok, Err, ltb, refl, sym, ap, subst, ◌∙◌, arith, inl, inr, true≢false}
 use Rattle.std.proofs.lemmas.List.{append-nil, length-append, length-take, take-append-le, drop-append-le, drop_all}
 use Rattle.std.proofs.lemmas.Bool.{cases_Bool, cases_lt, ltb-false}
 use Rattle.std.proofs.lemmas.List.Quantifiers.{position-Some}
@@ -8,7 +8,7 @@ use Rattle.std.proofs.Math.ListN.{get_or-append}
 use Rattle.std.specs.Prelude.{position, slice_index, IfSome, ◌==◌}
 use Rattle.std.specs.List.{position_or_len}
 use Rattle.std.specs.Str.Lines.{strip_carriage_return}
-use Rattle.std.specs.Io.KnownBytes.{prepend_known, Keeps, Consumes, IsAtEnd}
+use Rattle.std.specs.Io.KnownBytes.{prepend_known, Keeps, IsAtEnd}
 use Rattle.fleet_text.specs.Text.{is_lf, lines}
 use Rattle.fleet_text.proofs.TextLaws.{lines_first, lines_last, lines_none, found_nowhere}
 use Rattle.fleet_run.specs.HoldText.{tick_of}
@@ -18,24 +18,6 @@ use Rattle.fleet_dispatch.specs.Stream.{GivesLine, IsMisheard}
 use Rattle.fleet_dispatch.specs.StreamFloor.{EndsLine, SetsReport, HearsLine}
 use Rattle.fleet_dispatch.specs.declared.floor.HearFault.{HearFault}
 use Rattle.fleet_dispatch.specs.declared.floor.HearFault.TheVariants as h
-
--- ---- bytes that are read on
-
-pub read_on : (a old new : Option (List ℕ)) (w w' more : List ℕ) → Keeps a (prepend_known w old) → w' ≡ w ++ more → Consumes old new more → Keeps a (prepend_known w' new)
-read_on None old new w w' more k e c = tt
-read_on (Some t) None new w w' more k e c = absurd k
-read_on (Some t) (Some xs) None w w' more k e c = absurd c
-read_on (Some t) (Some xs) (Some ys) w w' more k e c = ap (λ (x : List ℕ). x ++ ys) e ∙ append_assoc w more ys ∙ ap (λ (x : List ℕ). w ++ x) (sym c) ∙ k
-
-pub read_none : (a old new : Option (List ℕ)) (w w' : List ℕ) → Keeps a (prepend_known w old) → w' ≡ w → Keeps old new → Keeps a (prepend_known w' new)
-read_none None old new w w' k e c = tt
-read_none (Some t) None new w w' k e c = absurd k
-read_none (Some t) (Some xs) None w w' k e c = absurd c
-read_none (Some t) (Some xs) (Some ys) w w' k e c = ap (λ (x : List ℕ). x ++ ys) e ∙ ap (λ (x : List ℕ). w ++ x) c ∙ k
-
-pub keeps_itself : (a : Option (List ℕ)) → Keeps a a
-keeps_itself None = tt
-keeps_itself (Some xs) = refl
 
 -- ---- the next line
 
@@ -81,11 +63,6 @@ pub gives_first : (a b c : Option (List ℕ)) (line : List ℕ) → Keeps a b �
 gives_first None b c line k h = tt
 gives_first (Some t) None c line k h = absurd k
 gives_first (Some t) (Some u) c line k h = subst (λ (x : List ℕ). GivesLine (Some x) c line) k h
-
-pub none_first : (a b : Option (List ℕ)) → Keeps a b → IfSome b (λ text. lines text ≡ []) → IfSome a (λ text. lines text ≡ [])
-none_first None b k h = tt
-none_first (Some t) None k h = absurd k
-none_first (Some t) (Some u) k h = subst (λ (x : List ℕ). lines x ≡ []) k h
 
 -- ---- lines that are no report
 

@@ -22,10 +22,6 @@ pub led_to : (o : Option Step) (q to : Place) (f : Place → List ℕ) → Some 
 led_to None q to f e = absurd (cc)
 led_to (Some s) q to f e = let same : stepped q s ≡ to = cc in ap f same
 
-pub led_nowhere : (o : Option Step) (q : Place) (f : Place → List ℕ) → ◌≡◌ {A = Option Place} None (option_map (stepped q) o) → option_map_or (λ s. f (stepped q s)) o [] ≡ []
-led_nowhere None q f e = refl
-led_nowhere (Some s) q f e = absurd (cc)
-
 -- the orders of one agent more, before those of the agents behind it
 pub one_before : (sent : ℕ → Bool) (p : Program) (c : Configuration) (n i j : ℕ) → j < n → i ≡ j + 1
     → orders_but sent p c (range_with_len j (n - j)) ≡ cond (sent j) [] (order_line p c j) ++ orders_but sent p c (range_with_len i (n - i))

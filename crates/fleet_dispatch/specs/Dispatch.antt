@@ -29,14 +29,14 @@ pub record IsDispatched (p : Program) (talks : Talk → Type 0) (c : Configurati
   pub moves : r.moves ≡ total_moves p
   pub count : r.reports ≡ length reports
 
--- after these reports, with actions left, the next line was this, and it stopped there
+-- after these reports, with actions left, the next line was heard so, and the dispatch stopped there
 pub record StopsAtLine (p : Program) (talks : Talk → Type 0) (c : Configuration) (turn : Turn) (line : ℕ) (reports : List (List ℕ)) : Type 0 where
   pub taken : AreTaken p reports c
   pub left : is_finished p c ≡ false
   pub talk : talks (talk_of p reports (length reports) ++ turn ∷ [])
   pub number : line ≡ length reports + 1
 
--- the next report named an agent, the first of those, that has no order; it changed nothing
+-- the next report named agents without orders, of which this is the first, and changed nothing
 pub record StopsAtReport (p : Program) (talks : Talk → Type 0) (c : Configuration) (line agent : ℕ) (reports : List (List ℕ)) : Type 0 where
   pub report : List ℕ
   pub stops : StopsAtLine p talks c (Heard report) line reports
@@ -70,14 +70,14 @@ Dispatches p talks c (Err Write) = (reports : List (List ℕ)) × StopsAtTelling
 Dispatches p talks c (Err ReportLimit) = (reports : List (List ℕ)) × StopsAtLimit p talks c reports
 Dispatches p talks c (Err Input) = (reports : List (List ℕ)) × StopsAtLine p talks c Unheard (length reports + 1) reports
 
--- from the start of a fleet, for which there may be no memory before anything is said
+-- the same from the start of a fleet; there may be no memory for it, and then nothing is said
 abbrev pub DispatchesFrom : Program → (Talk → Type 0) → Result DispatchReport DispatchFault → Type 0
 DispatchesFrom p talks (Err OutOfMemory) = talks []
 DispatchesFrom p talks result = (c : Configuration) × Dispatches p talks c result × IfOk result (λ _. AreOnGoals p c)
 
 -- ---- one report
 
--- a report was heard and taken: all others are held in a tick
+-- a report was heard and taken: a tick passed in which all agents but those that it names were held
 pub record IsTaken (p : Program) (talks : Talk → Type 0) (works : Type 0) (c c' : Configuration) (sent : List Bool) (report : List ℕ) : Type 0 where
   pub heard : talks (Heard report ∷ [])
   pub still : works
@@ -85,7 +85,7 @@ pub record IsTaken (p : Program) (talks : Talk → Type 0) (works : Type 0) (c c
   pub after : c' ≡ tick p (λ i. not (is_among report i)) c
   pub flags : (i : ℕ) → i < length p → flag_of sent i ≡ (is_ready p c i && not (is_among report i))
 
--- a report was heard that names an agent, the first of those, that has no order
+-- a report was heard that names agents without orders, of which this is the first
 pub record IsRefused (p : Program) (talks : Talk → Type 0) (c : Configuration) (agent : ℕ) (report : List ℕ) : Type 0 where
   pub heard : talks (Heard report ∷ [])
   pub unsent : IsFirstUnsent p c (is_among report) agent

@@ -11,12 +11,12 @@ use Rattle.fleet_machine.specs.Machine.{flag_of}
 use Rattle.fleet_run.specs.Text.{place_text, number_line}
 use Rattle.fleet_dispatch.specs.Talk.{Talk, Told, Heard}
 
--- `go i x,y x,y`, from where agent i stands to where its order leads, or nothing where it has none
+-- `go i x,y x,y`, from where agent i stands to where its order leads, or no line if it has none
 unfoldable pub order_line : Program → Configuration → ℕ → List ℕ
 order_line p c i =
     option_map_or (λ s. codes "go " ++ (decimal i ++ (place_text (place_at c i) ++ (place_text (stepped (place_at c i) s) ++ codes "\n")))) (order_of p c i) []
 
--- the orders of those of the agents that have none yet, in rising order
+-- the orders of those of these agents that were not sent theirs, one after another
 abbrev pub orders_but : (ℕ → Bool) → Program → Configuration → List ℕ → List ℕ
 orders_but sent p c agents = flat_map (λ i. if sent i then [] else order_line p c i) agents
 

@@ -8,7 +8,7 @@ use Rattle.fleet_run.specs.HoldText.{tick_line, tick_of}
 use Rattle.fleet_dispatch.specs.declared.window.TheConstants.{LINE_ROOM}
 use Rattle.fleet_dispatch.specs.Talk.{Turn, Talk, Told, Cut, Heard, Misheard, NoMore, Unheard}
 
--- an output, and the bytes that an input will still give, where it tells
+-- an output, and the bytes that an input will still give, if it says them
 pub record Ends : Type 0 where
   pub out : SinkState
   pub left : Option (List ℕ)

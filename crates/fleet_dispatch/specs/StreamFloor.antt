@@ -10,7 +10,7 @@ use Rattle.fleet_dispatch.specs.declared.window.TheConstants.{LINE_ROOM}
 use Rattle.fleet_dispatch.specs.declared.floor.HearFault.{HearFault}
 use Rattle.fleet_dispatch.specs.declared.floor.HearFault.TheVariants.{Form, Broken}
 
--- Where the next line ends in the bytes that were read: nowhere only where there are no more bytes; or as many bytes as are heard
+-- Where the next line ends in the bytes that were read: nowhere only if there are no more bytes; or as many bytes as are heard
 -- of a line do not end it
 abbrev pub EndsLine : (left : Option (List ℕ)) → List ℕ → Result (Option ℕ) HearFault → Type 0
 EndsLine left read (Ok found) = (position is_lf read ≡ found) × (found ≡ None → IsAtEnd left)
@@ -21,7 +21,7 @@ EndsLine left read (Err Broken) = ⊤
 abbrev pub FindsLine : (left left' : Option (List ℕ)) (read read' : List ℕ) → Result (Option ℕ) HearFault → Type 0
 FindsLine left left' read read' found = Keeps (prepend_known read left) (prepend_known read' left') × EndsLine left' read' found
 
--- the flags are those of the agents that the line reports, or it reports none of so many
+-- the flags are those of the agents that the line reports, or it is no report of so many agents
 abbrev pub SetsReport : {T : Type 0} → List ℕ → Result T HearFault → List Bool → Type 0
 SetsReport line (Ok _) flags = (report : List ℕ) × AreFlagsOf report flags × (line ≡ tick_line report) × IsStrictlyIncreasing report
 SetsReport line (Err Form) flags = tick_of (length flags) line ≡ None

@@ -11,8 +11,8 @@ pub enum HearFault {
     Broken,
 }
 
-/// A floor of robots. What is said to it and heard from it is one talk, in turn, so that what was told before a report was told before
-/// it.
+/// A floor of robots. All that is said to it and heard from it is one talk, in turn, so a contract says which bytes were told before a
+/// report was heard.
 pub trait Floor {
     ghost use Rattle.std.specs.Prelude.{ℕ, List, [], ◌++◌};
     ghost use Rattle.fleet_dispatch.specs.Talk.{Talk, Tells, Hears};
@@ -23,17 +23,17 @@ pub trait Floor {
     /// Whether it can be told more and heard further.
     ghost works: { Self → Type 0 };
 
-    /// Hands on all of the bytes before it answers.
+    /// Hands on all of the bytes before it answers. If it fails, a front of them was taken, and nothing more can be said.
     fn tell(&mut self, bytes: &[u8]) -> Result<(), OutFault>
         requires { works self.old }
         ensures { Tells (talks self.old self.new) (works self.new) result bytes.now };
 
-    /// Waits for a report, and sets flag i to whether it names agent i. `Ok(false)` where there is none any more.
+    /// Waits for a report, and sets flag i to whether it names agent i. `Ok(false)` if there is none any more.
     fn hear(&mut self, done: &mut [bool]) -> Result<bool, HearFault>
         requires { works self.old }
         ensures { Hears (talks self.old self.new) (works self.new) result done.new };
 
-    /// From a floor to itself nothing was said.
+    /// From a floor to itself nothing was said or heard.
     ghost silent: { (f : Self) → talks f f [] };
 
     /// What was said and heard in two stretches, one after the other, was said and heard in both.

@@ -80,7 +80,7 @@ impl Refusal for DispatchFault {
     }
 }
 
-/// A dispatch after which all stand on their goals.
+/// A dispatch after which all stand on their goals: its agents, the actions of its program, and the reports that were taken.
 #[derive(Clone, Copy, Debug, PartialEq, Eq)]
 pub struct DispatchReport {
     pub agents: u16,
@@ -88,7 +88,8 @@ pub struct DispatchReport {
     pub reports: u32,
 }
 
-/// Hears the line of this number, and takes it as a report: those that it names have carried out their orders, and were sent none since.
+/// Hears the line of this number, and takes it as a report: the agents that it names have carried out their orders, and have not been
+/// sent their next ones.
 fn take_report<P: ProgramView, F: Floor>(
     fleet: &mut Fleet<'_, P>,
     sent: &mut AgentSet,
@@ -122,7 +123,7 @@ fn take_report<P: ProgramView, F: Floor>(
     Ok(())
 }
 
-/// Tells that all have arrived, and answers the numbers.
+/// Tells that all have arrived, with these numbers, and answers them.
 fn conclude<F: Floor>(
     agents: u16,
     moves: u32,
@@ -180,6 +181,10 @@ fn run_reports<P: ProgramView, F: Floor>(
 
 /// Dispatches a fleet from its start until all stand on their goals. Each agent is told its order as soon as it has one and before the
 /// next report is waited for; a report names those that have carried out their orders. Takes no memory.
+///
+/// Errors: `Form` if a line is no report, `NotOrdered` if a report names an agent without an order, `Ended` if no line is left, `Input` if
+/// one cannot be read; `Write` if orders or the closing lines cannot be told; `ReportLimit` if actions are left after `MOST_REPORTS`
+/// reports.
 pub fn dispatch<P: ProgramView, F: Floor>(
     fleet: &mut Fleet<'_, P>,
     floor: &mut F,

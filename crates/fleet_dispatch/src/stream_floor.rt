@@ -26,6 +26,7 @@ pub struct StreamFloor<R: Read, O: Flush> {
 }
 
 impl<R: Read, O: Flush> StreamFloor<R, O> {
+    /// A floor that hears the lines of `input`, and tells over `orders`.
     pub fn new(input: R, orders: O) -> StreamFloor<R, O>
         requires { IsWorking (O.state orders) }
         ensures { ⟦<StreamFloor<R, O> as Floor>⟧.works result }
@@ -55,7 +56,8 @@ fn without_cr(line: &[u8]) -> &[u8]
     }
 }
 
-/// Reads until a line ends in the window, and answers where; at the end of the input nowhere.
+/// Reads until a line ends in the window, and answers where; nowhere at the end of the input. A line that the window cannot hold is no
+/// report.
 fn find_line<R: Read>(input: &mut R, window: &mut Window) -> Result<Option<usize>, HearFault>
     ensures { FindsLine (R.remaining input.old) (R.remaining input.new) (unpassed window.old) (unpassed window.new) result }
 {
@@ -157,7 +159,7 @@ impl<R: Read, O: Flush> Floor for StreamFloor<R, O> {
     ghost joined = { λ f g h before after. takes_turns_more _ _ _ before after };
 }
 
-/// What is read is what the input gives past the bytes that were read for lines.
+/// Reads the input on, behind the bytes that were read for lines.
 impl<R: Read, O: Flush> Read for StreamFloor<R, O> {
     ghost remaining = { λ f. R.remaining f.input };
 

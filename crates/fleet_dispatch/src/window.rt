@@ -22,7 +22,7 @@ pub struct Window {
 impl Window {
     ghost use Rattle.fleet_dispatch.specs.Window.{unpassed, room_of};
 
-    /// A window in which nothing is.
+    /// A window without bytes.
     pub fn new() -> Window
         ensures { unpassed result ≡ [] }
     {
@@ -40,7 +40,7 @@ impl Window {
         &self.bytes[self.start..self.end]
     }
 
-    /// Passes the first bytes.
+    /// Passes so many bytes, the first ones.
     pub fn pass(&mut self, count: usize)
         requires { count ≤ length (unpassed self.old) }
         ensures { unpassed self.new ≡ drop count (unpassed self.old) }
@@ -48,7 +48,7 @@ impl Window {
         self.start += count;
     }
 
-    /// Makes all the room that there is behind the bytes that are not yet passed.
+    /// Moves the bytes that are not yet passed to the front, so that all other room is behind them.
     pub fn move_to_front(&mut self)
         ensures bytes { unpassed self.new ≡ unpassed self.old }
         ensures room { room_of self.new + length (unpassed self.new) ≡ LINE_ROOM }
@@ -59,7 +59,7 @@ impl Window {
         self.end = end - start;
     }
 
-    /// Reads once, into the room behind. Answers how many bytes came.
+    /// Reads once, into the room behind. Answers how many bytes came: none at the end of the input, or if there is no room.
     pub fn read_from<R: Read>(&mut self, input: &mut R) -> io::Result<usize>
         ensures read { IfOk result (λ n. (more : List ℕ) × (length more ≡ n) × (unpassed self.new ≡ unpassed self.old ++ more)
             × Consumes (R.remaining input.old) (R.remaining input.new) more) }

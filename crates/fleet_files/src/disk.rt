@@ -12,6 +12,7 @@ pub struct Disk<'r, R: rt::Files> {
 }
 
 impl<'r, R: rt::Files> Disk<'r, R> {
+    /// The files that the runtime gives.
     pub fn new(runtime: &'r R) -> Disk<'r, R> {
         Disk { runtime }
     }

@@ -20,8 +20,8 @@ pub trait Files {
     /// Whether a write of the named file may end in this fault.
     ghost refuses_write: { Self → List ℕ → FileFault → Type 0 } = { λ _ _ _. ⊤ };
 
-    /// The whole file. `Failed` where it cannot be read, or has more than `MOST_BYTES` bytes; of a store that tells, only where there is no
-    /// such file or it has that many.
+    /// The whole file. `Failed` if it cannot be read or has more than `MOST_BYTES` bytes; a store that says what it holds answers
+    /// so only if there is no such file or it has more.
     fn read(&mut self, alloc: Global, name: &str) -> Result<Vec<u8>, FileFault>
         ensures bytes { IfOk result (λ bytes. HoldsBytes (contents self.old) name.now bytes.items) }
         ensures within { IfOk result (λ bytes. length bytes.items ≤ MOST_BYTES) }
@@ -29,7 +29,7 @@ pub trait Files {
         ensures unreadable { result ≡ Err FileFault.Failed → IsUnreadable (contents self.old) name.now }
         ensures kept { AreUnchanged (contents self.old) (contents self.new) };
 
-    /// Makes the file hold the bytes. After `Failed` it may hold any bytes.
+    /// Makes the file hold the bytes. After a refusal it may hold any bytes.
     fn write(&mut self, name: &str, bytes: &[u8]) -> Result<(), FileFault>
         ensures replaced { OnOk result (Replaces (contents self.old) (contents self.new) name.now bytes.now) }
         ensures refused { IfErr result (refuses_write self.old name.now) }

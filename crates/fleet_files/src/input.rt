@@ -11,7 +11,7 @@ use thiserror::Error;
 pub enum FileFault {
     #[error("out of memory")]
     OutOfMemory,
-    /// It cannot be read or written, or has more bytes than are read.
+    /// It cannot be read or written, or has more than `MOST_BYTES` bytes.
     #[error("the file cannot be read or written")]
     Failed,
 }
@@ -46,7 +46,7 @@ impl From<InputStop> for FileFault {
     }
 }
 
-/// All bytes of the reader, at most `MOST_BYTES`.
+/// All bytes of the reader, unless they are more than `MOST_BYTES`.
 fn read_to_limit<R: Read>(alloc: Global, reader: &mut R) -> Result<Vec<u8>, InputStop>
     ensures whole { IfOk result (λ bytes. IfSome (R.remaining reader.old) (λ rest. bytes.items ≡ rest)) }
     ensures within { IfOk result (λ bytes. length bytes.items ≤ MOST_BYTES) }
@@ -71,7 +71,7 @@ fn read_to_limit<R: Read>(alloc: Global, reader: &mut R) -> Result<Vec<u8>, Inpu
     }
 }
 
-/// All bytes of the reader. A read that fails or is interrupted, or more bytes than `MOST_BYTES`, is `Failed`.
+/// All bytes of the reader. Errors: `Failed` if a read fails or is interrupted, or if there are more than `MOST_BYTES` bytes.
 pub fn read_whole<R: Read>(alloc: Global, reader: &mut R) -> Result<Vec<u8>, FileFault>
     ensures whole { IfOk result (λ bytes. IfSome (R.remaining reader.old) (λ rest. bytes.items ≡ rest)) }
     ensures within { IfOk result (λ bytes. length bytes.items ≤ MOST_BYTES) }

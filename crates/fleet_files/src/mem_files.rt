@@ -62,7 +62,7 @@ impl Files for MemFiles {
 
     ghost refuses_write = { λ _ _ fault. fault ≡ OutOfMemory };
 
-    /// `Failed` only where there is no such file, or where it has more than `MOST_BYTES` bytes.
+    /// `Failed` only if there is no such file, or if it has more than `MOST_BYTES` bytes.
     fn read(&mut self, alloc: Global, name: &str) -> Result<Vec<u8>, FileFault>
         ensures bytes { IfOk result (λ bytes. file_in self.old name.now ≡ Some bytes.items) }
         ensures within { IfOk result (λ bytes. length bytes.items ≤ MOST_BYTES) }

@@ -35,7 +35,7 @@ impl TraceOut for Counter {
 
 // ---- sources
 
-/// A source that holds nobody for some ticks, and then fails.
+/// A source that holds nobody for some ticks, and then fails so.
 #[derive(Drop)]
 pub struct FailingSource {
     ticks: u8,
@@ -65,6 +65,7 @@ impl HoldSource for FailingSource {
     }
 }
 
+/// A source that holds nobody for so many ticks, and then fails so.
 pub fn failing_source(ticks: u8, kind: SourceFault) -> FailingSource
     ensures { result.failed ≡ false }
 {
@@ -86,6 +87,7 @@ pub enum Failing {
     IsBroken,
 }
 
+/// The error of a stream that fails so.
 fn error_of(failing: Failing) -> io::Error {
     match failing {
         Failing::IsInterrupted => io::Error::from(io::ErrorKind::Interrupted),
@@ -121,6 +123,7 @@ impl<'a> Write for ShortWriter<'a> {
     }
 }
 
+/// A writer that takes one byte at a time, so many in all, and then fails so. No flush of it succeeds.
 pub fn short_writer<'a>(bytes: &'a mut Vec<u8>, room: usize, failing: Failing) -> ShortWriter<'a> {
     ShortWriter {
         bytes,

@@ -19,7 +19,7 @@ pub fn rows<'a>(alloc: Global, text: &'a [u8]) -> Result<Vec<&'a [u8]>, AllocErr
     Ok(rows)
 }
 
-/// What stands before the first of these bytes, and what after it; all and nothing where there is none.
+/// The text before the first such byte, and the text after it; the whole text and nothing if there is none.
 pub fn parted(text: &[u8], byte: u8) -> (&[u8], &[u8]) {
     for (at, each) in text.iter().enumerate() {
         if *each == byte {
@@ -80,7 +80,7 @@ pub fn parts<'a>(alloc: Global, text: &'a [u8]) -> Result<Vec<Part<'a>>, AllocEr
     Ok(parts)
 }
 
-/// The value of a hexadecimal digit.
+/// The value of a hexadecimal digit, whose letters are capital.
 fn digit(byte: u8) -> u8 {
     match byte {
         b'0'..=b'9' => byte.saturating_sub(b'0'),
@@ -88,7 +88,7 @@ fn digit(byte: u8) -> u8 {
     }
 }
 
-/// What comes next in a text with escapes.
+/// The byte that comes next in a text with escapes: one by itself, the one behind `\`, or the first or the second digit behind `\x`.
 #[derive(Clone, Copy)]
 enum Next {
     Byte,
@@ -97,7 +97,8 @@ enum Next {
     Low(u8),
 }
 
-/// The bytes that the text stands for: `\n`, `\r`, `\t`, `\0` and `\xFF` are one byte each, and a line that ends in `\` has no end.
+/// The bytes that the text stands for: `\n`, `\r`, `\t`, `\0` and `\xFF` (of any two digits) are one byte each, and a line that ends in
+/// `\` goes on with the next one.
 pub fn unescaped(alloc: Global, text: &[u8]) -> Result<Vec<u8>, AllocError> {
     let mut bytes = Vec::new(alloc);
     let mut next = Next::Byte;
@@ -124,7 +125,7 @@ pub fn unescaped(alloc: Global, text: &[u8]) -> Result<Vec<u8>, AllocError> {
     Ok(bytes)
 }
 
-/// The byte that stands as this one behind `\`.
+/// The byte for which this one stands behind `\`.
 fn escaped(byte: u8) -> u8 {
     match byte {
         b'n' => b'\n',

@@ -3,11 +3,13 @@
 use fleet_files::MemFiles;
 use std::alloc::{AllocError, Global};
 
+/// A row of 256 cells.
 fn map(alloc: Global) -> Result<String, AllocError> {
     let row = ".".repeat(alloc, 256)?;
     format!(in alloc; "type octile\nheight 1\nwidth 256\nmap\n{row}\n")
 }
 
+/// Agent k goes from column 127 - k to column 255 - k.
 fn scen(alloc: Global) -> Result<String, AllocError> {
     let mut text = String::from_str(alloc, "version 1\n")?;
     for k in 0..128u16 {
@@ -29,7 +31,7 @@ fn plan(alloc: Global) -> Result<String, AllocError> {
     Ok(text)
 }
 
-/// Its files, by the names of the worked fleets. None without memory.
+/// Its files: `map`, `scen` and `plan`. None without memory.
 pub fn train_files(alloc: Global) -> Option<MemFiles> {
     let mut files = MemFiles::new(alloc);
     files.put("map", map(alloc).ok()?.as_bytes()).ok()?;

@@ -23,7 +23,7 @@ version 1
 % pair.program
 4D504631 0002 0001 0000 0003 0000 0002 01 01
     0000 0000 0002 0000 0002 10 0000 0001 01 10 0000 0002 01
-# .. in hexadecimal, and holds of agent 0 in the first tick, and of nobody's in the third
+# .. in hexadecimal, and holds of agent 0 in the first tick, and holds whose third line names no agent of the pair
 : pair.hex
 4D504631 0002 0001 0000 0003 0000 0002 01 01
     0000 0000 0002 0000 0002 10 0000 0001 01 10 0000 0002 01
@@ -47,11 +47,11 @@ version 1
 % deadlock.program
 4D504631 0002 0001 0000 0003 0000 0002 10 0001 0001 01 01
     0000 0000 0002 0000 0002 10 0000 0001 01 01
-# .. its program as text, its runs and rehearsals where nobody is held, and where agent 0 is in the first tick
-# .. and where both stay for two actions after their moves
+# .. where both stay for two actions after their moves
 % staying.program
 4D504632 0002 0001 0000 0003 0000 00000004 01 01 04 04
     0000 0000 0002 0000 00000004 10 0000 00000001 01 10 0000 00000002 01 04 04
+# .. the pair's program as text, its runs and rehearsals with nobody held, and with agent 0 held in the first tick
 : pair.list
 agent 0: 1,0 to 3,0
 0:1 east to 2,0

@@ -15,6 +15,7 @@ pub record Ground : Type 0 where
 abbrev pub cell_at : Ground → ℕ → ℕ → Bool
 cell_at g x y = get_or (get_or g.rows y []) x false
 
+-- the same by column and row of a place of the plane
 abbrev pub passable_at : Ground → ℤ → ℤ → Bool
 passable_at g (pos x) (pos y) = cell_at g x y
 passable_at g (pos x) (negsuc y) = false

@@ -16,6 +16,7 @@ after_keyword keyword (first ∷ []) = None
 after_keyword keyword (first ∷ word ∷ []) = if bytes_eq first keyword then Some word else None
 after_keyword keyword (first ∷ word ∷ third ∷ more) = None
 
+-- the keyword, and no other word
 abbrev pub is_alone : Bytes → List Bytes → Bool
 is_alone keyword [] = false
 is_alone keyword (first ∷ []) = bytes_eq first keyword
@@ -25,10 +26,11 @@ is_alone keyword (first ∷ second ∷ more) = false
 unfoldable pub field : Bytes → Bytes → Option Bytes
 field keyword line = after_keyword keyword (words_from_front line)
 
--- .. and its number, where the word spells one
+-- .. and its number, if the word spells one
 unfoldable pub number_field : Bytes → Bytes → Option ℕ
 number_field keyword line = option_and_then number (field keyword line)
 
+-- a side of a map
 abbrev pub is_side : ℕ → Bool
 is_side n = nat_le 1 n && nat_le n MAX_SIDE
 

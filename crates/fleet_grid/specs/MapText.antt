@@ -12,16 +12,19 @@ use Rattle.fleet_grid.specs.Ground.{Ground, IsSide}
 abbrev pub line_at : List Bytes → ℕ → Bytes
 line_at ls k = get_or ls k []
 
--- `.`, `G` and `S` are passable, `@`, `O`, `T` and `W` are not; nothing else is a glyph
+-- `.`, `G` or `S`: the glyph of a passable cell
 abbrev pub is_ground_glyph : ℕ → Bool
 is_ground_glyph b = (b == 46) || (b == 71) || (b == 83)
 
+-- `@`, `O`, `T` or `W`: the glyph of a cell that is not passable
 abbrev pub is_blocked_glyph : ℕ → Bool
 is_blocked_glyph b = (b == 64) || (b == 79) || (b == 84) || (b == 87)
 
+-- one of these; nothing else is a glyph
 abbrev pub is_glyph : ℕ → Bool
 is_glyph b = is_ground_glyph b || is_blocked_glyph b
 
+-- none of these
 abbrev pub is_no_glyph : ℕ → Bool
 is_no_glyph b = not (is_glyph b)
 
@@ -68,13 +71,13 @@ pub record AreMapRows (w n : ℕ) (ls : List Bytes) : Type 0 where
   pub count : n ≤ length ls
   pub rows : All (IsGlyphRow w) (take n ls)
 
--- nothing shows in these lines
+-- these lines are empty but for spaces, tabs and CRs
 abbrev pub AreEmpty : List Bytes → Type 0
 AreEmpty ls = All (AllPass is_row_space) ls
 
 -- ---- a map text
 
--- a header, then a row of glyphs for each row of the ground, and then nothing that shows
+-- a header, then a row of glyphs for each row of the ground, and then only lines that are empty but for spaces, tabs and CRs
 pub record AreMapLines (ls : List Bytes) (g : Ground) : Type 0 where
   pub header : IsSizedHeader ls g.width g.height
   pub rows : AreMapRows g.width g.height (drop 4 ls)
@@ -94,7 +97,7 @@ HasForm ls (suc zero) = (h : ℕ) × IsNumberLine (codes "height") (line_at ls 1
 HasForm ls (suc (suc zero)) = (w : ℕ) × IsNumberLine (codes "width") (line_at ls 2) w
 HasForm ls (suc (suc (suc k))) = IsMapLine (line_at ls 3)
 
--- line k of the header, counted from 0, is the first that has not its form
+-- line k of the header, counted from 0, is the first without its form
 pub record IsFirstWithoutForm (ls : List Bytes) (k : ℕ) : Type 0 where
   pub within : k < 4
   pub before : (i : ℕ) → i < k → HasForm ls i
@@ -117,5 +120,6 @@ IsFirstMapLineFault ls (Glyph row column) =
     (w h : ℕ) × IsMapRightUpTo row ls w h × (4 + row < length ls) × (length (line_at ls (4 + row)) ≡ w) × (position is_no_glyph (line_at ls (4 + row)) ≡ Some column)
 IsFirstMapLineFault ls Trailing = (w h : ℕ) × IsSizedHeader ls w h × AreMapRows w h (drop 4 ls) × (AreEmpty (drop (4 + h) ls) → ⊥)
 
+-- the same of a text
 abbrev pub IsFirstMapFault : Bytes → MapFault → Type 0
 IsFirstMapFault text fault = IsFirstMapLineFault (lines text) fault

@@ -87,13 +87,13 @@ impl Grid {
         is_set(self.cells.bytes[place], (x % 8) as u8)
     }
 
-    /// The neighbouring cell, where it is on the map and passable.
+    /// The neighbouring cell in a direction, if it is on the map and passable.
     pub fn neighbour(&self, cell: Cell, dir: Dir) -> Option<Cell>
         ensures some { IfSome result (λ next. (place_of next ≡ moved (place_of cell) dir) × IsTrue (is_passable self.now (place_of next))) }
         ensures on_map { IfSome result (λ next. (next.x < self.now.width) × (next.y < self.now.height)) }
         ensures none { IfNone result (is_passable self.now (moved (place_of cell) dir) ≡ false) }
     {
-        // A field that is read shows that a side is at most 4,096, so where the numbers of a cell end no map goes on.
+        // Reading a field brings the invariant: a side is at most 4,096, so a map ends before the numbers of a cell do.
         let _ = &self.width;
         let next = beside(cell, dir)?;
         if self.passable(next) {
@@ -114,7 +114,7 @@ impl Grid {
     }
 }
 
-/// The neighbouring cell, where its numbers are in range.
+/// The neighbouring cell in a direction, if its numbers are in range.
 fn beside(cell: Cell, dir: Dir) -> Option<Cell>
     ensures some { IfSome result (λ next. place_of next ≡ moved (place_of cell) dir) }
     ensures none { IfNone result (IsNoCell (moved (place_of cell) dir)) }

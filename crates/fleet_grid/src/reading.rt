@@ -45,6 +45,7 @@ fn number_field(keyword: &[u8], line: &[u8]) -> Option<u32>
     number_of(field(keyword, line)?)
 }
 
+/// Whether a header line has its keyword and no other word.
 fn is_alone(keyword: &[u8], line: &[u8]) -> bool
     ensures { result ≡ is_alone keyword.now (words_from_front line.now) }
 {
@@ -60,7 +61,7 @@ fn is_side(n: u32) -> bool
     (1..=MAX_SIDE).contains(&n)
 }
 
-/// Width and height.
+/// Width and height, by the first four lines.
 #[tactic(auto, unfolding(crate::specs::MapReading::header_at))]
 fn header_of(lines: &mut Cursor) -> Result<(u16, u16), MapFault>
     ensures value { result ≡ header_at lines.old }
@@ -85,7 +86,7 @@ fn header_of(lines: &mut Cursor) -> Result<(u16, u16), MapFault>
     Ok((width as u16, height as u16))
 }
 
-/// Whether the line is a row of the map.
+/// Judges a line as a row of the map: its length, and then its glyphs.
 #[tactic(auto, unfolding(crate::specs::MapReading::row_at))]
 fn judge_row(width: u16, row: u16, line: &[u8]) -> Result<(), MapFault>
     ensures value { IsDueUnless (λ _. cells_of line.now) result (row_at width row line.now) MapFault.OutOfMemory }
@@ -108,7 +109,7 @@ fn cells_of(alloc: Global, width: u16, height: u16, lines: &mut Cursor) -> Resul
     ensures value { IsDueUnless (λ c. ((ground_of width height c.bytes.items).rows, lines.new)) result (rows_at height width 0 lines.old) MapFault.OutOfMemory }
     ensures stored { IfOk result (λ c. IsStored width height c.passable_count c.bytes.items) }
 {
-    // Each byte of cells comes from bytes of the text, so sizes beyond the text reserve nothing for themselves.
+    // Each byte of cells comes from bytes of the text, so sizes that the text cannot fill reserve no more than it can.
     let mut cells = Cells::with_capacity(alloc, width, height, lines.bytes_left())?;
     for row in 0..height {
         let Some(line) = lines.next_line() else {
@@ -120,7 +121,7 @@ fn cells_of(alloc: Global, width: u16, height: u16, lines: &mut Cursor) -> Resul
     Ok(cells)
 }
 
-/// Whether nothing that shows is left.
+/// Whether the lines that are left are empty but for spaces, tabs and CRs.
 fn is_ended(lines: &mut Cursor) -> bool
     ensures { result ≡ list_all (list_all is_row_space) lines.old }
 {
@@ -132,6 +133,7 @@ fn is_ended(lines: &mut Cursor) -> bool
     true
 }
 
+/// Whether a line is empty but for these.
 fn is_empty(line: &[u8]) -> bool
     ensures { result ≡ list_all is_row_space line.now }
 {

@@ -10,7 +10,7 @@ use fleet_text::BLOCK;
 use std::alloc::{AllocError, Global};
 use std::simd::prelude::*;
 
-/// Rows of cells, eight cells to a byte, the first in the lowest bit. A bit is set where the cell is passable, and each
+/// Rows of cells, eight cells to a byte, the first in the lowest bit. A set bit is a passable cell, and each
 /// row begins with a byte of its own.
 #[derive(Debug, Drop)]
 pub(crate) struct Cells {
@@ -75,8 +75,8 @@ impl Cells {
         Ok(())
     }
 
-    /// Adds the bytes that keep the first so many glyphs of a block, the others of which are blocked. In line, since of
-    /// a whole block the length is then known.
+    /// Adds the bytes that keep the first `len` glyphs of a block, the others of which are blocked. It is inlined, so that
+    /// the length of a whole block is known where it is called.
     #[inline(always)]
     fn put_block(&mut self, block: &[u8; BLOCK], len: usize) -> Result<(), AllocError>
         requires len { len ≤ BLOCK }

@@ -25,8 +25,8 @@ unfailed out = record { taken = out.taken; has_failed = false; is_flushed = out.
 abbrev pub IsLost : Program → (source source' : SourceState) (out out' : SinkState) → Type 0
 IsLost p source source' out out' = HasFailed out' × ((ran : Result Rehearsal RunFault) × Rehearses p source source' out (unfailed out') ran)
 
--- A rehearsal, and the flush after it. Where it answers, its text was written and handed on. Its refusal is the rehearsal's, and
--- what was written is handed on, unless the sink failed; or it is `Write`, since what was written could not be handed on.
+-- A rehearsal, and the flush after it. If it answers, its text was written and handed on. Its refusal is the rehearsal's, and all
+-- that was written is handed on, unless the sink failed; or it is `Write`, since the text that was written could not be handed on.
 abbrev pub RehearsesFlushed : Program → (source source' : SourceState) (out out' : SinkState) → Result Rehearsal RunFault → Type 0
 RehearsesFlushed p source source' out out' (Ok r) = IsRehearsed p source source' out out' r × (out'.is_flushed ≡ true)
 RehearsesFlushed p source source' out out' (Err fault) =

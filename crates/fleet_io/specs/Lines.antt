@@ -18,7 +18,7 @@ use Rattle.fleet_auto.specs.declared.fault.AcceptFault.TheVariants as b
 use Rattle.fleet_io.specs.declared.fault.Fault.{Fault}
 use Rattle.fleet_io.specs.declared.fault.Fault.TheVariants as f
 
--- the words of its line
+-- the words of the line of a refusal
 abbrev pub words_of : Fault → List (List ℕ)
 words_of (f.Map fault) = map_words fault
 words_of (f.Scen fault) = scen_words fault
@@ -54,7 +54,7 @@ is_failure_of (f.Dispatch fault) = is_dispatch_failure fault
 is_failure_of f.Memory = true
 is_failure_of (f.File _) = true
 
--- 3 where memory, a file, the source or the sink failed, and 1 for every other refusal
+-- 3 if memory, a file, the source or the sink failed, and 1 for every other refusal
 abbrev pub status_of : Fault → ℕ
 status_of fault = if is_failure_of fault then 3 else 1
 

@@ -8,7 +8,7 @@ use Rattle.fleet_files.specs.declared.input.FileFault.TheVariants.{OutOfMemory, 
 use Rattle.fleet_io.specs.declared.fault.Fault.{Fault}
 use Rattle.fleet_io.specs.declared.fault.Fault.TheVariants as f
 
--- what the store refuses is told as it is: want of memory so, and a failed access by the file's name
+-- the store's refusal is reported as it is: want of memory as such, and a failed access by the file's name
 abbrev pub IsRefusedAs : (refuses : FileFault → Type 0) → List ℕ → Fault → Type 0
 IsRefusedAs refuses name f.Memory = refuses OutOfMemory
 IsRefusedAs refuses name (f.File n) = (name ≡ n.now) × refuses Failed
@@ -37,10 +37,11 @@ AreRead files [] [] = Unit {0}
 AreRead files (name ∷ names) (bytes ∷ rest) = IsRead files name bytes × AreRead files names rest
 AreRead files _ _ = ⊥
 
--- names, and bytes, as they stand
+-- the names as they stand
 abbrev pub texts_of : List (Bor (List ℕ)) → List (List ℕ)
 texts_of names = map (λ name. name.now) names
 
+-- the bytes that were read
 abbrev pub items_of : List (Vec ℕ Global) → List (List ℕ)
 items_of read = map (λ bytes. bytes.items) read
 
@@ -48,12 +49,12 @@ items_of read = map (λ bytes. bytes.items) read
 abbrev pub given_name : Option (Bor (List ℕ)) → Option (List ℕ)
 given_name name = option_map (λ n. n.now) name
 
--- the name of the file of the holds, where one is named
+-- the name of the file of the holds, if one is named
 abbrev pub hold_names : Option (List ℕ) → List (List ℕ)
 hold_names None = []
 hold_names (Some name) = name ∷ []
 
--- the bytes of the holds: those of the named file, or none where none is named
+-- the bytes of the holds: those of the named file, or none if none is named
 abbrev pub AreHoldBytes : Option Store → Option (List ℕ) → List ℕ → Type 0
 AreHoldBytes files None bytes = bytes ≡ []
 AreHoldBytes files (Some name) bytes = IsRead files name bytes

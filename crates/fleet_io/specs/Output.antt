@@ -11,7 +11,7 @@ use Rattle.fleet_run.specs.declared.run.End.TheVariants.{Finished, Stuck}
 use Rattle.fleet_io.specs.declared.fault.Fault.{Fault}
 use Rattle.fleet_io.specs.declared.fault.Fault.TheVariants as f
 
--- the refusal was told: the sink took its line, or failed within it
+-- the refusal was reported: the sink took its line, or failed within it
 abbrev pub IsRefusalTold : Fault → (err err' : SinkState) → Type 0
 IsRefusalTold fault err err' = Receives err err' (refusal_line fault)
 
@@ -22,13 +22,13 @@ pub record WritesRehearsal (p : Program) (holds : Holds) (out out' : SinkState) 
   pub ends_so : run_end p (run p holds ticks) ≡ Some end
   pub delivered : IsDelivered out out' (rehearsal_text p holds ticks)
 
--- the command is done with this status, and nothing was told; or its refusal was told, and the refusal's status is answered
+-- the command is done with this status, and nothing was reported; or its refusal was reported, and the refusal's status is answered
 abbrev pub Finishes : Result ℕ Fault → (err err' : SinkState) → ℕ → Type 0
 Finishes (Ok done) err err' status = (status ≡ done) × IsUnwritten err err'
 Finishes (Err fault) err err' status = IsRefusalTold fault err err' × (status ≡ status_of fault)
 
--- What becomes of a command, by what it does with a status and what refusals it may have: it was done, and nothing was told; or a
--- refusal was told, and the refusal's status is answered
+-- What becomes of a command, by what it does with a status and what refusals it may have: it was done, and nothing was reported; or a
+-- refusal was reported, and the refusal's status is answered
 abbrev pub Outcome : (Does : ℕ → Type 0) → (Refuses : Fault → Type 0) → (err err' : SinkState) → ℕ → Type 0
 Outcome Does Refuses err err' status =
     (Does status × IsUnwritten err err')

@@ -12,8 +12,8 @@ use Rattle.fleet_io.specs.Flushed.{unfailed}
 abbrev pub IsLostTrace : Program → ℕ → (held : List ℕ) → (out out' : SinkState) → Type 0
 IsLostTrace p chain held out out' = HasFailed out' × ((ran : Result Report RunFault) × Traces p chain held out (unfailed out') ran)
 
--- A run, and the flush after it. Where it answers, its trace was written and handed on. Its refusal is the run's, and what was written is
--- handed on, unless the sink failed; or it is `Write`, since what was written could not be handed on.
+-- A run, and the flush after it. If it answers, its trace was written and handed on. Its refusal is the run's, and all that was written is
+-- handed on, unless the sink failed; or it is `Write`, since the text that was written could not be handed on.
 abbrev pub TracesFlushed : Program → ℕ → (held : List ℕ) → (out out' : SinkState) → Result Report RunFault → Type 0
 TracesFlushed p chain held out out' (Ok r) = WritesTrace p chain held out out' r × (out'.is_flushed ≡ true)
 TracesFlushed p chain held out out' (Err fault) =

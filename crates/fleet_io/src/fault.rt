@@ -36,7 +36,7 @@ pub enum Fault<'a> {
     File(&'a str),
 }
 
-/// The fault of a step, with its own status and line. Want of memory in any step is `Memory`.
+/// The fault of a step, with its own line and status. Want of memory in any step is `Memory`.
 impl From<AutoFault> for Fault<'_> {
     ghost use Rattle.std.specs.Prelude.{◌≡◌};
     ghost use Rattle.fleet_io.specs.Lines.{step_fault};
@@ -114,15 +114,15 @@ impl Refusal for Fault<'_> {
 }
 
 impl Fault<'_> {
-    /// 3 where memory, a file, the source or the sink failed, and 1 for every other refusal.
+    /// 3 if memory, a file, the source or the sink failed, and 1 for every other refusal.
     pub fn status(&self) -> u8
         ensures { result ≡ status_of self.now }
     {
         if self.is_failure() { 3 } else { 1 }
     }
 
-    /// Writes the refusal's line: the part, the refusal's number, its name, then each field's name and value. Where the sink
-    /// fails it has taken a proper prefix.
+    /// Writes the refusal's line: the part, the refusal's number, its name, then each field's name and value. If the sink fails, it
+    /// has taken a proper prefix of the line.
     pub fn tell<E: TraceOut>(&self, err: &mut E)
         requires { IsWorking (E.state err.old) }
         ensures { Receives (E.state err.old) (E.state err.new) (refusal_line self.now) }

@@ -20,7 +20,7 @@ pub fn deliver<O: Flush>(out: &mut O, bytes: &[u8]) -> Result<(), OutFault>
     out.flush()
 }
 
-/// Has the sink of a run hand on what was written. A flush that fails is a failed write.
+/// Has the sink of a run hand on all that was written, unless it has failed. A flush that fails is a failed write.
 pub fn flush_run<T: Drop, O: Flush>(out: &mut O, ran: Result<T, RunFault>) -> Result<T, RunFault>
     ensures { FlushesRun (O.state out.old) (O.state out.new) ran result }
 {

@@ -46,7 +46,7 @@ pub fn read_files<'a, F: Files>(
     Ok(read)
 }
 
-/// The bytes of the holds, none where no file is named.
+/// The bytes of the holds, none if no file is named.
 fn read_holds<'a, F: Files>(
     alloc: Global,
     files: &mut F,

@@ -37,11 +37,7 @@ module _ (text : ℕ → List ℕ) (before mid after : SinkState) (i : ℕ) (so_
       let whole : (texts_below text i ++ text i) ++ s.0 ≡ texts_below text n = ap (λ (xs : List ℕ). xs ++ s.0) more ∙ sym s.1 in
       subst (StopsWithin before after) whole within
 
--- an action without awaits has no word of them, and any other has the word before them
-pub no_awaits : (awaits : List Await) → length awaits ≡ 0 → await_words awaits ≡ []
-no_awaits [] none = refl
-no_awaits (w ∷ awaits) none = absurd (omega (arith, none))
-
+-- an action with awaits has the word before them
 pub some_awaits : (awaits : List Await) → length awaits ≢ 0 → await_words awaits ≡ codes "after" ∷ map await_text awaits
 some_awaits [] some = absurd (some refl)
 some_awaits (w ∷ awaits) some = refl

@@ -16,13 +16,13 @@ is_bit words i = bit_at (slice_index words (i / 64)) (i % 64) == 1
 abbrev pub flags_in : List ℕ → ℕ → List Bool
 flags_in words n = map (is_bit words) (indices n)
 
--- words for all agents that there can be, with no bit for another than the first n
+-- words for all agents that there can be, with bits for the first n alone
 pub record AreBits (words : List ℕ) (n : ℕ) : Type 0 where
   pub few : n ≤ MAX_AGENTS
   pub long : length words ≡ MAX_AGENTS / 64 + 1
   pub rest : (i : ℕ) → n ≤ i → is_bit words i ≡ false
 
--- bit k of the marks is clear exactly where word k has no bit
+-- bit k of the marks is clear exactly if word k has no bit
 abbrev pub AreMarks : List ℕ → ℕ → Type 0
 AreMarks words marks = (k : ℕ) → k < 64 → (bit_at marks k ≡ 0) ↔ (slice_index words k ≡ 0)
 

@@ -11,7 +11,7 @@ all_but done i = not (done i)
 abbrev pub AreSent : Program → Configuration → (ℕ → Bool) → Type 0
 AreSent p c done = (i : ℕ) → i < length p → IsTrue (done i) → IsTrue (is_ready p c i)
 
--- the first of these agents that has none
+-- the first of these agents that has no order
 pub record IsFirstUnsent (p : Program) (c : Configuration) (done : ℕ → Bool) (i : ℕ) : Type 0 where
   pub agent : i < length p
   pub reported : done i ≡ true

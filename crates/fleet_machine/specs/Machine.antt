@@ -1,4 +1,4 @@
--- What contracts see of a machine, and which program it runs.
+-- The state of a machine as contracts see it, and the program that it runs.
 use Rattle.std.specs.Prelude.{◌≡◌, ℕ, ◌+◌, ◌<◌, Bool, false, nat_lt, List, length, map, get_or, Option, Some, None, slice_get}
 use Rattle.fleet_model.specs.Program.{Program, IsWellFormed, moves, awaits_of}
 use Rattle.fleet_model.specs.declared.program.Await.{Await}
@@ -10,9 +10,9 @@ use Rattle.fleet_machine.specs.WaitLists.{WaitState, home_of}
 abbrev pub flag_of : List Bool → ℕ → Bool
 flag_of flags i = get_or flags i false
 
--- the agents on their way, and flags for each: whether the last tick, or the one under way, moves it, whether it is ready, whether
--- an action is left to it, and whether the tick under way has to judge it anew. Who waits stands in the list of an agent whose
--- count it lacks. So many agents have been looked at
+-- the agents on their way, and flags for each: whether the last tick, or the one under way, moves it, whether it is
+-- ready, whether an action is left to it, and whether the tick under way has to judge it anew. An agent that waits
+-- stands in the list of one whose count it lacks. So many agents have been looked at
 pub record MachineState : Type 0 where
   pub configuration : Configuration
   pub moving : List Bool
@@ -22,7 +22,7 @@ pub record MachineState : Type 0 where
   pub waiting : WaitState
   pub looked : ℕ
 
--- an action is left to agent i
+-- agent i has an action left
 abbrev pub is_left : Program → Configuration → ℕ → Bool
 is_left p c i = nat_lt (count_at c i) (moves p i)
 
@@ -34,7 +34,7 @@ pub record Lacks (p : Program) (c : Configuration) (i j : ℕ) : Type 0 where
   pub agent : awaited.agent ≡ j
   pub unmet : is_met c awaited ≡ false
 
--- agent i belongs there: in the list of an agent whose count it lacks, or, where it is ready or has finished, in no list
+-- agent i belongs there: in the list of an agent whose count it lacks, or, if it is ready or has finished, in no list
 abbrev pub IsHome : Program → Configuration → ℕ → Option ℕ → Type 0
 IsHome p c i None = is_ready p c i ≡ is_left p c i
 IsHome p c i (Some j) = Lacks p c i j

@@ -15,7 +15,7 @@ is_on lists (Some j) = lists j
 abbrev pub if_not_on : (ℕ → Bool) → Option ℕ → Option ℕ
 if_not_on lists home = if is_on lists home then None else home
 
--- who stood in these lists stands in none and is to be judged, and nothing else is changed
+-- each agent that stood in these lists stands in none and is due, and nothing else is changed
 pub record IsWoken (lists : ℕ → Bool) (before after : MachineState) : Type 0 where
   pub same : after ≡ record before { due = after.due; waiting = record before.waiting { homes = after.waiting.homes } }
   pub long_due : length after.due ≡ length before.due
@@ -24,7 +24,8 @@ pub record IsWoken (lists : ℕ → Bool) (before after : MachineState) : Type 0
   pub due : (i : ℕ) → i < length before.due
       → flag_of after.due i ≡ (flag_of before.due i || is_on lists (home_of before.waiting.homes i))
 
--- the agents that a tick moves have moved, and are due, and nothing else is done yet of the tick in which these are held
+-- the agents that a tick moves have moved, and are due, and nothing else is done yet of the tick in which these are
+-- held
 pub record HasMoved (p : Program) (held : ℕ → Bool) (before after : MachineState) : Type 0 where
   pub runs : Runs p before
   pub same : after ≡ record before {
@@ -33,8 +34,8 @@ pub record HasMoved (p : Program) (held : ℕ → Bool) (before after : MachineS
     due = moving_flags p held before.configuration;
   }
 
--- after the tick in which these are held the machine runs the program, and so many agents were judged: those that it moved, and
--- some of those that await one of them
+-- after the tick in which these are held the machine runs the program, and so many agents were judged: those that it
+-- moved, and some of those that await one of them
 pub record IsCarriedOut (p : Program) (held : ℕ → Bool) (before after : MachineState) (judged : ℕ) : Type 0 where
   pub runs : Runs p after
   pub configuration : after.configuration ≡ tick p held before.configuration
@@ -44,7 +45,7 @@ pub record IsCarriedOut (p : Program) (held : ℕ → Bool) (before after : Mach
   pub most : judged ≤ moved_in p held before.configuration + awaiting_in p held before.configuration
   pub few : judged ≤ length p
 
--- agent i is flagged anew and stands where it belongs, and nothing else is changed
+-- agent i is flagged anew and stands in the list in which it belongs, and nothing else is changed
 pub record IsPlaced (p : Program) (before after : MachineState) (i : ℕ) : Type 0 where
   pub home : Option ℕ
   pub belongs : IsHome p before.configuration i home

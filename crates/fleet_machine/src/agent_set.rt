@@ -18,7 +18,7 @@ const WORDS: usize = MAX_AGENTS / WORD + 1;
 #[derive(Drop)]
 pub struct AgentSet {
     words: [u64; WORDS],
-    /// A bit for each word, set where the word has one.
+    /// A bit for each word: whether some bit of the word is set.
     filled: u64,
     agents: u16,
 }
@@ -87,7 +87,8 @@ fn without_bits(word: u64, others: u64) -> u64
     word & !others
 }
 
-/// Whether one of the flags of a stretch is set. It looks at all of them, which many processors do some at a time.
+/// Whether one of the flags of a stretch is set. It looks at all of them, since many processors look at several at
+/// once.
 fn is_any_set(flags: &[bool], from: usize, end: usize) -> bool
     requires { end ≤ length flags.now }
     ensures { result ≡ false → AreNoneIn flags.now from end }
@@ -99,7 +100,7 @@ fn is_any_set(flags: &[bool], from: usize, end: usize) -> bool
     is_any
 }
 
-/// Passes over stretches without a set flag from there on.
+/// The place after the stretches without a set flag that follow one another from this place on.
 fn past_clear(flags: &[bool], from: usize) -> usize
     requires { from + length flags.now < 2 ^ 32 }
     ensures later { from ≤ result }

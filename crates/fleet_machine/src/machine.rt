@@ -20,7 +20,7 @@ use fleet_model::{Await, Cell, MAX_AGENTS, Place, ProgramView, Standing, Step};
 use std::alloc::{AllocError, Global};
 use std::marker::Model;
 
-/// What a tick did: how many agents finished an action, and whether some ready agent was held.
+/// The outcome of a tick: how many agents finished an action, and whether some ready agent was held.
 #[derive(Clone, Copy, Debug, PartialEq, Eq)]
 pub struct Tick {
     pub moved: u16,
@@ -32,14 +32,14 @@ pub struct Tick {
 #[derive(Drop)]
 pub struct Machine {
     agents: Vec<Standing>,
-    /// Whom the last tick moved, or the one under way moves.
+    /// The agents that the last tick moved, or that the one under way moves.
     moving: AgentSet,
     ready: AgentSet,
-    /// Who has an action left.
+    /// The agents that have an action left.
     left: AgentSet,
-    /// Whom the tick under way has to judge anew.
+    /// The agents that the tick under way has to judge anew.
     due: AgentSet,
-    /// Who is not ready and has an action left stands in the list of an agent whose count it lacks.
+    /// An agent that is not ready and has an action left stands in the list of one whose count it lacks.
     waiting: WaitLists,
     looked: u64,
 }
@@ -164,7 +164,7 @@ impl Machine {
         self.looked
     }
 
-    /// An agent whose count agent `i` lacks for its next action.
+    /// An agent whose count agent `i` lacks for its next action, if it has one and lacks a count.
     #[tactic(auto, using(crate::proofs::Ready::awaited_agent, crate::proofs::Ready::one_more_met, crate::proofs::Lacking::none_left, crate::proofs::Lacking::no_home_if_none_left, crate::proofs::Lacking::all_met, crate::proofs::Lacking::home_if_all_met, crate::proofs::Lacking::one_lacked, crate::proofs::Lacking::home_if_lacked))]
     fn lacked<P: ProgramView>(&self, program: &P, i: u16) -> Option<u16>
         requires well_formed { IsWellFormed (P.program program.now) }
@@ -197,7 +197,7 @@ impl Machine {
         awaited.count <= self.agent(awaited.agent).count
     }
 
-    /// The step of the next action of agent `i`, where it is ready.
+    /// The step of the next action of agent `i`, if it is ready.
     pub fn order<P: ProgramView>(&self, program: &P, i: u16) -> Option<Step>
         requires runs { Runs (P.program program.now) self.now }
         requires agent { i < length (P.program program.now) }
@@ -209,7 +209,7 @@ impl Machine {
         Some(program.step(i, self.agent(i).count + 1))
     }
 
-    /// The first flagged agent that is not ready.
+    /// The first flagged agent that is not ready, if there is one.
     pub fn first_unsent<P: ProgramView>(&self, program: &P, done: &[bool]) -> Option<u16>
         requires runs { Runs (P.program program.now) self.now }
         requires done { length done.now ≡ length (P.program program.now) }
@@ -252,7 +252,7 @@ impl Machine {
         self.ready.next(from)
     }
 
-    /// The first agent from this one on to which an action is left.
+    /// The first agent from this one on that has an action left.
     fn next_left(&self, from: u16) -> Option<u16>
         ensures { MatchOption result
             (AreNoneFrom self.now.left from) (IsNextFrom self.now.left from) }
@@ -268,8 +268,8 @@ impl Machine {
         self.due.next(from)
     }
 
-    /// Flags whether an action is left to agent `i`, and whether it is ready. It stands in no list, and goes into that of the
-    /// agent whose count it lacks.
+    /// Flags whether agent `i`, which stands in no list, has an action left and whether it is ready, and puts it into
+    /// the list of the agent whose count it lacks.
     fn place(&mut self, i: u16, is_left: bool, lacked: Option<u16>)
         requires ready { i < length self.old.ready }
         requires left { i < length self.old.left }
@@ -349,7 +349,7 @@ impl Machine {
         count
     }
 
-    /// Takes the first agent off the list of agent `j`. It is due.
+    /// Takes the first agent off the list of agent `j`, if one stands there. It is due.
     fn wake_first(&mut self, j: u16) -> Option<u16>
         requires list { j < self.old.waiting.lists }
         requires due { length self.old.due ≡ length self.old.waiting.homes }
@@ -431,7 +431,7 @@ impl Machine {
         self.moving.clear();
     }
 
-    /// Who moves is due, and nobody else.
+    /// The agents that move are due, and no others.
     fn flag_due(&mut self)
         requires { length self.old.due ≡ length self.old.moving }
         ensures { self.new ≡ record self.old { due = self.old.moving } }
@@ -447,7 +447,7 @@ impl Machine {
         self.moving.set(i, true);
     }
 
-    /// Whoever is ready and not held finishes an action, and is due. Answers also how many were ready.
+    /// Each agent that is ready and not held finishes an action, and is due. Answers also how many were ready.
     fn advance<P: ProgramView>(&mut self, program: &P, held: &[bool]) -> (Tick, u16)
         requires runs { Runs (P.program program.now) self.old }
         requires held { length held.now ≡ length (P.program program.now) }
@@ -490,7 +490,8 @@ impl Machine {
         self.looked = self.looked.saturating_add(u64::from(agents));
     }
 
-    /// Takes all agents off the lists of those that a tick moved, and judges these and those. Answers how many they are.
+    /// Takes all agents off the lists of those that a tick moved, and judges those that it took off and those that
+    /// moved. Answers how many it judged.
     fn settle<P: ProgramView>(&mut self, program: &P) -> u16
         requires moved { (before : MachineState) × (held : ℕ → Bool) × HasMoved (P.program program.now) held before self.old }
         ensures { (before : MachineState) → (held : ℕ → Bool) → HasMoved (P.program program.now) held before self.old
@@ -500,8 +501,8 @@ impl Machine {
         self.judge_due(program)
     }
 
-    /// One tick, in which the flagged agents are held. It looks at those that are ready, and at those in the list of an agent
-    /// that it moves. Who moves was judged before the tick, and who is ready and held stays ready.
+    /// One tick, in which the flagged agents are held. It looks at those that are ready, and at those in the list of an
+    /// agent that it moves. An agent that moves was judged before the tick, and one that is ready and held stays ready.
     pub fn tick<P: ProgramView>(&mut self, program: &P, held: &[bool]) -> Tick
         requires runs { Runs (P.program program.now) self.old }
         requires held { length held.now ≡ length (P.program program.now) }
@@ -524,7 +525,7 @@ impl Machine {
         tick
     }
 
-    /// The flagged agents move, and are due, and nobody else.
+    /// The flagged agents move and are due, and no others.
     fn choose(&mut self, flags: &[bool])
         requires few { length flags.now ≤ MAX_AGENTS }
         requires moving { length self.old.moving ≡ length flags.now }
@@ -552,8 +553,8 @@ impl Machine {
         }
     }
 
-    /// The flagged agents, all of which are ready, finish their next actions: one tick, in which all others are held. It looks at
-    /// those, and at the agents in their lists, and at no others.
+    /// The flagged agents, all of which are ready, finish their next actions: one tick, in which all others are held.
+    /// It looks at those, and at the agents in their lists, and at no others.
     pub fn carry_out<P: ProgramView>(&mut self, program: &P, done: &[bool])
         requires runs { Runs (P.program program.now) self.old }
         requires done { length done.now ≡ length (P.program program.now) }

@@ -20,7 +20,7 @@ step_of Stay = Dwell
 abbrev pub steps_in : List StepCode → List Step
 steps_in codes = map step_of codes
 
--- the actions that have these steps, where so many awaits stand before those of the first
+-- the actions that have these steps, if so many awaits stand before those of the first
 abbrev pub actions_after : ℕ → List Step → List ℕ → List Await → List Action
 actions_after begin [] ends awaits = []
 actions_after begin (s ∷ steps) [] awaits = []
@@ -31,7 +31,7 @@ actions_after begin (s ∷ steps) (e ∷ ends) awaits =
 abbrev pub actions_in : List Step → List ℕ → List Await → List Action
 actions_in steps ends awaits = actions_after 0 steps ends awaits
 
--- each end is at least the one before, of which the first is at least begin and the last is n
+-- each end is at least the one before it, the first is at least begin, and the last is n
 abbrev pub RiseTo : ℕ → List ℕ → ℕ → Type 0
 RiseTo begin [] n = begin ≡ n
 RiseTo begin (e ∷ ends) n = (begin ≤ e) × RiseTo e ends n

@@ -6,7 +6,7 @@ use Rattle.fleet_model.specs.Geometry.{stepped}
 use Rattle.fleet_model.specs.Program.{Program}
 use Rattle.fleet_model.specs.Machine.{Configuration, Holds, is_among, is_held, indices, run, standing_at, place_at, count_at, next_action, is_ready}
 
--- the order that agent i may be given: the step of its next action, where it is ready
+-- the order that agent i may be given: the step of its next action, if it is ready
 abbrev pub order_of : Program → Configuration → ℕ → Option Step
 order_of p c i = if is_ready p c i then option_map (λ a. a.step) (next_action p c i) else None
 

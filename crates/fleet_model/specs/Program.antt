@@ -53,7 +53,7 @@ awaits_of p i n = option_map_or (λ a. a.awaits) (action_of p i n) []
 abbrev pub total_moves : Program → ℕ
 total_moves p = sum_by (λ a. length a.actions) p
 
--- how many awaits their actions have together
+-- how many awaits the actions of all agents have together
 abbrev pub total_awaits : Program → ℕ
 total_awaits p = sum_by (λ a. sum_by (λ s. length s.awaits) a.actions) p
 
@@ -89,7 +89,7 @@ pub record IsInRange (p : Program) (i : ℕ) (w : Await) : Type 0 where
 abbrev pub AreInRange : Program → Type 0
 AreInRange p = (i n : ℕ) (w : Await) → Contains (awaits_of p i n) w → IsInRange p i w
 
--- the awaits of an action of agent i, where there are n agents: in strictly rising order of agent, each of another agent that is
+-- the awaits of an action of agent i of n agents: in strictly rising order of agent, each of another agent that is
 -- there, with a count from 1 on that four bytes hold, which may be above the awaited agent's actions
 pub record AreAwaits (n i : ℕ) (awaits : List Await) : Type 0 where
   pub rising : IsStrictlyIncreasing (map (λ w. w.agent) awaits)

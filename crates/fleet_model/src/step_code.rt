@@ -5,7 +5,7 @@ ghost use Rattle.fleet_model.specs.ActionRows.{step_of};
 
 use crate::geometry::{Dir, Step};
 
-/// A step in one byte, where a `Step` takes two.
+/// A step in one byte; a `Step` takes two.
 #[derive(Clone, Copy, Debug)]
 pub(crate) enum StepCode {
     North,

@@ -13,7 +13,7 @@ unfoldable pub after_blanks : Bytes → Bytes
 after_blanks [] = []
 after_blanks (b ∷ text) = if is_blank b then after_blanks text else b ∷ text
 
--- the next word, where none goes on in front
+-- the text from the next word on, unless a word goes on in front
 abbrev pub after_word : Bytes → Option Bytes
 after_word [] = Some []
 after_word (b ∷ text) = if is_blank b then Some (after_blanks text) else None

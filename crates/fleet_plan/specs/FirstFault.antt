@@ -37,18 +37,20 @@ pub record IsRightAt (passable : Place → Bool) (path : Path) (t : ℕ) : Type 
   pub on_ground : IsTrue (passable (place_of (cell_at path t)))
   pub successive : (s : ℕ) → t ≡ s + 1 → (cell_at path s ≡ cell_at path t) ⊎ AreNeighbours (cell_at path s) (cell_at path t)
 
--- at each time
+-- the path is right at each time
 abbrev pub GoesOver : (Place → Bool) → Path → Type 0
 GoesOver passable path = (t : ℕ) → IsRightAt passable path t
 
--- the least time at which it is not so
+-- the least time at which the path is not right
 pub record IsFirstTime (passable : Place → Bool) (path : Path) (t : ℕ) : Type 0 where
   pub wrong : IsRightAt passable path t → ⊥
   pub least : (s : ℕ) → s < t → IsRightAt passable path s
 
+-- the path of agent i
 abbrev pub path_of : Plan → ℕ → Path
 path_of plan i = get_or plan i []
 
+-- the path of agent i is right at each time
 abbrev pub GoesRight : (Place → Bool) → Plan → ℕ → Type 0
 GoesRight passable plan i = GoesOver passable (path_of plan i)
 
@@ -73,6 +75,7 @@ HasConflict plan (Vertex x i j) = (i < j) × (j < length plan) × HasVertexConfl
 HasConflict plan (Swapping x i j) = (i < j) × (j < length plan) × HasSwappingConflict (planned plan) x i j
 HasConflict plan (Cycle x least) = (ring : List ℕ) × IsCycle plan x least ring
 
+-- the time of the conflict, or the one from which its step leads
 abbrev pub time_of : Conflict → ℕ
 time_of (Vertex x i j) = x
 time_of (Swapping x i j) = x
@@ -82,7 +85,7 @@ time_of (Cycle x least) = x
 abbrev pub IsPairUpTo : ℕ → ℕ → ℕ → ℕ → Type 0
 IsPairUpTo i j k l = (i < k) ⊎ ((i ≡ k) × (j ≤ l))
 
--- by kind, and then by agents
+-- at one time the conflict is the other one or comes before it: by kind, then by agents
 abbrev pub IsKindUpTo : Conflict → Conflict → Type 0
 IsKindUpTo (Vertex x i j) (Vertex y k l) = IsPairUpTo i j k l
 IsKindUpTo (Vertex x i j) (Swapping y k l) = Unit {0}
@@ -109,6 +112,7 @@ HasNoConflict plan = (c : Conflict) → HasConflict plan c → ⊥
 
 -- ---- faults
 
+-- there are as many agents as tasks, and each begins and ends as its task says
 pub record HasStartsAndGoals (tasks : List Task) (plan : Plan) : Type 0 where
   pub agents : length plan ≡ length tasks
   pub starts : AllAgents plan (StartsOnStart tasks plan)

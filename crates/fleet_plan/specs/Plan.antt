@@ -29,7 +29,7 @@ cell_of plan i t = cell_at (get_or plan i []) t
 unfoldable pub last_cell : Plan → ℕ → Cell
 last_cell plan i = cell_of plan i (length (get_or plan i []) - 1)
 
--- the greatest time of a last cell
+-- the greatest time of a last cell: the makespan
 unfoldable pub steps : Plan → ℕ
 steps [] = 0
 steps (path ∷ plan) = max (length path - 1) (steps plan)

@@ -8,12 +8,12 @@ use Rattle.fleet_plan.specs.PlanText.{spelled_cell}
 use Rattle.fleet_plan.specs.declared.text_fault.TextFault.{TextFault}
 use Rattle.fleet_plan.specs.declared.text_fault.TextFault.TheVariants.{Form, Length, AgentCount}
 
--- the cells that these words spell, where each spells one
+-- the cells that these words spell, if each spells one
 unfoldable pub spelled_cells : List Bytes → Option Path
 spelled_cells [] = Some []
 spelled_cells (word ∷ others) = option_and_then (λ cell. option_map (λ cells. cell ∷ cells) (spelled_cells others)) (spelled_cell word)
 
--- why a line with too many cells in front is no path, by what follows these
+-- the fault of a line with too many cells in front, by what follows them
 abbrev pub too_long : ℕ → Bytes → TextFault
 too_long number rest = if is_some (spelled_cells (words rest)) then Length number else Form number
 
@@ -34,7 +34,7 @@ abbrev pub plan_judged : Plan → Result Plan TextFault
 plan_judged [] = Err AgentCount
 plan_judged (path ∷ plan) = Ok (path ∷ plan)
 
--- the paths of the lines, after those of the lines before
+-- the paths of earlier lines and of these
 unfoldable pub paths_at : Plan → List Bytes → Result Plan TextFault
 paths_at earlier [] = plan_judged earlier
 paths_at earlier (line ∷ ls) = right_or (nat_lt (length earlier) MAX_AGENTS) AgentCount >> (path_at (length earlier + 1) line >>= λ path. paths_at (earlier ++ path ∷ []) ls)

@@ -63,6 +63,7 @@ IsFirstPlanLineFault ls (Form number) = (k : ℕ) × (line : Bytes) × (number �
 IsFirstPlanLineFault ls (Length number) = (k : ℕ) × (line : Bytes) × (number ≡ k + 1) × ReachesPlanLine ls k line × (path : Path) × SpellsPath line path × (MAX_HORIZON + 1 < length path)
 IsFirstPlanLineFault ls AgentCount = (ls ≡ []) ⊎ ((MAX_AGENTS < length ls) × All IsRightLine (take MAX_AGENTS ls))
 
+-- the same of a text
 abbrev pub IsFirstTextFault : Bytes → TextFault → Type 0
 IsFirstTextFault text fault = IsFirstPlanLineFault (lines text) fault
 

@@ -1,11 +1,11 @@
 -- Who is ahead of whom in one step, and rings of agents each of which is ahead of the one before it.
 use Rattle.std.specs.Prelude.{◌≡◌, ℕ, ◌<◌, ◌≤◌, List, [], ◌∷◌, length, get_or, Option, Some, None, ◌⊎◌}
 
--- the agent ahead of agent i, where there is one
+-- the agent ahead of agent i, if there is one
 abbrev pub ahead_of : List (Option ℕ) → ℕ → Option ℕ
 ahead_of ahead i = get_or ahead i None
 
--- who is ahead is an agent
+-- whoever is ahead of an agent is one of the agents
 abbrev pub NamesAgents : List (Option ℕ) → Type 0
 NamesAgents ahead = (i j : ℕ) → ahead_of ahead i ≡ Some j → j < length ahead
 
@@ -39,7 +39,7 @@ walk_of walks i = get_or walks i None
 abbrev pub IsWalked : List (Option ℕ) → ℕ → Type 0
 IsWalked walks i = (w : ℕ) × (walk_of walks i ≡ Some w)
 
--- somebody is ahead of each one that was met, who was met too unless nobody is ahead of that one; and walks have numbers below n
+-- somebody is ahead of each agent that was met, and was met too unless nobody is ahead of that one; and walks have numbers below n
 pub record AreClosed (ahead walks : List (Option ℕ)) (n : ℕ) : Type 0 where
   pub all : length walks ≡ length ahead
   pub live : (i : ℕ) → IsWalked walks i → (j : ℕ) × (ahead_of ahead i ≡ Some j)

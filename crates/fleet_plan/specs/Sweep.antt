@@ -18,7 +18,7 @@ StandOnMap g plan = (i t : ℕ) → i < length plan → ((cell_of plan i t).x < 
 abbrev pub StandsInPlace : Ground → Plan → ℕ → List ℕ → ℕ → Type 0
 StandsInPlace g plan t places i = slice_index places i ≡ cell_index g (cell_of plan i t)
 
--- those that stand nowhere in the row do
+-- each agent that stands nowhere in the row stands in its place at time t
 abbrev pub OthersStandAt : Ground → Plan → ℕ → List ℕ → List ℕ → Type 0
 OthersStandAt g plan t row places = IsSoForOthers row (length plan) (StandsInPlace g plan t places)
 
@@ -33,6 +33,7 @@ pub record Meet (places : List ℕ) (i j : ℕ) : Type 0 where
   pub agents : j < length places
   pub same : slice_index places i ≡ slice_index places j
 
+-- the first two agents in one place
 pub record IsFirstMeeting (places : List ℕ) (i j : ℕ) : Type 0 where
   pub meet : Meet places i j
   pub first : (k l : ℕ) → Meet places k l → IsPairUpTo i j k l
@@ -53,11 +54,12 @@ Stays places next i = slice_index next i ≡ slice_index places i
 abbrev pub IsUnblocked : List (Option ℕ) → ℕ → Type 0
 IsUnblocked ahead i = ahead_of ahead i ≡ None
 
--- who is ahead of the agent: who stands in the place to which it goes, where it goes to another one
+-- who is ahead of the agent: who stands in the place to which it goes, if it goes to another one
 abbrev pub IsAhead : List ℕ → List ℕ → ℕ → Option ℕ → Type 0
 IsAhead places next i None = (slice_index next i ≡ slice_index places i) ⊎ ((j : ℕ) → j < length places → slice_index places j ≢ slice_index next i)
 IsAhead places next i (Some j) = (slice_index next i ≢ slice_index places i) × (j < length places) × (slice_index places j ≡ slice_index next i)
 
+-- who is ahead of each agent
 pub record AreAhead (places next : List ℕ) (ahead : List (Option ℕ)) : Type 0 where
   pub all : length ahead ≡ length places
   pub each : (i : ℕ) → i < length places → IsAhead places next i (ahead_of ahead i)
@@ -67,11 +69,12 @@ pub record Exchange (ahead : List (Option ℕ)) (i j : ℕ) : Type 0 where
   pub there : ahead_of ahead i ≡ Some j
   pub back : ahead_of ahead j ≡ Some i
 
+-- the first two agents that are ahead of each other
 pub record IsFirstExchange (ahead : List (Option ℕ)) (i j : ℕ) : Type 0 where
   pub exchange : Exchange ahead i j
   pub first : (k l : ℕ) → Exchange ahead k l → i ≤ k
 
--- no two are so
+-- no two agents are so
 abbrev pub HasNone : (ℕ → ℕ → Type 0) → Type 0
 HasNone P = (i j : ℕ) → P i j → ⊥
 
@@ -90,7 +93,7 @@ IsFirstIn places next t (Vertex x i j) = (x ≡ t) × IsFirstMeeting places i j
 IsFirstIn places next t (Swapping x i j) = (x ≡ t) × HasNoMeeting places × ((ahead : List (Option ℕ)) × AreAhead places next ahead × IsFirstExchange ahead i j)
 IsFirstIn places next t (Cycle x least) = (x ≡ t) × ((ahead : List (Option ℕ)) × AreAhead places next ahead × HasNoExchange places ahead × IsLeastOnRing ahead least)
 
--- they have none
+-- they have no conflict at the time and the next one
 pub record IsFreeIn (places next : List ℕ) : Type 0 where
   pub ahead : List (Option ℕ)
   pub are_ahead : AreAhead places next ahead
@@ -103,7 +106,7 @@ IsFirstAhead ahead t (Vertex x i j) = ⊥
 IsFirstAhead ahead t (Swapping x i j) = (x ≡ t) × IsFirstExchange ahead i j
 IsFirstAhead ahead t (Cycle x least) = (x ≡ t) × HasNone (Exchange ahead) × IsLeastOnRing ahead least
 
--- there is none
+-- there is no conflict in the step
 pub record IsFreeAhead (ahead : List (Option ℕ)) : Type 0 where
   pub none : HasNone (Exchange ahead)
   pub no_ring : (i : ℕ) → IsOnRing ahead i → ⊥
@@ -118,6 +121,6 @@ pub record IsAgentSettled (places next : List ℕ) (ahead walks : List (Option �
 abbrev pub AreAgentsSettled : List ℕ → List ℕ → List (Option ℕ) → List (Option ℕ) → Type 0
 AreAgentsSettled places next ahead walks = (i : ℕ) → i < length next → IsAgentSettled places next ahead walks i
 
--- those that stand nowhere in the row are
+-- each agent that stands nowhere in the row is settled
 abbrev pub AreOtherAgentsSettled : List ℕ → List ℕ → List ℕ → List (Option ℕ) → List (Option ℕ) → Type 0
 AreOtherAgentsSettled row places next ahead walks = IsSoForOthers row (length next) (IsAgentSettled places next ahead walks)

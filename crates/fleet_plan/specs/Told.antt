@@ -29,6 +29,7 @@ pair_words kind time i j =
 abbrev pub cycle_words : ℕ → ℕ → List (List ℕ)
 cycle_words time least = codes "check" ∷ decimal 6 ∷ codes "Conflict" ∷ codes "Cycle" ∷ codes "time" ∷ decimal time ∷ codes "least" ∷ decimal least ∷ []
 
+-- a conflict of agents of a plan
 abbrev pub conflict_words : Conflict → List (List ℕ)
 conflict_words (Vertex time i j) = pair_words (codes "Vertex") time i j
 conflict_words (Swapping time i j) = pair_words (codes "Swapping") time i j

@@ -11,7 +11,7 @@ pub record IsComing (row : List ℕ) (k i : ℕ) : Type 0 where
   pub within : at < length row
   pub here : slice_index row at ≡ i
 
--- it is so for each of n agents that stands nowhere in the row
+-- each of n agents that stands nowhere in the row is so
 abbrev pub IsSoForOthers : List ℕ → ℕ → (ℕ → Type 0) → Type 0
 IsSoForOthers row n P = (i : ℕ) → i < n → IsComing row 0 i ⊎ P i
 

@@ -30,7 +30,7 @@ fn after_blanks(text: &[u8]) -> &[u8]
     rest
 }
 
-/// The next word, where none goes on in front.
+/// The text from the next word on, unless a word goes on in front.
 fn after_word(text: &[u8]) -> Option<&[u8]>
     ensures { option_copied result ≡ after_word text.now }
 {

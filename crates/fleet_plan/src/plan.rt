@@ -41,7 +41,7 @@ impl Path {
         Path { cells }
     }
 
-    /// The time of the last cell.
+    /// The time of the last cell, in steps.
     pub fn steps(&self) -> u32
         ensures time { result + 1 ≡ length self.now }
         ensures limits { IsPath self.now }
@@ -113,7 +113,7 @@ impl Plan {
         Plan { paths, steps }
     }
 
-    /// The greatest time of a last cell.
+    /// The greatest time of a last cell: the makespan (Stern et al. 2019), in steps.
     pub fn steps(&self) -> u32
         ensures time { result ≡ steps self.now }
         ensures limits { IsWithinLimits self.now }

@@ -39,7 +39,7 @@ pub enum PlanFault {
     /// The last cell of an agent is not its goal; it is the least such agent.
     #[error("agent {agent} does not end on its goal")]
     Goal { agent: u16 },
-    /// The cell of an agent is not passable, or neither the cell before nor one of its four neighbours. It is the least
+    /// The cell of an agent is not passable, or is neither the cell before nor one of its four neighbours. It is the least
     /// such agent, and its least such time.
     #[error("agent {agent} goes wrong at time {time}")]
     Step { agent: u16, time: u32 },
@@ -110,6 +110,7 @@ impl Refusal for PlanFault {
     }
 }
 
+/// Writes the line of a conflict in a plan.
 fn put_conflict<O: TraceOut>(out: &mut O, conflict: Conflict) -> Result<(), OutFault>
     requires { IsWorking (O.state out.old) }
     ensures { TakesAll (O.state out.old) (O.state out.new) result

@@ -17,7 +17,8 @@ use std::alloc::Global;
 /// A path has a cell for each time from 0 to the horizon.
 const MAX_CELLS: usize = MAX_HORIZON as usize + 1;
 
-/// Why a line is no path whose first words spell too many cells, by what follows these.
+/// The fault of a line whose first words spell too many cells: `Form` if a word after them spells none, and otherwise
+/// `Length`.
 fn too_long(number: u64, text: &[u8]) -> TextFault
     requires { starts_blank text.now ≡ false }
     ensures { result ≡ too_long number text.now }
@@ -35,7 +36,7 @@ fn too_long(number: u64, text: &[u8]) -> TextFault
 /// How many bytes of a line a cell mostly takes, with the blank before the next one.
 const USUAL_CELL_LEN: usize = 6;
 
-/// No cell, and room for so many as a line of this length mostly has.
+/// No cell, and room for as many as a line of this length mostly has.
 fn room_for(alloc: Global, line: &[u8]) -> Result<Vec<Cell>, TextFault>
     ensures none { IfOk result (λ cells. cells.items ≡ []) }
     ensures memory { IsOkUnless result TextFault.OutOfMemory }

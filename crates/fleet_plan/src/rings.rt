@@ -6,8 +6,8 @@ ghost use Rattle.fleet_plan.specs.Rings.{NamesAgents, ahead_of, walk_of, IsOnRin
 ghost use Rattle.fleet_plan.specs.UnderWay.{IsSoForOthers};
 ghost use Rattle.fleet_plan.specs.Sweep.{IsUnblocked};
 
-/// The least agent that is on a ring, where each agent has at most one that is ahead of it, and nobody is ahead of those
-/// that are not in the row. `walks` is for own use: an agent that nobody is ahead of is not noted there.
+/// The least agent that is on a ring, if each agent has at most one that is ahead of it, and nobody is ahead of the agents
+/// that are not in the row. `walks` is working memory: an agent that nobody is ahead of is not noted there.
 pub(crate) fn least_on_ring(
     row: &[u16],
     ahead: &[Option<u16>],
@@ -32,7 +32,7 @@ pub(crate) fn least_on_ring(
     least
 }
 
-/// The lesser of two agents, where there is a first one.
+/// The lesser of two agents, or the second if there is no first one.
 fn lesser(least: Option<u16>, other: u16) -> u16
     ensures other { result ≤ other }
     ensures least { IfSome least (λ agent. result ≤ agent) }
@@ -44,8 +44,8 @@ fn lesser(least: Option<u16>, other: u16) -> u16
     }
 }
 
-/// Walks ahead from an agent to one that was walked on before, or that nobody is ahead of. The answer is an agent where
-/// this walk met itself.
+/// Walks ahead from an agent to one that was walked on before, or that nobody is ahead of. The answer is the
+/// agent at which this walk met itself, if it did.
 fn walk(ahead: &[Option<u16>], walks: &mut [Option<u16>], number: u16, first: u16) -> Option<u16>
     requires agents { NamesAgents ahead.now }
     requires walks { length walks.old ≡ length ahead.now }

@@ -27,7 +27,7 @@ fn fill_places(plan: &Plan, grid: &Grid, time: u32, places: &mut [usize])
     }
 }
 
-/// The same for the agents of the row alone, where all others stay.
+/// The same for the agents of the row alone, if the others stand on their places in `next` already.
 fn fill_next(plan: &Plan, grid: &Grid, time: u32, agents: &[u16], next: &mut [usize])
     requires on_map { StandOnMap grid.now plan.now }
     requires agents { All (λ i. i < length plan.now) agents.now }
@@ -40,8 +40,8 @@ fn fill_next(plan: &Plan, grid: &Grid, time: u32, agents: &[u16], next: &mut [us
     }
 }
 
-/// The first two agents in one place. Where there are none, each agent is then entered in its place of the table. What
-/// the table held before doesn't matter, since an entry counts only where that agent stands there.
+/// The first two agents in one place. If there are none, each agent is then entered in its place of the table. What
+/// the table held before doesn't matter, since an entry counts only if that agent stands there.
 fn first_meeting(table: &mut Table<u16>, places: &[usize]) -> Result<Option<(u16, u16)>, AllocError>
     requires { length places.now ≤ MAX_AGENTS }
     ensures some { IfOk result (λ found. IfSome found (λ pair. IsFirstMeeting places.now pair.0 pair.1)) }
@@ -83,7 +83,7 @@ fn occupant(table: &Table<u16>, places: &[usize], place: usize) -> Option<u16>
     }
 }
 
-/// Who stands in the place to which agent `i` goes, where it goes to another one.
+/// Who stands in the place to which agent `i` goes, if it goes to another one.
 fn agent_ahead(table: &Table<u16>, places: &[usize], next: &[usize], i: u16) -> Option<u16>
     requires entered { IsEntered table.now places.now }
     requires agent { i < length places.now }
@@ -156,7 +156,7 @@ fn first_exchange(ahead: &[Option<u16>]) -> Option<(u16, u16)>
 }
 
 /// The first conflict in the step after `time`, by who is ahead of whom. `apart` says that no two are ahead of each
-/// other; `walks` is for own use.
+/// other; `walks` is working memory.
 fn conflict_in(
     time: u32,
     apart: bool,
@@ -185,8 +185,8 @@ fn conflict_in(
     Some(Conflict::Cycle { time, least })
 }
 
-/// Enters the agents of the row in their places of the table, where the others are entered in theirs. Answers whether it
-/// found none of them in the place of another agent.
+/// Enters the agents of the row in their places of the table, in which the others are entered already. Answers whether
+/// it found none of them in the place of another agent.
 fn enter(table: &mut Table<u16>, agents: &[u16], places: &[usize]) -> Result<bool, AllocError>
     requires agents { All (λ i. i < length places.now) agents.now }
     requires others { IsSoForOthers agents.now (length places.now) (HasIn table.old places.now) }
@@ -205,7 +205,7 @@ fn enter(table: &mut Table<u16>, agents: &[u16], places: &[usize]) -> Result<boo
     Ok(true)
 }
 
-/// The first two agents in one place, where the agents that are not in the row are entered in theirs. Where there are
+/// The first two agents in one place, if the agents that are not in the row are entered in theirs already. If there are
 /// none, each agent is then entered.
 fn meeting(
     table: &mut Table<u16>,

@@ -12,7 +12,7 @@ use std::alloc::{AllocError, Global};
 use std::process::Abort;
 use std::test::Fail;
 
-/// The map of these rows, between which stand blanks.
+/// The map of these rows, with a blank between two.
 pub fn grid_of(alloc: Global, picture: &[u8]) -> Result<Grid, Fail> {
     let width = parted(picture, b' ').0.len();
     let height = picture.len().saturating_add(1) / width.saturating_add(1).max(1);
@@ -61,7 +61,7 @@ fn text_of(alloc: Global, program: &Program) -> Result<String, AllocError> {
     Ok(text)
 }
 
-/// The program of the plan has this text; where none is due it is not compiled.
+/// The program of the plan has this text; if none is due, it is not compiled.
 fn expect_program(
     rt: &impl Abort,
     alloc: Global,
@@ -77,7 +77,7 @@ fn expect_program(
     Ok(())
 }
 
-/// What is told of the plan, which has these programs where it is free of conflict.
+/// The refusal of the plan, if it is refused; if it is free of conflict, it has these programs.
 fn told_of(
     rt: &impl Abort,
     alloc: Global,

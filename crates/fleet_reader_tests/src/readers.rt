@@ -1,4 +1,4 @@
-//! What each reader tells of a text: what it has read, in one way of writing, or the line of its refusal and the fault's sentence.
+//! The answer of each reader of a text: the value that it read, in one way of writing, or the line of its refusal and the fault's sentence.
 
 use fleet_code::{read_hex, viewed_and_loaded};
 use fleet_fixtures::table::parted;
@@ -12,7 +12,7 @@ use std::alloc::{AllocError, Global};
 use std::fmt::Display;
 use std::test::Fail;
 
-/// What a reader tells. Of what it has read there is no sentence.
+/// The answer of a reader. There is a sentence only of a refusal.
 #[derive(Drop)]
 pub struct Told {
     pub line: Vec<u8>,
@@ -20,7 +20,7 @@ pub struct Told {
 }
 
 impl Told {
-    /// The number of the refusal: 0 where the text is read, and 1 for want of memory.
+    /// The number of the refusal: 0 if the text is read, and 1 for want of memory.
     pub fn number(&self) -> u16 {
         if self.sentence.is_empty() {
             return 0;
@@ -50,7 +50,7 @@ fn refused<F: Refusal + Display>(alloc: Global, fault: &F) -> Result<Told, Fail>
     })
 }
 
-/// Columns, rows and ground of the grid, and its rows, where all that is passable is `.`.
+/// Columns, rows and passable cells of the grid, and its rows, in which `.` is passable and `@` is not.
 fn picture(alloc: Global, grid: &Grid) -> Result<String, AllocError> {
     let (width, height, ground) = (grid.width(), grid.height(), grid.ground());
     let mut text = format!(in alloc; "{width} {height} {ground}:")?;
@@ -93,7 +93,7 @@ fn map_of(name: &[u8]) -> &'static [u8] {
     }
 }
 
-/// .. for one of these maps, and so many agents, where a number is asked for.
+/// .. for one of these maps, and for so many agents, if the words have a number.
 fn scen_told(alloc: Global, words: &[u8], text: &[u8]) -> Result<Told, Fail> {
     let (name, asked) = parted(words, b' ');
     let grid = read_map(alloc, map_of(name))?;
@@ -135,7 +135,8 @@ fn hex_told(alloc: Global, text: &[u8]) -> Result<Told, Fail> {
     }
 }
 
-/// .. of holds of twelve agents: twice the ticks up to the end or to a line that is none, and one more where there is such a line.
+/// .. of holds of twelve agents: twice the ticks up to the end or to a line that is no tick's, and one more if there is such a line. This number stands in
+/// place of a refusal's.
 fn holds_told(alloc: Global, text: &[u8]) -> Result<Told, Fail> {
     let mut source = HoldText::new(text, 12);
     let mut flags = [false; 12];
@@ -154,7 +155,7 @@ fn holds_told(alloc: Global, text: &[u8]) -> Result<Told, Fail> {
     })
 }
 
-/// What the reader tells: of maps, scenarios, plans, bytes of programs, the same in hexadecimal, hexadecimal text, holds.
+/// The answer of the reader of this name: `map`, `scen`, `plan`, `bytes` of a program, its `code` in hexadecimal, hexadecimal text (`xhex`), or `holds`.
 pub fn reading_of(alloc: Global, reader: &[u8], text: &[u8]) -> Result<Told, Fail> {
     let (name, words) = parted(reader, b' ');
     match name.first() {

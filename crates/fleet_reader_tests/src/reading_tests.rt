@@ -1,5 +1,5 @@
-//! Texts and bytes that are read, and the first fault of each that is none. A row has the reader, the text, what is told of it, and where it tests
-//! that, the fault's sentence.
+//! Texts and bytes that are read, and the first fault of each that is refused. A row has the reader, the text, and what the reader answers: the
+//! value that it read, in one way of writing, or the line of its refusal, in some rows with the fault's sentence.
 
 use crate::readers::reading_of;
 use fleet_code::{LoadFault, encode, encode_shortest, encode2, load, read_hex, view};
@@ -309,7 +309,7 @@ fn faults_have_sentences(rt: HostRuntime) -> Result<(), Fail> {
     expect(&rt, rt.alloc(), FAULTS_HAVE_SENTENCES)
 }
 
-/// How many texts that differ from the file in one byte are told of with each number.
+/// How many texts that differ from the file in one byte are refused with each number; with 0 those that are read.
 fn counts_of(alloc: Global, reader: &[u8], name: &str) -> Result<[u32; 12], Fail> {
     let mut counts = [0u32; 12];
     let mut text = worked(alloc, name).ok_or("no such file")?;
@@ -333,7 +333,7 @@ fn change(text: &mut [u8], at: usize, add: u8) {
     }
 }
 
-/// So many texts that differ from the file in one byte are read, and refused with each number from 1 on. The numbers due were counted by plain readers in
+/// So many texts that differ from the file in one byte are read, and so many refused with each number from 1 on. The counts were made by plain readers in
 /// another language, written from the formats alone.
 fn expect_changes(
     rt: &impl Abort,
@@ -383,7 +383,8 @@ fn holds_are_changed(rt: HostRuntime) -> Result<(), Fail> {
     expect_changes(&rt, rt.alloc(), b"holds", "some.holds", &due)
 }
 
-/// The program of the second file in version 2, in version 1, and in the shorter of the two: its bytes are those of the first file, and of the second; or there are none in version 1.
+/// The bytes of the second file's program in version 2 are those of that file; in version 1, and in the shorter of the two, those of the first file. If it has
+/// none in version 1, the fault's sentence stands in place of the first file, and the shorter is version 2.
 fn expect_written(rt: &impl Abort, alloc: Global, due: &[u8], name: &[u8]) -> Result<(), Fail> {
     let second = worked(alloc, str::from_utf8(name)?).ok_or("no such file")?;
     let program = load(alloc, &second)?;
@@ -419,7 +420,7 @@ fn one_program_in_both_versions(rt: HostRuntime) -> Result<(), Fail> {
 }
 
 /// What bytes announce and do not have reserves nothing. With the first allocation refused too, 1,024 agents announced in
-/// 6 bytes are told as missing.
+/// 6 bytes are reported as missing.
 #[test]
 fn announced_agents_without_bytes(rt: HostRuntime) {
     let fault = view(rt.alloc(), b"MPF1\x04\0").err();

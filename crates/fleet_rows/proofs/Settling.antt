@@ -63,9 +63,6 @@ abbrev pub NoneIsReached : Program → ActionId → ActionId → (ℕ → Type 0
 NoneIsReached p first a These = (m : ℕ) (w : Await) → These m → slice_get (awaits_of p a.agent a.number) m ≡ Some w → Reaches p first (awaited w) → ⊥
 
 module _ (p : Program) (a b : ActionId) where
-  own_is : (same : a.agent ≡ b.agent) (number : a.number ≡ b.number + 1) (before : ActionId) → before.agent ≡ a.agent → before.number + 1 ≡ a.number → b ≡ before
-  own_is same number before agent e = let f : b.number ≡ before.number = omega arith in (λ t. record { agent = (sym same ∙ sym agent) t; number = f t })
-
   await_is : Contains (awaits_of p a.agent a.number) (record { agent = b.agent; count = b.number }) → (m : ℕ) × (slice_get (awaits_of p a.agent a.number) m ≡ Some (record { agent = b.agent; count = b.number }))
   await_is (m, l, e) = (m, slice_get-get_or (awaits_of p a.agent a.number) m (record { agent = b.agent; count = b.number }) l ∙ ap Some e)
 

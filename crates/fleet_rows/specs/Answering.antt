@@ -1,4 +1,4 @@
--- Answers of questions by the rows of a block: what is answered so far.
+-- Answers of questions by the rows of a block: the questions that are answered so far.
 use Rattle.std.specs.Prelude.{◌≡◌, ◌≢◌, ℕ, ◌+◌, ◌<◌, ◌⊎◌, Bool, false, List, length, get_or, slice_get, Some, None}
 use Rattle.std.proofs.Common.{refl, sym, subst, ◌∙◌}
 use Rattle.fleet_model.specs.declared.program.ActionId.{ActionId}
@@ -11,13 +11,14 @@ use Rattle.fleet_rows.specs.declared.block.Block.{Block}
 use Rattle.fleet_rows.specs.declared.columns.Columns.{Columns}
 use Rattle.fleet_rows.specs.declared.questions.Question.{Question}
 
--- the questions before the next one are those for chains that end with finished actions, and are answered where a column is there
+-- the questions before the next one are those for chains that end with finished actions, and are answered if their
+-- agents have a column
 pub record AreAnsweredTo (p : Program) (columns : Columns) (questions : List Question) (Done : ActionId → Type 0) (flags : List Bool) (next : ℕ) : Type 0 where
   pub before : (k : ℕ) (q : Question) → slice_get questions k ≡ Some q → Done q.last → k < next
   pub done : (k : ℕ) (q : Question) → slice_get questions k ≡ Some q → k < next → Done q.last
   pub answered : (k c : ℕ) (q : Question) → slice_get questions k ≡ Some q → k < next → HasColumn columns q.first.agent c → IsAnswer p q (get_or flags k false)
 
--- where the answers stand once so many actions of each agent are finished
+-- the state of the answers once so many actions of each agent are finished
 pub record IsAnswering (p : Program) (b : Block) (counts : List ℕ) (s : Answering) : Type 0 where
   pub questions : AreQuestions p s.questions.now
   pub flags : length s.flags.items ≡ length s.questions.now
@@ -29,11 +30,11 @@ pub record AreOthersLeft (p : Program) (b : Block) (old new : Answering) : Type 
   pub flags : (k : ℕ) (q : Question) → slice_get old.questions.now k ≡ Some q → get_or b.columns.of_agent.items q.first.agent None ≡ None
       → get_or new.flags.items k false ≡ get_or old.flags.items k false
 
--- so they are where nothing was answered
+-- the others are left as they were if nothing was answered
 pub others_same : (p : Program) (b : Block) (s : Answering) → AreOthersLeft p b s s
 others_same p b s = record { questions = refl; flags = λ k q at none. refl }
 
--- and where answers follow on others
+-- the others are left as they were if answers follow on others that leave them so
 pub others_joined : (p : Program) (b : Block) (s t u : Answering) → AreOthersLeft p b s t → AreOthersLeft p b t u → AreOthersLeft p b s u
 others_joined p b s t u h k = record {
   questions = k.questions ∙ h.questions;
@@ -42,7 +43,7 @@ others_joined p b s t u h k = record {
 
 -- ---- one action
 
--- the next question ends with the action and is answered where a column is there
+-- the next question ends with the action, and is answered if its agent has a column
 pub record IsNextAnswered (p : Program) (columns : Columns) (questions : List Question) (a : ActionId) (n : ℕ) (old new : List Bool) : Type 0 where
   pub question : Question
   pub at : slice_get questions n ≡ Some question

@@ -6,7 +6,8 @@ use Rattle.fleet_model.specs.Program.{Program}
 use Rattle.fleet_model.specs.Chain.{IsAction, IsLevel, Reaches}
 use Rattle.fleet_rows.specs.declared.questions.Question.{Question}
 
--- the first is of an agent of the program, though it may be beyond the agent's last action, and the last is an action of the program
+-- the first is of an agent of the program, though it may be beyond the agent's last action, and the last is an action
+-- of the program
 pub record IsQuestion (p : Program) (q : Question) : Type 0 where
   pub agent : q.first.agent < length p
   pub number : 1 ≤ q.first.number

@@ -49,7 +49,8 @@ pub record HasRow (p : Program) (b : Block) (m : KeptRows) (a : ActionId) : Type
   pub kept : IsKept m (action_place b.notes.now.places.firsts.items a)
   pub counts : (j k : ℕ) → HasColumn b.columns j k → IsColumn p a j (count_in m (mark_of m (action_place b.notes.now.places.firsts.items a)) k)
 
--- the row of the action can be made: those of all that it directly needs are kept, and it needs no later action of its agent
+-- the row of the action can be made: those of all that it directly needs are kept, and it needs no later action of its
+-- agent
 pub record CanMakeRow (p : Program) (b : Block) (m : KeptRows) (a : ActionId) : Type 0 where
   pub block : AreBlock p b
   pub kept : AreKept p b m

@@ -1,4 +1,4 @@
--- Flags of awaits by the rows of a block: what is flagged so far.
+-- Flags of awaits by the rows of a block: the awaits that are flagged so far.
 use Rattle.std.specs.Prelude.{◌≡◌, ℕ, List, length}
 use Rattle.fleet_model.specs.Program.{Program, total_awaits}
 use Rattle.fleet_rows.specs.Order.{IsCounted}
@@ -6,7 +6,7 @@ use Rattle.fleet_rows.specs.Implied.{AreAwaitPlaces, AreToldOf}
 use Rattle.fleet_rows.specs.declared.block.Block.{Block}
 use Rattle.fleet_rows.specs.declared.flagging.Flagging.{Flagging}
 
--- where the flags stand once so many actions of each agent are finished
+-- the state of the flags once so many actions of each agent are finished
 pub record IsFlagging (p : Program) (b : Block) (counts : List ℕ) (s : Flagging) : Type 0 where
   pub places : AreAwaitPlaces p s.places.now
   pub all : length s.flags.items ≡ total_awaits p

@@ -46,14 +46,15 @@ pub record AreAwaitPlaces (p : Program) (m : AwaitPlaces) : Type 0 where
 abbrev pub IsTold : Program → ActionId → Await → Bool → Type 0
 IsTold p a w flag = (flag ≡ true) ↔ IsImplied p a w
 
--- the flags of the action's awaits tell it where a column is there, and no other flag has changed
+-- the flags of the action's awaits say whether they are implied, if their agents have a column, and no other flag has
+-- changed
 pub record AreFlagged (p : Program) (columns : Columns) (a : ActionId) (old new : List Bool) : Type 0 where
   pub told : (k c : ℕ) (w : Await) → slice_get (awaits_of p a.agent a.number) k ≡ Some w → HasColumn columns w.agent c → IsTold p a w (get_or new (first_await p a + k) false)
   pub none : (k : ℕ) (w : Await) → slice_get (awaits_of p a.agent a.number) k ≡ Some w → get_or columns.of_agent.items w.agent None ≡ None
       → get_or new (first_await p a + k) false ≡ get_or old (first_await p a + k) false
   pub others : (n : ℕ) → (n < first_await p a) ⊎ (first_await p a + length (awaits_of p a.agent a.number) ≤ n) → get_or new n false ≡ get_or old n false
 
--- the flags of all awaits of these actions tell it where a column is there
+-- the flags of all awaits of these actions say whether they are implied, if their agents have a column
 abbrev pub AreToldOf : Program → Columns → (ActionId → Type 0) → List Bool → Type 0
 AreToldOf p columns Done flags =
     (a : ActionId) → IsAction p a → Done a → (k c : ℕ) (w : Await) → slice_get (awaits_of p a.agent a.number) k ≡ Some w → HasColumn columns w.agent c
@@ -65,7 +66,7 @@ AreLeft p columns old new =
     (a : ActionId) → IsAction p a → (k : ℕ) (w : Await) → slice_get (awaits_of p a.agent a.number) k ≡ Some w → get_or columns.of_agent.items w.agent None ≡ None
     → get_or new (first_await p a + k) false ≡ get_or old (first_await p a + k) false
 
--- the flags of all awaits of the program tell it
+-- the flags of all awaits of the program say whether they are implied
 abbrev pub AreAllTold : Program → List Bool → Type 0
 AreAllTold p flags =
     (a : ActionId) → IsAction p a → (k : ℕ) (w : Await) → slice_get (awaits_of p a.agent a.number) k ≡ Some w → IsTold p a w (get_or flags (first_await p a + k) false)

@@ -1,4 +1,4 @@
--- What contracts see of rows that are kept for later.
+-- Rows that are kept for later, as contracts see them.
 use Rattle.std.specs.Prelude.{◌≡◌, ◌≢◌, ℕ, ◌+◌, ◌*◌, ◌<◌, ◌⊎◌, length, get_or, slice_index, Some, None}
 use Rattle.fleet_rows.specs.declared.kept_rows.KeptRows.{KeptRows}
 use Rattle.fleet_rows.specs.declared.kept_rows.Slot.{Slot}
@@ -65,7 +65,7 @@ pub record IsVacated (old new : KeptRows) (a : ℕ) : Type 0 where
   pub slots : (t : ℕ) → t ≢ mark_of old a → slot_at new t ≡ slot_at old t
   pub counts : (t k : ℕ) → count_in new t k ≡ count_in old t k
 
--- the row of one action has gone where no tick after this one takes it, and nothing else has changed
+-- the row of one action has gone at most if no tick after this one takes it, and nothing else has changed
 pub record IsReleased (old new : KeptRows) (a tick : ℕ) : Type 0 where
   pub actions : length new.marks.items ≡ length old.marks.items
   pub width : new.width ≡ old.width

@@ -16,7 +16,7 @@ pub record AreRowsAt (p : Program) (b : Block) (Done : ActionId → Type 0) (t :
   pub wanted : (a : ActionId) → IsAction p a → Done a → t < slice_index b.notes.now.lasts.items (action_place b.notes.now.places.firsts.items a)
       → IsKept m (action_place b.notes.now.places.firsts.items a)
 
--- its row is kept where some tick takes it, and no other row comes or goes
+-- the row of the action is kept if some tick takes it, and no other row comes or goes
 pub record IsRowTaken (p : Program) (b : Block) (a : ActionId) (old new : KeptRows) : Type 0 where
   pub kept : AreKept p b new
   pub here : 1 ≤ slice_index b.notes.now.lasts.items (action_place b.notes.now.places.firsts.items a) → IsKept new (action_place b.notes.now.places.firsts.items a)

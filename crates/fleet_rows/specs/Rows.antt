@@ -23,6 +23,6 @@ pub record IsJoined (These : ℕ → Await → Type 0) (p : Program) (i b j n : 
   pub own : (c : ℕ) → Reaches p (record { agent = j; number = c }) (record { agent = i; number = b }) → c ≤ n
   pub awaits : (c : ℕ) → ByOneOf These p (record { agent = j; number = c }) i (b + 1) → c ≤ n
 
--- the first k
+-- the await is among the first k
 abbrev pub OfFirst : ℕ → ℕ → Await → Type 0
 OfFirst k place w = place < k

@@ -1,4 +1,5 @@
--- The tick that finishes each action where nobody is held, and awaits that few steps tell.
+-- The tick that finishes each action if nobody is held, and awaits for which a few steps back show whether others imply
+-- them.
 use Rattle.std.specs.Prelude.{◌≡◌, ℕ, ◌+◌, ◌-◌, ◌<◌, ◌≤◌, ◌⊎◌, Bool, true, false, List, [], length, get_or, slice_get, slice_index, Some}
 use Rattle.fleet_model.specs.declared.program.Await.{Await}
 use Rattle.fleet_model.specs.declared.program.ActionId.{ActionId}
@@ -15,7 +16,7 @@ use Rattle.fleet_rows.specs.declared.finish_ticks.FinishTicks.{FinishTicks}
 abbrev pub IsFinishedBy : Program → ℕ → ActionId → Type 0
 IsFinishedBy p t a = a.number ≤ count_at (run p [] t) a.agent
 
--- so do so many ticks, or one more where its agent is below this one
+-- so many ticks finish the action, or one more if its agent is below this one
 abbrev pub IsDoneMid : Program → ℕ → ℕ → ActionId → Type 0
 IsDoneMid p t from a = IsFinishedBy p t a ⊎ ((a.agent < from) × IsFinishedBy p (t + 1) a)
 
@@ -41,27 +42,27 @@ pub record AreTicks (p : Program) (m : FinishTicks) : Type 0 where
 
 -- ---- the awaits
 
--- the flag tells of the await whether it is implied, or its agent is asked for
+-- the flag says whether the await is implied, or its agent is asked for
 abbrev pub IsSettled : Program → List Bool → ActionId → Await → Bool → Type 0
 IsSettled p asked a w flag = (get_or asked w.agent false ≡ true) ⊎ IsTold p a w flag
 
--- so it is of all awaits of these actions
+-- it is so of all awaits of these actions
 abbrev pub AreSettledOf : Program → List Bool → (ActionId → Type 0) → List Bool → Type 0
 AreSettledOf p asked These flags =
     (a : ActionId) → IsAction p a → These a → (k : ℕ) (w : Await) → slice_get (awaits_of p a.agent a.number) k ≡ Some w
     → IsSettled p asked a w (get_or flags (first_await p a + k) false)
 
--- and of all awaits of the program
+-- it is so of all awaits of the program
 abbrev pub AreSettled : Program → List Bool → List Bool → Type 0
 AreSettled p asked flags =
     (a : ActionId) → IsAction p a → (k : ℕ) (w : Await) → slice_get (awaits_of p a.agent a.number) k ≡ Some w
     → IsSettled p asked a w (get_or flags (first_await p a + k) false)
 
--- who was asked for still is
+-- each agent that was asked for still is
 abbrev pub AreMoreAsked : List Bool → List Bool → Type 0
 AreMoreAsked old new = (j : ℕ) → get_or old j false ≡ true → get_or new j false ≡ true
 
--- the awaits of the action are settled, no other flag has changed, and who was asked for still is
+-- the awaits of the action are settled, no other flag has changed, and each agent that was asked for still is
 pub record IsActionSettled (p : Program) (a : ActionId) (oldAsked newAsked old new : List Bool) : Type 0 where
   pub settled : (k : ℕ) (w : Await) → slice_get (awaits_of p a.agent a.number) k ≡ Some w → IsSettled p newAsked a w (get_or new (first_await p a + k) false)
   pub others : (n : ℕ) → (n < first_await p a) ⊎ (first_await p a + length (awaits_of p a.agent a.number) ≤ n) → get_or new n false ≡ get_or old n false

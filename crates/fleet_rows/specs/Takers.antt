@@ -14,12 +14,12 @@ AreRaised old new = (length new ≡ length old) × ((k : ℕ) → slice_index ol
 abbrev pub IsNotedFor : Program → List ℕ → ActionId → ℕ → List ℕ → Type 0
 IsNotedFor p firsts a tick lasts = (b : ActionId) → IsAction p b → DirectlyNeeds p a b → tick ≤ slice_index lasts (action_place firsts b)
 
--- so is what the next actions need of the agents below n who are ready after t ticks
+-- it is so of the next actions of the agents below n that are ready after t ticks
 abbrev pub IsNotedAt : Program → List ℕ → ℕ → ℕ → List ℕ → Type 0
 IsNotedAt p firsts t n lasts =
     (i : ℕ) → i < n → i < length p → is_ready p (run p [] t) i ≡ true
     → IsNotedFor p firsts (record { agent = i; number = count_at (run p [] t) i + 1 }) (t + 1) lasts
 
--- and what all actions need that the first ticks finish
+-- it is so of all actions that the first ticks finish
 abbrev pub AreNoted : Program → List ℕ → ℕ → List ℕ → Type 0
 AreNoted p firsts ticks lasts = (t : ℕ) → t < ticks → IsNotedAt p firsts t (length p) lasts

@@ -13,7 +13,7 @@ use crate::row_pass::{RowPass, RowUse, use_rows};
 use fleet_model::{ActionId, OutOfMemory, ProgramView};
 use std::alloc::Global;
 
-/// Questions, a flag for each, and which comes next.
+/// Questions, a flag for each, and the place of the next one.
 #[derive(Drop)]
 pub(crate) struct Answering<'a> {
     questions: &'a [Question],
@@ -21,7 +21,8 @@ pub(crate) struct Answering<'a> {
     next: usize,
 }
 
-/// The flags of the questions, where those whose agents have a column say whether no chain leads from the first action to the last.
+/// The flags of the questions, of which those whose agents have a column now say whether no chain leads from the first
+/// action to the last.
 pub(crate) fn answer<P: ProgramView>(
     alloc: Global,
     program: &P,
@@ -71,7 +72,7 @@ impl<'a> RowUse for Answering<'a> {
 }
 
 impl<'a> Answering<'a> {
-    /// Answers the next question where it ends with the action, of which this is the row.
+    /// Answers the next question, if it ends with the action, of which this is the row.
     fn answer_next<P: ProgramView>(
         &mut self,
         program: &P,

@@ -13,7 +13,7 @@ use crate::kept_rows::KeptRows;
 use crate::run_notes::RunNotes;
 use fleet_model::{ActionId, Await, ProgramView};
 
-/// What is noted of the actions, and the columns of their rows.
+/// The notes of the program's actions, and the columns of their rows.
 #[derive(Drop)]
 pub(crate) struct Block<'a> {
     pub(crate) notes: &'a RunNotes,
@@ -40,7 +40,7 @@ pub(crate) fn make_row<P: ProgramView>(
     set_own(block, row, agent, number);
 }
 
-/// The row of the last of so many actions of the agent, or zeros where it is before its first.
+/// The row of the last of so many actions of the agent, or zeros if there are none.
 pub(crate) fn begin_row<P: ProgramView>(
     program: &P,
     block: &Block<'_>,
@@ -134,7 +134,7 @@ pub(crate) fn awaited_row<P: ProgramView>(
     )
 }
 
-/// Sets the count of the agent's own column, where it has one.
+/// Sets the count of the agent's own column, if it has one.
 pub(crate) fn set_own(block: &Block<'_>, row: &mut [u32], agent: u16, number: u32)
     requires agent { agent < length block.now.columns.of_agent.items }
     requires within { (j k : ℕ) → HasColumn block.now.columns j k → k < length row.old }

@@ -47,7 +47,7 @@ impl Columns {
         })
     }
 
-    /// The column of an agent, where it has one.
+    /// The column of an agent, if it has one.
     pub(crate) fn of(&self, agent: u16) -> Option<u16>
         requires { agent < length self.now.of_agent.items }
         ensures { result ≡ get_or self.now.of_agent.items agent None }

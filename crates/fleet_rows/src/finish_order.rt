@@ -1,4 +1,4 @@
-//! The order in which actions finish where nobody is held.
+//! The order in which actions finish if nobody is held.
 
 ghost use Rattle.std.specs.Prelude.{◌≡◌, ◌+◌, ◌-◌, ◌<◌, length, slice_index, IfOk, OnOk};
 ghost use Rattle.fleet_model.specs.Program.{Program};
@@ -9,8 +9,8 @@ use fleet_machine::Machine;
 use fleet_model::{OutOfMemory, ProgramView};
 use std::alloc::Global;
 
-/// The agents whose actions finish, tick by tick, and in rising order within a tick. Which action it is follows from how often the
-/// agent stands before.
+/// The agents whose actions finish, tick by tick, and in rising order within a tick. Which action it is follows from
+/// how often the agent stands before.
 #[derive(Drop)]
 pub(crate) struct FinishOrder {
     agents: Vec<u16>,
@@ -55,7 +55,7 @@ impl FinishOrder {
         Ok(())
     }
 
-    /// Where the agents begin of the tick that comes after so many.
+    /// The place at which the agents begin of the tick that comes after so many.
     pub(crate) fn begin(&self, ticks: usize) -> usize
         requires { ticks < length self.now.ends.items }
         ensures { result ≡ slice_index self.now.ends.items ticks }
@@ -71,7 +71,8 @@ impl FinishOrder {
         self.agents[place]
     }
 
-    /// How many rows are kept at once at most, where a row is kept from the tick that finishes its action to the last that takes it.
+    /// How many rows are kept at once at most, if each is kept from the tick that finishes its action to the last that
+    /// takes it.
     pub(crate) fn most_rows(&self, due: &DueRows) -> usize {
         let mut kept: usize = 0;
         let mut most = 0;

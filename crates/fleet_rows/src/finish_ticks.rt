@@ -1,4 +1,4 @@
-//! The tick that finishes each action where nobody is held.
+//! The tick that finishes each action if nobody is held.
 
 ghost use Rattle.std.specs.Prelude.{◌≡◌, ◌+◌, ◌<◌, [], length, IfOk, OnOk};
 ghost use Rattle.fleet_model.specs.Program.{AreInRange, total_moves};
@@ -13,10 +13,11 @@ use fleet_machine::Machine;
 use fleet_model::{ActionId, MAX_AGENTS, OutOfMemory, ProgramView, total_moves};
 use std::alloc::Global;
 
-/// More ticks no run without holds counts.
+/// No run without holds has more ticks.
 const MAX_TICKS: u32 = u32::MAX;
 
-/// For each action, by its place, the tick that finishes it where nobody is held. Ticks count from 1, and rise along chains.
+/// For each action, by its place, the tick that finishes it if nobody is held. Ticks count from 1, and rise along
+/// chains.
 #[derive(Drop)]
 pub(crate) struct FinishTicks {
     places: ActionPlaces,

@@ -21,7 +21,7 @@ pub(crate) struct Flagging<'a> {
     flags: Vec<bool>,
 }
 
-/// The flags of the awaits, where those of agents that have a column say whether others imply the await.
+/// The flags of the awaits, of which those for agents that have a column now say whether others imply the await.
 pub(crate) fn flag_implied<P: ProgramView>(
     alloc: Global,
     program: &P,
@@ -51,7 +51,7 @@ impl<'a> RowUse for Flagging<'a> {
 
     ghost keeps = { λ p b old new. AreLeft p b.columns old.flags.items new.flags.items };
 
-    /// On the way to the row of the action its awaits are flagged.
+    /// Its awaits are flagged on the way to the row of the action.
     fn use_row<P: ProgramView>(
         &mut self,
         program: &P,

@@ -27,7 +27,7 @@ pub struct ImpliedAwaits {
 }
 
 impl ImpliedAwaits {
-    /// Await `k` of the action, where no others of the action imply it. Takes no memory.
+    /// Await `k` of the action, unless others imply it. Takes no memory.
     pub fn unimplied<P: ProgramView>(&self, program: &P, action: ActionId, k: u16) -> Option<Await>
         requires implied { AreImplied (P.program program.now) self.now }
         requires action { IsAction (P.program program.now) action }
@@ -49,8 +49,8 @@ impl ImpliedAwaits {
     }
 }
 
-/// Of each await of the program whether it is implied: the awaited action begins a chain of needs that ends with another
-/// action which the same action directly needs. The program finishes after so many ticks where nobody is held.
+/// Of each await of the program whether it is implied: the awaited action begins a chain of needs that ends with
+/// another action which the same action directly needs. The program finishes after so many ticks if nobody is held.
 pub fn implied_awaits<P: ProgramView>(
     alloc: Global,
     program: &P,
@@ -66,7 +66,8 @@ pub fn implied_awaits<P: ProgramView>(
     Ok(ImpliedAwaits { places, flags })
 }
 
-/// The flags of awaits that others imply: of those that few steps tell, and then, where there are others, of those of their agents.
+/// The flags of awaits that others imply: first by a few steps back, and then, for the agents of awaits that these
+/// leave open, by rows.
 fn tell_all<P: ProgramView>(
     alloc: Global,
     program: &P,

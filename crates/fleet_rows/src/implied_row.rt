@@ -1,5 +1,5 @@
-//! The row of all that an action needs but one await, for each of its awaits, in one row: each column leaves out the await of
-//! its own agent.
+//! The counts of all that an action needs but for one await, for each of its awaits, in one row: each column leaves out
+//! the await of its own agent.
 
 ghost use Rattle.std.specs.Prelude.{◌≡◌, ◌≢◌, ◌+◌, ◌<◌, ℕ, false, nat_le, length, max, get_or, slice_index, slice_get, Some, None};
 ghost use Rattle.fleet_model.specs.Program.{awaits_of, total_awaits, AreInRange};
@@ -35,7 +35,7 @@ pub(crate) fn others_row<P: ProgramView>(
     join_others(program, block, kept, row, action.agent, finished);
 }
 
-/// Makes it the row of the action.
+/// Makes such a row the row of the action.
 pub(crate) fn whole_row<P: ProgramView>(
     program: &P,
     block: &Block<'_>,
@@ -55,8 +55,8 @@ pub(crate) fn whole_row<P: ProgramView>(
     set_own(block, row, agent, number);
 }
 
-/// Joins the rows of all actions that the next one of the agent awaits into the row of the one before, but for the count of
-/// each one's own agent.
+/// Joins the rows of all actions that the next one of the agent awaits into the row of the one before, but for the
+/// count of each one's own agent.
 fn join_others<P: ProgramView>(
     program: &P,
     block: &Block<'_>,
@@ -135,7 +135,7 @@ pub(crate) fn flag_awaits<P: ProgramView>(
     }
 }
 
-/// Flags an await whose agent has a column, where the agent's count in the row is no less than that of the await.
+/// Flags an await, if its agent has a column: whether the agent's count in the row is no less than that of the await.
 fn flag_await(columns: &Columns, row: &[u32], awaited: Await, place: usize, flags: &mut [bool])
     requires agent { awaited.agent < length columns.now.of_agent.items }
     requires within { (j k : ℕ) → HasColumn columns.now j k → k < length row.now }
@@ -151,7 +151,7 @@ fn flag_await(columns: &Columns, row: &[u32], awaited: Await, place: usize, flag
     }
 }
 
-/// Joins what was left out: of each action that the next one of the agent awaits the count of its own agent.
+/// Joins the counts that were left out: of each action that the next one of the agent awaits that of its own agent.
 fn join_own<P: ProgramView>(
     program: &P,
     block: &Block<'_>,

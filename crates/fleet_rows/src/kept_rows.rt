@@ -1,4 +1,4 @@
-//! Rows that are kept for those that take them later.
+//! Rows of actions, kept for the later actions that take them.
 
 ghost use Rattle.std.specs.Prelude.{◌≡◌, ◌+◌, ◌*◌, ◌<◌, ◌≤◌, ◌↔◌, ℕ, length, get_or, max, slice_index, Some, None, IfOk, IsTrue};
 ghost use Rattle.fleet_rows.specs.Kept.{IsSound, IsKept, IsLast, slot_at, mark_of, count_in, HasSame, IsKeptMore, IsReleased, IsVacated};
@@ -7,7 +7,7 @@ use crate::kernels::join_rows;
 use fleet_model::OutOfMemory;
 use std::alloc::Global;
 
-/// A slot for one row: the place of the action of which it has the row, and the last tick that takes that.
+/// A slot for one row: the place of the action whose row it has, and the last tick that takes that row.
 #[derive(Clone, Copy, Debug, PartialEq, Eq)]
 pub(crate) struct Slot {
     pub(crate) owner: Option<usize>,
@@ -147,7 +147,7 @@ impl KeptRows {
         );
     }
 
-    /// A slot without a row, which is new where none was left.
+    /// A slot without a row, which is new if no free one is left.
     fn vacant_slot(&mut self) -> Result<u32, OutOfMemory>
         requires { IsSound self.old }
         ensures sound { IfOk result (λ _. IsSound self.new) }
@@ -189,7 +189,7 @@ impl KeptRows {
         Ok(slot as u32)
     }
 
-    /// Lets the row of an action go, where one is kept that no tick after this one takes.
+    /// Lets the row of an action go, if one is kept and no tick after this one takes it.
     pub(crate) fn release(&mut self, action: usize, tick: u32) -> Result<(), OutOfMemory>
         requires sound { IsSound self.old }
         requires action { action < length self.old.marks.items }

@@ -37,7 +37,8 @@ pub(crate) fn asked_agents<P: ProgramView>(
     Ok(asked)
 }
 
-/// Whether so many steps back from the last action find a chain that begins with the first. Where they find none there may be one.
+/// Whether so many steps back from the last action find a chain that begins with the first. If they find none, there
+/// may still be one.
 fn is_near<P: ProgramView>(program: &P, first: ActionId, last: ActionId, steps: u8) -> bool
     requires range { AreInRange (P.program program.now) }
     requires agent { first.agent < length (P.program program.now) }

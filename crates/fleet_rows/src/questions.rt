@@ -21,8 +21,9 @@ pub struct Question {
     pub last: ActionId,
 }
 
-/// For each question whether no chain of needs begins with its first action and ends with its last. The program finishes
-/// after so many ticks where nobody is held. Rows of counts are kept as long as some action is still to take them.
+/// For each question whether no chain of needs begins with its first action and ends with its last. The program
+/// finishes after so many ticks if nobody is held. Rows of counts are kept as long as some action is still to take
+/// them.
 pub fn unreached<P: ProgramView>(
     alloc: Global,
     program: &P,
@@ -93,7 +94,7 @@ const COUNTS: usize = 4_194_304;
 /// The least number of columns of a block.
 const LEAST_COLUMNS: usize = 8;
 
-/// How many columns a block has at most: as many as there is room for, where the most rows are kept at once, and at least 8.
+/// How many columns a block has at most: as many as there is room for while the most rows are kept, and at least 8.
 pub(crate) fn columns_at_once(notes: &RunNotes) -> u16
     ensures { 1 ≤ result }
 {

@@ -1,5 +1,5 @@
-//! A pass over the actions of a program in the order in which they finish where nobody is held: the row of each is made, used, and
-//! kept as long as some action is still to take it.
+//! A pass over the actions of a program in the order in which they finish if nobody is held: the row of each is made,
+//! used, and kept as long as some action is still to take it.
 
 ghost use Rattle.std.specs.Prelude.{◌≡◌, ◌+◌, ◌<◌, ℕ, [], List, length, replicate, set, OnOk};
 ghost use Rattle.fleet_model.specs.Program.{AreInRange};
@@ -22,10 +22,10 @@ pub(crate) trait RowUse {
     ghost use Rattle.fleet_model.specs.Program.{Program};
     ghost use Rattle.fleet_rows.specs.declared.block.Block.{Block};
 
-    /// Where it stands once the rows were used of so many actions of each agent.
+    /// The state of the use once the rows of so many actions of each agent were used.
     ghost used: { Program → Block → List ℕ → Self → Type 0 };
 
-    /// What the rows of a block leave as it was.
+    /// The part of the state that the rows of a block leave as it was.
     ghost keeps: { Program → Block → Self → Self → Type 0 };
 
     /// Makes the row of the next action, and uses it.
@@ -47,10 +47,10 @@ pub(crate) trait RowUse {
             (set pass.now.counts.items action.agent action.number) self.new) }
         ensures keeps { OnOk result (keeps (P.program program.now) block.now self.old self.new) };
 
-    /// No rows leave all as it was.
+    /// If no row is used, that part is as it was.
     ghost same: { (p : Program) (b : Block) (s : Self) → keeps p b s s };
 
-    /// What some rows leave as it was and then others, all of them do.
+    /// If some rows leave that part as it was, and then others do, all of them do.
     ghost joined: { (p : Program) (b : Block) (s t u : Self) → keeps p b s t → keeps p b t u → keeps p b s u };
 }
 
@@ -110,7 +110,8 @@ fn run_on<P: ProgramView, U: RowUse>(
     Ok(())
 }
 
-/// Makes and uses the rows of the actions that are finished by the tick that comes after so many, and keeps those that are taken.
+/// Makes and uses the rows of the actions that are finished by the tick that comes after so many, and keeps those that
+/// are taken.
 fn use_tick<P: ProgramView, U: RowUse>(
     program: &P,
     block: &Block<'_>,
@@ -141,7 +142,7 @@ fn use_tick<P: ProgramView, U: RowUse>(
     Ok(())
 }
 
-/// Makes and uses the row of an action, and keeps it where it is taken.
+/// Makes and uses the row of an action, and keeps it if some tick takes it.
 fn finish<P: ProgramView, U: RowUse>(
     program: &P,
     block: &Block<'_>,
@@ -167,7 +168,7 @@ fn finish<P: ProgramView, U: RowUse>(
     Ok(())
 }
 
-/// Keeps the row of an action where some tick takes it.
+/// Keeps the row of an action, if some tick takes it.
 fn keep_row<P: ProgramView>(
     program: &P,
     block: &Block<'_>,
@@ -191,7 +192,7 @@ fn keep_row<P: ProgramView>(
     Ok(())
 }
 
-/// Lets the rows of these actions go, where no tick after this one takes them.
+/// Lets the rows of these actions go, of each if no tick after this one takes it.
 fn free_rows(kept: &mut KeptRows, due: &[u32], tick: u32) -> Result<(), OutOfMemory>
     requires { IsSound kept.old }
     ensures { OnOk result (IsFreed tick kept.old kept.new) }

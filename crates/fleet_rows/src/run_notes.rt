@@ -1,4 +1,4 @@
-//! What is noted of the actions of a program before any of their rows is made.
+//! Notes on the actions of a program, which are taken before any of their rows is made.
 
 ghost use Rattle.std.specs.Prelude.{◌≡◌, IfOk};
 ghost use Rattle.fleet_model.specs.Program.{AreInRange};
@@ -11,8 +11,8 @@ use crate::takers::note_ticks;
 use fleet_model::{OutOfMemory, ProgramView, total_moves};
 use std::alloc::Global;
 
-/// Where the actions stand, the last of so many ticks that takes each, the order in which they finish, and which are due after each
-/// tick.
+/// The places of the actions, the last of so many ticks that takes each, the order in which they finish, and the rows
+/// that are due to go after each tick.
 #[derive(Drop)]
 pub(crate) struct RunNotes {
     pub(crate) places: ActionPlaces,
@@ -23,7 +23,7 @@ pub(crate) struct RunNotes {
 }
 
 impl RunNotes {
-    /// Those of a program and so many ticks.
+    /// The notes on a program, for so many ticks.
     pub(crate) fn of<P: ProgramView>(
         alloc: Global,
         program: &P,

@@ -1,4 +1,4 @@
-//! Awaits of which few steps back from their action tell whether others imply them.
+//! Awaits for which a few steps back from their action show whether others imply them.
 
 ghost use Rattle.std.specs.Prelude.{◌≡◌, ◌+◌, ◌<◌, ◌≤◌, ℕ, [], true, false, length, slice_get, Some, IfOk, IsTrue};
 ghost use Rattle.fleet_model.specs.Program.{AreInRange, awaits_of, moves, total_awaits};
@@ -16,11 +16,11 @@ use std::alloc::Global;
 /// So many actions are looked at for an await.
 const STEPS: u8 = 16;
 
-/// Steps go back from no action with more awaits.
+/// No step goes back from an action with more awaits.
 const AWAITS: u16 = 16;
 
-/// Flags the awaits that others imply, where few steps tell whether they do, and flags the agents of all other awaits. The
-/// program finishes after so many ticks where nobody is held.
+/// Flags the awaits that others imply, as far as a few steps back show it, and answers a flag for each agent: whether
+/// an await of it is left open. The program finishes after so many ticks if nobody is held.
 pub(crate) fn settle_all<P: ProgramView>(
     alloc: Global,
     program: &P,
@@ -77,7 +77,8 @@ fn settle_agent<P: ProgramView>(
     }
 }
 
-/// Flags the awaits of an action that others imply, where few steps tell whether they do, and flags the agents of the others.
+/// Flags the awaits of an action that others imply, as far as a few steps back show it, and flags the agents of those
+/// that are left open.
 fn settle_action<P: ProgramView>(
     program: &P,
     ticks: &FinishTicks,
@@ -109,7 +110,7 @@ fn settle_action<P: ProgramView>(
     }
 }
 
-/// The place of an await of the action whose action has the greatest tick, or 0.
+/// The place of an await of the action of which the awaited action has the greatest tick, or 0.
 fn latest_await<P: ProgramView>(program: &P, ticks: &FinishTicks, action: ActionId) -> u16
     requires range { AreInRange (P.program program.now) }
     requires ticks { AreTicks (P.program program.now) ticks.now }
@@ -130,7 +131,7 @@ fn latest_await<P: ProgramView>(program: &P, ticks: &FinishTicks, action: Action
     latest
 }
 
-/// The action of await `k` of an action.
+/// The awaited action of await `k` of an action.
 fn awaited_at<P: ProgramView>(program: &P, action: ActionId, k: u16) -> ActionId
     requires range { AreInRange (P.program program.now) }
     requires action { IsAction (P.program program.now) action }
@@ -146,8 +147,8 @@ fn awaited_at<P: ProgramView>(program: &P, action: ActionId, k: u16) -> ActionId
     }
 }
 
-/// Whether others imply await `k` of the action, where the await that has the greatest tick or few steps tell. Looks at the
-/// awaits of that one's action from a place on, which rises.
+/// Whether others imply await `k` of the action, if the await with the greatest tick or a few steps back show it. The
+/// awaits of that one's action are looked at from the place `from` on, which rises.
 fn is_implied<P: ProgramView>(
     program: &P,
     ticks: &FinishTicks,
@@ -194,7 +195,7 @@ fn next_await<P: ProgramView>(program: &P, action: ActionId, agent: u16, from: u
     k
 }
 
-/// Whether the action has an await with this number, which is of the first action's agent and counts as many actions or more.
+/// Whether await `k` of the action, if there is one, is of the first action's agent and counts as many actions or more.
 fn is_needed<P: ProgramView>(program: &P, first: ActionId, action: ActionId, k: u16) -> bool
     requires range { AreInRange (P.program program.now) }
     requires first { IsAction (P.program program.now) first }
@@ -209,8 +210,8 @@ fn is_needed<P: ProgramView>(program: &P, first: ActionId, action: ActionId, k: 
     needed.agent == first.agent && first.number <= needed.count
 }
 
-/// Whether the action of await `k` begins a chain of needs that ends with another action which the same action directly needs,
-/// where few steps tell.
+/// Whether the action of await `k` begins a chain of needs that ends with another action which the same action directly
+/// needs, if a few steps back show it.
 fn reaches_other<P: ProgramView>(
     program: &P,
     ticks: &FinishTicks,
@@ -249,8 +250,8 @@ fn reaches_other<P: ProgramView>(
     joined(known, reaches(program, ticks, first, before, &mut steps))
 }
 
-/// Whether a chain of needs begins with the first action and ends with the last, where so many steps back from the last tell.
-/// Each step taken is one less.
+/// Whether a chain of needs begins with the first action and ends with the last, if so many steps back from the last
+/// show it. `steps` is one less after each step.
 fn reaches<P: ProgramView>(
     program: &P,
     ticks: &FinishTicks,
@@ -305,7 +306,7 @@ fn before(action: ActionId) -> ActionId
     }
 }
 
-/// What is known of all: no, where it is known of the others that it is no and of the one too.
+/// The answer for all: no, if it is known of the others that it is no, and of this one too.
 fn joined(known: bool, one: Option<bool>) -> Option<bool>
     ensures yes { result ≡ Some true → one ≡ Some true }
     ensures no { result ≡ Some false → (known ≡ true) × (one ≡ Some false) }

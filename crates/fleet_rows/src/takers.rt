@@ -1,4 +1,5 @@
-//! The last ticks in which actions are taken by those that directly need them, and the order in which the actions finish.
+//! The last ticks in which actions are taken by those that directly need them, and the order in which the actions
+//! finish.
 
 ghost use Rattle.std.specs.Prelude.{◌≡◌, ◌+◌, ◌<◌, ◌≤◌, ℕ, [], length, slice_index, slice_get, Some, OnOk};
 ghost use Rattle.fleet_model.specs.Program.{AreInRange, awaits_of, total_moves};
@@ -14,11 +15,11 @@ use fleet_machine::Machine;
 use fleet_model::{ActionId, MAX_AGENTS, OutOfMemory, ProgramView};
 use std::alloc::Global;
 
-/// More ticks no run without holds counts.
+/// No run without holds has more ticks.
 const MAX_TICKS: u32 = u32::MAX;
 
-/// Notes for each action, by its place, the last of so many ticks in which an action is finished that directly needs it, where the
-/// list has 0 for each, and the order in which the actions finish. Ticks count from 1.
+/// Notes for each action, by its place, the last of so many ticks in which an action is finished that directly needs
+/// it, and the order in which the actions finish. At first the list has 0 for each action. Ticks count from 1.
 pub(crate) fn note_ticks<P: ProgramView>(
     alloc: Global,
     program: &P,
@@ -47,7 +48,7 @@ pub(crate) fn note_ticks<P: ProgramView>(
     Ok(())
 }
 
-/// Notes what the actions take that the last tick has finished, which came after so many ticks.
+/// Notes the actions that are directly needed by those that the last tick has finished, which came after so many ticks.
 fn note_moved<P: ProgramView>(
     program: &P,
     places: &ActionPlaces,
@@ -79,7 +80,7 @@ fn note_moved<P: ProgramView>(
     }
 }
 
-/// Notes that this tick takes what the action directly needs.
+/// Notes that this tick takes the actions that this one directly needs.
 fn note_needed<P: ProgramView>(
     program: &P,
     places: &ActionPlaces,
@@ -100,7 +101,7 @@ fn note_needed<P: ProgramView>(
     }
 }
 
-/// Notes that this tick takes what the action awaits.
+/// Notes that this tick takes the actions that this one awaits.
 fn note_awaited<P: ProgramView>(
     program: &P,
     places: &ActionPlaces,

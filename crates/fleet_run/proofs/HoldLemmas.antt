@@ -37,9 +37,6 @@ word_inside n least i word words small e low high =
 -- ---- the words so far
 
 module _ (total : Option (List ℕ)) (held : List ℕ) (part : Option (List ℕ)) (so_far : total ≡ option_map (λ (more : List ℕ). held ++ more) part) where
-  pub none_so : part ≡ None → total ≡ None
-  none_so e = so_far ∙ ap (option_map (λ (more : List ℕ). held ++ more)) e
-
   pub one_more : (i : ℕ) (rest : Option (List ℕ)) → part ≡ option_map (λ (others : List ℕ). i ∷ others) rest → total ≡ option_map (λ (more : List ℕ). (held ++ i ∷ []) ++ more) rest
   one_more i rest e = so_far ∙ ap (option_map (λ (more : List ℕ). held ++ more)) e ∙ joined rest
     where

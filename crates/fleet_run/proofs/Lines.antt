@@ -202,9 +202,6 @@ pub record IsRewritten (m : MachineState) (from : ℕ) (row begins : List ℕ) :
   pub agents : length now ≡ length m.configuration
   pub same : (i : ℕ) → (from ≤ i → flag_of m.moving i ≡ false) → standing_at now i ≡ standing_at m.configuration i
 
-pub rewritten_first : (m : MachineState) (row begins : List ℕ) → IsKeptBefore m row begins → IsRewritten m 0 row begins
-rewritten_first m row begins h = record { now = h.before; kept = h.kept; agents = h.agents; same = λ i none. h.same i (none (omega arith)) }
-
 pub rewritten_next : (m : MachineState) (from i : ℕ) (row row' begins : List ℕ) → IsRewritten m from row begins → IsNextFrom m.moving from i → i < length m.configuration
     → IsWrittenOver (standing_at m.configuration i).place (get_or begins i 0) (get_or begins (i + 1) 0) row row' → IsRewritten m (i + 1) row' begins
 rewritten_next m from i row row' begins h next agent over =
@@ -232,9 +229,6 @@ really_over false q at end row row' h e = absurd cc
 -- the begins of an agent's place and of the next are in order
 pub in_order : (m : MachineState) (from i : ℕ) (row begins : List ℕ) → IsRewritten m from row begins → i < length m.configuration → get_or begins i 0 ≤ get_or begins (i + 1) 0
 in_order m from i row begins h agent = begins_rise h.now row begins (standing_at h.now i) h.kept i 1 (omega (arith, h.agents))
-
-pub inside : (m : MachineState) (from i : ℕ) (row begins : List ℕ) → IsRewritten m from row begins → i < length m.configuration → get_or begins (i + 1) 0 ≤ 24588
-inside m from i row begins h agent = omega (arith, h.kept.within (i + 1) (omega (arith, h.agents)))
 
 -- the time is written before the places
 pub timed : (c : Configuration) (row row' begins digits : List ℕ) (at : ℕ) → IsLineKept c row begins → drop at row' ≡ digits ++ (58 ∷ drop (get_or begins 0 0) row)

@@ -10,10 +10,6 @@ or_true : (a : Bool) → (a || true) ≡ true
 or_true true = refl
 or_true false = refl
 
-or_false : (a : Bool) → (a || false) ≡ a
-or_false true = refl
-or_false false = refl
-
 pub is_among-last : (i n : ℕ) (ns : List ℕ) → (n == i) ≡ true → is_among (ns ++ n ∷ []) i ≡ true
 is_among-last i n [] e = rw e refl
 is_among-last i n (m ∷ ms) e = rw (is_among-last i n ms e) (or_true (m == i))

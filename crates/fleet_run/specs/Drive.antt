@@ -22,12 +22,12 @@ pub record IsDriven (p : Program) (chain : ℕ) (source source' : SourceState) (
   pub the_chain : r.chain ≡ chain
   pub held : r.held ≡ held_ticks p source.ticks r.ticks
 
--- what is written from the line of time t on: that line, and the closing lines where all is finished
+-- the text from the line of time t on: that line, and the closing lines if all is finished
 abbrev pub trace_from : Program → ℕ → Holds → ℕ → List ℕ
 trace_from p chain holds t =
     line_of t (run p holds t) ++ (if is_finished p (run p holds t) then trace_closing (length p) t chain (held_ticks p holds t) else [])
 
--- the outcome, and the configuration in which the fleet is left
+-- what a run of a fleet asked for, wrote and answered, and the configuration in which it left the fleet
 abbrev pub Drives : Program → ℕ → (source source' : SourceState) (out out' : SinkState) → Configuration → Result Report RunFault → Type 0
 Drives p chain s s' o o' c (Ok r) = (c ≡ run p s.ticks r.ticks) × IsDriven p chain s s' o o' r
 Drives p chain s s' o o' c (Err OutOfMemory) = ⊥

@@ -30,10 +30,11 @@ is_plain [] = true
 is_plain (d ∷ []) = true
 is_plain (d ∷ e ∷ ds) = not (d == 48)
 
+-- the number that a word spells without a leading zero, if it spells one
 abbrev pub plain_number : Bytes → Option ℕ
 plain_number word = if is_plain word then number word else None
 
--- the agents that the words name, the first of them at least least, of n
+-- the agents below n that the words name in strictly rising order from the number `least` on, if they do
 abbrev pub agents_of : ℕ → ℕ → List Bytes → Option (List ℕ)
 agents_of n least [] = Some []
 agents_of n least (word ∷ words) =
@@ -41,21 +42,23 @@ agents_of n least (word ∷ words) =
     (λ i. if nat_le least i && nat_lt i n then option_map (λ others. i ∷ others) (agents_of n (i + 1) words) else None)
     (plain_number word)
 
+-- the byte between two numbers
 abbrev pub is_space : ℕ → Bool
 is_space b = b == 32
 
--- is it the line of the tick that holds nobody
+-- whether it is the line of the tick that holds nobody
 abbrev pub is_dash : Bytes → Bool
 is_dash [] = false
 is_dash (b ∷ []) = b == 45
 is_dash (b ∷ c ∷ bs) = false
 
--- the agents that the line of a tick holds, of n
+-- the agents that a line holds, if it is the line of a tick of n agents
 abbrev pub tick_of : ℕ → Bytes → Option (List ℕ)
 tick_of n line = if is_dash line then Some [] else agents_of n 0 (slice_split is_space line)
 
 -- ---- the ticks of a text
 
+-- the ticks from a line on, by its own tick and those after it: none if it is no tick's
 abbrev pub tick_before : Option (List ℕ) → Holds → Holds
 tick_before None ticks = []
 tick_before (Some tick) ticks = tick ∷ ticks
@@ -65,6 +68,7 @@ abbrev pub ticks_of : ℕ → List Bytes → Holds
 ticks_of n [] = []
 ticks_of n (line ∷ lines) = tick_before (tick_of n line) (ticks_of n lines)
 
+-- what comes after the ticks from a line on: the failure if it is no tick's
 abbrev pub fault_before : Option (List ℕ) → Option SourceFault → Option SourceFault
 fault_before None last = Some Text
 fault_before (Some tick) last = last
@@ -80,6 +84,7 @@ pub record HoldLines : Type 0 where
   pub agents : ℕ
   pub has_failed : Bool
 
+-- the source that gives its ticks
 abbrev pub source_of : HoldLines → SourceState
 source_of t = record { ticks = ticks_of t.agents t.lines; last = last_of t.agents t.lines; fault = if t.has_failed then Some Text else None }
 

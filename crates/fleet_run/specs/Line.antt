@@ -20,7 +20,7 @@ pub record IsLineKept (c : Configuration) (row begins : List ℕ) : Type 0 where
   pub within : (k : ℕ) → k ≤ length c → get_or begins k 0 ≤ 24587
   pub places : (k : ℕ) → k ≤ length c → drop (get_or begins k 0) row ≡ places_text (drop k c)
 
--- a place was written over the bytes from `at` to `end`, and it has as many
+-- a place was written over the bytes from `at` to `end`, and has as many bytes
 pub record IsWrittenOver (q : Place) (at end : ℕ) (row row' : List ℕ) : Type 0 where
   pub fits : at + length (place_text q) ≡ end
   pub written : row' ≡ take at row ++ (place_text q ++ drop end row)
@@ -30,7 +30,7 @@ abbrev pub WritesOver : Bool → (q : Place) (at end : ℕ) (row row' : List ℕ
 WritesOver true q at end row row' = IsWrittenOver q at end row row'
 WritesOver false q at end row row' = row' ≡ row
 
--- the row has the places from before a tick: those that the machine's last tick did not move stand there still
+-- the row has the places from before the machine's last tick: the agents that this did not move stand there still
 pub record IsKeptBefore (m : MachineState) (row begins : List ℕ) : Type 0 where
   pub before : Configuration
   pub kept : IsLineKept before row begins

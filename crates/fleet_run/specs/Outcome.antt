@@ -28,12 +28,12 @@ fault_of Text tick = Hold tick
 abbrev pub EndTest : Type 0
 EndTest = Program → Configuration → Bool
 
--- the run was over before none of these ticks
+-- the run is not over before any of its first t ticks
 abbrev pub NeedsTicks : EndTest → Program → Holds → ℕ → Type 0
 NeedsTicks over p holds t = (s : ℕ) → s < t → over p (run p holds s) ≡ false
 
 -- The source was asked for the first t ticks, and has not failed: it has lost those of its list, and what comes after the list
--- is as before; where the list is shorter, nothing came after it
+-- is as before; if the list is shorter, nothing came after it
 pub record IsAskedFor (t : ℕ) (source source' : SourceState) : Type 0 where
   pub left : source'.ticks ≡ drop t source.ticks
   pub kept : t ≤ length source.ticks → source'.last ≡ source.last

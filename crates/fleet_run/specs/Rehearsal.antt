@@ -22,16 +22,17 @@ pub record IsRehearsed (p : Program) (source source' : SourceState) (out out' : 
   pub held : r.held ≡ held_ticks p source.ticks r.ticks
   pub end : run_end p (run p source.ticks r.ticks) ≡ Some r.end
 
--- nothing was asked, and nothing was written
+-- no tick was asked for, and nothing was written
 pub record IsUntouched (source source' : SourceState) (out out' : SinkState) : Type 0 where
   pub asked : IsAskedFor 0 source source'
   pub taken : Keeps out.taken out'.taken
   pub working : IsWorking out'
 
--- what is written from the line of time t on: that line, and the closing lines where the run is over
+-- the text from the line of time t on: that line, and the closing lines if the run is over
 abbrev pub text_from : Program → Holds → ℕ → List ℕ
 text_from p holds t = line_of t (run p holds t) ++ (if is_over p (run p holds t) then rehearsal_closing p holds t else [])
 
+-- what a rehearsal asked for, wrote and answered
 abbrev pub Rehearses : Program → (source source' : SourceState) (out out' : SinkState) → Result Rehearsal RunFault → Type 0
 Rehearses p s s' o o' (Ok r) = IsRehearsed p s s' o o' r
 Rehearses p s s' o o' (Err OutOfMemory) = IsUntouched s s' o o'

@@ -1,4 +1,4 @@
--- What a source of held sets can still give, what comes after that, and as what it has failed.
+-- The ticks that a source can still give, what comes after them, and how it has failed.
 use Rattle.std.specs.Prelude.{◌≡◌, ℕ, ◌<◌, Bool, true, false, List, [], ◌∷◌, length, None, Some, Option, Result, Ok, Err}
 use Rattle.fleet_model.specs.Machine.{Holds, is_among}
 use Rattle.fleet_machine.specs.Machine.{flag_of}
@@ -12,7 +12,7 @@ AreFlagsOf tick flags = (i : ℕ) → i < length flags → flag_of flags i ≡ i
 pub record SourceState : Type 0 where
   pub ticks : Holds  -- what it can still give, each tick by the numbers of the agents that it holds
   pub last : Option SourceFault  -- what comes after them: nothing, or the failure
-  pub fault : Option SourceFault  -- as what it has failed, if it has
+  pub fault : Option SourceFault  -- how it has failed, if it has
 
 -- a source that gives these ticks, and then ends
 abbrev pub list_source : Holds → SourceState
@@ -31,7 +31,7 @@ GivesTick source source' (Ok false) flags = (source.ticks ≡ []) × (source'.ti
 GivesTick source source' (Err e) flags =
     (source.ticks ≡ []) × (source'.ticks ≡ []) × (source.last ≡ Some e) × (source'.last ≡ source.last) × (source'.fault ≡ Some e)
 
--- the agents held in the first tick, or nobody where there is none
+-- the agents held in the first tick, or nobody if there is none
 abbrev pub first_of : Holds → List ℕ
 first_of [] = []
 first_of (tick ∷ ticks) = tick
@@ -41,8 +41,8 @@ abbrev pub rest_of : Holds → Holds
 rest_of [] = []
 rest_of (tick ∷ ticks) = ticks
 
--- A source is asked, unless it has ended: the flags are set to the first tick, which is taken off, or to nobody where there is
--- none, and it is told whether there was one; or the source has failed
+-- A source is asked, unless it has ended: the flags are set to the first tick, which is taken off, or to nobody if there is
+-- none, and the answer says whether there was one; or the source has failed
 abbrev pub AsksTick : (ended : Bool) (source source' : SourceState) → Result Bool SourceFault → List Bool → Type 0
 AsksTick ended source source' (Ok true) flags =
     (0 < length source.ticks) × (source'.ticks ≡ rest_of source.ticks) × AreFlagsOf (first_of source.ticks) flags × HasNotFailed source' × (source'.last ≡ source.last)

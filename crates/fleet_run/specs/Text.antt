@@ -25,6 +25,7 @@ lines_below p holds (suc n) = lines_below p holds n ++ line_of n (run p holds n)
 abbrev pub number_line : List ℕ → ℕ → List ℕ
 number_line word n = word ++ (codes " " ++ (decimal n ++ codes "\n"))
 
+-- the last line of a rehearsal that ended so
 abbrev pub last_line_of : End → List ℕ
 last_line_of Finished = codes "finished\n"
 last_line_of Stuck = codes "stuck\n"
@@ -35,6 +36,7 @@ closing_lines agents ticks held end =
     number_line (codes "agents") agents ++ (number_line (codes "ticks") ticks
     ++ (number_line (codes "held") held ++ last_line_of end))
 
+-- the same of the rehearsal of a program that ends after this number of ticks
 abbrev pub rehearsal_closing : Program → Holds → ℕ → List ℕ
 rehearsal_closing p holds ticks =
     closing_lines (length p) ticks (held_ticks p holds ticks) (if is_finished p (run p holds ticks) then Finished else Stuck)

@@ -83,8 +83,8 @@ impl<'g, P: ProgramView> Fleet<'g, P> {
     }
 
     /// One tick: every ready agent that is not held finishes one action, and all others stay. `held` has a flag for each
-    /// agent. It looks at those that are ready, and at no others but those that are not and await an agent which it moves. A tick of
-    /// a finished fleet changes nothing. Takes no memory.
+    /// agent. It looks at the ready agents, and at no others but agents that are not ready and await one that it moves. A tick of a
+    /// finished fleet changes nothing. Takes no memory.
     pub fn tick(&mut self, held: &[bool]) -> Tick
         requires { length held.now ≡ length (P.program self.old.accepted.program) }
         ensures after { self.new ≡ record self.old {
@@ -98,7 +98,7 @@ impl<'g, P: ProgramView> Fleet<'g, P> {
         ensures held { result.ready_held ≡ is_ready_held (P.program self.old.accepted.program) (flag_of held.now) self.old.configuration }
         // All places are passable and differ, and no agent stands where another stood before.
         ensures safe { IsSafeStep (is_passable self.old.accepted.grid) (length (P.program self.old.accepted.program)) self.old.configuration self.new.configuration }
-        // Who is held keeps its order.
+        // An agent that is held keeps its order.
         ensures kept { (i : ℕ) → i < length (P.program self.old.accepted.program) → IsTrue (flag_of held.now i) → KeepsOrder (P.program self.old.accepted.program) self.old.configuration self.new.configuration i }
         ensures rest { IsTrue (is_finished (P.program self.old.accepted.program) self.old.configuration) → (self.new ≡ self.old) × (result.moved ≡ 0) × (result.ready_held ≡ false) }
     {
@@ -108,8 +108,8 @@ impl<'g, P: ProgramView> Fleet<'g, P> {
     }
 
     /// The flagged agents have carried out their orders, and all others are still on their way or wait: a tick in which all others are
-    /// held. It looks at those that are flagged, and at no others but those that are not ready and await one of these. Where one of them
-    /// had no order the first such agent is refused, and nothing changes. `done` has a flag for each agent. Takes no memory.
+    /// held. It looks at the flagged agents, and at no others but agents that are not ready and await one of these. If one of them had no
+    /// order, the first such agent is refused, and nothing changes. `done` has a flag for each agent. Takes no memory.
     pub fn confirm(&mut self, done: &[bool]) -> Result<(), NotSent>
         requires { length done.now ≡ length (P.program self.old.accepted.program) }
         ensures accepted { self.new.accepted ≡ self.old.accepted }
@@ -122,7 +122,7 @@ impl<'g, P: ProgramView> Fleet<'g, P> {
             (awaiting_in (P.program self.old.accepted.program) (all_but (flag_of done.now)) self.old.configuration)
             self.old.looked self.new.looked) }
         ensures sent { OnOk result (AreSent (P.program self.old.accepted.program) self.old.configuration (flag_of done.now)) }
-        // Who is not among them stays, and keeps its order.
+        // An agent that is not flagged stays, and keeps its order.
         ensures kept { OnOk result ((i : ℕ) → i < length (P.program self.old.accepted.program) → IsFalse (flag_of done.now i) → KeepsOrder (P.program self.old.accepted.program) self.old.configuration self.new.configuration i) }
         ensures refused { IfErr result (λ e. IsFirstUnsent (P.program self.old.accepted.program) self.old.configuration (flag_of done.now) e.agent) }
         ensures unchanged { OnErr result (self.new ≡ self.old) }
@@ -185,8 +185,7 @@ impl<'g, P: ProgramView> Fleet<'g, P> {
         self.machine.ready_agents(self.accepted.program())
     }
 
-    /// The order that agent `i` may be given: the step of its next action, where it is ready. It stays the same until it is carried
-    /// out.
+    /// The order that agent `i` may be given: the step of its next action, if it is ready. It stays the same until it is carried out.
     pub fn order(&self, i: u16) -> Option<Step>
         requires { i < length (P.program self.now.accepted.program) }
         ensures { result ≡ order_of (P.program self.now.accepted.program) self.now.configuration i }
@@ -236,7 +235,7 @@ impl<'g, P: ProgramView> Fleet<'g, P> {
         &self.accepted
     }
 
-    /// The accepted program that was started.
+    /// The same, handed back: the fleet is over.
     pub fn into_accepted(self) -> Accepted<'g, P>
         ensures { result ≡ self.entry.accepted }
     {
@@ -251,6 +250,8 @@ impl<'g, P: ProgramView> Fleet<'g, P> {
 /// Runs a fleet from its start until it is finished, asks `source` who is held in each tick, and writes the trace text
 /// to `out`: a line for each time, and then how many agents, ticks, actions of the longest chain, and ticks in which a
 /// ready agent was held there were. Takes no memory by itself. After a refusal the fleet may be ticked further.
+///
+/// Errors: `Source` and `Hold` if the source fails, `Write` if `out` does, `HoldLimit` if the source has more than `MOST_TICKS` ticks.
 pub fn drive<P: ProgramView, S: HoldSource, O: TraceOut>(
     fleet: &mut Fleet<'_, P>,
     source: &mut S,

@@ -25,7 +25,7 @@ impl Model for HoldList {
 impl HoldList {
     ghost use Rattle.std.specs.List.Sorted.{IsStrictlyIncreasing};
 
-    /// A source of these rows, each the numbers of the agents that one tick holds.
+    /// A source of these rows, each the numbers of the agents that one tick holds, in strictly rising order.
     pub fn new(rows: Vec<Vec<u16>>) -> HoldList
         requires { All (λ row. IsStrictlyIncreasing row.items) rows.items }
         ensures { result ≡ map (λ row. row.items) rows.items }
@@ -34,7 +34,7 @@ impl HoldList {
     }
 }
 
-/// Sets flag i where i is among the numbers, and passes over the other numbers.
+/// Sets flag i to whether i is among the numbers. Numbers past the flags are passed over.
 fn set_flags(numbers: &[u16], flags: &mut [bool])
     ensures { AreFlagsOf numbers.now flags.new }
 {

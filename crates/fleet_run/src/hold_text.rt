@@ -11,7 +11,7 @@ use fleet_text::{TOO_LARGE, next_line, number_of};
 use std::marker::Model;
 
 /// A source that gives the ticks of a text of holds: one line for each tick, `-` for nobody, or the numbers of the agents that are
-/// held in strictly rising order with one space between two. Where a line that is no tick is asked for, it fails as `Text`.
+/// held in strictly rising order with one space between two. If the line that is asked for is no tick's, it fails as `Text`.
 #[derive(Drop)]
 pub struct HoldText<'a> {
     rest: &'a [u8],
@@ -70,7 +70,8 @@ impl<'a> HoldSource for HoldText<'a> {
     }
 }
 
-/// Sets the flags of the agents that the line of a tick names, of which none is set yet. Answers whether it is such a line.
+/// Sets the flags of the agents that the line of a tick names, before which no flag is set. Answers whether it is the line of a tick of so
+/// many agents; if it is not, some flags may be set.
 pub fn set_tick(line: &[u8], agents: u16, flags: &mut [bool]) -> bool
     requires { AreFlagsOf [] flags.old }
     ensures { MatchBool result
@@ -80,7 +81,7 @@ pub fn set_tick(line: &[u8], agents: u16, flags: &mut [bool]) -> bool
     is_dash(line) || set_agents(line, agents, flags)
 }
 
-/// Whether the line is that of a tick that holds nobody.
+/// Whether it is the line of a tick that holds nobody.
 fn is_dash(line: &[u8]) -> bool
     ensures { result ≡ is_dash line.now }
 {
@@ -115,7 +116,7 @@ fn set_agents(line: &[u8], agents: u16, flags: &mut [bool]) -> bool
     }
 }
 
-/// What stands before the first space of the line, and after it, where there is one.
+/// The bytes of the line before its first space, and those after it, if there is a space.
 fn cut(line: &[u8]) -> (&[u8], Option<&[u8]>)
     ensures words { MatchOption result.1
         (slice_split is_space line.now ≡ result.0.now ∷ [])
@@ -145,7 +146,7 @@ fn plain_number_of(word: &[u8]) -> Option<u32>
     }
 }
 
-/// A line is read as a tick exactly where it is the line of that tick.
+/// A line is read as a tick exactly if it is the line of that tick.
 pub fn a_tick_line_is_read()
     ensures { (n : ℕ) (line held : List ℕ) → n < 65536 → (tick_of n line ≡ Some held) ↔ IsTickLine n line held }
 {}

@@ -9,7 +9,8 @@ use fleet_machine::Machine;
 use fleet_model::{MAX_AGENTS, Place, Standing};
 use fleet_text::write_byte;
 
-/// Writes all places, and where each begins.
+/// Writes the places of all agents and the end of the line, so that they end with the row, and into `begins` where each place begins,
+/// and last where the end of the line does.
 pub fn write_places(rows: &[Standing], row: &mut [u8], begins: &mut [usize])
     requires agents { length rows.now ≤ MAX_AGENTS }
     requires room { length row.old ≡ LINE }
@@ -24,7 +25,7 @@ pub fn write_places(rows: &[Standing], row: &mut [u8], begins: &mut [usize])
     }
 }
 
-/// Writes a place over that of an agent, where both have as many bytes, and says whether it did.
+/// Writes a place over that of agent `i` if both have as many bytes, and answers whether it did.
 fn overwrite(i: usize, place: Place, row: &mut [u8], begins: &[usize]) -> bool
     requires room { length row.old ≡ LINE }
     requires agent { i + 1 < length begins.now }
@@ -57,7 +58,7 @@ pub fn write_time(time: u32, row: &mut [u8], begin: usize) -> usize
     write_count(time, row, at)
 }
 
-/// Writes the places of those that the last tick moved.
+/// Writes the places of the agents that the last tick moved over those before; all places anew if one is longer or shorter than before.
 pub fn write_moved(machine: &Machine, row: &mut [u8], begins: &mut [usize])
     requires agents { length machine.now.configuration ≤ MAX_AGENTS }
     requires before { IsKeptBefore machine.now row.old begins.old }

@@ -15,7 +15,7 @@ use fleet_model::ProgramView;
 use fleet_text::{TraceOut, put_all};
 use std::alloc::Global;
 
-/// What a rehearsal did.
+/// The numbers of a rehearsal, its agents, its ticks and those in which a ready agent was held, and how it ended.
 #[derive(Clone, Copy, Debug, PartialEq, Eq)]
 pub struct Rehearsal {
     pub agents: u16,
@@ -53,7 +53,11 @@ fn run_rehearsal<P: ProgramView, S: HoldSource, O: TraceOut>(
     })
 }
 
-/// Runs any program, accepted or not, and writes its rehearsal text.
+/// Runs any program, accepted or not, from its start until it is finished or stuck, asks `source` who is held in each tick, and writes
+/// the rehearsal text to `out`: a line for each time, how many agents, ticks and ticks in which a ready agent was held there were, and
+/// `finished` or `stuck`.
+///
+/// Errors: `OutOfMemory` before anything is written; and else those of `drive`.
 pub fn rehearse<P: ProgramView, S: HoldSource, O: TraceOut>(
     alloc: Global,
     program: &P,

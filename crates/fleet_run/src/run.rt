@@ -17,14 +17,14 @@ use fleet_model::{MAX_AGENTS, ProgramView};
 use fleet_text::{OutFault, Refusal, TraceOut, put_all, put_memory, put_named, put_named_at};
 use thiserror::Error;
 
-/// How a rehearsal ends.
+/// How a run ends: with no action left, or with actions left and nobody ready.
 #[derive(Clone, Copy, Debug, PartialEq, Eq)]
 pub enum End {
     Finished,
     Stuck,
 }
 
-/// Why a run stopped before its end.
+/// Why a run stopped before its end. Ticks and lines are counted from 1.
 #[derive(Clone, Copy, Debug, PartialEq, Eq, Error)]
 pub enum RunFault {
     #[error("out of memory")]
@@ -64,7 +64,7 @@ impl Refusal for RunFault {
     }
 }
 
-/// A run that came to its end.
+/// A run that came to its end: its ticks, those in which a ready agent was held, and how it ended.
 #[derive(Clone, Copy, Debug, PartialEq, Eq)]
 pub struct Ran {
     pub ticks: u32,
@@ -104,9 +104,10 @@ fn put_line<O: TraceOut>(
     put_all(out, &row[at..])
 }
 
-/// How many ticks a run takes from its source.
+/// How many ticks a run takes from its source at most.
 pub const MOST_TICKS: u32 = 4_194_304;
 
+/// The refusal of a run whose source fails so when it is asked for this tick.
 fn fault_at(fault: SourceFault, tick: u32) -> RunFault
     ensures { result ≡ fault_of fault tick }
 {

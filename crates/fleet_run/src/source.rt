@@ -4,7 +4,7 @@ ghost use Rattle.std.specs.Prelude.{◌≡◌, ℕ, ◌<◌, not, length, true, 
 ghost use Rattle.fleet_run.specs.Source.{HasNotFailed, GivesTick, AsksTick, AreFlagsOf};
 ghost use Rattle.fleet_machine.specs.Machine.{flag_of};
 
-/// As what a source failed: it broke off, or its text has no tick where one was asked for.
+/// How a source failed: it broke off, or the line that was asked for is no tick's.
 #[derive(Clone, Copy, Debug, PartialEq, Eq)]
 pub enum SourceFault {
     Broken,
@@ -18,18 +18,18 @@ pub trait HoldSource {
     /// What is known of the source.
     ghost state: { Self → SourceState };
 
-    /// Sets flag i to whether agent i is held in the next tick, and takes that tick off. `Ok(false)` where there is none.
+    /// Sets flag i to whether agent i is held in the next tick, and takes that tick off. `Ok(false)` if there is none.
     /// Numbers past the flags are passed over.
     fn next(&mut self, held: &mut [bool]) -> Result<bool, SourceFault>
         requires { HasNotFailed (state self.old) }
         ensures { GivesTick (state self.old) (state self.new) result held.new };
 
-    /// As what the source has failed, if it has.
+    /// How the source has failed, if it has.
     fn failed(&self) -> Option<SourceFault>
         ensures { result ≡ (state self.now).fault };
 }
 
-/// Sets no flag.
+/// Unsets all flags.
 pub fn clear(flags: &mut [bool])
     ensures { AreFlagsOf [] flags.new }
 {
@@ -38,7 +38,8 @@ pub fn clear(flags: &mut [bool])
     }
 }
 
-/// Asks the source for its next tick, unless it has ended, and then no flag is set and none is written. Answers whether there was one.
+/// Asks the source for its next tick and sets the flags of the agents that it holds, unless the source has ended: then no flag is set,
+/// and none changes. Answers whether there was a tick.
 pub fn ask<S: HoldSource>(
     source: &mut S,
     has_ended: bool,

@@ -19,7 +19,7 @@ pub fn write_count(number: u32, row: &mut [u8], end: usize) -> usize
     write_number(number as u64, row, end)
 }
 
-/// The same, with a minus sign where it is negative.
+/// Writes a number with a minus sign before its digits if it is negative, so that it ends before `end`, and answers where it begins.
 fn write_signed(number: i32, row: &mut [u8], end: usize) -> usize
     requires room { 11 ≤ end }
     requires within { end ≤ length row.old }
@@ -35,7 +35,7 @@ fn write_signed(number: i32, row: &mut [u8], end: usize) -> usize
     }
 }
 
-/// Writes ` x,y`.
+/// Writes a place as ` x,y`, with the blank before it, so that it ends before `end`, and answers where it begins.
 pub fn write_place(place: Place, row: &mut [u8], end: usize) -> usize
     requires room { 24 ≤ end }
     requires within { end ≤ length row.old }
@@ -67,7 +67,7 @@ pub fn write_bytes(bytes: &[u8], row: &mut [u8], end: usize) -> usize
     at
 }
 
-/// Writes a word and its number, in a line.
+/// Writes a line of a word, a blank and a number, so that it ends before `end`, and answers where it begins.
 pub fn write_number_line(word: &[u8], number: u32, row: &mut [u8], end: usize) -> usize
     requires room { length word.now + 12 ≤ end }
     requires within { end ≤ length row.old }
@@ -81,6 +81,7 @@ pub fn write_number_line(word: &[u8], number: u32, row: &mut [u8], end: usize) -
     write_bytes(word, row, at)
 }
 
+/// The last line of a rehearsal that ended so.
 fn last_line(end: End) -> &'static [u8]
     ensures { result.now ≡ last_line_of end }
 {

@@ -8,7 +8,7 @@ pub record AreTasksApart (tasks : List Task) : Type 0 where
   pub starts : AllPairs (λ s t. s.start ≢ t.start) tasks
   pub goals : AllPairs (λ s t. s.goal ≢ t.goal) tasks
 
--- 1 to 1,024 agents that are apart
+-- 1 to 1,024 tasks, of which no two share a start or a goal
 pub record IsInstance (tasks : List Task) : Type 0 where
   pub some : 1 ≤ length tasks
   pub few : length tasks ≤ MAX_AGENTS

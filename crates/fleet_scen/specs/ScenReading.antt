@@ -25,7 +25,7 @@ numbers_at line ws = do
   goal_y ← some_or f.goal_y (Number line 8)
   Ok (width, height, record { start = record { x = start_x; y = start_y }; goal = record { x = goal_x; y = goal_y } })
 
--- the task of a line with these words, which is possible on the map
+-- the task of a line with these words, if it is possible on the map
 unfoldable pub task_at : Ground → ℕ → List Bytes → Result Task ScenFault
 task_at g line ws = do
   n ← numbers_at line ws
@@ -33,19 +33,21 @@ task_at g line ws = do
   right_or (is_passable g (place_of n.2.start) && is_passable g (place_of n.2.goal)) (Blocked line)
   Ok n.2
 
+-- the task begins on the cell
 abbrev pub starts_at : Cell → Task → Bool
 starts_at c t = is_same_cell t.start c
 
+-- the task ends on the cell
 abbrev pub ends_at : Cell → Task → Bool
 ends_at c t = is_same_cell t.goal c
 
--- whether the task shares no cell with those of earlier agents
+-- the task shares neither its start nor its goal with the tasks of earlier agents
 unfoldable pub apart_at : ℕ → List Task → Task → Result (Unit {0}) ScenFault
 apart_at line earlier t = do
   right_or (not (list_any (starts_at t.start) earlier)) (SharedStart line)
   right_or (not (list_any (ends_at t.goal) earlier)) (SharedGoal line)
 
--- fewer agents than were asked for
+-- more agents are to be read after so many: fewer than were asked for, or all were
 abbrev pub lacks : Option ℕ → ℕ → Bool
 lacks None count = true
 lacks (Some asked) count = nat_lt count asked
@@ -56,7 +58,7 @@ scen_judged None [] = Err NoAgents
 scen_judged None (t ∷ tasks) = Ok (t ∷ tasks)
 scen_judged (Some asked) tasks = right_or (not (nat_lt (length tasks) asked)) Fewer >> Ok tasks
 
--- the tasks of the lines, before which as many lines stand; earlier agents come first
+-- the tasks of earlier agents and of these lines, before which so many lines stand
 unfoldable pub tasks_at : Ground → Option ℕ → ℕ → List Task → List Bytes → Result (List Task) ScenFault
 tasks_at g asked before earlier [] = scen_judged asked earlier
 tasks_at g asked before earlier (line ∷ ls) =
@@ -64,13 +66,14 @@ tasks_at g asked before earlier (line ∷ ls) =
     else if not (is_filled (words line)) then tasks_at g asked (before + 1) earlier ls
     else right_or (nat_lt (length earlier) MAX_AGENTS) TooMany >> (task_at g (before + 1) (words line) >>= λ task. apart_at (before + 1) earlier task >> tasks_at g asked (before + 1) (earlier ++ task ∷ []) ls)
 
--- the lines after the version line, and how many lines stand before them
+-- how many lines stand up to the version line, and the lines after it
 unfoldable pub after_version : ℕ → List Bytes → Result (ℕ × List Bytes) ScenFault
 after_version before [] = Err Version
 after_version before (line ∷ ls) =
     if not (is_filled (words line)) then after_version (before + 1) ls
     else right_or (is_version (words line)) Version >> Ok (before + 1, ls)
 
+-- so many agents may be asked for
 abbrev pub judge_asked : Option ℕ → Result (Unit {0}) ScenFault
 judge_asked None = Ok tt
 judge_asked (Some asked) = right_or (nat_lt 0 asked) NoAgents >> right_or (nat_le asked MAX_AGENTS) TooMany

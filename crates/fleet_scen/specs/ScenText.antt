@@ -41,7 +41,7 @@ is_version (first ∷ []) = false
 is_version (first ∷ second ∷ []) = bytes_eq first (codes "version") && (bytes_eq second (codes "1") || bytes_eq second (codes "1.0"))
 is_version (first ∷ second ∷ third ∷ more) = false
 
--- fields 3 to 8 of a line, each where it is a number up to 65,535
+-- fields 3 to 8 of a line, each if it is a number up to 65,535
 abbrev pub numbers_in : List Bytes → List (Option ℕ)
 numbers_in ws = map small_number (take 6 (drop 2 ws))
 
@@ -126,5 +126,6 @@ IsFirstScenLineFault ls g asked TooMany =
 IsFirstScenLineFault ls g asked Fewer =
     (count : ℕ) × (asked ≡ Some count) × (earlier : List Task) × IsScenRightUpTo earlier ls g asked × (length (agent_lines ls) ≡ length earlier) × (length earlier < count)
 
+-- the same of a text
 abbrev pub IsFirstScenFault : Bytes → Ground → Option ℕ → ScenFault → Type 0
 IsFirstScenFault text g asked fault = IsFirstScenLineFault (lines text) g asked fault

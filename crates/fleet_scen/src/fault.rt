@@ -9,10 +9,10 @@ use thiserror::Error;
 pub enum ScenFault {
     #[error("out of memory")]
     OutOfMemory,
-    /// The first line that is not empty is no version line, or there is none.
+    /// The first line that has a word is no version line, or no line has one.
     #[error("the first line that is not empty is no version line")]
     Version,
-    /// A line has not nine words.
+    /// A line has fewer or more than nine words.
     #[error("line {line} has not nine fields")]
     Fields { line: u64 },
     /// A field is no number up to 65,535.

@@ -25,6 +25,7 @@ impl Model for Instance {
 }
 
 impl Instance {
+    /// The instance of these tasks.
     pub(crate) fn new(tasks: Vec<Task>) -> Self
         requires { IsInstance tasks.items }
         ensures { result ≡ tasks.items }
@@ -32,6 +33,7 @@ impl Instance {
         Instance { tasks }
     }
 
+    /// How many agents there are.
     pub fn agents(&self) -> u16
         ensures count { result ≡ length self.now }
         ensures instance { IsInstance self.now }
@@ -39,6 +41,7 @@ impl Instance {
         self.tasks.len() as u16
     }
 
+    /// The cell on which agent `i` begins, counted from 0.
     pub fn start(&self, i: u16) -> Cell
         requires { i < length self.now }
         ensures { option_map (λ t. t.start) (slice_get self.now i) ≡ Some result }
@@ -46,6 +49,7 @@ impl Instance {
         self.tasks[usize::from(i)].start
     }
 
+    /// The cell on which agent `i` is to end, counted from 0.
     pub fn goal(&self, i: u16) -> Cell
         requires { i < length self.now }
         ensures { option_map (λ t. t.goal) (slice_get self.now i) ≡ Some result }

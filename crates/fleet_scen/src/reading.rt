@@ -63,6 +63,7 @@ fn pass_version(lines: &mut Cursor) -> Result<u64, ScenFault>
     Err(ScenFault::Version)
 }
 
+/// The fault of a field that is no number.
 fn wrong(line: u64, field: u8) -> ScenFault
     ensures { result ≡ ScenFault.Number line field }
 {
@@ -88,7 +89,7 @@ fn numbers_of(number: u64, line: &[u8]) -> Result<(u16, u16, Task), ScenFault>
     Ok((width, height, Task { start, goal }))
 }
 
-/// The task of an agent's line, which is possible on the map.
+/// The task of an agent's line, if it is possible on the map.
 #[tactic(auto, unfolding(crate::specs::ScenReading::task_at))]
 fn task_of(grid: &Grid, number: u64, line: &[u8]) -> Result<Task, ScenFault>
     ensures { result ≡ task_at grid.now number (words line.now) }
@@ -103,7 +104,7 @@ fn task_of(grid: &Grid, number: u64, line: &[u8]) -> Result<Task, ScenFault>
     Ok(task)
 }
 
-/// Whether more agents are to be read.
+/// Whether more agents are to be read after so many.
 fn lacks(asked: Option<u16>, count: usize) -> bool
     ensures { result ≡ lacks asked count }
 {
@@ -113,7 +114,7 @@ fn lacks(asked: Option<u16>, count: usize) -> bool
     }
 }
 
-/// The tasks of the lines that are left, of which `before` come first.
+/// The tasks of the lines that are left, before which `before` lines stand.
 fn tasks_of(
     alloc: Global,
     grid: &Grid,
@@ -151,7 +152,7 @@ fn tasks_of(
     enough_tasks(asked, tasks)
 }
 
-/// The tasks, where they are enough.
+/// The tasks, if they are enough.
 fn enough_tasks(asked: Option<u16>, tasks: Vec<Task>) -> Result<Vec<Task>, ScenFault>
     ensures { IsDueUnless (λ v. v.items) result (scen_judged asked tasks.items) ScenFault.OutOfMemory }
 {
@@ -162,7 +163,7 @@ fn enough_tasks(asked: Option<u16>, tasks: Vec<Task>) -> Result<Vec<Task>, ScenF
     }
 }
 
-/// Whether so many agents may be asked for.
+/// Judges how many agents are asked for.
 fn judge_asked(asked: Option<u16>) -> Result<(), ScenFault>
     ensures { result ≡ judge_asked asked }
 {

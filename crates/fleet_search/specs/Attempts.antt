@@ -1,4 +1,4 @@
--- What comes of planning in one order.
+-- The outcome of planning in one order.
 use Rattle.std.specs.Prelude.{◌≡◌, ℕ, ◌<◌, ◌≤◌, Bool, true, false, List, [], ◌∷◌, ◌++◌, length, get_or, take, drop, slice_get, Some, IsPermutation}
 use Rattle.fleet_model.specs.declared.geometry.Cell.{Cell}
 use Rattle.fleet_model.specs.declared.task.Task.{Task}
@@ -14,7 +14,7 @@ use Rattle.fleet_search.specs.declared.orders.Tables.{Tables}
 use Rattle.fleet_search.specs.declared.orders.Attempt.{Attempt}
 use Rattle.fleet_search.specs.declared.orders.Attempt.TheVariants.{Made, Stuck}
 
--- the tables serve for the map
+-- the tables are in order for the map of the problem
 pub record AreTables (problem : Problem) (tables : Tables) : Type 0 where
   pub distances : IsReady problem.grid.now tables.distances.labels.items tables.distances.search
   pub labels : AreLabels tables.frontier.labels
@@ -48,8 +48,8 @@ abbrev pub IsMadeAfterFirst : Problem → List ℕ → Plan → Type 0
 IsMadeAfterFirst problem order paths =
     IsPrioritisedPlan (is_passable problem.grid.now) (drop 1 (tasks_by order problem.instance.now)) problem.horizon (length paths) paths
 
--- paths of the agents as they stand in the order, each the earliest against those before it; or such paths of the agents before one that is left
--- without a path
+-- paths of the agents, as they stand in the order, each the earliest against those before it; or such paths of the
+-- agents before one that is left without a path
 abbrev pub IsAttempt : Problem → List ℕ → Attempt → Type 0
 IsAttempt problem order (Made paths) = IsPrioritisedPlan (is_passable problem.grid.now) (tasks_by order problem.instance.now) problem.horizon (length order) paths.items
 IsAttempt problem order (Stuck paths) =

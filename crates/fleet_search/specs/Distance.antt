@@ -1,5 +1,5 @@
--- How far the passable cells are from a goal. Cells are labelled with their numbers of moves, first those over which the shortest paths from the
--- start may lead (A*: Hart, Nilsson and Raphael 1968).
+-- How far the passable cells are from a goal. Cells are labelled with their numbers of moves, first those over which
+-- the shortest paths from the start may lead (A*: Hart, Nilsson and Raphael 1968).
 use Rattle.std.specs.Prelude.{◌≡◌, ℕ, ◌+◌, ◌-◌, ◌*◌, ◌<◌, ◌≤◌, ◌==◌, cond, IsTrue, List, length, get_or, Contains, Option, None, Some, unwrap_or, min, max, ◌⊎◌, ◌++◌, ◌∷◌, []}
 use Rattle.std.specs.Int.{abs_diff}
 use Rattle.std.specs.List.{sum_by}
@@ -19,7 +19,7 @@ no_label = record { search = 0; distance = 0 }
 abbrev pub IsOnGround : Ground → Cell → Type 0
 IsOnGround g c = IsTrue (is_passable g (place_of c))
 
--- the number of moves that the label says, where it is one of this search
+-- the number of moves that the label says, if it is one of this search
 abbrev pub labelled : ℕ → Label → Option ℕ
 labelled search l = cond (l.search == search) (Some l.distance) None
 
@@ -31,12 +31,14 @@ label_in g labels search c = labelled search (get_or labels (cell_index g c) no_
 unfoldable pub manhattan : Cell → Cell → ℕ
 manhattan a b = abs_diff a.x b.x + abs_diff a.y b.y
 
--- how many moves lead from the cell to the goal at least, by the sides alone, and where a path of fewer moves than `f_bound` from the start
--- to the goal does not lead over it
+-- how many moves lead from the cell to the goal at least, whatever its label: the columns and rows between the two,
+-- and, as no path of fewer moves than `f_bound` from the start to the goal leads over it, those that `f_bound` leaves
+-- after the columns and rows from the start
 unfoldable pub least_moves : Distances → Cell → ℕ
 least_moves d c = max (manhattan c d.goal) (d.f_bound - manhattan c d.start)
 
--- how many moves lead from the cell to the goal at least: its label, where that is no more
+-- how many moves lead from the cell to the goal at least: its label, if it has one of no more moves than the bound
+-- without it, and else that bound
 unfoldable pub heuristic : Ground → Distances → Cell → ℕ
 heuristic g d c = min (unwrap_or (label_in g d.labels.items d.search c) (least_moves d c)) (least_moves d c)
 
@@ -63,7 +65,7 @@ abbrev pub IsWaiting : (f_bound distance : ℕ) → List Cell → List Cell → 
 IsWaiting f_bound distance layer next left c =
     ((distance ≡ f_bound) × (Contains layer c ⊎ (left ≡ Some c))) ⊎ ((distance ≡ f_bound + 2) × Contains next c)
 
--- a labelled cell is closed, or waits on the list of the moves of a path from the start over it
+-- a labelled cell is closed, or waits on the list for the number of moves of a path from the start over it to the goal
 pub record IsSpread (g : Ground) (labels : List Label) (search : ℕ) (start goal : Cell) (f_bound : ℕ) (left : Option Cell) (layer next : List Cell) : Type 0 where
   pub ready : IsReady g labels search
   pub goal_on_ground : IsOnGround g goal
@@ -76,28 +78,29 @@ pub record IsSpread (g : Ground) (labels : List Label) (search : ℕ) (start goa
 abbrev pub IsSpreadOf : Ground → Option Cell → Distances → Type 0
 IsSpreadOf g left s = IsSpread g s.labels.items s.search s.start s.goal s.f_bound left s.layer.items s.next.items
 
--- the cell that is left is labelled with d moves
+-- the cell is labelled with d moves
 abbrev pub IsLabelled : Ground → Distances → Cell → ℕ → Type 0
 IsLabelled g s c d = label_in g s.labels.items s.search c ≡ Some d
 
--- what is labelled stays so, and no label rises
+-- a cell that is labelled stays so, and no label rises
 abbrev pub LabelsFall : Ground → Distances → Distances → Type 0
 LabelsFall g old new = (c : Cell) (n : ℕ) → IsOnGround g c → IsLabelled g old c n → (m : ℕ) × IsLabelled g new c m × (m ≤ n)
 
--- what is reached from the cell in one direction is labelled
+-- the passable cell that is reached in this direction from the one that is left is labelled, with at most one move more
 abbrev pub IsFoundTowards : Ground → Distances → ℕ → Cell → Dir → Type 0
 IsFoundTowards g s d left dir = (e : Cell) → place_of e ≡ moved (place_of left) dir → IsOnGround g e → (m : ℕ) × IsLabelled g s e m × (m ≤ d + 1)
 
--- the search is for the same
+-- start, goal and bound of the search are the same
 pub record IsSameSearch (old new : Distances) : Type 0 where
   pub start : new.start ≡ old.start
   pub goal : new.goal ≡ old.goal
   pub f_bound : new.f_bound ≡ old.f_bound
 
--- how much there is still to be labelled, and on the layer to be left
+-- the moves of the label, or more than any label of this search has, if it is of another one
 abbrev pub label_weight : ℕ → Label → ℕ
 label_weight search l = unwrap_or (labelled search l) (MAX_HORIZON + 1)
 
+-- how much there is still to do: twice the moves of all labels, and the cells of the layer
 unfoldable pub work_left : Distances → ℕ
 work_left s = 2 * sum_by (label_weight s.search) s.labels.items + length s.layer.items
 
@@ -106,7 +109,7 @@ pub record IsLabelNear (search : ℕ) (l : Label) (distance : ℕ) : Type 0 wher
   pub current : l.search ≡ search
   pub near : l.distance ≤ distance
 
--- the cell is put on the layer where it is nearer to the start than the one that is left, and else on the next list
+-- the cell is put on the layer if it is nearer to the start than the one that is left, and else on the next list
 pub record IsPutFrom (left cell : Cell) (old new : Distances) : Type 0 where
   pub labels : new.labels ≡ old.labels
   pub search : new.search ≡ old.search

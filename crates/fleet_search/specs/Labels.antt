@@ -16,11 +16,11 @@ abbrev pub label_in : Labels → ℕ → ℕ → Label
 label_in l cell zero = value_in l.first cell
 label_in l cell (suc n) = get_or (later_in l cell) n no_label
 
--- the earliest time in an interval, where the latest search has come there
+-- the earliest time in an interval, if the latest search has come there
 abbrev pub earliest_in : Labels → ℕ → ℕ → Option ℕ
 earliest_in l cell interval = cond ((label_in l cell interval).search == l.search) (Some (label_in l cell interval).time) None
 
--- the earliest time is the one or before
+-- there is an earliest time, and it is this one or before
 pub record IsSeen (earliest : Option ℕ) (t : ℕ) : Type 0 where
   pub time : ℕ
   pub is : earliest ≡ Some time

@@ -4,7 +4,7 @@ use Rattle.std.specs.declared.alloc.Global.{Global}
 use Rattle.fleet_model.specs.declared.geometry.Cell.{Cell}
 use Rattle.fleet_search.specs.declared.occupancy.Occupancy.{Occupancy}
 
--- the number of the cell; 0 where it has none
+-- the number of the cell; 0 if it has none
 unfoldable pub number_in : List (Vec ℕ Global) → Cell → ℕ
 number_in rows c = get_or (get_or (map (λ v. v.items) rows) c.y []) c.x 0
 

@@ -12,7 +12,7 @@ use Rattle.fleet_search.specs.Numbers.{number_in, list_of}
 use Rattle.fleet_search.specs.Way.{FitTogether}
 use Rattle.fleet_search.specs.Reserved.{IsOn}
 
--- what stands for an occupancy past the end of a list
+-- the occupancy that stands for those past the end of a list
 abbrev pub no_stay : Occupancy
 no_stay = record { from = 0; until = 0; agent = 0 }
 

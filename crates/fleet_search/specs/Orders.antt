@@ -1,4 +1,5 @@
--- Plans that are made agent by agent in several orders: an agent that is left without a path comes first in the next one.
+-- Plans that are made agent by agent in several orders: an agent that is left without a path comes first in the next
+-- one.
 use Rattle.std.specs.Prelude.{◌≡◌, ℕ, zero, suc, ◌≤◌, ◌-◌, Bool, List, [], ◌∷◌, length, map, get_or, IsPermutation, slice_get, Some}
 use Rattle.std.specs.List.{range_with_len, remove}
 use Rattle.fleet_model.specs.declared.geometry.Place.{Place}
@@ -35,8 +36,8 @@ IsMadeInOrder passable tasks horizon order plan =
 abbrev pub IsStuckInOrder : (Place → Bool) → List Task → ℕ → List ℕ → ℕ → Type 0
 IsStuckInOrder passable tasks horizon order place = HasNoPathFor passable (tasks_by order tasks) horizon place
 
--- The order comes after so many others: none comes before that of the agents' numbers, and after an order that leaves an agent without a path
--- comes the one in which that agent is first
+-- the order comes after so many others: none comes before that of the agents' numbers, and after an order that leaves
+-- an agent without a path comes the one in which that agent is first
 unfoldable pub IsOrderAfter : (Place → Bool) → List Task → ℕ → ℕ → List ℕ → Type 0
 IsOrderAfter passable tasks horizon zero order = order ≡ rising (length tasks)
 IsOrderAfter passable tasks horizon (suc n) order =

@@ -1,8 +1,8 @@
--- Rows of numbers: buckets.
+-- Rows of numbers by their keys: buckets.
 use Rattle.std.specs.Prelude.{◌≡◌, ℕ, ◌==◌, cond, List, [], ◌∷◌, ◌++◌, map, get_or, Vec}
 use Rattle.std.specs.declared.alloc.Global.{Global}
 
--- the row of this number; past the last one there is nothing
+-- the row of this key, which is empty past the last one
 unfoldable pub bucket_in : List (Vec ℕ Global) → ℕ → List ℕ
 bucket_in rows k = get_or (map (λ v. v.items) rows) k []
 

@@ -45,12 +45,13 @@ pub record IsStep (q : Query) (t : ℕ) (from to : Cell) : Type 0 where
   pub on_ground : IsTrue (is_passable q.grid.now (place_of to))
   pub fits : StepFits q.reserved.now t from to
 
--- a path over the state arrives at this time at the earliest, as far as the distance says
+-- a path over the state arrives at this time at the earliest, as far as the heuristic says
 abbrev pub least_arrival : Query → State → ℕ
 least_arrival q m = m.time + heuristic_of q m.cell
 
--- the bucket in which the state waits to be expanded. A path cannot arrive before `goal_free_from`: the states over which one may arrive then are expanded by
--- their distance from the goal, and the others by the time at which a path over them arrives at the earliest
+-- the bucket in which the state waits to be expanded. A path cannot arrive before `goal_free_from`: the states over
+-- which one may arrive then are expanded by their distance from the goal, and the others by the time at which a path
+-- over them arrives at the earliest
 abbrev pub IsBucket : Query → State → ℕ → Type 0
 IsBucket q m k = ((least_arrival q m ≤ q.goal_free_from) × (k ≡ heuristic_of q m.cell)) ⊎ ((q.goal_free_from < least_arrival q m) × (k ≡ least_arrival q m))
 
@@ -58,7 +59,7 @@ IsBucket q m k = ((least_arrival q m ≤ q.goal_free_from) × (k ≡ heuristic_o
 abbrev pub IsGoalState : Query → State → Type 0
 IsGoalState q m = (m.cell ≡ q.goal) × (q.goal_free_from ≤ m.time)
 
--- what stands for a node past the end of a list
+-- the node that stands for those past the end of a list
 abbrev pub no_node : Node
 no_node = record { state = record { time = 0; cell = record { x = 0; y = 0 } }; parent = 0 }
 
@@ -80,7 +81,7 @@ pub record IsMove (q : Query) (from : State) (u : ℕ) (to : Cell) : Type 0 wher
 abbrev pub IsReachedFrom : Query → List Node → State → ℕ → Type 0
 IsReachedFrom q nodes m from = ((m.time ≡ 0) × (m.cell ≡ q.start)) ⊎ ((u : ℕ) × (m.time ≡ u + 1) × (from < length nodes) × IsMove q (state_in nodes from) u m.cell)
 
--- what was reached, and not too late
+-- the state was reached from the node at this place, and not too late
 pub record IsSoundNode (q : Query) (nodes : List Node) (m : State) (from : ℕ) : Type 0 where
   pub reached_from : IsReachedFrom q nodes m from
   pub in_time : least_arrival q m ≤ q.horizon
@@ -94,7 +95,7 @@ pub record IsCovered (q : Query) (nodes : List Node) (c : Cell) (t : ℕ) : Type
   pub known : IsKnown nodes (record { time = since; cell = c })
   pub free : IsFreeOn q.reserved.now c since t
 
--- where a move leads to a cell in time, the cell was reached by then; the state is no end
+-- if a move leads to a cell in time, the cell was reached by then; the state is no end
 pub record IsExpanded (q : Query) (nodes : List Node) (m : State) : Type 0 where
   pub moves : (u : ℕ) (c : Cell) → AreNeighbours m.cell c → IsMove q m u c → u + 1 + heuristic_of q c ≤ q.horizon → IsCovered q nodes c (u + 1)
   pub not_end : IsGoalState q m → ⊥
@@ -106,7 +107,7 @@ pub record IsSuperseded (q : Query) (nodes : List Node) (m : State) : Type 0 whe
   pub known : IsKnown nodes (record { time = since; cell = m.cell })
   pub free : IsFreeOn q.reserved.now m.cell since m.time
 
--- what can be reached from the state was noted, or will be from a sooner one
+-- the states to which moves lead from this one were noted, or will be from a sooner one of its cell
 abbrev pub IsStateSettled : Query → List Node → State → Type 0
 IsStateSettled q nodes m = IsExpanded q nodes m ⊎ IsSuperseded q nodes m
 
@@ -114,8 +115,8 @@ IsStateSettled q nodes m = IsExpanded q nodes m ⊎ IsSuperseded q nodes m
 abbrev pub earliest_of : Query → Labels → Cell → ℕ → Option ℕ
 earliest_of q labels c interval = earliest_in labels (cell_index q.grid.now c) interval
 
--- every state that was reached is sound, and it is still open, or is just being expanded, or is settled. Each safe interval in which a
--- cell was reached is labelled with the earliest time; so none was noted twice
+-- every state that was reached is sound, and it is still open, or is just being expanded, or is settled. Each safe
+-- interval in which a cell was reached is labelled with the earliest time; so none was noted twice
 pub record IsFrontier (q : Query) (f : ℕ) (left : Option ℕ) (nodes : List Node) (labels : Labels) (open_list : List (Vec ℕ Global)) : Type 0 where
   pub measured : IsMeasured q
   pub table : AreLabels labels
@@ -148,13 +149,13 @@ pub record IsExpansion (q : Query) (f : ℕ) (l : Expansion) (s : Frontier) : Ty
   pub left : IsLeft q f s l.place l.state
   pub until : IsFreeUntil q l.state l.until
 
--- what was reached stays so; where nothing new was reached, nothing new is open
+-- each state that was reached stays so; if no new one was reached, no new one is open
 pub record Grows (old new : Frontier) : Type 0 where
   pub more : length old.nodes.items ≤ length new.nodes.items
   pub kept : (i : ℕ) → i < length old.nodes.items → get_or new.nodes.items i no_node ≡ get_or old.nodes.items i no_node
   pub same : length new.nodes.items ≡ length old.nodes.items → (k : ℕ) → bucket_in new.open_list.items k ≡ bucket_in old.open_list.items k
 
--- the state is still being expanded, and nothing was lost of what was reached
+-- the state is still being expanded, and no state that was reached is lost
 pub record ExpandsOn (q : Query) (f : ℕ) (l : Expansion) (old new : Frontier) : Type 0 where
   pub leaving : IsExpansion q f l new
   pub grows : Grows old new
@@ -165,7 +166,7 @@ pub record IsNeighbour (q : Query) (left : Cell) (b : Neighbour) : Type 0 where
   pub on_ground : IsTrue (is_passable q.grid.now (place_of b.cell))
   pub occupancies : b.occupancies.now ≡ occupancies_on q b.cell
 
--- where the step that begins at the time fits and is not too late, the cell was reached by its end
+-- if the step that begins at the time fits and is not too late, the cell was reached by its end
 abbrev pub IsFoundAt : Query → List Node → State → Cell → ℕ → Type 0
 IsFoundAt q nodes left c u = IsStep q u left.cell c → u + 1 + heuristic_of q c ≤ q.horizon → IsCovered q nodes c (u + 1)
 
@@ -173,12 +174,12 @@ IsFoundAt q nodes left c u = IsStep q u left.cell c → u + 1 + heuristic_of q c
 abbrev pub IsFoundIn : Query → List Node → State → Cell → ℕ → Type 0
 IsFoundIn q nodes left c interval = (u : ℕ) → IsMove q left u c → IsInInterval (occupancies_on q c) interval (u + 1) → u + 1 + heuristic_of q c ≤ q.horizon → IsCovered q nodes c (u + 1)
 
--- where a move leads to the cell in time, it was reached by then
+-- if a move leads to the cell in time, it was reached by then
 abbrev pub IsFoundFrom : Query → List Node → State → Cell → Type 0
 IsFoundFrom q nodes left c = (u : ℕ) → IsMove q left u c → u + 1 + heuristic_of q c ≤ q.horizon → IsCovered q nodes c (u + 1)
 
--- what came of a bucket: the state at this place was reached, waited in the bucket and is an end; or something new was reached; or nothing is left
--- in the bucket
+-- how the expansion of a bucket has ended: the state at this place was reached, waited in the bucket and is an end; or
+-- a new state was reached; or no state is left in the bucket
 abbrev pub HasEnded : Query → ℕ → Frontier → Frontier → BucketEnd → Type 0
 HasEnded q f old new (BucketEnd.Goal place) =
     IsFrontierOf q f (Some place) new × IsLeft q f new place (state_in new.nodes.items place) × IsGoalState q (state_in new.nodes.items place)

@@ -9,7 +9,8 @@ use fleet_model::{Cell, Dir, OutOfMemory};
 use std::alloc::Global;
 use std::mem;
 
-/// What a search came to: how many steps later than its distance from the goal the agent arrived, and how many nodes it took.
+/// The outcome of a search: by how many steps its path is longer than the heuristic of the start, and how many nodes it
+/// made.
 #[derive(Clone, Copy, Debug)]
 pub struct Effort {
     pub delay: u32,
@@ -31,13 +32,13 @@ pub struct Distances {
     pub search: u16,
     pub start: Cell,
     pub goal: Cell,
-    /// Cells over which a path of fewer moves from the start to the goal leads have been left.
+    /// Cells over which a path of fewer moves from the start to the goal leads have been expanded.
     pub f_bound: u32,
     /// Cells whose neighbours are being labelled: those over which a path of `f_bound` moves leads.
     pub layer: Vec<Cell>,
     /// Cells over which a path of two moves more leads. A move changes that number by nothing or by two.
     pub next: Vec<Cell>,
-    /// What the search came to that was made last with such distances.
+    /// The outcome of the last search with these distances.
     pub last: Effort,
 }
 
@@ -51,6 +52,7 @@ fn manhattan(a: Cell, b: Cell) -> u32
 }
 
 impl Distances {
+    /// A table for the map, before any search.
     pub fn new(alloc: Global, grid: &Grid) -> Result<Distances, OutOfMemory>
         ensures { IfOk result (λ d. IsReady grid.now d.labels.items d.search) }
     {
@@ -72,7 +74,8 @@ impl Distances {
         })
     }
 
-    /// How many moves lead from the cell to the goal at least, as far as the sides of the map show.
+    /// How many moves lead from the cell to the goal at least, whatever its label: the columns and rows between the
+    /// two, and those that `f_bound` leaves after the ones from the start.
     #[tactic(auto, unfolding(crate::specs::Distance::least_moves))]
     fn least_moves(&self, cell: Cell) -> u32
         ensures { result ≡ least_moves self.now cell }
@@ -98,7 +101,7 @@ impl Distances {
         }
     }
 
-    /// The label of the cell.
+    /// The number of moves with which the cell is labelled in this search.
     fn label(&self, grid: &Grid, cell: Cell) -> Option<u16>
         requires ready { IsReady grid.now self.now.labels.items self.now.search }
         requires cell { IsOnGround grid.now cell }
@@ -112,14 +115,14 @@ impl Distances {
         }
     }
 
-    /// Whether the label says no more moves than this.
+    /// Whether the label is one of this search, and says no more moves than this.
     fn is_near(&self, label: Label, distance: u16) -> bool
         ensures { IsTrue result ↔ IsLabelNear self.now.search label distance }
     {
         label.search == self.search && label.distance <= distance
     }
 
-    /// Puts a cell that was labelled next to the one that is left on its list.
+    /// Puts a cell that was labelled from the one that is left on the layer or on the next list.
     fn put(&mut self, left: Cell, cell: Cell) -> Result<(), OutOfMemory>
         ensures { OnOk result (IsPutFrom left cell self.old self.new) }
     {
@@ -131,7 +134,7 @@ impl Distances {
         Ok(())
     }
 
-    /// Labels the neighbour in one direction, where it has no label of so few moves yet.
+    /// Labels the neighbour in one direction, unless it has a label of so few moves already.
     fn label_towards(
         &mut self,
         grid: &Grid,
@@ -166,7 +169,8 @@ impl Distances {
         Ok(())
     }
 
-    /// Labels the neighbours of a cell, where a path of `f_bound` moves leads over it; else it was left before.
+    /// Labels the neighbours of a cell, if a path of `f_bound` moves leads over it; if not, it was expanded before, by
+    /// a lesser label.
     fn expand(&mut self, grid: &Grid, left: Cell) -> Result<(), OutOfMemory>
         requires few { self.old.f_bound < MAX_HORIZON }
         requires spread { IsSpreadOf grid.now (Some left) self.old }
@@ -188,7 +192,7 @@ impl Distances {
         Ok(())
     }
 
-    /// Leaves the cells of the layer, and those that come onto it.
+    /// Expands the cells of the layer, and those that come onto it meanwhile.
     fn expand_layer(&mut self, grid: &Grid) -> Result<(), OutOfMemory>
         requires few { self.old.f_bound < MAX_HORIZON }
         requires spread { IsSpreadOf grid.now None self.old }
@@ -242,7 +246,7 @@ impl Distances {
         Ok(())
     }
 
-    /// Turns to a number of which no cell has a label. Where the numbers end all labels are taken off.
+    /// Takes the next number, of which no cell has a label. After the greatest number all labels are taken off.
     fn renumber(&mut self)
         requires { (i : ℕ) → i < length self.old.labels.items → (get_or self.old.labels.items i no_label).search ≤ self.old.search }
         ensures fresh { (i : ℕ) → i < length self.new.labels.items → (get_or self.new.labels.items i no_label).search < self.new.search }
@@ -259,9 +263,9 @@ impl Distances {
         self.search += 1;
     }
 
-    /// Whether there is more to be labelled, after so many cells: the start, and the cells over which paths lead that are no
-    /// more delayed than the last one, or arrive before the goal is free, as long as this costs less than the last search. An agent is
-    /// often held up as the one before it.
+    /// Whether more cells are to be labelled, after so many: up to the start, and then, as long as they are fewer than
+    /// the nodes of the last search, those over which paths lead that are no more delayed than the last one, or arrive
+    /// before the goal is free. An agent is often delayed by as much as the one before it.
     fn is_wanted(&self, grid: &Grid, horizon: u16, goal_free_from: u32, labelled: usize) -> bool
         requires ready { IsReady grid.now self.now.labels.items self.now.search }
         requires start { IsOnGround grid.now self.now.start }
@@ -307,7 +311,7 @@ impl Distances {
         Ok(())
     }
 
-    /// Takes note of what the search came to. It decides how far the next one labels cells, and nothing else.
+    /// Takes note of the outcome of the search. It decides how far the next one labels cells, and nothing else.
     pub fn learn(&mut self, last: Effort)
         ensures labels { self.new.labels ≡ self.old.labels }
         ensures search { self.new.search ≡ self.old.search }
@@ -315,8 +319,8 @@ impl Distances {
         self.last = last;
     }
 
-    /// Labels the cells over which the shortest paths from the start to the goal lead, and those over which paths lead that are
-    /// delayed as the last one was or arrive before the goal is free, up to the horizon.
+    /// Labels the cells over which the shortest paths from the start to the goal lead, and those over which paths lead
+    /// that are delayed as the last one was or arrive before the goal is free, up to the horizon.
     pub fn compute(
         &mut self,
         grid: &Grid,
@@ -332,8 +336,8 @@ impl Distances {
     {
         self.begin(grid, start, goal)?;
         self.expand_layers(grid, horizon, goal_free_from)?;
-        // Where nothing is left to be labelled, no path from the start leads to the goal over the cells that are not: they
-        // count as beyond the horizon.
+        // If no cell is left to be expanded, no path from the start to the goal leads over a cell without a label: such
+        // cells count as beyond the horizon.
         let beyond = u32::from(horizon) + 1;
         if self.layer.is_empty() {
             self.f_bound = beyond;

@@ -16,7 +16,8 @@ use fleet_model::Cell;
 use fleet_plan::Path;
 use std::alloc::Global;
 
-/// Looks for paths in the order of their arrival.
+/// The earliest path of the query: the buckets are expanded from the least on, and from one less again when a node was
+/// added.
 fn search(frontier: &mut Frontier, query: &Query) -> Result<Path, SearchFault>
     requires asked { IsPosed query.now }
     requires goal_free_from { query.now.goal_free_from ≤ query.now.horizon }
@@ -98,8 +99,10 @@ pub fn earliest_over(
     Ok(path)
 }
 
-/// A path from `start` to `goal` that fits the reserved ones, arrives by the horizon and as early as any such path.
-/// Which of several such paths it is may change.
+/// A path from `start` to `goal` that fits the reserved ones and arrives by the horizon, as early as any that does (by
+/// safe intervals: Phillips and Likhachev 2011). Which of several such paths it is, is not promised.
+///
+/// Errors: `NoPath` if there is no such path.
 pub fn earliest(
     alloc: Global,
     grid: &Grid,

@@ -1,7 +1,7 @@
 //! The search over states, that is cells at times: the nodes that were made, and those that are still to be expanded.
 //!
-//! An agent that comes to a cell may wait there for as long as nobody else comes. So of the times in a safe interval between the
-//! stays of others on a cell only the earliest counts (safe intervals: Phillips and Likhachev 2011).
+//! An agent that comes to a cell may wait there for as long as nobody else comes. So of the times in a safe interval,
+//! between the occupancies of a cell by others, only the earliest counts (safe intervals: Phillips and Likhachev 2011).
 
 ghost use Rattle.std.specs.Prelude.{◌≡◌, ◌+◌, ◌-◌, ◌<◌, ◌≤◌, ◌↔◌, IsTrue, IfOk, OnOk, Some, None, length};
 ghost use Rattle.fleet_model.specs.Geometry.{place_of, moved};
@@ -27,7 +27,8 @@ use fleet_model::{Cell, Dir, OutOfMemory};
 use fleet_plan::Path;
 use std::alloc::Global;
 
-/// What is searched for: a path from `start` to `goal` that arrives by the horizon, and not before `goal_free_from`.
+/// The query of a search: for a path from `start` to `goal` that arrives by the horizon, and not before
+/// `goal_free_from`.
 #[derive(Drop)]
 pub struct Query<'a> {
     pub grid: &'a Grid,
@@ -69,7 +70,7 @@ impl Query<'_> {
         interval_after(self.occupancies(state.cell), state.time)
     }
 
-    /// Whether the step that begins at the time fits, where nobody is on the cell at its end.
+    /// Whether the step to the cell that begins at the time fits. Nobody is on the cell at its end.
     fn fits(&self, left: Expansion, cell: Cell, begin: u32) -> bool
         requires few { begin < 4294967295 }
         requires until { IsFreeUntil self.now left.state left.until }
@@ -77,7 +78,7 @@ impl Query<'_> {
         requires free { IsUnoccupied self.now.reserved.now (begin + 1) cell }
         ensures { IsTrue result ↔ StepFits self.now.reserved.now begin left.state.cell cell }
     {
-        // Nobody comes to the cell that is left.
+        // At the end of the step nobody is on the cell that it leaves.
         if begin + 1 < left.until {
             return true;
         }
@@ -97,7 +98,7 @@ impl Query<'_> {
     }
 }
 
-/// A state that was reached, and the place in the list of the node from which it was.
+/// A state that was reached, and the place in the list of the node from which it was reached (0 for the start).
 #[derive(Clone, Copy, Debug)]
 pub struct Node {
     pub state: State,
@@ -119,7 +120,7 @@ pub struct Neighbour<'a> {
     pub occupancies: &'a [Occupancy],
 }
 
-/// What came of the expansion of a bucket.
+/// How the expansion of a bucket has ended.
 #[derive(Clone, Copy, Debug, PartialEq, Eq)]
 pub enum BucketEnd {
     /// The node at this place is at the goal, and may stay there.
@@ -165,8 +166,8 @@ impl Frontier {
         Ok(place as u32)
     }
 
-    /// Adds a node for the cell in the safe interval, reached by the step that begins at the time, if that fits and is not too
-    /// late, and the interval was not reached by then.
+    /// Adds a node for the cell in the safe interval, reached by the step that begins at the time, if that fits and is
+    /// not too late, and the interval was not reached by then.
     #[inline(always)]
     fn push_successor(
         &mut self,
@@ -343,8 +344,8 @@ impl Frontier {
         Ok(())
     }
 
-    /// Expands the nodes of the bucket, the one that was put in last first, until one is at the goal for good, a node was added,
-    /// or the bucket is empty.
+    /// Expands the nodes of the bucket, the one that was put in last first, until one is at the goal for good, a node
+    /// was added, or the bucket is empty.
     pub fn expand_bucket(&mut self, query: &Query, bucket: u32) -> Result<BucketEnd, OutOfMemory>
         requires horizon { query.now.horizon ≤ MAX_HORIZON }
         requires frontier { IsFrontierOf query.now bucket None self.old }
@@ -399,7 +400,7 @@ impl Frontier {
         cells.push(end.cell)?;
         for back in 0..end.time {
             let node = self.nodes[visit as usize];
-            // Before the agent came to the cell it was where it came from.
+            // Until the time of a node the agent waits on the cell of its parent.
             if node.state.time == end.time - back {
                 visit = node.parent;
             }

@@ -18,7 +18,7 @@ pub fn is_in_interval(occupancies: &[Occupancy], interval: usize, time: u32) -> 
     interval == occupancies.len() || time < occupancies[interval].from
 }
 
-/// The first time after the occupancy before the safe interval, from the one on.
+/// The first time, from this one on, after the occupancy before the safe interval, if that has an end.
 fn past_occupancy(occupancies: &[Occupancy], interval: usize, from: u32) -> Option<u32>
     requires bound { interval ≤ length occupancies.now }
     ensures later { IfSome result (λ t. from ≤ t) }
@@ -36,7 +36,7 @@ fn past_occupancy(occupancies: &[Occupancy], interval: usize, from: u32) -> Opti
     Some(from.max(until + 1))
 }
 
-/// The first time in the safe interval, from the one on.
+/// The first time, from this one on, that is in the safe interval, if there is one.
 pub fn earliest_within(occupancies: &[Occupancy], interval: usize, from: u32) -> Option<u32>
     requires order { AreSuccessive occupancies.now }
     requires bound { interval ≤ length occupancies.now }
@@ -69,7 +69,7 @@ pub struct SafeInterval {
     pub until: u32,
 }
 
-/// How many of the occupancies have begun by the time, and when the first of those begins that come after it.
+/// How many of the occupancies have begun by the time, and when the next one begins: `u32::MAX` if none does.
 pub fn interval_after(occupancies: &[Occupancy], time: u32) -> SafeInterval
     requires order { AreSuccessive occupancies.now }
     ensures begun { AreBegun occupancies.now time result.number }

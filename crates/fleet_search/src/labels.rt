@@ -18,15 +18,15 @@ pub struct Label {
 /// No search has come to the interval.
 const NONE: Label = Label { search: 0, time: 0 };
 
-/// For each safe interval of each cell the earliest time of the latest search there. Labels of earlier searches stay in the
-/// table, where their numbers tell them apart.
+/// For each safe interval of each cell the earliest time of the latest search there. Labels of earlier searches stay in
+/// the table, where their numbers tell them apart.
 #[derive(Drop)]
 pub struct Labels {
     pub alloc: Global,
     pub search: u16,
     /// For each cell the label of its first interval.
     pub first: Table<Label>,
-    /// For each cell how many rows there were when that of its later intervals was added, with it; 0 where it has none.
+    /// For each cell the number of the row of its later intervals, counted from 1; 0 if it has none.
     pub numbers: Table<usize>,
     pub rows: Vec<Vec<Label>>,
 }
@@ -46,7 +46,7 @@ impl Labels {
         }
     }
 
-    /// The earliest time in this safe interval of the cell.
+    /// The earliest time at which this search has come to this safe interval of the cell.
     fn earliest(&self, cell: usize, interval: usize) -> Option<u16>
         requires { AreLabels self.now }
         ensures { result ≡ earliest_in self.now cell interval }
@@ -137,7 +137,7 @@ impl Labels {
         Ok(())
     }
 
-    /// Adds a row with the label at a place of it, where the cell has none.
+    /// Adds a row for the cell, which has none, with the label at this place of it.
     fn add_row(&mut self, cell: usize, place: usize, label: Label) -> Result<(), OutOfMemory>
         requires labels { AreLabels self.old }
         requires none { value_in self.old.numbers cell ≡ 0 }
@@ -152,7 +152,7 @@ impl Labels {
         Ok(())
     }
 
-    /// Begins a search: no interval has a label of its number. Where the numbers end all labels are taken off.
+    /// Begins a search: no interval has a label of its number. After the greatest number all labels are taken off.
     pub fn begin(&mut self)
         requires { AreLabels self.old }
         ensures labels { AreLabels self.new }

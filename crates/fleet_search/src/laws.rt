@@ -1,4 +1,5 @@
-//! What is proved of all ways.
+//! Laws of paths past reserved ones, and of plans made of them. These functions do nothing: their contracts are the
+//! laws.
 
 ghost use Rattle.std.specs.Prelude.{◌↔◌, ℕ, Bool, List, length};
 ghost use Rattle.fleet_model.specs.declared.geometry.Cell.{Cell};
@@ -9,7 +10,7 @@ ghost use Rattle.fleet_search.specs.InTurn.{IsPrioritisedPlan, HasNoPathFor};
 ghost use Rattle.fleet_search.specs.Orders.{IsMadeInTries, IsStuckInTries};
 ghost use Rattle.fleet_search.specs.Way.{Fits, FitTogether, AreConflictFree, EachStepFits};
 
-/// Whether a path fits depends on each of its steps and the reserved paths alone.
+/// A path fits the reserved ones exactly if nobody stands on its first cell at time 0, and each of its steps fits.
 pub fn fits_by_steps()
     ensures { (reserved : Plan) (path : List Cell) → Fits reserved path ↔ EachStepFits reserved path }
 {}
@@ -24,7 +25,7 @@ pub fn prioritised_plans_are_conflict_free()
     ensures { (passable : Place → Bool) (tasks : List Task) (horizon : ℕ) (plan : Plan) → IsPrioritisedPlan passable tasks horizon (length tasks) plan → IsConflictFree passable tasks plan }
 {}
 
-/// One order that is tried is that of the agents' numbers.
+/// If one order alone is tried, it is that of the agents' numbers.
 pub fn one_order()
     ensures made { (passable : Place → Bool) (tasks : List Task) (horizon : ℕ) (plan : Plan)
         → IsMadeInTries passable tasks horizon 1 plan → IsPrioritisedPlan passable tasks horizon (length tasks) plan }

@@ -1,4 +1,5 @@
-//! Numbers of cells. They stand in rows, first by `y` and then by `x`, which reach no further than the cells that have one.
+//! Numbers of cells. They stand in rows, first by `y` and then by `x`, which reach no further than the cells that have
+//! one.
 
 ghost use Rattle.std.specs.Prelude.{◌≡◌, ◌≢◌, ◌<◌, ◌≤◌, ℕ, [], length, get_or, map, OnOk, OnErr};
 ghost use Rattle.fleet_model.specs.declared.geometry.Cell.{Cell};
@@ -7,7 +8,7 @@ ghost use Rattle.fleet_search.specs.Numbers.{number_in, IsNumbered};
 use fleet_model::{Cell, OutOfMemory};
 use std::alloc::Global;
 
-/// The number of the cell; 0 where it has none.
+/// The number of the cell; 0 if it has none.
 #[tactic(auto, unfolding(crate::specs::Numbers::number_in))]
 pub fn number_at(rows: &[Vec<u32>], cell: Cell) -> u32
     ensures { result ≡ number_in rows.now cell }

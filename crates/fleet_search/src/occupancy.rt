@@ -7,8 +7,8 @@ ghost use Rattle.fleet_search.specs.Occupancies.{IsPutIn, AreInOrder, without};
 
 use fleet_model::OutOfMemory;
 
-/// An agent's time on a cell: from the time at which it comes, to the last at which it is there. The last occupancy of an
-/// agent has no end: `u32::MAX`.
+/// An agent's time on a cell: from the time at which it comes, to the last at which it is there. The last occupancy of
+/// an agent has no end: `u32::MAX`.
 #[derive(Clone, Copy, Debug, PartialEq, Eq)]
 pub struct Occupancy {
     pub from: u32,

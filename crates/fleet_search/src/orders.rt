@@ -18,7 +18,7 @@ use fleet_plan::{Checked, Path, Plan, PlanFault, check};
 use fleet_scen::Instance;
 use std::alloc::Global;
 
-/// What is planned for: paths that arrive by the horizon.
+/// The problem: a path for each agent of the instance on the map, which arrives by the horizon.
 #[derive(Drop)]
 struct Problem<'a> {
     alloc: Global,
@@ -34,15 +34,15 @@ struct Tables {
     frontier: Frontier,
 }
 
-/// What comes of an order: a path for each agent, as they stand in the order; or, where an agent is left without one, the paths of those
-/// before it.
+/// The outcome of an order: a path for each agent, as they stand in the order; or, if an agent is left without one, the
+/// paths of those before it.
 #[derive(Drop)]
 enum Attempt {
     Made(Vec<Path>),
     Stuck(Vec<Path>),
 }
 
-/// Reserves the earliest path of the agent past the reserved ones. False where it has none.
+/// Reserves the earliest path of the agent past the reserved ones. Answers false if it has none.
 fn add_path(
     problem: &Problem<'_>,
     agent: u16,
@@ -72,8 +72,8 @@ fn add_path(
     }
 }
 
-/// Reserves the agent's earliest path past the reserved ones: this one, which was the earliest past others and fits, unless one arrives
-/// sooner. Only that is searched for.
+/// Reserves the agent's earliest path past the reserved ones: `old`, which was the earliest past others and fits,
+/// unless another arrives sooner. Only such a path is searched for.
 fn renew_path(
     problem: &Problem<'_>,
     agent: u16,
@@ -107,7 +107,7 @@ fn renew_path(
     reserved.reserve(old)
 }
 
-/// The same as `add_path`, where the agent may have had a path past others: the one of this number.
+/// The same as `add_path`, for an agent that may have had a path past others: the one at this place of `olds`.
 fn add_path_again(
     problem: &Problem<'_>,
     agent: u16,
@@ -146,9 +146,9 @@ fn keep_paths(reserved: &mut Reservations, paths: &[Path]) -> Result<usize, OutO
     Ok(paths.len())
 }
 
-/// Plans in this order, each path the earliest past those of the agents before. `kept` are such paths of the agents after the first one,
-/// made without it: up to the first that does not fit beside the first agent's path they are still the earliest. Of the others those that
-/// fit are left only for sooner ones.
+/// Plans in this order, each path the earliest past those of the agents before. `kept` are such paths of the agents
+/// after the first one, made without it: up to the first that does not fit beside the first agent's path they are still
+/// the earliest. Of the others, one that fits gives way only to a path that arrives sooner.
 fn plan_in_order(
     problem: &Problem<'_>,
     order: &[u16],
@@ -264,10 +264,10 @@ fn plan_in_turns(problem: &Problem<'_>, tries: u32) -> Result<Plan, PlanStop>
     unreachable!()
 }
 
-/// Plans agent by agent in up to so many orders, and answers the first plan that comes of one. The first order is that of the
-/// agents' numbers; after an order in which an agent is left without a path that agent is planned first, and the others after
-/// it as before. In the order that made the plan each path is earliest past those of the agents before it; the plan has the agents by
-/// their numbers. One order is tried in any case.
+/// Plans agent by agent in up to so many orders, and answers the first plan that is found. The first order is that of
+/// the agents' numbers; after an order in which an agent is left without a path that agent is planned first, and the
+/// others after it as before. In the order that made the plan each path is earliest past those of the agents before it;
+/// the plan has the agents by their numbers. One order is tried in any case.
 ///
 /// Errors: `NoPath` with the first agent that is left without a path in the last of so many orders.
 pub fn plan_in_orders<'g>(

@@ -12,7 +12,7 @@ use std::alloc::Global;
 #[derive(Drop)]
 pub struct ReservationTable {
     alloc: Global,
-    /// For each cell how many lists there were when its own was added, with it; 0 where it has none.
+    /// For each cell the number of its list, counted from 1; 0 if it has none.
     numbers: Vec<Vec<u32>>,
     lists: Vec<Vec<Occupancy>>,
     ghost own: { HaveOwnLists numbers.items lists.items },
@@ -47,7 +47,7 @@ impl ReservationTable {
         self.lists[number as usize - 1].as_slice()
     }
 
-    /// The place of the cell's list, which is added where there is none. What the lists say stays the same.
+    /// The place of the cell's list, which is added if there is none. The occupancies of each cell stay the same.
     fn list_place(&mut self, cell: Cell) -> Result<usize, OutOfMemory>
         ensures within { IfOk result (λ k. k < length self.new.lists.items) }
         ensures place { IfOk result (λ k. number_in self.new.numbers.items cell ≡ k + 1) }

@@ -1,4 +1,4 @@
-//! Reserved paths, and what still fits beside them.
+//! Reserved paths, and whether steps and paths fit beside them.
 
 ghost use Rattle.std.specs.Prelude.{◌≡◌, ◌<◌, ◌≤◌, ◌↔◌, ◌++◌, ◌∷◌, [], ℕ, IsTrue, IfSome, IfNone, IfOk, OnOk, OnErr};
 ghost use Rattle.fleet_model.specs.declared.geometry.Cell.{Cell};
@@ -15,7 +15,7 @@ use fleet_plan::Path;
 use std::alloc::Global;
 use std::marker::Model;
 
-/// Paths that are free of conflict with one another. Who stands where at what time is found at once.
+/// Paths that are free of conflict with one another. The agent that stands on a cell at a time is found at once.
 #[derive(Drop)]
 pub struct Reservations {
     alloc: Global,
@@ -48,6 +48,7 @@ fn copy_of(alloc: Global, path: &Path) -> Result<Path, OutOfMemory>
 }
 
 impl Reservations {
+    /// No path is reserved. Takes no memory.
     pub fn new(alloc: Global) -> Reservations
         ensures { result ≡ [] }
     {
@@ -59,7 +60,7 @@ impl Reservations {
         }
     }
 
-    /// From this time on nothing moves.
+    /// The time of the latest arrival: from then on nobody moves.
     pub(crate) fn steps(&self) -> u32
         ensures value { result ≡ steps self.now }
         ensures limit { result ≤ MAX_HORIZON }
@@ -154,7 +155,7 @@ impl Reservations {
         true
     }
 
-    /// The least time from which on nobody stands on the cell.
+    /// The least time from which on nobody stands on the cell, if there is one.
     pub(crate) fn free_from(&self, cell: Cell) -> Option<u32>
         ensures some { IfSome result (λ s. (t : ℕ) → IsFreeFrom self.now cell t ↔ (s ≤ t)) }
         ensures none { IfNone result ((t : ℕ) → IsFreeFrom self.now cell t → ⊥) }

@@ -1,4 +1,4 @@
-//! Rows of numbers: buckets.
+//! Rows of numbers by their keys: the buckets of the open list.
 
 ghost use Rattle.std.specs.Prelude.{◌≡◌, ◌≢◌, ◌<◌, ◌++◌, ◌∷◌, [], ℕ, OnOk, IfSome, IfNone, length};
 ghost use Rattle.fleet_search.specs.Rows.{bucket_in, IsPut};
@@ -34,7 +34,7 @@ pub fn put(
     Ok(())
 }
 
-/// Takes the number off that is last in the row.
+/// Takes off the last number of the row, if it has one.
 pub fn take(rows: &mut Vec<Vec<u32>>, key: u32) -> Option<u32>
     ensures some { IfSome result (λ m. bucket_in rows.old.items key ≡ bucket_in rows.new.items key ++ m ∷ []) }
     ensures none { IfNone result (bucket_in rows.new.items key ≡ []) }

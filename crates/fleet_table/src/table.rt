@@ -45,7 +45,7 @@ impl<V: Copy> Table<V> {
         }
     }
 
-    /// Sets the value of the number.
+    /// Sets the value of the number. It fails only if memory is refused.
     #[inline(always)]
     pub fn set(&mut self, number: usize, value: V) -> Result<(), AllocError>
         ensures { OnOk result (IsSet self.old self.new number value) }

@@ -45,7 +45,7 @@ pub fn status_of<R: Read + Floor, F: Files, O: Flush>(
     Some(run_command(alloc, words.as_slice(), input, files, out, err))
 }
 
-/// What a command is given on standard input, and what it prints and tells, and its status.
+/// The input that a command is given, the text that it prints, the text on standard error, and its status.
 #[derive(Drop)]
 pub struct Answer {
     pub input: Vec<u8>,
@@ -74,8 +74,8 @@ fn add_file(
     text.extend_from_slice(files.get(&name).unwrap_or(b"no such file"))
 }
 
-/// The answer of which these are the lines: behind `<` what the command is given, behind `!` what it tells, behind `?` its status where it is not 0, behind `@` a file
-/// that it prints whole, and else what it prints.
+/// The answer that these lines say: behind `<` the input that the command is given, behind `!` a line on standard error, behind `?` its status if it is not 0, behind
+/// `@` a file that it prints whole, and else a line that it prints.
 fn answer_of(alloc: Global, files: &MemFiles, lines: &[u8]) -> Result<Answer, AllocError> {
     let mut answer = Answer {
         input: Vec::new(alloc),
@@ -123,7 +123,7 @@ fn expect_answer(
     Ok(())
 }
 
-/// The two files of the words are the same; where the second is `none`, there is no first.
+/// The two files of the words are the same; if the second is `none`, there is no first.
 fn expect_same(rt: &impl Abort, alloc: Global, files: &MemFiles, line: &[u8]) -> Result<(), Fail> {
     let (first, second) = parted(line, b' ');
     let first = text_of(alloc, first)?;

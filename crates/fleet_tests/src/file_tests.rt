@@ -14,7 +14,8 @@ use std::test::Fail;
 /// What the file `out` holds before a command writes it.
 const KEPT: &[u8] = b"kept\n";
 
-/// What a command tells, its status and what it prints, and what the file `out` then holds, where so many reads and writes succeed and the next one fails so.
+/// What a command prints, its line on standard error, its status, and the bytes of the file `out` after it, if so many reads and writes succeed and the next one
+/// fails so.
 fn told_after(
     alloc: Global,
     line: &[u8],
@@ -32,7 +33,7 @@ fn told_after(
     Ok((out, err, status, kept))
 }
 
-/// The next read or write fails so, which is told by this line; nothing is printed, and the file `out` is as it was.
+/// The next read or write fails so, which is reported by this line; nothing is printed, and the file `out` is as it was.
 fn expect_failed(
     rt: &impl Abort,
     alloc: Global,
@@ -49,8 +50,8 @@ fn expect_failed(
     Ok(())
 }
 
-/// The files of these names are read and written in this order, and each that fails is told, as itself or as want of memory. Where none
-/// fails the command is done.
+/// The files of these names are read and written in this order, and each that fails is reported, by its name or as want of memory. If none
+/// fails, the command is done.
 fn expect_order(rt: &impl Abort, alloc: Global, line: &[u8], names: &[u8]) -> Result<(), Fail> {
     let mut left = 0u8;
     let mut rest = names;

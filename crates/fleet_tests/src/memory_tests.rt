@@ -19,8 +19,8 @@ fn text_at(alloc: Global, files: &MemFiles, field: &[u8]) -> Option<Vec<u8>> {
     }
 }
 
-/// Whether the command prints and tells these. If not, then it was refused for want of memory, before anything was printed; or an output, which is
-/// in memory here, could not grow, and that of what is printed is `lost`. None without memory for its files.
+/// Whether the command prints this, and reports that. If not, it was refused for want of memory, before anything was printed; or an output, which is in
+/// memory here, could not grow, of which that of the printed text is reported by the line `lost`. None without memory for its files.
 fn answers(
     rt: &impl Abort,
     alloc: Global,
@@ -58,7 +58,7 @@ fn answers(
     Some(true)
 }
 
-/// Commands, what they print, what they tell, and what they tell where the output fails.
+/// Commands, what they print, the line that they report, and the line that they report if the output fails.
 const ROWS: &[u8] = br"|@pair.text||run 4 Write
 rehearse pair.program --holds one.holds|@held.text||run 4 Write
 rehearse pair.map||load 2 Magic|run 4 Write

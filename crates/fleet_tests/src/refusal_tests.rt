@@ -10,7 +10,7 @@ use std::alloc::Global;
 use std::process::Abort;
 use std::test::Fail;
 
-/// The refusal is told as this line, with this status.
+/// The refusal is reported by this line, with this status.
 fn expect_told(rt: &impl Abort, alloc: Global, fault: &Fault<'_>, told: &[u8], status: u8) {
     let mut err = VecOut::new(alloc);
     fault.tell(&mut err);
@@ -27,7 +27,7 @@ fn other_refusals_are_told(rt: HostRuntime) {
     expect_told(&rt, rt.alloc(), &limit, b"dispatch 6 ReportLimit\n", 1);
 }
 
-/// A ring of needs of 788,902 bytes goes to the sink in at most 200 pieces.
+/// The line of a ring of needs, of 788,902 bytes, goes to the sink in at most 200 pieces.
 #[test]
 fn a_long_refusal_is_few_pieces(rt: HostRuntime) -> Result<(), Fail> {
     let mut ring = Vec::new(rt.alloc());

@@ -12,7 +12,7 @@ use std::io::{Read, Write};
 use std::process::Abort;
 use std::test::Fail;
 
-/// What is told by the words of the line over this input and this output, and the status.
+/// The text on standard error of the words over this input and this output, and the status.
 fn told_over<R: Read + Drop, W: Write + Drop>(
     alloc: Global,
     line: &[u8],
@@ -27,7 +27,7 @@ fn told_over<R: Read + Drop, W: Write + Drop>(
     Some((err, status))
 }
 
-/// An output that fails so after some bytes, however many, has taken these of the text, and the command tells it by this line. Where it has taken all it
+/// An output that fails so after some bytes, however many, has taken these of the text, and the command reports it by this line. An output that has taken all
 /// does not hand it on.
 fn expect_cut(
     rt: &impl Abort,
@@ -48,7 +48,7 @@ fn expect_cut(
     Ok(())
 }
 
-/// Commands, the file that they print, and what they tell where that cannot be written.
+/// Commands, the file that they print, and the line that they report if that cannot be written.
 const CUT: &[u8] = br"
 |pair.text|run 4 Write
 rehearse pair.program|pair.text|run 4 Write
@@ -72,7 +72,7 @@ fn outputs_fail_after_some_bytes(rt: HostRuntime) -> Result<(), Fail> {
     Ok(())
 }
 
-/// How often an output can be flushed, a command, the first line that it tells, and its status. Where nothing was written there is nothing to hand on.
+/// How often an output can be flushed, a command, the first line that it reports, and its status. If nothing was written, there is nothing to hand on.
 const FLUSHED: &[u8] = br"
 0|rehearse pair.program|run 4 Write|3
 1|rehearse pair.program||0
@@ -126,7 +126,7 @@ fn inputs_fail_after_some_bytes(rt: HostRuntime) -> Result<(), Fail> {
     Ok(())
 }
 
-/// What the pair's dispatch tells over these reports and these orders, and its status.
+/// The text on standard error of the pair's dispatch over these reports and these orders, and its status.
 fn dispatched<R: Read + Drop, W: Write + Drop>(
     alloc: Global,
     reports: R,

@@ -4,7 +4,7 @@ use Rattle.std.specs.Io.KnownBytes.{Keeps, Appends}
 
 -- a sink at one time
 pub record SinkState : Type 0 where
-  pub taken : Option (List ℕ)  -- the bytes that it took, where it tells
+  pub taken : Option (List ℕ)  -- the bytes that it took, if it says which
   pub has_failed : Bool
   pub is_flushed : Bool  -- whether it has handed on all that it took
 

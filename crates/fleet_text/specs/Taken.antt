@@ -9,6 +9,7 @@ pub record Taken : Type 0 where
   pub has_failed : Bool
   pub is_flushed : Bool
 
+-- what is known of it as a sink
 abbrev pub state_of : Taken → SinkState
 state_of t = record { taken = Some t.bytes; has_failed = t.has_failed; is_flushed = t.is_flushed }
 

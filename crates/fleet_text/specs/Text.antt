@@ -5,6 +5,7 @@ use Rattle.std.specs.Int.{is_in_range}
 use Rattle.std.specs.Str.Lines.{strip_carriage_return}
 use Rattle.fleet_text.specs.declared.numbers.TheConstants.{TOO_LARGE}
 
+-- a text, or a part of one
 abbrev pub Bytes : Type 0
 Bytes = List ℕ
 
@@ -39,10 +40,11 @@ abbrev pub starts_blank : Bytes → Bool
 starts_blank [] = false
 starts_blank (b ∷ line) = is_blank b
 
--- the words of a line that begins with one of them, and none where a blank stands in front
+-- the words of a line that begins with one of them, and none if a blank stands in front
 abbrev pub words_from_front : Bytes → List Bytes
 words_from_front line = if starts_blank line then [] else words line
 
+-- a digit in base ten
 abbrev pub is_digit : ℕ → Bool
 is_digit b = is_in_range 48 57 b
 
@@ -56,7 +58,7 @@ unfoldable pub number_front : Bytes → Option (ℕ × Bytes)
 number_front [] = None
 number_front (d ∷ text) = if is_digit d then Some (digits_front (d - 48) text) else None
 
--- .. and most stands for every number from most on
+-- .. with most in place of every number above it
 abbrev pub capped : ℕ → ℕ × Bytes → ℕ × Bytes
 capped most x = (min x.0 most, x.1)
 
@@ -70,16 +72,18 @@ unfoldable pub number : Bytes → Option ℕ
 number [] = None
 number (d ∷ digits) = number_after 0 (d ∷ digits)
 
--- the number that a word spells, where it is not too large
+-- the number, if it is not too large
 abbrev pub small : ℕ → Option ℕ
 small n = if nat_lt n TOO_LARGE then Some n else None
 
+-- the number that a word spells, if it is not too large
 unfoldable pub small_number : Bytes → Option ℕ
 small_number word = option_and_then small (number word)
 
--- the same of the number in front, and what follows it
+-- a number and what follows it, if the number is not too large
 abbrev pub small_only : ℕ × Bytes → Option (ℕ × Bytes)
 small_only x = if nat_lt x.0 TOO_LARGE then Some x else None
 
+-- the number in front and what follows it, if the number is not too large
 unfoldable pub small_number_front : Bytes → Option (ℕ × Bytes)
 small_number_front text = option_and_then small_only (number_front text)

@@ -21,7 +21,7 @@ pub trait ByteClass {
         ensures { result ≡ mask_l (map test block) };
 }
 
-/// Where the first byte of the class is.
+/// The place of the first byte of the class, if there is one.
 pub fn first_of<C: ByteClass>(text: &[u8]) -> Option<usize>
     ensures { result ≡ position C.test text.now }
 {

@@ -46,7 +46,7 @@ impl<'a> Cursor<'a> {
         self.rest.len()
     }
 
-    /// Passes over the next line and lends it, without its LF or CR LF. At the end it is nothing.
+    /// Passes over the next line and lends it, without its LF or CR LF, or answers `None` at the end.
     pub fn next_line(&mut self) -> Option<&'a [u8]>
         ensures { MatchOption result ((self.old ≡ []) × (self.new ≡ [])) (λ line. self.old ≡ line.now ∷ self.new) }
     {
@@ -56,7 +56,7 @@ impl<'a> Cursor<'a> {
     }
 }
 
-/// The first line of a text, without its LF or CR LF, and the text after it; at the end of the text nothing.
+/// The first line of a text, without its LF or CR LF, and the text after it, or `None` at the end of the text.
 pub fn next_line(text: &[u8]) -> Option<(&[u8], &[u8])>
     ensures { MatchOption result (lines text.now ≡ []) (λ x. lines text.now ≡ x.0.now ∷ lines x.1.now) }
 {

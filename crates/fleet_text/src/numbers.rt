@@ -3,11 +3,11 @@
 ghost use Rattle.std.specs.Prelude.{◌≡◌, min, option_map};
 ghost use Rattle.fleet_text.specs.Text.{number_front, capped, number, small_number, small_number_front};
 
-/// What stands for every number that is too large for a number of a text.
+/// What is answered for every number that is too large: the least number above 65,535.
 pub const TOO_LARGE: u32 = 65_536;
 
-/// The number in front of a text, and what follows its digits, however many they are. From `TOO_LARGE` on it is
-/// `TOO_LARGE`, and where another byte stands in front there is none.
+/// The number in front of a text, and what follows its digits, however many they are. A number above `TOO_LARGE` is
+/// answered as `TOO_LARGE`; if no digit stands in front, there is none.
 fn number_front(text: &[u8]) -> Option<(u32, &[u8])>
     ensures { option_map (λ x. (x.0, x.1.now)) result ≡ option_map (capped TOO_LARGE) (number_front text.now) }
 {
@@ -29,8 +29,8 @@ fn number_front(text: &[u8]) -> Option<(u32, &[u8])>
     Some((number, rest))
 }
 
-/// The number that a word of digits spells, however many they are. From `TOO_LARGE` on it is `TOO_LARGE`, and a word
-/// with another byte spells none.
+/// The number that a word of digits spells, however many they are. A number above `TOO_LARGE` is answered as
+/// `TOO_LARGE`; an empty word, or one with another byte, spells none.
 pub fn number_of(word: &[u8]) -> Option<u32>
     ensures { result ≡ option_map (λ n. min n TOO_LARGE) (number word.now) }
 {
@@ -38,7 +38,7 @@ pub fn number_of(word: &[u8]) -> Option<u32>
     if rest.is_empty() { Some(number) } else { None }
 }
 
-/// The number that a word of digits spells, where it is at most 65,535.
+/// The number that a word of digits spells, if it is at most 65,535.
 #[tactic(auto, unfolding(crate::specs::Text::small_number))]
 pub fn small_number_of(word: &[u8]) -> Option<u16>
     ensures { result ≡ small_number word.now }
@@ -51,7 +51,7 @@ pub fn small_number_of(word: &[u8]) -> Option<u16>
     }
 }
 
-/// The number in front of a text, where it is at most 65,535, and what follows its digits.
+/// The number in front of a text, if it is at most 65,535, and what follows its digits.
 #[tactic(auto, unfolding(crate::specs::Text::small_number_front))]
 pub fn small_number_front(text: &[u8]) -> Option<(u16, &[u8])>
     ensures { option_map (λ x. (x.0, x.1.now)) result ≡ small_number_front text.now }

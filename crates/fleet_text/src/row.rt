@@ -60,7 +60,7 @@ impl Row {
         self.len = end;
     }
 
-    /// Adds the bytes to the row. Where there is no room for them, the sink first takes what is in it.
+    /// Adds the bytes to the row. If there is no room for them, the sink first takes what is in it.
     pub fn add<O: TraceOut>(&mut self, out: &mut O, bytes: &[u8]) -> Result<(), OutFault>
         requires { IsWorking (O.state out.old) }
         ensures { Gathers (O.state out.old) (O.state out.new) result self.old self.new bytes.now }

@@ -43,7 +43,7 @@ pub trait Flush: TraceOut {
         ensures refused { IfErr result (λ _. refuses_flush self.old) };
 }
 
-/// Puts all of the bytes, or stops at the sink's failure.
+/// Has the sink take all of the bytes, or stops at its failure, when it has taken a proper prefix of them.
 pub fn put_all<O: TraceOut>(out: &mut O, bytes: &[u8]) -> Result<(), OutFault>
     requires { IsWorking (O.state out.old) }
     ensures { TakesAll (O.state out.old) (O.state out.new) result bytes.now }

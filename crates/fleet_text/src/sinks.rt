@@ -26,6 +26,7 @@ impl Model for VecOut {
 }
 
 impl VecOut {
+    /// A sink that has taken nothing. Takes no memory.
     pub fn new(alloc: Global) -> VecOut
         ensures { result ≡ record { bytes = []; room = 0; has_failed = false; is_flushed = false } }
     {
@@ -85,6 +86,7 @@ pub struct WriteOut<W: Write> {
 }
 
 impl<W: Write> WriteOut<W> {
+    /// A sink over this writer, which may keep back what it took before.
     pub fn new(writer: W) -> WriteOut<W>
         ensures { ⟦<WriteOut<W> as TraceOut>⟧.state result ≡ record { taken = W.contents writer; has_failed = false; is_flushed = false } }
     {

@@ -3,7 +3,7 @@
 ghost use Rattle.std.specs.Prelude.{◌≡◌, [], ◌∷◌, not, position, MatchOption};
 ghost use Rattle.fleet_text.specs.Text.{is_blank, words, words_from_front};
 
-/// The first word of a line and the line after it, or nothing where no word is left.
+/// The first word of a line and the line after it, or `None` if no word is left.
 pub fn next_word(line: &[u8]) -> Option<(&[u8], &[u8])>
     ensures { MatchOption result (words line.now ≡ []) (λ x. words line.now ≡ x.0.now ∷ words x.1.now) }
 {
@@ -14,21 +14,21 @@ pub fn next_word(line: &[u8]) -> Option<(&[u8], &[u8])>
     }
 }
 
-/// Where the first byte is that is no blank.
+/// The place of the first byte that is no blank, if there is one.
 fn word_start(line: &[u8]) -> Option<usize>
     ensures { result ≡ position (λ b. not (is_blank b)) line.now }
 {
     line.iter().position(|b| !is_blank(*b))
 }
 
-/// Where the first blank is.
+/// The place of the first blank, if there is one.
 fn word_end(line: &[u8]) -> Option<usize>
     ensures { result ≡ position is_blank line.now }
 {
     line.iter().position(|b| is_blank(*b))
 }
 
-/// The line, or nothing of it where it begins with a blank.
+/// The line, or nothing of it if it begins with a blank.
 pub fn from_front(line: &[u8]) -> &[u8]
     ensures { words result.now ≡ words_from_front line.now }
 {

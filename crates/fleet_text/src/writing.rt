@@ -35,7 +35,7 @@ fn put_number<O: TraceOut>(row: &mut Row, out: &mut O, number: u64) -> Result<()
     row.add(out, &digits[start..])
 }
 
-/// A number and a byte after it.
+/// Adds a number and a byte after it to the row.
 fn put_number_then<O: TraceOut>(
     row: &mut Row,
     out: &mut O,
@@ -49,7 +49,7 @@ fn put_number_then<O: TraceOut>(
     row.add(out, &[after])
 }
 
-/// Two numbers as `x,y`.
+/// Adds two numbers as `x,y` to the row.
 fn put_pair<O: TraceOut>(row: &mut Row, out: &mut O, x: u16, y: u16) -> Result<(), OutFault>
     requires { IsWorking (O.state out.old) }
     ensures { Gathers (O.state out.old) (O.state out.new) result row.old row.new (pair_text x y) }
@@ -58,7 +58,7 @@ fn put_pair<O: TraceOut>(row: &mut Row, out: &mut O, x: u16, y: u16) -> Result<(
     put_number(row, out, y as u64)
 }
 
-/// A number and another that counts within it, as `a:n`.
+/// Adds a number and another that counts within it, as `a:n`, to the row.
 fn put_of<O: TraceOut>(row: &mut Row, out: &mut O, owner: u16, number: u32) -> Result<(), OutFault>
     requires { IsWorking (O.state out.old) }
     ensures { Gathers (O.state out.old) (O.state out.new) result row.old row.new (numbered_text owner number) }
@@ -67,6 +67,7 @@ fn put_of<O: TraceOut>(row: &mut Row, out: &mut O, owner: u16, number: u32) -> R
     put_number(row, out, number as u64)
 }
 
+/// Adds a word to the row.
 fn put_word<O: TraceOut>(row: &mut Row, out: &mut O, word: Word<'_>) -> Result<(), OutFault>
     requires { IsWorking (O.state out.old) }
     ensures { Gathers (O.state out.old) (O.state out.new) result row.old row.new (word_text word.entry) }
@@ -80,7 +81,7 @@ fn put_word<O: TraceOut>(row: &mut Row, out: &mut O, word: Word<'_>) -> Result<(
     }
 }
 
-/// A space, and the word.
+/// Adds a space and the word to the row.
 pub fn put_next_word<O: TraceOut>(
     row: &mut Row,
     out: &mut O,
@@ -112,7 +113,7 @@ pub fn put_words<O: TraceOut>(
     Ok(())
 }
 
-/// Writes the words as a line, in one piece where a row has room for it.
+/// Writes the words as a line, in one piece if a row has room for it.
 pub fn put_line<O: TraceOut>(out: &mut O, words: &[Word<'_>]) -> Result<(), OutFault>
     requires { IsWorking (O.state out.old) }
     ensures { TakesAll (O.state out.old) (O.state out.new) result
@@ -123,7 +124,7 @@ pub fn put_line<O: TraceOut>(out: &mut O, words: &[Word<'_>]) -> Result<(), OutF
     row.end_line(out)
 }
 
-/// Writes a word and its number, in a line.
+/// Writes a word and a number as a line.
 #[tactic(auto, unfolding(crate::specs::Words::count_line))]
 pub fn put_count<O: TraceOut>(out: &mut O, word: &'static str, number: u64) -> Result<(), OutFault>
     requires { IsWorking (O.state out.old) }

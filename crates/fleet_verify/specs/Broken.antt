@@ -27,7 +27,8 @@ pub record MeetUnordered (p : Program) (q : Place) (v w : Visit) : Type 0 where
   pub breaking : AreBreakingHolds p v w holds
   pub meet : MeetOn p q v w holds
 
--- what a refusal for the order of the program says of its runs: a ring is never finished, and unordered visits meet
+-- the runs of a program that is refused for its order: a ring is never finished, and the agents of unordered visits
+-- meet
 abbrev pub IsBrokenBy : Program → VerifyFault → Type 0
 IsBrokenBy p (Cyclic ring) = IsNeverFinished p ring.items
 IsBrokenBy p (Unordered cell first second) = MeetUnordered p (place_of cell) first second

@@ -33,7 +33,8 @@ pub record EndsRight (tasks : List Task) (p : Program) (i : ℕ) : Type 0 where
 abbrev pub StandsRight : (Place → Bool) → Program → ℕ → ℕ → Type 0
 StandsRight passable p i n = IsTrue (passable (path p i n))
 
--- each await of action n can be met. In a well-formed program only a count above the awaited agent's moves is against it
+-- each await of action n can be met. In a well-formed program it cannot only if its count is above the awaited agent's
+-- moves
 pub record AwaitsRight (p : Program) (i n : ℕ) : Type 0 where
   pub met : (w : Await) → Contains (awaits_of p i n) w → IsInRange p i w
 
@@ -109,7 +110,8 @@ pub record IsFirstBreak (R : Visit → Visit → Type 0) (l : List Visit) (first
   pub breaks : R first second → ⊥
   pub sooner : (k : ℕ) (v w : Visit) → k < at → slice_get l k ≡ Some v → slice_get l (k + 1) ≡ Some w → R v w
 
--- the first place without order, and of its visits, sorted by level, agent and position, the first neighbours that break the rule
+-- the first place without order, and of its visits, sorted by level, agent and position, the first neighbours that
+-- break the rule
 pub record IsUnordered (After : Program → Visit → Visit → Type 0) (p : Program) (q : Place) (first second : Visit) : Type 0 where
   -- the places that are visited sooner have their visits in order
   pub earlier : (u : Visit) → IsVisit p u → ((v : Visit) → IsVisitOf p q v → IsSooner u v) → IsOrderlyAt After p (path p u.agent u.position)
@@ -121,7 +123,8 @@ pub record IsUnordered (After : Program → Visit → Visit → Type 0) (p : Pro
 
 -- ---- the first fault
 
--- all that is judged before it is right, and it is the first of its kind. Want of memory may stand in place of any other
+-- all that is judged before it is right, and it is the first of its kind. Want of memory may stand in place of any
+-- other
 abbrev pub IsFault : (Place → Bool) → List Task → Program → VerifyFault → Type 0
 IsFault passable tasks p OutOfMemory = Unit {0}
 IsFault passable tasks p OtherFleet = HasFleet tasks p → ⊥

@@ -44,7 +44,8 @@ pub record StandsBefore (l : List Visit) (v w : Visit) : Type 0 where
   pub first : slice_get l sooner ≡ Some v
   pub second : slice_get l later ≡ Some w
 
--- which pairs are open once a visit comes after the last one of its cell: the same where it may come there, and otherwise those two more
+-- which pairs are open once a visit comes after the last one of its cell: the same if it may come after that one, and
+-- else these two more
 abbrev pub IsOpenNext : (Visit → Visit → Type 0) → Option Visit → PlacedVisit → List OpenPair → List OpenPair → Type 0
 IsOpenNext R last s old new =
     (((v : Visit) → last ≡ Some v → R v s.visit) × (new ≡ old))
@@ -64,7 +65,8 @@ abbrev pub IsLastVisit : List Visit → Option Visit → Type 0
 IsLastVisit l None = l ≡ []
 IsLastVisit l (Some v) = (xs : List Visit) × (l ≡ xs ++ v ∷ [])
 
--- the last visit of the cell among those so far; of its neighbouring visits each second one awaits that the first is left, or they are open
+-- the last visit of the cell among those so far; of its neighbouring visits each second one awaits that the first is
+-- left, or they are open
 pub record IsGrouped (p : Program) (c : Cell) (placed : List PlacedVisit) (final : Option Visit) (pairs : List OpenPair) : Type 0 where
   pub last : IsLastVisit (visits_of (place_of c) placed) final
   pub next : (v w : Visit) → AreConsecutive (visits_of (place_of c) placed) v w

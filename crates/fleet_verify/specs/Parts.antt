@@ -1,4 +1,4 @@
--- The parts of what the verifier answers.
+-- The parts of an accepted program.
 use Rattle.std.specs.Prelude.{ℕ, List}
 use Rattle.fleet_model.specs.declared.task.Task.{Task}
 use Rattle.fleet_model.specs.Program.{Program}

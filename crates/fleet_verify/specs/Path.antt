@@ -1,4 +1,4 @@
--- What is judged of an agent's path, in one walk along it.
+-- The judgement of an agent's path, by one walk along it.
 use Rattle.std.specs.Prelude.{◌≡◌, ℕ, ◌<◌, ◌≤◌, Bool, Option, Some, None}
 use Rattle.fleet_model.specs.declared.geometry.Place.{Place}
 use Rattle.fleet_model.specs.declared.program.ActionId.{ActionId}
@@ -9,23 +9,24 @@ use Rattle.fleet_verify.specs.declared.path.PathJudged.{PathJudged}
 use Rattle.fleet_verify.specs.declared.path.Position.{Position}
 use Rattle.fleet_verify.specs.declared.path.Position.TheVariants.{OnGround, OffGround}
 
--- the least number up to a last one that is not so, or nothing where all are
+-- the least number up to a last one that is not so, or nothing if all are
 abbrev pub TellsFirst : ℕ → (ℕ → Type 0) → Option ℕ → Type 0
 TellsFirst last Right None = (n : ℕ) → n ≤ last → Right n
 TellsFirst last Right (Some n) = IsFirstNumber last Right n
 
--- the first action of the agents below n that is not so, or nothing where all are
+-- the first action of the agents below n that is not so, or nothing if all are
 abbrev pub TellsFirstAction : Program → (ℕ → ℕ → Type 0) → ℕ → Option ActionId → Type 0
 TellsFirstAction p Right n None = (i m : ℕ) → i < n → m ≤ moves p i → Right i m
 TellsFirstAction p Right n (Some a) = (a.agent < n) × IsFirstAction p Right a.agent a.number
 
--- after n actions agent i is on this cell, and was on passable ground until then; or it is at this place, and this action was the
--- first to lead off passable ground
+-- after n actions agent i is on this cell, and was on passable ground until then; or it is at this place, and this
+-- action was the first to lead off passable ground
 abbrev pub IsPosition : (Place → Bool) → Program → ℕ → ℕ → Position → Type 0
 IsPosition passable p i n (OnGround c) = (place_of c ≡ path p i n) × ((m : ℕ) → m ≤ n → StandsRight passable p i m)
 IsPosition passable p i n (OffGround q a) = (q ≡ path p i n) × IsFirstNumber n (StandsRight passable p i) a
 
--- the end of the path of agent i, its first action that leads off passable ground, and the first that awaits more than there is
+-- the end of the path of agent i, its first action that leads off passable ground, and the first that awaits more than
+-- there is
 pub record IsPathJudged (passable : Place → Bool) (p : Program) (i : ℕ) (judged : PathJudged) : Type 0 where
   pub end : judged.end ≡ path p i (moves p i)
   pub off_ground : TellsFirst (moves p i) (StandsRight passable p i) judged.off_ground

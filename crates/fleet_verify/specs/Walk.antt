@@ -28,7 +28,7 @@ pub record IsReadyBy (p : Program) (counts : List ℕ) (i : ℕ) : Type 0 where
 abbrev pub positions_of : (ℕ → Bool) → (ℕ → ℕ) → ℕ → List Visit
 positions_of moving position n = map (λ i. record { agent = i; position = position i }) (filter moving (indices n))
 
--- the positions that the agents below n come to which finish an action, where so many were finished before
+-- the positions to which those of the agents below n come that finish an action after so many
 abbrev pub begun_by : (ℕ → Bool) → (ℕ → ℕ) → ℕ → List Visit
 begun_by moving count n = positions_of moving (λ i. count i + 1) n
 

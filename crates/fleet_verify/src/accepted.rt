@@ -1,4 +1,4 @@
-//! What the verifier answers.
+//! The answers of the verifier: an accepted program, or a refused one.
 
 use crate::fault::VerifyFault;
 use fleet_grid::Grid;
@@ -67,7 +67,7 @@ impl<'g, P: ProgramView> Accepted<'g, P> {
         self.grid
     }
 
-    /// What the agents are to do. Takes no memory.
+    /// The instance: the tasks of the agents. Takes no memory.
     pub fn instance(&self) -> &'g Instance
         ensures { result.now ≡ self.now.instance }
     {

@@ -1,4 +1,4 @@
-//! Whether all that is judged agent by agent is right.
+//! The judgements that go agent by agent: of the fleet, starts, paths and ends.
 
 ghost use Rattle.std.specs.Prelude.{◌≡◌, ◌<◌, ◌↔◌, length, IsTrue, OnOk, IfErr, Bool, option_map};
 ghost use Rattle.std.specs.Option.{option_or};
@@ -107,7 +107,7 @@ pub fn has_arrived<P: ProgramView>(program: &P, instance: &Instance, machine: &M
     true
 }
 
-/// What was found before, or else this action of the agent.
+/// The action that was found before, or else this one of the agent.
 fn or_action(found: Option<ActionId>, agent: u16, number: Option<u32>) -> Option<ActionId>
     ensures { result ≡ option_or found (option_map (λ n. record { agent = agent; number = n }) number) }
 {

@@ -1,4 +1,5 @@
-//! What is accepted runs well, and what is refused does not. These functions do nothing: their contracts are the laws.
+//! Programs that are accepted run well, and those that are refused for their order do not. These functions do nothing:
+//! their contracts are the laws.
 
 ghost use Rattle.std.specs.Prelude.{◌≡◌, ℕ, ◌+◌, ◌<◌, ◌≤◌, ◌↔◌, Bool, List, length, slice_get, Some};
 ghost use Rattle.fleet_model.specs.declared.geometry.Place.{Place};
@@ -46,7 +47,8 @@ pub fn breaking_holds_are_one_list()
         level (entering v) ≤ n → level (entering w) ≤ n → length holds ≤ n }
 {}
 
-/// Whom the breaking holds hold and when they end can be read off the rows of the two entering actions.
+/// The agents that the breaking holds hold, and the end of these holds, can be read off the rows of the two entering
+/// actions.
 pub fn breaking_holds_by_rows()
     ensures held { (p : Program) (v w : Visit) (first second : ℕ → ℕ) (c : Configuration) (i : ℕ) →
         IsRow p (entering v) first → IsRow p (entering w) second →
@@ -67,8 +69,8 @@ pub fn listed_visits_are_chained()
         Reaches p (leaving p v) (entering w) }
 {}
 
-/// Neighbours in the sorted listing of which the second may not come after the first have no order
-/// either way, and where two visits of a place have none, the program is not orderly.
+/// Neighbours in the sorted listing of which the second may not come after the first have no order either way, and if
+/// two visits of a place have none, the program is not orderly.
 pub fn unordered_visits_are_found()
     ensures neighbours { (p : Program) (level : ActionId → ℕ) (q : Place) (sorted : List Visit) (k : ℕ) (v w : Visit) →
         AreLevels p level → IsSortedListing p level q sorted →
@@ -80,8 +82,7 @@ pub fn unordered_visits_are_found()
         AreUnordered p q v w → IsOrderly ComesAfterByChain p → ⊥ }
 {}
 
-/// A program with right agents, ends, steps and ranges is accepted exactly where it runs well under
-/// every list of holds.
+/// A program with right agents, ends, steps and ranges is accepted exactly if it runs well under every list of holds.
 pub fn acceptance_is_exact()
     ensures { (p : Program) (passable : Place → Bool) (tasks : List Task) →
         IsRight passable tasks p →

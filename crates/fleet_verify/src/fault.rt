@@ -13,8 +13,8 @@ use fleet_text::{
 };
 use thiserror::Error;
 
-/// The first fault of a program for a map and an instance, in the order of the variants; of the agents the least is reported, and then the
-/// least of its actions.
+/// The first fault of a program for a map and an instance, in the order of the variants; of the agents the least is
+/// reported, and then the least of its actions.
 #[derive(Debug, Drop, PartialEq, Eq, Error)]
 pub enum VerifyFault {
     #[error("out of memory")]
@@ -32,7 +32,8 @@ pub enum VerifyFault {
     Goal {
         agent: u16,
     },
-    /// An action leads off the passable cells. Action 0 is the start, which is passable on the map that the instance was read for.
+    /// An action leads off the passable cells. Action 0 is the start, which is passable on the map that the instance
+    /// was read for.
     #[error("action {action} of agent {agent} leads off the passable cells")]
     Step {
         agent: u16,
@@ -47,9 +48,9 @@ pub enum VerifyFault {
     /// A ring of needs: each action directly needs the one before, and the first, which is the least, needs the last.
     #[error("some actions need each other")]
     Cyclic(Vec<ActionId>),
-    /// The visits of a cell have no order: the second may not come directly after the first. The cells are judged as they first occur in
-    /// the visits by agent and position, and the visits of a cell by the level of the entering action, 0 for a start, then by agent and
-    /// position.
+    /// The visits of a cell have no order: the second may not come directly after the first. The cells are judged as
+    /// they first occur in the visits by agent and position, and the visits of a cell by the level of the entering
+    /// action, 0 for a start, then by agent and position.
     #[error("a visit of a cell does not wait for the one before to be left")]
     Unordered {
         cell: Cell,

@@ -23,8 +23,8 @@ pub struct OrderViolation {
     pub second: Visit,
 }
 
-/// By the number of each cell its first open pair without a chain from the action that leaves the first visit to the one that enters
-/// the second. The program finishes after so many ticks where nobody is held.
+/// By the number of each cell its first open pair without a chain from the action that leaves the first visit to the
+/// one that enters the second. The program finishes after so many ticks if nobody is held.
 pub fn find_violations<P: ProgramView>(
     alloc: Global,
     program: &P,
@@ -68,7 +68,7 @@ fn questions_of<P: ProgramView>(
     Ok(questions)
 }
 
-/// The action that leaves the visit. Where none does its number is above the agent's actions.
+/// The action that leaves the visit. If none does, its number is one above that of the agent's last action.
 fn leaving<P: ProgramView>(program: &P, visit: Visit) -> ActionId
     requires { IsVisit (P.program program.now) visit }
     ensures { result ≡ leaving (P.program program.now) visit }

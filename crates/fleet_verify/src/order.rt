@@ -23,7 +23,7 @@ use fleet_scen::Instance;
 use indexmap::IndexMap;
 use std::alloc::Global;
 
-/// Whether the visits of each cell come one after another, where all visits were added in the run. Chains are asked for only where
+/// Whether the visits of each cell come one after another. The run has added all visits. Chains are asked for only if
 /// some visit does not await that the one before is left.
 pub fn check_order<P: ProgramView>(
     alloc: Global,

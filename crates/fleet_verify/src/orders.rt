@@ -1,4 +1,5 @@
-//! What decides whether a program has a numbering and is orderly. These functions do nothing: their contracts are the laws.
+//! Laws that decide whether a program has a numbering and is orderly. These functions do nothing: their contracts are
+//! the laws.
 
 ghost use Rattle.std.specs.Prelude.{Contains, ℕ, ◌<◌, ◌↔◌, Bool, List};
 ghost use Rattle.fleet_model.specs.declared.geometry.Place.{Place};
@@ -13,7 +14,7 @@ ghost use Rattle.fleet_model.specs.Accepted.{IsAcceptedBy};
 ghost use Rattle.fleet_verify.specs.Ring.{IsRing};
 ghost use Rattle.fleet_verify.specs.Listing.{AreLevels, entry_level, IsSortedListing};
 
-/// Where each visit of a place awaits the leaving of the one before it, a chain leads from the one to the other.
+/// If each visit of a place awaits the leaving of the one before it, a chain leads from the one to the other.
 pub fn awaits_are_chains()
     ensures { (passable : Place → Bool) (tasks : List Task) (p : Program) → IsAcceptedBy ComesAfterByAwait passable tasks p → IsAcceptedBy ComesAfterByChain passable tasks p }
 {}
@@ -28,7 +29,7 @@ pub fn orderly_listings_rise()
         Adjacent (λ (v : Visit) (w : Visit). entry_level level v < entry_level level w) listing }
 {}
 
-/// A place has an orderly listing exactly where its visits, sorted by level, agent and position, are one.
+/// A place has an orderly listing exactly if its visits, sorted by level, agent and position, are one.
 pub fn sorted_listings_decide()
     ensures by_chain { (p : Program) (level : ActionId → ℕ) (q : Place) (sorted : List Visit) →
         AreLevels p level → IsSortedListing p level q sorted →

@@ -1,4 +1,4 @@
-//! What is judged of an agent's path, in one walk along it.
+//! The judgement of an agent's path, by one walk along it.
 
 ghost use Rattle.std.specs.Prelude.{◌≡◌, ◌<◌, ◌≤◌, ◌+◌, ◌↔◌, false, length, IfSome, IfNone, IsTrue};
 ghost use Rattle.fleet_model.specs.Geometry.{place_of, stepped};
@@ -10,19 +10,19 @@ ghost use Rattle.fleet_verify.specs.Path.{TellsFirst, IsPosition, IsPathJudged};
 use fleet_grid::Grid;
 use fleet_model::{Cell, Place, ProgramView, Step};
 
-/// What is judged of an agent's path.
+/// The judgement of an agent's path.
 #[derive(Clone, Copy, Debug)]
 pub struct PathJudged {
-    /// Where it ends, also off the map.
+    /// The place at which it ends, which may be off the map.
     pub end: Place,
-    /// The first action that leads off passable ground, or 0 where the start is off it.
+    /// The first action that leads off passable ground, or 0 if the start is off it.
     pub off_ground: Option<u32>,
     /// The first action that awaits more actions than there are.
     pub out_of_range: Option<u32>,
 }
 
-/// Where the walk along a path has come to: on passable ground alone to a cell, or to any place, with the first action that
-/// led off passable ground.
+/// The position of a walk along a path: a cell, if the walk was on passable ground alone, or else any place, with the
+/// first action that led off passable ground.
 #[derive(Clone, Copy, Debug)]
 enum Position {
     OnGround(Cell),
@@ -98,7 +98,7 @@ fn position_after<P: ProgramView>(
     }
 }
 
-/// The cell after a step, where it is on the map and passable.
+/// The cell after a step, if it is on the map and passable.
 pub fn cell_after(grid: &Grid, cell: Cell, step: Step) -> Option<Cell>
     ensures some { IfSome result (λ next. (place_of next ≡ stepped (place_of cell) step) × IsTrue (is_passable grid.now (place_of next))) }
     ensures none { IfNone result (is_passable grid.now (stepped (place_of cell) step) ≡ false) }
@@ -110,7 +110,7 @@ pub fn cell_after(grid: &Grid, cell: Cell, step: Step) -> Option<Cell>
     }
 }
 
-/// The first action that awaits more than there is, among one action more of an agent.
+/// The first action that awaits more actions than there are, after one action more of an agent.
 fn out_of_range_after<P: ProgramView>(
     program: &P,
     agent: u16,

@@ -1,4 +1,5 @@
-//! Where chains of needs begin: for each action and each agent the greatest action of that agent from which the action is reached.
+//! The actions at which chains of needs begin: for each action and each agent the greatest action of that agent from
+//! which the action is reached.
 
 ghost use Rattle.std.specs.Prelude.{◌<◌, length, IfOk};
 ghost use Rattle.fleet_model.specs.Program.{Program};
@@ -10,15 +11,15 @@ use fleet_model::{ActionId, OutOfMemory, ProgramView};
 use fleet_rows::Pieces;
 use std::alloc::Global;
 
-/// For each action and each agent of one program the greatest action of the agent that begins a chain of needs which ends with the
-/// action. Kept as pieces for each two agents, on which the count stays or rises by one with each action.
+/// For each action and each agent of one program the greatest action of the agent that begins a chain of needs which
+/// ends with the action. Kept as pieces for each two agents, on which the count stays or rises by one with each action.
 #[derive(Drop)]
 pub struct Reach {
     pieces: Pieces,
 }
 
 impl Reach {
-    /// That of an accepted program.
+    /// The reach of an accepted program. It fails only if memory is refused.
     pub fn of<P: ProgramView>(
         alloc: Global,
         accepted: &Accepted<'_, P>,
@@ -29,8 +30,8 @@ impl Reach {
         Ok(Reach { pieces })
     }
 
-    /// The greatest number of an action of the agent that begins a chain which ends with this action, or 0 where there is none. Both
-    /// are in the program whose reach this is. Takes no memory.
+    /// The greatest number of an action of the agent that begins a chain which ends with this action, or 0 if there is
+    /// none. Both are in the program whose reach this is. Takes no memory.
     pub fn greatest(&self, to: ActionId, agent: u16) -> u32
         ensures { (p : Program) → IsReachOf p self.now → IsAction p to → agent < length p
             → IsGreatest p to agent result }

@@ -1,4 +1,4 @@
-//! A ring of actions of which each needs the one before, where a run without holds is stuck.
+//! A ring of actions of which each needs the one before, in a run without holds that is stuck.
 
 ghost use Rattle.std.specs.Prelude.{◌≡◌, ◌<◌, ◌≤◌, ◌+◌, ◌-◌, ◌++◌, ◌↔◌, ℕ, length, IsTrue, IfOk, OnOk};
 ghost use Rattle.fleet_model.specs.Program.{moves};
@@ -13,7 +13,7 @@ use fleet_machine::Machine;
 use fleet_model::{ActionId, Await, OutOfMemory, ProgramView, Standing};
 use std::alloc::Global;
 
-/// A ring among the actions that are left where nobody is ready.
+/// A ring among the actions that are left when nobody is ready.
 pub fn find_ring<P: ProgramView>(
     alloc: Global,
     program: &P,
@@ -41,7 +41,7 @@ fn counts_of(alloc: Global, agents: &[Standing]) -> Result<Vec<u32>, OutOfMemory
     Ok(counts)
 }
 
-/// For each agent an await of its next action that is not met, where it has an action left.
+/// For each agent an await of its next action that is not met, if it has an action left.
 fn all_wants<P: ProgramView>(
     alloc: Global,
     program: &P,

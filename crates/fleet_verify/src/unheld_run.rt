@@ -19,7 +19,7 @@ use fleet_model::{
 };
 use std::alloc::Global;
 
-/// A run in which nobody is held, to its end: where each agent stands, all visits, and the number of ticks.
+/// A run in which nobody is held, to its end: the agents as they stand then, all visits, and the number of ticks.
 #[derive(Drop)]
 pub struct UnheldRun {
     pub machine: Machine,
@@ -27,7 +27,7 @@ pub struct UnheldRun {
     pub ticks: u32,
 }
 
-/// The run in which nobody is held, until it is over, or nothing where an agent leaves passable ground.
+/// The run in which nobody is held, until it is over, or nothing if an agent leaves passable ground.
 pub fn run_unheld<P: ProgramView>(
     alloc: Global,
     program: &P,
@@ -47,7 +47,7 @@ pub fn run_unheld<P: ProgramView>(
     run_on(program, grid, nobody, machine, visits)
 }
 
-/// The run from its start on, until it is over, where each tick holds the flagged agents: nobody.
+/// The run from its start on, until it is over. No flag of `nobody` is set.
 fn run_on<P: ProgramView>(
     program: &P,
     grid: &Grid,
@@ -114,7 +114,8 @@ fn add_starts<P: ProgramView>(
     Ok(true)
 }
 
-/// Adds where the last tick has brought the agents that it moved, and answers whether all are on passable ground.
+/// Adds the positions to which the last tick has brought the agents that it moved, and answers whether all are on
+/// passable ground.
 fn add_moved<P: ProgramView>(
     program: &P,
     grid: &Grid,
@@ -174,7 +175,7 @@ fn add_position<P: ProgramView>(
     Ok(true)
 }
 
-/// The cell at a place, where that is passable.
+/// The cell at a place, if that is passable.
 fn cell_at(grid: &Grid, place: Place) -> Option<Cell>
     ensures some { IfSome result (λ cell. (place_of cell ≡ place) × IsTrue (is_passable grid.now place)) }
     ensures cell { IfSome result IsCell }

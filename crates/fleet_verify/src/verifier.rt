@@ -1,4 +1,4 @@
-//! The verifier: what is judged, in its order.
+//! The verifier: all that is judged of a program, in the order of the faults.
 
 ghost use Rattle.std.specs.Prelude.{◌≡◌, ◌≢◌, ℕ, List, IfOk, IfErr};
 ghost use Rattle.fleet_model.specs.declared.geometry.Place.{Place};
@@ -25,14 +25,15 @@ use fleet_model::ProgramView;
 use fleet_scen::Instance;
 use std::alloc::Global;
 
-/// Whether the program is accepted for the map and the instance: as many agents, starts and goals those of the instance, all paths on
-/// passable cells, each await of another agent and of 1 to as many actions as it has, a numbering of the actions, and an order of the
-/// visits of each cell in which each is a later one by the same agent, or a chain of needs leads from the action that leaves the one
-/// before to the action that enters it.
+/// Whether the program is accepted for the map and the instance: as many agents, starts and goals those of the
+/// instance, all paths on passable cells, each await of another agent and of 1 to as many actions as it has, a
+/// numbering of the actions, and an order of the visits of each cell in which each is a later one by the same agent, or
+/// a chain of needs leads from the action that leaves the one before to the action that enters it.
 ///
-/// If so, then whatever agents are held for however long, the run stays on passable cells without a vertex, following, swapping or cycle
-/// conflict (Stern et al. 2019), the visits of each cell are owned in turn, and the run finishes after no fewer ticks than the longest
-/// chain has actions and no more than those and the ticks in which a ready agent was held. From then on all agents stand on their goals.
+/// If so, then whatever agents are held for however long, the run stays on passable cells without a vertex, following,
+/// swapping or cycle conflict (Stern et al. 2019), the visits of each cell are owned in turn, and the run finishes
+/// after no fewer ticks than the longest chain has actions and no more than those and the ticks in which a ready agent
+/// was held. From then on all agents stand on their goals.
 ///
 /// A refusal gives the program back with its first fault.
 pub fn verify<'g, P: ProgramView>(
@@ -49,15 +50,16 @@ pub fn verify<'g, P: ProgramView>(
     ensures arrives { IfOk result (λ a. (holds : Holds) → (f : ℕ) × IsFinish (P.program program) holds f × Arrives (P.program program) holds a.chain f) }
     ensures returned { IfErr result (λ r. r.program ≡ program) }
     ensures fault { IfErr result (λ r. IsFault (is_passable grid.now) instance.now (P.program program) r.fault) }
-    // What is refused for another cause than memory is not accepted.
+    // A program that is refused for another cause than memory is not accepted.
     ensures refused { IfErr result (λ r. r.fault ≢ OutOfMemory → IsAccepted (is_passable grid.now) instance.now (P.program program) → ⊥) }
-    // Under every list of holds no two agents of an accepted program ever stand on one cell, and all actions are finished. A
-    // program that is right but for its order is refused, for another cause than memory, only where that is not so, and the
-    // refusal says how: no list of holds finishes an action of the ring, and after the breaking holds both agents stand on the cell.
+    // Under every list of holds no two agents of an accepted program ever stand on one cell, and all actions are
+    // finished. A program that is right but for its order is refused, for another cause than memory, only if that is
+    // not so, and the refusal says how: no list of holds finishes an action of the ring, and after the breaking holds
+    // both agents stand on the cell.
     ensures well { IfOk result (λ _. RunsWell (P.program program)) }
     ensures badly { IfErr result (λ r. r.fault ≢ OutOfMemory → IsRight (is_passable grid.now) instance.now (P.program program) → RunsWell (P.program program) → ⊥) }
     ensures broken { IfErr result (λ r. IsBrokenBy (P.program program) r.fault) }
-    // Where ends, steps and ranges are right, a refusal is a ring of needs or two visits without an order.
+    // If ends, steps and ranges are right, a refusal is a ring of needs or two visits without an order.
     ensures of_order { IfErr result (λ r. HasRanges (is_passable grid.now) instance.now (P.program program) → IsOfOrder (P.program program) r.fault) }
 {
     match judge(alloc, &program, grid, instance) {
@@ -66,8 +68,8 @@ pub fn verify<'g, P: ProgramView>(
     }
 }
 
-/// The number of actions of the longest chain, if the program is accepted. A run in which nobody is held passes each action of
-/// such a program once. What is wrong is searched for in its order where that run goes wrong.
+/// The number of actions of the longest chain, if the program is accepted. A run in which nobody is held passes each
+/// action of such a program once. If that run goes wrong, the first fault is searched for in the order of the faults.
 fn judge<P: ProgramView>(
     alloc: Global,
     program: &P,

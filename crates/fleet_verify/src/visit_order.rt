@@ -1,5 +1,5 @@
-//! The visits in the order in which they begin, grouped by cell, and neighbours among them of which the second does not await that
-//! the first is left.
+//! The visits in the order in which they begin, grouped by cell, and neighbours among them of which the second does not
+//! await that the first is left.
 
 ghost use Rattle.std.specs.Prelude.{◌≡◌, ◌↔◌, ◌++◌, ◌<◌, ◌≤◌, [], ◌∷◌, length, nat_eq, IsTrue, OnOk, Some};
 ghost use Rattle.indexmap.specs.IndexMap.{get, Updates};
@@ -18,8 +18,8 @@ pub struct PlacedVisit {
     pub cell: Cell,
 }
 
-/// Visits of a cell, one right after the other, of which the second is not by the same agent and does not await that the first is
-/// left. A chain of needs may still order them.
+/// Visits of a cell, one right after the other, of which the second is not by the same agent and does not await that
+/// the first is left. A chain of needs may still order them.
 #[derive(Clone, Copy, Debug, Drop)]
 pub struct OpenPair {
     pub cell: Cell,
@@ -27,8 +27,8 @@ pub struct OpenPair {
     pub second: Visit,
 }
 
-/// What is kept of the visits so far, in the order in which they began: by the number of each cell the last one, and the open pairs
-/// in the order in which their second visits began.
+/// The visits so far, in the order in which they began: by the number of each cell the last one, and the open pairs in
+/// the order in which their second visits began.
 #[derive(Drop)]
 pub struct VisitOrder {
     pub last: IndexMap<u32, Visit>,
@@ -60,7 +60,7 @@ impl VisitOrder {
         }
     }
 
-    /// Adds what comes next, if it begins a visit.
+    /// Adds the next position, if it begins a visit.
     pub fn add<P: ProgramView>(
         &mut self,
         program: &P,
@@ -94,7 +94,8 @@ fn begins_visit<P: ProgramView>(program: &P, visit: Visit) -> bool
     }
 }
 
-/// Keeps the visit as the last one of its cell, and with the one before as an open pair, if it does not await that this is left.
+/// Keeps the visit as the last one of its cell, and with the one before as an open pair, if it does not await that this
+/// is left.
 fn append<P: ProgramView>(
     program: &P,
     last: &mut IndexMap<u32, Visit>,
@@ -125,7 +126,8 @@ fn append<P: ProgramView>(
     Ok(())
 }
 
-/// Whether the second visit is a later one by the same agent, or entered by an action that awaits that the first is left.
+/// Whether the second visit is a later one by the same agent, or entered by an action that awaits that the first is
+/// left.
 fn comes_after<P: ProgramView>(program: &P, first: Visit, second: Visit) -> bool
     requires { IsVisit (P.program program.now) second }
     ensures { IsTrue result ↔ ComesAfterByAwait (P.program program.now) first second }

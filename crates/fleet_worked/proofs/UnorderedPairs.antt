@@ -1,4 +1,4 @@
--- Small programs with two visits of a place_xy that have no order: where their agents meet, and that they are refused.
+-- Small programs with two visits of a place that have no order: where their agents meet, and that they are refused.
 use Rattle.std.proofs.Common.{[], ◌∷◌, refl}
 use Rattle.fleet_worked.specs.Programs.{nth_action, place_xy, nth_visit, is_on_open_map, pair_tasks, rash_pair, early_pair, hasty_pair, blocked_pair, blocked_tasks, IsRefusedAt}
 use Rattle.fleet_worked.specs.Meetings.{loose_relay, MeetBy}

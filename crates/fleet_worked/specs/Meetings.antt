@@ -9,7 +9,7 @@ use Rattle.fleet_worked.specs.Programs.{cell_xy, await_on, go, agent_with}
 use Rattle.fleet_model.specs.Visit.{AreUnordered}
 use Rattle.fleet_model.specs.Breaking.{AreBreakingHolds, MeetOn}
 
--- agent 2 enters 1,0 and awaits agent 1 alone, which awaits nobody. So nothing tells that agent 0 has left it
+-- agent 2 enters 1,0 and awaits agent 1 alone, which awaits nobody. So no await says that agent 0 has left it
 abbrev pub loose_relay : Program
 loose_relay =
     agent_with (cell_xy 1 0) (cell_xy 2 0) (go East [] ∷ [])
@@ -17,7 +17,7 @@ loose_relay =
     ∷ agent_with (cell_xy 0 0) (cell_xy 1 0) (go East (await_on 1 1 ∷ []) ∷ [])
     ∷ []
 
--- the relay, where agent 2 awaits agent 0 too
+-- the relay, but that agent 2 awaits agent 0 too
 abbrev pub tight_relay : Program
 tight_relay =
     agent_with (cell_xy 1 0) (cell_xy 2 0) (go East [] ∷ [])

@@ -11,13 +11,15 @@ use Rattle.fleet_worked.specs.Programs.{cell_xy, task_between}
 abbrev pub base_plan : Plan
 base_plan = (cell_xy 1 0 ∷ cell_xy 2 0 ∷ cell_xy 3 0 ∷ []) ∷ (cell_xy 0 0 ∷ cell_xy 1 0 ∷ cell_xy 2 0 ∷ []) ∷ []
 
+-- three agents in a row, each on the heels of the one before it
 abbrev pub corridor : Plan
 corridor = (cell_xy 2 0 ∷ cell_xy 3 0 ∷ cell_xy 4 0 ∷ []) ∷ (cell_xy 1 0 ∷ cell_xy 2 0 ∷ cell_xy 3 0 ∷ []) ∷ (cell_xy 0 0 ∷ cell_xy 1 0 ∷ cell_xy 2 0 ∷ []) ∷ []
 
+-- one agent that goes east and comes back
 abbrev pub there_and_back_plan : Plan
 there_and_back_plan = (cell_xy 0 0 ∷ cell_xy 1 0 ∷ cell_xy 0 0 ∷ []) ∷ []
 
--- an agent lets another pass, and then goes where that was
+-- an agent lets another pass, and then goes to the cells where that was
 abbrev pub pass_plan : Plan
 pass_plan = (cell_xy 0 0 ∷ cell_xy 1 0 ∷ cell_xy 2 0 ∷ []) ∷ (cell_xy 1 1 ∷ cell_xy 1 1 ∷ cell_xy 1 0 ∷ cell_xy 0 0 ∷ []) ∷ []
 
@@ -28,7 +30,7 @@ swap_plan = (cell_xy 0 0 ∷ cell_xy 1 0 ∷ []) ∷ (cell_xy 1 0 ∷ cell_xy 0 
 abbrev pub swap_tasks : List Task
 swap_tasks = task_between (cell_xy 0 0) (cell_xy 1 0) ∷ task_between (cell_xy 1 0) (cell_xy 0 0) ∷ []
 
--- .. in the step from time 0 to 1
+-- its first fault: agents 0 and 1 swap in the step from time 0 to 1
 abbrev pub swap_fault : PlanFault
 swap_fault = fault.Conflict (Swapping 0 0 1)
 
@@ -39,6 +41,6 @@ ring_plan = (cell_xy 0 0 ∷ cell_xy 1 0 ∷ []) ∷ (cell_xy 1 0 ∷ cell_xy 1 
 abbrev pub ring_tasks : List Task
 ring_tasks = task_between (cell_xy 0 0) (cell_xy 1 0) ∷ task_between (cell_xy 1 0) (cell_xy 1 1) ∷ task_between (cell_xy 1 1) (cell_xy 0 1) ∷ task_between (cell_xy 0 1) (cell_xy 0 0) ∷ []
 
--- .. in the step from time 0 to 1
+-- its first fault: a cycle whose least agent is 0, in the step from time 0 to 1
 abbrev pub ring_fault : PlanFault
 ring_fault = fault.Conflict (Cycle 0 0)

@@ -25,7 +25,7 @@ cell_xy x y = record { x = x; y = y }
 abbrev pub place_xy : ℕ → ℕ → Place
 place_xy x y = record { x = pos x; y = pos y }
 
--- wait until agent i has finished n actions
+-- the await of n finished actions of agent i
 abbrev pub await_on : ℕ → ℕ → Await
 await_on i n = record { agent = i; count = n }
 
@@ -43,25 +43,26 @@ agent_with start goal actions = record { start = start; goal = goal; actions = a
 abbrev pub task_between : Cell → Cell → Task
 task_between start goal = record { start = start; goal = goal }
 
--- nth_action n of agent i
+-- action n of agent i
 abbrev pub nth_action : ℕ → ℕ → ActionId
 nth_action i n = record { agent = i; number = n }
 
--- agent i from the place_xy that it enters by nth_action n
+-- the visit of agent i that begins at its position n
 abbrev pub nth_visit : ℕ → ℕ → Visit
 nth_visit i n = record { agent = i; position = n }
 
+-- a coordinate from 0 to below n
 abbrev is_below : ℤ → ℕ → Bool
 is_below (pos x) n = nat_lt x n
 is_below (negsuc x) n = false
 
--- the passable places of a map of so many columns and rows without a blocked cell_xy
+-- the passable places of a map of so many columns and rows without a blocked cell
 abbrev pub is_on_open_map : ℕ → ℕ → Place → Bool
 is_on_open_map columns rows q = is_below q.x columns && is_below q.y rows
 
 -- ---- programs
 
--- agent 0 goes from 1,0 to 3,0, and agent 1 behind it from 0,0 to 2,0. Each nth_action of agent 1 awaits that its next cell_xy has been left
+-- agent 0 goes from 1,0 to 3,0, and agent 1 behind it from 0,0 to 2,0. Each action of agent 1 awaits that its next cell has been left
 abbrev pub pair : Program
 pair =
     agent_with (cell_xy 1 0) (cell_xy 3 0) (go East [] ∷ go East [] ∷ [])
@@ -71,28 +72,28 @@ pair =
 abbrev pub pair_tasks : List Task
 pair_tasks = task_between (cell_xy 1 0) (cell_xy 3 0) ∷ task_between (cell_xy 0 0) (cell_xy 2 0) ∷ []
 
--- the pair, where agent 1 sets out without an await_on
+-- the pair, but that agent 1 sets out without an await
 abbrev pub rash_pair : Program
 rash_pair =
     agent_with (cell_xy 1 0) (cell_xy 3 0) (go East [] ∷ go East [] ∷ [])
     ∷ agent_with (cell_xy 0 0) (cell_xy 2 0) (go East [] ∷ go East (await_on 0 2 ∷ []) ∷ [])
     ∷ []
 
--- the pair, where agent 1 awaits in its last nth_action that agent 0 has come to 2,0 and not that it has left it
+-- the pair, but that agent 1 awaits in its last action that agent 0 has come to 2,0 and not that it has left it
 abbrev pub early_pair : Program
 early_pair =
     agent_with (cell_xy 1 0) (cell_xy 3 0) (go East [] ∷ go East [] ∷ [])
     ∷ agent_with (cell_xy 0 0) (cell_xy 2 0) (go East (await_on 0 1 ∷ []) ∷ go East (await_on 0 1 ∷ []) ∷ [])
     ∷ []
 
--- the pair, where agent 0 first stays where it is
+-- the pair, but that agent 0 first stays on its start
 abbrev pub late_pair : Program
 late_pair =
     agent_with (cell_xy 1 0) (cell_xy 3 0) (dwell [] ∷ go East [] ∷ go East [] ∷ [])
     ∷ agent_with (cell_xy 0 0) (cell_xy 2 0) (go East (await_on 0 2 ∷ []) ∷ go East (await_on 0 3 ∷ []) ∷ [])
     ∷ []
 
--- the same, where agent 1 awaits at first that agent 0 has stayed and not that it has left
+-- the same, but that agent 1 awaits at first that agent 0 has stayed and not that it has left
 abbrev pub hasty_pair : Program
 hasty_pair =
     agent_with (cell_xy 1 0) (cell_xy 3 0) (dwell [] ∷ go East [] ∷ go East [] ∷ [])
@@ -120,7 +121,7 @@ blocked_pair =
 abbrev pub blocked_tasks : List Task
 blocked_tasks = task_between (cell_xy 1 0) (cell_xy 1 0) ∷ task_between (cell_xy 0 0) (cell_xy 2 0) ∷ []
 
--- the first nth_action of either agent awaits that of the other
+-- the first action of either agent awaits that of the other
 abbrev pub deadlock : Program
 deadlock =
     agent_with (cell_xy 1 0) (cell_xy 3 0) (go East (await_on 1 1 ∷ []) ∷ go East [] ∷ [])
@@ -153,7 +154,7 @@ exchange =
     ∷ agent_with (cell_xy 1 0) (cell_xy 0 0) (go West [] ∷ [])
     ∷ []
 
--- four agents on a square, each of which goes to the next one's cell_xy
+-- four agents on a square, each of which goes to the next one's cell
 abbrev pub carousel : Program
 carousel =
     agent_with (cell_xy 0 0) (cell_xy 1 0) (go East [] ∷ [])
@@ -180,7 +181,7 @@ pub record RunsAs (p : Program) (holds : Holds) (rows : List (List Place)) (f w 
   pub end : IsEnd p holds f
   pub held : held_ticks p holds f ≡ w
 
--- however the visits of the place_xy are listed, some nth_visit may not come directly after the one before it
+-- however the visits of the place are listed, some visit may not come directly after the one before it
 abbrev pub HasNoOrder : (Program → Visit → Visit → Type 0) → Program → Place → Type 0
 HasNoOrder After p q = (listing : List Visit) → ListsVisits p q listing → Adjacent (After p) listing → ⊥
 
@@ -189,7 +190,7 @@ pub record IsRefusedAlways (p : Program) : Type 0 where
   pub by_await : (passable : Place → Bool) (tasks : List Task) → IsAcceptedBy ComesAfterByAwait passable tasks p → ⊥
   pub by_chain : (passable : Place → Bool) (tasks : List Task) → IsAcceptedBy ComesAfterByChain passable tasks p → ⊥
 
--- for these passable places and tasks the program is right, and it is numbered. But the place_xy has no order, neither by awaits nor by
+-- for these passable places and tasks the program is right, and it is numbered. But the place has no order, neither by awaits nor by
 -- chains, and for that alone the program is refused
 pub record IsRefusedAt (passable : Place → Bool) (tasks : List Task) (p : Program) (q : Place) : Type 0 where
   pub right : IsRight passable tasks p

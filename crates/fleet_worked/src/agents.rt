@@ -27,7 +27,7 @@ fn bound(alloc: Global, step: Step, count: u32) -> Result<Action, OutOfMemory>
 }
 
 /// The agents of the hasty pair. Agent 0 stays on 1,0 for one action and then goes to 3,0. Agent 1 goes from 0,0 to 2,0 and
-/// awaits the stay alone before 1,0. It fails only where memory is refused.
+/// awaits the stay alone before 1,0. It fails only for want of memory.
 pub fn hasty_agents(alloc: Global) -> Result<Vec<AgentProgram>, OutOfMemory>
     ensures { IfOk result (λ agents. agents.items ≡ hasty_pair) }
 {

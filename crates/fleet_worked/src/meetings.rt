@@ -7,7 +7,7 @@ ghost use Rattle.fleet_worked.specs.Meetings.{loose_relay, tight_relay, MeetBy};
 ghost use Rattle.fleet_worked.specs.Programs.{place_xy, nth_visit, pair, rash_pair, early_pair, hasty_pair, blocked_pair, relay};
 
 /// Two visits without an order in small programs, and the holds that bring their agents onto the
-/// place_xy.
+/// place.
 #[tactic(auto, using(crate::proofs::UnorderedPairs::rash_visits, crate::proofs::UnorderedPairs::early_visits, crate::proofs::UnorderedPairs::hasty_visits, crate::proofs::UnorderedPairs::blocked_visits, crate::proofs::UnorderedPairs::relayed_visits))]
 pub fn worked_visits_meet()
     ensures setting_out { MeetBy rash_pair (place_xy 1 0) (nth_visit 0 0) (nth_visit 1 1) ((0 ∷ []) ∷ []) }

@@ -87,7 +87,7 @@ pub fn relay_runs()
         ∷ (place_xy 2 0 ∷ place_xy 1 2 ∷ place_xy 1 0 ∷ []) ∷ []) 3 0 }
 {}
 
-/// A place_xy may lie off the map.
+/// A place may lie off the map.
 pub fn excursion_runs()
     ensures { RunsAs excursion [] (
         (place_xy 0 0 ∷ [])
@@ -95,7 +95,7 @@ pub fn excursion_runs()
         ∷ (place_xy 0 0 ∷ []) ∷ []) 2 0 }
 {}
 
-/// One conflict of each kind. Each pair that is refused below runs into one, two of them where agent 0 is held.
+/// One conflict of each kind. Each pair that is refused below runs into one, three of them only while agent 0 is held.
 pub fn conflicts_are_found()
     ensures vertex { HasVertexConflict (motion blocked_pair []) 1 0 1 }
     ensures vertex_when_held { HasVertexConflict (motion rash_pair ((0 ∷ []) ∷ [])) 1 0 1 }
@@ -131,13 +131,13 @@ pub fn pair_visits()
     ensures at_3 { ListsVisits pair (place_xy 3 0) (nth_visit 0 2 ∷ []) }
 {}
 
-/// A nth_visit is a longest run of positions on one place_xy, named by the first of them and left by the nth_action after it.
+/// A visit is a longest run of positions on one place, named by the first of them and left by the action after it.
 pub fn visits_are_longest_runs()
     ensures run { (p : Program) (v : Visit) → IsVisit p v → (l : ℕ) × ((leaving p v).number ≡ l + 1) × IsLongestRun p v.agent v.position l }
     ensures all { (p : Program) (i first last : ℕ) → i < length p → IsLongestRun p i first last → IsVisit p (nth_visit i first) × ((leaving p (nth_visit i first)).number ≡ last + 1) }
 {}
 
-/// A stay begins no nth_visit. To come back to a place_xy does, also where the agent stayed on it before.
+/// A stay begins no visit. To come back to a place does, also if the agent stayed on it before.
 pub fn stays_are_no_visits()
     ensures at_1 { ListsVisits late_pair (place_xy 1 0) (nth_visit 0 0 ∷ nth_visit 1 1 ∷ []) }
     ensures at_2 { ListsVisits late_pair (place_xy 2 0) (nth_visit 0 2 ∷ nth_visit 1 2 ∷ []) }
@@ -148,7 +148,7 @@ pub fn stays_are_no_visits()
     ensures never_left { leaving sentry (nth_visit 0 3) ≡ nth_action 0 5 }
 {}
 
-/// Pairs that stay are accepted where agent 1 awaits the moves of agent 0, and the longest chain counts the stays.
+/// Pairs that stay are accepted if agent 1 awaits the moves of agent 0, and the longest chain counts the stays.
 pub fn staying_pairs_are_accepted()
     ensures before { IsAcceptedBy ComesAfterByChain (is_on_open_map 4 1) pair_tasks late_pair }
     ensures before_longest { IsLongestChain late_pair 4 }
@@ -186,7 +186,7 @@ pub fn early_pair_is_refused()
     ensures { IsRefusedAt (is_on_open_map 4 1) pair_tasks early_pair (place_xy 2 0) }
 {}
 
-/// A start is a nth_visit too: where an agent stands for good the cell 1,0 has no order, and this alone is wrong.
+/// A start is a visit too: the cell 1,0, on which an agent stands for good, has no order, and this alone is wrong.
 #[tactic(auto, using(crate::proofs::UnorderedPairs::blocked_refused))]
 pub fn blocked_pair_is_refused()
     ensures { IsRefusedAt (is_on_open_map 4 1) blocked_tasks blocked_pair (place_xy 1 0) }

@@ -120,11 +120,19 @@ fn agent_programs(
         let i = agents.len() as u16;
         let start = plan.cell(i, 0);
         let goal = plan.cell(i, end);
-        let mut own = list.into_actions()?;
-        add_stays(alloc, &mut own, stays)?;
+        let own = staying_actions(alloc, list, stays)?;
         agents.push(AgentProgram::new(start, goal, own))?;
     }
     Ok(agents)
+}
+
+/// The actions, and then so many stays.
+fn staying_actions(alloc: Global, list: Growing, stays: u32) -> Result<Actions, OutOfMemory>
+    ensures { IfOk result (λ actions. actions ≡ list ++ replicate stays stay) }
+{
+    let mut actions = list.into_actions()?;
+    add_stays(alloc, &mut actions, stays)?;
+    Ok(actions)
 }
 
 /// Adds so many stays that await nobody.

@@ -16,10 +16,6 @@ action_text a = numbered_text a.agent a.number
 abbrev pub visit_text : Visit → List ℕ
 visit_text visit = numbered_text visit.agent visit.position
 
--- a ring of needs
-abbrev pub ring_words : List ActionId → List (List ℕ)
-ring_words ring = codes "verify" ∷ decimal 7 ∷ codes "Cyclic" ∷ map action_text ring
-
 -- two visits of a cell without order
 abbrev pub unordered_words : Cell → Visit → Visit → List (List ℕ)
 unordered_words cell first second =
@@ -33,7 +29,7 @@ verify_words (v.Start agent) = named_at (codes "verify") 3 (codes "Start") (code
 verify_words (v.Goal agent) = named_at (codes "verify") 4 (codes "Goal") (codes "agent") agent
 verify_words (v.Step agent action) = named_by (codes "verify") 5 (codes "Step") (codes "agent") agent (codes "action") action
 verify_words (v.AwaitRange agent action) = named_by (codes "verify") 6 (codes "AwaitRange") (codes "agent") agent (codes "action") action
-verify_words (v.Cyclic ring) = ring_words ring.items
+verify_words (v.Cyclic ring) = codes "verify" ∷ decimal 7 ∷ codes "Cyclic" ∷ map action_text ring.items
 verify_words (v.Unordered cell first second) = unordered_words cell first second
 
 -- whether memory failed

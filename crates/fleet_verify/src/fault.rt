@@ -1,11 +1,11 @@
 //! Why a program is not accepted.
 
-ghost use Rattle.std.specs.Prelude.{codes, map};
+ghost use Rattle.std.specs.Prelude.{◌∷◌, codes, decimal, map};
 ghost use Rattle.fleet_text.specs.Sink.{IsWorking, TakesAll};
 ghost use Rattle.fleet_text.specs.Row.{Gathers};
 ghost use Rattle.fleet_text.specs.Refusals.{named_at, named_by};
 ghost use Rattle.fleet_text.specs.Words.{line_text, next_words, spaced};
-ghost use Rattle.fleet_verify.specs.Told.{action_text, ring_words, unordered_words};
+ghost use Rattle.fleet_verify.specs.Told.{action_text, unordered_words};
 
 use fleet_model::{ActionId, Cell, OutOfMemory, Visit};
 use fleet_text::{
@@ -215,7 +215,7 @@ fn put_ring_words<O: TraceOut>(
     ring: &[ActionId],
 ) -> Result<(), OutFault>
     requires { IsWorking (O.state out.old) }
-    ensures { Gathers (O.state out.old) (O.state out.new) result row.old row.new (spaced (ring_words ring.now)) }
+    ensures { Gathers (O.state out.old) (O.state out.new) result row.old row.new (spaced (codes "verify" ∷ decimal 7 ∷ codes "Cyclic" ∷ map action_text ring.now)) }
 {
     put_words(
         row,
@@ -228,7 +228,7 @@ fn put_ring_words<O: TraceOut>(
 /// Writes the line of a ring, in pieces as large as a row.
 fn put_ring<O: TraceOut>(out: &mut O, ring: &[ActionId]) -> Result<(), OutFault>
     requires { IsWorking (O.state out.old) }
-    ensures { TakesAll (O.state out.old) (O.state out.new) result (line_text (ring_words ring.now)) }
+    ensures { TakesAll (O.state out.old) (O.state out.new) result (line_text (codes "verify" ∷ decimal 7 ∷ codes "Cyclic" ∷ map action_text ring.now)) }
 {
     let mut row = Row::new();
     put_ring_words(&mut row, out, ring)?;

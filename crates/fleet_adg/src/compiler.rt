@@ -1,6 +1,6 @@
 //! The compiler of plans.
 
-ghost use Rattle.std.specs.Prelude.{◌≡◌, ◌++◌, IfOk, length, map, replicate};
+ghost use Rattle.std.specs.Prelude.{◌≡◌, ◌++◌, IfOk, OnOk, length, map, replicate};
 ghost use Rattle.fleet_model.specs.Program.{NeverStays};
 ghost use Rattle.fleet_model.specs.Accepted.{IsAccepted};
 ghost use Rattle.fleet_model.specs.Answer.{IsDueUnless};
@@ -120,17 +120,25 @@ fn agent_programs(
         let i = agents.len() as u16;
         let start = plan.cell(i, 0);
         let goal = plan.cell(i, end);
-        let own = with_stays(alloc, list.into_actions()?, stays)?;
+        let own = staying_actions(alloc, list, stays)?;
         agents.push(AgentProgram::new(start, goal, own))?;
     }
     Ok(agents)
 }
 
-/// These actions, and then so many stays that await nobody.
-fn with_stays(alloc: Global, list: Actions, stays: u32) -> Result<Actions, OutOfMemory>
+/// The actions, and then so many stays.
+fn staying_actions(alloc: Global, list: Growing, stays: u32) -> Result<Actions, OutOfMemory>
     ensures { IfOk result (λ actions. actions ≡ list ++ replicate stays stay) }
 {
-    let mut actions = list;
+    let mut actions = list.into_actions()?;
+    add_stays(alloc, &mut actions, stays)?;
+    Ok(actions)
+}
+
+/// Adds so many stays that await nobody.
+fn add_stays(alloc: Global, actions: &mut Actions, stays: u32) -> Result<(), OutOfMemory>
+    ensures { OnOk result (actions.new ≡ actions.old ++ replicate stays stay) }
+{
     actions.reserve_exact(stays as usize, 0)?;
     for _ in 0..stays {
         actions.push(Action {
@@ -138,5 +146,5 @@ fn with_stays(alloc: Global, list: Actions, stays: u32) -> Result<Actions, OutOf
             awaits: Awaits::new(alloc),
         })?;
     }
-    Ok(actions)
+    Ok(())
 }

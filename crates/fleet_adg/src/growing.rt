@@ -11,7 +11,7 @@ use std::alloc::Global;
 use std::marker::Model;
 
 /// An action that awaits at most one leaving.
-#[derive(Clone, Copy, Debug)]
+#[derive(Clone, Copy)]
 pub(crate) struct Entry {
     pub(crate) step: Step,
     pub(crate) awaited: Option<Leaving>,

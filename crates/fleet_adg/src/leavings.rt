@@ -11,7 +11,7 @@ use std::alloc::{AllocError, Global};
 
 /// A move by which a cell was left: `number` of `agent`, from 1 on. There may be one for each cell of a map, so it is
 /// small.
-#[derive(Clone, Copy, Debug)]
+#[derive(Clone, Copy)]
 pub(crate) struct Leaving {
     pub(crate) agent: u16,
     pub(crate) number: u16,

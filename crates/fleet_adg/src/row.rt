@@ -9,7 +9,7 @@ use std::alloc::{AllocError, Global};
 use std::marker::Model;
 
 /// The last leaving of one cell by each agent that has left it, in rising order of agent.
-#[derive(Debug, Drop)]
+#[derive(Drop)]
 pub(crate) struct Row {
     leavings: Vec<Await>,
 }

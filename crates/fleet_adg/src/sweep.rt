@@ -17,7 +17,7 @@ use fleet_plan::{Checked, Plan};
 use std::alloc::{AllocError, Global};
 
 /// A change of cell by an agent in one step.
-#[derive(Clone, Copy, Debug)]
+#[derive(Clone, Copy)]
 struct Move {
     agent: u16,
     from: Cell,
@@ -37,15 +37,32 @@ pub(crate) fn actions_of(
     cells_are_on_map(checked);
     let mut leavings = Leavings::none(alloc, deps);
     let mut actions = empty_lists(alloc, plan, deps)?;
+    sweep(alloc, plan, grid, &mut leavings, &mut actions)?;
+    Ok(actions)
+}
+
+/// Sweeps over all steps of the plan, and adds the actions of each agent.
+fn sweep(
+    alloc: Global,
+    plan: &Plan,
+    grid: &Grid,
+    leavings: &mut Leavings,
+    actions: &mut [Growing],
+) -> Result<(), OutOfMemory>
+    requires on_map { IsOnMap grid.now plan.now }
+    requires leavings { AreLeavingsAt grid.now plan.now (kind_of leavings.old) 0 leavings.old }
+    requires actions { actions.old ≡ all_actions_by plan.now (kind_of leavings.old) 0 }
+    ensures { OnOk result (actions.new ≡ all_actions_by plan.now (kind_of leavings.old) (steps plan.now)) }
+{
     let mut agents = agents_of(alloc, plan.agents())?;
     let mut moves = Vec::with_capacity(alloc, agents.len())?;
     for time in 0..plan.steps() {
         keep_under_way(&mut agents, plan, time);
         list_moves(plan, time, &agents, &mut moves)?;
-        note_leavings(plan, grid, time, &moves, &actions, &mut leavings)?;
-        add_actions(alloc, plan, grid, time, &moves, &leavings, &mut actions)?;
+        note_leavings(plan, grid, time, &moves, actions, leavings)?;
+        add_actions(alloc, plan, grid, time, &moves, leavings, actions)?;
     }
-    Ok(actions)
+    Ok(())
 }
 
 /// Every cell of a plan lies on the map that it was checked for. It does nothing.

@@ -13,7 +13,7 @@ ghost use Rattle.fleet_chains.specs.Breaking.{IsHeldBy, AreAdvanced};
 ghost use Rattle.fleet_model.specs.Breaking.{AreBreakingHolds, MeetOn};
 ghost use Rattle.fleet_chains.specs.Needed.{AreNeeded};
 
-use crate::needed::needed_for;
+use crate::needed::{needed_for, zeros};
 use fleet_model::{OutOfMemory, ProgramView, Visit, total_moves};
 use std::alloc::Global;
 
@@ -58,17 +58,15 @@ fn holds_by<P: ProgramView>(
     ensures { IfOk result (λ holds.
         AreBreakingHolds (P.program program.now) v w (map (λ row. row.items) holds.items)) }
 {
-    let mut counts: Vec<u32> = Vec::new(alloc);
-    for _ in 0..program.agents() {
-        counts.push(0)?;
-    }
+    let mut counts = zeros(alloc, program.agents())?;
     let mut holds = Vec::new(alloc);
     for t in 0..total_moves(program) {
-        if have_arrived(&counts, v, w) {
+        let done: &[u32] = &counts;
+        if have_arrived(done, v, w) {
             return Ok(holds);
         }
-        let row = held_agents(alloc, program, &counts, needed)?;
-        let next = advance(alloc, program, &counts, needed)?;
+        let row = held_agents(alloc, program, done, needed)?;
+        let next = advance(alloc, program, done, needed)?;
         holds.push(row)?;
         counts = next;
     }
@@ -144,16 +142,31 @@ fn advance<P: ProgramView>(
 {
     let mut next = Vec::new(alloc);
     for i in 0..program.agents() {
-        let done = counts[i as usize];
-        let last = program.moves(i);
-        if is_ready(program, counts, i) && !is_held(program, counts, needed, i) {
-            prove!(done < last);
-            next.push(done + 1)?;
-        } else {
-            next.push(done)?;
-        }
+        next.push(count_after(program, counts, needed, i))?;
     }
     Ok(next)
+}
+
+/// The count of an agent after a tick.
+fn count_after<P: ProgramView>(program: &P, counts: &[u32], needed: &[u32], i: u16) -> u32
+    requires agent { i < length (P.program program.now) }
+    requires counts { length counts.now ≡ length (P.program program.now) }
+    requires needed { length needed.now ≡ length (P.program program.now) }
+    ensures moved { IsReadyBy (P.program program.now) counts.now i
+        → (IsHeldBy (P.program program.now) counts.now needed.now i → ⊥)
+        → result ≡ slice_index counts.now i + 1 }
+    ensures stayed { (IsReadyBy (P.program program.now) counts.now i
+        → IsHeldBy (P.program program.now) counts.now needed.now i)
+        → result ≡ slice_index counts.now i }
+{
+    let done = counts[i as usize];
+    let last = program.moves(i);
+    if is_ready(program, counts, i) && !is_held(program, counts, needed, i) {
+        prove!(done < last);
+        done + 1
+    } else {
+        done
+    }
 }
 
 /// Whether both agents have come to their visits.

@@ -1,13 +1,14 @@
 //! The judgements that go agent by agent: of the fleet, starts, paths and ends.
 
-ghost use Rattle.std.specs.Prelude.{◌≡◌, ◌<◌, ◌↔◌, length, IsTrue, OnOk, IfErr, Bool, option_map};
+ghost use Rattle.std.specs.Prelude.{◌≡◌, ◌<◌, ◌↔◌, length, IsTrue, IfOk, OnOk, IfErr, Bool, option_map};
 ghost use Rattle.std.specs.Option.{option_or};
 ghost use Rattle.fleet_model.specs.Program.{moves, path};
 ghost use Rattle.fleet_model.specs.declared.geometry.Place.{Place};
 ghost use Rattle.fleet_model.specs.Machine.{IsReached};
 ghost use Rattle.fleet_grid.specs.Ground.{is_passable};
 ghost use Rattle.fleet_machine.specs.Machine.{Runs};
-ghost use Rattle.fleet_verify.specs.Faults.{HasFleet, HasStarts, HasRanges, EndsRight, IsFault};
+ghost use Rattle.fleet_verify.specs.Faults.{HasFleet, HasStarts, HasEnds, HasRanges, EndsRight, StandsRight, AwaitsRight, IsFault};
+ghost use Rattle.fleet_verify.specs.Path.{TellsFirstAction};
 ghost use Rattle.fleet_verify.specs.Walk.{HasArrived};
 
 use crate::fault::VerifyFault;
@@ -53,6 +54,45 @@ pub fn check_paths<P: ProgramView>(
     ensures ok { OnOk result (HasRanges (is_passable grid.now) instance.now (P.program program.now)) }
     ensures err { IfErr result (λ f. IsFault (is_passable grid.now) instance.now (P.program program.now) f) }
 {
+    let faults = judge_paths(program, grid, instance)?;
+    if let Some(ActionId { agent, number }) = faults.off_ground {
+        return Err(VerifyFault::Step {
+            agent,
+            action: number,
+        });
+    }
+    if let Some(ActionId { agent, number }) = faults.out_of_range {
+        return Err(VerifyFault::AwaitRange {
+            agent,
+            action: number,
+        });
+    }
+    Ok(())
+}
+
+/// What is wrong with the paths of all agents but their ends.
+#[derive(Clone, Copy)]
+struct PathFaults {
+    /// The first action that leads off passable ground.
+    off_ground: Option<ActionId>,
+    /// The first action that awaits more actions than there are.
+    out_of_range: Option<ActionId>,
+}
+
+/// What is wrong with the steps and awaits, if the goals are right.
+fn judge_paths<P: ProgramView>(
+    program: &P,
+    grid: &Grid,
+    instance: &Instance,
+) -> Result<PathFaults, VerifyFault>
+    requires { HasStarts instance.now (P.program program.now) }
+    ensures ends { OnOk result (HasEnds instance.now (P.program program.now)) }
+    ensures off_ground { IfOk result (λ found. TellsFirstAction (P.program program.now)
+        (StandsRight (is_passable grid.now) (P.program program.now)) (length (P.program program.now)) found.off_ground) }
+    ensures out_of_range { IfOk result (λ found. TellsFirstAction (P.program program.now)
+        (AwaitsRight (P.program program.now)) (length (P.program program.now)) found.out_of_range) }
+    ensures err { IfErr result (λ f. IsFault (is_passable grid.now) instance.now (P.program program.now) f) }
+{
     let mut off_ground = None;
     let mut out_of_range = None;
     for agent in 0..program.agents() {
@@ -63,19 +103,10 @@ pub fn check_paths<P: ProgramView>(
         off_ground = or_action(off_ground, agent, path.off_ground);
         out_of_range = or_action(out_of_range, agent, path.out_of_range);
     }
-    if let Some(ActionId { agent, number }) = off_ground {
-        return Err(VerifyFault::Step {
-            agent,
-            action: number,
-        });
-    }
-    if let Some(ActionId { agent, number }) = out_of_range {
-        return Err(VerifyFault::AwaitRange {
-            agent,
-            action: number,
-        });
-    }
-    Ok(())
+    Ok(PathFaults {
+        off_ground,
+        out_of_range,
+    })
 }
 
 /// Whether the goal of an agent is its task's, and this end of its path lies on it.

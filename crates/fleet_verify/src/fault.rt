@@ -1,9 +1,10 @@
 //! Why a program is not accepted.
 
-ghost use Rattle.std.specs.Prelude.{◌<◌, ◌++◌, length, map};
+ghost use Rattle.std.specs.Prelude.{◌∷◌, codes, decimal, map};
 ghost use Rattle.fleet_text.specs.Sink.{IsWorking, TakesAll};
 ghost use Rattle.fleet_text.specs.Row.{Gathers};
-ghost use Rattle.fleet_text.specs.Words.{word_text, line_text, next_words};
+ghost use Rattle.fleet_text.specs.Refusals.{named_at, named_by};
+ghost use Rattle.fleet_text.specs.Words.{line_text, next_words, spaced};
 ghost use Rattle.fleet_verify.specs.Told.{action_text, unordered_words};
 
 use fleet_model::{ActionId, Cell, OutOfMemory, Visit};
@@ -11,53 +12,108 @@ use fleet_text::{
     OutFault, Refusal, Row, TraceOut, Word, put_line, put_memory, put_named, put_named_at,
     put_named_by, put_next_word, put_words,
 };
-use thiserror::Error;
+use std::error::Error;
+use std::fmt;
 
 /// The first fault of a program for a map and an instance, in the order of the variants; of the agents the least is
 /// reported, and then the least of its actions.
-#[derive(Debug, Drop, PartialEq, Eq, Error)]
+#[derive(Drop)]
 pub enum VerifyFault {
-    #[error("out of memory")]
     OutOfMemory,
     /// The program has another number of agents than the instance.
-    #[error("the program and the instance have different numbers of agents")]
     OtherFleet,
     /// An agent begins elsewhere.
-    #[error("agent {agent} does not begin on its start")]
     Start {
         agent: u16,
     },
     /// An agent has another goal, or its path does not end on it.
-    #[error("agent {agent} does not end on its goal")]
     Goal {
         agent: u16,
     },
     /// An action leads off the passable cells. Action 0 is the start, which is passable on the map that the instance
     /// was read for.
-    #[error("action {action} of agent {agent} leads off the passable cells")]
     Step {
         agent: u16,
         action: u32,
     },
     /// An action awaits more actions than the awaited agent has.
-    #[error("action {action} of agent {agent} awaits more actions than there are")]
     AwaitRange {
         agent: u16,
         action: u32,
     },
     /// A ring of needs: each action directly needs the one before, and the first, which is the least, needs the last.
-    #[error("some actions need each other")]
     Cyclic(Vec<ActionId>),
     /// The visits of a cell have no order: the second may not come directly after the first. The cells are judged as
     /// they first occur in the visits by agent and position, and the visits of a cell by the level of the entering
     /// action, 0 for a start, then by agent and position.
-    #[error("a visit of a cell does not wait for the one before to be left")]
     Unordered {
         cell: Cell,
         first: Visit,
         second: Visit,
     },
 }
+
+impl VerifyFault {
+    /// What is wrong, but not where.
+    fn message(&self) -> &'static str {
+        match self {
+            VerifyFault::OutOfMemory => "out of memory",
+            VerifyFault::OtherFleet => {
+                "the program and the instance have different numbers of agents"
+            }
+            VerifyFault::Start { .. } => "does not begin on its start",
+            VerifyFault::Goal { .. } => "does not end on its goal",
+            VerifyFault::Step { .. } => "leads off the passable cells",
+            VerifyFault::AwaitRange { .. } => "awaits more actions than there are",
+            VerifyFault::Cyclic(_) => "some actions need each other",
+            VerifyFault::Unordered { .. } => {
+                "a visit of a cell does not wait for the one before to be left"
+            }
+        }
+    }
+
+    /// The agent that is at fault, if it is one agent.
+    fn agent(&self) -> Option<u16> {
+        match self {
+            VerifyFault::Start { agent }
+            | VerifyFault::Goal { agent }
+            | VerifyFault::Step { agent, .. }
+            | VerifyFault::AwaitRange { agent, .. } => Some(*agent),
+            _ => None,
+        }
+    }
+
+    /// The action of the agent that is at fault, if it is one action.
+    fn action(&self) -> Option<u32> {
+        match self {
+            VerifyFault::Step { action, .. } | VerifyFault::AwaitRange { action, .. } => {
+                Some(*action)
+            }
+            _ => None,
+        }
+    }
+}
+
+impl fmt::Display for VerifyFault {
+    fn fmt<W: fmt::Write>(&self, f: &mut fmt::Formatter<W>) -> fmt::Result {
+        if let Some(action) = self.action() {
+            write!(f, "action {action} of ")?;
+        }
+        if let Some(agent) = self.agent() {
+            write!(f, "agent {agent} ")?;
+        }
+        f.write_str(self.message())
+    }
+}
+
+/// Shows what the message shows.
+impl fmt::Debug for VerifyFault {
+    fn fmt<W: fmt::Write>(&self, f: &mut fmt::Formatter<W>) -> fmt::Result {
+        fmt::Display::fmt(self, f)
+    }
+}
+
+impl Error for VerifyFault {}
 
 impl From<OutOfMemory> for VerifyFault {
     ghost use Rattle.std.specs.Prelude.{◌≡◌};
@@ -81,33 +137,13 @@ impl Refusal for VerifyFault {
         match self {
             VerifyFault::OutOfMemory => put_memory(out),
             VerifyFault::OtherFleet => put_named(out, "verify", 2, "OtherFleet"),
-            VerifyFault::Start { agent } => {
-                put_named_at(out, "verify", 3, "Start", "agent", *agent as u64)
+            VerifyFault::Start { agent } => put_agent(out, 3, "Start", *agent),
+            VerifyFault::Goal { agent } => put_agent(out, 4, "Goal", *agent),
+            VerifyFault::Step { agent, action } => put_action(out, 5, "Step", *agent, *action),
+            VerifyFault::AwaitRange { agent, action } => {
+                put_action(out, 6, "AwaitRange", *agent, *action)
             }
-            VerifyFault::Goal { agent } => {
-                put_named_at(out, "verify", 4, "Goal", "agent", *agent as u64)
-            }
-            VerifyFault::Step { agent, action } => put_named_by(
-                out,
-                "verify",
-                5,
-                "Step",
-                ("agent", *agent as u64),
-                ("action", *action as u64),
-            ),
-            VerifyFault::AwaitRange { agent, action } => put_named_by(
-                out,
-                "verify",
-                6,
-                "AwaitRange",
-                ("agent", *agent as u64),
-                ("action", *action as u64),
-            ),
-            VerifyFault::Cyclic(ring) => put_ring(
-                out,
-                &[Word::Text("verify"), Word::Number(7), Word::Text("Cyclic")],
-                ring.as_slice(),
-            ),
+            VerifyFault::Cyclic(ring) => put_ring(out, ring.as_slice()),
             VerifyFault::Unordered {
                 cell,
                 first,
@@ -119,6 +155,42 @@ impl Refusal for VerifyFault {
     fn is_failure(&self) -> bool {
         matches!(self, VerifyFault::OutOfMemory)
     }
+}
+
+/// Writes the line of a fault of an agent.
+fn put_agent<O: TraceOut>(
+    out: &mut O,
+    number: u64,
+    name: &'static str,
+    agent: u16,
+) -> Result<(), OutFault>
+    requires { IsWorking (O.state out.old) }
+    ensures { TakesAll (O.state out.old) (O.state out.new) result
+        (line_text (named_at (codes "verify") number name.now (codes "agent") agent)) }
+{
+    put_named_at(out, "verify", number, name, "agent", agent as u64)
+}
+
+/// Writes the line of a fault of an action.
+fn put_action<O: TraceOut>(
+    out: &mut O,
+    number: u64,
+    name: &'static str,
+    agent: u16,
+    action: u32,
+) -> Result<(), OutFault>
+    requires { IsWorking (O.state out.old) }
+    ensures { TakesAll (O.state out.old) (O.state out.new) result
+        (line_text (named_by (codes "verify") number name.now (codes "agent") agent (codes "action") action)) }
+{
+    put_named_by(
+        out,
+        "verify",
+        number,
+        name,
+        ("agent", agent as u64),
+        ("action", action as u64),
+    )
 }
 
 /// Adds a space and a word for each action to the row.
@@ -136,16 +208,30 @@ fn put_actions<O: TraceOut>(
     Ok(())
 }
 
-/// Writes a line of first words, and a word for each action, in pieces as large as a row.
-fn put_ring<O: TraceOut>(out: &mut O, first: &[Word<'_>], ring: &[ActionId]) -> Result<(), OutFault>
-    requires working { IsWorking (O.state out.old) }
-    requires some { 0 < length first.now }
-    ensures { TakesAll (O.state out.old) (O.state out.new) result
-        (line_text (map word_text first.now ++ map action_text ring.now)) }
+/// Adds the words of a ring to the row.
+fn put_ring_words<O: TraceOut>(
+    row: &mut Row,
+    out: &mut O,
+    ring: &[ActionId],
+) -> Result<(), OutFault>
+    requires { IsWorking (O.state out.old) }
+    ensures { Gathers (O.state out.old) (O.state out.new) result row.old row.new (spaced (codes "verify" ∷ decimal 7 ∷ codes "Cyclic" ∷ map action_text ring.now)) }
+{
+    put_words(
+        row,
+        out,
+        &[Word::Text("verify"), Word::Number(7), Word::Text("Cyclic")],
+    )?;
+    put_actions(row, out, ring)
+}
+
+/// Writes the line of a ring, in pieces as large as a row.
+fn put_ring<O: TraceOut>(out: &mut O, ring: &[ActionId]) -> Result<(), OutFault>
+    requires { IsWorking (O.state out.old) }
+    ensures { TakesAll (O.state out.old) (O.state out.new) result (line_text (codes "verify" ∷ decimal 7 ∷ codes "Cyclic" ∷ map action_text ring.now)) }
 {
     let mut row = Row::new();
-    put_words(&mut row, out, first)?;
-    put_actions(&mut row, out, ring)?;
+    put_ring_words(&mut row, out, ring)?;
     row.end_line(out)
 }
 

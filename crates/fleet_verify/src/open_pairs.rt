@@ -17,7 +17,7 @@ use indexmap::IndexMap;
 use std::alloc::Global;
 
 /// Visits of a cell, one right after the other, of which the second may not come after the first.
-#[derive(Clone, Copy, Debug, Drop)]
+#[derive(Clone, Copy, Drop)]
 pub struct OrderViolation {
     pub first: Visit,
     pub second: Visit,

@@ -11,7 +11,7 @@ use fleet_grid::Grid;
 use fleet_model::{Cell, Place, ProgramView, Step};
 
 /// The judgement of an agent's path.
-#[derive(Clone, Copy, Debug)]
+#[derive(Clone, Copy)]
 pub struct PathJudged {
     /// The place at which it ends, which may be off the map.
     pub end: Place,
@@ -23,7 +23,7 @@ pub struct PathJudged {
 
 /// The position of a walk along a path: a cell, if the walk was on passable ground alone, or else any place, with the
 /// first action that led off passable ground.
-#[derive(Clone, Copy, Debug)]
+#[derive(Clone, Copy)]
 enum Position {
     OnGround(Cell),
     OffGround { place: Place, action: u32 },

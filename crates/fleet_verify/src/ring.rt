@@ -25,9 +25,24 @@ pub fn find_ring<P: ProgramView>(
     ensures { IfOk result (λ ring. IsToldRing (P.program program.now) ring.items) }
 {
     let counts = counts_of(alloc, machine.agents())?;
-    let wants = all_wants(alloc, program, &counts)?;
-    let first = least_on_ring(program, &counts, &wants);
-    ring_from(alloc, program, &counts, &wants, first)
+    ring_by_counts(alloc, program, &counts)
+}
+
+/// The same by how many actions each agent has finished.
+fn ring_by_counts<P: ProgramView>(
+    alloc: Global,
+    program: &P,
+    counts: &[u32],
+) -> Result<Vec<ActionId>, OutOfMemory>
+    requires counts { length counts.now ≡ length (P.program program.now) }
+    requires ranges { AreInRange (P.program program.now) }
+    requires stuck { (i : ℕ) → i < length (P.program program.now) → IsReadyBy (P.program program.now) counts.now i → ⊥ }
+    requires left { (i : ℕ) × IsBlocked (P.program program.now) counts.now i }
+    ensures { IfOk result (λ ring. IsToldRing (P.program program.now) ring.items) }
+{
+    let wants = all_wants(alloc, program, counts)?;
+    let first = least_on_ring(program, counts, &wants);
+    ring_from(alloc, program, counts, &wants, first)
 }
 
 /// How many actions each agent has finished.

@@ -37,9 +37,35 @@ pub fn run_unheld<P: ProgramView>(
         (LeavesGround (is_passable grid.now) (P.program program.now))
         (IsRunOnGround (is_passable grid.now) (P.program program.now))) }
 {
-    let machine = Machine::start(alloc, program)?;
+    let mut machine = Machine::start(alloc, program)?;
     let mut visits = VisitOrder::new(alloc);
-    if !add_starts(program, grid, &machine, &mut visits)? {
+    match run_to_end(program, grid, &mut machine, &mut visits)? {
+        Some(ticks) => Ok(Some(UnheldRun {
+            machine,
+            visits,
+            ticks,
+        })),
+        None => Ok(None),
+    }
+}
+
+/// Runs the machine from its start until the run is over, adds all visits, and answers the number of ticks, or nothing
+/// if an agent leaves passable ground.
+fn run_to_end<P: ProgramView>(
+    program: &P,
+    grid: &Grid,
+    machine: &mut Machine,
+    visits: &mut VisitOrder,
+) -> Result<Option<u32>, OutOfMemory>
+    requires runs { Runs (P.program program.now) machine.old }
+    requires opening { machine.old.configuration ≡ opening (P.program program.now) }
+    requires none { AreAdded (P.program program.now) [] visits.old }
+    ensures { IfOk result (λ end. MatchOption end
+        (LeavesGround (is_passable grid.now) (P.program program.now))
+        (λ t. IsRunOnGround (is_passable grid.now) (P.program program.now)
+        (record { machine = machine.new; visits = visits.new; ticks = t }))) }
+{
+    if !add_starts(program, grid, machine, visits)? {
         return Ok(None);
     }
     let nobody = [false; MAX_AGENTS];
@@ -47,46 +73,37 @@ pub fn run_unheld<P: ProgramView>(
     run_on(program, grid, nobody, machine, visits)
 }
 
-/// The run from its start on, until it is over. No flag of `nobody` is set.
+/// The same from the starts on, which are added. No flag of `nobody` is set.
 fn run_on<P: ProgramView>(
     program: &P,
     grid: &Grid,
     nobody: &[bool],
-    start: Machine,
-    starts: VisitOrder,
-) -> Result<Option<UnheldRun>, OutOfMemory>
+    machine: &mut Machine,
+    visits: &mut VisitOrder,
+) -> Result<Option<u32>, OutOfMemory>
     requires agents { length nobody.now ≡ length (P.program program.now) }
     requires nobody { (i : ℕ) → flag_of nobody.now i ≡ false }
-    requires runs { Runs (P.program program.now) start }
-    requires opening { start.configuration ≡ opening (P.program program.now) }
-    requires added { AreAdded (P.program program.now) (begun_in (P.program program.now) 0) starts }
+    requires runs { Runs (P.program program.now) machine.old }
+    requires opening { machine.old.configuration ≡ opening (P.program program.now) }
+    requires added { AreAdded (P.program program.now) (begun_in (P.program program.now) 0) visits.old }
     requires on_ground { AreOnGround (is_passable grid.now) (P.program program.now)
         (begun_in (P.program program.now) 0) }
-    ensures { IfOk result (λ run. MatchOption run
+    ensures { IfOk result (λ end. MatchOption end
         (LeavesGround (is_passable grid.now) (P.program program.now))
-        (IsRunOnGround (is_passable grid.now) (P.program program.now))) }
+        (λ t. IsRunOnGround (is_passable grid.now) (P.program program.now)
+        (record { machine = machine.new; visits = visits.new; ticks = t }))) }
 {
-    let mut machine = start;
-    let mut visits = starts;
     let most = total_moves(program);
     for ticks in 0..most {
         let tick = machine.tick(program, nobody);
         if tick.moved == 0 {
-            return Ok(Some(UnheldRun {
-                machine,
-                visits,
-                ticks,
-            }));
+            return Ok(Some(ticks));
         }
-        if !add_moved(program, grid, &machine, &mut visits)? {
+        if !add_moved(program, grid, machine, visits)? {
             return Ok(None);
         }
     }
-    Ok(Some(UnheldRun {
-        machine,
-        visits,
-        ticks: most,
-    }))
+    Ok(Some(most))
 }
 
 /// Adds the starts, and answers whether all are on passable ground.

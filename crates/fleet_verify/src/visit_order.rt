@@ -12,7 +12,7 @@ use indexmap::IndexMap;
 use std::alloc::Global;
 
 /// An agent after so many of its actions, and the cell that it is on then.
-#[derive(Clone, Copy, Debug)]
+#[derive(Clone, Copy)]
 pub struct PlacedVisit {
     pub visit: Visit,
     pub cell: Cell,
@@ -20,7 +20,7 @@ pub struct PlacedVisit {
 
 /// Visits of a cell, one right after the other, of which the second is not by the same agent and does not await that
 /// the first is left. A chain of needs may still order them.
-#[derive(Clone, Copy, Debug, Drop)]
+#[derive(Clone, Copy, Drop)]
 pub struct OpenPair {
     pub cell: Cell,
     pub first: Visit,

@@ -6,26 +6,26 @@ use Rattle.fleet_chains.proofs.breaking.holds_by.Goals as goal
 pub loop-t-init : goal.loop-t-init
 loop-t-init g c =
     let e : map (λ row. row.items) c.new-holds.result.items ≡ [] = ap (map (λ row. row.items)) c.new-holds.ensures.items in
-    let s = start_counts (g.P.ProgramView.program c.args.program.now) c.args.v c.args.w (map (λ row. row.items) c.new-holds.result.items) e c.loop.counts.items c.loop.invariant.none in
-    record { begun = s.0; counts = s.1; long = omega arith; ticks = s.2 }
+    let s = start_counts (g.P.ProgramView.program c.args.program.now) c.args.v c.args.w (map (λ row. row.items) c.new-holds.result.items) e c.in_ok-counts.counts.items c.in_ok-counts.ensures.zero in
+    record { begun = s.0; counts = s.1; long = omega (arith, c.in_ok-counts.ensures.all, c.agents.ensures.count); ticks = s.2 }
 
 pub loop-t-preserved : goal.loop-t-preserved
 loop-t-preserved g c =
     let p = g.P.ProgramView.program c.args.program.now in
-    let e : map (λ row. row.items) c.push-in-loop-t.new.self.items ≡ map (λ row. row.items) c.loop-t.holds.items ++ c.in_ok-row.row.items ∷ [] =
-    ap (map (λ row. row.items)) {y = c.loop-t.holds.items ++ c.in_ok-row.row ∷ []} c.in_ok-push-2.ensures.items ∙ map_push (λ row. row.items) c.loop-t.holds.items c.in_ok-row.row in
+    let e : map (λ row. row.items) c.push.new.self.items ≡ map (λ row. row.items) c.loop-t.holds.items ++ c.in_ok-row.row.items ∷ [] =
+    ap (map (λ row. row.items)) {y = c.loop-t.holds.items ++ c.in_ok-row.row ∷ []} c.in_ok-push.ensures.items ∙ map_push (λ row. row.items) c.loop-t.holds.items c.in_ok-row.row in
     let s = meeting_step p c.args.v c.args.w c.args.needed.now c.requires.v c.requires.w c.requires.needed
     (map (λ row. row.items) c.loop-t.holds.items) c.loop-t.invariant.begun c.loop-t.counts.items c.loop-t.invariant.counts c.loop-t.t c.loop-t.invariant.ticks
-    c.deref.result.now c.deref-in-loop-t.result.now c.deref-in-loop-t-2.result.now c.deref.ensures.value c.deref-in-loop-t.ensures.value c.deref-in-loop-t-2.ensures.value
+    c.deref-done.result.now c.deref-done.result.now c.deref-done.result.now c.deref-done.ensures.value c.deref-done.ensures.value c.deref-done.ensures.value
     (λ h. let t = c.have_arrived.ensures.1 h in let f = c.if-have_arrived.false in (let x : ⊥ = cc in x))
     c.in_ok-row.row.items c.in_ok-row.ensures.rising c.in_ok-row.ensures.who c.in_ok-next.next.items c.in_ok-next.ensures
-    (map (λ row. row.items) c.push-in-loop-t.new.self.items) e in
+    (map (λ row. row.items) c.push.new.self.items) e in
     record { begun = s.0; counts = s.1; long = s.2; ticks = s.3 }
 
 pub returns-then-have_arrived : goal.returns-then-have_arrived
 returns-then-have_arrived g c =
     let h = c.have_arrived.ensures.0 c.if-have_arrived.true in
-    let k = subst (λ l. (c.args.v.position ≤ slice_index l c.args.v.agent) × (c.args.w.position ≤ slice_index l c.args.w.agent)) c.deref.ensures.value h in
+    let k = subst (λ l. (c.args.v.position ≤ slice_index l c.args.v.agent) × (c.args.w.position ≤ slice_index l c.args.w.agent)) c.deref-done.ensures.value h in
     meeting_arrived (g.P.ProgramView.program c.args.program.now) c.args.v c.args.w c.requires.v c.requires.w (map (λ row. row.items) c.loop-t.holds.items) c.loop-t.invariant.begun c.loop-t.counts.items c.loop-t.invariant.counts k.0 k.1
 
 pub returns : goal.returns

@@ -1,14 +1,8 @@
-use Rattle.std.proofs.Common.{◌≡◌, ℕ, length, slice_index, map}
+use Rattle.std.proofs.Common.{◌≡◌, length, map}
 use Rattle.fleet_model.specs.Machine.{run}
 use Rattle.fleet_verify.specs.Walk.{AreCounts}
 use Rattle.fleet_verify.proofs.BreakingExists.{IsBegun}
 use Rattle.fleet_chains.proofs.breaking.holds_by.Given as goal
-
-abbrev pub invariant-loop : goal.invariant-loop
-invariant-loop g l = record {
-  long : length l.counts.items ≡ l.counter;
-  none : (j : ℕ) → slice_index l.counts.items j ≡ 0;
-}
 
 abbrev pub invariant-loop-t : goal.invariant-loop-t
 invariant-loop-t g l = record {

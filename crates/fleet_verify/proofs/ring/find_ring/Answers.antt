@@ -4,16 +4,16 @@ use Rattle.fleet_verify.specs.Blocked.{IsBlocked}
 use Rattle.fleet_verify.proofs.Blocked.{none_ready, some_blocked}
 use Rattle.fleet_verify.proofs.ring.find_ring.Goals as goal
 
-pub all_wants-requires-clause-stuck : goal.all_wants-requires-clause-stuck
-all_wants-requires-clause-stuck g c =
+pub ring_by_counts-requires-clause-stuck : goal.ring_by_counts-requires-clause-stuck
+ring_by_counts-requires-clause-stuck g c =
     let p = g.P.ProgramView.program c.args.program.now in
     let here = c.args.machine.now.configuration in
     let seen : c.deref.result.now ≡ counts_of here = c.deref.ensures.value ∙ (c.in_ok-counts.ensures ∙ ap counts_of c.agents.ensures) in
     subst (λ (xs : List ℕ). (i : ℕ) → i < length p → IsReadyBy p xs i → ⊥) (sym seen) (none_ready p here c.requires.stuck)
 
-pub least_on_ring-first-requires-clause-left : goal.least_on_ring-first-requires-clause-left
-least_on_ring-first-requires-clause-left g c =
+pub ring_by_counts-requires-clause-left : goal.ring_by_counts-requires-clause-left
+ring_by_counts-requires-clause-left g c =
     let p = g.P.ProgramView.program c.args.program.now in
     let here = c.args.machine.now.configuration in
-    let seen : c.deref-2.result.now ≡ counts_of here = c.deref-2.ensures.value ∙ (c.in_ok-counts.ensures ∙ ap counts_of c.agents.ensures) in
+    let seen : c.deref.result.now ≡ counts_of here = c.deref.ensures.value ∙ (c.in_ok-counts.ensures ∙ ap counts_of c.agents.ensures) in
     subst (λ (xs : List ℕ). (i : ℕ) × IsBlocked p xs i) (sym seen) (some_blocked p here c.requires.stuck)

@@ -1,9 +1,5 @@
-use Rattle.std.proofs.Common.{Option, subst}
-use Rattle.std.specs.Prelude.{MatchOption}
 use Rattle.std.proofs.lemmas.Result.{err_from_is_err_and}
 use Rattle.fleet_grid.specs.Ground.{is_passable}
-use Rattle.fleet_verify.specs.declared.unheld_run.UnheldRun.{UnheldRun}
-use Rattle.fleet_verify.specs.Walk.{LeavesGround, IsRunOnGround}
 use Rattle.fleet_verify.proofs.verifier.judge.Goals as goal
 
 pub returns-in_err-check_fleet-clause-err : goal.returns-in_err-check_fleet-clause-err

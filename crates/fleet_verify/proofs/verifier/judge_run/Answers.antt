@@ -1,4 +1,3 @@
-use Rattle.std.proofs.Common.{Option}
 use Rattle.std.proofs.lemmas.Result.{err_from_is_err_and}
 use Rattle.fleet_grid.specs.Ground.{is_passable}
 use Rattle.fleet_verify.proofs.Stays.{ranges_all, accepted, whole_run}

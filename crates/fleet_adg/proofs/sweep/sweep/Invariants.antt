@@ -1,13 +1,13 @@
 use Rattle.std.proofs.Common.{◌≡◌, ◌<◌, All, length, filter}
-use Rattle.fleet_adg.specs.Leavings.{AreLeavingsAt}
+use Rattle.fleet_adg.specs.Leavings.{kind_of, AreLeavingsAt}
 use Rattle.fleet_adg.specs.Sweep.{under_way, all_actions_by}
 use Rattle.fleet_plan.specs.UnderWay.{is_under_way}
-use Rattle.fleet_adg.proofs.sweep.actions_of.Given as goal
+use Rattle.fleet_adg.proofs.sweep.sweep.Given as goal
 
 abbrev pub invariant-loop-time : goal.invariant-loop-time
 invariant-loop-time l = record {
   agents : filter (is_under_way l.plan l.time) l.agents.items ≡ under_way l.plan l.time;
   below : All (λ i. i < length l.plan) l.agents.items;
-  leavings : AreLeavingsAt l.grid l.plan l.fn.deps l.time l.leavings;
-  actions : l.actions.items ≡ all_actions_by l.plan l.fn.deps l.time;
+  leavings : AreLeavingsAt l.grid l.plan (kind_of l.fn.leavings) l.time l.leavings;
+  actions : l.actions ≡ all_actions_by l.plan (kind_of l.fn.leavings) l.time;
 }

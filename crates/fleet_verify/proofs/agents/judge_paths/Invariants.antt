@@ -2,7 +2,7 @@ use Rattle.std.proofs.Common.{ℕ, ◌<◌}
 use Rattle.fleet_grid.specs.Ground.{is_passable}
 use Rattle.fleet_verify.specs.Faults.{EndsRight, StandsRight, AwaitsRight}
 use Rattle.fleet_verify.specs.Path.{TellsFirstAction}
-use Rattle.fleet_verify.proofs.agents.check_paths.Given as goal
+use Rattle.fleet_verify.proofs.agents.judge_paths.Given as goal
 
 abbrev pub invariant-loop-agent : goal.invariant-loop-agent
 invariant-loop-agent g l = record {

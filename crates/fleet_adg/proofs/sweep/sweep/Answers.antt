@@ -1,0 +1,45 @@
+use Rattle.std.proofs.Common.{◌+◌, ◌<◌, All, length, filter, sym, ap, subst, ◌∙◌, arith}
+use Rattle.fleet_model.specs.Machine.{indices}
+use Rattle.fleet_adg.specs.Leavings.{AreLeavingsAt}
+use Rattle.fleet_adg.specs.Sweep.{all_actions_by}
+use Rattle.fleet_plan.specs.UnderWay.{is_under_way}
+use Rattle.fleet_adg.proofs.Limits.{steps_few}
+use Rattle.fleet_adg.proofs.SweepSteps.{agents_below, under_way_below, under_way-next}
+use Rattle.fleet_adg.proofs.sweep.sweep.Goals as goal
+
+pub loop-time-init : goal.loop-time-init
+loop-time-init c =
+    let plan = c.args.plan.now in
+    let all = c.in_ok-agents.ensures ∙ ap indices c.agents.ensures.count in
+    record {
+      agents = ap (filter (is_under_way plan 0)) all;
+      below = subst (All (λ i. i < length plan)) (sym all) (agents_below plan);
+      leavings = c.requires.leavings;
+      actions = c.requires.actions;
+    }
+
+pub list_moves-requires-clause-time : goal.list_moves-requires-clause-time
+list_moves-requires-clause-time c =
+    omega (arith, c.loop-time-test.true, c.steps-time-end.ensures.time, steps_few c.args.plan.now c.steps-time-end.ensures.limits)
+
+pub note_leavings-requires-clause-time : goal.note_leavings-requires-clause-time
+note_leavings-requires-clause-time c =
+    omega (arith, c.loop-time-test.true, c.steps-time-end.ensures.time, steps_few c.args.plan.now c.steps-time-end.ensures.limits)
+
+pub add_actions-requires-clause-time : goal.add_actions-requires-clause-time
+add_actions-requires-clause-time c =
+    omega (arith, c.loop-time-test.true, c.steps-time-end.ensures.time, steps_few c.args.plan.now c.steps-time-end.ensures.limits)
+
+pub loop-time-preserved : goal.loop-time-preserved
+loop-time-preserved c =
+    let plan = c.args.plan.now in
+    let t = c.loop-time.time in
+    let agents = c.keep_under_way.ensures ∙ c.loop-time.invariant.agents in
+    let kind = c.loop-time.invariant.leavings.kind in
+    let noted = c.in_ok-note_leavings.ensures in
+    record {
+      agents = ap (filter (is_under_way plan (t + 1))) agents ∙ under_way-next plan t;
+      below = subst (All (λ i. i < length plan)) (sym agents) (under_way_below plan t);
+      leavings = subst (λ d. AreLeavingsAt c.args.grid.now plan d (t + 1) c.note_leavings.new.leavings) kind noted;
+      actions = c.in_ok-add_actions.ensures ∙ ap (λ d. all_actions_by plan d (t + 1)) (noted.kind ∙ kind);
+    }

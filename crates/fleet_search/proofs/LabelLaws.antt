@@ -1,9 +1,8 @@
 -- Labels of safe intervals.
-use Rattle.std.proofs.Common.{◌≡◌, ◌≢◌, ℕ, zero, suc, ◌+◌, ◌≤◌, ◌==◌, ◌⊎◌, cond, inl, inr, refl, sym, ap, ◌∙◌, arith, Some, None, Option, add-one}
-use Rattle.std.specs.Prelude.{Vec, set, map, get_or, length, List, [], ◌∷◌, ◌++◌, ◌-◌}
+use Rattle.std.proofs.Common.{◌≡◌, ◌≢◌, ℕ, zero, suc, ◌+◌, ◌≤◌, ◌==◌, ◌⊎◌, cond, inl, inr, refl, sym, ap, ◌∙◌, arith, Some, None, Option}
+use Rattle.std.specs.Prelude.{Vec, set, map, get_or, length, [], ◌∷◌, ◌++◌, ◌-◌}
 use Rattle.std.specs.declared.alloc.Global.{Global}
 use Rattle.std.proofs.lemmas.Bool.{cases_eq, eq-eqb, eqb-true, false_from_ne_true}
-use Rattle.std.proofs.lemmas.List.{get_or_push, get_or_append_left, length-map, map-append}
 use Rattle.fleet_table.specs.Table.{value_in, IsSet}
 use Rattle.fleet_search.proofs.OccupancyRows.{list_at-read, list_at-set, list_at-other, list_at-before, list_at-last}
 use Rattle.fleet_search.specs.declared.labels.Label.{Label}

@@ -26,7 +26,7 @@ use Rattle.fleet_search.specs.Labels.{earliest_in, AreLabels, IsLabelSet, IsSeen
 use Rattle.fleet_search.specs.Search.{heuristic_of, occupancies_on, IsMeasured, AreBeside, IsStep, least_arrival, IsBucket, IsGoalState, no_node, state_in, IsKnown, IsMove, IsReachedFrom, IsSoundNode, IsCovered, IsExpanded, IsSuperseded, IsStateSettled, earliest_of, IsFrontier, IsPosed, IsFrontierOf, IsLeft, IsExpansion, Grows, ExpandsOn, IsFreeUntil, IsFoundAt, IsFoundIn, IsFoundFrom}
 use Rattle.fleet_search.proofs.Spread.{back, one_place}
 use Rattle.fleet_search.proofs.Chase.{step_ok-alone}
-use Rattle.fleet_search.proofs.IntervalLaws.{stays-apart, one_gap, interval-free_on}
+use Rattle.fleet_search.proofs.IntervalLaws.{stays-apart, one_gap, interval-free_on, interval-since}
 
 abbrev state : ℕ → Cell → State
 state t c = record { time = t; cell = c }
@@ -134,6 +134,15 @@ superseded-seen q f left nodes labels open_list fr m interval ground s late g =
       known = before.1;
       free = interval-free_on q.reserved.now m.cell (occupancies_on q m.cell) (fr.measured.occupancies m.cell) interval s.time m.time before.0 g;
     }
+
+-- what was reached sooner is labelled so
+pub seen-superseded : (q : Query) (f : ℕ) (left : Option ℕ) (nodes : List Node) (labels : Labels) (open_list : List (Vec ℕ Global)) → IsFrontier q f left nodes labels open_list → (m : State) (interval : ℕ) → IsInInterval (occupancies_on q m.cell) interval m.time → IsSuperseded q nodes m → IsSeen (earliest_of q labels m.cell interval) (m.time - 1)
+seen-superseded q f left nodes labels open_list fr m interval g s =
+    let known = s.known in
+    let sooner = s.sooner in
+    let since = interval-since q.reserved.now m.cell (occupancies_on q m.cell) (fr.measured.occupancies m.cell) interval s.since m.time (omega arith) s.free g in
+    let seen : IsSeen (earliest_of q labels m.cell interval) s.since = subst (λ (z : State). IsInInterval (occupancies_on q z.cell) interval z.time → IsSeen (earliest_of q labels z.cell interval) z.time) known.2 (fr.labelled known.0 known.1 interval) since in
+    record { time = seen.time; is = seen.is; early = (let early = seen.early in omega arith) }
 
 pub covered-on : (q : Query) (nodes : List Node) (c : Cell) (v t : ℕ) → v ≤ t → IsFreeOn q.reserved.now c v t → IsCovered q nodes c v → IsCovered q nodes c t
 covered-on q nodes c v t h free cv = record {

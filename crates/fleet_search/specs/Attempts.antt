@@ -37,11 +37,12 @@ IsOldPath problem agent path =
     (task : Task) → slice_get problem.instance.now agent ≡ Some task
     → (others : Plan) × IsEarliest (is_passable problem.grid.now) others task.start task.goal problem.horizon path
 
--- so many of the paths came after the old ones, each of which fits those before it
+-- so many of the paths came after the old ones, each of which fits those before it; the next one does not
 pub record ArePathsKept (old new paths : Plan) (kept : ℕ) : Type 0 where
   pub bound : kept ≤ length paths
   pub added : new ≡ old ++ take kept paths
   pub fit : (i : ℕ) → i < kept → Fits (old ++ take i paths) (get_or paths i [])
+  pub misfit : kept < length paths → Fits (old ++ take kept paths) (get_or paths kept []) → ⊥
 
 -- paths of the agents after the first one of the order, each the earliest against those before it
 abbrev pub IsMadeAfterFirst : Problem → List ℕ → Plan → Type 0

@@ -99,14 +99,14 @@ impl Query<'_> {
 }
 
 /// A state that was reached, and the place in the list of the node from which it was reached (0 for the start).
-#[derive(Clone, Copy, Debug)]
+#[derive(Clone, Copy)]
 pub struct Node {
     pub state: State,
     pub parent: u32,
 }
 
 /// A node that is being expanded: its place in the list, and until when the agent may wait there.
-#[derive(Clone, Copy, Debug)]
+#[derive(Clone, Copy)]
 pub struct Expansion {
     pub place: u32,
     pub state: State,
@@ -121,7 +121,7 @@ pub struct Neighbour<'a> {
 }
 
 /// How the expansion of a bucket has ended.
-#[derive(Clone, Copy, Debug, PartialEq, Eq)]
+#[derive(Clone, Copy)]
 pub enum BucketEnd {
     /// The node at this place is at the goal, and may stay there.
     Goal(u32),
@@ -302,7 +302,7 @@ impl Frontier {
         requires frontier { IsFrontierOf query.now (bucket - 1) (Some place) self.now }
         requires left { IsLeft query.now bucket self.now place state }
         requires inside { IsInInterval (occupancies_on query.now state.cell) interval state.time }
-        ensures { IsTrue result → IsSuperseded query.now self.now.nodes.items state }
+        ensures { IsTrue result ↔ IsSuperseded query.now self.now.nodes.items state }
     {
         if state.time == 0 {
             return false;

@@ -9,7 +9,7 @@ use fleet_table::Table;
 use std::alloc::Global;
 
 /// The earliest time at which the search of this number comes to a safe interval.
-#[derive(Clone, Copy, Debug)]
+#[derive(Clone, Copy)]
 pub struct Label {
     pub search: u16,
     pub time: u16,

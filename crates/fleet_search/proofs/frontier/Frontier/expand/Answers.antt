@@ -8,7 +8,7 @@ returns-then-is_superseded-clause-frontier c =
     let q = c.args.query.now in
     let s = c.args.self.now in
     left_done q (c.args.bucket - 1) c.args.place s.nodes.items s.labels s.open_list.items c.requires.frontier
-    (inr (subst (IsSuperseded q s.nodes.items) (sym c.requires.left.here) (c.is_superseded.ensures c.if-is_superseded.true)))
+    (inr (subst (IsSuperseded q s.nodes.items) (sym c.requires.left.here) (c.is_superseded.ensures.0 c.if-is_superseded.true)))
 
 pub returns-then-is_superseded-clause-grows : goal.returns-then-is_superseded-clause-grows
 returns-then-is_superseded-clause-grows c = record { more = omega arith; kept = λ i h. refl; same = λ e k. refl }

@@ -14,7 +14,7 @@ abbrev said : ℕ → Label → Option ℕ
 said search l = cond (l.search == search) (Some l.time) None
 
 -- a label of this search is put
-pub label_is_set : (old new : Labels) (cell interval : ℕ) (label : Label) → label.search ≡ old.search → IsLabelPut old new cell interval label → IsLabelSet old new cell interval label.time
+pub label_is_set : (old new : Labels) (cell interval : ℕ) (label : Label) → label.search ≡ old.search → IsLabelPut old new cell interval label → IsLabelSet (earliest_in old) (earliest_in new) cell interval label.time
 label_is_set old new cell interval label mine put = record {
   set = ap (said new.search) put.set ∙ ap (λ b. cond b (Some label.time) None) (eq-eqb label.search new.search (mine ∙ sym put.search));
   others = λ c n w. ap (said new.search) (put.others c n w) ∙ ap (λ z. said z (label_in old c n)) put.search;

@@ -6,7 +6,6 @@ use Rattle.fleet_plan.specs.Plan.{Plan}
 use Rattle.fleet_search.specs.Way.{Fits, IsEarliest, IsInfeasible}
 use Rattle.fleet_grid.specs.Ground.{is_passable}
 use Rattle.fleet_search.specs.Distance.{IsReady}
-use Rattle.fleet_search.specs.Labels.{AreLabels}
 use Rattle.fleet_search.specs.InTurn.{IsPrioritisedPlan}
 use Rattle.fleet_search.specs.Orders.{rising, tasks_by, IsStuckInOrder}
 use Rattle.fleet_search.specs.declared.orders.Problem.{Problem}
@@ -14,10 +13,9 @@ use Rattle.fleet_search.specs.declared.orders.Tables.{Tables}
 use Rattle.fleet_search.specs.declared.orders.Attempt.{Attempt}
 use Rattle.fleet_search.specs.declared.orders.Attempt.TheVariants.{Made, Stuck}
 
--- the tables are in order for the map of the problem
-pub record AreTables (problem : Problem) (tables : Tables) : Type 0 where
-  pub distances : IsReady problem.grid.now tables.distances.labels.items tables.distances.search
-  pub labels : AreLabels tables.frontier.labels
+-- the tables are for the map of the problem
+abbrev pub AreTables : Problem → Tables → Type 0
+AreTables problem tables = IsReady problem.grid.now tables.distances.labels.items tables.distances.search
 
 -- the agents of the instance, each once
 abbrev pub IsOrderOf : Problem → List ℕ → Type 0

@@ -3,7 +3,7 @@
 //! An agent that comes to a cell may wait there for as long as nobody else comes. So of the times in a safe interval,
 //! between the occupancies of a cell by others, only the earliest counts (safe intervals: Phillips and Likhachev 2011).
 
-ghost use Rattle.std.specs.Prelude.{◌≡◌, ◌+◌, ◌-◌, ◌<◌, ◌≤◌, ◌↔◌, IsTrue, IfOk, OnOk, Some, None, length};
+ghost use Rattle.std.specs.Prelude.{◌≡◌, ◌+◌, ◌-◌, ◌<◌, ◌≤◌, ◌↔◌, IsTrue, IfOk, OnOk, Some, None, [], length};
 ghost use Rattle.fleet_model.specs.Geometry.{place_of, moved};
 ghost use Rattle.fleet_grid.specs.Ground.{is_passable};
 ghost use Rattle.fleet_model.specs.declared.geometry.Cell.{Cell};
@@ -12,11 +12,10 @@ ghost use Rattle.fleet_search.specs.Reserved.{IsUnoccupied};
 ghost use Rattle.fleet_search.specs.Way.{StepFits};
 ghost use Rattle.fleet_search.specs.Intervals.{IsInInterval};
 ghost use Rattle.fleet_search.specs.Search.{heuristic_of, occupancies_on, IsMeasured, IsGoalState, IsBucket, IsLeft, IsExpansion, ExpandsOn, IsFrontierOf, Grows, IsPosed, IsSearched, IsTrailOf, IsFreeUntil, IsFoundAt, IsFoundIn, IsFoundFrom, IsNeighbour, HasEnded, IsSuperseded};
-ghost use Rattle.fleet_search.specs.Labels.{AreLabels};
 
+use crate::arrivals::Arrivals;
 use crate::distances::Distances;
 use crate::intervals::{SafeInterval, begins_after, earliest_within, interval_after};
-use crate::labels::Labels;
 use crate::occupancy::{Occupancy, started_by};
 use crate::reservation_table::ReservationTable;
 use crate::reservations::Reservations;
@@ -137,7 +136,7 @@ pub struct Frontier {
     pub alloc: Global,
     pub nodes: Vec<Node>,
     /// For each safe interval of a cell the earliest time at which a node was made in it.
-    pub labels: Labels,
+    pub labels: Arrivals,
     /// The places of the nodes that are still to be expanded, bucket by bucket.
     pub open_list: Vec<Vec<u32>>,
 }
@@ -145,12 +144,12 @@ pub struct Frontier {
 impl Frontier {
     /// No nodes. Takes no memory.
     pub fn new(alloc: Global) -> Frontier
-        ensures { AreLabels result.labels }
+        ensures { result.nodes.items ≡ [] }
     {
         Frontier {
             alloc,
             nodes: Vec::new(alloc),
-            labels: Labels::new(alloc),
+            labels: Arrivals::new(alloc),
             open_list: Vec::new(alloc),
         }
     }
@@ -367,7 +366,6 @@ impl Frontier {
     pub fn begin(&mut self, query: &Query) -> Result<(), OutOfMemory>
         requires asked { IsPosed query.now }
         requires in_time { heuristic_of query.now query.now.start ≤ query.now.horizon }
-        requires labels { AreLabels self.old.labels }
         ensures { OnOk result (IsFrontierOf query.now 0 None self.new) }
     {
         self.nodes.clear();

@@ -52,6 +52,24 @@ interval-between occupancies k s t u g h a b = record {
   to_come = λ i l m. let o = h.to_come i l m in omega arith;
 }
 
+-- a cell that stays free stays in the safe interval
+pub interval-since : (plan : Plan) (c : Cell) (occupancies : List Occupancy) → AreStays plan c occupancies → (k s t : ℕ) → s ≤ t → IsFreeOn plan c s t → IsInInterval occupancies k t → IsInInterval occupancies k s
+interval-since plan c occupancies stays k s t h free g = record {
+  bound = g.bound;
+  over = λ i l. elim (cases_lt (occupancy_at occupancies i).until s) [
+    | inl past ↦ (past, (g.over i l).1)
+    | inr on ↦
+        let stay = stays.each i (let b = g.bound in omega arith) in
+        let some = stay.some_time in
+        let over = (g.over i l).0 in
+        elim (cases_lt s (occupancy_at occupancies i).from) [
+          | inl before ↦ absurd (free (occupancy_at occupancies i).from (omega arith) (omega arith) (occupancy_at occupancies i).agent stay.agent (stay.on (occupancy_at occupancies i).from (omega arith, inl some)))
+          | inr begun ↦ absurd (free s (omega arith) (omega arith) (occupancy_at occupancies i).agent stay.agent (stay.on s (begun, inl on)))
+        ]
+  ];
+  to_come = λ i l m. let next = g.to_come i l m in omega arith;
+}
+
 -- what has to be looked at: the stays at both ends of the safe interval
 pub interval-from_ends : (occupancies : List Occupancy) → AreSuccessive occupancies → (k t : ℕ) → k ≤ length occupancies → t ≤ 4294967295 → (1 ≤ k → (occupancy_at occupancies (k - 1)).until < t) → (k < length occupancies → t < (occupancy_at occupancies k).from) → IsInInterval occupancies k t
 interval-from_ends occupancies a k t b few past next = record {

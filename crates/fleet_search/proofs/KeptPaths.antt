@@ -75,6 +75,10 @@ earliest-again passable others reserved start goal horizon sooner path e fits la
   ];
 }
 
+-- what is the earliest by a horizon is so by a later one
+pub earliest-later : (passable : Place → Bool) (reserved : Plan) (start goal : Cell) (sooner horizon : ℕ) (path : List Cell) → sooner ≤ horizon → IsEarliest passable reserved start goal sooner path → IsEarliest passable reserved start goal horizon path
+earliest-later passable reserved start goal sooner horizon path h e = record { way = e.way; in_time = (let t = e.in_time in omega arith); none_sooner = e.none_sooner }
+
 -- ---- paths that are kept
 
 take-in-take : {X : Type 0} (xs : List X) (i n : ℕ) → i ≤ n → take i (take n xs) ≡ take i xs

@@ -1,9 +1,8 @@
 -- Labels of safe intervals.
-use Rattle.std.proofs.Common.{◌≡◌, ◌≢◌, ℕ, zero, suc, ◌+◌, ◌≤◌, ◌==◌, ◌⊎◌, cond, inl, inr, refl, sym, ap, ◌∙◌, arith, Some, None, Option, add-one}
-use Rattle.std.specs.Prelude.{Vec, set, map, get_or, length, List, [], ◌∷◌, ◌++◌, ◌-◌}
+use Rattle.std.proofs.Common.{◌≡◌, ◌≢◌, ℕ, zero, suc, ◌+◌, ◌≤◌, ◌==◌, ◌⊎◌, cond, inl, inr, refl, sym, ap, ◌∙◌, arith, Some, None, Option}
+use Rattle.std.specs.Prelude.{Vec, set, map, get_or, length, [], ◌∷◌, ◌++◌, ◌-◌}
 use Rattle.std.specs.declared.alloc.Global.{Global}
 use Rattle.std.proofs.lemmas.Bool.{cases_eq, eq-eqb, eqb-true, false_from_ne_true}
-use Rattle.std.proofs.lemmas.List.{get_or_push, get_or_append_left, length-map, map-append}
 use Rattle.fleet_table.specs.Table.{value_in, IsSet}
 use Rattle.fleet_search.proofs.OccupancyRows.{list_at-read, list_at-set, list_at-other, list_at-before, list_at-last}
 use Rattle.fleet_search.specs.declared.labels.Label.{Label}
@@ -15,7 +14,7 @@ abbrev said : ℕ → Label → Option ℕ
 said search l = cond (l.search == search) (Some l.time) None
 
 -- a label of this search is put
-pub label_is_set : (old new : Labels) (cell interval : ℕ) (label : Label) → label.search ≡ old.search → IsLabelPut old new cell interval label → IsLabelSet old new cell interval label.time
+pub label_is_set : (old new : Labels) (cell interval : ℕ) (label : Label) → label.search ≡ old.search → IsLabelPut old new cell interval label → IsLabelSet (earliest_in old) (earliest_in new) cell interval label.time
 label_is_set old new cell interval label mine put = record {
   set = ap (said new.search) put.set ∙ ap (λ b. cond b (Some label.time) None) (eq-eqb label.search new.search (mine ∙ sym put.search));
   others = λ c n w. ap (said new.search) (put.others c n w) ∙ ap (λ z. said z (label_in old c n)) put.search;

@@ -15,18 +15,17 @@ use Rattle.fleet_model.specs.declared.limits.TheConstants.{MAX_HORIZON}
 use Rattle.fleet_grid.specs.Ground.{is_passable, cell_index}
 use Rattle.fleet_search.specs.declared.state.State.{State}
 use Rattle.fleet_search.specs.declared.frontier.Query.{Query}
-use Rattle.fleet_search.specs.declared.labels.Labels.{Labels}
 use Rattle.fleet_search.specs.declared.frontier.Node.{Node}
 use Rattle.fleet_search.specs.declared.frontier.Expansion.{Expansion}
 use Rattle.fleet_search.specs.declared.frontier.Frontier.{Frontier}
 use Rattle.fleet_search.specs.Reserved.{IsUnoccupied, IsFreeOn}
 use Rattle.fleet_search.specs.Intervals.{IsInInterval, IsEarliestWithin}
 use Rattle.fleet_search.specs.Rows.{bucket_in, IsPut}
-use Rattle.fleet_search.specs.Labels.{earliest_in, AreLabels, IsLabelSet, IsSeen}
+use Rattle.fleet_search.specs.Labels.{Times, IsLabelSet, IsSeen}
 use Rattle.fleet_search.specs.Search.{heuristic_of, occupancies_on, IsMeasured, AreBeside, IsStep, least_arrival, IsBucket, IsGoalState, no_node, state_in, IsKnown, IsMove, IsReachedFrom, IsSoundNode, IsCovered, IsExpanded, IsSuperseded, IsStateSettled, earliest_of, IsFrontier, IsPosed, IsFrontierOf, IsLeft, IsExpansion, Grows, ExpandsOn, IsFreeUntil, IsFoundAt, IsFoundIn, IsFoundFrom}
 use Rattle.fleet_search.proofs.Spread.{back, one_place}
 use Rattle.fleet_search.proofs.Chase.{step_ok-alone}
-use Rattle.fleet_search.proofs.IntervalLaws.{stays-apart, one_gap, interval-free_on}
+use Rattle.fleet_search.proofs.IntervalLaws.{stays-apart, one_gap, interval-free_on, interval-since}
 
 abbrev state : ℕ → Cell → State
 state t c = record { time = t; cell = c }
@@ -114,7 +113,7 @@ ExpandsOn-then q f l a b c g h = record { leaving = h.leaving; grows = Grows-the
 -- ---- what was seen before
 
 -- the cell was reached before, and is free since
-pub covered-seen : (q : Query) (f : ℕ) (left : Option ℕ) (nodes : List Node) (labels : Labels) (open_list : List (Vec ℕ Global)) → IsFrontier q f left nodes labels open_list → (c : Cell) (interval t : ℕ) → IsTrue (is_passable q.grid.now (place_of c)) → IsSeen (earliest_of q labels c interval) t → IsInInterval (occupancies_on q c) interval t → IsCovered q nodes c t
+pub covered-seen : (q : Query) (f : ℕ) (left : Option ℕ) (nodes : List Node) (labels : Times) (open_list : List (Vec ℕ Global)) → IsFrontier q f left nodes labels open_list → (c : Cell) (interval t : ℕ) → IsTrue (is_passable q.grid.now (place_of c)) → IsSeen (earliest_of q labels c interval) t → IsInInterval (occupancies_on q c) interval t → IsCovered q nodes c t
 covered-seen q f left nodes labels open_list fr c interval t ground s g =
     let before = fr.met c interval s.time ground g.bound s.is in
     record {
@@ -125,7 +124,7 @@ covered-seen q f left nodes labels open_list fr c interval t ground s g =
     }
 
 -- the cell was reached sooner in the safe interval of the state
-pub superseded-seen : (q : Query) (f : ℕ) (left : Option ℕ) (nodes : List Node) (labels : Labels) (open_list : List (Vec ℕ Global)) → IsFrontier q f left nodes labels open_list → (m : State) (interval : ℕ) → IsTrue (is_passable q.grid.now (place_of m.cell)) → IsSeen (earliest_of q labels m.cell interval) (m.time - 1) → 1 ≤ m.time → IsInInterval (occupancies_on q m.cell) interval m.time → IsSuperseded q nodes m
+pub superseded-seen : (q : Query) (f : ℕ) (left : Option ℕ) (nodes : List Node) (labels : Times) (open_list : List (Vec ℕ Global)) → IsFrontier q f left nodes labels open_list → (m : State) (interval : ℕ) → IsTrue (is_passable q.grid.now (place_of m.cell)) → IsSeen (earliest_of q labels m.cell interval) (m.time - 1) → 1 ≤ m.time → IsInInterval (occupancies_on q m.cell) interval m.time → IsSuperseded q nodes m
 superseded-seen q f left nodes labels open_list fr m interval ground s late g =
     let before = fr.met m.cell interval s.time ground g.bound s.is in
     record {
@@ -134,6 +133,15 @@ superseded-seen q f left nodes labels open_list fr m interval ground s late g =
       known = before.1;
       free = interval-free_on q.reserved.now m.cell (occupancies_on q m.cell) (fr.measured.occupancies m.cell) interval s.time m.time before.0 g;
     }
+
+-- what was reached sooner is labelled so
+pub seen-superseded : (q : Query) (f : ℕ) (left : Option ℕ) (nodes : List Node) (labels : Times) (open_list : List (Vec ℕ Global)) → IsFrontier q f left nodes labels open_list → (m : State) (interval : ℕ) → IsInInterval (occupancies_on q m.cell) interval m.time → IsSuperseded q nodes m → IsSeen (earliest_of q labels m.cell interval) (m.time - 1)
+seen-superseded q f left nodes labels open_list fr m interval g s =
+    let known = s.known in
+    let sooner = s.sooner in
+    let since = interval-since q.reserved.now m.cell (occupancies_on q m.cell) (fr.measured.occupancies m.cell) interval s.since m.time (omega arith) s.free g in
+    let seen : IsSeen (earliest_of q labels m.cell interval) s.since = subst (λ (z : State). IsInInterval (occupancies_on q z.cell) interval z.time → IsSeen (earliest_of q labels z.cell interval) z.time) known.2 (fr.labelled known.0 known.1 interval) since in
+    record { time = seen.time; is = seen.is; early = (let early = seen.early in omega arith) }
 
 pub covered-on : (q : Query) (nodes : List Node) (c : Cell) (v t : ℕ) → v ≤ t → IsFreeOn q.reserved.now c v t → IsCovered q nodes c v → IsCovered q nodes c t
 covered-on q nodes c v t h free cv = record {
@@ -146,7 +154,7 @@ covered-on q nodes c v t h free cv = record {
 -- ---- one more state is noted
 
 -- what the label of a safe interval says of the state
-abbrev IsLabelled : Query → Labels → State → Type 0
+abbrev IsLabelled : Query → Times → State → Type 0
 IsLabelled q labels m = (interval : ℕ) → IsInInterval (occupancies_on q m.cell) interval m.time → IsSeen (earliest_of q labels m.cell interval) m.time
 
 module _ (r r' : List Node) (a : Node) (e : r' ≡ r ++ a ∷ []) where
@@ -165,6 +173,13 @@ module _ (r r' : List Node) (a : Node) (e : r' ≡ r ++ a ∷ []) where
   pub push-cases : (i : ℕ) → i < length r' → (i < length r) ⊎ (i ≡ length r)
   push-cases i h = let l = push-long in elim (cases_lt i (length r)) [ inl k ↦ inl k | inr k ↦ inr (omega arith) ]
 
+pub pushed-grows : (old new : Frontier) (a : Node) → new.nodes.items ≡ old.nodes.items ++ a ∷ [] → Grows old new
+pushed-grows old new a e = record {
+  more = push-more old.nodes.items new.nodes.items a e;
+  kept = push-kept old.nodes.items new.nodes.items a e;
+  same = λ s k. absurd (let l = push-long old.nodes.items new.nodes.items a e in omega arith);
+}
+
 pub covered-new : (q : Query) (r r' : List Node) (place u : ℕ) (cell : Cell) → r' ≡ r ++ node_of (state (u + 1) cell) place ∷ [] → IsUnoccupied q.reserved.now (u + 1) cell → IsCovered q r' cell (u + 1)
 covered-new q r r' place u cell e free = record {
   since = u + 1;
@@ -173,7 +188,7 @@ covered-new q r r' place u cell e free = record {
   free = λ x a b. subst (λ z. IsUnoccupied q.reserved.now z cell) (let s : u + 1 ≡ x = omega arith in s) free;
 }
 
-module _ (q : Query) (f place : ℕ) (r : List Node) (labels : Labels) (open_list : List (Vec ℕ Global)) (fr : IsFrontier q f (Some place) r labels open_list) (left : State) (within : place < length r) (here : state_in r place ≡ left) (u : ℕ) (cell : Cell) (interval : ℕ) (inside : IsInInterval (occupancies_on q cell) interval (u + 1)) (unseen : IsSeen (earliest_of q labels cell interval) (u + 1) → ⊥) (move : IsMove q left u cell) (in_time : u + 1 + heuristic_of q cell ≤ q.horizon) (r' : List Node) (labels' : Labels) (open_list' : List (Vec ℕ Global)) (key : ℕ) (e : r' ≡ r ++ node_of (state (u + 1) cell) place ∷ []) (table : AreLabels labels') (set : IsLabelSet labels labels' (cell_index q.grid.now cell) interval (u + 1)) (bucket : IsBucket q (state (u + 1) cell) key) (put : IsPut open_list open_list' key (length r)) (late : f ≤ key) where
+module _ (q : Query) (f place : ℕ) (r : List Node) (labels : Times) (open_list : List (Vec ℕ Global)) (fr : IsFrontier q f (Some place) r labels open_list) (left : State) (within : place < length r) (here : state_in r place ≡ left) (u : ℕ) (cell : Cell) (interval : ℕ) (inside : IsInInterval (occupancies_on q cell) interval (u + 1)) (unseen : IsSeen (earliest_of q labels cell interval) (u + 1) → ⊥) (move : IsMove q left u cell) (in_time : u + 1 + heuristic_of q cell ≤ q.horizon) (r' : List Node) (labels' : Times) (open_list' : List (Vec ℕ Global)) (key : ℕ) (e : r' ≡ r ++ node_of (state (u + 1) cell) place ∷ []) (set : IsLabelSet labels labels' (cell_index q.grid.now cell) interval (u + 1)) (bucket : IsBucket q (state (u + 1) cell) key) (put : IsPut open_list open_list' key (length r)) (late : f ≤ key) where
   long : length r' ≡ length r + 1
   long = push-long r r' (node_of (state (u + 1) cell) place) e
 
@@ -305,7 +320,6 @@ module _ (q : Query) (f place : ℕ) (r : List Node) (labels : Labels) (open_lis
   pub pushed : IsFrontier q f (Some place) r' labels' open_list'
   pushed = record {
     measured = fr.measured;
-    table = table;
     origin = known-stays q r r' more kept (state 0 q.start) fr.origin;
     sound = sound;
     apart = apart;
@@ -365,10 +379,9 @@ pub expanded : (q : Query) (nodes : List Node) (l : State) → ((dir : Dir) → 
 expanded q nodes l there not_end = record { moves = λ u c w m h. there w.0 c w.1 u m h; not_end = not_end }
 
 -- a frontier with other parts
-pub left_done : (q : Query) (f place : ℕ) (r : List Node) (labels : Labels) (open_list : List (Vec ℕ Global)) → IsFrontier q f (Some place) r labels open_list → IsStateSettled q r (state_in r place) → IsFrontier q f None r labels open_list
+pub left_done : (q : Query) (f place : ℕ) (r : List Node) (labels : Times) (open_list : List (Vec ℕ Global)) → IsFrontier q f (Some place) r labels open_list → IsStateSettled q r (state_in r place) → IsFrontier q f None r labels open_list
 left_done q f place r labels open_list fr e = record {
   measured = fr.measured;
-  table = fr.table;
   origin = fr.origin;
   sound = fr.sound;
   apart = fr.apart;
@@ -383,10 +396,9 @@ left_done q f place r labels open_list fr e = record {
 }
 
 -- fewer buckets need be empty
-pub lower : (q : Query) (f g : ℕ) (left : Option ℕ) (r : List Node) (labels : Labels) (open_list : List (Vec ℕ Global)) → g ≤ f → IsFrontier q f left r labels open_list → IsFrontier q g left r labels open_list
+pub lower : (q : Query) (f g : ℕ) (left : Option ℕ) (r : List Node) (labels : Times) (open_list : List (Vec ℕ Global)) → g ≤ f → IsFrontier q f left r labels open_list → IsFrontier q g left r labels open_list
 lower q f g left r labels open_list h fr = record {
   measured = fr.measured;
-  table = fr.table;
   origin = fr.origin;
   sound = fr.sound;
   apart = fr.apart;
@@ -398,10 +410,9 @@ lower q f g left r labels open_list h fr = record {
 }
 
 -- where nothing new was put on the buckets, those that were empty still are
-pub raise : (q : Query) (f g : ℕ) (left : Option ℕ) (r : List Node) (labels : Labels) (open_list before : List (Vec ℕ Global)) → IsFrontier q g left r labels open_list → ((k : ℕ) → bucket_in open_list k ≡ bucket_in before k) → ((k : ℕ) → k < f → bucket_in before k ≡ []) → IsFrontier q f left r labels open_list
+pub raise : (q : Query) (f g : ℕ) (left : Option ℕ) (r : List Node) (labels : Times) (open_list before : List (Vec ℕ Global)) → IsFrontier q g left r labels open_list → ((k : ℕ) → bucket_in open_list k ≡ bucket_in before k) → ((k : ℕ) → k < f → bucket_in before k ≡ []) → IsFrontier q f left r labels open_list
 raise q f g left r labels open_list before fr same past = record {
   measured = fr.measured;
-  table = fr.table;
   origin = fr.origin;
   sound = fr.sound;
   apart = fr.apart;
@@ -414,7 +425,7 @@ raise q f g left r labels open_list before fr same past = record {
 
 -- ---- the last state of a bucket is taken
 
-module _ (q : Query) (f : ℕ) (r : List Node) (labels : Labels) (open_list open_list' : List (Vec ℕ Global)) (place : ℕ) (fr : IsFrontier q f None r labels open_list) (e : bucket_in open_list f ≡ bucket_in open_list' f ++ place ∷ []) (others : (k : ℕ) → k ≢ f → bucket_in open_list' k ≡ bucket_in open_list k) where
+module _ (q : Query) (f : ℕ) (r : List Node) (labels : Times) (open_list open_list' : List (Vec ℕ Global)) (place : ℕ) (fr : IsFrontier q f None r labels open_list) (e : bucket_in open_list f ≡ bucket_in open_list' f ++ place ∷ []) (others : (k : ℕ) → k ≢ f → bucket_in open_list' k ≡ bucket_in open_list k) where
   back-to : (k i : ℕ) → Contains (bucket_in open_list' k) i → Contains (bucket_in open_list k) i
   back-to k i h = elim (cases_eq k f) [
     | inl s ↦ subst (λ z. Contains (bucket_in open_list z) i) (sym s) (subst (λ z. Contains z i) (sym e) (Contains-append_left (bucket_in open_list' f) (place ∷ []) i (subst (λ z. Contains (bucket_in open_list' z) i) s h)))
@@ -436,7 +447,6 @@ module _ (q : Query) (f : ℕ) (r : List Node) (labels : Labels) (open_list open
   pub taken : IsFrontier q f (Some place) r labels open_list'
   taken = record {
     measured = fr.measured;
-    table = fr.table;
     origin = fr.origin;
     sound = fr.sound;
     apart = fr.apart;
@@ -451,10 +461,9 @@ module _ (q : Query) (f : ℕ) (r : List Node) (labels : Labels) (open_list open
   }
 
 -- the bucket is empty
-pub swept : (q : Query) (f : ℕ) (r : List Node) (labels : Labels) (open_list open_list' : List (Vec ℕ Global)) → IsFrontier q f None r labels open_list → bucket_in open_list f ≡ [] → bucket_in open_list' f ≡ [] → ((k : ℕ) → k ≢ f → bucket_in open_list' k ≡ bucket_in open_list k) → IsFrontier q (f + 1) None r labels open_list'
+pub swept : (q : Query) (f : ℕ) (r : List Node) (labels : Times) (open_list open_list' : List (Vec ℕ Global)) → IsFrontier q f None r labels open_list → bucket_in open_list f ≡ [] → bucket_in open_list' f ≡ [] → ((k : ℕ) → k ≢ f → bucket_in open_list' k ≡ bucket_in open_list k) → IsFrontier q (f + 1) None r labels open_list'
 swept q f r labels open_list open_list' fr e e' others = record {
   measured = fr.measured;
-  table = fr.table;
   origin = fr.origin;
   sound = fr.sound;
   apart = fr.apart;
@@ -473,7 +482,7 @@ swept q f r labels open_list open_list' fr e e' others = record {
 
 -- ---- the start is reached, and nothing else
 
-module _ (q : Query) (ask : IsPosed q) (near : heuristic_of q q.start ≤ q.horizon) (labels labels' : Labels) (none open_list : List (Vec ℕ Global)) (blank : (cell interval : ℕ) → earliest_in labels cell interval ≡ None) (table : AreLabels labels') (r : List Node) (e : r ≡ [] ++ node_of (state 0 q.start) 0 ∷ []) (interval : ℕ) (inside : IsInInterval (occupancies_on q q.start) interval 0) (set : IsLabelSet labels labels' (cell_index q.grid.now q.start) interval 0) (bare : (k : ℕ) → bucket_in none k ≡ []) (key : ℕ) (bucket : IsBucket q (state 0 q.start) key) (put : IsPut none open_list key 0) where
+module _ (q : Query) (ask : IsPosed q) (near : heuristic_of q q.start ≤ q.horizon) (labels labels' : Times) (none open_list : List (Vec ℕ Global)) (blank : (cell interval : ℕ) → labels cell interval ≡ None) (r : List Node) (e : r ≡ [] ++ node_of (state 0 q.start) 0 ∷ []) (interval : ℕ) (inside : IsInInterval (occupancies_on q q.start) interval 0) (set : IsLabelSet labels labels' (cell_index q.grid.now q.start) interval 0) (bare : (k : ℕ) → bucket_in none k ≡ []) (key : ℕ) (bucket : IsBucket q (state 0 q.start) key) (put : IsPut none open_list key 0) where
   open-long : length r ≡ 1
   open-long = let l = push-long [] r (node_of (state 0 q.start) 0) e in omega arith
 
@@ -522,7 +531,6 @@ module _ (q : Query) (ask : IsPosed q) (near : heuristic_of q q.start ≤ q.hori
   pub opening : IsFrontier q 0 None r labels' open_list
   opening = record {
     measured = ask.measured;
-    table = table;
     origin = (0, within-first, open-state 0 within-first);
     sound = λ i h. subst (λ (z : Node). IsSoundNode q r z.state z.parent) (sym (open-at i h)) (record { reached_from = inl (refl, refl); in_time = (let b = near in omega arith); on_ground = ask.on_ground; free = ask.free });
     apart = λ i k a b s. first-place i a ∙ sym (first-place k b);

@@ -6,7 +6,6 @@ use Rattle.fleet_plan.specs.Plan.{Plan}
 use Rattle.fleet_search.specs.Way.{Fits, IsEarliest, IsInfeasible}
 use Rattle.fleet_grid.specs.Ground.{is_passable}
 use Rattle.fleet_search.specs.Distance.{IsReady}
-use Rattle.fleet_search.specs.Labels.{AreLabels}
 use Rattle.fleet_search.specs.InTurn.{IsPrioritisedPlan}
 use Rattle.fleet_search.specs.Orders.{rising, tasks_by, IsStuckInOrder}
 use Rattle.fleet_search.specs.declared.orders.Problem.{Problem}
@@ -14,10 +13,9 @@ use Rattle.fleet_search.specs.declared.orders.Tables.{Tables}
 use Rattle.fleet_search.specs.declared.orders.Attempt.{Attempt}
 use Rattle.fleet_search.specs.declared.orders.Attempt.TheVariants.{Made, Stuck}
 
--- the tables are in order for the map of the problem
-pub record AreTables (problem : Problem) (tables : Tables) : Type 0 where
-  pub distances : IsReady problem.grid.now tables.distances.labels.items tables.distances.search
-  pub labels : AreLabels tables.frontier.labels
+-- the tables are for the map of the problem
+abbrev pub AreTables : Problem → Tables → Type 0
+AreTables problem tables = IsReady problem.grid.now tables.distances.labels.items tables.distances.search
 
 -- the agents of the instance, each once
 abbrev pub IsOrderOf : Problem → List ℕ → Type 0
@@ -37,11 +35,12 @@ IsOldPath problem agent path =
     (task : Task) → slice_get problem.instance.now agent ≡ Some task
     → (others : Plan) × IsEarliest (is_passable problem.grid.now) others task.start task.goal problem.horizon path
 
--- so many of the paths came after the old ones, each of which fits those before it
+-- so many of the paths came after the old ones, each of which fits those before it; the next one does not
 pub record ArePathsKept (old new paths : Plan) (kept : ℕ) : Type 0 where
   pub bound : kept ≤ length paths
   pub added : new ≡ old ++ take kept paths
   pub fit : (i : ℕ) → i < kept → Fits (old ++ take i paths) (get_or paths i [])
+  pub misfit : kept < length paths → Fits (old ++ take kept paths) (get_or paths kept []) → ⊥
 
 -- paths of the agents after the first one of the order, each the earliest against those before it
 abbrev pub IsMadeAfterFirst : Problem → List ℕ → Plan → Type 0

@@ -20,6 +20,10 @@ label_in l cell (suc n) = get_or (later_in l cell) n no_label
 abbrev pub earliest_in : Labels → ℕ → ℕ → Option ℕ
 earliest_in l cell interval = cond ((label_in l cell interval).search == l.search) (Some (label_in l cell interval).time) None
 
+-- for each safe interval of each cell the earliest time of a search there, if it has come there
+abbrev pub Times : Type 0
+Times = (cell interval : ℕ) → Option ℕ
+
 -- there is an earliest time, and it is this one or before
 pub record IsSeen (earliest : Option ℕ) (t : ℕ) : Type 0 where
   pub time : ℕ
@@ -43,6 +47,6 @@ pub record IsLabelPut (old new : Labels) (cell interval : ℕ) (label : Label) :
   pub others : (c n : ℕ) → (c ≢ cell) ⊎ (n ≢ interval) → label_in new c n ≡ label_in old c n
 
 -- the time is the earliest in the interval, and the others have theirs as before
-pub record IsLabelSet (old new : Labels) (cell interval time : ℕ) : Type 0 where
-  pub set : earliest_in new cell interval ≡ Some time
-  pub others : (c n : ℕ) → (c ≢ cell) ⊎ (n ≢ interval) → earliest_in new c n ≡ earliest_in old c n
+pub record IsLabelSet (old new : Times) (cell interval time : ℕ) : Type 0 where
+  pub set : new cell interval ≡ Some time
+  pub others : (c n : ℕ) → (c ≢ cell) ⊎ (n ≢ interval) → new c n ≡ old c n

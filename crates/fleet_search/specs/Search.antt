@@ -1,11 +1,13 @@
 -- The search over cells and times.
-use Rattle.std.specs.Prelude.{◌≡◌, ℕ, ◌+◌, ◌-◌, ◌<◌, ◌≤◌, IsTrue, List, [], length, get_or, Contains, Option, None, Some, ◌↔◌, ◌⊎◌, Vec}
+use Rattle.std.specs.Prelude.{◌≡◌, ℕ, ◌+◌, ◌-◌, ◌<◌, ◌≤◌, Bool, IsTrue, List, [], length, get_or, Contains, Option, None, Some, ◌↔◌, ◌⊎◌, Vec}
 use Rattle.std.specs.declared.alloc.Global.{Global}
 use Rattle.fleet_model.specs.declared.geometry.Cell.{Cell}
+use Rattle.fleet_model.specs.declared.geometry.Place.{Place}
 use Rattle.fleet_model.specs.Geometry.{place_of}
 use Rattle.fleet_model.specs.declared.limits.TheConstants.{MAX_HORIZON}
-use Rattle.fleet_plan.specs.Plan.{AreNeighbours, cell_at}
+use Rattle.fleet_plan.specs.Plan.{Plan, AreNeighbours, cell_at}
 use Rattle.fleet_search.specs.declared.state.State.{State}
+use Rattle.fleet_search.specs.declared.arrivals.Arrivals.{Arrivals}
 use Rattle.fleet_search.specs.declared.occupancy.Occupancy.{Occupancy}
 use Rattle.fleet_search.specs.declared.frontier.Query.{Query}
 use Rattle.fleet_search.specs.declared.frontier.Node.{Node}
@@ -19,8 +21,7 @@ use Rattle.fleet_search.specs.Way.{StepFits}
 use Rattle.fleet_search.specs.Reserved.{IsUnoccupied, IsFreeFrom, IsFreeOn}
 use Rattle.fleet_search.specs.Occupancies.{HaveOccupancies, occupancies_of}
 use Rattle.fleet_search.specs.Intervals.{IsInInterval}
-use Rattle.fleet_search.specs.declared.labels.Labels.{Labels}
-use Rattle.fleet_search.specs.Labels.{earliest_in, AreLabels, IsSeen}
+use Rattle.fleet_search.specs.Labels.{Times, earliest_in, IsSeen}
 use Rattle.fleet_search.specs.Rows.{bucket_in}
 
 -- how many moves lead from the cell to the goal at least
@@ -112,14 +113,13 @@ abbrev pub IsStateSettled : Query → List Node → State → Type 0
 IsStateSettled q nodes m = IsExpanded q nodes m ⊎ IsSuperseded q nodes m
 
 -- the earliest time at which the cell was reached in the safe interval of this number among the occupancies there
-abbrev pub earliest_of : Query → Labels → Cell → ℕ → Option ℕ
-earliest_of q labels c interval = earliest_in labels (cell_index q.grid.now c) interval
+abbrev pub earliest_of : Query → Times → Cell → ℕ → Option ℕ
+earliest_of q labels c interval = labels (cell_index q.grid.now c) interval
 
 -- every state that was reached is sound, and it is still open, or is just being expanded, or is settled. Each safe
 -- interval in which a cell was reached is labelled with the earliest time; so none was noted twice
-pub record IsFrontier (q : Query) (f : ℕ) (left : Option ℕ) (nodes : List Node) (labels : Labels) (open_list : List (Vec ℕ Global)) : Type 0 where
+pub record IsFrontier (q : Query) (f : ℕ) (left : Option ℕ) (nodes : List Node) (labels : Times) (open_list : List (Vec ℕ Global)) : Type 0 where
   pub measured : IsMeasured q
-  pub table : AreLabels labels
   pub origin : IsKnown nodes (record { time = 0; cell = q.start })
   pub sound : (i : ℕ) → i < length nodes → IsSoundNode q nodes (state_in nodes i) (get_or nodes i no_node).parent
   pub apart : (i k : ℕ) → i < length nodes → k < length nodes → state_in nodes i ≡ state_in nodes k → i ≡ k
@@ -129,8 +129,12 @@ pub record IsFrontier (q : Query) (f : ℕ) (left : Option ℕ) (nodes : List No
   pub past : (k : ℕ) → k < f → bucket_in open_list k ≡ []
   pub done : (i : ℕ) → i < length nodes → ((k : ℕ) × Contains (bucket_in open_list k) i) ⊎ ((left ≡ Some i) ⊎ IsStateSettled q nodes (state_in nodes i))
 
+-- the earliest times of the search
+abbrev pub times_of : Arrivals → Times
+times_of a = earliest_in a.labels
+
 abbrev pub IsFrontierOf : Query → ℕ → Option ℕ → Frontier → Type 0
-IsFrontierOf q f left s = IsFrontier q f left s.nodes.items s.labels s.open_list.items
+IsFrontierOf q f left s = IsFrontier q f left s.nodes.items (times_of s.labels) s.open_list.items
 
 -- the state may be left by moves that begin before this time, and by no later ones
 abbrev pub IsFreeUntil : Query → State → ℕ → Type 0
@@ -193,6 +197,14 @@ pub record IsPosed (q : Query) : Type 0 where
   pub free : IsUnoccupied q.reserved.now 0 q.start
   pub horizon : q.horizon ≤ MAX_HORIZON
   pub goal_free_from : (t : ℕ) → IsFreeFrom q.reserved.now q.goal t ↔ (q.goal_free_from ≤ t)
+
+-- the agent may stand on the start and on the goal, which is free from this time on, and not past the horizon
+pub record IsOpen (passable : Place → Bool) (reserved : Plan) (start goal : Cell) (horizon from : ℕ) : Type 0 where
+  pub start_on_ground : IsTrue (passable (place_of start))
+  pub goal_on_ground : IsTrue (passable (place_of goal))
+  pub start_free : IsUnoccupied reserved 0 start
+  pub goal_free_from : (t : ℕ) → IsFreeFrom reserved goal t ↔ (from ≤ t)
+  pub in_time : from ≤ horizon
 
 -- a path of so many steps from the start to the cell, each of which fits
 pub record IsTrail (q : Query) (n : ℕ) (last : Cell) (path : List Cell) : Type 0 where

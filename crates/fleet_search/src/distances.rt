@@ -11,14 +11,14 @@ use std::mem;
 
 /// The outcome of a search: by how many steps its path is longer than the heuristic of the start, and how many nodes it
 /// made.
-#[derive(Clone, Copy, Debug)]
+#[derive(Clone, Copy)]
 pub struct Effort {
     pub delay: u32,
     pub nodes: usize,
 }
 
 /// How many moves a cell is from the goal, noted by the search of this number.
-#[derive(Clone, Copy, Debug, PartialEq, Eq)]
+#[derive(Clone, Copy)]
 pub struct Label {
     pub search: u16,
     pub distance: u16,
@@ -313,8 +313,7 @@ impl Distances {
 
     /// Takes note of the outcome of the search. It decides how far the next one labels cells, and nothing else.
     pub fn learn(&mut self, last: Effort)
-        ensures labels { self.new.labels ≡ self.old.labels }
-        ensures search { self.new.search ≡ self.old.search }
+        ensures { self.new ≡ record self.old { last = last } }
     {
         self.last = last;
     }

@@ -1,10 +1,9 @@
 //! The earliest path of one agent past the reserved ones.
 
-ghost use Rattle.std.specs.Prelude.{◌≡◌, ◌≤◌, IfOk, IfErr, OnOk};
+ghost use Rattle.std.specs.Prelude.{◌≡◌, ◌≤◌, IfOk, IfErr, OnOk, IfSome, IfNone};
 ghost use Rattle.fleet_grid.specs.Ground.{is_passable};
 ghost use Rattle.fleet_search.specs.Distance.{IsReady};
-ghost use Rattle.fleet_search.specs.Search.{IsPosed};
-ghost use Rattle.fleet_search.specs.Labels.{AreLabels};
+ghost use Rattle.fleet_search.specs.Search.{IsPosed, IsOpen};
 ghost use Rattle.fleet_search.specs.Way.{IsEarliest, IsInfeasible};
 
 use crate::distances::{Distances, Effort};
@@ -21,11 +20,8 @@ use std::alloc::Global;
 fn search(frontier: &mut Frontier, query: &Query) -> Result<Path, SearchFault>
     requires asked { IsPosed query.now }
     requires goal_free_from { query.now.goal_free_from ≤ query.now.horizon }
-    requires labels { AreLabels frontier.old.labels }
     ensures ok { IfOk result (IsEarliest (is_passable query.now.grid.now) query.now.reserved.now query.now.start query.now.goal query.now.horizon) }
     ensures no_path { IfErr result (λ e. e ≡ SearchFault.NoPath → IsInfeasible (is_passable query.now.grid.now) query.now.reserved.now query.now.start query.now.goal query.now.horizon) }
-    ensures labels { OnOk result (AreLabels frontier.new.labels) }
-    ensures kept { IfErr result (λ e. e ≡ SearchFault.NoPath → AreLabels frontier.new.labels) }
 {
     if query.heuristic(query.start) > query.horizon {
         return Err(SearchFault::NoPath);
@@ -45,6 +41,38 @@ fn search(frontier: &mut Frontier, query: &Query) -> Result<Path, SearchFault>
     Err(SearchFault::NoPath)
 }
 
+/// The time from which on the goal is free, if that is by the horizon, and the agent may stand on both cells.
+fn open_from(
+    grid: &Grid,
+    reserved: &Reservations,
+    start: Cell,
+    goal: Cell,
+    horizon: u16,
+) -> Option<u32>
+    ensures some { IfSome result (IsOpen (is_passable grid.now) reserved.now start goal horizon) }
+    ensures none { IfNone result (IsInfeasible (is_passable grid.now) reserved.now start goal horizon) }
+{
+    if !grid.passable(start) {
+        return None;
+    }
+    if !grid.passable(goal) {
+        return None;
+    }
+    if reserved.occupant(0, start).is_some() {
+        return None;
+    }
+    match reserved.free_from(goal) {
+        None => None,
+        Some(from) => {
+            if from <= u32::from(horizon) {
+                Some(from)
+            } else {
+                None
+            }
+        }
+    }
+}
+
 /// The earliest path, with tables that other searches have used before.
 pub fn earliest_over(
     grid: &Grid,
@@ -56,29 +84,14 @@ pub fn earliest_over(
     horizon: u16,
 ) -> Result<Path, SearchFault>
     requires ready { IsReady grid.now distances.old.labels.items distances.old.search }
-    requires labels { AreLabels frontier.old.labels }
     ensures ready { OnOk result (IsReady grid.now distances.new.labels.items distances.new.search) }
-    ensures labels { OnOk result (AreLabels frontier.new.labels) }
-    ensures kept { IfErr result (λ e. e ≡ SearchFault.NoPath
-        → IsReady grid.now distances.new.labels.items distances.new.search × AreLabels frontier.new.labels) }
+    ensures kept { IfErr result (λ e. e ≡ SearchFault.NoPath → IsReady grid.now distances.new.labels.items distances.new.search) }
     ensures ok { IfOk result (IsEarliest (is_passable grid.now) reserved.now start goal horizon) }
     ensures no_path { IfErr result (λ e. e ≡ SearchFault.NoPath → IsInfeasible (is_passable grid.now) reserved.now start goal horizon) }
 {
-    if !grid.passable(start) {
-        return Err(SearchFault::NoPath);
-    }
-    if !grid.passable(goal) {
-        return Err(SearchFault::NoPath);
-    }
-    if reserved.occupant(0, start).is_some() {
-        return Err(SearchFault::NoPath);
-    }
-    let Some(goal_free_from) = reserved.free_from(goal) else {
+    let Some(goal_free_from) = open_from(grid, reserved, start, goal, horizon) else {
         return Err(SearchFault::NoPath);
     };
-    if goal_free_from > u32::from(horizon) {
-        return Err(SearchFault::NoPath);
-    }
     distances.compute(grid, start, goal, goal_free_from, horizon)?;
     let query = Query {
         grid,

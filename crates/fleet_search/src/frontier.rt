@@ -3,7 +3,7 @@
 //! An agent that comes to a cell may wait there for as long as nobody else comes. So of the times in a safe interval,
 //! between the occupancies of a cell by others, only the earliest counts (safe intervals: Phillips and Likhachev 2011).
 
-ghost use Rattle.std.specs.Prelude.{◌≡◌, ◌+◌, ◌-◌, ◌<◌, ◌≤◌, ◌↔◌, IsTrue, IfOk, OnOk, Some, None, length};
+ghost use Rattle.std.specs.Prelude.{◌≡◌, ◌+◌, ◌-◌, ◌<◌, ◌≤◌, ◌↔◌, IsTrue, IfOk, OnOk, Some, None, [], length};
 ghost use Rattle.fleet_model.specs.Geometry.{place_of, moved};
 ghost use Rattle.fleet_grid.specs.Ground.{is_passable};
 ghost use Rattle.fleet_model.specs.declared.geometry.Cell.{Cell};
@@ -12,11 +12,10 @@ ghost use Rattle.fleet_search.specs.Reserved.{IsUnoccupied};
 ghost use Rattle.fleet_search.specs.Way.{StepFits};
 ghost use Rattle.fleet_search.specs.Intervals.{IsInInterval};
 ghost use Rattle.fleet_search.specs.Search.{heuristic_of, occupancies_on, IsMeasured, IsGoalState, IsBucket, IsLeft, IsExpansion, ExpandsOn, IsFrontierOf, Grows, IsPosed, IsSearched, IsTrailOf, IsFreeUntil, IsFoundAt, IsFoundIn, IsFoundFrom, IsNeighbour, HasEnded, IsSuperseded};
-ghost use Rattle.fleet_search.specs.Labels.{AreLabels};
 
+use crate::arrivals::Arrivals;
 use crate::distances::Distances;
 use crate::intervals::{SafeInterval, begins_after, earliest_within, interval_after};
-use crate::labels::Labels;
 use crate::occupancy::{Occupancy, started_by};
 use crate::reservation_table::ReservationTable;
 use crate::reservations::Reservations;
@@ -99,14 +98,14 @@ impl Query<'_> {
 }
 
 /// A state that was reached, and the place in the list of the node from which it was reached (0 for the start).
-#[derive(Clone, Copy, Debug)]
+#[derive(Clone, Copy)]
 pub struct Node {
     pub state: State,
     pub parent: u32,
 }
 
 /// A node that is being expanded: its place in the list, and until when the agent may wait there.
-#[derive(Clone, Copy, Debug)]
+#[derive(Clone, Copy)]
 pub struct Expansion {
     pub place: u32,
     pub state: State,
@@ -121,7 +120,7 @@ pub struct Neighbour<'a> {
 }
 
 /// How the expansion of a bucket has ended.
-#[derive(Clone, Copy, Debug, PartialEq, Eq)]
+#[derive(Clone, Copy)]
 pub enum BucketEnd {
     /// The node at this place is at the goal, and may stay there.
     Goal(u32),
@@ -137,7 +136,7 @@ pub struct Frontier {
     pub alloc: Global,
     pub nodes: Vec<Node>,
     /// For each safe interval of a cell the earliest time at which a node was made in it.
-    pub labels: Labels,
+    pub labels: Arrivals,
     /// The places of the nodes that are still to be expanded, bucket by bucket.
     pub open_list: Vec<Vec<u32>>,
 }
@@ -145,12 +144,12 @@ pub struct Frontier {
 impl Frontier {
     /// No nodes. Takes no memory.
     pub fn new(alloc: Global) -> Frontier
-        ensures { AreLabels result.labels }
+        ensures { result.nodes.items ≡ [] }
     {
         Frontier {
             alloc,
             nodes: Vec::new(alloc),
-            labels: Labels::new(alloc),
+            labels: Arrivals::new(alloc),
             open_list: Vec::new(alloc),
         }
     }
@@ -304,7 +303,7 @@ impl Frontier {
         requires frontier { IsFrontierOf query.now (bucket - 1) (Some place) self.now }
         requires left { IsLeft query.now bucket self.now place state }
         requires inside { IsInInterval (occupancies_on query.now state.cell) interval state.time }
-        ensures { IsTrue result → IsSuperseded query.now self.now.nodes.items state }
+        ensures { IsTrue result ↔ IsSuperseded query.now self.now.nodes.items state }
     {
         if state.time == 0 {
             return false;
@@ -369,7 +368,6 @@ impl Frontier {
     pub fn begin(&mut self, query: &Query) -> Result<(), OutOfMemory>
         requires asked { IsPosed query.now }
         requires in_time { heuristic_of query.now query.now.start ≤ query.now.horizon }
-        requires labels { AreLabels self.old.labels }
         ensures { OnOk result (IsFrontierOf query.now 0 None self.new) }
     {
         self.nodes.clear();

@@ -63,7 +63,7 @@ pub fn begins_after(occupancies: &[Occupancy], interval: usize, time: u32) -> bo
 }
 
 /// A safe interval of a cell: how many occupancies there are before it, and when the next one begins.
-#[derive(Clone, Copy, Debug)]
+#[derive(Clone, Copy)]
 pub struct SafeInterval {
     pub number: usize,
     pub until: u32,

@@ -9,7 +9,7 @@ use fleet_table::Table;
 use std::alloc::Global;
 
 /// The earliest time at which the search of this number comes to a safe interval.
-#[derive(Clone, Copy, Debug)]
+#[derive(Clone, Copy)]
 pub struct Label {
     pub search: u16,
     pub time: u16,
@@ -101,7 +101,7 @@ impl Labels {
         requires labels { AreLabels self.old }
         requires few { interval < 4294967295 }
         ensures labels { OnOk result (AreLabels self.new) }
-        ensures set { OnOk result (IsLabelSet self.old self.new cell interval time) }
+        ensures set { OnOk result (IsLabelSet (earliest_in self.old) (earliest_in self.new) cell interval time) }
     {
         let search = self.search;
         let label = Label { search, time };

@@ -3,6 +3,7 @@
 //! The planner is prioritised (Silver 2005): each agent searches over cells and times, past the reserved paths.
 #![tactic(auto)]
 
+mod arrivals;
 mod distances;
 mod earliest_path;
 mod fault;

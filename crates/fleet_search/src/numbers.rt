@@ -5,6 +5,7 @@ ghost use Rattle.std.specs.Prelude.{◌≡◌, ◌≢◌, ◌<◌, ◌≤◌, �
 ghost use Rattle.fleet_model.specs.declared.geometry.Cell.{Cell};
 ghost use Rattle.fleet_search.specs.Numbers.{number_in, IsNumbered};
 
+use crate::rows::widen;
 use fleet_model::{Cell, OutOfMemory};
 use std::alloc::Global;
 
@@ -20,17 +21,6 @@ pub fn number_at(rows: &[Vec<u32>], cell: Cell) -> u32
         Some(number) => *number,
         None => 0,
     }
-}
-
-/// Makes room for so many rows.
-fn widen(alloc: Global, rows: &mut Vec<Vec<u32>>, len: usize) -> Result<(), OutOfMemory>
-    ensures room { OnOk result (len ≤ length rows.new.items) }
-    ensures same { (k : ℕ) → get_or (map (λ v. v.items) rows.new.items) k [] ≡ get_or (map (λ v. v.items) rows.old.items) k [] }
-{
-    for _more in rows.len()..len {
-        rows.push(Vec::new(alloc))?;
-    }
-    Ok(())
 }
 
 /// Writes the number at a place of the row. A refusal changes none.
@@ -58,6 +48,6 @@ pub fn set_number(
     ensures err { OnErr result ((c : Cell) → number_in rows.new.items c ≡ number_in rows.old.items c) }
 {
     let y = usize::from(cell.y);
-    widen(alloc, rows, y + 1)?;
+    widen(alloc, rows, y)?;
     write(&mut rows[y], usize::from(cell.x), number)
 }

@@ -1,4 +1,4 @@
-//! Rows of numbers by their keys: the buckets of the open list.
+//! Rows of numbers by their keys: the buckets of the open list, and the numbers of cells.
 
 ghost use Rattle.std.specs.Prelude.{◌≡◌, ◌≢◌, ◌<◌, ◌++◌, ◌∷◌, [], ℕ, OnOk, IfSome, IfNone, length};
 ghost use Rattle.fleet_search.specs.Rows.{bucket_in, IsPut};
@@ -6,11 +6,11 @@ ghost use Rattle.fleet_search.specs.Rows.{bucket_in, IsPut};
 use fleet_model::OutOfMemory;
 use std::alloc::Global;
 
-/// Makes room for the row of this number.
-fn widen(alloc: Global, rows: &mut Vec<Vec<u32>>, key: usize) -> Result<(), OutOfMemory>
+/// Makes room for the row of this number. No row is other than before, also where memory is refused.
+pub fn widen(alloc: Global, rows: &mut Vec<Vec<u32>>, key: usize) -> Result<(), OutOfMemory>
     requires { key < 4294967295 }
     ensures room { OnOk result (key < length rows.new.items) }
-    ensures same { OnOk result ((k : ℕ) → bucket_in rows.new.items k ≡ bucket_in rows.old.items k) }
+    ensures same { (k : ℕ) → bucket_in rows.new.items k ≡ bucket_in rows.old.items k }
 {
     for _more in rows.len()..key + 1 {
         rows.push(Vec::new(alloc))?;

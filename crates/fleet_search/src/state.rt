@@ -3,7 +3,7 @@
 use fleet_model::Cell;
 
 /// A cell at a time.
-#[derive(Clone, Copy, Debug, PartialEq, Eq)]
+#[derive(Clone, Copy)]
 pub struct State {
     pub time: u32,
     pub cell: Cell,

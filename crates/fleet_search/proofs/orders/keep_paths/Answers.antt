@@ -2,6 +2,7 @@ use Rattle.std.proofs.Common.{◌≡◌, ◌<◌, ◌++◌, ◌∷◌, [], lengt
 use Rattle.std.proofs.lemmas.Bool.{cases_eq}
 use Rattle.std.proofs.lemmas.List.{take_more, get_or_default}
 use Rattle.fleet_search.specs.Way.{Fits}
+use Rattle.fleet_search.proofs.Occupants.{no_from_false}
 use Rattle.fleet_search.proofs.orders.keep_paths.Goals as goal
 
 pub loop-kept-preserved : goal.loop-kept-preserved
@@ -22,4 +23,18 @@ loop-kept-preserved c =
         | inl e ↦ subst (λ z. Fits (old ++ take z paths) (get_or paths z [])) (sym e) (subst (λ z. Fits z (get_or paths kept [])) i.added (subst (Fits c.loop-kept.reserved) is' fits))
         | inr ne ↦ i.fit k (omega arith)
       ];
+    }
+
+pub returns-then-not-fits : goal.returns-then-not-fits
+returns-then-not-fits c =
+    let paths = c.args.paths.now in
+    let kept = c.loop-kept.kept in
+    let i = c.loop-kept.invariant in
+    let l : kept < length paths = omega arith in
+    let is : c.index-paths-kept.result ≡ get_or paths kept [] = c.index-paths-kept.is ∙ get_or_default paths kept c.index-paths-kept.result [] l in
+    record {
+      bound = omega arith;
+      added = i.added;
+      fit = i.fit;
+      misfit = λ h fits. no_from_false c.fits.result c.if-not-fits.true c.fits.ensures (subst (Fits c.loop-kept.reserved) (sym is) (subst (λ z. Fits z (get_or paths kept [])) (sym i.added) fits));
     }

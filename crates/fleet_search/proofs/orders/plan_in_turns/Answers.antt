@@ -19,7 +19,7 @@ loop-failed-init c =
       more = omega arith;
       each_once = subst (IsPermutation (rising (length tasks))) (sym e) (IsPermutation-refl (rising (length tasks)));
       after = subst (IsOrderAfter (is_passable c.args.problem.now.grid.now) tasks c.args.problem.now.horizon 0) (sym e) (order_after-none (is_passable c.args.problem.now.grid.now) tasks c.args.problem.now.horizon);
-      tables = record { distances = c.in_ok-new.ensures; labels = c.new-2.ensures };
+      tables = c.in_ok-new.ensures;
       kept = subst (λ z. IsPrioritisedPlan (is_passable c.args.problem.now.grid.now) (drop 1 (tasks_by c.in_ok-order.order.items tasks)) c.args.problem.now.horizon (length z) z) (sym c.new-kept.ensures.items)
           (none_made (is_passable c.args.problem.now.grid.now) (drop 1 (tasks_by c.in_ok-order.order.items tasks)) c.args.problem.now.horizon);
       fewer =

@@ -2,9 +2,11 @@ use Rattle.std.proofs.Common.{◌-◌, ◌<◌, sym, ap, subst, ◌∙◌, arith
 use Rattle.fleet_model.specs.Geometry.{place_of}
 use Rattle.fleet_grid.specs.Ground.{is_passable}
 use Rattle.fleet_search.specs.declared.state.State.{State}
-use Rattle.fleet_search.specs.Labels.{earliest_in, IsSeen}
-use Rattle.fleet_search.proofs.SearchSteps.{superseded-seen}
+use Rattle.fleet_search.specs.Labels.{IsSeen}
+use Rattle.fleet_search.specs.Search.{times_of}
+use Rattle.fleet_search.proofs.SearchSteps.{superseded-seen, seen-superseded}
 use Rattle.fleet_search.proofs.Spread.{on_map}
+use Rattle.fleet_search.proofs.Chase.{none_iff}
 use Rattle.fleet_search.proofs.frontier.Frontier.is_superseded.Goals as goal
 
 pub cell_index-number-requires-clause-column : goal.cell_index-number-requires-clause-column
@@ -21,14 +23,22 @@ cell_index-number-requires-clause-row c =
     let left = c.requires.left in
     (subst (λ (z : State). (z.cell.y < q.grid.now.height)) left.here (on_map q.grid.now _ fr.measured.heuristic.ready.map (fr.sound c.args.place left.within).on_ground).1)
 
+pub returns-then-state-eq0 : goal.returns-then-state-eq0
+returns-then-state-eq0 c = none_iff (λ s. absurd (let sooner = s.sooner in omega arith))
+
 pub returns : goal.returns
-returns c = λ seen.
+returns c =
     let q = c.args.query.now in
     let s = c.args.self.now in
     let m = c.args.state in
     let fr = c.requires.frontier in
     let left = c.requires.left in
     let sound = fr.sound c.args.place left.within in
-    let ground = ap (λ (z : State). is_passable q.grid.now (place_of z.cell)) (sym left.here) ∙ sound.on_ground in
-    let here = subst (λ z. IsSeen (earliest_in s.labels z c.args.interval) (m.time - 1)) c.cell_index-number.ensures.value (c.is_reached.ensures.0 seen) in
-    superseded-seen q (c.args.bucket - 1) _ s.nodes.items s.labels s.open_list.items fr m c.args.interval ground here (omega arith) c.requires.inside
+    let ground = ap (λ (z : State). is_passable q.grid.now (place_of z.cell)) (sym left.here) ∙ sound.on_ground in (
+      λ seen.
+          let here = subst (λ z. IsSeen (times_of s.labels z c.args.interval) (m.time - 1)) c.cell_index-number.ensures.value (c.is_reached.ensures.0 seen) in
+          superseded-seen q (c.args.bucket - 1) _ s.nodes.items (times_of s.labels) s.open_list.items fr m c.args.interval ground here (omega arith) c.requires.inside,
+      λ sooner.
+          let here = seen-superseded q (c.args.bucket - 1) _ s.nodes.items (times_of s.labels) s.open_list.items fr m c.args.interval c.requires.inside sooner in
+          c.is_reached.ensures.1 (subst (λ z. IsSeen (times_of s.labels z c.args.interval) (m.time - 1)) (sym c.cell_index-number.ensures.value) here),
+    )

@@ -1,14 +1,14 @@
-use Rattle.std.proofs.Common.{◌≡◌, ◌+◌, ◌-◌, ◌≤◌, length, inr, sym, ap, ◌∙◌, subst, arith, rules}
+use Rattle.std.proofs.Common.{◌≡◌, ◌+◌, ◌-◌, ◌≤◌, length, inr, sym, ap, ◌∙◌, subst, arith}
 use Rattle.std.proofs.lemmas.Bool.{both_ways}
 use Rattle.fleet_model.specs.Geometry.{place_of}
 use Rattle.fleet_grid.specs.Ground.{is_passable}
 use Rattle.fleet_search.specs.declared.state.State.{State}
 use Rattle.fleet_search.specs.Intervals.{IsInInterval}
-use Rattle.fleet_search.specs.Labels.{earliest_in, IsSeen, IsLabelSet}
+use Rattle.fleet_search.specs.Labels.{IsSeen, IsLabelSet}
 use Rattle.fleet_search.specs.Rows.{IsPut}
-use Rattle.fleet_search.specs.Search.{heuristic_of, occupancies_on, IsStep, IsMove, earliest_of}
+use Rattle.fleet_search.specs.Search.{times_of, heuristic_of, occupancies_on, IsStep, IsMove, earliest_of}
 use Rattle.fleet_search.proofs.IntervalLaws.{interval-free, few-occupancies}
-use Rattle.fleet_search.proofs.SearchSteps.{near-beside, bucket-next, covered-seen, covered-new, expands_on, pushed}
+use Rattle.fleet_search.proofs.SearchSteps.{near-beside, bucket-next, covered-seen, covered-new, expands_on, pushed, pushed-grows}
 use Rattle.fleet_search.proofs.frontier.Frontier.push_successor.Goals as goal
 
 pub returns-then-is_reached-clause-found : goal.returns-then-is_reached-clause-found
@@ -16,16 +16,16 @@ returns-then-is_reached-clause-found c = λ step h.
     let q = c.args.query.now in
     let s = c.args.self.now in
     let cell = c.args.neighbour.now.cell in
-    let seen : IsSeen (earliest_of q s.labels cell c.args.interval) (c.args.begin + 1) = subst (λ z. IsSeen (earliest_in s.labels z c.args.interval) (c.args.begin + 1)) c.cell_index-number.ensures.value (c.is_reached.ensures.0 c.if-is_reached.true) in
-    covered-seen q _ _ s.nodes.items s.labels s.open_list.items c.requires.leaving.frontier cell c.args.interval (c.args.begin + 1) c.requires.neighbour.on_ground seen (subst (λ z. IsInInterval z c.args.interval (c.args.begin + 1)) c.requires.neighbour.occupancies c.requires.interval)
+    let seen : IsSeen (earliest_of q (times_of s.labels) cell c.args.interval) (c.args.begin + 1) = subst (λ z. IsSeen (times_of s.labels z c.args.interval) (c.args.begin + 1)) c.cell_index-number.ensures.value (c.is_reached.ensures.0 c.if-is_reached.true) in
+    covered-seen q _ _ s.nodes.items (times_of s.labels) s.open_list.items c.requires.leaving.frontier cell c.args.interval (c.args.begin + 1) c.requires.neighbour.on_ground seen (subst (λ z. IsInInterval z c.args.interval (c.args.begin + 1)) c.requires.neighbour.occupancies c.requires.interval)
 
 pub fits-requires-clause-free : goal.fits-requires-clause-free
 fits-requires-clause-free c =
     let q = c.args.query.now in
     interval-free q.reserved.now c.args.neighbour.now.cell (occupancies_on q c.args.neighbour.now.cell) (c.requires.leaving.frontier.measured.occupancies c.args.neighbour.now.cell) c.args.interval (c.args.begin + 1) (subst (λ z. IsInInterval z c.args.interval (c.args.begin + 1)) c.requires.neighbour.occupancies c.requires.interval)
 
-pub note-requires-clause-few : goal.note-requires-clause-few
-note-requires-clause-few c =
+pub note-requires : goal.note-requires
+note-requires c =
     let q = c.args.query.now in
     let few = few-occupancies q.reserved.now c.args.neighbour.now.cell (occupancies_on q c.args.neighbour.now.cell) (c.requires.leaving.frontier.measured.occupancies c.args.neighbour.now.cell) in
     let bound = (subst (λ z. IsInInterval z c.args.interval (c.args.begin + 1)) c.requires.neighbour.occupancies c.requires.interval).bound in
@@ -42,18 +42,18 @@ returns-clause-expands_on c =
     let fr = c.requires.leaving.frontier in
     let l = c.args.left in
     let cell = c.args.neighbour.now.cell in
-    let labels = s.labels in
-    let new = c.note.new.self in
-    let unseen : IsSeen (earliest_of q labels cell c.args.interval) (c.args.begin + 1) → ⊥ = λ w. both_ways c.is_reached.result c.if-is_reached.false (c.is_reached.ensures.1 (subst (λ z. IsSeen (earliest_in labels z c.args.interval) (c.args.begin + 1)) (sym c.cell_index-number.ensures.value) w)) in
+    let labels = times_of s.labels in
+    let new = times_of c.note.new.self in
+    let unseen : IsSeen (earliest_of q labels cell c.args.interval) (c.args.begin + 1) → ⊥ = λ w. both_ways c.is_reached.result c.if-is_reached.false (c.is_reached.ensures.1 (subst (λ z. IsSeen (labels z c.args.interval) (c.args.begin + 1)) (sym c.cell_index-number.ensures.value) w)) in
     let step : IsStep q c.args.begin l.state.cell cell = record { beside = inr c.requires.neighbour.neighbours; on_ground = c.requires.neighbour.on_ground; fits = c.fits.ensures.0 c.if-not-fits.false } in
     let move : IsMove q l.state c.args.begin cell = record { waits = c.requires.waits; free = λ x a b. c.requires.leaving.until.0 x a (omega arith); step = step } in
     let in_time : c.args.begin + 1 + heuristic_of q cell ≤ q.horizon = omega (arith, c.heuristic-heuristic.ensures.value) in
     let place : c.in_ok-place.place ≡ length r = omega (arith, c.in_ok-place.ensures) in
-    let set : IsLabelSet labels new _ c.args.interval (c.args.begin + 1) = subst (λ z. IsLabelSet labels new z c.args.interval (c.args.begin + 1)) c.cell_index-number.ensures.value c.in_ok-note.ensures.set in
+    let set : IsLabelSet labels new _ c.args.interval (c.args.begin + 1) = subst (λ z. IsLabelSet labels new z c.args.interval (c.args.begin + 1)) c.cell_index-number.ensures.value c.in_ok-note.ensures in
     let bucket = c.bucket.ensures cell c.heuristic-heuristic.ensures.value in
     let put = subst (IsPut s.open_list.items c.put.new.rows.items c.bucket.result) place c.in_ok-put.ensures in
     let ground = ap (λ (z : State). is_passable q.grid.now (place_of z.cell)) (sym c.requires.leaving.left.here) ∙ (fr.sound l.place c.requires.leaving.left.within).on_ground in
     let near = near-beside q fr.measured l.state.cell cell ground c.requires.neighbour.on_ground (inr c.requires.neighbour.neighbours) in
     let waits = c.requires.waits in
     let late = bucket-next q l.state (record { time = c.args.begin + 1; cell = cell }) c.args.bucket c.bucket.result c.requires.leaving.left.bucket bucket (omega arith) near.1 in
-    expands_on q c.args.bucket l s _ c.requires.leaving (pushed q (c.args.bucket - 1) l.place r labels s.open_list.items fr l.state c.requires.leaving.left.within c.requires.leaving.left.here c.args.begin cell c.args.interval (subst (λ z. IsInInterval z c.args.interval (c.args.begin + 1)) c.requires.neighbour.occupancies c.requires.interval) unseen move in_time c.push.new.self.items new c.put.new.rows.items c.bucket.result c.in_ok-push.ensures.items c.in_ok-note.ensures.labels set bucket put late) (search rules)
+    expands_on q c.args.bucket l s _ c.requires.leaving (pushed q (c.args.bucket - 1) l.place r labels s.open_list.items fr l.state c.requires.leaving.left.within c.requires.leaving.left.here c.args.begin cell c.args.interval (subst (λ z. IsInInterval z c.args.interval (c.args.begin + 1)) c.requires.neighbour.occupancies c.requires.interval) unseen move in_time c.push.new.self.items new c.put.new.rows.items c.bucket.result c.in_ok-push.ensures.items set bucket put late) (pushed-grows s _ (record { state = record { time = c.args.begin + 1; cell = cell }; parent = l.place }) c.in_ok-push.ensures.items)

@@ -16,13 +16,15 @@ use Rattle.fleet_run.specs.declared.run.RunFault.TheVariants.{OutOfMemory, Sourc
 use Rattle.fleet_run.specs.declared.source.SourceFault.{SourceFault}
 use Rattle.fleet_run.specs.declared.source.SourceFault.TheVariants.{Broken, Text}
 use Rattle.fleet_run.specs.declared.trace.Report.{Report}
-use Rattle.fleet_text.specs.Sink.{SinkState, HasFailed, TakesAll}
+use Rattle.fleet_text.specs.Sink.{SinkState, HasFailed, Takes, TakesAll}
+use Rattle.fleet_text.proofs.SinkLemmas.{appends_more}
+use Rattle.fleet_run.specs.declared.run.Ran.{Ran}
 use Rattle.fleet_run.specs.Source.{SourceState}
 use Rattle.fleet_run.specs.Text.{line_of, lines_below, trace_closing}
-use Rattle.fleet_run.specs.Outcome.{NeedsTicks, RunsLines, StopsAtSource, run_end}
-use Rattle.fleet_run.specs.Drive.{Drives, IsInTime, trace_from}
+use Rattle.fleet_run.specs.Outcome.{NeedsTicks, RunsLines, RunsToEnd, StopsAtSource, run_end}
+use Rattle.fleet_run.specs.Drive.{Drives, IsDriven, IsInTime, trace_from}
 use Rattle.fleet_model.proofs.Tick.{length-tick, length-run, standing_at_tick}
-use Rattle.fleet_run.proofs.Rehearsed.{within_closing}
+use Rattle.fleet_run.proofs.Rehearsed.{least_at, within_closing}
 
 -- what is not over is not finished
 not_finished : (p : Program) (c : Configuration) → is_over p c ≡ false → is_finished p c ≡ false
@@ -85,6 +87,20 @@ stops_in_trace_closing p chain holds t before mid after (Err x) bytes over lines
     let Within : List ℕ → Type 0 = λ text. (k : ℕ) × (k < length text) × Appends before.taken after.taken (lines_below p holds t ++ take k text) in
     let closing = trace_closing (length p) t chain (held_ticks p holds t) in
     (subst Within (trace_at_end p chain holds t over) (within_closing before.taken mid.taken after.taken (lines_below p holds t) (line_of t (run p holds t)) closing bytes e first took.taken), took.failed)
+
+-- a run to its end, and the closing lines after it
+pub driven : (p : Program) (chain : ℕ) (s s' : SourceState) (o mid o' : SinkState) (agents : ℕ) (r : Ran) → RunsToEnd p s s' o mid r
+    → is_stuck p (run p s.ticks r.ticks) ≡ false → agents ≡ length p → Takes mid o' (trace_closing (length p) r.ticks chain (held_ticks p s.ticks r.ticks))
+    → IsDriven p chain s s' o o' (record { agents = agents; ticks = r.ticks; chain = chain; held = r.held })
+driven p chain s s' o mid o' agents r ran never same took = record {
+  finish = least_at (λ t. is_finished p (run p s.ticks t)) r.ticks (finished_at_end p (run p s.ticks r.ticks) r.end never ran.end) (needed_to_finish p s.ticks r.ticks ran.needed);
+  taken = appends_more o.taken mid.taken o'.taken (lines_below p s.ticks (r.ticks + 1)) (trace_closing (length p) r.ticks chain (held_ticks p s.ticks r.ticks)) ran.taken took.taken;
+  working = took.working;
+  asked = ran.asked;
+  agents = same;
+  the_chain = refl;
+  held = ran.held;
+}
 
 -- a tick in which nobody's count has grown changes nothing
 unmoved : (b : Bool) (s : Standing) (a : Option Action) (t : Standing) → t ≡ cond b (finished_one s a) s → t.count ≡ 0 → s.count ≡ 0 × (t ≡ s)

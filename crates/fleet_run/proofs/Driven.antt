@@ -1,6 +1,6 @@
 -- Runs of accepted programs.
 use Rattle.std.proofs.Common.{◌≡◌, ◌<◌, ℕ, zero, suc, ◌+◌, ◌++◌, Bool, true, false, cond, Some, None, Option, List, [], take, length, refl, ap, sym, subst, add-one, ◌∙◌, arith, Result, Ok, Err, length-append}
-use Rattle.std.specs.Prelude.{is_err, IfOk}
+use Rattle.std.specs.Prelude.{◌≤◌, is_err, IfOk, IsOk}
 use Rattle.std.specs.Io.KnownBytes.{Appends}
 use Rattle.std.proofs.lemmas.Bool.{or_parts}
 use Rattle.std.proofs.lemmas.List.{take-append-le, ext_get_or}
@@ -13,13 +13,14 @@ use Rattle.fleet_run.specs.declared.run.End.{End}
 use Rattle.fleet_run.specs.declared.run.End.TheVariants.{Finished, Stuck}
 use Rattle.fleet_run.specs.declared.run.RunFault.{RunFault}
 use Rattle.fleet_run.specs.declared.run.RunFault.TheVariants.{OutOfMemory, Source, Hold, Write, HoldLimit}
+use Rattle.fleet_run.specs.declared.run.TheConstants.{MOST_TICKS}
 use Rattle.fleet_run.specs.declared.source.SourceFault.{SourceFault}
 use Rattle.fleet_run.specs.declared.source.SourceFault.TheVariants.{Broken, Text}
 use Rattle.fleet_run.specs.declared.trace.Report.{Report}
-use Rattle.fleet_text.specs.Sink.{SinkState, HasFailed, Takes, TakesAll}
+use Rattle.fleet_text.specs.Sink.{SinkState, HasFailed, IsWorking, Takes, TakesAll}
 use Rattle.fleet_text.proofs.SinkLemmas.{appends_more}
 use Rattle.fleet_run.specs.declared.run.Ran.{Ran}
-use Rattle.fleet_run.specs.Source.{SourceState}
+use Rattle.fleet_run.specs.Source.{SourceState, HasNotFailed}
 use Rattle.fleet_run.specs.Text.{line_of, lines_below, trace_closing}
 use Rattle.fleet_run.specs.Outcome.{NeedsTicks, RunsLines, RunsToEnd, StopsAtSource, run_end}
 use Rattle.fleet_run.specs.Drive.{Drives, IsDriven, IsInTime, trace_from}
@@ -139,3 +140,13 @@ told_in_time p chain s s' o o' c (Ok r) arrive h =
     let high = arrived.in_time in
     record { no_sooner = omega (arith, same, low); in_time = omega (arith, same, held, high) }
 told_in_time p chain s s' o o' c (Err e) arrive h = tt
+
+-- it reports unless the source or the sink has failed, or the source had more ticks than a run takes
+pub told_unless_failed : (p : Program) (chain : ℕ) (s s' : SourceState) (o o' : SinkState) (c : Configuration) (r : Result Report RunFault)
+    → Drives p chain s s' o o' c r → HasNotFailed s' → IsWorking o' → length s.ticks ≤ MOST_TICKS → IsOk r
+told_unless_failed p chain s s' o o' c (Ok r) h calm working short = refl
+told_unless_failed p chain s s' o o' c (Err OutOfMemory) h calm working short = absurd h
+told_unless_failed p chain s s' o o' c (Err (Source n)) h calm working short = let failed = h.3.fault in absurd (cc)
+told_unless_failed p chain s s' o o' c (Err (Hold n)) h calm working short = let failed = h.3.fault in absurd (cc)
+told_unless_failed p chain s s' o o' c (Err Write) h calm working short = let failed = h.2.failed in absurd (cc)
+told_unless_failed p chain s s' o o' c (Err HoldLimit) h calm working short = let limit = h.2.limit in let more = h.2.more in absurd (omega arith)

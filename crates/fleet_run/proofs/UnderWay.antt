@@ -11,7 +11,7 @@ use Rattle.fleet_run.specs.declared.source.SourceFault.{SourceFault}
 use Rattle.fleet_run.specs.declared.source.SourceFault.TheVariants.{Broken, Text}
 use Rattle.fleet_run.specs.declared.run.RunFault.{RunFault}
 use Rattle.fleet_run.specs.declared.run.RunFault.TheVariants.{OutOfMemory, Source, Hold, Write, HoldLimit}
-use Rattle.fleet_run.specs.Outcome.{NeedsTicks, IsAskedFor, StopsAtSink, StopsAtSource, StopsAtTickLimit, AsksNext, RunsLines}
+use Rattle.fleet_run.specs.Outcome.{NeedsTicks, IsAskedFor, StopsAtSink, StopsAtSource, AsksNext, RunsLines}
 use Rattle.std.specs.Prelude.{is_err}
 use Rattle.fleet_text.specs.Sink.{SinkState, StopsWithin, Takes, TakesAll}
 use Rattle.fleet_run.specs.Text.{line_of, lines_below}

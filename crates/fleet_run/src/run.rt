@@ -18,7 +18,7 @@ use fleet_text::{OutFault, Refusal, TraceOut, put_all, put_memory, put_named, pu
 use thiserror::Error;
 
 /// How a run ends: with no action left, or with actions left and nobody ready.
-#[derive(Clone, Copy, Debug, PartialEq, Eq)]
+#[derive(Clone, Copy)]
 pub enum End {
     Finished,
     Stuck,
@@ -65,7 +65,7 @@ impl Refusal for RunFault {
 }
 
 /// A run that came to its end: its ticks, those in which a ready agent was held, and how it ended.
-#[derive(Clone, Copy, Debug, PartialEq, Eq)]
+#[derive(Clone, Copy)]
 pub struct Ran {
     pub ticks: u32,
     pub held: u32,

@@ -1,12 +1,7 @@
-use Rattle.std.proofs.Common.{◌≡◌, ◌+◌, ◌≤◌, Bool, true, false, cond, ℕ, arith, sym, ap, ◌∙◌, subst}
+use Rattle.std.proofs.Common.{◌≡◌, ◌≤◌, Bool, true, false, cond, ℕ, arith, sym, ◌∙◌}
 use Rattle.std.proofs.lemmas.Result.{err_from_is_err_and}
-use Rattle.fleet_model.specs.Machine.{is_over, is_ready_held, tick}
-use Rattle.fleet_run.specs.Source.{HasNotFailed}
-use Rattle.fleet_run.specs.Text.{line_of, lines_below}
-use Rattle.fleet_text.specs.Sink.{Takes}
-use Rattle.fleet_machine.specs.Machine.{flag_of}
 use Rattle.fleet_run.proofs.Ending.{not_over}
-use Rattle.fleet_run.proofs.UnderWay.{IsUnderWay, few_held, few_ticks, asked, falls, one_tick_on, took_all, line_added, stops_at_sink, stops_asking, unset_after}
+use Rattle.fleet_run.proofs.UnderWay.{few_held, few_ticks, asked, falls, one_tick_on, took_all, line_added, stops_at_sink, stops_asking, unset_after}
 use Rattle.fleet_run.proofs.run.run_lines.Goals as goal
 
 -- what is counted in a tick

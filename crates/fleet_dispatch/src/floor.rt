@@ -3,7 +3,7 @@
 use fleet_text::OutFault;
 
 /// Why no report was heard.
-#[derive(Clone, Copy, Debug, PartialEq, Eq)]
+#[derive(Clone, Copy)]
 pub enum HearFault {
     /// The line is no report.
     Form,

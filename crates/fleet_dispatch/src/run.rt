@@ -26,7 +26,7 @@ use thiserror::Error;
 pub const MOST_REPORTS: u32 = u32::MAX;
 
 /// Why a dispatch stopped before its end. Lines are counted from 1.
-#[derive(Clone, Copy, Debug, PartialEq, Eq, Error)]
+#[derive(Clone, Copy, Debug, Error)]
 pub enum DispatchFault {
     #[error("out of memory")]
     OutOfMemory,
@@ -81,7 +81,7 @@ impl Refusal for DispatchFault {
 }
 
 /// A dispatch after which all stand on their goals: its agents, the actions of its program, and the reports that were taken.
-#[derive(Clone, Copy, Debug, PartialEq, Eq)]
+#[derive(Clone, Copy)]
 pub struct DispatchReport {
     pub agents: u16,
     pub moves: u32,

@@ -1,6 +1,6 @@
 -- Runs of accepted programs.
 use Rattle.std.proofs.Common.{◌≡◌, ◌<◌, ℕ, zero, suc, ◌+◌, ◌++◌, Bool, true, false, cond, Some, None, Option, List, [], take, length, refl, ap, sym, subst, add-one, ◌∙◌, arith, Result, Ok, Err, length-append}
-use Rattle.std.specs.Prelude.{is_err, IfOk}
+use Rattle.std.specs.Prelude.{◌≤◌, is_err, IfOk, IsOk}
 use Rattle.std.specs.Io.KnownBytes.{Appends}
 use Rattle.std.proofs.lemmas.Bool.{or_parts}
 use Rattle.std.proofs.lemmas.List.{take-append-le, ext_get_or}
@@ -13,16 +13,19 @@ use Rattle.fleet_run.specs.declared.run.End.{End}
 use Rattle.fleet_run.specs.declared.run.End.TheVariants.{Finished, Stuck}
 use Rattle.fleet_run.specs.declared.run.RunFault.{RunFault}
 use Rattle.fleet_run.specs.declared.run.RunFault.TheVariants.{OutOfMemory, Source, Hold, Write, HoldLimit}
+use Rattle.fleet_run.specs.declared.run.TheConstants.{MOST_TICKS}
 use Rattle.fleet_run.specs.declared.source.SourceFault.{SourceFault}
 use Rattle.fleet_run.specs.declared.source.SourceFault.TheVariants.{Broken, Text}
 use Rattle.fleet_run.specs.declared.trace.Report.{Report}
-use Rattle.fleet_text.specs.Sink.{SinkState, HasFailed, TakesAll}
-use Rattle.fleet_run.specs.Source.{SourceState}
+use Rattle.fleet_text.specs.Sink.{SinkState, HasFailed, IsWorking, Takes, TakesAll}
+use Rattle.fleet_text.proofs.SinkLemmas.{appends_more}
+use Rattle.fleet_run.specs.declared.run.Ran.{Ran}
+use Rattle.fleet_run.specs.Source.{SourceState, HasNotFailed}
 use Rattle.fleet_run.specs.Text.{line_of, lines_below, trace_closing}
-use Rattle.fleet_run.specs.Outcome.{NeedsTicks, RunsLines, StopsAtSource, run_end}
-use Rattle.fleet_run.specs.Drive.{Drives, IsInTime, trace_from}
+use Rattle.fleet_run.specs.Outcome.{NeedsTicks, RunsLines, RunsToEnd, StopsAtSource, run_end}
+use Rattle.fleet_run.specs.Drive.{Drives, IsDriven, IsInTime, trace_from}
 use Rattle.fleet_model.proofs.Tick.{length-tick, length-run, standing_at_tick}
-use Rattle.fleet_run.proofs.Rehearsed.{within_closing}
+use Rattle.fleet_run.proofs.Rehearsed.{least_at, within_closing}
 
 -- what is not over is not finished
 not_finished : (p : Program) (c : Configuration) → is_over p c ≡ false → is_finished p c ≡ false
@@ -86,6 +89,20 @@ stops_in_trace_closing p chain holds t before mid after (Err x) bytes over lines
     let closing = trace_closing (length p) t chain (held_ticks p holds t) in
     (subst Within (trace_at_end p chain holds t over) (within_closing before.taken mid.taken after.taken (lines_below p holds t) (line_of t (run p holds t)) closing bytes e first took.taken), took.failed)
 
+-- a run to its end, and the closing lines after it
+pub driven : (p : Program) (chain : ℕ) (s s' : SourceState) (o mid o' : SinkState) (agents : ℕ) (r : Ran) → RunsToEnd p s s' o mid r
+    → is_stuck p (run p s.ticks r.ticks) ≡ false → agents ≡ length p → Takes mid o' (trace_closing (length p) r.ticks chain (held_ticks p s.ticks r.ticks))
+    → IsDriven p chain s s' o o' (record { agents = agents; ticks = r.ticks; chain = chain; held = r.held })
+driven p chain s s' o mid o' agents r ran never same took = record {
+  finish = least_at (λ t. is_finished p (run p s.ticks t)) r.ticks (finished_at_end p (run p s.ticks r.ticks) r.end never ran.end) (needed_to_finish p s.ticks r.ticks ran.needed);
+  taken = appends_more o.taken mid.taken o'.taken (lines_below p s.ticks (r.ticks + 1)) (trace_closing (length p) r.ticks chain (held_ticks p s.ticks r.ticks)) ran.taken took.taken;
+  working = took.working;
+  asked = ran.asked;
+  agents = same;
+  the_chain = refl;
+  held = ran.held;
+}
+
 -- a tick in which nobody's count has grown changes nothing
 unmoved : (b : Bool) (s : Standing) (a : Option Action) (t : Standing) → t ≡ cond b (finished_one s a) s → t.count ≡ 0 → s.count ≡ 0 × (t ≡ s)
 unmoved false s a t e none = (rw e at none, e)
@@ -123,3 +140,13 @@ told_in_time p chain s s' o o' c (Ok r) arrive h =
     let high = arrived.in_time in
     record { no_sooner = omega (arith, same, low); in_time = omega (arith, same, held, high) }
 told_in_time p chain s s' o o' c (Err e) arrive h = tt
+
+-- it reports unless the source or the sink has failed, or the source had more ticks than a run takes
+pub told_unless_failed : (p : Program) (chain : ℕ) (s s' : SourceState) (o o' : SinkState) (c : Configuration) (r : Result Report RunFault)
+    → Drives p chain s s' o o' c r → HasNotFailed s' → IsWorking o' → length s.ticks ≤ MOST_TICKS → IsOk r
+told_unless_failed p chain s s' o o' c (Ok r) h calm working short = refl
+told_unless_failed p chain s s' o o' c (Err OutOfMemory) h calm working short = absurd h
+told_unless_failed p chain s s' o o' c (Err (Source n)) h calm working short = let failed = h.3.fault in absurd (cc)
+told_unless_failed p chain s s' o o' c (Err (Hold n)) h calm working short = let failed = h.3.fault in absurd (cc)
+told_unless_failed p chain s s' o o' c (Err Write) h calm working short = let failed = h.2.failed in absurd (cc)
+told_unless_failed p chain s s' o o' c (Err HoldLimit) h calm working short = let limit = h.2.limit in let more = h.2.more in absurd (omega arith)

@@ -10,7 +10,8 @@ use Rattle.fleet_run.specs.Source.{SourceState, HasNotFailed, AreFlagsOf, AsksTi
 use Rattle.fleet_run.specs.declared.source.SourceFault.{SourceFault}
 use Rattle.fleet_run.specs.declared.source.SourceFault.TheVariants.{Broken, Text}
 use Rattle.fleet_run.specs.declared.run.RunFault.{RunFault}
-use Rattle.fleet_run.specs.Outcome.{NeedsTicks, IsAskedFor, StopsAtSink, StopsAtSource, RunsLines, fault_of}
+use Rattle.fleet_run.specs.declared.run.RunFault.TheVariants.{OutOfMemory, Source, Hold, Write, HoldLimit}
+use Rattle.fleet_run.specs.Outcome.{NeedsTicks, IsAskedFor, StopsAtSink, StopsAtSource, AsksNext, RunsLines}
 use Rattle.std.specs.Prelude.{is_err}
 use Rattle.fleet_text.specs.Sink.{SinkState, StopsWithin, Takes, TakesAll}
 use Rattle.fleet_run.specs.Text.{line_of, lines_below}
@@ -226,10 +227,42 @@ asked p ended now after false flags h same = (
   h.3,
 )
 
-pub stops_at_source : (p : Program) (s s' : SourceState) (o o' : SinkState) (c : Configuration) (kind : SourceFault) (t : ℕ) (fault : RunFault)
-    → fault ≡ fault_of kind (t + 1) → c ≡ run p s.ticks t → StopsAtSource is_over p s s' o o' kind t → RunsLines p s s' o o' c (Err fault)
-stops_at_source p s s' o o' c Broken t fault e here h = rw e (t, refl, here, h)
-stops_at_source p s s' o o' c Text t fault e here h = rw e (t, refl, here, h)
+-- the source has failed where it was asked for the next tick
+source_stops : (p : Program) (s now after : SourceState) (o o' : SinkState) (c : Configuration) (t held : ℕ) (ended : Bool) (kind : SourceFault) (flags : List Bool)
+    → IsUnderWay p s now c t held ended → is_over p c ≡ false → Takes o o' (lines_below p s.ticks (t + 1))
+    → AsksTick ended now after (Err kind) flags → StopsAtSource is_over p s after o o' kind t
+source_stops p s now after o o' c t held ended kind flags before goes took h = record {
+  needed = needs_more p s.ticks c t before.here before.needed goes;
+  all = all_asked p s now c t held ended before h.0 h.1;
+  left = h.2;
+  last = sym (before.still_comes h.0) ∙ h.3;
+  kept = h.4 ∙ before.still_comes h.0;
+  fault = h.5;
+  taken = took.taken;
+  working = took.working;
+}
+
+-- a run that stops where it asks for a tick, after the lines of all times so far
+pub stops_asking : (p : Program) (s now after : SourceState) (o o' : SinkState) (c : Configuration) (t held : ℕ) (ended : Bool) (fault : RunFault) (flags : List Bool)
+    → IsUnderWay p s now c t held ended → is_over p c ≡ false → Takes o o' (lines_below p s.ticks (t + 1)) → length flags ≡ length p
+    → AsksNext ended now after t (Err fault) flags → RunsLines p s after o o' c (Err fault)
+stops_asking p s now after o o' c t held ended OutOfMemory flags before goes took same h = h
+stops_asking p s now after o o' c t held ended Write flags before goes took same h = absurd h
+stops_asking p s now after o o' c t held ended (Source n) flags before goes took same h = (t, h.0, before.here, source_stops p s now after o o' c t held ended Broken flags before goes took h.1)
+stops_asking p s now after o o' c t held ended (Hold n) flags before goes took same h = (t, h.0, before.here, source_stops p s now after o o' c t held ended Text flags before goes took h.1)
+stops_asking p s now after o o' c t held ended HoldLimit flags before goes took same h =
+    let next = asked p ended now after true flags h.1 same in (
+      t,
+      before.here,
+      record {
+        limit = h.0;
+        needed = needs_more p s.ticks c t before.here before.needed goes;
+        more = more_than s.ticks now.ticks t before.left_is (next.0.some_left refl);
+        asked = asked_once_more p s now c t held ended before flags true after next.0 goes refl next.1;
+        taken = took.taken;
+        working = took.working;
+      },
+    )
 
 -- a line that the sink took
 pub took_all : {T E : Type 0} (o o' : SinkState) (r : Result T E) (bytes : List ℕ) → TakesAll o o' r bytes → is_err r ≡ false → Takes o o' bytes

@@ -1,5 +1,5 @@
 -- How runs end, and where they stop.
-use Rattle.std.specs.Prelude.{◌≡◌, ℕ, ◌+◌, ◌<◌, ◌≤◌, ◌++◌, Bool, false, List, [], length, take, drop, Option, None, Some, Result, Ok, Err, if◌then◌else◌}
+use Rattle.std.specs.Prelude.{◌≡◌, ◌≢◌, ℕ, ◌+◌, ◌<◌, ◌≤◌, ◌++◌, Bool, true, false, List, [], length, take, drop, Option, None, Some, Result, Ok, Err, if◌then◌else◌}
 use Rattle.std.specs.Io.KnownBytes.{Appends}
 use Rattle.fleet_model.specs.Program.{Program}
 use Rattle.fleet_model.specs.Machine.{Configuration, Holds, run, held_ticks, is_finished, is_stuck, is_over}
@@ -13,7 +13,7 @@ use Rattle.fleet_run.specs.declared.run.RunFault.{RunFault}
 use Rattle.fleet_run.specs.declared.run.RunFault.TheVariants.{OutOfMemory, Source, Hold, Write, HoldLimit}
 use Rattle.fleet_run.specs.Text.{line_of, lines_below}
 use Rattle.fleet_text.specs.Sink.{SinkState, IsWorking, HasFailed}
-use Rattle.fleet_run.specs.Source.{SourceState, HasNotFailed}
+use Rattle.fleet_run.specs.Source.{SourceState, HasNotFailed, AsksTick}
 
 -- how the run has ended at this configuration, if it has
 abbrev pub run_end : Program → Configuration → Option End
@@ -23,6 +23,16 @@ run_end p c = if is_finished p c then Some Finished else (if is_stuck p c then S
 abbrev pub fault_of : SourceFault → ℕ → RunFault
 fault_of Broken tick = Source tick
 fault_of Text tick = Hold tick
+
+-- A run asks its source for the tick after t ticks: whether there was one; or it stops there, since the source has failed, or
+-- gave more ticks than a run takes
+abbrev pub AsksNext : (ended : Bool) (source source' : SourceState) (t : ℕ) → Result Bool RunFault → List Bool → Type 0
+AsksNext ended s s' t (Ok more) flags = AsksTick ended s s' (Ok more) flags × (more ≡ true → t ≢ MOST_TICKS)
+AsksNext ended s s' t (Err OutOfMemory) flags = ⊥
+AsksNext ended s s' t (Err (Source n)) flags = (n ≡ t + 1) × AsksTick ended s s' (Err Broken) flags
+AsksNext ended s s' t (Err (Hold n)) flags = (n ≡ t + 1) × AsksTick ended s s' (Err Text) flags
+AsksNext ended s s' t (Err Write) flags = ⊥
+AsksNext ended s s' t (Err HoldLimit) flags = (t ≡ MOST_TICKS) × AsksTick ended s s' (Ok true) flags
 
 -- a test for the end of a run
 abbrev pub EndTest : Type 0

@@ -56,7 +56,7 @@ pub struct StartRefusal<'g, P: ProgramView> {
 }
 
 /// An agent that is reported to have carried out an order, and had none.
-#[derive(Clone, Copy, Debug, PartialEq, Eq)]
+#[derive(Clone, Copy)]
 pub struct NotSent {
     pub agent: u16,
 }

@@ -20,8 +20,7 @@ fn put_agent(text: &mut Vec<u8>, agent: u16, after: u8) -> Result<(), AllocError
     let mut row = [0; NUMBER];
     let at = write_byte(after, &mut row, NUMBER);
     let at = write_small_number(agent, &mut row, at);
-    text.extend_from_slice(&row[at..])?;
-    Ok(())
+    text.extend_from_slice(&row[at..])
 }
 
 /// Adds the line of the tick that holds these agents.
@@ -29,14 +28,12 @@ fn put_tick(text: &mut Vec<u8>, held: &[u16]) -> Result<(), AllocError>
     ensures { OnOk result (text.new.items ≡ text.old.items ++ tick_line held.now ++ 10 ∷ []) }
 {
     let Some((last, others)) = held.split_last() else {
-        text.extend_from_slice(b"-\n")?;
-        return Ok(());
+        return text.extend_from_slice(b"-\n");
     };
     for agent in others {
         put_agent(text, *agent, b' ')?;
     }
-    put_agent(text, *last, b'\n')?;
-    Ok(())
+    put_agent(text, *last, b'\n')
 }
 
 /// The written form of lists of held agents, each in strictly rising order: a line for each tick, `-` for nobody, or the numbers of

@@ -16,7 +16,7 @@ use fleet_text::{TraceOut, put_all};
 use std::alloc::Global;
 
 /// The numbers of a rehearsal, its agents, its ticks and those in which a ready agent was held, and how it ended.
-#[derive(Clone, Copy, Debug, PartialEq, Eq)]
+#[derive(Clone, Copy)]
 pub struct Rehearsal {
     pub agents: u16,
     pub ticks: u32,

@@ -1,13 +1,13 @@
 //! Runs, line by line.
 
-ghost use Rattle.std.specs.Prelude.{◌≡◌, ◌≤◌};
-ghost use Rattle.fleet_model.specs.Machine.{Configuration, opening};
-ghost use Rattle.fleet_machine.specs.Machine.{Runs};
+ghost use Rattle.std.specs.Prelude.{◌≡◌, ◌<◌, ◌≤◌, length, true, [], if◌then◌else◌};
+ghost use Rattle.fleet_model.specs.Machine.{Configuration, opening, tick, is_ready_held};
+ghost use Rattle.fleet_machine.specs.Machine.{Runs, flag_of};
 ghost use Rattle.fleet_run.specs.Text.{line_of};
 ghost use Rattle.fleet_run.specs.Line.{IsLineKept};
 ghost use Rattle.fleet_text.specs.Sink.{IsWorking, TakesAll};
-ghost use Rattle.fleet_run.specs.Source.{HasNotFailed};
-ghost use Rattle.fleet_run.specs.Outcome.{run_end, fault_of, RunsLines};
+ghost use Rattle.fleet_run.specs.Source.{HasNotFailed, AreFlagsOf};
+ghost use Rattle.fleet_run.specs.Outcome.{run_end, fault_of, AsksNext, RunsLines};
 
 use crate::line::{write_moved, write_places, write_time};
 use crate::source::{HoldSource, SourceFault, ask};
@@ -18,7 +18,7 @@ use fleet_text::{OutFault, Refusal, TraceOut, put_all, put_memory, put_named, pu
 use thiserror::Error;
 
 /// How a run ends: with no action left, or with actions left and nobody ready.
-#[derive(Clone, Copy, Debug, PartialEq, Eq)]
+#[derive(Clone, Copy)]
 pub enum End {
     Finished,
     Stuck,
@@ -65,7 +65,7 @@ impl Refusal for RunFault {
 }
 
 /// A run that came to its end: its ticks, those in which a ready agent was held, and how it ended.
-#[derive(Clone, Copy, Debug, PartialEq, Eq)]
+#[derive(Clone, Copy)]
 pub struct Ran {
     pub ticks: u32,
     pub held: u32,
@@ -119,6 +119,48 @@ fn fault_at(fault: SourceFault, tick: u32) -> RunFault
     }
 }
 
+/// Asks the source for the tick after so many ticks, as `ask` does, and answers whether there was one, or why the run stops there.
+fn next_tick<S: HoldSource>(
+    source: &mut S,
+    has_ended: bool,
+    ticks: u32,
+    flags: &mut [bool],
+) -> Result<bool, RunFault>
+    requires working { HasNotFailed (S.state source.old) }
+    requires ended { has_ended ≡ true → (S.state source.old).ticks ≡ [] }
+    requires unset { has_ended ≡ true → AreFlagsOf [] flags.old }
+    requires few { ticks < 4294967295 }
+    ensures { AsksNext has_ended (S.state source.old) (S.state source.new) ticks result flags.new }
+{
+    match ask(source, has_ended, flags) {
+        Ok(true) if ticks == MOST_TICKS => Err(RunFault::HoldLimit),
+        Ok(more) => Ok(more),
+        Err(fault) => Err(fault_at(fault, ticks + 1)),
+    }
+}
+
+/// One tick, and the places after it in the row. Answers 1 if a ready agent was held, and 0 if not.
+fn tick_row<P: ProgramView>(
+    program: &P,
+    machine: &mut Machine,
+    flags: &[bool],
+    row: &mut [u8],
+    begins: &mut [usize],
+) -> u32
+    requires runs { Runs (P.program program.now) machine.old }
+    requires flags { length flags.now ≡ length (P.program program.now) }
+    requires kept { IsLineKept machine.old.configuration row.old begins.old }
+    ensures runs { Runs (P.program program.now) machine.new }
+    ensures looked { machine.old.looked ≤ machine.new.looked }
+    ensures after { machine.new.configuration ≡ tick (P.program program.now) (flag_of flags.now) machine.old.configuration }
+    ensures held { result ≡ (if is_ready_held (P.program program.now) (flag_of flags.now) machine.old.configuration then 1 else 0) }
+    ensures kept { IsLineKept machine.new.configuration row.new begins.new }
+{
+    let tick = machine.tick(program, flags);
+    write_moved(machine, row, begins);
+    u32::from(tick.ready_held)
+}
+
 /// Runs a program from its start, and writes the line of each time. Takes no memory.
 pub fn run_lines<P: ProgramView, S: HoldSource, O: TraceOut>(
     program: &P,
@@ -150,18 +192,8 @@ pub fn run_lines<P: ProgramView, S: HoldSource, O: TraceOut>(
         if let Some(end) = end_at(program, machine) {
             return Ok(Ran { ticks, held, end });
         }
-        let more = match ask(source, ended, flags) {
-            Ok(more) => more,
-            Err(fault) => return Err(fault_at(fault, ticks + 1)),
-        };
-        if more && ticks == MOST_TICKS {
-            return Err(RunFault::HoldLimit);
-        }
-        let tick = machine.tick(program, flags);
-        write_moved(machine, &mut row, &mut begins);
-        if tick.ready_held {
-            held += 1;
-        }
+        let more = next_tick(source, ended, ticks, flags)?;
+        held += tick_row(program, machine, flags, &mut row, &mut begins);
         ticks += 1;
         ended = !more;
     }

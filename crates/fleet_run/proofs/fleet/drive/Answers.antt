@@ -2,9 +2,10 @@ use Rattle.std.proofs.Common.{◌≡◌, ℕ, arith, [], ◌∙◌, ap, sym, sub
 use Rattle.std.specs.Prelude.{IfOk}
 use Rattle.fleet_grid.specs.Ground.{is_passable}
 use Rattle.fleet_run.specs.Fleet.{IsShown, AreOnGoals}
+use Rattle.fleet_run.specs.Drive.{Drives}
 use Rattle.fleet_model.specs.Run.{Arrives}
 use Rattle.fleet_model.specs.Machine.{opening, standing_at, IsFinish}
-use Rattle.fleet_run.proofs.Driven.{at_opening, told_in_time}
+use Rattle.fleet_run.proofs.Driven.{at_opening, told_in_time, told_unless_failed}
 use Rattle.fleet_run.proofs.Finished.{arrived_if_told, longest_if_told}
 use Rattle.fleet_run.proofs.fleet.drive.Goals as goal
 
@@ -65,3 +66,17 @@ returns-clause-longest g c =
     let p = g.P.ProgramView.program c.fleet.inside.accepted.program in
     let s = g.S.HoldSource.state c.args.source.now in
     rw (← c.fleet.view_is) (longest_if_told (g.P.ProgramView.program c.program.result.now) c.chain-chain.result s _ _ _ c.run_trace.new.machine.configuration c.run_trace.result p c.chain-chain.ensures.accepted.longest c.run_trace.ensures.outcome)
+
+pub returns-clause-reports : goal.returns-clause-reports
+returns-clause-reports g c =
+    told_unless_failed (g.P.ProgramView.program c.program.result.now) c.chain-chain.result (g.S.HoldSource.state c.args.source.now) _ _ _ c.run_trace.new.machine.configuration c.run_trace.result c.run_trace.ensures.outcome
+
+pub returns-clause-outcome : goal.returns-clause-outcome
+returns-clause-outcome g c =
+    let s = g.S.HoldSource.state c.args.source.now in
+    let s' = g.S.HoldSource.state c.run_trace.new.source in
+    let o = g.O.TraceOut.state c.args.out.now in
+    let o' = g.O.TraceOut.state c.run_trace.new.out in
+    let here = c.run_trace.new.machine.configuration in
+    let ran = subst (λ q. Drives (g.P.ProgramView.program q) c.chain-chain.result s s' o o' here c.run_trace.result) c.program.ensures.program c.run_trace.ensures.outcome in
+    rw (← c.fleet.view_is) (subst (λ n. Drives (g.P.ProgramView.program c.fleet.inside.accepted.program) n s s' o o' here c.run_trace.result) c.chain-chain.ensures.chain ran)

@@ -1,4 +1,5 @@
-use Rattle.std.proofs.Common.{◌++◌, [], ◌∷◌, ◌∙◌, sym, ap}
+use Rattle.std.proofs.Common.{◌++◌, [], ◌∷◌, ◌∙◌, sym, ap, Result, Ok, Err}
+use Rattle.std.specs.Prelude.{OnOk}
 use Rattle.std.specs.Fmt.{decimal}
 use Rattle.std.proofs.lemmas.List.{take_all}
 use Rattle.fleet_text.proofs.WrittenLaws.{each_spaced, line_written}
@@ -6,11 +7,19 @@ use Rattle.fleet_run.specs.HoldText.{tick_line}
 use Rattle.fleet_run.proofs.HoldsWritten.{last_written}
 use Rattle.fleet_run.proofs.hold_writing.put_tick.Goals as goal
 
+-- what follows from a success
+on_ok : {T E : Type 0} (r : Result T E) (P Q : Type 0) → (P → Q) → OnOk r P → OnOk r Q
+on_ok (Ok x) P Q f h = f h
+on_ok (Err e) P Q f h = tt
+
 pub returns : goal.returns
 returns c =
     let before = c.args.text.now.items in
     let others = c.in-Some.others.now in
     let last = c.in-Some.last.now in
     let all = take_all c.loop-agent.agent-index others c.loop-agent-test.false in
-    line_written decimal before c.loop-agent.text.items _ others last (c.loop-agent.invariant ∙ ap (λ agents. before ++ each_spaced decimal agents) all) c.in_ok-put_agent-2.ensures
-    ∙ ap (λ line. before ++ line ++ 10 ∷ []) (last_written others last ∙ ap tick_line (sym c.in-Some.ensures.cases.0))
+    on_ok c.put_agent-2.result _ _
+    (λ put.
+    line_written decimal before c.loop-agent.text.items _ others last (c.loop-agent.invariant ∙ ap (λ agents. before ++ each_spaced decimal agents) all) put
+    ∙ ap (λ line. before ++ line ++ 10 ∷ []) (last_written others last ∙ ap tick_line (sym c.in-Some.ensures.cases.0)))
+    c.put_agent-2.ensures

@@ -10,3 +10,6 @@ returns-clause-read c = λ n small below.
     let all = take_all c.loop-held.held-index rows c.loop-held-test.false in
     let text = c.loop-held.invariant ∙ ap (λ rows. holds_text (map (λ row. row.items) rows)) all in
     ap (text_source n) text ∙ rows_again (λ row. row.items) n rows small c.requires.rising below
+
+pub returns-clause-text : goal.returns-clause-text
+returns-clause-text c = c.loop-held.invariant ∙ ap (λ rows. holds_text (map (λ row. row.items) rows)) (take_all c.loop-held.held-index c.args.holds.now c.loop-held-test.false)

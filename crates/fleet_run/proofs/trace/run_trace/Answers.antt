@@ -1,9 +1,11 @@
-use Rattle.std.proofs.Common.{◌≡◌, length, arith, sym, ◌∙◌, ap, drop}
+use Rattle.std.proofs.Common.{◌≡◌, length, arith, sym, subst, ◌∙◌, ap, drop}
+use Rattle.fleet_text.specs.Sink.{Takes}
+use Rattle.fleet_run.proofs.UnderWay.{took_all}
 use Rattle.fleet_run.specs.Text.{trace_closing}
 use Rattle.fleet_model.specs.Machine.{run, held_ticks}
 use Rattle.std.proofs.lemmas.Result.{err_from_is_err_and}
 use Rattle.fleet_run.proofs.Rehearsed.{rest_of_row}
-use Rattle.fleet_run.proofs.Driven.{drives_so, finished_at_end, stops_in_trace_closing, needed_to_finish}
+use Rattle.fleet_run.proofs.Driven.{driven, drives_so, finished_at_end, stops_in_trace_closing, needed_to_finish}
 use Rattle.fleet_run.proofs.trace.run_trace.Goals as goal
 
 pub returns-in_err-ran-clause-outcome : goal.returns-in_err-ran-clause-outcome
@@ -32,3 +34,18 @@ returns-then-is_err-clause-outcome g c =
         failed = stops.1;
       },
     )
+
+pub returns-clause-outcome : goal.returns-clause-outcome
+returns-clause-outcome g c =
+    let p = g.P.ProgramView.program c.args.program.now in
+    let s = g.S.HoldSource.state c.args.source.now in
+    let mid = g.O.TraceOut.state c.run_lines.new.out in
+    let after = g.O.TraceOut.state c.put_all.new.out in
+    let here = c.in_ok-ran.ensures.lines.0 in
+    let ran = c.in_ok-ran.ensures.lines.1 in
+    let r = c.in_ok-ran.ran in
+    let closing : drop c.write_trace_closing-at.result c.write_trace_closing-at.new.row ≡ trace_closing (length p) r.ticks c.args.chain (held_ticks p s.ticks r.ticks) =
+    c.write_trace_closing-at.ensures.written ∙ (ap (λ n. trace_closing n r.ticks c.args.chain r.held) c.agents-agents.ensures.count ∙ ap (trace_closing (length p) r.ticks c.args.chain) ran.held) in
+    let whole = rest_of_row c.write_trace_closing-at.new.row 100 c.write_trace_closing-at.result (omega arith) in
+    let took = took_all mid after c.put_all.result _ c.put_all.ensures (sym c.is_err.ensures.value ∙ c.if-is_err.false) in
+    (here, driven p c.args.chain s (g.S.HoldSource.state c.run_lines.new.source) (g.O.TraceOut.state c.args.out.now) mid after c.agents-agents.result r ran (c.requires.shown.never_stuck s.ticks r.ticks) c.agents-agents.ensures.count (subst (λ bytes. Takes mid after bytes) (whole ∙ closing) took))

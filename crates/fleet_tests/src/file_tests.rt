@@ -1,77 +1,59 @@
 //! Stores that fail at each read and write of each command.
 
-use crate::commands::status_of;
-use fleet_dispatch::StreamFloor;
-use fleet_fixtures::streams::FailingFiles;
-use fleet_fixtures::table::{parted, rows, text_of};
-use fleet_fixtures::worked::worked_files;
+use crate::commands::answer_of;
+use crate::streams::FailingFiles;
+use crate::table::{parted, rows};
+use crate::worked::worked_files;
 use fleet_io::FileFault;
-use fleet_run::VecOut;
 use std::alloc::Global;
 use std::process::Abort;
+use std::str;
 use std::test::Fail;
 
 /// What the file `out` holds before a command writes it.
 const KEPT: &[u8] = b"kept\n";
 
-/// What a command prints, its line on standard error, its status, and the bytes of the file `out` after it, if so many reads and writes succeed and the next one
-/// fails so.
-fn told_after(
-    alloc: Global,
-    line: &[u8],
-    left: u8,
-    fault: FileFault,
-) -> Result<(VecOut, VecOut, Option<u8>, Vec<u8>), Fail> {
-    let mut files = worked_files(alloc).ok_or("memory")?;
-    files.put("out", KEPT)?;
-    let mut files = FailingFiles { files, left, fault };
-    let mut floor = StreamFloor::new(b"".as_slice(), VecOut::new(alloc));
-    let mut out = VecOut::new(alloc);
-    let mut err = VecOut::new(alloc);
-    let status = status_of(alloc, line, &mut floor, &mut files, &mut out, &mut err);
-    let kept = files.files.get("out").unwrap_or(b"").to_vec(alloc)?;
-    Ok((out, err, status, kept))
-}
-
-/// The next read or write fails so, which is reported by this line; nothing is printed, and the file `out` is as it was.
-fn expect_failed(
+/// If so many reads and writes succeed and the next one fails so, the command says why, prints nothing, and leaves the file `out` as it was; if nothing
+/// is due on standard error, all succeed.
+fn expect_told(
     rt: &impl Abort,
     alloc: Global,
     line: &[u8],
-    left: u8,
-    fault: FileFault,
+    (left, fault): (usize, FileFault),
     told: &[u8],
 ) -> Result<(), Fail> {
-    let (out, err, status, kept) = told_after(alloc, line, left, fault)?;
-    assert_eq!(rt; err.bytes(), told, "{left}");
-    assert_eq!(rt; status, Some(3));
-    assert!(rt; out.bytes().is_empty());
-    assert_eq!(rt; kept.as_slice(), KEPT);
+    let mut files = worked_files(alloc).ok_or("memory")?;
+    files.put("out", KEPT)?;
+    let mut files = FailingFiles { files, left, fault };
+    let answer = answer_of(alloc, line, b"", &mut files).ok_or("memory")?;
+    let fails = !told.is_empty();
+    let is_kept = files.files.get("out") == Some(KEPT);
+    let due = (
+        if fails { 3 } else { 0 },
+        fails,
+        fails || !line.ends_with(b" out"),
+    );
+    let is_silent = answer.printed.bytes().is_empty();
+    assert_eq!(rt; answer.told.bytes(), told, "{left}");
+    assert_eq!(rt;
+        (answer.status, is_silent, is_kept),
+        due,
+        "{left}: {line:?}"
+    );
     Ok(())
 }
 
 /// The files of these names are read and written in this order, and each that fails is reported, by its name or as want of memory. If none
 /// fails, the command is done.
 fn expect_order(rt: &impl Abort, alloc: Global, line: &[u8], names: &[u8]) -> Result<(), Fail> {
-    let mut left = 0u8;
-    let mut rest = names;
-    for _ in 0..names.len() {
-        if rest.is_empty() {
-            break;
-        }
-        let (name, after) = parted(rest, b' ');
-        let name = text_of(alloc, name)?;
+    let mut left = 0usize;
+    for name in str::from_utf8(names)?.split_whitespace() {
         let told = format!(in alloc; "file {name}\n")?;
-        expect_failed(rt, alloc, line, left, FileFault::Failed, told.as_bytes())?;
-        expect_failed(rt, alloc, line, left, FileFault::OutOfMemory, b"memory\n")?;
+        expect_told(rt, alloc, line, (left, FileFault::Failed), told.as_bytes())?;
+        expect_told(rt, alloc, line, (left, FileFault::OutOfMemory), b"memory\n")?;
         left = left.saturating_add(1);
-        rest = after;
     }
-    let (out, err, status, kept) = told_after(alloc, line, left, FileFault::Failed)?;
-    assert_eq!(rt; (status, out.bytes().is_empty()), (Some(0), false));
-    assert!(rt; err.bytes().is_empty());
-    assert_eq!(rt; kept.as_slice() != KEPT, names.ends_with(b" out"));
-    Ok(())
+    expect_told(rt, alloc, line, (left, FileFault::Failed), b"")
 }
 
 /// Each command, and the files that it reads and writes.

@@ -1,27 +1,30 @@
-//! A large fleet on its whole way: no clause says that memory suffices for one.
+//! A train: 128 agents in a row of 256 cells, each behind the one before, that go 128 cells east. No clause says that memory suffices for as many.
 
-use crate::commands::expect_over;
-use fleet_fixtures::train::train_files;
-use std::alloc::Global;
+use crate::commands::expect;
+use fleet_files::MemFiles;
+use std::alloc::{AllocError, Global};
 use std::test::Fail;
 
-/// The trace of the train, in which each goes once the one before it has made room: agent k is k ticks late.
-fn train_trace(alloc: Global) -> Result<String, Fail> {
-    let mut text = String::new(alloc);
-    for tick in 0..256u16 {
-        write!(text, "{tick}:")?;
-        for k in 0..128u16 {
-            write!(text, " {},0", 127 - k + tick.saturating_sub(k).min(128))?;
-        }
-        text.push('\n')?;
+/// Agent k goes from column 127 - k to column 255 - k.
+fn train(alloc: Global) -> Result<String, AllocError> {
+    let mut text = String::from_str(alloc, "version 1\n")?;
+    for k in 0..128u16 {
+        write!(text, "0 m 256 1 {} 0 {} 0 128\n", 127 - k, 255 - k)?;
     }
-    text.push_str("agents 128\nticks 255\nchain 255\nheld 0\n")?;
     Ok(text)
 }
 
+/// All go at once in the plan; in the run each goes once the one before it has made room, so that agent k is k ticks late.
 const WAY: &[u8] = br"
+: map
+type octile
+height 1
+width 256
+map
+................................................................................................................................\
+................................................................................................................................
 $ fleet plan map scen
-@ plan
+> plan
 $ fleet plan map scen --horizon 127
 ! search 2 NoPath agent 0
 ? 1
@@ -45,14 +48,18 @@ awaits 16256
 awaits 16256
 = out program
 $ fleet run map scen out
-@ trace
+> trace
+agents 128
+ticks 255
+chain 255
+held 0
 $ fleet auto map scen
 @ trace
 ";
 
 #[test]
 fn a_train_on_its_whole_way(rt: HostRuntime) -> Result<(), Fail> {
-    let mut files = train_files(rt.alloc()).ok_or("memory")?;
-    files.put("trace", train_trace(rt.alloc())?.as_bytes())?;
-    expect_over(&rt, rt.alloc(), &mut files, WAY)
+    let mut files = MemFiles::new(rt.alloc());
+    files.put("scen", train(rt.alloc())?.as_bytes())?;
+    expect(&rt, rt.alloc(), &mut files, WAY)
 }

@@ -1,35 +1,29 @@
-//! Tests of whole commands: what they print, tell and write, and files and streams that fail.
+//! Tests of all crates, through their public functions: tables and transcripts, and ends that fail. Without its tests the crate has nothing.
 #![tactic(auto)]
 
 #[cfg(test)]
-mod auto_tests;
-#[cfg(test)]
-mod check_tests;
-#[cfg(test)]
-mod command_tests;
-#[cfg(test)]
 mod commands;
 #[cfg(test)]
-mod compile_tests;
-#[cfg(test)]
-mod dispatch_tests;
-#[cfg(test)]
 mod file_tests;
-#[cfg(test)]
-mod hex_tests;
 #[cfg(test)]
 mod large_tests;
 #[cfg(test)]
 mod memory_tests;
 #[cfg(test)]
-mod migrate_tests;
+mod planning_tests;
 #[cfg(test)]
-mod plan_tests;
+mod readers;
 #[cfg(test)]
-mod program_tests;
+mod reading_tests;
 #[cfg(test)]
-mod refusal_tests;
+mod run_tests;
 #[cfg(test)]
 mod stream_tests;
 #[cfg(test)]
-mod thin_tests;
+mod streams;
+#[cfg(test)]
+mod table;
+#[cfg(test)]
+mod transcripts;
+#[cfg(test)]
+mod worked;

@@ -1,80 +1,70 @@
 //! Commands where memory is refused. `rt try --test --fail-alloc N` refuses the N-th growth of the test, and that one alone: so of two
 //! tries one answers as it should.
 
-use crate::commands::status_of;
-use fleet_dispatch::StreamFloor;
-use fleet_files::MemFiles;
-use fleet_fixtures::table::{parted, text_of, unescaped};
-use fleet_fixtures::worked::{worked, worked_files};
-use fleet_run::{TraceOut, VecOut};
+use crate::commands::{Answer, answer_of};
+use crate::table::parted;
+use crate::worked::{worked, worked_files};
+use fleet_run::TraceOut;
 use fleet_text::Cursor;
 use std::alloc::Global;
-use std::process::Abort;
 
-/// The text of a field: behind `@` a file, and else what the field stands for.
-fn text_at(alloc: Global, files: &MemFiles, field: &[u8]) -> Option<Vec<u8>> {
-    match field.split_first() {
-        Some((b'@', name)) => files.get(&text_of(alloc, name).ok()?)?.to_vec(alloc).ok(),
-        _ => unescaped(alloc, field).ok(),
+/// The line of want of memory.
+const WANT: &[u8] = b"memory\n";
+
+/// What the command of a row answers. None without memory for its files.
+fn tried(alloc: Global, row: &[u8]) -> Option<Answer> {
+    let (line, input) = parted(row, b'|');
+    let input = worked(alloc, input)?;
+    answer_of(alloc, line, &input, &mut worked_files(alloc)?)
+}
+
+/// Whether the first answer lacked memory, and the second is whole. Memory lacked before anything was printed; or for the printed text, or for the text on
+/// standard error, which are in memory here.
+fn is_cut(answer: &Answer, whole: &Answer) -> bool {
+    let (printed, told) = (answer.printed.bytes(), answer.told.bytes());
+    let (all, line) = (whole.printed.bytes(), whole.told.bytes());
+    let is_lacking = match told {
+        b"memory\n" => answer.status == 3 && printed.is_empty(),
+        b"run 4 Write\n" | b"dispatch 5 Write\n" | b"file -\n" => {
+            answer.status == 3 && answer.printed.failed() && all.starts_with(printed)
+        }
+        _ => answer.status == whole.status && answer.told.failed() && line.starts_with(told),
+    };
+    is_lacking && line != WANT
+}
+
+/// Whether both answers are whole and the same, or one of them lacked memory.
+fn are_due(first: Option<Answer>, second: Option<Answer>) -> bool {
+    match (first, second) {
+        (Some(one), Some(two)) => {
+            let is_same = one.status == two.status
+                && one.printed.bytes() == two.printed.bytes()
+                && one.told.bytes() == two.told.bytes();
+            is_same && one.told.bytes() != WANT || is_cut(&one, &two) || is_cut(&two, &one)
+        }
+        (Some(whole), None) | (None, Some(whole)) => whole.told.bytes() != WANT,
+        (None, None) => false,
     }
 }
 
-/// Whether the command prints this, and reports that. If not, it was refused for want of memory, before anything was printed; or an output, which is in
-/// memory here, could not grow, of which that of the printed text is reported by the line `lost`. None without memory for its files.
-fn answers(
-    rt: &impl Abort,
-    alloc: Global,
-    line: &[u8],
-    (printed, told, lost): (&[u8], &[u8], &[u8]),
-) -> Option<bool> {
-    let mut files = worked_files(alloc)?;
-    let hex = worked(alloc, "pair.hex")?;
-    let printed = text_at(alloc, &files, printed)?;
-    let mut floor = StreamFloor::new(hex.as_slice(), VecOut::new(alloc));
-    let mut out = VecOut::new(alloc);
-    let mut err = VecOut::new(alloc);
-    let status = status_of(alloc, line, &mut floor, &mut files, &mut out, &mut err)?;
-    let said = parted(err.bytes(), b'\n').0;
-    if out.failed() {
-        assert!(rt;
-            status == 3 && said == lost && printed.starts_with(out.bytes()),
-            "{line:?}"
-        );
-        return Some(false);
-    }
-    if status == 3 {
-        assert!(rt;
-            out.bytes().is_empty() && said == b"memory".as_slice(),
-            "{line:?}"
-        );
-        return Some(false);
-    }
-    assert_eq!(rt; out.bytes(), printed.as_slice(), "{line:?}");
-    assert_eq!(rt; status, u8::from(!told.is_empty()), "{line:?}");
-    if err.failed() {
-        return Some(false);
-    }
-    assert_eq!(rt; said, told, "{line:?}");
-    Some(true)
-}
-
-/// Commands, what they print, the line that they report, and the line that they report if the output fails.
-const ROWS: &[u8] = br"|@pair.text||run 4 Write
-rehearse pair.program --holds one.holds|@held.text||run 4 Write
-rehearse pair.map||load 2 Magic|run 4 Write
-instance pair.map pair.scen|map 4 1\nground 4\nagents 2\n0: 1,0 3,0\n1: 0,0 2,0\n||file -
-plan pair.map pair.scen|@pair.plan||file -
-check pair.map pair.scen pair.plan|conflict-free\nagents 2\nsteps 2\n||file -
-compile pair.map pair.scen pair.plan out|agents 2\nmoves 4\nawaits 2\nbytes 40\n||file -
-list pair.program|@pair.list||file -
-verify pair.map pair.scen pair.program|accepted\nagents 2\nmoves 4\nawaits 2\nchain 3\n||file -
-verify pair.map pair.scen soon.program|0\n|verify 8 Unordered cell 1,0 first 0:0 second 1:1|file -
-run pair.map pair.scen pair.program --holds one.holds|@held.trace||run 4 Write
-auto pair.map pair.scen --holds one.holds|@held.trace||run 4 Write
-thin pair.map pair.scen pair.program out|awaits 2\nawaits 2\n||file -
-instance pair.map pair.scen --agents 3||scen 11 Fewer|file -
-migrate pair.program out|bytes 48\n||file -
-migrate pair.map out||load 2 Magic|file -";
+/// Commands, each with the file that it is given.
+const ROWS: &[u8] = br"|pair.hex
+rehearse pair.program --holds one.holds|pair.hex
+rehearse pair.map|pair.hex
+instance pair.map pair.scen|pair.hex
+plan pair.map pair.scen|pair.hex
+check pair.map pair.scen pair.plan|pair.hex
+compile pair.map pair.scen pair.plan out|pair.hex
+list pair.program|pair.hex
+verify pair.map pair.scen pair.program|pair.hex
+verify pair.map pair.scen soon.program|pair.hex
+run pair.map pair.scen pair.program --holds one.holds|pair.hex
+auto pair.map pair.scen --holds one.holds|pair.hex
+thin pair.map pair.scen pair.program out|pair.hex
+instance pair.map pair.scen --agents 3|pair.hex
+migrate pair.program out|pair.hex
+migrate pair.map out|pair.hex
+dispatch pair.map pair.scen pair.program|pair.reports";
 
 #[test]
 fn only_memory_may_be_refused(rt: HostRuntime) {
@@ -83,15 +73,8 @@ fn only_memory_may_be_refused(rt: HostRuntime) {
         let Some(row) = lines.next_line() else {
             break;
         };
-        let (line, rest) = parted(row, b'|');
-        let (printed, rest) = parted(rest, b'|');
-        let (told, lost) = parted(rest, b'|');
-        let texts = (printed, told, lost);
-        let first = answers(&rt, rt.alloc(), line, texts);
-        assert!(rt;
-            first == Some(true) || answers(&rt, rt.alloc(), line, texts) == Some(true),
-            "{line:?}"
-        );
+        let first = tried(rt.alloc(), row);
+        assert!(rt; are_due(first, tried(rt.alloc(), row)), "{row:?}");
     }
     assert!(rt; lines.next_line().is_none());
 }

@@ -1,104 +1,167 @@
-//! Inputs and outputs that fail in midstream, or that take all that is written and then refuse to hand it on.
+//! Inputs and outputs that fail in midstream, outputs that take all that is written and then refuse to hand it on, and in how many pieces a line is written.
 
 use crate::commands::status_of;
+use crate::streams::{ShortReader, ShortWriter};
+use crate::table::{parted, rows};
+use crate::worked::{worked, worked_files};
 use fleet_dispatch::StreamFloor;
-use fleet_fixtures::streams::{Buffer, Failing, ShortReader, short_writer};
-use fleet_fixtures::table::{parted, rows, text_of};
-use fleet_fixtures::worked::{worked, worked_files};
+use fleet_files::MemFiles;
+use fleet_io::Fault;
+use fleet_model::ActionId;
 use fleet_run::{VecOut, WriteOut};
 use fleet_text::small_number_of;
+use fleet_verify::VerifyFault;
 use std::alloc::Global;
-use std::io::{Read, Write};
+use std::io::{ErrorKind, Read};
 use std::process::Abort;
 use std::test::Fail;
 
-/// The text on standard error of the words over this input and this output, and the status.
-fn told_over<R: Read + Drop, W: Write + Drop>(
-    alloc: Global,
-    line: &[u8],
-    input: R,
-    output: W,
-) -> Option<(VecOut, u8)> {
-    let mut files = worked_files(alloc)?;
-    let mut floor = StreamFloor::new(input, VecOut::new(alloc));
-    let mut out = WriteOut::new(output);
-    let mut err = VecOut::new(alloc);
-    let status = status_of(alloc, line, &mut floor, &mut files, &mut out, &mut err)?;
-    Some((err, status))
+/// The ways in which a stream fails: it takes nothing more, or answers an error.
+const WAYS: [Option<ErrorKind>; 3] = [
+    None,
+    Some(ErrorKind::Interrupted),
+    Some(ErrorKind::BrokenPipe),
+];
+
+/// A writer that takes so many bytes, one at a time, can be flushed so many times, and then fails so.
+fn writer(alloc: Global, room: usize, flushes: u16, failing: Option<ErrorKind>) -> ShortWriter {
+    ShortWriter {
+        bytes: Vec::new(alloc),
+        room,
+        most: 1,
+        flushes,
+        failing,
+        calls: 0,
+    }
 }
 
-/// An output that fails so after some bytes, however many, has taken these of the text, and the command reports it by this line. An output that has taken all
-/// does not hand it on.
-fn expect_cut(
+/// A reader that gives these bytes, and then fails so, or ends.
+fn reader(rest: &[u8], failing: Option<ErrorKind>) -> ShortReader<'_> {
+    ShortReader { rest, failing }
+}
+
+/// A command, the line that it reports first on standard error, and its status.
+#[derive(Clone, Copy)]
+struct Due<'a> {
+    line: &'a [u8],
+    told: &'a [u8],
+    status: u16,
+}
+
+/// The command does what is due over this input and this output, which takes the orders of a dispatch, and what each other command prints.
+fn expect_told<R: Read + Drop>(
     rt: &impl Abort,
     alloc: Global,
-    line: &[u8],
-    text: &[u8],
-    failing: Failing,
-    told: &[u8],
-) -> Result<(), Fail> {
-    let hex = worked(alloc, "pair.hex").ok_or("no such file")?;
-    for room in 0..=text.len() {
-        let mut taken = Vec::new(alloc);
-        let writer = short_writer(&mut taken, room, failing);
-        let (err, status) = told_over(alloc, line, hex.as_slice(), writer).ok_or("memory")?;
-        assert_eq!(rt; (parted(err.bytes(), b'\n').0, status), (told, 3), "{room}");
-        assert_eq!(rt; Some(taken.as_slice()), text.get(..room), "{room}");
-    }
-    Ok(())
+    files: &mut MemFiles,
+    due: Due<'_>,
+    input: R,
+    output: &mut ShortWriter,
+) {
+    let Due { line, told, status } = due;
+    let mut err = VecOut::new(alloc);
+    let answered = if line.starts_with(b"dispatch") {
+        let mut floor = StreamFloor::new(input, WriteOut::new(output));
+        let mut out = VecOut::new(alloc);
+        status_of(alloc, line, &mut floor, files, &mut out, &mut err)
+    } else {
+        let mut floor = StreamFloor::new(input, VecOut::new(alloc));
+        let mut out = WriteOut::new(output);
+        status_of(alloc, line, &mut floor, files, &mut out, &mut err)
+    };
+    assert_eq!(rt; parted(err.bytes(), b'\n').0, told, "{line:?}");
+    assert_eq!(rt; answered.map(u16::from), Some(status), "{line:?}");
 }
 
-/// Commands, the file that they print, and the line that they report if that cannot be written.
+/// The number that the text spells.
+fn number(text: &[u8]) -> u16 {
+    small_number_of(text).unwrap_or(u16::MAX)
+}
+
+/// Commands, the file that they are given, how often they flush their output before the last time, the file that they print, and the line that they report if
+/// that cannot be written.
 const CUT: &[u8] = br"
-|pair.text|run 4 Write
-rehearse pair.program|pair.text|run 4 Write
-run pair.map pair.scen pair.program|pair.trace|run 4 Write
-auto pair.map pair.scen|pair.trace|run 4 Write
-list pair.program|pair.list|file -
-plan pair.map pair.scen|pair.plan|file -
+|pair.hex|0|pair.text|run 4 Write
+rehearse pair.program|pair.hex|0|pair.text|run 4 Write
+run pair.map pair.scen pair.program|pair.hex|0|pair.trace|run 4 Write
+auto pair.map pair.scen|pair.hex|0|pair.trace|run 4 Write
+list pair.program|pair.hex|0|pair.list|file -
+plan pair.map pair.scen|pair.hex|0|pair.plan|file -
+dispatch pair.map pair.scen pair.program|pair.reports|3|pair.orders|dispatch 5 Write
 ";
 
-#[test]
-fn outputs_fail_after_some_bytes(rt: HostRuntime) -> Result<(), Fail> {
-    let alloc = rt.alloc();
-    for row in &rows(alloc, CUT)? {
-        let (line, rest) = parted(row, b'|');
-        let (name, told) = parted(rest, b'|');
-        let text = worked(alloc, &text_of(alloc, name)?).ok_or("no such file")?;
-        for failing in [Failing::IsFull, Failing::IsInterrupted, Failing::IsBroken] {
-            expect_cut(&rt, alloc, line, &text, failing, told)?;
+/// An output that fails after some bytes, however many and in each way, has taken these of the text, and the command says why. An output that has taken all
+/// does not hand it on.
+fn expect_cut(rt: &impl Abort, alloc: Global, row: &[u8]) -> Result<(), Fail> {
+    let (line, rest) = parted(row, b'|');
+    let (input, rest) = parted(rest, b'|');
+    let (flushes, rest) = parted(rest, b'|');
+    let (text, told) = parted(rest, b'|');
+    let input = worked(alloc, input).ok_or("no such file")?;
+    let text = worked(alloc, text).ok_or("no such file")?;
+    let mut files = worked_files(alloc).ok_or("memory")?;
+    let due = Due {
+        line,
+        told,
+        status: 3,
+    };
+    for failing in WAYS {
+        for room in 0..=text.len() {
+            let mut output = writer(alloc, room, number(flushes), failing);
+            let reader = reader(&input, None);
+            expect_told(rt, alloc, &mut files, due, reader, &mut output);
+            assert_eq!(rt; Some(output.bytes.as_slice()), text.get(..room), "{room}");
         }
     }
     Ok(())
 }
 
-/// How often an output can be flushed, a command, the first line that it reports, and its status. If nothing was written, there is nothing to hand on.
+#[test]
+fn outputs_fail_after_some_bytes(rt: HostRuntime) -> Result<(), Fail> {
+    for row in &rows(rt.alloc(), CUT)? {
+        expect_cut(&rt, rt.alloc(), row)?;
+    }
+    Ok(())
+}
+
+/// How often an output can be flushed, a command, the file that it is given, the first line that it reports, and its status. If nothing was written, there is
+/// nothing to hand on.
 const FLUSHED: &[u8] = br"
-0|rehearse pair.program|run 4 Write|3
-1|rehearse pair.program||0
-0|rehearse pair.program --holds wrong.holds|run 4 Write|3
-1|rehearse pair.program --holds wrong.holds|run 3 Hold line 3|1
-0|rehearse pair.map|load 2 Magic|1
-0|auto pair.map pair.scen|run 4 Write|3
-1|auto pair.map pair.scen||0
-0|auto pair.map pair.scen --holds wrong.holds|run 4 Write|3
-1|auto pair.map pair.scen --holds wrong.holds|run 3 Hold line 3|1
-0|auto pair.map pair.scen --horizon 1|search 2 NoPath agent 0|1
-0|instance pair.map pair.scen|file -|3
-1|instance pair.map pair.scen||0
-0|--help|file -|3
-1|--help||0
+0|rehearse pair.program|pair.hex|run 4 Write|3
+1|rehearse pair.program|pair.hex||0
+0|rehearse pair.program --holds wrong.holds|pair.hex|run 4 Write|3
+1|rehearse pair.program --holds wrong.holds|pair.hex|run 3 Hold line 3|1
+0|rehearse pair.map|pair.hex|load 2 Magic|1
+0|auto pair.map pair.scen|pair.hex|run 4 Write|3
+1|auto pair.map pair.scen|pair.hex||0
+0|auto pair.map pair.scen --holds wrong.holds|pair.hex|run 4 Write|3
+1|auto pair.map pair.scen --holds wrong.holds|pair.hex|run 3 Hold line 3|1
+0|auto pair.map pair.scen --horizon 1|pair.hex|search 2 NoPath agent 0|1
+0|instance pair.map pair.scen|pair.hex|file -|3
+1|instance pair.map pair.scen|pair.hex||0
+0|--help|pair.hex|file -|3
+1|--help|pair.hex||0
+0|dispatch pair.map pair.scen pair.program|pair.reports|dispatch 5 Write|3
+1|dispatch pair.map pair.scen pair.program|pair.reports|dispatch 5 Write|3
+2|dispatch pair.map pair.scen pair.program|pair.reports|dispatch 5 Write|3
+4|dispatch pair.map pair.scen pair.program|pair.reports||0
 ";
 
 /// One row of the table.
 fn expect_flushed(rt: &impl Abort, alloc: Global, row: &[u8]) -> Result<(), Fail> {
-    let (left, rest) = parted(row, b'|');
+    let (flushes, rest) = parted(row, b'|');
     let (line, rest) = parted(rest, b'|');
-    let (told, wanted) = parted(rest, b'|');
-    let left = (small_number_of(left).unwrap_or(255) & 255) as u8;
-    let (err, status) = told_over(alloc, line, b"".as_slice(), Buffer { left }).ok_or("memory")?;
-    assert_eq!(rt; parted(err.bytes(), b'\n').0, told, "{row:?}");
-    assert_eq!(rt; Some(u16::from(status)), small_number_of(wanted), "{row:?}");
+    let (input, rest) = parted(rest, b'|');
+    let (told, status) = parted(rest, b'|');
+    let input = worked(alloc, input).ok_or("no such file")?;
+    let mut files = worked_files(alloc).ok_or("memory")?;
+    let mut output = writer(alloc, usize::MAX, number(flushes), None);
+    let due = Due {
+        line,
+        told,
+        status: number(status),
+    };
+    let reader = reader(&input, None);
+    expect_told(rt, alloc, &mut files, due, reader, &mut output);
     Ok(())
 }
 
@@ -110,84 +173,65 @@ fn outputs_are_flushed(rt: HostRuntime) -> Result<(), Fail> {
     Ok(())
 }
 
+/// Commands, the file that they are given, and the line that they report and their status if nothing can be read after it.
+const UNREAD: &[u8] = br"
+|pair.hex|file -|3
+dispatch pair.map pair.scen pair.program|pair.reports||0
+";
+
+/// An input that fails after some bytes, however many, is reported.
+fn expect_unread(rt: &impl Abort, alloc: Global, row: &[u8]) -> Result<(), Fail> {
+    let (line, rest) = parted(row, b'|');
+    let (input, rest) = parted(rest, b'|');
+    let (told, status) = parted(rest, b'|');
+    let input = worked(alloc, input).ok_or("no such file")?;
+    let mut files = worked_files(alloc).ok_or("memory")?;
+    for failing in [ErrorKind::Interrupted, ErrorKind::BrokenPipe] {
+        for len in 0..=input.len() {
+            let is_whole = len == input.len();
+            let due = Due {
+                line,
+                told: if is_whole { told } else { b"file -" },
+                status: if is_whole { number(status) } else { 3 },
+            };
+            let reader = reader(input.get(..len).unwrap_or(b""), Some(failing));
+            let mut output = writer(alloc, usize::MAX, 9, None);
+            expect_told(rt, alloc, &mut files, due, reader, &mut output);
+        }
+    }
+    Ok(())
+}
+
+/// .. and a report without an end is heard up to a length: it takes no memory.
 #[test]
 fn inputs_fail_after_some_bytes(rt: HostRuntime) -> Result<(), Fail> {
     let alloc = rt.alloc();
-    let hex = worked(alloc, "pair.hex").ok_or("no such file")?;
-    for failing in [Failing::IsInterrupted, Failing::IsBroken] {
-        for len in 0..=hex.len() {
-            let rest = hex.get(..len).unwrap_or(b"");
-            let input = ShortReader { rest, failing };
-            // Nothing is written: it could not be flushed.
-            let (err, status) = told_over(alloc, b"", input, Buffer { left: 0 }).ok_or("memory")?;
-            assert_eq!(rt; (err.bytes(), status), (b"file -\n".as_slice(), 3));
-        }
+    for row in &rows(alloc, UNREAD)? {
+        expect_unread(&rt, alloc, row)?;
     }
-    Ok(())
-}
-
-/// The text on standard error of the pair's dispatch over these reports and these orders, and its status.
-fn dispatched<R: Read + Drop, W: Write + Drop>(
-    alloc: Global,
-    reports: R,
-    orders: W,
-) -> Option<(VecOut, u8)> {
-    let mut files = worked_files(alloc)?;
-    let mut floor = StreamFloor::new(reports, WriteOut::new(orders));
-    let mut out = VecOut::new(alloc);
-    let mut err = VecOut::new(alloc);
-    let line = b"dispatch pair.map pair.scen pair.program";
-    let status = status_of(alloc, line, &mut floor, &mut files, &mut out, &mut err)?;
-    Some((err, status))
-}
-
-/// Orders, and closing lines, that a writer does not take whole or does not hand on.
-#[test]
-fn orders_that_cannot_be_told_end_a_dispatch(rt: HostRuntime) -> Result<(), Fail> {
-    let alloc = rt.alloc();
-    let reports = b"0\n0 1\n1\n".as_slice();
-    for left in 0..4 {
-        let (err, status) = dispatched(alloc, reports, Buffer { left }).ok_or("memory")?;
-        assert_eq!(rt;
-            (err.bytes(), status),
-            (b"dispatch 5 Write\n".as_slice(), 3)
-        );
-    }
-    for failing in [Failing::IsFull, Failing::IsInterrupted, Failing::IsBroken] {
-        let mut taken = Vec::new(alloc);
-        let writer = short_writer(&mut taken, 5, failing);
-        let (err, status) = dispatched(alloc, reports, writer).ok_or("memory")?;
-        assert_eq!(rt;
-            (err.bytes(), status),
-            (b"dispatch 5 Write\n".as_slice(), 3)
-        );
-        assert_eq!(rt; taken.as_slice(), b"go 0 ".as_slice());
-    }
-    Ok(())
-}
-
-/// Reports come byte by byte until they cannot be read.
-#[test]
-fn reports_fail_after_some_bytes(rt: HostRuntime) -> Result<(), Fail> {
-    let alloc = rt.alloc();
-    let rows: [(&[u8], &[u8], u8); 2] = [(b"0\n0 1\n1\n", b"", 0), (b"0\n0", b"file -\n", 3)];
-    for (rest, told, wanted) in rows {
-        for failing in [Failing::IsInterrupted, Failing::IsBroken] {
-            let reports = ShortReader { rest, failing };
-            let (err, status) = dispatched(alloc, reports, Buffer { left: 9 }).ok_or("memory")?;
-            assert_eq!(rt; (err.bytes(), status), (told, wanted));
-        }
-    }
-    Ok(())
-}
-
-/// A line without an end takes no memory.
-#[test]
-fn a_report_is_heard_up_to_a_length(rt: HostRuntime) -> Result<(), Fail> {
-    let alloc = rt.alloc();
     let long = vec![in alloc; b'0'; 20_000]?;
-    let (err, status) = dispatched(alloc, long.as_slice(), Buffer { left: 9 }).ok_or("memory")?;
-    let told = b"dispatch 2 Form line 1\n".as_slice();
-    assert_eq!(rt; (err.bytes(), status), (told, 1));
+    let mut files = worked_files(alloc).ok_or("memory")?;
+    let mut output = writer(alloc, usize::MAX, 9, None);
+    let due = Due {
+        line: b"dispatch pair.map pair.scen pair.program",
+        told: b"dispatch 2 Form line 1",
+        status: 1,
+    };
+    expect_told(&rt, alloc, &mut files, due, long.as_slice(), &mut output);
+    Ok(())
+}
+
+/// The line of a ring of needs, of 788,902 bytes, is written in at most 200 pieces.
+#[test]
+fn a_long_refusal_is_few_pieces(rt: HostRuntime) -> Result<(), Fail> {
+    let mut ring = Vec::new(rt.alloc());
+    for number in 1..100_000 {
+        ring.push(ActionId { agent: 0, number })?;
+    }
+    let mut output = writer(rt.alloc(), usize::MAX, 0, None);
+    output.most = usize::MAX;
+    Fault::Verify(VerifyFault::Cyclic(ring)).tell(&mut WriteOut::new(&mut output));
+    assert_eq!(rt; output.bytes.len(), 788_902);
+    assert!(rt; output.calls <= 200);
     Ok(())
 }

@@ -2,7 +2,6 @@
 //! contracts of functions that do nothing, and nothing stands on them.
 #![tactic(auto)]
 
-pub mod agents;
 pub mod compiled;
 pub mod meetings;
 pub mod plans;

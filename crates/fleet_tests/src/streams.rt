@@ -1,0 +1,126 @@
+//! The ends of a run that fail at a byte or at a call, and count what they take: a source, a writer, a reader and a store.
+
+use fleet_files::{FileFault, Files, MemFiles};
+use fleet_run::{HoldSource, SourceFault, clear};
+use std::alloc::Global;
+use std::io;
+use std::io::{ErrorKind, Read, Write};
+
+/// A source that holds nobody for so many ticks, and then fails so.
+#[derive(Drop)]
+pub struct FailingSource {
+    pub ticks: u8,
+    pub kind: SourceFault,
+    pub failed: bool,
+}
+
+impl HoldSource for FailingSource {
+    ghost use Rattle.std.specs.Prelude.{Some, None, [], replicate, if◌then◌else◌};
+
+    ghost state = { λ s. record { ticks = replicate s.ticks []; last = Some s.kind; fault = if s.failed then Some s.kind else None } };
+
+    fn next(&mut self, held: &mut [bool]) -> Result<bool, SourceFault> {
+        if self.ticks == 0 {
+            self.failed = true;
+            return Err(self.kind);
+        }
+        self.ticks -= 1;
+        clear(held);
+        Ok(true)
+    }
+
+    fn failed(&self) -> Option<SourceFault> {
+        if self.failed { Some(self.kind) } else { None }
+    }
+}
+
+/// A writer that takes so many bytes in all, so many of them at most in one call, can be flushed so many times, and then fails so: takes nothing more, or answers
+/// an error.
+#[derive(Drop)]
+pub struct ShortWriter {
+    /// What it has taken.
+    pub bytes: Vec<u8>,
+    pub room: usize,
+    pub most: usize,
+    pub flushes: u16,
+    pub failing: Option<ErrorKind>,
+    /// How often it was written to.
+    pub calls: u32,
+}
+
+impl Write for ShortWriter {
+    fn write(&mut self, buf: &[u8]) -> io::Result<usize> {
+        self.calls = self.calls.saturating_add(1);
+        let room = self.room.saturating_sub(self.bytes.len()).min(self.most);
+        let count = if room < buf.len() { room } else { buf.len() };
+        match self.failing {
+            Some(kind) if count == 0 => Err(io::Error::from(kind)),
+            _ => {
+                self.bytes.extend_from_slice(&buf[..count])?;
+                Ok(count)
+            }
+        }
+    }
+
+    fn flush(&mut self) -> io::Result<()> {
+        if self.flushes == 0 {
+            return Err(io::Error::from(ErrorKind::BrokenPipe));
+        }
+        self.flushes -= 1;
+        Ok(())
+    }
+}
+
+/// A reader that gives these bytes one at a time, and then fails so, or ends.
+#[derive(Drop)]
+pub struct ShortReader<'a> {
+    pub rest: &'a [u8],
+    pub failing: Option<ErrorKind>,
+}
+
+impl<'a> Read for ShortReader<'a> {
+    fn read(&mut self, buf: &mut [u8]) -> io::Result<usize> {
+        let Some((byte, rest)) = self.rest.split_first() else {
+            return match self.failing {
+                Some(kind) => Err(io::Error::from(kind)),
+                None => Ok(0),
+            };
+        };
+        let Some(place) = buf.first_mut() else {
+            return Ok(0);
+        };
+        *place = *byte;
+        self.rest = rest;
+        Ok(1)
+    }
+}
+
+/// A store that can be read and written so many times, and then fails so.
+#[derive(Drop)]
+pub struct FailingFiles {
+    pub files: MemFiles,
+    pub left: usize,
+    pub fault: FileFault,
+}
+
+impl Files for FailingFiles {
+    ghost use Rattle.std.specs.Prelude.{None};
+
+    ghost contents = { λ _. None };
+
+    fn read(&mut self, alloc: Global, name: &str) -> Result<Vec<u8>, FileFault> {
+        if self.left == 0 {
+            return Err(self.fault);
+        }
+        self.left -= 1;
+        self.files.read(alloc, name)
+    }
+
+    fn write(&mut self, name: &str, bytes: &[u8]) -> Result<(), FileFault> {
+        if self.left == 0 {
+            return Err(self.fault);
+        }
+        self.left -= 1;
+        self.files.write(name, bytes)
+    }
+}

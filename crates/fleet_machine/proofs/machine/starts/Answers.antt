@@ -1,6 +1,6 @@
 use Rattle.std.proofs.Common.{arith}
 use Rattle.fleet_machine.proofs.Opened.{opening_more, near_more}
-use Rattle.fleet_machine.proofs.machine.Machine.start.Goals as goal
+use Rattle.fleet_machine.proofs.machine.starts.Goals as goal
 
 pub loop-i-preserved : goal.loop-i-preserved
 loop-i-preserved g c =

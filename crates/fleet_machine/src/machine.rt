@@ -21,7 +21,7 @@ use std::alloc::{AllocError, Global};
 use std::marker::Model;
 
 /// What a tick did: how many agents finished an action, and whether some ready agent was held.
-#[derive(Clone, Copy, Debug, PartialEq, Eq)]
+#[derive(Clone, Copy)]
 pub struct Tick {
     pub moved: u16,
     pub ready_held: bool,

@@ -193,7 +193,6 @@ impl Machine {
     }
 
     /// An agent whose count agent `i` lacks for its next action.
-    #[tactic(auto, using(crate::proofs::Ready::awaited_agent, crate::proofs::Ready::one_more_met, crate::proofs::Lacking::none_left, crate::proofs::Lacking::no_home_if_none_left, crate::proofs::Lacking::all_met, crate::proofs::Lacking::home_if_all_met, crate::proofs::Lacking::one_lacked, crate::proofs::Lacking::home_if_lacked))]
     fn lacked<P: ProgramView>(&self, program: &P, i: u16) -> Option<u16>
         requires well_formed { IsWellFormed (P.program program.now) }
         requires agents { length self.now.configuration ≡ length (P.program program.now) }
@@ -432,7 +431,6 @@ impl Machine {
     }
 
     /// Agent `i` finishes its next action.
-    #[tactic(auto, using(crate::proofs::Kept::few_if_left, crate::proofs::Kept::near_place, crate::proofs::Kept::near_moved, crate::proofs::Kept::finished_is))]
     fn finish_action<P: ProgramView>(&mut self, program: &P, i: u16)
         requires well_formed { IsWellFormed (P.program program.now) }
         requires agent { i < length (P.program program.now) }

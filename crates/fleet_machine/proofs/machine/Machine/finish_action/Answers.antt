@@ -42,5 +42,5 @@ returns g c =
     let step : step_of p i (count_at rows i + 1) ≡ Some c.step-step.result = rw standing at c.step-step.ensures in
     let place : c.after.result ≡ stepped (standing_at rows i).place c.step-step.result = rw standing at c.after.ensures in
     let made : ◌≡◌ {A = Standing} (record { place = c.after.result; count = c.agent-count.result.count + 1 }) (after_next p rows i) =
-        rw standing (finished_is p rows i c.requires.left c.step-step.result c.after.result step place) in
+    rw standing (finished_is p rows i c.requires.left c.step-step.result c.after.result step place) in
     c.set_agent.ensures ∙ ap (λ (s : Standing). record old { configuration = set rows i s }) made

@@ -1,5 +1,5 @@
 -- The rows at the start, and the test for the end.
-use Rattle.std.proofs.Common.{◌≡◌, ◌<◌, ◌≤◌, ℕ, zero, suc, ◌+◌, true, false, [], ◌∷◌, ◌++◌, take, length, get_or, refl, ap, sym, ◌∙◌, zero-add, arith, inl, inr}
+use Rattle.std.proofs.Common.{◌≡◌, ◌<◌, ◌≤◌, ℕ, zero, suc, ◌+◌, true, false, [], ◌∷◌, ◌++◌, take, length, get_or, replicate, None, refl, ap, sym, ◌∙◌, zero-add, arith, inl, inr}
 use Rattle.std.specs.Prelude.{nat_le}
 use Rattle.std.specs.List.{list_all}
 use Rattle.std.proofs.lemmas.List.{take_more, length-map, length_push, get_or_push, get_or_append_left}
@@ -11,6 +11,7 @@ use Rattle.fleet_model.specs.declared.geometry.Cell.{Cell}
 use Rattle.fleet_model.specs.Geometry.{place_of}
 use Rattle.fleet_model.specs.Program.{Program, start_of, moves}
 use Rattle.fleet_model.specs.Machine.{Configuration, standing_at, count_at, opening, indices, is_finished}
+use Rattle.fleet_machine.specs.WaitLists.{home_of}
 use Rattle.fleet_machine.specs.Near.{IsNear, AreNear}
 use Rattle.fleet_machine.proofs.Indices.{all_more}
 
@@ -28,6 +29,15 @@ pub opening_more : (p : Program) (rows : Configuration) (i : ℕ) (c : Cell) (s 
 opening_more p rows i c s inside before e is =
     let long : i < length (opening p) = rw length-map inside in
     rw (take_more (opening p) i s long, opening_at p i s inside, before, is, e) refl
+
+pub length_opening : (p : Program) → length (opening p) ≡ length p
+length_opening p = rw length-map refl
+
+-- where nobody stands in a list
+pub home_of_nobody : (n i : ℕ) → home_of (replicate n None) i ≡ None
+home_of_nobody zero i = refl
+home_of_nobody (suc n) zero = refl
+home_of_nobody (suc n) (suc i) = home_of_nobody n i
 
 pub near_more : (rows : Configuration) (s : Standing) → AreNear rows → IsNear s → AreNear (rows ++ s ∷ [])
 near_more rows s near new = λ i h.

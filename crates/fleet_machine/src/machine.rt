@@ -9,7 +9,7 @@ ghost use Rattle.fleet_model.specs.Claims.{order_of};
 ghost use Rattle.fleet_machine.specs.AgentSet.{AreNoneFrom, IsNextFrom};
 ghost use Rattle.fleet_machine.specs.Confirmed.{all_but, AreSent, IsFirstUnsent};
 ghost use Rattle.fleet_machine.specs.Looked.{ready_in, awaiting_in, LooksAt};
-ghost use Rattle.fleet_machine.specs.Near.{IsNear};
+ghost use Rattle.fleet_machine.specs.Near.{IsNear, AreNear};
 ghost use Rattle.fleet_machine.specs.Machine.{MachineState, Runs, HasRows, IsHome, IsJudged, is_left, after_next, moving_flags, flag_of};
 ghost use Rattle.fleet_machine.specs.Waking.{IsWoken, HasMoved, IsCarriedOut, IsPlaced, IsAsBefore};
 ghost use Rattle.fleet_machine.specs.WaitLists.{home_of};
@@ -21,7 +21,7 @@ use std::alloc::{AllocError, Global};
 use std::marker::Model;
 
 /// The outcome of a tick: how many agents finished an action, and whether some ready agent was held.
-#[derive(Clone, Copy, Debug, PartialEq, Eq)]
+#[derive(Clone, Copy)]
 pub struct Tick {
     pub moved: u16,
     pub ready_held: bool,
@@ -74,6 +74,19 @@ fn at_start(cell: Cell) -> Standing
     }
 }
 
+/// The agents on their starts.
+fn starts<P: ProgramView>(alloc: Global, program: &P) -> Result<Vec<Standing>, AllocError>
+    ensures opening { IfOk result (λ agents. agents.items ≡ opening (P.program program.now)) }
+    ensures near { IfOk result (λ agents. AreNear agents.items) }
+{
+    let count = program.agents();
+    let mut agents = Vec::with_capacity(alloc, count as usize)?;
+    for i in 0..count {
+        agents.push(at_start(program.start(i)))?;
+    }
+    Ok(agents)
+}
+
 impl Machine {
     /// All agents stand on their starts and have finished nothing.
     pub fn start<P: ProgramView>(alloc: Global, program: &P) -> Result<Machine, AllocError>
@@ -81,22 +94,37 @@ impl Machine {
         ensures opening { IfOk result (λ m. m.configuration ≡ opening (P.program program.now)) }
         ensures looked { IfOk result (λ m. m.looked ≡ 0) }
     {
+        let agents = starts(alloc, program)?;
         let count = program.agents();
-        let mut agents = Vec::with_capacity(alloc, count as usize)?;
-        for i in 0..count {
-            agents.push(at_start(program.start(i)))?;
-        }
-        let mut machine = Machine {
+        let waiting = WaitLists::new(alloc, count as usize, count as usize)?;
+        let mut machine = Machine::unjudged(agents, count, waiting);
+        machine.judge_all(program);
+        Ok(machine)
+    }
+
+    /// So many agents, which stand there and in these lists. None is flagged.
+    fn unjudged(agents: Vec<Standing>, count: u16, waiting: WaitLists) -> Machine
+        requires near { AreNear agents.items }
+        requires few { count ≤ MAX_AGENTS }
+        ensures { result ≡ record {
+          configuration = agents.items;
+          moving = replicate count false;
+          ready = replicate count false;
+          left = replicate count false;
+          due = replicate count false;
+          waiting = waiting;
+          looked = 0;
+        } }
+    {
+        Machine {
             agents,
             moving: AgentSet::new(count),
             ready: AgentSet::new(count),
             left: AgentSet::new(count),
             due: AgentSet::new(count),
-            waiting: WaitLists::new(alloc, count as usize, count as usize)?,
+            waiting,
             looked: 0,
-        };
-        machine.judge_all(program);
-        Ok(machine)
+        }
     }
 
     /// Where each agent stands, and how many actions it has finished.
@@ -165,7 +193,6 @@ impl Machine {
     }
 
     /// An agent whose count agent `i` lacks for its next action, if it has one and lacks a count.
-    #[tactic(auto, using(crate::proofs::Ready::awaited_agent, crate::proofs::Ready::one_more_met, crate::proofs::Lacking::none_left, crate::proofs::Lacking::no_home_if_none_left, crate::proofs::Lacking::all_met, crate::proofs::Lacking::home_if_all_met, crate::proofs::Lacking::one_lacked, crate::proofs::Lacking::home_if_lacked))]
     fn lacked<P: ProgramView>(&self, program: &P, i: u16) -> Option<u16>
         requires well_formed { IsWellFormed (P.program program.now) }
         requires agents { length self.now.configuration ≡ length (P.program program.now) }
@@ -404,7 +431,6 @@ impl Machine {
     }
 
     /// Agent `i` finishes its next action.
-    #[tactic(auto, using(crate::proofs::Kept::few_if_left, crate::proofs::Kept::near_place, crate::proofs::Kept::near_moved, crate::proofs::Kept::finished_is))]
     fn finish_action<P: ProgramView>(&mut self, program: &P, i: u16)
         requires well_formed { IsWellFormed (P.program program.now) }
         requires agent { i < length (P.program program.now) }

@@ -1,5 +1,5 @@
 -- The actions in three rows: how many they are, each of them, and one more.
-use Rattle.std.proofs.Common.{◌≡◌, ℕ, zero, suc, ◌+◌, ◌-◌, ◌<◌, ◌≤◌, List, [], ◌∷◌, ◌++◌, length, map, take, drop, get_or, refl, sym, ap, ◌∙◌, arith}
+use Rattle.std.proofs.Common.{◌≡◌, ℕ, zero, suc, ◌+◌, ◌-◌, ◌<◌, ◌≤◌, List, [], ◌∷◌, ◌++◌, length, take, drop, get_or, refl, sym, ap, ◌∙◌, arith}
 use Rattle.std.specs.Prelude.{slice_get, slice_range, option_map, Some, All}
 use Rattle.std.proofs.lemmas.List.Elements.{All-get_or, All-more}
 use Rattle.std.proofs.lemmas.Option.{same_Some, slice_get-get_or}

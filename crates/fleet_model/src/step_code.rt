@@ -6,7 +6,7 @@ ghost use Rattle.fleet_model.specs.ActionRows.{step_of};
 use crate::geometry::{Dir, Step};
 
 /// A step in one byte; a `Step` takes two.
-#[derive(Clone, Copy, Debug)]
+#[derive(Clone, Copy)]
 pub(crate) enum StepCode {
     North,
     East,

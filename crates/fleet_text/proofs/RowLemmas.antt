@@ -1,6 +1,7 @@
 -- Bytes that go to a sink by way of a row.
-use Rattle.std.proofs.Common.{◌≡◌, ◌∙◌, sym, subst, ℕ, List, [], ◌++◌, Result, Ok, Err, IsErr, ap, append_assoc, append-nil}
-use Rattle.fleet_text.specs.Sink.{SinkState, StopsWithin, TakesAll}
+use Rattle.std.proofs.Common.{◌≡◌, ◌∙◌, sym, subst, ℕ, List, [], ◌++◌, Option, Some, None, Result, Ok, Err, IsErr, ap, append_assoc, append-nil}
+use Rattle.std.specs.Io.KnownBytes.{Appends}
+use Rattle.fleet_text.specs.Sink.{SinkState, IsWorking, StopsWithin, TakesAll}
 use Rattle.fleet_text.proofs.SinkLemmas.{takes_more, stops_after, stops_within_more, takes_then}
 use Rattle.fleet_text.specs.Row.{PassesOn, Gathers}
 
@@ -32,6 +33,14 @@ pub gathers_then :
     → PassesOn a b r s xs → Gathers b c res s t ys → Gathers a c res r t (xs ++ ys)
 gathers_then a b c (Ok _) r s t xs ys h k = passes_more a b c r s t xs ys h k
 gathers_then a b c (Err _) r s t xs ys h k = stops_past a b c r s xs ys h k
+
+appends_none : (o : Option (List ℕ)) → Appends o o []
+appends_none None = tt
+appends_none (Some s) = sym (append-nil s)
+
+-- the bytes stay in the row
+pub kept_in_row : (a : SinkState) (r t xs : List ℕ) → IsWorking a → t ≡ r ++ xs → PassesOn a a r t xs
+kept_in_row a r t xs works e = record { handed = []; taken = record { taken = appends_none a.taken; working = works }; in_order = sym e }
 
 -- an answer that is an error, where the sink failed within the bytes
 pub gathers_err : {T E : Type 0} (a c : SinkState) (res : Result T E) (r t xs : List ℕ) → IsErr res → StopsWithin a c (r ++ xs) → Gathers a c res r t xs

@@ -1,6 +1,6 @@
 -- Words of a line, one after another.
-use Rattle.std.proofs.Common.{◌≡◌, ◌∙◌, sym, subst, ℕ, ◌+◌, ◌<◌, List, [], ◌∷◌, ◌++◌, length, take, drop, get_or, map, ap, refl, arith, append_assoc, append-nil}
-use Rattle.std.proofs.lemmas.List.{take_more, map-append, take-append-drop}
+use Rattle.std.proofs.Common.{◌≡◌, ◌∙◌, sym, subst, ℕ, ◌+◌, ◌<◌, ◌≤◌, List, [], ◌∷◌, ◌++◌, length, take, drop, get_or, map, ap, refl, arith, append_assoc, append-nil}
+use Rattle.std.proofs.lemmas.List.{take_all, take_more, map-append, take-append-drop}
 use Rattle.fleet_text.specs.Sink.{SinkState, StopsWithin}
 use Rattle.fleet_text.specs.Row.{PassesOn}
 use Rattle.fleet_text.proofs.RowLemmas.{passes_more, stops_past, stops_before}
@@ -42,6 +42,24 @@ passed_more a b c r s t words rest i d below (first, are, so_far) next = (
   are,
   subst (PassesOn a c r t) (words_more first rest i d below) (passes_more a b c r s t (spaced (map word_text (first ∷ take i rest))) (32 ∷ word_text (get_or rest i d)) so_far next),
 )
+
+-- all words were put into the row
+pub passed_all :
+    (a c : SinkState) (r t : List ℕ) (words rest : List Word) (i : ℕ) → length rest ≤ i
+    → ((first : Word) × (words ≡ first ∷ rest) × PassesOn a c r t (spaced (map word_text (first ∷ take i rest))))
+    → PassesOn a c r t (spaced (map word_text words))
+passed_all a c r t words rest i le (first, are, all) =
+    let whole : first ∷ take i rest ≡ words = ap (λ ws. first ∷ ws) (take_all i rest le) ∙ sym are in
+    subst (λ ws. PassesOn a c r t (spaced (map word_text ws))) whole all
+
+-- the sink failed within the first word
+pub stops_within_first :
+    (a c : SinkState) (r : List ℕ) (words rest : List Word) (first : Word) → words ≡ first ∷ rest
+    → StopsWithin a c (r ++ word_text first) → StopsWithin a c (r ++ spaced (map word_text words))
+stops_within_first a c r words rest first are h =
+    let whole : word_text first ++ next_words (map word_text rest) ≡ spaced (map word_text words) =
+    sym (spaced-append (word_text first) [] (map word_text rest)) ∙ ap (λ ws. spaced (map word_text ws)) (sym are) in
+    subst (λ l. StopsWithin a c (r ++ l)) whole (stops_before a c r (word_text first) (next_words (map word_text rest)) h)
 
 -- the sink failed within one word more
 pub stops_within_next :

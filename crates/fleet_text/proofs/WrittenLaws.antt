@@ -5,7 +5,7 @@ use Rattle.std.specs.List.{AllByRecursion, slice_split, flat_map, onto_first, jo
 use Rattle.std.specs.Str.Lines.{strip_carriage_return}
 use Rattle.std.proofs.lemmas.Bool.{cases_Bool, ne_eqb, le-leb, lt-ltb}
 use Rattle.std.proofs.lemmas.Fmt.{decimal_by_steps}
-use Rattle.std.proofs.lemmas.List.{append-nil, length-append, map-append, take_more}
+use Rattle.std.proofs.lemmas.List.{append-nil, length-append, take_more}
 use Rattle.fleet_text.specs.Text.{Bytes, is_blank, is_word, starts_blank, is_digit, ended_lines, lines, words, words_from_front, number_after, number, small_number}
 use Rattle.fleet_text.specs.Words.{ended_text}
 

@@ -1,13 +1,44 @@
-use Rattle.std.proofs.Common.{arith}
-use Rattle.fleet_machine.proofs.Opened.{opening_more, near_more}
+use Rattle.std.proofs.Common.{◌≡◌, ◌∙◌, length, replicate, false, None, ap, arith}
+use Rattle.std.proofs.lemmas.List.{length-replicate}
+use Rattle.fleet_machine.specs.WaitLists.{WaitState, home_of}
+use Rattle.fleet_machine.specs.Machine.{MachineState}
+use Rattle.fleet_machine.proofs.Opened.{length_opening, home_of_nobody}
 use Rattle.fleet_machine.proofs.machine.Machine.start.Goals as goal
 
-pub loop-i-preserved : goal.loop-i-preserved
-loop-i-preserved g c =
-    let p = g.P.ProgramView.program c.args.program.now in
-    let agents = c.loop-i.agents.items in
-    let new = c.at_start in
-    rw c.in_ok-push.ensures.items record {
-      opening = opening_more p agents c.loop-i.i c.start.result new.result (omega (arith, c.agents-count.ensures.count)) c.loop-i.invariant.opening c.start.ensures new.ensures.place;
-      near = near_more agents new.result c.loop-i.invariant.near new.ensures.near;
+pub unjudged-machine-requires-clause-few : goal.unjudged-machine-requires-clause-few
+unjudged-machine-requires-clause-few g c = omega (arith, c.agents-count.ensures.count, c.agents-count.ensures.well_formed.few_agents)
+
+pub judge_all-requires-clause-agents : goal.judge_all-requires-clause-agents
+judge_all-requires-clause-agents g c =
+    ap (λ (m : MachineState). length m.configuration) c.unjudged-machine.ensures
+    ∙ (ap length c.in_ok-agents.ensures.opening ∙ length_opening (g.P.ProgramView.program c.args.program.now))
+
+pub judge_all-requires-clause-flags : goal.judge_all-requires-clause-flags
+judge_all-requires-clause-flags g c =
+    ap (λ (m : MachineState). length m.moving) c.unjudged-machine.ensures ∙ (length-replicate c.agents-count.result false ∙ c.agents-count.ensures.count)
+
+pub judge_all-requires-clause-rows : goal.judge_all-requires-clause-rows
+judge_all-requires-clause-rows g c =
+    let made = c.unjudged-machine.ensures in
+    let count = c.agents-count.ensures.count in
+    let flags : length (replicate c.agents-count.result false) ≡ length (g.P.ProgramView.program c.args.program.now) = length-replicate c.agents-count.result false ∙ count in
+    record {
+      ready = ap (λ (m : MachineState). length m.ready) made ∙ flags;
+      left = ap (λ (m : MachineState). length m.left) made ∙ flags;
+      due = ap (λ (m : MachineState). length m.due) made ∙ flags;
+      lists = ap (λ (m : MachineState). m.waiting.lists) made ∙ (ap (λ (w : WaitState). w.lists) c.in_ok-waiting.ensures ∙ count);
+      homes = ap (λ (m : MachineState). length m.waiting.homes) made
+          ∙ (ap (λ (w : WaitState). length w.homes) c.in_ok-waiting.ensures ∙ (length-replicate c.agents-count.result None ∙ count));
     }
+
+pub judge_all-requires-clause-nowhere : goal.judge_all-requires-clause-nowhere
+judge_all-requires-clause-nowhere g c =
+    λ i. ap (λ (m : MachineState). home_of m.waiting.homes i) c.unjudged-machine.ensures
+    ∙ (ap (λ (w : WaitState). home_of w.homes i) c.in_ok-waiting.ensures ∙ home_of_nobody c.agents-count.result i)
+
+pub returns-clause-opening : goal.returns-clause-opening
+returns-clause-opening g c =
+    c.judge_all.ensures.configuration ∙ (ap (λ (m : MachineState). m.configuration) c.unjudged-machine.ensures ∙ c.in_ok-agents.ensures.opening)
+
+pub returns-clause-looked : goal.returns-clause-looked
+returns-clause-looked g c = c.judge_all.ensures.looked ∙ ap (λ (m : MachineState). m.looked) c.unjudged-machine.ensures

@@ -1,4 +1,4 @@
-use Rattle.std.proofs.Common.{◌≡◌, ◌<◌, ◌∷◌, length, get_or, sym, ap, ◌∙◌, arith}
+use Rattle.std.proofs.Common.{◌≡◌, ◌<◌, ◌∷◌, length, get_or, ap, arith}
 use Rattle.fleet_model.specs.declared.geometry.Step.TheVariants.{Dwell}
 use Rattle.fleet_model.specs.ActionRows.{steps_in}
 use Rattle.fleet_model.proofs.ActionRows.{actions_long, bounds_there, awaits_there}

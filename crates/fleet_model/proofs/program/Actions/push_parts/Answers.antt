@@ -1,4 +1,4 @@
-use Rattle.std.proofs.Common.{◌≡◌, ◌+◌, ◌++◌, ◌∷◌, [], length, sym, ap, ◌∙◌, arith}
+use Rattle.std.proofs.Common.{◌≡◌, ◌+◌, ◌++◌, ◌∷◌, [], length, ap, ◌∙◌, arith}
 use Rattle.fleet_model.specs.ActionRows.{steps_in}
 use Rattle.fleet_model.proofs.ActionRows.{pushed, code_more}
 use Rattle.fleet_model.proofs.program.Actions.push_parts.Goals as goal

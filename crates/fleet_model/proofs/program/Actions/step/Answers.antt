@@ -1,5 +1,4 @@
-use Rattle.std.proofs.Common.{◌≡◌, ◌<◌, length, option_map, Some, slice_get, sym, ap, ◌∙◌, arith}
-use Rattle.fleet_model.specs.declared.program.Action.{Action}
+use Rattle.std.proofs.Common.{◌<◌, length, ap, arith}
 use Rattle.fleet_model.specs.ActionRows.{steps_in}
 use Rattle.fleet_model.proofs.ActionRows.{actions_long, codes_long, code_there, step_there}
 use Rattle.fleet_model.proofs.program.Actions.step.Goals as goal

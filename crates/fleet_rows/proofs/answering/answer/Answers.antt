@@ -7,7 +7,6 @@ use Rattle.fleet_rows.specs.Block.{AreAnswered}
 use Rattle.fleet_rows.specs.Order.{AreAllCounted}
 use Rattle.fleet_rows.specs.declared.answering.Answering.{Answering}
 use Rattle.fleet_rows.specs.declared.block.Block.{Block}
-use Rattle.fleet_rows.specs.declared.questions.Question.{Question}
 use Rattle.fleet_rows.proofs.Answered.{answering_none, question_at}
 use Rattle.fleet_rows.proofs.answering.answer.Goals as goal
 

@@ -1,4 +1,4 @@
-use Rattle.std.proofs.Common.{length, arith}
+use Rattle.std.proofs.Common.{length}
 use Rattle.fleet_rows.proofs.Counting.{none_counted}
 use Rattle.fleet_rows.proofs.flagging.flag_implied.Goals as goal
 

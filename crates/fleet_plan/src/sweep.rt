@@ -323,7 +323,6 @@ fn agents_of(alloc: Global, plan: &Plan) -> Result<Vec<u16>, AllocError>
 
 /// The first conflict of a plan whose agents go over passable cells. Takes memory for the agents, and for the parts of the map on
 /// which they stand.
-#[tactic(auto, using(crate::proofs::SweepLaws::all_on_map))]
 pub(crate) fn first_conflict(
     alloc: Global,
     plan: &Plan,

@@ -18,3 +18,4 @@ pub mod PiecePairs
 pub mod Gathered
 pub mod GatheredAll
 pub mod LatestPiece
+pub mod KeptReads

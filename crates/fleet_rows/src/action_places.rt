@@ -15,7 +15,6 @@ pub(crate) struct ActionPlaces {
 
 impl ActionPlaces {
     /// The places of the actions of a program.
-    #[tactic(auto, using(fleet_model::proofs::Totals::moves_fit, fleet_model::proofs::Totals::moves_more))]
     pub(crate) fn of<P: ProgramView>(
         alloc: Global,
         program: &P,

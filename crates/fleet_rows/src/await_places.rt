@@ -44,7 +44,6 @@ impl AwaitPlaces {
 
 /// Adds how many awaits stand before those of each action of an agent, and answers how many stand before the next
 /// agent.
-#[tactic(auto, using(fleet_model::proofs::Totals::actions_fit, fleet_model::proofs::Totals::actions_more, fleet_model::proofs::Totals::awaits_fit, fleet_model::proofs::Totals::awaits_more))]
 fn push_agent<P: ProgramView>(
     program: &P,
     i: u16,

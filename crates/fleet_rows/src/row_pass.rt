@@ -76,11 +76,11 @@ pub(crate) fn use_rows<P: ProgramView, U: RowUse>(
         × U.used (P.program program.now) block.now counts uses.new) }
     ensures keeps { OnOk result (U.keeps (P.program program.now) block.now uses.old uses.new) }
 {
+    let mut row = vec![in alloc; 0; usize::from(block.columns.width)]?;
     let mut pass = RowPass {
         kept: KeptRows::new(alloc, &block.notes.lasts, block.columns.width)?,
         counts: vec![in alloc; 0; usize::from(program.agents())]?,
     };
-    let mut row = vec![in alloc; 0; usize::from(block.columns.width)]?;
     run_on(program, block, &mut pass, &mut row, uses)?;
     Ok(())
 }

@@ -1,7 +1,7 @@
-use Rattle.std.proofs.Common.{◌≡◌, Some, None, sym, ap, ◌∙◌}
+use Rattle.std.proofs.Common.{◌≡◌, Some, None, sym, ap, ◌∙◌, arith}
 use Rattle.fleet_plan.specs.Rings.{ahead_of, walk_of}
 use Rattle.fleet_plan.proofs.RingLaws.{some_is}
-use Rattle.fleet_plan.proofs.WalkLaws.{walk_begins, walk-more, end-closed, end-walked, end-none, stop-closed, stop-walked, stop-ring, stop-some, stop-none}
+use Rattle.fleet_plan.proofs.WalkLaws.{fewer, walk_begins, walk-more, end-closed, end-walked, end-none, stop-closed, stop-walked, stop-ring, stop-some, stop-none}
 use Rattle.fleet_plan.proofs.rings.walk.Goals as goal
 
 pub loop-next-init : goal.loop-next-init
@@ -59,3 +59,17 @@ loop-next-preserved c =
     let free : walk_of c.loop-next.walks c.loop-next.agent ≡ None = ap (walk_of c.loop-next.walks) (sym c.from-in-loop-next.ensures) ∙ c.in_default.is in
     let next : ahead_of c.args.ahead.now c.loop-next.agent ≡ Some c.in_ok-next.next = ap (ahead_of c.args.ahead.now) (sym c.from.ensures) ∙ c.in_ok-next.was in
     rw c.from-in-loop-next-2.ensures (walk-more c.args.ahead.now c.args.walks.now c.loop-next.walks c.args.number c.args.first c.loop-next.agent c.loop-next.invariant free c.requires.agents c.in_ok-next.next next)
+
+pub loop-next-smaller : goal.loop-next-smaller
+loop-next-smaller c =
+    let free : walk_of c.loop-next.walks c.loop-next.agent ≡ None = ap (walk_of c.loop-next.walks) (sym c.from-in-loop-next.ensures) ∙ c.in_default.is in
+    rw c.from-in-loop-next-2.ensures (fewer c.loop-next.walks c.loop-next.agent c.args.number (omega (arith, c.loop-next.invariant.within, c.loop-next.invariant.all)) free)
+
+pub returns-then-walk-number-clause-kept : goal.returns-then-walk-number-clause-kept
+returns-then-walk-number-clause-kept c = λ k walked. (walked.0, c.loop-next.invariant.kept k walked.0 walked.1)
+
+pub returns-else-walk-number-clause-kept : goal.returns-else-walk-number-clause-kept
+returns-else-walk-number-clause-kept c = λ k walked. (walked.0, c.loop-next.invariant.kept k walked.0 walked.1)
+
+pub returns-in_err-next-clause-kept : goal.returns-in_err-next-clause-kept
+returns-in_err-next-clause-kept c = λ k walked. (walked.0, c.loop-next.invariant.kept k walked.0 walked.1)

@@ -1,8 +1,12 @@
-use Rattle.std.proofs.Common.{◌+◌, ◌≤◌, rules, arith}
+use Rattle.std.proofs.Common.{◌≡◌, ℕ, ◌+◌, ◌<◌, ◌≤◌, All, List, length, slice_index, refl, sym, subst, ap, ◌∙◌, rules, arith}
 use Rattle.fleet_plan.proofs.RowLaws.{covers_on}
-use Rattle.fleet_plan.proofs.MeetLaws.{entered_apart, first_in, free_in}
-use Rattle.fleet_plan.proofs.SweepLaws.{few_steps, found_first, found_none, first_meets, swept_all, others_there, others_stay, others_alone, others_entered, others_settled, swept_on}
+use Rattle.fleet_plan.proofs.MeetLaws.{ahead_agents, entered_apart, first_in, free_in}
+use Rattle.fleet_plan.proofs.SweepLaws.{sweep_begins, nobody_yet, unwalked_yet, few_steps, found_first, found_none, first_meets, swept_all, others_there, others_stay, others_alone, others_entered, others_settled, swept_on}
 use Rattle.fleet_plan.proofs.sweep.sweep.Goals as goal
+
+-- numbers below one are below another that is the same
+all_below : (n m : ℕ) (xs ys : List ℕ) → ys ≡ xs → n ≡ m → All (λ i. i < n) xs → All (λ i. i < m) ys
+all_below n m xs ys e f h = subst (λ (zs : List ℕ). All (λ i. i < m) zs) (sym e) (subst (λ (k : ℕ). All (λ i. i < k) xs) f h)
 
 pub overflow_add-end : goal.overflow_add-end
 overflow_add-end c =
@@ -46,3 +50,81 @@ loop-time-preserved c =
 pub returns-clause-none : goal.returns-clause-none
 returns-clause-none c =
     swept_all c.args.plan.now c.loop-time.time c.loop-time.invariant.sweep.earlier (omega (arith, c.steps-end.ensures.time, c.loop-time-test.false))
+
+pub loop-time-init : goal.loop-time-init
+loop-time-init c = record {
+  sweep = sweep_begins c.args.grid.now c.args.plan.now c.fill_places.new.places c.fill_places.ensures;
+  entered = rw c.in_default.is at c.in_ok-i.ensures.none;
+  settled = λ i l. record { same = ap (λ (xs : List ℕ). slice_index xs i) c.copy_from_slice.ensures.after; nobody = c.requires.nobody i; unwalked = c.requires.unwalked i };
+  covers = c.requires.agents;
+}
+
+pub first_meeting-requires : goal.first_meeting-requires
+first_meeting-requires c = omega (arith, c.fill_places.ensures.all, c.steps-end.ensures.limits.fleet.few_agents)
+
+pub returns-in-Some-clause-some : goal.returns-in-Some-clause-some
+returns-in-Some-clause-some c =
+    first_meets c.cells_have_places_of_their_own.ensures c.args.grid.now c.args.plan.now c.requires.on_map 0 c.fill_places.new.places (sweep_begins c.args.grid.now c.args.plan.now c.fill_places.new.places c.fill_places.ensures) c.in-Some.i c.in-Some.j (rw c.in-Some.is at c.in_ok-i.ensures.some)
+
+pub fill_ahead-apart-requires-clause-entered : goal.fill_ahead-apart-requires-clause-entered
+fill_ahead-apart-requires-clause-entered c = c.loop-time.invariant.entered
+
+pub fill_ahead-apart-requires-clause-agents : goal.fill_ahead-apart-requires-clause-agents
+fill_ahead-apart-requires-clause-agents c = all_below (length c.args.plan.now) (length c.loop-time.places) c.loop-time.agents.items c.deref-in-loop-time.result.now c.deref-in-loop-time.ensures.value (sym c.loop-time.invariant.sweep.here.all) c.loop-time.invariant.covers.agents
+
+pub fill_ahead-apart-requires-clause-next : goal.fill_ahead-apart-requires-clause-next
+fill_ahead-apart-requires-clause-next c = c.fill_next.ensures.all ∙ sym c.loop-time.invariant.sweep.here.all
+
+pub fill_ahead-apart-requires-clause-all : goal.fill_ahead-apart-requires-clause-all
+fill_ahead-apart-requires-clause-all c = omega (arith, c.loop-time.invariant.sweep.here.all)
+
+pub fill_ahead-apart-requires-clause-nobody : goal.fill_ahead-apart-requires-clause-nobody
+fill_ahead-apart-requires-clause-nobody c = nobody_yet c.args.grid.now c.args.plan.now c.loop-time.table c.loop-time.places c.loop-time.next c.loop-time.ahead c.loop-time.walks c.loop-time.agents.items c.loop-time.time c.loop-time.invariant (omega arith) (omega arith)
+
+pub conflict_in-found-requires-clause-ahead : goal.conflict_in-found-requires-clause-ahead
+conflict_in-found-requires-clause-ahead c = ahead_agents c.loop-time.places c.fill_next.new.next c.fill_ahead-apart.new.ahead c.fill_ahead-apart.ensures.ahead
+
+pub conflict_in-found-requires-clause-few : goal.conflict_in-found-requires-clause-few
+conflict_in-found-requires-clause-few c = omega (arith, c.fill_ahead-apart.ensures.ahead.all, c.loop-time.invariant.sweep.here.all, c.steps-end.ensures.limits.fleet.few_agents)
+
+pub conflict_in-found-requires-clause-apart : goal.conflict_in-found-requires-clause-apart
+conflict_in-found-requires-clause-apart c = c.fill_ahead-apart.ensures.apart
+
+pub conflict_in-found-requires-clause-agents : goal.conflict_in-found-requires-clause-agents
+conflict_in-found-requires-clause-agents c = all_below (length c.args.plan.now) (length c.fill_ahead-apart.new.ahead) c.loop-time.agents.items c.deref-in-loop-time-2.result.now c.deref-in-loop-time-2.ensures.value (sym (c.fill_ahead-apart.ensures.ahead.all ∙ c.loop-time.invariant.sweep.here.all)) c.loop-time.invariant.covers.agents
+
+pub conflict_in-found-requires-clause-few_agents : goal.conflict_in-found-requires-clause-few_agents
+conflict_in-found-requires-clause-few_agents c = (let long = ap (λ (xs : List ℕ). length xs) c.deref-in-loop-time-2.ensures.value in omega (arith, long, c.loop-time.invariant.covers.few))
+
+pub conflict_in-found-requires-clause-walks : goal.conflict_in-found-requires-clause-walks
+conflict_in-found-requires-clause-walks c = omega (arith, c.fill_ahead-apart.ensures.ahead.all, c.loop-time.invariant.sweep.here.all)
+
+pub conflict_in-found-requires-clause-unwalked : goal.conflict_in-found-requires-clause-unwalked
+conflict_in-found-requires-clause-unwalked c = unwalked_yet c.args.grid.now c.args.plan.now c.loop-time.table c.loop-time.places c.loop-time.next c.loop-time.ahead c.loop-time.walks c.loop-time.agents.items c.loop-time.time c.loop-time.invariant (omega arith) (omega arith)
+
+pub fill_next-requires-clause-agents : goal.fill_next-requires-clause-agents
+fill_next-requires-clause-agents c = all_below (length c.args.plan.now) (length c.args.plan.now) c.loop-time.agents.items c.deref.result.now c.deref.ensures.value (refl) c.loop-time.invariant.covers.agents
+
+pub fill_next-requires-clause-all : goal.fill_next-requires-clause-all
+fill_next-requires-clause-all c = omega arith
+
+pub meeting-requires-clause-few : goal.meeting-requires-clause-few
+meeting-requires-clause-few c = omega (arith, c.fill_next.ensures.all, c.steps-end.ensures.limits.fleet.few_agents)
+
+pub meeting-requires-clause-agents : goal.meeting-requires-clause-agents
+meeting-requires-clause-agents c = all_below (length c.args.plan.now) (length c.fill_next.new.next) c.loop-time.agents.items c.deref-in-loop-time-3.result.now c.deref-in-loop-time-3.ensures.value (sym c.fill_next.ensures.all) c.loop-time.invariant.covers.agents
+
+pub settle-requires-clause-agents : goal.settle-requires-clause-agents
+settle-requires-clause-agents c = all_below (length c.args.plan.now) (length c.fill_next.new.next) c.loop-time.agents.items c.deref-in-loop-time-4.result.now c.deref-in-loop-time-4.ensures.value (sym c.fill_next.ensures.all) c.loop-time.invariant.covers.agents
+
+pub settle-requires-clause-places : goal.settle-requires-clause-places
+settle-requires-clause-places c = c.loop-time.invariant.sweep.here.all ∙ sym c.fill_next.ensures.all
+
+pub settle-requires-clause-ahead : goal.settle-requires-clause-ahead
+settle-requires-clause-ahead c = c.fill_ahead-apart.ensures.ahead.all ∙ c.loop-time.invariant.sweep.here.all ∙ sym c.fill_next.ensures.all
+
+pub settle-requires-clause-walks : goal.settle-requires-clause-walks
+settle-requires-clause-walks c = omega (arith, c.fill_next.ensures.all)
+
+pub keep_under_way-requires : goal.keep_under_way-requires
+keep_under_way-requires c = c.loop-time.invariant.covers.agents

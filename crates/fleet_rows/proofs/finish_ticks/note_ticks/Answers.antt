@@ -1,5 +1,6 @@
-use Rattle.std.proofs.Common.{◌∙◌, arith}
+use Rattle.std.proofs.Common.{◌≡◌, ℕ, subst, ◌∙◌, arith}
 use Rattle.fleet_model.specs.declared.limits.TheConstants.{MAX_AGENTS}
+use Rattle.fleet_rows.specs.Settled.{IsFinishedBy, AreFinishTicks}
 use Rattle.fleet_rows.proofs.Finishing.{none_flagged, ticked, length_flagged}
 use Rattle.fleet_rows.proofs.Ticking.{noted_none}
 use Rattle.fleet_rows.proofs.finish_ticks.note_ticks.Goals as goal
@@ -28,3 +29,9 @@ loop-t-preserved g c =
       nobody = c.loop-t.invariant.nobody;
       noted = c.note_finished.ensures;
     }
+
+pub returns : goal.returns
+returns g c =
+    let p = g.P.ProgramView.program c.args.program.now in
+    let all : c.loop-t.t ≡ c.args.ticks = omega (arith, c.loop-t-test.false, c.loop-t.auto.t-end) in
+    subst (λ (n : ℕ). AreFinishTicks p c.args.places.now.firsts.items (IsFinishedBy p n) c.loop-t.entries) all c.loop-t.invariant.noted

@@ -28,3 +28,10 @@ returns-clause-told g c = λ a is k w at.
     let p = g.P.ProgramView.program c.args.program.now in
     let there = awaited_action p c.requires.range a.agent a.number k w at in
     c.loop-from.invariant.told a is k w at (omega (arith, there.agent, c.loop-from-test.false, c.agents-agents.ensures.count))
+
+pub loop-from-init : goal.loop-from-init
+loop-from-init g c = record {
+  told = λ a is k w at l. absurd (omega arith);
+  settled = c.requires.settled;
+  all = c.requires.flags;
+}

@@ -26,3 +26,10 @@ returns g c = record {
       let agent : q.first.agent < length p = (question_at p c.args.questions.now c.requires.questions.each k q e).agent in
       c.loop-from.invariant.answered k q e (omega (arith, agent, c.loop-from-test.false, c.agents-agents.ensures.count));
 }
+
+pub loop-from-init : goal.loop-from-init
+loop-from-init g c = record {
+  answered = λ m q at l. absurd (omega arith);
+  all_flags = c.requires.flags;
+  known = c.requires.flagged;
+}

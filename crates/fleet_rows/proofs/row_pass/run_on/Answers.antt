@@ -13,3 +13,11 @@ loop-t-preserved g c =
       used = made.used;
       keeps = g.met.U.RowUse.joined p b c.args.uses.now c.loop-t.uses c.use_tick.new.uses c.loop-t.invariant.keeps made.keeps;
     }
+
+pub loop-t-init : goal.loop-t-init
+loop-t-init g c = record {
+  rows = c.requires.rows;
+  counts = c.requires.counts;
+  used = c.requires.used;
+  keeps = g.met.U.RowUse.same (g.P.ProgramView.program c.args.program.now) c.args.block.now c.args.uses.now;
+}

@@ -10,7 +10,7 @@ pub run_on-requires-clause-rows : goal.run_on-requires-clause-rows
 run_on-requires-clause-rows g c =
     let p = g.P.ProgramView.program c.args.program.now in
     let made = c.in_ok-new.ensures in
-    let zeros : c.in_ok-vec.field-0.items ≡ replicate (length p) 0 = c.in_ok-vec.ensures.items_if_clones_equal (λ y same. same) ∙ ap (λ (n : ℕ). replicate n 0) (c.from.ensures ∙ c.agents.ensures.count) in
+    let zeros : c.in_ok-vec.field-0.items ≡ replicate (length p) 0 = c.in_ok-vec.ensures.items_if_clones_equal (λ y same. same) ∙ ap (λ (n : ℕ). replicate n 0) (c.from-2.ensures ∙ c.agents.ensures.count) in
     subst (λ (xs : List ℕ). AreRowsAt p c.args.block.now (IsCounted xs) 0 c.in_ok-new.field-0) (sym zeros)
     (rows_begin p c.args.block.now c.in_ok-new.field-0 (length p)
     (record {
@@ -24,13 +24,13 @@ run_on-requires-clause-rows g c =
 pub run_on-requires-clause-counts : goal.run_on-requires-clause-counts
 run_on-requires-clause-counts g c =
     let p = g.P.ProgramView.program c.args.program.now in
-    let zeros : c.in_ok-vec.field-0.items ≡ replicate (length p) 0 = c.in_ok-vec.ensures.items_if_clones_equal (λ y same. same) ∙ ap (λ (n : ℕ). replicate n 0) (c.from.ensures ∙ c.agents.ensures.count) in
+    let zeros : c.in_ok-vec.field-0.items ≡ replicate (length p) 0 = c.in_ok-vec.ensures.items_if_clones_equal (λ y same. same) ∙ ap (λ (n : ℕ). replicate n 0) (c.from-2.ensures ∙ c.agents.ensures.count) in
     subst (AreMid p 0 0) (sym zeros) (mid_first p)
 
 pub run_on-requires-clause-used : goal.run_on-requires-clause-used
 run_on-requires-clause-used g c =
     let p = g.P.ProgramView.program c.args.program.now in
-    let zeros : c.in_ok-vec.field-0.items ≡ replicate (length p) 0 = c.in_ok-vec.ensures.items_if_clones_equal (λ y same. same) ∙ ap (λ (n : ℕ). replicate n 0) (c.from.ensures ∙ c.agents.ensures.count) in
+    let zeros : c.in_ok-vec.field-0.items ≡ replicate (length p) 0 = c.in_ok-vec.ensures.items_if_clones_equal (λ y same. same) ∙ ap (λ (n : ℕ). replicate n 0) (c.from-2.ensures ∙ c.agents.ensures.count) in
     subst (λ (xs : List ℕ). g.U.RowUse.used p c.args.block.now xs c.args.uses.now) (sym zeros) c.requires.used
 
 pub returns-clause-used : goal.returns-clause-used

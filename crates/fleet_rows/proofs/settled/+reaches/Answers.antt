@@ -64,3 +64,18 @@ returns-clause-no g t c = λ e.
     (λ b agent number some r. c.reaches-2.ensures.no (c.joined-2.ensures.no e).1 (subst (λ (x : ActionId). Reaches p c.args.first x)
     (let f : b.number ≡ c.before-2.result.number = omega (arith, number, c.before-2.ensures.number) in
     (λ s. record { agent = (agent ∙ sym c.before-2.ensures.agent) s; number = f s })) r))
+
+pub loop-k-init : goal.loop-k-init
+loop-k-init g t c = record {
+  fewer = omega arith;
+  apart = λ known m w l. absurd (omega arith);
+}
+
+pub returns-then-tick-clause-yes : goal.returns-then-tick-clause-yes
+returns-then-tick-clause-yes g t c = λ e. absurd (cc)
+
+pub returns-in-Some-true-clause-no : goal.returns-in-Some-true-clause-no
+returns-in-Some-true-clause-no g t c = λ e. absurd (cc)
+
+pub returns-then-last-le1-clause-yes : goal.returns-then-last-le1-clause-yes
+returns-then-last-le1-clause-yes g t c = λ e. (let some = c.joined.ensures.yes e in absurd (cc))

@@ -49,3 +49,12 @@ returns-clause-no g c = λ e.
     (λ b agent number some r. c.reaches-2.ensures.no (c.joined-2.ensures.no e).1 (subst (λ (x : ActionId). Reaches p c.args.first x)
     (let f : b.number ≡ c.before-before.result.number = omega (arith, number, c.before-before.ensures.number) in
     (λ s. record { agent = (agent ∙ sym c.before-before.ensures.agent) s; number = f s })) r))
+
+pub loop-m-init : goal.loop-m-init
+loop-m-init g c = record { apart = λ known m w l. (let before = l.0 in absurd (omega arith)) }
+
+pub returns-in-Some-true-clause-no : goal.returns-in-Some-true-clause-no
+returns-in-Some-true-clause-no g c = λ e. absurd (cc)
+
+pub returns-then-action-le1-clause-yes : goal.returns-then-action-le1-clause-yes
+returns-then-action-le1-clause-yes g c = λ e. (let some = c.joined.ensures.yes e in absurd (cc))

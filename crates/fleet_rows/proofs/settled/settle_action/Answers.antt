@@ -1,4 +1,4 @@
-use Rattle.std.proofs.Common.{◌≡◌, ◌≢◌, ◌+◌, ◌<◌, ℕ, Bool, true, false, List, length, get_or, set, sym, subst, ap, ◌∙◌, arith, inl, inr}
+use Rattle.std.proofs.Common.{◌≡◌, ◌≢◌, ◌+◌, ◌<◌, ℕ, Bool, true, false, List, length, get_or, set, refl, sym, subst, ap, ◌∙◌, arith, inl, inr}
 use Rattle.std.specs.Prelude.{slice_get, Some}
 use Rattle.std.proofs.lemmas.Option.{slice_get_within}
 use Rattle.std.proofs.lemmas.List.{get_or-set_same, get_or-set_other}
@@ -78,3 +78,13 @@ returns g c =
       others = λ n out. c.loop-k.invariant.others n (elim out [ inl l ↦ inl (omega (arith, c.first-first.ensures)) | inr l ↦ inr (omega (arith, c.first-first.ensures, whole)) ]);
       asked = c.loop-k.invariant.asked;
     }
+
+pub loop-k-init : goal.loop-k-init
+loop-k-init g c = record {
+  settled = λ m w l. absurd (omega arith);
+  others = λ n out. refl;
+  asked = λ j set. set;
+}
+
+pub is_implied-requires-clause-latest : goal.is_implied-requires-clause-latest
+is_implied-requires-clause-latest g c = c.latest_await-latest.ensures (omega (arith, c.loop-k-test.true, c.await_count-k-end.ensures))

@@ -48,3 +48,11 @@ add_tick-requires-clause-ticked g c =
     let e : c.loop-t.t ≡ length c.loop-t.order.ends.items - 1 = omega (arith, c.loop-t.invariant.ends) in
     subst (IsTicked p c.tick.new.self) e
     (ticked p _ c.loop-t.invariant.nobody c.loop-t.t c.loop-t.machine.configuration c.loop-t.invariant.here c.tick.new.self c.tick.ensures.runs c.tick.ensures.after c.tick.ensures.moving)
+
+pub returns-clause-order : goal.returns-clause-order
+returns-clause-order g c = c.loop-t.invariant.order
+
+pub returns-clause-ticks : goal.returns-clause-ticks
+returns-clause-ticks g c =
+    let e : c.loop-t.t ≡ c.args.ticks = omega arith in
+    omega (arith, c.loop-t.invariant.ends, e)

@@ -1,4 +1,4 @@
-use Rattle.std.proofs.Common.{◌∙◌, false, arith}
+use Rattle.std.proofs.Common.{◌≡◌, ◌∙◌, true, false, refl, arith, inr}
 use Rattle.std.proofs.lemmas.List.{get_or_read}
 use Rattle.std.proofs.lemmas.Option.{slice_get_within}
 use Rattle.fleet_rows.proofs.Answered.{asked_row, asked_question, next_asked}
@@ -25,3 +25,15 @@ returns-then-ends_with-clause-asked g c =
     let within = slice_get_within c.args.self.now.questions.now next asked.0 asked.1 in
     next_asked (g.P.ProgramView.program c.args.program.now) c.args.block.now.columns c.args.self.now.questions.now c.args.action next _ asked flags c.requires.flags c.answer_one.result c.answer_one.ensures.answer
     (λ none. c.answer_one.ensures.none none ∙ get_or_read flags next c.index.result.now (omega (arith, within, c.requires.flags)) c.index.ensures false)
+
+pub returns-else-ends_with-clause-asked : goal.returns-else-ends_with-clause-asked
+returns-else-ends_with-clause-asked g c = record {
+  others = λ k ne. refl;
+  step = inr (refl, refl, λ q at e. (let ends : c.ends_with.result ≡ true = c.ends_with.ensures.1 (q, at, e) in let not : c.ends_with.result ≡ false = c.if-ends_with.false in cc));
+}
+
+pub index_mut-requires : goal.index_mut-requires
+index_mut-requires g c =
+    let q = c.ends_with.ensures.0 c.if-ends_with.true in
+    let within = slice_get_within c.args.self.now.questions.now c.args.self.now.next q.0 q.1 in
+    omega (arith, within, c.requires.flags)

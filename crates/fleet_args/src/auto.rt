@@ -5,7 +5,7 @@ ghost use Rattle.fleet_args.specs.Arguments.{IsLeafCommand};
 ghost use Rattle.fleet_args.specs.Values.{values_in};
 ghost use Rattle.fleet_args.specs.Auto.{auto_shape, AsksAuto, has_auto_values};
 
-use crate::arguments::{deps, holds, planning};
+use crate::arguments::{Argument, command_of};
 use crate::values::{count, deps_of, number};
 use clap::{ArgMatches, Command};
 use fleet_model::Deps;
@@ -29,13 +29,21 @@ pub(crate) fn auto_command<'a>(
 ) -> Result<Command<'a>, AllocError>
     ensures { IfOk result (IsLeafCommand (auto_shape names.entry)) }
 {
-    planning(
+    command_of(
         alloc,
+        names,
         "auto",
         "Plans, compiles, verifies and runs: prints the positions tick by tick, then agents, ticks, chain and held",
-    )?
-    .arg(deps(alloc, names))?
-    .arg(holds(alloc))
+        &[
+            Argument::Map,
+            Argument::Scen,
+            Argument::Agents,
+            Argument::Horizon,
+            Argument::Tries,
+            Argument::Deps,
+            Argument::Holds,
+        ],
+    )
 }
 
 /// What the matches of the command ask: none where a word is missing, or a text is no number or name.

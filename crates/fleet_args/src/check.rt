@@ -5,7 +5,7 @@ ghost use Rattle.fleet_args.specs.Arguments.{IsLeafCommand};
 ghost use Rattle.fleet_args.specs.Values.{values_in};
 ghost use Rattle.fleet_args.specs.Check.{check_shape, AsksCheck, has_check_values};
 
-use crate::arguments::{agents, map_and_scen, plan};
+use crate::arguments::{Argument, command_of};
 use crate::values::number;
 use clap::{ArgMatches, Command};
 use std::alloc::{AllocError, Global};
@@ -19,16 +19,24 @@ pub struct CheckRequest<'a> {
     pub agents: Option<u16>,
 }
 
-pub(crate) fn check_command<'a>(alloc: Global) -> Result<Command<'a>, AllocError>
+pub(crate) fn check_command<'a>(
+    alloc: Global,
+    names: &'a [&'a str],
+) -> Result<Command<'a>, AllocError>
     ensures { IfOk result (IsLeafCommand check_shape) }
 {
-    map_and_scen(
+    command_of(
         alloc,
+        names,
         "check",
         "Tells whether a plan is free of conflict, or its first fault",
-    )?
-    .arg(plan(alloc))?
-    .arg(agents(alloc))
+        &[
+            Argument::Map,
+            Argument::Scen,
+            Argument::Plan,
+            Argument::Agents,
+        ],
+    )
 }
 
 /// What the matches of the command ask: none where a word is missing, or a text is no number.

@@ -1,11 +1,11 @@
 //! The command `compile`: what it is asked for, its words and options, and how they are read.
 
-ghost use Rattle.std.specs.Prelude.{◌≡◌, ◌∷◌, [], false, IfOk, MatchOption, codes};
-ghost use Rattle.fleet_args.specs.Arguments.{IsLeafCommand, command, word};
+ghost use Rattle.std.specs.Prelude.{◌≡◌, false, IfOk, MatchOption};
+ghost use Rattle.fleet_args.specs.Arguments.{IsLeafCommand};
 ghost use Rattle.fleet_args.specs.Values.{values_in};
 ghost use Rattle.fleet_args.specs.Compile.{compile_shape, AsksCompile, has_compile_values};
 
-use crate::arguments::{agents, deps, dwell, map_and_scen, out, plan};
+use crate::arguments::{Argument, command_of};
 use crate::values::{count, deps_of, number};
 use clap::{ArgMatches, Command};
 use fleet_model::Deps;
@@ -23,30 +23,27 @@ pub struct CompileRequest<'a> {
     pub dwell: u32,
 }
 
-/// The command with its words, before its options.
-fn compile_words<'a>(alloc: Global) -> Result<Command<'a>, AllocError>
-    ensures { IfOk result (IsLeafCommand (command (codes "compile")
-        (word (codes "map") ∷ word (codes "scen") ∷ word (codes "plan") ∷ word (codes "out") ∷ []))) }
-{
-    map_and_scen(
-        alloc,
-        "compile",
-        "Compiles a conflict-free plan into a program, writes it to OUT, and prints its agents, moves, awaits and bytes",
-    )?
-    .arg(plan(alloc))?
-    .arg(out(alloc))
-}
-
 pub(crate) fn compile_command<'a>(
     alloc: Global,
     names: &'a [&'a str],
 ) -> Result<Command<'a>, AllocError>
     ensures { IfOk result (IsLeafCommand (compile_shape names.entry)) }
 {
-    compile_words(alloc)?
-        .arg(agents(alloc))?
-        .arg(deps(alloc, names))?
-        .arg(dwell(alloc))
+    command_of(
+        alloc,
+        names,
+        "compile",
+        "Compiles a conflict-free plan into a program, writes it to OUT, and prints its agents, moves, awaits and bytes",
+        &[
+            Argument::Map,
+            Argument::Scen,
+            Argument::Plan,
+            Argument::Out,
+            Argument::Agents,
+            Argument::Deps,
+            Argument::Dwell,
+        ],
+    )
 }
 
 /// What the matches of the command ask: none where a word is missing, or a text is no number or name.

@@ -5,7 +5,7 @@ ghost use Rattle.fleet_args.specs.Arguments.{IsLeafCommand};
 ghost use Rattle.fleet_args.specs.Values.{values_in};
 ghost use Rattle.fleet_args.specs.Instance.{instance_shape, AsksInstance, has_instance_values};
 
-use crate::arguments::{agents, map_and_scen};
+use crate::arguments::{Argument, command_of};
 use crate::values::number;
 use clap::{ArgMatches, Command};
 use std::alloc::{AllocError, Global};
@@ -18,15 +18,19 @@ pub struct InstanceRequest<'a> {
     pub agents: Option<u16>,
 }
 
-pub(crate) fn instance_command<'a>(alloc: Global) -> Result<Command<'a>, AllocError>
+pub(crate) fn instance_command<'a>(
+    alloc: Global,
+    names: &'a [&'a str],
+) -> Result<Command<'a>, AllocError>
     ensures { IfOk result (IsLeafCommand instance_shape) }
 {
-    map_and_scen(
+    command_of(
         alloc,
+        names,
         "instance",
         "Prints the size of a map, its passable cells, and each agent's start and goal",
-    )?
-    .arg(agents(alloc))
+        &[Argument::Map, Argument::Scen, Argument::Agents],
+    )
 }
 
 /// What the matches of the command ask: none where a word is missing, or a text is no number.

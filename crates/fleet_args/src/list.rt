@@ -5,7 +5,7 @@ ghost use Rattle.fleet_args.specs.Arguments.{IsLeafCommand};
 ghost use Rattle.fleet_args.specs.Values.{values_in};
 ghost use Rattle.fleet_args.specs.List.{list_shape, AsksList, has_list_values};
 
-use crate::arguments::program;
+use crate::arguments::{Argument, command_of};
 use clap::{ArgMatches, Command};
 use std::alloc::{AllocError, Global};
 
@@ -15,14 +15,19 @@ pub struct ListRequest<'a> {
     pub program: &'a str,
 }
 
-pub(crate) fn list_command<'a>(alloc: Global) -> Result<Command<'a>, AllocError>
+pub(crate) fn list_command<'a>(
+    alloc: Global,
+    names: &'a [&'a str],
+) -> Result<Command<'a>, AllocError>
     ensures { IfOk result (IsLeafCommand list_shape) }
 {
-    Command::new(alloc, "list")
-        .about(
-            "Prints any program as text: a line for each agent, and after it one for each of its actions",
-        )
-        .arg(program(alloc))
+    command_of(
+        alloc,
+        names,
+        "list",
+        "Prints any program as text: a line for each agent, and after it one for each of its actions",
+        &[Argument::Program],
+    )
 }
 
 /// What the matches of the command ask: none where the word is missing.

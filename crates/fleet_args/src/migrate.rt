@@ -5,7 +5,7 @@ ghost use Rattle.fleet_args.specs.Arguments.{IsLeafCommand};
 ghost use Rattle.fleet_args.specs.Values.{values_in};
 ghost use Rattle.fleet_args.specs.Migrate.{migrate_shape, AsksMigrate, has_migrate_values};
 
-use crate::arguments::{out, program};
+use crate::arguments::{Argument, command_of};
 use clap::{ArgMatches, Command};
 use std::alloc::{AllocError, Global};
 
@@ -16,13 +16,19 @@ pub struct MigrateRequest<'a> {
     pub out: &'a str,
 }
 
-pub(crate) fn migrate_command<'a>(alloc: Global) -> Result<Command<'a>, AllocError>
+pub(crate) fn migrate_command<'a>(
+    alloc: Global,
+    names: &'a [&'a str],
+) -> Result<Command<'a>, AllocError>
     ensures { IfOk result (IsLeafCommand migrate_shape) }
 {
-    Command::new(alloc, "migrate")
-        .about("Writes a program to OUT in version 2 of the bytes, and prints how many they are")
-        .arg(program(alloc))?
-        .arg(out(alloc))
+    command_of(
+        alloc,
+        names,
+        "migrate",
+        "Writes a program to OUT in version 2 of the bytes, and prints how many they are",
+        &[Argument::Program, Argument::Out],
+    )
 }
 
 /// What the matches of the command ask: none where a word is missing.

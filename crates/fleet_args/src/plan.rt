@@ -5,7 +5,7 @@ ghost use Rattle.fleet_args.specs.Arguments.{IsLeafCommand};
 ghost use Rattle.fleet_args.specs.Values.{values_in};
 ghost use Rattle.fleet_args.specs.Plan.{plan_shape, AsksPlan, has_plan_values};
 
-use crate::arguments::planning;
+use crate::arguments::{Argument, command_of};
 use crate::values::{count, number};
 use clap::{ArgMatches, Command};
 use std::alloc::{AllocError, Global};
@@ -20,13 +20,24 @@ pub struct PlanRequest<'a> {
     pub tries: u32,
 }
 
-pub(crate) fn plan_command<'a>(alloc: Global) -> Result<Command<'a>, AllocError>
+pub(crate) fn plan_command<'a>(
+    alloc: Global,
+    names: &'a [&'a str],
+) -> Result<Command<'a>, AllocError>
     ensures { IfOk result (IsLeafCommand plan_shape) }
 {
-    planning(
+    command_of(
         alloc,
+        names,
         "plan",
         "Plans a path for each agent in turn, and prints the plan text",
+        &[
+            Argument::Map,
+            Argument::Scen,
+            Argument::Agents,
+            Argument::Horizon,
+            Argument::Tries,
+        ],
     )
 }
 

@@ -5,7 +5,7 @@ ghost use Rattle.fleet_args.specs.Arguments.{IsLeafCommand};
 ghost use Rattle.fleet_args.specs.Values.{values_in};
 ghost use Rattle.fleet_args.specs.Rehearse.{rehearse_shape, AsksRehearse, has_rehearse_values};
 
-use crate::arguments::{holds, program};
+use crate::arguments::{Argument, command_of};
 use clap::{ArgMatches, Command};
 use std::alloc::{AllocError, Global};
 
@@ -16,15 +16,19 @@ pub struct RehearseRequest<'a> {
     pub holds: Option<&'a str>,
 }
 
-pub(crate) fn rehearse_command<'a>(alloc: Global) -> Result<Command<'a>, AllocError>
+pub(crate) fn rehearse_command<'a>(
+    alloc: Global,
+    names: &'a [&'a str],
+) -> Result<Command<'a>, AllocError>
     ensures { IfOk result (IsLeafCommand rehearse_shape) }
 {
-    Command::new(alloc, "rehearse")
-        .about(
-            "Runs any program until it is finished or stuck: prints the positions tick by tick, then agents, ticks and held",
-        )
-        .arg(program(alloc))?
-        .arg(holds(alloc))
+    command_of(
+        alloc,
+        names,
+        "rehearse",
+        "Runs any program until it is finished or stuck: prints the positions tick by tick, then agents, ticks and held",
+        &[Argument::Program, Argument::Holds],
+    )
 }
 
 /// What the matches of the command ask: none where the word is missing.

@@ -5,7 +5,7 @@ ghost use Rattle.fleet_args.specs.Arguments.{IsLeafCommand};
 ghost use Rattle.fleet_args.specs.Values.{values_in};
 ghost use Rattle.fleet_args.specs.Run.{run_shape, AsksRun, has_run_values};
 
-use crate::arguments::{agents, holds, map_and_scen, program};
+use crate::arguments::{Argument, command_of};
 use crate::values::number;
 use clap::{ArgMatches, Command};
 use std::alloc::{AllocError, Global};
@@ -20,17 +20,25 @@ pub struct RunRequest<'a> {
     pub holds: Option<&'a str>,
 }
 
-pub(crate) fn run_command<'a>(alloc: Global) -> Result<Command<'a>, AllocError>
+pub(crate) fn run_command<'a>(
+    alloc: Global,
+    names: &'a [&'a str],
+) -> Result<Command<'a>, AllocError>
     ensures { IfOk result (IsLeafCommand run_shape) }
 {
-    map_and_scen(
+    command_of(
         alloc,
+        names,
         "run",
         "Verifies a program and runs it: prints the positions tick by tick, then agents, ticks, chain and held",
-    )?
-    .arg(program(alloc))?
-    .arg(agents(alloc))?
-    .arg(holds(alloc))
+        &[
+            Argument::Map,
+            Argument::Scen,
+            Argument::Program,
+            Argument::Agents,
+            Argument::Holds,
+        ],
+    )
 }
 
 /// What the matches of the command ask: none where a word is missing, or a text is no number.

@@ -5,7 +5,7 @@ ghost use Rattle.fleet_args.specs.Arguments.{IsLeafCommand};
 ghost use Rattle.fleet_args.specs.Values.{values_in};
 ghost use Rattle.fleet_args.specs.Thin.{thin_shape, AsksThin, has_thin_values};
 
-use crate::arguments::{agents, map_and_scen, out, program};
+use crate::arguments::{Argument, command_of};
 use crate::values::number;
 use clap::{ArgMatches, Command};
 use std::alloc::{AllocError, Global};
@@ -20,17 +20,25 @@ pub struct ThinRequest<'a> {
     pub agents: Option<u16>,
 }
 
-pub(crate) fn thin_command<'a>(alloc: Global) -> Result<Command<'a>, AllocError>
+pub(crate) fn thin_command<'a>(
+    alloc: Global,
+    names: &'a [&'a str],
+) -> Result<Command<'a>, AllocError>
     ensures { IfOk result (IsLeafCommand thin_shape) }
 {
-    map_and_scen(
+    command_of(
         alloc,
+        names,
         "thin",
         "Drops the awaits of an accepted program that others imply, writes it to OUT, and prints its awaits before and after",
-    )?
-    .arg(program(alloc))?
-    .arg(out(alloc))?
-    .arg(agents(alloc))
+        &[
+            Argument::Map,
+            Argument::Scen,
+            Argument::Program,
+            Argument::Out,
+            Argument::Agents,
+        ],
+    )
 }
 
 /// What the matches of the command ask: none where a word is missing, or a text is no number.

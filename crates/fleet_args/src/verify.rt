@@ -5,7 +5,7 @@ ghost use Rattle.fleet_args.specs.Arguments.{IsLeafCommand};
 ghost use Rattle.fleet_args.specs.Values.{values_in};
 ghost use Rattle.fleet_args.specs.Verify.{verify_shape, AsksVerify, has_verify_values};
 
-use crate::arguments::{agents, map_and_scen, program};
+use crate::arguments::{Argument, command_of};
 use crate::values::number;
 use clap::{ArgMatches, Command};
 use std::alloc::{AllocError, Global};
@@ -19,16 +19,24 @@ pub struct VerifyRequest<'a> {
     pub agents: Option<u16>,
 }
 
-pub(crate) fn verify_command<'a>(alloc: Global) -> Result<Command<'a>, AllocError>
+pub(crate) fn verify_command<'a>(
+    alloc: Global,
+    names: &'a [&'a str],
+) -> Result<Command<'a>, AllocError>
     ensures { IfOk result (IsLeafCommand verify_shape) }
 {
-    map_and_scen(
+    command_of(
         alloc,
+        names,
         "verify",
         "Tells whether a program is safe and arrives whoever is held, or its first fault",
-    )?
-    .arg(program(alloc))?
-    .arg(agents(alloc))
+        &[
+            Argument::Map,
+            Argument::Scen,
+            Argument::Program,
+            Argument::Agents,
+        ],
+    )
 }
 
 /// What the matches of the command ask: none where a word is missing, or a text is no number.

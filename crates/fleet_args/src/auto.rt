@@ -6,7 +6,8 @@ ghost use Rattle.fleet_args.specs.Values.{values_in};
 ghost use Rattle.fleet_args.specs.Auto.{auto_shape, AsksAuto, has_auto_values};
 
 use crate::arguments::{Argument, command_of};
-use crate::values::{count, deps_of, number};
+use crate::plan::{PlanRequest, plan_in};
+use crate::values::given_deps;
 use clap::{ArgMatches, Command};
 use fleet_model::Deps;
 use std::alloc::{AllocError, Global};
@@ -51,13 +52,20 @@ pub(crate) fn auto_in<'a>(matches: &ArgMatches<'a>) -> Option<AutoRequest<'a>>
     ensures { MatchOption result (has_auto_values (values_in matches.now) ≡ false)
         (AsksAuto (values_in matches.now)) }
 {
+    let PlanRequest {
+        map,
+        scen,
+        agents,
+        horizon,
+        tries,
+    } = plan_in(matches)?;
     Some(AutoRequest {
-        map: matches.get_str("map")?,
-        scen: matches.get_str("scen")?,
-        agents: number(matches, "agents")?,
-        horizon: number(matches, "horizon")??,
-        tries: count(matches, "tries")??,
-        deps: deps_of(matches.get_str("deps")?)?,
+        map,
+        scen,
+        agents,
+        horizon,
+        tries,
+        deps: given_deps(matches, "deps")?,
         holds: matches.get_str("holds"),
     })
 }

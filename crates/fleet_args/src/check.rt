@@ -6,7 +6,7 @@ ghost use Rattle.fleet_args.specs.Values.{values_in};
 ghost use Rattle.fleet_args.specs.Check.{check_shape, AsksCheck, has_check_values};
 
 use crate::arguments::{Argument, command_of};
-use crate::values::number;
+use crate::instance::{InstanceRequest, instance_in};
 use clap::{ArgMatches, Command};
 use std::alloc::{AllocError, Global};
 
@@ -44,10 +44,12 @@ pub(crate) fn check_in<'a>(matches: &ArgMatches<'a>) -> Option<CheckRequest<'a>>
     ensures { MatchOption result (has_check_values (values_in matches.now) ≡ false)
         (AsksCheck (values_in matches.now)) }
 {
+    let InstanceRequest { map, scen, agents } = instance_in(matches)?;
+    let plan = matches.get_str("plan")?;
     Some(CheckRequest {
-        map: matches.get_str("map")?,
-        scen: matches.get_str("scen")?,
-        plan: matches.get_str("plan")?,
-        agents: number(matches, "agents")?,
+        map,
+        scen,
+        plan,
+        agents,
     })
 }

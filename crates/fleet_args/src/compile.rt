@@ -6,7 +6,8 @@ ghost use Rattle.fleet_args.specs.Values.{values_in};
 ghost use Rattle.fleet_args.specs.Compile.{compile_shape, AsksCompile, has_compile_values};
 
 use crate::arguments::{Argument, command_of};
-use crate::values::{count, deps_of, number};
+use crate::check::{CheckRequest, check_in};
+use crate::values::{given_count, given_deps};
 use clap::{ArgMatches, Command};
 use fleet_model::Deps;
 use std::alloc::{AllocError, Global};
@@ -51,13 +52,19 @@ pub(crate) fn compile_in<'a>(matches: &ArgMatches<'a>) -> Option<CompileRequest<
     ensures { MatchOption result (has_compile_values (values_in matches.now) ≡ false)
         (AsksCompile (values_in matches.now)) }
 {
+    let CheckRequest {
+        map,
+        scen,
+        plan,
+        agents,
+    } = check_in(matches)?;
     Some(CompileRequest {
-        map: matches.get_str("map")?,
-        scen: matches.get_str("scen")?,
-        plan: matches.get_str("plan")?,
+        map,
+        scen,
+        plan,
         out: matches.get_str("out")?,
-        agents: number(matches, "agents")?,
-        deps: deps_of(matches.get_str("deps")?)?,
-        dwell: count(matches, "dwell")??,
+        agents,
+        deps: given_deps(matches, "deps")?,
+        dwell: given_count(matches, "dwell")?,
     })
 }

@@ -6,7 +6,7 @@ ghost use Rattle.fleet_args.specs.Values.{values_in};
 ghost use Rattle.fleet_args.specs.Dispatch.{dispatch_shape, AsksDispatch, has_dispatch_values};
 
 use crate::arguments::{Argument, command_of};
-use crate::values::number;
+use crate::verify::{VerifyRequest, verify_in};
 use clap::{ArgMatches, Command};
 use std::alloc::{AllocError, Global};
 
@@ -44,10 +44,16 @@ pub(crate) fn dispatch_in<'a>(matches: &ArgMatches<'a>) -> Option<DispatchReques
     ensures { MatchOption result (has_dispatch_values (values_in matches.now) ≡ false)
         (AsksDispatch (values_in matches.now)) }
 {
+    let VerifyRequest {
+        map,
+        scen,
+        program,
+        agents,
+    } = verify_in(matches)?;
     Some(DispatchRequest {
-        map: matches.get_str("map")?,
-        scen: matches.get_str("scen")?,
-        program: matches.get_str("program")?,
-        agents: number(matches, "agents")?,
+        map,
+        scen,
+        program,
+        agents,
     })
 }

@@ -6,7 +6,8 @@ ghost use Rattle.fleet_args.specs.Values.{values_in};
 ghost use Rattle.fleet_args.specs.Plan.{plan_shape, AsksPlan, has_plan_values};
 
 use crate::arguments::{Argument, command_of};
-use crate::values::{count, number};
+use crate::instance::{InstanceRequest, instance_in};
+use crate::values::{given_count, given_number};
 use clap::{ArgMatches, Command};
 use std::alloc::{AllocError, Global};
 
@@ -46,11 +47,12 @@ pub(crate) fn plan_in<'a>(matches: &ArgMatches<'a>) -> Option<PlanRequest<'a>>
     ensures { MatchOption result (has_plan_values (values_in matches.now) ≡ false)
         (AsksPlan (values_in matches.now)) }
 {
+    let InstanceRequest { map, scen, agents } = instance_in(matches)?;
     Some(PlanRequest {
-        map: matches.get_str("map")?,
-        scen: matches.get_str("scen")?,
-        agents: number(matches, "agents")?,
-        horizon: number(matches, "horizon")??,
-        tries: count(matches, "tries")??,
+        map,
+        scen,
+        agents,
+        horizon: given_number(matches, "horizon")?,
+        tries: given_count(matches, "tries")?,
     })
 }

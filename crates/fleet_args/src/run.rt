@@ -6,7 +6,7 @@ ghost use Rattle.fleet_args.specs.Values.{values_in};
 ghost use Rattle.fleet_args.specs.Run.{run_shape, AsksRun, has_run_values};
 
 use crate::arguments::{Argument, command_of};
-use crate::values::number;
+use crate::verify::{VerifyRequest, verify_in};
 use clap::{ArgMatches, Command};
 use std::alloc::{AllocError, Global};
 
@@ -46,11 +46,18 @@ pub(crate) fn run_in<'a>(matches: &ArgMatches<'a>) -> Option<RunRequest<'a>>
     ensures { MatchOption result (has_run_values (values_in matches.now) ≡ false)
         (AsksRun (values_in matches.now)) }
 {
+    let VerifyRequest {
+        map,
+        scen,
+        program,
+        agents,
+    } = verify_in(matches)?;
+    let holds = matches.get_str("holds");
     Some(RunRequest {
-        map: matches.get_str("map")?,
-        scen: matches.get_str("scen")?,
-        program: matches.get_str("program")?,
-        agents: number(matches, "agents")?,
-        holds: matches.get_str("holds"),
+        map,
+        scen,
+        program,
+        agents,
+        holds,
     })
 }

@@ -6,7 +6,7 @@ ghost use Rattle.fleet_args.specs.Values.{values_in};
 ghost use Rattle.fleet_args.specs.Thin.{thin_shape, AsksThin, has_thin_values};
 
 use crate::arguments::{Argument, command_of};
-use crate::values::number;
+use crate::verify::{VerifyRequest, verify_in};
 use clap::{ArgMatches, Command};
 use std::alloc::{AllocError, Global};
 
@@ -46,11 +46,18 @@ pub(crate) fn thin_in<'a>(matches: &ArgMatches<'a>) -> Option<ThinRequest<'a>>
     ensures { MatchOption result (has_thin_values (values_in matches.now) ≡ false)
         (AsksThin (values_in matches.now)) }
 {
+    let VerifyRequest {
+        map,
+        scen,
+        program,
+        agents,
+    } = verify_in(matches)?;
+    let out = matches.get_str("out")?;
     Some(ThinRequest {
-        map: matches.get_str("map")?,
-        scen: matches.get_str("scen")?,
-        program: matches.get_str("program")?,
-        out: matches.get_str("out")?,
-        agents: number(matches, "agents")?,
+        map,
+        scen,
+        program,
+        out,
+        agents,
     })
 }

@@ -6,7 +6,7 @@ ghost use Rattle.fleet_args.specs.Values.{values_in};
 ghost use Rattle.fleet_args.specs.Verify.{verify_shape, AsksVerify, has_verify_values};
 
 use crate::arguments::{Argument, command_of};
-use crate::values::number;
+use crate::instance::{InstanceRequest, instance_in};
 use clap::{ArgMatches, Command};
 use std::alloc::{AllocError, Global};
 
@@ -44,10 +44,12 @@ pub(crate) fn verify_in<'a>(matches: &ArgMatches<'a>) -> Option<VerifyRequest<'a
     ensures { MatchOption result (has_verify_values (values_in matches.now) ≡ false)
         (AsksVerify (values_in matches.now)) }
 {
+    let InstanceRequest { map, scen, agents } = instance_in(matches)?;
+    let program = matches.get_str("program")?;
     Some(VerifyRequest {
-        map: matches.get_str("map")?,
-        scen: matches.get_str("scen")?,
-        program: matches.get_str("program")?,
-        agents: number(matches, "agents")?,
+        map,
+        scen,
+        program,
+        agents,
     })
 }

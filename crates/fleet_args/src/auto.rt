@@ -1,6 +1,6 @@
 //! The command `auto`: what it is asked for, its words and options, and how they are read.
 
-ghost use Rattle.std.specs.Prelude.{◌≡◌, false, IfOk, MatchOption};
+ghost use Rattle.std.specs.Prelude.{◌≡◌, IfOk, true};
 ghost use Rattle.fleet_args.specs.Arguments.{IsLeafCommand};
 ghost use Rattle.fleet_args.specs.Values.{values_in};
 ghost use Rattle.fleet_args.specs.Auto.{auto_shape, AsksAuto, has_auto_values};
@@ -47,10 +47,10 @@ pub(crate) fn auto_command<'a>(
     )
 }
 
-/// What the matches of the command ask: none where a word is missing, or a text is no number or name.
-pub(crate) fn auto_in<'a>(matches: &ArgMatches<'a>) -> Option<AutoRequest<'a>>
-    ensures { MatchOption result (has_auto_values (values_in matches.now) ≡ false)
-        (AsksAuto (values_in matches.now)) }
+/// What the matches of the command ask.
+pub(crate) fn auto_in<'a>(matches: &ArgMatches<'a>) -> AutoRequest<'a>
+    requires { has_auto_values (values_in matches.now) ≡ true }
+    ensures { AsksAuto (values_in matches.now) result }
 {
     let PlanRequest {
         map,
@@ -58,14 +58,14 @@ pub(crate) fn auto_in<'a>(matches: &ArgMatches<'a>) -> Option<AutoRequest<'a>>
         agents,
         horizon,
         tries,
-    } = plan_in(matches)?;
-    Some(AutoRequest {
+    } = plan_in(matches);
+    AutoRequest {
         map,
         scen,
         agents,
         horizon,
         tries,
-        deps: given_deps(matches, "deps")?,
+        deps: given_deps(matches, "deps"),
         holds: matches.get_str("holds"),
-    })
+    }
 }

@@ -1,12 +1,13 @@
 //! The command `check`: what it is asked for, its words and options, and how they are read.
 
-ghost use Rattle.std.specs.Prelude.{◌≡◌, false, IfOk, MatchOption};
+ghost use Rattle.std.specs.Prelude.{◌≡◌, IfOk, true};
 ghost use Rattle.fleet_args.specs.Arguments.{IsLeafCommand};
 ghost use Rattle.fleet_args.specs.Values.{values_in};
 ghost use Rattle.fleet_args.specs.Check.{check_shape, AsksCheck, has_check_values};
 
 use crate::arguments::{Argument, command_of};
 use crate::instance::{InstanceRequest, instance_in};
+use crate::values::text;
 use clap::{ArgMatches, Command};
 use std::alloc::{AllocError, Global};
 
@@ -39,17 +40,17 @@ pub(crate) fn check_command<'a>(
     )
 }
 
-/// What the matches of the command ask: none where a word is missing, or a text is no number.
-pub(crate) fn check_in<'a>(matches: &ArgMatches<'a>) -> Option<CheckRequest<'a>>
-    ensures { MatchOption result (has_check_values (values_in matches.now) ≡ false)
-        (AsksCheck (values_in matches.now)) }
+/// What the matches of the command ask.
+pub(crate) fn check_in<'a>(matches: &ArgMatches<'a>) -> CheckRequest<'a>
+    requires { has_check_values (values_in matches.now) ≡ true }
+    ensures { AsksCheck (values_in matches.now) result }
 {
-    let InstanceRequest { map, scen, agents } = instance_in(matches)?;
-    let plan = matches.get_str("plan")?;
-    Some(CheckRequest {
+    let InstanceRequest { map, scen, agents } = instance_in(matches);
+    let plan = text(matches, "plan");
+    CheckRequest {
         map,
         scen,
         plan,
         agents,
-    })
+    }
 }

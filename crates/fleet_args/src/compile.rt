@@ -1,13 +1,13 @@
 //! The command `compile`: what it is asked for, its words and options, and how they are read.
 
-ghost use Rattle.std.specs.Prelude.{◌≡◌, false, IfOk, MatchOption};
+ghost use Rattle.std.specs.Prelude.{◌≡◌, IfOk, true};
 ghost use Rattle.fleet_args.specs.Arguments.{IsLeafCommand};
 ghost use Rattle.fleet_args.specs.Values.{values_in};
 ghost use Rattle.fleet_args.specs.Compile.{compile_shape, AsksCompile, has_compile_values};
 
 use crate::arguments::{Argument, command_of};
 use crate::check::{CheckRequest, check_in};
-use crate::values::{given_count, given_deps};
+use crate::values::{given_count, given_deps, text};
 use clap::{ArgMatches, Command};
 use fleet_model::Deps;
 use std::alloc::{AllocError, Global};
@@ -47,24 +47,24 @@ pub(crate) fn compile_command<'a>(
     )
 }
 
-/// What the matches of the command ask: none where a word is missing, or a text is no number or name.
-pub(crate) fn compile_in<'a>(matches: &ArgMatches<'a>) -> Option<CompileRequest<'a>>
-    ensures { MatchOption result (has_compile_values (values_in matches.now) ≡ false)
-        (AsksCompile (values_in matches.now)) }
+/// What the matches of the command ask.
+pub(crate) fn compile_in<'a>(matches: &ArgMatches<'a>) -> CompileRequest<'a>
+    requires { has_compile_values (values_in matches.now) ≡ true }
+    ensures { AsksCompile (values_in matches.now) result }
 {
     let CheckRequest {
         map,
         scen,
         plan,
         agents,
-    } = check_in(matches)?;
-    Some(CompileRequest {
+    } = check_in(matches);
+    CompileRequest {
         map,
         scen,
         plan,
-        out: matches.get_str("out")?,
+        out: text(matches, "out"),
         agents,
-        deps: given_deps(matches, "deps")?,
-        dwell: given_count(matches, "dwell")?,
-    })
+        deps: given_deps(matches, "deps"),
+        dwell: given_count(matches, "dwell"),
+    }
 }

@@ -1,6 +1,6 @@
 //! The command `dispatch`: what it is asked for, its words and options, and how they are read.
 
-ghost use Rattle.std.specs.Prelude.{◌≡◌, false, IfOk, MatchOption};
+ghost use Rattle.std.specs.Prelude.{◌≡◌, IfOk, true};
 ghost use Rattle.fleet_args.specs.Arguments.{IsLeafCommand};
 ghost use Rattle.fleet_args.specs.Values.{values_in};
 ghost use Rattle.fleet_args.specs.Dispatch.{dispatch_shape, AsksDispatch, has_dispatch_values};
@@ -39,21 +39,21 @@ pub(crate) fn dispatch_command<'a>(
     )
 }
 
-/// What the matches of the command ask: none where a word is missing, or a text is no number.
-pub(crate) fn dispatch_in<'a>(matches: &ArgMatches<'a>) -> Option<DispatchRequest<'a>>
-    ensures { MatchOption result (has_dispatch_values (values_in matches.now) ≡ false)
-        (AsksDispatch (values_in matches.now)) }
+/// What the matches of the command ask.
+pub(crate) fn dispatch_in<'a>(matches: &ArgMatches<'a>) -> DispatchRequest<'a>
+    requires { has_dispatch_values (values_in matches.now) ≡ true }
+    ensures { AsksDispatch (values_in matches.now) result }
 {
     let VerifyRequest {
         map,
         scen,
         program,
         agents,
-    } = verify_in(matches)?;
-    Some(DispatchRequest {
+    } = verify_in(matches);
+    DispatchRequest {
         map,
         scen,
         program,
         agents,
-    })
+    }
 }

@@ -1,11 +1,12 @@
 //! The command `list`: what it is asked for, its words and options, and how they are read.
 
-ghost use Rattle.std.specs.Prelude.{◌≡◌, false, IfOk, MatchOption};
+ghost use Rattle.std.specs.Prelude.{◌≡◌, IfOk, true};
 ghost use Rattle.fleet_args.specs.Arguments.{IsLeafCommand};
 ghost use Rattle.fleet_args.specs.Values.{values_in};
 ghost use Rattle.fleet_args.specs.List.{list_shape, AsksList, has_list_values};
 
 use crate::arguments::{Argument, command_of};
+use crate::values::text;
 use clap::{ArgMatches, Command};
 use std::alloc::{AllocError, Global};
 
@@ -30,12 +31,12 @@ pub(crate) fn list_command<'a>(
     )
 }
 
-/// What the matches of the command ask: none where the word is missing.
-pub(crate) fn list_in<'a>(matches: &ArgMatches<'a>) -> Option<ListRequest<'a>>
-    ensures { MatchOption result (has_list_values (values_in matches.now) ≡ false)
-        (AsksList (values_in matches.now)) }
+/// What the matches of the command ask.
+pub(crate) fn list_in<'a>(matches: &ArgMatches<'a>) -> ListRequest<'a>
+    requires { has_list_values (values_in matches.now) ≡ true }
+    ensures { AsksList (values_in matches.now) result }
 {
-    Some(ListRequest {
-        program: matches.get_str("program")?,
-    })
+    ListRequest {
+        program: text(matches, "program"),
+    }
 }

@@ -1,11 +1,12 @@
 //! The command `migrate`: what it is asked for, its words, and how they are read.
 
-ghost use Rattle.std.specs.Prelude.{◌≡◌, false, IfOk, MatchOption};
+ghost use Rattle.std.specs.Prelude.{◌≡◌, IfOk, true};
 ghost use Rattle.fleet_args.specs.Arguments.{IsLeafCommand};
 ghost use Rattle.fleet_args.specs.Values.{values_in};
 ghost use Rattle.fleet_args.specs.Migrate.{migrate_shape, AsksMigrate, has_migrate_values};
 
 use crate::arguments::{Argument, command_of};
+use crate::values::text;
 use clap::{ArgMatches, Command};
 use std::alloc::{AllocError, Global};
 
@@ -31,13 +32,13 @@ pub(crate) fn migrate_command<'a>(
     )
 }
 
-/// What the matches of the command ask: none where a word is missing.
-pub(crate) fn migrate_in<'a>(matches: &ArgMatches<'a>) -> Option<MigrateRequest<'a>>
-    ensures { MatchOption result (has_migrate_values (values_in matches.now) ≡ false)
-        (AsksMigrate (values_in matches.now)) }
+/// What the matches of the command ask.
+pub(crate) fn migrate_in<'a>(matches: &ArgMatches<'a>) -> MigrateRequest<'a>
+    requires { has_migrate_values (values_in matches.now) ≡ true }
+    ensures { AsksMigrate (values_in matches.now) result }
 {
-    Some(MigrateRequest {
-        program: matches.get_str("program")?,
-        out: matches.get_str("out")?,
-    })
+    MigrateRequest {
+        program: text(matches, "program"),
+        out: text(matches, "out"),
+    }
 }

@@ -1,6 +1,6 @@
 //! The command `plan`: what it is asked for, its words and options, and how they are read.
 
-ghost use Rattle.std.specs.Prelude.{◌≡◌, false, IfOk, MatchOption};
+ghost use Rattle.std.specs.Prelude.{◌≡◌, IfOk, true};
 ghost use Rattle.fleet_args.specs.Arguments.{IsLeafCommand};
 ghost use Rattle.fleet_args.specs.Values.{values_in};
 ghost use Rattle.fleet_args.specs.Plan.{plan_shape, AsksPlan, has_plan_values};
@@ -42,17 +42,17 @@ pub(crate) fn plan_command<'a>(
     )
 }
 
-/// What the matches of the command ask: none where a word is missing, or a text is no number.
-pub(crate) fn plan_in<'a>(matches: &ArgMatches<'a>) -> Option<PlanRequest<'a>>
-    ensures { MatchOption result (has_plan_values (values_in matches.now) ≡ false)
-        (AsksPlan (values_in matches.now)) }
+/// What the matches of the command ask.
+pub(crate) fn plan_in<'a>(matches: &ArgMatches<'a>) -> PlanRequest<'a>
+    requires { has_plan_values (values_in matches.now) ≡ true }
+    ensures { AsksPlan (values_in matches.now) result }
 {
-    let InstanceRequest { map, scen, agents } = instance_in(matches)?;
-    Some(PlanRequest {
+    let InstanceRequest { map, scen, agents } = instance_in(matches);
+    PlanRequest {
         map,
         scen,
         agents,
-        horizon: given_number(matches, "horizon")?,
-        tries: given_count(matches, "tries")?,
-    })
+        horizon: given_number(matches, "horizon"),
+        tries: given_count(matches, "tries"),
+    }
 }

@@ -1,11 +1,12 @@
 //! The command `rehearse`: what it is asked for, its words and options, and how they are read.
 
-ghost use Rattle.std.specs.Prelude.{◌≡◌, false, IfOk, MatchOption};
+ghost use Rattle.std.specs.Prelude.{◌≡◌, IfOk, true};
 ghost use Rattle.fleet_args.specs.Arguments.{IsLeafCommand};
 ghost use Rattle.fleet_args.specs.Values.{values_in};
 ghost use Rattle.fleet_args.specs.Rehearse.{rehearse_shape, AsksRehearse, has_rehearse_values};
 
 use crate::arguments::{Argument, command_of};
+use crate::values::text;
 use clap::{ArgMatches, Command};
 use std::alloc::{AllocError, Global};
 
@@ -31,13 +32,13 @@ pub(crate) fn rehearse_command<'a>(
     )
 }
 
-/// What the matches of the command ask: none where the word is missing.
-pub(crate) fn rehearse_in<'a>(matches: &ArgMatches<'a>) -> Option<RehearseRequest<'a>>
-    ensures { MatchOption result (has_rehearse_values (values_in matches.now) ≡ false)
-        (AsksRehearse (values_in matches.now)) }
+/// What the matches of the command ask.
+pub(crate) fn rehearse_in<'a>(matches: &ArgMatches<'a>) -> RehearseRequest<'a>
+    requires { has_rehearse_values (values_in matches.now) ≡ true }
+    ensures { AsksRehearse (values_in matches.now) result }
 {
-    Some(RehearseRequest {
-        program: matches.get_str("program")?,
+    RehearseRequest {
+        program: text(matches, "program"),
         holds: matches.get_str("holds"),
-    })
+    }
 }

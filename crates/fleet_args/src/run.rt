@@ -1,6 +1,6 @@
 //! The command `run`: what it is asked for, its words and options, and how they are read.
 
-ghost use Rattle.std.specs.Prelude.{◌≡◌, false, IfOk, MatchOption};
+ghost use Rattle.std.specs.Prelude.{◌≡◌, IfOk, true};
 ghost use Rattle.fleet_args.specs.Arguments.{IsLeafCommand};
 ghost use Rattle.fleet_args.specs.Values.{values_in};
 ghost use Rattle.fleet_args.specs.Run.{run_shape, AsksRun, has_run_values};
@@ -41,23 +41,23 @@ pub(crate) fn run_command<'a>(
     )
 }
 
-/// What the matches of the command ask: none where a word is missing, or a text is no number.
-pub(crate) fn run_in<'a>(matches: &ArgMatches<'a>) -> Option<RunRequest<'a>>
-    ensures { MatchOption result (has_run_values (values_in matches.now) ≡ false)
-        (AsksRun (values_in matches.now)) }
+/// What the matches of the command ask.
+pub(crate) fn run_in<'a>(matches: &ArgMatches<'a>) -> RunRequest<'a>
+    requires { has_run_values (values_in matches.now) ≡ true }
+    ensures { AsksRun (values_in matches.now) result }
 {
     let VerifyRequest {
         map,
         scen,
         program,
         agents,
-    } = verify_in(matches)?;
+    } = verify_in(matches);
     let holds = matches.get_str("holds");
-    Some(RunRequest {
+    RunRequest {
         map,
         scen,
         program,
         agents,
         holds,
-    })
+    }
 }

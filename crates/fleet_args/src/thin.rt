@@ -1,11 +1,12 @@
 //! The command `thin`: what it is asked for, its words and options, and how they are read.
 
-ghost use Rattle.std.specs.Prelude.{◌≡◌, false, IfOk, MatchOption};
+ghost use Rattle.std.specs.Prelude.{◌≡◌, IfOk, true};
 ghost use Rattle.fleet_args.specs.Arguments.{IsLeafCommand};
 ghost use Rattle.fleet_args.specs.Values.{values_in};
 ghost use Rattle.fleet_args.specs.Thin.{thin_shape, AsksThin, has_thin_values};
 
 use crate::arguments::{Argument, command_of};
+use crate::values::text;
 use crate::verify::{VerifyRequest, verify_in};
 use clap::{ArgMatches, Command};
 use std::alloc::{AllocError, Global};
@@ -41,23 +42,23 @@ pub(crate) fn thin_command<'a>(
     )
 }
 
-/// What the matches of the command ask: none where a word is missing, or a text is no number.
-pub(crate) fn thin_in<'a>(matches: &ArgMatches<'a>) -> Option<ThinRequest<'a>>
-    ensures { MatchOption result (has_thin_values (values_in matches.now) ≡ false)
-        (AsksThin (values_in matches.now)) }
+/// What the matches of the command ask.
+pub(crate) fn thin_in<'a>(matches: &ArgMatches<'a>) -> ThinRequest<'a>
+    requires { has_thin_values (values_in matches.now) ≡ true }
+    ensures { AsksThin (values_in matches.now) result }
 {
     let VerifyRequest {
         map,
         scen,
         program,
         agents,
-    } = verify_in(matches)?;
-    let out = matches.get_str("out")?;
-    Some(ThinRequest {
+    } = verify_in(matches);
+    let out = text(matches, "out");
+    ThinRequest {
         map,
         scen,
         program,
         out,
         agents,
-    })
+    }
 }

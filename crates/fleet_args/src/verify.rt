@@ -1,12 +1,13 @@
 //! The command `verify`: what it is asked for, its words and options, and how they are read.
 
-ghost use Rattle.std.specs.Prelude.{◌≡◌, false, IfOk, MatchOption};
+ghost use Rattle.std.specs.Prelude.{◌≡◌, IfOk, true};
 ghost use Rattle.fleet_args.specs.Arguments.{IsLeafCommand};
 ghost use Rattle.fleet_args.specs.Values.{values_in};
 ghost use Rattle.fleet_args.specs.Verify.{verify_shape, AsksVerify, has_verify_values};
 
 use crate::arguments::{Argument, command_of};
 use crate::instance::{InstanceRequest, instance_in};
+use crate::values::text;
 use clap::{ArgMatches, Command};
 use std::alloc::{AllocError, Global};
 
@@ -39,17 +40,17 @@ pub(crate) fn verify_command<'a>(
     )
 }
 
-/// What the matches of the command ask: none where a word is missing, or a text is no number.
-pub(crate) fn verify_in<'a>(matches: &ArgMatches<'a>) -> Option<VerifyRequest<'a>>
-    ensures { MatchOption result (has_verify_values (values_in matches.now) ≡ false)
-        (AsksVerify (values_in matches.now)) }
+/// What the matches of the command ask.
+pub(crate) fn verify_in<'a>(matches: &ArgMatches<'a>) -> VerifyRequest<'a>
+    requires { has_verify_values (values_in matches.now) ≡ true }
+    ensures { AsksVerify (values_in matches.now) result }
 {
-    let InstanceRequest { map, scen, agents } = instance_in(matches)?;
-    let program = matches.get_str("program")?;
-    Some(VerifyRequest {
+    let InstanceRequest { map, scen, agents } = instance_in(matches);
+    let program = text(matches, "program");
+    VerifyRequest {
         map,
         scen,
         program,
         agents,
-    })
+    }
 }

@@ -5,6 +5,7 @@ use Rattle.clap.specs.Words.{App, Shape, Rule, Text, app_of, new_app, new_rule, 
 use Rattle.clap.specs.declared.builder.Arg.{Arg}
 use Rattle.clap.specs.declared.builder.Command.TheViews.{out-Command as fields_of}
 use Rattle.clap.specs.declared.builder.Command.{Command}
+use Rattle.clap.specs.declared.builder.ValueParser.{ValueParser}
 use Rattle.clap.specs.declared.builder.ValueParser.TheVariants as parser
 use Rattle.fleet_model.specs.declared.limits.TheConstants.{MAX_MOVES, MAX_TRIES}
 use Rattle.fleet_args.specs.declared.arguments.Argument.{Argument}
@@ -17,6 +18,10 @@ word id = record (new_rule id) { required = true; value_names = 1 }
 -- `--NAME VALUE`
 abbrev pub option : Text → Rule
 option name = record (new_rule name) { long = Some name; value_names = 1 }
+
+-- `--NAME VALUE`, where this parser takes the value, which is a default where the option is not used
+abbrev pub defaulted : Text → ValueParser → Text → Rule
+defaulted name parser default = record (option name) { parser = Some parser; defaults = default ∷ [] }
 
 -- `--agents K`, where K is a number up to 65535
 abbrev pub agents_rule : Rule

@@ -2,8 +2,9 @@
 
 ghost use Rattle.std.specs.Prelude.{IfOk, codes, fold, map};
 ghost use Rattle.clap.specs.Words.{app_of, with_rule};
-ghost use Rattle.fleet_args.specs.Arguments.{IsArg, IsLeafCommand, word, IsApp, IsLocal, option, agents_rule, horizon_rule, tries_rule, deps_rule, dwell_rule, rule_for, command};
+ghost use Rattle.fleet_args.specs.Arguments.{IsArg, IsLeafCommand, word, IsApp, IsLocal, option, agents_rule, horizon_rule, tries_rule, deps_rule, dwell_rule, rule_for, command, defaulted};
 
+use clap::builder::ValueParser;
 use clap::{Arg, Command};
 use fleet_model::{MAX_MOVES, MAX_TRIES};
 use std::alloc::{AllocError, Global};
@@ -42,6 +43,22 @@ fn option<'a>(alloc: Global, name: &'a str, value: &'a str, help: &'a str) -> Ar
         .long(name)
         .value_name(value)
         .help(help)
+}
+
+/// An option `--NAME` with one value that this parser takes, and a default.
+fn with_default<'a>(
+    alloc: Global,
+    name: &'a str,
+    value: &'a str,
+    help: &'a str,
+    parser: ValueParser<'a>,
+    default: &'a str,
+) -> Arg<'a>
+    ensures { IsArg (defaulted name.entry.now parser.entry default.entry.now) result }
+{
+    option(alloc, name, value, help)
+        .value_parser(parser)
+        .default_value(default)
 }
 
 fn map<'a>(alloc: Global) -> Arg<'a>
@@ -114,27 +131,27 @@ fn agents<'a>(alloc: Global) -> Arg<'a>
 fn horizon<'a>(alloc: Global) -> Arg<'a>
     ensures { IsArg horizon_rule result }
 {
-    option(
+    with_default(
         alloc,
         "horizon",
         "H",
         "The latest time at which an agent may arrive, 1 to 65535; below its shortest way there is no path",
+        clap::value_parser!(u16).range(1..),
+        "1024",
     )
-    .value_parser(clap::value_parser!(u16).range(1..))
-    .default_value("1024")
 }
 
 fn tries<'a>(alloc: Global) -> Arg<'a>
     ensures { IsArg tries_rule result }
 {
-    option(
+    with_default(
         alloc,
         "tries",
         "N",
         "How many orders of the agents are tried, 1 to 1000000: an agent that finds no path is planned first in the next one",
+        clap::value_parser!(u32).range(1..=MAX_TRIES as i64),
+        "1",
     )
-    .value_parser(clap::value_parser!(u32).range(1..=MAX_TRIES as i64))
-    .default_value("1")
 }
 
 /// Which earlier leavings of a cell an action awaits, by these names.
@@ -154,14 +171,14 @@ fn deps<'a>(alloc: Global, names: &'a [&'a str]) -> Arg<'a>
 fn dwell<'a>(alloc: Global) -> Arg<'a>
     ensures { IsArg dwell_rule result }
 {
-    option(
+    with_default(
         alloc,
         "dwell",
         "N",
         "How many actions each agent stays on its last cell after its moves, 0 to 1000000",
+        clap::value_parser!(u32).range(0..=MAX_MOVES as i64),
+        "0",
     )
-    .value_parser(clap::value_parser!(u32).range(0..=MAX_MOVES as i64))
-    .default_value("0")
 }
 
 fn holds<'a>(alloc: Global) -> Arg<'a>

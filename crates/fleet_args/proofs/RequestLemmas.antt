@@ -1,5 +1,5 @@
 -- From the getters of the matches to what the words ask.
-use Rattle.std.proofs.Common.{◌≡◌, ◌≢◌, ◌<◌, ◌∙◌, ◌⊎◌, inl, inr, ◌&&◌, ◌||◌, not, ◌^◌, ℕ, Bool, true, false, List, [], ◌∷◌, Option, Some, None, Result, Ok, Err, length, MatchOption, nat_lt, option_map, refl, sym, ap, subst, true≢false, lt-ltb, ltb-true}
+use Rattle.std.proofs.Common.{◌≡◌, ◌≢◌, ◌<◌, ◌∙◌, ◌⊎◌, inl, inr, ◌&&◌, ◌||◌, not, ◌^◌, ℕ, Bool, true, false, List, [], ◌∷◌, Option, Some, None, Result, Ok, Err, length, nat_lt, option_map, refl, sym, ap, subst, true≢false, lt-ltb, ltb-true}
 use Rattle.std.specs.List.{list_all, list_any}
 use Rattle.std.specs.Option.{option_map_or}
 use Rattle.std.specs.Result.{result_ok}
@@ -82,12 +82,15 @@ same_values f =
     rw (firsts, ones) refl
 
 -- so what the matches ask is what the command that was found asks
-pub request_found : (f : Found) (name : Text) (found : Option (Text × List Row)) (request : Option Request) → found ≡ Some (name, rows_of f)
-    → MatchOption request (has_values name (values_found f) ≡ false) (AsksCommand name (values_found f))
-    → MatchOption request (is_answered_by found ≡ false) (AsksBy found)
-request_found f name found request is =
-    let by_rows = subst (λ values. MatchOption request (has_values name values ≡ false) (AsksCommand name values)) (same_values f) in
-    λ h. subst (λ o. MatchOption request (is_answered_by o ≡ false) (AsksBy o)) (sym is) (by_rows h)
+pub request_found : (f : Found) (name : Text) (found : Option (Text × List Row)) (request : Request) → found ≡ Some (name, rows_of f)
+    → AsksCommand name (values_found f) request → AsksBy found request
+request_found f name found request is h =
+    subst (λ o. AsksBy o request) (sym is) (subst (λ values. AsksCommand name values request) (same_values f) h)
+
+-- .. and what that command cannot do without is there
+pub values_there : (f : Found) (name : Text) (found : Option (Text × List Row)) → found ≡ Some (name, rows_of f)
+    → is_answered_by found ≡ true → has_values name (values_found f) ≡ true
+values_there f name found is h = ap (has_values name) (same_values f) ∙ ap is_answered_by (sym is) ∙ h
 
 -- the name and the rows of the subcommand
 pub subcommand_pair :

@@ -1,12 +1,15 @@
 -- The words and options of the commands, as what a parse reads of them.
 use Rattle.std.specs.Prelude.{◌≡◌, true, false, List, [], ◌∷◌, Some, codes, pos, fold, map}
 use Rattle.std.specs.Borrow.{Bor}
-use Rattle.clap.specs.Words.{Shape, Rule, Text, new_app, new_rule, with_rule, shape_of, rule_of}
+use Rattle.clap.specs.Words.{App, Shape, Rule, Text, app_of, new_app, new_rule, with_rule, shape_of, rule_of}
 use Rattle.clap.specs.declared.builder.Arg.{Arg}
 use Rattle.clap.specs.declared.builder.Command.TheViews.{out-Command as fields_of}
 use Rattle.clap.specs.declared.builder.Command.{Command}
+use Rattle.clap.specs.declared.builder.ValueParser.{ValueParser}
 use Rattle.clap.specs.declared.builder.ValueParser.TheVariants as parser
 use Rattle.fleet_model.specs.declared.limits.TheConstants.{MAX_MOVES, MAX_TRIES}
+use Rattle.fleet_args.specs.declared.arguments.Argument.{Argument}
+use Rattle.fleet_args.specs.declared.arguments.Argument.TheVariants as a
 
 -- a word that has to be there, at its place among such words
 abbrev pub word : Text → Rule
@@ -15,6 +18,10 @@ word id = record (new_rule id) { required = true; value_names = 1 }
 -- `--NAME VALUE`
 abbrev pub option : Text → Rule
 option name = record (new_rule name) { long = Some name; value_names = 1 }
+
+-- `--NAME VALUE`, where this parser takes the value, which is a default where the option is not used
+abbrev pub defaulted : Text → ValueParser → Text → Rule
+defaulted name parser default = record (option name) { parser = Some parser; defaults = default ∷ [] }
 
 -- `--agents K`, where K is a number up to 65535
 abbrev pub agents_rule : Rule
@@ -44,6 +51,20 @@ deps_rule names = record (option (codes "deps")) { parser = Some (parser.Names n
 abbrev pub dwell_rule : Rule
 dwell_rule = record (option (codes "dwell")) { parser = Some (parser.Signed (pos 0) (pos MAX_MOVES)); defaults = codes "0" ∷ [] }
 
+-- the rule of each argument
+abbrev pub rule_for : DepsNames → Argument → Rule
+rule_for names a.Map = word (codes "map")
+rule_for names a.Scen = word (codes "scen")
+rule_for names a.Plan = word (codes "plan")
+rule_for names a.Out = word (codes "out")
+rule_for names a.Program = word (codes "program")
+rule_for names a.Agents = agents_rule
+rule_for names a.Horizon = horizon_rule
+rule_for names a.Tries = tries_rule
+rule_for names a.Deps = deps_rule names
+rule_for names a.Dwell = dwell_rule
+rule_for names a.Holds = option (codes "holds")
+
 -- a command without subcommands, by its name and its arguments
 abbrev pub command : Text → List Rule → Shape
 command name rules = (fold with_rule (new_app name) rules).top
@@ -51,6 +72,14 @@ command name rules = (fold with_rule (new_app name) rules).top
 -- the argument has this rule, and does not reach into other commands
 abbrev pub IsArg : Rule → Arg → Type 0
 IsArg rule arg = (rule_of arg ≡ rule) × (arg.global ≡ false)
+
+-- no argument of the command reaches into others
+abbrev pub IsLocal : Command → Type 0
+IsLocal command = (fields_of command).has_globals ≡ false
+
+-- the command is this one, and has no argument that reaches into others
+abbrev pub IsApp : App → Command → Type 0
+IsApp app command = (app_of command ≡ app) × IsLocal command
 
 -- the command has this shape, and no argument that reaches into others
 abbrev pub IsLeafCommand : Shape → Command → Type 0

@@ -2,7 +2,8 @@
 use Rattle.std.specs.Prelude.{[], ◌∷◌, ◌&&◌, Bool, codes}
 use Rattle.clap.specs.Words.{Shape}
 use Rattle.fleet_args.specs.Arguments.{DepsNames, command, word, agents_rule, horizon_rule, tries_rule, deps_rule, option}
-use Rattle.fleet_args.specs.Values.{Values, IsText, has_text, IsNumberIfUsed, reads_number, IsNumber, has_number, IsCount, has_count, IsKind, has_kind, IsTextIfUsed}
+use Rattle.fleet_args.specs.Values.{Values, IsText, IsNumberIfUsed, IsNumber, IsCount, IsKind, has_kind, IsTextIfUsed}
+use Rattle.fleet_args.specs.Plan.{has_plan_values}
 use Rattle.fleet_args.specs.declared.auto.AutoRequest.{AutoRequest}
 
 abbrev pub auto_shape : DepsNames → Shape
@@ -23,9 +24,4 @@ pub record AsksAuto (values : Values) (request : AutoRequest) : Type 0 where
 -- the arguments that the command cannot do without have values
 abbrev pub has_auto_values : Values → Bool
 has_auto_values values =
-    has_text values (codes "map")
-    && (has_text values (codes "scen")
-    && (reads_number values (codes "agents")
-    && (has_number values (codes "horizon")
-    && (has_count values (codes "tries")
-    && has_kind values (codes "deps")))))
+    has_plan_values values && has_kind values (codes "deps")

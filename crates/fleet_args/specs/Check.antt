@@ -2,7 +2,8 @@
 use Rattle.std.specs.Prelude.{[], ◌∷◌, ◌&&◌, Bool, codes}
 use Rattle.clap.specs.Words.{Shape}
 use Rattle.fleet_args.specs.Arguments.{command, word, agents_rule}
-use Rattle.fleet_args.specs.Values.{Values, IsText, has_text, IsNumberIfUsed, reads_number}
+use Rattle.fleet_args.specs.Values.{Values, IsText, has_text, IsNumberIfUsed}
+use Rattle.fleet_args.specs.Instance.{has_instance_values}
 use Rattle.fleet_args.specs.declared.check.CheckRequest.{CheckRequest}
 
 abbrev pub check_shape : Shape
@@ -19,7 +20,4 @@ pub record AsksCheck (values : Values) (request : CheckRequest) : Type 0 where
 -- the arguments that the command cannot do without have values
 abbrev pub has_check_values : Values → Bool
 has_check_values values =
-    has_text values (codes "map")
-    && (has_text values (codes "scen")
-    && (has_text values (codes "plan")
-    && reads_number values (codes "agents")))
+    has_instance_values values && has_text values (codes "plan")

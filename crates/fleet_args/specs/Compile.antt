@@ -2,7 +2,8 @@
 use Rattle.std.specs.Prelude.{[], ◌∷◌, ◌&&◌, Bool, codes}
 use Rattle.clap.specs.Words.{Shape}
 use Rattle.fleet_args.specs.Arguments.{DepsNames, command, word, agents_rule, deps_rule, dwell_rule}
-use Rattle.fleet_args.specs.Values.{Values, IsText, has_text, IsNumberIfUsed, reads_number, IsCount, has_count, IsKind, has_kind}
+use Rattle.fleet_args.specs.Values.{Values, IsText, has_text, IsNumberIfUsed, IsCount, has_count, IsKind, has_kind}
+use Rattle.fleet_args.specs.Check.{has_check_values}
 use Rattle.fleet_args.specs.declared.compile.CompileRequest.{CompileRequest}
 
 abbrev pub compile_shape : DepsNames → Shape
@@ -23,10 +24,5 @@ pub record AsksCompile (values : Values) (request : CompileRequest) : Type 0 whe
 -- the arguments that the command cannot do without have values
 abbrev pub has_compile_values : Values → Bool
 has_compile_values values =
-    has_text values (codes "map")
-    && (has_text values (codes "scen")
-    && (has_text values (codes "plan")
-    && (has_text values (codes "out")
-    && (reads_number values (codes "agents")
-    && (has_kind values (codes "deps")
-    && has_count values (codes "dwell"))))))
+    has_check_values values
+    && (has_text values (codes "out") && (has_kind values (codes "deps") && has_count values (codes "dwell")))

@@ -1,8 +1,9 @@
 -- The command `dispatch`: its words and options, and the request that they are read as.
-use Rattle.std.specs.Prelude.{[], ◌∷◌, ◌&&◌, Bool, codes}
+use Rattle.std.specs.Prelude.{[], ◌∷◌, Bool, codes}
 use Rattle.clap.specs.Words.{Shape}
 use Rattle.fleet_args.specs.Arguments.{command, word, agents_rule}
-use Rattle.fleet_args.specs.Values.{Values, IsText, has_text, IsNumberIfUsed, reads_number}
+use Rattle.fleet_args.specs.Values.{Values, IsText, IsNumberIfUsed}
+use Rattle.fleet_args.specs.Verify.{has_verify_values}
 use Rattle.fleet_args.specs.declared.dispatch.DispatchRequest.{DispatchRequest}
 
 abbrev pub dispatch_shape : Shape
@@ -19,7 +20,4 @@ pub record AsksDispatch (values : Values) (request : DispatchRequest) : Type 0 w
 -- the arguments that the command cannot do without have values
 abbrev pub has_dispatch_values : Values → Bool
 has_dispatch_values values =
-    has_text values (codes "map")
-    && (has_text values (codes "scen")
-    && (has_text values (codes "program")
-    && reads_number values (codes "agents")))
+    has_verify_values values

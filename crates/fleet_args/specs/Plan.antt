@@ -2,7 +2,8 @@
 use Rattle.std.specs.Prelude.{[], ◌∷◌, ◌&&◌, Bool, codes}
 use Rattle.clap.specs.Words.{Shape}
 use Rattle.fleet_args.specs.Arguments.{command, word, agents_rule, horizon_rule, tries_rule}
-use Rattle.fleet_args.specs.Values.{Values, IsText, has_text, IsNumberIfUsed, reads_number, IsNumber, has_number, IsCount, has_count}
+use Rattle.fleet_args.specs.Values.{Values, IsText, IsNumberIfUsed, IsNumber, has_number, IsCount, has_count}
+use Rattle.fleet_args.specs.Instance.{has_instance_values}
 use Rattle.fleet_args.specs.declared.plan.PlanRequest.{PlanRequest}
 
 abbrev pub plan_shape : Shape
@@ -20,8 +21,4 @@ pub record AsksPlan (values : Values) (request : PlanRequest) : Type 0 where
 -- the arguments that the command cannot do without have values
 abbrev pub has_plan_values : Values → Bool
 has_plan_values values =
-    has_text values (codes "map")
-    && (has_text values (codes "scen")
-    && (reads_number values (codes "agents")
-    && (has_number values (codes "horizon")
-    && has_count values (codes "tries"))))
+    has_instance_values values && (has_number values (codes "horizon") && has_count values (codes "tries"))

@@ -1,8 +1,9 @@
 -- The command `run`: its words and options, and the request that they are read as.
-use Rattle.std.specs.Prelude.{[], ◌∷◌, ◌&&◌, Bool, codes}
+use Rattle.std.specs.Prelude.{[], ◌∷◌, Bool, codes}
 use Rattle.clap.specs.Words.{Shape}
 use Rattle.fleet_args.specs.Arguments.{command, word, agents_rule, option}
-use Rattle.fleet_args.specs.Values.{Values, IsText, has_text, IsNumberIfUsed, reads_number, IsTextIfUsed}
+use Rattle.fleet_args.specs.Values.{Values, IsText, IsNumberIfUsed, IsTextIfUsed}
+use Rattle.fleet_args.specs.Verify.{has_verify_values}
 use Rattle.fleet_args.specs.declared.run.RunRequest.{RunRequest}
 
 abbrev pub run_shape : Shape
@@ -21,7 +22,4 @@ pub record AsksRun (values : Values) (request : RunRequest) : Type 0 where
 -- the arguments that the command cannot do without have values
 abbrev pub has_run_values : Values → Bool
 has_run_values values =
-    has_text values (codes "map")
-    && (has_text values (codes "scen")
-    && (has_text values (codes "program")
-    && reads_number values (codes "agents")))
+    has_verify_values values

@@ -2,7 +2,8 @@
 use Rattle.std.specs.Prelude.{[], ◌∷◌, ◌&&◌, Bool, codes}
 use Rattle.clap.specs.Words.{Shape}
 use Rattle.fleet_args.specs.Arguments.{command, word, agents_rule}
-use Rattle.fleet_args.specs.Values.{Values, IsText, has_text, IsNumberIfUsed, reads_number}
+use Rattle.fleet_args.specs.Values.{Values, IsText, has_text, IsNumberIfUsed}
+use Rattle.fleet_args.specs.Verify.{has_verify_values}
 use Rattle.fleet_args.specs.declared.thin.ThinRequest.{ThinRequest}
 
 abbrev pub thin_shape : Shape
@@ -20,8 +21,4 @@ pub record AsksThin (values : Values) (request : ThinRequest) : Type 0 where
 -- the arguments that the command cannot do without have values
 abbrev pub has_thin_values : Values → Bool
 has_thin_values values =
-    has_text values (codes "map")
-    && (has_text values (codes "scen")
-    && (has_text values (codes "program")
-    && (has_text values (codes "out")
-    && reads_number values (codes "agents"))))
+    has_verify_values values && has_text values (codes "out")

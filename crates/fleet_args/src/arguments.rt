@@ -1,11 +1,29 @@
 //! The words and options of the commands, as `clap` reads them.
 
-ghost use Rattle.std.specs.Prelude.{◌∷◌, [], IfOk, codes};
-ghost use Rattle.fleet_args.specs.Arguments.{IsArg, IsLeafCommand, word, option, agents_rule, horizon_rule, tries_rule, deps_rule, dwell_rule, command};
+ghost use Rattle.std.specs.Prelude.{IfOk, codes, fold, map};
+ghost use Rattle.clap.specs.Words.{app_of, with_rule};
+ghost use Rattle.fleet_args.specs.Arguments.{IsArg, IsLeafCommand, word, IsApp, IsLocal, option, agents_rule, horizon_rule, tries_rule, deps_rule, dwell_rule, rule_for, command, defaulted};
 
+use clap::builder::ValueParser;
 use clap::{Arg, Command};
 use fleet_model::{MAX_MOVES, MAX_TRIES};
 use std::alloc::{AllocError, Global};
+
+/// An argument of a command.
+#[derive(Clone, Copy)]
+pub(crate) enum Argument {
+    Map,
+    Scen,
+    Plan,
+    Out,
+    Program,
+    Agents,
+    Horizon,
+    Tries,
+    Deps,
+    Dwell,
+    Holds,
+}
 
 /// A word that the command needs, at its place among such words.
 fn positional<'a>(alloc: Global, id: &'a str, name: &'a str, help: &'a str) -> Arg<'a>
@@ -27,7 +45,23 @@ fn option<'a>(alloc: Global, name: &'a str, value: &'a str, help: &'a str) -> Ar
         .help(help)
 }
 
-pub(crate) fn map<'a>(alloc: Global) -> Arg<'a>
+/// An option `--NAME` with one value that this parser takes, and a default.
+fn with_default<'a>(
+    alloc: Global,
+    name: &'a str,
+    value: &'a str,
+    help: &'a str,
+    parser: ValueParser<'a>,
+    default: &'a str,
+) -> Arg<'a>
+    ensures { IsArg (defaulted name.entry.now parser.entry default.entry.now) result }
+{
+    option(alloc, name, value, help)
+        .value_parser(parser)
+        .default_value(default)
+}
+
+fn map<'a>(alloc: Global) -> Arg<'a>
     ensures { IsArg (word (codes "map")) result }
 {
     positional(
@@ -38,7 +72,7 @@ pub(crate) fn map<'a>(alloc: Global) -> Arg<'a>
     )
 }
 
-pub(crate) fn scen<'a>(alloc: Global) -> Arg<'a>
+fn scen<'a>(alloc: Global) -> Arg<'a>
     ensures { IsArg (word (codes "scen")) result }
 {
     positional(
@@ -49,7 +83,7 @@ pub(crate) fn scen<'a>(alloc: Global) -> Arg<'a>
     )
 }
 
-pub(crate) fn plan<'a>(alloc: Global) -> Arg<'a>
+fn plan<'a>(alloc: Global) -> Arg<'a>
     ensures { IsArg (word (codes "plan")) result }
 {
     positional(
@@ -60,7 +94,7 @@ pub(crate) fn plan<'a>(alloc: Global) -> Arg<'a>
     )
 }
 
-pub(crate) fn out<'a>(alloc: Global) -> Arg<'a>
+fn out<'a>(alloc: Global) -> Arg<'a>
     ensures { IsArg (word (codes "out")) result }
 {
     positional(
@@ -71,7 +105,7 @@ pub(crate) fn out<'a>(alloc: Global) -> Arg<'a>
     )
 }
 
-pub(crate) fn program<'a>(alloc: Global) -> Arg<'a>
+fn program<'a>(alloc: Global) -> Arg<'a>
     ensures { IsArg (word (codes "program")) result }
 {
     positional(
@@ -82,7 +116,7 @@ pub(crate) fn program<'a>(alloc: Global) -> Arg<'a>
     )
 }
 
-pub(crate) fn agents<'a>(alloc: Global) -> Arg<'a>
+fn agents<'a>(alloc: Global) -> Arg<'a>
     ensures { IsArg agents_rule result }
 {
     option(
@@ -94,34 +128,34 @@ pub(crate) fn agents<'a>(alloc: Global) -> Arg<'a>
     .value_parser(clap::value_parser!(u16))
 }
 
-pub(crate) fn horizon<'a>(alloc: Global) -> Arg<'a>
+fn horizon<'a>(alloc: Global) -> Arg<'a>
     ensures { IsArg horizon_rule result }
 {
-    option(
+    with_default(
         alloc,
         "horizon",
         "H",
         "The latest time at which an agent may arrive, 1 to 65535; below its shortest way there is no path",
+        clap::value_parser!(u16).range(1..),
+        "1024",
     )
-    .value_parser(clap::value_parser!(u16).range(1..))
-    .default_value("1024")
 }
 
-pub(crate) fn tries<'a>(alloc: Global) -> Arg<'a>
+fn tries<'a>(alloc: Global) -> Arg<'a>
     ensures { IsArg tries_rule result }
 {
-    option(
+    with_default(
         alloc,
         "tries",
         "N",
         "How many orders of the agents are tried, 1 to 1000000: an agent that finds no path is planned first in the next one",
+        clap::value_parser!(u32).range(1..=MAX_TRIES as i64),
+        "1",
     )
-    .value_parser(clap::value_parser!(u32).range(1..=MAX_TRIES as i64))
-    .default_value("1")
 }
 
 /// Which earlier leavings of a cell an action awaits, by these names.
-pub(crate) fn deps<'a>(alloc: Global, names: &'a [&'a str]) -> Arg<'a>
+fn deps<'a>(alloc: Global, names: &'a [&'a str]) -> Arg<'a>
     ensures { IsArg (deps_rule names.entry) result }
 {
     option(
@@ -134,20 +168,20 @@ pub(crate) fn deps<'a>(alloc: Global, names: &'a [&'a str]) -> Arg<'a>
     .default_value("last")
 }
 
-pub(crate) fn dwell<'a>(alloc: Global) -> Arg<'a>
+fn dwell<'a>(alloc: Global) -> Arg<'a>
     ensures { IsArg dwell_rule result }
 {
-    option(
+    with_default(
         alloc,
         "dwell",
         "N",
         "How many actions each agent stays on its last cell after its moves, 0 to 1000000",
+        clap::value_parser!(u32).range(0..=MAX_MOVES as i64),
+        "0",
     )
-    .value_parser(clap::value_parser!(u32).range(0..=MAX_MOVES as i64))
-    .default_value("0")
 }
 
-pub(crate) fn holds<'a>(alloc: Global) -> Arg<'a>
+fn holds<'a>(alloc: Global) -> Arg<'a>
     ensures { IsArg (option (codes "holds")) result }
 {
     option(
@@ -158,31 +192,58 @@ pub(crate) fn holds<'a>(alloc: Global) -> Arg<'a>
     )
 }
 
-/// A command on a map and a scenario, before its other arguments.
-pub(crate) fn map_and_scen<'a>(
-    alloc: Global,
-    name: &'a str,
-    about: &'a str,
-) -> Result<Command<'a>, AllocError>
-    ensures { IfOk result (IsLeafCommand (command name.entry.now (word (codes "map") ∷ word (codes "scen") ∷ []))) }
+/// The argument as `clap` takes it, where these are the names of the kinds of awaits.
+fn arg_of<'a>(alloc: Global, names: &'a [&'a str], argument: Argument) -> Arg<'a>
+    ensures { IsArg (rule_for names.entry argument) result }
 {
-    Command::new(alloc, name)
-        .about(about)
-        .arg(map(alloc))?
-        .arg(scen(alloc))
+    match argument {
+        Argument::Map => map(alloc),
+        Argument::Scen => scen(alloc),
+        Argument::Plan => plan(alloc),
+        Argument::Out => out(alloc),
+        Argument::Program => program(alloc),
+        Argument::Agents => agents(alloc),
+        Argument::Horizon => horizon(alloc),
+        Argument::Tries => tries(alloc),
+        Argument::Deps => deps(alloc, names),
+        Argument::Dwell => dwell(alloc),
+        Argument::Holds => holds(alloc),
+    }
 }
 
-/// A command that plans, before its other arguments.
-pub(crate) fn planning<'a>(
+/// The command, and these arguments after those that it has.
+fn with_arguments<'a>(
     alloc: Global,
+    command: Command<'a>,
+    names: &'a [&'a str],
+    arguments: &[Argument],
+) -> Result<Command<'a>, AllocError>
+    requires { IsLocal command }
+    ensures { IfOk result (IsApp (fold with_rule (app_of command.entry) (map (rule_for names.entry) arguments.now))) }
+{
+    match arguments {
+        [] => Ok(command),
+        [first, rest @ ..] => {
+            let command = command.arg(arg_of(alloc, names, *first))?;
+            with_arguments(alloc, command, names, rest)
+        }
+    }
+}
+
+/// A command with these arguments, where these are the names of the kinds of awaits.
+pub(crate) fn command_of<'a>(
+    alloc: Global,
+    names: &'a [&'a str],
     name: &'a str,
     about: &'a str,
+    arguments: &[Argument],
 ) -> Result<Command<'a>, AllocError>
-    ensures { IfOk result (IsLeafCommand (command name.entry.now
-        (word (codes "map") ∷ word (codes "scen") ∷ agents_rule ∷ horizon_rule ∷ tries_rule ∷ []))) }
+    ensures { IfOk result (IsLeafCommand (command name.entry.now (map (rule_for names.entry) arguments.now))) }
 {
-    map_and_scen(alloc, name, about)?
-        .arg(agents(alloc))?
-        .arg(horizon(alloc))?
-        .arg(tries(alloc))
+    with_arguments(
+        alloc,
+        Command::new(alloc, name).about(about),
+        names,
+        arguments,
+    )
 }

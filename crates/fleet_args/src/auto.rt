@@ -1,12 +1,13 @@
 //! The command `auto`: what it is asked for, its words and options, and how they are read.
 
-ghost use Rattle.std.specs.Prelude.{◌≡◌, false, IfOk, MatchOption};
+ghost use Rattle.std.specs.Prelude.{◌≡◌, IfOk, true};
 ghost use Rattle.fleet_args.specs.Arguments.{IsLeafCommand};
 ghost use Rattle.fleet_args.specs.Values.{values_in};
 ghost use Rattle.fleet_args.specs.Auto.{auto_shape, AsksAuto, has_auto_values};
 
-use crate::arguments::{deps, holds, planning};
-use crate::values::{count, deps_of, number};
+use crate::arguments::{Argument, command_of};
+use crate::plan::{PlanRequest, plan_in};
+use crate::values::given_deps;
 use clap::{ArgMatches, Command};
 use fleet_model::Deps;
 use std::alloc::{AllocError, Global};
@@ -29,27 +30,42 @@ pub(crate) fn auto_command<'a>(
 ) -> Result<Command<'a>, AllocError>
     ensures { IfOk result (IsLeafCommand (auto_shape names.entry)) }
 {
-    planning(
+    command_of(
         alloc,
+        names,
         "auto",
         "Plans, compiles, verifies and runs: prints the positions tick by tick, then agents, ticks, chain and held",
-    )?
-    .arg(deps(alloc, names))?
-    .arg(holds(alloc))
+        &[
+            Argument::Map,
+            Argument::Scen,
+            Argument::Agents,
+            Argument::Horizon,
+            Argument::Tries,
+            Argument::Deps,
+            Argument::Holds,
+        ],
+    )
 }
 
-/// The request that the matches of the command make: none if a word is missing, or a text is no number or name.
-pub(crate) fn auto_in<'a>(matches: &ArgMatches<'a>) -> Option<AutoRequest<'a>>
-    ensures { MatchOption result (has_auto_values (values_in matches.now) ≡ false)
-        (AsksAuto (values_in matches.now)) }
+/// The request that the matches of the command make.
+pub(crate) fn auto_in<'a>(matches: &ArgMatches<'a>) -> AutoRequest<'a>
+    requires { has_auto_values (values_in matches.now) ≡ true }
+    ensures { AsksAuto (values_in matches.now) result }
 {
-    Some(AutoRequest {
-        map: matches.get_str("map")?,
-        scen: matches.get_str("scen")?,
-        agents: number(matches, "agents")?,
-        horizon: number(matches, "horizon")??,
-        tries: count(matches, "tries")??,
-        deps: deps_of(matches.get_str("deps")?)?,
+    let PlanRequest {
+        map,
+        scen,
+        agents,
+        horizon,
+        tries,
+    } = plan_in(matches);
+    AutoRequest {
+        map,
+        scen,
+        agents,
+        horizon,
+        tries,
+        deps: given_deps(matches, "deps"),
         holds: matches.get_str("holds"),
-    })
+    }
 }

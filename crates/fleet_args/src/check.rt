@@ -1,12 +1,13 @@
 //! The command `check`: what it is asked for, its words and options, and how they are read.
 
-ghost use Rattle.std.specs.Prelude.{◌≡◌, false, IfOk, MatchOption};
+ghost use Rattle.std.specs.Prelude.{◌≡◌, IfOk, true};
 ghost use Rattle.fleet_args.specs.Arguments.{IsLeafCommand};
 ghost use Rattle.fleet_args.specs.Values.{values_in};
 ghost use Rattle.fleet_args.specs.Check.{check_shape, AsksCheck, has_check_values};
 
-use crate::arguments::{agents, map_and_scen, plan};
-use crate::values::number;
+use crate::arguments::{Argument, command_of};
+use crate::instance::{InstanceRequest, instance_in};
+use crate::values::text;
 use clap::{ArgMatches, Command};
 use std::alloc::{AllocError, Global};
 
@@ -19,27 +20,37 @@ pub struct CheckRequest<'a> {
     pub agents: Option<u16>,
 }
 
-pub(crate) fn check_command<'a>(alloc: Global) -> Result<Command<'a>, AllocError>
+pub(crate) fn check_command<'a>(
+    alloc: Global,
+    names: &'a [&'a str],
+) -> Result<Command<'a>, AllocError>
     ensures { IfOk result (IsLeafCommand check_shape) }
 {
-    map_and_scen(
+    command_of(
         alloc,
+        names,
         "check",
         "Tells whether a plan is free of conflict, or its first fault",
-    )?
-    .arg(plan(alloc))?
-    .arg(agents(alloc))
+        &[
+            Argument::Map,
+            Argument::Scen,
+            Argument::Plan,
+            Argument::Agents,
+        ],
+    )
 }
 
-/// The request that the matches of the command make: none if a word is missing, or a text is no number.
-pub(crate) fn check_in<'a>(matches: &ArgMatches<'a>) -> Option<CheckRequest<'a>>
-    ensures { MatchOption result (has_check_values (values_in matches.now) ≡ false)
-        (AsksCheck (values_in matches.now)) }
+/// The request that the matches of the command make.
+pub(crate) fn check_in<'a>(matches: &ArgMatches<'a>) -> CheckRequest<'a>
+    requires { has_check_values (values_in matches.now) ≡ true }
+    ensures { AsksCheck (values_in matches.now) result }
 {
-    Some(CheckRequest {
-        map: matches.get_str("map")?,
-        scen: matches.get_str("scen")?,
-        plan: matches.get_str("plan")?,
-        agents: number(matches, "agents")?,
-    })
+    let InstanceRequest { map, scen, agents } = instance_in(matches);
+    let plan = text(matches, "plan");
+    CheckRequest {
+        map,
+        scen,
+        plan,
+        agents,
+    }
 }

@@ -1,12 +1,13 @@
 //! The command `compile`: what it is asked for, its words and options, and how they are read.
 
-ghost use Rattle.std.specs.Prelude.{◌≡◌, ◌∷◌, [], false, IfOk, MatchOption, codes};
-ghost use Rattle.fleet_args.specs.Arguments.{IsLeafCommand, command, word};
+ghost use Rattle.std.specs.Prelude.{◌≡◌, IfOk, true};
+ghost use Rattle.fleet_args.specs.Arguments.{IsLeafCommand};
 ghost use Rattle.fleet_args.specs.Values.{values_in};
 ghost use Rattle.fleet_args.specs.Compile.{compile_shape, AsksCompile, has_compile_values};
 
-use crate::arguments::{agents, deps, dwell, map_and_scen, out, plan};
-use crate::values::{count, deps_of, number};
+use crate::arguments::{Argument, command_of};
+use crate::check::{CheckRequest, check_in};
+use crate::values::{given_count, given_deps, text};
 use clap::{ArgMatches, Command};
 use fleet_model::Deps;
 use std::alloc::{AllocError, Global};
@@ -23,44 +24,47 @@ pub struct CompileRequest<'a> {
     pub dwell: u32,
 }
 
-/// The command with its words, before its options.
-fn compile_words<'a>(alloc: Global) -> Result<Command<'a>, AllocError>
-    ensures { IfOk result (IsLeafCommand (command (codes "compile")
-        (word (codes "map") ∷ word (codes "scen") ∷ word (codes "plan") ∷ word (codes "out") ∷ []))) }
-{
-    map_and_scen(
-        alloc,
-        "compile",
-        "Compiles a conflict-free plan into a program, writes it to OUT, and prints its agents, moves, awaits and bytes",
-    )?
-    .arg(plan(alloc))?
-    .arg(out(alloc))
-}
-
 pub(crate) fn compile_command<'a>(
     alloc: Global,
     names: &'a [&'a str],
 ) -> Result<Command<'a>, AllocError>
     ensures { IfOk result (IsLeafCommand (compile_shape names.entry)) }
 {
-    compile_words(alloc)?
-        .arg(agents(alloc))?
-        .arg(deps(alloc, names))?
-        .arg(dwell(alloc))
+    command_of(
+        alloc,
+        names,
+        "compile",
+        "Compiles a conflict-free plan into a program, writes it to OUT, and prints its agents, moves, awaits and bytes",
+        &[
+            Argument::Map,
+            Argument::Scen,
+            Argument::Plan,
+            Argument::Out,
+            Argument::Agents,
+            Argument::Deps,
+            Argument::Dwell,
+        ],
+    )
 }
 
-/// The request that the matches of the command make: none if a word is missing, or a text is no number or name.
-pub(crate) fn compile_in<'a>(matches: &ArgMatches<'a>) -> Option<CompileRequest<'a>>
-    ensures { MatchOption result (has_compile_values (values_in matches.now) ≡ false)
-        (AsksCompile (values_in matches.now)) }
+/// The request that the matches of the command make.
+pub(crate) fn compile_in<'a>(matches: &ArgMatches<'a>) -> CompileRequest<'a>
+    requires { has_compile_values (values_in matches.now) ≡ true }
+    ensures { AsksCompile (values_in matches.now) result }
 {
-    Some(CompileRequest {
-        map: matches.get_str("map")?,
-        scen: matches.get_str("scen")?,
-        plan: matches.get_str("plan")?,
-        out: matches.get_str("out")?,
-        agents: number(matches, "agents")?,
-        deps: deps_of(matches.get_str("deps")?)?,
-        dwell: count(matches, "dwell")??,
-    })
+    let CheckRequest {
+        map,
+        scen,
+        plan,
+        agents,
+    } = check_in(matches);
+    CompileRequest {
+        map,
+        scen,
+        plan,
+        out: text(matches, "out"),
+        agents,
+        deps: given_deps(matches, "deps"),
+        dwell: given_count(matches, "dwell"),
+    }
 }

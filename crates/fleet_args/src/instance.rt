@@ -1,12 +1,12 @@
 //! The command `instance`: what it is asked for, its words and options, and how they are read.
 
-ghost use Rattle.std.specs.Prelude.{◌≡◌, false, IfOk, MatchOption};
+ghost use Rattle.std.specs.Prelude.{◌≡◌, IfOk, true};
 ghost use Rattle.fleet_args.specs.Arguments.{IsLeafCommand};
 ghost use Rattle.fleet_args.specs.Values.{values_in};
 ghost use Rattle.fleet_args.specs.Instance.{instance_shape, AsksInstance, has_instance_values};
 
-use crate::arguments::{agents, map_and_scen};
-use crate::values::number;
+use crate::arguments::{Argument, command_of};
+use crate::values::{text, used_number};
 use clap::{ArgMatches, Command};
 use std::alloc::{AllocError, Global};
 
@@ -18,25 +18,29 @@ pub struct InstanceRequest<'a> {
     pub agents: Option<u16>,
 }
 
-pub(crate) fn instance_command<'a>(alloc: Global) -> Result<Command<'a>, AllocError>
+pub(crate) fn instance_command<'a>(
+    alloc: Global,
+    names: &'a [&'a str],
+) -> Result<Command<'a>, AllocError>
     ensures { IfOk result (IsLeafCommand instance_shape) }
 {
-    map_and_scen(
+    command_of(
         alloc,
+        names,
         "instance",
         "Prints the size of a map, its passable cells, and each agent's start and goal",
-    )?
-    .arg(agents(alloc))
+        &[Argument::Map, Argument::Scen, Argument::Agents],
+    )
 }
 
-/// The request that the matches of the command make: none if a word is missing, or a text is no number.
-pub(crate) fn instance_in<'a>(matches: &ArgMatches<'a>) -> Option<InstanceRequest<'a>>
-    ensures { MatchOption result (has_instance_values (values_in matches.now) ≡ false)
-        (AsksInstance (values_in matches.now)) }
+/// The request that the matches of the command make.
+pub(crate) fn instance_in<'a>(matches: &ArgMatches<'a>) -> InstanceRequest<'a>
+    requires { has_instance_values (values_in matches.now) ≡ true }
+    ensures { AsksInstance (values_in matches.now) result }
 {
-    Some(InstanceRequest {
-        map: matches.get_str("map")?,
-        scen: matches.get_str("scen")?,
-        agents: number(matches, "agents")?,
-    })
+    InstanceRequest {
+        map: text(matches, "map"),
+        scen: text(matches, "scen"),
+        agents: used_number(matches, "agents"),
+    }
 }

@@ -1,11 +1,12 @@
 //! The command `list`: what it is asked for, its words and options, and how they are read.
 
-ghost use Rattle.std.specs.Prelude.{◌≡◌, false, IfOk, MatchOption};
+ghost use Rattle.std.specs.Prelude.{◌≡◌, IfOk, true};
 ghost use Rattle.fleet_args.specs.Arguments.{IsLeafCommand};
 ghost use Rattle.fleet_args.specs.Values.{values_in};
 ghost use Rattle.fleet_args.specs.List.{list_shape, AsksList, has_list_values};
 
-use crate::arguments::program;
+use crate::arguments::{Argument, command_of};
+use crate::values::text;
 use clap::{ArgMatches, Command};
 use std::alloc::{AllocError, Global};
 
@@ -15,22 +16,27 @@ pub struct ListRequest<'a> {
     pub program: &'a str,
 }
 
-pub(crate) fn list_command<'a>(alloc: Global) -> Result<Command<'a>, AllocError>
+pub(crate) fn list_command<'a>(
+    alloc: Global,
+    names: &'a [&'a str],
+) -> Result<Command<'a>, AllocError>
     ensures { IfOk result (IsLeafCommand list_shape) }
 {
-    Command::new(alloc, "list")
-        .about(
-            "Prints any program as text: a line for each agent, and after it one for each of its actions",
-        )
-        .arg(program(alloc))
+    command_of(
+        alloc,
+        names,
+        "list",
+        "Prints any program as text: a line for each agent, and after it one for each of its actions",
+        &[Argument::Program],
+    )
 }
 
-/// The request that the matches of the command make: none if the word is missing.
-pub(crate) fn list_in<'a>(matches: &ArgMatches<'a>) -> Option<ListRequest<'a>>
-    ensures { MatchOption result (has_list_values (values_in matches.now) ≡ false)
-        (AsksList (values_in matches.now)) }
+/// The request that the matches of the command make.
+pub(crate) fn list_in<'a>(matches: &ArgMatches<'a>) -> ListRequest<'a>
+    requires { has_list_values (values_in matches.now) ≡ true }
+    ensures { AsksList (values_in matches.now) result }
 {
-    Some(ListRequest {
-        program: matches.get_str("program")?,
-    })
+    ListRequest {
+        program: text(matches, "program"),
+    }
 }

@@ -1,11 +1,12 @@
 //! The command `migrate`: what it is asked for, its words, and how they are read.
 
-ghost use Rattle.std.specs.Prelude.{◌≡◌, false, IfOk, MatchOption};
+ghost use Rattle.std.specs.Prelude.{◌≡◌, IfOk, true};
 ghost use Rattle.fleet_args.specs.Arguments.{IsLeafCommand};
 ghost use Rattle.fleet_args.specs.Values.{values_in};
 ghost use Rattle.fleet_args.specs.Migrate.{migrate_shape, AsksMigrate, has_migrate_values};
 
-use crate::arguments::{out, program};
+use crate::arguments::{Argument, command_of};
+use crate::values::text;
 use clap::{ArgMatches, Command};
 use std::alloc::{AllocError, Global};
 
@@ -16,22 +17,28 @@ pub struct MigrateRequest<'a> {
     pub out: &'a str,
 }
 
-pub(crate) fn migrate_command<'a>(alloc: Global) -> Result<Command<'a>, AllocError>
+pub(crate) fn migrate_command<'a>(
+    alloc: Global,
+    names: &'a [&'a str],
+) -> Result<Command<'a>, AllocError>
     ensures { IfOk result (IsLeafCommand migrate_shape) }
 {
-    Command::new(alloc, "migrate")
-        .about("Writes a program to OUT in version 2 of the bytes, and prints how many they are")
-        .arg(program(alloc))?
-        .arg(out(alloc))
+    command_of(
+        alloc,
+        names,
+        "migrate",
+        "Writes a program to OUT in version 2 of the bytes, and prints how many they are",
+        &[Argument::Program, Argument::Out],
+    )
 }
 
-/// The request that the matches of the command make: none if a word is missing.
-pub(crate) fn migrate_in<'a>(matches: &ArgMatches<'a>) -> Option<MigrateRequest<'a>>
-    ensures { MatchOption result (has_migrate_values (values_in matches.now) ≡ false)
-        (AsksMigrate (values_in matches.now)) }
+/// The request that the matches of the command make.
+pub(crate) fn migrate_in<'a>(matches: &ArgMatches<'a>) -> MigrateRequest<'a>
+    requires { has_migrate_values (values_in matches.now) ≡ true }
+    ensures { AsksMigrate (values_in matches.now) result }
 {
-    Some(MigrateRequest {
-        program: matches.get_str("program")?,
-        out: matches.get_str("out")?,
-    })
+    MigrateRequest {
+        program: text(matches, "program"),
+        out: text(matches, "out"),
+    }
 }

@@ -1,12 +1,13 @@
 //! The command `plan`: what it is asked for, its words and options, and how they are read.
 
-ghost use Rattle.std.specs.Prelude.{◌≡◌, false, IfOk, MatchOption};
+ghost use Rattle.std.specs.Prelude.{◌≡◌, IfOk, true};
 ghost use Rattle.fleet_args.specs.Arguments.{IsLeafCommand};
 ghost use Rattle.fleet_args.specs.Values.{values_in};
 ghost use Rattle.fleet_args.specs.Plan.{plan_shape, AsksPlan, has_plan_values};
 
-use crate::arguments::planning;
-use crate::values::{count, number};
+use crate::arguments::{Argument, command_of};
+use crate::instance::{InstanceRequest, instance_in};
+use crate::values::{given_count, given_number};
 use clap::{ArgMatches, Command};
 use std::alloc::{AllocError, Global};
 
@@ -20,26 +21,38 @@ pub struct PlanRequest<'a> {
     pub tries: u32,
 }
 
-pub(crate) fn plan_command<'a>(alloc: Global) -> Result<Command<'a>, AllocError>
+pub(crate) fn plan_command<'a>(
+    alloc: Global,
+    names: &'a [&'a str],
+) -> Result<Command<'a>, AllocError>
     ensures { IfOk result (IsLeafCommand plan_shape) }
 {
-    planning(
+    command_of(
         alloc,
+        names,
         "plan",
         "Plans a path for each agent in turn, and prints the plan text",
+        &[
+            Argument::Map,
+            Argument::Scen,
+            Argument::Agents,
+            Argument::Horizon,
+            Argument::Tries,
+        ],
     )
 }
 
-/// The request that the matches of the command make: none if a word is missing, or a text is no number.
-pub(crate) fn plan_in<'a>(matches: &ArgMatches<'a>) -> Option<PlanRequest<'a>>
-    ensures { MatchOption result (has_plan_values (values_in matches.now) ≡ false)
-        (AsksPlan (values_in matches.now)) }
+/// The request that the matches of the command make.
+pub(crate) fn plan_in<'a>(matches: &ArgMatches<'a>) -> PlanRequest<'a>
+    requires { has_plan_values (values_in matches.now) ≡ true }
+    ensures { AsksPlan (values_in matches.now) result }
 {
-    Some(PlanRequest {
-        map: matches.get_str("map")?,
-        scen: matches.get_str("scen")?,
-        agents: number(matches, "agents")?,
-        horizon: number(matches, "horizon")??,
-        tries: count(matches, "tries")??,
-    })
+    let InstanceRequest { map, scen, agents } = instance_in(matches);
+    PlanRequest {
+        map,
+        scen,
+        agents,
+        horizon: given_number(matches, "horizon"),
+        tries: given_count(matches, "tries"),
+    }
 }

@@ -1,6 +1,6 @@
 //! The request that the words of the command line make.
 
-ghost use Rattle.std.specs.Prelude.{◌≡◌, false, MatchOption, map, string_bytes};
+ghost use Rattle.std.specs.Prelude.{◌≡◌, map, string_bytes, true};
 ghost use Rattle.clap.specs.Words.{subcommand_rows_of, kind_of};
 ghost use Rattle.fleet_args.specs.CommandLine.{AreDeps, fleet};
 ghost use Rattle.fleet_args.specs.Values.{values_in};
@@ -53,34 +53,36 @@ pub enum WordStop {
 }
 
 /// The request of the command of this name, by its matches.
-fn request_by<'a>(name: &str, matches: &ArgMatches<'a>) -> Option<Request<'a>>
-    ensures { MatchOption result (has_values name.now (values_in matches.now) ≡ false)
-        (AsksCommand name.now (values_in matches.now)) }
+fn request_by<'a>(name: &str, matches: &ArgMatches<'a>) -> Request<'a>
+    requires { has_values name.now (values_in matches.now) ≡ true }
+    ensures { AsksCommand name.now (values_in matches.now) result }
 {
     match name {
-        "instance" => Some(Request::Instance(instance_in(matches)?)),
-        "check" => Some(Request::Check(check_in(matches)?)),
-        "plan" => Some(Request::Plan(plan_in(matches)?)),
-        "compile" => Some(Request::Compile(compile_in(matches)?)),
-        "verify" => Some(Request::Verify(verify_in(matches)?)),
-        "run" => Some(Request::Run(run_in(matches)?)),
-        "rehearse" => Some(Request::Rehearse(rehearse_in(matches)?)),
-        "auto" => Some(Request::Auto(auto_in(matches)?)),
-        "thin" => Some(Request::Thin(thin_in(matches)?)),
-        "migrate" => Some(Request::Migrate(migrate_in(matches)?)),
-        "list" => Some(Request::List(list_in(matches)?)),
-        "dispatch" => Some(Request::Dispatch(dispatch_in(matches)?)),
-        _ => None,
+        "instance" => Request::Instance(instance_in(matches)),
+        "check" => Request::Check(check_in(matches)),
+        "plan" => Request::Plan(plan_in(matches)),
+        "compile" => Request::Compile(compile_in(matches)),
+        "verify" => Request::Verify(verify_in(matches)),
+        "run" => Request::Run(run_in(matches)),
+        "rehearse" => Request::Rehearse(rehearse_in(matches)),
+        "auto" => Request::Auto(auto_in(matches)),
+        "thin" => Request::Thin(thin_in(matches)),
+        "migrate" => Request::Migrate(migrate_in(matches)),
+        "list" => Request::List(list_in(matches)),
+        "dispatch" => Request::Dispatch(dispatch_in(matches)),
+        _ => unreachable!(),
     }
 }
 
 /// The request that the matches of the command line give.
-fn request_in<'a>(matches: &ArgMatches<'a>) -> Option<Request<'a>>
-    ensures { MatchOption result (is_answered_by (subcommand_rows_of matches.now) ≡ false)
-        (AsksBy (subcommand_rows_of matches.now)) }
+fn request_in<'a>(matches: &ArgMatches<'a>) -> Request<'a>
+    requires { is_answered_by (subcommand_rows_of matches.now) ≡ true }
+    ensures { AsksBy (subcommand_rows_of matches.now) result }
 {
-    let (name, matches) = matches.subcommand()?;
-    request_by(name, matches)
+    match matches.subcommand() {
+        Some((name, matches)) => request_by(name, matches),
+        None => unreachable!(),
+    }
 }
 
 /// The text of an error, as usage or as help.
@@ -110,10 +112,7 @@ fn read_by<'a>(
         return Err(WordStop::OutOfMemory);
     };
     match command.try_get_matches_from(words) {
-        Ok(matches) => match request_in(&matches) {
-            Some(request) => Ok(request),
-            None => unreachable!(),
-        },
+        Ok(matches) => Ok(request_in(&matches)),
         Err(error) => Err(stop_of(alloc, &error)),
     }
 }

@@ -1,12 +1,12 @@
 //! The command `run`: what it is asked for, its words and options, and how they are read.
 
-ghost use Rattle.std.specs.Prelude.{◌≡◌, false, IfOk, MatchOption};
+ghost use Rattle.std.specs.Prelude.{◌≡◌, IfOk, true};
 ghost use Rattle.fleet_args.specs.Arguments.{IsLeafCommand};
 ghost use Rattle.fleet_args.specs.Values.{values_in};
 ghost use Rattle.fleet_args.specs.Run.{run_shape, AsksRun, has_run_values};
 
-use crate::arguments::{agents, holds, map_and_scen, program};
-use crate::values::number;
+use crate::arguments::{Argument, command_of};
+use crate::verify::{VerifyRequest, verify_in};
 use clap::{ArgMatches, Command};
 use std::alloc::{AllocError, Global};
 
@@ -20,29 +20,44 @@ pub struct RunRequest<'a> {
     pub holds: Option<&'a str>,
 }
 
-pub(crate) fn run_command<'a>(alloc: Global) -> Result<Command<'a>, AllocError>
+pub(crate) fn run_command<'a>(
+    alloc: Global,
+    names: &'a [&'a str],
+) -> Result<Command<'a>, AllocError>
     ensures { IfOk result (IsLeafCommand run_shape) }
 {
-    map_and_scen(
+    command_of(
         alloc,
+        names,
         "run",
         "Verifies a program and runs it: prints the positions tick by tick, then agents, ticks, chain and held",
-    )?
-    .arg(program(alloc))?
-    .arg(agents(alloc))?
-    .arg(holds(alloc))
+        &[
+            Argument::Map,
+            Argument::Scen,
+            Argument::Program,
+            Argument::Agents,
+            Argument::Holds,
+        ],
+    )
 }
 
-/// The request that the matches of the command make: none if a word is missing, or a text is no number.
-pub(crate) fn run_in<'a>(matches: &ArgMatches<'a>) -> Option<RunRequest<'a>>
-    ensures { MatchOption result (has_run_values (values_in matches.now) ≡ false)
-        (AsksRun (values_in matches.now)) }
+/// The request that the matches of the command make.
+pub(crate) fn run_in<'a>(matches: &ArgMatches<'a>) -> RunRequest<'a>
+    requires { has_run_values (values_in matches.now) ≡ true }
+    ensures { AsksRun (values_in matches.now) result }
 {
-    Some(RunRequest {
-        map: matches.get_str("map")?,
-        scen: matches.get_str("scen")?,
-        program: matches.get_str("program")?,
-        agents: number(matches, "agents")?,
-        holds: matches.get_str("holds"),
-    })
+    let VerifyRequest {
+        map,
+        scen,
+        program,
+        agents,
+    } = verify_in(matches);
+    let holds = matches.get_str("holds");
+    RunRequest {
+        map,
+        scen,
+        program,
+        agents,
+        holds,
+    }
 }

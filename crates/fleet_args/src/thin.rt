@@ -1,12 +1,13 @@
 //! The command `thin`: what it is asked for, its words and options, and how they are read.
 
-ghost use Rattle.std.specs.Prelude.{◌≡◌, false, IfOk, MatchOption};
+ghost use Rattle.std.specs.Prelude.{◌≡◌, IfOk, true};
 ghost use Rattle.fleet_args.specs.Arguments.{IsLeafCommand};
 ghost use Rattle.fleet_args.specs.Values.{values_in};
 ghost use Rattle.fleet_args.specs.Thin.{thin_shape, AsksThin, has_thin_values};
 
-use crate::arguments::{agents, map_and_scen, out, program};
-use crate::values::number;
+use crate::arguments::{Argument, command_of};
+use crate::values::text;
+use crate::verify::{VerifyRequest, verify_in};
 use clap::{ArgMatches, Command};
 use std::alloc::{AllocError, Global};
 
@@ -20,29 +21,44 @@ pub struct ThinRequest<'a> {
     pub agents: Option<u16>,
 }
 
-pub(crate) fn thin_command<'a>(alloc: Global) -> Result<Command<'a>, AllocError>
+pub(crate) fn thin_command<'a>(
+    alloc: Global,
+    names: &'a [&'a str],
+) -> Result<Command<'a>, AllocError>
     ensures { IfOk result (IsLeafCommand thin_shape) }
 {
-    map_and_scen(
+    command_of(
         alloc,
+        names,
         "thin",
         "Drops the awaits of an accepted program that others imply, writes it to OUT, and prints its awaits before and after",
-    )?
-    .arg(program(alloc))?
-    .arg(out(alloc))?
-    .arg(agents(alloc))
+        &[
+            Argument::Map,
+            Argument::Scen,
+            Argument::Program,
+            Argument::Out,
+            Argument::Agents,
+        ],
+    )
 }
 
-/// The request that the matches of the command make: none if a word is missing, or a text is no number.
-pub(crate) fn thin_in<'a>(matches: &ArgMatches<'a>) -> Option<ThinRequest<'a>>
-    ensures { MatchOption result (has_thin_values (values_in matches.now) ≡ false)
-        (AsksThin (values_in matches.now)) }
+/// The request that the matches of the command make.
+pub(crate) fn thin_in<'a>(matches: &ArgMatches<'a>) -> ThinRequest<'a>
+    requires { has_thin_values (values_in matches.now) ≡ true }
+    ensures { AsksThin (values_in matches.now) result }
 {
-    Some(ThinRequest {
-        map: matches.get_str("map")?,
-        scen: matches.get_str("scen")?,
-        program: matches.get_str("program")?,
-        out: matches.get_str("out")?,
-        agents: number(matches, "agents")?,
-    })
+    let VerifyRequest {
+        map,
+        scen,
+        program,
+        agents,
+    } = verify_in(matches);
+    let out = text(matches, "out");
+    ThinRequest {
+        map,
+        scen,
+        program,
+        out,
+        agents,
+    }
 }

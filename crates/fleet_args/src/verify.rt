@@ -1,12 +1,13 @@
 //! The command `verify`: what it is asked for, its words and options, and how they are read.
 
-ghost use Rattle.std.specs.Prelude.{◌≡◌, false, IfOk, MatchOption};
+ghost use Rattle.std.specs.Prelude.{◌≡◌, IfOk, true};
 ghost use Rattle.fleet_args.specs.Arguments.{IsLeafCommand};
 ghost use Rattle.fleet_args.specs.Values.{values_in};
 ghost use Rattle.fleet_args.specs.Verify.{verify_shape, AsksVerify, has_verify_values};
 
-use crate::arguments::{agents, map_and_scen, program};
-use crate::values::number;
+use crate::arguments::{Argument, command_of};
+use crate::instance::{InstanceRequest, instance_in};
+use crate::values::text;
 use clap::{ArgMatches, Command};
 use std::alloc::{AllocError, Global};
 
@@ -19,27 +20,37 @@ pub struct VerifyRequest<'a> {
     pub agents: Option<u16>,
 }
 
-pub(crate) fn verify_command<'a>(alloc: Global) -> Result<Command<'a>, AllocError>
+pub(crate) fn verify_command<'a>(
+    alloc: Global,
+    names: &'a [&'a str],
+) -> Result<Command<'a>, AllocError>
     ensures { IfOk result (IsLeafCommand verify_shape) }
 {
-    map_and_scen(
+    command_of(
         alloc,
+        names,
         "verify",
         "Tells whether a program is safe and arrives whoever is held, or its first fault",
-    )?
-    .arg(program(alloc))?
-    .arg(agents(alloc))
+        &[
+            Argument::Map,
+            Argument::Scen,
+            Argument::Program,
+            Argument::Agents,
+        ],
+    )
 }
 
-/// The request that the matches of the command make: none if a word is missing, or a text is no number.
-pub(crate) fn verify_in<'a>(matches: &ArgMatches<'a>) -> Option<VerifyRequest<'a>>
-    ensures { MatchOption result (has_verify_values (values_in matches.now) ≡ false)
-        (AsksVerify (values_in matches.now)) }
+/// The request that the matches of the command make.
+pub(crate) fn verify_in<'a>(matches: &ArgMatches<'a>) -> VerifyRequest<'a>
+    requires { has_verify_values (values_in matches.now) ≡ true }
+    ensures { AsksVerify (values_in matches.now) result }
 {
-    Some(VerifyRequest {
-        map: matches.get_str("map")?,
-        scen: matches.get_str("scen")?,
-        program: matches.get_str("program")?,
-        agents: number(matches, "agents")?,
-    })
+    let InstanceRequest { map, scen, agents } = instance_in(matches);
+    let program = text(matches, "program");
+    VerifyRequest {
+        map,
+        scen,
+        program,
+        agents,
+    }
 }

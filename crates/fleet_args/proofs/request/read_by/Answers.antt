@@ -1,4 +1,4 @@
-use Rattle.std.proofs.Common.{◌∙◌, sym, ap, refl, subst, true≢false, map, string_bytes}
+use Rattle.std.proofs.Common.{◌∙◌, ap, refl, subst, map, string_bytes}
 use Rattle.clap.specs.Words.{app_of, kind_of}
 use Rattle.fleet_args.specs.CommandLine.{fleet}
 use Rattle.fleet_args.specs.Request.{AsksBy, is_answered_by}
@@ -6,22 +6,22 @@ use Rattle.fleet_args.proofs.RequestLemmas.{enters_same, faultless, stops_for_bu
 use Rattle.fleet_args.proofs.Requested.{is_answered}
 use Rattle.fleet_args.proofs.request.read_by.Goals as goal
 
-pub returns-in-Some : goal.returns-in-Some
-returns-in-Some c =
+pub request_in-requires : goal.request_in-requires
+request_in-requires c =
     let words = map string_bytes c.args.words.now in
-    let same = enters_same (app_of c.in-Ok.command) (fleet c.args.names) words c.in-Ok-try_get_matches_from.matches c.in-Ok.ensures refl
-    c.in-Ok-try_get_matches_from.ensures.matches in (
-      faultless (app_of c.in-Ok.command) (fleet c.args.names) words c.in-Ok.ensures refl c.in-Ok-try_get_matches_from.ensures.kinds,
-      subst (λ found. AsksBy found c.in-Some.request) same c.in-Some.ensures,
-    )
+    let read = c.in-Ok-try_get_matches_from in
+    let same = enters_same (app_of c.in-Ok.command) (fleet c.args.names) words read.matches c.in-Ok.ensures refl read.ensures.matches in
+    let none = faultless (app_of c.in-Ok.command) (fleet c.args.names) words c.in-Ok.ensures refl read.ensures.kinds in
+    ap is_answered_by same ∙ is_answered c.args.names c.requires words none
 
-pub unreachable-requires : goal.unreachable-requires
-unreachable-requires c =
+pub returns-in-Ok-try_get_matches_from : goal.returns-in-Ok-try_get_matches_from
+returns-in-Ok-try_get_matches_from c =
     let words = map string_bytes c.args.words.now in
-    let same = enters_same (app_of c.in-Ok.command) (fleet c.args.names) words c.in-Ok-try_get_matches_from.matches c.in-Ok.ensures refl
-    c.in-Ok-try_get_matches_from.ensures.matches in
-    let none = faultless (app_of c.in-Ok.command) (fleet c.args.names) words c.in-Ok.ensures refl c.in-Ok-try_get_matches_from.ensures.kinds in
-    true≢false (sym (is_answered c.args.names c.requires words none) ∙ (sym (ap is_answered_by same) ∙ c.in-None.ensures))
+    let read = c.in-Ok-try_get_matches_from in
+    let same = enters_same (app_of c.in-Ok.command) (fleet c.args.names) words read.matches c.in-Ok.ensures refl read.ensures.matches in (
+      faultless (app_of c.in-Ok.command) (fleet c.args.names) words c.in-Ok.ensures refl read.ensures.kinds,
+      subst (λ found. AsksBy found c.request_in.result) same c.request_in.ensures,
+    )
 
 pub returns-in-Err : goal.returns-in-Err
 returns-in-Err c =

@@ -1,5 +1,5 @@
 -- Paths, step by step.
-use Rattle.std.proofs.Common.{◌≡◌, ℕ, ◌+◌, ◌-◌, ◌<◌, ◌≤◌, min, Bool, true, false, IsTrue, Option, None, option_map, List, [], length, get_or, slice_get, Some, ◌⊎◌, inl, inr, refl, sym, ap, ◌∙◌, subst, pos, arith, ◌+ℤ◌, ◌-ℤ◌}
+use Rattle.std.proofs.Common.{◌≡◌, ◌↔◌, ℕ, ◌+◌, ◌-◌, ◌<◌, ◌≤◌, min, Bool, true, false, IsTrue, Option, None, option_map, List, [], length, get_or, slice_get, Some, ◌⊎◌, inl, inr, refl, sym, ap, ◌∙◌, subst, pos, arith, ◌+ℤ◌, ◌-ℤ◌}
 use Rattle.std.specs.Int.{abs_diff}
 use Rattle.std.proofs.lemmas.Bool.{cases_lt, cases_eq}
 use Rattle.std.proofs.lemmas.Int.{ints}
@@ -42,6 +42,13 @@ near a b West e = let x : pos b.x ≡ pos a.x -ℤ pos 1 = ap (λ (p : Place). p
 pub beside_only : (a b : Cell) → (a ≡ b) ⊎ AreNeighbours a b → abs_diff a.x b.x + abs_diff a.y b.y ≤ 1
 beside_only a b (inl e) = let x : a.x ≡ b.x = ap (λ (c : Cell). c.x) e in let y : a.y ≡ b.y = ap (λ (c : Cell). c.y) e in omega arith
 beside_only a b (inr n) = near a b n.0 n.1
+
+-- in one column and in one row two cells are neighbours, or one, by the other numbers
+pub beside_in_column : (a b : Cell) → a.x ≡ b.x → ((a.y ≤ b.y + 1) × (b.y ≤ a.y + 1)) ↔ ((a ≡ b) ⊎ AreNeighbours a b)
+beside_in_column a b e = (λ h. beside_if a b (let u = h.0 in let v = h.1 in omega arith), λ h. let l = beside_only a b h in (omega arith, omega arith))
+
+pub beside_in_row : (a b : Cell) → a.y ≡ b.y → ((a.x ≤ b.x + 1) × (b.x ≤ a.x + 1)) ↔ ((a ≡ b) ⊎ AreNeighbours a b)
+beside_in_row a b e = (λ h. beside_if a b (let u = h.0 in let v = h.1 in omega arith), λ h. let l = beside_only a b h in (omega arith, omega arith))
 
 -- ---- the cells of a path
 

@@ -42,6 +42,7 @@ fn after_word(text: &[u8]) -> Option<&[u8]>
 }
 
 /// The cell that the word in front spells, and the text from the next word on.
+#[inline(always)]
 #[tactic(auto, unfolding(crate::specs::CellReading::cell_front))]
 pub(crate) fn cell_front(text: &[u8]) -> Option<(Cell, &[u8])>
     ensures { option_map (λ x. (x.0, x.1.now)) result ≡ cell_front text.now }

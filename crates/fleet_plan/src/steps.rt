@@ -1,6 +1,6 @@
 //! Whether the agents of a plan go step by step over passable cells.
 
-ghost use Rattle.std.specs.Prelude.{◌≡◌, ◌<◌, IfSome, IfNone, IsTrue, ◌↔◌, ◌⊎◌};
+ghost use Rattle.std.specs.Prelude.{◌≡◌, ◌+◌, ◌<◌, ◌≤◌, IfSome, IfNone, IsTrue, ◌↔◌, ◌⊎◌};
 ghost use Rattle.fleet_grid.specs.Ground.{is_passable};
 ghost use Rattle.fleet_plan.specs.Plan.{AreNeighbours};
 ghost use Rattle.fleet_plan.specs.FirstFault.{IsFirstTime, GoesOver, GoesRight, AllAgents, IsFirstStep};
@@ -9,11 +9,22 @@ use crate::plan::{Path, Plan};
 use fleet_grid::Grid;
 use fleet_model::Cell;
 
+/// Whether the two numbers are the same, or follow one another.
+fn is_near(a: u16, b: u16) -> bool
+    ensures { IsTrue result ↔ ((a ≤ b + 1) × (b ≤ a + 1)) }
+{
+    u32::from(a) <= u32::from(b) + 1 && u32::from(b) <= u32::from(a) + 1
+}
+
 /// Whether the second cell is the first one or one of its four neighbours.
 fn is_beside(from: Cell, to: Cell) -> bool
     ensures { IsTrue result ↔ ((from ≡ to) ⊎ AreNeighbours from to) }
 {
-    from.x.abs_diff(to.x) as u32 + from.y.abs_diff(to.y) as u32 <= 1
+    if from.x == to.x {
+        is_near(from.y, to.y)
+    } else {
+        from.y == to.y && is_near(from.x, to.x)
+    }
 }
 
 /// The first time at which a path does not go on over passable cells.

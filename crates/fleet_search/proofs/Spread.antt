@@ -1,12 +1,15 @@
 -- Cells are labelled with their distances from a goal.
 use Rattle.std.proofs.Common.{◌≡◌, ◌≢◌, ℕ, zero, suc, ◌+◌, ◌*◌, ◌<◌, ◌≤◌, ◌/◌, ◌%◌, ◌==◌, true, false, cond, List, [], ◌∷◌, ◌++◌, length, get_or, Contains, Option, Some, None, ◌⊎◌, inl, inr, refl, sym, ap, ◌∙◌, subst, arith}
+use Rattle.std.proofs.Math.Dec.{ltb}
+use Rattle.std.specs.Bool.{IsTrue}
+use Rattle.std.specs.Prelude.{◌↔◌, Bool}
 use Rattle.std.specs.Int.{abs_diff}
 use Rattle.std.specs.List.{sum_by}
 use Rattle.std.proofs.lemmas.List.Sums.{sum_by-set}
 use Rattle.std.specs.Prelude.{unwrap_or, min, set}
 use Rattle.std.proofs.lemmas.Int.{ints}
 use Rattle.std.proofs.lemmas.Nat.{div-mul-add, mod-mul-add, mul-add-lt}
-use Rattle.std.proofs.lemmas.Bool.{cases_lt, cases_eq, eqb-true, eq-eqb, false_from_ne_true}
+use Rattle.std.proofs.lemmas.Bool.{cases_lt, cases_eq, lt-ltb, ltb-true, eqb-true, eq-eqb, false_from_ne_true}
 use Rattle.std.proofs.lemmas.Option.{none-some, same_Some}
 use Rattle.std.proofs.lemmas.List.{get_or-set_same, get_or-set_other, length-set, get_or_default, length-append}
 use Rattle.std.proofs.lemmas.List.Elements.{Contains-append_left, Contains-push, Contains-push_cases}
@@ -108,6 +111,46 @@ manhattan-step a b s (North, h) = let x = ap (λ (p : Place). p.x) h in let y = 
 manhattan-step a b s (East, h) = let x = ap (λ (p : Place). p.x) h in let y = ap (λ (p : Place). p.y) h in in_column a b s (omega (arith, ints, y)) (diff-step b.x a.x s.x (omega (arith, ints, x)))
 manhattan-step a b s (South, h) = let x = ap (λ (p : Place). p.x) h in let y = ap (λ (p : Place). p.y) h in in_row a b s (omega (arith, ints, x)) (diff-step b.y a.y s.y (omega (arith, ints, y)))
 manhattan-step a b s (West, h) = let x = ap (λ (p : Place). p.x) h in let y = ap (λ (p : Place). p.y) h in in_column a b s (omega (arith, ints, y)) (turn_round (diff-step a.x b.x s.x (omega (arith, ints, x))))
+
+-- on one line a step up leads nearer exactly to the numbers above, and a step down to those below
+step-up : (x y s : ℕ) → x ≡ y + 1 → (y < s → abs_diff x s + 1 ≡ abs_diff y s) × (s ≤ y → abs_diff x s ≡ abs_diff y s + 1)
+step-up x y s e = (λ h. omega arith, λ h. omega arith)
+
+-- whether a neighbour is nearer to a cell, by the numbers in which the two differ
+abbrev pub NearerIf : Bool → Cell → Cell → Cell → Type 0
+NearerIf nearer a b s = IsTrue nearer ↔ (manhattan b s < manhattan a s)
+
+pub nearer-north : (a b s : Cell) → place_of b ≡ moved (place_of a) North → NearerIf (ltb s.y a.y) a b s
+unfolding manhattan
+nearer-north a b s h =
+    let e : a.x ≡ b.x = omega (arith, ints, ap (λ (p : Place). p.x) h) in
+    let k = ap (λ n. abs_diff n s.x) e in
+    let f : a.y ≡ b.y + 1 = omega (arith, ints, ap (λ (p : Place). p.y) h) in
+    (λ y. let l = ltb-true s.y a.y y in let z = (step-up a.y b.y s.y f).1 (omega arith) in omega arith, λ y. elim (cases_lt s.y a.y) [ inl l ↦ lt-ltb s.y a.y l | inr l ↦ let z = (step-up a.y b.y s.y f).0 (omega arith) in absurd (omega arith) ])
+
+pub nearer-south : (a b s : Cell) → place_of b ≡ moved (place_of a) South → NearerIf (ltb a.y s.y) a b s
+unfolding manhattan
+nearer-south a b s h =
+    let e : a.x ≡ b.x = omega (arith, ints, ap (λ (p : Place). p.x) h) in
+    let k = ap (λ n. abs_diff n s.x) e in
+    let f : b.y ≡ a.y + 1 = omega (arith, ints, ap (λ (p : Place). p.y) h) in
+    (λ y. let l = ltb-true a.y s.y y in let z = (step-up b.y a.y s.y f).0 l in omega arith, λ y. elim (cases_lt a.y s.y) [ inl l ↦ lt-ltb a.y s.y l | inr l ↦ let z = (step-up b.y a.y s.y f).1 l in absurd (omega arith) ])
+
+pub nearer-east : (a b s : Cell) → place_of b ≡ moved (place_of a) East → NearerIf (ltb a.x s.x) a b s
+unfolding manhattan
+nearer-east a b s h =
+    let e : a.y ≡ b.y = omega (arith, ints, ap (λ (p : Place). p.y) h) in
+    let k = ap (λ n. abs_diff n s.y) e in
+    let f : b.x ≡ a.x + 1 = omega (arith, ints, ap (λ (p : Place). p.x) h) in
+    (λ y. let l = ltb-true a.x s.x y in let z = (step-up b.x a.x s.x f).0 l in omega arith, λ y. elim (cases_lt a.x s.x) [ inl l ↦ lt-ltb a.x s.x l | inr l ↦ let z = (step-up b.x a.x s.x f).1 l in absurd (omega arith) ])
+
+pub nearer-west : (a b s : Cell) → place_of b ≡ moved (place_of a) West → NearerIf (ltb s.x a.x) a b s
+unfolding manhattan
+nearer-west a b s h =
+    let e : a.y ≡ b.y = omega (arith, ints, ap (λ (p : Place). p.y) h) in
+    let k = ap (λ n. abs_diff n s.y) e in
+    let f : a.x ≡ b.x + 1 = omega (arith, ints, ap (λ (p : Place). p.x) h) in
+    (λ y. let l = ltb-true s.x a.x y in let z = (step-up a.x b.x s.x f).1 (omega arith) in omega arith, λ y. elim (cases_lt s.x a.x) [ inl l ↦ lt-ltb s.x a.x l | inr l ↦ let z = (step-up a.x b.x s.x f).0 (omega arith) in absurd (omega arith) ])
 
 pub manhattan-near : (a b s : Cell) → AreNeighbours a b → manhattan b s ≤ manhattan a s + 1
 manhattan-near a b s n = elim (manhattan-step a b s n) [ inl e ↦ omega arith | inr e ↦ omega arith ]

@@ -1,6 +1,8 @@
 //! How far the cells of a map are from a goal, over passable cells.
 
 ghost use Rattle.std.specs.Prelude.{◌≡◌, ◌+◌, ◌<◌, ◌≤◌, ◌↔◌, ℕ, IsTrue, IfOk, OnOk, Some, None, [], length, get_or};
+ghost use Rattle.fleet_model.specs.Geometry.{place_of, moved};
+ghost use Rattle.fleet_model.specs.declared.geometry.Cell.{Cell};
 ghost use Rattle.fleet_model.specs.declared.limits.TheConstants.{MAX_HORIZON};
 ghost use Rattle.fleet_search.specs.Distance.{no_label, label_in, manhattan, least_moves, heuristic, IsReady, AreDistances, IsOnGround, IsSpreadOf, IsLabelled, IsFoundTowards, LabelsFall, IsSameSearch, IsLabelNear, IsPutFrom, work_left};
 
@@ -49,6 +51,20 @@ fn manhattan(a: Cell, b: Cell) -> u32
     ensures limit { result ≤ 131070 }
 {
     u32::from(a.x.abs_diff(b.x)) + u32::from(a.y.abs_diff(b.y))
+}
+
+/// Whether a step from the cell in the direction leads nearer to the other cell.
+#[inline(always)]
+fn leads_nearer(from: Cell, dir: Dir, to: Cell) -> bool
+    ensures { (beside : Cell) → place_of beside ≡ moved (place_of from) dir
+        → (IsTrue result ↔ (manhattan beside to < manhattan from to)) }
+{
+    match dir {
+        Dir::North => to.y < from.y,
+        Dir::East => from.x < to.x,
+        Dir::South => from.y < to.y,
+        Dir::West => to.x < from.x,
+    }
 }
 
 impl Distances {
@@ -122,11 +138,14 @@ impl Distances {
         label.search == self.search && label.distance <= distance
     }
 
-    /// Puts a cell that was labelled from the one that is left on the layer or on the next list.
-    fn put(&mut self, left: Cell, cell: Cell) -> Result<(), OutOfMemory>
+    /// Puts a cell that was labelled from the one that is left, its neighbour in the direction, on the layer or on the
+    /// next list.
+    #[inline(always)]
+    fn put(&mut self, left: Cell, dir: Dir, cell: Cell) -> Result<(), OutOfMemory>
+        requires { place_of cell ≡ moved (place_of left) dir }
         ensures { OnOk result (IsPutFrom left cell self.old self.new) }
     {
-        if manhattan(cell, self.start) < manhattan(left, self.start) {
+        if leads_nearer(left, dir, self.start) {
             self.layer.push(cell)?;
         } else {
             self.next.push(cell)?;
@@ -135,6 +154,7 @@ impl Distances {
     }
 
     /// Labels the neighbour in one direction, unless it has a label of so few moves already.
+    #[inline(always)]
     fn label_towards(
         &mut self,
         grid: &Grid,
@@ -165,7 +185,7 @@ impl Distances {
             search: self.search,
             distance: distance + 1,
         };
-        self.put(left, beside)?;
+        self.put(left, dir, beside)?;
         Ok(())
     }
 

@@ -1,13 +1,13 @@
-use Rattle.std.proofs.Common.{◌≡◌, ◌+◌, ◌≤◌, arith}
-use Rattle.std.specs.Int.{abs_diff}
-use Rattle.std.proofs.lemmas.Bool.{leb-true, le-leb}
-use Rattle.fleet_plan.proofs.PathLaws.{beside_if, beside_only}
+use Rattle.fleet_plan.proofs.PathLaws.{beside_in_column, beside_in_row}
 use Rattle.fleet_plan.proofs.steps.is_beside.Goals as goal
 
-pub returns : goal.returns
-returns c =
-    let x : c.abs_diff.result ≡ abs_diff c.args.from.x c.args.to.x = c.abs_diff.ensures in
-    let y : c.abs_diff-2.result ≡ abs_diff c.args.from.y c.args.to.y = c.abs_diff-2.ensures in (
-      λ h. beside_if c.args.from c.args.to (let l : c.abs_diff.result + c.abs_diff-2.result ≤ 1 = leb-true _ _ h in omega arith),
-      λ h. le-leb _ _ (let l : abs_diff c.args.from.x c.args.to.x + abs_diff c.args.from.y c.args.to.y ≤ 1 = beside_only c.args.from c.args.to h in omega arith),
-    )
+pub returns-then-from-to : goal.returns-then-from-to
+returns-then-from-to c =
+    let same = beside_in_column c.args.from c.args.to c.if-from-to.true in
+    (λ h. same.0 (c.is_near.ensures.0 h), λ h. c.is_near.ensures.1 (same.1 h))
+
+pub returns-then-from-to-2 : goal.returns-then-from-to-2
+returns-then-from-to-2 c =
+    let same = beside_in_row c.args.from c.args.to c.if-from-to-2.true in
+    let near = c.is_near-then-from-to-2.ensures in
+    (λ h. same.0 (near.0 h), λ h. near.1 (same.1 h))

@@ -10,7 +10,7 @@ use std::marker::Model;
 /// How many opcodes stand before each of so many actions, counted from the first, and last how many they have together: an
 /// action has one for each await and one for its step. If from one action on all have as many as each other, the offsets
 /// after its own are not kept.
-#[derive(Debug, Drop)]
+#[derive(Drop)]
 pub struct ActionOffsets {
     actions: u32,
     kept: Vec<u32>,

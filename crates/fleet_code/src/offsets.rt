@@ -14,7 +14,7 @@ use std::alloc::Global;
 use std::marker::Model;
 
 /// Where the actions of an agent stand in the bytes of a program.
-#[derive(Debug, Drop)]
+#[derive(Drop)]
 pub struct Part {
     begin: usize,
     offsets: ActionOffsets,

@@ -1,6 +1,9 @@
 //! The reader of scenarios.
 
-ghost use Rattle.std.specs.Prelude.{◌≡◌, ◌≢◌, ◌<◌, ◌+◌, ◌^◌, List, [], length, All, IfOk, IfErr, IsOkUnless};
+ghost use Rattle.std.specs.Prelude.{◌≡◌, ◌≢◌, ◌<◌, ◌+◌, ◌^◌, List, [], length, All, IfOk, IfErr, OnOk, IsOkUnless, Err, false};
+ghost use Rattle.std.specs.HashSet.{contains};
+ghost use Rattle.fleet_model.specs.declared.geometry.Cell.{Cell};
+ghost use Rattle.fleet_model.specs.Geometry.{is_same_cell};
 ghost use Rattle.fleet_model.specs.declared.task.Task.{Task};
 ghost use Rattle.fleet_model.specs.Answer.{IsDueUnless};
 ghost use Rattle.fleet_text.specs.Text.{lines, words};
@@ -8,7 +11,7 @@ ghost use Rattle.fleet_scen.specs.ScenText.{is_filled, is_version, HasPassableEn
 ghost use Rattle.fleet_scen.specs.ScenReading.{numbers_at, task_at, lacks, scen_judged, tasks_at, after_version, judge_asked, scen_at};
 
 use crate::fault::ScenFault;
-use crate::fields::fields_of;
+use crate::fields::{fields_of, two_words};
 use crate::instance::Instance;
 use fleet_grid::Grid;
 use fleet_model::{Cell, MAX_AGENTS, Task};
@@ -33,10 +36,7 @@ fn is_filled(line: &[u8]) -> bool
 fn is_version(line: &[u8]) -> bool
     ensures { result ≡ is_version (words line.now) }
 {
-    let Some((first, rest)) = next_word(line) else {
-        return false;
-    };
-    let Some((second, rest)) = next_word(rest) else {
+    let Some((first, second, rest)) = two_words(line) else {
         return false;
     };
     next_word(rest).is_none() && first == VERSION && (second == ONE || second == ONE_POINT_ZERO)
@@ -114,6 +114,14 @@ fn lacks(asked: Option<u16>, count: usize) -> bool
     }
 }
 
+/// The tasks that were read, with the cells on which they start and end.
+#[derive(Drop)]
+struct Found {
+    tasks: Vec<Task>,
+    starts: HashSet<Cell>,
+    goals: HashSet<Cell>,
+}
+
 /// The tasks of the lines that are left, before which `before` lines stand.
 fn tasks_of(
     alloc: Global,
@@ -125,31 +133,52 @@ fn tasks_of(
     requires { before + length lines.old < 2 ^ 64 }
     ensures { IsDueUnless (λ v. v.items) result (tasks_at grid.now asked before [] lines.old) ScenFault.OutOfMemory }
 {
-    let mut tasks = Vec::new(alloc);
-    let mut starts = HashSet::new(alloc);
-    let mut goals = HashSet::new(alloc);
+    let mut found = Found {
+        tasks: Vec::new(alloc),
+        starts: HashSet::new(alloc),
+        goals: HashSet::new(alloc),
+    };
+    find_tasks(grid, asked, before, lines, &mut found)?;
+    enough_tasks(asked, found.tasks)
+}
+
+/// Reads the tasks of the lines that are left, before which `before` lines stand, into an empty list.
+fn find_tasks(
+    grid: &Grid,
+    asked: Option<u16>,
+    before: u64,
+    lines: &mut Cursor,
+    found: &mut Found,
+) -> Result<(), ScenFault>
+    requires count { before + length lines.old < 2 ^ 64 }
+    requires tasks { found.old.tasks.items ≡ [] }
+    requires starts { (c : Cell) → contains is_same_cell found.old.starts c ≡ false }
+    requires goals { (c : Cell) → contains is_same_cell found.old.goals c ≡ false }
+    ensures read { OnOk result (tasks_at grid.now asked before [] lines.old ≡ scen_judged asked found.new.tasks.items) }
+    ensures fault { IfErr result (λ f. f ≢ ScenFault.OutOfMemory → tasks_at grid.now asked before [] lines.old ≡ Err f) }
+{
     let mut number = before;
-    while lacks(asked, tasks.len()) {
+    while lacks(asked, found.tasks.len()) {
         let Some(line) = lines.next_line() else {
-            return enough_tasks(asked, tasks);
+            return Ok(());
         };
         number += 1;
         if !is_filled(line) {
             continue;
         }
-        if tasks.len() >= MAX_AGENTS {
+        if found.tasks.len() >= MAX_AGENTS {
             return Err(ScenFault::TooMany);
         }
         let task = task_of(grid, number, line)?;
-        if !starts.insert(task.start)? {
+        if !found.starts.insert(task.start)? {
             return Err(ScenFault::SharedStart { line: number });
         }
-        if !goals.insert(task.goal)? {
+        if !found.goals.insert(task.goal)? {
             return Err(ScenFault::SharedGoal { line: number });
         }
-        tasks.push(task)?;
+        found.tasks.push(task)?;
     }
-    enough_tasks(asked, tasks)
+    Ok(())
 }
 
 /// The tasks, if they are enough.

@@ -1,5 +1,5 @@
 -- A program is read after its head, and an agent's actions after the agent's.
-use Rattle.std.proofs.Common.{◌≡◌, ◌≢◌, ℕ, ◌+◌, ◌-◌, Bool, true, false, not, ◌||◌, eqb, ltb, List, length, Result, Ok, Err, refl, ◌∙◌}
+use Rattle.std.proofs.Common.{◌≡◌, ◌≢◌, ℕ, ◌+◌, ◌-◌, ◌≤◌, Bool, true, false, not, ◌||◌, eqb, ltb, List, length, Result, Ok, Err, refl, ◌∙◌, arith}
 use Rattle.std.proofs.lemmas.Bool.{ne_eqb}
 use Rattle.fleet_model.specs.declared.geometry.Cell.{Cell}
 use Rattle.fleet_model.specs.declared.program.Action.{Action}
@@ -9,6 +9,7 @@ use Rattle.fleet_text.specs.Steps.{◌>>=◌, ◌>>◌, fault_if}
 use Rattle.fleet_code.specs.declared.fault.LoadFault.{LoadFault}
 use Rattle.fleet_code.specs.declared.fault.LoadFault.TheVariants.{AgentCount, Total, Trailing}
 use Rattle.fleet_code.specs.declared.format.Version.{Version}
+use Rattle.fleet_code.specs.declared.format.Version.TheVariants.{One, Two}
 use Rattle.fleet_code.specs.Spelling.{most_moves}
 use Rattle.fleet_code.specs.Reading.{Field, magic_at, number_at, count_from, cell_from, actions_at, agent_at, agents_at, program_as}
 use Rattle.fleet_code.specs.Heads.{head_at, agent_head_at}
@@ -78,3 +79,8 @@ module _ (v : Version) (whole n i total : ℕ) (bytes : List ℕ) where
 
     pub agent_is : (x : List Action × List ℕ) → actions_at v h.0.2 whole n i h.1 ≡ Ok x → agent_at v whole n i total bytes ≡ Ok (record { start = h.0.0; goal = h.0.1; actions = x.0 }, x.1)
     agent_is x e = after_the_head ∙ rw (head, e) refl
+
+-- no version lets an agent have more moves than a program may have for one
+pub most_moves-le : (v : Version) → most_moves v ≤ 1000000
+most_moves-le One = omega arith
+most_moves-le Two = omega arith

@@ -8,7 +8,7 @@ ghost use Rattle.fleet_model.specs.declared.task.Task.{Task};
 ghost use Rattle.fleet_model.specs.Answer.{IsDueUnless};
 ghost use Rattle.fleet_text.specs.Text.{lines, words};
 ghost use Rattle.fleet_scen.specs.ScenText.{is_filled, is_version, HasPassableEnds, IsScenText, IsFirstScenFault};
-ghost use Rattle.fleet_scen.specs.ScenReading.{numbers_at, task_at, lacks, scen_judged, tasks_at, after_version, judge_asked, scen_at};
+ghost use Rattle.fleet_scen.specs.ScenReading.{pair_at, numbers_at, task_at, lacks, scen_judged, tasks_at, after_version, judge_asked, scen_at};
 
 use crate::fault::ScenFault;
 use crate::fields::{fields_of, two_words};
@@ -63,28 +63,37 @@ fn pass_version(lines: &mut Cursor) -> Result<u64, ScenFault>
     Err(ScenFault::Version)
 }
 
-/// The fault of a field that is no number.
-fn wrong(line: u64, field: u8) -> ScenFault
-    ensures { result ≡ ScenFault.Number line field }
+/// Two numbers, which are this field of the line and the next.
+fn pair_of(
+    line: u64,
+    field: u8,
+    first: Option<u16>,
+    second: Option<u16>,
+) -> Result<(u16, u16), ScenFault>
+    requires { field < 255 }
+    ensures { result ≡ pair_at line field first second }
 {
-    ScenFault::Number { line, field }
+    let Some(first) = first else {
+        return Err(ScenFault::Number { line, field });
+    };
+    let Some(second) = second else {
+        let field = field + 1;
+        return Err(ScenFault::Number { line, field });
+    };
+    Ok((first, second))
 }
 
 /// Width, height and task by the numbers of an agent's line.
-#[tactic(auto, unfolding(crate::specs::ScenReading::numbers_at))]
 fn numbers_of(number: u64, line: &[u8]) -> Result<(u16, u16, Task), ScenFault>
     ensures { result ≡ numbers_at number (words line.now) }
 {
     let Some(fields) = fields_of(line) else {
         return Err(ScenFault::Fields { line: number });
     };
-    let width = fields.width.ok_or(wrong(number, 3))?;
-    let height = fields.height.ok_or(wrong(number, 4))?;
-    let x = fields.start_x.ok_or(wrong(number, 5))?;
-    let y = fields.start_y.ok_or(wrong(number, 6))?;
+    let (width, height) = pair_of(number, 3, fields.width, fields.height)?;
+    let (x, y) = pair_of(number, 5, fields.start_x, fields.start_y)?;
     let start = Cell { x, y };
-    let x = fields.goal_x.ok_or(wrong(number, 7))?;
-    let y = fields.goal_y.ok_or(wrong(number, 8))?;
+    let (x, y) = pair_of(number, 7, fields.goal_x, fields.goal_y)?;
     let goal = Cell { x, y };
     Ok((width, height, Task { start, goal }))
 }

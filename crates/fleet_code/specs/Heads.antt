@@ -16,7 +16,7 @@ head_at v bytes = do
   fault_if (n.0 == 0 || nat_lt MAX_AGENTS n.0) AgentCount
   Ok n
 
--- the start and the goal of an agent, and how many actions it has, where those before it have total moves
+-- the start and the goal of an agent, and how many actions it has, if those before it have total actions together
 unfoldable pub agent_head_at : (v : Version) (total : ℕ) → List ℕ → Field (Cell × Cell × ℕ)
 agent_head_at v total bytes = do
   start ← cell_from bytes

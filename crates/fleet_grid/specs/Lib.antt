@@ -3,4 +3,3 @@ pub mod MapText
 pub mod MapReading
 pub mod Stored
 pub mod Told
-pub mod Particulars

@@ -1,9 +1,5 @@
 //! Why a text is no map.
 
-ghost use Rattle.std.specs.Prelude.{◌≡◌};
-ghost use Rattle.fleet_grid.specs.Told.{map_words};
-ghost use Rattle.fleet_grid.specs.Particulars.{told_words};
-
 use fleet_text::{OutFault, Refusal, TraceOut, put_memory, put_named, put_named_at, put_named_by};
 use std::alloc::AllocError;
 use thiserror::Error;
@@ -44,30 +40,6 @@ impl From<AllocError> for MapFault {
     }
 }
 
-/// What the line of a fault of a map tells: its number, its name and the place at which it is.
-#[derive(Clone, Copy)]
-enum Particulars {
-    Memory,
-    Named(u64, &'static str),
-    /// The third is what the place counts.
-    At(u64, &'static str, &'static str, u64),
-    Glyph(u16, u16),
-}
-
-fn told(fault: MapFault) -> Particulars
-    ensures { told_words result ≡ map_words fault }
-{
-    match fault {
-        MapFault::OutOfMemory => Particulars::Memory,
-        MapFault::Header { line } => Particulars::At(2, "Header", "line", line),
-        MapFault::Size => Particulars::Named(3, "Size"),
-        MapFault::RowCount => Particulars::Named(4, "RowCount"),
-        MapFault::RowLength { row } => Particulars::At(5, "RowLength", "row", row as u64),
-        MapFault::Glyph { row, column } => Particulars::Glyph(row, column),
-        MapFault::Trailing => Particulars::Named(7, "Trailing"),
-    }
-}
-
 impl Refusal for MapFault {
     ghost use Rattle.fleet_grid.specs.Told.{map_words, is_map_failure};
 
@@ -76,16 +48,24 @@ impl Refusal for MapFault {
     ghost is_failure = { is_map_failure };
 
     fn put<O: TraceOut>(&self, out: &mut O) -> Result<(), OutFault> {
-        match told(*self) {
-            Particulars::Memory => put_memory(out),
-            Particulars::Named(number, name) => put_named(out, "map", number, name),
-            Particulars::At(number, name, field, place) => {
-                put_named_at(out, "map", number, name, field, place)
-            }
-            Particulars::Glyph(row, column) => {
+        match *self {
+            MapFault::OutOfMemory => put_memory(out),
+            MapFault::Header { line } => put_named_at(out, "map", 2, "Header", "line", line),
+            MapFault::Size => put_named(out, "map", 3, "Size"),
+            MapFault::RowCount => put_named(out, "map", 4, "RowCount"),
+            MapFault::RowLength { row } => put_named_at(
+                out,
+                "map",
+                5,
+                "RowLength",
+                "row",
+                row as u64,
+            ),
+            MapFault::Glyph { row, column } => {
                 let row = ("row", row as u64);
                 put_named_by(out, "map", 6, "Glyph", row, ("column", column as u64))
             }
+            MapFault::Trailing => put_named(out, "map", 7, "Trailing"),
         }
     }
 

@@ -1,6 +1,6 @@
 //! Where the parts of a program stand in its bytes: the one pass that judges them.
 
-ghost use Rattle.std.specs.Prelude.{◌≡◌, ◌<◌, ◌≤◌, ◌+◌, ◌-◌, ◌/◌, ◌∷◌, ◌++◌, [], min, true, length, vec_len, vec_capacity, IfOk, OnOk};
+ghost use Rattle.std.specs.Prelude.{◌≡◌, ◌<◌, ◌≤◌, ◌+◌, ◌-◌, ◌/◌, ◌∷◌, [], min, true, length, vec_len, vec_capacity, IfOk};
 ghost use Rattle.fleet_model.specs.Answer.{IsDueUnless};
 ghost use Rattle.fleet_code.specs.Spelling.{action, agent};
 ghost use Rattle.fleet_code.specs.Heads.{head_at, agent_head_at};
@@ -72,14 +72,6 @@ fn list_for<T>(
     Ok(Vec::with_capacity(alloc, (count as usize).min(bytes.len() / item_len) + 1)?)
 }
 
-/// Adds an item to the list.
-fn push<T: Drop>(list: &mut Vec<T>, item: T) -> Result<(), OutOfMemory>
-    ensures items { OnOk result (list.new.items ≡ list.old.items ++ item ∷ []) }
-    ensures len { OnOk result (vec_len list.new ≡ vec_len list.old + 1) }
-{
-    Ok(list.push(item)?)
-}
-
 /// What is known of the bytes before the first agent is read: their version, how many they are, and how many agents there are.
 #[derive(Clone, Copy)]
 struct Head {
@@ -133,13 +125,13 @@ fn actions_after(
     ensures count { IfOk result (λ x. vec_len x.0 ≡ count + 1) }
 {
     let mut offsets = list_for(alloc, count, LEAST_ACTION_LEN, bytes)?;
-    push(&mut offsets, 0)?;
+    offsets.push(0).map_err(OutOfMemory::from)?;
     let mut end = 0;
     let mut rest = bytes;
     for _ in 0..count {
         let (opcodes, after) = after_action(head, own, rest)?;
         end += opcodes;
-        push(&mut offsets, end)?;
+        offsets.push(end).map_err(OutOfMemory::from)?;
         rest = after;
     }
     Ok((offsets, rest))
@@ -239,7 +231,7 @@ fn agents_after(alloc: Global, head: Head, bytes: &[u8]) -> Result<(Vec<Part>, &
     for own in 0..head.agents {
         let (part, after) = agent_after(alloc, head, own, total, rest)?;
         total += part.moves();
-        push(&mut parts, part)?;
+        parts.push(part).map_err(OutOfMemory::from)?;
         rest = after;
     }
     Ok((parts, rest))

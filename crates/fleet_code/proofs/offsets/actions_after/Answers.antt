@@ -1,4 +1,4 @@
-use Rattle.std.proofs.Common.{◌∷◌, [], arith}
+use Rattle.std.proofs.Common.{◌++◌, ◌∷◌, [], ◌+◌, ◌≡◌, vec_len, arith, rules}
 use Rattle.std.proofs.lemmas.Result.{err_from_is_err_and}
 use Rattle.fleet_code.proofs.OffsetLoop.{ends_found, ends_failed, end_goes_on, end_fails, ends_done}
 use Rattle.fleet_code.proofs.offsets.actions_after.Goals as goal
@@ -16,9 +16,11 @@ loop-preserved c =
     let so_long = c.loop.invariant.long in
     let shorter = c.loop.invariant.shorter in
     let counted = c.loop.invariant.counted in
+    let items : c.push-in-loop.new.self.items ≡ c.loop.offsets.items ++ (c.loop.end + c.in_ok-opcodes.opcodes) ∷ [] = search rules in
+    let one_more : vec_len c.push-in-loop.new.self ≡ vec_len c.loop.offsets + 1 = search rules in
     record {
-      so_far = rw c.in_ok-push-2.ensures.items (end_goes_on c.args.head.version c.loop.invariant.so_far skipped.0 c.in_ok-opcodes.after.now _ c.loop-test.true skipped.1 skipped.2.1 (omega (arith, skipped.2.0)));
-      counted = omega (arith, counted, c.in_ok-push-2.ensures.len);
+      so_far = rw items (end_goes_on c.args.head.version c.loop.invariant.so_far skipped.0 c.in_ok-opcodes.after.now _ c.loop-test.true skipped.1 skipped.2.1 (omega (arith, skipped.2.0)));
+      counted = omega (arith, counted, one_more);
       shorter = omega (arith, less, shorter);
       long = omega (arith, few, so_long);
     }

@@ -1,4 +1,4 @@
-use Rattle.std.proofs.Common.{length, ap, arith}
+use Rattle.std.proofs.Common.{◌++◌, ◌∷◌, [], ◌≡◌, length, ap, arith, rules}
 use Rattle.std.proofs.lemmas.Result.{err_from_is_err_and}
 use Rattle.fleet_code.proofs.OffsetLoop.{parts_found, parts_failed, part_goes_on, part_fails, parts_done, ends_length}
 use Rattle.fleet_code.specs.Offsets.{PartOffsets}
@@ -19,8 +19,9 @@ loop-own-preserved c =
     let all = ap (λ (p : PartOffsets). length p.offsets) found.2.0 in
     let many = ends_length 0 found.0.0.actions in
     let counted = c.moves-total.ensures in
+    let items : c.push.new.self.items ≡ c.loop-own.parts.items ++ c.in_ok-part.part ∷ [] = search rules in
     record {
-      so_far = rw c.in_ok-push.ensures.items
+      so_far = rw items
           (part_goes_on c.args.head.version c.loop-own.invariant.so_far found.0 c.in_ok-part.after.now _ _ _ c.loop-own-test.true found.1 found.2.1 found.2.0 (omega (arith, all, many, counted)) (omega (arith, whole, shorter, long)));
       few = omega (arith, less, counted);
       shorter = omega (arith, shorter, long);

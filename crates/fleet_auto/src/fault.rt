@@ -11,7 +11,7 @@ use fleet_verify::VerifyFault;
 use thiserror::Error;
 
 /// The refusal of the first step that refuses. Want of memory in any step is `OutOfMemory`.
-#[derive(Clone, Copy, Debug, PartialEq, Eq, Error)]
+#[derive(Clone, Copy, Debug, Error)]
 pub enum AutoFault {
     #[error("out of memory")]
     OutOfMemory,

@@ -1,9 +1,7 @@
 -- What the pass over the bytes finds, action by action and agent by agent.
-use Rattle.std.proofs.Common.{◌≡◌, ◌≢◌, ℕ, suc, ◌-◌, ◌+◌, ◌≤◌, ◌<◌, ltb, eqb, ◌||◌, false, List, [], ◌∷◌, ◌++◌, length, Option, Some, None, Ok, Err, refl, sym, ap, ◌∙◌, append_assoc, arith}
+use Rattle.std.proofs.Common.{◌≡◌, ℕ, suc, ◌-◌, ◌+◌, ◌≤◌, ◌<◌, List, [], ◌∷◌, ◌++◌, length, Option, Some, None, Ok, Err, refl, sym, ap, ◌∙◌, append_assoc, arith}
 use Rattle.std.proofs.Math.Nat.{sub-zero}
-use Rattle.std.proofs.lemmas.Bool.{le-ltb, ne_eqb, or_from}
 use Rattle.std.proofs.lemmas.List.{append-nil, length-append}
-use Rattle.fleet_model.specs.declared.geometry.Cell.{Cell}
 use Rattle.fleet_model.specs.declared.geometry.Step.{Step}
 use Rattle.fleet_model.specs.declared.program.Action.{Action}
 use Rattle.fleet_model.specs.declared.program.AgentProgram.{AgentProgram}
@@ -12,8 +10,8 @@ use Rattle.fleet_text.specs.Steps.{◌>>=◌}
 use Rattle.fleet_text.proofs.StepLaws.{ok_is}
 use Rattle.fleet_code.specs.declared.format.Version.{Version}
 use Rattle.fleet_code.specs.declared.fault.LoadFault.{LoadFault}
-use Rattle.fleet_code.specs.Spelling.{most_moves, action, agent}
-use Rattle.fleet_code.specs.Reading.{Field, magic_at, number_at, count_from, cell_from, action_at, actions_at, agent_at, agents_at, program_as}
+use Rattle.fleet_code.specs.Spelling.{action, agent}
+use Rattle.fleet_code.specs.Reading.{Field, action_at, actions_at, agent_at, agents_at}
 use Rattle.fleet_code.specs.Offsets.{PartOffsets, opcodes, ends_of, part_of, parts_of, with_ends, with_parts}
 use Rattle.fleet_code.proofs.Parts.{IsBytes}
 use Rattle.fleet_code.proofs.RoundTrip.{action_takes, agent_takes}
@@ -141,21 +139,3 @@ agent_length v whole n i total bytes x fits e = ap length (agent_takes v whole n
 pub ends_length : (at : ℕ) (actions : List Action) → length (ends_of at actions) ≡ length actions
 ends_length at [] = refl
 ends_length at (a ∷ actions) = ap suc (ends_length (at + opcodes a) actions)
-
--- an agent that was read field by field
-pub agent_is : (v : Version) (whole n i total : ℕ) (bytes : List ℕ) (start goal : Cell × List ℕ) (count : ℕ × List ℕ) (x : List Action × List ℕ)
-    → cell_from bytes ≡ Ok start → cell_from start.1 ≡ Ok goal → count_from v goal.1 ≡ Ok count → count.0 ≤ (most_moves v) → total + count.0 ≤ 4194304 → actions_at v count.0 whole n i count.1 ≡ Ok x
-    → agent_at v whole n i total bytes ≡ Ok (record { start = start.0; goal = goal.0; actions = x.0 }, x.1)
-unfolding agent_at
-agent_is v whole n i total bytes start goal count x e f g few_each few h =
-    let within : (ltb (most_moves v) count.0 || ltb 4194304 (total + count.0)) ≡ false = or_from (ltb (most_moves v) count.0) (ltb 4194304 (total + count.0)) (le-ltb _ _ few_each) (le-ltb _ _ few) in
-    rw (e, f, g, within, h) refl
-
--- a program that was read agent by agent
-pub program_is : (v : Version) (bytes at_number : List ℕ) (count : ℕ × List ℕ) (x : Program × List ℕ)
-    → magic_at v bytes ≡ Ok at_number → number_at at_number ≡ Ok count → count.0 ≢ 0 → count.0 ≤ 1024 → agents_at v count.0 (length bytes) count.0 0 0 count.1 ≡ Ok x → length x.1 ≡ 0
-    → program_as v bytes ≡ Ok x.0
-unfolding program_as
-program_is v bytes at_number count x e f some few h all =
-    let tests : (eqb count.0 0 || ltb 1024 count.0) ≡ false = or_from (eqb count.0 0) (ltb 1024 count.0) (ne_eqb count.0 0 some) (le-ltb _ _ few) in
-    rw (e, f, tests, h, all) refl

@@ -10,7 +10,7 @@ use std::marker::Model;
 /// How many opcodes stand before each of so many actions, counted from the first, and last how many they have together: an
 /// action has one for each await and one for its step. If from one action on all have as many as each other, the offsets
 /// after its own are not kept.
-#[derive(Debug, Drop)]
+#[derive(Drop)]
 pub struct ActionOffsets {
     actions: u32,
     kept: Vec<u32>,
@@ -93,11 +93,21 @@ fn even_from(offsets: &[u32]) -> (usize, u32)
         return (0, 0);
     }
     let stride = offsets[last].saturating_sub(offsets[last - 1]);
+    (first_even(offsets, stride), stride)
+}
+
+/// The first of the offsets from which on all are so far from each other.
+fn first_even(offsets: &[u32], stride: u32) -> usize
+    requires { 1 ≤ length offsets.now }
+    ensures first { result < length offsets.now }
+    ensures even { IsEvenFrom offsets.now result stride }
+{
+    let last = offsets.len() - 1;
     for back in 0..last {
         let at = last - back;
         if u64::from(offsets[at - 1]) + u64::from(stride) != u64::from(offsets[at]) {
-            return (at, stride);
+            return at;
         }
     }
-    (0, stride)
+    0
 }

@@ -20,7 +20,7 @@ use std::marker::Model;
 
 /// A program in the bytes that spell it, which are lent. Beside them it keeps where each agent's part and each action
 /// begins, so an answer reads a few bytes and takes no memory.
-#[derive(Debug, Drop)]
+#[derive(Drop)]
 pub struct CodeView<'a> {
     bytes: &'a [u8],
     version: Version,

@@ -35,7 +35,7 @@ pub const LEAST_ACTION_LEN: usize = 1;
 
 /// A version of the bytes. They differ in the magic, in how wide a number of moves and a count are, in the most moves of an
 /// agent, and in that version 2 alone has a byte for a stay.
-#[derive(Clone, Copy, Debug, PartialEq, Eq)]
+#[derive(Clone, Copy)]
 pub enum Version {
     One,
     Two,

@@ -1,20 +1,22 @@
 //! Where the parts of a program stand in its bytes: the one pass that judges them.
 
 ghost use Rattle.std.specs.Prelude.{◌≡◌, ◌<◌, ◌≤◌, ◌+◌, ◌-◌, ◌/◌, ◌∷◌, [], min, true, length, vec_len, vec_capacity, IfOk};
+ghost use Rattle.fleet_model.specs.Answer.{IsDueUnless};
 ghost use Rattle.fleet_code.specs.Spelling.{action, agent};
+ghost use Rattle.fleet_code.specs.Heads.{head_at, agent_head_at};
 ghost use Rattle.fleet_code.specs.Reading.{action_at, actions_at, agent_at, agents_at, program_as};
-ghost use Rattle.fleet_code.specs.Offsets.{Finds, AreBare, opcodes, ends_of, part_of, parts_of};
+ghost use Rattle.fleet_code.specs.Offsets.{Finds, AreBare, head_len, opcodes, ends_of, part_of, parts_of};
 
 use crate::action_offsets::ActionOffsets;
 use crate::fault::LoadFault;
 use crate::fields::{after_magic, await_of, cell_of, count_of, number_of};
 use crate::format::{AWAIT, HEAD_LEN, LEAST_ACTION_LEN, LEAST_AGENT_LEN, Version, step_of};
-use fleet_model::{MAX_AGENTS, MAX_MOVES, MAX_MOVES_IN_ALL, OutOfMemory};
+use fleet_model::{Cell, MAX_AGENTS, MAX_MOVES, MAX_MOVES_IN_ALL, OutOfMemory};
 use std::alloc::Global;
 use std::marker::Model;
 
 /// Where the actions of an agent stand in the bytes of a program.
-#[derive(Debug, Drop)]
+#[derive(Drop)]
 pub struct Part {
     begin: usize,
     offsets: ActionOffsets,
@@ -169,8 +171,29 @@ fn actions_in(
     Ok((ActionOffsets::of(count, offsets), rest))
 }
 
+/// How many actions an agent has, its start and its goal, if the agents before it have `total` actions together.
+#[tactic(auto, unfolding(crate::specs::Heads::agent_head_at))]
+fn agent_head(
+    version: Version,
+    total: u32,
+    bytes: &[u8],
+) -> Result<(u32, Cell, Cell, &[u8]), LoadFault>
+    requires { total ≤ MAX_MOVES_IN_ALL }
+    ensures value { IsDueUnless (λ x. ((x.1, x.2, x.0), x.3.now)) result (agent_head_at version total bytes.now) LoadFault.OutOfMemory }
+    ensures each { IfOk result (λ x. x.0 ≤ MAX_MOVES) }
+    ensures all { IfOk result (λ x. total + x.0 ≤ MAX_MOVES_IN_ALL) }
+    ensures long { IfOk result (λ x. length bytes.now ≡ length x.3.now + head_len version) }
+{
+    let (start, rest) = cell_of(bytes)?;
+    let (goal, rest) = cell_of(rest)?;
+    let (count, rest) = count_of(version, rest)?;
+    if count > version.most_moves() || total + count > MAX_MOVES_IN_ALL {
+        return Err(LoadFault::Total);
+    }
+    Ok((count, start, goal, rest))
+}
+
 /// The part of agent `own`, if the agents before it have `total` actions together, and the bytes after it.
-#[tactic(auto, unfolding(crate::specs::Reading::agent_at))]
 fn agent_after(
     alloc: Global,
     head: Head,
@@ -187,12 +210,7 @@ fn agent_after(
         result (agent_at head.version head.whole head.agents own total bytes.now) }
     ensures total { IfOk result (λ x. total + length x.0.offsets ≤ MAX_MOVES_IN_ALL + 1) }
 {
-    let (_, rest) = cell_of(bytes)?;
-    let (_, rest) = cell_of(rest)?;
-    let (count, rest) = count_of(head.version, rest)?;
-    if count > head.version.most_moves() || total + count > MAX_MOVES_IN_ALL {
-        return Err(LoadFault::Total);
-    }
+    let (count, _, _, rest) = agent_head(head.version, total, bytes)?;
     let begin = head.whole - rest.len();
     let (offsets, rest) = actions_in(alloc, head, own, count, rest)?;
     Ok((Part { begin, offsets }, rest))
@@ -219,18 +237,28 @@ fn agents_after(alloc: Global, head: Head, bytes: &[u8]) -> Result<(Vec<Part>, &
     Ok((parts, rest))
 }
 
-/// The parts of the program that the bytes spell in that version, all of the bytes.
-///
-/// A number that the bytes announce reserves no more than the bytes that are there can fill.
-#[tactic(auto, unfolding(crate::specs::Reading::program_as))]
-pub fn parts_in(alloc: Global, version: Version, bytes: &[u8]) -> Result<Vec<Part>, LoadFault>
-    ensures { Finds (λ v due. v.items ≡ parts_of version HEAD_LEN due) result (program_as version bytes.now) }
+/// How many agents there are, after the magic.
+#[tactic(auto, unfolding(crate::specs::Heads::head_at))]
+fn agents_of(version: Version, bytes: &[u8]) -> Result<(u16, &[u8]), LoadFault>
+    ensures value { IsDueUnless (λ x. (x.0, x.1.now)) result (head_at version bytes.now) LoadFault.OutOfMemory }
+    ensures few { IfOk result (λ x. x.0 ≤ MAX_AGENTS) }
+    ensures long { IfOk result (λ x. length bytes.now ≡ length x.1.now + 6) }
 {
     let rest = after_magic(version, bytes)?;
     let (agents, rest) = number_of(rest)?;
     if agents == 0 || usize::from(agents) > MAX_AGENTS {
         return Err(LoadFault::AgentCount);
     }
+    Ok((agents, rest))
+}
+
+/// The parts of the program that the bytes spell in that version, all of the bytes.
+///
+/// A number that the bytes announce reserves no more than the bytes that are there can fill.
+pub fn parts_in(alloc: Global, version: Version, bytes: &[u8]) -> Result<Vec<Part>, LoadFault>
+    ensures { Finds (λ v due. v.items ≡ parts_of version HEAD_LEN due) result (program_as version bytes.now) }
+{
+    let (agents, rest) = agents_of(version, bytes)?;
     let head = Head {
         version,
         whole: bytes.len(),

@@ -7,7 +7,7 @@ use std::io::Read;
 use thiserror::Error;
 
 /// Why a file or an input was not read, or a file not written.
-#[derive(Clone, Copy, Debug, PartialEq, Eq, Error)]
+#[derive(Clone, Copy, Debug, Error)]
 pub enum FileFault {
     #[error("out of memory")]
     OutOfMemory,

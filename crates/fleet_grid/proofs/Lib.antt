@@ -4,3 +4,4 @@ pub mod StoredLaws
 pub mod MapLoops
 pub mod MapLaws
 pub mod FaultLaws
+pub mod HeaderLaws

@@ -5,7 +5,7 @@ use std::alloc::AllocError;
 use thiserror::Error;
 
 /// The first fault of a map text, from the front. The header's lines count from 1, rows and columns from 0.
-#[derive(Clone, Copy, Debug, PartialEq, Eq, Hash, Error)]
+#[derive(Clone, Copy, Debug, Error)]
 pub enum MapFault {
     #[error("out of memory")]
     OutOfMemory,

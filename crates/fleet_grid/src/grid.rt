@@ -15,7 +15,7 @@ pub const MAX_SIDE: u32 = 4_096;
 /// 4,096, and its rows of cells.
 ///
 /// No method takes memory.
-#[derive(Debug, Drop)]
+#[derive(Drop)]
 pub struct Grid {
     width: u16,
     height: u16,

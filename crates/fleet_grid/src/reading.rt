@@ -1,6 +1,6 @@
 //! The reader of maps.
 
-ghost use Rattle.std.specs.Prelude.{◌≡◌, ◌≢◌, drop, length, IfOk, OnOk, IfErr, IsOkUnless, option_map, option_copied, min};
+ghost use Rattle.std.specs.Prelude.{◌≡◌, ◌≢◌, ◌&&◌, if◌then◌else◌, Ok, Err, drop, length, IfOk, OnOk, IfErr, IsOkUnless, option_map, option_copied, min};
 ghost use Rattle.std.specs.List.{list_all};
 ghost use Rattle.fleet_model.specs.Answer.{IsDueUnless};
 ghost use Rattle.fleet_text.specs.Text.{lines, words_from_front};
@@ -37,19 +37,21 @@ fn field<'a>(keyword: &[u8], line: &'a [u8]) -> Option<&'a [u8]>
     Some(word)
 }
 
-/// The number of a header line after its keyword.
+/// The number of the next line, one of the header, after its keyword.
 #[tactic(auto, unfolding(crate::specs::MapReading::number_field))]
-fn number_field(keyword: &[u8], line: &[u8]) -> Option<u32>
-    ensures { result ≡ option_map (λ n. min n TOO_LARGE) (number_field keyword.now line.now) }
+fn number_field(keyword: &[u8], lines: &mut Cursor) -> Option<u32>
+    ensures value { result ≡ option_map (λ n. min n TOO_LARGE) (number_field keyword.now (line_at lines.old 0)) }
+    ensures rest { lines.new ≡ drop 1 lines.old }
 {
-    number_of(field(keyword, line)?)
+    number_of(field(keyword, next_of(lines))?)
 }
 
-/// Whether a header line has its keyword and no other word.
-fn is_alone(keyword: &[u8], line: &[u8]) -> bool
-    ensures { result ≡ is_alone keyword.now (words_from_front line.now) }
+/// Whether the next line, one of the header, has its keyword and no other word.
+fn is_alone(keyword: &[u8], lines: &mut Cursor) -> bool
+    ensures value { result ≡ is_alone keyword.now (words_from_front (line_at lines.old 0)) }
+    ensures rest { lines.new ≡ drop 1 lines.old }
 {
-    match next_word(from_front(line)) {
+    match next_word(from_front(next_of(lines))) {
         Some((first, rest)) => next_word(rest).is_none() && first == keyword,
         None => false,
     }
@@ -59,6 +61,17 @@ fn is_side(n: u32) -> bool
     ensures { result ≡ is_side n }
 {
     (1..=MAX_SIDE).contains(&n)
+}
+
+/// These numbers as width and height, if both are sides of a map.
+fn sizes_of(width: u32, height: u32) -> Result<(u16, u16), MapFault>
+    ensures value { result ≡ (if is_side height && is_side width then Ok (width, height) else Err MapFault.Size) }
+    ensures sizes { IfOk result (λ sizes. IsSide sizes.0 × IsSide sizes.1) }
+{
+    if !is_side(height) || !is_side(width) {
+        return Err(MapFault::Size);
+    }
+    Ok((width as u16, height as u16))
 }
 
 /// Width and height, by the first four lines.
@@ -71,19 +84,16 @@ fn header_of(lines: &mut Cursor) -> Result<(u16, u16), MapFault>
     if field(b"type", next_of(lines)).is_none() {
         return Err(MapFault::Header { line: 1 });
     }
-    let Some(height) = number_field(b"height", next_of(lines)) else {
+    let Some(height) = number_field(b"height", lines) else {
         return Err(MapFault::Header { line: 2 });
     };
-    let Some(width) = number_field(b"width", next_of(lines)) else {
+    let Some(width) = number_field(b"width", lines) else {
         return Err(MapFault::Header { line: 3 });
     };
-    if !is_alone(b"map", next_of(lines)) {
+    if !is_alone(b"map", lines) {
         return Err(MapFault::Header { line: 4 });
     }
-    if !is_side(height) || !is_side(width) {
-        return Err(MapFault::Size);
-    }
-    Ok((width as u16, height as u16))
+    sizes_of(width, height)
 }
 
 /// Judges a line as a row of the map: its length, and then its glyphs.

@@ -12,7 +12,7 @@ use std::simd::prelude::*;
 
 /// Rows of cells, eight cells to a byte, the first in the lowest bit. A set bit is a passable cell, and each
 /// row begins with a byte of its own.
-#[derive(Debug, Drop)]
+#[derive(Drop)]
 pub(crate) struct Cells {
     pub(crate) bytes: Vec<u8>,
     pub(crate) passable_count: u32,

@@ -1,3 +1,5 @@
+pub mod FieldLaws
+pub mod NumberLaws
 pub mod LineLaws
 pub mod ScenLoop
 pub mod ScenLaws

@@ -1,7 +1,23 @@
 -- The fields of an agent's line that are read.
-use Rattle.std.specs.Prelude.{List, [], ◌∷◌, Option, Some, None}
+use Rattle.std.specs.Prelude.{ℕ, Bool, true, false, List, [], ◌∷◌, Option, Some, None, option_map}
 use Rattle.fleet_text.specs.Text.{Bytes, small_number}
 use Rattle.fleet_scen.specs.declared.fields.Fields.{Fields}
+
+-- the first two words, and those after them
+abbrev pub two_words : List Bytes → Option (Bytes × Bytes × List Bytes)
+two_words [] = None
+two_words (first ∷ []) = None
+two_words (first ∷ second ∷ others) = Some (first, second, others)
+
+-- the numbers that the first two words spell, and the words after them
+abbrev pub two_numbers : List Bytes → Option (Option ℕ × Option ℕ × List Bytes)
+two_numbers ws = option_map (λ x. (small_number x.0, small_number x.1, x.2)) (two_words ws)
+
+-- one word, and no other
+abbrev pub is_one_word : List Bytes → Bool
+is_one_word [] = false
+is_one_word (word ∷ []) = true
+is_one_word (word ∷ other ∷ others) = false
 
 -- of bucket, map name, width, height, start, goal and length, which are nine words, the six from width to goal are kept
 unfoldable pub fields_of : List Bytes → Option Fields

@@ -13,6 +13,13 @@ use Rattle.fleet_scen.specs.declared.fault.ScenFault.TheVariants.{Version, Field
 use Rattle.fleet_scen.specs.Fields.{fields_of}
 use Rattle.fleet_scen.specs.ScenText.{is_filled, is_version}
 
+-- two numbers, which are this field of a line and the next
+abbrev pub pair_at : (line field : ℕ) → Option ℕ → Option ℕ → Result (ℕ × ℕ) ScenFault
+pair_at line field first second = do
+  a ← some_or first (Number line field)
+  b ← some_or second (Number line (field + 1))
+  Ok (a, b)
+
 -- width, height and task, by the words of a line
 unfoldable pub numbers_at : ℕ → List Bytes → Result (ℕ × ℕ × Task) ScenFault
 numbers_at line ws = do

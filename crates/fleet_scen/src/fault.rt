@@ -1,11 +1,15 @@
 //! Why a text is no scenario.
 
+ghost use Rattle.std.specs.Prelude.{◌≡◌};
+ghost use Rattle.fleet_scen.specs.Told.{scen_words};
+ghost use Rattle.fleet_scen.specs.Particulars.{told_words};
+
 use fleet_text::{OutFault, Refusal, TraceOut, put_memory, put_named, put_named_at, put_named_by};
 use std::alloc::AllocFailed;
 use thiserror::Error;
 
 /// The first fault of a scenario text, from the front. Lines and fields count from 1, and empty lines count too.
-#[derive(Clone, Copy, Debug, PartialEq, Eq, Hash, Error)]
+#[derive(Clone, Copy, Debug, Error)]
 pub enum ScenFault {
     #[error("out of memory")]
     OutOfMemory,
@@ -52,6 +56,33 @@ impl<T: Drop> From<AllocFailed<T>> for ScenFault {
     }
 }
 
+/// What the line of a fault of a scenario tells: its number, its name and where it is.
+#[derive(Clone, Copy)]
+enum Particulars {
+    Memory,
+    Named(u64, &'static str),
+    At(u64, &'static str, u64),
+    Field(u64, u8),
+}
+
+fn told(fault: ScenFault) -> Particulars
+    ensures { told_words result ≡ scen_words fault }
+{
+    match fault {
+        ScenFault::OutOfMemory => Particulars::Memory,
+        ScenFault::Version => Particulars::Named(2, "Version"),
+        ScenFault::Fields { line } => Particulars::At(3, "Fields", line),
+        ScenFault::Number { line, field } => Particulars::Field(line, field),
+        ScenFault::OtherMap { line } => Particulars::At(5, "OtherMap", line),
+        ScenFault::Blocked { line } => Particulars::At(6, "Blocked", line),
+        ScenFault::SharedStart { line } => Particulars::At(7, "SharedStart", line),
+        ScenFault::SharedGoal { line } => Particulars::At(8, "SharedGoal", line),
+        ScenFault::NoAgents => Particulars::Named(9, "NoAgents"),
+        ScenFault::TooMany => Particulars::Named(10, "TooMany"),
+        ScenFault::Fewer => Particulars::Named(11, "Fewer"),
+    }
+}
+
 impl Refusal for ScenFault {
     ghost use Rattle.fleet_scen.specs.Told.{scen_words, is_scen_failure};
 
@@ -60,41 +91,16 @@ impl Refusal for ScenFault {
     ghost is_failure = { is_scen_failure };
 
     fn put<O: TraceOut>(&self, out: &mut O) -> Result<(), OutFault> {
-        match *self {
-            ScenFault::OutOfMemory => put_memory(out),
-            ScenFault::Version => put_named(out, "scen", 2, "Version"),
-            ScenFault::Fields { line } => put_named_at(out, "scen", 3, "Fields", "line", line),
-            ScenFault::Number { line, field } => {
-                put_named_by(
-                    out,
-                    "scen",
-                    4,
-                    "Number",
-                    ("line", line),
-                    ("field", field as u64),
-                )
+        match told(*self) {
+            Particulars::Memory => put_memory(out),
+            Particulars::Named(number, name) => put_named(out, "scen", number, name),
+            Particulars::At(number, name, line) => {
+                put_named_at(out, "scen", number, name, "line", line)
             }
-            ScenFault::OtherMap { line } => put_named_at(out, "scen", 5, "OtherMap", "line", line),
-            ScenFault::Blocked { line } => put_named_at(out, "scen", 6, "Blocked", "line", line),
-            ScenFault::SharedStart { line } => put_named_at(
-                out,
-                "scen",
-                7,
-                "SharedStart",
-                "line",
-                line,
-            ),
-            ScenFault::SharedGoal { line } => put_named_at(
-                out,
-                "scen",
-                8,
-                "SharedGoal",
-                "line",
-                line,
-            ),
-            ScenFault::NoAgents => put_named(out, "scen", 9, "NoAgents"),
-            ScenFault::TooMany => put_named(out, "scen", 10, "TooMany"),
-            ScenFault::Fewer => put_named(out, "scen", 11, "Fewer"),
+            Particulars::Field(line, field) => {
+                let field = ("field", field as u64);
+                put_named_by(out, "scen", 4, "Number", ("line", line), field)
+            }
         }
     }
 

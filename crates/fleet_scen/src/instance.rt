@@ -7,7 +7,7 @@ use fleet_model::{Cell, Task};
 use std::marker::Model;
 
 /// The start and the goal of each agent, 1 to 1,024 of them. No two agents share a start or a goal.
-#[derive(Debug, Drop)]
+#[derive(Drop)]
 pub struct Instance {
     tasks: Vec<Task>,
 }

@@ -1,14 +1,17 @@
 //! The reader of scenarios.
 
-ghost use Rattle.std.specs.Prelude.{◌≡◌, ◌≢◌, ◌<◌, ◌+◌, ◌^◌, List, [], length, All, IfOk, IfErr, IsOkUnless};
+ghost use Rattle.std.specs.Prelude.{◌≡◌, ◌≢◌, ◌<◌, ◌+◌, ◌^◌, List, [], length, All, IfOk, IfErr, OnOk, IsOkUnless, Err, false};
+ghost use Rattle.std.specs.HashSet.{contains};
+ghost use Rattle.fleet_model.specs.declared.geometry.Cell.{Cell};
+ghost use Rattle.fleet_model.specs.Geometry.{is_same_cell};
 ghost use Rattle.fleet_model.specs.declared.task.Task.{Task};
 ghost use Rattle.fleet_model.specs.Answer.{IsDueUnless};
 ghost use Rattle.fleet_text.specs.Text.{lines, words};
 ghost use Rattle.fleet_scen.specs.ScenText.{is_filled, is_version, HasPassableEnds, IsScenText, IsFirstScenFault};
-ghost use Rattle.fleet_scen.specs.ScenReading.{numbers_at, task_at, lacks, scen_judged, tasks_at, after_version, judge_asked, scen_at};
+ghost use Rattle.fleet_scen.specs.ScenReading.{pair_at, numbers_at, task_at, lacks, scen_judged, tasks_at, after_version, judge_asked, scen_at};
 
 use crate::fault::ScenFault;
-use crate::fields::fields_of;
+use crate::fields::{fields_of, two_words};
 use crate::instance::Instance;
 use fleet_grid::Grid;
 use fleet_model::{Cell, MAX_AGENTS, Task};
@@ -33,10 +36,7 @@ fn is_filled(line: &[u8]) -> bool
 fn is_version(line: &[u8]) -> bool
     ensures { result ≡ is_version (words line.now) }
 {
-    let Some((first, rest)) = next_word(line) else {
-        return false;
-    };
-    let Some((second, rest)) = next_word(rest) else {
+    let Some((first, second, rest)) = two_words(line) else {
         return false;
     };
     next_word(rest).is_none() && first == VERSION && (second == ONE || second == ONE_POINT_ZERO)
@@ -63,28 +63,37 @@ fn pass_version(lines: &mut Cursor) -> Result<u64, ScenFault>
     Err(ScenFault::Version)
 }
 
-/// The fault of a field that is no number.
-fn wrong(line: u64, field: u8) -> ScenFault
-    ensures { result ≡ ScenFault.Number line field }
+/// Two numbers, which are this field of the line and the next.
+fn pair_of(
+    line: u64,
+    field: u8,
+    first: Option<u16>,
+    second: Option<u16>,
+) -> Result<(u16, u16), ScenFault>
+    requires { field < 255 }
+    ensures { result ≡ pair_at line field first second }
 {
-    ScenFault::Number { line, field }
+    let Some(first) = first else {
+        return Err(ScenFault::Number { line, field });
+    };
+    let Some(second) = second else {
+        let field = field + 1;
+        return Err(ScenFault::Number { line, field });
+    };
+    Ok((first, second))
 }
 
 /// Width, height and task by the numbers of an agent's line.
-#[tactic(auto, unfolding(crate::specs::ScenReading::numbers_at))]
 fn numbers_of(number: u64, line: &[u8]) -> Result<(u16, u16, Task), ScenFault>
     ensures { result ≡ numbers_at number (words line.now) }
 {
     let Some(fields) = fields_of(line) else {
         return Err(ScenFault::Fields { line: number });
     };
-    let width = fields.width.ok_or(wrong(number, 3))?;
-    let height = fields.height.ok_or(wrong(number, 4))?;
-    let x = fields.start_x.ok_or(wrong(number, 5))?;
-    let y = fields.start_y.ok_or(wrong(number, 6))?;
+    let (width, height) = pair_of(number, 3, fields.width, fields.height)?;
+    let (x, y) = pair_of(number, 5, fields.start_x, fields.start_y)?;
     let start = Cell { x, y };
-    let x = fields.goal_x.ok_or(wrong(number, 7))?;
-    let y = fields.goal_y.ok_or(wrong(number, 8))?;
+    let (x, y) = pair_of(number, 7, fields.goal_x, fields.goal_y)?;
     let goal = Cell { x, y };
     Ok((width, height, Task { start, goal }))
 }
@@ -114,6 +123,14 @@ fn lacks(asked: Option<u16>, count: usize) -> bool
     }
 }
 
+/// The tasks that were read, with the cells on which they start and end.
+#[derive(Drop)]
+struct Found {
+    tasks: Vec<Task>,
+    starts: HashSet<Cell>,
+    goals: HashSet<Cell>,
+}
+
 /// The tasks of the lines that are left, before which `before` lines stand.
 fn tasks_of(
     alloc: Global,
@@ -125,31 +142,52 @@ fn tasks_of(
     requires { before + length lines.old < 2 ^ 64 }
     ensures { IsDueUnless (λ v. v.items) result (tasks_at grid.now asked before [] lines.old) ScenFault.OutOfMemory }
 {
-    let mut tasks = Vec::new(alloc);
-    let mut starts = HashSet::new(alloc);
-    let mut goals = HashSet::new(alloc);
+    let mut found = Found {
+        tasks: Vec::new(alloc),
+        starts: HashSet::new(alloc),
+        goals: HashSet::new(alloc),
+    };
+    find_tasks(grid, asked, before, lines, &mut found)?;
+    enough_tasks(asked, found.tasks)
+}
+
+/// Reads the tasks of the lines that are left, before which `before` lines stand, into an empty list.
+fn find_tasks(
+    grid: &Grid,
+    asked: Option<u16>,
+    before: u64,
+    lines: &mut Cursor,
+    found: &mut Found,
+) -> Result<(), ScenFault>
+    requires count { before + length lines.old < 2 ^ 64 }
+    requires tasks { found.old.tasks.items ≡ [] }
+    requires starts { (c : Cell) → contains is_same_cell found.old.starts c ≡ false }
+    requires goals { (c : Cell) → contains is_same_cell found.old.goals c ≡ false }
+    ensures read { OnOk result (tasks_at grid.now asked before [] lines.old ≡ scen_judged asked found.new.tasks.items) }
+    ensures fault { IfErr result (λ f. f ≢ ScenFault.OutOfMemory → tasks_at grid.now asked before [] lines.old ≡ Err f) }
+{
     let mut number = before;
-    while lacks(asked, tasks.len()) {
+    while lacks(asked, found.tasks.len()) {
         let Some(line) = lines.next_line() else {
-            return enough_tasks(asked, tasks);
+            return Ok(());
         };
         number += 1;
         if !is_filled(line) {
             continue;
         }
-        if tasks.len() >= MAX_AGENTS {
+        if found.tasks.len() >= MAX_AGENTS {
             return Err(ScenFault::TooMany);
         }
         let task = task_of(grid, number, line)?;
-        if !starts.insert(task.start)? {
+        if !found.starts.insert(task.start)? {
             return Err(ScenFault::SharedStart { line: number });
         }
-        if !goals.insert(task.goal)? {
+        if !found.goals.insert(task.goal)? {
             return Err(ScenFault::SharedGoal { line: number });
         }
-        tasks.push(task)?;
+        found.tasks.push(task)?;
     }
-    enough_tasks(asked, tasks)
+    Ok(())
 }
 
 /// The tasks, if they are enough.

@@ -1,9 +1,9 @@
 -- Pages of values.
-use Rattle.std.proofs.Common.{◌≡◌, ◌≢◌, ℕ, ◌*◌, ◌+◌, ◌/◌, ◌%◌, ◌<◌, ◌≤◌, List, [], length, map, get_or, inl, inr, refl, sym, ap, ◌∙◌, arith}
+use Rattle.std.proofs.Common.{◌≡◌, ◌≢◌, ℕ, zero, suc, ◌∷◌, ◌++◌, ◌/◌, ◌%◌, ◌<◌, ◌≤◌, List, [], length, map, get_or, inl, inr, refl, sym, ap, ◌∙◌, arith}
 use Rattle.std.specs.Prelude.{Vec, set}
 use Rattle.std.specs.declared.alloc.Global.{Global}
 use Rattle.std.proofs.lemmas.Bool.{cases_eq}
-use Rattle.std.proofs.lemmas.List.{get_or-set_same, get_or-set_other, get_or-map, map-set, length-map}
+use Rattle.std.proofs.lemmas.List.{get_or_default, get_or_past, get_or-set_same, get_or-set_other, get_or-map, map-set, length-map}
 use Rattle.fleet_table.specs.declared.table.Table.{Table}
 use Rattle.fleet_table.specs.Table.{page_in, value_in, IsSet}
 
@@ -36,3 +36,35 @@ page-exchanged old new reached number value page written same within read exchan
   where
     now_at : (k : ℕ) → value_in new k ≡ get_or (page_in (set reached (number / 1024) written) (k / 1024)) (k % 1024) old.blank
     now_at k = ap (λ z. get_or (page_in z (k / 1024)) (k % 1024) new.blank) exchanged ∙ ap (get_or (page_in (set reached (number / 1024) written) (k / 1024)) (k % 1024)) blank
+
+-- ---- one more at the end
+
+-- a blank value is read as none
+pub blank-after : {V : Type 0} (page : List V) (blank : V) (k : ℕ) → get_or (page ++ blank ∷ []) k blank ≡ get_or page k blank
+blank-after [] blank zero = refl
+blank-after [] blank (suc k) = refl
+blank-after (x ∷ page) blank zero = refl
+blank-after (x ∷ page) blank (suc k) = blank-after page blank k
+
+-- so is a page with no value
+pub page-after : {V : Type 0} (pages : List (Vec V Global)) (page : Vec V Global) (k : ℕ) → page.items ≡ [] → page_in (pages ++ page ∷ []) k ≡ page_in pages k
+page-after [] page zero e = e
+page-after [] page (suc k) e = refl
+page-after (x ∷ pages) page zero e = refl
+page-after (x ∷ pages) page (suc k) e = page-after pages page k e
+
+-- ---- reading
+
+pub value-found : {V : Type 0} (t : Table V) (number : ℕ) (page : Vec V Global) (value : V) → number / 1024 < length t.pages.items → page ≡ get_or t.pages.items (number / 1024) page → number % 1024 < length page.items → value ≡ get_or page.items (number % 1024) value
+    → value ≡ value_in t number
+value-found t number page value within read inside e =
+    e ∙ get_or_default page.items (number % 1024) value t.blank inside ∙ ap (λ xs. get_or xs (number % 1024) t.blank) (sym (page-read t.pages.items (number / 1024) page within read))
+
+pub value-past : {V : Type 0} (t : Table V) (number : ℕ) (page : Vec V Global) → number / 1024 < length t.pages.items → page ≡ get_or t.pages.items (number / 1024) page → length page.items ≤ number % 1024 → t.blank ≡ value_in t number
+value-past t number page within read past =
+    sym (get_or_past page.items (number % 1024) t.blank past) ∙ ap (λ xs. get_or xs (number % 1024) t.blank) (sym (page-read t.pages.items (number / 1024) page within read))
+
+pub page-past : {V : Type 0} (t : Table V) (number : ℕ) → length t.pages.items ≤ number / 1024 → t.blank ≡ value_in t number
+page-past {V} t number past =
+    let none : page_in t.pages.items (number / 1024) ≡ [] = get_or_past (map (λ v. v.items) t.pages.items) (number / 1024) [] (omega (arith, past, length-map t.pages.items (λ (v : Vec V Global). v.items))) in
+    rw none refl

@@ -47,6 +47,11 @@ pub gathers_err : {T E : Type 0} (a c : SinkState) (res : Result T E) (r t xs : 
 gathers_err a c (Ok _) r t xs e h = cc
 gathers_err a c (Err _) r t xs e h = h
 
+-- .. of what was written by way of an empty row, and more
+pub takes_err : {T E : Type 0} (a c : SinkState) (res : Result T E) (xs ys : List ℕ) → IsErr res → StopsWithin a c xs → TakesAll a c res (xs ++ ys)
+takes_err a c (Ok _) xs ys e h = cc
+takes_err a c (Err _) xs ys e h = stops_within_more a c xs ys h
+
 -- the rest of the bytes went to the sink with all that was in the row
 pub takes_rest :
     {T E : Type 0} (a b c : SinkState) (res : Result T E) (r s xs ys : List ℕ)

@@ -12,7 +12,7 @@ use std::marker::Model;
 use std::simd::prelude::*;
 
 /// A place between the lines of a text. As a value it is the list of the lines that follow.
-#[derive(Debug, Drop)]
+#[derive(Drop)]
 pub struct Cursor<'a> {
     rest: &'a [u8],
 }

@@ -3,7 +3,7 @@ ghost use Rattle.std.specs.Prelude.{◌≡◌, ◌<◌, length, IfErr};
 ghost use Rattle.fleet_text.specs.Sink.{IsWorking, TakesPiece, HandsOn, TakesAll};
 
 /// A sink that failed. It does not say why.
-#[derive(Clone, Copy, Debug, PartialEq, Eq)]
+#[derive(Clone, Copy, Debug)]
 pub struct OutFault;
 
 /// A sink of bytes.

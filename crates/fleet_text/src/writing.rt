@@ -3,7 +3,7 @@
 ghost use Rattle.std.specs.Prelude.{◌≡◌, ◌++◌, ◌∷◌, [], map, decimal};
 ghost use Rattle.fleet_text.specs.Sink.{IsWorking, TakesAll};
 ghost use Rattle.fleet_text.specs.Row.{Gathers};
-ghost use Rattle.fleet_text.specs.Words.{pair_text, numbered_text, word_text, spaced, line_text, count_line};
+ghost use Rattle.fleet_text.specs.Words.{word_text, spaced, line_text, count_line};
 
 use crate::digits::write_number;
 use crate::row::Row;
@@ -49,22 +49,20 @@ fn put_number_then<O: TraceOut>(
     row.add(out, &[after])
 }
 
-/// Adds two numbers as `x,y` to the row.
-fn put_pair<O: TraceOut>(row: &mut Row, out: &mut O, x: u16, y: u16) -> Result<(), OutFault>
+/// Adds two numbers with a byte between them to the row.
+fn put_two<O: TraceOut>(
+    row: &mut Row,
+    out: &mut O,
+    first: u64,
+    between: u8,
+    second: u64,
+) -> Result<(), OutFault>
     requires { IsWorking (O.state out.old) }
-    ensures { Gathers (O.state out.old) (O.state out.new) result row.old row.new (pair_text x y) }
+    ensures { Gathers (O.state out.old) (O.state out.new) result row.old row.new
+        ((decimal first ++ between ∷ []) ++ decimal second) }
 {
-    put_number_then(row, out, x as u64, b',')?;
-    put_number(row, out, y as u64)
-}
-
-/// Adds a number and another that counts within it, as `a:n`, to the row.
-fn put_of<O: TraceOut>(row: &mut Row, out: &mut O, owner: u16, number: u32) -> Result<(), OutFault>
-    requires { IsWorking (O.state out.old) }
-    ensures { Gathers (O.state out.old) (O.state out.new) result row.old row.new (numbered_text owner number) }
-{
-    put_number_then(row, out, owner as u64, b':')?;
-    put_number(row, out, number as u64)
+    put_number_then(row, out, first, between)?;
+    put_number(row, out, second)
 }
 
 /// Adds a word to the row.
@@ -76,8 +74,8 @@ fn put_word<O: TraceOut>(row: &mut Row, out: &mut O, word: Word<'_>) -> Result<(
         Word::Text(text) => row.add(out, text.as_bytes()),
         Word::Number(number) => put_number(row, out, number),
         Word::Label(number) => put_number_then(row, out, number, b':'),
-        Word::Pair(x, y) => put_pair(row, out, x, y),
-        Word::Of(owner, number) => put_of(row, out, owner, number),
+        Word::Pair(x, y) => put_two(row, out, u64::from(x), b',', u64::from(y)),
+        Word::Of(owner, number) => { put_two(row, out, u64::from(owner), b':', u64::from(number)) }
     }
 }
 

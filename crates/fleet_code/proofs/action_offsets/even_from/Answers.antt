@@ -1,14 +1,9 @@
-use Rattle.std.proofs.Common.{◌≡◌, ◌+◌, ◌-◌, ℕ, length, slice_index_or, ap, subst, arith}
-use Rattle.fleet_code.specs.Offsets.{IsEvenFrom}
-use Rattle.fleet_code.proofs.Even.{even_more}
+use Rattle.std.proofs.Common.{arith}
+use Rattle.std.proofs.lemmas.List.{get_or_default}
 use Rattle.fleet_code.proofs.action_offsets.even_from.Goals as goal
 
-pub loop-back-preserved : goal.loop-back-preserved
-loop-back-preserved c =
-    let items = c.args.offsets.now in
-    let at : ℕ = length items - 1 - (c.loop-back.back + 1) in
-    let next : length items - 1 - c.loop-back.back ≡ at + 1 = omega (arith, c.loop-back-test.true, c.if-last-eq0.false) in
-    let before : (length items - 1 - c.loop-back.back) - 1 ≡ at = omega (arith, next) in
-    let old : IsEvenFrom items (at + 1) c.saturating_sub-stride.result = subst (λ (k : ℕ). IsEvenFrom items k c.saturating_sub-stride.result) next c.loop-back.invariant in
-    even_more items at c.saturating_sub-stride.result old
-    (omega (arith, c.if-from.false, c.from.ensures, c.from-in-loop-back.ensures, c.from-in-loop-back-2.ensures, ap (λ (k : ℕ). slice_index_or items k 0) before, ap (λ (k : ℕ). slice_index_or items k 0) next))
+pub returns-then-last-eq0-clause-fit : goal.returns-then-last-eq0-clause-fit
+returns-then-last-eq0-clause-fit c = λ k d h. rw (get_or_default c.args.offsets.now k d 0 h) (omega (arith, c.type_inv.offsets k))
+
+pub returns-clause-fit : goal.returns-clause-fit
+returns-clause-fit c = λ k d h. rw (get_or_default c.args.offsets.now k d 0 h) (omega (arith, c.type_inv.offsets k))

@@ -50,3 +50,8 @@ pub returns-clause-value : goal.returns-clause-value
 returns-clause-value c =
     let end : c.loop-row.row ≡ c.args.height = omega (arith, c.loop-row.auto, c.loop-row-test.false) in
     rows_done c.args.width c.args.height c.loop-row.row _ c.loop-row.lines _ c.loop-row.invariant.so_far c.loop-row-test.false ∙ ap (λ (n : ℕ). Ok ((ground_of c.args.width n c.loop-row.cells.bytes.items).rows, c.loop-row.lines)) end
+
+pub returns-clause-stored : goal.returns-clause-stored
+returns-clause-stored c =
+    let end : c.loop-row.row ≡ c.args.height = omega (arith, c.loop-row.auto, c.loop-row-test.false) in
+    rw (sym end) (record { width = omega (arith, c.requires.width); height = omega (arith, end, c.requires.height); size = c.loop-row.invariant.size; count = c.loop-row.invariant.count })

@@ -1,7 +1,15 @@
 use Rattle.std.proofs.Common.{◌≡◌, ◌++◌, ◌<◌, length, sym, ap, arith, length-append, take-append-drop}
+use Rattle.std.proofs.lemmas.List.Sums.{count_by-le-length}
+use Rattle.fleet_grid.specs.MapText.{is_ground_glyph}
 use Rattle.fleet_grid.specs.Stored.{stored_cells}
 use Rattle.fleet_grid.proofs.RowLaws.{row_goes_on, count_goes_on, row_ends, count_ends}
 use Rattle.fleet_grid.proofs.stored.Cells.put_row.Goals as goal
+
+pub put_block-requires-clause-count : goal.put_block-requires-clause-count
+put_block-requires-clause-count c = omega (arith, c.loop-block.invariant.count, c.requires.count, count_by-le-length is_ground_glyph c.args.line.now)
+
+pub put_block-requires-2-clause-count : goal.put_block-requires-2-clause-count
+put_block-requires-2-clause-count c = omega (arith, c.loop-block.invariant.count, c.requires.count, count_by-le-length is_ground_glyph c.args.line.now)
 
 pub loop-block-preserved : goal.loop-block-preserved
 loop-block-preserved c =

@@ -1,0 +1,11 @@
+-- What the line of a fault of the bytes is made of.
+use Rattle.std.specs.Prelude.{ℕ, List, codes}
+use Rattle.fleet_text.specs.Refusals.{memory_words, named, named_at}
+use Rattle.fleet_code.specs.declared.fault.Particulars.{Particulars}
+use Rattle.fleet_code.specs.declared.fault.Particulars.TheVariants.{Memory, Named, At}
+
+-- the words of a line that tells this
+abbrev pub told_words : Particulars → List (List ℕ)
+told_words Memory = memory_words
+told_words (Named number name) = named (codes "load") number name.now
+told_words (At number name at) = named_at (codes "load") number name.now (codes "at") at

@@ -1,0 +1,12 @@
+-- What the line of a fault is made of.
+use Rattle.std.specs.Prelude.{ℕ, List, codes}
+use Rattle.fleet_text.specs.Refusals.{memory_words, named, named_at, named_by}
+use Rattle.fleet_scen.specs.declared.fault.Particulars.{Particulars}
+use Rattle.fleet_scen.specs.declared.fault.Particulars.TheVariants.{Memory, Named, At, Field}
+
+-- the words of a line that tells this
+abbrev pub told_words : Particulars → List (List ℕ)
+told_words Memory = memory_words
+told_words (Named number name) = named (codes "scen") number name.now
+told_words (At number name line) = named_at (codes "scen") number name.now (codes "line") line
+told_words (Field line field) = named_by (codes "scen") 4 (codes "Number") (codes "line") line (codes "field") field

@@ -1,11 +1,13 @@
 -- Readiness by counts.
-use Rattle.std.proofs.Common.{◌≡◌, ℕ, suc, ◌+◌, ◌<◌, ◌≤◌, List, length, slice_index, Some, ap, ◌∙◌, subst, arith}
+use Rattle.std.proofs.Common.{◌≡◌, ℕ, suc, ◌+◌, ◌<◌, ◌≤◌, List, [], ◌∷◌, ◌++◌, length, take, get_or, slice_index, Some, refl, ap, ◌∙◌, subst, arith}
 use Rattle.std.specs.Prelude.{Contains, slice_get}
+use Rattle.std.proofs.lemmas.List.{take_more, map-append}
 use Rattle.std.proofs.lemmas.Option.{slice_get-get_or, slice_get_within, get_or_from_slice_get}
 use Rattle.fleet_model.specs.declared.program.Await.{Await}
+use Rattle.fleet_model.specs.declared.standing.Standing.{Standing}
 use Rattle.fleet_model.specs.Program.{Program, moves, awaits_of, IsWellFormed}
 use Rattle.fleet_model.specs.Machine.{Configuration, count_at}
-use Rattle.fleet_verify.specs.Walk.{AreCounts, IsReadyBy}
+use Rattle.fleet_verify.specs.Walk.{AreCounts, counts_of, IsReadyBy}
 use Rattle.fleet_verify.proofs.Readiness.{IsReadyTo}
 
 pub await_agent : (p : Program) → IsWellFormed p → (i n k : ℕ) (w : Await) → slice_get (awaits_of p i n) k ≡ Some w → w.agent < length p
@@ -43,3 +45,8 @@ by_ready p c counts a i r = record {
       let f : slice_index counts w.agent ≡ count_at c w.agent = a w.agent in
       omega arith;
 }
+
+-- the counts of one agent more
+pub counts_more : (c : Configuration) (k : ℕ) (d : Standing) (counts : List ℕ) → k < length c → counts ≡ counts_of (take k c) → counts ++ (get_or c k d).count ∷ [] ≡ counts_of (take (k + 1) c)
+counts_more c k d counts inside so_far =
+    rw (take_more c k d inside, map-append (λ (s : Standing). s.count) (take k c) (get_or c k d ∷ []), so_far) refl

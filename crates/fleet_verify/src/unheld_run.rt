@@ -1,6 +1,6 @@
 //! The run in which nobody is held. Its ticks are the levels of the actions.
 
-ghost use Rattle.std.specs.Prelude.{◌≡◌, ◌<◌, ◌++◌, ◌∷◌, [], ℕ, false, length, IsTrue, IfSome, IfNone, IfErr, OnOk, MatchResult, List};
+ghost use Rattle.std.specs.Prelude.{◌≡◌, ◌<◌, ◌++◌, ◌∷◌, [], ℕ, false, length, IsTrue, IfSome, IfNone, IfOk, IfErr, OnOk, MatchResult, List};
 ghost use Rattle.fleet_model.specs.declared.program.Visit.{Visit};
 ghost use Rattle.fleet_model.specs.Geometry.{place_of};
 ghost use Rattle.fleet_model.specs.Program.{IsCell};
@@ -9,7 +9,7 @@ ghost use Rattle.fleet_grid.specs.Ground.{is_passable};
 ghost use Rattle.fleet_machine.specs.Machine.{Runs, flag_of};
 ghost use Rattle.fleet_verify.specs.Faults.{StandsRight};
 ghost use Rattle.fleet_verify.specs.Order.{AreAdded};
-ghost use Rattle.fleet_verify.specs.Walk.{begun_in, moved_to, position_in, AreOnGround, IsStop, IsRunOnGround};
+ghost use Rattle.fleet_verify.specs.Walk.{begun_in, moved_to, position_in, AreOnGround, IsStop, IsAtStart, IsRunOnGround};
 
 use crate::visit_order::{PlacedVisit, VisitOrder};
 use fleet_grid::Grid;
@@ -46,50 +46,41 @@ impl From<OutOfMemory> for Stop {
     }
 }
 
-/// The run in which nobody is held, until it is over.
-pub fn run_unheld<P: ProgramView>(
-    alloc: Global,
-    program: &P,
-    grid: &Grid,
-) -> Result<UnheldRun, Stop>
-    ensures { MatchResult result
-        (IsRunOnGround (is_passable grid.now) (P.program program.now))
-        (IsStop (is_passable grid.now) (P.program program.now)) }
-{
-    let Ok(mut machine) = Machine::start(alloc, program) else {
-        return Err(Stop::OutOfMemory);
-    };
-    let mut visits = VisitOrder::new(alloc);
-    let ticks = run_to_end(program, grid, &mut machine, &mut visits)?;
-    Ok(UnheldRun {
-        machine,
-        visits,
-        ticks,
-    })
+impl UnheldRun {
+    /// The run at its start, to which no visits are added yet.
+    pub fn start<P: ProgramView>(alloc: Global, program: &P) -> Result<UnheldRun, OutOfMemory>
+        ensures { IfOk result (IsAtStart (P.program program.now)) }
+    {
+        let machine = Machine::start(alloc, program)?;
+        let visits = VisitOrder::new(alloc);
+        Ok(UnheldRun {
+            machine,
+            visits,
+            ticks: 0,
+        })
+    }
 }
 
-/// Runs the machine from its start until the run is over, adds all visits, and answers the number of ticks.
-fn run_to_end<P: ProgramView>(
+/// Runs the machine from its start until the run is over, adds all visits, and counts the ticks.
+pub fn run_unheld<P: ProgramView>(
     program: &P,
     grid: &Grid,
-    machine: &mut Machine,
-    visits: &mut VisitOrder,
-) -> Result<u32, Stop>
-    requires runs { Runs (P.program program.now) machine.old }
-    requires opening { machine.old.configuration ≡ opening (P.program program.now) }
-    requires none { AreAdded (P.program program.now) [] visits.old }
+    run: &mut UnheldRun,
+) -> Result<(), Stop>
+    requires { IsAtStart (P.program program.now) run.old }
     ensures { MatchResult result
-        (λ t. IsRunOnGround (is_passable grid.now) (P.program program.now)
-        (record { machine = machine.new; visits = visits.new; ticks = t }))
+        (λ _. IsRunOnGround (is_passable grid.now) (P.program program.now) run.new)
         (IsStop (is_passable grid.now) (P.program program.now)) }
 {
-    add_starts(program, grid, machine, visits)?;
+    add_starts(program, grid, &run.machine, &mut run.visits)?;
     let nobody = [false; MAX_AGENTS];
     let nobody = &nobody[..program.agents() as usize];
-    run_on(program, grid, nobody, machine, visits)
+    run.ticks = run_on(program, grid, nobody, &mut run.machine, &mut run.visits)?;
+    Ok(())
 }
 
-/// The same from the starts on, which are added. No flag of `nobody` is set.
+/// Runs the machine from its start on, whose visits are added, and answers the number of ticks. No flag of `nobody` is
+/// set.
 fn run_on<P: ProgramView>(
     program: &P,
     grid: &Grid,

@@ -11,7 +11,7 @@ ghost use Rattle.fleet_verify.specs.declared.fault.VerifyFault.TheVariants.{OutO
 ghost use Rattle.fleet_grid.specs.Ground.{is_passable};
 ghost use Rattle.fleet_verify.specs.Broken.{IsBrokenBy};
 ghost use Rattle.fleet_verify.specs.Faults.{HasRanges, HasStarts, IsFault, IsOfOrder};
-ghost use Rattle.fleet_verify.specs.Walk.{LeavesGround, IsRunOnGround, HasArrived};
+ghost use Rattle.fleet_verify.specs.Walk.{LeavesGround, IsAtStart, IsRunOnGround, HasArrived};
 ghost use Rattle.fleet_verify.specs.Parts.{IsAcceptedFor};
 
 use crate::accepted::{Accepted, Refused};
@@ -80,8 +80,25 @@ fn judge<P: ProgramView>(
     ensures err { IfErr result (λ f. IsFault (is_passable grid.now) instance.now (P.program program.now) f) }
 {
     check_starts(program, instance)?;
-    match run_unheld(alloc, program, grid) {
-        Ok(run) => judge_run(alloc, program, grid, instance, &run),
+    let mut run = UnheldRun::start(alloc, program)?;
+    judge_started(alloc, program, grid, instance, &mut run)
+}
+
+/// The same from the start of the run in which nobody is held.
+fn judge_started<P: ProgramView>(
+    alloc: Global,
+    program: &P,
+    grid: &Grid,
+    instance: &Instance,
+    run: &mut UnheldRun,
+) -> Result<u32, VerifyFault>
+    requires starts { HasStarts instance.now (P.program program.now) }
+    requires run { IsAtStart (P.program program.now) run.old }
+    ensures ok { IfOk result (λ chain. IsAcceptedFor grid.now instance.now (P.program program.now) chain) }
+    ensures err { IfErr result (λ f. IsFault (is_passable grid.now) instance.now (P.program program.now) f) }
+{
+    match run_unheld(program, grid, run) {
+        Ok(()) => judge_run(alloc, program, grid, instance, run),
         Err(Stop::OffGround) => Err(path_fault(program, grid, instance)),
         Err(Stop::OutOfMemory) => Err(VerifyFault::OutOfMemory),
     }
@@ -99,7 +116,7 @@ fn path_fault<P: ProgramView>(program: &P, grid: &Grid, instance: &Instance) -> 
     }
 }
 
-/// The same from the run in which nobody is held, if that stays on passable ground.
+/// The same from the end of that run, if it stays on passable ground.
 fn judge_run<P: ProgramView>(
     alloc: Global,
     program: &P,

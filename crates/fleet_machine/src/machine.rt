@@ -393,7 +393,6 @@ impl Machine {
     }
 
     /// Takes all agents off the list of agent `j`. They are due.
-    #[tactic(auto, using(crate::proofs::Waking::fewer_after))]
     fn wake(&mut self, j: u16)
         requires list { j < self.old.waiting.lists }
         requires due { length self.old.due ≡ length self.old.waiting.homes }

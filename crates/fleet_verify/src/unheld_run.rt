@@ -62,11 +62,7 @@ impl UnheldRun {
 }
 
 /// Runs the machine from its start until the run is over, adds all visits, and counts the ticks.
-pub fn run_unheld<P: ProgramView>(
-    program: &P,
-    grid: &Grid,
-    run: &mut UnheldRun,
-) -> Result<(), Stop>
+pub fn run_unheld<P: ProgramView>(program: &P, grid: &Grid, run: &mut UnheldRun) -> Result<(), Stop>
     requires { IsAtStart (P.program program.now) run.old }
     ensures { MatchResult result
         (λ _. IsRunOnGround (is_passable grid.now) (P.program program.now) run.new)

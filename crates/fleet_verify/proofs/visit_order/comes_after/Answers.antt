@@ -25,7 +25,7 @@ pub loop-k-preserved : goal.loop-k-preserved
 loop-k-preserved g c =
     after_more (g.P.ProgramView.program c.args.program.now) c.args.first c.args.second c.loop-k.k c.await_at-awaited.result c.await_at-awaited.ensures
     (λ same le.
-        elim c.else-awaited-first.branch [
-          | else-awaited-first-via-then-awaited-first+else-is_left_by w ↦ let yes = w.is_left_by.ensures.1 le in absurd (cc (yes, w.if-is_left_by.false))
-          | else-awaited-first-via-else-awaited-first w ↦ w.if-awaited-first.false same
-        ]) c.loop-k.invariant
+    elim c.else-awaited-first.branch [
+      | else-awaited-first-via-then-awaited-first+else-is_left_by w ↦ let yes = w.is_left_by.ensures.1 le in absurd (cc (yes, w.if-is_left_by.false))
+      | else-awaited-first-via-else-awaited-first w ↦ w.if-awaited-first.false same
+    ]) c.loop-k.invariant

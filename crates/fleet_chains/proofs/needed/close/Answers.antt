@@ -56,6 +56,5 @@ loop-j-init g c = record {
   none = λ e i below. absurd (omega arith);
 }
 
-
 pub loop-round-preserved : goal.loop-round-preserved
 loop-round-preserved g c = record { looking = c.loop-j.invariant.looking; rounds = c.loop-j.invariant.more c.if-not-some.false }

@@ -24,7 +24,3 @@ returns-in_err-run g c =
 pub returns : goal.returns
 returns g c =
     c.in_ok-run.ensures
-
-pub run_on-requires-clause-runs : goal.run_on-requires-clause-runs
-run_on-requires-clause-runs g c =
-    c.requires.runs

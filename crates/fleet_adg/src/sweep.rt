@@ -59,10 +59,31 @@ fn sweep(
     for time in 0..plan.steps() {
         keep_under_way(&mut agents, plan, time);
         list_moves(plan, time, &agents, &mut moves)?;
-        note_leavings(plan, grid, time, &moves, actions, leavings)?;
-        add_actions(alloc, plan, grid, time, &moves, leavings, actions)?;
+        make_moves(alloc, plan, grid, time, &moves, leavings, actions)?;
     }
     Ok(())
+}
+
+/// Notes the leavings of cells in the step after `time`, and then adds its moves, with what they await.
+fn make_moves(
+    alloc: Global,
+    plan: &Plan,
+    grid: &Grid,
+    time: u32,
+    moves: &[Move],
+    leavings: &mut Leavings,
+    actions: &mut [Growing],
+) -> Result<(), OutOfMemory>
+    requires on_map { IsOnMap grid.now plan.now }
+    requires time { time < MAX_HORIZON }
+    requires moves { moves.now ≡ moves_in plan.now time }
+    requires leavings { AreLeavingsAt grid.now plan.now (kind_of leavings.old) time leavings.old }
+    requires actions { actions.old ≡ all_actions_by plan.now (kind_of leavings.old) time }
+    ensures leavings { OnOk result (AreLeavingsAt grid.now plan.now (kind_of leavings.old) (time + 1) leavings.new) }
+    ensures actions { OnOk result (actions.new ≡ all_actions_by plan.now (kind_of leavings.old) (time + 1)) }
+{
+    note_leavings(plan, grid, time, moves, actions, leavings)?;
+    add_actions(alloc, plan, grid, time, moves, leavings, actions)
 }
 
 /// Every cell of a plan lies on the map that it was checked for. It does nothing.

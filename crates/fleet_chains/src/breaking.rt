@@ -1,6 +1,6 @@
 //! Holds that bring two agents onto one cell, if their visits of it have no order.
 
-ghost use Rattle.std.specs.Prelude.{◌≡◌, ℕ, ◌+◌, ◌<◌, ◌≤◌, ◌↔◌, IsTrue, IfOk, All, Contains, length, slice_index, map};
+ghost use Rattle.std.specs.Prelude.{◌≡◌, ℕ, ◌+◌, ◌<◌, ◌≤◌, ◌↔◌, IsTrue, IfOk, OnOk, All, Contains, length, slice_index, map};
 ghost use Rattle.std.specs.List.Sorted.{IsStrictlyIncreasing};
 ghost use Rattle.fleet_model.specs.declared.geometry.Place.{Place};
 ghost use Rattle.fleet_model.specs.declared.program.ActionId.{ActionId};
@@ -61,16 +61,33 @@ fn holds_by<P: ProgramView>(
     let mut counts = zeros(alloc, program.agents())?;
     let mut holds = Vec::new(alloc);
     for t in 0..total_moves(program) {
-        let done: &[u32] = &counts;
-        if have_arrived(done, v, w) {
+        if have_arrived(&counts, v, w) {
             return Ok(holds);
         }
-        let row = held_agents(alloc, program, done, needed)?;
-        let next = advance(alloc, program, done, needed)?;
+        let row = run_tick(alloc, program, &mut counts, needed)?;
         holds.push(row)?;
-        counts = next;
     }
     Ok(holds)
+}
+
+/// The agents that are held in a tick, in rising order. The counts are those after it from now on.
+fn run_tick<P: ProgramView>(
+    alloc: Global,
+    program: &P,
+    counts: &mut Vec<u32>,
+    needed: &[u32],
+) -> Result<Vec<u16>, OutOfMemory>
+    requires counts { length counts.old.items ≡ length (P.program program.now) }
+    requires needed { length needed.now ≡ length (P.program program.now) }
+    ensures rising { IfOk result (λ row. IsStrictlyIncreasing row.items) }
+    ensures who { IfOk result (λ row. (i : ℕ) →
+        Contains row.items i ↔ IsHeldBy (P.program program.now) counts.old.items needed.now i) }
+    ensures advanced { OnOk result
+        (AreAdvanced (P.program program.now) counts.old.items needed.now counts.new.items) }
+{
+    let row = held_agents(alloc, program, counts, needed)?;
+    *counts = advance(alloc, program, counts, needed)?;
+    Ok(row)
 }
 
 /// Whether an agent has an action left, and all that it awaits is finished, by how many actions of each agent are.

@@ -1,7 +1,7 @@
 -- Agents that are judged, one after another.
-use Rattle.std.proofs.Common.{◌≡◌, ◌≢◌, ◌<◌, ◌≤◌, ◌+◌, ℕ, Bool, true, false, length, filter, None, refl, ap, sym, ◌∙◌, subst, inl, inr, arith, cond, get_or-set_same, get_or-set_other, length-set}
+use Rattle.std.proofs.Common.{◌≡◌, ◌≢◌, ◌<◌, ◌≤◌, ◌+◌, ℕ, Bool, true, false, not, length, filter, Option, Some, None, refl, ap, sym, ◌∙◌, subst, inl, inr, arith, cond, get_or-set_same, get_or-set_other, length-set}
 use Rattle.std.specs.List.{list_any, list_all}
-use Rattle.std.specs.Prelude.{nat_le}
+use Rattle.std.specs.Prelude.{nat_le, is_some, MatchOption}
 use Rattle.std.proofs.lemmas.Bool.{cases_eq, cases_lt, le-leb, lt-ltb, ltb-true}
 use Rattle.fleet_model.specs.Program.{Program, moves}
 use Rattle.fleet_model.specs.Machine.{count_at, is_ready, is_finished, indices}
@@ -168,3 +168,15 @@ module _ (p : Program) (m : MachineState) (runs : Runs p m) where
   some_ready i next =
       let agent : i < length p = omega (arith, next.agent, runs.rows.ready) in
       sym (any_at (is_ready p m.configuration) (length p) i agent (sym (runs.judged i agent).ready ∙ next.member))
+
+  pub finished_is : (first : Option ℕ) (is_finished_now : Bool) → MatchOption first (AreNoneFrom m.left 0) (IsNextFrom m.left 0) → is_some first ≡ not is_finished_now
+      → is_finished_now ≡ is_finished p m.configuration
+  finished_is None true none is = finished_if_none none
+  finished_is None false none is = absurd cc
+  finished_is (Some i) false next is = not_finished_if_left i next
+  finished_is (Some i) true next is = absurd cc
+
+  pub any_ready_is : (first : Option ℕ) → MatchOption first (AreNoneFrom m.ready 0) (IsNextFrom m.ready 0)
+      → is_some first ≡ list_any (is_ready p m.configuration) (indices (length p))
+  any_ready_is None none = none_ready none
+  any_ready_is (Some i) next = some_ready i next

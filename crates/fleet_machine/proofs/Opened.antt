@@ -39,6 +39,9 @@ home_of_nobody zero i = refl
 home_of_nobody (suc n) zero = refl
 home_of_nobody (suc n) (suc i) = home_of_nobody n i
 
+pub near_none : AreNear []
+near_none = λ i h. absurd (omega arith)
+
 pub near_more : (rows : Configuration) (s : Standing) → AreNear rows → IsNear s → AreNear (rows ++ s ∷ [])
 near_more rows s near new = λ i h.
     elim (cases_lt i (length rows)) [

@@ -1,6 +1,6 @@
 -- Agents that are taken off lists.
 use Rattle.std.proofs.Common.{◌≡◌, ◌≢◌, ◌<◌, ◌+◌, ℕ, Bool, true, false, ◌||◌, ◌&&◌, List, length, set, Option, Some, None, refl, ap, sym, ◌∙◌, inl, inr, ◌⊎◌, arith, cond, get_or-set_same, get_or-set_other, length-set}
-use Rattle.std.specs.Prelude.{is_some, ◌==◌, nat_lt}
+use Rattle.std.specs.Prelude.{is_some, IfSome, IfNone, ◌==◌, nat_lt}
 use Rattle.std.specs.List.{count_by}
 use Rattle.std.proofs.lemmas.Bool.{cases_eq, cases_lt, lt-ltb, le-ltb}
 use Rattle.std.proofs.lemmas.Bool.Decides.{eqb_tells}
@@ -111,10 +111,29 @@ fewer homes i j there at = less (sum_by-set one homes i None None there) (ap one
     less : {before after here : ℕ} → after + here ≡ before + 0 → here ≡ 1 → after < before
     less e h = omega arith
 
-pub fewer_after : (j : ℕ) (before after : MachineState) (i : ℕ) → (i < length before.waiting.homes) × (home_of before.waiting.homes i ≡ Some j)
+fewer_after : (j : ℕ) (before after : MachineState) (i : ℕ) → (i < length before.waiting.homes) × (home_of before.waiting.homes i ≡ Some j)
     × (after ≡ record before { due = set before.due i true; waiting = record before.waiting { homes = set before.waiting.homes i None } })
     → standing_in after < standing_in before
 fewer_after j before after i h = rw h.2 (fewer before.waiting.homes i j h.0 h.1)
+
+-- what was taken off list j, if something was: an agent that stood there. It is due now
+abbrev pub IsTakenOff : ℕ → (before after : MachineState) → ℕ → Type 0
+IsTakenOff j before after i =
+    (i < length before.waiting.homes) × (home_of before.waiting.homes i ≡ Some j)
+    × (after ≡ record before { due = set before.due i true; waiting = record before.waiting { homes = set before.waiting.homes i None } })
+
+pub one_woken : (j : ℕ) (a b c : MachineState) (taken : Option ℕ) → IsWaking j a b → true ≡ is_some taken → IfSome taken (IsTakenOff j b c) → IsWaking j a c
+one_woken j a b c None before is h = absurd (cc is)
+one_woken j a b c (Some i) before is h = rw h.2 (one_taken j a b before i h.0 h.1)
+
+pub fewer_woken : (j : ℕ) (b c : MachineState) (taken : Option ℕ) → true ≡ is_some taken → IfSome taken (IsTakenOff j b c) → standing_in c < standing_in b
+fewer_woken j b c None is h = absurd (cc is)
+fewer_woken j b c (Some i) is h = fewer_after j b c i h
+
+pub all_woken : (j : ℕ) (a b c : MachineState) (taken : Option ℕ) → IsWaking j a b → false ≡ is_some taken → IfNone taken ((i : ℕ) → home_of b.waiting.homes i ≢ Some j)
+    → IfNone taken (c ≡ b) → IsWoken (λ k. k == j) a c
+all_woken j a b c None before is none same = rw same (all_taken j a b before none)
+all_woken j a b c (Some i) before is none same = absurd (cc is)
 
 -- ---- all lists of some
 

@@ -46,7 +46,6 @@ fn lowest(word: u64) -> Option<usize>
 }
 
 /// The word with this bit set, or not.
-#[tactic(auto, using(crate::proofs::Bits::set_here, crate::proofs::Bits::set_others, crate::proofs::Bits::cut_here, crate::proofs::Bits::cut_others))]
 fn with_bit(word: u64, place: u16, is_set: bool) -> u64
     requires { place < 64 }
     ensures here { bit_at result place ≡ bit_if is_set }

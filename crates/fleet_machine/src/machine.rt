@@ -144,7 +144,6 @@ impl Machine {
     }
 
     /// Whether no action is left.
-    #[tactic(auto, using(crate::proofs::Judging::finished_if_none, crate::proofs::Judging::not_finished_if_left))]
     pub fn is_finished<P: ProgramView>(&self, program: &P) -> bool
         requires runs { Runs (P.program program.now) self.now }
         ensures { result ≡ is_finished (P.program program.now) self.now.configuration }
@@ -154,7 +153,6 @@ impl Machine {
     }
 
     /// Whether some agent may finish its next action.
-    #[tactic(auto, using(crate::proofs::Judging::some_ready, crate::proofs::Judging::none_ready))]
     pub fn is_any_ready<P: ProgramView>(&self, program: &P) -> bool
         requires runs { Runs (P.program program.now) self.now }
         ensures { result ≡ list_any (is_ready (P.program program.now) self.now.configuration)
@@ -395,7 +393,6 @@ impl Machine {
     }
 
     /// Takes all agents off the list of agent `j`. They are due.
-    #[tactic(auto, using(crate::proofs::Waking::fewer_after))]
     fn wake(&mut self, j: u16)
         requires list { j < self.old.waiting.lists }
         requires due { length self.old.due ≡ length self.old.waiting.homes }

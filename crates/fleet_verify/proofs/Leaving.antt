@@ -1,9 +1,10 @@
 -- Whether an agent has left its visit.
-use Rattle.std.proofs.Common.{◌≡◌, ℕ, zero, suc, ◌+◌, ◌<◌, ◌≤◌, true, false, List, [], ◌∷◌, Some, drop, slice_get, length, refl, ap, ◌∙◌, arith, add-one, inl, inr}
+use Rattle.std.proofs.Common.{◌≡◌, ℕ, zero, suc, ◌+◌, ◌<◌, ◌≤◌, true, false, List, [], ◌∷◌, Some, drop, slice_get, length, refl, ap, sym, ◌∙◌, subst, arith, add-one, inl, inr}
 use Rattle.std.specs.Option.{option_map_or}
 use Rattle.fleet_model.specs.declared.geometry.Step.{Step}
 use Rattle.fleet_model.specs.Geometry.{is_move}
-use Rattle.std.proofs.lemmas.Option.{slice_get-get_or, slice_get_within, get_or_from_slice_get}
+use Rattle.std.proofs.lemmas.Bool.{cases_lt}
+use Rattle.std.proofs.lemmas.Option.{slice_get-get_or, slice_get_within, get_or_from_slice_get, same_Some}
 use Rattle.fleet_model.specs.declared.program.Await.{Await}
 use Rattle.fleet_model.specs.declared.program.Action.{Action}
 use Rattle.fleet_model.specs.declared.program.Visit.{Visit}
@@ -38,6 +39,19 @@ after_found p v w k a at e l =
     inr (a, (k, slice_get_within (awaits_of p w.agent w.position) k a at, get_or_from_slice_get (awaits_of p w.agent w.position) k a a at), e, l)
 
 -- none of the awaits is one of the leaving, and the visit is no later one of the agent
+-- one await more that is of another agent, or of too few actions
+pub after_more : (p : Program) (v w : Visit) (k : ℕ) (x : Await) → slice_get (awaits_of p w.agent w.position) k ≡ Some x → (x.agent ≡ v.agent → (leaving p v).number ≤ x.count → ⊥)
+    → ((m : ℕ) (a : Await) → m < k → slice_get (awaits_of p w.agent w.position) m ≡ Some a → a.agent ≡ v.agent → (leaving p v).number ≤ a.count → ⊥)
+    → (m : ℕ) (a : Await) → m < k + 1 → slice_get (awaits_of p w.agent w.position) m ≡ Some a → a.agent ≡ v.agent → (leaving p v).number ≤ a.count → ⊥
+after_more p v w k x here not sooner m a below at =
+    elim (cases_lt m k) [
+      | inl lt ↦ sooner m a lt at
+      | inr ge ↦
+          let last : m ≡ k = omega arith in
+          let one : x ≡ a = same_Some _ _ (sym here ∙ (ap (λ n. slice_get (awaits_of p w.agent w.position) n) (sym last) ∙ at)) in
+          subst (λ (b : Await). b.agent ≡ v.agent → (leaving p v).number ≤ b.count → ⊥) one not
+    ]
+
 pub after_none : (p : Program) (v w : Visit) (k : ℕ) → (IsLaterVisit v w → ⊥) → length (awaits_of p w.agent w.position) ≤ k
     → ((m : ℕ) (a : Await) → m < k → slice_get (awaits_of p w.agent w.position) m ≡ Some a → a.agent ≡ v.agent → (leaving p v).number ≤ a.count → ⊥) → ComesAfterByAwait p v w → ⊥
 after_none p v w k own all none (inl h) = own h

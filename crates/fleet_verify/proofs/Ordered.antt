@@ -281,3 +281,15 @@ entry_more p vs v e = rw (filter-append, e) refl
 
 pub entry_none : (p : Program) (vs : List Visit) (v : Visit) → is_entry p v.agent v.position ≡ false → entries p (vs ++ v ∷ []) ≡ entries p vs
 entry_none p vs v e = rw (filter-append, e) (append-nil (entries p vs))
+
+-- ---- the pairs that are open once a visit is added
+
+pub pairs_first : (R : Visit → Visit → Type 0) (last : Option Visit) (s : PlacedVisit) (pairs : List OpenPair) → last ≡ None → IsOpenNext R last s pairs pairs
+pairs_first R last s pairs none = inl ((λ v at. let e : ◌≡◌ {A = Option Visit} None (Some v) = sym none ∙ at in absurd (cc e)), refl)
+
+pub pairs_after : (R : Visit → Visit → Type 0) (last : Option Visit) (s : PlacedVisit) (pairs : List OpenPair) (v : Visit) → last ≡ Some v → R v s.visit → IsOpenNext R last s pairs pairs
+pairs_after R last s pairs v is after = inl ((λ w at. subst (λ (x : Visit). R x s.visit) (same_Some _ _ (sym is ∙ at)) after), refl)
+
+pub pairs_more : (R : Visit → Visit → Type 0) (last : Option Visit) (s : PlacedVisit) (old new : List OpenPair) (v : Visit) → last ≡ Some v → (R v s.visit → ⊥)
+    → new ≡ old ++ record { cell = s.cell; first = v; second = s.visit } ∷ [] → IsOpenNext R last s old new
+pairs_more R last s old new v is not more = inr (v, is, not, more)

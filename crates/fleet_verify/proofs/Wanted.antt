@@ -12,6 +12,9 @@ pub record AreWantsBelow (p : Program) (counts : List ℕ) (wants : List Await) 
   pub all : length wants ≡ n
   pub each : (i : ℕ) → i < n → IsBlocked p counts i → IsUnmet p counts i (want_at wants i)
 
+pub wants_none : (p : Program) (counts : List ℕ) → AreWantsBelow p counts [] 0
+wants_none p counts = record { all = refl; each = λ i below blocked. absurd (omega arith) }
+
 pub wants_more : (p : Program) (counts : List ℕ) (wants : List Await) (n : ℕ) (w : Await) → AreWantsBelow p counts wants n → (IsBlocked p counts n → IsUnmet p counts n w) → AreWantsBelow p counts (wants ++ w ∷ []) (n + 1)
 wants_more p counts wants n w h here = record { all = length_push wants w ∙ ap (λ m. m + 1) h.all; each = λ i l b. at i l b (cases_eq i n) }
   where

@@ -3,11 +3,13 @@ use Rattle.std.specs.Prelude.{◌≡◌, ℕ, zero, suc, ◌+◌, ◌<◌, ◌�
 use Rattle.fleet_model.specs.declared.program.Await.{Await}
 use Rattle.fleet_model.specs.declared.program.Visit.{Visit}
 use Rattle.fleet_model.specs.Program.{Program, moves, awaits_of}
-use Rattle.fleet_model.specs.Machine.{Configuration, count_at, is_ready, is_finished, run, indices, IsEnd}
+use Rattle.fleet_model.specs.Machine.{Configuration, opening, count_at, is_ready, is_finished, run, indices, IsEnd}
 use Rattle.fleet_model.specs.declared.geometry.Place.{Place}
 use Rattle.fleet_model.specs.declared.task.Task.{Task}
 use Rattle.fleet_machine.specs.Machine.{MachineState, Runs, flag_of}
 use Rattle.fleet_verify.specs.declared.unheld_run.UnheldRun.{UnheldRun}
+use Rattle.fleet_verify.specs.declared.unheld_run.Stop.{Stop}
+use Rattle.fleet_verify.specs.declared.unheld_run.Stop.TheVariants.{OutOfMemory, OffGround}
 use Rattle.fleet_verify.specs.Faults.{EachAgent, EachAction, EndsRight, StandsRight}
 use Rattle.fleet_verify.specs.Order.{AreAdded}
 
@@ -58,6 +60,17 @@ AreOnGround passable p positions = All (λ v. StandsRight passable p v.agent v.p
 -- some path leaves passable ground
 abbrev pub LeavesGround : (Place → Bool) → Program → Type 0
 LeavesGround passable p = EachAction p (StandsRight passable p) → ⊥
+
+-- the run at its start, to which no visits are added yet
+pub record IsAtStart (p : Program) (run : UnheldRun) : Type 0 where
+  pub runs : Runs p run.machine
+  pub opening : run.machine.configuration ≡ opening p
+  pub none : AreAdded p [] run.visits
+
+-- the run was stopped rightly: some path leaves passable ground. Want of memory may stop any run
+abbrev pub IsStop : (Place → Bool) → Program → Stop → Type 0
+IsStop passable p OutOfMemory = Unit {0}
+IsStop passable p OffGround = LeavesGround passable p
 
 -- the run without holds to its end, with all visits that begin in it, each of them on passable ground
 pub record IsRunOnGround (passable : Place → Bool) (p : Program) (run : UnheldRun) : Type 0 where

@@ -7,7 +7,7 @@ ghost use Rattle.fleet_model.specs.declared.geometry.Place.{Place};
 ghost use Rattle.fleet_model.specs.Machine.{IsReached};
 ghost use Rattle.fleet_grid.specs.Ground.{is_passable};
 ghost use Rattle.fleet_machine.specs.Machine.{Runs};
-ghost use Rattle.fleet_verify.specs.Faults.{HasFleet, HasStarts, HasEnds, HasRanges, EndsRight, StandsRight, AwaitsRight, IsFault};
+ghost use Rattle.fleet_verify.specs.Faults.{HasStarts, HasEnds, HasRanges, EndsRight, StandsRight, AwaitsRight, IsFault};
 ghost use Rattle.fleet_verify.specs.Path.{TellsFirstAction};
 ghost use Rattle.fleet_verify.specs.Walk.{HasArrived};
 
@@ -18,25 +18,16 @@ use fleet_machine::Machine;
 use fleet_model::{ActionId, Place, ProgramView};
 use fleet_scen::Instance;
 
-/// Whether there are as many agents as tasks.
-pub fn check_fleet<P: ProgramView>(program: &P, instance: &Instance) -> Result<(), VerifyFault>
-    ensures ok { OnOk result (HasFleet instance.now (P.program program.now)) }
-    ensures err { IfErr result (λ f. (passable : Place → Bool) → IsFault passable instance.now (P.program program.now) f) }
-{
-    if program.agents() == instance.agents() {
-        Ok(())
-    } else {
-        Err(VerifyFault::OtherFleet)
-    }
-}
-
-/// Whether the agents start where their tasks say.
+/// Whether there are as many agents as tasks, and they start where those say.
 pub fn check_starts<P: ProgramView>(program: &P, instance: &Instance) -> Result<(), VerifyFault>
-    requires { HasFleet instance.now (P.program program.now) }
     ensures ok { OnOk result (HasStarts instance.now (P.program program.now)) }
     ensures err { IfErr result (λ f. (passable : Place → Bool) → IsFault passable instance.now (P.program program.now) f) }
 {
-    for agent in 0..program.agents() {
+    let agents = program.agents();
+    if agents != instance.agents() {
+        return Err(VerifyFault::OtherFleet);
+    }
+    for agent in 0..agents {
         if program.start(agent) != instance.start(agent) {
             return Err(VerifyFault::Start { agent });
         }

@@ -11,15 +11,15 @@ ghost use Rattle.fleet_verify.specs.declared.fault.VerifyFault.TheVariants.{OutO
 ghost use Rattle.fleet_grid.specs.Ground.{is_passable};
 ghost use Rattle.fleet_verify.specs.Broken.{IsBrokenBy};
 ghost use Rattle.fleet_verify.specs.Faults.{HasRanges, HasStarts, IsFault, IsOfOrder};
-ghost use Rattle.fleet_verify.specs.Walk.{IsRunOnGround};
+ghost use Rattle.fleet_verify.specs.Walk.{LeavesGround, IsAtStart, IsRunOnGround, HasArrived};
 ghost use Rattle.fleet_verify.specs.Parts.{IsAcceptedFor};
 
 use crate::accepted::{Accepted, Refused};
-use crate::agents::{check_fleet, check_paths, check_starts, has_arrived};
+use crate::agents::{check_paths, check_starts, has_arrived};
 use crate::fault::VerifyFault;
 use crate::order::check_order;
 use crate::ring::find_ring;
-use crate::unheld_run::{UnheldRun, run_unheld};
+use crate::unheld_run::{Stop, UnheldRun, run_unheld};
 use fleet_grid::Grid;
 use fleet_model::ProgramView;
 use fleet_scen::Instance;
@@ -79,18 +79,44 @@ fn judge<P: ProgramView>(
     ensures ok { IfOk result (λ chain. IsAcceptedFor grid.now instance.now (P.program program.now) chain) }
     ensures err { IfErr result (λ f. IsFault (is_passable grid.now) instance.now (P.program program.now) f) }
 {
-    check_fleet(program, instance)?;
     check_starts(program, instance)?;
-    match run_unheld(alloc, program, grid)? {
-        Some(run) => judge_run(alloc, program, grid, instance, &run),
-        None => {
-            check_paths(program, grid, instance)?;
-            unreachable!()
-        }
+    let mut run = UnheldRun::start(alloc, program)?;
+    judge_started(alloc, program, grid, instance, &mut run)
+}
+
+/// The same from the start of the run in which nobody is held.
+fn judge_started<P: ProgramView>(
+    alloc: Global,
+    program: &P,
+    grid: &Grid,
+    instance: &Instance,
+    run: &mut UnheldRun,
+) -> Result<u32, VerifyFault>
+    requires starts { HasStarts instance.now (P.program program.now) }
+    requires run { IsAtStart (P.program program.now) run.old }
+    ensures ok { IfOk result (λ chain. IsAcceptedFor grid.now instance.now (P.program program.now) chain) }
+    ensures err { IfErr result (λ f. IsFault (is_passable grid.now) instance.now (P.program program.now) f) }
+{
+    match run_unheld(program, grid, run) {
+        Ok(()) => judge_run(alloc, program, grid, instance, run),
+        Err(Stop::OffGround) => Err(path_fault(program, grid, instance)),
+        Err(Stop::OutOfMemory) => Err(VerifyFault::OutOfMemory),
     }
 }
 
-/// The same from the run in which nobody is held, if that stays on passable ground.
+/// The first fault of the paths, one of which leaves passable ground.
+fn path_fault<P: ProgramView>(program: &P, grid: &Grid, instance: &Instance) -> VerifyFault
+    requires starts { HasStarts instance.now (P.program program.now) }
+    requires off_ground { LeavesGround (is_passable grid.now) (P.program program.now) }
+    ensures { IsFault (is_passable grid.now) instance.now (P.program program.now) result }
+{
+    match check_paths(program, grid, instance) {
+        Ok(()) => unreachable!(),
+        Err(fault) => fault,
+    }
+}
+
+/// The same from the end of that run, if it stays on passable ground.
 fn judge_run<P: ProgramView>(
     alloc: Global,
     program: &P,
@@ -103,11 +129,32 @@ fn judge_run<P: ProgramView>(
     ensures ok { IfOk result (λ chain. IsAcceptedFor grid.now instance.now (P.program program.now) chain) }
     ensures err { IfErr result (λ f. IsFault (is_passable grid.now) instance.now (P.program program.now) f) }
 {
-    if !has_arrived(program, instance, &run.machine) {
-        check_paths(program, grid, instance)?;
-        let ring = find_ring(alloc, program, &run.machine)?;
-        return Err(VerifyFault::Cyclic(ring));
+    if has_arrived(program, instance, &run.machine) {
+        check_order(alloc, program, grid, instance, run)?;
+        Ok(run.ticks)
+    } else {
+        Err(fault_if_stuck(alloc, program, grid, instance, run))
     }
-    check_order(alloc, program, grid, instance, run)?;
-    Ok(run.ticks)
+}
+
+/// The first fault of a program with which that run does not arrive.
+fn fault_if_stuck<P: ProgramView>(
+    alloc: Global,
+    program: &P,
+    grid: &Grid,
+    instance: &Instance,
+    run: &UnheldRun,
+) -> VerifyFault
+    requires starts { HasStarts instance.now (P.program program.now) }
+    requires run { IsRunOnGround (is_passable grid.now) (P.program program.now) run.now }
+    requires lost { HasArrived instance.now (P.program program.now) run.now.machine.configuration → ⊥ }
+    ensures { IsFault (is_passable grid.now) instance.now (P.program program.now) result }
+{
+    if let Err(fault) = check_paths(program, grid, instance) {
+        return fault;
+    }
+    match find_ring(alloc, program, &run.machine) {
+        Ok(ring) => VerifyFault::Cyclic(ring),
+        Err(fault) => VerifyFault::from(fault),
+    }
 }

@@ -22,12 +22,8 @@ pub list_moves-requires-clause-time : goal.list_moves-requires-clause-time
 list_moves-requires-clause-time c =
     omega (arith, c.loop-time-test.true, c.steps-time-end.ensures.time, steps_few c.args.plan.now c.steps-time-end.ensures.limits)
 
-pub note_leavings-requires-clause-time : goal.note_leavings-requires-clause-time
-note_leavings-requires-clause-time c =
-    omega (arith, c.loop-time-test.true, c.steps-time-end.ensures.time, steps_few c.args.plan.now c.steps-time-end.ensures.limits)
-
-pub add_actions-requires-clause-time : goal.add_actions-requires-clause-time
-add_actions-requires-clause-time c =
+pub make_moves-requires-clause-time : goal.make_moves-requires-clause-time
+make_moves-requires-clause-time c =
     omega (arith, c.loop-time-test.true, c.steps-time-end.ensures.time, steps_few c.args.plan.now c.steps-time-end.ensures.limits)
 
 pub loop-time-preserved : goal.loop-time-preserved
@@ -36,10 +32,10 @@ loop-time-preserved c =
     let t = c.loop-time.time in
     let agents = c.keep_under_way.ensures ∙ c.loop-time.invariant.agents in
     let kind = c.loop-time.invariant.leavings.kind in
-    let noted = c.in_ok-note_leavings.ensures in
+    let made = c.in_ok-make_moves.ensures in
     record {
       agents = ap (filter (is_under_way plan (t + 1))) agents ∙ under_way-next plan t;
       below = subst (All (λ i. i < length plan)) (sym agents) (under_way_below plan t);
-      leavings = subst (λ d. AreLeavingsAt c.args.grid.now plan d (t + 1) c.note_leavings.new.leavings) kind noted;
-      actions = c.in_ok-add_actions.ensures ∙ ap (λ d. all_actions_by plan d (t + 1)) (noted.kind ∙ kind);
+      leavings = subst (λ d. AreLeavingsAt c.args.grid.now plan d (t + 1) c.make_moves.new.leavings) kind made.leavings;
+      actions = made.actions ∙ ap (λ d. all_actions_by plan d (t + 1)) kind;
     }

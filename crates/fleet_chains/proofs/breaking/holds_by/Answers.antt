@@ -1,4 +1,4 @@
-use Rattle.std.proofs.Common.{◌≡◌, ◌≤◌, [], ◌∷◌, ◌++◌, slice_index, map, ap, ◌∙◌, subst, arith}
+use Rattle.std.proofs.Common.{◌≡◌, ◌≤◌, [], ◌∷◌, ◌++◌, slice_index, map, refl, ap, ◌∙◌, subst, arith}
 use Rattle.std.proofs.lemmas.List.{map_push}
 use Rattle.fleet_chains.proofs.BreakingCounts.{start_counts, meeting_arrived, meeting_last, meeting_step}
 use Rattle.fleet_chains.proofs.breaking.holds_by.Goals as goal
@@ -16,16 +16,16 @@ loop-t-preserved g c =
     ap (map (λ row. row.items)) {y = c.loop-t.holds.items ++ c.in_ok-row.row ∷ []} c.in_ok-push.ensures.items ∙ map_push (λ row. row.items) c.loop-t.holds.items c.in_ok-row.row in
     let s = meeting_step p c.args.v c.args.w c.args.needed.now c.requires.v c.requires.w c.requires.needed
     (map (λ row. row.items) c.loop-t.holds.items) c.loop-t.invariant.begun c.loop-t.counts.items c.loop-t.invariant.counts c.loop-t.t c.loop-t.invariant.ticks
-    c.deref-done.result.now c.deref-done.result.now c.deref-done.result.now c.deref-done.ensures.value c.deref-done.ensures.value c.deref-done.ensures.value
+    c.deref.result.now c.loop-t.counts.items c.loop-t.counts.items c.deref.ensures.value refl refl
     (λ h. let t = c.have_arrived.ensures.1 h in let f = c.if-have_arrived.false in (let x : ⊥ = cc in x))
-    c.in_ok-row.row.items c.in_ok-row.ensures.rising c.in_ok-row.ensures.who c.in_ok-next.next.items c.in_ok-next.ensures
+    c.in_ok-row.row.items c.in_ok-row.ensures.rising c.in_ok-row.ensures.who c.run_tick.new.counts.items c.in_ok-row.ensures.advanced
     (map (λ row. row.items) c.push.new.self.items) e in
     record { begun = s.0; counts = s.1; long = s.2; ticks = s.3 }
 
 pub returns-then-have_arrived : goal.returns-then-have_arrived
 returns-then-have_arrived g c =
     let h = c.have_arrived.ensures.0 c.if-have_arrived.true in
-    let k = subst (λ l. (c.args.v.position ≤ slice_index l c.args.v.agent) × (c.args.w.position ≤ slice_index l c.args.w.agent)) c.deref-done.ensures.value h in
+    let k = subst (λ l. (c.args.v.position ≤ slice_index l c.args.v.agent) × (c.args.w.position ≤ slice_index l c.args.w.agent)) c.deref.ensures.value h in
     meeting_arrived (g.P.ProgramView.program c.args.program.now) c.args.v c.args.w c.requires.v c.requires.w (map (λ row. row.items) c.loop-t.holds.items) c.loop-t.invariant.begun c.loop-t.counts.items c.loop-t.invariant.counts k.0 k.1
 
 pub returns : goal.returns

@@ -47,3 +47,14 @@ returns-then-not-some g c =
 pub unreachable-requires : goal.unreachable-requires
 unreachable-requires g c =
     omega (arith, looked_few (g.P.ProgramView.program c.args.program.now) c.args.first c.args.second c.loop-round.needed c.loop-round.looked c.loop-round.invariant.looking, c.loop-round.invariant.rounds, c.total_moves-most.ensures, c.loop-round-test.false)
+
+pub loop-j-init : goal.loop-j-init
+loop-j-init g c = record {
+  looking = c.loop-round.invariant.looking;
+  rounds = c.loop-round.invariant.rounds;
+  more = λ e. absurd (let h : false ≡ true = e in cc);
+  none = λ e i below. absurd (omega arith);
+}
+
+pub loop-round-preserved : goal.loop-round-preserved
+loop-round-preserved g c = record { looking = c.loop-j.invariant.looking; rounds = c.loop-j.invariant.more c.if-not-some.false }

@@ -1,4 +1,5 @@
-use Rattle.std.proofs.Common.{◌≡◌, ◌<◌, ℕ, List, length, ap, sym, ◌∙◌, subst}
+use Rattle.std.proofs.Common.{◌≡◌, ◌<◌, ℕ, List, length, refl, ap, sym, ◌∙◌, subst}
+use Rattle.std.proofs.lemmas.List.{length-map}
 use Rattle.fleet_verify.specs.Walk.{IsReadyBy, counts_of}
 use Rattle.fleet_verify.specs.Blocked.{IsBlocked}
 use Rattle.fleet_verify.proofs.Blocked.{none_ready, some_blocked}
@@ -17,3 +18,12 @@ ring_by_counts-requires-clause-left g c =
     let here = c.args.machine.now.configuration in
     let seen : c.deref.result.now ≡ counts_of here = c.deref.ensures.value ∙ (c.in_ok-counts.ensures ∙ ap counts_of c.agents.ensures) in
     subst (λ (xs : List ℕ). (i : ℕ) × IsBlocked p xs i) (sym seen) (some_blocked p here c.requires.stuck)
+
+pub ring_by_counts-requires-clause-counts : goal.ring_by_counts-requires-clause-counts
+ring_by_counts-requires-clause-counts g c =
+    let same : length (counts_of c.agents.result.now) ≡ length c.agents.result.now = rw length-map refl in
+    ap length c.deref.ensures.value ∙ (ap length c.in_ok-counts.ensures ∙ (same ∙ (ap length c.agents.ensures ∙ c.requires.runs.agents)))
+
+pub ring_by_counts-requires-clause-ranges : goal.ring_by_counts-requires-clause-ranges
+ring_by_counts-requires-clause-ranges g c =
+    c.requires.ranges

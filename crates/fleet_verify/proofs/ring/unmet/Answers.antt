@@ -1,7 +1,7 @@
 use Rattle.std.proofs.Common.{arith, slice_index, ◌+◌}
 use Rattle.std.proofs.lemmas.Option.{slice_get_within, get_or_from_slice_get}
 use Rattle.fleet_model.specs.Program.{awaits_of}
-use Rattle.fleet_verify.proofs.ReadyBy.{await_agent, ready_yes}
+use Rattle.fleet_verify.proofs.ReadyBy.{await_agent, met_more, ready_yes}
 use Rattle.fleet_verify.proofs.ring.unmet.Goals as goal
 
 pub prove-unreachable-requires : goal.prove-unreachable-requires
@@ -19,3 +19,8 @@ returns-then-counts-awaited g c =
 pub unreachable-requires : goal.unreachable-requires
 unreachable-requires g c =
     c.requires.stuck (ready_yes (g.P.ProgramView.program c.args.program.now) c.args.counts.now c.args.i c.requires.blocked.left c.loop-k.k (omega arith) c.loop-k.invariant)
+
+pub loop-k-preserved : goal.loop-k-preserved
+loop-k-preserved g c =
+    met_more (awaits_of (g.P.ProgramView.program c.args.program.now) c.args.i (slice_index c.args.counts.now c.args.i + 1)) c.args.counts.now c.loop-k.k c.await_at-awaited.result c.await_at-awaited.ensures
+    c.if-counts-awaited.false c.loop-k.invariant

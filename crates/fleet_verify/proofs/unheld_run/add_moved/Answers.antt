@@ -1,5 +1,6 @@
 use Rattle.std.proofs.Common.{◌<◌, ◌++◌, List, length, refl, sym, subst, arith}
 use Rattle.std.proofs.lemmas.List.Elements.{All-push}
+use Rattle.std.proofs.lemmas.Result.{err_from_is_err_and}
 use Rattle.fleet_model.specs.declared.program.Visit.{Visit}
 use Rattle.fleet_model.specs.Machine.{count_at}
 use Rattle.fleet_grid.specs.Ground.{is_passable}
@@ -25,9 +26,9 @@ loop-agent-preserved g c =
     record {
       added = λ before was.
           subst (λ (vs : List Visit). AreAdded p vs c.add_position.new.visits) (one_moved before (flag_of m.moving) (count_at m.configuration) i (count_at m.configuration i) next.member refl)
-          (made.added c.if-not-branch.false (before ++ moved_to m i) (subst (λ (vs : List Visit). AreAdded p (before ++ vs) c.loop-agent.visits) (sym passed) (old.added before was)));
+          (made.added (before ++ moved_to m i) (subst (λ (vs : List Visit). AreAdded p (before ++ vs) c.loop-agent.visits) (sym passed) (old.added before was)));
       on_ground = subst (AreOnGround (is_passable c.args.grid.now) p) (sym (positions_yes (flag_of m.moving) (count_at m.configuration) i next.member))
-          (All-push Stands (moved_to m i) (position_in m i) (subst (AreOnGround (is_passable c.args.grid.now) p) (sym passed) old.on_ground) (made.on_ground c.if-not-branch.false));
+          (All-push Stands (moved_to m i) (position_in m i) (subst (AreOnGround (is_passable c.args.grid.now) p) (sym passed) old.on_ground) made.on_ground);
       within = omega (arith, agent);
     }
 
@@ -37,7 +38,7 @@ returns-clause-added g c =
     let m = c.args.machine.now in
     let none : AreNoneFrom m.moving c.loop-agent.from = c.in_default.ensures in
     let passed = positions_passed (flag_of m.moving) (count_at m.configuration) c.loop-agent.from (length p) c.loop-agent.invariant.within (λ k later below. none k later) in
-    λ yes before was. subst (λ (vs : List Visit). AreAdded p (before ++ vs) c.loop-agent.visits) (sym passed) (c.loop-agent.invariant.added before was)
+    λ before was. subst (λ (vs : List Visit). AreAdded p (before ++ vs) c.loop-agent.visits) (sym passed) (c.loop-agent.invariant.added before was)
 
 pub returns-clause-on_ground : goal.returns-clause-on_ground
 returns-clause-on_ground g c =
@@ -45,4 +46,9 @@ returns-clause-on_ground g c =
     let m = c.args.machine.now in
     let none : AreNoneFrom m.moving c.loop-agent.from = c.in_default.ensures in
     let passed = positions_passed (flag_of m.moving) (count_at m.configuration) c.loop-agent.from (length p) c.loop-agent.invariant.within (λ k later below. none k later) in
-    λ yes. subst (AreOnGround (is_passable c.args.grid.now) p) (sym passed) c.loop-agent.invariant.on_ground
+    subst (AreOnGround (is_passable c.args.grid.now) p) (sym passed) c.loop-agent.invariant.on_ground
+
+pub returns-in_err-add_position-clause-stop : goal.returns-in_err-add_position-clause-stop
+returns-in_err-add_position-clause-stop g c =
+    let e = err_from_is_err_and c.from_residual.result c.from_residual.ensures.1 in
+    rw (e.1, e.2) c.in_err-add_position.ensures.stop

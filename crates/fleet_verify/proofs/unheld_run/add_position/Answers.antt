@@ -7,8 +7,8 @@ use Rattle.fleet_grid.specs.Ground.{is_passable}
 use Rattle.fleet_verify.proofs.UnderWay.{on_path, within_moves}
 use Rattle.fleet_verify.proofs.unheld_run.add_position.Goals as goal
 
-pub returns-in_default-clause-off_ground : goal.returns-in_default-clause-off_ground
-returns-in_default-clause-off_ground g c = λ off steps.
+pub returns-in_default-clause-stop : goal.returns-in_default-clause-stop
+returns-in_default-clause-stop g c = λ steps.
     let p = g.P.ProgramView.program c.args.program.now in
     let d = c.args.machine.now.configuration in
     let i = c.args.agent in
@@ -33,7 +33,7 @@ add-requires-clause-placed g c =
     }
 
 pub returns-clause-on_ground : goal.returns-clause-on_ground
-returns-clause-on_ground g c = λ on.
+returns-clause-on_ground g c =
     let p = g.P.ProgramView.program c.args.program.now in
     let d = c.args.machine.now.configuration in
     let here : c.agent-count.result.place ≡ path p c.args.agent (count_at d c.args.agent) = ap (λ (s : Standing). s.place) c.agent-count.ensures.standing ∙ on_path p d c.requires.reached c.args.agent c.requires.agent in

@@ -1,5 +1,6 @@
 use Rattle.std.proofs.Common.{◌≡◌, ◌++◌, ◌∷◌, [], ℕ, List, length, ap, sym, ◌∙◌, subst, arith}
 use Rattle.std.proofs.lemmas.List.Elements.{All-push}
+use Rattle.std.proofs.lemmas.Result.{err_from_is_err_and}
 use Rattle.fleet_model.specs.declared.program.Visit.{Visit}
 use Rattle.fleet_model.specs.Machine.{Configuration, count_at}
 use Rattle.fleet_grid.specs.Ground.{is_passable}
@@ -23,19 +24,24 @@ loop-agent-preserved g c =
     let Stands = λ (v : Visit). StandsRight (is_passable c.args.grid.now) p v.agent v.position in
     record {
       added = subst (λ (vs : List Visit). AreAdded p vs c.add_position.new.visits) (starts_more i)
-          (subst (λ (n : ℕ). AreAdded p (starts_of i ++ record { agent = i; position = n } ∷ []) c.add_position.new.visits) none (made.added c.if-not-branch.false (starts_of i) old.added));
+          (subst (λ (n : ℕ). AreAdded p (starts_of i ++ record { agent = i; position = n } ∷ []) c.add_position.new.visits) none (made.added (starts_of i) old.added));
       on_ground = subst (AreOnGround (is_passable c.args.grid.now) p) (starts_more i)
-          (All-push Stands (starts_of i) (record { agent = i; position = 0 }) old.on_ground (subst (λ (n : ℕ). StandsRight (is_passable c.args.grid.now) p i n) none (made.on_ground c.if-not-branch.false)));
+          (All-push Stands (starts_of i) (record { agent = i; position = 0 }) old.on_ground (subst (λ (n : ℕ). StandsRight (is_passable c.args.grid.now) p i n) none made.on_ground));
     }
 
 pub returns-clause-added : goal.returns-clause-added
-returns-clause-added g c = λ on.
+returns-clause-added g c =
     let p = g.P.ProgramView.program c.args.program.now in
     let all : c.loop-agent.agent ≡ length p = omega (arith, c.agents-agent-end.ensures.count) in
     subst (λ (vs : List Visit). AreAdded p vs c.loop-agent.visits) (ap starts_of all ∙ opened_visits p) c.loop-agent.invariant.added
 
 pub returns-clause-on_ground : goal.returns-clause-on_ground
-returns-clause-on_ground g c = λ on.
+returns-clause-on_ground g c =
     let p = g.P.ProgramView.program c.args.program.now in
     let all : c.loop-agent.agent ≡ length p = omega (arith, c.agents-agent-end.ensures.count) in
     subst (AreOnGround (is_passable c.args.grid.now) p) (ap starts_of all ∙ opened_visits p) c.loop-agent.invariant.on_ground
+
+pub returns-in_err-add_position-clause-stop : goal.returns-in_err-add_position-clause-stop
+returns-in_err-add_position-clause-stop g c =
+    let e = err_from_is_err_and c.from_residual.result c.from_residual.ensures.1 in
+    rw (e.1, e.2) c.in_err-add_position.ensures.stop

@@ -40,8 +40,8 @@ loop-ticks-preserved g c =
     let Stands = λ (v : Visit). StandsRight (is_passable c.args.grid.now) p v.agent v.position in
     record {
       under_way = goes_on p held c.loop-ticks.machine c.loop-ticks.ticks before.under_way nobody c.tick-tick.new.self made.runs made.after (λ none. c.if-tick-eq0.false (made.moved ∙ none));
-      added = subst (λ (vs : List Visit). AreAdded p vs c.add_moved.new.visits) more (come.added c.if-not-branch.false (begun_in p c.loop-ticks.ticks) before.added);
-      on_ground = subst (AreOnGround (is_passable c.args.grid.now) p) more (All-append Stands (begun_in p c.loop-ticks.ticks) to before.on_ground (come.on_ground c.if-not-branch.false));
+      added = subst (λ (vs : List Visit). AreAdded p vs c.add_moved.new.visits) more (come.added (begun_in p c.loop-ticks.ticks) before.added);
+      on_ground = subst (AreOnGround (is_passable c.args.grid.now) p) more (All-append Stands (begun_in p c.loop-ticks.ticks) to before.on_ground come.on_ground);
     }
 
 pub returns : goal.returns

@@ -2,12 +2,7 @@ use Rattle.std.proofs.lemmas.Result.{err_from_is_err_and}
 use Rattle.fleet_grid.specs.Ground.{is_passable}
 use Rattle.fleet_verify.proofs.verifier.judge.Goals as goal
 
-pub returns-in_err-check_fleet-clause-err : goal.returns-in_err-check_fleet-clause-err
-returns-in_err-check_fleet-clause-err g c =
-    let e = err_from_is_err_and c.from_residual.result c.from_residual.ensures.1 in
-    rw (e.1, e.2) (c.in_err-check_fleet.ensures.err (is_passable c.args.grid.now))
-
 pub returns-in_err-check_starts-clause-err : goal.returns-in_err-check_starts-clause-err
 returns-in_err-check_starts-clause-err g c =
-    let e = err_from_is_err_and c.from_residual-in_err-check_starts.result c.from_residual-in_err-check_starts.ensures.1 in
+    let e = err_from_is_err_and c.from_residual.result c.from_residual.ensures.1 in
     rw (e.1, e.2) (c.in_err-check_starts.ensures.err (is_passable c.args.grid.now))

@@ -1,4 +1,4 @@
-use Rattle.std.proofs.Common.{◌≡◌, ◌+◌, ◌∙◌, map, take, length, sym, ap, arith}
+use Rattle.std.proofs.Common.{map, take, length, ap, arith}
 use Rattle.std.proofs.lemmas.List.{length-append, length-map, length-take-le}
 use Rattle.fleet_adg.specs.Growing.{action_of}
 use Rattle.fleet_adg.proofs.growing.Growing.len.Goals as goal

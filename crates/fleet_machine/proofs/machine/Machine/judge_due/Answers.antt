@@ -1,7 +1,7 @@
-use Rattle.std.proofs.Common.{◌<◌, length, arith, ap}
+use Rattle.std.proofs.Common.{◌<◌, length, refl, arith, ap, ◌∙◌}
 use Rattle.fleet_machine.specs.Machine.{MachineState, flag_of}
 use Rattle.fleet_machine.specs.AgentSet.{IsNextFrom, AreNoneFrom}
-use Rattle.fleet_machine.proofs.Judging.{one_judged, some_passed, none_more_counted, one_more_counted, counted_le}
+use Rattle.fleet_machine.proofs.Judging.{none_judged, one_judged, some_passed, none_more_counted, one_more_counted, counted_le}
 use Rattle.fleet_machine.proofs.machine.Machine.judge_due.Goals as goal
 
 pub overflow_add-count : goal.overflow_add-count
@@ -34,3 +34,31 @@ returns-clause-count g c =
     let before = c.loop-i.invariant in
     let none : AreNoneFrom old.due c.loop-i.from = rw (ap (λ (m : MachineState). m.due) before.judged.same) at c.in_default.ensures in
     none_more_counted (flag_of old.due) c.loop-i.from (length p) c.loop-i.count before.within (λ k later below. none k later) before.counted
+
+pub loop-i-init : goal.loop-i-init
+loop-i-init g c =
+    record { judged = none_judged (g.P.ProgramView.program c.args.program.now) (flag_of c.args.self.now.due) c.args.self.now c.requires.rows; counted = refl; within = omega arith }
+
+pub judge-requires-clause-nowhere : goal.judge-requires-clause-nowhere
+judge-requires-clause-nowhere g c =
+    let old = c.args.self.now in
+    let before = c.loop-i.invariant in
+    let i = c.in-Some.i in
+    let next : IsNextFrom old.due c.loop-i.from i = rw (ap (λ (m : MachineState). m.due) before.judged.same) at c.in-Some.ensures in
+    (before.judged.later i next.later).home ∙ c.requires.nowhere i next.member
+
+pub returns-clause-same : goal.returns-clause-same
+returns-clause-same g c =
+    c.loop-i.invariant.judged.same
+
+pub returns-clause-others : goal.returns-clause-others
+returns-clause-others g c =
+    c.loop-i.invariant.judged.others
+
+pub returns-clause-judged : goal.returns-clause-judged
+returns-clause-judged g c =
+    let p = g.P.ProgramView.program c.args.program.now in
+    let old = c.args.self.now in
+    let before = c.loop-i.invariant in
+    let none : AreNoneFrom old.due c.loop-i.from = rw (ap (λ (m : MachineState). m.due) before.judged.same) at c.in_default.ensures in
+    (some_passed p (flag_of old.due) old c.loop-i.self c.loop-i.from (length p) before.within (λ k later below. none k later) before.judged).judged

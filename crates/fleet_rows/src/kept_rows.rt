@@ -3,7 +3,7 @@
 ghost use Rattle.std.specs.Prelude.{◌≡◌, ◌+◌, ◌*◌, ◌<◌, ◌≤◌, ◌↔◌, ℕ, length, get_or, max, slice_index, Some, None, IfOk, IsTrue};
 ghost use Rattle.fleet_rows.specs.Kept.{IsSound, IsKept, IsLast, slot_at, mark_of, count_in, HasSame, IsKeptMore, IsReleased, IsVacated};
 
-use crate::kernels::join_rows;
+use fleet_lanes::join_rows;
 use fleet_model::OutOfMemory;
 use std::alloc::Global;
 

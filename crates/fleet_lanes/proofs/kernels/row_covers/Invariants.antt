@@ -1,6 +1,6 @@
 use Rattle.std.proofs.Common.{◌≤◌, ◌-◌, length}
-use Rattle.fleet_rows.specs.Kernels.{AreCovered}
-use Rattle.fleet_rows.proofs.kernels.row_covers.Given as goal
+use Rattle.fleet_lanes.specs.Kernels.{AreCovered}
+use Rattle.fleet_lanes.proofs.kernels.row_covers.Given as goal
 
 abbrev pub invariant-loop-from : goal.invariant-loop-from
 invariant-loop-from l = record {

@@ -1,7 +1,7 @@
 use Rattle.std.proofs.Common.{arith}
 use Rattle.std.proofs.lemmas.Simd.{get_or-put_chunk_below, get_or-put_chunk_above}
-use Rattle.fleet_rows.proofs.Lanes.{joined_lane, joined_long}
-use Rattle.fleet_rows.proofs.kernels.join_lane.Goals as goal
+use Rattle.fleet_lanes.proofs.Lanes.{joined_lane, joined_long}
+use Rattle.fleet_lanes.proofs.kernels.join_lane.Goals as goal
 
 pub returns-clause-joined : goal.returns-clause-joined
 returns-clause-joined c = λ k above below. joined_lane c.args.row.now c.args.other.now c.args.from c.requires.same c.requires.lane k above below

@@ -1,6 +1,6 @@
 use Rattle.std.proofs.Common.{get_or, max, ap, ◌∙◌, arith, inl, inr}
 use Rattle.std.proofs.lemmas.Bool.{cases_lt}
-use Rattle.fleet_rows.proofs.kernels.join_lanes.Goals as goal
+use Rattle.fleet_lanes.proofs.kernels.join_lanes.Goals as goal
 
 pub loop-row-preserved : goal.loop-row-preserved
 loop-row-preserved c =

@@ -1,6 +1,6 @@
 use Rattle.std.proofs.Common.{◌≡◌, ◌≤◌, ◌-◌, ℕ, length, get_or}
-use Rattle.fleet_rows.specs.Kernels.{AreJoined}
-use Rattle.fleet_rows.proofs.kernels.join_lanes.Given as goal
+use Rattle.fleet_lanes.specs.Kernels.{AreJoined}
+use Rattle.fleet_lanes.proofs.kernels.join_lanes.Given as goal
 
 abbrev pub invariant-loop-row : goal.invariant-loop-row
 invariant-loop-row l = record {

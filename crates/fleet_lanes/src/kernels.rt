@@ -1,7 +1,7 @@
 //! Rows of counts, eight at a time.
 
 ghost use Rattle.std.specs.Prelude.{◌≡◌, ◌+◌, ◌<◌, ◌≤◌, ◌↔◌, ℕ, length, get_or, max, IsTrue};
-ghost use Rattle.fleet_rows.specs.Kernels.{AreJoined, AreCovered};
+ghost use Rattle.fleet_lanes.specs.Kernels.{AreJoined, AreCovered};
 
 use std::simd::prelude::*;
 

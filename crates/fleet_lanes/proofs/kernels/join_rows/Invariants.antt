@@ -1,6 +1,6 @@
 use Rattle.std.proofs.Common.{◌≡◌, ◌≤◌, ℕ, get_or}
-use Rattle.fleet_rows.specs.Kernels.{AreJoined}
-use Rattle.fleet_rows.proofs.kernels.join_rows.Given as goal
+use Rattle.fleet_lanes.specs.Kernels.{AreJoined}
+use Rattle.fleet_lanes.proofs.kernels.join_rows.Given as goal
 
 abbrev pub invariant-loop-k : goal.invariant-loop-k
 invariant-loop-k l = record {

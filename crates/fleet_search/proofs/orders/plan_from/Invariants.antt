@@ -2,7 +2,7 @@ use Rattle.std.proofs.Common.{◌<◌, max, length, IsPermutation}
 use Rattle.fleet_grid.specs.Ground.{is_passable}
 use Rattle.fleet_search.specs.Orders.{rising, IsOrderAfter}
 use Rattle.fleet_search.specs.Attempts.{AreTables, IsMadeAfterFirst}
-use Rattle.fleet_search.proofs.orders.plan_in_turns.Given as goal
+use Rattle.fleet_search.proofs.orders.plan_from.Given as goal
 
 abbrev pub invariant-loop-failed : goal.invariant-loop-failed
 invariant-loop-failed l = record {

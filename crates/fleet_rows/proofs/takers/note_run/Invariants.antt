@@ -3,7 +3,7 @@ use Rattle.fleet_model.specs.Machine.{run}
 use Rattle.fleet_machine.specs.Machine.{Runs, flag_of}
 use Rattle.fleet_rows.specs.Order.{IsOrder}
 use Rattle.fleet_rows.specs.Takers.{AreNoted}
-use Rattle.fleet_rows.proofs.takers.note_ticks.Given as goal
+use Rattle.fleet_rows.proofs.takers.note_run.Given as goal
 
 abbrev pub invariant-loop-t : goal.invariant-loop-t
 invariant-loop-t g l = record {

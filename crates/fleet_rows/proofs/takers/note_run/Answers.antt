@@ -4,12 +4,12 @@ use Rattle.fleet_rows.specs.Order.{IsTicked}
 use Rattle.fleet_rows.specs.Takers.{AreNoted}
 use Rattle.fleet_rows.proofs.Finishing.{none_flagged, ticked, length_flagged}
 use Rattle.fleet_rows.proofs.Noting.{noted_tick}
-use Rattle.fleet_rows.proofs.takers.note_ticks.Goals as goal
+use Rattle.fleet_rows.proofs.takers.note_run.Goals as goal
 
 pub loop-t-init : goal.loop-t-init
 loop-t-init g c = record {
-  runs = c.in_ok-machine.ensures.runs;
-  here = c.in_ok-machine.ensures.opening;
+  runs = c.requires.runs;
+  here = c.requires.start;
   agents = length_flagged c.agents.result MAX_AGENTS (omega (arith, c.agents.ensures.count, c.agents.ensures.well_formed.few_agents)) ∙ c.agents.ensures.count;
   nobody = λ i. none_flagged c.agents.result MAX_AGENTS i (omega (arith, c.agents.ensures.count, c.agents.ensures.well_formed.few_agents));
   noted = λ t l. absurd (omega arith);

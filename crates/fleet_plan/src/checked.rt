@@ -12,7 +12,7 @@ use std::marker::Model;
 /// goal over passable cells, and there is no vertex, swapping or cycle conflict. Only `check` makes one.
 ///
 /// No method takes memory.
-#[derive(Debug, Drop)]
+#[derive(Drop)]
 pub struct Checked<'g> {
     plan: Plan,
     grid: &'g Grid,

@@ -120,15 +120,14 @@ fn add_path_again(
     ensures tables { OnOk result (AreTables problem.now tables.new) }
     ensures added { IfOk result (IsPathAdded problem.now agent problem.now.horizon reserved.old reserved.new) }
 {
-    if number >= olds.len() {
-        return add_path(problem, agent, problem.horizon, reserved, tables);
+    if number < olds.len() {
+        let old = &olds[number];
+        if reserved.fits(old) {
+            renew_path(problem, agent, old, reserved, tables)?;
+            return Ok(true);
+        }
     }
-    let old = &olds[number];
-    if !reserved.fits(old) {
-        return add_path(problem, agent, problem.horizon, reserved, tables);
-    }
-    renew_path(problem, agent, old, reserved, tables)?;
-    Ok(true)
+    add_path(problem, agent, problem.horizon, reserved, tables)
 }
 
 /// Reserves the paths one after another, up to the first that does not fit, and answers how many.

@@ -16,7 +16,7 @@ use Rattle.fleet_plan.specs.declared.plan_fault.Conflict.TheVariants.{Vertex, Sw
 use Rattle.fleet_plan.specs.Plan.{Plan, cell_of, planned, steps, IsPath}
 use Rattle.fleet_plan.specs.FirstFault.{AllAgents, GoesRight, path_of, HasConflict, HasNoConflict, time_of, IsKindUpTo, IsConflictUpTo, IsFirstConflict}
 use Rattle.fleet_plan.specs.Rings.{NamesAgents, ahead_of, walk_of, Leads, IsOnRing, IsLeastOnRing}
-use Rattle.fleet_plan.specs.Sweep.{StandOnMap, StandOnPlaces, Meet, IsFirstMeeting, IsAhead, AreAhead, Exchange, IsFirstExchange, HasNoMeeting, HasNoExchange, IsFirstIn, IsFreeIn, IsEntered, IsAgentSettled}
+use Rattle.fleet_plan.specs.Sweep.{StandOnMap, StandOnPlaces, Meet, IsFirstMeeting, IsAhead, AreAhead, Exchange, IsFirstExchange, HasNoMeeting, HasNoExchange, IsFirstIn, IsFreeIn, IsEntered, IsAgentSettled, IsSweep, IsSwept}
 use Rattle.fleet_plan.specs.UnderWay.{IsSoForOthers, Covers}
 use Rattle.fleet_plan.proofs.RingLaws.{some_is, none_is_not, shortened, each_ahead, each_reached, ends_with, each_on_ring, ring-reaches}
 use Rattle.fleet_plan.proofs.PathLaws.{at_past}
@@ -304,11 +304,6 @@ module _ (have : HavePlaces) (g : Ground) (plan : Plan) (on : StandOnMap g plan)
 
 -- ---- the loop over time
 
--- no conflict is earlier than time t, at which the agents stand in these places
-pub record IsSweep (g : Ground) (plan : Plan) (places : List ℕ) (t : ℕ) : Type 0 where
-  pub here : StandOnPlaces g plan t places
-  pub earlier : (d : Conflict) → HasConflict plan d → t ≤ time_of d
-
 pub swept_all : (plan : Plan) (t : ℕ) → ((d : Conflict) → HasConflict plan d → t ≤ time_of d) → steps plan + 1 ≤ t → HasNoConflict plan
 swept_all plan t earlier l = none_later plan (λ d h. let g : t ≤ time_of d = earlier d h in omega arith)
 
@@ -358,13 +353,6 @@ module _ (have : HavePlaces) (g : Ground) (plan : Plan) (on : StandOnMap g plan)
 pub stays_there : (g : Ground) (plan : Plan) (t i : ℕ) → length (path_of plan i) ≤ t + 1 → cell_index g (cell_of plan i t) ≡ cell_index g (cell_of plan i (t + 1))
 unfolding cell_of
 stays_there g plan t i l = ap (cell_index g) (at_past (path_of plan i) t l ∙ sym (at_past (path_of plan i) (t + 1) (omega arith)))
-
--- the rows before the step after time t
-pub record IsSwept (g : Ground) (plan : Plan) (table : Table ℕ) (places next : List ℕ) (ahead walks : List (Option ℕ)) (row : List ℕ) (t : ℕ) : Type 0 where
-  pub sweep : IsSweep g plan places t
-  pub entered : IsEntered table places
-  pub settled : (i : ℕ) → i < length next → IsAgentSettled places next ahead walks i
-  pub covers : Covers plan t row
 
 module _ (g : Ground) (plan : Plan) (table : Table ℕ) (places next : List ℕ) (ahead walks : List (Option ℕ)) (row : List ℕ) (t : ℕ) (s : IsSwept g plan table places next ahead walks row t) (all : length next ≡ length plan) where
   -- who does not stand in the row is where it goes

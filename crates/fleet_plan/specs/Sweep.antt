@@ -6,8 +6,8 @@ use Rattle.fleet_table.specs.Table.{value_in}
 use Rattle.fleet_plan.specs.Plan.{Plan, cell_of}
 use Rattle.fleet_plan.specs.declared.plan_fault.Conflict.{Conflict}
 use Rattle.fleet_plan.specs.declared.plan_fault.Conflict.TheVariants.{Vertex, Swapping, Cycle}
-use Rattle.fleet_plan.specs.FirstFault.{IsPairUpTo}
-use Rattle.fleet_plan.specs.UnderWay.{IsSoForOthers}
+use Rattle.fleet_plan.specs.FirstFault.{IsPairUpTo, HasConflict, time_of}
+use Rattle.fleet_plan.specs.UnderWay.{IsSoForOthers, Covers}
 use Rattle.fleet_plan.specs.Rings.{ahead_of, walk_of, IsOnRing, IsLeastOnRing}
 
 -- every agent stands on a cell of the map, at every time
@@ -124,3 +124,15 @@ AreAgentsSettled places next ahead walks = (i : ℕ) → i < length next → IsA
 -- each agent that stands nowhere in the row is settled
 abbrev pub AreOtherAgentsSettled : List ℕ → List ℕ → List ℕ → List (Option ℕ) → List (Option ℕ) → Type 0
 AreOtherAgentsSettled row places next ahead walks = IsSoForOthers row (length next) (IsAgentSettled places next ahead walks)
+
+-- no conflict is earlier than time t, at which the agents stand in these places
+pub record IsSweep (g : Ground) (plan : Plan) (places : List ℕ) (t : ℕ) : Type 0 where
+  pub here : StandOnPlaces g plan t places
+  pub earlier : (d : Conflict) → HasConflict plan d → t ≤ time_of d
+
+-- the rows before the step after time t
+pub record IsSwept (g : Ground) (plan : Plan) (table : Table ℕ) (places next : List ℕ) (ahead walks : List (Option ℕ)) (row : List ℕ) (t : ℕ) : Type 0 where
+  pub sweep : IsSweep g plan places t
+  pub entered : IsEntered table places
+  pub settled : (i : ℕ) → i < length next → IsAgentSettled places next ahead walks i
+  pub covers : Covers plan t row

@@ -11,7 +11,7 @@ use std::marker::Model;
 /// The cells of one agent at times 0, 1, 2 and so on, 1 to 65,536 of them. After the last one it stays.
 ///
 /// No method takes memory.
-#[derive(Debug, Drop)]
+#[derive(Drop)]
 pub struct Path {
     cells: Vec<Cell>,
 }
@@ -78,7 +78,7 @@ fn numbers_fit(cell: &Cell)
 /// A path for each agent, 1 to 1,024 of them.
 ///
 /// No method takes memory.
-#[derive(Debug, Drop)]
+#[derive(Drop)]
 pub struct Plan {
     paths: Vec<Path>,
     steps: u32,

@@ -12,7 +12,7 @@ use std::alloc::AllocError;
 use thiserror::Error;
 
 /// A conflict between agents of a plan (Stern et al. 2019). Step `time` leads from `time` to `time + 1`.
-#[derive(Clone, Copy, Debug, PartialEq, Eq, Error)]
+#[derive(Clone, Copy, Debug, Error)]
 pub enum Conflict {
     /// Agents `i` and `j` stand on one cell at `time`; `i` is below `j`.
     #[error("agents {i} and {j} are on one cell at time {time}")]
@@ -26,7 +26,7 @@ pub enum Conflict {
 }
 
 /// The first fault of a plan, in the order of the variants.
-#[derive(Clone, Copy, Debug, PartialEq, Eq, Error)]
+#[derive(Clone, Copy, Debug, Error)]
 pub enum PlanFault {
     #[error("out of memory")]
     OutOfMemory,
@@ -60,7 +60,7 @@ impl From<AllocError> for PlanFault {
 }
 
 /// Why a plan was refused, with the plan.
-#[derive(Debug, Drop)]
+#[derive(Drop)]
 pub struct PlanRefusal {
     pub fault: PlanFault,
     pub plan: Plan,

@@ -1,12 +1,12 @@
 //! The sweep over time for conflicts, with a table of cells in which each agent enters itself. Each step looks at
 //! the agents under way alone: one that has come to its last cell stays entered there, and is not visited again.
 
-ghost use Rattle.std.specs.Prelude.{◌≡◌, ◌≢◌, ℕ, ◌+◌, ◌<◌, ◌≤◌, ◌⊎◌, IfOk, IfSome, IfNone, length, filter, slice_index, Some, None, All, IsTrue, false};
+ghost use Rattle.std.specs.Prelude.{◌≡◌, ◌≢◌, ℕ, ◌+◌, ◌<◌, ◌≤◌, ◌⊎◌, ◌↔◌, IfOk, IfSome, IfNone, length, filter, slice_index, Some, None, All, IsTrue, false};
 ghost use Rattle.fleet_grid.specs.Ground.{is_passable};
 ghost use Rattle.fleet_model.specs.declared.limits.TheConstants.{MAX_AGENTS};
 ghost use Rattle.fleet_plan.specs.FirstFault.{AllAgents, GoesRight, IsFirstConflict, HasNoConflict};
 ghost use Rattle.fleet_plan.specs.Rings.{NamesAgents, ahead_of, walk_of};
-ghost use Rattle.fleet_plan.specs.Sweep.{StandOnMap, StandOnPlaces, IsFirstMeeting, IsEntered, IsAhead, AreAhead, Exchange, IsFirstExchange, HasNone, IsFirstAhead, IsFreeAhead, OthersStandAt, HasIn, Stays, IsUnblocked, AreAgentsSettled, AreOtherAgentsSettled};
+ghost use Rattle.fleet_plan.specs.Sweep.{StandOnMap, StandOnPlaces, IsFirstMeeting, IsEntered, IsAhead, AreAhead, Exchange, IsFirstExchange, HasNone, IsFirstAhead, IsFreeAhead, OthersStandAt, HasIn, Stays, IsUnblocked, AreAgentsSettled, AreOtherAgentsSettled, IsSwept};
 ghost use Rattle.fleet_plan.specs.UnderWay.{IsSoForOthers, is_under_way, Covers};
 
 use crate::plan::Plan;
@@ -77,10 +77,19 @@ fn occupant(table: &Table<u16>, places: &[usize], place: usize) -> Option<u16>
     ensures none { IfNone result ((j : ℕ) → j < length places.now → slice_index places.now j ≢ place) }
 {
     let j = table.get(place);
-    match places.get(usize::from(j)) {
-        Some(other) if *other == place => Some(j),
-        _ => None,
+    if stands_at(places, j, place) {
+        Some(j)
+    } else {
+        None
     }
+}
+
+/// Whether there is such an agent, and it stands in the place.
+#[inline]
+fn stands_at(places: &[usize], agent: u16, place: usize) -> bool
+    ensures { IsTrue result ↔ ((agent < length places.now) × (slice_index places.now agent ≡ place)) }
+{
+    usize::from(agent) < places.len() && places[usize::from(agent)] == place
 }
 
 /// Who stands in the place to which agent `i` goes, if it goes to another one.
@@ -193,15 +202,30 @@ fn enter(table: &mut Table<u16>, agents: &[u16], places: &[usize]) -> Result<boo
     ensures { IfOk result (λ alone. IsTrue alone → IsEntered table.new places.now) }
 {
     for &i in agents {
-        let place = places[usize::from(i)];
-        let other = table.get(place);
-        if other != i && places.get(usize::from(other)) == Some(&place) {
+        if !enter_one(table, i, places)? {
             return Ok(false);
         }
-        if other != i {
-            table.set(place, i)?;
-        }
     }
+    Ok(true)
+}
+
+/// Enters an agent in its place, unless another one that is entered there stands there. Answers whether none does.
+#[inline]
+fn enter_one(table: &mut Table<u16>, i: u16, places: &[usize]) -> Result<bool, AllocError>
+    requires { i < length places.now }
+    ensures here { IfOk result (λ alone. IsTrue alone → HasIn table.new places.now i) }
+    ensures others { IfOk result (λ alone. IsTrue alone → (k : ℕ) → k < length places.now
+        → HasIn table.old places.now k → HasIn table.new places.now k) }
+{
+    let place = places[usize::from(i)];
+    let other = table.get(place);
+    if other == i {
+        return Ok(true);
+    }
+    if stands_at(places, other, place) {
+        return Ok(false);
+    }
+    table.set(place, i)?;
     Ok(true)
 }
 
@@ -294,19 +318,51 @@ fn sweep(
         return Ok(Some(Conflict::Vertex { time: 0, i, j }));
     }
     for time in 0..end {
-        fill_next(plan, grid, time + 1, agents, next);
-        let apart = fill_ahead(table, places, next, agents, ahead);
-        let found = conflict_in(time, apart, agents, ahead, walks);
+        let found = step(plan, grid, time, table, places, next, ahead, walks, agents)?;
         if found.is_some() {
             return Ok(found);
         }
-        if let Some((i, j)) = meeting(table, agents, next)? {
-            let time = time + 1;
-            return Ok(Some(Conflict::Vertex { time, i, j }));
-        }
-        settle(agents, next, places, ahead, walks);
-        keep_under_way(agents, plan, time + 1);
     }
+    Ok(None)
+}
+
+/// The first conflict of a plan, if it is in the step after `time`, and the sweep has come to that time. If it is not,
+/// the sweep has come to the next one.
+fn step(
+    plan: &Plan,
+    grid: &Grid,
+    time: u32,
+    table: &mut Table<u16>,
+    places: &mut [usize],
+    next: &mut [usize],
+    ahead: &mut [Option<u16>],
+    walks: &mut [Option<u16>],
+    agents: &mut Vec<u16>,
+) -> Result<Option<Conflict>, AllocError>
+    requires on_map { StandOnMap grid.now plan.now }
+    requires few { length plan.now ≤ MAX_AGENTS }
+    requires time { time < 4294967295 }
+    requires next { length next.old ≡ length plan.now }
+    requires ahead { length ahead.old ≡ length plan.now }
+    requires walks { length walks.old ≡ length plan.now }
+    requires swept { IsSwept grid.now plan.now table.old places.old next.old ahead.old walks.old agents.old.items time }
+    ensures some { IfOk result (λ found. IfSome found (IsFirstConflict plan.now)) }
+    ensures none { IfOk result (λ found. IfNone found (IsSwept grid.now plan.now table.new places.new next.new ahead.new walks.new agents.new.items (time + 1))) }
+{
+    // Agents in one place are on one cell: a law of the map.
+    cells_have_places_of_their_own();
+    fill_next(plan, grid, time + 1, agents, next);
+    let apart = fill_ahead(table, places, next, agents, ahead);
+    let found = conflict_in(time, apart, agents, ahead, walks);
+    if found.is_some() {
+        return Ok(found);
+    }
+    if let Some((i, j)) = meeting(table, agents, next)? {
+        let time = time + 1;
+        return Ok(Some(Conflict::Vertex { time, i, j }));
+    }
+    settle(agents, next, places, ahead, walks);
+    keep_under_way(agents, plan, time + 1);
     Ok(None)
 }
 
@@ -335,20 +391,32 @@ pub(crate) fn first_conflict(
     let agents = usize::from(plan.agents());
     // What is asked of a map gives its sizes.
     let _width = grid.width();
-    let mut table = Table::new(alloc, 0);
     let mut places = vec![in alloc; 0usize; agents]?;
     let mut next = vec![in alloc; 0usize; agents]?;
-    let mut ahead = vec![in alloc; None; agents]?;
-    let mut walks = vec![in alloc; None; agents]?;
     let mut under_way = agents_of(alloc, plan)?;
+    conflict_over(alloc, plan, grid, &mut places, &mut next, &mut under_way)
+}
+
+/// The same, with rows for the places of all agents, and with the row of all agents.
+fn conflict_over(
+    alloc: Global,
+    plan: &Plan,
+    grid: &Grid,
+    places: &mut [usize],
+    next: &mut [usize],
+    agents: &mut Vec<u16>,
+) -> Result<Option<Conflict>, AllocError>
+    requires on_map { StandOnMap grid.now plan.now }
+    requires places { length places.old ≡ length plan.now }
+    requires next { length next.old ≡ length plan.now }
+    requires agents { Covers plan.now 0 agents.old.items }
+    ensures some { IfOk result (λ found. IfSome found (IsFirstConflict plan.now)) }
+    ensures none { IfOk result (λ found. IfNone found (HasNoConflict plan.now)) }
+{
+    let mut table = Table::new(alloc, 0);
+    let mut ahead = vec![in alloc; None; places.len()]?;
+    let mut walks = vec![in alloc; None; places.len()]?;
     sweep(
-        plan,
-        grid,
-        &mut table,
-        &mut places,
-        &mut next,
-        &mut ahead,
-        &mut walks,
-        &mut under_way,
+        plan, grid, &mut table, places, next, &mut ahead, &mut walks, agents,
     )
 }

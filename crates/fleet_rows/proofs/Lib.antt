@@ -1,6 +1,5 @@
 pub mod Free
 pub mod Joining
-mod Lanes
 pub mod Placed
 mod Settling
 mod Ticking

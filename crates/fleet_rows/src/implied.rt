@@ -87,8 +87,29 @@ fn tell_all<P: ProgramView>(
     if !is_any(&asked) {
         return Ok(flags);
     }
+    flag_rest(alloc, program, ticks, places, &asked, flags)
+}
+
+/// The flags of the awaits of the asked agents, by rows.
+fn flag_rest<P: ProgramView>(
+    alloc: Global,
+    program: &P,
+    ticks: u32,
+    places: &AwaitPlaces,
+    asked: &[bool],
+    flags: Vec<bool>,
+) -> Result<Vec<bool>, OutOfMemory>
+    requires range { AreInRange (P.program program.now) }
+    requires places { AreAwaitPlaces (P.program program.now) places.now }
+    requires finish { IsFinish (P.program program.now) [] ticks }
+    requires flags { length flags.items ≡ total_awaits (P.program program.now) }
+    requires asked { length asked.now ≡ length (P.program program.now) }
+    requires settled { AreSettled (P.program program.now) asked.now flags.items }
+    ensures all { IfOk result (λ flags. length flags.items ≡ total_awaits (P.program program.now)) }
+    ensures told { IfOk result (λ flags. AreAllTold (P.program program.now) flags.items) }
+{
     let notes = RunNotes::of(alloc, program, ticks)?;
-    flag_all(alloc, program, &notes, places, &asked, flags)
+    flag_all(alloc, program, &notes, places, asked, flags)
 }
 
 /// The flags of the awaits of the asked agents, block by block, each with so many columns as there is room for.

@@ -3,12 +3,12 @@
 ghost use Rattle.std.specs.Prelude.{◌≡◌, ◌+◌, ◌*◌, ◌<◌, ◌≤◌, ◌↔◌, ℕ, length, get_or, max, slice_index, Some, None, IfOk, IsTrue};
 ghost use Rattle.fleet_rows.specs.Kept.{IsSound, IsKept, IsLast, slot_at, mark_of, count_in, HasSame, IsKeptMore, IsReleased, IsVacated};
 
-use crate::kernels::join_rows;
+use fleet_lanes::join_rows;
 use fleet_model::OutOfMemory;
 use std::alloc::Global;
 
 /// A slot for one row: the place of the action whose row it has, and the last tick that takes that row.
-#[derive(Clone, Copy, Debug, PartialEq, Eq)]
+#[derive(Clone, Copy)]
 pub(crate) struct Slot {
     pub(crate) owner: Option<usize>,
     pub(crate) last: u32,
@@ -76,9 +76,21 @@ impl KeptRows {
         requires row { length row.old ≡ self.now.width }
         ensures { (k : ℕ) → k < length row.old → get_or row.new k 0 ≡ count_in self.now (mark_of self.now action) k }
     {
+        row.copy_from_slice(self.row(action));
+    }
+
+    /// The kept row of an action.
+    #[inline]
+    fn row(&self, action: usize) -> &[u32]
+        requires sound { IsSound self.now }
+        requires action { action < length self.now.marks.items }
+        requires kept { IsKept self.now action }
+        ensures width { length result.now ≡ self.now.width }
+        ensures counts { (k : ℕ) → k < self.now.width → get_or result.now k 0 ≡ count_in self.now (mark_of self.now action) k }
+    {
         let width = usize::from(self.width);
         let from = self.marks[action] as usize * width;
-        row.copy_from_slice(&self.counts[from..from + width]);
+        &self.counts[from..from + width]
     }
 
     /// Joins the kept row of an action into a row.
@@ -90,9 +102,7 @@ impl KeptRows {
         ensures { (k : ℕ) → k < length row.old → get_or row.new k 0
             ≡ max (get_or row.old k 0) (count_in self.now (mark_of self.now action) k) }
     {
-        let width = usize::from(self.width);
-        let from = self.marks[action] as usize * width;
-        join_rows(row, &self.counts[from..from + width]);
+        join_rows(row, self.row(action));
     }
 
     /// One count of the kept row of an action.

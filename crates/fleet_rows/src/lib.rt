@@ -14,7 +14,6 @@ mod gather;
 mod implied;
 mod implied_row;
 mod kept_rows;
-mod kernels;
 mod near;
 mod piece;
 mod questions;
@@ -24,6 +23,5 @@ mod settled;
 mod takers;
 
 pub use implied::{ImpliedAwaits, implied_awaits};
-pub use kernels::{join_rows, row_covers};
 pub use piece::Pieces;
 pub use questions::{Question, unreached};

@@ -15,7 +15,7 @@ use fleet_model::{ActionId, MAX_AGENTS, OutOfMemory, ProgramView};
 use std::alloc::Global;
 
 /// The question whether a chain of needs begins with the first action and ends with the last.
-#[derive(Clone, Copy, Debug, PartialEq, Eq)]
+#[derive(Clone, Copy)]
 pub struct Question {
     pub first: ActionId,
     pub last: ActionId,
@@ -40,8 +40,29 @@ pub fn unreached<P: ProgramView>(
     if !is_any(&asked) {
         return Ok(flags);
     }
+    answer_rest(alloc, program, ticks, questions, &asked, flags)
+}
+
+/// The answers to the questions, by rows for the asked agents.
+fn answer_rest<P: ProgramView>(
+    alloc: Global,
+    program: &P,
+    ticks: u32,
+    questions: &[Question],
+    asked: &[bool],
+    flags: Vec<bool>,
+) -> Result<Vec<bool>, OutOfMemory>
+    requires range { AreInRange (P.program program.now) }
+    requires finish { IsFinish (P.program program.now) [] ticks }
+    requires questions { AreQuestions (P.program program.now) questions.now }
+    requires asked { length asked.now ≡ length (P.program program.now) }
+    requires flagged { (k : ℕ) (q : Question) → slice_get questions.now k ≡ Some q
+        → (get_or asked.now q.first.agent false ≡ true) ⊎ IsAnswer (P.program program.now) q (get_or flags.items k false) }
+    requires flags { length flags.items ≡ length questions.now }
+    ensures { IfOk result (λ flags. AreAnswers (P.program program.now) questions.now flags.items) }
+{
     let notes = RunNotes::of(alloc, program, ticks)?;
-    answer_all(alloc, program, &notes, questions, &asked, flags)
+    answer_all(alloc, program, &notes, questions, asked, flags)
 }
 
 /// Whether some agent is flagged.

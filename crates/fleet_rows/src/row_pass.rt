@@ -1,8 +1,8 @@
 //! A pass over the actions of a program in the order in which they finish if nobody is held: the row of each is made,
 //! used, and kept as long as some action is still to take it.
 
-ghost use Rattle.std.specs.Prelude.{◌≡◌, ◌+◌, ◌<◌, ℕ, [], List, length, replicate, set, OnOk};
-ghost use Rattle.fleet_model.specs.Program.{AreInRange};
+ghost use Rattle.std.specs.Prelude.{◌≡◌, ◌+◌, ◌<◌, ℕ, [], List, length, replicate, set, IfOk, OnOk};
+ghost use Rattle.fleet_model.specs.Program.{Program, AreInRange};
 ghost use Rattle.fleet_model.specs.Machine.{IsFinish};
 ghost use Rattle.fleet_model.specs.Chain.{IsAction};
 ghost use Rattle.fleet_rows.specs.Block.{AreBlock, IsRowOf, AreKept, CanMakeRow};
@@ -61,6 +61,20 @@ pub(crate) struct RowPass {
     counts: Vec<u32>,
 }
 
+impl RowPass {
+    /// No row is kept yet, and no action is finished.
+    fn new(alloc: Global, block: &Block<'_>, agents: u16) -> Result<RowPass, OutOfMemory>
+        ensures rows { IfOk result (λ pass. (p : Program) → AreBlock p block.now
+            → AreRowsAt p block.now (IsCounted pass.counts.items) 0 pass.kept) }
+        ensures counts { IfOk result (λ pass. pass.counts.items ≡ replicate agents 0) }
+    {
+        Ok(RowPass {
+            kept: KeptRows::new(alloc, &block.notes.lasts, block.columns.width)?,
+            counts: vec![in alloc; 0; usize::from(agents)]?,
+        })
+    }
+}
+
 /// Makes and uses the rows of all actions.
 pub(crate) fn use_rows<P: ProgramView, U: RowUse>(
     alloc: Global,
@@ -77,12 +91,8 @@ pub(crate) fn use_rows<P: ProgramView, U: RowUse>(
     ensures keeps { OnOk result (U.keeps (P.program program.now) block.now uses.old uses.new) }
 {
     let mut row = vec![in alloc; 0; usize::from(block.columns.width)]?;
-    let mut pass = RowPass {
-        kept: KeptRows::new(alloc, &block.notes.lasts, block.columns.width)?,
-        counts: vec![in alloc; 0; usize::from(program.agents())]?,
-    };
-    run_on(program, block, &mut pass, &mut row, uses)?;
-    Ok(())
+    let mut pass = RowPass::new(alloc, block, program.agents())?;
+    run_on(program, block, &mut pass, &mut row, uses)
 }
 
 /// Passes over all ticks.
@@ -95,12 +105,13 @@ fn run_on<P: ProgramView, U: RowUse>(
 ) -> Result<(), OutOfMemory>
     requires block { AreBlock (P.program program.now) block.now }
     requires range { AreInRange (P.program program.now) }
+    requires finish { IsFinish (P.program program.now) [] block.now.notes.now.ticks }
     requires row { length row.old ≡ block.now.columns.width }
     requires rows { AreRowsAt (P.program program.now) block.now (IsCounted pass.old.counts.items) 0 pass.old.kept }
     requires counts { AreMid (P.program program.now) 0 0 pass.old.counts.items }
     requires used { U.used (P.program program.now) block.now pass.old.counts.items uses.old }
-    ensures counts { OnOk result (AreMid (P.program program.now) block.now.notes.now.ticks 0 pass.new.counts.items) }
-    ensures used { OnOk result (U.used (P.program program.now) block.now pass.new.counts.items uses.new) }
+    ensures used { OnOk result ((counts : List ℕ) × AreAllCounted (P.program program.now) counts
+        × U.used (P.program program.now) block.now counts uses.new) }
     ensures keeps { OnOk result (U.keeps (P.program program.now) block.now uses.old uses.new) }
 {
     for t in 0..block.notes.ticks {

@@ -1,8 +1,11 @@
 //! Notes on the actions of a program, which are taken before any of their rows is made.
 
-ghost use Rattle.std.specs.Prelude.{◌≡◌, IfOk};
-ghost use Rattle.fleet_model.specs.Program.{AreInRange};
+ghost use Rattle.std.specs.Prelude.{◌≡◌, ◌+◌, length, IfOk};
+ghost use Rattle.fleet_model.specs.Program.{AreInRange, total_moves};
 ghost use Rattle.fleet_rows.specs.Block.{AreNotes};
+ghost use Rattle.fleet_rows.specs.Order.{IsOrder};
+ghost use Rattle.fleet_rows.specs.Places.{ArePlaces};
+ghost use Rattle.fleet_rows.specs.Takers.{AreNoted};
 
 use crate::action_places::ActionPlaces;
 use crate::due_rows::DueRows;
@@ -34,10 +37,7 @@ impl RunNotes {
         ensures ticks { IfOk result (λ notes. notes.ticks ≡ ticks) }
     {
         let places = ActionPlaces::of(alloc, program)?;
-        let actions = total_moves(program) as usize;
-        let mut lasts = vec![in alloc; 0; actions]?;
-        let mut order = FinishOrder::new(alloc, actions, ticks)?;
-        note_ticks(alloc, program, &places, ticks, &mut lasts, &mut order)?;
+        let (lasts, order) = noted(alloc, program, &places, ticks)?;
         let due = DueRows::of(alloc, &lasts, ticks)?;
         Ok(RunNotes {
             places,
@@ -47,4 +47,25 @@ impl RunNotes {
             due,
         })
     }
+}
+
+/// For each action the last of so many ticks that takes it, and the order in which the actions finish.
+fn noted<P: ProgramView>(
+    alloc: Global,
+    program: &P,
+    places: &ActionPlaces,
+    ticks: u32,
+) -> Result<(Vec<u32>, FinishOrder), OutOfMemory>
+    requires range { AreInRange (P.program program.now) }
+    requires places { ArePlaces (P.program program.now) places.now.firsts.items }
+    ensures all { IfOk result (λ noted. length noted.0.items ≡ total_moves (P.program program.now)) }
+    ensures noted { IfOk result (λ noted. AreNoted (P.program program.now) places.now.firsts.items ticks noted.0.items) }
+    ensures order { IfOk result (λ noted. IsOrder (P.program program.now) noted.1) }
+    ensures ends { IfOk result (λ noted. length noted.1.ends.items ≡ ticks + 1) }
+{
+    let actions = total_moves(program) as usize;
+    let mut lasts = vec![in alloc; 0; actions]?;
+    let mut order = FinishOrder::new(alloc, actions, ticks)?;
+    note_ticks(alloc, program, places, ticks, &mut lasts, &mut order)?;
+    Ok((lasts, order))
 }

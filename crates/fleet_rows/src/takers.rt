@@ -5,6 +5,8 @@ ghost use Rattle.std.specs.Prelude.{◌≡◌, ◌+◌, ◌<◌, ◌≤◌, ℕ,
 ghost use Rattle.fleet_model.specs.Program.{AreInRange, awaits_of, total_moves};
 ghost use Rattle.fleet_model.specs.declared.program.Await.{Await};
 ghost use Rattle.fleet_model.specs.Chain.{IsAction, awaited};
+ghost use Rattle.fleet_model.specs.Machine.{opening};
+ghost use Rattle.fleet_machine.specs.Machine.{Runs};
 ghost use Rattle.fleet_rows.specs.Places.{ArePlaces, action_place};
 ghost use Rattle.fleet_rows.specs.Order.{IsTicked, IsOrder};
 ghost use Rattle.fleet_rows.specs.Takers.{AreRaised, AreNoted, IsNotedFor, IsNotedAt};
@@ -38,12 +40,35 @@ pub(crate) fn note_ticks<P: ProgramView>(
     ensures ticks { OnOk result (length order.new.ends.items ≡ ticks + 1) }
 {
     let mut machine = Machine::start(alloc, program)?;
+    note_run(program, places, ticks, &mut machine, lasts, order)
+}
+
+/// The same, by a machine that is at the start.
+fn note_run<P: ProgramView>(
+    program: &P,
+    places: &ActionPlaces,
+    ticks: u32,
+    machine: &mut Machine,
+    lasts: &mut [u32],
+    order: &mut FinishOrder,
+) -> Result<(), OutOfMemory>
+    requires range { AreInRange (P.program program.now) }
+    requires places { ArePlaces (P.program program.now) places.now.firsts.items }
+    requires runs { Runs (P.program program.now) machine.old }
+    requires start { machine.old.configuration ≡ opening (P.program program.now) }
+    requires all { length lasts.old ≡ total_moves (P.program program.now) }
+    requires order { IsOrder (P.program program.now) order.old }
+    requires first { length order.old.ends.items ≡ 1 }
+    ensures noted { OnOk result (AreNoted (P.program program.now) places.now.firsts.items ticks lasts.new) }
+    ensures order { OnOk result (IsOrder (P.program program.now) order.new) }
+    ensures ticks { OnOk result (length order.new.ends.items ≡ ticks + 1) }
+{
     let nobody = [false; MAX_AGENTS];
     let nobody = &nobody[..program.agents() as usize];
     for t in 0..ticks {
         machine.tick(program, nobody);
-        note_moved(program, places, &machine, t, lasts);
-        order.add_tick(program, &machine)?;
+        note_moved(program, places, machine, t, lasts);
+        order.add_tick(program, machine)?;
     }
     Ok(())
 }

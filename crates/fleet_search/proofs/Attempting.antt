@@ -27,11 +27,11 @@ module _ (problem : Problem) (order : List ℕ) (each : IsOrderOf problem order)
   same_task : (place : ℕ) → place < length order → slice_get tasks (get_or order place 0) ≡ slice_get (tasks_by order tasks) place
   same_task place h = sym (task_in_order tasks order place (get_or order place 0) (slice_get-get_or order place 0 h) (agents_below (length tasks) order each place 0 h))
 
-  pub added_made : (place : ℕ) (old new : Plan) → place < length order → Made place old → IsPathAdded problem (get_or order place 0) old new true → Made (place + 1) new
+  pub added_made : (place : ℕ) (old new : Plan) → place < length order → Made place old → IsPathAdded problem (get_or order place 0) problem.horizon old new true → Made (place + 1) new
   added_made place old new l made added =
       in_turn-added (is_passable problem.grid.now) (tasks_by order tasks) problem.horizon place old new added.0 (within place l) made (λ task t. added.2 task (same_task place l ∙ t)) added.1
 
-  pub stuck_attempt : (place : ℕ) (old new paths : Plan) → place < length order → Made place old → IsPathAdded problem (get_or order place 0) old new false → paths ≡ new → IsStuckInOrder (is_passable problem.grid.now) tasks problem.horizon order (length paths) × Made (length paths) paths
+  pub stuck_attempt : (place : ℕ) (old new paths : Plan) → place < length order → Made place old → IsPathAdded problem (get_or order place 0) problem.horizon old new false → paths ≡ new → IsStuckInOrder (is_passable problem.grid.now) tasks problem.horizon order (length paths) × Made (length paths) paths
   stuck_attempt place old new paths l made added e =
       let same : paths ≡ old = e ∙ added.0 in
       let long : place ≡ length paths = sym (ap length same ∙ made.agents) in
@@ -40,7 +40,7 @@ module _ (problem : Problem) (order : List ℕ) (each : IsOrderOf problem order)
         subst (λ z. Made z paths) long (subst (Made place) (sym same) made),
       )
 
-  pub kept_attempt : (old new after kept : Plan) (n : ℕ) → 0 < length order → old ≡ [] → IsPathAdded problem (get_or order 0 0) old new true → IsMadeAfterFirst problem order kept → ArePathsKept new after kept n → Made (n + 1) after
+  pub kept_attempt : (old new after kept : Plan) (n : ℕ) → 0 < length order → old ≡ [] → IsPathAdded problem (get_or order 0 0) problem.horizon old new true → IsMadeAfterFirst problem order kept → ArePathsKept new after kept n → Made (n + 1) after
   kept_attempt old new after kept n some none added made are =
       let one : Made 1 new = added_made 0 old new some (subst (Made 0) (sym none) (none_made (is_passable problem.grid.now) (tasks_by order tasks) problem.horizon)) added in
       let is : new ≡ added.0 ∷ [] = added.1 ∙ ap (λ z. z ++ added.0 ∷ []) none in

@@ -1,19 +1,11 @@
 -- The reservations, as paths are added.
-use Rattle.std.proofs.Common.{◌≡◌, ℕ, zero, suc, ◌+◌, ◌-◌, ◌<◌, min, max, take, List, [], ◌∷◌, ◌++◌, length, get_or, All, refl, sym, ap, ◌∙◌, subst, arith}
-use Rattle.std.proofs.lemmas.List.{take_more}
+use Rattle.std.proofs.Common.{◌≡◌, ℕ, zero, suc, ◌+◌, ◌-◌, max, List, [], ◌∷◌, ◌++◌, length, All, refl, sym, ap, ◌∙◌, subst, arith}
 use Rattle.fleet_model.specs.declared.geometry.Cell.{Cell}
-use Rattle.fleet_model.specs.Program.{origin}
-use Rattle.fleet_plan.specs.Plan.{Plan, IsPath, cell_at, steps}
+use Rattle.fleet_plan.specs.Plan.{Plan, IsPath, steps}
 use Rattle.fleet_search.specs.declared.reservation_table.ReservationTable.{ReservationTable}
 use Rattle.fleet_search.specs.Way.{joined, Fits}
 use Rattle.fleet_search.specs.Occupancies.{AreReserved, AreStays, HaveOccupancies, occupancies_of}
 use Rattle.fleet_search.proofs.OneByOne.{FitTogether-push}
-
-pub take-cell : (path : List Cell) (t : ℕ) (xs ys : List Cell) (c : Cell) → xs ≡ take t path → c ≡ cell_at path t → ys ≡ xs ++ c ∷ [] → t < length path → ys ≡ take (t + 1) path
-unfolding cell_at
-take-cell path t xs ys c e f g h =
-    let at : t ≡ min t (length path - 1) = omega arith in
-    g ∙ ap (λ z. z ++ c ∷ []) e ∙ ap (λ z. take t path ++ z ∷ []) (f ∙ ap (λ n. get_or path n origin) (sym at)) ∙ sym (take_more path t origin h)
 
 steps_push : (xs : Plan) (y : List Cell) → steps (xs ++ y ∷ []) ≡ max (steps xs) (length y - 1)
 unfolding steps

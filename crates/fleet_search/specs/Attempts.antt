@@ -21,13 +21,14 @@ AreTables problem tables = IsReady problem.grid.now tables.distances.labels.item
 abbrev pub IsOrderOf : Problem → List ℕ → Type 0
 IsOrderOf problem order = IsPermutation (rising (length problem.instance.now)) order
 
--- the agent's earliest path past the old ones is the last of the new ones; or it has none, and they stay
-abbrev pub IsPathAdded : Problem → ℕ → (old new : Plan) → Bool → Type 0
-IsPathAdded problem agent old new true =
+-- the agent's earliest path past the old ones that arrives by the horizon is the last of the new ones; or it has none,
+-- and they stay
+abbrev pub IsPathAdded : Problem → ℕ → (horizon : ℕ) → (old new : Plan) → Bool → Type 0
+IsPathAdded problem agent horizon old new true =
     (path : List Cell) × (new ≡ old ++ path ∷ [])
-    × ((task : Task) → slice_get problem.instance.now agent ≡ Some task → IsEarliest (is_passable problem.grid.now) old task.start task.goal problem.horizon path)
-IsPathAdded problem agent old new false =
-    (new ≡ old) × ((task : Task) → slice_get problem.instance.now agent ≡ Some task → IsInfeasible (is_passable problem.grid.now) old task.start task.goal problem.horizon)
+    × ((task : Task) → slice_get problem.instance.now agent ≡ Some task → IsEarliest (is_passable problem.grid.now) old task.start task.goal horizon path)
+IsPathAdded problem agent horizon old new false =
+    (new ≡ old) × ((task : Task) → slice_get problem.instance.now agent ≡ Some task → IsInfeasible (is_passable problem.grid.now) old task.start task.goal horizon)
 
 -- the path was the agent's earliest past some others
 abbrev pub IsOldPath : Problem → ℕ → List Cell → Type 0
@@ -47,10 +48,15 @@ abbrev pub IsMadeAfterFirst : Problem → List ℕ → Plan → Type 0
 IsMadeAfterFirst problem order paths =
     IsPrioritisedPlan (is_passable problem.grid.now) (drop 1 (tasks_by order problem.instance.now)) problem.horizon (length paths) paths
 
--- paths of the agents, as they stand in the order, each the earliest against those before it; or such paths of the
--- agents before one that is left without a path
+-- paths of the agents, as they stand in the order, each the earliest against those before it: of all of them, or of those
+-- before one that is left without a path
+abbrev pub AreReserved : Problem → List ℕ → Plan → (all : Bool) → Type 0
+AreReserved problem order paths true = IsPrioritisedPlan (is_passable problem.grid.now) (tasks_by order problem.instance.now) problem.horizon (length order) paths
+AreReserved problem order paths false =
+    IsStuckInOrder (is_passable problem.grid.now) problem.instance.now problem.horizon order (length paths)
+    × IsPrioritisedPlan (is_passable problem.grid.now) (tasks_by order problem.instance.now) problem.horizon (length paths) paths
+
+-- so are the paths of the outcome
 abbrev pub IsAttempt : Problem → List ℕ → Attempt → Type 0
-IsAttempt problem order (Made paths) = IsPrioritisedPlan (is_passable problem.grid.now) (tasks_by order problem.instance.now) problem.horizon (length order) paths.items
-IsAttempt problem order (Stuck paths) =
-    IsStuckInOrder (is_passable problem.grid.now) problem.instance.now problem.horizon order (length paths.items)
-    × IsPrioritisedPlan (is_passable problem.grid.now) (tasks_by order problem.instance.now) problem.horizon (length paths.items) paths.items
+IsAttempt problem order (Made paths) = AreReserved problem order paths.items true
+IsAttempt problem order (Stuck paths) = AreReserved problem order paths.items false

@@ -1,11 +1,11 @@
 //! Plans made agent by agent in several orders: an agent that is left without a path comes first in the next one.
 
-ghost use Rattle.std.specs.Prelude.{◌≡◌, ◌<◌, ℕ, [], true, length, get_or, IfOk, IfErr, OnOk};
+ghost use Rattle.std.specs.Prelude.{◌≡◌, ◌+◌, ◌<◌, ◌≤◌, ◌⊎◌, ◌++◌, ◌∷◌, ℕ, [], true, false, length, get_or, max, IfOk, IfErr, OnOk, IsTrue};
 ghost use Rattle.fleet_plan.specs.Plan.{IsConflictFree};
 ghost use Rattle.fleet_grid.specs.Ground.{is_passable};
 ghost use Rattle.fleet_search.specs.Way.{Fits};
 ghost use Rattle.fleet_search.specs.Orders.{rising, to_front, paths_by, IsMadeInTries, IsStuckInTries};
-ghost use Rattle.fleet_search.specs.Attempts.{AreTables, ArePathsKept, IsPathAdded, IsMadeAfterFirst, IsOrderOf, IsAttempt, IsOldPath};
+ghost use Rattle.fleet_search.specs.Attempts.{AreTables, ArePathsKept, IsPathAdded, IsMadeAfterFirst, IsOrderOf, AreReserved, IsAttempt, IsOldPath};
 
 use crate::distances::Distances;
 use crate::earliest_path::earliest_over;
@@ -13,7 +13,7 @@ use crate::fault::{PlanStop, SearchFault};
 use crate::frontier::Frontier;
 use crate::reservations::Reservations;
 use fleet_grid::Grid;
-use fleet_model::OutOfMemory;
+use fleet_model::{Cell, OutOfMemory};
 use fleet_plan::{Checked, Path, Plan, PlanFault, check};
 use fleet_scen::Instance;
 use std::alloc::Global;
@@ -42,17 +42,19 @@ enum Attempt {
     Stuck(Vec<Path>),
 }
 
-/// Reserves the earliest path of the agent past the reserved ones. Answers false if it has none.
+/// Reserves the earliest path of the agent past the reserved ones, if one arrives by the horizon. Answers whether one
+/// does.
 fn add_path(
     problem: &Problem<'_>,
     agent: u16,
+    horizon: u16,
     reserved: &mut Reservations,
     tables: &mut Tables,
 ) -> Result<bool, OutOfMemory>
     requires agent { agent < length problem.now.instance.now }
     requires tables { AreTables problem.now tables.old }
     ensures tables { OnOk result (AreTables problem.now tables.new) }
-    ensures added { IfOk result (IsPathAdded problem.now agent reserved.old reserved.new) }
+    ensures added { IfOk result (IsPathAdded problem.now agent horizon reserved.old reserved.new) }
 {
     match earliest_over(
         problem.grid,
@@ -61,15 +63,21 @@ fn add_path(
         &mut tables.frontier,
         problem.instance.start(agent),
         problem.instance.goal(agent),
-        problem.horizon,
+        horizon,
     ) {
-        Ok(path) => {
-            reserved.reserve(&path)?;
-            Ok(true)
-        }
+        Ok(path) => reserve_found(reserved, path),
         Err(SearchFault::NoPath) => Ok(false),
         Err(SearchFault::OutOfMemory) => Err(OutOfMemory),
     }
+}
+
+/// Reserves a path that was found.
+fn reserve_found(reserved: &mut Reservations, path: Path) -> Result<bool, OutOfMemory>
+    requires { Fits reserved.old path }
+    ensures { IfOk result (λ found. (found ≡ true) × (reserved.new ≡ reserved.old ++ path ∷ [])) }
+{
+    reserved.reserve(&path)?;
+    Ok(true)
 }
 
 /// Reserves the agent's earliest path past the reserved ones: `old`, which was the earliest past others and fits,
@@ -86,22 +94,12 @@ fn renew_path(
     requires fits { Fits reserved.old old.now }
     requires tables { AreTables problem.now tables.old }
     ensures tables { OnOk result (AreTables problem.now tables.new) }
-    ensures added { OnOk result (IsPathAdded problem.now agent reserved.old reserved.new true) }
+    ensures added { OnOk result (IsPathAdded problem.now agent problem.now.horizon reserved.old reserved.new true) }
 {
     let steps = old.steps();
     if steps > 0 {
-        match earliest_over(
-            problem.grid,
-            reserved,
-            &mut tables.distances,
-            &mut tables.frontier,
-            problem.instance.start(agent),
-            problem.instance.goal(agent),
-            (steps - 1) as u16,
-        ) {
-            Ok(sooner) => return reserved.reserve(&sooner),
-            Err(SearchFault::NoPath) => (),
-            Err(SearchFault::OutOfMemory) => return Err(OutOfMemory),
+        if add_path(problem, agent, (steps - 1) as u16, reserved, tables)? {
+            return Ok(());
         }
     }
     reserved.reserve(old)
@@ -120,17 +118,16 @@ fn add_path_again(
     requires old { number < length olds.now → IsOldPath problem.now agent (get_or olds.now number []) }
     requires tables { AreTables problem.now tables.old }
     ensures tables { OnOk result (AreTables problem.now tables.new) }
-    ensures added { IfOk result (IsPathAdded problem.now agent reserved.old reserved.new) }
+    ensures added { IfOk result (IsPathAdded problem.now agent problem.now.horizon reserved.old reserved.new) }
 {
-    if number >= olds.len() {
-        return add_path(problem, agent, reserved, tables);
+    if number < olds.len() {
+        let old = &olds[number];
+        if reserved.fits(old) {
+            renew_path(problem, agent, old, reserved, tables)?;
+            return Ok(true);
+        }
     }
-    let old = &olds[number];
-    if !reserved.fits(old) {
-        return add_path(problem, agent, reserved, tables);
-    }
-    renew_path(problem, agent, old, reserved, tables)?;
-    Ok(true)
+    add_path(problem, agent, problem.horizon, reserved, tables)
 }
 
 /// Reserves the paths one after another, up to the first that does not fit, and answers how many.
@@ -163,17 +160,42 @@ fn plan_in_order(
     ensures attempt { IfOk result (IsAttempt problem.now order.now) }
 {
     let mut reserved = Reservations::new(problem.alloc);
-    if !add_path(problem, order[0], &mut reserved, tables)? {
-        return Ok(Attempt::Stuck(reserved.into_paths()));
+    let all = reserve_in_order(problem, order, kept, &mut reserved, tables)?;
+    let paths = reserved.into_paths();
+    Ok(if all {
+        Attempt::Made(paths)
+    } else {
+        Attempt::Stuck(paths)
+    })
+}
+
+/// The same, past no path yet. Answers whether each agent has a path.
+fn reserve_in_order(
+    problem: &Problem<'_>,
+    order: &[u16],
+    kept: &[Path],
+    reserved: &mut Reservations,
+    tables: &mut Tables,
+) -> Result<bool, OutOfMemory>
+    requires order { IsOrderOf problem.now order.now }
+    requires kept { IsMadeAfterFirst problem.now order.now kept.now }
+    requires few { length kept.now < length order.now }
+    requires none { reserved.old ≡ [] }
+    requires tables { AreTables problem.now tables.old }
+    ensures tables { OnOk result (AreTables problem.now tables.new) }
+    ensures attempt { IfOk result (AreReserved problem.now order.now reserved.new) }
+{
+    if !add_path(problem, order[0], problem.horizon, reserved, tables)? {
+        return Ok(false);
     }
-    let first = keep_paths(&mut reserved, kept)? + 1;
+    let first = keep_paths(reserved, kept)? + 1;
     for place in first..order.len() {
         let number = order[place];
-        if !add_path_again(problem, number, kept, place - 1, &mut reserved, tables)? {
-            return Ok(Attempt::Stuck(reserved.into_paths()));
+        if !add_path_again(problem, number, kept, place - 1, reserved, tables)? {
+            return Ok(false);
         }
     }
-    Ok(Attempt::Made(reserved.into_paths()))
+    Ok(true)
 }
 
 /// The numbers of so many agents, rising.
@@ -203,11 +225,16 @@ fn starts(problem: &Problem<'_>) -> Result<Vec<Path>, OutOfMemory>
 {
     let mut paths = Vec::new(problem.alloc);
     for agent in 0..problem.instance.agents() {
-        let mut cells = Vec::new(problem.alloc);
-        cells.push(problem.instance.start(agent))?;
-        paths.push(Path::new(cells))?;
+        paths.push(one_cell(problem.alloc, problem.instance.start(agent))?)?;
     }
     Ok(paths)
+}
+
+/// A path of this cell alone.
+fn one_cell(alloc: Global, cell: Cell) -> Result<Path, OutOfMemory> {
+    let mut cells = Vec::new(alloc);
+    cells.push(cell)?;
+    Ok(Path::new(cells))
 }
 
 /// The paths of an order, as they stand in the order, by the agents' numbers.
@@ -240,28 +267,64 @@ fn plan_in_turns(problem: &Problem<'_>, tries: u32) -> Result<Plan, PlanStop>
         frontier: Frontier::new(problem.alloc),
     };
     let mut order = rising(problem.alloc, problem.instance.agents())?;
+    plan_from(problem, tries, &mut order, &mut tables)
+}
+
+/// The same, with the first order and with tables for the map.
+fn plan_from(
+    problem: &Problem<'_>,
+    tries: u32,
+    order: &mut Vec<u16>,
+    tables: &mut Tables,
+) -> Result<Plan, PlanStop>
+    requires order { order.old.items ≡ rising (length problem.now.instance.now) }
+    requires some { 1 ≤ length problem.now.instance.now }
+    requires tables { AreTables problem.now tables.old }
+    ensures made { IfOk result (IsMadeInTries (is_passable problem.now.grid.now) problem.now.instance.now problem.now.horizon tries) }
+    ensures no_path { IfErr result (λ e. (agent : ℕ) → e ≡ PlanStop.NoPath agent
+        → IsStuckInTries (is_passable problem.now.grid.now) problem.now.instance.now problem.now.horizon tries agent) }
+{
     let mut kept = Vec::new(problem.alloc);
     for failed in 0..tries.max(1) {
-        match plan_in_order(problem, order.as_slice(), kept.as_slice(), &mut tables)? {
-            Attempt::Made(paths) => {
-                return Ok(Plan::new(by_number(problem, order.as_slice(), paths)?));
-            }
+        match plan_in_order(problem, order.as_slice(), kept.as_slice(), tables)? {
+            Attempt::Made(paths) => return plan_by_number(problem, order.as_slice(), paths),
             Attempt::Stuck(paths) => {
                 let place = paths.len();
-                let agent = order[place];
-                // An agent that is first already finds no path in any later try.
-                if place == 0 {
+                if is_last_try(place, failed, tries) {
+                    let agent = order[place];
                     return Err(PlanStop::NoPath { agent });
                 }
-                if failed + 1 >= tries {
-                    return Err(PlanStop::NoPath { agent });
-                }
-                raise(&mut order, place)?;
+                raise(order, place)?;
                 kept = paths;
             }
         }
     }
     unreachable!()
+}
+
+/// Whether no try follows the one that comes after so many, which left the agent at the place without a path: an agent
+/// that is first already finds no path in any later try.
+fn is_last_try(place: usize, failed: u32, tries: u32) -> bool
+    requires { failed < max tries 1 }
+    ensures yes { IsTrue result → (place ≡ 0) ⊎ (tries ≤ failed + 1) }
+    ensures no { result ≡ false → failed + 1 < tries }
+{
+    place == 0 || failed + 1 >= tries
+}
+
+/// The plan of the paths of an order.
+fn plan_by_number(problem: &Problem<'_>, order: &[u16], paths: Vec<Path>) -> Result<Plan, PlanStop>
+    requires order { IsOrderOf problem.now order.now }
+    requires paths { length paths.items ≡ length order.now }
+    ensures plan { IfOk result (λ plan. (length plan ≡ length problem.now.instance.now) × (paths_by order.now plan ≡ paths.items)) }
+    ensures memory { IfErr result (λ e. e ≡ PlanStop.OutOfMemory) }
+{
+    // An instance has 1 to 1,024 agents.
+    let _agents = problem.instance.agents();
+    match by_number(problem, order, paths) {
+        Ok(plan) => Ok(Plan::new(plan)),
+        Err(OutOfMemory) => Err(PlanStop::OutOfMemory),
+    }
 }
 
 /// Plans agent by agent in up to so many orders, and answers the first plan that is found. The first order is that of

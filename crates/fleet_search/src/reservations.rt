@@ -40,10 +40,7 @@ impl Model for Reservations {
 fn copy_of(alloc: Global, path: &Path) -> Result<Path, OutOfMemory>
     ensures { IfOk result (λ p. p ≡ path.now) }
 {
-    let mut cells = Vec::new(alloc);
-    for t in 0..path.steps() + 1 {
-        cells.push(path.cell(t))?;
-    }
+    let cells = Vec::from_slice(alloc, path.cells())?;
     Ok(Path::new(cells))
 }
 

@@ -1,4 +1,4 @@
-use Rattle.fleet_plan.proofs.SweepLaws.{IsSwept}
+use Rattle.fleet_plan.specs.Sweep.{IsSwept}
 use Rattle.fleet_plan.proofs.sweep.sweep.Given as goal
 
 abbrev pub invariant-loop-time : goal.invariant-loop-time

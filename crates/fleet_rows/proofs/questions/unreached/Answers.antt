@@ -1,12 +1,10 @@
-use Rattle.std.proofs.Common.{◌≡◌, ℕ, Bool, true, false, List, length, get_or, sym, subst, ◌∙◌, ap, inl, inr}
+use Rattle.std.proofs.Common.{◌≡◌, Bool, true, false, List, length, get_or, sym, subst, ◌∙◌, ap, inl, inr}
 use Rattle.std.proofs.lemmas.List.{length-replicate}
-use Rattle.std.specs.Prelude.{[]}
-use Rattle.fleet_model.specs.Machine.{IsFinish}
 use Rattle.fleet_rows.proofs.Answered.{near_answer, none_asked, none_flagged_at}
 use Rattle.fleet_rows.proofs.questions.unreached.Goals as goal
 
-pub answer_all-requires-clause-flagged : goal.answer_all-requires-clause-flagged
-answer_all-requires-clause-flagged g c = λ k q e.
+pub answer_rest-requires-clause-flagged : goal.answer_rest-requires-clause-flagged
+answer_rest-requires-clause-flagged g c = λ k q e.
     elim (c.in_ok-asked.ensures.flagged k q e) [
       | inl set ↦ inl (subst (λ (xs : List Bool). get_or xs q.first.agent false ≡ true) (sym c.deref-2.ensures.value) set)
       | inr near ↦ inr (near_answer (g.P.ProgramView.program c.args.program.now) q (get_or c.in_ok-flags.flags.items k false)
@@ -21,11 +19,8 @@ returns-then-not-is_any g c =
     (ap (λ (xs : List Bool). length xs) (c.in_ok-flags.ensures.items_if_clones_equal (λ y same. same)) ∙ length-replicate (length c.args.questions.now) false)
     (λ k. ap (λ (xs : List Bool). get_or xs k false) (c.in_ok-flags.ensures.items_if_clones_equal (λ y same. same)) ∙ none_flagged_at (length c.args.questions.now) k)
 
-pub answer_all-requires-clause-asked : goal.answer_all-requires-clause-asked
-answer_all-requires-clause-asked g c = ap (λ (xs : List Bool). length xs) c.deref-2.ensures.value ∙ c.in_ok-asked.ensures.all
+pub answer_rest-requires-clause-asked : goal.answer_rest-requires-clause-asked
+answer_rest-requires-clause-asked g c = ap (λ (xs : List Bool). length xs) c.deref-2.ensures.value ∙ c.in_ok-asked.ensures.all
 
-pub answer_all-requires-clause-flags : goal.answer_all-requires-clause-flags
-answer_all-requires-clause-flags g c = ap (λ (xs : List Bool). length xs) (c.in_ok-flags.ensures.items_if_clones_equal (λ y same. same)) ∙ length-replicate (length c.args.questions.now) false
-
-pub answer_all-requires-clause-finish : goal.answer_all-requires-clause-finish
-answer_all-requires-clause-finish g c = subst (λ (n : ℕ). IsFinish (g.P.ProgramView.program c.args.program.now) [] n) (sym c.in_ok-notes.ensures.ticks) c.requires.finish
+pub answer_rest-requires-clause-flags : goal.answer_rest-requires-clause-flags
+answer_rest-requires-clause-flags g c = ap (λ (xs : List Bool). length xs) (c.in_ok-flags.ensures.items_if_clones_equal (λ y same. same)) ∙ length-replicate (length c.args.questions.now) false

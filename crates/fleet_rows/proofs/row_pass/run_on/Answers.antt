@@ -1,4 +1,6 @@
-use Rattle.fleet_rows.specs.Order.{IsCounted}
+use Rattle.std.proofs.Common.{◌≡◌, subst, arith}
+use Rattle.fleet_rows.specs.Order.{IsCounted, AreMid}
+use Rattle.fleet_rows.proofs.Counting.{all_counted}
 use Rattle.fleet_rows.proofs.Passing.{rows_freed}
 use Rattle.fleet_rows.proofs.row_pass.run_on.Goals as goal
 
@@ -21,3 +23,10 @@ loop-t-init g c = record {
   used = c.requires.used;
   keeps = g.met.U.RowUse.same (g.P.ProgramView.program c.args.program.now) c.args.block.now c.args.uses.now;
 }
+
+pub returns-clause-used : goal.returns-clause-used
+returns-clause-used g c =
+    let p = g.P.ProgramView.program c.args.program.now in
+    let counts = c.loop-t.pass.counts.items in
+    let end : c.loop-t.t ≡ c.args.block.now.notes.now.ticks = omega arith in
+    (counts, all_counted p c.args.block.now.notes.now.ticks counts c.requires.finish.holds (subst (λ n. AreMid p n 0 counts) end c.loop-t.invariant.counts), c.loop-t.invariant.used)

@@ -1,6 +1,8 @@
-use Rattle.std.proofs.Common.{refl, subst}
+use Rattle.std.proofs.Common.{refl, sym, subst}
+use Rattle.std.proofs.lemmas.Result.{IfOk-weaker}
 use Rattle.fleet_grid.specs.Ground.{is_passable}
-use Rattle.fleet_search.specs.Way.{IsInfeasible}
+use Rattle.fleet_search.specs.Way.{IsEarliest, IsInfeasible}
+use Rattle.fleet_search.specs.Attempts.{IsPathAdded}
 use Rattle.fleet_search.proofs.InTurnLaws.{read_task}
 use Rattle.fleet_search.proofs.orders.add_path.Goals as goal
 
@@ -10,7 +12,26 @@ returns-in-Err-NoPath-clause-added c = (
   λ task t.
       let passable = is_passable c.args.problem.now.grid.now in
       let plan = c.args.reserved.now in
-      let horizon = c.args.problem.now.horizon in
+      let horizon = c.args.horizon in
       let r = read_task c.args.problem.now.instance.now c.args.agent c.start.result c.goal.result c.start.ensures c.goal.ensures task t in
       subst (λ z. IsInfeasible passable plan z task.goal horizon) r.0 (subst (λ z. IsInfeasible passable plan c.start.result z horizon) r.1 (c.in-Err-NoPath.ensures.no_path c.in-Err-NoPath.field-0-is)),
 )
+
+pub returns-in-Ok-clause-tables : goal.returns-in-Ok-clause-tables
+returns-in-Ok-clause-tables c = IfOk-weaker c.reserve_found.result _ _ (λ _ _. c.in-Ok.ensures.ready) c.reserve_found.ensures
+
+pub returns-in-Ok-clause-added : goal.returns-in-Ok-clause-added
+returns-in-Ok-clause-added c =
+    let passable = is_passable c.args.problem.now.grid.now in
+    let plan = c.args.reserved.now in
+    let horizon = c.args.horizon in
+    let path = c.in-Ok.path in
+    IfOk-weaker c.reserve_found.result _ (IsPathAdded c.args.problem.now c.args.agent horizon plan c.reserve_found.new.reserved)
+    (λ found p. subst (IsPathAdded c.args.problem.now c.args.agent horizon plan c.reserve_found.new.reserved) (sym p.0) (
+      path,
+      p.1,
+      λ task t.
+          let r = read_task c.args.problem.now.instance.now c.args.agent c.start.result c.goal.result c.start.ensures c.goal.ensures task t in
+          subst (λ z. IsEarliest passable plan z task.goal horizon path) r.0 (subst (λ z. IsEarliest passable plan c.start.result z horizon path) r.1 c.in-Ok.ensures.ok),
+    ))
+    c.reserve_found.ensures

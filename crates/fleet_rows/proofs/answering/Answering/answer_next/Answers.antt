@@ -37,3 +37,15 @@ index_mut-requires g c =
     let q = c.ends_with.ensures.0 c.if-ends_with.true in
     let within = slice_get_within c.args.self.now.questions.now c.args.self.now.next q.0 q.1 in
     omega (arith, within, c.requires.flags)
+
+pub index-requires : goal.index-requires
+index-requires g c =
+    let q = c.ends_with.ensures.0 c.if-ends_with.true in
+    let within = slice_get_within c.args.self.now.questions.now c.args.self.now.next q.0 q.1 in
+    omega (arith, within, c.requires.flags)
+
+pub answer_one-requires-clause-block : goal.answer_one-requires-clause-block
+answer_one-requires-clause-block g c = c.requires.block
+
+pub answer_one-requires-clause-room : goal.answer_one-requires-clause-room
+answer_one-requires-clause-room g c = c.requires.row

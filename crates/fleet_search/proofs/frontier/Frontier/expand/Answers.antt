@@ -35,3 +35,12 @@ returns-clause-grows c =
     let s3 = c.successors_towards-3.new.self in
     let s4 = c.successors_towards-4.new.self in
     Grows-then c.args.self.now s1 s4 c.in_ok-successors_towards.ensures.expands_on.grows (Grows-then s1 s2 s4 c.in_ok-successors_towards-2.ensures.expands_on.grows (Grows-then s2 s3 s4 c.in_ok-successors_towards-3.ensures.expands_on.grows c.in_ok-successors_towards-4.ensures.expands_on.grows))
+
+pub interval-interval-requires-clause-measured : goal.interval-interval-requires-clause-measured
+interval-interval-requires-clause-measured c = c.requires.frontier.measured
+
+pub is_superseded-requires-clause-frontier : goal.is_superseded-requires-clause-frontier
+is_superseded-requires-clause-frontier c = c.requires.frontier
+
+pub is_superseded-requires-clause-left : goal.is_superseded-requires-clause-left
+is_superseded-requires-clause-left c = c.requires.left

@@ -1,4 +1,5 @@
 use Rattle.std.proofs.Common.{◌≡◌, ◌+◌, ◌-◌, ◌≤◌, length, inr, sym, ap, ◌∙◌, subst, arith}
+use Rattle.fleet_search.proofs.Spread.{on_map}
 use Rattle.std.proofs.lemmas.Bool.{both_ways}
 use Rattle.fleet_model.specs.Geometry.{place_of}
 use Rattle.fleet_grid.specs.Ground.{is_passable}
@@ -57,3 +58,24 @@ returns-clause-expands_on c =
     let waits = c.requires.waits in
     let late = bucket-next q l.state (record { time = c.args.begin + 1; cell = cell }) c.args.bucket c.bucket.result c.requires.leaving.left.bucket bucket (omega arith) near.1 in
     expands_on q c.args.bucket l s _ c.requires.leaving (pushed q (c.args.bucket - 1) l.place r labels s.open_list.items fr l.state c.requires.leaving.left.within c.requires.leaving.left.here c.args.begin cell c.args.interval (subst (λ z. IsInInterval z c.args.interval (c.args.begin + 1)) c.requires.neighbour.occupancies c.requires.interval) unseen move in_time c.push.new.self.items new c.put.new.rows.items c.bucket.result c.in_ok-push.ensures.items set bucket put late) (pushed-grows s _ (record { state = record { time = c.args.begin + 1; cell = cell }; parent = l.place }) c.in_ok-push.ensures.items)
+
+pub cell_index-number-requires-clause-column : goal.cell_index-number-requires-clause-column
+cell_index-number-requires-clause-column c = (on_map c.args.query.now.grid.now c.args.neighbour.now.cell c.requires.leaving.frontier.measured.heuristic.ready.map c.requires.neighbour.on_ground).0
+
+pub cell_index-number-requires-clause-row : goal.cell_index-number-requires-clause-row
+cell_index-number-requires-clause-row c = (on_map c.args.query.now.grid.now c.args.neighbour.now.cell c.requires.leaving.frontier.measured.heuristic.ready.map c.requires.neighbour.on_ground).1
+
+pub fits-requires-clause-few : goal.fits-requires-clause-few
+fits-requires-clause-few c = omega (arith, c.requires.leaving.horizon)
+
+pub fits-requires-clause-until : goal.fits-requires-clause-until
+fits-requires-clause-until c = c.requires.leaving.until
+
+pub fits-requires-clause-waits : goal.fits-requires-clause-waits
+fits-requires-clause-waits c = c.requires.waits
+
+pub heuristic-heuristic-requires-clause-cell : goal.heuristic-heuristic-requires-clause-cell
+heuristic-heuristic-requires-clause-cell c = c.requires.neighbour.on_ground
+
+pub heuristic-heuristic-requires-clause-measured : goal.heuristic-heuristic-requires-clause-measured
+heuristic-heuristic-requires-clause-measured c = c.requires.leaving.frontier.measured

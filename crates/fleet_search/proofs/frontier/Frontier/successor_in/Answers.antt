@@ -16,3 +16,15 @@ returns-clause-found c =
     let first = subst (λ z. IsEarliestWithin z c.args.interval (c.args.left.state.time + 1) c.in-Some.time) c.requires.neighbour.occupancies c.in-Some.ensures.some in
     let later = first.later in
     found_in-first c.args.query.now c.requires.leaving.frontier.measured c.push_successor.new.self.nodes.items c.args.left.state c.args.neighbour.now.cell c.args.interval c.in-Some.time (c.in-Some.time - 1) first (omega arith) c.in_ok-push_successor.ensures.found
+
+pub push_successor-requires-clause-leaving : goal.push_successor-requires-clause-leaving
+push_successor-requires-clause-leaving c = c.requires.leaving
+
+pub push_successor-requires-clause-neighbour : goal.push_successor-requires-clause-neighbour
+push_successor-requires-clause-neighbour c = c.requires.neighbour
+
+pub earliest_within-requires-clause-bound : goal.earliest_within-requires-clause-bound
+earliest_within-requires-clause-bound c = c.requires.interval
+
+pub returns-clause-expands_on : goal.returns-clause-expands_on
+returns-clause-expands_on c = c.in_ok-push_successor.ensures.expands_on

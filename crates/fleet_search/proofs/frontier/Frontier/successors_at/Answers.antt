@@ -36,3 +36,6 @@ returns-clause-found c =
     let q = c.args.query.now in
     let same = ap length c.requires.neighbour.occupancies in
     turned q c.requires.leaving.frontier.measured c.args.bucket c.args.left c.args.neighbour.now.cell c.loop-interval.interval c.args.self.now c.loop-interval.self c.loop-interval.invariant (omega arith) (λ i h l. absurd (omega arith))
+
+pub returns-clause-expands_on : goal.returns-clause-expands_on
+returns-clause-expands_on c = c.loop-interval.invariant.on

@@ -1,0 +1,8 @@
+use Rattle.fleet_grid.specs.Ground.{is_passable}
+use Rattle.fleet_search.specs.InTurn.{IsPrioritisedPlan}
+use Rattle.fleet_search.specs.Orders.{tasks_by}
+use Rattle.fleet_search.specs.Attempts.{AreTables}
+use Rattle.fleet_search.proofs.orders.reserve_in_order.Given as goal
+
+abbrev pub invariant-loop-place : goal.invariant-loop-place
+invariant-loop-place l = IsPrioritisedPlan (is_passable l.problem.grid.now) (tasks_by l.order l.problem.instance.now) l.problem.horizon l.place l.reserved × AreTables l.problem l.tables

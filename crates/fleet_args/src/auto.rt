@@ -13,7 +13,7 @@ use fleet_model::Deps;
 use std::alloc::{AllocError, Global};
 
 /// `fleet auto MAP SCEN [--agents K] [--horizon H] [--tries N] [--deps DEPS] [--holds FILE]`
-#[derive(Clone, Copy, Debug, PartialEq, Eq)]
+#[derive(Clone, Copy)]
 pub struct AutoRequest<'a> {
     pub map: &'a str,
     pub scen: &'a str,

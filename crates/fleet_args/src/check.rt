@@ -12,7 +12,7 @@ use clap::{ArgMatches, Command};
 use std::alloc::{AllocError, Global};
 
 /// `fleet check MAP SCEN PLAN [--agents K]`
-#[derive(Clone, Copy, Debug, PartialEq, Eq)]
+#[derive(Clone, Copy)]
 pub struct CheckRequest<'a> {
     pub map: &'a str,
     pub scen: &'a str,

@@ -13,7 +13,7 @@ use fleet_model::Deps;
 use std::alloc::{AllocError, Global};
 
 /// `fleet compile MAP SCEN PLAN OUT [--agents K] [--deps DEPS] [--dwell N]`
-#[derive(Clone, Copy, Debug, PartialEq, Eq)]
+#[derive(Clone, Copy)]
 pub struct CompileRequest<'a> {
     pub map: &'a str,
     pub scen: &'a str,

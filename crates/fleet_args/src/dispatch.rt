@@ -11,7 +11,7 @@ use clap::{ArgMatches, Command};
 use std::alloc::{AllocError, Global};
 
 /// `fleet dispatch MAP SCEN PROGRAM [--agents K]`
-#[derive(Clone, Copy, Debug, PartialEq, Eq)]
+#[derive(Clone, Copy)]
 pub struct DispatchRequest<'a> {
     pub map: &'a str,
     pub scen: &'a str,

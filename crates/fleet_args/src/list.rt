@@ -11,7 +11,7 @@ use clap::{ArgMatches, Command};
 use std::alloc::{AllocError, Global};
 
 /// `fleet list PROGRAM`
-#[derive(Clone, Copy, Debug, PartialEq, Eq)]
+#[derive(Clone, Copy)]
 pub struct ListRequest<'a> {
     pub program: &'a str,
 }

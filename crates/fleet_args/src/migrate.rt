@@ -11,7 +11,7 @@ use clap::{ArgMatches, Command};
 use std::alloc::{AllocError, Global};
 
 /// `fleet migrate PROGRAM OUT`
-#[derive(Clone, Copy, Debug, PartialEq, Eq)]
+#[derive(Clone, Copy)]
 pub struct MigrateRequest<'a> {
     pub program: &'a str,
     pub out: &'a str,

@@ -12,7 +12,7 @@ use clap::{ArgMatches, Command};
 use std::alloc::{AllocError, Global};
 
 /// `fleet plan MAP SCEN [--agents K] [--horizon H] [--tries N]`
-#[derive(Clone, Copy, Debug, PartialEq, Eq)]
+#[derive(Clone, Copy)]
 pub struct PlanRequest<'a> {
     pub map: &'a str,
     pub scen: &'a str,

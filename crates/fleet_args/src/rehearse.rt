@@ -11,7 +11,7 @@ use clap::{ArgMatches, Command};
 use std::alloc::{AllocError, Global};
 
 /// `fleet rehearse PROGRAM [--holds FILE]`
-#[derive(Clone, Copy, Debug, PartialEq, Eq)]
+#[derive(Clone, Copy)]
 pub struct RehearseRequest<'a> {
     pub program: &'a str,
     pub holds: Option<&'a str>,

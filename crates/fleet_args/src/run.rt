@@ -11,7 +11,7 @@ use clap::{ArgMatches, Command};
 use std::alloc::{AllocError, Global};
 
 /// `fleet run MAP SCEN PROGRAM [--agents K] [--holds FILE]`
-#[derive(Clone, Copy, Debug, PartialEq, Eq)]
+#[derive(Clone, Copy)]
 pub struct RunRequest<'a> {
     pub map: &'a str,
     pub scen: &'a str,

@@ -1,6 +1,7 @@
 -- The words and options of the commands, as what a parse reads of them.
-use Rattle.std.specs.Prelude.{◌≡◌, true, false, List, [], ◌∷◌, Some, codes, pos, fold, map}
+use Rattle.std.specs.Prelude.{◌≡◌, true, false, List, [], ◌∷◌, Option, None, Some, codes, pos, fold, map, if◌then◌else◌}
 use Rattle.std.specs.Borrow.{Bor}
+use Rattle.std.specs.Option.{option_map_or}
 use Rattle.clap.specs.Words.{App, Shape, Rule, Text, app_of, new_app, new_rule, with_rule, shape_of, rule_of}
 use Rattle.clap.specs.declared.builder.Arg.{Arg}
 use Rattle.clap.specs.declared.builder.Command.TheViews.{out-Command as fields_of}
@@ -10,6 +11,10 @@ use Rattle.clap.specs.declared.builder.ValueParser.TheVariants as parser
 use Rattle.fleet_model.specs.declared.limits.TheConstants.{MAX_MOVES, MAX_TRIES}
 use Rattle.fleet_args.specs.declared.arguments.Argument.{Argument}
 use Rattle.fleet_args.specs.declared.arguments.Argument.TheVariants as a
+use Rattle.fleet_args.specs.declared.arguments.ArgumentText.{ArgumentText}
+use Rattle.fleet_args.specs.declared.arguments.CommandText.{CommandText}
+use Rattle.fleet_args.specs.declared.arguments.Values.{Values}
+use Rattle.fleet_args.specs.declared.arguments.Values.TheVariants as values
 
 -- a word that has to be there, at its place among such words
 abbrev pub word : Text → Rule
@@ -51,6 +56,27 @@ deps_rule names = record (option (codes "deps")) { parser = Some (parser.Names n
 abbrev pub dwell_rule : Rule
 dwell_rule = record (option (codes "dwell")) { parser = Some (parser.Signed (pos 0) (pos MAX_MOVES)); defaults = codes "0" ∷ [] }
 
+-- the rule of an argument that takes any text and has no default
+abbrev pub plain_rule : ArgumentText → Rule
+plain_rule text = record (new_rule text.name.now) {
+  required = text.is_word;
+  long = if text.is_word then None else Some text.name.now;
+  value_names = 1;
+}
+
+-- how the values of an argument are read
+abbrev pub parser_for : DepsNames → Values → Option ValueParser
+parser_for names values.Text = None
+parser_for names (values.Numbers least most) = Some (parser.Signed least most)
+parser_for names values.Deps = Some (parser.Names names)
+
+-- the rule of what an argument is
+abbrev pub rule_by : DepsNames → ArgumentText → Rule
+rule_by names text = record (plain_rule text) {
+  parser = parser_for names text.values;
+  defaults = option_map_or (λ default. default.now ∷ []) text.default [];
+}
+
 -- the rule of each argument
 abbrev pub rule_for : DepsNames → Argument → Rule
 rule_for names a.Map = word (codes "map")
@@ -68,6 +94,10 @@ rule_for names a.Holds = option (codes "holds")
 -- a command without subcommands, by its name and its arguments
 abbrev pub command : Text → List Rule → Shape
 command name rules = (fold with_rule (new_app name) rules).top
+
+-- the shape of a command, by its name and its arguments
+abbrev pub shape_for : DepsNames → CommandText → Shape
+shape_for names text = command text.name.now (map (rule_for names) text.arguments.now)
 
 -- the argument has this rule, and does not reach into other commands
 abbrev pub IsArg : Rule → Arg → Type 0

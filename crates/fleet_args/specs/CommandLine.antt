@@ -14,8 +14,6 @@ use Rattle.fleet_args.specs.Thin.{thin_shape}
 use Rattle.fleet_args.specs.Migrate.{migrate_shape}
 use Rattle.fleet_args.specs.List.{list_shape}
 use Rattle.fleet_args.specs.Dispatch.{dispatch_shape}
-use Rattle.fleet_args.specs.declared.command_line.CommandKind.{CommandKind}
-use Rattle.fleet_args.specs.declared.command_line.CommandKind.TheVariants as kind
 
 -- the command line before it has commands: its words do not begin with the program's name, it has a version, and one of the commands is
 -- wanted
@@ -27,21 +25,6 @@ fleet_top = record (new_app (codes "fleet")) {
 -- the command line with commands of these shapes, one after another
 abbrev pub with_shapes : App → List Shape → App
 with_shapes = fold with_subcommand
-
--- the shape of each command
-abbrev pub shape_for : DepsNames → CommandKind → Shape
-shape_for names kind.Instance = instance_shape
-shape_for names kind.Check = check_shape
-shape_for names kind.Plan = plan_shape
-shape_for names kind.Compile = compile_shape names
-shape_for names kind.Verify = verify_shape
-shape_for names kind.Run = run_shape
-shape_for names kind.Rehearse = rehearse_shape
-shape_for names kind.Auto = auto_shape names
-shape_for names kind.Thin = thin_shape
-shape_for names kind.Migrate = migrate_shape
-shape_for names kind.List = list_shape
-shape_for names kind.Dispatch = dispatch_shape
 
 -- the commands that make plans and programs
 abbrev pub making : DepsNames → List Shape

@@ -1,8 +1,8 @@
 //! The words and options of the commands, as `clap` reads them.
 
-ghost use Rattle.std.specs.Prelude.{IfOk, codes, fold, map};
+ghost use Rattle.std.specs.Prelude.{◌≡◌, IfOk, None, fold, map};
 ghost use Rattle.clap.specs.Words.{app_of, with_rule};
-ghost use Rattle.fleet_args.specs.Arguments.{IsArg, IsLeafCommand, word, IsApp, IsLocal, option, agents_rule, horizon_rule, tries_rule, deps_rule, dwell_rule, rule_for, command, defaulted};
+ghost use Rattle.fleet_args.specs.Arguments.{IsArg, IsLeafCommand, IsApp, IsLocal, DepsNames, plain_rule, parser_for, rule_by, rule_for, shape_for};
 
 use clap::builder::ValueParser;
 use clap::{Arg, Command};
@@ -25,189 +25,200 @@ pub(crate) enum Argument {
     Holds,
 }
 
-/// A word that the command needs, at its place among such words.
-fn positional<'a>(alloc: Global, id: &'a str, name: &'a str, help: &'a str) -> Arg<'a>
-    ensures { IsArg (word id.entry.now) result }
-{
-    Arg::new(alloc, id)
-        .required(true)
-        .value_name(name)
-        .help(help)
+/// The values that an argument takes.
+#[derive(Clone, Copy)]
+pub(crate) enum Values {
+    /// Any text.
+    Text,
+    /// The numbers from the first to the second.
+    Numbers(i64, i64),
+    /// The names of the kinds of awaits.
+    Deps,
 }
 
-/// An option `--NAME` with one value.
-fn option<'a>(alloc: Global, name: &'a str, value: &'a str, help: &'a str) -> Arg<'a>
-    ensures { IsArg (option name.entry.now) result }
-{
-    Arg::new(alloc, name)
-        .long(name)
-        .value_name(value)
-        .help(help)
+/// What an argument is: a word that the command needs, at its place among such words, or else an option `--NAME` with one value.
+#[derive(Clone, Copy)]
+struct ArgumentText {
+    name: &'static str,
+    value: &'static str,
+    help: &'static str,
+    is_word: bool,
+    values: Values,
+    default: Option<&'static str>,
 }
 
-/// An option `--NAME` with one value that this parser takes, and a default.
-fn with_default<'a>(
-    alloc: Global,
-    name: &'a str,
-    value: &'a str,
-    help: &'a str,
-    parser: ValueParser<'a>,
-    default: &'a str,
-) -> Arg<'a>
-    ensures { IsArg (defaulted name.entry.now parser.entry default.entry.now) result }
-{
-    option(alloc, name, value, help)
-        .value_parser(parser)
-        .default_value(default)
+/// A command: its name, its text for help, and its arguments.
+#[derive(Clone, Copy)]
+pub(crate) struct CommandText {
+    pub(crate) name: &'static str,
+    pub(crate) about: &'static str,
+    pub(crate) arguments: &'static [Argument],
 }
 
-fn map<'a>(alloc: Global) -> Arg<'a>
-    ensures { IsArg (word (codes "map")) result }
+const MAP: ArgumentText = ArgumentText {
+    name: "map",
+    value: "MAP",
+    help: "Map file (MovingAI), each side 1 to 4096",
+    is_word: true,
+    values: Values::Text,
+    default: None,
+};
+
+const SCEN: ArgumentText = ArgumentText {
+    name: "scen",
+    value: "SCEN",
+    help: "Scenario file (MovingAI), one line per agent",
+    is_word: true,
+    values: Values::Text,
+    default: None,
+};
+
+const PLAN: ArgumentText = ArgumentText {
+    name: "plan",
+    value: "PLAN",
+    help: "Plan text: a line per agent, its cells x,y at times 0, 1, 2 ..",
+    is_word: true,
+    values: Values::Text,
+    default: None,
+};
+
+const OUT: ArgumentText = ArgumentText {
+    name: "out",
+    value: "OUT",
+    help: "The file to which the program bytes are written",
+    is_word: true,
+    values: Values::Text,
+    default: None,
+};
+
+const PROGRAM: ArgumentText = ArgumentText {
+    name: "program",
+    value: "PROGRAM",
+    help: "Program file (bytes, not hexadecimal)",
+    is_word: true,
+    values: Values::Text,
+    default: None,
+};
+
+const AGENTS: ArgumentText = ArgumentText {
+    name: "agents",
+    value: "K",
+    help: "Take the first K agents of the scenario, 1 to 1024 [default: all]",
+    is_word: false,
+    values: Values::Numbers(0, u16::MAX as i64),
+    default: None,
+};
+
+const HORIZON: ArgumentText = ArgumentText {
+    name: "horizon",
+    value: "H",
+    help: "The latest time at which an agent may arrive, 1 to 65535; below its shortest way there is no path",
+    is_word: false,
+    values: Values::Numbers(1, u16::MAX as i64),
+    default: Some("1024"),
+};
+
+const TRIES: ArgumentText = ArgumentText {
+    name: "tries",
+    value: "N",
+    help: "How many orders of the agents are tried, 1 to 1000000: an agent that finds no path is planned first in the next one",
+    is_word: false,
+    values: Values::Numbers(1, MAX_TRIES as i64),
+    default: Some("1"),
+};
+
+/// Which earlier leavings of a cell an action awaits.
+const DEPS: ArgumentText = ArgumentText {
+    name: "deps",
+    value: "DEPS",
+    help: "What a move into a cell waits for: the last leaving by each other agent (all), or only the latest leaving (last)",
+    is_word: false,
+    values: Values::Deps,
+    default: Some("last"),
+};
+
+const DWELL: ArgumentText = ArgumentText {
+    name: "dwell",
+    value: "N",
+    help: "How many actions each agent stays on its last cell after its moves, 0 to 1000000",
+    is_word: false,
+    values: Values::Numbers(0, MAX_MOVES as i64),
+    default: Some("0"),
+};
+
+const HOLDS: ArgumentText = ArgumentText {
+    name: "holds",
+    value: "FILE",
+    help: "Holds text: a line per tick, - for nobody or the numbers of the held agents, rising [default: nobody is held]",
+    is_word: false,
+    values: Values::Text,
+    default: None,
+};
+
+/// What this argument is.
+fn text_of(argument: Argument) -> ArgumentText
+    ensures { (names : DepsNames) → rule_by names result ≡ rule_for names argument }
 {
-    positional(
-        alloc,
-        "map",
-        "MAP",
-        "Map file (MovingAI), each side 1 to 4096",
-    )
+    match argument {
+        Argument::Map => MAP,
+        Argument::Scen => SCEN,
+        Argument::Plan => PLAN,
+        Argument::Out => OUT,
+        Argument::Program => PROGRAM,
+        Argument::Agents => AGENTS,
+        Argument::Horizon => HORIZON,
+        Argument::Tries => TRIES,
+        Argument::Deps => DEPS,
+        Argument::Dwell => DWELL,
+        Argument::Holds => HOLDS,
+    }
 }
 
-fn scen<'a>(alloc: Global) -> Arg<'a>
-    ensures { IsArg (word (codes "scen")) result }
+/// How `clap` reads these values, where these are the names of the kinds of awaits.
+fn parser_for<'a>(names: &'a [&'a str], values: Values) -> Option<ValueParser<'a>>
+    ensures { result ≡ parser_for names.entry values }
 {
-    positional(
-        alloc,
-        "scen",
-        "SCEN",
-        "Scenario file (MovingAI), one line per agent",
-    )
+    match values {
+        Values::Text => None,
+        Values::Numbers(least, most) => Some(ValueParser::Signed(least, most)),
+        Values::Deps => Some(ValueParser::Names(names)),
+    }
 }
 
-fn plan<'a>(alloc: Global) -> Arg<'a>
-    ensures { IsArg (word (codes "plan")) result }
+/// The argument as `clap` takes it, if it takes any text and has no default.
+fn plain_arg<'a>(alloc: Global, text: ArgumentText) -> Arg<'a>
+    ensures { IsArg (plain_rule text) result }
 {
-    positional(
-        alloc,
-        "plan",
-        "PLAN",
-        "Plan text: a line per agent, its cells x,y at times 0, 1, 2 ..",
-    )
+    let arg = Arg::new(alloc, text.name)
+        .value_name(text.value)
+        .help(text.help);
+    if text.is_word {
+        arg.required(true)
+    } else {
+        arg.long(text.name)
+    }
 }
 
-fn out<'a>(alloc: Global) -> Arg<'a>
-    ensures { IsArg (word (codes "out")) result }
+/// The argument, with this parser if there is one.
+fn with_parser<'a>(arg: Arg<'a>, parser: Option<ValueParser<'a>>) -> Arg<'a>
+    requires { arg.value_parser ≡ None }
+    ensures { result ≡ record arg.entry { value_parser = parser.entry } }
 {
-    positional(
-        alloc,
-        "out",
-        "OUT",
-        "The file to which the program bytes are written",
-    )
-}
-
-fn program<'a>(alloc: Global) -> Arg<'a>
-    ensures { IsArg (word (codes "program")) result }
-{
-    positional(
-        alloc,
-        "program",
-        "PROGRAM",
-        "Program file (bytes, not hexadecimal)",
-    )
-}
-
-fn agents<'a>(alloc: Global) -> Arg<'a>
-    ensures { IsArg agents_rule result }
-{
-    option(
-        alloc,
-        "agents",
-        "K",
-        "Take the first K agents of the scenario, 1 to 1024 [default: all]",
-    )
-    .value_parser(clap::value_parser!(u16))
-}
-
-fn horizon<'a>(alloc: Global) -> Arg<'a>
-    ensures { IsArg horizon_rule result }
-{
-    with_default(
-        alloc,
-        "horizon",
-        "H",
-        "The latest time at which an agent may arrive, 1 to 65535; below its shortest way there is no path",
-        clap::value_parser!(u16).range(1..),
-        "1024",
-    )
-}
-
-fn tries<'a>(alloc: Global) -> Arg<'a>
-    ensures { IsArg tries_rule result }
-{
-    with_default(
-        alloc,
-        "tries",
-        "N",
-        "How many orders of the agents are tried, 1 to 1000000: an agent that finds no path is planned first in the next one",
-        clap::value_parser!(u32).range(1..=MAX_TRIES as i64),
-        "1",
-    )
-}
-
-/// Which earlier leavings of a cell an action awaits, by these names.
-fn deps<'a>(alloc: Global, names: &'a [&'a str]) -> Arg<'a>
-    ensures { IsArg (deps_rule names.entry) result }
-{
-    option(
-        alloc,
-        "deps",
-        "DEPS",
-        "What a move into a cell waits for: the last leaving by each other agent (all), or only the latest leaving (last)",
-    )
-    .value_parser(names)
-    .default_value("last")
-}
-
-fn dwell<'a>(alloc: Global) -> Arg<'a>
-    ensures { IsArg dwell_rule result }
-{
-    with_default(
-        alloc,
-        "dwell",
-        "N",
-        "How many actions each agent stays on its last cell after its moves, 0 to 1000000",
-        clap::value_parser!(u32).range(0..=MAX_MOVES as i64),
-        "0",
-    )
-}
-
-fn holds<'a>(alloc: Global) -> Arg<'a>
-    ensures { IsArg (option (codes "holds")) result }
-{
-    option(
-        alloc,
-        "holds",
-        "FILE",
-        "Holds text: a line per tick, - for nobody or the numbers of the held agents, rising [default: nobody is held]",
-    )
+    match parser {
+        Some(parser) => arg.value_parser(parser),
+        None => arg,
+    }
 }
 
 /// The argument as `clap` takes it, where these are the names of the kinds of awaits.
 fn arg_of<'a>(alloc: Global, names: &'a [&'a str], argument: Argument) -> Arg<'a>
     ensures { IsArg (rule_for names.entry argument) result }
 {
-    match argument {
-        Argument::Map => map(alloc),
-        Argument::Scen => scen(alloc),
-        Argument::Plan => plan(alloc),
-        Argument::Out => out(alloc),
-        Argument::Program => program(alloc),
-        Argument::Agents => agents(alloc),
-        Argument::Horizon => horizon(alloc),
-        Argument::Tries => tries(alloc),
-        Argument::Deps => deps(alloc, names),
-        Argument::Dwell => dwell(alloc),
-        Argument::Holds => holds(alloc),
+    let text = text_of(argument);
+    let arg = with_parser(plain_arg(alloc, text), parser_for(names, text.values));
+    match text.default {
+        Some(default) => arg.default_value(default),
+        None => arg,
     }
 }
 
@@ -230,20 +241,18 @@ fn with_arguments<'a>(
     }
 }
 
-/// A command with these arguments, where these are the names of the kinds of awaits.
+/// The command, where these are the names of the kinds of awaits.
 pub(crate) fn command_of<'a>(
     alloc: Global,
     names: &'a [&'a str],
-    name: &'a str,
-    about: &'a str,
-    arguments: &[Argument],
+    text: &CommandText,
 ) -> Result<Command<'a>, AllocError>
-    ensures { IfOk result (IsLeafCommand (command name.entry.now (map (rule_for names.entry) arguments.now))) }
+    ensures { IfOk result (IsLeafCommand (shape_for names.entry text.now)) }
 {
     with_arguments(
         alloc,
-        Command::new(alloc, name).about(about),
+        Command::new(alloc, text.name).about(text.about),
         names,
-        arguments,
+        text.arguments,
     )
 }

@@ -1,19 +1,17 @@
 //! The command `auto`: what it is asked for, its words and options, and how they are read.
 
-ghost use Rattle.std.specs.Prelude.{◌≡◌, IfOk, true};
-ghost use Rattle.fleet_args.specs.Arguments.{IsLeafCommand};
+ghost use Rattle.std.specs.Prelude.{◌≡◌, true};
 ghost use Rattle.fleet_args.specs.Values.{values_in};
-ghost use Rattle.fleet_args.specs.Auto.{auto_shape, AsksAuto, has_auto_values};
+ghost use Rattle.fleet_args.specs.Auto.{AsksAuto, has_auto_values};
 
-use crate::arguments::{Argument, command_of};
+use crate::arguments::{Argument, CommandText};
 use crate::plan::{PlanRequest, plan_in};
 use crate::values::given_deps;
-use clap::{ArgMatches, Command};
+use clap::ArgMatches;
 use fleet_model::Deps;
-use std::alloc::{AllocError, Global};
 
 /// `fleet auto MAP SCEN [--agents K] [--horizon H] [--tries N] [--deps DEPS] [--holds FILE]`
-#[derive(Clone, Copy, Debug, PartialEq, Eq)]
+#[derive(Clone, Copy)]
 pub struct AutoRequest<'a> {
     pub map: &'a str,
     pub scen: &'a str,
@@ -24,28 +22,20 @@ pub struct AutoRequest<'a> {
     pub holds: Option<&'a str>,
 }
 
-pub(crate) fn auto_command<'a>(
-    alloc: Global,
-    names: &'a [&'a str],
-) -> Result<Command<'a>, AllocError>
-    ensures { IfOk result (IsLeafCommand (auto_shape names.entry)) }
-{
-    command_of(
-        alloc,
-        names,
-        "auto",
-        "Plans, compiles, verifies and runs: prints the positions tick by tick, then agents, ticks, chain and held",
-        &[
-            Argument::Map,
-            Argument::Scen,
-            Argument::Agents,
-            Argument::Horizon,
-            Argument::Tries,
-            Argument::Deps,
-            Argument::Holds,
-        ],
-    )
-}
+/// Its words and options.
+pub(crate) const COMMAND: CommandText = CommandText {
+    name: "auto",
+    about: "Plans, compiles, verifies and runs: prints the positions tick by tick, then agents, ticks, chain and held",
+    arguments: &[
+        Argument::Map,
+        Argument::Scen,
+        Argument::Agents,
+        Argument::Horizon,
+        Argument::Tries,
+        Argument::Deps,
+        Argument::Holds,
+    ],
+};
 
 /// The request that the matches of the command make.
 pub(crate) fn auto_in<'a>(matches: &ArgMatches<'a>) -> AutoRequest<'a>

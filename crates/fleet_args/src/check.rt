@@ -1,18 +1,16 @@
 //! The command `check`: what it is asked for, its words and options, and how they are read.
 
-ghost use Rattle.std.specs.Prelude.{◌≡◌, IfOk, true};
-ghost use Rattle.fleet_args.specs.Arguments.{IsLeafCommand};
+ghost use Rattle.std.specs.Prelude.{◌≡◌, true};
 ghost use Rattle.fleet_args.specs.Values.{values_in};
-ghost use Rattle.fleet_args.specs.Check.{check_shape, AsksCheck, has_check_values};
+ghost use Rattle.fleet_args.specs.Check.{AsksCheck, has_check_values};
 
-use crate::arguments::{Argument, command_of};
+use crate::arguments::{Argument, CommandText};
 use crate::instance::{InstanceRequest, instance_in};
 use crate::values::text;
-use clap::{ArgMatches, Command};
-use std::alloc::{AllocError, Global};
+use clap::ArgMatches;
 
 /// `fleet check MAP SCEN PLAN [--agents K]`
-#[derive(Clone, Copy, Debug, PartialEq, Eq)]
+#[derive(Clone, Copy)]
 pub struct CheckRequest<'a> {
     pub map: &'a str,
     pub scen: &'a str,
@@ -20,25 +18,17 @@ pub struct CheckRequest<'a> {
     pub agents: Option<u16>,
 }
 
-pub(crate) fn check_command<'a>(
-    alloc: Global,
-    names: &'a [&'a str],
-) -> Result<Command<'a>, AllocError>
-    ensures { IfOk result (IsLeafCommand check_shape) }
-{
-    command_of(
-        alloc,
-        names,
-        "check",
-        "Tells whether a plan is free of conflict, or its first fault",
-        &[
-            Argument::Map,
-            Argument::Scen,
-            Argument::Plan,
-            Argument::Agents,
-        ],
-    )
-}
+/// Its words and options.
+pub(crate) const COMMAND: CommandText = CommandText {
+    name: "check",
+    about: "Tells whether a plan is free of conflict, or its first fault",
+    arguments: &[
+        Argument::Map,
+        Argument::Scen,
+        Argument::Plan,
+        Argument::Agents,
+    ],
+};
 
 /// The request that the matches of the command make.
 pub(crate) fn check_in<'a>(matches: &ArgMatches<'a>) -> CheckRequest<'a>

@@ -2,40 +2,15 @@
 
 ghost use Rattle.std.specs.Prelude.{◌≡◌, IfOk, codes, map};
 ghost use Rattle.clap.specs.Words.{app_of, new_app, with_subcommand};
-ghost use Rattle.fleet_args.specs.Arguments.{IsLeafCommand};
-ghost use Rattle.fleet_args.specs.CommandLine.{fleet_top, shape_for, with_shapes, fleet};
+ghost use Rattle.fleet_args.specs.Arguments.{shape_for};
+ghost use Rattle.fleet_args.specs.CommandLine.{fleet_top, with_shapes, fleet};
 
-use crate::auto::auto_command;
-use crate::check::check_command;
-use crate::compile::compile_command;
-use crate::dispatch::dispatch_command;
-use crate::instance::instance_command;
-use crate::list::list_command;
-use crate::migrate::migrate_command;
-use crate::plan::plan_command;
-use crate::rehearse::rehearse_command;
-use crate::run::run_command;
-use crate::thin::thin_command;
-use crate::verify::verify_command;
+use crate::arguments::{CommandText, command_of};
+use crate::{
+    auto, check, compile, dispatch, instance, list, migrate, plan, rehearse, run, thin, verify,
+};
 use clap::Command;
 use std::alloc::{AllocError, Global};
-
-/// A command of the command line. Help lists them in this order.
-#[derive(Clone, Copy)]
-pub(crate) enum CommandKind {
-    Instance,
-    Check,
-    Plan,
-    Compile,
-    Verify,
-    Run,
-    Rehearse,
-    Auto,
-    Thin,
-    Migrate,
-    List,
-    Dispatch,
-}
 
 /// The command line with its texts for help, and no more.
 fn with_texts<'a>(alloc: Global) -> Command<'a>
@@ -60,82 +35,54 @@ fn without_commands<'a>(alloc: Global) -> Result<Command<'a>, AllocError>
         .bin_name("fleet")
 }
 
-/// The command of this kind, where these are the names of the kinds of awaits.
-fn command_by<'a>(
-    alloc: Global,
-    names: &'a [&'a str],
-    kind: CommandKind,
-) -> Result<Command<'a>, AllocError>
-    ensures { IfOk result (IsLeafCommand (shape_for names.entry kind)) }
-{
-    match kind {
-        CommandKind::Instance => instance_command(alloc, names),
-        CommandKind::Check => check_command(alloc, names),
-        CommandKind::Plan => plan_command(alloc, names),
-        CommandKind::Compile => compile_command(alloc, names),
-        CommandKind::Verify => verify_command(alloc, names),
-        CommandKind::Run => run_command(alloc, names),
-        CommandKind::Rehearse => rehearse_command(alloc, names),
-        CommandKind::Auto => auto_command(alloc, names),
-        CommandKind::Thin => thin_command(alloc, names),
-        CommandKind::Migrate => migrate_command(alloc, names),
-        CommandKind::List => list_command(alloc, names),
-        CommandKind::Dispatch => dispatch_command(alloc, names),
-    }
-}
-
-/// The command line, and the command of this kind after those that it has.
+/// The command line, and this command after those that it has.
 fn with_command<'a>(
     alloc: Global,
     line: Command<'a>,
     names: &'a [&'a str],
-    kind: CommandKind,
+    text: &CommandText,
 ) -> Result<Command<'a>, AllocError>
-    ensures { IfOk result (λ command. app_of command ≡ with_subcommand (app_of line.entry) (shape_for names.entry kind)) }
+    ensures { IfOk result (λ command. app_of command ≡ with_subcommand (app_of line.entry) (shape_for names.entry text.now)) }
 {
-    line.subcommand(command_by(alloc, names, kind)?)
+    line.subcommand(command_of(alloc, names, text)?)
 }
 
-/// The command line, and the commands of these kinds after those that it has.
+/// The command line, and these commands after those that it has.
 fn with_commands<'a>(
     alloc: Global,
     line: Command<'a>,
     names: &'a [&'a str],
-    kinds: &[CommandKind],
+    texts: &[CommandText],
 ) -> Result<Command<'a>, AllocError>
-    ensures { IfOk result (λ command. app_of command ≡ with_shapes (app_of line.entry) (map (shape_for names.entry) kinds.now)) }
+    ensures { IfOk result (λ command. app_of command ≡ with_shapes (app_of line.entry) (map (shape_for names.entry) texts.now)) }
 {
-    match kinds {
+    match texts {
         [] => Ok(line),
         [first, rest @ ..] => {
-            with_commands(
-                alloc,
-                with_command(alloc, line, names, *first)?,
-                names,
-                rest,
-            )
+            with_commands(alloc, with_command(alloc, line, names, first)?, names, rest)
         }
     }
 }
 
-static KINDS: [CommandKind; 12] = [
-    CommandKind::Instance,
-    CommandKind::Check,
-    CommandKind::Plan,
-    CommandKind::Compile,
-    CommandKind::Verify,
-    CommandKind::Run,
-    CommandKind::Rehearse,
-    CommandKind::Auto,
-    CommandKind::Thin,
-    CommandKind::Migrate,
-    CommandKind::List,
-    CommandKind::Dispatch,
+/// The commands, in the order of help.
+static COMMANDS: [CommandText; 12] = [
+    instance::COMMAND,
+    check::COMMAND,
+    plan::COMMAND,
+    compile::COMMAND,
+    verify::COMMAND,
+    run::COMMAND,
+    rehearse::COMMAND,
+    auto::COMMAND,
+    thin::COMMAND,
+    migrate::COMMAND,
+    list::COMMAND,
+    dispatch::COMMAND,
 ];
 
 /// The whole command line, with these names of the kinds of awaits.
 pub fn fleet_command<'a>(alloc: Global, names: &'a [&'a str]) -> Result<Command<'a>, AllocError>
     ensures { IfOk result (λ command. app_of command ≡ fleet names.entry) }
 {
-    with_commands(alloc, without_commands(alloc)?, names, KINDS.as_slice())
+    with_commands(alloc, without_commands(alloc)?, names, COMMANDS.as_slice())
 }

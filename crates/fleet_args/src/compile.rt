@@ -1,19 +1,17 @@
 //! The command `compile`: what it is asked for, its words and options, and how they are read.
 
-ghost use Rattle.std.specs.Prelude.{◌≡◌, IfOk, true};
-ghost use Rattle.fleet_args.specs.Arguments.{IsLeafCommand};
+ghost use Rattle.std.specs.Prelude.{◌≡◌, true};
 ghost use Rattle.fleet_args.specs.Values.{values_in};
-ghost use Rattle.fleet_args.specs.Compile.{compile_shape, AsksCompile, has_compile_values};
+ghost use Rattle.fleet_args.specs.Compile.{AsksCompile, has_compile_values};
 
-use crate::arguments::{Argument, command_of};
+use crate::arguments::{Argument, CommandText};
 use crate::check::{CheckRequest, check_in};
 use crate::values::{given_count, given_deps, text};
-use clap::{ArgMatches, Command};
+use clap::ArgMatches;
 use fleet_model::Deps;
-use std::alloc::{AllocError, Global};
 
 /// `fleet compile MAP SCEN PLAN OUT [--agents K] [--deps DEPS] [--dwell N]`
-#[derive(Clone, Copy, Debug, PartialEq, Eq)]
+#[derive(Clone, Copy)]
 pub struct CompileRequest<'a> {
     pub map: &'a str,
     pub scen: &'a str,
@@ -24,28 +22,20 @@ pub struct CompileRequest<'a> {
     pub dwell: u32,
 }
 
-pub(crate) fn compile_command<'a>(
-    alloc: Global,
-    names: &'a [&'a str],
-) -> Result<Command<'a>, AllocError>
-    ensures { IfOk result (IsLeafCommand (compile_shape names.entry)) }
-{
-    command_of(
-        alloc,
-        names,
-        "compile",
-        "Compiles a conflict-free plan into a program, writes it to OUT, and prints its agents, moves, awaits and bytes",
-        &[
-            Argument::Map,
-            Argument::Scen,
-            Argument::Plan,
-            Argument::Out,
-            Argument::Agents,
-            Argument::Deps,
-            Argument::Dwell,
-        ],
-    )
-}
+/// Its words and options.
+pub(crate) const COMMAND: CommandText = CommandText {
+    name: "compile",
+    about: "Compiles a conflict-free plan into a program, writes it to OUT, and prints its agents, moves, awaits and bytes",
+    arguments: &[
+        Argument::Map,
+        Argument::Scen,
+        Argument::Plan,
+        Argument::Out,
+        Argument::Agents,
+        Argument::Deps,
+        Argument::Dwell,
+    ],
+};
 
 /// The request that the matches of the command make.
 pub(crate) fn compile_in<'a>(matches: &ArgMatches<'a>) -> CompileRequest<'a>

@@ -1,17 +1,15 @@
 //! The command `dispatch`: what it is asked for, its words and options, and how they are read.
 
-ghost use Rattle.std.specs.Prelude.{◌≡◌, IfOk, true};
-ghost use Rattle.fleet_args.specs.Arguments.{IsLeafCommand};
+ghost use Rattle.std.specs.Prelude.{◌≡◌, true};
 ghost use Rattle.fleet_args.specs.Values.{values_in};
-ghost use Rattle.fleet_args.specs.Dispatch.{dispatch_shape, AsksDispatch, has_dispatch_values};
+ghost use Rattle.fleet_args.specs.Dispatch.{AsksDispatch, has_dispatch_values};
 
-use crate::arguments::{Argument, command_of};
+use crate::arguments::{Argument, CommandText};
 use crate::verify::{VerifyRequest, verify_in};
-use clap::{ArgMatches, Command};
-use std::alloc::{AllocError, Global};
+use clap::ArgMatches;
 
 /// `fleet dispatch MAP SCEN PROGRAM [--agents K]`
-#[derive(Clone, Copy, Debug, PartialEq, Eq)]
+#[derive(Clone, Copy)]
 pub struct DispatchRequest<'a> {
     pub map: &'a str,
     pub scen: &'a str,
@@ -19,25 +17,17 @@ pub struct DispatchRequest<'a> {
     pub agents: Option<u16>,
 }
 
-pub(crate) fn dispatch_command<'a>(
-    alloc: Global,
-    names: &'a [&'a str],
-) -> Result<Command<'a>, AllocError>
-    ensures { IfOk result (IsLeafCommand dispatch_shape) }
-{
-    command_of(
-        alloc,
-        names,
-        "dispatch",
-        "Dispatches robots: prints go AGENT FROM TO as each move may begin, and reads a line for each report of who has moved",
-        &[
-            Argument::Map,
-            Argument::Scen,
-            Argument::Program,
-            Argument::Agents,
-        ],
-    )
-}
+/// Its words and options.
+pub(crate) const COMMAND: CommandText = CommandText {
+    name: "dispatch",
+    about: "Dispatches robots: prints go AGENT FROM TO as each move may begin, and reads a line for each report of who has moved",
+    arguments: &[
+        Argument::Map,
+        Argument::Scen,
+        Argument::Program,
+        Argument::Agents,
+    ],
+};
 
 /// The request that the matches of the command make.
 pub(crate) fn dispatch_in<'a>(matches: &ArgMatches<'a>) -> DispatchRequest<'a>

@@ -1,18 +1,16 @@
 //! The command `plan`: what it is asked for, its words and options, and how they are read.
 
-ghost use Rattle.std.specs.Prelude.{◌≡◌, IfOk, true};
-ghost use Rattle.fleet_args.specs.Arguments.{IsLeafCommand};
+ghost use Rattle.std.specs.Prelude.{◌≡◌, true};
 ghost use Rattle.fleet_args.specs.Values.{values_in};
-ghost use Rattle.fleet_args.specs.Plan.{plan_shape, AsksPlan, has_plan_values};
+ghost use Rattle.fleet_args.specs.Plan.{AsksPlan, has_plan_values};
 
-use crate::arguments::{Argument, command_of};
+use crate::arguments::{Argument, CommandText};
 use crate::instance::{InstanceRequest, instance_in};
 use crate::values::{given_count, given_number};
-use clap::{ArgMatches, Command};
-use std::alloc::{AllocError, Global};
+use clap::ArgMatches;
 
 /// `fleet plan MAP SCEN [--agents K] [--horizon H] [--tries N]`
-#[derive(Clone, Copy, Debug, PartialEq, Eq)]
+#[derive(Clone, Copy)]
 pub struct PlanRequest<'a> {
     pub map: &'a str,
     pub scen: &'a str,
@@ -21,26 +19,18 @@ pub struct PlanRequest<'a> {
     pub tries: u32,
 }
 
-pub(crate) fn plan_command<'a>(
-    alloc: Global,
-    names: &'a [&'a str],
-) -> Result<Command<'a>, AllocError>
-    ensures { IfOk result (IsLeafCommand plan_shape) }
-{
-    command_of(
-        alloc,
-        names,
-        "plan",
-        "Plans a path for each agent in turn, and prints the plan text",
-        &[
-            Argument::Map,
-            Argument::Scen,
-            Argument::Agents,
-            Argument::Horizon,
-            Argument::Tries,
-        ],
-    )
-}
+/// Its words and options.
+pub(crate) const COMMAND: CommandText = CommandText {
+    name: "plan",
+    about: "Plans a path for each agent in turn, and prints the plan text",
+    arguments: &[
+        Argument::Map,
+        Argument::Scen,
+        Argument::Agents,
+        Argument::Horizon,
+        Argument::Tries,
+    ],
+};
 
 /// The request that the matches of the command make.
 pub(crate) fn plan_in<'a>(matches: &ArgMatches<'a>) -> PlanRequest<'a>

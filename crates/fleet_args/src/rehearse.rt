@@ -1,36 +1,26 @@
 //! The command `rehearse`: what it is asked for, its words and options, and how they are read.
 
-ghost use Rattle.std.specs.Prelude.{◌≡◌, IfOk, true};
-ghost use Rattle.fleet_args.specs.Arguments.{IsLeafCommand};
+ghost use Rattle.std.specs.Prelude.{◌≡◌, true};
 ghost use Rattle.fleet_args.specs.Values.{values_in};
-ghost use Rattle.fleet_args.specs.Rehearse.{rehearse_shape, AsksRehearse, has_rehearse_values};
+ghost use Rattle.fleet_args.specs.Rehearse.{AsksRehearse, has_rehearse_values};
 
-use crate::arguments::{Argument, command_of};
+use crate::arguments::{Argument, CommandText};
 use crate::values::text;
-use clap::{ArgMatches, Command};
-use std::alloc::{AllocError, Global};
+use clap::ArgMatches;
 
 /// `fleet rehearse PROGRAM [--holds FILE]`
-#[derive(Clone, Copy, Debug, PartialEq, Eq)]
+#[derive(Clone, Copy)]
 pub struct RehearseRequest<'a> {
     pub program: &'a str,
     pub holds: Option<&'a str>,
 }
 
-pub(crate) fn rehearse_command<'a>(
-    alloc: Global,
-    names: &'a [&'a str],
-) -> Result<Command<'a>, AllocError>
-    ensures { IfOk result (IsLeafCommand rehearse_shape) }
-{
-    command_of(
-        alloc,
-        names,
-        "rehearse",
-        "Runs any program until it is finished or stuck: prints the positions tick by tick, then agents, ticks and held",
-        &[Argument::Program, Argument::Holds],
-    )
-}
+/// Its words and options.
+pub(crate) const COMMAND: CommandText = CommandText {
+    name: "rehearse",
+    about: "Runs any program until it is finished or stuck: prints the positions tick by tick, then agents, ticks and held",
+    arguments: &[Argument::Program, Argument::Holds],
+};
 
 /// The request that the matches of the command make.
 pub(crate) fn rehearse_in<'a>(matches: &ArgMatches<'a>) -> RehearseRequest<'a>

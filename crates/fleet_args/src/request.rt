@@ -25,7 +25,7 @@ use std::alloc::Global;
 use thiserror::Error;
 
 /// A command with its words and options.
-#[derive(Clone, Copy, Debug, PartialEq, Eq)]
+#[derive(Clone, Copy)]
 pub enum Request<'a> {
     Instance(InstanceRequest<'a>),
     Check(CheckRequest<'a>),

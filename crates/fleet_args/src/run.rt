@@ -1,17 +1,15 @@
 //! The command `run`: what it is asked for, its words and options, and how they are read.
 
-ghost use Rattle.std.specs.Prelude.{◌≡◌, IfOk, true};
-ghost use Rattle.fleet_args.specs.Arguments.{IsLeafCommand};
+ghost use Rattle.std.specs.Prelude.{◌≡◌, true};
 ghost use Rattle.fleet_args.specs.Values.{values_in};
-ghost use Rattle.fleet_args.specs.Run.{run_shape, AsksRun, has_run_values};
+ghost use Rattle.fleet_args.specs.Run.{AsksRun, has_run_values};
 
-use crate::arguments::{Argument, command_of};
+use crate::arguments::{Argument, CommandText};
 use crate::verify::{VerifyRequest, verify_in};
-use clap::{ArgMatches, Command};
-use std::alloc::{AllocError, Global};
+use clap::ArgMatches;
 
 /// `fleet run MAP SCEN PROGRAM [--agents K] [--holds FILE]`
-#[derive(Clone, Copy, Debug, PartialEq, Eq)]
+#[derive(Clone, Copy)]
 pub struct RunRequest<'a> {
     pub map: &'a str,
     pub scen: &'a str,
@@ -20,26 +18,18 @@ pub struct RunRequest<'a> {
     pub holds: Option<&'a str>,
 }
 
-pub(crate) fn run_command<'a>(
-    alloc: Global,
-    names: &'a [&'a str],
-) -> Result<Command<'a>, AllocError>
-    ensures { IfOk result (IsLeafCommand run_shape) }
-{
-    command_of(
-        alloc,
-        names,
-        "run",
-        "Verifies a program and runs it: prints the positions tick by tick, then agents, ticks, chain and held",
-        &[
-            Argument::Map,
-            Argument::Scen,
-            Argument::Program,
-            Argument::Agents,
-            Argument::Holds,
-        ],
-    )
-}
+/// Its words and options.
+pub(crate) const COMMAND: CommandText = CommandText {
+    name: "run",
+    about: "Verifies a program and runs it: prints the positions tick by tick, then agents, ticks, chain and held",
+    arguments: &[
+        Argument::Map,
+        Argument::Scen,
+        Argument::Program,
+        Argument::Agents,
+        Argument::Holds,
+    ],
+};
 
 /// The request that the matches of the command make.
 pub(crate) fn run_in<'a>(matches: &ArgMatches<'a>) -> RunRequest<'a>

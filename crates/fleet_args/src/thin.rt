@@ -1,18 +1,16 @@
 //! The command `thin`: what it is asked for, its words and options, and how they are read.
 
-ghost use Rattle.std.specs.Prelude.{◌≡◌, IfOk, true};
-ghost use Rattle.fleet_args.specs.Arguments.{IsLeafCommand};
+ghost use Rattle.std.specs.Prelude.{◌≡◌, true};
 ghost use Rattle.fleet_args.specs.Values.{values_in};
-ghost use Rattle.fleet_args.specs.Thin.{thin_shape, AsksThin, has_thin_values};
+ghost use Rattle.fleet_args.specs.Thin.{AsksThin, has_thin_values};
 
-use crate::arguments::{Argument, command_of};
+use crate::arguments::{Argument, CommandText};
 use crate::values::text;
 use crate::verify::{VerifyRequest, verify_in};
-use clap::{ArgMatches, Command};
-use std::alloc::{AllocError, Global};
+use clap::ArgMatches;
 
 /// `fleet thin MAP SCEN PROGRAM OUT [--agents K]`
-#[derive(Clone, Copy, Debug, PartialEq, Eq)]
+#[derive(Clone, Copy)]
 pub struct ThinRequest<'a> {
     pub map: &'a str,
     pub scen: &'a str,
@@ -21,26 +19,18 @@ pub struct ThinRequest<'a> {
     pub agents: Option<u16>,
 }
 
-pub(crate) fn thin_command<'a>(
-    alloc: Global,
-    names: &'a [&'a str],
-) -> Result<Command<'a>, AllocError>
-    ensures { IfOk result (IsLeafCommand thin_shape) }
-{
-    command_of(
-        alloc,
-        names,
-        "thin",
-        "Drops the awaits of an accepted program that others imply, writes it to OUT, and prints its awaits before and after",
-        &[
-            Argument::Map,
-            Argument::Scen,
-            Argument::Program,
-            Argument::Out,
-            Argument::Agents,
-        ],
-    )
-}
+/// Its words and options.
+pub(crate) const COMMAND: CommandText = CommandText {
+    name: "thin",
+    about: "Drops the awaits of an accepted program that others imply, writes it to OUT, and prints its awaits before and after",
+    arguments: &[
+        Argument::Map,
+        Argument::Scen,
+        Argument::Program,
+        Argument::Out,
+        Argument::Agents,
+    ],
+};
 
 /// The request that the matches of the command make.
 pub(crate) fn thin_in<'a>(matches: &ArgMatches<'a>) -> ThinRequest<'a>

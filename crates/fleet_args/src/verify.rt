@@ -1,18 +1,16 @@
 //! The command `verify`: what it is asked for, its words and options, and how they are read.
 
-ghost use Rattle.std.specs.Prelude.{◌≡◌, IfOk, true};
-ghost use Rattle.fleet_args.specs.Arguments.{IsLeafCommand};
+ghost use Rattle.std.specs.Prelude.{◌≡◌, true};
 ghost use Rattle.fleet_args.specs.Values.{values_in};
-ghost use Rattle.fleet_args.specs.Verify.{verify_shape, AsksVerify, has_verify_values};
+ghost use Rattle.fleet_args.specs.Verify.{AsksVerify, has_verify_values};
 
-use crate::arguments::{Argument, command_of};
+use crate::arguments::{Argument, CommandText};
 use crate::instance::{InstanceRequest, instance_in};
 use crate::values::text;
-use clap::{ArgMatches, Command};
-use std::alloc::{AllocError, Global};
+use clap::ArgMatches;
 
 /// `fleet verify MAP SCEN PROGRAM [--agents K]`
-#[derive(Clone, Copy, Debug, PartialEq, Eq)]
+#[derive(Clone, Copy)]
 pub struct VerifyRequest<'a> {
     pub map: &'a str,
     pub scen: &'a str,
@@ -20,25 +18,17 @@ pub struct VerifyRequest<'a> {
     pub agents: Option<u16>,
 }
 
-pub(crate) fn verify_command<'a>(
-    alloc: Global,
-    names: &'a [&'a str],
-) -> Result<Command<'a>, AllocError>
-    ensures { IfOk result (IsLeafCommand verify_shape) }
-{
-    command_of(
-        alloc,
-        names,
-        "verify",
-        "Tells whether a program is safe and arrives whoever is held, or its first fault",
-        &[
-            Argument::Map,
-            Argument::Scen,
-            Argument::Program,
-            Argument::Agents,
-        ],
-    )
-}
+/// Its words and options.
+pub(crate) const COMMAND: CommandText = CommandText {
+    name: "verify",
+    about: "Tells whether a program is safe and arrives whoever is held, or its first fault",
+    arguments: &[
+        Argument::Map,
+        Argument::Scen,
+        Argument::Program,
+        Argument::Agents,
+    ],
+};
 
 /// The request that the matches of the command make.
 pub(crate) fn verify_in<'a>(matches: &ArgMatches<'a>) -> VerifyRequest<'a>

@@ -7,7 +7,7 @@ ghost use Rattle.fleet_cli.specs.AutoCommand.{RunsMade, IsMadeFault, DoesAuto, R
 
 use fleet_args::AutoRequest;
 use fleet_auto::{AutoFault, AutoTask, auto_run_in_orders};
-use fleet_io::{Fault, Files, flush_run, read_with_holds};
+use fleet_io::{Fault, Files, flush_run, read_two_with_holds};
 use fleet_run::Flush;
 use std::alloc::Global;
 
@@ -50,14 +50,16 @@ pub(crate) fn do_auto<'a, F: Files, O: Flush>(
         (RefusesAuto (F.contents files.old) request.now (O.state out.old) (O.state out.new)) }
     ensures kept { AreUnchanged (F.contents files.old) (F.contents files.new) }
 {
-    let names = [request.map, request.scen];
-    let (read, held) = read_with_holds(alloc, files, &names, request.holds)?;
-    let [map, scen] = read.as_slice() else {
-        unreachable!()
-    };
+    let (map, scen, held) = read_two_with_holds(
+        alloc,
+        files,
+        request.map,
+        request.scen,
+        request.holds,
+    )?;
     let task = AutoTask {
-        map,
-        scen,
+        map: &map,
+        scen: &scen,
         asked: request.agents,
         horizon: request.horizon,
         tries: request.tries,

@@ -8,7 +8,7 @@ ghost use Rattle.fleet_cli.specs.CheckCommand.{check_text, PrintsCheck, IsCheckF
 use crate::output::print_report;
 use crate::problem::read_problem;
 use fleet_args::CheckRequest;
-use fleet_io::{Fault, Files, read_files};
+use fleet_io::{Fault, Files, read_three};
 use fleet_plan::{Plan, check, read_plan};
 use fleet_run::{Flush, OutFault};
 use std::alloc::Global;
@@ -72,9 +72,6 @@ pub(crate) fn do_check<'a, F: Files, O: Flush>(
         (RefusesCheck (F.contents files.old) request.now (O.state out.old) (O.state out.new)) }
     ensures kept { AreUnchanged (F.contents files.old) (F.contents files.new) }
 {
-    let read = read_files(alloc, files, &[request.map, request.scen, request.plan])?;
-    let [map, scen, plan] = read.as_slice() else {
-        unreachable!()
-    };
-    show_check(alloc, map, scen, plan, request.agents, out)
+    let (map, scen, plan) = read_three(alloc, files, request.map, request.scen, request.plan)?;
+    show_check(alloc, &map, &scen, &plan, request.agents, out)
 }

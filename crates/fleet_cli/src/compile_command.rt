@@ -12,7 +12,7 @@ use crate::problem::read_problem;
 use fleet_adg::compile_dwell;
 use fleet_args::CompileRequest;
 use fleet_code::{EncodeFault, encode_shortest};
-use fleet_io::{Fault, Files, read_files};
+use fleet_io::{Fault, Files, read_three};
 use fleet_model::{Program, ProgramView, total_awaits, total_moves};
 use fleet_plan::{check, read_plan};
 use fleet_run::Flush;
@@ -87,14 +87,8 @@ fn compile_files<'a, F: Files>(
     ensures fault { IfErr result (IsCompileRefusal (F.contents files.old) request.now) }
     ensures kept { AreUnchanged (F.contents files.old) (F.contents files.new) }
 {
-    let mut read = read_files(alloc, files, &[request.map, request.scen, request.plan])?;
-    let Some(plan) = read.pop() else {
-        unreachable!()
-    };
-    let [map, scen] = read.as_slice() else {
-        unreachable!()
-    };
-    compile_texts(alloc, map, scen, plan, request)
+    let (map, scen, plan) = read_three(alloc, files, request.map, request.scen, request.plan)?;
+    compile_texts(alloc, &map, &scen, plan, request)
 }
 
 /// Writes the bytes of the program to the file OUT, and prints its numbers.

@@ -7,7 +7,7 @@ ghost use Rattle.fleet_cli.specs.DispatchCommand.{DispatchesTexts, IsDispatchRef
 use crate::problem::{accept, read_problem};
 use fleet_args::DispatchRequest;
 use fleet_dispatch::{Floor, dispatch_accepted};
-use fleet_io::{Fault, Files, read_files};
+use fleet_io::{Fault, Files, read_three};
 use std::alloc::Global;
 
 /// Verifies the program that the bytes spell for the map and the instance of the texts, and dispatches its agents.
@@ -47,10 +47,12 @@ pub(crate) fn do_dispatch<'a, F: Files, D: Floor>(
         (RefusesDispatch (F.contents files.old) request.now (D.talks floor.old floor.new)) }
     ensures kept { AreUnchanged (F.contents files.old) (F.contents files.new) }
 {
-    let names = [request.map, request.scen, request.program];
-    let read = read_files(alloc, files, &names)?;
-    let [map, scen, program] = read.as_slice() else {
-        unreachable!()
-    };
-    dispatch_bytes(alloc, map, scen, request.agents, program, floor)
+    let (map, scen, program) = read_three(
+        alloc,
+        files,
+        request.map,
+        request.scen,
+        request.program,
+    )?;
+    dispatch_bytes(alloc, &map, &scen, request.agents, &program, floor)
 }

@@ -7,7 +7,7 @@ ghost use Rattle.fleet_cli.specs.DriveCommand.{RunsTexts, IsRunFault, DoesRun, R
 
 use crate::problem::{accept, read_problem};
 use fleet_args::RunRequest;
-use fleet_io::{Fault, Files, read_with_holds, run_flushed};
+use fleet_io::{Fault, Files, read_three_with_holds, run_flushed};
 use fleet_run::Flush;
 use std::alloc::Global;
 
@@ -49,10 +49,13 @@ pub(crate) fn do_run<'a, F: Files, O: Flush>(
         (RefusesRun (F.contents files.old) request.now (O.state out.old) (O.state out.new)) }
     ensures kept { AreUnchanged (F.contents files.old) (F.contents files.new) }
 {
-    let names = [request.map, request.scen, request.program];
-    let (read, held) = read_with_holds(alloc, files, &names, request.holds)?;
-    let [map, scen, program] = read.as_slice() else {
-        unreachable!()
-    };
-    run_bytes(alloc, map, scen, request.agents, program, &held, out)
+    let (map, scen, program, held) = read_three_with_holds(
+        alloc,
+        files,
+        request.map,
+        request.scen,
+        request.program,
+        request.holds,
+    )?;
+    run_bytes(alloc, &map, &scen, request.agents, &program, &held, out)
 }

@@ -8,7 +8,7 @@ ghost use Rattle.fleet_cli.specs.InstanceCommand.{task_line, task_lines, map_lin
 use crate::problem::read_problem;
 use fleet_args::InstanceRequest;
 use fleet_grid::Grid;
-use fleet_io::{Fault, Files, Word, put_count, put_line, read_files};
+use fleet_io::{Fault, Files, Word, put_count, put_line, read_two};
 use fleet_model::Cell;
 use fleet_run::{Flush, OutFault, TraceOut};
 use fleet_scen::Instance;
@@ -102,9 +102,6 @@ pub(crate) fn do_instance<'a, F: Files, O: Flush>(
         (RefusesInstance (F.contents files.old) request.now (O.state out.old) (O.state out.new)) }
     ensures kept { AreUnchanged (F.contents files.old) (F.contents files.new) }
 {
-    let read = read_files(alloc, files, &[request.map, request.scen])?;
-    let [map, scen] = read.as_slice() else {
-        unreachable!()
-    };
-    show_instance(alloc, map, scen, request.agents, out)
+    let (map, scen) = read_two(alloc, files, request.map, request.scen)?;
+    show_instance(alloc, &map, &scen, request.agents, out)
 }

@@ -8,7 +8,7 @@ ghost use Rattle.fleet_cli.specs.ListCommand.{PrintsProgram, IsListFault, DoesLi
 
 use crate::problem::view_program;
 use fleet_args::ListRequest;
-use fleet_io::{Fault, Files, read_files};
+use fleet_io::{Fault, Files, read_file};
 use fleet_list::put_program;
 use fleet_model::ProgramView;
 use fleet_run::{Flush, OutFault};
@@ -52,9 +52,6 @@ pub(crate) fn do_list<'a, F: Files, O: Flush>(
         (RefusesList (F.contents files.old) request.now (O.state out.old) (O.state out.new)) }
     ensures kept { AreUnchanged (F.contents files.old) (F.contents files.new) }
 {
-    let read = read_files(alloc, files, &[request.program])?;
-    let [program] = read.as_slice() else {
-        unreachable!()
-    };
-    list_bytes(alloc, program, out)
+    let program = read_file(alloc, files, request.program)?;
+    list_bytes(alloc, &program, out)
 }

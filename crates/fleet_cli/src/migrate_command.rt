@@ -10,7 +10,7 @@ ghost use Rattle.fleet_cli.specs.MigrateCommand.{MigratesBytes, migrated_text, M
 use crate::output::write_out;
 use fleet_args::MigrateRequest;
 use fleet_code::{EncodeFault, LoadFault, encode2, load};
-use fleet_io::{Fault, Files, read_files};
+use fleet_io::{Fault, Files, read_file};
 use fleet_run::Flush;
 use std::alloc::Global;
 
@@ -42,11 +42,8 @@ fn migrate_file<'a, F: Files>(
     ensures fault { IfErr result (IsMigrateRefusal (F.contents files.old) request.now) }
     ensures kept { AreUnchanged (F.contents files.old) (F.contents files.new) }
 {
-    let read = read_files(alloc, files, &[request.program])?;
-    let [program] = read.as_slice() else {
-        unreachable!()
-    };
-    migrate_bytes(alloc, program)
+    let program = read_file(alloc, files, request.program)?;
+    migrate_bytes(alloc, &program)
 }
 
 /// Writes the bytes to the file OUT, and prints how many they are.

@@ -7,7 +7,7 @@ ghost use Rattle.fleet_cli.specs.PlanCommand.{PrintsPlan, IsPlanCommandFault, Do
 
 use crate::problem::read_problem;
 use fleet_args::PlanRequest;
-use fleet_io::{Fault, Files, deliver, read_files};
+use fleet_io::{Fault, Files, deliver, read_two};
 use fleet_model::OutOfMemory;
 use fleet_plan::write_plan;
 use fleet_run::{Flush, OutFault};
@@ -65,9 +65,6 @@ pub(crate) fn do_plan<'a, F: Files, O: Flush>(
         (RefusesPlan (F.contents files.old) request.now (O.state out.old) (O.state out.new)) }
     ensures kept { AreUnchanged (F.contents files.old) (F.contents files.new) }
 {
-    let read = read_files(alloc, files, &[request.map, request.scen])?;
-    let [map, scen] = read.as_slice() else {
-        unreachable!()
-    };
-    plan_texts(alloc, map, scen, request, out)
+    let (map, scen) = read_two(alloc, files, request.map, request.scen)?;
+    plan_texts(alloc, &map, &scen, request, out)
 }

@@ -62,9 +62,6 @@ pub(crate) fn do_rehearse<'a, F: Files, O: Flush>(
         (RefusesRehearse (F.contents files.old) request.now (O.state out.old) (O.state out.new)) }
     ensures kept { AreUnchanged (F.contents files.old) (F.contents files.new) }
 {
-    let (read, held) = read_with_holds(alloc, files, &[request.program], request.holds)?;
-    let [program] = read.as_slice() else {
-        unreachable!()
-    };
-    rehearse_bytes(alloc, program, &held, out)
+    let (program, held) = read_with_holds(alloc, files, request.program, request.holds)?;
+    rehearse_bytes(alloc, &program, &held, out)
 }

@@ -12,7 +12,7 @@ use crate::problem::{accept, read_problem};
 use fleet_adg::{ThinFault, thin};
 use fleet_args::ThinRequest;
 use fleet_code::{EncodeFault, encode_shortest};
-use fleet_io::{Fault, Files, read_files};
+use fleet_io::{Fault, Files, read_three};
 use fleet_model::total_awaits;
 use fleet_run::Flush;
 use std::alloc::Global;
@@ -65,11 +65,14 @@ fn thin_files<'a, F: Files>(
     ensures fault { IfErr result (IsThinRefusal (F.contents files.old) request.now) }
     ensures kept { AreUnchanged (F.contents files.old) (F.contents files.new) }
 {
-    let read = read_files(alloc, files, &[request.map, request.scen, request.program])?;
-    let [map, scen, program] = read.as_slice() else {
-        unreachable!()
-    };
-    thin_texts(alloc, map, scen, request.agents, program)
+    let (map, scen, program) = read_three(
+        alloc,
+        files,
+        request.map,
+        request.scen,
+        request.program,
+    )?;
+    thin_texts(alloc, &map, &scen, request.agents, &program)
 }
 
 /// Writes the bytes of the thinned program to the file OUT, and prints its awaits before and after.

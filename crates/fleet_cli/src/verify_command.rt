@@ -12,7 +12,7 @@ use crate::problem::{read_problem, view_program};
 use fleet_args::VerifyRequest;
 use fleet_auto::AcceptFault;
 use fleet_chains::breaking_holds;
-use fleet_io::{Fault, Files, deliver, read_files};
+use fleet_io::{Fault, Files, deliver, read_three};
 use fleet_model::{OutOfMemory, ProgramView, Visit, total_awaits, total_moves};
 use fleet_run::{Flush, OutFault, write_holds};
 use fleet_verify::{Accepted, Refused, VerifyFault, verify};
@@ -118,9 +118,12 @@ pub(crate) fn do_verify<'a, F: Files, O: Flush>(
         (RefusesVerify (F.contents files.old) request.now (O.state out.old) (O.state out.new)) }
     ensures kept { AreUnchanged (F.contents files.old) (F.contents files.new) }
 {
-    let read = read_files(alloc, files, &[request.map, request.scen, request.program])?;
-    let [map, scen, program] = read.as_slice() else {
-        unreachable!()
-    };
-    verify_bytes(alloc, map, scen, request.agents, program, out)
+    let (map, scen, program) = read_three(
+        alloc,
+        files,
+        request.map,
+        request.scen,
+        request.program,
+    )?;
+    verify_bytes(alloc, &map, &scen, request.agents, &program, out)
 }

@@ -1,7 +1,6 @@
 -- Files that a command names, read one after another.
-use Rattle.std.specs.Prelude.{◌≡◌, ℕ, List, [], ◌∷◌, ◌⊎◌, Option, None, Some, map, option_map, Vec}
+use Rattle.std.specs.Prelude.{◌≡◌, ℕ, List, [], ◌∷◌, ◌⊎◌, Option, None, Some, option_map}
 use Rattle.std.specs.Borrow.{Bor}
-use Rattle.std.specs.declared.alloc.Global.{Global}
 use Rattle.fleet_files.specs.Files.{Store, IsRead, IsUnreadable}
 use Rattle.fleet_files.specs.declared.input.FileFault.{FileFault}
 use Rattle.fleet_files.specs.declared.input.FileFault.TheVariants.{OutOfMemory, Failed}
@@ -36,14 +35,6 @@ abbrev pub AreRead : Option Store → List (List ℕ) → List (List ℕ) → Ty
 AreRead files [] [] = Unit {0}
 AreRead files (name ∷ names) (bytes ∷ rest) = IsRead files name bytes × AreRead files names rest
 AreRead files _ _ = ⊥
-
--- the names as they stand
-abbrev pub texts_of : List (Bor (List ℕ)) → List (List ℕ)
-texts_of names = map (λ name. name.now) names
-
--- the bytes that were read
-abbrev pub items_of : List (Vec ℕ Global) → List (List ℕ)
-items_of read = map (λ bytes. bytes.items) read
 
 -- the name that was given, if one was
 abbrev pub given_name : Option (Bor (List ℕ)) → Option (List ℕ)

@@ -19,7 +19,7 @@ use fleet_verify::VerifyFault;
 
 /// Every refusal of the program but usage and help. `File` names the file that cannot be read or written, and is `-` for the
 /// standard streams.
-#[derive(Debug, Drop)]
+#[derive(Drop)]
 pub enum Fault<'a> {
     Map(MapFault),
     Scen(ScenFault),

@@ -1,8 +1,8 @@
 //! Files that a command names.
 
-ghost use Rattle.std.specs.Prelude.{◌++◌, IfOk, IfErr, OnOk};
+ghost use Rattle.std.specs.Prelude.{[], ◌∷◌, IfOk, IfErr, OnOk};
 ghost use Rattle.fleet_files.specs.Files.{IsRead, AreUnchanged, ChangesOnly, Replaces};
-ghost use Rattle.fleet_io.specs.Named.{IsRefusedAs, IsReadFault, IsWriteFault, IsUnread, AreRead, texts_of, items_of, given_name, hold_names, AreHoldBytes};
+ghost use Rattle.fleet_io.specs.Named.{IsRefusedAs, IsReadFault, IsWriteFault, IsUnread, AreRead, given_name, hold_names, AreHoldBytes};
 
 use crate::fault::Fault;
 use fleet_files::{FileFault, Files};
@@ -26,24 +26,38 @@ pub fn read_file<'a, F: Files>(
     }
 }
 
-/// The bytes of the files of these names, read in this order, each as `read_file` reads it.
-pub fn read_files<'a, F: Files>(
+/// The bytes of two files, read in this order, each as `read_file` reads it.
+pub fn read_two<'a, F: Files>(
     alloc: Global,
     files: &mut F,
-    names: &[&'a str],
-) -> Result<Vec<Vec<u8>>, Fault<'a>>
-    ensures bytes { IfOk result (λ read. AreRead (F.contents files.old) (texts_of names.now) (items_of read.items)) }
-    ensures fault { IfErr result (IsUnread (F.contents files.old) (texts_of names.now)) }
+    first: &'a str,
+    second: &'a str,
+) -> Result<(Vec<u8>, Vec<u8>), Fault<'a>>
+    ensures bytes { IfOk result (λ read. AreRead (F.contents files.old) (first.entry.now ∷ second.entry.now ∷ []) (read.0.items ∷ read.1.items ∷ [])) }
+    ensures fault { IfErr result (IsUnread (F.contents files.old) (first.entry.now ∷ second.entry.now ∷ [])) }
     ensures kept { AreUnchanged (F.contents files.old) (F.contents files.new) }
 {
-    let mut read = Vec::new(alloc);
-    for name in names {
-        let bytes = read_file(alloc, files, *name)?;
-        let Ok(()) = read.push(bytes) else {
-            return Err(Fault::Memory);
-        };
-    }
-    Ok(read)
+    let before = read_file(alloc, files, first)?;
+    let last = read_file(alloc, files, second)?;
+    Ok((before, last))
+}
+
+/// The bytes of three files, read in this order, each as `read_file` reads it.
+pub fn read_three<'a, F: Files>(
+    alloc: Global,
+    files: &mut F,
+    first: &'a str,
+    second: &'a str,
+    third: &'a str,
+) -> Result<(Vec<u8>, Vec<u8>, Vec<u8>), Fault<'a>>
+    ensures bytes { IfOk result (λ read. AreRead (F.contents files.old) (first.entry.now ∷ second.entry.now ∷ third.entry.now ∷ [])
+        (read.0.items ∷ read.1.items ∷ read.2.items ∷ [])) }
+    ensures fault { IfErr result (IsUnread (F.contents files.old) (first.entry.now ∷ second.entry.now ∷ third.entry.now ∷ [])) }
+    ensures kept { AreUnchanged (F.contents files.old) (F.contents files.new) }
+{
+    let before = read_two(alloc, files, first, second)?;
+    let last = read_file(alloc, files, third)?;
+    Ok((before.0, before.1, last))
 }
 
 /// The bytes of the holds, none if no file is named.
@@ -62,21 +76,60 @@ fn read_holds<'a, F: Files>(
     }
 }
 
-/// The bytes of the files of these names, and those of the holds, read last.
+/// The bytes of a file, and those of the holds, read last.
 pub fn read_with_holds<'a, F: Files>(
     alloc: Global,
     files: &mut F,
-    names: &[&'a str],
+    name: &'a str,
     holds: Option<&'a str>,
-) -> Result<(Vec<Vec<u8>>, Vec<u8>), Fault<'a>>
-    ensures bytes { IfOk result (λ read. AreRead (F.contents files.old) (texts_of names.now) (items_of read.0.items)
+) -> Result<(Vec<u8>, Vec<u8>), Fault<'a>>
+    ensures bytes { IfOk result (λ read. IsRead (F.contents files.old) name.entry.now read.0.items
         × AreHoldBytes (F.contents files.old) (given_name holds.entry) read.1.items) }
-    ensures fault { IfErr result (IsUnread (F.contents files.old) (texts_of names.now ++ hold_names (given_name holds.entry))) }
+    ensures fault { IfErr result (IsUnread (F.contents files.old) (name.entry.now ∷ hold_names (given_name holds.entry))) }
     ensures kept { AreUnchanged (F.contents files.old) (F.contents files.new) }
 {
-    let read = read_files(alloc, files, names)?;
+    let before = read_file(alloc, files, name)?;
     let held = read_holds(alloc, files, holds)?;
-    Ok((read, held))
+    Ok((before, held))
+}
+
+/// The bytes of two files, and those of the holds, read last.
+pub fn read_two_with_holds<'a, F: Files>(
+    alloc: Global,
+    files: &mut F,
+    first: &'a str,
+    second: &'a str,
+    holds: Option<&'a str>,
+) -> Result<(Vec<u8>, Vec<u8>, Vec<u8>), Fault<'a>>
+    ensures bytes { IfOk result (λ read. AreRead (F.contents files.old) (first.entry.now ∷ second.entry.now ∷ []) (read.0.items ∷ read.1.items ∷ [])
+        × AreHoldBytes (F.contents files.old) (given_name holds.entry) read.2.items) }
+    ensures fault { IfErr result (IsUnread (F.contents files.old) (first.entry.now ∷ second.entry.now ∷ hold_names (given_name holds.entry))) }
+    ensures kept { AreUnchanged (F.contents files.old) (F.contents files.new) }
+{
+    let before = read_two(alloc, files, first, second)?;
+    let held = read_holds(alloc, files, holds)?;
+    Ok((before.0, before.1, held))
+}
+
+/// The bytes of three files, and those of the holds, read last.
+pub fn read_three_with_holds<'a, F: Files>(
+    alloc: Global,
+    files: &mut F,
+    first: &'a str,
+    second: &'a str,
+    third: &'a str,
+    holds: Option<&'a str>,
+) -> Result<(Vec<u8>, Vec<u8>, Vec<u8>, Vec<u8>), Fault<'a>>
+    ensures bytes { IfOk result (λ read. AreRead (F.contents files.old) (first.entry.now ∷ second.entry.now ∷ third.entry.now ∷ [])
+        (read.0.items ∷ read.1.items ∷ read.2.items ∷ [])
+        × AreHoldBytes (F.contents files.old) (given_name holds.entry) read.3.items) }
+    ensures fault { IfErr result (IsUnread (F.contents files.old)
+        (first.entry.now ∷ second.entry.now ∷ third.entry.now ∷ hold_names (given_name holds.entry))) }
+    ensures kept { AreUnchanged (F.contents files.old) (F.contents files.new) }
+{
+    let before = read_three(alloc, files, first, second, third)?;
+    let held = read_holds(alloc, files, holds)?;
+    Ok((before.0, before.1, before.2, held))
 }
 
 /// Writes the bytes to the file. Want of memory is `Memory`, and a write that failed is `File` with the file's name.

@@ -1,7 +1,6 @@
 use Rattle.std.proofs.Common.{◌≡◌, IfOk, subst}
 use Rattle.clap.specs.Words.{app_of, with_subcommand}
-use Rattle.fleet_args.specs.CommandLine.{shape_for}
-use Rattle.fleet_args.specs.declared.command_line.CommandKind.TheVariants as kind
+use Rattle.fleet_args.specs.Arguments.{shape_for}
 use Rattle.fleet_args.proofs.CommandLemmas.{steps_on}
 use Rattle.fleet_args.proofs.command_line.+with_commands.Goals as goal
 
@@ -9,6 +8,6 @@ pub returns-in_ok-with_command-in-len1-up : goal.returns-in_ok-with_command-in-l
 returns-in_ok-with_command-in-len1-up t c =
     let line = c.in_ok-with_command-in-len1-up.field-0 in
     subst (λ app. IfOk c.with_commands.result (λ command. app_of command ≡ app))
-    (steps_on with_subcommand (shape_for c.args.names) (app_of c.args.line) (app_of line) c.args.kinds.now kind.Instance c.in-len1-up.len_at_least
+    (steps_on with_subcommand (shape_for c.args.names) (app_of c.args.line) (app_of line) c.args.texts.now _ c.in-len1-up.len_at_least
     c.in_ok-with_command-in-len1-up.ensures)
     c.with_commands.ensures

@@ -331,6 +331,15 @@ impl Distances {
         Ok(())
     }
 
+    /// Lets the memory of the lists go, which are empty: where all cells that can be reached are labelled they were long,
+    /// and the search that follows needs the room.
+    fn release_lists(&mut self)
+        ensures { self.new ≡ record self.old { layer = self.new.layer; next = self.new.next } }
+    {
+        self.layer.shrink_to_fit();
+        self.next.shrink_to_fit();
+    }
+
     /// Takes note of the outcome of the search. It decides how far the next one labels cells, and nothing else.
     pub fn learn(&mut self, last: Effort)
         ensures { self.new ≡ record self.old { last = last } }
@@ -360,6 +369,7 @@ impl Distances {
         let beyond = u32::from(horizon) + 1;
         if self.layer.is_empty() {
             self.f_bound = beyond;
+            self.release_lists();
         } else {
             self.f_bound = self.f_bound.min(beyond);
         }

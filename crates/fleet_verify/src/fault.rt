@@ -12,108 +12,53 @@ use fleet_text::{
     OutFault, Refusal, Row, TraceOut, Word, put_line, put_memory, put_named, put_named_at,
     put_named_by, put_next_word, put_words,
 };
-use std::error::Error;
-use std::fmt;
+use thiserror::Error;
 
 /// The first fault of a program for a map and an instance, in the order of the variants; of the agents the least is
 /// reported, and then the least of its actions.
-#[derive(Drop)]
+#[derive(Debug, Drop, Error)]
 pub enum VerifyFault {
+    #[error("out of memory")]
     OutOfMemory,
     /// The program has another number of agents than the instance.
+    #[error("the program and the instance have different numbers of agents")]
     OtherFleet,
     /// An agent begins elsewhere.
+    #[error("agent {agent} does not begin on its start")]
     Start {
         agent: u16,
     },
     /// An agent has another goal, or its path does not end on it.
+    #[error("agent {agent} does not end on its goal")]
     Goal {
         agent: u16,
     },
     /// An action leads off the passable cells. Action 0 is the start, which is passable on the map that the instance
     /// was read for.
+    #[error("action {action} of agent {agent} leads off the passable cells")]
     Step {
         agent: u16,
         action: u32,
     },
     /// An action awaits more actions than the awaited agent has.
+    #[error("action {action} of agent {agent} awaits more actions than there are")]
     AwaitRange {
         agent: u16,
         action: u32,
     },
     /// A ring of needs: each action directly needs the one before, and the first, which is the least, needs the last.
+    #[error("some actions need each other")]
     Cyclic(Vec<ActionId>),
     /// The visits of a cell have no order: the second may not come directly after the first. The cells are judged as
     /// they first occur in the visits by agent and position, and the visits of a cell by the level of the entering
     /// action, 0 for a start, then by agent and position.
+    #[error("a visit of a cell does not wait for the one before to be left")]
     Unordered {
         cell: Cell,
         first: Visit,
         second: Visit,
     },
 }
-
-impl VerifyFault {
-    /// What is wrong, but not where.
-    fn message(&self) -> &'static str {
-        match self {
-            VerifyFault::OutOfMemory => "out of memory",
-            VerifyFault::OtherFleet => {
-                "the program and the instance have different numbers of agents"
-            }
-            VerifyFault::Start { .. } => "does not begin on its start",
-            VerifyFault::Goal { .. } => "does not end on its goal",
-            VerifyFault::Step { .. } => "leads off the passable cells",
-            VerifyFault::AwaitRange { .. } => "awaits more actions than there are",
-            VerifyFault::Cyclic(_) => "some actions need each other",
-            VerifyFault::Unordered { .. } => {
-                "a visit of a cell does not wait for the one before to be left"
-            }
-        }
-    }
-
-    /// The agent that is at fault, if it is one agent.
-    fn agent(&self) -> Option<u16> {
-        match self {
-            VerifyFault::Start { agent }
-            | VerifyFault::Goal { agent }
-            | VerifyFault::Step { agent, .. }
-            | VerifyFault::AwaitRange { agent, .. } => Some(*agent),
-            _ => None,
-        }
-    }
-
-    /// The action of the agent that is at fault, if it is one action.
-    fn action(&self) -> Option<u32> {
-        match self {
-            VerifyFault::Step { action, .. } | VerifyFault::AwaitRange { action, .. } => {
-                Some(*action)
-            }
-            _ => None,
-        }
-    }
-}
-
-impl fmt::Display for VerifyFault {
-    fn fmt<W: fmt::Write>(&self, f: &mut fmt::Formatter<W>) -> fmt::Result {
-        if let Some(action) = self.action() {
-            write!(f, "action {action} of ")?;
-        }
-        if let Some(agent) = self.agent() {
-            write!(f, "agent {agent} ")?;
-        }
-        f.write_str(self.message())
-    }
-}
-
-/// Shows what the message shows.
-impl fmt::Debug for VerifyFault {
-    fn fmt<W: fmt::Write>(&self, f: &mut fmt::Formatter<W>) -> fmt::Result {
-        fmt::Display::fmt(self, f)
-    }
-}
-
-impl Error for VerifyFault {}
 
 impl From<OutOfMemory> for VerifyFault {
     ghost use Rattle.std.specs.Prelude.{◌≡◌};

@@ -7,3 +7,4 @@ pub mod AutoLemmas
 pub mod CountLemmas
 pub mod OutputLemmas
 pub mod VerifyLemmas
+mod DispatchLemmas

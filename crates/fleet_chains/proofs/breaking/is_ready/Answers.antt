@@ -1,5 +1,6 @@
 use Rattle.std.proofs.Common.{arith, slice_index, ◌+◌, refl}
-use Rattle.fleet_verify.proofs.ReadyBy.{await_agent, ready_yes, ready_no}
+use Rattle.fleet_model.specs.Program.{awaits_of}
+use Rattle.fleet_verify.proofs.ReadyBy.{await_agent, met_more, ready_yes, ready_no}
 use Rattle.fleet_chains.proofs.breaking.is_ready.Goals as goal
 
 pub prove-unreachable-requires : goal.prove-unreachable-requires
@@ -17,3 +18,8 @@ returns g c = (
   (λ e. ready_yes (g.P.ProgramView.program c.args.program.now) c.args.counts.now c.args.i (omega arith) c.loop-k.k (omega arith) c.loop-k.invariant),
   (λ r. refl),
 )
+
+pub loop-k-preserved : goal.loop-k-preserved
+loop-k-preserved g c =
+    met_more (awaits_of (g.P.ProgramView.program c.args.program.now) c.args.i (slice_index c.args.counts.now c.args.i + 1)) c.args.counts.now c.loop-k.k c.await_at-awaited.result c.await_at-awaited.ensures
+    c.if-counts-awaited.false c.loop-k.invariant

@@ -66,3 +66,9 @@ loop-question-preserved g c =
 
 pub returns-clause-flagged : goal.returns-clause-flagged
 returns-clause-flagged g c = λ k q e. c.loop-question.invariant.flagged k q (let l = slice_get_within c.args.questions.now k q e in omega (arith, l, c.loop-question-test.false)) e
+
+pub index_mut-requires : goal.index_mut-requires
+index_mut-requires g c =
+    let d : Question = record { first = record { agent = 0; number = 0 }; last = record { agent = 0; number = 0 } } in
+    let question = c.requires.questions c.loop-question.question-index d c.loop-question-test.true in
+    omega (arith, c.from-then-not-is_near.ensures, question.agent, c.loop-question.invariant.all)

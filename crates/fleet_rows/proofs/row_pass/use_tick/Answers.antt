@@ -98,3 +98,14 @@ returns-clause-counts g c =
     mid_over p c.args.ticks _ c.loop-k.pass.counts.items c.loop-k.invariant.counts
     (tick_none p c.args.block.now.notes.now.order c.args.ticks c.loop-k.k c.begin-k.result c.begin-k-end.result c.requires.block.notes.order (omega (arith, c.requires.tick, c.requires.block.notes.ends)) c.begin-k.ensures c.begin-k-end.ensures
     c.loop-k.auto.k-end c.loop-k-test.false)
+
+pub index-requires : goal.index-requires
+index-requires g c =
+    let p = g.P.ProgramView.program c.args.program.now in
+    let t = c.args.ticks in
+    let b = c.args.block.now in
+    let i = c.agent-agent.result in
+    let mid = c.loop-k.invariant.counts in
+    let next = tick_next p b.notes.now.order t c.loop-k.k c.begin-k.result c.begin-k-end.result i c.requires.block.notes.order (omega (arith, c.requires.tick, c.requires.block.notes.ends)) c.begin-k.ensures c.begin-k-end.ensures
+    c.loop-k.auto.k c.loop-k-test.true c.agent-agent.ensures in
+    omega (arith, next.agent, mid.all, c.from.ensures)

@@ -1,4 +1,4 @@
-use Rattle.std.proofs.Common.{◌≡◌, ℕ, length, sym, ap, ◌∙◌, subst, arith, leb-true, le-leb}
+use Rattle.std.proofs.Common.{◌≡◌, true, false, ℕ, length, sym, ap, ◌∙◌, subst, arith, leb-true, le-leb}
 use Rattle.std.specs.Prelude.{Some}
 use Rattle.fleet_model.specs.declared.program.ActionId.{ActionId}
 use Rattle.fleet_model.specs.Program.{awaits_of}
@@ -8,6 +8,13 @@ use Rattle.fleet_rows.proofs.Joining.{own_first, by_await, by_before}
 use Rattle.fleet_rows.proofs.Settling.{some_flag, await_of, none_if_low, own_only, apart_more, none_reached}
 use Rattle.fleet_rows.proofs.settled.+reaches.Goals as goal
 use Rattle.fleet_rows.proofs.settled.+reaches.Goals.{in-Some-false, in-None}
+
+-- a yes is not a no
+no_yes : Some false ≡ Some true → ⊥
+no_yes e = cc
+
+yes_no : Some true ≡ Some false → ⊥
+yes_no e = cc
 
 pub returns-then-last-first-clause-yes : goal.returns-then-last-first-clause-yes
 returns-then-last-first-clause-yes g t c = λ e.
@@ -38,7 +45,7 @@ loop-k-preserved g t c =
         | in-Some-false w ↦
             apart_more p c.args.first c.args.last c.loop-k.k (await_of c.awaited_at-needed.result) c.awaited_at-needed.ensures.awaited
             (c.reaches.ensures.no (w.in-Some-false.is ∙ ap Some w.in-Some-false.field-0-test)) (c.loop-k.invariant.apart (sym w.known-is ∙ known))
-        | in-None w ↦ absurd (grind (arith, known, w.known-is))
+        | in-None w ↦ absurd (let e : true ≡ false = sym known ∙ w.known-is in cc)
       ];
     }
 
@@ -72,10 +79,10 @@ loop-k-init g t c = record {
 }
 
 pub returns-then-tick-clause-yes : goal.returns-then-tick-clause-yes
-returns-then-tick-clause-yes g t c = λ e. absurd (cc)
+returns-then-tick-clause-yes g t c = λ e. absurd (no_yes e)
 
 pub returns-in-Some-true-clause-no : goal.returns-in-Some-true-clause-no
-returns-in-Some-true-clause-no g t c = λ e. absurd (cc)
+returns-in-Some-true-clause-no g t c = λ e. absurd (yes_no e)
 
 pub returns-then-last-le1-clause-yes : goal.returns-then-last-le1-clause-yes
-returns-then-last-le1-clause-yes g t c = λ e. (let some = c.joined.ensures.yes e in absurd (cc))
+returns-then-last-le1-clause-yes g t c = λ e. absurd (no_yes (c.joined.ensures.yes e))

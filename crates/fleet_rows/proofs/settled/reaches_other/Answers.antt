@@ -1,4 +1,4 @@
-use Rattle.std.proofs.Common.{◌≡◌, length, refl, sym, ap, ◌∙◌, subst, arith}
+use Rattle.std.proofs.Common.{◌≡◌, true, false, length, refl, sym, ap, ◌∙◌, subst, arith}
 use Rattle.std.specs.Prelude.{Some}
 use Rattle.fleet_model.specs.declared.program.ActionId.{ActionId}
 use Rattle.fleet_model.specs.Program.{awaits_of}
@@ -6,6 +6,13 @@ use Rattle.fleet_model.specs.Chain.{Reaches}
 use Rattle.fleet_rows.proofs.Settling.{await_of, apart_but, by_other, by_own, none_implied}
 use Rattle.fleet_rows.proofs.settled.reaches_other.Goals as goal
 use Rattle.fleet_rows.proofs.settled.reaches_other.Goals.{then-m-k+in-Some-false, then-m-k+in-None, else-m-k}
+
+-- a yes is not a no
+no_yes : Some false ≡ Some true → ⊥
+no_yes e = cc
+
+yes_no : Some true ≡ Some false → ⊥
+yes_no e = cc
 
 pub returns-in-Some-true-clause-yes : goal.returns-in-Some-true-clause-yes
 returns-in-Some-true-clause-yes g c = λ e.
@@ -21,7 +28,7 @@ loop-m-preserved g c =
         | then-m-k+in-Some-false w ↦
             apart_but p c.args.first c.args.action c.args.k c.loop-m.m (await_of w.awaited_at-other.result) w.awaited_at-other.ensures.awaited
             (λ ne. w.reaches.ensures.no (w.in-Some-false.is ∙ ap Some w.in-Some-false.field-0-test)) (c.loop-m.invariant.apart (sym w.known-is ∙ known))
-        | then-m-k+in-None w ↦ absurd (grind (arith, known, w.known-is))
+        | then-m-k+in-None w ↦ absurd (let e : true ≡ false = sym known ∙ w.known-is in cc)
         | else-m-k w ↦ λ m v l there. c.loop-m.invariant.apart (sym w.known-is ∙ known) m v (omega (arith, l.0, l.1, w.if-m-k.false), l.1) there
       ];
     }
@@ -54,7 +61,7 @@ pub loop-m-init : goal.loop-m-init
 loop-m-init g c = record { apart = λ known m w l. (let before = l.0 in absurd (omega arith)) }
 
 pub returns-in-Some-true-clause-no : goal.returns-in-Some-true-clause-no
-returns-in-Some-true-clause-no g c = λ e. absurd (cc)
+returns-in-Some-true-clause-no g c = λ e. absurd (yes_no e)
 
 pub returns-then-action-le1-clause-yes : goal.returns-then-action-le1-clause-yes
-returns-then-action-le1-clause-yes g c = λ e. (let some = c.joined.ensures.yes e in absurd (cc))
+returns-then-action-le1-clause-yes g c = λ e. absurd (no_yes (c.joined.ensures.yes e))

@@ -38,3 +38,9 @@ returns-clause-added c =
           earliest-again passable o.0 plan task.start task.goal c.args.problem.now.horizon sooner old o.1 c.requires.fits (let e = c.steps-steps.ensures.time in omega arith) (none.1 task t),
     ))
     c.reserve.ensures.ok
+
+pub add_path-requires-clause-agent : goal.add_path-requires-clause-agent
+add_path-requires-clause-agent c = c.requires.agent
+
+pub add_path-requires-clause-tables : goal.add_path-requires-clause-tables
+add_path-requires-clause-tables c = c.requires.tables

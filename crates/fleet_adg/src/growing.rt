@@ -3,7 +3,7 @@
 ghost use Rattle.std.specs.Prelude.{◌≡◌, ◌≤◌, ◌<◌, ◌++◌, [], ◌∷◌, length, map, OnOk, IfOk};
 ghost use Rattle.fleet_model.specs.declared.limits.TheConstants.{MAX_HORIZON};
 ghost use Rattle.fleet_adg.specs.declared.growing.TheConstants.{MOST_RECENT};
-ghost use Rattle.fleet_adg.specs.Growing.{action_of, with_recent};
+ghost use Rattle.fleet_adg.specs.Growing.{recent_action, with_recent};
 
 use crate::leavings::Leaving;
 use fleet_model::{Action, Actions, OutOfMemory, Step};
@@ -20,7 +20,7 @@ pub(crate) struct Entry {
 impl Entry {
     /// Adds the action at the end.
     fn add_to(self, actions: &mut Actions) -> Result<(), OutOfMemory>
-        ensures { OnOk result (actions.new ≡ actions.old ++ action_of self ∷ []) }
+        ensures { OnOk result (actions.new ≡ actions.old ++ recent_action self ∷ []) }
     {
         match self.awaited {
             Some(leaving) => actions.push_parts(self.step, &[leaving.as_await()]),
@@ -82,7 +82,7 @@ impl Growing {
 
     /// Adds an action at the end that awaits at most one leaving.
     pub(crate) fn push(&mut self, entry: Entry) -> Result<(), OutOfMemory>
-        ensures { OnOk result (self.new ≡ self.old ++ action_of entry ∷ []) }
+        ensures { OnOk result (self.new ≡ self.old ++ recent_action entry ∷ []) }
     {
         let count = place_for_one(&mut self.actions, &self.recent, self.count)?;
         self.recent[count] = entry;
@@ -112,7 +112,7 @@ impl Growing {
 /// Adds these actions at the end.
 #[inline(never)]
 fn add_all(actions: &mut Actions, recent: &[Entry]) -> Result<(), OutOfMemory>
-    ensures { OnOk result (actions.new ≡ actions.old ++ map action_of recent.now) }
+    ensures { OnOk result (actions.new ≡ actions.old ++ map recent_action recent.now) }
 {
     for entry in recent {
         entry.add_to(actions)?;

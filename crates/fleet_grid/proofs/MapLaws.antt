@@ -11,7 +11,7 @@ use Rattle.std.proofs.lemmas.List.Sums.{AllPass-from_list_all, list_all-from_All
 use Rattle.fleet_grid.specs.declared.fault.MapFault.{MapFault}
 use Rattle.fleet_grid.specs.declared.fault.MapFault.TheVariants.{Header, Size, RowLength, Glyph, Trailing}
 use Rattle.fleet_text.specs.Text.{Bytes, words, words_from_front, number}
-use Rattle.fleet_grid.specs.Ground.{Ground, cell_at, IsSide, IsGround}
+use Rattle.fleet_grid.specs.Ground.{Ground, is_ground_at, IsSide, IsGround}
 use Rattle.fleet_grid.specs.MapText.{line_at, is_ground_glyph, is_glyph, is_no_glyph, cells_of, is_row_space, IsKindLine, IsNumberLine, IsMapLine, IsHeader, IsSizedHeader, IsGlyphRow, AreMapRows, AreEmpty, AreMapLines}
 use Rattle.fleet_text.specs.Steps.{none_or, ◌>>=◌, ◌>>◌, right_or, some_or}
 use Rattle.fleet_grid.specs.MapReading.{after_keyword, is_alone, field, number_field, is_side, header_at, row_at, rows_at, map_at}
@@ -272,7 +272,7 @@ sizes_are ls g a =
       cells = All-from_recursion (λ row. length row ≡ g.width) g.rows widths;
     }
 
-pub cell_of : (ls : List Bytes) (g : Ground) (x y : ℕ) → AreMapLines ls g → x < g.width → y < g.height → cell_at g x y ≡ is_ground_glyph (get_or (line_at ls (4 + y)) x 0)
+pub cell_of : (ls : List Bytes) (g : Ground) (x y : ℕ) → AreMapLines ls g → x < g.width → y < g.height → is_ground_at g x y ≡ is_ground_glyph (get_or (line_at ls (4 + y)) x 0)
 cell_of ls g x y a in_row in_rows =
     let lines = take g.height (drop 4 ls) in
     let count : length lines ≡ g.height = length-take-le g.height (drop 4 ls) a.rows.count in

@@ -7,7 +7,7 @@ use Rattle.std.proofs.lemmas.Bool.{cases_lt}
 use Rattle.std.proofs.lemmas.List.{length-append, length-take-le, length-drop, get_or-take, get_or-drop, get_or_past, get_or_append_left, get_or-append_right, drop-drop, take_at, take-append-le, drop-append-le, nil_from_length}
 use Rattle.std.proofs.lemmas.List.Elements.{All-from_recursion, All-get_or}
 use Rattle.fleet_model.specs.declared.geometry.Place.{Place}
-use Rattle.fleet_grid.specs.Ground.{Ground, cell_at, passable_at, is_passable, IsNoNumber, IsNoCell, IsSide, IsGround}
+use Rattle.fleet_grid.specs.Ground.{Ground, is_ground_at, passable_at, is_passable, IsNoNumber, IsNoCell, IsSide, IsGround}
 use Rattle.fleet_grid.specs.Stored.{bits_of, stored_cells, byte_count, rows_of, ground_of, IsStored}
 use Rattle.fleet_grid.proofs.BitLaws.{length-bits_of, length-cells_in}
 
@@ -100,17 +100,17 @@ module _ (w h n : ℕ) (bytes : List ℕ) (s : IsStored w h n bytes) where
       let row : y * byte_count w + byte_count w ≤ byte_count w * h = rows_fit (byte_count w) y h in_rows in
       omega (arith, s.size)
 
-  pub stored_cell : (x y : ℕ) → x < w → y < h → cell_at (ground_of w h bytes) x y ≡ eqb (get_or bytes (y * byte_count w + x / 8) 0 / 2 ^ (x % 8) % 2) 1
+  pub stored_cell : (x y : ℕ) → x < w → y < h → is_ground_at (ground_of w h bytes) x y ≡ eqb (get_or bytes (y * byte_count w + x / 8) 0 / 2 ^ (x % 8) % 2) 1
   stored_cell x y in_row in_rows =
       let place : y * (8 * byte_count w) + x ≡ 8 * (y * byte_count w + x / 8) + x % 8 = bit_place (byte_count w) y x in
       cell_is w (8 * byte_count w) h x y (stored_cells bytes) in_row in_rows ∙ ap (λ k. get_or (stored_cells bytes) k false) place ∙ kept_cell bytes (y * byte_count w + x / 8) (x % 8) (byte_within x y in_row in_rows) (omega arith)
 
 -- ---- off the map
 
-past_rows : (g : Ground) (x y : ℕ) → length g.rows ≤ y → cell_at g x y ≡ false
+past_rows : (g : Ground) (x y : ℕ) → length g.rows ≤ y → is_ground_at g x y ≡ false
 past_rows g x y le = let none : get_or g.rows y [] ≡ [] = get_or_past g.rows y [] le in rw none refl
 
-past_row : (g : Ground) (x y : ℕ) → IsGround g → g.width ≤ x → cell_at g x y ≡ false
+past_row : (g : Ground) (x y : ℕ) → IsGround g → g.width ≤ x → is_ground_at g x y ≡ false
 past_row g x y s le =
     elim (cases_lt y (length g.rows)) [
       | inl lt ↦ get_or_past (get_or g.rows y []) x false (omega (arith, All-get_or (λ row. length row ≡ g.width) g.rows y [] lt s.cells))
@@ -118,7 +118,7 @@ past_row g x y s le =
     ]
 
 -- off the map nothing is passable
-pub off_map : (g : Ground) (x y : ℕ) → IsGround g → (g.width ≤ x) ⊎ (g.height ≤ y) → cell_at g x y ≡ false
+pub off_map : (g : Ground) (x y : ℕ) → IsGround g → (g.width ≤ x) ⊎ (g.height ≤ y) → is_ground_at g x y ≡ false
 off_map g x y s (inl right) = past_row g x y s right
 off_map g x y s (inr below) = past_rows g x y (omega (arith, s.rows))
 

@@ -12,12 +12,12 @@ pub record Ground : Type 0 where
   pub rows : List (List Bool)
 
 -- whether the cell in column x, row y is passable. Off the map none is
-abbrev pub cell_at : Ground → ℕ → ℕ → Bool
-cell_at g x y = get_or (get_or g.rows y []) x false
+abbrev pub is_ground_at : Ground → ℕ → ℕ → Bool
+is_ground_at g x y = get_or (get_or g.rows y []) x false
 
 -- the same by column and row of a place of the plane
 abbrev pub passable_at : Ground → ℤ → ℤ → Bool
-passable_at g (pos x) (pos y) = cell_at g x y
+passable_at g (pos x) (pos y) = is_ground_at g x y
 passable_at g (pos x) (negsuc y) = false
 passable_at g (negsuc x) y = false
 

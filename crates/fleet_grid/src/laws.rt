@@ -4,7 +4,7 @@ ghost use Rattle.std.specs.Prelude.{◌≡◌, ℕ, ◌+◌, ◌<◌, ◌≤◌,
 ghost use Rattle.fleet_model.specs.declared.geometry.Cell.{Cell};
 ghost use Rattle.fleet_text.specs.Text.{lines};
 ghost use Rattle.fleet_text.specs.Verdict.{HasOneVerdict};
-ghost use Rattle.fleet_grid.specs.Ground.{Ground, IsGround, cell_at, cell_index};
+ghost use Rattle.fleet_grid.specs.Ground.{Ground, IsGround, is_ground_at, cell_index};
 ghost use Rattle.fleet_grid.specs.MapText.{line_at, is_ground_glyph, IsMapText, IsFirstMapFault};
 
 /// A text stands for one ground at most. Its passable cells are the columns and rows of the passable glyphs, and
@@ -13,8 +13,8 @@ pub fn a_map_text_is_one_ground()
     ensures one { (text : List ℕ) (g h : Ground) → IsMapText text g → IsMapText text h → g ≡ h }
     ensures sizes { (text : List ℕ) (g : Ground) → IsMapText text g → IsGround g }
     ensures cells { (text : List ℕ) (g : Ground) (x y : ℕ) → IsMapText text g → x < g.width → y < g.height
-        → cell_at g x y ≡ is_ground_glyph (get_or (line_at (lines text) (4 + y)) x 0) }
-    ensures elsewhere { (text : List ℕ) (g : Ground) (x y : ℕ) → IsMapText text g → (g.width ≤ x) ⊎ (g.height ≤ y) → cell_at g x y ≡ false }
+        → is_ground_at g x y ≡ is_ground_glyph (get_or (line_at (lines text) (4 + y)) x 0) }
+    ensures elsewhere { (text : List ℕ) (g : Ground) (x y : ℕ) → IsMapText text g → (g.width ≤ x) ⊎ (g.height ≤ y) → is_ground_at g x y ≡ false }
 {}
 
 /// A text either stands for a ground or has a first fault, never both, and it has one first fault at most.

@@ -10,7 +10,7 @@ use Rattle.fleet_model.specs.declared.geometry.Step.TheVariants.{Dwell}
 use Rattle.fleet_model.specs.declared.program.Await.{Await}
 use Rattle.fleet_model.specs.declared.program.Action.{Action}
 use Rattle.fleet_model.specs.declared.step_code.StepCode.{StepCode}
-use Rattle.fleet_model.specs.ActionRows.{step_of, steps_in, actions_after, actions_in, RiseTo, AreRows}
+use Rattle.fleet_model.specs.ActionRows.{coded_step, steps_in, actions_after, actions_in, RiseTo, AreRows}
 
 -- as many as there are steps
 length_after : (begin : ℕ) (steps : List Step) (ends : List ℕ) (awaits : List Await) → length ends ≡ length steps
@@ -25,19 +25,19 @@ actions_long steps ends awaits rows = length_after 0 steps ends awaits rows.coun
 -- as many as there are codes
 pub codes_long : (codes : List StepCode) (ends : List ℕ) (awaits : List Await) → AreRows (steps_in codes) ends awaits
     → length (actions_in (steps_in codes) ends awaits) ≡ length codes
-codes_long codes ends awaits rows = actions_long (steps_in codes) ends awaits rows ∙ length-map codes step_of
+codes_long codes ends awaits rows = actions_long (steps_in codes) ends awaits rows ∙ length-map codes coded_step
 
 -- the step at a place, by its code
-pub code_there : (codes : List StepCode) (k : ℕ) (code : StepCode) (s : Step) → k < length (steps_in codes) → code ≡ get_or codes k code → s ≡ step_of code
+pub code_there : (codes : List StepCode) (k : ℕ) (code : StepCode) (s : Step) → k < length (steps_in codes) → code ≡ get_or codes k code → s ≡ coded_step code
     → s ≡ get_or (steps_in codes) k s
 code_there codes k code s lt is coded =
-    let within : k < length codes = rw (length-map codes step_of) at lt in
-    coded ∙ ap step_of is ∙ sym (get_or-map step_of codes k code s within)
+    let within : k < length codes = rw (length-map codes coded_step) at lt in
+    coded ∙ ap coded_step is ∙ sym (get_or-map coded_step codes k code s within)
 
 -- one more step, by its code
-pub code_more : (codes codes' : List StepCode) (code : StepCode) (s : Step) → codes' ≡ codes ++ code ∷ [] → step_of code ≡ s
+pub code_more : (codes codes' : List StepCode) (code : StepCode) (s : Step) → codes' ≡ codes ++ code ∷ [] → coded_step code ≡ s
     → steps_in codes' ≡ steps_in codes ++ s ∷ []
-code_more codes codes' code s more coded = ap steps_in more ∙ map-append step_of codes (code ∷ []) ∙ ap (λ x. steps_in codes ++ x ∷ []) coded
+code_more codes codes' code s more coded = ap steps_in more ∙ map-append coded_step codes (code ∷ []) ∙ ap (λ x. steps_in codes ++ x ∷ []) coded
 
 -- the action at a place
 there_after : (begin : ℕ) (steps : List Step) (ends : List ℕ) (awaits : List Await) (k : ℕ) (d : Step) → length ends ≡ length steps → k < length steps

@@ -9,16 +9,16 @@ use Rattle.fleet_model.specs.declared.program.Await.{Await}
 use Rattle.fleet_model.specs.declared.program.Action.{Action}
 
 -- the step that has this code
-abbrev pub step_of : StepCode → Step
-step_of ToNorth = Go North
-step_of ToEast = Go East
-step_of ToSouth = Go South
-step_of ToWest = Go West
-step_of Stay = Dwell
+abbrev pub coded_step : StepCode → Step
+coded_step ToNorth = Go North
+coded_step ToEast = Go East
+coded_step ToSouth = Go South
+coded_step ToWest = Go West
+coded_step Stay = Dwell
 
 -- the steps that have these codes
 abbrev pub steps_in : List StepCode → List Step
-steps_in codes = map step_of codes
+steps_in codes = map coded_step codes
 
 -- the actions that have these steps, if so many awaits stand before those of the first
 abbrev pub actions_after : ℕ → List Step → List ℕ → List Await → List Action

@@ -1,7 +1,7 @@
 //! Steps as they are kept in a row.
 
 ghost use Rattle.std.specs.Prelude.{◌≡◌};
-ghost use Rattle.fleet_model.specs.ActionRows.{step_of};
+ghost use Rattle.fleet_model.specs.ActionRows.{coded_step};
 
 use crate::geometry::{Dir, Step};
 
@@ -18,7 +18,7 @@ pub(crate) enum StepCode {
 impl StepCode {
     /// The code of a step.
     pub(crate) fn of(step: Step) -> StepCode
-        ensures { step_of result ≡ step }
+        ensures { coded_step result ≡ step }
     {
         match step {
             Step::Go(Dir::North) => StepCode::North,
@@ -31,7 +31,7 @@ impl StepCode {
 
     /// The step that has this code.
     pub(crate) fn step(self) -> Step
-        ensures { result ≡ step_of self }
+        ensures { result ≡ coded_step self }
     {
         match self {
             StepCode::North => Step::Go(Dir::North),

@@ -12,7 +12,7 @@ use Rattle.fleet_model.specs.Program.{Program, awaits_of, AreInRange, AreAwaits}
 use Rattle.fleet_model.specs.Chain.{Reaches, awaited}
 use Rattle.fleet_model.proofs.Chains.{Reaches-last}
 use Rattle.fleet_rows.specs.Rows.{IsColumn, IsJoined, OfFirst}
-use Rattle.fleet_rows.specs.Implied.{IsImplied, OfOthers, OfOthersOrFirst, IsTold}
+use Rattle.fleet_rows.specs.Implied.{IsImplied, OfOthers, OfOthersOrFirst, IsImpliedFlag}
 use Rattle.fleet_rows.proofs.Joining.{joined_same, joined_more}
 
 abbrev act : ℕ → ℕ → ActionId
@@ -135,7 +135,7 @@ module _ (p : Program) (range : AreInRange p) (i b : ℕ) (k : ℕ) (w : Await) 
     )
   ]
 
-  pub told : IsTold p (record { agent = i; number = b + 1 }) w (nat_le w.count n)
+  pub told : IsImpliedFlag p (record { agent = i; number = b + 1 }) w (nat_le w.count n)
   told = (
     (λ e. implied_out (leb-true w.count n e)),
     (λ s. le-leb w.count n (implied_into s)),

@@ -10,7 +10,7 @@ use Rattle.fleet_model.specs.Program.{Program, moves, awaits_of, AreInRange, IsW
 use Rattle.fleet_model.specs.Chain.{IsAction, DirectlyNeeds, Reaches, IsNumbering, awaited}
 use Rattle.fleet_model.proofs.Reaching.{chain_ends_by_step, Reaches-rises}
 use Rattle.fleet_model.proofs.Chains.{Reaches-last}
-use Rattle.fleet_rows.specs.Implied.{IsImplied, IsTold, first_await}
+use Rattle.fleet_rows.specs.Implied.{IsImplied, IsImpliedFlag, first_await}
 use Rattle.fleet_rows.specs.Settled.{IsSettled, AreSettledOf, AreMoreAsked, IsActionSettled, IsUpTo}
 use Rattle.fleet_rows.proofs.Implying.{await_below}
 use Rattle.fleet_rows.proofs.Flagged.{flag_apart}
@@ -150,7 +150,7 @@ needed_by p range first a k w is last at same more =
 -- ---- awaits settled one after another
 
 -- what is known of an await that others imply, or do not
-pub told_by : (p : Program) (a : ActionId) (w : Await) (known : Option Bool) (flag : Bool) → known ≡ Some flag → (known ≡ Some true → IsImplied p a w) → (known ≡ Some false → IsImplied p a w → ⊥) → IsTold p a w flag
+pub told_by : (p : Program) (a : ActionId) (w : Await) (known : Option Bool) (flag : Bool) → known ≡ Some flag → (known ≡ Some true → IsImplied p a w) → (known ≡ Some false → IsImplied p a w → ⊥) → IsImpliedFlag p a w flag
 told_by p a w known true e is isnt = ((λ f. is e), (λ i. refl))
 told_by p a w known false e is isnt = ((λ f. absurd (unset f)), (λ i. absurd (isnt e i)))
   where
@@ -160,7 +160,7 @@ told_by p a w known false e is isnt = ((λ f. absurd (unset f)), (λ i. absurd (
 module _ (p : Program) (a : ActionId) (first k : ℕ) (oldAsked newAsked old new : List Bool) (more : AreMoreAsked oldAsked newAsked) (others : (n : ℕ) → n ≢ first + k → get_or new n false ≡ get_or old n false) where
   still_settled : (w : Await) (x : ℕ) → x ≢ first + k → IsSettled p oldAsked a w (get_or old x false) → IsSettled p newAsked a w (get_or new x false)
   still_settled w x ne (inl set) = inl (more w.agent set)
-  still_settled w x ne (inr told) = inr (subst (IsTold p a w) (sym (others x ne)) told)
+  still_settled w x ne (inr told) = inr (subst (IsImpliedFlag p a w) (sym (others x ne)) told)
 
   pub settled_more : ((w : Await) → slice_get (awaits_of p a.agent a.number) k ≡ Some w → IsSettled p newAsked a w (get_or new (first + k) false))
       → ((m : ℕ) (w : Await) → m < k → slice_get (awaits_of p a.agent a.number) m ≡ Some w → IsSettled p oldAsked a w (get_or old (first + m) false))
@@ -183,7 +183,7 @@ settled_on p These Next a oldAsked newAsked old new is back apart h before b kb 
     go : These b → IsSettled p oldAsked b w (get_or old (first_await p b + k) false) → IsSettled p newAsked b w (get_or new (first_await p b + k) false)
     go these (inl set) = inl (h.asked w.agent set)
     go these (inr told) =
-        inr (subst (IsTold p b w) (sym (h.others (first_await p b + k) (flag_apart p b a kb is (apart b these) k (slice_get_within (awaits_of p b.agent b.number) k w at)))) told)
+        inr (subst (IsImpliedFlag p b w) (sym (h.others (first_await p b + k) (flag_apart p b a kb is (apart b these) k (slice_get_within (awaits_of p b.agent b.number) k w at)))) told)
 
 pub one_up : (i n : ℕ) (b : ActionId) → IsUpTo i (n + 1) b → IsUpTo i n b ⊎ (b ≡ record { agent = i; number = n + 1 })
 one_up i n b (inl low) = inl (inl low)

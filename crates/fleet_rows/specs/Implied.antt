@@ -43,13 +43,13 @@ pub record AreAwaitPlaces (p : Program) (m : AwaitPlaces) : Type 0 where
   pub each : (a : ActionId) → IsAction p a → slice_index m.firsts.items (action_place m.actions.firsts.items a) ≡ first_await p a
 
 -- the flag says whether the await of the action is implied
-abbrev pub IsTold : Program → ActionId → Await → Bool → Type 0
-IsTold p a w flag = (flag ≡ true) ↔ IsImplied p a w
+abbrev pub IsImpliedFlag : Program → ActionId → Await → Bool → Type 0
+IsImpliedFlag p a w flag = (flag ≡ true) ↔ IsImplied p a w
 
 -- the flags of the action's awaits say whether they are implied, if their agents have a column, and no other flag has
 -- changed
 pub record AreFlagged (p : Program) (columns : Columns) (a : ActionId) (old new : List Bool) : Type 0 where
-  pub told : (k c : ℕ) (w : Await) → slice_get (awaits_of p a.agent a.number) k ≡ Some w → HasColumn columns w.agent c → IsTold p a w (get_or new (first_await p a + k) false)
+  pub told : (k c : ℕ) (w : Await) → slice_get (awaits_of p a.agent a.number) k ≡ Some w → HasColumn columns w.agent c → IsImpliedFlag p a w (get_or new (first_await p a + k) false)
   pub none : (k : ℕ) (w : Await) → slice_get (awaits_of p a.agent a.number) k ≡ Some w → get_or columns.of_agent.items w.agent None ≡ None
       → get_or new (first_await p a + k) false ≡ get_or old (first_await p a + k) false
   pub others : (n : ℕ) → (n < first_await p a) ⊎ (first_await p a + length (awaits_of p a.agent a.number) ≤ n) → get_or new n false ≡ get_or old n false
@@ -58,7 +58,7 @@ pub record AreFlagged (p : Program) (columns : Columns) (a : ActionId) (old new 
 abbrev pub AreToldOf : Program → Columns → (ActionId → Type 0) → List Bool → Type 0
 AreToldOf p columns Done flags =
     (a : ActionId) → IsAction p a → Done a → (k c : ℕ) (w : Await) → slice_get (awaits_of p a.agent a.number) k ≡ Some w → HasColumn columns w.agent c
-    → IsTold p a w (get_or flags (first_await p a + k) false)
+    → IsImpliedFlag p a w (get_or flags (first_await p a + k) false)
 
 -- the flags of awaits of agents without a column are as before
 abbrev pub AreLeft : Program → Columns → List Bool → List Bool → Type 0
@@ -69,7 +69,7 @@ AreLeft p columns old new =
 -- the flags of all awaits of the program say whether they are implied
 abbrev pub AreAllTold : Program → List Bool → Type 0
 AreAllTold p flags =
-    (a : ActionId) → IsAction p a → (k : ℕ) (w : Await) → slice_get (awaits_of p a.agent a.number) k ≡ Some w → IsTold p a w (get_or flags (first_await p a + k) false)
+    (a : ActionId) → IsAction p a → (k : ℕ) (w : Await) → slice_get (awaits_of p a.agent a.number) k ≡ Some w → IsImpliedFlag p a w (get_or flags (first_await p a + k) false)
 
 -- of each await of the program it is known whether it is implied
 pub record AreImplied (p : Program) (m : ImpliedAwaits) : Type 0 where

@@ -7,7 +7,7 @@ use Rattle.fleet_model.specs.Program.{Program, awaits_of, total_moves}
 use Rattle.fleet_model.specs.Chain.{IsAction, IsNumbering}
 use Rattle.fleet_rows.specs.Places.{ArePlaces, action_place}
 use Rattle.fleet_model.specs.Machine.{run, count_at}
-use Rattle.fleet_rows.specs.Implied.{IsTold, first_await}
+use Rattle.fleet_rows.specs.Implied.{IsImpliedFlag, first_await}
 use Rattle.fleet_rows.specs.declared.finish_ticks.FinishTicks.{FinishTicks}
 
 -- ---- the ticks
@@ -44,7 +44,7 @@ pub record AreTicks (p : Program) (m : FinishTicks) : Type 0 where
 
 -- the flag says whether the await is implied, or its agent is asked for
 abbrev pub IsSettled : Program → List Bool → ActionId → Await → Bool → Type 0
-IsSettled p asked a w flag = (get_or asked w.agent false ≡ true) ⊎ IsTold p a w flag
+IsSettled p asked a w flag = (get_or asked w.agent false ≡ true) ⊎ IsImpliedFlag p a w flag
 
 -- it is so of all awaits of these actions
 abbrev pub AreSettledOf : Program → List Bool → (ActionId → Type 0) → List Bool → Type 0

@@ -11,7 +11,7 @@ use Rattle.fleet_plan.specs.Plan.{Plan}
 use Rattle.fleet_search.specs.declared.occupancy.Occupancy.{Occupancy}
 use Rattle.fleet_search.specs.declared.reservation_table.ReservationTable.{ReservationTable}
 use Rattle.fleet_search.specs.Rows.{bucket_in}
-use Rattle.fleet_search.specs.Numbers.{number_in, IsNumbered, HaveOwnLists}
+use Rattle.fleet_search.specs.Numbers.{number_in_rows, IsNumbered, HaveOwnLists}
 use Rattle.fleet_search.specs.Occupancies.{occupancies_of, IsPutIn, IsAdded, AreStays, without, occupancy_at}
 
 -- ---- lists of lists
@@ -88,35 +88,35 @@ list_at-last {X} lists w = rw add-one (ap (λ z. get_or z (length lists) []) (ma
 
 -- ---- numbers of cells
 
-number-past : (rows : List (Vec ℕ Global)) (c : Cell) → length rows ≤ c.y → number_in rows c ≡ 0
-unfolding number_in
+number-past : (rows : List (Vec ℕ Global)) (c : Cell) → length rows ≤ c.y → number_in_rows rows c ≡ 0
+unfolding number_in_rows
 number-past rows c l = ap (λ z. get_or z c.x 0) (list-past rows c.y l)
 
-pub number-read : (rows : List (Vec ℕ Global)) (c : Cell) (row : Vec ℕ Global) → c.y < length rows → row ≡ get_or rows c.y row → number_in rows c ≡ get_or row.items c.x 0
-unfolding number_in
+pub number-read : (rows : List (Vec ℕ Global)) (c : Cell) (row : Vec ℕ Global) → c.y < length rows → row ≡ get_or rows c.y row → number_in_rows rows c ≡ get_or row.items c.x 0
+unfolding number_in_rows
 number-read rows c row l e = ap (λ z. get_or z c.x 0) (list-read rows c.y row l e)
 
-pub same-numbers : (old new : List (Vec ℕ Global)) → ((k : ℕ) → list_in new k ≡ list_in old k) → (c : Cell) → number_in new c ≡ number_in old c
-unfolding number_in
+pub same-numbers : (old new : List (Vec ℕ Global)) → ((k : ℕ) → list_in new k ≡ list_in old k) → (c : Cell) → number_in_rows new c ≡ number_in_rows old c
+unfolding number_in_rows
 same-numbers old new h c = ap (λ z. get_or z c.x 0) (h c.y)
 
 -- a row is replaced
-number-set : (rows : List (Vec ℕ Global)) (y : ℕ) (row : Vec ℕ Global) (c : Cell) → y < length rows → c.y ≡ y → number_in (set rows y row) c ≡ get_or row.items c.x 0
-unfolding number_in
+number-set : (rows : List (Vec ℕ Global)) (y : ℕ) (row : Vec ℕ Global) (c : Cell) → y < length rows → c.y ≡ y → number_in_rows (set rows y row) c ≡ get_or row.items c.x 0
+unfolding number_in_rows
 number-set rows y row c l e = ap (λ z. get_or z c.x 0) (ap (list_in (set rows y row)) e ∙ list-set rows y row l)
 
-number-other : (rows : List (Vec ℕ Global)) (y : ℕ) (row : Vec ℕ Global) (c : Cell) → c.y ≢ y → number_in (set rows y row) c ≡ number_in rows c
-unfolding number_in
+number-other : (rows : List (Vec ℕ Global)) (y : ℕ) (row : Vec ℕ Global) (c : Cell) → c.y ≢ y → number_in_rows (set rows y row) c ≡ number_in_rows rows c
+unfolding number_in_rows
 number-other rows y row c ne = ap (λ z. get_or z c.x 0) (list-other rows y c.y row ne)
 
 module _ (old wide : List (Vec ℕ Global)) (y : ℕ) (row new : Vec ℕ Global) (same : (k : ℕ) → list_in wide k ≡ list_in old k) (l : y < length wide) (e : row ≡ get_or wide y row) where
-  was : (c : Cell) → c.y ≡ y → get_or row.items c.x 0 ≡ number_in old c
+  was : (c : Cell) → c.y ≡ y → get_or row.items c.x 0 ≡ number_in_rows old c
   was c s = sym (number-read wide c row (omega arith) (subst (λ z. row ≡ get_or wide z row) (sym s) e)) ∙ same-numbers old wide same c
 
-  elsewhere : (c : Cell) → c.y ≢ y → number_in (set wide y new) c ≡ number_in old c
+  elsewhere : (c : Cell) → c.y ≢ y → number_in_rows (set wide y new) c ≡ number_in_rows old c
   elsewhere c ne = number-other wide y new c ne ∙ same-numbers old wide same c
 
-  pub numbers-kept : new.items ≡ row.items → (c : Cell) → number_in (set wide y new) c ≡ number_in old c
+  pub numbers-kept : new.items ≡ row.items → (c : Cell) → number_in_rows (set wide y new) c ≡ number_in_rows old c
   numbers-kept h c = elim (cases_eq c.y y) [
     | inr ne ↦ elsewhere c ne
     | inl s ↦ number-set wide y new c l s ∙ ap (λ z. get_or z c.x 0) h ∙ was c s
@@ -139,7 +139,7 @@ own-none = record {
   apart = λ c d ne e. number-past [] c (omega arith);
 }
 
-pub own-kept : (old new : List (Vec ℕ Global)) (lists more : List (Vec Occupancy Global)) → HaveOwnLists old lists → ((c : Cell) → number_in new c ≡ number_in old c) → length lists ≤ length more → HaveOwnLists new more
+pub own-kept : (old new : List (Vec ℕ Global)) (lists more : List (Vec Occupancy Global)) → HaveOwnLists old lists → ((c : Cell) → number_in_rows new c ≡ number_in_rows old c) → length lists ≤ length more → HaveOwnLists new more
 own-kept old new lists more own same long = record {
   few = λ c. (let z = same c in let f = own.few c in omega arith);
   apart = λ c d ne e. same c ∙ own.apart c d ne (sym (same c) ∙ e ∙ same d);
@@ -160,67 +160,67 @@ own-numbered old new lists more cell own put long = record {
   ];
 }
   where
-    here : (c : Cell) → c ≡ cell → number_in new c ≡ length lists + 1
-    here c s = ap (number_in new) s ∙ put.here
+    here : (c : Cell) → c ≡ cell → number_in_rows new c ≡ length lists + 1
+    here c s = ap (number_in_rows new) s ∙ put.here
 
-    below : (c : Cell) → c ≢ cell → number_in new c ≤ length lists
+    below : (c : Cell) → c ≢ cell → number_in_rows new c ≤ length lists
     below c ne = let z = put.others c ne in let f = own.few c in omega arith
 
 -- ---- the stays on a cell
 
-pub stays-numbered : (t : ReservationTable) (c : Cell) (n : ℕ) → number_in t.numbers.items c ≡ n → occupancies_of t c ≡ list_at t.lists.items n
+pub stays-numbered : (t : ReservationTable) (c : Cell) (n : ℕ) → number_in_rows t.numbers.items c ≡ n → occupancies_of t c ≡ list_at t.lists.items n
 unfolding occupancies_of
 stays-numbered t c n e = ap (list_at t.lists.items) e
 
 pub stays-none : (t : ReservationTable) → t.numbers.items ≡ [] → (c : Cell) → occupancies_of t c ≡ []
-stays-none t e c = stays-numbered t c 0 (ap (λ z. number_in z c) e ∙ number-past [] c (omega arith))
+stays-none t e c = stays-numbered t c 0 (ap (λ z. number_in_rows z c) e ∙ number-past [] c (omega arith))
 
 pub stays-same : (old new : ReservationTable) → new.numbers.items ≡ old.numbers.items → new.lists.items ≡ old.lists.items → (c : Cell) → occupancies_of new c ≡ occupancies_of old c
 stays-same old new e h c =
-    let n = number_in old.numbers.items c in
-    stays-numbered new c n (ap (λ z. number_in z c) e) ∙ ap (λ z. list_at z n) h ∙ sym (stays-numbered old c n refl)
+    let n = number_in_rows old.numbers.items c in
+    stays-numbered new c n (ap (λ z. number_in_rows z c) e) ∙ ap (λ z. list_at z n) h ∙ sym (stays-numbered old c n refl)
 
 -- the list at this place is that of the cell
-pub list-here : (t : ReservationTable) (cell : Cell) (k : ℕ) (v : Vec Occupancy Global) → number_in t.numbers.items cell ≡ k + 1 → k < length t.lists.items → v ≡ get_or t.lists.items k v → occupancies_of t cell ≡ v.items
+pub list-here : (t : ReservationTable) (cell : Cell) (k : ℕ) (v : Vec Occupancy Global) → number_in_rows t.numbers.items cell ≡ k + 1 → k < length t.lists.items → v ≡ get_or t.lists.items k v → occupancies_of t cell ≡ v.items
 list-here t cell k v n l e = stays-numbered t cell (k + 1) n ∙ list_at-read t.lists.items (k + 1) v (omega arith) (omega arith) (e ∙ ap (λ j. get_or t.lists.items j v) (omega arith))
 
 -- a list is added
 module _ (old new : ReservationTable) (own : HaveOwnLists old.numbers.items old.lists.items) (w : Vec Occupancy Global) (more : new.lists.items ≡ old.lists.items ++ w ∷ []) where
-  others-more : (c : Cell) → number_in new.numbers.items c ≡ number_in old.numbers.items c → occupancies_of new c ≡ occupancies_of old c
+  others-more : (c : Cell) → number_in_rows new.numbers.items c ≡ number_in_rows old.numbers.items c → occupancies_of new c ≡ occupancies_of old c
   others-more c e =
-      stays-numbered new c (number_in old.numbers.items c) e
-      ∙ ap (λ z. list_at z (number_in old.numbers.items c)) more
-      ∙ list_at-before old.lists.items (number_in old.numbers.items c) w (own.few c)
-      ∙ sym (stays-numbered old c (number_in old.numbers.items c) refl)
+      stays-numbered new c (number_in_rows old.numbers.items c) e
+      ∙ ap (λ z. list_at z (number_in_rows old.numbers.items c)) more
+      ∙ list_at-before old.lists.items (number_in_rows old.numbers.items c) w (own.few c)
+      ∙ sym (stays-numbered old c (number_in_rows old.numbers.items c) refl)
 
-  pub list-unused : ((c : Cell) → number_in new.numbers.items c ≡ number_in old.numbers.items c) → (c : Cell) → occupancies_of new c ≡ occupancies_of old c
+  pub list-unused : ((c : Cell) → number_in_rows new.numbers.items c ≡ number_in_rows old.numbers.items c) → (c : Cell) → occupancies_of new c ≡ occupancies_of old c
   list-unused same c = others-more c (same c)
 
-  pub list-begun : (cell : Cell) → w.items ≡ [] → number_in old.numbers.items cell ≡ 0 → IsNumbered old.numbers.items new.numbers.items cell (length old.lists.items + 1) → (c : Cell) → occupancies_of new c ≡ occupancies_of old c
+  pub list-begun : (cell : Cell) → w.items ≡ [] → number_in_rows old.numbers.items cell ≡ 0 → IsNumbered old.numbers.items new.numbers.items cell (length old.lists.items + 1) → (c : Cell) → occupancies_of new c ≡ occupancies_of old c
   list-begun cell none zero_before put c = elim (cell_cases c cell) [
     | inr ne ↦ others-more c (put.others c ne)
     | inl s ↦
-        stays-numbered new c (length old.lists.items + 1) (ap (number_in new.numbers.items) s ∙ put.here)
+        stays-numbered new c (length old.lists.items + 1) (ap (number_in_rows new.numbers.items) s ∙ put.here)
         ∙ ap (λ z. list_at z (length old.lists.items + 1)) more
         ∙ list_at-last old.lists.items w
         ∙ none
-        ∙ sym (stays-numbered old c 0 (ap (number_in old.numbers.items) s ∙ zero_before))
+        ∙ sym (stays-numbered old c 0 (ap (number_in_rows old.numbers.items) s ∙ zero_before))
   ]
 
 -- a list is exchanged
-module _ (t new : ReservationTable) (own : HaveOwnLists t.numbers.items t.lists.items) (cell : Cell) (k : ℕ) (v w : Vec Occupancy Global) (n : number_in t.numbers.items cell ≡ k + 1) (l : k < length t.lists.items) (e : v ≡ get_or t.lists.items k v) (numbers : new.numbers.items ≡ t.numbers.items) (lists : new.lists.items ≡ set t.lists.items k w) where
+module _ (t new : ReservationTable) (own : HaveOwnLists t.numbers.items t.lists.items) (cell : Cell) (k : ℕ) (v w : Vec Occupancy Global) (n : number_in_rows t.numbers.items cell ≡ k + 1) (l : k < length t.lists.items) (e : v ≡ get_or t.lists.items k v) (numbers : new.numbers.items ≡ t.numbers.items) (lists : new.lists.items ≡ set t.lists.items k w) where
   at : (j : ℕ) → list_at new.lists.items j ≡ list_at (set t.lists.items (k + 1 - 1) w) j
   at j = ap (λ z. list_at z j) lists ∙ ap (λ i. list_at (set t.lists.items i w) j) (omega arith)
 
-  number : (c : Cell) → number_in new.numbers.items c ≡ number_in t.numbers.items c
-  number c = ap (λ z. number_in z c) numbers
+  number : (c : Cell) → number_in_rows new.numbers.items c ≡ number_in_rows t.numbers.items c
+  number c = ap (λ z. number_in_rows z c) numbers
 
   list-put : occupancies_of new cell ≡ w.items
   list-put = stays-numbered new cell (k + 1) (number cell ∙ n) ∙ at (k + 1) ∙ list_at-set t.lists.items (k + 1) w (omega arith) (omega arith)
 
   list-kept : (c : Cell) → c ≢ cell → occupancies_of new c ≡ occupancies_of t c
   list-kept c ne =
-      let j = number_in t.numbers.items c in
+      let j = number_in_rows t.numbers.items c in
       let apart : j ≢ k + 1 = λ s. (let z = own.apart c cell ne (s ∙ sym n) in omega arith) in
       stays-numbered new c j (number c) ∙ at j ∙ list_at-other t.lists.items (k + 1) j w (omega arith) apart ∙ sym (stays-numbered t c j refl)
 
@@ -262,8 +262,8 @@ without-others plan c occupancies h = without-none (length plan) occupancies (λ
 -- the stays of the agent are gone from all lists
 pub stays-removed : (agent : ℕ) (old new : ReservationTable) → new.numbers.items ≡ old.numbers.items → ((k : ℕ) → list_in new.lists.items k ≡ without agent (list_in old.lists.items k)) → (c : Cell) → occupancies_of new c ≡ without agent (occupancies_of old c)
 stays-removed agent old new e h c =
-    let n = number_in old.numbers.items c in
-    stays-numbered new c n (ap (λ z. number_in z c) e) ∙ by_number n ∙ ap (without agent) (sym (stays-numbered old c n refl))
+    let n = number_in_rows old.numbers.items c in
+    stays-numbered new c n (ap (λ z. number_in_rows z c) e) ∙ by_number n ∙ ap (without agent) (sym (stays-numbered old c n refl))
   where
     by_number : (n : ℕ) → list_at new.lists.items n ≡ without agent (list_at old.lists.items n)
     by_number zero = refl

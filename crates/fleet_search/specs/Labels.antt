@@ -4,21 +4,21 @@ use Rattle.fleet_table.specs.Table.{value_in}
 use Rattle.fleet_search.specs.declared.labels.Label.{Label}
 use Rattle.fleet_search.specs.declared.labels.Labels.{Labels}
 
-abbrev pub no_label : Label
-no_label = record { search = 0; time = 0 }
+abbrev pub no_interval_label : Label
+no_interval_label = record { search = 0; time = 0 }
 
 -- the labels of the later intervals of a cell: its row, counted from 1
 abbrev pub later_in : Labels → ℕ → List Label
 later_in l cell = get_or ([] ∷ map (λ v. v.items) l.rows.items) (value_in l.numbers cell) []
 
 -- the label of an interval of a cell
-abbrev pub label_in : Labels → ℕ → ℕ → Label
-label_in l cell zero = value_in l.first cell
-label_in l cell (suc n) = get_or (later_in l cell) n no_label
+abbrev pub interval_label : Labels → ℕ → ℕ → Label
+interval_label l cell zero = value_in l.first cell
+interval_label l cell (suc n) = get_or (later_in l cell) n no_interval_label
 
 -- the earliest time in an interval, if the latest search has come there
 abbrev pub earliest_in : Labels → ℕ → ℕ → Option ℕ
-earliest_in l cell interval = cond ((label_in l cell interval).search == l.search) (Some (label_in l cell interval).time) None
+earliest_in l cell interval = cond ((interval_label l cell interval).search == l.search) (Some (interval_label l cell interval).time) None
 
 -- for each safe interval of each cell the earliest time of a search there, if it has come there
 abbrev pub Times : Type 0
@@ -37,14 +37,14 @@ pub record HaveOwnRows (l : Labels) : Type 0 where
 
 -- no label is one of a later search
 pub record AreLabels (l : Labels) : Type 0 where
-  pub past : (cell interval : ℕ) → (label_in l cell interval).search ≤ l.search
+  pub past : (cell interval : ℕ) → (interval_label l cell interval).search ≤ l.search
   pub rows : HaveOwnRows l
 
 -- the label is put, and the others stay
 pub record IsLabelPut (old new : Labels) (cell interval : ℕ) (label : Label) : Type 0 where
   pub search : new.search ≡ old.search
-  pub set : label_in new cell interval ≡ label
-  pub others : (c n : ℕ) → (c ≢ cell) ⊎ (n ≢ interval) → label_in new c n ≡ label_in old c n
+  pub set : interval_label new cell interval ≡ label
+  pub others : (c n : ℕ) → (c ≢ cell) ⊎ (n ≢ interval) → interval_label new c n ≡ interval_label old c n
 
 -- the time is the earliest in the interval, and the others have theirs as before
 pub record IsLabelSet (old new : Times) (cell interval time : ℕ) : Type 0 where

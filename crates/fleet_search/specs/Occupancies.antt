@@ -7,7 +7,7 @@ use Rattle.fleet_model.specs.declared.limits.TheConstants.{MAX_HORIZON}
 use Rattle.fleet_plan.specs.Plan.{Plan, IsPath, cell_of, steps}
 use Rattle.fleet_search.specs.declared.occupancy.Occupancy.{Occupancy}
 use Rattle.fleet_search.specs.declared.reservation_table.ReservationTable.{ReservationTable}
-use Rattle.fleet_search.specs.Numbers.{number_in, list_of}
+use Rattle.fleet_search.specs.Numbers.{number_in_rows, list_of}
 use Rattle.fleet_search.specs.Way.{FitTogether}
 use Rattle.fleet_search.specs.Reserved.{IsOn}
 
@@ -40,7 +40,7 @@ pub record AreStays (plan : Plan) (c : Cell) (occupancies : List Occupancy) : Ty
 
 -- the occupancies on the cell
 unfoldable pub occupancies_of : ReservationTable → Cell → List Occupancy
-occupancies_of t c = list_of t.lists.items (number_in t.numbers.items c)
+occupancies_of t c = list_of t.lists.items (number_in_rows t.numbers.items c)
 
 -- the occupancies on each cell
 abbrev pub HaveOccupancies : Plan → ReservationTable → Type 0

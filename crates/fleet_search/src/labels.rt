@@ -2,7 +2,7 @@
 
 ghost use Rattle.std.specs.Prelude.{◌≡◌, ◌≢◌, ◌<◌, ◌↔◌, ℕ, IsTrue, suc, OnOk, None, get_or};
 ghost use Rattle.fleet_table.specs.Table.{value_in};
-ghost use Rattle.fleet_search.specs.Labels.{no_label, label_in, earliest_in, AreLabels, HaveOwnRows, IsLabelPut, IsLabelSet, IsSeen};
+ghost use Rattle.fleet_search.specs.Labels.{no_interval_label, interval_label, earliest_in, AreLabels, HaveOwnRows, IsLabelPut, IsLabelSet, IsSeen};
 
 use fleet_model::OutOfMemory;
 use fleet_table::Table;
@@ -73,7 +73,7 @@ impl Labels {
     /// The label of this interval, by whichever search.
     fn label(&self, cell: usize, interval: usize) -> Label
         requires { AreLabels self.now }
-        ensures { result ≡ label_in self.now cell interval }
+        ensures { result ≡ interval_label self.now cell interval }
     {
         if interval == 0 {
             self.first.get(cell)
@@ -85,7 +85,7 @@ impl Labels {
     /// The label at a place of the cell's row.
     fn later(&self, cell: usize, place: usize) -> Label
         requires { AreLabels self.now }
-        ensures { result ≡ label_in self.now cell (suc place) }
+        ensures { result ≡ interval_label self.now cell (suc place) }
     {
         let number = self.numbers.get(cell);
         if number == 0 {
@@ -167,7 +167,7 @@ impl Labels {
 
 /// The label at a place of the row.
 fn label_at(row: &[Label], place: usize) -> Label
-    ensures { result ≡ get_or row.now place no_label }
+    ensures { result ≡ get_or row.now place no_interval_label }
 {
     match row.get(place) {
         Some(label) => *label,
@@ -178,8 +178,8 @@ fn label_at(row: &[Label], place: usize) -> Label
 /// Sets the label at a place of the row.
 fn set_in(row: &mut Vec<Label>, place: usize, label: Label) -> Result<(), OutOfMemory>
     requires { place < 4294967295 }
-    ensures set { OnOk result (get_or row.new.items place no_label ≡ label) }
-    ensures others { OnOk result ((n : ℕ) → n ≢ place → get_or row.new.items n no_label ≡ get_or row.old.items n no_label) }
+    ensures set { OnOk result (get_or row.new.items place no_interval_label ≡ label) }
+    ensures others { OnOk result ((n : ℕ) → n ≢ place → get_or row.new.items n no_interval_label ≡ get_or row.old.items n no_interval_label) }
 {
     if row.len() <= place {
         row.resize(place + 1, NONE)?;

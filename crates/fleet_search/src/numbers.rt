@@ -3,16 +3,16 @@
 
 ghost use Rattle.std.specs.Prelude.{◌≡◌, ◌≢◌, ◌<◌, ◌≤◌, ℕ, [], length, get_or, map, OnOk, OnErr};
 ghost use Rattle.fleet_model.specs.declared.geometry.Cell.{Cell};
-ghost use Rattle.fleet_search.specs.Numbers.{number_in, IsNumbered};
+ghost use Rattle.fleet_search.specs.Numbers.{number_in_rows, IsNumbered};
 
 use crate::rows::widen;
 use fleet_model::{Cell, OutOfMemory};
 use std::alloc::Global;
 
 /// The number of the cell; 0 if it has none.
-#[tactic(auto, unfolding(crate::specs::Numbers::number_in))]
+#[tactic(auto, unfolding(crate::specs::Numbers::number_in_rows))]
 pub fn number_at(rows: &[Vec<u32>], cell: Cell) -> u32
-    ensures { result ≡ number_in rows.now cell }
+    ensures { result ≡ number_in_rows rows.now cell }
 {
     let Some(row) = rows.get(usize::from(cell.y)) else {
         return 0;
@@ -45,7 +45,7 @@ pub fn set_number(
     number: u32,
 ) -> Result<(), OutOfMemory>
     ensures ok { OnOk result (IsNumbered rows.old.items rows.new.items cell number) }
-    ensures err { OnErr result ((c : Cell) → number_in rows.new.items c ≡ number_in rows.old.items c) }
+    ensures err { OnErr result ((c : Cell) → number_in_rows rows.new.items c ≡ number_in_rows rows.old.items c) }
 {
     let y = usize::from(cell.y);
     widen(alloc, rows, y)?;

@@ -21,7 +21,7 @@ pub struct ReservationTable {
 impl ReservationTable {
     ghost use Rattle.std.specs.Prelude.{◌≡◌, ◌+◌, ◌<◌, [], length, IfOk, OnOk, OnErr};
     ghost use Rattle.fleet_model.specs.declared.geometry.Cell.{Cell};
-    ghost use Rattle.fleet_search.specs.Numbers.{number_in};
+    ghost use Rattle.fleet_search.specs.Numbers.{number_in_rows};
     ghost use Rattle.fleet_search.specs.Way.{Fits, joined};
     ghost use Rattle.fleet_search.specs.Occupancies.{AreInOrder, IsAdded, occupancies_of, without, HaveOccupancies};
 
@@ -50,7 +50,7 @@ impl ReservationTable {
     /// The place of the cell's list, which is added if there is none. The occupancies of each cell stay the same.
     fn list_place(&mut self, cell: Cell) -> Result<usize, OutOfMemory>
         ensures within { IfOk result (λ k. k < length self.new.lists.items) }
-        ensures place { IfOk result (λ k. number_in self.new.numbers.items cell ≡ k + 1) }
+        ensures place { IfOk result (λ k. number_in_rows self.new.numbers.items cell ≡ k + 1) }
         ensures same { (c : Cell) → occupancies_of self.new c ≡ occupancies_of self.old c }
     {
         let number = number_at(self.numbers.as_slice(), cell);
@@ -62,9 +62,9 @@ impl ReservationTable {
 
     /// Adds a list for the cell, which has none, and answers its place.
     fn add_list(&mut self, cell: Cell) -> Result<usize, OutOfMemory>
-        requires { number_in self.old.numbers.items cell ≡ 0 }
+        requires { number_in_rows self.old.numbers.items cell ≡ 0 }
         ensures within { IfOk result (λ k. k < length self.new.lists.items) }
-        ensures place { IfOk result (λ k. number_in self.new.numbers.items cell ≡ k + 1) }
+        ensures place { IfOk result (λ k. number_in_rows self.new.numbers.items cell ≡ k + 1) }
         ensures same { (c : Cell) → occupancies_of self.new c ≡ occupancies_of self.old c }
     {
         let place = self.lists.len();

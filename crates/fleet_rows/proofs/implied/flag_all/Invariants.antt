@@ -4,14 +4,14 @@ use Rattle.fleet_model.specs.declared.program.ActionId.{ActionId}
 use Rattle.fleet_model.specs.declared.program.Await.{Await}
 use Rattle.fleet_model.specs.Chain.{IsAction}
 use Rattle.fleet_model.specs.Program.{awaits_of, total_awaits}
-use Rattle.fleet_rows.specs.Implied.{IsTold, first_await}
+use Rattle.fleet_rows.specs.Implied.{IsImpliedFlag, first_await}
 use Rattle.fleet_rows.specs.Settled.{AreSettled}
 use Rattle.fleet_rows.proofs.implied.flag_all.Given as goal
 
 abbrev pub invariant-loop-from : goal.invariant-loop-from
 invariant-loop-from g l = record {
   told : (a : ActionId) → IsAction (g.P.ProgramView.program l.program) a → (k : ℕ) (w : Await) → slice_get (awaits_of (g.P.ProgramView.program l.program) a.agent a.number) k ≡ Some w → w.agent < l.from
-      → IsTold (g.P.ProgramView.program l.program) a w (get_or l.flags.items (first_await (g.P.ProgramView.program l.program) a + k) false);
+      → IsImpliedFlag (g.P.ProgramView.program l.program) a w (get_or l.flags.items (first_await (g.P.ProgramView.program l.program) a + k) false);
   settled : AreSettled (g.P.ProgramView.program l.program) l.asked l.flags.items;
   all : length l.flags.items ≡ total_awaits (g.P.ProgramView.program l.program);
 }

@@ -2,7 +2,7 @@ use Rattle.std.proofs.Common.{◌≡◌, ◌≢◌, ◌+◌, ℕ, false, length,
 use Rattle.std.proofs.lemmas.Option.{slice_get_within}
 use Rattle.fleet_model.specs.Program.{awaits_of}
 use Rattle.fleet_model.proofs.Totals.{total_awaits_fit}
-use Rattle.fleet_rows.specs.Implied.{IsTold}
+use Rattle.fleet_rows.specs.Implied.{IsImpliedFlag}
 use Rattle.fleet_rows.proofs.Joining.{awaited_action}
 use Rattle.fleet_rows.proofs.Flagged.{flag_within, told_of, told_more, left_more}
 use Rattle.fleet_rows.proofs.implied_row.flag_awaits.Goals as goal
@@ -35,7 +35,7 @@ loop-k-preserved g c =
     let others : (n : ℕ) → n ≢ first + k → get_or new n false ≡ get_or c.loop-k.flags n false = λ n ne. c.flag_await.ensures.others n (λ e. ne (e ∙ at)) in
     record {
       told = told_more p columns a first k w c.await_at-awaited.ensures c.loop-k.flags new others
-          (λ n has. subst (IsTold p a w) (sym (ap (λ (x : ℕ). get_or new x false) (sym at) ∙ c.flag_await.ensures.told n has))
+          (λ n has. subst (IsImpliedFlag p a w) (sym (ap (λ (x : ℕ). get_or new x false) (sym at) ∙ c.flag_await.ensures.told n has))
           (told_of p c.requires.range c.agents.ensures.well_formed columns a c.args.row.now c.requires.action c.requires.row k n w c.await_at-awaited.ensures has))
           c.loop-k.invariant.told;
       none = left_more p columns a first k w c.await_at-awaited.ensures c.loop-k.flags new others c.args.flags.now
@@ -51,7 +51,7 @@ returns g c =
     let whole : c.loop-k.k ≡ length (awaits_of p a.agent a.number) = omega (arith, c.loop-k-test.false, c.await_count-k-end.ensures, c.loop-k.auto.k-end) in
     record {
       told = λ m n w l has. (let within = slice_get_within (awaits_of p a.agent a.number) m w l in
-          subst (λ (x : ℕ). IsTold p a w (get_or c.loop-k.flags (x + m) false)) c.first-first.ensures (c.loop-k.invariant.told m n w (omega (arith, within, whole)) l has));
+          subst (λ (x : ℕ). IsImpliedFlag p a w (get_or c.loop-k.flags (x + m) false)) c.first-first.ensures (c.loop-k.invariant.told m n w (omega (arith, within, whole)) l has));
       none = λ m w l none. subst (λ (x : ℕ). get_or c.loop-k.flags (x + m) false ≡ get_or c.args.flags.now (x + m) false) c.first-first.ensures (c.loop-k.invariant.none m w l none);
       others = λ n out. c.loop-k.invariant.others n (elim out [ inl l ↦ inl (omega (arith, c.first-first.ensures)) | inr l ↦ inr (omega (arith, c.first-first.ensures, whole)) ]);
     }

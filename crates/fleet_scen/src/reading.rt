@@ -1,9 +1,6 @@
 //! The reader of scenarios.
 
-ghost use Rattle.std.specs.Prelude.{◌≡◌, ◌≢◌, ◌<◌, ◌+◌, ◌^◌, List, [], length, All, IfOk, IfErr, OnOk, IsOkUnless, Err, false};
-ghost use Rattle.std.specs.HashSet.{contains};
-ghost use Rattle.fleet_model.specs.declared.geometry.Cell.{Cell};
-ghost use Rattle.fleet_model.specs.Geometry.{is_same_cell};
+ghost use Rattle.std.specs.Prelude.{◌≡◌, ◌≢◌, ◌<◌, ◌+◌, ◌^◌, List, [], length, All, IfOk, IfErr, IsOkUnless};
 ghost use Rattle.fleet_model.specs.declared.task.Task.{Task};
 ghost use Rattle.fleet_model.specs.Answer.{IsDueUnless};
 ghost use Rattle.fleet_text.specs.Text.{lines, words};
@@ -123,14 +120,6 @@ fn lacks(asked: Option<u16>, count: usize) -> bool
     }
 }
 
-/// The tasks that were read, with the cells on which they start and end.
-#[derive(Drop)]
-struct Found {
-    tasks: Vec<Task>,
-    starts: HashSet<Cell>,
-    goals: HashSet<Cell>,
-}
-
 /// The tasks of the lines that are left, before which `before` lines stand.
 fn tasks_of(
     alloc: Global,
@@ -142,52 +131,31 @@ fn tasks_of(
     requires { before + length lines.old < 2 ^ 64 }
     ensures { IsDueUnless (λ v. v.items) result (tasks_at grid.now asked before [] lines.old) ScenFault.OutOfMemory }
 {
-    let mut found = Found {
-        tasks: Vec::new(alloc),
-        starts: HashSet::new(alloc),
-        goals: HashSet::new(alloc),
-    };
-    find_tasks(grid, asked, before, lines, &mut found)?;
-    enough_tasks(asked, found.tasks)
-}
-
-/// Reads the tasks of the lines that are left, before which `before` lines stand, into an empty list.
-fn find_tasks(
-    grid: &Grid,
-    asked: Option<u16>,
-    before: u64,
-    lines: &mut Cursor,
-    found: &mut Found,
-) -> Result<(), ScenFault>
-    requires count { before + length lines.old < 2 ^ 64 }
-    requires tasks { found.old.tasks.items ≡ [] }
-    requires starts { (c : Cell) → contains is_same_cell found.old.starts c ≡ false }
-    requires goals { (c : Cell) → contains is_same_cell found.old.goals c ≡ false }
-    ensures read { OnOk result (tasks_at grid.now asked before [] lines.old ≡ scen_judged asked found.new.tasks.items) }
-    ensures fault { IfErr result (λ f. f ≢ ScenFault.OutOfMemory → tasks_at grid.now asked before [] lines.old ≡ Err f) }
-{
+    let mut tasks = Vec::new(alloc);
+    let mut starts = HashSet::new(alloc);
+    let mut goals = HashSet::new(alloc);
     let mut number = before;
-    while lacks(asked, found.tasks.len()) {
+    while lacks(asked, tasks.len()) {
         let Some(line) = lines.next_line() else {
-            return Ok(());
+            return enough_tasks(asked, tasks);
         };
         number += 1;
         if !is_filled(line) {
             continue;
         }
-        if found.tasks.len() >= MAX_AGENTS {
+        if tasks.len() >= MAX_AGENTS {
             return Err(ScenFault::TooMany);
         }
         let task = task_of(grid, number, line)?;
-        if !found.starts.insert(task.start)? {
+        if !starts.insert(task.start)? {
             return Err(ScenFault::SharedStart { line: number });
         }
-        if !found.goals.insert(task.goal)? {
+        if !goals.insert(task.goal)? {
             return Err(ScenFault::SharedGoal { line: number });
         }
-        found.tasks.push(task)?;
+        tasks.push(task)?;
     }
-    Ok(())
+    enough_tasks(asked, tasks)
 }
 
 /// The tasks, if they are enough.

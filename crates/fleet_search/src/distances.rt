@@ -334,7 +334,9 @@ impl Distances {
     /// Lets the memory of the lists go, which are empty: where all cells that can be reached are labelled they were long,
     /// and the search that follows needs the room.
     fn release_lists(&mut self)
-        ensures { self.new ≡ record self.old { layer = self.new.layer; next = self.new.next } }
+        ensures same { self.new ≡ record self.old { layer = self.new.layer; next = self.new.next } }
+        ensures layer { self.new.layer.items ≡ self.old.layer.items }
+        ensures next { self.new.next.items ≡ self.old.next.items }
     {
         self.layer.shrink_to_fit();
         self.next.shrink_to_fit();

@@ -13,7 +13,7 @@ use fleet_model::Cell;
 fn is_near(a: u16, b: u16) -> bool
     ensures { IsTrue result ↔ ((a ≤ b + 1) × (b ≤ a + 1)) }
 {
-    u32::from(a) <= u32::from(b) + 1 && u32::from(b) <= u32::from(a) + 1
+    (u32::from(a) + 1).wrapping_sub(u32::from(b)) <= 2
 }
 
 /// Whether the second cell is the first one or one of its four neighbours.

@@ -195,7 +195,8 @@ fn conflict_in(
 }
 
 /// Enters the agents of the row in their places of the table, in which the others are entered already. Answers whether
-/// it found none of them in the place of another agent.
+/// it found none of them in the place of another agent. Out of line its loop keeps its numbers in registers.
+#[inline(never)]
 fn enter(table: &mut Table<u16>, agents: &[u16], places: &[usize]) -> Result<bool, AllocError>
     requires agents { All (λ i. i < length places.now) agents.now }
     requires others { IsSoForOthers agents.now (length places.now) (HasIn table.old places.now) }
@@ -218,15 +219,8 @@ fn enter_one(table: &mut Table<u16>, i: u16, places: &[usize]) -> Result<bool, A
         → HasIn table.old places.now k → HasIn table.new places.now k) }
 {
     let place = places[usize::from(i)];
-    let other = table.get(place);
-    if other == i {
-        return Ok(true);
-    }
-    if stands_at(places, other, place) {
-        return Ok(false);
-    }
-    table.set(place, i)?;
-    Ok(true)
+    let other = table.replace(place, i)?;
+    Ok(other == i || !stands_at(places, other, place))
 }
 
 /// The first two agents in one place, if the agents that are not in the row are entered in theirs already. If there are
@@ -285,6 +279,21 @@ fn keep_under_way(agents: &mut Vec<u16>, plan: &Plan, time: u32)
         }
     }
     agents.truncate(kept);
+}
+
+/// In how many steps agents that have arrived are dropped once.
+const DROPPED_EACH: u32 = 8;
+
+/// Drops the agents that have arrived by the end of the step after `time`, in the first step and in each eighth one: an
+/// agent that has arrived and is still looked at stays where it is.
+fn drop_arrived(agents: &mut Vec<u16>, plan: &Plan, time: u32)
+    requires time { time < 4294967295 }
+    requires covers { Covers plan.now time agents.old.items }
+    ensures { Covers plan.now (time + 1) agents.new.items }
+{
+    if time % DROPPED_EACH == 0 {
+        keep_under_way(agents, plan, time + 1);
+    }
 }
 
 /// The first conflict of a plan. The rows have an entry for each agent, and the last one has all agents.
@@ -362,7 +371,7 @@ fn step(
         return Ok(Some(Conflict::Vertex { time, i, j }));
     }
     settle(agents, next, places, ahead, walks);
-    keep_under_way(agents, plan, time + 1);
+    drop_arrived(agents, plan, time);
     Ok(None)
 }
 

@@ -20,6 +20,10 @@ page-other pages i k page ne = ap (λ z. get_or z k []) (map-set (λ v. v.items)
 pub places-differ : (k n : ℕ) → k ≢ n → k / 1024 ≡ n / 1024 → k % 1024 ≢ n % 1024
 places-differ k n ne page place = ne (omega arith)
 
+-- the value at its place of the page is that of the number
+pub value-read : {V : Type 0} (old : Table V) (reached : List (Vec V Global)) (number : ℕ) (page : Vec V Global) → ((k : ℕ) → page_in reached k ≡ page_in old.pages.items k) → number / 1024 < length reached → page ≡ get_or reached (number / 1024) page → get_or page.items (number % 1024) old.blank ≡ value_in old number
+value-read old reached number page same within read = ap (λ z. get_or z (number % 1024) old.blank) (sym (page-read reached (number / 1024) page within read) ∙ same (number / 1024))
+
 -- a page is exchanged for one that has the value, and the same values at its other places
 pub page-exchanged : {V : Type 0} (old new : Table V) (reached : List (Vec V Global)) (number : ℕ) (value : V) (page written : Vec V Global) → ((k : ℕ) → page_in reached k ≡ page_in old.pages.items k) → number / 1024 < length reached → page ≡ get_or reached (number / 1024) page → new.pages.items ≡ set reached (number / 1024) written → new.blank ≡ old.blank → get_or written.items (number % 1024) old.blank ≡ value → ((k : ℕ) → k ≢ number % 1024 → get_or written.items k old.blank ≡ get_or page.items k old.blank) → IsSet old new number value
 page-exchanged old new reached number value page written same within read exchanged blank here others = record {

@@ -1,6 +1,6 @@
 //! Tables by number.
 
-ghost use Rattle.std.specs.Prelude.{◌≡◌, ◌≢◌, ◌≤◌, ◌<◌, ℕ, OnOk, length, get_or};
+ghost use Rattle.std.specs.Prelude.{◌≡◌, ◌≢◌, ◌≤◌, ◌<◌, ℕ, OnOk, IfOk, length, get_or};
 ghost use Rattle.fleet_table.specs.declared.table.TheConstants.{PAGE};
 ghost use Rattle.fleet_table.specs.Table.{IsSet, page_in, value_in};
 
@@ -45,14 +45,24 @@ impl<V: Copy> Table<V> {
         }
     }
 
+    /// Sets the value of the number, and answers the one before. It fails only if memory is refused.
+    #[inline(always)]
+    pub fn replace(&mut self, number: usize, value: V) -> Result<V, AllocError>
+        ensures before { IfOk result (λ before. before ≡ value_in self.old number) }
+        ensures set { OnOk result (IsSet self.old self.new number value) }
+    {
+        let page = number / PAGE;
+        reach(self.alloc, &mut self.pages, page)?;
+        let before = replace_in(&mut self.pages[page], number % PAGE, value, self.blank)?;
+        Ok(before)
+    }
+
     /// Sets the value of the number. It fails only if memory is refused.
     #[inline(always)]
     pub fn set(&mut self, number: usize, value: V) -> Result<(), AllocError>
         ensures { OnOk result (IsSet self.old self.new number value) }
     {
-        let page = number / PAGE;
-        reach(self.alloc, &mut self.pages, page)?;
-        write(&mut self.pages[page], number % PAGE, value, self.blank)?;
+        self.replace(number, value)?;
         Ok(())
     }
 }
@@ -70,18 +80,20 @@ fn reach<V: Copy>(alloc: Global, pages: &mut Vec<Vec<V>>, page: usize) -> Result
     Ok(())
 }
 
-/// Writes the value at a place of the page.
+/// Writes the value at a place of the page, and answers the one before.
 #[inline(always)]
-fn write<V: Copy>(page: &mut Vec<V>, place: usize, value: V, blank: V) -> Result<(), AllocError>
+fn replace_in<V: Copy>(page: &mut Vec<V>, place: usize, value: V, blank: V) -> Result<V, AllocError>
     requires { place < PAGE }
+    ensures before { IfOk result (λ before. before ≡ get_or page.old.items place blank) }
     ensures here { OnOk result (get_or page.new.items place blank ≡ value) }
     ensures others { OnOk result ((k : ℕ) → k ≢ place → get_or page.new.items k blank ≡ get_or page.old.items k blank) }
 {
     if page.len() <= place {
         fill(page, blank)?;
     }
+    let before = page[place];
     page[place] = value;
-    Ok(())
+    Ok(before)
 }
 
 /// Makes the page whole: the values that it lacks are blank.

@@ -52,14 +52,26 @@ pub fn small_number_of(word: &[u8]) -> Option<u16>
 }
 
 /// The number in front of a text, if it is at most 65,535, and what follows its digits.
-#[tactic(auto, unfolding(crate::specs::Text::small_number_front))]
 pub fn small_number_front(text: &[u8]) -> Option<(u16, &[u8])>
     ensures { option_map (λ x. (x.0, x.1.now)) result ≡ small_number_front text.now }
 {
-    let (number, rest) = number_front(text)?;
-    if number < TOO_LARGE {
-        Some((number as u16, rest))
-    } else {
-        None
+    let [first, after @ ..] = text else {
+        return None;
+    };
+    if !first.is_ascii_digit() {
+        return None;
     }
+    let mut number = u32::from(*first - b'0');
+    let mut rest = after;
+    while let [digit, after @ ..] = rest {
+        if !digit.is_ascii_digit() {
+            return Some((number as u16, rest));
+        }
+        number = 10 * number + u32::from(*digit - b'0');
+        if number >= TOO_LARGE {
+            return None;
+        }
+        rest = after;
+    }
+    Some((number as u16, rest))
 }

@@ -1,5 +1,4 @@
 use Rattle.std.proofs.Common.{◌≡◌, ℕ, ◌+◌, ◌<◌, All, List, length, refl, sym, subst, ap, ◌∙◌, arith}
-use Rattle.fleet_plan.proofs.RowLaws.{covers_on}
 use Rattle.fleet_plan.proofs.MeetLaws.{ahead_agents, entered_apart, first_in, free_in}
 use Rattle.fleet_plan.proofs.SweepLaws.{nobody_yet, unwalked_yet, found_first, found_none, first_meets, others_there, others_stay, others_alone, others_entered, others_settled, swept_on}
 use Rattle.fleet_plan.proofs.sweep.step.Goals as goal
@@ -40,7 +39,7 @@ settle-requires-clause-others c =
 pub returns-clause-none : goal.returns-clause-none
 returns-clause-none c =
     let on = found_none c.cells_have_places_of_their_own.ensures c.args.grid.now c.args.plan.now c.requires.on_map c.args.time c.args.places.now c.fill_next.new.next c.requires.swept.sweep c.fill_next.ensures c.conflict_in-found.result c.is_some.result c.is_some.ensures c.if-is_some.false (free_in c.args.places.now c.fill_next.new.next c.fill_ahead-apart.new.ahead (entered_apart c.args.table.now c.args.places.now c.requires.swept.entered) c.fill_ahead-apart.ensures.ahead c.conflict_in-found.result c.conflict_in-found.ensures.none) in
-    swept_on c.args.grid.now c.args.plan.now c.meeting.new.table c.settle.new.places c.fill_next.new.next c.settle.new.ahead c.settle.new.walks c.keep_under_way.new.agents.items (c.args.time + 1) on (omega arith) (rw c.in_default.is at c.in_ok-i.ensures.none) c.settle.ensures (covers_on c.args.plan.now c.args.time c.args.agents.now.items c.keep_under_way.new.agents.items c.requires.swept.covers c.keep_under_way.ensures)
+    swept_on c.args.grid.now c.args.plan.now c.meeting.new.table c.settle.new.places c.fill_next.new.next c.settle.new.ahead c.settle.new.walks c.drop_arrived.new.agents.items (c.args.time + 1) on (omega arith) (rw c.in_default.is at c.in_ok-i.ensures.none) c.settle.ensures c.drop_arrived.ensures
 
 pub fill_ahead-apart-requires-clause-entered : goal.fill_ahead-apart-requires-clause-entered
 fill_ahead-apart-requires-clause-entered c = c.requires.swept.entered
@@ -102,5 +101,5 @@ settle-requires-clause-ahead c = c.fill_ahead-apart.ensures.ahead.all ∙ c.requ
 pub settle-requires-clause-walks : goal.settle-requires-clause-walks
 settle-requires-clause-walks c = omega (arith, c.fill_next.ensures.all)
 
-pub keep_under_way-requires : goal.keep_under_way-requires
-keep_under_way-requires c = c.requires.swept.covers.agents
+pub drop_arrived-requires-clause-covers : goal.drop_arrived-requires-clause-covers
+drop_arrived-requires-clause-covers c = c.requires.swept.covers

@@ -14,15 +14,17 @@ use Rattle.fleet_model.specs.Geometry.{place_of, moved}
 use Rattle.fleet_model.specs.declared.limits.TheConstants.{MAX_HORIZON}
 use Rattle.fleet_grid.specs.Ground.{is_passable, cell_index}
 use Rattle.fleet_search.specs.declared.state.State.{State}
+use Rattle.fleet_search.specs.declared.link.Link.{Link}
 use Rattle.fleet_search.specs.declared.frontier.Query.{Query}
 use Rattle.fleet_search.specs.declared.frontier.Node.{Node}
 use Rattle.fleet_search.specs.declared.frontier.Expansion.{Expansion}
 use Rattle.fleet_search.specs.declared.frontier.Frontier.{Frontier}
 use Rattle.fleet_search.specs.Reserved.{IsUnoccupied, IsFreeOn}
 use Rattle.fleet_search.specs.Intervals.{IsInInterval, IsEarliestWithin}
+use Rattle.fleet_search.specs.Links.{place_in}
 use Rattle.fleet_search.specs.Rows.{bucket_in, IsPut}
 use Rattle.fleet_search.specs.Labels.{Times, IsLabelSet, IsSeen}
-use Rattle.fleet_search.specs.Search.{heuristic_of, occupancies_on, IsMeasured, AreBeside, IsStep, least_arrival, IsBucket, IsGoalState, no_node, state_in, IsKnown, IsMove, IsReachedFrom, IsSoundNode, IsCovered, IsExpanded, IsSuperseded, IsStateSettled, earliest_of, IsFrontier, IsPosed, IsFrontierOf, IsLeft, IsExpansion, Grows, ExpandsOn, IsFreeUntil, IsFoundAt, IsFoundIn, IsFoundFrom}
+use Rattle.fleet_search.specs.Search.{heuristic_of, occupancies_on, IsMeasured, AreBeside, IsStep, least_arrival, IsBucket, IsGoalState, no_node, state_in, parent_in, IsKnown, IsMove, IsReachedFrom, IsSoundNode, IsCovered, IsExpanded, IsSuperseded, IsStateSettled, earliest_of, IsFrontier, IsPosed, IsFrontierOf, IsLeft, IsExpansion, Grows, ExpandsOn, IsFreeUntil, IsFoundAt, IsFoundIn, IsFoundFrom}
 use Rattle.fleet_search.proofs.Spread.{back, one_place}
 use Rattle.fleet_search.proofs.Chase.{step_ok-alone}
 use Rattle.fleet_search.proofs.IntervalLaws.{stays-apart, one_gap, interval-free_on, interval-since}
@@ -30,8 +32,8 @@ use Rattle.fleet_search.proofs.IntervalLaws.{stays-apart, one_gap, interval-free
 abbrev state : ℕ → Cell → State
 state t c = record { time = t; cell = c }
 
-abbrev node_of : State → ℕ → Node
-node_of m from = record { state = m; parent = from }
+abbrev node_of : State → Link → Node
+node_of m link = record { state = m; parent = link }
 
 -- ---- distances
 
@@ -180,42 +182,42 @@ pushed-grows old new a e = record {
   same = λ s k. absurd (let l = push-long old.nodes.items new.nodes.items a e in omega arith);
 }
 
-pub covered-new : (q : Query) (r r' : List Node) (place u : ℕ) (cell : Cell) → r' ≡ r ++ node_of (state (u + 1) cell) place ∷ [] → IsUnoccupied q.reserved.now (u + 1) cell → IsCovered q r' cell (u + 1)
-covered-new q r r' place u cell e free = record {
+pub covered-new : (q : Query) (r r' : List Node) (link : Link) (u : ℕ) (cell : Cell) → r' ≡ r ++ node_of (state (u + 1) cell) link ∷ [] → IsUnoccupied q.reserved.now (u + 1) cell → IsCovered q r' cell (u + 1)
+covered-new q r r' link u cell e free = record {
   since = u + 1;
   early = omega arith;
-  known = (length r, (let l = push-long r r' (node_of (state (u + 1) cell) place) e in omega arith), ap (λ (z : Node). z.state) (push-end r r' (node_of (state (u + 1) cell) place) e));
+  known = (length r, (let l = push-long r r' (node_of (state (u + 1) cell) link) e in omega arith), ap (λ (z : Node). z.state) (push-end r r' (node_of (state (u + 1) cell) link) e));
   free = λ x a b. subst (λ z. IsUnoccupied q.reserved.now z cell) (let s : u + 1 ≡ x = omega arith in s) free;
 }
 
-module _ (q : Query) (f place : ℕ) (r : List Node) (labels : Times) (open_list : List (Vec ℕ Global)) (fr : IsFrontier q f (Some place) r labels open_list) (left : State) (within : place < length r) (here : state_in r place ≡ left) (u : ℕ) (cell : Cell) (interval : ℕ) (inside : IsInInterval (occupancies_on q cell) interval (u + 1)) (unseen : IsSeen (earliest_of q labels cell interval) (u + 1) → ⊥) (move : IsMove q left u cell) (in_time : u + 1 + heuristic_of q cell ≤ q.horizon) (r' : List Node) (labels' : Times) (open_list' : List (Vec ℕ Global)) (key : ℕ) (e : r' ≡ r ++ node_of (state (u + 1) cell) place ∷ []) (set : IsLabelSet labels labels' (cell_index q.grid.now cell) interval (u + 1)) (bucket : IsBucket q (state (u + 1) cell) key) (put : IsPut open_list open_list' key (length r)) (late : f ≤ key) where
+module _ (q : Query) (f place : ℕ) (r : List Node) (labels : Times) (open_list : List (Vec ℕ Global)) (fr : IsFrontier q f (Some place) r labels open_list) (left : State) (within : place < length r) (here : state_in r place ≡ left) (u : ℕ) (cell : Cell) (interval : ℕ) (inside : IsInInterval (occupancies_on q cell) interval (u + 1)) (unseen : IsSeen (earliest_of q labels cell interval) (u + 1) → ⊥) (move : IsMove q left u cell) (in_time : u + 1 + heuristic_of q cell ≤ q.horizon) (r' : List Node) (labels' : Times) (open_list' : List (Vec ℕ Global)) (key : ℕ) (link : Link) (to : place_in link ≡ place) (e : r' ≡ r ++ node_of (state (u + 1) cell) link ∷ []) (set : IsLabelSet labels labels' (cell_index q.grid.now cell) interval (u + 1)) (bucket : IsBucket q (state (u + 1) cell) key) (put : IsPut open_list open_list' key (length r)) (late : f ≤ key) where
   long : length r' ≡ length r + 1
-  long = push-long r r' (node_of (state (u + 1) cell) place) e
+  long = push-long r r' (node_of (state (u + 1) cell) link) e
 
   more : length r ≤ length r'
-  more = push-more r r' (node_of (state (u + 1) cell) place) e
+  more = push-more r r' (node_of (state (u + 1) cell) link) e
 
   kept : (i : ℕ) → i < length r → get_or r' i no_node ≡ get_or r i no_node
-  kept = push-kept r r' (node_of (state (u + 1) cell) place) e
+  kept = push-kept r r' (node_of (state (u + 1) cell) link) e
 
-  at_end : get_or r' (length r) no_node ≡ node_of (state (u + 1) cell) place
-  at_end = push-end r r' (node_of (state (u + 1) cell) place) e
+  at_end : get_or r' (length r) no_node ≡ node_of (state (u + 1) cell) link
+  at_end = push-end r r' (node_of (state (u + 1) cell) link) e
 
   new_at : state_in r' (length r) ≡ state (u + 1) cell
   new_at = ap (λ (z : Node). z.state) at_end
 
   cases : (i : ℕ) → i < length r' → (i < length r) ⊎ (i ≡ length r)
-  cases = push-cases r r' (node_of (state (u + 1) cell) place) e
+  cases = push-cases r r' (node_of (state (u + 1) cell) link) e
 
-  sound : (i : ℕ) → i < length r' → IsSoundNode q r' (state_in r' i) (get_or r' i no_node).parent
+  sound : (i : ℕ) → i < length r' → IsSoundNode q r' (state_in r' i) (parent_in r' i)
   sound i h = elim (cases i h) [
-    | inl l ↦ subst (λ (z : Node). IsSoundNode q r' z.state z.parent) (sym (kept i l)) (sound-stays q r r' more kept (state_in r i) (get_or r i no_node).parent (fr.sound i l))
-    | inr s ↦ subst (λ i. IsSoundNode q r' (state_in r' i) (get_or r' i no_node).parent) (sym s) (subst (λ (z : Node). IsSoundNode q r' z.state z.parent) (sym at_end) (record {
+    | inl l ↦ subst (λ (z : Node). IsSoundNode q r' z.state (place_in z.parent)) (sym (kept i l)) (sound-stays q r r' more kept (state_in r i) (parent_in r i) (fr.sound i l))
+    | inr s ↦ subst (λ i. IsSoundNode q r' (state_in r' i) (parent_in r' i)) (sym s) (subst (λ (z : Node). IsSoundNode q r' z.state (place_in z.parent)) (sym at_end) (subst (IsSoundNode q r' (state (u + 1) cell)) (sym to) (record {
       reached_from = inr (u, refl, (let m = more in omega arith), subst (λ z. IsMove q z u cell) (sym (same_at q r r' more kept place within ∙ here)) move);
       in_time = in_time;
       on_ground = move.step.on_ground;
       free = move.step.fits.vertex;
-    }))
+    })))
   ]
 
   fresh : (i : ℕ) → i < length r → state_in r i ≡ state (u + 1) cell → ⊥
@@ -482,14 +484,14 @@ swept q f r labels open_list open_list' fr e e' others = record {
 
 -- ---- the start is reached, and nothing else
 
-module _ (q : Query) (ask : IsPosed q) (near : heuristic_of q q.start ≤ q.horizon) (labels labels' : Times) (none open_list : List (Vec ℕ Global)) (blank : (cell interval : ℕ) → labels cell interval ≡ None) (r : List Node) (e : r ≡ [] ++ node_of (state 0 q.start) 0 ∷ []) (interval : ℕ) (inside : IsInInterval (occupancies_on q q.start) interval 0) (set : IsLabelSet labels labels' (cell_index q.grid.now q.start) interval 0) (bare : (k : ℕ) → bucket_in none k ≡ []) (key : ℕ) (bucket : IsBucket q (state 0 q.start) key) (put : IsPut none open_list key 0) where
+module _ (q : Query) (ask : IsPosed q) (near : heuristic_of q q.start ≤ q.horizon) (labels labels' : Times) (none open_list : List (Vec ℕ Global)) (blank : (cell interval : ℕ) → labels cell interval ≡ None) (r : List Node) (link : Link) (e : r ≡ [] ++ node_of (state 0 q.start) link ∷ []) (interval : ℕ) (inside : IsInInterval (occupancies_on q q.start) interval 0) (set : IsLabelSet labels labels' (cell_index q.grid.now q.start) interval 0) (bare : (k : ℕ) → bucket_in none k ≡ []) (key : ℕ) (bucket : IsBucket q (state 0 q.start) key) (put : IsPut none open_list key 0) where
   open-long : length r ≡ 1
-  open-long = let l = push-long [] r (node_of (state 0 q.start) 0) e in omega arith
+  open-long = let l = push-long [] r (node_of (state 0 q.start) link) e in omega arith
 
-  open-at : (i : ℕ) → i < length r → get_or r i no_node ≡ node_of (state 0 q.start) 0
-  open-at i h = elim (push-cases [] r (node_of (state 0 q.start) 0) e i h) [
+  open-at : (i : ℕ) → i < length r → get_or r i no_node ≡ node_of (state 0 q.start) link
+  open-at i h = elim (push-cases [] r (node_of (state 0 q.start) link) e i h) [
     | inl l ↦ absurd (omega arith)
-    | inr s ↦ ap (λ z. get_or r z no_node) s ∙ push-end [] r (node_of (state 0 q.start) 0) e
+    | inr s ↦ ap (λ z. get_or r z no_node) s ∙ push-end [] r (node_of (state 0 q.start) link) e
   ]
 
   open-state : (i : ℕ) → i < length r → state_in r i ≡ state 0 q.start
@@ -532,7 +534,7 @@ module _ (q : Query) (ask : IsPosed q) (near : heuristic_of q q.start ≤ q.hori
   opening = record {
     measured = ask.measured;
     origin = (0, within-first, open-state 0 within-first);
-    sound = λ i h. subst (λ (z : Node). IsSoundNode q r z.state z.parent) (sym (open-at i h)) (record { reached_from = inl (refl, refl); in_time = (let b = near in omega arith); on_ground = ask.on_ground; free = ask.free });
+    sound = λ i h. subst (λ (z : Node). IsSoundNode q r z.state (place_in z.parent)) (sym (open-at i h)) (record { reached_from = inl (refl, refl); in_time = (let b = near in omega arith); on_ground = ask.on_ground; free = ask.free });
     apart = λ i k a b s. first-place i a ∙ sym (first-place k b);
     labelled = λ i h. subst (IsLabelled q labels') (sym (open-state i h)) (λ k g. subst (λ z. IsSeen (earliest_of q labels' q.start z) 0) (one_gap (occupancies_on q q.start) (stays-apart q.reserved.now q.start (occupancies_on q q.start) (ask.measured.occupancies q.start)) 0 interval k inside g) (record { time = 0; is = set.set; early = omega arith }));
     met = open-met;

@@ -5,6 +5,7 @@ pub mod Occupancies
 pub mod Intervals
 pub mod Rows
 pub mod Distance
+pub mod Links
 pub mod Search
 pub mod InTurn
 pub mod Told

@@ -23,6 +23,7 @@ use Rattle.fleet_search.specs.Occupancies.{HaveOccupancies, occupancies_of}
 use Rattle.fleet_search.specs.Intervals.{IsInInterval}
 use Rattle.fleet_search.specs.Labels.{Times, earliest_in, IsSeen}
 use Rattle.fleet_search.specs.Rows.{bucket_in}
+use Rattle.fleet_search.specs.Links.{place_in}
 
 -- how many moves lead from the cell to the goal at least
 abbrev pub heuristic_of : Query → Cell → ℕ
@@ -62,11 +63,15 @@ IsGoalState q m = (m.cell ≡ q.goal) × (q.goal_free_from ≤ m.time)
 
 -- the node that stands for those past the end of a list
 abbrev pub no_node : Node
-no_node = record { state = record { time = 0; cell = record { x = 0; y = 0 } }; parent = 0 }
+no_node = record { state = record { time = 0; cell = record { x = 0; y = 0 } }; parent = record { high = 0; low = 0 } }
 
 -- the state of the node at this place of the list
 abbrev pub state_in : List Node → ℕ → State
 state_in nodes i = (get_or nodes i no_node).state
+
+-- the place of the node from which the node at this place was reached
+abbrev pub parent_in : List Node → ℕ → ℕ
+parent_in nodes i = place_in (get_or nodes i no_node).parent
 
 -- the state was reached
 abbrev pub IsKnown : List Node → State → Type 0
@@ -121,7 +126,7 @@ earliest_of q labels c interval = labels (cell_index q.grid.now c) interval
 pub record IsFrontier (q : Query) (f : ℕ) (left : Option ℕ) (nodes : List Node) (labels : Times) (open_list : List (Vec ℕ Global)) : Type 0 where
   pub measured : IsMeasured q
   pub origin : IsKnown nodes (record { time = 0; cell = q.start })
-  pub sound : (i : ℕ) → i < length nodes → IsSoundNode q nodes (state_in nodes i) (get_or nodes i no_node).parent
+  pub sound : (i : ℕ) → i < length nodes → IsSoundNode q nodes (state_in nodes i) (parent_in nodes i)
   pub apart : (i k : ℕ) → i < length nodes → k < length nodes → state_in nodes i ≡ state_in nodes k → i ≡ k
   pub labelled : (i : ℕ) → i < length nodes → (interval : ℕ) → IsInInterval (occupancies_on q (state_in nodes i).cell) interval (state_in nodes i).time → IsSeen (earliest_of q labels (state_in nodes i).cell interval) (state_in nodes i).time
   pub met : (c : Cell) (interval time : ℕ) → IsTrue (is_passable q.grid.now (place_of c)) → interval ≤ length (occupancies_on q c) → earliest_of q labels c interval ≡ Some time → IsInInterval (occupancies_on q c) interval time × IsKnown nodes (record { time = time; cell = c })

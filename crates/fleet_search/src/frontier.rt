@@ -16,6 +16,7 @@ ghost use Rattle.fleet_search.specs.Search.{heuristic_of, occupancies_on, IsMeas
 use crate::arrivals::Arrivals;
 use crate::distances::Distances;
 use crate::intervals::{SafeInterval, begins_after, earliest_within, interval_after};
+use crate::link::Link;
 use crate::occupancy::{Occupancy, started_by};
 use crate::reservation_table::ReservationTable;
 use crate::reservations::Reservations;
@@ -66,7 +67,7 @@ impl Query<'_> {
         ensures inside { IsInInterval (occupancies_on self.now state.cell) result.number state.time }
         ensures until { IsFreeUntil self.now state result.until }
     {
-        interval_after(self.occupancies(state.cell), state.time)
+        interval_after(self.occupancies(state.cell), u32::from(state.time))
     }
 
     /// Whether the step to the cell that begins at the time fits. Nobody is on the cell at its end.
@@ -97,11 +98,11 @@ impl Query<'_> {
     }
 }
 
-/// A state that was reached, and the place in the list of the node from which it was reached (0 for the start).
+/// A state that was reached, and the node from which it was reached (the first one for the start).
 #[derive(Clone, Copy)]
 pub struct Node {
     pub state: State,
-    pub parent: u32,
+    pub parent: Link,
 }
 
 /// A node that is being expanded: its place in the list, and until when the agent may wait there.
@@ -202,12 +203,15 @@ impl Frontier {
             return Ok(());
         }
         let place = self.next_place()?;
-        let state = State { time, cell };
+        let state = State {
+            time: time as u16,
+            cell,
+        };
         self.nodes.push(Node {
             state,
-            parent: left.place,
+            parent: Link::to(left.place),
         })?;
-        self.labels.note(number, interval, time as u16)?;
+        self.labels.note(number, interval, state.time)?;
         put(
             self.alloc,
             &mut self.open_list,
@@ -233,8 +237,8 @@ impl Frontier {
         ensures expands_on { OnOk result (ExpandsOn query.now bucket left self.old self.new) }
         ensures found { OnOk result (IsFoundIn query.now self.new.nodes.items left.state neighbour.now.cell interval) }
     {
-        let Some(time) = earliest_within(neighbour.occupancies, interval, left.state.time + 1)
-        else {
+        let from = u32::from(left.state.time) + 1;
+        let Some(time) = earliest_within(neighbour.occupancies, interval, from) else {
             return Ok(());
         };
         if time > left.until {
@@ -260,7 +264,7 @@ impl Frontier {
         if neighbour.occupancies.is_empty() {
             return self.successor_in(query, bucket, left, neighbour, 0);
         }
-        let first = started_by(neighbour.occupancies, left.state.time + 1);
+        let first = started_by(neighbour.occupancies, u32::from(left.state.time) + 1);
         for interval in first..neighbour.occupancies.len() + 1 {
             if interval > first && begins_after(neighbour.occupancies, interval, left.until) {
                 return Ok(());
@@ -309,7 +313,8 @@ impl Frontier {
             return false;
         }
         let number = query.grid.cell_index(state.cell);
-        self.labels.is_reached(number, interval, state.time - 1)
+        self.labels
+            .is_reached(number, interval, u32::from(state.time) - 1)
     }
 
     /// Adds the successors of the node, unless its safe interval was reached sooner: then the sooner node has them.
@@ -353,7 +358,7 @@ impl Frontier {
         let before = self.nodes.len();
         while let Some(place) = take(&mut self.open_list, bucket) {
             let state = self.nodes[place as usize].state;
-            if state.cell == query.goal && query.goal_free_from <= state.time {
+            if state.cell == query.goal && query.goal_free_from <= u32::from(state.time) {
                 return Ok(BucketEnd::Goal(place));
             }
             self.expand(query, bucket, place, state)?;
@@ -377,7 +382,8 @@ impl Frontier {
             time: 0,
             cell: start,
         };
-        self.nodes.push(Node { state, parent: 0 })?;
+        let parent = Link::to(0);
+        self.nodes.push(Node { state, parent })?;
         let interval = started_by(query.occupancies(start), 0);
         self.labels.begin();
         self.labels.note(query.grid.cell_index(start), interval, 0)?;
@@ -400,7 +406,7 @@ impl Frontier {
             let node = self.nodes[visit as usize];
             // Until the time of a node the agent waits on the cell of its parent.
             if node.state.time == end.time - back {
-                visit = node.parent;
+                visit = node.parent.place();
             }
             cells.push(self.nodes[visit as usize].state.cell)?;
         }

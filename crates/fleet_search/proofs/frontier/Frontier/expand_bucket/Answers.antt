@@ -26,14 +26,14 @@ expand-requires-clause-left c =
     let here = ap (λ (z : Node). z.state) (sym (c.index.ensures ∙ get_or_default r c.in-Some.place c.index.result.now no_node known.0)) in
     record { within = known.0; here = here; bucket = subst (λ z. IsBucket c.args.query.now z c.args.bucket) here known.1 }
 
-pub returns-then-query-state : goal.returns-then-query-state
-returns-then-query-state c =
+pub returns-then-query-from : goal.returns-then-query-from
+returns-then-query-from c =
     let s = c.loop-place.self in
     let r = s.nodes.items in
     let q = c.args.query.now in
     let known = taken-known q c.args.bucket r (times_of s.labels) s.open_list.items c.take.new.rows.items c.in-Some.place c.loop-place.invariant.0 c.in-Some.ensures.some c.in-Some.ensures.others in
     let here = ap (λ (z : Node). z.state) (c.index.ensures ∙ get_or_default r c.in-Some.place c.index.result.now no_node known.0) in
-    let end = subst (IsGoalState q) here (is_same_cell-true c.index.result.now.state.cell q.goal (sym c.eq.ensures ∙ c.if-eq.true), c.if-query-state.true) in
+    let end = subst (IsGoalState q) here (is_same_cell-true c.index.result.now.state.cell q.goal (sym c.eq.ensures ∙ c.if-eq.true), (let late = c.if-query-from.true in omega arith)) in
     (taken q c.args.bucket r (times_of s.labels) s.open_list.items c.take.new.rows.items c.in-Some.place c.loop-place.invariant.0 c.in-Some.ensures.some c.in-Some.ensures.others, record { within = known.0; here = refl; bucket = known.1 }, end)
 
 pub returns-then-len-before : goal.returns-then-len-before

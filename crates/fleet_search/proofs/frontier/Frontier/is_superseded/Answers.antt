@@ -36,9 +36,10 @@ returns c =
     let sound = fr.sound c.args.place left.within in
     let ground = ap (λ (z : State). is_passable q.grid.now (place_of z.cell)) (sym left.here) ∙ sound.on_ground in (
       λ seen.
-          let here = subst (λ z. IsSeen (times_of s.labels z c.args.interval) (m.time - 1)) c.cell_index-number.ensures.value (c.is_reached.ensures.0 seen) in
+          let there = subst (λ t. IsSeen (times_of s.labels c.cell_index-number.result c.args.interval) (t - 1)) c.from.ensures (c.is_reached.ensures.0 seen) in
+          let here = subst (λ z. IsSeen (times_of s.labels z c.args.interval) (m.time - 1)) c.cell_index-number.ensures.value there in
           superseded-seen q (c.args.bucket - 1) _ s.nodes.items (times_of s.labels) s.open_list.items fr m c.args.interval ground here (omega arith) c.requires.inside,
       λ sooner.
           let here = seen-superseded q (c.args.bucket - 1) _ s.nodes.items (times_of s.labels) s.open_list.items fr m c.args.interval c.requires.inside sooner in
-          c.is_reached.ensures.1 (subst (λ z. IsSeen (times_of s.labels z c.args.interval) (m.time - 1)) (sym c.cell_index-number.ensures.value) here),
+          c.is_reached.ensures.1 (subst (λ t. IsSeen (times_of s.labels c.cell_index-number.result c.args.interval) (t - 1)) (sym c.from.ensures) (subst (λ z. IsSeen (times_of s.labels z c.args.interval) (m.time - 1)) (sym c.cell_index-number.ensures.value) here)),
     )

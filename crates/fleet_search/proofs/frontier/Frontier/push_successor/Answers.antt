@@ -33,7 +33,7 @@ note-requires c =
     omega arith
 
 pub returns-clause-found : goal.returns-clause-found
-returns-clause-found c = λ step h. covered-new c.args.query.now c.args.self.now.nodes.items c.push.new.self.items c.args.left.place c.args.begin c.args.neighbour.now.cell c.in_ok-push.ensures.items step.fits.vertex
+returns-clause-found c = λ step h. covered-new c.args.query.now c.args.self.now.nodes.items c.push.new.self.items c.to.result c.args.begin c.args.neighbour.now.cell c.in_ok-push.ensures.items step.fits.vertex
 
 pub returns-clause-expands_on : goal.returns-clause-expands_on
 returns-clause-expands_on c =
@@ -57,7 +57,7 @@ returns-clause-expands_on c =
     let near = near-beside q fr.measured l.state.cell cell ground c.requires.neighbour.on_ground (inr c.requires.neighbour.neighbours) in
     let waits = c.requires.waits in
     let late = bucket-next q l.state (record { time = c.args.begin + 1; cell = cell }) c.args.bucket c.bucket.result c.requires.leaving.left.bucket bucket (omega arith) near.1 in
-    expands_on q c.args.bucket l s _ c.requires.leaving (pushed q (c.args.bucket - 1) l.place r labels s.open_list.items fr l.state c.requires.leaving.left.within c.requires.leaving.left.here c.args.begin cell c.args.interval (subst (λ z. IsInInterval z c.args.interval (c.args.begin + 1)) c.requires.neighbour.occupancies c.requires.interval) unseen move in_time c.push.new.self.items new c.put.new.rows.items c.bucket.result c.in_ok-push.ensures.items set bucket put late) (pushed-grows s _ (record { state = record { time = c.args.begin + 1; cell = cell }; parent = l.place }) c.in_ok-push.ensures.items)
+    expands_on q c.args.bucket l s _ c.requires.leaving (pushed q (c.args.bucket - 1) l.place r labels s.open_list.items fr l.state c.requires.leaving.left.within c.requires.leaving.left.here c.args.begin cell c.args.interval (subst (λ z. IsInInterval z c.args.interval (c.args.begin + 1)) c.requires.neighbour.occupancies c.requires.interval) unseen move in_time c.push.new.self.items new c.put.new.rows.items c.bucket.result c.to.result c.to.ensures c.in_ok-push.ensures.items set bucket put late) (pushed-grows s _ (record { state = record { time = c.args.begin + 1; cell = cell }; parent = c.to.result }) c.in_ok-push.ensures.items)
 
 pub cell_index-number-requires-clause-column : goal.cell_index-number-requires-clause-column
 cell_index-number-requires-clause-column c = (on_map c.args.query.now.grid.now c.args.neighbour.now.cell c.requires.leaving.frontier.measured.heuristic.ready.map c.requires.neighbour.on_ground).0

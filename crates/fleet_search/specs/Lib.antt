@@ -6,6 +6,7 @@ pub mod Intervals
 pub mod Rows
 pub mod Distance
 pub mod Links
+pub mod Frontier
 pub mod Search
 pub mod InTurn
 pub mod Told

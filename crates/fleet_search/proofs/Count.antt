@@ -1,7 +1,5 @@
 -- How many states there are to be reached.
 use Rattle.std.proofs.Common.{◌≡◌, ℕ, ◌+◌, ◌*◌, ◌<◌, ◌≤◌, List, length, Option, arith}
-use Rattle.std.specs.Prelude.{Vec}
-use Rattle.std.specs.declared.alloc.Global.{Global}
 use Rattle.std.proofs.lemmas.Nat.{mul-add-lt, same_from_place}
 use Rattle.fleet_search.specs.declared.state.State.{State}
 use Rattle.fleet_search.specs.declared.frontier.Query.{Query}
@@ -38,7 +36,7 @@ state_number-one w h t m n a b e =
 pub most_states : Query → ℕ
 most_states q = (q.grid.now.width * q.grid.now.height) * (q.horizon + 1)
 
-pub few_known : (q : Query) (f : ℕ) (left : Option ℕ) (r : List Node) (labels : Times) (stacks : List (Vec ℕ Global)) → IsFrontier q f left r labels stacks → length r ≤ most_states q
+pub few_known : (q : Query) (f : ℕ) (left : Option ℕ) (r : List Node) (labels : Times) (stacks : List (List ℕ)) → IsFrontier q f left r labels stacks → length r ≤ most_states q
 unfolding most_states
 few_known q f left r labels stacks fr =
     pigeonhole (length r) ((q.grid.now.width * q.grid.now.height) * (q.horizon + 1)) (λ i. state_number q.grid.now.width q.grid.now.height (state_in r i)) (λ i l. state_number-lt q.grid.now.width q.grid.now.height (q.horizon + 1) (state_in r i) (in_box i l)) (λ i j a b e. fr.apart i j a b (state_number-one q.grid.now.width q.grid.now.height (q.horizon + 1) (state_in r i) (state_in r j) (in_box i a) (in_box j b) e))

@@ -8,6 +8,7 @@ pub mod OccupancyRows
 pub mod Entering
 pub mod Reserving
 pub mod RowLaws
+pub mod Explored
 pub mod IntervalLaws
 pub mod Turning
 pub mod SearchSteps

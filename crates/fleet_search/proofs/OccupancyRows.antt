@@ -10,7 +10,7 @@ use Rattle.fleet_model.proofs.Cells.{cell_from_parts, cell_cases}
 use Rattle.fleet_plan.specs.Plan.{Plan}
 use Rattle.fleet_search.specs.declared.occupancy.Occupancy.{Occupancy}
 use Rattle.fleet_search.specs.declared.reservation_table.ReservationTable.{ReservationTable}
-use Rattle.fleet_search.specs.Rows.{bucket_in}
+use Rattle.fleet_search.specs.Rows.{bucket_of, bucket_in}
 use Rattle.fleet_search.specs.Numbers.{number_in_rows, IsNumbered, HaveOwnLists}
 use Rattle.fleet_search.specs.Occupancies.{occupancies_of, IsPutIn, IsAdded, AreStays, without, occupancy_at}
 
@@ -21,7 +21,7 @@ abbrev pub list_in : {X : Type 0} → List (Vec X Global) → ℕ → List X
 list_in bs k = get_or (map (λ v. v.items) bs) k []
 
 pub same-lists : (old new : List (Vec ℕ Global)) → ((k : ℕ) → bucket_in new k ≡ bucket_in old k) → (k : ℕ) → list_in new k ≡ list_in old k
-unfolding bucket_in
+unfolding bucket_of
 same-lists old new same = same
 
 pub list-past : {X : Type 0} (bs : List (Vec X Global)) (k : ℕ) → length bs ≤ k → list_in bs k ≡ []

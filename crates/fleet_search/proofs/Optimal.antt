@@ -1,7 +1,6 @@
 -- No way arrives before the paths that the search is looking at.
 use Rattle.std.proofs.Common.{◌≡◌, ℕ, zero, suc, ◌+◌, ◌-◌, ◌<◌, ◌≤◌, Bool, IsTrue, List, length, Option, Some, None, ◌⊎◌, inl, inr, sym, ap, ◌∙◌, subst, arith, add-one}
-use Rattle.std.specs.Prelude.{Vec, Contains}
-use Rattle.std.specs.declared.alloc.Global.{Global}
+use Rattle.std.specs.Prelude.{Contains}
 use Rattle.std.proofs.lemmas.Bool.{cases_lt}
 use Rattle.std.proofs.lemmas.Option.{none-some, same_Some}
 use Rattle.fleet_model.specs.declared.geometry.Cell.{Cell}
@@ -13,7 +12,7 @@ use Rattle.fleet_search.specs.Labels.{Times}
 use Rattle.fleet_search.specs.declared.frontier.Node.{Node}
 use Rattle.fleet_grid.specs.Ground.{is_passable}
 use Rattle.fleet_search.specs.Way.{arrival, StepFits, IsFeasiblePath, IsEarliest, IsInfeasible}
-use Rattle.fleet_search.specs.Rows.{bucket_in}
+use Rattle.fleet_search.specs.Rows.{bucket_of}
 use Rattle.fleet_search.specs.Reserved.{IsUnoccupied, IsFreeFrom, IsFreeOn}
 use Rattle.fleet_search.specs.Search.{heuristic_of, IsMeasured, IsStep, IsBucket, IsGoalState, state_in, IsKnown, IsCovered, IsExpanded, IsSuperseded, IsStateSettled, IsFrontier, IsPosed, IsTrail}
 use Rattle.fleet_search.proofs.Steps.{each_step, from_each_step}
@@ -72,7 +71,7 @@ way-free q path w = no-way-busy (is_passable q.grid.now) q.reserved.now q.start 
 pub no-way-heuristic : (q : Query) → IsMeasured q → (path : List Cell) → IsFeasiblePathOf q path → (horizon : ℕ) → horizon < heuristic_of q q.start → arrival path ≤ horizon → ⊥
 no-way-heuristic q m path w horizon l h = let least = way-least q m path w in omega arith
 
-module _ (q : Query) (f : ℕ) (left : Option ℕ) (r : List Node) (labels : Times) (open_list : List (Vec ℕ Global)) (fr : IsFrontier q f left r labels open_list) (bound : (i : ℕ) → left ≡ Some i → IsBucket q (state_in r i) f) (ask : IsPosed q) (path : List Cell) (w : IsFeasiblePathOf q path) (in_time : arrival path ≤ q.horizon) (late : q.goal_free_from < f) (sooner : arrival path < f) where
+module _ (q : Query) (f : ℕ) (left : Option ℕ) (r : List Node) (labels : Times) (open_list : List (List ℕ)) (fr : IsFrontier q f left r labels open_list) (bound : (i : ℕ) → left ≡ Some i → IsBucket q (state_in r i) f) (ask : IsPosed q) (path : List Cell) (w : IsFeasiblePathOf q path) (in_time : arrival path ≤ q.horizon) (late : q.goal_free_from < f) (sooner : arrival path < f) where
   -- all moves from the cell of the way at time t were noted, from a time since which it is free
   record IsLeftBy (t : ℕ) : Type 0 where
     since : ℕ
@@ -90,9 +89,9 @@ module _ (q : Query) (f : ℕ) (left : Option ℕ) (r : List Node) (labels : Tim
   left-after : (t : ℕ) → t ≤ arrival path → (cv : IsCovered q r (cell_at path t) t) → ((before : IsCovered q r (cell_at path t) t) → before.since < cv.since → IsLeftBy t) → IsLeftBy t
   left-after t h cv sooner = go (fr.done cv.known.0 cv.known.1)
     where
-      go : ((k : ℕ) × Contains (bucket_in open_list k) cv.known.0) ⊎ ((left ≡ Some cv.known.0) ⊎ IsStateSettled q r (state_in r cv.known.0)) → IsLeftBy t
+      go : ((k : ℕ) × Contains (bucket_of open_list k) cv.known.0) ⊎ ((left ≡ Some cv.known.0) ⊎ IsStateSettled q r (state_in r cv.known.0)) → IsLeftBy t
       go (inl x) =
-          let l = not-open t cv.since x.0 cv.known.0 h cv.early cv.known.2 (fr.stacked x.0 cv.known.0 x.1).1 in
+          let l = not-open t cv.since x.0 cv.known.0 h cv.early cv.known.2 (fr.stacked x.0 cv.known.0 x.1) in
           absurd (let z = (subst (λ z. Contains z cv.known.0) (fr.past x.0 l) x.1).1 in omega arith)
       go (inr (inl x)) = absurd (let l = not-open t cv.since f cv.known.0 h cv.early cv.known.2 (bound cv.known.0 x) in omega arith)
       go (inr (inr (inl e))) = record { since = cv.since; early = cv.early; free = cv.free; expanded = subst (IsExpanded q r) cv.known.2 e }
@@ -152,7 +151,7 @@ module _ (q : Query) (f : ℕ) (left : Option ℕ) (r : List Node) (labels : Tim
       )
 
 -- no way arrives before this time
-pub at_least : (q : Query) (f : ℕ) (left : Option ℕ) (r : List Node) (labels : Times) (open_list : List (Vec ℕ Global)) → IsFrontier q f left r labels open_list → ((i : ℕ) → left ≡ Some i → IsBucket q (state_in r i) f) → IsPosed q → (path : List Cell) → IsFeasiblePathOf q path → arrival path ≤ q.horizon → q.goal_free_from < f → f ≤ arrival path
+pub at_least : (q : Query) (f : ℕ) (left : Option ℕ) (r : List Node) (labels : Times) (open_list : List (List ℕ)) → IsFrontier q f left r labels open_list → ((i : ℕ) → left ≡ Some i → IsBucket q (state_in r i) f) → IsPosed q → (path : List Cell) → IsFeasiblePathOf q path → arrival path ≤ q.horizon → q.goal_free_from < f → f ≤ arrival path
 at_least q f left r labels open_list fr bound ask path w in_time late = elim (cases_lt (arrival path) f) [
   | inl s ↦ absurd (none-sooner q f left r labels open_list fr bound ask path w in_time late s)
   | inr h ↦ h
@@ -201,7 +200,7 @@ module _ (q : Query) (ask : IsPosed q) (n : ℕ) (path : List Cell) (tr : IsTrai
   }
 
 -- the first end that is found is one of an earliest way
-pub found_earliest : (q : Query) (f place : ℕ) (r : List Node) (labels : Times) (open_list : List (Vec ℕ Global)) (path : List Cell) → IsPosed q → IsFrontier q f (Some place) r labels open_list → place < length r → IsBucket q (state_in r place) f → IsGoalState q (state_in r place) → IsTrail q (state_in r place).time (state_in r place).cell path → IsEarliest (is_passable q.grid.now) q.reserved.now q.start q.goal q.horizon path
+pub found_earliest : (q : Query) (f place : ℕ) (r : List Node) (labels : Times) (open_list : List (List ℕ)) (path : List Cell) → IsPosed q → IsFrontier q f (Some place) r labels open_list → place < length r → IsBucket q (state_in r place) f → IsGoalState q (state_in r place) → IsTrail q (state_in r place).time (state_in r place).cell path → IsEarliest (is_passable q.grid.now) q.reserved.now q.start q.goal q.horizon path
 found_earliest q f place r labels open_list path ask fr within bucket end tr = record {
   way = trail_is_way q ask (state_in r place).time path (subst (λ z. IsTrail q (state_in r place).time z path) end.0 tr) end.1;
   in_time = (let t = time in let b = (fr.sound place within).in_time in omega arith);
@@ -228,7 +227,7 @@ found_earliest q f place r labels open_list path ask fr within bucket end tr = r
     ]
 
 -- where all buckets up to the horizon are empty there is no way
-pub all_looked : (q : Query) (f : ℕ) (r : List Node) (labels : Times) (open_list : List (Vec ℕ Global)) → IsPosed q → IsFrontier q f None r labels open_list → q.goal_free_from ≤ q.horizon → q.horizon < f → IsInfeasible (is_passable q.grid.now) q.reserved.now q.start q.goal q.horizon
+pub all_looked : (q : Query) (f : ℕ) (r : List Node) (labels : Times) (open_list : List (List ℕ)) → IsPosed q → IsFrontier q f None r labels open_list → q.goal_free_from ≤ q.horizon → q.horizon < f → IsInfeasible (is_passable q.grid.now) q.reserved.now q.start q.goal q.horizon
 all_looked q f r labels open_list ask fr goal_free_from h path w in_time =
     let a = at_least q f None r labels open_list fr (λ i s. absurd (none-some i s)) ask path w in_time (omega arith) in
     omega arith

@@ -1,7 +1,5 @@
 -- The search, step by step.
 use Rattle.std.proofs.Common.{◌≡◌, ◌≢◌, ℕ, ◌+◌, ◌-◌, ◌<◌, ◌≤◌, ◌==◌, cond, IsTrue, List, [], ◌∷◌, ◌++◌, length, get_or, Contains, Option, Some, None, ◌⊎◌, inl, inr, refl, sym, ap, ◌∙◌, subst, arith}
-use Rattle.std.specs.Prelude.{Vec}
-use Rattle.std.specs.declared.alloc.Global.{Global}
 use Rattle.std.proofs.lemmas.Bool.{cases_eq, cases_lt, eqb-true, eq-eqb, false_from_ne_true}
 use Rattle.std.proofs.lemmas.Option.{none-some, same_Some}
 use Rattle.std.proofs.lemmas.List.{length_push, get_or_push, get_or_append_left}
@@ -14,15 +12,17 @@ use Rattle.fleet_model.specs.Geometry.{place_of, moved}
 use Rattle.fleet_model.specs.declared.limits.TheConstants.{MAX_HORIZON}
 use Rattle.fleet_grid.specs.Ground.{is_passable, cell_index}
 use Rattle.fleet_search.specs.declared.state.State.{State}
+use Rattle.fleet_search.specs.declared.link.Link.{Link}
 use Rattle.fleet_search.specs.declared.frontier.Query.{Query}
 use Rattle.fleet_search.specs.declared.frontier.Node.{Node}
 use Rattle.fleet_search.specs.declared.frontier.Expansion.{Expansion}
-use Rattle.fleet_search.specs.declared.frontier.Frontier.{Frontier}
+use Rattle.fleet_search.specs.Frontier.{Exploration, ArePlaces, IsTaken, IsSwept}
 use Rattle.fleet_search.specs.Reserved.{IsUnoccupied, IsFreeOn}
 use Rattle.fleet_search.specs.Intervals.{IsInInterval, IsEarliestWithin}
-use Rattle.fleet_search.specs.Rows.{bucket_in, IsPut}
-use Rattle.fleet_search.specs.Labels.{Times, IsLabelSet, IsSeen}
-use Rattle.fleet_search.specs.Search.{heuristic_of, occupancies_on, IsMeasured, AreBeside, IsStep, least_arrival, IsBucket, IsGoalState, no_node, state_in, IsKnown, IsMove, IsReachedFrom, IsSoundNode, IsCovered, IsExpanded, IsSuperseded, IsStateSettled, earliest_of, IsFrontier, IsPosed, IsFrontierOf, IsLeft, IsExpansion, Grows, ExpandsOn, IsFreeUntil, IsFoundAt, IsFoundIn, IsFoundFrom}
+use Rattle.fleet_search.specs.Links.{place_in}
+use Rattle.fleet_search.specs.Rows.{bucket_of, IsPut}
+use Rattle.fleet_search.specs.Labels.{Times, earliest_in, IsLabelSet, IsSeen}
+use Rattle.fleet_search.specs.Search.{heuristic_of, occupancies_on, IsMeasured, AreBeside, IsStep, least_arrival, IsBucket, IsGoalState, no_node, state_in, parent_in, IsKnown, IsMove, IsReachedFrom, IsSoundNode, IsCovered, IsExpanded, IsSuperseded, IsStateSettled, earliest_of, IsFrontier, IsPosed, IsFrontierOf, IsLeft, IsExpansion, Grows, ExpandsOn, IsFreeUntil, IsFoundAt, IsFoundIn, IsFoundFrom}
 use Rattle.fleet_search.proofs.Spread.{back, one_place}
 use Rattle.fleet_search.proofs.Chase.{step_ok-alone}
 use Rattle.fleet_search.proofs.IntervalLaws.{stays-apart, one_gap, interval-free_on, interval-since}
@@ -30,8 +30,8 @@ use Rattle.fleet_search.proofs.IntervalLaws.{stays-apart, one_gap, interval-free
 abbrev state : ℕ → Cell → State
 state t c = record { time = t; cell = c }
 
-abbrev node_of : State → ℕ → Node
-node_of m from = record { state = m; parent = from }
+abbrev node_of : State → Link → Node
+node_of m link = record { state = m; parent = link }
 
 -- ---- distances
 
@@ -84,7 +84,7 @@ module _ (q : Query) (old new : List Node) (more : length old ≤ length new) (k
   pub found-stays : (l : State) (c : Cell) → IsFoundFrom q old l c → IsFoundFrom q new l c
   found-stays l c h u m t = covered-stays c (u + 1) (h u m t)
 
-pub Grows-then : (a b c : Frontier) → Grows a b → Grows b c → Grows a c
+pub Grows-then : (a b c : Exploration) → Grows a b → Grows b c → Grows a c
 Grows-then a b c g h =
     let x = g.more in
     let y = h.more in
@@ -94,26 +94,26 @@ Grows-then a b c g h =
       same = λ e k. h.same (omega arith) k ∙ g.same (omega arith) k;
     }
 
-pub left-stays : (q : Query) (f : ℕ) (old new : Frontier) (place : ℕ) (m : State) → Grows old new → IsLeft q f old place m → IsLeft q f new place m
+pub left-stays : (q : Query) (f : ℕ) (old new : Exploration) (place : ℕ) (m : State) → Grows old new → IsLeft q f old place m → IsLeft q f new place m
 left-stays q f old new place m g l =
     let w = l.within in
     let x = g.more in
-    record { within = omega arith; here = same_at q old.nodes.items new.nodes.items g.more g.kept place w ∙ l.here; bucket = l.bucket }
+    record { within = omega arith; here = same_at q old.nodes new.nodes g.more g.kept place w ∙ l.here; bucket = l.bucket }
 
 -- where the frontier grew, and is one again, the state is still being left
-pub expands_on : (q : Query) (f : ℕ) (l : Expansion) (old new : Frontier) → IsExpansion q f l old → IsFrontierOf q (f - 1) (Some l.place) new → Grows old new → ExpandsOn q f l old new
+pub expands_on : (q : Query) (f : ℕ) (l : Expansion) (old new : Exploration) → IsExpansion q f l old → IsFrontierOf q (f - 1) (Some l.place) new → Grows old new → ExpandsOn q f l old new
 expands_on q f l old new h frontier grows = record {
   leaving = record { horizon = h.horizon; frontier = frontier; left = left-stays q f old new l.place l.state grows h.left; until = h.until };
   grows = grows;
 }
 
-pub ExpandsOn-then : (q : Query) (f : ℕ) (l : Expansion) (a b c : Frontier) → ExpandsOn q f l a b → ExpandsOn q f l b c → ExpandsOn q f l a c
+pub ExpandsOn-then : (q : Query) (f : ℕ) (l : Expansion) (a b c : Exploration) → ExpandsOn q f l a b → ExpandsOn q f l b c → ExpandsOn q f l a c
 ExpandsOn-then q f l a b c g h = record { leaving = h.leaving; grows = Grows-then a b c g.grows h.grows }
 
 -- ---- what was seen before
 
 -- the cell was reached before, and is free since
-pub covered-seen : (q : Query) (f : ℕ) (left : Option ℕ) (nodes : List Node) (labels : Times) (open_list : List (Vec ℕ Global)) → IsFrontier q f left nodes labels open_list → (c : Cell) (interval t : ℕ) → IsTrue (is_passable q.grid.now (place_of c)) → IsSeen (earliest_of q labels c interval) t → IsInInterval (occupancies_on q c) interval t → IsCovered q nodes c t
+pub covered-seen : (q : Query) (f : ℕ) (left : Option ℕ) (nodes : List Node) (labels : Times) (open_list : List (List ℕ)) → IsFrontier q f left nodes labels open_list → (c : Cell) (interval t : ℕ) → IsTrue (is_passable q.grid.now (place_of c)) → IsSeen (earliest_of q labels c interval) t → IsInInterval (occupancies_on q c) interval t → IsCovered q nodes c t
 covered-seen q f left nodes labels open_list fr c interval t ground s g =
     let before = fr.met c interval s.time ground g.bound s.is in
     record {
@@ -124,7 +124,7 @@ covered-seen q f left nodes labels open_list fr c interval t ground s g =
     }
 
 -- the cell was reached sooner in the safe interval of the state
-pub superseded-seen : (q : Query) (f : ℕ) (left : Option ℕ) (nodes : List Node) (labels : Times) (open_list : List (Vec ℕ Global)) → IsFrontier q f left nodes labels open_list → (m : State) (interval : ℕ) → IsTrue (is_passable q.grid.now (place_of m.cell)) → IsSeen (earliest_of q labels m.cell interval) (m.time - 1) → 1 ≤ m.time → IsInInterval (occupancies_on q m.cell) interval m.time → IsSuperseded q nodes m
+pub superseded-seen : (q : Query) (f : ℕ) (left : Option ℕ) (nodes : List Node) (labels : Times) (open_list : List (List ℕ)) → IsFrontier q f left nodes labels open_list → (m : State) (interval : ℕ) → IsTrue (is_passable q.grid.now (place_of m.cell)) → IsSeen (earliest_of q labels m.cell interval) (m.time - 1) → 1 ≤ m.time → IsInInterval (occupancies_on q m.cell) interval m.time → IsSuperseded q nodes m
 superseded-seen q f left nodes labels open_list fr m interval ground s late g =
     let before = fr.met m.cell interval s.time ground g.bound s.is in
     record {
@@ -135,7 +135,7 @@ superseded-seen q f left nodes labels open_list fr m interval ground s late g =
     }
 
 -- what was reached sooner is labelled so
-pub seen-superseded : (q : Query) (f : ℕ) (left : Option ℕ) (nodes : List Node) (labels : Times) (open_list : List (Vec ℕ Global)) → IsFrontier q f left nodes labels open_list → (m : State) (interval : ℕ) → IsInInterval (occupancies_on q m.cell) interval m.time → IsSuperseded q nodes m → IsSeen (earliest_of q labels m.cell interval) (m.time - 1)
+pub seen-superseded : (q : Query) (f : ℕ) (left : Option ℕ) (nodes : List Node) (labels : Times) (open_list : List (List ℕ)) → IsFrontier q f left nodes labels open_list → (m : State) (interval : ℕ) → IsInInterval (occupancies_on q m.cell) interval m.time → IsSuperseded q nodes m → IsSeen (earliest_of q labels m.cell interval) (m.time - 1)
 seen-superseded q f left nodes labels open_list fr m interval g s =
     let known = s.known in
     let sooner = s.sooner in
@@ -173,49 +173,49 @@ module _ (r r' : List Node) (a : Node) (e : r' ≡ r ++ a ∷ []) where
   pub push-cases : (i : ℕ) → i < length r' → (i < length r) ⊎ (i ≡ length r)
   push-cases i h = let l = push-long in elim (cases_lt i (length r)) [ inl k ↦ inl k | inr k ↦ inr (omega arith) ]
 
-pub pushed-grows : (old new : Frontier) (a : Node) → new.nodes.items ≡ old.nodes.items ++ a ∷ [] → Grows old new
+pub pushed-grows : (old new : Exploration) (a : Node) → new.nodes ≡ old.nodes ++ a ∷ [] → Grows old new
 pushed-grows old new a e = record {
-  more = push-more old.nodes.items new.nodes.items a e;
-  kept = push-kept old.nodes.items new.nodes.items a e;
-  same = λ s k. absurd (let l = push-long old.nodes.items new.nodes.items a e in omega arith);
+  more = push-more old.nodes new.nodes a e;
+  kept = push-kept old.nodes new.nodes a e;
+  same = λ s k. absurd (let l = push-long old.nodes new.nodes a e in omega arith);
 }
 
-pub covered-new : (q : Query) (r r' : List Node) (place u : ℕ) (cell : Cell) → r' ≡ r ++ node_of (state (u + 1) cell) place ∷ [] → IsUnoccupied q.reserved.now (u + 1) cell → IsCovered q r' cell (u + 1)
-covered-new q r r' place u cell e free = record {
+pub covered-new : (q : Query) (r r' : List Node) (link : Link) (u : ℕ) (cell : Cell) → r' ≡ r ++ node_of (state (u + 1) cell) link ∷ [] → IsUnoccupied q.reserved.now (u + 1) cell → IsCovered q r' cell (u + 1)
+covered-new q r r' link u cell e free = record {
   since = u + 1;
   early = omega arith;
-  known = (length r, (let l = push-long r r' (node_of (state (u + 1) cell) place) e in omega arith), ap (λ (z : Node). z.state) (push-end r r' (node_of (state (u + 1) cell) place) e));
+  known = (length r, (let l = push-long r r' (node_of (state (u + 1) cell) link) e in omega arith), ap (λ (z : Node). z.state) (push-end r r' (node_of (state (u + 1) cell) link) e));
   free = λ x a b. subst (λ z. IsUnoccupied q.reserved.now z cell) (let s : u + 1 ≡ x = omega arith in s) free;
 }
 
-module _ (q : Query) (f place : ℕ) (r : List Node) (labels : Times) (open_list : List (Vec ℕ Global)) (fr : IsFrontier q f (Some place) r labels open_list) (left : State) (within : place < length r) (here : state_in r place ≡ left) (u : ℕ) (cell : Cell) (interval : ℕ) (inside : IsInInterval (occupancies_on q cell) interval (u + 1)) (unseen : IsSeen (earliest_of q labels cell interval) (u + 1) → ⊥) (move : IsMove q left u cell) (in_time : u + 1 + heuristic_of q cell ≤ q.horizon) (r' : List Node) (labels' : Times) (open_list' : List (Vec ℕ Global)) (key : ℕ) (e : r' ≡ r ++ node_of (state (u + 1) cell) place ∷ []) (set : IsLabelSet labels labels' (cell_index q.grid.now cell) interval (u + 1)) (bucket : IsBucket q (state (u + 1) cell) key) (put : IsPut open_list open_list' key (length r)) (late : f ≤ key) where
+module _ (q : Query) (f place : ℕ) (r : List Node) (labels : Times) (open_list : List (List ℕ)) (fr : IsFrontier q f (Some place) r labels open_list) (places : ArePlaces r open_list) (left : State) (within : place < length r) (here : state_in r place ≡ left) (u : ℕ) (cell : Cell) (interval : ℕ) (inside : IsInInterval (occupancies_on q cell) interval (u + 1)) (unseen : IsSeen (earliest_of q labels cell interval) (u + 1) → ⊥) (move : IsMove q left u cell) (in_time : u + 1 + heuristic_of q cell ≤ q.horizon) (r' : List Node) (labels' : Times) (open_list' : List (List ℕ)) (key : ℕ) (link : Link) (to : place_in link ≡ place) (e : r' ≡ r ++ node_of (state (u + 1) cell) link ∷ []) (set : IsLabelSet labels labels' (cell_index q.grid.now cell) interval (u + 1)) (bucket : IsBucket q (state (u + 1) cell) key) (put : IsPut open_list open_list' key (length r)) (late : f ≤ key) where
   long : length r' ≡ length r + 1
-  long = push-long r r' (node_of (state (u + 1) cell) place) e
+  long = push-long r r' (node_of (state (u + 1) cell) link) e
 
   more : length r ≤ length r'
-  more = push-more r r' (node_of (state (u + 1) cell) place) e
+  more = push-more r r' (node_of (state (u + 1) cell) link) e
 
   kept : (i : ℕ) → i < length r → get_or r' i no_node ≡ get_or r i no_node
-  kept = push-kept r r' (node_of (state (u + 1) cell) place) e
+  kept = push-kept r r' (node_of (state (u + 1) cell) link) e
 
-  at_end : get_or r' (length r) no_node ≡ node_of (state (u + 1) cell) place
-  at_end = push-end r r' (node_of (state (u + 1) cell) place) e
+  at_end : get_or r' (length r) no_node ≡ node_of (state (u + 1) cell) link
+  at_end = push-end r r' (node_of (state (u + 1) cell) link) e
 
   new_at : state_in r' (length r) ≡ state (u + 1) cell
   new_at = ap (λ (z : Node). z.state) at_end
 
   cases : (i : ℕ) → i < length r' → (i < length r) ⊎ (i ≡ length r)
-  cases = push-cases r r' (node_of (state (u + 1) cell) place) e
+  cases = push-cases r r' (node_of (state (u + 1) cell) link) e
 
-  sound : (i : ℕ) → i < length r' → IsSoundNode q r' (state_in r' i) (get_or r' i no_node).parent
+  sound : (i : ℕ) → i < length r' → IsSoundNode q r' (state_in r' i) (parent_in r' i)
   sound i h = elim (cases i h) [
-    | inl l ↦ subst (λ (z : Node). IsSoundNode q r' z.state z.parent) (sym (kept i l)) (sound-stays q r r' more kept (state_in r i) (get_or r i no_node).parent (fr.sound i l))
-    | inr s ↦ subst (λ i. IsSoundNode q r' (state_in r' i) (get_or r' i no_node).parent) (sym s) (subst (λ (z : Node). IsSoundNode q r' z.state z.parent) (sym at_end) (record {
+    | inl l ↦ subst (λ (z : Node). IsSoundNode q r' z.state (place_in z.parent)) (sym (kept i l)) (sound-stays q r r' more kept (state_in r i) (parent_in r i) (fr.sound i l))
+    | inr s ↦ subst (λ i. IsSoundNode q r' (state_in r' i) (parent_in r' i)) (sym s) (subst (λ (z : Node). IsSoundNode q r' z.state (place_in z.parent)) (sym at_end) (subst (IsSoundNode q r' (state (u + 1) cell)) (sym to) (record {
       reached_from = inr (u, refl, (let m = more in omega arith), subst (λ z. IsMove q z u cell) (sym (same_at q r r' more kept place within ∙ here)) move);
       in_time = in_time;
       on_ground = move.step.on_ground;
       free = move.step.fits.vertex;
-    }))
+    })))
   ]
 
   fresh : (i : ℕ) → i < length r → state_in r i ≡ state (u + 1) cell → ⊥
@@ -281,33 +281,33 @@ module _ (q : Query) (f place : ℕ) (r : List Node) (labels : Times) (open_list
         )
   ]
 
-  others : (k : ℕ) → k ≢ key → bucket_in open_list' k ≡ bucket_in open_list k
-  others k ne = put k ∙ ap (λ b. cond b (bucket_in open_list k ++ length r ∷ []) (bucket_in open_list k)) (false_from_ne_true (k == key) (λ s. ne (eqb-true k key s)))
+  others : (k : ℕ) → k ≢ key → bucket_of open_list' k ≡ bucket_of open_list k
+  others k ne = put k ∙ ap (λ b. cond b (bucket_of open_list k ++ length r ∷ []) (bucket_of open_list k)) (false_from_ne_true (k == key) (λ s. ne (eqb-true k key s)))
 
-  there : (k : ℕ) → k ≡ key → bucket_in open_list' k ≡ bucket_in open_list k ++ length r ∷ []
-  there k s = put k ∙ ap (λ b. cond b (bucket_in open_list k ++ length r ∷ []) (bucket_in open_list k)) (eq-eqb k key s)
+  there : (k : ℕ) → k ≡ key → bucket_of open_list' k ≡ bucket_of open_list k ++ length r ∷ []
+  there k s = put k ∙ ap (λ b. cond b (bucket_of open_list k ++ length r ∷ []) (bucket_of open_list k)) (eq-eqb k key s)
 
-  stacked : (k i : ℕ) → Contains (bucket_in open_list' k) i → (i < length r') × IsBucket q (state_in r' i) k
+  stacked : (k i : ℕ) → Contains (bucket_of open_list' k) i → IsBucket q (state_in r' i) k
   stacked k i h = elim (cases_eq k key) [
     | inr ne ↦ old (subst (λ z. Contains z i) (others k ne) h)
-    | inl s ↦ elim (Contains-push_cases (bucket_in open_list k) (length r) i (subst (λ z. Contains z i) (there k s) h)) [
+    | inl s ↦ elim (Contains-push_cases (bucket_of open_list k) (length r) i (subst (λ z. Contains z i) (there k s) h)) [
       | inl o ↦ old o
-      | inr n ↦ subst (λ i. (i < length r') × IsBucket q (state_in r' i) k) n ((let l = long in omega arith), subst (λ z. IsBucket q z k) (sym new_at) (subst (IsBucket q (state (u + 1) cell)) (sym s) bucket))
+      | inr n ↦ subst (λ i. IsBucket q (state_in r' i) k) n (subst (λ z. IsBucket q z k) (sym new_at) (subst (IsBucket q (state (u + 1) cell)) (sym s) bucket))
     ]
   ]
     where
-      old : Contains (bucket_in open_list k) i → (i < length r') × IsBucket q (state_in r' i) k
-      old c = let w = fr.stacked k i c in let l = w.0 in let m = more in (omega arith, subst (λ z. IsBucket q z k) (sym (same_at q r r' more kept i w.0)) w.1)
+      old : Contains (bucket_of open_list k) i → IsBucket q (state_in r' i) k
+      old c = subst (λ z. IsBucket q z k) (sym (same_at q r r' more kept i (places k i c))) (fr.stacked k i c)
 
-  keep : (k i : ℕ) → Contains (bucket_in open_list k) i → Contains (bucket_in open_list' k) i
+  keep : (k i : ℕ) → Contains (bucket_of open_list k) i → Contains (bucket_of open_list' k) i
   keep k i h = elim (cases_eq k key) [
-    | inl s ↦ subst (λ z. Contains z i) (sym (there k s)) (Contains-append_left (bucket_in open_list k) (length r ∷ []) i h)
+    | inl s ↦ subst (λ z. Contains z i) (sym (there k s)) (Contains-append_left (bucket_of open_list k) (length r ∷ []) i h)
     | inr ne ↦ subst (λ z. Contains z i) (sym (others k ne)) h
   ]
 
-  done : (i : ℕ) → i < length r' → ((k : ℕ) × Contains (bucket_in open_list' k) i) ⊎ ((let o : Option ℕ = Some place in o ≡ Some i) ⊎ IsStateSettled q r' (state_in r' i))
+  done : (i : ℕ) → i < length r' → ((k : ℕ) × Contains (bucket_of open_list' k) i) ⊎ ((let o : Option ℕ = Some place in o ≡ Some i) ⊎ IsStateSettled q r' (state_in r' i))
   done i h = elim (cases i h) [
-    | inr s ↦ inl (key, subst (Contains (bucket_in open_list' key)) (sym s) (subst (λ z. Contains z (length r)) (sym (there key refl)) (Contains-push (bucket_in open_list key) (length r))))
+    | inr s ↦ inl (key, subst (Contains (bucket_of open_list' key)) (sym s) (subst (λ z. Contains z (length r)) (sym (there key refl)) (Contains-push (bucket_of open_list key) (length r))))
     | inl l ↦ elim (fr.done i l) [
       | inl w ↦ inl (w.0, keep w.0 i w.1)
       | inr w ↦ elim w [
@@ -379,7 +379,7 @@ pub expanded : (q : Query) (nodes : List Node) (l : State) → ((dir : Dir) → 
 expanded q nodes l there not_end = record { moves = λ u c w m h. there w.0 c w.1 u m h; not_end = not_end }
 
 -- a frontier with other parts
-pub left_done : (q : Query) (f place : ℕ) (r : List Node) (labels : Times) (open_list : List (Vec ℕ Global)) → IsFrontier q f (Some place) r labels open_list → IsStateSettled q r (state_in r place) → IsFrontier q f None r labels open_list
+pub left_done : (q : Query) (f place : ℕ) (r : List Node) (labels : Times) (open_list : List (List ℕ)) → IsFrontier q f (Some place) r labels open_list → IsStateSettled q r (state_in r place) → IsFrontier q f None r labels open_list
 left_done q f place r labels open_list fr e = record {
   measured = fr.measured;
   origin = fr.origin;
@@ -396,7 +396,7 @@ left_done q f place r labels open_list fr e = record {
 }
 
 -- fewer buckets need be empty
-pub lower : (q : Query) (f g : ℕ) (left : Option ℕ) (r : List Node) (labels : Times) (open_list : List (Vec ℕ Global)) → g ≤ f → IsFrontier q f left r labels open_list → IsFrontier q g left r labels open_list
+pub lower : (q : Query) (f g : ℕ) (left : Option ℕ) (r : List Node) (labels : Times) (open_list : List (List ℕ)) → g ≤ f → IsFrontier q f left r labels open_list → IsFrontier q g left r labels open_list
 lower q f g left r labels open_list h fr = record {
   measured = fr.measured;
   origin = fr.origin;
@@ -410,7 +410,7 @@ lower q f g left r labels open_list h fr = record {
 }
 
 -- where nothing new was put on the buckets, those that were empty still are
-pub raise : (q : Query) (f g : ℕ) (left : Option ℕ) (r : List Node) (labels : Times) (open_list before : List (Vec ℕ Global)) → IsFrontier q g left r labels open_list → ((k : ℕ) → bucket_in open_list k ≡ bucket_in before k) → ((k : ℕ) → k < f → bucket_in before k ≡ []) → IsFrontier q f left r labels open_list
+pub raise : (q : Query) (f g : ℕ) (left : Option ℕ) (r : List Node) (labels : Times) (open_list before : List (List ℕ)) → IsFrontier q g left r labels open_list → ((k : ℕ) → bucket_of open_list k ≡ bucket_of before k) → ((k : ℕ) → k < f → bucket_of before k ≡ []) → IsFrontier q f left r labels open_list
 raise q f g left r labels open_list before fr same past = record {
   measured = fr.measured;
   origin = fr.origin;
@@ -425,24 +425,24 @@ raise q f g left r labels open_list before fr same past = record {
 
 -- ---- the last state of a bucket is taken
 
-module _ (q : Query) (f : ℕ) (r : List Node) (labels : Times) (open_list open_list' : List (Vec ℕ Global)) (place : ℕ) (fr : IsFrontier q f None r labels open_list) (e : bucket_in open_list f ≡ bucket_in open_list' f ++ place ∷ []) (others : (k : ℕ) → k ≢ f → bucket_in open_list' k ≡ bucket_in open_list k) where
-  back-to : (k i : ℕ) → Contains (bucket_in open_list' k) i → Contains (bucket_in open_list k) i
+module _ (q : Query) (f : ℕ) (r : List Node) (labels : Times) (open_list open_list' : List (List ℕ)) (place : ℕ) (fr : IsFrontier q f None r labels open_list) (e : bucket_of open_list f ≡ bucket_of open_list' f ++ place ∷ []) (others : (k : ℕ) → k ≢ f → bucket_of open_list' k ≡ bucket_of open_list k) where
+  back-to : (k i : ℕ) → Contains (bucket_of open_list' k) i → Contains (bucket_of open_list k) i
   back-to k i h = elim (cases_eq k f) [
-    | inl s ↦ subst (λ z. Contains (bucket_in open_list z) i) (sym s) (subst (λ z. Contains z i) (sym e) (Contains-append_left (bucket_in open_list' f) (place ∷ []) i (subst (λ z. Contains (bucket_in open_list' z) i) s h)))
+    | inl s ↦ subst (λ z. Contains (bucket_of open_list z) i) (sym s) (subst (λ z. Contains z i) (sym e) (Contains-append_left (bucket_of open_list' f) (place ∷ []) i (subst (λ z. Contains (bucket_of open_list' z) i) s h)))
     | inr ne ↦ subst (λ z. Contains z i) (others k ne) h
   ]
 
-  still : (i k : ℕ) → Contains (bucket_in open_list k) i → ((n : ℕ) × Contains (bucket_in open_list' n) i) ⊎ (let o : Option ℕ = Some place in o ≡ Some i)
+  still : (i k : ℕ) → Contains (bucket_of open_list k) i → ((n : ℕ) × Contains (bucket_of open_list' n) i) ⊎ (let o : Option ℕ = Some place in o ≡ Some i)
   still i k h = elim (cases_eq k f) [
     | inr ne ↦ inl (k, subst (λ z. Contains z i) (sym (others k ne)) h)
-    | inl s ↦ elim (Contains-push_cases (bucket_in open_list' f) place i (subst (λ z. Contains z i) e (subst (λ z. Contains (bucket_in open_list z) i) s h))) [
+    | inl s ↦ elim (Contains-push_cases (bucket_of open_list' f) place i (subst (λ z. Contains z i) e (subst (λ z. Contains (bucket_of open_list z) i) s h))) [
       | inl a ↦ inl (f, a)
       | inr t ↦ inr (ap (λ z. Some z) t)
     ]
   ]
 
-  pub taken-known : (place < length r) × IsBucket q (state_in r place) f
-  taken-known = fr.stacked f place (subst (λ z. Contains z place) (sym e) (Contains-push (bucket_in open_list' f) place))
+  pub taken-known : IsBucket q (state_in r place) f
+  taken-known = fr.stacked f place (subst (λ z. Contains z place) (sym e) (Contains-push (bucket_of open_list' f) place))
 
   pub taken : IsFrontier q f (Some place) r labels open_list'
   taken = record {
@@ -461,8 +461,8 @@ module _ (q : Query) (f : ℕ) (r : List Node) (labels : Times) (open_list open_
   }
 
 -- the bucket is empty
-pub swept : (q : Query) (f : ℕ) (r : List Node) (labels : Times) (open_list open_list' : List (Vec ℕ Global)) → IsFrontier q f None r labels open_list → bucket_in open_list f ≡ [] → bucket_in open_list' f ≡ [] → ((k : ℕ) → k ≢ f → bucket_in open_list' k ≡ bucket_in open_list k) → IsFrontier q (f + 1) None r labels open_list'
-swept q f r labels open_list open_list' fr e e' others = record {
+pub swept : (q : Query) (f : ℕ) (r : List Node) (labels : Times) (open_list open_list' : List (List ℕ)) → IsFrontier q f None r labels open_list → bucket_of open_list f ≡ [] → ((k : ℕ) → bucket_of open_list' k ≡ bucket_of open_list k) → IsFrontier q (f + 1) None r labels open_list'
+swept q f r labels open_list open_list' fr e same = record {
   measured = fr.measured;
   origin = fr.origin;
   sound = fr.sound;
@@ -470,26 +470,37 @@ swept q f r labels open_list open_list' fr e e' others = record {
   labelled = fr.labelled;
   met = fr.met;
   stacked = λ k i h. fr.stacked k i (subst (λ z. Contains z i) (same k) h);
-  past = λ k h. same k ∙ elim (cases_eq k f) [ inl s ↦ ap (bucket_in open_list) s ∙ e | inr ne ↦ fr.past k (omega arith) ];
+  past = λ k h. same k ∙ elim (cases_eq k f) [ inl s ↦ ap (bucket_of open_list) s ∙ e | inr ne ↦ fr.past k (omega arith) ];
   done = λ i h. elim (fr.done i h) [
     | inl w ↦ inl (w.0, subst (λ z. Contains z i) (sym (same w.0)) w.1)
     | inr w ↦ inr w
   ];
 }
-  where
-    same : (k : ℕ) → bucket_in open_list' k ≡ bucket_in open_list k
-    same k = elim (cases_eq k f) [ inl s ↦ ap (bucket_in open_list') s ∙ e' ∙ sym e ∙ ap (bucket_in open_list) (sym s) | inr ne ↦ others k ne ]
+
+-- the same of all that a search has come to
+pub taken-off : (q : Query) (f place : ℕ) (s t : Exploration) → IsFrontierOf q f None s → IsTaken s t f place → IsFrontierOf q f (Some place) t
+taken-off q f place s t fr w = subst (IsFrontierOf q f (Some place)) (sym w.rest) (taken q f s.nodes (earliest_in s.labels) s.open_list t.open_list place fr w.last w.others)
+
+pub taken-left : (q : Query) (f place : ℕ) (s t : Exploration) → IsFrontierOf q f None s → IsTaken s t f place → IsLeft q f t place (state_in t.nodes place)
+taken-left q f place s t fr w = subst (λ z. IsLeft q f z place (state_in z.nodes place)) (sym w.rest) (record {
+  within = w.within;
+  here = refl;
+  bucket = taken-known q f s.nodes (earliest_in s.labels) s.open_list t.open_list place fr w.last w.others;
+})
+
+pub swept-off : (q : Query) (f : ℕ) (s t : Exploration) → IsFrontierOf q f None s → IsSwept s t f → IsFrontierOf q (f + 1) None t
+swept-off q f s t fr w = subst (IsFrontierOf q (f + 1) None) (sym w.rest) (swept q f s.nodes (earliest_in s.labels) s.open_list t.open_list fr w.empty w.same)
 
 -- ---- the start is reached, and nothing else
 
-module _ (q : Query) (ask : IsPosed q) (near : heuristic_of q q.start ≤ q.horizon) (labels labels' : Times) (none open_list : List (Vec ℕ Global)) (blank : (cell interval : ℕ) → labels cell interval ≡ None) (r : List Node) (e : r ≡ [] ++ node_of (state 0 q.start) 0 ∷ []) (interval : ℕ) (inside : IsInInterval (occupancies_on q q.start) interval 0) (set : IsLabelSet labels labels' (cell_index q.grid.now q.start) interval 0) (bare : (k : ℕ) → bucket_in none k ≡ []) (key : ℕ) (bucket : IsBucket q (state 0 q.start) key) (put : IsPut none open_list key 0) where
+module _ (q : Query) (ask : IsPosed q) (near : heuristic_of q q.start ≤ q.horizon) (labels labels' : Times) (none open_list : List (List ℕ)) (blank : (cell interval : ℕ) → labels cell interval ≡ None) (r : List Node) (link : Link) (e : r ≡ [] ++ node_of (state 0 q.start) link ∷ []) (interval : ℕ) (inside : IsInInterval (occupancies_on q q.start) interval 0) (set : IsLabelSet labels labels' (cell_index q.grid.now q.start) interval 0) (bare : (k : ℕ) → bucket_of none k ≡ []) (key : ℕ) (bucket : IsBucket q (state 0 q.start) key) (put : IsPut none open_list key 0) where
   open-long : length r ≡ 1
-  open-long = let l = push-long [] r (node_of (state 0 q.start) 0) e in omega arith
+  open-long = let l = push-long [] r (node_of (state 0 q.start) link) e in omega arith
 
-  open-at : (i : ℕ) → i < length r → get_or r i no_node ≡ node_of (state 0 q.start) 0
-  open-at i h = elim (push-cases [] r (node_of (state 0 q.start) 0) e i h) [
+  open-at : (i : ℕ) → i < length r → get_or r i no_node ≡ node_of (state 0 q.start) link
+  open-at i h = elim (push-cases [] r (node_of (state 0 q.start) link) e i h) [
     | inl l ↦ absurd (omega arith)
-    | inr s ↦ ap (λ z. get_or r z no_node) s ∙ push-end [] r (node_of (state 0 q.start) 0) e
+    | inr s ↦ ap (λ z. get_or r z no_node) s ∙ push-end [] r (node_of (state 0 q.start) link) e
   ]
 
   open-state : (i : ℕ) → i < length r → state_in r i ≡ state 0 q.start
@@ -498,17 +509,17 @@ module _ (q : Query) (ask : IsPosed q) (near : heuristic_of q q.start ≤ q.hori
   first-place : (i : ℕ) → i < length r → i ≡ 0
   first-place i h = let l = open-long in omega arith
 
-  only : (k i : ℕ) → Contains (bucket_in open_list k) i → (i ≡ 0) × (k ≡ key)
+  only : (k i : ℕ) → Contains (bucket_of open_list k) i → (i ≡ 0) × (k ≡ key)
   only k i h = elim (cases_eq k key) [
-    | inl s ↦ elim (Contains-push_cases (bucket_in none k) 0 i (subst (λ z. Contains z i) (put k ∙ ap (λ b. cond b (bucket_in none k ++ 0 ∷ []) (bucket_in none k)) (eq-eqb k key s)) h)) [
+    | inl s ↦ elim (Contains-push_cases (bucket_of none k) 0 i (subst (λ z. Contains z i) (put k ∙ ap (λ b. cond b (bucket_of none k ++ 0 ∷ []) (bucket_of none k)) (eq-eqb k key s)) h)) [
       | inl o ↦ absurd (let l = (subst (λ z. Contains z i) (bare k) o).1 in omega arith)
       | inr t ↦ (sym t, s)
     ]
-    | inr ne ↦ absurd (let l = (subst (λ z. Contains z i) (put k ∙ ap (λ b. cond b (bucket_in none k ++ 0 ∷ []) (bucket_in none k)) (false_from_ne_true (k == key) (λ s. ne (eqb-true k key s))) ∙ bare k) h).1 in omega arith)
+    | inr ne ↦ absurd (let l = (subst (λ z. Contains z i) (put k ∙ ap (λ b. cond b (bucket_of none k ++ 0 ∷ []) (bucket_of none k)) (false_from_ne_true (k == key) (λ s. ne (eqb-true k key s))) ∙ bare k) h).1 in omega arith)
   ]
 
-  on-stack : Contains (bucket_in open_list key) 0
-  on-stack = subst (λ z. Contains z 0) (sym (put key ∙ ap (λ b. cond b (bucket_in none key ++ 0 ∷ []) (bucket_in none key)) (eq-eqb key key refl))) (Contains-push (bucket_in none key) 0)
+  on-stack : Contains (bucket_of open_list key) 0
+  on-stack = subst (λ z. Contains z 0) (sym (put key ∙ ap (λ b. cond b (bucket_of none key ++ 0 ∷ []) (bucket_of none key)) (eq-eqb key key refl))) (Contains-push (bucket_of none key) 0)
 
   within-first : 0 < length r
   within-first = let l = open-long in omega arith
@@ -532,11 +543,11 @@ module _ (q : Query) (ask : IsPosed q) (near : heuristic_of q q.start ≤ q.hori
   opening = record {
     measured = ask.measured;
     origin = (0, within-first, open-state 0 within-first);
-    sound = λ i h. subst (λ (z : Node). IsSoundNode q r z.state z.parent) (sym (open-at i h)) (record { reached_from = inl (refl, refl); in_time = (let b = near in omega arith); on_ground = ask.on_ground; free = ask.free });
+    sound = λ i h. subst (λ (z : Node). IsSoundNode q r z.state (place_in z.parent)) (sym (open-at i h)) (record { reached_from = inl (refl, refl); in_time = (let b = near in omega arith); on_ground = ask.on_ground; free = ask.free });
     apart = λ i k a b s. first-place i a ∙ sym (first-place k b);
     labelled = λ i h. subst (IsLabelled q labels') (sym (open-state i h)) (λ k g. subst (λ z. IsSeen (earliest_of q labels' q.start z) 0) (one_gap (occupancies_on q q.start) (stays-apart q.reserved.now q.start (occupancies_on q q.start) (ask.measured.occupancies q.start)) 0 interval k inside g) (record { time = 0; is = set.set; early = omega arith }));
     met = open-met;
-    stacked = λ k i h. let w = only k i h in (let z = w.0 in let l = open-long in omega arith, subst (λ z. IsBucket q z k) (sym (open-state i (let z = w.0 in let l = open-long in omega arith))) (subst (IsBucket q (state 0 q.start)) (sym w.1) bucket));
+    stacked = λ k i h. let w = only k i h in subst (λ z. IsBucket q z k) (sym (open-state i (let z = w.0 in let l = open-long in omega arith))) (subst (IsBucket q (state 0 q.start)) (sym w.1) bucket);
     past = λ k h. absurd (omega arith);
-    done = λ i h. inl (key, subst (Contains (bucket_in open_list key)) (sym (first-place i h)) on-stack);
+    done = λ i h. inl (key, subst (Contains (bucket_of open_list key)) (sym (first-place i h)) on-stack);
   }

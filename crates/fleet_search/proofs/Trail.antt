@@ -1,7 +1,5 @@
 -- The path to a state, read backwards from what was noted.
 use Rattle.std.proofs.Common.{◌≡◌, ◌≢◌, ℕ, ◌+◌, ◌-◌, ◌<◌, ◌≤◌, min, IsTrue, List, [], ◌∷◌, ◌++◌, length, get_or, reverse, Option, inl, inr, ◌⊎◌, refl, sym, ap, ◌∙◌, subst, arith}
-use Rattle.std.specs.Prelude.{Vec}
-use Rattle.std.specs.declared.alloc.Global.{Global}
 use Rattle.std.proofs.lemmas.Bool.{cases_eq}
 use Rattle.std.proofs.lemmas.List.{get_or_append_left, get_or_push, length_push, get_or-reverse, length-reverse}
 use Rattle.fleet_model.specs.declared.geometry.Cell.{Cell}
@@ -14,7 +12,7 @@ use Rattle.fleet_search.specs.declared.frontier.Node.{Node}
 use Rattle.fleet_search.specs.declared.state.State.{State}
 use Rattle.fleet_grid.specs.Ground.{is_passable}
 use Rattle.fleet_search.specs.Reserved.{IsUnoccupied, IsFreeOn}
-use Rattle.fleet_search.specs.Search.{IsStep, no_node, state_in, IsReachedFrom, IsFrontier, IsTrail}
+use Rattle.fleet_search.specs.Search.{IsStep, state_in, parent_in, IsReachedFrom, IsFrontier, IsTrail}
 use Rattle.fleet_search.proofs.Chase.{step_ok-same}
 
 -- one step before the time of a visit the agent is on this one, from which the step leads there
@@ -35,14 +33,14 @@ pub record IsTraced (q : Query) (r : List Node) (n : ℕ) (last : Cell) (xs : Li
   pub free : IsFreeOn q.reserved.now (state_in r visit).cell (state_in r visit).time (n - back)
   pub steps : (k : ℕ) → k < back → IsStep q (n - (k + 1)) (get_or xs (k + 1) origin) (get_or xs k origin)
 
-before-came : (q : Query) (f : ℕ) (left : Option ℕ) (r : List Node) (labels : Times) (open_list : List (Vec ℕ Global)) → IsFrontier q f left r labels open_list → (time visit : ℕ) → visit < length r → (state_in r visit).time ≡ time → 1 ≤ time → StepsToVisit q r time (state_in r visit) (get_or r visit no_node).parent
+before-came : (q : Query) (f : ℕ) (left : Option ℕ) (r : List Node) (labels : Times) (open_list : List (List ℕ)) → IsFrontier q f left r labels open_list → (time visit : ℕ) → visit < length r → (state_in r visit).time ≡ time → 1 ≤ time → StepsToVisit q r time (state_in r visit) (parent_in r visit)
 before-came q f left r labels open_list fr time visit k e h = go (fr.sound visit k).reached_from
   where
-    go : IsReachedFrom q r (state_in r visit) (get_or r visit no_node).parent → StepsToVisit q r time (state_in r visit) (get_or r visit no_node).parent
+    go : IsReachedFrom q r (state_in r visit) (parent_in r visit) → StepsToVisit q r time (state_in r visit) (parent_in r visit)
     go (inl p) = absurd (let z = p.0 in omega arith)
     go (inr (u, s, known, move)) =
         let at : u ≡ time - 1 = omega arith in
-        let from = state_in r (get_or r visit no_node).parent in
+        let from = state_in r (parent_in r visit) in
         record {
           known = known;
           early = (let w = move.waits in omega arith);
@@ -50,7 +48,7 @@ before-came q f left r labels open_list fr time visit k e h = go (fr.sound visit
           step = subst (λ z. IsStep q z from.cell (state_in r visit).cell) at move.step;
         }
 
-before-waits : (q : Query) (f : ℕ) (left : Option ℕ) (r : List Node) (labels : Times) (open_list : List (Vec ℕ Global)) → IsFrontier q f left r labels open_list → (time visit : ℕ) → visit < length r → (state_in r visit).time ≢ time → (state_in r visit).time ≤ time → IsFreeOn q.reserved.now (state_in r visit).cell (state_in r visit).time time → StepsToVisit q r time (state_in r visit) visit
+before-waits : (q : Query) (f : ℕ) (left : Option ℕ) (r : List Node) (labels : Times) (open_list : List (List ℕ)) → IsFrontier q f left r labels open_list → (time visit : ℕ) → visit < length r → (state_in r visit).time ≢ time → (state_in r visit).time ≤ time → IsFreeOn q.reserved.now (state_in r visit).cell (state_in r visit).time time → StepsToVisit q r time (state_in r visit) visit
 before-waits q f left r labels open_list fr time visit k ne h free = record {
   known = k;
   early = omega arith;
@@ -63,11 +61,11 @@ before-waits q f left r labels open_list fr time visit k ne h free = record {
 }
 
 -- the visit at one step before: that from which the agent has just come, or the same
-pub before : (q : Query) (f : ℕ) (left : Option ℕ) (r : List Node) (labels : Times) (open_list : List (Vec ℕ Global)) → IsFrontier q f left r labels open_list → (n : ℕ) (last : Cell) (xs : List Cell) (back visit next : ℕ) → IsTraced q r n last xs back visit → back < n → (((state_in r visit).time ≡ n - back) × (next ≡ (get_or r visit no_node).parent)) ⊎ (((state_in r visit).time ≢ n - back) × (next ≡ visit)) → StepsToVisit q r (n - back) (state_in r visit) next
+pub before : (q : Query) (f : ℕ) (left : Option ℕ) (r : List Node) (labels : Times) (open_list : List (List ℕ)) → IsFrontier q f left r labels open_list → (n : ℕ) (last : Cell) (xs : List Cell) (back visit next : ℕ) → IsTraced q r n last xs back visit → back < n → (((state_in r visit).time ≡ n - back) × (next ≡ parent_in r visit)) ⊎ (((state_in r visit).time ≢ n - back) × (next ≡ visit)) → StepsToVisit q r (n - back) (state_in r visit) next
 before q f left r labels open_list fr n last xs back visit next tr h (inl w) = subst (StepsToVisit q r (n - back) (state_in r visit)) (sym w.1) (before-came q f left r labels open_list fr (n - back) visit tr.known w.0 (omega arith))
 before q f left r labels open_list fr n last xs back visit next tr h (inr w) = subst (StepsToVisit q r (n - back) (state_in r visit)) (sym w.1) (before-waits q f left r labels open_list fr (n - back) visit tr.known w.0 tr.early tr.free)
 
-module _ (q : Query) (f : ℕ) (left : Option ℕ) (r : List Node) (labels : Times) (open_list : List (Vec ℕ Global)) (fr : IsFrontier q f left r labels open_list) (n : ℕ) (last : Cell) (xs : List Cell) (back : ℕ) (visit : ℕ) (tr : IsTraced q r n last xs back visit) where
+module _ (q : Query) (f : ℕ) (left : Option ℕ) (r : List Node) (labels : Times) (open_list : List (List ℕ)) (fr : IsFrontier q f left r labels open_list) (n : ℕ) (last : Cell) (xs : List Cell) (back : ℕ) (visit : ℕ) (tr : IsTraced q r n last xs back visit) where
   pub traced-more : (next : ℕ) (ys : List Cell) → back < n → StepsToVisit q r (n - back) (state_in r visit) next → ys ≡ xs ++ (state_in r next).cell ∷ [] → IsTraced q r n last ys (back + 1) next
   traced-more next ys h b g = subst (λ z. IsTraced q r n last z (back + 1) next) (sym g) (record {
     long = omega (arith, length_push xs (state_in r next).cell, tr.long);
@@ -96,7 +94,7 @@ module _ (q : Query) (f : ℕ) (left : Option ℕ) (r : List Node) (labels : Tim
       let s = fr.sound visit tr.known in
       (go s.reached_from, s.on_ground)
     where
-      go : IsReachedFrom q r (state_in r visit) (get_or r visit no_node).parent → (state_in r visit).cell ≡ q.start
+      go : IsReachedFrom q r (state_in r visit) (parent_in r visit) → (state_in r visit).cell ≡ q.start
       go (inl p) = p.1
       go (inr (t, e, k, step)) = absurd (let z = tr.early in omega arith)
 

@@ -3,7 +3,7 @@ use Rattle.std.proofs.Common.{ℕ, ◌+◌, ◌-◌, ◌<◌, ◌≤◌, length,
 use Rattle.std.proofs.lemmas.Bool.{cases_eq, cases_lt}
 use Rattle.fleet_model.specs.declared.geometry.Cell.{Cell}
 use Rattle.fleet_search.specs.declared.frontier.Query.{Query}
-use Rattle.fleet_search.specs.declared.frontier.Frontier.{Frontier}
+use Rattle.fleet_search.specs.Frontier.{Exploration}
 use Rattle.fleet_search.specs.declared.frontier.Expansion.{Expansion}
 use Rattle.fleet_search.specs.Occupancies.{occupancy_at}
 use Rattle.fleet_search.specs.Intervals.{AreBegun}
@@ -11,12 +11,12 @@ use Rattle.fleet_search.specs.Search.{occupancies_on, IsMeasured, IsExpansion, E
 use Rattle.fleet_search.proofs.IntervalLaws.{stays-apart, apart-from, some_gap}
 use Rattle.fleet_search.proofs.SearchSteps.{ExpandsOn-then, found_in-stays}
 
-pub record IsTurning (q : Query) (f : ℕ) (l : Expansion) (c : Cell) (interval : ℕ) (start now : Frontier) : Type 0 where
+pub record IsTurning (q : Query) (f : ℕ) (l : Expansion) (c : Cell) (interval : ℕ) (start now : Exploration) : Type 0 where
   pub on : ExpandsOn q f l start now
-  pub each : (k : ℕ) → k < interval → IsFoundIn q now.nodes.items l.state c k
+  pub each : (k : ℕ) → k < interval → IsFoundIn q now.nodes l.state c k
 
 -- no move leads to a safe interval before the first
-pub turning-begin : (q : Query) (f : ℕ) (l : Expansion) (c : Cell) (first : ℕ) (now : Frontier) → IsExpansion q f l now → AreBegun (occupancies_on q c) (l.state.time + 1) first → IsTurning q f l c first now now
+pub turning-begin : (q : Query) (f : ℕ) (l : Expansion) (c : Cell) (first : ℕ) (now : Exploration) → IsExpansion q f l now → AreBegun (occupancies_on q c) (l.state.time + 1) first → IsTurning q f l c first now now
 turning-begin q f l c first now w b = record {
   on = record { leaving = w; grows = record { more = omega arith; kept = λ i h. refl; same = λ e k. refl } };
   each = λ k h u move g in_time.
@@ -27,17 +27,17 @@ turning-begin q f l c first now w b = record {
       absurd (omega arith);
 }
 
-pub turning-more : (q : Query) (f : ℕ) (l : Expansion) (c : Cell) (interval : ℕ) (start now next : Frontier) → IsTurning q f l c interval start now → ExpandsOn q f l now next → IsFoundIn q next.nodes.items l.state c interval → IsTurning q f l c (interval + 1) start next
+pub turning-more : (q : Query) (f : ℕ) (l : Expansion) (c : Cell) (interval : ℕ) (start now next : Exploration) → IsTurning q f l c interval start now → ExpandsOn q f l now next → IsFoundIn q next.nodes l.state c interval → IsTurning q f l c (interval + 1) start next
 turning-more q f l c interval start now next h on found = record {
   on = ExpandsOn-then q f l start now next h.on on;
   each = λ k l'. elim (cases_eq k interval) [
-    | inl e ↦ subst (IsFoundIn q next.nodes.items l.state c) (sym e) found
-    | inr ne ↦ found_in-stays q now.nodes.items next.nodes.items on.grows.more on.grows.kept l.state c k (h.each k (omega arith))
+    | inl e ↦ subst (IsFoundIn q next.nodes l.state c) (sym e) found
+    | inr ne ↦ found_in-stays q now.nodes next.nodes on.grows.more on.grows.kept l.state c k (h.each k (omega arith))
   ];
 }
 
 -- a safe interval after them begins too late
-pub turned : (q : Query) → IsMeasured q → (f : ℕ) (l : Expansion) (c : Cell) (interval : ℕ) (start now : Frontier) → IsTurning q f l c interval start now → 0 < interval → ((i : ℕ) → interval ≤ i + 1 → i < length (occupancies_on q c) → l.until < (occupancy_at (occupancies_on q c) i).from) → IsFoundFrom q now.nodes.items l.state c
+pub turned : (q : Query) → IsMeasured q → (f : ℕ) (l : Expansion) (c : Cell) (interval : ℕ) (start now : Exploration) → IsTurning q f l c interval start now → 0 < interval → ((i : ℕ) → interval ≤ i + 1 → i < length (occupancies_on q c) → l.until < (occupancy_at (occupancies_on q c) i).from) → IsFoundFrom q now.nodes l.state c
 turned q m f l c interval start now h one later u move in_time =
     let horizon = h.on.leaving.horizon in
     let g = some_gap q.reserved.now c (occupancies_on q c) (m.occupancies c) (u + 1) (omega arith) move.step.fits.vertex in

@@ -5,6 +5,8 @@ pub mod Occupancies
 pub mod Intervals
 pub mod Rows
 pub mod Distance
+pub mod Links
+pub mod Frontier
 pub mod Search
 pub mod InTurn
 pub mod Told

@@ -3,9 +3,17 @@ use Rattle.std.specs.Prelude.{◌≡◌, ℕ, ◌==◌, cond, List, [], ◌∷�
 use Rattle.std.specs.declared.alloc.Global.{Global}
 
 -- the row of this key, which is empty past the last one
-unfoldable pub bucket_in : List (Vec ℕ Global) → ℕ → List ℕ
-bucket_in rows k = get_or (map (λ v. v.items) rows) k []
+unfoldable pub bucket_of : List (List ℕ) → ℕ → List ℕ
+bucket_of rows k = get_or rows k []
+
+-- the rows as lists
+abbrev pub lists_of : List (Vec ℕ Global) → List (List ℕ)
+lists_of rows = map (λ v. v.items) rows
+
+-- the same of rows in memory
+abbrev pub bucket_in : List (Vec ℕ Global) → ℕ → List ℕ
+bucket_in rows k = bucket_of (lists_of rows) k
 
 -- the number is last in its row, and the others are as before
-abbrev pub IsPut : List (Vec ℕ Global) → List (Vec ℕ Global) → ℕ → ℕ → Type 0
-IsPut old new key n = (k : ℕ) → bucket_in new k ≡ cond (k == key) (bucket_in old k ++ n ∷ []) (bucket_in old k)
+abbrev pub IsPut : List (List ℕ) → List (List ℕ) → ℕ → ℕ → Type 0
+IsPut old new key n = (k : ℕ) → bucket_of new k ≡ cond (k == key) (bucket_of old k ++ n ∷ []) (bucket_of old k)

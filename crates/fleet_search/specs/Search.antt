@@ -1,19 +1,16 @@
 -- The search over cells and times.
-use Rattle.std.specs.Prelude.{◌≡◌, ℕ, ◌+◌, ◌-◌, ◌<◌, ◌≤◌, Bool, IsTrue, List, [], length, get_or, Contains, Option, None, Some, ◌↔◌, ◌⊎◌, Vec}
-use Rattle.std.specs.declared.alloc.Global.{Global}
+use Rattle.std.specs.Prelude.{◌≡◌, ℕ, ◌+◌, ◌-◌, ◌<◌, ◌≤◌, Bool, IsTrue, List, [], length, get_or, Contains, Option, None, Some, ◌↔◌, ◌⊎◌}
 use Rattle.fleet_model.specs.declared.geometry.Cell.{Cell}
 use Rattle.fleet_model.specs.declared.geometry.Place.{Place}
 use Rattle.fleet_model.specs.Geometry.{place_of}
 use Rattle.fleet_model.specs.declared.limits.TheConstants.{MAX_HORIZON}
 use Rattle.fleet_plan.specs.Plan.{Plan, AreNeighbours, cell_at}
 use Rattle.fleet_search.specs.declared.state.State.{State}
-use Rattle.fleet_search.specs.declared.arrivals.Arrivals.{Arrivals}
 use Rattle.fleet_search.specs.declared.occupancy.Occupancy.{Occupancy}
 use Rattle.fleet_search.specs.declared.frontier.Query.{Query}
 use Rattle.fleet_search.specs.declared.frontier.Node.{Node}
 use Rattle.fleet_search.specs.declared.frontier.Expansion.{Expansion}
 use Rattle.fleet_search.specs.declared.frontier.BucketEnd.{BucketEnd}
-use Rattle.fleet_search.specs.declared.frontier.Frontier.{Frontier}
 use Rattle.fleet_search.specs.declared.frontier.Neighbour.{Neighbour}
 use Rattle.fleet_grid.specs.Ground.{is_passable, cell_index}
 use Rattle.fleet_search.specs.Distance.{heuristic, AreDistances}
@@ -22,7 +19,9 @@ use Rattle.fleet_search.specs.Reserved.{IsUnoccupied, IsFreeFrom, IsFreeOn}
 use Rattle.fleet_search.specs.Occupancies.{HaveOccupancies, occupancies_of}
 use Rattle.fleet_search.specs.Intervals.{IsInInterval}
 use Rattle.fleet_search.specs.Labels.{Times, earliest_in, IsSeen}
-use Rattle.fleet_search.specs.Rows.{bucket_in}
+use Rattle.fleet_search.specs.Rows.{bucket_of}
+use Rattle.fleet_search.specs.Frontier.{Exploration}
+use Rattle.fleet_search.specs.Links.{place_in}
 
 -- how many moves lead from the cell to the goal at least
 abbrev pub heuristic_of : Query → Cell → ℕ
@@ -62,11 +61,15 @@ IsGoalState q m = (m.cell ≡ q.goal) × (q.goal_free_from ≤ m.time)
 
 -- the node that stands for those past the end of a list
 abbrev pub no_node : Node
-no_node = record { state = record { time = 0; cell = record { x = 0; y = 0 } }; parent = 0 }
+no_node = record { state = record { time = 0; cell = record { x = 0; y = 0 } }; parent = record { high = 0; low = 0 } }
 
 -- the state of the node at this place of the list
 abbrev pub state_in : List Node → ℕ → State
 state_in nodes i = (get_or nodes i no_node).state
+
+-- the place of the node from which the node at this place was reached
+abbrev pub parent_in : List Node → ℕ → ℕ
+parent_in nodes i = place_in (get_or nodes i no_node).parent
 
 -- the state was reached
 abbrev pub IsKnown : List Node → State → Type 0
@@ -118,49 +121,45 @@ earliest_of q labels c interval = labels (cell_index q.grid.now c) interval
 
 -- every state that was reached is sound, and it is still open, or is just being expanded, or is settled. Each safe
 -- interval in which a cell was reached is labelled with the earliest time; so none was noted twice
-pub record IsFrontier (q : Query) (f : ℕ) (left : Option ℕ) (nodes : List Node) (labels : Times) (open_list : List (Vec ℕ Global)) : Type 0 where
+pub record IsFrontier (q : Query) (f : ℕ) (left : Option ℕ) (nodes : List Node) (labels : Times) (open_list : List (List ℕ)) : Type 0 where
   pub measured : IsMeasured q
   pub origin : IsKnown nodes (record { time = 0; cell = q.start })
-  pub sound : (i : ℕ) → i < length nodes → IsSoundNode q nodes (state_in nodes i) (get_or nodes i no_node).parent
+  pub sound : (i : ℕ) → i < length nodes → IsSoundNode q nodes (state_in nodes i) (parent_in nodes i)
   pub apart : (i k : ℕ) → i < length nodes → k < length nodes → state_in nodes i ≡ state_in nodes k → i ≡ k
   pub labelled : (i : ℕ) → i < length nodes → (interval : ℕ) → IsInInterval (occupancies_on q (state_in nodes i).cell) interval (state_in nodes i).time → IsSeen (earliest_of q labels (state_in nodes i).cell interval) (state_in nodes i).time
   pub met : (c : Cell) (interval time : ℕ) → IsTrue (is_passable q.grid.now (place_of c)) → interval ≤ length (occupancies_on q c) → earliest_of q labels c interval ≡ Some time → IsInInterval (occupancies_on q c) interval time × IsKnown nodes (record { time = time; cell = c })
-  pub stacked : (k i : ℕ) → Contains (bucket_in open_list k) i → (i < length nodes) × IsBucket q (state_in nodes i) k
-  pub past : (k : ℕ) → k < f → bucket_in open_list k ≡ []
-  pub done : (i : ℕ) → i < length nodes → ((k : ℕ) × Contains (bucket_in open_list k) i) ⊎ ((left ≡ Some i) ⊎ IsStateSettled q nodes (state_in nodes i))
+  pub stacked : (k i : ℕ) → Contains (bucket_of open_list k) i → IsBucket q (state_in nodes i) k
+  pub past : (k : ℕ) → k < f → bucket_of open_list k ≡ []
+  pub done : (i : ℕ) → i < length nodes → ((k : ℕ) × Contains (bucket_of open_list k) i) ⊎ ((left ≡ Some i) ⊎ IsStateSettled q nodes (state_in nodes i))
 
--- the earliest times of the search
-abbrev pub times_of : Arrivals → Times
-times_of a = earliest_in a.labels
-
-abbrev pub IsFrontierOf : Query → ℕ → Option ℕ → Frontier → Type 0
-IsFrontierOf q f left s = IsFrontier q f left s.nodes.items (times_of s.labels) s.open_list.items
+abbrev pub IsFrontierOf : Query → ℕ → Option ℕ → Exploration → Type 0
+IsFrontierOf q f left s = IsFrontier q f left s.nodes (earliest_in s.labels) s.open_list
 
 -- the state may be left by moves that begin before this time, and by no later ones
 abbrev pub IsFreeUntil : Query → State → ℕ → Type 0
 IsFreeUntil q m until = ((t : ℕ) → m.time ≤ t → t < until → IsUnoccupied q.reserved.now t m.cell) × ((t : ℕ) → t < 4294967295 → IsFreeOn q.reserved.now m.cell m.time t → t < until)
 
 -- the state that is expanded was reached, and waited in this bucket
-pub record IsLeft (q : Query) (f : ℕ) (s : Frontier) (place : ℕ) (m : State) : Type 0 where
-  pub within : place < length s.nodes.items
-  pub here : state_in s.nodes.items place ≡ m
+pub record IsLeft (q : Query) (f : ℕ) (s : Exploration) (place : ℕ) (m : State) : Type 0 where
+  pub within : place < length s.nodes
+  pub here : state_in s.nodes place ≡ m
   pub bucket : IsBucket q m f
 
 -- a state of this bucket is just being expanded in a search by a horizon, by moves that begin before a time
-pub record IsExpansion (q : Query) (f : ℕ) (l : Expansion) (s : Frontier) : Type 0 where
+pub record IsExpansion (q : Query) (f : ℕ) (l : Expansion) (s : Exploration) : Type 0 where
   pub horizon : q.horizon ≤ MAX_HORIZON
   pub frontier : IsFrontierOf q (f - 1) (Some l.place) s
   pub left : IsLeft q f s l.place l.state
   pub until : IsFreeUntil q l.state l.until
 
 -- each state that was reached stays so; if no new one was reached, no new one is open
-pub record Grows (old new : Frontier) : Type 0 where
-  pub more : length old.nodes.items ≤ length new.nodes.items
-  pub kept : (i : ℕ) → i < length old.nodes.items → get_or new.nodes.items i no_node ≡ get_or old.nodes.items i no_node
-  pub same : length new.nodes.items ≡ length old.nodes.items → (k : ℕ) → bucket_in new.open_list.items k ≡ bucket_in old.open_list.items k
+pub record Grows (old new : Exploration) : Type 0 where
+  pub more : length old.nodes ≤ length new.nodes
+  pub kept : (i : ℕ) → i < length old.nodes → get_or new.nodes i no_node ≡ get_or old.nodes i no_node
+  pub same : length new.nodes ≡ length old.nodes → (k : ℕ) → bucket_of new.open_list k ≡ bucket_of old.open_list k
 
 -- the state is still being expanded, and no state that was reached is lost
-pub record ExpandsOn (q : Query) (f : ℕ) (l : Expansion) (old new : Frontier) : Type 0 where
+pub record ExpandsOn (q : Query) (f : ℕ) (l : Expansion) (old new : Exploration) : Type 0 where
   pub leaving : IsExpansion q f l new
   pub grows : Grows old new
 
@@ -184,11 +183,11 @@ IsFoundFrom q nodes left c = (u : ℕ) → IsMove q left u c → u + 1 + heurist
 
 -- how the expansion of a bucket has ended: the state at this place was reached, waited in the bucket and is an end; or
 -- a new state was reached; or no state is left in the bucket
-abbrev pub HasEnded : Query → ℕ → Frontier → Frontier → BucketEnd → Type 0
+abbrev pub HasEnded : Query → ℕ → Exploration → Exploration → BucketEnd → Type 0
 HasEnded q f old new (BucketEnd.Goal place) =
-    IsFrontierOf q f (Some place) new × IsLeft q f new place (state_in new.nodes.items place) × IsGoalState q (state_in new.nodes.items place)
-HasEnded q f old new BucketEnd.Grew = (length old.nodes.items < length new.nodes.items) × IsFrontierOf q (f - 1) None new
-HasEnded q f old new BucketEnd.Empty = (length new.nodes.items ≡ length old.nodes.items) × IsFrontierOf q (f + 1) None new
+    IsFrontierOf q f (Some place) new × IsLeft q f new place (state_in new.nodes place) × IsGoalState q (state_in new.nodes place)
+HasEnded q f old new BucketEnd.Grew = (length old.nodes < length new.nodes) × IsFrontierOf q (f - 1) None new
+HasEnded q f old new BucketEnd.Empty = (length new.nodes ≡ length old.nodes) × IsFrontierOf q (f + 1) None new
 
 -- the agent may stand on the start, the goal is not too far, and from `goal_free_from` on it is free
 pub record IsPosed (q : Query) : Type 0 where
@@ -215,12 +214,12 @@ pub record IsTrail (q : Query) (n : ℕ) (last : Cell) (path : List Cell) : Type
   pub steps : (t : ℕ) → t < n → IsStep q t (cell_at path t) (cell_at path (t + 1))
 
 -- the node at this place is being expanded in a search
-pub record IsSearched (s : Frontier) (place : ℕ) : Type 0 where
+pub record IsSearched (s : Exploration) (place : ℕ) : Type 0 where
   pub query : Query
   pub bucket : ℕ
   pub horizon : query.horizon ≤ MAX_HORIZON
   pub frontier : IsFrontierOf query bucket (Some place) s
 
 -- the path by which the node at this place was reached, whatever was searched for
-abbrev pub IsTrailOf : Frontier → ℕ → List Cell → Type 0
-IsTrailOf s place path = (q : Query) (bucket : ℕ) → IsFrontierOf q bucket (Some place) s → IsTrail q (state_in s.nodes.items place).time (state_in s.nodes.items place).cell path
+abbrev pub IsTrailOf : Exploration → ℕ → List Cell → Type 0
+IsTrailOf s place path = (q : Query) (bucket : ℕ) → IsFrontierOf q bucket (Some place) s → IsTrail q (state_in s.nodes place).time (state_in s.nodes place).cell path

@@ -107,7 +107,7 @@ pub fn earliest_over(
     let path = search(frontier, &query)?;
     distances.learn(Effort {
         delay: path.steps().saturating_sub(least),
-        nodes: frontier.nodes.len(),
+        nodes: frontier.len(),
     });
     Ok(path)
 }

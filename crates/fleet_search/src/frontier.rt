@@ -3,7 +3,7 @@
 //! An agent that comes to a cell may wait there for as long as nobody else comes. So of the times in a safe interval,
 //! between the occupancies of a cell by others, only the earliest counts (safe intervals: Phillips and Likhachev 2011).
 
-ghost use Rattle.std.specs.Prelude.{◌≡◌, ◌+◌, ◌-◌, ◌<◌, ◌≤◌, ◌↔◌, IsTrue, IfOk, OnOk, Some, None, [], length};
+ghost use Rattle.std.specs.Prelude.{◌≡◌, ◌+◌, ◌-◌, ◌<◌, ◌≤◌, ◌↔◌, ℕ, IsTrue, IfSome, IfNone, IfOk, OnOk, Some, None, [], length, get_or};
 ghost use Rattle.fleet_model.specs.Geometry.{place_of, moved};
 ghost use Rattle.fleet_grid.specs.Ground.{is_passable};
 ghost use Rattle.fleet_model.specs.declared.geometry.Cell.{Cell};
@@ -11,11 +11,15 @@ ghost use Rattle.fleet_model.specs.declared.limits.TheConstants.{MAX_HORIZON};
 ghost use Rattle.fleet_search.specs.Reserved.{IsUnoccupied};
 ghost use Rattle.fleet_search.specs.Way.{StepFits};
 ghost use Rattle.fleet_search.specs.Intervals.{IsInInterval};
-ghost use Rattle.fleet_search.specs.Search.{heuristic_of, occupancies_on, IsMeasured, IsGoalState, IsBucket, IsLeft, IsExpansion, ExpandsOn, IsFrontierOf, Grows, IsPosed, IsSearched, IsTrailOf, IsFreeUntil, IsFoundAt, IsFoundIn, IsFoundFrom, IsNeighbour, HasEnded, IsSuperseded};
+ghost use Rattle.fleet_search.specs.Labels.{earliest_in, IsSeen};
+ghost use Rattle.fleet_search.specs.Rows.{bucket_of};
+ghost use Rattle.fleet_search.specs.Frontier.{IsAdded, IsTaken, IsSwept};
+ghost use Rattle.fleet_search.specs.Search.{heuristic_of, no_node, occupancies_on, IsMeasured, IsGoalState, IsBucket, IsLeft, IsExpansion, ExpandsOn, IsFrontierOf, Grows, IsPosed, IsSearched, IsTrailOf, IsFreeUntil, IsFoundAt, IsFoundIn, IsFoundFrom, IsNeighbour, HasEnded, IsSuperseded};
 
 use crate::arrivals::Arrivals;
 use crate::distances::Distances;
 use crate::intervals::{SafeInterval, begins_after, earliest_within, interval_after};
+use crate::link::Link;
 use crate::occupancy::{Occupancy, started_by};
 use crate::reservation_table::ReservationTable;
 use crate::reservations::Reservations;
@@ -25,6 +29,7 @@ use fleet_grid::Grid;
 use fleet_model::{Cell, Dir, OutOfMemory};
 use fleet_plan::Path;
 use std::alloc::Global;
+use std::marker::Model;
 
 /// The query of a search: for a path from `start` to `goal` that arrives by the horizon, and not before
 /// `goal_free_from`.
@@ -66,7 +71,7 @@ impl Query<'_> {
         ensures inside { IsInInterval (occupancies_on self.now state.cell) result.number state.time }
         ensures until { IsFreeUntil self.now state result.until }
     {
-        interval_after(self.occupancies(state.cell), state.time)
+        interval_after(self.occupancies(state.cell), u32::from(state.time))
     }
 
     /// Whether the step to the cell that begins at the time fits. Nobody is on the cell at its end.
@@ -97,11 +102,11 @@ impl Query<'_> {
     }
 }
 
-/// A state that was reached, and the place in the list of the node from which it was reached (0 for the start).
+/// A state that was reached, and the node from which it was reached (the first one for the start).
 #[derive(Clone, Copy)]
 pub struct Node {
     pub state: State,
-    pub parent: u32,
+    pub parent: Link,
 }
 
 /// A node that is being expanded: its place in the list, and until when the agent may wait there.
@@ -133,18 +138,33 @@ pub enum BucketEnd {
 /// The nodes of a search, and those of them that are open.
 #[derive(Drop)]
 pub struct Frontier {
-    pub alloc: Global,
-    pub nodes: Vec<Node>,
+    alloc: Global,
+    nodes: Vec<Node>,
     /// For each safe interval of a cell the earliest time at which a node was made in it.
-    pub labels: Arrivals,
+    labels: Arrivals,
     /// The places of the nodes that are still to be expanded, bucket by bucket.
-    pub open_list: Vec<Vec<u32>>,
+    open_list: Vec<Vec<u32>>,
+}
+
+impl Model for Frontier {
+    ghost use Rattle.fleet_search.specs.Rows.{lists_of};
+    ghost use Rattle.fleet_search.specs.Frontier.{Exploration, ArePlaces};
+
+    ghost Value = { Exploration };
+
+    ghost view = { λ f. record {
+      nodes = f.nodes.items;
+      labels = f.labels.labels;
+      open_list = lists_of f.open_list.items;
+    } };
+
+    ghost invariant = { λ f. ArePlaces f.nodes.items (lists_of f.open_list.items) };
 }
 
 impl Frontier {
     /// No nodes. Takes no memory.
     pub fn new(alloc: Global) -> Frontier
-        ensures { result.nodes.items ≡ [] }
+        ensures { result.nodes ≡ [] }
     {
         Frontier {
             alloc,
@@ -154,15 +174,71 @@ impl Frontier {
         }
     }
 
-    /// The place of the node that is added next.
-    fn next_place(&self) -> Result<u32, OutOfMemory>
-        ensures { IfOk result (λ place. place ≡ length self.now.nodes.items) }
+    /// How many nodes were made.
+    pub fn len(&self) -> usize
+        ensures { result ≡ length self.now.nodes }
+    {
+        self.nodes.len()
+    }
+
+    /// The node at the place.
+    #[inline(always)]
+    fn node(&self, place: u32) -> Node
+        requires { place < length self.now.nodes }
+        ensures { result ≡ get_or self.now.nodes place no_node }
+    {
+        self.nodes[place as usize]
+    }
+
+    /// Whether the search has come to this safe interval of the cell by the time.
+    #[inline(always)]
+    fn is_reached(&self, cell: usize, interval: usize, time: u32) -> bool
+        ensures { IsTrue result ↔ IsSeen (earliest_in self.now.labels cell interval) time }
+    {
+        self.labels.is_reached(cell, interval, time)
+    }
+
+    /// Adds the node, which is open in the bucket, and notes its time for the safe interval of the cell.
+    #[inline(always)]
+    fn add(
+        &mut self,
+        node: Node,
+        cell: usize,
+        interval: usize,
+        bucket: u32,
+    ) -> Result<(), OutOfMemory>
+        requires interval { interval < 4294967295 }
+        requires bucket { bucket < 4294967295 }
+        ensures { OnOk result (IsAdded self.old self.new node cell interval bucket) }
     {
         let place = self.nodes.len();
         if place > u32::MAX as usize {
             return Err(OutOfMemory);
         }
-        Ok(place as u32)
+        self.nodes.push(node)?;
+        self.labels.note(cell, interval, node.state.time)?;
+        put(self.alloc, &mut self.open_list, bucket, place as u32)?;
+        Ok(())
+    }
+
+    /// Takes the node off the bucket that was put on it last, and answers its place.
+    #[inline(always)]
+    fn take(&mut self, bucket: u32) -> Option<u32>
+        ensures some { IfSome result (IsTaken self.old self.new bucket) }
+        ensures none { IfNone result (IsSwept self.old self.new bucket) }
+    {
+        take(&mut self.open_list, bucket)
+    }
+
+    /// Forgets all nodes.
+    fn clear(&mut self)
+        ensures nodes { self.new.nodes ≡ [] }
+        ensures labels { (cell : ℕ) (interval : ℕ) → earliest_in self.new.labels cell interval ≡ None }
+        ensures open_list { (k : ℕ) → bucket_of self.new.open_list k ≡ [] }
+    {
+        self.nodes.clear();
+        self.labels.begin();
+        clear(&mut self.open_list);
     }
 
     /// Adds a node for the cell in the safe interval, reached by the step that begins at the time, if that fits and is
@@ -183,7 +259,7 @@ impl Frontier {
         requires interval { IsInInterval neighbour.now.occupancies.now interval (begin + 1) }
         requires neighbour { IsNeighbour query.now left.state.cell neighbour.now }
         ensures expands_on { OnOk result (ExpandsOn query.now bucket left self.old self.new) }
-        ensures found { OnOk result (IsFoundAt query.now self.new.nodes.items left.state neighbour.now.cell begin) }
+        ensures found { OnOk result (IsFoundAt query.now self.new.nodes left.state neighbour.now.cell begin) }
     {
         if begin >= query.horizon {
             return Ok(());
@@ -191,7 +267,7 @@ impl Frontier {
         let time = begin + 1;
         let cell = neighbour.cell;
         let number = query.grid.cell_index(cell);
-        if self.labels.is_reached(number, interval, time) {
+        if self.is_reached(number, interval, time) {
             return Ok(());
         }
         let heuristic = query.heuristic(cell);
@@ -201,19 +277,15 @@ impl Frontier {
         if !query.fits(left, cell, begin) {
             return Ok(());
         }
-        let place = self.next_place()?;
-        let state = State { time, cell };
-        self.nodes.push(Node {
+        let state = State {
+            time: time as u16,
+            cell,
+        };
+        let node = Node {
             state,
-            parent: left.place,
-        })?;
-        self.labels.note(number, interval, time as u16)?;
-        put(
-            self.alloc,
-            &mut self.open_list,
-            query.bucket(time, heuristic),
-            place,
-        )?;
+            parent: Link::to(left.place),
+        };
+        self.add(node, number, interval, query.bucket(time, heuristic))?;
         Ok(())
     }
 
@@ -231,10 +303,10 @@ impl Frontier {
         requires interval { interval ≤ length neighbour.now.occupancies.now }
         requires neighbour { IsNeighbour query.now left.state.cell neighbour.now }
         ensures expands_on { OnOk result (ExpandsOn query.now bucket left self.old self.new) }
-        ensures found { OnOk result (IsFoundIn query.now self.new.nodes.items left.state neighbour.now.cell interval) }
+        ensures found { OnOk result (IsFoundIn query.now self.new.nodes left.state neighbour.now.cell interval) }
     {
-        let Some(time) = earliest_within(neighbour.occupancies, interval, left.state.time + 1)
-        else {
+        let from = u32::from(left.state.time) + 1;
+        let Some(time) = earliest_within(neighbour.occupancies, interval, from) else {
             return Ok(());
         };
         if time > left.until {
@@ -255,12 +327,12 @@ impl Frontier {
         requires leaving { IsExpansion query.now bucket left self.old }
         requires neighbour { IsNeighbour query.now left.state.cell neighbour.now }
         ensures expands_on { OnOk result (ExpandsOn query.now bucket left self.old self.new) }
-        ensures found { OnOk result (IsFoundFrom query.now self.new.nodes.items left.state neighbour.now.cell) }
+        ensures found { OnOk result (IsFoundFrom query.now self.new.nodes left.state neighbour.now.cell) }
     {
         if neighbour.occupancies.is_empty() {
             return self.successor_in(query, bucket, left, neighbour, 0);
         }
-        let first = started_by(neighbour.occupancies, left.state.time + 1);
+        let first = started_by(neighbour.occupancies, u32::from(left.state.time) + 1);
         for interval in first..neighbour.occupancies.len() + 1 {
             if interval > first && begins_after(neighbour.occupancies, interval, left.until) {
                 return Ok(());
@@ -280,7 +352,7 @@ impl Frontier {
     ) -> Result<(), OutOfMemory>
         requires leaving { IsExpansion query.now bucket left self.old }
         ensures expands_on { OnOk result (ExpandsOn query.now bucket left self.old self.new) }
-        ensures found { OnOk result ((c : Cell) → place_of c ≡ moved (place_of left.state.cell) dir → IsFoundFrom query.now self.new.nodes.items left.state c) }
+        ensures found { OnOk result ((c : Cell) → place_of c ≡ moved (place_of left.state.cell) dir → IsFoundFrom query.now self.new.nodes left.state c) }
     {
         match query.grid.neighbour(left.state.cell, dir) {
             None => Ok(()),
@@ -303,13 +375,13 @@ impl Frontier {
         requires frontier { IsFrontierOf query.now (bucket - 1) (Some place) self.now }
         requires left { IsLeft query.now bucket self.now place state }
         requires inside { IsInInterval (occupancies_on query.now state.cell) interval state.time }
-        ensures { IsTrue result ↔ IsSuperseded query.now self.now.nodes.items state }
+        ensures { IsTrue result ↔ IsSuperseded query.now self.now.nodes state }
     {
         if state.time == 0 {
             return false;
         }
         let number = query.grid.cell_index(state.cell);
-        self.labels.is_reached(number, interval, state.time - 1)
+        self.is_reached(number, interval, u32::from(state.time) - 1)
     }
 
     /// Adds the successors of the node, unless its safe interval was reached sooner: then the sooner node has them.
@@ -350,14 +422,14 @@ impl Frontier {
         requires frontier { IsFrontierOf query.now bucket None self.old }
         ensures { IfOk result (HasEnded query.now bucket self.old self.new) }
     {
-        let before = self.nodes.len();
-        while let Some(place) = take(&mut self.open_list, bucket) {
-            let state = self.nodes[place as usize].state;
-            if state.cell == query.goal && query.goal_free_from <= state.time {
+        let before = self.len();
+        while let Some(place) = self.take(bucket) {
+            let state = self.node(place).state;
+            if state.cell == query.goal && query.goal_free_from <= u32::from(state.time) {
                 return Ok(BucketEnd::Goal(place));
             }
             self.expand(query, bucket, place, state)?;
-            if self.nodes.len() > before {
+            if self.len() > before {
                 return Ok(BucketEnd::Grew);
             }
         }
@@ -370,39 +442,37 @@ impl Frontier {
         requires in_time { heuristic_of query.now query.now.start ≤ query.now.horizon }
         ensures { OnOk result (IsFrontierOf query.now 0 None self.new) }
     {
-        self.nodes.clear();
-        clear(&mut self.open_list);
+        self.clear();
         let start = query.start;
         let state = State {
             time: 0,
             cell: start,
         };
-        self.nodes.push(Node { state, parent: 0 })?;
+        let parent = Link::to(0);
         let interval = started_by(query.occupancies(start), 0);
-        self.labels.begin();
-        self.labels.note(query.grid.cell_index(start), interval, 0)?;
+        let number = query.grid.cell_index(start);
         let bucket = query.bucket(0, query.heuristic(start));
-        put(self.alloc, &mut self.open_list, bucket, 0)?;
+        self.add(Node { state, parent }, number, interval, bucket)?;
         Ok(())
     }
 
     /// The path that leads to the node at this place.
     pub fn path_to(&self, last: u32) -> Result<Path, OutOfMemory>
-        requires within { last < length self.now.nodes.items }
+        requires within { last < length self.now.nodes }
         requires searched { IsSearched self.now last }
         ensures { IfOk result (IsTrailOf self.now last) }
     {
-        let end = self.nodes[last as usize].state;
+        let end = self.node(last).state;
         let mut cells = Vec::new(self.alloc);
         let mut visit = last;
         cells.push(end.cell)?;
         for back in 0..end.time {
-            let node = self.nodes[visit as usize];
+            let node = self.node(visit);
             // Until the time of a node the agent waits on the cell of its parent.
             if node.state.time == end.time - back {
-                visit = node.parent;
+                visit = node.parent.place();
             }
-            cells.push(self.nodes[visit as usize].state.cell)?;
+            cells.push(self.node(visit).state.cell)?;
         }
         cells.reverse();
         Ok(Path::new(cells))

@@ -11,6 +11,7 @@ mod frontier;
 mod intervals;
 mod labels;
 mod laws;
+mod link;
 mod numbers;
 mod occupancy;
 mod orders;

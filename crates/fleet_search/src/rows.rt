@@ -1,7 +1,7 @@
 //! Rows of numbers by their keys: the buckets of the open list, and the numbers of cells.
 
-ghost use Rattle.std.specs.Prelude.{◌≡◌, ◌≢◌, ◌<◌, ◌++◌, ◌∷◌, [], ℕ, OnOk, IfSome, IfNone, length};
-ghost use Rattle.fleet_search.specs.Rows.{bucket_in, IsPut};
+ghost use Rattle.std.specs.Prelude.{◌≡◌, ◌≢◌, ◌<◌, ◌++◌, ◌∷◌, [], ℕ, OnOk, OnErr, IfSome, IfNone, length};
+ghost use Rattle.fleet_search.specs.Rows.{lists_of, bucket_in, IsPut};
 
 use fleet_model::OutOfMemory;
 use std::alloc::Global;
@@ -18,7 +18,7 @@ pub fn widen(alloc: Global, rows: &mut Vec<Vec<u32>>, key: usize) -> Result<(), 
     Ok(())
 }
 
-/// Puts the number last in the row.
+/// Puts the number last in the row. A refusal changes none.
 pub fn put(
     alloc: Global,
     rows: &mut Vec<Vec<u32>>,
@@ -26,7 +26,8 @@ pub fn put(
     number: u32,
 ) -> Result<(), OutOfMemory>
     requires { key < 4294967295 }
-    ensures { OnOk result (IsPut rows.old.items rows.new.items key number) }
+    ensures ok { OnOk result (IsPut (lists_of rows.old.items) (lists_of rows.new.items) key number) }
+    ensures err { OnErr result ((k : ℕ) → bucket_in rows.new.items k ≡ bucket_in rows.old.items k) }
 {
     let key = key as usize;
     widen(alloc, rows, key)?;

@@ -1,5 +1,6 @@
 use Rattle.std.proofs.Common.{◌-◌, inl, inr, refl, subst, sym, arith}
-use Rattle.fleet_search.specs.Search.{times_of, IsStateSettled, IsSuperseded}
+use Rattle.fleet_search.specs.Labels.{earliest_in}
+use Rattle.fleet_search.specs.Search.{IsStateSettled, IsSuperseded}
 use Rattle.fleet_search.proofs.SearchSteps.{expanded, left_done, each_dir, Grows-then, found-stays, Dir-found}
 use Rattle.fleet_search.proofs.frontier.Frontier.expand.Goals as goal
 
@@ -7,8 +8,8 @@ pub returns-then-is_superseded-clause-frontier : goal.returns-then-is_superseded
 returns-then-is_superseded-clause-frontier c =
     let q = c.args.query.now in
     let s = c.args.self.now in
-    left_done q (c.args.bucket - 1) c.args.place s.nodes.items (times_of s.labels) s.open_list.items c.requires.frontier
-    (inr (subst (IsSuperseded q s.nodes.items) (sym c.requires.left.here) (c.is_superseded.ensures.0 c.if-is_superseded.true)))
+    left_done q (c.args.bucket - 1) c.args.place s.nodes (earliest_in s.labels) s.open_list c.requires.frontier
+    (inr (subst (IsSuperseded q s.nodes) (sym c.requires.left.here) (c.is_superseded.ensures.0 c.if-is_superseded.true)))
 
 pub returns-then-is_superseded-clause-grows : goal.returns-then-is_superseded-clause-grows
 returns-then-is_superseded-clause-grows c = record { more = omega arith; kept = λ i h. refl; same = λ e k. refl }
@@ -24,9 +25,9 @@ returns-clause-frontier c =
     let g4 = c.in_ok-successors_towards-4.ensures.expands_on.grows in
     let g3 = Grows-then s2 s3 s4 c.in_ok-successors_towards-3.ensures.expands_on.grows g4 in
     let g2 = Grows-then s1 s2 s4 c.in_ok-successors_towards-2.ensures.expands_on.grows g3 in
-    let r = s4.nodes.items in
-    let done = expanded q r l (each_dir (Dir-found q r l) (λ x e. found-stays q s2.nodes.items r g3.more g3.kept l x (c.in_ok-successors_towards-2.ensures.found x e)) (λ x e. found-stays q s3.nodes.items r g4.more g4.kept l x (c.in_ok-successors_towards-3.ensures.found x e)) (λ x e. found-stays q s1.nodes.items r g2.more g2.kept l x (c.in_ok-successors_towards.ensures.found x e)) c.in_ok-successors_towards-4.ensures.found) c.requires.not_end in
-    left_done q (c.args.bucket - 1) c.args.place r (times_of s4.labels) s4.open_list.items c.in_ok-successors_towards-4.ensures.expands_on.leaving.frontier (subst (IsStateSettled q r) (sym (c.in_ok-successors_towards-4.ensures.expands_on.leaving.left.here)) (inl done))
+    let r = s4.nodes in
+    let done = expanded q r l (each_dir (Dir-found q r l) (λ x e. found-stays q s2.nodes r g3.more g3.kept l x (c.in_ok-successors_towards-2.ensures.found x e)) (λ x e. found-stays q s3.nodes r g4.more g4.kept l x (c.in_ok-successors_towards-3.ensures.found x e)) (λ x e. found-stays q s1.nodes r g2.more g2.kept l x (c.in_ok-successors_towards.ensures.found x e)) c.in_ok-successors_towards-4.ensures.found) c.requires.not_end in
+    left_done q (c.args.bucket - 1) c.args.place r (earliest_in s4.labels) s4.open_list c.in_ok-successors_towards-4.ensures.expands_on.leaving.frontier (subst (IsStateSettled q r) (sym (c.in_ok-successors_towards-4.ensures.expands_on.leaving.left.here)) (inl done))
 
 pub returns-clause-grows : goal.returns-clause-grows
 returns-clause-grows c =

@@ -2,8 +2,7 @@ use Rattle.std.proofs.Common.{◌-◌, ◌<◌, sym, ap, subst, ◌∙◌, arith
 use Rattle.fleet_model.specs.Geometry.{place_of}
 use Rattle.fleet_grid.specs.Ground.{is_passable}
 use Rattle.fleet_search.specs.declared.state.State.{State}
-use Rattle.fleet_search.specs.Labels.{IsSeen}
-use Rattle.fleet_search.specs.Search.{times_of}
+use Rattle.fleet_search.specs.Labels.{earliest_in, IsSeen}
 use Rattle.fleet_search.proofs.SearchSteps.{superseded-seen, seen-superseded}
 use Rattle.fleet_search.proofs.Spread.{on_map}
 use Rattle.fleet_search.proofs.Chase.{none_iff}
@@ -36,9 +35,10 @@ returns c =
     let sound = fr.sound c.args.place left.within in
     let ground = ap (λ (z : State). is_passable q.grid.now (place_of z.cell)) (sym left.here) ∙ sound.on_ground in (
       λ seen.
-          let here = subst (λ z. IsSeen (times_of s.labels z c.args.interval) (m.time - 1)) c.cell_index-number.ensures.value (c.is_reached.ensures.0 seen) in
-          superseded-seen q (c.args.bucket - 1) _ s.nodes.items (times_of s.labels) s.open_list.items fr m c.args.interval ground here (omega arith) c.requires.inside,
+          let there = subst (λ t. IsSeen (earliest_in s.labels c.cell_index-number.result c.args.interval) (t - 1)) c.from.ensures (c.is_reached.ensures.0 seen) in
+          let here = subst (λ z. IsSeen (earliest_in s.labels z c.args.interval) (m.time - 1)) c.cell_index-number.ensures.value there in
+          superseded-seen q (c.args.bucket - 1) _ s.nodes (earliest_in s.labels) s.open_list fr m c.args.interval ground here (omega arith) c.requires.inside,
       λ sooner.
-          let here = seen-superseded q (c.args.bucket - 1) _ s.nodes.items (times_of s.labels) s.open_list.items fr m c.args.interval c.requires.inside sooner in
-          c.is_reached.ensures.1 (subst (λ z. IsSeen (times_of s.labels z c.args.interval) (m.time - 1)) (sym c.cell_index-number.ensures.value) here),
+          let here = seen-superseded q (c.args.bucket - 1) _ s.nodes (earliest_in s.labels) s.open_list fr m c.args.interval c.requires.inside sooner in
+          c.is_reached.ensures.1 (subst (λ t. IsSeen (earliest_in s.labels c.cell_index-number.result c.args.interval) (t - 1)) (sym c.from.ensures) (subst (λ z. IsSeen (earliest_in s.labels z c.args.interval) (m.time - 1)) (sym c.cell_index-number.ensures.value) here)),
     )

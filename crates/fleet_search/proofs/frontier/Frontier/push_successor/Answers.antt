@@ -1,13 +1,12 @@
-use Rattle.std.proofs.Common.{◌≡◌, ◌+◌, ◌-◌, ◌≤◌, length, inr, sym, ap, ◌∙◌, subst, arith}
+use Rattle.std.proofs.Common.{◌+◌, ◌-◌, ◌≤◌, inr, sym, ap, ◌∙◌, subst, arith}
 use Rattle.fleet_search.proofs.Spread.{on_map}
 use Rattle.std.proofs.lemmas.Bool.{both_ways}
 use Rattle.fleet_model.specs.Geometry.{place_of}
 use Rattle.fleet_grid.specs.Ground.{is_passable}
 use Rattle.fleet_search.specs.declared.state.State.{State}
 use Rattle.fleet_search.specs.Intervals.{IsInInterval}
-use Rattle.fleet_search.specs.Labels.{IsSeen, IsLabelSet}
-use Rattle.fleet_search.specs.Rows.{IsPut}
-use Rattle.fleet_search.specs.Search.{times_of, heuristic_of, occupancies_on, IsStep, IsMove, earliest_of}
+use Rattle.fleet_search.specs.Labels.{earliest_in, IsSeen, IsLabelSet}
+use Rattle.fleet_search.specs.Search.{heuristic_of, occupancies_on, IsStep, IsMove, earliest_of}
 use Rattle.fleet_search.proofs.IntervalLaws.{interval-free, few-occupancies}
 use Rattle.fleet_search.proofs.SearchSteps.{near-beside, bucket-next, covered-seen, covered-new, expands_on, pushed, pushed-grows}
 use Rattle.fleet_search.proofs.frontier.Frontier.push_successor.Goals as goal
@@ -17,47 +16,45 @@ returns-then-is_reached-clause-found c = λ step h.
     let q = c.args.query.now in
     let s = c.args.self.now in
     let cell = c.args.neighbour.now.cell in
-    let seen : IsSeen (earliest_of q (times_of s.labels) cell c.args.interval) (c.args.begin + 1) = subst (λ z. IsSeen (times_of s.labels z c.args.interval) (c.args.begin + 1)) c.cell_index-number.ensures.value (c.is_reached.ensures.0 c.if-is_reached.true) in
-    covered-seen q _ _ s.nodes.items (times_of s.labels) s.open_list.items c.requires.leaving.frontier cell c.args.interval (c.args.begin + 1) c.requires.neighbour.on_ground seen (subst (λ z. IsInInterval z c.args.interval (c.args.begin + 1)) c.requires.neighbour.occupancies c.requires.interval)
+    let seen : IsSeen (earliest_of q (earliest_in s.labels) cell c.args.interval) (c.args.begin + 1) = subst (λ z. IsSeen (earliest_in s.labels z c.args.interval) (c.args.begin + 1)) c.cell_index-number.ensures.value (c.is_reached.ensures.0 c.if-is_reached.true) in
+    covered-seen q _ _ s.nodes (earliest_in s.labels) s.open_list c.requires.leaving.frontier cell c.args.interval (c.args.begin + 1) c.requires.neighbour.on_ground seen (subst (λ z. IsInInterval z c.args.interval (c.args.begin + 1)) c.requires.neighbour.occupancies c.requires.interval)
 
 pub fits-requires-clause-free : goal.fits-requires-clause-free
 fits-requires-clause-free c =
     let q = c.args.query.now in
     interval-free q.reserved.now c.args.neighbour.now.cell (occupancies_on q c.args.neighbour.now.cell) (c.requires.leaving.frontier.measured.occupancies c.args.neighbour.now.cell) c.args.interval (c.args.begin + 1) (subst (λ z. IsInInterval z c.args.interval (c.args.begin + 1)) c.requires.neighbour.occupancies c.requires.interval)
 
-pub note-requires : goal.note-requires
-note-requires c =
+pub add-requires-clause-interval : goal.add-requires-clause-interval
+add-requires-clause-interval c =
     let q = c.args.query.now in
     let few = few-occupancies q.reserved.now c.args.neighbour.now.cell (occupancies_on q c.args.neighbour.now.cell) (c.requires.leaving.frontier.measured.occupancies c.args.neighbour.now.cell) in
     let bound = (subst (λ z. IsInInterval z c.args.interval (c.args.begin + 1)) c.requires.neighbour.occupancies c.requires.interval).bound in
     omega arith
 
 pub returns-clause-found : goal.returns-clause-found
-returns-clause-found c = λ step h. covered-new c.args.query.now c.args.self.now.nodes.items c.push.new.self.items c.args.left.place c.args.begin c.args.neighbour.now.cell c.in_ok-push.ensures.items step.fits.vertex
+returns-clause-found c = λ step h. covered-new c.args.query.now c.args.self.now.nodes c.add.new.self.nodes c.to.result c.args.begin c.args.neighbour.now.cell c.in_ok-add.ensures.nodes step.fits.vertex
 
 pub returns-clause-expands_on : goal.returns-clause-expands_on
 returns-clause-expands_on c =
     let s = c.args.self.now in
     let q = c.args.query.now in
-    let r = s.nodes.items in
+    let r = s.nodes in
     let fr = c.requires.leaving.frontier in
     let l = c.args.left in
     let cell = c.args.neighbour.now.cell in
-    let labels = times_of s.labels in
-    let new = times_of c.note.new.self in
+    let labels = earliest_in s.labels in
+    let new = earliest_in c.add.new.self.labels in
     let unseen : IsSeen (earliest_of q labels cell c.args.interval) (c.args.begin + 1) → ⊥ = λ w. both_ways c.is_reached.result c.if-is_reached.false (c.is_reached.ensures.1 (subst (λ z. IsSeen (labels z c.args.interval) (c.args.begin + 1)) (sym c.cell_index-number.ensures.value) w)) in
     let step : IsStep q c.args.begin l.state.cell cell = record { beside = inr c.requires.neighbour.neighbours; on_ground = c.requires.neighbour.on_ground; fits = c.fits.ensures.0 c.if-not-fits.false } in
     let move : IsMove q l.state c.args.begin cell = record { waits = c.requires.waits; free = λ x a b. c.requires.leaving.until.0 x a (omega arith); step = step } in
     let in_time : c.args.begin + 1 + heuristic_of q cell ≤ q.horizon = omega (arith, c.heuristic-heuristic.ensures.value) in
-    let place : c.in_ok-place.place ≡ length r = omega (arith, c.in_ok-place.ensures) in
-    let set : IsLabelSet labels new _ c.args.interval (c.args.begin + 1) = subst (λ z. IsLabelSet labels new z c.args.interval (c.args.begin + 1)) c.cell_index-number.ensures.value c.in_ok-note.ensures in
+    let set : IsLabelSet labels new _ c.args.interval (c.args.begin + 1) = subst (λ z. IsLabelSet labels new z c.args.interval (c.args.begin + 1)) c.cell_index-number.ensures.value c.in_ok-add.ensures.labels in
     let bucket = c.bucket.ensures cell c.heuristic-heuristic.ensures.value in
-    let put = subst (IsPut s.open_list.items c.put.new.rows.items c.bucket.result) place c.in_ok-put.ensures in
     let ground = ap (λ (z : State). is_passable q.grid.now (place_of z.cell)) (sym c.requires.leaving.left.here) ∙ (fr.sound l.place c.requires.leaving.left.within).on_ground in
     let near = near-beside q fr.measured l.state.cell cell ground c.requires.neighbour.on_ground (inr c.requires.neighbour.neighbours) in
     let waits = c.requires.waits in
     let late = bucket-next q l.state (record { time = c.args.begin + 1; cell = cell }) c.args.bucket c.bucket.result c.requires.leaving.left.bucket bucket (omega arith) near.1 in
-    expands_on q c.args.bucket l s _ c.requires.leaving (pushed q (c.args.bucket - 1) l.place r labels s.open_list.items fr l.state c.requires.leaving.left.within c.requires.leaving.left.here c.args.begin cell c.args.interval (subst (λ z. IsInInterval z c.args.interval (c.args.begin + 1)) c.requires.neighbour.occupancies c.requires.interval) unseen move in_time c.push.new.self.items new c.put.new.rows.items c.bucket.result c.in_ok-push.ensures.items set bucket put late) (pushed-grows s _ (record { state = record { time = c.args.begin + 1; cell = cell }; parent = l.place }) c.in_ok-push.ensures.items)
+    expands_on q c.args.bucket l s _ c.requires.leaving (pushed q (c.args.bucket - 1) l.place r labels s.open_list fr c.in_ok-add.ensures.places l.state c.requires.leaving.left.within c.requires.leaving.left.here c.args.begin cell c.args.interval (subst (λ z. IsInInterval z c.args.interval (c.args.begin + 1)) c.requires.neighbour.occupancies c.requires.interval) unseen move in_time c.add.new.self.nodes new c.add.new.self.open_list c.bucket.result c.to.result c.to.ensures c.in_ok-add.ensures.nodes set bucket c.in_ok-add.ensures.open_list late) (pushed-grows s _ (record { state = record { time = c.args.begin + 1; cell = cell }; parent = c.to.result }) c.in_ok-add.ensures.nodes)
 
 pub cell_index-number-requires-clause-column : goal.cell_index-number-requires-clause-column
 cell_index-number-requires-clause-column c = (on_map c.args.query.now.grid.now c.args.neighbour.now.cell c.requires.leaving.frontier.measured.heuristic.ready.map c.requires.neighbour.on_ground).0

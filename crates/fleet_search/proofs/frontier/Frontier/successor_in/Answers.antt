@@ -1,21 +1,22 @@
 use Rattle.std.proofs.Common.{ℕ, ◌+◌, ◌-◌, ◌≤◌, subst, arith}
 use Rattle.fleet_search.specs.Intervals.{IsInInterval, IsEarliestWithin}
+use Rattle.fleet_search.specs.Search.{occupancies_on}
 use Rattle.fleet_search.proofs.SearchSteps.{found_in-none, found_in-late, found_in-first}
 use Rattle.fleet_search.proofs.frontier.Frontier.successor_in.Goals as goal
 
 pub returns-in_default-clause-found : goal.returns-in_default-clause-found
 returns-in_default-clause-found c =
-    found_in-none c.args.query.now c.args.self.now.nodes.items c.args.left.state c.args.neighbour.now.cell c.args.interval (subst (λ z. (s : ℕ) → c.args.left.state.time + 1 ≤ s → IsInInterval z c.args.interval s → ⊥) c.requires.neighbour.occupancies c.in_default.ensures.none)
+    found_in-none c.args.query.now c.args.self.now.nodes c.args.left.state c.args.neighbour.now.cell c.args.interval (subst (λ t. (s : ℕ) → t + 1 ≤ s → IsInInterval (occupancies_on c.args.query.now c.args.neighbour.now.cell) c.args.interval s → ⊥) c.from-from.ensures (subst (λ z. (s : ℕ) → c.from-from.result + 1 ≤ s → IsInInterval z c.args.interval s → ⊥) c.requires.neighbour.occupancies c.in_default.ensures.none))
 
 pub returns-then-time-left-clause-found : goal.returns-then-time-left-clause-found
 returns-then-time-left-clause-found c =
-    found_in-late c.args.query.now c.args.self.now.nodes.items c.args.left.state c.args.neighbour.now.cell c.args.interval c.in-Some.time c.args.left.until c.requires.leaving.horizon c.requires.leaving.until (subst (λ z. IsEarliestWithin z c.args.interval (c.args.left.state.time + 1) c.in-Some.time) c.requires.neighbour.occupancies c.in-Some.ensures.some) (omega arith)
+    found_in-late c.args.query.now c.args.self.now.nodes c.args.left.state c.args.neighbour.now.cell c.args.interval c.in-Some.time c.args.left.until c.requires.leaving.horizon c.requires.leaving.until (subst (λ t. IsEarliestWithin (occupancies_on c.args.query.now c.args.neighbour.now.cell) c.args.interval (t + 1) c.in-Some.time) c.from-from.ensures (subst (λ z. IsEarliestWithin z c.args.interval (c.from-from.result + 1) c.in-Some.time) c.requires.neighbour.occupancies c.in-Some.ensures.some)) (omega arith)
 
 pub returns-clause-found : goal.returns-clause-found
 returns-clause-found c =
-    let first = subst (λ z. IsEarliestWithin z c.args.interval (c.args.left.state.time + 1) c.in-Some.time) c.requires.neighbour.occupancies c.in-Some.ensures.some in
+    let first = subst (λ t. IsEarliestWithin (occupancies_on c.args.query.now c.args.neighbour.now.cell) c.args.interval (t + 1) c.in-Some.time) c.from-from.ensures (subst (λ z. IsEarliestWithin z c.args.interval (c.from-from.result + 1) c.in-Some.time) c.requires.neighbour.occupancies c.in-Some.ensures.some) in
     let later = first.later in
-    found_in-first c.args.query.now c.requires.leaving.frontier.measured c.push_successor.new.self.nodes.items c.args.left.state c.args.neighbour.now.cell c.args.interval c.in-Some.time (c.in-Some.time - 1) first (omega arith) c.in_ok-push_successor.ensures.found
+    found_in-first c.args.query.now c.requires.leaving.frontier.measured c.push_successor.new.self.nodes c.args.left.state c.args.neighbour.now.cell c.args.interval c.in-Some.time (c.in-Some.time - 1) first (omega arith) c.in_ok-push_successor.ensures.found
 
 pub push_successor-requires-clause-leaving : goal.push_successor-requires-clause-leaving
 push_successor-requires-clause-leaving c = c.requires.leaving

@@ -1,6 +1,7 @@
 use Rattle.std.proofs.Common.{◌+◌, ◌-◌, ◌<◌, length, sym, ap, subst, arith}
 use Rattle.fleet_search.specs.Occupancies.{AreInOrder, occupancy_at}
 use Rattle.fleet_search.specs.Intervals.{AreBegun}
+use Rattle.fleet_search.specs.Search.{occupancies_on}
 use Rattle.fleet_search.proofs.IntervalLaws.{started_by-point}
 use Rattle.fleet_search.proofs.Occupants.{yes_from_true}
 use Rattle.fleet_search.proofs.ReservationTables.{AreInOrder-occupancies}
@@ -15,8 +16,12 @@ started_by-first-requires c =
 
 pub loop-interval-init : goal.loop-interval-init
 loop-interval-init c =
-    let started_by = started_by-point _ (c.args.left.state.time + 1) c.started_by-first.result c.started_by-first.ensures.bound c.started_by-first.ensures.point in
-    turning-begin c.args.query.now c.args.bucket c.args.left c.args.neighbour.now.cell c.started_by-first.result c.args.self.now c.requires.leaving (subst (λ z. AreBegun z (c.args.left.state.time + 1) c.started_by-first.result) c.requires.neighbour.occupancies started_by)
+    let q = c.args.query.now in
+    let cell = c.args.neighbour.now.cell in
+    let first = c.started_by-first.result in
+    let started_by = started_by-point _ (c.from.result + 1) first c.started_by-first.ensures.bound c.started_by-first.ensures.point in
+    let begun = subst (λ t. AreBegun (occupancies_on q cell) (t + 1) first) c.from.ensures (subst (λ z. AreBegun z (c.from.result + 1) first) c.requires.neighbour.occupancies started_by) in
+    turning-begin q c.args.bucket c.args.left cell first c.args.self.now c.requires.leaving begun
 
 pub loop-interval-preserved : goal.loop-interval-preserved
 loop-interval-preserved c = turning-more c.args.query.now c.args.bucket c.args.left c.args.neighbour.now.cell c.loop-interval.interval c.args.self.now c.loop-interval.self c.successor_in-in-loop-interval.new.self c.loop-interval.invariant c.in_ok-successor_in.ensures.expands_on c.in_ok-successor_in.ensures.found

@@ -4,4 +4,4 @@ use Rattle.fleet_search.proofs.frontier.Frontier.successors_towards.Goals as goa
 
 pub returns-in-Some-clause-found : goal.returns-in-Some-clause-found
 returns-in-Some-clause-found c =
-    on_ok_weaker c.successors_at.result (found_dir c.args.query.now c.successors_at.new.self.nodes.items c.args.left.state c.in-Some.cell c.args.dir c.in-Some.ensures.some.0) c.successors_at.ensures.found
+    on_ok_weaker c.successors_at.result (found_dir c.args.query.now c.successors_at.new.self.nodes c.args.left.state c.in-Some.cell c.args.dir c.in-Some.ensures.some.0) c.successors_at.ensures.found

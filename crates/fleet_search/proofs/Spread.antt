@@ -1,5 +1,5 @@
 -- Cells are labelled with their distances from a goal.
-use Rattle.std.proofs.Common.{◌≡◌, ◌≢◌, ℕ, zero, suc, ◌+◌, ◌*◌, ◌<◌, ◌≤◌, ◌/◌, ◌%◌, ◌==◌, true, false, cond, List, [], ◌∷◌, ◌++◌, length, get_or, Contains, Option, Some, None, ◌⊎◌, inl, inr, refl, sym, ap, ◌∙◌, subst, arith}
+use Rattle.std.proofs.Common.{◌≡◌, ◌≢◌, ℕ, zero, suc, ◌+◌, ◌<◌, ◌≤◌, ◌/◌, ◌%◌, ◌==◌, true, false, cond, List, [], ◌∷◌, ◌++◌, length, get_or, Contains, Option, Some, None, ◌⊎◌, inl, inr, refl, sym, ap, ◌∙◌, subst, arith}
 use Rattle.std.proofs.Math.Dec.{ltb}
 use Rattle.std.specs.Bool.{IsTrue}
 use Rattle.std.specs.Prelude.{◌↔◌, Bool}
@@ -8,10 +8,10 @@ use Rattle.std.specs.List.{sum_by}
 use Rattle.std.proofs.lemmas.List.Sums.{sum_by-set}
 use Rattle.std.specs.Prelude.{unwrap_or, min, set}
 use Rattle.std.proofs.lemmas.Int.{ints}
-use Rattle.std.proofs.lemmas.Nat.{div-mul-add, mod-mul-add, mul-add-lt}
+use Rattle.std.proofs.lemmas.Nat.{div-mul-add, mod-mul-add}
 use Rattle.std.proofs.lemmas.Bool.{cases_lt, cases_eq, lt-ltb, ltb-true, eqb-true, eq-eqb, false_from_ne_true}
 use Rattle.std.proofs.lemmas.Option.{none-some, same_Some}
-use Rattle.std.proofs.lemmas.List.{get_or-set_same, get_or-set_other, length-set, get_or_default, length-append}
+use Rattle.std.proofs.lemmas.List.{get_or-set_same, get_or-set_other, length-set, get_or_past, length-append}
 use Rattle.std.proofs.lemmas.List.Elements.{Contains-append_left, Contains-push, Contains-push_cases}
 use Rattle.fleet_model.specs.declared.geometry.Cell.{Cell}
 use Rattle.fleet_model.specs.declared.geometry.Place.{Place}
@@ -24,8 +24,7 @@ use Rattle.fleet_grid.specs.Ground.{Ground, IsGround, cell_index}
 use Rattle.fleet_grid.proofs.StoredLaws.{off_map}
 use Rattle.fleet_plan.specs.Plan.{AreNeighbours}
 use Rattle.fleet_search.specs.declared.distances.Label.{Label}
-use Rattle.fleet_search.specs.declared.distances.Distances.{Distances}
-use Rattle.fleet_search.specs.Distance.{no_label, label_in, labelled, manhattan, least_moves, heuristic, AreDistances, IsOnGround, IsClosed, IsWaiting, IsSpread, IsSpreadOf, IsLabelled, LabelsFall, IsFoundTowards, IsPutFrom, IsLabelNear, label_weight, work_left}
+use Rattle.fleet_search.specs.Distance.{DistanceTable, no_label, label_in, labelled, manhattan, least_moves, heuristic, with_label, IsReady, AreDistances, IsOnGround, IsClosed, IsWaiting, IsSpread, IsSpreadOf, IsLabelled, LabelsFall, IsFoundTowards, IsPutFrom, IsLabelNear, IsLabelledTowards, label_weight, work_left}
 
 -- ---- the places of cells in a table
 
@@ -80,9 +79,31 @@ pub labelled-same : (search : ℕ) (l : Label) → l.search ≡ search → label
 labelled-same search l e = ap (λ b. cond b (Some l.distance) None) (eq-eqb l.search search e)
 
 -- what is read in the cell's place
-pub label_read : (g : Ground) (labels : List Label) (search : ℕ) (c : Cell) (l : Label) → cell_index g c < length labels → l ≡ get_or labels (cell_index g c) l → labelled search l ≡ label_in g labels search c
+pub label_read : (s : DistanceTable) (c : Cell) (place : ℕ) (l : Label) → place ≡ cell_index s.grid c → l ≡ get_or s.labels place no_label → labelled s.search l ≡ label_in s.grid s.labels s.search c
 unfolding label_in
-label_read g labels search c l h e = ap (labelled search) (e ∙ get_or_default labels (cell_index g c) l no_label h)
+label_read s c place l at read = ap (labelled s.search) (read ∙ ap (λ n. get_or s.labels n no_label) at)
+
+-- a label of this search leaves no later one
+pub ready_set : (g : Ground) (labels : List Label) (search place distance : ℕ) → place < length labels → IsReady g labels search → IsReady g (set labels place (record { search = search; distance = distance })) search
+ready_set g labels search place distance within ready = record { map = ready.map; size = long ∙ ready.size; old = old }
+  where
+    label : Label
+    label = record { search = search; distance = distance }
+
+    long : length (set labels place label) ≡ length labels
+    long = length-set labels place label
+
+    old : (i : ℕ) → i < length (set labels place label) → (get_or (set labels place label) i no_label).search ≤ search
+    old i h = elim (cases_eq i place) [
+      | inl e ↦
+          let at : get_or (set labels place label) i no_label ≡ label = ap (λ k. get_or (set labels place label) k no_label) e ∙ get_or-set_same labels place label no_label within in
+          let s = ap (λ (l : Label). l.search) at in
+          omega arith
+      | inr ne ↦
+          let s = ap (λ (l : Label). l.search) (get_or-set_other labels place i label no_label ne) in
+          let o = ready.old i (omega (arith, long)) in
+          omega arith
+    ]
 
 -- ---- columns and rows between cells
 
@@ -166,7 +187,7 @@ manhattan-few g a b s ha hb = let p = on_map g a s ha in let q = on_map g b s hb
 
 -- ---- a cell is labelled
 
-module _ (g : Ground) (labels : List Label) (search : ℕ) (start goal : Cell) (f_bound : ℕ) (left : Cell) (layer next : List Cell) (sp : IsSpread g labels search start goal f_bound (Some left) layer next) (d : ℕ) (few : d < MAX_HORIZON) (on_left : IsOnGround g left) (at_left : label_in g labels search left ≡ Some d) (over : d + manhattan left start ≡ f_bound) (b : Cell) (beside : AreNeighbours left b) (on : IsOnGround g b) (within : cell_index g b < length labels) (more : (n : ℕ) → label_in g labels search b ≡ Some n → d + 1 < n) (labels' : List Label) (put : labels' ≡ set labels (cell_index g b) (record { search = search; distance = d + 1 })) where
+module _ (g : Ground) (labels : List Label) (search : ℕ) (start goal : Cell) (f_bound : ℕ) (left : Cell) (layer next : List Cell) (sp : IsSpread g labels search start goal f_bound (Some left) layer next) (map : IsGround g) (d : ℕ) (few : d < MAX_HORIZON) (on_left : IsOnGround g left) (at_left : label_in g labels search left ≡ Some d) (over : d + manhattan left start ≡ f_bound) (b : Cell) (beside : AreNeighbours left b) (on : IsOnGround g b) (within : cell_index g b < length labels) (more : (n : ℕ) → label_in g labels search b ≡ Some n → d + 1 < n) (labels' : List Label) (put : labels' ≡ set labels (cell_index g b) (record { search = search; distance = d + 1 })) where
   here : label_in g labels' search b ≡ Some (d + 1)
   unfolding label_in
   here = ap (λ z. labelled search (get_or z (cell_index g b) no_label)) put ∙ ap (labelled search) (get_or-set_same labels (cell_index g b) (record { search = search; distance = d + 1 }) no_label within) ∙ labelled-here search (d + 1)
@@ -178,7 +199,7 @@ module _ (g : Ground) (labels : List Label) (search : ℕ) (start goal : Cell) (
   -- the cell is the new one, or its label is as before
   cases : (c : Cell) → IsOnGround g c → (b ≡ c) ⊎ (label_in g labels' search c ≡ label_in g labels search c)
   cases c h = elim (cases_eq (cell_index g c) (cell_index g b)) [
-    | inl e ↦ inl (one_place g b c sp.ready.map on h (sym e))
+    | inl e ↦ inl (one_place g b c map on h (sym e))
     | inr ne ↦ inr (other c ne)
   ]
 
@@ -194,20 +215,6 @@ module _ (g : Ground) (labels : List Label) (search : ℕ) (start goal : Cell) (
     | inr s ↦ s ∙ at_left
   ]
 
-  old : (i : ℕ) → i < length labels' → (get_or labels' i no_label).search ≤ search
-  old i h = elim (cases_eq i (cell_index g b)) [
-    | inl e ↦
-        let at : get_or labels' i no_label ≡ record { search = search; distance = d + 1 } = ap (λ z. get_or z i no_label) put ∙ ap (λ k. get_or (set labels (cell_index g b) (record { search = search; distance = d + 1 })) k no_label) e ∙ get_or-set_same labels (cell_index g b) (record { search = search; distance = d + 1 }) no_label within in
-        let s = ap (λ (l : Label). l.search) at in
-        omega arith
-    | inr ne ↦
-        let at : get_or labels' i no_label ≡ get_or labels i no_label = ap (λ z. get_or z i no_label) put ∙ get_or-set_other labels (cell_index g b) i (record { search = search; distance = d + 1 }) no_label ne in
-        let s = ap (λ (l : Label). l.search) at in
-        let long : length labels' ≡ length labels = ap length put ∙ length-set labels (cell_index g b) (record { search = search; distance = d + 1 }) in
-        let o = sp.ready.old i (omega arith) in
-        omega arith
-  ]
-
   closed-occupancies : (c : Cell) (n : ℕ) → IsClosed g labels search c n → IsClosed g labels' search c n
   closed-occupancies c n h e nb on' = let w = h e nb on' in let f = falls e w.0 on' w.1 in let l = f.2 in let l' = w.2 in (f.0, f.1, (omega arith))
 
@@ -221,7 +228,6 @@ module _ (g : Ground) (labels : List Label) (search : ℕ) (start goal : Cell) (
 
   spread-put : (layer' next' : List Cell) → IsPut layer' next' → IsSpread g labels' search start goal f_bound (Some left) layer' next'
   spread-put layer' next' p = record {
-    ready = record { map = sp.ready.map; size = ap length put ∙ length-set labels (cell_index g b) (record { search = search; distance = d + 1 }) ∙ sp.ready.size; old = old };
     goal_on_ground = sp.goal_on_ground;
     at_goal = let f = falls goal 0 sp.goal_on_ground sp.at_goal in let l = f.2 in f.1 ∙ ap Some (let z : f.0 ≡ 0 = omega arith in z);
     apart = λ c n h e. elim (cases c h) [
@@ -287,8 +293,11 @@ module _ (g : Ground) (labels : List Label) (search : ℕ) (start goal : Cell) (
       heavier (Some n) e = let k = ap (λ o. unwrap_or o (MAX_HORIZON + 1)) e in let m = more n e in omega arith
 
 -- the neighbour has such a label already
-pub found-before : (g : Ground) (labels : List Label) (search d : ℕ) (left b : Cell) (n : ℕ) → label_in g labels search b ≡ Some n → n ≤ d + 1 → (dir : Dir) → place_of b ≡ moved (place_of left) dir → (e : Cell) → place_of e ≡ moved (place_of left) dir → IsOnGround g e → (m : ℕ) × (label_in g labels search e ≡ Some m) × (m ≤ d + 1)
-found-before g labels search d left b n h l dir p e p' on' = (n, subst (λ z. label_in g labels search z ≡ Some n) (place_of-injective b e (p ∙ sym p')) h, l)
+pub near_before : (s : DistanceTable) (d : ℕ) (left b : Cell) → IsLabelNear s.search (get_or s.labels (cell_index s.grid b) no_label) (d + 1) → (dir : Dir) → place_of b ≡ moved (place_of left) dir → IsFoundTowards s d left dir
+unfolding label_in
+near_before s d left b near dir p e p' on =
+    let l = get_or s.labels (cell_index s.grid b) no_label in
+    (l.distance, subst (λ z. label_in s.grid s.labels s.search z ≡ Some l.distance) (place_of-injective b e (p ∙ sym p')) (labelled-same s.search l near.current), near.near)
 
 -- a label that is none of this search, or says more moves
 pub not-near : (g : Ground) (labels : List Label) (search d : ℕ) (b : Cell) → (IsLabelNear search (get_or labels (cell_index g b) no_label) (d + 1) → ⊥) → (n : ℕ) → label_in g labels search b ≡ Some n → d + 1 < n
@@ -304,19 +313,18 @@ not-near g labels search d b not n e =
 
 -- ---- a cell is left
 
-pub spread-popped : (g : Ground) (labels : List Label) (search : ℕ) (start goal : Cell) (f_bound : ℕ) (c : Cell) (layer layer' next : List Cell) → IsSpread g labels search start goal f_bound None layer next → layer ≡ layer' ++ c ∷ [] → IsSpread g labels search start goal f_bound (Some c) layer' next
-spread-popped g labels search start goal f_bound c layer layer' next sp e = record {
-  ready = sp.ready;
+pub spread-popped : (c : Cell) (t : DistanceTable) → IsSpreadOf None (record t { layer = t.layer ++ c ∷ [] }) → IsSpreadOf (Some c) t
+spread-popped c t sp = record {
   goal_on_ground = sp.goal_on_ground;
   at_goal = sp.at_goal;
   apart = sp.apart;
-  in_layer = λ x h. sp.in_layer x (subst (λ z. Contains z x) (sym e) (Contains-append_left layer' (c ∷ []) x h));
+  in_layer = λ x h. sp.in_layer x (Contains-append_left t.layer (c ∷ []) x h);
   in_next = sp.in_next;
   closed = λ x n h k. elim (sp.closed x n h k) [
     | inl y ↦ inl y
     | inr w ↦ inr (elim w [
       | inl y ↦ elim y.1 [
-        | inl u ↦ inl (y.0, elim (Contains-push_cases layer' c x (subst (λ z. Contains z x) e u)) [ inl z ↦ inl z | inr s ↦ inr (ap Some s) ])
+        | inl u ↦ inl (y.0, elim (Contains-push_cases t.layer c x u) [ inl z ↦ inl z | inr s ↦ inr (ap Some s) ])
         | inr u ↦ absurd (none-some x u)
       ]
       | inr y ↦ inr y
@@ -324,24 +332,27 @@ spread-popped g labels search start goal f_bound c layer layer' next sp e = reco
   ];
 }
 
-module _ (g : Ground) (s1 s2 s3 s4 : Distances) (d : ℕ) (left : Cell) (sp : IsSpreadOf g (Some left) s4) (n : IsFoundTowards g s1 d left North) (e : IsFoundTowards g s2 d left East) (s : IsFoundTowards g s3 d left South) (w : IsFoundTowards g s4 d left West) (t2 : LabelsFall g s1 s2) (t3 : LabelsFall g s2 s3) (t4 : LabelsFall g s3 s4) where
-  Found : Distances → Cell → Type 0
-  Found t x = (m : ℕ) × IsLabelled g t x m × (m ≤ d + 1)
+-- a cell of the layer is passable
+pub taken : (c : Cell) (t : DistanceTable) → IsSpreadOf None (record t { layer = t.layer ++ c ∷ [] }) → IsOnGround t.grid c
+taken c t sp = sp.in_layer c (Contains-push t.layer c)
 
-  on : (a b : Distances) → LabelsFall g a b → (x : Cell) → IsOnGround g x → Found a x → Found b x
-  unfolding Found
-  on a b t x h f = let k = t x f.0 h f.1 in let l = f.2 in let l' = k.2 in (k.0, k.1, (omega arith))
+module _ (s1 s2 s3 s4 : DistanceTable) (d : ℕ) (left : Cell) (sp : IsSpreadOf (Some left) s4) (g1 : s1.grid ≡ s4.grid) (g2 : s2.grid ≡ s4.grid) (g3 : s3.grid ≡ s4.grid) (n : IsFoundTowards s1 d left North) (e : IsFoundTowards s2 d left East) (s : IsFoundTowards s3 d left South) (w : IsFoundTowards s4 d left West) (t2 : LabelsFall s1 s2) (t3 : LabelsFall s2 s3) (t4 : LabelsFall s3 s4) where
+  Found : DistanceTable → Cell → Type 0
+  Found t x = (m : ℕ) × IsLabelled t x m × (m ≤ d + 1)
 
-  left-closed : (x : Cell) → AreNeighbours left x → IsOnGround g x → (m : ℕ) × IsLabelled g s4 x m × (m ≤ d + 1)
+  on : (a b : DistanceTable) → a.grid ≡ s4.grid → LabelsFall a b → (x : Cell) → IsOnGround s4.grid x → Found a x → Found b x
   unfolding Found
-  left-closed x (North, p) h = on s3 s4 t4 x h (on s2 s3 t3 x h (on s1 s2 t2 x h (n x p h)))
-  left-closed x (East, p) h = on s3 s4 t4 x h (on s2 s3 t3 x h (e x p h))
-  left-closed x (South, p) h = on s3 s4 t4 x h (s x p h)
+  on a b same t x h f = let k = t x f.0 (subst (λ g. IsOnGround g x) (sym same) h) f.1 in let l = f.2 in let l' = k.2 in (k.0, k.1, (omega arith))
+
+  left-closed : (x : Cell) → AreNeighbours left x → IsOnGround s4.grid x → (m : ℕ) × IsLabelled s4 x m × (m ≤ d + 1)
+  unfolding Found
+  left-closed x (North, p) h = on s3 s4 g3 t4 x h (on s2 s3 g2 t3 x h (on s1 s2 g1 t2 x h (n x p (subst (λ g. IsOnGround g x) (sym g1) h))))
+  left-closed x (East, p) h = on s3 s4 g3 t4 x h (on s2 s3 g2 t3 x h (e x p (subst (λ g. IsOnGround g x) (sym g2) h)))
+  left-closed x (South, p) h = on s3 s4 g3 t4 x h (s x p (subst (λ g. IsOnGround g x) (sym g3) h))
   left-closed x (West, p) h = w x p h
 
-  pub spread-left : IsLabelled g s4 left d → IsSpreadOf g None s4
+  pub spread-left : IsLabelled s4 left d → IsSpreadOf None s4
   spread-left here = record {
-    ready = sp.ready;
     goal_on_ground = sp.goal_on_ground;
     at_goal = sp.at_goal;
     apart = sp.apart;
@@ -354,8 +365,8 @@ module _ (g : Ground) (s1 s2 s3 s4 : Distances) (d : ℕ) (left : Cell) (sp : Is
           | inl u ↦ inr (inl (z.0, inl u))
           | inr u ↦
               let same = same_Some left x u in
-              let at : k ≡ d = same_Some k d (sym l ∙ ap (label_in g s4.labels.items s4.search) (sym same) ∙ here) in
-              inl (subst (λ v. IsClosed g s4.labels.items s4.search x v) (sym at) (subst (λ v. IsClosed g s4.labels.items s4.search v d) same left-closed))
+              let at : k ≡ d = same_Some k d (sym l ∙ ap (label_in s4.grid s4.labels s4.search) (sym same) ∙ here) in
+              inl (subst (λ v. IsClosed s4.grid s4.labels s4.search x v) (sym at) (subst (λ v. IsClosed s4.grid s4.labels s4.search v d) same left-closed))
         ]
         | inr z ↦ inr (inr z)
       ]
@@ -364,9 +375,8 @@ module _ (g : Ground) (s1 s2 s3 s4 : Distances) (d : ℕ) (left : Cell) (sp : Is
 
 -- ---- the next list
 
-pub spread-turned : (g : Ground) (labels : List Label) (search : ℕ) (start goal : Cell) (f_bound : ℕ) (layer next : List Cell) → IsSpread g labels search start goal f_bound None layer next → layer ≡ [] → IsSpread g labels search start goal (f_bound + 2) None next []
-spread-turned g labels search start goal f_bound layer next sp e = record {
-  ready = sp.ready;
+pub spread-turned : (t : DistanceTable) → IsSpreadOf None t → t.layer ≡ [] → IsSpreadOf None (record t { f_bound = t.f_bound + 2; layer = t.next; next = [] })
+spread-turned t sp e = record {
   goal_on_ground = sp.goal_on_ground;
   at_goal = sp.at_goal;
   apart = sp.apart;
@@ -384,17 +394,6 @@ spread-turned g labels search start goal f_bound layer next sp e = record {
   ];
 }
 
-pub turned_to : (g : Ground) (s t : Distances) → IsSpreadOf g None s → s.layer.items ≡ [] → t.labels ≡ s.labels → t.search ≡ s.search → t.start ≡ s.start → t.goal ≡ s.goal → t.f_bound ≡ s.f_bound + 2 → t.layer.items ≡ s.next.items → t.next.items ≡ [] → IsSpreadOf g None t
-turned_to g s t sp e a b st go r l n =
-    subst (λ z. IsSpread g z.items t.search t.start t.goal t.f_bound None t.layer.items t.next.items) (sym a)
-    (subst (λ z. IsSpread g s.labels.items z t.start t.goal t.f_bound None t.layer.items t.next.items) (sym b)
-    (subst (λ z. IsSpread g s.labels.items s.search z t.goal t.f_bound None t.layer.items t.next.items) (sym st)
-    (subst (λ z. IsSpread g s.labels.items s.search s.start z t.f_bound None t.layer.items t.next.items) (sym go)
-    (subst (λ z. IsSpread g s.labels.items s.search s.start s.goal z None t.layer.items t.next.items) (sym r)
-    (subst (λ z. IsSpread g s.labels.items s.search s.start s.goal (s.f_bound + 2) None z t.next.items) (sym l)
-    (subst (λ z. IsSpread g s.labels.items s.search s.start s.goal (s.f_bound + 2) None s.next.items z) (sym n)
-    (spread-turned g s.labels.items s.search s.start s.goal s.f_bound s.layer.items s.next.items sp e)))))))
-
 -- ---- the distances that come of it
 
 -- a cell has a label or none
@@ -402,121 +401,112 @@ label_cases : (o : Option ℕ) → (o ≡ None) ⊎ ((n : ℕ) × (o ≡ Some n)
 label_cases None = inl refl
 label_cases (Some n) = inr (n, refl)
 
-pub heuristic-none : (g : Ground) (s : Distances) (c : Cell) → label_in g s.labels.items s.search c ≡ None → heuristic g s c ≡ least_moves s c
+pub heuristic-none : (s : DistanceTable) (c : Cell) → label_in s.grid s.labels s.search c ≡ None → heuristic s c ≡ least_moves s c
 unfolding heuristic
-heuristic-none g s c e = let k = ap (λ o. unwrap_or o (least_moves s c)) e in omega arith
+heuristic-none s c e = let k = ap (λ o. unwrap_or o (least_moves s c)) e in omega arith
 
-pub heuristic-some : (g : Ground) (s : Distances) (c : Cell) (n : ℕ) → label_in g s.labels.items s.search c ≡ Some n → heuristic g s c ≡ min n (least_moves s c)
+pub heuristic-some : (s : DistanceTable) (c : Cell) (n : ℕ) → label_in s.grid s.labels s.search c ≡ Some n → heuristic s c ≡ min n (least_moves s c)
 unfolding heuristic
-heuristic-some g s c n e = let k = ap (λ o. unwrap_or o (least_moves s c)) e in omega arith
+heuristic-some s c n e = let k = ap (λ o. unwrap_or o (least_moves s c)) e in omega arith
 
-heuristic-within : (g : Ground) (s : Distances) (c : Cell) → heuristic g s c ≤ least_moves s c
+heuristic-within : (s : DistanceTable) (c : Cell) → heuristic s c ≤ least_moves s c
 unfolding heuristic
-heuristic-within g s c = omega arith
+heuristic-within s c = omega arith
 
-least-near : (s : Distances) (x y : Cell) → AreNeighbours x y → least_moves s y ≤ least_moves s x + 1
+least-near : (s : DistanceTable) (x y : Cell) → AreNeighbours x y → least_moves s y ≤ least_moves s x + 1
 unfolding least_moves
 least-near s x y n = elim (manhattan-step x y s.start n) [
   | inl e ↦ let k = manhattan-near x y s.goal n in omega arith
   | inr e ↦ let k = manhattan-near x y s.goal n in omega arith
 ]
 
-least-within : (s : Distances) (x : Cell) (n : ℕ) → manhattan x s.goal ≤ n → s.f_bound ≤ n + manhattan x s.start → least_moves s x ≤ n
+least-within : (s : DistanceTable) (x : Cell) (n : ℕ) → manhattan x s.goal ≤ n → s.f_bound ≤ n + manhattan x s.start → least_moves s x ≤ n
 unfolding least_moves
 least-within s x n a b = omega arith
 
-pub least-few : (g : Ground) (s : Distances) (c : Cell) → IsGround g → IsOnGround g c → IsOnGround g s.goal → s.f_bound ≤ MAX_HORIZON + 1 → least_moves s c ≤ MAX_HORIZON + 1
-unfolding least_moves
-least-few g s c map h h' few = let m = manhattan-few g c s.goal map h h' in omega arith
-
 -- nothing waits at fewer moves, or nothing at all
-pub distances-of : (g : Ground) (s : Distances) (f_bound : ℕ) → IsSpread g s.labels.items s.search s.start s.goal f_bound None s.layer.items s.next.items → (s.f_bound ≤ f_bound) ⊎ ((s.layer.items ≡ []) × (s.next.items ≡ [])) → s.f_bound ≤ MAX_HORIZON + 1 → AreDistances g s s.goal
-distances-of g s f_bound sp low few = record {
-  ready = sp.ready;
+pub distances-of : (s : DistanceTable) (f_bound : ℕ) → IsReady s.grid s.labels s.search → IsSpread s.grid s.labels s.search s.start s.goal f_bound None s.layer s.next → (s.f_bound ≤ f_bound) ⊎ ((s.layer ≡ []) × (s.next ≡ [])) → s.f_bound ≤ MAX_HORIZON + 1 → AreDistances s.grid s s.goal
+distances-of s f_bound ready sp low few = record {
+  grid = refl;
+  ready = ready;
   goal_on_ground = sp.goal_on_ground;
   few = few;
-  at_goal = let k = heuristic-some g s s.goal 0 sp.at_goal in omega arith;
-  near = λ x y hx hy nb. step x y hx hy nb (label_cases (label_in g s.labels.items s.search x));
+  at_goal = let k = heuristic-some s s.goal 0 sp.at_goal in omega arith;
+  near = λ x y hx hy nb. step x y hx hy nb (label_cases (label_in s.grid s.labels s.search x));
 }
   where
     no : (xs : List Cell) (x : Cell) → xs ≡ [] → Contains xs x → ⊥
     no xs x e h = let l = (subst (λ v. Contains v x) e h).1 in omega arith
 
-    step : (x y : Cell) → IsOnGround g x → IsOnGround g y → AreNeighbours x y → (label_in g s.labels.items s.search x ≡ None) ⊎ ((n : ℕ) × (label_in g s.labels.items s.search x ≡ Some n)) → heuristic g s y ≤ heuristic g s x + 1
-    step x y hx hy nb (inl p) = let a = heuristic-within g s y in let b = least-near s x y nb in let c = heuristic-none g s x p in omega arith
+    step : (x y : Cell) → IsOnGround s.grid x → IsOnGround s.grid y → AreNeighbours x y → (label_in s.grid s.labels s.search x ≡ None) ⊎ ((n : ℕ) × (label_in s.grid s.labels s.search x ≡ Some n)) → heuristic s y ≤ heuristic s x + 1
+    step x y hx hy nb (inl p) = let a = heuristic-within s y in let b = least-near s x y nb in let c = heuristic-none s x p in omega arith
     step x y hx hy nb (inr (n, p)) = elim (sp.closed x n hx p) [
       | inl k ↦
           let w = k y nb hy in
           let l = w.2 in
-          let a = heuristic-within g s y in
+          let a = heuristic-within s y in
           let b = least-near s x y nb in
-          let c = heuristic-some g s x n p in
-          let d = heuristic-some g s y w.0 w.1 in
+          let c = heuristic-some s x n p in
+          let d = heuristic-some s y w.0 w.1 in
           omega arith
       | inr k ↦
-          let a = heuristic-within g s y in
+          let a = heuristic-within s y in
           let b = least-near s x y nb in
-          let c = heuristic-some g s x n p in
+          let c = heuristic-some s x n p in
           elim low [
             | inl l ↦
                 let d : least_moves s x ≤ n = least-within s x n (sp.apart x n hx p) (elim k [ inl z ↦ let e = z.0 in omega arith | inr z ↦ let e = z.0 in omega arith ]) in
                 omega arith
             | inr l ↦ absurd (elim k [
-              | inl z ↦ elim z.1 [ inl u ↦ no s.layer.items x l.0 u | inr u ↦ none-some x u ]
-              | inr z ↦ no s.next.items x l.1 z.1
+              | inl z ↦ elim z.1 [ inl u ↦ no s.layer x l.0 u | inr u ↦ none-some x u ]
+              | inr z ↦ no s.next x l.1 z.1
             ])
           ]
     ]
 
 -- ---- the goal is labelled
 
-pub spread-begin : (g : Ground) (labels labels' : List Label) (search : ℕ) (start goal : Cell) (f_bound : ℕ) (layer next : List Cell) → IsGround g → length labels ≡ g.width * g.height → ((i : ℕ) → i < length labels → (get_or labels i no_label).search < search) → IsOnGround g goal → cell_index g goal < length labels → labels' ≡ set labels (cell_index g goal) (record { search = search; distance = 0 }) → manhattan goal start ≡ f_bound → layer ≡ goal ∷ [] → next ≡ [] → IsSpread g labels' search start goal f_bound None layer next
+-- the labels are of sooner searches
+pub none-labelled : (g : Ground) (labels : List Label) (search : ℕ) → 0 < search → ((i : ℕ) → i < length labels → (get_or labels i no_label).search < search) → (c : Cell) → label_in g labels search c ≡ None
 unfolding label_in
-spread-begin g labels labels' search start goal f_bound layer next map size fresh on within put at_reach a b = subst (λ z. IsSpread g labels' search start goal f_bound None z next) (sym a) (subst (λ z. IsSpread g labels' search start goal f_bound None (goal ∷ []) z) (sym b) (record {
-  ready = record { map = map; size = long ∙ size; old = old };
+none-labelled g labels search some sooner c = labelled-other search (get_or labels (cell_index g c) no_label) (λ same. elim (cases_lt (cell_index g c) (length labels)) [
+  | inl l ↦ let s = sooner (cell_index g c) l in omega arith
+  | inr l ↦ let s = ap (λ (l : Label). l.search) (get_or_past labels (cell_index g c) no_label l) in omega arith
+])
+
+-- no cell but the goal has a label
+pub spread-begin : (r : DistanceTable) (start goal : Cell) → IsGround r.grid → ((c : Cell) → label_in r.grid r.labels r.search c ≡ None) → IsOnGround r.grid goal → cell_index r.grid goal < length r.labels → IsSpreadOf None (record (with_label r (cell_index r.grid goal) 0) { start = start; goal = goal; f_bound = manhattan goal start; layer = goal ∷ []; next = [] })
+unfolding label_in
+spread-begin r start goal map fresh on within = record {
   goal_on_ground = on;
   at_goal = here;
   apart = λ c n h e. let k = ap (λ v. manhattan v goal) (only c n h e).0 in let z = manhattan-self goal in omega arith;
   in_layer = λ c h. subst (IsOnGround g) (same c h) on;
   in_next = λ c h. absurd (let l = h.1 in omega arith);
   closed = λ c n h e. let o = only c n h e in inr (inl (let k = ap (λ v. manhattan v start) o.0 in let z = o.1 in (omega arith), inl (subst (Contains (goal ∷ [])) o.0 (0, omega arith, refl))));
-}))
+}
   where
-    long : length labels' ≡ length labels
-    long = ap length put ∙ length-set labels (cell_index g goal) (record { search = search; distance = 0 })
+    g : Ground
+    g = r.grid
 
-    at_place : get_or labels' (cell_index g goal) no_label ≡ record { search = search; distance = 0 }
-    at_place = ap (λ z. get_or z (cell_index g goal) no_label) put ∙ get_or-set_same labels (cell_index g goal) (record { search = search; distance = 0 }) no_label within
+    first : Label
+    first = record { search = r.search; distance = 0 }
 
-    elsewhere : (i : ℕ) → i ≢ cell_index g goal → get_or labels' i no_label ≡ get_or labels i no_label
-    elsewhere i ne = ap (λ z. get_or z i no_label) put ∙ get_or-set_other labels (cell_index g goal) i (record { search = search; distance = 0 }) no_label ne
+    labels : List Label
+    labels = set r.labels (cell_index r.grid goal) first
 
-    here : label_in g labels' search goal ≡ Some 0
-    here = ap (labelled search) at_place ∙ labelled-here search 0
-
-    old : (i : ℕ) → i < length labels' → (get_or labels' i no_label).search ≤ search
-    old i h = elim (cases_eq i (cell_index g goal)) [
-      | inl e ↦ let s = ap (λ (l : Label). l.search) (ap (λ k. get_or labels' k no_label) e ∙ at_place) in omega arith
-      | inr ne ↦ let s = ap (λ (l : Label). l.search) (elsewhere i ne) in let f = fresh i (omega (arith, long)) in omega arith
-    ]
+    here : label_in r.grid labels r.search goal ≡ Some 0
+    here = ap (labelled r.search) (get_or-set_same r.labels (cell_index r.grid goal) first no_label within) ∙ labelled-here r.search 0
 
     same : (c : Cell) → Contains (goal ∷ []) c → goal ≡ c
     same c (zero, l, s) = s
     same c (suc k, l, s) = absurd (omega arith)
 
-    only : (c : Cell) (n : ℕ) → IsOnGround g c → label_in g labels' search c ≡ Some n → (goal ≡ c) × (n ≡ 0)
-    only c n h e = elim (cases_eq (cell_index g c) (cell_index g goal)) [
-      | inl k ↦ (one_place g goal c map on h (sym k), same_Some n 0 (sym e ∙ ap (λ i. labelled search (get_or labels' i no_label)) k ∙ here))
-      | inr ne ↦
-          let m = on_map g c map h in
-          let f = fresh (cell_index g c) (place_within c m) in
-          let at = elsewhere (cell_index g c) ne in
-          let s = ap (λ (l : Label). l.search) at in
-          absurd (none-some n (sym (labelled-other search (get_or labels' (cell_index g c) no_label) (λ z. omega arith)) ∙ e))
+    only : (c : Cell) (n : ℕ) → IsOnGround r.grid c → label_in r.grid labels r.search c ≡ Some n → (goal ≡ c) × (n ≡ 0)
+    only c n h e = elim (cases_eq (cell_index r.grid c) (cell_index r.grid goal)) [
+      | inl k ↦ (one_place r.grid goal c map on h (sym k), same_Some n 0 (sym e ∙ ap (λ i. labelled r.search (get_or labels i no_label)) k ∙ here))
+      | inr ne ↦ absurd (none-some n (sym (ap (labelled r.search) (get_or-set_other r.labels (cell_index r.grid goal) (cell_index r.grid c) first no_label ne) ∙ fresh c) ∙ e))
     ]
-      where
-        place_within : (c : Cell) → (c.x < g.width) × (c.y < g.height) → cell_index g c < length labels
-        place_within c m = omega (arith, mul-add-lt c.y g.width c.x g.height m.1 m.0, size)
 
 pub no_cells : (xs : List Cell) → length xs ≡ 0 → xs ≡ []
 no_cells [] h = refl
@@ -524,55 +514,56 @@ no_cells (x ∷ xs) h = absurd (omega arith)
 
 -- ---- the work
 
-pub work-near : (old new : Distances) (b : Cell) → sum_by (label_weight new.search) new.labels.items + 1 ≤ sum_by (label_weight old.search) old.labels.items → new.layer.items ≡ old.layer.items ++ b ∷ [] → work_left new ≤ work_left old
+-- the labels fall, and one cell more may be on the layer
+lighter-works : (old new : DistanceTable) → sum_by (label_weight new.search) new.labels + 1 ≤ sum_by (label_weight old.search) old.labels → length new.layer ≤ length old.layer + 1 → work_left new ≤ work_left old
 unfolding work_left
-work-near old new b w e = let k = ap length e ∙ length-append old.layer.items (b ∷ []) in omega arith
+lighter-works old new w l = omega arith
 
-pub work-heuristic : (old new : Distances) → sum_by (label_weight new.search) new.labels.items + 1 ≤ sum_by (label_weight old.search) old.labels.items → new.layer.items ≡ old.layer.items → work_left new ≤ work_left old
+pub work-popped : (old new : DistanceTable) (c : Cell) → old ≡ record new { layer = new.layer ++ c ∷ [] } → work_left new < work_left old
 unfolding work_left
-work-heuristic old new w e = let k = ap length e in omega arith
-
-pub work-popped : (old new : Distances) (c : Cell) → new.labels ≡ old.labels → new.search ≡ old.search → old.layer.items ≡ new.layer.items ++ c ∷ [] → work_left new < work_left old
-unfolding work_left
-work-popped old new c e f h =
-    let k = ap length h ∙ length-append new.layer.items (c ∷ []) in
-    let w = ap (λ (v : _). sum_by (label_weight new.search) v.items) e in
-    let z = ap (λ n. sum_by (label_weight n) old.labels.items) f in
+work-popped old new c e =
+    let k = length-append new.layer (c ∷ []) in
+    let same = ap work_left e in
     omega arith
 
 -- ---- a cell that was labelled is put on its list
 
-module _ (g : Ground) (s s' new : Distances) (left : Cell) (sp : IsSpreadOf g (Some left) s) (d : ℕ) (few : d < MAX_HORIZON) (on_left : IsOnGround g left) (at_left : IsLabelled g s left d) (over : d + manhattan left s.start ≡ s.f_bound) (b : Cell) (beside : AreNeighbours left b) (on_b : IsOnGround g b) (within : cell_index g b < length s.labels.items) (more : (n : ℕ) → IsLabelled g s b n → d + 1 < n) (put : s'.labels.items ≡ set s.labels.items (cell_index g b) (record { search = s.search; distance = d + 1 })) (search : s'.search ≡ s.search) (start : s'.start ≡ s.start) (goal : s'.goal ≡ s.goal) (f_bound : s'.f_bound ≡ s.f_bound) (layer : s'.layer.items ≡ s.layer.items) (next : s'.next.items ≡ s.next.items) (p : IsPutFrom left b s' new) where
-  labels_put : new.labels.items ≡ set s.labels.items (cell_index g b) (record { search = s.search; distance = d + 1 })
-  labels_put = ap (λ (v : _). v.items) p.labels ∙ put
+module _ (s new : DistanceTable) (left : Cell) (sp : IsSpreadOf (Some left) s) (map : IsGround s.grid) (d : ℕ) (few : d < MAX_HORIZON) (on_left : IsOnGround s.grid left) (at_left : IsLabelled s left d) (over : d + manhattan left s.start ≡ s.f_bound) (b : Cell) (beside : AreNeighbours left b) (on_b : IsOnGround s.grid b) (within : cell_index s.grid b < length s.labels) (more : (n : ℕ) → IsLabelled s b n → d + 1 < n) (p : IsPutFrom left b (with_label s (cell_index s.grid b) (d + 1)) new) where
+  put_label : DistanceTable
+  put_label = with_label s (cell_index s.grid b) (d + 1)
 
-  same_search : new.search ≡ s.search
-  same_search = p.search ∙ search
-
-  Spreads : ℕ → Cell → Cell → ℕ → Type 0
-  Spreads k a z r = IsSpread g new.labels.items k a z r (Some left) new.layer.items new.next.items
-
-  moved-on : IsSpread g new.labels.items s.search s.start s.goal s.f_bound (Some left) new.layer.items new.next.items → IsSpreadOf g (Some left) new
-  unfolding Spreads
-  moved-on h = subst (λ k. Spreads k new.start new.goal new.f_bound) (sym same_search) (subst (λ k. Spreads s.search k new.goal new.f_bound) (sym (p.same.start ∙ start)) (subst (λ k. Spreads s.search s.start k new.f_bound) (sym (p.same.goal ∙ goal)) (subst (λ k. Spreads s.search s.start s.goal k) (sym (p.same.f_bound ∙ f_bound)) h)))
-
-  pub put-spread : IsSpreadOf g (Some left) new
-  put-spread = elim p.put [
-    | inl n ↦ let z = ap (manhattan b) start in let z' = ap (manhattan left) start in let l = n.0 in moved-on (spread-near g s.labels.items s.search s.start s.goal s.f_bound left s.layer.items s.next.items sp d few on_left at_left over b beside on_b within more new.labels.items labels_put new.layer.items new.next.items (omega arith) (n.1 ∙ ap (λ v. v ++ b ∷ []) layer) (n.2 ∙ next))
-    | inr n ↦ let z = ap (manhattan b) start in let z' = ap (manhattan left) start in let l = n.0 in moved-on (spread-far g s.labels.items s.search s.start s.goal s.f_bound left s.layer.items s.next.items sp d few on_left at_left over b beside on_b within more new.labels.items labels_put new.layer.items new.next.items (omega arith) (n.1 ∙ layer) (n.2 ∙ ap (λ v. v ++ b ∷ []) next))
+  put-spread : IsSpreadOf (Some left) new
+  unfolding put_label
+  put-spread = elim p [
+    | inl n ↦ subst (IsSpreadOf (Some left)) (sym n.1) (spread-near s.grid s.labels s.search s.start s.goal s.f_bound left s.layer s.next sp map d few on_left at_left over b beside on_b within more put_label.labels refl (s.layer ++ b ∷ []) s.next n.0 refl refl)
+    | inr n ↦ subst (IsSpreadOf (Some left)) (sym n.1) (spread-far s.grid s.labels s.search s.start s.goal s.f_bound left s.layer s.next sp map d few on_left at_left over b beside on_b within more put_label.labels refl s.layer (s.next ++ b ∷ []) n.0 refl refl)
   ]
 
-  pub put-left : IsLabelled g new left d
-  put-left = subst (λ k. label_in g new.labels.items k left ≡ Some d) (sym same_search) (left-stays g s.labels.items s.search s.start s.goal s.f_bound left s.layer.items s.next.items sp d few on_left at_left over b beside on_b within more new.labels.items labels_put)
+  -- what holds of the labels holds whichever list the cell is put on
+  put-labels : (P : DistanceTable → Type 0) → ((layer next : List Cell) → P (record put_label { layer = layer; next = next })) → P new
+  unfolding put_label
+  put-labels P h = elim p [ inl n ↦ subst P (sym n.1) (h (s.layer ++ b ∷ []) s.next) | inr n ↦ subst P (sym n.1) (h s.layer (s.next ++ b ∷ [])) ]
 
-  pub put-found : (dir : Dir) → place_of b ≡ moved (place_of left) dir → IsFoundTowards g new d left dir
-  put-found dir h = subst (λ k. (e : Cell) → place_of e ≡ moved (place_of left) dir → IsOnGround g e → (m : ℕ) × (label_in g new.labels.items k e ≡ Some m) × (m ≤ d + 1)) (sym same_search) (found-put g s.labels.items s.search s.start s.goal s.f_bound left s.layer.items s.next.items sp d few on_left at_left over b beside on_b within more new.labels.items labels_put dir h)
-
-  pub put-falls : LabelsFall g s new
-  put-falls = subst (λ k. (c : Cell) (n : ℕ) → IsOnGround g c → label_in g s.labels.items s.search c ≡ Some n → (m : ℕ) × (label_in g new.labels.items k c ≡ Some m) × (m ≤ n)) (sym same_search) (falls g s.labels.items s.search s.start s.goal s.f_bound left s.layer.items s.next.items sp d few on_left at_left over b beside on_b within more new.labels.items labels_put)
-
-  pub put-works : work_left new ≤ work_left s
-  put-works = elim p.put [ inl n ↦ work-near s new b lighter (n.1 ∙ ap (λ v. v ++ b ∷ []) layer) | inr n ↦ work-heuristic s new lighter (n.1 ∙ layer) ]
+  put-works : work_left new ≤ work_left s
+  unfolding put_label
+  put-works = elim p [
+    | inl n ↦ subst (λ t. work_left t ≤ work_left s) (sym n.1) (lighter-works s (record put_label { layer = s.layer ++ b ∷ [] }) lighter (let k = length-append s.layer (b ∷ []) in omega arith))
+    | inr n ↦ subst (λ t. work_left t ≤ work_left s) (sym n.1) (lighter-works s (record put_label { next = s.next ++ b ∷ [] }) lighter (let k = length s.layer in omega arith))
+  ]
     where
-      lighter : sum_by (label_weight new.search) new.labels.items + 1 ≤ sum_by (label_weight s.search) s.labels.items
-      lighter = subst (λ k. sum_by (label_weight k) new.labels.items + 1 ≤ sum_by (label_weight s.search) s.labels.items) (sym same_search) (weight g s.labels.items s.search s.start s.goal s.f_bound left s.layer.items s.next.items sp d few on_left at_left over b beside on_b within more new.labels.items labels_put)
+      lighter : sum_by (label_weight s.search) put_label.labels + 1 ≤ sum_by (label_weight s.search) s.labels
+      lighter = weight s.grid s.labels s.search s.start s.goal s.f_bound left s.layer s.next sp map d few on_left at_left over b beside on_b within more put_label.labels refl
+
+  pub put_towards : (dir : Dir) → place_of b ≡ moved (place_of left) dir → IsLabelledTowards d left dir s new
+  unfolding put_label
+  put_towards dir h = record {
+    spread = put-spread;
+    stays = put-labels (λ t. IsLabelled t left d) (λ _ _. left-stays s.grid s.labels s.search s.start s.goal s.f_bound left s.layer s.next sp map d few on_left at_left over b beside on_b within more put_label.labels refl);
+    found = put-labels (λ t. IsFoundTowards t d left dir) (λ _ _. found-put s.grid s.labels s.search s.start s.goal s.f_bound left s.layer s.next sp map d few on_left at_left over b beside on_b within more put_label.labels refl dir h);
+    fall = put-labels (LabelsFall s) (λ _ _. falls s.grid s.labels s.search s.start s.goal s.f_bound left s.layer s.next sp map d few on_left at_left over b beside on_b within more put_label.labels refl);
+    work = put-works;
+  }
+
+-- nothing is to be labelled in the direction
+pub none_towards : (s : DistanceTable) (left : Cell) (d : ℕ) (dir : Dir) → IsSpreadOf (Some left) s → IsLabelled s left d → IsFoundTowards s d left dir → IsLabelledTowards d left dir s s
+none_towards s left d dir sp at_left found = record { spread = sp; stays = at_left; found = found; fall = λ c n on e. (n, e, omega arith); work = (let w = work_left s in omega arith) }

@@ -5,7 +5,6 @@ use Rattle.fleet_model.specs.declared.task.Task.{Task}
 use Rattle.fleet_plan.specs.Plan.{Plan}
 use Rattle.fleet_search.specs.Way.{Fits, IsEarliest, IsInfeasible}
 use Rattle.fleet_grid.specs.Ground.{is_passable}
-use Rattle.fleet_search.specs.Distance.{IsReady}
 use Rattle.fleet_search.specs.InTurn.{IsPrioritisedPlan}
 use Rattle.fleet_search.specs.Orders.{rising, tasks_by, IsStuckInOrder}
 use Rattle.fleet_search.specs.declared.orders.Problem.{Problem}
@@ -15,7 +14,7 @@ use Rattle.fleet_search.specs.declared.orders.Attempt.TheVariants.{Made, Stuck}
 
 -- the tables are for the map of the problem
 abbrev pub AreTables : Problem → Tables → Type 0
-AreTables problem tables = IsReady problem.grid.now tables.distances.labels.items tables.distances.search
+AreTables problem tables = tables.distances.grid ≡ problem.grid.now
 
 -- the agents of the instance, each once
 abbrev pub IsOrderOf : Problem → List ℕ → Type 0

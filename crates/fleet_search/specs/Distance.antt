@@ -1,6 +1,6 @@
 -- How far the passable cells are from a goal. Cells are labelled with their numbers of moves, first those over which
 -- the shortest paths from the start may lead (A*: Hart, Nilsson and Raphael 1968).
-use Rattle.std.specs.Prelude.{◌≡◌, ℕ, ◌+◌, ◌-◌, ◌*◌, ◌<◌, ◌≤◌, ◌==◌, cond, IsTrue, List, length, get_or, Contains, Option, None, Some, unwrap_or, min, max, ◌⊎◌, ◌++◌, ◌∷◌, []}
+use Rattle.std.specs.Prelude.{◌≡◌, ℕ, ◌+◌, ◌-◌, ◌*◌, ◌<◌, ◌≤◌, ◌==◌, cond, IsTrue, List, length, get_or, set, Contains, Option, None, Some, unwrap_or, min, max, ◌⊎◌, ◌++◌, ◌∷◌, []}
 use Rattle.std.specs.Int.{abs_diff}
 use Rattle.std.specs.List.{sum_by}
 use Rattle.fleet_model.specs.declared.geometry.Cell.{Cell}
@@ -10,8 +10,22 @@ use Rattle.fleet_model.specs.declared.limits.TheConstants.{MAX_HORIZON}
 use Rattle.fleet_grid.specs.Ground.{Ground, IsGround, is_passable, cell_index}
 use Rattle.fleet_plan.specs.Plan.{AreNeighbours}
 use Rattle.fleet_search.specs.declared.distances.Label.{Label}
-use Rattle.fleet_search.specs.declared.distances.Distances.{Distances}
+use Rattle.fleet_search.specs.declared.distances.Effort.{Effort}
 
+-- the labels of a map's cells, with the search that labels them: its number, start and goal, the bound below which all
+-- cells are expanded, the cells that are expanded next and those after them, and how the last search came out
+pub record DistanceTable : Type 0 where
+  pub grid : Ground
+  pub labels : List Label
+  pub search : ℕ
+  pub start : Cell
+  pub goal : Cell
+  pub f_bound : ℕ
+  pub layer : List Cell
+  pub next : List Cell
+  pub last : Effort
+
+-- the label that stands for those past the end of a table
 abbrev pub no_label : Label
 no_label = record { search = 0; distance = 0 }
 
@@ -34,13 +48,13 @@ manhattan a b = abs_diff a.x b.x + abs_diff a.y b.y
 -- how many moves lead from the cell to the goal at least, whatever its label: the columns and rows between the two,
 -- and, as no path of fewer moves than `f_bound` from the start to the goal leads over it, those that `f_bound` leaves
 -- after the columns and rows from the start
-unfoldable pub least_moves : Distances → Cell → ℕ
+unfoldable pub least_moves : DistanceTable → Cell → ℕ
 least_moves d c = max (manhattan c d.goal) (d.f_bound - manhattan c d.start)
 
 -- how many moves lead from the cell to the goal at least: its label, if it has one of no more moves than the bound
 -- without it, and else that bound
-unfoldable pub heuristic : Ground → Distances → Cell → ℕ
-heuristic g d c = min (unwrap_or (label_in g d.labels.items d.search c) (least_moves d c)) (least_moves d c)
+unfoldable pub heuristic : DistanceTable → Cell → ℕ
+heuristic d c = min (unwrap_or (label_in d.grid d.labels d.search c) (least_moves d c)) (least_moves d c)
 
 -- a table for the map, with no label of a later search
 pub record IsReady (g : Ground) (labels : List Label) (search : ℕ) : Type 0 where
@@ -48,13 +62,14 @@ pub record IsReady (g : Ground) (labels : List Label) (search : ℕ) : Type 0 wh
   pub size : length labels ≡ g.width * g.height
   pub old : (i : ℕ) → i < length labels → (get_or labels i no_label).search ≤ search
 
--- the goal is at no distance, and neighbours differ by one at most
-pub record AreDistances (g : Ground) (d : Distances) (goal : Cell) : Type 0 where
-  pub ready : IsReady g d.labels.items d.search
+-- the table is for the map, the goal is at no distance, and neighbours differ by one at most
+pub record AreDistances (g : Ground) (d : DistanceTable) (goal : Cell) : Type 0 where
+  pub grid : d.grid ≡ g
+  pub ready : IsReady g d.labels d.search
   pub goal_on_ground : IsOnGround g d.goal
   pub few : d.f_bound ≤ MAX_HORIZON + 1
-  pub at_goal : heuristic g d goal ≡ 0
-  pub near : (c e : Cell) → IsOnGround g c → IsOnGround g e → AreNeighbours c e → heuristic g d e ≤ heuristic g d c + 1
+  pub at_goal : heuristic d goal ≡ 0
+  pub near : (c e : Cell) → IsOnGround g c → IsOnGround g e → AreNeighbours c e → heuristic d e ≤ heuristic d c + 1
 
 -- all passable neighbours of the cell are labelled, with at most one move more
 abbrev pub IsClosed : Ground → List Label → ℕ → Cell → ℕ → Type 0
@@ -67,7 +82,6 @@ IsWaiting f_bound distance layer next left c =
 
 -- a labelled cell is closed, or waits on the list for the number of moves of a path from the start over it to the goal
 pub record IsSpread (g : Ground) (labels : List Label) (search : ℕ) (start goal : Cell) (f_bound : ℕ) (left : Option Cell) (layer next : List Cell) : Type 0 where
-  pub ready : IsReady g labels search
   pub goal_on_ground : IsOnGround g goal
   pub at_goal : label_in g labels search goal ≡ Some 0
   pub apart : (c : Cell) (n : ℕ) → IsOnGround g c → label_in g labels search c ≡ Some n → manhattan c goal ≤ n
@@ -75,23 +89,24 @@ pub record IsSpread (g : Ground) (labels : List Label) (search : ℕ) (start goa
   pub in_next : (c : Cell) → Contains next c → IsOnGround g c
   pub closed : (c : Cell) (n : ℕ) → IsOnGround g c → label_in g labels search c ≡ Some n → IsClosed g labels search c n ⊎ IsWaiting f_bound (n + manhattan c start) layer next left c
 
-abbrev pub IsSpreadOf : Ground → Option Cell → Distances → Type 0
-IsSpreadOf g left s = IsSpread g s.labels.items s.search s.start s.goal s.f_bound left s.layer.items s.next.items
+abbrev pub IsSpreadOf : Option Cell → DistanceTable → Type 0
+IsSpreadOf left d = IsSpread d.grid d.labels d.search d.start d.goal d.f_bound left d.layer d.next
 
--- the cell is labelled with d moves
-abbrev pub IsLabelled : Ground → Distances → Cell → ℕ → Type 0
-IsLabelled g s c d = label_in g s.labels.items s.search c ≡ Some d
+-- the cell is labelled with n moves
+abbrev pub IsLabelled : DistanceTable → Cell → ℕ → Type 0
+IsLabelled d c n = label_in d.grid d.labels d.search c ≡ Some n
 
 -- a cell that is labelled stays so, and no label rises
-abbrev pub LabelsFall : Ground → Distances → Distances → Type 0
-LabelsFall g old new = (c : Cell) (n : ℕ) → IsOnGround g c → IsLabelled g old c n → (m : ℕ) × IsLabelled g new c m × (m ≤ n)
+abbrev pub LabelsFall : (old new : DistanceTable) → Type 0
+LabelsFall old new = (c : Cell) (n : ℕ) → IsOnGround old.grid c → IsLabelled old c n → (m : ℕ) × IsLabelled new c m × (m ≤ n)
 
 -- the passable cell that is reached in this direction from the one that is left is labelled, with at most one move more
-abbrev pub IsFoundTowards : Ground → Distances → ℕ → Cell → Dir → Type 0
-IsFoundTowards g s d left dir = (e : Cell) → place_of e ≡ moved (place_of left) dir → IsOnGround g e → (m : ℕ) × IsLabelled g s e m × (m ≤ d + 1)
+abbrev pub IsFoundTowards : DistanceTable → ℕ → Cell → Dir → Type 0
+IsFoundTowards d n left dir = (e : Cell) → place_of e ≡ moved (place_of left) dir → IsOnGround d.grid e → (m : ℕ) × IsLabelled d e m × (m ≤ n + 1)
 
--- start, goal and bound of the search are the same
-pub record IsSameSearch (old new : Distances) : Type 0 where
+-- map, start, goal and bound of the search are the same
+pub record IsSameSearch (old new : DistanceTable) : Type 0 where
+  pub grid : new.grid ≡ old.grid
   pub start : new.start ≡ old.start
   pub goal : new.goal ≡ old.goal
   pub f_bound : new.f_bound ≡ old.f_bound
@@ -101,18 +116,29 @@ abbrev pub label_weight : ℕ → Label → ℕ
 label_weight search l = unwrap_or (labelled search l) (MAX_HORIZON + 1)
 
 -- how much there is still to do: twice the moves of all labels, and the cells of the layer
-unfoldable pub work_left : Distances → ℕ
-work_left s = 2 * sum_by (label_weight s.search) s.labels.items + length s.layer.items
+unfoldable pub work_left : DistanceTable → ℕ
+work_left d = 2 * sum_by (label_weight d.search) d.labels + length d.layer
 
 -- the label is one of this search, and says no more moves
 pub record IsLabelNear (search : ℕ) (l : Label) (distance : ℕ) : Type 0 where
   pub current : l.search ≡ search
   pub near : l.distance ≤ distance
 
+-- the neighbour in the direction from the cell that is left, which stays labelled with so many moves, is labelled too; no
+-- label rises, and no more is left to do
+pub record IsLabelledTowards (distance : ℕ) (left : Cell) (dir : Dir) (old new : DistanceTable) : Type 0 where
+  pub spread : IsSpreadOf (Some left) new
+  pub stays : IsLabelled new left distance
+  pub found : IsFoundTowards new distance left dir
+  pub fall : LabelsFall old new
+  pub work : work_left new ≤ work_left old
+
+-- the table with a label of its search, of so many moves, in that place
+abbrev pub with_label : DistanceTable → (place distance : ℕ) → DistanceTable
+with_label d place distance = record d { labels = set d.labels place (record { search = d.search; distance = distance }) }
+
 -- the cell is put on the layer if it is nearer to the start than the one that is left, and else on the next list
-pub record IsPutFrom (left cell : Cell) (old new : Distances) : Type 0 where
-  pub labels : new.labels ≡ old.labels
-  pub search : new.search ≡ old.search
-  pub same : IsSameSearch old new
-  pub put : ((manhattan cell old.start < manhattan left old.start) × (new.layer.items ≡ old.layer.items ++ cell ∷ []) × (new.next.items ≡ old.next.items))
-      ⊎ ((manhattan left old.start ≤ manhattan cell old.start) × (new.layer.items ≡ old.layer.items) × (new.next.items ≡ old.next.items ++ cell ∷ []))
+abbrev pub IsPutFrom : (left cell : Cell) → (old new : DistanceTable) → Type 0
+IsPutFrom left cell old new =
+    ((manhattan cell old.start < manhattan left old.start) × (new ≡ record old { layer = old.layer ++ cell ∷ [] }))
+    ⊎ ((manhattan left old.start ≤ manhattan cell old.start) × (new ≡ record old { next = old.next ++ cell ∷ [] }))

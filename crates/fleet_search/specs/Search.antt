@@ -25,13 +25,13 @@ use Rattle.fleet_search.specs.Links.{place_in}
 
 -- how many moves lead from the cell to the goal at least
 abbrev pub heuristic_of : Query → Cell → ℕ
-heuristic_of q c = heuristic q.grid.now q.distances.now c
+heuristic_of q c = heuristic q.distances.now c
 
 -- the occupancies of the reserved agents on the cell
 abbrev pub occupancies_on : Query → Cell → List Occupancy
 occupancies_on q c = occupancies_of q.table.now c
 
--- the tables of the query are right: that of distances for its goal, that of occupancies for the reserved agents
+-- the tables of the query are right: that of distances for its map and goal, that of occupancies for the reserved agents
 pub record IsMeasured (q : Query) : Type 0 where
   pub heuristic : AreDistances q.grid.now q.distances.now q.goal
   pub occupancies : HaveOccupancies q.reserved.now q.table.now

@@ -1,8 +1,7 @@
 //! The earliest path of one agent past the reserved ones.
 
-ghost use Rattle.std.specs.Prelude.{◌≡◌, ◌≤◌, IfOk, IfErr, OnOk, IfSome, IfNone};
+ghost use Rattle.std.specs.Prelude.{◌≡◌, ◌≤◌, IfOk, IfErr, IfSome, IfNone};
 ghost use Rattle.fleet_grid.specs.Ground.{is_passable};
-ghost use Rattle.fleet_search.specs.Distance.{IsReady};
 ghost use Rattle.fleet_search.specs.Search.{IsPosed, IsOpen};
 ghost use Rattle.fleet_search.specs.Way.{IsEarliest, IsInfeasible};
 
@@ -73,26 +72,24 @@ fn open_from(
     }
 }
 
-/// The earliest path, with tables that other searches have used before.
+/// The earliest path on the map of the distances, with tables that other searches have used before.
 pub fn earliest_over(
-    grid: &Grid,
     reserved: &Reservations,
-    distances: &mut Distances,
+    distances: &mut Distances<'_>,
     frontier: &mut Frontier,
     start: Cell,
     goal: Cell,
     horizon: u16,
 ) -> Result<Path, SearchFault>
-    requires ready { IsReady grid.now distances.old.labels.items distances.old.search }
-    ensures ready { OnOk result (IsReady grid.now distances.new.labels.items distances.new.search) }
-    ensures kept { IfErr result (λ e. e ≡ SearchFault.NoPath → IsReady grid.now distances.new.labels.items distances.new.search) }
-    ensures ok { IfOk result (IsEarliest (is_passable grid.now) reserved.now start goal horizon) }
-    ensures no_path { IfErr result (λ e. e ≡ SearchFault.NoPath → IsInfeasible (is_passable grid.now) reserved.now start goal horizon) }
+    ensures grid { distances.new.grid ≡ distances.old.grid }
+    ensures ok { IfOk result (IsEarliest (is_passable distances.old.grid) reserved.now start goal horizon) }
+    ensures no_path { IfErr result (λ e. e ≡ SearchFault.NoPath → IsInfeasible (is_passable distances.old.grid) reserved.now start goal horizon) }
 {
+    let grid = distances.grid();
     let Some(goal_free_from) = open_from(grid, reserved, start, goal, horizon) else {
         return Err(SearchFault::NoPath);
     };
-    distances.compute(grid, start, goal, goal_free_from, horizon)?;
+    distances.compute(start, goal, goal_free_from, horizon)?;
     let query = Query {
         grid,
         reserved,
@@ -130,7 +127,6 @@ pub fn earliest(
     let mut distances = Distances::new(alloc, grid)?;
     let mut frontier = Frontier::new(alloc);
     earliest_over(
-        grid,
         reserved,
         &mut distances,
         &mut frontier,

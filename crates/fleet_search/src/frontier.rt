@@ -39,7 +39,7 @@ pub struct Query<'a> {
     pub reserved: &'a Reservations,
     /// For each cell the occupancies of the reserved agents there.
     pub table: &'a ReservationTable,
-    pub distances: &'a Distances,
+    pub distances: &'a Distances<'a>,
     pub start: Cell,
     pub goal: Cell,
     pub horizon: u32,
@@ -54,7 +54,7 @@ impl Query<'_> {
         ensures value { result ≡ heuristic_of self.now cell }
         ensures limit { result ≤ MAX_HORIZON + 1 }
     {
-        self.distances.heuristic(self.grid, cell)
+        self.distances.heuristic(cell)
     }
 
     /// The occupancies of the reserved agents on the cell, in the order of time.

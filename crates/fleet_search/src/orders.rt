@@ -29,8 +29,8 @@ struct Problem<'a> {
 
 /// The tables of a search, which serve one after another.
 #[derive(Drop)]
-struct Tables {
-    distances: Distances,
+struct Tables<'g> {
+    distances: Distances<'g>,
     frontier: Frontier,
 }
 
@@ -49,7 +49,7 @@ fn add_path(
     agent: u16,
     horizon: u16,
     reserved: &mut Reservations,
-    tables: &mut Tables,
+    tables: &mut Tables<'_>,
 ) -> Result<bool, OutOfMemory>
     requires agent { agent < length problem.now.instance.now }
     requires tables { AreTables problem.now tables.old }
@@ -57,7 +57,6 @@ fn add_path(
     ensures added { IfOk result (IsPathAdded problem.now agent horizon reserved.old reserved.new) }
 {
     match earliest_over(
-        problem.grid,
         reserved,
         &mut tables.distances,
         &mut tables.frontier,
@@ -87,7 +86,7 @@ fn renew_path(
     agent: u16,
     old: &Path,
     reserved: &mut Reservations,
-    tables: &mut Tables,
+    tables: &mut Tables<'_>,
 ) -> Result<(), OutOfMemory>
     requires agent { agent < length problem.now.instance.now }
     requires old { IsOldPath problem.now agent old.now }
@@ -112,7 +111,7 @@ fn add_path_again(
     olds: &[Path],
     number: usize,
     reserved: &mut Reservations,
-    tables: &mut Tables,
+    tables: &mut Tables<'_>,
 ) -> Result<bool, OutOfMemory>
     requires agent { agent < length problem.now.instance.now }
     requires old { number < length olds.now → IsOldPath problem.now agent (get_or olds.now number []) }
@@ -150,7 +149,7 @@ fn plan_in_order(
     problem: &Problem<'_>,
     order: &[u16],
     kept: &[Path],
-    tables: &mut Tables,
+    tables: &mut Tables<'_>,
 ) -> Result<Attempt, OutOfMemory>
     requires order { IsOrderOf problem.now order.now }
     requires kept { IsMadeAfterFirst problem.now order.now kept.now }
@@ -175,7 +174,7 @@ fn reserve_in_order(
     order: &[u16],
     kept: &[Path],
     reserved: &mut Reservations,
-    tables: &mut Tables,
+    tables: &mut Tables<'_>,
 ) -> Result<bool, OutOfMemory>
     requires order { IsOrderOf problem.now order.now }
     requires kept { IsMadeAfterFirst problem.now order.now kept.now }
@@ -275,7 +274,7 @@ fn plan_from(
     problem: &Problem<'_>,
     tries: u32,
     order: &mut Vec<u16>,
-    tables: &mut Tables,
+    tables: &mut Tables<'_>,
 ) -> Result<Plan, PlanStop>
     requires order { order.old.items ≡ rising (length problem.now.instance.now) }
     requires some { 1 ≤ length problem.now.instance.now }

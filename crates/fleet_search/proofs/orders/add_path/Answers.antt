@@ -1,4 +1,4 @@
-use Rattle.std.proofs.Common.{refl, sym, subst}
+use Rattle.std.proofs.Common.{refl, sym, subst, ◌∙◌}
 use Rattle.std.proofs.lemmas.Result.{IfOk-weaker}
 use Rattle.fleet_grid.specs.Ground.{is_passable}
 use Rattle.fleet_search.specs.Way.{IsEarliest, IsInfeasible}
@@ -14,11 +14,12 @@ returns-in-Err-NoPath-clause-added c = (
       let plan = c.args.reserved.now in
       let horizon = c.args.horizon in
       let r = read_task c.args.problem.now.instance.now c.args.agent c.start.result c.goal.result c.start.ensures c.goal.ensures task t in
-      subst (λ z. IsInfeasible passable plan z task.goal horizon) r.0 (subst (λ z. IsInfeasible passable plan c.start.result z horizon) r.1 (c.in-Err-NoPath.ensures.no_path c.in-Err-NoPath.field-0-is)),
+      let none = subst (λ g. IsInfeasible (is_passable g) plan c.start.result c.goal.result horizon) c.requires.tables (c.in-Err-NoPath.ensures.no_path c.in-Err-NoPath.field-0-is) in
+      subst (λ z. IsInfeasible passable plan z task.goal horizon) r.0 (subst (λ z. IsInfeasible passable plan c.start.result z horizon) r.1 none),
 )
 
 pub returns-in-Ok-clause-tables : goal.returns-in-Ok-clause-tables
-returns-in-Ok-clause-tables c = IfOk-weaker c.reserve_found.result _ _ (λ _ _. c.in-Ok.ensures.ready) c.reserve_found.ensures
+returns-in-Ok-clause-tables c = IfOk-weaker c.reserve_found.result _ _ (λ _ _. c.in-Ok.ensures.grid ∙ c.requires.tables) c.reserve_found.ensures
 
 pub returns-in-Ok-clause-added : goal.returns-in-Ok-clause-added
 returns-in-Ok-clause-added c =
@@ -32,6 +33,7 @@ returns-in-Ok-clause-added c =
       p.1,
       λ task t.
           let r = read_task c.args.problem.now.instance.now c.args.agent c.start.result c.goal.result c.start.ensures c.goal.ensures task t in
-          subst (λ z. IsEarliest passable plan z task.goal horizon path) r.0 (subst (λ z. IsEarliest passable plan c.start.result z horizon path) r.1 c.in-Ok.ensures.ok),
+          let earliest = subst (λ g. IsEarliest (is_passable g) plan c.start.result c.goal.result horizon path) c.requires.tables c.in-Ok.ensures.ok in
+          subst (λ z. IsEarliest passable plan z task.goal horizon path) r.0 (subst (λ z. IsEarliest passable plan c.start.result z horizon path) r.1 earliest),
     ))
     c.reserve_found.ensures

@@ -1,13 +1,13 @@
-use Rattle.std.proofs.Common.{◌≡◌, ◌*◌, ◌<◌, [], ◌∷◌, ◌++◌, length, sym, ap, ◌∙◌, arith}
-use Rattle.std.specs.Prelude.{set}
-use Rattle.fleet_grid.specs.Ground.{cell_index}
-use Rattle.fleet_search.proofs.Spread.{spread-begin}
+use Rattle.std.proofs.Common.{◌<◌, length, sym, ap, subst}
+use Rattle.fleet_grid.specs.Ground.{IsGround, cell_index}
+use Rattle.fleet_search.specs.Distance.{DistanceTable, IsOnGround}
+use Rattle.fleet_search.proofs.Spread.{none-labelled, spread-begin}
 use Rattle.fleet_search.proofs.distances.Distances.begin.Goals as goal
 
 pub returns-clause-spread : goal.returns-clause-spread
 returns-clause-spread c =
-    let s = c.renumber.new.self in
-    let g = c.args.grid.now in
-    let size : length s.labels.items ≡ g.width * g.height = c.renumber.ensures.size ∙ c.requires.ready.size in
-    let within : cell_index g c.args.goal < length s.labels.items = omega (arith, c.cell_index-place.ensures.value, c.cell_index-place.ensures.within, size) in
-    spread-begin g s.labels.items _ s.search c.args.start c.args.goal c.manhattan-self.result c.push.new.self.items c.clear-2.new.self.items c.requires.ready.map size c.renumber.ensures.fresh c.requires.goal within (ap (λ i. set s.labels.items i (record { search = s.search; distance = 0 })) c.cell_index-place.ensures.value) (sym c.manhattan-self.ensures.value) (c.in_ok-push.ensures.items ∙ ap (λ z. z ++ c.args.goal ∷ []) c.clear.ensures.items) c.clear-2.ensures.items
+    let r = c.renumber.new.self in
+    let map = subst (λ (t : DistanceTable). IsGround t.grid) c.aim.ensures c.place-place.ensures.sizes in
+    let on = subst (λ g. IsOnGround g c.args.goal) (sym (ap (λ (t : DistanceTable). t.grid) c.renumber.ensures.same)) c.requires in
+    let within = subst (λ (t : DistanceTable). cell_index t.grid c.args.goal < length t.labels) c.aim.ensures (subst (λ n. n < length c.aim.new.self.labels) c.place-place.ensures.value c.place-place.ensures.within) in
+    rw (c.in_ok-push.ensures.put, c.set_label.ensures, c.place-place.ensures.value, c.aim.ensures) (spread-begin r c.args.start c.args.goal map (none-labelled r.grid r.labels r.search c.renumber.ensures.some c.renumber.ensures.fresh) on within)

@@ -4,29 +4,14 @@ use Rattle.fleet_search.proofs.distances.Distances.expand.Goals as goal
 
 pub returns-clause-spread : goal.returns-clause-spread
 returns-clause-spread c =
-    let s1 = c.label_towards.new.self in
-    let s2 = c.label_towards-2.new.self in
-    let s3 = c.label_towards-3.new.self in
-    let s4 = c.label_towards-4.new.self in
-    spread-left c.args.grid.now s1 s2 s3 s4 c.in-Some.distance c.args.left c.in_ok-label_towards-4.ensures.spread c.in_ok-label_towards.ensures.found c.in_ok-label_towards-2.ensures.found c.in_ok-label_towards-3.ensures.found c.in_ok-label_towards-4.ensures.found c.in_ok-label_towards-2.ensures.fall c.in_ok-label_towards-3.ensures.fall c.in_ok-label_towards-4.ensures.fall c.in_ok-label_towards-4.ensures.left
-
-pub label-requires-clause-cell : goal.label-requires-clause-cell
-label-requires-clause-cell c = c.requires.cell
-
-pub label-requires-clause-ready : goal.label-requires-clause-ready
-label-requires-clause-ready c = c.requires.spread.ready
-
-pub label_towards-requires-clause-cell : goal.label_towards-requires-clause-cell
-label_towards-requires-clause-cell c = c.requires.cell
-
-pub label_towards-requires-clause-f_bound : goal.label_towards-requires-clause-f_bound
-label_towards-requires-clause-f_bound c = omega (arith, c.manhattan.ensures.value)
-
-pub label_towards-requires-clause-left : goal.label_towards-requires-clause-left
-label_towards-requires-clause-left c = sym c.label.ensures ∙ c.in-Some.is
-
-pub label_towards-requires-clause-spread : goal.label_towards-requires-clause-spread
-label_towards-requires-clause-spread c = c.requires.spread
+    let n = c.in_ok-label_towards.ensures.labelled in
+    let e = c.in_ok-label_towards-2.ensures.labelled in
+    let s = c.in_ok-label_towards-3.ensures.labelled in
+    let w = c.in_ok-label_towards-4.ensures.labelled in
+    let g3 = sym c.label_towards-4.ensures.same.grid in
+    let g2 = sym c.label_towards-3.ensures.same.grid ∙ g3 in
+    let g1 = sym c.label_towards-2.ensures.same.grid ∙ g2 in
+    spread-left c.label_towards.new.self c.label_towards-2.new.self c.label_towards-3.new.self c.label_towards-4.new.self c.in-Some.distance c.args.left w.spread g1 g2 g3 n.found e.found s.found w.found e.fall s.fall w.fall w.stays
 
 pub returns-clause-work : goal.returns-clause-work
-returns-clause-work c = omega (arith, c.in_ok-label_towards.ensures.work, c.in_ok-label_towards-2.ensures.work, c.in_ok-label_towards-3.ensures.work, c.in_ok-label_towards-4.ensures.work)
+returns-clause-work c = omega (arith, c.in_ok-label_towards.ensures.labelled.work, c.in_ok-label_towards-2.ensures.labelled.work, c.in_ok-label_towards-3.ensures.labelled.work, c.in_ok-label_towards-4.ensures.labelled.work)

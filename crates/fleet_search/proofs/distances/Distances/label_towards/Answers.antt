@@ -1,74 +1,25 @@
-use Rattle.std.proofs.Common.{◌≡◌, ◌+◌, ◌<◌, ℕ, length, get_or, Some, refl, sym, ap, ◌∙◌, subst, arith}
-use Rattle.std.specs.Prelude.{set}
-use Rattle.std.proofs.lemmas.List.{get_or_default}
+use Rattle.std.proofs.Common.{◌+◌, ◌<◌, ℕ, length, get_or, sym, subst}
 use Rattle.fleet_grid.specs.Ground.{cell_index}
-use Rattle.fleet_search.specs.Distance.{no_label, label_in, IsLabelNear, IsLabelled}
+use Rattle.fleet_search.specs.Distance.{no_label, with_label, IsOnGround, IsLabelled, IsLabelNear, IsPutFrom}
 use Rattle.fleet_search.proofs.Occupants.{yes_from_true, no_from_false}
-use Rattle.fleet_search.proofs.Spread.{label_read, labelled-same, not-near, found-before, put-spread, put-left, put-found, put-falls, put-works}
+use Rattle.fleet_search.proofs.Spread.{near_before, not-near, put_towards, none_towards}
 use Rattle.fleet_search.proofs.distances.Distances.label_towards.Goals as goal
 
-pub returns-then-is_near-clause-found : goal.returns-then-is_near-clause-found
-returns-then-is_near-clause-found c =
+pub returns-then-is_near-clause-labelled : goal.returns-then-is_near-clause-labelled
+returns-then-is_near-clause-labelled c =
     let s = c.args.self.now in
-    let g = c.args.grid.now in
-    let b = c.in-Some.beside in
-    let within : cell_index g b < length s.labels.items = omega (arith, c.cell_index-place.ensures.value, c.cell_index-place.ensures.within, c.requires.spread.ready.size) in
-    let at : c.index.result.now ≡ get_or s.labels.items (cell_index g b) c.index.result.now = c.index.ensures ∙ ap (λ i. get_or s.labels.items i c.index.result.now) c.cell_index-place.ensures.value in
     let near = yes_from_true c.is_near.result c.if-is_near.true c.is_near.ensures in
-    let here : label_in g s.labels.items s.search b ≡ Some c.index.result.now.distance = sym (label_read g s.labels.items s.search b c.index.result.now within at) ∙ labelled-same s.search c.index.result.now near.current in
-    found-before g s.labels.items s.search c.args.distance c.args.left b c.index.result.now.distance here near.near c.args.dir c.in-Some.ensures.some.0
+    let here : IsLabelNear s.search (get_or s.labels (cell_index s.grid c.in-Some.beside) no_label) (c.args.distance + 1) = subst (λ n. IsLabelNear s.search (get_or s.labels n no_label) (c.args.distance + 1)) c.place-place.ensures.value near in
+    none_towards s c.args.left c.args.distance c.args.dir c.requires.spread c.requires.left (near_before s c.args.distance c.args.left c.in-Some.beside here c.args.dir c.in-Some.ensures.some.0)
 
-pub returns-clause-spread : goal.returns-clause-spread
-returns-clause-spread c =
+pub returns-clause-labelled : goal.returns-clause-labelled
+returns-clause-labelled c =
     let s = c.args.self.now in
-    let g = c.args.grid.now in
     let b = c.in-Some.beside in
-    let within : cell_index g b < length s.labels.items = omega (arith, c.cell_index-place.ensures.value, c.cell_index-place.ensures.within, c.requires.spread.ready.size) in
-    let at : c.index.result.now ≡ get_or s.labels.items (cell_index g b) no_label = c.index.ensures ∙ ap (λ i. get_or s.labels.items i c.index.result.now) c.cell_index-place.ensures.value ∙ get_or_default s.labels.items (cell_index g b) c.index.result.now no_label within in
-    let not : IsLabelNear s.search (get_or s.labels.items (cell_index g b) no_label) (c.args.distance + 1) → ⊥ = λ h. no_from_false c.is_near.result c.if-is_near.false c.is_near.ensures (subst (λ l. IsLabelNear s.search l (c.args.distance + 1)) (sym at) h) in
-    let more : (n : ℕ) → IsLabelled g s b n → c.args.distance + 1 < n = not-near g s.labels.items s.search c.args.distance b not in
-    put-spread g s _ c.put.new.self c.args.left c.requires.spread c.args.distance c.requires.few c.requires.cell c.requires.left c.requires.f_bound b (c.args.dir, c.in-Some.ensures.some.0) c.in-Some.ensures.some.1 within more (ap (λ i. set s.labels.items i (record { search = s.search; distance = c.args.distance + 1 })) c.cell_index-place.ensures.value) refl refl refl refl refl refl c.in_ok-put.ensures
-
-pub returns-clause-left : goal.returns-clause-left
-returns-clause-left c =
-    let s = c.args.self.now in
-    let g = c.args.grid.now in
-    let b = c.in-Some.beside in
-    let within : cell_index g b < length s.labels.items = omega (arith, c.cell_index-place.ensures.value, c.cell_index-place.ensures.within, c.requires.spread.ready.size) in
-    let at : c.index.result.now ≡ get_or s.labels.items (cell_index g b) no_label = c.index.ensures ∙ ap (λ i. get_or s.labels.items i c.index.result.now) c.cell_index-place.ensures.value ∙ get_or_default s.labels.items (cell_index g b) c.index.result.now no_label within in
-    let not : IsLabelNear s.search (get_or s.labels.items (cell_index g b) no_label) (c.args.distance + 1) → ⊥ = λ h. no_from_false c.is_near.result c.if-is_near.false c.is_near.ensures (subst (λ l. IsLabelNear s.search l (c.args.distance + 1)) (sym at) h) in
-    let more : (n : ℕ) → IsLabelled g s b n → c.args.distance + 1 < n = not-near g s.labels.items s.search c.args.distance b not in
-    put-left g s _ c.put.new.self c.args.left c.requires.spread c.args.distance c.requires.few c.requires.cell c.requires.left c.requires.f_bound b (c.args.dir, c.in-Some.ensures.some.0) c.in-Some.ensures.some.1 within more (ap (λ i. set s.labels.items i (record { search = s.search; distance = c.args.distance + 1 })) c.cell_index-place.ensures.value) refl refl refl refl refl refl c.in_ok-put.ensures
-
-pub returns-clause-found : goal.returns-clause-found
-returns-clause-found c =
-    let s = c.args.self.now in
-    let g = c.args.grid.now in
-    let b = c.in-Some.beside in
-    let within : cell_index g b < length s.labels.items = omega (arith, c.cell_index-place.ensures.value, c.cell_index-place.ensures.within, c.requires.spread.ready.size) in
-    let at : c.index.result.now ≡ get_or s.labels.items (cell_index g b) no_label = c.index.ensures ∙ ap (λ i. get_or s.labels.items i c.index.result.now) c.cell_index-place.ensures.value ∙ get_or_default s.labels.items (cell_index g b) c.index.result.now no_label within in
-    let not : IsLabelNear s.search (get_or s.labels.items (cell_index g b) no_label) (c.args.distance + 1) → ⊥ = λ h. no_from_false c.is_near.result c.if-is_near.false c.is_near.ensures (subst (λ l. IsLabelNear s.search l (c.args.distance + 1)) (sym at) h) in
-    let more : (n : ℕ) → IsLabelled g s b n → c.args.distance + 1 < n = not-near g s.labels.items s.search c.args.distance b not in
-    put-found g s _ c.put.new.self c.args.left c.requires.spread c.args.distance c.requires.few c.requires.cell c.requires.left c.requires.f_bound b (c.args.dir, c.in-Some.ensures.some.0) c.in-Some.ensures.some.1 within more (ap (λ i. set s.labels.items i (record { search = s.search; distance = c.args.distance + 1 })) c.cell_index-place.ensures.value) refl refl refl refl refl refl c.in_ok-put.ensures c.args.dir c.in-Some.ensures.some.0
-
-pub returns-clause-fall : goal.returns-clause-fall
-returns-clause-fall c =
-    let s = c.args.self.now in
-    let g = c.args.grid.now in
-    let b = c.in-Some.beside in
-    let within : cell_index g b < length s.labels.items = omega (arith, c.cell_index-place.ensures.value, c.cell_index-place.ensures.within, c.requires.spread.ready.size) in
-    let at : c.index.result.now ≡ get_or s.labels.items (cell_index g b) no_label = c.index.ensures ∙ ap (λ i. get_or s.labels.items i c.index.result.now) c.cell_index-place.ensures.value ∙ get_or_default s.labels.items (cell_index g b) c.index.result.now no_label within in
-    let not : IsLabelNear s.search (get_or s.labels.items (cell_index g b) no_label) (c.args.distance + 1) → ⊥ = λ h. no_from_false c.is_near.result c.if-is_near.false c.is_near.ensures (subst (λ l. IsLabelNear s.search l (c.args.distance + 1)) (sym at) h) in
-    let more : (n : ℕ) → IsLabelled g s b n → c.args.distance + 1 < n = not-near g s.labels.items s.search c.args.distance b not in
-    put-falls g s _ c.put.new.self c.args.left c.requires.spread c.args.distance c.requires.few c.requires.cell c.requires.left c.requires.f_bound b (c.args.dir, c.in-Some.ensures.some.0) c.in-Some.ensures.some.1 within more (ap (λ i. set s.labels.items i (record { search = s.search; distance = c.args.distance + 1 })) c.cell_index-place.ensures.value) refl refl refl refl refl refl c.in_ok-put.ensures
-
-pub returns-clause-work : goal.returns-clause-work
-returns-clause-work c =
-    let s = c.args.self.now in
-    let g = c.args.grid.now in
-    let b = c.in-Some.beside in
-    let within : cell_index g b < length s.labels.items = omega (arith, c.cell_index-place.ensures.value, c.cell_index-place.ensures.within, c.requires.spread.ready.size) in
-    let at : c.index.result.now ≡ get_or s.labels.items (cell_index g b) no_label = c.index.ensures ∙ ap (λ i. get_or s.labels.items i c.index.result.now) c.cell_index-place.ensures.value ∙ get_or_default s.labels.items (cell_index g b) c.index.result.now no_label within in
-    let not : IsLabelNear s.search (get_or s.labels.items (cell_index g b) no_label) (c.args.distance + 1) → ⊥ = λ h. no_from_false c.is_near.result c.if-is_near.false c.is_near.ensures (subst (λ l. IsLabelNear s.search l (c.args.distance + 1)) (sym at) h) in
-    let more : (n : ℕ) → IsLabelled g s b n → c.args.distance + 1 < n = not-near g s.labels.items s.search c.args.distance b not in
-    put-works g s _ c.put.new.self c.args.left c.requires.spread c.args.distance c.requires.few c.requires.cell c.requires.left c.requires.f_bound b (c.args.dir, c.in-Some.ensures.some.0) c.in-Some.ensures.some.1 within more (ap (λ i. set s.labels.items i (record { search = s.search; distance = c.args.distance + 1 })) c.cell_index-place.ensures.value) refl refl refl refl refl refl c.in_ok-put.ensures
+    let d = c.args.distance in
+    let at = c.place-place.ensures.value in
+    let on = subst (λ g. IsOnGround g b) c.grid.ensures c.in-Some.ensures.some.1 in
+    let within : cell_index s.grid b < length s.labels = subst (λ n. n < length s.labels) at c.place-place.ensures.within in
+    let more : (n : ℕ) → IsLabelled s b n → d + 1 < n = not-near s.grid s.labels s.search d b (λ h. no_from_false c.is_near.result c.if-is_near.false c.is_near.ensures (subst (λ n. IsLabelNear s.search (get_or s.labels n no_label) (d + 1)) (sym at) h)) in
+    let put = subst (λ n. IsPutFrom c.args.left b (with_label s n (d + 1)) c.put.new.self) at (subst (λ t. IsPutFrom c.args.left b t c.put.new.self) c.set_label.ensures c.in_ok-put.ensures.put) in
+    put_towards s c.put.new.self c.args.left c.requires.spread c.place-place.ensures.sizes d c.requires.few c.requires.cell c.requires.left c.requires.f_bound b (c.args.dir, c.in-Some.ensures.some.0) on within more put c.args.dir c.in-Some.ensures.some.0

@@ -14,22 +14,24 @@ use fleet_run::{Flush, OutFault};
 use fleet_search::plan_in_orders;
 use std::alloc::Global;
 
-/// Plans for the map and the instance of the texts, and prints the plan.
+/// Plans for the map and the instance of the texts, and prints the plan. The texts are let go once they are read.
 fn plan_texts<'a, O: Flush>(
     alloc: Global,
-    map: &[u8],
-    scen: &[u8],
+    map: Vec<u8>,
+    scen: Vec<u8>,
     request: &PlanRequest<'_>,
     out: &mut O,
 ) -> Result<u8, Fault<'a>>
     requires { IsWorking (O.state out.old) }
     ensures { MatchResult result
-        (λ status. PrintsPlan map.now scen.now request.now.agents request.now.horizon request.now.tries
+        (λ status. PrintsPlan map.items scen.items request.now.agents request.now.horizon request.now.tries
         (O.state out.old) (O.state out.new) × (status ≡ 0))
-        (IsPlanCommandFault map.now scen.now request.now.agents request.now.horizon request.now.tries
+        (IsPlanCommandFault map.items scen.items request.now.agents request.now.horizon request.now.tries
         (O.state out.old) (O.state out.new)) }
 {
-    let problem = read_problem(alloc, map, scen, request.agents)?;
+    let problem = read_problem(alloc, &map, &scen, request.agents)?;
+    drop(map);
+    drop(scen);
     let checked = match plan_in_orders(
         alloc,
         &problem.grid,
@@ -66,5 +68,5 @@ pub(crate) fn do_plan<'a, F: Files, O: Flush>(
     ensures kept { AreUnchanged (F.contents files.old) (F.contents files.new) }
 {
     let (map, scen) = read_two(alloc, files, request.map, request.scen)?;
-    plan_texts(alloc, &map, &scen, request, out)
+    plan_texts(alloc, map, scen, request, out)
 }

@@ -21,6 +21,9 @@ pub struct Effort {
     pub nodes: usize,
 }
 
+/// For how many cells a list keeps room from one search to the next.
+const KEPT_CELLS: usize = 16_384;
+
 /// How many moves a cell is from the goal, noted by the search of this number.
 #[derive(Clone, Copy)]
 pub struct Label {
@@ -420,28 +423,28 @@ impl<'g> Distances<'g> {
         Ok(())
     }
 
-    /// Keeps the bound within this number of moves, the first beyond the horizon. If no cell is left to be expanded, no
-    /// path from the start to the goal leads over a cell without a label: such cells count as beyond the horizon.
+    /// Keeps the bound within this number of moves, the first beyond the horizon, and of the lists' memory what is
+    /// little. If no cell is left to be expanded, no path from the start to the goal leads over a cell without a label:
+    /// such cells count as beyond the horizon.
     fn bound(&mut self, beyond: u32)
         ensures same { self.new ≡ record self.old { f_bound = self.new.f_bound } }
         ensures few { self.new.f_bound ≤ beyond }
         ensures low { (self.old.layer ≡ []) ⊎ (self.new.f_bound ≤ self.old.f_bound) }
     {
+        self.release_lists();
         if self.layer.is_empty() {
             self.f_bound = beyond;
-            self.release_lists();
         } else {
             self.f_bound = self.f_bound.min(beyond);
         }
     }
 
-    /// Lets the memory of the lists go, which are empty: where all cells that can be reached are labelled they were long,
-    /// and the search that follows needs the room.
+    /// Lets memory of the lists go if they were long: the search that follows needs the room.
     fn release_lists(&mut self)
         ensures { self.new ≡ self.old }
     {
-        self.layer.shrink_to_fit();
-        self.next.shrink_to_fit();
+        self.layer.shrink_to(KEPT_CELLS);
+        self.next.shrink_to(KEPT_CELLS);
     }
 
     /// Takes note of the outcome of the search. It decides how far the next one labels cells, and nothing else.

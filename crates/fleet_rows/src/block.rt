@@ -15,9 +15,9 @@ use fleet_model::{ActionId, Await, ProgramView};
 
 /// The notes of the program's actions, and the columns of their rows.
 #[derive(Drop)]
-pub(crate) struct Block<'a> {
-    pub(crate) notes: &'a RunNotes,
-    pub(crate) columns: Columns,
+pub struct Block<'a> {
+    pub notes: &'a RunNotes,
+    pub columns: Columns,
 }
 
 /// Makes the row of an action.

@@ -17,7 +17,7 @@ use fleet_model::{ActionId, OutOfMemory, ProgramView};
 use std::alloc::Global;
 
 /// A use of the rows of a block, which come in the order in which the actions finish.
-pub(crate) trait RowUse {
+pub trait RowUse {
     ghost use Rattle.std.specs.Prelude.{ℕ, List, length, set, OnOk, ◌≡◌};
     ghost use Rattle.fleet_model.specs.Program.{Program};
     ghost use Rattle.fleet_rows.specs.declared.block.Block.{Block};
@@ -56,7 +56,7 @@ pub(crate) trait RowUse {
 
 /// The rows that are kept, and how many actions of each agent are finished.
 #[derive(Drop)]
-pub(crate) struct RowPass {
+pub struct RowPass {
     pub(crate) kept: KeptRows,
     counts: Vec<u32>,
 }
@@ -76,7 +76,7 @@ impl RowPass {
 }
 
 /// Makes and uses the rows of all actions.
-pub(crate) fn use_rows<P: ProgramView, U: RowUse>(
+pub fn use_rows<P: ProgramView, U: RowUse>(
     alloc: Global,
     program: &P,
     block: &Block<'_>,

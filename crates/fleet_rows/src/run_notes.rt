@@ -17,7 +17,7 @@ use std::alloc::Global;
 /// The places of the actions, the last of so many ticks that takes each, the order in which they finish, and the rows
 /// that are due to go after each tick.
 #[derive(Drop)]
-pub(crate) struct RunNotes {
+pub struct RunNotes {
     pub(crate) places: ActionPlaces,
     pub(crate) ticks: u32,
     pub(crate) lasts: Vec<u32>,
@@ -27,7 +27,7 @@ pub(crate) struct RunNotes {
 
 impl RunNotes {
     /// The notes on a program, for so many ticks.
-    pub(crate) fn of<P: ProgramView>(
+    pub fn of<P: ProgramView>(
         alloc: Global,
         program: &P,
         ticks: u32,

@@ -73,6 +73,33 @@ impl RowPass {
             counts: vec![in alloc; 0; usize::from(agents)]?,
         })
     }
+
+    /// Counts the action as finished, and keeps its row, if some tick takes it.
+    fn add_row<P: ProgramView>(
+        &mut self,
+        program: &P,
+        block: &Block<'_>,
+        row: &[u32],
+        action: ActionId,
+    ) -> Result<(), OutOfMemory>
+        requires block { AreBlock (P.program program.now) block.now }
+        requires room { length row.now ≡ block.now.columns.width }
+        requires row { IsRowOf (P.program program.now) block.now.columns action row.now }
+        requires kept { AreKept (P.program program.now) block.now self.old.kept }
+        requires action { IsAction (P.program program.now) action }
+        requires agent { action.agent < length self.old.counts.items }
+        requires not_yet { IsKept self.old.kept (action_place block.now.notes.now.places.firsts.items action) → ⊥ }
+        ensures taken { OnOk result (IsRowTaken (P.program program.now) block.now action self.old.kept self.new.kept) }
+        ensures counts { OnOk result (self.new.counts.items ≡ set self.old.counts.items action.agent action.number) }
+    {
+        let _ = program.agents();
+        self.counts[usize::from(action.agent)] = action.number;
+        let place = block.notes.places.place(action.agent, action.number);
+        if block.notes.lasts[place] > 0 {
+            self.kept.keep(place, row)?;
+        }
+        Ok(())
+    }
 }
 
 /// Makes and uses the rows of all actions.
@@ -174,33 +201,7 @@ fn finish<P: ProgramView, U: RowUse>(
     ensures keeps { OnOk result (U.keeps (P.program program.now) block.now uses.old uses.new) }
 {
     uses.use_row(program, block, pass, row, action)?;
-    keep_row(program, block, &mut pass.kept, row, action)?;
-    pass.counts[usize::from(action.agent)] = action.number;
-    Ok(())
-}
-
-/// Keeps the row of an action, if some tick takes it.
-fn keep_row<P: ProgramView>(
-    program: &P,
-    block: &Block<'_>,
-    kept: &mut KeptRows,
-    row: &[u32],
-    action: ActionId,
-) -> Result<(), OutOfMemory>
-    requires block { AreBlock (P.program program.now) block.now }
-    requires room { length row.now ≡ block.now.columns.width }
-    requires row { IsRowOf (P.program program.now) block.now.columns action row.now }
-    requires kept { AreKept (P.program program.now) block.now kept.old }
-    requires action { IsAction (P.program program.now) action }
-    requires not_yet { IsKept kept.old (action_place block.now.notes.now.places.firsts.items action) → ⊥ }
-    ensures { OnOk result (IsRowTaken (P.program program.now) block.now action kept.old kept.new) }
-{
-    let _ = program.agents();
-    let place = block.notes.places.place(action.agent, action.number);
-    if block.notes.lasts[place] > 0 {
-        kept.keep(place, row)?;
-    }
-    Ok(())
+    pass.add_row(program, block, row, action)
 }
 
 /// Lets the rows of these actions go, of each if no tick after this one takes it.

@@ -10,7 +10,8 @@ ghost use Rattle.fleet_rows.specs.Takers.{AreNoted};
 use crate::action_places::ActionPlaces;
 use crate::due_rows::DueRows;
 use crate::finish_order::FinishOrder;
-use crate::takers::note_ticks;
+use crate::takers::note_run;
+use fleet_machine::Machine;
 use fleet_model::{OutOfMemory, ProgramView, total_moves};
 use std::alloc::Global;
 
@@ -66,6 +67,7 @@ fn noted<P: ProgramView>(
     let actions = total_moves(program) as usize;
     let mut lasts = vec![in alloc; 0; actions]?;
     let mut order = FinishOrder::new(alloc, actions, ticks)?;
-    note_ticks(alloc, program, places, ticks, &mut lasts, &mut order)?;
+    let mut machine = Machine::start(alloc, program)?;
+    note_run(program, places, ticks, &mut machine, &mut lasts, &mut order)?;
     Ok((lasts, order))
 }

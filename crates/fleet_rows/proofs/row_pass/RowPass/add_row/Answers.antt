@@ -3,7 +3,7 @@ use Rattle.fleet_rows.specs.Kept.{IsKeptMore, count_in, mark_of}
 use Rattle.fleet_rows.specs.Places.{action_place}
 use Rattle.fleet_rows.proofs.Placed.{place_within, place_is}
 use Rattle.fleet_rows.proofs.Passing.{row_taken}
-use Rattle.fleet_rows.proofs.row_pass.keep_row.Goals as goal
+use Rattle.fleet_rows.proofs.row_pass.RowPass.add_row.Goals as goal
 
 pub index-requires : goal.index-requires
 index-requires g c =
@@ -17,13 +17,13 @@ keep-requires-clause-action g c =
     let l = place_within p c.args.block.now.notes.now.places.firsts.items c.requires.block.notes.places c.args.action c.requires.action in
     omega (arith, l, place_is c.args.block.now.notes.now.places.firsts.items c.args.action c.place-place.result c.place-place.ensures, c.requires.kept.actions)
 
-pub returns-in_ok-keep : goal.returns-in_ok-keep
-returns-in_ok-keep g c =
+pub returns-in_ok-keep-clause-taken : goal.returns-in_ok-keep-clause-taken
+returns-in_ok-keep-clause-taken g c =
     let p = g.P.ProgramView.program c.args.program.now in
     let at = place_is c.args.block.now.notes.now.places.firsts.items c.args.action c.place-place.result c.place-place.ensures in
     let made = c.in_ok-keep.ensures in
-    let more : IsKeptMore c.args.kept.now c.keep.new.self (action_place c.args.block.now.notes.now.places.firsts.items c.args.action) = subst (IsKeptMore c.args.kept.now c.keep.new.self) at made.more in
-    row_taken p c.args.block.now c.args.kept.now c.keep.new.self c.args.action c.args.row.now c.requires.block c.requires.kept c.requires.action
+    let more : IsKeptMore c.args.self.now.kept c.keep.new.self (action_place c.args.block.now.notes.now.places.firsts.items c.args.action) = subst (IsKeptMore c.args.self.now.kept c.keep.new.self) at made.more in
+    row_taken p c.args.block.now c.args.self.now.kept c.keep.new.self c.args.action c.args.row.now c.requires.block c.requires.kept c.requires.action
     (record {
       sound = made.sound;
       actions = more.actions ∙ c.requires.kept.actions;

@@ -64,14 +64,10 @@ fn join_others<P: ProgramView>(
     agent: u16,
     finished: u32,
 )
-    requires block { AreBlock (P.program program.now) block.now }
-    requires kept { AreKept (P.program program.now) block.now kept.now }
-    requires row { length row.old ≡ block.now.columns.width }
     requires range { AreInRange (P.program program.now) }
-    requires next { IsAction (P.program program.now) (record { agent = agent; number = finished + 1 }) }
+    requires can { CanMakeRow (P.program program.now) block.now kept.now (record { agent = agent; number = finished + 1 }) }
+    requires row { length row.old ≡ block.now.columns.width }
     requires own { IsRowOf (P.program program.now) block.now.columns (record { agent = agent; number = finished }) row.old }
-    requires awaited { (k : ℕ) (w : Await) → slice_get (awaits_of (P.program program.now) agent (finished + 1)) k ≡ Some w
-        → HasRow (P.program program.now) block.now kept.now (awaited w) }
     ensures { (j k : ℕ) → HasColumn block.now.columns j k
         → IsJoined (OfOthers j (length (awaits_of (P.program program.now) agent (finished + 1))))
         (P.program program.now) agent finished j (slice_index row.new k) }
@@ -116,16 +112,12 @@ fn join_own<P: ProgramView>(
     agent: u16,
     finished: u32,
 )
-    requires block { AreBlock (P.program program.now) block.now }
-    requires kept { AreKept (P.program program.now) block.now kept.now }
-    requires row { length row.old ≡ block.now.columns.width }
     requires range { AreInRange (P.program program.now) }
-    requires next { IsAction (P.program program.now) (record { agent = agent; number = finished + 1 }) }
+    requires can { CanMakeRow (P.program program.now) block.now kept.now (record { agent = agent; number = finished + 1 }) }
+    requires row { length row.old ≡ block.now.columns.width }
     requires joined { (j k : ℕ) → HasColumn block.now.columns j k
         → IsJoined (OfOthers j (length (awaits_of (P.program program.now) agent (finished + 1))))
         (P.program program.now) agent finished j (slice_index row.old k) }
-    requires awaited { (k : ℕ) (w : Await) → slice_get (awaits_of (P.program program.now) agent (finished + 1)) k ≡ Some w
-        → HasRow (P.program program.now) block.now kept.now (awaited w) }
     ensures { (j k : ℕ) → HasColumn block.now.columns j k
         → IsJoined (OfFirst (length (awaits_of (P.program program.now) agent (finished + 1))))
         (P.program program.now) agent finished j (slice_index row.new k) }

@@ -1,20 +1,16 @@
 use Rattle.std.proofs.Common.{◌≡◌, ◌+◌, ◌-◌, ◌≤◌, ℕ, sym, subst, slice_index, ◌∙◌, arith}
 use Rattle.fleet_model.specs.declared.program.ActionId.{ActionId}
 use Rattle.fleet_model.specs.Chain.{IsAction, Reaches}
-use Rattle.fleet_rows.specs.Block.{HasColumn, HasRow}
+use Rattle.fleet_rows.specs.Block.{HasColumn}
 use Rattle.fleet_rows.specs.Rows.{IsColumn}
-use Rattle.fleet_rows.proofs.Joining.{needed_before, needed_awaited, row_whole, numbered}
+use Rattle.fleet_rows.proofs.Joining.{can_next, row_whole, numbered}
 use Rattle.fleet_rows.proofs.block.make_row.Goals as goal
 
-pub begin_row-requires-clause-before : goal.begin_row-requires-clause-before
-begin_row-requires-clause-before g c = λ some.
-    let p = g.P.ProgramView.program c.args.program.now in
-    needed_before p c.args.action c.requires.can.action (HasRow p c.args.block.now c.args.kept.now) c.requires.can.needed some
+pub begin_row-requires-clause-can : goal.begin_row-requires-clause-can
+begin_row-requires-clause-can g c = can_next (g.P.ProgramView.program c.args.program.now) c.args.block.now c.args.kept.now c.args.action c.requires.can
 
-pub join_awaited-requires-clause-awaited : goal.join_awaited-requires-clause-awaited
-join_awaited-requires-clause-awaited g c =
-    let p = g.P.ProgramView.program c.args.program.now in
-    needed_awaited p c.requires.range c.args.action c.requires.can.action (HasRow p c.args.block.now c.args.kept.now) c.requires.can.needed
+pub join_awaited-requires-clause-can : goal.join_awaited-requires-clause-can
+join_awaited-requires-clause-can g c = can_next (g.P.ProgramView.program c.args.program.now) c.args.block.now c.args.kept.now c.args.action c.requires.can
 
 pub returns : goal.returns
 returns g c = λ j k h.

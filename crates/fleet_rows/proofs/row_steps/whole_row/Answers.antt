@@ -1,15 +1,13 @@
 use Rattle.std.proofs.Common.{◌≡◌, ◌+◌, ◌-◌, ◌≤◌, ℕ, sym, subst, slice_index, ◌∙◌, arith}
 use Rattle.fleet_model.specs.declared.program.ActionId.{ActionId}
 use Rattle.fleet_model.specs.Chain.{IsAction, Reaches}
-use Rattle.fleet_rows.specs.Block.{HasColumn, HasRow}
+use Rattle.fleet_rows.specs.Block.{HasColumn}
 use Rattle.fleet_rows.specs.Rows.{IsColumn}
-use Rattle.fleet_rows.proofs.Joining.{needed_awaited, row_whole, numbered}
+use Rattle.fleet_rows.proofs.Joining.{can_next, row_whole, numbered}
 use Rattle.fleet_rows.proofs.row_steps.whole_row.Goals as goal
 
-pub join_own-requires-clause-awaited : goal.join_own-requires-clause-awaited
-join_own-requires-clause-awaited g c =
-    let p = g.P.ProgramView.program c.args.program.now in
-    needed_awaited p c.requires.range c.args.action c.requires.can.action (HasRow p c.args.block.now c.args.pass.now.kept) c.requires.can.needed
+pub join_own-requires-clause-can : goal.join_own-requires-clause-can
+join_own-requires-clause-can g c = can_next (g.P.ProgramView.program c.args.program.now) c.args.block.now c.args.pass.now.kept c.args.action c.requires.can
 
 pub returns : goal.returns
 returns g c = λ j k h.

@@ -1,14 +1,13 @@
 //! A pass over the actions of a program in the order in which they finish if nobody is held: the row of each is made,
 //! used, and kept as long as some action is still to take it.
 
-ghost use Rattle.std.specs.Prelude.{◌≡◌, ◌+◌, ◌<◌, ℕ, [], List, length, replicate, set, IfOk, OnOk};
+ghost use Rattle.std.specs.Prelude.{◌≡◌, ◌+◌, ◌<◌, ◌≤◌, ℕ, [], List, length, replicate, set, slice_index, IfOk, OnOk};
 ghost use Rattle.fleet_model.specs.Program.{Program, AreInRange};
 ghost use Rattle.fleet_model.specs.Machine.{IsFinish};
-ghost use Rattle.fleet_model.specs.Chain.{IsAction};
-ghost use Rattle.fleet_rows.specs.Block.{AreBlock, IsRowOf, AreKept, CanMakeRow};
+ghost use Rattle.fleet_rows.specs.Block.{AreBlock, IsRowOf, CanMakeRow};
 ghost use Rattle.fleet_rows.specs.Kept.{IsSound, IsKept, IsFreed};
 ghost use Rattle.fleet_rows.specs.Places.{action_place};
-ghost use Rattle.fleet_rows.specs.Order.{IsCounted, AreMid, IsNextAction, AreAllCounted};
+ghost use Rattle.fleet_rows.specs.Order.{IsNextReady, after_place, IsCounted, AreMid, IsNextAction, AreAllCounted};
 ghost use Rattle.fleet_rows.specs.Pass.{AreRowsAt, IsRowTaken};
 
 use crate::block::Block;
@@ -82,11 +81,9 @@ impl RowPass {
         row: &[u32],
         action: ActionId,
     ) -> Result<(), OutOfMemory>
-        requires block { AreBlock (P.program program.now) block.now }
+        requires can { CanMakeRow (P.program program.now) block.now self.old.kept action }
         requires room { length row.now ≡ block.now.columns.width }
         requires row { IsRowOf (P.program program.now) block.now.columns action row.now }
-        requires kept { AreKept (P.program program.now) block.now self.old.kept }
-        requires action { IsAction (P.program program.now) action }
         requires agent { action.agent < length self.old.counts.items }
         requires not_yet { IsKept self.old.kept (action_place block.now.notes.now.places.firsts.items action) → ⊥ }
         ensures taken { OnOk result (IsRowTaken (P.program program.now) block.now action self.old.kept self.new.kept) }
@@ -173,11 +170,37 @@ fn use_tick<P: ProgramView, U: RowUse>(
     let _ = program.agents();
     let order = &block.notes.order;
     for k in order.begin(ticks as usize)..order.begin(ticks as usize + 1) {
-        let agent = order.agent(k);
-        let number = pass.counts[usize::from(agent)] + 1;
-        finish(program, block, pass, row, uses, ActionId { agent, number })?;
+        let action = action_at(program, block, ticks, pass, k);
+        finish(program, block, pass, row, uses, action)?;
     }
     Ok(())
+}
+
+/// The action that stands at a place of the order, the next one of its agent, which the tick after so many finishes.
+fn action_at<P: ProgramView>(
+    program: &P,
+    block: &Block<'_>,
+    ticks: u32,
+    pass: &RowPass,
+    k: usize,
+) -> ActionId
+    requires block { AreBlock (P.program program.now) block.now }
+    requires tick { ticks < block.now.notes.now.ticks }
+    requires begin { slice_index block.now.notes.now.order.ends.items ticks ≤ k }
+    requires end { k < slice_index block.now.notes.now.order.ends.items (ticks + 1) }
+    requires counts { AreMid (P.program program.now) ticks
+        (after_place block.now.notes.now.order.agents.items (slice_index block.now.notes.now.order.ends.items ticks) k)
+        pass.now.counts.items }
+    ensures agent { result.agent ≡ slice_index block.now.notes.now.order.agents.items k }
+    ensures ready { IsNextReady (P.program program.now) ticks
+        (after_place block.now.notes.now.order.agents.items (slice_index block.now.notes.now.order.ends.items ticks) k)
+        result.agent }
+    ensures number { result.number ≡ slice_index pass.now.counts.items result.agent + 1 }
+{
+    let _ = program.agents();
+    let agent = block.notes.order.agent(k);
+    let number = pass.counts[usize::from(agent)] + 1;
+    ActionId { agent, number }
 }
 
 /// Makes and uses the row of an action, and keeps it if some tick takes it.

@@ -5,6 +5,8 @@ use Rattle.fleet_model.specs.declared.program.ActionId.{ActionId}
 use Rattle.fleet_model.specs.Program.{Program, awaits_of, total_awaits}
 use Rattle.fleet_model.specs.Chain.{IsAction}
 use Rattle.fleet_rows.specs.Block.{HasColumn}
+use Rattle.fleet_rows.specs.Order.{IsCounted}
+use Rattle.fleet_rows.specs.declared.block.Block.{Block}
 use Rattle.fleet_rows.specs.declared.columns.Columns.{Columns}
 use Rattle.fleet_settled.specs.Implied.{AreAwaitPlaces, IsImpliedFlag, first_await}
 use Rattle.fleet_implied.specs.declared.implied.ImpliedAwaits.{ImpliedAwaits}
@@ -39,3 +41,9 @@ pub record AreImplied (p : Program) (m : ImpliedAwaits) : Type 0 where
   pub places : AreAwaitPlaces p m.places
   pub all : length m.flags.items ≡ total_awaits p
   pub told : AreAllTold p m.flags.items
+
+-- the state of the flags once so many actions of each agent are finished
+pub record AreFlagsOf (p : Program) (b : Block) (counts : List ℕ) (m : ImpliedAwaits) : Type 0 where
+  pub places : AreAwaitPlaces p m.places
+  pub all : length m.flags.items ≡ total_awaits p
+  pub told : AreToldOf p b.columns (IsCounted counts) m.flags.items

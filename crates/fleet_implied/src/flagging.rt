@@ -1,53 +1,15 @@
-//! Flags of awaits that others imply, by the rows of a block.
-
-ghost use Rattle.std.specs.Prelude.{◌≡◌, [], length, IfOk};
-ghost use Rattle.fleet_model.specs.Program.{AreInRange, total_awaits};
-ghost use Rattle.fleet_model.specs.Machine.{IsFinish};
-ghost use Rattle.fleet_model.specs.Chain.{IsAction};
-ghost use Rattle.fleet_rows.specs.Block.{AreBlock};
-ghost use Rattle.fleet_settled.specs.Implied.{AreAwaitPlaces};
-ghost use Rattle.fleet_implied.specs.Flags.{AreToldOf, AreLeft};
+//! Flags of awaits that others imply, by the rows of a block: the use of each row.
 
 use crate::await_flags::flag_awaits;
+use crate::implied::ImpliedAwaits;
 use fleet_model::{ActionId, OutOfMemory, ProgramView};
-use fleet_rows::{Block, RowPass, RowUse, others_row, use_rows, whole_row};
-use fleet_settled::AwaitPlaces;
-use std::alloc::Global;
+use fleet_rows::{Block, RowPass, RowUse, others_row, whole_row};
 
-/// The flags of all awaits, which stand at their places.
-#[derive(Drop)]
-pub(crate) struct Flagging<'a> {
-    places: &'a AwaitPlaces,
-    flags: Vec<bool>,
-}
-
-/// The flags of the awaits, of which those for agents that have a column now say whether others imply the await.
-pub(crate) fn flag_implied<P: ProgramView>(
-    alloc: Global,
-    program: &P,
-    block: &Block<'_>,
-    places: &AwaitPlaces,
-    flags: Vec<bool>,
-) -> Result<Vec<bool>, OutOfMemory>
-    requires block { AreBlock (P.program program.now) block.now }
-    requires places { AreAwaitPlaces (P.program program.now) places.now }
-    requires range { AreInRange (P.program program.now) }
-    requires finish { IsFinish (P.program program.now) [] block.now.notes.now.ticks }
-    requires flags { length flags.items ≡ total_awaits (P.program program.now) }
-    ensures all { IfOk result (λ new. length new.items ≡ total_awaits (P.program program.now)) }
-    ensures told { IfOk result (λ new. AreToldOf (P.program program.now) block.now.columns (IsAction (P.program program.now)) new.items) }
-    ensures left { IfOk result (λ new. AreLeft (P.program program.now) block.now.columns flags.items new.items) }
-{
-    let mut flagging = Flagging { places, flags };
-    use_rows(alloc, program, block, &mut flagging)?;
-    Ok(flagging.flags)
-}
-
-impl<'a> RowUse for Flagging<'a> {
+impl RowUse for ImpliedAwaits {
     ghost use Rattle.std.proofs.Common.{refl, ◌∙◌};
-    ghost use Rattle.fleet_implied.specs.Flagging.{IsFlagging};
+    ghost use Rattle.fleet_implied.specs.Flags.{AreLeft, AreFlagsOf};
 
-    ghost used = { IsFlagging };
+    ghost used = { AreFlagsOf };
 
     ghost keeps = { λ p b old new. AreLeft p b.columns old.flags.items new.flags.items };
 
@@ -64,7 +26,7 @@ impl<'a> RowUse for Flagging<'a> {
         flag_awaits(
             program,
             &block.columns,
-            self.places,
+            &self.places,
             row,
             action,
             &mut self.flags,

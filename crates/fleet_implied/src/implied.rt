@@ -1,6 +1,6 @@
 //! Awaits that others imply.
 
-ghost use Rattle.std.specs.Prelude.{◌≡◌, ◌<◌, ℕ, [], None, Some, length, slice_get, IfOk};
+ghost use Rattle.std.specs.Prelude.{◌≡◌, ◌<◌, [], None, Some, length, slice_get, IfOk, OnOk};
 ghost use Rattle.fleet_model.specs.declared.program.Await.{Await};
 ghost use Rattle.fleet_model.specs.Program.{AreInRange, awaits_of, total_awaits};
 ghost use Rattle.fleet_model.specs.Machine.{IsFinish};
@@ -8,19 +8,19 @@ ghost use Rattle.fleet_model.specs.Chain.{IsAction};
 ghost use Rattle.fleet_rows.specs.Block.{AreNotes};
 ghost use Rattle.fleet_settled.specs.Implied.{IsImplied, AreAwaitPlaces};
 ghost use Rattle.fleet_settled.specs.Settled.{AreSettled};
-ghost use Rattle.fleet_implied.specs.Flags.{AreImplied, AreAllTold};
+ghost use Rattle.fleet_implied.specs.Flags.{AreImplied};
 
-use crate::flagging::flag_implied;
 use fleet_model::{ActionId, Await, OutOfMemory, ProgramView, total_awaits};
-use fleet_rows::{Block, Columns, RunNotes, columns_at_once, is_any};
+use fleet_rows::{Block, Columns, RunNotes, columns_at_once, is_any, use_rows};
 use fleet_settled::{AwaitPlaces, settle_all};
 use std::alloc::Global;
 
 /// Which awaits of a program others imply.
 #[derive(Drop)]
 pub struct ImpliedAwaits {
-    places: AwaitPlaces,
-    flags: Vec<bool>,
+    pub(crate) places: AwaitPlaces,
+    /// For each await, by its place, whether others imply it.
+    pub(crate) flags: Vec<bool>,
 }
 
 impl ImpliedAwaits {
@@ -59,84 +59,77 @@ pub fn implied_awaits<P: ProgramView>(
 {
     let places = AwaitPlaces::of(alloc, program)?;
     let flags = vec![in alloc; false; total_awaits(program) as usize]?;
-    let flags = tell_all(alloc, program, ticks, &places, flags)?;
-    Ok(ImpliedAwaits { places, flags })
+    let mut implied = ImpliedAwaits { places, flags };
+    tell_all(alloc, program, ticks, &mut implied)?;
+    Ok(implied)
 }
 
-/// The flags of awaits that others imply: first by a few steps back, and then, for the agents of awaits that these
-/// leave open, by rows.
+/// Flags the awaits that others imply: first by a few steps back, and then, for the agents of awaits that these leave
+/// open, by rows.
 fn tell_all<P: ProgramView>(
     alloc: Global,
     program: &P,
     ticks: u32,
-    places: &AwaitPlaces,
-    flags: Vec<bool>,
-) -> Result<Vec<bool>, OutOfMemory>
+    implied: &mut ImpliedAwaits,
+) -> Result<(), OutOfMemory>
     requires range { AreInRange (P.program program.now) }
-    requires places { AreAwaitPlaces (P.program program.now) places.now }
     requires finish { IsFinish (P.program program.now) [] ticks }
-    requires flags { length flags.items ≡ total_awaits (P.program program.now) }
-    ensures all { IfOk result (λ flags. length flags.items ≡ total_awaits (P.program program.now)) }
-    ensures told { IfOk result (λ flags. AreAllTold (P.program program.now) flags.items) }
+    requires places { AreAwaitPlaces (P.program program.now) implied.old.places }
+    requires flags { length implied.old.flags.items ≡ total_awaits (P.program program.now) }
+    ensures { OnOk result (AreImplied (P.program program.now) implied.new) }
 {
-    let mut flags = flags;
-    let asked = settle_all(alloc, program, ticks, places, &mut flags)?;
+    let asked = settle_all(alloc, program, ticks, &implied.places, &mut implied.flags)?;
     if !is_any(&asked) {
-        return Ok(flags);
+        return Ok(());
     }
-    flag_rest(alloc, program, ticks, places, &asked, flags)
+    flag_rest(alloc, program, ticks, &asked, implied)
 }
 
-/// The flags of the awaits of the asked agents, by rows.
+/// Flags the awaits of the asked agents, by rows.
 fn flag_rest<P: ProgramView>(
     alloc: Global,
     program: &P,
     ticks: u32,
-    places: &AwaitPlaces,
     asked: &[bool],
-    flags: Vec<bool>,
-) -> Result<Vec<bool>, OutOfMemory>
+    implied: &mut ImpliedAwaits,
+) -> Result<(), OutOfMemory>
     requires range { AreInRange (P.program program.now) }
-    requires places { AreAwaitPlaces (P.program program.now) places.now }
     requires finish { IsFinish (P.program program.now) [] ticks }
-    requires flags { length flags.items ≡ total_awaits (P.program program.now) }
+    requires places { AreAwaitPlaces (P.program program.now) implied.old.places }
+    requires flags { length implied.old.flags.items ≡ total_awaits (P.program program.now) }
     requires asked { length asked.now ≡ length (P.program program.now) }
-    requires settled { AreSettled (P.program program.now) asked.now flags.items }
-    ensures all { IfOk result (λ flags. length flags.items ≡ total_awaits (P.program program.now)) }
-    ensures told { IfOk result (λ flags. AreAllTold (P.program program.now) flags.items) }
+    requires settled { AreSettled (P.program program.now) asked.now implied.old.flags.items }
+    ensures { OnOk result (AreImplied (P.program program.now) implied.new) }
 {
     let notes = RunNotes::of(alloc, program, ticks)?;
-    flag_all(alloc, program, &notes, places, asked, flags)
+    flag_all(alloc, program, &notes, asked, implied)
 }
 
-/// The flags of the awaits of the asked agents, block by block, each with so many columns as there is room for.
+/// Flags the awaits of the asked agents, block by block, each with so many columns as there is room for.
 fn flag_all<P: ProgramView>(
     alloc: Global,
     program: &P,
     notes: &RunNotes,
-    places: &AwaitPlaces,
     asked: &[bool],
-    flags: Vec<bool>,
-) -> Result<Vec<bool>, OutOfMemory>
+    implied: &mut ImpliedAwaits,
+) -> Result<(), OutOfMemory>
     requires range { AreInRange (P.program program.now) }
     requires notes { AreNotes (P.program program.now) notes.now }
-    requires places { AreAwaitPlaces (P.program program.now) places.now }
     requires finish { IsFinish (P.program program.now) [] notes.now.ticks }
-    requires flags { length flags.items ≡ total_awaits (P.program program.now) }
+    requires places { AreAwaitPlaces (P.program program.now) implied.old.places }
+    requires flags { length implied.old.flags.items ≡ total_awaits (P.program program.now) }
     requires asked { length asked.now ≡ length (P.program program.now) }
-    requires settled { AreSettled (P.program program.now) asked.now flags.items }
-    ensures all { IfOk result (λ flags. length flags.items ≡ total_awaits (P.program program.now)) }
-    ensures told { IfOk result (λ flags. AreAllTold (P.program program.now) flags.items) }
+    requires settled { AreSettled (P.program program.now) asked.now implied.old.flags.items }
+    ensures { OnOk result (AreImplied (P.program program.now) implied.new) }
 {
-    let mut flags = flags;
     let most = columns_at_once(notes);
     let agents = program.agents();
     let mut from = 0;
     while from < agents {
         let columns = Columns::choose(alloc, asked, from, most)?;
         let block = Block { notes, columns };
-        flags = flag_implied(alloc, program, &block, places, flags)?;
+        use_rows(alloc, program, &block, implied)?;
         from = block.columns.end;
     }
-    Ok(flags)
+    Ok(())
 }

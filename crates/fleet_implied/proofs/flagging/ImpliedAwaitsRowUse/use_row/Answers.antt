@@ -4,7 +4,7 @@ use Rattle.std.proofs.lemmas.List.{take_at}
 use Rattle.fleet_rows.specs.Order.{IsCounted}
 use Rattle.fleet_implied.specs.Flags.{AreFlagged, AreToldOf, AreLeft}
 use Rattle.fleet_implied.proofs.Flagged.{told_counted, left_on}
-use Rattle.fleet_implied.proofs.flagging.FlaggingRowUse.use_row.Goals as goal
+use Rattle.fleet_implied.proofs.flagging.ImpliedAwaitsRowUse.use_row.Goals as goal
 
 pub returns-clause-used : goal.returns-clause-used
 returns-clause-used g c =

@@ -19,8 +19,8 @@ use Rattle.fleet_model.specs.declared.program.AgentProgram.{AgentProgram}
 use Rattle.fleet_model.specs.Program.{Program, actions_of, moves, step_of, awaits_of, total_moves, AreAwaits, AreInRange, IsCell, IsWellFormed, NeverStays}
 use Rattle.fleet_model.proofs.Totals.{moves_more}
 use Rattle.fleet_model.specs.declared.limits.TheConstants.{MAX_AWAIT}
-use Rattle.fleet_rows.specs.Implied.{IsImplied}
-use Rattle.fleet_rows.proofs.Implying.{await_below}
+use Rattle.fleet_settled.specs.Implied.{IsImplied}
+use Rattle.fleet_settled.proofs.AwaitOrder.{await_below}
 use Rattle.fleet_model.proofs.Reaching.{longest_is_one}
 use Rattle.fleet_verify.proofs.Arrive.{finish_exists, unheld_is_longest}
 use Rattle.fleet_chains.specs.Reduced.{IsThinned}

@@ -1,8 +1,6 @@
 pub mod Free
 pub mod Joining
 pub mod Placed
-mod Settling
-mod Ticking
 pub mod Finishing
 pub mod Counting
 pub mod Ordering
@@ -11,8 +9,7 @@ pub mod Keeping
 pub mod Freeing
 pub mod Noting
 pub mod Passing
-pub mod Implying
-pub mod Flagged
+pub mod OthersJoined
 pub mod PiecePairs
 pub mod Gathered
 pub mod GatheredAll

@@ -8,8 +8,5 @@ pub mod Takers
 pub mod Block
 pub mod Pass
 pub mod Answering
-pub mod Implied
-pub mod Flagging
 pub mod Pieces
 pub mod Gather
-pub mod Settled

@@ -1,5 +1,5 @@
 -- Rows of counts: for each agent, how many of its actions begin a chain that ends with an action.
-use Rattle.std.specs.Prelude.{◌≡◌, ℕ, ◌+◌, ◌<◌, ◌≤◌, ◌↔◌, ◌⊎◌, slice_get, Some}
+use Rattle.std.specs.Prelude.{◌≡◌, ◌≢◌, ℕ, ◌+◌, ◌<◌, ◌≤◌, ◌↔◌, ◌⊎◌, slice_get, Some}
 use Rattle.fleet_model.specs.declared.program.ActionId.{ActionId}
 use Rattle.fleet_model.specs.declared.program.Await.{Await}
 use Rattle.fleet_model.specs.Program.{Program, awaits_of}
@@ -26,3 +26,11 @@ pub record IsJoined (These : ℕ → Await → Type 0) (p : Program) (i b j n : 
 -- the await is among the first k
 abbrev pub OfFirst : ℕ → ℕ → Await → Type 0
 OfFirst k place w = place < k
+
+-- among the first k, those of other agents than j
+abbrev pub OfOthers : ℕ → ℕ → ℕ → Await → Type 0
+OfOthers j k place w = (place < k) × (w.agent ≢ j)
+
+-- those of other agents than j, and all among the first k
+abbrev pub OfOthersOrFirst : ℕ → ℕ → ℕ → Await → Type 0
+OfOthersOrFirst j k place w = (w.agent ≢ j) ⊎ (place < k)

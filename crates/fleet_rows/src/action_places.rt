@@ -9,16 +9,13 @@ use std::alloc::Global;
 
 /// Where the actions of each agent begin among all, which stand agent by agent.
 #[derive(Drop)]
-pub(crate) struct ActionPlaces {
+pub struct ActionPlaces {
     firsts: Vec<u32>,
 }
 
 impl ActionPlaces {
     /// The places of the actions of a program.
-    pub(crate) fn of<P: ProgramView>(
-        alloc: Global,
-        program: &P,
-    ) -> Result<ActionPlaces, OutOfMemory>
+    pub fn of<P: ProgramView>(alloc: Global, program: &P) -> Result<ActionPlaces, OutOfMemory>
         ensures { IfOk result (λ places. ArePlaces (P.program program.now) places.firsts.items) }
     {
         let agents = program.agents();
@@ -32,7 +29,7 @@ impl ActionPlaces {
     }
 
     /// The place of an action. Places count from 0.
-    pub(crate) fn place(&self, agent: u16, number: u32) -> usize
+    pub fn place(&self, agent: u16, number: u32) -> usize
         requires agent { agent < length self.now.firsts.items }
         requires number { 1 ≤ number }
         ensures { result + 1 ≡ slice_index self.now.firsts.items agent + number }

@@ -1,6 +1,6 @@
 //! Answers of questions for chains of needs, by the rows of a block.
 
-ghost use Rattle.std.specs.Prelude.{◌≡◌, ◌↔◌, ℕ, [], length, get_or, slice_get, Some, None, All, IsTrue, IfOk};
+ghost use Rattle.std.specs.Prelude.{◌≡◌, ◌↔◌, ◌<◌, ℕ, [], length, get_or, slice_get, Some, None, All, IsTrue, IfOk};
 ghost use Rattle.fleet_model.specs.Program.{AreInRange};
 ghost use Rattle.fleet_model.specs.Machine.{IsFinish};
 ghost use Rattle.fleet_rows.specs.Asked.{AreQuestions, IsQuestion};
@@ -93,7 +93,7 @@ impl<'a> Answering<'a> {
         let next = self.next;
         if ends_with(self.questions, next, action) {
             let question = self.questions[next];
-            self.flags[next] = answer_one(program, block, row, question, self.flags[next]);
+            answer_one(program, block, row, question, &mut self.flags[next]);
             self.next = next + 1;
         }
     }
@@ -101,29 +101,29 @@ impl<'a> Answering<'a> {
 
 /// Whether there is such a question, and it ends with the action.
 fn ends_with(questions: &[Question], k: usize, action: ActionId) -> bool
-    ensures { IsTrue result ↔ ((q : Question) × (slice_get questions.now k ≡ Some q) × (q.last ≡ action)) }
+    ensures within { IsTrue result → k < length questions.now }
+    ensures ends { IsTrue result ↔ ((q : Question) × (slice_get questions.now k ≡ Some q) × (q.last ≡ action)) }
 {
     k < questions.len() && questions[k].last == action
 }
 
-/// The answer to a question whose agent has a column, by the row of its last action, or else the flag.
+/// Flags the answer to a question whose agent has a column, by the row of its last action.
 fn answer_one<P: ProgramView>(
     program: &P,
     block: &Block<'_>,
     row: &[u32],
     question: Question,
-    flag: bool,
-) -> bool
+    flag: &mut bool,
+)
     requires block { AreBlock (P.program program.now) block.now }
     requires room { length row.now ≡ block.now.columns.width }
     requires row { IsRowOf (P.program program.now) block.now.columns question.last row.now }
     requires question { IsQuestion (P.program program.now) question }
-    ensures answer { (k : ℕ) → HasColumn block.now.columns question.first.agent k → IsAnswer (P.program program.now) question result }
-    ensures none { get_or block.now.columns.of_agent.items question.first.agent None ≡ None → result ≡ flag }
+    ensures answer { (k : ℕ) → HasColumn block.now.columns question.first.agent k → IsAnswer (P.program program.now) question flag.new }
+    ensures none { get_or block.now.columns.of_agent.items question.first.agent None ≡ None → flag.new ≡ flag.old }
 {
     let _ = program.agents();
-    match block.columns.of(question.first.agent) {
-        Some(k) => row[usize::from(k)] < question.first.number,
-        None => flag,
+    if let Some(k) = block.columns.of(question.first.agent) {
+        *flag = row[usize::from(k)] < question.first.number;
     }
 }

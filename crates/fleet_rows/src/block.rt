@@ -15,9 +15,9 @@ use fleet_model::{ActionId, Await, ProgramView};
 
 /// The notes of the program's actions, and the columns of their rows.
 #[derive(Drop)]
-pub(crate) struct Block<'a> {
-    pub(crate) notes: &'a RunNotes,
-    pub(crate) columns: Columns,
+pub struct Block<'a> {
+    pub notes: &'a RunNotes,
+    pub columns: Columns,
 }
 
 /// Makes the row of an action.
@@ -49,13 +49,8 @@ pub(crate) fn begin_row<P: ProgramView>(
     agent: u16,
     finished: u32,
 )
-    requires block { AreBlock (P.program program.now) block.now }
-    requires kept { AreKept (P.program program.now) block.now kept.now }
+    requires can { CanMakeRow (P.program program.now) block.now kept.now (record { agent = agent; number = finished + 1 }) }
     requires row { length row.old ≡ block.now.columns.width }
-    requires agent { agent < length (P.program program.now) }
-    requires finished { finished ≤ moves (P.program program.now) agent }
-    requires before { 1 ≤ finished
-        → HasRow (P.program program.now) block.now kept.now (record { agent = agent; number = finished }) }
     ensures { IsRowOf (P.program program.now) block.now.columns (record { agent = agent; number = finished }) row.new }
 {
     let _ = program.agents();
@@ -84,14 +79,10 @@ fn join_awaited<P: ProgramView>(
     agent: u16,
     finished: u32,
 )
-    requires block { AreBlock (P.program program.now) block.now }
-    requires kept { AreKept (P.program program.now) block.now kept.now }
-    requires row { length row.old ≡ block.now.columns.width }
     requires range { AreInRange (P.program program.now) }
-    requires next { IsAction (P.program program.now) (record { agent = agent; number = finished + 1 }) }
+    requires can { CanMakeRow (P.program program.now) block.now kept.now (record { agent = agent; number = finished + 1 }) }
+    requires row { length row.old ≡ block.now.columns.width }
     requires own { IsRowOf (P.program program.now) block.now.columns (record { agent = agent; number = finished }) row.old }
-    requires awaited { (k : ℕ) (w : Await) → slice_get (awaits_of (P.program program.now) agent (finished + 1)) k ≡ Some w
-        → HasRow (P.program program.now) block.now kept.now (awaited w) }
     ensures { (j k : ℕ) → HasColumn block.now.columns j k
         → IsJoined (OfFirst (length (awaits_of (P.program program.now) agent (finished + 1))))
         (P.program program.now) agent finished j (slice_index row.new k) }
@@ -112,13 +103,9 @@ pub(crate) fn awaited_row<P: ProgramView>(
     action: ActionId,
     k: u16,
 ) -> (Await, usize)
-    requires block { AreBlock (P.program program.now) block.now }
-    requires kept { AreKept (P.program program.now) block.now kept.now }
     requires range { AreInRange (P.program program.now) }
-    requires action { IsAction (P.program program.now) action }
+    requires can { CanMakeRow (P.program program.now) block.now kept.now action }
     requires within { k < length (awaits_of (P.program program.now) action.agent action.number) }
-    requires awaited { (m : ℕ) (w : Await) → slice_get (awaits_of (P.program program.now) action.agent action.number) m ≡ Some w
-        → HasRow (P.program program.now) block.now kept.now (awaited w) }
     ensures at { slice_get (awaits_of (P.program program.now) action.agent action.number) k ≡ Some result.0 }
     ensures agent { result.0.agent < length block.now.columns.of_agent.items }
     ensures place { result.1 < length kept.now.marks.items }

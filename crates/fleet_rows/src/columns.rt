@@ -9,17 +9,17 @@ use std::alloc::Global;
 
 /// Which column of a block belongs to an agent.
 #[derive(Drop)]
-pub(crate) struct Columns {
+pub struct Columns {
     of_agent: Vec<Option<u16>>,
     /// How many columns the block has.
     pub(crate) width: u16,
     /// The block has the asked agents up to here.
-    pub(crate) end: u16,
+    pub end: u16,
 }
 
 impl Columns {
     /// Columns for so many of the flagged agents, from this agent on.
-    pub(crate) fn choose(
+    pub fn choose(
         alloc: Global,
         asked: &[bool],
         from: u16,
@@ -48,7 +48,7 @@ impl Columns {
     }
 
     /// The column of an agent, if it has one.
-    pub(crate) fn of(&self, agent: u16) -> Option<u16>
+    pub fn of(&self, agent: u16) -> Option<u16>
         requires { agent < length self.now.of_agent.items }
         ensures { result ≡ get_or self.now.of_agent.items agent None }
     {

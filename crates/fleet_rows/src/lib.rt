@@ -3,25 +3,25 @@
 
 mod action_places;
 mod answering;
-mod await_places;
 mod block;
 mod columns;
 mod due_rows;
 mod finish_order;
-mod finish_ticks;
-mod flagging;
 mod gather;
-mod implied;
-mod implied_row;
 mod kept_rows;
 mod near;
 mod piece;
 mod questions;
 mod row_pass;
+mod row_steps;
 mod run_notes;
-mod settled;
 mod takers;
 
-pub use implied::{ImpliedAwaits, implied_awaits};
+pub use action_places::ActionPlaces;
+pub use block::Block;
+pub use columns::Columns;
 pub use piece::Pieces;
-pub use questions::{Question, unreached};
+pub use questions::{Question, columns_at_once, is_any, unreached};
+pub use row_pass::{RowPass, RowUse, use_rows};
+pub use row_steps::{others_row, whole_row};
+pub use run_notes::RunNotes;

@@ -66,7 +66,7 @@ fn answer_rest<P: ProgramView>(
 }
 
 /// Whether some agent is flagged.
-pub(crate) fn is_any(asked: &[bool]) -> bool
+pub fn is_any(asked: &[bool]) -> bool
     ensures { (result ≡ false) → (k : ℕ) → get_or asked.now k false ≡ false }
 {
     for &agent in asked {
@@ -116,7 +116,7 @@ const COUNTS: usize = 4_194_304;
 const LEAST_COLUMNS: usize = 8;
 
 /// How many columns a block has at most: as many as there is room for while the most rows are kept, and at least 8.
-pub(crate) fn columns_at_once(notes: &RunNotes) -> u16
+pub fn columns_at_once(notes: &RunNotes) -> u16
     ensures { 1 ≤ result }
 {
     let room = COUNTS.max(notes.lasts.len()) / notes.order.most_rows(&notes.due).max(1);

@@ -1,14 +1,13 @@
 //! A pass over the actions of a program in the order in which they finish if nobody is held: the row of each is made,
 //! used, and kept as long as some action is still to take it.
 
-ghost use Rattle.std.specs.Prelude.{◌≡◌, ◌+◌, ◌<◌, ℕ, [], List, length, replicate, set, IfOk, OnOk};
+ghost use Rattle.std.specs.Prelude.{◌≡◌, ◌+◌, ◌<◌, ◌≤◌, ℕ, [], List, length, replicate, set, slice_index, IfOk, OnOk};
 ghost use Rattle.fleet_model.specs.Program.{Program, AreInRange};
 ghost use Rattle.fleet_model.specs.Machine.{IsFinish};
-ghost use Rattle.fleet_model.specs.Chain.{IsAction};
-ghost use Rattle.fleet_rows.specs.Block.{AreBlock, IsRowOf, AreKept, CanMakeRow};
+ghost use Rattle.fleet_rows.specs.Block.{AreBlock, IsRowOf, CanMakeRow};
 ghost use Rattle.fleet_rows.specs.Kept.{IsSound, IsKept, IsFreed};
 ghost use Rattle.fleet_rows.specs.Places.{action_place};
-ghost use Rattle.fleet_rows.specs.Order.{IsCounted, AreMid, IsNextAction, AreAllCounted};
+ghost use Rattle.fleet_rows.specs.Order.{IsNextReady, after_place, IsCounted, AreMid, IsNextAction, AreAllCounted};
 ghost use Rattle.fleet_rows.specs.Pass.{AreRowsAt, IsRowTaken};
 
 use crate::block::Block;
@@ -17,7 +16,7 @@ use fleet_model::{ActionId, OutOfMemory, ProgramView};
 use std::alloc::Global;
 
 /// A use of the rows of a block, which come in the order in which the actions finish.
-pub(crate) trait RowUse {
+pub trait RowUse {
     ghost use Rattle.std.specs.Prelude.{ℕ, List, length, set, OnOk, ◌≡◌};
     ghost use Rattle.fleet_model.specs.Program.{Program};
     ghost use Rattle.fleet_rows.specs.declared.block.Block.{Block};
@@ -56,7 +55,7 @@ pub(crate) trait RowUse {
 
 /// The rows that are kept, and how many actions of each agent are finished.
 #[derive(Drop)]
-pub(crate) struct RowPass {
+pub struct RowPass {
     pub(crate) kept: KeptRows,
     counts: Vec<u32>,
 }
@@ -73,10 +72,35 @@ impl RowPass {
             counts: vec![in alloc; 0; usize::from(agents)]?,
         })
     }
+
+    /// Counts the action as finished, and keeps its row, if some tick takes it.
+    fn add_row<P: ProgramView>(
+        &mut self,
+        program: &P,
+        block: &Block<'_>,
+        row: &[u32],
+        action: ActionId,
+    ) -> Result<(), OutOfMemory>
+        requires can { CanMakeRow (P.program program.now) block.now self.old.kept action }
+        requires room { length row.now ≡ block.now.columns.width }
+        requires row { IsRowOf (P.program program.now) block.now.columns action row.now }
+        requires agent { action.agent < length self.old.counts.items }
+        requires not_yet { IsKept self.old.kept (action_place block.now.notes.now.places.firsts.items action) → ⊥ }
+        ensures taken { OnOk result (IsRowTaken (P.program program.now) block.now action self.old.kept self.new.kept) }
+        ensures counts { OnOk result (self.new.counts.items ≡ set self.old.counts.items action.agent action.number) }
+    {
+        let _ = program.agents();
+        self.counts[usize::from(action.agent)] = action.number;
+        let place = block.notes.places.place(action.agent, action.number);
+        if block.notes.lasts[place] > 0 {
+            self.kept.keep(place, row)?;
+        }
+        Ok(())
+    }
 }
 
 /// Makes and uses the rows of all actions.
-pub(crate) fn use_rows<P: ProgramView, U: RowUse>(
+pub fn use_rows<P: ProgramView, U: RowUse>(
     alloc: Global,
     program: &P,
     block: &Block<'_>,
@@ -146,11 +170,37 @@ fn use_tick<P: ProgramView, U: RowUse>(
     let _ = program.agents();
     let order = &block.notes.order;
     for k in order.begin(ticks as usize)..order.begin(ticks as usize + 1) {
-        let agent = order.agent(k);
-        let number = pass.counts[usize::from(agent)] + 1;
-        finish(program, block, pass, row, uses, ActionId { agent, number })?;
+        let action = action_at(program, block, ticks, pass, k);
+        finish(program, block, pass, row, uses, action)?;
     }
     Ok(())
+}
+
+/// The action that stands at a place of the order, the next one of its agent, which the tick after so many finishes.
+fn action_at<P: ProgramView>(
+    program: &P,
+    block: &Block<'_>,
+    ticks: u32,
+    pass: &RowPass,
+    k: usize,
+) -> ActionId
+    requires block { AreBlock (P.program program.now) block.now }
+    requires tick { ticks < block.now.notes.now.ticks }
+    requires begin { slice_index block.now.notes.now.order.ends.items ticks ≤ k }
+    requires end { k < slice_index block.now.notes.now.order.ends.items (ticks + 1) }
+    requires counts { AreMid (P.program program.now) ticks
+        (after_place block.now.notes.now.order.agents.items (slice_index block.now.notes.now.order.ends.items ticks) k)
+        pass.now.counts.items }
+    ensures agent { result.agent ≡ slice_index block.now.notes.now.order.agents.items k }
+    ensures ready { IsNextReady (P.program program.now) ticks
+        (after_place block.now.notes.now.order.agents.items (slice_index block.now.notes.now.order.ends.items ticks) k)
+        result.agent }
+    ensures number { result.number ≡ slice_index pass.now.counts.items result.agent + 1 }
+{
+    let _ = program.agents();
+    let agent = block.notes.order.agent(k);
+    let number = pass.counts[usize::from(agent)] + 1;
+    ActionId { agent, number }
 }
 
 /// Makes and uses the row of an action, and keeps it if some tick takes it.
@@ -174,33 +224,7 @@ fn finish<P: ProgramView, U: RowUse>(
     ensures keeps { OnOk result (U.keeps (P.program program.now) block.now uses.old uses.new) }
 {
     uses.use_row(program, block, pass, row, action)?;
-    keep_row(program, block, &mut pass.kept, row, action)?;
-    pass.counts[usize::from(action.agent)] = action.number;
-    Ok(())
-}
-
-/// Keeps the row of an action, if some tick takes it.
-fn keep_row<P: ProgramView>(
-    program: &P,
-    block: &Block<'_>,
-    kept: &mut KeptRows,
-    row: &[u32],
-    action: ActionId,
-) -> Result<(), OutOfMemory>
-    requires block { AreBlock (P.program program.now) block.now }
-    requires room { length row.now ≡ block.now.columns.width }
-    requires row { IsRowOf (P.program program.now) block.now.columns action row.now }
-    requires kept { AreKept (P.program program.now) block.now kept.old }
-    requires action { IsAction (P.program program.now) action }
-    requires not_yet { IsKept kept.old (action_place block.now.notes.now.places.firsts.items action) → ⊥ }
-    ensures { OnOk result (IsRowTaken (P.program program.now) block.now action kept.old kept.new) }
-{
-    let _ = program.agents();
-    let place = block.notes.places.place(action.agent, action.number);
-    if block.notes.lasts[place] > 0 {
-        kept.keep(place, row)?;
-    }
-    Ok(())
+    pass.add_row(program, block, row, action)
 }
 
 /// Lets the rows of these actions go, of each if no tick after this one takes it.

@@ -10,14 +10,15 @@ ghost use Rattle.fleet_rows.specs.Takers.{AreNoted};
 use crate::action_places::ActionPlaces;
 use crate::due_rows::DueRows;
 use crate::finish_order::FinishOrder;
-use crate::takers::note_ticks;
+use crate::takers::note_run;
+use fleet_machine::Machine;
 use fleet_model::{OutOfMemory, ProgramView, total_moves};
 use std::alloc::Global;
 
 /// The places of the actions, the last of so many ticks that takes each, the order in which they finish, and the rows
 /// that are due to go after each tick.
 #[derive(Drop)]
-pub(crate) struct RunNotes {
+pub struct RunNotes {
     pub(crate) places: ActionPlaces,
     pub(crate) ticks: u32,
     pub(crate) lasts: Vec<u32>,
@@ -27,7 +28,7 @@ pub(crate) struct RunNotes {
 
 impl RunNotes {
     /// The notes on a program, for so many ticks.
-    pub(crate) fn of<P: ProgramView>(
+    pub fn of<P: ProgramView>(
         alloc: Global,
         program: &P,
         ticks: u32,
@@ -66,6 +67,7 @@ fn noted<P: ProgramView>(
     let actions = total_moves(program) as usize;
     let mut lasts = vec![in alloc; 0; actions]?;
     let mut order = FinishOrder::new(alloc, actions, ticks)?;
-    note_ticks(alloc, program, places, ticks, &mut lasts, &mut order)?;
+    let mut machine = Machine::start(alloc, program)?;
+    note_run(program, places, ticks, &mut machine, &mut lasts, &mut order)?;
     Ok((lasts, order))
 }

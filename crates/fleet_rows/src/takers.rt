@@ -15,36 +15,14 @@ use crate::action_places::ActionPlaces;
 use crate::finish_order::FinishOrder;
 use fleet_machine::Machine;
 use fleet_model::{ActionId, MAX_AGENTS, OutOfMemory, ProgramView};
-use std::alloc::Global;
 
 /// No run without holds has more ticks.
 const MAX_TICKS: u32 = u32::MAX;
 
 /// Notes for each action, by its place, the last of so many ticks in which an action is finished that directly needs
-/// it, and the order in which the actions finish. At first the list has 0 for each action. Ticks count from 1.
-pub(crate) fn note_ticks<P: ProgramView>(
-    alloc: Global,
-    program: &P,
-    places: &ActionPlaces,
-    ticks: u32,
-    lasts: &mut [u32],
-    order: &mut FinishOrder,
-) -> Result<(), OutOfMemory>
-    requires range { AreInRange (P.program program.now) }
-    requires places { ArePlaces (P.program program.now) places.now.firsts.items }
-    requires all { length lasts.old ≡ total_moves (P.program program.now) }
-    requires order { IsOrder (P.program program.now) order.old }
-    requires first { length order.old.ends.items ≡ 1 }
-    ensures noted { OnOk result (AreNoted (P.program program.now) places.now.firsts.items ticks lasts.new) }
-    ensures order { OnOk result (IsOrder (P.program program.now) order.new) }
-    ensures ticks { OnOk result (length order.new.ends.items ≡ ticks + 1) }
-{
-    let mut machine = Machine::start(alloc, program)?;
-    note_run(program, places, ticks, &mut machine, lasts, order)
-}
-
-/// The same, by a machine that is at the start.
-fn note_run<P: ProgramView>(
+/// it, and the order in which the actions finish, by a machine that is at the start. At first the list has 0 for each
+/// action. Ticks count from 1.
+pub(crate) fn note_run<P: ProgramView>(
     program: &P,
     places: &ActionPlaces,
     ticks: u32,

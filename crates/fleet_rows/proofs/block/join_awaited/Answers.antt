@@ -14,7 +14,7 @@ loop-k-preserved g c = record {
   part = λ j m h.
       let p = g.P.ProgramView.program c.args.program.now in
       let made = c.awaited_row-place.ensures in
-      let within = c.requires.block.within j m h in
+      let within = c.requires.can.block.within j m h in
       let long : length c.loop-k.row ≡ length c.args.row.now = c.loop-k.auto.row in
       subst (IsJoined (OfFirst (c.loop-k.k + 1)) p c.args.agent c.args.finished j) (sym (c.join_into.ensures m (omega (arith, within, long, c.requires.row))))
       (part_more p c.args.agent c.args.finished j c.loop-k.k _ c.awaited_row-place.result.0 _ (c.loop-k.invariant.part j m h) made.at (made.counts j m h));

@@ -1,30 +1,16 @@
-use Rattle.std.proofs.Common.{◌≡◌, ◌+◌, ◌-◌, ◌≤◌, ℕ, refl, sym, subst, slice_index, ◌∙◌, arith, inl, inr}
-use Rattle.std.specs.Prelude.{slice_get, Some}
-use Rattle.std.proofs.lemmas.Option.{slice_get_within, get_or_from_slice_get}
+use Rattle.std.proofs.Common.{◌≡◌, ◌+◌, ◌-◌, ◌≤◌, ℕ, sym, subst, slice_index, ◌∙◌, arith}
 use Rattle.fleet_model.specs.declared.program.ActionId.{ActionId}
-use Rattle.fleet_model.specs.Program.{awaits_of}
-use Rattle.fleet_model.specs.Chain.{IsAction, Reaches, awaited}
+use Rattle.fleet_model.specs.Chain.{IsAction, Reaches}
 use Rattle.fleet_rows.specs.Block.{HasColumn}
 use Rattle.fleet_rows.specs.Rows.{IsColumn}
-use Rattle.fleet_rows.proofs.Joining.{awaited_action, row_whole, numbered}
+use Rattle.fleet_rows.proofs.Joining.{can_next, row_whole, numbered}
 use Rattle.fleet_rows.proofs.block.make_row.Goals as goal
 
-pub begin_row-requires-clause-before : goal.begin_row-requires-clause-before
-begin_row-requires-clause-before g c = λ some.
-    let a : ActionId = c.args.action in
-    let l = c.requires.can.action.last in
-    c.requires.can.needed (record { agent = a.agent; number = a.number - 1 })
-    (record { agent = c.requires.can.action.agent; first = some; last = omega arith })
-    (inl (refl, omega (arith, c.requires.can.action.first), some))
+pub begin_row-requires-clause-can : goal.begin_row-requires-clause-can
+begin_row-requires-clause-can g c = can_next (g.P.ProgramView.program c.args.program.now) c.args.block.now c.args.kept.now c.args.action c.requires.can
 
-pub join_awaited-requires-clause-awaited : goal.join_awaited-requires-clause-awaited
-join_awaited-requires-clause-awaited g c = λ k w at.
-    let p = g.P.ProgramView.program c.args.program.now in
-    let a : ActionId = c.args.action in
-    let e : a.number - 1 + 1 ≡ a.number = omega (arith, c.requires.can.action.first) in
-    let there : slice_get (awaits_of p a.agent a.number) k ≡ Some w = subst (λ (n : ℕ). slice_get (awaits_of p a.agent n) k ≡ Some w) e at in
-    c.requires.can.needed (awaited w) (awaited_action p c.requires.range a.agent a.number k w there)
-    (inr (k, slice_get_within (awaits_of p a.agent a.number) k w there, get_or_from_slice_get (awaits_of p a.agent a.number) k w w there))
+pub join_awaited-requires-clause-can : goal.join_awaited-requires-clause-can
+join_awaited-requires-clause-can g c = can_next (g.P.ProgramView.program c.args.program.now) c.args.block.now c.args.kept.now c.args.action c.requires.can
 
 pub returns : goal.returns
 returns g c = λ j k h.

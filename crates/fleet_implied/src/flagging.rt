@@ -1,0 +1,41 @@
+//! Flags of awaits that others imply, by the rows of a block: the use of each row.
+
+use crate::await_flags::flag_awaits;
+use crate::implied::ImpliedAwaits;
+use fleet_model::{ActionId, OutOfMemory, ProgramView};
+use fleet_rows::{Block, RowPass, RowUse, others_row, whole_row};
+
+impl RowUse for ImpliedAwaits {
+    ghost use Rattle.std.proofs.Common.{refl, ◌∙◌};
+    ghost use Rattle.fleet_implied.specs.Flags.{AreLeft, AreFlagsOf};
+
+    ghost used = { AreFlagsOf };
+
+    ghost keeps = { λ p b old new. AreLeft p b.columns old.flags.items new.flags.items };
+
+    /// Its awaits are flagged on the way to the row of the action.
+    fn use_row<P: ProgramView>(
+        &mut self,
+        program: &P,
+        block: &Block<'_>,
+        pass: &RowPass,
+        row: &mut [u32],
+        action: ActionId,
+    ) -> Result<(), OutOfMemory> {
+        others_row(program, block, pass, row, action);
+        flag_awaits(
+            program,
+            &block.columns,
+            &self.places,
+            row,
+            action,
+            &mut self.flags,
+        );
+        whole_row(program, block, pass, row, action);
+        Ok(())
+    }
+
+    ghost same = { λ p b s a is k w at none. refl };
+
+    ghost joined = { λ p b s t u h g a is k w at none. g a is k w at none ∙ h a is k w at none };
+}

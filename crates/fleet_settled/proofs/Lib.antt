@@ -1,0 +1,3 @@
+pub mod AwaitOrder
+mod Settling
+mod Ticking

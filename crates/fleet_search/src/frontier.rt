@@ -89,6 +89,14 @@ impl Query<'_> {
         self.reserved.step_fits(begin, left.state.cell, cell)
     }
 
+    /// Whether the agent may come to rest at the state.
+    #[inline(always)]
+    fn is_goal(&self, state: State) -> bool
+        ensures { IsTrue result ↔ IsGoalState self.now state }
+    {
+        state.cell == self.goal && self.goal_free_from <= u32::from(state.time)
+    }
+
     /// The bucket for a state at this time, so far from the goal.
     fn bucket(&self, time: u32, heuristic: u32) -> u32
         requires horizon { time + heuristic ≤ MAX_HORIZON }
@@ -425,7 +433,7 @@ impl Frontier {
         let before = self.len();
         while let Some(place) = self.take(bucket) {
             let state = self.node(place).state;
-            if state.cell == query.goal && query.goal_free_from <= u32::from(state.time) {
+            if query.is_goal(state) {
                 return Ok(BucketEnd::Goal(place));
             }
             self.expand(query, bucket, place, state)?;

@@ -1,6 +1,5 @@
 use Rattle.std.proofs.Common.{◌≡◌, ◌-◌, None, Some, length, sym, ap, ◌∙◌, subst, arith}
 use Rattle.std.proofs.lemmas.List.{length_push}
-use Rattle.fleet_model.proofs.Cells.{is_same_cell-true}
 use Rattle.fleet_search.specs.declared.frontier.Node.{Node}
 use Rattle.fleet_search.specs.Frontier.{Exploration}
 use Rattle.fleet_search.specs.Labels.{earliest_in}
@@ -25,12 +24,12 @@ pub expand-requires-clause-left : goal.expand-requires-clause-left
 expand-requires-clause-left c =
     subst (λ (z : Node). IsLeft c.args.query.now c.args.bucket c.take.new.self c.in-Some.place z.state) (sym c.node.ensures) (taken-left c.args.query.now c.args.bucket c.in-Some.place c.loop-place.self c.take.new.self c.loop-place.invariant.0 c.in-Some.ensures.some)
 
-pub returns-then-query-from : goal.returns-then-query-from
-returns-then-query-from c =
+pub returns-then-is_goal : goal.returns-then-is_goal
+returns-then-is_goal c =
     let q = c.args.query.now in
     let s = c.loop-place.self in
     let t = c.take.new.self in
-    let end = subst (λ (z : Node). IsGoalState q z.state) c.node.ensures (is_same_cell-true c.node.result.state.cell q.goal (sym c.eq.ensures ∙ c.if-eq.true), (let late = c.if-query-from.true in omega arith)) in
+    let end = subst (λ (z : Node). IsGoalState q z.state) c.node.ensures (c.is_goal.ensures.0 c.if-is_goal.true) in
     (taken-off q c.args.bucket c.in-Some.place s t c.loop-place.invariant.0 c.in-Some.ensures.some, taken-left q c.args.bucket c.in-Some.place s t c.loop-place.invariant.0 c.in-Some.ensures.some, end)
 
 pub returns-then-len-before : goal.returns-then-len-before

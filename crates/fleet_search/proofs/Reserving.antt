@@ -47,12 +47,16 @@ reserved-kept paths old new last h occupancies = record {
   occupancies = occupancies;
 }
 
-pub reserved-pushed : (paths all : Plan) (old new : ReservationTable) (last last' : ℕ) (path copy : List Cell) (end : ℕ) → AreReserved paths old last → Fits paths path → IsPath path → HaveOccupancies (joined paths path) new → copy ≡ path → all ≡ paths ++ copy ∷ [] → end + 1 ≡ length path → last' ≡ max last end → AreReserved all new last'
-reserved-pushed paths all old new last last' path copy end h fits is_path occupancies f g e m =
+-- the latest arrival is that of the paths before, or that of the path
+pub latest_joined : (paths : Plan) (path : List Cell) (last end : ℕ) → last ≡ steps paths → end + 1 ≡ length path → max last end ≡ steps (joined paths path)
+latest_joined paths path last end l e = omega (arith, steps_push paths path)
+
+pub reserved-pushed : (paths all : Plan) (old new : ReservationTable) (last last' : ℕ) (path copy : List Cell) → AreReserved paths old last → Fits paths path → IsPath path → HaveOccupancies (joined paths path) new → copy ≡ path → all ≡ paths ++ copy ∷ [] → last' ≡ steps (joined paths path) → AreReserved all new last'
+reserved-pushed paths all old new last last' path copy h fits is_path occupancies f g m =
     let p : joined paths path ≡ all = ap (λ z. paths ++ z ∷ []) (sym f) ∙ sym g in
     subst (λ z. AreReserved z new last') p (record {
       together = FitTogether-push paths path h.together fits;
       all_paths = all-push paths path h.all_paths is_path;
-      latest = let l = h.latest in omega (arith, steps_push paths path);
+      latest = m;
       occupancies = occupancies;
     })

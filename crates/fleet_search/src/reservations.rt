@@ -3,8 +3,8 @@
 ghost use Rattle.std.specs.Prelude.{◌≡◌, ◌<◌, ◌≤◌, ◌↔◌, ◌++◌, ◌∷◌, [], ℕ, IsTrue, IfSome, IfNone, IfOk, OnOk, OnErr};
 ghost use Rattle.fleet_model.specs.declared.geometry.Cell.{Cell};
 ghost use Rattle.fleet_model.specs.declared.limits.TheConstants.{MAX_HORIZON};
-ghost use Rattle.fleet_plan.specs.Plan.{steps};
-ghost use Rattle.fleet_search.specs.Way.{Fits, FitTogether, StepFits};
+ghost use Rattle.fleet_plan.specs.Plan.{IsPath, steps};
+ghost use Rattle.fleet_search.specs.Way.{Fits, FitTogether, StepFits, joined};
 ghost use Rattle.fleet_search.specs.Occupancies.{HaveOccupancies};
 ghost use Rattle.fleet_search.specs.Reserved.{IsOn, IsUnoccupied, IsFreeFrom, LeadsBack};
 
@@ -64,6 +64,15 @@ impl Reservations {
         ensures together { FitTogether self.now }
     {
         self.last
+    }
+
+    /// The time of the latest arrival, that of the path among them.
+    #[tactic(auto, using(crate::proofs::Reserving::latest_joined))]
+    fn steps_with(&self, path: &Path) -> u32
+        ensures time { result ≡ steps (joined self.now path.now) }
+        ensures limits { IsPath path.now }
+    {
+        self.last.max(path.steps())
     }
 
     /// For each cell the occupancies on it.
@@ -185,11 +194,12 @@ impl Reservations {
         ensures ok { OnOk result (self.new ≡ self.old ++ path.now ∷ []) }
         ensures err { OnErr result (self.new ≡ self.old) }
     {
+        let last = self.steps_with(path);
         let copy = copy_of(self.alloc, path)?;
         self.paths.reserve(1)?;
         self.table.insert(self.paths.as_slice(), path)?;
         self.paths.push(copy)?;
-        self.last = self.last.max(path.steps());
+        self.last = last;
         Ok(())
     }
 

@@ -22,6 +22,15 @@ export PATH LC_ALL
 passed=0 failed=0 skipped=0
 room=$work/room
 
+# bytes HEX..: the bytes that the digits spell.
+cat > "$work/bin/bytes" <<'EOF'
+#!/bin/sh
+printf "$(echo "$*" | awk '
+    function digit(at) { return index("0123456789ABCDEF", substr($0, at, 1)) - 1 }
+    { gsub(/ /, ""); for (i = 1; i < length($0); i += 2) printf "\\%03o", 16 * digit(i) + digit(i + 1) }')"
+EOF
+chmod +x "$work/bin/bytes"
+
 # A new folder in which commands run, with a copy of the examples and of the tools.
 enter() {
     room=$work/room/$1

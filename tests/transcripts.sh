@@ -1,15 +1,6 @@
 # Transcripts of whole commands on the fleets of tests/worked.txt: tests/transcripts/ has a page for each subject, whose fences are run as those of
 # the documents.
 
-# bytes HEX..: the bytes that the digits spell.
-cat > "$work/bin/bytes" <<'END'
-#!/bin/sh
-printf "$(echo "$*" | awk '
-    function digit(at) { return index("0123456789ABCDEF", substr($0, at, 1)) - 1 }
-    { gsub(/ /, ""); for (i = 1; i < length($0); i += 2) printf "\\%03o", 16 * digit(i) + digit(i + 1) }')"
-END
-chmod +x "$work/bin/bytes"
-
 # The worked fleets, a file for each part of tests/worked.txt.
 mkdir "$work/worked" "$work/hex"
 awk -v worked="$work/worked/" -v hex="$work/hex/" '

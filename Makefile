@@ -15,7 +15,7 @@ help:
 	@echo 'make demo                  builds the program (the first time a quarter of an hour) and shows it on examples'
 	@echo 'make install PREFIX=DIR    puts the program at DIR/bin/fleet ($(PREFIX) where none is given)'
 	@echo 'make test                  the gate: proofs, tests, edits that must fail, and then the examples'
-	@echo 'make examples              runs the program on every example of the documents, and on files and streams at their limits'
+	@echo 'make examples              runs the program on every example of the documents, on transcripts and tables, and on files and streams at their limits'
 	@echo 'make examples FLEET=PATH   the same of another program'
 	@echo 'make picture               draws the film and the chart of the README anew, docs/warehouse.svg and docs/waits.svg'
 	@echo 'make definitions           writes docs/DEFINITIONS.md anew, from the comments in crates/*/specs'

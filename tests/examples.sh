@@ -1,7 +1,8 @@
 #!/bin/sh
 # Runs a built program as a user would, and compares what it prints, what it prints on standard error and its status with what is due, to the letter:
 #     tests/examples.sh FLEET
-# Every fenced example of README.md and docs/, and what they cannot show: help, files, standard streams, the warehouse. `make examples` calls it.
+# Every fenced example of README.md and docs/, and what they cannot show: help, transcripts, texts, files, standard streams, the warehouse. `make
+# examples` calls it.
 # The last line counts: `examples: N passed, M failed`.
 
 root=$(cd "$(dirname "$0")/.." && pwd) || exit 2
@@ -20,6 +21,15 @@ LC_ALL=C
 export PATH LC_ALL
 passed=0 failed=0 skipped=0
 room=$work/room
+
+# bytes HEX..: the bytes that the digits spell.
+cat > "$work/bin/bytes" <<'EOF'
+#!/bin/sh
+printf "$(echo "$*" | awk '
+    function digit(at) { return index("0123456789ABCDEF", substr($0, at, 1)) - 1 }
+    { gsub(/ /, ""); for (i = 1; i < length($0); i += 2) printf "\\%03o", 16 * digit(i) + digit(i + 1) }')"
+EOF
+chmod +x "$work/bin/bytes"
 
 # A new folder in which commands run, with a copy of the examples and of the tools.
 enter() {
@@ -69,9 +79,10 @@ skip() {
     echo "skipped: $1"
 }
 
-# Each example of a document, in the order of the document, in one room.
+# document ROOM PAGE [FILES]: each example of a document, in the order of the document, in one room, with the files of a folder.
 document() {
     enter "$1"
+    [ -z "$3" ] || cp "$3"/* "$room/"
     mkdir "$work/$1"
     awk -v to="$work/$1" -f "$root/tests/fenced.awk" "$root/$2"
     for cmd in "$work/$1"/*.cmd; do
@@ -85,7 +96,7 @@ document() {
     done
 }
 
-for section in documents commands warehouse plans tools files limits streams memory; do
+for section in documents commands transcripts texts conflicts warehouse plans tools files limits streams memory; do
     . "$root/tests/$section.sh"
 done
 

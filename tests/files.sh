@@ -3,9 +3,12 @@
 enter files
 M=examples/corridor.map S=examples/corridor.scen P=examples/corridor.plan B=examples/corridor.program H=examples/corridor.holds
 
-# Each file that a command reads is missing in turn. `@` stands for the missing one.
+# Each file that a command reads is missing in turn, alone and with those that are read after it. `@` stands for the missing one.
+echo old > "$room/kept"
 while read -r words; do
     check "a missing file: $words" 3 '' 'file nowhere\n' "fleet $(echo "$words" | sed 's/@/nowhere/')"
+    check "a missing file, and those after it: $words" 3 '' 'file nowhere\n' \
+        "fleet $(echo "$words" | awk '{ for (i = 1; i <= NF; i++) { if (after && $i ~ /^examples/) $i = "none"; if ($i == "@") { $i = "nowhere"; after = 1 } } print }')"
     check "a folder: $words" 3 '' 'file examples\n' "fleet $(echo "$words" | sed 's/@/examples/')"
     check "an empty name: $words" 3 '' 'file \n' "fleet $(echo "$words" | sed "s/@/''/")"
 done <<EOF
@@ -16,33 +19,35 @@ check $M @ $P
 check $M $S @
 plan @ $S
 plan $M @
-compile @ $S $P out
-compile $M @ $P out
-compile $M $S @ out
+compile @ $S $P kept
+compile $M @ $P kept
+compile $M $S @ kept
 verify @ $S $B
 verify $M @ $B
 verify $M $S @
-run @ $S $B
-run $M @ $B
-run $M $S @
+run @ $S $B --holds $H
+run $M @ $B --holds $H
+run $M $S @ --holds $H
 run $M $S $B --holds @
-rehearse @
+rehearse @ --holds $H
 rehearse $B --holds @
-auto @ $S
-auto $M @
+auto @ $S --holds $H
+auto $M @ --holds $H
 auto $M $S --holds @
-thin @ $S $B out
-thin $M @ $B out
-thin $M $S @ out
-migrate @ out
+thin @ $S $B kept
+thin $M @ $B kept
+thin $M $S @ kept
+migrate @ kept
 list @
 dispatch @ $S $B
 dispatch $M @ $B
 dispatch $M $S @
 EOF
+check 'OUT stays as it was where a file is missing' 0 'old\n' '' 'cat kept'
 check 'the first of two missing files is reported' 3 '' 'file a\n' 'fleet check a b c'
 check 'files are read before any is judged' 3 '' 'file nowhere\n' "fleet auto $S $S --holds nowhere"
-check 'no OUT where a file is missing' 1 '' '' 'ls | grep out'
+check 'no OUT where a file is missing' 3 '' 'file nowhere\n' "fleet compile $M $S nowhere out"
+check 'so there is none' 1 '' '' 'ls | grep out'
 
 if [ "$(id -u)" = 0 ]; then
     skip 'files that may not be read or written: root may read and write all'
@@ -99,6 +104,8 @@ check 'no program' 1 '' 'load 2 Magic\n' "echo kept > out && fleet migrate $M ou
 check 'OUT stays as it was where there is no program' 0 'kept\n' '' 'cat out'
 check 'OUT of a program in no folder' 3 '' 'file no/out\n' "fleet migrate $B no/out"
 check 'OUT of a program is full' 3 '' 'file /dev/full\n' "fleet migrate $B /dev/full"
+check 'OUT of a thinned program in no folder' 3 '' 'file no/out\n' "fleet thin $M $S $B no/out"
+check '.. is full' 3 '' 'file /dev/full\n' "fleet thin $M $S $B /dev/full"
 check 'OUT has a blank in its name' 0 "$numbers" '' "fleet compile $M $S $P 'a b' && cmp 'a b' $B"
 check 'a name of one dash is a file' 0 "$numbers" '' "fleet compile $M $S $P - && cmp ./- $B && rm ./-"
 check 'a file of one dash is missing' 3 '' 'file -\n' 'fleet rehearse -'

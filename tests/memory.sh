@@ -98,10 +98,14 @@ verify $on unordered
 run $on examples/pair.program
 run $on examples/pair.program --holds examples/corridor.holds
 rehearse examples/pair.program
+rehearse examples/pair.program --holds examples/corridor.holds
+rehearse examples/pair.map
 list examples/pair.program
 migrate examples/pair.program out
+migrate examples/pair.map out
 migrate pair2 out
 auto $on
+auto $on --holds examples/corridor.holds
 auto $on --horizon 1
 auto mouth.map mouth.scen --tries 2
 thin $on examples/pair.program out

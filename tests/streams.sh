@@ -25,10 +25,15 @@ thin $M $S $B out
 list $B
 dispatch $M $S $B
 EOF
+check 'standard output is full: help' 3 '' 'file -\n' 'fleet --help > /dev/full'
 check 'standard output is full: no words' 3 '' 'run 4 Write\n' 'fleet < examples/corridor.hex > /dev/full'
 check 'standard output is closed: no words' 3 '' 'run 4 Write\n' 'fleet < examples/corridor.hex >&-'
 check 'OUT stands where the numbers cannot be printed' 0 '' '' "cmp out $B"
 check 'a refusal writes nothing to a full standard output' 1 '' 'scen 11 Fewer\n' "fleet instance $M $S --agents 9 > /dev/full"
+check 'the lines before a refusal, into a full standard output' 3 '' 'run 4 Write\n' "printf '%s\n' 0 0 9 > wrong; fleet auto $M $S --holds wrong > /dev/full"
+check '.. of a rehearsal' 3 '' 'run 4 Write\n' "fleet rehearse $B --holds wrong > /dev/full"
+check '.. where there are none' 1 '' 'search 2 NoPath agent 0\n' "fleet auto $M $S --horizon 1 > /dev/full"
+check '.. nor of a rehearsal' 1 '' 'load 2 Magic\n' "fleet rehearse $M > /dev/full"
 check 'a refusal that cannot be written has its status' 1 '' '' "fleet instance $M $S --agents 9 2> /dev/full"
 check 'the same of a missing file' 3 '' '' 'fleet rehearse nowhere 2>&-'
 check 'the same of wrong usage' 2 '' '' 'fleet nothing 2> /dev/full'
@@ -70,3 +75,76 @@ check 'a file-size limit that ends no program' 3 '' 'run 4 Write\n' \
     "(trap '' XFSZ; ulimit -f 1; fleet auto examples/warehouse.map examples/warehouse.scen > big)"
 check 'the file has the front of the trace' 0 '' '' \
     'fleet auto examples/warehouse.map examples/warehouse.scen > whole; n=$(wc -c < big); [ $n -ge 512 ] && head -c $n whole | cmp - big'
+
+# Streams that fail after some bytes, however many (tests/streams.c).
+STREAMS=$work/bin/streams.so
+export STREAMS
+
+# output_cut WAY LINE COMMAND..: standard output takes 0 bytes, or one more each time, and then fails in this way. Prints `each` if the program said the
+# line, with status 3, and the front of what it prints was taken; and where it was not so, after how many bytes.
+cat > "$work/bin/output_cut" <<'EOF'
+#!/bin/sh
+WAY=$1 line=$2
+export WAY
+shift 2
+"$@" > whole < "$input"
+bytes=$(wc -c < whole) wrong= room=0
+while [ "$room" -lt "$bytes" ]; do
+    env ROOM="$room" LD_PRELOAD="$STREAMS" "$@" > got 2> told < "$input"
+    [ "$? $(cat told)" = "3 $line" ] && head -c "$room" whole | cmp -s - got || wrong="$wrong $room"
+    room=$((room + 1))
+done
+[ "$bytes" -ge 20 ] && echo "each$wrong"
+EOF
+
+# input_cut WAY COMMAND..: the same of standard input. Prints how many bytes it has, and after how many the program did not say that it cannot be read, with
+# status 3.
+cat > "$work/bin/input_cut" <<'EOF'
+#!/bin/sh
+WAY=$1
+export WAY
+shift
+bytes=$(wc -c < "$input") heard= rest=0
+while [ "$rest" -le "$bytes" ]; do
+    env REST="$rest" LD_PRELOAD="$STREAMS" "$@" > got 2> told < "$input"
+    [ "$? $(cat told)" = '3 file -' ] || heard="$heard $rest"
+    rest=$((rest + 1))
+done
+echo $bytes:$heard
+EOF
+chmod +x "$work/bin/output_cut" "$work/bin/input_cut"
+check 'a report without an end is heard up to a length' 1 'go 0 1,0 2,0\n' 'dispatch 2 Form line 1\n' "head -c 20000 /dev/zero | tr '\\0' 0 | fleet dispatch $pair"
+if ${CC:-cc} -shared -fPIC -o "$STREAMS" "$root/tests/streams.c" -ldl 2> /dev/null; then
+    printf '%s\n' 0 '0 1' 1 > "$room/lines"
+    # 32 is a broken pipe; in the way 0 nothing is taken, and no error answered.
+    while IFS='|' read -r way line input words; do
+        check "standard output is cut ($way): ${words:-no words}" 0 'each\n' '' "input=$input output_cut $way '$line' fleet $words"
+    done <<EOF
+32|run 4 Write|examples/pair.hex|
+32|run 4 Write|/dev/null|rehearse examples/pair.program
+0|run 4 Write|/dev/null|rehearse examples/pair.program
+32|run 4 Write|/dev/null|run $pair
+32|run 4 Write|/dev/null|auto examples/pair.map examples/pair.scen
+32|file -|/dev/null|plan examples/pair.map examples/pair.scen
+32|file -|/dev/null|list examples/pair.program
+0|file -|/dev/null|list examples/pair.program
+32|dispatch 5 Write|lines|dispatch $pair
+0|dispatch 5 Write|lines|dispatch $pair
+EOF
+    # 4 is an interrupted read, and 5 a failed one. The last report ends a dispatch, so nothing is read after it.
+    bytes=$(wc -c < "$room/examples/pair.hex" | tr -d ' ')
+    for way in 4 5; do
+        check "standard input is cut ($way): no words" 0 "$bytes:\n" '' "input=examples/pair.hex input_cut $way fleet"
+        check "standard input is cut ($way): dispatch" 0 '8: 8\n' '' "input=lines input_cut $way fleet dispatch $pair"
+    done
+
+    # Two agents await each other, the second one 100,000 actions of the first.
+    ring="printf 'type t\\nheight 2\\nwidth 2\\nmap\\n..\\n..\\n' > ring.map && printf 'version 1\\n0 m 2 2 0 0 0 0 0\\n0 m 2 2 0 1 1 1 0\\n' > ring.scen &&
+        { bytes 4D504632 0002 0000 0000 0000 0000 000186A0 10 0001 00000001; yes \"\$(printf '\\1\\3')\" | tr -d '\\n' | head -c 100000
+        bytes 0000 0001 0001 0001 00000001 10 0000 000186A0 01; } > ring"
+    length=$(awk 'BEGIN { for (k = 1; k <= 100000; k++) n += length(" 0:" k); print n + length("verify 7 Cyclic 1:1\n") }')
+    check 'a long refusal is written in few pieces' 1 "$length\nfew\n" '' \
+        "$ring; WRITES=writes LD_PRELOAD=$STREAMS fleet verify ring.map ring.scen ring 2> told; status=\$?; wc -c < told | tr -d ' '; [ \$(cat writes) -le 200 ] && echo few; exit \$status"
+else
+    skip 'streams that fail after some bytes: there is no compiler of C'
+fi

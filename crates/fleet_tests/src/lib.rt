@@ -1,29 +1,17 @@
-//! Tests of all crates, through their public functions: tables and transcripts, and ends that fail. Without its tests the crate has nothing.
+//! Tests of all crates, through their public functions, of what the built program cannot show (`tests/`). Without its tests the crate has nothing.
 #![tactic(auto)]
 
 #[cfg(test)]
-mod commands;
+mod call_tests;
 #[cfg(test)]
-mod file_tests;
+mod changed_tests;
 #[cfg(test)]
-mod large_tests;
+mod fleets;
 #[cfg(test)]
-mod memory_tests;
+mod path_tests;
 #[cfg(test)]
-mod planning_tests;
-#[cfg(test)]
-mod readers;
-#[cfg(test)]
-mod reading_tests;
-#[cfg(test)]
-mod run_tests;
+mod sentence_tests;
 #[cfg(test)]
 mod stream_tests;
 #[cfg(test)]
 mod streams;
-#[cfg(test)]
-mod table;
-#[cfg(test)]
-mod transcripts;
-#[cfg(test)]
-mod worked;

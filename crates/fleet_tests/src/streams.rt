@@ -1,8 +1,6 @@
-//! The ends of a run that fail at a byte or at a call, and count what they take: a source, a writer, a reader and a store.
+//! The ends of a run that fail at a byte or at a call: a source, a writer and a reader.
 
-use fleet_files::{FileFault, Files, MemFiles};
 use fleet_run::{HoldSource, SourceFault, clear};
-use std::alloc::Global;
 use std::io;
 use std::io::{ErrorKind, Read, Write};
 
@@ -34,31 +32,27 @@ impl HoldSource for FailingSource {
     }
 }
 
-/// A writer that takes so many bytes in all, so many of them at most in one call, can be flushed so many times, and then fails so: takes nothing more, or answers
-/// an error.
+/// A writer that takes so many bytes, one at a time, can be flushed so many times, and then fails so: takes nothing more, or answers an error.
 #[derive(Drop)]
 pub struct ShortWriter {
     /// What it has taken.
     pub bytes: Vec<u8>,
     pub room: usize,
-    pub most: usize,
-    pub flushes: u16,
+    pub flushes: usize,
     pub failing: Option<ErrorKind>,
-    /// How often it was written to.
-    pub calls: u32,
 }
 
 impl Write for ShortWriter {
     fn write(&mut self, buf: &[u8]) -> io::Result<usize> {
-        self.calls = self.calls.saturating_add(1);
-        let room = self.room.saturating_sub(self.bytes.len()).min(self.most);
-        let count = if room < buf.len() { room } else { buf.len() };
-        match self.failing {
-            Some(kind) if count == 0 => Err(io::Error::from(kind)),
-            _ => {
-                self.bytes.extend_from_slice(&buf[..count])?;
-                Ok(count)
+        if self.bytes.len() < self.room {
+            if let Some(byte) = buf.first() {
+                self.bytes.push(*byte)?;
+                return Ok(1);
             }
+        }
+        match self.failing {
+            Some(kind) => Err(io::Error::from(kind)),
+            None => Ok(0),
         }
     }
 
@@ -92,35 +86,5 @@ impl<'a> Read for ShortReader<'a> {
         *place = *byte;
         self.rest = rest;
         Ok(1)
-    }
-}
-
-/// A store that can be read and written so many times, and then fails so.
-#[derive(Drop)]
-pub struct FailingFiles {
-    pub files: MemFiles,
-    pub left: usize,
-    pub fault: FileFault,
-}
-
-impl Files for FailingFiles {
-    ghost use Rattle.std.specs.Prelude.{None};
-
-    ghost contents = { λ _. None };
-
-    fn read(&mut self, alloc: Global, name: &str) -> Result<Vec<u8>, FileFault> {
-        if self.left == 0 {
-            return Err(self.fault);
-        }
-        self.left -= 1;
-        self.files.read(alloc, name)
-    }
-
-    fn write(&mut self, name: &str, bytes: &[u8]) -> Result<(), FileFault> {
-        if self.left == 0 {
-            return Err(self.fault);
-        }
-        self.left -= 1;
-        self.files.write(name, bytes)
     }
 }

@@ -1,0 +1,224 @@
+//! What users of the crates call and no command does: on the pair, on a train, and where a growth is refused.
+
+use crate::fleets::{
+    HELD_TEXT, HELD_TRACE, LATE_HEX, PAIR_BYTES, PAIR_HEX, PAIR_MAP, PAIR_SCEN, STAYING_HEX,
+    TRAIN_MAP, train_scen,
+};
+use fleet_adg::compile;
+use fleet_auto::{AutoFault, auto_run};
+use fleet_code::{EncodeFault, encode, load, read_hex};
+use fleet_files::{Files, MemFiles};
+use fleet_grid::read_map;
+use fleet_model::{ActionId, Deps};
+use fleet_plan::{read_plan, write_plan};
+use fleet_run::{HoldList, Report, RunFault, TraceOut, VecOut, rehearse, write_holds};
+use fleet_scen::read_scen;
+use fleet_search::plan;
+use fleet_verify::{Reach, verify};
+use std::alloc::Global;
+use std::test::Fail;
+
+/// The trace of the pair with agent 0 held in the first tick, in one call. None without memory.
+fn auto_told(alloc: Global) -> Option<Vec<u8>> {
+    let mut out = VecOut::new(alloc);
+    let holds = b"0\n".as_slice();
+    match auto_run(
+        alloc,
+        PAIR_MAP,
+        PAIR_SCEN,
+        None,
+        1024,
+        Deps::Last,
+        holds,
+        &mut out,
+    ) {
+        Err(AutoFault::OutOfMemory) => None,
+        Err(AutoFault::Run(RunFault::Write)) if out.failed() => None,
+        _ => out.bytes().to_vec(alloc).ok(),
+    }
+}
+
+/// The rehearsal of the pair under a list that holds agent 0, and one that is not there, in the first tick.
+fn list_told(alloc: Global) -> Option<Vec<u8>> {
+    let program = load(alloc, &read_hex(alloc, PAIR_HEX).ok()?).ok()?;
+    let rows = vec![in alloc; vec![in alloc; 0, 9].ok()?].ok()?;
+    let mut out = VecOut::new(alloc);
+    match rehearse(alloc, &program, &mut HoldList::new(rows), &mut out) {
+        Err(RunFault::OutOfMemory) => None,
+        Err(RunFault::Write) if out.failed() => None,
+        _ => out.bytes().to_vec(alloc).ok(),
+    }
+}
+
+/// The program's bytes in version 1, or why it has none.
+fn encoded(alloc: Global, hex: &[u8]) -> Option<Vec<u8>> {
+    let program = load(alloc, &read_hex(alloc, hex).ok()?).ok()?;
+    match encode(alloc, &program) {
+        Ok(bytes) => Some(bytes),
+        Err(EncodeFault::OutOfMemory) => None,
+        Err(EncodeFault::TooLong) => b"too long".to_vec(alloc).ok(),
+        Err(EncodeFault::Dwell) => b"dwell".to_vec(alloc).ok(),
+    }
+}
+
+/// A plan that is read, and written.
+fn plan_told(alloc: Global) -> Option<Vec<u8>> {
+    let plan = read_plan(
+        alloc,
+        b"0,65535\t09,10  99,100 999,1000 9999,10000 65535,0\r\n3,4",
+    )
+    .ok()?;
+    write_plan(alloc, &plan).ok()
+}
+
+/// A list of holds that is written.
+fn holds_told(alloc: Global) -> Option<Vec<u8>> {
+    let held = vec![in alloc; 0, 9, 10].ok()?;
+    write_holds(alloc, &[held, Vec::new(alloc)]).ok()
+}
+
+/// A file that is written over another, and read.
+fn file_told(alloc: Global) -> Option<Vec<u8>> {
+    let mut files = MemFiles::new(alloc);
+    files.put("out", b"old bytes").ok()?;
+    files.write("out", b"bytes").ok()?;
+    files.read(alloc, "out").ok()
+}
+
+/// How many actions of agent 0 the last one of agent 1 needs.
+fn reach_told(alloc: Global) -> Option<Vec<u8>> {
+    let grid = read_map(alloc, PAIR_MAP).ok()?;
+    let instance = read_scen(alloc, PAIR_SCEN, &grid, None).ok()?;
+    let program = load(alloc, &read_hex(alloc, PAIR_HEX).ok()?).ok()?;
+    let accepted = verify(alloc, program, &grid, &instance).ok()?;
+    let reach = Reach::of(alloc, &accepted).ok()?;
+    let count = reach.greatest(
+        ActionId {
+            agent: 1,
+            number: 2,
+        },
+        0,
+    );
+    Some(format!(in alloc; "{count}").ok()?.into_bytes())
+}
+
+#[derive(Clone, Copy)]
+enum Call {
+    Auto,
+    List,
+    Encode,
+    EncodeLate,
+    EncodeStaying,
+    Plan,
+    Holds,
+    File,
+    Reach,
+}
+
+/// What the call answers. None without memory.
+fn told(alloc: Global, call: Call) -> Option<Vec<u8>> {
+    match call {
+        Call::Auto => auto_told(alloc),
+        Call::List => list_told(alloc),
+        Call::Encode => encoded(alloc, PAIR_HEX),
+        Call::EncodeLate => encoded(alloc, LATE_HEX),
+        Call::EncodeStaying => encoded(alloc, STAYING_HEX),
+        Call::Plan => plan_told(alloc),
+        Call::Holds => holds_told(alloc),
+        Call::File => file_told(alloc),
+        Call::Reach => reach_told(alloc),
+    }
+}
+
+/// Each call, and what is due.
+const CALLS: [(Call, &[u8]); 9] = [
+    (Call::Auto, HELD_TRACE),
+    (Call::List, HELD_TEXT),
+    (Call::Encode, PAIR_BYTES),
+    (Call::EncodeLate, b"too long"),
+    (Call::EncodeStaying, b"dwell"),
+    (
+        Call::Plan,
+        b"0,65535 9,10 99,100 999,1000 9999,10000 65535,0\n3,4\n",
+    ),
+    (Call::Holds, b"0 9 10\n-\n"),
+    (Call::File, b"bytes"),
+    (Call::Reach, b"2"),
+];
+
+#[test]
+fn calls_answer(rt: HostRuntime) -> Result<(), Fail> {
+    for (call, due) in CALLS {
+        let bytes = told(rt.alloc(), call).ok_or("memory")?;
+        assert_eq!(rt; bytes.as_slice(), due);
+    }
+    Ok(())
+}
+
+/// `rt try --test --fail-alloc N` refuses the N-th growth of the test, and that one alone. So of two answers one may lack memory, and each other is due.
+#[test]
+fn only_memory_may_be_refused(rt: HostRuntime) {
+    for (call, due) in CALLS {
+        let first = told(rt.alloc(), call);
+        let second = told(rt.alloc(), call);
+        assert!(rt; first.is_some() || second.is_some());
+        assert!(rt; first.is_none_or(|bytes| bytes.as_slice() == due));
+        assert!(rt; second.is_none_or(|bytes| bytes.as_slice() == due));
+    }
+}
+
+/// 128 agents: each action needs as many of every agent before its own, and none of those behind it; in the run agent k goes once the one before it has made room, k ticks
+/// late. No clause says that memory suffices for as many.
+#[test]
+fn a_train_goes_its_way(rt: HostRuntime) -> Result<(), Fail> {
+    let alloc = rt.alloc();
+    let scen = train_scen(alloc)?;
+    let grid = read_map(alloc, TRAIN_MAP)?;
+    let instance = read_scen(alloc, &scen, &grid, None)?;
+    let program = compile(alloc, &plan(alloc, &grid, &instance, 128)?, Deps::Last)?;
+    assert_eq!(rt; encode(alloc, &program)?.len(), 98_950);
+    let Ok(accepted) = verify(alloc, program, &grid, &instance) else {
+        return Err(Fail::from("not accepted"));
+    };
+    let reach = Reach::of(alloc, &accepted)?;
+    for (agent, number, first, due) in [
+        (127, 128, 0, 128),
+        (127, 1, 126, 1),
+        (1, 2, 2, 0),
+        (0, 128, 127, 0),
+    ] {
+        assert_eq!(rt; reach.greatest(ActionId { agent, number }, first), due);
+    }
+    let mut out = VecOut::new(alloc);
+    let report = auto_run(
+        alloc,
+        TRAIN_MAP,
+        &scen,
+        None,
+        128,
+        Deps::Last,
+        b"",
+        &mut out,
+    )?;
+    assert!(rt;
+        report
+            == Report {
+                agents: 128,
+                ticks: 255,
+                chain: 255,
+                held: 0
+            }
+    );
+    Ok(())
+}
+
+#[test]
+fn many_ticks_are_written(rt: HostRuntime) -> Result<(), Fail> {
+    let alloc = rt.alloc();
+    let mut rows = Vec::new(alloc);
+    for _ in 0..100_000 {
+        rows.push(vec![in alloc; 0, 9]?)?;
+    }
+    assert_eq!(rt; write_holds(alloc, &rows)?.len(), 400_000);
+    Ok(())
+}

@@ -1,0 +1,83 @@
+//! Earliest paths past reserved ones.
+
+use fleet_grid::read_map;
+use fleet_model::Cell;
+use fleet_plan::read_plan;
+use fleet_search::{Reservations, SearchFault, earliest};
+use std::alloc::Global;
+use std::test::Fail;
+
+/// Two rows of three cells, and a row whose middle is blocked.
+const ROOM: &[u8] = b"type octile\nheight 2\nwidth 3\nmap\n...\n...\n";
+
+const WALL: &[u8] = b"type octile\nheight 1\nwidth 3\nmap\n.@.\n";
+
+/// The paths that the text names, reserved one after another; none if it is empty.
+fn reserved_of(alloc: Global, text: &[u8]) -> Result<Reservations, Fail> {
+    let mut reserved = Reservations::new(alloc);
+    if text.is_empty() {
+        return Ok(reserved);
+    }
+    let plan = read_plan(alloc, text)?;
+    for i in 0..plan.agents() {
+        let path = plan.path(i);
+        if !reserved.fits(path) {
+            return Err(Fail::from("conflict"));
+        }
+        reserved.reserve(path)?;
+    }
+    Ok(reserved)
+}
+
+/// How many steps the earliest path has, if there is one.
+fn steps_of(
+    alloc: Global,
+    map: &[u8],
+    reserved: &[u8],
+    (start, goal): (Cell, Cell),
+    horizon: u16,
+) -> Result<Option<u32>, Fail> {
+    let grid = read_map(alloc, map)?;
+    let reserved = reserved_of(alloc, reserved)?;
+    match earliest(alloc, &grid, &reserved, start, goal, horizon) {
+        Ok(path) => Ok(Some(path.steps())),
+        Err(SearchFault::NoPath) => Ok(None),
+        Err(SearchFault::OutOfMemory) => Err(Fail::from("memory")),
+    }
+}
+
+/// A map, the paths that are reserved on it, start and goal, the horizon, and how many steps the earliest path has, if there is one.
+type Row = (&'static [u8], &'static [u8], Cell, Cell, u16, Option<u32>);
+
+#[test]
+fn earliest_paths_are_found(rt: HostRuntime) -> Result<(), Fail> {
+    let [west, middle, east] = [0, 1, 2].map(|x| Cell { x, y: 0 });
+    let south = Cell { x: 1, y: 1 };
+    let outside = Cell { x: 3, y: 0 };
+    let below = Cell { x: 0, y: 1 };
+    let rows: [Row; 9] = [
+        (ROOM, b"0,0 0,0 1,0 2,0", south, middle, 3, Some(3)),
+        (ROOM, b"0,0 0,0 1,0 2,0", south, middle, 2, None),
+        (ROOM, b"1,0 2,0", middle, west, 1024, None),
+        (ROOM, b"1,0 2,0", west, middle, 1024, Some(1)),
+        (
+            ROOM,
+            b"2,0 2,0 2,1\n2,1 2,1 1,1 0,1\n1,1 1,1 1,0 1,0 1,1",
+            west,
+            east,
+            1024,
+            Some(5),
+        ),
+        (WALL, b"", middle, middle, 1024, None),
+        (WALL, b"", outside, outside, 1024, None),
+        (WALL, b"", below, below, 1024, None),
+        (WALL, b"", east, east, 1024, Some(0)),
+    ];
+    for (map, reserved, start, goal, horizon, due) in rows {
+        assert_eq!(rt;
+            steps_of(rt.alloc(), map, reserved, (start, goal), horizon)?,
+            due
+        );
+    }
+    Ok(())
+}

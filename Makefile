@@ -9,6 +9,9 @@ SOURCES = crates.txt $(shell find crates -path '*/out' -prune -o \( -name '*.rt'
 
 WAREHOUSE = examples/warehouse.map examples/warehouse.scen
 
+# No rules but these: make would link a program anew of which an object file stands beside it.
+MAKEFLAGS += --no-builtin-rules
+
 .PHONY: help test examples demo picture definitions install
 
 help:

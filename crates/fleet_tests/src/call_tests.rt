@@ -11,7 +11,7 @@ use fleet_files::{Files, MemFiles};
 use fleet_grid::read_map;
 use fleet_model::{ActionId, Deps};
 use fleet_plan::{read_plan, write_plan};
-use fleet_run::{HoldList, Report, RunFault, TraceOut, VecOut, rehearse, write_holds};
+use fleet_run::{HoldList, RunFault, TraceOut, VecOut, rehearse, write_holds};
 use fleet_scen::read_scen;
 use fleet_search::plan;
 use fleet_verify::{Reach, verify};
@@ -85,21 +85,36 @@ fn file_told(alloc: Global) -> Option<Vec<u8>> {
     files.read(alloc, "out").ok()
 }
 
-/// How many actions of agent 0 the last one of agent 1 needs.
-fn reach_told(alloc: Global) -> Option<Vec<u8>> {
-    let grid = read_map(alloc, PAIR_MAP).ok()?;
-    let instance = read_scen(alloc, PAIR_SCEN, &grid, None).ok()?;
-    let program = load(alloc, &read_hex(alloc, PAIR_HEX).ok()?).ok()?;
+/// How many actions of each agent the second one of the last agent needs, of the program that is made for the map and the scenario, and then how many of the last
+/// agent the second one of the first needs.
+fn reach_told(alloc: Global, map: &[u8], scen: &[u8]) -> Option<Vec<u8>> {
+    let grid = read_map(alloc, map).ok()?;
+    let instance = read_scen(alloc, scen, &grid, None).ok()?;
+    let checked = plan(alloc, &grid, &instance, 1024).ok()?;
+    let program = compile(alloc, &checked, Deps::Last).ok()?;
     let accepted = verify(alloc, program, &grid, &instance).ok()?;
     let reach = Reach::of(alloc, &accepted).ok()?;
+    let (first, last) = (0, instance.agents().saturating_sub(1));
+    let mut counts = Vec::new(alloc);
+    for agent in 0..=last {
+        let count = reach.greatest(
+            ActionId {
+                agent: last,
+                number: 2,
+            },
+            agent,
+        );
+        counts.push(u8::try_from(count).unwrap_or(u8::MAX)).ok()?;
+    }
     let count = reach.greatest(
         ActionId {
-            agent: 1,
+            agent: first,
             number: 2,
         },
-        0,
+        last,
     );
-    Some(format!(in alloc; "{count}").ok()?.into_bytes())
+    counts.push(u8::try_from(count).unwrap_or(u8::MAX)).ok()?;
+    Some(counts)
 }
 
 #[derive(Clone, Copy)]
@@ -126,7 +141,7 @@ fn told(alloc: Global, call: Call) -> Option<Vec<u8>> {
         Call::Plan => plan_told(alloc),
         Call::Holds => holds_told(alloc),
         Call::File => file_told(alloc),
-        Call::Reach => reach_told(alloc),
+        Call::Reach => reach_told(alloc, PAIR_MAP, PAIR_SCEN),
     }
 }
 
@@ -143,7 +158,7 @@ const CALLS: [(Call, &[u8]); 9] = [
     ),
     (Call::Holds, b"0 9 10\n-\n"),
     (Call::File, b"bytes"),
-    (Call::Reach, b"2"),
+    (Call::Reach, b"\x02\x02\0"),
 ];
 
 #[test]
@@ -155,6 +170,14 @@ fn calls_answer(rt: HostRuntime) -> Result<(), Fail> {
     Ok(())
 }
 
+/// Whether the answer is due, or memory was lacking.
+fn is_due(answer: Option<&Vec<u8>>, due: &[u8]) -> bool {
+    match answer {
+        Some(bytes) => bytes.as_slice() == due,
+        None => true,
+    }
+}
+
 /// `rt try --test --fail-alloc N` refuses the N-th growth of the test, and that one alone. So of two answers one may lack memory, and each other is due.
 #[test]
 fn only_memory_may_be_refused(rt: HostRuntime) {
@@ -162,53 +185,20 @@ fn only_memory_may_be_refused(rt: HostRuntime) {
         let first = told(rt.alloc(), call);
         let second = told(rt.alloc(), call);
         assert!(rt; first.is_some() || second.is_some());
-        assert!(rt; first.is_none_or(|bytes| bytes.as_slice() == due));
-        assert!(rt; second.is_none_or(|bytes| bytes.as_slice() == due));
+        assert!(rt; is_due(first.as_ref(), due) && is_due(second.as_ref(), due));
     }
 }
 
-/// 128 agents: each action needs as many of every agent before its own, and none of those behind it; in the run agent k goes once the one before it has made room, k ticks
-/// late. No clause says that memory suffices for as many.
+/// Each action of a train of 128 agents needs as many of every agent before its own, and none of those behind it. No clause says that memory suffices.
 #[test]
-fn a_train_goes_its_way(rt: HostRuntime) -> Result<(), Fail> {
-    let alloc = rt.alloc();
-    let scen = train_scen(alloc)?;
-    let grid = read_map(alloc, TRAIN_MAP)?;
-    let instance = read_scen(alloc, &scen, &grid, None)?;
-    let program = compile(alloc, &plan(alloc, &grid, &instance, 128)?, Deps::Last)?;
-    assert_eq!(rt; encode(alloc, &program)?.len(), 98_950);
-    let Ok(accepted) = verify(alloc, program, &grid, &instance) else {
-        return Err(Fail::from("not accepted"));
+fn a_train_reaches_back(rt: HostRuntime) -> Result<(), Fail> {
+    let scen = train_scen(rt.alloc())?;
+    let counts = reach_told(rt.alloc(), TRAIN_MAP, &scen).ok_or("memory")?;
+    let Some((count, others)) = counts.split_last() else {
+        return Err(Fail::from("no counts"));
     };
-    let reach = Reach::of(alloc, &accepted)?;
-    for (agent, number, first, due) in [
-        (127, 128, 0, 128),
-        (127, 1, 126, 1),
-        (1, 2, 2, 0),
-        (0, 128, 127, 0),
-    ] {
-        assert_eq!(rt; reach.greatest(ActionId { agent, number }, first), due);
-    }
-    let mut out = VecOut::new(alloc);
-    let report = auto_run(
-        alloc,
-        TRAIN_MAP,
-        &scen,
-        None,
-        128,
-        Deps::Last,
-        b"",
-        &mut out,
-    )?;
-    assert!(rt;
-        report
-            == Report {
-                agents: 128,
-                ticks: 255,
-                chain: 255,
-                held: 0
-            }
-    );
+    assert_eq!(rt; *count, 0);
+    assert_eq!(rt; others, [2; 128].as_slice());
     Ok(())
 }
 

@@ -51,7 +51,11 @@ type Row = (&'static [u8], &'static [u8], Cell, Cell, u16, Option<u32>);
 
 #[test]
 fn earliest_paths_are_found(rt: HostRuntime) -> Result<(), Fail> {
-    let [west, middle, east] = [0, 1, 2].map(|x| Cell { x, y: 0 });
+    let (west, middle, east) = (
+        Cell { x: 0, y: 0 },
+        Cell { x: 1, y: 0 },
+        Cell { x: 2, y: 0 },
+    );
     let south = Cell { x: 1, y: 1 };
     let outside = Cell { x: 3, y: 0 };
     let below = Cell { x: 0, y: 1 };

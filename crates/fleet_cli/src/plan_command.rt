@@ -1,12 +1,15 @@
 //! The command `plan`.
 
-ghost use Rattle.std.specs.Prelude.{◌≡◌, MatchResult};
+ghost use Rattle.std.specs.Prelude.{◌≡◌, IfOk, IfErr, MatchResult};
 ghost use Rattle.fleet_text.specs.Sink.{IsWorking};
 ghost use Rattle.fleet_files.specs.Files.{AreUnchanged};
+ghost use Rattle.fleet_auto.specs.Texts.{AreTextsOf};
+ghost use Rattle.fleet_cli.specs.Problem.{IsProblemRefusal};
 ghost use Rattle.fleet_cli.specs.PlanCommand.{PrintsPlan, IsPlanCommandFault, DoesPlan, RefusesPlan};
 
 use crate::problem::read_problem;
 use fleet_args::PlanRequest;
+use fleet_auto::Problem;
 use fleet_io::{Fault, Files, deliver, read_two};
 use fleet_model::OutOfMemory;
 use fleet_plan::write_plan;
@@ -14,7 +17,20 @@ use fleet_run::{Flush, OutFault};
 use fleet_search::plan_in_orders;
 use std::alloc::Global;
 
-/// Plans for the map and the instance of the texts, and prints the plan. The texts are let go once they are read.
+/// The map and the instance for which the texts stand. The texts are let go once they are read.
+fn problem_of<'a>(
+    alloc: Global,
+    map: Vec<u8>,
+    scen: Vec<u8>,
+    asked: Option<u16>,
+) -> Result<Problem, Fault<'a>>
+    ensures read { IfOk result (λ p. AreTextsOf map.items scen.items asked p.grid p.instance) }
+    ensures fault { IfErr result (IsProblemRefusal map.items scen.items asked) }
+{
+    read_problem(alloc, &map, &scen, asked)
+}
+
+/// Plans for the map and the instance of the texts, and prints the plan.
 fn plan_texts<'a, O: Flush>(
     alloc: Global,
     map: Vec<u8>,
@@ -29,9 +45,7 @@ fn plan_texts<'a, O: Flush>(
         (IsPlanCommandFault map.items scen.items request.now.agents request.now.horizon request.now.tries
         (O.state out.old) (O.state out.new)) }
 {
-    let problem = read_problem(alloc, &map, &scen, request.agents)?;
-    drop(map);
-    drop(scen);
+    let problem = problem_of(alloc, map, scen, request.agents)?;
     let checked = match plan_in_orders(
         alloc,
         &problem.grid,

@@ -425,8 +425,8 @@ unfolding least_moves
 least-within s x n a b = omega arith
 
 -- nothing waits at fewer moves, or nothing at all
-pub distances-of : (s : DistanceTable) (f_bound : ℕ) → IsReady s.grid s.labels s.search → IsSpread s.grid s.labels s.search s.start s.goal f_bound None s.layer s.next → (s.f_bound ≤ f_bound) ⊎ ((s.layer ≡ []) × (s.next ≡ [])) → s.f_bound ≤ MAX_HORIZON + 1 → AreDistances s.grid s s.goal
-distances-of s f_bound ready sp low few = record {
+pub distances-of : (s : DistanceTable) (f_bound : ℕ) (layer next : List Cell) → IsReady s.grid s.labels s.search → IsSpread s.grid s.labels s.search s.start s.goal f_bound None layer next → (s.f_bound ≤ f_bound) ⊎ ((layer ≡ []) × (next ≡ [])) → s.f_bound ≤ MAX_HORIZON + 1 → AreDistances s.grid s s.goal
+distances-of s f_bound layer next ready sp low few = record {
   grid = refl;
   ready = ready;
   goal_on_ground = sp.goal_on_ground;
@@ -458,8 +458,8 @@ distances-of s f_bound ready sp low few = record {
                 let d : least_moves s x ≤ n = least-within s x n (sp.apart x n hx p) (elim k [ inl z ↦ let e = z.0 in omega arith | inr z ↦ let e = z.0 in omega arith ]) in
                 omega arith
             | inr l ↦ absurd (elim k [
-              | inl z ↦ elim z.1 [ inl u ↦ no s.layer x l.0 u | inr u ↦ none-some x u ]
-              | inr z ↦ no s.next x l.1 z.1
+              | inl z ↦ elim z.1 [ inl u ↦ no layer x l.0 u | inr u ↦ none-some x u ]
+              | inr z ↦ no next x l.1 z.1
             ])
           ]
     ]

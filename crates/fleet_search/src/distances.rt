@@ -423,15 +423,13 @@ impl<'g> Distances<'g> {
         Ok(())
     }
 
-    /// Keeps the bound within this number of moves, the first beyond the horizon, and of the lists' memory what is
-    /// little. If no cell is left to be expanded, no path from the start to the goal leads over a cell without a label:
-    /// such cells count as beyond the horizon.
+    /// Keeps the bound within this number of moves, the first beyond the horizon. If no cell is left to be expanded, no
+    /// path from the start to the goal leads over a cell without a label: such cells count as beyond the horizon.
     fn bound(&mut self, beyond: u32)
         ensures same { self.new ≡ record self.old { f_bound = self.new.f_bound } }
         ensures few { self.new.f_bound ≤ beyond }
         ensures low { (self.old.layer ≡ []) ⊎ (self.new.f_bound ≤ self.old.f_bound) }
     {
-        self.release_lists();
         if self.layer.is_empty() {
             self.f_bound = beyond;
         } else {
@@ -439,10 +437,13 @@ impl<'g> Distances<'g> {
         }
     }
 
-    /// Lets memory of the lists go if they were long: the search that follows needs the room.
-    fn release_lists(&mut self)
-        ensures { self.new ≡ self.old }
+    /// Forgets which cells are still to be expanded, and lets memory of the lists go if they were long: the search that
+    /// follows needs the room.
+    fn forget_lists(&mut self)
+        ensures { self.new ≡ record self.old { layer = []; next = [] } }
     {
+        self.layer.clear();
+        self.next.clear();
         self.layer.shrink_to(KEPT_CELLS);
         self.next.shrink_to(KEPT_CELLS);
     }
@@ -471,6 +472,7 @@ impl<'g> Distances<'g> {
         self.begin(start, goal)?;
         self.expand_layers(horizon, goal_free_from)?;
         self.bound(u32::from(horizon) + 1);
+        self.forget_lists();
         // Reading a field brings the invariant, which is part of the promise.
         let _ = &self.grid;
         Ok(())

@@ -195,8 +195,8 @@ fn conflict_in(
 }
 
 /// Enters the agents of the row in their places of the table, in which the others are entered already. Answers whether
-/// it found none of them in the place of another agent. Out of line its loop keeps its numbers in registers.
-#[inline(never)]
+/// it found none of them in the place of another agent.
+#[inline(always)]
 fn enter(table: &mut Table<u16>, agents: &[u16], places: &[usize]) -> Result<bool, AllocError>
     requires agents { All (λ i. i < length places.now) agents.now }
     requires others { IsSoForOthers agents.now (length places.now) (HasIn table.old places.now) }
@@ -208,6 +208,33 @@ fn enter(table: &mut Table<u16>, agents: &[u16], places: &[usize]) -> Result<boo
         }
     }
     Ok(true)
+}
+
+/// The same for a long row. Out of line the loop keeps its numbers in registers.
+#[inline(never)]
+fn enter_many(table: &mut Table<u16>, agents: &[u16], places: &[usize]) -> Result<bool, AllocError>
+    requires agents { All (λ i. i < length places.now) agents.now }
+    requires others { IsSoForOthers agents.now (length places.now) (HasIn table.old places.now) }
+    ensures { IfOk result (λ alone. IsTrue alone → IsEntered table.new places.now) }
+{
+    enter(table, agents, places)
+}
+
+/// How many agents are many.
+const MANY: usize = 8;
+
+/// The same for any row.
+#[inline(always)]
+fn enter_row(table: &mut Table<u16>, agents: &[u16], places: &[usize]) -> Result<bool, AllocError>
+    requires agents { All (λ i. i < length places.now) agents.now }
+    requires others { IsSoForOthers agents.now (length places.now) (HasIn table.old places.now) }
+    ensures { IfOk result (λ alone. IsTrue alone → IsEntered table.new places.now) }
+{
+    if agents.len() >= MANY {
+        enter_many(table, agents, places)
+    } else {
+        enter(table, agents, places)
+    }
 }
 
 /// Enters an agent in its place, unless another one that is entered there stands there. Answers whether none does.
@@ -236,7 +263,7 @@ fn meeting(
     ensures some { IfOk result (λ found. IfSome found (λ pair. IsFirstMeeting places.now pair.0 pair.1)) }
     ensures none { IfOk result (λ found. IfNone found (IsEntered table.new places.now)) }
 {
-    if enter(table, agents, places)? {
+    if enter_row(table, agents, places)? {
         return Ok(None);
     }
     first_meeting(table, places)

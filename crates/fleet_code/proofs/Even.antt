@@ -59,7 +59,7 @@ as_long actions stride (o ∷ kept) l =
     let f : ℕ → ℕ = λ k. slice_index_or xs (length kept) 0 + (k + 1) * stride in
     omega (arith, l, length-append xs (map f (range_with_len 0 rest)), length-map-range_with_len f 0 rest)
 
--- even offsets are told by those up to the first of them
+-- even offsets follow from those up to the first of them
 pub offsets_are : (actions stride : ℕ) (offsets : List ℕ) (at : ℕ) → length offsets ≡ actions + 1 → at < length offsets → IsEvenFrom offsets at stride → offsets_of actions stride (take (at + 1) offsets) ≡ offsets
 offsets_are actions stride offsets at many l even = same_number_lists (offsets_of actions stride kept) offsets (long ∙ sym many) (λ k m. each k (omega (arith, m, long)))
   where

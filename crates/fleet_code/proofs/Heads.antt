@@ -80,7 +80,7 @@ module _ (v : Version) (whole n i total : ℕ) (bytes : List ℕ) where
     pub agent_is : (x : List Action × List ℕ) → actions_at v h.0.2 whole n i h.1 ≡ Ok x → agent_at v whole n i total bytes ≡ Ok (record { start = h.0.0; goal = h.0.1; actions = x.0 }, x.1)
     agent_is x e = after_the_head ∙ rw (head, e) refl
 
--- no version lets an agent have more moves than a program may have for one
+-- no version lets an agent have more actions than one agent of a program may have
 pub most_moves-le : (v : Version) → most_moves v ≤ 1000000
 most_moves-le One = omega arith
 most_moves-le Two = omega arith

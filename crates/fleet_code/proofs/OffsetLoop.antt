@@ -81,7 +81,8 @@ ends_failed known at (Err g) f e = cc
 
 -- ---- agents
 
--- before agent i of n, where those before it have moves, what is due is what the bytes that are left give, after the parts that are known
+-- before agent i of n, where those before it have moves, what is due is what the bytes that are left give, after the
+-- parts that are known
 pub record PartsGoOn (v : Version) (whole n i moves : ℕ) (bytes : List ℕ) (known : List PartOffsets) (at : ℕ) (due : Field (List PartOffsets)) : Type 0 where
   pub gives : with_parts v known at (agents_at v (n - i) whole n i moves bytes) ≡ due
 

@@ -1,4 +1,4 @@
--- The first fault is what reading refuses. So there is one at most, and none where the bytes spell a program.
+-- The first fault is what reading refuses. So there is one at most, and none if the bytes spell a program.
 use Rattle.std.proofs.Common.{◌≡◌, ◌≢◌, ℕ, zero, suc, ◌+◌, ◌-◌, ◌≤◌, ◌<◌, ◌||◌, Bool, true, false, ltb, leb, eqb, List, [], ◌∷◌, ◌++◌, length, All, None, Result, Ok, Err, refl, ap, ◌∙◌, append_assoc, arith, inl, inr, ◌⊎◌}
 use Rattle.std.specs.Prelude.{IsTrue}
 use Rattle.std.specs.List.{flat_map}
@@ -134,7 +134,7 @@ told_agent v bytes n p rest f r within fails =
     after_number v bytes n (flat_map (agent v) p ++ rest) (r.parts ∙ append_assoc ((magic v) ++ number n) (flat_map (agent v) p) rest) r.some r.few
     ∙ fails_with (agents_at v n at n 0 0 (flat_map (agent v) p ++ rest)) (after_agents at) f agents
 
--- an agent, up to its number of moves
+-- an agent, up to its number of actions
 head_read : (v : Version) (whole n i total : ℕ) (bytes : List ℕ) (count : ℕ) (rest : List ℕ) (f : LoadFault) → (h : HasHead v bytes count rest) → after_count v whole n i total h.start h.goal (count, rest) ≡ Err f → agent_at v whole n i total bytes ≡ Err f
 unfolding agent_at
 head_read v whole n i total bytes count rest f h fails =

@@ -188,7 +188,7 @@ one_program_each bytes v w p q first second = (
 pub no_other : (v : Version) (p q : Program) → IsWellFormed p → CanSpell v p → Spells (spelling v p) q → q ≡ p
 no_other v p q fits spellable spells = (one_program_each (spelling v p) spells.version v q p spells.spelling (spells_own v p fits spellable)).1
 
--- what is read of bytes is refused only where they spell nothing
+-- what is read of bytes is refused only if they spell nothing
 pub refused_spells_nothing : (bytes : List ℕ) (f : LoadFault) → program_at bytes ≡ Err f → SpellsNothing bytes
 refused_spells_nothing bytes f e p spells = let again = program_again_at bytes p spells in cc
 

@@ -24,7 +24,7 @@ OneProgramEach = (bytes : List ℕ) (v w : Version) (p q : Program) → SpellsIn
 abbrev pub BeginningsAreTruncated : Type 0
 BeginningsAreTruncated = (v : Version) (p : Program) (front rest : List ℕ) → IsWellFormed p → CanSpell v p → spelling v p ≡ front ++ rest → 1 ≤ length rest → IsFirstLoadFault front Truncated
 
--- two answers to the same bytes: one program, or one fault. Want of memory may stand in place of either
+-- two answers to the same bytes: one program, or one fault. OutOfMemory may stand in place of either
 abbrev pub Agree : Result Viewed LoadFault → Result Program LoadFault → Type 0
 Agree (Ok p) (Ok q) = p.program ≡ q
 Agree (Err e) (Err f) = e ≢ OutOfMemory → f ≢ OutOfMemory → e ≡ f

@@ -20,12 +20,12 @@ pub record HasNumber (bytes : List ℕ) (n : ℕ) (rest : List ℕ) : Type 0 whe
   pub fits : n < 65536
   pub parts : bytes ≡ number n ++ rest
 
--- .. a number of moves or a count, as wide as the version has it, and then the rest
+-- .. a number of actions or a count, as wide as the version has it, and then the rest
 pub record HasCount (v : Version) (bytes : List ℕ) (n : ℕ) (rest : List ℕ) : Type 0 where
   pub fits : n ≤ most_count v
   pub parts : bytes ≡ count v n ++ rest
 
--- the bytes are two cells, a number of moves, and then the rest
+-- the bytes are two cells, a number of actions, and then the rest
 pub record HasHead (v : Version) (bytes : List ℕ) (moves : ℕ) (rest : List ℕ) : Type 0 where
   pub start : Cell
   pub goal : Cell

@@ -13,7 +13,7 @@ use Rattle.fleet_code.specs.declared.format.Version.TheVariants.{One, Two}
 use Rattle.fleet_code.specs.Spelling.{count_len, action, agent, SpellsIn}
 use Rattle.fleet_code.specs.Reading.{Field, program_at}
 
--- how many bytes stand before an agent's actions: two cells and the number of moves
+-- how many bytes stand before an agent's actions: two cells and the number of actions
 abbrev pub head_len : Version → ℕ
 head_len v = 8 + count_len v
 
@@ -25,8 +25,8 @@ await_len v = 3 + count_len v
 abbrev pub opcodes : Action → ℕ
 opcodes a = length a.awaits + 1
 
--- where an agent's actions begin in the bytes; and how many opcodes stand before each of them, counted from there, and last how many
--- they have together
+-- where an agent's actions begin in the bytes; and how many opcodes stand before each of them, counted from there, and
+-- last how many they have together
 pub record PartOffsets : Type 0 where
   pub begin : ℕ
   pub offsets : List ℕ
@@ -49,8 +49,8 @@ parts_of v at (a ∷ p) = part_of v at a ∷ parts_of v (at + length (agent v a)
 abbrev pub further : ℕ → ℕ → ℕ → List ℕ
 further last stride n = map (λ k. last + (k + 1) * stride) (range_with_len 0 n)
 
--- the numbers of opcodes before so many actions, and last in all of them: those that are kept, and after the last of them others that are
--- so far from each other. If none is kept, each action has one opcode
+-- the numbers of opcodes before so many actions, and last in all of them: those that are kept, and after the last of
+-- them others that are so far from each other. If none is kept, each action has one opcode
 abbrev pub offsets_of : ℕ → ℕ → List ℕ → List ℕ
 offsets_of actions stride [] = range_with_len 0 (actions + 1)
 offsets_of actions stride (o ∷ kept) = (o ∷ kept) ++ further (slice_index_or (o ∷ kept) (length kept) 0) stride (actions + 1 - length (o ∷ kept))

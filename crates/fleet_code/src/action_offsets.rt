@@ -7,9 +7,9 @@ ghost use Rattle.fleet_code.specs.Offsets.{IsEvenFrom};
 use std::alloc::Global;
 use std::marker::Model;
 
-/// How many opcodes stand before each of so many actions, counted from the first, and last how many they have together: an
-/// action has one for each await and one for its step. If from one action on all have as many as each other, the offsets
-/// after its own are not kept.
+/// How many opcodes stand before each of so many actions, counted from the first, and last how many they have together:
+/// an action has one for each await and one for its step. If from one action on all have as many as each other, the
+/// offsets after its own are not kept.
 #[derive(Drop)]
 pub struct ActionOffsets {
     actions: u32,
@@ -81,7 +81,7 @@ impl ActionOffsets {
     }
 }
 
-/// The number of the first offset from which on each is as far from the one before it, and how far.
+/// The place of the first offset from which on all are equally far from the one before, and how far that is.
 fn even_from(offsets: &[u32]) -> (usize, u32)
     requires { 1 ≤ length offsets.now }
     ensures first { result.0 < length offsets.now }
@@ -96,7 +96,7 @@ fn even_from(offsets: &[u32]) -> (usize, u32)
     (first_even(offsets, stride), stride)
 }
 
-/// The first of the offsets from which on all are so far from each other.
+/// The place of the first offset from which on each is so far from the one before it.
 fn first_even(offsets: &[u32], stride: u32) -> usize
     requires { 1 ≤ length offsets.now }
     ensures first { result < length offsets.now }

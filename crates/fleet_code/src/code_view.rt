@@ -80,7 +80,7 @@ fn long_number_in(bytes: &[u8], at: usize) -> u32
     u32::from_be_bytes([bytes[at], bytes[at + 1], bytes[at + 2], bytes[at + 3]])
 }
 
-/// The number of moves or the count at the offset `at`, as wide as the version has it.
+/// The number of actions or the count at the offset `at`, as wide as the version has it.
 fn count_in(version: Version, bytes: &[u8], at: usize) -> u32
     requires { at + count_len version ≤ length bytes.now }
     ensures { (n : ℕ) → n ≤ most_count version → StandsAt bytes.now at (count version n) → result ≡ n }

@@ -21,20 +21,20 @@ pub const AWAIT: u8 = 0x10;
 /// How many bytes stand before the first agent: the magic and the number of agents.
 pub const HEAD_LEN: usize = 6;
 
-/// How many bytes a number takes that is as wide in both versions: of agents, an agent, a column or a row.
+/// How many bytes each number takes that is equally wide in both versions: of agents, an agent, a column or a row.
 pub const NUMBER_LEN: usize = 2;
 
 /// How many bytes a cell takes.
 pub const CELL_LEN: usize = 2 * NUMBER_LEN;
 
-/// How many bytes an agent takes at least.
+/// How many bytes an agent takes at least: one without actions, in version 1.
 pub const LEAST_AGENT_LEN: usize = 10;
 
 /// How many bytes an action takes at least: its step.
 pub const LEAST_ACTION_LEN: usize = 1;
 
-/// A version of the bytes. They differ in the magic, in how wide a number of moves and a count are, in the most moves of an
-/// agent, and in that version 2 alone has a byte for a stay.
+/// A version of the bytes. The versions differ in the magic, in how wide a number of actions and a count are, in the
+/// most actions of an agent, and in that version 2 alone has a byte for a stay.
 #[derive(Clone, Copy)]
 pub enum Version {
     One,
@@ -56,7 +56,7 @@ impl Version {
         }
     }
 
-    /// How many bytes a number of moves and a count take.
+    /// How many bytes a number of actions takes, and how many a count.
     pub fn count_len(self) -> usize
         ensures { result ≡ count_len self }
     {
@@ -66,7 +66,7 @@ impl Version {
         }
     }
 
-    /// The most moves of one agent.
+    /// The most actions of one agent.
     pub fn most_moves(self) -> u32
         ensures { result ≡ most_moves self }
     {
@@ -86,7 +86,7 @@ impl Version {
         }
     }
 
-    /// How many bytes an agent takes beside its actions: two cells and the number of moves.
+    /// How many bytes an agent takes besides its actions: two cells and the number of actions.
     pub fn head_len(self) -> usize
         ensures { result ≡ head_len self }
     {

@@ -47,7 +47,8 @@ impl Part {
         self.offsets.actions()
     }
 
-    /// How many opcodes stand before action `n + 1`, counted from the first action, and after the last how many there are.
+    /// How many opcodes stand before action `n + 1`, counted from the first action, and after the last how many there
+    /// are.
     pub fn offset(&self, n: u32) -> u32
         requires { n < length self.now.offsets }
         ensures { result ≡ slice_index_or self.now.offsets n 0 }
@@ -56,8 +57,8 @@ impl Part {
     }
 }
 
-/// An empty list with room for `count` items of at least `item_len` bytes each, but for no more than the bytes can hold,
-/// and for one item more.
+/// An empty list with room for `count` items of at least `item_len` bytes each, but for no more than the bytes can
+/// hold, and for one item more.
 fn list_for<T>(
     alloc: Global,
     count: u32,
@@ -72,7 +73,8 @@ fn list_for<T>(
     Ok(Vec::with_capacity(alloc, (count as usize).min(bytes.len() / item_len) + 1)?)
 }
 
-/// What is known of the bytes before the first agent is read: their version, how many they are, and how many agents there are.
+/// What is known of the bytes before the first agent is read: their version, how many they are, and how many agents
+/// there are.
 #[derive(Clone, Copy)]
 struct Head {
     version: Version,
@@ -80,7 +82,8 @@ struct Head {
     agents: u16,
 }
 
-/// Judges the awaits and the step of an action of agent `own`: how many opcodes it has, and the bytes after it.
+/// Judges the awaits and the step of an action of agent `own`, and answers how many opcodes the action has, and the
+/// bytes after it.
 fn after_action(head: Head, own: u16, bytes: &[u8]) -> Result<(u32, &[u8]), LoadFault>
     requires whole { length bytes.now ≤ head.whole }
     requires few { head.agents ≤ MAX_AGENTS }
@@ -108,8 +111,8 @@ fn after_action(head: Head, own: u16, bytes: &[u8]) -> Result<(u32, &[u8]), Load
     Err(LoadFault::Truncated)
 }
 
-/// How many opcodes stand before each of the next `count` actions of agent `own`, counted from here, and last how many they
-/// have together.
+/// How many opcodes stand before each of the next `count` actions of agent `own`, counted from here, and last how many
+/// they have together.
 fn actions_after(
     alloc: Global,
     head: Head,

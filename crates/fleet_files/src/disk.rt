@@ -1,4 +1,4 @@
-//! Files on the disk. Contracts do not say what they hold: that is the operator's premise.
+//! Files on the disk. No contract says what they hold: that is left to the operator.
 
 use crate::files::Files;
 use crate::input::{FileFault, read_whole};

@@ -71,7 +71,8 @@ fn read_to_limit<R: Read>(alloc: Global, reader: &mut R) -> Result<Vec<u8>, Inpu
     }
 }
 
-/// All bytes of the reader. Errors: `Failed` if a read fails or is interrupted, or if there are more than `MOST_BYTES` bytes.
+/// All bytes of the reader. Errors: `Failed` if a read fails or is interrupted, or if there are more than `MOST_BYTES`
+/// bytes, and `OutOfMemory`.
 pub fn read_whole<R: Read>(alloc: Global, reader: &mut R) -> Result<Vec<u8>, FileFault>
     ensures whole { IfOk result (λ bytes. IfSome (R.remaining reader.old) (λ rest. bytes.items ≡ rest)) }
     ensures within { IfOk result (λ bytes. length bytes.items ≤ MOST_BYTES) }

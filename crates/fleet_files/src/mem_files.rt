@@ -9,7 +9,7 @@ use fleet_model::OutOfMemory;
 use indexmap::IndexMap;
 use std::alloc::Global;
 
-/// Names with their bytes.
+/// A store of files in memory: the bytes of each, under its name.
 #[derive(Drop)]
 pub struct MemFiles {
     files: IndexMap<String, Vec<u8>>,
@@ -19,7 +19,7 @@ pub struct MemFiles {
 impl MemFiles {
     ghost use Rattle.fleet_files.specs.MemFiles.{file_in};
 
-    /// No files.
+    /// A store without files. Takes no memory.
     pub fn new(alloc: Global) -> MemFiles
         ensures { (name : List ℕ) → file_in result name ≡ None }
     {
@@ -81,7 +81,7 @@ impl Files for MemFiles {
         }
     }
 
-    /// A refusal is for memory, and changes nothing.
+    /// Fails only if memory is refused, and then changes nothing.
     fn write(&mut self, name: &str, bytes: &[u8]) -> Result<(), FileFault>
         ensures replaced { OnOk result (Replaces (Some (file_in self.old)) (Some (file_in self.new)) name.now bytes.now) }
         ensures others { (n : List ℕ) → n ≢ name.now → file_in self.new n ≡ file_in self.old n }

@@ -1,4 +1,4 @@
--- Reading a map's lines fails with a fault exactly where the fault is the first.
+-- Reading a map's lines fails with a fault exactly if the fault is the first.
 use Rattle.std.proofs.Common.{◌≡◌, ◌≢◌, ℕ, zero, suc, ◌+◌, ◌<◌, Bool, false, ◌&&◌, eqb, List, [], ◌∷◌, length, drop, get_or, Some, None, Result, Ok, Err, refl, sym, ap, subst, ◌∙◌, arith, inl, inr}
 use Rattle.std.specs.Prelude.{position, codes, ◌⊎◌, IfOk, IfErr, IsOkUnless}
 use Rattle.std.specs.List.{list_all}

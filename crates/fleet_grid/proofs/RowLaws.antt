@@ -14,7 +14,7 @@ padded-append xs ys size =
     let more : 8 * byte_count (length (xs ++ ys)) - length (xs ++ ys) ≡ 8 * byte_count (length ys) - length ys = omega (arith, length-append xs ys) in
     rw more (append_assoc xs ys (replicate (8 * byte_count (length ys) - length ys) false))
 
--- the first cells of a block, up to the end of their last byte, where blocked cells follow them
+-- the first cells of a block, up to the end of their last byte, if blocked cells follow them
 padded_is : (cells : List Bool) (n : ℕ) → length cells + n ≡ 64 → take (8 * byte_count (length cells)) (cells ++ replicate n false) ≡ padded cells
 unfolding padded
 padded_is cells n size =

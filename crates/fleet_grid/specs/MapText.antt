@@ -8,7 +8,7 @@ use Rattle.fleet_grid.specs.Ground.{Ground, IsSide}
 
 -- ---- the parts of a map text
 
--- a line by its number, counted from 0. One that is missing is as good as an empty one, which is right nowhere
+-- a line by its number, counted from 0. A missing one counts as empty, which no line of a header or a row may be
 abbrev pub line_at : List Bytes → ℕ → Bytes
 line_at ls k = get_or ls k []
 

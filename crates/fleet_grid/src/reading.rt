@@ -16,7 +16,7 @@ use crate::stored::Cells;
 use fleet_text::{Cursor, TOO_LARGE, from_front, is_blank, next_word, number_of};
 use std::alloc::Global;
 
-/// The next line. One that is missing is as good as an empty one.
+/// The next line. A missing one counts as empty.
 fn next_of<'a>(lines: &mut Cursor<'a>) -> &'a [u8]
     ensures line { result.now ≡ line_at lines.old 0 }
     ensures rest { lines.new ≡ drop 1 lines.old }
@@ -143,7 +143,7 @@ fn is_ended(lines: &mut Cursor) -> bool
     true
 }
 
-/// Whether a line is empty but for these.
+/// Whether a line is empty but for spaces, tabs and CRs.
 fn is_empty(line: &[u8]) -> bool
     ensures { result ≡ list_all is_row_space line.now }
 {

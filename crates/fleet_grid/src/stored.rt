@@ -75,8 +75,8 @@ impl Cells {
         Ok(())
     }
 
-    /// Adds the bytes that keep the first `len` glyphs of a block, the others of which are blocked. It is inlined, so that
-    /// the length of a whole block is known where it is called.
+    /// Adds the bytes that keep the first `len` glyphs of a block, the others of which are blocked. It is inlined, so
+    /// that the compiler knows the length of a whole block.
     #[inline(always)]
     fn put_block(&mut self, block: &[u8; BLOCK], len: usize) -> Result<(), AllocError>
         requires len { len ≤ BLOCK }

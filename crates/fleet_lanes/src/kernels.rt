@@ -5,10 +5,10 @@ ghost use Rattle.fleet_lanes.specs.Kernels.{AreJoined, AreCovered};
 
 use std::simd::prelude::*;
 
-/// So many counts are joined and compared at once.
+/// How many counts are joined or compared at once.
 const LANES: usize = 8;
 
-/// Leaves the greater count at each place.
+/// Leaves in `row`, at each place, the greater count of the two rows, which are equally long. Takes no memory.
 pub fn join_rows(row: &mut [u32], other: &[u32])
     requires { length other.now ≡ length row.old }
     ensures { (k : ℕ) → k < length row.old
@@ -47,7 +47,7 @@ fn join_lane(row: &mut [u32], other: &[u32], from: usize)
     joined.copy_to_slice(&mut row[from..]);
 }
 
-/// Whether the count of the first row is at least that of the second at each place.
+/// Whether at each place the count of `row` is at least that of `other`, which is equally long. Takes no memory.
 pub fn row_covers(row: &[u32], other: &[u32]) -> bool
     requires { length other.now ≡ length row.now }
     ensures { IsTrue result ↔ AreCovered row.now other.now 0 (length row.now) }

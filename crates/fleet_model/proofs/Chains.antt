@@ -22,7 +22,8 @@ Reaches-last p a b (cs, h) = chain_last p a cs b h
 pub Reaches-need : (p : Program) (a b : ActionId) → IsAction p a → IsAction p b → DirectlyNeeds p b a → Reaches p a b
 Reaches-need p a b h k n = (b ∷ [], (h, n, (k, refl)))
 
--- what holds of an action, and of all that is directly needed by an action of which it holds, holds of all that reaches the first
+-- what holds of an action, and of all that is directly needed by an action of which it holds, holds of all that reaches
+-- the first
 pub Reaches-kept : (p : Program) (K : ActionId → Type 0) → ((c d : ActionId) → K c → IsAction p d → DirectlyNeeds p c d → K d) → (a b : ActionId) → K b → Reaches p a b → K a
 Reaches-kept p K on a b last (cs, h) = go a cs h
   where
@@ -46,6 +47,6 @@ ends_within p number is n b h =
 pub ends_action : (p : Program) (n : ℕ) (b : ActionId) → EndsChain p n b → IsAction p b
 ends_action p n b h = chain_last p h.0 h.1 b h.2
 
--- where a chain has as many actions as the number of its last one, that is the level
+-- if a chain has as many actions as the number of its last one, that is the level
 pub level_is : (p : Program) (number : ActionId → ℕ) → IsNumbering p number → (b : ActionId) → EndsChain p (number b) b → IsLevel p b (number b)
 level_is p number is b some = record { some = some; most = λ m h. ends_within p number is m b h }

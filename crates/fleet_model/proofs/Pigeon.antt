@@ -65,7 +65,7 @@ repeated (suc n) (suc m) f l into =
         same (inr v) (inl w) = absurd (none (r.first, omega (arith, r.order, r.within), sym v.1 ∙ (r.same ∙ w.1)))
         same (inr v) (inr w) = sym v.1 ∙ (r.same ∙ w.1)
 
--- so where no two are equal there are no more numbers than values
+-- so if no two are equal, there are no more numbers than values
 abbrev pub Into : (ℕ → ℕ) → ℕ → ℕ → Type 0
 Into f n m = (i : ℕ) → i < n → f i < m
 

@@ -1,4 +1,5 @@
--- The actions of an agent as three rows: the code of the step of each, after how many awaits each ends, and the awaits of all, one action after the other.
+-- The actions of an agent as three rows: the code of the step of each, how many awaits stand up to the end of each, and
+-- the awaits of all, one action after the other.
 use Rattle.std.specs.Prelude.{◌≡◌, ℕ, ◌≤◌, List, [], ◌∷◌, length, map, slice_range}
 use Rattle.fleet_model.specs.declared.geometry.Dir.TheVariants.{North, East, South, West}
 use Rattle.fleet_model.specs.declared.geometry.Step.{Step}
@@ -36,7 +37,7 @@ abbrev pub RiseTo : ℕ → List ℕ → ℕ → Type 0
 RiseTo begin [] n = begin ≡ n
 RiseTo begin (e ∷ ends) n = (begin ≤ e) × RiseTo e ends n
 
--- every step has an end, and the last action ends after all awaits
+-- every step has an end, no end is below the one before it, and the last action ends after all awaits
 pub record AreRows (steps : List Step) (ends : List ℕ) (awaits : List Await) : Type 0 where
   pub count : length ends ≡ length steps
   pub rising : RiseTo 0 ends (length awaits)

@@ -1,4 +1,4 @@
--- The holds that bring two agents onto one place, where their visits of it have no order.
+-- The holds that bring two agents onto one place, if no chain orders their visits of it.
 use Rattle.std.specs.Prelude.{◌≡◌, ℕ, ◌+◌, ◌<◌, ◌≤◌, [], length, get_or, ◌⊎◌, ◌↔◌, Contains}
 use Rattle.std.specs.List.Sorted.{IsStrictlyIncreasing}
 use Rattle.fleet_model.specs.declared.geometry.Place.{Place}

@@ -1,4 +1,4 @@
--- Reading a scenario's lines fails with a fault exactly where the fault is the first.
+-- Reading a scenario's lines fails with a fault exactly if the fault is the first.
 use Rattle.std.proofs.Common.{◌≡◌, ◌≢◌, ℕ, suc, ◌+◌, ◌≤◌, ◌<◌, Bool, true, false, not, ltb, leb, List, [], ◌∷◌, ◌++◌, length, take, drop, Option, Some, None, Ok, Err, refl, sym, ap, subst, ◌∙◌, append_assoc, arith, inl, inr}
 use Rattle.std.specs.Prelude.{MatchOption, All, ◌⊎◌}
 use Rattle.std.specs.List.{AllZip, AllByRecursion}
@@ -135,7 +135,7 @@ stops_lacks : (g : Ground) (asked : Option ℕ) (all : List Task) (rest : List L
 stops_lacks g asked all rest f (inl p) = short_lacks asked all f p.1
 stops_lacks g asked all rest f (inr p) = p.3
 
--- where more agents come after some, these are not all that were asked for
+-- if more agents come after some, these are not all that were asked for
 earlier_lacks : (asked : Option ℕ) (earlier : List Task) (t : Task) (new : List Task) → AreEarlier asked (earlier ++ t ∷ new) → lacks asked (length earlier) ≡ true
 earlier_lacks None earlier t new h = refl
 earlier_lacks (Some count) earlier t new h = let range = h.range in lt-ltb (length earlier) count (omega (arith, range, length-append earlier (t ∷ new)))

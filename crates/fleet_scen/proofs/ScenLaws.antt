@@ -97,7 +97,7 @@ none_left (Some count) earlier tasks h e =
     not_false true e = absurd cc
     not_false false e = refl
 
--- without asked no line is left where nothing is new
+-- if no number was asked for, no line is left
 abbrev Rest : Option ℕ → List Line → Type 0
 Rest asked lines = MatchOption asked (length lines ≡ 0) (λ _. Unit {0})
 

@@ -74,7 +74,7 @@ module _ (g : Ground) (asked : Option ℕ) (n : ℕ) (earlier : List Task) (ls :
 
 -- ---- the cells that were seen
 
--- a set has a cell where one of the tasks has it
+-- a set has a cell exactly if one of the tasks has it
 abbrev pub HasTaskCells : (Cell → Bool) → (Task → Cell) → List Task → Type 0
 HasTaskCells has cell tasks = (c : Cell) → has c ≡ list_any (λ t. is_same_cell (cell t) c) tasks
 

@@ -4,7 +4,7 @@ use Rattle.fleet_text.specs.Refusals.{memory_words, named, named_at, named_by}
 use Rattle.fleet_scen.specs.declared.fault.Particulars.{Particulars}
 use Rattle.fleet_scen.specs.declared.fault.Particulars.TheVariants.{Memory, Named, At, Field}
 
--- the words of a line that tells this
+-- the words of the line that is made of these
 abbrev pub told_words : Particulars → List (List ℕ)
 told_words Memory = memory_words
 told_words (Named number name) = named (codes "scen") number name.now

@@ -32,7 +32,7 @@ numbers_at line ws = do
   goal_y ← some_or f.goal_y (Number line 8)
   Ok (width, height, record { start = record { x = start_x; y = start_y }; goal = record { x = goal_x; y = goal_y } })
 
--- the task of a line with these words, if it is possible on the map
+-- the task of a line with these words, if the line is for a map of these sizes and both cells of the task are passable
 unfoldable pub task_at : Ground → ℕ → List Bytes → Result Task ScenFault
 task_at g line ws = do
   n ← numbers_at line ws

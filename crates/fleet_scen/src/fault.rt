@@ -56,7 +56,8 @@ impl<T: Drop> From<AllocFailed<T>> for ScenFault {
     }
 }
 
-/// What the line of a fault of a scenario tells: its number, its name and where it is.
+/// What the line of a fault of a scenario says: its number and its name, and the line and the field in which it is, if it
+/// is in one.
 #[derive(Clone, Copy)]
 enum Particulars {
     Memory,

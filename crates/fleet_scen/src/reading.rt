@@ -80,7 +80,7 @@ fn pair_of(
     Ok((first, second))
 }
 
-/// Width, height and task by the numbers of an agent's line.
+/// The width, the height and the task that an agent's line gives; `number` is that of the line.
 fn numbers_of(number: u64, line: &[u8]) -> Result<(u16, u16, Task), ScenFault>
     ensures { result ≡ numbers_at number (words line.now) }
 {
@@ -95,7 +95,7 @@ fn numbers_of(number: u64, line: &[u8]) -> Result<(u16, u16, Task), ScenFault>
     Ok((width, height, Task { start, goal }))
 }
 
-/// The task of an agent's line, if it is possible on the map.
+/// The task of an agent's line, if the line is for a map of the grid's sizes and both its cells are passable.
 #[tactic(auto, unfolding(crate::specs::ScenReading::task_at))]
 fn task_of(grid: &Grid, number: u64, line: &[u8]) -> Result<Task, ScenFault>
     ensures { result ≡ task_at grid.now number (words line.now) }
@@ -196,8 +196,9 @@ fn scen_of(
 }
 
 /// The instance that a text of the MovingAI benchmark's scenario format stands for, on this map (Sturtevant 2012). With
-/// `asked` the first so many agents are its agents, and what follows them is not read. The text is read once, from the
-/// front, and a refusal for another cause than memory is its first fault.
+/// `asked`, 1 to 1,024, its agents are the first so many of the text, and what follows them is not read; without it
+/// they are all of the text. The text is read once, from the front, and a refusal for another cause than memory is its
+/// first fault.
 pub fn read_scen(
     alloc: Global,
     bytes: &[u8],

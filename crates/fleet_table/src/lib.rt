@@ -1,4 +1,4 @@
-//! Tables by number, of which only the pages take memory in which a value was set: a few numbers out of millions cost little.
+//! Tables by number. Only the pages in which a value was set take memory, so a few numbers out of millions cost little.
 #![tactic(auto)]
 
 mod table;

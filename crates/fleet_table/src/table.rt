@@ -9,13 +9,14 @@ use std::alloc::{AllocError, Global};
 /// How many values stand in a page.
 const PAGE: usize = 1024;
 
-/// A value for each number. It takes memory for the pages in which a value was set, and 24 bytes for each page before those.
+/// A value for each number. It takes memory for the pages in which a value was set, and 24 bytes for each page up to
+/// the last of those.
 #[derive(Drop)]
 pub struct Table<V: Copy> {
     alloc: Global,
     /// The value of each number that was not set.
     blank: V,
-    /// Past the end of a page, and of the pages, all values are blank.
+    /// Past the end of a page, and of the list of pages, all values are blank.
     pages: Vec<Vec<V>>,
 }
 
@@ -67,7 +68,7 @@ impl<V: Copy> Table<V> {
     }
 }
 
-/// Makes the list of pages so long that it has this one.
+/// Adds empty pages until the list has this one.
 #[inline(always)]
 fn reach<V: Copy>(alloc: Global, pages: &mut Vec<Vec<V>>, page: usize) -> Result<(), AllocError>
     requires { page < 18014398509481984 }

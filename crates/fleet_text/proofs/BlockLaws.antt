@@ -44,7 +44,7 @@ shifted : (a b : ℕ) (o : Option ℕ) → option_map (λ i. a + b + i) o ≡ op
 shifted a b None = refl
 shifted a b (Some i) = ap (λ (n : ℕ). Some n) (omega arith)
 
--- a bit is set only where some byte passes
+-- a bit is set only if some byte passes
 some-passes : (p : ℕ → Bool) (xs : List ℕ) → 0 < mask_l (map p xs) → position_or_len p xs < length xs
 some-passes p [] some = absurd (omega arith)
 some-passes p (x ∷ xs) some =

@@ -42,7 +42,7 @@ appends_none (Some s) = sym (append-nil s)
 pub kept_in_row : (a : SinkState) (r t xs : List ℕ) → IsWorking a → t ≡ r ++ xs → PassesOn a a r t xs
 kept_in_row a r t xs works e = record { handed = []; taken = record { taken = appends_none a.taken; working = works }; in_order = sym e }
 
--- an answer that is an error, where the sink failed within the bytes
+-- an answer that is an error, if the sink failed within the bytes
 pub gathers_err : {T E : Type 0} (a c : SinkState) (res : Result T E) (r t xs : List ℕ) → IsErr res → StopsWithin a c (r ++ xs) → Gathers a c res r t xs
 gathers_err a c (Ok _) r t xs e h = cc
 gathers_err a c (Err _) r t xs e h = h

@@ -72,7 +72,7 @@ pub takes_then : {T E : Type 0} (a b c : SinkState) (r : Result T E) (xs ys : Li
 takes_then a b c (Ok _) xs ys h k = takes_more a b c xs ys h k
 takes_then a b c (Err _) xs ys h k = stops_after a b c xs ys h k
 
--- an answer that is an error, where the sink failed within the bytes
+-- an answer that is an error, if the sink failed within the bytes
 pub takes_err : {T E : Type 0} (a c : SinkState) (r : Result T E) (xs : List ℕ) → IsErr r → StopsWithin a c xs → TakesAll a c r xs
 takes_err a c (Ok _) xs e h = cc
 takes_err a c (Err _) xs e h = h

@@ -1,4 +1,4 @@
--- Steps of reading: what follows where they gave a value, and where they gave a fault.
+-- Steps of reading: what follows if they gave a value, and if they gave a fault.
 use Rattle.std.proofs.Common.{◌≡◌, ℕ, Bool, true, false, ◌&&◌, Option, Some, None, Result, Ok, Err, refl, ap, inl, inr}
 use Rattle.std.specs.Prelude.{◌⊎◌}
 use Rattle.fleet_text.specs.Steps.{◌>>=◌, ◌>>◌, right_or, fault_if, some_or, none_or}

@@ -224,7 +224,7 @@ stays_too_large n (d ∷ rest) large = elim (cases_Bool (is_digit d)) [
   | inr t ↦ rw (t, le-ltb n 65536 large) refl
 ]
 
--- ---- a word is the number in front where nothing follows it
+-- ---- a word spells the number in front if nothing follows it
 
 abbrev whole : ℕ × Bytes → Option ℕ
 whole (n, []) = Some n

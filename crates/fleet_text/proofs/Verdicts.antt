@@ -1,4 +1,4 @@
--- What follows where a reader answers what a text stands for, or its first fault.
+-- What follows if a reader answers what a text stands for, or its first fault.
 use Rattle.std.proofs.Common.{◌≡◌, ℕ, zero, suc, List, [], ◌∷◌, drop, Some, Result, Ok, Err, sym, ap, ◌∙◌, inl, inr}
 use Rattle.std.specs.Prelude.{slice_get}
 use Rattle.fleet_text.specs.Verdict.{HasOneVerdict}

@@ -1,7 +1,7 @@
 -- The words of a refusal.
 use Rattle.std.specs.Prelude.{ℕ, List, [], ◌∷◌, codes, decimal}
 
--- the words of want of memory
+-- the words of the line that says that memory ran out
 abbrev pub memory_words : List (List ℕ)
 memory_words = codes "memory" ∷ []
 

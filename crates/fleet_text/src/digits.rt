@@ -30,8 +30,8 @@ pub fn write_number(number: u64, row: &mut [u8], end: usize) -> usize
     write_byte(b'0' + left as u8, row, at)
 }
 
-/// Writes the digits of a number of 16 bits, of which there are five at most, so that they end before `end`, and answers
-/// where they begin.
+/// Writes the digits of a number of 16 bits, of which there are five at most, so that they end before `end`, and
+/// answers where they begin.
 pub fn write_small_number(number: u16, row: &mut [u8], end: usize) -> usize
     requires room { 5 ≤ end }
     requires within { end ≤ length row.old }

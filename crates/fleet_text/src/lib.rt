@@ -1,5 +1,5 @@
-//! Texts as bytes: their lines, the words of a line, the numbers that words spell, the digits of a number, sinks that take bytes,
-//! and refusals, which are written as lines of words.
+//! Texts as bytes: their lines, the words of a line, the numbers that words spell, the digits of a number, sinks that
+//! take bytes, and refusals, which are written as lines of words.
 //!
 //! A text is a slice of any bytes. What is read is lent from the slice, and takes no memory.
 #![tactic(auto)]

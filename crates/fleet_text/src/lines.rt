@@ -37,8 +37,8 @@ impl<'a> Cursor<'a> {
         Cursor { rest: text }
     }
 
-    /// How many bytes are left. There are no more lines than bytes, and no more bytes than the lines have with a CR and an
-    /// LF each.
+    /// How many bytes are left. There are no more lines than bytes, and no more bytes than the lines have with a CR and
+    /// an LF each.
     pub fn bytes_left(&self) -> usize
         ensures lines { length self.now ≤ result }
         ensures bytes { result ≤ sum_by (λ line. length line + 2) self.now }

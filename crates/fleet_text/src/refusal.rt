@@ -27,7 +27,7 @@ pub trait Refusal {
         ensures { result ≡ is_failure self.now };
 }
 
-/// Writes the line of want of memory.
+/// Writes the line that says that memory ran out.
 pub fn put_memory<O: TraceOut>(out: &mut O) -> Result<(), OutFault>
     requires { IsWorking (O.state out.old) }
     ensures { TakesAll (O.state out.old) (O.state out.new) result (line_text memory_words) }

@@ -60,7 +60,8 @@ impl Row {
         self.len = end;
     }
 
-    /// Adds the bytes to the row. If there is no room for them, the sink first takes what is in it.
+    /// Adds the bytes to the row. If there is no room for them, the sink first takes what is in it, and then the bytes
+    /// too if they are more than a row has room for.
     pub fn add<O: TraceOut>(&mut self, out: &mut O, bytes: &[u8]) -> Result<(), OutFault>
         requires { IsWorking (O.state out.old) }
         ensures { Gathers (O.state out.old) (O.state out.new) result self.old self.new bytes.now }
@@ -77,7 +78,7 @@ impl Row {
         Ok(())
     }
 
-    /// Ends the line, and has the sink take what is left of it.
+    /// Ends the line with an LF, and has the sink take what is left in the row.
     pub fn end_line<O: TraceOut>(&mut self, out: &mut O) -> Result<(), OutFault>
         requires { IsWorking (O.state out.old) }
         ensures { TakesAll (O.state out.old) (O.state out.new) result (self.old ++ 10 ∷ []) }

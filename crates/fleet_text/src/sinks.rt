@@ -75,8 +75,8 @@ impl Flush for VecOut {
     }
 }
 
-/// A sink over a writer. An error, an interrupted write, and a write that takes nothing are its failure, and so is a flush that
-/// the writer refuses.
+/// A sink over a writer. An error, an interrupted write, and a write that takes nothing are its failure, and so is a
+/// flush that the writer refuses.
 #[derive(Drop)]
 pub struct WriteOut<W: Write> {
     writer: W,

@@ -22,7 +22,7 @@ pub enum Word<'a> {
     Of(u16, u32),
 }
 
-/// How many digits the longest number has.
+/// How many digits the longest number of 64 bits has.
 const DIGITS: usize = 20;
 
 /// Adds a number in base ten to the row.

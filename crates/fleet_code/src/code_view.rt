@@ -83,7 +83,8 @@ fn long_number_in(bytes: &[u8], at: usize) -> u32
 /// The number of actions or the count at the offset `at`, as wide as the version has it.
 fn count_in(version: Version, bytes: &[u8], at: usize) -> u32
     requires { at + count_len version ≤ length bytes.now }
-    ensures { (n : ℕ) → n ≤ most_count version → StandsAt bytes.now at (count version n) → result ≡ n }
+    ensures { (n : ℕ) → n ≤ most_count version → StandsAt bytes.now at (count version n)
+        → result ≡ n }
 {
     match version {
         Version::One => u32::from(number_in(bytes, at)),

@@ -88,7 +88,8 @@ fn after_action(head: Head, own: u16, bytes: &[u8]) -> Result<(u32, &[u8]), Load
     requires whole { length bytes.now ≤ head.whole }
     requires few { head.agents ≤ MAX_AGENTS }
     ensures value { Finds
-        (λ x due. (x.0 ≡ opcodes due.0) × (x.1.now ≡ due.1) × (length bytes.now ≡ length (action head.version due.0) + length x.1.now))
+        (λ x due. (x.0 ≡ opcodes due.0) × (x.1.now ≡ due.1)
+        × (length bytes.now ≡ length (action head.version due.0) + length x.1.now))
         result (action_at head.version (length bytes.now) head.whole head.agents own 0 bytes.now) }
     ensures few { IfOk result (λ x. x.0 ≤ MAX_AGENTS + 1) }
 {
@@ -182,7 +183,8 @@ fn agent_head(
     bytes: &[u8],
 ) -> Result<(u32, Cell, Cell, &[u8]), LoadFault>
     requires { total ≤ MAX_MOVES_IN_ALL }
-    ensures value { IsDueUnless (λ x. ((x.1, x.2, x.0), x.3.now)) result (agent_head_at version total bytes.now) LoadFault.OutOfMemory }
+    ensures value { IsDueUnless (λ x. ((x.1, x.2, x.0), x.3.now)) result
+        (agent_head_at version total bytes.now) LoadFault.OutOfMemory }
     ensures each { IfOk result (λ x. x.0 ≤ MAX_MOVES) }
     ensures all { IfOk result (λ x. total + x.0 ≤ MAX_MOVES_IN_ALL) }
     ensures long { IfOk result (λ x. length bytes.now ≡ length x.3.now + head_len version) }
@@ -208,7 +210,8 @@ fn agent_after(
     requires few { head.agents ≤ MAX_AGENTS }
     requires total { total ≤ MAX_MOVES_IN_ALL }
     ensures value { Finds
-        (λ x due. (x.0 ≡ part_of head.version (head.whole - length bytes.now) due.0) × (x.1.now ≡ due.1)
+        (λ x due. (x.0 ≡ part_of head.version (head.whole - length bytes.now) due.0)
+        × (x.1.now ≡ due.1)
         × (length bytes.now ≡ length (agent head.version due.0) + length x.1.now))
         result (agent_at head.version head.whole head.agents own total bytes.now) }
     ensures total { IfOk result (λ x. total + length x.0.offsets ≤ MAX_MOVES_IN_ALL + 1) }
@@ -224,7 +227,8 @@ fn agents_after(alloc: Global, head: Head, bytes: &[u8]) -> Result<(Vec<Part>, &
     requires whole { length bytes.now ≤ head.whole }
     requires few { head.agents ≤ MAX_AGENTS }
     ensures value { Finds
-        (λ x due. (x.0.items ≡ parts_of head.version (head.whole - length bytes.now) due.0) × (x.1.now ≡ due.1))
+        (λ x due. (x.0.items ≡ parts_of head.version (head.whole - length bytes.now) due.0)
+        × (x.1.now ≡ due.1))
         result (agents_at head.version head.agents head.whole head.agents 0 0 bytes.now) }
     ensures shorter { IfOk result (λ x. length x.1.now ≤ length bytes.now) }
 {
@@ -243,7 +247,8 @@ fn agents_after(alloc: Global, head: Head, bytes: &[u8]) -> Result<(Vec<Part>, &
 /// How many agents there are, after the magic.
 #[tactic(auto, unfolding(crate::specs::Heads::head_at))]
 fn agents_of(version: Version, bytes: &[u8]) -> Result<(u16, &[u8]), LoadFault>
-    ensures value { IsDueUnless (λ x. (x.0, x.1.now)) result (head_at version bytes.now) LoadFault.OutOfMemory }
+    ensures value { IsDueUnless (λ x. (x.0, x.1.now)) result
+        (head_at version bytes.now) LoadFault.OutOfMemory }
     ensures few { IfOk result (λ x. x.0 ≤ MAX_AGENTS) }
     ensures long { IfOk result (λ x. length bytes.now ≡ length x.1.now + 6) }
 {
@@ -259,7 +264,8 @@ fn agents_of(version: Version, bytes: &[u8]) -> Result<(u16, &[u8]), LoadFault>
 ///
 /// A number that the bytes announce reserves no more than the bytes that are there can fill.
 pub fn parts_in(alloc: Global, version: Version, bytes: &[u8]) -> Result<Vec<Part>, LoadFault>
-    ensures { Finds (λ v due. v.items ≡ parts_of version HEAD_LEN due) result (program_as version bytes.now) }
+    ensures { Finds (λ v due. v.items ≡ parts_of version HEAD_LEN due) result
+        (program_as version bytes.now) }
 {
     let (agents, rest) = agents_of(version, bytes)?;
     let head = Head {

@@ -26,12 +26,14 @@ pub trait Files {
         ensures bytes { IfOk result (λ bytes. HoldsBytes (contents self.old) name.now bytes.items) }
         ensures within { IfOk result (λ bytes. length bytes.items ≤ MOST_BYTES) }
         ensures refused { IfErr result (refuses_read self.old name.now) }
-        ensures unreadable { result ≡ Err FileFault.Failed → IsUnreadable (contents self.old) name.now }
+        ensures unreadable { result ≡ Err FileFault.Failed
+            → IsUnreadable (contents self.old) name.now }
         ensures kept { AreUnchanged (contents self.old) (contents self.new) };
 
     /// Makes the file hold the bytes. After a refusal it may hold any bytes.
     fn write(&mut self, name: &str, bytes: &[u8]) -> Result<(), FileFault>
-        ensures replaced { OnOk result (Replaces (contents self.old) (contents self.new) name.now bytes.now) }
+        ensures replaced { OnOk result
+            (Replaces (contents self.old) (contents self.new) name.now bytes.now) }
         ensures refused { IfErr result (refuses_write self.old name.now) }
         ensures others { ChangesOnly (contents self.old) (contents self.new) name.now };
 }

@@ -48,9 +48,11 @@ impl From<InputStop> for FileFault {
 
 /// All bytes of the reader, unless they are more than `MOST_BYTES`.
 fn read_to_limit<R: Read>(alloc: Global, reader: &mut R) -> Result<Vec<u8>, InputStop>
-    ensures whole { IfOk result (λ bytes. IfSome (R.remaining reader.old) (λ rest. bytes.items ≡ rest)) }
+    ensures whole { IfOk result (λ bytes. IfSome (R.remaining reader.old)
+        (λ rest. bytes.items ≡ rest)) }
     ensures within { IfOk result (λ bytes. length bytes.items ≤ MOST_BYTES) }
-    ensures too_long { result ≡ Err InputStop.TooLong → IfSome (R.remaining reader.old) (λ rest. MOST_BYTES < length rest) }
+    ensures too_long { result ≡ Err InputStop.TooLong
+        → IfSome (R.remaining reader.old) (λ rest. MOST_BYTES < length rest) }
 {
     let mut bytes = Vec::new(alloc);
     let mut chunk = [0; CHUNK];
@@ -74,7 +76,8 @@ fn read_to_limit<R: Read>(alloc: Global, reader: &mut R) -> Result<Vec<u8>, Inpu
 /// All bytes of the reader. Errors: `Failed` if a read fails or is interrupted, or if there are more than `MOST_BYTES`
 /// bytes, and `OutOfMemory`.
 pub fn read_whole<R: Read>(alloc: Global, reader: &mut R) -> Result<Vec<u8>, FileFault>
-    ensures whole { IfOk result (λ bytes. IfSome (R.remaining reader.old) (λ rest. bytes.items ≡ rest)) }
+    ensures whole { IfOk result (λ bytes. IfSome (R.remaining reader.old)
+        (λ rest. bytes.items ≡ rest)) }
     ensures within { IfOk result (λ bytes. length bytes.items ≤ MOST_BYTES) }
 {
     let bytes = read_to_limit(alloc, reader)?;

@@ -67,7 +67,8 @@ impl Files for MemFiles {
         ensures bytes { IfOk result (λ bytes. file_in self.old name.now ≡ Some bytes.items) }
         ensures within { IfOk result (λ bytes. length bytes.items ≤ MOST_BYTES) }
         ensures kept { (n : List ℕ) → file_in self.new n ≡ file_in self.old n }
-        ensures unreadable { result ≡ Err FileFault.Failed → (bytes : List ℕ) → file_in self.old name.now ≡ Some bytes → MOST_BYTES < length bytes }
+        ensures unreadable { result ≡ Err FileFault.Failed → (bytes : List ℕ)
+            → file_in self.old name.now ≡ Some bytes → MOST_BYTES < length bytes }
     {
         let Some(bytes) = self.get(name) else {
             return Err(FileFault::Failed);
@@ -83,9 +84,11 @@ impl Files for MemFiles {
 
     /// Fails only if memory is refused, and then changes nothing.
     fn write(&mut self, name: &str, bytes: &[u8]) -> Result<(), FileFault>
-        ensures replaced { OnOk result (Replaces (Some (file_in self.old)) (Some (file_in self.new)) name.now bytes.now) }
+        ensures replaced { OnOk result
+            (Replaces (Some (file_in self.old)) (Some (file_in self.new)) name.now bytes.now) }
         ensures others { (n : List ℕ) → n ≢ name.now → file_in self.new n ≡ file_in self.old n }
-        ensures refused { IfErr result (λ e. (e ≡ FileFault.OutOfMemory) × ((n : List ℕ) → file_in self.new n ≡ file_in self.old n)) }
+        ensures refused { IfErr result (λ e. (e ≡ FileFault.OutOfMemory)
+            × ((n : List ℕ) → file_in self.new n ≡ file_in self.old n)) }
     {
         match self.put(name, bytes) {
             Ok(()) => Ok(()),

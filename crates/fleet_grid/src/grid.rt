@@ -89,8 +89,10 @@ impl Grid {
 
     /// The neighbouring cell in a direction, if it is on the map and passable.
     pub fn neighbour(&self, cell: Cell, dir: Dir) -> Option<Cell>
-        ensures some { IfSome result (λ next. (place_of next ≡ moved (place_of cell) dir) × IsTrue (is_passable self.now (place_of next))) }
-        ensures on_map { IfSome result (λ next. (next.x < self.now.width) × (next.y < self.now.height)) }
+        ensures some { IfSome result (λ next. (place_of next ≡ moved (place_of cell) dir)
+            × IsTrue (is_passable self.now (place_of next))) }
+        ensures on_map { IfSome result
+            (λ next. (next.x < self.now.width) × (next.y < self.now.height)) }
         ensures none { IfNone result (is_passable self.now (moved (place_of cell) dir) ≡ false) }
     {
         // Reading a field brings the invariant: a side is at most 4,096, so a map ends before the numbers of a cell do.

@@ -12,9 +12,11 @@ ghost use Rattle.fleet_grid.specs.MapText.{line_at, is_ground_glyph, IsMapText, 
 pub fn a_map_text_is_one_ground()
     ensures one { (text : List ℕ) (g h : Ground) → IsMapText text g → IsMapText text h → g ≡ h }
     ensures sizes { (text : List ℕ) (g : Ground) → IsMapText text g → IsGround g }
-    ensures cells { (text : List ℕ) (g : Ground) (x y : ℕ) → IsMapText text g → x < g.width → y < g.height
+    ensures cells { (text : List ℕ) (g : Ground) (x y : ℕ)
+        → IsMapText text g → x < g.width → y < g.height
         → is_ground_at g x y ≡ is_ground_glyph (get_or (line_at (lines text) (4 + y)) x 0) }
-    ensures elsewhere { (text : List ℕ) (g : Ground) (x y : ℕ) → IsMapText text g → (g.width ≤ x) ⊎ (g.height ≤ y) → is_ground_at g x y ≡ false }
+    ensures elsewhere { (text : List ℕ) (g : Ground) (x y : ℕ) → IsMapText text g
+        → (g.width ≤ x) ⊎ (g.height ≤ y) → is_ground_at g x y ≡ false }
 {}
 
 /// A text either stands for a ground or has a first fault, never both, and it has one first fault at most.
@@ -24,5 +26,6 @@ pub fn a_text_is_a_map_or_has_a_first_fault()
 
 /// No two cells of a map stand in one place of a table.
 pub fn cells_have_places_of_their_own()
-    ensures { (g : Ground) (c d : Cell) → c.x < g.width → d.x < g.width → cell_index g c ≡ cell_index g d → c ≡ d }
+    ensures { (g : Ground) (c d : Cell) → c.x < g.width → d.x < g.width
+        → cell_index g c ≡ cell_index g d → c ≡ d }
 {}

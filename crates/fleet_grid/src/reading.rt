@@ -40,7 +40,8 @@ fn field<'a>(keyword: &[u8], line: &'a [u8]) -> Option<&'a [u8]>
 /// The number of the next line, one of the header, after its keyword.
 #[tactic(auto, unfolding(crate::specs::MapReading::number_field))]
 fn number_field(keyword: &[u8], lines: &mut Cursor) -> Option<u32>
-    ensures value { result ≡ option_map (λ n. min n TOO_LARGE) (number_field keyword.now (line_at lines.old 0)) }
+    ensures value { result ≡ option_map (λ n. min n TOO_LARGE)
+        (number_field keyword.now (line_at lines.old 0)) }
     ensures rest { lines.new ≡ drop 1 lines.old }
 {
     number_of(field(keyword, next_of(lines))?)
@@ -65,7 +66,8 @@ fn is_side(n: u32) -> bool
 
 /// These numbers as width and height, if both are sides of a map.
 fn sizes_of(width: u32, height: u32) -> Result<(u16, u16), MapFault>
-    ensures value { result ≡ (if is_side height && is_side width then Ok (width, height) else Err MapFault.Size) }
+    ensures value { result
+        ≡ (if is_side height && is_side width then Ok (width, height) else Err MapFault.Size) }
     ensures sizes { IfOk result (λ sizes. IsSide sizes.0 × IsSide sizes.1) }
 {
     if !is_side(height) || !is_side(width) {
@@ -99,7 +101,8 @@ fn header_of(lines: &mut Cursor) -> Result<(u16, u16), MapFault>
 /// Judges a line as a row of the map: its length, and then its glyphs.
 #[tactic(auto, unfolding(crate::specs::MapReading::row_at))]
 fn judge_row(width: u16, row: u16, line: &[u8]) -> Result<(), MapFault>
-    ensures value { IsDueUnless (λ _. cells_of line.now) result (row_at width row line.now) MapFault.OutOfMemory }
+    ensures value { IsDueUnless (λ _. cells_of line.now) result
+        (row_at width row line.now) MapFault.OutOfMemory }
     ensures width { OnOk result (length line.now ≡ width) }
 {
     if line.len() != usize::from(width) {
@@ -116,7 +119,8 @@ fn judge_row(width: u16, row: u16, line: &[u8]) -> Result<(), MapFault>
 fn cells_of(alloc: Global, width: u16, height: u16, lines: &mut Cursor) -> Result<Cells, MapFault>
     requires width { IsSide width }
     requires height { IsSide height }
-    ensures value { IsDueUnless (λ c. ((ground_of width height c.bytes.items).rows, lines.new)) result (rows_at height width 0 lines.old) MapFault.OutOfMemory }
+    ensures value { IsDueUnless (λ c. ((ground_of width height c.bytes.items).rows, lines.new))
+        result (rows_at height width 0 lines.old) MapFault.OutOfMemory }
     ensures stored { IfOk result (λ c. IsStored width height c.passable_count c.bytes.items) }
 {
     // Each byte of cells comes from bytes of the text, so sizes that the text cannot fill reserve no more than it can.

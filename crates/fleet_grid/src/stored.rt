@@ -50,7 +50,8 @@ impl Cells {
         requires { width ≤ MAX_SIDE }
         ensures bytes { IfOk result (λ c. c.bytes.items ≡ []) }
         ensures count { IfOk result (λ c. c.passable_count ≡ 0) }
-        ensures room { IfOk result (λ c. vec_capacity c.bytes ≡ min (byte_count width * height) most) }
+        ensures room { IfOk result (λ c. vec_capacity c.bytes
+            ≡ min (byte_count width * height) most) }
     {
         let all = byte_count(usize::from(width)) * usize::from(height);
         Ok(Cells {
@@ -63,8 +64,10 @@ impl Cells {
     pub(crate) fn put_row(&mut self, line: &[u8]) -> Result<(), AllocError>
         requires few { length line.now ≤ MAX_SIDE }
         requires count { self.old.passable_count + length line.now ≤ 2 ^ 24 }
-        ensures bytes { OnOk result (stored_cells self.new.bytes.items ≡ stored_cells self.old.bytes.items ++ padded (cells_of line.now)) }
-        ensures count { OnOk result (self.new.passable_count ≡ self.old.passable_count + count_by is_ground_glyph line.now) }
+        ensures bytes { OnOk result (stored_cells self.new.bytes.items
+            ≡ stored_cells self.old.bytes.items ++ padded (cells_of line.now)) }
+        ensures count { OnOk result (self.new.passable_count
+            ≡ self.old.passable_count + count_by is_ground_glyph line.now) }
     {
         let mut rest = line;
         while let Some((block, after)) = rest.split_first_chunk::<BLOCK>() {
@@ -81,8 +84,11 @@ impl Cells {
     fn put_block(&mut self, block: &[u8; BLOCK], len: usize) -> Result<(), AllocError>
         requires len { len ≤ BLOCK }
         requires count { self.old.passable_count ≤ 2 ^ 24 }
-        ensures bytes { OnOk result (stored_cells self.new.bytes.items ≡ stored_cells self.old.bytes.items ++ take (8 * byte_count len) (map is_ground_glyph block.now)) }
-        ensures count { OnOk result (self.new.passable_count ≡ self.old.passable_count + count_by is_ground_glyph block.now) }
+        ensures bytes { OnOk result (stored_cells self.new.bytes.items
+            ≡ stored_cells self.old.bytes.items ++ take (8 * byte_count len)
+            (map is_ground_glyph block.now)) }
+        ensures count { OnOk result (self.new.passable_count
+            ≡ self.old.passable_count + count_by is_ground_glyph block.now) }
     {
         let mask = ground_mask(u8x64::from_array(*block));
         self.bytes

@@ -9,11 +9,14 @@ ghost use Rattle.fleet_scen.specs.ScenText.{IsScenText, IsFirstScenFault};
 
 /// For a map and a number asked, a text stands for one list of tasks at most, and these are an instance's.
 pub fn a_scenario_text_is_one_instance()
-    ensures one { (text : List ℕ) (g : Ground) (asked : Option ℕ) (s t : List Task) → IsScenText text g asked s → IsScenText text g asked t → s ≡ t }
-    ensures instance { (text : List ℕ) (g : Ground) (asked : Option ℕ) (t : List Task) → IsScenText text g asked t → IsInstance t }
+    ensures one { (text : List ℕ) (g : Ground) (asked : Option ℕ) (s t : List Task)
+        → IsScenText text g asked s → IsScenText text g asked t → s ≡ t }
+    ensures instance { (text : List ℕ) (g : Ground) (asked : Option ℕ) (t : List Task)
+        → IsScenText text g asked t → IsInstance t }
 {}
 
 /// A text either stands for tasks or has a first fault, never both, and it has one first fault at most.
 pub fn a_text_is_a_scenario_or_has_a_first_fault()
-    ensures { (text : List ℕ) (g : Ground) (asked : Option ℕ) → HasOneVerdict (IsScenText text g asked) (IsFirstScenFault text g asked) }
+    ensures { (text : List ℕ) (g : Ground) (asked : Option ℕ)
+        → HasOneVerdict (IsScenText text g asked) (IsFirstScenFault text g asked) }
 {}

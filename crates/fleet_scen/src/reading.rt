@@ -43,7 +43,8 @@ fn is_version(line: &[u8]) -> bool
 #[tactic(auto, unfolding(crate::specs::ScenReading::after_version))]
 fn pass_version(lines: &mut Cursor) -> Result<u64, ScenFault>
     requires { length lines.old < 2 ^ 64 }
-    ensures value { IsDueUnless (λ before. (before, lines.new)) result (after_version 0 lines.old) ScenFault.OutOfMemory }
+    ensures value { IsDueUnless (λ before. (before, lines.new)) result
+        (after_version 0 lines.old) ScenFault.OutOfMemory }
     ensures count { IfOk result (λ before. before + length lines.new ≡ length lines.old) }
 {
     let mut before = 0;
@@ -129,7 +130,8 @@ fn tasks_of(
     lines: &mut Cursor,
 ) -> Result<Vec<Task>, ScenFault>
     requires { before + length lines.old < 2 ^ 64 }
-    ensures { IsDueUnless (λ v. v.items) result (tasks_at grid.now asked before [] lines.old) ScenFault.OutOfMemory }
+    ensures { IsDueUnless (λ v. v.items) result
+        (tasks_at grid.now asked before [] lines.old) ScenFault.OutOfMemory }
 {
     let mut tasks = Vec::new(alloc);
     let mut starts = HashSet::new(alloc);
@@ -160,7 +162,8 @@ fn tasks_of(
 
 /// The tasks, if they are enough.
 fn enough_tasks(asked: Option<u16>, tasks: Vec<Task>) -> Result<Vec<Task>, ScenFault>
-    ensures { IsDueUnless (λ v. v.items) result (scen_judged asked tasks.items) ScenFault.OutOfMemory }
+    ensures { IsDueUnless (λ v. v.items) result
+        (scen_judged asked tasks.items) ScenFault.OutOfMemory }
 {
     match asked {
         None if tasks.is_empty() => Err(ScenFault::NoAgents),
@@ -187,7 +190,8 @@ fn scen_of(
     grid: &Grid,
     asked: Option<u16>,
 ) -> Result<Vec<Task>, ScenFault>
-    ensures { IsDueUnless (λ v. v.items) result (scen_at grid.now asked (lines bytes.now)) ScenFault.OutOfMemory }
+    ensures { IsDueUnless (λ v. v.items) result
+        (scen_at grid.now asked (lines bytes.now)) ScenFault.OutOfMemory }
 {
     judge_asked(asked)?;
     let mut lines = Cursor::new(bytes);
@@ -209,9 +213,11 @@ pub fn read_scen(
     ensures found { IfOk result (λ tasks. IsScenText bytes.now grid.now asked tasks) }
     ensures cells { IfOk result (All (HasPassableEnds grid.now)) }
     // What stands for tasks is read, unless memory runs out.
-    ensures read { (tasks : List Task) → IsScenText bytes.now grid.now asked tasks → IsOkUnless result ScenFault.OutOfMemory }
+    ensures read { (tasks : List Task) → IsScenText bytes.now grid.now asked tasks
+        → IsOkUnless result ScenFault.OutOfMemory }
     // Which fault it is.
-    ensures fault { IfErr result (λ f. f ≢ ScenFault.OutOfMemory → IsFirstScenFault bytes.now grid.now asked f) }
+    ensures fault { IfErr result (λ f. f ≢ ScenFault.OutOfMemory
+        → IsFirstScenFault bytes.now grid.now asked f) }
 {
     let tasks = scen_of(alloc, bytes, grid, asked)?;
     Ok(Instance::new(tasks))

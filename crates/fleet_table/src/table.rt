@@ -87,7 +87,8 @@ fn replace_in<V: Copy>(page: &mut Vec<V>, place: usize, value: V, blank: V) -> R
     requires { place < PAGE }
     ensures before { IfOk result (λ before. before ≡ get_or page.old.items place blank) }
     ensures here { OnOk result (get_or page.new.items place blank ≡ value) }
-    ensures others { OnOk result ((k : ℕ) → k ≢ place → get_or page.new.items k blank ≡ get_or page.old.items k blank) }
+    ensures others { OnOk result ((k : ℕ) → k ≢ place
+        → get_or page.new.items k blank ≡ get_or page.old.items k blank) }
 {
     if page.len() <= place {
         fill(page, blank)?;
@@ -101,7 +102,8 @@ fn replace_in<V: Copy>(page: &mut Vec<V>, place: usize, value: V, blank: V) -> R
 #[inline(never)]
 fn fill<V: Copy>(page: &mut Vec<V>, blank: V) -> Result<(), AllocError>
     ensures whole { OnOk result (PAGE ≤ length page.new.items) }
-    ensures same { OnOk result ((place : ℕ) → get_or page.new.items place blank ≡ get_or page.old.items place blank) }
+    ensures same { OnOk result ((place : ℕ)
+        → get_or page.new.items place blank ≡ get_or page.old.items place blank) }
 {
     page.reserve_exact(PAGE - page.len().min(PAGE))?;
     for _more in page.len()..PAGE {

@@ -48,7 +48,8 @@ impl<'a> Cursor<'a> {
 
     /// Passes over the next line and lends it, without its LF or CR LF, or answers `None` at the end.
     pub fn next_line(&mut self) -> Option<&'a [u8]>
-        ensures { MatchOption result ((self.old ≡ []) × (self.new ≡ [])) (λ line. self.old ≡ line.now ∷ self.new) }
+        ensures { MatchOption result ((self.old ≡ []) × (self.new ≡ []))
+            (λ line. self.old ≡ line.now ∷ self.new) }
     {
         let (line, rest) = next_line(self.rest)?;
         self.rest = rest;
@@ -58,7 +59,8 @@ impl<'a> Cursor<'a> {
 
 /// The first line of a text, without its LF or CR LF, and the text after it, or `None` at the end of the text.
 pub fn next_line(text: &[u8]) -> Option<(&[u8], &[u8])>
-    ensures { MatchOption result (lines text.now ≡ []) (λ x. lines text.now ≡ x.0.now ∷ lines x.1.now) }
+    ensures { MatchOption result (lines text.now ≡ [])
+        (λ x. lines text.now ≡ x.0.now ∷ lines x.1.now) }
 {
     if text.is_empty() {
         return None;

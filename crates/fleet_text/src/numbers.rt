@@ -9,7 +9,8 @@ pub const TOO_LARGE: u32 = 65_536;
 /// The number in front of a text, and what follows its digits, however many they are. A number above `TOO_LARGE` is
 /// answered as `TOO_LARGE`; if no digit stands in front, there is none.
 fn number_front(text: &[u8]) -> Option<(u32, &[u8])>
-    ensures { option_map (λ x. (x.0, x.1.now)) result ≡ option_map (capped TOO_LARGE) (number_front text.now) }
+    ensures { option_map (λ x. (x.0, x.1.now)) result
+        ≡ option_map (capped TOO_LARGE) (number_front text.now) }
 {
     let [first, after @ ..] = text else {
         return None;

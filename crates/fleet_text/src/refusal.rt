@@ -20,7 +20,8 @@ pub trait Refusal {
     /// Writes its line.
     fn put<O: TraceOut>(&self, out: &mut O) -> Result<(), OutFault>
         requires { IsWorking (O.state out.old) }
-        ensures { TakesAll (O.state out.old) (O.state out.new) result (line_text (words self.now)) };
+        ensures { TakesAll (O.state out.old) (O.state out.new) result
+            (line_text (words self.now)) };
 
     /// Whether memory, a file, a source or a sink failed, and nothing is wrong with what was given.
     fn is_failure(&self) -> bool
@@ -88,7 +89,8 @@ pub fn put_named_by<O: TraceOut>(
 ) -> Result<(), OutFault>
     requires { IsWorking (O.state out.old) }
     ensures { TakesAll (O.state out.old) (O.state out.new) result
-        (line_text (named_by part.now number name.now first.entry.0.now first.entry.1 second.entry.0.now second.entry.1)) }
+        (line_text (named_by part.now number name.now
+        first.entry.0.now first.entry.1 second.entry.0.now second.entry.1)) }
 {
     let (first_name, first_value) = first;
     let (second_name, second_value) = second;

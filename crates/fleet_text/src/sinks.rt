@@ -88,7 +88,8 @@ pub struct WriteOut<W: Write> {
 impl<W: Write> WriteOut<W> {
     /// A sink over this writer, which may keep back what it took before.
     pub fn new(writer: W) -> WriteOut<W>
-        ensures { ⟦<WriteOut<W> as TraceOut>⟧.state result ≡ record { taken = W.contents writer; has_failed = false; is_flushed = false } }
+        ensures { ⟦<WriteOut<W> as TraceOut>⟧.state result
+            ≡ record { taken = W.contents writer; has_failed = false; is_flushed = false } }
     {
         WriteOut {
             writer,

@@ -5,7 +5,8 @@ ghost use Rattle.fleet_text.specs.Text.{is_blank, words, words_from_front};
 
 /// The first word of a line and the line after it, or `None` if no word is left.
 pub fn next_word(line: &[u8]) -> Option<(&[u8], &[u8])>
-    ensures { MatchOption result (words line.now ≡ []) (λ x. words line.now ≡ x.0.now ∷ words x.1.now) }
+    ensures { MatchOption result (words line.now ≡ [])
+        (λ x. words line.now ≡ x.0.now ∷ words x.1.now) }
 {
     let line = &line[word_start(line)?..];
     match word_end(line) {

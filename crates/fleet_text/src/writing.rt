@@ -43,7 +43,8 @@ fn put_number_then<O: TraceOut>(
     after: u8,
 ) -> Result<(), OutFault>
     requires { IsWorking (O.state out.old) }
-    ensures { Gathers (O.state out.old) (O.state out.new) result row.old row.new (decimal number ++ after ∷ []) }
+    ensures { Gathers (O.state out.old) (O.state out.new) result row.old row.new
+        (decimal number ++ after ∷ []) }
 {
     put_number(row, out, number)?;
     row.add(out, &[after])
@@ -68,7 +69,8 @@ fn put_two<O: TraceOut>(
 /// Adds a word to the row.
 fn put_word<O: TraceOut>(row: &mut Row, out: &mut O, word: Word<'_>) -> Result<(), OutFault>
     requires { IsWorking (O.state out.old) }
-    ensures { Gathers (O.state out.old) (O.state out.new) result row.old row.new (word_text word.entry) }
+    ensures { Gathers (O.state out.old) (O.state out.new) result row.old row.new
+        (word_text word.entry) }
 {
     match word {
         Word::Text(text) => row.add(out, text.as_bytes()),
@@ -86,7 +88,8 @@ pub fn put_next_word<O: TraceOut>(
     word: Word<'_>,
 ) -> Result<(), OutFault>
     requires { IsWorking (O.state out.old) }
-    ensures { Gathers (O.state out.old) (O.state out.new) result row.old row.new (32 ∷ word_text word.entry) }
+    ensures { Gathers (O.state out.old) (O.state out.new) result row.old row.new
+        (32 ∷ word_text word.entry) }
 {
     row.add(out, b" ")?;
     put_word(row, out, word)
@@ -99,7 +102,8 @@ pub fn put_words<O: TraceOut>(
     words: &[Word<'_>],
 ) -> Result<(), OutFault>
     requires { IsWorking (O.state out.old) }
-    ensures { Gathers (O.state out.old) (O.state out.new) result row.old row.new (spaced (map word_text words.now)) }
+    ensures { Gathers (O.state out.old) (O.state out.new) result row.old row.new
+        (spaced (map word_text words.now)) }
 {
     let Some((first, rest)) = words.split_first() else {
         return Ok(());

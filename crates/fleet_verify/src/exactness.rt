@@ -71,7 +71,8 @@ pub fn listed_visits_are_chained()
 /// Neighbours in the sorted listing of which the second may not come after the first have no order either way, and if
 /// two visits of a place have none, the program is not orderly.
 pub fn unordered_visits_are_found()
-    ensures neighbours { (p : Program) (level : ActionId → ℕ) (q : Place) (sorted : List Visit) (k : ℕ) (v w : Visit) →
+    ensures neighbours { (p : Program) (level : ActionId → ℕ) (q : Place) (sorted : List Visit)
+        (k : ℕ) (v w : Visit) →
         AreLevels p level → IsSortedListing p level q sorted →
         slice_get sorted k ≡ Some v → slice_get sorted (k + 1) ≡ Some w →
         (ComesAfterByChain p v w → ⊥) → AreUnordered p q v w }

@@ -199,7 +199,7 @@ leaver-some plan q y j e =
     let l = last_below-some (leaves plan q y) (length plan) j e in
     (l.below, (leaves-parts plan q y j l.passes).0)
 
--- the last leaving is that in step s, where nobody stands on q after it
+-- the last leaving is that in step s if nobody stands on q after it
 pub last_leaving-at : (plan : Plan) (q : Cell) (t s j : ℕ) → s < t → leaver plan q s ≡ Some j → ((u k : ℕ) → s < u → u < t → k < length plan → cell_of plan k u ≢ q) → last_leaving plan q t ≡ Some (await_of plan s j)
 unfolding last_leaving
 last_leaving-at plan q t s j l e nobody =

@@ -302,7 +302,7 @@ agent_more plan actions done rest row agents a n made whole size is =
     ∙ sym (map_push (agent_from plan actions) (indices (length done)) (length done))
     ∙ ap (map (agent_from plan actions)) (ap (λ k. indices (length done) ++ k ∷ []) (sym z) ∙ sym (range_push 0 (length done)) ∙ ap indices (sym (length_push done row ∙ add-one (length done))))
 
--- the same, where each agent stays so often after its actions
+-- the same, if each agent stays so often after its actions
 pub staying_more : (stays : ℕ) (plan : Plan) (actions done rest : List (List Action)) (row : List Action) (agents : List AgentProgram) (a : AgentProgram) (n : ℕ) → agents ≡ map (with_stays stays) (map (agent_from plan actions) (indices (length done))) → done ++ row ∷ rest ≡ actions → n ≡ length agents → a ≡ with_stays stays (record { start = cell_of plan n 0; goal = cell_of plan n (steps plan); actions = row }) → agents ++ a ∷ [] ≡ map (with_stays stays) (map (agent_from plan actions) (indices (length (done ++ row ∷ []))))
 staying_more stays plan actions done rest row agents a n made whole size is =
     let before : List AgentProgram = map (agent_from plan actions) (indices (length done)) in

@@ -104,10 +104,11 @@ compiled_staying plan deps stays = map (with_stays stays) (compiled plan deps)
 abbrev pub each_has_few : Plan → ℕ → Bool
 each_has_few plan stays = list_all (λ i. nat_le (moves_by plan i (steps plan) + stays) MAX_MOVES) (indices (length plan))
 
--- .. nor have all agents together
+-- all agents together do not have too many then
 abbrev pub all_have_few : Plan → ℕ → Bool
 all_have_few plan stays = nat_le (moves_in_all plan + length plan * stays) MAX_MOVES_IN_ALL
 
+-- both of these are so
 abbrev pub has_few_actions : Plan → ℕ → Bool
 has_few_actions plan stays = each_has_few plan stays && all_have_few plan stays
 

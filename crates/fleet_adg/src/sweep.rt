@@ -106,6 +106,7 @@ fn empty_lists(alloc: Global, plan: &Plan, deps: Deps) -> Result<Vec<Growing>, O
     Ok(lists)
 }
 
+/// No action, and room for so many, and for their awaits if each has at most one.
 fn empty_list(alloc: Global, moves: usize, deps: Deps) -> Result<Growing, OutOfMemory>
     ensures { IfOk result (λ actions. actions ≡ []) }
 {

@@ -67,7 +67,7 @@ opening_same p q h =
     start : (i : ℕ) → ◌≡◌ {A = Standing} (record { place = place_of (start_of q i); count = 0 }) (record { place = place_of (start_of p i); count = 0 })
     start i = λ j. record { place = place_of (h.starts i j); count = 0 }
 
--- where steps agree, so do paths
+-- if steps agree, so do paths
 abbrev walk : Place → List Step → Place
 walk x [] = x
 walk x (s ∷ ss) = walk (stepped x s) ss

@@ -172,7 +172,7 @@ looking_more p range v w needed looked new j n h inside is l same r = record {
           omega (arith, h.closed i c a f low k, r.keeps a.agent)
     ]
 
--- where all that is known was looked at, it is all
+-- if all that is known was looked at, it is all
 pub looking_end : (p : Program) (v w : Visit) (needed looked : List ℕ) → IsLooking p v w needed looked → ((i : ℕ) → i < length p → slice_index needed i ≤ slice_index looked i) → AreNeeded p v w (slice_index needed)
 looking_end p v w needed looked h all i c = (
   (λ k. ((needed_action p v w (record { agent = i; number = c }) k).first, into k)),

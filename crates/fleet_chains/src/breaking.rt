@@ -70,7 +70,7 @@ fn holds_by<P: ProgramView>(
     Ok(holds)
 }
 
-/// The agents that are held in a tick, in rising order. The counts are those after it from now on.
+/// The agents that are held in a tick, in rising order. It leaves in `counts` those after the tick.
 fn run_tick<P: ProgramView>(
     alloc: Global,
     program: &P,
@@ -90,7 +90,7 @@ fn run_tick<P: ProgramView>(
     Ok(row)
 }
 
-/// Whether an agent has an action left, and all that it awaits is finished, by how many actions of each agent are.
+/// Whether an agent, by these counts of finished actions, has an action left, each await of which is met.
 fn is_ready<P: ProgramView>(program: &P, counts: &[u32], i: u16) -> bool
     requires agent { i < length (P.program program.now) }
     requires counts { length counts.now ≡ length (P.program program.now) }

@@ -7,8 +7,8 @@ ghost use Rattle.fleet_model.specs.Chain.{IsAction, DirectlyNeeds};
 ghost use Rattle.fleet_verify.specs.Listing.{AreLevels};
 ghost use Rattle.fleet_verify.specs.Rows.{IsCountedUp, IsRow, IsRowOfNeeds};
 
-/// Levels are found by counting up: an action's level is 1, or one more than that of an action that
-/// it directly needs, and above those of all of them.
+/// Levels are found by counting up: an action's level is 1, or one more than that of an action that it directly needs,
+/// and above those of all of them.
 pub fn levels_are_counted_up()
     ensures { (p : Program) (level : ActionId → ℕ) →
         ((a : ActionId) → IsAction p a → IsCountedUp p level a) → AreLevels p level }

@@ -10,8 +10,8 @@ ghost use Rattle.fleet_model.specs.declared.task.Task.{Task};
 ghost use Rattle.fleet_model.specs.Accepted.{IsAcceptedBy};
 ghost use Rattle.fleet_chains.specs.Reduced.{IsThinned, IsReduced, HaveSameChains, RunEqually};
 
-/// Without its implied awaits a program has the same chains and no implied awaits, and so has one the same chains that
-/// still needs through a chain whatever it no longer awaits.
+/// Without its implied awaits a program has the same chains, and none of its awaits is implied. A program also keeps
+/// its chains without awaits of actions that it still needs through a chain.
 pub fn thinning_keeps_chains()
     ensures thinned { (p q : Program) (number : ActionId → ℕ) →
         IsNumbering p number → IsThinned p q → HaveSameChains p q }
@@ -22,8 +22,7 @@ pub fn thinning_keeps_chains()
     ensures thinned_in_range { (p q : Program) → AreInRange p → IsThinned p q → AreInRange q }
 {}
 
-/// Programs with the same chains have the same levels and the same longest chain, are accepted alike
-/// and run equally.
+/// Programs with the same chains have the same levels and the same longest chain, are accepted alike and run equally.
 pub fn same_chains_run_equally()
     ensures equally { (p q : Program) →
         AreInRange p → AreInRange q → HaveSameChains p q → RunEqually p q }
@@ -39,8 +38,7 @@ pub fn same_chains_run_equally()
         IsAcceptedBy ComesAfterByChain passable tasks q }
 {}
 
-/// An accepted program without its implied awaits is accepted, has the same longest chain and runs
-/// equally.
+/// An accepted program without its implied awaits is accepted, has the same longest chain and runs equally.
 pub fn thinned_programs_run_equally()
     ensures { (p q : Program) (passable : Place → Bool) (tasks : List Task) →
         IsAcceptedBy ComesAfterByChain passable tasks p → IsThinned p q →

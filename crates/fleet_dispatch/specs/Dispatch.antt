@@ -13,8 +13,8 @@ use Rattle.fleet_dispatch.specs.declared.run.DispatchReport.{DispatchReport}
 use Rattle.fleet_dispatch.specs.Talk.{Turn, Talk, Told, Cut, Heard, Misheard, NoMore, Unheard}
 use Rattle.fleet_dispatch.specs.Orders.{new_orders, talk_before, talk_of, closing}
 
--- The configuration after these reports, whose run is that under the holds of all others. Each report named agents with orders
--- alone, and came before all was finished
+-- The configuration after these reports, whose run is that under the holds of all others. Each report named agents with
+-- orders alone, and came before all was finished
 pub record AreTaken (p : Program) (reports : List (List ℕ)) (c : Configuration) : Type 0 where
   pub here : c ≡ run p (holds_of (length p) reports) (length reports)
   pub answers : (t : ℕ) → t < length reports → AreSent p (run p (holds_of (length p) reports) t) (is_among (get_or reports t []))

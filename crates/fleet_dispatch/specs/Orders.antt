@@ -30,8 +30,8 @@ talk_before p reports zero = []
 talk_before p reports (suc t) =
     (talk_before p reports t ++ Told (new_orders p (holds_of (length p) reports) t) ∷ []) ++ Heard (get_or reports t []) ∷ []
 
--- The talk up to report t: the orders of time 0, the first report, the orders that are due then, and so on. Each time's orders are
--- told before the next report is heard
+-- The talk up to report t: the orders of time 0, the first report, the orders that are due then, and so on. Each time's
+-- orders are told before the next report is heard
 abbrev pub talk_of : Program → List (List ℕ) → ℕ → Talk
 talk_of p reports t = talk_before p reports t ++ Told (new_orders p (holds_of (length p) reports) t) ∷ []
 

@@ -23,8 +23,8 @@ GivesLine (Some text) (Some rest) line = lines text ≡ line ∷ lines rest
 abbrev pub IsMisheard : ℕ → List ℕ → Type 0
 IsMisheard n text = (line : List ℕ) × (rest : List (List ℕ)) × (lines text ≡ line ∷ rest) × ((tick_of n line ≡ None) ⊎ (LINE_ROOM ≤ length line + 1))
 
--- One thing was told or heard, which leaves the other end as it was. What was told whole was handed on; a report is the line that
--- names its agents as a line of holds does
+-- One thing was told or heard, which leaves the other end as it was. What was told whole was handed on; a report is the
+-- line that names its agents as a line of holds does
 abbrev pub TakesTurn : (ends ends' : Ends) → Turn → Type 0
 TakesTurn ends ends' (Told bytes) = IsDelivered ends.out ends'.out bytes × (ends'.left ≡ ends.left)
 TakesTurn ends ends' (Cut bytes) = Appends ends.out.taken ends'.out.taken bytes × HasFailed ends'.out × (ends'.left ≡ ends.left)

@@ -10,8 +10,8 @@ use Rattle.fleet_dispatch.specs.declared.window.TheConstants.{LINE_ROOM}
 use Rattle.fleet_dispatch.specs.declared.floor.HearFault.{HearFault}
 use Rattle.fleet_dispatch.specs.declared.floor.HearFault.TheVariants.{Form, Broken}
 
--- Where the next line ends in the bytes that were read: nowhere only if there are no more bytes; or as many bytes as are heard
--- of a line do not end it
+-- Where the next line ends in the bytes that were read: nowhere only if there are no more bytes; or as many bytes as
+-- are heard of a line do not end it
 abbrev pub EndsLine : (left : Option (List ℕ)) → List ℕ → Result (Option ℕ) HearFault → Type 0
 EndsLine left read (Ok found) = (position is_lf read ≡ found) × (found ≡ None → IsAtEnd left)
 EndsLine left read (Err Form) = (position is_lf read ≡ None) × (LINE_ROOM ≤ length read)

@@ -22,7 +22,8 @@ abbrev pub Tells : {T E : Type 0} → (talks : Talk → Type 0) (works : Type 0)
 Tells talks works (Ok _) bytes = talks (Told bytes ∷ []) × works
 Tells talks works (Err _) bytes = (k : ℕ) × (k ≤ length bytes) × talks (Cut (take k bytes) ∷ [])
 
--- A report was heard, and the flags are set as it names the agents; or there was none, or no report, or nothing could be heard
+-- A report was heard, and the flags are set as it names the agents; or there was none, or no report, or nothing could
+-- be heard
 abbrev pub Hears : (talks : Talk → Type 0) (works : Type 0) → Result Bool HearFault → List Bool → Type 0
 Hears talks works (Ok true) flags = (report : List ℕ) × AreFlagsOf report flags × talks (Heard report ∷ []) × works
 Hears talks works (Ok false) flags = talks (NoMore ∷ [])

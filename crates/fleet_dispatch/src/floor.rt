@@ -11,8 +11,8 @@ pub enum HearFault {
     Broken,
 }
 
-/// A floor of robots. All that is said to it and heard from it is one talk, in turn, so a contract says which bytes were told before a
-/// report was heard.
+/// A floor of robots. All that is said to it and heard from it is one talk, in turn, so a contract says which bytes
+/// were said before a report was heard.
 pub trait Floor {
     ghost use Rattle.std.specs.Prelude.{ℕ, List, [], ◌++◌};
     ghost use Rattle.fleet_dispatch.specs.Talk.{Talk, Tells, Hears};
@@ -23,7 +23,8 @@ pub trait Floor {
     /// Whether it can be told more and heard further.
     ghost works: { Self → Type 0 };
 
-    /// Hands on all of the bytes before it answers. If it fails, a front of them was taken, and nothing more can be said.
+    /// Hands on all of the bytes before it answers. If it fails, a front of them was taken, and nothing more can be
+    /// said.
     fn tell(&mut self, bytes: &[u8]) -> Result<(), OutFault>
         requires { works self.old }
         ensures { Tells (talks self.old self.new) (works self.new) result bytes.now };

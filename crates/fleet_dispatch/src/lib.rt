@@ -1,5 +1,5 @@
-//! Dispatch of robots whose moves overlap and take any time: each is told its order as soon as it has one, and reports when it has
-//! carried it out.
+//! Dispatch of robots whose moves overlap and take any time: each is told its order as soon as it has one, and reports
+//! when it has carried it out.
 #![tactic(auto)]
 
 mod floor;

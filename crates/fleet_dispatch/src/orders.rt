@@ -38,8 +38,8 @@ fn write_order<P: ProgramView>(fleet: &Fleet<'_, P>, i: u16, row: &mut [u8], end
     write_bytes(b"go ", row, at)
 }
 
-/// Writes the orders of the agents that were not sent theirs, in rising order of agent, and answers where they begin. They end with the
-/// row. It looks only at the agents that have an order and were not sent it.
+/// Writes the orders of the agents that were not sent theirs, in rising order of agent, and answers where they begin.
+/// They end with the row. It looks only at the agents that have an order and were not sent it.
 fn write_orders<P: ProgramView>(fleet: &Fleet<'_, P>, sent: &AgentSet, row: &mut [u8]) -> usize
     requires few { length (P.program fleet.now.accepted.program) ≤ MAX_AGENTS }
     requires room { length row.old ≡ ORDERS }
@@ -57,7 +57,8 @@ fn write_orders<P: ProgramView>(fleet: &Fleet<'_, P>, sent: &AgentSet, row: &mut
     at
 }
 
-/// Tells the orders of the agents that were not sent theirs, and notes in `sent` that every agent with an order was sent it.
+/// Tells the orders of the agents that were not sent theirs, and notes in `sent` that every agent with an order was
+/// sent it.
 pub fn tell_orders<P: ProgramView, F: Floor>(
     fleet: &Fleet<'_, P>,
     sent: &mut AgentSet,

@@ -80,7 +80,8 @@ impl Refusal for DispatchFault {
     }
 }
 
-/// A dispatch after which all stand on their goals: its agents, the actions of its program, and the reports that were taken.
+/// A dispatch after which all stand on their goals: its agents, the actions of its program, and the reports that were
+/// taken.
 #[derive(Clone, Copy)]
 pub struct DispatchReport {
     pub agents: u16,
@@ -88,8 +89,8 @@ pub struct DispatchReport {
     pub reports: u32,
 }
 
-/// Hears the line of this number, and takes it as a report: the agents that it names have carried out their orders, and have not been
-/// sent their next ones.
+/// Hears the line of this number, and takes it as a report: the agents that it names have carried out their orders, and
+/// have not been sent their next ones.
 fn take_report<P: ProgramView, F: Floor>(
     fleet: &mut Fleet<'_, P>,
     sent: &mut AgentSet,
@@ -179,12 +180,12 @@ fn run_reports<P: ProgramView, F: Floor>(
     }
 }
 
-/// Dispatches a fleet from its start until all stand on their goals. Each agent is told its order as soon as it has one and before the
-/// next report is waited for; a report names those that have carried out their orders. Takes no memory.
+/// Dispatches a fleet from its start until all stand on their goals. Each agent is told its order as soon as it has one
+/// and before the next report is waited for; a report names those that have carried out their orders. Takes no memory.
 ///
-/// Errors: `Form` if a line is no report, `NotOrdered` if a report names an agent without an order, `Ended` if no line is left, `Input` if
-/// one cannot be read; `Write` if orders or the closing lines cannot be told; `ReportLimit` if actions are left after `MOST_REPORTS`
-/// reports.
+/// Errors: `Form` if a line is no report, `NotOrdered` if a report names an agent without an order, `Ended` if no line
+/// is left, `Input` if one cannot be read; `Write` if orders or the closing lines cannot be told; `ReportLimit` if
+/// actions are left after `MOST_REPORTS` reports.
 pub fn dispatch<P: ProgramView, F: Floor>(
     fleet: &mut Fleet<'_, P>,
     floor: &mut F,
@@ -194,8 +195,8 @@ pub fn dispatch<P: ProgramView, F: Floor>(
     ensures accepted { fleet.new.accepted ≡ fleet.old.accepted }
     ensures outcome { Dispatches (P.program fleet.old.accepted.program) (F.talks floor.old floor.new) fleet.new.configuration result }
     ensures arrived { IfOk result (λ _. AreOnGoals (P.program fleet.old.accepted.program) fleet.new.configuration) }
-    // Whatever is reported and when: of two agents, each of which stands, or is anywhere on a move that it was ever ordered and has not
-    // reported, no place is common, and each such place is passable.
+    // Whatever is reported and when: of two agents, each of which stands, or is anywhere on a move that it was ever
+    // ordered and has not reported, no place is common, and each such place is passable.
     ensures apart { (holds : Holds) (t i j : ℕ) (q : Place) → i < length (P.program fleet.old.accepted.program)
         → j < length (P.program fleet.old.accepted.program) → i ≢ j → MayBeOn (P.program fleet.old.accepted.program) holds t i q
         → MayBeOn (P.program fleet.old.accepted.program) holds t j q → ⊥ }

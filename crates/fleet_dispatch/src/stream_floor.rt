@@ -15,9 +15,9 @@ use fleet_run::{Flush, OutFault, a_tick_line_is_read, clear, put_all, set_tick};
 use std::io;
 use std::io::Read;
 
-/// A floor over an input and an output. A report is a line of the input, read as it comes: `-` for nobody, or the numbers of the agents
-/// that have carried out their orders, in strictly rising order with one space between two. What is told is handed on before a line is waited for.
-/// Takes no memory.
+/// A floor over an input and an output. A report is a line of the input, read as it comes: `-` for nobody, or the
+/// numbers of the agents that have carried out their orders, in strictly rising order with one space between two. What
+/// is told is handed on before a line is waited for. Takes no memory.
 #[derive(Drop)]
 pub struct StreamFloor<R: Read, O: Flush> {
     input: R,
@@ -56,8 +56,8 @@ fn without_cr(line: &[u8]) -> &[u8]
     }
 }
 
-/// Reads until a line ends in the window, and answers where; nowhere at the end of the input. A line that the window cannot hold is no
-/// report.
+/// Reads until a line ends in the window, and answers where; nowhere at the end of the input. A line that the window
+/// cannot hold is no report.
 fn find_line<R: Read>(input: &mut R, window: &mut Window) -> Result<Option<usize>, HearFault>
     ensures { FindsLine (R.remaining input.old) (R.remaining input.new) (unpassed window.old) (unpassed window.new) result }
 {
@@ -77,7 +77,8 @@ fn find_line<R: Read>(input: &mut R, window: &mut Window) -> Result<Option<usize
     }
 }
 
-/// The next line of the bytes that were read, which ends where it was found or with them all, and how many bytes are passed with it.
+/// The next line of the bytes that were read, which ends where it was found or with them all, and how many bytes are
+/// passed with it.
 fn line_in(read: &[u8], found: Option<usize>) -> Option<(&[u8], usize)>
     requires { position is_lf read.now ≡ found }
     ensures { (left : Option (List ℕ)) → (found ≡ None → IsAtEnd left) → MatchOption result

@@ -59,7 +59,8 @@ impl Window {
         self.end = end - start;
     }
 
-    /// Reads once, into the room behind. Answers how many bytes came: none at the end of the input, or if there is no room.
+    /// Reads once, into the room behind. Answers how many bytes came: none at the end of the input, or if there is no
+    /// room.
     pub fn read_from<R: Read>(&mut self, input: &mut R) -> io::Result<usize>
         ensures read { IfOk result (λ n. (more : List ℕ) × (length more ≡ n) × (unpassed self.new ≡ unpassed self.old ++ more)
             × Consumes (R.remaining input.old) (R.remaining input.new) more) }

@@ -116,7 +116,7 @@ told_to p asked from columns h old new here left settled before a is k w at l = 
       | inr high ↦ elim (settled a is k w at) [ inl set ↦ absurd (h.chosen w.agent high l set f) | inr was ↦ was ]
     ])
 
--- where nobody is asked for all are told
+-- if no agent is asked for, all flags say whether their await is implied
 pub told_if_none : (p : Program) (asked flags : List Bool) → ((j : ℕ) → get_or asked j false ≡ false) → AreSettled p asked flags → AreAllTold p flags
 told_if_none p asked flags none settled a is k w at = elim (settled a is k w at) [ inr was ↦ was | inl set ↦ absurd (unset (sym (none w.agent) ∙ set)) ]
   where

@@ -1,4 +1,4 @@
--- An await is implied where its count is no more than that of all that the action needs beside it.
+-- An await is implied if its count is no more than that of all that the action needs beside it.
 use Rattle.std.proofs.Common.{rules, ◌≡◌, ℕ, ◌+◌, ◌<◌, ◌≤◌, List, length, refl, sym, ap, subst, ◌∙◌, arith, inl, inr}
 use Rattle.std.specs.Prelude.{Contains, slice_get, Some, nat_le}
 use Rattle.std.proofs.lemmas.Bool.{cases_order, leb-true, le-leb}

@@ -1,5 +1,5 @@
-//! Flags of the awaits of one action: whether others imply them, by the row of all that the action needs but for one
-//! await, for each.
+//! Flags of the awaits of one action: whether others imply them, by the row of all that the action needs, which leaves
+//! out in each column the await of the column's agent.
 
 ghost use Rattle.std.specs.Prelude.{◌≡◌, ◌≢◌, ◌<◌, ℕ, false, nat_le, length, get_or, slice_index, None};
 ghost use Rattle.fleet_model.specs.Program.{AreInRange, total_awaits};

@@ -13,7 +13,7 @@ impl RowUse for ImpliedAwaits {
 
     ghost keeps = { λ p b old new. AreLeft p b.columns old.flags.items new.flags.items };
 
-    /// Its awaits are flagged on the way to the row of the action.
+    /// Makes the row of the action, and flags its awaits on the way.
     fn use_row<P: ProgramView>(
         &mut self,
         program: &P,

@@ -46,8 +46,8 @@ impl ImpliedAwaits {
     }
 }
 
-/// Of each await of the program whether it is implied: the awaited action begins a chain of needs that ends with
-/// another action which the same action directly needs. The program finishes after so many ticks if nobody is held.
+/// Which awaits of the program others imply: those whose awaited action begins a chain of needs that ends with another
+/// action which the same action directly needs. The program finishes after so many ticks if nobody is held.
 pub fn implied_awaits<P: ProgramView>(
     alloc: Global,
     program: &P,
@@ -105,7 +105,7 @@ fn flag_rest<P: ProgramView>(
     flag_all(alloc, program, &notes, asked, implied)
 }
 
-/// Flags the awaits of the asked agents, block by block, each with so many columns as there is room for.
+/// Flags the awaits of the asked agents, block by block, each with as many columns as there is room for.
 fn flag_all<P: ProgramView>(
     alloc: Global,
     program: &P,

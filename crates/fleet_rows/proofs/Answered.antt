@@ -34,7 +34,7 @@ answer_is p q n some col = (
         below : nat_lt n q.first.number ≡ false → q.first.number ≤ n
         below f = elim (cases_lt n q.first.number) [ inr g ↦ g | inl l ↦ absurd (let t : nat_lt n q.first.number ≡ true = lt-ltb n q.first.number l in cc) ]
 
--- where the first action is reached, no flag is the answer
+-- if the first action is reached, a flag that is not set is the answer
 pub near_answer : (p : Program) (q : Question) (flag : Bool) → flag ≡ false → Reaches p q.first q.last → IsAnswer p q flag
 near_answer p q flag e r = ((λ set none. none_set (sym e ∙ set)), (λ none. absurd (none r)))
   where
@@ -47,7 +47,7 @@ none_flagged_at n k = elim (cases_lt k n) [
   | inr l ↦ get_or_past (replicate n false) k false (omega (arith, length-replicate n false))
 ]
 
--- where no agent's column is asked for, all first actions are reached
+-- if no agent's column is asked for, flags that are not set are the answers
 pub none_asked : (p : Program) (questions : List Question) (asked flags : List Bool) → ((k : ℕ) (q : Question) → slice_get questions k ≡ Some q → (get_or asked q.first.agent false ≡ true) ⊎ Reaches p q.first q.last)
     → ((k : ℕ) → get_or asked k false ≡ false) → length flags ≡ length questions → ((k : ℕ) → get_or flags k false ≡ false) → AreAnswers p questions flags
 none_asked p questions asked flags h none long clear = record {

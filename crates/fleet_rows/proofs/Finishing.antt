@@ -59,7 +59,7 @@ length_flagged n m fits = ap length (take-replicate n m false fits) ∙ length-r
 pub none_started : (p : Program) (a : ActionId) → IsAction p a → a.number ≤ count_at (run p [] 0) a.agent → ⊥
 none_started p a k done = let f : 1 ≤ a.number = k.first in omega (arith, count_start p a.agent, done)
 
--- where a run is finished so is every action
+-- if a run is finished, so is every action
 pub all_finished : (p : Program) (t : ℕ) → is_finished p (run p [] t) ≡ true → (a : ActionId) → IsAction p a → a.number ≤ count_at (run p [] t) a.agent
 all_finished p t h a k =
     let f : ℕ → Bool = λ i. nat_le (moves p i) (count_at (run p [] t) i) in

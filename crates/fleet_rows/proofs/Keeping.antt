@@ -6,7 +6,7 @@ use Rattle.fleet_rows.specs.declared.kept_rows.KeptRows.{KeptRows}
 use Rattle.fleet_rows.specs.declared.kept_rows.Slot.{Slot}
 use Rattle.fleet_rows.specs.Kept.{IsSound, IsKept, IsLast, slot_at, mark_of, count_in, HasSame, IsKeptAlike, IsKeptMore, IsReleased, IsVacated}
 
--- where mark, slot and counts are as before
+-- what is kept is the same if mark, slot and counts are as before
 alike : (old new : KeptRows) (b : ℕ) → mark_of new b ≡ mark_of old b → (slot_at new (mark_of old b)).owner ≡ (slot_at old (mark_of old b)).owner
     → ((k : ℕ) → IsKept old b → k < old.width → count_in new (mark_of old b) k ≡ count_in old (mark_of old b) k) → IsKeptAlike old new b
 alike old new b mark same counts = record {

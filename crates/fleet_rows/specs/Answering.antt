@@ -51,7 +51,7 @@ pub record IsNextAnswered (p : Program) (columns : Columns) (questions : List Qu
   pub answer : (c : ℕ) → HasColumn columns question.first.agent c → IsAnswer p question (get_or new n false)
   pub none : get_or columns.of_agent.items question.first.agent None ≡ None → get_or new n false ≡ get_or old n false
 
--- so it is, or no question comes next that ends with the action; other flags stay
+-- the next question is answered so, and passed, or it does not end with the action; all other flags stay
 pub record IsAsked (p : Program) (columns : Columns) (questions : List Question) (a : ActionId) (n : ℕ) (old new : List Bool) (m : ℕ) : Type 0 where
   pub others : (k : ℕ) → k ≢ n → get_or new k false ≡ get_or old k false
   pub step : ((m ≡ n + 1) × IsNextAnswered p columns questions a n old new)

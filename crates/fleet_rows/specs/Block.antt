@@ -26,7 +26,7 @@ pub record AreNotes (p : Program) (n : RunNotes) : Type 0 where
   pub order : IsOrder p n.order
   pub ends : length n.order.ends.items ≡ n.ticks + 1
 
--- so they are, and the columns are those of agents of the program, no two in one
+-- the notes of the block are those, and its columns are of agents of the program, no two in one
 pub record AreBlock (p : Program) (b : Block) : Type 0 where
   pub notes : AreNotes p b.notes.now
   pub agents : length b.columns.of_agent.items ≡ length p

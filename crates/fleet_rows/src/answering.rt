@@ -21,8 +21,8 @@ pub(crate) struct Answering<'a> {
     next: usize,
 }
 
-/// The flags of the questions, of which those whose agents have a column now say whether no chain leads from the first
-/// action to the last.
+/// The flags of the questions. Those of questions whose first agent has a column now say whether no chain leads from
+/// the first action to the last.
 pub(crate) fn answer<P: ProgramView>(
     alloc: Global,
     program: &P,

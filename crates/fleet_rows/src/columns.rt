@@ -13,12 +13,13 @@ pub struct Columns {
     of_agent: Vec<Option<u16>>,
     /// How many columns the block has.
     pub(crate) width: u16,
-    /// The block has the asked agents up to here.
+    /// All asked agents below this one, from the first of the block on, have a column.
     pub end: u16,
 }
 
 impl Columns {
-    /// Columns for so many of the flagged agents, from this agent on.
+    /// Columns for the next flagged agents from this one on, as many as there are but at most `most`. `asked` has a
+    /// flag for each agent.
     pub fn choose(
         alloc: Global,
         asked: &[bool],

@@ -30,7 +30,7 @@ impl FinishOrder {
         Ok(FinishOrder { agents, ends })
     }
 
-    /// Adds the agents whom the last tick of the machine has moved.
+    /// Adds the agents that the last tick of the machine has moved.
     pub(crate) fn add_tick<P: ProgramView>(
         &mut self,
         program: &P,
@@ -55,7 +55,7 @@ impl FinishOrder {
         Ok(())
     }
 
-    /// The place at which the agents begin of the tick that comes after so many.
+    /// The place at which the agents of the tick after so many ticks begin.
     pub(crate) fn begin(&self, ticks: usize) -> usize
         requires { ticks < length self.now.ends.items }
         ensures { result ≡ slice_index self.now.ends.items ticks }

@@ -9,10 +9,10 @@ use crate::questions::Question;
 use fleet_model::{ActionId, OutOfMemory, ProgramView};
 use std::alloc::Global;
 
-/// So many steps back from the end of a chain are looked at.
+/// How many steps back from the end of a chain are looked at.
 const STEPS: u8 = 3;
 
-/// So many awaits of an action are looked at.
+/// How many awaits of an action are looked at.
 const AWAITS: u16 = 4;
 
 /// Flags the agents whose columns are asked for: those of questions for which few steps back find no chain.

@@ -77,7 +77,7 @@ pub fn is_any(asked: &[bool]) -> bool
     false
 }
 
-/// The answers to the questions, block by block, each with so many columns as there is room for.
+/// The answers to the questions, block by block, each with as many columns as there is room for.
 fn answer_all<P: ProgramView>(
     alloc: Global,
     program: &P,

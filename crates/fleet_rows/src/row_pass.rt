@@ -227,7 +227,7 @@ fn finish<P: ProgramView, U: RowUse>(
     pass.add_row(program, block, row, action)
 }
 
-/// Lets the rows of these actions go, of each if no tick after this one takes it.
+/// Lets the rows of these actions go, but for those that a tick after this one takes.
 fn free_rows(kept: &mut KeptRows, due: &[u32], tick: u32) -> Result<(), OutOfMemory>
     requires { IsSound kept.old }
     ensures { OnOk result (IsFreed tick kept.old kept.new) }

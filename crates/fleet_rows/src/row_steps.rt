@@ -1,5 +1,6 @@
-//! The row of an action, made in two steps: first of all that the action needs but for one await, for each of its awaits
-//! in one row, where each column leaves out the await of its own agent.
+//! The row of an action, made in two steps. The first joins all that the action needs, but leaves out in each column
+//! the await of the column's agent: so for each await one row has the count of all that is needed beside it. The second
+//! joins what was left out.
 
 ghost use Rattle.std.specs.Prelude.{◌≡◌, ◌≢◌, ◌+◌, ◌<◌, ℕ, length, max, slice_index, slice_get, Some};
 ghost use Rattle.fleet_model.specs.Program.{awaits_of, AreInRange};
@@ -34,7 +35,7 @@ pub fn others_row<P: ProgramView>(
     join_others(program, block, &pass.kept, row, action.agent, finished);
 }
 
-/// Makes such a row the row of the action.
+/// Makes the row that `others_row` leaves the row of the action.
 pub fn whole_row<P: ProgramView>(
     program: &P,
     block: &Block<'_>,

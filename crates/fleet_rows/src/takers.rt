@@ -128,7 +128,7 @@ fn note_awaited<P: ProgramView>(
     }
 }
 
-/// Leaves the greater of the entry and the tick.
+/// Raises the entry to the tick, if it is less.
 fn raise(lasts: &mut [u32], place: usize, tick: u32)
     requires { place < length lasts.old }
     ensures raised { AreRaised lasts.old lasts.new }

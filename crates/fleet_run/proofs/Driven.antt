@@ -128,7 +128,7 @@ pub at_opening : (p : Program) (c : Configuration) → IsReached p c → ((i : �
 at_opening p c reached none =
     sym reached.same ∙ run_at_opening p reached.holds reached.ticks (λ i h. subst (λ d. count_at d i ≡ 0) (sym reached.same) (none i h))
 
--- a run that arrives is told so
+-- the report of a run that arrives says so
 pub told_in_time : (p : Program) (chain : ℕ) (s s' : SourceState) (o o' : SinkState) (c : Configuration) (r : Result Report RunFault)
     → ((f : ℕ) → IsFinish p s.ticks f → Arrives p s.ticks chain f) → Drives p chain s s' o o' c r → IfOk r IsInTime
 told_in_time p chain s s' o o' c (Ok r) arrive h =

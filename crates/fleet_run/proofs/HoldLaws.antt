@@ -1,4 +1,4 @@
--- A line is read as a tick exactly where it is the line of that tick.
+-- A line is read as a tick exactly if it is the line of that tick.
 use Rattle.std.proofs.Common.{◌≡◌, ◌≢◌, ◌∙◌, ℕ, zero, suc, ◌+◌, ◌-◌, ◌*◌, ◌<◌, ◌≤◌, ◌^◌, ◌&&◌, Bool, true, false, cond, List, [], ◌∷◌, ◌++◌, length, map, get_or, Option, None, Some, nat_le, nat_lt, eqb, refl, sym, ap, subst, inl, inr, ◌⊎◌, arith, rules, All, eqb-true, leb-true, ltb-true, decimal}
 use Rattle.std.specs.Prelude.{codes, option_map, option_and_then}
 use Rattle.std.specs.List.{slice_split, join_with_byte, AllByRecursion}

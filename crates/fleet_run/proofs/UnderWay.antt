@@ -120,7 +120,7 @@ not_false false h = absurd (cc)
 pub unset_after : (p : Program) (now : SourceState) (ended : Bool) (flags : List Bool) (more : Bool) (after : SourceState) → IsNextTick p now ended flags more after → not more ≡ true → AreFlagsOf [] flags
 unset_after p now ended flags more after next h = subst (λ (ticks : Holds). AreFlagsOf (first_of ticks) flags) (next.none_left (not_true more h)) next.flags_are
 
--- where nothing is left nobody is held
+-- if nothing is left, nobody is held
 nobody : (p : Program) (now : SourceState) (ended : Bool) (flags : List Bool) (more : Bool) (after : SourceState) → IsNextTick p now ended flags more after → now.ticks ≡ [] → (k : ℕ) → k < length p → flag_of flags k ≡ false
 nobody p now ended flags more after next none k inside =
     next.flags_are k (omega (arith, next.agents)) ∙ ap (λ (ticks : Holds). is_among (first_of ticks) k) none
@@ -227,7 +227,7 @@ asked p ended now after false flags h same = (
   h.3,
 )
 
--- the source has failed where it was asked for the next tick
+-- the source has failed when it was asked for the next tick
 source_stops : (p : Program) (s now after : SourceState) (o o' : SinkState) (c : Configuration) (t held : ℕ) (ended : Bool) (kind : SourceFault) (flags : List Bool)
     → IsUnderWay p s now c t held ended → is_over p c ≡ false → Takes o o' (lines_below p s.ticks (t + 1))
     → AsksTick ended now after (Err kind) flags → StopsAtSource is_over p s after o o' kind t
@@ -242,7 +242,7 @@ source_stops p s now after o o' c t held ended kind flags before goes took h = r
   working = took.working;
 }
 
--- a run that stops where it asks for a tick, after the lines of all times so far
+-- a run that stops when it asks for a tick, after the lines of all times so far
 pub stops_asking : (p : Program) (s now after : SourceState) (o o' : SinkState) (c : Configuration) (t held : ℕ) (ended : Bool) (fault : RunFault) (flags : List Bool)
     → IsUnderWay p s now c t held ended → is_over p c ≡ false → Takes o o' (lines_below p s.ticks (t + 1)) → length flags ≡ length p
     → AsksNext ended now after t (Err fault) flags → RunsLines p s after o o' c (Err fault)

@@ -6,11 +6,12 @@ use Rattle.fleet_model.specs.Machine.{Configuration, standing_at}
 use Rattle.fleet_machine.specs.Machine.{MachineState, flag_of}
 use Rattle.fleet_run.specs.Text.{place_text}
 
--- the places of the agents from one on, and the end of the line
+-- the places of these agents, and the end of the line
 abbrev pub places_text : Configuration → List ℕ
 places_text c = flat_map (λ s. place_text s.place) c ++ codes "\n"
 
--- The row ends with the places of the configuration: that of agent k begins where `begins` says, and after the last one is the line's end.
+-- The row ends with the places of the configuration: that of agent k begins where `begins` says, and after the last one
+-- is the line's end.
 pub record IsLineKept (c : Configuration) (row begins : List ℕ) : Type 0 where
   pub agents : length c ≤ 1024
   pub room : length row ≡ 24588

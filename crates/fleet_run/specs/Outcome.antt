@@ -24,8 +24,8 @@ abbrev pub fault_of : SourceFault → ℕ → RunFault
 fault_of Broken tick = Source tick
 fault_of Text tick = Hold tick
 
--- A run asks its source for the tick after t ticks: whether there was one; or it stops there, since the source has failed, or
--- gave more ticks than a run takes
+-- A run asks its source for the tick after t ticks: whether there was one; or it stops there, since the source has
+-- failed, or gave more ticks than a run takes
 abbrev pub AsksNext : (ended : Bool) (source source' : SourceState) (t : ℕ) → Result Bool RunFault → List Bool → Type 0
 AsksNext ended s s' t (Ok more) flags = AsksTick ended s s' (Ok more) flags × (more ≡ true → t ≢ MOST_TICKS)
 AsksNext ended s s' t (Err OutOfMemory) flags = ⊥
@@ -42,8 +42,8 @@ EndTest = Program → Configuration → Bool
 abbrev pub NeedsTicks : EndTest → Program → Holds → ℕ → Type 0
 NeedsTicks over p holds t = (s : ℕ) → s < t → over p (run p holds s) ≡ false
 
--- The source was asked for the first t ticks, and has not failed: it has lost those of its list, and what comes after the list
--- is as before; if the list is shorter, nothing came after it
+-- The source was asked for the first t ticks, and has not failed: it has lost those of its list, and what comes after
+-- the list is as before; if the list is shorter, nothing came after it
 pub record IsAskedFor (t : ℕ) (source source' : SourceState) : Type 0 where
   pub left : source'.ticks ≡ drop t source.ticks
   pub kept : t ≤ length source.ticks → source'.last ≡ source.last

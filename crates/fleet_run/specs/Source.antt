@@ -22,8 +22,8 @@ list_source ticks = record { ticks = ticks; last = None; fault = None }
 abbrev pub HasNotFailed : SourceState → Type 0
 HasNotFailed source = source.fault ≡ None
 
--- One call of `next`: the first tick is set and taken off; or no tick was left and nothing came after them; or no tick was left and
--- the source fails as its last says. Nothing is said of what comes after a source that has ended.
+-- One call of `next`: the first tick is set and taken off; or no tick was left and nothing came after them; or no tick
+-- was left and the source fails as its last says. Nothing is said of what comes after a source that has ended.
 abbrev pub GivesTick : (source source' : SourceState) → Result Bool SourceFault → List Bool → Type 0
 GivesTick source source' (Ok true) flags =
     ((tick : List ℕ) × (source.ticks ≡ tick ∷ source'.ticks) × AreFlagsOf tick flags) × (source'.last ≡ source.last) × HasNotFailed source'
@@ -41,8 +41,8 @@ abbrev pub rest_of : Holds → Holds
 rest_of [] = []
 rest_of (tick ∷ ticks) = ticks
 
--- A source is asked, unless it has ended: the flags are set to the first tick, which is taken off, or to nobody if there is
--- none, and the answer says whether there was one; or the source has failed
+-- A source is asked, unless it has ended: the flags are set to the first tick, which is taken off, or to nobody if
+-- there is none, and the answer says whether there was one; or the source has failed
 abbrev pub AsksTick : (ended : Bool) (source source' : SourceState) → Result Bool SourceFault → List Bool → Type 0
 AsksTick ended source source' (Ok true) flags =
     (0 < length source.ticks) × (source'.ticks ≡ rest_of source.ticks) × AreFlagsOf (first_of source.ticks) flags × HasNotFailed source' × (source'.last ≡ source.last)

@@ -82,9 +82,9 @@ impl<'g, P: ProgramView> Fleet<'g, P> {
         Ok(Fleet { accepted, machine })
     }
 
-    /// One tick: every ready agent that is not held finishes one action, and all others stay. `held` has a flag for each
-    /// agent. It looks at the ready agents, and at no others but agents that are not ready and await one that it moves. A tick of a
-    /// finished fleet changes nothing. Takes no memory.
+    /// One tick: every ready agent that is not held finishes one action, and all others stay. `held` has a flag for
+    /// each agent. It looks at the ready agents, and at no others but agents that are not ready and await one that it
+    /// moves. A tick of a finished fleet changes nothing. Takes no memory.
     pub fn tick(&mut self, held: &[bool]) -> Tick
         requires { length held.now ≡ length (P.program self.old.accepted.program) }
         ensures after { self.new ≡ record self.old {
@@ -107,9 +107,10 @@ impl<'g, P: ProgramView> Fleet<'g, P> {
         self.machine.tick(self.accepted.program(), held)
     }
 
-    /// The flagged agents have carried out their orders, and all others are still on their way or wait: a tick in which all others are
-    /// held. It looks at the flagged agents, and at no others but agents that are not ready and await one of these. If one of them had no
-    /// order, the first such agent is refused, and nothing changes. `done` has a flag for each agent. Takes no memory.
+    /// The flagged agents have carried out their orders, and all others are still on their way or wait: a tick in which
+    /// all others are held. It looks at the flagged agents, and at no others but agents that are not ready and await
+    /// one of these. If one of them had no order, the first such agent is refused, and nothing changes. `done` has a
+    /// flag for each agent. Takes no memory.
     pub fn confirm(&mut self, done: &[bool]) -> Result<(), NotSent>
         requires { length done.now ≡ length (P.program self.old.accepted.program) }
         ensures accepted { self.new.accepted ≡ self.old.accepted }
@@ -185,7 +186,8 @@ impl<'g, P: ProgramView> Fleet<'g, P> {
         self.machine.ready_agents(self.accepted.program())
     }
 
-    /// The order that agent `i` may be given: the step of its next action, if it is ready. It stays the same until it is carried out.
+    /// The order that agent `i` may be given: the step of its next action, if it is ready. It stays the same until it
+    /// is carried out.
     pub fn order(&self, i: u16) -> Option<Step>
         requires { i < length (P.program self.now.accepted.program) }
         ensures { result ≡ order_of (P.program self.now.accepted.program) self.now.configuration i }
@@ -203,7 +205,8 @@ impl<'g, P: ProgramView> Fleet<'g, P> {
         Some(self.machine.agent(i).place.after(step))
     }
 
-    /// The program is accepted for its ground and its tasks, so that every law of accepted programs is true of it.
+    /// The program is accepted for its ground and its tasks, so that every law of accepted programs is true of it. This
+    /// does nothing: its contract is the law.
     pub fn acceptance(&self)
         ensures accepted { IsAcceptedFor self.now.accepted.grid self.now.accepted.instance
             (P.program self.now.accepted.program) self.now.accepted.chain }
@@ -212,8 +215,9 @@ impl<'g, P: ProgramView> Fleet<'g, P> {
         let _ = &self.machine;
     }
 
-    /// However long the agents take for their orders, no two of them meet: the places on which they stand and those to which their
-    /// orders lead are passable, and no two agents have one in common.
+    /// However long the agents take for their orders, no two of them meet: the places on which they stand and those to
+    /// which their orders lead are passable, and no two agents have one in common. This does nothing: its contract is
+    /// the law.
     pub fn apart(&self)
         ensures { AreApart (is_passable self.now.accepted.grid) (P.program self.now.accepted.program) self.now.configuration }
     {
@@ -235,7 +239,7 @@ impl<'g, P: ProgramView> Fleet<'g, P> {
         &self.accepted
     }
 
-    /// The same, handed back: the fleet is over.
+    /// Ends the fleet, and hands its accepted program back.
     pub fn into_accepted(self) -> Accepted<'g, P>
         ensures { result ≡ self.entry.accepted }
     {
@@ -251,7 +255,8 @@ impl<'g, P: ProgramView> Fleet<'g, P> {
 /// to `out`: a line for each time, and then how many agents, ticks, actions of the longest chain, and ticks in which a
 /// ready agent was held there were. Takes no memory by itself. After a refusal the fleet may be ticked further.
 ///
-/// Errors: `Source` and `Hold` if the source fails, `Write` if `out` does, `HoldLimit` if the source has more than `MOST_TICKS` ticks.
+/// Errors: `Source` and `Hold` if the source fails, `Write` if `out` does, `HoldLimit` if the source gives more than
+/// `MOST_TICKS` ticks before the run is over.
 pub fn drive<P: ProgramView, S: HoldSource, O: TraceOut>(
     fleet: &mut Fleet<'_, P>,
     source: &mut S,

@@ -10,8 +10,9 @@ use crate::source::{HoldSource, SourceFault, clear};
 use fleet_text::{TOO_LARGE, next_line, number_of};
 use std::marker::Model;
 
-/// A source that gives the ticks of a text of holds: one line for each tick, `-` for nobody, or the numbers of the agents that are
-/// held in strictly rising order with one space between two. If the line that is asked for is no tick's, it fails as `Text`.
+/// A source that gives the ticks of a text of holds: one line for each tick, `-` for nobody, or the numbers of the
+/// agents that are held in strictly rising order with one space between two. If the line that is asked for is no
+/// tick's, it fails as `Text`.
 #[derive(Drop)]
 pub struct HoldText<'a> {
     rest: &'a [u8],
@@ -70,8 +71,8 @@ impl<'a> HoldSource for HoldText<'a> {
     }
 }
 
-/// Sets the flags of the agents that the line of a tick names, before which no flag is set. Answers whether it is the line of a tick of so
-/// many agents; if it is not, some flags may be set.
+/// Sets the flags of the agents that the line of a tick names; at first no flag is set. Answers whether it is the line
+/// of a tick of so many agents; if it is not, some flags may be set.
 pub fn set_tick(line: &[u8], agents: u16, flags: &mut [bool]) -> bool
     requires { AreFlagsOf [] flags.old }
     ensures { MatchBool result
@@ -88,7 +89,8 @@ fn is_dash(line: &[u8]) -> bool
     matches!(line, [b'-'])
 }
 
-/// Sets the flags of the agents that the words between the line's spaces name. Answers whether they do, in strictly rising order.
+/// Sets the flags of the agents that the words between the line's spaces name. Answers whether they do, in strictly
+/// rising order.
 fn set_agents(line: &[u8], agents: u16, flags: &mut [bool]) -> bool
     requires { AreFlagsOf [] flags.old }
     ensures { MatchBool result

@@ -36,9 +36,9 @@ fn put_tick(text: &mut Vec<u8>, held: &[u16]) -> Result<(), AllocError>
     put_agent(text, *last, b'\n')
 }
 
-/// The written form of lists of held agents, each in strictly rising order: a line for each tick, `-` for nobody, or the numbers of
-/// the agents with one space between two. A `HoldText` of it, for more agents than each number in it, gives the same lists, and then
-/// ends. Only memory can fail.
+/// The written form of lists of held agents, each in strictly rising order: a line for each tick, `-` for nobody, or
+/// the numbers of the agents with one space between two. A `HoldText` of it, for more agents than each number in it,
+/// gives the same lists, and then ends. Only memory can fail.
 pub fn write_holds(alloc: Global, holds: &[Vec<u16>]) -> Result<Vec<u8>, OutOfMemory>
     requires rising { All (λ row. IsStrictlyIncreasing row.items) holds.now }
     ensures text { IfOk result

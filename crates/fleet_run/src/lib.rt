@@ -1,5 +1,5 @@
-//! Runs of programs, tick by tick, under holds that a source gives, written as text to a sink: an accepted program that a `Fleet`
-//! drives to its goals, and the rehearsal of any program.
+//! Runs of programs, tick by tick, under holds that a source gives, written as text to a sink: an accepted program that
+//! a `Fleet` drives to its goals, and the rehearsal of any program.
 #![tactic(auto)]
 
 mod fleet;

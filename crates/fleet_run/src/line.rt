@@ -9,8 +9,8 @@ use fleet_machine::Machine;
 use fleet_model::{MAX_AGENTS, Place, Standing};
 use fleet_text::write_byte;
 
-/// Writes the places of all agents and the end of the line, so that they end with the row, and into `begins` where each place begins,
-/// and last where the end of the line does.
+/// Writes the places of all agents and the end of the line, so that they end with the row, and into `begins` where each
+/// place begins, and last where the end of the line does.
 pub fn write_places(rows: &[Standing], row: &mut [u8], begins: &mut [usize])
     requires agents { length rows.now ≤ MAX_AGENTS }
     requires room { length row.old ≡ LINE }
@@ -58,7 +58,8 @@ pub fn write_time(time: u32, row: &mut [u8], begin: usize) -> usize
     write_count(time, row, at)
 }
 
-/// Writes the places of the agents that the last tick moved over those before; all places anew if one is longer or shorter than before.
+/// Writes the places of the agents that the last tick moved over those before; all places anew if one is longer or
+/// shorter than before.
 pub fn write_moved(machine: &Machine, row: &mut [u8], begins: &mut [usize])
     requires agents { length machine.now.configuration ≤ MAX_AGENTS }
     requires before { IsKeptBefore machine.now row.old begins.old }

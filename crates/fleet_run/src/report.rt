@@ -53,9 +53,9 @@ fn run_rehearsal<P: ProgramView, S: HoldSource, O: TraceOut>(
     })
 }
 
-/// Runs any program, accepted or not, from its start until it is finished or stuck, asks `source` who is held in each tick, and writes
-/// the rehearsal text to `out`: a line for each time, how many agents, ticks and ticks in which a ready agent was held there were, and
-/// `finished` or `stuck`.
+/// Runs any program, accepted or not, from its start until it is finished or stuck, asks `source` who is held in each
+/// tick, and writes the rehearsal text to `out`: a line for each time, how many agents, ticks and ticks in which a
+/// ready agent was held there were, and `finished` or `stuck`.
 ///
 /// Errors: `OutOfMemory` before anything is written; and else those of `drive`.
 pub fn rehearse<P: ProgramView, S: HoldSource, O: TraceOut>(

@@ -119,7 +119,8 @@ fn fault_at(fault: SourceFault, tick: u32) -> RunFault
     }
 }
 
-/// Asks the source for the tick after so many ticks, as `ask` does, and answers whether there was one, or why the run stops there.
+/// Asks the source for the tick after so many ticks, as `ask` does, and answers whether there was one, or why the run
+/// stops there.
 fn next_tick<S: HoldSource>(
     source: &mut S,
     has_ended: bool,

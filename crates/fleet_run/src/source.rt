@@ -38,8 +38,8 @@ pub fn clear(flags: &mut [bool])
     }
 }
 
-/// Asks the source for its next tick and sets the flags of the agents that it holds, unless the source has ended: then no flag is set,
-/// and none changes. Answers whether there was a tick.
+/// Asks the source for its next tick and sets the flags of the agents that it holds, unless the source has ended: then
+/// no flag is set, and none changes. Answers whether there was a tick.
 pub fn ask<S: HoldSource>(
     source: &mut S,
     has_ended: bool,

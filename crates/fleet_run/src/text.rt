@@ -19,7 +19,8 @@ pub fn write_count(number: u32, row: &mut [u8], end: usize) -> usize
     write_number(number as u64, row, end)
 }
 
-/// Writes a number with a minus sign before its digits if it is negative, so that it ends before `end`, and answers where it begins.
+/// Writes a number with a minus sign before its digits if it is negative, so that it ends before `end`, and answers
+/// where it begins.
 fn write_signed(number: i32, row: &mut [u8], end: usize) -> usize
     requires room { 11 ≤ end }
     requires within { end ≤ length row.old }
@@ -35,7 +36,7 @@ fn write_signed(number: i32, row: &mut [u8], end: usize) -> usize
     }
 }
 
-/// Writes a place as ` x,y`, with the blank before it, so that it ends before `end`, and answers where it begins.
+/// Writes a place as ` x,y`, with the space before it, so that it ends before `end`, and answers where it begins.
 pub fn write_place(place: Place, row: &mut [u8], end: usize) -> usize
     requires room { 24 ≤ end }
     requires within { end ≤ length row.old }
@@ -67,7 +68,7 @@ pub fn write_bytes(bytes: &[u8], row: &mut [u8], end: usize) -> usize
     at
 }
 
-/// Writes a line of a word, a blank and a number, so that it ends before `end`, and answers where it begins.
+/// Writes a line of a word, a space and a number, so that it ends before `end`, and answers where it begins.
 pub fn write_number_line(word: &[u8], number: u32, row: &mut [u8], end: usize) -> usize
     requires room { length word.now + 12 ≤ end }
     requires within { end ≤ length row.old }

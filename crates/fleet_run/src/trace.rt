@@ -15,8 +15,8 @@ use fleet_machine::Machine;
 use fleet_model::ProgramView;
 use fleet_text::{TraceOut, put_all};
 
-/// The numbers of a run of a fleet: its agents, its ticks, the actions of its longest chain, and the ticks in which a ready agent was
-/// held.
+/// The numbers of a run of a fleet: its agents, its ticks, the actions of its longest chain, and the ticks in which a
+/// ready agent was held.
 #[derive(Clone, Copy, Debug, PartialEq, Eq)]
 pub struct Report {
     pub agents: u16,

@@ -86,7 +86,7 @@ apart_but p first a k n v at none before m w l there r = elim (cases_lt m n) [
       none (λ same. l.1 (e ∙ same)) (subst (λ (x : Await). Reaches p first (awaited x)) (some_await w v (sym there ∙ ap (slice_get (awaits_of p a.agent a.number)) e ∙ at)) r)
 ]
 
--- where none of all that the last action directly needs is reached, nor is the last
+-- if nothing that the last action directly needs is reached, the last is not reached either
 pub none_reached : (p : Program) (first last : ActionId) → (last.agent ≡ first.agent → ⊥) → NoneIsReached p first last (λ m. m < length (awaits_of p last.agent last.number))
     → ((before : ActionId) → before.agent ≡ last.agent → before.number + 1 ≡ last.number → 1 ≤ before.number → Reaches p first before → ⊥)
     → Reaches p first last → ⊥

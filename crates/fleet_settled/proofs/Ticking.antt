@@ -1,4 +1,4 @@
--- The tick that finishes each action where nobody is held: noted tick by tick, it rises along chains.
+-- The tick that finishes each action if nobody is held: noted tick by tick, it rises along chains.
 use Rattle.std.proofs.Common.{◌≡◌, ◌≢◌, ℕ, zero, suc, ◌+◌, ◌-◌, ◌<◌, ◌≤◌, true, List, [], length, set, slice_index, sym, ap, subst, ◌∙◌, arith, inl, inr}
 use Rattle.std.proofs.lemmas.Bool.{cases_lt}
 use Rattle.std.proofs.lemmas.List.{get_or-set_same, get_or-set_other}

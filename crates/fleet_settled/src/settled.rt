@@ -13,14 +13,15 @@ use crate::finish_ticks::FinishTicks;
 use fleet_model::{ActionId, OutOfMemory, ProgramView};
 use std::alloc::Global;
 
-/// So many actions are looked at for an await.
+/// From how many actions a step goes back for one await, at most.
 const STEPS: u8 = 16;
 
 /// No step goes back from an action with more awaits.
 const AWAITS: u16 = 16;
 
 /// Flags the awaits that others imply, as far as a few steps back show it, and answers a flag for each agent: whether
-/// an await of it is left open. The program finishes after so many ticks if nobody is held.
+/// an await of one of its actions is left open. `flags` has a flag for each await of the program, by its place. The
+/// program finishes after so many ticks if nobody is held.
 pub fn settle_all<P: ProgramView>(
     alloc: Global,
     program: &P,
@@ -147,8 +148,8 @@ fn awaited_at<P: ProgramView>(program: &P, action: ActionId, k: u16) -> ActionId
     }
 }
 
-/// Whether others imply await `k` of the action, if the await with the greatest tick or a few steps back show it. The
-/// awaits of that one's action are looked at from the place `from` on, which rises.
+/// Whether others imply await `k` of the action, if that is shown by the action that await `latest` awaits, or by a few
+/// steps back. The awaits of that action are looked at from the place `from` on, which rises.
 fn is_implied<P: ProgramView>(
     program: &P,
     ticks: &FinishTicks,
@@ -306,7 +307,7 @@ fn before(action: ActionId) -> ActionId
     }
 }
 
-/// The answer for all: no, if it is known of the others that it is no, and of this one too.
+/// The answer for all of some actions, by that for one of them: no only if it is `known` that it is no for the others.
 fn joined(known: bool, one: Option<bool>) -> Option<bool>
     ensures yes { result ≡ Some true → one ≡ Some true }
     ensures no { result ≡ Some false → (known ≡ true) × (one ≡ Some false) }

@@ -120,7 +120,7 @@ chain_fits p holds in_range t m b fin h =
     let act = ends_action p m b h in
     ends_in_time p (is_held holds) (readies p holds) (counts p holds) (run_counts p holds) in_range t m b h (omega (arith, act.last, finished_all p (run p holds t) fin b.agent act.agent))
 
--- where there is a bound on chains, each run comes to its end
+-- if there is a bound on chains, each run comes to its end
 pub finish_exists : (p : Program) (holds : Holds) → AreInRange p → (l : ℕ) → ((b : ActionId) (m : ℕ) → EndsChain p m b → m ≤ l) → (f : ℕ) × IsFinish p holds f
 finish_exists p holds in_range l most = go (is_finished p (run p holds (l + length holds))) refl
   where

@@ -31,7 +31,7 @@ positions_no moving position n e = rw (indices_more n, filter-append, map-append
     append-nil : map (λ i. visit_of i (position i)) (filter moving (indices n)) ++ [] ≡ map (λ i. visit_of i (position i)) (filter moving (indices n))
     append-nil = Rattle.std.proofs.lemmas.List.append-nil _
 
--- where nobody moves from one agent up to another, there are no more positions
+-- if nobody moves from one agent up to another, there are no more positions
 pub positions_passed : (moving : ℕ → Bool) (position : ℕ → ℕ) (from n : ℕ) → from ≤ n → ((k : ℕ) → from ≤ k → k < n → moving k ≡ false)
     → positions_of moving position n ≡ positions_of moving position from
 positions_passed moving position from zero le none = ap (positions_of moving position) (let e : zero ≡ from = omega (arith, le) in e)

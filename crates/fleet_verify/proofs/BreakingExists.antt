@@ -245,7 +245,7 @@ begun_short p number s range v w holds b n low =
       | inl l ↦ absurd (b.sooner n l (prepared_at p number s range v w holds b n (omega arith) low))
     ]
 
--- all that is needed is finished where both entering actions are
+-- all that is needed is finished if both entering actions are
 pub prepared-dec : (p : Program) (v w : Visit) (holds : Holds) (t : ℕ) → IsVisit p v → IsVisit p w → Dec (IsPrepared p v w (run p holds t))
 prepared-dec p v w holds t a b =
     elim (cases_lt (count_at (run p holds t) v.agent) v.position) [

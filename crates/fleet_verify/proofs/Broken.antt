@@ -23,7 +23,7 @@ use Rattle.fleet_verify.proofs.Unordered.{neighbours_unordered}
 use Rattle.fleet_verify.proofs.Refuses.{no_fault}
 use Rattle.fleet_verify.proofs.Stays.{ranges_all}
 
--- visits that are told as unordered have no order either way, and meet
+-- visits that are reported as unordered have no order either way, and their agents meet
 meet : (passable : Place → Bool) (tasks : List Task) (p : Program) (q : Place) (v w : Visit) → HasNumbering passable tasks p → IsUnordered ComesAfterByChain p q v w → MeetUnordered p q v w
 meet passable tasks p q v w h u =
     let range : AreInRange p = ranges_all p h.before.ranges in
@@ -49,6 +49,6 @@ broken_by passable tasks p (AwaitRange i k) h = tt
 broken_by passable tasks p (Cyclic ring) h = λ holds t a (k, l, e). ring_never p ring.items (h.1).around holds t k a (slice_get-get_or ring.items k a l ∙ ap Some e)
 broken_by passable tasks p (Unordered c v w) h = meet passable tasks p (place_of c) v w h.0 h.1
 
--- where all but the order is right, a program that runs well is not refused
+-- if all but the order is right, a program that runs well is not refused
 pub not_refused : (passable : Place → Bool) (tasks : List Task) (p : Program) → IsRight passable tasks p → RunsWell p → (f : VerifyFault) → f ≢ OutOfMemory → IsFault passable tasks p f → ⊥
 not_refused passable tasks p right well f n h = no_fault passable tasks p (runs_accepted passable tasks p right well) f n h

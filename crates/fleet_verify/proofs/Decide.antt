@@ -1,4 +1,4 @@
--- Whether a chain leads from one action to another can be computed, where there is a numbering.
+-- Whether a chain leads from one action to another can be computed if there is a numbering.
 use Rattle.std.proofs.Common.{◌≡◌, ℕ, zero, suc, ◌-◌, ◌<◌, ◌≤◌, List, [], ◌∷◌, length, refl, sym, ap, subst, arith, inl, inr}
 use Rattle.std.specs.Prelude.{Contains, ◌⊎◌}
 use Rattle.std.proofs.lemmas.Bool.{cases_lt, cases_eq}
@@ -58,7 +58,7 @@ try_at p a b try x n =
 pub needs_before : (p : Program) (b : ActionId) → IsAction p (before_in b) → DirectlyNeeds p b (before_in b)
 needs_before p b k = let f : 1 ≤ b.number - 1 = k.first in inl (refl, omega arith, f)
 
--- no chain leads to an action that is another one, where none leads to what it directly needs
+-- no chain leads to an action that is another one if none leads to what it directly needs
 none_leads : (p : Program) (a b : ActionId) → (a ≡ b → ⊥) → (Reaches p a (before_in b) → ⊥) → ((w : Await) × Contains (awaits_of p b.agent b.number) w × Reaches p a (awaited w) → ⊥) → (cs : List ActionId) → ChainFrom p a cs b → ⊥
 none_leads p a b apart own other cs r = go (chain_ends_by_step p a cs b r)
   where
@@ -70,7 +70,7 @@ none_leads p a b apart own other cs r = go (chain_ends_by_step p a cs b r)
     go (inl e) = apart e
     go (inr l) = split l l.needs
 
--- a chain leads to an action where one leads to an action that it directly needs
+-- whether a chain leads to an action can be computed if it can for all that it directly needs
 step-dec : (p : Program) (a b : ActionId) → IsAction p b → ((x : ActionId) → IsAction p x → DirectlyNeeds p b x → Dec (Reaches p a x)) → Dec (Reaches p a b)
 step-dec p a b h try =
     elim (action-dec a b) [

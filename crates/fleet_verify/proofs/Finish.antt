@@ -37,7 +37,7 @@ pub done_first : (p : Program) (holds : Holds) (f : ℕ) → is_finished p (run 
 unfolding done_after
 done_first p holds f h a k = first_is (λ t. nat_le a.number (count_at (run p holds t) a.agent)) f f (omega arith) (le-leb a.number (count_at (run p holds f) a.agent) (finished_says p (run p holds f) h a k))
 
--- all is finished where each action is
+-- all is finished if each action is
 pub finished_from : (p : Program) (c : Configuration) → ((a : ActionId) → IsAction p a → IsDone c a) → is_finished p c ≡ true
 finished_from p c h = go (is_finished p c) refl
   where

@@ -10,7 +10,7 @@ use Rattle.fleet_verify.proofs.Counts.{counts, readies, run_counts, count_openin
 use Rattle.fleet_verify.proofs.Finished.{grows, chain_before}
 use Rattle.fleet_verify.proofs.Finish.{newly, done_after, done_first}
 
--- where an action is finished, so is all that begins a chain that ends with it
+-- if an action is finished, so is all that begins a chain that ends with it
 pub Reaches-done : (p : Program) (holds : Holds) (t : ℕ) (a b : ActionId) → Reaches p a b → IsDone (run p holds t) b → IsDone (run p holds t) a
 Reaches-done p holds t a b (cs, h) d =
     let r = chain_before p (is_held holds) (readies p holds) (counts p holds) (run_counts p holds) t a cs b h d in

@@ -13,7 +13,7 @@ use Rattle.fleet_model.specs.Visit.{is_entry, stays_before, next_move, leaving, 
 use Rattle.fleet_model.proofs.Visits.{next_upto, stay_on}
 use Rattle.fleet_verify.proofs.Paths.{action_with}
 
--- a position begins a visit where its action is a move
+-- a position begins a visit if its action is a move
 pub entry_by : (p : Program) (i n : ℕ) (s : Step) → step_of p i (n + 1) ≡ Some s → is_entry p i (n + 1) ≡ is_move s
 entry_by p i n s e =
     let e' : step_of p i (suc n) ≡ Some s = rw add-one at e in

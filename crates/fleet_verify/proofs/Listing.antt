@@ -97,7 +97,7 @@ pub before_rank : (number : ActionId → ℕ) (v w : Visit) → IsBefore number 
 before_rank number v w (inl l) = omega arith
 before_rank number v w (inr (e, o)) = omega arith
 
--- so the sorted listing passes where any listing does
+-- so the sorted listing passes if any listing does
 pub sorted_passes : (p : Program) (number : ActionId → ℕ) → IsNumbering p number → (q : Place) (After : Visit → Visit → Type 0) → ((v w : Visit) → IsVisitOf p q w → After v w → Reaches p (leaving p v) (entering w)) → (l : List Visit) → ListsVisits p q l → Adjacent After l → (sorted : List Visit) → IsSortedListing p number q sorted → Adjacent After sorted
 sorted_passes p number s q After gives l h a sorted g =
     same_neighbours After (entry_level number) l sorted

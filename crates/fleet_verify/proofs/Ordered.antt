@@ -231,7 +231,7 @@ same_cell c d cs ds e =
     let x : c.x ≡ d.x = omega (arith, y) in
     λ i. record { x = x i; y = y i }
 
--- one visit more, where a map has the last visit of each cell by its number
+-- one visit more, if a map has the last visit of each cell by its number
 pub grouped_more : (p : Program) (placed : List PlacedVisit) (s : PlacedVisit) (old new : VisitOrder) → IsCell s.cell → AreGrouped p placed old
     → ((n : ℕ) → get nat_eq new.last n ≡ cond (nat_eq (number_of s.cell) n) (Some s.visit) (get nat_eq old.last n))
     → IsOpenNext (ComesAfterByAwait p) (get nat_eq old.last (number_of s.cell)) s old.pairs.items new.pairs.items

@@ -43,7 +43,7 @@ two_ordered p q v w m n apart l h a = go (place_in l v v (h.all v m)) (place_in 
           | inr (inr m) ↦ inr (subst (λ z. Reaches p (leaving p z) (entering v)) y.is (subst (λ z. Reaches p (leaving p (get_or l y.at v)) (entering z)) x.is (far y.at x.at v m x.within)))
         ]
 
--- where two visits have no order, no listing of their place is orderly
+-- if two visits have no order, no listing of their place is orderly
 pub unordered_refuses : (p : Program) (q : Place) (v w : Visit) → AreUnordered p q v w → (l : List Visit) → ListsVisits p q l → Adjacent (ComesAfterByChain p) l → ⊥
 unordered_refuses p q v w u l h a = elim (two_ordered p q v w u.first u.second u.apart l h a) [ inl r ↦ u.forth r | inr r ↦ u.back r ]
 

@@ -30,7 +30,7 @@ module _ (passable : Place → Bool) (p : Program) (i n : ℕ) (d : Step) (dir :
 pub place_in_reach : (passable : Place → Bool) (p : Program) → IsWellFormed p → (i n : ℕ) (q : Place) (a : ℕ) → n ≤ moves p i → IsPosition passable p i n (OffGround q a) → IsInReach q
 place_in_reach passable p wf i n q a l h = in_reach p wf i n q l h.0
 
--- what is told of the agents before, and of one more
+-- what was found of the agents before, and of one more
 pub one_agent_more : (p : Program) (Right : ℕ → ℕ → Type 0) (i : ℕ) (found : Option ActionId) (n : Option ℕ) (told : Option ActionId) → TellsFirstAction p Right i found → TellsFirst (moves p i) (Right i) n → i < length p
     → told ≡ option_or found (option_map (λ m. record { agent = i; number = m }) n) → TellsFirstAction p Right (i + 1) told
 one_agent_more p Right i found n told before here inside e = subst (TellsFirstAction p Right (i + 1)) (sym e) (go found n before here)

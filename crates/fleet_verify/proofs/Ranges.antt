@@ -10,7 +10,7 @@ use Rattle.fleet_verify.specs.Faults.{AwaitsRight}
 abbrev pub AwaitsRightTo : Program → ℕ → ℕ → ℕ → Type 0
 AwaitsRightTo p i n k = (m : ℕ) (w : Await) → m < k → slice_get (awaits_of p i n) m ≡ Some w → IsInRange p i w
 
--- of a well-formed program an await can be met where the awaited agent has as many moves
+-- of a well-formed program an await can be met if the awaited agent has as many moves
 pub one_in_range : (p : Program) → IsWellFormed p → (i n k : ℕ) (v : Await) → slice_get (awaits_of p i n) k ≡ Some v → v.count ≤ moves p v.agent → IsInRange p i v
 one_in_range p h i n k v e l =
     let awaits = h.awaits i n in

@@ -1,4 +1,4 @@
--- What the reach of a program rests on: an accepted program finishes, where nobody is held, after as many ticks as its longest chain has actions.
+-- What the reach of a program rests on: an accepted program finishes, if nobody is held, after as many ticks as its longest chain has actions.
 use Rattle.std.proofs.Common.{◌≡◌, ℕ, ◌≤◌, [], subst, arith, inl, inr}
 use Rattle.std.proofs.lemmas.Bool.{cases_eq}
 use Rattle.fleet_model.specs.declared.program.ActionId.{ActionId}

@@ -88,7 +88,7 @@ module _ (passable : Place → Bool) (tasks : List Task) (p : Program) (a : IsAc
         },
       )
 
--- a fault where all but the order is right
+-- a fault if all but the order is right
 pub of_order : (passable : Place → Bool) (tasks : List Task) (p : Program) → HasRanges passable tasks p → (f : VerifyFault) → IsFault passable tasks p f → IsOfOrder p f
 of_order passable tasks p h OutOfMemory f = tt
 of_order passable tasks p h OtherFleet f = f h.before.before.before.fleet

@@ -1,4 +1,4 @@
--- Where nobody is ready, what waits for what leads round.
+-- If nobody is ready, the waiting of the agents for one another leads round.
 use Rattle.std.proofs.Common.{◌≡◌, ◌≢◌, ℕ, zero, suc, ◌+◌, ◌-◌, ◌<◌, ◌≤◌, Bool, true, false, cond, List, [], ◌∷◌, ◌++◌, length, map, get_or, slice_index, Some, refl, ap, sym, ◌∙◌, subst, arith, inl, inr, IsTrue, reverse}
 use Rattle.std.specs.Prelude.{Contains, ◌⊎◌, slice_get}
 use Rattle.std.proofs.lemmas.Bool.{cases_eq, cases_lt, lt-ltb, le-ltb}

@@ -42,6 +42,6 @@ abbrev pub TellsFirstBad : (ℕ → OpenPair → Type 0) → List OpenPair → �
 TellsFirstBad Bad pairs many n None = (k : ℕ) (o : OpenPair) → k < many → slice_get pairs k ≡ Some o → number_of o.cell ≡ n → Bad k o → ⊥
 TellsFirstBad Bad pairs many n (Some b) = IsFirstBad Bad pairs many n b.first b.second
 
--- the flag with this number stands
+-- the flag with this number is set
 abbrev pub IsFlagged : List Bool → ℕ → OpenPair → Type 0
 IsFlagged flags k o = get_or flags k false ≡ true

@@ -78,7 +78,7 @@ pub record IsOpenPair (p : Program) (placed : List PlacedVisit) (o : OpenPair) :
   pub neighbours : AreConsecutive (visits_of (place_of o.cell) placed) o.first o.second
   pub breaks : ComesAfterByAwait p o.first o.second → ⊥
 
--- so it is for each cell, by its number; the open pairs stand in the order of their second visits
+-- the visits of each cell are grouped so, by its number; the open pairs stand in the order of their second visits
 pub record AreGrouped (p : Program) (placed : List PlacedVisit) (order : VisitOrder) : Type 0 where
   pub cells : (c : Cell) → IsCell c → IsGrouped p c placed (get nat_eq order.last (number_of c)) order.pairs.items
   pub each : All (IsOpenPair p placed) order.pairs.items

@@ -18,7 +18,7 @@ use fleet_machine::Machine;
 use fleet_model::{ActionId, Place, ProgramView};
 use fleet_scen::Instance;
 
-/// Whether there are as many agents as tasks, and they start where those say.
+/// Whether there are as many agents as tasks, and each starts where its task says.
 pub fn check_starts<P: ProgramView>(program: &P, instance: &Instance) -> Result<(), VerifyFault>
     ensures ok { OnOk result (HasStarts instance.now (P.program program.now)) }
     ensures err { IfErr result (λ f. (passable : Place → Bool) → IsFault passable instance.now (P.program program.now) f) }

@@ -19,16 +19,15 @@ ghost use Rattle.fleet_verify.specs.Listing.{AreLevels, IsSortedListing};
 ghost use Rattle.fleet_model.specs.Run.{RunsWell};
 ghost use Rattle.fleet_verify.specs.Rows.{IsRow};
 
-/// After the breaking holds of two visits of a place without an order, both agents stand on that
-/// place.
+/// After the breaking holds of two visits of a place without an order, both agents stand on that place.
 pub fn breaking_holds_end_in_a_conflict()
     ensures { (p : Program) (number : ActionId → ℕ) (q : Place) (v w : Visit) (holds : Holds) →
         IsNumbering p number → AreUnordered p q v w → AreBreakingHolds p v w holds →
         MeetOn p q v w holds }
 {}
 
-/// The agents of two visits of a place without an order are brought onto it by holds: by those that
-/// hold back all that is not needed.
+/// The agents of two visits of a place without an order are brought onto it by holds: by those that hold back all that
+/// is not needed.
 pub fn unordered_visits_meet()
     ensures { (p : Program) (number : ActionId → ℕ) (q : Place) (v w : Visit) →
         IsNumbering p number → AreInRange p → AreUnordered p q v w →
@@ -60,8 +59,8 @@ pub fn breaking_holds_by_rows()
         ↔ (HasBegun (run p holds t) v × HasBegun (run p holds t) w) }
 {}
 
-/// Of two visits in an orderly listing the leaving of the earlier begins a chain that ends with the
-/// entering of the later.
+/// Of two visits in an orderly listing, the leaving of the earlier begins a chain that ends with the entering of the
+/// later.
 pub fn listed_visits_are_chained()
     ensures { (p : Program) (q : Place) (listing : List Visit) (i j : ℕ) (v w : Visit) →
         ListsVisits p q listing → Adjacent (ComesAfterByChain p) listing →
@@ -72,7 +71,8 @@ pub fn listed_visits_are_chained()
 /// Neighbours in the sorted listing of which the second may not come after the first have no order either way, and if
 /// two visits of a place have none, the program is not orderly.
 pub fn unordered_visits_are_found()
-    ensures neighbours { (p : Program) (level : ActionId → ℕ) (q : Place) (sorted : List Visit) (k : ℕ) (v w : Visit) →
+    ensures neighbours { (p : Program) (level : ActionId → ℕ) (q : Place) (sorted : List Visit)
+        (k : ℕ) (v w : Visit) →
         AreLevels p level → IsSortedListing p level q sorted →
         slice_get sorted k ≡ Some v → slice_get sorted (k + 1) ≡ Some w →
         (ComesAfterByChain p v w → ⊥) → AreUnordered p q v w }

@@ -1,9 +1,9 @@
 //! Which programs are safe to run: the verifier, and the laws of the runs that it accepts.
 //!
-//! A program is accepted for a map and an instance if its agents begin and end where they are to, stay on passable
-//! cells, await only what can come, have no ring of needs, and enter each cell only once the visit before has been left
-//! for sure. Every run of it then is free of conflicts and arrives, whatever agents are held for however long (Hönig et
-//! al. 2019).
+//! A program is accepted for a map and an instance if its agents begin and end where the instance says, stay on
+//! passable cells, await only what can come, have no ring of needs, and enter each cell only when the visit before is
+//! sure to have been left. Every run of it then is free of conflicts and arrives, whatever agents are held for however
+//! long (Hönig et al. 2019).
 #![tactic(auto)]
 
 mod accepted;

@@ -16,7 +16,9 @@ ghost use Rattle.fleet_verify.specs.Listing.{AreLevels, entry_level, IsSortedLis
 
 /// If each visit of a place awaits the leaving of the one before it, a chain leads from the one to the other.
 pub fn awaits_are_chains()
-    ensures { (passable : Place → Bool) (tasks : List Task) (p : Program) → IsAcceptedBy ComesAfterByAwait passable tasks p → IsAcceptedBy ComesAfterByChain passable tasks p }
+    ensures { (passable : Place → Bool) (tasks : List Task) (p : Program)
+        → IsAcceptedBy ComesAfterByAwait passable tasks p
+        → IsAcceptedBy ComesAfterByChain passable tasks p }
 {}
 
 /// In an orderly listing the levels of the entering actions rise.
@@ -25,7 +27,8 @@ pub fn orderly_listings_rise()
         AreLevels p level → ListsVisits p q listing → Adjacent (ComesAfterByChain p) listing →
         Adjacent (λ (v : Visit) (w : Visit). entry_level level v < entry_level level w) listing }
     ensures by_await { (p : Program) (level : ActionId → ℕ) (q : Place) (listing : List Visit) →
-        AreLevels p level → AreInRange p → ListsVisits p q listing → Adjacent (ComesAfterByAwait p) listing →
+        AreLevels p level → AreInRange p → ListsVisits p q listing
+        → Adjacent (ComesAfterByAwait p) listing →
         Adjacent (λ (v : Visit) (w : Visit). entry_level level v < entry_level level w) listing }
 {}
 
@@ -33,16 +36,19 @@ pub fn orderly_listings_rise()
 pub fn sorted_listings_decide()
     ensures by_chain { (p : Program) (level : ActionId → ℕ) (q : Place) (sorted : List Visit) →
         AreLevels p level → IsSortedListing p level q sorted →
-        ((listing : List Visit) × ListsVisits p q listing × Adjacent (ComesAfterByChain p) listing) ↔ Adjacent (ComesAfterByChain p) sorted }
+        ((listing : List Visit) × ListsVisits p q listing × Adjacent (ComesAfterByChain p) listing)
+        ↔ Adjacent (ComesAfterByChain p) sorted }
     ensures by_await { (p : Program) (level : ActionId → ℕ) (q : Place) (sorted : List Visit) →
         AreLevels p level → AreInRange p → IsSortedListing p level q sorted →
-        ((listing : List Visit) × ListsVisits p q listing × Adjacent (ComesAfterByAwait p) listing) ↔ Adjacent (ComesAfterByAwait p) sorted }
+        ((listing : List Visit) × ListsVisits p q listing × Adjacent (ComesAfterByAwait p) listing)
+        ↔ Adjacent (ComesAfterByAwait p) sorted }
 {}
 
 /// No list of holds ever finishes an action of a ring of needs, so a program that has one has no numbering.
 pub fn rings_are_never_finished()
     ensures never { (p : Program) (ring : List ActionId) (holds : Holds) (t : ℕ) (a : ActionId) →
         IsRing p ring → Contains ring a → count_at (run p holds t) a.agent < a.number }
-    ensures not_numbered { (p : Program) (ring : List ActionId) (a : ActionId) (number : ActionId → ℕ) →
+    ensures not_numbered { (p : Program) (ring : List ActionId) (a : ActionId)
+        (number : ActionId → ℕ) →
         IsRing p ring → Contains ring a → IsNumbering p number → ⊥ }
 {}

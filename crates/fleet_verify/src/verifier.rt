@@ -31,9 +31,9 @@ use std::alloc::Global;
 /// a chain of needs leads from the action that leaves the one before to the action that enters it.
 ///
 /// If so, then whatever agents are held for however long, the run stays on passable cells without a vertex, following,
-/// swapping or cycle conflict (Stern et al. 2019), the visits of each cell are owned in turn, and the run finishes
-/// after no fewer ticks than the longest chain has actions and no more than those and the ticks in which a ready agent
-/// was held. From then on all agents stand on their goals.
+/// swapping or cycle conflict (Stern et al. 2019), the visits of each cell come in their order, each after the one
+/// before it has been left, and the run finishes after no fewer ticks than the longest chain has actions and no more
+/// than those and the ticks in which a ready agent was held. From then on all agents stand on their goals.
 ///
 /// A refusal gives the program back with its first fault.
 pub fn verify<'g, P: ProgramView>(
@@ -84,7 +84,7 @@ fn judge<P: ProgramView>(
     judge_started(alloc, program, grid, instance, &mut run)
 }
 
-/// The same from the start of the run in which nobody is held.
+/// The same as `judge`, from the start of the run in which nobody is held.
 fn judge_started<P: ProgramView>(
     alloc: Global,
     program: &P,
@@ -116,7 +116,7 @@ fn path_fault<P: ProgramView>(program: &P, grid: &Grid, instance: &Instance) -> 
     }
 }
 
-/// The same from the end of that run, if it stays on passable ground.
+/// The same as `judge`, from the end of that run, which stayed on passable ground.
 fn judge_run<P: ProgramView>(
     alloc: Global,
     program: &P,
@@ -137,7 +137,7 @@ fn judge_run<P: ProgramView>(
     }
 }
 
-/// The first fault of a program with which that run does not arrive.
+/// The first fault of a program whose run with nobody held does not arrive.
 fn fault_if_stuck<P: ProgramView>(
     alloc: Global,
     program: &P,

@@ -94,8 +94,8 @@ fn begins_visit<P: ProgramView>(program: &P, visit: Visit) -> bool
     }
 }
 
-/// Keeps the visit as the last one of its cell, and with the one before as an open pair, if it does not await that this
-/// is left.
+/// Keeps the visit as the last one of its cell. Unless it is a later one by the same agent, or awaits that the one
+/// before it is left, the two are added as an open pair.
 fn append<P: ProgramView>(
     program: &P,
     last: &mut IndexMap<u32, Visit>,

@@ -35,7 +35,7 @@ fn without_commands<'a>(alloc: Global) -> Result<Command<'a>, AllocError>
         .bin_name("fleet")
 }
 
-/// The command line, and this command after those that it has.
+/// The command line with this command after those that it has.
 fn with_command<'a>(
     alloc: Global,
     line: Command<'a>,
@@ -47,7 +47,7 @@ fn with_command<'a>(
     line.subcommand(command_of(alloc, names, text)?)
 }
 
-/// The command line, and these commands after those that it has.
+/// The command line with these commands after those that it has.
 fn with_commands<'a>(
     alloc: Global,
     line: Command<'a>,

@@ -96,8 +96,9 @@ fn stop_at<O: Flush, E: TraceOut>(stop: &WordStop, out: &mut O, err: &mut E) -> 
     }
 }
 
-/// What the program does for the words after its name: without words it runs what `input` gives in hexadecimal, and else the command
-/// that the words ask, of which `dispatch` alone hears `input`, as a floor. Answers the status: 2 only where the words ask no command.
+/// What the program does for the words after its name: without words it rehearses the program that `input` gives in hexadecimal, and else
+/// it does what the words ask for. Of the commands `dispatch` alone hears `input`, as a floor. Answers the status: 2 only if the words ask
+/// for no command.
 pub fn run_command<R: Read + Floor, F: Files, O: Flush, E: TraceOut>(
     alloc: Global,
     words: &[String],

@@ -230,7 +230,8 @@ fn with_arguments<'a>(
     arguments: &[Argument],
 ) -> Result<Command<'a>, AllocError>
     requires { IsLocal command }
-    ensures { IfOk result (IsApp (fold with_rule (app_of command.entry) (map (rule_for names.entry) arguments.now))) }
+    ensures { IfOk result
+        (IsApp (fold with_rule (app_of command.entry) (map (rule_for names.entry) arguments.now))) }
 {
     match arguments {
         [] => Ok(command),

@@ -42,7 +42,8 @@ fn with_command<'a>(
     names: &'a [&'a str],
     text: &CommandText,
 ) -> Result<Command<'a>, AllocError>
-    ensures { IfOk result (λ command. app_of command ≡ with_subcommand (app_of line.entry) (shape_for names.entry text.now)) }
+    ensures { IfOk result (λ command. app_of command
+        ≡ with_subcommand (app_of line.entry) (shape_for names.entry text.now)) }
 {
     line.subcommand(command_of(alloc, names, text)?)
 }
@@ -54,7 +55,8 @@ fn with_commands<'a>(
     names: &'a [&'a str],
     texts: &[CommandText],
 ) -> Result<Command<'a>, AllocError>
-    ensures { IfOk result (λ command. app_of command ≡ with_shapes (app_of line.entry) (map (shape_for names.entry) texts.now)) }
+    ensures { IfOk result (λ command. app_of command
+        ≡ with_shapes (app_of line.entry) (map (shape_for names.entry) texts.now)) }
 {
     match texts {
         [] => Ok(line),

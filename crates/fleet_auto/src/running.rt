@@ -59,8 +59,9 @@ pub fn auto_run_in_orders<O: TraceOut>(
     out: &mut O,
 ) -> Result<Report, AutoFault>
     requires { IsWorking (O.state out.old) }
-    ensures { AutoRunsIn task.now.map.now task.now.scen.now task.now.asked task.now.horizon task.now.tries
-        task.now.deps task.now.holds.now (O.state out.old) (O.state out.new) result }
+    ensures { AutoRunsIn task.now.map.now task.now.scen.now task.now.asked task.now.horizon
+        task.now.tries task.now.deps task.now.holds.now
+        (O.state out.old) (O.state out.new) result }
 {
     each_spelling_has_one_program();
     let problem = read_problem(alloc, task.map, task.scen, task.asked)?;

@@ -36,8 +36,10 @@ fn do_request<'a, F: Files, O: Flush, D: Floor>(
     requires out_working { IsWorking (O.state out.old) }
     requires floor_works { D.works floor.old }
     ensures { MatchResult result
-        (DoesRequest (F.contents files.old) (F.contents files.new) (D.talks floor.old floor.new) request.now (O.state out.old) (O.state out.new))
-        (RefusesRequest (F.contents files.old) (F.contents files.new) (D.talks floor.old floor.new) request.now (O.state out.old) (O.state out.new)) }
+        (DoesRequest (F.contents files.old) (F.contents files.new) (D.talks floor.old floor.new)
+        request.now (O.state out.old) (O.state out.new))
+        (RefusesRequest (F.contents files.old) (F.contents files.new) (D.talks floor.old floor.new)
+        request.now (O.state out.old) (O.state out.new)) }
 {
     match request {
         Request::Instance(request) => do_instance(alloc, request, files, out),
@@ -68,7 +70,8 @@ pub fn run_request<F: Files, O: Flush, E: TraceOut, D: Floor>(
     requires out_working { IsWorking (O.state out.old) }
     requires err_working { IsWorking (E.state err.old) }
     requires floor_works { D.works floor.old }
-    ensures { RunsRequest (F.contents files.old) (F.contents files.new) (D.talks floor.old floor.new) request.now
+    ensures { RunsRequest (F.contents files.old) (F.contents files.new)
+        (D.talks floor.old floor.new) request.now
         (O.state out.old) (O.state out.new) (E.state err.old) (E.state err.new) result }
 {
     finish(do_request(alloc, request, files, out, floor), err)
@@ -110,7 +113,8 @@ pub fn run_command<R: Read + Floor, F: Files, O: Flush, E: TraceOut>(
     requires out_working { IsWorking (O.state out.old) }
     requires err_working { IsWorking (E.state err.old) }
     requires floor_works { R.works input.old }
-    ensures { RunsCommand (map string_bytes words.now) (R.remaining input.old) (F.contents files.old) (F.contents files.new)
+    ensures { RunsCommand (map string_bytes words.now) (R.remaining input.old)
+        (F.contents files.old) (F.contents files.new)
         (R.talks input.old input.new)
         (O.state out.old) (O.state out.new)
         (E.state err.old) (E.state err.new)

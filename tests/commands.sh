@@ -1,4 +1,5 @@
-# Help, wrong usage and statuses; and that what docs/COMMANDS.md and docs/HELP.md say of the commands is what the program's help says.
+# Help, wrong usage and statuses; and that what docs/COMMANDS.md and docs/HELP.md say of the commands is what the
+# program's help says.
 
 enter commands
 commands=$(cd "$room" && fleet --help | awk '/^Commands:/ { on = 1; next } /^$/ { on = 0 } on && $1 != "help" { print $1 }')

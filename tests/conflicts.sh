@@ -1,5 +1,5 @@
-# Which plans on small maps are free of conflict, and the first fault of each that is not. A row has the rows of a map, a plan, whose first and last cells
-# are the starts and goals, and the line of its refusal, if it is refused.
+# Which plans on small maps are free of conflict, and the first fault of each that is not. A row has the rows of a map,
+# a plan, whose first and last cells are the starts and goals, and the line of its refusal, if it is refused.
 
 enter conflicts
 

@@ -6,7 +6,8 @@ for page in "$root"/docs/*.md; do
     document "$name" "docs/$name.md"
 done
 
-# Each refusal of the program has a section in docs/REFUSALS.md, with an example that ends in that refusal, and nothing else has.
+# Each refusal of the program has a section in docs/REFUSALS.md, with an example that ends in that refusal, and nothing
+# else has.
 enter refusals
 sed -n 's/.*codes "\([a-z]*\)"[^"0-9]*\([0-9][0-9]*\)[^"0-9]*codes "\([A-Z][A-Za-z]*\)".*/\1 \2 \3/p' "$root"/crates/*/specs/Told.antt |
     sed 's/^check 6 Conflict$//' | { cat; printf 'check 6 Conflict %s\n' Vertex Swapping Cycle; printf 'memory\nfile\n'; } | grep . | sort -u > "$work/want.out"

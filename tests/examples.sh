@@ -1,9 +1,9 @@
 #!/bin/sh
-# Runs a built program as a user would, and compares what it prints, what it prints on standard error and its status with what is due, to the letter:
+# Runs a built program as a user would, and compares what it prints, what it prints on standard error and its status
+# with what is due, to the letter:
 #     tests/examples.sh FLEET
-# Every fenced example of README.md and docs/, and what they cannot show: help, transcripts, texts, files, standard streams, the warehouse. `make
-# examples` calls it.
-# The last line counts: `examples: N passed, M failed`.
+# Every fenced example of README.md and docs/, and what they cannot show: help, transcripts, texts, files, standard
+# streams, the warehouse. `make examples` calls it. The last line counts: `examples: N passed, M failed`.
 
 root=$(cd "$(dirname "$0")/.." && pwd) || exit 2
 case $1 in
@@ -44,7 +44,8 @@ try() {
     status=$?
 }
 
-# Judges what the last command did: its name, its command line, and the status due. What is due on its outputs is in want.out and want.err.
+# Judges what the last command did: its name, its command line, and the status due. What is due on its outputs is in
+# want.out and want.err.
 judge() {
     why=
     [ "$status" = "$3" ] || why="status $status, due $3"
@@ -79,7 +80,8 @@ skip() {
     echo "skipped: $1"
 }
 
-# document ROOM PAGE [FILES]: each example of a document, in the order of the document, in one room, with the files of a folder.
+# document ROOM PAGE [FILES]: each example of a document, in the order of the document, in one room, with the files of a
+# folder.
 document() {
     enter "$1"
     [ -z "$3" ] || cp "$3"/* "$room/"

@@ -1,10 +1,13 @@
 # Takes the examples out of a document: awk -v to=FOLDER -f fenced.awk DOCUMENT
-# An example is a line `$ COMMAND` in a fence, with the lines up to the next one: what the command prints. Each becomes four files in FOLDER, by its
-# line in the document: COMMAND in .cmd, what is due on standard output in .out, on standard error in .err, and the status in .status.
 #
-# What is due follows from the text alone, by the rules of docs/REFUSALS.md and of the README's table of statuses: a refusal's line, and wrong usage from
-# its line `error:` on, stand on standard error, all else on standard output; the status is that of the refusal, 2 after wrong usage, 1 after `stuck`, else 0.
-# Where the last command of a pipe is another than fleet, its status is 0.
+# An example is a line `$ COMMAND` in a fence, with the lines up to the next one: what the command prints. Each becomes
+# four files in FOLDER, by its line in the document: COMMAND in .cmd, what is due on standard output in .out, on
+# standard error in .err, and the status in .status.
+#
+# What is due follows from the text alone, by the rules of docs/REFUSALS.md and of the README's table of statuses: a
+# refusal's line, and wrong usage from its line `error:` on, stand on standard error, all else on standard output; the
+# status is that of the refusal, 2 after wrong usage, 1 after `stuck`, else 0. If the last command of a pipe is
+# not fleet, the status is 0.
 
 function is_refusal(line) {
     return line ~ /^(map|scen|text|check|search|hex|load|compile|verify|run|dispatch) [0-9]+ [A-Z]/ || line == "memory" || line ~ /^file /

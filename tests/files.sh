@@ -3,7 +3,8 @@
 enter files
 M=examples/corridor.map S=examples/corridor.scen P=examples/corridor.plan B=examples/corridor.program H=examples/corridor.holds
 
-# Each file that a command reads is missing in turn, alone and with those that are read after it. `@` stands for the missing one.
+# Each file that a command reads is missing in turn, alone and with those that are read after it. `@` stands for the
+# missing one.
 echo old > "$room/kept"
 while read -r words; do
     check "a missing file: $words" 3 '' 'file nowhere\n' "fleet $(echo "$words" | sed 's/@/nowhere/')"

@@ -67,7 +67,8 @@ check '.. and stay as they are' 0 'bytes 1000018\n' '' 'fleet migrate way again 
 check '4,194,304 moves in version 2' 0 'agents 5\nticks 1000000\nheld 0\nfinished\n' '' \
     "{ printf 'MPF2\0\5'; for agent in 0 1 2 3; do printf '\0\0\0\0\0\0\0\0\0\17\102\100'; east_and_back 1000000; done; printf '\0\0\0\0\0\0\0\0\0\2\367\0'; east_and_back 194304; } > most && fleet rehearse most | tail -n 4"
 check '4,194,305 moves' 1 '' 'load 5 Total\n' "awk -v last='0000000000000000 0041' '$moves' | fleet"
-# A plan over a large map, plans as long and as many as may be, and one more; programs with as many moves as there may be.
+# A plan over a large map, plans as long and as many as may be, and one more; programs with as many moves as there may
+# be.
 check 'a plan from corner to corner of a map of 512 by 512' 0 'conflict-free\nagents 1\nsteps 1022\n' '' \
     "awk 'BEGIN { r = \".\"; while (length(r) < 512) r = r r; print \"type t\nheight 512\nwidth 512\nmap\"; for (y = 0; y < 512; y++) print r }' > room &&
     printf 'version 1\n0 m 512 512 0 0 511 511 0\n' > corners && fleet plan room corners > plan && fleet check room corners plan"
@@ -84,7 +85,8 @@ EOF
 chmod +x "$work/bin/shuttles"
 check '4,194,304 moves are compiled' 0 'agents 65\nmoves 4194304\nawaits 0\nbytes 4194960\n' '' 'shuttles 64 && fleet compile shuttles.map shuttles.scen shuttles.plan moves'
 check '.. and one more is too many' 1 '' 'compile 2 TooLong\n' 'shuttles 65 && fleet compile shuttles.map shuttles.scen shuttles.plan moves'
-# relay FREE: 1,024 agents that go one step east each, the last one to where the first has begun. Each but the first and agent FREE awaits the one before it.
+# relay FREE: 1,024 agents that go one step east each, the last one to where the first has begun. Each but the first and
+# agent FREE awaits the one before it.
 cat > "$work/bin/relay" <<'EOF'
 #!/bin/sh
 awk 'BEGIN { r = "."; while (length(r) < 2048) r = r r; print "type t\nheight 2\nwidth 2049\nmap\n" r ".\n" r "." }' > relay.map

@@ -1,5 +1,5 @@
-# Memory: the program with each growth refused in turn, and in address spaces from too small to ample. The answer is the command's own, or the line
-# `memory` with status 3, nothing on standard output, and OUT as it was.
+# Memory: the program with each growth refused in turn, and in address spaces from too small to ample. The answer is the
+# command's own, or the line `memory` with status 3, nothing on standard output, and OUT as it was.
 
 enter memory
 on='examples/pair.map examples/pair.scen'
@@ -13,8 +13,8 @@ echo $? > due.status
 cp out due.out
 EOF
 
-# judged COMMAND..: runs it under $limits, and says what it did if that is neither what is due nor want of memory. `was` then says which.
-# A status from 126 on is that of a program that the system could not start.
+# judged COMMAND..: runs it under $limits, and says what it did if that is neither what is due nor want of memory. `was`
+# then says which. A status from 126 on is that of a program that the system could not start.
 cat > "$work/bin/judged" <<'EOF'
 echo kept > out
 $limits "$@" > got 2> told < "$input"
@@ -29,8 +29,9 @@ else was=wrong; echo "$limits: status $status, $(wc -c < got) bytes, $line"
 fi
 EOF
 
-# growths COMMAND..: with each growth refused in turn. Prints wrong answers, and `each` if memory lacked each time, or all but three times: the
-# buffer of the output can be done without, and the row of an agent that awaits others need not be cut to its length (two agents do so here at most).
+# growths COMMAND..: with each growth refused in turn. Prints wrong answers, and `each` if memory lacked each time, or
+# all but three times: the buffer of the output can be done without, and the row of an agent that awaits others need not
+# be cut to its length (two agents do so here at most).
 cat > "$work/bin/growths" <<'EOF'
 #!/bin/sh
 . due
@@ -56,8 +57,8 @@ shift 2
 exec "$program" "$@"
 EOF
 
-# spaces STEP COMMAND..: in address spaces that grow by STEP KB, from one in which the system cannot start the program to one in which the answer is
-# what is due. Prints wrong answers, and which kinds of answers came after one another.
+# spaces STEP COMMAND..: in address spaces that grow by STEP KB, from one in which the system cannot start the program
+# to one in which the answer is what is due. Prints wrong answers, and which kinds of answers came after one another.
 cat > "$work/bin/spaces" <<'EOF'
 #!/bin/sh
 step=$1

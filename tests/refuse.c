@@ -1,5 +1,5 @@
-// Refuses one growth of a program. With LD_PRELOAD naming this library, the growth of that number in the variable REFUSE fails, counted from 1,
-// and the file named by GROWTHS, if any, gets how many were asked for.
+// Refuses one growth of a program. With LD_PRELOAD naming this library, the growth of that number in the variable
+// REFUSE fails, counted from 1, and the file named by GROWTHS, if any, gets how many were asked for.
 #define _GNU_SOURCE
 #include <dlfcn.h>
 #include <errno.h>

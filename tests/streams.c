@@ -1,6 +1,7 @@
-// Lets the standard streams of a program fail. With LD_PRELOAD naming this library, standard output takes as many bytes as the variable ROOM
-// says, one at a time, and standard input gives as many as REST says. Then each answers the error whose number is in WAY, or, if that is 0, takes
-// or gives nothing. The file named by WRITES, if any, gets how often standard error was written to.
+// Lets the standard streams of a program fail. With LD_PRELOAD naming this library, standard output takes as many bytes
+// as the variable ROOM says, one at a time, and standard input gives as many as REST says. Then each answers the error
+// whose number is in WAY, or, if that is 0, takes or gives nothing. The file named by WRITES, if any, gets how often
+// standard error was written to.
 #define _GNU_SOURCE
 #include <dlfcn.h>
 #include <errno.h>
@@ -11,7 +12,8 @@
 
 static long written, given, told;
 
-// How many bytes of so many the stream takes or gives: one, if there are fewer so far than the variable says, and else none.
+// How many bytes of so many the stream takes or gives: one, if there are fewer so far than the variable says, and else
+// none.
 static size_t part(const char *limit, long so_far, size_t count)
 {
     const char *number = getenv(limit);

@@ -1,10 +1,11 @@
-# Texts and bytes that are read, and the first fault of each that is refused. A row has the text, as a format of printf, and what is read or refused.
+# Texts and bytes that are read, and the first fault of each that is refused. A row has the text, as a format of printf,
+# and what is read or refused.
 
 enter texts
 cp "$work"/worked/pair.* "$room/"
 
-# Maps, and of those that are read the columns, rows and passable cells, and then the rows, in which `.` is passable and `@` is not. An agent stands on
-# each cell that has to be passable, and they are as many as are passable.
+# Maps, and of those that are read the columns, rows and passable cells, and then the rows, in which `.` is passable and
+# `@` is not. An agent stands on each cell that has to be passable, and they are as many as are passable.
 cat > "$work/bin/standing" <<'EOF'
 #!/bin/sh
 echo "$*" | awk '{ print "version 1"
@@ -76,8 +77,8 @@ type octile\nheight 1\nwidth 3\nmap\n..x\n|map 6 Glyph row 0 column 2
 type octile\nheight 1\nwidth 3\nmap\n...\nx|map 7 Trailing
 EOF
 
-# Scenarios of the pair's map, or of one of seven cells, of which each has another glyph; how many agents are asked for, if a number is; and start and goal
-# of each agent.
+# Scenarios of the pair's map, or of one of seven cells, of which each has another glyph; how many agents are asked for,
+# if a number is; and start and goal of each agent.
 printf 'type octile\nheight 1\nwidth 7\nmap\n.G@OTSW\n' > "$room/glyphs.map"
 while IFS='|' read -r map agents text due; do
     command="printf '$text' > scen && fleet instance $map.map scen${agents:+ --agents $agents} > got; status=\$?; tail -n +4 got; exit \$status"
@@ -206,7 +207,8 @@ done <<'EOF'
 x|text 2 Form line 1
 EOF
 
-# Programs, in hexadecimal, and of those that are read how many agents, actions and awaits are listed. They are viewed, and loaded too.
+# Programs, in hexadecimal, and of those that are read how many agents, actions and awaits are listed. They are viewed,
+# and loaded too.
 counted='$1 == "agent" { agents++; next } { actions++; if (NF > 5) awaits += NF - 5 } END { print "agents", agents, "moves", actions + 0, "awaits", awaits + 0 }'
 while IFS='|' read -r digits due; do
     case $due in
@@ -286,7 +288,8 @@ f|hex 3 Odd
 4|hex 3 Odd
 EOF
 
-# Holds of twelve agents that go three steps north each, and where all are after two ticks, if the holds are read so far; if not, the line that is refused.
+# Holds of twelve agents that go three steps north each, and where all are after two ticks, if the holds are read so
+# far; if not, the line that is refused.
 check 'twelve agents' 0 '' '' "bytes 4D504631 000C \$(for agent in 0 1 2 3 4 5 6 7 8 9 10 11; do echo 0000 0000 0000 0000 0003 00 00 00; done) > twelve"
 while IFS='|' read -r text due; do
     case $due in

@@ -1,5 +1,5 @@
-# Transcripts of whole commands on the fleets of tests/worked.txt: tests/transcripts/ has a page for each subject, whose fences are run as those of
-# the documents.
+# Transcripts of whole commands on the fleets of tests/worked.txt: tests/transcripts/ has a page for each subject, whose
+# fences are run as those of the documents.
 
 # The worked fleets, a file for each part of tests/worked.txt.
 mkdir "$work/worked" "$work/hex"

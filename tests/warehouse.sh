@@ -1,4 +1,5 @@
-# The way from a map and a scenario to a trace, on the warehouse of examples/: in one command and step by step, against the kept trace.
+# The way from a map and a scenario to a trace, on the warehouse of examples/: in one command and step by step, against
+# the kept trace.
 
 enter warehouse
 on='examples/warehouse.map examples/warehouse.scen'

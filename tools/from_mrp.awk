@@ -1,5 +1,5 @@
 # Plan text from a schedule of libMultiRobotPlanning: awk -f from_mrp.awk YAML > PLAN
-# Below `schedule:` each agent, `agent0:` and so on, has entries `- x: X`, `y: Y`, `t: T`, one for each time from 0. Status 1 where one is missing.
+# Below `schedule:` each agent, `agent0:` and so on, has entries `- x: X`, `y: Y`, `t: T`, one for each time from 0. Status 1 if one is missing.
 { sub(/\r$/, "") }
 /^[^ \t#]/ { inside = ($0 ~ /^schedule:/); next }
 !inside { next }

@@ -1,4 +1,4 @@
--- The acts of the program for the words that it was given.
+-- What the program does for the arguments with which it was started.
 use Rattle.std.specs.Prelude.{◌≡◌, ◌≢◌, ℕ, List, [], ◌∷◌, ◌++◌, ◌⊎◌, Option, Result, Ok, Err, codes, map, drop, string_bytes}
 use Rattle.std.specs.Vec.Iter.{into_iter_items}
 use Rattle.std.specs.IoError.{error_kind}
@@ -33,7 +33,7 @@ pub record TellsNoWords (kind : ErrorKind) (err err' : SinkState) (status : ℕ)
   pub memory : kind ≡ OutOfMemory → (status ≡ 3) × IsRefusalTold f.Memory err err'
   pub usage : kind ≢ OutOfMemory → (status ≡ 2) × Receives err err' no_text_line
 
--- the command that the words after the first ask was done; or there was no memory for the words, or they cannot be had, and then that alone
+-- the command that the words after the first ask for was done; or there was no memory for the words, or they cannot be had, and then that alone
 -- was reported
 abbrev pub RunsProgram : Result (IntoIter (String Global) Global) Error → Option (List ℕ) → (files after : Option Store) → (Talk → Type 0) → (out out' err err' : SinkState) → ℕ → Type 0
 RunsProgram (Ok args) input files after talks out out' err err' status =

@@ -1,4 +1,4 @@
--- Which subcommand a parse enters, where it finds no fault in the words.
+-- Which subcommand a parse enters, if it finds no fault in the words.
 use Rattle.std.proofs.Common.{◌≡◌, ◌∙◌, ◌&&◌, ℕ, Bool, cond, true, false, not, List, [], ◌∷◌, Option, Some, None, is_some, codes, refl, ap, true≢false}
 use Rattle.std.specs.List.{find, fold}
 use Rattle.std.specs.Option.{option_map, option_map_or}

@@ -1,4 +1,4 @@
--- What the values of an argument have passed, where a parse of a simple command finds no fault in the words.
+-- What the values of an argument have passed, if a parse of a simple command finds no fault in the words.
 use Rattle.std.proofs.Common.{◌≡◌, ◌∙◌, ◌⊎◌, inl, inr, ◌&&◌, ◌||◌, ◌++◌, ◌+◌, ℕ, Bool, cond, true, false, zero, suc, List, [], ◌∷◌, Option, Some, None, is_some, length, nat_lt, refl, sym, ap, subst, arith, true≢false, length-append, lt-ltb, ltb-true}
 use Rattle.std.specs.Prelude.{drop, encode_utf8, slice_get, min}
 use Rattle.std.specs.List.{filter, find, fold}
@@ -176,7 +176,7 @@ module _ (c : List Rule) (a : Rule) (alone : filter (λ x. bytes_eq x.id a.id) c
   action_each action.Count x again vs rows h some none f = counted_each x vs rows h some none f
   action_each _ x again vs rows h some none f = f
 
-  -- a use has a value where its range asks for one
+  -- a use has a value if its range asks for one
   enough : (x : Rule) (vs : List Text) → range_kinds (least_values x) (most_values x) (length vs) ≡ [] → nat_lt 0 (least_values x) ≡ true
       → nat_lt 0 (length (values_or_missing x vs)) ≡ true
   enough x [] none least =

@@ -1,4 +1,4 @@
--- Which values the arguments of a simple command have, where a parse finds no fault in the words.
+-- Which values the arguments of a simple command have, if a parse finds no fault in the words.
 use Rattle.std.proofs.Common.{◌≡◌, ◌∙◌, ◌⊎◌, inl, inr, ◌&&◌, ◌||◌, ◌++◌, Bool, cond, true, false, not, List, [], ◌∷◌, Option, Some, None, length, nat_lt, refl, sym, ap, subst, true≢false}
 use Rattle.std.specs.List.{filter, find, fold, list_any}
 use Rattle.std.specs.Option.{option_map_or}
@@ -138,7 +138,7 @@ given_found id rows h = go (find (λ x. bytes_eq x.id id) rows) refl h
     go None t e = absurd (true≢false (sym e))
     go (Some r) t e = (r, t)
 
--- where the last checks find no fault, no subcommand and no argument is missing
+-- if the last checks find no fault, no subcommand and no argument is missing
 pub not_wanted : (help command argument : Bool) → check_kinds help command argument ≡ [] → (command ≡ false) × (argument ≡ false)
 not_wanted true command argument e = cc
 not_wanted false true argument e = cc

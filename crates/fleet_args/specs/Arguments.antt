@@ -24,7 +24,7 @@ word id = record (new_rule id) { required = true; value_names = 1 }
 abbrev pub option : Text → Rule
 option name = record (new_rule name) { long = Some name; value_names = 1 }
 
--- `--NAME VALUE`, where this parser takes the value, which is a default where the option is not used
+-- `--NAME VALUE`, where this parser takes the value, which is a default if the option is not used
 abbrev pub defaulted : Text → ValueParser → Text → Rule
 defaulted name parser default = record (option name) { parser = Some parser; defaults = default ∷ [] }
 
@@ -32,11 +32,11 @@ defaulted name parser default = record (option name) { parser = Some parser; def
 abbrev pub agents_rule : Rule
 agents_rule = record (option (codes "agents")) { parser = Some (parser.Signed (pos 0) (pos 65535)) }
 
--- `--horizon H`, where H is a number from 1 to 65535, and 1024 if it is not used
+-- `--horizon H`, where H is a number from 1 to 65535, and 1024 if the option is not used
 abbrev pub horizon_rule : Rule
 horizon_rule = record (option (codes "horizon")) { parser = Some (parser.Signed (pos 1) (pos 65535)); defaults = codes "1024" ∷ [] }
 
--- `--tries N`, where N is a number from 1 to 1,000,000, and 1 if it is not used
+-- `--tries N`, where N is a number from 1 to 1,000,000, and 1 if the option is not used
 abbrev pub tries_rule : Rule
 tries_rule = record (option (codes "tries")) { parser = Some (parser.Signed (pos 1) (pos MAX_TRIES)); defaults = codes "1" ∷ [] }
 
@@ -48,11 +48,11 @@ DepsNames = Bor (List (Bor Text))
 abbrev pub AreDeps : DepsNames → Type 0
 AreDeps names = map (λ name. name.now) names.now ≡ codes "all" ∷ codes "last" ∷ []
 
--- `--deps NAME`, and `last` if it is not used
+-- `--deps NAME`, where NAME is one of the names of the kinds of awaits, and `last` if the option is not used
 abbrev pub deps_rule : DepsNames → Rule
 deps_rule names = record (option (codes "deps")) { parser = Some (parser.Names names); defaults = codes "last" ∷ [] }
 
--- `--dwell N`, where N is a number up to 1,000,000, and 0 if it is not used
+-- `--dwell N`, where N is a number up to 1,000,000, and 0 if the option is not used
 abbrev pub dwell_rule : Rule
 dwell_rule = record (option (codes "dwell")) { parser = Some (parser.Signed (pos 0) (pos MAX_MOVES)); defaults = codes "0" ∷ [] }
 
@@ -70,7 +70,7 @@ parser_for names values.Text = None
 parser_for names (values.Numbers least most) = Some (parser.Signed least most)
 parser_for names values.Deps = Some (parser.Names names)
 
--- the rule of what an argument is
+-- the rule that an argument's description gives
 abbrev pub rule_by : DepsNames → ArgumentText → Rule
 rule_by names text = record (plain_rule text) {
   parser = parser_for names text.values;

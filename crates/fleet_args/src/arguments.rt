@@ -174,7 +174,7 @@ fn text_of(argument: Argument) -> ArgumentText
     }
 }
 
-/// How `clap` reads these values, where these are the names of the kinds of awaits.
+/// How `clap` reads these values, with these names of the kinds of awaits.
 fn parser_for<'a>(names: &'a [&'a str], values: Values) -> Option<ValueParser<'a>>
     ensures { result ≡ parser_for names.entry values }
 {
@@ -210,7 +210,7 @@ fn with_parser<'a>(arg: Arg<'a>, parser: Option<ValueParser<'a>>) -> Arg<'a>
     }
 }
 
-/// The argument as `clap` takes it, where these are the names of the kinds of awaits.
+/// The argument as `clap` takes it, with these names of the kinds of awaits.
 fn arg_of<'a>(alloc: Global, names: &'a [&'a str], argument: Argument) -> Arg<'a>
     ensures { IsArg (rule_for names.entry argument) result }
 {
@@ -222,7 +222,7 @@ fn arg_of<'a>(alloc: Global, names: &'a [&'a str], argument: Argument) -> Arg<'a
     }
 }
 
-/// The command, and these arguments after those that it has.
+/// The command with these arguments after those that it has.
 fn with_arguments<'a>(
     alloc: Global,
     command: Command<'a>,
@@ -230,7 +230,8 @@ fn with_arguments<'a>(
     arguments: &[Argument],
 ) -> Result<Command<'a>, AllocError>
     requires { IsLocal command }
-    ensures { IfOk result (IsApp (fold with_rule (app_of command.entry) (map (rule_for names.entry) arguments.now))) }
+    ensures { IfOk result
+        (IsApp (fold with_rule (app_of command.entry) (map (rule_for names.entry) arguments.now))) }
 {
     match arguments {
         [] => Ok(command),
@@ -241,7 +242,7 @@ fn with_arguments<'a>(
     }
 }
 
-/// The command, where these are the names of the kinds of awaits.
+/// The command as `clap` takes it, with these names of the kinds of awaits.
 pub(crate) fn command_of<'a>(
     alloc: Global,
     names: &'a [&'a str],

@@ -35,26 +35,28 @@ fn without_commands<'a>(alloc: Global) -> Result<Command<'a>, AllocError>
         .bin_name("fleet")
 }
 
-/// The command line, and this command after those that it has.
+/// The command line with this command after those that it has.
 fn with_command<'a>(
     alloc: Global,
     line: Command<'a>,
     names: &'a [&'a str],
     text: &CommandText,
 ) -> Result<Command<'a>, AllocError>
-    ensures { IfOk result (λ command. app_of command ≡ with_subcommand (app_of line.entry) (shape_for names.entry text.now)) }
+    ensures { IfOk result (λ command. app_of command
+        ≡ with_subcommand (app_of line.entry) (shape_for names.entry text.now)) }
 {
     line.subcommand(command_of(alloc, names, text)?)
 }
 
-/// The command line, and these commands after those that it has.
+/// The command line with these commands after those that it has.
 fn with_commands<'a>(
     alloc: Global,
     line: Command<'a>,
     names: &'a [&'a str],
     texts: &[CommandText],
 ) -> Result<Command<'a>, AllocError>
-    ensures { IfOk result (λ command. app_of command ≡ with_shapes (app_of line.entry) (map (shape_for names.entry) texts.now)) }
+    ensures { IfOk result (λ command. app_of command
+        ≡ with_shapes (app_of line.entry) (map (shape_for names.entry) texts.now)) }
 {
     match texts {
         [] => Ok(line),

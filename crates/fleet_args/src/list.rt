@@ -1,4 +1,4 @@
-//! The command `list`: what it is asked for, its words and options, and how they are read.
+//! The command `list`: what it is asked for, its word, and how that is read.
 
 ghost use Rattle.std.specs.Prelude.{◌≡◌, true};
 ghost use Rattle.fleet_args.specs.Values.{values_in};
@@ -14,7 +14,7 @@ pub struct ListRequest<'a> {
     pub program: &'a str,
 }
 
-/// Its words and options.
+/// Its word.
 pub(crate) const COMMAND: CommandText = CommandText {
     name: "list",
     about: "Prints any program as text: a line for each agent, and after it one for each of its actions",

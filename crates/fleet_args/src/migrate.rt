@@ -15,7 +15,7 @@ pub struct MigrateRequest<'a> {
     pub out: &'a str,
 }
 
-/// Its words and options.
+/// Its words.
 pub(crate) const COMMAND: CommandText = CommandText {
     name: "migrate",
     about: "Writes a program to OUT in version 2 of the bytes, and prints how many they are",

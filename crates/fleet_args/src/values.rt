@@ -7,7 +7,7 @@ ghost use Rattle.fleet_args.specs.Values.{IsCount, IsKind, IsNumber, IsNumberIfU
 use clap::ArgMatches;
 use fleet_model::Deps;
 
-/// The number of up to 16 bits of an option, if it was used. No answer if its text is no such number.
+/// The number of up to 16 bits of an option: `Some(None)` if it was not used, and `None` if its text is no such number.
 fn number(matches: &ArgMatches<'_>, id: &str) -> Option<Option<u16>>
     ensures { result ≡ number_by 16 (one_text (found_of matches.now) id.now) }
 {
@@ -21,7 +21,7 @@ fn count(matches: &ArgMatches<'_>, id: &str) -> Option<Option<u32>>
     matches.try_get_one::<u32>(id).ok()
 }
 
-/// The kind of awaits of this name, if it is one's.
+/// The kind of awaits of this name, if there is one.
 fn deps_of(name: &str) -> Option<Deps>
     ensures { result ≡ deps_in name.now }
 {
@@ -66,7 +66,7 @@ pub(crate) fn given_number(matches: &ArgMatches<'_>, id: &str) -> u16
     }
 }
 
-/// The same of an option with larger numbers.
+/// The same of a number of up to 32 bits.
 pub(crate) fn given_count(matches: &ArgMatches<'_>, id: &str) -> u32
     requires { has_count (values_in matches.now) id.now ≡ true }
     ensures { IsCount (values_in matches.now) id.now result }

@@ -1,4 +1,4 @@
--- What becomes of the texts, where a program was made of them and run.
+-- What becomes of the texts, if a program was made of them and run.
 use Rattle.std.proofs.Common.{◌≡◌, ℕ, List, Option, Result, Ok, Err, ap, ◌∙◌}
 use Rattle.fleet_code.specs.declared.fault.LoadFault.{LoadFault}
 use Rattle.fleet_model.specs.declared.task.Task.{Task}

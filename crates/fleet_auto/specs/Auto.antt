@@ -15,8 +15,9 @@ use Rattle.fleet_auto.specs.Trace.{WritesTrace, StopsTrace}
 use Rattle.fleet_auto.specs.declared.fault.AutoFault.{AutoFault}
 use Rattle.fleet_auto.specs.declared.fault.AutoFault.TheVariants.{OutOfMemory, Map, Scen, Plan as PlanStops, Compile, Run}
 
--- The texts stand for a map and for tasks. For these a plan is made agent by agent in one of the first orders, each path the earliest against those before it; it is
--- free of conflict; and this is its program, which is accepted for the map and the tasks, and the longest chain of the program
+-- The texts stand for a map and for tasks. For these a plan is made agent by agent in one of the first orders, each path the earliest
+-- against those before it; it is free of conflict; and this is its program, which is accepted for the map and the tasks, and the longest
+-- chain of the program
 pub record MakesProgram (map scen : List ℕ) (asked : Option ℕ) (horizon tries : ℕ) (deps : Deps) : Type 0 where
   pub ground : Ground
   pub tasks : List Task

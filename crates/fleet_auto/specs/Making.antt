@@ -14,8 +14,8 @@ use Rattle.fleet_model.specs.declared.deps.Deps.{Deps}
 use Rattle.fleet_auto.specs.declared.fault.AutoFault.{AutoFault}
 use Rattle.fleet_auto.specs.declared.fault.AutoFault.TheVariants.{OutOfMemory, Plan as PlanStops, Compile}
 
--- The plan is made agent by agent, in one of the first orders of the agents, so many at most: each path is the earliest against those before
--- it in that order. It is free of conflict
+-- The plan is made agent by agent, in one of the first orders of the agents, of which so many are tried at most: each path is the earliest
+-- against those before it in that order. It is free of conflict
 pub record IsPlannedFor (g : Ground) (tasks : List Task) (horizon tries : ℕ) (plan : Plan) : Type 0 where
   pub made : IsMadeInTries (is_passable g) tasks horizon tries plan
   pub free : IsConflictFree (is_passable g) tasks plan

@@ -24,10 +24,12 @@ pub fn accept<'g>(
     grid: &'g Grid,
     instance: &'g Instance,
 ) -> Result<Accepted<'g, CodeView<'g>>, AcceptFault>
-    ensures accepted { IfOk result (λ a. Accepts bytes.now grid.now instance.now a.program.program a.chain) }
+    ensures accepted { IfOk result
+        (λ a. Accepts bytes.now grid.now instance.now a.program.program a.chain) }
     ensures fault { IfErr result (IsAcceptFault bytes.now grid.now instance.now) }
     // A program that is refused for another cause than memory is not accepted.
-    ensures refused { IfErr result (λ e. e ≢ AcceptFault.OutOfMemory → AcceptsNothing bytes.now grid.now instance.now) }
+    ensures refused { IfErr result
+        (λ e. e ≢ AcceptFault.OutOfMemory → AcceptsNothing bytes.now grid.now instance.now) }
 {
     let program = view(alloc, bytes)?;
     match verify(alloc, program, grid, instance) {
@@ -43,7 +45,8 @@ pub fn accept_made<'g>(
     grid: &'g Grid,
     instance: &'g Instance,
 ) -> Result<Accepted<'g, CodeView<'g>>, OutOfMemory>
-    requires { (p : Program) × Spells bytes.now p × IsAccepted (is_passable grid.now) instance.now p }
+    requires { (p : Program) × Spells bytes.now p
+        × IsAccepted (is_passable grid.now) instance.now p }
     ensures { IfOk result (λ a. Accepts bytes.now grid.now instance.now a.program.program a.chain) }
 {
     match accept(alloc, bytes, grid, instance) {

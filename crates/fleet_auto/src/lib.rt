@@ -1,7 +1,7 @@
 //! From a map and a scenario to the trace of the fleet: plans, compiles, encodes, loads, verifies and runs.
 //!
-//! What each step makes the next one takes: a plan that is made is compiled, its program is loaded again from the bytes that spell it, and
-//! what is loaded is accepted. So once there is a plan with few enough moves, only memory, the holds and the sink can be in its way.
+//! The next step takes whatever a step makes: a plan that is made is compiled, its program is loaded again from the bytes that spell it,
+//! and what is loaded is accepted. So once there is a plan with few enough moves, only memory, the holds and the sink can stop it.
 #![tactic(auto)]
 
 mod accepting;

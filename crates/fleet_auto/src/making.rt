@@ -38,7 +38,8 @@ pub fn made_bytes(
     tries: u32,
     deps: Deps,
 ) -> Result<Vec<u8>, AutoFault>
-    ensures made { IfOk result (λ bytes. SpellsMade grid.now instance.now horizon tries deps bytes.items) }
+    ensures made { IfOk result
+        (λ bytes. SpellsMade grid.now instance.now horizon tries deps bytes.items) }
     ensures fault { IfErr result (IsMakingFault grid.now instance.now horizon tries deps) }
 {
     let program = made_program(alloc, grid, instance, horizon, tries, deps)?;

@@ -22,7 +22,7 @@ module _ {X : Type 0} (text : X → Text) (input : Option (List ℕ)) (files aft
   stopped [] stop some h r kept silent = absurd (some refl)
   stopped (w ∷ ws) stop some (names, are, stops) r kept silent = (names, are, inr (stop, stops, r, kept, silent))
 
--- what is told of a command's answer is its outcome
+-- what is reported of a command's answer is its outcome
 pub outcome_of : (Does : ℕ → Type 0) (Refuses : Fault → Type 0) (done : Result ℕ Fault) (err err' : SinkState) (status : ℕ) → MatchResult done Does Refuses → Finishes done err err' status
     → Outcome Does Refuses err err' status
 outcome_of Does Refuses (Ok x) err err' status h told = inl (rw told.0 h, told.1)

@@ -1,4 +1,4 @@
--- What is told of a program that is accepted, or refused.
+-- What is reported of a program that is accepted, or refused.
 use Rattle.std.proofs.Common.{◌≡◌, ℕ, List, Option, sym, subst, inl}
 use Rattle.fleet_text.specs.Sink.{SinkState}
 use Rattle.fleet_model.specs.declared.task.Task.{Task}
@@ -27,7 +27,7 @@ module _ (map scen : List ℕ) (asked : Option ℕ) (bytes : List ℕ) (out out'
   refuses : (told : Fault) → TellsRefused p fault out out' told → RefusesProgram map scen asked bytes out out' told
   refuses told h = record { ground = g; tasks = tasks; texts = texts; program = p; spelled = spelled; fault = fault; refused = refused; broken = broken; tells = h }
 
-  -- however a refused program is told, it is a refusal of the command
+  -- however a refused program is reported, it is a refusal of the command
   pub told_refused : (told : Fault) → TellsRefused p fault out out' told → IsVerifyFault map scen asked bytes out out' told
   told_refused f.Memory h = (tt, h)
   told_refused (f.Verify e) h = refuses (f.Verify e) h

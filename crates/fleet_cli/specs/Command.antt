@@ -73,8 +73,9 @@ StopsAtWords (w.Help text) out out' err err' status =
     ⊎ ((status ≡ 3) × FailsAfter out out' (string_bytes text)
     × Receives err err' (line_text (codes "file" ∷ codes "-" ∷ [])))
 
--- without words the run of the input; else the command that the words ask, or a stop at words that the command line does not take. Every
--- file is as before, but for the file OUT of `compile`, `thin` and `migrate`. The input is read whole without words, and else robots alone report by it
+-- without words the run of the input; else the command that the words ask for, or a stop at words that the command line does not take.
+-- Every file is as before, but for the file OUT of `compile`, `thin` and `migrate`. The input is read whole without words, and else
+-- robots alone report by it
 abbrev pub RunsCommand : List Text → Option (List ℕ) → (files after : Option Store) → (Talk → Type 0) → (out out' err err' : SinkState) → ℕ → Type 0
 RunsCommand [] input files after talks out out' err err' status = RunsHex input out out' err err' status × AreUnchanged files after
 RunsCommand (word ∷ words) input files after talks out out' err err' status =

@@ -24,8 +24,8 @@ use Rattle.fleet_cli.specs.Problem.{IsProblemRefusal}
 use Rattle.fleet_io.specs.declared.fault.Fault.{Fault}
 use Rattle.fleet_io.specs.declared.fault.Fault.TheVariants as f
 
--- the texts stand for a map, for tasks and for a plan that is free of conflict; the program is that of the plan with so many stays after the
--- moves of each agent, and is accepted; and the bytes spell it
+-- the texts stand for a map, for tasks and for a plan that is free of conflict; the program is that of the plan with so many stays after
+-- the moves of each agent, and is accepted; and the bytes spell it
 pub record CompilesTexts (map scen plan : List ℕ) (asked : Option ℕ) (deps : Deps) (dwell : ℕ) (program : Program) (bytes : List ℕ) : Type 0 where
   pub ground : Ground
   pub tasks : List Task

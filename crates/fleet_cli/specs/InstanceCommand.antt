@@ -19,7 +19,7 @@ use Rattle.fleet_io.specs.declared.fault.Fault.TheVariants as f
 abbrev pub start_in : List Task → ℕ → Cell
 start_in tasks i = option_map_or (λ t. t.start) (slice_get tasks i) origin
 
--- its goal
+-- the goal of agent i
 abbrev pub goal_in : List Task → ℕ → Cell
 goal_in tasks i = option_map_or (λ t. t.goal) (slice_get tasks i) origin
 

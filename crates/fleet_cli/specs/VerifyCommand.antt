@@ -39,8 +39,8 @@ pub record SpellsBreakingHolds (p : Program) (first second : Visit) (text : List
   pub breaking : AreBreakingHolds p first second holds
   pub written : text ≡ holds_text holds
 
--- how a refused program is reported. Of two visits of a cell that no chain orders the breaking holds were printed and handed on before, or the
--- output failed; of every other refusal nothing was printed
+-- how a refused program is reported. Of two visits of a cell that no chain orders the breaking holds were printed and handed on before,
+-- or the output failed; of every other refusal nothing was printed
 abbrev pub TellsRefused : Program → VerifyFault → (out out' : SinkState) → Fault → Type 0
 TellsRefused p fault out out' f.Memory = IsUnwritten out out'
 TellsRefused p fault out out' (f.Verify (v.Unordered cell first second)) =

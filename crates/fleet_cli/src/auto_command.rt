@@ -19,10 +19,12 @@ fn auto_texts<'a, O: Flush>(
 ) -> Result<u8, Fault<'a>>
     requires { IsWorking (O.state out.old) }
     ensures { MatchResult result
-        (λ status. RunsMade task.now.map.now task.now.scen.now task.now.asked task.now.horizon task.now.tries
-        task.now.deps task.now.holds.now (O.state out.old) (O.state out.new) × (status ≡ 0))
-        (IsMadeFault task.now.map.now task.now.scen.now task.now.asked task.now.horizon task.now.tries
-        task.now.deps task.now.holds.now (O.state out.old) (O.state out.new)) }
+        (λ status. RunsMade task.now.map.now task.now.scen.now task.now.asked task.now.horizon
+        task.now.tries task.now.deps task.now.holds.now
+        (O.state out.old) (O.state out.new) × (status ≡ 0))
+        (IsMadeFault task.now.map.now task.now.scen.now task.now.asked task.now.horizon
+        task.now.tries task.now.deps task.now.holds.now
+        (O.state out.old) (O.state out.new)) }
 {
     let ran = match auto_run_in_orders(alloc, task, out) {
         Ok(report) => Ok(report),

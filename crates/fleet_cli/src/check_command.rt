@@ -39,7 +39,8 @@ fn show_check<'a, O: Flush>(
 ) -> Result<u8, Fault<'a>>
     requires { IsWorking (O.state out.old) }
     ensures { MatchResult result
-        (λ status. PrintsCheck map.now scen.now plan.now asked (O.state out.old) (O.state out.new) × (status ≡ 0))
+        (λ status. PrintsCheck map.now scen.now plan.now asked (O.state out.old) (O.state out.new)
+        × (status ≡ 0))
         (IsCheckFault map.now scen.now plan.now asked (O.state out.old) (O.state out.new)) }
 {
     let problem = read_problem(alloc, map, scen, asked)?;

@@ -36,8 +36,10 @@ fn do_request<'a, F: Files, O: Flush, D: Floor>(
     requires out_working { IsWorking (O.state out.old) }
     requires floor_works { D.works floor.old }
     ensures { MatchResult result
-        (DoesRequest (F.contents files.old) (F.contents files.new) (D.talks floor.old floor.new) request.now (O.state out.old) (O.state out.new))
-        (RefusesRequest (F.contents files.old) (F.contents files.new) (D.talks floor.old floor.new) request.now (O.state out.old) (O.state out.new)) }
+        (DoesRequest (F.contents files.old) (F.contents files.new) (D.talks floor.old floor.new)
+        request.now (O.state out.old) (O.state out.new))
+        (RefusesRequest (F.contents files.old) (F.contents files.new) (D.talks floor.old floor.new)
+        request.now (O.state out.old) (O.state out.new)) }
 {
     match request {
         Request::Instance(request) => do_instance(alloc, request, files, out),
@@ -68,7 +70,8 @@ pub fn run_request<F: Files, O: Flush, E: TraceOut, D: Floor>(
     requires out_working { IsWorking (O.state out.old) }
     requires err_working { IsWorking (E.state err.old) }
     requires floor_works { D.works floor.old }
-    ensures { RunsRequest (F.contents files.old) (F.contents files.new) (D.talks floor.old floor.new) request.now
+    ensures { RunsRequest (F.contents files.old) (F.contents files.new)
+        (D.talks floor.old floor.new) request.now
         (O.state out.old) (O.state out.new) (E.state err.old) (E.state err.new) result }
 {
     finish(do_request(alloc, request, files, out, floor), err)
@@ -96,8 +99,9 @@ fn stop_at<O: Flush, E: TraceOut>(stop: &WordStop, out: &mut O, err: &mut E) -> 
     }
 }
 
-/// What the program does for the words after its name: without words it runs what `input` gives in hexadecimal, and else the command
-/// that the words ask, of which `dispatch` alone hears `input`, as a floor. Answers the status: 2 only where the words ask no command.
+/// What the program does for the words after its name: without words it rehearses the program that `input` gives in hexadecimal, and else
+/// it does what the words ask for. Of the commands `dispatch` alone hears `input`, as a floor. Answers the status: 2 only if the words ask
+/// for no command.
 pub fn run_command<R: Read + Floor, F: Files, O: Flush, E: TraceOut>(
     alloc: Global,
     words: &[String],
@@ -109,7 +113,8 @@ pub fn run_command<R: Read + Floor, F: Files, O: Flush, E: TraceOut>(
     requires out_working { IsWorking (O.state out.old) }
     requires err_working { IsWorking (E.state err.old) }
     requires floor_works { R.works input.old }
-    ensures { RunsCommand (map string_bytes words.now) (R.remaining input.old) (F.contents files.old) (F.contents files.new)
+    ensures { RunsCommand (map string_bytes words.now) (R.remaining input.old)
+        (F.contents files.old) (F.contents files.new)
         (R.talks input.old input.new)
         (O.state out.old) (O.state out.new)
         (E.state err.old) (E.state err.new)

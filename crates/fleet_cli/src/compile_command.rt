@@ -33,7 +33,8 @@ fn compiled_program<'a>(
     plan: Vec<u8>,
     request: &CompileRequest<'_>,
 ) -> Result<Program, Fault<'a>>
-    ensures compiled { IfOk result (λ p. (bytes : List ℕ) → Spells bytes p → CompilesTexts map.now scen.now plan.items
+    ensures compiled { IfOk result
+        (λ p. (bytes : List ℕ) → Spells bytes p → CompilesTexts map.now scen.now plan.items
         request.now.agents request.now.deps request.now.dwell p bytes) }
     ensures fault { IfErr result (IsCompileFault map.now scen.now plan.items
         request.now.agents request.now.deps request.now.dwell) }
@@ -83,7 +84,8 @@ fn compile_files<'a, F: Files>(
     request: &CompileRequest<'a>,
     files: &mut F,
 ) -> Result<Compiled, Fault<'a>>
-    ensures compiled { IfOk result (λ c. CompilesFiles (F.contents files.old) request.now c.program c.bytes.items) }
+    ensures compiled { IfOk result
+        (λ c. CompilesFiles (F.contents files.old) request.now c.program c.bytes.items) }
     ensures fault { IfErr result (IsCompileRefusal (F.contents files.old) request.now) }
     ensures kept { AreUnchanged (F.contents files.old) (F.contents files.new) }
 {
@@ -131,8 +133,10 @@ pub(crate) fn do_compile<'a, F: Files, O: Flush>(
 ) -> Result<u8, Fault<'a>>
     requires { IsWorking (O.state out.old) }
     ensures { MatchResult result
-        (DoesCompile (F.contents files.old) (F.contents files.new) request.now (O.state out.old) (O.state out.new))
-        (RefusesCompile (F.contents files.old) (F.contents files.new) request.now (O.state out.old) (O.state out.new)) }
+        (DoesCompile (F.contents files.old) (F.contents files.new) request.now
+        (O.state out.old) (O.state out.new))
+        (RefusesCompile (F.contents files.old) (F.contents files.new) request.now
+        (O.state out.old) (O.state out.new)) }
 {
     let compiled = compile_files(alloc, request, files)?;
     write_compiled(files, request.out, &compiled.program, &compiled.bytes, out)

@@ -21,7 +21,8 @@ fn dispatch_bytes<'a, D: Floor>(
 ) -> Result<u8, Fault<'a>>
     requires { D.works floor.old }
     ensures { MatchResult result
-        (λ status. DispatchesTexts map.now scen.now asked bytes.now (D.talks floor.old floor.new) × (status ≡ 0))
+        (λ status. DispatchesTexts map.now scen.now asked bytes.now (D.talks floor.old floor.new)
+        × (status ≡ 0))
         (IsDispatchRefusal map.now scen.now asked bytes.now (D.talks floor.old floor.new)) }
 {
     let problem = read_problem(alloc, map, scen, asked)?;

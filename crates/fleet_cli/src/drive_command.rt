@@ -23,7 +23,8 @@ fn run_bytes<'a, O: Flush>(
 ) -> Result<u8, Fault<'a>>
     requires { IsWorking (O.state out.old) }
     ensures { MatchResult result
-        (λ status. RunsTexts map.now scen.now asked bytes.now held.now (O.state out.old) (O.state out.new) × (status ≡ 0))
+        (λ status. RunsTexts map.now scen.now asked bytes.now held.now
+        (O.state out.old) (O.state out.new) × (status ≡ 0))
         (IsRunFault map.now scen.now asked bytes.now held.now (O.state out.old) (O.state out.new)) }
 {
     let problem = read_problem(alloc, map, scen, asked)?;

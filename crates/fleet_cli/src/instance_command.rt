@@ -28,7 +28,8 @@ fn put_task<O: TraceOut>(out: &mut O, i: u16, start: Cell, goal: Cell) -> Result
 /// Writes the line of each agent.
 fn put_tasks<O: TraceOut>(out: &mut O, instance: &Instance) -> Result<(), OutFault>
     requires { IsWorking (O.state out.old) }
-    ensures { TakesAll (O.state out.old) (O.state out.new) result (task_lines instance.now (length instance.now)) }
+    ensures { TakesAll (O.state out.old) (O.state out.new) result
+        (task_lines instance.now (length instance.now)) }
 {
     for i in 0..instance.agents() {
         put_task(out, i, instance.start(i), instance.goal(i))?;
@@ -50,7 +51,8 @@ fn put_sizes<O: TraceOut>(out: &mut O, grid: &Grid) -> Result<(), OutFault>
 /// Writes the sizes of the map, its passable cells, and the tasks of the agents.
 fn put_instance<O: TraceOut>(out: &mut O, grid: &Grid, instance: &Instance) -> Result<(), OutFault>
     requires { IsWorking (O.state out.old) }
-    ensures { TakesAll (O.state out.old) (O.state out.new) result (instance_text grid.now instance.now) }
+    ensures { TakesAll (O.state out.old) (O.state out.new) result
+        (instance_text grid.now instance.now) }
 {
     put_sizes(out, grid)?;
     put_count(out, "ground", grid.ground() as u64)?;
@@ -61,7 +63,8 @@ fn put_instance<O: TraceOut>(out: &mut O, grid: &Grid, instance: &Instance) -> R
 /// Prints the instance, and has the sink hand it on.
 fn print_instance<O: Flush>(out: &mut O, grid: &Grid, instance: &Instance) -> Result<(), OutFault>
     requires { IsWorking (O.state out.old) }
-    ensures { Delivers (O.state out.old) (O.state out.new) result (instance_text grid.now instance.now) }
+    ensures { Delivers (O.state out.old) (O.state out.new) result
+        (instance_text grid.now instance.now) }
 {
     put_instance(out, grid, instance)?;
     out.flush()
@@ -77,7 +80,8 @@ fn show_instance<'a, O: Flush>(
 ) -> Result<u8, Fault<'a>>
     requires { IsWorking (O.state out.old) }
     ensures { MatchResult result
-        (λ status. PrintsInstance map.now scen.now asked (O.state out.old) (O.state out.new) × (status ≡ 0))
+        (λ status. PrintsInstance map.now scen.now asked (O.state out.old) (O.state out.new)
+        × (status ≡ 0))
         (IsInstanceFault map.now scen.now asked (O.state out.old) (O.state out.new)) }
 {
     let problem = read_problem(alloc, map, scen, asked)?;

@@ -55,8 +55,9 @@ fn write_migrated<'a, F: Files, O: Flush>(
 ) -> Result<u8, Fault<'a>>
     requires { IsWorking (O.state out.old) }
     ensures { MatchResult result
-        (λ status. WritesOut (F.contents files.old) (F.contents files.new) name.entry.now migrated.now
-        (O.state out.old) (O.state out.new) (migrated_text migrated.now) × (status ≡ 0))
+        (λ status. WritesOut (F.contents files.old) (F.contents files.new) name.entry.now
+        migrated.now (O.state out.old) (O.state out.new) (migrated_text migrated.now)
+        × (status ≡ 0))
         (IsOutRefusal (F.contents files.old) (F.contents files.new) name.entry.now migrated.now
         (O.state out.old) (O.state out.new) (migrated_text migrated.now)) }
 {
@@ -80,8 +81,10 @@ pub(crate) fn do_migrate<'a, F: Files, O: Flush>(
 ) -> Result<u8, Fault<'a>>
     requires { IsWorking (O.state out.old) }
     ensures { MatchResult result
-        (DoesMigrate (F.contents files.old) (F.contents files.new) request.now (O.state out.old) (O.state out.new))
-        (RefusesMigrate (F.contents files.old) (F.contents files.new) request.now (O.state out.old) (O.state out.new)) }
+        (DoesMigrate (F.contents files.old) (F.contents files.new) request.now
+        (O.state out.old) (O.state out.new))
+        (RefusesMigrate (F.contents files.old) (F.contents files.new) request.now
+        (O.state out.old) (O.state out.new)) }
 {
     let migrated = migrate_file(alloc, request, files)?;
     write_migrated(files, request.out, &migrated, out)

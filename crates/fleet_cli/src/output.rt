@@ -10,7 +10,8 @@ use fleet_run::{Flush, OutFault, TraceOut};
 /// Writes a line for each count: its label and its number.
 fn put_counts<O: TraceOut>(out: &mut O, counts: &[(&'static str, u64)]) -> Result<(), OutFault>
     requires { IsWorking (O.state out.old) }
-    ensures { TakesAll (O.state out.old) (O.state out.new) result (count_lines (with_labels counts.now)) }
+    ensures { TakesAll (O.state out.old) (O.state out.new) result
+        (count_lines (with_labels counts.now)) }
 {
     for (label, number) in counts {
         put_count(out, label, *number)?;
@@ -21,7 +22,8 @@ fn put_counts<O: TraceOut>(out: &mut O, counts: &[(&'static str, u64)]) -> Resul
 /// Prints the counts, and has the sink hand them on.
 fn print_counts<O: Flush>(out: &mut O, counts: &[(&'static str, u64)]) -> Result<(), OutFault>
     requires { IsWorking (O.state out.old) }
-    ensures { Delivers (O.state out.old) (O.state out.new) result (count_lines (with_labels counts.now)) }
+    ensures { Delivers (O.state out.old) (O.state out.new) result
+        (count_lines (with_labels counts.now)) }
 {
     put_counts(out, counts)?;
     out.flush()
@@ -34,7 +36,8 @@ fn put_report<O: TraceOut>(
     counts: &[(&'static str, u64)],
 ) -> Result<(), OutFault>
     requires { IsWorking (O.state out.old) }
-    ensures { TakesAll (O.state out.old) (O.state out.new) result (report title.now (with_labels counts.now)) }
+    ensures { TakesAll (O.state out.old) (O.state out.new) result
+        (report title.now (with_labels counts.now)) }
 {
     put_line(out, &[Word::Text(title)])?;
     put_counts(out, counts)
@@ -47,7 +50,8 @@ pub(crate) fn print_report<O: Flush>(
     counts: &[(&'static str, u64)],
 ) -> Result<(), OutFault>
     requires { IsWorking (O.state out.old) }
-    ensures { Delivers (O.state out.old) (O.state out.new) result (report title.now (with_labels counts.now)) }
+    ensures { Delivers (O.state out.old) (O.state out.new) result
+        (report title.now (with_labels counts.now)) }
 {
     put_report(out, title, counts)?;
     out.flush()

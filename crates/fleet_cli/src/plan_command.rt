@@ -40,10 +40,10 @@ fn plan_texts<'a, O: Flush>(
 ) -> Result<u8, Fault<'a>>
     requires { IsWorking (O.state out.old) }
     ensures { MatchResult result
-        (λ status. PrintsPlan map.items scen.items request.now.agents request.now.horizon request.now.tries
-        (O.state out.old) (O.state out.new) × (status ≡ 0))
-        (IsPlanCommandFault map.items scen.items request.now.agents request.now.horizon request.now.tries
-        (O.state out.old) (O.state out.new)) }
+        (λ status. PrintsPlan map.items scen.items request.now.agents request.now.horizon
+        request.now.tries (O.state out.old) (O.state out.new) × (status ≡ 0))
+        (IsPlanCommandFault map.items scen.items request.now.agents request.now.horizon
+        request.now.tries (O.state out.old) (O.state out.new)) }
 {
     let problem = problem_of(alloc, map, scen, request.agents)?;
     let checked = match plan_in_orders(

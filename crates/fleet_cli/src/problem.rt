@@ -34,7 +34,8 @@ pub fn accept<'g, 'a>(
     grid: &'g Grid,
     instance: &'g Instance,
 ) -> Result<Accepted<'g, CodeView<'g>>, Fault<'a>>
-    ensures accepted { IfOk result (λ a. Accepts bytes.now grid.now instance.now a.program.program a.chain) }
+    ensures accepted { IfOk result
+        (λ a. Accepts bytes.now grid.now instance.now a.program.program a.chain) }
     ensures fault { IfErr result (IsAcceptRefusal bytes.now grid.now instance.now) }
 {
     Ok(fleet_auto::accept(alloc, bytes, grid, instance)?)

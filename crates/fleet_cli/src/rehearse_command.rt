@@ -33,7 +33,8 @@ fn rehearse_bytes<'a, O: Flush>(
 ) -> Result<u8, Fault<'a>>
     requires { IsWorking (O.state out.old) }
     ensures { MatchResult result
-        (λ status. (end : End) × RehearsesBytes bytes.now held.now (O.state out.old) (O.state out.new) end × (status ≡ end_status end))
+        (λ status. (end : End) × RehearsesBytes bytes.now held.now
+        (O.state out.old) (O.state out.new) end × (status ≡ end_status end))
         (IsRehearseFault bytes.now held.now (O.state out.old) (O.state out.new)) }
 {
     let program = match view(alloc, bytes) {

@@ -33,7 +33,8 @@ fn thin_texts<'a>(
     asked: Option<u16>,
     program: &[u8],
 ) -> Result<Thinned, Fault<'a>>
-    ensures thinned { IfOk result (λ t. ThinsTexts map.now scen.now asked program.now t.before t.after t.bytes.items) }
+    ensures thinned { IfOk result
+        (λ t. ThinsTexts map.now scen.now asked program.now t.before t.after t.bytes.items) }
     ensures fault { IfErr result (IsTextsRefusal map.now scen.now asked program.now) }
 {
     let problem = read_problem(alloc, map, scen, asked)?;
@@ -61,7 +62,8 @@ fn thin_files<'a, F: Files>(
     request: &ThinRequest<'a>,
     files: &mut F,
 ) -> Result<Thinned, Fault<'a>>
-    ensures thinned { IfOk result (λ t. ThinsFiles (F.contents files.old) request.now t.before t.after t.bytes.items) }
+    ensures thinned { IfOk result
+        (λ t. ThinsFiles (F.contents files.old) request.now t.before t.after t.bytes.items) }
     ensures fault { IfErr result (IsThinRefusal (F.contents files.old) request.now) }
     ensures kept { AreUnchanged (F.contents files.old) (F.contents files.new) }
 {
@@ -84,10 +86,12 @@ fn write_thinned<'a, F: Files, O: Flush>(
 ) -> Result<u8, Fault<'a>>
     requires { IsWorking (O.state out.old) }
     ensures { MatchResult result
-        (λ status. WritesOut (F.contents files.old) (F.contents files.new) name.entry.now thinned.now.bytes.items
-        (O.state out.old) (O.state out.new) (thinned_text thinned.now.before thinned.now.after) × (status ≡ 0))
-        (IsOutRefusal (F.contents files.old) (F.contents files.new) name.entry.now thinned.now.bytes.items
-        (O.state out.old) (O.state out.new) (thinned_text thinned.now.before thinned.now.after)) }
+        (λ status. WritesOut (F.contents files.old) (F.contents files.new) name.entry.now
+        thinned.now.bytes.items (O.state out.old) (O.state out.new)
+        (thinned_text thinned.now.before thinned.now.after) × (status ≡ 0))
+        (IsOutRefusal (F.contents files.old) (F.contents files.new) name.entry.now
+        thinned.now.bytes.items (O.state out.old) (O.state out.new)
+        (thinned_text thinned.now.before thinned.now.after)) }
 {
     write_out(
         files,
@@ -112,8 +116,10 @@ pub(crate) fn do_thin<'a, F: Files, O: Flush>(
 ) -> Result<u8, Fault<'a>>
     requires { IsWorking (O.state out.old) }
     ensures { MatchResult result
-        (DoesThin (F.contents files.old) (F.contents files.new) request.now (O.state out.old) (O.state out.new))
-        (RefusesThin (F.contents files.old) (F.contents files.new) request.now (O.state out.old) (O.state out.new)) }
+        (DoesThin (F.contents files.old) (F.contents files.new) request.now
+        (O.state out.old) (O.state out.new))
+        (RefusesThin (F.contents files.old) (F.contents files.new) request.now
+        (O.state out.old) (O.state out.new)) }
 {
     let thinned = thin_files(alloc, request, files)?;
     write_thinned(files, request.out, &thinned, out)

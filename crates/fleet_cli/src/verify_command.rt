@@ -24,7 +24,8 @@ fn print_accepted<P: ProgramView, O: Flush>(
     accepted: &Accepted<'_, P>,
 ) -> Result<(), OutFault>
     requires { IsWorking (O.state out.old) }
-    ensures { Delivers (O.state out.old) (O.state out.new) result (accepted_text (P.program accepted.now.program) accepted.now.chain) }
+    ensures { Delivers (O.state out.old) (O.state out.new) result
+        (accepted_text (P.program accepted.now.program) accepted.now.chain) }
 {
     let program = accepted.program();
     print_report(
@@ -47,7 +48,8 @@ fn breaking_text<P: ProgramView>(
     second: Visit,
 ) -> Result<Vec<u8>, OutOfMemory>
     requires { (q : Place) × MeetUnordered (P.program program.now) q first second }
-    ensures { IfOk result (λ text. SpellsBreakingHolds (P.program program.now) first second text.items) }
+    ensures { IfOk result
+        (λ text. SpellsBreakingHolds (P.program program.now) first second text.items) }
 {
     let holds = breaking_holds(alloc, program, first, second)?;
     Ok(write_holds(alloc, &holds)?)
@@ -61,7 +63,8 @@ fn tell_refused<'a, P: ProgramView + Drop, O: Flush>(
 ) -> Fault<'a>
     requires working { IsWorking (O.state out.old) }
     requires broken { IsBrokenBy (P.program refused.program) refused.fault }
-    ensures { TellsRefused (P.program refused.program) refused.fault (O.state out.old) (O.state out.new) result }
+    ensures { TellsRefused (P.program refused.program) refused.fault
+        (O.state out.old) (O.state out.new) result }
 {
     let Refused { fault, program } = refused;
     let VerifyFault::Unordered { first, second, .. } = &fault else {
@@ -88,7 +91,8 @@ fn verify_bytes<'a, O: Flush>(
 ) -> Result<u8, Fault<'a>>
     requires { IsWorking (O.state out.old) }
     ensures { MatchResult result
-        (λ status. PrintsAccepted map.now scen.now asked bytes.now (O.state out.old) (O.state out.new) × (status ≡ 0))
+        (λ status. PrintsAccepted map.now scen.now asked bytes.now
+        (O.state out.old) (O.state out.new) × (status ≡ 0))
         (IsVerifyFault map.now scen.now asked bytes.now (O.state out.old) (O.state out.new)) }
 {
     let problem = read_problem(alloc, map, scen, asked)?;

@@ -37,7 +37,7 @@ delivers_after a b c (Err _) xs h k =
     let all : xs ≡ take (length xs) xs = grind (arith, common_steps) in
     record { taken = (length xs, omega arith, appends_same a.taken c.taken xs (take (length xs) xs) (appends_kept a.taken b.taken c.taken xs h.taken k.0) all); failed = k.1 }
 
--- what was true of a run is true of it where its sink, mid, has become another that keeps what it took, and has failed as it has
+-- what was true of a run stays true if its sink, mid, becomes another that keeps what mid took, and has failed if mid has
 module _ (p : Program) (s s' : SourceState) (before mid after : SinkState) (kept : Keeps mid.taken after.taken) (same : after.has_failed ≡ mid.has_failed) where
   pub stops_kept : (over : EndTest) (kind : SourceFault) (t : ℕ) → StopsAtSource over p s s' before mid kind t → StopsAtSource over p s s' before after kind t
   stops_kept over kind t h = record {

@@ -141,7 +141,7 @@ pub fn refuse<E: TraceOut>(fault: &Fault<'_>, err: &mut E) -> u8
     fault.status()
 }
 
-/// What a command answers: the status with which it is done; or its refusal is written, and the refusal's status answered.
+/// Ends a command: answers the status with which it is done, or writes the line of its refusal and answers the refusal's status.
 pub fn finish<E: TraceOut>(done: Result<u8, Fault<'_>>, err: &mut E) -> u8
     requires { IsWorking (E.state err.old) }
     ensures { Finishes done.entry (E.state err.old) (E.state err.new) result }

@@ -42,7 +42,8 @@ pub fn rehearse_flushed<P: ProgramView, S: HoldSource, O: Flush>(
 ) -> Result<Rehearsal, RunFault>
     requires source { HasNotFailed (S.state source.old) }
     requires sink { IsWorking (O.state out.old) }
-    ensures { RehearsesFlushed (P.program program.now) (S.state source.old) (S.state source.new) (O.state out.old) (O.state out.new) result }
+    ensures { RehearsesFlushed (P.program program.now) (S.state source.old) (S.state source.new)
+        (O.state out.old) (O.state out.new) result }
 {
     let ran = rehearse(alloc, program, source, out);
     flush_run(out, ran)

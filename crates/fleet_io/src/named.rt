@@ -14,8 +14,10 @@ pub fn read_file<'a, F: Files>(
     files: &mut F,
     name: &'a str,
 ) -> Result<Vec<u8>, Fault<'a>>
-    ensures bytes { IfOk result (λ bytes. IsRead (F.contents files.old) name.entry.now bytes.items) }
-    ensures refused { IfErr result (IsRefusedAs (F.refuses_read files.old name.entry.now) name.entry.now) }
+    ensures bytes { IfOk result
+        (λ bytes. IsRead (F.contents files.old) name.entry.now bytes.items) }
+    ensures refused { IfErr result
+        (IsRefusedAs (F.refuses_read files.old name.entry.now) name.entry.now) }
     ensures fault { IfErr result (IsReadFault (F.contents files.old) name.entry.now) }
     ensures kept { AreUnchanged (F.contents files.old) (F.contents files.new) }
 {
@@ -33,8 +35,11 @@ pub fn read_two<'a, F: Files>(
     first: &'a str,
     second: &'a str,
 ) -> Result<(Vec<u8>, Vec<u8>), Fault<'a>>
-    ensures bytes { IfOk result (λ read. AreRead (F.contents files.old) (first.entry.now ∷ second.entry.now ∷ []) (read.0.items ∷ read.1.items ∷ [])) }
-    ensures fault { IfErr result (IsUnread (F.contents files.old) (first.entry.now ∷ second.entry.now ∷ [])) }
+    ensures bytes { IfOk result
+        (λ read. AreRead (F.contents files.old) (first.entry.now ∷ second.entry.now ∷ [])
+        (read.0.items ∷ read.1.items ∷ [])) }
+    ensures fault { IfErr result
+        (IsUnread (F.contents files.old) (first.entry.now ∷ second.entry.now ∷ [])) }
     ensures kept { AreUnchanged (F.contents files.old) (F.contents files.new) }
 {
     let before = read_file(alloc, files, first)?;
@@ -50,9 +55,13 @@ pub fn read_three<'a, F: Files>(
     second: &'a str,
     third: &'a str,
 ) -> Result<(Vec<u8>, Vec<u8>, Vec<u8>), Fault<'a>>
-    ensures bytes { IfOk result (λ read. AreRead (F.contents files.old) (first.entry.now ∷ second.entry.now ∷ third.entry.now ∷ [])
+    ensures bytes { IfOk result
+        (λ read. AreRead (F.contents files.old)
+        (first.entry.now ∷ second.entry.now ∷ third.entry.now ∷ [])
         (read.0.items ∷ read.1.items ∷ read.2.items ∷ [])) }
-    ensures fault { IfErr result (IsUnread (F.contents files.old) (first.entry.now ∷ second.entry.now ∷ third.entry.now ∷ [])) }
+    ensures fault { IfErr result
+        (IsUnread (F.contents files.old)
+        (first.entry.now ∷ second.entry.now ∷ third.entry.now ∷ [])) }
     ensures kept { AreUnchanged (F.contents files.old) (F.contents files.new) }
 {
     let before = read_two(alloc, files, first, second)?;
@@ -66,8 +75,10 @@ fn read_holds<'a, F: Files>(
     files: &mut F,
     name: Option<&'a str>,
 ) -> Result<Vec<u8>, Fault<'a>>
-    ensures bytes { IfOk result (λ bytes. AreHoldBytes (F.contents files.old) (given_name name.entry) bytes.items) }
-    ensures fault { IfErr result (IsUnread (F.contents files.old) (hold_names (given_name name.entry))) }
+    ensures bytes { IfOk result
+        (λ bytes. AreHoldBytes (F.contents files.old) (given_name name.entry) bytes.items) }
+    ensures fault { IfErr result
+        (IsUnread (F.contents files.old) (hold_names (given_name name.entry))) }
     ensures kept { AreUnchanged (F.contents files.old) (F.contents files.new) }
 {
     match name {
@@ -85,7 +96,8 @@ pub fn read_with_holds<'a, F: Files>(
 ) -> Result<(Vec<u8>, Vec<u8>), Fault<'a>>
     ensures bytes { IfOk result (λ read. IsRead (F.contents files.old) name.entry.now read.0.items
         × AreHoldBytes (F.contents files.old) (given_name holds.entry) read.1.items) }
-    ensures fault { IfErr result (IsUnread (F.contents files.old) (name.entry.now ∷ hold_names (given_name holds.entry))) }
+    ensures fault { IfErr result
+        (IsUnread (F.contents files.old) (name.entry.now ∷ hold_names (given_name holds.entry))) }
     ensures kept { AreUnchanged (F.contents files.old) (F.contents files.new) }
 {
     let before = read_file(alloc, files, name)?;
@@ -101,9 +113,13 @@ pub fn read_two_with_holds<'a, F: Files>(
     second: &'a str,
     holds: Option<&'a str>,
 ) -> Result<(Vec<u8>, Vec<u8>, Vec<u8>), Fault<'a>>
-    ensures bytes { IfOk result (λ read. AreRead (F.contents files.old) (first.entry.now ∷ second.entry.now ∷ []) (read.0.items ∷ read.1.items ∷ [])
+    ensures bytes { IfOk result
+        (λ read. AreRead (F.contents files.old) (first.entry.now ∷ second.entry.now ∷ [])
+        (read.0.items ∷ read.1.items ∷ [])
         × AreHoldBytes (F.contents files.old) (given_name holds.entry) read.2.items) }
-    ensures fault { IfErr result (IsUnread (F.contents files.old) (first.entry.now ∷ second.entry.now ∷ hold_names (given_name holds.entry))) }
+    ensures fault { IfErr result
+        (IsUnread (F.contents files.old)
+        (first.entry.now ∷ second.entry.now ∷ hold_names (given_name holds.entry))) }
     ensures kept { AreUnchanged (F.contents files.old) (F.contents files.new) }
 {
     let before = read_two(alloc, files, first, second)?;
@@ -120,11 +136,14 @@ pub fn read_three_with_holds<'a, F: Files>(
     third: &'a str,
     holds: Option<&'a str>,
 ) -> Result<(Vec<u8>, Vec<u8>, Vec<u8>, Vec<u8>), Fault<'a>>
-    ensures bytes { IfOk result (λ read. AreRead (F.contents files.old) (first.entry.now ∷ second.entry.now ∷ third.entry.now ∷ [])
+    ensures bytes { IfOk result
+        (λ read. AreRead (F.contents files.old)
+        (first.entry.now ∷ second.entry.now ∷ third.entry.now ∷ [])
         (read.0.items ∷ read.1.items ∷ read.2.items ∷ [])
         × AreHoldBytes (F.contents files.old) (given_name holds.entry) read.3.items) }
     ensures fault { IfErr result (IsUnread (F.contents files.old)
-        (first.entry.now ∷ second.entry.now ∷ third.entry.now ∷ hold_names (given_name holds.entry))) }
+        (first.entry.now ∷ second.entry.now ∷ third.entry.now
+        ∷ hold_names (given_name holds.entry))) }
     ensures kept { AreUnchanged (F.contents files.old) (F.contents files.new) }
 {
     let before = read_three(alloc, files, first, second, third)?;
@@ -134,8 +153,10 @@ pub fn read_three_with_holds<'a, F: Files>(
 
 /// Writes the bytes to the file. Want of memory is `Memory`, and a write that failed is `File` with the file's name.
 pub fn write_file<'a, F: Files>(files: &mut F, name: &'a str, bytes: &[u8]) -> Result<(), Fault<'a>>
-    ensures written { OnOk result (Replaces (F.contents files.old) (F.contents files.new) name.entry.now bytes.now) }
-    ensures refused { IfErr result (IsRefusedAs (F.refuses_write files.old name.entry.now) name.entry.now) }
+    ensures written { OnOk result
+        (Replaces (F.contents files.old) (F.contents files.new) name.entry.now bytes.now) }
+    ensures refused { IfErr result
+        (IsRefusedAs (F.refuses_write files.old name.entry.now) name.entry.now) }
     ensures fault { IfErr result (IsWriteFault name.entry.now) }
     ensures others { ChangesOnly (F.contents files.old) (F.contents files.new) name.entry.now }
 {

@@ -179,9 +179,11 @@ fn put_agent<P: ProgramView, O: TraceOut>(out: &mut O, program: &P, i: u16) -> R
 }
 
 /// Writes any program as text: for each agent a line with its start and its goal, `agent i: x,y to x,y`, and after it one for each of
-/// its actions in order, as `i:n east to x,y` or `i:n stays at x,y`, where `x,y` is where the agent is then, which may lie off any map,
-/// and, if it awaits any, ` after j:m ..` with the action of each other agent that has to be finished before. Agents count from 0,
-/// actions from 1. It takes no memory, and stops at a sink that fails.
+/// its actions in order, `i:n east to x,y` or `i:n stays at x,y`. There `x,y` is the place of the agent after the action, which may lie
+/// off any map. The line of an action that awaits others ends with ` after j:m ..`, a word for each await: action `m` of agent `j` has
+/// to be finished before. Agents count from 0, actions from 1. It takes no memory.
+///
+/// Errors: `OutFault` if the sink fails; it has then taken a proper prefix of the text.
 pub fn put_program<P: ProgramView, O: TraceOut>(out: &mut O, program: &P) -> Result<(), OutFault>
     requires { IsWorking (O.state out.old) }
     ensures { TakesAll (O.state out.old) (O.state out.new) result

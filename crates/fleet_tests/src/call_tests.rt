@@ -1,4 +1,4 @@
-//! What users of the crates call and no command does: on the pair, on a train, and where a growth is refused.
+//! What users of the crates call and no command does: on the pair, on a train, and with a growth refused.
 
 use crate::fleets::{
     HELD_TEXT, HELD_TRACE, LATE_HEX, PAIR_BYTES, PAIR_HEX, PAIR_MAP, PAIR_SCEN, STAYING_HEX,
@@ -85,8 +85,8 @@ fn file_told(alloc: Global) -> Option<Vec<u8>> {
     files.read(alloc, "out").ok()
 }
 
-/// How many actions of each agent the second one of the last agent needs, of the program that is made for the map and the scenario, and then how many of the last
-/// agent the second one of the first needs.
+/// Of the program that is made for the map and the scenario: how many actions of each agent the second action of the
+/// last agent needs, and then how many of the last agent the second action of the first agent needs.
 fn reach_told(alloc: Global, map: &[u8], scen: &[u8]) -> Option<Vec<u8>> {
     let grid = read_map(alloc, map).ok()?;
     let instance = read_scen(alloc, scen, &grid, None).ok()?;
@@ -178,7 +178,8 @@ fn is_due(answer: Option<&Vec<u8>>, due: &[u8]) -> bool {
     }
 }
 
-/// `rt try --test --fail-alloc N` refuses the N-th growth of the test, and that one alone. So of two answers one may lack memory, and each other is due.
+/// `rt try --test --fail-alloc N` refuses the N-th growth of the test, and that one alone. So of two answers one may
+/// lack memory, and each other is due.
 #[test]
 fn only_memory_may_be_refused(rt: HostRuntime) {
     for (call, due) in CALLS {
@@ -189,7 +190,8 @@ fn only_memory_may_be_refused(rt: HostRuntime) {
     }
 }
 
-/// Each action of a train of 128 agents needs as many of every agent before its own, and none of those behind it. No clause says that memory suffices.
+/// Each action of a train of 128 agents needs as many of every agent before its own, and none of those behind it. No
+/// clause says that memory suffices.
 #[test]
 fn a_train_reaches_back(rt: HostRuntime) -> Result<(), Fail> {
     let scen = train_scen(rt.alloc())?;

@@ -1,5 +1,5 @@
-//! Texts and program bytes that differ in one byte from those of the pair: how many are read, and how many are refused with each number. The counts
-//! were made by plain readers in another language, written from the formats alone.
+//! Texts and program bytes that differ in one byte from those of the pair: how many are read, and how many are refused
+//! with each number. The counts were made by plain readers in another language, written from the formats alone.
 
 use crate::fleets::{PAIR_HEX, PAIR_MAP, PAIR_PLAN, PAIR_SCEN};
 use fleet_code::{HexFault, LoadFault, read_hex, view};
@@ -33,7 +33,7 @@ fn map_number(alloc: Global, text: &[u8]) -> usize {
     }
 }
 
-/// .. for the pair's map.
+/// For the pair's map.
 fn scen_number(alloc: Global, text: &[u8]) -> usize {
     let Ok(grid) = read_map(alloc, PAIR_MAP) else {
         return 1;
@@ -89,7 +89,8 @@ fn hex_number(alloc: Global, text: &[u8]) -> usize {
     }
 }
 
-/// .. of holds of twelve agents: twice the ticks up to the end or to a line that is no tick's, and one more if there is such a line.
+/// Of holds of twelve agents: twice the ticks up to the end or to a line that is no tick's, and one more if there is
+/// such a line.
 fn holds_number(text: &[u8]) -> usize {
     let mut source = HoldText::new(text, 12);
     let mut flags = [false; 12];
@@ -139,7 +140,7 @@ fn counts_of(alloc: Global, reader: Reader, text: &[u8]) -> Result<[u32; 12], Al
     Ok(counts)
 }
 
-/// Holds of agent 0, of nobody and of both.
+/// Holds of agent 0, of nobody, and of agents 0 and 1.
 const SOME_HOLDS: &[u8] = b"0\n-\n0 1\n";
 
 #[test]

@@ -1,4 +1,5 @@
-//! Fleets that are worked out by hand: maps, scenarios, plans, programs in hexadecimal, and traces. `tests/worked.txt` says what each is.
+//! Fleets that are worked out by hand: maps, scenarios, plans, programs in hexadecimal, and traces. `tests/worked.txt`
+//! says what each is.
 
 use std::alloc::{AllocError, Global};
 
@@ -16,15 +17,15 @@ pub const PAIR_HEX: &[u8] = b"4D504631 0002 0001 0000 0003 0000 0002 01 01
 pub const PAIR_BYTES: &[u8] = b"MPF1\0\x02\0\x01\0\0\0\x03\0\0\0\x02\x01\x01\
 \0\0\0\0\0\x02\0\0\0\x02\x10\0\0\0\x01\x01\x10\0\0\0\x02\x01";
 
-/// Where agent 1 at last awaits more actions than any agent has.
+/// The pair in version 2, with a last action of agent 1 that awaits more actions than any agent has.
 pub const LATE_HEX: &[u8] = b"4D504632 0002 0001 0000 0003 0000 00000002 01 01
     0000 0000 0002 0000 00000002 10 0000 00000001 01 10 0000 FFFFFFFF 01";
 
-/// Where both stay for two actions after their moves.
+/// The pair in version 2, with two stays of each agent after its moves.
 pub const STAYING_HEX: &[u8] = b"4D504632 0002 0001 0000 0003 0000 00000004 01 01 04 04
     0000 0000 0002 0000 00000004 10 0000 00000001 01 10 0000 00000002 01 04 04";
 
-/// The pair's trace where agent 0 is held in the first tick.
+/// The pair's trace with agent 0 held in the first tick.
 pub const HELD_TRACE: &[u8] = b"0: 1,0 0,0
 1: 1,0 0,0
 2: 2,0 0,0
@@ -36,7 +37,7 @@ chain 3
 held 1
 ";
 
-/// .. and its rehearsal.
+/// .. and its rehearsal under the same holds.
 pub const HELD_TEXT: &[u8] = b"0: 1,0 0,0
 1: 1,0 0,0
 2: 2,0 0,0

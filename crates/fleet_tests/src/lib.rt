@@ -1,4 +1,5 @@
-//! Tests of all crates, through their public functions, of what the built program cannot show (`tests/`). Without its tests the crate has nothing.
+//! Tests of all crates, through their public functions, of what the built program cannot show (`tests/`). Without its
+//! tests the crate has nothing.
 #![tactic(auto)]
 
 #[cfg(test)]

@@ -46,7 +46,8 @@ fn steps_of(
     }
 }
 
-/// A map, the paths that are reserved on it, start and goal, the horizon, and how many steps the earliest path has, if there is one.
+/// A map, the paths that are reserved on it, start and goal, the horizon, and how many steps the earliest path has, if
+/// there is one.
 type Row = (&'static [u8], &'static [u8], Cell, Cell, u16, Option<u32>);
 
 #[test]

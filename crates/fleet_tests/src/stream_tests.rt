@@ -1,4 +1,5 @@
-//! Runs under sources that fail, outputs that fail after some bytes or refuse to hand on what they took, and inputs that fail after some bytes.
+//! Runs under sources that fail, outputs that fail after some bytes or refuse to hand on what they took, and inputs
+//! that fail after some bytes.
 
 ghost use Rattle.std.specs.Prelude.{◌≡◌, false};
 
@@ -146,7 +147,8 @@ moves 4
 reports 3
 ";
 
-/// Whether a dispatch whose orders fail after so many bytes, or at the flush after so many, stops for that, or else goes to its end.
+/// Whether a dispatch whose orders fail after so many bytes, or at the flush after so many, stops for that, or else
+/// goes to its end.
 fn is_cut(alloc: Global, room: usize, flushes: usize) -> Result<bool, Fail> {
     let mut output = writer(alloc, room, flushes, None);
     let input = ShortReader {

@@ -32,7 +32,8 @@ impl HoldSource for FailingSource {
     }
 }
 
-/// A writer that takes so many bytes, one at a time, can be flushed so many times, and then fails so: takes nothing more, or answers an error.
+/// A writer that takes so many bytes, one at a time, can be flushed so many times, and then fails so: takes nothing
+/// more, or answers an error.
 #[derive(Drop)]
 pub struct ShortWriter {
     /// What it has taken.

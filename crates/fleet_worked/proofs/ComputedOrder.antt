@@ -120,7 +120,7 @@ accepted_is After passable k after p is e =
 pub accepted_by_await : (passable : Place → Bool) (k : ℕ) (p : Program) → is_accepted passable k (comes_by_await p) p ≡ true → IsAcceptedBy ComesAfterByAwait passable (map task_of p) p
 accepted_by_await passable k p e = accepted_is ComesAfterByAwait passable k (comes_by_await p) p (comes_is p) e
 
--- where one chain orders all visits that follow one another
+-- if one chain orders all visits that follow one another
 pub accepted_by_chain : (passable : Place → Bool) (k : ℕ) (cs : List ActionId) (p : Program) → is_accepted passable k (comes_by_chain cs p) p ≡ true → IsAcceptedBy ComesAfterByChain passable (map task_of p) p
 accepted_by_chain passable k cs p e = accepted_is ComesAfterByChain passable k (comes_by_chain cs p) p (λ v w is. inr (cs, chain_is p (leaving p v) cs (entering w) is)) e
 

@@ -95,7 +95,7 @@ pub record Outline : Type 0 where
 abbrev pub outline : AgentProgram → Outline
 outline a = record { start = a.start; goal = a.goal; steps = map (λ s. s.step) a.actions }
 
--- where the agents are the same without their awaits, the programs differ in awaits alone
+-- if the agents are the same without their awaits, the programs differ in awaits alone
 differs_is : (p q : Program) → map outline q ≡ map outline p → DiffersInAwaits p q
 differs_is p q e = record {
   agents = sym (length-map q outline) ∙ ap length e ∙ length-map p outline;

@@ -22,7 +22,7 @@ runs_as p holds rows f w all places done no_sooner no_end held = record {
   held = held;
 }
 
--- ---- the pair, where both agents are held
+-- ---- the pair with both agents held
 
 held_at : (n t : ℕ) → t < n → is_held (both_held n) t ≡ is_among (0 ∷ 1 ∷ [])
 held_at n t lt = ap is_among (get_or-replicate n t (0 ∷ 1 ∷ []) [] lt)

@@ -11,8 +11,10 @@ ghost use Rattle.fleet_worked.specs.Compiled.{corridor_program, there_and_back_p
 #[tactic(auto, using(crate::proofs::CompiledPlans::base, crate::proofs::CompiledPlans::corridor_all, crate::proofs::CompiledPlans::corridor_last, crate::proofs::CompiledPlans::there_and_back, crate::proofs::CompiledPlans::pass))]
 pub fn worked_plans_compile()
     ensures base { (deps : Deps) → compiled base_plan deps ≡ pair }
-    ensures corridor_all { compiled corridor Deps.All ≡ corridor_program (await_on 0 1 ∷ await_on 1 2 ∷ []) }
+    ensures corridor_all { compiled corridor Deps.All
+        ≡ corridor_program (await_on 0 1 ∷ await_on 1 2 ∷ []) }
     ensures corridor_last { compiled corridor Deps.Last ≡ corridor_program (await_on 1 2 ∷ []) }
-    ensures there_and_back { (deps : Deps) → compiled there_and_back_plan deps ≡ there_and_back_program }
+    ensures there_and_back { (deps : Deps) → compiled there_and_back_plan deps
+        ≡ there_and_back_program }
     ensures pass { (deps : Deps) → compiled pass_plan deps ≡ pass_program }
 {}

@@ -99,7 +99,8 @@ pub fn excursion_runs()
 pub fn conflicts_are_found()
     ensures vertex { HasVertexConflict (motion blocked_pair []) 1 0 1 }
     ensures vertex_when_held { HasVertexConflict (motion rash_pair ((0 ∷ []) ∷ [])) 1 0 1 }
-    ensures vertex_when_held_later { HasVertexConflict (motion early_pair ([] ∷ (0 ∷ []) ∷ (0 ∷ []) ∷ [])) 3 0 1 }
+    ensures vertex_when_held_later { HasVertexConflict
+        (motion early_pair ([] ∷ (0 ∷ []) ∷ (0 ∷ []) ∷ [])) 3 0 1 }
     ensures vertex_when_staying { HasVertexConflict (motion hasty_pair ([] ∷ (0 ∷ []) ∷ [])) 2 0 1 }
     ensures following { HasFollowingConflict (motion blocked_pair []) 0 1 0 }
     ensures swapping { HasSwappingConflict (motion exchange []) 0 0 1 }
@@ -133,8 +134,10 @@ pub fn pair_visits()
 
 /// A visit is a longest run of positions on one place, named by the first of them and left by the action after it.
 pub fn visits_are_longest_runs()
-    ensures run { (p : Program) (v : Visit) → IsVisit p v → (l : ℕ) × ((leaving p v).number ≡ l + 1) × IsLongestRun p v.agent v.position l }
-    ensures all { (p : Program) (i first last : ℕ) → i < length p → IsLongestRun p i first last → IsVisit p (nth_visit i first) × ((leaving p (nth_visit i first)).number ≡ last + 1) }
+    ensures run { (p : Program) (v : Visit) → IsVisit p v → (l : ℕ) × ((leaving p v).number ≡ l + 1)
+        × IsLongestRun p v.agent v.position l }
+    ensures all { (p : Program) (i first last : ℕ) → i < length p → IsLongestRun p i first last
+        → IsVisit p (nth_visit i first) × ((leaving p (nth_visit i first)).number ≡ last + 1) }
 {}
 
 /// A stay begins no visit. To come back to a place does, also if the agent stayed on it before.
@@ -195,7 +198,8 @@ pub fn blocked_pair_is_refused()
 /// To leave the map and come back is refused.
 pub fn excursion_is_refused()
     ensures away { path excursion 0 1 ≡ record { x = negsuc 0; y = pos 0 } }
-    ensures refused { (columns rows : ℕ) (tasks : List Task) → IsRight (is_on_open_map columns rows) tasks excursion → ⊥ }
+    ensures refused { (columns rows : ℕ) (tasks : List Task)
+        → IsRight (is_on_open_map columns rows) tasks excursion → ⊥ }
 {}
 
 /// Agents that await each other have no numbering.

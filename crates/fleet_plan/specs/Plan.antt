@@ -42,8 +42,8 @@ planned plan x i = place_of (cell_of plan i x)
 abbrev pub AreNeighbours : Cell → Cell → Type 0
 AreNeighbours c d = (e : Dir) × (place_of d ≡ moved (place_of c) e)
 
--- each path leads from start to goal over passable cells, by equal or neighbouring cells, and there is no vertex, swapping or cycle
--- conflict. After its last cell an agent stays, and it may follow another
+-- each path leads from start to goal over passable cells, by equal or neighbouring cells, and there is no vertex,
+-- swapping or cycle conflict. After its last cell an agent stays, and it may follow another
 pub record IsConflictFree (passable : Place → Bool) (tasks : List Task) (plan : Plan) : Type 0 where
   pub agents : length plan ≡ length tasks
   pub ends : (i : ℕ) (t : Task) → slice_get tasks i ≡ Some t → (cell_of plan i 0 ≡ t.start) × (last_cell plan i ≡ t.goal)

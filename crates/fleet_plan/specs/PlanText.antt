@@ -1,5 +1,5 @@
--- Which plan a text stands for, which fault is the first of a text that stands for none, and which text is written for a
--- plan.
+-- Which plan a text stands for, which fault is the first of a text that stands for none, and which text is written for
+-- a plan.
 use Rattle.std.specs.Prelude.{◌≡◌, ℕ, ◌+◌, ◌<◌, ◌≤◌, ◌==◌, List, [], ◌∷◌, ◌++◌, length, map, take, slice_get, All, Option, Some, None, option_and_then, decimal, ◌⊎◌}
 use Rattle.std.specs.List.{AllZip, slice_split, join_with_byte}
 use Rattle.fleet_model.specs.declared.limits.TheConstants.{MAX_AGENTS, MAX_HORIZON}

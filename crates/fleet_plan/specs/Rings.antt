@@ -9,7 +9,8 @@ ahead_of ahead i = get_or ahead i None
 abbrev pub NamesAgents : List (Option ℕ) → Type 0
 NamesAgents ahead = (i j : ℕ) → ahead_of ahead i ≡ Some j → j < length ahead
 
--- the list leads from agent i to agent e: each agent of it is ahead of the one before it, the first of i, and the last is e
+-- the list leads from agent i to agent e: each agent of it is ahead of the one before it, the first of i, and the last
+-- is e
 abbrev pub Leads : List (Option ℕ) → ℕ → List ℕ → ℕ → Type 0
 Leads ahead i [] e = i ≡ e
 Leads ahead i (j ∷ js) e = (ahead_of ahead i ≡ Some j) × Leads ahead j js e
@@ -39,7 +40,8 @@ walk_of walks i = get_or walks i None
 abbrev pub IsWalked : List (Option ℕ) → ℕ → Type 0
 IsWalked walks i = (w : ℕ) × (walk_of walks i ≡ Some w)
 
--- somebody is ahead of each agent that was met, and was met too unless nobody is ahead of that one; and walks have numbers below n
+-- somebody is ahead of each agent that was met, and was met too unless nobody is ahead of that one; and walks have
+-- numbers below n
 pub record AreClosed (ahead walks : List (Option ℕ)) (n : ℕ) : Type 0 where
   pub all : length walks ≡ length ahead
   pub live : (i : ℕ) → IsWalked walks i → (j : ℕ) × (ahead_of ahead i ≡ Some j)

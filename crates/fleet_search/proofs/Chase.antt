@@ -80,7 +80,7 @@ module _ (plan : Plan) (fit : FitTogether plan) (t : ℕ) (from to : Cell) (i : 
 
 -- ---- the test of a step
 
--- where somebody else enters the cell that is left, or nobody does
+-- if somebody else enters the cell that is left, or nobody does
 pub enters : (plan : Plan) (t : ℕ) (c : Cell) (js : List ℕ) (d : Cell) → c ≢ d → Follow plan t c js d → IsUnoccupied plan (t + 1) d → ⊥
 enters plan t c [] d ne f free = ne f
 enters plan t c (j ∷ []) d ne f free = free j f.0 f.3
@@ -95,7 +95,7 @@ enters plan t c (j ∷ k ∷ js) d ne f free = enters-on (cell_of plan j (t + 1)
 pub none_iff : {P : Type 0} → (P → ⊥) → IsTrue false ↔ P
 none_iff n = (λ h. cc, λ p. absurd (n p))
 
--- where an agent leaves the cell to
+-- to which cell an agent leaves this one
 pub goes_to : (paths plan : Plan) (a t : ℕ) (p : List Cell) (c d : Cell) → paths ≡ plan → IsOn plan t c a → p ≡ get_or paths a p → d ≡ cell_at p (t + 1) → d ≡ cell_of plan a (t + 1)
 unfolding cell_of
 goes_to paths plan a t p c d e on g f = f ∙ ap (λ z. cell_at z (t + 1)) (get_or_read paths a p (subst (λ z. a < length z) (sym e) on.agent) g []) ∙ ap (λ z. cell_of z a (t + 1)) e

@@ -22,7 +22,7 @@ fits-free plan path fits (suc t) = rw (← add-one) (((each_step plan path fits)
 pub fits-rest : (plan : Plan) (path : List Cell) (n : ℕ) → arrival path ≤ n → Fits plan path → IsFreeFrom plan (cell_at path n) n
 fits-rest plan path n b fits u h j p e = fits-free plan path fits u j p (e ∙ cell_at-late path n b ∙ sym (cell_at-late path u (omega arith)))
 
--- where the last cell stays free each step after the arrival fits
+-- if the last cell stays free, each step after the arrival fits
 late-step : (plan : Plan) (path : List Cell) (n : ℕ) → arrival path ≤ n → IsFreeFrom plan (cell_at path n) n → (t : ℕ) → n ≤ t → StepFits plan t (cell_at path t) (cell_at path (t + 1))
 late-step plan path n b free t l =
     let here : cell_at path t ≡ cell_at path n = cell_at-late path t (omega arith) ∙ sym (cell_at-late path n b) in

@@ -1,4 +1,4 @@
--- Gaps between stays.
+-- Safe intervals between the occupancies of a cell.
 use Rattle.std.proofs.Common.{◌≡◌, ℕ, zero, suc, ◌+◌, ◌-◌, ◌<◌, ◌≤◌, inl, inr, List, length, ap, arith}
 use Rattle.std.specs.List.Sorted.{IsPartitionPoint}
 use Rattle.std.proofs.lemmas.Bool.{cases_eq, cases_lt}
@@ -130,7 +130,7 @@ module _ (plan : Plan) (c : Cell) (occupancies : List Occupancy) (s : AreStays p
   during-taken : (i t : ℕ) → i < length occupancies → IsDuring (occupancy_at occupancies i) t → IsUnoccupied plan t c → ⊥
   during-taken i t h d free = free (occupancy_at occupancies i).agent (s.each i h).agent ((s.each i h).on t d)
 
-  -- where nobody is on the cell, the time is in the safe interval after the stays that have begun
+  -- if nobody is on the cell, the time is in the safe interval after the stays that have begun
   pub free-interval : (t n : ℕ) → t ≤ 4294967295 → AreBegun occupancies t n → IsUnoccupied plan t c → IsInInterval occupancies n t
   free-interval t n few b free = record {
     bound = b.bound;

@@ -88,7 +88,7 @@ row_exchanged old new cell place k label v w were mine some number first numbers
       ]
     ]
 
--- a row is added that has the label alone, where the cell has none
+-- a row that has the label alone is added for a cell without a row
 pub row_added : (old new : Labels) (cell place : ℕ) (label : Label) (w : Vec Label Global) → AreLabels old → value_in old.numbers cell ≡ 0 → new.search ≡ old.search → new.first ≡ old.first → IsSet old.numbers new.numbers cell (length old.rows.items + 1) → new.rows.items ≡ old.rows.items ++ w ∷ [] → get_or w.items place no_interval_label ≡ label → ((n : ℕ) → n ≢ place → get_or w.items n no_interval_label ≡ get_or [] n no_interval_label) → IsLabelPut old new cell (suc place) label
 row_added old new cell place label w were none number first put rows here others = record {
   search = number;

@@ -226,7 +226,7 @@ found_earliest q f place r labels open_list path ask fr within bucket end tr = r
           omega arith
     ]
 
--- where all buckets up to the horizon are empty there is no way
+-- if all buckets up to the horizon are empty there is no way
 pub all_looked : (q : Query) (f : ℕ) (r : List Node) (labels : Times) (open_list : List (List ℕ)) → IsPosed q → IsFrontier q f None r labels open_list → q.goal_free_from ≤ q.horizon → q.horizon < f → IsInfeasible (is_passable q.grid.now) q.reserved.now q.start q.goal q.horizon
 all_looked q f r labels open_list ask fr goal_free_from h path w in_time =
     let a = at_least q f None r labels open_list fr (λ i s. absurd (none-some i s)) ask path w in_time (omega arith) in

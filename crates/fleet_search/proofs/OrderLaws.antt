@@ -84,7 +84,7 @@ module _ (passable : Place → Bool) (tasks : List Task) (horizon : ℕ) where
   unfolding IsOrderAfter
   order_after-more n place before order after stuck e = rw add-one (before, place, after, stuck, e)
 
-  -- where the first agent has no path, the order comes again and again
+  -- if the first agent has no path, the order comes again and again
   pub order_after-again : (n more : ℕ) (order : List ℕ) → 0 < length order → IsOrderAfter passable tasks horizon n order → IsStuckInOrder passable tasks horizon order 0 → IsOrderAfter passable tasks horizon (more + n) order
   unfolding IsOrderAfter
   order_after-again n zero order h after stuck = rw zero-add after
@@ -137,7 +137,8 @@ module _ (passable : Place → Bool) (tasks : List Task) (horizon : ℕ) where
       let stuck : HasNoPathFor passable (tasks_by (rising (length tasks)) tasks) horizon s.place = subst (λ z. IsStuckInOrder passable tasks horizon z s.place) is s.stuck in
       subst (HasNoPathFor passable tasks horizon) same (subst (λ z. HasNoPathFor passable z horizon s.place) (in_rising tasks no_task) stuck)
 
--- the last of so many orders leaves the agent at the place without a path: there are no more, or the agent is first already
+-- the last of so many orders leaves the agent at the place without a path: there are no more, or the agent is first
+-- already
 pub stuck_in_tries : (passable : Place → Bool) (tasks : List Task) (horizon tries failed : ℕ) (order : List ℕ) (place agent : ℕ) → failed ≤ tries - 1 → IsPermutation (rising (length tasks)) order → IsOrderAfter passable tasks horizon failed order → IsStuckInOrder passable tasks horizon order place → place < length order → agent ≡ get_or order place 0 → (place ≡ 0) ⊎ (tries ≤ failed + 1) → IsStuckInTries passable tasks horizon tries agent
 stuck_in_tries passable tasks horizon tries failed order place agent few each after stuck l is last = record {
   order = order;

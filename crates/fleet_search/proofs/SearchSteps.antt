@@ -47,7 +47,7 @@ bucket-next q m n f k (inl a) (inr b) t h = let x = a.1 in let y = b.1 in let z 
 bucket-next q m n f k (inr a) (inl b) t h = let x = a.1 in let y = b.1 in let z = a.0 in let w = b.0 in omega arith
 bucket-next q m n f k (inr a) (inr b) t h = let x = a.1 in let y = b.1 in omega arith
 
--- where a way over the state arrives late enough, the state's bucket is a low one
+-- if a way over the state arrives late enough, the state's bucket is a low one
 pub bucket-below : (q : Query) (m : State) (k f : ℕ) → IsBucket q m k → least_arrival q m < f → q.goal_free_from < f → k < f
 bucket-below q m k f (inl a) h r = let x = a.1 in let y = a.0 in omega arith
 bucket-below q m k f (inr a) h r = let x = a.1 in omega arith
@@ -100,7 +100,7 @@ left-stays q f old new place m g l =
     let x = g.more in
     record { within = omega arith; here = same_at q old.nodes new.nodes g.more g.kept place w ∙ l.here; bucket = l.bucket }
 
--- where the frontier grew, and is one again, the state is still being left
+-- if the frontier grew, and is one again, the state is still being expanded
 pub expands_on : (q : Query) (f : ℕ) (l : Expansion) (old new : Exploration) → IsExpansion q f l old → IsFrontierOf q (f - 1) (Some l.place) new → Grows old new → ExpandsOn q f l old new
 expands_on q f l old new h frontier grows = record {
   leaving = record { horizon = h.horizon; frontier = frontier; left = left-stays q f old new l.place l.state grows h.left; until = h.until };
@@ -343,7 +343,7 @@ step-early q l c u v move a b free = elim (cases_eq v u) [
   }
 ]
 
--- where the earliest step into the safe interval was looked at, all were
+-- if the earliest step into the safe interval was looked at, all were
 pub found_in-first : (q : Query) → IsMeasured q → (nodes : List Node) (l : State) (c : Cell) (interval t v : ℕ) → IsEarliestWithin (occupancies_on q c) interval (l.time + 1) t → t ≡ v + 1 → IsFoundAt q nodes l c v → IsFoundIn q nodes l c interval
 found_in-first q m nodes l c interval t v first e found u move g in_time =
     let early = first.first (u + 1) (let w = move.waits in omega arith) g in
@@ -409,7 +409,7 @@ lower q f g left r labels open_list h fr = record {
   done = fr.done;
 }
 
--- where nothing new was put on the buckets, those that were empty still are
+-- if nothing new was put on the buckets, those that were empty still are
 pub raise : (q : Query) (f g : ℕ) (left : Option ℕ) (r : List Node) (labels : Times) (open_list before : List (List ℕ)) → IsFrontier q g left r labels open_list → ((k : ℕ) → bucket_of open_list k ≡ bucket_of before k) → ((k : ℕ) → k < f → bucket_of before k ≡ []) → IsFrontier q f left r labels open_list
 raise q f g left r labels open_list before fr same past = record {
   measured = fr.measured;

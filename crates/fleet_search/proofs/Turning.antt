@@ -52,6 +52,6 @@ turned q m f l c interval start now h one later u move in_time =
           absurd (omega arith)
     ]
 
--- the stays from the one on begin too late where it does
+-- if one stay begins too late, so do those after it
 pub all_later : (q : Query) → IsMeasured q → (c : Cell) (until n : ℕ) → n < length (occupancies_on q c) → until < (occupancy_at (occupancies_on q c) n).from → (i : ℕ) → n ≤ i → i < length (occupancies_on q c) → until < (occupancy_at (occupancies_on q c) i).from
 all_later q m c until n within late i h l = let z = apart-from (occupancies_on q c) (stays-apart q.reserved.now c (occupancies_on q c) (m.occupancies c)) n i h l in omega arith

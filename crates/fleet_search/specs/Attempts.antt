@@ -47,15 +47,15 @@ abbrev pub IsMadeAfterFirst : Problem → List ℕ → Plan → Type 0
 IsMadeAfterFirst problem order paths =
     IsPrioritisedPlan (is_passable problem.grid.now) (drop 1 (tasks_by order problem.instance.now)) problem.horizon (length paths) paths
 
--- paths of the agents, as they stand in the order, each the earliest against those before it: of all of them, or of those
--- before one that is left without a path
+-- paths of the agents, as they stand in the order, each the earliest against those before it: of all of them, or of
+-- those before one that is left without a path
 abbrev pub AreReserved : Problem → List ℕ → Plan → (all : Bool) → Type 0
 AreReserved problem order paths true = IsPrioritisedPlan (is_passable problem.grid.now) (tasks_by order problem.instance.now) problem.horizon (length order) paths
 AreReserved problem order paths false =
     IsStuckInOrder (is_passable problem.grid.now) problem.instance.now problem.horizon order (length paths)
     × IsPrioritisedPlan (is_passable problem.grid.now) (tasks_by order problem.instance.now) problem.horizon (length paths) paths
 
--- so are the paths of the outcome
+-- the paths of the outcome are such: of all agents if it is made, and else of those before one without a path
 abbrev pub IsAttempt : Problem → List ℕ → Attempt → Type 0
 IsAttempt problem order (Made paths) = AreReserved problem order paths.items true
 IsAttempt problem order (Stuck paths) = AreReserved problem order paths.items false

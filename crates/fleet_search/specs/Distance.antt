@@ -1,5 +1,5 @@
 -- How far the passable cells are from a goal. Cells are labelled with their numbers of moves, first those over which
--- the shortest paths from the start may lead (A*: Hart, Nilsson and Raphael 1968).
+-- the shortest paths from the start may lead (A*: Hart et al. 1968).
 use Rattle.std.specs.Prelude.{◌≡◌, ℕ, ◌+◌, ◌-◌, ◌*◌, ◌<◌, ◌≤◌, ◌==◌, cond, IsTrue, List, length, get_or, set, Contains, Option, None, Some, unwrap_or, min, max, ◌⊎◌, ◌++◌, ◌∷◌, []}
 use Rattle.std.specs.Int.{abs_diff}
 use Rattle.std.specs.List.{sum_by}
@@ -45,9 +45,9 @@ label_in g labels search c = labelled search (get_or labels (cell_index g c) no_
 unfoldable pub manhattan : Cell → Cell → ℕ
 manhattan a b = abs_diff a.x b.x + abs_diff a.y b.y
 
--- how many moves lead from the cell to the goal at least, whatever its label: the columns and rows between the two,
--- and, as no path of fewer moves than `f_bound` from the start to the goal leads over it, those that `f_bound` leaves
--- after the columns and rows from the start
+-- how many moves lead from the cell to the goal at least, whatever its label: as many as columns and rows lie between
+-- the two or, if that is more, as `f_bound` leaves after the columns and rows from the start, as no path of fewer moves
+-- than `f_bound` from the start to the goal leads over the cell
 unfoldable pub least_moves : DistanceTable → Cell → ℕ
 least_moves d c = max (manhattan c d.goal) (d.f_bound - manhattan c d.start)
 
@@ -62,7 +62,7 @@ pub record IsReady (g : Ground) (labels : List Label) (search : ℕ) : Type 0 wh
   pub size : length labels ≡ g.width * g.height
   pub old : (i : ℕ) → i < length labels → (get_or labels i no_label).search ≤ search
 
--- the table is for the map, the goal is at no distance, and neighbours differ by one at most
+-- the table is for the map, the goal is at no distance, and neighbours' distances differ by one at most
 pub record AreDistances (g : Ground) (d : DistanceTable) (goal : Cell) : Type 0 where
   pub grid : d.grid ≡ g
   pub ready : IsReady g d.labels d.search
@@ -124,8 +124,8 @@ pub record IsLabelNear (search : ℕ) (l : Label) (distance : ℕ) : Type 0 wher
   pub current : l.search ≡ search
   pub near : l.distance ≤ distance
 
--- the neighbour in the direction from the cell that is left, which stays labelled with so many moves, is labelled too; no
--- label rises, and no more is left to do
+-- the neighbour in the direction from the cell that is left, which stays labelled with so many moves, is labelled too;
+-- no label rises, and no more is left to do
 pub record IsLabelledTowards (distance : ℕ) (left : Cell) (dir : Dir) (old new : DistanceTable) : Type 0 where
   pub spread : IsSpreadOf (Some left) new
   pub stays : IsLabelled new left distance

@@ -4,10 +4,11 @@ use Rattle.fleet_table.specs.Table.{value_in}
 use Rattle.fleet_search.specs.declared.labels.Label.{Label}
 use Rattle.fleet_search.specs.declared.labels.Labels.{Labels}
 
+-- the label that stands for those past the end of a row: no search has come there
 abbrev pub no_interval_label : Label
 no_interval_label = record { search = 0; time = 0 }
 
--- the labels of the later intervals of a cell: its row, counted from 1
+-- the labels of the later intervals of a cell: the row of its number, counted from 1; number 0 has none
 abbrev pub later_in : Labels → ℕ → List Label
 later_in l cell = get_or ([] ∷ map (λ v. v.items) l.rows.items) (value_in l.numbers cell) []
 
@@ -20,7 +21,7 @@ interval_label l cell (suc n) = get_or (later_in l cell) n no_interval_label
 abbrev pub earliest_in : Labels → ℕ → ℕ → Option ℕ
 earliest_in l cell interval = cond ((interval_label l cell interval).search == l.search) (Some (interval_label l cell interval).time) None
 
--- for each safe interval of each cell the earliest time of a search there, if it has come there
+-- for each safe interval of each cell the earliest time at which a search has come there, if it has
 abbrev pub Times : Type 0
 Times = (cell interval : ℕ) → Option ℕ
 
@@ -30,7 +31,7 @@ pub record IsSeen (earliest : Option ℕ) (t : ℕ) : Type 0 where
   pub is : earliest ≡ Some time
   pub early : time ≤ t
 
--- the numbers of rows are those of rows, and no two cells have one row
+-- the cells' numbers are those of rows or 0, and no two cells have one row
 pub record HaveOwnRows (l : Labels) : Type 0 where
   pub few : (cell : ℕ) → value_in l.numbers cell ≤ length l.rows.items
   pub apart : (c d : ℕ) → c ≢ d → value_in l.numbers c ≡ value_in l.numbers d → value_in l.numbers c ≡ 0

@@ -17,7 +17,7 @@ pub record IsNumbered (old new : List (Vec ℕ Global)) (cell : Cell) (number : 
 abbrev pub list_of : List (Vec Occupancy Global) → ℕ → List Occupancy
 list_of lists number = get_or ([] ∷ map (λ v. v.items) lists) number []
 
--- the numbers are those of lists, and no two cells have one list
+-- the numbers are those of lists or 0, and no two cells have one list
 pub record HaveOwnLists (numbers : List (Vec ℕ Global)) (lists : List (Vec Occupancy Global)) : Type 0 where
   pub few : (c : Cell) → number_in_rows numbers c ≤ length lists
   pub apart : (c d : Cell) → c ≢ d → number_in_rows numbers c ≡ number_in_rows numbers d → number_in_rows numbers c ≡ 0

@@ -70,6 +70,6 @@ pub record IsAdded (old new : ReservationTable) (cell : Cell) (occupancy : Occup
   pub here : IsPutIn (occupancies_of old cell) (occupancies_of new cell) occupancy
   pub others : (c : Cell) → c ≢ cell → occupancies_of new c ≡ occupancies_of old c
 
--- the occupancies of the other agents
+-- the occupancies without those of the agent
 abbrev pub without : ℕ → List Occupancy → List Occupancy
 without agent = filter (λ s. not (s.agent == agent))

@@ -8,6 +8,7 @@ use Rattle.fleet_model.specs.Program.{origin}
 use Rattle.fleet_plan.specs.Plan.{Plan}
 use Rattle.fleet_search.specs.InTurn.{IsPrioritisedPlan, HasNoPathFor}
 
+-- the task that stands for those past the end of a list
 pub no_task : Task
 no_task = record { start = origin; goal = origin }
 
@@ -43,7 +44,7 @@ IsOrderAfter passable tasks horizon zero order = order ≡ rising (length tasks)
 IsOrderAfter passable tasks horizon (suc n) order =
     (before : List ℕ) × (place : ℕ) × IsOrderAfter passable tasks horizon n before × IsStuckInOrder passable tasks horizon before place × (order ≡ to_front before place)
 
--- in one of the first orders, so many at most, each path is the earliest against those before it
+-- in one of the first `tries` orders (the first if that is 0) each path is the earliest against those before it
 pub record IsMadeInTries (passable : Place → Bool) (tasks : List Task) (horizon tries : ℕ) (plan : Plan) : Type 0 where
   pub agents : length plan ≡ length tasks
   pub order : List ℕ
@@ -53,7 +54,7 @@ pub record IsMadeInTries (passable : Place → Bool) (tasks : List Task) (horizo
   pub after : IsOrderAfter passable tasks horizon failed order
   pub made : IsMadeInOrder passable tasks horizon order plan
 
--- in the last of so many orders the agent is left without a path by those before it
+-- in the last of the first `tries` orders (the first if that is 0) those before the agent leave it without a path
 pub record IsStuckInTries (passable : Place → Bool) (tasks : List Task) (horizon tries agent : ℕ) : Type 0 where
   pub order : List ℕ
   pub each_once : IsPermutation (rising (length tasks)) order

@@ -31,11 +31,13 @@ heuristic_of q c = heuristic q.distances.now c
 abbrev pub occupancies_on : Query → Cell → List Occupancy
 occupancies_on q c = occupancies_of q.table.now c
 
--- the tables of the query are right: that of distances for its map and goal, that of occupancies for the reserved agents
+-- the tables of the query are right: that of distances for its map and goal, and that of occupancies for the reserved
+-- agents
 pub record IsMeasured (q : Query) : Type 0 where
   pub heuristic : AreDistances q.grid.now q.distances.now q.goal
   pub occupancies : HaveOccupancies q.reserved.now q.table.now
 
+-- d is c or one of its neighbours
 abbrev pub AreBeside : Cell → Cell → Type 0
 AreBeside c d = (c ≡ d) ⊎ AreNeighbours c d
 
@@ -99,7 +101,8 @@ pub record IsCovered (q : Query) (nodes : List Node) (c : Cell) (t : ℕ) : Type
   pub known : IsKnown nodes (record { time = since; cell = c })
   pub free : IsFreeOn q.reserved.now c since t
 
--- if a move leads to a cell in time, the cell was reached by then; the state is no end
+-- if a move from the state leads to a cell in time, the cell was reached by then; and the agent may not come to rest at
+-- the state
 pub record IsExpanded (q : Query) (nodes : List Node) (m : State) : Type 0 where
   pub moves : (u : ℕ) (c : Cell) → AreNeighbours m.cell c → IsMove q m u c → u + 1 + heuristic_of q c ≤ q.horizon → IsCovered q nodes c (u + 1)
   pub not_end : IsGoalState q m → ⊥
@@ -173,16 +176,16 @@ pub record IsNeighbour (q : Query) (left : Cell) (b : Neighbour) : Type 0 where
 abbrev pub IsFoundAt : Query → List Node → State → Cell → ℕ → Type 0
 IsFoundAt q nodes left c u = IsStep q u left.cell c → u + 1 + heuristic_of q c ≤ q.horizon → IsCovered q nodes c (u + 1)
 
--- the same for all moves that lead to the cell in the safe interval
+-- the same of all moves that lead to the cell in the safe interval
 abbrev pub IsFoundIn : Query → List Node → State → Cell → ℕ → Type 0
 IsFoundIn q nodes left c interval = (u : ℕ) → IsMove q left u c → IsInInterval (occupancies_on q c) interval (u + 1) → u + 1 + heuristic_of q c ≤ q.horizon → IsCovered q nodes c (u + 1)
 
--- if a move leads to the cell in time, it was reached by then
+-- if a move leads to the cell in time, the cell was reached by then
 abbrev pub IsFoundFrom : Query → List Node → State → Cell → Type 0
 IsFoundFrom q nodes left c = (u : ℕ) → IsMove q left u c → u + 1 + heuristic_of q c ≤ q.horizon → IsCovered q nodes c (u + 1)
 
--- how the expansion of a bucket has ended: the state at this place was reached, waited in the bucket and is an end; or
--- a new state was reached; or no state is left in the bucket
+-- how the expansion of a bucket has ended: the state at this place was reached and waited in the bucket, and the agent
+-- may come to rest at it; or a new state was reached; or no state is left in the bucket
 abbrev pub HasEnded : Query → ℕ → Exploration → Exploration → BucketEnd → Type 0
 HasEnded q f old new (BucketEnd.Goal place) =
     IsFrontierOf q f (Some place) new × IsLeft q f new place (state_in new.nodes place) × IsGoalState q (state_in new.nodes place)

@@ -7,7 +7,7 @@ use crate::labels::Labels;
 use fleet_model::OutOfMemory;
 use std::alloc::Global;
 
-/// For each safe interval of each cell the earliest time of the latest search there.
+/// For each safe interval of each cell the earliest time at which the latest search has come there.
 #[derive(Drop)]
 pub struct Arrivals {
     labels: Labels,
@@ -28,11 +28,13 @@ impl Arrivals {
         self.labels.is_reached(cell, interval, time)
     }
 
-    /// Notes that the search comes to this safe interval of the cell at the time. Where memory is refused, all labels
-    /// are taken off.
+    /// Notes that the search comes to this safe interval of the cell at the time. If memory is refused, all labels are
+    /// taken off.
     pub fn note(&mut self, cell: usize, interval: usize, time: u16) -> Result<(), OutOfMemory>
         requires { interval < 4294967295 }
-        ensures { OnOk result (IsLabelSet (earliest_in self.old.labels) (earliest_in self.new.labels) cell interval time) }
+        ensures { OnOk result
+            (IsLabelSet (earliest_in self.old.labels) (earliest_in self.new.labels)
+            cell interval time) }
     {
         let noted = self.labels.note(cell, interval, time);
         if noted.is_err() {

@@ -21,7 +21,7 @@ pub struct Effort {
     pub nodes: usize,
 }
 
-/// For how many cells a list keeps room from one search to the next.
+/// For how many cells at most a list keeps room from one search to the next.
 const KEPT_CELLS: usize = 16_384;
 
 /// How many moves a cell is from the goal, noted by the search of this number.
@@ -124,8 +124,8 @@ impl<'g> Distances<'g> {
         self.grid
     }
 
-    /// How many moves lead from the cell to the goal at least, whatever its label: the columns and rows between the
-    /// two, and those that `f_bound` leaves after the ones from the start.
+    /// How many moves lead from the cell to the goal at least, whatever its label: as many as columns and rows lie
+    /// between the two or, if that is more, as `f_bound` leaves after the columns and rows from the start.
     #[tactic(auto, unfolding(crate::specs::Distance::least_moves))]
     fn least_moves(&self, cell: Cell) -> u32
         requires cell { IsOnGround self.now.grid cell }
@@ -192,7 +192,8 @@ impl<'g> Distances<'g> {
     #[inline(always)]
     fn is_near(&self, place: usize, distance: u16) -> bool
         requires { place < length self.now.labels }
-        ensures { IsTrue result ↔ IsLabelNear self.now.search (get_or self.now.labels place no_label) distance }
+        ensures { IsTrue result
+            ↔ IsLabelNear self.now.search (get_or self.now.labels place no_label) distance }
     {
         let label = self.label_at(place);
         label.search == self.search && label.distance <= distance
@@ -215,7 +216,8 @@ impl<'g> Distances<'g> {
     #[inline(always)]
     fn push(&mut self, cell: Cell) -> Result<(), OutOfMemory>
         ensures same { IsSameSearch self.old self.new }
-        ensures put { OnOk result (self.new ≡ record self.old { layer = self.old.layer ++ cell ∷ [] }) }
+        ensures put { OnOk result (self.new
+            ≡ record self.old { layer = self.old.layer ++ cell ∷ [] }) }
     {
         self.layer.push(cell)?;
         Ok(())
@@ -225,16 +227,18 @@ impl<'g> Distances<'g> {
     #[inline(always)]
     fn push_next(&mut self, cell: Cell) -> Result<(), OutOfMemory>
         ensures same { IsSameSearch self.old self.new }
-        ensures put { OnOk result (self.new ≡ record self.old { next = self.old.next ++ cell ∷ [] }) }
+        ensures put { OnOk result (self.new
+            ≡ record self.old { next = self.old.next ++ cell ∷ [] }) }
     {
         self.next.push(cell)?;
         Ok(())
     }
 
-    /// Takes the cell off the layer that was put there last.
+    /// Takes off the layer the cell that was put there last.
     #[inline(always)]
     fn pop(&mut self) -> Option<Cell>
-        ensures some { IfSome result (λ left. self.old ≡ record self.new { layer = self.new.layer ++ left ∷ [] }) }
+        ensures some { IfSome result (λ left.
+            self.old ≡ record self.new { layer = self.new.layer ++ left ∷ [] }) }
         ensures none { IfNone result ((self.old.layer ≡ []) × (self.new ≡ self.old)) }
     {
         self.layer.pop()
@@ -348,9 +352,11 @@ impl<'g> Distances<'g> {
 
     /// Takes the next number, of which no cell has a label. After the greatest number all labels are taken off.
     fn renumber(&mut self)
-        ensures same { self.new ≡ record self.old { labels = self.new.labels; search = self.new.search } }
+        ensures same { self.new
+            ≡ record self.old { labels = self.new.labels; search = self.new.search } }
         ensures some { 0 < self.new.search }
-        ensures fresh { (i : ℕ) → i < length self.new.labels → (get_or self.new.labels i no_label).search < self.new.search }
+        ensures fresh { (i : ℕ) → i < length self.new.labels
+            → (get_or self.new.labels i no_label).search < self.new.search }
     {
         if self.search == u16::MAX {
             let none = Label {
@@ -380,9 +386,9 @@ impl<'g> Distances<'g> {
         self.next.clear();
     }
 
-    /// Whether more cells are to be labelled, after so many: up to the start, and then, as long as they are fewer than
-    /// the nodes of the last search, those over which paths lead that are no more delayed than the last one, or arrive
-    /// before the goal is free. An agent is often delayed by as much as the one before it.
+    /// Whether more cells are to be labelled, after so many: until the start has its label, and then, as long as they
+    /// are fewer than the nodes of the last search, those over which paths lead that are no more delayed than the last
+    /// one, or arrive before the goal is free. An agent is often delayed by as much as the one before it.
     fn is_wanted(&self, horizon: u16, goal_free_from: u32, labelled: usize) -> bool
         requires { IsOnGround self.now.grid self.now.start }
         ensures { IsTrue result → (self.now.f_bound < MAX_HORIZON) }
@@ -437,8 +443,8 @@ impl<'g> Distances<'g> {
         }
     }
 
-    /// Forgets which cells are still to be expanded, and lets memory of the lists go if they were long: the search that
-    /// follows needs the room.
+    /// Forgets which cells are still to be expanded, and gives memory of long lists back: the search that follows needs
+    /// it.
     fn forget_lists(&mut self)
         ensures { self.new ≡ record self.old { layer = []; next = [] } }
     {

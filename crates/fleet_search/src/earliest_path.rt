@@ -14,13 +14,16 @@ use fleet_model::Cell;
 use fleet_plan::Path;
 use std::alloc::Global;
 
-/// The earliest path of the query: the buckets are expanded from the least on, and from one less again when a node was
-/// added.
+/// The earliest path of the query: the buckets are expanded from the least on; after a bucket in which a node was added
+/// the one before it is next.
 fn search(frontier: &mut Frontier, query: &Query) -> Result<Path, SearchFault>
     requires asked { IsPosed query.now }
     requires goal_free_from { query.now.goal_free_from ≤ query.now.horizon }
-    ensures ok { IfOk result (IsEarliest (is_passable query.now.grid.now) query.now.reserved.now query.now.start query.now.goal query.now.horizon) }
-    ensures no_path { IfErr result (λ e. e ≡ SearchFault.NoPath → IsInfeasible (is_passable query.now.grid.now) query.now.reserved.now query.now.start query.now.goal query.now.horizon) }
+    ensures ok { IfOk result (IsEarliest (is_passable query.now.grid.now) query.now.reserved.now
+        query.now.start query.now.goal query.now.horizon) }
+    ensures no_path { IfErr result (λ e. e ≡ SearchFault.NoPath
+        → IsInfeasible (is_passable query.now.grid.now) query.now.reserved.now
+        query.now.start query.now.goal query.now.horizon) }
 {
     if query.heuristic(query.start) > query.horizon {
         return Err(SearchFault::NoPath);
@@ -40,7 +43,8 @@ fn search(frontier: &mut Frontier, query: &Query) -> Result<Path, SearchFault>
     Err(SearchFault::NoPath)
 }
 
-/// The time from which on the goal is free, if that is by the horizon, and the agent may stand on both cells.
+/// The time from which on the goal is free, if that is by the horizon, both cells are passable, and nobody stands on the
+/// start at time 0.
 fn open_from(
     grid: &Grid,
     reserved: &Reservations,
@@ -49,7 +53,8 @@ fn open_from(
     horizon: u16,
 ) -> Option<u32>
     ensures some { IfSome result (IsOpen (is_passable grid.now) reserved.now start goal horizon) }
-    ensures none { IfNone result (IsInfeasible (is_passable grid.now) reserved.now start goal horizon) }
+    ensures none { IfNone result
+        (IsInfeasible (is_passable grid.now) reserved.now start goal horizon) }
 {
     if !grid.passable(start) {
         return None;
@@ -72,7 +77,7 @@ fn open_from(
     }
 }
 
-/// The earliest path on the map of the distances, with tables that other searches have used before.
+/// What `earliest` answers, on the map of the distances, with tables that earlier searches may have used.
 pub fn earliest_over(
     reserved: &Reservations,
     distances: &mut Distances<'_>,
@@ -82,8 +87,10 @@ pub fn earliest_over(
     horizon: u16,
 ) -> Result<Path, SearchFault>
     ensures grid { distances.new.grid ≡ distances.old.grid }
-    ensures ok { IfOk result (IsEarliest (is_passable distances.old.grid) reserved.now start goal horizon) }
-    ensures no_path { IfErr result (λ e. e ≡ SearchFault.NoPath → IsInfeasible (is_passable distances.old.grid) reserved.now start goal horizon) }
+    ensures ok { IfOk result
+        (IsEarliest (is_passable distances.old.grid) reserved.now start goal horizon) }
+    ensures no_path { IfErr result (λ e. e ≡ SearchFault.NoPath
+        → IsInfeasible (is_passable distances.old.grid) reserved.now start goal horizon) }
 {
     let grid = distances.grid();
     let Some(goal_free_from) = open_from(grid, reserved, start, goal, horizon) else {
@@ -109,10 +116,11 @@ pub fn earliest_over(
     Ok(path)
 }
 
-/// A path from `start` to `goal` that fits the reserved ones and arrives by the horizon, as early as any that does (by
-/// safe intervals: Phillips and Likhachev 2011). Which of several such paths it is, is not promised.
+/// A path from `start` at time 0 to `goal` that fits the reserved ones and arrives by the horizon, a time in steps, as
+/// early as any that does (by safe intervals: Phillips & Likhachev 2011). Which of several such paths it is, is not
+/// promised.
 ///
-/// Errors: `NoPath` if there is no such path.
+/// Errors: `NoPath` if there is no such path; `OutOfMemory`.
 pub fn earliest(
     alloc: Global,
     grid: &Grid,
@@ -122,7 +130,8 @@ pub fn earliest(
     horizon: u16,
 ) -> Result<Path, SearchFault>
     ensures ok { IfOk result (IsEarliest (is_passable grid.now) reserved.now start goal horizon) }
-    ensures no_path { IfErr result (λ e. e ≡ SearchFault.NoPath → IsInfeasible (is_passable grid.now) reserved.now start goal horizon) }
+    ensures no_path { IfErr result (λ e. e ≡ SearchFault.NoPath
+        → IsInfeasible (is_passable grid.now) reserved.now start goal horizon) }
 {
     let mut distances = Distances::new(alloc, grid)?;
     let mut frontier = Frontier::new(alloc);

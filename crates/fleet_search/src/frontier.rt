@@ -1,7 +1,7 @@
 //! The search over states, that is cells at times: the nodes that were made, and those that are still to be expanded.
 //!
 //! An agent that comes to a cell may wait there for as long as nobody else comes. So of the times in a safe interval,
-//! between the occupancies of a cell by others, only the earliest counts (safe intervals: Phillips and Likhachev 2011).
+//! between the occupancies of a cell by others, only the earliest counts (safe intervals: Phillips & Likhachev 2011).
 
 ghost use Rattle.std.specs.Prelude.{◌≡◌, ◌+◌, ◌-◌, ◌<◌, ◌≤◌, ◌↔◌, ℕ, IsTrue, IfSome, IfNone, IfOk, OnOk, Some, None, [], length, get_or};
 ghost use Rattle.fleet_model.specs.Geometry.{place_of, moved};
@@ -68,13 +68,14 @@ impl Query<'_> {
     fn interval(&self, state: State) -> SafeInterval
         requires measured { IsMeasured self.now }
         requires free { IsUnoccupied self.now.reserved.now state.time state.cell }
-        ensures inside { IsInInterval (occupancies_on self.now state.cell) result.number state.time }
+        ensures inside { IsInInterval (occupancies_on self.now state.cell)
+            result.number state.time }
         ensures until { IsFreeUntil self.now state result.until }
     {
         interval_after(self.occupancies(state.cell), u32::from(state.time))
     }
 
-    /// Whether the step to the cell that begins at the time fits. Nobody is on the cell at its end.
+    /// Whether the step to the cell that begins at the time fits, if nobody is on the cell at its end.
     fn fits(&self, left: Expansion, cell: Cell, begin: u32) -> bool
         requires few { begin < 4294967295 }
         requires until { IsFreeUntil self.now left.state left.until }
@@ -97,10 +98,11 @@ impl Query<'_> {
         state.cell == self.goal && self.goal_free_from <= u32::from(state.time)
     }
 
-    /// The bucket for a state at this time, so far from the goal.
+    /// The bucket of a state at this time, from whose cell so many moves lead to the goal at least.
     fn bucket(&self, time: u32, heuristic: u32) -> u32
         requires horizon { time + heuristic ≤ MAX_HORIZON }
-        ensures { (cell : Cell) → heuristic ≡ heuristic_of self.now cell → IsBucket self.now (record { time = time; cell = cell }) result }
+        ensures { (cell : Cell) → heuristic ≡ heuristic_of self.now cell
+            → IsBucket self.now (record { time = time; cell = cell }) result }
     {
         if time + heuristic <= self.goal_free_from {
             heuristic
@@ -229,7 +231,7 @@ impl Frontier {
         Ok(())
     }
 
-    /// Takes the node off the bucket that was put on it last, and answers its place.
+    /// Takes off the bucket the node that was put there last, and answers its place.
     #[inline(always)]
     fn take(&mut self, bucket: u32) -> Option<u32>
         ensures some { IfSome result (IsTaken self.old self.new bucket) }
@@ -241,7 +243,8 @@ impl Frontier {
     /// Forgets all nodes.
     fn clear(&mut self)
         ensures nodes { self.new.nodes ≡ [] }
-        ensures labels { (cell : ℕ) (interval : ℕ) → earliest_in self.new.labels cell interval ≡ None }
+        ensures labels { (cell : ℕ) (interval : ℕ)
+            → earliest_in self.new.labels cell interval ≡ None }
         ensures open_list { (k : ℕ) → bucket_of self.new.open_list k ≡ [] }
     {
         self.nodes.clear();
@@ -267,7 +270,8 @@ impl Frontier {
         requires interval { IsInInterval neighbour.now.occupancies.now interval (begin + 1) }
         requires neighbour { IsNeighbour query.now left.state.cell neighbour.now }
         ensures expands_on { OnOk result (ExpandsOn query.now bucket left self.old self.new) }
-        ensures found { OnOk result (IsFoundAt query.now self.new.nodes left.state neighbour.now.cell begin) }
+        ensures found { OnOk result
+            (IsFoundAt query.now self.new.nodes left.state neighbour.now.cell begin) }
     {
         if begin >= query.horizon {
             return Ok(());
@@ -311,7 +315,8 @@ impl Frontier {
         requires interval { interval ≤ length neighbour.now.occupancies.now }
         requires neighbour { IsNeighbour query.now left.state.cell neighbour.now }
         ensures expands_on { OnOk result (ExpandsOn query.now bucket left self.old self.new) }
-        ensures found { OnOk result (IsFoundIn query.now self.new.nodes left.state neighbour.now.cell interval) }
+        ensures found { OnOk result
+            (IsFoundIn query.now self.new.nodes left.state neighbour.now.cell interval) }
     {
         let from = u32::from(left.state.time) + 1;
         let Some(time) = earliest_within(neighbour.occupancies, interval, from) else {
@@ -335,7 +340,8 @@ impl Frontier {
         requires leaving { IsExpansion query.now bucket left self.old }
         requires neighbour { IsNeighbour query.now left.state.cell neighbour.now }
         ensures expands_on { OnOk result (ExpandsOn query.now bucket left self.old self.new) }
-        ensures found { OnOk result (IsFoundFrom query.now self.new.nodes left.state neighbour.now.cell) }
+        ensures found { OnOk result
+            (IsFoundFrom query.now self.new.nodes left.state neighbour.now.cell) }
     {
         if neighbour.occupancies.is_empty() {
             return self.successor_in(query, bucket, left, neighbour, 0);
@@ -360,7 +366,8 @@ impl Frontier {
     ) -> Result<(), OutOfMemory>
         requires leaving { IsExpansion query.now bucket left self.old }
         ensures expands_on { OnOk result (ExpandsOn query.now bucket left self.old self.new) }
-        ensures found { OnOk result ((c : Cell) → place_of c ≡ moved (place_of left.state.cell) dir → IsFoundFrom query.now self.new.nodes left.state c) }
+        ensures found { OnOk result ((c : Cell) → place_of c ≡ moved (place_of left.state.cell) dir
+            → IsFoundFrom query.now self.new.nodes left.state c) }
     {
         match query.grid.neighbour(left.state.cell, dir) {
             None => Ok(()),
@@ -423,8 +430,8 @@ impl Frontier {
         Ok(())
     }
 
-    /// Expands the nodes of the bucket, the one that was put in last first, until one is at the goal for good, a node
-    /// was added, or the bucket is empty.
+    /// Expands the nodes of the bucket, the one that was put there last first, until one is at the goal and may stay, a
+    /// node was added, or the bucket is empty.
     pub fn expand_bucket(&mut self, query: &Query, bucket: u32) -> Result<BucketEnd, OutOfMemory>
         requires horizon { query.now.horizon ≤ MAX_HORIZON }
         requires frontier { IsFrontierOf query.now bucket None self.old }

@@ -22,8 +22,10 @@ pub fn is_in_interval(occupancies: &[Occupancy], interval: usize, time: u32) -> 
 fn past_occupancy(occupancies: &[Occupancy], interval: usize, from: u32) -> Option<u32>
     requires bound { interval ≤ length occupancies.now }
     ensures later { IfSome result (λ t. from ≤ t) }
-    ensures past { IfSome result (λ t. 1 ≤ interval → (occupancy_at occupancies.now (interval - 1)).until < t) }
-    ensures first { IfSome result (λ t. (s : ℕ) → from ≤ s → IsInInterval occupancies.now interval s → t ≤ s) }
+    ensures past { IfSome result (λ t. 1 ≤ interval
+        → (occupancy_at occupancies.now (interval - 1)).until < t) }
+    ensures first { IfSome result (λ t. (s : ℕ) → from ≤ s
+        → IsInInterval occupancies.now interval s → t ≤ s) }
     ensures none { IfNone result ((s : ℕ) → IsInInterval occupancies.now interval s → ⊥) }
 {
     if interval == 0 {
@@ -41,7 +43,8 @@ pub fn earliest_within(occupancies: &[Occupancy], interval: usize, from: u32) ->
     requires order { AreSuccessive occupancies.now }
     requires bound { interval ≤ length occupancies.now }
     ensures some { IfSome result (IsEarliestWithin occupancies.now interval from) }
-    ensures none { IfNone result ((s : ℕ) → from ≤ s → IsInInterval occupancies.now interval s → ⊥) }
+    ensures none { IfNone result ((s : ℕ) → from ≤ s
+        → IsInInterval occupancies.now interval s → ⊥) }
 {
     let Some(time) = past_occupancy(occupancies, interval, from) else {
         return None;
@@ -62,7 +65,8 @@ pub fn begins_after(occupancies: &[Occupancy], interval: usize, time: u32) -> bo
     time < occupancies[interval - 1].from
 }
 
-/// A safe interval of a cell: how many occupancies there are before it, and when the next one begins.
+/// A safe interval of a cell: how many occupancies there are before it, and when the next one begins (`u32::MAX` if none
+/// does).
 #[derive(Clone, Copy)]
 pub struct SafeInterval {
     pub number: usize,

@@ -8,7 +8,7 @@ use fleet_model::OutOfMemory;
 use fleet_table::Table;
 use std::alloc::Global;
 
-/// The earliest time at which the search of this number comes to a safe interval.
+/// The earliest time, in steps, at which the search of this number comes to a safe interval.
 #[derive(Clone, Copy)]
 pub struct Label {
     pub search: u16,
@@ -18,8 +18,8 @@ pub struct Label {
 /// No search has come to the interval.
 const NONE: Label = Label { search: 0, time: 0 };
 
-/// For each safe interval of each cell the earliest time of the latest search there. Labels of earlier searches stay in
-/// the table, where their numbers tell them apart.
+/// For each safe interval of each cell the earliest time at which the latest search has come there. Labels of earlier
+/// searches stay in the table, where their numbers tell them apart.
 #[derive(Drop)]
 pub struct Labels {
     pub alloc: Global,
@@ -101,7 +101,8 @@ impl Labels {
         requires labels { AreLabels self.old }
         requires few { interval < 4294967295 }
         ensures labels { OnOk result (AreLabels self.new) }
-        ensures set { OnOk result (IsLabelSet (earliest_in self.old) (earliest_in self.new) cell interval time) }
+        ensures set { OnOk result
+            (IsLabelSet (earliest_in self.old) (earliest_in self.new) cell interval time) }
     {
         let search = self.search;
         let label = Label { search, time };
@@ -179,7 +180,8 @@ fn label_at(row: &[Label], place: usize) -> Label
 fn set_in(row: &mut Vec<Label>, place: usize, label: Label) -> Result<(), OutOfMemory>
     requires { place < 4294967295 }
     ensures set { OnOk result (get_or row.new.items place no_interval_label ≡ label) }
-    ensures others { OnOk result ((n : ℕ) → n ≢ place → get_or row.new.items n no_interval_label ≡ get_or row.old.items n no_interval_label) }
+    ensures others { OnOk result ((n : ℕ) → n ≢ place
+        → get_or row.new.items n no_interval_label ≡ get_or row.old.items n no_interval_label) }
 {
     if row.len() <= place {
         row.resize(place + 1, NONE)?;

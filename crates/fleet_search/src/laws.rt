@@ -12,7 +12,8 @@ ghost use Rattle.fleet_search.specs.Way.{Fits, FitTogether, AreConflictFree, Eac
 
 /// A path fits the reserved ones exactly if nobody stands on its first cell at time 0, and each of its steps fits.
 pub fn fits_by_steps()
-    ensures { (reserved : Plan) (path : List Cell) → Fits reserved path ↔ EachStepFits reserved path }
+    ensures { (reserved : Plan) (path : List Cell)
+        → Fits reserved path ↔ EachStepFits reserved path }
 {}
 
 /// Paths that each fit those before them are free of conflict.
@@ -22,13 +23,17 @@ pub fn planned_agent_by_agent()
 
 /// A plan that is made agent by agent is free of conflict.
 pub fn prioritised_plans_are_conflict_free()
-    ensures { (passable : Place → Bool) (tasks : List Task) (horizon : ℕ) (plan : Plan) → IsPrioritisedPlan passable tasks horizon (length tasks) plan → IsConflictFree passable tasks plan }
+    ensures { (passable : Place → Bool) (tasks : List Task) (horizon : ℕ) (plan : Plan)
+        → IsPrioritisedPlan passable tasks horizon (length tasks) plan
+        → IsConflictFree passable tasks plan }
 {}
 
 /// If one order alone is tried, it is that of the agents' numbers.
 pub fn one_order()
     ensures made { (passable : Place → Bool) (tasks : List Task) (horizon : ℕ) (plan : Plan)
-        → IsMadeInTries passable tasks horizon 1 plan → IsPrioritisedPlan passable tasks horizon (length tasks) plan }
+        → IsMadeInTries passable tasks horizon 1 plan
+        → IsPrioritisedPlan passable tasks horizon (length tasks) plan }
     ensures stuck { (passable : Place → Bool) (tasks : List Task) (horizon agent : ℕ)
-        → IsStuckInTries passable tasks horizon 1 agent → HasNoPathFor passable tasks horizon agent }
+        → IsStuckInTries passable tasks horizon 1 agent
+        → HasNoPathFor passable tasks horizon agent }
 {}

@@ -23,7 +23,7 @@ pub fn number_at(rows: &[Vec<u32>], cell: Cell) -> u32
     }
 }
 
-/// Writes the number at a place of the row. A refusal changes none.
+/// Writes the number at a place of the row. A refusal changes nothing.
 fn write(row: &mut Vec<u32>, place: usize, number: u32) -> Result<(), OutOfMemory>
     requires { place < 65536 }
     ensures here { OnOk result (get_or row.new.items place 0 ≡ number) }
@@ -37,7 +37,7 @@ fn write(row: &mut Vec<u32>, place: usize, number: u32) -> Result<(), OutOfMemor
     Ok(())
 }
 
-/// Gives the cell the number. A refusal changes none.
+/// Gives the cell the number. A refusal changes no number.
 pub fn set_number(
     alloc: Global,
     rows: &mut Vec<Vec<u32>>,
@@ -45,7 +45,8 @@ pub fn set_number(
     number: u32,
 ) -> Result<(), OutOfMemory>
     ensures ok { OnOk result (IsNumbered rows.old.items rows.new.items cell number) }
-    ensures err { OnErr result ((c : Cell) → number_in_rows rows.new.items c ≡ number_in_rows rows.old.items c) }
+    ensures err { OnErr result ((c : Cell)
+        → number_in_rows rows.new.items c ≡ number_in_rows rows.old.items c) }
 {
     let y = usize::from(cell.y);
     widen(alloc, rows, y)?;

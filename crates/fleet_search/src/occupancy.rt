@@ -19,7 +19,8 @@ pub struct Occupancy {
 /// Whether all of the occupancies have begun by the time.
 fn all_started_by(occupancies: &[Occupancy], time: u32) -> bool
     requires { AreInOrder occupancies.now }
-    ensures { IsTrue result → (i : ℕ) (d : Occupancy) → i < length occupancies.now → (get_or occupancies.now i d).from ≤ time }
+    ensures { IsTrue result → (i : ℕ) (d : Occupancy) → i < length occupancies.now
+        → (get_or occupancies.now i d).from ≤ time }
 {
     match occupancies.last() {
         None => true,
@@ -30,7 +31,8 @@ fn all_started_by(occupancies: &[Occupancy], time: u32) -> bool
 /// How many of the occupancies have begun by the time.
 pub fn started_by(occupancies: &[Occupancy], time: u32) -> usize
     requires { AreInOrder occupancies.now }
-    ensures point { IsPartitionPoint (λ s. s.from ≤ time) (λ s. time < s.from) occupancies.now result }
+    ensures point { IsPartitionPoint (λ s. s.from ≤ time) (λ s. time < s.from)
+        occupancies.now result }
     ensures bound { result ≤ length occupancies.now }
 {
     // On a busy cell most occupancies are over, which the last one shows.
@@ -53,7 +55,8 @@ pub fn place(occupancies: &mut Vec<Occupancy>, occupancy: Occupancy) -> Result<(
 
 /// Takes the occupancies of the agent out of all lists.
 pub fn remove_from(lists: &mut Vec<Vec<Occupancy>>, agent: usize)
-    ensures taken { (k : ℕ) → get_or (map (λ v. v.items) lists.new.items) k [] ≡ without agent (get_or (map (λ v. v.items) lists.old.items) k []) }
+    ensures taken { (k : ℕ) → get_or (map (λ v. v.items) lists.new.items) k []
+        ≡ without agent (get_or (map (λ v. v.items) lists.old.items) k []) }
     ensures len { length lists.new.items ≡ length lists.old.items }
 {
     for occupancies in lists.iter_mut() {

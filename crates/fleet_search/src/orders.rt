@@ -18,7 +18,7 @@ use fleet_plan::{Checked, Path, Plan, PlanFault, check};
 use fleet_scen::Instance;
 use std::alloc::Global;
 
-/// The problem: a path for each agent of the instance on the map, which arrives by the horizon.
+/// The problem: a path for each agent of the instance on the map, which arrives by the horizon, a time in steps.
 #[derive(Drop)]
 struct Problem<'a> {
     alloc: Global,
@@ -27,7 +27,7 @@ struct Problem<'a> {
     horizon: u16,
 }
 
-/// The tables of a search, which serve one after another.
+/// The tables of a search, which one search after another uses.
 #[derive(Drop)]
 struct Tables<'g> {
     distances: Distances<'g>,
@@ -93,7 +93,8 @@ fn renew_path(
     requires fits { Fits reserved.old old.now }
     requires tables { AreTables problem.now tables.old }
     ensures tables { OnOk result (AreTables problem.now tables.new) }
-    ensures added { OnOk result (IsPathAdded problem.now agent problem.now.horizon reserved.old reserved.new true) }
+    ensures added { OnOk result
+        (IsPathAdded problem.now agent problem.now.horizon reserved.old reserved.new true) }
 {
     let steps = old.steps();
     if steps > 0 {
@@ -114,10 +115,12 @@ fn add_path_again(
     tables: &mut Tables<'_>,
 ) -> Result<bool, OutOfMemory>
     requires agent { agent < length problem.now.instance.now }
-    requires old { number < length olds.now → IsOldPath problem.now agent (get_or olds.now number []) }
+    requires old { number < length olds.now
+        → IsOldPath problem.now agent (get_or olds.now number []) }
     requires tables { AreTables problem.now tables.old }
     ensures tables { OnOk result (AreTables problem.now tables.new) }
-    ensures added { IfOk result (IsPathAdded problem.now agent problem.now.horizon reserved.old reserved.new) }
+    ensures added { IfOk result
+        (IsPathAdded problem.now agent problem.now.horizon reserved.old reserved.new) }
 {
     if number < olds.len() {
         let old = &olds[number];
@@ -168,7 +171,8 @@ fn plan_in_order(
     })
 }
 
-/// The same, past no path yet. Answers whether each agent has a path.
+/// Reserves these paths, if none is reserved yet: all, or those before the first agent that is left without one. Answers
+/// whether each agent has a path.
 fn reserve_in_order(
     problem: &Problem<'_>,
     order: &[u16],
@@ -208,7 +212,7 @@ fn rising(alloc: Global, agents: u16) -> Result<Vec<u16>, OutOfMemory>
     Ok(order)
 }
 
-/// Has the agent at the place come first; the others follow as they did.
+/// Moves the agent at the place to the front; the others follow as they did.
 fn raise(order: &mut Vec<u16>, place: usize) -> Result<(), OutOfMemory>
     requires { place < length order.old.items }
     ensures { OnOk result (order.new.items ≡ to_front order.old.items place) }
@@ -257,9 +261,11 @@ fn by_number(
 
 /// A plan whose paths are each earliest against those before in one of the first orders.
 fn plan_in_turns(problem: &Problem<'_>, tries: u32) -> Result<Plan, PlanStop>
-    ensures made { IfOk result (IsMadeInTries (is_passable problem.now.grid.now) problem.now.instance.now problem.now.horizon tries) }
+    ensures made { IfOk result (IsMadeInTries (is_passable problem.now.grid.now)
+        problem.now.instance.now problem.now.horizon tries) }
     ensures no_path { IfErr result (λ e. (agent : ℕ) → e ≡ PlanStop.NoPath agent
-        → IsStuckInTries (is_passable problem.now.grid.now) problem.now.instance.now problem.now.horizon tries agent) }
+        → IsStuckInTries (is_passable problem.now.grid.now) problem.now.instance.now
+        problem.now.horizon tries agent) }
 {
     let mut tables = Tables {
         distances: Distances::new(problem.alloc, problem.grid)?,
@@ -279,9 +285,11 @@ fn plan_from(
     requires order { order.old.items ≡ rising (length problem.now.instance.now) }
     requires some { 1 ≤ length problem.now.instance.now }
     requires tables { AreTables problem.now tables.old }
-    ensures made { IfOk result (IsMadeInTries (is_passable problem.now.grid.now) problem.now.instance.now problem.now.horizon tries) }
+    ensures made { IfOk result (IsMadeInTries (is_passable problem.now.grid.now)
+        problem.now.instance.now problem.now.horizon tries) }
     ensures no_path { IfErr result (λ e. (agent : ℕ) → e ≡ PlanStop.NoPath agent
-        → IsStuckInTries (is_passable problem.now.grid.now) problem.now.instance.now problem.now.horizon tries agent) }
+        → IsStuckInTries (is_passable problem.now.grid.now) problem.now.instance.now
+        problem.now.horizon tries agent) }
 {
     let mut kept = Vec::new(problem.alloc);
     for failed in 0..tries.max(1) {
@@ -301,7 +309,7 @@ fn plan_from(
     unreachable!()
 }
 
-/// Whether no try follows the one that comes after so many, which left the agent at the place without a path: an agent
+/// Whether no try follows the one after so many failed ones, which left the agent at the place without a path: an agent
 /// that is first already finds no path in any later try.
 fn is_last_try(place: usize, failed: u32, tries: u32) -> bool
     requires { failed < max tries 1 }
@@ -315,7 +323,8 @@ fn is_last_try(place: usize, failed: u32, tries: u32) -> bool
 fn plan_by_number(problem: &Problem<'_>, order: &[u16], paths: Vec<Path>) -> Result<Plan, PlanStop>
     requires order { IsOrderOf problem.now order.now }
     requires paths { length paths.items ≡ length order.now }
-    ensures plan { IfOk result (λ plan. (length plan ≡ length problem.now.instance.now) × (paths_by order.now plan ≡ paths.items)) }
+    ensures plan { IfOk result (λ plan. (length plan ≡ length problem.now.instance.now)
+        × (paths_by order.now plan ≡ paths.items)) }
     ensures memory { IfErr result (λ e. e ≡ PlanStop.OutOfMemory) }
 {
     // An instance has 1 to 1,024 agents.
@@ -326,12 +335,13 @@ fn plan_by_number(problem: &Problem<'_>, order: &[u16], paths: Vec<Path>) -> Res
     }
 }
 
-/// Plans agent by agent in up to so many orders, and answers the first plan that is found. The first order is that of
-/// the agents' numbers; after an order in which an agent is left without a path that agent is planned first, and the
-/// others after it as before. In the order that made the plan each path is earliest past those of the agents before it;
-/// the plan has the agents by their numbers. One order is tried in any case.
+/// Plans agent by agent in up to `tries` orders, and answers the first plan that is found (each order as Silver 2005).
+/// The first order is that of the agents' numbers; after an order in which an agent is left without a path that agent
+/// is planned first, and the others after it as before. In the order that made the plan each path is earliest past
+/// those of the agents before it, and arrives by the horizon, a time in steps; the plan has the agents by their
+/// numbers. One order is tried in any case.
 ///
-/// Errors: `NoPath` with the first agent that is left without a path in the last of so many orders.
+/// Errors: `NoPath` with the first agent that is left without a path in the last of these orders; `OutOfMemory`.
 pub fn plan_in_orders<'g>(
     alloc: Global,
     grid: &'g Grid,
@@ -339,11 +349,14 @@ pub fn plan_in_orders<'g>(
     horizon: u16,
     tries: u32,
 ) -> Result<Checked<'g>, PlanStop>
-    ensures made { IfOk result (λ checked. IsMadeInTries (is_passable grid.now) instance.now horizon tries checked.plan) }
-    ensures free { IfOk result (λ checked. IsConflictFree (is_passable grid.now) instance.now checked.plan) }
+    ensures made { IfOk result (λ checked.
+        IsMadeInTries (is_passable grid.now) instance.now horizon tries checked.plan) }
+    ensures free { IfOk result (λ checked.
+        IsConflictFree (is_passable grid.now) instance.now checked.plan) }
     ensures grid { IfOk result (λ checked. checked.grid ≡ grid.now) }
     ensures instance { IfOk result (λ checked. checked.instance ≡ instance.now) }
-    ensures no_path { IfErr result (λ e. (agent : ℕ) → e ≡ PlanStop.NoPath agent → IsStuckInTries (is_passable grid.now) instance.now horizon tries agent) }
+    ensures no_path { IfErr result (λ e. (agent : ℕ) → e ≡ PlanStop.NoPath agent
+        → IsStuckInTries (is_passable grid.now) instance.now horizon tries agent) }
 {
     let problem = Problem {
         alloc,

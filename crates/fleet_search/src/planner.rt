@@ -16,18 +16,22 @@ use std::alloc::Global;
 /// it (Silver 2005). The starts of later agents are not kept free for them, and another order of agents may find a plan
 /// where this one finds none.
 ///
-/// Errors: `NoPath` with the first agent that is left without a path that arrives by the horizon.
+/// Errors: `NoPath` with the first agent that is left without a path that arrives by the horizon, a time in steps;
+/// `OutOfMemory`.
 pub fn plan<'g>(
     alloc: Global,
     grid: &'g Grid,
     instance: &'g Instance,
     horizon: u16,
 ) -> Result<Checked<'g>, PlanStop>
-    ensures made { IfOk result (λ checked. IsPrioritisedPlan (is_passable grid.now) instance.now horizon (length instance.now) checked.plan) }
-    ensures free { IfOk result (λ checked. IsConflictFree (is_passable grid.now) instance.now checked.plan) }
+    ensures made { IfOk result (λ checked. IsPrioritisedPlan (is_passable grid.now) instance.now
+        horizon (length instance.now) checked.plan) }
+    ensures free { IfOk result (λ checked.
+        IsConflictFree (is_passable grid.now) instance.now checked.plan) }
     ensures grid { IfOk result (λ checked. checked.grid ≡ grid.now) }
     ensures instance { IfOk result (λ checked. checked.instance ≡ instance.now) }
-    ensures no_path { IfErr result (λ e. (agent : ℕ) → e ≡ PlanStop.NoPath agent → HasNoPathFor (is_passable grid.now) instance.now horizon agent) }
+    ensures no_path { IfErr result (λ e. (agent : ℕ) → e ≡ PlanStop.NoPath agent
+        → HasNoPathFor (is_passable grid.now) instance.now horizon agent) }
 {
     plan_in_orders(alloc, grid, instance, horizon, 1)
 }

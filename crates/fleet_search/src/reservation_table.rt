@@ -80,7 +80,8 @@ impl ReservationTable {
     fn add(&mut self, cell: Cell, occupancy: Occupancy) -> Result<(), OutOfMemory>
         requires { AreInOrder (occupancies_of self.old cell) }
         ensures ok { OnOk result (IsAdded self.old self.new cell occupancy) }
-        ensures err { OnErr result ((c : Cell) → occupancies_of self.new c ≡ occupancies_of self.old c) }
+        ensures err { OnErr result ((c : Cell)
+            → occupancies_of self.new c ≡ occupancies_of self.old c) }
     {
         let index = self.list_place(cell)?;
         place(&mut self.lists[index], occupancy)
@@ -91,7 +92,8 @@ impl ReservationTable {
         requires occupancies { HaveOccupancies paths.now self.old }
         requires fits { Fits paths.now path.now }
         ensures ok { OnOk result (HaveOccupancies (joined paths.now path.now) self.new) }
-        ensures rest { (c : Cell) → without (length paths.now) (occupancies_of self.new c) ≡ occupancies_of self.old c }
+        ensures rest { (c : Cell) → without (length paths.now) (occupancies_of self.new c)
+            ≡ occupancies_of self.old c }
     {
         let agent = paths.len();
         let end = path.steps();
@@ -110,7 +112,8 @@ impl ReservationTable {
 
     /// Takes the occupancies of the agent out.
     fn remove_agent(&mut self, agent: usize)
-        ensures { (c : Cell) → occupancies_of self.new c ≡ without agent (occupancies_of self.old c) }
+        ensures { (c : Cell) → occupancies_of self.new c
+            ≡ without agent (occupancies_of self.old c) }
     {
         remove_from(&mut self.lists, agent);
     }

@@ -15,7 +15,8 @@ use fleet_plan::Path;
 use std::alloc::Global;
 use std::marker::Model;
 
-/// Paths that are free of conflict with one another. The agent that stands on a cell at a time is found at once.
+/// Paths that are free of conflict with one another (Silver 2005), with a table in which the agent that stands on a cell
+/// at a time is found by a binary search.
 #[derive(Drop)]
 pub struct Reservations {
     alloc: Global,
@@ -141,7 +142,7 @@ impl Reservations {
         !self.leads_back(time, from, to)
     }
 
-    /// Whether the path takes part in no conflict with the reserved ones.
+    /// Whether the path takes part in no conflict with the reserved ones. Takes no memory.
     pub fn fits(&self, path: &Path) -> bool
         ensures { IsTrue result ↔ Fits self.now path.now }
     {
@@ -188,7 +189,9 @@ impl Reservations {
         }
     }
 
-    /// Reserves one more path. A refusal changes nothing.
+    /// Reserves a copy of one more path, that of the agent whose number is the number of paths before.
+    ///
+    /// Errors: `OutOfMemory`, and then nothing has changed.
     pub fn reserve(&mut self, path: &Path) -> Result<(), OutOfMemory>
         requires { Fits self.old path.now }
         ensures ok { OnOk result (self.new ≡ self.old ++ path.now ∷ []) }

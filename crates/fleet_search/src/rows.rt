@@ -6,7 +6,7 @@ ghost use Rattle.fleet_search.specs.Rows.{lists_of, bucket_in, IsPut};
 use fleet_model::OutOfMemory;
 use std::alloc::Global;
 
-/// Makes room for the row of this number. No row is other than before, also where memory is refused.
+/// Makes room for the row of this key. No row changes, even if memory is refused.
 pub fn widen(alloc: Global, rows: &mut Vec<Vec<u32>>, key: usize) -> Result<(), OutOfMemory>
     requires { key < 4294967295 }
     ensures room { OnOk result (key < length rows.new.items) }
@@ -18,7 +18,7 @@ pub fn widen(alloc: Global, rows: &mut Vec<Vec<u32>>, key: usize) -> Result<(), 
     Ok(())
 }
 
-/// Puts the number last in the row. A refusal changes none.
+/// Puts the number last in the row. A refusal changes no row.
 pub fn put(
     alloc: Global,
     rows: &mut Vec<Vec<u32>>,
@@ -26,7 +26,8 @@ pub fn put(
     number: u32,
 ) -> Result<(), OutOfMemory>
     requires { key < 4294967295 }
-    ensures ok { OnOk result (IsPut (lists_of rows.old.items) (lists_of rows.new.items) key number) }
+    ensures ok { OnOk result
+        (IsPut (lists_of rows.old.items) (lists_of rows.new.items) key number) }
     ensures err { OnErr result ((k : ℕ) → bucket_in rows.new.items k ≡ bucket_in rows.old.items k) }
 {
     let key = key as usize;
@@ -37,7 +38,8 @@ pub fn put(
 
 /// Takes off the last number of the row, if it has one.
 pub fn take(rows: &mut Vec<Vec<u32>>, key: u32) -> Option<u32>
-    ensures some { IfSome result (λ m. bucket_in rows.old.items key ≡ bucket_in rows.new.items key ++ m ∷ []) }
+    ensures some { IfSome result (λ m. bucket_in rows.old.items key
+        ≡ bucket_in rows.new.items key ++ m ∷ []) }
     ensures none { IfNone result (bucket_in rows.new.items key ≡ []) }
     ensures others { (k : ℕ) → k ≢ key → bucket_in rows.new.items k ≡ bucket_in rows.old.items k }
     ensures kept { IfNone result (bucket_in rows.old.items key ≡ []) }
@@ -52,10 +54,10 @@ pub fn take(rows: &mut Vec<Vec<u32>>, key: u32) -> Option<u32>
     }
 }
 
-/// How many rows are kept from one search to the next.
+/// How many rows at most are kept from one search to the next.
 const KEPT: usize = 8192;
 
-/// Takes all numbers out of the rows. After a search that used many, most of them are let go.
+/// Takes all numbers out of the rows, and drops the rows after the first `KEPT`.
 pub fn clear(rows: &mut Vec<Vec<u32>>)
     ensures { (k : ℕ) → bucket_in rows.new.items k ≡ [] }
 {

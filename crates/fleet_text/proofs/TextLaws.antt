@@ -5,10 +5,10 @@ use Rattle.std.specs.List.{position_or_len, slice_split, onto_first}
 use Rattle.std.specs.Str.Lines.{strip_carriage_return}
 use Rattle.std.proofs.lemmas.List.Splits.{slice_split_first}
 use Rattle.std.proofs.lemmas.List.Quantifiers.{position-Some}
-use Rattle.std.proofs.lemmas.Bool.{cases_Bool, cases_eq, lt-ltb, le-ltb, ltb-true, ltb-false}
-use Rattle.std.proofs.lemmas.List.{drop_more, drop_all, get_or-drop, length-drop, length-take, length-take-le, length-map}
+use Rattle.std.proofs.lemmas.Bool.{cases_Bool, cases_eq, lt-ltb, ltb-true, ltb-false}
+use Rattle.std.proofs.lemmas.List.{drop_more, drop_all, get_or-drop, drop-drop, length-drop, length-take, length-take-le, length-map}
 use Rattle.std.proofs.lemmas.List.Sums.{sum_by-cons}
-use Rattle.fleet_text.specs.Text.{Bytes, is_lf, is_blank, is_word, ended_lines, lines, words, words_from_front, is_digit, digits_front, number_front, capped, number_after, number, small_only}
+use Rattle.fleet_text.specs.Text.{Bytes, is_lf, is_blank, is_word, ended_lines, lines, words, words_from_front, is_digit, digits_front, number_front, capped, number_after, number, small_only, small_number_front}
 
 one_more : (n : ℕ) → 1 + n ≡ suc n
 one_more n = omega arith
@@ -200,29 +200,38 @@ digit_goes most n (d ∷ rest) some e = rw e (cap_early most (10 * n + (d - 48))
 
 -- ---- the same of small numbers, where n is small as well
 
-pub small_at_end : (n : ℕ) (rest : Bytes) → n ≤ 65535 → length rest < 1 → Some (n, rest) ≡ small_only (digits_front n rest)
-unfolding digits_front
-small_at_end n [] few end = rw (lt-ltb n 65536 (omega arith)) refl
-small_at_end n (d ∷ rest) few end = absurd (omega arith)
-
-pub small_stays : (n : ℕ) (rest : Bytes) → n ≤ 65535 → 1 ≤ length rest → is_digit (get_or rest 0 0) ≡ false → Some (n, rest) ≡ small_only (digits_front n rest)
+small_stays : (n : ℕ) (rest : Bytes) → n ≤ 65535 → 1 ≤ length rest → is_digit (get_or rest 0 0) ≡ false → Some (n, rest) ≡ small_only (digits_front n rest)
 unfolding digits_front
 small_stays n [] few some e = absurd (omega arith)
 small_stays n (d ∷ rest) few some e = rw (e, lt-ltb n 65536 (omega arith)) refl
 
-pub digit_taken : (n : ℕ) (rest : Bytes) → 1 ≤ length rest → is_digit (get_or rest 0 0) ≡ true → digits_front (10 * n + (get_or rest 0 0 - 48)) (drop 1 rest) ≡ digits_front n rest
+digit_taken : (n : ℕ) (rest : Bytes) → 1 ≤ length rest → is_digit (get_or rest 0 0) ≡ true → digits_front (10 * n + (get_or rest 0 0 - 48)) (drop 1 rest) ≡ digits_front n rest
 unfolding digits_front
 digit_taken n [] some e = absurd (omega arith)
 digit_taken n (d ∷ rest) some e = rw e refl
 
--- no digit makes a number small that is too large
-pub stays_too_large : (n : ℕ) (rest : Bytes) → 65536 ≤ n → None ≡ small_only (digits_front n rest)
-unfolding digits_front
-stays_too_large n [] large = rw (le-ltb n 65536 large) refl
-stays_too_large n (d ∷ rest) large = elim (cases_Bool (is_digit d)) [
-  | inl t ↦ rw t (stays_too_large (10 * n + (d - 48)) rest (omega (arith, large)))
-  | inr t ↦ rw (t, le-ltb n 65536 large) refl
-]
+-- ---- the same by the places of the digits
+
+-- n is what the digit in place k stands for
+abbrev pub IsDigitAt : Bytes → ℕ → ℕ → Type 0
+IsDigitAt text k n = (is_digit (get_or text k 0) ≡ true) × (n ≡ get_or text k 0 - 48)
+
+front_of_rest : (text : Bytes) (k : ℕ) → get_or (drop k text) 0 0 ≡ get_or text k 0
+front_of_rest text k = get_or-drop k text 0 0 ∙ ap (λ (i : ℕ). get_or text i 0) (add-zero k)
+
+pub number_begins : (text : Bytes) (n : ℕ) → 1 ≤ length text → IsDigitAt text 0 n → small_number_front text ≡ small_only (digits_front n (drop 1 text))
+unfolding small_number_front
+number_begins text n some digit =
+    sym (ap (option_and_then small_only) (first_digit text some digit.0)) ∙ ap (λ (x : ℕ). small_only (digits_front x (drop 1 text))) (sym digit.1)
+
+pub number_goes_on : (text : Bytes) (k n d : ℕ) → k < length text → IsDigitAt text k d → small_only (digits_front n (drop k text)) ≡ small_only (digits_front (10 * n + d) (drop (k + 1) text))
+number_goes_on text k n d within digit =
+    let one = digit_taken n (drop k text) (omega (arith, within, length-drop k text)) (ap is_digit (front_of_rest text k) ∙ digit.0) in
+    ap small_only (sym one) ∙ rw (front_of_rest text k, drop-drop, digit.1) refl
+
+pub number_ends : (text : Bytes) (k n : ℕ) → n ≤ 65535 → k < length text → is_digit (get_or text k 0) ≡ false → small_only (digits_front n (drop k text)) ≡ Some (n, drop k text)
+number_ends text k n few within other =
+    sym (small_stays n (drop k text) few (omega (arith, within, length-drop k text)) (ap is_digit (front_of_rest text k) ∙ other))
 
 -- ---- a word spells the number in front if nothing follows it
 

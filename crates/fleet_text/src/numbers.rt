@@ -1,13 +1,14 @@
 //! The number that a word spells.
 
-ghost use Rattle.std.specs.Prelude.{◌≡◌, min, option_map};
-ghost use Rattle.fleet_text.specs.Text.{number_front, capped, number, small_number, small_number_front};
+ghost use Rattle.std.specs.Prelude.{◌≡◌, ◌-◌, ◌<◌, true, false, Some, IfSome, IfNone, min, option_map};
+ghost use Rattle.fleet_text.specs.Text.{is_digit, number_front, capped, number, small_number, small_number_front};
 
 /// What is answered for every number that is too large: the least number above 65,535.
 pub const TOO_LARGE: u32 = 65_536;
 
 /// The number in front of a text, and what follows its digits, however many they are. A number above `TOO_LARGE` is
 /// answered as `TOO_LARGE`; if no digit stands in front, there is none.
+#[inline(always)]
 fn number_front(text: &[u8]) -> Option<(u32, &[u8])>
     ensures { option_map (λ x. (x.0, x.1.now)) result
         ≡ option_map (capped TOO_LARGE) (number_front text.now) }
@@ -53,26 +54,64 @@ pub fn small_number_of(word: &[u8]) -> Option<u16>
 }
 
 /// The number in front of a text, if it is at most 65,535, and what follows its digits.
+#[inline(always)]
 pub fn small_number_front(text: &[u8]) -> Option<(u16, &[u8])>
     ensures { option_map (λ x. (x.0, x.1.now)) result ≡ small_number_front text.now }
 {
-    let [first, after @ ..] = text else {
+    match short_number_front(text) {
+        Some(found) => Some(found),
+        None => any_number_front(text),
+    }
+}
+
+/// The value of a digit.
+#[inline(always)]
+fn digit_of(byte: u8) -> Option<u32>
+    ensures some { IfSome result (λ n. (is_digit byte ≡ true) × (n ≡ byte - 48)) }
+    ensures few { IfSome result (λ n. n < 10) }
+    ensures none { IfNone result (is_digit byte ≡ false) }
+{
+    let value = u32::from(byte).wrapping_sub(u32::from(b'0'));
+    if value < 10 { Some(value) } else { None }
+}
+
+/// The number in front of a text, and what follows its digits, if it has one to four digits and the text five bytes or
+/// more. It looks at the text's length once, and not before each digit.
+#[inline(always)]
+fn short_number_front(text: &[u8]) -> Option<(u16, &[u8])>
+    ensures { IfSome result (λ x. small_number_front text.now ≡ Some (x.0, x.1.now)) }
+{
+    let [a, b, c, d, e, ..] = text else {
         return None;
     };
-    if !first.is_ascii_digit() {
+    let one = digit_of(*a)?;
+    let Some(b) = digit_of(*b) else {
+        return Some((one as u16, &text[1..]));
+    };
+    let two = 10 * one + b;
+    let Some(c) = digit_of(*c) else {
+        return Some((two as u16, &text[2..]));
+    };
+    let three = 10 * two + c;
+    let Some(d) = digit_of(*d) else {
+        return Some((three as u16, &text[3..]));
+    };
+    if e.is_ascii_digit() {
         return None;
     }
-    let mut number = u32::from(*first - b'0');
-    let mut rest = after;
-    while let [digit, after @ ..] = rest {
-        if !digit.is_ascii_digit() {
-            return Some((number as u16, rest));
-        }
-        number = 10 * number + u32::from(*digit - b'0');
-        if number >= TOO_LARGE {
-            return None;
-        }
-        rest = after;
+    Some(((10 * three + d) as u16, &text[4..]))
+}
+
+/// The same as `small_number_front`, a digit at a time.
+#[inline(always)]
+#[tactic(auto, unfolding(crate::specs::Text::small_number_front))]
+fn any_number_front(text: &[u8]) -> Option<(u16, &[u8])>
+    ensures { option_map (λ x. (x.0, x.1.now)) result ≡ small_number_front text.now }
+{
+    let (number, rest) = number_front(text)?;
+    if number < TOO_LARGE {
+        Some((number as u16, rest))
+    } else {
+        None
     }
-    Some((number as u16, rest))
 }

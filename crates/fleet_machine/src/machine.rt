@@ -1,10 +1,10 @@
 //! The agents of a program on their way, and one tick of all of them.
 
-ghost use Rattle.std.specs.Prelude.{◌≡◌, ◌≢◌, ◌<◌, ◌≤◌, ◌&&◌, ◌==◌, ℕ, Bool, true, false, length, set, replicate, Some, None, filter, is_none, IfOk, IfSome, IfNone, MatchOption};
+ghost use Rattle.std.specs.Prelude.{◌≡◌, ◌≢◌, ◌+◌, ◌<◌, ◌≤◌, ◌&&◌, ◌==◌, ℕ, Bool, true, false, length, set, replicate, Some, None, filter, is_none, option_map, IfOk, IfSome, IfNone, MatchOption};
 ghost use Rattle.std.specs.List.{list_any};
-ghost use Rattle.fleet_model.specs.Geometry.{place_of};
+ghost use Rattle.fleet_model.specs.Geometry.{place_of, stepped};
 ghost use Rattle.fleet_model.specs.Program.{moves, IsWellFormed};
-ghost use Rattle.fleet_model.specs.Machine.{opening, is_finished, is_ready, is_met, tick, moved_in, is_ready_held, standing_at, count_at, indices};
+ghost use Rattle.fleet_model.specs.Machine.{opening, is_finished, next_action, is_ready, is_met, tick, moved_in, is_ready_held, standing_at, count_at, indices};
 ghost use Rattle.fleet_model.specs.Claims.{order_of};
 ghost use Rattle.fleet_machine.specs.AgentSet.{AreNoneFrom, IsNextFrom};
 ghost use Rattle.fleet_machine.specs.Confirmed.{all_but, AreSent, IsFirstUnsent};
@@ -16,7 +16,7 @@ ghost use Rattle.fleet_machine.specs.WaitLists.{home_of};
 
 use crate::agent_set::{AgentSet, next_flag};
 use crate::wait_lists::WaitLists;
-use fleet_model::{Await, Cell, MAX_AGENTS, Place, ProgramView, Standing, Step};
+use fleet_model::{Await, Cell, MAX_AGENTS, MAX_MOVES, Place, ProgramView, Standing, Step};
 use std::alloc::{AllocError, Global};
 use std::marker::Model;
 
@@ -71,6 +71,22 @@ fn at_start(cell: Cell) -> Standing
     Standing {
         place: Place::from(cell),
         count: 0,
+    }
+}
+
+/// Where an agent stands after a step, and how many actions it has finished then.
+#[tactic(auto, using(crate::proofs::Kept::near_place, crate::proofs::Kept::near_moved))]
+fn after_step(standing: Standing, step: Step) -> Standing
+    requires few { standing.count < MAX_MOVES }
+    requires near { IsNear standing }
+    ensures place { result.place ≡ stepped standing.place step }
+    ensures count { result.count ≡ standing.count + 1 }
+    ensures near { IsNear result }
+{
+    let Standing { place, count } = standing;
+    Standing {
+        place: place.after(step),
+        count: count + 1,
     }
 }
 
@@ -222,7 +238,20 @@ impl Machine {
         awaited.count <= self.agent(awaited.agent).count
     }
 
+    /// The step of the next action of agent `i`, which has one.
+    fn next_step<P: ProgramView>(&self, program: &P, i: u16) -> Step
+        requires well_formed { IsWellFormed (P.program program.now) }
+        requires agent { i < length (P.program program.now) }
+        requires standing { i < length self.now.configuration }
+        requires left { count_at self.now.configuration i < moves (P.program program.now) i }
+        ensures { option_map (λ a. a.step)
+            (next_action (P.program program.now) self.now.configuration i) ≡ Some result }
+    {
+        program.step(i, self.agent(i).count + 1)
+    }
+
     /// The step of the next action of agent `i`, if it is ready.
+    #[tactic(auto, using(crate::proofs::Advanced::left_if_ready))]
     pub fn order<P: ProgramView>(&self, program: &P, i: u16) -> Option<Step>
         requires runs { Runs (P.program program.now) self.now }
         requires agent { i < length (P.program program.now) }
@@ -231,7 +260,7 @@ impl Machine {
         if !self.is_ready(program, i) {
             return None;
         }
-        Some(program.step(i, self.agent(i).count + 1))
+        Some(self.next_step(program, i))
     }
 
     /// The first flagged agent that is not ready, if there is one.
@@ -438,12 +467,8 @@ impl Machine {
               set self.old.configuration i (after_next (P.program program.now) self.old.configuration i);
         } }
     {
-        let Standing { place, count } = self.agent(i);
-        let step = program.step(i, count + 1);
-        let finished = Standing {
-            place: place.after(step),
-            count: count + 1,
-        };
+        let step = self.next_step(program, i);
+        let finished = after_step(self.agent(i), step);
         self.set_agent(i, finished);
     }
 

@@ -3,7 +3,6 @@ use Rattle.std.proofs.Common.{◌≡◌, ◌<◌, ◌≤◌, ◌&&◌, not, ℕ,
 use Rattle.std.specs.List.{filter, list_any}
 use Rattle.std.proofs.lemmas.Bool.{cases_lt}
 use Rattle.std.proofs.lemmas.List.Elements.{filter-append}
-use Rattle.std.proofs.lemmas.List.{get_or_past, get_or-replicate, length-replicate}
 use Rattle.std.proofs.lemmas.List.FromFn.{fill_by_all}
 use Rattle.fleet_model.specs.declared.standing.Standing.{Standing}
 use Rattle.fleet_model.specs.Program.{Program, moves, actions_of}
@@ -56,34 +55,7 @@ pub record IsAdvanced (p : Program) (held : ℕ → Bool) (old rows : Configurat
   pub unflagged : (k : ℕ) → n ≤ k → flag_of moving k ≡ false
   pub held_is : ready_held ≡ list_any (λ k. is_ready p old k && held k) (indices n)
 
-pub none_advanced : (p : Program) (held : ℕ → Bool) (old : Configuration) (flags : ℕ) → length old ≡ length p → flags ≡ length p
-    → IsAdvanced p held old old (replicate flags false) 0 0 false
-none_advanced p held old flags long same = record {
-  done = λ k h. absurd (omega arith);
-  rest = λ k h. refl;
-  counted = refl;
-  few = omega arith;
-  long = long;
-  flags = length-replicate flags false ∙ same;
-  flagged = λ k h. absurd (omega arith);
-  unflagged = λ k h. none_flagged flags k;
-  held_is = refl;
-}
-  where
-    none_flagged : (n k : ℕ) → flag_of (replicate n false) k ≡ false
-    none_flagged n k =
-        elim (cases_lt k n) [
-          | Rattle.std.proofs.Common.inl lt ↦ get_or-replicate n k false false lt
-          | Rattle.std.proofs.Common.inr ge ↦ get_or_past (replicate n false) k false (omega (arith, length-replicate n false))
-        ]
-
 module _ (p : Program) (held : ℕ → Bool) (old rows : Configuration) (moving : List Bool) (i count : ℕ) (ready_held : Bool) (before : IsAdvanced p held old rows moving i count ready_held) where
-  pub left_if_ready_now : is_ready p old i ≡ true → count_at rows i < moves p i
-  left_if_ready_now ready =
-      let left = left_if_ready p old i ready in
-      let same : count_at rows i ≡ count_at old i = ap (λ (s : Standing). s.count) (before.rest i (omega arith)) in
-      omega arith
-
   pub one_moves : is_ready p old i ≡ true → held i ≡ false → i < length p
       → IsAdvanced p held old (set rows i (finished_one (standing_at rows i) (next_action p rows i))) (set moving i true) (i + 1) (count + 1) ready_held
   one_moves ready free agent =

@@ -1,5 +1,5 @@
 -- What an action keeps, and what it makes.
-use Rattle.std.proofs.Common.{◌≡◌, ◌<◌, ℕ, ◌+◌, Some, length, set, length-set, get_or-set_same, get_or-set_other, inl, inr, refl, arith}
+use Rattle.std.proofs.Common.{◌<◌, ℕ, ◌+◌, length, set, length-set, get_or-set_same, get_or-set_other, inl, inr, arith}
 use Rattle.std.proofs.lemmas.Bool.{cases_eq}
 use Rattle.std.proofs.lemmas.Int.{ints}
 use Rattle.fleet_model.specs.declared.limits.TheConstants.{MAX_MOVES}
@@ -8,11 +8,9 @@ use Rattle.fleet_model.specs.declared.geometry.Step.{Step}
 use Rattle.fleet_model.specs.declared.geometry.Dir.TheVariants.{North, East, South, West}
 use Rattle.fleet_model.specs.declared.geometry.Step.TheVariants.{Go, Dwell}
 use Rattle.fleet_model.specs.Geometry.{IsInReach, stepped}
-use Rattle.fleet_model.specs.Program.{Program, IsWellFormed, moves, step_of}
-use Rattle.fleet_model.specs.Machine.{Configuration, standing_at, count_at, next_action, finished_one}
-use Rattle.fleet_model.specs.declared.geometry.Place.{Place}
+use Rattle.fleet_model.specs.Program.{Program, IsWellFormed, moves}
+use Rattle.fleet_model.specs.Machine.{Configuration, count_at}
 use Rattle.fleet_machine.specs.Near.{IsNear, AreNear}
-use Rattle.fleet_machine.proofs.Ready.{has_next}
 
 pub near_moved : (s : Standing) (d : Step) → IsNear s → IsNear (record { place = stepped s.place d; count = s.count + 1 })
 near_moved s (Go North) h = record { west = omega (arith, ints, h.west); east = omega (arith, ints, h.east); north = omega (arith, ints, h.north); south = omega (arith, ints, h.south) }
@@ -25,13 +23,6 @@ near_moved s Dwell h = record { west = omega (arith, ints, h.west); east = omega
 module _ (p : Program) (c : Configuration) (i : ℕ) (left : count_at c i < moves p i) where
   pub few_if_left : IsWellFormed p → count_at c i < MAX_MOVES
   few_if_left ok = omega (arith, ok.moves_each i, left)
-
-  pub finished_is : (step : Step) (place : Place) → step_of p i (count_at c i + 1) ≡ Some step → place ≡ stepped (standing_at c i).place step
-      → ◌≡◌ {A = Standing} (record { place = place; count = count_at c i + 1 }) (finished_one (standing_at c i) (next_action p c i))
-  finished_is step place d e =
-      let n = has_next p c i left in
-      let same : n.0.step ≡ step = let t = n.1.step in cc in
-      rw (n.1.next, same, e) refl
 
 -- each step from its place leads to a place
 pub near_place : (s : Standing) → IsNear s → s.count < MAX_MOVES

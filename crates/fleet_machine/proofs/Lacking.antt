@@ -1,16 +1,12 @@
 -- Agents that lack a count.
-use Rattle.std.proofs.Common.{◌≡◌, ◌<◌, ◌≤◌, ◌+◌, ℕ, true, false, ◌&&◌, length, slice_get, option_map, take, Some, None, refl, sym, ap, ◌∙◌, inl, inr}
+use Rattle.std.proofs.Common.{◌≡◌, ◌<◌, ◌≤◌, ◌+◌, ℕ, true, false, ◌&&◌, length, slice_get, take, Some, None, refl, sym}
 use Rattle.std.specs.List.{list_all}
-use Rattle.std.proofs.lemmas.Bool.{cases_lt, lt-ltb, le-ltb}
-use Rattle.std.specs.Prelude.{if◌then◌else◌}
-use Rattle.fleet_model.specs.declared.geometry.Step.{Step}
-use Rattle.fleet_model.specs.declared.program.Action.{Action}
+use Rattle.std.proofs.lemmas.Bool.{lt-ltb, le-ltb}
 use Rattle.fleet_model.specs.declared.program.Await.{Await}
-use Rattle.fleet_model.specs.Program.{Program, moves, step_of, awaits_of}
-use Rattle.fleet_model.specs.Machine.{Configuration, count_at, next_action, is_met, is_ready}
-use Rattle.fleet_model.specs.Claims.{order_of}
+use Rattle.fleet_model.specs.Program.{Program, moves, awaits_of}
+use Rattle.fleet_model.specs.Machine.{Configuration, count_at, is_met, is_ready}
 use Rattle.fleet_machine.specs.Machine.{IsHome, is_left}
-use Rattle.fleet_machine.proofs.Ready.{has_next, no_action_left, ready_if_all, not_ready_if_unmet}
+use Rattle.fleet_machine.proofs.Ready.{no_action_left, ready_if_all, not_ready_if_unmet}
 
 module _ (p : Program) (c : Configuration) (i : ℕ) where
   pub none_left : moves p i ≤ count_at c i → is_ready p c i ≡ (is_left p c i && true)
@@ -33,26 +29,3 @@ module _ (p : Program) (c : Configuration) (i : ℕ) where
 
       pub home_if_lacked : IsHome p c i (Some w.agent)
       home_if_lacked = record { place = k; awaited = w; at = at; agent = refl; unmet = unmet }
-
--- ---- orders
-
-module _ (p : Program) (c : Configuration) (i : ℕ) where
-  pub left_if_ready : is_ready p c i ≡ true → count_at c i < moves p i
-  left_if_ready ready =
-      elim (cases_lt (count_at c i) (moves p i)) [
-        | inl lt ↦ lt
-        | inr le ↦ absurd (true_is_false (sym ready ∙ no_action_left p c i le))
-      ]
-    where
-      true_is_false : true ≡ false → ⊥
-      true_is_false e = absurd cc
-
-  pub no_order_if_unready : is_ready p c i ≡ false → None ≡ order_of p c i
-  no_order_if_unready unready = sym (ap (λ b. if b then option_map (λ (a : Action). a.step) (next_action p c i) else None) unready)
-
-  pub order_if_ready : is_ready p c i ≡ true → (s : Step) → step_of p i (count_at c i + 1) ≡ Some s → Some s ≡ order_of p c i
-  order_if_ready ready s is =
-      let n = has_next p c i (left_if_ready ready) in
-      let same : n.0.step ≡ s = let t = n.1.step in cc in
-      sym (ap (λ b. if b then option_map (λ (a : Action). a.step) (next_action p c i) else None) ready
-      ∙ (ap (option_map (λ (a : Action). a.step)) n.1.next ∙ ap (λ (x : Step). Some x) same))

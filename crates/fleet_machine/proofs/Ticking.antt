@@ -1,5 +1,5 @@
 -- The steps of a tick, one after another.
-use Rattle.std.proofs.Common.{◌≡◌, ◌<◌, ◌≤◌, ◌+◌, ◌||◌, ◌&&◌, not, ℕ, Bool, true, false, List, [], length, filter, slice_get, Option, Some, None, refl, ap, sym, ◌∙◌, subst, inl, inr, ◌⊎◌, arith, cond, add-one}
+use Rattle.std.proofs.Common.{◌≡◌, ◌<◌, ◌≤◌, ◌+◌, ◌||◌, ◌&&◌, not, ℕ, Bool, true, false, List, [], length, filter, set, slice_get, Option, Some, None, refl, ap, sym, ◌∙◌, subst, inl, inr, ◌⊎◌, arith, cond, add-one, add-zero}
 use Rattle.std.specs.Prelude.{nat_le}
 use Rattle.std.proofs.lemmas.Bool.{cases_lt, cases_Bool, lt-ltb, or_parts}
 use Rattle.std.proofs.lemmas.List.{get_or_past}
@@ -9,52 +9,107 @@ use Rattle.std.proofs.lemmas.Option.{slice_get_past, slice_get_within, get_or_fr
 use Rattle.fleet_model.specs.declared.program.Await.{Await}
 use Rattle.fleet_model.specs.declared.standing.Standing.{Standing}
 use Rattle.fleet_model.specs.Program.{Program, IsWellFormed, moves, actions_of, awaits_of}
-use Rattle.fleet_model.specs.Machine.{Configuration, standing_at, count_at, is_ready, is_moving, moved_in, tick, indices}
+use Rattle.fleet_model.specs.Machine.{Configuration, standing_at, count_at, is_ready, is_moving, is_ready_held, moved_in, tick, indices}
 use Rattle.fleet_model.proofs.Tick.{length-tick, standing_at_tick, other_stays}
 use Rattle.fleet_machine.specs.AgentSet.{AreNoneFrom, IsNextFrom}
 use Rattle.fleet_machine.specs.Looked.{ready_in, awaits_moving, awaiting_in, LooksAt}
 use Rattle.fleet_machine.specs.WaitLists.{home_of}
-use Rattle.fleet_machine.specs.Machine.{MachineState, Runs, HasRows, IsHome, IsJudged, Lacks, flag_of, is_left, moving_flags}
-use Rattle.fleet_machine.specs.Waking.{is_on, if_not_on, IsWoken, IsCarriedOut, IsAsBefore}
-use Rattle.fleet_machine.proofs.Advanced.{onward, filter_more, IsAdvanced, all_wait}
+use Rattle.fleet_machine.specs.Machine.{MachineState, Runs, HasRows, IsHome, IsJudged, Lacks, flag_of, is_left, after_next, moving_flags}
+use Rattle.fleet_machine.specs.Waking.{is_on, if_not_on, advanced_one, IsWoken, IsCarriedOut, IsAsBefore}
+use Rattle.fleet_machine.proofs.Advanced.{onward, filter_more, IsAdvanced, one_moves, one_held, all_wait, all_advanced, all_flagged}
 use Rattle.fleet_machine.proofs.Lasting.{ready_lasts}
 use Rattle.fleet_machine.proofs.Judging.{none_more_counted, one_more_counted, counted_le}
 use Rattle.fleet_machine.proofs.Ready.{no_action_left, has_next, not_ready_if_unmet, awaited_agent}
+
+or_yes : (a : Bool) → (a || true) ≡ true
+or_yes true = refl
+or_yes false = refl
+
+or_no : (a : Bool) → (a || false) ≡ a
+or_no true = refl
+or_no false = refl
 
 true_is_false : true ≡ false → ⊥
 true_is_false e = absurd cc
 
 -- ---- who is ready moves, or is held
 
-module _ (p : Program) (held : ℕ → Bool) (old : MachineState) (runs : Runs p old) (flags : List Bool) (same : flags ≡ old.ready)
-    (rows : Configuration) (moving : List Bool) (from count : ℕ) (ready_held : Bool) (before : IsAdvanced p held old.configuration rows moving from count ready_held) where
-  ready_is : (k : ℕ) → k < length p → is_ready p old.configuration k ≡ flag_of flags k
-  ready_is k agent = sym (runs.judged k agent).ready ∙ ap (λ fs. flag_of fs k) (sym same)
+-- the agents below n have moved, or stay for this tick, and so many of them were ready
+pub record IsAdvancedTo (p : Program) (held : ℕ → Bool) (old now : MachineState) (n moved : ℕ) (ready_held : Bool) (ready : ℕ) : Type 0 where
+  pub same : now ≡ record old { configuration = now.configuration; moving = now.moving }
+  pub done : IsAdvanced p held old.configuration now.configuration now.moving n moved ready_held
+  pub counted : ready ≡ length (filter (is_ready p old.configuration) (indices n))
+  pub within : n ≤ length p
 
-  pub ready_agent : (i : ℕ) → IsNextFrom flags from i → i < length p
-  ready_agent i next = omega (arith, next.agent, ap length same, runs.rows.ready)
+module _ (p : Program) (held : ℕ → Bool) (old : MachineState) (runs : Runs p old)
+    (now : MachineState) (from moved : ℕ) (ready_held : Bool) (ready : ℕ) (before : IsAdvancedTo p held old now from moved ready_held ready) where
+  ready_is : (k : ℕ) → k < length p → is_ready p old.configuration k ≡ flag_of now.ready k
+  ready_is k agent = sym (runs.judged k agent).ready ∙ ap (λ (m : MachineState). flag_of m.ready k) (sym before.same)
 
-  pub next_is_ready : (i : ℕ) → IsNextFrom flags from i → is_ready p old.configuration i ≡ true
-  next_is_ready i next = ready_is i (ready_agent i next) ∙ next.member
+  pub few_ready : ready ≤ from
+  few_ready = let few = counted_le (is_ready p old.configuration) from in omega (arith, before.counted)
 
-  pub up_to_ready : (i : ℕ) → IsNextFrom flags from i → IsAdvanced p held old.configuration rows moving i count ready_held
-  up_to_ready i next =
-      all_wait p held old.configuration rows moving from i count ready_held next.later
-      (λ k later below. let agent = ready_agent i next in ready_is k (omega arith) ∙ next.between k later below) before
+  -- up to the end
+  module _ (none : AreNoneFrom now.ready from) where
+    all_done : IsAdvanced p held old.configuration now.configuration now.moving (length p) moved ready_held
+    all_done =
+        all_wait p held old.configuration now.configuration now.moving from (length p) moved ready_held before.within (λ k later below. ready_is k below ∙ none k later) before.done
 
-  pub one_ready_more : (i : ℕ) → IsNextFrom flags from i → (n : ℕ) → n ≡ length (filter (is_ready p old.configuration) (indices from))
-      → n + 1 ≡ length (filter (is_ready p old.configuration) (indices (i + 1)))
-  one_ready_more i next n so_far =
-      one_more_counted (is_ready p old.configuration) i n (next_is_ready i next)
-      (none_more_counted (is_ready p old.configuration) from i n next.later
-      (λ k later below. let agent = ready_agent i next in ready_is k (omega arith) ∙ next.between k later below) so_far)
+    pub all_counted : moved ≡ moved_in p held old.configuration
+    all_counted = all_done.counted
 
-  pub all_ready : from ≤ length p → AreNoneFrom flags from → (n : ℕ) → n ≡ length (filter (is_ready p old.configuration) (indices from)) → n ≡ ready_in p old.configuration
-  all_ready within none n so_far =
-      none_more_counted (is_ready p old.configuration) from (length p) n within (λ k later below. ready_is k below ∙ none k later) so_far
+    pub any_held : ready_held ≡ is_ready_held p held old.configuration
+    any_held = all_done.held_is
 
-  pub up_to_end : from ≤ length p → AreNoneFrom flags from → IsAdvanced p held old.configuration rows moving (length p) count ready_held
-  up_to_end within none = all_wait p held old.configuration rows moving from (length p) count ready_held within (λ k later below. ready_is k below ∙ none k later) before
+    pub all_moved : (after : MachineState) → after ≡ record now { due = now.moving }
+        → after ≡ record old { configuration = tick p held old.configuration; moving = moving_flags p held old.configuration; due = moving_flags p held old.configuration }
+    all_moved after flagged =
+        flagged
+        ∙ (ap (λ (m : MachineState). record m { due = now.moving }) before.same
+        ∙ (ap (λ (rows : Configuration). record old { configuration = rows; moving = now.moving; due = now.moving }) (all_advanced p held old.configuration now.configuration now.moving moved ready_held all_done)
+        ∙ ap (λ (flags : List Bool). record old { configuration = tick p held old.configuration; moving = flags; due = flags }) (all_flagged p held old.configuration now.configuration now.moving moved ready_held all_done)))
+
+    pub all_ready : ready ≡ ready_in p old.configuration
+    all_ready =
+        none_more_counted (is_ready p old.configuration) from (length p) ready before.within (λ k later below. ready_is k below ∙ none k later) before.counted
+
+  -- the next one that is ready
+  module _ (i : ℕ) (next : IsNextFrom now.ready from i) where
+    ready_agent : i < length p
+    ready_agent = omega (arith, next.agent, ap (λ (m : MachineState). length m.ready) before.same, runs.rows.ready)
+
+    next_is_ready : is_ready p old.configuration i ≡ true
+    next_is_ready = ready_is i ready_agent ∙ next.member
+
+    waits : (k : ℕ) → from ≤ k → k < i → is_ready p old.configuration k ≡ false
+    waits k later below = let agent = ready_agent in ready_is k (omega arith) ∙ next.between k later below
+
+    here : IsAdvanced p held old.configuration now.configuration now.moving i moved ready_held
+    here = all_wait p held old.configuration now.configuration now.moving from i moved ready_held next.later waits before.done
+
+    pub one_passed : (is_held : Bool) → is_held ≡ held i → (after : MachineState) → after ≡ advanced_one p now i is_held
+        → (n : ℕ) (h : Bool) → n ≡ moved + cond is_held 0 1 → h ≡ (ready_held || is_held) → IsAdvancedTo p held old after (i + 1) n h (ready + 1)
+    one_passed is_held is after at n h count any = rw (at, count, any) (go is_held is)
+      where
+        more : ready + 1 ≡ length (filter (is_ready p old.configuration) (indices (i + 1)))
+        more = one_more_counted (is_ready p old.configuration) i ready next_is_ready (none_more_counted (is_ready p old.configuration) from i ready next.later waits before.counted)
+
+        go : (b : Bool) → b ≡ held i → IsAdvancedTo p held old (advanced_one p now i b) (i + 1) (moved + cond b 0 1) (ready_held || b) (ready + 1)
+        go true e = record {
+          same = before.same;
+          done = rw (add-zero, or_yes ready_held) (one_held p held old.configuration now.configuration now.moving i moved ready_held here next_is_ready (sym e));
+          counted = more;
+          within = omega (arith, ready_agent);
+        }
+        go false e = record {
+          same = ap (λ (m : MachineState). record m {
+            configuration = set now.configuration i (after_next p now.configuration i);
+            moving = set now.moving i true;
+          }) before.same;
+          done = rw (or_no ready_held) (one_moves p held old.configuration now.configuration now.moving i moved ready_held here next_is_ready (sym e) ready_agent);
+          counted = more;
+          within = omega (arith, ready_agent);
+        }
 
 -- ---- agents that lack a count
 

@@ -1,9 +1,9 @@
 -- Steps of a tick.
-use Rattle.std.specs.Prelude.{◌≡◌, ℕ, ◌+◌, ◌<◌, ◌≤◌, Bool, false, ◌||◌, length, set, Option, Some, None, if◌then◌else◌}
+use Rattle.std.specs.Prelude.{◌≡◌, ℕ, ◌+◌, ◌<◌, ◌≤◌, Bool, true, false, ◌||◌, length, set, Option, Some, None, if◌then◌else◌}
 use Rattle.fleet_model.specs.Program.{Program}
 use Rattle.fleet_model.specs.Machine.{is_ready, tick, moved_in}
 use Rattle.fleet_machine.specs.WaitLists.{home_of}
-use Rattle.fleet_machine.specs.Machine.{MachineState, Runs, flag_of, is_left, IsHome, moving_flags}
+use Rattle.fleet_machine.specs.Machine.{MachineState, Runs, flag_of, is_left, IsHome, after_next, moving_flags}
 use Rattle.fleet_machine.specs.Looked.{awaiting_in}
 
 -- the list is one of these
@@ -23,6 +23,11 @@ pub record IsWoken (lists : ℕ → Bool) (before after : MachineState) : Type 0
   pub homes : (i : ℕ) → home_of after.waiting.homes i ≡ if_not_on lists (home_of before.waiting.homes i)
   pub due : (i : ℕ) → i < length before.due
       → flag_of after.due i ≡ (flag_of before.due i || is_on lists (home_of before.waiting.homes i))
+
+-- agent i, which is ready, has finished its next action in the tick under way, unless it is held
+abbrev pub advanced_one : Program → MachineState → ℕ → (is_held : Bool) → MachineState
+advanced_one p m i true = m
+advanced_one p m i false = record m { configuration = set m.configuration i (after_next p m.configuration i); moving = set m.moving i true }
 
 -- the agents that a tick moves have moved, and are due, and nothing else is done yet of the tick in which these are
 -- held

@@ -1,22 +1,22 @@
 //! The agents of a program on their way, and one tick of all of them.
 
-ghost use Rattle.std.specs.Prelude.{◌≡◌, ◌≢◌, ◌<◌, ◌≤◌, ◌&&◌, ◌==◌, ℕ, Bool, true, false, length, set, replicate, Some, None, filter, is_none, IfOk, IfSome, IfNone, MatchOption};
+ghost use Rattle.std.specs.Prelude.{◌≡◌, ◌≢◌, ◌+◌, ◌-◌, ◌<◌, ◌≤◌, ◌&&◌, ◌||◌, ◌==◌, if◌then◌else◌, ℕ, Bool, true, false, length, set, replicate, Some, None, filter, is_none, option_map, IfOk, IfSome, IfNone, MatchOption};
 ghost use Rattle.std.specs.List.{list_any};
-ghost use Rattle.fleet_model.specs.Geometry.{place_of};
+ghost use Rattle.fleet_model.specs.Geometry.{place_of, stepped};
 ghost use Rattle.fleet_model.specs.Program.{moves, IsWellFormed};
-ghost use Rattle.fleet_model.specs.Machine.{opening, is_finished, is_ready, is_met, tick, moved_in, is_ready_held, standing_at, count_at, indices};
+ghost use Rattle.fleet_model.specs.Machine.{opening, is_finished, next_action, is_ready, is_met, tick, moved_in, is_ready_held, standing_at, count_at, indices};
 ghost use Rattle.fleet_model.specs.Claims.{order_of};
 ghost use Rattle.fleet_machine.specs.AgentSet.{AreNoneFrom, IsNextFrom};
 ghost use Rattle.fleet_machine.specs.Confirmed.{all_but, AreSent, IsFirstUnsent};
 ghost use Rattle.fleet_machine.specs.Looked.{ready_in, awaiting_in, LooksAt};
 ghost use Rattle.fleet_machine.specs.Near.{IsNear, AreNear};
 ghost use Rattle.fleet_machine.specs.Machine.{MachineState, Runs, HasRows, IsHome, IsJudged, is_left, after_next, moving_flags, flag_of};
-ghost use Rattle.fleet_machine.specs.Waking.{IsWoken, HasMoved, IsCarriedOut, IsPlaced, IsAsBefore};
+ghost use Rattle.fleet_machine.specs.Waking.{IsWoken, advanced_one, HasMoved, IsCarriedOut, IsPlaced, IsAsBefore};
 ghost use Rattle.fleet_machine.specs.WaitLists.{home_of};
 
 use crate::agent_set::{AgentSet, next_flag};
 use crate::wait_lists::WaitLists;
-use fleet_model::{Await, Cell, MAX_AGENTS, Place, ProgramView, Standing, Step};
+use fleet_model::{Await, Cell, MAX_AGENTS, MAX_MOVES, Place, ProgramView, Standing, Step};
 use std::alloc::{AllocError, Global};
 use std::marker::Model;
 
@@ -72,6 +72,33 @@ fn at_start(cell: Cell) -> Standing
         place: Place::from(cell),
         count: 0,
     }
+}
+
+/// Where an agent stands after a step, and how many actions it has finished then.
+#[tactic(auto, using(crate::proofs::Kept::near_place, crate::proofs::Kept::near_moved))]
+fn after_step(standing: Standing, step: Step) -> Standing
+    requires few { standing.count < MAX_MOVES }
+    requires near { IsNear standing }
+    ensures place { result.place ≡ stepped standing.place step }
+    ensures count { result.count ≡ standing.count + 1 }
+    ensures near { IsNear result }
+{
+    let Standing { place, count } = standing;
+    Standing {
+        place: place.after(step),
+        count: count + 1,
+    }
+}
+
+/// How many agents a tick looked at: those that were ready, and of those that it judged those that did not move.
+fn looked_in_tick(ready: u16, moved: u16, judged: u16) -> u16
+    requires ready { ready ≤ MAX_AGENTS }
+    requires judged { judged ≤ MAX_AGENTS }
+    requires moved { moved ≤ judged }
+    ensures { result ≡ ready + (judged - moved) }
+{
+    let woken = judged - moved;
+    ready + woken
 }
 
 /// The agents on their starts.
@@ -222,7 +249,20 @@ impl Machine {
         awaited.count <= self.agent(awaited.agent).count
     }
 
+    /// The step of the next action of agent `i`, which has one.
+    fn next_step<P: ProgramView>(&self, program: &P, i: u16) -> Step
+        requires well_formed { IsWellFormed (P.program program.now) }
+        requires agent { i < length (P.program program.now) }
+        requires standing { i < length self.now.configuration }
+        requires left { count_at self.now.configuration i < moves (P.program program.now) i }
+        ensures { option_map (λ a. a.step)
+            (next_action (P.program program.now) self.now.configuration i) ≡ Some result }
+    {
+        program.step(i, self.agent(i).count + 1)
+    }
+
     /// The step of the next action of agent `i`, if it is ready.
+    #[tactic(auto, using(crate::proofs::Advanced::left_if_ready))]
     pub fn order<P: ProgramView>(&self, program: &P, i: u16) -> Option<Step>
         requires runs { Runs (P.program program.now) self.now }
         requires agent { i < length (P.program program.now) }
@@ -231,7 +271,7 @@ impl Machine {
         if !self.is_ready(program, i) {
             return None;
         }
-        Some(program.step(i, self.agent(i).count + 1))
+        Some(self.next_step(program, i))
     }
 
     /// The first flagged agent that is not ready, if there is one.
@@ -438,12 +478,8 @@ impl Machine {
               set self.old.configuration i (after_next (P.program program.now) self.old.configuration i);
         } }
     {
-        let Standing { place, count } = self.agent(i);
-        let step = program.step(i, count + 1);
-        let finished = Standing {
-            place: place.after(step),
-            count: count + 1,
-        };
+        let step = self.next_step(program, i);
+        let finished = after_step(self.agent(i), step);
         self.set_agent(i, finished);
     }
 
@@ -470,7 +506,41 @@ impl Machine {
         self.moving.set(i, true);
     }
 
+    /// Agent `i`, which is ready, finishes its next action, unless it is held. Answers the outcome so far.
+    fn advance_one<P: ProgramView>(
+        &mut self,
+        program: &P,
+        i: u16,
+        is_held: bool,
+        before: Tick,
+    ) -> Tick
+        requires well_formed { IsWellFormed (P.program program.now) }
+        requires agent { i < length (P.program program.now) }
+        requires standing { i < length self.old.configuration }
+        requires left { count_at self.old.configuration i < moves (P.program program.now) i }
+        requires flag { i < length self.old.moving }
+        requires few { before.moved < MAX_AGENTS }
+        ensures after { self.new ≡ advanced_one (P.program program.now) self.old i is_held }
+        ensures moved { result.moved ≡ before.moved + (if is_held then 0 else 1) }
+        ensures held { result.ready_held ≡ (before.ready_held || is_held) }
+    {
+        let Tick { moved, ready_held } = before;
+        if is_held {
+            return Tick {
+                moved,
+                ready_held: true,
+            };
+        }
+        self.finish_action(program, i);
+        self.flag_moving(i);
+        Tick {
+            moved: moved + 1,
+            ready_held,
+        }
+    }
+
     /// Each agent that is ready and not held finishes an action, and is due. Answers also how many were ready.
+    #[tactic(auto, using(crate::proofs::Ticking::all_counted, crate::proofs::Ticking::any_held, crate::proofs::Ticking::all_ready, crate::proofs::Ticking::few_ready))]
     fn advance<P: ProgramView>(&mut self, program: &P, held: &[bool]) -> (Tick, u16)
         requires runs { Runs (P.program program.now) self.old }
         requires held { length held.now ≡ length (P.program program.now) }
@@ -486,23 +556,19 @@ impl Machine {
         ensures ready { result.1 ≡ ready_in (P.program program.now) self.old.configuration }
     {
         self.begin_tick();
-        let mut moved = 0;
+        let mut tick = Tick {
+            moved: 0,
+            ready_held: false,
+        };
         let mut ready = 0;
-        let mut ready_held = false;
         let mut from = 0;
         while let Some(i) = self.next_ready(from) {
-            if held[i as usize] {
-                ready_held = true;
-            } else {
-                self.finish_action(program, i);
-                self.flag_moving(i);
-                moved += 1;
-            }
+            tick = self.advance_one(program, i, held[i as usize], tick);
             ready += 1;
             from = i + 1;
         }
         self.flag_due();
-        (Tick { moved, ready_held }, ready)
+        (tick, ready)
     }
 
     /// So many agents more have been looked at.
@@ -526,6 +592,7 @@ impl Machine {
 
     /// One tick, in which the flagged agents are held. It looks at those that are ready, and at those in the list of an
     /// agent that it moves. An agent that moves was judged before the tick, and one that is ready and held stays ready.
+    #[tactic(auto, using(crate::proofs::Judging::counted_le, crate::proofs::Ticking::runs_looked, crate::proofs::Ticking::looked_at))]
     pub fn tick<P: ProgramView>(&mut self, program: &P, held: &[bool]) -> Tick
         requires runs { Runs (P.program program.now) self.old }
         requires held { length held.now ≡ length (P.program program.now) }
@@ -543,8 +610,8 @@ impl Machine {
             self.old.looked self.new.looked }
     {
         let (tick, ready) = self.advance(program, held);
-        let woken = self.settle(program) - tick.moved;
-        self.count_looked(ready + woken);
+        let judged = self.settle(program);
+        self.count_looked(looked_in_tick(ready, tick.moved, judged));
         tick
     }
 

@@ -1,10 +1,10 @@
 -- The occupancies of agents on cells, one after another.
-use Rattle.std.specs.Prelude.{◌≡◌, ◌≢◌, ℕ, ◌<◌, ◌≤◌, ◌⊎◌, ◌==◌, not, List, length, get_or, All}
+use Rattle.std.specs.Prelude.{◌≡◌, ◌≢◌, ℕ, ◌<◌, ◌≤◌, ◌⊎◌, ◌==◌, not, List, length, get_or}
 use Rattle.std.specs.List.{filter, insert}
 use Rattle.std.specs.List.Sorted.{IsNonDecreasingBy}
 use Rattle.fleet_model.specs.declared.geometry.Cell.{Cell}
 use Rattle.fleet_model.specs.declared.limits.TheConstants.{MAX_HORIZON}
-use Rattle.fleet_plan.specs.Plan.{Plan, IsPath, cell_of, steps}
+use Rattle.fleet_plan.specs.Plan.{Plan, cell_of}
 use Rattle.fleet_search.specs.declared.occupancy.Occupancy.{Occupancy}
 use Rattle.fleet_search.specs.declared.reservation_table.ReservationTable.{ReservationTable}
 use Rattle.fleet_search.specs.Numbers.{number_in_rows, list_of}
@@ -47,10 +47,8 @@ abbrev pub HaveOccupancies : Plan → ReservationTable → Type 0
 HaveOccupancies plan t = (c : Cell) → AreStays plan c (occupancies_of t c)
 
 -- each path fits those before it, and the occupancies of all stand in the reservation table
-pub record AreReserved (paths : Plan) (table : ReservationTable) (last : ℕ) : Type 0 where
+pub record AreReserved (paths : Plan) (table : ReservationTable) : Type 0 where
   pub together : FitTogether paths
-  pub all_paths : All IsPath paths
-  pub latest : last ≡ steps paths
   pub occupancies : HaveOccupancies paths table
 
 -- the occupancies begin one after another

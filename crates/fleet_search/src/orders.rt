@@ -1,6 +1,6 @@
 //! Plans made agent by agent in several orders: an agent that is left without a path comes first in the next one.
 
-ghost use Rattle.std.specs.Prelude.{◌≡◌, ◌+◌, ◌<◌, ◌≤◌, ◌⊎◌, ◌++◌, ◌∷◌, ℕ, [], true, false, length, get_or, max, IfOk, IfErr, OnOk, IsTrue};
+ghost use Rattle.std.specs.Prelude.{◌≡◌, ◌+◌, ◌<◌, ◌≤◌, ◌↔◌, ◌⊎◌, ◌++◌, ◌∷◌, ℕ, [], true, length, get_or, max, IfOk, IfErr, OnOk, IsTrue};
 ghost use Rattle.fleet_plan.specs.Plan.{IsConflictFree};
 ghost use Rattle.fleet_grid.specs.Ground.{is_passable};
 ghost use Rattle.fleet_search.specs.Way.{Fits};
@@ -313,8 +313,7 @@ fn plan_from(
 /// that is first already finds no path in any later try.
 fn is_last_try(place: usize, failed: u32, tries: u32) -> bool
     requires { failed < max tries 1 }
-    ensures yes { IsTrue result → (place ≡ 0) ⊎ (tries ≤ failed + 1) }
-    ensures no { result ≡ false → failed + 1 < tries }
+    ensures { IsTrue result ↔ ((place ≡ 0) ⊎ (tries ≤ failed + 1)) }
 {
     place == 0 || failed + 1 >= tries
 }

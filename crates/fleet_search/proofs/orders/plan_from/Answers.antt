@@ -1,4 +1,5 @@
-use Rattle.std.proofs.Common.{◌≡◌, ◌-◌, ◌<◌, ◌≤◌, length, drop, IsPermutation, sym, ap, ◌∙◌, subst, arith}
+use Rattle.std.proofs.Common.{◌≡◌, ◌+◌, ◌-◌, ◌<◌, ◌≤◌, length, drop, IsPermutation, inl, inr, sym, ap, ◌∙◌, subst, arith}
+use Rattle.std.proofs.lemmas.Bool.{cases_lt}
 use Rattle.std.proofs.lemmas.List.FromFn.{length-range_with_len}
 use Rattle.std.proofs.lemmas.List.Sorted.{IsPermutation-refl}
 use Rattle.std.proofs.lemmas.List.{get_or_default}
@@ -8,6 +9,7 @@ use Rattle.fleet_search.specs.Orders.{tasks_by, paths_by, rising, to_front, IsOr
 use Rattle.fleet_search.specs.InTurn.{IsPrioritisedPlan}
 use Rattle.fleet_search.proofs.InTurnLaws.{same_agent}
 use Rattle.fleet_search.proofs.KeptPaths.{none_made, made_after_raise}
+use Rattle.fleet_search.proofs.Occupants.{no_from_false}
 use Rattle.fleet_search.proofs.OrderLaws.{order_after-none, order_after-more, order-length, stuck_in_tries, stuck_within, order_with_raised}
 use Rattle.fleet_search.proofs.orders.plan_from.Goals as goal
 
@@ -43,7 +45,7 @@ returns-then-is_last_try-clause-no_path c = λ agent e.
     let few : c.loop-failed.failed ≤ c.args.tries - 1 = (let m = i.more in omega arith) in
     same_agent (IsStuckInTries passable tasks horizon c.args.tries) c.index-agent.result.now agent e
     (stuck_in_tries passable tasks horizon c.args.tries c.loop-failed.failed c.loop-failed.order.items c.len-place.result c.index-agent.result.now few i.each_once i.after stuck
-    inside (c.index-agent.ensures ∙ get_or_default c.loop-failed.order.items c.len-place.result c.index-agent.result.now 0 inside) (c.is_last_try.ensures.yes c.if-is_last_try.true))
+    inside (c.index-agent.ensures ∙ get_or_default c.loop-failed.order.items c.len-place.result c.index-agent.result.now 0 inside) (c.is_last_try.ensures.0 c.if-is_last_try.true))
 
 pub raise-requires : goal.raise-requires
 raise-requires c =
@@ -87,7 +89,10 @@ loop-failed-preserved c =
     let inside = stuck_within passable tasks horizon order c.len-place.result stuck in
     let next : c.raise.new.order.items ≡ to_front order c.len-place.result = c.in_ok-raise-in-Stuck.ensures in
     record {
-      more = (let m = c.is_last_try.ensures.no c.if-is_last_try.false in omega arith);
+      more = elim (cases_lt (c.loop-failed.failed + 1) c.args.tries) [
+        | inl less ↦ omega arith
+        | inr late ↦ absurd (no_from_false c.is_last_try.result c.if-is_last_try.false c.is_last_try.ensures (inr late))
+      ];
       each_once = subst (IsPermutation (rising (length tasks))) (sym next) (order_with_raised (length tasks) order c.len-place.result i.each_once inside);
       after = order_after-more passable tasks horizon c.loop-failed.failed c.len-place.result order c.raise.new.order.items i.after stuck next;
       tables = c.in_ok-paths.ensures.tables;

@@ -4,12 +4,12 @@ use Rattle.fleet_model.specs.declared.geometry.Cell.{Cell}
 use Rattle.fleet_plan.specs.Plan.{Plan}
 use Rattle.fleet_search.specs.declared.reservation_table.ReservationTable.{ReservationTable}
 use Rattle.fleet_search.specs.Way.{joined, Fits}
-use Rattle.fleet_search.specs.Occupancies.{AreReserved, AreStays, HaveOccupancies, occupancies_of}
+use Rattle.fleet_search.specs.Occupancies.{AreReserved, AreOccupanciesOn, HaveOccupancies, occupancies_of}
 use Rattle.fleet_search.proofs.OneByOne.{FitTogether-push}
 
 -- nobody was on the cell
-no_stays : (c : Cell) → AreStays [] c []
-no_stays c = record {
+none_on : (c : Cell) → AreOccupanciesOn [] c []
+none_on c = record {
   each = λ i l. absurd (omega arith);
   apart = λ i k l m. absurd (omega arith);
   all = λ t j on. let a = on.agent in absurd (omega arith);
@@ -18,7 +18,7 @@ no_stays c = record {
 pub reserved-none : (paths : Plan) (table : ReservationTable) → paths ≡ [] → ((c : Cell) → occupancies_of table c ≡ []) → AreReserved paths table
 reserved-none paths table e f = subst (λ z. AreReserved z table) (sym e) (record {
   together = λ i h. absurd (omega arith);
-  occupancies = λ c. subst (AreStays [] c) (sym (f c)) (no_stays c);
+  occupancies = λ c. subst (AreOccupanciesOn [] c) (sym (f c)) (none_on c);
 })
 
 -- the lists changed, and say what they said

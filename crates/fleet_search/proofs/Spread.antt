@@ -215,8 +215,8 @@ module _ (g : Ground) (labels : List Label) (search : ℕ) (start goal : Cell) (
     | inr s ↦ s ∙ at_left
   ]
 
-  closed-occupancies : (c : Cell) (n : ℕ) → IsClosed g labels search c n → IsClosed g labels' search c n
-  closed-occupancies c n h e nb on' = let w = h e nb on' in let f = falls e w.0 on' w.1 in let l = f.2 in let l' = w.2 in (f.0, f.1, (omega arith))
+  closed-stays : (c : Cell) (n : ℕ) → IsClosed g labels search c n → IsClosed g labels' search c n
+  closed-stays c n h e nb on' = let w = h e nb on' in let f = falls e w.0 on' w.1 in let l = f.2 in let l' = w.2 in (f.0, f.1, (omega arith))
 
   -- where the cell waits
   record IsPut (layer' next' : List Cell) : Type 0 where
@@ -246,7 +246,7 @@ module _ (g : Ground) (labels : List Label) (search : ℕ) (start goal : Cell) (
           let k : n ≡ d + 1 = same_Some n (d + 1) (sym e ∙ ap (label_in g labels' search) (sym s) ∙ here) in
           inr (subst (λ v. IsWaiting f_bound (v + manhattan c start) layer' next' (Some left) c) (sym k) (subst (λ v. IsWaiting f_bound (d + 1 + manhattan v start) layer' next' (Some left) v) s p.waits))
       | inr s ↦ elim (sp.closed c n h (sym s ∙ e)) [
-        | inl k ↦ inl (closed-occupancies c n k)
+        | inl k ↦ inl (closed-stays c n k)
         | inr w ↦ inr (elim w [
           | inl x ↦ inl (x.0, elim x.1 [ inl y ↦ inl (p.keeps c y) | inr y ↦ inr y ])
           | inr x ↦ inr (x.0, p.keeps_next c x.1)

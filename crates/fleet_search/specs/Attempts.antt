@@ -49,13 +49,13 @@ IsMadeAfterFirst problem order paths =
 
 -- paths of the agents, as they stand in the order, each the earliest against those before it: of all of them, or of
 -- those before one that is left without a path
-abbrev pub AreReserved : Problem → List ℕ → Plan → (all : Bool) → Type 0
-AreReserved problem order paths true = IsPrioritisedPlan (is_passable problem.grid.now) (tasks_by order problem.instance.now) problem.horizon (length order) paths
-AreReserved problem order paths false =
+abbrev pub AreReservedInOrder : Problem → List ℕ → Plan → (all : Bool) → Type 0
+AreReservedInOrder problem order paths true = IsPrioritisedPlan (is_passable problem.grid.now) (tasks_by order problem.instance.now) problem.horizon (length order) paths
+AreReservedInOrder problem order paths false =
     IsStuckInOrder (is_passable problem.grid.now) problem.instance.now problem.horizon order (length paths)
     × IsPrioritisedPlan (is_passable problem.grid.now) (tasks_by order problem.instance.now) problem.horizon (length paths) paths
 
 -- the paths of the outcome are such: of all agents if it is made, and else of those before one without a path
 abbrev pub IsAttempt : Problem → List ℕ → Attempt → Type 0
-IsAttempt problem order (Made paths) = AreReserved problem order paths.items true
-IsAttempt problem order (Stuck paths) = AreReserved problem order paths.items false
+IsAttempt problem order (Made paths) = AreReservedInOrder problem order paths.items true
+IsAttempt problem order (Stuck paths) = AreReservedInOrder problem order paths.items false

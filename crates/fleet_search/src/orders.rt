@@ -5,7 +5,7 @@ ghost use Rattle.fleet_plan.specs.Plan.{IsConflictFree};
 ghost use Rattle.fleet_grid.specs.Ground.{is_passable};
 ghost use Rattle.fleet_search.specs.Way.{Fits};
 ghost use Rattle.fleet_search.specs.Orders.{rising, to_front, paths_by, IsMadeInTries, IsStuckInTries};
-ghost use Rattle.fleet_search.specs.Attempts.{AreTables, ArePathsKept, IsPathAdded, IsMadeAfterFirst, IsOrderOf, AreReserved, IsAttempt, IsOldPath};
+ghost use Rattle.fleet_search.specs.Attempts.{AreTables, ArePathsKept, IsPathAdded, IsMadeAfterFirst, IsOrderOf, AreReservedInOrder, IsAttempt, IsOldPath};
 
 use crate::distances::Distances;
 use crate::earliest_path::earliest_over;
@@ -186,7 +186,7 @@ fn reserve_in_order(
     requires none { reserved.old ≡ [] }
     requires tables { AreTables problem.now tables.old }
     ensures tables { OnOk result (AreTables problem.now tables.new) }
-    ensures attempt { IfOk result (AreReserved problem.now order.now reserved.new) }
+    ensures attempt { IfOk result (AreReservedInOrder problem.now order.now reserved.new) }
 {
     if !add_path(problem, order[0], problem.horizon, reserved, tables)? {
         return Ok(false);

@@ -23,7 +23,7 @@ impl ReservationTable {
     ghost use Rattle.fleet_model.specs.declared.geometry.Cell.{Cell};
     ghost use Rattle.fleet_search.specs.Numbers.{number_in_rows};
     ghost use Rattle.fleet_search.specs.Way.{Fits, joined};
-    ghost use Rattle.fleet_search.specs.Occupancies.{AreInOrder, IsAdded, occupancies_of, without, HaveOccupancies};
+    ghost use Rattle.fleet_search.specs.Occupancies.{AreInOrder, IsOccupancyAdded, occupancies_of, without, HaveOccupancies};
 
     /// Nobody is anywhere. Takes no memory.
     pub fn new(alloc: Global) -> ReservationTable
@@ -79,7 +79,7 @@ impl ReservationTable {
     /// Adds the occupancy on the cell. A refusal changes no list.
     fn add(&mut self, cell: Cell, occupancy: Occupancy) -> Result<(), OutOfMemory>
         requires { AreInOrder (occupancies_of self.old cell) }
-        ensures ok { OnOk result (IsAdded self.old self.new cell occupancy) }
+        ensures ok { OnOk result (IsOccupancyAdded self.old self.new cell occupancy) }
         ensures err { OnErr result ((c : Cell)
             → occupancies_of self.new c ≡ occupancies_of self.old c) }
     {

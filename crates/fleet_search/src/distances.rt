@@ -1,14 +1,14 @@
 //! How far the cells of a map are from a goal, over passable cells.
 
-ghost use Rattle.std.specs.Prelude.{◌≡◌, ◌+◌, ◌<◌, ◌≤◌, ◌↔◌, ◌++◌, ◌∷◌, ◌⊎◌, ℕ, IsTrue, IfOk, OnOk, IfSome, IfNone, Some, None, [], length, get_or};
+ghost use Rattle.std.specs.Prelude.{◌≡◌, ◌+◌, ◌*◌, ◌<◌, ◌≤◌, ◌↔◌, ◌++◌, ◌∷◌, ◌⊎◌, ℕ, IsTrue, IfOk, OnOk, IfSome, IfNone, Some, None, [], length, get_or};
 ghost use Rattle.fleet_model.specs.Geometry.{place_of, moved};
 ghost use Rattle.fleet_model.specs.declared.geometry.Cell.{Cell};
-ghost use Rattle.fleet_model.specs.declared.limits.TheConstants.{MAX_HORIZON};
+ghost use Rattle.fleet_model.specs.declared.limits.TheConstants.{MAX_COORDINATE, MAX_HORIZON};
 ghost use Rattle.fleet_grid.specs.Ground.{IsGround, cell_index};
 ghost use Rattle.fleet_search.specs.Distance.{no_label, label_in, manhattan, least_moves, heuristic, AreDistances, IsOnGround, IsSpreadOf, IsLabelled, IsLabelledTowards, IsSameSearch, IsLabelNear, IsPutFrom, with_label, work_left};
 
 use fleet_grid::Grid;
-use fleet_model::{Cell, Dir, OutOfMemory};
+use fleet_model::{Cell, Dir, MAX_HORIZON, OutOfMemory};
 use std::alloc::Global;
 use std::marker::Model;
 use std::mem;
@@ -74,7 +74,7 @@ impl<'g> Model for Distances<'g> {
 #[tactic(auto, unfolding(crate::specs::Distance::manhattan))]
 fn manhattan(a: Cell, b: Cell) -> u32
     ensures value { result ≡ manhattan a b }
-    ensures limit { result ≤ 131070 }
+    ensures limit { result ≤ 2 * MAX_COORDINATE }
 {
     u32::from(a.x.abs_diff(b.x)) + u32::from(a.y.abs_diff(b.y))
 }
@@ -393,7 +393,7 @@ impl<'g> Distances<'g> {
         requires { IsOnGround self.now.grid self.now.start }
         ensures { IsTrue result → (self.now.f_bound < MAX_HORIZON) }
     {
-        if self.layer.is_empty() || self.f_bound > u32::from(horizon.min(65534)) {
+        if self.layer.is_empty() || self.f_bound > u32::from(horizon).min(MAX_HORIZON - 1) {
             return false;
         }
         match self.label(self.start) {

@@ -8,16 +8,16 @@ use Rattle.fleet_model.specs.declared.limits.TheConstants.{MAX_HORIZON}
 use Rattle.fleet_plan.specs.Plan.{Plan, cell_at}
 use Rattle.fleet_search.specs.declared.occupancy.Occupancy.{Occupancy}
 use Rattle.fleet_search.specs.declared.reservation_table.ReservationTable.{ReservationTable}
-use Rattle.fleet_search.specs.Way.{Fits, joined, arrival}
+use Rattle.fleet_search.specs.Way.{Fits, with_path, arrival}
 use Rattle.fleet_search.specs.Occupancies.{occupancies_of, IsDuring, IsOccupancyAdded, AreInOrder, AreOccupanciesOn, HaveOccupancies, without}
 use Rattle.fleet_search.proofs.Occupants.{cell_at-late}
 use Rattle.fleet_search.proofs.ReservationTables.{AreOccupanciesTo, AreInOrder-to, to-none, to-other, to-all_other, to-placed, to-last}
 use Rattle.fleet_search.proofs.OccupancyRows.{without-placed, without-others}
 
 -- what follows from both answers of a call
-pub either : {T E P Q X : Type 0} (r : Result T E) → OnOk r P → OnErr r Q → (P → X) → (Q → X) → X
-either (Ok x) p q f g = f p
-either (Err e) p q f g = g q
+pub from_ok_or_err : {T E P Q X : Type 0} (r : Result T E) → OnOk r P → OnErr r Q → (P → X) → (Q → X) → X
+from_ok_or_err (Ok x) p q f g = f p
+from_ok_or_err (Err e) p q f g = g q
 
 -- the occupancies before the time `from` are added, and since then the agent is on one cell
 pub record AreEntered (plan : Plan) (path : List Cell) (old new : ReservationTable) (from time : ℕ) : Type 0 where
@@ -74,10 +74,10 @@ module _ (plan : Plan) (path : List Cell) (fits : Fits plan path) (old now : Res
         there t d = h.same t (let l = d.0 in omega arith) (elim (d.1) [ inl l ↦ omega arith | inr l ↦ omega arith ]) ∙ sym at
 
     -- the agent has arrived
-    pub entered-all : occupancy.until ≡ 4294967295 → arrival path ≤ time → HaveOccupancies (joined plan path) new
+    pub entered-all : occupancy.until ≡ 4294967295 → arrival path ≤ time → HaveOccupancies (with_path plan path) new
     entered-all u arrived c = elim (cell_cases c cell) [
-      | inl s ↦ subst (λ z. AreOccupanciesOn (joined plan path) z (occupancies_of new z)) (sym s) (to-last plan path fits from cell (occupancies_of now cell) (occupancies_of new cell) occupancy (h.occupancies cell) a.here agent begin (let z = h.since in omega arith) (let z = h.since in omega arith) (λ t d. there t (let l = d.0 in omega arith)) u)
-      | inr ne ↦ subst (AreOccupanciesOn (joined plan path) c) (sym (a.others c ne)) (to-all_other plan path from c (occupancies_of now c) (h.occupancies c) (λ t l e. ne (e ∙ there t l)))
+      | inl s ↦ subst (λ z. AreOccupanciesOn (with_path plan path) z (occupancies_of new z)) (sym s) (to-last plan path fits from cell (occupancies_of now cell) (occupancies_of new cell) occupancy (h.occupancies cell) a.here agent begin (let z = h.since in omega arith) (let z = h.since in omega arith) (λ t d. there t (let l = d.0 in omega arith)) u)
+      | inr ne ↦ subst (AreOccupanciesOn (with_path plan path) c) (sym (a.others c ne)) (to-all_other plan path from c (occupancies_of now c) (h.occupancies c) (λ t l e. ne (e ∙ there t l)))
     ]
       where
         there : (t : ℕ) → from ≤ t → cell_at path t ≡ cell

@@ -22,8 +22,8 @@ apart-from occupancies a i j h l = elim (cases_eq i j) [
   | inr ne ↦ let x = a.apart i j (omega arith) l in let y = a.some_time i (omega arith) in omega arith
 ]
 
-pub started_by-point : (occupancies : List Occupancy) (t n : ℕ) → n ≤ length occupancies → IsPartitionPoint (λ (s : Occupancy). s.from ≤ t) (λ (s : Occupancy). t < s.from) occupancies n → AreBegun occupancies t n
-started_by-point occupancies t n b p = record { bound = b; started_by = λ i h. p.0 i no_occupancy (omega arith) h; to_come = λ i h l. p.1 i no_occupancy h l }
+pub begun-point : (occupancies : List Occupancy) (t n : ℕ) → n ≤ length occupancies → IsPartitionPoint (λ (s : Occupancy). s.from ≤ t) (λ (s : Occupancy). t < s.from) occupancies n → AreBegun occupancies t n
+begun-point occupancies t n b p = record { bound = b; begun = λ i h. p.0 i no_occupancy (omega arith) h; to_come = λ i h l. p.1 i no_occupancy h l }
 
 -- ---- the safe interval of a time
 
@@ -89,12 +89,12 @@ first-none occupancies a k from t b few past first out s h g =
 
 -- ---- how many occupancies have begun
 
-started_by-below : (occupancies : List Occupancy) → AreSuccessive occupancies → (t m : ℕ) → m ≤ length occupancies → (n : ℕ) × (n ≤ m) × ((i : ℕ) → i < n → (occupancy_at occupancies i).from ≤ t) × ((i : ℕ) → n ≤ i → i < m → t < (occupancy_at occupancies i).from)
-started_by-below occupancies a t zero b = (0, omega arith, (λ i h. absurd (omega arith)), (λ i h l. absurd (omega arith)))
-started_by-below occupancies a t (suc m) b = elim (cases_lt t (occupancy_at occupancies m).from) [
+begun-below : (occupancies : List Occupancy) → AreSuccessive occupancies → (t m : ℕ) → m ≤ length occupancies → (n : ℕ) × (n ≤ m) × ((i : ℕ) → i < n → (occupancy_at occupancies i).from ≤ t) × ((i : ℕ) → n ≤ i → i < m → t < (occupancy_at occupancies i).from)
+begun-below occupancies a t zero b = (0, omega arith, (λ i h. absurd (omega arith)), (λ i h l. absurd (omega arith)))
+begun-below occupancies a t (suc m) b = elim (cases_lt t (occupancy_at occupancies m).from) [
   | inr l ↦ (m + 1, omega arith, (λ i h. let z = apart-from occupancies a i m (omega arith) (omega arith) in omega arith), (λ i h k. absurd (omega arith)))
   | inl l ↦
-      let w = started_by-below occupancies a t m (omega arith) in
+      let w = begun-below occupancies a t m (omega arith) in
       let low = w.1 in (
         w.0,
         omega arith,
@@ -106,10 +106,10 @@ started_by-below occupancies a t (suc m) b = elim (cases_lt t (occupancy_at occu
       )
 ]
 
-started_by-some : (occupancies : List Occupancy) → AreSuccessive occupancies → (t : ℕ) → (n : ℕ) × AreBegun occupancies t n
-started_by-some occupancies a t =
-    let w = started_by-below occupancies a t (length occupancies) (omega arith) in
-    (w.0, record { bound = w.1; started_by = w.2; to_come = w.3 })
+begun-some : (occupancies : List Occupancy) → AreSuccessive occupancies → (t : ℕ) → (n : ℕ) × AreBegun occupancies t n
+begun-some occupancies a t =
+    let w = begun-below occupancies a t (length occupancies) (omega arith) in
+    (w.0, record { bound = w.1; begun = w.2; to_come = w.3 })
 
 -- ---- safe intervals in the plan
 
@@ -136,7 +136,7 @@ module _ (plan : Plan) (c : Cell) (occupancies : List Occupancy) (s : AreOccupan
     bound = b.bound;
     over = λ i h. elim (cases_lt (occupancy_at occupancies i).until t) [
       | inl l ↦ (l, omega arith)
-      | inr l ↦ let m = b.bound in absurd (during-taken i t (omega arith) (b.started_by i h, inl l) free)
+      | inr l ↦ let m = b.bound in absurd (during-taken i t (omega arith) (b.begun i h, inl l) free)
     ];
     to_come = b.to_come;
   }
@@ -150,7 +150,7 @@ module _ (plan : Plan) (c : Cell) (occupancies : List Occupancy) (s : AreOccupan
       | inr l ↦ elim (cases_lt e.next (length occupancies)) [
         | inl m ↦
             let z = e.here m in
-            let after = e.started_by.to_come e.next (omega arith) m in
+            let after = e.begun.to_come e.next (omega arith) m in
             let d = (s.each e.next m).some_time in
             absurd (during-taken e.next until m (omega arith, inl (omega arith)) (on until (omega arith) l))
         | inr m ↦ let z = e.none m in omega arith
@@ -160,13 +160,13 @@ module _ (plan : Plan) (c : Cell) (occupancies : List Occupancy) (s : AreOccupan
     where
       within : (u : ℕ) → t ≤ u → u < until → IsInInterval occupancies e.next u
       within u a b = record {
-        bound = e.started_by.bound;
-        over = λ i h. let o = (free-interval t e.next few e.started_by free).over i h in (let x = o.0 in omega arith, o.1);
+        bound = e.begun.bound;
+        over = λ i h. let o = (free-interval t e.next few e.begun free).over i h in (let x = o.0 in omega arith, o.1);
         to_come = λ i h l. let z = e.here (omega arith) in let x = apart-from occupancies (occupancies-apart plan c occupancies s) e.next i h l in omega arith;
       }
 
   pub some_gap : (t : ℕ) → t ≤ 4294967295 → IsUnoccupied plan t c → (n : ℕ) × IsInInterval occupancies n t
-  some_gap t few free = let w = started_by-some occupancies (occupancies-apart plan c occupancies s) t in (w.0, free-interval t w.0 few w.1 free)
+  some_gap t few free = let w = begun-some occupancies (occupancies-apart plan c occupancies s) t in (w.0, free-interval t w.0 few w.1 free)
 
   -- they begin at different times, and none begins late
   begins-late : (i : ℕ) → i < length occupancies → i ≤ (occupancy_at occupancies i).from

@@ -8,10 +8,10 @@ use Rattle.fleet_model.specs.declared.geometry.Cell.{Cell}
 use Rattle.fleet_model.specs.declared.limits.TheConstants.{MAX_HORIZON}
 use Rattle.fleet_plan.specs.Plan.{Plan, cell_at, cell_of}
 use Rattle.fleet_search.specs.declared.occupancy.Occupancy.{Occupancy}
-use Rattle.fleet_search.specs.Way.{Fits, joined}
+use Rattle.fleet_search.specs.Way.{Fits, with_path}
 use Rattle.fleet_search.specs.Reserved.{IsOn, IsUnoccupied, IsFreeFrom}
 use Rattle.fleet_search.specs.Occupancies.{IsDuring, IsOccupancyOn, AreOccupanciesOn, AreInOrder, IsPutIn, no_occupancy, occupancy_at}
-use Rattle.fleet_search.proofs.Steps.{each_step, joined-old, joined-new, length-joined}
+use Rattle.fleet_search.proofs.Steps.{each_step, with_path-old, with_path-new, length-with_path}
 
 -- ---- the order of time
 
@@ -33,8 +33,8 @@ AreInOrder-occupancies plan c occupancies h = AreInOrder-apart occupancies (λ i
 
 module _ (plan : Plan) (c : Cell) (occupancies : List Occupancy) (h : AreOccupanciesOn plan c occupancies) (t n : ℕ) (few : t ≤ 4294967295) (point : IsPartitionPoint (λ s. s.from ≤ t) (λ s. t < s.from) occupancies n) (bound : n ≤ length occupancies) where
   -- an occupancy during the time has begun
-  started_by-by : (i : ℕ) → i < length occupancies → IsDuring (occupancy_at occupancies i) t → i < n
-  started_by-by i l on = elim (cases_lt i n) [
+  during-begun : (i : ℕ) → i < length occupancies → IsDuring (occupancy_at occupancies i) t → i < n
+  during-begun i l on = elim (cases_lt i n) [
     | inl a ↦ a
     | inr a ↦ let later = point.1 i no_occupancy a l in let by = on.0 in absurd (omega arith)
   ]
@@ -42,7 +42,7 @@ module _ (plan : Plan) (c : Cell) (occupancies : List Occupancy) (h : AreOccupan
   pub nobody_yet : n ≡ 0 → IsUnoccupied plan t c
   nobody_yet z j p e =
       let w = h.all t j (record { agent = p; on = e }) in
-      let b = started_by-by w.0 w.1 w.2 in
+      let b = during-begun w.0 w.1 w.2 in
       omega arith
 
   pub is_there : (occupancy : Occupancy) → occupancy ≡ occupancy_at occupancies (n - 1) → 0 < n → t ≤ occupancy.until → IsOn plan t c occupancy.agent
@@ -55,7 +55,7 @@ module _ (plan : Plan) (c : Cell) (occupancies : List Occupancy) (h : AreOccupan
   pub gone : (occupancy : Occupancy) → occupancy ≡ occupancy_at occupancies (n - 1) → 0 < n → occupancy.until < t → IsUnoccupied plan t c
   gone occupancy e some l j p on =
       let w = h.all t j (record { agent = p; on = on }) in
-      let b = started_by-by w.0 w.1 w.2 in
+      let b = during-begun w.0 w.1 w.2 in
       let u : occupancy.until ≡ (occupancy_at occupancies (n - 1)).until = ap (λ (s : Occupancy). s.until) e in
       elim (cases_eq w.0 (n - 1)) [
         | inl s ↦
@@ -111,10 +111,10 @@ module _ (plan : Plan) (c : Cell) (occupancies : List Occupancy) (h : AreOccupan
 
 -- the occupancies on the cell of the agents of the plan, and of one more before the time
 pub record AreOccupanciesTo (plan : Plan) (path : List Cell) (n : ℕ) (c : Cell) (occupancies : List Occupancy) : Type 0 where
-  pub each : (i : ℕ) → i < length occupancies → IsOccupancyOn (joined plan path) c (occupancy_at occupancies i)
+  pub each : (i : ℕ) → i < length occupancies → IsOccupancyOn (with_path plan path) c (occupancy_at occupancies i)
   pub apart : (i k : ℕ) → i < k → k < length occupancies → (occupancy_at occupancies i).until < (occupancy_at occupancies k).from
   pub past : (i : ℕ) → i < length occupancies → ((occupancy_at occupancies i).agent < length plan) ⊎ ((occupancy_at occupancies i).until < n)
-  pub all : (t j : ℕ) → IsOn (joined plan path) t c j → (j < length plan) ⊎ (t < n) → (i : ℕ) × (i < length occupancies) × IsDuring (occupancy_at occupancies i) t
+  pub all : (t j : ℕ) → IsOn (with_path plan path) t c j → (j < length plan) ⊎ (t < n) → (i : ℕ) × (i < length occupancies) × IsDuring (occupancy_at occupancies i) t
 
 pub AreInOrder-to : (plan : Plan) (path : List Cell) (n : ℕ) (c : Cell) (occupancies : List Occupancy) → AreOccupanciesTo plan path n c occupancies → AreInOrder occupancies
 AreInOrder-to plan path n c occupancies h = AreInOrder-apart occupancies (λ i l. (h.each i l).some_time) h.apart
@@ -124,25 +124,25 @@ pub path-apart : (plan : Plan) (path : List Cell) → Fits plan path → (t j : 
 path-apart plan path fits zero j h = (each_step plan path fits).first j h
 path-apart plan path fits (suc t) j h = let z : t + 1 ≡ suc t = omega arith in subst (λ k. cell_of plan j k ≢ cell_at path k) z (((each_step plan path fits).steps t).vertex j h)
 
-which : (plan : Plan) (path : List Cell) (j : ℕ) → j < length (joined plan path) → (j < length plan) ⊎ (j ≡ length plan)
-which plan path j h = elim (cases_lt j (length plan)) [ inl l ↦ inl l | inr l ↦ inr (omega (arith, length-joined plan path)) ]
+old_or_new : (plan : Plan) (path : List Cell) (j : ℕ) → j < length (with_path plan path) → (j < length plan) ⊎ (j ≡ length plan)
+old_or_new plan path j h = elim (cases_lt j (length plan)) [ inl l ↦ inl l | inr l ↦ inr (omega (arith, length-with_path plan path)) ]
 
 -- where the agent of the path is
-new-at : (plan : Plan) (path : List Cell) (j t : ℕ) → j ≡ length plan → cell_of (joined plan path) j t ≡ cell_at path t
-new-at plan path j t e = ap (λ k. cell_of (joined plan path) k t) e ∙ joined-new plan path t
+new-at : (plan : Plan) (path : List Cell) (j t : ℕ) → j ≡ length plan → cell_of (with_path plan path) j t ≡ cell_at path t
+new-at plan path j t e = ap (λ k. cell_of (with_path plan path) k t) e ∙ with_path-new plan path t
 
 pub to-none : (plan : Plan) (path : List Cell) (c : Cell) (occupancies : List Occupancy) → AreOccupanciesOn plan c occupancies → AreOccupanciesTo plan path 0 c occupancies
 to-none plan path c occupancies h = record {
   each = λ i l. let s = h.each i l in record {
-    agent = let a = s.agent in omega (arith, length-joined plan path);
+    agent = let a = s.agent in omega (arith, length-with_path plan path);
     early = s.early;
     some_time = s.some_time;
-    on = λ t d. joined-old plan path (occupancy_at occupancies i).agent t s.agent ∙ s.on t d;
+    on = λ t d. with_path-old plan path (occupancy_at occupancies i).agent t s.agent ∙ s.on t d;
   };
   apart = h.apart;
   past = λ i l. inl ((h.each i l).agent);
   all = λ t j on w. elim w [
-    | inl l ↦ h.all t j (record { agent = l; on = sym (joined-old plan path j t l) ∙ on.on })
+    | inl l ↦ h.all t j (record { agent = l; on = sym (with_path-old plan path j t l) ∙ on.on })
     | inr l ↦ absurd (omega arith)
   ];
 }
@@ -154,7 +154,7 @@ module _ (plan : Plan) (path : List Cell) (n : ℕ) (c : Cell) (occupancies : Li
     each = h.each;
     apart = h.apart;
     past = λ i l. elim (h.past i l) [ inl a ↦ inl a | inr a ↦ inr (omega arith) ];
-    all = λ t j on w. elim (which plan path j on.agent) [
+    all = λ t j on w. elim (old_or_new plan path j on.agent) [
       | inl l ↦ h.all t j on (inl l)
       | inr e ↦ elim (cases_lt t n) [
         | inl l ↦ h.all t j on (inr l)
@@ -166,11 +166,11 @@ module _ (plan : Plan) (path : List Cell) (n : ℕ) (c : Cell) (occupancies : Li
     ];
   }
 
-  pub to-all_other : ((t : ℕ) → n ≤ t → c ≢ cell_at path t) → AreOccupanciesOn (joined plan path) c occupancies
+  pub to-all_other : ((t : ℕ) → n ≤ t → c ≢ cell_at path t) → AreOccupanciesOn (with_path plan path) c occupancies
   to-all_other ne = record {
     each = h.each;
     apart = h.apart;
-    all = λ t j on. elim (which plan path j on.agent) [
+    all = λ t j on. elim (old_or_new plan path j on.agent) [
       | inl l ↦ h.all t j on (inl l)
       | inr e ↦ elim (cases_lt t n) [
         | inl l ↦ h.all t j on (inr l)
@@ -215,7 +215,7 @@ module _ (plan : Plan) (path : List Cell) (fits : Fits plan path) (n : ℕ) (c :
   -- no occupancy on the cell is during this one
   never_both : (i t : ℕ) → i < length xs → IsDuring (occupancy_at xs i) t → IsDuring occupancy t → ⊥
   never_both i t l d e = elim (h.past i l) [
-    | inl a ↦ path-apart plan path fits t (occupancy_at xs i).agent a (sym (joined-old plan path (occupancy_at xs i).agent t a) ∙ (h.each i l).on t d ∙ sym (there t e))
+    | inl a ↦ path-apart plan path fits t (occupancy_at xs i).agent a (sym (with_path-old plan path (occupancy_at xs i).agent t a) ∙ (h.each i l).on t d ∙ sym (there t e))
     | inr a ↦ let f = e.0 in elim (d.1) [ inl x ↦ omega arith | inr x ↦ omega arith ]
   ]
 
@@ -249,9 +249,9 @@ module _ (plan : Plan) (path : List Cell) (fits : Fits plan path) (n : ℕ) (c :
         ]
       ]
 
-  placed-is : IsOccupancyOn (joined plan path) c occupancy
+  placed-is : IsOccupancyOn (with_path plan path) c occupancy
   placed-is = record {
-    agent = omega (arith, length-joined plan path);
+    agent = omega (arith, length-with_path plan path);
     early = omega arith;
     some_time = some_time;
     on = λ t d. new-at plan path occupancy.agent t agent ∙ there t d;
@@ -271,10 +271,10 @@ module _ (plan : Plan) (path : List Cell) (fits : Fits plan path) (n : ℕ) (c :
 
   pub to-placed : (m : ℕ) → occupancy.until ≡ m → n ≤ m → m ≤ MAX_HORIZON → AreOccupanciesTo plan path (m + 1) c ys
   to-placed m e le few = record {
-    each = placed-each (IsOccupancyOn (joined plan path) c) h.each placed-is;
+    each = placed-each (IsOccupancyOn (with_path plan path) c) h.each placed-is;
     apart = placed-apart;
     past = placed-each (λ s. (s.agent < length plan) ⊎ (s.until < m + 1)) (λ i l. elim (h.past i l) [ inl a ↦ inl a | inr a ↦ inr (omega arith) ]) (inr (omega arith));
-    all = λ t j on w. elim (which plan path j on.agent) [
+    all = λ t j on w. elim (old_or_new plan path j on.agent) [
       | inl l ↦ placed-old t (h.all t j on (inl l))
       | inr x ↦ elim (cases_lt t n) [
         | inl l ↦ placed-old t (h.all t j on (inr l))
@@ -286,11 +286,11 @@ module _ (plan : Plan) (path : List Cell) (fits : Fits plan path) (n : ℕ) (c :
     ];
   }
 
-  pub to-last : occupancy.until ≡ 4294967295 → AreOccupanciesOn (joined plan path) c ys
+  pub to-last : occupancy.until ≡ 4294967295 → AreOccupanciesOn (with_path plan path) c ys
   to-last e = record {
-    each = placed-each (IsOccupancyOn (joined plan path) c) h.each placed-is;
+    each = placed-each (IsOccupancyOn (with_path plan path) c) h.each placed-is;
     apart = placed-apart;
-    all = λ t j on. elim (which plan path j on.agent) [
+    all = λ t j on. elim (old_or_new plan path j on.agent) [
       | inl l ↦ placed-old t (h.all t j on (inl l))
       | inr x ↦ elim (cases_lt t n) [
         | inl l ↦ placed-old t (h.all t j on (inr l))

@@ -3,7 +3,7 @@ use Rattle.std.proofs.Common.{◌≡◌, List, [], ◌∷◌, ◌++◌, sym, ap,
 use Rattle.fleet_model.specs.declared.geometry.Cell.{Cell}
 use Rattle.fleet_plan.specs.Plan.{Plan}
 use Rattle.fleet_search.specs.declared.reservation_table.ReservationTable.{ReservationTable}
-use Rattle.fleet_search.specs.Way.{joined, Fits}
+use Rattle.fleet_search.specs.Way.{with_path, Fits}
 use Rattle.fleet_search.specs.Occupancies.{AreReserved, AreOccupanciesOn, HaveOccupancies, occupancies_of}
 use Rattle.fleet_search.proofs.OneByOne.{FitTogether-push}
 
@@ -25,7 +25,7 @@ reserved-none paths table e f = subst (λ z. AreReserved z table) (sym e) (recor
 pub reserved-kept : (paths : Plan) (old new : ReservationTable) → AreReserved paths old → HaveOccupancies paths new → AreReserved paths new
 reserved-kept paths old new h occupancies = record { together = h.together; occupancies = occupancies }
 
-pub reserved-pushed : (paths all : Plan) (old new : ReservationTable) (path copy : List Cell) → AreReserved paths old → Fits paths path → HaveOccupancies (joined paths path) new → copy ≡ path → all ≡ paths ++ copy ∷ [] → AreReserved all new
+pub reserved-pushed : (paths all : Plan) (old new : ReservationTable) (path copy : List Cell) → AreReserved paths old → Fits paths path → HaveOccupancies (with_path paths path) new → copy ≡ path → all ≡ paths ++ copy ∷ [] → AreReserved all new
 reserved-pushed paths all old new path copy h fits occupancies f g =
-    let p : joined paths path ≡ all = ap (λ z. paths ++ z ∷ []) (sym f) ∙ sym g in
+    let p : with_path paths path ≡ all = ap (λ z. paths ++ z ∷ []) (sym f) ∙ sym g in
     subst (λ z. AreReserved z new) p (record { together = FitTogether-push paths path h.together fits; occupancies = occupancies })

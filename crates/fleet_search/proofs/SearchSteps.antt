@@ -23,7 +23,7 @@ use Rattle.fleet_search.specs.Links.{place_in}
 use Rattle.fleet_search.specs.Rows.{bucket_of, IsPut}
 use Rattle.fleet_search.specs.Labels.{Times, earliest_in, IsLabelSet, IsSeen}
 use Rattle.fleet_search.specs.Search.{heuristic_of, occupancies_on, IsMeasured, AreBeside, IsStep, least_arrival, IsBucket, IsGoalState, no_node, state_in, parent_in, IsKnown, IsMove, IsReachedFrom, IsSoundNode, IsCovered, IsExpanded, IsSuperseded, IsStateSettled, earliest_of, IsFrontier, IsPosed, IsFrontierOf, IsLeft, IsExpansion, Grows, ExpandsOn, IsFreeUntil, IsFoundAt, IsFoundIn, IsFoundFrom}
-use Rattle.fleet_search.proofs.Spread.{back, one_place}
+use Rattle.fleet_search.proofs.Spread.{AreNeighbours-sym, one_place}
 use Rattle.fleet_search.proofs.Chase.{step_ok-alone}
 use Rattle.fleet_search.proofs.IntervalLaws.{occupancies-apart, one_gap, interval-free_on, interval-since}
 
@@ -38,7 +38,7 @@ node_of m link = record { state = m; parent = link }
 -- a step changes the distance by one at most
 pub near-beside : (q : Query) → IsMeasured q → (c d : Cell) → IsTrue (is_passable q.grid.now (place_of c)) → IsTrue (is_passable q.grid.now (place_of d)) → AreBeside c d → (heuristic_of q d ≤ heuristic_of q c + 1) × (heuristic_of q c ≤ heuristic_of q d + 1)
 near-beside q m c d hc hd (inl e) = subst (λ z. (heuristic_of q z ≤ heuristic_of q c + 1) × (heuristic_of q c ≤ heuristic_of q z + 1)) e (let n = heuristic_of q c in omega arith, let n = heuristic_of q c in omega arith)
-near-beside q m c d hc hd (inr w) = (m.heuristic.near c d hc hd w, m.heuristic.near d c hd hc (back c d w))
+near-beside q m c d hc hd (inr w) = (m.heuristic.near c d hc hd w, m.heuristic.near d c hd hc (AreNeighbours-sym c d w))
 
 -- a move leads to no bucket below the one before
 pub bucket-next : (q : Query) (m n : State) (f k : ℕ) → IsBucket q m f → IsBucket q n k → m.time + 1 ≤ n.time → heuristic_of q m.cell ≤ heuristic_of q n.cell + 1 → f - 1 ≤ k
@@ -396,8 +396,8 @@ left_done q f place r labels open_list fr e = record {
 }
 
 -- fewer buckets need be empty
-pub lower : (q : Query) (f g : ℕ) (left : Option ℕ) (r : List Node) (labels : Times) (open_list : List (List ℕ)) → g ≤ f → IsFrontier q f left r labels open_list → IsFrontier q g left r labels open_list
-lower q f g left r labels open_list h fr = record {
+pub frontier_of_lower_bucket : (q : Query) (f g : ℕ) (left : Option ℕ) (r : List Node) (labels : Times) (open_list : List (List ℕ)) → g ≤ f → IsFrontier q f left r labels open_list → IsFrontier q g left r labels open_list
+frontier_of_lower_bucket q f g left r labels open_list h fr = record {
   measured = fr.measured;
   origin = fr.origin;
   sound = fr.sound;
@@ -410,8 +410,8 @@ lower q f g left r labels open_list h fr = record {
 }
 
 -- if nothing new was put on the buckets, those that were empty still are
-pub raise : (q : Query) (f g : ℕ) (left : Option ℕ) (r : List Node) (labels : Times) (open_list before : List (List ℕ)) → IsFrontier q g left r labels open_list → ((k : ℕ) → bucket_of open_list k ≡ bucket_of before k) → ((k : ℕ) → k < f → bucket_of before k ≡ []) → IsFrontier q f left r labels open_list
-raise q f g left r labels open_list before fr same past = record {
+pub frontier_of_higher_bucket : (q : Query) (f g : ℕ) (left : Option ℕ) (r : List Node) (labels : Times) (open_list before : List (List ℕ)) → IsFrontier q g left r labels open_list → ((k : ℕ) → bucket_of open_list k ≡ bucket_of before k) → ((k : ℕ) → k < f → bucket_of before k ≡ []) → IsFrontier q f left r labels open_list
+frontier_of_higher_bucket q f g left r labels open_list before fr same past = record {
   measured = fr.measured;
   origin = fr.origin;
   sound = fr.sound;

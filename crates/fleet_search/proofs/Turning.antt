@@ -21,7 +21,7 @@ turning-begin q f l c first now w b = record {
   on = record { leaving = w; grows = record { more = omega arith; kept = λ i h. refl; same = λ e k. refl } };
   each = λ k h u move g in_time.
       let bound = b.bound in
-      let started_by = b.started_by k h in
+      let begun = b.begun k h in
       let come = g.to_come k (omega arith) (omega arith) in
       let waits = move.waits in
       absurd (omega arith);

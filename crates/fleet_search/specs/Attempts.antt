@@ -6,7 +6,7 @@ use Rattle.fleet_plan.specs.Plan.{Plan}
 use Rattle.fleet_search.specs.Way.{Fits, IsEarliest, IsInfeasible}
 use Rattle.fleet_grid.specs.Ground.{is_passable}
 use Rattle.fleet_search.specs.InTurn.{IsPrioritisedPlan}
-use Rattle.fleet_search.specs.Orders.{rising, tasks_by, IsStuckInOrder}
+use Rattle.fleet_search.specs.Orders.{agent_numbers, tasks_by, IsStuckInOrder}
 use Rattle.fleet_search.specs.declared.orders.Problem.{Problem}
 use Rattle.fleet_search.specs.declared.orders.Tables.{Tables}
 use Rattle.fleet_search.specs.declared.orders.Attempt.{Attempt}
@@ -18,7 +18,7 @@ AreTables problem tables = tables.distances.grid ≡ problem.grid.now
 
 -- the agents of the instance, each once
 abbrev pub IsOrderOf : Problem → List ℕ → Type 0
-IsOrderOf problem order = IsPermutation (rising (length problem.instance.now)) order
+IsOrderOf problem order = IsPermutation (agent_numbers (length problem.instance.now)) order
 
 -- the agent's earliest path past the old ones that arrives by the horizon is the last of the new ones; or it has none,
 -- and they stay

@@ -4,7 +4,7 @@ ghost use Rattle.std.specs.Prelude.{◌↔◌, ◌≤◌, ◌<◌, ◌-◌, ℕ,
 ghost use Rattle.fleet_search.specs.Occupancies.{occupancy_at};
 ghost use Rattle.fleet_search.specs.Intervals.{AreSuccessive, AreBegun, IsInInterval, IsEarliestWithin, IsEndAfter};
 
-use crate::occupancy::{Occupancy, started_by};
+use crate::occupancy::{Occupancy, count_begun};
 
 /// Whether the time is in the safe interval of this number.
 pub fn is_in_interval(occupancies: &[Occupancy], interval: usize, time: u32) -> bool
@@ -79,7 +79,7 @@ pub fn interval_after(occupancies: &[Occupancy], time: u32) -> SafeInterval
     ensures begun { AreBegun occupancies.now time result.number }
     ensures end { IsEndAfter occupancies.now time result.until }
 {
-    let number = started_by(occupancies, time);
+    let number = count_begun(occupancies, time);
     let until = if number < occupancies.len() {
         occupancies[number].from
     } else {

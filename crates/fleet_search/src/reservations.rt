@@ -6,7 +6,7 @@ ghost use Rattle.fleet_search.specs.Way.{Fits, StepFits};
 ghost use Rattle.fleet_search.specs.Occupancies.{HaveOccupancies};
 ghost use Rattle.fleet_search.specs.Reserved.{IsOn, IsUnoccupied, IsFreeFrom, LeadsBack};
 
-use crate::occupancy::started_by;
+use crate::occupancy::count_begun;
 use crate::reservation_table::ReservationTable;
 use fleet_model::{Cell, OutOfMemory};
 use fleet_plan::Path;
@@ -67,7 +67,7 @@ impl Reservations {
         ensures none { IfNone result (IsUnoccupied self.now time cell) }
     {
         let occupancies = self.table().occupancies(cell);
-        let count = started_by(occupancies, time);
+        let count = count_begun(occupancies, time);
         if count == 0 {
             return None;
         }

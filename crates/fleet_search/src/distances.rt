@@ -31,6 +31,12 @@ pub struct Label {
     pub distance: u16,
 }
 
+/// No search has labelled the cell.
+const NONE: Label = Label {
+    search: 0,
+    distance: 0,
+};
+
 /// How many moves lead at least from each cell of a map to the goal of the latest search. Labels of earlier searches
 /// stay in the table, where their numbers tell them apart, so no search clears it.
 #[derive(Drop)]
@@ -99,14 +105,10 @@ impl<'g> Distances<'g> {
         ensures { IfOk result (λ d. d.grid ≡ grid.now) }
     {
         let cells = usize::from(grid.width()) * usize::from(grid.height());
-        let none = Label {
-            search: 0,
-            distance: 0,
-        };
         let corner = Cell { x: 0, y: 0 };
         Ok(Distances {
             grid,
-            labels: vec![in alloc; none; cells]?,
+            labels: vec![in alloc; NONE; cells]?,
             search: 0,
             start: corner,
             goal: corner,
@@ -359,11 +361,7 @@ impl<'g> Distances<'g> {
             → (get_or self.new.labels i no_label).search < self.new.search }
     {
         if self.search == u16::MAX {
-            let none = Label {
-                search: 0,
-                distance: 0,
-            };
-            self.labels.fill(none);
+            self.labels.fill(NONE);
             self.search = 0;
         }
         self.search += 1;

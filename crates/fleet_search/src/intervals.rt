@@ -7,7 +7,7 @@ ghost use Rattle.fleet_search.specs.Intervals.{AreSuccessive, AreBegun, IsInInte
 use crate::occupancy::{Occupancy, count_begun};
 
 /// Whether the time is in the safe interval of this number.
-pub fn is_in_interval(occupancies: &[Occupancy], interval: usize, time: u32) -> bool
+fn is_in_interval(occupancies: &[Occupancy], interval: usize, time: u32) -> bool
     requires order { AreSuccessive occupancies.now }
     requires bound { interval ≤ length occupancies.now }
     ensures { IsTrue result ↔ IsInInterval occupancies.now interval time }
@@ -46,9 +46,7 @@ pub fn earliest_within(occupancies: &[Occupancy], interval: usize, from: u32) ->
     ensures none { IfNone result ((s : ℕ) → from ≤ s
         → IsInInterval occupancies.now interval s → ⊥) }
 {
-    let Some(time) = past_occupancy(occupancies, interval, from) else {
-        return None;
-    };
+    let time = past_occupancy(occupancies, interval, from)?;
     if is_in_interval(occupancies, interval, time) {
         Some(time)
     } else {

@@ -1,7 +1,7 @@
 //! Numbers of cells. They stand in rows, first by `y` and then by `x`, which reach no further than the cells that have
 //! one.
 
-ghost use Rattle.std.specs.Prelude.{◌≡◌, ◌≢◌, ◌<◌, ◌≤◌, ℕ, [], length, get_or, map, OnOk, OnErr};
+ghost use Rattle.std.specs.Prelude.{◌≡◌, ◌≢◌, ◌≤◌, ℕ, get_or, OnOk, OnErr};
 ghost use Rattle.fleet_model.specs.declared.geometry.Cell.{Cell};
 ghost use Rattle.fleet_model.specs.declared.limits.TheConstants.{MAX_COORDINATE};
 ghost use Rattle.fleet_search.specs.Numbers.{number_in_rows, IsNumbered};

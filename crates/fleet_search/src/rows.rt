@@ -48,10 +48,7 @@ pub fn take(rows: &mut Vec<Vec<u32>>, key: u32) -> Option<u32>
     if key >= rows.len() {
         return None;
     }
-    match rows[key].pop() {
-        None => None,
-        Some(number) => Some(number),
-    }
+    rows[key].pop()
 }
 
 /// How many rows at most are kept from one search to the next.

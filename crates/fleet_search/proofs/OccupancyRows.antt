@@ -139,33 +139,6 @@ own-none = record {
   apart = λ c d ne e. number-past [] c (omega arith);
 }
 
-pub own-kept : (old new : List (Vec ℕ Global)) (lists more : List (Vec Occupancy Global)) → HaveOwnLists old lists → ((c : Cell) → number_in_rows new c ≡ number_in_rows old c) → length lists ≤ length more → HaveOwnLists new more
-own-kept old new lists more own same long = record {
-  few = λ c. (let z = same c in let f = own.few c in omega arith);
-  apart = λ c d ne e. same c ∙ own.apart c d ne (sym (same c) ∙ e ∙ same d);
-}
-
-pub own-numbered : (old new : List (Vec ℕ Global)) (lists more : List (Vec Occupancy Global)) (cell : Cell) → HaveOwnLists old lists → IsNumbered old new cell (length lists + 1) → length more ≡ length lists + 1 → HaveOwnLists new more
-own-numbered old new lists more cell own put long = record {
-  few = λ c. elim (cell_cases c cell) [
-    | inl s ↦ (let z = here c s in omega arith)
-    | inr ne ↦ (let z = put.others c ne in let f = own.few c in omega arith)
-  ];
-  apart = λ c d ne e. elim (cell_cases c cell) [
-    | inl s ↦ (let z = here c s in let f = below d (λ t. ne (s ∙ sym t)) in absurd (omega arith))
-    | inr a ↦ elim (cell_cases d cell) [
-      | inl t ↦ (let z = here d t in let f = below c a in absurd (omega arith))
-      | inr b ↦ put.others c a ∙ own.apart c d ne (sym (put.others c a) ∙ e ∙ put.others d b)
-    ]
-  ];
-}
-  where
-    here : (c : Cell) → c ≡ cell → number_in_rows new c ≡ length lists + 1
-    here c s = ap (number_in_rows new) s ∙ put.here
-
-    below : (c : Cell) → c ≢ cell → number_in_rows new c ≤ length lists
-    below c ne = let z = put.others c ne in let f = own.few c in omega arith
-
 -- ---- the occupancies on a cell
 
 pub occupancies-numbered : (t : ReservationTable) (c : Cell) (n : ℕ) → number_in_rows t.numbers.items c ≡ n → occupancies_of t c ≡ list_at t.lists.items n

@@ -65,9 +65,6 @@ AreNeighbours-sym c d (West, h) = (East, let x = ap (λ (p : Place). p.x) h in l
 
 -- ---- labels
 
-label_of : ℕ → ℕ → Label
-label_of search distance = record { search = search; distance = distance }
-
 pub label_of_search-here : (search distance : ℕ) → label_of_search search (record { search = search; distance = distance }) ≡ Some distance
 label_of_search-here search distance = ap (λ b. cond b (Some distance) None) (eq-eqb search search refl)
 
@@ -507,10 +504,6 @@ spread-begin r start goal map fresh on within = record {
       | inl k ↦ (one_place r.grid goal c map on h (sym k), same_Some n 0 (sym e ∙ ap (λ i. label_of_search r.search (get_or labels i no_label)) k ∙ here))
       | inr ne ↦ absurd (none-some n (sym (ap (label_of_search r.search) (get_or-set_other r.labels (cell_index r.grid goal) (cell_index r.grid c) first no_label ne) ∙ fresh c) ∙ e))
     ]
-
-pub no_cells : (xs : List Cell) → length xs ≡ 0 → xs ≡ []
-no_cells [] h = refl
-no_cells (x ∷ xs) h = absurd (omega arith)
 
 -- ---- the work
 

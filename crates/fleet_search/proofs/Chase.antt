@@ -57,13 +57,13 @@ module _ (plan : Plan) (fit : FitTogether plan) (t : ℕ) (from to : Cell) (i : 
       go (j ∷ js, g, l) = free j g.0 g.1
 
   pub chase-stays : (a : ℕ) → IsOn plan t cell a → cell_of plan a (t + 1) ≡ cell → cell ≢ from → LeadsBack plan t from to → ⊥
-  chase-stays a on occupancies ne back = go (ch.rest back.0 back.1)
+  chase-stays a on stays ne back = go (ch.rest back.0 back.1)
     where
       go : (js : List ℕ) × Follow plan t cell js from × (length back.0 ≡ i + length js) → ⊥
       go ([], g, l) = ne g
       go (j ∷ js, g, l) =
           let same : j ≡ a = only_one plan fit t cell j a (record { agent = g.0; on = g.1 }) on in
-          g.2 (ap (λ z. cell_of plan z (t + 1)) same ∙ occupancies)
+          g.2 (ap (λ z. cell_of plan z (t + 1)) same ∙ stays)
 
   pub chase-all : length plan ≤ i → LeadsBack plan t from to → cell ≡ from
   chase-all h back =

@@ -12,7 +12,7 @@ use Rattle.fleet_search.specs.declared.occupancy.Occupancy.{Occupancy}
 use Rattle.fleet_search.specs.declared.reservation_table.ReservationTable.{ReservationTable}
 use Rattle.fleet_search.specs.Rows.{bucket_of, bucket_in}
 use Rattle.fleet_search.specs.Numbers.{number_in_rows, IsNumbered, HaveOwnLists}
-use Rattle.fleet_search.specs.Occupancies.{occupancies_of, IsPutIn, IsAdded, AreStays, without, occupancy_at}
+use Rattle.fleet_search.specs.Occupancies.{occupancies_of, IsPutIn, IsOccupancyAdded, AreOccupanciesOn, without, occupancy_at}
 
 -- ---- lists of lists
 
@@ -139,59 +139,32 @@ own-none = record {
   apart = λ c d ne e. number-past [] c (omega arith);
 }
 
-pub own-kept : (old new : List (Vec ℕ Global)) (lists more : List (Vec Occupancy Global)) → HaveOwnLists old lists → ((c : Cell) → number_in_rows new c ≡ number_in_rows old c) → length lists ≤ length more → HaveOwnLists new more
-own-kept old new lists more own same long = record {
-  few = λ c. (let z = same c in let f = own.few c in omega arith);
-  apart = λ c d ne e. same c ∙ own.apart c d ne (sym (same c) ∙ e ∙ same d);
-}
+-- ---- the occupancies on a cell
 
-pub own-numbered : (old new : List (Vec ℕ Global)) (lists more : List (Vec Occupancy Global)) (cell : Cell) → HaveOwnLists old lists → IsNumbered old new cell (length lists + 1) → length more ≡ length lists + 1 → HaveOwnLists new more
-own-numbered old new lists more cell own put long = record {
-  few = λ c. elim (cell_cases c cell) [
-    | inl s ↦ (let z = here c s in omega arith)
-    | inr ne ↦ (let z = put.others c ne in let f = own.few c in omega arith)
-  ];
-  apart = λ c d ne e. elim (cell_cases c cell) [
-    | inl s ↦ (let z = here c s in let f = below d (λ t. ne (s ∙ sym t)) in absurd (omega arith))
-    | inr a ↦ elim (cell_cases d cell) [
-      | inl t ↦ (let z = here d t in let f = below c a in absurd (omega arith))
-      | inr b ↦ put.others c a ∙ own.apart c d ne (sym (put.others c a) ∙ e ∙ put.others d b)
-    ]
-  ];
-}
-  where
-    here : (c : Cell) → c ≡ cell → number_in_rows new c ≡ length lists + 1
-    here c s = ap (number_in_rows new) s ∙ put.here
-
-    below : (c : Cell) → c ≢ cell → number_in_rows new c ≤ length lists
-    below c ne = let z = put.others c ne in let f = own.few c in omega arith
-
--- ---- the stays on a cell
-
-pub stays-numbered : (t : ReservationTable) (c : Cell) (n : ℕ) → number_in_rows t.numbers.items c ≡ n → occupancies_of t c ≡ list_at t.lists.items n
+pub occupancies-numbered : (t : ReservationTable) (c : Cell) (n : ℕ) → number_in_rows t.numbers.items c ≡ n → occupancies_of t c ≡ list_at t.lists.items n
 unfolding occupancies_of
-stays-numbered t c n e = ap (list_at t.lists.items) e
+occupancies-numbered t c n e = ap (list_at t.lists.items) e
 
-pub stays-none : (t : ReservationTable) → t.numbers.items ≡ [] → (c : Cell) → occupancies_of t c ≡ []
-stays-none t e c = stays-numbered t c 0 (ap (λ z. number_in_rows z c) e ∙ number-past [] c (omega arith))
+pub occupancies-none : (t : ReservationTable) → t.numbers.items ≡ [] → (c : Cell) → occupancies_of t c ≡ []
+occupancies-none t e c = occupancies-numbered t c 0 (ap (λ z. number_in_rows z c) e ∙ number-past [] c (omega arith))
 
-pub stays-same : (old new : ReservationTable) → new.numbers.items ≡ old.numbers.items → new.lists.items ≡ old.lists.items → (c : Cell) → occupancies_of new c ≡ occupancies_of old c
-stays-same old new e h c =
+pub occupancies-same : (old new : ReservationTable) → new.numbers.items ≡ old.numbers.items → new.lists.items ≡ old.lists.items → (c : Cell) → occupancies_of new c ≡ occupancies_of old c
+occupancies-same old new e h c =
     let n = number_in_rows old.numbers.items c in
-    stays-numbered new c n (ap (λ z. number_in_rows z c) e) ∙ ap (λ z. list_at z n) h ∙ sym (stays-numbered old c n refl)
+    occupancies-numbered new c n (ap (λ z. number_in_rows z c) e) ∙ ap (λ z. list_at z n) h ∙ sym (occupancies-numbered old c n refl)
 
 -- the list at this place is that of the cell
 pub list-here : (t : ReservationTable) (cell : Cell) (k : ℕ) (v : Vec Occupancy Global) → number_in_rows t.numbers.items cell ≡ k + 1 → k < length t.lists.items → v ≡ get_or t.lists.items k v → occupancies_of t cell ≡ v.items
-list-here t cell k v n l e = stays-numbered t cell (k + 1) n ∙ list_at-read t.lists.items (k + 1) v (omega arith) (omega arith) (e ∙ ap (λ j. get_or t.lists.items j v) (omega arith))
+list-here t cell k v n l e = occupancies-numbered t cell (k + 1) n ∙ list_at-read t.lists.items (k + 1) v (omega arith) (omega arith) (e ∙ ap (λ j. get_or t.lists.items j v) (omega arith))
 
 -- a list is added
 module _ (old new : ReservationTable) (own : HaveOwnLists old.numbers.items old.lists.items) (w : Vec Occupancy Global) (more : new.lists.items ≡ old.lists.items ++ w ∷ []) where
   others-more : (c : Cell) → number_in_rows new.numbers.items c ≡ number_in_rows old.numbers.items c → occupancies_of new c ≡ occupancies_of old c
   others-more c e =
-      stays-numbered new c (number_in_rows old.numbers.items c) e
+      occupancies-numbered new c (number_in_rows old.numbers.items c) e
       ∙ ap (λ z. list_at z (number_in_rows old.numbers.items c)) more
       ∙ list_at-before old.lists.items (number_in_rows old.numbers.items c) w (own.few c)
-      ∙ sym (stays-numbered old c (number_in_rows old.numbers.items c) refl)
+      ∙ sym (occupancies-numbered old c (number_in_rows old.numbers.items c) refl)
 
   pub list-unused : ((c : Cell) → number_in_rows new.numbers.items c ≡ number_in_rows old.numbers.items c) → (c : Cell) → occupancies_of new c ≡ occupancies_of old c
   list-unused same c = others-more c (same c)
@@ -200,11 +173,11 @@ module _ (old new : ReservationTable) (own : HaveOwnLists old.numbers.items old.
   list-begun cell none zero_before put c = elim (cell_cases c cell) [
     | inr ne ↦ others-more c (put.others c ne)
     | inl s ↦
-        stays-numbered new c (length old.lists.items + 1) (ap (number_in_rows new.numbers.items) s ∙ put.here)
+        occupancies-numbered new c (length old.lists.items + 1) (ap (number_in_rows new.numbers.items) s ∙ put.here)
         ∙ ap (λ z. list_at z (length old.lists.items + 1)) more
         ∙ list_at-last old.lists.items w
         ∙ none
-        ∙ sym (stays-numbered old c 0 (ap (number_in_rows old.numbers.items) s ∙ zero_before))
+        ∙ sym (occupancies-numbered old c 0 (ap (number_in_rows old.numbers.items) s ∙ zero_before))
   ]
 
 -- a list is exchanged
@@ -216,13 +189,13 @@ module _ (t new : ReservationTable) (own : HaveOwnLists t.numbers.items t.lists.
   number c = ap (λ z. number_in_rows z c) numbers
 
   list-put : occupancies_of new cell ≡ w.items
-  list-put = stays-numbered new cell (k + 1) (number cell ∙ n) ∙ at (k + 1) ∙ list_at-set t.lists.items (k + 1) w (omega arith) (omega arith)
+  list-put = occupancies-numbered new cell (k + 1) (number cell ∙ n) ∙ at (k + 1) ∙ list_at-set t.lists.items (k + 1) w (omega arith) (omega arith)
 
   list-kept : (c : Cell) → c ≢ cell → occupancies_of new c ≡ occupancies_of t c
   list-kept c ne =
       let j = number_in_rows t.numbers.items c in
       let apart : j ≢ k + 1 = λ s. (let z = own.apart c cell ne (s ∙ sym n) in omega arith) in
-      stays-numbered new c j (number c) ∙ at j ∙ list_at-other t.lists.items (k + 1) j w (omega arith) apart ∙ sym (stays-numbered t c j refl)
+      occupancies-numbered new c j (number c) ∙ at j ∙ list_at-other t.lists.items (k + 1) j w (omega arith) apart ∙ sym (occupancies-numbered t c j refl)
 
   pub list-same : w.items ≡ v.items → (c : Cell) → occupancies_of new c ≡ occupancies_of t c
   list-same h c = elim (cell_cases c cell) [
@@ -230,13 +203,13 @@ module _ (t new : ReservationTable) (own : HaveOwnLists t.numbers.items t.lists.
     | inl s ↦ ap (occupancies_of new) s ∙ list-put ∙ h ∙ sym (list-here t cell k v n l e) ∙ ap (occupancies_of t) (sym s)
   ]
 
-  pub list-added : (old : ReservationTable) (occupancy : Occupancy) → ((c : Cell) → occupancies_of t c ≡ occupancies_of old c) → IsPutIn v.items w.items occupancy → IsAdded old new cell occupancy
+  pub list-added : (old : ReservationTable) (occupancy : Occupancy) → ((c : Cell) → occupancies_of t c ≡ occupancies_of old c) → IsPutIn v.items w.items occupancy → IsOccupancyAdded old new cell occupancy
   list-added old occupancy same p = record {
     here = subst (λ z. IsPutIn z (occupancies_of new cell) occupancy) (sym (list-here t cell k v n l e) ∙ same cell) (subst (λ z. IsPutIn v.items z occupancy) (sym list-put) p);
     others = λ c ne. list-kept c ne ∙ same c;
   }
 
--- ---- the stays of one agent are taken out
+-- ---- the occupancies of one agent are taken out
 
 -- the others stay
 pub without-placed : (old new : List Occupancy) (occupancy : Occupancy) (agent : ℕ) → IsPutIn old new occupancy → occupancy.agent ≡ agent → without agent new ≡ without agent old
@@ -256,14 +229,14 @@ without-none agent (s ∷ ss) h =
     ap (λ b. cond b (s ∷ without agent ss) (without agent ss)) (ap not (ne_eqb s.agent agent (omega arith)))
     ∙ ap (λ z. s ∷ z) (without-none agent ss later)
 
-pub without-others : (plan : Plan) (c : Cell) (occupancies : List Occupancy) → AreStays plan c occupancies → without (length plan) occupancies ≡ occupancies
+pub without-others : (plan : Plan) (c : Cell) (occupancies : List Occupancy) → AreOccupanciesOn plan c occupancies → without (length plan) occupancies ≡ occupancies
 without-others plan c occupancies h = without-none (length plan) occupancies (λ i l. (h.each i l).agent)
 
--- the stays of the agent are gone from all lists
-pub stays-removed : (agent : ℕ) (old new : ReservationTable) → new.numbers.items ≡ old.numbers.items → ((k : ℕ) → list_in new.lists.items k ≡ without agent (list_in old.lists.items k)) → (c : Cell) → occupancies_of new c ≡ without agent (occupancies_of old c)
-stays-removed agent old new e h c =
+-- the occupancies of the agent are gone from all lists
+pub occupancies-removed : (agent : ℕ) (old new : ReservationTable) → new.numbers.items ≡ old.numbers.items → ((k : ℕ) → list_in new.lists.items k ≡ without agent (list_in old.lists.items k)) → (c : Cell) → occupancies_of new c ≡ without agent (occupancies_of old c)
+occupancies-removed agent old new e h c =
     let n = number_in_rows old.numbers.items c in
-    stays-numbered new c n (ap (λ z. number_in_rows z c) e) ∙ by_number n ∙ ap (without agent) (sym (stays-numbered old c n refl))
+    occupancies-numbered new c n (ap (λ z. number_in_rows z c) e) ∙ by_number n ∙ ap (without agent) (sym (occupancies-numbered old c n refl))
   where
     by_number : (n : ℕ) → list_at new.lists.items n ≡ without agent (list_at old.lists.items n)
     by_number zero = refl

@@ -1,10 +1,9 @@
 -- Where agents are once they have arrived, and what tests say.
-use Rattle.std.proofs.Common.{◌+◌, ◌≡◌, ℕ, zero, suc, ◌<◌, ◌≤◌, Bool, true, false, IsTrue, List, [], ◌∷◌, length, get_or, All, ◌↔◌, sym, ap, ◌∙◌, arith}
+use Rattle.std.proofs.Common.{◌≡◌, ℕ, ◌≤◌, Bool, true, false, IsTrue, List, get_or, ◌↔◌, ap, arith}
 use Rattle.std.proofs.lemmas.Bool.{both_ways}
 use Rattle.fleet_model.specs.declared.geometry.Cell.{Cell}
 use Rattle.fleet_model.specs.Program.{origin}
-use Rattle.fleet_model.specs.declared.limits.TheConstants.{MAX_HORIZON}
-use Rattle.fleet_plan.specs.Plan.{Plan, IsPath, cell_at, cell_of, steps}
+use Rattle.fleet_plan.specs.Plan.{cell_at}
 use Rattle.fleet_search.specs.Way.{arrival}
 
 -- ---- times
@@ -13,26 +12,6 @@ use Rattle.fleet_search.specs.Way.{arrival}
 pub cell_at-late : (path : List Cell) (t : ℕ) → arrival path ≤ t → cell_at path t ≡ cell_at path (arrival path)
 unfolding cell_at
 cell_at-late path t h = ap (λ n. get_or path n origin) (omega arith)
-
-pub steps_fit : (plan : Plan) → All IsPath plan → steps plan ≤ MAX_HORIZON
-unfolding steps
-steps_fit [] all = omega arith
-steps_fit (p ∷ plan) all =
-    let few : length p ≤ MAX_HORIZON + 1 = (all 0 p (omega arith)).few_cells in
-    let rest = steps_fit plan (λ k d h. all (suc k) d (omega arith)) in
-    omega arith
-
-pub arrival_before : (plan : Plan) (j : ℕ) → j < length plan → arrival (get_or plan j []) ≤ steps plan
-unfolding steps
-arrival_before [] j h = absurd (omega arith)
-arrival_before (p ∷ plan) zero h = omega arith
-arrival_before (p ∷ plan) (suc j) h = let rest = arrival_before plan j (omega arith) in omega arith
-
-pub cell_of-late : (plan : Plan) (j t : ℕ) → j < length plan → steps plan ≤ t → cell_of plan j t ≡ cell_of plan j (steps plan)
-unfolding cell_of
-cell_of-late plan j t h l =
-    let a = arrival_before plan j h in
-    cell_at-late (get_or plan j []) t (omega arith) ∙ sym (cell_at-late (get_or plan j []) (steps plan) a)
 
 -- ---- tests
 

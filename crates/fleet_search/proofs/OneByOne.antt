@@ -6,8 +6,8 @@ use Rattle.fleet_model.specs.declared.geometry.Cell.{Cell}
 use Rattle.fleet_model.specs.Geometry.{place_of}
 use Rattle.fleet_model.specs.Conflict.{Motion, HasVertexConflict, HasSwappingConflict, HasCycleConflict, after_in}
 use Rattle.fleet_plan.specs.Plan.{Plan, planned}
-use Rattle.fleet_search.specs.Way.{joined, Fits, FitTogether, AreConflictFree}
-use Rattle.fleet_search.proofs.Steps.{joined-old, length-joined}
+use Rattle.fleet_search.specs.Way.{with_path, Fits, FitTogether, AreConflictFree}
+use Rattle.fleet_search.proofs.Steps.{with_path-old, length-with_path}
 
 -- ---- conflicts among agents that move alike
 
@@ -65,52 +65,52 @@ in_or_not (a ∷ ring) n = elim (cases_eq a n) [
 -- ---- one more path
 
 module _ (xs : Plan) (path : List Cell) (free : AreConflictFree xs) (fits : Fits xs path) where
-  alike : (x i : ℕ) → i < length xs → planned (joined xs path) x i ≡ planned xs x i
-  alike x i h = ap place_of (joined-old xs path i x h)
+  alike : (x i : ℕ) → i < length xs → planned (with_path xs path) x i ≡ planned xs x i
+  alike x i h = ap place_of (with_path-old xs path i x h)
 
-  is_last : (i : ℕ) → i < length (joined xs path) → (i < length xs) ⊎ (i ≡ length xs)
-  is_last i h = elim (cases_lt i (length xs)) [ inl l ↦ inl l | inr l ↦ inr (omega (arith, length-joined xs path)) ]
+  is_last : (i : ℕ) → i < length (with_path xs path) → (i < length xs) ⊎ (i ≡ length xs)
+  is_last i h = elim (cases_lt i (length xs)) [ inl l ↦ inl l | inr l ↦ inr (omega (arith, length-with_path xs path)) ]
 
-  no_vertex : (x i j : ℕ) → i < length (joined xs path) → j < length (joined xs path) → HasVertexConflict (planned (joined xs path)) x i j → ⊥
+  no_vertex : (x i j : ℕ) → i < length (with_path xs path) → j < length (with_path xs path) → HasVertexConflict (planned (with_path xs path)) x i j → ⊥
   no_vertex x i j a b w = elim (is_last i a) [
     | inl p ↦ elim (is_last j b) [
-      | inl q ↦ free.vertex x i j p q (vertex-as (planned (joined xs path)) (planned xs) (length xs) alike x i j p q w)
-      | inr q ↦ fits.vertex x i p (subst (λ z. HasVertexConflict (planned (joined xs path)) x z i) q (record { apart = λ e. w.apart (sym e); same = sym w.same }))
+      | inl q ↦ free.vertex x i j p q (vertex-as (planned (with_path xs path)) (planned xs) (length xs) alike x i j p q w)
+      | inr q ↦ fits.vertex x i p (subst (λ z. HasVertexConflict (planned (with_path xs path)) x z i) q (record { apart = λ e. w.apart (sym e); same = sym w.same }))
     ]
     | inr p ↦ elim (is_last j b) [
-      | inl q ↦ fits.vertex x j q (subst (λ z. HasVertexConflict (planned (joined xs path)) x z j) p w)
+      | inl q ↦ fits.vertex x j q (subst (λ z. HasVertexConflict (planned (with_path xs path)) x z j) p w)
       | inr q ↦ w.apart (p ∙ sym q)
     ]
   ]
 
-  no_swapping : (x i j : ℕ) → i < length (joined xs path) → j < length (joined xs path) → HasSwappingConflict (planned (joined xs path)) x i j → ⊥
+  no_swapping : (x i j : ℕ) → i < length (with_path xs path) → j < length (with_path xs path) → HasSwappingConflict (planned (with_path xs path)) x i j → ⊥
   no_swapping x i j a b w = elim (is_last i a) [
     | inl p ↦ elim (is_last j b) [
-      | inl q ↦ free.swapping x i j p q (swapping-as (planned (joined xs path)) (planned xs) (length xs) alike x i j p q w)
-      | inr q ↦ fits.swapping x i p (subst (λ z. HasSwappingConflict (planned (joined xs path)) x z i) q (swapping-turned (planned (joined xs path)) x i j w))
+      | inl q ↦ free.swapping x i j p q (swapping-as (planned (with_path xs path)) (planned xs) (length xs) alike x i j p q w)
+      | inr q ↦ fits.swapping x i p (subst (λ z. HasSwappingConflict (planned (with_path xs path)) x z i) q (swapping-turned (planned (with_path xs path)) x i j w))
     ]
     | inr p ↦ elim (is_last j b) [
-      | inl q ↦ fits.swapping x j q (subst (λ z. HasSwappingConflict (planned (joined xs path)) x z j) p w)
+      | inl q ↦ fits.swapping x j q (subst (λ z. HasSwappingConflict (planned (with_path xs path)) x z j) p w)
       | inr q ↦ w.apart (p ∙ sym q)
     ]
   ]
 
-  no_cycle : (x : ℕ) (ring : List ℕ) → All (λ i. i < length (joined xs path)) ring → HasCycleConflict (planned (joined xs path)) x ring → ⊥
+  no_cycle : (x : ℕ) (ring : List ℕ) → All (λ i. i < length (with_path xs path)) ring → HasCycleConflict (planned (with_path xs path)) x ring → ⊥
   no_cycle x ring inside w = elim (in_or_not ring (length xs)) [
     | inl has ↦ fits.cycle x ring inside has w
     | inr none ↦
         let below = λ (k e : ℕ) (h : k < length ring). old k e h none in
-        free.cycle x ring (λ k d h. below k d h) (cycle-as (planned (joined xs path)) (planned xs) (length xs) alike x ring below w)
+        free.cycle x ring (λ k d h. below k d h) (cycle-as (planned (with_path xs path)) (planned xs) (length xs) alike x ring below w)
   ]
     where
       old : (k e : ℕ) → k < length ring → ((k e : ℕ) → k < length ring → get_or ring k e ≢ length xs) → get_or ring k e < length xs
       old k e h none =
-          let a : get_or ring k e < length (joined xs path) = inside k e h in
+          let a : get_or ring k e < length (with_path xs path) = inside k e h in
           let ne : get_or ring k e ≢ length xs = none k e h in
-          omega (arith, length-joined xs path)
+          omega (arith, length-with_path xs path)
 
-  pub joined_free : AreConflictFree (joined xs path)
-  joined_free = record { vertex = no_vertex; swapping = no_swapping; cycle = no_cycle }
+  pub with_path_free : AreConflictFree (with_path xs path)
+  with_path_free = record { vertex = no_vertex; swapping = no_swapping; cycle = no_cycle }
 
 pub none_free : AreConflictFree []
 none_free = record {
@@ -122,25 +122,25 @@ none_free = record {
 front-free : (plan : Plan) → FitTogether plan → (n : ℕ) → n ≤ length plan → AreConflictFree (take n plan)
 front-free plan fit zero h = none_free
 front-free plan fit (suc n) h =
-    let e : take (suc n) plan ≡ joined (take n plan) (get_or plan n []) = ap (λ z. take z plan) (sym (add-one n)) ∙ take_more plan n [] (omega arith) in
-    subst AreConflictFree (sym e) (joined_free (take n plan) (get_or plan n []) (front-free plan fit n (omega arith)) (fit n (omega arith)))
+    let e : take (suc n) plan ≡ with_path (take n plan) (get_or plan n []) = ap (λ z. take z plan) (sym (add-one n)) ∙ take_more plan n [] (omega arith) in
+    subst AreConflictFree (sym e) (with_path_free (take n plan) (get_or plan n []) (front-free plan fit n (omega arith)) (fit n (omega arith)))
 
 pub one_by_one : (plan : Plan) → FitTogether plan → AreConflictFree plan
 one_by_one plan fit = subst AreConflictFree (take_all (length plan) plan (omega arith)) (front-free plan fit (length plan) (omega arith))
 
 -- one more that fits
-pub FitTogether-push : (plan : Plan) (path : List Cell) → FitTogether plan → Fits plan path → FitTogether (joined plan path)
+pub FitTogether-push : (plan : Plan) (path : List Cell) → FitTogether plan → Fits plan path → FitTogether (with_path plan path)
 FitTogether-push plan path fit fits i h = elim (is_last' (cases_lt i (length plan))) [
   | inl l ↦
-      let front : take i (joined plan path) ≡ take i plan = take-append-le i plan (path ∷ []) (omega arith) in
-      let at : get_or (joined plan path) i [] ≡ get_or plan i [] = get_or_append_left plan (path ∷ []) [] i l in
-      subst (λ z. Fits z (get_or (joined plan path) i [])) (sym front) (subst (Fits (take i plan)) (sym at) (fit i l))
+      let front : take i (with_path plan path) ≡ take i plan = take-append-le i plan (path ∷ []) (omega arith) in
+      let at : get_or (with_path plan path) i [] ≡ get_or plan i [] = get_or_append_left plan (path ∷ []) [] i l in
+      subst (λ z. Fits z (get_or (with_path plan path) i [])) (sym front) (subst (Fits (take i plan)) (sym at) (fit i l))
   | inr e ↦
-      let front : take i (joined plan path) ≡ plan = take_at plan (path ∷ []) i (sym e) in
-      let at : get_or (joined plan path) i [] ≡ path = get_or_push plan path [] i (sym e) in
-      subst (λ z. Fits z (get_or (joined plan path) i [])) (sym front) (subst (Fits plan) (sym at) fits)
+      let front : take i (with_path plan path) ≡ plan = take_at plan (path ∷ []) i (sym e) in
+      let at : get_or (with_path plan path) i [] ≡ path = get_or_push plan path [] i (sym e) in
+      subst (λ z. Fits z (get_or (with_path plan path) i [])) (sym front) (subst (Fits plan) (sym at) fits)
 ]
   where
     is_last' : (i < length plan) ⊎ (length plan ≤ i) → (i < length plan) ⊎ (i ≡ length plan)
     is_last' (inl l) = inl l
-    is_last' (inr l) = inr (omega (arith, length-joined plan path))
+    is_last' (inr l) = inr (omega (arith, length-with_path plan path))

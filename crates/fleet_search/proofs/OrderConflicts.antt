@@ -10,7 +10,7 @@ use Rattle.fleet_model.specs.Geometry.{place_of}
 use Rattle.fleet_model.specs.declared.task.Task.{Task}
 use Rattle.fleet_model.specs.Conflict.{Motion, HasVertexConflict, HasSwappingConflict, HasCycleConflict, after_in}
 use Rattle.fleet_plan.specs.Plan.{Plan, cell_at, cell_of, last_cell, planned, AreNeighbours, IsConflictFree}
-use Rattle.fleet_search.specs.Orders.{no_task, tasks_by, paths_by, rising, IsMadeInTries}
+use Rattle.fleet_search.specs.Orders.{no_task, tasks_by, paths_by, agent_numbers, IsMadeInTries}
 use Rattle.fleet_search.specs.InTurn.{IsPrioritisedPlan}
 use Rattle.fleet_search.proofs.InTurnLaws.{in_turn_free}
 use Rattle.fleet_search.proofs.OrderLaws.{order-length, place_of_agent, task_in_order, get_or-by}
@@ -74,7 +74,7 @@ module _ (p q : Motion) (n : ℕ) (f : ℕ → ℕ) (apart : (i j : ℕ) → i <
 
 -- ---- the order in which a plan is made
 
-module _ (passable : Place → Bool) (tasks : List Task) (plan : Plan) (order : List ℕ) (each : IsPermutation (rising (length tasks)) order) (agents : length plan ≡ length tasks) where
+module _ (passable : Place → Bool) (tasks : List Task) (plan : Plan) (order : List ℕ) (each : IsPermutation (agent_numbers (length tasks)) order) (agents : length plan ≡ length tasks) where
   place_by : (i : ℕ) → (i < length tasks) ⊎ (length tasks ≤ i) → ℕ
   place_by i (inl h) = (place_of_agent (length tasks) order each i h).0
   place_by i (inr h) = 0

@@ -1,6 +1,6 @@
 -- Rows of numbers: buckets, and labels.
-use Rattle.std.proofs.Common.{◌≡◌, ◌≢◌, ℕ, ◌<◌, ◌≤◌, ◌==◌, cond, List, [], ◌∷◌, ◌++◌, length, map, get_or, inl, inr, refl, sym, ap, ◌∙◌, arith}
-use Rattle.std.specs.Prelude.{Vec, set}
+use Rattle.std.proofs.Common.{◌≡◌, ◌≢◌, ℕ, ◌<◌, ◌≤◌, ◌==◌, cond, List, [], ◌∷◌, ◌++◌, length, map, get_or, Option, None, Some, option_to_list, inl, inr, refl, sym, ap, ◌∙◌, arith}
+use Rattle.std.specs.Prelude.{Vec, set, MatchOption, IfSome, IfNone}
 use Rattle.std.specs.declared.alloc.Global.{Global}
 use Rattle.std.proofs.lemmas.Bool.{cases_eq, cases_lt, eqb-true, eq-eqb, false_from_ne_true}
 use Rattle.std.proofs.lemmas.List.{get_or-set_same, get_or-set_other, get_or-map, map-set, map-append, get_or_past, get_or_push, get_or_append_left, length-map, length_push}
@@ -54,3 +54,12 @@ row-kept rows key v w h e g k = elim (cases_eq k key) [
 pub no_numbers : (xs : List ℕ) → length xs ≡ 0 → xs ≡ []
 no_numbers [] h = refl
 no_numbers (x ∷ xs) h = absurd (omega arith)
+
+-- a number is taken off a row, if it has one
+pub is_taken : (rows : List (Vec ℕ Global)) (key : ℕ) (v w : Vec ℕ Global) (number : Option ℕ) → key < length rows → v ≡ get_or rows key v → v.items ≡ w.items ++ option_to_list number → IfSome number (λ m. bucket_in rows key ≡ bucket_in (set rows key w) key ++ m ∷ [])
+is_taken rows key v w None h e g = tt
+is_taken rows key v w (Some m) h e g = row-read rows key v h e ∙ g ∙ ap (λ z. z ++ m ∷ []) (sym (row-set rows key w h))
+
+pub none_is_taken : (number : Option ℕ) (P Q : Type 0) (R : ℕ → Type 0) → MatchOption number P R → (P → Q) → IfNone number Q
+none_is_taken None P Q R p f = f p
+none_is_taken (Some m) P Q R p f = tt

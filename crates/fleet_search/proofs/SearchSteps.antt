@@ -23,9 +23,9 @@ use Rattle.fleet_search.specs.Links.{place_in}
 use Rattle.fleet_search.specs.Rows.{bucket_of, IsPut}
 use Rattle.fleet_search.specs.Labels.{Times, earliest_in, IsLabelSet, IsSeen}
 use Rattle.fleet_search.specs.Search.{heuristic_of, occupancies_on, IsMeasured, AreBeside, IsStep, least_arrival, IsBucket, IsGoalState, no_node, state_in, parent_in, IsKnown, IsMove, IsReachedFrom, IsSoundNode, IsCovered, IsExpanded, IsSuperseded, IsStateSettled, earliest_of, IsFrontier, IsPosed, IsFrontierOf, IsLeft, IsExpansion, Grows, ExpandsOn, IsFreeUntil, IsFoundAt, IsFoundIn, IsFoundFrom}
-use Rattle.fleet_search.proofs.Spread.{back, one_place}
+use Rattle.fleet_search.proofs.Spread.{AreNeighbours-sym, one_place}
 use Rattle.fleet_search.proofs.Chase.{step_ok-alone}
-use Rattle.fleet_search.proofs.IntervalLaws.{stays-apart, one_gap, interval-free_on, interval-since}
+use Rattle.fleet_search.proofs.IntervalLaws.{occupancies-apart, one_gap, interval-free_on, interval-since}
 
 abbrev state : ℕ → Cell → State
 state t c = record { time = t; cell = c }
@@ -38,7 +38,7 @@ node_of m link = record { state = m; parent = link }
 -- a step changes the distance by one at most
 pub near-beside : (q : Query) → IsMeasured q → (c d : Cell) → IsTrue (is_passable q.grid.now (place_of c)) → IsTrue (is_passable q.grid.now (place_of d)) → AreBeside c d → (heuristic_of q d ≤ heuristic_of q c + 1) × (heuristic_of q c ≤ heuristic_of q d + 1)
 near-beside q m c d hc hd (inl e) = subst (λ z. (heuristic_of q z ≤ heuristic_of q c + 1) × (heuristic_of q c ≤ heuristic_of q z + 1)) e (let n = heuristic_of q c in omega arith, let n = heuristic_of q c in omega arith)
-near-beside q m c d hc hd (inr w) = (m.heuristic.near c d hc hd w, m.heuristic.near d c hd hc (back c d w))
+near-beside q m c d hc hd (inr w) = (m.heuristic.near c d hc hd w, m.heuristic.near d c hd hc (AreNeighbours-sym c d w))
 
 -- a move leads to no bucket below the one before
 pub bucket-next : (q : Query) (m n : State) (f k : ℕ) → IsBucket q m f → IsBucket q n k → m.time + 1 ≤ n.time → heuristic_of q m.cell ≤ heuristic_of q n.cell + 1 → f - 1 ≤ k
@@ -64,12 +64,12 @@ module _ (q : Query) (old new : List Node) (more : length old ≤ length new) (k
   pub covered-stays : (c : Cell) (t : ℕ) → IsCovered q old c t → IsCovered q new c t
   covered-stays c t h = record { since = h.since; early = h.early; known = known-stays (record { time = h.since; cell = c }) h.known; free = h.free }
 
-  pub expanded-occupancies : (x : State) → IsExpanded q old x → IsExpanded q new x
-  expanded-occupancies x e = record { moves = λ v c n m h. covered-stays c (v + 1) (e.moves v c n m h); not_end = e.not_end }
+  pub expanded-stays : (x : State) → IsExpanded q old x → IsExpanded q new x
+  expanded-stays x e = record { moves = λ v c n m h. covered-stays c (v + 1) (e.moves v c n m h); not_end = e.not_end }
 
-  pub settled-occupancies : (x : State) → IsStateSettled q old x → IsStateSettled q new x
-  settled-occupancies x (inl e) = inl (expanded-occupancies x e)
-  settled-occupancies x (inr s) = inr (record { since = s.since; sooner = s.sooner; known = known-stays (record { time = s.since; cell = x.cell }) s.known; free = s.free })
+  pub settled-stays : (x : State) → IsStateSettled q old x → IsStateSettled q new x
+  settled-stays x (inl e) = inl (expanded-stays x e)
+  settled-stays x (inr s) = inr (record { since = s.since; sooner = s.sooner; known = known-stays (record { time = s.since; cell = x.cell }) s.known; free = s.free })
 
   pub sound-stays : (x : State) (from : ℕ) → IsSoundNode q old x from → IsSoundNode q new x from
   sound-stays x from s = record { reached_from = nodes s.reached_from; in_time = s.in_time; on_ground = s.on_ground; free = s.free }
@@ -264,7 +264,7 @@ module _ (q : Query) (f place : ℕ) (r : List Node) (labels : Times) (open_list
   labelled : (i : ℕ) → i < length r' → IsLabelled q labels' (state_in r' i)
   labelled i h = elim (cases i h) [
     | inl l ↦ subst (IsLabelled q labels') (sym (same_at q r r' more kept i l)) (labelled-stays (state_in r i) (fr.sound i l).on_ground (fr.labelled i l))
-    | inr s ↦ subst (IsLabelled q labels') (sym (ap (state_in r') s ∙ new_at)) (λ k g. subst (λ z. IsSeen (earliest_of q labels' cell z) (u + 1)) (one_gap (occupancies_on q cell) (stays-apart q.reserved.now cell (occupancies_on q cell) (fr.measured.occupancies cell)) (u + 1) interval k inside g) (seen-new (u + 1) (omega arith)))
+    | inr s ↦ subst (IsLabelled q labels') (sym (ap (state_in r') s ∙ new_at)) (λ k g. subst (λ z. IsSeen (earliest_of q labels' cell z) (u + 1)) (one_gap (occupancies_on q cell) (occupancies-apart q.reserved.now cell (occupancies_on q cell) (fr.measured.occupancies cell)) (u + 1) interval k inside g) (seen-new (u + 1) (omega arith)))
   ]
 
   known-new : IsKnown r' (state (u + 1) cell)
@@ -312,7 +312,7 @@ module _ (q : Query) (f place : ℕ) (r : List Node) (labels : Times) (open_list
       | inl w ↦ inl (w.0, keep w.0 i w.1)
       | inr w ↦ elim w [
         | inl s ↦ inr (inl s)
-        | inr x ↦ inr (inr (subst (IsStateSettled q r') (sym (same_at q r r' more kept i l)) (settled-occupancies q r r' more kept (state_in r i) x)))
+        | inr x ↦ inr (inr (subst (IsStateSettled q r') (sym (same_at q r r' more kept i l)) (settled-stays q r r' more kept (state_in r i) x)))
       ]
     ]
   ]
@@ -396,8 +396,8 @@ left_done q f place r labels open_list fr e = record {
 }
 
 -- fewer buckets need be empty
-pub lower : (q : Query) (f g : ℕ) (left : Option ℕ) (r : List Node) (labels : Times) (open_list : List (List ℕ)) → g ≤ f → IsFrontier q f left r labels open_list → IsFrontier q g left r labels open_list
-lower q f g left r labels open_list h fr = record {
+pub frontier_of_lower_bucket : (q : Query) (f g : ℕ) (left : Option ℕ) (r : List Node) (labels : Times) (open_list : List (List ℕ)) → g ≤ f → IsFrontier q f left r labels open_list → IsFrontier q g left r labels open_list
+frontier_of_lower_bucket q f g left r labels open_list h fr = record {
   measured = fr.measured;
   origin = fr.origin;
   sound = fr.sound;
@@ -410,8 +410,8 @@ lower q f g left r labels open_list h fr = record {
 }
 
 -- if nothing new was put on the buckets, those that were empty still are
-pub raise : (q : Query) (f g : ℕ) (left : Option ℕ) (r : List Node) (labels : Times) (open_list before : List (List ℕ)) → IsFrontier q g left r labels open_list → ((k : ℕ) → bucket_of open_list k ≡ bucket_of before k) → ((k : ℕ) → k < f → bucket_of before k ≡ []) → IsFrontier q f left r labels open_list
-raise q f g left r labels open_list before fr same past = record {
+pub frontier_of_higher_bucket : (q : Query) (f g : ℕ) (left : Option ℕ) (r : List Node) (labels : Times) (open_list before : List (List ℕ)) → IsFrontier q g left r labels open_list → ((k : ℕ) → bucket_of open_list k ≡ bucket_of before k) → ((k : ℕ) → k < f → bucket_of before k ≡ []) → IsFrontier q f left r labels open_list
+frontier_of_higher_bucket q f g left r labels open_list before fr same past = record {
   measured = fr.measured;
   origin = fr.origin;
   sound = fr.sound;
@@ -545,7 +545,7 @@ module _ (q : Query) (ask : IsPosed q) (near : heuristic_of q q.start ≤ q.hori
     origin = (0, within-first, open-state 0 within-first);
     sound = λ i h. subst (λ (z : Node). IsSoundNode q r z.state (place_in z.parent)) (sym (open-at i h)) (record { reached_from = inl (refl, refl); in_time = (let b = near in omega arith); on_ground = ask.on_ground; free = ask.free });
     apart = λ i k a b s. first-place i a ∙ sym (first-place k b);
-    labelled = λ i h. subst (IsLabelled q labels') (sym (open-state i h)) (λ k g. subst (λ z. IsSeen (earliest_of q labels' q.start z) 0) (one_gap (occupancies_on q q.start) (stays-apart q.reserved.now q.start (occupancies_on q q.start) (ask.measured.occupancies q.start)) 0 interval k inside g) (record { time = 0; is = set.set; early = omega arith }));
+    labelled = λ i h. subst (IsLabelled q labels') (sym (open-state i h)) (λ k g. subst (λ z. IsSeen (earliest_of q labels' q.start z) 0) (one_gap (occupancies_on q q.start) (occupancies-apart q.reserved.now q.start (occupancies_on q q.start) (ask.measured.occupancies q.start)) 0 interval k inside g) (record { time = 0; is = set.set; early = omega arith }));
     met = open-met;
     stacked = λ k i h. let w = only k i h in subst (λ z. IsBucket q z k) (sym (open-state i (let z = w.0 in let l = open-long in omega arith))) (subst (IsBucket q (state 0 q.start)) (sym w.1) bucket);
     past = λ k h. absurd (omega arith);

@@ -24,7 +24,7 @@ use Rattle.fleet_grid.specs.Ground.{Ground, IsGround, cell_index}
 use Rattle.fleet_grid.proofs.StoredLaws.{off_map}
 use Rattle.fleet_plan.specs.Plan.{AreNeighbours}
 use Rattle.fleet_search.specs.declared.distances.Label.{Label}
-use Rattle.fleet_search.specs.Distance.{DistanceTable, no_label, label_in, labelled, manhattan, least_moves, heuristic, with_label, IsReady, AreDistances, IsOnGround, IsClosed, IsWaiting, IsSpread, IsSpreadOf, IsLabelled, LabelsFall, IsFoundTowards, IsPutFrom, IsLabelNear, IsLabelledTowards, label_weight, work_left}
+use Rattle.fleet_search.specs.Distance.{DistanceTable, no_label, label_in, label_of_search, manhattan, least_moves, heuristic, with_label, IsReady, AreDistances, IsOnGround, IsClosed, IsWaiting, IsSpread, IsSpreadOf, IsLabelled, LabelsFall, IsFoundTowards, IsPutFrom, IsLabelNear, IsLabelledTowards, label_weight, work_left}
 
 -- ---- the places of cells in a table
 
@@ -45,43 +45,40 @@ one_place g c d s a b same =
     let made : ℕ → ℕ → Cell = λ x y. record { x = x; y = y } in
     ap (λ x. made x c.y) column ∙ ap (λ y. made d.x y) row
 
-pub back : (c d : Cell) → AreNeighbours c d → AreNeighbours d c
-back c d (North, h) = (South, let x = ap (λ (p : Place). p.x) h in let y = ap (λ (p : Place). p.y) h in λ i. record { x = sym x i; y = south y i })
+pub AreNeighbours-sym : (c d : Cell) → AreNeighbours c d → AreNeighbours d c
+AreNeighbours-sym c d (North, h) = (South, let x = ap (λ (p : Place). p.x) h in let y = ap (λ (p : Place). p.y) h in λ i. record { x = sym x i; y = south y i })
   where
     south : (place_of d).y ≡ (moved (place_of c) North).y → (place_of c).y ≡ (moved (place_of d) South).y
     south y = omega (arith, ints, y)
-back c d (East, h) = (West, let x = ap (λ (p : Place). p.x) h in let y = ap (λ (p : Place). p.y) h in λ i. record { x = west x i; y = sym y i })
+AreNeighbours-sym c d (East, h) = (West, let x = ap (λ (p : Place). p.x) h in let y = ap (λ (p : Place). p.y) h in λ i. record { x = west x i; y = sym y i })
   where
     west : (place_of d).x ≡ (moved (place_of c) East).x → (place_of c).x ≡ (moved (place_of d) West).x
     west x = omega (arith, ints, x)
-back c d (South, h) = (North, let x = ap (λ (p : Place). p.x) h in let y = ap (λ (p : Place). p.y) h in λ i. record { x = sym x i; y = north y i })
+AreNeighbours-sym c d (South, h) = (North, let x = ap (λ (p : Place). p.x) h in let y = ap (λ (p : Place). p.y) h in λ i. record { x = sym x i; y = north y i })
   where
     north : (place_of d).y ≡ (moved (place_of c) South).y → (place_of c).y ≡ (moved (place_of d) North).y
     north y = omega (arith, ints, y)
-back c d (West, h) = (East, let x = ap (λ (p : Place). p.x) h in let y = ap (λ (p : Place). p.y) h in λ i. record { x = east x i; y = sym y i })
+AreNeighbours-sym c d (West, h) = (East, let x = ap (λ (p : Place). p.x) h in let y = ap (λ (p : Place). p.y) h in λ i. record { x = east x i; y = sym y i })
   where
     east : (place_of d).x ≡ (moved (place_of c) West).x → (place_of c).x ≡ (moved (place_of d) East).x
     east x = omega (arith, ints, x)
 
 -- ---- labels
 
-label_of : ℕ → ℕ → Label
-label_of search distance = record { search = search; distance = distance }
-
-pub labelled-here : (search distance : ℕ) → labelled search (record { search = search; distance = distance }) ≡ Some distance
-labelled-here search distance = ap (λ b. cond b (Some distance) None) (eq-eqb search search refl)
+pub label_of_search-here : (search distance : ℕ) → label_of_search search (record { search = search; distance = distance }) ≡ Some distance
+label_of_search-here search distance = ap (λ b. cond b (Some distance) None) (eq-eqb search search refl)
 
 -- a label of another search is none
-pub labelled-other : (search : ℕ) (l : Label) → l.search ≢ search → labelled search l ≡ None
-labelled-other search l ne = ap (λ b. cond b (Some l.distance) None) (false_from_ne_true (l.search == search) (λ e. ne (eqb-true l.search search e)))
+pub label_of_search-other : (search : ℕ) (l : Label) → l.search ≢ search → label_of_search search l ≡ None
+label_of_search-other search l ne = ap (λ b. cond b (Some l.distance) None) (false_from_ne_true (l.search == search) (λ e. ne (eqb-true l.search search e)))
 
-pub labelled-same : (search : ℕ) (l : Label) → l.search ≡ search → labelled search l ≡ Some l.distance
-labelled-same search l e = ap (λ b. cond b (Some l.distance) None) (eq-eqb l.search search e)
+pub label_of_search-same : (search : ℕ) (l : Label) → l.search ≡ search → label_of_search search l ≡ Some l.distance
+label_of_search-same search l e = ap (λ b. cond b (Some l.distance) None) (eq-eqb l.search search e)
 
 -- what is read in the cell's place
-pub label_read : (s : DistanceTable) (c : Cell) (place : ℕ) (l : Label) → place ≡ cell_index s.grid c → l ≡ get_or s.labels place no_label → labelled s.search l ≡ label_in s.grid s.labels s.search c
+pub label_read : (s : DistanceTable) (c : Cell) (place : ℕ) (l : Label) → place ≡ cell_index s.grid c → l ≡ get_or s.labels place no_label → label_of_search s.search l ≡ label_in s.grid s.labels s.search c
 unfolding label_in
-label_read s c place l at read = ap (labelled s.search) (read ∙ ap (λ n. get_or s.labels n no_label) at)
+label_read s c place l at read = ap (label_of_search s.search) (read ∙ ap (λ n. get_or s.labels n no_label) at)
 
 -- a label of this search leaves no later one
 pub ready_set : (g : Ground) (labels : List Label) (search place distance : ℕ) → place < length labels → IsReady g labels search → IsReady g (set labels place (record { search = search; distance = distance })) search
@@ -190,11 +187,11 @@ manhattan-few g a b s ha hb = let p = on_map g a s ha in let q = on_map g b s hb
 module _ (g : Ground) (labels : List Label) (search : ℕ) (start goal : Cell) (f_bound : ℕ) (left : Cell) (layer next : List Cell) (sp : IsSpread g labels search start goal f_bound (Some left) layer next) (map : IsGround g) (d : ℕ) (few : d < MAX_HORIZON) (on_left : IsOnGround g left) (at_left : label_in g labels search left ≡ Some d) (over : d + manhattan left start ≡ f_bound) (b : Cell) (beside : AreNeighbours left b) (on : IsOnGround g b) (within : cell_index g b < length labels) (more : (n : ℕ) → label_in g labels search b ≡ Some n → d + 1 < n) (labels' : List Label) (put : labels' ≡ set labels (cell_index g b) (record { search = search; distance = d + 1 })) where
   here : label_in g labels' search b ≡ Some (d + 1)
   unfolding label_in
-  here = ap (λ z. labelled search (get_or z (cell_index g b) no_label)) put ∙ ap (labelled search) (get_or-set_same labels (cell_index g b) (record { search = search; distance = d + 1 }) no_label within) ∙ labelled-here search (d + 1)
+  here = ap (λ z. label_of_search search (get_or z (cell_index g b) no_label)) put ∙ ap (label_of_search search) (get_or-set_same labels (cell_index g b) (record { search = search; distance = d + 1 }) no_label within) ∙ label_of_search-here search (d + 1)
 
   other : (c : Cell) → cell_index g c ≢ cell_index g b → label_in g labels' search c ≡ label_in g labels search c
   unfolding label_in
-  other c ne = ap (λ z. labelled search (get_or z (cell_index g c) no_label)) put ∙ ap (labelled search) (get_or-set_other labels (cell_index g b) (cell_index g c) (record { search = search; distance = d + 1 }) no_label ne)
+  other c ne = ap (λ z. label_of_search search (get_or z (cell_index g c) no_label)) put ∙ ap (label_of_search search) (get_or-set_other labels (cell_index g b) (cell_index g c) (record { search = search; distance = d + 1 }) no_label ne)
 
   -- the cell is the new one, or its label is as before
   cases : (c : Cell) → IsOnGround g c → (b ≡ c) ⊎ (label_in g labels' search c ≡ label_in g labels search c)
@@ -215,8 +212,8 @@ module _ (g : Ground) (labels : List Label) (search : ℕ) (start goal : Cell) (
     | inr s ↦ s ∙ at_left
   ]
 
-  closed-occupancies : (c : Cell) (n : ℕ) → IsClosed g labels search c n → IsClosed g labels' search c n
-  closed-occupancies c n h e nb on' = let w = h e nb on' in let f = falls e w.0 on' w.1 in let l = f.2 in let l' = w.2 in (f.0, f.1, (omega arith))
+  closed-stays : (c : Cell) (n : ℕ) → IsClosed g labels search c n → IsClosed g labels' search c n
+  closed-stays c n h e nb on' = let w = h e nb on' in let f = falls e w.0 on' w.1 in let l = f.2 in let l' = w.2 in (f.0, f.1, (omega arith))
 
   -- where the cell waits
   record IsPut (layer' next' : List Cell) : Type 0 where
@@ -246,7 +243,7 @@ module _ (g : Ground) (labels : List Label) (search : ℕ) (start goal : Cell) (
           let k : n ≡ d + 1 = same_Some n (d + 1) (sym e ∙ ap (label_in g labels' search) (sym s) ∙ here) in
           inr (subst (λ v. IsWaiting f_bound (v + manhattan c start) layer' next' (Some left) c) (sym k) (subst (λ v. IsWaiting f_bound (d + 1 + manhattan v start) layer' next' (Some left) v) s p.waits))
       | inr s ↦ elim (sp.closed c n h (sym s ∙ e)) [
-        | inl k ↦ inl (closed-occupancies c n k)
+        | inl k ↦ inl (closed-stays c n k)
         | inr w ↦ inr (elim w [
           | inl x ↦ inl (x.0, elim x.1 [ inl y ↦ inl (p.keeps c y) | inr y ↦ inr y ])
           | inr x ↦ inr (x.0, p.keeps_next c x.1)
@@ -284,7 +281,7 @@ module _ (g : Ground) (labels : List Label) (search : ℕ) (start goal : Cell) (
       let v : Label = record { search = search; distance = d + 1 } in
       let s = sum_by-set (label_weight search) labels (cell_index g b) v no_label within in
       let e = ap (sum_by (label_weight search)) put in
-      let n = ap (λ o. unwrap_or o (MAX_HORIZON + 1)) (labelled-here search (d + 1)) in
+      let n = ap (λ o. unwrap_or o (MAX_HORIZON + 1)) (label_of_search-here search (d + 1)) in
       let old = heavier (label_in g labels search b) refl in
       omega arith
     where
@@ -297,7 +294,7 @@ pub near_before : (s : DistanceTable) (d : ℕ) (left b : Cell) → IsLabelNear 
 unfolding label_in
 near_before s d left b near dir p e p' on =
     let l = get_or s.labels (cell_index s.grid b) no_label in
-    (l.distance, subst (λ z. label_in s.grid s.labels s.search z ≡ Some l.distance) (place_of-injective b e (p ∙ sym p')) (labelled-same s.search l near.current), near.near)
+    (l.distance, subst (λ z. label_in s.grid s.labels s.search z ≡ Some l.distance) (place_of-injective b e (p ∙ sym p')) (label_of_search-same s.search l near.current), near.near)
 
 -- a label that is none of this search, or says more moves
 pub not-near : (g : Ground) (labels : List Label) (search d : ℕ) (b : Cell) → (IsLabelNear search (get_or labels (cell_index g b) no_label) (d + 1) → ⊥) → (n : ℕ) → label_in g labels search b ≡ Some n → d + 1 < n
@@ -305,9 +302,9 @@ unfolding label_in
 not-near g labels search d b not n e =
     let l = get_or labels (cell_index g b) no_label in
     elim (cases_eq l.search search) [
-      | inr ne ↦ absurd (none-some n (sym (labelled-other search l ne) ∙ e))
+      | inr ne ↦ absurd (none-some n (sym (label_of_search-other search l ne) ∙ e))
       | inl s ↦
-          let k : l.distance ≡ n = same_Some l.distance n (sym (labelled-same search l s) ∙ e) in
+          let k : l.distance ≡ n = same_Some l.distance n (sym (label_of_search-same search l s) ∙ e) in
           elim (cases_lt (d + 1) n) [ inl y ↦ y | inr y ↦ absurd (not (record { current = s; near = (omega arith) })) ]
     ]
 
@@ -469,7 +466,7 @@ distances-of s f_bound layer next ready sp low few = record {
 -- the labels are of sooner searches
 pub none-labelled : (g : Ground) (labels : List Label) (search : ℕ) → 0 < search → ((i : ℕ) → i < length labels → (get_or labels i no_label).search < search) → (c : Cell) → label_in g labels search c ≡ None
 unfolding label_in
-none-labelled g labels search some sooner c = labelled-other search (get_or labels (cell_index g c) no_label) (λ same. elim (cases_lt (cell_index g c) (length labels)) [
+none-labelled g labels search some sooner c = label_of_search-other search (get_or labels (cell_index g c) no_label) (λ same. elim (cases_lt (cell_index g c) (length labels)) [
   | inl l ↦ let s = sooner (cell_index g c) l in omega arith
   | inr l ↦ let s = ap (λ (l : Label). l.search) (get_or_past labels (cell_index g c) no_label l) in omega arith
 ])
@@ -496,7 +493,7 @@ spread-begin r start goal map fresh on within = record {
     labels = set r.labels (cell_index r.grid goal) first
 
     here : label_in r.grid labels r.search goal ≡ Some 0
-    here = ap (labelled r.search) (get_or-set_same r.labels (cell_index r.grid goal) first no_label within) ∙ labelled-here r.search 0
+    here = ap (label_of_search r.search) (get_or-set_same r.labels (cell_index r.grid goal) first no_label within) ∙ label_of_search-here r.search 0
 
     same : (c : Cell) → Contains (goal ∷ []) c → goal ≡ c
     same c (zero, l, s) = s
@@ -504,13 +501,9 @@ spread-begin r start goal map fresh on within = record {
 
     only : (c : Cell) (n : ℕ) → IsOnGround r.grid c → label_in r.grid labels r.search c ≡ Some n → (goal ≡ c) × (n ≡ 0)
     only c n h e = elim (cases_eq (cell_index r.grid c) (cell_index r.grid goal)) [
-      | inl k ↦ (one_place r.grid goal c map on h (sym k), same_Some n 0 (sym e ∙ ap (λ i. labelled r.search (get_or labels i no_label)) k ∙ here))
-      | inr ne ↦ absurd (none-some n (sym (ap (labelled r.search) (get_or-set_other r.labels (cell_index r.grid goal) (cell_index r.grid c) first no_label ne) ∙ fresh c) ∙ e))
+      | inl k ↦ (one_place r.grid goal c map on h (sym k), same_Some n 0 (sym e ∙ ap (λ i. label_of_search r.search (get_or labels i no_label)) k ∙ here))
+      | inr ne ↦ absurd (none-some n (sym (ap (label_of_search r.search) (get_or-set_other r.labels (cell_index r.grid goal) (cell_index r.grid c) first no_label ne) ∙ fresh c) ∙ e))
     ]
-
-pub no_cells : (xs : List Cell) → length xs ≡ 0 → xs ≡ []
-no_cells [] h = refl
-no_cells (x ∷ xs) h = absurd (omega arith)
 
 -- ---- the work
 

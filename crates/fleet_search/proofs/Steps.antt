@@ -9,20 +9,20 @@ use Rattle.fleet_model.specs.Geometry.{place_of}
 use Rattle.fleet_model.specs.Conflict.{HasSwappingConflict, HasCycleConflict, after_in}
 use Rattle.fleet_plan.specs.Plan.{Plan, cell_at, cell_of, planned}
 use Rattle.fleet_model.proofs.Places.{place_of-injective}
-use Rattle.fleet_search.specs.Way.{joined, Fits, Follow, EachStepFits}
+use Rattle.fleet_search.specs.Way.{with_path, Fits, Follow, EachStepFits}
 
--- ---- the cells of the joined plan
+-- ---- the cells of the plan with one more path
 
-pub joined-old : (reserved : Plan) (path : List Cell) (j t : ℕ) → j < length reserved → cell_of (joined reserved path) j t ≡ cell_of reserved j t
+pub with_path-old : (reserved : Plan) (path : List Cell) (j t : ℕ) → j < length reserved → cell_of (with_path reserved path) j t ≡ cell_of reserved j t
 unfolding cell_of
-joined-old reserved path j t h = ap (λ p. cell_at p t) (get_or_append_left reserved (path ∷ []) [] j h)
+with_path-old reserved path j t h = ap (λ p. cell_at p t) (get_or_append_left reserved (path ∷ []) [] j h)
 
-pub joined-new : (reserved : Plan) (path : List Cell) (t : ℕ) → cell_of (joined reserved path) (length reserved) t ≡ cell_at path t
+pub with_path-new : (reserved : Plan) (path : List Cell) (t : ℕ) → cell_of (with_path reserved path) (length reserved) t ≡ cell_at path t
 unfolding cell_of
-joined-new reserved path t = ap (λ p. cell_at p t) (get_or_push reserved path [] (length reserved) refl)
+with_path-new reserved path t = ap (λ p. cell_at p t) (get_or_push reserved path [] (length reserved) refl)
 
-pub length-joined : (reserved : Plan) (path : List Cell) → length (joined reserved path) ≡ length reserved + 1
-length-joined reserved path = omega (arith, length-append reserved (path ∷ []))
+pub length-with_path : (reserved : Plan) (path : List Cell) → length (with_path reserved path) ≡ length reserved + 1
+length-with_path reserved path = omega (arith, length-append reserved (path ∷ []))
 
 -- ---- followers, each once
 
@@ -88,11 +88,11 @@ apart-all n (j ∷ js) h = (ne_eqb n j (let l : j < n = h 0 0 (omega arith) in o
 -- ---- from the whole to each step
 
 module _ (reserved : Plan) (path : List Cell) where
-  here : (j t : ℕ) → j < length reserved → cell_of (joined reserved path) j t ≡ cell_of reserved j t
-  here = joined-old reserved path
+  here : (j t : ℕ) → j < length reserved → cell_of (with_path reserved path) j t ≡ cell_of reserved j t
+  here = with_path-old reserved path
 
-  new : (t : ℕ) → cell_of (joined reserved path) (length reserved) t ≡ cell_at path t
-  new = joined-new reserved path
+  new : (t : ℕ) → cell_of (with_path reserved path) (length reserved) t ≡ cell_at path t
+  new = with_path-new reserved path
 
   no_vertex : Fits reserved path → (x j : ℕ) → j < length reserved → cell_of reserved j x ≢ cell_at path x
   no_vertex fits x j h e = fits.vertex x j h (record { apart = omega arith; same = ap place_of (new x ∙ sym e ∙ sym (here j x h)) })
@@ -103,14 +103,14 @@ module _ (reserved : Plan) (path : List Cell) where
         apart = let l : j < length reserved = f.0 in omega arith;
         there = ap place_of (new (t + 1) ∙ sym f.1 ∙ sym (here j t f.0));
         back = ap place_of (here j (t + 1) f.0 ∙ f.3 ∙ sym (new t));
-        changed = λ same. ne (sym (new t) ∙ place_of-injective (cell_of (joined reserved path) (length reserved) t) (cell_of (joined reserved path) j t) same ∙ here j t f.0 ∙ f.1);
+        changed = λ same. ne (sym (new t) ∙ place_of-injective (cell_of (with_path reserved path) (length reserved) t) (cell_of (with_path reserved path) j t) same ∙ here j t f.0 ∙ f.1);
       })
 
   no_cycle : Fits reserved path → (t i j : ℕ) (js : List ℕ) → cell_at path t ≢ cell_at path (t + 1) → Follow reserved t (cell_at path (t + 1)) (i ∷ j ∷ js) (cell_at path t) → IsDistinct ◌==◌ (i ∷ j ∷ js) → ⊥
   unfolding IsDistinct
   no_cycle fits t i j js ne f u =
       let n = length reserved in
-      let plan = joined reserved path in
+      let plan = with_path reserved path in
       let ks = i ∷ j ∷ js in
       let from = cell_at path t in
       let to = cell_at path (t + 1) in
@@ -122,20 +122,20 @@ module _ (reserved : Plan) (path : List Cell) where
         moves = moves f;
       })
     where
-      inside : ((k e : ℕ) → k < length (i ∷ j ∷ js) → get_or (i ∷ j ∷ js) k e < length reserved) → All (λ k. k < length (joined reserved path)) (length reserved ∷ i ∷ j ∷ js)
-      inside below zero d h = omega (arith, length-joined reserved path)
-      inside below (suc k) d h = omega (arith, length-joined reserved path, below k d (omega arith))
+      inside : ((k e : ℕ) → k < length (i ∷ j ∷ js) → get_or (i ∷ j ∷ js) k e < length reserved) → All (λ k. k < length (with_path reserved path)) (length reserved ∷ i ∷ j ∷ js)
+      inside below zero d h = omega (arith, length-with_path reserved path)
+      inside below (suc k) d h = omega (arith, length-with_path reserved path, below k d (omega arith))
 
-      next : Follow reserved t (cell_at path (t + 1)) (i ∷ j ∷ js) (cell_at path t) → (k : ℕ) → k < length (length reserved ∷ i ∷ j ∷ js) → planned (joined reserved path) (t + 1) (get_or (length reserved ∷ i ∷ j ∷ js) k 0) ≡ planned (joined reserved path) t (after_in (length reserved ∷ i ∷ j ∷ js) k)
-      next f zero h = ap place_of (new (t + 1) ∙ sym (first-on (joined reserved path) reserved t (cell_at path (t + 1)) (i ∷ j ∷ js) (cell_at path t) (length reserved) (λ k. here k t) f (new t)))
-      next f (suc k) h = ap place_of (next-on (joined reserved path) reserved t (cell_at path (t + 1)) (i ∷ j ∷ js) (cell_at path t) (length reserved) here f (new t) k 0 (omega arith)) ∙ ap (λ z. place_of (cell_of (joined reserved path) (get_or (length reserved ∷ i ∷ j ∷ js) z (length reserved)) t)) (sym (add-one (suc k)))
+      next : Follow reserved t (cell_at path (t + 1)) (i ∷ j ∷ js) (cell_at path t) → (k : ℕ) → k < length (length reserved ∷ i ∷ j ∷ js) → planned (with_path reserved path) (t + 1) (get_or (length reserved ∷ i ∷ j ∷ js) k 0) ≡ planned (with_path reserved path) t (after_in (length reserved ∷ i ∷ j ∷ js) k)
+      next f zero h = ap place_of (new (t + 1) ∙ sym (first-on (with_path reserved path) reserved t (cell_at path (t + 1)) (i ∷ j ∷ js) (cell_at path t) (length reserved) (λ k. here k t) f (new t)))
+      next f (suc k) h = ap place_of (next-on (with_path reserved path) reserved t (cell_at path (t + 1)) (i ∷ j ∷ js) (cell_at path t) (length reserved) here f (new t) k 0 (omega arith)) ∙ ap (λ z. place_of (cell_of (with_path reserved path) (get_or (length reserved ∷ i ∷ j ∷ js) z (length reserved)) t)) (sym (add-one (suc k)))
 
-      moves : Follow reserved t (cell_at path (t + 1)) (i ∷ j ∷ js) (cell_at path t) → (k : ℕ) → k < length (length reserved ∷ i ∷ j ∷ js) → planned (joined reserved path) (t + 1) (get_or (length reserved ∷ i ∷ j ∷ js) k 0) ≢ planned (joined reserved path) t (get_or (length reserved ∷ i ∷ j ∷ js) k 0)
-      moves f zero h e = ne (sym (new t) ∙ sym (place_of-injective (cell_of (joined reserved path) (length reserved) (t + 1)) (cell_of (joined reserved path) (length reserved) t) e) ∙ new (t + 1))
+      moves : Follow reserved t (cell_at path (t + 1)) (i ∷ j ∷ js) (cell_at path t) → (k : ℕ) → k < length (length reserved ∷ i ∷ j ∷ js) → planned (with_path reserved path) (t + 1) (get_or (length reserved ∷ i ∷ j ∷ js) k 0) ≢ planned (with_path reserved path) t (get_or (length reserved ∷ i ∷ j ∷ js) k 0)
+      moves f zero h e = ne (sym (new t) ∙ sym (place_of-injective (cell_of (with_path reserved path) (length reserved) (t + 1)) (cell_of (with_path reserved path) (length reserved) t) e) ∙ new (t + 1))
       moves f (suc k) h e =
           let a = get_or (i ∷ j ∷ js) k 0 in
           let l : a < length reserved = below-all reserved t (cell_at path (t + 1)) (i ∷ j ∷ js) (cell_at path t) f k 0 (omega arith) in
-          moves-all reserved t (cell_at path (t + 1)) (i ∷ j ∷ js) (cell_at path t) f k 0 (omega arith) (sym (here a (t + 1) l) ∙ place_of-injective (cell_of (joined reserved path) a (t + 1)) (cell_of (joined reserved path) a t) e ∙ here a t l)
+          moves-all reserved t (cell_at path (t + 1)) (i ∷ j ∷ js) (cell_at path t) f k 0 (omega arith) (sym (here a (t + 1) l) ∙ place_of-injective (cell_of (with_path reserved path) a (t + 1)) (cell_of (with_path reserved path) a t) e ∙ here a t l)
 
   no_ring : Fits reserved path → (t : ℕ) → cell_at path t ≢ cell_at path (t + 1) → (ks : List ℕ) → Follow reserved t (cell_at path (t + 1)) ks (cell_at path t) → IsDistinct ◌==◌ ks → ⊥
   no_ring fits t ne [] f u = ne (sym f)
@@ -154,18 +154,18 @@ module _ (reserved : Plan) (path : List Cell) where
 -- ---- from each step to the whole
 
 -- m numbers from i on
-span : (ℕ → ℕ) → ℕ → ℕ → List ℕ
-span r i zero = []
-span r i (suc m) = r i ∷ span r (suc i) m
+values_from : (ℕ → ℕ) → ℕ → ℕ → List ℕ
+values_from r i zero = []
+values_from r i (suc m) = r i ∷ values_from r (suc i) m
 
-span-follow : (reserved : Plan) (t : ℕ) (r : ℕ → ℕ) (on : ℕ → Cell) (i m : ℕ) → ((k : ℕ) → i ≤ k → k < i + m → (r k < length reserved) × (cell_of reserved (r k) t ≡ on k) × (cell_of reserved (r k) (t + 1) ≢ on k) × (cell_of reserved (r k) (t + 1) ≡ on (suc k))) → Follow reserved t (on i) (span r i m) (on (i + m))
-unfolding span
-span-follow reserved t r on i zero h = ap on (omega arith)
-span-follow reserved t r on i (suc m) h =
+values_from-follow : (reserved : Plan) (t : ℕ) (r : ℕ → ℕ) (on : ℕ → Cell) (i m : ℕ) → ((k : ℕ) → i ≤ k → k < i + m → (r k < length reserved) × (cell_of reserved (r k) t ≡ on k) × (cell_of reserved (r k) (t + 1) ≢ on k) × (cell_of reserved (r k) (t + 1) ≡ on (suc k))) → Follow reserved t (on i) (values_from r i m) (on (i + m))
+unfolding values_from
+values_from-follow reserved t r on i zero h = ap on (omega arith)
+values_from-follow reserved t r on i (suc m) h =
     let w = h i (omega arith) (omega arith) in
     let e : suc i + m ≡ i + suc m = omega arith in
-    let rest = span-follow reserved t r on (suc i) m (λ k p q. h k (omega arith) (omega arith)) in
-    (w.0, w.1, w.2, subst (λ z. Follow reserved t z (span r (suc i) m) (on (i + suc m))) (sym w.3) (subst (λ z. Follow reserved t (on (suc i)) (span r (suc i) m) (on z)) e rest))
+    let rest = values_from-follow reserved t r on (suc i) m (λ k p q. h k (omega arith) (omega arith)) in
+    (w.0, w.1, w.2, subst (λ z. Follow reserved t z (values_from r (suc i) m) (on (i + suc m))) (sym w.3) (subst (λ z. Follow reserved t (on (suc i)) (values_from r (suc i) m) (on z)) e rest))
 
 -- of distinct numbers two at different places differ
 differs : (x : ℕ) (ks : List ℕ) (b d : ℕ) → AllByRecursion (λ y. (x == y) ≡ false) ks → b < length ks → x ≢ get_or ks b d
@@ -191,17 +191,17 @@ module _ (reserved : Plan) (path : List Cell) where
   vertex-free each zero j h = each.first j h
   vertex-free each (suc x) j h = rw (← add-one) ((each.steps x).vertex j h)
 
-  old : (j t : ℕ) → j < length reserved → cell_of (joined reserved path) j t ≡ cell_of reserved j t
-  old = joined-old reserved path
+  old : (j t : ℕ) → j < length reserved → cell_of (with_path reserved path) j t ≡ cell_of reserved j t
+  old = with_path-old reserved path
 
-  own : (t : ℕ) → cell_of (joined reserved path) (length reserved) t ≡ cell_at path t
-  own = joined-new reserved path
+  own : (t : ℕ) → cell_of (with_path reserved path) (length reserved) t ≡ cell_at path t
+  own = with_path-new reserved path
 
   -- from places to cells
-  cells-from : (i j t u : ℕ) → planned (joined reserved path) t i ≡ planned (joined reserved path) u j → cell_of (joined reserved path) i t ≡ cell_of (joined reserved path) j u
-  cells-from i j t u e = place_of-injective (cell_of (joined reserved path) i t) (cell_of (joined reserved path) j u) e
+  cells-from : (i j t u : ℕ) → planned (with_path reserved path) t i ≡ planned (with_path reserved path) u j → cell_of (with_path reserved path) i t ≡ cell_of (with_path reserved path) j u
+  cells-from i j t u e = place_of-injective (cell_of (with_path reserved path) i t) (cell_of (with_path reserved path) j u) e
 
-  no-swapping : EachStepFits reserved path → (x j : ℕ) → j < length reserved → HasSwappingConflict (planned (joined reserved path)) x (length reserved) j → ⊥
+  no-swapping : EachStepFits reserved path → (x j : ℕ) → j < length reserved → HasSwappingConflict (planned (with_path reserved path)) x (length reserved) j → ⊥
   no-swapping each x j h w =
       let n = length reserved in
       let there : cell_at path (x + 1) ≡ cell_of reserved j x = sym (own (x + 1)) ∙ cells-from n j (x + 1) x w.there ∙ old j x h in
@@ -210,41 +210,41 @@ module _ (reserved : Plan) (path : List Cell) where
       (each.steps x).ring ne (j ∷ []) (h, sym there, λ e. ne (sym back ∙ e), back)
 
   -- the agents of a ring after the one at place p, and on from its front to that one
-  round : (ring : List ℕ) (p x : ℕ) → All (λ i. i < length (joined reserved path)) ring → p < length ring → get_or ring p (get_or ring 0 0) ≡ length reserved → HasCycleConflict (planned (joined reserved path)) x ring → (js : List ℕ) × Follow reserved x (cell_at path (x + 1)) js (cell_at path x)
+  round : (ring : List ℕ) (p x : ℕ) → All (λ i. i < length (with_path reserved path)) ring → p < length ring → get_or ring p (get_or ring 0 0) ≡ length reserved → HasCycleConflict (planned (with_path reserved path)) x ring → (js : List ℕ) × Follow reserved x (cell_at path (x + 1)) js (cell_at path x)
   round ring p x inside l e w =
       let n = length reserved in
-      let plan = joined reserved path in
+      let plan = with_path reserved path in
       let r = λ (k : ℕ). get_or ring k (get_or ring 0 0) in
       let on = λ (k : ℕ). cell_of plan (r k) x in
       let m = length ring - (p + 1) in
-      let one = span-follow reserved x r on (suc p) m (λ k a b. part k (omega arith) (omega arith)) in
-      let two = span-follow reserved x r on 0 p (λ k a b. part k (omega arith) (omega arith)) in
+      let one = values_from-follow reserved x r on (suc p) m (λ k a b. part k (omega arith) (omega arith)) in
+      let two = values_from-follow reserved x r on 0 p (λ k a b. part k (omega arith) (omega arith)) in
       let first : r 0 ≡ get_or ring 0 0 = get_or_default ring 0 (get_or ring 0 0) 0 (omega arith) in
       let past : r (suc p + m) ≡ r 0 = get_or_past ring (suc p + m) (get_or ring 0 0) (omega arith) ∙ sym first in
       let from : on (suc p) ≡ cell_at path (x + 1) = sym (next p l) ∙ ap (λ z. cell_of plan z (x + 1)) e ∙ own (x + 1) in
       let to : on (0 + p) ≡ cell_at path x = ap on (omega arith) ∙ ap (λ z. cell_of plan z x) e ∙ own x in
-      let one' : Follow reserved x (on (suc p)) (span r (suc p) m) (on 0) = subst (λ z. Follow reserved x (on (suc p)) (span r (suc p) m) (cell_of plan z x)) past one in
-      let both = Follow-append reserved x (on (suc p)) (span r (suc p) m) (on 0) (span r 0 p) (on (0 + p)) one' two in (
-        span r (suc p) m ++ span r 0 p,
-        subst (λ z. Follow reserved x z (span r (suc p) m ++ span r 0 p) (cell_at path x)) from (subst (λ z. Follow reserved x (on (suc p)) (span r (suc p) m ++ span r 0 p) z) to both),
+      let one' : Follow reserved x (on (suc p)) (values_from r (suc p) m) (on 0) = subst (λ z. Follow reserved x (on (suc p)) (values_from r (suc p) m) (cell_of plan z x)) past one in
+      let both = Follow-append reserved x (on (suc p)) (values_from r (suc p) m) (on 0) (values_from r 0 p) (on (0 + p)) one' two in (
+        values_from r (suc p) m ++ values_from r 0 p,
+        subst (λ z. Follow reserved x z (values_from r (suc p) m ++ values_from r 0 p) (cell_at path x)) from (subst (λ z. Follow reserved x (on (suc p)) (values_from r (suc p) m ++ values_from r 0 p) z) to both),
       )
     where
-      next : (k : ℕ) → k < length ring → cell_of (joined reserved path) (get_or ring k (get_or ring 0 0)) (x + 1) ≡ cell_of (joined reserved path) (get_or ring (suc k) (get_or ring 0 0)) x
+      next : (k : ℕ) → k < length ring → cell_of (with_path reserved path) (get_or ring k (get_or ring 0 0)) (x + 1) ≡ cell_of (with_path reserved path) (get_or ring (suc k) (get_or ring 0 0)) x
       next k h =
           let d = get_or ring 0 0 in
           let same : get_or ring k d ≡ get_or ring k 0 = get_or_default ring k d 0 h in
           let c = cells-from (get_or ring k 0) (after_in ring k) (x + 1) x (w.next k h) in
-          ap (λ z. cell_of (joined reserved path) z (x + 1)) same ∙ c ∙ ap (λ z. cell_of (joined reserved path) (get_or ring z d) x) (add-one k)
+          ap (λ z. cell_of (with_path reserved path) z (x + 1)) same ∙ c ∙ ap (λ z. cell_of (with_path reserved path) (get_or ring z d) x) (add-one k)
 
-      part : (k : ℕ) → k ≢ p → k < length ring → (get_or ring k (get_or ring 0 0) < length reserved) × (cell_of reserved (get_or ring k (get_or ring 0 0)) x ≡ cell_of (joined reserved path) (get_or ring k (get_or ring 0 0)) x) × (cell_of reserved (get_or ring k (get_or ring 0 0)) (x + 1) ≢ cell_of (joined reserved path) (get_or ring k (get_or ring 0 0)) x) × (cell_of reserved (get_or ring k (get_or ring 0 0)) (x + 1) ≡ cell_of (joined reserved path) (get_or ring (suc k) (get_or ring 0 0)) x)
+      part : (k : ℕ) → k ≢ p → k < length ring → (get_or ring k (get_or ring 0 0) < length reserved) × (cell_of reserved (get_or ring k (get_or ring 0 0)) x ≡ cell_of (with_path reserved path) (get_or ring k (get_or ring 0 0)) x) × (cell_of reserved (get_or ring k (get_or ring 0 0)) (x + 1) ≢ cell_of (with_path reserved path) (get_or ring k (get_or ring 0 0)) x) × (cell_of reserved (get_or ring k (get_or ring 0 0)) (x + 1) ≡ cell_of (with_path reserved path) (get_or ring (suc k) (get_or ring 0 0)) x)
       part k ne h =
           let d = get_or ring 0 0 in
-          let plan = joined reserved path in
+          let plan = with_path reserved path in
           let a = get_or ring k d in
           let apart : a ≢ get_or ring p d = other-apart ring k p d w.distinct ne h l in
           let apart' : a ≢ length reserved = λ z. apart (z ∙ sym e) in
           let b : a < length plan = inside k d h in
-          let below : a < length reserved = omega (arith, length-joined reserved path) in
+          let below : a < length reserved = omega (arith, length-with_path reserved path) in
           let same : get_or ring k 0 ≡ a = get_or_default ring k 0 d h in (
             below,
             sym (old a x below),
@@ -261,6 +261,6 @@ module _ (reserved : Plan) (path : List Cell) where
         let r = round ring has.0 x inside has.1 e w in
         let ne : cell_at path x ≢ cell_at path (x + 1) = λ z.
         let s : get_or ring has.0 0 ≡ length reserved = get_or_default ring has.0 0 (length reserved) has.1 ∙ has.2 in
-        w.moves has.0 has.1 (ap (λ i. place_of (cell_of (joined reserved path) i (x + 1))) s ∙ ap place_of (own (x + 1) ∙ sym z ∙ sym (own x)) ∙ ap (λ i. place_of (cell_of (joined reserved path) i x)) (sym s)) in
+        w.moves has.0 has.1 (ap (λ i. place_of (cell_of (with_path reserved path) i (x + 1))) s ∙ ap place_of (own (x + 1) ∙ sym z ∙ sym (own x)) ∙ ap (λ i. place_of (cell_of (with_path reserved path) i x)) (sym s)) in
         (each.steps x).ring ne r.0 r.1;
   }

@@ -33,8 +33,8 @@ pub record IsTraced (q : Query) (r : List Node) (n : ℕ) (last : Cell) (xs : Li
   pub free : IsFreeOn q.reserved.now (state_in r visit).cell (state_in r visit).time (n - back)
   pub steps : (k : ℕ) → k < back → IsStep q (n - (k + 1)) (get_or xs (k + 1) origin) (get_or xs k origin)
 
-before-came : (q : Query) (f : ℕ) (left : Option ℕ) (r : List Node) (labels : Times) (open_list : List (List ℕ)) → IsFrontier q f left r labels open_list → (time visit : ℕ) → visit < length r → (state_in r visit).time ≡ time → 1 ≤ time → StepsToVisit q r time (state_in r visit) (parent_in r visit)
-before-came q f left r labels open_list fr time visit k e h = go (fr.sound visit k).reached_from
+steps_to_visit-came : (q : Query) (f : ℕ) (left : Option ℕ) (r : List Node) (labels : Times) (open_list : List (List ℕ)) → IsFrontier q f left r labels open_list → (time visit : ℕ) → visit < length r → (state_in r visit).time ≡ time → 1 ≤ time → StepsToVisit q r time (state_in r visit) (parent_in r visit)
+steps_to_visit-came q f left r labels open_list fr time visit k e h = go (fr.sound visit k).reached_from
   where
     go : IsReachedFrom q r (state_in r visit) (parent_in r visit) → StepsToVisit q r time (state_in r visit) (parent_in r visit)
     go (inl p) = absurd (let z = p.0 in omega arith)
@@ -48,8 +48,8 @@ before-came q f left r labels open_list fr time visit k e h = go (fr.sound visit
           step = subst (λ z. IsStep q z from.cell (state_in r visit).cell) at move.step;
         }
 
-before-waits : (q : Query) (f : ℕ) (left : Option ℕ) (r : List Node) (labels : Times) (open_list : List (List ℕ)) → IsFrontier q f left r labels open_list → (time visit : ℕ) → visit < length r → (state_in r visit).time ≢ time → (state_in r visit).time ≤ time → IsFreeOn q.reserved.now (state_in r visit).cell (state_in r visit).time time → StepsToVisit q r time (state_in r visit) visit
-before-waits q f left r labels open_list fr time visit k ne h free = record {
+steps_to_visit-waits : (q : Query) (f : ℕ) (left : Option ℕ) (r : List Node) (labels : Times) (open_list : List (List ℕ)) → IsFrontier q f left r labels open_list → (time visit : ℕ) → visit < length r → (state_in r visit).time ≢ time → (state_in r visit).time ≤ time → IsFreeOn q.reserved.now (state_in r visit).cell (state_in r visit).time time → StepsToVisit q r time (state_in r visit) visit
+steps_to_visit-waits q f left r labels open_list fr time visit k ne h free = record {
   known = k;
   early = omega arith;
   free = λ u x y. free u x (omega arith);
@@ -61,9 +61,9 @@ before-waits q f left r labels open_list fr time visit k ne h free = record {
 }
 
 -- the visit at one step before: that from which the agent has just come, or the same
-pub before : (q : Query) (f : ℕ) (left : Option ℕ) (r : List Node) (labels : Times) (open_list : List (List ℕ)) → IsFrontier q f left r labels open_list → (n : ℕ) (last : Cell) (xs : List Cell) (back visit next : ℕ) → IsTraced q r n last xs back visit → back < n → (((state_in r visit).time ≡ n - back) × (next ≡ parent_in r visit)) ⊎ (((state_in r visit).time ≢ n - back) × (next ≡ visit)) → StepsToVisit q r (n - back) (state_in r visit) next
-before q f left r labels open_list fr n last xs back visit next tr h (inl w) = subst (StepsToVisit q r (n - back) (state_in r visit)) (sym w.1) (before-came q f left r labels open_list fr (n - back) visit tr.known w.0 (omega arith))
-before q f left r labels open_list fr n last xs back visit next tr h (inr w) = subst (StepsToVisit q r (n - back) (state_in r visit)) (sym w.1) (before-waits q f left r labels open_list fr (n - back) visit tr.known w.0 tr.early tr.free)
+pub steps_to_visit : (q : Query) (f : ℕ) (left : Option ℕ) (r : List Node) (labels : Times) (open_list : List (List ℕ)) → IsFrontier q f left r labels open_list → (n : ℕ) (last : Cell) (xs : List Cell) (back visit next : ℕ) → IsTraced q r n last xs back visit → back < n → (((state_in r visit).time ≡ n - back) × (next ≡ parent_in r visit)) ⊎ (((state_in r visit).time ≢ n - back) × (next ≡ visit)) → StepsToVisit q r (n - back) (state_in r visit) next
+steps_to_visit q f left r labels open_list fr n last xs back visit next tr h (inl w) = subst (StepsToVisit q r (n - back) (state_in r visit)) (sym w.1) (steps_to_visit-came q f left r labels open_list fr (n - back) visit tr.known w.0 (omega arith))
+steps_to_visit q f left r labels open_list fr n last xs back visit next tr h (inr w) = subst (StepsToVisit q r (n - back) (state_in r visit)) (sym w.1) (steps_to_visit-waits q f left r labels open_list fr (n - back) visit tr.known w.0 tr.early tr.free)
 
 module _ (q : Query) (f : ℕ) (left : Option ℕ) (r : List Node) (labels : Times) (open_list : List (List ℕ)) (fr : IsFrontier q f left r labels open_list) (n : ℕ) (last : Cell) (xs : List Cell) (back : ℕ) (visit : ℕ) (tr : IsTraced q r n last xs back visit) where
   pub traced-more : (next : ℕ) (ys : List Cell) → back < n → StepsToVisit q r (n - back) (state_in r visit) next → ys ≡ xs ++ (state_in r next).cell ∷ [] → IsTraced q r n last ys (back + 1) next

@@ -8,7 +8,7 @@ use Rattle.fleet_search.specs.declared.frontier.Expansion.{Expansion}
 use Rattle.fleet_search.specs.Occupancies.{occupancy_at}
 use Rattle.fleet_search.specs.Intervals.{AreBegun}
 use Rattle.fleet_search.specs.Search.{occupancies_on, IsMeasured, IsExpansion, ExpandsOn, IsFoundIn, IsFoundFrom}
-use Rattle.fleet_search.proofs.IntervalLaws.{stays-apart, apart-from, some_gap}
+use Rattle.fleet_search.proofs.IntervalLaws.{occupancies-apart, apart-from, some_gap}
 use Rattle.fleet_search.proofs.SearchSteps.{ExpandsOn-then, found_in-stays}
 
 pub record IsTurning (q : Query) (f : ℕ) (l : Expansion) (c : Cell) (interval : ℕ) (start now : Exploration) : Type 0 where
@@ -21,7 +21,7 @@ turning-begin q f l c first now w b = record {
   on = record { leaving = w; grows = record { more = omega arith; kept = λ i h. refl; same = λ e k. refl } };
   each = λ k h u move g in_time.
       let bound = b.bound in
-      let started_by = b.started_by k h in
+      let begun = b.begun k h in
       let come = g.to_come k (omega arith) (omega arith) in
       let waits = move.waits in
       absurd (omega arith);
@@ -48,10 +48,10 @@ turned q m f l c interval start now h one later u move in_time =
           let bound = g.1.bound in
           let over = (g.1.over (g.0 - 1) (omega arith)).0 in
           let to_come = later (g.0 - 1) (omega arith) (omega arith) in
-          let some = (stays-apart q.reserved.now c (occupancies_on q c) (m.occupancies c)).some_time (g.0 - 1) (omega arith) in
+          let some = (occupancies-apart q.reserved.now c (occupancies_on q c) (m.occupancies c)).some_time (g.0 - 1) (omega arith) in
           absurd (omega arith)
     ]
 
--- if one stay begins too late, so do those after it
+-- if one occupancy begins too late, so do those after it
 pub all_later : (q : Query) → IsMeasured q → (c : Cell) (until n : ℕ) → n < length (occupancies_on q c) → until < (occupancy_at (occupancies_on q c) n).from → (i : ℕ) → n ≤ i → i < length (occupancies_on q c) → until < (occupancy_at (occupancies_on q c) i).from
-all_later q m c until n within late i h l = let z = apart-from (occupancies_on q c) (stays-apart q.reserved.now c (occupancies_on q c) (m.occupancies c)) n i h l in omega arith
+all_later q m c until n within late i h l = let z = apart-from (occupancies_on q c) (occupancies-apart q.reserved.now c (occupancies_on q c) (m.occupancies c)) n i h l in omega arith

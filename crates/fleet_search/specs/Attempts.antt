@@ -6,7 +6,7 @@ use Rattle.fleet_plan.specs.Plan.{Plan}
 use Rattle.fleet_search.specs.Way.{Fits, IsEarliest, IsInfeasible}
 use Rattle.fleet_grid.specs.Ground.{is_passable}
 use Rattle.fleet_search.specs.InTurn.{IsPrioritisedPlan}
-use Rattle.fleet_search.specs.Orders.{rising, tasks_by, IsStuckInOrder}
+use Rattle.fleet_search.specs.Orders.{agent_numbers, tasks_by, IsStuckInOrder}
 use Rattle.fleet_search.specs.declared.orders.Problem.{Problem}
 use Rattle.fleet_search.specs.declared.orders.Tables.{Tables}
 use Rattle.fleet_search.specs.declared.orders.Attempt.{Attempt}
@@ -18,7 +18,7 @@ AreTables problem tables = tables.distances.grid ≡ problem.grid.now
 
 -- the agents of the instance, each once
 abbrev pub IsOrderOf : Problem → List ℕ → Type 0
-IsOrderOf problem order = IsPermutation (rising (length problem.instance.now)) order
+IsOrderOf problem order = IsPermutation (agent_numbers (length problem.instance.now)) order
 
 -- the agent's earliest path past the old ones that arrives by the horizon is the last of the new ones; or it has none,
 -- and they stay
@@ -49,13 +49,13 @@ IsMadeAfterFirst problem order paths =
 
 -- paths of the agents, as they stand in the order, each the earliest against those before it: of all of them, or of
 -- those before one that is left without a path
-abbrev pub AreReserved : Problem → List ℕ → Plan → (all : Bool) → Type 0
-AreReserved problem order paths true = IsPrioritisedPlan (is_passable problem.grid.now) (tasks_by order problem.instance.now) problem.horizon (length order) paths
-AreReserved problem order paths false =
+abbrev pub AreReservedInOrder : Problem → List ℕ → Plan → (all : Bool) → Type 0
+AreReservedInOrder problem order paths true = IsPrioritisedPlan (is_passable problem.grid.now) (tasks_by order problem.instance.now) problem.horizon (length order) paths
+AreReservedInOrder problem order paths false =
     IsStuckInOrder (is_passable problem.grid.now) problem.instance.now problem.horizon order (length paths)
     × IsPrioritisedPlan (is_passable problem.grid.now) (tasks_by order problem.instance.now) problem.horizon (length paths) paths
 
 -- the paths of the outcome are such: of all agents if it is made, and else of those before one without a path
 abbrev pub IsAttempt : Problem → List ℕ → Attempt → Type 0
-IsAttempt problem order (Made paths) = AreReserved problem order paths.items true
-IsAttempt problem order (Stuck paths) = AreReserved problem order paths.items false
+IsAttempt problem order (Made paths) = AreReservedInOrder problem order paths.items true
+IsAttempt problem order (Stuck paths) = AreReservedInOrder problem order paths.items false

@@ -34,12 +34,12 @@ abbrev pub IsOnGround : Ground → Cell → Type 0
 IsOnGround g c = IsTrue (is_passable g (place_of c))
 
 -- the number of moves that the label says, if it is one of this search
-abbrev pub labelled : ℕ → Label → Option ℕ
-labelled search l = cond (l.search == search) (Some l.distance) None
+abbrev pub label_of_search : ℕ → Label → Option ℕ
+label_of_search search l = cond (l.search == search) (Some l.distance) None
 
 -- the number of moves that the cell is labelled with
 unfoldable pub label_in : Ground → List Label → ℕ → Cell → Option ℕ
-label_in g labels search c = labelled search (get_or labels (cell_index g c) no_label)
+label_in g labels search c = label_of_search search (get_or labels (cell_index g c) no_label)
 
 -- how many columns and rows lie between two cells
 unfoldable pub manhattan : Cell → Cell → ℕ
@@ -113,7 +113,7 @@ pub record IsSameSearch (old new : DistanceTable) : Type 0 where
 
 -- the moves of the label, or more than any label of this search has, if it is of another one
 abbrev pub label_weight : ℕ → Label → ℕ
-label_weight search l = unwrap_or (labelled search l) (MAX_HORIZON + 1)
+label_weight search l = unwrap_or (label_of_search search l) (MAX_HORIZON + 1)
 
 -- how much there is still to do: twice the moves of all labels, and the cells of the layer
 unfoldable pub work_left : DistanceTable → ℕ

@@ -21,7 +21,7 @@ pub record IsInInterval (occupancies : List Occupancy) (interval : ℕ) (t : ℕ
 -- so many occupancies begin at the time or before
 pub record AreBegun (occupancies : List Occupancy) (t : ℕ) (n : ℕ) : Type 0 where
   pub bound : n ≤ length occupancies
-  pub started_by : (i : ℕ) → i < n → (occupancy_at occupancies i).from ≤ t
+  pub begun : (i : ℕ) → i < n → (occupancy_at occupancies i).from ≤ t
   pub to_come : (i : ℕ) → n ≤ i → i < length occupancies → t < (occupancy_at occupancies i).from
 
 -- the first time in the safe interval from the one on
@@ -33,6 +33,6 @@ pub record IsEarliestWithin (occupancies : List Occupancy) (interval : ℕ) (fro
 -- the first of the occupancies that come after the time begins at this one, or there is none
 pub record IsEndAfter (occupancies : List Occupancy) (t until : ℕ) : Type 0 where
   pub next : ℕ
-  pub started_by : AreBegun occupancies t next
+  pub begun : AreBegun occupancies t next
   pub here : next < length occupancies → until ≡ (occupancy_at occupancies next).from
   pub none : length occupancies ≤ next → until ≡ 4294967295

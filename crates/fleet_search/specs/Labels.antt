@@ -1,19 +1,19 @@
 -- Labels of safe intervals.
 use Rattle.std.specs.Prelude.{◌≡◌, ◌≢◌, ℕ, zero, suc, ◌≤◌, ◌==◌, ◌⊎◌, cond, List, [], ◌∷◌, length, map, get_or, Option, None, Some}
 use Rattle.fleet_table.specs.Table.{value_in}
-use Rattle.fleet_search.specs.declared.labels.Label.{Label}
+use Rattle.fleet_search.specs.declared.labels.IntervalLabel.{IntervalLabel}
 use Rattle.fleet_search.specs.declared.labels.Labels.{Labels}
 
 -- the label that stands for those past the end of a row: no search has come there
-abbrev pub no_interval_label : Label
+abbrev pub no_interval_label : IntervalLabel
 no_interval_label = record { search = 0; time = 0 }
 
 -- the labels of the later intervals of a cell: the row of its number, counted from 1; number 0 has none
-abbrev pub later_in : Labels → ℕ → List Label
+abbrev pub later_in : Labels → ℕ → List IntervalLabel
 later_in l cell = get_or ([] ∷ map (λ v. v.items) l.rows.items) (value_in l.numbers cell) []
 
 -- the label of an interval of a cell
-abbrev pub interval_label : Labels → ℕ → ℕ → Label
+abbrev pub interval_label : Labels → ℕ → ℕ → IntervalLabel
 interval_label l cell zero = value_in l.first cell
 interval_label l cell (suc n) = get_or (later_in l cell) n no_interval_label
 
@@ -42,7 +42,7 @@ pub record AreLabels (l : Labels) : Type 0 where
   pub rows : HaveOwnRows l
 
 -- the label is put, and the others stay
-pub record IsLabelPut (old new : Labels) (cell interval : ℕ) (label : Label) : Type 0 where
+pub record IsLabelPut (old new : Labels) (cell interval : ℕ) (label : IntervalLabel) : Type 0 where
   pub search : new.search ≡ old.search
   pub set : interval_label new cell interval ≡ label
   pub others : (c n : ℕ) → (c ≢ cell) ⊎ (n ≢ interval) → interval_label new c n ≡ interval_label old c n

@@ -1,10 +1,10 @@
 -- The occupancies of agents on cells, one after another.
-use Rattle.std.specs.Prelude.{◌≡◌, ◌≢◌, ℕ, ◌<◌, ◌≤◌, ◌⊎◌, ◌==◌, not, List, length, get_or, All}
+use Rattle.std.specs.Prelude.{◌≡◌, ◌≢◌, ℕ, ◌<◌, ◌≤◌, ◌⊎◌, ◌==◌, not, List, length, get_or}
 use Rattle.std.specs.List.{filter, insert}
 use Rattle.std.specs.List.Sorted.{IsNonDecreasingBy}
 use Rattle.fleet_model.specs.declared.geometry.Cell.{Cell}
 use Rattle.fleet_model.specs.declared.limits.TheConstants.{MAX_HORIZON}
-use Rattle.fleet_plan.specs.Plan.{Plan, IsPath, cell_of, steps}
+use Rattle.fleet_plan.specs.Plan.{Plan, cell_of}
 use Rattle.fleet_search.specs.declared.occupancy.Occupancy.{Occupancy}
 use Rattle.fleet_search.specs.declared.reservation_table.ReservationTable.{ReservationTable}
 use Rattle.fleet_search.specs.Numbers.{number_in_rows, list_of}
@@ -12,27 +12,27 @@ use Rattle.fleet_search.specs.Way.{FitTogether}
 use Rattle.fleet_search.specs.Reserved.{IsOn}
 
 -- the occupancy that stands for those past the end of a list
-abbrev pub no_stay : Occupancy
-no_stay = record { from = 0; until = 0; agent = 0 }
+abbrev pub no_occupancy : Occupancy
+no_occupancy = record { from = 0; until = 0; agent = 0 }
 
 -- the occupancy of this number
 abbrev pub occupancy_at : List Occupancy → ℕ → Occupancy
-occupancy_at occupancies i = get_or occupancies i no_stay
+occupancy_at occupancies i = get_or occupancies i no_occupancy
 
 -- the occupancy includes the time
 abbrev pub IsDuring : Occupancy → ℕ → Type 0
 IsDuring occupancy t = (occupancy.from ≤ t) × ((t ≤ occupancy.until) ⊎ (occupancy.until ≡ 4294967295))
 
 -- the agent is on the cell throughout
-pub record IsStay (plan : Plan) (c : Cell) (occupancy : Occupancy) : Type 0 where
+pub record IsOccupancyOn (plan : Plan) (c : Cell) (occupancy : Occupancy) : Type 0 where
   pub agent : occupancy.agent < length plan
   pub early : occupancy.from ≤ MAX_HORIZON
   pub some_time : occupancy.from ≤ occupancy.until
   pub on : (t : ℕ) → IsDuring occupancy t → cell_of plan occupancy.agent t ≡ c
 
 -- the occupancies on the cell are these, one after another
-pub record AreStays (plan : Plan) (c : Cell) (occupancies : List Occupancy) : Type 0 where
-  pub each : (i : ℕ) → i < length occupancies → IsStay plan c (occupancy_at occupancies i)
+pub record AreOccupanciesOn (plan : Plan) (c : Cell) (occupancies : List Occupancy) : Type 0 where
+  pub each : (i : ℕ) → i < length occupancies → IsOccupancyOn plan c (occupancy_at occupancies i)
   pub apart : (i k : ℕ) → i < k → k < length occupancies → (occupancy_at occupancies i).until < (occupancy_at occupancies k).from
   pub all : (t j : ℕ) → IsOn plan t c j → (i : ℕ) × (i < length occupancies) × IsDuring (occupancy_at occupancies i) t
 
@@ -44,13 +44,11 @@ occupancies_of t c = list_of t.lists.items (number_in_rows t.numbers.items c)
 
 -- the occupancies on each cell
 abbrev pub HaveOccupancies : Plan → ReservationTable → Type 0
-HaveOccupancies plan t = (c : Cell) → AreStays plan c (occupancies_of t c)
+HaveOccupancies plan t = (c : Cell) → AreOccupanciesOn plan c (occupancies_of t c)
 
 -- each path fits those before it, and the occupancies of all stand in the reservation table
-pub record AreReserved (paths : Plan) (table : ReservationTable) (last : ℕ) : Type 0 where
+pub record AreReserved (paths : Plan) (table : ReservationTable) : Type 0 where
   pub together : FitTogether paths
-  pub all_paths : All IsPath paths
-  pub latest : last ≡ steps paths
   pub occupancies : HaveOccupancies paths table
 
 -- the occupancies begin one after another
@@ -66,7 +64,7 @@ pub record IsPutIn (old new : List Occupancy) (occupancy : Occupancy) : Type 0 w
   pub after : (i : ℕ) → index ≤ i → i < length old → occupancy.from < (occupancy_at old i).from
 
 -- the occupancy was put in on the cell, and the others have the same
-pub record IsAdded (old new : ReservationTable) (cell : Cell) (occupancy : Occupancy) : Type 0 where
+pub record IsOccupancyAdded (old new : ReservationTable) (cell : Cell) (occupancy : Occupancy) : Type 0 where
   pub here : IsPutIn (occupancies_of old cell) (occupancies_of new cell) occupancy
   pub others : (c : Cell) → c ≢ cell → occupancies_of new c ≡ occupancies_of old c
 

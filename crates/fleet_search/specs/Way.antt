@@ -7,14 +7,14 @@ use Rattle.fleet_model.specs.Conflict.{HasVertexConflict, HasSwappingConflict, H
 use Rattle.fleet_plan.specs.Plan.{Plan, cell_at, cell_of, planned, AreNeighbours}
 
 -- the reserved paths and one more, of the agent whose number is the number of reserved paths
-abbrev pub joined : Plan → List Cell → Plan
-joined reserved path = reserved ++ path ∷ []
+abbrev pub with_path : Plan → List Cell → Plan
+with_path reserved path = reserved ++ path ∷ []
 
 -- the agent of the path takes part in no conflict with the reserved ones, at any time
 pub record Fits (reserved : Plan) (path : List Cell) : Type 0 where
-  pub vertex : (x j : ℕ) → j < length reserved → HasVertexConflict (planned (joined reserved path)) x (length reserved) j → ⊥
-  pub swapping : (x j : ℕ) → j < length reserved → HasSwappingConflict (planned (joined reserved path)) x (length reserved) j → ⊥
-  pub cycle : (x : ℕ) (ring : List ℕ) → All (λ i. i < length (joined reserved path)) ring → Contains ring (length reserved) → HasCycleConflict (planned (joined reserved path)) x ring → ⊥
+  pub vertex : (x j : ℕ) → j < length reserved → HasVertexConflict (planned (with_path reserved path)) x (length reserved) j → ⊥
+  pub swapping : (x j : ℕ) → j < length reserved → HasSwappingConflict (planned (with_path reserved path)) x (length reserved) j → ⊥
+  pub cycle : (x : ℕ) (ring : List ℕ) → All (λ i. i < length (with_path reserved path)) ring → Contains ring (length reserved) → HasCycleConflict (planned (with_path reserved path)) x ring → ⊥
 
 -- each path fits those before it
 abbrev pub FitTogether : Plan → Type 0

@@ -1,14 +1,14 @@
 //! How far the cells of a map are from a goal, over passable cells.
 
-ghost use Rattle.std.specs.Prelude.{◌≡◌, ◌+◌, ◌<◌, ◌≤◌, ◌↔◌, ◌++◌, ◌∷◌, ◌⊎◌, ℕ, IsTrue, IfOk, OnOk, IfSome, IfNone, Some, None, [], length, get_or};
+ghost use Rattle.std.specs.Prelude.{◌≡◌, ◌+◌, ◌*◌, ◌<◌, ◌≤◌, ◌↔◌, ◌++◌, ◌∷◌, ◌⊎◌, ℕ, IsTrue, IfOk, OnOk, IfSome, IfNone, Some, None, [], length, get_or};
 ghost use Rattle.fleet_model.specs.Geometry.{place_of, moved};
 ghost use Rattle.fleet_model.specs.declared.geometry.Cell.{Cell};
-ghost use Rattle.fleet_model.specs.declared.limits.TheConstants.{MAX_HORIZON};
+ghost use Rattle.fleet_model.specs.declared.limits.TheConstants.{MAX_COORDINATE, MAX_HORIZON};
 ghost use Rattle.fleet_grid.specs.Ground.{IsGround, cell_index};
 ghost use Rattle.fleet_search.specs.Distance.{no_label, label_in, manhattan, least_moves, heuristic, AreDistances, IsOnGround, IsSpreadOf, IsLabelled, IsLabelledTowards, IsSameSearch, IsLabelNear, IsPutFrom, with_label, work_left};
 
 use fleet_grid::Grid;
-use fleet_model::{Cell, Dir, OutOfMemory};
+use fleet_model::{Cell, Dir, MAX_HORIZON, OutOfMemory};
 use std::alloc::Global;
 use std::marker::Model;
 use std::mem;
@@ -30,6 +30,12 @@ pub struct Label {
     pub search: u16,
     pub distance: u16,
 }
+
+/// No search has labelled the cell.
+const NONE: Label = Label {
+    search: 0,
+    distance: 0,
+};
 
 /// How many moves lead at least from each cell of a map to the goal of the latest search. Labels of earlier searches
 /// stay in the table, where their numbers tell them apart, so no search clears it.
@@ -74,7 +80,7 @@ impl<'g> Model for Distances<'g> {
 #[tactic(auto, unfolding(crate::specs::Distance::manhattan))]
 fn manhattan(a: Cell, b: Cell) -> u32
     ensures value { result ≡ manhattan a b }
-    ensures limit { result ≤ 131070 }
+    ensures limit { result ≤ 2 * MAX_COORDINATE }
 {
     u32::from(a.x.abs_diff(b.x)) + u32::from(a.y.abs_diff(b.y))
 }
@@ -99,14 +105,10 @@ impl<'g> Distances<'g> {
         ensures { IfOk result (λ d. d.grid ≡ grid.now) }
     {
         let cells = usize::from(grid.width()) * usize::from(grid.height());
-        let none = Label {
-            search: 0,
-            distance: 0,
-        };
         let corner = Cell { x: 0, y: 0 };
         Ok(Distances {
             grid,
-            labels: vec![in alloc; none; cells]?,
+            labels: vec![in alloc; NONE; cells]?,
             search: 0,
             start: corner,
             goal: corner,
@@ -359,11 +361,7 @@ impl<'g> Distances<'g> {
             → (get_or self.new.labels i no_label).search < self.new.search }
     {
         if self.search == u16::MAX {
-            let none = Label {
-                search: 0,
-                distance: 0,
-            };
-            self.labels.fill(none);
+            self.labels.fill(NONE);
             self.search = 0;
         }
         self.search += 1;
@@ -393,7 +391,7 @@ impl<'g> Distances<'g> {
         requires { IsOnGround self.now.grid self.now.start }
         ensures { IsTrue result → (self.now.f_bound < MAX_HORIZON) }
     {
-        if self.layer.is_empty() || self.f_bound > u32::from(horizon.min(65534)) {
+        if self.layer.is_empty() || self.f_bound > u32::from(horizon).min(MAX_HORIZON - 1) {
             return false;
         }
         match self.label(self.start) {

@@ -32,10 +32,7 @@ fn search(frontier: &mut Frontier, query: &Query) -> Result<Path, SearchFault>
     let mut bucket = 0;
     while bucket <= query.horizon {
         match frontier.expand_bucket(query, bucket)? {
-            BucketEnd::Goal(last) => {
-                let path = frontier.path_to(last)?;
-                return Ok(path);
-            }
+            BucketEnd::Goal(last) => return Ok(frontier.path_to(last)?),
             BucketEnd::Grew => bucket = bucket.saturating_sub(1),
             BucketEnd::Empty => bucket += 1,
         }
@@ -65,15 +62,11 @@ fn open_from(
     if reserved.occupant(0, start).is_some() {
         return None;
     }
-    match reserved.free_from(goal) {
-        None => None,
-        Some(from) => {
-            if from <= u32::from(horizon) {
-                Some(from)
-            } else {
-                None
-            }
-        }
+    let from = reserved.free_from(goal)?;
+    if from <= u32::from(horizon) {
+        Some(from)
+    } else {
+        None
     }
 }
 

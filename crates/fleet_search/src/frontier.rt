@@ -20,7 +20,7 @@ use crate::arrivals::Arrivals;
 use crate::distances::Distances;
 use crate::intervals::{SafeInterval, begins_after, earliest_within, interval_after};
 use crate::link::Link;
-use crate::occupancy::{Occupancy, started_by};
+use crate::occupancy::{Occupancy, count_begun};
 use crate::reservation_table::ReservationTable;
 use crate::reservations::Reservations;
 use crate::rows::{clear, put, take};
@@ -346,7 +346,7 @@ impl Frontier {
         if neighbour.occupancies.is_empty() {
             return self.successor_in(query, bucket, left, neighbour, 0);
         }
-        let first = started_by(neighbour.occupancies, u32::from(left.state.time) + 1);
+        let first = count_begun(neighbour.occupancies, u32::from(left.state.time) + 1);
         for interval in first..neighbour.occupancies.len() + 1 {
             if interval > first && begins_after(neighbour.occupancies, interval, left.until) {
                 return Ok(());
@@ -464,7 +464,7 @@ impl Frontier {
             cell: start,
         };
         let parent = Link::to(0);
-        let interval = started_by(query.occupancies(start), 0);
+        let interval = count_begun(query.occupancies(start), 0);
         let number = query.grid.cell_index(start);
         let bucket = query.bucket(0, query.heuristic(start));
         self.add(Node { state, parent }, number, interval, bucket)?;

@@ -4,10 +4,10 @@ ghost use Rattle.std.specs.Prelude.{◌↔◌, ◌≤◌, ◌<◌, ◌-◌, ℕ,
 ghost use Rattle.fleet_search.specs.Occupancies.{occupancy_at};
 ghost use Rattle.fleet_search.specs.Intervals.{AreSuccessive, AreBegun, IsInInterval, IsEarliestWithin, IsEndAfter};
 
-use crate::occupancy::{Occupancy, started_by};
+use crate::occupancy::{Occupancy, count_begun};
 
 /// Whether the time is in the safe interval of this number.
-pub fn is_in_interval(occupancies: &[Occupancy], interval: usize, time: u32) -> bool
+fn is_in_interval(occupancies: &[Occupancy], interval: usize, time: u32) -> bool
     requires order { AreSuccessive occupancies.now }
     requires bound { interval ≤ length occupancies.now }
     ensures { IsTrue result ↔ IsInInterval occupancies.now interval time }
@@ -46,9 +46,7 @@ pub fn earliest_within(occupancies: &[Occupancy], interval: usize, from: u32) ->
     ensures none { IfNone result ((s : ℕ) → from ≤ s
         → IsInInterval occupancies.now interval s → ⊥) }
 {
-    let Some(time) = past_occupancy(occupancies, interval, from) else {
-        return None;
-    };
+    let time = past_occupancy(occupancies, interval, from)?;
     if is_in_interval(occupancies, interval, time) {
         Some(time)
     } else {
@@ -79,7 +77,7 @@ pub fn interval_after(occupancies: &[Occupancy], time: u32) -> SafeInterval
     ensures begun { AreBegun occupancies.now time result.number }
     ensures end { IsEndAfter occupancies.now time result.until }
 {
-    let number = started_by(occupancies, time);
+    let number = count_begun(occupancies, time);
     let until = if number < occupancies.len() {
         occupancies[number].from
     } else {

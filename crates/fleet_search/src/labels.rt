@@ -10,13 +10,13 @@ use std::alloc::Global;
 
 /// The earliest time, in steps, at which the search of this number comes to a safe interval.
 #[derive(Clone, Copy)]
-pub struct Label {
+pub struct IntervalLabel {
     pub search: u16,
     pub time: u16,
 }
 
 /// No search has come to the interval.
-const NONE: Label = Label { search: 0, time: 0 };
+const NONE: IntervalLabel = IntervalLabel { search: 0, time: 0 };
 
 /// For each safe interval of each cell the earliest time at which the latest search has come there. Labels of earlier
 /// searches stay in the table, where their numbers tell them apart.
@@ -25,10 +25,10 @@ pub struct Labels {
     pub alloc: Global,
     pub search: u16,
     /// For each cell the label of its first interval.
-    pub first: Table<Label>,
+    pub first: Table<IntervalLabel>,
     /// For each cell the number of the row of its later intervals, counted from 1; 0 if it has none.
     pub numbers: Table<usize>,
-    pub rows: Vec<Vec<Label>>,
+    pub rows: Vec<Vec<IntervalLabel>>,
 }
 
 impl Labels {
@@ -71,7 +71,7 @@ impl Labels {
     }
 
     /// The label of this interval, by whichever search.
-    fn label(&self, cell: usize, interval: usize) -> Label
+    fn label(&self, cell: usize, interval: usize) -> IntervalLabel
         requires { AreLabels self.now }
         ensures { result ≡ interval_label self.now cell interval }
     {
@@ -83,7 +83,7 @@ impl Labels {
     }
 
     /// The label at a place of the cell's row.
-    fn later(&self, cell: usize, place: usize) -> Label
+    fn later(&self, cell: usize, place: usize) -> IntervalLabel
         requires { AreLabels self.now }
         ensures { result ≡ interval_label self.now cell (suc place) }
     {
@@ -105,7 +105,7 @@ impl Labels {
             (IsLabelSet (earliest_in self.old) (earliest_in self.new) cell interval time) }
     {
         let search = self.search;
-        let label = Label { search, time };
+        let label = IntervalLabel { search, time };
         if interval == 0 {
             self.put_first(cell, label)
         } else {
@@ -114,7 +114,7 @@ impl Labels {
     }
 
     /// Puts the label of the cell's first interval.
-    fn put_first(&mut self, cell: usize, label: Label) -> Result<(), OutOfMemory>
+    fn put_first(&mut self, cell: usize, label: IntervalLabel) -> Result<(), OutOfMemory>
         requires { AreLabels self.old }
         ensures apart { OnOk result (HaveOwnRows self.new) }
         ensures put { OnOk result (IsLabelPut self.old self.new cell 0 label) }
@@ -124,7 +124,12 @@ impl Labels {
     }
 
     /// Puts the label at a place of the cell's row.
-    fn put_later(&mut self, cell: usize, place: usize, label: Label) -> Result<(), OutOfMemory>
+    fn put_later(
+        &mut self,
+        cell: usize,
+        place: usize,
+        label: IntervalLabel,
+    ) -> Result<(), OutOfMemory>
         requires labels { AreLabels self.old }
         requires few { place < 4294967295 }
         ensures apart { OnOk result (HaveOwnRows self.new) }
@@ -139,7 +144,12 @@ impl Labels {
     }
 
     /// Adds a row for the cell, which has none, with the label at this place of it.
-    fn add_row(&mut self, cell: usize, place: usize, label: Label) -> Result<(), OutOfMemory>
+    fn add_row(
+        &mut self,
+        cell: usize,
+        place: usize,
+        label: IntervalLabel,
+    ) -> Result<(), OutOfMemory>
         requires labels { AreLabels self.old }
         requires none { value_in self.old.numbers cell ≡ 0 }
         requires few { place < 4294967295 }
@@ -167,7 +177,7 @@ impl Labels {
 }
 
 /// The label at a place of the row.
-fn label_at(row: &[Label], place: usize) -> Label
+fn label_at(row: &[IntervalLabel], place: usize) -> IntervalLabel
     ensures { result ≡ get_or row.now place no_interval_label }
 {
     match row.get(place) {
@@ -177,7 +187,11 @@ fn label_at(row: &[Label], place: usize) -> Label
 }
 
 /// Sets the label at a place of the row.
-fn set_in(row: &mut Vec<Label>, place: usize, label: Label) -> Result<(), OutOfMemory>
+fn set_in(
+    row: &mut Vec<IntervalLabel>,
+    place: usize,
+    label: IntervalLabel,
+) -> Result<(), OutOfMemory>
     requires { place < 4294967295 }
     ensures set { OnOk result (get_or row.new.items place no_interval_label ≡ label) }
     ensures others { OnOk result ((n : ℕ) → n ≢ place

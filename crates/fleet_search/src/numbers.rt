@@ -1,8 +1,9 @@
 //! Numbers of cells. They stand in rows, first by `y` and then by `x`, which reach no further than the cells that have
 //! one.
 
-ghost use Rattle.std.specs.Prelude.{◌≡◌, ◌≢◌, ◌<◌, ◌≤◌, ℕ, [], length, get_or, map, OnOk, OnErr};
+ghost use Rattle.std.specs.Prelude.{◌≡◌, ◌≢◌, ◌≤◌, ℕ, get_or, OnOk, OnErr};
 ghost use Rattle.fleet_model.specs.declared.geometry.Cell.{Cell};
+ghost use Rattle.fleet_model.specs.declared.limits.TheConstants.{MAX_COORDINATE};
 ghost use Rattle.fleet_search.specs.Numbers.{number_in_rows, IsNumbered};
 
 use crate::rows::widen;
@@ -25,7 +26,7 @@ pub fn number_at(rows: &[Vec<u32>], cell: Cell) -> u32
 
 /// Writes the number at a place of the row. A refusal changes nothing.
 fn write(row: &mut Vec<u32>, place: usize, number: u32) -> Result<(), OutOfMemory>
-    requires { place < 65536 }
+    requires { place ≤ MAX_COORDINATE }
     ensures here { OnOk result (get_or row.new.items place 0 ≡ number) }
     ensures others { (k : ℕ) → k ≢ place → get_or row.new.items k 0 ≡ get_or row.old.items k 0 }
     ensures err { OnErr result (row.new.items ≡ row.old.items) }

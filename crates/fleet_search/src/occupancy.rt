@@ -17,7 +17,7 @@ pub struct Occupancy {
 }
 
 /// Whether all of the occupancies have begun by the time.
-fn all_started_by(occupancies: &[Occupancy], time: u32) -> bool
+fn have_all_begun(occupancies: &[Occupancy], time: u32) -> bool
     requires { AreInOrder occupancies.now }
     ensures { IsTrue result → (i : ℕ) (d : Occupancy) → i < length occupancies.now
         → (get_or occupancies.now i d).from ≤ time }
@@ -29,14 +29,14 @@ fn all_started_by(occupancies: &[Occupancy], time: u32) -> bool
 }
 
 /// How many of the occupancies have begun by the time.
-pub fn started_by(occupancies: &[Occupancy], time: u32) -> usize
+pub fn count_begun(occupancies: &[Occupancy], time: u32) -> usize
     requires { AreInOrder occupancies.now }
     ensures point { IsPartitionPoint (λ s. s.from ≤ time) (λ s. time < s.from)
         occupancies.now result }
     ensures bound { result ≤ length occupancies.now }
 {
     // On a busy cell most occupancies are over, which the last one shows.
-    if all_started_by(occupancies, time) {
+    if have_all_begun(occupancies, time) {
         return occupancies.len();
     }
     occupancies.partition_point(|occupancy| occupancy.from <= time)
@@ -48,7 +48,7 @@ pub fn place(occupancies: &mut Vec<Occupancy>, occupancy: Occupancy) -> Result<(
     ensures ok { OnOk result (IsPutIn occupancies.old.items occupancies.new.items occupancy) }
     ensures err { OnErr result (occupancies.new.items ≡ occupancies.old.items) }
 {
-    let index = started_by(occupancies.as_slice(), occupancy.from);
+    let index = count_begun(occupancies.as_slice(), occupancy.from);
     occupancies.insert(index, occupancy)?;
     Ok(())
 }

@@ -1,11 +1,11 @@
 //! Plans made agent by agent in several orders: an agent that is left without a path comes first in the next one.
 
-ghost use Rattle.std.specs.Prelude.{◌≡◌, ◌+◌, ◌<◌, ◌≤◌, ◌⊎◌, ◌++◌, ◌∷◌, ℕ, [], true, false, length, get_or, max, IfOk, IfErr, OnOk, IsTrue};
+ghost use Rattle.std.specs.Prelude.{◌≡◌, ◌+◌, ◌<◌, ◌≤◌, ◌↔◌, ◌⊎◌, ◌++◌, ◌∷◌, ℕ, [], true, length, get_or, max, IfOk, IfErr, OnOk, IsTrue};
 ghost use Rattle.fleet_plan.specs.Plan.{IsConflictFree};
 ghost use Rattle.fleet_grid.specs.Ground.{is_passable};
 ghost use Rattle.fleet_search.specs.Way.{Fits};
-ghost use Rattle.fleet_search.specs.Orders.{rising, to_front, paths_by, IsMadeInTries, IsStuckInTries};
-ghost use Rattle.fleet_search.specs.Attempts.{AreTables, ArePathsKept, IsPathAdded, IsMadeAfterFirst, IsOrderOf, AreReserved, IsAttempt, IsOldPath};
+ghost use Rattle.fleet_search.specs.Orders.{agent_numbers, to_front, paths_by, IsMadeInTries, IsStuckInTries};
+ghost use Rattle.fleet_search.specs.Attempts.{AreTables, ArePathsKept, IsPathAdded, IsMadeAfterFirst, IsOrderOf, AreReservedInOrder, IsAttempt, IsOldPath};
 
 use crate::distances::Distances;
 use crate::earliest_path::earliest_over;
@@ -186,7 +186,7 @@ fn reserve_in_order(
     requires none { reserved.old ≡ [] }
     requires tables { AreTables problem.now tables.old }
     ensures tables { OnOk result (AreTables problem.now tables.new) }
-    ensures attempt { IfOk result (AreReserved problem.now order.now reserved.new) }
+    ensures attempt { IfOk result (AreReservedInOrder problem.now order.now reserved.new) }
 {
     if !add_path(problem, order[0], problem.horizon, reserved, tables)? {
         return Ok(false);
@@ -202,8 +202,8 @@ fn reserve_in_order(
 }
 
 /// The numbers of so many agents, rising.
-fn rising(alloc: Global, agents: u16) -> Result<Vec<u16>, OutOfMemory>
-    ensures { IfOk result (λ order. order.items ≡ rising agents) }
+fn agent_numbers(alloc: Global, agents: u16) -> Result<Vec<u16>, OutOfMemory>
+    ensures { IfOk result (λ order. order.items ≡ agent_numbers agents) }
 {
     let mut order = Vec::new(alloc);
     for agent in 0..agents {
@@ -271,7 +271,7 @@ fn plan_in_turns(problem: &Problem<'_>, tries: u32) -> Result<Plan, PlanStop>
         distances: Distances::new(problem.alloc, problem.grid)?,
         frontier: Frontier::new(problem.alloc),
     };
-    let mut order = rising(problem.alloc, problem.instance.agents())?;
+    let mut order = agent_numbers(problem.alloc, problem.instance.agents())?;
     plan_from(problem, tries, &mut order, &mut tables)
 }
 
@@ -282,7 +282,7 @@ fn plan_from(
     order: &mut Vec<u16>,
     tables: &mut Tables<'_>,
 ) -> Result<Plan, PlanStop>
-    requires order { order.old.items ≡ rising (length problem.now.instance.now) }
+    requires order { order.old.items ≡ agent_numbers (length problem.now.instance.now) }
     requires some { 1 ≤ length problem.now.instance.now }
     requires tables { AreTables problem.now tables.old }
     ensures made { IfOk result (IsMadeInTries (is_passable problem.now.grid.now)
@@ -313,8 +313,7 @@ fn plan_from(
 /// that is first already finds no path in any later try.
 fn is_last_try(place: usize, failed: u32, tries: u32) -> bool
     requires { failed < max tries 1 }
-    ensures yes { IsTrue result → (place ≡ 0) ⊎ (tries ≤ failed + 1) }
-    ensures no { result ≡ false → failed + 1 < tries }
+    ensures { IsTrue result ↔ ((place ≡ 0) ⊎ (tries ≤ failed + 1)) }
 {
     place == 0 || failed + 1 >= tries
 }

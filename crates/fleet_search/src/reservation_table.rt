@@ -22,8 +22,8 @@ impl ReservationTable {
     ghost use Rattle.std.specs.Prelude.{◌≡◌, ◌+◌, ◌<◌, [], length, IfOk, OnOk, OnErr};
     ghost use Rattle.fleet_model.specs.declared.geometry.Cell.{Cell};
     ghost use Rattle.fleet_search.specs.Numbers.{number_in_rows};
-    ghost use Rattle.fleet_search.specs.Way.{Fits, joined};
-    ghost use Rattle.fleet_search.specs.Occupancies.{AreInOrder, IsAdded, occupancies_of, without, HaveOccupancies};
+    ghost use Rattle.fleet_search.specs.Way.{Fits, with_path};
+    ghost use Rattle.fleet_search.specs.Occupancies.{AreInOrder, IsOccupancyAdded, occupancies_of, without, HaveOccupancies};
 
     /// Nobody is anywhere. Takes no memory.
     pub fn new(alloc: Global) -> ReservationTable
@@ -79,7 +79,7 @@ impl ReservationTable {
     /// Adds the occupancy on the cell. A refusal changes no list.
     fn add(&mut self, cell: Cell, occupancy: Occupancy) -> Result<(), OutOfMemory>
         requires { AreInOrder (occupancies_of self.old cell) }
-        ensures ok { OnOk result (IsAdded self.old self.new cell occupancy) }
+        ensures ok { OnOk result (IsOccupancyAdded self.old self.new cell occupancy) }
         ensures err { OnErr result ((c : Cell)
             → occupancies_of self.new c ≡ occupancies_of self.old c) }
     {
@@ -91,7 +91,7 @@ impl ReservationTable {
     fn add_all(&mut self, paths: &[Path], path: &Path) -> Result<(), OutOfMemory>
         requires occupancies { HaveOccupancies paths.now self.old }
         requires fits { Fits paths.now path.now }
-        ensures ok { OnOk result (HaveOccupancies (joined paths.now path.now) self.new) }
+        ensures ok { OnOk result (HaveOccupancies (with_path paths.now path.now) self.new) }
         ensures rest { (c : Cell) → without (length paths.now) (occupancies_of self.new c)
             ≡ occupancies_of self.old c }
     {
@@ -122,7 +122,7 @@ impl ReservationTable {
     pub fn insert(&mut self, paths: &[Path], path: &Path) -> Result<(), OutOfMemory>
         requires occupancies { HaveOccupancies paths.now self.old }
         requires fits { Fits paths.now path.now }
-        ensures ok { OnOk result (HaveOccupancies (joined paths.now path.now) self.new) }
+        ensures ok { OnOk result (HaveOccupancies (with_path paths.now path.now) self.new) }
         ensures err { OnErr result (HaveOccupancies paths.now self.new) }
     {
         let entered = self.add_all(paths, path);

@@ -2,13 +2,11 @@
 
 ghost use Rattle.std.specs.Prelude.{◌≡◌, ◌<◌, ◌≤◌, ◌↔◌, ◌++◌, ◌∷◌, [], ℕ, IsTrue, IfSome, IfNone, IfOk, OnOk, OnErr};
 ghost use Rattle.fleet_model.specs.declared.geometry.Cell.{Cell};
-ghost use Rattle.fleet_model.specs.declared.limits.TheConstants.{MAX_HORIZON};
-ghost use Rattle.fleet_plan.specs.Plan.{IsPath, steps};
-ghost use Rattle.fleet_search.specs.Way.{Fits, FitTogether, StepFits, joined};
+ghost use Rattle.fleet_search.specs.Way.{Fits, StepFits};
 ghost use Rattle.fleet_search.specs.Occupancies.{HaveOccupancies};
 ghost use Rattle.fleet_search.specs.Reserved.{IsOn, IsUnoccupied, IsFreeFrom, LeadsBack};
 
-use crate::occupancy::started_by;
+use crate::occupancy::count_begun;
 use crate::reservation_table::ReservationTable;
 use fleet_model::{Cell, OutOfMemory};
 use fleet_plan::Path;
@@ -22,7 +20,6 @@ pub struct Reservations {
     alloc: Global,
     paths: Vec<Path>,
     table: ReservationTable,
-    last: u32,
 }
 
 impl Model for Reservations {
@@ -34,7 +31,7 @@ impl Model for Reservations {
 
     ghost view = { λ r. r.paths.items };
 
-    ghost invariant = { λ r. AreReserved r.paths.items r.table r.last };
+    ghost invariant = { λ r. AreReserved r.paths.items r.table };
 }
 
 /// A copy of the path.
@@ -54,26 +51,7 @@ impl Reservations {
             alloc,
             paths: Vec::new(alloc),
             table: ReservationTable::new(alloc),
-            last: 0,
         }
-    }
-
-    /// The time of the latest arrival: from then on nobody moves.
-    pub(crate) fn steps(&self) -> u32
-        ensures value { result ≡ steps self.now }
-        ensures limit { result ≤ MAX_HORIZON }
-        ensures together { FitTogether self.now }
-    {
-        self.last
-    }
-
-    /// The time of the latest arrival, that of the path among them.
-    #[tactic(auto, using(crate::proofs::Reserving::latest_joined))]
-    fn steps_with(&self, path: &Path) -> u32
-        ensures time { result ≡ steps (joined self.now path.now) }
-        ensures limits { IsPath path.now }
-    {
-        self.last.max(path.steps())
     }
 
     /// For each cell the occupancies on it.
@@ -89,7 +67,7 @@ impl Reservations {
         ensures none { IfNone result (IsUnoccupied self.now time cell) }
     {
         let occupancies = self.table().occupancies(cell);
-        let count = started_by(occupancies, time);
+        let count = count_begun(occupancies, time);
         if count == 0 {
             return None;
         }
@@ -197,12 +175,10 @@ impl Reservations {
         ensures ok { OnOk result (self.new ≡ self.old ++ path.now ∷ []) }
         ensures err { OnErr result (self.new ≡ self.old) }
     {
-        let last = self.steps_with(path);
         let copy = copy_of(self.alloc, path)?;
         self.paths.reserve(1)?;
         self.table.insert(self.paths.as_slice(), path)?;
         self.paths.push(copy)?;
-        self.last = last;
         Ok(())
     }
 
@@ -214,7 +190,6 @@ impl Reservations {
             alloc: _,
             paths,
             table: _,
-            last: _,
         } = self;
         paths
     }

@@ -48,20 +48,17 @@ pub fn take(rows: &mut Vec<Vec<u32>>, key: u32) -> Option<u32>
     if key >= rows.len() {
         return None;
     }
-    match rows[key].pop() {
-        None => None,
-        Some(number) => Some(number),
-    }
+    rows[key].pop()
 }
 
 /// How many rows at most are kept from one search to the next.
-const KEPT: usize = 8192;
+const KEPT_ROWS: usize = 8_192;
 
-/// Takes all numbers out of the rows, and drops the rows after the first `KEPT`.
+/// Takes all numbers out of the rows, and drops the rows after the first `KEPT_ROWS`.
 pub fn clear(rows: &mut Vec<Vec<u32>>)
     ensures { (k : ℕ) → bucket_in rows.new.items k ≡ [] }
 {
-    rows.truncate(KEPT);
+    rows.truncate(KEPT_ROWS);
     for row in rows.iter_mut() {
         row.clear();
     }

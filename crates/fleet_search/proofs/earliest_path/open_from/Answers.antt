@@ -20,11 +20,11 @@ returns-then-is_some-clause-none c = λ path w h.
     let j = of_some c.occupant.result c.is_some.result c.is_some.ensures c.if-is_some.true c.occupant.ensures.some in
     no-way-taken (is_passable c.args.grid.now) c.args.reserved.now c.args.start c.args.goal path w j.0 j.1.agent j.1.on
 
-pub returns-in-None-clause-none : goal.returns-in-None-clause-none
-returns-in-None-clause-none c = λ path w h.
-    c.in-None.ensures.none (arrival path) (no-way-busy (is_passable c.args.grid.now) c.args.reserved.now c.args.start c.args.goal path w)
+pub returns-in_err-from-clause-none : goal.returns-in_err-from-clause-none
+returns-in_err-from-clause-none c = rw c.from_residual.ensures (λ path w h.
+    c.in_err-from.ensures.none (arrival path) (no-way-busy (is_passable c.args.grid.now) c.args.reserved.now c.args.start c.args.goal path w))
 
 pub returns-else-from-clause-none : goal.returns-else-from-clause-none
 returns-else-from-clause-none c = λ path w h.
-    let late : c.in-Some.from ≤ arrival path = (c.in-Some.ensures.some (arrival path)).0 (no-way-busy (is_passable c.args.grid.now) c.args.reserved.now c.args.start c.args.goal path w) in
+    let late : c.in_ok-from.from ≤ arrival path = (c.in_ok-from.ensures.some (arrival path)).0 (no-way-busy (is_passable c.args.grid.now) c.args.reserved.now c.args.start c.args.goal path w) in
     absurd (omega arith)

@@ -1,23 +1,25 @@
-use Rattle.std.proofs.Common.{◌≡◌, ◌-◌, ◌<◌, ◌≤◌, length, drop, IsPermutation, sym, ap, ◌∙◌, subst, arith}
+use Rattle.std.proofs.Common.{◌≡◌, ◌+◌, ◌-◌, ◌<◌, ◌≤◌, length, drop, IsPermutation, inl, inr, sym, ap, ◌∙◌, subst, arith}
+use Rattle.std.proofs.lemmas.Bool.{cases_lt}
 use Rattle.std.proofs.lemmas.List.FromFn.{length-range_with_len}
 use Rattle.std.proofs.lemmas.List.Sorted.{IsPermutation-refl}
 use Rattle.std.proofs.lemmas.List.{get_or_default}
 use Rattle.std.proofs.lemmas.Result.{IfOk-weaker, err_from_is_err_and}
 use Rattle.fleet_grid.specs.Ground.{is_passable}
-use Rattle.fleet_search.specs.Orders.{tasks_by, paths_by, rising, to_front, IsOrderAfter, IsMadeInTries, IsStuckInOrder, IsStuckInTries}
+use Rattle.fleet_search.specs.Orders.{tasks_by, paths_by, agent_numbers, to_front, IsOrderAfter, IsMadeInTries, IsStuckInOrder, IsStuckInTries}
 use Rattle.fleet_search.specs.InTurn.{IsPrioritisedPlan}
 use Rattle.fleet_search.proofs.InTurnLaws.{same_agent}
 use Rattle.fleet_search.proofs.KeptPaths.{none_made, made_after_raise}
+use Rattle.fleet_search.proofs.Occupants.{no_from_false}
 use Rattle.fleet_search.proofs.OrderLaws.{order_after-none, order_after-more, order-length, stuck_in_tries, stuck_within, order_with_raised}
 use Rattle.fleet_search.proofs.orders.plan_from.Goals as goal
 
 pub loop-failed-init : goal.loop-failed-init
 loop-failed-init c =
     let tasks = c.args.problem.now.instance.now in
-    let e : c.args.order.now.items ≡ rising (length tasks) = c.requires.order in
+    let e : c.args.order.now.items ≡ agent_numbers (length tasks) = c.requires.order in
     record {
       more = omega arith;
-      each_once = subst (IsPermutation (rising (length tasks))) (sym e) (IsPermutation-refl (rising (length tasks)));
+      each_once = subst (IsPermutation (agent_numbers (length tasks))) (sym e) (IsPermutation-refl (agent_numbers (length tasks)));
       after = subst (IsOrderAfter (is_passable c.args.problem.now.grid.now) tasks c.args.problem.now.horizon 0) (sym e) (order_after-none (is_passable c.args.problem.now.grid.now) tasks c.args.problem.now.horizon);
       tables = c.requires.tables;
       kept = subst (λ z. IsPrioritisedPlan (is_passable c.args.problem.now.grid.now) (drop 1 (tasks_by c.args.order.now.items tasks)) c.args.problem.now.horizon (length z) z) (sym c.new-kept.ensures.items)
@@ -43,7 +45,7 @@ returns-then-is_last_try-clause-no_path c = λ agent e.
     let few : c.loop-failed.failed ≤ c.args.tries - 1 = (let m = i.more in omega arith) in
     same_agent (IsStuckInTries passable tasks horizon c.args.tries) c.index-agent.result.now agent e
     (stuck_in_tries passable tasks horizon c.args.tries c.loop-failed.failed c.loop-failed.order.items c.len-place.result c.index-agent.result.now few i.each_once i.after stuck
-    inside (c.index-agent.ensures ∙ get_or_default c.loop-failed.order.items c.len-place.result c.index-agent.result.now 0 inside) (c.is_last_try.ensures.yes c.if-is_last_try.true))
+    inside (c.index-agent.ensures ∙ get_or_default c.loop-failed.order.items c.len-place.result c.index-agent.result.now 0 inside) (c.is_last_try.ensures.0 c.if-is_last_try.true))
 
 pub raise-requires : goal.raise-requires
 raise-requires c =
@@ -87,8 +89,11 @@ loop-failed-preserved c =
     let inside = stuck_within passable tasks horizon order c.len-place.result stuck in
     let next : c.raise.new.order.items ≡ to_front order c.len-place.result = c.in_ok-raise-in-Stuck.ensures in
     record {
-      more = (let m = c.is_last_try.ensures.no c.if-is_last_try.false in omega arith);
-      each_once = subst (IsPermutation (rising (length tasks))) (sym next) (order_with_raised (length tasks) order c.len-place.result i.each_once inside);
+      more = elim (cases_lt (c.loop-failed.failed + 1) c.args.tries) [
+        | inl less ↦ omega arith
+        | inr late ↦ absurd (no_from_false c.is_last_try.result c.if-is_last_try.false c.is_last_try.ensures (inr late))
+      ];
+      each_once = subst (IsPermutation (agent_numbers (length tasks))) (sym next) (order_with_raised (length tasks) order c.len-place.result i.each_once inside);
       after = order_after-more passable tasks horizon c.loop-failed.failed c.len-place.result order c.raise.new.order.items i.after stuck next;
       tables = c.in_ok-paths.ensures.tables;
       kept =
@@ -97,7 +102,7 @@ loop-failed-preserved c =
           subst (λ z. IsPrioritisedPlan passable (drop 1 (tasks_by z tasks)) horizon (length c.in-Stuck.paths.items) c.in-Stuck.paths.items) (sym (next ∙ ap (to_front order) at))
           (made_after_raise passable tasks horizon order c.in-Stuck.paths.items few made);
       fewer =
-          let long : length c.raise.new.order.items ≡ length tasks = order-length (length tasks) c.raise.new.order.items (subst (IsPermutation (rising (length tasks))) (sym next) (order_with_raised (length tasks) order c.len-place.result i.each_once inside)) in
+          let long : length c.raise.new.order.items ≡ length tasks = order-length (length tasks) c.raise.new.order.items (subst (IsPermutation (agent_numbers (length tasks))) (sym next) (order_with_raised (length tasks) order c.len-place.result i.each_once inside)) in
           let long' : length order ≡ length tasks = order-length (length tasks) order i.each_once in
           omega arith;
     }

@@ -5,7 +5,7 @@ use Rattle.fleet_search.specs.Labels.{earliest_in, IsLabelSet}
 use Rattle.fleet_search.specs.Rows.{IsPut}
 use Rattle.fleet_search.specs.Intervals.{AreBegun}
 use Rattle.fleet_search.specs.Search.{occupancies_on}
-use Rattle.fleet_search.proofs.IntervalLaws.{started_by-point, free-interval}
+use Rattle.fleet_search.proofs.IntervalLaws.{begun-point, free-interval}
 use Rattle.fleet_search.proofs.SearchSteps.{opening}
 use Rattle.fleet_search.proofs.frontier.Frontier.begin.Goals as goal
 
@@ -14,10 +14,10 @@ returns c =
     let q = c.args.query.now in
     let labels = earliest_in c.clear.new.self.labels in
     let new = earliest_in c.add.new.self.labels in
-    let interval = c.started_by-interval.result in
+    let interval = c.count_begun-interval.result in
     let first : Node = record { state = record { time = 0; cell = q.start }; parent = c.to-parent.result } in
-    let started_by = subst (λ z. AreBegun z 0 interval) c.occupancies.ensures (started_by-point _ 0 interval c.started_by-interval.ensures.bound c.started_by-interval.ensures.point) in
-    let inside = free-interval q.reserved.now q.start (occupancies_on q q.start) (c.requires.asked.measured.occupancies q.start) 0 interval (omega arith) started_by c.requires.asked.free in
+    let begun = subst (λ z. AreBegun z 0 interval) c.occupancies.ensures (begun-point _ 0 interval c.count_begun-interval.ensures.bound c.count_begun-interval.ensures.point) in
+    let inside = free-interval q.reserved.now q.start (occupancies_on q q.start) (c.requires.asked.measured.occupancies q.start) 0 interval (omega arith) begun c.requires.asked.free in
     let set = subst (λ z. IsLabelSet labels new z interval 0) c.cell_index-number.ensures.value c.in_ok-add.ensures.labels in
     let put = subst (IsPut c.clear.new.self.open_list c.add.new.self.open_list c.bucket-bucket.result) (ap length c.clear.ensures.nodes) c.in_ok-add.ensures.open_list in
     opening q c.requires.asked c.requires.in_time labels new c.clear.new.self.open_list c.add.new.self.open_list c.clear.ensures.labels c.add.new.self.nodes c.to-parent.result (c.in_ok-add.ensures.nodes ∙ ap (λ z. z ++ first ∷ []) c.clear.ensures.nodes) interval inside set c.clear.ensures.open_list c.bucket-bucket.result (c.bucket-bucket.ensures q.start c.heuristic.ensures.value) put

@@ -5,7 +5,7 @@ use Rattle.fleet_search.specs.Frontier.{Exploration}
 use Rattle.fleet_search.specs.Labels.{earliest_in}
 use Rattle.fleet_search.specs.Rows.{bucket_of}
 use Rattle.fleet_search.specs.Search.{IsGoalState, IsLeft}
-use Rattle.fleet_search.proofs.SearchSteps.{taken-off, taken-left, swept-off, lower, raise}
+use Rattle.fleet_search.proofs.SearchSteps.{taken-off, taken-left, swept-off, frontier_of_lower_bucket, frontier_of_higher_bucket}
 use Rattle.fleet_search.proofs.frontier.Frontier.expand_bucket.Goals as goal
 
 pub node-requires : goal.node-requires
@@ -18,7 +18,7 @@ node-requires c =
 pub expand-requires-clause-frontier : goal.expand-requires-clause-frontier
 expand-requires-clause-frontier c =
     let t = c.take.new.self in
-    lower c.args.query.now c.args.bucket (c.args.bucket - 1) (Some c.in-Some.place) t.nodes (earliest_in t.labels) t.open_list (omega arith) (taken-off c.args.query.now c.args.bucket c.in-Some.place c.loop-place.self t c.loop-place.invariant.0 c.in-Some.ensures.some)
+    frontier_of_lower_bucket c.args.query.now c.args.bucket (c.args.bucket - 1) (Some c.in-Some.place) t.nodes (earliest_in t.labels) t.open_list (omega arith) (taken-off c.args.query.now c.args.bucket c.in-Some.place c.loop-place.self t c.loop-place.invariant.0 c.in-Some.ensures.some)
 
 pub expand-requires-clause-left : goal.expand-requires-clause-left
 expand-requires-clause-left c =
@@ -48,7 +48,7 @@ loop-place-preserved c =
     let taken = ap (λ (z : Exploration). length z.nodes) c.in-Some.ensures.some.rest in
     let same : length n.nodes ≡ length t.nodes = omega (arith, c.len.ensures, c.len-before.ensures) in
     let fr = taken-off c.args.query.now c.args.bucket c.in-Some.place s t c.loop-place.invariant.0 c.in-Some.ensures.some in
-    (raise c.args.query.now c.args.bucket (c.args.bucket - 1) None n.nodes (earliest_in n.labels) n.open_list t.open_list c.in_ok-expand.ensures.frontier (g.same same) fr.past, same ∙ taken ∙ long)
+    (frontier_of_higher_bucket c.args.query.now c.args.bucket (c.args.bucket - 1) None n.nodes (earliest_in n.labels) n.open_list t.open_list c.in_ok-expand.ensures.frontier (g.same same) fr.past, same ∙ taken ∙ long)
 
 pub loop-place-smaller : goal.loop-place-smaller
 loop-place-smaller c =

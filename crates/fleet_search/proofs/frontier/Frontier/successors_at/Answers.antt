@@ -2,14 +2,14 @@ use Rattle.std.proofs.Common.{◌+◌, ◌-◌, ◌<◌, length, sym, ap, subst,
 use Rattle.fleet_search.specs.Occupancies.{AreInOrder, occupancy_at}
 use Rattle.fleet_search.specs.Intervals.{AreBegun}
 use Rattle.fleet_search.specs.Search.{occupancies_on}
-use Rattle.fleet_search.proofs.IntervalLaws.{started_by-point}
+use Rattle.fleet_search.proofs.IntervalLaws.{begun-point}
 use Rattle.fleet_search.proofs.Occupants.{yes_from_true}
 use Rattle.fleet_search.proofs.ReservationTables.{AreInOrder-occupancies}
 use Rattle.fleet_search.proofs.Turning.{turning-begin, turning-more, turned, all_later}
 use Rattle.fleet_search.proofs.frontier.Frontier.successors_at.Goals as goal
 
-pub started_by-first-requires : goal.started_by-first-requires
-started_by-first-requires c =
+pub count_begun-first-requires : goal.count_begun-first-requires
+count_begun-first-requires c =
     let q = c.args.query.now in
     let cell = c.args.neighbour.now.cell in
     subst AreInOrder (sym c.requires.neighbour.occupancies) (AreInOrder-occupancies q.reserved.now cell _ (c.requires.leaving.frontier.measured.occupancies cell))
@@ -18,9 +18,9 @@ pub loop-interval-init : goal.loop-interval-init
 loop-interval-init c =
     let q = c.args.query.now in
     let cell = c.args.neighbour.now.cell in
-    let first = c.started_by-first.result in
-    let started_by = started_by-point _ (c.from.result + 1) first c.started_by-first.ensures.bound c.started_by-first.ensures.point in
-    let begun = subst (λ t. AreBegun (occupancies_on q cell) (t + 1) first) c.from.ensures (subst (λ z. AreBegun z (c.from.result + 1) first) c.requires.neighbour.occupancies started_by) in
+    let first = c.count_begun-first.result in
+    let counted = begun-point _ (c.from.result + 1) first c.count_begun-first.ensures.bound c.count_begun-first.ensures.point in
+    let begun = subst (λ t. AreBegun (occupancies_on q cell) (t + 1) first) c.from.ensures (subst (λ z. AreBegun z (c.from.result + 1) first) c.requires.neighbour.occupancies counted) in
     turning-begin q c.args.bucket c.args.left cell first c.args.self.now c.requires.leaving begun
 
 pub loop-interval-preserved : goal.loop-interval-preserved

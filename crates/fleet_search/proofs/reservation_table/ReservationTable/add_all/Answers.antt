@@ -5,7 +5,7 @@ use Rattle.fleet_model.proofs.Cells.{is_same_cell-true}
 use Rattle.fleet_model.specs.declared.limits.TheConstants.{MAX_HORIZON}
 use Rattle.fleet_plan.specs.Plan.{cell_at}
 use Rattle.fleet_search.specs.Occupancies.{without}
-use Rattle.fleet_search.proofs.Entering.{entered-none, entered-same, entered-more, entered-all, entered-rest, entered-order, either}
+use Rattle.fleet_search.proofs.Entering.{entered-none, entered-same, entered-more, entered-all, entered-rest, entered-order, from_ok_or_err}
 use Rattle.fleet_search.proofs.reservation_table.ReservationTable.add_all.Goals as goal
 use Rattle.fleet_search.proofs.reservation_table.ReservationTable.add_all.Goals.{then-ne+in_ok-add, else-ne}
 
@@ -39,4 +39,4 @@ returns-clause-rest c =
     let path = c.args.path.now in
     let e : c.steps-end.result ≡ time = omega arith in
     let few : time ≤ MAX_HORIZON = let f = c.steps-end.ensures.limits.few_cells in let g = c.steps-end.ensures.time in omega arith in
-    either c.add-2.result c.add-2.ensures.ok c.add-2.ensures.err (λ a. entered-rest c.args.paths.now path c.requires.fits c.args.self.now c.loop-time.self c.loop-time.from time c.loop-time.invariant c.add-2.new.self c.cell-2.result _ a (c.cell-2.ensures ∙ ap (cell_at path) e) refl refl few) (λ h d. ap (without (length c.args.paths.now)) (h d) ∙ c.loop-time.invariant.rest d)
+    from_ok_or_err c.add-2.result c.add-2.ensures.ok c.add-2.ensures.err (λ a. entered-rest c.args.paths.now path c.requires.fits c.args.self.now c.loop-time.self c.loop-time.from time c.loop-time.invariant c.add-2.new.self c.cell-2.result _ a (c.cell-2.ensures ∙ ap (cell_at path) e) refl refl few) (λ h d. ap (without (length c.args.paths.now)) (h d) ∙ c.loop-time.invariant.rest d)

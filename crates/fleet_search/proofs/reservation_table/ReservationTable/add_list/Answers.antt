@@ -1,10 +1,10 @@
 use Rattle.std.proofs.Common.{◌≡◌, ◌+◌, length, refl, subst, arith}
 use Rattle.fleet_search.specs.Numbers.{IsNumbered}
-use Rattle.fleet_search.proofs.OccupancyRows.{stays-same, list-unused, list-begun}
+use Rattle.fleet_search.proofs.OccupancyRows.{occupancies-same, list-unused, list-begun}
 use Rattle.fleet_search.proofs.reservation_table.ReservationTable.add_list.Goals as goal
 
 pub returns-in_err-push-clause-same : goal.returns-in_err-push-clause-same
-returns-in_err-push-clause-same c = stays-same c.args.self.now _ refl c.in_err-push.ensures.items
+returns-in_err-push-clause-same c = occupancies-same c.args.self.now _ refl c.in_err-push.ensures.items
 
 pub returns-in_err-set_number-clause-same : goal.returns-in_err-set_number-clause-same
 returns-in_err-set_number-clause-same c = list-unused c.args.self.now _ c.args.self.now.own c.new.result c.in_ok-push.ensures.items c.in_err-set_number.ensures.err

@@ -1,7 +1,7 @@
 use Rattle.std.proofs.Common.{◌-◌, length, ap, arith}
 use Rattle.std.proofs.lemmas.Bool.{leb-true}
 use Rattle.fleet_search.specs.declared.occupancy.Occupancy.{Occupancy}
-use Rattle.fleet_search.proofs.occupancy.all_started_by.Goals as goal
+use Rattle.fleet_search.proofs.occupancy.have_all_begun.Goals as goal
 
 pub returns-in-Some : goal.returns-in-Some
 returns-in-Some c = λ h i d l.

@@ -2,7 +2,7 @@ use Rattle.std.proofs.Common.{rules, leb, arith}
 use Rattle.std.proofs.lemmas.Bool.{leb-true, leb-false}
 use Rattle.std.proofs.lemmas.List.Sorted.{IsPartitionPoint-from_clause, IsPartitionedBy-leb}
 use Rattle.fleet_search.specs.declared.occupancy.Occupancy.{Occupancy}
-use Rattle.fleet_search.proofs.occupancy.started_by.Goals as goal
+use Rattle.fleet_search.proofs.occupancy.count_begun.Goals as goal
 
 pub returns-clause-point : goal.returns-clause-point
 returns-clause-point c =
@@ -12,8 +12,8 @@ returns-clause-point c =
       λ k d l m. leb-false _ _ (w.1 k d l m),
     )
 
-pub returns-then-all_started_by-clause-point : goal.returns-then-all_started_by-clause-point
-returns-then-all_started_by-clause-point c = (
-  λ k d l m. c.all_started_by.ensures (c.if-all_started_by.true) k d (omega arith),
+pub returns-then-have_all_begun-clause-point : goal.returns-then-have_all_begun-clause-point
+returns-then-have_all_begun-clause-point c = (
+  λ k d l m. c.have_all_begun.ensures (c.if-have_all_begun.true) k d (omega arith),
   λ k d l m. absurd (omega arith),
 )

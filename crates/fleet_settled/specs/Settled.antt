@@ -55,9 +55,7 @@ AreSettledOf p asked These flags =
 
 -- it is so of all awaits of the program
 abbrev pub AreSettled : Program → List Bool → List Bool → Type 0
-AreSettled p asked flags =
-    (a : ActionId) → IsAction p a → (k : ℕ) (w : Await) → slice_get (awaits_of p a.agent a.number) k ≡ Some w
-    → IsSettled p asked a w (get_or flags (first_await p a + k) false)
+AreSettled p asked flags = AreSettledOf p asked (IsAction p) flags
 
 -- each agent that was asked for still is
 abbrev pub AreMoreAsked : List Bool → List Bool → Type 0

@@ -1,6 +1,6 @@
 //! Questions for chains of needs, and their answers.
 
-ghost use Rattle.std.specs.Prelude.{◌≡◌, ◌⊎◌, ◌<◌, ◌≤◌, ℕ, [], true, false, length, get_or, slice_get, Some, All, IfOk};
+ghost use Rattle.std.specs.Prelude.{◌≡◌, ◌⊎◌, ◌<◌, ◌≤◌, ◌↔◌, ℕ, [], true, false, length, get_or, slice_get, Some, All, IfOk};
 ghost use Rattle.fleet_model.specs.declared.limits.TheConstants.{MAX_AGENTS};
 ghost use Rattle.fleet_model.specs.Program.{AreInRange};
 ghost use Rattle.fleet_model.specs.Machine.{IsFinish};
@@ -68,14 +68,9 @@ fn answer_rest<P: ProgramView>(
 
 /// Whether some agent is flagged.
 pub fn is_any(asked: &[bool]) -> bool
-    ensures { (result ≡ false) → (k : ℕ) → get_or asked.now k false ≡ false }
+    ensures { (result ≡ false) ↔ ((k : ℕ) → get_or asked.now k false ≡ false) }
 {
-    for &agent in asked {
-        if agent {
-            return true;
-        }
-    }
-    false
+    asked.contains(&true)
 }
 
 /// The answers to the questions, block by block, each with as many columns as there is room for.

@@ -6,15 +6,13 @@ ghost use Rattle.fleet_model.specs.Machine.{IsFinish};
 ghost use Rattle.fleet_model.specs.Chain.{IsAction};
 ghost use Rattle.fleet_rows.specs.Places.{ArePlacesOf};
 ghost use Rattle.fleet_rows.specs.Order.{IsTicked};
+ghost use Rattle.fleet_rows.specs.declared.takers.TheConstants.{MAX_TICKS};
 ghost use Rattle.fleet_settled.specs.Settled.{IsFinishedBy, AreFinishTicks, AreTicks, finish_tick};
 
 use fleet_machine::Machine;
 use fleet_model::{ActionId, MAX_AGENTS, OutOfMemory, ProgramView, total_moves};
 use fleet_rows::ActionPlaces;
 use std::alloc::Global;
-
-/// No run without holds has more ticks.
-const MAX_TICKS: u32 = u32::MAX;
 
 /// For each action, by its place, the tick that finishes it if nobody is held. Ticks count from 1, and rise along
 /// chains.

@@ -34,11 +34,7 @@ pub fn zeros(alloc: Global, n: u16) -> Result<Vec<u32>, OutOfMemory>
     ensures all { IfOk result (λ row. length row.items ≡ n) }
     ensures zero { IfOk result (λ row. (j : ℕ) → slice_index row.items j ≡ 0) }
 {
-    let mut row = Vec::new(alloc);
-    for _i in 0..n {
-        row.push(0)?;
-    }
-    Ok(row)
+    Ok(vec![in alloc; 0; usize::from(n)]?)
 }
 
 /// Looks at what the needed actions await, the next action of each agent in turn, until none is left.

@@ -96,7 +96,7 @@ told_none p columns n flags a is done = absurd (none_counted n a is.first done)
 pub settled_after : (p : Program) (asked : List Bool) (columns : Columns) (old new : List Bool)
     → ((a : ActionId) → IsAction p a → (k c : ℕ) (w : Await) → slice_get (awaits_of p a.agent a.number) k ≡ Some w → HasColumn columns w.agent c → IsImpliedFlag p a w (get_or new (first_await p a + k) false))
     → AreLeft p columns old new → AreSettled p asked old → AreSettled p asked new
-settled_after p asked columns old new here left before a is k w at = elim (before a is k w at) [ inl set ↦ inl set | inr was ↦ inr (go was (get_or columns.of_agent.items w.agent None) refl) ]
+settled_after p asked columns old new here left before a is too k w at = elim (before a is too k w at) [ inl set ↦ inl set | inr was ↦ inr (go was (get_or columns.of_agent.items w.agent None) refl) ]
   where
     go : IsImpliedFlag p a w (get_or old (first_await p a + k) false) → (o : Option ℕ) → get_or columns.of_agent.items w.agent None ≡ o → IsImpliedFlag p a w (get_or new (first_await p a + k) false)
     go was (Some c) f = here a is k c w at f
@@ -113,12 +113,12 @@ told_to p asked from columns h old new here left settled before a is k w at l = 
     go (Some c) f = here a is k c w at f
     go None f = subst (IsImpliedFlag p a w) (sym (left a is k w at f)) (elim (cases_lt w.agent from) [
       | inl low ↦ before a is k w at low
-      | inr high ↦ elim (settled a is k w at) [ inl set ↦ absurd (h.chosen w.agent high l set f) | inr was ↦ was ]
+      | inr high ↦ elim (settled a is is k w at) [ inl set ↦ absurd (h.chosen w.agent high l set f) | inr was ↦ was ]
     ])
 
 -- if no agent is asked for, all flags say whether their await is implied
 pub told_if_none : (p : Program) (asked flags : List Bool) → ((j : ℕ) → get_or asked j false ≡ false) → AreSettled p asked flags → AreAllTold p flags
-told_if_none p asked flags none settled a is k w at = elim (settled a is k w at) [ inr was ↦ was | inl set ↦ absurd (unset (sym (none w.agent) ∙ set)) ]
+told_if_none p asked flags none settled a is k w at = elim (settled a is is k w at) [ inr was ↦ was | inl set ↦ absurd (unset (sym (none w.agent) ∙ set)) ]
   where
     unset : false ≡ true → ⊥
     unset e = search rules

@@ -5,6 +5,7 @@ use Rattle.fleet_model.specs.declared.program.ActionId.{ActionId}
 use Rattle.fleet_model.specs.Program.{Program, awaits_of, total_awaits}
 use Rattle.fleet_model.specs.Chain.{IsAction}
 use Rattle.fleet_rows.specs.Block.{HasColumn}
+use Rattle.fleet_rows.specs.Columns.{column_of}
 use Rattle.fleet_rows.specs.Order.{IsCounted}
 use Rattle.fleet_rows.specs.declared.block.Block.{Block}
 use Rattle.fleet_rows.specs.declared.columns.Columns.{Columns}
@@ -15,7 +16,7 @@ use Rattle.fleet_implied.specs.declared.implied.ImpliedAwaits.{ImpliedAwaits}
 -- changed
 pub record AreFlagged (p : Program) (columns : Columns) (a : ActionId) (old new : List Bool) : Type 0 where
   pub told : (k c : ℕ) (w : Await) → slice_get (awaits_of p a.agent a.number) k ≡ Some w → HasColumn columns w.agent c → IsImpliedFlag p a w (get_or new (first_await p a + k) false)
-  pub none : (k : ℕ) (w : Await) → slice_get (awaits_of p a.agent a.number) k ≡ Some w → get_or columns.of_agent.items w.agent None ≡ None
+  pub none : (k : ℕ) (w : Await) → slice_get (awaits_of p a.agent a.number) k ≡ Some w → column_of columns w.agent ≡ None
       → get_or new (first_await p a + k) false ≡ get_or old (first_await p a + k) false
   pub others : (n : ℕ) → (n < first_await p a) ⊎ (first_await p a + length (awaits_of p a.agent a.number) ≤ n) → get_or new n false ≡ get_or old n false
 
@@ -28,7 +29,7 @@ AreToldOf p columns Done flags =
 -- the flags of awaits of agents without a column are as before
 abbrev pub AreLeft : Program → Columns → List Bool → List Bool → Type 0
 AreLeft p columns old new =
-    (a : ActionId) → IsAction p a → (k : ℕ) (w : Await) → slice_get (awaits_of p a.agent a.number) k ≡ Some w → get_or columns.of_agent.items w.agent None ≡ None
+    (a : ActionId) → IsAction p a → (k : ℕ) (w : Await) → slice_get (awaits_of p a.agent a.number) k ≡ Some w → column_of columns w.agent ≡ None
     → get_or new (first_await p a + k) false ≡ get_or old (first_await p a + k) false
 
 -- the flags of all awaits of the program say whether they are implied

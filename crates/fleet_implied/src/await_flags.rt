@@ -5,6 +5,7 @@ ghost use Rattle.std.specs.Prelude.{◌≡◌, ◌≢◌, ◌<◌, ℕ, false, n
 ghost use Rattle.fleet_model.specs.Program.{AreInRange, total_awaits};
 ghost use Rattle.fleet_model.specs.Chain.{IsAction};
 ghost use Rattle.fleet_rows.specs.Block.{HasColumn, AreOthers};
+ghost use Rattle.fleet_rows.specs.Columns.{agents_in, column_of};
 ghost use Rattle.fleet_settled.specs.Implied.{AreAwaitPlaces};
 ghost use Rattle.fleet_implied.specs.Flags.{AreFlagged};
 
@@ -23,7 +24,7 @@ pub(crate) fn flag_awaits<P: ProgramView>(
 )
     requires range { AreInRange (P.program program.now) }
     requires places { AreAwaitPlaces (P.program program.now) places.now }
-    requires agents { length columns.now.of_agent.items ≡ length (P.program program.now) }
+    requires agents { agents_in columns.now ≡ length (P.program program.now) }
     requires within { (j k : ℕ) → HasColumn columns.now j k → k < length row.now }
     requires action { IsAction (P.program program.now) action }
     requires row { AreOthers (P.program program.now) columns.now action row.now }
@@ -41,12 +42,12 @@ pub(crate) fn flag_awaits<P: ProgramView>(
 
 /// Flags an await, if its agent has a column: whether the agent's count in the row is no less than that of the await.
 fn flag_await(columns: &Columns, row: &[u32], awaited: Await, place: usize, flags: &mut [bool])
-    requires agent { awaited.agent < length columns.now.of_agent.items }
+    requires agent { awaited.agent < agents_in columns.now }
     requires within { (j k : ℕ) → HasColumn columns.now j k → k < length row.now }
     requires place { place < length flags.old }
     ensures told { (k : ℕ) → HasColumn columns.now awaited.agent k
         → get_or flags.new place false ≡ nat_le awaited.count (slice_index row.now k) }
-    ensures none { get_or columns.now.of_agent.items awaited.agent None ≡ None
+    ensures none { column_of columns.now awaited.agent ≡ None
         → get_or flags.new place false ≡ get_or flags.old place false }
     ensures others { (n : ℕ) → n ≢ place → get_or flags.new n false ≡ get_or flags.old n false }
 {

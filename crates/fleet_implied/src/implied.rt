@@ -5,7 +5,7 @@ ghost use Rattle.fleet_model.specs.declared.program.Await.{Await};
 ghost use Rattle.fleet_model.specs.Program.{AreInRange, awaits_of, total_awaits};
 ghost use Rattle.fleet_model.specs.Machine.{IsFinish};
 ghost use Rattle.fleet_model.specs.Chain.{IsAction};
-ghost use Rattle.fleet_rows.specs.Block.{AreNotes};
+ghost use Rattle.fleet_rows.specs.Block.{AreNotes, ticks_noted};
 ghost use Rattle.fleet_settled.specs.Implied.{IsImplied, AreAwaitPlaces};
 ghost use Rattle.fleet_settled.specs.Settled.{AreSettled};
 ghost use Rattle.fleet_implied.specs.Flags.{AreImplied};
@@ -115,7 +115,7 @@ fn flag_all<P: ProgramView>(
 ) -> Result<(), OutOfMemory>
     requires range { AreInRange (P.program program.now) }
     requires notes { AreNotes (P.program program.now) notes.now }
-    requires finish { IsFinish (P.program program.now) [] notes.now.ticks }
+    requires finish { IsFinish (P.program program.now) [] (ticks_noted notes.now) }
     requires places { AreAwaitPlaces (P.program program.now) implied.old.places }
     requires flags { length implied.old.flags.items ≡ total_awaits (P.program program.now) }
     requires asked { length asked.now ≡ length (P.program program.now) }

@@ -5,6 +5,7 @@ use Rattle.fleet_model.specs.declared.program.ActionId.{ActionId}
 use Rattle.fleet_model.specs.Program.{Program}
 use Rattle.fleet_rows.specs.Asked.{AreQuestions}
 use Rattle.fleet_rows.specs.Block.{HasColumn, IsAnswer}
+use Rattle.fleet_rows.specs.Columns.{column_of}
 use Rattle.fleet_rows.specs.Order.{IsCounted}
 use Rattle.fleet_rows.specs.declared.answering.Answering.{Answering}
 use Rattle.fleet_rows.specs.declared.block.Block.{Block}
@@ -27,7 +28,7 @@ pub record IsAnswering (p : Program) (b : Block) (counts : List ℕ) (s : Answer
 -- the questions are the same, and the flags of those whose agents have no column are as before
 pub record AreOthersLeft (p : Program) (b : Block) (old new : Answering) : Type 0 where
   pub questions : new.questions ≡ old.questions
-  pub flags : (k : ℕ) (q : Question) → slice_get old.questions.now k ≡ Some q → get_or b.columns.of_agent.items q.first.agent None ≡ None
+  pub flags : (k : ℕ) (q : Question) → slice_get old.questions.now k ≡ Some q → column_of b.columns q.first.agent ≡ None
       → get_or new.flags.items k false ≡ get_or old.flags.items k false
 
 -- the others are left as they were if nothing was answered
@@ -49,7 +50,7 @@ pub record IsNextAnswered (p : Program) (columns : Columns) (questions : List Qu
   pub at : slice_get questions n ≡ Some question
   pub last : question.last ≡ a
   pub answer : (c : ℕ) → HasColumn columns question.first.agent c → IsAnswer p question (get_or new n false)
-  pub none : get_or columns.of_agent.items question.first.agent None ≡ None → get_or new n false ≡ get_or old n false
+  pub none : column_of columns question.first.agent ≡ None → get_or new n false ≡ get_or old n false
 
 -- the next question is answered so, and passed, or it does not end with the action; all other flags stay
 pub record IsAsked (p : Program) (columns : Columns) (questions : List Question) (a : ActionId) (n : ℕ) (old new : List Bool) (m : ℕ) : Type 0 where

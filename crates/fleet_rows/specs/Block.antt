@@ -3,6 +3,7 @@ use Rattle.std.specs.Prelude.{◌≡◌, ℕ, ◌+◌, ◌-◌, ◌<◌, ◌≤�
 use Rattle.fleet_model.specs.declared.program.ActionId.{ActionId}
 use Rattle.fleet_model.specs.Program.{Program, awaits_of, total_moves}
 use Rattle.fleet_model.specs.Chain.{IsAction, DirectlyNeeds, Reaches}
+use Rattle.fleet_rows.specs.Columns.{agents_in, column_of}
 use Rattle.fleet_rows.specs.Rows.{IsColumn, IsJoined, OfOthers}
 use Rattle.fleet_rows.specs.Places.{ArePlaces, action_place}
 use Rattle.fleet_rows.specs.Order.{IsOrder}
@@ -16,7 +17,7 @@ use Rattle.fleet_rows.specs.declared.questions.Question.{Question}
 
 -- agent j has column k
 abbrev pub HasColumn : Columns → ℕ → ℕ → Type 0
-HasColumn columns j k = get_or columns.of_agent.items j None ≡ Some k
+HasColumn columns j k = column_of columns j ≡ Some k
 
 -- the places, the last takers and the order of the program's actions
 pub record AreNotes (p : Program) (n : RunNotes) : Type 0 where
@@ -26,10 +27,14 @@ pub record AreNotes (p : Program) (n : RunNotes) : Type 0 where
   pub order : IsOrder p n.order
   pub ends : length n.order.ends.items ≡ n.ticks + 1
 
+-- for how many ticks the notes were taken
+abbrev pub ticks_noted : RunNotes → ℕ
+ticks_noted n = n.ticks
+
 -- the notes of the block are those, and its columns are of agents of the program, no two in one
 pub record AreBlock (p : Program) (b : Block) : Type 0 where
   pub notes : AreNotes p b.notes.now
-  pub agents : length b.columns.of_agent.items ≡ length p
+  pub agents : agents_in b.columns ≡ length p
   pub within : (j k : ℕ) → HasColumn b.columns j k → k < b.columns.width
   pub apart : (i j k : ℕ) → HasColumn b.columns i k → HasColumn b.columns j k → i ≡ j
 
@@ -71,4 +76,4 @@ IsAnswer p q flag = (flag ≡ true) ↔ (Reaches p q.first q.last → ⊥)
 pub record AreAnswered (p : Program) (columns : Columns) (questions : List Question) (old new : List Bool) : Type 0 where
   pub all : length new ≡ length old
   pub answered : (m k : ℕ) (q : Question) → slice_get questions m ≡ Some q → HasColumn columns q.first.agent k → IsAnswer p q (get_or new m false)
-  pub others : (m : ℕ) (q : Question) → slice_get questions m ≡ Some q → get_or columns.of_agent.items q.first.agent None ≡ None → get_or new m false ≡ get_or old m false
+  pub others : (m : ℕ) (q : Question) → slice_get questions m ≡ Some q → column_of columns q.first.agent ≡ None → get_or new m false ≡ get_or old m false

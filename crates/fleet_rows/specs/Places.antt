@@ -2,6 +2,7 @@
 use Rattle.std.specs.Prelude.{◌≡◌, ℕ, ◌+◌, ◌-◌, ◌<◌, List, length, take, slice_index}
 use Rattle.fleet_model.specs.declared.program.ActionId.{ActionId}
 use Rattle.fleet_model.specs.Program.{Program, total_moves}
+use Rattle.fleet_rows.specs.declared.action_places.ActionPlaces.{ActionPlaces}
 
 -- for each agent, how many actions those before it have together
 pub record ArePlaces (p : Program) (firsts : List ℕ) : Type 0 where
@@ -11,3 +12,11 @@ pub record ArePlaces (p : Program) (firsts : List ℕ) : Type 0 where
 -- the place of an action among all
 abbrev pub action_place : List ℕ → ActionId → ℕ
 action_place firsts a = slice_index firsts a.agent + a.number - 1
+
+-- the places are those of the program's actions
+abbrev pub ArePlacesOf : Program → ActionPlaces → Type 0
+ArePlacesOf p places = ArePlaces p places.firsts.items
+
+-- the place that they have for an action
+abbrev pub place_of_action : ActionPlaces → ActionId → ℕ
+place_of_action places a = action_place places.firsts.items a

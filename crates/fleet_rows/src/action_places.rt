@@ -2,7 +2,7 @@
 
 ghost use Rattle.std.specs.Prelude.{◌≡◌, ◌+◌, ◌<◌, ◌≤◌, length, slice_index, IfOk};
 ghost use Rattle.fleet_model.specs.Program.{moves};
-ghost use Rattle.fleet_rows.specs.Places.{ArePlaces};
+ghost use Rattle.fleet_rows.specs.Places.{ArePlacesOf};
 
 use fleet_model::{OutOfMemory, ProgramView};
 use std::alloc::Global;
@@ -16,7 +16,7 @@ pub struct ActionPlaces {
 impl ActionPlaces {
     /// The places of the actions of a program.
     pub fn of<P: ProgramView>(alloc: Global, program: &P) -> Result<ActionPlaces, OutOfMemory>
-        ensures { IfOk result (λ places. ArePlaces (P.program program.now) places.firsts.items) }
+        ensures { IfOk result (ArePlacesOf (P.program program.now)) }
     {
         let agents = program.agents();
         let mut firsts = Vec::with_capacity(alloc, usize::from(agents))?;

@@ -65,9 +65,7 @@ pub(crate) fn begin_row<P: ProgramView>(
 fn clear_row(row: &mut [u32])
     ensures { (k : ℕ) → slice_index row.new k ≡ 0 }
 {
-    for k in 0..row.len() {
-        row[k] = 0;
-    }
+    row.fill(0);
 }
 
 /// Joins the rows of all actions that the next one of the agent awaits into the row of the one before.

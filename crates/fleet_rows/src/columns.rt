@@ -1,8 +1,8 @@
 //! The columns of one block of rows.
 
-ghost use Rattle.std.specs.Prelude.{◌≡◌, ◌<◌, ◌≤◌, length, get_or, Some, None, IfOk};
+ghost use Rattle.std.specs.Prelude.{◌≡◌, ◌<◌, ◌≤◌, length, IfOk};
 ghost use Rattle.fleet_model.specs.declared.limits.TheConstants.{MAX_AGENTS};
-ghost use Rattle.fleet_rows.specs.Columns.{AreColumns};
+ghost use Rattle.fleet_rows.specs.Columns.{AreColumns, agents_in, column_of};
 
 use fleet_model::{MAX_AGENTS, OutOfMemory};
 use std::alloc::Global;
@@ -50,8 +50,8 @@ impl Columns {
 
     /// The column of an agent, if it has one.
     pub fn of(&self, agent: u16) -> Option<u16>
-        requires { agent < length self.now.of_agent.items }
-        ensures { result ≡ get_or self.now.of_agent.items agent None }
+        requires { agent < agents_in self.now }
+        ensures { result ≡ column_of self.now agent }
     {
         self.of_agent[usize::from(agent)]
     }

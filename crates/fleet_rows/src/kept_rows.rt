@@ -250,8 +250,5 @@ fn write_row(counts: &mut [u32], from: usize, row: &[u32])
 fn owns(slot: &Slot, action: usize) -> bool
     ensures { IsTrue result ↔ (slot.now.owner ≡ Some action) }
 {
-    match slot.owner {
-        Some(owner) => owner == action,
-        None => false,
-    }
+    slot.owner == Some(action)
 }

@@ -25,3 +25,4 @@ pub use questions::{Question, columns_at_once, is_any, unreached};
 pub use row_pass::{RowPass, RowUse, use_rows};
 pub use row_steps::{others_row, whole_row};
 pub use run_notes::RunNotes;
+pub use takers::MAX_TICKS;

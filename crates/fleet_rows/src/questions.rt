@@ -1,6 +1,7 @@
 //! Questions for chains of needs, and their answers.
 
-ghost use Rattle.std.specs.Prelude.{◌≡◌, ◌⊎◌, ◌<◌, ◌≤◌, ℕ, [], true, false, length, get_or, slice_get, Some, All, IfOk};
+ghost use Rattle.std.specs.Prelude.{◌≡◌, ◌⊎◌, ◌<◌, ◌≤◌, ◌↔◌, ℕ, [], true, false, length, get_or, slice_get, Some, All, IfOk};
+ghost use Rattle.fleet_model.specs.declared.limits.TheConstants.{MAX_AGENTS};
 ghost use Rattle.fleet_model.specs.Program.{AreInRange};
 ghost use Rattle.fleet_model.specs.Machine.{IsFinish};
 ghost use Rattle.fleet_rows.specs.Asked.{AreQuestions, AreAnswers};
@@ -67,14 +68,9 @@ fn answer_rest<P: ProgramView>(
 
 /// Whether some agent is flagged.
 pub fn is_any(asked: &[bool]) -> bool
-    ensures { (result ≡ false) → (k : ℕ) → get_or asked.now k false ≡ false }
+    ensures { (result ≡ false) ↔ ((k : ℕ) → get_or asked.now k false ≡ false) }
 {
-    for &agent in asked {
-        if agent {
-            return true;
-        }
-    }
-    false
+    asked.contains(&true)
 }
 
 /// The answers to the questions, block by block, each with as many columns as there is room for.
@@ -109,16 +105,18 @@ fn answer_all<P: ProgramView>(
     Ok(flags)
 }
 
-/// There is room for so many counts of rows at once, or for as many as the program has actions: 16 MB.
+/// There is room for so many counts of rows at once: 16 MB.
 const COUNTS: usize = 4_194_304;
 
 /// The least number of columns of a block.
 const LEAST_COLUMNS: usize = 8;
 
-/// How many columns a block has at most: as many as there is room for while the most rows are kept, and at least 8.
+/// How many columns a block has at most: as many as there is room for while the most rows are kept, but at least 8, and
+/// no more than a program may have agents.
 pub fn columns_at_once(notes: &RunNotes) -> u16
-    ensures { 1 ≤ result }
+    ensures least { LEAST_COLUMNS ≤ result }
+    ensures most { result ≤ MAX_AGENTS }
 {
-    let room = COUNTS.max(notes.lasts.len()) / notes.order.most_rows(&notes.due).max(1);
+    let room = COUNTS / notes.order.most_rows(&notes.due).max(1);
     room.clamp(LEAST_COLUMNS, MAX_AGENTS) as u16
 }

@@ -2,7 +2,7 @@
 
 ghost use Rattle.std.specs.Prelude.{◌≡◌, ◌+◌, length, IfOk};
 ghost use Rattle.fleet_model.specs.Program.{AreInRange, total_moves};
-ghost use Rattle.fleet_rows.specs.Block.{AreNotes};
+ghost use Rattle.fleet_rows.specs.Block.{AreNotes, ticks_noted};
 ghost use Rattle.fleet_rows.specs.Order.{IsOrder};
 ghost use Rattle.fleet_rows.specs.Places.{ArePlaces};
 ghost use Rattle.fleet_rows.specs.Takers.{AreNoted};
@@ -35,7 +35,7 @@ impl RunNotes {
     ) -> Result<RunNotes, OutOfMemory>
         requires { AreInRange (P.program program.now) }
         ensures notes { IfOk result (AreNotes (P.program program.now)) }
-        ensures ticks { IfOk result (λ notes. notes.ticks ≡ ticks) }
+        ensures ticks { IfOk result (λ notes. ticks_noted notes ≡ ticks) }
     {
         let places = ActionPlaces::of(alloc, program)?;
         let (lasts, order) = noted(alloc, program, &places, ticks)?;

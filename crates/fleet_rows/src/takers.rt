@@ -17,7 +17,7 @@ use fleet_machine::Machine;
 use fleet_model::{ActionId, MAX_AGENTS, OutOfMemory, ProgramView};
 
 /// No run without holds has more ticks.
-const MAX_TICKS: u32 = u32::MAX;
+pub const MAX_TICKS: u32 = u32::MAX;
 
 /// Notes for each action, by its place, the last of so many ticks in which an action is finished that directly needs
 /// it, and the order in which the actions finish, by a machine that is at the start. At first the list has 0 for each

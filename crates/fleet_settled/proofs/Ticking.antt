@@ -6,28 +6,32 @@ use Rattle.fleet_model.specs.declared.program.ActionId.{ActionId}
 use Rattle.fleet_model.specs.Program.{Program, total_moves}
 use Rattle.fleet_model.specs.Machine.{run, is_finished}
 use Rattle.fleet_model.specs.Chain.{IsAction, DirectlyNeeds, IsNumbering}
-use Rattle.fleet_rows.specs.Places.{ArePlaces, action_place}
+use Rattle.fleet_rows.specs.Places.{ArePlacesOf, action_place, place_of_action}
+use Rattle.fleet_rows.specs.declared.action_places.ActionPlaces.{ActionPlaces}
 use Rattle.fleet_rows.specs.Order.{IsNextReady, AreNoneReady}
 use Rattle.fleet_settled.specs.Settled.{IsFinishedBy, IsDoneMid, IsFinishTick, AreFinishTicks}
 use Rattle.fleet_rows.proofs.Free.{count, grows, needs_done}
 use Rattle.fleet_rows.proofs.Placed.{place_apart, place_within}
 use Rattle.fleet_rows.proofs.Finishing.{moved, next_action, one_more, apart, none_more, none_started, all_finished}
 
-pub noted_none : (p : Program) (firsts ticks : List ℕ) → AreFinishTicks p firsts (IsFinishedBy p 0) ticks
-noted_none p firsts ticks a k done = absurd (none_started p a k done)
+pub noted_none : (p : Program) (places : ActionPlaces) (ticks : List ℕ) → AreFinishTicks p places (IsFinishedBy p 0) ticks
+noted_none p places ticks a k done = absurd (none_started p a k done)
 
 -- before the first agent of a tick
-pub noted_mid : (p : Program) (firsts : List ℕ) (t : ℕ) (ticks : List ℕ) → AreFinishTicks p firsts (IsFinishedBy p t) ticks → AreFinishTicks p firsts (IsDoneMid p t 0) ticks
-noted_mid p firsts t ticks h a k (inl done) = h a k done
-noted_mid p firsts t ticks h a k (inr (l, done)) = absurd (omega arith)
+pub noted_mid : (p : Program) (places : ActionPlaces) (t : ℕ) (ticks : List ℕ) → AreFinishTicks p places (IsFinishedBy p t) ticks → AreFinishTicks p places (IsDoneMid p t 0) ticks
+noted_mid p places t ticks h a k (inl done) = h a k done
+noted_mid p places t ticks h a k (inr (l, done)) = absurd (omega arith)
 
-module _ (p : Program) (firsts : List ℕ) (places : ArePlaces p firsts) (t from : ℕ) where
+module _ (p : Program) (places : ActionPlaces) (right : ArePlacesOf p places) (t from : ℕ) where
+  abbrev firsts : List ℕ
+  firsts = places.firsts.items
+
   -- an action that the tick has finished
   pub noted_on : (i : ℕ) → IsNextReady p t from i → (n : ℕ) → n ≡ count p t i + 1 → (x : ℕ) → x + 1 ≡ slice_index firsts i + n → (old : List ℕ) → length old ≡ total_moves p
-      → AreFinishTicks p firsts (IsDoneMid p t from) old → AreFinishTicks p firsts (IsDoneMid p t (i + 1)) (set old x (t + 1))
+      → AreFinishTicks p places (IsDoneMid p t from) old → AreFinishTicks p places (IsDoneMid p t (i + 1)) (set old x (t + 1))
   noted_on i next n number x at old all before a k done = elim (one_more p t from i next n number a k done) [
     | inl was ↦
-        let ne : action_place firsts a ≢ x = (λ same. place_apart p firsts places a here k is (apart p t from i next n number a was) (same ∙ place)) in
+        let ne : action_place firsts a ≢ x = (λ same. place_apart p firsts right a here k is (apart p t from i next n number a was) (same ∙ place)) in
         subst (IsFinishTick p a) (sym (get_or-set_other old x (action_place firsts a) (t + 1) 0 ne)) (before a k was)
     | inr same ↦
         let there : action_place firsts a ≡ x = ap (action_place firsts) same ∙ sym place in
@@ -45,13 +49,13 @@ module _ (p : Program) (firsts : List ℕ) (places : ArePlaces p firsts) (t from
       place = omega (arith, at)
 
       within : x < length old
-      within = (let l = place_within p firsts places here is in omega (arith, l, all, place))
+      within = (let l = place_within p firsts right here is in omega (arith, l, all, place))
 
       finished : IsFinishTick p here (t + 1)
       finished = record { some = omega arith; done = omega (arith, moved p t from i next n number); not_yet = λ done. (let e : t + 1 - 1 ≡ t = omega arith in let l : n ≤ count p t i = subst (λ (s : ℕ). n ≤ count p s i) e done in omega (arith, l, number)) }
 
   -- where nobody else was ready
-  pub noted_all : AreNoneReady p t from → (ticks : List ℕ) → AreFinishTicks p firsts (IsDoneMid p t from) ticks → AreFinishTicks p firsts (IsFinishedBy p (t + 1)) ticks
+  pub noted_all : AreNoneReady p t from → (ticks : List ℕ) → AreFinishTicks p places (IsDoneMid p t from) ticks → AreFinishTicks p places (IsFinishedBy p (t + 1)) ticks
   noted_all none ticks before a k done = before a k (none_more p t from none a k done)
 
 module _ (p : Program) where
@@ -79,8 +83,8 @@ module _ (p : Program) where
         absurd (f.not_yet (omega (arith, needed, grows_to (t - 1) (s - 1) b.agent m.agent (omega arith))))
   ]
 
-  pub ticks_rise : (firsts ticks : List ℕ) (t : ℕ) → is_finished p (run p [] t) ≡ true → AreFinishTicks p firsts (IsFinishedBy p t) ticks → IsNumbering p (λ a. slice_index ticks (action_place firsts a))
-  ticks_rise firsts ticks t finished h = record {
+  pub ticks_rise : (places : ActionPlaces) (ticks : List ℕ) (t : ℕ) → is_finished p (run p [] t) ≡ true → AreFinishTicks p places (IsFinishedBy p t) ticks → IsNumbering p (λ a. slice_index ticks (place_of_action places a))
+  ticks_rise places ticks t finished h = record {
     positive = λ a k. (h a k (all_finished p t finished a k)).some;
     rising = λ a b k m needs. finishes_later a b _ _ k m (h a k (all_finished p t finished a k)) (h b m (all_finished p t finished b m)) needs;
   }

@@ -4,7 +4,7 @@ use Rattle.fleet_model.specs.declared.program.Await.{Await}
 use Rattle.fleet_model.specs.declared.program.ActionId.{ActionId}
 use Rattle.fleet_model.specs.Program.{Program, actions_of, total_moves, total_awaits}
 use Rattle.fleet_model.specs.Chain.{IsAction, DirectlyNeeds, Reaches, awaited}
-use Rattle.fleet_rows.specs.Places.{ArePlaces, action_place}
+use Rattle.fleet_rows.specs.Places.{ArePlacesOf, place_of_action}
 use Rattle.fleet_settled.specs.declared.await_places.AwaitPlaces.{AwaitPlaces}
 
 -- the awaited action begins a chain that ends with another action that a directly needs
@@ -21,6 +21,6 @@ first_await p a = total_awaits (take a.agent p) + sum_by (λ s. length s.awaits)
 
 -- for each action, how many awaits stand before its own
 pub record AreAwaitPlaces (p : Program) (m : AwaitPlaces) : Type 0 where
-  pub places : ArePlaces p m.actions.firsts.items
+  pub places : ArePlacesOf p m.actions
   pub all : length m.firsts.items ≡ total_moves p
-  pub each : (a : ActionId) → IsAction p a → slice_index m.firsts.items (action_place m.actions.firsts.items a) ≡ first_await p a
+  pub each : (a : ActionId) → IsAction p a → slice_index m.firsts.items (place_of_action m.actions a) ≡ first_await p a

@@ -5,7 +5,8 @@ use Rattle.fleet_model.specs.declared.program.Await.{Await}
 use Rattle.fleet_model.specs.declared.program.ActionId.{ActionId}
 use Rattle.fleet_model.specs.Program.{Program, awaits_of, total_moves}
 use Rattle.fleet_model.specs.Chain.{IsAction, IsNumbering}
-use Rattle.fleet_rows.specs.Places.{ArePlaces, action_place}
+use Rattle.fleet_rows.specs.Places.{ArePlacesOf, place_of_action}
+use Rattle.fleet_rows.specs.declared.action_places.ActionPlaces.{ActionPlaces}
 use Rattle.fleet_model.specs.Machine.{run, count_at}
 use Rattle.fleet_settled.specs.Implied.{IsImpliedFlag, first_await}
 use Rattle.fleet_settled.specs.declared.finish_ticks.FinishTicks.{FinishTicks}
@@ -27,16 +28,16 @@ pub record IsFinishTick (p : Program) (a : ActionId) (t : ℕ) : Type 0 where
   pub not_yet : IsFinishedBy p (t - 1) a → ⊥
 
 -- the entries of these actions are the ticks that finish them
-abbrev pub AreFinishTicks : Program → List ℕ → (ActionId → Type 0) → List ℕ → Type 0
-AreFinishTicks p firsts These ticks = (a : ActionId) → IsAction p a → These a → IsFinishTick p a (slice_index ticks (action_place firsts a))
+abbrev pub AreFinishTicks : Program → ActionPlaces → (ActionId → Type 0) → List ℕ → Type 0
+AreFinishTicks p places These ticks = (a : ActionId) → IsAction p a → These a → IsFinishTick p a (slice_index ticks (place_of_action places a))
 
 -- the tick of an action
 abbrev pub finish_tick : FinishTicks → ActionId → ℕ
-finish_tick m a = slice_index m.ticks.items (action_place m.places.firsts.items a)
+finish_tick m a = slice_index m.ticks.items (place_of_action m.places a)
 
 -- each action has its tick, and what an action directly needs has a lower one
 pub record AreTicks (p : Program) (m : FinishTicks) : Type 0 where
-  pub places : ArePlaces p m.places.firsts.items
+  pub places : ArePlacesOf p m.places
   pub all : length m.ticks.items ≡ total_moves p
   pub rising : IsNumbering p (finish_tick m)
 
@@ -54,9 +55,7 @@ AreSettledOf p asked These flags =
 
 -- it is so of all awaits of the program
 abbrev pub AreSettled : Program → List Bool → List Bool → Type 0
-AreSettled p asked flags =
-    (a : ActionId) → IsAction p a → (k : ℕ) (w : Await) → slice_get (awaits_of p a.agent a.number) k ≡ Some w
-    → IsSettled p asked a w (get_or flags (first_await p a + k) false)
+AreSettled p asked flags = AreSettledOf p asked (IsAction p) flags
 
 -- each agent that was asked for still is
 abbrev pub AreMoreAsked : List Bool → List Bool → Type 0

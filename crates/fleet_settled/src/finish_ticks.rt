@@ -4,17 +4,15 @@ ghost use Rattle.std.specs.Prelude.{◌≡◌, ◌+◌, ◌<◌, [], length, IfO
 ghost use Rattle.fleet_model.specs.Program.{AreInRange, total_moves};
 ghost use Rattle.fleet_model.specs.Machine.{IsFinish};
 ghost use Rattle.fleet_model.specs.Chain.{IsAction};
-ghost use Rattle.fleet_rows.specs.Places.{ArePlaces};
+ghost use Rattle.fleet_rows.specs.Places.{ArePlacesOf};
 ghost use Rattle.fleet_rows.specs.Order.{IsTicked};
+ghost use Rattle.fleet_rows.specs.declared.takers.TheConstants.{MAX_TICKS};
 ghost use Rattle.fleet_settled.specs.Settled.{IsFinishedBy, AreFinishTicks, AreTicks, finish_tick};
 
 use fleet_machine::Machine;
 use fleet_model::{ActionId, MAX_AGENTS, OutOfMemory, ProgramView, total_moves};
 use fleet_rows::ActionPlaces;
 use std::alloc::Global;
-
-/// No run without holds has more ticks.
-const MAX_TICKS: u32 = u32::MAX;
 
 /// For each action, by its place, the tick that finishes it if nobody is held. Ticks count from 1, and rise along
 /// chains.
@@ -63,9 +61,9 @@ fn note_ticks<P: ProgramView>(
     ticks: u32,
     entries: &mut [u32],
 ) -> Result<(), OutOfMemory>
-    requires places { ArePlaces (P.program program.now) places.now.firsts.items }
+    requires places { ArePlacesOf (P.program program.now) places.now }
     requires all { length entries.old ≡ total_moves (P.program program.now) }
-    ensures { OnOk result (AreFinishTicks (P.program program.now) places.now.firsts.items
+    ensures { OnOk result (AreFinishTicks (P.program program.now) places.now
         (IsFinishedBy (P.program program.now) ticks) entries.new) }
 {
     let mut machine = Machine::start(alloc, program)?;
@@ -86,13 +84,13 @@ fn note_finished<P: ProgramView>(
     ticks: u32,
     entries: &mut [u32],
 )
-    requires places { ArePlaces (P.program program.now) places.now.firsts.items }
+    requires places { ArePlacesOf (P.program program.now) places.now }
     requires all { length entries.old ≡ total_moves (P.program program.now) }
     requires ticked { IsTicked (P.program program.now) machine.now ticks }
     requires few { ticks < MAX_TICKS }
-    requires noted { AreFinishTicks (P.program program.now) places.now.firsts.items
+    requires noted { AreFinishTicks (P.program program.now) places.now
         (IsFinishedBy (P.program program.now) ticks) entries.old }
-    ensures { AreFinishTicks (P.program program.now) places.now.firsts.items
+    ensures { AreFinishTicks (P.program program.now) places.now
         (IsFinishedBy (P.program program.now) (ticks + 1)) entries.new }
 {
     let _ = program.agents();

@@ -14,4 +14,4 @@ pub record IsGreatest (p : Program) (a : ActionId) (j n : ℕ) : Type 0 where
 
 -- the reach was made of the program, and answers for its actions and agents
 abbrev pub IsReachOf : Program → Reach → Type 0
-IsReachOf p reach = ArePiecesOf p reach.pieces.pieces.items
+IsReachOf p reach = ArePiecesOf p reach.pieces

@@ -15,7 +15,7 @@ pub returns-then-not-is_any : goal.returns-then-not-is_any
 returns-then-not-is_any g c =
     let flags : List Bool = c.in_ok-flags.flags.items in
     none_asked (g.P.ProgramView.program c.args.program.now) c.args.questions.now c.in_ok-asked.asked.items flags c.in_ok-asked.ensures.flagged
-    (λ k. ap (λ (xs : List Bool). get_or xs k false) (sym c.deref.ensures.value) ∙ c.is_any.ensures c.if-not-is_any.true k)
+    (λ k. ap (λ (xs : List Bool). get_or xs k false) (sym c.deref.ensures.value) ∙ c.is_any.ensures.0 c.if-not-is_any.true k)
     (ap (λ (xs : List Bool). length xs) (c.in_ok-flags.ensures.items_if_clones_equal (λ y same. same)) ∙ length-replicate (length c.args.questions.now) false)
     (λ k. ap (λ (xs : List Bool). get_or xs k false) (c.in_ok-flags.ensures.items_if_clones_equal (λ y same. same)) ∙ none_flagged_at (length c.args.questions.now) k)
 

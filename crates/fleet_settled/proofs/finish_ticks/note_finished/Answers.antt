@@ -34,7 +34,7 @@ offset_bounds-entries-place g c =
     omega (arith, l, c.place.ensures, c.agents.ensures.well_formed.moves_in_all)
 
 pub loop-agent-init : goal.loop-agent-init
-loop-agent-init g c = record { noted = noted_mid (g.P.ProgramView.program c.args.program.now) c.args.places.now.firsts.items c.args.ticks c.args.entries.now c.requires.noted; within = omega arith }
+loop-agent-init g c = record { noted = noted_mid (g.P.ProgramView.program c.args.program.now) c.args.places.now c.args.ticks c.args.entries.now c.requires.noted; within = omega arith }
 
 pub loop-agent-preserved : goal.loop-agent-preserved
 loop-agent-preserved g c =
@@ -43,7 +43,7 @@ loop-agent-preserved g c =
     let next = next_ready p m c.args.ticks c.requires.ticked c.loop-agent.from c.in-Some.agent c.in-Some.ensures in
     let number = machine_number p m c.args.ticks c.requires.ticked c.loop-agent.from c.in-Some.agent next c.agent-number.result.count (ap (λ s. s.count) c.agent-number.ensures.standing) in
     record {
-      noted = noted_on p c.args.places.now.firsts.items c.requires.places c.args.ticks c.loop-agent.from c.in-Some.agent next c.agent-number.result.count number
+      noted = noted_on p c.args.places.now c.requires.places c.args.ticks c.loop-agent.from c.in-Some.agent next c.agent-number.result.count number
           c.place.result c.place.ensures c.loop-agent.entries (omega (arith, c.requires.all, c.loop-agent.auto.entries)) c.loop-agent.invariant.noted;
       within = omega (arith, next.agent);
     }
@@ -51,5 +51,5 @@ loop-agent-preserved g c =
 pub returns : goal.returns
 returns g c =
     let p = g.P.ProgramView.program c.args.program.now in
-    noted_all p c.args.places.now.firsts.items c.requires.places c.args.ticks c.loop-agent.from (none_ready p c.args.machine.now c.args.ticks c.requires.ticked c.loop-agent.from c.in_default.ensures) c.loop-agent.entries
+    noted_all p c.args.places.now c.requires.places c.args.ticks c.loop-agent.from (none_ready p c.args.machine.now c.args.ticks c.requires.ticked c.loop-agent.from c.in_default.ensures) c.loop-agent.entries
     c.loop-agent.invariant.noted

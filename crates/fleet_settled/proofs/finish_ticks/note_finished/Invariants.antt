@@ -4,7 +4,7 @@ use Rattle.fleet_settled.proofs.finish_ticks.note_finished.Given as goal
 
 abbrev pub invariant-loop-agent : goal.invariant-loop-agent
 invariant-loop-agent g l = record {
-  noted : AreFinishTicks (g.P.ProgramView.program l.program) l.places.firsts.items (IsDoneMid (g.P.ProgramView.program l.program) l.ticks l.from) l.entries;
+  noted : AreFinishTicks (g.P.ProgramView.program l.program) l.places (IsDoneMid (g.P.ProgramView.program l.program) l.ticks l.from) l.entries;
   within : l.from ≤ length (g.P.ProgramView.program l.program);
 }
 

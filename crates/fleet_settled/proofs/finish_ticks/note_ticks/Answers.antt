@@ -11,7 +11,7 @@ loop-t-init g c = record {
   here = c.in_ok-machine.ensures.opening;
   agents = length_flagged c.agents.result MAX_AGENTS (omega (arith, c.agents.ensures.count, c.agents.ensures.well_formed.few_agents)) ∙ c.agents.ensures.count;
   nobody = λ i. none_flagged c.agents.result MAX_AGENTS i (omega (arith, c.agents.ensures.count, c.agents.ensures.well_formed.few_agents));
-  noted = noted_none (g.P.ProgramView.program c.args.program.now) c.args.places.now.firsts.items c.args.entries.now;
+  noted = noted_none (g.P.ProgramView.program c.args.program.now) c.args.places.now c.args.entries.now;
 }
 
 pub note_finished-requires-clause-ticked : goal.note_finished-requires-clause-ticked
@@ -34,4 +34,4 @@ pub returns : goal.returns
 returns g c =
     let p = g.P.ProgramView.program c.args.program.now in
     let all : c.loop-t.t ≡ c.args.ticks = omega (arith, c.loop-t-test.false, c.loop-t.auto.t-end) in
-    subst (λ (n : ℕ). AreFinishTicks p c.args.places.now.firsts.items (IsFinishedBy p n) c.loop-t.entries) all c.loop-t.invariant.noted
+    subst (λ (n : ℕ). AreFinishTicks p c.args.places.now (IsFinishedBy p n) c.loop-t.entries) all c.loop-t.invariant.noted

@@ -10,5 +10,5 @@ invariant-loop-t g l = record {
   here : l.machine.configuration ≡ run (g.P.ProgramView.program l.program) [] l.t;
   agents : length l.nobody ≡ length (g.P.ProgramView.program l.program);
   nobody : (i : ℕ) → flag_of l.nobody i ≡ false;
-  noted : AreFinishTicks (g.P.ProgramView.program l.program) l.places.firsts.items (IsFinishedBy (g.P.ProgramView.program l.program) l.t) l.entries;
+  noted : AreFinishTicks (g.P.ProgramView.program l.program) l.places (IsFinishedBy (g.P.ProgramView.program l.program) l.t) l.entries;
 }

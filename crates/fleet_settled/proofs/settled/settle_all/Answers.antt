@@ -30,4 +30,4 @@ settle_agent-requires-clause-settled g c =
     subst (λ (xs : List Bool). AreSettledOf (g.P.ProgramView.program c.args.program.now) xs (IsUpTo c.loop-agent.agent 0) c.loop-agent.flags) (sym c.deref_mut.ensures.value) c.loop-agent.invariant.settled
 
 pub returns-clause-settled : goal.returns-clause-settled
-returns-clause-settled g c = λ a is k w at. c.loop-agent.invariant.settled a is (inl (omega (arith, is.agent, c.loop-agent-test.false, c.agents-agents.ensures.count))) k w at
+returns-clause-settled g c = λ a is too k w at. c.loop-agent.invariant.settled a is (inl (omega (arith, is.agent, c.loop-agent-test.false, c.agents-agents.ensures.count))) k w at

@@ -1,5 +1,0 @@
-use Rattle.std.proofs.Common.{◌≡◌, ◌<◌, ℕ, slice_index}
-use Rattle.fleet_rows.proofs.block.clear_row.Given as goal
-
-abbrev pub invariant-loop-k : goal.invariant-loop-k
-invariant-loop-k l = record { cleared : (m : ℕ) → m < l.k → slice_index l.row m ≡ 0 }

@@ -34,11 +34,11 @@ agents_rule = record (option (codes "agents")) { parser = Some (parser.Signed (p
 
 -- `--horizon H`, where H is a number from 1 to 65535, and 1024 if the option is not used
 abbrev pub horizon_rule : Rule
-horizon_rule = record (option (codes "horizon")) { parser = Some (parser.Signed (pos 1) (pos 65535)); defaults = codes "1024" ∷ [] }
+horizon_rule = defaulted (codes "horizon") (parser.Signed (pos 1) (pos 65535)) (codes "1024")
 
 -- `--tries N`, where N is a number from 1 to 1,000,000, and 1 if the option is not used
 abbrev pub tries_rule : Rule
-tries_rule = record (option (codes "tries")) { parser = Some (parser.Signed (pos 1) (pos MAX_TRIES)); defaults = codes "1" ∷ [] }
+tries_rule = defaulted (codes "tries") (parser.Signed (pos 1) (pos MAX_TRIES)) (codes "1")
 
 -- the names of the kinds of awaits, as texts that are lent
 abbrev pub DepsNames : Type 0
@@ -50,11 +50,11 @@ AreDeps names = map (λ name. name.now) names.now ≡ codes "all" ∷ codes "las
 
 -- `--deps NAME`, where NAME is one of the names of the kinds of awaits, and `last` if the option is not used
 abbrev pub deps_rule : DepsNames → Rule
-deps_rule names = record (option (codes "deps")) { parser = Some (parser.Names names); defaults = codes "last" ∷ [] }
+deps_rule names = defaulted (codes "deps") (parser.Names names) (codes "last")
 
 -- `--dwell N`, where N is a number up to 1,000,000, and 0 if the option is not used
 abbrev pub dwell_rule : Rule
-dwell_rule = record (option (codes "dwell")) { parser = Some (parser.Signed (pos 0) (pos MAX_MOVES)); defaults = codes "0" ∷ [] }
+dwell_rule = defaulted (codes "dwell") (parser.Signed (pos 0) (pos MAX_MOVES)) (codes "0")
 
 -- the rule of an argument that takes any text and has no default
 abbrev pub plain_rule : ArgumentText → Rule

@@ -1,9 +1,10 @@
 //! Paths, and plans of a fleet.
 
-ghost use Rattle.std.specs.Prelude.{◌≡◌, ◌+◌, ◌≤◌, ◌<◌, length, slice_get, Some};
+ghost use Rattle.std.specs.Prelude.{◌≡◌, ◌+◌, ◌≤◌, ◌<◌, length, slice_get, filter, All, Some};
 ghost use Rattle.fleet_model.specs.declared.limits.TheConstants.{MAX_HORIZON};
 ghost use Rattle.fleet_model.specs.Program.{IsCell};
 ghost use Rattle.fleet_plan.specs.Plan.{IsPath, IsFleet, IsWithinLimits, cell_at, cell_of, last_cell, steps};
+ghost use Rattle.fleet_plan.specs.UnderWay.{is_under_way};
 
 use fleet_model::Cell;
 use std::marker::Model;
@@ -154,5 +155,21 @@ impl Plan {
     {
         let path = self.path(i);
         path.cell(path.steps())
+    }
+
+    /// Keeps those of the agents whose paths go on after `time`, in their order.
+    pub fn keep_under_way(&self, agents: &mut Vec<u16>, time: u32)
+        requires { All (λ i. i < length self.now) agents.old.items }
+        ensures { agents.new.items ≡ filter (is_under_way self.now time) agents.old.items }
+    {
+        let mut kept = 0;
+        for next in 0..agents.len() {
+            let i = agents[next];
+            if time < self.path(i).steps() {
+                agents[kept] = i;
+                kept += 1;
+            }
+        }
+        agents.truncate(kept);
     }
 }

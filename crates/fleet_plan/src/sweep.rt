@@ -1,13 +1,13 @@
 //! The sweep over time for conflicts, with a table of cells in which each agent enters itself. Each step looks at
 //! the agents under way alone: one that has come to its last cell stays entered there, and is not visited again.
 
-ghost use Rattle.std.specs.Prelude.{◌≡◌, ◌≢◌, ℕ, ◌+◌, ◌<◌, ◌≤◌, ◌⊎◌, ◌↔◌, IfOk, IfSome, IfNone, length, filter, slice_index, Some, None, All, IsTrue, false};
+ghost use Rattle.std.specs.Prelude.{◌≡◌, ◌≢◌, ℕ, ◌+◌, ◌<◌, ◌≤◌, ◌⊎◌, ◌↔◌, IfOk, IfSome, IfNone, length, slice_index, Some, None, All, IsTrue, false};
 ghost use Rattle.fleet_grid.specs.Ground.{is_passable};
 ghost use Rattle.fleet_model.specs.declared.limits.TheConstants.{MAX_AGENTS};
 ghost use Rattle.fleet_plan.specs.FirstFault.{AllAgents, GoesRight, IsFirstConflict, HasNoConflict};
 ghost use Rattle.fleet_plan.specs.Rings.{NamesAgents, ahead_of, walk_of};
 ghost use Rattle.fleet_plan.specs.Sweep.{StandOnMap, StandOnPlaces, IsFirstMeeting, IsEntered, IsAhead, AreAhead, Exchange, IsFirstExchange, HasNone, IsFirstAhead, IsFreeAhead, OthersStandAt, HasIn, Stays, IsUnblocked, AreAgentsSettled, AreOtherAgentsSettled, IsSwept};
-ghost use Rattle.fleet_plan.specs.UnderWay.{IsSoForOthers, is_under_way, Covers};
+ghost use Rattle.fleet_plan.specs.UnderWay.{IsSoForOthers, Covers};
 
 use crate::plan::Plan;
 use crate::plan_fault::Conflict;
@@ -292,22 +292,6 @@ fn settle(
     }
 }
 
-/// Keeps the agents whose paths go on after `time`.
-fn keep_under_way(agents: &mut Vec<u16>, plan: &Plan, time: u32)
-    requires { All (λ i. i < length plan.now) agents.old.items }
-    ensures { agents.new.items ≡ filter (is_under_way plan.now time) agents.old.items }
-{
-    let mut kept = 0;
-    for next in 0..agents.len() {
-        let i = agents[next];
-        if time < plan.path(i).steps() {
-            agents[kept] = i;
-            kept += 1;
-        }
-    }
-    agents.truncate(kept);
-}
-
 /// In how many steps agents that have arrived are dropped once.
 const DROPPED_EACH: u32 = 8;
 
@@ -319,7 +303,7 @@ fn drop_arrived(agents: &mut Vec<u16>, plan: &Plan, time: u32)
     ensures { Covers plan.now (time + 1) agents.new.items }
 {
     if time % DROPPED_EACH == 0 {
-        keep_under_way(agents, plan, time + 1);
+        plan.keep_under_way(agents, time + 1);
     }
 }
 

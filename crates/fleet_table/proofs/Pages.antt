@@ -1,11 +1,11 @@
 -- Pages of values.
 use Rattle.std.proofs.Common.{◌≡◌, ◌≢◌, ℕ, zero, suc, ◌∷◌, ◌++◌, ◌/◌, ◌%◌, ◌<◌, ◌≤◌, List, [], length, map, get_or, inl, inr, refl, sym, ap, ◌∙◌, arith}
-use Rattle.std.specs.Prelude.{Vec, set}
+use Rattle.std.specs.Prelude.{Vec, set, Result, Ok, Err, OnErr}
 use Rattle.std.specs.declared.alloc.Global.{Global}
 use Rattle.std.proofs.lemmas.Bool.{cases_eq}
 use Rattle.std.proofs.lemmas.List.{get_or_default, get_or_past, get_or-set_same, get_or-set_other, get_or-map, map-set, length-map}
 use Rattle.fleet_table.specs.declared.table.Table.{Table}
-use Rattle.fleet_table.specs.Table.{page_in, value_in, IsSet}
+use Rattle.fleet_table.specs.Table.{page_in, value_in, IsSet, AreSame}
 
 pub page-read : {V : Type 0} (pages : List (Vec V Global)) (k : ℕ) (page : Vec V Global) → k < length pages → page ≡ get_or pages k page → page_in pages k ≡ page.items
 page-read pages k page h e = get_or-map (λ v. v.items) pages k page [] h ∙ ap (λ v. v.items) (sym e)
@@ -40,6 +40,20 @@ page-exchanged old new reached number value page written same within read exchan
   where
     now_at : (k : ℕ) → value_in new k ≡ get_or (page_in (set reached (number / 1024) written) (k / 1024)) (k % 1024) old.blank
     now_at k = ap (λ z. get_or (page_in z (k / 1024)) (k % 1024) new.blank) exchanged ∙ ap (get_or (page_in (set reached (number / 1024) written) (k / 1024)) (k % 1024)) blank
+
+-- a page is exchanged for one that has the same values
+page-kept : {V : Type 0} (old new : Table V) (reached : List (Vec V Global)) (number : ℕ) (page written : Vec V Global) → ((k : ℕ) → page_in reached k ≡ page_in old.pages.items k) → number / 1024 < length reached → page ≡ get_or reached (number / 1024) page → new.pages.items ≡ set reached (number / 1024) written → new.blank ≡ old.blank → ((k : ℕ) → get_or written.items k old.blank ≡ get_or page.items k old.blank) → AreSame old new
+page-kept old new reached number page written same within read exchanged blank kept = λ k. elim (cases_eq k number) [
+  | inl e ↦ ap (value_in new) e ∙ one.here ∙ value-read old reached number page same within read ∙ ap (value_in old) (sym e)
+  | inr ne ↦ one.others k ne
+]
+  where
+    one : IsSet old new number (get_or page.items (number % 1024) old.blank)
+    one = page-exchanged old new reached number (get_or page.items (number % 1024) old.blank) page written same within read exchanged blank (kept (number % 1024)) (λ k ne. kept k)
+
+pub page-kept_if_failed : {V W E : Type 0} (r : Result W E) (old new : Table V) (reached : List (Vec V Global)) (number : ℕ) (page written : Vec V Global) → ((k : ℕ) → page_in reached k ≡ page_in old.pages.items k) → number / 1024 < length reached → page ≡ get_or reached (number / 1024) page → new.pages.items ≡ set reached (number / 1024) written → new.blank ≡ old.blank → ((k : ℕ) → get_or written.items k old.blank ≡ get_or page.items k old.blank) → OnErr r (AreSame old new)
+page-kept_if_failed (Ok x) old new reached number page written same within read exchanged blank kept = tt
+page-kept_if_failed (Err e) old new reached number page written same within read exchanged blank kept = page-kept old new reached number page written same within read exchanged blank kept
 
 -- ---- one more at the end
 

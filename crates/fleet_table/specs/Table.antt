@@ -15,3 +15,7 @@ value_in t number = get_or (page_in t.pages.items (number / 1024)) (number % 102
 pub record IsSet {V : Type 0} (old new : Table V) (number : ℕ) (value : V) : Type 0 where
   pub here : value_in new number ≡ value
   pub others : (k : ℕ) → k ≢ number → value_in new k ≡ value_in old k
+
+-- each number has the value that it had
+abbrev pub AreSame : {V : Type 0} → Table V → Table V → Type 0
+AreSame old new = (k : ℕ) → value_in new k ≡ value_in old k

@@ -1,8 +1,8 @@
 //! Tables by number.
 
-ghost use Rattle.std.specs.Prelude.{◌≡◌, ◌≢◌, ◌≤◌, ◌<◌, ℕ, OnOk, IfOk, length, get_or};
+ghost use Rattle.std.specs.Prelude.{◌≡◌, ◌≢◌, ◌≤◌, ◌<◌, ℕ, OnOk, OnErr, IfOk, length, get_or};
 ghost use Rattle.fleet_table.specs.declared.table.TheConstants.{PAGE};
-ghost use Rattle.fleet_table.specs.Table.{IsSet, page_in, value_in};
+ghost use Rattle.fleet_table.specs.Table.{IsSet, AreSame, page_in, value_in};
 
 use std::alloc::{AllocError, Global};
 
@@ -46,11 +46,12 @@ impl<V: Copy> Table<V> {
         }
     }
 
-    /// Sets the value of the number, and answers the one before. It fails only if memory is refused.
+    /// Sets the value of the number, and answers the one before. It fails only if memory is refused, and then no value changes.
     #[inline(always)]
     pub fn replace(&mut self, number: usize, value: V) -> Result<V, AllocError>
         ensures before { IfOk result (λ before. before ≡ value_in self.old number) }
         ensures set { OnOk result (IsSet self.old self.new number value) }
+        ensures kept { OnErr result (AreSame self.old self.new) }
     {
         let page = number / PAGE;
         reach(self.alloc, &mut self.pages, page)?;
@@ -58,10 +59,11 @@ impl<V: Copy> Table<V> {
         Ok(before)
     }
 
-    /// Sets the value of the number. It fails only if memory is refused.
+    /// Sets the value of the number. It fails only if memory is refused, and then no value changes.
     #[inline(always)]
     pub fn set(&mut self, number: usize, value: V) -> Result<(), AllocError>
-        ensures { OnOk result (IsSet self.old self.new number value) }
+        ensures set { OnOk result (IsSet self.old self.new number value) }
+        ensures kept { OnErr result (AreSame self.old self.new) }
     {
         self.replace(number, value)?;
         Ok(())
@@ -73,7 +75,7 @@ impl<V: Copy> Table<V> {
 fn reach<V: Copy>(alloc: Global, pages: &mut Vec<Vec<V>>, page: usize) -> Result<(), AllocError>
     requires { page < 18014398509481984 }
     ensures room { OnOk result (page < length pages.new.items) }
-    ensures same { OnOk result ((k : ℕ) → page_in pages.new.items k ≡ page_in pages.old.items k) }
+    ensures same { (k : ℕ) → page_in pages.new.items k ≡ page_in pages.old.items k }
 {
     for _more in pages.len()..page + 1 {
         pages.push(Vec::new(alloc))?;
@@ -89,6 +91,8 @@ fn replace_in<V: Copy>(page: &mut Vec<V>, place: usize, value: V, blank: V) -> R
     ensures here { OnOk result (get_or page.new.items place blank ≡ value) }
     ensures others { OnOk result ((k : ℕ) → k ≢ place
         → get_or page.new.items k blank ≡ get_or page.old.items k blank) }
+    ensures kept { OnErr result ((k : ℕ)
+        → get_or page.new.items k blank ≡ get_or page.old.items k blank) }
 {
     if page.len() <= place {
         fill(page, blank)?;
@@ -102,8 +106,8 @@ fn replace_in<V: Copy>(page: &mut Vec<V>, place: usize, value: V, blank: V) -> R
 #[inline(never)]
 fn fill<V: Copy>(page: &mut Vec<V>, blank: V) -> Result<(), AllocError>
     ensures whole { OnOk result (PAGE ≤ length page.new.items) }
-    ensures same { OnOk result ((place : ℕ)
-        → get_or page.new.items place blank ≡ get_or page.old.items place blank) }
+    ensures same { (place : ℕ)
+        → get_or page.new.items place blank ≡ get_or page.old.items place blank }
 {
     page.reserve_exact(PAGE - page.len().min(PAGE))?;
     for _more in page.len()..PAGE {

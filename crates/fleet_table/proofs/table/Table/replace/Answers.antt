@@ -1,5 +1,6 @@
-use Rattle.std.proofs.Common.{◌∙◌, refl}
-use Rattle.fleet_table.proofs.Pages.{page-exchanged, value-read}
+use Rattle.std.proofs.Common.{◌∙◌, ◌/◌, refl}
+use Rattle.std.specs.Vec.{with_item}
+use Rattle.fleet_table.proofs.Pages.{page-exchanged, page-kept_if_failed, value-read}
 use Rattle.fleet_table.proofs.table.Table.replace.Goals as goal
 
 pub returns-clause-before : goal.returns-clause-before
@@ -7,3 +8,6 @@ returns-clause-before g c = c.in_ok-before.ensures.before ∙ value-read c.args.
 
 pub returns-clause-set : goal.returns-clause-set
 returns-clause-set g c = page-exchanged _ _ c.reach.new.pages.items c.args.number c.args.value c.index_mut.result.now c.replace_in.new.page c.in_ok-reach.ensures.same c.in_ok-reach.ensures.room c.index_mut.ensures.value refl refl c.in_ok-before.ensures.here c.in_ok-before.ensures.others
+
+pub returns-in_err-before-clause-kept : goal.returns-in_err-before-clause-kept
+returns-in_err-before-clause-kept g c = page-kept_if_failed c.from_residual-in_err-before.result c.args.self.now (record { alloc = c.args.self.now.alloc; blank = c.args.self.now.blank; pages = with_item c.reach.new.pages (c.args.number / 1024) c.replace_in.new.page }) c.reach.new.pages.items c.args.number c.index_mut.result.now c.replace_in.new.page c.in_ok-reach.ensures.same c.in_ok-reach.ensures.room c.index_mut.ensures.value refl refl c.in_err-before.ensures.kept

@@ -1,6 +1,0 @@
-use Rattle.std.proofs.lemmas.List.Filters.{FiltersInPlace}
-use Rattle.fleet_plan.specs.UnderWay.{is_under_way}
-use Rattle.fleet_adg.proofs.sweep.keep_under_way.Given as goal
-
-abbrev pub invariant-loop-next : goal.invariant-loop-next
-invariant-loop-next l = FiltersInPlace (is_under_way l.plan l.time) l.initial.agents.items l.agents.items l.kept l.next

@@ -19,5 +19,5 @@ loop-j-preserved c =
             | else-from-j-via-then-from-j+else-places-from w' ↦ λ l s. w'.if-places-from.false (ap (slice_index places) w'.from-then-from-j.ensures ∙ s)
             | else-from-j-via-else-from-j w' ↦ λ l. absurd (omega (arith, c.from.ensures, w'.if-from-j.false))
           ] in
-          rw (w.table-is, w.first-is) (meeting-miss table places c.loop-j.first j c.loop-j.invariant i c.get-i.ensures other w.set.new.self w.in_ok-set.ensures)
+          rw (w.table-is, w.first-is) (meeting-miss table places c.loop-j.first j c.loop-j.invariant i c.get-i.ensures other w.set.new.self w.in_ok-set.ensures.set)
     ]

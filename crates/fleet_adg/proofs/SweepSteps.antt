@@ -63,24 +63,6 @@ moves_at_end plan i t m path g long e =
 
 -- ---- who is under way
 
-pub goes_on : (plan : Plan) (t i s : ℕ) (path : List Cell) → slice_get plan i ≡ Some path → s + 1 ≡ length path → t < s → is_under_way plan t i ≡ true
-goes_on plan t i s path g long l =
-    let same = ap length (get_or_from_slice_get plan i path [] g) in
-    lt-ltb t (length (get_or plan i []) - 1) (omega arith)
-
-pub has_ended : (plan : Plan) (t i s : ℕ) (path : List Cell) → slice_get plan i ≡ Some path → s + 1 ≡ length path → s ≤ t → is_under_way plan t i ≡ false
-has_ended plan t i s path g long l =
-    let same = ap length (get_or_from_slice_get plan i path [] g) in
-    le-ltb t (length (get_or plan i []) - 1) (omega arith)
-
--- an element that is yet to be read is one of the list
-pub still_there : (P : ℕ → Type 0) (p : ℕ → Bool) (xs ys : List ℕ) (k i x : ℕ) → FiltersInPlace p xs ys k i → i < length ys → x ≡ get_or ys i x → All P xs → P x
-still_there P p xs ys k i x f l e h =
-    let z : i + 0 ≡ i = omega arith in
-    let at = λ (zs : List ℕ). get_or-drop i zs 0 x ∙ ap (λ n. get_or zs n x) z in
-    let same : x ≡ get_or xs i x = e ∙ sym (at ys) ∙ ap (λ zs. get_or zs 0 x) f.rest ∙ at xs in
-    subst P (sym same) (h i x (omega (arith, f.long)))
-
 filter-filter : (p q : ℕ → Bool) → ((x : ℕ) → q x ≡ true → p x ≡ true) → (xs : List ℕ) → filter q (filter p xs) ≡ filter q xs
 filter-filter p q h [] = refl
 filter-filter p q h (x ∷ xs) = elim (cases_Bool (p x)) [

@@ -1,13 +1,12 @@
 //! One sweep over the steps of a plan: in each step all leavings of cells, and then all enterings.
 
-ghost use Rattle.std.specs.Prelude.{◌≡◌, ◌≤◌, ◌<◌, ◌+◌, is_some, IfSome, All, OnOk, IfOk, length, filter, replicate, []};
+ghost use Rattle.std.specs.Prelude.{◌≡◌, ◌≤◌, ◌<◌, ◌+◌, is_some, IfSome, OnOk, IfOk, length, replicate, []};
 ghost use Rattle.fleet_plan.specs.Plan.{cell_of, steps};
 ghost use Rattle.fleet_model.specs.declared.limits.TheConstants.{MAX_HORIZON};
 ghost use Rattle.fleet_model.specs.Machine.{indices};
 ghost use Rattle.fleet_adg.specs.Compiled.{direction, changes_in, moves_by};
 ghost use Rattle.fleet_adg.specs.Leavings.{kind_of, AreLeavingsAt};
 ghost use Rattle.fleet_adg.specs.Sweep.{under_way, moves_in, all_actions_by, IsOnMap};
-ghost use Rattle.fleet_plan.specs.UnderWay.{is_under_way};
 
 use crate::growing::Growing;
 use crate::leavings::{Leaving, Leavings};
@@ -57,7 +56,7 @@ fn sweep(
     let mut agents = agents_of(alloc, plan.agents())?;
     let mut moves = Vec::with_capacity(alloc, agents.len())?;
     for time in 0..plan.steps() {
-        keep_under_way(&mut agents, plan, time);
+        plan.keep_under_way(&mut agents, time);
         list_moves(plan, time, &agents, &mut moves)?;
         make_moves(alloc, plan, grid, time, &moves, leavings, actions)?;
     }
@@ -153,22 +152,6 @@ fn agents_of(alloc: Global, count: u16) -> Result<Vec<u16>, AllocError>
         agents.push(i)?;
     }
     Ok(agents)
-}
-
-/// Keeps those of the agents whose paths go on after `time`.
-fn keep_under_way(agents: &mut Vec<u16>, plan: &Plan, time: u32)
-    requires { All (λ i. i < length plan.now) agents.old.items }
-    ensures { agents.new.items ≡ filter (is_under_way plan.now time) agents.old.items }
-{
-    let mut kept = 0;
-    for next in 0..agents.len() {
-        let i = agents[next];
-        if time < plan.path(i).steps() {
-            agents[kept] = i;
-            kept += 1;
-        }
-    }
-    agents.truncate(kept);
 }
 
 /// Lists the moves in the step after `time`, in order of agent.

@@ -2,13 +2,16 @@
 //! report and sends them on.
 #![tactic(auto)]
 
-ghost use Rattle.std.specs.Prelude.{◌≡◌, ◌<◌, List, ℕ, IfOk, Ok, length};
+ghost use Rattle.std.specs.Prelude.{◌≡◌, ◌<◌, List, ℕ, IfOk, IfErr, OnOk, OnErr, Ok, length};
 ghost use Rattle.fleet_auto.specs.Accepting.{Accepts};
 ghost use Rattle.fleet_auto.specs.Texts.{AreTextsOf};
 ghost use Rattle.fleet_auto.specs.Trace.{WritesTrace};
 ghost use Rattle.fleet_dispatch.specs.Dispatch.{DispatchesFrom};
 ghost use Rattle.fleet_grid.specs.Ground.{Ground};
+ghost use Rattle.fleet_machine.specs.Confirmed.{all_but, AreSent, IsFirstUnsent};
+ghost use Rattle.fleet_machine.specs.Machine.{flag_of};
 ghost use Rattle.fleet_model.specs.Claims.{order_of};
+ghost use Rattle.fleet_model.specs.Machine.{tick};
 ghost use Rattle.fleet_model.specs.Program.{Program};
 ghost use Rattle.fleet_model.specs.declared.task.Task.{Task};
 ghost use Rattle.fleet_text.specs.Sink.{IsWorking};
@@ -90,16 +93,28 @@ pub fn send<P: ProgramView + Drop, F: Floor>(
     }
 }
 
-/// The flagged robots have arrived. Answers where robot `i` may be sent then: the step of its next move, if it has an order.
-pub fn report<P: ProgramView>(
+/// The flagged robots have arrived, and all others are still on their way. Answers where robot `i` may be sent then: the
+/// step of its next move, if it has an order. If a flagged robot had no order, the first such robot is refused, and
+/// nothing changes.
+pub fn note_report<P: ProgramView>(
     fleet: &mut Fleet<'_, P>,
     done: &[bool],
     i: u16,
 ) -> Result<Option<Step>, NotSent>
     requires done { length done.now ≡ length (P.program fleet.old.accepted.program) }
     requires robot { i < length (P.program fleet.old.accepted.program) }
-    ensures { IfOk result (λ step.
+    ensures after { OnOk result (fleet.new ≡ record fleet.old {
+      configuration = tick (P.program fleet.old.accepted.program)
+          (all_but (flag_of done.now)) fleet.old.configuration;
+      looked = fleet.new.looked;
+    }) }
+    ensures sent { OnOk result (AreSent (P.program fleet.old.accepted.program)
+        fleet.old.configuration (flag_of done.now)) }
+    ensures order { IfOk result (λ step.
         step ≡ order_of (P.program fleet.new.accepted.program) fleet.new.configuration i) }
+    ensures refused { IfErr result (λ e. IsFirstUnsent (P.program fleet.old.accepted.program)
+        fleet.old.configuration (flag_of done.now) e.agent) }
+    ensures unchanged { OnErr result (fleet.new ≡ fleet.old) }
 {
     fleet.confirm(done)?;
     Ok(fleet.order(i))

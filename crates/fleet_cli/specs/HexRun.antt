@@ -6,7 +6,6 @@ use Rattle.fleet_code.specs.Spelling.{Spells}
 use Rattle.fleet_code.specs.LoadFaults.{IsFirstLoadFault}
 use Rattle.fleet_code.specs.Hex.{bytes_of}
 use Rattle.fleet_code.specs.declared.fault.HexFault.TheVariants as h
-use Rattle.fleet_code.specs.declared.fault.LoadFault.TheVariants as l
 use Rattle.fleet_files.specs.declared.input.TheConstants.{MOST_BYTES}
 use Rattle.fleet_io.specs.Flushed.{RehearsesFlushed}
 use Rattle.fleet_run.specs.Source.{list_source}
@@ -41,7 +40,7 @@ abbrev pub IsRefusalOf : Option (List ℕ) → (out out' : SinkState) → Fault 
 IsRefusalOf input out out' (f.Hex fault) =
     (text : List ℕ) × IsTextOf input text × (fault ≢ h.OutOfMemory → bytes_of text ≡ Err fault) × IsUnwritten out out'
 IsRefusalOf input out out' (f.Load fault) =
-    (text bytes : List ℕ) × IsTextOf input text × (bytes_of text ≡ Ok bytes) × (fault ≢ l.OutOfMemory → IsFirstLoadFault bytes fault) × IsUnwritten out out'
+    (text bytes : List ℕ) × IsTextOf input text × (bytes_of text ≡ Ok bytes) × IsFirstLoadFault bytes fault × IsUnwritten out out'
 IsRefusalOf input out out' (f.Run fault) =
     (text : List ℕ) × (p : Program) × (left : Holds) × IsTextOf input text × StandsForProgram text p
     × RehearsesFlushed p (list_source []) (list_source left) out out' (Err fault)

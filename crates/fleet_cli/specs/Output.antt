@@ -1,5 +1,5 @@
 -- What several commands print or write in the same way.
-use Rattle.std.specs.Prelude.{ℕ, List, [], ◌∷◌, ◌++◌, ◌⊎◌, Option, map}
+use Rattle.std.specs.Prelude.{◌≡◌, ℕ, List, [], ◌∷◌, ◌++◌, ◌⊎◌, Option, Result, Ok, Err, map}
 use Rattle.std.specs.Borrow.{Bor}
 use Rattle.fleet_text.specs.Sink.{SinkState, FailsAfter, IsUnwritten, IsDelivered}
 use Rattle.fleet_files.specs.Files.{Store, ChangesOnly, Replaces}
@@ -20,6 +20,13 @@ count_lines (count ∷ counts) = count_line count.0 count.1 ++ count_lines count
 -- a word in a line of its own, and the counts
 unfoldable pub report : List ℕ → List (List ℕ × ℕ) → List ℕ
 report title counts = line_text (title ∷ []) ++ count_lines counts
+
+-- what a command answers that was to print: 0 if that was done, and else the refusal of the standard output
+abbrev pub IsPrinted : {T E : Type 0} → Result T E → Result ℕ Fault → Type 0
+IsPrinted (Ok _) (Ok status) = status ≡ 0
+IsPrinted (Err _) (Err fault) = IsOutFault fault
+IsPrinted (Ok _) (Err _) = ⊥
+IsPrinted (Err _) (Ok _) = ⊥
 
 -- the file holds the bytes, every other file is as before, and the text was printed and handed on
 pub record WritesOut (files after : Option Store) (name bytes : List ℕ) (out out' : SinkState) (text : List ℕ) : Type 0 where

@@ -1,9 +1,7 @@
 -- What the command `rehearse` does: the rehearsal of the program of a file, under the holds of another.
-use Rattle.std.specs.Prelude.{◌≡◌, ◌≢◌, ℕ, ◌<◌, List, ◌∷◌, length, ◌⊎◌, Option, None, Err}
+use Rattle.std.specs.Prelude.{◌≡◌, ℕ, ◌<◌, List, ◌∷◌, length, ◌⊎◌, Option, None, Err}
 use Rattle.fleet_model.specs.Program.{Program}
 use Rattle.fleet_code.specs.Spelling.{Spells}
-use Rattle.fleet_code.specs.LoadFaults.{IsFirstLoadFault}
-use Rattle.fleet_code.specs.declared.fault.LoadFault.TheVariants as l
 use Rattle.fleet_files.specs.Files.{Store, IsRead}
 use Rattle.fleet_args.specs.declared.rehearse.RehearseRequest.{RehearseRequest}
 use Rattle.fleet_io.specs.Named.{IsUnread, given_name, hold_names, AreHoldBytes}
@@ -13,6 +11,7 @@ use Rattle.fleet_text.specs.Sink.{SinkState, IsUnwritten}
 use Rattle.fleet_io.specs.Output.{WritesRehearsal, end_status}
 use Rattle.fleet_run.specs.Source.{SourceState}
 use Rattle.fleet_run.specs.declared.run.End.{End}
+use Rattle.fleet_cli.specs.Problem.{IsLoadRefusal}
 use Rattle.fleet_io.specs.declared.fault.Fault.{Fault}
 use Rattle.fleet_io.specs.declared.fault.Fault.TheVariants as f
 
@@ -24,13 +23,12 @@ pub record RehearsesBytes (bytes held : List ℕ) (out out' : SinkState) (end : 
   pub writes : WritesRehearsal program (hold_ticks program held) out out' end
   pub right_lines : length (hold_ticks program held) < writes.ticks → hold_last program held ≡ None
 
--- the refusal is one that the bytes allow: the first fault of the program's; or a line of the holds that was asked for is no
--- tick's, or the sink failed while the rehearsal was written, or when it was to hand it on
+-- memory ran out; or the first fault of the program's bytes; or a line of the holds that was asked for is no tick's, or the sink failed
+-- while the rehearsal was written, or when it was to hand it on
 abbrev pub IsRehearseFault : List ℕ → List ℕ → (out out' : SinkState) → Fault → Type 0
-IsRehearseFault bytes held out out' (f.Load fault) = (fault ≢ l.OutOfMemory → IsFirstLoadFault bytes fault) × IsUnwritten out out'
 IsRehearseFault bytes held out out' (f.Run fault) =
     (p : Program) × (source : SourceState) × Spells bytes p × RehearsesFlushed p (hold_source p held) source out out' (Err fault)
-IsRehearseFault bytes held out out' _ = ⊥
+IsRehearseFault bytes held out out' fault = IsLoadRefusal bytes fault × IsUnwritten out out'
 
 -- the rehearsal of the program of the files was written, and the status says how it ended
 abbrev pub DoesRehearse : Option Store → RehearseRequest → (out out' : SinkState) → ℕ → Type 0

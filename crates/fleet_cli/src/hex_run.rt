@@ -4,8 +4,9 @@ ghost use Rattle.std.specs.Prelude.{MatchResult};
 ghost use Rattle.fleet_text.specs.Sink.{IsWorking};
 ghost use Rattle.fleet_cli.specs.HexRun.{DoesHex, IsRefusalOf, RunsHex};
 
+use crate::problem::view_program;
 use crate::rehearse_command::end_status;
-use fleet_code::{read_hex, view};
+use fleet_code::read_hex;
 use fleet_io::{Fault, FileFault, finish, read_whole, rehearse_flushed};
 use fleet_run::{Flush, HoldList, TraceOut};
 use std::alloc::Global;
@@ -31,10 +32,7 @@ fn rehearse_hex<R: Read, O: Flush>(
         Ok(bytes) => bytes,
         Err(fault) => return Err(Fault::Hex(fault)),
     };
-    let program = match view(alloc, &bytes) {
-        Ok(program) => program,
-        Err(fault) => return Err(Fault::Load(fault)),
-    };
+    let program = view_program(alloc, &bytes)?;
     let mut nobody = HoldList::new(Vec::new(alloc));
     match rehearse_flushed(alloc, &program, &mut nobody, out) {
         Ok(rehearsal) => Ok(end_status(rehearsal.end)),

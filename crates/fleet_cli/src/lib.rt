@@ -20,6 +20,5 @@ mod verify_command;
 
 pub use command::{run_command, run_request};
 pub use fleet_args::{Request, WordStop, read_words};
-pub use fleet_auto::{AutoFault, auto_run};
-pub use fleet_io::{Disk, Fault, FileFault, Files, MOST_BYTES, MemFiles, read_whole};
+pub use fleet_io::{Disk, Fault, Files};
 pub use hex_run::run_hex;

@@ -9,7 +9,8 @@ ghost use Rattle.fleet_cli.specs.MigrateCommand.{MigratesBytes, migrated_text, M
 
 use crate::output::write_out;
 use fleet_args::MigrateRequest;
-use fleet_code::{EncodeFault, LoadFault, encode2, load};
+use fleet_auto::AcceptFault;
+use fleet_code::{EncodeFault, encode2, load};
 use fleet_io::{Fault, Files, read_file};
 use fleet_run::Flush;
 use std::alloc::Global;
@@ -21,8 +22,7 @@ fn migrate_bytes<'a>(alloc: Global, bytes: &[u8]) -> Result<Vec<u8>, Fault<'a>>
 {
     let program = match load(alloc, bytes) {
         Ok(program) => program,
-        Err(LoadFault::OutOfMemory) => return Err(Fault::Memory),
-        Err(fault) => return Err(Fault::Load(fault)),
+        Err(fault) => return Err(Fault::from(AcceptFault::from(fault))),
     };
     match encode2(alloc, &program) {
         Ok(migrated) => Ok(migrated),

@@ -2,7 +2,7 @@
 
 ghost use Rattle.std.specs.Prelude.{◌≡◌, MatchResult};
 ghost use Rattle.fleet_text.specs.Sink.{IsWorking, TakesAll, Delivers};
-ghost use Rattle.fleet_cli.specs.Output.{with_labels, count_lines, report, WritesOut, IsOutRefusal};
+ghost use Rattle.fleet_cli.specs.Output.{with_labels, count_lines, report, IsPrinted, WritesOut, IsOutRefusal};
 
 use fleet_io::{Fault, Files, Word, put_count, put_line, write_file};
 use fleet_run::{Flush, OutFault, TraceOut};
@@ -57,6 +57,16 @@ pub(crate) fn print_report<O: Flush>(
     out.flush()
 }
 
+/// The answer of a command that was to print: 0, or the refusal of the standard output.
+pub(crate) fn printed<'a>(done: Result<(), OutFault>) -> Result<u8, Fault<'a>>
+    ensures { IsPrinted done result }
+{
+    match done {
+        Ok(()) => Ok(0),
+        Err(OutFault) => Err(Fault::File("-")),
+    }
+}
+
 /// Writes the bytes to the file OUT, and then prints the counts. Answers 0.
 pub(crate) fn write_out<'a, F: Files, O: Flush>(
     files: &mut F,
@@ -73,8 +83,5 @@ pub(crate) fn write_out<'a, F: Files, O: Flush>(
         (O.state out.old) (O.state out.new) (count_lines (with_labels counts.now))) }
 {
     write_file(files, name, bytes)?;
-    match print_counts(out, counts) {
-        Ok(()) => Ok(0),
-        Err(OutFault) => Err(Fault::File("-")),
-    }
+    printed(print_counts(out, counts))
 }

@@ -7,13 +7,14 @@ ghost use Rattle.fleet_auto.specs.Texts.{AreTextsOf};
 ghost use Rattle.fleet_cli.specs.Problem.{IsProblemRefusal};
 ghost use Rattle.fleet_cli.specs.PlanCommand.{PrintsPlan, IsPlanCommandFault, DoesPlan, RefusesPlan};
 
+use crate::output::printed;
 use crate::problem::read_problem;
 use fleet_args::PlanRequest;
 use fleet_auto::Problem;
 use fleet_io::{Fault, Files, deliver, read_two};
 use fleet_model::OutOfMemory;
 use fleet_plan::write_plan;
-use fleet_run::{Flush, OutFault};
+use fleet_run::Flush;
 use fleet_search::plan_in_orders;
 use std::alloc::Global;
 
@@ -60,10 +61,7 @@ fn plan_texts<'a, O: Flush>(
         Ok(text) => text,
         Err(OutOfMemory) => return Err(Fault::Memory),
     };
-    match deliver(out, &text) {
-        Ok(()) => Ok(0),
-        Err(OutFault) => Err(Fault::File("-")),
-    }
+    printed(deliver(out, &text))
 }
 
 /// The command `plan`: reads both files whole, and prints to `out` a plan in which each agent's path is the earliest against those of

@@ -15,7 +15,7 @@ use fleet_verify::Accepted;
 use std::alloc::Global;
 
 /// The map and the instance for which the texts stand, or the refusal of the program.
-pub fn read_problem<'a>(
+pub(crate) fn read_problem<'a>(
     alloc: Global,
     map: &[u8],
     scen: &[u8],
@@ -28,7 +28,7 @@ pub fn read_problem<'a>(
 }
 
 /// The program that the bytes spell, read in place and accepted for the map and the instance, or the refusal of the program.
-pub fn accept<'g, 'a>(
+pub(crate) fn accept<'g, 'a>(
     alloc: Global,
     bytes: &'g [u8],
     grid: &'g Grid,
@@ -42,7 +42,10 @@ pub fn accept<'g, 'a>(
 }
 
 /// The program that the bytes spell, read in place, or the refusal of the program.
-pub fn view_program<'g, 'a>(alloc: Global, bytes: &'g [u8]) -> Result<CodeView<'g>, Fault<'a>>
+pub(crate) fn view_program<'g, 'a>(
+    alloc: Global,
+    bytes: &'g [u8],
+) -> Result<CodeView<'g>, Fault<'a>>
     ensures spelled { IfOk result (λ v. Spells bytes.now v.program) }
     ensures fault { IfErr result (IsLoadRefusal bytes.now) }
 {

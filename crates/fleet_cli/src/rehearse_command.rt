@@ -7,8 +7,8 @@ ghost use Rattle.fleet_text.specs.Sink.{IsWorking};
 ghost use Rattle.fleet_files.specs.Files.{AreUnchanged};
 ghost use Rattle.fleet_cli.specs.RehearseCommand.{RehearsesBytes, IsRehearseFault, DoesRehearse, RefusesRehearse};
 
+use crate::problem::view_program;
 use fleet_args::RehearseRequest;
-use fleet_code::view;
 use fleet_io::{Fault, Files, read_with_holds, rehearse_flushed};
 use fleet_model::ProgramView;
 use fleet_run::{End, Flush, HoldText};
@@ -37,10 +37,7 @@ fn rehearse_bytes<'a, O: Flush>(
         (O.state out.old) (O.state out.new) end × (status ≡ end_status end))
         (IsRehearseFault bytes.now held.now (O.state out.old) (O.state out.new)) }
 {
-    let program = match view(alloc, bytes) {
-        Ok(program) => program,
-        Err(fault) => return Err(Fault::Load(fault)),
-    };
+    let program = view_program(alloc, bytes)?;
     let mut source = HoldText::new(held, program.agents());
     match rehearse_flushed(alloc, &program, &mut source, out) {
         Ok(rehearsal) => Ok(end_status(rehearsal.end)),

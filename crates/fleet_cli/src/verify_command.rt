@@ -7,7 +7,7 @@ ghost use Rattle.fleet_text.specs.Sink.{IsWorking, Delivers};
 ghost use Rattle.fleet_files.specs.Files.{AreUnchanged};
 ghost use Rattle.fleet_cli.specs.VerifyCommand.{accepted_text, SpellsBreakingHolds, TellsRefused, PrintsAccepted, IsVerifyFault, DoesVerify, RefusesVerify};
 
-use crate::output::print_report;
+use crate::output::{print_report, printed};
 use crate::problem::{read_problem, view_program};
 use fleet_args::VerifyRequest;
 use fleet_auto::AcceptFault;
@@ -101,10 +101,7 @@ fn verify_bytes<'a, O: Flush>(
         Ok(accepted) => accepted,
         Err(refused) => return Err(tell_refused(alloc, refused, out)),
     };
-    match print_accepted(out, &accepted) {
-        Ok(()) => Ok(0),
-        Err(OutFault) => Err(Fault::File("-")),
-    }
+    printed(print_accepted(out, &accepted))
 }
 
 /// The command `verify`: reads the files whole, and prints to `out` that the program is accepted, with its numbers, or, of a

@@ -34,7 +34,8 @@ fn auto_told(alloc: Global) -> Option<Vec<u8>> {
     ) {
         Err(AutoFault::OutOfMemory) => None,
         Err(AutoFault::Run(RunFault::Write)) if out.failed() => None,
-        _ => out.bytes().to_vec(alloc).ok(),
+        Err(_) => b"refused".to_vec(alloc).ok(),
+        Ok(_) => out.bytes().to_vec(alloc).ok(),
     }
 }
 
@@ -46,7 +47,8 @@ fn list_told(alloc: Global) -> Option<Vec<u8>> {
     match rehearse(alloc, &program, &mut HoldList::new(rows), &mut out) {
         Err(RunFault::OutOfMemory) => None,
         Err(RunFault::Write) if out.failed() => None,
-        _ => out.bytes().to_vec(alloc).ok(),
+        Err(_) => b"refused".to_vec(alloc).ok(),
+        Ok(_) => out.bytes().to_vec(alloc).ok(),
     }
 }
 

@@ -15,7 +15,11 @@ pub struct FailingSource {
 impl HoldSource for FailingSource {
     ghost use Rattle.std.specs.Prelude.{Some, None, [], replicate, if◌then◌else◌};
 
-    ghost state = { λ s. record { ticks = replicate s.ticks []; last = Some s.kind; fault = if s.failed then Some s.kind else None } };
+    ghost state = { λ s. record {
+      ticks = replicate s.ticks [];
+      last = Some s.kind;
+      fault = if s.failed then Some s.kind else None;
+    } };
 
     fn next(&mut self, held: &mut [bool]) -> Result<bool, SourceFault> {
         if self.ticks == 0 {

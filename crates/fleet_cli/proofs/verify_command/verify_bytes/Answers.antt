@@ -4,6 +4,8 @@ use Rattle.fleet_code.specs.Offsets.{Viewed}
 use Rattle.fleet_grid.specs.Ground.{is_passable}
 use Rattle.fleet_verify.specs.Faults.{IsFault}
 use Rattle.fleet_verify.specs.Broken.{IsBrokenBy}
+use Rattle.fleet_cli.specs.Problem.{AcceptsTexts}
+use Rattle.fleet_cli.proofs.OutputLemmas.{printed_as}
 use Rattle.fleet_cli.proofs.VerifyLemmas.{returned_accepts, told_refused}
 use Rattle.fleet_cli.proofs.verify_command.verify_bytes.Goals as goal
 
@@ -16,32 +18,16 @@ returns-in-Err g c =
     (subst (λ (w : Viewed). IsBrokenBy w.program c.in-Err.refused.fault) (sym c.in-Err.ensures.returned) c.in-Err.ensures.broken)
     c.tell_refused.result c.tell_refused.ensures
 
-pub returns-in-Ok-print_accepted : goal.returns-in-Ok-print_accepted
-returns-in-Ok-print_accepted g c = (
-  record {
-    accepts = record {
+pub returns : goal.returns
+returns g c =
+    let accepts : AcceptsTexts c.args.map.now c.args.scen.now c.args.asked c.args.bytes.now = record {
       ground = c.in_ok-problem.problem.grid;
       tasks = c.in_ok-problem.problem.instance;
       texts = c.in_ok-problem.ensures.read;
       program = c.in-Ok.accepted.program.program;
       chain = c.in-Ok.accepted.chain;
       accepts = returned_accepts c.args.bytes.now c.in_ok-problem.problem.grid c.in_ok-problem.problem.instance _ c.in-Ok.accepted.program.program c.in-Ok.accepted.chain c.in_ok-program.ensures.spelled (ap (λ (w : Viewed). w.program) c.in-Ok.ensures.kept.0) c.in-Ok.ensures.accepted;
-    };
-    delivered = c.in-Ok-print_accepted.ensures;
-  },
-  refl,
-)
-
-pub returns : goal.returns
-returns g c = inr (
-  record {
-    ground = c.in_ok-problem.problem.grid;
-    tasks = c.in_ok-problem.problem.instance;
-    texts = c.in_ok-problem.ensures.read;
-    program = c.in-Ok.accepted.program.program;
-    chain = c.in-Ok.accepted.chain;
-    accepts = returned_accepts c.args.bytes.now c.in_ok-problem.problem.grid c.in_ok-problem.problem.instance _ c.in-Ok.accepted.program.program c.in-Ok.accepted.chain c.in_ok-program.ensures.spelled (ap (λ (w : Viewed). w.program) c.in-Ok.ensures.kept.0) c.in-Ok.ensures.accepted;
-  },
-  refl,
-  c.in-Err-print_accepted.ensures,
-)
+    } in
+    printed_as _ _ c.print_accepted.result c.printed.result _ _ _ c.printed.ensures c.print_accepted.ensures
+    (λ delivered. (record { accepts = accepts; delivered = delivered }, refl))
+    (λ name dash fails. inr (accepts, dash, fails))

@@ -5,7 +5,7 @@ use Rattle.std.specs.List.{position_or_len, slice_split, onto_first}
 use Rattle.std.specs.Str.Lines.{strip_carriage_return}
 use Rattle.std.proofs.lemmas.List.Splits.{slice_split_first}
 use Rattle.std.proofs.lemmas.List.Quantifiers.{position-Some}
-use Rattle.std.proofs.lemmas.Bool.{cases_Bool, cases_eq, lt-ltb, ltb-true, ltb-false}
+use Rattle.std.proofs.lemmas.Bool.{cases_Bool, cases_eq, lt-ltb, le-ltb, ltb-true, ltb-false}
 use Rattle.std.proofs.lemmas.List.{drop_more, drop_all, get_or-drop, drop-drop, length-drop, length-take, length-take-le, length-map}
 use Rattle.std.proofs.lemmas.List.Sums.{sum_by-cons}
 use Rattle.fleet_text.specs.Text.{Bytes, is_lf, is_blank, is_word, ended_lines, lines, words, words_from_front, is_digit, digits_front, number_front, capped, number_after, number, small_only, small_number_front}
@@ -200,15 +200,29 @@ digit_goes most n (d ∷ rest) some e = rw e (cap_early most (10 * n + (d - 48))
 
 -- ---- the same of small numbers, where n is small as well
 
-small_stays : (n : ℕ) (rest : Bytes) → n ≤ 65535 → 1 ≤ length rest → is_digit (get_or rest 0 0) ≡ false → Some (n, rest) ≡ small_only (digits_front n rest)
+pub small_at_end : (n : ℕ) (rest : Bytes) → n ≤ 65535 → length rest < 1 → Some (n, rest) ≡ small_only (digits_front n rest)
+unfolding digits_front
+small_at_end n [] few end = rw (lt-ltb n 65536 (omega arith)) refl
+small_at_end n (d ∷ rest) few end = absurd (omega arith)
+
+pub small_stays : (n : ℕ) (rest : Bytes) → n ≤ 65535 → 1 ≤ length rest → is_digit (get_or rest 0 0) ≡ false → Some (n, rest) ≡ small_only (digits_front n rest)
 unfolding digits_front
 small_stays n [] few some e = absurd (omega arith)
 small_stays n (d ∷ rest) few some e = rw (e, lt-ltb n 65536 (omega arith)) refl
 
-digit_taken : (n : ℕ) (rest : Bytes) → 1 ≤ length rest → is_digit (get_or rest 0 0) ≡ true → digits_front (10 * n + (get_or rest 0 0 - 48)) (drop 1 rest) ≡ digits_front n rest
+pub digit_taken : (n : ℕ) (rest : Bytes) → 1 ≤ length rest → is_digit (get_or rest 0 0) ≡ true → digits_front (10 * n + (get_or rest 0 0 - 48)) (drop 1 rest) ≡ digits_front n rest
 unfolding digits_front
 digit_taken n [] some e = absurd (omega arith)
 digit_taken n (d ∷ rest) some e = rw e refl
+
+-- no digit makes a number small that is too large
+pub stays_too_large : (n : ℕ) (rest : Bytes) → 65536 ≤ n → None ≡ small_only (digits_front n rest)
+unfolding digits_front
+stays_too_large n [] large = rw (le-ltb n 65536 large) refl
+stays_too_large n (d ∷ rest) large = elim (cases_Bool (is_digit d)) [
+  | inl t ↦ rw t (stays_too_large (10 * n + (d - 48)) rest (omega (arith, large)))
+  | inr t ↦ rw (t, le-ltb n 65536 large) refl
+]
 
 -- ---- the same by the places of the digits
 

@@ -8,7 +8,6 @@ pub const TOO_LARGE: u32 = 65_536;
 
 /// The number in front of a text, and what follows its digits, however many they are. A number above `TOO_LARGE` is
 /// answered as `TOO_LARGE`; if no digit stands in front, there is none.
-#[inline(always)]
 fn number_front(text: &[u8]) -> Option<(u32, &[u8])>
     ensures { option_map (λ x. (x.0, x.1.now)) result
         ≡ option_map (capped TOO_LARGE) (number_front text.now) }
@@ -102,16 +101,30 @@ fn short_number_front(text: &[u8]) -> Option<(u16, &[u8])>
     Some(((10 * three + d) as u16, &text[4..]))
 }
 
-/// The same as `small_number_front`, a digit at a time.
+/// The same as `small_number_front`, a digit at a time, up to the first digit that makes the number too large. For speed
+/// it has a loop of its own beside that of `number_front`: then the machine code needs no test of which way a number was
+/// read.
 #[inline(always)]
-#[tactic(auto, unfolding(crate::specs::Text::small_number_front))]
 fn any_number_front(text: &[u8]) -> Option<(u16, &[u8])>
     ensures { option_map (λ x. (x.0, x.1.now)) result ≡ small_number_front text.now }
 {
-    let (number, rest) = number_front(text)?;
-    if number < TOO_LARGE {
-        Some((number as u16, rest))
-    } else {
-        None
+    let [first, after @ ..] = text else {
+        return None;
+    };
+    if !first.is_ascii_digit() {
+        return None;
     }
+    let mut number = u32::from(*first - b'0');
+    let mut rest = after;
+    while let [digit, after @ ..] = rest {
+        if !digit.is_ascii_digit() {
+            return Some((number as u16, rest));
+        }
+        number = 10 * number + u32::from(*digit - b'0');
+        if number >= TOO_LARGE {
+            return None;
+        }
+        rest = after;
+    }
+    Some((number as u16, rest))
 }

@@ -9,7 +9,7 @@ done
 # Each refusal of the program has a section in docs/REFUSALS.md, with an example that ends in that refusal, and nothing
 # else has.
 enter refusals
-sed -n 's/.*codes "\([a-z]*\)"[^"0-9]*\([0-9][0-9]*\)[^"0-9]*codes "\([A-Z][A-Za-z]*\)".*/\1 \2 \3/p' "$root"/crates/*/specs/Told.antt |
+sed -n 's/.*codes "\([a-z]*\)"[^"0-9]*\([0-9][0-9]*\)[^"0-9]*codes "\([A-Z][A-Za-z]*\)".*/\1 \2 \3/p' "$root"/crates/*/specs/RefusalWords.antt |
     sed 's/^check 6 Conflict$//' | { cat; printf 'check 6 Conflict %s\n' Vertex Swapping Cycle; printf 'memory\nfile\n'; } | grep . | sort -u > "$work/want.out"
 : > "$work/want.err"
 
@@ -20,7 +20,7 @@ s/^\([a-z]* [0-9]* [A-Za-z]*\).*/\1/; s/^file .*/file/'
 sed -n 's/^### `\(.*\)`$/\1/p' "$root/docs/REFUSALS.md" | sed "$plain" | sort > "$work/out"
 : > "$work/err"
 status=0
-judge 'docs/REFUSALS.md has a section for each refusal, and no other' 'sections of docs/REFUSALS.md against crates/*/specs/Told.antt' 0
+judge 'docs/REFUSALS.md has a section for each refusal, and no other' 'sections of docs/REFUSALS.md against crates/*/specs/RefusalWords.antt' 0
 
 cat "$work"/REFUSALS/*.err | sed "$plain" | sort -u > "$work/out"
 grep -v '^run 2 Source$\|^dispatch 6 ReportLimit$' "$work/want.out" > "$work/want" && mv "$work/want" "$work/want.out"
@@ -44,7 +44,7 @@ status=0
 judge 'docs/DEFINITIONS.md is current: make definitions' 'docs/DEFINITIONS.md against the comments in crates/*/specs' 0
 
 # The clauses that docs/PROVED.md quotes stand in the source, and the definitions of its table have so many lines.
-awk '/^```$/ { on = 0 } on; /^```rust$/ { on = 1 }' "$root/docs/PROVED.md" | sort -u > "$work/want.out"
+awk '/^```$/ { on = 0 } on; /^```rust$/ { on = 1 }' "$root/docs/PROVED.md" | sed 's/^ *//' | sort -u > "$work/want.out"
 sed 's/^ *//' "$root"/crates/*/src/*.rt | grep -Fxf "$work/want.out" | sort -u > "$work/out"
 : > "$work/err"
 : > "$work/want.err"

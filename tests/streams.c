@@ -1,7 +1,7 @@
-// Lets the standard streams of a program fail. With LD_PRELOAD naming this library, standard output takes as many bytes
-// as the variable ROOM says, one at a time, and standard input gives as many as REST says. Then each answers the error
-// whose number is in WAY, or, if that is 0, takes or gives nothing. The file named by WRITES, if any, gets how often
-// standard error was written to.
+// Lets the streams and the files of a program fail. With LD_PRELOAD naming this library, standard output takes as many
+// bytes as the variable ROOM says, one at a time, and standard input gives as many as REST says; the files that the
+// program opens take TAKES bytes and give GIVES, all together. Then each answers the error whose number is in WAY, or,
+// if that is 0, takes or gives nothing. The file named by WRITES, if any, gets how often standard error was written to.
 #define _GNU_SOURCE
 #include <dlfcn.h>
 #include <errno.h>
@@ -10,7 +10,9 @@
 #include <stdlib.h>
 #include <unistd.h>
 
-static long written, given, told;
+// How many bytes standard output took and standard input gave, how many the other files took and gave, and how often
+// standard error was written to.
+static long written, given, stored, fetched, told;
 
 // How many bytes of so many the stream takes or gives: one, if there are fewer so far than the variable says, and else
 // none.
@@ -37,14 +39,16 @@ ssize_t write(int file, const void *bytes, size_t count)
         next = (ssize_t (*)(int, const void *, size_t))dlsym(RTLD_NEXT, "write");
     if (file == 2)
         told++;
-    if (file == 1 && part("ROOM", written, count) < count) {
-        if (part("ROOM", written, count) == 0)
+    const char *limit = file == 1 ? "ROOM" : file > 2 ? "TAKES" : "";
+    long *so_far = file == 1 ? &written : &stored;
+    if (part(limit, *so_far, count) < count) {
+        if (part(limit, *so_far, count) == 0)
             return failure();
         count = 1;
     }
     ssize_t taken = next(file, bytes, count);
-    if (file == 1 && taken > 0)
-        written += taken;
+    if (*limit && taken > 0)
+        *so_far += taken;
     return taken;
 }
 
@@ -53,14 +57,16 @@ ssize_t read(int file, void *bytes, size_t count)
     static ssize_t (*next)(int, void *, size_t);
     if (!next)
         next = (ssize_t (*)(int, void *, size_t))dlsym(RTLD_NEXT, "read");
-    if (file == 0 && part("REST", given, count) < count) {
-        if (part("REST", given, count) == 0)
+    const char *limit = file == 0 ? "REST" : file > 2 ? "GIVES" : "";
+    long *so_far = file == 0 ? &given : &fetched;
+    if (part(limit, *so_far, count) < count) {
+        if (part(limit, *so_far, count) == 0)
             return failure();
         count = 1;
     }
     ssize_t got = next(file, bytes, count);
-    if (file == 0 && got > 0)
-        given += got;
+    if (*limit && got > 0)
+        *so_far += got;
     return got;
 }
 

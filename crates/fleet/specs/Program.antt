@@ -12,7 +12,7 @@ use Rattle.std.specs.declared.vec.IntoIter.{IntoIter}
 use Rattle.fleet_text.specs.Sink.{Receives}
 use Rattle.fleet_files.specs.Files.{Store, AreUnchanged}
 use Rattle.fleet_text.specs.Sink.{SinkState, IsUnwritten}
-use Rattle.fleet_io.specs.Output.{IsRefusalTold}
+use Rattle.fleet_io.specs.Output.{IsRefusalWritten}
 use Rattle.fleet_cli.specs.Command.{RunsCommand}
 use Rattle.fleet_dispatch.specs.Talk.{Talk}
 use Rattle.fleet_io.specs.declared.fault.Fault.TheVariants as f
@@ -30,7 +30,7 @@ AreWordsOf (Err error) (Err told) = told ≡ error
 
 -- it was reported why the words cannot be had: memory ran out, or else a word is no text, which is wrong usage
 pub record TellsNoWords (kind : ErrorKind) (err err' : SinkState) (status : ℕ) : Type 0 where
-  pub memory : kind ≡ OutOfMemory → (status ≡ 3) × IsRefusalTold f.Memory err err'
+  pub memory : kind ≡ OutOfMemory → (status ≡ 3) × IsRefusalWritten f.Memory err err'
   pub usage : kind ≢ OutOfMemory → (status ≡ 2) × Receives err err' no_text_line
 
 -- the command that the words after the first ask for was done; or there was no memory for the words, or they cannot be had, and then that alone

@@ -29,7 +29,7 @@ fn words_of(alloc: Global, args: io::Result<Args>) -> io::Result<Vec<String>>
 }
 
 /// Writes why the words cannot be had, and answers the status: a word that is no text is wrong usage.
-fn tell_no_words<E: TraceOut>(error: &io::Error, err: &mut E) -> u8
+fn report_no_words<E: TraceOut>(error: &io::Error, err: &mut E) -> u8
     requires { IsWorking (E.state err.old) }
     ensures { TellsNoWords (error_kind error.now)
         (E.state err.old) (E.state err.new)
@@ -62,7 +62,7 @@ fn run_args<R: Read + Floor, F: Files, O: Flush, E: TraceOut>(
 {
     match words_of(alloc, args) {
         Ok(words) => run_command(alloc, words.as_slice(), input, files, out, err),
-        Err(error) => tell_no_words(&error, err),
+        Err(error) => report_no_words(&error, err),
     }
 }
 

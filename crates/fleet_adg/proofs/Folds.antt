@@ -14,7 +14,7 @@ use Rattle.fleet_model.specs.Program.{origin}
 use Rattle.fleet_model.specs.declared.deps.Deps.{Deps}
 use Rattle.fleet_plan.specs.Plan.{Plan, cell_at, cell_of}
 use Rattle.fleet_adg.specs.Compiled.{changes_in, leaves, await_of, last_below, leaver, last_leaving_by, last_leaving, leavings, action_in}
-use Rattle.fleet_adg.specs.Leavings.{with_leaving, noted}
+use Rattle.fleet_adg.specs.Leavings.{with_leaving, leavings_after}
 use Rattle.fleet_adg.specs.Sweep.{under_way, actions_by, all_actions_by}
 use Rattle.fleet_plan.specs.UnderWay.{is_under_way}
 use Rattle.fleet_adg.proofs.Basics.{range_push, last_below-zero, last_below-here, last_below-before}
@@ -58,15 +58,15 @@ leaves-still plan q x j h = false_from_ne_true (leaves plan q x j) (λ l. packag
 
 -- those of cell q, after what agent j does in step x
 unfoldable pub note_by : Plan → Deps → Cell → ℕ → List Await → ℕ → List Await
-note_by plan deps q x ws j = cond (leaves plan q x j) (noted deps ws (await_of plan x j)) ws
+note_by plan deps q x ws j = cond (leaves plan q x j) (leavings_after deps ws (await_of plan x j)) ws
 
-pub note_by-leaves : (plan : Plan) (deps : Deps) (q : Cell) (x : ℕ) (ws : List Await) (j : ℕ) → leaves plan q x j ≡ true → note_by plan deps q x ws j ≡ noted deps ws (await_of plan x j)
+pub note_by-leaves : (plan : Plan) (deps : Deps) (q : Cell) (x : ℕ) (ws : List Await) (j : ℕ) → leaves plan q x j ≡ true → note_by plan deps q x ws j ≡ leavings_after deps ws (await_of plan x j)
 unfolding note_by
-note_by-leaves plan deps q x ws j h = ap (λ b. cond b (noted deps ws (await_of plan x j)) ws) h
+note_by-leaves plan deps q x ws j h = ap (λ b. cond b (leavings_after deps ws (await_of plan x j)) ws) h
 
 pub note_by-stays : (plan : Plan) (deps : Deps) (q : Cell) (x : ℕ) (ws : List Await) (j : ℕ) → leaves plan q x j ≡ false → note_by plan deps q x ws j ≡ ws
 unfolding note_by
-note_by-stays plan deps q x ws j h = ap (λ b. cond b (noted deps ws (await_of plan x j)) ws) h
+note_by-stays plan deps q x ws j h = ap (λ b. cond b (leavings_after deps ws (await_of plan x j)) ws) h
 
 -- under `Last`, after the agents below m
 last_at : Plan → Cell → ℕ → ℕ → List Await

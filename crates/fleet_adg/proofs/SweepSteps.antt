@@ -21,7 +21,7 @@ use Rattle.fleet_adg.specs.declared.leavings.Leavings.{Leavings}
 use Rattle.fleet_grid.specs.Ground.{Ground, IsGround, is_passable, cell_index}
 use Rattle.fleet_plan.specs.Plan.{Plan, cell_of, steps, IsConflictFree}
 use Rattle.fleet_adg.specs.Compiled.{direction, last_below, entry_awaits, changes_in, changes, moves_by, leaves, await_of, last_leaving_by, last_leaving, leavings, action_in, agent_program, compiled, with_stays, compiled_staying, has_few_actions, compiled_staying_if_few}
-use Rattle.fleet_adg.specs.Leavings.{row_of, kind_of, noted, AreRowsApart, AreLeavingsAt}
+use Rattle.fleet_adg.specs.Leavings.{row_of, kind_of, leavings_after, AreRowsApart, AreLeavingsAt}
 use Rattle.fleet_adg.specs.Sweep.{under_way, actions_by, all_actions_by, agent_from, IsOnMap}
 use Rattle.fleet_plan.specs.UnderWay.{is_under_way}
 use Rattle.fleet_adg.proofs.Basics.{range_push}
@@ -127,7 +127,7 @@ pub one_leaves : (g : Ground) (plan : Plan) (deps : Deps) (x : ℕ) (agents : Li
     → ((c d : Cell) → c.x < g.width → d.x < g.width → cell_index g c ≡ cell_index g d → c ≡ d)
     → p.x < g.width → p ≡ cell_of plan i x → w ≡ await_of plan x i
     → k < length agents → i ≡ get_or agents k i → changes_in plan i x ≡ true
-    → kind_of m ≡ kind_of l → row_of m (cell_index g p) ≡ noted (kind_of l) (row_of l (cell_index g p)) w → ((k : ℕ) → k ≢ cell_index g p → row_of m k ≡ row_of l k) → AreRowsApart m
+    → kind_of m ≡ kind_of l → row_of m (cell_index g p) ≡ leavings_after (kind_of l) (row_of l (cell_index g p)) w → ((k : ℕ) → k ≢ cell_index g p → row_of m k ≡ row_of l k) → AreRowsApart m
     → IsNotedBelow g plan deps x (take k agents) l → IsNotedBelow g plan deps x (take (k + 1) agents) m
 one_leaves g plan deps x agents k i l m p w own column at is b e c kind there others rows_apart h =
     record {
@@ -143,8 +143,8 @@ one_leaves g plan deps x agents k i l m p w own column at is b e c kind there ot
                 let leaving : leaves plan q x i ≡ true = leaves-from plan q x i (sym at ∙ sym here) c in
                 ap (row_of m) same
                 ∙ there
-                ∙ (λ t. noted (h.kind t) (row_of l (cell_index g (sym here t))) (is t))
-                ∙ ap (λ ws. noted deps ws (await_of plan x i)) (h.rows q a r)
+                ∙ (λ t. leavings_after (h.kind t) (row_of l (cell_index g (sym here t))) (is t))
+                ∙ ap (λ ws. leavings_after deps ws (await_of plan x i)) (h.rows q a r)
                 ∙ sym (note_by-leaves plan deps q x before i leaving)
                 ∙ after
             | inr apart ↦

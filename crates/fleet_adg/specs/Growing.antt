@@ -2,7 +2,7 @@
 use Rattle.std.specs.Prelude.{◌≡◌, ℕ, ◌≤◌, List, ◌++◌, length, map, take, option_map, option_to_list}
 use Rattle.fleet_model.specs.declared.program.Action.{Action}
 use Rattle.fleet_adg.specs.declared.growing.Entry.{Entry}
-use Rattle.fleet_adg.specs.declared.growing.TheConstants.{MOST_RECENT}
+use Rattle.fleet_adg.specs.declared.growing.TheConstants.{MAX_RECENT}
 use Rattle.fleet_adg.specs.Leavings.{await_for}
 
 -- an action that awaits at most one leaving
@@ -15,5 +15,5 @@ with_recent actions recent count = actions ++ map recent_action (take count rece
 
 -- there is room for as many entries as are kept apart at most, and so many of them are
 pub record HasRoom (recent : List Entry) (count : ℕ) : Type 0 where
-  pub all : length recent ≡ MOST_RECENT
-  pub within : count ≤ MOST_RECENT
+  pub all : length recent ≡ MAX_RECENT
+  pub within : count ≤ MAX_RECENT

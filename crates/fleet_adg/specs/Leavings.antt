@@ -44,9 +44,9 @@ with_leaving [] w = w ∷ []
 with_leaving (v ∷ vs) w = if nat_lt v.agent w.agent then v ∷ with_leaving vs w else if v.agent == w.agent then w ∷ vs else w ∷ v ∷ vs
 
 -- the leavings of a cell after one more
-abbrev pub noted : Deps → List Await → Await → List Await
-noted Deps.All ws w = with_leaving ws w
-noted Deps.Last ws w = w ∷ []
+abbrev pub leavings_after : Deps → List Await → Await → List Await
+leavings_after Deps.All ws w = with_leaving ws w
+leavings_after Deps.Last ws w = w ∷ []
 
 -- the table has for each cell of the map the leavings before time t of the plan that an action awaits
 pub record AreLeavingsAt (g : Ground) (plan : Plan) (deps : Deps) (t : ℕ) (l : Leavings) : Type 0 where

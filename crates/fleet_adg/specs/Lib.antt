@@ -2,5 +2,5 @@ pub mod Compiled
 pub mod Leavings
 pub mod Growing
 pub mod Sweep
-pub mod Told
+pub mod RefusalWords
 pub mod Thinned

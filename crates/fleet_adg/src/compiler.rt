@@ -27,11 +27,14 @@ use std::alloc::Global;
 /// It is refused as `TooLong` exactly if the agents make more than 4,194,304 moves together. The program is accepted
 /// for the plan's map and instance, and each of its actions is a move. With either `deps` it runs equally.
 pub fn compile(alloc: Global, checked: &Checked<'_>, deps: Deps) -> Result<Program, CompileFault>
-    ensures program { IsDueUnless (λ p. p) result (compiled_if_few checked.now.plan deps) CompileFault.OutOfMemory }
-    ensures accepted { IfOk result (IsAccepted (is_passable checked.now.grid) checked.now.instance) }
+    ensures program { IsDueUnless (λ p. p) result
+        (compiled_if_few checked.now.plan deps) CompileFault.OutOfMemory }
+    ensures accepted { IfOk result (IsAccepted
+        (is_passable checked.now.grid) checked.now.instance) }
     ensures moves { IfOk result NeverStays }
     // The programs of one plan run equally, whichever leavings they await.
-    ensures equally { IfOk result (λ p. (other : Deps) → RunEqually p (compiled checked.now.plan other)) }
+    ensures equally { IfOk result (λ p. (other : Deps)
+        → RunEqually p (compiled checked.now.plan other)) }
 {
     // The plan that is read shows that it is within the limits, so no agent makes too many moves.
     let _plan = checked.plan();
@@ -51,9 +54,11 @@ pub fn compile_dwell(
 ) -> Result<Program, CompileFault>
     ensures program { IsDueUnless (λ p. p) result
         (compiled_staying_if_few checked.now.plan deps dwell) CompileFault.OutOfMemory }
-    ensures accepted { IfOk result (IsAccepted (is_passable checked.now.grid) checked.now.instance) }
+    ensures accepted { IfOk result (IsAccepted
+        (is_passable checked.now.grid) checked.now.instance) }
     // The programs of one plan run equally, whichever leavings they await.
-    ensures equally { IfOk result (λ p. (other : Deps) → RunEqually p (compiled_staying checked.now.plan other dwell)) }
+    ensures equally { IfOk result (λ p. (other : Deps)
+        → RunEqually p (compiled_staying checked.now.plan other dwell)) }
 {
     let plan = checked.plan();
     if !has_few_actions(plan, dwell) {
@@ -112,7 +117,8 @@ fn agent_programs(
 ) -> Result<Vec<AgentProgram>, OutOfMemory>
     requires { length actions.items ≡ length plan.now }
     ensures { IfOk result (λ agents. agents.items
-        ≡ map (with_stays stays) (map (agent_from plan.now actions.items) (indices (length plan.now)))) }
+        ≡ map (with_stays stays) (map (agent_from plan.now actions.items)
+        (indices (length plan.now)))) }
 {
     let mut agents = Vec::with_capacity(alloc, actions.len())?;
     let end = plan.steps();

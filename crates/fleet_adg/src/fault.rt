@@ -26,7 +26,7 @@ impl From<OutOfMemory> for CompileFault {
 }
 
 impl Refusal for CompileFault {
-    ghost use Rattle.fleet_adg.specs.Told.{compile_words, is_compile_failure};
+    ghost use Rattle.fleet_adg.specs.RefusalWords.{compile_words, is_compile_failure};
 
     ghost words = { compile_words };
 

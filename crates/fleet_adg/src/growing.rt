@@ -2,7 +2,7 @@
 
 ghost use Rattle.std.specs.Prelude.{◌≡◌, ◌≤◌, ◌<◌, ◌++◌, [], ◌∷◌, length, map, OnOk, IfOk};
 ghost use Rattle.fleet_model.specs.declared.limits.TheConstants.{MAX_HORIZON};
-ghost use Rattle.fleet_adg.specs.declared.growing.TheConstants.{MOST_RECENT};
+ghost use Rattle.fleet_adg.specs.declared.growing.TheConstants.{MAX_RECENT};
 ghost use Rattle.fleet_adg.specs.Growing.{recent_action, with_recent};
 
 use crate::leavings::Leaving;
@@ -30,7 +30,7 @@ impl Entry {
 }
 
 /// How many actions are kept apart at most.
-const MOST_RECENT: usize = 32;
+const MAX_RECENT: usize = 32;
 
 /// The actions of an agent so far. A step of the sweep adds one to each of many agents, whose rows lie far apart, so
 /// the last few are kept here, close to those of the next agent, and go to the rows together.
@@ -38,7 +38,7 @@ const MOST_RECENT: usize = 32;
 pub(crate) struct Growing {
     actions: Actions,
     /// The first `count` of these are the last actions.
-    recent: [Entry; MOST_RECENT],
+    recent: [Entry; MAX_RECENT],
     count: usize,
 }
 
@@ -67,7 +67,7 @@ impl Growing {
         };
         Ok(Growing {
             actions,
-            recent: [none; MOST_RECENT],
+            recent: [none; MAX_RECENT],
             count: 0,
         })
     }
@@ -126,12 +126,13 @@ fn place_for_one(
     recent: &[Entry],
     count: usize,
 ) -> Result<usize, OutOfMemory>
-    requires all { length recent.now ≡ MOST_RECENT }
-    requires within { count ≤ MOST_RECENT }
-    ensures room { IfOk result (λ place. place < MOST_RECENT) }
-    ensures same { IfOk result (λ place. with_recent actions.new recent.now place ≡ with_recent actions.old recent.now count) }
+    requires all { length recent.now ≡ MAX_RECENT }
+    requires within { count ≤ MAX_RECENT }
+    ensures room { IfOk result (λ place. place < MAX_RECENT) }
+    ensures same { IfOk result (λ place. with_recent actions.new recent.now place
+        ≡ with_recent actions.old recent.now count) }
 {
-    if count < MOST_RECENT {
+    if count < MAX_RECENT {
         return Ok(count);
     }
     add_all(actions, recent)?;

@@ -1,7 +1,7 @@
 //! The leavings of the cells of a map so far.
 
 ghost use Rattle.std.specs.Prelude.{◌≡◌, ◌≢◌, ℕ, [], ◌∷◌, ◌++◌, OnOk, IfOk, not, ◌==◌, filter, option_map, option_to_list};
-ghost use Rattle.fleet_adg.specs.Leavings.{await_for, row_of, kind_of, noted, AreRowsApart};
+ghost use Rattle.fleet_adg.specs.Leavings.{await_for, row_of, kind_of, leavings_after, AreRowsApart};
 
 use crate::growing::{Entry, Growing};
 use crate::row_table::RowTable;
@@ -56,7 +56,8 @@ impl Leavings {
     pub(crate) fn note(&mut self, place: usize, leaving: Leaving) -> Result<(), AllocError>
         requires { AreRowsApart self.old }
         ensures kind { OnOk result (kind_of self.new ≡ kind_of self.old) }
-        ensures here { OnOk result (row_of self.new place ≡ noted (kind_of self.old) (row_of self.old place) (await_for leaving)) }
+        ensures here { OnOk result (row_of self.new place
+            ≡ leavings_after (kind_of self.old) (row_of self.old place) (await_for leaving)) }
         ensures others { OnOk result ((k : ℕ) → k ≢ place → row_of self.new k ≡ row_of self.old k) }
         ensures apart { OnOk result (AreRowsApart self.new) }
     {
@@ -78,7 +79,10 @@ impl Leavings {
     ) -> Result<(), OutOfMemory>
         requires { AreRowsApart self.now }
         ensures { OnOk result (actions.new ≡ actions.old
-            ++ record { step = step; awaits = filter (λ w. not (w.agent == own)) (row_of self.now place) } ∷ []) }
+            ++ record {
+              step = step;
+              awaits = filter (λ w. not (w.agent == own)) (row_of self.now place);
+            } ∷ []) }
     {
         match self {
             Leavings::All(rows) => {

@@ -46,7 +46,8 @@ impl RowTable {
     /// Notes a leaving in the row of the place.
     pub(crate) fn note(&mut self, place: usize, leaving: Await) -> Result<(), AllocError>
         requires { HasRowsApart self.old }
-        ensures here { OnOk result (row_in self.new place ≡ with_leaving (row_in self.old place) leaving) }
+        ensures here { OnOk result (row_in self.new place
+            ≡ with_leaving (row_in self.old place) leaving) }
         ensures others { OnOk result ((k : ℕ) → k ≢ place → row_in self.new k ≡ row_in self.old k) }
         ensures apart { OnOk result (HasRowsApart self.new) }
     {

@@ -29,7 +29,8 @@ pub(crate) fn actions_of(
     checked: &Checked<'_>,
     deps: Deps,
 ) -> Result<Vec<Growing>, OutOfMemory>
-    ensures { IfOk result (λ actions. actions.items ≡ all_actions_by checked.now.plan deps (steps checked.now.plan)) }
+    ensures { IfOk result (λ actions. actions.items
+        ≡ all_actions_by checked.now.plan deps (steps checked.now.plan)) }
 {
     let plan = checked.plan();
     let grid = checked.grid();
@@ -51,7 +52,8 @@ fn sweep(
     requires on_map { IsOnMap grid.now plan.now }
     requires leavings { AreLeavingsAt grid.now plan.now (kind_of leavings.old) 0 leavings.old }
     requires actions { actions.old ≡ all_actions_by plan.now (kind_of leavings.old) 0 }
-    ensures { OnOk result (actions.new ≡ all_actions_by plan.now (kind_of leavings.old) (steps plan.now)) }
+    ensures { OnOk result (actions.new
+        ≡ all_actions_by plan.now (kind_of leavings.old) (steps plan.now)) }
 {
     let mut agents = agents_of(alloc, plan.agents())?;
     let mut moves = Vec::with_capacity(alloc, agents.len())?;
@@ -78,8 +80,10 @@ fn make_moves(
     requires moves { moves.now ≡ moves_in plan.now time }
     requires leavings { AreLeavingsAt grid.now plan.now (kind_of leavings.old) time leavings.old }
     requires actions { actions.old ≡ all_actions_by plan.now (kind_of leavings.old) time }
-    ensures leavings { OnOk result (AreLeavingsAt grid.now plan.now (kind_of leavings.old) (time + 1) leavings.new) }
-    ensures actions { OnOk result (actions.new ≡ all_actions_by plan.now (kind_of leavings.old) (time + 1)) }
+    ensures leavings { OnOk result (AreLeavingsAt grid.now plan.now (kind_of leavings.old)
+        (time + 1) leavings.new) }
+    ensures actions { OnOk result (actions.new
+        ≡ all_actions_by plan.now (kind_of leavings.old) (time + 1)) }
 {
     note_leavings(plan, grid, time, moves, actions, leavings)?;
     add_actions(alloc, plan, grid, time, moves, leavings, actions)
@@ -136,7 +140,8 @@ fn move_in(plan: &Plan, i: u16, time: u32) -> Option<(Cell, Cell)>
     requires agent { i < length plan.now }
     requires time { time ≤ MAX_HORIZON }
     ensures moves { is_some result ≡ changes_in plan.now i time }
-    ensures cells { IfSome result (λ cells. (cells.0 ≡ cell_of plan.now i time) × (cells.1 ≡ cell_of plan.now i (time + 1))) }
+    ensures cells { IfSome result (λ cells. (cells.0 ≡ cell_of plan.now i time)
+        × (cells.1 ≡ cell_of plan.now i (time + 1))) }
 {
     let from = plan.cell(i, time);
     let to = plan.cell(i, time + 1);
@@ -188,7 +193,8 @@ fn note_leavings(
     requires moves { moves.now ≡ moves_in plan.now time }
     requires actions { actions.now ≡ all_actions_by plan.now (kind_of leavings.old) time }
     requires leavings { AreLeavingsAt grid.now plan.now (kind_of leavings.old) time leavings.old }
-    ensures { OnOk result (AreLeavingsAt grid.now plan.now (kind_of leavings.old) (time + 1) leavings.new) }
+    ensures { OnOk result (AreLeavingsAt grid.now plan.now (kind_of leavings.old)
+        (time + 1) leavings.new) }
 {
     // Two cells have two places in the table.
     cells_have_places_of_their_own();
@@ -213,9 +219,11 @@ fn add_actions(
     requires on_map { IsOnMap grid.now plan.now }
     requires time { time ≤ MAX_HORIZON }
     requires moves { moves.now ≡ moves_in plan.now time }
-    requires leavings { AreLeavingsAt grid.now plan.now (kind_of leavings.now) (time + 1) leavings.now }
+    requires leavings { AreLeavingsAt grid.now plan.now (kind_of leavings.now)
+        (time + 1) leavings.now }
     requires actions { actions.old ≡ all_actions_by plan.now (kind_of leavings.now) time }
-    ensures { OnOk result (actions.new ≡ all_actions_by plan.now (kind_of leavings.now) (time + 1)) }
+    ensures { OnOk result (actions.new
+        ≡ all_actions_by plan.now (kind_of leavings.now) (time + 1)) }
 {
     for one in moves {
         let agent = one.agent;

@@ -25,7 +25,8 @@ use std::alloc::Global;
 /// under every list of holds; none of its awaits is implied.
 pub fn thin<P: ProgramView>(alloc: Global, accepted: &Accepted<'_, P>) -> Result<Program, ThinFault>
     ensures thinned { IfOk result (IsThinned (P.program accepted.now.program)) }
-    ensures accepted { IfOk result (IsAccepted (is_passable accepted.now.grid) accepted.now.instance) }
+    ensures accepted { IfOk result (IsAccepted
+        (is_passable accepted.now.grid) accepted.now.instance) }
     ensures chain { IfOk result (λ q. IsLongestChain q accepted.now.chain) }
     ensures equally { IfOk result (RunEqually (P.program accepted.now.program)) }
     // Thinning it again drops nothing.
@@ -46,7 +47,8 @@ fn thinned_agents<P: ProgramView>(
     implied: &ImpliedAwaits,
 ) -> Result<Vec<AgentProgram>, OutOfMemory>
     requires { AreImplied (P.program program.now) implied.now }
-    ensures { IfOk result (λ v. AreThinnedAgents (P.program program.now) (length (P.program program.now)) v.items) }
+    ensures { IfOk result (λ v. AreThinnedAgents (P.program program.now)
+        (length (P.program program.now)) v.items) }
 {
     let count = program.agents();
     let mut agents = Vec::with_capacity(alloc, usize::from(count))?;
@@ -80,7 +82,8 @@ fn thinned_actions<P: ProgramView>(
 ) -> Result<Actions, OutOfMemory>
     requires implied { AreImplied (P.program program.now) implied.now }
     requires agent { i < length (P.program program.now) }
-    ensures { IfOk result (AreThinnedActions (P.program program.now) i (moves (P.program program.now) i)) }
+    ensures { IfOk result (AreThinnedActions (P.program program.now) i
+        (moves (P.program program.now) i)) }
 {
     let count = program.moves(i);
     let mut actions = Actions::new(alloc);
@@ -112,7 +115,7 @@ fn unimplied_awaits<P: ProgramView>(
     let _ = program.agents();
     let mut awaits = Awaits::new(alloc);
     for k in 0..program.await_count(action.agent, action.number) {
-        if let Some(one) = implied.unimplied(program, action, k) {
+        if let Some(one) = implied.await_unless_implied(program, action, k) {
             awaits.push(one)?;
         }
     }

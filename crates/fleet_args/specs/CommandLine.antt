@@ -27,17 +27,17 @@ abbrev pub with_shapes : App → List Shape → App
 with_shapes = fold with_subcommand
 
 -- the commands that make plans and programs
-abbrev pub making : DepsNames → List Shape
-making names = instance_shape ∷ check_shape ∷ plan_shape ∷ compile_shape names ∷ []
+abbrev pub planning_shapes : DepsNames → List Shape
+planning_shapes names = instance_shape ∷ check_shape ∷ plan_shape ∷ compile_shape names ∷ []
 
 -- those that verify programs and run them
-abbrev pub running : DepsNames → List Shape
-running names = verify_shape ∷ run_shape ∷ rehearse_shape ∷ auto_shape names ∷ []
+abbrev pub running_shapes : DepsNames → List Shape
+running_shapes names = verify_shape ∷ run_shape ∷ rehearse_shape ∷ auto_shape names ∷ []
 
 -- and the others
-abbrev pub others : List Shape
-others = thin_shape ∷ migrate_shape ∷ list_shape ∷ dispatch_shape ∷ []
+abbrev pub other_shapes : List Shape
+other_shapes = thin_shape ∷ migrate_shape ∷ list_shape ∷ dispatch_shape ∷ []
 
 -- the whole command line
 abbrev pub fleet : DepsNames → App
-fleet names = with_shapes fleet_top (making names ++ running names ++ others)
+fleet names = with_shapes fleet_top (planning_shapes names ++ running_shapes names ++ other_shapes)

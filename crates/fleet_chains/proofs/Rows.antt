@@ -1,18 +1,8 @@
 -- Rows of counts.
-use Rattle.std.proofs.Common.{◌≡◌, ℕ, List, [], ◌++◌, length, map, get_or, replicate, slice_index, subst, arith, inl, inr}
+use Rattle.std.proofs.Common.{◌≡◌, ℕ, List, [], ◌++◌, length, map, get_or, subst}
 use Rattle.std.specs.Prelude.{take, drop, All}
 use Rattle.std.specs.List.Sorted.{IsStrictlyIncreasing}
-use Rattle.std.proofs.lemmas.Bool.{cases_lt}
-use Rattle.std.proofs.lemmas.List.{take_at, get_or-map, get_or-replicate, get_or_past, length-replicate}
-
-pub none_at : (n k : ℕ) → slice_index (replicate n 0) k ≡ 0
-none_at n k = elim (cases_lt k n) [
-  | inl l ↦ get_or-replicate n k 0 0 l
-  | inr l ↦ get_or_past (replicate n nothing) k 0 (omega (arith, length-replicate n nothing))
-]
-  where
-    nothing : ℕ
-    nothing = 0
+use Rattle.std.proofs.lemmas.List.{take_at, get_or-map}
 
 -- what a call wrote through a slice of a whole vector
 pub written_back : {X : Type 0} (n : ℕ) (new old : List X) → length new ≡ n → take n (new ++ drop (length new) old) ≡ new

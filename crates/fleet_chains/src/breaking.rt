@@ -30,7 +30,8 @@ pub fn breaking_holds<P: ProgramView>(
     requires numbering { (number : ActionId → ℕ) × IsNumbering (P.program program.now) number }
     requires unordered { (q : Place) × AreUnordered (P.program program.now) q first second }
     ensures holds { IfOk result (λ holds.
-        AreBreakingHolds (P.program program.now) first second (map (λ row. row.items) holds.items)) }
+        AreBreakingHolds (P.program program.now) first second
+        (map (λ row. row.items) holds.items)) }
     ensures rising { IfOk result (λ holds.
         All (λ row. IsStrictlyIncreasing row.items) holds.items) }
     ensures meet { IfOk result (λ holds.
@@ -191,7 +192,8 @@ fn have_arrived(counts: &[u32], v: Visit, w: Visit) -> bool
     requires v { v.agent < length counts.now }
     requires w { w.agent < length counts.now }
     ensures { IsTrue result
-        ↔ ((v.position ≤ slice_index counts.now v.agent) × (w.position ≤ slice_index counts.now w.agent)) }
+        ↔ ((v.position ≤ slice_index counts.now v.agent)
+        × (w.position ≤ slice_index counts.now w.agent)) }
 {
     v.position <= counts[v.agent as usize] && w.position <= counts[w.agent as usize]
 }

@@ -11,7 +11,7 @@ use Rattle.fleet_verify.specs.Parts.{IsAcceptedFor}
 use Rattle.fleet_verify.specs.declared.fault.VerifyFault.{VerifyFault}
 use Rattle.fleet_auto.specs.Texts.{AreTextsOf}
 use Rattle.fleet_auto.specs.Accepting.{Accepts}
-use Rattle.fleet_cli.specs.VerifyCommand.{TellsRefused, RefusesProgram, IsVerifyFault}
+use Rattle.fleet_cli.specs.VerifyCommand.{ReportsRefused, RefusesProgram, IsVerifyFault}
 use Rattle.fleet_io.specs.declared.fault.Fault.{Fault}
 use Rattle.fleet_io.specs.declared.fault.Fault.TheVariants as f
 
@@ -24,11 +24,11 @@ returned_accepts bytes g tasks p made chain spelled same accepted = record {
 
 module _ (map scen : List ℕ) (asked : Option ℕ) (bytes : List ℕ) (out out' : SinkState) (g : Ground) (tasks : List Task) (p : Program) (fault : VerifyFault)
     (texts : AreTextsOf map scen asked g tasks) (spelled : Spells bytes p) (refused : IsFault (is_passable g) tasks p fault) (broken : IsBrokenBy p fault) where
-  refuses : (told : Fault) → TellsRefused p fault out out' told → RefusesProgram map scen asked bytes out out' told
+  refuses : (told : Fault) → ReportsRefused p fault out out' told → RefusesProgram map scen asked bytes out out' told
   refuses told h = record { ground = g; tasks = tasks; texts = texts; program = p; spelled = spelled; fault = fault; refused = refused; broken = broken; tells = h }
 
   -- however a refused program is reported, it is a refusal of the command
-  pub told_refused : (told : Fault) → TellsRefused p fault out out' told → IsVerifyFault map scen asked bytes out out' told
+  pub told_refused : (told : Fault) → ReportsRefused p fault out out' told → IsVerifyFault map scen asked bytes out out' told
   told_refused f.Memory h = (tt, h)
   told_refused (f.Verify e) h = refuses (f.Verify e) h
   told_refused (f.File name) h = inl (refuses (f.File name) h)

@@ -10,7 +10,7 @@ use Rattle.fleet_args.specs.declared.request.WordStop.TheVariants as w
 use Rattle.fleet_files.specs.Files.{Store, AreUnchanged}
 use Rattle.fleet_text.specs.Sink.{Receives, FailsAfter, SinkState, IsUnwritten, IsDelivered}
 use Rattle.fleet_text.specs.Words.{line_text}
-use Rattle.fleet_io.specs.Output.{IsRefusalTold, Outcome}
+use Rattle.fleet_io.specs.Output.{IsRefusalWritten, Outcome}
 use Rattle.fleet_cli.specs.HexRun.{RunsHex}
 use Rattle.fleet_cli.specs.RehearseCommand.{DoesRehearse, RefusesRehearse}
 use Rattle.fleet_cli.specs.InstanceCommand.{DoesInstance, RefusesInstance}
@@ -66,7 +66,7 @@ RunsRequest files after talks request out out' err err' status =
 
 -- it was reported why the words are no request: by help on the output, by usage on the other
 abbrev pub StopsAtWords : WordStop → (out out' err err' : SinkState) → ℕ → Type 0
-StopsAtWords w.OutOfMemory out out' err err' status = (status ≡ 3) × IsRefusalTold f.Memory err err' × IsUnwritten out out'
+StopsAtWords w.OutOfMemory out out' err err' status = (status ≡ 3) × IsRefusalWritten f.Memory err err' × IsUnwritten out out'
 StopsAtWords (w.Usage text) out out' err err' status = (status ≡ 2) × Receives err err' (string_bytes text) × IsUnwritten out out'
 StopsAtWords (w.Help text) out out' err err' status =
     ((status ≡ 0) × IsDelivered out out' (string_bytes text) × IsUnwritten err err')

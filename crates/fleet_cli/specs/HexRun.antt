@@ -6,7 +6,7 @@ use Rattle.fleet_code.specs.Spelling.{Spells}
 use Rattle.fleet_code.specs.LoadFaults.{IsFirstLoadFault}
 use Rattle.fleet_code.specs.Hex.{bytes_of}
 use Rattle.fleet_code.specs.declared.fault.HexFault.TheVariants as h
-use Rattle.fleet_files.specs.declared.input.TheConstants.{MOST_BYTES}
+use Rattle.fleet_files.specs.declared.input.TheConstants.{MAX_BYTES}
 use Rattle.fleet_io.specs.Flushed.{RehearsesFlushed}
 use Rattle.fleet_run.specs.Source.{list_source}
 use Rattle.fleet_text.specs.Sink.{SinkState, IsUnwritten}
@@ -18,7 +18,7 @@ use Rattle.fleet_io.specs.declared.fault.Fault.TheVariants as f
 -- the text is all that the input had, if the input says it, and is no longer than a text that is read
 pub record IsTextOf (input : Option (List ℕ)) (text : List ℕ) : Type 0 where
   pub whole : IfSome input (λ rest. text ≡ rest)
-  pub within : length text ≤ MOST_BYTES
+  pub within : length text ≤ MAX_BYTES
 
 -- the text stands, in hexadecimal, for the bytes that spell the program
 pub record StandsForProgram (text : List ℕ) (p : Program) : Type 0 where

@@ -41,15 +41,15 @@ pub record SpellsBreakingHolds (p : Program) (first second : Visit) (text : List
 
 -- how a refused program is reported. Of two visits of a cell that no chain orders the breaking holds were printed and handed on before,
 -- or the output failed; of every other refusal nothing was printed
-abbrev pub TellsRefused : Program → VerifyFault → (out out' : SinkState) → Fault → Type 0
-TellsRefused p fault out out' f.Memory = IsUnwritten out out'
-TellsRefused p fault out out' (f.Verify (v.Unordered cell first second)) =
+abbrev pub ReportsRefused : Program → VerifyFault → (out out' : SinkState) → Fault → Type 0
+ReportsRefused p fault out out' f.Memory = IsUnwritten out out'
+ReportsRefused p fault out out' (f.Verify (v.Unordered cell first second)) =
     (fault ≡ v.Unordered cell first second) × (text : List ℕ) × SpellsBreakingHolds p first second text × IsDelivered out out' text
-TellsRefused p fault out out' (f.Verify told) = (fault ≡ told) × IsUnwritten out out'
-TellsRefused p fault out out' (f.File name) =
+ReportsRefused p fault out out' (f.Verify told) = (fault ≡ told) × IsUnwritten out out'
+ReportsRefused p fault out out' (f.File name) =
     (name.now ≡ codes "-") × (cell : Cell) × (first second : Visit) × (fault ≡ v.Unordered cell first second)
     × (text : List ℕ) × SpellsBreakingHolds p first second text × FailsAfter out out' text
-TellsRefused p fault out out' _ = ⊥
+ReportsRefused p fault out out' _ = ⊥
 
 -- the texts stand for a map and for tasks, and the program that the bytes spell is refused, which is reported by this refusal
 pub record RefusesProgram (map scen : List ℕ) (asked : Option ℕ) (bytes : List ℕ) (out out' : SinkState) (told : Fault) : Type 0 where
@@ -61,7 +61,7 @@ pub record RefusesProgram (map scen : List ℕ) (asked : Option ℕ) (bytes : Li
   pub fault : VerifyFault
   pub refused : IsFault (is_passable ground) tasks program fault
   pub broken : IsBrokenBy program fault
-  pub tells : TellsRefused program fault out out' told
+  pub tells : ReportsRefused program fault out out' told
 
 -- the first fault of the texts and the bytes, or the program is refused; or it is accepted, and the output failed
 abbrev pub IsVerifyFault : (map scen : List ℕ) → Option ℕ → List ℕ → (out out' : SinkState) → Fault → Type 0

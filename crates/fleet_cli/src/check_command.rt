@@ -5,7 +5,7 @@ ghost use Rattle.fleet_text.specs.Sink.{IsWorking, Delivers};
 ghost use Rattle.fleet_files.specs.Files.{AreUnchanged};
 ghost use Rattle.fleet_cli.specs.CheckCommand.{check_text, PrintsCheck, IsCheckFault, DoesCheck, RefusesCheck};
 
-use crate::output::{print_report, printed};
+use crate::output::{print_report, print_status};
 use crate::problem::read_problem;
 use fleet_args::CheckRequest;
 use fleet_io::{Fault, Files, read_three};
@@ -52,7 +52,7 @@ fn show_check<'a, O: Flush>(
         Ok(checked) => checked,
         Err(refusal) => return Err(Fault::Check(refusal.fault)),
     };
-    printed(print_check(out, checked.plan()))
+    print_status(print_check(out, checked.plan()))
 }
 
 /// The command `check`: reads the files whole, and prints to `out` that the plan is free of conflict, with its agents and its steps.

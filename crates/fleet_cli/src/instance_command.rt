@@ -5,7 +5,7 @@ ghost use Rattle.fleet_text.specs.Sink.{IsWorking, TakesAll, Delivers};
 ghost use Rattle.fleet_files.specs.Files.{AreUnchanged};
 ghost use Rattle.fleet_cli.specs.InstanceCommand.{task_line, task_lines, map_line, instance_text, PrintsInstance, IsInstanceFault, DoesInstance, RefusesInstance};
 
-use crate::output::printed;
+use crate::output::print_status;
 use crate::problem::read_problem;
 use fleet_args::InstanceRequest;
 use fleet_grid::Grid;
@@ -86,7 +86,7 @@ fn show_instance<'a, O: Flush>(
         (IsInstanceFault map.now scen.now asked (O.state out.old) (O.state out.new)) }
 {
     let problem = read_problem(alloc, map, scen, asked)?;
-    printed(print_instance(out, &problem.grid, &problem.instance))
+    print_status(print_instance(out, &problem.grid, &problem.instance))
 }
 
 /// The command `instance`: reads both files whole, and prints to `out` the sizes of the map, its passable cells, and the start and the

@@ -7,7 +7,7 @@ ghost use Rattle.fleet_auto.specs.Texts.{AreTextsOf};
 ghost use Rattle.fleet_cli.specs.Problem.{IsProblemRefusal};
 ghost use Rattle.fleet_cli.specs.PlanCommand.{PrintsPlan, IsPlanCommandFault, DoesPlan, RefusesPlan};
 
-use crate::output::printed;
+use crate::output::print_status;
 use crate::problem::read_problem;
 use fleet_args::PlanRequest;
 use fleet_auto::Problem;
@@ -61,7 +61,7 @@ fn plan_texts<'a, O: Flush>(
         Ok(text) => text,
         Err(OutOfMemory) => return Err(Fault::Memory),
     };
-    printed(deliver(out, &text))
+    print_status(deliver(out, &text))
 }
 
 /// The command `plan`: reads both files whole, and prints to `out` a plan in which each agent's path is the earliest against those of

@@ -5,9 +5,9 @@ ghost use Rattle.fleet_model.specs.declared.geometry.Place.{Place};
 ghost use Rattle.fleet_verify.specs.Broken.{MeetUnordered, IsBrokenBy};
 ghost use Rattle.fleet_text.specs.Sink.{IsWorking, Delivers};
 ghost use Rattle.fleet_files.specs.Files.{AreUnchanged};
-ghost use Rattle.fleet_cli.specs.VerifyCommand.{accepted_text, SpellsBreakingHolds, TellsRefused, PrintsAccepted, IsVerifyFault, DoesVerify, RefusesVerify};
+ghost use Rattle.fleet_cli.specs.VerifyCommand.{accepted_text, SpellsBreakingHolds, ReportsRefused, PrintsAccepted, IsVerifyFault, DoesVerify, RefusesVerify};
 
-use crate::output::{print_report, printed};
+use crate::output::{print_report, print_status};
 use crate::problem::{read_problem, view_program};
 use fleet_args::VerifyRequest;
 use fleet_auto::AcceptFault;
@@ -56,14 +56,14 @@ fn breaking_text<P: ProgramView>(
 }
 
 /// The refusal of a program. If it is of two visits of a cell that no chain orders, their breaking holds are printed.
-fn tell_refused<'a, P: ProgramView + Drop, O: Flush>(
+fn report_refused<'a, P: ProgramView + Drop, O: Flush>(
     alloc: Global,
     refused: Refused<P>,
     out: &mut O,
 ) -> Fault<'a>
     requires working { IsWorking (O.state out.old) }
     requires broken { IsBrokenBy (P.program refused.program) refused.fault }
-    ensures { TellsRefused (P.program refused.program) refused.fault
+    ensures { ReportsRefused (P.program refused.program) refused.fault
         (O.state out.old) (O.state out.new) result }
 {
     let Refused { fault, program } = refused;
@@ -99,9 +99,9 @@ fn verify_bytes<'a, O: Flush>(
     let program = view_program(alloc, bytes)?;
     let accepted = match verify(alloc, program, &problem.grid, &problem.instance) {
         Ok(accepted) => accepted,
-        Err(refused) => return Err(tell_refused(alloc, refused, out)),
+        Err(refused) => return Err(report_refused(alloc, refused, out)),
     };
-    printed(print_accepted(out, &accepted))
+    print_status(print_accepted(out, &accepted))
 }
 
 /// The command `verify`: reads the files whole, and prints to `out` that the program is accepted, with its numbers, or, of a

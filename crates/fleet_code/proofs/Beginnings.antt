@@ -15,7 +15,7 @@ use Rattle.fleet_model.specs.declared.program.AgentProgram.{AgentProgram}
 use Rattle.fleet_model.specs.Program.{Program}
 use Rattle.fleet_code.specs.declared.format.Version.{Version}
 use Rattle.fleet_code.specs.declared.format.Version.TheVariants.{One, Two}
-use Rattle.fleet_code.specs.Spelling.{magic, number, count as count_of, cell, opcode, await, action, agent, spelling}
+use Rattle.fleet_code.specs.Spelling.{magic, two_bytes, count as count_of, cell, opcode, await, action, agent, spelling}
 
 -- ---- a spelling is bytes
 
@@ -39,7 +39,7 @@ pub front_bytes : (front rest : List ℕ) → AreBytes (front ++ rest) → AreBy
 front_bytes front rest h =
     All-same (λ (b : ℕ). b < 256) front (take (length front) (front ++ rest)) (sym (take_at front rest (length front) refl)) (All-take (λ (b : ℕ). b < 256) (length front) (front ++ rest) h)
 
-number_bytes : (n : ℕ) → AreBytes (number n)
+number_bytes : (n : ℕ) → AreBytes (two_bytes n)
 number_bytes n = one_byte (byte_at 1 n) (byte_at 0 n ∷ []) (omega arith) (one_byte (byte_at 0 n) [] (omega arith) no_bytes)
 
 count_bytes : (v : Version) (n : ℕ) → AreBytes (count_of v n)
@@ -47,7 +47,7 @@ count_bytes One n = number_bytes n
 count_bytes Two n = one_byte (byte_at 3 n) (byte_at 2 n ∷ byte_at 1 n ∷ byte_at 0 n ∷ []) (omega arith) (one_byte (byte_at 2 n) (byte_at 1 n ∷ byte_at 0 n ∷ []) (omega arith) (number_bytes n))
 
 cell_bytes : (c : Cell) → AreBytes (cell c)
-cell_bytes c = both (number c.x) (number c.y) (number_bytes c.x) (number_bytes c.y)
+cell_bytes c = both (two_bytes c.x) (two_bytes c.y) (number_bytes c.x) (number_bytes c.y)
 
 opcode_byte : (s : Step) → opcode s < 256
 opcode_byte (Go North) = omega arith
@@ -57,7 +57,7 @@ opcode_byte (Go West) = omega arith
 opcode_byte Dwell = omega arith
 
 await_bytes : (v : Version) (w : Await) → AreBytes (await v w)
-await_bytes v w = one_byte 16 (number w.agent ++ count_of v w.count) (omega arith) (both (number w.agent) (count_of v w.count) (number_bytes w.agent) (count_bytes v w.count))
+await_bytes v w = one_byte 16 (two_bytes w.agent ++ count_of v w.count) (omega arith) (both (two_bytes w.agent) (count_of v w.count) (number_bytes w.agent) (count_bytes v w.count))
 
 action_bytes : (v : Version) (a : Action) → AreBytes (action v a)
 action_bytes v a = both (flat_map (await v) a.awaits) (opcode a.step ∷ []) (each (await v) (await_bytes v) a.awaits) (one_byte (opcode a.step) [] (opcode_byte a.step) no_bytes)
@@ -72,4 +72,4 @@ magic_bytes One = one_byte 77 (80 ∷ 70 ∷ 49 ∷ []) (omega arith) (one_byte 
 magic_bytes Two = one_byte 77 (80 ∷ 70 ∷ 50 ∷ []) (omega arith) (one_byte 80 (70 ∷ 50 ∷ []) (omega arith) (one_byte 70 (50 ∷ []) (omega arith) (one_byte 50 [] (omega arith) no_bytes)))
 
 pub spelling_bytes : (v : Version) (p : Program) → AreBytes (spelling v p)
-spelling_bytes v p = both ((magic v) ++ number (length p)) (flat_map (agent v) p) (both (magic v) (number (length p)) (magic_bytes v) (number_bytes (length p))) (each (agent v) (agent_bytes v) p)
+spelling_bytes v p = both ((magic v) ++ two_bytes (length p)) (flat_map (agent v) p) (both (magic v) (two_bytes (length p)) (magic_bytes v) (number_bytes (length p))) (each (agent v) (agent_bytes v) p)

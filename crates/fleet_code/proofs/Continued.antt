@@ -7,7 +7,7 @@ use Rattle.fleet_model.specs.Program.{Program}
 use Rattle.fleet_code.specs.declared.format.Version.{Version}
 use Rattle.fleet_code.specs.declared.fault.LoadFault.{LoadFault}
 use Rattle.fleet_code.specs.declared.fault.LoadFault.TheVariants.{OutOfMemory, Magic, Truncated, AgentCount, Total, Opcode, AwaitAgent, AwaitOrder, AwaitCount, Trailing}
-use Rattle.fleet_code.specs.Spelling.{magic, number, count as count_of, cell, await, action, agent}
+use Rattle.fleet_code.specs.Spelling.{magic, two_bytes, count as count_of, cell, await, action, agent}
 use Rattle.fleet_code.specs.LoadFaults.{HasNumber, HasCount, HasHead, IsOffset, ReachesAgent, ReachesAction, ReachesOpcode, ReachesAwait, ReachesOrder, ReachesCount, IsFirstFaultIn}
 
 module _ (v : Version) (more : List ℕ) where
@@ -15,7 +15,7 @@ module _ (v : Version) (more : List ℕ) where
   goes_on bytes front rest e = ap (λ (t : List ℕ). t ++ more) e ∙ append_assoc front rest more
 
   number_stays : (bytes : List ℕ) (n : ℕ) (rest : List ℕ) → HasNumber bytes n rest → HasNumber (bytes ++ more) n (rest ++ more)
-  number_stays bytes n rest h = record { fits = h.fits; parts = goes_on bytes (number n) rest h.parts }
+  number_stays bytes n rest h = record { fits = h.fits; parts = goes_on bytes (two_bytes n) rest h.parts }
 
   count_stays_there : (bytes : List ℕ) (n : ℕ) (rest : List ℕ) → HasCount v bytes n rest → HasCount v (bytes ++ more) n (rest ++ more)
   count_stays_there bytes n rest h = record { fits = h.fits; parts = goes_on bytes (count_of v n) rest h.parts }
@@ -40,7 +40,7 @@ module _ (v : Version) (more : List ℕ) where
     agents = r.agents;
     spellable = r.spellable;
     total = r.total;
-    parts = goes_on bytes ((magic v) ++ number n ++ flat_map (agent v) p) rest r.parts;
+    parts = goes_on bytes ((magic v) ++ two_bytes n ++ flat_map (agent v) p) rest r.parts;
   }
 
   action_stays : (bytes : List ℕ) (n i : ℕ) (rest : List ℕ) → ReachesAction v bytes n i rest → ReachesAction v (bytes ++ more) n i (rest ++ more)

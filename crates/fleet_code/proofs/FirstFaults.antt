@@ -21,7 +21,7 @@ use Rattle.fleet_code.specs.declared.format.Version.{Version}
 use Rattle.fleet_code.specs.declared.format.Version.TheVariants.{One, Two}
 use Rattle.fleet_code.specs.declared.fault.LoadFault.{LoadFault}
 use Rattle.fleet_code.specs.declared.fault.LoadFault.TheVariants.{Magic, Truncated, AgentCount, Total, Opcode, AwaitAgent, AwaitOrder, AwaitCount, Trailing}
-use Rattle.fleet_code.specs.Spelling.{magic, number, count as count_of, count_len, most_count, most_moves, cell, opcode, has_opcode, await, action, agent, IsSpellable, AreSpellable, IsSpellableAgent, CanSpell}
+use Rattle.fleet_code.specs.Spelling.{magic, two_bytes, count as count_of, count_len, most_count, most_moves, cell, opcode, has_opcode, await, action, agent, IsSpellable, AreSpellable, IsSpellableAgent, CanSpell}
 use Rattle.fleet_code.specs.Reading.{Field, magic_at, number_at, long_number_at, count_from, cell_from, await_at, step_at, step_or, action_at, actions_at, agent_at, agents_at, program_as}
 use Rattle.fleet_code.specs.LoadFaults.{HasNumber, HasCount, HasHead, IsOffset, ReachesAgent, ReachesAction, ReachesOpcode, ReachesAwait, ReachesOrder, ReachesCount, IsWithoutMagic, EndsWithin, IsFirstFaultIn}
 use Rattle.fleet_code.proofs.Parts.{IsBytes, TakesFront, number_takes, count_takes, cell_takes, await_takes}
@@ -52,7 +52,7 @@ count_fails : (v : Version) (bytes : List ℕ) (f : LoadFault) → count_from v 
 count_fails One bytes f e = number_fails bytes f e
 count_fails Two bytes f e = long_number_fails bytes f e
 
-number_len : (bytes : List ℕ) (n : ℕ) (rest : List ℕ) → TakesFront bytes (number n) rest → length bytes ≡ 2 + length rest
+number_len : (bytes : List ℕ) (n : ℕ) (rest : List ℕ) → TakesFront bytes (two_bytes n) rest → length bytes ≡ 2 + length rest
 number_len bytes n rest t = let all = ap length t.parts in omega (arith, all)
 
 cell_len : (bytes : List ℕ) (c : Cell) (rest : List ℕ) → TakesFront bytes (cell c) rest → length bytes ≡ 4 + length rest
@@ -338,7 +338,7 @@ without_magic v bytes h = (h.0, (let within = h.1 in omega (arith, within, (magi
 
 -- ---- all of the bytes
 
-agents_reached : (v : Version) (bytes at_number : List ℕ) (n : ℕ) (at_agents : List ℕ) (p : Program) (rest : List ℕ) → bytes ≡ (magic v) ++ at_number → at_number ≡ number n ++ at_agents → 1 ≤ n → n ≤ 1024
+agents_reached : (v : Version) (bytes at_number : List ℕ) (n : ℕ) (at_agents : List ℕ) (p : Program) (rest : List ℕ) → bytes ≡ (magic v) ++ at_number → at_number ≡ two_bytes n ++ at_agents → 1 ≤ n → n ≤ 1024
     → ((i : ℕ) (a : AgentProgram) → slice_get p i ≡ Some a → IsAgent n i a) → CanSpell v p → total_moves p ≤ 4194304 → at_agents ≡ flat_map (agent v) p ++ rest → ReachesAgent v bytes n p rest
 agents_reached v bytes at_number n at_agents p rest e1 e2 some few agents moves total e3 = record {
   some = some;
@@ -346,7 +346,7 @@ agents_reached v bytes at_number n at_agents p rest e1 e2 some few agents moves 
   agents = agents;
   spellable = moves;
   total = total;
-  parts = e1 ∙ ap (λ (t : List ℕ). (magic v) ++ t) (e2 ∙ ap (λ (t : List ℕ). number n ++ t) e3) ∙ (simp append_assoc);
+  parts = e1 ∙ ap (λ (t : List ℕ). (magic v) ++ t) (e2 ∙ ap (λ (t : List ℕ). two_bytes n ++ t) e3) ∙ (simp append_assoc);
 }
 
 trailing : (v : Version) (bytes : List ℕ) (n : ℕ) (p : Program) (rest : List ℕ) (f : LoadFault) → ReachesAgent v bytes n p rest → length p ≡ n → after_agents (length bytes) (p, rest) ≡ Err f → IsFirstFaultIn v bytes f

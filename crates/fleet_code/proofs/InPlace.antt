@@ -14,7 +14,7 @@ use Rattle.fleet_model.specs.declared.program.AgentProgram.{AgentProgram}
 use Rattle.fleet_model.specs.Program.{Program, actions_of, action_of, moves, start_of, goal_of, awaits_of}
 use Rattle.fleet_code.specs.declared.format.Version.{Version}
 use Rattle.fleet_code.specs.declared.format.Version.TheVariants.{One, Two}
-use Rattle.fleet_code.specs.Spelling.{magic, number, count as count_of, most_count, cell, opcode, await, action, agent, spelling, IsSpellable, IsSpellableAgent, SpellsIn}
+use Rattle.fleet_code.specs.Spelling.{magic, two_bytes, count as count_of, most_count, cell, opcode, await, action, agent, spelling, IsSpellable, IsSpellableAgent, SpellsIn}
 use Rattle.fleet_code.specs.Offsets.{PartOffsets, Viewed, program_in, StandsAt, IsViewOf, opcodes, head_len, await_len, awaits_before, ends_of, part_of, parts_of, part_at, begin_of, end_of}
 use Rattle.std.specs.Result.{result_unwrap_or}
 use Rattle.fleet_code.specs.declared.fault.LoadFault.{LoadFault}
@@ -131,9 +131,9 @@ agent_long version a =
 module _ {version : Version} {bytes : List ℕ} {p : Program} {parts : List PartOffsets} (v : IsViewOf version bytes p parts) where
   agents_stand : StandsAt bytes 6 (flat_map (agent version) p)
   agents_stand =
-      let front = length-append (magic version) (number (length p)) in
-      let six : 0 + length (magic version ++ number (length p)) ≡ 6 = omega (arith, front, magic_long version) in
-      rw v.spelled.spelled (subst (λ (k : ℕ). StandsAt (spelling version p) k (flat_map (agent version) p)) six (back_stands (spelling version p) 0 (magic version ++ number (length p)) (flat_map (agent version) p) (whole_stands (spelling version p))))
+      let front = length-append (magic version) (two_bytes (length p)) in
+      let six : 0 + length (magic version ++ two_bytes (length p)) ≡ 6 = omega (arith, front, magic_long version) in
+      rw v.spelled.spelled (subst (λ (k : ℕ). StandsAt (spelling version p) k (flat_map (agent version) p)) six (back_stands (spelling version p) 0 (magic version ++ two_bytes (length p)) (flat_map (agent version) p) (whole_stands (spelling version p))))
 
   agent_stands : (i : ℕ) (a : AgentProgram) → slice_get p i ≡ Some a → StandsAt bytes (begin_of version p i) (agent version a)
   agent_stands i a e = piece_stands (agent version) bytes 6 p i a agents_stand e

@@ -12,7 +12,7 @@ use Rattle.fleet_model.specs.declared.program.AgentProgram.{AgentProgram}
 use Rattle.fleet_model.specs.Program.{Program, IsAgent, total_moves}
 use Rattle.fleet_model.proofs.OnePass.{AgentsFrom}
 use Rattle.fleet_code.specs.declared.format.Version.{Version}
-use Rattle.fleet_code.specs.Spelling.{magic, number, count as count_of, cell, await, action, agent, IsSpellableAgent}
+use Rattle.fleet_code.specs.Spelling.{magic, two_bytes, count as count_of, cell, await, action, agent, IsSpellableAgent}
 use Rattle.fleet_code.specs.LoadFaults.{ReachesAgent, ReachesAction, ReachesOpcode}
 
 -- ---- the agents before
@@ -97,7 +97,7 @@ agent_reached v bytes n p a rest after r own spellable le parts = record {
   agents = let same : 0 + length p ≡ length p = omega arith in to_first n (p ++ a ∷ []) (each_more n 0 p a (from_first n p r.agents) (rw same own));
   spellable = All-append (IsSpellableAgent v) p (a ∷ []) r.spellable (All-cons (IsSpellableAgent v) a [] spellable (All-nil (IsSpellableAgent v)));
   total = omega (arith, total_more p a, le);
-  parts = front_more (agent v) ((magic v) ++ number n) p a bytes rest after r.parts parts;
+  parts = front_more (agent v) ((magic v) ++ two_bytes n) p a bytes rest after r.parts parts;
 }
 
 -- ---- how many bytes are left
@@ -106,7 +106,7 @@ shorter : (bytes front rest : List ℕ) → bytes ≡ front ++ rest → length r
 shorter bytes front rest e = let same = ap length e in omega (arith, same, length-append front rest)
 
 pub agent_left : (v : Version) (bytes : List ℕ) (n : ℕ) (p : Program) (rest : List ℕ) → ReachesAgent v bytes n p rest → length rest ≤ length bytes
-agent_left v bytes n p rest r = shorter bytes ((magic v) ++ number n ++ flat_map (agent v) p) rest r.parts
+agent_left v bytes n p rest r = shorter bytes ((magic v) ++ two_bytes n ++ flat_map (agent v) p) rest r.parts
 
 action_left : (v : Version) (bytes : List ℕ) (n i : ℕ) (rest : List ℕ) → ReachesAction v bytes n i rest → length rest ≤ length bytes
 action_left v bytes n i rest r =

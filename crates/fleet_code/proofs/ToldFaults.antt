@@ -20,7 +20,7 @@ use Rattle.fleet_code.specs.declared.format.Version.{Version}
 use Rattle.fleet_code.specs.declared.format.Version.TheVariants.{One, Two}
 use Rattle.fleet_code.specs.declared.fault.LoadFault.{LoadFault}
 use Rattle.fleet_code.specs.declared.fault.LoadFault.TheVariants.{OutOfMemory, Magic, Truncated, AgentCount, Total, Opcode, AwaitAgent, AwaitOrder, AwaitCount, Trailing}
-use Rattle.fleet_code.specs.Spelling.{magic, number, count as count_of, count_len, most_count, most_moves, cell, opcode, has_opcode, await, action, agent, IsSpellable, AreSpellable, IsSpellableAgent, CanSpell}
+use Rattle.fleet_code.specs.Spelling.{magic, two_bytes, count as count_of, count_len, most_count, most_moves, cell, opcode, has_opcode, await, action, agent, IsSpellable, AreSpellable, IsSpellableAgent, CanSpell}
 use Rattle.fleet_code.specs.Reading.{Field, magic_at, number_at, count_from, cell_from, await_at, stay_in, step_at, action_at, actions_at, agent_at, agents_at, program_as}
 use Rattle.fleet_code.specs.LoadFaults.{HasHead, IsOffset, ReachesAgent, ReachesAction, ReachesOpcode, ReachesAwait, ReachesOrder, ReachesCount, EndsWithin, IsFirstFaultIn}
 use Rattle.fleet_code.proofs.Parts.{number_again, count_again, cell_again, await_again}
@@ -54,13 +54,13 @@ awaits_front v turns whole n i least [] rest f few from fit le fails = fails tur
 awaits_front v zero whole n i least (w ∷ ws) rest f few from fit le fails = absurd (omega (arith, le))
 awaits_front v (suc turns) whole n i least (w ∷ ws) rest f few from fit le fails =
     let others = flat_map (await v) ws ++ rest in
-    let regrouped : flat_map (await v) (w ∷ ws) ++ rest ≡ 16 ∷ ((number w.agent ++ count_of v w.count) ++ others) = ap (λ (t : List ℕ). t ++ rest) (flat_map-cons (await v) w ws) ∙ append_assoc (await v w) (flat_map (await v) ws) rest in
+    let regrouped : flat_map (await v) (w ∷ ws) ++ rest ≡ 16 ∷ ((two_bytes w.agent ++ count_of v w.count) ++ others) = ap (λ (t : List ℕ). t ++ rest) (flat_map-cons (await v) w ws) ∙ append_assoc (await v w) (flat_map (await v) ws) rest in
     let shorter = ap length regrouped in
-    let long = length-append (number w.agent ++ count_of v w.count) others in
-    let at = whole - length (16 ∷ ((number w.agent ++ count_of v w.count) ++ others)) in
+    let long = length-append (two_bytes w.agent ++ count_of v w.count) others in
+    let at = whole - length (16 ∷ ((two_bytes w.agent ++ count_of v w.count) ++ others)) in
     let more : Await × List ℕ → Field Action = λ one. action_at v turns whole n i (one.0.agent + 1) one.1 >>= λ x. Ok (with_await one x) in
     ap (action_at v (suc turns) whole n i least) regrouped
-    ∙ goes_on (await_at v at n i least ((number w.agent ++ count_of v w.count) ++ others)) more (w, others) (await_again v at n i least w others few from.0 (All-head (λ (w : Await). w.count ≤ (most_count v)) w ws fit))
+    ∙ goes_on (await_at v at n i least ((two_bytes w.agent ++ count_of v w.count) ++ others)) more (w, others) (await_again v at n i least w others few from.0 (All-head (λ (w : Await). w.count ≤ (most_count v)) w ws fit))
     ∙ fails_with (action_at v turns whole n i (w.agent + 1) others) (λ x. Ok (with_await (w, others) x)) f (awaits_front v turns whole n i (w.agent + 1) ws rest f few from.1 (All-tail (λ (w : Await). w.count ≤ (most_count v)) w ws fit) (omega (arith, le, shorter, long)) fails)
 
 -- ---- the actions of an agent
@@ -109,14 +109,14 @@ agents_front v (a ∷ p) left whole n i total rest f few from moves fails =
 -- ---- all of the bytes
 
 -- the number of agents was read, and nothing refused it
-after_number : (v : Version) (bytes : List ℕ) (n : ℕ) (rest : List ℕ) → bytes ≡ (magic v) ++ number n ++ rest → 1 ≤ n → n ≤ 1024 → program_as v bytes ≡ (agents_at v n (length bytes) n 0 0 rest >>= after_agents (length bytes))
+after_number : (v : Version) (bytes : List ℕ) (n : ℕ) (rest : List ℕ) → bytes ≡ (magic v) ++ two_bytes n ++ rest → 1 ≤ n → n ≤ 1024 → program_as v bytes ≡ (agents_at v n (length bytes) n 0 0 rest >>= after_agents (length bytes))
 unfolding program_as
 after_number v bytes n rest e some few =
     let at = length bytes in
     let all = agents_at v n at n 0 0 rest >>= after_agents at in
     let no_fault : (eqb n 0 || ltb 1024 n) ≡ false = or_from (eqb n 0) (ltb 1024 n) (ne_eqb n 0 (λ z. omega (arith, some, z))) (le-ltb 1024 n few) in
-    goes_on (magic_at v bytes) (λ r. number_at r >>= after_agent_count v at) (number n ++ rest) (magic_read v bytes (number n ++ rest) (e ∙ append_assoc (magic v) (number n) rest))
-    ∙ goes_on (number_at (number n ++ rest)) (after_agent_count v at) (n, rest) (number_again n rest (omega (arith, few)))
+    goes_on (magic_at v bytes) (λ r. number_at r >>= after_agent_count v at) (two_bytes n ++ rest) (magic_read v bytes (two_bytes n ++ rest) (e ∙ append_assoc (magic v) (two_bytes n) rest))
+    ∙ goes_on (number_at (two_bytes n ++ rest)) (after_agent_count v at) (n, rest) (number_again n rest (omega (arith, few)))
     ∙ ap (λ (b : Bool). fault_if b AgentCount >> all) no_fault
 
 agents_from : (v : Version) (bytes : List ℕ) (n : ℕ) (p : Program) (rest : List ℕ) → ReachesAgent v bytes n p rest → AgentsFrom n 0 0 p
@@ -131,7 +131,7 @@ told_agent v bytes n p rest f r within fails =
     let sum : 0 + total_moves p ≡ total_moves p = omega arith in
     let agents : agents_at v n at n 0 0 (flat_map (agent v) p ++ rest) ≡ Err f =
     rw size at (agents_front v p (n - suc (length p)) at n 0 0 rest f (omega (arith, few)) (agents_from v bytes n p rest r) r.spellable (rw (own, sum) fails)) in
-    after_number v bytes n (flat_map (agent v) p ++ rest) (r.parts ∙ append_assoc ((magic v) ++ number n) (flat_map (agent v) p) rest) r.some r.few
+    after_number v bytes n (flat_map (agent v) p ++ rest) (r.parts ∙ append_assoc ((magic v) ++ two_bytes n) (flat_map (agent v) p) rest) r.some r.few
     ∙ fails_with (agents_at v n at n 0 0 (flat_map (agent v) p ++ rest)) (after_agents at) f agents
 
 -- an agent, up to its number of actions
@@ -317,6 +317,6 @@ is_told v bytes (Trailing at) h =
     let whole = length bytes in
     let here : whole - length rest ≡ at = omega (arith, offset) in
     let some : eqb (length rest) 0 ≡ false = ne_eqb (length rest) 0 (λ z. omega (arith, z)) in
-    after_number v bytes (length p) (flat_map (agent v) p ++ rest) (r.parts ∙ append_assoc ((magic v) ++ number (length p)) (flat_map (agent v) p) rest) r.some r.few
+    after_number v bytes (length p) (flat_map (agent v) p ++ rest) (r.parts ∙ append_assoc ((magic v) ++ two_bytes (length p)) (flat_map (agent v) p) rest) r.some r.few
     ∙ goes_on (agents_at v (length p) whole (length p) 0 0 (flat_map (agent v) p ++ rest)) (after_agents whole) (p, rest) (agents_again v whole (length p) 0 0 p rest (omega (arith, few)) (agents_from v bytes (length p) p rest r) r.spellable)
     ∙ rw (some, here) refl

@@ -11,14 +11,14 @@ use Rattle.fleet_model.specs.Program.{Program, AreAwaits, IsCell, IsAgent, total
 use Rattle.fleet_code.specs.declared.fault.LoadFault.{LoadFault}
 use Rattle.fleet_code.specs.declared.fault.LoadFault.TheVariants.{OutOfMemory, Magic, Truncated, AgentCount, Total, Opcode, AwaitAgent, AwaitOrder, AwaitCount, Trailing}
 use Rattle.fleet_code.specs.declared.format.Version.{Version}
-use Rattle.fleet_code.specs.Spelling.{magic, number, count, count_len, most_count, most_moves, cell, opcode, has_opcode, await, action, agent, AreSpellable, CanSpell}
+use Rattle.fleet_code.specs.Spelling.{magic, two_bytes, count, count_len, most_count, most_moves, cell, opcode, has_opcode, await, action, agent, AreSpellable, CanSpell}
 
 -- ---- fields
 
 -- the bytes are a number and then the rest
 pub record HasNumber (bytes : List ℕ) (n : ℕ) (rest : List ℕ) : Type 0 where
   pub fits : n < 65536
-  pub parts : bytes ≡ number n ++ rest
+  pub parts : bytes ≡ two_bytes n ++ rest
 
 -- .. a number of actions or a count, as wide as the version has it, and then the rest
 pub record HasCount (v : Version) (bytes : List ℕ) (n : ℕ) (rest : List ℕ) : Type 0 where
@@ -47,7 +47,7 @@ pub record ReachesAgent (v : Version) (bytes : List ℕ) (n : ℕ) (p : Program)
   pub agents : (i : ℕ) (a : AgentProgram) → slice_get p i ≡ Some a → IsAgent n i a
   pub spellable : CanSpell v p
   pub total : total_moves p ≤ MAX_MOVES_IN_ALL
-  pub parts : bytes ≡ magic v ++ number n ++ flat_map (agent v) p ++ rest
+  pub parts : bytes ≡ magic v ++ two_bytes n ++ flat_map (agent v) p ++ rest
 
 -- .. and then the head of agent i and some of its actions, but not all
 pub record ReachesAction (v : Version) (bytes : List ℕ) (n i : ℕ) (rest : List ℕ) : Type 0 where

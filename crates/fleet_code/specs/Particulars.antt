@@ -5,7 +5,7 @@ use Rattle.fleet_code.specs.declared.fault.Particulars.{Particulars}
 use Rattle.fleet_code.specs.declared.fault.Particulars.TheVariants.{Memory, Named, At}
 
 -- the words of the line that is made of these
-abbrev pub told_words : Particulars → List (List ℕ)
-told_words Memory = memory_words
-told_words (Named number name) = named (codes "load") number name.now
-told_words (At number name at) = named_at (codes "load") number name.now (codes "at") at
+abbrev pub particular_words : Particulars → List (List ℕ)
+particular_words Memory = memory_words
+particular_words (Named number name) = named (codes "load") number name.now
+particular_words (At number name at) = named_at (codes "load") number name.now (codes "at") at

@@ -6,7 +6,7 @@ ghost use Rattle.fleet_model.specs.declared.program.Await.{Await};
 ghost use Rattle.fleet_model.specs.declared.program.AgentProgram.{AgentProgram};
 ghost use Rattle.fleet_model.specs.Answer.{IsDueUnless};
 ghost use Rattle.fleet_model.specs.Program.{IsCell, IsWellFormed, moves};
-ghost use Rattle.fleet_code.specs.Spelling.{Spells, SpellsNothing, number, count, count_len, most_count, cell, await};
+ghost use Rattle.fleet_code.specs.Spelling.{Spells, SpellsNothing, two_bytes, count, count_len, most_count, cell, await};
 ghost use Rattle.fleet_code.specs.LoadFaults.{IsFirstLoadFault};
 ghost use Rattle.fleet_code.specs.Offsets.{Viewed, StandsAt, await_len, awaits_before, begin_of, end_of, part_at};
 
@@ -34,7 +34,8 @@ impl<'a> Model for CodeView<'a> {
 
     ghost view = { λ v. record { version = v.version; program = program_in v.bytes.now } };
 
-    ghost invariant = { λ v. IsViewOf v.version v.bytes.now (program_in v.bytes.now) v.parts.items };
+    ghost invariant = { λ v. IsViewOf v.version v.bytes.now
+        (program_in v.bytes.now) v.parts.items };
 }
 
 /// The program that the bytes spell, all of the bytes (this project's own format, version 1 or 2), read in place.
@@ -67,7 +68,7 @@ pub fn view(alloc: Global, bytes: &[u8]) -> Result<CodeView<'_>, LoadFault>
 /// The number of two bytes at the offset `at`.
 fn number_in(bytes: &[u8], at: usize) -> u16
     requires { at + 2 ≤ length bytes.now }
-    ensures { (n : ℕ) → n < 65536 → StandsAt bytes.now at (number n) → result ≡ n }
+    ensures { (n : ℕ) → n < 65536 → StandsAt bytes.now at (two_bytes n) → result ≡ n }
 {
     u16::from_be_bytes([bytes[at], bytes[at + 1]])
 }

@@ -7,13 +7,13 @@ use Rattle.fleet_model.specs.Machine.{Configuration, Holds, indices, run, is_fin
 use Rattle.fleet_model.specs.Claims.{holds_of}
 use Rattle.fleet_machine.specs.Machine.{flag_of}
 use Rattle.fleet_run.specs.Fleet.{AreOnGoals}
-use Rattle.fleet_dispatch.specs.declared.run.TheConstants.{MOST_REPORTS}
+use Rattle.fleet_dispatch.specs.declared.run.TheConstants.{MAX_REPORTS}
 use Rattle.fleet_dispatch.specs.declared.run.DispatchFault.{DispatchFault}
 use Rattle.fleet_dispatch.specs.declared.run.DispatchFault.TheVariants as f
 use Rattle.fleet_dispatch.specs.declared.run.DispatchReport.{DispatchReport}
 use Rattle.fleet_dispatch.specs.Talk.{Talk, Told, Cut, Tells}
 use Rattle.fleet_dispatch.specs.Orders.{orders_but, new_orders, talk_of, closing}
-use Rattle.fleet_dispatch.specs.Dispatch.{AreTaken, Dispatches, DispatchesFrom, Concludes, TakesReport, IsTaken}
+use Rattle.fleet_dispatch.specs.Dispatch.{AreTaken, Dispatches, DispatchesFrom, Concludes, TakesReport, IsReportTaken}
 use Rattle.fleet_dispatch.proofs.Reports.{IsUnderWay, more, taken_more, talk_more, due_more, due_first}
 use Rattle.fleet_dispatch.proofs.Fronts.{talk_none}
 
@@ -89,7 +89,7 @@ concludes p first then both works c k agents moves reports (Err f.ReportLimit) j
 concludes p first then both works c k agents moves reports (Err f.Input) j told over e m h = absurd h
 
 pub limit_stops : (p : Program) (talks : Talk → Type 0) (works : Type 0) (c : Configuration) (k : ℕ) (reports : List (List ℕ)) → AreOrdersTold p talks works c k reports → is_finished p c ≡ false
-    → k ≡ MOST_REPORTS → Dispatches p talks c (Err f.ReportLimit)
+    → k ≡ MAX_REPORTS → Dispatches p talks c (Err f.ReportLimit)
 limit_stops p talks works c k reports told left limit = (reports, record { taken = told.taken; left = left; talk = told.talk; limit = sym told.count ∙ limit })
 
 pub report_stops : (T : Type 0) (p : Program) (first then both : Talk → Type 0) (works w : Type 0) (c c' : Configuration) (sent : List Bool) (k n : ℕ) (reports : List (List ℕ)) (e : DispatchFault)
@@ -122,7 +122,7 @@ report_stops T p first then both works w c c' sent k n reports f.Write j told le
 report_stops T p first then both works w c c' sent k n reports f.ReportLimit j told left next h = absurd h
 
 pub one_report_on : (p : Program) (first then both : Talk → Type 0) (works w : Type 0) (c c' : Configuration) (sent : List Bool) (k : ℕ) (reports : List (List ℕ)) (report : List ℕ)
-    → Joins first then both → AreOrdersTold p first works c k reports → is_finished p c ≡ false → IsTaken p then w c c' sent report
+    → Joins first then both → AreOrdersTold p first works c k reports → is_finished p c ≡ false → IsReportTaken p then w c c' sent report
     → IsUnderWay p both c' (flag_of sent) (k + 1) (more p reports report)
 one_report_on p first then both works w c c' sent k reports report j told left h = record {
   taken = taken_more p reports report c c' told.taken left h.answers h.after;

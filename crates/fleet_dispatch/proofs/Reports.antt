@@ -5,7 +5,7 @@ use Rattle.std.proofs.Math.Seq.{get_or-append_seam}
 use Rattle.fleet_model.specs.Program.{Program}
 use Rattle.fleet_model.specs.Machine.{Configuration, indices, is_among, is_held, is_ready, is_finished, run, tick}
 use Rattle.fleet_model.specs.Claims.{holds_of, is_new}
-use Rattle.fleet_machine.specs.Confirmed.{AreSent}
+use Rattle.fleet_machine.specs.Confirmed.{AreAllReady}
 use Rattle.fleet_machine.specs.Machine.{flag_of}
 use Rattle.fleet_verify.proofs.Claimed.{reports_hold, reports_tick}
 use Rattle.fleet_dispatch.specs.Talk.{Talk, Told, Heard}
@@ -38,21 +38,21 @@ module _ (p : Program) (reports : List (List ℕ)) (report : List ℕ) where
       ap (tick p (λ i. not (is_among report i))) (here ∙ sym (same_run k (omega arith)))
       ∙ sym (ap (run p (holds_of (length p) more)) (sym (add-one k)) ∙ reports_tick p more k (omega (arith, length_more)) ∙ ap (λ (xs : List ℕ). tick p (λ i. not (is_among xs i)) (run p (holds_of (length p) more) k)) last_more)
 
-  pub taken_more : (c c' : Configuration) → AreTaken p reports c → is_finished p c ≡ false → AreSent p c (is_among report) → c' ≡ tick p (λ i. not (is_among report i)) c
+  pub taken_more : (c c' : Configuration) → AreTaken p reports c → is_finished p c ≡ false → AreAllReady p c (is_among report) → c' ≡ tick p (λ i. not (is_among report i)) c
       → AreTaken p more c'
   taken_more c c' before left sent after =
       let n = length p in
       let k = length reports in
-      let P : ℕ → Type 0 = λ t. AreSent p (run p (holds_of n more) t) (is_among (get_or more t [])) in
+      let P : ℕ → Type 0 = λ t. AreAllReady p (run p (holds_of n more) t) (is_among (get_or more t [])) in
       let Q : ℕ → Type 0 = λ t. is_finished p (run p (holds_of n more) t) ≡ false in
       let long : length more ≡ k + 1 = omega (arith, length_more) in
       let here : c ≡ run p (holds_of n more) k = before.here ∙ sym (same_run k (omega arith)) in
       record {
         here = after ∙ run_more c before.here ∙ ap (run p (holds_of n more)) (sym length_more);
         answers = λ t inside. below_more P k
-            (λ s below. subst (λ d. AreSent p d (is_among (get_or more s []))) (sym (same_run s (omega arith)))
-            (subst (λ (xs : List ℕ). AreSent p (run p (holds_of n reports) s) (is_among xs)) (sym (get_or-append reports (report ∷ []) [] s below)) (before.answers s below)))
-            (subst (λ d. AreSent p d (is_among (get_or more k []))) here (subst (λ (xs : List ℕ). AreSent p c (is_among xs)) (sym last_more) sent))
+            (λ s below. subst (λ d. AreAllReady p d (is_among (get_or more s []))) (sym (same_run s (omega arith)))
+            (subst (λ (xs : List ℕ). AreAllReady p (run p (holds_of n reports) s) (is_among xs)) (sym (get_or-append reports (report ∷ []) [] s below)) (before.answers s below)))
+            (subst (λ d. AreAllReady p d (is_among (get_or more k []))) here (subst (λ (xs : List ℕ). AreAllReady p c (is_among xs)) (sym last_more) sent))
             t (omega arith);
         needed = λ t inside. below_more Q k
             (λ s below. ap (is_finished p) (same_run s (omega arith)) ∙ before.needed s below)

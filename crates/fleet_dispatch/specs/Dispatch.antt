@@ -3,10 +3,10 @@ use Rattle.std.specs.Prelude.{◌≡◌, ℕ, ◌+◌, ◌<◌, ◌≤◌, ◌�
 use Rattle.fleet_model.specs.Program.{Program, total_moves}
 use Rattle.fleet_model.specs.Machine.{Configuration, run, tick, is_among, is_ready, is_finished, IsFinish}
 use Rattle.fleet_model.specs.Claims.{holds_of}
-use Rattle.fleet_machine.specs.Confirmed.{AreSent, IsFirstUnsent}
+use Rattle.fleet_machine.specs.Confirmed.{AreAllReady, IsFirstUnready}
 use Rattle.fleet_machine.specs.Machine.{flag_of}
 use Rattle.fleet_run.specs.Fleet.{AreOnGoals}
-use Rattle.fleet_dispatch.specs.declared.run.TheConstants.{MOST_REPORTS}
+use Rattle.fleet_dispatch.specs.declared.run.TheConstants.{MAX_REPORTS}
 use Rattle.fleet_dispatch.specs.declared.run.DispatchFault.{DispatchFault}
 use Rattle.fleet_dispatch.specs.declared.run.DispatchFault.TheVariants.{OutOfMemory, Form, NotOrdered, Ended, Write, ReportLimit, Input}
 use Rattle.fleet_dispatch.specs.declared.run.DispatchReport.{DispatchReport}
@@ -17,7 +17,7 @@ use Rattle.fleet_dispatch.specs.Orders.{new_orders, talk_before, talk_of, closin
 -- orders alone, and came before all was finished
 pub record AreTaken (p : Program) (reports : List (List ℕ)) (c : Configuration) : Type 0 where
   pub here : c ≡ run p (holds_of (length p) reports) (length reports)
-  pub answers : (t : ℕ) → t < length reports → AreSent p (run p (holds_of (length p) reports) t) (is_among (get_or reports t []))
+  pub answers : (t : ℕ) → t < length reports → AreAllReady p (run p (holds_of (length p) reports) t) (is_among (get_or reports t []))
   pub needed : (t : ℕ) → t < length reports → is_finished p (run p (holds_of (length p) reports) t) ≡ false
 
 -- all stand on their goals after these reports, and not before the last of them; all was said
@@ -40,7 +40,7 @@ pub record StopsAtLine (p : Program) (talks : Talk → Type 0) (c : Configuratio
 pub record StopsAtReport (p : Program) (talks : Talk → Type 0) (c : Configuration) (line agent : ℕ) (reports : List (List ℕ)) : Type 0 where
   pub report : List ℕ
   pub stops : StopsAtLine p talks c (Heard report) line reports
-  pub unsent : IsFirstUnsent p c (is_among report) agent
+  pub unsent : IsFirstUnready p c (is_among report) agent
 
 -- after this talk the text was to be told, and a front of it was
 abbrev pub IsCut : (Talk → Type 0) → Talk → List ℕ → Type 0
@@ -57,7 +57,7 @@ pub record StopsAtLimit (p : Program) (talks : Talk → Type 0) (c : Configurati
   pub taken : AreTaken p reports c
   pub left : is_finished p c ≡ false
   pub talk : talks (talk_of p reports (length reports))
-  pub limit : length reports ≡ MOST_REPORTS
+  pub limit : length reports ≡ MAX_REPORTS
 
 -- what was said and heard, the configuration in which the fleet is left, and the answer
 abbrev pub Dispatches : Program → (Talk → Type 0) → Configuration → Result DispatchReport DispatchFault → Type 0
@@ -78,21 +78,21 @@ DispatchesFrom p talks result = (c : Configuration) × Dispatches p talks c resu
 -- ---- one report
 
 -- a report was heard and taken: a tick passed in which all agents but those that it names were held
-pub record IsTaken (p : Program) (talks : Talk → Type 0) (works : Type 0) (c c' : Configuration) (sent : List Bool) (report : List ℕ) : Type 0 where
+pub record IsReportTaken (p : Program) (talks : Talk → Type 0) (works : Type 0) (c c' : Configuration) (sent : List Bool) (report : List ℕ) : Type 0 where
   pub heard : talks (Heard report ∷ [])
   pub still : works
-  pub answers : AreSent p c (is_among report)
+  pub answers : AreAllReady p c (is_among report)
   pub after : c' ≡ tick p (λ i. not (is_among report i)) c
   pub flags : (i : ℕ) → i < length p → flag_of sent i ≡ (is_ready p c i && not (is_among report i))
 
 -- a report was heard that names agents without orders, of which this is the first
 pub record IsRefused (p : Program) (talks : Talk → Type 0) (c : Configuration) (agent : ℕ) (report : List ℕ) : Type 0 where
   pub heard : talks (Heard report ∷ [])
-  pub unsent : IsFirstUnsent p c (is_among report) agent
+  pub unsent : IsFirstUnready p c (is_among report) agent
 
 -- a line was heard, and was taken as a report or refused with nothing changed
 abbrev pub TakesReport : {T : Type 0} → Program → (Talk → Type 0) → (works : Type 0) (c c' : Configuration) (sent : List Bool) → ℕ → Result T DispatchFault → Type 0
-TakesReport p talks works c c' sent n (Ok _) = (report : List ℕ) × IsTaken p talks works c c' sent report
+TakesReport p talks works c c' sent n (Ok _) = (report : List ℕ) × IsReportTaken p talks works c c' sent report
 TakesReport p talks works c c' sent n (Err (Form line)) = (c' ≡ c) × (line ≡ n) × talks (Misheard (length p) ∷ [])
 TakesReport p talks works c c' sent n (Err (NotOrdered line agent)) = (c' ≡ c) × (line ≡ n) × ((report : List ℕ) × IsRefused p talks c agent report)
 TakesReport p talks works c c' sent n (Err (Ended line)) = (c' ≡ c) × (line ≡ n) × talks (NoMore ∷ [])

@@ -5,4 +5,4 @@ pub mod Window
 pub mod Stream
 pub mod StreamFloor
 pub mod StreamTalk
-pub mod Told
+pub mod RefusalWords

@@ -4,8 +4,8 @@ use Rattle.fleet_dispatch.specs.declared.window.TheConstants.{LINE_ROOM}
 use Rattle.fleet_dispatch.specs.declared.window.Window.{Window}
 
 -- the bytes that are not yet passed
-abbrev pub unpassed : Window → List ℕ
-unpassed w = slice_range w.bytes w.start w.end
+abbrev pub window_rest : Window → List ℕ
+window_rest w = slice_range w.bytes w.start w.end
 
 -- how many bytes more there is room for behind them
 abbrev pub room_of : Window → ℕ

@@ -38,5 +38,6 @@ pub trait Floor {
     ghost silent: { (f : Self) → talks f f [] };
 
     /// What was said and heard in two stretches, one after the other, was said and heard in both.
-    ghost joined: { (f g h : Self) (before after : Talk) → talks f g before → talks g h after → talks f h (before ++ after) };
+    ghost joined: { (f g h : Self) (before after : Talk)
+        → talks f g before → talks g h after → talks f h (before ++ after) };
 }

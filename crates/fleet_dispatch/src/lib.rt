@@ -9,6 +9,6 @@ mod stream_floor;
 mod window;
 
 pub use floor::{Floor, HearFault};
-pub use run::{DispatchFault, DispatchReport, MOST_REPORTS, dispatch, dispatch_accepted};
+pub use run::{DispatchFault, DispatchReport, MAX_REPORTS, dispatch, dispatch_accepted};
 pub use stream_floor::StreamFloor;
 pub use window::LINE_ROOM;

@@ -26,7 +26,9 @@ fn write_order<P: ProgramView>(fleet: &Fleet<'_, P>, i: u16, row: &mut [u8], end
     requires within { end ≤ length row.old }
     ensures low { end ≤ result + ORDER }
     ensures high { result ≤ end }
-    ensures written { drop result row.new ≡ order_line (P.program fleet.now.accepted.program) fleet.now.configuration i ++ drop end row.old }
+    ensures written { drop result row.new
+        ≡ order_line (P.program fleet.now.accepted.program) fleet.now.configuration i
+        ++ drop end row.old }
 {
     let Some(place) = fleet.sent_to(i) else {
         return end;
@@ -44,7 +46,9 @@ fn write_orders<P: ProgramView>(fleet: &Fleet<'_, P>, sent: &AgentSet, row: &mut
     requires few { length (P.program fleet.now.accepted.program) ≤ MAX_AGENTS }
     requires room { length row.old ≡ ORDERS }
     ensures within { result ≤ length row.new }
-    ensures written { drop result row.new ≡ orders_but (flag_of sent.now) (P.program fleet.now.accepted.program) fleet.now.configuration
+    ensures written { drop result row.new
+        ≡ orders_but (flag_of sent.now)
+        (P.program fleet.now.accepted.program) fleet.now.configuration
         (indices (length (P.program fleet.now.accepted.program))) }
 {
     let unsent = fleet.ready_agents().without(sent);
@@ -70,10 +74,12 @@ pub fn tell_orders<P: ProgramView, F: Floor>(
     requires room { length row.old ≡ ORDERS }
     requires floor { F.works floor.old }
     ensures told { Tells (F.talks floor.old floor.new) (F.works floor.new) result
-        (orders_but (flag_of sent.old) (P.program fleet.now.accepted.program) fleet.now.configuration
+        (orders_but (flag_of sent.old)
+        (P.program fleet.now.accepted.program) fleet.now.configuration
         (indices (length (P.program fleet.now.accepted.program)))) }
     ensures agents { length sent.new ≡ length (P.program fleet.now.accepted.program) }
-    ensures ready { AreReadyFlags (P.program fleet.now.accepted.program) fleet.now.configuration sent.new }
+    ensures ready { AreReadyFlags
+        (P.program fleet.now.accepted.program) fleet.now.configuration sent.new }
 {
     let at = write_orders(fleet, sent, row);
     sent.copy_from(fleet.ready_agents());
@@ -104,7 +110,8 @@ pub fn tell_closing<F: Floor>(
     floor: &mut F,
 ) -> Result<(), OutFault>
     requires floor { F.works floor.old }
-    ensures { Tells (F.talks floor.old floor.new) (F.works floor.new) result (closing agents moves reports) }
+    ensures { Tells (F.talks floor.old floor.new) (F.works floor.new) result
+        (closing agents moves reports) }
 {
     let mut row = [0; CLOSING];
     let at = write_closing(agents, moves, reports, &mut row);

@@ -23,7 +23,7 @@ use std::alloc::Global;
 use thiserror::Error;
 
 /// How many reports are taken at most.
-pub const MOST_REPORTS: u32 = u32::MAX;
+pub const MAX_REPORTS: u32 = u32::MAX;
 
 /// Why a dispatch stopped before its end. Lines are counted from 1.
 #[derive(Clone, Copy, Debug, Error)]
@@ -45,7 +45,7 @@ pub enum DispatchFault {
 }
 
 impl Refusal for DispatchFault {
-    ghost use Rattle.fleet_dispatch.specs.Told.{dispatch_words, is_dispatch_failure};
+    ghost use Rattle.fleet_dispatch.specs.RefusalWords.{dispatch_words, is_dispatch_failure};
 
     ghost words = { dispatch_words };
 
@@ -101,11 +101,13 @@ fn take_report<P: ProgramView, F: Floor>(
     requires few { length (P.program fleet.old.accepted.program) ≤ MAX_AGENTS }
     requires sent { length sent.old ≡ length (P.program fleet.old.accepted.program) }
     requires done { length done.old ≡ length (P.program fleet.old.accepted.program) }
-    requires ready { AreReadyFlags (P.program fleet.old.accepted.program) fleet.old.configuration sent.old }
+    requires ready { AreReadyFlags
+        (P.program fleet.old.accepted.program) fleet.old.configuration sent.old }
     requires floor { F.works floor.old }
     ensures accepted { fleet.new.accepted ≡ fleet.old.accepted }
     ensures agents { length sent.new ≡ length sent.old }
-    ensures report { TakesReport (P.program fleet.old.accepted.program) (F.talks floor.old floor.new) (F.works floor.new)
+    ensures report { TakesReport (P.program fleet.old.accepted.program)
+        (F.talks floor.old floor.new) (F.works floor.new)
         fleet.old.configuration fleet.new.configuration sent.new line result }
 {
     match floor.hear(done) {
@@ -159,8 +161,10 @@ fn run_reports<P: ProgramView, F: Floor>(
     requires opening { fleet.old.configuration ≡ opening (P.program fleet.old.accepted.program) }
     requires floor { F.works floor.old }
     ensures accepted { fleet.new.accepted ≡ fleet.old.accepted }
-    ensures outcome { Dispatches (P.program fleet.old.accepted.program) (F.talks floor.old floor.new) fleet.new.configuration result }
-    ensures arrived { IfOk result (λ _. AreOnGoals (P.program fleet.old.accepted.program) fleet.new.configuration) }
+    ensures outcome { Dispatches (P.program fleet.old.accepted.program)
+        (F.talks floor.old floor.new) fleet.new.configuration result }
+    ensures arrived { IfOk result (λ _. AreOnGoals
+        (P.program fleet.old.accepted.program) fleet.new.configuration) }
 {
     sent.clear();
     let mut reports = 0;
@@ -172,7 +176,7 @@ fn run_reports<P: ProgramView, F: Floor>(
             let moves = total_moves(fleet.accepted().program());
             return conclude(fleet.agents(), moves, reports, floor);
         }
-        if reports == MOST_REPORTS {
+        if reports == MAX_REPORTS {
             return Err(DispatchFault::ReportLimit);
         }
         take_report(fleet, sent, done, floor, reports as u64 + 1)?;
@@ -185,7 +189,7 @@ fn run_reports<P: ProgramView, F: Floor>(
 ///
 /// Errors: `Form` if a line is no report, `NotOrdered` if a report names an agent without an order, `Ended` if no line
 /// is left, `Input` if one cannot be read; `Write` if orders or the closing lines cannot be told; `ReportLimit` if
-/// actions are left after `MOST_REPORTS` reports.
+/// actions are left after `MAX_REPORTS` reports.
 pub fn dispatch<P: ProgramView, F: Floor>(
     fleet: &mut Fleet<'_, P>,
     floor: &mut F,
@@ -193,21 +197,31 @@ pub fn dispatch<P: ProgramView, F: Floor>(
     requires opening { fleet.old.configuration ≡ opening (P.program fleet.old.accepted.program) }
     requires floor { F.works floor.old }
     ensures accepted { fleet.new.accepted ≡ fleet.old.accepted }
-    ensures outcome { Dispatches (P.program fleet.old.accepted.program) (F.talks floor.old floor.new) fleet.new.configuration result }
-    ensures arrived { IfOk result (λ _. AreOnGoals (P.program fleet.old.accepted.program) fleet.new.configuration) }
+    ensures outcome { Dispatches (P.program fleet.old.accepted.program)
+        (F.talks floor.old floor.new) fleet.new.configuration result }
+    ensures arrived { IfOk result (λ _. AreOnGoals
+        (P.program fleet.old.accepted.program) fleet.new.configuration) }
     // Whatever is reported and when: of two agents, each of which stands, or is anywhere on a move that it was ever
     // ordered and has not reported, no place is common, and each such place is passable.
-    ensures apart { (holds : Holds) (t i j : ℕ) (q : Place) → i < length (P.program fleet.old.accepted.program)
-        → j < length (P.program fleet.old.accepted.program) → i ≢ j → MayBeOn (P.program fleet.old.accepted.program) holds t i q
+    ensures apart { (holds : Holds) (t i j : ℕ) (q : Place)
+        → i < length (P.program fleet.old.accepted.program)
+        → j < length (P.program fleet.old.accepted.program) → i ≢ j
+        → MayBeOn (P.program fleet.old.accepted.program) holds t i q
         → MayBeOn (P.program fleet.old.accepted.program) holds t j q → ⊥ }
-    ensures on_ground { (holds : Holds) (t i : ℕ) (q : Place) → i < length (P.program fleet.old.accepted.program)
-        → MayBeOn (P.program fleet.old.accepted.program) holds t i q → IsTrue (is_passable fleet.old.accepted.grid q) }
+    ensures on_ground { (holds : Holds) (t i : ℕ) (q : Place)
+        → i < length (P.program fleet.old.accepted.program)
+        → MayBeOn (P.program fleet.old.accepted.program) holds t i q
+        → IsTrue (is_passable fleet.old.accepted.grid q) }
     // Each action is ordered once, before it is carried out.
     ensures once { (holds : Holds) (t i : ℕ) → i < length (P.program fleet.old.accepted.program)
         → orders_given (P.program fleet.old.accepted.program) holds t i
-        ≡ count_at (run (P.program fleet.old.accepted.program) holds t) i + (if is_ready (P.program fleet.old.accepted.program) (run (P.program fleet.old.accepted.program) holds t) i then 1 else 0) }
+        ≡ count_at (run (P.program fleet.old.accepted.program) holds t) i +
+        (if is_ready (P.program fleet.old.accepted.program)
+        (run (P.program fleet.old.accepted.program) holds t) i then 1 else 0) }
     // While an action is left some agent has an order.
-    ensures goes_on { (holds : Holds) (t : ℕ) → IsFalse (is_stuck (P.program fleet.old.accepted.program) (run (P.program fleet.old.accepted.program) holds t)) }
+    ensures goes_on { (holds : Holds) (t : ℕ)
+        → IsFalse (is_stuck (P.program fleet.old.accepted.program)
+        (run (P.program fleet.old.accepted.program) holds t)) }
 {
     ready_moves_are_apart();
     runs_end();
@@ -235,7 +249,8 @@ pub fn dispatch_accepted<P: ProgramView + Drop, F: Floor>(
     floor: &mut F,
 ) -> Result<DispatchReport, DispatchFault>
     requires { F.works floor.old }
-    ensures { DispatchesFrom (P.program accepted.entry.program) (F.talks floor.old floor.new) result }
+    ensures { DispatchesFrom (P.program accepted.entry.program)
+        (F.talks floor.old floor.new) result }
 {
     let Ok(mut fleet) = Fleet::start(alloc, accepted) else {
         return Err(DispatchFault::OutOfMemory);

@@ -5,7 +5,7 @@ ghost use Rattle.std.specs.Str.Lines.{strip_carriage_return};
 ghost use Rattle.std.specs.Io.KnownBytes.{prepend_known, IsAtEnd};
 ghost use Rattle.fleet_text.specs.Text.{is_lf, lines};
 ghost use Rattle.fleet_text.specs.Sink.{IsWorking, Delivers};
-ghost use Rattle.fleet_dispatch.specs.Window.{unpassed};
+ghost use Rattle.fleet_dispatch.specs.Window.{window_rest};
 ghost use Rattle.fleet_dispatch.specs.Stream.{GivesLine};
 ghost use Rattle.fleet_dispatch.specs.StreamFloor.{FindsLine, SetsReport, HearsLine};
 
@@ -59,13 +59,14 @@ fn without_cr(line: &[u8]) -> &[u8]
 /// Reads until a line ends in the window, and answers where; nowhere at the end of the input. A line that the window
 /// cannot hold is no report.
 fn find_line<R: Read>(input: &mut R, window: &mut Window) -> Result<Option<usize>, HearFault>
-    ensures { FindsLine (R.remaining input.old) (R.remaining input.new) (unpassed window.old) (unpassed window.new) result }
+    ensures { FindsLine (R.remaining input.old) (R.remaining input.new) (window_rest window.old)
+        (window_rest window.new) result }
 {
     'reads: loop {
-        if let Some(end) = end_in(window.unpassed()) {
+        if let Some(end) = end_in(window.rest()) {
             return Ok(Some(end));
         }
-        if window.unpassed().len() >= LINE_ROOM {
+        if window.rest().len() >= LINE_ROOM {
             return Err(HearFault::Form);
         }
         window.move_to_front();
@@ -83,7 +84,8 @@ fn line_in(read: &[u8], found: Option<usize>) -> Option<(&[u8], usize)>
     requires { position is_lf read.now ≡ found }
     ensures { (left : Option (List ℕ)) → (found ≡ None → IsAtEnd left) → MatchOption result
         (IfSome (prepend_known read.now left) (λ text. lines text ≡ []))
-        (λ x. (x.1 ≤ length read.now) × GivesLine (prepend_known read.now left) (prepend_known (drop x.1 read.now) left) x.0.now) }
+        (λ x. (x.1 ≤ length read.now) × GivesLine (prepend_known read.now left)
+        (prepend_known (drop x.1 read.now) left) x.0.now) }
 {
     match found {
         Some(end) => Some((without_cr(&read[..end]), end + 1)),
@@ -114,10 +116,11 @@ fn hear_line<R: Read>(
     window: &mut Window,
     done: &mut [bool],
 ) -> Result<bool, HearFault>
-    ensures { HearsLine (prepend_known (unpassed window.old) (R.remaining input.old)) (prepend_known (unpassed window.new) (R.remaining input.new)) result done.new }
+    ensures { HearsLine (prepend_known (window_rest window.old) (R.remaining input.old))
+        (prepend_known (window_rest window.new) (R.remaining input.new)) result done.new }
 {
     let found = find_line(input, window)?;
-    let Some((line, past)) = line_in(window.unpassed(), found) else {
+    let Some((line, past)) = line_in(window.rest(), found) else {
         return Ok(false);
     };
     set_report(line, done)?;
@@ -137,13 +140,21 @@ fn deliver<O: Flush>(out: &mut O, bytes: &[u8]) -> Result<(), OutFault>
 impl<R: Read, O: Flush> Floor for StreamFloor<R, O> {
     ghost use Rattle.std.specs.Io.KnownBytes.{prepend_known};
     ghost use Rattle.fleet_text.specs.Sink.{IsWorking};
-    ghost use Rattle.fleet_dispatch.specs.Window.{unpassed};
+    ghost use Rattle.fleet_dispatch.specs.Window.{window_rest};
     ghost use Rattle.fleet_dispatch.specs.Stream.{TakesTurns};
     ghost use Rattle.fleet_dispatch.specs.StreamTalk.{takes_nothing, takes_turns_more};
 
     ghost talks = { λ f g talk. TakesTurns
-        (record { out = O.state f.orders; left = prepend_known (unpassed f.window) (R.remaining f.input) })
-        (record { out = O.state g.orders; left = prepend_known (unpassed g.window) (R.remaining g.input) }) talk };
+        (record {
+          out = O.state f.orders;
+          left = prepend_known (window_rest f.window)
+              (R.remaining f.input);
+        })
+        (record {
+          out = O.state g.orders;
+          left = prepend_known (window_rest g.window)
+              (R.remaining g.input);
+        }) talk };
 
     ghost works = { λ f. IsWorking (O.state f.orders) };
 

@@ -20,11 +20,11 @@ pub struct Window {
 }
 
 impl Window {
-    ghost use Rattle.fleet_dispatch.specs.Window.{unpassed, room_of};
+    ghost use Rattle.fleet_dispatch.specs.Window.{window_rest, room_of};
 
     /// A window without bytes.
     pub fn new() -> Window
-        ensures { unpassed result ≡ [] }
+        ensures { window_rest result ≡ [] }
     {
         Window {
             bytes: [0; LINE_ROOM],
@@ -34,24 +34,24 @@ impl Window {
     }
 
     /// The bytes that are not yet passed.
-    pub fn unpassed(&self) -> &[u8]
-        ensures { result.now ≡ unpassed self.now }
+    pub fn rest(&self) -> &[u8]
+        ensures { result.now ≡ window_rest self.now }
     {
         &self.bytes[self.start..self.end]
     }
 
     /// Passes so many bytes, the first ones.
     pub fn pass(&mut self, count: usize)
-        requires { count ≤ length (unpassed self.old) }
-        ensures { unpassed self.new ≡ drop count (unpassed self.old) }
+        requires { count ≤ length (window_rest self.old) }
+        ensures { window_rest self.new ≡ drop count (window_rest self.old) }
     {
         self.start += count;
     }
 
     /// Moves the bytes that are not yet passed to the front, so that all other room is behind them.
     pub fn move_to_front(&mut self)
-        ensures bytes { unpassed self.new ≡ unpassed self.old }
-        ensures room { room_of self.new + length (unpassed self.new) ≡ LINE_ROOM }
+        ensures bytes { window_rest self.new ≡ window_rest self.old }
+        ensures room { room_of self.new + length (window_rest self.new) ≡ LINE_ROOM }
     {
         let (start, end) = (self.start, self.end);
         self.bytes.copy_within(start..end, 0);
@@ -62,10 +62,13 @@ impl Window {
     /// Reads once, into the room behind. Answers how many bytes came: none at the end of the input, or if there is no
     /// room.
     pub fn read_from<R: Read>(&mut self, input: &mut R) -> io::Result<usize>
-        ensures read { IfOk result (λ n. (more : List ℕ) × (length more ≡ n) × (unpassed self.new ≡ unpassed self.old ++ more)
+        ensures read { IfOk result (λ n. (more : List ℕ) × (length more ≡ n)
+            × (window_rest self.new ≡ window_rest self.old ++ more)
             × Consumes (R.remaining input.old) (R.remaining input.new) more) }
-        ensures end { IfOk result (λ n. n ≡ 0 → 0 < room_of self.old → IsAtEnd (R.remaining input.new)) }
-        ensures err { OnErr result ((unpassed self.new ≡ unpassed self.old) × Keeps (R.remaining input.old) (R.remaining input.new)) }
+        ensures end { IfOk result (λ n. n ≡ 0 → 0 < room_of self.old
+            → IsAtEnd (R.remaining input.new)) }
+        ensures err { OnErr result ((window_rest self.new ≡ window_rest self.old)
+            × Keeps (R.remaining input.old) (R.remaining input.new)) }
     {
         let end = self.end;
         let count = input.read(&mut self.bytes[end..])?;

@@ -8,7 +8,7 @@ ghost use Rattle.fleet_auto.specs.Texts.{AreTextsOf};
 ghost use Rattle.fleet_auto.specs.Trace.{WritesTrace};
 ghost use Rattle.fleet_dispatch.specs.Dispatch.{DispatchesFrom};
 ghost use Rattle.fleet_grid.specs.Ground.{Ground};
-ghost use Rattle.fleet_machine.specs.Confirmed.{all_but, AreSent, IsFirstUnsent};
+ghost use Rattle.fleet_machine.specs.Confirmed.{all_but, AreAllReady, IsFirstUnready};
 ghost use Rattle.fleet_machine.specs.Machine.{flag_of};
 ghost use Rattle.fleet_model.specs.Claims.{order_of};
 ghost use Rattle.fleet_model.specs.Machine.{tick};
@@ -108,11 +108,11 @@ pub fn note_report<P: ProgramView>(
           (all_but (flag_of done.now)) fleet.old.configuration;
       looked = fleet.new.looked;
     }) }
-    ensures sent { OnOk result (AreSent (P.program fleet.old.accepted.program)
+    ensures sent { OnOk result (AreAllReady (P.program fleet.old.accepted.program)
         fleet.old.configuration (flag_of done.now)) }
     ensures order { IfOk result (λ step.
         step ≡ order_of (P.program fleet.new.accepted.program) fleet.new.configuration i) }
-    ensures refused { IfErr result (λ e. IsFirstUnsent (P.program fleet.old.accepted.program)
+    ensures refused { IfErr result (λ e. IsFirstUnready (P.program fleet.old.accepted.program)
         fleet.old.configuration (flag_of done.now) e.agent) }
     ensures unchanged { OnErr result (fleet.new ≡ fleet.old) }
 {

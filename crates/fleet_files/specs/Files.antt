@@ -1,6 +1,6 @@
 -- What a store of files holds, if it says so.
 use Rattle.std.specs.Prelude.{◌≡◌, ◌≢◌, ◌<◌, ◌≤◌, ℕ, List, length, Option, Some, None, ⊤}
-use Rattle.fleet_files.specs.declared.input.TheConstants.{MOST_BYTES}
+use Rattle.fleet_files.specs.declared.input.TheConstants.{MAX_BYTES}
 
 -- the bytes of each file, by its name
 abbrev pub Store : Type 0
@@ -14,12 +14,12 @@ HoldsBytes (Some files) name bytes = files name ≡ Some bytes
 -- the named file was read: it holds the bytes, and they are no more than are read
 pub record IsRead (files : Option Store) (name bytes : List ℕ) : Type 0 where
   pub held : HoldsBytes files name bytes
-  pub within : length bytes ≤ MOST_BYTES
+  pub within : length bytes ≤ MAX_BYTES
 
 -- there is no file of this name, or it has more bytes than are read
 abbrev pub IsUnreadable : Option Store → List ℕ → Type 0
 IsUnreadable None name = ⊤
-IsUnreadable (Some files) name = (bytes : List ℕ) → files name ≡ Some bytes → MOST_BYTES < length bytes
+IsUnreadable (Some files) name = (bytes : List ℕ) → files name ≡ Some bytes → MAX_BYTES < length bytes
 
 -- every file is as before
 abbrev pub AreUnchanged : Option Store → Option Store → Type 0

@@ -3,7 +3,7 @@
 ghost use Rattle.std.specs.Prelude.{◌≡◌, ◌≤◌, Err, IfOk, IfErr, OnOk, length};
 ghost use Rattle.fleet_files.specs.Files.{Store, HoldsBytes, IsUnreadable, AreUnchanged, ChangesOnly, Replaces};
 
-use crate::input::{FileFault, MOST_BYTES};
+use crate::input::{FileFault, MAX_BYTES};
 use std::alloc::Global;
 
 /// A store of files, each with its bytes under its name.
@@ -20,11 +20,11 @@ pub trait Files {
     /// Whether a write of the named file may end in this fault.
     ghost refuses_write: { Self → List ℕ → FileFault → Type 0 } = { λ _ _ _. ⊤ };
 
-    /// The whole file. Errors: `OutOfMemory`, or `Failed` if it cannot be read or has more than `MOST_BYTES` bytes; a store
+    /// The whole file. Errors: `OutOfMemory`, or `Failed` if it cannot be read or has more than `MAX_BYTES` bytes; a store
     /// that says what it holds answers `Failed` only if there is no such file or it has more.
     fn read(&mut self, alloc: Global, name: &str) -> Result<Vec<u8>, FileFault>
         ensures bytes { IfOk result (λ bytes. HoldsBytes (contents self.old) name.now bytes.items) }
-        ensures within { IfOk result (λ bytes. length bytes.items ≤ MOST_BYTES) }
+        ensures within { IfOk result (λ bytes. length bytes.items ≤ MAX_BYTES) }
         ensures refused { IfErr result (refuses_read self.old name.now) }
         ensures unreadable { result ≡ Err FileFault.Failed
             → IsUnreadable (contents self.old) name.now }

@@ -11,13 +11,13 @@ use thiserror::Error;
 pub enum FileFault {
     #[error("out of memory")]
     OutOfMemory,
-    /// It cannot be read or written, or has more than `MOST_BYTES` bytes.
+    /// It cannot be read or written, or has more than `MAX_BYTES` bytes.
     #[error("the file cannot be read or written")]
     Failed,
 }
 
 /// The greatest number of bytes of a file or an input that is read.
-pub const MOST_BYTES: usize = 268_435_456;
+pub const MAX_BYTES: usize = 268_435_456;
 
 /// How many bytes are asked for at a time.
 const CHUNK: usize = 16_384;
@@ -28,7 +28,7 @@ enum InputStop {
     OutOfMemory,
     /// A read failed or was interrupted.
     Unreadable,
-    /// It has more than `MOST_BYTES` bytes.
+    /// It has more than `MAX_BYTES` bytes.
     TooLong,
 }
 
@@ -46,13 +46,13 @@ impl From<InputStop> for FileFault {
     }
 }
 
-/// All bytes of the reader, unless they are more than `MOST_BYTES`.
+/// All bytes of the reader, unless they are more than `MAX_BYTES`.
 fn read_to_limit<R: Read>(alloc: Global, reader: &mut R) -> Result<Vec<u8>, InputStop>
     ensures whole { IfOk result (λ bytes. IfSome (R.remaining reader.old)
         (λ rest. bytes.items ≡ rest)) }
-    ensures within { IfOk result (λ bytes. length bytes.items ≤ MOST_BYTES) }
+    ensures within { IfOk result (λ bytes. length bytes.items ≤ MAX_BYTES) }
     ensures too_long { result ≡ Err InputStop.TooLong
-        → IfSome (R.remaining reader.old) (λ rest. MOST_BYTES < length rest) }
+        → IfSome (R.remaining reader.old) (λ rest. MAX_BYTES < length rest) }
 {
     let mut bytes = Vec::new(alloc);
     let mut chunk = [0; CHUNK];
@@ -64,7 +64,7 @@ fn read_to_limit<R: Read>(alloc: Global, reader: &mut R) -> Result<Vec<u8>, Inpu
         if count == 0 {
             return Ok(bytes);
         }
-        if MOST_BYTES - bytes.len() < count {
+        if MAX_BYTES - bytes.len() < count {
             return Err(InputStop::TooLong);
         }
         if bytes.extend_from_slice(&chunk[..count]).is_err() {
@@ -73,12 +73,12 @@ fn read_to_limit<R: Read>(alloc: Global, reader: &mut R) -> Result<Vec<u8>, Inpu
     }
 }
 
-/// All bytes of the reader. Errors: `Failed` if a read fails or is interrupted, or if there are more than `MOST_BYTES`
+/// All bytes of the reader. Errors: `Failed` if a read fails or is interrupted, or if there are more than `MAX_BYTES`
 /// bytes, and `OutOfMemory`.
 pub fn read_whole<R: Read>(alloc: Global, reader: &mut R) -> Result<Vec<u8>, FileFault>
     ensures whole { IfOk result (λ bytes. IfSome (R.remaining reader.old)
         (λ rest. bytes.items ≡ rest)) }
-    ensures within { IfOk result (λ bytes. length bytes.items ≤ MOST_BYTES) }
+    ensures within { IfOk result (λ bytes. length bytes.items ≤ MAX_BYTES) }
 {
     let bytes = read_to_limit(alloc, reader)?;
     Ok(bytes)

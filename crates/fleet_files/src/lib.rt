@@ -8,5 +8,5 @@ mod mem_files;
 
 pub use disk::Disk;
 pub use files::Files;
-pub use input::{FileFault, MOST_BYTES, read_whole};
+pub use input::{FileFault, MAX_BYTES, read_whole};
 pub use mem_files::MemFiles;

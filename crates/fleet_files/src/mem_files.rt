@@ -4,7 +4,7 @@ ghost use Rattle.std.specs.Prelude.{◌≡◌, ◌≢◌, ◌≤◌, ◌<◌, �
 ghost use Rattle.fleet_files.specs.Files.{Replaces};
 
 use crate::files::Files;
-use crate::input::{FileFault, MOST_BYTES};
+use crate::input::{FileFault, MAX_BYTES};
 use fleet_model::OutOfMemory;
 use indexmap::IndexMap;
 use std::alloc::Global;
@@ -62,18 +62,18 @@ impl Files for MemFiles {
 
     ghost refuses_write = { λ _ _ fault. fault ≡ OutOfMemory };
 
-    /// `Failed` only if there is no such file, or if it has more than `MOST_BYTES` bytes.
+    /// `Failed` only if there is no such file, or if it has more than `MAX_BYTES` bytes.
     fn read(&mut self, alloc: Global, name: &str) -> Result<Vec<u8>, FileFault>
         ensures bytes { IfOk result (λ bytes. file_in self.old name.now ≡ Some bytes.items) }
-        ensures within { IfOk result (λ bytes. length bytes.items ≤ MOST_BYTES) }
+        ensures within { IfOk result (λ bytes. length bytes.items ≤ MAX_BYTES) }
         ensures kept { (n : List ℕ) → file_in self.new n ≡ file_in self.old n }
         ensures unreadable { result ≡ Err FileFault.Failed → (bytes : List ℕ)
-            → file_in self.old name.now ≡ Some bytes → MOST_BYTES < length bytes }
+            → file_in self.old name.now ≡ Some bytes → MAX_BYTES < length bytes }
     {
         let Some(bytes) = self.get(name) else {
             return Err(FileFault::Failed);
         };
-        if bytes.len() > MOST_BYTES {
+        if bytes.len() > MAX_BYTES {
             return Err(FileFault::Failed);
         }
         match Vec::from_slice(alloc, bytes) {

@@ -289,6 +289,6 @@ read ls (Ok h) e g a = tt
 read ls (Err OutOfMemory) e g a = refl
 read ls (Err f) e g a = absurd (ok_err g f (sym (is_read ls g a) ∙ e (λ memory. cc)))
 
-pub told : (ls : List Bytes) (made : Result Ground MapFault) → IsDueUnless (λ g. g) made (map_at ls) OutOfMemory → IfErr made (λ f. f ≢ OutOfMemory → IsFirstMapLineFault ls f)
-told ls (Ok g) e = tt
-told ls (Err f) e = λ other. is_fault ls f (e other)
+pub reported_is_first : (ls : List Bytes) (made : Result Ground MapFault) → IsDueUnless (λ g. g) made (map_at ls) OutOfMemory → IfErr made (λ f. f ≢ OutOfMemory → IsFirstMapLineFault ls f)
+reported_is_first ls (Ok g) e = tt
+reported_is_first ls (Err f) e = λ other. is_fault ls f (e other)

@@ -2,4 +2,4 @@ pub mod Ground
 pub mod MapText
 pub mod MapReading
 pub mod Stored
-pub mod Told
+pub mod RefusalWords

@@ -41,7 +41,7 @@ impl From<AllocError> for MapFault {
 }
 
 impl Refusal for MapFault {
-    ghost use Rattle.fleet_grid.specs.Told.{map_words, is_map_failure};
+    ghost use Rattle.fleet_grid.specs.RefusalWords.{map_words, is_map_failure};
 
     ghost words = { map_words };
 

@@ -30,7 +30,8 @@ impl Model for Grid {
 
     ghost view = { λ g. ground_of g.width g.height g.cells.bytes.items };
 
-    ghost invariant = { λ g. IsSide g.width × IsSide g.height × IsStored g.width g.height g.cells.passable_count g.cells.bytes.items };
+    ghost invariant = { λ g. IsSide g.width × IsSide g.height
+        × IsStored g.width g.height g.cells.passable_count g.cells.bytes.items };
 }
 
 impl Grid {

@@ -16,8 +16,8 @@ use Rattle.fleet_rows.proofs.Passing.{same_or_not}
 use Rattle.fleet_settled.specs.Implied.{IsImpliedFlag, first_await}
 use Rattle.fleet_settled.specs.Settled.{AreSettled}
 use Rattle.fleet_settled.proofs.AwaitOrder.{flag_apart}
-use Rattle.fleet_implied.specs.Flags.{AreFlagged, AreToldOf, AreLeft, AreAllTold}
-use Rattle.fleet_implied.proofs.Told.{told}
+use Rattle.fleet_implied.specs.Flags.{AreFlagged, AreFlaggedFor, AreLeft, AreAllFlagged}
+use Rattle.fleet_implied.proofs.RowFlags.{flagged}
 
 -- ---- the flags of one action, one after another
 
@@ -29,7 +29,7 @@ told_of p range formed columns a row is others k c w at has =
     let there : slice_get (awaits_of p a.agent (a.number - 1 + 1)) k ≡ Some w = subst (λ (n : ℕ). slice_get (awaits_of p a.agent n) k ≡ Some w) (sym e) at in
     let same : ◌≡◌ {A = ActionId} (record { agent = a.agent; number = a.number - 1 + 1 }) a = (λ t. record { agent = a.agent; number = e t }) in
     subst (λ (x : ActionId). IsImpliedFlag p x w (nat_le w.count (slice_index row c))) same
-    (told p range a.agent (a.number - 1) k w there (formed.awaits a.agent (a.number - 1 + 1)) (slice_index row c) (others w.agent c has))
+    (flagged p range a.agent (a.number - 1) k w there (formed.awaits a.agent (a.number - 1 + 1)) (slice_index row c) (others w.agent c has))
 
 module _ (p : Program) (columns : Columns) (a : ActionId) (first k : ℕ) (one : Await) (at : slice_get (awaits_of p a.agent a.number) k ≡ Some one) (old new : List Bool)
     (others : (n : ℕ) → n ≢ first + k → get_or new n false ≡ get_or old n false) where
@@ -65,12 +65,12 @@ module _ (p : Program) (columns : Columns) (a : ActionId) (first k : ℕ) (one :
 -- ---- the flags of one action more
 
 pub told_on : (p : Program) (columns : Columns) (Done Next : ActionId → Type 0) (a : ActionId) (old new : List Bool) → IsAction p a → ((b : ActionId) → IsAction p b → Next b → Done b ⊎ (b ≡ a))
-    → ((b : ActionId) → IsAction p b → Done b → b ≢ a) → AreFlagged p columns a old new → AreToldOf p columns Done old → AreToldOf p columns Next new
+    → ((b : ActionId) → IsAction p b → Done b → b ≢ a) → AreFlagged p columns a old new → AreFlaggedFor p columns Done old → AreFlaggedFor p columns Next new
 told_on p columns Done Next a old new is back apart h before b kb next k c w at has = elim (back b kb next) [
   | inl done ↦ subst (IsImpliedFlag p b w) (sym (h.others (first_await p b + k) (flag_apart p b a kb is (apart b kb done) k (slice_get_within (awaits_of p b.agent b.number) k w at)))) (before b kb done k c w at has)
   | inr e ↦
       subst (λ (x : ActionId). IsImpliedFlag p x w (get_or new (first_await p x + k) false)) (sym e)
-      (h.told k c w (subst (λ (x : ActionId). slice_get (awaits_of p x.agent x.number) k ≡ Some w) e at) has)
+      (h.flagged k c w (subst (λ (x : ActionId). slice_get (awaits_of p x.agent x.number) k ≡ Some w) e at) has)
 ]
 
 pub left_on : (p : Program) (columns : Columns) (a : ActionId) (old new : List Bool) → IsAction p a → AreFlagged p columns a old new → AreLeft p columns old new
@@ -82,12 +82,12 @@ left_on p columns a old new is h b kb k w at none = elim (same_or_not b a) [
 ]
 
 pub told_counted : (p : Program) (columns : Columns) (counts : List ℕ) (a : ActionId) (old new : List Bool) → IsAction p a → IsNextAction p counts a → AreFlagged p columns a old new
-    → AreToldOf p columns (IsCounted counts) old → AreToldOf p columns (IsCounted (set counts a.agent a.number)) new
+    → AreFlaggedFor p columns (IsCounted counts) old → AreFlaggedFor p columns (IsCounted (set counts a.agent a.number)) new
 told_counted p columns counts a old new is next h before =
     told_on p columns (IsCounted counts) (IsCounted (set counts a.agent a.number)) a old new is
     (λ b k. counted_back counts a next.agent next.number b) (λ b k. counted_apart counts a next.agent next.number b) h before
 
-pub told_none : (p : Program) (columns : Columns) (n : ℕ) (flags : List Bool) → AreToldOf p columns (IsCounted (replicate n 0)) flags
+pub told_none : (p : Program) (columns : Columns) (n : ℕ) (flags : List Bool) → AreFlaggedFor p columns (IsCounted (replicate n 0)) flags
 told_none p columns n flags a is done = absurd (none_counted n a is.first done)
 
 -- ---- the flags of one block more
@@ -117,7 +117,7 @@ told_to p asked from columns h old new here left settled before a is k w at l = 
     ])
 
 -- if no agent is asked for, all flags say whether their await is implied
-pub told_if_none : (p : Program) (asked flags : List Bool) → ((j : ℕ) → get_or asked j false ≡ false) → AreSettled p asked flags → AreAllTold p flags
+pub told_if_none : (p : Program) (asked flags : List Bool) → ((j : ℕ) → get_or asked j false ≡ false) → AreSettled p asked flags → AreAllFlagged p flags
 told_if_none p asked flags none settled a is k w at = elim (settled a is is k w at) [ inr was ↦ was | inl set ↦ absurd (unset (sym (none w.agent) ∙ set)) ]
   where
     unset : false ≡ true → ⊥

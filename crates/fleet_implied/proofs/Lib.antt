@@ -1,2 +1,2 @@
-mod Told
+mod RowFlags
 mod Flagged

@@ -15,14 +15,14 @@ use Rattle.fleet_implied.specs.declared.implied.ImpliedAwaits.{ImpliedAwaits}
 -- the flags of the action's awaits say whether they are implied, if their agents have a column, and no other flag has
 -- changed
 pub record AreFlagged (p : Program) (columns : Columns) (a : ActionId) (old new : List Bool) : Type 0 where
-  pub told : (k c : ℕ) (w : Await) → slice_get (awaits_of p a.agent a.number) k ≡ Some w → HasColumn columns w.agent c → IsImpliedFlag p a w (get_or new (first_await p a + k) false)
+  pub flagged : (k c : ℕ) (w : Await) → slice_get (awaits_of p a.agent a.number) k ≡ Some w → HasColumn columns w.agent c → IsImpliedFlag p a w (get_or new (first_await p a + k) false)
   pub none : (k : ℕ) (w : Await) → slice_get (awaits_of p a.agent a.number) k ≡ Some w → column_of columns w.agent ≡ None
       → get_or new (first_await p a + k) false ≡ get_or old (first_await p a + k) false
   pub others : (n : ℕ) → (n < first_await p a) ⊎ (first_await p a + length (awaits_of p a.agent a.number) ≤ n) → get_or new n false ≡ get_or old n false
 
 -- the flags of all awaits of these actions say whether they are implied, if their agents have a column
-abbrev pub AreToldOf : Program → Columns → (ActionId → Type 0) → List Bool → Type 0
-AreToldOf p columns Done flags =
+abbrev pub AreFlaggedFor : Program → Columns → (ActionId → Type 0) → List Bool → Type 0
+AreFlaggedFor p columns Done flags =
     (a : ActionId) → IsAction p a → Done a → (k c : ℕ) (w : Await) → slice_get (awaits_of p a.agent a.number) k ≡ Some w → HasColumn columns w.agent c
     → IsImpliedFlag p a w (get_or flags (first_await p a + k) false)
 
@@ -33,18 +33,18 @@ AreLeft p columns old new =
     → get_or new (first_await p a + k) false ≡ get_or old (first_await p a + k) false
 
 -- the flags of all awaits of the program say whether they are implied
-abbrev pub AreAllTold : Program → List Bool → Type 0
-AreAllTold p flags =
+abbrev pub AreAllFlagged : Program → List Bool → Type 0
+AreAllFlagged p flags =
     (a : ActionId) → IsAction p a → (k : ℕ) (w : Await) → slice_get (awaits_of p a.agent a.number) k ≡ Some w → IsImpliedFlag p a w (get_or flags (first_await p a + k) false)
 
 -- of each await of the program it is known whether it is implied
 pub record AreImplied (p : Program) (m : ImpliedAwaits) : Type 0 where
   pub places : AreAwaitPlaces p m.places
   pub all : length m.flags.items ≡ total_awaits p
-  pub told : AreAllTold p m.flags.items
+  pub flagged : AreAllFlagged p m.flags.items
 
 -- the state of the flags once so many actions of each agent are finished
-pub record AreFlagsOf (p : Program) (b : Block) (counts : List ℕ) (m : ImpliedAwaits) : Type 0 where
+pub record AreAwaitFlags (p : Program) (b : Block) (counts : List ℕ) (m : ImpliedAwaits) : Type 0 where
   pub places : AreAwaitPlaces p m.places
   pub all : length m.flags.items ≡ total_awaits p
-  pub told : AreToldOf p b.columns (IsCounted counts) m.flags.items
+  pub flagged : AreFlaggedFor p b.columns (IsCounted counts) m.flags.items

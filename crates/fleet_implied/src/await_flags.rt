@@ -45,7 +45,7 @@ fn flag_await(columns: &Columns, row: &[u32], awaited: Await, place: usize, flag
     requires agent { awaited.agent < agents_in columns.now }
     requires within { (j k : ℕ) → HasColumn columns.now j k → k < length row.now }
     requires place { place < length flags.old }
-    ensures told { (k : ℕ) → HasColumn columns.now awaited.agent k
+    ensures flagged { (k : ℕ) → HasColumn columns.now awaited.agent k
         → get_or flags.new place false ≡ nat_le awaited.count (slice_index row.now k) }
     ensures none { column_of columns.now awaited.agent ≡ None
         → get_or flags.new place false ≡ get_or flags.old place false }

@@ -7,9 +7,9 @@ use fleet_rows::{Block, RowPass, RowUse, others_row, whole_row};
 
 impl RowUse for ImpliedAwaits {
     ghost use Rattle.std.proofs.Common.{refl, ◌∙◌};
-    ghost use Rattle.fleet_implied.specs.Flags.{AreLeft, AreFlagsOf};
+    ghost use Rattle.fleet_implied.specs.Flags.{AreLeft, AreAwaitFlags};
 
-    ghost used = { AreFlagsOf };
+    ghost used = { AreAwaitFlags };
 
     ghost keeps = { λ p b old new. AreLeft p b.columns old.flags.items new.flags.items };
 

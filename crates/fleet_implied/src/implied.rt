@@ -25,7 +25,12 @@ pub struct ImpliedAwaits {
 
 impl ImpliedAwaits {
     /// Await `k` of the action, unless others imply it. Takes no memory.
-    pub fn unimplied<P: ProgramView>(&self, program: &P, action: ActionId, k: u16) -> Option<Await>
+    pub fn await_unless_implied<P: ProgramView>(
+        &self,
+        program: &P,
+        action: ActionId,
+        k: u16,
+    ) -> Option<Await>
         requires implied { AreImplied (P.program program.now) self.now }
         requires action { IsAction (P.program program.now) action }
         requires place { k < length (awaits_of (P.program program.now) action.agent action.number) }
@@ -60,13 +65,13 @@ pub fn implied_awaits<P: ProgramView>(
     let places = AwaitPlaces::of(alloc, program)?;
     let flags = vec![in alloc; false; total_awaits(program) as usize]?;
     let mut implied = ImpliedAwaits { places, flags };
-    tell_all(alloc, program, ticks, &mut implied)?;
+    flag_implied(alloc, program, ticks, &mut implied)?;
     Ok(implied)
 }
 
 /// Flags the awaits that others imply: first by a few steps back, and then, for the agents of awaits that these leave
 /// open, by rows.
-fn tell_all<P: ProgramView>(
+fn flag_implied<P: ProgramView>(
     alloc: Global,
     program: &P,
     ticks: u32,

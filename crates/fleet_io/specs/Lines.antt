@@ -2,15 +2,15 @@
 use Rattle.std.specs.Prelude.{ℕ, Bool, true, List, [], ◌∷◌, if◌then◌else◌, codes}
 use Rattle.fleet_text.specs.Words.{line_text}
 use Rattle.fleet_text.specs.Refusals.{memory_words}
-use Rattle.fleet_grid.specs.Told.{map_words, is_map_failure}
-use Rattle.fleet_scen.specs.Told.{scen_words, is_scen_failure}
-use Rattle.fleet_plan.specs.Told.{text_words, is_text_failure, check_words, is_check_failure}
-use Rattle.fleet_search.specs.Told.{search_words, is_search_failure}
-use Rattle.fleet_code.specs.Told.{hex_words, is_hex_failure, load_words, is_load_failure}
-use Rattle.fleet_adg.specs.Told.{compile_words, is_compile_failure}
-use Rattle.fleet_verify.specs.Told.{verify_words, is_verify_failure}
-use Rattle.fleet_run.specs.Told.{run_words, is_run_failure}
-use Rattle.fleet_dispatch.specs.Told.{dispatch_words, is_dispatch_failure}
+use Rattle.fleet_grid.specs.RefusalWords.{map_words, is_map_failure}
+use Rattle.fleet_scen.specs.RefusalWords.{scen_words, is_scen_failure}
+use Rattle.fleet_plan.specs.RefusalWords.{text_words, is_text_failure, check_words, is_check_failure}
+use Rattle.fleet_search.specs.RefusalWords.{search_words, is_search_failure}
+use Rattle.fleet_code.specs.RefusalWords.{hex_words, is_hex_failure, load_words, is_load_failure}
+use Rattle.fleet_adg.specs.RefusalWords.{compile_words, is_compile_failure}
+use Rattle.fleet_verify.specs.RefusalWords.{verify_words, is_verify_failure}
+use Rattle.fleet_run.specs.RefusalWords.{run_words, is_run_failure}
+use Rattle.fleet_dispatch.specs.RefusalWords.{dispatch_words, is_dispatch_failure}
 use Rattle.fleet_auto.specs.declared.fault.AutoFault.{AutoFault}
 use Rattle.fleet_auto.specs.declared.fault.AutoFault.TheVariants as a
 use Rattle.fleet_auto.specs.declared.fault.AcceptFault.{AcceptFault}

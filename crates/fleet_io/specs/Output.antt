@@ -12,8 +12,8 @@ use Rattle.fleet_io.specs.declared.fault.Fault.{Fault}
 use Rattle.fleet_io.specs.declared.fault.Fault.TheVariants as f
 
 -- the refusal was reported: the sink took its line, or failed within it
-abbrev pub IsRefusalTold : Fault → (err err' : SinkState) → Type 0
-IsRefusalTold fault err err' = Receives err err' (refusal_line fault)
+abbrev pub IsRefusalWritten : Fault → (err err' : SinkState) → Type 0
+IsRefusalWritten fault err err' = Receives err err' (refusal_line fault)
 
 -- the rehearsal of the program under these holds was written and handed on, and ended so
 pub record WritesRehearsal (p : Program) (holds : Holds) (out out' : SinkState) (end : End) : Type 0 where
@@ -25,14 +25,14 @@ pub record WritesRehearsal (p : Program) (holds : Holds) (out out' : SinkState) 
 -- the command is done with this status, and nothing was reported; or its refusal was reported, and the refusal's status is answered
 abbrev pub Finishes : Result ℕ Fault → (err err' : SinkState) → ℕ → Type 0
 Finishes (Ok done) err err' status = (status ≡ done) × IsUnwritten err err'
-Finishes (Err fault) err err' status = IsRefusalTold fault err err' × (status ≡ status_of fault)
+Finishes (Err fault) err err' status = IsRefusalWritten fault err err' × (status ≡ status_of fault)
 
 -- What becomes of a command, by what it does with a status and what refusals it may have: it was done, and nothing was reported; or a
 -- refusal was reported, and the refusal's status is answered
 abbrev pub Outcome : (Does : ℕ → Type 0) → (Refuses : Fault → Type 0) → (err err' : SinkState) → ℕ → Type 0
 Outcome Does Refuses err err' status =
     (Does status × IsUnwritten err err')
-    ⊎ ((fault : Fault) × Refuses fault × IsRefusalTold fault err err' × (status ≡ status_of fault))
+    ⊎ ((fault : Fault) × Refuses fault × IsRefusalWritten fault err err' × (status ≡ status_of fault))
 
 -- how a rehearsal ended, as a status
 abbrev pub end_status : End → ℕ

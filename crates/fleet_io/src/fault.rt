@@ -135,7 +135,7 @@ impl Fault<'_> {
 pub fn refuse<E: TraceOut>(fault: &Fault<'_>, err: &mut E) -> u8
     requires { IsWorking (E.state err.old) }
     ensures status { result ≡ status_of fault.now }
-    ensures told { Receives (E.state err.old) (E.state err.new) (refusal_line fault.now) }
+    ensures written { Receives (E.state err.old) (E.state err.new) (refusal_line fault.now) }
 {
     fault.tell(err);
     fault.status()

@@ -6,7 +6,7 @@ mod flush;
 mod named;
 
 pub use fault::{Fault, finish, refuse};
-pub use fleet_files::{Disk, FileFault, Files, MOST_BYTES, MemFiles, read_whole};
+pub use fleet_files::{Disk, FileFault, Files, MAX_BYTES, MemFiles, read_whole};
 pub use fleet_text::{Word, put_count, put_line};
 pub use flush::{deliver, flush_run, rehearse_flushed, run_flushed};
 pub use named::{

@@ -6,7 +6,7 @@ use Rattle.fleet_model.specs.declared.standing.Standing.{Standing}
 use Rattle.fleet_model.specs.Program.{Program, moves}
 use Rattle.fleet_model.specs.Machine.{Configuration, standing_at, count_at, is_ready, is_moving, standing_after, tick}
 use Rattle.fleet_machine.specs.AgentSet.{AreNoneFrom, IsNextFrom}
-use Rattle.fleet_machine.specs.Confirmed.{all_but, AreSent}
+use Rattle.fleet_machine.specs.Confirmed.{all_but, AreAllReady}
 use Rattle.fleet_machine.specs.Machine.{MachineState, Runs, flag_of, after_next, moving_flags}
 use Rattle.fleet_machine.specs.Waking.{HasMoved}
 use Rattle.fleet_machine.proofs.Advanced.{left_if_ready, after_move, stays}
@@ -20,7 +20,7 @@ pub record AreCarried (p : Program) (flags : List Bool) (old rows : Configuratio
 pub none_carried : (p : Program) (done : List Bool) (old : Configuration) → length old ≡ length p → AreCarried p done old old 0
 none_carried p done old long = record { done = λ k lt. absurd (omega arith); rest = λ k ge. refl; long = long }
 
-module _ (p : Program) (done : List Bool) (old : Configuration) (sent : AreSent p old (flag_of done)) where
+module _ (p : Program) (done : List Bool) (old : Configuration) (sent : AreAllReady p old (flag_of done)) where
   moves_if : (k : ℕ) → k < length p → flag_of done k ≡ true → is_moving p (all_but (flag_of done)) old k ≡ true
   moves_if k agent flag = rw (sent k agent flag, flag) refl
 
@@ -79,7 +79,7 @@ module _ (p : Program) (done : List Bool) (old : Configuration) (sent : AreSent 
         ])
 
 -- the flagged agents were chosen, and have moved
-pub chosen_moved : (p : Program) (done : List Bool) (old chosen moved : MachineState) → Runs p old → AreSent p old.configuration (flag_of done) → length done ≡ length p
+pub chosen_moved : (p : Program) (done : List Bool) (old chosen moved : MachineState) → Runs p old → AreAllReady p old.configuration (flag_of done) → length done ≡ length p
     → chosen ≡ record old { moving = done; due = done }
     → moved ≡ record chosen { configuration = tick p (all_but (flag_of chosen.moving)) chosen.configuration }
     → HasMoved p (all_but (flag_of done)) old moved

@@ -8,11 +8,11 @@ abbrev pub all_but : (ℕ → Bool) → ℕ → Bool
 all_but done i = not (done i)
 
 -- each of these agents has an order
-abbrev pub AreSent : Program → Configuration → (ℕ → Bool) → Type 0
-AreSent p c done = (i : ℕ) → i < length p → IsTrue (done i) → IsTrue (is_ready p c i)
+abbrev pub AreAllReady : Program → Configuration → (ℕ → Bool) → Type 0
+AreAllReady p c done = (i : ℕ) → i < length p → IsTrue (done i) → IsTrue (is_ready p c i)
 
 -- the first of these agents that has no order
-pub record IsFirstUnsent (p : Program) (c : Configuration) (done : ℕ → Bool) (i : ℕ) : Type 0 where
+pub record IsFirstUnready (p : Program) (c : Configuration) (done : ℕ → Bool) (i : ℕ) : Type 0 where
   pub agent : i < length p
   pub reported : done i ≡ true
   pub unready : is_ready p c i ≡ false

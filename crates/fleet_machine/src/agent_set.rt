@@ -81,7 +81,8 @@ fn highest_below(word: u64, end: usize) -> Option<usize>
 
 /// The bits of the word that the other has not.
 fn without_bits(word: u64, others: u64) -> u64
-    ensures { (k : ℕ) → k < 64 → bit_at result k ≡ bit_if (bit_at word k == 1 && not (bit_at others k == 1)) }
+    ensures { (k : ℕ) → k < 64 → bit_at result k
+        ≡ bit_if (bit_at word k == 1 && not (bit_at others k == 1)) }
 {
     word & !others
 }
@@ -199,7 +200,8 @@ impl AgentSet {
         requires few { length flags.now ≤ MAX_AGENTS }
         requires flags { length self.old ≡ length flags.now }
         ensures agents { length self.new ≡ length self.old }
-        ensures members { (i : ℕ) → flag_of self.new i ≡ (flag_of self.old i && not (flag_of flags.now i)) }
+        ensures members { (i : ℕ) → flag_of self.new i
+            ≡ (flag_of self.old i && not (flag_of flags.now i)) }
     {
         let mut from = 0;
         while let Some(i) = next_flag(flags, from) {
@@ -211,7 +213,8 @@ impl AgentSet {
     /// The members that are not members of the other set.
     pub fn without(&self, others: &AgentSet) -> AgentSet
         ensures agents { length result ≡ length self.now }
-        ensures members { (i : ℕ) → flag_of result i ≡ (flag_of self.now i && not (flag_of others.now i)) }
+        ensures members { (i : ℕ) → flag_of result i
+            ≡ (flag_of self.now i && not (flag_of others.now i)) }
     {
         let all = self.words;
         let taken = others.words;

@@ -7,7 +7,7 @@ ghost use Rattle.fleet_model.specs.Program.{moves, IsWellFormed};
 ghost use Rattle.fleet_model.specs.Machine.{opening, is_finished, next_action, is_ready, is_met, tick, moved_in, is_ready_held, standing_at, count_at, indices};
 ghost use Rattle.fleet_model.specs.Claims.{order_of};
 ghost use Rattle.fleet_machine.specs.AgentSet.{AreNoneFrom, IsNextFrom};
-ghost use Rattle.fleet_machine.specs.Confirmed.{all_but, AreSent, IsFirstUnsent};
+ghost use Rattle.fleet_machine.specs.Confirmed.{all_but, AreAllReady, IsFirstUnready};
 ghost use Rattle.fleet_machine.specs.Looked.{ready_in, awaiting_in, LooksAt};
 ghost use Rattle.fleet_machine.specs.Near.{IsNear, AreNear};
 ghost use Rattle.fleet_machine.specs.Machine.{MachineState, Runs, HasRows, IsHome, IsJudged, is_left, after_next, moving_flags, flag_of};
@@ -91,7 +91,7 @@ fn after_step(standing: Standing, step: Step) -> Standing
 }
 
 /// How many agents a tick looked at: those that were ready, and of those that it judged those that did not move.
-fn looked_in_tick(ready: u16, moved: u16, judged: u16) -> u16
+fn look_count(ready: u16, moved: u16, judged: u16) -> u16
     requires ready { ready ≤ MAX_AGENTS }
     requires judged { judged ≤ MAX_AGENTS }
     requires moved { moved ≤ judged }
@@ -124,13 +124,13 @@ impl Machine {
         let agents = starts(alloc, program)?;
         let count = program.agents();
         let waiting = WaitLists::new(alloc, count as usize, count as usize)?;
-        let mut machine = Machine::unjudged(agents, count, waiting);
+        let mut machine = Machine::with_agents(agents, count, waiting);
         machine.judge_all(program);
         Ok(machine)
     }
 
     /// So many agents, which stand there and in these lists. None is flagged.
-    fn unjudged(agents: Vec<Standing>, count: u16, waiting: WaitLists) -> Machine
+    fn with_agents(agents: Vec<Standing>, count: u16, waiting: WaitLists) -> Machine
         requires near { AreNear agents.items }
         requires few { count ≤ MAX_AGENTS }
         ensures { result ≡ record {
@@ -218,7 +218,7 @@ impl Machine {
     }
 
     /// An agent whose count agent `i` lacks for its next action, if it has one and lacks a count.
-    fn lacked<P: ProgramView>(&self, program: &P, i: u16) -> Option<u16>
+    fn missing_agent<P: ProgramView>(&self, program: &P, i: u16) -> Option<u16>
         requires well_formed { IsWellFormed (P.program program.now) }
         requires agents { length self.now.configuration ≡ length (P.program program.now) }
         requires agent { i < length (P.program program.now) }
@@ -275,30 +275,22 @@ impl Machine {
     }
 
     /// The first flagged agent that is not ready, if there is one.
-    pub fn first_unsent<P: ProgramView>(&self, program: &P, done: &[bool]) -> Option<u16>
+    pub fn first_unready<P: ProgramView>(&self, program: &P, done: &[bool]) -> Option<u16>
         requires runs { Runs (P.program program.now) self.now }
         requires done { length done.now ≡ length (P.program program.now) }
         ensures { MatchOption result
-            (AreSent (P.program program.now) self.now.configuration (flag_of done.now))
-            (IsFirstUnsent (P.program program.now) self.now.configuration (flag_of done.now)) }
+            (AreAllReady (P.program program.now) self.now.configuration (flag_of done.now))
+            (IsFirstUnready (P.program program.now) self.now.configuration (flag_of done.now)) }
     {
         let mut from = 0;
         while let Some(i) = next_flag(done, from) {
-            let is_sent = self.is_ready(program, i);
-            if !is_sent {
+            let is_ready = self.is_ready(program, i);
+            if !is_ready {
                 return Some(i);
             }
             from = i + 1;
         }
         None
-    }
-
-    /// Whether the last tick moved agent `i`.
-    pub fn has_moved(&self, i: u16) -> bool
-        requires { i < length self.now.moving }
-        ensures { result ≡ flag_of self.now.moving i }
-    {
-        self.moving.contains(i)
     }
 
     /// The first agent from this one on that the last tick moved.
@@ -364,7 +356,7 @@ impl Machine {
         ensures { IsPlaced (P.program program.now) self.old self.new i }
     {
         let is_left = self.agent(i).count < program.moves(i);
-        let lacked = self.lacked(program, i);
+        let lacked = self.missing_agent(program, i);
         self.place(i, is_left, lacked);
     }
 
@@ -475,7 +467,8 @@ impl Machine {
         requires left { count_at self.old.configuration i < moves (P.program program.now) i }
         ensures { self.new ≡ record self.old {
           configuration =
-              set self.old.configuration i (after_next (P.program program.now) self.old.configuration i);
+              set self.old.configuration i (after_next
+              (P.program program.now) self.old.configuration i);
         } }
     {
         let step = self.next_step(program, i);
@@ -582,8 +575,10 @@ impl Machine {
     /// Takes all agents off the lists of those that a tick moved, and judges those that it took off and those that
     /// moved. Answers how many it judged.
     fn settle<P: ProgramView>(&mut self, program: &P) -> u16
-        requires moved { (before : MachineState) × (held : ℕ → Bool) × HasMoved (P.program program.now) held before self.old }
-        ensures { (before : MachineState) → (held : ℕ → Bool) → HasMoved (P.program program.now) held before self.old
+        requires moved { (before : MachineState) × (held : ℕ → Bool)
+            × HasMoved (P.program program.now) held before self.old }
+        ensures { (before : MachineState) → (held : ℕ → Bool)
+            → HasMoved (P.program program.now) held before self.old
             → IsCarriedOut (P.program program.now) held before self.new result }
     {
         self.wake_all();
@@ -611,7 +606,7 @@ impl Machine {
     {
         let (tick, ready) = self.advance(program, held);
         let judged = self.settle(program);
-        self.count_looked(looked_in_tick(ready, tick.moved, judged));
+        self.count_looked(look_count(ready, tick.moved, judged));
         tick
     }
 
@@ -631,9 +626,11 @@ impl Machine {
         requires well_formed { IsWellFormed (P.program program.now) }
         requires agents { length self.old.configuration ≡ length (P.program program.now) }
         requires moving { length self.old.moving ≡ length (P.program program.now) }
-        requires sent { AreSent (P.program program.now) self.old.configuration (flag_of self.old.moving) }
+        requires sent { AreAllReady (P.program program.now) self.old.configuration
+            (flag_of self.old.moving) }
         ensures { self.new ≡ record self.old {
-          configuration = tick (P.program program.now) (all_but (flag_of self.old.moving)) self.old.configuration;
+          configuration = tick (P.program program.now)
+              (all_but (flag_of self.old.moving)) self.old.configuration;
         } }
     {
         let mut from = 0;
@@ -648,13 +645,16 @@ impl Machine {
     pub fn carry_out<P: ProgramView>(&mut self, program: &P, done: &[bool])
         requires runs { Runs (P.program program.now) self.old }
         requires done { length done.now ≡ length (P.program program.now) }
-        requires sent { AreSent (P.program program.now) self.old.configuration (flag_of done.now) }
+        requires sent { AreAllReady (P.program program.now) self.old.configuration
+            (flag_of done.now) }
         ensures runs { Runs (P.program program.now) self.new }
         ensures after { self.new.configuration
             ≡ tick (P.program program.now) (all_but (flag_of done.now)) self.old.configuration }
         ensures moving { self.new.moving ≡ done.now }
-        ensures looked { LooksAt (moved_in (P.program program.now) (all_but (flag_of done.now)) self.old.configuration)
-            (awaiting_in (P.program program.now) (all_but (flag_of done.now)) self.old.configuration)
+        ensures looked { LooksAt (moved_in (P.program program.now)
+            (all_but (flag_of done.now)) self.old.configuration)
+            (awaiting_in (P.program program.now)
+            (all_but (flag_of done.now)) self.old.configuration)
             self.old.looked self.new.looked }
     {
         self.choose(done);

@@ -192,5 +192,5 @@ read ls (Form number) e plan a = absurd (ok_err plan (Form number) (sym (is_read
 read ls (Length number) e plan a = absurd (ok_err plan (Length number) (sym (is_read ls plan a) ∙ e (λ memory. cc)))
 read ls AgentCount e plan a = absurd (ok_err plan AgentCount (sym (is_read ls plan a) ∙ e (λ memory. cc)))
 
-pub told : (ls : List Bytes) (f : TextFault) → IsDueUnless {X = Plan} (λ plan. plan) (Err f) (paths_at [] ls) OutOfMemory → f ≢ OutOfMemory → IsFirstPlanLineFault ls f
-told ls f e other = is_fault ls f (e other)
+pub reported_is_first : (ls : List Bytes) (f : TextFault) → IsDueUnless {X = Plan} (λ plan. plan) (Err f) (paths_at [] ls) OutOfMemory → f ≢ OutOfMemory → IsFirstPlanLineFault ls f
+reported_is_first ls f e other = is_fault ls f (e other)

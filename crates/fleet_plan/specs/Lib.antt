@@ -7,4 +7,4 @@ pub mod UnderWay
 pub mod Sweep
 pub mod Plan
 pub mod Checked
-pub mod Told
+pub mod RefusalWords

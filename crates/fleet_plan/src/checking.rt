@@ -27,10 +27,14 @@ pub fn check<'g>(
     grid: &'g Grid,
     instance: &'g Instance,
 ) -> Result<Checked<'g>, PlanRefusal>
-    ensures checked { IfOk result (λ checked. checked ≡ record { plan = plan; grid = grid.now; instance = instance.now }) }
-    ensures right { IfOk result (λ checked. IsConflictFree (is_passable grid.now) instance.now plan) }
-    ensures fault { IfErr result (λ refusal. refusal.fault ≢ PlanFault.OutOfMemory → IsFirstPlanFault (is_passable grid.now) instance.now plan refusal.fault) }
-    ensures wrong { IfErr result (λ refusal. refusal.fault ≢ PlanFault.OutOfMemory → IsConflictFree (is_passable grid.now) instance.now plan → ⊥) }
+    ensures checked { IfOk result (λ checked. checked
+        ≡ record { plan = plan; grid = grid.now; instance = instance.now }) }
+    ensures right { IfOk result (λ checked. IsConflictFree
+        (is_passable grid.now) instance.now plan) }
+    ensures fault { IfErr result (λ refusal. refusal.fault ≢ PlanFault.OutOfMemory
+        → IsFirstPlanFault (is_passable grid.now) instance.now plan refusal.fault) }
+    ensures wrong { IfErr result (λ refusal. refusal.fault ≢ PlanFault.OutOfMemory
+        → IsConflictFree (is_passable grid.now) instance.now plan → ⊥) }
     ensures handed_back { IfErr result (λ refusal. refusal.plan ≡ plan) }
 {
     match first_fault(alloc, &plan, grid, instance) {
@@ -47,7 +51,8 @@ fn first_fault(
     instance: &Instance,
 ) -> Result<(), PlanFault>
     ensures right { IfOk result (λ _. IsConflictFree (is_passable grid.now) instance.now plan.now) }
-    ensures fault { IfErr result (λ fault. fault ≢ PlanFault.OutOfMemory → IsFirstPlanFault (is_passable grid.now) instance.now plan.now fault) }
+    ensures fault { IfErr result (λ fault. fault ≢ PlanFault.OutOfMemory
+        → IsFirstPlanFault (is_passable grid.now) instance.now plan.now fault) }
 {
     if plan.agents() != instance.agents() {
         return Err(PlanFault::Agents);

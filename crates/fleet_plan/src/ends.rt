@@ -9,7 +9,8 @@ use fleet_scen::Instance;
 /// The least agent that does not begin on its start.
 pub(crate) fn first_wrong_start(plan: &Plan, instance: &Instance) -> Option<u16>
     requires { length plan.now ≡ length instance.now }
-    ensures some { IfSome result (IsFirstFaultyAgent plan.now (StartsOnStart instance.now plan.now)) }
+    ensures some { IfSome result (IsFirstFaultyAgent plan.now
+        (StartsOnStart instance.now plan.now)) }
     ensures none { IfNone result (AllAgents plan.now (StartsOnStart instance.now plan.now)) }
 {
     for i in 0..plan.agents() {

@@ -11,9 +11,15 @@ use fleet_grid::cells_have_places_of_their_own;
 
 /// A plan is free of conflict or has a first fault, never both, and it has one first fault at most.
 pub fn a_plan_is_free_or_has_a_first_fault()
-    ensures either { (passable : Place → Bool) (tasks : List Task) (plan : Plan) → IsWithinLimits plan → IsConflictFree passable tasks plan ⊎ ((f : PlanFault) × IsFirstPlanFault passable tasks plan f) }
-    ensures not_both { (passable : Place → Bool) (tasks : List Task) (plan : Plan) (f : PlanFault) → IsFirstPlanFault passable tasks plan f → IsConflictFree passable tasks plan → ⊥ }
-    ensures one { (passable : Place → Bool) (tasks : List Task) (plan : Plan) (e f : PlanFault) → IsFirstPlanFault passable tasks plan e → IsFirstPlanFault passable tasks plan f → e ≡ f }
+    ensures either { (passable : Place → Bool) (tasks : List Task) (plan : Plan)
+        → IsWithinLimits plan
+        → IsConflictFree passable tasks plan
+        ⊎ ((f : PlanFault) × IsFirstPlanFault passable tasks plan f) }
+    ensures not_both { (passable : Place → Bool) (tasks : List Task) (plan : Plan) (f : PlanFault)
+        → IsFirstPlanFault passable tasks plan f → IsConflictFree passable tasks plan → ⊥ }
+    ensures one { (passable : Place → Bool) (tasks : List Task) (plan : Plan) (e f : PlanFault)
+        → IsFirstPlanFault passable tasks plan e → IsFirstPlanFault passable tasks plan f
+        → e ≡ f }
 {
     // A law of the map, by which the proof numbers cells.
     cells_have_places_of_their_own();

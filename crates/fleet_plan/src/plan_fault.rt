@@ -2,7 +2,7 @@
 
 ghost use Rattle.fleet_text.specs.Sink.{IsWorking, TakesAll};
 ghost use Rattle.fleet_text.specs.Words.{line_text};
-ghost use Rattle.fleet_plan.specs.Told.{pair_words, cycle_words, conflict_words};
+ghost use Rattle.fleet_plan.specs.RefusalWords.{pair_words, cycle_words, conflict_words};
 
 use crate::plan::Plan;
 use fleet_text::{
@@ -67,7 +67,7 @@ pub struct PlanRefusal {
 }
 
 impl Refusal for PlanFault {
-    ghost use Rattle.fleet_plan.specs.Told.{check_words, is_check_failure};
+    ghost use Rattle.fleet_plan.specs.RefusalWords.{check_words, is_check_failure};
 
     ghost words = { check_words };
 

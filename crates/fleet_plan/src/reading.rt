@@ -89,12 +89,15 @@ fn paths_of(alloc: Global, lines: &mut Cursor) -> Result<Vec<Path>, TextFault>
 }
 
 /// The plan that a text of this project's plan format stands for: a line for each agent, with the cells `x,y` of its path
-/// between blanks. The text is read once, from the front, and a refusal for another cause than memory is its first fault.
+/// between blanks. The text is read once, from the front.
+///
+/// Errors: `Form`, `Length` or `AgentCount`, whichever is the first fault of the text; `OutOfMemory` if a growth was refused.
 pub fn read_plan(alloc: Global, bytes: &[u8]) -> Result<Plan, TextFault>
     // The text stands for what is read.
     ensures found { IfOk result (λ plan. IsPlanText bytes.now plan) }
     // What stands for a plan is read, unless memory runs out.
-    ensures read { (plan : PlanValue) → IsPlanText bytes.now plan → IsOkUnless result TextFault.OutOfMemory }
+    ensures read { (plan : PlanValue) → IsPlanText bytes.now plan
+        → IsOkUnless result TextFault.OutOfMemory }
     // Which fault it is.
     ensures fault { IfErr result (λ f. f ≢ TextFault.OutOfMemory → IsFirstTextFault bytes.now f) }
 {

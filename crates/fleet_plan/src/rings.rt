@@ -54,8 +54,11 @@ fn walk(ahead: &[Option<u16>], walks: &mut [Option<u16>], number: u16, first: u1
     ensures closed { AreClosed ahead.now walks.new (number + 1) }
     ensures walked { IsWalked walks.new first ⊎ (ahead_of ahead.now first ≡ None) }
     ensures kept { (k : ℕ) → IsWalked walks.old k → IsWalked walks.new k }
-    ensures some { IfSome result (λ agent. IsOnRing ahead.now agent × ((k : ℕ) → IsWalked walks.new k → IsOnRing ahead.now k → IsWalked walks.old k ⊎ LeadsTo ahead.now agent k)) }
-    ensures none { IfNone result ((k : ℕ) → IsWalked walks.new k → IsOnRing ahead.now k → IsWalked walks.old k) }
+    ensures some { IfSome result (λ agent. IsOnRing ahead.now agent
+        × ((k : ℕ) → IsWalked walks.new k → IsOnRing ahead.now k
+        → IsWalked walks.old k ⊎ LeadsTo ahead.now agent k)) }
+    ensures none { IfNone result ((k : ℕ) → IsWalked walks.new k → IsOnRing ahead.now k
+        → IsWalked walks.old k) }
 {
     let mut agent = first;
     loop {

@@ -45,7 +45,8 @@ fn first_wrong_time(path: &Path, grid: &Grid) -> Option<u32>
 
 /// The least agent that goes wrong, and the first time at which it does.
 pub(crate) fn first_wrong_step(plan: &Plan, grid: &Grid) -> Option<(u16, u32)>
-    ensures some { IfSome result (λ step. IsFirstStep (is_passable grid.now) plan.now step.0 step.1) }
+    ensures some { IfSome result (λ step. IsFirstStep
+        (is_passable grid.now) plan.now step.0 step.1) }
     ensures none { IfNone result (AllAgents plan.now (GoesRight (is_passable grid.now) plan.now)) }
 {
     for i in 0..plan.agents() {

@@ -41,10 +41,11 @@ fn fill_next(plan: &Plan, grid: &Grid, time: u32, agents: &[u16], next: &mut [us
 }
 
 /// The first two agents in one place. If there are none, each agent is then entered in its place of the table. What
-/// the table held before doesn't matter, since an entry counts only if that agent stands there.
+/// the table held before does not matter, since an entry counts only if that agent stands there.
 fn first_meeting(table: &mut Table<u16>, places: &[usize]) -> Result<Option<(u16, u16)>, AllocError>
     requires { length places.now ≤ MAX_AGENTS }
-    ensures some { IfOk result (λ found. IfSome found (λ pair. IsFirstMeeting places.now pair.0 pair.1)) }
+    ensures some { IfOk result (λ found. IfSome found
+        (λ pair. IsFirstMeeting places.now pair.0 pair.1)) }
     ensures none { IfOk result (λ found. IfNone found (IsEntered table.new places.now)) }
 {
     let mut first = None;
@@ -61,7 +62,8 @@ fn first_meeting(table: &mut Table<u16>, places: &[usize]) -> Result<Option<(u16
 
 /// The first pair, unless `i` is below its first agent.
 fn first_pair(first: Option<(u16, u16)>, i: u16, j: u16) -> (u16, u16)
-    ensures kept { IfSome first (λ pair. ((pair.0 ≤ i) × (result ≡ pair)) ⊎ ((i < pair.0) × (result ≡ (i, j)))) }
+    ensures kept { IfSome first (λ pair. ((pair.0 ≤ i) × (result ≡ pair))
+        ⊎ ((i < pair.0) × (result ≡ (i, j)))) }
     ensures new { IfNone first (result ≡ (i, j)) }
 {
     match first {
@@ -73,8 +75,10 @@ fn first_pair(first: Option<(u16, u16)>, i: u16, j: u16) -> (u16, u16)
 /// The agent that stands in a place.
 fn occupant(table: &Table<u16>, places: &[usize], place: usize) -> Option<u16>
     requires { IsEntered table.now places.now }
-    ensures some { IfSome result (λ j. (j < length places.now) × (slice_index places.now j ≡ place)) }
-    ensures none { IfNone result ((j : ℕ) → j < length places.now → slice_index places.now j ≢ place) }
+    ensures some { IfSome result (λ j. (j < length places.now)
+        × (slice_index places.now j ≡ place)) }
+    ensures none { IfNone result ((j : ℕ) → j < length places.now
+        → slice_index places.now j ≢ place) }
 {
     let j = table.get(place);
     if stands_at(places, j, place) {
@@ -87,7 +91,8 @@ fn occupant(table: &Table<u16>, places: &[usize], place: usize) -> Option<u16>
 /// Whether there is such an agent, and it stands in the place.
 #[inline]
 fn stands_at(places: &[usize], agent: u16, place: usize) -> bool
-    ensures { IsTrue result ↔ ((agent < length places.now) × (slice_index places.now agent ≡ place)) }
+    ensures { IsTrue result ↔ ((agent < length places.now)
+        × (slice_index places.now agent ≡ place)) }
 {
     usize::from(agent) < places.len() && places[usize::from(agent)] == place
 }
@@ -210,7 +215,7 @@ fn enter(table: &mut Table<u16>, agents: &[u16], places: &[usize]) -> Result<boo
     Ok(true)
 }
 
-/// The same for a long row. Out of line the loop keeps its numbers in registers.
+/// The same for a row of many agents. Out of line the loop keeps its numbers in registers.
 #[inline(never)]
 fn enter_many(table: &mut Table<u16>, agents: &[u16], places: &[usize]) -> Result<bool, AllocError>
     requires agents { All (λ i. i < length places.now) agents.now }
@@ -220,10 +225,10 @@ fn enter_many(table: &mut Table<u16>, agents: &[u16], places: &[usize]) -> Resul
     enter(table, agents, places)
 }
 
-/// How many agents are many.
+/// From how many agents on a row is entered out of line.
 const MANY: usize = 8;
 
-/// The same for any row.
+/// The same for a row of any length.
 #[inline(always)]
 fn enter_row(table: &mut Table<u16>, agents: &[u16], places: &[usize]) -> Result<bool, AllocError>
     requires agents { All (λ i. i < length places.now) agents.now }
@@ -260,7 +265,8 @@ fn meeting(
     requires few { length places.now ≤ MAX_AGENTS }
     requires agents { All (λ i. i < length places.now) agents.now }
     requires others { IsSoForOthers agents.now (length places.now) (HasIn table.old places.now) }
-    ensures some { IfOk result (λ found. IfSome found (λ pair. IsFirstMeeting places.now pair.0 pair.1)) }
+    ensures some { IfOk result (λ found. IfSome found
+        (λ pair. IsFirstMeeting places.now pair.0 pair.1)) }
     ensures none { IfOk result (λ found. IfNone found (IsEntered table.new places.now)) }
 {
     if enter_row(table, agents, places)? {
@@ -292,7 +298,7 @@ fn settle(
     }
 }
 
-/// In how many steps agents that have arrived are dropped once.
+/// Every how many steps agents that have arrived are dropped.
 const DROPPED_EACH: u32 = 8;
 
 /// Drops the agents that have arrived by the end of the step after `time`, in the first step and in each eighth one: an
@@ -365,9 +371,11 @@ fn step(
     requires next { length next.old ≡ length plan.now }
     requires ahead { length ahead.old ≡ length plan.now }
     requires walks { length walks.old ≡ length plan.now }
-    requires swept { IsSwept grid.now plan.now table.old places.old next.old ahead.old walks.old agents.old.items time }
+    requires swept { IsSwept grid.now plan.now
+        table.old places.old next.old ahead.old walks.old agents.old.items time }
     ensures some { IfOk result (λ found. IfSome found (IsFirstConflict plan.now)) }
-    ensures none { IfOk result (λ found. IfNone found (IsSwept grid.now plan.now table.new places.new next.new ahead.new walks.new agents.new.items (time + 1))) }
+    ensures none { IfOk result (λ found. IfNone found (IsSwept grid.now plan.now
+        table.new places.new next.new ahead.new walks.new agents.new.items (time + 1))) }
 {
     // Agents in one place are on one cell: a law of the map.
     cells_have_places_of_their_own();

@@ -32,7 +32,7 @@ impl<T: Drop> From<AllocFailed<T>> for TextFault {
 }
 
 impl Refusal for TextFault {
-    ghost use Rattle.fleet_plan.specs.Told.{text_words, is_text_failure};
+    ghost use Rattle.fleet_plan.specs.RefusalWords.{text_words, is_text_failure};
 
     ghost words = { text_words };
 

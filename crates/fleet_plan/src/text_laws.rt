@@ -16,7 +16,8 @@ pub fn a_plan_text_is_one_plan()
 pub fn a_written_plan_is_read()
     ensures read { (p : Plan) → IsWithinLimits p → IsPlanText (plan_text p) p }
     ensures no_other { (p q : Plan) → IsWithinLimits p → IsPlanText (plan_text p) q → q ≡ p }
-    ensures one_text { (p q : Plan) → IsWithinLimits p → IsWithinLimits q → plan_text p ≡ plan_text q → p ≡ q }
+    ensures one_text { (p q : Plan) → IsWithinLimits p → IsWithinLimits q
+        → plan_text p ≡ plan_text q → p ≡ q }
 {}
 
 /// A text either stands for a plan or has a first fault, never both, and it has one first fault at most.

@@ -35,7 +35,8 @@ pub(crate) fn answer<P: ProgramView>(
     requires finish { IsFinish (P.program program.now) [] block.now.notes.now.ticks }
     requires questions { AreQuestions (P.program program.now) questions.now }
     requires flags { length flags.items ≡ length questions.now }
-    ensures { IfOk result (λ new. AreAnswered (P.program program.now) block.now.columns questions.now flags.items new.items) }
+    ensures { IfOk result (λ new. AreAnswered
+        (P.program program.now) block.now.columns questions.now flags.items new.items) }
 {
     let mut answering = Answering {
         questions,
@@ -87,7 +88,8 @@ impl<'a> Answering<'a> {
         requires of { IsRowOf (P.program program.now) block.now.columns action row.now }
         ensures questions { self.new.questions ≡ self.old.questions }
         ensures flags { length self.new.flags.items ≡ length self.old.flags.items }
-        ensures asked { IsAsked (P.program program.now) block.now.columns self.old.questions.now action
+        ensures asked { IsAsked
+            (P.program program.now) block.now.columns self.old.questions.now action
             self.old.next self.old.flags.items self.new.flags.items self.new.next }
     {
         let next = self.next;
@@ -102,7 +104,8 @@ impl<'a> Answering<'a> {
 /// Whether there is such a question, and it ends with the action.
 fn ends_with(questions: &[Question], k: usize, action: ActionId) -> bool
     ensures within { IsTrue result → k < length questions.now }
-    ensures ends { IsTrue result ↔ ((q : Question) × (slice_get questions.now k ≡ Some q) × (q.last ≡ action)) }
+    ensures ends { IsTrue result ↔ ((q : Question) × (slice_get questions.now k ≡ Some q)
+        × (q.last ≡ action)) }
 {
     k < questions.len() && questions[k].last == action
 }
@@ -119,8 +122,10 @@ fn answer_one<P: ProgramView>(
     requires room { length row.now ≡ block.now.columns.width }
     requires row { IsRowOf (P.program program.now) block.now.columns question.last row.now }
     requires question { IsQuestion (P.program program.now) question }
-    ensures answer { (k : ℕ) → HasColumn block.now.columns question.first.agent k → IsAnswer (P.program program.now) question flag.new }
-    ensures none { get_or block.now.columns.of_agent.items question.first.agent None ≡ None → flag.new ≡ flag.old }
+    ensures answer { (k : ℕ) → HasColumn block.now.columns question.first.agent k
+        → IsAnswer (P.program program.now) question flag.new }
+    ensures none { get_or block.now.columns.of_agent.items question.first.agent None ≡ None
+        → flag.new ≡ flag.old }
 {
     let _ = program.agents();
     if let Some(k) = block.columns.of(question.first.agent) {

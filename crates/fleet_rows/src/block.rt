@@ -49,9 +49,11 @@ pub(crate) fn begin_row<P: ProgramView>(
     agent: u16,
     finished: u32,
 )
-    requires can { CanMakeRow (P.program program.now) block.now kept.now (record { agent = agent; number = finished + 1 }) }
+    requires can { CanMakeRow (P.program program.now) block.now kept.now
+        (record { agent = agent; number = finished + 1 }) }
     requires row { length row.old ≡ block.now.columns.width }
-    ensures { IsRowOf (P.program program.now) block.now.columns (record { agent = agent; number = finished }) row.new }
+    ensures { IsRowOf (P.program program.now) block.now.columns
+        (record { agent = agent; number = finished }) row.new }
 {
     let _ = program.agents();
     if finished == 0 {
@@ -78,9 +80,11 @@ fn join_awaited<P: ProgramView>(
     finished: u32,
 )
     requires range { AreInRange (P.program program.now) }
-    requires can { CanMakeRow (P.program program.now) block.now kept.now (record { agent = agent; number = finished + 1 }) }
+    requires can { CanMakeRow (P.program program.now) block.now kept.now
+        (record { agent = agent; number = finished + 1 }) }
     requires row { length row.old ≡ block.now.columns.width }
-    requires own { IsRowOf (P.program program.now) block.now.columns (record { agent = agent; number = finished }) row.old }
+    requires own { IsRowOf (P.program program.now) block.now.columns
+        (record { agent = agent; number = finished }) row.old }
     ensures { (j k : ℕ) → HasColumn block.now.columns j k
         → IsJoined (OfFirst (length (awaits_of (P.program program.now) agent (finished + 1))))
         (P.program program.now) agent finished j (slice_index row.new k) }
@@ -104,12 +108,14 @@ pub(crate) fn awaited_row<P: ProgramView>(
     requires range { AreInRange (P.program program.now) }
     requires can { CanMakeRow (P.program program.now) block.now kept.now action }
     requires within { k < length (awaits_of (P.program program.now) action.agent action.number) }
-    ensures at { slice_get (awaits_of (P.program program.now) action.agent action.number) k ≡ Some result.0 }
+    ensures at { slice_get (awaits_of (P.program program.now) action.agent action.number) k
+        ≡ Some result.0 }
     ensures agent { result.0.agent < length block.now.columns.of_agent.items }
     ensures place { result.1 < length kept.now.marks.items }
     ensures kept { IsKept kept.now result.1 }
     ensures counts { (j c : ℕ) → HasColumn block.now.columns j c
-        → IsColumn (P.program program.now) (awaited result.0) j (count_in kept.now (mark_of kept.now result.1) c) }
+        → IsColumn (P.program program.now) (awaited result.0) j
+        (count_in kept.now (mark_of kept.now result.1) c) }
 {
     let _ = program.agents();
     let awaited = program.await_at(action.agent, action.number, k);
@@ -123,7 +129,8 @@ pub(crate) fn awaited_row<P: ProgramView>(
 pub(crate) fn set_own(block: &Block<'_>, row: &mut [u32], agent: u16, number: u32)
     requires agent { agent < length block.now.columns.of_agent.items }
     requires within { (j k : ℕ) → HasColumn block.now.columns j k → k < length row.old }
-    requires apart { (i j k : ℕ) → HasColumn block.now.columns i k → HasColumn block.now.columns j k → i ≡ j }
+    requires apart { (i j k : ℕ) → HasColumn block.now.columns i k → HasColumn block.now.columns j k
+        → i ≡ j }
     ensures own { (k : ℕ) → HasColumn block.now.columns agent k → slice_index row.new k ≡ number }
     ensures others { (j k : ℕ) → j ≢ agent → HasColumn block.now.columns j k
         → slice_index row.new k ≡ slice_index row.old k }

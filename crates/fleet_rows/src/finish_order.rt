@@ -37,7 +37,8 @@ impl FinishOrder {
         machine: &Machine,
     ) -> Result<(), OutOfMemory>
         requires order { IsOrder (P.program program.now) self.old }
-        requires ticked { IsTicked (P.program program.now) machine.now (length self.old.ends.items - 1) }
+        requires ticked { IsTicked (P.program program.now) machine.now
+            (length self.old.ends.items - 1) }
         ensures order { OnOk result (IsOrder (P.program program.now) self.new) }
         ensures ticks { OnOk result (length self.new.ends.items ≡ length self.old.ends.items + 1) }
     {

@@ -74,7 +74,8 @@ impl KeptRows {
         requires action { action < length self.now.marks.items }
         requires kept { IsKept self.now action }
         requires row { length row.old ≡ self.now.width }
-        ensures { (k : ℕ) → k < length row.old → get_or row.new k 0 ≡ count_in self.now (mark_of self.now action) k }
+        ensures { (k : ℕ) → k < length row.old
+            → get_or row.new k 0 ≡ count_in self.now (mark_of self.now action) k }
     {
         row.copy_from_slice(self.row(action));
     }
@@ -86,7 +87,8 @@ impl KeptRows {
         requires action { action < length self.now.marks.items }
         requires kept { IsKept self.now action }
         ensures width { length result.now ≡ self.now.width }
-        ensures counts { (k : ℕ) → k < self.now.width → get_or result.now k 0 ≡ count_in self.now (mark_of self.now action) k }
+        ensures counts { (k : ℕ) → k < self.now.width
+            → get_or result.now k 0 ≡ count_in self.now (mark_of self.now action) k }
     {
         let width = usize::from(self.width);
         let from = self.marks[action] as usize * width;

@@ -21,7 +21,7 @@ pub use action_places::ActionPlaces;
 pub use block::Block;
 pub use columns::Columns;
 pub use piece::Pieces;
-pub use questions::{Question, columns_at_once, is_any, unreached};
+pub use questions::{Question, answer_questions, columns_at_once, is_any};
 pub use row_pass::{RowPass, RowUse, use_rows};
 pub use row_steps::{others_row, whole_row};
 pub use run_notes::RunNotes;

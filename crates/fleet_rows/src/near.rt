@@ -24,8 +24,10 @@ pub(crate) fn asked_agents<P: ProgramView>(
     requires range { AreInRange (P.program program.now) }
     requires questions { All (IsQuestion (P.program program.now)) questions.now }
     ensures all { IfOk result (λ asked. length asked.items ≡ length (P.program program.now)) }
-    ensures flagged { IfOk result (λ asked. (k : ℕ) (q : Question) → slice_get questions.now k ≡ Some q
-        → (get_or asked.items q.first.agent false ≡ true) ⊎ Reaches (P.program program.now) q.first q.last) }
+    ensures flagged { IfOk result (λ asked. (k : ℕ) (q : Question)
+        → slice_get questions.now k ≡ Some q
+        → (get_or asked.items q.first.agent false ≡ true)
+        ⊎ Reaches (P.program program.now) q.first q.last) }
 {
     let mut asked = vec![in alloc; false; usize::from(program.agents())]?;
     for question in questions {

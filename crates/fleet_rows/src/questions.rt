@@ -25,7 +25,7 @@ pub struct Question {
 /// For each question whether no chain of needs begins with its first action and ends with its last. The program
 /// finishes after so many ticks if nobody is held. Rows of counts are kept as long as some action is still to take
 /// them.
-pub fn unreached<P: ProgramView>(
+pub fn answer_questions<P: ProgramView>(
     alloc: Global,
     program: &P,
     ticks: u32,
@@ -58,7 +58,8 @@ fn answer_rest<P: ProgramView>(
     requires questions { AreQuestions (P.program program.now) questions.now }
     requires asked { length asked.now ≡ length (P.program program.now) }
     requires flagged { (k : ℕ) (q : Question) → slice_get questions.now k ≡ Some q
-        → (get_or asked.now q.first.agent false ≡ true) ⊎ IsAnswer (P.program program.now) q (get_or flags.items k false) }
+        → (get_or asked.now q.first.agent false ≡ true)
+        ⊎ IsAnswer (P.program program.now) q (get_or flags.items k false) }
     requires flags { length flags.items ≡ length questions.now }
     ensures { IfOk result (λ flags. AreAnswers (P.program program.now) questions.now flags.items) }
 {
@@ -88,7 +89,8 @@ fn answer_all<P: ProgramView>(
     requires questions { AreQuestions (P.program program.now) questions.now }
     requires asked { length asked.now ≡ length (P.program program.now) }
     requires flagged { (k : ℕ) (q : Question) → slice_get questions.now k ≡ Some q
-        → (get_or asked.now q.first.agent false ≡ true) ⊎ IsAnswer (P.program program.now) q (get_or flags.items k false) }
+        → (get_or asked.now q.first.agent false ≡ true)
+        ⊎ IsAnswer (P.program program.now) q (get_or flags.items k false) }
     requires flags { length flags.items ≡ length questions.now }
     ensures { IfOk result (λ flags. AreAnswers (P.program program.now) questions.now flags.items) }
 {

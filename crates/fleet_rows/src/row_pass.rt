@@ -41,7 +41,8 @@ pub trait RowUse {
         requires row { length row.old ≡ block.now.columns.width }
         requires next { IsNextAction (P.program program.now) pass.now.counts.items action }
         requires used { used (P.program program.now) block.now pass.now.counts.items self.old }
-        ensures row { OnOk result (IsRowOf (P.program program.now) block.now.columns action row.new) }
+        ensures row { OnOk result (IsRowOf
+            (P.program program.now) block.now.columns action row.new) }
         ensures used { OnOk result (used (P.program program.now) block.now
             (set pass.now.counts.items action.agent action.number) self.new) }
         ensures keeps { OnOk result (keeps (P.program program.now) block.now self.old self.new) };
@@ -50,7 +51,8 @@ pub trait RowUse {
     ghost same: { (p : Program) (b : Block) (s : Self) → keeps p b s s };
 
     /// If some rows leave that part as it was, and then others do, all of them do.
-    ghost joined: { (p : Program) (b : Block) (s t u : Self) → keeps p b s t → keeps p b t u → keeps p b s u };
+    ghost joined: { (p : Program) (b : Block) (s t u : Self)
+        → keeps p b s t → keeps p b t u → keeps p b s u };
 }
 
 /// The rows that are kept, and how many actions of each agent are finished.
@@ -85,9 +87,12 @@ impl RowPass {
         requires room { length row.now ≡ block.now.columns.width }
         requires row { IsRowOf (P.program program.now) block.now.columns action row.now }
         requires agent { action.agent < length self.old.counts.items }
-        requires not_yet { IsKept self.old.kept (action_place block.now.notes.now.places.firsts.items action) → ⊥ }
-        ensures taken { OnOk result (IsRowTaken (P.program program.now) block.now action self.old.kept self.new.kept) }
-        ensures counts { OnOk result (self.new.counts.items ≡ set self.old.counts.items action.agent action.number) }
+        requires not_yet { IsKept self.old.kept
+            (action_place block.now.notes.now.places.firsts.items action) → ⊥ }
+        ensures taken { OnOk result (IsRowTaken
+            (P.program program.now) block.now action self.old.kept self.new.kept) }
+        ensures counts { OnOk result (self.new.counts.items
+            ≡ set self.old.counts.items action.agent action.number) }
     {
         let _ = program.agents();
         self.counts[usize::from(action.agent)] = action.number;
@@ -109,7 +114,8 @@ pub fn use_rows<P: ProgramView, U: RowUse>(
     requires block { AreBlock (P.program program.now) block.now }
     requires range { AreInRange (P.program program.now) }
     requires finish { IsFinish (P.program program.now) [] block.now.notes.now.ticks }
-    requires used { U.used (P.program program.now) block.now (replicate (length (P.program program.now)) 0) uses.old }
+    requires used { U.used (P.program program.now) block.now
+        (replicate (length (P.program program.now)) 0) uses.old }
     ensures used { OnOk result ((counts : List ℕ) × AreAllCounted (P.program program.now) counts
         × U.used (P.program program.now) block.now counts uses.new) }
     ensures keeps { OnOk result (U.keeps (P.program program.now) block.now uses.old uses.new) }
@@ -131,7 +137,8 @@ fn run_on<P: ProgramView, U: RowUse>(
     requires range { AreInRange (P.program program.now) }
     requires finish { IsFinish (P.program program.now) [] block.now.notes.now.ticks }
     requires row { length row.old ≡ block.now.columns.width }
-    requires rows { AreRowsAt (P.program program.now) block.now (IsCounted pass.old.counts.items) 0 pass.old.kept }
+    requires rows { AreRowsAt (P.program program.now) block.now
+        (IsCounted pass.old.counts.items) 0 pass.old.kept }
     requires counts { AreMid (P.program program.now) 0 0 pass.old.counts.items }
     requires used { U.used (P.program program.now) block.now pass.old.counts.items uses.old }
     ensures used { OnOk result ((counts : List ℕ) × AreAllCounted (P.program program.now) counts
@@ -159,12 +166,16 @@ fn use_tick<P: ProgramView, U: RowUse>(
     requires range { AreInRange (P.program program.now) }
     requires row { length row.old ≡ block.now.columns.width }
     requires tick { ticks < block.now.notes.now.ticks }
-    requires rows { AreRowsAt (P.program program.now) block.now (IsCounted pass.old.counts.items) ticks pass.old.kept }
+    requires rows { AreRowsAt (P.program program.now) block.now
+        (IsCounted pass.old.counts.items) ticks pass.old.kept }
     requires counts { AreMid (P.program program.now) ticks 0 pass.old.counts.items }
     requires used { U.used (P.program program.now) block.now pass.old.counts.items uses.old }
-    ensures rows { OnOk result (AreRowsAt (P.program program.now) block.now (IsCounted pass.new.counts.items) ticks pass.new.kept) }
-    ensures counts { OnOk result (AreMid (P.program program.now) (ticks + 1) 0 pass.new.counts.items) }
-    ensures used { OnOk result (U.used (P.program program.now) block.now pass.new.counts.items uses.new) }
+    ensures rows { OnOk result (AreRowsAt (P.program program.now) block.now
+        (IsCounted pass.new.counts.items) ticks pass.new.kept) }
+    ensures counts { OnOk result (AreMid (P.program program.now)
+        (ticks + 1) 0 pass.new.counts.items) }
+    ensures used { OnOk result (U.used
+        (P.program program.now) block.now pass.new.counts.items uses.new) }
     ensures keeps { OnOk result (U.keeps (P.program program.now) block.now uses.old uses.new) }
 {
     let _ = program.agents();
@@ -189,11 +200,13 @@ fn action_at<P: ProgramView>(
     requires begin { slice_index block.now.notes.now.order.ends.items ticks ≤ k }
     requires end { k < slice_index block.now.notes.now.order.ends.items (ticks + 1) }
     requires counts { AreMid (P.program program.now) ticks
-        (after_place block.now.notes.now.order.agents.items (slice_index block.now.notes.now.order.ends.items ticks) k)
+        (after_place block.now.notes.now.order.agents.items
+        (slice_index block.now.notes.now.order.ends.items ticks) k)
         pass.now.counts.items }
     ensures agent { result.agent ≡ slice_index block.now.notes.now.order.agents.items k }
     ensures ready { IsNextReady (P.program program.now) ticks
-        (after_place block.now.notes.now.order.agents.items (slice_index block.now.notes.now.order.ends.items ticks) k)
+        (after_place block.now.notes.now.order.agents.items
+        (slice_index block.now.notes.now.order.ends.items ticks) k)
         result.agent }
     ensures number { result.number ≡ slice_index pass.now.counts.items result.agent + 1 }
 {
@@ -216,11 +229,15 @@ fn finish<P: ProgramView, U: RowUse>(
     requires can { CanMakeRow (P.program program.now) block.now pass.old.kept action }
     requires row { length row.old ≡ block.now.columns.width }
     requires next { IsNextAction (P.program program.now) pass.old.counts.items action }
-    requires not_yet { IsKept pass.old.kept (action_place block.now.notes.now.places.firsts.items action) → ⊥ }
+    requires not_yet { IsKept pass.old.kept
+        (action_place block.now.notes.now.places.firsts.items action) → ⊥ }
     requires used { U.used (P.program program.now) block.now pass.old.counts.items uses.old }
-    ensures taken { OnOk result (IsRowTaken (P.program program.now) block.now action pass.old.kept pass.new.kept) }
-    ensures counts { OnOk result (pass.new.counts.items ≡ set pass.old.counts.items action.agent action.number) }
-    ensures used { OnOk result (U.used (P.program program.now) block.now pass.new.counts.items uses.new) }
+    ensures taken { OnOk result (IsRowTaken
+        (P.program program.now) block.now action pass.old.kept pass.new.kept) }
+    ensures counts { OnOk result (pass.new.counts.items
+        ≡ set pass.old.counts.items action.agent action.number) }
+    ensures used { OnOk result (U.used
+        (P.program program.now) block.now pass.new.counts.items uses.new) }
     ensures keeps { OnOk result (U.keeps (P.program program.now) block.now uses.old uses.new) }
 {
     uses.use_row(program, block, pass, row, action)?;

@@ -66,9 +66,11 @@ fn join_others<P: ProgramView>(
     finished: u32,
 )
     requires range { AreInRange (P.program program.now) }
-    requires can { CanMakeRow (P.program program.now) block.now kept.now (record { agent = agent; number = finished + 1 }) }
+    requires can { CanMakeRow (P.program program.now) block.now kept.now
+        (record { agent = agent; number = finished + 1 }) }
     requires row { length row.old ≡ block.now.columns.width }
-    requires own { IsRowOf (P.program program.now) block.now.columns (record { agent = agent; number = finished }) row.old }
+    requires own { IsRowOf (P.program program.now) block.now.columns
+        (record { agent = agent; number = finished }) row.old }
     ensures { (j k : ℕ) → HasColumn block.now.columns j k
         → IsJoined (OfOthers j (length (awaits_of (P.program program.now) agent (finished + 1))))
         (P.program program.now) agent finished j (slice_index row.new k) }
@@ -90,9 +92,11 @@ fn join_but_own(columns: &Columns, kept: &KeptRows, row: &mut [u32], agent: u16,
     requires place { place < length kept.now.marks.items }
     requires kept { IsKept kept.now place }
     requires row { length row.old ≡ kept.now.width }
-    ensures own { (k : ℕ) → HasColumn columns.now agent k → slice_index row.new k ≡ slice_index row.old k }
+    ensures own { (k : ℕ) → HasColumn columns.now agent k
+        → slice_index row.new k ≡ slice_index row.old k }
     ensures others { (j k : ℕ) → j ≢ agent → HasColumn columns.now j k
-        → slice_index row.new k ≡ max (slice_index row.old k) (count_in kept.now (mark_of kept.now place) k) }
+        → slice_index row.new k ≡ max (slice_index row.old k)
+        (count_in kept.now (mark_of kept.now place) k) }
 {
     match columns.of(agent) {
         Some(k) => {
@@ -114,7 +118,8 @@ fn join_own<P: ProgramView>(
     finished: u32,
 )
     requires range { AreInRange (P.program program.now) }
-    requires can { CanMakeRow (P.program program.now) block.now kept.now (record { agent = agent; number = finished + 1 }) }
+    requires can { CanMakeRow (P.program program.now) block.now kept.now
+        (record { agent = agent; number = finished + 1 }) }
     requires row { length row.old ≡ block.now.columns.width }
     requires joined { (j k : ℕ) → HasColumn block.now.columns j k
         → IsJoined (OfOthers j (length (awaits_of (P.program program.now) agent (finished + 1))))
@@ -141,7 +146,8 @@ fn join_own_count(columns: &Columns, kept: &KeptRows, row: &mut [u32], agent: u1
     requires kept { IsKept kept.now place }
     requires row { length row.old ≡ kept.now.width }
     ensures own { (k : ℕ) → HasColumn columns.now agent k
-        → slice_index row.new k ≡ max (slice_index row.old k) (count_in kept.now (mark_of kept.now place) k) }
+        → slice_index row.new k ≡ max (slice_index row.old k)
+        (count_in kept.now (mark_of kept.now place) k) }
     ensures others { (j k : ℕ) → j ≢ agent → HasColumn columns.now j k
         → slice_index row.new k ≡ slice_index row.old k }
 {

@@ -38,7 +38,7 @@ impl RunNotes {
         ensures ticks { IfOk result (λ notes. ticks_noted notes ≡ ticks) }
     {
         let places = ActionPlaces::of(alloc, program)?;
-        let (lasts, order) = noted(alloc, program, &places, ticks)?;
+        let (lasts, order) = notes_of(alloc, program, &places, ticks)?;
         let due = DueRows::of(alloc, &lasts, ticks)?;
         Ok(RunNotes {
             places,
@@ -51,7 +51,7 @@ impl RunNotes {
 }
 
 /// For each action the last of so many ticks that takes it, and the order in which the actions finish.
-fn noted<P: ProgramView>(
+fn notes_of<P: ProgramView>(
     alloc: Global,
     program: &P,
     places: &ActionPlaces,
@@ -59,8 +59,10 @@ fn noted<P: ProgramView>(
 ) -> Result<(Vec<u32>, FinishOrder), OutOfMemory>
     requires range { AreInRange (P.program program.now) }
     requires places { ArePlaces (P.program program.now) places.now.firsts.items }
-    ensures all { IfOk result (λ noted. length noted.0.items ≡ total_moves (P.program program.now)) }
-    ensures noted { IfOk result (λ noted. AreNoted (P.program program.now) places.now.firsts.items ticks noted.0.items) }
+    ensures all { IfOk result (λ noted. length noted.0.items
+        ≡ total_moves (P.program program.now)) }
+    ensures noted { IfOk result (λ noted. AreNoted
+        (P.program program.now) places.now.firsts.items ticks noted.0.items) }
     ensures order { IfOk result (λ noted. IsOrder (P.program program.now) noted.1) }
     ensures ends { IfOk result (λ noted. length noted.1.ends.items ≡ ticks + 1) }
 {

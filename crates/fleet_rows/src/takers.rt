@@ -37,7 +37,8 @@ pub(crate) fn note_run<P: ProgramView>(
     requires all { length lasts.old ≡ total_moves (P.program program.now) }
     requires order { IsOrder (P.program program.now) order.old }
     requires first { length order.old.ends.items ≡ 1 }
-    ensures noted { OnOk result (AreNoted (P.program program.now) places.now.firsts.items ticks lasts.new) }
+    ensures noted { OnOk result (AreNoted
+        (P.program program.now) places.now.firsts.items ticks lasts.new) }
     ensures order { OnOk result (IsOrder (P.program program.now) order.new) }
     ensures ticks { OnOk result (length order.new.ends.items ≡ ticks + 1) }
 {
@@ -96,7 +97,8 @@ fn note_needed<P: ProgramView>(
     requires all { length lasts.old ≡ total_moves (P.program program.now) }
     requires action { IsAction (P.program program.now) action }
     ensures raised { AreRaised lasts.old lasts.new }
-    ensures noted { IsNotedFor (P.program program.now) places.now.firsts.items action tick lasts.new }
+    ensures noted { IsNotedFor
+        (P.program program.now) places.now.firsts.items action tick lasts.new }
 {
     note_awaited(program, places, action, tick, lasts);
     if action.number > 1 {

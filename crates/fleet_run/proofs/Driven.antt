@@ -13,7 +13,7 @@ use Rattle.fleet_run.specs.declared.run.End.{End}
 use Rattle.fleet_run.specs.declared.run.End.TheVariants.{Finished, Stuck}
 use Rattle.fleet_run.specs.declared.run.RunFault.{RunFault}
 use Rattle.fleet_run.specs.declared.run.RunFault.TheVariants.{OutOfMemory, Source, Hold, Write, HoldLimit}
-use Rattle.fleet_run.specs.declared.run.TheConstants.{MOST_TICKS}
+use Rattle.fleet_run.specs.declared.run.TheConstants.{MAX_RUN_TICKS}
 use Rattle.fleet_run.specs.declared.source.SourceFault.{SourceFault}
 use Rattle.fleet_run.specs.declared.source.SourceFault.TheVariants.{Broken, Text}
 use Rattle.fleet_run.specs.declared.trace.Report.{Report}
@@ -143,7 +143,7 @@ told_in_time p chain s s' o o' c (Err e) arrive h = tt
 
 -- it reports unless the source or the sink has failed, or the source had more ticks than a run takes
 pub told_unless_failed : (p : Program) (chain : ℕ) (s s' : SourceState) (o o' : SinkState) (c : Configuration) (r : Result Report RunFault)
-    → Drives p chain s s' o o' c r → HasNotFailed s' → IsWorking o' → length s.ticks ≤ MOST_TICKS → IsOk r
+    → Drives p chain s s' o o' c r → HasNotFailed s' → IsWorking o' → length s.ticks ≤ MAX_RUN_TICKS → IsOk r
 told_unless_failed p chain s s' o o' c (Ok r) h calm working short = refl
 told_unless_failed p chain s s' o o' c (Err OutOfMemory) h calm working short = absurd h
 told_unless_failed p chain s s' o o' c (Err (Source n)) h calm working short = let failed = h.3.fault in absurd (cc)

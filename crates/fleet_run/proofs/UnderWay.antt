@@ -3,7 +3,7 @@ use Rattle.std.proofs.Common.{◌≡◌, ◌<◌, ◌≤◌, ◌*◌, take, subs
 use Rattle.std.proofs.lemmas.Bool.{cases_Bool}
 use Rattle.std.proofs.lemmas.List.{length-drop}
 use Rattle.fleet_model.specs.declared.limits.TheConstants.{MAX_AGENTS, MAX_MOVES}
-use Rattle.fleet_run.specs.declared.run.TheConstants.{MOST_TICKS}
+use Rattle.fleet_run.specs.declared.run.TheConstants.{MAX_RUN_TICKS}
 use Rattle.fleet_model.specs.Program.{Program, IsWellFormed}
 use Rattle.fleet_model.specs.Machine.{Configuration, Holds, is_ready_held, is_over, is_among, is_held, tick, run, held_ticks}
 use Rattle.fleet_run.specs.Source.{SourceState, HasNotFailed, AreFlagsOf, AsksTick, first_of, rest_of}
@@ -57,15 +57,15 @@ pub record IsUnderWay (p : Program) (s now : SourceState) (c : Configuration) (t
   pub nothing_came : ended ≡ true → s.last ≡ None
   pub not_past : ended ≡ false → ticks ≤ length s.ticks
   pub still_comes : ended ≡ false → now.last ≡ s.last
-  pub while_asked : ended ≡ false → ticks ≤ MOST_TICKS
-  pub afterwards : ended ≡ true → ticks + all_left p c ≤ MOST_TICKS + MAX_AGENTS * MAX_MOVES
+  pub while_asked : ended ≡ false → ticks ≤ MAX_RUN_TICKS
+  pub afterwards : ended ≡ true → ticks + all_left p c ≤ MAX_RUN_TICKS + MAX_AGENTS * MAX_MOVES
 
 module _ (p : Program) (s now : SourceState) (c : Configuration) (ticks held : ℕ) (ended : Bool) (before : IsUnderWay p s now c ticks held ended) where
   pub agents_under_way : length c ≡ length p
   agents_under_way = ap length before.here ∙ length-run p s.ticks ticks
 
   -- the numbers fit
-  pub few_ticks : ticks ≤ MOST_TICKS + MAX_AGENTS * MAX_MOVES
+  pub few_ticks : ticks ≤ MAX_RUN_TICKS + MAX_AGENTS * MAX_MOVES
   few_ticks =
       elim (cases_Bool ended) [
         | inl e ↦ omega (arith, before.afterwards e)
@@ -176,7 +176,7 @@ module _ (p : Program) (s now : SourceState) (c : Configuration) (ticks held : �
         fault = working;
       }
 
-  pub one_tick_on : IsWellFormed p → (more ≡ true → ticks ≢ MOST_TICKS) → IsUnderWay p s after (tick p (flag_of flags) c) (ticks + 1) (held + cond (is_ready_held p (flag_of flags) c) 1 0) (not more)
+  pub one_tick_on : IsWellFormed p → (more ≡ true → ticks ≢ MAX_RUN_TICKS) → IsUnderWay p s after (tick p (flag_of flags) c) (ticks + 1) (held + cond (is_ready_held p (flag_of flags) c) 1 0) (not more)
   one_tick_on ok limit = record {
     here = after_tick;
     needed = still_needed;

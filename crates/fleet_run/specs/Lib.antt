@@ -5,5 +5,5 @@ pub mod Rehearsal
 pub mod HoldText
 pub mod Fleet
 pub mod Drive
-pub mod Told
+pub mod RefusalWords
 pub mod Line

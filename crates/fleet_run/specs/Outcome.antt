@@ -5,7 +5,7 @@ use Rattle.fleet_model.specs.Program.{Program}
 use Rattle.fleet_model.specs.Machine.{Configuration, Holds, run, held_ticks, is_finished, is_stuck, is_over}
 use Rattle.fleet_run.specs.declared.source.SourceFault.{SourceFault}
 use Rattle.fleet_run.specs.declared.source.SourceFault.TheVariants.{Broken, Text}
-use Rattle.fleet_run.specs.declared.run.TheConstants.{MOST_TICKS}
+use Rattle.fleet_run.specs.declared.run.TheConstants.{MAX_RUN_TICKS}
 use Rattle.fleet_run.specs.declared.run.End.{End}
 use Rattle.fleet_run.specs.declared.run.End.TheVariants.{Finished, Stuck}
 use Rattle.fleet_run.specs.declared.run.Ran.{Ran}
@@ -27,12 +27,12 @@ fault_of Text tick = Hold tick
 -- A run asks its source for the tick after t ticks: whether there was one; or it stops there, since the source has
 -- failed, or gave more ticks than a run takes
 abbrev pub AsksNext : (ended : Bool) (source source' : SourceState) (t : ℕ) → Result Bool RunFault → List Bool → Type 0
-AsksNext ended s s' t (Ok more) flags = AsksTick ended s s' (Ok more) flags × (more ≡ true → t ≢ MOST_TICKS)
+AsksNext ended s s' t (Ok more) flags = AsksTick ended s s' (Ok more) flags × (more ≡ true → t ≢ MAX_RUN_TICKS)
 AsksNext ended s s' t (Err OutOfMemory) flags = ⊥
 AsksNext ended s s' t (Err (Source n)) flags = (n ≡ t + 1) × AsksTick ended s s' (Err Broken) flags
 AsksNext ended s s' t (Err (Hold n)) flags = (n ≡ t + 1) × AsksTick ended s s' (Err Text) flags
 AsksNext ended s s' t (Err Write) flags = ⊥
-AsksNext ended s s' t (Err HoldLimit) flags = (t ≡ MOST_TICKS) × AsksTick ended s s' (Ok true) flags
+AsksNext ended s s' t (Err HoldLimit) flags = (t ≡ MAX_RUN_TICKS) × AsksTick ended s s' (Ok true) flags
 
 -- a test for the end of a run
 abbrev pub EndTest : Type 0
@@ -79,7 +79,7 @@ pub record StopsAtSink (over : EndTest) (p : Program) (source source' : SourceSt
 
 -- the source gave one more tick than a run takes
 pub record StopsAtTickLimit (over : EndTest) (p : Program) (source source' : SourceState) (out out' : SinkState) (t : ℕ) : Type 0 where
-  pub limit : t ≡ MOST_TICKS
+  pub limit : t ≡ MAX_RUN_TICKS
   pub needed : NeedsTicks over p source.ticks (t + 1)
   pub more : t < length source.ticks
   pub asked : IsAskedFor (t + 1) source source'

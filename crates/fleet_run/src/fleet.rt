@@ -10,10 +10,10 @@ ghost use Rattle.fleet_model.specs.Run.{IsSafeStep};
 ghost use Rattle.fleet_model.specs.Claims.{order_of, AreApart, KeepsOrder};
 ghost use Rattle.fleet_run.specs.Drive.{Drives, IsInTime};
 ghost use Rattle.fleet_run.specs.Fleet.{AreOnGoals};
-ghost use Rattle.fleet_run.specs.declared.run.TheConstants.{MOST_TICKS};
+ghost use Rattle.fleet_run.specs.declared.run.TheConstants.{MAX_RUN_TICKS};
 ghost use Rattle.fleet_text.specs.Sink.{IsWorking};
 ghost use Rattle.fleet_run.specs.Source.{HasNotFailed};
-ghost use Rattle.fleet_machine.specs.Confirmed.{all_but, AreSent, IsFirstUnsent};
+ghost use Rattle.fleet_machine.specs.Confirmed.{all_but, AreAllReady, IsFirstUnready};
 ghost use Rattle.fleet_machine.specs.Looked.{ready_in, awaiting_in, LooksAt};
 ghost use Rattle.fleet_machine.specs.Machine.{flag_of};
 
@@ -88,19 +88,31 @@ impl<'g, P: ProgramView> Fleet<'g, P> {
     pub fn tick(&mut self, held: &[bool]) -> Tick
         requires { length held.now ≡ length (P.program self.old.accepted.program) }
         ensures after { self.new ≡ record self.old {
-          configuration = tick (P.program self.old.accepted.program) (flag_of held.now) self.old.configuration;
+          configuration = tick (P.program self.old.accepted.program)
+              (flag_of held.now) self.old.configuration;
           looked = self.new.looked;
         } }
-        ensures looked { LooksAt (ready_in (P.program self.old.accepted.program) self.old.configuration)
-            (awaiting_in (P.program self.old.accepted.program) (flag_of held.now) self.old.configuration)
+        ensures looked { LooksAt (ready_in
+            (P.program self.old.accepted.program) self.old.configuration)
+            (awaiting_in (P.program self.old.accepted.program)
+            (flag_of held.now) self.old.configuration)
             self.old.looked self.new.looked }
-        ensures moved { result.moved ≡ moved_in (P.program self.old.accepted.program) (flag_of held.now) self.old.configuration }
-        ensures held { result.ready_held ≡ is_ready_held (P.program self.old.accepted.program) (flag_of held.now) self.old.configuration }
+        ensures moved { result.moved ≡ moved_in (P.program self.old.accepted.program)
+            (flag_of held.now) self.old.configuration }
+        ensures held { result.ready_held
+            ≡ is_ready_held (P.program self.old.accepted.program)
+            (flag_of held.now) self.old.configuration }
         // All places are passable and differ, and no agent stands where another stood before.
-        ensures safe { IsSafeStep (is_passable self.old.accepted.grid) (length (P.program self.old.accepted.program)) self.old.configuration self.new.configuration }
+        ensures safe { IsSafeStep (is_passable self.old.accepted.grid)
+            (length (P.program self.old.accepted.program))
+            self.old.configuration self.new.configuration }
         // An agent that is held keeps its order.
-        ensures kept { (i : ℕ) → i < length (P.program self.old.accepted.program) → IsTrue (flag_of held.now i) → KeepsOrder (P.program self.old.accepted.program) self.old.configuration self.new.configuration i }
-        ensures rest { IsTrue (is_finished (P.program self.old.accepted.program) self.old.configuration) → (self.new ≡ self.old) × (result.moved ≡ 0) × (result.ready_held ≡ false) }
+        ensures kept { (i : ℕ) → i < length (P.program self.old.accepted.program)
+            → IsTrue (flag_of held.now i) → KeepsOrder
+            (P.program self.old.accepted.program) self.old.configuration self.new.configuration i }
+        ensures rest { IsTrue (is_finished
+            (P.program self.old.accepted.program) self.old.configuration) → (self.new ≡ self.old)
+            × (result.moved ≡ 0) × (result.ready_held ≡ false) }
     {
         ticks_are_safe();
         ready_moves_are_apart();
@@ -115,22 +127,32 @@ impl<'g, P: ProgramView> Fleet<'g, P> {
         requires { length done.now ≡ length (P.program self.old.accepted.program) }
         ensures accepted { self.new.accepted ≡ self.old.accepted }
         ensures after { OnOk result (self.new ≡ record self.old {
-          configuration = tick (P.program self.old.accepted.program) (all_but (flag_of done.now)) self.old.configuration;
+          configuration = tick (P.program self.old.accepted.program)
+              (all_but (flag_of done.now)) self.old.configuration;
           looked = self.new.looked;
         }) }
         ensures looked { self.old.looked ≤ self.new.looked }
-        ensures looks { OnOk result (LooksAt (moved_in (P.program self.old.accepted.program) (all_but (flag_of done.now)) self.old.configuration)
-            (awaiting_in (P.program self.old.accepted.program) (all_but (flag_of done.now)) self.old.configuration)
+        ensures looks { OnOk result (LooksAt
+            (moved_in (P.program self.old.accepted.program)
+            (all_but (flag_of done.now)) self.old.configuration)
+            (awaiting_in (P.program self.old.accepted.program)
+            (all_but (flag_of done.now)) self.old.configuration)
             self.old.looked self.new.looked) }
-        ensures sent { OnOk result (AreSent (P.program self.old.accepted.program) self.old.configuration (flag_of done.now)) }
+        ensures sent { OnOk result (AreAllReady
+            (P.program self.old.accepted.program) self.old.configuration (flag_of done.now)) }
         // An agent that is not flagged stays, and keeps its order.
-        ensures kept { OnOk result ((i : ℕ) → i < length (P.program self.old.accepted.program) → IsFalse (flag_of done.now i) → KeepsOrder (P.program self.old.accepted.program) self.old.configuration self.new.configuration i) }
-        ensures refused { IfErr result (λ e. IsFirstUnsent (P.program self.old.accepted.program) self.old.configuration (flag_of done.now) e.agent) }
+        ensures kept { OnOk result ((i : ℕ) → i < length (P.program self.old.accepted.program)
+            → IsFalse (flag_of done.now i)
+            → KeepsOrder
+            (P.program self.old.accepted.program) self.old.configuration self.new.configuration i) }
+        ensures refused { IfErr result (λ e. IsFirstUnready
+            (P.program self.old.accepted.program) self.old.configuration
+            (flag_of done.now) e.agent) }
         ensures unchanged { OnErr result (self.new ≡ self.old) }
     {
         ticks_are_safe();
         ready_moves_are_apart();
-        if let Some(agent) = self.machine.first_unsent(self.accepted.program(), done) {
+        if let Some(agent) = self.machine.first_unready(self.accepted.program(), done) {
             return Err(NotSent { agent });
         }
         self.machine.carry_out(self.accepted.program(), done);
@@ -139,8 +161,10 @@ impl<'g, P: ProgramView> Fleet<'g, P> {
 
     /// Whether no action is left. Then every agent stands on its goal.
     pub fn finished(&self) -> bool
-        ensures finished { result ≡ is_finished (P.program self.now.accepted.program) self.now.configuration }
-        ensures arrived { IsTrue result → AreOnGoals (P.program self.now.accepted.program) self.now.configuration }
+        ensures finished { result ≡ is_finished
+            (P.program self.now.accepted.program) self.now.configuration }
+        ensures arrived { IsTrue result → AreOnGoals
+            (P.program self.now.accepted.program) self.now.configuration }
     {
         runs_arrive();
         self.machine.is_finished(self.accepted.program())
@@ -181,7 +205,8 @@ impl<'g, P: ProgramView> Fleet<'g, P> {
     pub fn ready_agents(&self) -> &AgentSet
         ensures agents { length result.now ≡ length (P.program self.now.accepted.program) }
         ensures ready { (i : ℕ) → i < length (P.program self.now.accepted.program)
-            → flag_of result.now i ≡ is_ready (P.program self.now.accepted.program) self.now.configuration i }
+            → flag_of result.now i ≡ is_ready
+            (P.program self.now.accepted.program) self.now.configuration i }
     {
         self.machine.ready_agents(self.accepted.program())
     }
@@ -219,7 +244,8 @@ impl<'g, P: ProgramView> Fleet<'g, P> {
     /// which their orders lead are passable, and no two agents have one in common. This does nothing: its contract is
     /// the law.
     pub fn apart(&self)
-        ensures { AreApart (is_passable self.now.accepted.grid) (P.program self.now.accepted.program) self.now.configuration }
+        ensures { AreApart (is_passable self.now.accepted.grid)
+            (P.program self.now.accepted.program) self.now.configuration }
     {
         ready_moves_are_apart();
         let _ = &self.machine;
@@ -256,7 +282,7 @@ impl<'g, P: ProgramView> Fleet<'g, P> {
 /// ready agent was held there were. Takes no memory by itself. After a refusal the fleet may be ticked further.
 ///
 /// Errors: `Source` and `Hold` if the source fails, `Write` if `out` does, `HoldLimit` if the source gives more than
-/// `MOST_TICKS` ticks before the run is over.
+/// `MAX_RUN_TICKS` ticks before the run is over.
 pub fn drive<P: ProgramView, S: HoldSource, O: TraceOut>(
     fleet: &mut Fleet<'_, P>,
     source: &mut S,
@@ -267,13 +293,17 @@ pub fn drive<P: ProgramView, S: HoldSource, O: TraceOut>(
     requires sink { IsWorking (O.state out.old) }
     ensures accepted { fleet.new.accepted ≡ fleet.old.accepted }
     ensures looked { fleet.old.looked ≤ fleet.new.looked }
-    ensures outcome { Drives (P.program fleet.old.accepted.program) fleet.old.accepted.chain (S.state source.old) (S.state source.new) (O.state out.old) (O.state out.new)
+    ensures outcome { Drives (P.program fleet.old.accepted.program) fleet.old.accepted.chain
+        (S.state source.old) (S.state source.new) (O.state out.old) (O.state out.new)
         fleet.new.configuration result }
-    ensures longest { IfOk result (λ r. IsLongestChain (P.program fleet.old.accepted.program) r.chain) }
+    ensures longest { IfOk result (λ r. IsLongestChain
+        (P.program fleet.old.accepted.program) r.chain) }
     ensures in_time { IfOk result IsInTime }
-    ensures arrived { IfOk result (λ _. AreOnGoals (P.program fleet.old.accepted.program) fleet.new.configuration) }
+    ensures arrived { IfOk result (λ _. AreOnGoals
+        (P.program fleet.old.accepted.program) fleet.new.configuration) }
     // It reports unless the source or the sink has failed, or the source had more ticks than a run takes.
-    ensures reports { HasNotFailed (S.state source.new) → IsWorking (O.state out.new) → length (S.state source.old).ticks ≤ MOST_TICKS → IsOk result }
+    ensures reports { HasNotFailed (S.state source.new) → IsWorking (O.state out.new)
+        → length (S.state source.old).ticks ≤ MAX_RUN_TICKS → IsOk result }
 {
     runs_arrive();
     runs_end();

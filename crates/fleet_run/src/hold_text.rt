@@ -26,7 +26,11 @@ impl<'a> Model for HoldText<'a> {
 
     ghost Value = { HoldLines };
 
-    ghost view = { λ s. record { lines = lines s.rest.now; agents = s.agents; has_failed = s.failed } };
+    ghost view = { λ s. record {
+      lines = lines s.rest.now;
+      agents = s.agents;
+      has_failed = s.failed;
+    } };
 }
 
 impl<'a> HoldText<'a> {
@@ -94,7 +98,8 @@ fn is_dash(line: &[u8]) -> bool
 fn set_agents(line: &[u8], agents: u16, flags: &mut [bool]) -> bool
     requires { AreFlagsOf [] flags.old }
     ensures { MatchBool result
-        ((tick : List ℕ) × (agents_of agents 0 (slice_split is_space line.now) ≡ Some tick) × AreFlagsOf tick flags.new)
+        ((tick : List ℕ) × (agents_of agents 0 (slice_split is_space line.now) ≡ Some tick)
+        × AreFlagsOf tick flags.new)
         (agents_of agents 0 (slice_split is_space line.now) ≡ None) }
 {
     let mut rest = line;
@@ -150,5 +155,6 @@ fn plain_number_of(word: &[u8]) -> Option<u32>
 
 /// A line is read as a tick exactly if it is the line of that tick.
 pub fn a_tick_line_is_read()
-    ensures { (n : ℕ) (line held : List ℕ) → n < 65536 → (tick_of n line ≡ Some held) ↔ IsTickLine n line held }
+    ensures { (n : ℕ) (line held : List ℕ) → n < 65536 → (tick_of n line ≡ Some held)
+        ↔ IsTickLine n line held }
 {}

@@ -20,7 +20,7 @@ pub use hold_list::HoldList;
 pub use hold_text::{HoldText, a_tick_line_is_read, set_tick};
 pub use hold_writing::write_holds;
 pub use report::{Rehearsal, rehearse};
-pub use run::{End, MOST_TICKS, RunFault};
+pub use run::{End, MAX_RUN_TICKS, RunFault};
 pub use source::{HoldSource, SourceFault, clear};
 pub use text::{PLACE, write_bytes, write_count, write_number_line, write_place};
 pub use trace::Report;

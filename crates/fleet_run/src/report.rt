@@ -35,7 +35,8 @@ fn run_rehearsal<P: ProgramView, S: HoldSource, O: TraceOut>(
     requires opening { machine.old.configuration ≡ opening (P.program program.now) }
     requires source { HasNotFailed (S.state source.old) }
     requires sink { IsWorking (O.state out.old) }
-    ensures { Rehearses (P.program program.now) (S.state source.old) (S.state source.new) (O.state out.old) (O.state out.new)
+    ensures { Rehearses (P.program program.now) (S.state source.old) (S.state source.new)
+        (O.state out.old) (O.state out.new)
         result }
 {
     let agents = program.agents();
@@ -66,7 +67,8 @@ pub fn rehearse<P: ProgramView, S: HoldSource, O: TraceOut>(
 ) -> Result<Rehearsal, RunFault>
     requires source { HasNotFailed (S.state source.old) }
     requires sink { IsWorking (O.state out.old) }
-    ensures { Rehearses (P.program program.now) (S.state source.old) (S.state source.new) (O.state out.old) (O.state out.new)
+    ensures { Rehearses (P.program program.now) (S.state source.old) (S.state source.new)
+        (O.state out.old) (O.state out.new)
         result }
 {
     let Ok(mut machine) = Machine::start(alloc, program) else {

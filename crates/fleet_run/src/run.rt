@@ -40,7 +40,7 @@ pub enum RunFault {
 }
 
 impl Refusal for RunFault {
-    ghost use Rattle.fleet_run.specs.Told.{run_words, is_run_failure};
+    ghost use Rattle.fleet_run.specs.RefusalWords.{run_words, is_run_failure};
 
     ghost words = { run_words };
 
@@ -96,7 +96,8 @@ fn put_line<O: TraceOut>(
 ) -> Result<(), OutFault>
     requires working { IsWorking (O.state out.old) }
     requires kept { (c : Configuration) × IsLineKept c row.old begins.now }
-    ensures kept { (c : Configuration) → IsLineKept c row.old begins.now → IsLineKept c row.new begins.now }
+    ensures kept { (c : Configuration) → IsLineKept c row.old begins.now
+        → IsLineKept c row.new begins.now }
     ensures taken { (c : Configuration) → IsLineKept c row.old begins.now
         → TakesAll (O.state out.old) (O.state out.new) result (line_of time c) }
 {
@@ -105,7 +106,7 @@ fn put_line<O: TraceOut>(
 }
 
 /// How many ticks a run takes from its source at most.
-pub const MOST_TICKS: u32 = 4_194_304;
+pub const MAX_RUN_TICKS: u32 = 4_194_304;
 
 /// The refusal of a run whose source fails so when it is asked for this tick.
 fn fault_at(fault: SourceFault, tick: u32) -> RunFault
@@ -134,7 +135,7 @@ fn next_tick<S: HoldSource>(
     ensures { AsksNext has_ended (S.state source.old) (S.state source.new) ticks result flags.new }
 {
     match ask(source, has_ended, flags) {
-        Ok(true) if ticks == MOST_TICKS => Err(RunFault::HoldLimit),
+        Ok(true) if ticks == MAX_RUN_TICKS => Err(RunFault::HoldLimit),
         Ok(more) => Ok(more),
         Err(fault) => Err(fault_at(fault, ticks + 1)),
     }
@@ -153,8 +154,10 @@ fn tick_row<P: ProgramView>(
     requires kept { IsLineKept machine.old.configuration row.old begins.old }
     ensures runs { Runs (P.program program.now) machine.new }
     ensures looked { machine.old.looked ≤ machine.new.looked }
-    ensures after { machine.new.configuration ≡ tick (P.program program.now) (flag_of flags.now) machine.old.configuration }
-    ensures held { result ≡ (if is_ready_held (P.program program.now) (flag_of flags.now) machine.old.configuration then 1 else 0) }
+    ensures after { machine.new.configuration
+        ≡ tick (P.program program.now) (flag_of flags.now) machine.old.configuration }
+    ensures held { result ≡ (if is_ready_held (P.program program.now)
+        (flag_of flags.now) machine.old.configuration then 1 else 0) }
     ensures kept { IsLineKept machine.new.configuration row.new begins.new }
 {
     let tick = machine.tick(program, flags);
@@ -175,7 +178,8 @@ pub fn run_lines<P: ProgramView, S: HoldSource, O: TraceOut>(
     requires sink { IsWorking (O.state out.old) }
     ensures runs { Runs (P.program program.now) machine.new }
     ensures looked { machine.old.looked ≤ machine.new.looked }
-    ensures lines { RunsLines (P.program program.now) (S.state source.old) (S.state source.new) (O.state out.old) (O.state out.new)
+    ensures lines { RunsLines (P.program program.now) (S.state source.old) (S.state source.new)
+        (O.state out.old) (O.state out.new)
         machine.new.configuration result }
 {
     let mut flags = [false; MAX_AGENTS];

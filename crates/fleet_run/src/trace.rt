@@ -40,7 +40,8 @@ pub fn run_trace<P: ProgramView, S: HoldSource, O: TraceOut>(
     requires sink { IsWorking (O.state out.old) }
     ensures runs { Runs (P.program program.now) machine.new }
     ensures looked { machine.old.looked ≤ machine.new.looked }
-    ensures outcome { Drives (P.program program.now) chain (S.state source.old) (S.state source.new) (O.state out.old) (O.state out.new)
+    ensures outcome { Drives (P.program program.now) chain (S.state source.old) (S.state source.new)
+        (O.state out.old) (O.state out.new)
         machine.new.configuration result }
 {
     let agents = program.agents();

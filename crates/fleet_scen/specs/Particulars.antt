@@ -5,8 +5,8 @@ use Rattle.fleet_scen.specs.declared.fault.Particulars.{Particulars}
 use Rattle.fleet_scen.specs.declared.fault.Particulars.TheVariants.{Memory, Named, At, Field}
 
 -- the words of the line that is made of these
-abbrev pub told_words : Particulars → List (List ℕ)
-told_words Memory = memory_words
-told_words (Named number name) = named (codes "scen") number name.now
-told_words (At number name line) = named_at (codes "scen") number name.now (codes "line") line
-told_words (Field line field) = named_by (codes "scen") 4 (codes "Number") (codes "line") line (codes "field") field
+abbrev pub particular_words : Particulars → List (List ℕ)
+particular_words Memory = memory_words
+particular_words (Named number name) = named (codes "scen") number name.now
+particular_words (At number name line) = named_at (codes "scen") number name.now (codes "line") line
+particular_words (Field line field) = named_by (codes "scen") 4 (codes "Number") (codes "line") line (codes "field") field

@@ -1,8 +1,8 @@
 //! Why a text is no scenario.
 
 ghost use Rattle.std.specs.Prelude.{◌≡◌};
-ghost use Rattle.fleet_scen.specs.Told.{scen_words};
-ghost use Rattle.fleet_scen.specs.Particulars.{told_words};
+ghost use Rattle.fleet_scen.specs.RefusalWords.{scen_words};
+ghost use Rattle.fleet_scen.specs.Particulars.{particular_words};
 
 use fleet_text::{OutFault, Refusal, TraceOut, put_memory, put_named, put_named_at, put_named_by};
 use std::alloc::AllocFailed;
@@ -66,8 +66,8 @@ enum Particulars {
     Field(u64, u8),
 }
 
-fn told(fault: ScenFault) -> Particulars
-    ensures { told_words result ≡ scen_words fault }
+fn particulars_of(fault: ScenFault) -> Particulars
+    ensures { particular_words result ≡ scen_words fault }
 {
     match fault {
         ScenFault::OutOfMemory => Particulars::Memory,
@@ -85,14 +85,14 @@ fn told(fault: ScenFault) -> Particulars
 }
 
 impl Refusal for ScenFault {
-    ghost use Rattle.fleet_scen.specs.Told.{scen_words, is_scen_failure};
+    ghost use Rattle.fleet_scen.specs.RefusalWords.{scen_words, is_scen_failure};
 
     ghost words = { scen_words };
 
     ghost is_failure = { is_scen_failure };
 
     fn put<O: TraceOut>(&self, out: &mut O) -> Result<(), OutFault> {
-        match told(*self) {
+        match particulars_of(*self) {
             Particulars::Memory => put_memory(out),
             Particulars::Named(number, name) => put_named(out, "scen", number, name),
             Particulars::At(number, name, line) => {

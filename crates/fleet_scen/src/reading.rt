@@ -5,7 +5,7 @@ ghost use Rattle.fleet_model.specs.declared.task.Task.{Task};
 ghost use Rattle.fleet_model.specs.Answer.{IsDueUnless};
 ghost use Rattle.fleet_text.specs.Text.{lines, words};
 ghost use Rattle.fleet_scen.specs.ScenText.{is_filled, is_version, HasPassableEnds, IsScenText, IsFirstScenFault};
-ghost use Rattle.fleet_scen.specs.ScenReading.{pair_at, numbers_at, task_at, lacks, scen_judged, tasks_at, after_version, judge_asked, scen_at};
+ghost use Rattle.fleet_scen.specs.ScenReading.{pair_at, numbers_at, task_at, lacks, whole_scen, tasks_at, after_version, judge_asked, scen_at};
 
 use crate::fault::ScenFault;
 use crate::fields::{fields_of, two_words};
@@ -163,7 +163,7 @@ fn tasks_of(
 /// The tasks, if they are enough.
 fn enough_tasks(asked: Option<u16>, tasks: Vec<Task>) -> Result<Vec<Task>, ScenFault>
     ensures { IsDueUnless (λ v. v.items) result
-        (scen_judged asked tasks.items) ScenFault.OutOfMemory }
+        (whole_scen asked tasks.items) ScenFault.OutOfMemory }
 {
     match asked {
         None if tasks.is_empty() => Err(ScenFault::NoAgents),

@@ -6,14 +6,14 @@ use Rattle.std.proofs.lemmas.Bool.{cases_eq, eqb-true, eq-eqb, false_from_ne_tru
 use Rattle.std.proofs.lemmas.List.Elements.{Contains-append_left, Contains-push, Contains-push_cases}
 use Rattle.fleet_search.specs.declared.frontier.Node.{Node}
 use Rattle.fleet_search.specs.Rows.{bucket_of, lists_of, IsPut}
-use Rattle.fleet_search.specs.Frontier.{Exploration, ArePlaces, IsTaken}
+use Rattle.fleet_search.specs.Frontier.{Exploration, AreNodePlaces, IsNodeTaken}
 use Rattle.fleet_search.proofs.RowLaws.{row-past}
 
-pub no-places : (nodes : List Node) (rows : List (Vec ℕ Global)) → rows ≡ [] → ArePlaces nodes (lists_of rows)
+pub no-places : (nodes : List Node) (rows : List (Vec ℕ Global)) → rows ≡ [] → AreNodePlaces nodes (lists_of rows)
 no-places nodes rows e k i h = absurd (let l = (subst (λ z. Contains z i) (row-past rows k (let none = ap length e in omega arith)) h).1 in omega arith)
 
 -- the place of a new node is put on a bucket
-pub put-places : (nodes more : List Node) (old new : List (List ℕ)) (key : ℕ) → ArePlaces nodes old → length more ≡ length nodes + 1 → IsPut old new key (length nodes) → ArePlaces more new
+pub put-places : (nodes more : List Node) (old new : List (List ℕ)) (key : ℕ) → AreNodePlaces nodes old → length more ≡ length nodes + 1 → IsPut old new key (length nodes) → AreNodePlaces more new
 put-places nodes more old new key places long put k i h = elim (cases_eq k key) [
   | inl s ↦ elim (Contains-push_cases (bucket_of old k) (length nodes) i (subst (λ z. Contains z i) (put k ∙ ap (λ b. cond b (bucket_of old k ++ length nodes ∷ []) (bucket_of old k)) (eq-eqb k key s)) h)) [
     | inl o ↦ (let l = places k i o in omega arith)
@@ -23,7 +23,7 @@ put-places nodes more old new key places long put k i h = elim (cases_eq k key) 
 ]
 
 -- a place is taken off a bucket
-pub taken-places : (nodes : List Node) (old new : List (List ℕ)) (key : ℕ) (taken : Option ℕ) → ArePlaces nodes old → IfSome taken (λ place. bucket_of old key ≡ bucket_of new key ++ place ∷ []) → IfNone taken (bucket_of new key ≡ []) → ((k : ℕ) → k ≢ key → bucket_of new k ≡ bucket_of old k) → ArePlaces nodes new
+pub taken-places : (nodes : List Node) (old new : List (List ℕ)) (key : ℕ) (taken : Option ℕ) → AreNodePlaces nodes old → IfSome taken (λ place. bucket_of old key ≡ bucket_of new key ++ place ∷ []) → IfNone taken (bucket_of new key ≡ []) → ((k : ℕ) → k ≢ key → bucket_of new k ≡ bucket_of old k) → AreNodePlaces nodes new
 taken-places nodes old new key None places some none others k i h = elim (cases_eq k key) [
   | inl s ↦ absurd (let l = (subst (λ z. Contains z i) none (subst (λ z. Contains (bucket_of new z) i) s h)).1 in omega arith)
   | inr ne ↦ places k i (subst (λ z. Contains z i) (others k ne) h)
@@ -33,7 +33,7 @@ taken-places nodes old new key (Some place) places some none others k i h = elim
   | inr ne ↦ places k i (subst (λ z. Contains z i) (others k ne) h)
 ]
 
-pub is_taken : (s : Exploration) (new : List (List ℕ)) (key : ℕ) (taken : Option ℕ) → ArePlaces s.nodes s.open_list → IfSome taken (λ place. bucket_of s.open_list key ≡ bucket_of new key ++ place ∷ []) → ((k : ℕ) → k ≢ key → bucket_of new k ≡ bucket_of s.open_list k) → IfSome taken (IsTaken s (record s { open_list = new }) key)
+pub is_taken : (s : Exploration) (new : List (List ℕ)) (key : ℕ) (taken : Option ℕ) → AreNodePlaces s.nodes s.open_list → IfSome taken (λ place. bucket_of s.open_list key ≡ bucket_of new key ++ place ∷ []) → ((k : ℕ) → k ≢ key → bucket_of new k ≡ bucket_of s.open_list k) → IfSome taken (IsNodeTaken s (record s { open_list = new }) key)
 is_taken s new key None places some others = tt
 is_taken s new key (Some place) places some others = record {
   within = places key place (subst (λ z. Contains z place) (sym some) (Contains-push (bucket_of new key) place));

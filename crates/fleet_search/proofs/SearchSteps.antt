@@ -16,7 +16,7 @@ use Rattle.fleet_search.specs.declared.link.Link.{Link}
 use Rattle.fleet_search.specs.declared.frontier.Query.{Query}
 use Rattle.fleet_search.specs.declared.frontier.Node.{Node}
 use Rattle.fleet_search.specs.declared.frontier.Expansion.{Expansion}
-use Rattle.fleet_search.specs.Frontier.{Exploration, ArePlaces, IsTaken, IsSwept}
+use Rattle.fleet_search.specs.Frontier.{Exploration, AreNodePlaces, IsNodeTaken, IsBucketDone}
 use Rattle.fleet_search.specs.Reserved.{IsUnoccupied, IsFreeOn}
 use Rattle.fleet_search.specs.Intervals.{IsInInterval, IsEarliestWithin}
 use Rattle.fleet_search.specs.Links.{place_in}
@@ -188,7 +188,7 @@ covered-new q r r' link u cell e free = record {
   free = λ x a b. subst (λ z. IsUnoccupied q.reserved.now z cell) (let s : u + 1 ≡ x = omega arith in s) free;
 }
 
-module _ (q : Query) (f place : ℕ) (r : List Node) (labels : Times) (open_list : List (List ℕ)) (fr : IsFrontier q f (Some place) r labels open_list) (places : ArePlaces r open_list) (left : State) (within : place < length r) (here : state_in r place ≡ left) (u : ℕ) (cell : Cell) (interval : ℕ) (inside : IsInInterval (occupancies_on q cell) interval (u + 1)) (unseen : IsSeen (earliest_of q labels cell interval) (u + 1) → ⊥) (move : IsMove q left u cell) (in_time : u + 1 + heuristic_of q cell ≤ q.horizon) (r' : List Node) (labels' : Times) (open_list' : List (List ℕ)) (key : ℕ) (link : Link) (to : place_in link ≡ place) (e : r' ≡ r ++ node_of (state (u + 1) cell) link ∷ []) (set : IsLabelSet labels labels' (cell_index q.grid.now cell) interval (u + 1)) (bucket : IsBucket q (state (u + 1) cell) key) (put : IsPut open_list open_list' key (length r)) (late : f ≤ key) where
+module _ (q : Query) (f place : ℕ) (r : List Node) (labels : Times) (open_list : List (List ℕ)) (fr : IsFrontier q f (Some place) r labels open_list) (places : AreNodePlaces r open_list) (left : State) (within : place < length r) (here : state_in r place ≡ left) (u : ℕ) (cell : Cell) (interval : ℕ) (inside : IsInInterval (occupancies_on q cell) interval (u + 1)) (unseen : IsSeen (earliest_of q labels cell interval) (u + 1) → ⊥) (move : IsMove q left u cell) (in_time : u + 1 + heuristic_of q cell ≤ q.horizon) (r' : List Node) (labels' : Times) (open_list' : List (List ℕ)) (key : ℕ) (link : Link) (to : place_in link ≡ place) (e : r' ≡ r ++ node_of (state (u + 1) cell) link ∷ []) (set : IsLabelSet labels labels' (cell_index q.grid.now cell) interval (u + 1)) (bucket : IsBucket q (state (u + 1) cell) key) (put : IsPut open_list open_list' key (length r)) (late : f ≤ key) where
   long : length r' ≡ length r + 1
   long = push-long r r' (node_of (state (u + 1) cell) link) e
 
@@ -478,17 +478,17 @@ swept q f r labels open_list open_list' fr e same = record {
 }
 
 -- the same of all that a search has come to
-pub taken-off : (q : Query) (f place : ℕ) (s t : Exploration) → IsFrontierOf q f None s → IsTaken s t f place → IsFrontierOf q f (Some place) t
+pub taken-off : (q : Query) (f place : ℕ) (s t : Exploration) → IsFrontierOf q f None s → IsNodeTaken s t f place → IsFrontierOf q f (Some place) t
 taken-off q f place s t fr w = subst (IsFrontierOf q f (Some place)) (sym w.rest) (taken q f s.nodes (earliest_in s.labels) s.open_list t.open_list place fr w.last w.others)
 
-pub taken-left : (q : Query) (f place : ℕ) (s t : Exploration) → IsFrontierOf q f None s → IsTaken s t f place → IsLeft q f t place (state_in t.nodes place)
+pub taken-left : (q : Query) (f place : ℕ) (s t : Exploration) → IsFrontierOf q f None s → IsNodeTaken s t f place → IsLeft q f t place (state_in t.nodes place)
 taken-left q f place s t fr w = subst (λ z. IsLeft q f z place (state_in z.nodes place)) (sym w.rest) (record {
   within = w.within;
   here = refl;
   bucket = taken-known q f s.nodes (earliest_in s.labels) s.open_list t.open_list place fr w.last w.others;
 })
 
-pub swept-off : (q : Query) (f : ℕ) (s t : Exploration) → IsFrontierOf q f None s → IsSwept s t f → IsFrontierOf q (f + 1) None t
+pub swept-off : (q : Query) (f : ℕ) (s t : Exploration) → IsFrontierOf q f None s → IsBucketDone s t f → IsFrontierOf q (f + 1) None t
 swept-off q f s t fr w = subst (IsFrontierOf q (f + 1) None) (sym w.rest) (swept q f s.nodes (earliest_in s.labels) s.open_list t.open_list fr w.empty w.same)
 
 -- ---- the start is reached, and nothing else

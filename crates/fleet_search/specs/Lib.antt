@@ -9,7 +9,7 @@ pub mod Links
 pub mod Frontier
 pub mod Search
 pub mod InTurn
-pub mod Told
+pub mod RefusalWords
 pub mod Labels
 pub mod Orders
 pub mod Attempts

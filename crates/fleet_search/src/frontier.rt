@@ -13,7 +13,7 @@ ghost use Rattle.fleet_search.specs.Way.{StepFits};
 ghost use Rattle.fleet_search.specs.Intervals.{IsInInterval};
 ghost use Rattle.fleet_search.specs.Labels.{earliest_in, IsSeen};
 ghost use Rattle.fleet_search.specs.Rows.{bucket_of};
-ghost use Rattle.fleet_search.specs.Frontier.{IsAdded, IsTaken, IsSwept};
+ghost use Rattle.fleet_search.specs.Frontier.{IsAdded, IsNodeTaken, IsBucketDone};
 ghost use Rattle.fleet_search.specs.Search.{heuristic_of, no_node, occupancies_on, IsMeasured, IsGoalState, IsBucket, IsLeft, IsExpansion, ExpandsOn, IsFrontierOf, Grows, IsPosed, IsSearched, IsTrailOf, IsFreeUntil, IsFoundAt, IsFoundIn, IsFoundFrom, IsNeighbour, HasEnded, IsSuperseded};
 
 use crate::arrivals::Arrivals;
@@ -158,7 +158,7 @@ pub struct Frontier {
 
 impl Model for Frontier {
     ghost use Rattle.fleet_search.specs.Rows.{lists_of};
-    ghost use Rattle.fleet_search.specs.Frontier.{Exploration, ArePlaces};
+    ghost use Rattle.fleet_search.specs.Frontier.{Exploration, AreNodePlaces};
 
     ghost Value = { Exploration };
 
@@ -168,7 +168,7 @@ impl Model for Frontier {
       open_list = lists_of f.open_list.items;
     } };
 
-    ghost invariant = { λ f. ArePlaces f.nodes.items (lists_of f.open_list.items) };
+    ghost invariant = { λ f. AreNodePlaces f.nodes.items (lists_of f.open_list.items) };
 }
 
 impl Frontier {
@@ -234,8 +234,8 @@ impl Frontier {
     /// Takes off the bucket the node that was put there last, and answers its place.
     #[inline(always)]
     fn take(&mut self, bucket: u32) -> Option<u32>
-        ensures some { IfSome result (IsTaken self.old self.new bucket) }
-        ensures none { IfNone result (IsSwept self.old self.new bucket) }
+        ensures some { IfSome result (IsNodeTaken self.old self.new bucket) }
+        ensures none { IfNone result (IsBucketDone self.old self.new bucket) }
     {
         take(&mut self.open_list, bucket)
     }

@@ -17,7 +17,7 @@ pub fn fits_by_steps()
 {}
 
 /// Paths that each fit those before them are free of conflict.
-pub fn planned_agent_by_agent()
+pub fn paths_that_fit_are_conflict_free()
     ensures { (plan : Plan) → FitTogether plan → AreConflictFree plan }
 {}
 
@@ -29,7 +29,7 @@ pub fn prioritised_plans_are_conflict_free()
 {}
 
 /// If one order alone is tried, it is that of the agents' numbers.
-pub fn one_order()
+pub fn one_try_takes_the_first_order()
     ensures made { (passable : Place → Bool) (tasks : List Task) (horizon : ℕ) (plan : Plan)
         → IsMadeInTries passable tasks horizon 1 plan
         → IsPrioritisedPlan passable tasks horizon (length tasks) plan }

@@ -24,7 +24,8 @@ mod state;
 pub use earliest_path::earliest;
 pub use fault::{PlanStop, SearchFault};
 pub use laws::{
-    fits_by_steps, one_order, planned_agent_by_agent, prioritised_plans_are_conflict_free,
+    fits_by_steps, one_try_takes_the_first_order, paths_that_fit_are_conflict_free,
+    prioritised_plans_are_conflict_free,
 };
 pub use orders::plan_in_orders;
 pub use planner::plan;

@@ -52,8 +52,10 @@ fn push_agent<P: ProgramView>(
 ) -> Result<u32, OutOfMemory>
     requires agent { i < length (P.program program.now) }
     requires before { before ≡ total_awaits (take i (P.program program.now)) }
-    ensures total { IfOk result (λ total. total ≡ total_awaits (take (i + 1) (P.program program.now))) }
-    ensures all { OnOk result (length firsts.new.items ≡ length firsts.old.items + moves (P.program program.now) i) }
+    ensures total { IfOk result (λ total. total
+        ≡ total_awaits (take (i + 1) (P.program program.now))) }
+    ensures all { OnOk result (length firsts.new.items
+        ≡ length firsts.old.items + moves (P.program program.now) i) }
     ensures others { OnOk result ((k : ℕ) → k < length firsts.old.items
         → slice_index firsts.new.items k ≡ slice_index firsts.old.items k) }
     ensures here { OnOk result ((n : ℕ) → n < moves (P.program program.now) i

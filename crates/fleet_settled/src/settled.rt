@@ -34,7 +34,8 @@ pub fn settle_all<P: ProgramView>(
     requires places { AreAwaitPlaces (P.program program.now) places.now }
     requires flags { length flags.old ≡ total_awaits (P.program program.now) }
     ensures all { IfOk result (λ asked. length asked.items ≡ length (P.program program.now)) }
-    ensures settled { IfOk result (λ asked. AreSettled (P.program program.now) asked.items flags.new) }
+    ensures settled { IfOk result (λ asked. AreSettled
+        (P.program program.now) asked.items flags.new) }
 {
     let ticks = FinishTicks::of(alloc, program, ticks)?;
     let agents = program.agents();
@@ -94,7 +95,8 @@ fn settle_action<P: ProgramView>(
     requires action { IsAction (P.program program.now) action }
     requires flags { length flags.old ≡ total_awaits (P.program program.now) }
     requires asked { length asked.old ≡ length (P.program program.now) }
-    ensures { IsActionSettled (P.program program.now) action asked.old asked.new flags.old flags.new }
+    ensures { IsActionSettled
+        (P.program program.now) action asked.old asked.new flags.old flags.new }
 {
     let _ = program.agents();
     let first = places.first(program, action);
@@ -162,10 +164,13 @@ fn is_implied<P: ProgramView>(
     requires ticks { AreTicks (P.program program.now) ticks.now }
     requires action { IsAction (P.program program.now) action }
     requires place { k < length (awaits_of (P.program program.now) action.agent action.number) }
-    requires latest { latest < length (awaits_of (P.program program.now) action.agent action.number) }
-    ensures yes { (w : Await) → slice_get (awaits_of (P.program program.now) action.agent action.number) k ≡ Some w
+    requires latest { latest < length
+        (awaits_of (P.program program.now) action.agent action.number) }
+    ensures yes { (w : Await) → slice_get
+        (awaits_of (P.program program.now) action.agent action.number) k ≡ Some w
         → result ≡ Some true → IsImplied (P.program program.now) action w }
-    ensures no { (w : Await) → slice_get (awaits_of (P.program program.now) action.agent action.number) k ≡ Some w
+    ensures no { (w : Await) → slice_get
+        (awaits_of (P.program program.now) action.agent action.number) k ≡ Some w
         → result ≡ Some false → IsImplied (P.program program.now) action w → ⊥ }
 {
     let _ = program.agents();
@@ -227,9 +232,11 @@ fn reaches_other<P: ProgramView>(
     requires awaited { slice_get (awaits_of (P.program program.now) action.agent action.number) k
         ≡ Some (record { agent = first.agent; count = first.number }) }
     ensures yes { result ≡ Some true
-        → IsImplied (P.program program.now) action (record { agent = first.agent; count = first.number }) }
+        → IsImplied (P.program program.now) action
+        (record { agent = first.agent; count = first.number }) }
     ensures no { result ≡ Some false
-        → IsImplied (P.program program.now) action (record { agent = first.agent; count = first.number }) → ⊥ }
+        → IsImplied (P.program program.now) action
+        (record { agent = first.agent; count = first.number }) → ⊥ }
 {
     let _ = program.agents();
     let mut steps = STEPS;
@@ -245,10 +252,10 @@ fn reaches_other<P: ProgramView>(
         }
     }
     if action.number <= 1 {
-        return joined(known, Some(false));
+        return join_answers(known, Some(false));
     }
     let before = before(action);
-    joined(known, reaches(program, ticks, first, before, &mut steps))
+    join_answers(known, reaches(program, ticks, first, before, &mut steps))
 }
 
 /// Whether a chain of needs begins with the first action and ends with the last, if so many steps back from the last
@@ -290,9 +297,9 @@ fn reaches<P: ProgramView>(
         }
     }
     if last.number <= 1 {
-        return joined(known, Some(false));
+        return join_answers(known, Some(false));
     }
-    joined(known, reaches(program, ticks, first, before(last), steps))
+    join_answers(known, reaches(program, ticks, first, before(last), steps))
 }
 
 /// The action of the same agent right before one that is not its first.
@@ -308,7 +315,7 @@ fn before(action: ActionId) -> ActionId
 }
 
 /// The answer for all of some actions, by that for one of them: no only if it is `known` that it is no for the others.
-fn joined(known: bool, one: Option<bool>) -> Option<bool>
+fn join_answers(known: bool, one: Option<bool>) -> Option<bool>
     ensures yes { result ≡ Some true → one ≡ Some true }
     ensures no { result ≡ Some false → (known ≡ true) × (one ≡ Some false) }
 {

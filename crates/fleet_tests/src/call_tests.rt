@@ -19,7 +19,7 @@ use std::alloc::Global;
 use std::test::Fail;
 
 /// The trace of the pair with agent 0 held in the first tick, in one call. None without memory.
-fn auto_told(alloc: Global) -> Option<Vec<u8>> {
+fn auto_answer(alloc: Global) -> Option<Vec<u8>> {
     let mut out = VecOut::new(alloc);
     let holds = b"0\n".as_slice();
     match auto_run(
@@ -40,7 +40,7 @@ fn auto_told(alloc: Global) -> Option<Vec<u8>> {
 }
 
 /// The rehearsal of the pair under a list that holds agent 0, and one that is not there, in the first tick.
-fn list_told(alloc: Global) -> Option<Vec<u8>> {
+fn list_answer(alloc: Global) -> Option<Vec<u8>> {
     let program = load(alloc, &read_hex(alloc, PAIR_HEX).ok()?).ok()?;
     let rows = vec![in alloc; vec![in alloc; 0, 9].ok()?].ok()?;
     let mut out = VecOut::new(alloc);
@@ -53,7 +53,7 @@ fn list_told(alloc: Global) -> Option<Vec<u8>> {
 }
 
 /// The program's bytes in version 1, or why it has none.
-fn encoded(alloc: Global, hex: &[u8]) -> Option<Vec<u8>> {
+fn encode_answer(alloc: Global, hex: &[u8]) -> Option<Vec<u8>> {
     let program = load(alloc, &read_hex(alloc, hex).ok()?).ok()?;
     match encode(alloc, &program) {
         Ok(bytes) => Some(bytes),
@@ -64,7 +64,7 @@ fn encoded(alloc: Global, hex: &[u8]) -> Option<Vec<u8>> {
 }
 
 /// A plan that is read, and written.
-fn plan_told(alloc: Global) -> Option<Vec<u8>> {
+fn plan_answer(alloc: Global) -> Option<Vec<u8>> {
     let plan = read_plan(
         alloc,
         b"0,65535\t09,10  99,100 999,1000 9999,10000 65535,0\r\n3,4",
@@ -74,13 +74,13 @@ fn plan_told(alloc: Global) -> Option<Vec<u8>> {
 }
 
 /// A list of holds that is written.
-fn holds_told(alloc: Global) -> Option<Vec<u8>> {
+fn holds_answer(alloc: Global) -> Option<Vec<u8>> {
     let held = vec![in alloc; 0, 9, 10].ok()?;
     write_holds(alloc, &[held, Vec::new(alloc)]).ok()
 }
 
 /// A file that is written over another, and read.
-fn file_told(alloc: Global) -> Option<Vec<u8>> {
+fn file_answer(alloc: Global) -> Option<Vec<u8>> {
     let mut files = MemFiles::new(alloc);
     files.put("out", b"old bytes").ok()?;
     files.write("out", b"bytes").ok()?;
@@ -89,7 +89,7 @@ fn file_told(alloc: Global) -> Option<Vec<u8>> {
 
 /// Of the program that is made for the map and the scenario: how many actions of each agent the second action of the
 /// last agent needs, and then how many of the last agent the second action of the first agent needs.
-fn reach_told(alloc: Global, map: &[u8], scen: &[u8]) -> Option<Vec<u8>> {
+fn reach_answer(alloc: Global, map: &[u8], scen: &[u8]) -> Option<Vec<u8>> {
     let grid = read_map(alloc, map).ok()?;
     let instance = read_scen(alloc, scen, &grid, None).ok()?;
     let checked = plan(alloc, &grid, &instance, 1024).ok()?;
@@ -133,17 +133,17 @@ enum Call {
 }
 
 /// What the call answers. None without memory.
-fn told(alloc: Global, call: Call) -> Option<Vec<u8>> {
+fn answer_of(alloc: Global, call: Call) -> Option<Vec<u8>> {
     match call {
-        Call::Auto => auto_told(alloc),
-        Call::List => list_told(alloc),
-        Call::Encode => encoded(alloc, PAIR_HEX),
-        Call::EncodeLate => encoded(alloc, LATE_HEX),
-        Call::EncodeStaying => encoded(alloc, STAYING_HEX),
-        Call::Plan => plan_told(alloc),
-        Call::Holds => holds_told(alloc),
-        Call::File => file_told(alloc),
-        Call::Reach => reach_told(alloc, PAIR_MAP, PAIR_SCEN),
+        Call::Auto => auto_answer(alloc),
+        Call::List => list_answer(alloc),
+        Call::Encode => encode_answer(alloc, PAIR_HEX),
+        Call::EncodeLate => encode_answer(alloc, LATE_HEX),
+        Call::EncodeStaying => encode_answer(alloc, STAYING_HEX),
+        Call::Plan => plan_answer(alloc),
+        Call::Holds => holds_answer(alloc),
+        Call::File => file_answer(alloc),
+        Call::Reach => reach_answer(alloc, PAIR_MAP, PAIR_SCEN),
     }
 }
 
@@ -166,7 +166,7 @@ const CALLS: [(Call, &[u8]); 9] = [
 #[test]
 fn calls_answer(rt: HostRuntime) -> Result<(), Fail> {
     for (call, due) in CALLS {
-        let bytes = told(rt.alloc(), call).ok_or("memory")?;
+        let bytes = answer_of(rt.alloc(), call).ok_or("memory")?;
         assert_eq!(rt; bytes.as_slice(), due);
     }
     Ok(())
@@ -185,8 +185,8 @@ fn is_due(answer: Option<&Vec<u8>>, due: &[u8]) -> bool {
 #[test]
 fn only_memory_may_be_refused(rt: HostRuntime) {
     for (call, due) in CALLS {
-        let first = told(rt.alloc(), call);
-        let second = told(rt.alloc(), call);
+        let first = answer_of(rt.alloc(), call);
+        let second = answer_of(rt.alloc(), call);
         assert!(rt; first.is_some() || second.is_some());
         assert!(rt; is_due(first.as_ref(), due) && is_due(second.as_ref(), due));
     }
@@ -197,7 +197,7 @@ fn only_memory_may_be_refused(rt: HostRuntime) {
 #[test]
 fn a_train_reaches_back(rt: HostRuntime) -> Result<(), Fail> {
     let scen = train_scen(rt.alloc())?;
-    let counts = reach_told(rt.alloc(), TRAIN_MAP, &scen).ok_or("memory")?;
+    let counts = reach_answer(rt.alloc(), TRAIN_MAP, &scen).ok_or("memory")?;
     let Some((count, others)) = counts.split_last() else {
         return Err(Fail::from("no counts"));
     };

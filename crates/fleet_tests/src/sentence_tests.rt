@@ -17,7 +17,7 @@ fn put_all<F: Display>(text: &mut String, faults: &[F]) -> Result<(), AllocError
 }
 
 /// .. of all faults of maps, scenarios and plans.
-fn texts_told(alloc: Global) -> Result<String, AllocError> {
+fn text_sentences(alloc: Global) -> Result<String, AllocError> {
     let mut text = String::new(alloc);
     put_all(
         &mut text,
@@ -57,7 +57,7 @@ fn texts_told(alloc: Global) -> Result<String, AllocError> {
 }
 
 /// .. of programs.
-fn programs_told(alloc: Global) -> Result<String, AllocError> {
+fn program_sentences(alloc: Global) -> Result<String, AllocError> {
     let mut text = String::new(alloc);
     put_all(
         &mut text,
@@ -81,7 +81,7 @@ fn programs_told(alloc: Global) -> Result<String, AllocError> {
 #[test]
 fn faults_have_sentences(rt: HostRuntime) -> Result<(), Fail> {
     assert_eq!(rt;
-        texts_told(rt.alloc())?.as_str(),
+        text_sentences(rt.alloc())?.as_str(),
         "line 1 of the header is missing or has another form
 a side of the map is 0 or above 4096
 there are fewer rows than the header says
@@ -104,7 +104,7 @@ there are not 1 to 1024 agents
 "
     );
     assert_eq!(rt;
-        programs_told(rt.alloc())?.as_str(),
+        program_sentences(rt.alloc())?.as_str(),
         "the bytes begin neither with MPF1 nor with MPF2
 the bytes end within the program
 the number of agents is 0 or above 1024

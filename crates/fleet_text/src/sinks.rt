@@ -22,7 +22,12 @@ impl Model for VecOut {
 
     ghost Value = { Taken };
 
-    ghost view = { λ s. record { bytes = s.bytes.items; room = vec_capacity s.bytes; has_failed = s.failed; is_flushed = s.flushed } };
+    ghost view = { λ s. record {
+      bytes = s.bytes.items;
+      room = vec_capacity s.bytes;
+      has_failed = s.failed;
+      is_flushed = s.flushed;
+    } };
 }
 
 impl VecOut {
@@ -100,7 +105,11 @@ impl<W: Write> WriteOut<W> {
 }
 
 impl<W: Write> TraceOut for WriteOut<W> {
-    ghost state = { λ s. record { taken = W.contents s.writer; has_failed = s.failed; is_flushed = s.flushed } };
+    ghost state = { λ s. record {
+      taken = W.contents s.writer;
+      has_failed = s.failed;
+      is_flushed = s.flushed;
+    } };
 
     fn put(&mut self, bytes: &[u8]) -> Result<usize, OutFault> {
         match self.writer.write(bytes) {

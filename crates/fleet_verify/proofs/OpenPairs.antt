@@ -26,7 +26,7 @@ use Rattle.fleet_verify.specs.declared.visit_order.VisitOrder.{VisitOrder}
 use Rattle.fleet_verify.specs.Faults.{HasStarts, IsFirstBreak}
 use Rattle.fleet_verify.specs.Listing.{entry_level, IsBefore}
 use Rattle.fleet_verify.specs.Order.{number_of, visits_of, IsListJudged, AreAllPlaced, AreViolations, AreGrouped, IsOpenPair, AreConsecutive, StandsBefore}
-use Rattle.fleet_verify.specs.OpenPairs.{AreVisits, question_of, violation_of, HasNoChain, IsFirstBad, TellsFirstBad, IsFlagged}
+use Rattle.fleet_verify.specs.OpenPairs.{AreVisits, question_of, violation_of, HasNoChain, IsFirstBad, AnswersFirstBad, IsFlagged}
 use Rattle.fleet_model.proofs.Reaching.{own_reach, Reaches-rises}
 use Rattle.fleet_verify.proofs.Decide.{Reaches-dec}
 use Rattle.fleet_verify.proofs.Listing.{levels_number, await_chain, entry_start, entry_later, before_rank}
@@ -40,36 +40,36 @@ first_on : (Bad : ℕ → OpenPair → Type 0) (pairs : List OpenPair) (k n : �
 first_on Bad pairs k n v w h = record { at = h.at; cell = h.cell; within = omega (arith, h.within); here = h.here; number = h.number; bad = h.bad; sooner = h.sooner }
 
 -- a pair that is not bad, or of another cell, or of a cell that has one already
-pub first_skip : (Bad : ℕ → OpenPair → Type 0) (pairs : List OpenPair) (k n : ℕ) (m : Option OrderViolation) → TellsFirstBad Bad pairs k n m
-    → (m ≡ None → (o : OpenPair) → slice_get pairs k ≡ Some o → number_of o.cell ≡ n → Bad k o → ⊥) → TellsFirstBad Bad pairs (k + 1) n m
+pub first_skip : (Bad : ℕ → OpenPair → Type 0) (pairs : List OpenPair) (k n : ℕ) (m : Option OrderViolation) → AnswersFirstBad Bad pairs k n m
+    → (m ≡ None → (o : OpenPair) → slice_get pairs k ≡ Some o → number_of o.cell ≡ n → Bad k o → ⊥) → AnswersFirstBad Bad pairs (k + 1) n m
 first_skip Bad pairs k n None h skip = λ j o l e f b. elim (cases_eq j k) [
   | inl s ↦ skip refl o (subst (λ (i : ℕ). slice_get pairs i ≡ Some o) s e) f (subst (λ (i : ℕ). Bad i o) s b)
   | inr ne ↦ h j o (omega arith) e f b
 ]
 first_skip Bad pairs k n (Some b) h skip = first_on Bad pairs k n b.first b.second h
 
-pub first_put : (Bad : ℕ → OpenPair → Type 0) (pairs : List OpenPair) (k n : ℕ) (o : OpenPair) → TellsFirstBad Bad pairs k n None → slice_get pairs k ≡ Some o → number_of o.cell ≡ n → Bad k o
-    → TellsFirstBad Bad pairs (k + 1) n (Some (record { first = o.first; second = o.second }))
+pub first_put : (Bad : ℕ → OpenPair → Type 0) (pairs : List OpenPair) (k n : ℕ) (o : OpenPair) → AnswersFirstBad Bad pairs k n None → slice_get pairs k ≡ Some o → number_of o.cell ≡ n → Bad k o
+    → AnswersFirstBad Bad pairs (k + 1) n (Some (record { first = o.first; second = o.second }))
 first_put Bad pairs k n o h e f b = record { at = k; cell = o.cell; within = omega arith; here = e; number = f; bad = b; sooner = h_sooner }
   where
     h_sooner : (j : ℕ) (x : OpenPair) → j < k → slice_get pairs j ≡ Some x → number_of x.cell ≡ n → Bad j x → ⊥
     h_sooner j x l g i c = h j x l g i c
 
 -- a bad pair, which is kept if none of its cell is kept yet
-pub first_next : (Bad : ℕ → OpenPair → Type 0) (pairs : List OpenPair) (k n : ℕ) (o : OpenPair) (old new : Option OrderViolation) → TellsFirstBad Bad pairs k n old → slice_get pairs k ≡ Some o → Bad k o
-    → (n ≢ number_of o.cell → new ≡ old) → (number_of o.cell ≡ n → new ≡ option_or old (Some (violation_of o))) → TellsFirstBad Bad pairs (k + 1) n new
+pub first_next : (Bad : ℕ → OpenPair → Type 0) (pairs : List OpenPair) (k n : ℕ) (o : OpenPair) (old new : Option OrderViolation) → AnswersFirstBad Bad pairs k n old → slice_get pairs k ≡ Some o → Bad k o
+    → (n ≢ number_of o.cell → new ≡ old) → (number_of o.cell ≡ n → new ≡ option_or old (Some (violation_of o))) → AnswersFirstBad Bad pairs (k + 1) n new
 first_next Bad pairs k n o old new h e b others here = elim (cases_eq (number_of o.cell) n) [
-  | inl f ↦ subst (λ (m : Option OrderViolation). TellsFirstBad Bad pairs (k + 1) n m) (sym (here f)) (put old h f)
-  | inr f ↦ subst (λ (m : Option OrderViolation). TellsFirstBad Bad pairs (k + 1) n m) (sym (others (λ g. f (sym g))))
+  | inl f ↦ subst (λ (m : Option OrderViolation). AnswersFirstBad Bad pairs (k + 1) n m) (sym (here f)) (put old h f)
+  | inr f ↦ subst (λ (m : Option OrderViolation). AnswersFirstBad Bad pairs (k + 1) n m) (sym (others (λ g. f (sym g))))
       (first_skip Bad pairs k n old h (λ none x g i c. f (ap (λ (y : OpenPair). number_of y.cell) (same_Some o x (sym e ∙ g)) ∙ i)))
 ]
   where
-    put : (m : Option OrderViolation) → TellsFirstBad Bad pairs k n m → number_of o.cell ≡ n → TellsFirstBad Bad pairs (k + 1) n (option_or m (Some (violation_of o)))
+    put : (m : Option OrderViolation) → AnswersFirstBad Bad pairs k n m → number_of o.cell ≡ n → AnswersFirstBad Bad pairs (k + 1) n (option_or m (Some (violation_of o)))
     put None t f = first_put Bad pairs k n o t e f b
     put (Some c) t f = first_skip Bad pairs k n (Some c) t (λ none x g i d. absurd cc)
 
 pub first_as : (B C : ℕ → OpenPair → Type 0) (pairs : List OpenPair) (many n : ℕ) → ((k : ℕ) (o : OpenPair) → slice_get pairs k ≡ Some o → B k o ↔ C k o)
-    → (m : Option OrderViolation) → TellsFirstBad B pairs many n m → TellsFirstBad C pairs many n m
+    → (m : Option OrderViolation) → AnswersFirstBad B pairs many n m → AnswersFirstBad C pairs many n m
 first_as B C pairs many n same None h = λ k o l e f c. h k o l e f ((same k o e).1 c)
 first_as B C pairs many n same (Some b) h = record {
   at = h.at;
@@ -90,7 +90,7 @@ question_get p (x ∷ xs) (suc k) o e = question_get p xs k o e
 
 -- flags that answer the questions tell the pairs without a chain
 pub flags_tell : (p : Program) (pairs : List OpenPair) (flags : List Bool) → AreAnswers p (map (question_of p) pairs) flags → (n : ℕ) (m : Option OrderViolation)
-    → TellsFirstBad (IsFlagged flags) pairs (length pairs) n m → TellsFirstBad (λ _ o. HasNoChain p o) pairs (length pairs) n m
+    → AnswersFirstBad (IsFlagged flags) pairs (length pairs) n m → AnswersFirstBad (λ _ o. HasNoChain p o) pairs (length pairs) n m
 flags_tell p pairs flags h n m t = first_as (IsFlagged flags) (λ _ o. HasNoChain p o) pairs (length pairs) n (λ k o e. h.each k (question_of p o) (question_get p pairs k o e)) m t
 
 question_at : (p : Program) (pairs : List OpenPair) (i : ℕ) (d : Question) (e : OpenPair) → i < length pairs → get_or (map (question_of p) pairs) i d ≡ question_of p (get_or pairs i e)
@@ -268,7 +268,7 @@ module _ (p : Program) (order : VisitOrder) (placed : List PlacedVisit) (all : A
   pair_get : (o : OpenPair) (k : ℕ) → k < length pairs_of → get_or pairs_of k o ≡ o → slice_get pairs_of k ≡ Some o
   pair_get o k l e = slice_get-get_or pairs_of k o l ∙ ap (λ (x : OpenPair). Some x) e
 
-  judged_none : AreInRange p → (c : Cell) → IsCell c → TellsFirstBad (λ _ o. HasNoChain p o) pairs_of (length pairs_of) (number_of c) None → IsListJudged (ComesAfter p) (visits_of (place_of c) placed) None
+  judged_none : AreInRange p → (c : Cell) → IsCell c → AnswersFirstBad (λ _ o. HasNoChain p o) pairs_of (length pairs_of) (number_of c) None → IsListJudged (ComesAfter p) (visits_of (place_of c) placed) None
   judged_none range c cell none = adjacent_from (ComesAfterByChain p) vs (λ k d l. pair (get_or vs k d) (get_or vs (suc k) d)
       (record { at = k; here = slice_get-get_or vs k d (omega arith); next = ap (slice_get vs) (add-one k) ∙ slice_get-get_or vs (suc k) d l }))
     where
@@ -331,10 +331,10 @@ module _ (p : Program) (order : VisitOrder) (placed : List PlacedVisit) (all : A
             ]
       ]
 
-  pub violations_are : AreInRange p → (found : ℕ → Option OrderViolation) → ((n : ℕ) → TellsFirstBad (λ _ o. HasNoChain p o) pairs_of (length pairs_of) n (found n)) → AreViolations p placed (λ c. found (number_of c))
+  pub violations_are : AreInRange p → (found : ℕ → Option OrderViolation) → ((n : ℕ) → AnswersFirstBad (λ _ o. HasNoChain p o) pairs_of (length pairs_of) n (found n)) → AreViolations p placed (λ c. found (number_of c))
   violations_are range found h c cell = go (found (number_of c)) (h (number_of c))
     where
-      go : (m : Option OrderViolation) → TellsFirstBad (λ _ o. HasNoChain p o) pairs_of (length pairs_of) (number_of c) m → IsListJudged (ComesAfter p) (visits_of (place_of c) placed) m
+      go : (m : Option OrderViolation) → AnswersFirstBad (λ _ o. HasNoChain p o) pairs_of (length pairs_of) (number_of c) m → IsListJudged (ComesAfter p) (visits_of (place_of c) placed) m
       go None t = judged_none range c cell t
       go (Some b) t = judged_some range c cell b.first b.second t
 

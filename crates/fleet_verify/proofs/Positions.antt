@@ -10,7 +10,7 @@ use Rattle.fleet_model.specs.Geometry.{IsInReach, place_of, stepped}
 use Rattle.fleet_model.specs.Program.{Program, moves, path, step_of, IsWellFormed}
 use Rattle.fleet_verify.specs.declared.path.Position.TheVariants.{OnGround, OffGround}
 use Rattle.fleet_verify.specs.Faults.{StandsRight}
-use Rattle.fleet_verify.specs.Path.{IsPosition, TellsFirst, TellsFirstAction}
+use Rattle.fleet_verify.specs.Path.{IsPosition, AnswersFirst, AnswersFirstAction}
 use Rattle.fleet_verify.proofs.Paths.{step_from, falls_off, in_reach}
 use Rattle.fleet_verify.proofs.Ranges.{up_to_more, agents_more}
 
@@ -31,11 +31,11 @@ pub place_in_reach : (passable : Place → Bool) (p : Program) → IsWellFormed 
 place_in_reach passable p wf i n q a l h = in_reach p wf i n q l h.0
 
 -- what was found of the agents before, and of one more
-pub one_agent_more : (p : Program) (Right : ℕ → ℕ → Type 0) (i : ℕ) (found : Option ActionId) (n : Option ℕ) (told : Option ActionId) → TellsFirstAction p Right i found → TellsFirst (moves p i) (Right i) n → i < length p
-    → told ≡ option_or found (option_map (λ m. record { agent = i; number = m }) n) → TellsFirstAction p Right (i + 1) told
-one_agent_more p Right i found n told before here inside e = subst (TellsFirstAction p Right (i + 1)) (sym e) (go found n before here)
+pub one_agent_more : (p : Program) (Right : ℕ → ℕ → Type 0) (i : ℕ) (found : Option ActionId) (n : Option ℕ) (told : Option ActionId) → AnswersFirstAction p Right i found → AnswersFirst (moves p i) (Right i) n → i < length p
+    → told ≡ option_or found (option_map (λ m. record { agent = i; number = m }) n) → AnswersFirstAction p Right (i + 1) told
+one_agent_more p Right i found n told before here inside e = subst (AnswersFirstAction p Right (i + 1)) (sym e) (go found n before here)
   where
-    go : (o : Option ActionId) (m : Option ℕ) → TellsFirstAction p Right i o → TellsFirst (moves p i) (Right i) m → TellsFirstAction p Right (i + 1) (option_or o (option_map (λ k. record { agent = i; number = k }) m))
+    go : (o : Option ActionId) (m : Option ℕ) → AnswersFirstAction p Right i o → AnswersFirst (moves p i) (Right i) m → AnswersFirstAction p Right (i + 1) (option_or o (option_map (λ k. record { agent = i; number = k }) m))
     go (Some a) m (l, first) h = (omega arith, first)
     go None None all h = agents_more Right (moves p) i all h
     go None (Some m) all h = (omega arith, record { agent = inside; action = h; others = all })

@@ -9,5 +9,5 @@ pub mod Path
 pub mod Parts
 pub mod Rows
 pub mod Broken
-pub mod Told
+pub mod RefusalWords
 pub mod Reach

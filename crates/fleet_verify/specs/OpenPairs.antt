@@ -38,9 +38,9 @@ pub record IsFirstBad (Bad : ℕ → OpenPair → Type 0) (pairs : List OpenPair
   pub sooner : (k : ℕ) (o : OpenPair) → k < at → slice_get pairs k ≡ Some o → number_of o.cell ≡ n → Bad k o → ⊥
 
 -- the first bad pair of the cell with this number, among so many pairs, or nothing if none is bad
-abbrev pub TellsFirstBad : (ℕ → OpenPair → Type 0) → List OpenPair → ℕ → ℕ → Option OrderViolation → Type 0
-TellsFirstBad Bad pairs many n None = (k : ℕ) (o : OpenPair) → k < many → slice_get pairs k ≡ Some o → number_of o.cell ≡ n → Bad k o → ⊥
-TellsFirstBad Bad pairs many n (Some b) = IsFirstBad Bad pairs many n b.first b.second
+abbrev pub AnswersFirstBad : (ℕ → OpenPair → Type 0) → List OpenPair → ℕ → ℕ → Option OrderViolation → Type 0
+AnswersFirstBad Bad pairs many n None = (k : ℕ) (o : OpenPair) → k < many → slice_get pairs k ≡ Some o → number_of o.cell ≡ n → Bad k o → ⊥
+AnswersFirstBad Bad pairs many n (Some b) = IsFirstBad Bad pairs many n b.first b.second
 
 -- the flag with this number is set
 abbrev pub IsFlagged : List Bool → ℕ → OpenPair → Type 0

@@ -10,14 +10,14 @@ use Rattle.fleet_verify.specs.declared.path.Position.{Position}
 use Rattle.fleet_verify.specs.declared.path.Position.TheVariants.{OnGround, OffGround}
 
 -- the least number up to a last one that is not so, or nothing if all are
-abbrev pub TellsFirst : ℕ → (ℕ → Type 0) → Option ℕ → Type 0
-TellsFirst last Right None = (n : ℕ) → n ≤ last → Right n
-TellsFirst last Right (Some n) = IsFirstNumber last Right n
+abbrev pub AnswersFirst : ℕ → (ℕ → Type 0) → Option ℕ → Type 0
+AnswersFirst last Right None = (n : ℕ) → n ≤ last → Right n
+AnswersFirst last Right (Some n) = IsFirstNumber last Right n
 
 -- the first action of the agents below n that is not so, or nothing if all are
-abbrev pub TellsFirstAction : Program → (ℕ → ℕ → Type 0) → ℕ → Option ActionId → Type 0
-TellsFirstAction p Right n None = (i m : ℕ) → i < n → m ≤ moves p i → Right i m
-TellsFirstAction p Right n (Some a) = (a.agent < n) × IsFirstAction p Right a.agent a.number
+abbrev pub AnswersFirstAction : Program → (ℕ → ℕ → Type 0) → ℕ → Option ActionId → Type 0
+AnswersFirstAction p Right n None = (i m : ℕ) → i < n → m ≤ moves p i → Right i m
+AnswersFirstAction p Right n (Some a) = (a.agent < n) × IsFirstAction p Right a.agent a.number
 
 -- after n actions agent i is on this cell, and was on passable ground until then; or it is at this place, and this
 -- action was the first to lead off passable ground
@@ -29,5 +29,5 @@ IsPosition passable p i n (OffGround q a) = (q ≡ path p i n) × IsFirstNumber 
 -- there is
 pub record IsPathJudged (passable : Place → Bool) (p : Program) (i : ℕ) (judged : PathJudged) : Type 0 where
   pub end : judged.end ≡ path p i (moves p i)
-  pub off_ground : TellsFirst (moves p i) (StandsRight passable p i) judged.off_ground
-  pub out_of_range : TellsFirst (moves p i) (AwaitsRight p i) judged.out_of_range
+  pub off_ground : AnswersFirst (moves p i) (StandsRight passable p i) judged.off_ground
+  pub out_of_range : AnswersFirst (moves p i) (AwaitsRight p i) judged.out_of_range

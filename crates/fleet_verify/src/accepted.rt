@@ -20,9 +20,15 @@ impl<'g, P: ProgramView> Model for Accepted<'g, P> {
 
     ghost Value = { AcceptedParts P };
 
-    ghost view = { λ a. record { program = a.program; grid = a.grid.now; instance = a.instance.now; chain = a.chain } };
+    ghost view = { λ a. record {
+      program = a.program;
+      grid = a.grid.now;
+      instance = a.instance.now;
+      chain = a.chain;
+    } };
 
-    ghost invariant = { λ a. IsAcceptedFor a.grid.now a.instance.now (P.program a.program) a.chain };
+    ghost invariant = { λ a. IsAcceptedFor a.grid.now a.instance.now
+        (P.program a.program) a.chain };
 }
 
 impl<'g, P: ProgramView> Accepted<'g, P> {
@@ -47,7 +53,8 @@ impl<'g, P: ProgramView> Accepted<'g, P> {
     /// How many actions the longest chain of needs has. Takes no memory.
     pub fn chain(&self) -> u32
         ensures chain { result ≡ self.now.chain }
-        ensures accepted { IsAcceptedFor self.now.grid self.now.instance (P.program self.now.program) result }
+        ensures accepted { IsAcceptedFor self.now.grid self.now.instance
+            (P.program self.now.program) result }
     {
         self.chain
     }
@@ -55,7 +62,8 @@ impl<'g, P: ProgramView> Accepted<'g, P> {
     /// The program, which is accepted. Takes no memory.
     pub fn program(&self) -> &P
         ensures program { result.now ≡ self.now.program }
-        ensures accepted { IsAcceptedFor self.now.grid self.now.instance (P.program result.now) self.now.chain }
+        ensures accepted { IsAcceptedFor self.now.grid self.now.instance
+            (P.program result.now) self.now.chain }
     {
         &self.program
     }

@@ -8,7 +8,7 @@ ghost use Rattle.fleet_model.specs.Machine.{IsReached};
 ghost use Rattle.fleet_grid.specs.Ground.{is_passable};
 ghost use Rattle.fleet_machine.specs.Machine.{Runs};
 ghost use Rattle.fleet_verify.specs.Faults.{HasStarts, HasEnds, HasRanges, EndsRight, StandsRight, AwaitsRight, IsFault};
-ghost use Rattle.fleet_verify.specs.Path.{TellsFirstAction};
+ghost use Rattle.fleet_verify.specs.Path.{AnswersFirstAction};
 ghost use Rattle.fleet_verify.specs.Walk.{HasArrived};
 
 use crate::fault::VerifyFault;
@@ -21,7 +21,8 @@ use fleet_scen::Instance;
 /// Whether there are as many agents as tasks, and each starts where its task says.
 pub fn check_starts<P: ProgramView>(program: &P, instance: &Instance) -> Result<(), VerifyFault>
     ensures ok { OnOk result (HasStarts instance.now (P.program program.now)) }
-    ensures err { IfErr result (λ f. (passable : Place → Bool) → IsFault passable instance.now (P.program program.now) f) }
+    ensures err { IfErr result (λ f. (passable : Place → Bool)
+        → IsFault passable instance.now (P.program program.now) f) }
 {
     let agents = program.agents();
     if agents != instance.agents() {
@@ -42,8 +43,10 @@ pub fn check_paths<P: ProgramView>(
     instance: &Instance,
 ) -> Result<(), VerifyFault>
     requires { HasStarts instance.now (P.program program.now) }
-    ensures ok { OnOk result (HasRanges (is_passable grid.now) instance.now (P.program program.now)) }
-    ensures err { IfErr result (λ f. IsFault (is_passable grid.now) instance.now (P.program program.now) f) }
+    ensures ok { OnOk result (HasRanges (is_passable grid.now) instance.now
+        (P.program program.now)) }
+    ensures err { IfErr result (λ f. IsFault (is_passable grid.now) instance.now
+        (P.program program.now) f) }
 {
     let faults = judge_paths(program, grid, instance)?;
     if let Some(ActionId { agent, number }) = faults.off_ground {
@@ -78,11 +81,13 @@ fn judge_paths<P: ProgramView>(
 ) -> Result<PathFaults, VerifyFault>
     requires { HasStarts instance.now (P.program program.now) }
     ensures ends { OnOk result (HasEnds instance.now (P.program program.now)) }
-    ensures off_ground { IfOk result (λ found. TellsFirstAction (P.program program.now)
-        (StandsRight (is_passable grid.now) (P.program program.now)) (length (P.program program.now)) found.off_ground) }
-    ensures out_of_range { IfOk result (λ found. TellsFirstAction (P.program program.now)
+    ensures off_ground { IfOk result (λ found. AnswersFirstAction (P.program program.now)
+        (StandsRight (is_passable grid.now) (P.program program.now))
+        (length (P.program program.now)) found.off_ground) }
+    ensures out_of_range { IfOk result (λ found. AnswersFirstAction (P.program program.now)
         (AwaitsRight (P.program program.now)) (length (P.program program.now)) found.out_of_range) }
-    ensures err { IfErr result (λ f. IsFault (is_passable grid.now) instance.now (P.program program.now) f) }
+    ensures err { IfErr result (λ f. IsFault (is_passable grid.now) instance.now
+        (P.program program.now) f) }
 {
     let mut off_ground = None;
     let mut out_of_range = None;
@@ -116,7 +121,8 @@ pub fn has_arrived<P: ProgramView>(program: &P, instance: &Instance, machine: &M
     requires before { HasStarts instance.now (P.program program.now) }
     requires runs { Runs (P.program program.now) machine.now }
     requires reached { IsReached (P.program program.now) machine.now.configuration }
-    ensures { IsTrue result ↔ HasArrived instance.now (P.program program.now) machine.now.configuration }
+    ensures { IsTrue result ↔ HasArrived instance.now
+        (P.program program.now) machine.now.configuration }
 {
     if !machine.is_finished(program) {
         return false;
@@ -131,7 +137,8 @@ pub fn has_arrived<P: ProgramView>(program: &P, instance: &Instance, machine: &M
 
 /// The action that was found before, or else this one of the agent.
 fn or_action(found: Option<ActionId>, agent: u16, number: Option<u32>) -> Option<ActionId>
-    ensures { result ≡ option_or found (option_map (λ n. record { agent = agent; number = n }) number) }
+    ensures { result ≡ option_or found
+        (option_map (λ n. record { agent = agent; number = n }) number) }
 {
     match (found, number) {
         (None, Some(number)) => Some(ActionId { agent, number }),

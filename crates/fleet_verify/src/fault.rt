@@ -5,7 +5,7 @@ ghost use Rattle.fleet_text.specs.Sink.{IsWorking, TakesAll};
 ghost use Rattle.fleet_text.specs.Row.{Gathers};
 ghost use Rattle.fleet_text.specs.Refusals.{named_at, named_by};
 ghost use Rattle.fleet_text.specs.Words.{line_text, next_words, spaced};
-ghost use Rattle.fleet_verify.specs.Told.{action_text, unordered_words};
+ghost use Rattle.fleet_verify.specs.RefusalWords.{action_text, unordered_words};
 
 use fleet_model::{ActionId, Cell, OutOfMemory, Visit};
 use fleet_text::{
@@ -72,7 +72,7 @@ impl From<OutOfMemory> for VerifyFault {
 }
 
 impl Refusal for VerifyFault {
-    ghost use Rattle.fleet_verify.specs.Told.{verify_words, is_verify_failure};
+    ghost use Rattle.fleet_verify.specs.RefusalWords.{verify_words, is_verify_failure};
 
     ghost words = { verify_words };
 
@@ -126,7 +126,8 @@ fn put_action<O: TraceOut>(
 ) -> Result<(), OutFault>
     requires { IsWorking (O.state out.old) }
     ensures { TakesAll (O.state out.old) (O.state out.new) result
-        (line_text (named_by (codes "verify") number name.now (codes "agent") agent (codes "action") action)) }
+        (line_text (named_by (codes "verify") number name.now (codes "agent") agent
+        (codes "action") action)) }
 {
     put_named_by(
         out,
@@ -145,7 +146,8 @@ fn put_actions<O: TraceOut>(
     actions: &[ActionId],
 ) -> Result<(), OutFault>
     requires { IsWorking (O.state out.old) }
-    ensures { Gathers (O.state out.old) (O.state out.new) result row.old row.new (next_words (map action_text actions.now)) }
+    ensures { Gathers (O.state out.old) (O.state out.new) result row.old row.new
+        (next_words (map action_text actions.now)) }
 {
     for action in actions {
         put_next_word(row, out, Word::Of(action.agent, action.number))?;
@@ -160,7 +162,8 @@ fn put_ring_words<O: TraceOut>(
     ring: &[ActionId],
 ) -> Result<(), OutFault>
     requires { IsWorking (O.state out.old) }
-    ensures { Gathers (O.state out.old) (O.state out.new) result row.old row.new (spaced (codes "verify" ∷ decimal 7 ∷ codes "Cyclic" ∷ map action_text ring.now)) }
+    ensures { Gathers (O.state out.old) (O.state out.new) result row.old row.new
+        (spaced (codes "verify" ∷ decimal 7 ∷ codes "Cyclic" ∷ map action_text ring.now)) }
 {
     put_words(
         row,
@@ -173,7 +176,8 @@ fn put_ring_words<O: TraceOut>(
 /// Writes the line of a ring, in pieces as large as a row.
 fn put_ring<O: TraceOut>(out: &mut O, ring: &[ActionId]) -> Result<(), OutFault>
     requires { IsWorking (O.state out.old) }
-    ensures { TakesAll (O.state out.old) (O.state out.new) result (line_text (codes "verify" ∷ decimal 7 ∷ codes "Cyclic" ∷ map action_text ring.now)) }
+    ensures { TakesAll (O.state out.old) (O.state out.new) result
+        (line_text (codes "verify" ∷ decimal 7 ∷ codes "Cyclic" ∷ map action_text ring.now)) }
 {
     let mut row = Row::new();
     put_ring_words(&mut row, out, ring)?;

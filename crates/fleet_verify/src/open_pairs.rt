@@ -8,11 +8,11 @@ ghost use Rattle.fleet_model.specs.Machine.{IsFinish};
 ghost use Rattle.fleet_model.specs.Visit.{leaving, IsVisit};
 ghost use Rattle.fleet_rows.specs.Asked.{AreQuestions};
 ghost use Rattle.fleet_verify.specs.Order.{number_of};
-ghost use Rattle.fleet_verify.specs.OpenPairs.{question_of, violation_of, AreVisits, HasNoChain, IsFlagged, TellsFirstBad};
+ghost use Rattle.fleet_verify.specs.OpenPairs.{question_of, violation_of, AreVisits, HasNoChain, IsFlagged, AnswersFirstBad};
 
 use crate::visit_order::{OpenPair, number_of};
 use fleet_model::{ActionId, OutOfMemory, ProgramView, Step, Visit};
-use fleet_rows::{Question, unreached};
+use fleet_rows::{Question, answer_questions};
 use indexmap::IndexMap;
 use std::alloc::Global;
 
@@ -36,11 +36,12 @@ pub fn find_violations<P: ProgramView>(
     requires visits { All (AreVisits (P.program program.now)) pairs.now }
     requires questions { AreQuestions (P.program program.now)
         (map (question_of (P.program program.now)) pairs.now) }
-    ensures { IfOk result (λ found. (n : ℕ) → TellsFirstBad (λ _ o. HasNoChain (P.program program.now) o)
+    ensures { IfOk result (λ found. (n : ℕ)
+        → AnswersFirstBad (λ _ o. HasNoChain (P.program program.now) o)
         pairs.now (length pairs.now) n (get nat_eq found n)) }
 {
     let questions = questions_of(alloc, program, pairs)?;
-    let flags = unreached(alloc, program, ticks, &questions)?;
+    let flags = answer_questions(alloc, program, ticks, &questions)?;
     first_flagged(alloc, pairs, &flags)
 }
 
@@ -101,7 +102,7 @@ fn first_flagged(
 ) -> Result<IndexMap<u32, OrderViolation>, OutOfMemory>
     requires { length flags.now ≡ length pairs.now }
     ensures { IfOk result (λ found. (n : ℕ) →
-        TellsFirstBad (IsFlagged flags.now) pairs.now (length pairs.now) n (get nat_eq found n)) }
+        AnswersFirstBad (IsFlagged flags.now) pairs.now (length pairs.now) n (get nat_eq found n)) }
 {
     let mut found = IndexMap::new(alloc);
     for k in 0..pairs.len() {

@@ -36,7 +36,8 @@ pub fn check_order<P: ProgramView>(
     requires added { AreAllAdded (P.program program.now) run.now.visits }
     requires finish { IsFinish (P.program program.now) [] run.now.ticks }
     ensures ok { OnOk result (IsOrderly ComesAfter (P.program program.now)) }
-    ensures err { IfErr result (λ f. IsFault (is_passable grid.now) instance.now (P.program program.now) f) }
+    ensures err { IfErr result (λ f. IsFault (is_passable grid.now) instance.now
+        (P.program program.now) f) }
 {
     let pairs = &run.visits.pairs;
     if pairs.is_empty() {
@@ -58,9 +59,11 @@ fn check_cells<P: ProgramView>(
     violations: &IndexMap<u32, OrderViolation>,
 ) -> Result<(), VerifyFault>
     requires before { HasRanges (is_passable grid.now) instance.now (P.program program.now) }
-    requires violations { AreAllViolations (P.program program.now) (λ (c : Cell). get nat_eq violations.now (number_of c)) }
+    requires violations { AreAllViolations (P.program program.now)
+        (λ (c : Cell). get nat_eq violations.now (number_of c)) }
     ensures ok { OnOk result (IsOrderly ComesAfter (P.program program.now)) }
-    ensures err { IfErr result (λ f. IsFault (is_passable grid.now) instance.now (P.program program.now) f) }
+    ensures err { IfErr result (λ f. IsFault (is_passable grid.now) instance.now
+        (P.program program.now) f) }
 {
     for agent in 0..program.agents() {
         let mut cell = program.start(agent);
@@ -76,7 +79,8 @@ fn check_cells<P: ProgramView>(
 /// Whether no neighbours among the visits of the cell break the rule.
 fn check_cell(violations: &IndexMap<u32, OrderViolation>, cell: Cell) -> Result<(), VerifyFault>
     ensures ok { OnOk result (get nat_eq violations.now (number_of cell) ≡ None) }
-    ensures err { IfErr result (λ f. (v : OrderViolation) × (get nat_eq violations.now (number_of cell) ≡ Some v)
+    ensures err { IfErr result (λ f. (v : OrderViolation)
+        × (get nat_eq violations.now (number_of cell) ≡ Some v)
         × (f ≡ Unordered cell v.first v.second)) }
     ensures cell { IsCell cell }
 {

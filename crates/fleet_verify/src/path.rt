@@ -5,7 +5,7 @@ ghost use Rattle.fleet_model.specs.Geometry.{place_of, stepped};
 ghost use Rattle.fleet_model.specs.Program.{moves, IsWellFormed};
 ghost use Rattle.fleet_grid.specs.Ground.{is_passable};
 ghost use Rattle.fleet_verify.specs.Faults.{AwaitsRight};
-ghost use Rattle.fleet_verify.specs.Path.{TellsFirst, IsPosition, IsPathJudged};
+ghost use Rattle.fleet_verify.specs.Path.{AnswersFirst, IsPosition, IsPathJudged};
 
 use fleet_grid::Grid;
 use fleet_model::{Cell, Place, ProgramView, Step};
@@ -79,8 +79,10 @@ fn position_after<P: ProgramView>(
     requires agent { agent < length (P.program program.now) }
     requires left { finished < moves (P.program program.now) agent }
     requires well_formed { IsWellFormed (P.program program.now) }
-    requires before { IsPosition (is_passable grid.now) (P.program program.now) agent finished position }
-    ensures { IsPosition (is_passable grid.now) (P.program program.now) agent (finished + 1) result }
+    requires before { IsPosition (is_passable grid.now)
+        (P.program program.now) agent finished position }
+    ensures { IsPosition (is_passable grid.now) (P.program program.now) agent
+        (finished + 1) result }
 {
     let step = program.step(agent, finished + 1);
     match position {
@@ -100,7 +102,8 @@ fn position_after<P: ProgramView>(
 
 /// The cell after a step, if it is on the map and passable.
 pub fn cell_after(grid: &Grid, cell: Cell, step: Step) -> Option<Cell>
-    ensures some { IfSome result (λ next. (place_of next ≡ stepped (place_of cell) step) × IsTrue (is_passable grid.now (place_of next))) }
+    ensures some { IfSome result (λ next. (place_of next ≡ stepped (place_of cell) step)
+        × IsTrue (is_passable grid.now (place_of next))) }
     ensures none { IfNone result (is_passable grid.now (stepped (place_of cell) step) ≡ false) }
 {
     match step {
@@ -120,8 +123,8 @@ fn out_of_range_after<P: ProgramView>(
     requires agent { agent < length (P.program program.now) }
     requires left { finished < moves (P.program program.now) agent }
     requires well_formed { IsWellFormed (P.program program.now) }
-    requires before { TellsFirst finished (AwaitsRight (P.program program.now) agent) found }
-    ensures { TellsFirst (finished + 1) (AwaitsRight (P.program program.now) agent) result }
+    requires before { AnswersFirst finished (AwaitsRight (P.program program.now) agent) found }
+    ensures { AnswersFirst (finished + 1) (AwaitsRight (P.program program.now) agent) result }
 {
     let action = finished + 1;
     match found {

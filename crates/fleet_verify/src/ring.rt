@@ -36,7 +36,8 @@ fn ring_by_counts<P: ProgramView>(
 ) -> Result<Vec<ActionId>, OutOfMemory>
     requires counts { length counts.now ≡ length (P.program program.now) }
     requires ranges { AreInRange (P.program program.now) }
-    requires stuck { (i : ℕ) → i < length (P.program program.now) → IsReadyBy (P.program program.now) counts.now i → ⊥ }
+    requires stuck { (i : ℕ) → i < length (P.program program.now)
+        → IsReadyBy (P.program program.now) counts.now i → ⊥ }
     requires left { (i : ℕ) × IsBlocked (P.program program.now) counts.now i }
     ensures { IfOk result (λ ring. IsToldRing (P.program program.now) ring.items) }
 {
@@ -63,7 +64,8 @@ fn all_wants<P: ProgramView>(
     counts: &[u32],
 ) -> Result<Vec<Await>, OutOfMemory>
     requires counts { length counts.now ≡ length (P.program program.now) }
-    requires stuck { (i : ℕ) → i < length (P.program program.now) → IsReadyBy (P.program program.now) counts.now i → ⊥ }
+    requires stuck { (i : ℕ) → i < length (P.program program.now)
+        → IsReadyBy (P.program program.now) counts.now i → ⊥ }
     ensures { IfOk result (λ wants. AreWants (P.program program.now) counts.now wants.items) }
 {
     let mut wants = Vec::new(alloc);
@@ -163,7 +165,8 @@ fn ring_from<P: ProgramView>(
 /// Adds the actions of an agent from the last one back to the one after those that are done.
 fn push_down(trail: &mut Vec<ActionId>, agent: u16, done: u32, last: u32) -> Result<(), OutOfMemory>
     requires { done ≤ last }
-    ensures { OnOk result (trail.new.items ≡ trail.old.items ++ down_from agent last (last - done)) }
+    ensures { OnOk result (trail.new.items ≡ trail.old.items
+        ++ down_from agent last (last - done)) }
 {
     for back in 0..last - done {
         let number = last - back;

@@ -88,7 +88,8 @@ fn run_on<P: ProgramView>(
     requires nobody { (i : ℕ) → flag_of nobody.now i ≡ false }
     requires runs { Runs (P.program program.now) machine.old }
     requires opening { machine.old.configuration ≡ opening (P.program program.now) }
-    requires added { AreAdded (P.program program.now) (begun_in (P.program program.now) 0) visits.old }
+    requires added { AreAdded (P.program program.now)
+        (begun_in (P.program program.now) 0) visits.old }
     requires on_ground { AreOnGround (is_passable grid.now) (P.program program.now)
         (begun_in (P.program program.now) 0) }
     ensures { MatchResult result
@@ -120,7 +121,8 @@ fn add_starts<P: ProgramView>(
     ensures added { OnOk result
         (AreAdded (P.program program.now) (begun_in (P.program program.now) 0) visits.new) }
     ensures on_ground { OnOk result
-        (AreOnGround (is_passable grid.now) (P.program program.now) (begun_in (P.program program.now) 0)) }
+        (AreOnGround (is_passable grid.now) (P.program program.now)
+        (begun_in (P.program program.now) 0)) }
     ensures stop { IfErr result (IsStop (is_passable grid.now) (P.program program.now)) }
 {
     for agent in 0..program.agents() {
@@ -168,9 +170,11 @@ fn add_position<P: ProgramView>(
     requires agent { agent < length (P.program program.now) }
     ensures added { OnOk result
         ((before : List Visit) → AreAdded (P.program program.now) before visits.old
-        → AreAdded (P.program program.now) (before ++ position_in machine.now agent ∷ []) visits.new) }
+        → AreAdded (P.program program.now)
+        (before ++ position_in machine.now agent ∷ []) visits.new) }
     ensures on_ground { OnOk result
-        (StandsRight (is_passable grid.now) (P.program program.now) agent (count_at machine.now.configuration agent)) }
+        (StandsRight (is_passable grid.now) (P.program program.now) agent
+        (count_at machine.now.configuration agent)) }
     ensures stop { IfErr result (IsStop (is_passable grid.now) (P.program program.now)) }
 {
     let Standing { place, count } = machine.agent(agent);
@@ -187,7 +191,8 @@ fn add_position<P: ProgramView>(
 
 /// The cell at a place, if that is passable.
 fn cell_at(grid: &Grid, place: Place) -> Option<Cell>
-    ensures some { IfSome result (λ cell. (place_of cell ≡ place) × IsTrue (is_passable grid.now place)) }
+    ensures some { IfSome result (λ cell. (place_of cell ≡ place)
+        × IsTrue (is_passable grid.now place)) }
     ensures cell { IfSome result IsCell }
     ensures none { IfNone result (is_passable grid.now place ≡ false) }
 {

@@ -42,25 +42,37 @@ pub fn verify<'g, P: ProgramView>(
     grid: &'g Grid,
     instance: &'g Instance,
 ) -> Result<Accepted<'g, P>, Refused<P>>
-    ensures kept { IfOk result (λ a. (a.program ≡ program) × (a.grid ≡ grid.now) × (a.instance ≡ instance.now)) }
-    ensures accepted { IfOk result (λ a. IsAcceptedFor grid.now instance.now (P.program program) a.chain) }
-    ensures safe { IfOk result (λ _. (holds : Holds) → IsSafe (is_passable grid.now) (P.program program) holds) }
-    ensures owned { IfOk result (λ _. (q : Place) → (listing : List Visit) × ListsVisits (P.program program) q listing × Adjacent (ComesAfter (P.program program)) listing
-        × ((holds : Holds) (t : ℕ) → IsOwnedInTurn (P.program program) listing (run (P.program program) holds t))) }
-    ensures arrives { IfOk result (λ a. (holds : Holds) → (f : ℕ) × IsFinish (P.program program) holds f × Arrives (P.program program) holds a.chain f) }
+    ensures kept { IfOk result (λ a. (a.program ≡ program) × (a.grid ≡ grid.now)
+        × (a.instance ≡ instance.now)) }
+    ensures accepted { IfOk result (λ a. IsAcceptedFor grid.now instance.now
+        (P.program program) a.chain) }
+    ensures safe { IfOk result (λ _. (holds : Holds)
+        → IsSafe (is_passable grid.now) (P.program program) holds) }
+    ensures owned { IfOk result (λ _. (q : Place) → (listing : List Visit)
+        × ListsVisits (P.program program) q listing
+        × Adjacent (ComesAfter (P.program program)) listing
+        × ((holds : Holds) (t : ℕ) → IsOwnedInTurn (P.program program) listing
+        (run (P.program program) holds t))) }
+    ensures arrives { IfOk result (λ a. (holds : Holds) → (f : ℕ)
+        × IsFinish (P.program program) holds f × Arrives (P.program program) holds a.chain f) }
     ensures returned { IfErr result (λ r. r.program ≡ program) }
-    ensures fault { IfErr result (λ r. IsFault (is_passable grid.now) instance.now (P.program program) r.fault) }
+    ensures fault { IfErr result (λ r. IsFault (is_passable grid.now) instance.now
+        (P.program program) r.fault) }
     // A program that is refused for another cause than memory is not accepted.
-    ensures refused { IfErr result (λ r. r.fault ≢ OutOfMemory → IsAccepted (is_passable grid.now) instance.now (P.program program) → ⊥) }
+    ensures refused { IfErr result (λ r. r.fault ≢ OutOfMemory
+        → IsAccepted (is_passable grid.now) instance.now (P.program program) → ⊥) }
     // Under every list of holds no two agents of an accepted program ever stand on one cell, and all actions are
     // finished. A program that is right but for its order is refused, for another cause than memory, only if that is
     // not so, and the refusal says how: no list of holds finishes an action of the ring, and after the breaking holds
     // both agents stand on the cell.
     ensures well { IfOk result (λ _. RunsWell (P.program program)) }
-    ensures badly { IfErr result (λ r. r.fault ≢ OutOfMemory → IsRight (is_passable grid.now) instance.now (P.program program) → RunsWell (P.program program) → ⊥) }
+    ensures badly { IfErr result (λ r. r.fault ≢ OutOfMemory
+        → IsRight (is_passable grid.now) instance.now (P.program program)
+        → RunsWell (P.program program) → ⊥) }
     ensures broken { IfErr result (λ r. IsBrokenBy (P.program program) r.fault) }
     // If ends, steps and ranges are right, a refusal is a ring of needs or two visits without an order.
-    ensures of_order { IfErr result (λ r. HasRanges (is_passable grid.now) instance.now (P.program program) → IsOfOrder (P.program program) r.fault) }
+    ensures of_order { IfErr result (λ r. HasRanges (is_passable grid.now) instance.now
+        (P.program program) → IsOfOrder (P.program program) r.fault) }
 {
     match judge(alloc, &program, grid, instance) {
         Ok(chain) => Ok(Accepted::new(program, grid, instance, chain)),
@@ -76,8 +88,10 @@ fn judge<P: ProgramView>(
     grid: &Grid,
     instance: &Instance,
 ) -> Result<u32, VerifyFault>
-    ensures ok { IfOk result (λ chain. IsAcceptedFor grid.now instance.now (P.program program.now) chain) }
-    ensures err { IfErr result (λ f. IsFault (is_passable grid.now) instance.now (P.program program.now) f) }
+    ensures ok { IfOk result (λ chain. IsAcceptedFor grid.now instance.now
+        (P.program program.now) chain) }
+    ensures err { IfErr result (λ f. IsFault (is_passable grid.now) instance.now
+        (P.program program.now) f) }
 {
     check_starts(program, instance)?;
     let mut run = UnheldRun::start(alloc, program)?;
@@ -94,8 +108,10 @@ fn judge_started<P: ProgramView>(
 ) -> Result<u32, VerifyFault>
     requires starts { HasStarts instance.now (P.program program.now) }
     requires run { IsAtStart (P.program program.now) run.old }
-    ensures ok { IfOk result (λ chain. IsAcceptedFor grid.now instance.now (P.program program.now) chain) }
-    ensures err { IfErr result (λ f. IsFault (is_passable grid.now) instance.now (P.program program.now) f) }
+    ensures ok { IfOk result (λ chain. IsAcceptedFor grid.now instance.now
+        (P.program program.now) chain) }
+    ensures err { IfErr result (λ f. IsFault (is_passable grid.now) instance.now
+        (P.program program.now) f) }
 {
     match run_unheld(program, grid, run) {
         Ok(()) => judge_run(alloc, program, grid, instance, run),
@@ -126,8 +142,10 @@ fn judge_run<P: ProgramView>(
 ) -> Result<u32, VerifyFault>
     requires starts { HasStarts instance.now (P.program program.now) }
     requires run { IsRunOnGround (is_passable grid.now) (P.program program.now) run.now }
-    ensures ok { IfOk result (λ chain. IsAcceptedFor grid.now instance.now (P.program program.now) chain) }
-    ensures err { IfErr result (λ f. IsFault (is_passable grid.now) instance.now (P.program program.now) f) }
+    ensures ok { IfOk result (λ chain. IsAcceptedFor grid.now instance.now
+        (P.program program.now) chain) }
+    ensures err { IfErr result (λ f. IsFault (is_passable grid.now) instance.now
+        (P.program program.now) f) }
 {
     if has_arrived(program, instance, &run.machine) {
         check_order(alloc, program, grid, instance, run)?;
@@ -147,7 +165,8 @@ fn fault_if_stuck<P: ProgramView>(
 ) -> VerifyFault
     requires starts { HasStarts instance.now (P.program program.now) }
     requires run { IsRunOnGround (is_passable grid.now) (P.program program.now) run.now }
-    requires lost { HasArrived instance.now (P.program program.now) run.now.machine.configuration → ⊥ }
+    requires lost { HasArrived instance.now (P.program program.now) run.now.machine.configuration
+        → ⊥ }
     ensures { IsFault (is_passable grid.now) instance.now (P.program program.now) result }
 {
     if let Err(fault) = check_paths(program, grid, instance) {

@@ -67,9 +67,11 @@ impl VisitOrder {
         placed: PlacedVisit,
     ) -> Result<(), OutOfMemory>
         requires agent { placed.visit.agent < length (P.program program.now) }
-        requires position { placed.visit.position ≤ moves (P.program program.now) placed.visit.agent }
+        requires position { placed.visit.position
+            ≤ moves (P.program program.now) placed.visit.agent }
         requires placed { IsVisitPlaced (P.program program.now) placed }
-        ensures { OnOk result ((visits : List Visit) → AreAdded (P.program program.now) visits self.old
+        ensures { OnOk result ((visits : List Visit)
+            → AreAdded (P.program program.now) visits self.old
             → AreAdded (P.program program.now) (visits ++ placed.visit ∷ []) self.new) }
     {
         if begins_visit(program, placed.visit) {
@@ -103,7 +105,8 @@ fn append<P: ProgramView>(
     placed: PlacedVisit,
 ) -> Result<(), OutOfMemory>
     requires { IsVisit (P.program program.now) placed.visit }
-    ensures last { OnOk result (Updates nat_eq last.old last.new (number_of placed.cell) (Some placed.visit)) }
+    ensures last { OnOk result (Updates nat_eq last.old last.new (number_of placed.cell)
+        (Some placed.visit)) }
     ensures pairs { OnOk result (IsOpenNext (ComesAfterByAwait (P.program program.now))
         (get nat_eq last.old (number_of placed.cell)) placed pairs.old.items pairs.new.items) }
     ensures cell { IsCell placed.cell }

@@ -11,13 +11,13 @@ loop-k-preserved g c =
     let k = c.loop-k.k in
     let made = c.loop-k.invariant.made in
     let formed = c.agents.ensures.well_formed in
-    elim c.match-unimplied.branch [
+    elim c.match-await_unless_implied.branch [
       | in-Some+in_ok-push w ↦
-          let some = c.unimplied.ensures.some w.in-Some.one w.in-Some.is in
+          let some = c.await_unless_implied.ensures.some w.in-Some.one w.in-Some.is in
           record { made = subst (AreUnimplied p a (k + 1)) (sym (w.awaits-is ∙ w.in_ok-push.ensures.ok)) (keep_one p formed a k c.loop-k.awaits made w.in-Some.one some.0 some.1) }
       | in_default w ↦
           record {
             made = subst (AreUnimplied p a (k + 1)) (sym w.awaits-is)
-                (drop_implied p formed a k c.loop-k.awaits made (omega (arith, c.loop-k-test.true, c.loop-k.auto.k-end, c.await_count-k-end.ensures)) (λ x at. c.unimplied.ensures.none x w.in_default.is at));
+                (drop_implied p formed a k c.loop-k.awaits made (omega (arith, c.loop-k-test.true, c.loop-k.auto.k-end, c.await_count-k-end.ensures)) (λ x at. c.await_unless_implied.ensures.none x w.in_default.is at));
           }
     ]

@@ -16,7 +16,7 @@ returns-in-Err g c =
     (subst (λ (w : Viewed). Spells c.args.bytes.now w.program) (sym c.in-Err.ensures.returned) c.in_ok-program.ensures.spelled)
     (subst (λ (w : Viewed). IsFault (is_passable c.in_ok-problem.problem.grid) c.in_ok-problem.problem.instance w.program c.in-Err.refused.fault) (sym c.in-Err.ensures.returned) c.in-Err.ensures.fault)
     (subst (λ (w : Viewed). IsBrokenBy w.program c.in-Err.refused.fault) (sym c.in-Err.ensures.returned) c.in-Err.ensures.broken)
-    c.tell_refused.result c.tell_refused.ensures
+    c.report_refused.result c.report_refused.ensures
 
 pub returns : goal.returns
 returns g c =
@@ -28,6 +28,6 @@ returns g c =
       chain = c.in-Ok.accepted.chain;
       accepts = returned_accepts c.args.bytes.now c.in_ok-problem.problem.grid c.in_ok-problem.problem.instance _ c.in-Ok.accepted.program.program c.in-Ok.accepted.chain c.in_ok-program.ensures.spelled (ap (λ (w : Viewed). w.program) c.in-Ok.ensures.kept.0) c.in-Ok.ensures.accepted;
     } in
-    printed_as _ _ c.print_accepted.result c.printed.result _ _ _ c.printed.ensures c.print_accepted.ensures
+    printed_as _ _ c.print_accepted.result c.print_status.result _ _ _ c.print_status.ensures c.print_accepted.ensures
     (λ delivered. (record { accepts = accepts; delivered = delivered }, refl))
     (λ name dash fails. inr (accepts, dash, fails))

@@ -1,5 +1,5 @@
 use Rattle.std.proofs.Common.{arith, refl}
-use Rattle.fleet_code.specs.Spelling.{number}
+use Rattle.fleet_code.specs.Spelling.{two_bytes}
 use Rattle.fleet_code.proofs.InPlace.{front_stands, back_stands}
 use Rattle.fleet_code.proofs.code_view.cell_in.Goals as goal
 
@@ -8,6 +8,6 @@ returns c =
     λ cell fits there.
     let x_fits = fits.x in
     let y_fits = fits.y in
-    let x = c.number_in.ensures cell.x (omega (arith, x_fits)) (front_stands c.args.bytes.now c.args.at (number cell.x) (number cell.y) there) in
-    let y = c.number_in-2.ensures cell.y (omega (arith, y_fits)) (back_stands c.args.bytes.now c.args.at (number cell.x) (number cell.y) there) in
+    let x = c.number_in.ensures cell.x (omega (arith, x_fits)) (front_stands c.args.bytes.now c.args.at (two_bytes cell.x) (two_bytes cell.y) there) in
+    let y = c.number_in-2.ensures cell.y (omega (arith, y_fits)) (back_stands c.args.bytes.now c.args.at (two_bytes cell.x) (two_bytes cell.y) there) in
     rw (x, y) refl

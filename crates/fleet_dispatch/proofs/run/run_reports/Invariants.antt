@@ -1,6 +1,6 @@
 use Rattle.std.proofs.Common.{◌≡◌, ◌-◌, ℕ, List, length}
 use Rattle.fleet_machine.specs.Machine.{flag_of}
-use Rattle.fleet_dispatch.specs.declared.run.TheConstants.{MOST_REPORTS}
+use Rattle.fleet_dispatch.specs.declared.run.TheConstants.{MAX_REPORTS}
 use Rattle.fleet_dispatch.proofs.Reports.{IsUnderWay}
 use Rattle.fleet_dispatch.proofs.run.run_reports.Given as goal
 
@@ -17,4 +17,4 @@ invariant-reports g l =
     }
 
 abbrev pub decreases-reports : goal.decreases-reports
-decreases-reports g l = MOST_REPORTS - l.reports
+decreases-reports g l = MAX_REPORTS - l.reports

@@ -1,14 +1,14 @@
 use Rattle.std.proofs.Common.{◌≤◌, ◌-◌, ◌≡◌, vec_len, length}
 use Rattle.std.specs.Io.KnownBytes.{Consumes}
-use Rattle.fleet_files.specs.declared.input.TheConstants.{MOST_BYTES, CHUNK}
+use Rattle.fleet_files.specs.declared.input.TheConstants.{MAX_BYTES, CHUNK}
 use Rattle.fleet_files.proofs.input.read_to_limit.Given as goal
 
 abbrev pub invariant-chunks : goal.invariant-chunks
 invariant-chunks g l = record {
   so_far : Consumes (g.R.Read.remaining l.initial.reader) (g.R.Read.remaining l.reader) l.bytes.items;
-  within : vec_len l.bytes ≤ MOST_BYTES;
+  within : vec_len l.bytes ≤ MAX_BYTES;
   size : length l.chunk ≡ CHUNK;
 }
 
 abbrev pub decreases-chunks : goal.decreases-chunks
-decreases-chunks g l = MOST_BYTES - vec_len l.bytes
+decreases-chunks g l = MAX_BYTES - vec_len l.bytes

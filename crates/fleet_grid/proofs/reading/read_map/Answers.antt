@@ -1,5 +1,5 @@
 use Rattle.fleet_text.specs.Text.{lines}
-use Rattle.fleet_grid.proofs.FaultLaws.{found, read, told}
+use Rattle.fleet_grid.proofs.FaultLaws.{found, read, reported_is_first}
 use Rattle.fleet_grid.proofs.reading.read_map.Goals as goal
 
 pub returns-clause-found : goal.returns-clause-found
@@ -9,4 +9,4 @@ pub returns-clause-read : goal.returns-clause-read
 returns-clause-read c = read (lines c.args.bytes.now) c.map_of.result c.map_of.ensures
 
 pub returns-clause-fault : goal.returns-clause-fault
-returns-clause-fault c = told (lines c.args.bytes.now) c.map_of.result c.map_of.ensures
+returns-clause-fault c = reported_is_first (lines c.args.bytes.now) c.map_of.result c.map_of.ensures

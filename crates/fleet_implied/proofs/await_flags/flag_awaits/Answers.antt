@@ -9,7 +9,7 @@ use Rattle.fleet_implied.proofs.Flagged.{told_of, told_more, left_more}
 use Rattle.fleet_implied.proofs.await_flags.flag_awaits.Goals as goal
 
 pub loop-k-init : goal.loop-k-init
-loop-k-init g c = record { told = λ m n w l at has. absurd (omega arith); none = λ m w at none. refl; others = λ n out. refl }
+loop-k-init g c = record { flagged = λ m n w l at has. absurd (omega arith); none = λ m w at none. refl; others = λ n out. refl }
 
 pub flag_await-requires-clause-agent : goal.flag_await-requires-clause-agent
 flag_await-requires-clause-agent g c =
@@ -35,10 +35,10 @@ loop-k-preserved g c =
     let at : first + c.from.result ≡ first + k = omega (arith, c.from.ensures) in
     let others : (n : ℕ) → n ≢ first + k → get_or new n false ≡ get_or c.loop-k.flags n false = λ n ne. c.flag_await.ensures.others n (λ e. ne (e ∙ at)) in
     record {
-      told = told_more p columns a first k w c.await_at-awaited.ensures c.loop-k.flags new others
-          (λ n has. subst (IsImpliedFlag p a w) (sym (ap (λ (x : ℕ). get_or new x false) (sym at) ∙ c.flag_await.ensures.told n has))
+      flagged = told_more p columns a first k w c.await_at-awaited.ensures c.loop-k.flags new others
+          (λ n has. subst (IsImpliedFlag p a w) (sym (ap (λ (x : ℕ). get_or new x false) (sym at) ∙ c.flag_await.ensures.flagged n has))
           (told_of p c.requires.range c.agents.ensures.well_formed columns a c.args.row.now c.requires.action c.requires.row k n w c.await_at-awaited.ensures has))
-          c.loop-k.invariant.told;
+          c.loop-k.invariant.flagged;
       none = left_more p columns a first k w c.await_at-awaited.ensures c.loop-k.flags new others c.args.flags.now
           (λ none. ap (λ (x : ℕ). get_or new x false) (sym at) ∙ c.flag_await.ensures.none none ∙ ap (λ (x : ℕ). get_or c.loop-k.flags x false) at)
           c.loop-k.invariant.none;
@@ -51,8 +51,8 @@ returns g c =
     let a = c.args.action in
     let whole : c.loop-k.k ≡ length (awaits_of p a.agent a.number) = omega (arith, c.loop-k-test.false, c.await_count-k-end.ensures, c.loop-k.auto.k-end) in
     record {
-      told = λ m n w l has. (let within = slice_get_within (awaits_of p a.agent a.number) m w l in
-          subst (λ (x : ℕ). IsImpliedFlag p a w (get_or c.loop-k.flags (x + m) false)) c.first-first.ensures (c.loop-k.invariant.told m n w (omega (arith, within, whole)) l has));
+      flagged = λ m n w l has. (let within = slice_get_within (awaits_of p a.agent a.number) m w l in
+          subst (λ (x : ℕ). IsImpliedFlag p a w (get_or c.loop-k.flags (x + m) false)) c.first-first.ensures (c.loop-k.invariant.flagged m n w (omega (arith, within, whole)) l has));
       none = λ m w l none. subst (λ (x : ℕ). get_or c.loop-k.flags (x + m) false ≡ get_or c.args.flags.now (x + m) false) c.first-first.ensures (c.loop-k.invariant.none m w l none);
       others = λ n out. c.loop-k.invariant.others n (elim out [ inl l ↦ inl (omega (arith, c.first-first.ensures)) | inr l ↦ inr (omega (arith, c.first-first.ensures, whole)) ]);
     }

@@ -8,7 +8,7 @@ use Rattle.fleet_implied.proofs.await_flags.flag_awaits.Given as goal
 
 abbrev pub invariant-loop-k : goal.invariant-loop-k
 invariant-loop-k g l = record {
-  told : (m c : ℕ) (w : Await) → m < l.k → slice_get (awaits_of (g.P.ProgramView.program l.program) l.agent l.number) m ≡ Some w → HasColumn l.columns w.agent c
+  flagged : (m c : ℕ) (w : Await) → m < l.k → slice_get (awaits_of (g.P.ProgramView.program l.program) l.agent l.number) m ≡ Some w → HasColumn l.columns w.agent c
       → IsImpliedFlag (g.P.ProgramView.program l.program) l.fn.action w (get_or l.flags (l.first + m) false);
   none : (m : ℕ) (w : Await) → slice_get (awaits_of (g.P.ProgramView.program l.program) l.agent l.number) m ≡ Some w → get_or l.columns.of_agent.items w.agent None ≡ None
       → get_or l.flags (l.first + m) false ≡ get_or l.fn.flags (l.first + m) false;

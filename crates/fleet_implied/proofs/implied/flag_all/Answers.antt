@@ -17,7 +17,7 @@ use_rows-requires-clause-used g c =
     record {
       places = c.loop-from.invariant.places;
       all = c.loop-from.invariant.all;
-      told = told_none p c.in_ok-columns.columns (length p) c.loop-from.implied.flags.items;
+      flagged = told_none p c.in_ok-columns.columns (length p) c.loop-from.implied.flags.items;
     }
 
 pub loop-from-preserved : goal.loop-from-preserved
@@ -28,8 +28,8 @@ loop-from-preserved g c =
     let new = c.use_rows.new.uses.flags.items in
     let made = c.in_ok-use_rows.ensures in
     record {
-      told = told_to p c.args.asked.now c.loop-from.from columns c.in_ok-columns.ensures old new (λ a is. made.used.2.told a is (made.used.1 a is)) made.keeps c.loop-from.invariant.settled c.loop-from.invariant.told;
-      settled = settled_after p c.args.asked.now columns old new (λ a is. made.used.2.told a is (made.used.1 a is)) made.keeps c.loop-from.invariant.settled;
+      flagged = told_to p c.args.asked.now c.loop-from.from columns c.in_ok-columns.ensures old new (λ a is. made.used.2.flagged a is (made.used.1 a is)) made.keeps c.loop-from.invariant.settled c.loop-from.invariant.flagged;
+      settled = settled_after p c.args.asked.now columns old new (λ a is. made.used.2.flagged a is (made.used.1 a is)) made.keeps c.loop-from.invariant.settled;
       places = made.used.2.places;
       all = made.used.2.all;
     }
@@ -40,14 +40,14 @@ returns g c =
     record {
       places = c.loop-from.invariant.places;
       all = c.loop-from.invariant.all;
-      told = λ a is k w at.
+      flagged = λ a is k w at.
           let there = awaited_action p c.requires.range a.agent a.number k w at in
-          c.loop-from.invariant.told a is k w at (omega (arith, there.agent, c.loop-from-test.false, c.agents-agents.ensures.count));
+          c.loop-from.invariant.flagged a is k w at (omega (arith, there.agent, c.loop-from-test.false, c.agents-agents.ensures.count));
     }
 
 pub loop-from-init : goal.loop-from-init
 loop-from-init g c = record {
-  told = λ a is k w at l. absurd (omega arith);
+  flagged = λ a is k w at l. absurd (omega arith);
   settled = c.requires.settled;
   places = c.requires.places;
   all = c.requires.flags;

@@ -10,7 +10,7 @@ use Rattle.fleet_implied.proofs.implied.flag_all.Given as goal
 
 abbrev pub invariant-loop-from : goal.invariant-loop-from
 invariant-loop-from g l = record {
-  told : (a : ActionId) → IsAction (g.P.ProgramView.program l.program) a → (k : ℕ) (w : Await) → slice_get (awaits_of (g.P.ProgramView.program l.program) a.agent a.number) k ≡ Some w → w.agent < l.from
+  flagged : (a : ActionId) → IsAction (g.P.ProgramView.program l.program) a → (k : ℕ) (w : Await) → slice_get (awaits_of (g.P.ProgramView.program l.program) a.agent a.number) k ≡ Some w → w.agent < l.from
       → IsImpliedFlag (g.P.ProgramView.program l.program) a w (get_or l.implied.flags.items (first_await (g.P.ProgramView.program l.program) a + k) false);
   settled : AreSettled (g.P.ProgramView.program l.program) l.asked l.implied.flags.items;
   places : AreAwaitPlaces (g.P.ProgramView.program l.program) l.implied.places;

@@ -1,7 +1,7 @@
 use Rattle.std.proofs.lemmas.Result.{err_from_is_err_and}
 use Rattle.fleet_text.specs.Text.{lines}
 use Rattle.fleet_plan.proofs.PlanLaws.{is_found}
-use Rattle.fleet_plan.proofs.PlanFaults.{read, told}
+use Rattle.fleet_plan.proofs.PlanFaults.{read, reported_is_first}
 use Rattle.fleet_plan.proofs.reading.read_plan.Goals as goal
 
 pub new-requires : goal.new-requires
@@ -18,4 +18,4 @@ returns-in_err-paths-clause-read c = λ plan h.
 pub returns-in_err-paths-clause-fault : goal.returns-in_err-paths-clause-fault
 returns-in_err-paths-clause-fault c =
     let p = err_from_is_err_and c.from_residual.result c.from_residual.ensures.1 in
-    rw (p.1, p.2) (told (lines c.args.bytes.now) c.in_err-paths.field-0.0 (rw c.new-lines.ensures.lines at c.in_err-paths.ensures))
+    rw (p.1, p.2) (reported_is_first (lines c.args.bytes.now) c.in_err-paths.field-0.0 (rw c.new-lines.ensures.lines at c.in_err-paths.ensures))

@@ -1,7 +1,7 @@
 use Rattle.std.proofs.lemmas.Result.{err_from_is_err_and}
 use Rattle.fleet_text.specs.Text.{lines}
 use Rattle.fleet_scen.proofs.ScenLaws.{is_found}
-use Rattle.fleet_scen.proofs.ScenFaults.{read, told, all_open}
+use Rattle.fleet_scen.proofs.ScenFaults.{read, reported_is_first, all_open}
 use Rattle.fleet_scen.proofs.reading.read_scen.Goals as goal
 
 pub new-requires : goal.new-requires
@@ -23,4 +23,4 @@ returns-in_err-tasks-clause-read c = λ tasks h.
 pub returns-in_err-tasks-clause-fault : goal.returns-in_err-tasks-clause-fault
 returns-in_err-tasks-clause-fault c =
     let p = err_from_is_err_and c.from_residual.result c.from_residual.ensures.1 in
-    rw (p.1, p.2) (told c.args.grid.now c.args.asked (lines c.args.bytes.now) c.in_err-tasks.field-0.0 c.in_err-tasks.ensures)
+    rw (p.1, p.2) (reported_is_first c.args.grid.now c.args.asked (lines c.args.bytes.now) c.in_err-tasks.field-0.0 c.in_err-tasks.ensures)

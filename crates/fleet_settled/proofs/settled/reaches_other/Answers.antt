@@ -38,22 +38,22 @@ returns-then-action-le1-clause-no g c = λ e.
     let p = g.P.ProgramView.program c.args.program.now in
     let whole : c.loop-m.m ≡ length (awaits_of p c.args.action.agent c.args.action.number) = omega (arith, c.loop-m-test.false, c.await_count-m-end.ensures, c.loop-m.auto.m-end) in
     none_implied p c.agents.ensures.well_formed c.args.action c.args.k (await_of c.args.first) c.requires.awaited c.args.first refl
-    (λ m w l. c.loop-m.invariant.apart (c.joined.ensures.no e).0 m w (omega (arith, l.0, whole), l.1))
+    (λ m w l. c.loop-m.invariant.apart (c.join_answers.ensures.no e).0 m w (omega (arith, l.0, whole), l.1))
     (λ b agent number some. absurd (omega (arith, number, some, c.if-action-le1.true)))
 
 pub returns-clause-yes : goal.returns-clause-yes
 returns-clause-yes g c = λ e.
     by_own (g.P.ProgramView.program c.args.program.now) c.agents.ensures.well_formed c.args.action c.args.k (await_of c.args.first) c.requires.awaited c.requires.range
     c.args.first refl c.before-before.result c.before-before.ensures.agent c.before-before.ensures.number (omega (arith, c.if-action-le1.false))
-    (c.reaches-2.ensures.yes (c.joined-2.ensures.yes e))
+    (c.reaches-2.ensures.yes (c.join_answers-2.ensures.yes e))
 
 pub returns-clause-no : goal.returns-clause-no
 returns-clause-no g c = λ e.
     let p = g.P.ProgramView.program c.args.program.now in
     let whole : c.loop-m.m ≡ length (awaits_of p c.args.action.agent c.args.action.number) = omega (arith, c.loop-m-test.false, c.await_count-m-end.ensures, c.loop-m.auto.m-end) in
     none_implied p c.agents.ensures.well_formed c.args.action c.args.k (await_of c.args.first) c.requires.awaited c.args.first refl
-    (λ m w l. c.loop-m.invariant.apart (c.joined-2.ensures.no e).0 m w (omega (arith, l.0, whole), l.1))
-    (λ b agent number some r. c.reaches-2.ensures.no (c.joined-2.ensures.no e).1 (subst (λ (x : ActionId). Reaches p c.args.first x)
+    (λ m w l. c.loop-m.invariant.apart (c.join_answers-2.ensures.no e).0 m w (omega (arith, l.0, whole), l.1))
+    (λ b agent number some r. c.reaches-2.ensures.no (c.join_answers-2.ensures.no e).1 (subst (λ (x : ActionId). Reaches p c.args.first x)
     (let f : b.number ≡ c.before-before.result.number = omega (arith, number, c.before-before.ensures.number) in
     (λ s. record { agent = (agent ∙ sym c.before-before.ensures.agent) s; number = f s })) r))
 
@@ -64,4 +64,4 @@ pub returns-in-Some-true-clause-no : goal.returns-in-Some-true-clause-no
 returns-in-Some-true-clause-no g c = λ e. absurd (yes_no e)
 
 pub returns-then-action-le1-clause-yes : goal.returns-then-action-le1-clause-yes
-returns-then-action-le1-clause-yes g c = λ e. absurd (no_yes (c.joined.ensures.yes e))
+returns-then-action-le1-clause-yes g c = λ e. absurd (no_yes (c.join_answers.ensures.yes e))

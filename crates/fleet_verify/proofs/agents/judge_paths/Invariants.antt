@@ -1,12 +1,12 @@
 use Rattle.std.proofs.Common.{ℕ, ◌<◌}
 use Rattle.fleet_grid.specs.Ground.{is_passable}
 use Rattle.fleet_verify.specs.Faults.{EndsRight, StandsRight, AwaitsRight}
-use Rattle.fleet_verify.specs.Path.{TellsFirstAction}
+use Rattle.fleet_verify.specs.Path.{AnswersFirstAction}
 use Rattle.fleet_verify.proofs.agents.judge_paths.Given as goal
 
 abbrev pub invariant-loop-agent : goal.invariant-loop-agent
 invariant-loop-agent g l = record {
   ends : (i : ℕ) → i < l.agent → EndsRight l.instance (g.P.ProgramView.program l.program) i;
-  off_ground : TellsFirstAction (g.P.ProgramView.program l.program) (StandsRight (is_passable l.grid) (g.P.ProgramView.program l.program)) l.agent l.off_ground;
-  out_of_range : TellsFirstAction (g.P.ProgramView.program l.program) (AwaitsRight (g.P.ProgramView.program l.program)) l.agent l.out_of_range;
+  off_ground : AnswersFirstAction (g.P.ProgramView.program l.program) (StandsRight (is_passable l.grid) (g.P.ProgramView.program l.program)) l.agent l.off_ground;
+  out_of_range : AnswersFirstAction (g.P.ProgramView.program l.program) (AwaitsRight (g.P.ProgramView.program l.program)) l.agent l.out_of_range;
 }

@@ -1,7 +1,7 @@
 use Rattle.std.proofs.Common.{map, take}
 use Rattle.fleet_text.specs.Row.{PassesOn}
 use Rattle.fleet_text.specs.Words.{next_words}
-use Rattle.fleet_verify.specs.Told.{action_text}
+use Rattle.fleet_verify.specs.RefusalWords.{action_text}
 use Rattle.fleet_verify.proofs.fault.put_actions.Given as goal
 
 abbrev pub invariant-loop-action : goal.invariant-loop-action

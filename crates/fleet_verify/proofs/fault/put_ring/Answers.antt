@@ -2,7 +2,7 @@ use Rattle.std.proofs.Common.{rules, map, ◌∷◌, [], codes, decimal}
 use Rattle.fleet_text.proofs.RowLemmas.{takes_rest}
 use Rattle.fleet_text.proofs.SinkLemmas.{takes_err, stops_within_more}
 use Rattle.fleet_text.specs.Words.{spaced}
-use Rattle.fleet_verify.specs.Told.{action_text}
+use Rattle.fleet_verify.specs.RefusalWords.{action_text}
 use Rattle.fleet_verify.proofs.fault.put_ring.Goals as goal
 
 pub returns-in_err-put_ring_words : goal.returns-in_err-put_ring_words

@@ -3,7 +3,7 @@ use Rattle.std.specs.Prelude.{nat_eq, IfOk}
 use Rattle.indexmap.specs.IndexMap.{get}
 use Rattle.fleet_rows.specs.declared.questions.Question.{Question}
 use Rattle.fleet_rows.specs.Asked.{AreAnswers}
-use Rattle.fleet_verify.specs.OpenPairs.{question_of, HasNoChain, IsFlagged, TellsFirstBad}
+use Rattle.fleet_verify.specs.OpenPairs.{question_of, HasNoChain, IsFlagged, AnswersFirstBad}
 use Rattle.fleet_verify.proofs.OpenPairs.{flags_tell}
 use Rattle.fleet_verify.proofs.open_pairs.find_violations.Goals as goal
 
@@ -18,5 +18,5 @@ returns g c =
     let flags = c.deref-2.result.now in
     let answers : AreAnswers p (map (question_of p) pairs) flags =
     subst (λ (qs : List Question). AreAnswers p qs flags) (c.deref.ensures.value ∙ c.in_ok-questions.ensures) (subst (λ (fs : List Bool). AreAnswers p c.deref.result.now fs) (sym c.deref-2.ensures.value) c.in_ok-flags.ensures) in
-    on_ok (λ found. (n : ℕ) → TellsFirstBad (IsFlagged flags) pairs (length pairs) n (get nat_eq found n)) (λ found. (n : ℕ) → TellsFirstBad (λ _ o. HasNoChain p o) pairs (length pairs) n (get nat_eq found n))
+    on_ok (λ found. (n : ℕ) → AnswersFirstBad (IsFlagged flags) pairs (length pairs) n (get nat_eq found n)) (λ found. (n : ℕ) → AnswersFirstBad (λ _ o. HasNoChain p o) pairs (length pairs) n (get nat_eq found n))
     (λ found h n. flags_tell p pairs flags answers n (get nat_eq found n) (h n)) c.first_flagged.result c.first_flagged.ensures

@@ -4,7 +4,7 @@ use Rattle.std.specs.Prelude.{nat_eq, All}
 use Rattle.std.proofs.lemmas.Bool.{eqb-true}
 use Rattle.fleet_rows.specs.Asked.{AreQuestions}
 use Rattle.fleet_verify.specs.declared.visit_order.OpenPair.{OpenPair}
-use Rattle.fleet_verify.specs.OpenPairs.{AreVisits, question_of, HasNoChain, TellsFirstBad}
+use Rattle.fleet_verify.specs.OpenPairs.{AreVisits, question_of, HasNoChain, AnswersFirstBad}
 use Rattle.indexmap.specs.IndexMap.{get}
 use Rattle.fleet_verify.specs.Order.{number_of}
 use Rattle.fleet_verify.proofs.Judged.{none_broken}
@@ -48,7 +48,7 @@ returns-then-is_empty-2-clause-ok g c =
     let p = g.P.ProgramView.program c.args.program.now in
     let added = c.requires.added in
     let found = c.in_ok-violations.violations in
-    let tells = subst (λ (ps : List OpenPair). (n : ℕ) → TellsFirstBad (λ _ o. HasNoChain p o) ps (length ps) n (get nat_eq found n)) c.deref.ensures.value c.in_ok-violations.ensures in
+    let tells = subst (λ (ps : List OpenPair). (n : ℕ) → AnswersFirstBad (λ _ o. HasNoChain p o) ps (length ps) n (get nat_eq found n)) c.deref.ensures.value c.in_ok-violations.ensures in
     none_broken p added.placed (λ d. get nat_eq found (number_of d)) added.all added.each
     (violations_are p c.args.run.now.visits added.placed added.all added.grouped (ranges_all p c.requires.before.ranges) (λ n. get nat_eq found n) tells)
     (λ d. rw (no_entries found.entries (c.is_empty-2.ensures.0 c.if-is_empty-2.true)) refl)
@@ -58,7 +58,7 @@ check_cells-requires-clause-violations g c =
     let p = g.P.ProgramView.program c.args.program.now in
     let added = c.requires.added in
     let found = c.in_ok-violations.violations in
-    let tells = subst (λ (ps : List OpenPair). (n : ℕ) → TellsFirstBad (λ _ o. HasNoChain p o) ps (length ps) n (get nat_eq found n)) c.deref.ensures.value c.in_ok-violations.ensures in
+    let tells = subst (λ (ps : List OpenPair). (n : ℕ) → AnswersFirstBad (λ _ o. HasNoChain p o) ps (length ps) n (get nat_eq found n)) c.deref.ensures.value c.in_ok-violations.ensures in
     record {
       placed = added.placed;
       all = added.all;

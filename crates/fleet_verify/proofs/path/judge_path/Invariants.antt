@@ -1,10 +1,10 @@
 use Rattle.fleet_grid.specs.Ground.{is_passable}
 use Rattle.fleet_verify.specs.Faults.{AwaitsRight}
-use Rattle.fleet_verify.specs.Path.{IsPosition, TellsFirst}
+use Rattle.fleet_verify.specs.Path.{IsPosition, AnswersFirst}
 use Rattle.fleet_verify.proofs.path.judge_path.Given as goal
 
 abbrev pub invariant-loop-finished : goal.invariant-loop-finished
 invariant-loop-finished g l = record {
   position : IsPosition (is_passable l.grid) (g.P.ProgramView.program l.program) l.agent l.finished l.position;
-  out_of_range : TellsFirst l.finished (AwaitsRight (g.P.ProgramView.program l.program) l.agent) l.out_of_range;
+  out_of_range : AnswersFirst l.finished (AwaitsRight (g.P.ProgramView.program l.program) l.agent) l.out_of_range;
 }

@@ -5,21 +5,21 @@ use Rattle.fleet_machine.specs.Machine.{MachineState}
 use Rattle.fleet_machine.proofs.Opened.{length_opening, home_of_nobody}
 use Rattle.fleet_machine.proofs.machine.Machine.start.Goals as goal
 
-pub unjudged-machine-requires-clause-few : goal.unjudged-machine-requires-clause-few
-unjudged-machine-requires-clause-few g c = omega (arith, c.agents-count.ensures.count, c.agents-count.ensures.well_formed.few_agents)
+pub with_agents-machine-requires-clause-few : goal.with_agents-machine-requires-clause-few
+with_agents-machine-requires-clause-few g c = omega (arith, c.agents-count.ensures.count, c.agents-count.ensures.well_formed.few_agents)
 
 pub judge_all-requires-clause-agents : goal.judge_all-requires-clause-agents
 judge_all-requires-clause-agents g c =
-    ap (λ (m : MachineState). length m.configuration) c.unjudged-machine.ensures
+    ap (λ (m : MachineState). length m.configuration) c.with_agents-machine.ensures
     ∙ (ap length c.in_ok-agents.ensures.opening ∙ length_opening (g.P.ProgramView.program c.args.program.now))
 
 pub judge_all-requires-clause-flags : goal.judge_all-requires-clause-flags
 judge_all-requires-clause-flags g c =
-    ap (λ (m : MachineState). length m.moving) c.unjudged-machine.ensures ∙ (length-replicate c.agents-count.result false ∙ c.agents-count.ensures.count)
+    ap (λ (m : MachineState). length m.moving) c.with_agents-machine.ensures ∙ (length-replicate c.agents-count.result false ∙ c.agents-count.ensures.count)
 
 pub judge_all-requires-clause-rows : goal.judge_all-requires-clause-rows
 judge_all-requires-clause-rows g c =
-    let made = c.unjudged-machine.ensures in
+    let made = c.with_agents-machine.ensures in
     let count = c.agents-count.ensures.count in
     let flags : length (replicate c.agents-count.result false) ≡ length (g.P.ProgramView.program c.args.program.now) = length-replicate c.agents-count.result false ∙ count in
     record {
@@ -33,12 +33,12 @@ judge_all-requires-clause-rows g c =
 
 pub judge_all-requires-clause-nowhere : goal.judge_all-requires-clause-nowhere
 judge_all-requires-clause-nowhere g c =
-    λ i. ap (λ (m : MachineState). home_of m.waiting.homes i) c.unjudged-machine.ensures
+    λ i. ap (λ (m : MachineState). home_of m.waiting.homes i) c.with_agents-machine.ensures
     ∙ (ap (λ (w : WaitState). home_of w.homes i) c.in_ok-waiting.ensures ∙ home_of_nobody c.agents-count.result i)
 
 pub returns-clause-opening : goal.returns-clause-opening
 returns-clause-opening g c =
-    c.judge_all.ensures.configuration ∙ (ap (λ (m : MachineState). m.configuration) c.unjudged-machine.ensures ∙ c.in_ok-agents.ensures.opening)
+    c.judge_all.ensures.configuration ∙ (ap (λ (m : MachineState). m.configuration) c.with_agents-machine.ensures ∙ c.in_ok-agents.ensures.opening)
 
 pub returns-clause-looked : goal.returns-clause-looked
-returns-clause-looked g c = c.judge_all.ensures.looked ∙ ap (λ (m : MachineState). m.looked) c.unjudged-machine.ensures
+returns-clause-looked g c = c.judge_all.ensures.looked ∙ ap (λ (m : MachineState). m.looked) c.with_agents-machine.ensures

@@ -1,6 +1,6 @@
 use Rattle.std.proofs.Common.{IfSome, subst}
 use Rattle.fleet_search.specs.Rows.{lists_of}
-use Rattle.fleet_search.specs.Frontier.{Exploration, IsTaken}
+use Rattle.fleet_search.specs.Frontier.{Exploration, IsNodeTaken}
 use Rattle.fleet_search.proofs.Explored.{taken-places, is_taken}
 use Rattle.fleet_search.proofs.frontier.Frontier.take.Goals as goal
 
@@ -13,4 +13,4 @@ returns-clause-some c =
     let f = c.self.inside in
     let new = lists_of c.take.new.rows.items in
     let old : Exploration = record { nodes = f.nodes.items; labels = f.labels.labels; open_list = lists_of f.open_list.items } in
-    subst (λ z. IfSome c.take.result (IsTaken z (record old { open_list = new }) c.args.bucket)) c.self.view_is (is_taken old new c.args.bucket c.take.result c.self.invariant c.take.ensures.some c.take.ensures.others)
+    subst (λ z. IfSome c.take.result (IsNodeTaken z (record old { open_list = new }) c.args.bucket)) c.self.view_is (is_taken old new c.args.bucket c.take.result c.self.invariant c.take.ensures.some c.take.ensures.others)

@@ -1,5 +1,0 @@
-use Rattle.fleet_code.proofs.Agreement.{agree}
-use Rattle.fleet_code.proofs.laws.viewed_and_loaded.Goals as goal
-
-pub returns-clause-agree : goal.returns-clause-agree
-returns-clause-agree c = agree c.args.bytes.now _ _ c.view.ensures.found c.view.ensures.fault c.load.ensures.found c.load.ensures.fault

@@ -1,0 +1,28 @@
+use Rattle.std.proofs.Common.{◌≡◌, ◌+◌, ℕ, false, get_or, sym, ap, ◌∙◌, arith}
+use Rattle.std.proofs.lemmas.List.{get_or_read}
+use Rattle.fleet_model.proofs.Totals.{total_awaits_fit}
+use Rattle.fleet_settled.specs.Implied.{first_await}
+use Rattle.fleet_settled.proofs.AwaitOrder.{flag_within}
+use Rattle.fleet_implied.proofs.implied.ImpliedAwaits.await_unless_implied.Goals as goal
+
+pub overflow_add-place : goal.overflow_add-place
+overflow_add-place g c =
+    let p = g.P.ProgramView.program c.args.program.now in
+    let all = flag_within p c.args.action c.requires.action in
+    let fits = total_awaits_fit p c.agents.ensures.well_formed in
+    omega (arith, all, fits, c.requires.place, c.from.ensures, c.first.ensures)
+
+pub index-is_implied-requires : goal.index-is_implied-requires
+index-is_implied-requires g c =
+    let p = g.P.ProgramView.program c.args.program.now in
+    let all = flag_within p c.args.action c.requires.action in
+    omega (arith, all, c.requires.place, c.from.ensures, c.first.ensures, c.requires.implied.all)
+
+pub returns-then-is_implied-clause-none : goal.returns-then-is_implied-clause-none
+returns-then-is_implied-clause-none g c = λ w e at.
+    let p = g.P.ProgramView.program c.args.program.now in
+    let all = flag_within p c.args.action c.requires.action in
+    let flags = c.args.self.now.flags.items in
+    let there : c.first.result + c.from.result ≡ first_await p c.args.action + c.args.k = omega (arith, c.from.ensures, c.first.ensures) in
+    let flag = get_or_read flags _ _ (omega (arith, all, c.requires.place, c.from.ensures, c.first.ensures, c.requires.implied.all)) c.index-is_implied.ensures false in
+    (c.requires.implied.flagged c.args.action c.requires.action c.args.k w at).0 (ap (λ (n : ℕ). get_or flags n false) (sym there) ∙ sym flag ∙ c.if-is_implied.true)

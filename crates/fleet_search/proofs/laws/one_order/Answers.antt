@@ -1,5 +1,0 @@
-use Rattle.fleet_search.proofs.OrderLaws.{one_try-made, one_try-stuck}
-use Rattle.fleet_search.proofs.laws.one_order.Goals as goal
-
-pub returns : goal.returns
-returns c = record { made = one_try-made; stuck = one_try-stuck }

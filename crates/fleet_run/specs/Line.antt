@@ -1,9 +1,11 @@
 -- A line that is kept from tick to tick.
-use Rattle.std.specs.Prelude.{◌≡◌, ◌≤◌, ◌+◌, ◌++◌, ℕ, Bool, true, false, List, length, take, drop, get_or, codes}
+use Rattle.std.specs.Prelude.{◌≡◌, ◌≤◌, ◌+◌, ◌-◌, ◌++◌, ℕ, Bool, true, false, List, length, take, drop, get_or, codes}
 use Rattle.std.specs.List.{flat_map}
 use Rattle.fleet_model.specs.declared.geometry.Place.{Place}
 use Rattle.fleet_model.specs.Machine.{Configuration, standing_at}
 use Rattle.fleet_machine.specs.Machine.{MachineState, flag_of}
+use Rattle.fleet_model.specs.declared.limits.TheConstants.{MAX_AGENTS}
+use Rattle.fleet_run.specs.declared.text.TheConstants.{LINE}
 use Rattle.fleet_run.specs.Text.{place_text}
 
 -- the places of these agents, and the end of the line
@@ -13,12 +15,12 @@ places_text c = flat_map (λ s. place_text s.place) c ++ codes "\n"
 -- The row ends with the places of the configuration: that of agent k begins where `begins` says, and after the last one
 -- is the line's end.
 pub record IsLineKept (c : Configuration) (row begins : List ℕ) : Type 0 where
-  pub agents : length c ≤ 1024
-  pub room : length row ≡ 24588
-  pub begun : length begins ≡ 1025
+  pub agents : length c ≤ MAX_AGENTS
+  pub room : length row ≡ LINE
+  pub begun : length begins ≡ MAX_AGENTS + 1
   pub time : 11 ≤ get_or begins 0 0
   pub rising : (k : ℕ) → k ≤ length c → get_or begins 0 0 ≤ get_or begins k 0
-  pub within : (k : ℕ) → k ≤ length c → get_or begins k 0 ≤ 24587
+  pub within : (k : ℕ) → k ≤ length c → get_or begins k 0 ≤ LINE - 1
   pub places : (k : ℕ) → k ≤ length c → drop (get_or begins k 0) row ≡ places_text (drop k c)
 
 -- a place was written over the bytes from `at` to `end`, and has as many bytes

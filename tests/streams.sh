@@ -115,7 +115,21 @@ while [ "$rest" -le "$bytes" ]; do
 done
 echo $bytes:$heard
 EOF
-chmod +x "$work/bin/output_cut" "$work/bin/input_cut"
+# files_cut WAY VARIABLE COMMAND..: the files that the program opens give (GIVES) or take (TAKES) 0 bytes, or one more
+# each time until it is done, and then fail in this way. Prints each status and line, and how often they came in a row.
+cat > "$work/bin/files_cut" <<'EOF'
+#!/bin/sh
+WAY=$1 variable=$2 bytes=0 status=3
+export WAY
+shift 2
+while [ "$status" -ne 0 ] && [ "$bytes" -lt 1000 ]; do
+    env "$variable=$bytes" LD_PRELOAD="$STREAMS" "$@" > got 2> told < /dev/null
+    status=$?
+    echo "$status $(cat told)"
+    bytes=$((bytes + 1))
+done | uniq -c | sed 's/^ *//'
+EOF
+chmod +x "$work/bin/output_cut" "$work/bin/input_cut" "$work/bin/files_cut"
 check 'a report without an end is heard up to a length' 1 'go 0 1,0 2,0\n' 'dispatch 2 Form line 1\n' "head -c 20000 /dev/zero | tr '\\0' 0 | fleet dispatch $pair"
 if ${CC:-cc} -shared -fPIC -o "$STREAMS" "$root/tests/streams.c" -ldl 2> /dev/null; then
     printf '%s\n' 0 '0 1' 1 > "$room/lines"
@@ -140,6 +154,16 @@ EOF
     for way in 4 5; do
         check "standard input is cut ($way): no words" 0 "$bytes:\n" '' "input=examples/pair.hex input_cut $way fleet"
         check "standard input is cut ($way): dispatch" 0 '8: 8\n' '' "input=lines input_cut $way fleet dispatch $pair"
+    done
+
+    # The map has 38 bytes, the scenario 78 and the program 40, and each is read to its end; 28 is a full disk.
+    for way in 4 5; do
+        check "the files are cut ($way): verify" 0 "39 3 file examples/pair.map\n78 3 file examples/pair.scen\n40 3 file examples/pair.program\n1 0 \n" '' \
+            "files_cut $way GIVES fleet verify $pair"
+    done
+    for way in 0 28; do
+        check "OUT is cut ($way): migrate" 0 '48 3 file anew\n1 0 \n' '' \
+            "files_cut $way TAKES fleet migrate examples/pair.program anew"
     done
 
     # Two agents await each other, the second one 100,000 actions of the first.

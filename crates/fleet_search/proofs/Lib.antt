@@ -1,15 +1,4 @@
-pub mod Steps
-pub mod OneByOne
-pub mod Occupants
-pub mod Chase
-pub mod FitCode
-pub mod ReservationTables
-pub mod OccupancyRows
-pub mod Entering
-pub mod Reserving
-pub mod RowLaws
 pub mod Explored
-pub mod IntervalLaws
 pub mod Turning
 pub mod SearchSteps
 pub mod Spread

@@ -1,9 +1,3 @@
-pub mod Way
-pub mod Reserved
-pub mod Numbers
-pub mod Occupancies
-pub mod Intervals
-pub mod Rows
 pub mod Distance
 pub mod Links
 pub mod Frontier

@@ -3,15 +3,15 @@
 ghost use Rattle.std.specs.Prelude.{◌≡◌, ◌≤◌, IfOk, IfErr, IfSome, IfNone};
 ghost use Rattle.fleet_grid.specs.Ground.{is_passable};
 ghost use Rattle.fleet_search.specs.Search.{IsPosed, IsOpen};
-ghost use Rattle.fleet_search.specs.Way.{IsEarliest, IsInfeasible};
+ghost use Rattle.fleet_reserve.specs.Way.{IsEarliest, IsInfeasible};
 
 use crate::distances::{Distances, Effort};
 use crate::fault::SearchFault;
 use crate::frontier::{BucketEnd, Frontier, Query};
-use crate::reservations::Reservations;
 use fleet_grid::Grid;
 use fleet_model::Cell;
 use fleet_plan::Path;
+use fleet_reserve::Reservations;
 use std::alloc::Global;
 
 /// The earliest path of the query: the buckets are expanded from the least on; after a bucket in which a node was added

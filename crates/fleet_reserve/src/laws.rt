@@ -1,0 +1,12 @@
+//! Laws of paths past reserved ones. These functions do nothing: their contracts are the laws.
+
+ghost use Rattle.std.specs.Prelude.{◌↔◌, List};
+ghost use Rattle.fleet_model.specs.declared.geometry.Cell.{Cell};
+ghost use Rattle.fleet_plan.specs.Plan.{Plan};
+ghost use Rattle.fleet_reserve.specs.Way.{Fits, EachStepFits};
+
+/// A path fits the reserved ones exactly if nobody stands on its first cell at time 0, and each of its steps fits.
+pub fn fits_by_steps()
+    ensures { (reserved : Plan) (path : List Cell)
+        → Fits reserved path ↔ EachStepFits reserved path }
+{}

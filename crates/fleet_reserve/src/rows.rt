@@ -1,0 +1,65 @@
+//! Rows of numbers by their keys: the buckets of the open list, and the numbers of cells.
+
+ghost use Rattle.std.specs.Prelude.{◌≡◌, ◌≢◌, ◌<◌, ◌++◌, ◌∷◌, [], ℕ, OnOk, OnErr, IfSome, IfNone, length};
+ghost use Rattle.fleet_reserve.specs.Rows.{lists_of, bucket_in, IsPut};
+
+use fleet_model::OutOfMemory;
+use std::alloc::Global;
+
+/// Makes room for the row of this key. No row changes, even if memory is refused.
+pub fn widen(alloc: Global, rows: &mut Vec<Vec<u32>>, key: usize) -> Result<(), OutOfMemory>
+    requires { key < 4294967295 }
+    ensures room { OnOk result (key < length rows.new.items) }
+    ensures same { (k : ℕ) → bucket_in rows.new.items k ≡ bucket_in rows.old.items k }
+{
+    for _more in rows.len()..key + 1 {
+        rows.push(Vec::new(alloc))?;
+    }
+    Ok(())
+}
+
+/// Puts the number last in the row. A refusal changes no row.
+pub fn put(
+    alloc: Global,
+    rows: &mut Vec<Vec<u32>>,
+    key: u32,
+    number: u32,
+) -> Result<(), OutOfMemory>
+    requires { key < 4294967295 }
+    ensures ok { OnOk result
+        (IsPut (lists_of rows.old.items) (lists_of rows.new.items) key number) }
+    ensures err { OnErr result ((k : ℕ) → bucket_in rows.new.items k ≡ bucket_in rows.old.items k) }
+{
+    let key = key as usize;
+    widen(alloc, rows, key)?;
+    rows[key].push(number)?;
+    Ok(())
+}
+
+/// Takes off the last number of the row, if it has one.
+pub fn take(rows: &mut Vec<Vec<u32>>, key: u32) -> Option<u32>
+    ensures some { IfSome result (λ m. bucket_in rows.old.items key
+        ≡ bucket_in rows.new.items key ++ m ∷ []) }
+    ensures none { IfNone result (bucket_in rows.new.items key ≡ []) }
+    ensures others { (k : ℕ) → k ≢ key → bucket_in rows.new.items k ≡ bucket_in rows.old.items k }
+    ensures kept { IfNone result (bucket_in rows.old.items key ≡ []) }
+{
+    let key = key as usize;
+    if key >= rows.len() {
+        return None;
+    }
+    rows[key].pop()
+}
+
+/// How many rows at most are kept from one search to the next.
+const KEPT_ROWS: usize = 8_192;
+
+/// Takes all numbers out of the rows, and drops the rows after the first `KEPT_ROWS`.
+pub fn clear(rows: &mut Vec<Vec<u32>>)
+    ensures { (k : ℕ) → bucket_in rows.new.items k ≡ [] }
+{
+    rows.truncate(KEPT_ROWS);
+    for row in rows.iter_mut() {
+        row.clear();
+    }
+}

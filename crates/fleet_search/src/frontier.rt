@@ -321,7 +321,8 @@ impl Frontier {
         let Some(time) = earliest_within(neighbour.occupancies, interval, from) else {
             return Ok(());
         };
-        if time > left.until {
+        let is_late = time > left.until;
+        if is_late {
             return Ok(());
         }
         self.push_successor(query, bucket, left, neighbour, interval, time - 1)?;

@@ -144,7 +144,8 @@ fn are_in_range<P: ProgramView>(program: &P, agent: u16, action: u32) -> bool
 {
     for k in 0..program.await_count(agent, action) {
         let awaited = program.await_at(agent, action, k);
-        if awaited.count > program.moves(awaited.agent) {
+        let is_beyond = awaited.count > program.moves(awaited.agent);
+        if is_beyond {
             return false;
         }
     }

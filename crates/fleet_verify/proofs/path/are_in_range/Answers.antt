@@ -6,8 +6,8 @@ use Rattle.fleet_verify.proofs.path.are_in_range.Goals as goal
 pub moves-requires : goal.moves-requires
 moves-requires g c = await_agent (g.P.ProgramView.program c.args.program.now) c.requires.well_formed c.args.agent c.args.action c.loop-k.k c.await_at-awaited.result c.await_at-awaited.ensures
 
-pub returns-then-awaited-moves : goal.returns-then-awaited-moves
-returns-then-awaited-moves g c = (
+pub returns-then-is_beyond : goal.returns-then-is_beyond
+returns-then-is_beyond g c = (
   (λ h. absurd (cc)),
   (λ right. absurd (out_of_range (g.P.ProgramView.program c.args.program.now) c.args.agent c.args.action c.loop-k.k c.await_at-awaited.result c.await_at-awaited.ensures (omega arith) right)),
 )

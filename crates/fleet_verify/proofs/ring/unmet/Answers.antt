@@ -8,12 +8,12 @@ pub prove-unreachable-requires : goal.prove-unreachable-requires
 prove-unreachable-requires g c =
     omega (arith, await_agent (g.P.ProgramView.program c.args.program.now) c.agents-agents.ensures.well_formed c.args.i (slice_index c.args.counts.now c.args.i + 1) c.loop-k.k c.await_at-awaited.result c.await_at-awaited.ensures)
 
-pub returns-then-counts-awaited : goal.returns-then-counts-awaited
-returns-then-counts-awaited g c =
+pub returns-then-is_short : goal.returns-then-is_short
+returns-then-is_short g c =
     let awaits = awaits_of (g.P.ProgramView.program c.args.program.now) c.args.i (slice_index c.args.counts.now c.args.i + 1) in
     record {
       awaited = (c.loop-k.k, slice_get_within awaits c.loop-k.k c.await_at-awaited.result c.await_at-awaited.ensures, get_or_from_slice_get awaits c.loop-k.k c.await_at-awaited.result c.await_at-awaited.result c.await_at-awaited.ensures);
-      unmet = c.if-counts-awaited.true;
+      unmet = c.if-is_short.true;
     }
 
 pub unreachable-requires : goal.unreachable-requires
@@ -23,4 +23,4 @@ unreachable-requires g c =
 pub loop-k-preserved : goal.loop-k-preserved
 loop-k-preserved g c =
     met_more (awaits_of (g.P.ProgramView.program c.args.program.now) c.args.i (slice_index c.args.counts.now c.args.i + 1)) c.args.counts.now c.loop-k.k c.await_at-awaited.result c.await_at-awaited.ensures
-    c.if-counts-awaited.false c.loop-k.invariant
+    c.if-is_short.false c.loop-k.invariant

@@ -8,8 +8,8 @@ pub returns-in_default-clause-found : goal.returns-in_default-clause-found
 returns-in_default-clause-found c =
     found_in-none c.args.query.now c.args.self.now.nodes c.args.left.state c.args.neighbour.now.cell c.args.interval (subst (λ t. (s : ℕ) → t + 1 ≤ s → IsInInterval (occupancies_on c.args.query.now c.args.neighbour.now.cell) c.args.interval s → ⊥) c.from-from.ensures (subst (λ z. (s : ℕ) → c.from-from.result + 1 ≤ s → IsInInterval z c.args.interval s → ⊥) c.requires.neighbour.occupancies c.in_default.ensures.none))
 
-pub returns-then-time-left-clause-found : goal.returns-then-time-left-clause-found
-returns-then-time-left-clause-found c =
+pub returns-then-is_late-clause-found : goal.returns-then-is_late-clause-found
+returns-then-is_late-clause-found c =
     found_in-late c.args.query.now c.args.self.now.nodes c.args.left.state c.args.neighbour.now.cell c.args.interval c.in-Some.time c.args.left.until c.requires.leaving.horizon c.requires.leaving.until (subst (λ t. IsEarliestWithin (occupancies_on c.args.query.now c.args.neighbour.now.cell) c.args.interval (t + 1) c.in-Some.time) c.from-from.ensures (subst (λ z. IsEarliestWithin z c.args.interval (c.from-from.result + 1) c.in-Some.time) c.requires.neighbour.occupancies c.in-Some.ensures.some)) (omega arith)
 
 pub returns-clause-found : goal.returns-clause-found

@@ -106,7 +106,8 @@ fn is_ready<P: ProgramView>(program: &P, counts: &[u32], i: u16) -> bool
     for k in 0..program.await_count(i, number) {
         let awaited = program.await_at(i, number, k);
         prove!(awaited.agent < agents);
-        if counts[awaited.agent as usize] < awaited.count {
+        let is_short = counts[awaited.agent as usize] < awaited.count;
+        if is_short {
             return false;
         }
     }

@@ -91,7 +91,8 @@ fn raise<P: ProgramView>(program: &P, agent: u16, number: u32, row: &mut [u32])
         let awaited = program.await_at(agent, number, k);
         prove!(awaited.agent < agents);
         let i = awaited.agent as usize;
-        if row[i] < awaited.count {
+        let is_less = row[i] < awaited.count;
+        if is_less {
             row[i] = awaited.count;
         }
     }

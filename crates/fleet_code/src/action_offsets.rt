@@ -73,7 +73,8 @@ impl ActionOffsets {
         if kept == 0 {
             return n;
         }
-        if (n as usize) < kept {
+        let is_kept = (n as usize) < kept;
+        if is_kept {
             return self.kept[n as usize];
         }
         let last = kept - 1;

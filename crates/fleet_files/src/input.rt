@@ -64,7 +64,8 @@ fn read_to_limit<R: Read>(alloc: Global, reader: &mut R) -> Result<Vec<u8>, Inpu
         if count == 0 {
             return Ok(bytes);
         }
-        if MAX_BYTES - bytes.len() < count {
+        let is_beyond = MAX_BYTES - bytes.len() < count;
+        if is_beyond {
             return Err(InputStop::TooLong);
         }
         if bytes.extend_from_slice(&chunk[..count]).is_err() {

@@ -71,7 +71,8 @@ fn highest_below(word: u64, end: usize) -> Option<usize>
     }
     while let Some(skipped) = lowest(word >> place >> 1) {
         let higher = place + 1 + skipped;
-        if higher >= end {
+        let is_past = higher >= end;
+        if is_past {
             return Some(place);
         }
         place = higher;

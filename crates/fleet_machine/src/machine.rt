@@ -228,7 +228,8 @@ impl Machine {
             ≡ (is_left (P.program program.now) self.now.configuration i && is_none result) }
     {
         let finished = self.agent(i).count;
-        if finished >= program.moves(i) {
+        let has_finished = finished >= program.moves(i);
+        if has_finished {
             return None;
         }
         let next = finished + 1;

@@ -61,7 +61,8 @@ fn path_of(alloc: Global, number: u64, line: &[u8]) -> Result<Path, TextFault>
         let Some((cell, after)) = cell_front(rest) else {
             return Err(TextFault::Form { line: number });
         };
-        if cells.len() >= MAX_CELLS {
+        let is_full = cells.len() >= MAX_CELLS;
+        if is_full {
             return Err(too_long(number, after));
         }
         cells.push(cell)?;

@@ -72,7 +72,8 @@ impl Reservations {
             return None;
         }
         let occupancy = occupancies[count - 1];
-        if time <= occupancy.until {
+        let is_there = time <= occupancy.until;
+        if is_there {
             Some(occupancy.agent)
         } else {
             None

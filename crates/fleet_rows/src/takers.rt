@@ -101,7 +101,8 @@ fn note_needed<P: ProgramView>(
         (P.program program.now) places.now.firsts.items action tick lasts.new }
 {
     note_awaited(program, places, action, tick, lasts);
-    if action.number > 1 {
+    let is_later = action.number > 1;
+    if is_later {
         raise(lasts, places.place(action.agent, action.number - 1), tick);
     }
 }

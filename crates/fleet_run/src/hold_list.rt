@@ -41,7 +41,8 @@ fn set_flags(numbers: &[u16], flags: &mut [bool])
     clear(flags);
     for number in numbers {
         let agent = usize::from(*number);
-        if agent < flags.len() {
+        let is_flag = agent < flags.len();
+        if is_flag {
             flags[agent] = true;
         }
     }

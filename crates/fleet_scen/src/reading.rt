@@ -145,7 +145,8 @@ fn tasks_of(
         if !is_filled(line) {
             continue;
         }
-        if tasks.len() >= MAX_AGENTS {
+        let are_all = tasks.len() >= MAX_AGENTS;
+        if are_all {
             return Err(ScenFault::TooMany);
         }
         let task = task_of(grid, number, line)?;

@@ -296,7 +296,8 @@ fn reaches<P: ProgramView>(
             None => known = false,
         }
     }
-    if last.number <= 1 {
+    let is_first = last.number <= 1;
+    if is_first {
         return join_answers(known, Some(false));
     }
     join_answers(known, reaches(program, ticks, first, before(last), steps))

@@ -7,10 +7,10 @@ pub prove-unreachable-requires : goal.prove-unreachable-requires
 prove-unreachable-requires g c =
     omega (arith, await_agent (g.P.ProgramView.program c.args.program.now) c.agents-agents.ensures.well_formed c.args.i (slice_index c.args.counts.now c.args.i + 1) c.loop-k.k c.await_at-awaited.result c.await_at-awaited.ensures)
 
-pub returns-then-counts-awaited : goal.returns-then-counts-awaited
-returns-then-counts-awaited g c = (
+pub returns-then-is_short : goal.returns-then-is_short
+returns-then-is_short g c = (
   (λ e. absurd (cc e)),
-  (λ r. absurd (ready_no (g.P.ProgramView.program c.args.program.now) c.args.counts.now c.args.i c.loop-k.k c.await_at-awaited.result c.await_at-awaited.ensures c.if-counts-awaited.true r)),
+  (λ r. absurd (ready_no (g.P.ProgramView.program c.args.program.now) c.args.counts.now c.args.i c.loop-k.k c.await_at-awaited.result c.await_at-awaited.ensures c.if-is_short.true r)),
 )
 
 pub returns : goal.returns
@@ -22,4 +22,4 @@ returns g c = (
 pub loop-k-preserved : goal.loop-k-preserved
 loop-k-preserved g c =
     met_more (awaits_of (g.P.ProgramView.program c.args.program.now) c.args.i (slice_index c.args.counts.now c.args.i + 1)) c.args.counts.now c.loop-k.k c.await_at-awaited.result c.await_at-awaited.ensures
-    c.if-counts-awaited.false c.loop-k.invariant
+    c.if-is_short.false c.loop-k.invariant

@@ -17,7 +17,7 @@ chunks-preserved g c =
     let len = rw grown at c.extend_from_slice.ensures.len in
     record {
       so_far = rw items (Consumes-trans _ _ _ _ _ c.chunks.invariant.so_far c.in-Ok.ensures.bytes.0);
-      within = omega (arith, len, c.chunks.invariant.within, c.if-len-count.false, c.len.ensures, c.in-Ok.ensures.bound.1);
+      within = omega (arith, len, c.chunks.invariant.within, c.if-is_beyond.false, c.len.ensures, c.in-Ok.ensures.bound.1);
       size = c.read.auto.buf ∙ c.chunks.invariant.size;
     }
 
@@ -25,4 +25,4 @@ pub chunks-smaller : goal.chunks-smaller
 chunks-smaller g c =
     let grown : is_ok c.extend_from_slice.result ≡ true = c.is_err.ensures.negation ∙ ap not c.if-is_err.false in
     let len = rw grown at c.extend_from_slice.ensures.len in
-    omega (arith, len, c.if-len-count.false, c.len.ensures, c.in-Ok.ensures.bound.1, c.if-count-eq0.false)
+    omega (arith, len, c.if-is_beyond.false, c.len.ensures, c.in-Ok.ensures.bound.1, c.if-count-eq0.false)

@@ -15,10 +15,10 @@ returns-in_default c =
 pub too_long-requires : goal.too_long-requires
 too_long-requires c = no_blank_after c.loop-rest.rest.now _ _ c.loop-rest.invariant.front (sym c.in-Some.ensures)
 
-pub returns-then-len-ge-MAX_CELLS : goal.returns-then-len-ge-MAX_CELLS
-returns-then-len-ge-MAX_CELLS c =
+pub returns-then-is_full : goal.returns-then-is_full
+returns-then-is_full c =
     let l = c.loop-rest in
-    let many : 65536 ≤ length l.cells.items = omega (arith, c.len.ensures, c.if-len-ge-MAX_CELLS.true) in
+    let many : 65536 ≤ length l.cells.items = omega (arith, c.len-is_full.ensures, c.if-is_full.true) in
     rw c.too_long.ensures (λ other. too_many_cells c.args.number c.args.line.now l.cells.items l.rest.now l.invariant.so_far l.invariant.front _ _ (sym c.in-Some.ensures) many)
 
 pub loop-rest-smaller : goal.loop-rest-smaller
@@ -29,7 +29,7 @@ loop-rest-smaller c =
 pub loop-rest-preserved : goal.loop-rest-preserved
 loop-rest-preserved c =
     let l = c.loop-rest in
-    let few : length l.cells.items < 65536 = omega (arith, c.len.ensures, c.if-len-ge-MAX_CELLS.false) in
+    let few : length l.cells.items < 65536 = omega (arith, c.len-is_full.ensures, c.if-is_full.false) in
     rw c.in_ok-push.ensures.items (record {
       front = no_blank_after l.rest.now _ _ l.invariant.front (sym c.in-Some.ensures);
       some = omega (arith, length-append l.cells.items (c.in-Some.cell ∷ []));

@@ -49,17 +49,17 @@ loop-k-preserved g t c =
       ];
     }
 
-pub returns-then-last-le1-clause-no : goal.returns-then-last-le1-clause-no
-returns-then-last-le1-clause-no g t c = λ e.
+pub returns-then-is_first-clause-no : goal.returns-then-is_first-clause-no
+returns-then-is_first-clause-no g t c = λ e.
     let p = g.P.ProgramView.program c.args.program.now in
     let whole : c.loop-k.k ≡ length (awaits_of p c.args.last.agent c.args.last.number) = omega (arith, c.loop-k-test.false, c.await_count-awaits.ensures, c.loop-k.auto.k-end) in
     none_reached p c.args.first c.args.last c.if-last-first.false
     (λ m w l. c.loop-k.invariant.apart (c.join_answers.ensures.no e).0 m w (omega (arith, l, whole)))
-    (λ b agent number some. absurd (omega (arith, number, some, c.if-last-le1.true)))
+    (λ b agent number some. absurd (omega (arith, number, some, c.if-is_first.true)))
 
 pub returns-clause-yes : goal.returns-clause-yes
 returns-clause-yes g t c = λ e.
-    by_before (g.P.ProgramView.program c.args.program.now) c.args.first c.args.last c.before-2.result.number c.requires.last (omega (arith, c.if-last-le1.false, c.before-2.ensures.number))
+    by_before (g.P.ProgramView.program c.args.program.now) c.args.first c.args.last c.before-2.result.number c.requires.last (omega (arith, c.if-is_first.false, c.before-2.ensures.number))
     c.before-2.ensures.number (subst (λ (i : ℕ). Reaches (g.P.ProgramView.program c.args.program.now) c.args.first (record { agent = i; number = c.before-2.result.number })) c.before-2.ensures.agent (c.reaches-2.ensures.yes (c.join_answers-2.ensures.yes e)))
 
 pub returns-clause-no : goal.returns-clause-no
@@ -84,5 +84,5 @@ returns-then-tick-clause-yes g t c = λ e. absurd (no_yes e)
 pub returns-in-Some-true-clause-no : goal.returns-in-Some-true-clause-no
 returns-in-Some-true-clause-no g t c = λ e. absurd (yes_no e)
 
-pub returns-then-last-le1-clause-yes : goal.returns-then-last-le1-clause-yes
-returns-then-last-le1-clause-yes g t c = λ e. absurd (no_yes (c.join_answers.ensures.yes e))
+pub returns-then-is_first-clause-yes : goal.returns-then-is_first-clause-yes
+returns-then-is_first-clause-yes g t c = λ e. absurd (no_yes (c.join_answers.ensures.yes e))

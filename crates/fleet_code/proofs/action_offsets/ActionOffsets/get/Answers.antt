@@ -11,10 +11,10 @@ returns-then-kept-eq0 c =
     let none : length in_all.kept.items ≡ 0 = omega (arith, c.len-kept.ensures, in_all.kept.ok.0, c.if-kept-eq0.true) in
     sym (none_kept in_all.actions in_all.stride in_all.kept.items c.args.n none few) ∙ ap (λ (xs : List ℕ). slice_index_or xs c.args.n 0) c.self.view_is
 
-pub returns-then-n-kept : goal.returns-then-n-kept
-returns-then-n-kept c =
+pub returns-then-is_kept : goal.returns-then-is_kept
+returns-then-is_kept c =
     let in_all = c.self.inside in
-    let l : c.args.n < length in_all.kept.items = omega (arith, c.len-kept.ensures, in_all.kept.ok.0, c.if-n-kept.true) in
+    let l : c.args.n < length in_all.kept.items = omega (arith, c.len-kept.ensures, in_all.kept.ok.0, c.if-is_kept.true) in
     c.index.ensures ∙ (get_or_default in_all.kept.items c.args.n c.index.result.now 0 l ∙ (sym (kept_at in_all.actions in_all.stride in_all.kept.items c.args.n l) ∙ ap (λ (xs : List ℕ). slice_index_or xs c.args.n 0) c.self.view_is))
 
 -- the offset that is told beyond those that are kept
@@ -25,7 +25,7 @@ returns c =
     let long : c.len-kept.result ≡ length kept = omega (arith, c.len-kept.ensures, in_all.kept.ok.0) in
     let inside : c.args.n < in_all.actions + 1 = let n = c.requires in let same = ap (λ (xs : List ℕ). length xs) c.self.view_is in omega (arith, n, same, c.self.invariant.count) in
     let some : 0 < length kept = omega (arith, long, c.if-kept-eq0.false) in
-    let beyond : length kept ≤ c.args.n = omega (arith, long, c.if-n-kept.false) in
+    let beyond : length kept ≤ c.args.n = omega (arith, long, c.if-is_kept.false) in
     let told = further_at in_all.actions in_all.stride kept c.args.n some beyond inside in
     let last : c.index-2.result.now ≡ slice_index_or kept (length kept - 1) 0 = c.index-2.ensures ∙ (get_or_default kept (c.len-kept.result - 1) c.index-2.result.now 0 (omega (arith, long, some)) ∙ ap (λ (m : ℕ). slice_index_or kept (m - 1) 0) long) in
     ap (λ (m : ℕ). c.index-2.result.now + (c.args.n - (m - 1)) * in_all.stride) long
@@ -39,7 +39,7 @@ overflow_add-result c =
     let long : c.len-kept.result ≡ length kept = omega (arith, c.len-kept.ensures, in_all.kept.ok.0) in
     let inside : c.args.n < in_all.actions + 1 = let n = c.requires in let same = ap (λ (xs : List ℕ). length xs) c.self.view_is in omega (arith, n, same, c.self.invariant.count) in
     let some : 0 < length kept = omega (arith, long, c.if-kept-eq0.false) in
-    let beyond : length kept ≤ c.args.n = omega (arith, long, c.if-n-kept.false) in
+    let beyond : length kept ≤ c.args.n = omega (arith, long, c.if-is_kept.false) in
     let told = further_at in_all.actions in_all.stride kept c.args.n some beyond inside in
     let last : c.index-2.result.now ≡ slice_index_or kept (length kept - 1) 0 = c.index-2.ensures ∙ (get_or_default kept (c.len-kept.result - 1) c.index-2.result.now 0 (omega (arith, long, some)) ∙ ap (λ (m : ℕ). slice_index_or kept (m - 1) 0) long) in
     let sum : c.index-2.result.now + (c.args.n - (c.len-kept.result - 1)) * in_all.stride ≡ slice_index_or all c.args.n 0 =
@@ -55,7 +55,7 @@ overflow_mul-result c =
     let long : c.len-kept.result ≡ length kept = omega (arith, c.len-kept.ensures, in_all.kept.ok.0) in
     let inside : c.args.n < in_all.actions + 1 = let n = c.requires in let same = ap (λ (xs : List ℕ). length xs) c.self.view_is in omega (arith, n, same, c.self.invariant.count) in
     let some : 0 < length kept = omega (arith, long, c.if-kept-eq0.false) in
-    let beyond : length kept ≤ c.args.n = omega (arith, long, c.if-n-kept.false) in
+    let beyond : length kept ≤ c.args.n = omega (arith, long, c.if-is_kept.false) in
     let told = further_at in_all.actions in_all.stride kept c.args.n some beyond inside in
     let factor : (c.args.n - (c.len-kept.result - 1)) * in_all.stride ≡ (c.args.n - (length kept - 1)) * in_all.stride = ap (λ (m : ℕ). (c.args.n - (m - 1)) * in_all.stride) long in
     let few : slice_index_or all c.args.n 0 < 2 ^ 32 = c.self.invariant.fit c.args.n 0 (omega (arith, inside, c.self.invariant.count)) in

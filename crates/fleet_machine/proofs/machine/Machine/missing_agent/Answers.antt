@@ -7,20 +7,20 @@ use Rattle.fleet_machine.proofs.Ready.{awaited_agent, one_more_met}
 use Rattle.fleet_machine.proofs.Lacking.{none_left, no_home_if_none_left, all_met, home_if_all_met, one_lacked, home_if_lacked}
 use Rattle.fleet_machine.proofs.machine.Machine.missing_agent.Goals as goal
 
-pub returns-then-finished-moves-clause-belongs : goal.returns-then-finished-moves-clause-belongs
-returns-then-finished-moves-clause-belongs g c =
+pub returns-then-has_finished-clause-belongs : goal.returns-then-has_finished-clause-belongs
+returns-then-has_finished-clause-belongs g c =
     let p = g.P.ProgramView.program c.args.program.now in
     let rows = c.args.self.now.configuration in
     let count = ap (λ (s : Standing). s.count) c.agent-finished.ensures.standing in
-    let le : moves p c.args.i ≤ count_at rows c.args.i = omega (arith, count, c.if-finished-moves.true, c.moves.ensures) in
+    let le : moves p c.args.i ≤ count_at rows c.args.i = omega (arith, count, c.if-has_finished.true, c.moves.ensures) in
     no_home_if_none_left p rows c.args.i le
 
-pub returns-then-finished-moves-clause-ready : goal.returns-then-finished-moves-clause-ready
-returns-then-finished-moves-clause-ready g c =
+pub returns-then-has_finished-clause-ready : goal.returns-then-has_finished-clause-ready
+returns-then-has_finished-clause-ready g c =
     let p = g.P.ProgramView.program c.args.program.now in
     let rows = c.args.self.now.configuration in
     let count = ap (λ (s : Standing). s.count) c.agent-finished.ensures.standing in
-    let le : moves p c.args.i ≤ count_at rows c.args.i = omega (arith, count, c.if-finished-moves.true, c.moves.ensures) in
+    let le : moves p c.args.i ≤ count_at rows c.args.i = omega (arith, count, c.if-has_finished.true, c.moves.ensures) in
     none_left p rows c.args.i le
 
 pub has_met-requires : goal.has_met-requires
@@ -34,7 +34,7 @@ returns-then-not-has_met-clause-belongs g c =
     let p = g.P.ProgramView.program c.args.program.now in
     let rows = c.args.self.now.configuration in
     let standing = c.agent-finished.ensures.standing in
-    let left : count_at rows c.args.i < moves p c.args.i = omega (arith, ap (λ (s : Standing). s.count) standing, c.if-finished-moves.false, c.moves.ensures) in
+    let left : count_at rows c.args.i < moves p c.args.i = omega (arith, ap (λ (s : Standing). s.count) standing, c.if-has_finished.false, c.moves.ensures) in
     let at : slice_get (awaits_of p c.args.i (count_at rows c.args.i + 1)) c.loop-k.k ≡ Some c.await_at-awaited.result = rw standing at c.await_at-awaited.ensures in
     home_if_lacked p rows c.args.i left c.loop-k.k c.await_at-awaited.result at (sym c.has_met.ensures ∙ c.if-not-has_met.true)
 
@@ -48,7 +48,7 @@ returns-then-not-has_met-clause-ready g c =
     let p = g.P.ProgramView.program c.args.program.now in
     let rows = c.args.self.now.configuration in
     let standing = c.agent-finished.ensures.standing in
-    let left : count_at rows c.args.i < moves p c.args.i = omega (arith, ap (λ (s : Standing). s.count) standing, c.if-finished-moves.false, c.moves.ensures) in
+    let left : count_at rows c.args.i < moves p c.args.i = omega (arith, ap (λ (s : Standing). s.count) standing, c.if-has_finished.false, c.moves.ensures) in
     let at : slice_get (awaits_of p c.args.i (count_at rows c.args.i + 1)) c.loop-k.k ≡ Some c.await_at-awaited.result = rw standing at c.await_at-awaited.ensures in
     one_lacked p rows c.args.i left c.loop-k.k c.await_at-awaited.result at (sym c.has_met.ensures ∙ c.if-not-has_met.true)
 
@@ -63,7 +63,7 @@ returns-clause-belongs g c =
     let p = g.P.ProgramView.program c.args.program.now in
     let rows = c.args.self.now.configuration in
     let standing = c.agent-finished.ensures.standing in
-    let left : count_at rows c.args.i < moves p c.args.i = omega (arith, ap (λ (s : Standing). s.count) standing, c.if-finished-moves.false, c.moves.ensures) in
+    let left : count_at rows c.args.i < moves p c.args.i = omega (arith, ap (λ (s : Standing). s.count) standing, c.if-has_finished.false, c.moves.ensures) in
     let all : c.await_count-k-end.result ≡ length (awaits_of p c.args.i (count_at rows c.args.i + 1)) = rw standing at c.await_count-k-end.ensures in
     let met : list_all (is_met rows) (take c.loop-k.k (awaits_of p c.args.i (count_at rows c.args.i + 1))) ≡ true = rw standing at c.loop-k.invariant in
     home_if_all_met p rows c.args.i left c.await_count-k-end.result c.loop-k.k all c.loop-k-test.false met
@@ -73,7 +73,7 @@ returns-clause-ready g c =
     let p = g.P.ProgramView.program c.args.program.now in
     let rows = c.args.self.now.configuration in
     let standing = c.agent-finished.ensures.standing in
-    let left : count_at rows c.args.i < moves p c.args.i = omega (arith, ap (λ (s : Standing). s.count) standing, c.if-finished-moves.false, c.moves.ensures) in
+    let left : count_at rows c.args.i < moves p c.args.i = omega (arith, ap (λ (s : Standing). s.count) standing, c.if-has_finished.false, c.moves.ensures) in
     let all : c.await_count-k-end.result ≡ length (awaits_of p c.args.i (count_at rows c.args.i + 1)) = rw standing at c.await_count-k-end.ensures in
     let met : list_all (is_met rows) (take c.loop-k.k (awaits_of p c.args.i (count_at rows c.args.i + 1))) ≡ true = rw standing at c.loop-k.invariant in
     all_met p rows c.args.i left c.await_count-k-end.result c.loop-k.k all c.loop-k-test.false met

@@ -11,14 +11,14 @@ returns-then-count-eq0-clause-none c =
     let h = subst (AreOccupanciesOn c.args.self.now c.args.cell) (sym c.occupancies-occupancies.ensures) (c.table.ensures c.args.cell) in
     nobody_yet c.args.self.now c.args.cell c.occupancies-occupancies.result.now h c.args.time c.count_begun-count.result (omega arith) c.count_begun-count.ensures.point c.count_begun-count.ensures.bound c.if-count-eq0.true
 
-pub returns-then-time-occupancy-clause-some : goal.returns-then-time-occupancy-clause-some
-returns-then-time-occupancy-clause-some c =
+pub returns-then-is_there-clause-some : goal.returns-then-is_there-clause-some
+returns-then-is_there-clause-some c =
     let h = subst (AreOccupanciesOn c.args.self.now c.args.cell) (sym c.occupancies-occupancies.ensures) (c.table.ensures c.args.cell) in
     let some : 0 < c.count_begun-count.result = omega (arith, c.if-count-eq0.false) in
-    is_there c.args.self.now c.args.cell c.occupancies-occupancies.result.now h c.args.time c.count_begun-count.result (omega arith) c.count_begun-count.ensures.point c.count_begun-count.ensures.bound _ refl some c.if-time-occupancy.true
+    is_there c.args.self.now c.args.cell c.occupancies-occupancies.result.now h c.args.time c.count_begun-count.result (omega arith) c.count_begun-count.ensures.point c.count_begun-count.ensures.bound _ refl some c.if-is_there.true
 
-pub returns-else-time-occupancy-clause-none : goal.returns-else-time-occupancy-clause-none
-returns-else-time-occupancy-clause-none c =
+pub returns-else-is_there-clause-none : goal.returns-else-is_there-clause-none
+returns-else-is_there-clause-none c =
     let h = subst (AreOccupanciesOn c.args.self.now c.args.cell) (sym c.occupancies-occupancies.ensures) (c.table.ensures c.args.cell) in
     let some : 0 < c.count_begun-count.result = omega (arith, c.if-count-eq0.false) in
-    gone c.args.self.now c.args.cell c.occupancies-occupancies.result.now h c.args.time c.count_begun-count.result (omega arith) c.count_begun-count.ensures.point c.count_begun-count.ensures.bound _ refl some c.if-time-occupancy.false
+    gone c.args.self.now c.args.cell c.occupancies-occupancies.result.now h c.args.time c.count_begun-count.result (omega arith) c.count_begun-count.ensures.point c.count_begun-count.ensures.bound _ refl some c.if-is_there.false

@@ -23,6 +23,14 @@ struct Move {
     to: Cell,
 }
 
+/// A step of a plan on a map: the one after `time`.
+#[derive(Clone, Copy)]
+struct StepOf<'a> {
+    plan: &'a Plan,
+    grid: &'a Grid,
+    time: u32,
+}
+
 /// The actions of each agent. An agent whose path has ended is not looked at again.
 pub(crate) fn actions_of(
     alloc: Global,
@@ -60,33 +68,34 @@ fn sweep(
     for time in 0..plan.steps() {
         plan.keep_under_way(&mut agents, time);
         list_moves(plan, time, &agents, &mut moves)?;
-        make_moves(alloc, plan, grid, time, &moves, leavings, actions)?;
+        let at = StepOf { plan, grid, time };
+        make_moves(alloc, &at, &moves, leavings, actions)?;
     }
     Ok(())
 }
 
-/// Notes the leavings of cells in the step after `time`, and then adds its moves, with what they await.
+/// Notes the leavings of cells in a step, and then adds its moves, with what they await.
 fn make_moves(
     alloc: Global,
-    plan: &Plan,
-    grid: &Grid,
-    time: u32,
+    at: &StepOf<'_>,
     moves: &[Move],
     leavings: &mut Leavings,
     actions: &mut [Growing],
 ) -> Result<(), OutOfMemory>
-    requires on_map { IsOnMap grid.now plan.now }
-    requires time { time < MAX_HORIZON }
-    requires moves { moves.now ≡ moves_in plan.now time }
-    requires leavings { AreLeavingsAt grid.now plan.now (kind_of leavings.old) time leavings.old }
-    requires actions { actions.old ≡ all_actions_by plan.now (kind_of leavings.old) time }
-    ensures leavings { OnOk result (AreLeavingsAt grid.now plan.now (kind_of leavings.old)
-        (time + 1) leavings.new) }
+    requires on_map { IsOnMap at.now.grid.now at.now.plan.now }
+    requires time { at.now.time < MAX_HORIZON }
+    requires moves { moves.now ≡ moves_in at.now.plan.now at.now.time }
+    requires leavings { AreLeavingsAt at.now.grid.now at.now.plan.now (kind_of leavings.old)
+        at.now.time leavings.old }
+    requires actions { actions.old
+        ≡ all_actions_by at.now.plan.now (kind_of leavings.old) at.now.time }
+    ensures leavings { OnOk result (AreLeavingsAt at.now.grid.now at.now.plan.now
+        (kind_of leavings.old) (at.now.time + 1) leavings.new) }
     ensures actions { OnOk result (actions.new
-        ≡ all_actions_by plan.now (kind_of leavings.old) (time + 1)) }
+        ≡ all_actions_by at.now.plan.now (kind_of leavings.old) (at.now.time + 1)) }
 {
-    note_leavings(plan, grid, time, moves, actions, leavings)?;
-    add_actions(alloc, plan, grid, time, moves, leavings, actions)
+    note_leavings(at, moves, actions, leavings)?;
+    add_actions(alloc, at, moves, leavings, actions)
 }
 
 /// Every cell of a plan lies on the map that it was checked for. It does nothing.
@@ -179,55 +188,54 @@ fn list_moves(
     Ok(())
 }
 
-/// Notes the leavings of cells in the step after `time`.
+/// Notes the leavings of cells in a step.
 fn note_leavings(
-    plan: &Plan,
-    grid: &Grid,
-    time: u32,
+    at: &StepOf<'_>,
     moves: &[Move],
     actions: &[Growing],
     leavings: &mut Leavings,
 ) -> Result<(), AllocError>
-    requires on_map { IsOnMap grid.now plan.now }
-    requires time { time < MAX_HORIZON }
-    requires moves { moves.now ≡ moves_in plan.now time }
-    requires actions { actions.now ≡ all_actions_by plan.now (kind_of leavings.old) time }
-    requires leavings { AreLeavingsAt grid.now plan.now (kind_of leavings.old) time leavings.old }
-    ensures { OnOk result (AreLeavingsAt grid.now plan.now (kind_of leavings.old)
-        (time + 1) leavings.new) }
+    requires on_map { IsOnMap at.now.grid.now at.now.plan.now }
+    requires time { at.now.time < MAX_HORIZON }
+    requires moves { moves.now ≡ moves_in at.now.plan.now at.now.time }
+    requires actions { actions.now
+        ≡ all_actions_by at.now.plan.now (kind_of leavings.old) at.now.time }
+    requires leavings { AreLeavingsAt at.now.grid.now at.now.plan.now (kind_of leavings.old)
+        at.now.time leavings.old }
+    ensures { OnOk result (AreLeavingsAt at.now.grid.now at.now.plan.now (kind_of leavings.old)
+        (at.now.time + 1) leavings.new) }
 {
     // Two cells have two places in the table.
     cells_have_places_of_their_own();
     for one in moves {
         let agent = one.agent;
         let number = actions[usize::from(agent)].len() as u16 + 1;
-        leavings.note(grid.cell_index(one.from), Leaving { agent, number })?;
+        leavings.note(at.grid.cell_index(one.from), Leaving { agent, number })?;
     }
     Ok(())
 }
 
-/// Adds the moves of the step after `time`, with what they await.
+/// Adds the moves of a step, with what they await.
 fn add_actions(
     alloc: Global,
-    plan: &Plan,
-    grid: &Grid,
-    time: u32,
+    at: &StepOf<'_>,
     moves: &[Move],
     leavings: &Leavings,
     actions: &mut [Growing],
 ) -> Result<(), OutOfMemory>
-    requires on_map { IsOnMap grid.now plan.now }
-    requires time { time ≤ MAX_HORIZON }
-    requires moves { moves.now ≡ moves_in plan.now time }
-    requires leavings { AreLeavingsAt grid.now plan.now (kind_of leavings.now)
-        (time + 1) leavings.now }
-    requires actions { actions.old ≡ all_actions_by plan.now (kind_of leavings.now) time }
+    requires on_map { IsOnMap at.now.grid.now at.now.plan.now }
+    requires time { at.now.time ≤ MAX_HORIZON }
+    requires moves { moves.now ≡ moves_in at.now.plan.now at.now.time }
+    requires leavings { AreLeavingsAt at.now.grid.now at.now.plan.now (kind_of leavings.now)
+        (at.now.time + 1) leavings.now }
+    requires actions { actions.old
+        ≡ all_actions_by at.now.plan.now (kind_of leavings.now) at.now.time }
     ensures { OnOk result (actions.new
-        ≡ all_actions_by plan.now (kind_of leavings.now) (time + 1)) }
+        ≡ all_actions_by at.now.plan.now (kind_of leavings.now) (at.now.time + 1)) }
 {
     for one in moves {
         let agent = one.agent;
-        let place = grid.cell_index(one.to);
+        let place = at.grid.cell_index(one.to);
         let step = Step::Go(direction(one.from, one.to));
         leavings.add_action(alloc, place, agent, step, &mut actions[usize::from(agent)])?;
     }

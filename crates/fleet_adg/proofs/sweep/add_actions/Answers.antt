@@ -13,35 +13,35 @@ use Rattle.fleet_adg.proofs.sweep.add_actions.Goals as goal
 
 pub cell_index-place-requires-clause-column : goal.cell_index-place-requires-clause-column
 cell_index-place-requires-clause-column c =
-    let plan = c.args.plan.now in
-    let m = move_at plan c.args.time c.loop-one.one-index c.args.moves.now c.requires.moves c.loop-one-test.true in
-    subst (λ q. q.x < c.args.grid.now.width) (sym m.to) (c.requires.on_map.columns (get_or c.args.moves.now c.loop-one.one-index no_move).agent (c.args.time + 1) m.below)
+    let plan = c.args.at.now.plan.now in
+    let m = move_at plan c.args.at.now.time c.loop-one.one-index c.args.moves.now c.requires.moves c.loop-one-test.true in
+    subst (λ q. q.x < c.args.at.now.grid.now.width) (sym m.to) (c.requires.on_map.columns (get_or c.args.moves.now c.loop-one.one-index no_move).agent (c.args.at.now.time + 1) m.below)
 
 pub cell_index-place-requires-clause-row : goal.cell_index-place-requires-clause-row
 cell_index-place-requires-clause-row c =
-    let plan = c.args.plan.now in
-    let m = move_at plan c.args.time c.loop-one.one-index c.args.moves.now c.requires.moves c.loop-one-test.true in
-    subst (λ q. q.y < c.args.grid.now.height) (sym m.to) (c.requires.on_map.rows (get_or c.args.moves.now c.loop-one.one-index no_move).agent (c.args.time + 1) m.below)
+    let plan = c.args.at.now.plan.now in
+    let m = move_at plan c.args.at.now.time c.loop-one.one-index c.args.moves.now c.requires.moves c.loop-one-test.true in
+    subst (λ q. q.y < c.args.at.now.grid.now.height) (sym m.to) (c.requires.on_map.rows (get_or c.args.moves.now c.loop-one.one-index no_move).agent (c.args.at.now.time + 1) m.below)
 
 pub bounds-actions-from : goal.bounds-actions-from
 bounds-actions-from c =
-    let plan = c.args.plan.now in
-    let m = move_at plan c.args.time c.loop-one.one-index c.args.moves.now c.requires.moves c.loop-one-test.true in
-    omega (arith, c.from.ensures, m.below, c.loop-one.auto.actions, ap length c.requires.actions, length-all_actions_by plan (kind_of c.args.leavings.now) c.args.time)
+    let plan = c.args.at.now.plan.now in
+    let m = move_at plan c.args.at.now.time c.loop-one.one-index c.args.moves.now c.requires.moves c.loop-one-test.true in
+    omega (arith, c.from.ensures, m.below, c.loop-one.auto.actions, ap length c.requires.actions, length-all_actions_by plan (kind_of c.args.leavings.now) c.args.at.now.time)
 
 pub loop-one-preserved : goal.loop-one-preserved
 loop-one-preserved c =
-    let g = c.args.grid.now in
+    let g = c.args.at.now.grid.now in
     let deps = kind_of c.args.leavings.now in
-    let x = c.args.time in
+    let x = c.args.at.now.time in
     let k = c.loop-one.one-index in
     let one = get_or c.args.moves.now k no_move in
     let i = one.agent in
     let rows = c.loop-one.actions in
     let awaits = filter (λ w. not (w.agent == i)) (row_of c.args.leavings.now (cell_index g one.to)) in
     let action : Action = record { step = Go c.direction.result; awaits = awaits } in
-    let plan = c.args.plan.now in
-    let m = move_at plan c.args.time c.loop-one.one-index c.args.moves.now c.requires.moves c.loop-one-test.true in
+    let plan = c.args.at.now.plan.now in
+    let m = move_at plan c.args.at.now.time c.loop-one.one-index c.args.moves.now c.requires.moves c.loop-one-test.true in
     let within : i < length rows = omega (arith, m.below, c.loop-one.auto.actions, ap length c.requires.actions, length-all_actions_by plan deps x) in
     let this = action_is g plan deps x i c.args.leavings.now one.from one.to c.direction.result awaits c.requires.leavings m.from m.to
     (subst (λ q. q.x < g.width) (sym m.to) (c.requires.on_map.columns i (x + 1) m.below))
@@ -54,9 +54,9 @@ loop-one-preserved c =
 
 pub returns : goal.returns
 returns c =
-    let plan = c.args.plan.now in
+    let plan = c.args.at.now.plan.now in
     let deps = kind_of c.args.leavings.now in
-    let x = c.args.time in
+    let x = c.args.at.now.time in
     let over : length (movers plan x) ≤ c.loop-one.one-index = omega (arith, length-moves plan x c.args.moves.now c.requires.moves, c.loop-one-test.false) in
     c.loop-one.invariant
     ∙ ap (fold (add_by plan deps x) c.args.actions.now) (take_all c.loop-one.one-index (movers plan x) over)

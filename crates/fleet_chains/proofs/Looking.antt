@@ -1,5 +1,5 @@
 -- Rows of counts are raised, until they have all that two visits need.
-use Rattle.std.proofs.Common.{◌≡◌, ◌≢◌, ℕ, ◌+◌, ◌<◌, ◌≤◌, List, length, slice_index, set, sum_by, Some, slice_get, refl, ap, sym, ◌∙◌, subst, arith, inl, inr, get_or-set_same, get_or-set_other}
+use Rattle.std.proofs.Common.{◌≡◌, ◌≢◌, ℕ, ◌+◌, ◌<◌, ◌≤◌, List, length, slice_index, set, Some, slice_get, refl, ap, sym, ◌∙◌, subst, arith, inl, inr, get_or-set_same, get_or-set_other}
 use Rattle.std.specs.Prelude.{Contains, ◌⊎◌}
 use Rattle.std.proofs.lemmas.Bool.{cases_eq, cases_lt}
 use Rattle.std.proofs.lemmas.List.Sums.{sum_by-le-sum_by}
@@ -17,7 +17,7 @@ use Rattle.fleet_model.proofs.Reaching.{own_reach}
 use Rattle.fleet_verify.proofs.RunEnds.{sum_rises, sum_of_moves}
 use Rattle.fleet_verify.proofs.Needs.{needed_action, needed_on}
 use Rattle.fleet_model.specs.Breaking.{IsNeededFor}
-use Rattle.fleet_chains.specs.Needed.{IsRaised, AreNeeded}
+use Rattle.fleet_chains.specs.Needed.{IsRaised, IsLooking, looked_sum, AreNeeded}
 
 -- ---- one action's awaits
 
@@ -75,17 +75,14 @@ raised_all p i n old new k h l = record {
   only = h.only;
 }
 
--- ---- what is looked at
+-- an action that was known, or is awaited, is one of the program
+pub raised_moves : (p : Program) → AreInRange p → (i n : ℕ) (old new : List ℕ) → IsRaised p i n old new → ((j : ℕ) → slice_index old j ≤ moves p j) → (j : ℕ) → slice_index new j ≤ moves p j
+raised_moves p range i n old new r few j = elim (r.only j) [
+  | inl e ↦ omega (arith, e, few j)
+  | inr (w, k, e, g) ↦ omega (arith, (range i n w k).last, ap (moves p) e, g)
+]
 
--- of each agent the first actions that are known as needed, and of these the first that were looked at: all that they await is known
-pub record IsLooking (p : Program) (v w : Visit) (needed looked : List ℕ) : Type 0 where
-  pub wide : length needed ≡ length p
-  pub long : length looked ≡ length p
-  pub first : v.position ≤ slice_index needed v.agent
-  pub second : w.position ≤ slice_index needed w.agent
-  pub sound : (j c : ℕ) → 1 ≤ c → c ≤ slice_index needed j → IsNeededFor p v w (record { agent = j; number = c })
-  pub within : (j : ℕ) → slice_index looked j ≤ slice_index needed j
-  pub closed : (j c : ℕ) (a : Await) → 1 ≤ c → c ≤ slice_index looked j → Contains (awaits_of p j c) a → a.count ≤ slice_index needed a.agent
+-- ---- what is looked at
 
 -- an action that is known as needed is one of the program
 pub looking_moves : (p : Program) (v w : Visit) (needed looked : List ℕ) → IsLooking p v w needed looked → (j : ℕ) → slice_index needed j ≤ moves p j
@@ -188,9 +185,6 @@ looking_end p v w needed looked h all i c = (
     into (inr r) = (Reaches-kept p (λ a. IsAction p a × (a.number ≤ slice_index needed a.agent)) on (record { agent = i; number = c }) (entering w) (Reaches-last p (record { agent = i; number = c }) (entering w) r, h.second) r).1
 
 -- ---- how many were looked at
-
-pub looked_sum : Program → List ℕ → ℕ
-looked_sum p looked = sum_by (slice_index looked) (indices (length p))
 
 pub looked_rises : (p : Program) (looked : List ℕ) (j n : ℕ) → j < length p → j < length looked → n ≡ slice_index looked j + 1 → looked_sum p looked + 1 ≤ looked_sum p (set looked j n)
 unfolding looked_sum

@@ -1,8 +1,9 @@
 -- The actions that two visits need through chains, as a count for each agent.
-use Rattle.std.specs.Prelude.{◌≡◌, ℕ, ◌≤◌, List, slice_index, ◌⊎◌, ◌↔◌, Contains}
+use Rattle.std.specs.Prelude.{◌≡◌, ℕ, ◌≤◌, List, length, slice_index, sum_by, ◌⊎◌, ◌↔◌, Contains}
 use Rattle.fleet_model.specs.declared.program.Await.{Await}
 use Rattle.fleet_model.specs.declared.program.Visit.{Visit}
 use Rattle.fleet_model.specs.Program.{Program, awaits_of}
+use Rattle.fleet_model.specs.Machine.{indices}
 use Rattle.fleet_model.specs.Breaking.{IsNeededFor}
 
 -- of each agent so many actions are needed, its first ones
@@ -14,3 +15,18 @@ pub record IsRaised (p : Program) (i n : ℕ) (old new : List ℕ) : Type 0 wher
   pub keeps : (j : ℕ) → slice_index old j ≤ slice_index new j
   pub covers : (w : Await) → Contains (awaits_of p i n) w → w.count ≤ slice_index new w.agent
   pub only : (j : ℕ) → (slice_index new j ≡ slice_index old j) ⊎ ((w : Await) × Contains (awaits_of p i n) w × (w.agent ≡ j) × (w.count ≡ slice_index new j))
+
+-- of each agent the first actions that are known as needed, and of these the first that were looked at: all that they
+-- await is known
+pub record IsLooking (p : Program) (v w : Visit) (needed looked : List ℕ) : Type 0 where
+  pub wide : length needed ≡ length p
+  pub long : length looked ≡ length p
+  pub first : v.position ≤ slice_index needed v.agent
+  pub second : w.position ≤ slice_index needed w.agent
+  pub sound : (j c : ℕ) → 1 ≤ c → c ≤ slice_index needed j → IsNeededFor p v w (record { agent = j; number = c })
+  pub within : (j : ℕ) → slice_index looked j ≤ slice_index needed j
+  pub closed : (j c : ℕ) (a : Await) → 1 ≤ c → c ≤ slice_index looked j → Contains (awaits_of p j c) a → a.count ≤ slice_index needed a.agent
+
+-- how many actions of all agents were looked at
+unfoldable pub looked_sum : Program → List ℕ → ℕ
+looked_sum p looked = sum_by (slice_index looked) (indices (length p))

@@ -1,9 +1,10 @@
 //! Which actions two visits need through chains.
 
-ghost use Rattle.std.specs.Prelude.{◌≡◌, ◌≢◌, ◌<◌, ◌≤◌, ℕ, length, slice_index, IfOk};
+ghost use Rattle.std.specs.Prelude.{◌≡◌, ◌≢◌, ◌<◌, ◌≤◌, ℕ, IsTrue, IsFalse, length, slice_index, IfOk};
 ghost use Rattle.fleet_model.specs.Program.{moves, IsWellFormed, AreInRange};
+ghost use Rattle.fleet_model.specs.declared.program.Visit.{Visit};
 ghost use Rattle.fleet_model.specs.Visit.{IsVisit};
-ghost use Rattle.fleet_chains.specs.Needed.{IsRaised, AreNeeded};
+ghost use Rattle.fleet_chains.specs.Needed.{IsRaised, IsLooking, looked_sum, AreNeeded};
 
 use fleet_model::{OutOfMemory, ProgramView, Visit, total_moves};
 use std::alloc::Global;
@@ -55,26 +56,43 @@ fn close<P: ProgramView>(
     requires none_looked { (j : ℕ) → slice_index looked.old j ≡ 0 }
     ensures { AreNeeded (P.program program.now) first second (slice_index needed.new) }
 {
-    let agents = program.agents();
     needed[first.agent as usize] = first.position;
     needed[second.agent as usize] = second.position;
+    // The contract of this call says that the program is well-formed, which bounds its moves.
+    let _agents = program.agents();
     let most = total_moves(program);
     for _round in 0..most + 1 {
-        let mut some = false;
-        for j in 0..agents {
-            let i = j as usize;
-            let seen = looked[i];
-            if seen < needed[i] {
-                raise(program, j, seen + 1, needed);
-                looked[i] = seen + 1;
-                some = true;
-            }
-        }
-        if !some {
+        if !look_at_next(program, needed, looked) {
             return;
         }
     }
     unreachable!()
+}
+
+/// Looks at what the next needed action of each agent awaits. Answers whether an agent had one.
+fn look_at_next<P: ProgramView>(program: &P, needed: &mut [u32], looked: &mut [u32]) -> bool
+    requires range { AreInRange (P.program program.now) }
+    requires wide { length needed.old ≡ length (P.program program.now) }
+    requires long { length looked.old ≡ length (P.program program.now) }
+    requires actions { (j : ℕ) → slice_index needed.old j ≤ moves (P.program program.now) j }
+    ensures looking { (v w : Visit) → IsLooking (P.program program.now) v w needed.old looked.old
+        → IsLooking (P.program program.now) v w needed.new looked.new }
+    ensures some { IsTrue result → looked_sum (P.program program.now) looked.old
+        < looked_sum (P.program program.now) looked.new }
+    ensures none { IsFalse result → (j : ℕ) → j < length (P.program program.now)
+        → slice_index needed.new j ≤ slice_index looked.new j }
+{
+    let mut some = false;
+    for j in 0..program.agents() {
+        let i = j as usize;
+        let seen = looked[i];
+        if seen < needed[i] {
+            raise(program, j, seen + 1, needed);
+            looked[i] = seen + 1;
+            some = true;
+        }
+    }
+    some
 }
 
 /// Raises the counts to those that an action awaits.

@@ -15,7 +15,7 @@ use Rattle.fleet_verify.specs.declared.visit_order.PlacedVisit.{PlacedVisit}
 use Rattle.fleet_verify.specs.declared.fault.VerifyFault.{VerifyFault}
 use Rattle.fleet_verify.specs.declared.fault.VerifyFault.TheVariants.{Unordered}
 use Rattle.fleet_verify.specs.declared.open_pairs.OrderViolation.{OrderViolation}
-use Rattle.fleet_verify.specs.Order.{visits_of, IsListJudged, IsVisitPlaced, AreAllPlaced, AreViolations}
+use Rattle.fleet_verify.specs.Order.{visits_of, IsListJudged, IsVisitPlaced, IsPathOrderly, AreAllPlaced, AreViolations}
 use Rattle.fleet_model.proofs.Places.{is_same_place-true}
 use Rattle.fleet_model.proofs.Visits.{IsIn, is_in}
 use Rattle.fleet_verify.specs.Faults.{IsFirstBreak, HasRanges, IsFault, IsSooner, IsOrderlyAt}
@@ -35,14 +35,11 @@ judged_more p agent n c h e t = record {
   here = λ m l. elim (cases_eq m n) [ inl g ↦ subst (InTurn p) (e ∙ ap (path p agent) (sym g)) t | inr ne ↦ h.here m (omega arith) ];
 }
 
-pub judged_agent : (p : Program) (agent n : ℕ) → AreJudged p agent n → moves p agent < n → AreJudged p (agent + 1) 0
-judged_agent p agent n h l = record {
-  before = λ i m k j. elim (cases_eq i agent) [
-    | inl e ↦ subst (λ (a : ℕ). InTurn p (path p a m)) (sym e) (h.here m (let f : moves p i ≡ moves p agent = ap (moves p) e in omega arith))
-    | inr ne ↦ h.before i m (omega arith) j
-  ];
-  here = λ m k. absurd (omega arith);
-}
+pub judged_begins : (p : Program) (agent : ℕ) → ((i : ℕ) → i < agent → IsPathOrderly ComesAfter p i) → AreJudged p agent 0
+judged_begins p agent h = record { before = λ i m k l. h i k m l; here = λ m k. absurd (omega arith) }
+
+pub judged_path : (p : Program) (agent n : ℕ) → AreJudged p agent n → moves p agent < n → IsPathOrderly ComesAfter p agent
+judged_path p agent n h l m k = h.here m (omega arith)
 
 pub found_fault : (passable : Place → Bool) (tasks : List Task) (p : Program) (stays : List PlacedVisit) (agent n : ℕ) (c : Cell) → HasRanges passable tasks p → AreAllPlaced p stays → agent < length p → n ≤ moves p agent
     → place_of c ≡ path p agent n → AreJudged p agent n → (v w : Visit) → IsFirstBreak (ComesAfter p) (visits_of (place_of c) stays) v w → IsFault passable tasks p (Unordered c v w)
@@ -69,14 +66,14 @@ found_fault passable tasks p stays agent n c right all a m e h v w broken = (
         turn (inl l) = h.before u.agent u.position l is.position
         turn (inr (g, l)) = subst (λ (i : ℕ). InTurn p (path p i u.position)) (sym g) (h.here u.position (omega (arith, l, begun.1.within)))
 
-pub all_in_turn : (p : Program) (stays : List PlacedVisit) (agent : ℕ) → AreAllPlaced p stays → AreJudged p agent 0 → length p ≤ agent → IsOrderly ComesAfter p
+pub all_in_turn : (p : Program) (stays : List PlacedVisit) (agent : ℕ) → AreAllPlaced p stays → ((i : ℕ) → i < agent → IsPathOrderly ComesAfter p i) → length p ≤ agent → IsOrderly ComesAfter p
 all_in_turn p stays agent all h l q = go (visits_of q stays) refl
   where
     go : (vs : List Visit) → visits_of q stays ≡ vs → InTurn p q
     go [] e = (visits_of q stays, (all.sorted q).lists, subst (Adjacent (ComesAfter p)) (sym e) tt)
     go (v ∷ vs) e =
         let is : IsVisitOf p q v = subst (λ (xs : List Visit). All (IsVisitOf p q) xs) e ((all.sorted q).lists.only) 0 v (omega arith) in
-        subst (InTurn p) is.place (h.before v.agent v.position (omega (arith, is.agent)) is.position)
+        subst (InTurn p) is.place (h v.agent (omega (arith, is.agent)) v.position is.position)
 
 -- the start of an agent
 pub starts_on : (p : Program) (agent : ℕ) (c : Cell) → c ≡ Rattle.fleet_model.specs.Program.start_of p agent → place_of c ≡ path p agent 0

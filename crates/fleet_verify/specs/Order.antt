@@ -1,5 +1,5 @@
 -- The visits of a place among all visits in their order, and the first neighbours that break a rule.
-use Rattle.std.specs.Prelude.{◌≡◌, ℕ, ◌+◌, ◌*◌, ◌<◌, nat_eq, List, map, slice_get, filter, Option, Some, None, All, Contains, ◌⊎◌, [], ◌∷◌, ◌++◌}
+use Rattle.std.specs.Prelude.{◌≡◌, ℕ, ◌+◌, ◌*◌, ◌<◌, ◌≤◌, nat_eq, List, map, slice_get, filter, Option, Some, None, All, Contains, ◌⊎◌, [], ◌∷◌, ◌++◌}
 use Rattle.std.specs.List.{AllPairs}
 use Rattle.fleet_model.specs.declared.limits.TheConstants.{MAX_COORDINATE}
 use Rattle.fleet_model.specs.declared.geometry.Cell.{Cell}
@@ -7,9 +7,9 @@ use Rattle.fleet_model.specs.declared.geometry.Place.{Place}
 use Rattle.fleet_model.specs.declared.program.ActionId.{ActionId}
 use Rattle.fleet_model.specs.declared.program.Visit.{Visit}
 use Rattle.fleet_model.specs.Geometry.{place_of, is_same_place}
-use Rattle.fleet_model.specs.Program.{Program, path, IsCell}
+use Rattle.fleet_model.specs.Program.{Program, moves, path, IsCell}
 use Rattle.fleet_model.specs.Visit.{is_entry, IsVisit, Adjacent, ComesAfterByAwait, ComesAfter}
-use Rattle.fleet_verify.specs.Faults.{IsFirstBreak}
+use Rattle.fleet_verify.specs.Faults.{IsOrderlyAt, IsFirstBreak}
 use Rattle.fleet_verify.specs.Listing.{AreLevels, IsBefore, IsSortedListing}
 use Rattle.fleet_verify.specs.declared.open_pairs.OrderViolation.{OrderViolation}
 use Rattle.fleet_verify.specs.declared.visit_order.OpenPair.{OpenPair}
@@ -117,3 +117,7 @@ pub record AreAllViolations (p : Program) (found : Cell → Option OrderViolatio
   pub all : AreAllPlaced p placed
   pub each : All (IsVisitPlaced p) placed
   pub violations : AreViolations p placed found
+
+-- the visits of each place on the agent's path can be listed so that each comes after the one before
+abbrev pub IsPathOrderly : (Program → Visit → Visit → Type 0) → Program → ℕ → Type 0
+IsPathOrderly After p i = (n : ℕ) → n ≤ moves p i → IsOrderlyAt After p (path p i n)

@@ -1,6 +1,6 @@
 //! Whether the visits of each cell come one after another.
 
-ghost use Rattle.std.specs.Prelude.{◌≡◌, ◌<◌, nat_eq, Some, None, OnOk, IfErr, []};
+ghost use Rattle.std.specs.Prelude.{◌≡◌, ◌<◌, ℕ, nat_eq, length, Some, None, OnOk, IfErr, []};
 ghost use Rattle.indexmap.specs.IndexMap.{get};
 ghost use Rattle.fleet_model.specs.declared.geometry.Cell.{Cell};
 ghost use Rattle.fleet_model.specs.Machine.{IsFinish};
@@ -9,7 +9,7 @@ ghost use Rattle.fleet_model.specs.Visit.{ComesAfter, IsOrderly};
 ghost use Rattle.fleet_grid.specs.Ground.{is_passable};
 ghost use Rattle.fleet_verify.specs.declared.open_pairs.OrderViolation.{OrderViolation};
 ghost use Rattle.fleet_verify.specs.declared.fault.VerifyFault.TheVariants.{Unordered};
-ghost use Rattle.fleet_verify.specs.Order.{number_of, AreAllAdded, AreAllViolations};
+ghost use Rattle.fleet_verify.specs.Order.{number_of, AreAllAdded, AreAllViolations, IsPathOrderly};
 ghost use Rattle.fleet_verify.specs.Faults.{HasRanges, IsFault};
 
 use crate::fault::VerifyFault;
@@ -66,12 +66,35 @@ fn check_cells<P: ProgramView>(
         (P.program program.now) f) }
 {
     for agent in 0..program.agents() {
-        let mut cell = program.start(agent);
+        check_path(program, grid, instance, agent, violations)?;
+    }
+    Ok(())
+}
+
+/// Whether no cell on the agent's path has neighbouring visits that break the rule, where none on the paths of the agents
+/// before it has. The cells are looked at by position.
+#[inline]
+fn check_path<P: ProgramView>(
+    program: &P,
+    grid: &Grid,
+    instance: &Instance,
+    agent: u16,
+    violations: &IndexMap<u32, OrderViolation>,
+) -> Result<(), VerifyFault>
+    requires before { HasRanges (is_passable grid.now) instance.now (P.program program.now) }
+    requires agent { agent < length (P.program program.now) }
+    requires violations { AreAllViolations (P.program program.now)
+        (λ (c : Cell). get nat_eq violations.now (number_of c)) }
+    requires sooner { (i : ℕ) → i < agent → IsPathOrderly ComesAfter (P.program program.now) i }
+    ensures ok { OnOk result (IsPathOrderly ComesAfter (P.program program.now) agent) }
+    ensures err { IfErr result (λ f. IsFault (is_passable grid.now) instance.now
+        (P.program program.now) f) }
+{
+    let mut cell = program.start(agent);
+    check_cell(violations, cell)?;
+    for finished in 0..program.moves(agent) {
+        cell = cell_after(grid, cell, program.step(agent, finished + 1)).unwrap();
         check_cell(violations, cell)?;
-        for finished in 0..program.moves(agent) {
-            cell = cell_after(grid, cell, program.step(agent, finished + 1)).unwrap();
-            check_cell(violations, cell)?;
-        }
     }
     Ok(())
 }

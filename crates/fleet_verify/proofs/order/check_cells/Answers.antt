@@ -1,58 +1,12 @@
-use Rattle.std.proofs.Common.{◌≡◌, ◌+◌, arith}
-use Rattle.std.proofs.lemmas.Result.{err_from_is_err_and}
-use Rattle.std.specs.Prelude.{nat_eq}
-use Rattle.fleet_model.specs.Geometry.{place_of}
-use Rattle.fleet_verify.specs.Order.{number_of}
-use Rattle.fleet_model.specs.Program.{path}
-use Rattle.fleet_grid.specs.Ground.{is_passable}
-use Rattle.indexmap.specs.IndexMap.{get}
-use Rattle.fleet_verify.proofs.Begun.{next_cell, next_there}
-use Rattle.fleet_verify.proofs.Judged.{broken_fault, unbroken, starts_on, judged_first, judged_more, judged_agent, all_in_turn}
+use Rattle.std.proofs.Common.{below_more, arith}
+use Rattle.fleet_model.specs.Visit.{ComesAfter}
+use Rattle.fleet_verify.specs.Order.{IsPathOrderly}
+use Rattle.fleet_verify.proofs.Judged.{all_in_turn}
 use Rattle.fleet_verify.proofs.order.check_cells.Goals as goal
-
-pub returns-in_err-check_cell-clause-err : goal.returns-in_err-check_cell-clause-err
-returns-in_err-check_cell-clause-err g c =
-    let e = err_from_is_err_and c.from_residual.result c.from_residual.ensures.1 in
-    rw (e.1, e.2)
-    (broken_fault (is_passable c.args.grid.now) c.args.instance.now (g.P.ProgramView.program c.args.program.now) c.requires.violations.placed (λ d. get nat_eq c.args.violations.now (number_of d)) c.requires.violations.violations c.loop-agent.agent 0 c.start-cell.result c.in_err-check_cell.ensures.cell c.requires.before c.requires.violations.all
-    (omega (arith, c.agents-agent-end.ensures.count)) (omega arith) (starts_on (g.P.ProgramView.program c.args.program.now) c.loop-agent.agent c.start-cell.result c.start-cell.ensures) c.loop-agent.invariant
-    c.in_err-check_cell.field-0.0 c.in_err-check_cell.ensures.err)
-
-pub unwrap-cell-requires : goal.unwrap-cell-requires
-unwrap-cell-requires g c =
-    next_there (is_passable c.args.grid.now) (g.P.ProgramView.program c.args.program.now) c.loop-agent.agent c.loop-finished.finished c.loop-finished.cell c.step.result c.cell_after.result
-    c.requires.before.before.steps (omega (arith, c.agents-agent-end.ensures.count)) (omega (arith, c.moves-finished-end.ensures)) c.loop-finished.invariant.here c.step.ensures c.cell_after.ensures.none
-
-pub returns-in_err-check_cell-2-clause-err : goal.returns-in_err-check_cell-2-clause-err
-returns-in_err-check_cell-2-clause-err g c =
-    let e = err_from_is_err_and c.from_residual-in_err-check_cell-2.result c.from_residual-in_err-check_cell-2.ensures.1 in
-    rw (e.1, e.2)
-    (broken_fault (is_passable c.args.grid.now) c.args.instance.now (g.P.ProgramView.program c.args.program.now) c.requires.violations.placed (λ d. get nat_eq c.args.violations.now (number_of d)) c.requires.violations.violations c.loop-agent.agent (c.loop-finished.finished + 1) c.unwrap-cell.result c.in_err-check_cell-2.ensures.cell c.requires.before c.requires.violations.all
-    (omega (arith, c.agents-agent-end.ensures.count)) (omega (arith, c.moves-finished-end.ensures)) (next_cell (is_passable c.args.grid.now) (g.P.ProgramView.program c.args.program.now) c.loop-agent.agent c.loop-finished.finished c.loop-finished.cell c.unwrap-cell.result c.step.result c.cell_after.result
-    c.loop-finished.invariant.here c.step.ensures c.unwrap-cell.ensures c.cell_after.ensures.some) c.loop-finished.invariant.judged
-    c.in_err-check_cell-2.field-0.0 c.in_err-check_cell-2.ensures.err)
-
-pub loop-finished-init : goal.loop-finished-init
-loop-finished-init g c =
-    let p = g.P.ProgramView.program c.args.program.now in
-    record {
-      here = starts_on p c.loop-agent.agent c.start-cell.result c.start-cell.ensures;
-      judged = judged_first p c.loop-agent.agent c.start-cell.result c.loop-agent.invariant c.start-cell.ensures (unbroken p c.requires.violations.placed (λ d. get nat_eq c.args.violations.now (number_of d)) c.requires.violations.all c.requires.violations.violations c.start-cell.result c.in_ok-check_cell.ensures.cell c.in_ok-check_cell.ensures.ok);
-    }
-
-pub loop-finished-preserved : goal.loop-finished-preserved
-loop-finished-preserved g c =
-    let p = g.P.ProgramView.program c.args.program.now in
-    let here : place_of c.unwrap-cell.result ≡ path p c.loop-agent.agent (c.loop-finished.finished + 1) = (next_cell (is_passable c.args.grid.now) (g.P.ProgramView.program c.args.program.now) c.loop-agent.agent c.loop-finished.finished c.loop-finished.cell c.unwrap-cell.result c.step.result c.cell_after.result
-    c.loop-finished.invariant.here c.step.ensures c.unwrap-cell.ensures c.cell_after.ensures.some) in
-    record {
-      here = here;
-      judged = judged_more p c.loop-agent.agent (c.loop-finished.finished + 1) c.unwrap-cell.result c.loop-finished.invariant.judged here (unbroken p c.requires.violations.placed (λ d. get nat_eq c.args.violations.now (number_of d)) c.requires.violations.all c.requires.violations.violations c.unwrap-cell.result c.in_ok-check_cell-2.ensures.cell c.in_ok-check_cell-2.ensures.ok);
-    }
 
 pub loop-agent-preserved : goal.loop-agent-preserved
 loop-agent-preserved g c =
-    judged_agent (g.P.ProgramView.program c.args.program.now) c.loop-agent.agent (c.loop-finished.finished + 1) c.loop-finished.invariant.judged (omega (arith, c.moves-finished-end.ensures))
+    below_more (λ i. IsPathOrderly ComesAfter (g.P.ProgramView.program c.args.program.now) i) c.loop-agent.agent c.loop-agent.invariant c.in_ok-check_path.ensures.ok
 
 pub returns-clause-ok : goal.returns-clause-ok
 returns-clause-ok g c =

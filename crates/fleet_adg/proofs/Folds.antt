@@ -17,7 +17,8 @@ use Rattle.fleet_adg.specs.Compiled.{changes_in, leaves, await_of, last_below, l
 use Rattle.fleet_adg.specs.Leavings.{with_leaving, leavings_after}
 use Rattle.fleet_adg.specs.Sweep.{under_way, actions_by, all_actions_by}
 use Rattle.fleet_plan.specs.UnderWay.{is_under_way}
-use Rattle.fleet_adg.proofs.Basics.{range_push, last_below-zero, last_below-here, last_below-before}
+use Rattle.fleet_plan.proofs.RowLaws.{range_push}
+use Rattle.fleet_adg.proofs.Basics.{last_below-zero, last_below-here, last_below-before}
 use Rattle.fleet_adg.proofs.Moves.{changes_in-ne}
 use Rattle.fleet_adg.proofs.Entry.{leaves-parts, last_leaving_by-agent}
 use Rattle.fleet_adg.proofs.Pass.{last_leaving-next, last_leaving-same, last_leaving_by-next, last_leaving_by-same, actions-next, actions-same}

@@ -12,6 +12,7 @@ use Rattle.fleet_model.specs.declared.deps.Deps.{Deps}
 use Rattle.fleet_model.specs.declared.limits.TheConstants.{MAX_HORIZON, MAX_AWAIT, MAX_MOVES_IN_ALL}
 use Rattle.fleet_model.specs.Program.{origin, awaits_of, total_moves, IsCell, AreAwaits, IsWellFormed}
 use Rattle.fleet_model.specs.Machine.{indices}
+use Rattle.fleet_model.proofs.OnePass.{no_awaits}
 use Rattle.fleet_plan.specs.Plan.{Plan, cell_at, cell_of, steps, IsPath, IsWithinLimits}
 use Rattle.fleet_adg.specs.Compiled.{changes, moves_by, entry_awaits, action_in, agent_program, compiled, moves_in_all}
 use Rattle.fleet_adg.proofs.Moves.{changes_in-end, moves_by-yes, moves_by-le, moves_by-mono}
@@ -55,9 +56,6 @@ are_awaits plan deps i x few =
       counts = All-weaker (IsAwaitOf plan i x) (λ w. 1 ≤ w.count) (λ w h. omega (arith, h.step.4)) ws sound;
       few = All-weaker (IsAwaitOf plan i x) (λ w. w.count ≤ MAX_AWAIT) (λ w h. omega (arith, count-le plan i x w h, moves_by-le plan w.agent (steps plan))) ws sound;
     }
-
-no_awaits : (n i : ℕ) → AreAwaits n i []
-no_awaits n i = record { rising = λ k l. absurd (omega arith); agents = λ k d l. absurd (omega arith); others = λ k d l. absurd (omega arith); counts = λ k d l. absurd (omega arith); few = λ k d l. absurd (omega arith) }
 
 origin_is_cell : IsCell origin
 origin_is_cell = record { x = omega arith; y = omega arith }

@@ -11,7 +11,7 @@ use Rattle.fleet_model.specs.Geometry.{is_same_cell, place_of}
 use Rattle.fleet_model.proofs.Cells.{is_same_cell-true, is_same_cell-eq, is_same_cell-ne}
 use Rattle.fleet_plan.specs.Plan.{Plan, cell_at, cell_of, last_cell, steps, IsConflictFree}
 use Rattle.fleet_adg.specs.Compiled.{changes_in, changes, moves_by}
-use Rattle.fleet_adg.proofs.Basics.{range_push}
+use Rattle.fleet_plan.proofs.RowLaws.{range_push}
 
 -- ---- whether an agent changes its cell in a step
 

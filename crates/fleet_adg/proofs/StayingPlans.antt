@@ -1,7 +1,7 @@
 -- The programs of plans, in which each agent stays so often after its moves.
-use Rattle.std.proofs.Common.{◌≡◌, ℕ, zero, suc, ◌+◌, ◌*◌, ◌<◌, ◌≤◌, Bool, true, false, ◌&&◌, cond, leb, List, length, Result, Ok, Err, IfOk, refl, sym, ap, subst, ◌∙◌, arith}
+use Rattle.std.proofs.Common.{◌≡◌, ℕ, zero, suc, ◌+◌, ◌*◌, ◌<◌, ◌≤◌, Bool, true, false, cond, leb, List, length, Result, Ok, Err, IfOk, refl, sym, ap, subst, ◌∙◌, arith}
 use Rattle.std.specs.List.{list_all, range_with_len}
-use Rattle.std.proofs.lemmas.Bool.{leb-true, le-leb}
+use Rattle.std.proofs.lemmas.Bool.{leb-true, le-leb, and_parts}
 use Rattle.fleet_model.specs.declared.geometry.Place.{Place}
 use Rattle.fleet_model.specs.declared.task.Task.{Task}
 use Rattle.fleet_model.specs.declared.deps.Deps.{Deps}
@@ -41,16 +41,8 @@ each_few plan stays h = list_all_below (few_of plan stays) 0 (length plan) (λ k
 
 all_below : (f : ℕ → Bool) (m n : ℕ) → list_all f (range_with_len m n) ≡ true → (k : ℕ) → k < n → f (m + k) ≡ true
 all_below f m zero h k lt = absurd (omega arith)
-all_below f m (suc n) h zero lt = let e : m + 0 ≡ m = omega arith in ap f e ∙ first_true (f m) (list_all f (range_with_len (m + 1) n)) h
-  where
-    first_true : (a b : Bool) → (a && b) ≡ true → a ≡ true
-    first_true true b h = refl
-    first_true false b h = absurd cc
-all_below f m (suc n) h (suc k) lt = let s : m + suc k ≡ m + 1 + k = omega arith in ap f s ∙ all_below f (m + 1) n (second_true (f m) (list_all f (range_with_len (m + 1) n)) h) k (omega arith)
-  where
-    second_true : (a b : Bool) → (a && b) ≡ true → b ≡ true
-    second_true true b h = h
-    second_true false b h = absurd cc
+all_below f m (suc n) h zero lt = let e : m + 0 ≡ m = omega arith in ap f e ∙ (and_parts (f m) (list_all f (range_with_len (m + 1) n)) h).0
+all_below f m (suc n) h (suc k) lt = let s : m + suc k ≡ m + 1 + k = omega arith in ap f s ∙ all_below f (m + 1) n ((and_parts (f m) (list_all f (range_with_len (m + 1) n)) h).1) k (omega arith)
 
 pub few_each : (plan : Plan) (stays : ℕ) → each_has_few plan stays ≡ true → (i : ℕ) → i < length plan → moves_by plan i (steps plan) + stays ≤ MAX_MOVES
 few_each plan stays h i lt =
@@ -65,13 +57,9 @@ some_too_long plan stays i lt over = go (each_has_few plan stays) refl
     go false e = e
     go true e = absurd (let few = few_each plan stays e i lt in omega (arith, few, over))
 
-both_few : (a b : Bool) → (a && b) ≡ true → (a ≡ true) × (b ≡ true)
-both_few true b h = (refl, h)
-both_few false b h = absurd cc
-
 pub staying-well_formed : (plan : Plan) (deps : Deps) (stays : ℕ) → IsWithinLimits plan → has_few_actions plan stays ≡ true → IsWellFormed (compiled_staying plan deps stays)
 staying-well_formed plan deps stays limits few =
-    let parts = both_few (each_has_few plan stays) (all_have_few plan stays) few in
+    let parts = and_parts (each_has_few plan stays) (all_have_few plan stays) few in
     let each = parts.0 in
     let all = parts.1 in
     let p = compiled plan deps in

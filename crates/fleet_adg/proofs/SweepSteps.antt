@@ -23,7 +23,7 @@ use Rattle.fleet_adg.specs.Compiled.{direction, last_below, entry_awaits, change
 use Rattle.fleet_adg.specs.Leavings.{row_of, kind_of, leavings_after, AreRowsApart, AreLeavingsAt}
 use Rattle.fleet_adg.specs.Sweep.{under_way, actions_by, all_actions_by, agent_from, IsOnMap}
 use Rattle.fleet_plan.specs.UnderWay.{is_under_way}
-use Rattle.fleet_adg.proofs.Basics.{range_push}
+use Rattle.fleet_plan.proofs.RowLaws.{range_push}
 use Rattle.fleet_adg.proofs.Moves.{moves_by-yes, moves_by-no, moves_by-le, steps-ge}
 use Rattle.fleet_adg.proofs.Entry.{leaves-parts, leaves-from}
 use Rattle.fleet_adg.proofs.Folds.{still, leaves-still, note_by, note_by-leaves, note_by-stays, leavings-next, add_by, add_by-changes, add_by-stays}
@@ -41,10 +41,6 @@ pub total_more : (f : ℕ → ℕ) (i m n : ℕ) → m ≡ sum_by f (indices i) 
 total_more f i m n e h =
     let z : 0 + i ≡ i = omega arith in
     rw add-one ((λ t. e t + h t) ∙ sym (sum_by_push f (range_with_len 0 i) i) ∙ ap (sum_by f) (sym (range_push 0 i ∙ ap (λ k. range_with_len 0 i ++ k ∷ []) z)))
-
-pub map-replicate : {X Y : Type 0} (f : X → Y) (n : ℕ) (x : X) → map f (replicate n x) ≡ replicate n (f x)
-map-replicate f zero x = refl
-map-replicate f (suc n) x = ap (λ zs. f x ∷ zs) (map-replicate f n x)
 
 moves_after : (plan : Plan) (i s n : ℕ) → length (get_or plan i []) - 1 ≤ s → moves_by plan i s ≡ moves_by plan i (s + n)
 moves_after plan i s zero h = ap (moves_by plan i) (let z : s ≡ s + 0 = omega arith in z)

@@ -1,28 +1,24 @@
 -- A program whose implied awaits are gone, made action by action.
-use Rattle.std.proofs.Common.{rules, ◌≡◌, ◌≢◌, ℕ, zero, suc, ◌+◌, ◌<◌, ◌≤◌, List, [], ◌∷◌, ◌++◌, length, get_or, map, take, refl, sym, ap, subst, ◌∙◌, arith, inl, inr, ◌⊎◌, add-one}
+use Rattle.std.proofs.Common.{◌≡◌, ◌≢◌, ℕ, zero, suc, ◌+◌, ◌<◌, ◌≤◌, List, [], ◌∷◌, ◌++◌, length, get_or, map, take, refl, sym, ap, subst, ◌∙◌, arith, inl, inr, ◌⊎◌, add-one}
 use Rattle.std.specs.Prelude.{slice_get, Option, Some, None, Contains, All, option_map, IsTrue}
 use Rattle.std.specs.Option.{option_map_or}
 use Rattle.std.specs.List.Sorted.{IsStrictlyIncreasing}
 use Rattle.std.proofs.lemmas.Bool.{cases_lt}
-use Rattle.std.proofs.lemmas.Option.{slice_get-map, slice_get-get_or, slice_get_within, slice_get_past, slice_get_cases, get_or_from_slice_get}
+use Rattle.std.proofs.lemmas.Option.{slice_get-map, slice_get-get_or, slice_get_within, slice_get_past, slice_get_cases, get_or_from_slice_get, same_Some, none-some}
 use Rattle.std.proofs.lemmas.List.{take_all, map-append, length-map, ext_get_or, get_or-map, length_push, get_or_push, get_or_append_left, get_or_default}
 use Rattle.std.proofs.lemmas.List.Elements.{All-push, Contains-push, Contains-push_cases, Contains-append_left}
 use Rattle.fleet_model.specs.declared.program.Await.{Await}
 use Rattle.fleet_model.specs.declared.geometry.Step.{Step}
 use Rattle.fleet_model.specs.declared.geometry.Step.TheVariants.{Dwell}
 use Rattle.fleet_model.specs.Geometry.{is_move}
-use Rattle.fleet_model.specs.Machine.{IsFinish}
-use Rattle.fleet_model.specs.Chain.{IsLongestChain}
 use Rattle.fleet_model.specs.declared.program.Action.{Action}
 use Rattle.fleet_model.specs.declared.program.ActionId.{ActionId}
 use Rattle.fleet_model.specs.declared.program.AgentProgram.{AgentProgram}
-use Rattle.fleet_model.specs.Program.{Program, actions_of, moves, step_of, awaits_of, total_moves, AreAwaits, AreInRange, IsCell, IsWellFormed, NeverStays}
+use Rattle.fleet_model.specs.Program.{Program, actions_of, moves, step_of, awaits_of, total_moves, AreAwaits, IsCell, IsWellFormed, NeverStays}
 use Rattle.fleet_model.proofs.Totals.{moves_more}
 use Rattle.fleet_model.specs.declared.limits.TheConstants.{MAX_AWAIT}
 use Rattle.fleet_settled.specs.Implied.{IsImplied}
 use Rattle.fleet_settled.proofs.AwaitOrder.{await_below}
-use Rattle.fleet_model.proofs.Reaching.{longest_is_one}
-use Rattle.fleet_verify.proofs.Arrive.{finish_exists, unheld_is_longest}
 use Rattle.fleet_chains.specs.Reduced.{IsThinned}
 use Rattle.fleet_chains.proofs.BreakingCounts.{push_rises}
 use Rattle.fleet_adg.specs.Thinned.{AreUnimplied, IsThinnedAction, AreThinnedActions, IsThinnedAgent, AreThinnedAgents}
@@ -48,9 +44,6 @@ none_yet p a = record {
 }
 
 module _ (p : Program) (formed : IsWellFormed p) (a : ActionId) (k : ℕ) (awaits : List Await) (h : AreUnimplied p a k awaits) (w : Await) (at : slice_get (awaits_of p a.agent a.number) k ≡ Some w) where
-  some_is : (x y : Await) → Some x ≡ Some y → x ≡ y
-  some_is x y e = search rules
-
   whole : AreAwaits (length p) a.agent (awaits_of p a.agent a.number)
   whole = formed.awaits a.agent a.number
 
@@ -78,7 +71,7 @@ module _ (p : Program) (formed : IsWellFormed p) (a : ActionId) (k : ℕ) (await
         | inl low ↦ Contains-append_left awaits (w ∷ []) v ((h.known v).1 (m, low, e, n))
         | inr high ↦
             let same : k ≡ m = omega arith in
-            subst (Contains (awaits ++ w ∷ [])) (some_is w v (sym at ∙ ap (slice_get (awaits_of p a.agent a.number)) same ∙ e)) (Contains-push awaits w)
+            subst (Contains (awaits ++ w ∷ [])) (same_Some w v (sym at ∙ ap (slice_get (awaits_of p a.agent a.number)) same ∙ e)) (Contains-push awaits w)
       ]),
     );
   }
@@ -105,7 +98,7 @@ module _ (p : Program) (formed : IsWellFormed p) (a : ActionId) (k : ℕ) (await
         | inl low ↦ (h.known v).1 (m, low, e, n)
         | inr high ↦
             let same : k ≡ m = omega arith in
-            absurd (n (subst (IsImplied p a) (some_is w v (sym at ∙ ap (slice_get (awaits_of p a.agent a.number)) same ∙ e)) is))
+            absurd (n (subst (IsImplied p a) (same_Some w v (sym at ∙ ap (slice_get (awaits_of p a.agent a.number)) same ∙ e)) is))
       ]),
     );
   }
@@ -190,11 +183,8 @@ module _ (p q : Program) (h : AreThinnedAgents p (length p) q) where
           none_there : slice_get (actions_of q i) k ≡ None → length (actions_of q i) ≤ k
           none_there e = elim ((slice_get_cases (actions_of q i) k).1) [
             | inr past ↦ past.0
-            | inl found ↦ absurd (none_some found.0 (sym e ∙ found.2))
+            | inl found ↦ absurd (none-some found.0 (sym e ∙ found.2))
           ]
-            where
-              none_some : (x : Action) → None ≡ Some x → ⊥
-              none_some x n = search rules
 
   -- the awaits of an action are those of the program that are not implied
   awaits_in : (i n : ℕ) → AreUnimplied p (record { agent = i; number = n }) (length (awaits_of p i n)) (awaits_of q i n)
@@ -264,11 +254,8 @@ module _ (p q : Program) (h : AreThinnedAgents p (length p) q) where
       let inside : m < length b.actions = omega (arith, t.actions.long, ap (λ (xs : List Action). length xs) actions) in
       let their : slice_get (actions_of p k) m ≡ Some (get_or b.actions m x) = ap (λ (xs : List Action). slice_get xs m) actions ∙ slice_get-get_or b.actions m x inside in
       let there : step_of p k (suc m) ≡ Some s.step = subst (λ (n : ℕ). step_of p k n ≡ Some s.step) (add-one m) step in
-      let same : (get_or b.actions m x).step ≡ s.step = some_step (get_or b.actions m x).step s.step (sym (ap (option_map (λ (y : Action). y.step)) their) ∙ there) in
+      let same : (get_or b.actions m x).step ≡ s.step = same_Some (get_or b.actions m x).step s.step (sym (ap (option_map (λ (y : Action). y.step)) their) ∙ there) in
       subst (λ (y : Step). IsTrue (is_move y)) same (none k d low m x inside)
-    where
-      some_step : (y z : Step) → Some y ≡ Some z → y ≡ z
-      some_step y z e = search rules
 
 -- ---- what the thinned program is
 
@@ -277,9 +264,3 @@ thinned_of p p' q v same h e = subst (λ (x : Program). IsThinned p x) (sym e) (
 
 pub moves_of : (p p' q v : Program) → p' ≡ p → AreThinnedAgents p' (length p') v → q ≡ v → NeverStays p → NeverStays q
 moves_of p p' q v same h e none = subst NeverStays (sym e) (thinned_moves p' v h (subst NeverStays (sym same) none))
-
--- without holds an accepted program finishes after as many ticks as its longest chain has actions
-pub chain_finish : (p : Program) → AreInRange p → (l : ℕ) → IsLongestChain p l → IsFinish p [] l
-chain_finish p range l h =
-    let f = finish_exists p [] range l h.most in
-    subst (IsFinish p []) (longest_is_one p f.0 l (unheld_is_longest p range f.0 f.1) h) f.1

@@ -4,6 +4,7 @@ use Rattle.std.specs.List.{filter, find, fold, list_any}
 use Rattle.std.specs.Option.{option_map_or}
 use Rattle.std.specs.Str.{bytes_eq}
 use Rattle.std.proofs.lemmas.Slice.Eq.{bytes_eq-Decides}
+use Rattle.std.proofs.lemmas.Bool.{not-false, or_right}
 use Rattle.clap.specs.Facts.{explicit_source}
 use Rattle.clap.specs.Kinds.{Kinds, check_kinds}
 use Rattle.clap.specs.Values.{read_as}
@@ -18,10 +19,6 @@ use Rattle.clap.proofs.WalkLemmas.{both}
 use Rattle.fleet_args.proofs.MatchedRows.{Among, EachFits, IsRuled, IsRowByRule, finished_each, found_among, least_values, no_fault}
 
 -- ---- lists
-
-or_right : (a b : Bool) → b ≡ true → (a || b) ≡ true
-or_right true b e = refl
-or_right false b e = e
 
 any_found : {X : Type 0} (p : X → Bool) (xs : List X) → list_any p xs ≡ true → (x : X) × (find p xs ≡ Some x)
 any_found p [] e = absurd (true≢false (sym e))
@@ -155,10 +152,6 @@ checked s names words has below none =
     let settled_on = no_fault (settle_fault s.rules s.args_override_self end) _ entered.1 in
     (entered.0, (no_fault (defaults_fault (settled s.rules end).rows s.rules) _ settled_on.1).1)
 
-not_false : (b : Bool) → not b ≡ false → b ≡ true
-not_false true e = refl
-not_false false e = absurd (true≢false e)
-
 filter_among : {X : Type 0} (p : X → Bool) (xs : List X) (x : X) → Among x (filter p xs) → Among x xs
 filter_among p [] x h = h
 filter_among p (y ∷ ys) x h = go (p y) h (filter_among p ys x)
@@ -182,7 +175,7 @@ module _ (s : Shape) (words : List Text) (none : level_fault s [] nothing_held w
       let ask = not_wanted _ _ _ (checked s [] words false [] none).1 in
       let all : list_any (λ x. x.required && not (is_given x.id (rows_after s.rules [] words))) s.rules ≡ false = rw negates at ask.1 in
       let missing = none_among _ s.rules a all among in
-      let given : is_given a.id (rows_after s.rules [] words) ≡ true = not_false (is_given a.id (rows_after s.rules [] words)) (rw required at missing) in
+      let given : is_given a.id (rows_after s.rules [] words) ≡ true = not-false (is_given a.id (rows_after s.rules [] words)) (rw required at missing) in
       let found = given_found a.id (rows_after s.rules [] words) given in
       found_value found.0 found.1
 

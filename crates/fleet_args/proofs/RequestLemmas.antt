@@ -1,5 +1,5 @@
 -- From the getters of the matches to what the words ask.
-use Rattle.std.proofs.Common.{◌≡◌, ◌≢◌, ◌<◌, ◌∙◌, ◌⊎◌, inl, inr, ◌&&◌, ◌||◌, not, ◌^◌, ℕ, Bool, true, false, List, [], ◌∷◌, Option, Some, None, Result, Ok, Err, length, nat_lt, option_map, refl, sym, ap, subst, true≢false, lt-ltb, ltb-true}
+use Rattle.std.proofs.Common.{◌≡◌, ◌≢◌, ◌<◌, ◌∙◌, ◌⊎◌, inl, inr, ◌&&◌, not, ◌^◌, ℕ, Bool, true, false, List, [], ◌∷◌, Option, Some, None, Result, Ok, Err, length, nat_lt, option_map, refl, sym, ap, subst, true≢false, lt-ltb, ltb-true}
 use Rattle.std.specs.List.{list_all, list_any}
 use Rattle.std.specs.Option.{option_map_or}
 use Rattle.std.specs.Result.{result_ok}
@@ -7,6 +7,7 @@ use Rattle.std.specs.Char.{digit_value}
 use Rattle.std.specs.Str.Parse.{AllDigits, IsNumeral, ParsesUnsigned, digits_value, without_leading_plus}
 use Rattle.std.specs.Prelude.{Box}
 use Rattle.std.specs.Box.{box_value}
+use Rattle.std.proofs.lemmas.Bool.{or_right}
 use Rattle.clap.specs.Words.{App, Row, Text, TriesOne, rows_of, first_of, one_of, first_value, one_text, fault_of, takes, is_simple, is_simple_and_free, IsAmong, HasMatchesOf, subcommand_of, subcommand_rows, subcommand_rows_of}
 use Rattle.clap.specs.declared.parser.ArgMatches.{ArgMatches}
 use Rattle.clap.specs.declared.parser.matches.SubCommand.{SubCommand}
@@ -121,10 +122,6 @@ among_any passes k (x ∷ xs) h t = elim h [
   | inl same ↦ rw (sym (ap passes same) ∙ t) refl
   | inr rest ↦ or_right (passes x) _ (among_any passes k xs rest t)
 ]
-  where
-    or_right : (a b : Bool) → b ≡ true → (a || b) ≡ true
-    or_right true b e = refl
-    or_right false b e = e
 
 refuses : (app : App) (words : List Text) (k : ErrorKind) → (takes app words ≡ true → k ≡ kind.OutOfMemory) → k ≢ kind.OutOfMemory → takes app words ≡ false
 refuses app words k passes other = go (takes app words) refl

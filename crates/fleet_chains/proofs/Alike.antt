@@ -15,6 +15,7 @@ use Rattle.fleet_model.specs.Program.{Program, origin, start_of, actions_of, mov
 use Rattle.fleet_model.specs.Machine.{Configuration, standing_at, count_at, next_action, finished_one, opening}
 use Rattle.fleet_model.specs.Chain.{IsAction}
 use Rattle.fleet_model.specs.Visit.{is_entry, stays_before, next_move, IsVisitOf, ListsVisits, leaving}
+use Rattle.fleet_model.proofs.Tick.{length_opening, standing_at_opening}
 use Rattle.fleet_chains.specs.Reduced.{DiffersInAwaits}
 
 pub same_moves : (p q : Program) → DiffersInAwaits p q → (i : ℕ) → moves q i ≡ moves p i
@@ -50,19 +51,11 @@ next_same p q h c i =
     finished_same (standing_at c i) (next_action q c i) (next_action p c i)
     (sym (slice_get-map (λ a. a.step) (actions_of q i) (count_at c i)) ∙ ap (λ l. slice_get l (count_at c i)) (h.steps i) ∙ slice_get-map (λ a. a.step) (actions_of p i) (count_at c i))
 
-opening_length : (p : Program) → length (opening p) ≡ length p
-opening_length p = length-map p (λ a. record { place = place_of a.start; count = 0 })
-
-opening_at : (p : Program) (i : ℕ) → standing_at (opening p) i ≡ record { place = place_of (start_of p i); count = 0 }
-opening_at [] i = refl
-opening_at (a ∷ p) zero = refl
-opening_at (a ∷ p) (suc i) = opening_at p i
-
 pub opening_same : (p q : Program) → DiffersInAwaits p q → opening q ≡ opening p
 opening_same p q h =
     ext_get_or (record { place = place_of origin; count = 0 }) (opening q) (opening p)
-    (opening_length q ∙ h.agents ∙ sym (opening_length p))
-    (λ i l. opening_at q i ∙ start i ∙ sym (opening_at p i))
+    (length_opening q ∙ h.agents ∙ sym (length_opening p))
+    (λ i l. standing_at_opening q i ∙ start i ∙ sym (standing_at_opening p i))
   where
     start : (i : ℕ) → ◌≡◌ {A = Standing} (record { place = place_of (start_of q i); count = 0 }) (record { place = place_of (start_of p i); count = 0 })
     start i = λ j. record { place = place_of (h.starts i j); count = 0 }

@@ -1,8 +1,8 @@
 -- Where the parts of a program stand in its bytes.
-use Rattle.std.proofs.Common.{◌≡◌, ℕ, zero, suc, ◌-◌, ◌+◌, ◌*◌, ◌≤◌, ◌<◌, List, [], ◌∷◌, ◌++◌, length, take, drop, slice_get, slice_index_or, Option, Some, None, Result, Ok, refl, sym, ap, subst, ◌∙◌, append_assoc, arith, inl, inr, All}
+use Rattle.std.proofs.Common.{◌≡◌, ℕ, zero, suc, ◌-◌, ◌+◌, ◌*◌, ◌≤◌, ◌<◌, List, [], ◌∷◌, ◌++◌, length, take, drop, slice_get, slice_index_or, Option, Some, Result, Ok, refl, sym, ap, subst, ◌∙◌, append_assoc, arith, inl, inr, All}
 use Rattle.std.specs.List.{flat_map}
 use Rattle.std.proofs.lemmas.List.{append-nil, length-append, drop-drop, length-drop, length-take-le, drop_at, get_or-drop}
-use Rattle.std.proofs.lemmas.Option.{slice_get_cases, slice_get_within, get_or_from_slice_get}
+use Rattle.std.proofs.lemmas.Option.{slice_get_cases, slice_get_within, get_or_from_slice_get, same_Some}
 use Rattle.std.proofs.lemmas.List.Elements.{All-get_or}
 use Rattle.std.specs.Option.{option_map_or}
 use Rattle.std.specs.Prelude.{sum_by}
@@ -43,15 +43,12 @@ stands_within bytes at text h some =
     let sum = length-append text h.0 in
     omega (arith, left, same, sum, some)
 
-some_is : {A : Type 0} {x y : A} → Some x ≡ Some y → x ≡ y
-some_is e = cc
-
 -- the piece for one of several items
 pub piece_stands : {A : Type 0} (f : A → List ℕ) (bytes : List ℕ) (at : ℕ) (xs : List A) (n : ℕ) (x : A) → StandsAt bytes at (flat_map f xs) → slice_get xs n ≡ Some x
     → StandsAt bytes (at + length (flat_map f (take n xs))) (f x)
 piece_stands f bytes at [] n x h e = absurd cc
 piece_stands f bytes at (y ∷ xs) zero x h e =
-    let same : y ≡ x = some_is e in
+    let same : y ≡ x = same_Some _ _ e in
     subst (λ z. StandsAt bytes (at + 0) (f z)) same (front_stands bytes (at + 0) (f y) (flat_map f xs) (rw add-zero h))
 piece_stands f bytes at (y ∷ xs) (suc n) x h e =
     let next = piece_stands f bytes (at + length (f y)) xs n x (back_stands bytes at (f y) (flat_map f xs) h) e in
@@ -63,7 +60,7 @@ pub one_more_piece : {A : Type 0} (f : A → List ℕ) (xs : List A) (n : ℕ) (
     → length (flat_map f (take (suc n) xs)) ≡ length (flat_map f (take n xs)) + length (f x)
 one_more_piece f [] n x e = absurd cc
 one_more_piece f (y ∷ xs) zero x e =
-    let same : y ≡ x = some_is e in
+    let same : y ≡ x = same_Some _ _ e in
     let sum = length-append (f y) [] in
     subst (λ z. length (f y ++ []) ≡ 0 + length (f z)) same (omega (arith, sum))
 one_more_piece f (y ∷ xs) (suc n) x e =
@@ -102,7 +99,7 @@ parts_length version at (a ∷ p) = ap suc (parts_length version (at + length (a
 
 part_found : (version : Version) (at : ℕ) (p : Program) (i : ℕ) (a : AgentProgram) → slice_get p i ≡ Some a → slice_get (parts_of version at p) i ≡ Some (part_of version (at + length (flat_map (agent version) (take i p))) a)
 part_found version at [] i a e = absurd cc
-part_found version at (b ∷ p) zero a e = let same : b ≡ a = some_is e in subst (λ z. Some (part_of version at b) ≡ Some (part_of version (at + 0) z)) same (rw add-zero refl)
+part_found version at (b ∷ p) zero a e = let same : b ≡ a = same_Some _ _ e in subst (λ z. Some (part_of version at b) ≡ Some (part_of version (at + 0) z)) same (rw add-zero refl)
 part_found version at (b ∷ p) (suc i) a e =
     let sum : at + length (agent version b) + length (flat_map (agent version) (take i p)) ≡ at + length (agent version b ++ flat_map (agent version) (take i p)) = let parts = length-append (agent version b) (flat_map (agent version) (take i p)) in omega (arith, parts) in
     subst (λ (k : ℕ). slice_get (parts_of version (at + length (agent version b)) p) i ≡ Some (part_of version k a)) sum (part_found version (at + length (agent version b)) p i a e)
@@ -285,9 +282,6 @@ module _ {version : Version} {bytes : List ℕ} {p : Program} {parts : List Part
   pub opcode_read : (i n at : ℕ) (s : Action) → i < length p → action_of p i n ≡ Some s → at ≡ end_of version p i n - 1 → StandsAt bytes (end_of version p i n - 1) (opcode s.step ∷ [])
       → step_at version (slice_index_or bytes at 0) ≡ Some s.step
   opcode_read i n at s lt e f there = ap (step_at version) (ap (λ (k : ℕ). slice_index_or bytes k 0) f ∙ byte_is bytes (end_of version p i n - 1) (opcode s.step) 0 there) ∙ step_again version s.step (is_spellable i n s lt e).step
-
-pub some_is_not_none : {A : Type 0} {x : A} → Some x ≡ None → ⊥
-some_is_not_none e = absurd cc
 
 -- an await's bytes
 pub await_long : (version : Version) (w : Await) → length (await version w) ≡ await_len version

@@ -7,6 +7,7 @@ use Rattle.std.proofs.lemmas.List.Sums.{sum_by-cons, sum_by-append}
 use Rattle.std.proofs.lemmas.List.Elements.{All-nil, All-cons, All-append}
 use Rattle.std.proofs.lemmas.List.Concat.{flat_map-cons}
 use Rattle.std.proofs.lemmas.Grind.{flat_map-append}
+use Rattle.std.proofs.lemmas.Option.{same_Some}
 use Rattle.fleet_model.specs.declared.program.Await.{Await}
 use Rattle.fleet_model.specs.declared.program.AgentProgram.{AgentProgram}
 use Rattle.fleet_model.specs.Program.{Program, IsAgent, total_moves}
@@ -17,15 +18,12 @@ use Rattle.fleet_code.specs.LoadFaults.{ReachesAgent, ReachesAction, ReachesOpco
 
 -- ---- the agents before
 
-some_is : (a b : AgentProgram) → Some a ≡ Some b → a ≡ b
-some_is a b e = cc
-
 abbrev pub EachIs : ℕ → ℕ → Program → Type 0
 EachIs n i p = (j : ℕ) (a : AgentProgram) → slice_get p j ≡ Some a → IsAgent n (i + j) a
 
 pub each_from : (n i total : ℕ) (p : Program) → AgentsFrom n i total p → EachIs n i p
 each_from n i total [] h j b e = absurd cc
-each_from n i total (a ∷ p) h zero b e = rw add-zero (subst (IsAgent n i) (some_is a b e) h.0)
+each_from n i total (a ∷ p) h zero b e = rw add-zero (subst (IsAgent n i) (same_Some a b e) h.0)
 each_from n i total (a ∷ p) h (suc j) b e =
     let same : i + suc j ≡ i + 1 + j = omega arith in
     rw same (each_from n (i + 1) (total + length a.actions) p h.2 j b e)
@@ -50,7 +48,7 @@ pub total_from : (n : ℕ) (p : Program) → AgentsFrom n 0 0 p → total_moves 
 total_from n p h = let all = total_within n 0 0 p h (omega arith) in omega (arith, all)
 
 each_more : (n i : ℕ) (p : Program) (a : AgentProgram) → EachIs n i p → IsAgent n (i + length p) a → EachIs n i (p ++ a ∷ [])
-each_more n i [] a h last zero b e = subst (IsAgent n (i + 0)) (some_is a b e) last
+each_more n i [] a h last zero b e = subst (IsAgent n (i + 0)) (same_Some a b e) last
 each_more n i [] a h last (suc j) b e = absurd cc
 each_more n i (c ∷ p) a h last zero b e = h zero b e
 each_more n i (c ∷ p) a h last (suc j) b e =

@@ -1,18 +1,15 @@
 -- The sizes of a map, whose numbers are read as no more than a bound.
-use Rattle.std.proofs.Common.{◌≡◌, ℕ, Bool, true, false, ◌&&◌, min, List, [], ◌∷◌, drop, Option, Some, None, Result, Ok, Err, refl, sym, ap, ◌∙◌, arith, ◌⊎◌, inl, inr}
+use Rattle.std.proofs.Common.{◌≡◌, ℕ, Bool, false, ◌&&◌, min, List, [], ◌∷◌, drop, Option, Some, None, Result, Ok, Err, refl, sym, ap, ◌∙◌, arith, ◌⊎◌, inl, inr}
 use Rattle.std.specs.Prelude.{if◌then◌else◌, IfOk, option_map, is_none, codes}
 use Rattle.std.proofs.lemmas.Bool.{cases_Bool}
 use Rattle.std.proofs.lemmas.Bool.Decides.{leb_tells, nat_tests}
+use Rattle.std.proofs.Math.Bool.{and-false}
 use Rattle.fleet_text.specs.Text.{Bytes, words_from_front}
 use Rattle.fleet_text.specs.Steps.{◌>>◌, right_or}
 use Rattle.fleet_grid.specs.declared.fault.MapFault.{MapFault}
 use Rattle.fleet_grid.specs.declared.fault.MapFault.TheVariants.{Header, Size}
 use Rattle.fleet_grid.specs.MapText.{line_at}
 use Rattle.fleet_grid.specs.MapReading.{field, number_field, is_alone, is_side, header_at}
-
-and_false : (b : Bool) → (b && false) ≡ false
-and_false true = refl
-and_false false = refl
 
 capped : (n : ℕ) → (min n 65536 ≡ n) ⊎ ((is_side n ≡ false) × (is_side (min n 65536) ≡ false))
 capped n = elim (leb_tells n 4096) [
@@ -36,7 +33,7 @@ capped_sizes height width =
     elim (capped height) [
       | inl h ↦ elim (capped width) [
         | inl w ↦ rw (h, w) (as_steps height width)
-        | inr w ↦ rw (w.0, w.1, and_false (is_side height), and_false (is_side (min height 65536))) refl
+        | inr w ↦ rw (w.0, w.1, and-false (is_side height), and-false (is_side (min height 65536))) refl
       ]
       | inr h ↦ rw (h.0, h.1) refl
     ]

@@ -2,7 +2,7 @@
 use Rattle.std.proofs.Common.{◌≡◌, ℕ, zero, suc, ◌+◌, ◌<◌, ◌≤◌, Bool, true, false, ◌&&◌, leb, eqb, List, [], ◌∷◌, length, map, take, drop, get_or, Some, None, Result, Ok, refl, sym, ap, subst, ◌∙◌, arith, inl, inr}
 use Rattle.std.specs.Prelude.{position, codes, bytes_eq}
 use Rattle.std.specs.List.{AllByRecursion, AllPass, list_all, position_or_len}
-use Rattle.std.proofs.lemmas.Bool.{le-ltb, cases_Bool, eq-eqb, eqb-true, leb-true, le-leb}
+use Rattle.std.proofs.lemmas.Bool.{le-ltb, cases_Bool, eq-eqb, eqb-true, leb-true, le-leb, and_parts}
 use Rattle.std.proofs.lemmas.Slice.Eq.{bytes_eq-Decides}
 use Rattle.std.proofs.lemmas.Option.{option_and_then_some}
 use Rattle.std.proofs.lemmas.List.{drop-drop, length-map, length-take-le, get_or-map, get_or-take, get_or-drop}
@@ -16,7 +16,7 @@ use Rattle.fleet_grid.specs.MapText.{line_at, is_ground_glyph, is_glyph, is_no_g
 use Rattle.fleet_text.specs.Steps.{none_or, ◌>>=◌, ◌>>◌, right_or, some_or}
 use Rattle.fleet_grid.specs.MapReading.{after_keyword, is_alone, field, number_field, is_side, header_at, row_at, rows_at, map_at}
 use Rattle.fleet_text.proofs.TextLaws.{found_nowhere}
-use Rattle.fleet_text.proofs.StepLaws.{bind_ok, right_ok, then_ok, some_ok, none_ok, ok_is, both}
+use Rattle.fleet_text.proofs.StepLaws.{bind_ok, right_ok, then_ok, some_ok, none_ok, ok_is}
 
 -- ---- the header
 
@@ -67,13 +67,13 @@ pub map_line_again : (line : Bytes) → IsMapLine line → is_alone (codes "map"
 map_line_again line h = ap (is_alone (codes "map")) h
 
 side_is : (n : ℕ) → is_side n ≡ true → IsSide n
-side_is n e = let p = both (leb 1 n) (leb n 4096) e in record { some = leb-true 1 n p.0; few = leb-true n 4096 p.1 }
+side_is n e = let p = and_parts (leb 1 n) (leb n 4096) e in record { some = leb-true 1 n p.0; few = leb-true n 4096 p.1 }
 
 side_again : (n : ℕ) → IsSide n → is_side n ≡ true
 side_again n s = rw (le-leb 1 n s.some, le-leb n 4096 s.few) refl
 
 pub sides_are : (h w : ℕ) → (is_side h && is_side w) ≡ true → IsSide w × IsSide h
-sides_are h w e = let p = both (is_side h) (is_side w) e in (side_is w p.1, side_is h p.0)
+sides_are h w e = let p = and_parts (is_side h) (is_side w) e in (side_is w p.1, side_is h p.0)
 
 pub sides_again : (h w : ℕ) → IsSide w → IsSide h → (is_side h && is_side w) ≡ true
 sides_again h w sw sh = rw (side_again h sh, side_again w sw) refl
@@ -140,7 +140,7 @@ all_from_none (b ∷ line) past =
 none_from_all : (line : Bytes) → list_all is_glyph line ≡ true → length line ≤ position_or_len is_no_glyph line
 none_from_all [] e = omega arith
 none_from_all (b ∷ line) e =
-    let p = both (is_glyph b) (list_all is_glyph line) e in
+    let p = and_parts (is_glyph b) (list_all is_glyph line) e in
     rw p.0 (omega (arith, none_from_all line p.1))
 
 no_position : {X : Type 0} (p : X → Bool) (xs : List X) → length xs ≤ position_or_len p xs → position p xs ≡ None
@@ -208,7 +208,7 @@ rows_again left w row ls h = rows_read left w row ls (rows_from left w ls h)
 
 empty_is : (ls : List Bytes) → list_all (list_all is_row_space) ls ≡ true → AllByRecursion (AllPass is_row_space) ls
 empty_is [] e = tt
-empty_is (l ∷ ls) e = let p = both (list_all is_row_space l) (list_all (list_all is_row_space) ls) e in (AllPass-from_list_all is_row_space l p.0, empty_is ls p.1)
+empty_is (l ∷ ls) e = let p = and_parts (list_all is_row_space l) (list_all (list_all is_row_space) ls) e in (AllPass-from_list_all is_row_space l p.0, empty_is ls p.1)
 
 pub empty_are : (ls : List Bytes) → list_all (list_all is_row_space) ls ≡ true → AreEmpty ls
 empty_are ls e = All-from_recursion (AllPass is_row_space) ls (empty_is ls e)

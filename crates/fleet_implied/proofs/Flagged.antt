@@ -1,8 +1,8 @@
 -- The flags of awaits, one action and one block more.
-use Rattle.std.proofs.Common.{rules, ◌≡◌, ◌≢◌, ℕ, ◌+◌, ◌-◌, ◌<◌, ◌≤◌, Bool, true, false, List, get_or, set, replicate, refl, sym, ap, subst, ◌∙◌, arith, inl, inr, ◌⊎◌}
+use Rattle.std.proofs.Common.{◌≡◌, ◌≢◌, ℕ, ◌+◌, ◌-◌, ◌<◌, ◌≤◌, Bool, false, List, get_or, set, replicate, refl, sym, ap, subst, ◌∙◌, arith, inl, inr, ◌⊎◌}
 use Rattle.std.specs.Prelude.{slice_get, slice_index, Some, None, Option, nat_le}
-use Rattle.std.proofs.lemmas.Bool.{cases_lt, cases_eq}
-use Rattle.std.proofs.lemmas.Option.{slice_get_within}
+use Rattle.std.proofs.lemmas.Bool.{cases_lt, cases_eq, false≢true}
+use Rattle.std.proofs.lemmas.Option.{slice_get_within, same_Some}
 use Rattle.fleet_model.specs.declared.program.ActionId.{ActionId}
 use Rattle.fleet_model.specs.declared.program.Await.{Await}
 use Rattle.fleet_model.specs.Program.{Program, awaits_of, AreInRange, IsWellFormed}
@@ -33,11 +33,8 @@ told_of p range formed columns a row is others k c w at has =
 
 module _ (p : Program) (columns : Columns) (a : ActionId) (first k : ℕ) (one : Await) (at : slice_get (awaits_of p a.agent a.number) k ≡ Some one) (old new : List Bool)
     (others : (n : ℕ) → n ≢ first + k → get_or new n false ≡ get_or old n false) where
-  some_is : (v w : Await) → Some v ≡ Some w → v ≡ w
-  some_is v w e = search rules
-
   is_one : (m : ℕ) (w : Await) → m ≡ k → slice_get (awaits_of p a.agent a.number) m ≡ Some w → one ≡ w
-  is_one m w e there = some_is one w (sym at ∙ ap (slice_get (awaits_of p a.agent a.number)) (sym e) ∙ there)
+  is_one m w e there = same_Some one w (sym at ∙ ap (slice_get (awaits_of p a.agent a.number)) (sym e) ∙ there)
 
   pub told_more : ((c : ℕ) → HasColumn columns one.agent c → IsImpliedFlag p a one (get_or new (first + k) false))
       → ((m c : ℕ) (w : Await) → m < k → slice_get (awaits_of p a.agent a.number) m ≡ Some w → HasColumn columns w.agent c → IsImpliedFlag p a w (get_or old (first + m) false))
@@ -118,7 +115,4 @@ told_to p asked from columns h old new here left settled before a is k w at l = 
 
 -- if no agent is asked for, all flags say whether their await is implied
 pub told_if_none : (p : Program) (asked flags : List Bool) → ((j : ℕ) → get_or asked j false ≡ false) → AreSettled p asked flags → AreAllFlagged p flags
-told_if_none p asked flags none settled a is k w at = elim (settled a is is k w at) [ inr was ↦ was | inl set ↦ absurd (unset (sym (none w.agent) ∙ set)) ]
-  where
-    unset : false ≡ true → ⊥
-    unset e = search rules
+told_if_none p asked flags none settled a is k w at = elim (settled a is is k w at) [ inr was ↦ was | inl set ↦ absurd (false≢true (sym (none w.agent) ∙ set)) ]

@@ -1,8 +1,8 @@
 -- An await is implied if its count is no more than that of all that the action needs beside it.
-use Rattle.std.proofs.Common.{rules, ◌≡◌, ℕ, ◌+◌, ◌<◌, ◌≤◌, List, length, refl, sym, ap, subst, ◌∙◌, arith, inl, inr}
+use Rattle.std.proofs.Common.{◌≡◌, ℕ, ◌+◌, ◌<◌, ◌≤◌, List, length, refl, sym, ap, subst, ◌∙◌, arith, inl, inr}
 use Rattle.std.specs.Prelude.{Contains, slice_get, Some, nat_le}
 use Rattle.std.proofs.lemmas.Bool.{cases_order, leb-true, le-leb}
-use Rattle.std.proofs.lemmas.Option.{slice_get-get_or, slice_get_within, get_or_from_slice_get}
+use Rattle.std.proofs.lemmas.Option.{slice_get-get_or, slice_get_within, get_or_from_slice_get, same_Some}
 use Rattle.fleet_model.specs.declared.program.ActionId.{ActionId}
 use Rattle.fleet_model.specs.declared.program.Await.{Await}
 use Rattle.fleet_model.specs.Program.{Program, awaits_of, AreInRange, AreAwaits}
@@ -15,13 +15,10 @@ use Rattle.fleet_settled.proofs.AwaitOrder.{await_below}
 -- no two awaits of an action are of one agent
 same_await : (n i : ℕ) (awaits : List Await) → AreAwaits n i awaits → (k m : ℕ) (v w : Await) → slice_get awaits k ≡ Some v → slice_get awaits m ≡ Some w → v.agent ≡ w.agent → v ≡ w
 same_await n i awaits h k m v w at there same = elim (cases_order k m) [
-  | inl e ↦ some_is v w (sym at ∙ ap (slice_get awaits) e ∙ there)
+  | inl e ↦ same_Some v w (sym at ∙ ap (slice_get awaits) e ∙ there)
   | inr (inl l) ↦ absurd (let less : v.agent < w.agent = await_below awaits h.rising k m v w at there l in omega arith)
   | inr (inr l) ↦ absurd (let less : w.agent < v.agent = await_below awaits h.rising m k w v there at l in omega arith)
 ]
-  where
-    some_is : (x y : Await) → Some x ≡ Some y → x ≡ y
-    some_is x y e = search rules
 
 module _ (p : Program) (range : AreInRange p) (i b : ℕ) (k : ℕ) (w : Await) (there : slice_get (awaits_of p i (b + 1)) k ≡ Some w) (rising : AreAwaits (length p) i (awaits_of p i (b + 1))) (n : ℕ)
     (h : IsJoined (OfOthers w.agent (length (awaits_of p i (b + 1)))) p i b w.agent n) where

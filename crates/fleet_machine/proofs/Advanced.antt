@@ -4,17 +4,12 @@ use Rattle.std.specs.List.{filter, list_any}
 use Rattle.std.proofs.lemmas.Bool.{cases_lt}
 use Rattle.std.proofs.lemmas.List.Elements.{filter-append}
 use Rattle.std.proofs.lemmas.List.FromFn.{fill_by_all}
+use Rattle.std.proofs.Math.Bool.{or-true, or-false}
 use Rattle.fleet_model.specs.declared.standing.Standing.{Standing}
-use Rattle.fleet_model.specs.Program.{Program, moves, actions_of}
-use Rattle.fleet_model.specs.Machine.{Configuration, standing_at, count_at, next_action, finished_one, is_ready, is_moving, standing_after, indices, tick}
-use Rattle.fleet_machine.proofs.Ready.{no_action_left}
+use Rattle.fleet_model.specs.Program.{Program, actions_of}
+use Rattle.fleet_model.specs.Machine.{Configuration, standing_at, next_action, finished_one, is_ready, is_moving, standing_after, indices, tick}
 use Rattle.fleet_machine.proofs.Indices.{indices_more, any_more}
 use Rattle.fleet_machine.specs.Machine.{flag_of, moving_flags}
-
--- who is ready has an action left
-pub left_if_ready : (p : Program) (c : Configuration) (i : ℕ) → is_ready p c i ≡ true → count_at c i < moves p i
-left_if_ready p c i ready =
-    elim (cases_lt (count_at c i) (moves p i)) [ Rattle.std.proofs.Common.inl h ↦ h | Rattle.std.proofs.Common.inr h ↦ let none = no_action_left p c i h in absurd (cc) ]
 
 -- where an agent that moves stands afterwards
 pub after_move : (p : Program) (held : ℕ → Bool) (old rows : Configuration) (i : ℕ) → is_moving p held old i ≡ true → standing_at rows i ≡ standing_at old i
@@ -77,12 +72,8 @@ module _ (p : Program) (held : ℕ → Bool) (old rows : Configuration) (moving 
             (λ k h. let ne : k ≢ i = omega arith in get_or-set_other moving i k true false ne ∙ before.flagged k h)
             (get_or-set_same moving i true false there ∙ sym flag);
         unflagged = λ k h. let ne : k ≢ i = omega arith in get_or-set_other moving i k true false ne ∙ before.unflagged k (omega arith);
-        held_is = rw (any_more (λ k. is_ready p old k && held k) i, ready, free) (or_no ready_held _ before.held_is);
+        held_is = rw (any_more (λ k. is_ready p old k && held k) i, ready, free) (before.held_is ∙ sym (or-false _));
       }
-    where
-      or_no : (a b : Bool) → a ≡ b → a ≡ (b || false)
-      or_no a true e = e
-      or_no a false e = e
 
   -- an agent that stays
   one_stays : (now_held : Bool) → is_moving p held old i ≡ false → now_held ≡ (ready_held || (is_ready p old i && held i))
@@ -101,18 +92,10 @@ module _ (p : Program) (held : ℕ → Bool) (old rows : Configuration) (moving 
   }
 
   pub one_held : is_ready p old i ≡ true → held i ≡ true → IsAdvanced p held old rows moving (i + 1) count true
-  one_held ready is = one_stays true (rw (ready, is) refl) (rw (ready, is) (or_yes ready_held))
-    where
-      or_yes : (a : Bool) → true ≡ (a || true)
-      or_yes true = refl
-      or_yes false = refl
+  one_held ready is = one_stays true (rw (ready, is) refl) (rw (ready, is) (sym (or-true ready_held)))
 
   pub one_waits : is_ready p old i ≡ false → IsAdvanced p held old rows moving (i + 1) count ready_held
-  one_waits waits = one_stays ready_held (rw waits refl) (rw waits (or_no ready_held))
-    where
-      or_no : (a : Bool) → a ≡ (a || false)
-      or_no true = refl
-      or_no false = refl
+  one_waits waits = one_stays ready_held (rw waits refl) (rw waits (sym (or-false ready_held)))
 
 -- who is not ready is passed over
 pub all_wait : (p : Program) (held : ℕ → Bool) (old rows : Configuration) (moving : List Bool) (n i count : ℕ) (ready_held : Bool) → n ≤ i

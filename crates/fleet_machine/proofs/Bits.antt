@@ -5,7 +5,7 @@ use Rattle.std.specs.Prelude.{◌==◌, bit_and, bit_or}
 use Rattle.std.proofs.lemmas.Nat.Bits.{bit_at-trailing_zeros, bit_at-zero, bit_at_above, bit_at_set_same, bit_at_set_other, bit_at_clear_same, shr_and_one, bit_at_clear_other}
 use Rattle.std.proofs.Math.Nat.{div-div-eq-div-mul}
 use Rattle.std.proofs.lemmas.Nat.{pow-add}
-use Rattle.std.proofs.lemmas.Bool.{cases_eq, cases_lt}
+use Rattle.std.proofs.lemmas.Bool.{cases_eq, cases_lt, true≢false}
 use Rattle.std.proofs.lemmas.List.{ext_get_or, get_or_past, get_or-replicate, length-replicate}
 use Rattle.std.proofs.lemmas.List.FromFn.{get_or-map-range_with_len, length-map-range_with_len}
 use Rattle.fleet_model.specs.declared.limits.TheConstants.{MAX_AGENTS}
@@ -36,7 +36,7 @@ module _ (word place : ℕ) (within : place < 64) where
   pub cut_others : (k : ℕ) → k < 64 → k ≢ place → bit_at (bit_and word (2 ^ 64 - 1 - 1 * 2 ^ place % 2 ^ 64)) k ≡ bit_at word k
   cut_others k lt other = bit_at_clear_other w64 word place within k lt other
 
-bit_is : (b : Bool) → (bit_if b == 1) ≡ b
+pub bit_is : (b : Bool) → (bit_if b == 1) ≡ b
 bit_is true = refl
 bit_is false = refl
 
@@ -63,9 +63,6 @@ flag_is words n k bits =
 
 pub long_flags : (words : List ℕ) (n : ℕ) → length (flags_in words n) ≡ n
 long_flags words n = length-map-range_with_len (is_bit words) 0 n
-
-true_is_false : true ≡ false → ⊥
-true_is_false e = absurd cc
 
 -- ---- no bit
 
@@ -125,7 +122,7 @@ module _ (words : List ℕ) (n i : ℕ) (bits : AreBits words n) (agent : i < n)
 module _ (words : List ℕ) (n : ℕ) (bits : AreBits words n) (from : ℕ) where
   pub next_is : (i : ℕ) → from ≤ i → is_bit words i ≡ true → ((k : ℕ) → from ≤ k → k < i → is_bit words k ≡ false) → IsNextFrom (flags_in words n) from i
   next_is i later member between =
-      let agent : i < n = elim (cases_lt i n) [ inl lt ↦ lt | inr le ↦ absurd (true_is_false (sym member ∙ bits.rest i le)) ] in
+      let agent : i < n = elim (cases_lt i n) [ inl lt ↦ lt | inr le ↦ absurd (true≢false (sym member ∙ bits.rest i le)) ] in
       record {
         agent = rw (long_flags words n) agent;
         later = later;

@@ -1,15 +1,17 @@
 -- Agents that carry out their orders, one after another.
-use Rattle.std.proofs.Common.{◌≡◌, ◌≢◌, ◌<◌, ◌≤◌, ◌&&◌, ℕ, ◌+◌, Bool, true, false, List, [], length, set, refl, ap, sym, ◌∙◌, inl, inr, arith, get_or-set_same, get_or-set_other, length-set}
+use Rattle.std.proofs.Common.{◌≡◌, ◌≢◌, ◌<◌, ◌≤◌, ℕ, ◌+◌, Bool, true, false, List, [], length, set, refl, ap, sym, ◌∙◌, inl, inr, arith, get_or-set_same, get_or-set_other, length-set}
 use Rattle.std.proofs.lemmas.Bool.{cases_eq, cases_lt, cases_Bool}
 use Rattle.std.proofs.lemmas.List.FromFn.{fill_by_all}
+use Rattle.std.proofs.Math.Bool.{and-false}
 use Rattle.fleet_model.specs.declared.standing.Standing.{Standing}
 use Rattle.fleet_model.specs.Program.{Program, moves}
 use Rattle.fleet_model.specs.Machine.{Configuration, standing_at, count_at, is_ready, is_moving, standing_after, tick}
+use Rattle.fleet_model.proofs.Tick.{ready_left}
 use Rattle.fleet_machine.specs.AgentSet.{AreNoneFrom, IsNextFrom}
 use Rattle.fleet_machine.specs.Confirmed.{all_but, AreAllReady}
 use Rattle.fleet_machine.specs.Machine.{MachineState, Runs, flag_of, after_next, moving_flags}
 use Rattle.fleet_machine.specs.Waking.{HasMoved}
-use Rattle.fleet_machine.proofs.Advanced.{left_if_ready, after_move, stays}
+use Rattle.fleet_machine.proofs.Advanced.{after_move, stays}
 
 -- the flagged agents below n have moved, and all others stand where they stood
 pub record AreCarried (p : Program) (flags : List Bool) (old rows : Configuration) (n : ℕ) : Type 0 where
@@ -25,11 +27,7 @@ module _ (p : Program) (done : List Bool) (old : Configuration) (sent : AreAllRe
   moves_if k agent flag = rw (sent k agent flag, flag) refl
 
   stays_if : (k : ℕ) → flag_of done k ≡ false → is_moving p (all_but (flag_of done)) old k ≡ false
-  stays_if k flag = rw flag (and_no (is_ready p old k))
-    where
-      and_no : (b : Bool) → (b && false) ≡ false
-      and_no true = refl
-      and_no false = refl
+  stays_if k flag = rw flag (and-false (is_ready p old k))
 
   -- those that are flagged are those that the tick moves
   pub all_moving : length done ≡ length p → done ≡ moving_flags p (all_but (flag_of done)) old
@@ -44,7 +42,7 @@ module _ (p : Program) (done : List Bool) (old : Configuration) (sent : AreAllRe
   module _ (rows : Configuration) (from : ℕ) (before : AreCarried p done old rows from) where
     pub left_if_next : (i : ℕ) → i < length p → IsNextFrom done from i → count_at rows i < moves p i
     left_if_next i agent next =
-        let left = left_if_ready p old i (sent i agent next.member) in
+        let left = ready_left p old i (sent i agent next.member) in
         let same : count_at rows i ≡ count_at old i = ap (λ (s : Standing). s.count) (before.rest i next.later) in
         omega arith
 

@@ -2,7 +2,7 @@
 use Rattle.std.proofs.Common.{◌≡◌, ◌≢◌, ◌<◌, ◌≤◌, ◌+◌, ℕ, Bool, true, false, not, length, filter, Option, Some, None, refl, ap, sym, ◌∙◌, subst, inl, inr, arith, cond, get_or-set_same, get_or-set_other, length-set}
 use Rattle.std.specs.List.{list_any, list_all}
 use Rattle.std.specs.Prelude.{nat_le, is_some, MatchOption}
-use Rattle.std.proofs.lemmas.Bool.{cases_eq, cases_lt, le-leb, lt-ltb, ltb-true}
+use Rattle.std.proofs.lemmas.Bool.{cases_eq, cases_lt, le-leb, lt-ltb, ltb-true, true≢false}
 use Rattle.fleet_model.specs.Program.{Program, moves}
 use Rattle.fleet_model.specs.Machine.{count_at, is_ready, is_finished, indices}
 use Rattle.fleet_machine.specs.AgentSet.{AreNoneFrom, IsNextFrom}
@@ -92,27 +92,21 @@ module _ (p : Program) (test : ℕ → Bool) (old now : MachineState) (i : ℕ) 
         ];
         later = λ k h. let other : k ≢ i = omega arith in as_before old now new k (before.later k (omega arith)) (others_if_placed p now new i before.rows agent placed k other);
         others = λ k h.
-            let other : k ≢ i = λ same. true_is_false (sym tested ∙ (ap test (sym same) ∙ h)) in
+            let other : k ≢ i = λ same. true≢false (sym tested ∙ (ap test (sym same) ∙ h)) in
             as_before old now new k (before.others k h) (others_if_placed p now new i before.rows agent placed k other);
       }
-    where
-      true_is_false : true ≡ false → ⊥
-      true_is_false e = absurd cc
 
   pub one_passed : test i ≡ false → AreJudgedTo p test old now (i + 1)
   one_passed fails = record {
     same = before.same;
     rows = before.rows;
     judged = λ k h tested. elim (cases_eq k i) [
-      | inl same ↦ absurd (true_is_false (sym tested ∙ (ap test same ∙ fails)))
+      | inl same ↦ absurd (true≢false (sym tested ∙ (ap test same ∙ fails)))
       | inr other ↦ before.judged k (omega arith) tested
     ];
     later = λ k h. before.later k (omega arith);
     others = before.others;
   }
-    where
-      true_is_false : true ≡ false → ⊥
-      true_is_false e = absurd cc
 
 pub some_passed : (p : Program) (test : ℕ → Bool) (old now : MachineState) (n i : ℕ) → n ≤ i → ((k : ℕ) → n ≤ k → k < i → test k ≡ false)
     → AreJudgedTo p test old now n → AreJudgedTo p test old now i
@@ -142,12 +136,9 @@ module _ (p : Program) (m : MachineState) (runs : Runs p m) where
   left_is : (i : ℕ) → i < length p → flag_of m.left i ≡ false → nat_le (moves p i) (count_at m.configuration i) ≡ true
   left_is i agent flag =
       elim (cases_lt (count_at m.configuration i) (moves p i)) [
-        | inl lt ↦ absurd (true_is_false (sym (lt-ltb _ _ lt) ∙ (sym (runs.judged i agent).left ∙ flag)))
+        | inl lt ↦ absurd (true≢false (sym (lt-ltb _ _ lt) ∙ (sym (runs.judged i agent).left ∙ flag)))
         | inr le ↦ le-leb _ _ le
       ]
-    where
-      true_is_false : true ≡ false → ⊥
-      true_is_false e = absurd cc
 
   pub finished_if_none : AreNoneFrom m.left 0 → true ≡ is_finished p m.configuration
   finished_if_none none =

@@ -3,6 +3,7 @@ use Rattle.std.proofs.Common.{◌≡◌, ◌≢◌, ℕ, zero, suc, ◌<◌, ◌
 use Rattle.std.specs.Prelude.{Contains, ◌⊎◌}
 use Rattle.std.proofs.lemmas.Bool.{cases_eq, cases_lt}
 use Rattle.std.proofs.lemmas.List.{get_or-replicate, length-replicate, get_or_past, get_or-set_same, get_or-set_other, length-set}
+use Rattle.std.proofs.lemmas.Option.{same_Some, none-some}
 use Rattle.fleet_machine.specs.WaitLists.{home_of, IsLinked, IsChain, AreChains}
 
 -- ---- members
@@ -19,12 +20,6 @@ here_or_later x y xs (suc k, lt, e) = inr (k, omega (arith, lt), e)
 
 in_none : {A : Type 0} (y : A) → Contains [] y → ⊥
 in_none y h = (let lt = h.1 in omega (arith, lt))
-
-none_is_some : {A : Type 0} {x : A} → None ≡ Some x → ⊥
-none_is_some e = absurd cc
-
-some_is : {A : Type 0} (x y : A) → Some x ≡ Some y → x ≡ y
-some_is x y e = cc
 
 -- ---- links
 
@@ -83,8 +78,8 @@ no_chains lists agents = record {
     nobody : {j : ℕ} (i : ℕ) → home_of (replicate agents None) i ≡ Some j → ⊥
     nobody i e =
         elim (cases_lt i agents) [
-          | inl lt ↦ absurd (none_is_some (sym (get_or-replicate {A = Option ℕ} agents i None None lt) ∙ e))
-          | inr le ↦ absurd (none_is_some (sym (get_or_past (replicate agents None) i None (rw length-replicate le)) ∙ e))
+          | inl lt ↦ absurd (none-some _ (sym (get_or-replicate {A = Option ℕ} agents i None None lt) ∙ e))
+          | inr le ↦ absurd (none-some _ (sym (get_or_past (replicate agents None) i None (rw length-replicate le)) ∙ e))
         ]
 
 module _ {first next homes : List (Option ℕ)} (c : AreChains first next homes) (list : ℕ) (within : list < length first) where
@@ -111,7 +106,7 @@ module _ {first next homes : List (Option ℕ)} (c : AreChains first next homes)
   module _ (i : ℕ) (there : i < length homes) (nowhere : home_of homes i ≡ None) where
     -- agents of lists are others
     apart : {j : ℕ} (k : ℕ) → home_of homes k ≡ Some j → k ≢ i
-    apart k home same = none_is_some (sym nowhere ∙ ap (home_of homes) (sym same) ∙ home)
+    apart k home same = none-some _ (sym nowhere ∙ ap (home_of homes) (sym same) ∙ home)
 
     with_this : IsChain (set next i (get_or first list None)) (set homes i (Some list)) (Some i) list
     with_this =
@@ -145,7 +140,7 @@ module _ {first next homes : List (Option ℕ)} (c : AreChains first next homes)
           home = λ k h. get_or-set_other homes i k (Some list) None (apart k (chain.home k h)) ∙ chain.home k h;
           all = λ k e.
               elim (cases_eq k i) [
-                | inl same ↦ absurd (not_this (some_is j list (sym e ∙ ap (home_of (set homes i (Some list))) same ∙ get_or-set_same homes i (Some list) None there)))
+                | inl same ↦ absurd (not_this (same_Some j list (sym e ∙ ap (home_of (set homes i (Some list))) same ∙ get_or-set_same homes i (Some list) None there)))
                 | inr other ↦ chain.all k (sym (get_or-set_other homes i k (Some list) None other) ∙ e)
               ];
         }
@@ -177,7 +172,7 @@ module _ {first next homes : List (Option ℕ)} (c : AreChains first next homes)
               home = λ k h. get_or-set_other homes i k None None (here_only k h) ∙ home k (later x k agents h);
               all = λ k at.
                   elim (cases_eq k i) [
-                    | inl same ↦ absurd (none_is_some (sym (get_or-set_same homes i None None (first_in_chain i e).0) ∙ ap (home_of (set homes i None)) (sym same) ∙ at))
+                    | inl same ↦ absurd (none-some _ (sym (get_or-set_same homes i None None (first_in_chain i e).0) ∙ ap (home_of (set homes i None)) (sym same) ∙ at))
                     | inr other ↦ elim (here_or_later x k agents (all k (sym (get_or-set_other homes i k None None other) ∙ at))) [
                       | inl first ↦ absurd (other (sym first ∙ linked.0))
                       | inr more ↦ more
@@ -189,14 +184,14 @@ module _ {first next homes : List (Option ℕ)} (c : AreChains first next homes)
     without_others j lt not_this =
         let chain = c.chains j lt in
         let at_list = (first_in_chain i e).1 in
-        let apart : (k : ℕ) → home_of homes k ≡ Some j → k ≢ i = λ k home same. not_this (some_is j list (sym home ∙ ap (home_of homes) same ∙ at_list)) in
+        let apart : (k : ℕ) → home_of homes k ≡ Some j → k ≢ i = λ k home same. not_this (same_Some j list (sym home ∙ ap (home_of homes) same ∙ at_list)) in
         record {
           agents = chain.agents;
           linked = chain.linked;
           home = λ k h. get_or-set_other homes i k None None (apart k (chain.home k h)) ∙ chain.home k h;
           all = λ k at.
               elim (cases_eq k i) [
-                | inl same ↦ absurd (none_is_some (sym (get_or-set_same homes i None None (first_in_chain i e).0) ∙ ap (home_of (set homes i None)) (sym same) ∙ at))
+                | inl same ↦ absurd (none-some _ (sym (get_or-set_same homes i None None (first_in_chain i e).0) ∙ ap (home_of (set homes i None)) (sym same) ∙ at))
                 | inr other ↦ chain.all k (sym (get_or-set_other homes i k None None other) ∙ at)
               ];
         }

@@ -30,9 +30,6 @@ opening_more p rows i c s inside before e is =
     let long : i < length (opening p) = rw length-map inside in
     rw (take_more (opening p) i s long, opening_at p i s inside, before, is, e) refl
 
-pub length_opening : (p : Program) → length (opening p) ≡ length p
-length_opening p = rw length-map refl
-
 -- where nobody stands in a list
 pub home_of_nobody : (n i : ℕ) → home_of (replicate n None) i ≡ None
 home_of_nobody zero i = refl

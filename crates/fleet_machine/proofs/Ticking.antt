@@ -1,11 +1,12 @@
 -- The steps of a tick, one after another.
 use Rattle.std.proofs.Common.{◌≡◌, ◌<◌, ◌≤◌, ◌+◌, ◌||◌, ◌&&◌, not, ℕ, Bool, true, false, List, [], length, filter, set, slice_get, Option, Some, None, refl, ap, sym, ◌∙◌, subst, inl, inr, ◌⊎◌, arith, cond, add-one, add-zero}
 use Rattle.std.specs.Prelude.{nat_le}
-use Rattle.std.proofs.lemmas.Bool.{cases_lt, cases_Bool, lt-ltb, or_parts}
+use Rattle.std.proofs.lemmas.Bool.{cases_lt, cases_Bool, lt-ltb, or_parts, true≢false}
 use Rattle.std.proofs.lemmas.List.{get_or_past}
 use Rattle.std.proofs.lemmas.List.Folds.{list_any_at}
 use Rattle.std.proofs.lemmas.List.FromFn.{get_or-map-range_with_len, length-map-range_with_len}
 use Rattle.std.proofs.lemmas.Option.{slice_get_past, slice_get_within, get_or_from_slice_get}
+use Rattle.std.proofs.Math.Bool.{or-true, or-false}
 use Rattle.fleet_model.specs.declared.program.Await.{Await}
 use Rattle.fleet_model.specs.declared.standing.Standing.{Standing}
 use Rattle.fleet_model.specs.Program.{Program, IsWellFormed, moves, actions_of, awaits_of}
@@ -20,17 +21,6 @@ use Rattle.fleet_machine.proofs.Advanced.{onward, filter_more, IsAdvanced, one_m
 use Rattle.fleet_machine.proofs.Lasting.{ready_lasts}
 use Rattle.fleet_machine.proofs.Judging.{none_more_counted, one_more_counted, counted_le}
 use Rattle.fleet_machine.proofs.Ready.{no_action_left, has_next, not_ready_if_unmet, awaited_agent}
-
-or_yes : (a : Bool) → (a || true) ≡ true
-or_yes true = refl
-or_yes false = refl
-
-or_no : (a : Bool) → (a || false) ≡ a
-or_no true = refl
-or_no false = refl
-
-true_is_false : true ≡ false → ⊥
-true_is_false e = absurd cc
 
 -- ---- who is ready moves, or is held
 
@@ -97,7 +87,7 @@ module _ (p : Program) (held : ℕ → Bool) (old : MachineState) (runs : Runs p
         go : (b : Bool) → b ≡ held i → IsAdvancedTo p held old (advanced_one p now i b) (i + 1) (moved + cond b 0 1) (ready_held || b) (ready + 1)
         go true e = record {
           same = before.same;
-          done = rw (add-zero, or_yes ready_held) (one_held p held old.configuration now.configuration now.moving i moved ready_held here next_is_ready (sym e));
+          done = rw (add-zero, or-true ready_held) (one_held p held old.configuration now.configuration now.moving i moved ready_held here next_is_ready (sym e));
           counted = more;
           within = omega (arith, ready_agent);
         }
@@ -106,7 +96,7 @@ module _ (p : Program) (held : ℕ → Bool) (old : MachineState) (runs : Runs p
             configuration = set now.configuration i (after_next p now.configuration i);
             moving = set now.moving i true;
           }) before.same;
-          done = rw (or_no ready_held) (one_moves p held old.configuration now.configuration now.moving i moved ready_held here next_is_ready (sym e) ready_agent);
+          done = rw (or-false ready_held) (one_moves p held old.configuration now.configuration now.moving i moved ready_held here next_is_ready (sym e) ready_agent);
           counted = more;
           within = omega (arith, ready_agent);
         }
@@ -143,7 +133,7 @@ module _ (p : Program) (c : Configuration) (i j : ℕ) (lacks : Lacks p c i j) w
 
 one_more : (a b : ℕ) (x y : Bool) → (x ≡ true → y ≡ true) → a ≤ b → a + cond x 1 0 ≤ b + cond y 1 0
 one_more a b true true h le = omega arith
-one_more a b true false h le = absurd (true_is_false (sym (h refl)))
+one_more a b true false h le = absurd (true≢false (sym (h refl)))
 one_more a b false true h le = omega arith
 one_more a b false false h le = omega arith
 
@@ -160,7 +150,7 @@ one_of_two a b c false false false h le = omega arith
 one_of_two a b c true true true h le = omega arith
 one_of_two a b c true true false h le = omega arith
 one_of_two a b c true false true h le = omega arith
-one_of_two a b c true false false h le = elim (h refl) [ inl e ↦ absurd (true_is_false (sym e)) | inr e ↦ absurd (true_is_false (sym e)) ]
+one_of_two a b c true false false h le = elim (h refl) [ inl e ↦ absurd (true≢false (sym e)) | inr e ↦ absurd (true≢false (sym e)) ]
 
 either_passes : (test one other : ℕ → Bool) (n : ℕ) → ((k : ℕ) → k < n → test k ≡ true → (one k ≡ true) ⊎ (other k ≡ true))
     → length (filter test (indices n)) ≤ length (filter one (indices n)) + length (filter other (indices n))
@@ -207,7 +197,7 @@ module _ (p : Program) (held : ℕ → Bool) (m : MachineState) (runs : Runs p m
     ready_or_done true ready left = ready_lasts p held c runs.agents k same_count ready
     ready_or_done false unready done =
         elim (cases_lt (count_at after k) (moves p k)) [
-          | inl lt ↦ absurd (true_is_false (sym (lt-ltb _ _ lt) ∙ (left_as_before ∙ done)))
+          | inl lt ↦ absurd (true≢false (sym (lt-ltb _ _ lt) ∙ (left_as_before ∙ done)))
           | inr le ↦ no_action_left p after k le
         ]
 
@@ -254,7 +244,7 @@ module _ (p : Program) (held : ℕ → Bool) (m : MachineState) (runs : Runs p m
     nowhere_if_due k due =
         elim (cases_lt k (length p)) [
           | inl agent ↦ wakes.homes k ∙ freed (home_of m.waiting.homes k) k (runs.judged k agent).home (sym (due_is k agent) ∙ due)
-          | inr past ↦ absurd (true_is_false (sym due ∙ get_or_past woken.due k false (let rows = rows_woken.due in omega arith)))
+          | inr past ↦ absurd (true≢false (sym due ∙ get_or_past woken.due k false (let rows = rows_woken.due in omega arith)))
         ]
 
     -- ---- how many were looked at
@@ -270,7 +260,7 @@ module _ (p : Program) (held : ℕ → Bool) (m : MachineState) (runs : Runs p m
         was : (h : Option ℕ) (k : ℕ) (r : Bool) → is_moving p held c k ≡ r → IsHome p c k h → (is_moving p held c k || is_on (flag_of (moving_flags p held c)) h) ≡ true
             → (is_moving p held c k ≡ true) ⊎ ((not (is_ready p c k) && awaits_moving p held c k) ≡ true)
         was h k true e home is = inl e
-        was None k false e home is = absurd (true_is_false (sym is ∙ rw e refl))
+        was None k false e home is = absurd (true≢false (sym is ∙ rw e refl))
         was (Some j) k false e home is =
             let there = lacked_agent p c k j home runs.well_formed in
             inr (rw (unready_if_lacking p c k j home) (awaits_if_lacking p c k j home held (sym (flag_is_moving j there) ∙ (rw e at is))))

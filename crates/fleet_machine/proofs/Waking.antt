@@ -4,32 +4,19 @@ use Rattle.std.specs.Prelude.{is_some, IfSome, IfNone, ◌==◌, nat_lt}
 use Rattle.std.specs.List.{count_by}
 use Rattle.std.proofs.lemmas.Bool.{cases_eq, cases_lt, lt-ltb, le-ltb}
 use Rattle.std.proofs.lemmas.Bool.Decides.{eqb_tells}
-use Rattle.std.proofs.lemmas.Option.{same_Some}
+use Rattle.std.proofs.lemmas.Option.{same_Some, none-some}
 use Rattle.std.proofs.lemmas.List.Sums.{sum_by-set}
+use Rattle.std.proofs.Math.Bool.{or-true, or-false}
 use Rattle.fleet_machine.specs.AgentSet.{AreNoneFrom, IsNextFrom}
 use Rattle.fleet_machine.specs.WaitLists.{home_of}
 use Rattle.fleet_machine.specs.Machine.{MachineState, flag_of}
 use Rattle.fleet_machine.specs.Waking.{is_on, if_not_on, IsWoken}
-
-or_no : (a : Bool) → a ≡ (a || false)
-or_no true = refl
-or_no false = refl
-
-or_yes : (a : Bool) → true ≡ (a || true)
-or_yes true = refl
-or_yes false = refl
-
-inside_some : {k j : ℕ} → Some k ≡ Some j → k ≡ j
-inside_some e = same_Some _ _ e
 
 eqb-refl : (n : ℕ) → (n == n) ≡ true
 eqb-refl n = elim (eqb_tells n n) [ inl h ↦ h.0 | inr h ↦ absurd (h.1 refl) ]
 
 ne-eqb : (a b : ℕ) → a ≢ b → (a == b) ≡ false
 ne-eqb a b other = elim (eqb_tells a b) [ inl h ↦ absurd (other h.1) | inr h ↦ h.0 ]
-
-none_is_some : {j : ℕ} → ◌≡◌ {A = Option ℕ} None (Some j) → ⊥
-none_is_some e = absurd cc
 
 -- ---- one list
 
@@ -93,13 +80,13 @@ module _ (j : ℕ) (a b : MachineState) (before : IsWaking j a b) where
       homes_of {i} None e (inl kept) = kept.0 ∙ e
       homes_of {i} None e (inr taken) = taken.1
       homes_of {i} (Some k) e (inl kept) = rw (off i k e kept.0) (kept.0 ∙ e)
-      homes_of {i} (Some k) e (inr taken) = let same : k ≡ j = inside_some (sym e ∙ taken.0) in rw (same, eqb-refl j) taken.1
+      homes_of {i} (Some k) e (inr taken) = let same : k ≡ j = same_Some _ _ (sym e ∙ taken.0) in rw (same, eqb-refl j) taken.1
 
       due_of : {i : ℕ} (h : Option ℕ) → home_of a.waiting.homes i ≡ h → i < length a.due → Each i → flag_of b.due i ≡ (flag_of a.due i || is_on (λ k. k == j) h)
-      due_of {i} None e inside (inl kept) = kept.1 ∙ or_no (flag_of a.due i)
-      due_of {i} None e inside (inr taken) = absurd (none_is_some (sym e ∙ taken.0))
-      due_of {i} (Some k) e inside (inl kept) = rw (off i k e kept.0) (kept.1 ∙ or_no (flag_of a.due i))
-      due_of {i} (Some k) e inside (inr taken) = let same : k ≡ j = inside_some (sym e ∙ taken.0) in rw (same, eqb-refl j) (taken.2 inside ∙ or_yes (flag_of a.due i))
+      due_of {i} None e inside (inl kept) = kept.1 ∙ sym (or-false (flag_of a.due i))
+      due_of {i} None e inside (inr taken) = absurd (none-some _ (sym e ∙ taken.0))
+      due_of {i} (Some k) e inside (inl kept) = rw (off i k e kept.0) (kept.1 ∙ sym (or-false (flag_of a.due i)))
+      due_of {i} (Some k) e inside (inr taken) = let same : k ≡ j = same_Some _ _ (sym e ∙ taken.0) in rw (same, eqb-refl j) (taken.2 inside ∙ sym (or-true (flag_of a.due i)))
 
 -- fewer stand in lists
 pub fewer : (homes : List (Option ℕ)) (i j : ℕ) → i < length homes → home_of homes i ≡ Some j → count_by is_some (set homes i None) < count_by is_some homes
@@ -168,8 +155,8 @@ none_woken t m none = record {
     kept (Some k) = rw (none k) refl
 
     undue : (h : Option ℕ) (d : Bool) → d ≡ (d || is_on t h)
-    undue None d = or_no d
-    undue (Some k) d = rw (none k) (or_no d)
+    undue None d = sym (or-false d)
+    undue (Some k) d = rw (none k) (sym (or-false d))
 
 pub more_woken : (t u v : ℕ → Bool) (a b c : MachineState) → ((k : ℕ) → v k ≡ (t k || u k)) → IsWoken t a b → IsWoken u b c → IsWoken v a c
 more_woken t u v a b c e first then = record {
@@ -191,12 +178,12 @@ one_more_below flags from i next k =
     elim (cases_lt k from) [
       | inl lt ↦
           let later = next.later in
-          rw (lt-ltb k from lt, lt-ltb k (i + 1) (omega arith), ne-eqb k i (omega arith)) (or_no _)
+          rw (lt-ltb k from lt, lt-ltb k (i + 1) (omega arith), ne-eqb k i (omega arith)) (sym (or-false _))
       | inr ge ↦ elim (cases_eq k i) [
-        | inl same ↦ rw (same, next.member, lt-ltb i (i + 1) (omega arith), eqb-refl i) (or_yes _)
+        | inl same ↦ rw (same, next.member, lt-ltb i (i + 1) (omega arith), eqb-refl i) (sym (or-true _))
         | inr other ↦ elim (cases_lt k i) [
           | inl lt ↦ rw (next.between k ge lt, ne-eqb k i other) refl
-          | inr past ↦ rw (le-ltb k (i + 1) (omega arith), le-ltb k from ge, ne-eqb k i other) (or_no _)
+          | inr past ↦ rw (le-ltb k (i + 1) (omega arith), le-ltb k from ge, ne-eqb k i other) (sym (or-false _))
         ]
       ]
     ]

@@ -1,14 +1,15 @@
 -- Sets without the members of others.
-use Rattle.std.proofs.Common.{zero, suc, not, ◌&&◌, ◌≡◌, ◌≢◌, ◌<◌, ◌≤◌, ◌+◌, ◌-◌, ◌/◌, ◌%◌, ◌^◌, ◌↔◌, ℕ, Bool, true, false, List, length, set, slice_index, refl, ap, ◌∙◌, inl, inr, arith, get_or-set_same, get_or-set_other, length-set}
+use Rattle.std.proofs.Common.{zero, suc, not, ◌&&◌, ◌≡◌, ◌≢◌, ◌<◌, ◌≤◌, ◌+◌, ◌-◌, ◌/◌, ◌%◌, ◌^◌, ◌↔◌, ℕ, Bool, true, false, List, length, set, slice_index, refl, ap, ◌∙◌, inl, inr, arith, get_or-set_same, get_or-set_other, length-set, sym}
 use Rattle.std.specs.Int.{bit_at, w64}
 use Rattle.std.specs.Prelude.{◌==◌, bit_and, min}
 use Rattle.std.proofs.lemmas.Nat.Bits.{bit_at-lt, bit_at-zero, bit_at_and, bit_at_not}
 use Rattle.std.proofs.lemmas.Bool.{cases_eq, cases_lt}
 use Rattle.std.proofs.lemmas.List.{get_or_past}
+use Rattle.std.proofs.Math.Bool.{and-true, and-false}
 use Rattle.fleet_model.specs.declared.limits.TheConstants.{MAX_AGENTS}
 use Rattle.fleet_machine.specs.Machine.{flag_of}
 use Rattle.fleet_machine.specs.AgentSet.{is_bit, bit_if, flags_in, AreBits, AreMarks, AreBitsMarked, AreNoneFrom, IsNextFrom}
-use Rattle.fleet_machine.proofs.Bits.{flag_is}
+use Rattle.fleet_machine.proofs.Bits.{flag_is, bit_is}
 use Rattle.fleet_machine.proofs.Marked.{mark_written}
 
 -- ---- bits of one word
@@ -27,10 +28,6 @@ bit_without a b k fits lt =
     bit_at_and a (2 ^ 64 - 1 - b) k
     ∙ (ap (min (bit_at a k)) (bit_at_not w64 b k fits lt)
     ∙ bit_cases (bit_at a k) (bit_at b k) (bit_at-lt a k) (bit_at-lt b k))
-
-bit_is : (b : Bool) → (bit_if b == 1) ≡ b
-bit_is true = refl
-bit_is false = refl
 
 -- ---- word after word
 
@@ -106,18 +103,10 @@ none_removed old flags = record { long = refl; within = omega arith; so_far = λ
 
 module _ (old flags now : List Bool) (from : ℕ) (before : AreRemovedTo old flags now from) where
   unflagged : (k : ℕ) → flag_of flags k ≡ false → flag_of old k ≡ (flag_of old k && not (flag_of flags k))
-  unflagged k flag = rw flag (and_yes (flag_of old k))
-    where
-      and_yes : (b : Bool) → b ≡ (b && true)
-      and_yes true = refl
-      and_yes false = refl
+  unflagged k flag = rw flag (sym (and-true (flag_of old k)))
 
   flagged : (k : ℕ) → flag_of flags k ≡ true → false ≡ (flag_of old k && not (flag_of flags k))
-  flagged k flag = rw flag (and_no (flag_of old k))
-    where
-      and_no : (b : Bool) → false ≡ (b && false)
-      and_no true = refl
-      and_no false = refl
+  flagged k flag = rw flag (sym (and-false (flag_of old k)))
 
   pub one_removed : (i : ℕ) → length old ≡ length flags → IsNextFrom flags from i → AreRemovedTo old flags (set now i false) (i + 1)
   one_removed i same next =

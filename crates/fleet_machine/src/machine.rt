@@ -263,7 +263,7 @@ impl Machine {
     }
 
     /// The step of the next action of agent `i`, if it is ready.
-    #[tactic(auto, using(crate::proofs::Advanced::left_if_ready))]
+    #[tactic(auto, using(fleet_model::proofs::Tick::ready_left))]
     pub fn order<P: ProgramView>(&self, program: &P, i: u16) -> Option<Step>
         requires runs { Runs (P.program program.now) self.now }
         requires agent { i < length (P.program program.now) }

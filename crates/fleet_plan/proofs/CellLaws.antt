@@ -4,6 +4,7 @@ use Rattle.std.specs.Prelude.{option_map, option_and_then, ◌⊎◌}
 use Rattle.std.specs.List.{AllByRecursion, slice_split, onto_first}
 use Rattle.std.proofs.lemmas.Bool.{cases_Bool, eqb-true}
 use Rattle.std.proofs.lemmas.List.{append-nil}
+use Rattle.std.proofs.lemmas.Option.{none-some, same_Some}
 use Rattle.fleet_model.specs.declared.geometry.Cell.{Cell}
 use Rattle.fleet_text.specs.Text.{Bytes, is_blank, is_word, starts_blank, is_digit, words, digits_front, number_front, number_after, number, small, small_number, small_number_front}
 use Rattle.fleet_plan.specs.PlanText.{cell_of_parts, spelled_cell}
@@ -397,23 +398,17 @@ pub record Passes (text : Bytes) (cell : Cell) (after : Bytes) : Type 0 where
   pub spelled : spelled_cell (word_front text) ≡ Some cell
   pub front : starts_blank after ≡ false
 
-none_is_no : {A : Type 0} (x : A) → None ≡ Some x → ⊥
-none_is_no x e = cc
-
-same_pair : (a b : Cell × Bytes) → Some a ≡ Some b → a ≡ b
-same_pair a b e = cc
-
 empty_has_none : cell_front [] ≡ None
 unfolding cell_front small_number_front number_front
 empty_has_none = refl
 
 pub passes : (text : Bytes) (cell : Cell) (after : Bytes) → starts_blank text ≡ false → cell_front text ≡ Some (cell, after) → Passes text cell after
-passes [] cell after e found = absurd (none_is_no (cell, after) (sym empty_has_none ∙ found))
+passes [] cell after e found = absurd (none-some (cell, after) (sym empty_has_none ∙ found))
 passes (b ∷ text) cell after e found =
     elim (reads_cell (b ∷ text)) [
-      | inl h ↦ absurd (none_is_no (cell, after) (sym h.0 ∙ found))
+      | inl h ↦ absurd (none-some (cell, after) (sym h.0 ∙ found))
       | inr h ↦ (
-          let same : (h.0, h.1) ≡ (cell, after) = same_pair (h.0, h.1) (cell, after) (sym h.2 ∙ found) in
+          let same : (h.0, h.1) ≡ (cell, after) = same_Some {A = Cell × Bytes} (h.0, h.1) (cell, after) (sym h.2 ∙ found) in
           let p : Passes (b ∷ text) h.0 h.1 = record { words_are = words_front b text e ∙ ap (λ (ws : List Bytes). word_front (b ∷ text) ∷ ws) (sym h.4); spelled = h.3; front = h.5 } in
           subst (λ (x : Cell × Bytes). Passes (b ∷ text) x.0 x.1) same p)
     ]
@@ -430,6 +425,6 @@ cells_none (b ∷ text) e none =
       | inl t ↦ absurd (let f : false ≡ true = rw t at e in cc)
       | inr t ↦ elim (reads_cell (b ∷ text)) [
         | inl h ↦ ap spelled_cells (words_front b text t) ∙ rw h.1 refl
-        | inr h ↦ absurd (none_is_no (h.0, h.1) (sym none ∙ h.2))
+        | inr h ↦ absurd (none-some (h.0, h.1) (sym none ∙ h.2))
       ]
     ]

@@ -5,6 +5,7 @@ use Rattle.std.specs.List.{AllZip, AllByRecursion, slice_split}
 use Rattle.std.proofs.lemmas.Bool.{cases_Bool, ltb-true, leb-true, lt-ltb, le-leb}
 use Rattle.std.proofs.lemmas.List.{append-nil, length-append}
 use Rattle.std.proofs.lemmas.List.Elements.{All-from_recursion}
+use Rattle.std.proofs.lemmas.Option.{same_Some, none-some}
 use Rattle.fleet_model.specs.declared.geometry.Cell.{Cell}
 use Rattle.fleet_model.specs.Program.{IsCell}
 use Rattle.fleet_text.specs.Text.{Bytes, words_from_front, number, small, small_number}
@@ -17,12 +18,6 @@ use Rattle.fleet_plan.specs.PlanText.{cell_of_parts, spelled_cell, SpellsPath, S
 use Rattle.fleet_plan.specs.PlanReading.{spelled_cells, some_cells, path_at, plan_judged, paths_at}
 
 -- ---- the cells of words
-
-some_is : {A : Type 0} (x y : A) → Some x ≡ Some y → x ≡ y
-some_is x y e = cc
-
-no_some : {A : Type 0} (x : A) → None ≡ Some x → ⊥
-no_some x e = cc
 
 first_is : (x y : Option Cell) (xs ys : List (Option Cell)) → x ∷ xs ≡ y ∷ ys → x ≡ y
 first_is x y xs ys e = cc
@@ -42,15 +37,15 @@ cells_again (w ∷ ws) (c ∷ cells) e =
 
 pub cells_are : (ws : List Bytes) (cells : Path) → spelled_cells ws ≡ Some cells → map spelled_cell ws ≡ map (λ cell. Some cell) cells
 unfolding spelled_cells
-cells_are [] cells e = ap (map (λ (cell : Cell). Some cell)) (some_is [] cells e)
+cells_are [] cells e = ap (map (λ (cell : Cell). Some cell)) (same_Some [] cells e)
 cells_are (w ∷ ws) cells e = both (λ more. cells_are ws more) (spelled_cell w) refl (spelled_cells ws) refl
   where
     both : ((more : Path) → spelled_cells ws ≡ Some more → map spelled_cell ws ≡ map (λ cell. Some cell) more) → (o : Option Cell) → spelled_cell w ≡ o → (p : Option Path) → spelled_cells ws ≡ p → map spelled_cell (w ∷ ws) ≡ map (λ cell. Some cell) cells
-    both others None h p k = absurd (let f : None ≡ Some cells = rw h at e in no_some cells f)
-    both others (Some c) h None k = absurd (let f : None ≡ Some cells = rw (h, k) at e in no_some cells f)
+    both others None h p k = absurd (let f : None ≡ Some cells = rw h at e in none-some cells f)
+    both others (Some c) h None k = absurd (let f : None ≡ Some cells = rw (h, k) at e in none-some cells f)
     both others (Some c) h (Some more) k =
         let f : Some (c ∷ more) ≡ Some cells = rw (h, k) at e in
-        ap (λ (o : Option Cell). o ∷ map spelled_cell ws) h ∙ ap (λ (os : List (Option Cell)). Some c ∷ os) (others more k) ∙ ap (map (λ (cell : Cell). Some cell)) (some_is (c ∷ more) cells f)
+        ap (λ (o : Option Cell). o ∷ map spelled_cell ws) h ∙ ap (λ (os : List (Option Cell)). Some c ∷ os) (others more k) ∙ ap (map (λ (cell : Cell). Some cell)) (same_Some (c ∷ more) cells f)
 
 -- ---- the path of a line
 
@@ -68,11 +63,11 @@ pub spells_is : (line : Bytes) (path : Path) → path_in line ≡ Some path → 
 spells_is line path e = found (spelled_cells (words_from_front line)) refl
   where
     found : (o : Option Path) → spelled_cells (words_from_front line) ≡ o → SpellsPath line path
-    found None h = absurd (let f : None ≡ Some path = rw h at e in no_some path f)
-    found (Some []) h = absurd (let f : None ≡ Some path = rw h at e in no_some path f)
+    found None h = absurd (let f : None ≡ Some path = rw h at e in none-some path f)
+    found (Some []) h = absurd (let f : None ≡ Some path = rw h at e in none-some path f)
     found (Some (c ∷ cells)) h =
         let f : Some (c ∷ cells) ≡ Some path = rw h at e in
-        let same = some_is (c ∷ cells) path f in
+        let same = same_Some (c ∷ cells) path f in
         subst (SpellsPath line) same (record { some = omega arith; cells = cells_are (words_from_front line) (c ∷ cells) h })
 
 abbrev pub judged : ℕ → Path → Result Path TextFault
@@ -159,25 +154,25 @@ unfolding small_number
 small_is_few word n e = few (number word) e
   where
     few : (o : Option ℕ) → option_and_then small o ≡ Some n → n < 65536
-    few None e = absurd (no_some n e)
+    few None e = absurd (none-some n e)
     few (Some m) e =
         elim (cases_Bool (ltb m 65536)) [
-          | inl t ↦ (let f : Some m ≡ Some n = rw t at e in subst (λ (k : ℕ). k < 65536) (some_is m n f) (ltb-true m 65536 t))
-          | inr t ↦ absurd (let f : None ≡ Some n = rw t at e in no_some n f)
+          | inl t ↦ (let f : Some m ≡ Some n = rw t at e in subst (λ (k : ℕ). k < 65536) (same_Some m n f) (ltb-true m 65536 t))
+          | inr t ↦ absurd (let f : None ≡ Some n = rw t at e in none-some n f)
         ]
 
 parts_are_few : (parts : List Bytes) (c : Cell) → cell_of_parts parts ≡ Some c → IsCell c
-parts_are_few [] c e = absurd (no_some c e)
-parts_are_few (x ∷ []) c e = absurd (no_some c e)
+parts_are_few [] c e = absurd (none-some c e)
+parts_are_few (x ∷ []) c e = absurd (none-some c e)
 parts_are_few (x ∷ y ∷ []) c e = few (small_number x) refl (small_number y) refl
   where
     few : (o : Option ℕ) → small_number x ≡ o → (p : Option ℕ) → small_number y ≡ p → IsCell c
-    few None h p k = absurd (let f : None ≡ Some c = rw h at e in no_some c f)
-    few (Some m) h None k = absurd (let f : None ≡ Some c = rw (h, k) at e in no_some c f)
+    few None h p k = absurd (let f : None ≡ Some c = rw h at e in none-some c f)
+    few (Some m) h None k = absurd (let f : None ≡ Some c = rw (h, k) at e in none-some c f)
     few (Some m) h (Some n) k =
         let f : Some (record { x = m; y = n }) ≡ Some c = rw (h, k) at e in
-        subst IsCell (some_is (record { x = m; y = n }) c f) (let a = small_is_few x m h in let b = small_is_few y n k in record { x = omega (arith, a); y = omega (arith, b) })
-parts_are_few (x ∷ y ∷ z ∷ more) c e = absurd (no_some c e)
+        subst IsCell (same_Some (record { x = m; y = n }) c f) (let a = small_is_few x m h in let b = small_is_few y n k in record { x = omega (arith, a); y = omega (arith, b) })
+parts_are_few (x ∷ y ∷ z ∷ more) c e = absurd (none-some c e)
 
 cells_are_few : (ws : List Bytes) (cells : Path) → map spelled_cell ws ≡ map (λ cell. Some cell) cells → AllByRecursion IsCell cells
 unfolding spelled_cell

@@ -102,7 +102,7 @@ still_there P p xs ys k i x f l e h =
 
 -- ---- all agents
 
-range_push : (a n : ℕ) → range_with_len a (suc n) ≡ range_with_len a n ++ (a + n) ∷ []
+pub range_push : (a n : ℕ) → range_with_len a (suc n) ≡ range_with_len a n ++ (a + n) ∷ []
 range_push a zero = ap (λ z. z ∷ []) (omega arith)
 range_push a (suc n) = ap (λ zs. a ∷ zs) (range_push (a + 1) n ∙ ap (λ z. range_with_len (a + 1) n ++ z ∷ []) (omega arith))
 

@@ -1,10 +1,10 @@
 -- Answers of questions, one after another.
-use Rattle.std.proofs.Common.{rules, ◌≡◌, ◌≢◌, ℕ, ◌+◌, ◌<◌, ◌≤◌, Bool, true, false, List, length, replicate, get_or, set, Some, refl, sym, ap, subst, ◌∙◌, arith, inl, inr, ◌⊎◌}
+use Rattle.std.proofs.Common.{◌≡◌, ◌≢◌, ℕ, ◌+◌, ◌<◌, ◌≤◌, Bool, true, false, List, length, replicate, get_or, set, Some, refl, sym, ap, subst, ◌∙◌, arith, inl, inr, ◌⊎◌}
 use Rattle.std.specs.Prelude.{slice_get, nat_lt, All, Option, None}
 use Rattle.std.proofs.lemmas.Grind.{common_steps}
-use Rattle.std.proofs.lemmas.Option.{slice_get_within, get_or_from_slice_get, slice_get-get_or}
+use Rattle.std.proofs.lemmas.Option.{slice_get_within, get_or_from_slice_get, slice_get-get_or, same_Some}
 use Rattle.std.proofs.lemmas.List.{get_or-replicate, get_or_past, length-replicate}
-use Rattle.std.proofs.lemmas.Bool.{cases_lt, cases_eq, cases_order, ltb-true, lt-ltb}
+use Rattle.std.proofs.lemmas.Bool.{cases_lt, cases_eq, cases_order, ltb-true, lt-ltb, false≢true}
 use Rattle.fleet_model.specs.declared.program.ActionId.{ActionId}
 use Rattle.fleet_model.specs.Program.{Program}
 use Rattle.fleet_model.specs.Chain.{IsAction, Reaches}
@@ -36,10 +36,7 @@ answer_is p q n some col = (
 
 -- if the first action is reached, a flag that is not set is the answer
 pub near_answer : (p : Program) (q : Question) (flag : Bool) → flag ≡ false → Reaches p q.first q.last → IsAnswer p q flag
-near_answer p q flag e r = ((λ set none. none_set (sym e ∙ set)), (λ none. absurd (none r)))
-  where
-    none_set : false ≡ true → ⊥
-    none_set f = search rules
+near_answer p q flag e r = ((λ set none. false≢true (sym e ∙ set)), (λ none. absurd (none r)))
 
 pub none_flagged_at : (n k : ℕ) → get_or (replicate n false) k false ≡ false
 none_flagged_at n k = elim (cases_lt k n) [
@@ -52,11 +49,8 @@ pub none_asked : (p : Program) (questions : List Question) (asked flags : List B
     → ((k : ℕ) → get_or asked k false ≡ false) → length flags ≡ length questions → ((k : ℕ) → get_or flags k false ≡ false) → AreAnswers p questions flags
 none_asked p questions asked flags h none long clear = record {
   all = long;
-  each = λ k q e. near_answer p q (get_or flags k false) (clear k) (elim (h k q e) [ inr r ↦ r | inl set ↦ absurd (unset (sym (none q.first.agent) ∙ set)) ]);
+  each = λ k q e. near_answer p q (get_or flags k false) (clear k) (elim (h k q e) [ inr r ↦ r | inl set ↦ absurd (false≢true (sym (none q.first.agent) ∙ set)) ]);
 }
-  where
-    unset : false ≡ true → ⊥
-    unset f = search rules
 
 -- a question whose agent has no column in any block is answered before
 abbrev pub AreKnown : Program → List Bool → List Question → List Bool → Type 0
@@ -111,9 +105,6 @@ module _ (p : Program) (columns : Columns) (questions : List Question) (asked : 
   back : (x : ActionId) → IsCounted (set counts a.agent a.number) x → IsCounted counts x ⊎ (x ≡ a)
   back = counted_back counts a next.agent next.number
 
-  some_same : (x y : Question) → Some x ≡ Some y → x ≡ y
-  some_same x y e = search rules
-
   pub answers_on : (n m : ℕ) (old new : List Bool) → AreAnsweredTo p columns questions (IsCounted counts) old n → IsAsked p columns questions a n old new m
       → AreAnsweredTo p columns questions (IsCounted (set counts a.agent a.number)) new m
   answers_on n m old new r s = go s.step
@@ -134,13 +125,13 @@ module _ (p : Program) (columns : Columns) (questions : List Question) (asked : 
         ];
         done = λ k q at l. elim (cases_eq k n) [
           | inl at_n ↦
-              let is : q ≡ one.question = some_same q one.question (sym at ∙ ap (slice_get questions) at_n ∙ one.at) in
+              let is : q ≡ one.question = same_Some q one.question (sym at ∙ ap (slice_get questions) at_n ∙ one.at) in
               subst (IsCounted (set counts a.agent a.number)) (sym (ap (λ (x : Question). x.last) is ∙ one.last)) (counted_here counts a next.agent next.number)
           | inr ne ↦ still q.last (r.done k q at (omega arith))
         ];
         answered = λ k c q at l has. elim (cases_eq k n) [
           | inl at_n ↦
-              let is : q ≡ one.question = some_same q one.question (sym at ∙ ap (slice_get questions) at_n ∙ one.at) in
+              let is : q ≡ one.question = same_Some q one.question (sym at ∙ ap (slice_get questions) at_n ∙ one.at) in
               subst (λ (x : ℕ). IsAnswer p q (get_or new x false)) (sym at_n)
               (subst (λ (x : Question). IsAnswer p x (get_or new n false)) (sym is) (one.answer c (subst (λ (x : Question). HasColumn columns x.first.agent c) is has)))
           | inr ne ↦ earlier k c q at (omega arith) has
@@ -173,13 +164,10 @@ others_on p columns questions a n m old new s k q at none = elim (cases_eq k n) 
   | inl e ↦ elim s.step [
     | inr (same, left, other) ↦ subst (λ (x : ℕ). get_or new x false ≡ get_or old x false) (sym e) left
     | inl (same, next) ↦
-        let is : q ≡ next.question = same_question q next.question (sym at ∙ ap (slice_get questions) e ∙ next.at) in
+        let is : q ≡ next.question = same_Some q next.question (sym at ∙ ap (slice_get questions) e ∙ next.at) in
         subst (λ (x : ℕ). get_or new x false ≡ get_or old x false) (sym e) (next.none (subst (λ (x : Question). get_or columns.of_agent.items x.first.agent None ≡ None) is none))
   ]
 ]
-  where
-    same_question : (x y : Question) → Some x ≡ Some y → x ≡ y
-    same_question x y e = search rules
 
 -- ---- the question that comes next
 

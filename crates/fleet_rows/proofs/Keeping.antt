@@ -1,7 +1,8 @@
 -- Rows that are kept: one comes, and one goes.
-use Rattle.std.proofs.Common.{rules, ◌≡◌, ◌≢◌, ℕ, ◌+◌, ◌*◌, ◌<◌, ◌≤◌, length, slice_index, sym, ap, subst, ◌∙◌, arith, inl, inr}
+use Rattle.std.proofs.Common.{◌≡◌, ◌≢◌, ℕ, ◌+◌, ◌*◌, ◌<◌, ◌≤◌, length, slice_index, sym, ap, subst, ◌∙◌, arith, inl, inr}
 use Rattle.std.specs.Prelude.{Some, None}
 use Rattle.std.proofs.lemmas.Bool.{cases_eq}
+use Rattle.std.proofs.lemmas.Option.{same_Some, none-some}
 use Rattle.fleet_rows.specs.declared.kept_rows.KeptRows.{KeptRows}
 use Rattle.fleet_rows.specs.declared.kept_rows.Slot.{Slot}
 use Rattle.fleet_rows.specs.Kept.{IsSound, IsKept, IsLast, slot_at, mark_of, count_in, HasSame, IsKeptAlike, IsKeptMore, IsReleased, IsVacated}
@@ -32,26 +33,17 @@ module _ (old new : KeptRows) (a s : ℕ) (vacant : (slot_at old s).owner ≡ No
   other_owner b apart t = elim (cases_eq t s) [
     | inr ne ↦ (let e = h.slots t ne in ((λ k. sym (ap (λ (x : Slot). x.owner) e) ∙ k), (λ k. ap (λ (x : Slot). x.owner) e ∙ k)))
     | inl e ↦ (
-      (λ k. absurd (apart (same_some b a (sym k ∙ ap (λ u. (slot_at new u).owner) e ∙ h.owner)))),
-      (λ k. absurd (no_some b (sym vacant ∙ sym (ap (λ u. (slot_at old u).owner) e) ∙ k))),
+      (λ k. absurd (apart (same_Some b a (sym k ∙ ap (λ u. (slot_at new u).owner) e ∙ h.owner)))),
+      (λ k. absurd (none-some b (sym vacant ∙ sym (ap (λ u. (slot_at old u).owner) e) ∙ k))),
     )
   ]
-    where
-      same_some : (x y : ℕ) → Some x ≡ Some y → x ≡ y
-      same_some x y e = search rules
-
-      no_some : (x : ℕ) → None ≡ Some x → ⊥
-      no_some x e = search rules
 
   others : (b : ℕ) → b ≢ a → IsKeptAlike old new b
   others b apart = record {
     still = λ k. ap (λ t. (slot_at new t).owner) (h.marks b apart) ∙ (other_owner b apart (mark_of old b)).1 k;
     before = λ k. (other_owner b apart (mark_of old b)).0 (sym (ap (λ t. (slot_at new t).owner) (h.marks b apart)) ∙ k);
-    counts = λ k kept l. ap (λ t. count_in new t k) (h.marks b apart) ∙ h.counts (mark_of old b) k (λ e. no_some b (sym vacant ∙ sym (ap (λ u. (slot_at old u).owner) e) ∙ kept)) l;
+    counts = λ k kept l. ap (λ t. count_in new t k) (h.marks b apart) ∙ h.counts (mark_of old b) k (λ e. none-some b (sym vacant ∙ sym (ap (λ u. (slot_at old u).owner) e) ∙ kept)) l;
   }
-    where
-      no_some : (x : ℕ) → None ≡ Some x → ⊥
-      no_some x e = search rules
 
   kept : IsKept new a
   kept = ap (λ t. (slot_at new t).owner) h.mark ∙ h.owner
@@ -64,10 +56,7 @@ module _ (old new : KeptRows) (a s : ℕ) (vacant : (slot_at old s).owner ≡ No
       mine e (inr (k, mark)) = subst (λ x. IsLast new x n) (sym e) (inl (kept, ap (λ t. (slot_at new t).last) h.mark ∙ h.last ∙ ap (mark_of old) (sym e) ∙ mark))
 
       theirs : b ≢ a → IsLast old b n → IsLast new b n
-      theirs ne (inl (k, last)) = inl ((others b ne).still k, ap (λ t. (slot_at new t).last) (h.marks b ne) ∙ ap (λ (x : Slot). x.last) (h.slots (mark_of old b) (λ e. no_some b (sym vacant ∙ sym (ap (λ u. (slot_at old u).owner) e) ∙ k))) ∙ last)
-        where
-          no_some : (x : ℕ) → None ≡ Some x → ⊥
-          no_some x e = search rules
+      theirs ne (inl (k, last)) = inl ((others b ne).still k, ap (λ t. (slot_at new t).last) (h.marks b ne) ∙ ap (λ (x : Slot). x.last) (h.slots (mark_of old b) (λ e. none-some b (sym vacant ∙ sym (ap (λ u. (slot_at old u).owner) e) ∙ k))) ∙ last)
       theirs ne (inr (k, mark)) = inr ((λ g. k ((others b ne).before g)), h.marks b ne ∙ mark)
 
   pub filled : IsKeptMore old new a
@@ -78,18 +67,12 @@ module _ (old new : KeptRows) (a s : ℕ) (vacant : (slot_at old s).owner ≡ No
 module _ (old new : KeptRows) (a : ℕ) (sound : IsSound old) (had : IsKept old a) (h : IsVacated old new a) where
   pub none_owns : (t : ℕ) → (slot_at new t).owner ≡ Some a → ⊥
   none_owns t k = elim (cases_eq t (mark_of old a)) [
-    | inl e ↦ no_some a (sym h.owner ∙ sym (ap (λ u. (slot_at new u).owner) e) ∙ k)
+    | inl e ↦ none-some a (sym h.owner ∙ sym (ap (λ u. (slot_at new u).owner) e) ∙ k)
     | inr ne ↦ ne (sym (sound.named t a (sym (ap (λ (x : Slot). x.owner) (h.slots t ne)) ∙ k)))
   ]
-    where
-      no_some : (x : ℕ) → None ≡ Some x → ⊥
-      no_some x e = search rules
 
   apart : (b : ℕ) → b ≢ a → IsKept old b → mark_of old b ≢ mark_of old a
-  apart b ne k e = ne (same_some b a (sym k ∙ ap (λ u. (slot_at old u).owner) e ∙ had))
-    where
-      same_some : (x y : ℕ) → Some x ≡ Some y → x ≡ y
-      same_some x y e = search rules
+  apart b ne k e = ne (same_Some b a (sym k ∙ ap (λ u. (slot_at old u).owner) e ∙ had))
 
   still : (b : ℕ) → b ≢ a → IsKept old b → IsKept new b
   still b ne k = ap (λ t. (slot_at new t).owner) (h.marks b ne) ∙ ap (λ (x : Slot). x.owner) (h.slots (mark_of old b) (apart b ne k)) ∙ k
@@ -98,12 +81,9 @@ module _ (old new : KeptRows) (a : ℕ) (sound : IsSound old) (had : IsKept old 
   before b ne k =
       let there : (slot_at new (mark_of old b)).owner ≡ Some b = sym (ap (λ t. (slot_at new t).owner) (h.marks b ne)) ∙ k in
       elim (cases_eq (mark_of old b) (mark_of old a)) [
-        | inl e ↦ absurd (no_some b (sym h.owner ∙ sym (ap (λ u. (slot_at new u).owner) e) ∙ there))
+        | inl e ↦ absurd (none-some b (sym h.owner ∙ sym (ap (λ u. (slot_at new u).owner) e) ∙ there))
         | inr far ↦ sym (ap (λ (x : Slot). x.owner) (h.slots (mark_of old b) far)) ∙ there
       ]
-    where
-      no_some : (x : ℕ) → None ≡ Some x → ⊥
-      no_some x e = search rules
 
   left : (b : ℕ) → b ≢ a → IsKeptAlike old new b
   left b ne = record { still = still b ne; before = before b ne; counts = λ k kept l. ap (λ t. count_in new t k) (h.marks b ne) ∙ h.counts (mark_of old b) k }
@@ -145,11 +125,8 @@ vacated_sound old new a sound had h counts slots = record {
     there : (s b : ℕ) → (slot_at new s).owner ≡ Some b → (slot_at old s).owner ≡ Some b
     there s b k = elim (cases_eq s (mark_of old a)) [
       | inr ne ↦ sym (ap (λ (x : Slot). x.owner) (h.slots s ne)) ∙ k
-      | inl e ↦ absurd (no_some b (sym h.owner ∙ sym (ap (λ u. (slot_at new u).owner) e) ∙ k))
+      | inl e ↦ absurd (none-some b (sym h.owner ∙ sym (ap (λ u. (slot_at new u).owner) e) ∙ k))
     ]
-      where
-        no_some : (x : ℕ) → None ≡ Some x → ⊥
-        no_some x e = search rules
 
 -- a slot more, and a row's counts
 pub one_more_row : (n w old counts slots : ℕ) → old ≡ n * w → counts ≡ old + w → slots ≡ n + 1 → counts ≡ slots * w

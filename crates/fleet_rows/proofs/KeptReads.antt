@@ -1,9 +1,10 @@
 -- Where the counts of kept rows stand.
-use Rattle.std.proofs.Common.{◌≡◌, ℕ, ◌+◌, ◌-◌, ◌*◌, ◌<◌, ◌≤◌, List, length, get_or, take, drop, sym, ap, ◌∙◌, rules, arith, inl, inr}
-use Rattle.std.specs.Prelude.{◌≢◌, Some, None}
+use Rattle.std.proofs.Common.{◌≡◌, ℕ, ◌+◌, ◌-◌, ◌*◌, ◌<◌, ◌≤◌, List, length, get_or, take, drop, sym, ap, ◌∙◌, arith, inl, inr}
+use Rattle.std.specs.Prelude.{◌≢◌, Some}
 use Rattle.std.proofs.lemmas.Bool.{cases_lt, cases_eq}
 use Rattle.std.proofs.lemmas.List.{get_or_past, get_or_read, get_or-take, get_or-drop}
 use Rattle.std.proofs.lemmas.Nat.{row_fits}
+use Rattle.std.proofs.lemmas.Option.{same_Some, none-some}
 use Rattle.fleet_rows.specs.Kept.{IsSound, IsKept, mark_of, slot_at, count_in, vacant}
 use Rattle.fleet_rows.specs.declared.kept_rows.KeptRows.{KeptRows}
 use Rattle.fleet_rows.specs.declared.kept_rows.Slot.{Slot}
@@ -12,11 +13,8 @@ use Rattle.fleet_rows.specs.declared.kept_rows.Slot.{Slot}
 pub kept_slot : (m : KeptRows) (a : ℕ) → IsKept m a → mark_of m a < length m.slots.items
 kept_slot m a kept = elim (cases_lt (mark_of m a) (length m.slots.items)) [
   | inl low ↦ low
-  | inr high ↦ absurd (no_owner (sym (ap (λ (x : Slot). x.owner) (get_or_past m.slots.items (mark_of m a) vacant high)) ∙ kept))
+  | inr high ↦ absurd (none-some a (sym (ap (λ (x : Slot). x.owner) (get_or_past m.slots.items (mark_of m a) vacant high)) ∙ kept))
 ]
-  where
-    no_owner : None ≡ Some a → ⊥
-    no_owner e = search rules
 
 -- and so are its counts
 pub kept_fits : (m : KeptRows) (a : ℕ) → IsSound m → IsKept m a → mark_of m a * m.width + m.width ≤ length m.counts.items
@@ -60,14 +58,11 @@ filled_sound old new a s sound not_yet within width mark marks owner slots actio
   ];
 }
   where
-    some_same : (x y : ℕ) → Some x ≡ Some y → x ≡ y
-    some_same x y e = search rules
-
     before : (t b : ℕ) → (slot_at new t).owner ≡ Some b → t ≢ s → (slot_at old t).owner ≡ Some b
     before t b is apart = sym (ap (λ (x : Slot). x.owner) (slots t apart)) ∙ is
 
     is_own : (t b : ℕ) → (slot_at new t).owner ≡ Some b → t ≡ s → b ≡ a
-    is_own t b is e = some_same b a (sym is ∙ ap (λ (u : ℕ). (slot_at new u).owner) e ∙ owner)
+    is_own t b is e = same_Some b a (sym is ∙ ap (λ (u : ℕ). (slot_at new u).owner) e ∙ owner)
 
     own_kept : (t b : ℕ) → (slot_at old t).owner ≡ Some b → b ≡ a → IsKept old a
     own_kept t b is same = ap (λ (u : ℕ). (slot_at old u).owner) (ap (mark_of old) (sym same) ∙ sound.named t b is) ∙ is ∙ ap (λ (x : ℕ). Some x) same

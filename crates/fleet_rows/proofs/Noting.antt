@@ -1,8 +1,8 @@
 -- The last takers of actions, noted tick by tick.
-use Rattle.std.proofs.Common.{rules, ◌≡◌, ℕ, ◌+◌, ◌<◌, ◌≤◌, false, List, [], length, slice_index, refl, sym, ap, subst, ◌∙◌, arith, inl, inr}
+use Rattle.std.proofs.Common.{◌≡◌, ℕ, ◌+◌, ◌<◌, ◌≤◌, false, List, [], length, slice_index, refl, sym, ap, subst, ◌∙◌, arith, inl, inr}
 use Rattle.std.specs.Prelude.{slice_get, Some}
 use Rattle.std.proofs.lemmas.Bool.{cases_lt, cases_eq}
-use Rattle.std.proofs.lemmas.Option.{slice_get-get_or}
+use Rattle.std.proofs.lemmas.Option.{slice_get-get_or, same_Some}
 use Rattle.fleet_model.specs.declared.program.ActionId.{ActionId}
 use Rattle.fleet_model.specs.declared.program.Await.{Await}
 use Rattle.fleet_model.specs.Program.{Program, awaits_of}
@@ -30,16 +30,13 @@ pub awaited_more : (p : Program) (firsts : List ℕ) (a : ActionId) (tick k x : 
     → (m : ℕ) (w : Await) → m < k + 1 → slice_get (awaits_of p a.agent a.number) m ≡ Some w → tick ≤ slice_index new (action_place firsts (awaited w))
 awaited_more p firsts a tick k x v old new raised before at there noted m w l here = elim (cases_eq m k) [
   | inl e ↦
-      let same : w ≡ v = some_same w v (sym here ∙ ap (slice_get (awaits_of p a.agent a.number)) e ∙ at) in
+      let same : w ≡ v = same_Some w v (sym here ∙ ap (slice_get (awaits_of p a.agent a.number)) e ∙ at) in
       subst (λ (u : Await). tick ≤ slice_index new (action_place firsts (awaited u))) (sym same) (subst (λ (y : ℕ). tick ≤ slice_index new y) there noted)
   | inr ne ↦
       let low : tick ≤ slice_index old (action_place firsts (awaited w)) = before m w (omega arith) here in
       let up : slice_index old (action_place firsts (awaited w)) ≤ slice_index new (action_place firsts (awaited w)) = raised.1 (action_place firsts (awaited w)) in
       omega arith
 ]
-  where
-    some_same : (y z : Await) → Some y ≡ Some z → y ≡ z
-    some_same y z e = search rules
 
 -- what was noted before stays noted
 pub noted_still : (p : Program) (firsts : List ℕ) (t n : ℕ) (old new : List ℕ) → AreRaised old new → IsNotedAt p firsts t n old → IsNotedAt p firsts t n new

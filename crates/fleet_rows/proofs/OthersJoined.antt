@@ -1,8 +1,8 @@
 -- Columns joined of the awaits of other agents, and then of those of the agent itself.
-use Rattle.std.proofs.Common.{rules, ◌≡◌, ◌≢◌, ℕ, ◌+◌, ◌<◌, length, max, sym, ap, subst, ◌∙◌, arith, inl, inr}
+use Rattle.std.proofs.Common.{◌≡◌, ◌≢◌, ℕ, ◌+◌, ◌<◌, length, max, sym, ap, subst, ◌∙◌, arith, inl, inr}
 use Rattle.std.specs.Prelude.{slice_get, Some}
 use Rattle.std.proofs.lemmas.Bool.{cases_lt}
-use Rattle.std.proofs.lemmas.Option.{slice_get_within}
+use Rattle.std.proofs.lemmas.Option.{slice_get_within, same_Some}
 use Rattle.fleet_model.specs.declared.program.Await.{Await}
 use Rattle.fleet_model.specs.Program.{Program, awaits_of}
 use Rattle.fleet_model.specs.Chain.{awaited}
@@ -27,11 +27,8 @@ module _ (p : Program) (i b j : ℕ) where
         | inl l ↦ (l, t.1)
         | inr g ↦
             let e : m ≡ k = (let l : m < k + 1 = t.0 in omega arith) in
-            absurd (t.1 (ap (λ (x : Await). x.agent) (some_is v w (sym a ∙ ap (slice_get (awaits_of p i (b + 1))) e ∙ at)) ∙ same))
+            absurd (t.1 (ap (λ (x : Await). x.agent) (same_Some v w (sym a ∙ ap (slice_get (awaits_of p i (b + 1))) e ∙ at)) ∙ same))
       ])
-    where
-      some_is : (v w : Await) → Some v ≡ Some w → v ≡ w
-      some_is v w e = search rules
 
   -- ---- then those of the agent itself
 
@@ -58,12 +55,9 @@ module _ (p : Program) (i b j : ℕ) where
           | inl less ↦ inr less
           | inr g ↦
               let e : m ≡ k = omega arith in
-              inl (subst (λ (x : Await). x.agent ≢ j) (some_is w v (sym at ∙ ap (slice_get (awaits_of p i (b + 1))) (sym e) ∙ a)) other)
+              inl (subst (λ (x : Await). x.agent ≢ j) (same_Some w v (sym at ∙ ap (slice_get (awaits_of p i (b + 1))) (sym e) ∙ a)) other)
         ]
       ])
-    where
-      some_is : (v w : Await) → Some v ≡ Some w → v ≡ w
-      some_is v w e = search rules
 
   -- all of them
   pub first_all : (n : ℕ) → IsJoined (OfOthersOrFirst j (length (awaits_of p i (b + 1)))) p i b j n → IsJoined (OfFirst (length (awaits_of p i (b + 1)))) p i b j n

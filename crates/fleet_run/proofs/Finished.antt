@@ -1,9 +1,9 @@
 -- Fleets that are finished.
-use Rattle.std.proofs.Common.{◌≡◌, ◌<◌, ◌≤◌, ℕ, zero, suc, ◌&&◌, not, Bool, true, false, length, filter, refl, ap, sym, subst, ◌∙◌, inl, inr, arith, add-one, Result, Ok, Err}
+use Rattle.std.proofs.Common.{◌≡◌, ◌<◌, ◌≤◌, ℕ, zero, suc, ◌&&◌, not, Bool, true, false, length, filter, refl, ap, sym, subst, arith, add-one, Result, Ok, Err}
 use Rattle.std.specs.Prelude.{IfOk}
 use Rattle.std.specs.List.{list_any}
-use Rattle.std.proofs.lemmas.Bool.{cases_lt}
-use Rattle.fleet_model.specs.Program.{Program, moves, actions_of}
+use Rattle.std.proofs.lemmas.Bool.{and_right}
+use Rattle.fleet_model.specs.Program.{Program, actions_of}
 use Rattle.fleet_model.specs.Machine.{Configuration, Holds, run, tick, count_at, is_ready, is_moving, is_ready_held, moved_in, is_finished, indices, IsFinish}
 use Rattle.fleet_model.specs.Chain.{IsLongestChain}
 use Rattle.fleet_model.specs.Run.{Arrives}
@@ -18,20 +18,13 @@ use Rattle.fleet_machine.specs.Looked.{ready_in, awaits_moving, awaiting_in}
 use Rattle.fleet_machine.proofs.Indices.{any_suc}
 use Rattle.fleet_machine.proofs.Ready.{no_action_left}
 use Rattle.fleet_machine.proofs.Advanced.{filter_more}
-use Rattle.fleet_machine.proofs.Opened.{not_finished_if}
 use Rattle.fleet_machine.proofs.Resting.{rests_if}
+use Rattle.fleet_verify.proofs.Held.{finished_all}
 
 -- ---- nobody is ready any more
 
-finished_each : (p : Program) (c : Configuration) → is_finished p c ≡ true → (i : ℕ) → i < length p → moves p i ≤ count_at c i
-finished_each p c h i inside =
-    elim (cases_lt (count_at c i) (moves p i)) [
-      | inl l ↦ let e : false ≡ true = not_finished_if p c i inside l ∙ h in absurd (cc)
-      | inr l ↦ l
-    ]
-
 nobody_ready : (p : Program) (c : Configuration) → is_finished p c ≡ true → (i : ℕ) → i < length p → is_ready p c i ≡ false
-nobody_ready p c h i inside = no_action_left p c i (finished_each p c h i inside)
+nobody_ready p c h i inside = no_action_left p c i (finished_all p c h i inside)
 
 none_below : (test : ℕ → Bool) (n : ℕ) → ((k : ℕ) → k < n → test k ≡ false) → list_any test (indices n) ≡ false
 none_below test zero h = refl
@@ -63,12 +56,8 @@ pub looks_at_none : (p : Program) (held : ℕ → Bool) (c : Configuration) → 
 looks_at_none p held c h = (
   none_counted (is_ready p c) (length p) (nobody_ready p c h),
   none_counted (λ i. not (is_ready p c i) && awaits_moving p held c i) (length p)
-      (λ i inside. and_no (not (is_ready p c i)) (rw (slice_get_past (actions_of p i) (count_at c i) (finished_each p c h i inside)) refl)),
+      (λ i inside. and_right (not (is_ready p c i)) _ (rw (slice_get_past (actions_of p i) (count_at c i) (finished_all p c h i inside)) refl)),
 )
-  where
-    and_no : (a : Bool) {b : Bool} → b ≡ false → (a && b) ≡ false
-    and_no true e = e
-    and_no false e = refl
 
 -- ---- all stand on their goals
 

@@ -1,18 +1,15 @@
 -- The flags of a tick, one number at a time.
-use Rattle.std.proofs.Common.{◌≡◌, ◌≢◌, ◌||◌, ◌==◌, ◌∙◌, sym, ℕ, ◌+◌, ◌<◌, ◌≤◌, Bool, true, false, List, [], ◌∷◌, ◌++◌, length, get_or, set, take, ◌⊎◌, refl, inl, inr, arith, get_or-set_other}
+use Rattle.std.proofs.Common.{◌≡◌, ◌≢◌, ◌==◌, ◌∙◌, sym, ℕ, ◌+◌, ◌<◌, ◌≤◌, Bool, true, false, List, [], ◌∷◌, ◌++◌, length, get_or, set, take, ◌⊎◌, refl, inl, inr, arith, get_or-set_other}
 use Rattle.std.proofs.lemmas.Bool.Decides.{eqb_tells}
 use Rattle.std.proofs.lemmas.Grind.{get_or-set_at}
 use Rattle.std.proofs.lemmas.List.{length-set, take_more}
+use Rattle.std.proofs.Math.Bool.{or-true}
 use Rattle.fleet_model.specs.Machine.{is_among}
 use Rattle.fleet_run.specs.Source.{AreFlagsOf}
 
-or_true : (a : Bool) → (a || true) ≡ true
-or_true true = refl
-or_true false = refl
-
 pub is_among-last : (i n : ℕ) (ns : List ℕ) → (n == i) ≡ true → is_among (ns ++ n ∷ []) i ≡ true
 is_among-last i n [] e = rw e refl
-is_among-last i n (m ∷ ms) e = rw (is_among-last i n ms e) (or_true (m == i))
+is_among-last i n (m ∷ ms) e = rw (is_among-last i n ms e) (or-true (m == i))
 
 pub is_among-other : (i n : ℕ) (ns : List ℕ) → (n == i) ≡ false → is_among (ns ++ n ∷ []) i ≡ is_among ns i
 is_among-other i n [] e = rw e refl

@@ -1,6 +1,6 @@
 -- A run on its way, one tick at a time.
 use Rattle.std.proofs.Common.{◌≡◌, ◌<◌, ◌≤◌, ◌*◌, take, subst, ℕ, zero, suc, ◌+◌, not, Bool, true, false, cond, None, List, [], ◌∷◌, get_or, drop, length, refl, ap, sym, ◌∙◌, add-one, inl, inr, ◌≢◌, arith, below_more, Result, Ok, Err}
-use Rattle.std.proofs.lemmas.Bool.{cases_Bool}
+use Rattle.std.proofs.lemmas.Bool.{cases_Bool, not-true, not-false}
 use Rattle.std.proofs.lemmas.List.{length-drop}
 use Rattle.fleet_model.specs.declared.limits.TheConstants.{MAX_AGENTS, MAX_MOVES}
 use Rattle.fleet_run.specs.declared.run.TheConstants.{MAX_RUN_TICKS}
@@ -108,17 +108,9 @@ pub record IsNextTick (p : Program) (now : SourceState) (ended : Bool) (flags : 
   pub still : more ≡ true → after.last ≡ now.last
   pub nothing : more ≡ false → ended ≡ false → now.last ≡ None
 
-not_true : (b : Bool) → not b ≡ true → b ≡ false
-not_true true h = absurd (cc)
-not_true false h = refl
-
-not_false : (b : Bool) → not b ≡ false → b ≡ true
-not_false true h = refl
-not_false false h = absurd (cc)
-
 -- after the source has ended no flag is set
 pub unset_after : (p : Program) (now : SourceState) (ended : Bool) (flags : List Bool) (more : Bool) (after : SourceState) → IsNextTick p now ended flags more after → not more ≡ true → AreFlagsOf [] flags
-unset_after p now ended flags more after next h = subst (λ (ticks : Holds). AreFlagsOf (first_of ticks) flags) (next.none_left (not_true more h)) next.flags_are
+unset_after p now ended flags more after next h = subst (λ (ticks : Holds). AreFlagsOf (first_of ticks) flags) (next.none_left (not-true more h)) next.flags_are
 
 -- if nothing is left, nobody is held
 nobody : (p : Program) (now : SourceState) (ended : Bool) (flags : List Bool) (more : Bool) (after : SourceState) → IsNextTick p now ended flags more after → now.ticks ≡ [] → (k : ℕ) → k < length p → flag_of flags k ≡ false
@@ -182,24 +174,24 @@ module _ (p : Program) (s now : SourceState) (c : Configuration) (ticks held : �
     needed = still_needed;
     held_is = held_after;
     left_is = next.rest ∙ (ap rest_of before.left_is ∙ rw add-one (rest_of-drop s.ticks ticks));
-    nothing_left = λ h. next.rest ∙ ap rest_of (next.none_left (not_true more h));
+    nothing_left = λ h. next.rest ∙ ap rest_of (next.none_left (not-true more h));
     past_end = λ h.
-        let none = ap length (sym before.left_is ∙ next.none_left (not_true more h)) in
+        let none = ap length (sym before.left_is ∙ next.none_left (not-true more h)) in
         omega (arith, length-drop ticks s.ticks);
     nothing_came = λ h.
         elim (cases_Bool ended) [
           | inl e ↦ before.nothing_came e
-          | inr e ↦ sym (before.still_comes e) ∙ next.nothing (not_true more h) e
+          | inr e ↦ sym (before.still_comes e) ∙ next.nothing (not-true more h) e
         ];
-    not_past = λ h. omega (arith, more_than s.ticks now.ticks ticks before.left_is (next.some_left (not_false more h)));
+    not_past = λ h. omega (arith, more_than s.ticks now.ticks ticks before.left_is (next.some_left (not-false more h)));
     still_comes = λ h.
-        let some = next.some_left (not_false more h) in
+        let some = next.some_left (not-false more h) in
         elim (cases_Bool ended) [
           | inl e ↦ let none = ap length (before.nothing_left e) in absurd (omega arith)
-          | inr e ↦ next.still (not_false more h) ∙ before.still_comes e
+          | inr e ↦ next.still (not-false more h) ∙ before.still_comes e
         ];
     while_asked = λ h.
-        let asked = not_false more h in
+        let asked = not-false more h in
         let some = next.some_left asked in
         let below = limit asked in
         elim (cases_Bool ended) [
@@ -207,7 +199,7 @@ module _ (p : Program) (s now : SourceState) (c : Configuration) (ticks held : �
           | inr e ↦ omega (arith, before.while_asked e)
         ];
     afterwards = λ h.
-        let none = next.none_left (not_true more h) in
+        let none = next.none_left (not-true more h) in
         let fewer = one_fewer none in
         elim (cases_Bool ended) [
           | inl e ↦ omega (arith, before.afterwards e)

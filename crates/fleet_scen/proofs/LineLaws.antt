@@ -2,8 +2,9 @@
 use Rattle.std.proofs.Common.{◌≡◌, ◌≢◌, ℕ, ◌+◌, Bool, true, false, not, ◌&&◌, eqb, List, [], ◌∷◌, length, Option, Some, None, Result, Ok, Err, refl, sym, ap, subst, ◌∙◌, arith, inl, inr}
 use Rattle.std.specs.Prelude.{position, is_none, Any, ◌⊎◌}
 use Rattle.std.specs.List.{list_any}
-use Rattle.std.proofs.lemmas.Bool.{cases_Bool, eqb-true, eq-eqb, false_from_ne_true, both_ways}
+use Rattle.std.proofs.lemmas.Bool.{cases_Bool, eqb-true, eq-eqb, false_from_ne_true, both_ways, and_parts, not-true, not-false}
 use Rattle.std.proofs.lemmas.List.Folds.{Any-from_list_any, list_any-from_Any}
+use Rattle.std.proofs.lemmas.Option.{same_Some}
 use Rattle.fleet_model.specs.declared.geometry.Cell.{Cell}
 use Rattle.fleet_model.specs.declared.task.Task.{Task}
 use Rattle.fleet_model.specs.Geometry.{is_same_cell, place_of}
@@ -11,7 +12,7 @@ use Rattle.fleet_model.proofs.Cells.{is_same_cell-true, is_same_cell-eq}
 use Rattle.fleet_text.specs.Text.{Bytes}
 use Rattle.fleet_grid.specs.Ground.{Ground, is_passable}
 use Rattle.fleet_text.specs.Steps.{◌>>=◌, ◌>>◌, right_or, some_or}
-use Rattle.fleet_text.proofs.StepLaws.{bind_ok, right_ok, ok_is, bind_err, right_err, err_is, both}
+use Rattle.fleet_text.proofs.StepLaws.{bind_ok, right_ok, ok_is, bind_err, right_err, err_is}
 use Rattle.fleet_scen.specs.declared.fault.ScenFault.{ScenFault}
 use Rattle.fleet_scen.specs.declared.fault.ScenFault.TheVariants.{Fields, Number, OtherMap, Blocked, SharedStart, SharedGoal}
 use Rattle.fleet_scen.specs.declared.fields.Fields as fields_type
@@ -74,16 +75,13 @@ made_fails line (Some a) (Some b) (Some c) (Some d) None f x p = (4, sym (err_is
 made_fails line (Some a) (Some b) (Some c) (Some d) (Some e) None x p = (5, sym (err_is {A = ℕ × ℕ × Task} (Number line 8) x p), refl)
 made_fails line (Some a) (Some b) (Some c) (Some d) (Some e) (Some f) x p = absurd cc
 
-some_is : (m k : ℕ) → Some m ≡ Some k → m ≡ k
-some_is m k e = cc
-
 made_fault : (line : ℕ) (a b c d e f : Option ℕ) (k : ℕ) → position is_none (a ∷ b ∷ c ∷ d ∷ e ∷ f ∷ []) ≡ Some k → made line a b c d e f ≡ Err (Number line (k + 3))
-made_fault line None b c d e f k p = ap (λ (i : ℕ). Err (Number line (i + 3))) (some_is 0 k p)
-made_fault line (Some a) None c d e f k p = ap (λ (i : ℕ). Err (Number line (i + 3))) (some_is 1 k p)
-made_fault line (Some a) (Some b) None d e f k p = ap (λ (i : ℕ). Err (Number line (i + 3))) (some_is 2 k p)
-made_fault line (Some a) (Some b) (Some c) None e f k p = ap (λ (i : ℕ). Err (Number line (i + 3))) (some_is 3 k p)
-made_fault line (Some a) (Some b) (Some c) (Some d) None f k p = ap (λ (i : ℕ). Err (Number line (i + 3))) (some_is 4 k p)
-made_fault line (Some a) (Some b) (Some c) (Some d) (Some e) None k p = ap (λ (i : ℕ). Err (Number line (i + 3))) (some_is 5 k p)
+made_fault line None b c d e f k p = ap (λ (i : ℕ). Err (Number line (i + 3))) (same_Some 0 k p)
+made_fault line (Some a) None c d e f k p = ap (λ (i : ℕ). Err (Number line (i + 3))) (same_Some 1 k p)
+made_fault line (Some a) (Some b) None d e f k p = ap (λ (i : ℕ). Err (Number line (i + 3))) (same_Some 2 k p)
+made_fault line (Some a) (Some b) (Some c) None e f k p = ap (λ (i : ℕ). Err (Number line (i + 3))) (same_Some 3 k p)
+made_fault line (Some a) (Some b) (Some c) (Some d) None f k p = ap (λ (i : ℕ). Err (Number line (i + 3))) (same_Some 4 k p)
+made_fault line (Some a) (Some b) (Some c) (Some d) (Some e) None k p = ap (λ (i : ℕ). Err (Number line (i + 3))) (same_Some 5 k p)
 made_fault line (Some a) (Some b) (Some c) (Some d) (Some e) (Some f) k p = absurd (let g : None ≡ Some k = p in cc)
 
 -- why a line of words spells no sizes and task
@@ -142,13 +140,13 @@ abbrev is_open : Ground → Task → Bool
 is_open g t = is_passable g (place_of t.start) && is_passable g (place_of t.goal)
 
 open_is : (g : Ground) (t : Task) → is_open g t ≡ true → HasPassableEnds g t
-open_is g t e = let p = both (is_passable g (place_of t.start)) (is_passable g (place_of t.goal)) e in record { start = p.0; goal = p.1 }
+open_is g t e = let p = and_parts (is_passable g (place_of t.start)) (is_passable g (place_of t.goal)) e in record { start = p.0; goal = p.1 }
 
 open_again : (g : Ground) (t : Task) → HasPassableEnds g t → is_open g t ≡ true
 open_again g t h = rw (h.start, h.goal) refl
 
 same_sizes : (g : Ground) (w h : ℕ) → (eqb w g.width && eqb h g.height) ≡ true → (w ≡ g.width) × (h ≡ g.height)
-same_sizes g w h e = let p = both (eqb w g.width) (eqb h g.height) e in (eqb-true w g.width p.0, eqb-true h g.height p.1)
+same_sizes g w h e = let p = and_parts (eqb w g.width) (eqb h g.height) e in (eqb-true w g.width p.0, eqb-true h g.height p.1)
 
 sizes_again : (g : Ground) (w h : ℕ) → (w ≡ g.width) × (h ≡ g.height) → (eqb w g.width && eqb h g.height) ≡ true
 sizes_again g w h e = rw (eq-eqb w g.width e.0, eq-eqb h g.height e.1) refl
@@ -232,21 +230,13 @@ pub record IsNew (earlier : List Task) (t : Task) : Type 0 where
   pub start : list_any (starts_at t.start) earlier ≡ false
   pub goal : list_any (ends_at t.goal) earlier ≡ false
 
-not_false : (b : Bool) → not b ≡ true → b ≡ false
-not_false true e = absurd cc
-not_false false e = refl
-
-not_true : (b : Bool) → not b ≡ false → b ≡ true
-not_true true e = refl
-not_true false e = absurd cc
-
 pub apart_is : (line : ℕ) (earlier : List Task) (t : Task) → apart_at line earlier t ≡ Ok tt → IsNew earlier t
 unfolding apart_at
 apart_is line earlier t e =
     let a = right_ok (not (list_any (starts_at t.start) earlier)) (SharedStart line) (right_or (not (list_any (ends_at t.goal) earlier)) (SharedGoal line)) tt e in
     elim (cases_Bool (list_any (ends_at t.goal) earlier)) [
       | inl shared ↦ absurd (let g : Err (SharedGoal line) ≡ Ok tt = rw shared at a.1 in cc)
-      | inr new ↦ record { start = not_false (list_any (starts_at t.start) earlier) a.0; goal = new }
+      | inr new ↦ record { start = not-true (list_any (starts_at t.start) earlier) a.0; goal = new }
     ]
 
 pub apart_again : (line : ℕ) (earlier : List Task) (t : Task) → IsNew earlier t → apart_at line earlier t ≡ Ok tt
@@ -257,9 +247,9 @@ pub apart_fails : (line : ℕ) (earlier : List Task) (t : Task) (f : ScenFault) 
 unfolding apart_at
 apart_fails line earlier t f e =
     elim (right_err (not (list_any (starts_at t.start) earlier)) (SharedStart line) (right_or (not (list_any (ends_at t.goal) earlier)) (SharedGoal line)) f e) [
-      | inl p ↦ inl (sym p.1, any_is (λ s. s.start) t.start earlier (not_true (list_any (starts_at t.start) earlier) p.0))
+      | inl p ↦ inl (sym p.1, any_is (λ s. s.start) t.start earlier (not-false (list_any (starts_at t.start) earlier) p.0))
       | inr p ↦ (
-          let new = not_false (list_any (starts_at t.start) earlier) p.0 in
+          let new = not-true (list_any (starts_at t.start) earlier) p.0 in
           let alone : Any (λ s. s.start ≡ t.start) earlier → ⊥ = λ a. both_ways (list_any (starts_at t.start) earlier) new (any_again (λ s. s.start) t.start earlier a) in
           elim (cases_Bool (list_any (ends_at t.goal) earlier)) [
             | inl shared ↦ (let g : Err (SharedGoal line) ≡ Err f = rw shared at p.1 in inr (sym (err_is {A = Unit {0}} (SharedGoal line) f g), alone, any_is (λ s. s.goal) t.goal earlier shared))

@@ -1,8 +1,8 @@
 -- Reading a scenario's lines fails with a fault exactly if the fault is the first.
-use Rattle.std.proofs.Common.{◌≡◌, ◌≢◌, ℕ, suc, ◌+◌, ◌≤◌, ◌<◌, Bool, true, false, not, ltb, leb, List, [], ◌∷◌, ◌++◌, length, take, drop, Option, Some, None, Ok, Err, refl, sym, ap, subst, ◌∙◌, append_assoc, arith, inl, inr}
+use Rattle.std.proofs.Common.{◌≡◌, ◌≢◌, ℕ, suc, ◌+◌, ◌≤◌, ◌<◌, true, false, not, ltb, leb, List, [], ◌∷◌, ◌++◌, length, take, drop, Option, Some, None, Ok, Err, refl, sym, ap, subst, ◌∙◌, append_assoc, arith, inl, inr}
 use Rattle.std.specs.Prelude.{MatchOption, All, ◌⊎◌}
 use Rattle.std.specs.List.{AllZip, AllByRecursion}
-use Rattle.std.proofs.lemmas.Bool.{cases_Bool, ltb-true, ltb-false, lt-ltb, le-ltb, leb-true, leb-false, lt-leb, false_from_ne_true, both_ways}
+use Rattle.std.proofs.lemmas.Bool.{cases_Bool, ltb-true, ltb-false, lt-ltb, le-ltb, leb-true, leb-false, lt-leb, false_from_ne_true, both_ways, not-false}
 use Rattle.std.proofs.lemmas.List.{append-nil, length-append, length-take, length-drop}
 use Rattle.std.proofs.lemmas.List.Elements.{All-from_recursion}
 use Rattle.fleet_model.specs.declared.task.Task.{Task}
@@ -20,10 +20,6 @@ use Rattle.fleet_scen.specs.ScenReading.{task_at, apart_at, lacks, whole_scen, t
 use Rattle.fleet_scen.proofs.LineLaws.{IsLineFault, task_is, task_again, task_fails, task_fault, apart_is, apart_again, IsShared, apart_fails, apart_fault}
 use Rattle.fleet_scen.proofs.ScenLaws.{filled_from, filled_skip, filled_next, AreEarlier, new_at, apart_none, earlier_more, task_next, line_next, first_words, version_is, version_again, asked_again, none_earlier, tasks_after, after_asked, is_found, is_read}
 
-not_false : (b : Bool) → not b ≡ false → b ≡ true
-not_false true e = refl
-not_false false e = absurd cc
-
 -- ---- the end
 
 -- why reading ends with too few agents
@@ -35,7 +31,7 @@ ended_fails None [] f e = inl (sym (err_is {A = List Task} NoAgents f e), refl, 
 ended_fails None (t ∷ all) f e = absurd cc
 ended_fails (Some count) all f e =
     elim (right_err (not (ltb (length all) count)) Fewer (Ok all) f e) [
-      | inl p ↦ (let less = not_false (ltb (length all) count) p.0 in inr (count, sym p.1, refl, ltb-true (length all) count less))
+      | inl p ↦ (let less = not-false (ltb (length all) count) p.0 in inr (count, sym p.1, refl, ltb-true (length all) count less))
       | inr p ↦ absurd (let g : Ok all ≡ Err f = p.1 in cc)
     ]
 

@@ -1,8 +1,8 @@
 -- What is read of a scenario's lines is what they stand for, and what they stand for is read.
-use Rattle.std.proofs.Common.{◌≡◌, ◌≢◌, ℕ, suc, ◌+◌, ◌≤◌, ◌<◌, Bool, true, false, not, ltb, leb, List, [], ◌∷◌, ◌++◌, length, map, filter, take, drop, get_or, Option, Some, None, Result, Ok, refl, sym, ap, subst, ◌∙◌, append_assoc, arith, inl, inr}
+use Rattle.std.proofs.Common.{◌≡◌, ◌≢◌, ℕ, suc, ◌+◌, ◌≤◌, ◌<◌, true, false, not, ltb, leb, List, [], ◌∷◌, ◌++◌, length, map, filter, take, drop, get_or, Option, Some, None, Result, Ok, refl, sym, ap, subst, ◌∙◌, append_assoc, arith, inl, inr}
 use Rattle.std.specs.Prelude.{MatchOption, AllPairs}
 use Rattle.std.specs.List.{list_any, AllZip, enumerate_from}
-use Rattle.std.proofs.lemmas.Bool.{cases_Bool, ltb-true, ltb-false, lt-ltb, le-ltb, le-leb}
+use Rattle.std.proofs.lemmas.Bool.{cases_Bool, ltb-true, ltb-false, lt-ltb, le-ltb, le-leb, not-true}
 use Rattle.std.proofs.lemmas.List.{append-nil, length-append, get_or_append_left, get_or_at}
 use Rattle.std.proofs.lemmas.List.Quantifiers.{all_pairs_push}
 use Rattle.std.proofs.lemmas.List.Folds.{list_any_at, list_any_none}
@@ -89,13 +89,9 @@ none_left None [] tasks h e = absurd cc
 none_left None (t ∷ earlier) tasks h e = (sym (ok_is (t ∷ earlier) tasks e), omega arith, tt)
 none_left (Some count) earlier tasks h e =
     let r = right_ok (not (ltb (length earlier) count)) Fewer (Ok earlier) tasks e in
-    let enough : count ≤ length earlier = ltb-false (length earlier) count (not_false (ltb (length earlier) count) r.0) in
+    let enough : count ≤ length earlier = ltb-false (length earlier) count (not-true (ltb (length earlier) count) r.0) in
     let range = h.range in
     (sym (ok_is earlier tasks r.1), omega (arith, range), omega (arith, range))
-  where
-    not_false : (b : Bool) → not b ≡ true → b ≡ false
-    not_false true e = absurd cc
-    not_false false e = refl
 
 -- if no number was asked for, no line is left
 abbrev Rest : Option ℕ → List Line → Type 0

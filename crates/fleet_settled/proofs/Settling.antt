@@ -1,9 +1,9 @@
 -- What is reached, and what is not, by the ticks of actions and by what they directly need.
-use Rattle.std.proofs.Common.{rules, ◌≡◌, ◌≢◌, ℕ, ◌+◌, ◌<◌, ◌≤◌, Bool, true, false, List, length, get_or, set, refl, sym, ap, subst, ◌∙◌, arith, inl, inr, ◌⊎◌}
+use Rattle.std.proofs.Common.{◌≡◌, ◌≢◌, ℕ, ◌+◌, ◌<◌, ◌≤◌, Bool, true, false, List, length, get_or, set, refl, sym, ap, subst, ◌∙◌, arith, inl, inr, ◌⊎◌}
 use Rattle.std.specs.Prelude.{Contains, slice_get, Some, Option}
-use Rattle.std.proofs.lemmas.Bool.{cases_lt, cases_eq, cases_order}
+use Rattle.std.proofs.lemmas.Bool.{cases_lt, cases_eq, cases_order, false≢true, true≢false}
 use Rattle.std.proofs.lemmas.List.{get_or-set_same, get_or-set_other, get_or_past}
-use Rattle.std.proofs.lemmas.Option.{slice_get-get_or, slice_get_within, get_or_from_slice_get}
+use Rattle.std.proofs.lemmas.Option.{slice_get-get_or, slice_get_within, get_or_from_slice_get, same_Some}
 use Rattle.fleet_model.specs.declared.program.ActionId.{ActionId}
 use Rattle.fleet_model.specs.declared.program.Await.{Await}
 use Rattle.fleet_model.specs.Program.{Program, moves, awaits_of, AreInRange, IsWellFormed}
@@ -19,11 +19,12 @@ use Rattle.fleet_rows.proofs.Joining.{own_first, by_await}
 abbrev act : ℕ → ℕ → ActionId
 act j c = record { agent = j; number = c }
 
-pub some_flag : (x y : Bool) → Some x ≡ Some y → x ≡ y
-some_flag x y e = search rules
+-- the answer of a search that says yes is not the one that says no
+pub no_is_not_yes : Some false ≡ Some true → ⊥
+no_is_not_yes e = false≢true (same_Some _ _ e)
 
-pub some_await : (x y : Await) → Some x ≡ Some y → x ≡ y
-some_await x y e = search rules
+pub yes_is_not_no : Some true ≡ Some false → ⊥
+yes_is_not_no e = true≢false (same_Some _ _ e)
 
 -- the await of an action
 abbrev pub await_of : ActionId → Await
@@ -73,7 +74,7 @@ apart_more p first a k v at none before m w l there r = elim (cases_lt m k) [
   | inl less ↦ before m w less there r
   | inr more ↦
       let e : m ≡ k = omega arith in
-      none (subst (λ (x : Await). Reaches p first (awaited x)) (some_await w v (sym there ∙ ap (slice_get (awaits_of p a.agent a.number)) e ∙ at)) r)
+      none (subst (λ (x : Await). Reaches p first (awaited x)) (same_Some w v (sym there ∙ ap (slice_get (awaits_of p a.agent a.number)) e ∙ at)) r)
 ]
 
 -- and so among all but one
@@ -83,7 +84,7 @@ apart_but p first a k n v at none before m w l there r = elim (cases_lt m n) [
   | inl less ↦ before m w (less, l.1) there r
   | inr more ↦
       let e : m ≡ n = (let low : m < n + 1 = l.0 in omega arith) in
-      none (λ same. l.1 (e ∙ same)) (subst (λ (x : Await). Reaches p first (awaited x)) (some_await w v (sym there ∙ ap (slice_get (awaits_of p a.agent a.number)) e ∙ at)) r)
+      none (λ same. l.1 (e ∙ same)) (subst (λ (x : Await). Reaches p first (awaited x)) (same_Some w v (sym there ∙ ap (slice_get (awaits_of p a.agent a.number)) e ∙ at)) r)
 ]
 
 -- if nothing that the last action directly needs is reached, the last is not reached either
@@ -135,7 +136,7 @@ module _ (p : Program) (formed : IsWellFormed p) (a : ActionId) (k : ℕ) (w : A
       let m = await_is p a b c in
       awaits m.0 (record { agent = b.agent; count = b.number }) (
         slice_get_within (awaits_of p a.agent a.number) m.0 _ m.1,
-        (λ same. apart (ap awaited (some_await (record { agent = b.agent; count = b.number }) w (sym m.1 ∙ ap (slice_get (awaits_of p a.agent a.number)) same ∙ at)))),
+        (λ same. apart (ap awaited (same_Some (record { agent = b.agent; count = b.number }) w (sym m.1 ∙ ap (slice_get (awaits_of p a.agent a.number)) same ∙ at)))),
       ) m.1 (subst (λ (x : ActionId). Reaches p x b) (sym e) r)
 
 -- ---- an await that another action has too
@@ -152,10 +153,7 @@ needed_by p range first a k w is last at same more =
 -- what is known of an await that others imply, or do not
 pub told_by : (p : Program) (a : ActionId) (w : Await) (known : Option Bool) (flag : Bool) → known ≡ Some flag → (known ≡ Some true → IsImplied p a w) → (known ≡ Some false → IsImplied p a w → ⊥) → IsImpliedFlag p a w flag
 told_by p a w known true e is isnt = ((λ f. is e), (λ i. refl))
-told_by p a w known false e is isnt = ((λ f. absurd (unset f)), (λ i. absurd (isnt e i)))
-  where
-    unset : false ≡ true → ⊥
-    unset f = search rules
+told_by p a w known false e is isnt = ((λ f. absurd (false≢true f)), (λ i. absurd (isnt e i)))
 
 module _ (p : Program) (a : ActionId) (first k : ℕ) (oldAsked newAsked old new : List Bool) (more : AreMoreAsked oldAsked newAsked) (others : (n : ℕ) → n ≢ first + k → get_or new n false ≡ get_or old n false) where
   still_settled : (w : Await) (x : ℕ) → x ≢ first + k → IsSettled p oldAsked a w (get_or old x false) → IsSettled p newAsked a w (get_or new x false)
@@ -217,9 +215,6 @@ asked_more asked i j was = elim (cases_eq j i) [
   | inr ne ↦ get_or-set_other asked i j true false ne ∙ was
   | inl e ↦ elim (cases_lt i (length asked)) [
     | inl l ↦ ap (λ (n : ℕ). get_or (set asked i true) n false) e ∙ get_or-set_same asked i true false l
-    | inr past ↦ absurd (unset (sym (get_or_past asked j false (omega arith)) ∙ was))
+    | inr past ↦ absurd (false≢true (sym (get_or_past asked j false (omega arith)) ∙ was))
   ]
 ]
-  where
-    unset : false ≡ true → ⊥
-    unset f = search rules

@@ -5,7 +5,7 @@ use Rattle.std.specs.List.{position_or_len, slice_split, onto_first}
 use Rattle.std.specs.Str.Lines.{strip_carriage_return}
 use Rattle.std.proofs.lemmas.List.Splits.{slice_split_first}
 use Rattle.std.proofs.lemmas.List.Quantifiers.{position-Some}
-use Rattle.std.proofs.lemmas.Bool.{cases_Bool, cases_eq, lt-ltb, le-ltb, ltb-true, ltb-false}
+use Rattle.std.proofs.lemmas.Bool.{cases_Bool, cases_eq, lt-ltb, le-ltb, ltb-true, ltb-false, not-true}
 use Rattle.std.proofs.lemmas.List.{drop_more, drop_all, get_or-drop, drop-drop, length-drop, length-take, length-take-le, length-map}
 use Rattle.std.proofs.lemmas.List.Sums.{sum_by-cons}
 use Rattle.fleet_text.specs.Text.{Bytes, is_lf, is_blank, is_word, ended_lines, lines, words, words_from_front, is_digit, digits_front, number_front, capped, number_after, number, small_only, small_number_front}
@@ -100,15 +100,11 @@ pub words_none : (line : Bytes) → position is_no_blank line ≡ None → words
 unfolding words
 words_none line e = words_drop line ∙ ap words (drop_all (position_or_len is_no_blank line) line (found_nowhere is_no_blank line e))
 
-not_true : (b : Bool) → not b ≡ true → b ≡ false
-not_true true e = absurd cc
-not_true false e = refl
-
 -- a word begins at the place that was found
 pub begins : (line : Bytes) (start : ℕ) → position is_no_blank line ≡ Some start → (0 < length (drop start line)) × (is_blank (get_or (drop start line) 0 0) ≡ false)
 begins line start e =
     let f = position-Some is_no_blank line start 0 e in
-    let here : is_blank (get_or line start 0) ≡ false = not_true (is_blank (get_or line start 0)) f.1 in
+    let here : is_blank (get_or line start 0) ≡ false = not-true (is_blank (get_or line start 0)) f.1 in
     let same : get_or (drop start line) 0 0 ≡ get_or line start 0 = get_or-drop start line 0 0 ∙ ap (λ (i : ℕ). get_or line i 0) (add-zero start) in
     (omega (arith, f.0, length-drop start line), ap is_blank same ∙ here)
 

@@ -1,6 +1,7 @@
 -- What follows if a reader answers what a text stands for, or its first fault.
 use Rattle.std.proofs.Common.{◌≡◌, ℕ, zero, suc, List, [], ◌∷◌, drop, Some, Result, Ok, Err, sym, ap, ◌∙◌, inl, inr}
 use Rattle.std.specs.Prelude.{slice_get}
+use Rattle.std.proofs.lemmas.Option.{same_Some}
 use Rattle.fleet_text.specs.Verdict.{HasOneVerdict}
 use Rattle.fleet_text.proofs.StepLaws.{ok_is, err_is, ok_err, result_cases}
 
@@ -29,9 +30,6 @@ one_verdict {V = V} {answer = answer} tells = record {
 pub heads_are : {A : Type 0} (x y : A) (xs ys : List A) → x ∷ xs ≡ y ∷ ys → x ≡ y
 heads_are x y xs ys e = cc
 
-some_is : {A : Type 0} (x y : A) → Some x ≡ Some y → x ≡ y
-some_is x y e = cc
-
 pub next_is : {A : Type 0} (n : ℕ) (lines : List A) (line : A) (more : List A) → drop n lines ≡ line ∷ more → slice_get lines n ≡ Some line
 next_is zero [] line more e = absurd cc
 next_is zero (l ∷ lines) line more e = ap (λ x. Some x) (heads_are l line lines more e)
@@ -40,5 +38,5 @@ next_is (suc n) (l ∷ lines) line more e = next_is n lines line more e
 
 pub next_again : {A : Type 0} (n : ℕ) (lines : List A) (line : A) → slice_get lines n ≡ Some line → (more : List A) × (drop n lines ≡ line ∷ more)
 next_again n [] line e = absurd cc
-next_again zero (l ∷ lines) line e = (lines, ap (λ x. x ∷ lines) (some_is l line e))
+next_again zero (l ∷ lines) line e = (lines, ap (λ x. x ∷ lines) (same_Some l line e))
 next_again (suc n) (l ∷ lines) line e = next_again n lines line e

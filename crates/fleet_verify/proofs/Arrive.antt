@@ -1,5 +1,6 @@
 -- Runs of accepted programs come to their end in time.
 use Rattle.std.proofs.Common.{◌≡◌, ℕ, zero, suc, ◌+◌, ◌<◌, ◌≤◌, Bool, true, false, [], length, Contains, refl, ap, ◌∙◌, subst, arith, inl, inr, ◌⊎◌}
+use Rattle.std.proofs.lemmas.Bool.{cases_lt}
 use Rattle.fleet_model.specs.declared.program.ActionId.{ActionId}
 use Rattle.fleet_model.specs.Program.{Program, moves, awaits_of, path, AreInRange}
 use Rattle.fleet_model.specs.Machine.{Holds, is_held, run, is_finished, held_ticks, IsFinish}
@@ -11,9 +12,6 @@ use Rattle.fleet_model.proofs.Reaching.{ends_one, ends_more, numbers_bound}
 use Rattle.fleet_verify.proofs.Finished.{grows, grows_once, within_moves, chain_before}
 use Rattle.fleet_verify.proofs.Held.{AreHeldTicks, run_held, held_at_most, finished_all, unfinished_one}
 use Rattle.fleet_verify.proofs.Least.{least_of}
-
-within : (i n : ℕ) → (i < n) ⊎ (n ≤ i)
-within i n = grind arith
 
 module _ (p : Program) (held ready : ℕ → ℕ → Bool) (count : ℕ → ℕ → ℕ) (run : AreCountsInTime p held ready count) (in_range : AreInRange p) where
   -- the action is the next one of a ready agent
@@ -31,7 +29,7 @@ module _ (p : Program) (held ready : ℕ → ℕ → Bool) (count : ℕ → ℕ 
     where
       cases : (m n : ℕ) → m < n → ((k : ℕ) × (n ≡ k + 1) × (m < k)) ⊎ (n ≡ m + 1)
       cases m zero h = absurd (omega arith)
-      cases m (suc k) h = elim (within m k) [ inl lt ↦ inl (k, omega arith, lt) | inr le ↦ inr (omega arith) ]
+      cases m (suc k) h = elim (cases_lt m k) [ inl lt ↦ inl (k, omega arith, lt) | inr le ↦ inr (omega arith) ]
 
       go : ((k : ℕ) × (b.number ≡ k + 1) × (count t b.agent < k)) ⊎ (b.number ≡ count t b.agent + 1)
           → IsNext t b ⊎ NeedsUnfinished t b

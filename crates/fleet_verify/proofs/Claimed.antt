@@ -3,6 +3,7 @@ use Rattle.std.proofs.Common.{◌≡◌, ℕ, not, List, [], get_or, filter, add
 use Rattle.std.specs.Prelude.{◌≢◌, option_map}
 use Rattle.std.proofs.lemmas.Option.{same_Some}
 use Rattle.std.proofs.lemmas.List.{get_or-map}
+use Rattle.std.proofs.Math.Bool.{and-false}
 use Rattle.fleet_model.specs.declared.geometry.Place.{Place}
 use Rattle.fleet_model.specs.declared.geometry.Step.{Step}
 use Rattle.fleet_model.specs.declared.program.Action.{Action}
@@ -67,11 +68,7 @@ module _ (passable : Place → Bool) (p : Program) (c : Configuration) (safe : (
       ∙ ap (stepped (place_at c i)) (ap (λ (a : Action). a.step) same ∙ o.step)
 
   held_place : (i : ℕ) → i < length p → place_at (tick p (λ _. true) c) i ≡ place_at c i
-  held_place i h = ap (λ (s : Standing). s.place) (tick_stays p (λ _. true) c i h (none (is_ready p c i)))
-    where
-      none : (b : Bool) → (b && false) ≡ false
-      none true = refl
-      none false = refl
+  held_place i h = ap (λ (s : Standing). s.place) (tick_stays p (λ _. true) c i h (and-false (is_ready p c i)))
 
   pub claims_apart : AreApart passable p c
   claims_apart = record {
@@ -97,12 +94,8 @@ held_keeps p c held i r h b = record {
   order = λ step e. order_lasts p c (tick p held c) i step grows (sym (ap (λ (s : Standing). s.count) stay)) e;
 }
   where
-    none : (b : Bool) → (b && false) ≡ false
-    none true = refl
-    none false = refl
-
     stay : standing_at (tick p held c) i ≡ standing_at c i
-    stay = tick_stays p held c i h (rw b (none (is_ready p c i)))
+    stay = tick_stays p held c i h (rw b (and-false (is_ready p c i)))
 
     grows : (j : ℕ) → count_at c j ≤ count_at (tick p held c) j
     grows j =

@@ -43,4 +43,4 @@ pub mod BreakingMeets
 pub mod BreakingExists
 pub mod Exact
 pub mod Broken
-mod ReachLaws
+pub mod ReachLaws

@@ -1,28 +1,19 @@
 -- What the reach of a program rests on: an accepted program finishes, if nobody is held, after as many ticks as its longest chain has actions.
-use Rattle.std.proofs.Common.{◌≡◌, ℕ, ◌≤◌, [], subst, arith, inl, inr}
+use Rattle.std.proofs.Common.{ℕ, [], subst, arith, inl, inr}
 use Rattle.std.proofs.lemmas.Bool.{cases_eq}
 use Rattle.fleet_model.specs.declared.program.ActionId.{ActionId}
 use Rattle.fleet_model.specs.Program.{Program, AreInRange}
 use Rattle.fleet_model.specs.Machine.{IsFinish}
 use Rattle.fleet_model.specs.Chain.{IsLongestChain}
+use Rattle.fleet_model.proofs.Reaching.{longest_is_one}
 use Rattle.fleet_rows.specs.Rows.{IsColumn}
 use Rattle.fleet_verify.specs.Reach.{IsGreatest}
 use Rattle.fleet_verify.proofs.Arrive.{finish_exists, unheld_is_longest}
 
-no_longer : (p : Program) (l m : ℕ) → IsLongestChain p l → IsLongestChain p m → l ≤ m
-no_longer p l m h k = elim h.some [
-  | inl zero ↦ omega arith
-  | inr (b, chain) ↦ k.most b l chain
-]
-
 pub longest_finishes : (p : Program) → AreInRange p → (l : ℕ) → IsLongestChain p l → IsFinish p [] l
 longest_finishes p range l h =
     let f = finish_exists p [] range l h.most in
-    let k = unheld_is_longest p range f.0 f.1 in
-    let low = no_longer p l f.0 h k in
-    let up = no_longer p f.0 l k h in
-    let e : f.0 ≡ l = omega arith in
-    subst (IsFinish p []) e f.1
+    subst (IsFinish p []) (longest_is_one p f.0 l (unheld_is_longest p range f.0 f.1) h) f.1
 
 pub greatest_is : (p : Program) (a : ActionId) (j n : ℕ) → IsColumn p a j n → IsGreatest p a j n
 greatest_is p a j n h = record {

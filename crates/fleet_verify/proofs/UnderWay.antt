@@ -1,10 +1,11 @@
 -- A run without holds, tick by tick.
-use Rattle.std.proofs.Common.{◌≡◌, ◌≢◌, ℕ, suc, ◌+◌, ◌<◌, ◌≤◌, ◌&&◌, not, Bool, true, false, List, [], ◌∷◌, ◌++◌, length, map, take, replicate, get_or, refl, ap, sym, ◌∙◌, subst, arith, inl, inr, IsTrue, add-one}
+use Rattle.std.proofs.Common.{◌≡◌, ◌≢◌, ℕ, suc, ◌+◌, ◌<◌, ◌≤◌, ◌&&◌, not, Bool, true, false, List, [], ◌∷◌, ◌++◌, length, map, get_or, refl, ap, sym, ◌∙◌, subst, arith, inl, inr, IsTrue, add-one}
 use Rattle.std.specs.Prelude.{◌⊎◌}
 use Rattle.std.specs.List.{list_any}
 use Rattle.std.proofs.lemmas.Bool.{cases_eq, cases_lt}
-use Rattle.std.proofs.lemmas.List.{map-append, take-replicate, get_or-replicate, get_or_past, length-replicate}
+use Rattle.std.proofs.lemmas.List.{map-append}
 use Rattle.std.proofs.lemmas.List.FromFn.{get_or-map-range_with_len}
+use Rattle.std.proofs.Math.Bool.{and-true}
 use Rattle.fleet_model.specs.declared.program.Visit.{Visit}
 use Rattle.fleet_model.specs.Machine.{Configuration, count_at, indices, run, tick, moved_in, is_held, is_moving, is_ready, is_over, is_finished, place_at, IsLeast, IsReached}
 use Rattle.fleet_model.specs.Program.{Program, moves, path, total_moves}
@@ -88,19 +89,6 @@ ends_by p m t h enough = made_end p m t h (go (cases_lt r.0 t))
 
 -- ---- a tick in which nobody is held
 
--- a row that flags nobody
-pub none_flagged : (n m i : ℕ) → n ≤ m → flag_of (take n (replicate m false)) i ≡ false
-none_flagged n m i fits =
-    ap (λ (flags : List Bool). flag_of flags i) (take-replicate n m false fits)
-    ∙ elim (cases_lt i n) [
-      | inl l ↦ get_or-replicate n i false false l
-      | inr l ↦ get_or_past (replicate n false) i false (omega (arith, length-replicate n false))
-    ]
-
-and_true : (b : Bool) → (b && true) ≡ b
-and_true true = refl
-and_true false = refl
-
 module _ (p : Program) (held : ℕ → Bool) (m : MachineState) (t : ℕ) (h : IsUnderWay p m t) (nobody : (i : ℕ) → i < length p → held i ≡ false)
     (after : MachineState) (runs : Runs p after) (ticked : after.configuration ≡ tick p held m.configuration) where
   one_tick : after.configuration ≡ run p [] (suc t)
@@ -114,7 +102,7 @@ module _ (p : Program) (held : ℕ → Bool) (m : MachineState) (t : ℕ) (h : I
   -- who is ready moves
   ready_moving : (i : ℕ) → i < length p → is_moving p held m.configuration i ≡ is_ready p (run p [] t) i
   ready_moving i l =
-      ap (λ b. is_ready p m.configuration i && not b) (nobody i l) ∙ (and_true (is_ready p m.configuration i) ∙ ap (λ c. is_ready p c i) h.here)
+      ap (λ b. is_ready p m.configuration i && not b) (nobody i l) ∙ (and-true (is_ready p m.configuration i) ∙ ap (λ c. is_ready p c i) h.here)
 
   -- somebody moved
   pub goes_on : moved_in p held m.configuration ≢ 0 → IsUnderWay p after (t + 1)

@@ -1,7 +1,7 @@
 use Rattle.std.proofs.Common.{◌≡◌, ◌+◌, ◌++◌, [], ◌∷◌, sym, ap, ◌∙◌, arith, add-one}
 use Rattle.std.specs.List.{range_with_len}
 use Rattle.fleet_model.specs.Machine.{indices}
-use Rattle.fleet_adg.proofs.Basics.{range_push}
+use Rattle.fleet_plan.proofs.RowLaws.{range_push}
 use Rattle.fleet_adg.proofs.sweep.agents_of.Goals as goal
 
 pub loop-i-preserved : goal.loop-i-preserved

@@ -6,14 +6,15 @@ use Rattle.fleet_verify.specs.Parts.{IsAcceptedFor}
 use Rattle.fleet_chains.specs.Reduced.{IsThinned}
 use Rattle.fleet_chains.proofs.Reductions.{thinned_reduced, thinned_again, reduced_chains, thinned_range}
 use Rattle.fleet_chains.proofs.SameChains.{longest_over, accepted_over, run_over}
-use Rattle.fleet_adg.proofs.Thinning.{thinned_of, thinned_formed, moves_of, chain_finish}
+use Rattle.fleet_verify.proofs.ReachLaws.{longest_finishes}
+use Rattle.fleet_adg.proofs.Thinning.{thinned_of, thinned_formed, moves_of}
 use Rattle.fleet_adg.proofs.thinner.thin.Goals as goal
 
 pub implied_awaits-requires-clause-finish : goal.implied_awaits-requires-clause-finish
 implied_awaits-requires-clause-finish g c =
     let p = g.P.ProgramView.program c.program-program.result.now in
     let known = c.program-program.ensures.accepted in
-    subst (IsFinish p []) (sym c.chain.ensures.chain) (chain_finish p known.accepted.right.in_range c.args.accepted.now.chain known.longest)
+    subst (IsFinish p []) (sym c.chain.ensures.chain) (longest_finishes p known.accepted.right.in_range c.args.accepted.now.chain known.longest)
 
 pub new-requires : goal.new-requires
 new-requires g c = thinned_formed (g.P.ProgramView.program c.program-program.result.now) c.in_ok-agents.agents.items c.in_ok-agents.ensures c.agents.ensures.well_formed

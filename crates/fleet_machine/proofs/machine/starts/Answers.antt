@@ -1,8 +1,9 @@
 use Rattle.std.proofs.Common.{◌≤◌, length, ◌∙◌, subst, sym, arith}
 use Rattle.std.proofs.lemmas.List.{take_all}
 use Rattle.fleet_model.specs.Machine.{opening}
+use Rattle.fleet_model.proofs.Tick.{length_opening}
 use Rattle.fleet_machine.specs.Near.{AreNear}
-use Rattle.fleet_machine.proofs.Opened.{opening_more, length_opening, near_none, near_more}
+use Rattle.fleet_machine.proofs.Opened.{opening_more, near_none, near_more}
 use Rattle.fleet_machine.proofs.machine.starts.Goals as goal
 
 pub loop-i-preserved : goal.loop-i-preserved

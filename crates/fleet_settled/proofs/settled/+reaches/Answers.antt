@@ -1,30 +1,24 @@
 use Rattle.std.proofs.Common.{◌≡◌, true, false, ℕ, length, sym, ap, ◌∙◌, subst, arith, leb-true, le-leb}
 use Rattle.std.specs.Prelude.{Some}
+use Rattle.std.proofs.lemmas.Option.{same_Some}
 use Rattle.fleet_model.specs.declared.program.ActionId.{ActionId}
 use Rattle.fleet_model.specs.Program.{awaits_of}
 use Rattle.fleet_model.specs.Chain.{Reaches}
 use Rattle.fleet_settled.specs.Settled.{finish_tick}
 use Rattle.fleet_rows.proofs.Joining.{own_first, by_await, by_before}
-use Rattle.fleet_settled.proofs.Settling.{some_flag, await_of, none_if_low, own_only, apart_more, none_reached}
+use Rattle.fleet_settled.proofs.Settling.{await_of, none_if_low, own_only, apart_more, none_reached, no_is_not_yes, yes_is_not_no}
 use Rattle.fleet_settled.proofs.settled.+reaches.Goals as goal
 use Rattle.fleet_settled.proofs.settled.+reaches.Goals.{in-Some-false, in-None}
-
--- a yes is not a no
-no_yes : Some false ≡ Some true → ⊥
-no_yes e = cc
-
-yes_no : Some true ≡ Some false → ⊥
-yes_no e = cc
 
 pub returns-then-last-first-clause-yes : goal.returns-then-last-first-clause-yes
 returns-then-last-first-clause-yes g t c = λ e.
     own_first (g.P.ProgramView.program c.args.program.now) c.args.first c.args.last c.requires.first.first c.requires.last c.if-last-first.true
-    (leb-true c.args.first.number c.args.last.number (some_flag _ _ e))
+    (leb-true c.args.first.number c.args.last.number (same_Some _ _ e))
 
 pub returns-then-last-first-clause-no : goal.returns-then-last-first-clause-no
 returns-then-last-first-clause-no g t c = λ e r.
     let le = own_only (g.P.ProgramView.program c.args.program.now) (finish_tick c.args.ticks.now) c.requires.ticks.rising c.args.first c.args.last c.requires.first c.requires.last c.if-last-first.true r in
-    grind (arith, some_flag _ _ e, le-leb c.args.first.number c.args.last.number le)
+    grind (arith, same_Some _ _ e, le-leb c.args.first.number c.args.last.number le)
 
 pub returns-then-tick-clause-no : goal.returns-then-tick-clause-no
 returns-then-tick-clause-no g t c = λ e.
@@ -79,10 +73,10 @@ loop-k-init g t c = record {
 }
 
 pub returns-then-tick-clause-yes : goal.returns-then-tick-clause-yes
-returns-then-tick-clause-yes g t c = λ e. absurd (no_yes e)
+returns-then-tick-clause-yes g t c = λ e. absurd (no_is_not_yes e)
 
 pub returns-in-Some-true-clause-no : goal.returns-in-Some-true-clause-no
-returns-in-Some-true-clause-no g t c = λ e. absurd (yes_no e)
+returns-in-Some-true-clause-no g t c = λ e. absurd (yes_is_not_no e)
 
 pub returns-then-is_first-clause-yes : goal.returns-then-is_first-clause-yes
-returns-then-is_first-clause-yes g t c = λ e. absurd (no_yes (c.join_answers.ensures.yes e))
+returns-then-is_first-clause-yes g t c = λ e. absurd (no_is_not_yes (c.join_answers.ensures.yes e))

@@ -3,16 +3,9 @@ use Rattle.std.specs.Prelude.{Some}
 use Rattle.fleet_model.specs.declared.program.ActionId.{ActionId}
 use Rattle.fleet_model.specs.Program.{awaits_of}
 use Rattle.fleet_model.specs.Chain.{Reaches}
-use Rattle.fleet_settled.proofs.Settling.{await_of, apart_but, by_other, by_own, none_implied}
+use Rattle.fleet_settled.proofs.Settling.{await_of, apart_but, by_other, by_own, none_implied, no_is_not_yes, yes_is_not_no}
 use Rattle.fleet_settled.proofs.settled.reaches_other.Goals as goal
 use Rattle.fleet_settled.proofs.settled.reaches_other.Goals.{then-m-k+in-Some-false, then-m-k+in-None, else-m-k}
-
--- a yes is not a no
-no_yes : Some false ≡ Some true → ⊥
-no_yes e = cc
-
-yes_no : Some true ≡ Some false → ⊥
-yes_no e = cc
 
 pub returns-in-Some-true-clause-yes : goal.returns-in-Some-true-clause-yes
 returns-in-Some-true-clause-yes g c = λ e.
@@ -61,7 +54,7 @@ pub loop-m-init : goal.loop-m-init
 loop-m-init g c = record { apart = λ known m w l. (let before = l.0 in absurd (omega arith)) }
 
 pub returns-in-Some-true-clause-no : goal.returns-in-Some-true-clause-no
-returns-in-Some-true-clause-no g c = λ e. absurd (yes_no e)
+returns-in-Some-true-clause-no g c = λ e. absurd (yes_is_not_no e)
 
 pub returns-then-action-le1-clause-yes : goal.returns-then-action-le1-clause-yes
-returns-then-action-le1-clause-yes g c = λ e. absurd (no_yes (c.join_answers.ensures.yes e))
+returns-then-action-le1-clause-yes g c = λ e. absurd (no_is_not_yes (c.join_answers.ensures.yes e))

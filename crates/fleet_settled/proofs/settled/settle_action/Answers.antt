@@ -1,6 +1,6 @@
 use Rattle.std.proofs.Common.{◌≡◌, ◌≢◌, ◌+◌, ◌<◌, ℕ, Bool, true, false, List, length, get_or, set, refl, sym, subst, ap, ◌∙◌, arith, inl, inr}
 use Rattle.std.specs.Prelude.{slice_get, Some}
-use Rattle.std.proofs.lemmas.Option.{slice_get_within}
+use Rattle.std.proofs.lemmas.Option.{slice_get_within, same_Some}
 use Rattle.std.proofs.lemmas.List.{get_or-set_same, get_or-set_other}
 use Rattle.fleet_model.specs.declared.program.Await.{Await}
 use Rattle.fleet_model.specs.Program.{awaits_of}
@@ -8,7 +8,7 @@ use Rattle.fleet_model.proofs.Totals.{total_awaits_fit}
 use Rattle.fleet_settled.specs.Settled.{IsSettled, AreMoreAsked}
 use Rattle.fleet_settled.proofs.AwaitOrder.{flag_within}
 use Rattle.fleet_rows.proofs.Joining.{awaited_action}
-use Rattle.fleet_settled.proofs.Settling.{some_await, settled_more, told_by, asked_more}
+use Rattle.fleet_settled.proofs.Settling.{settled_more, told_by, asked_more}
 use Rattle.fleet_settled.proofs.settled.settle_action.Goals as goal
 use Rattle.fleet_settled.proofs.settled.settle_action.Goals.{in-Some, in-None}
 
@@ -58,7 +58,7 @@ loop-k-preserved g c =
           let is = awaited_action p c.requires.range a.agent a.number k w.await_at-awaited.result w.await_at-awaited.ensures in
           let within : x < length was = omega (arith, is.agent, w.from-in-None.ensures, c.requires.asked, c.loop-k.auto.asked) in
           λ v at.
-          let agent : v.agent ≡ x = ap (λ (y : Await). y.agent) (some_await v w.await_at-awaited.result (sym at ∙ w.await_at-awaited.ensures)) ∙ sym w.from-in-None.ensures in
+          let agent : v.agent ≡ x = ap (λ (y : Await). y.agent) (same_Some v w.await_at-awaited.result (sym at ∙ w.await_at-awaited.ensures)) ∙ sym w.from-in-None.ensures in
           inl (ap (λ (xs : List Bool). get_or xs v.agent false) w.asked-is ∙ ap (λ (n : ℕ). get_or (set was x true) n false) agent ∙ get_or-set_same was x true false within)
     ] in
     record {

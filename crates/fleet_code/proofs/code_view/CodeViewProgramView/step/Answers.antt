@@ -1,11 +1,12 @@
 use Rattle.std.proofs.Common.{◌-◌, ◌∷◌, [], ◌∙◌, ◌≡◌, ap, sym, subst, arith, ℕ, Option}
 use Rattle.fleet_model.specs.declared.program.Action.{Action}
 use Rattle.std.specs.Prelude.{option_map, slice_index_or}
+use Rattle.std.proofs.lemmas.Option.{none-some}
 use Rattle.fleet_code.specs.Spelling.{opcode}
 use Rattle.fleet_code.specs.declared.format.Version.{Version}
 use Rattle.fleet_code.specs.Reading.{step_at}
 use Rattle.fleet_code.specs.Offsets.{Viewed, end_of}
-use Rattle.fleet_code.proofs.InPlace.{viewed, action_read, opcode_read, some_is_not_none, stands_within}
+use Rattle.fleet_code.proofs.InPlace.{viewed, action_read, opcode_read, stands_within}
 use Rattle.fleet_code.proofs.code_view.CodeViewProgramView.step.Goals as goal
 
 pub bounds-self-inside-end : goal.bounds-self-inside-end
@@ -22,7 +23,7 @@ unreachable-requires c =
     let is = opcode_read v c.args.i c.args.p (c.end.result - 1) read.0 c.requires.agent read.1 (ap (λ (n : ℕ). n - 1) c.end.ensures) read.2 in
     let same : c.self.inside.version ≡ c.args.self.now.version = ap (λ (w : Viewed). w.version) c.self.view_is in
     let read_so : c.step_of.result ≡ step_at c.args.self.now.version (slice_index_or c.self.inside.bytes.now (c.end.result - 1) 0) = subst (λ (u : Version). c.step_of.result ≡ step_at u (slice_index_or c.self.inside.bytes.now (c.end.result - 1) 0)) same c.step_of.ensures in
-    some_is_not_none (sym is ∙ sym read_so ∙ c.in-None.is)
+    none-some _ (sym c.in-None.is ∙ read_so ∙ is)
 
 pub returns : goal.returns
 returns c =

@@ -2,7 +2,8 @@ use Rattle.std.proofs.Common.{◌≡◌, ◌∙◌, length, replicate, false, No
 use Rattle.std.proofs.lemmas.List.{length-replicate}
 use Rattle.fleet_machine.specs.WaitLists.{WaitState, home_of}
 use Rattle.fleet_machine.specs.Machine.{MachineState}
-use Rattle.fleet_machine.proofs.Opened.{length_opening, home_of_nobody}
+use Rattle.fleet_machine.proofs.Opened.{home_of_nobody}
+use Rattle.fleet_model.proofs.Tick.{length_opening}
 use Rattle.fleet_machine.proofs.machine.Machine.start.Goals as goal
 
 pub with_agents-machine-requires-clause-few : goal.with_agents-machine-requires-clause-few

@@ -11,25 +11,34 @@ use fleet_io::{Fault, Files, read_three_with_holds, run_flushed};
 use fleet_run::Flush;
 use std::alloc::Global;
 
+/// What a run is of: the texts of the map and of the scenario, of which so many agents are taken, the first ones, or all
+/// if it is `None`; the bytes of the program; and the text of the holds.
+#[derive(Clone, Copy)]
+struct RunTexts<'a> {
+    map: &'a [u8],
+    scen: &'a [u8],
+    asked: Option<u16>,
+    program: &'a [u8],
+    holds: &'a [u8],
+}
+
 /// Verifies the program that the bytes spell for the map and the instance of the texts, and runs it.
 fn run_bytes<'a, O: Flush>(
     alloc: Global,
-    map: &[u8],
-    scen: &[u8],
-    asked: Option<u16>,
-    bytes: &[u8],
-    held: &[u8],
+    texts: &RunTexts<'_>,
     out: &mut O,
 ) -> Result<u8, Fault<'a>>
     requires { IsWorking (O.state out.old) }
     ensures { MatchResult result
-        (λ status. RunsTexts map.now scen.now asked bytes.now held.now
+        (λ status. RunsTexts texts.now.map.now texts.now.scen.now texts.now.asked
+        texts.now.program.now texts.now.holds.now
         (O.state out.old) (O.state out.new) × (status ≡ 0))
-        (IsRunFault map.now scen.now asked bytes.now held.now (O.state out.old) (O.state out.new)) }
+        (IsRunFault texts.now.map.now texts.now.scen.now texts.now.asked
+        texts.now.program.now texts.now.holds.now (O.state out.old) (O.state out.new)) }
 {
-    let problem = read_problem(alloc, map, scen, asked)?;
-    let accepted = accept(alloc, bytes, &problem.grid, &problem.instance)?;
-    match run_flushed(alloc, accepted, held, out) {
+    let problem = read_problem(alloc, texts.map, texts.scen, texts.asked)?;
+    let accepted = accept(alloc, texts.program, &problem.grid, &problem.instance)?;
+    match run_flushed(alloc, accepted, texts.holds, out) {
         Ok(_) => Ok(0),
         Err(fault) => Err(Fault::Run(fault)),
     }
@@ -58,5 +67,12 @@ pub(crate) fn do_run<'a, F: Files, O: Flush>(
         request.program,
         request.holds,
     )?;
-    run_bytes(alloc, &map, &scen, request.agents, &program, &held, out)
+    let texts = RunTexts {
+        map: &map,
+        scen: &scen,
+        asked: request.agents,
+        program: &program,
+        holds: &held,
+    };
+    run_bytes(alloc, &texts, out)
 }

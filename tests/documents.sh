@@ -44,8 +44,12 @@ status=0
 judge 'docs/DEFINITIONS.md is current: make definitions' 'docs/DEFINITIONS.md against the comments in crates/*/specs' 0
 
 # The clauses that docs/PROVED.md quotes stand in the source, and the definitions of its table have so many lines.
-awk '/^```$/ { on = 0 } on; /^```rust$/ { on = 1 }' "$root/docs/PROVED.md" | sed 's/^ *//' | sort -u > "$work/want.out"
-sed 's/^ *//' "$root"/crates/*/src/*.rt | grep -Fxf "$work/want.out" | sort -u > "$work/out"
+# A clause goes on to the next one, a comment, or the body; its lines are joined.
+clauses='/^ *(requires|ensures) / { if (clause != "") print clause; clause = ""; on = 1 }
+    /^ *([{]|[{][}]|\/\/.*|```.*)?$/ { if (clause != "") print clause; clause = ""; on = 0 }
+    on { sub(/^ */, ""); clause = clause (clause == "" ? "" : " ") $0 }'
+awk '/^```rust$/ { on = 1 } on; /^```$/ { on = 0 }' "$root/docs/PROVED.md" | awk "$clauses" | sort -u > "$work/want.out"
+awk "$clauses" "$root"/crates/*/src/*.rt | grep -Fxf "$work/want.out" | sort -u > "$work/out"
 : > "$work/err"
 : > "$work/want.err"
 status=0

@@ -14,8 +14,8 @@
 // standard error was written to.
 static long written, given, stored, fetched, told;
 
-// How many bytes of so many the stream takes or gives: one, if there are fewer so far than the variable says, and else
-// none.
+// How many bytes of so many the stream or the file takes or gives: all if the variable is not set; else one, if there
+// are fewer so far than it says, and otherwise none.
 static size_t part(const char *limit, long so_far, size_t count)
 {
     const char *number = getenv(limit);

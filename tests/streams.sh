@@ -1,4 +1,5 @@
-# Standard streams: closed, full, a folder, and read by somebody who goes away.
+# Standard streams: closed, full, a folder, and read by somebody who goes away; and streams and files that fail after some
+# bytes.
 
 enter streams
 M=examples/corridor.map S=examples/corridor.scen P=examples/corridor.plan B=examples/corridor.program
@@ -78,7 +79,7 @@ check 'a file-size limit that ends no program' 3 '' 'run 4 Write\n' \
 check 'the file has the front of the trace' 0 '' '' \
     'fleet auto examples/warehouse.map examples/warehouse.scen > whole; n=$(wc -c < big); [ $n -ge 512 ] && head -c $n whole | cmp - big'
 
-# Streams that fail after some bytes, however many (tests/streams.c).
+# Streams and files that fail after some bytes, however many (tests/streams.c).
 STREAMS=$work/bin/streams.so
 export STREAMS
 
@@ -116,7 +117,7 @@ done
 echo $bytes:$heard
 EOF
 # files_cut WAY VARIABLE COMMAND..: the files that the program opens give (GIVES) or take (TAKES) 0 bytes, or one more
-# each time until it is done, and then fail in this way. Prints each status and line, and how often they came in a row.
+# each time until it is done, at most 1,000 times, and then fail in this way. Prints each status and line, and how often they came in a row.
 cat > "$work/bin/files_cut" <<'EOF'
 #!/bin/sh
 WAY=$1 variable=$2 bytes=0 status=3

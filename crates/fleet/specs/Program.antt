@@ -29,7 +29,7 @@ AreWordsOf (Err error) (Ok words) = ⊥
 AreWordsOf (Err error) (Err told) = told ≡ error
 
 -- it was reported why the words cannot be had: memory ran out, or else a word is no text, which is wrong usage
-pub record TellsNoWords (kind : ErrorKind) (err err' : SinkState) (status : ℕ) : Type 0 where
+pub record ReportsNoWords (kind : ErrorKind) (err err' : SinkState) (status : ℕ) : Type 0 where
   pub memory : kind ≡ OutOfMemory → (status ≡ 3) × IsRefusalWritten f.Memory err err'
   pub usage : kind ≢ OutOfMemory → (status ≡ 2) × Receives err err' no_text_line
 
@@ -38,5 +38,5 @@ pub record TellsNoWords (kind : ErrorKind) (err err' : SinkState) (status : ℕ)
 abbrev pub RunsProgram : Result (IntoIter (String Global) Global) Error → Option (List ℕ) → (files after : Option Store) → (Talk → Type 0) → (out out' err err' : SinkState) → ℕ → Type 0
 RunsProgram (Ok args) input files after talks out out' err err' status =
     RunsCommand (map string_bytes (drop 1 (into_iter_items args))) input files after talks out out' err err' status
-    ⊎ (TellsNoWords OutOfMemory err err' status × IsUnwritten out out' × AreUnchanged files after × talks [])
-RunsProgram (Err error) input files after talks out out' err err' status = TellsNoWords (error_kind error) err err' status × IsUnwritten out out' × AreUnchanged files after × talks []
+    ⊎ (ReportsNoWords OutOfMemory err err' status × IsUnwritten out out' × AreUnchanged files after × talks [])
+RunsProgram (Err error) input files after talks out out' err err' status = ReportsNoWords (error_kind error) err err' status × IsUnwritten out out' × AreUnchanged files after × talks []

@@ -5,7 +5,7 @@ ghost use Rattle.std.specs.Prelude.{◌≡◌};
 ghost use Rattle.fleet_text.specs.Sink.{IsWorking};
 ghost use Rattle.std.specs.IoError.{error_kind};
 ghost use Rattle.std.specs.Process.{exit_status};
-ghost use Rattle.fleet.specs.Program.{AreWordsOf, TellsNoWords, RunsProgram};
+ghost use Rattle.fleet.specs.Program.{AreWordsOf, ReportsNoWords, RunsProgram};
 
 use fleet_cli::{Disk, Fault, Files, run_command};
 use fleet_dispatch::{Floor, StreamFloor};
@@ -31,7 +31,7 @@ fn words_of(alloc: Global, args: io::Result<Args>) -> io::Result<Vec<String>>
 /// Writes why the words cannot be had, and answers the status: a word that is no text is wrong usage.
 fn report_no_words<E: TraceOut>(error: &io::Error, err: &mut E) -> u8
     requires { IsWorking (E.state err.old) }
-    ensures { TellsNoWords (error_kind error.now)
+    ensures { ReportsNoWords (error_kind error.now)
         (E.state err.old) (E.state err.new)
         result }
 {

@@ -25,7 +25,7 @@ struct Move {
 
 /// A step of a plan on a map: the one after `time`.
 #[derive(Clone, Copy)]
-struct StepOf<'a> {
+struct PlanStep<'a> {
     plan: &'a Plan,
     grid: &'a Grid,
     time: u32,
@@ -68,7 +68,7 @@ fn sweep(
     for time in 0..plan.steps() {
         plan.keep_under_way(&mut agents, time);
         list_moves(plan, time, &agents, &mut moves)?;
-        let at = StepOf { plan, grid, time };
+        let at = PlanStep { plan, grid, time };
         make_moves(alloc, &at, &moves, leavings, actions)?;
     }
     Ok(())
@@ -77,7 +77,7 @@ fn sweep(
 /// Notes the leavings of cells in a step, and then adds its moves, with what they await.
 fn make_moves(
     alloc: Global,
-    at: &StepOf<'_>,
+    at: &PlanStep<'_>,
     moves: &[Move],
     leavings: &mut Leavings,
     actions: &mut [Growing],
@@ -190,7 +190,7 @@ fn list_moves(
 
 /// Notes the leavings of cells in a step.
 fn note_leavings(
-    at: &StepOf<'_>,
+    at: &PlanStep<'_>,
     moves: &[Move],
     actions: &[Growing],
     leavings: &mut Leavings,
@@ -218,7 +218,7 @@ fn note_leavings(
 /// Adds the moves of a step, with what they await.
 fn add_actions(
     alloc: Global,
-    at: &StepOf<'_>,
+    at: &PlanStep<'_>,
     moves: &[Move],
     leavings: &Leavings,
     actions: &mut [Growing],

@@ -36,7 +36,8 @@ pub(crate) enum Values {
     Deps,
 }
 
-/// What an argument is: a word that the command needs, at its place among such words, or else an option `--NAME` with one value.
+/// What an argument is: a word that the command needs, at its place among such words, or else an option `--NAME` with
+/// one value.
 #[derive(Clone, Copy)]
 struct ArgumentText {
     name: &'static str,

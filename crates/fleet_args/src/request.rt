@@ -121,8 +121,8 @@ static DEPS: [&str; 2] = ["all", "last"];
 
 /// Reads the words after the program's name, as `clap` reads them by the definition of the command line.
 ///
-/// Errors: `Usage` and `Help` only if that definition does not take the words, and `Help` only if they ask for help or for the version;
-/// `OutOfMemory`.
+/// Errors: `Usage` and `Help` only if that definition does not take the words, and `Help` only if they ask for help or
+/// for the version; `OutOfMemory`.
 pub fn read_words<'a>(alloc: Global, words: &'a [String]) -> Result<Request<'a>, WordStop>
     ensures { ReadsFleet (map string_bytes words.entry.now) result }
 {

@@ -38,7 +38,8 @@ pub fn accept<'g>(
     }
 }
 
-/// The same, of bytes that spell a program which is accepted for the map and the instance: refused for want of memory alone.
+/// The same, of bytes that spell a program which is accepted for the map and the instance: refused for want of memory
+/// alone.
 pub fn accept_made<'g>(
     alloc: Global,
     bytes: &'g [u8],

@@ -1,7 +1,8 @@
 //! From a map and a scenario to the trace of the fleet: plans, compiles, encodes, loads, verifies and runs.
 //!
-//! The next step takes whatever a step makes: a plan that is made is compiled, its program is loaded again from the bytes that spell it,
-//! and what is loaded is accepted. So once there is a plan with few enough moves, only memory, the holds and the sink can stop it.
+//! The next step takes whatever a step makes: a plan that is made is compiled, its program is loaded again from the
+//! bytes that spell it, and what is loaded is accepted. So once there is a plan with few enough moves, only memory, the
+//! holds and the sink can stop it.
 #![tactic(auto)]
 
 mod accepting;

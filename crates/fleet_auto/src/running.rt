@@ -15,8 +15,8 @@ use fleet_run::{Fleet, HoldText, Report, RunFault, TraceOut, drive};
 use fleet_verify::Accepted;
 use std::alloc::Global;
 
-/// Runs an accepted program, under the holds for which the bytes stand, and writes its trace to `out`, which is not flushed. The report
-/// has the trace's numbers.
+/// Runs an accepted program, under the holds for which the bytes stand, and writes its trace to `out`, which is not
+/// flushed. The report has the trace's numbers.
 ///
 /// Errors: `OutOfMemory` before anything is written, and those of `drive` except `Source`.
 pub fn run_accepted<P: ProgramView + Drop, O: TraceOut>(
@@ -36,9 +36,9 @@ pub fn run_accepted<P: ProgramView + Drop, O: TraceOut>(
     drive(&mut fleet, &mut source, out)
 }
 
-/// What is planned, compiled and run: the texts of a map and of a scenario; how many of the scenario's agents are `asked` for, the first
-/// ones, or all if it is `None`; the horizon, which is the latest time step at which an agent may arrive; how many orders of the agents are
-/// tried at most; the kind of awaits; and the text of the holds.
+/// What is planned, compiled and run: the texts of a map and of a scenario; how many of the scenario's agents are
+/// `asked` for, the first ones, or all if it is `None`; the horizon, which is the latest time step at which an agent
+/// may arrive; how many orders of the agents are tried at most; the kind of awaits; and the text of the holds.
 #[derive(Clone, Copy, Debug)]
 pub struct AutoTask<'a> {
     pub map: &'a [u8],
@@ -50,7 +50,8 @@ pub struct AutoTask<'a> {
     pub holds: &'a [u8],
 }
 
-/// Does the same as `auto_run`, with a plan that is made in one of up to `tries` orders of the agents (`plan_in_orders`).
+/// Does the same as `auto_run`, with a plan that is made in one of up to `tries` orders of the agents
+/// (`plan_in_orders`).
 ///
 /// Errors: those of `auto_run`.
 pub fn auto_run_in_orders<O: TraceOut>(
@@ -77,12 +78,12 @@ pub fn auto_run_in_orders<O: TraceOut>(
     Ok(run_accepted(alloc, accepted, task.holds, out)?)
 }
 
-/// Plans for the map and the scenario (of whose agents the first `asked`, or all), with paths that arrive by the horizon, compiles the
-/// plan, writes the program as bytes, loads and verifies these, and runs the program under the holds. The trace is written to `out`,
-/// which is not flushed. The report has the trace's numbers.
+/// Plans for the map and the scenario (of whose agents the first `asked`, or all), with paths that arrive by the
+/// horizon, compiles the plan, writes the program as bytes, loads and verifies these, and runs the program under the
+/// holds. The trace is written to `out`, which is not flushed. The report has the trace's numbers.
 ///
-/// Errors: the fault of the first step that refuses. Before the run nothing is written; of a run that stops `out` has the lines that
-/// `drive` names. Encoding, loading and verifying refuse for want of memory alone.
+/// Errors: the fault of the first step that refuses. Before the run nothing is written; of a run that stops `out` has
+/// the lines that `drive` names. Encoding, loading and verifying refuse for want of memory alone.
 pub fn auto_run<O: TraceOut>(
     alloc: Global,
     map: &[u8],

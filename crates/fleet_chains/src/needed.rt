@@ -69,7 +69,8 @@ fn close<P: ProgramView>(
     unreachable!()
 }
 
-/// Looks at what the next needed action of each agent awaits. Answers whether an agent had one.
+/// Looks at the next needed action of each agent, if it has one, and raises the counts to those that it awaits. Answers
+/// whether some agent had one.
 fn look_at_next<P: ProgramView>(program: &P, needed: &mut [u32], looked: &mut [u32]) -> bool
     requires range { AreInRange (P.program program.now) }
     requires wide { length needed.old ≡ length (P.program program.now) }
@@ -109,8 +110,8 @@ fn raise<P: ProgramView>(program: &P, agent: u16, number: u32, row: &mut [u32])
         let awaited = program.await_at(agent, number, k);
         prove!(awaited.agent < agents);
         let i = awaited.agent as usize;
-        let is_less = row[i] < awaited.count;
-        if is_less {
+        let is_short = row[i] < awaited.count;
+        if is_short {
             row[i] = awaited.count;
         }
     }

@@ -11,7 +11,8 @@ use fleet_io::{Fault, Files, flush_run, read_two_with_holds};
 use fleet_run::Flush;
 use std::alloc::Global;
 
-/// Plans for the map and the scenario, compiles the plan and runs the program under the holds, and has the sink hand on the trace.
+/// Plans for the map and the scenario, compiles the plan and runs the program under the holds, and has the sink hand on
+/// the trace.
 fn auto_texts<'a, O: Flush>(
     alloc: Global,
     task: &AutoTask<'_>,
@@ -37,8 +38,8 @@ fn auto_texts<'a, O: Flush>(
     }
 }
 
-/// The command `auto`: reads the files whole, that of the holds last, plans for the map and the scenario, compiles the plan, and writes
-/// the trace of the program, under the holds, to `out`. Answers 0. No file is changed.
+/// The command `auto`: reads the files whole, that of the holds last, plans for the map and the scenario, compiles the
+/// plan, and writes the trace of the program, under the holds, to `out`. Answers 0. No file is changed.
 #[inline(never)]
 pub(crate) fn do_auto<'a, F: Files, O: Flush>(
     alloc: Global,

@@ -5,7 +5,7 @@ ghost use Rattle.fleet_text.specs.Sink.{IsWorking, Delivers};
 ghost use Rattle.fleet_files.specs.Files.{AreUnchanged};
 ghost use Rattle.fleet_cli.specs.CheckCommand.{check_text, PrintsCheck, IsCheckFault, DoesCheck, RefusesCheck};
 
-use crate::output::{print_report, print_status};
+use crate::output::{print_report, status_after_print};
 use crate::problem::read_problem;
 use fleet_args::CheckRequest;
 use fleet_io::{Fault, Files, read_three};
@@ -52,11 +52,11 @@ fn show_check<'a, O: Flush>(
         Ok(checked) => checked,
         Err(refusal) => return Err(Fault::Check(refusal.fault)),
     };
-    print_status(print_check(out, checked.plan()))
+    status_after_print(print_check(out, checked.plan()))
 }
 
-/// The command `check`: reads the files whole, and prints to `out` that the plan is free of conflict, with its agents and its steps.
-/// Answers 0. A plan's first fault is a refusal. No file is changed.
+/// The command `check`: reads the files whole, and prints to `out` that the plan is free of conflict, with its agents
+/// and its steps. Answers 0. A plan's first fault is a refusal. No file is changed.
 #[inline(never)]
 pub(crate) fn do_check<'a, F: Files, O: Flush>(
     alloc: Global,

@@ -24,8 +24,8 @@ use fleet_run::{Flush, OutFault, TraceOut, put_all};
 use std::alloc::Global;
 use std::io::Read;
 
-/// Does what the request asks: its output goes to `out`, and what it says to robots to the floor. Answers the status, or the refusal
-/// that is to be written.
+/// Does what the request asks: its output goes to `out`, and what it says to robots to the floor. Answers the status,
+/// or the refusal that is to be written.
 fn do_request<'a, F: Files, O: Flush, D: Floor>(
     alloc: Global,
     request: &Request<'a>,
@@ -57,8 +57,8 @@ fn do_request<'a, F: Files, O: Flush, D: Floor>(
     }
 }
 
-/// Does what the request asks: its output goes to `out`, a refusal's line to `err`, and what it says to robots to the floor. Answers the
-/// status.
+/// Does what the request asks: its output goes to `out`, a refusal's line to `err`, and what it says to robots to the
+/// floor. Answers the status.
 pub fn run_request<F: Files, O: Flush, E: TraceOut, D: Floor>(
     alloc: Global,
     request: &Request<'_>,
@@ -77,7 +77,8 @@ pub fn run_request<F: Files, O: Flush, E: TraceOut, D: Floor>(
     finish(do_request(alloc, request, files, out, floor), err)
 }
 
-/// Reports why the words are no request: help on `out` with status 0, usage on `err` with status 2, want of memory with status 3.
+/// Reports why the words are no request: help on `out` with status 0, usage on `err` with status 2, want of memory with
+/// status 3.
 fn stop_at<O: Flush, E: TraceOut>(stop: &WordStop, out: &mut O, err: &mut E) -> u8
     requires out_working { IsWorking (O.state out.old) }
     requires err_working { IsWorking (E.state err.old) }
@@ -99,9 +100,9 @@ fn stop_at<O: Flush, E: TraceOut>(stop: &WordStop, out: &mut O, err: &mut E) -> 
     }
 }
 
-/// What the program does for the words after its name: without words it rehearses the program that `input` gives in hexadecimal, and else
-/// it does what the words ask for. Of the commands `dispatch` alone hears `input`, as a floor. Answers the status: 2 only if the words ask
-/// for no command.
+/// What the program does for the words after its name: without words it rehearses the program that `input` gives in
+/// hexadecimal, and else it does what the words ask for. Of the commands `dispatch` alone hears `input`, as a floor.
+/// Answers the status: 2 only if the words ask for no command.
 pub fn run_command<R: Read + Floor, F: Files, O: Flush, E: TraceOut>(
     alloc: Global,
     words: &[String],

@@ -25,7 +25,8 @@ struct Compiled {
     bytes: Vec<u8>,
 }
 
-/// The program, as it is asked for, of the plan for which the texts stand. The text of the plan is let go once it is read.
+/// The program, as it is asked for, of the plan for which the texts stand. The text of the plan is let go once it is
+/// read.
 fn compiled_program<'a>(
     alloc: Global,
     map: &[u8],
@@ -122,8 +123,8 @@ fn write_compiled<'a, F: Files, O: Flush>(
     )
 }
 
-/// The command `compile`: reads the files whole, writes the bytes of the program of the plan to the file OUT once all before it
-/// succeeded, and prints its numbers to `out`. Answers 0.
+/// The command `compile`: reads the files whole, writes the bytes of the program of the plan to the file OUT once all
+/// before it succeeded, and prints its numbers to `out`. Answers 0.
 #[inline(never)]
 pub(crate) fn do_compile<'a, F: Files, O: Flush>(
     alloc: Global,

@@ -33,8 +33,8 @@ fn dispatch_bytes<'a, D: Floor>(
     }
 }
 
-/// The command `dispatch`: reads the files whole, verifies the program, and dispatches its agents over the floor: each is told its
-/// order as soon as it has one, before the next report is waited for. Answers 0. No file is changed.
+/// The command `dispatch`: reads the files whole, verifies the program, and dispatches its agents over the floor: each
+/// is told its order as soon as it has one, before the next report is waited for. Answers 0. No file is changed.
 #[inline(never)]
 pub(crate) fn do_dispatch<'a, F: Files, D: Floor>(
     alloc: Global,

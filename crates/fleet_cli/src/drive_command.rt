@@ -11,10 +11,10 @@ use fleet_io::{Fault, Files, read_three_with_holds, run_flushed};
 use fleet_run::Flush;
 use std::alloc::Global;
 
-/// What a run is of: the texts of the map and of the scenario, of which so many agents are taken, the first ones, or all
-/// if it is `None`; the bytes of the program; and the text of the holds.
+/// What a run is of: the texts of the map and of the scenario, of which the first `asked` agents are taken (all if it
+/// is `None`), the bytes of the program, and the text of the holds.
 #[derive(Clone, Copy)]
-struct RunTexts<'a> {
+struct RunTask<'a> {
     map: &'a [u8],
     scen: &'a [u8],
     asked: Option<u16>,
@@ -23,11 +23,7 @@ struct RunTexts<'a> {
 }
 
 /// Verifies the program that the bytes spell for the map and the instance of the texts, and runs it.
-fn run_bytes<'a, O: Flush>(
-    alloc: Global,
-    texts: &RunTexts<'_>,
-    out: &mut O,
-) -> Result<u8, Fault<'a>>
+fn run_bytes<'a, O: Flush>(alloc: Global, texts: &RunTask<'_>, out: &mut O) -> Result<u8, Fault<'a>>
     requires { IsWorking (O.state out.old) }
     ensures { MatchResult result
         (λ status. RunsTexts texts.now.map.now texts.now.scen.now texts.now.asked
@@ -44,8 +40,8 @@ fn run_bytes<'a, O: Flush>(
     }
 }
 
-/// The command `run`: reads the files whole, that of the holds last, verifies the program, and writes its trace, under the holds, to
-/// `out`. Answers 0. No file is changed.
+/// The command `run`: reads the files whole, that of the holds last, verifies the program, and writes its trace, under
+/// the holds, to `out`. Answers 0. No file is changed.
 #[inline(never)]
 pub(crate) fn do_run<'a, F: Files, O: Flush>(
     alloc: Global,
@@ -67,7 +63,7 @@ pub(crate) fn do_run<'a, F: Files, O: Flush>(
         request.program,
         request.holds,
     )?;
-    let texts = RunTexts {
+    let texts = RunTask {
         map: &map,
         scen: &scen,
         asked: request.agents,

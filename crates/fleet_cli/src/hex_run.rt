@@ -40,9 +40,9 @@ fn rehearse_hex<R: Read, O: Flush>(
     }
 }
 
-/// Reads program bytes in hexadecimal from `input`, at most `MAX_BYTES` bytes of text, and writes the rehearsal of the program,
-/// with nobody held, to `out`. Answers 0 if the rehearsal ends finished and 1 if it ends stuck; a refusal is written to `err`
-/// and its status answered: 1, or 3 if memory, the input or `out` failed.
+/// Reads program bytes in hexadecimal from `input`, at most `MAX_BYTES` bytes of text, and writes the rehearsal of the
+/// program, with nobody held, to `out`. Answers 0 if the rehearsal ends finished and 1 if it ends stuck; a refusal is
+/// written to `err` and its status answered: 1, or 3 if memory, the input or `out` failed.
 #[inline(never)]
 pub fn run_hex<R: Read, O: Flush, E: TraceOut>(
     alloc: Global,

@@ -5,7 +5,7 @@ ghost use Rattle.fleet_text.specs.Sink.{IsWorking, TakesAll, Delivers};
 ghost use Rattle.fleet_files.specs.Files.{AreUnchanged};
 ghost use Rattle.fleet_cli.specs.InstanceCommand.{task_line, task_lines, map_line, instance_text, PrintsInstance, IsInstanceFault, DoesInstance, RefusesInstance};
 
-use crate::output::print_status;
+use crate::output::status_after_print;
 use crate::problem::read_problem;
 use fleet_args::InstanceRequest;
 use fleet_grid::Grid;
@@ -86,11 +86,11 @@ fn show_instance<'a, O: Flush>(
         (IsInstanceFault map.now scen.now asked (O.state out.old) (O.state out.new)) }
 {
     let problem = read_problem(alloc, map, scen, asked)?;
-    print_status(print_instance(out, &problem.grid, &problem.instance))
+    status_after_print(print_instance(out, &problem.grid, &problem.instance))
 }
 
-/// The command `instance`: reads both files whole, and prints to `out` the sizes of the map, its passable cells, and the start and the
-/// goal of each agent. Answers 0. No file is changed.
+/// The command `instance`: reads both files whole, and prints to `out` the sizes of the map, its passable cells, and
+/// the start and the goal of each agent. Answers 0. No file is changed.
 #[inline(never)]
 pub(crate) fn do_instance<'a, F: Files, O: Flush>(
     alloc: Global,

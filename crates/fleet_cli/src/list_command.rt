@@ -6,7 +6,7 @@ ghost use Rattle.fleet_text.specs.Sink.{IsWorking, Delivers};
 ghost use Rattle.fleet_files.specs.Files.{AreUnchanged};
 ghost use Rattle.fleet_cli.specs.ListCommand.{PrintsProgram, IsListFault, DoesList, RefusesList};
 
-use crate::output::print_status;
+use crate::output::status_after_print;
 use crate::problem::view_program;
 use fleet_args::ListRequest;
 use fleet_io::{Fault, Files, read_file};
@@ -33,10 +33,11 @@ fn list_bytes<'a, O: Flush>(alloc: Global, bytes: &[u8], out: &mut O) -> Result<
         (IsListFault bytes.now (O.state out.old) (O.state out.new)) }
 {
     let program = view_program(alloc, bytes)?;
-    print_status(print_program(out, &program))
+    status_after_print(print_program(out, &program))
 }
 
-/// The command `list`: reads the file whole, and prints the program that it spells to `out`, as text. Answers 0. No file is changed.
+/// The command `list`: reads the file whole, and prints the program that it spells to `out`, as text. Answers 0. No
+/// file is changed.
 #[inline(never)]
 pub(crate) fn do_list<'a, F: Files, O: Flush>(
     alloc: Global,

@@ -70,8 +70,8 @@ fn write_migrated<'a, F: Files, O: Flush>(
     )
 }
 
-/// The command `migrate`: reads the program whole, in either version, writes it to the file OUT in version 2 once all before it
-/// succeeded, and prints how many bytes it has to `out`. Answers 0.
+/// The command `migrate`: reads the program whole, in either version, writes it to the file OUT in version 2 once all
+/// before it succeeded, and prints how many bytes it has to `out`. Answers 0.
 #[inline(never)]
 pub(crate) fn do_migrate<'a, F: Files, O: Flush>(
     alloc: Global,

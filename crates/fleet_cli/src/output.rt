@@ -58,7 +58,7 @@ pub(crate) fn print_report<O: Flush>(
 }
 
 /// The status of a command that was to print: 0, or the refusal of the standard output.
-pub(crate) fn print_status<'a>(done: Result<(), OutFault>) -> Result<u8, Fault<'a>>
+pub(crate) fn status_after_print<'a>(done: Result<(), OutFault>) -> Result<u8, Fault<'a>>
     ensures { IsPrinted done result }
 {
     match done {
@@ -83,5 +83,5 @@ pub(crate) fn write_out<'a, F: Files, O: Flush>(
         (O.state out.old) (O.state out.new) (count_lines (with_labels counts.now))) }
 {
     write_file(files, name, bytes)?;
-    print_status(print_counts(out, counts))
+    status_after_print(print_counts(out, counts))
 }

@@ -7,7 +7,7 @@ ghost use Rattle.fleet_auto.specs.Texts.{AreTextsOf};
 ghost use Rattle.fleet_cli.specs.Problem.{IsProblemRefusal};
 ghost use Rattle.fleet_cli.specs.PlanCommand.{PrintsPlan, IsPlanCommandFault, DoesPlan, RefusesPlan};
 
-use crate::output::print_status;
+use crate::output::status_after_print;
 use crate::problem::read_problem;
 use fleet_args::PlanRequest;
 use fleet_auto::Problem;
@@ -61,11 +61,11 @@ fn plan_texts<'a, O: Flush>(
         Ok(text) => text,
         Err(OutOfMemory) => return Err(Fault::Memory),
     };
-    print_status(deliver(out, &text))
+    status_after_print(deliver(out, &text))
 }
 
-/// The command `plan`: reads both files whole, and prints to `out` a plan in which each agent's path is the earliest against those of
-/// the agents before it, in one of the first orders of the agents. Answers 0. No file is changed.
+/// The command `plan`: reads both files whole, and prints to `out` a plan in which each agent's path is the earliest
+/// against those of the agents before it, in one of the first orders of the agents. Answers 0. No file is changed.
 #[inline(never)]
 pub(crate) fn do_plan<'a, F: Files, O: Flush>(
     alloc: Global,

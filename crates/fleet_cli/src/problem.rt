@@ -27,7 +27,8 @@ pub(crate) fn read_problem<'a>(
     Ok(fleet_auto::read_problem(alloc, map, scen, asked)?)
 }
 
-/// The program that the bytes spell, read in place and accepted for the map and the instance, or the refusal of the program.
+/// The program that the bytes spell, read in place and accepted for the map and the instance, or the refusal of the
+/// program.
 pub(crate) fn accept<'g, 'a>(
     alloc: Global,
     bytes: &'g [u8],

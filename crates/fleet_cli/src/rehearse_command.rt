@@ -45,8 +45,8 @@ fn rehearse_bytes<'a, O: Flush>(
     }
 }
 
-/// The command `rehearse`: reads the files whole, that of the holds last, and writes the rehearsal of the program, under the holds, to
-/// `out`. Answers 0 if it ends finished and 1 if it ends stuck. No file is changed.
+/// The command `rehearse`: reads the files whole, that of the holds last, and writes the rehearsal of the program,
+/// under the holds, to `out`. Answers 0 if it ends finished and 1 if it ends stuck. No file is changed.
 #[inline(never)]
 pub(crate) fn do_rehearse<'a, F: Files, O: Flush>(
     alloc: Global,

@@ -105,8 +105,8 @@ fn write_thinned<'a, F: Files, O: Flush>(
     )
 }
 
-/// The command `thin`: reads the files whole, writes the bytes of the program without its implied awaits to the file OUT once
-/// all before it succeeded, and prints its awaits before and after to `out`. Answers 0.
+/// The command `thin`: reads the files whole, writes the bytes of the program without its implied awaits to the file
+/// OUT once all before it succeeded, and prints its awaits before and after to `out`. Answers 0.
 #[inline(never)]
 pub(crate) fn do_thin<'a, F: Files, O: Flush>(
     alloc: Global,

@@ -7,7 +7,7 @@ ghost use Rattle.fleet_text.specs.Sink.{IsWorking, Delivers};
 ghost use Rattle.fleet_files.specs.Files.{AreUnchanged};
 ghost use Rattle.fleet_cli.specs.VerifyCommand.{accepted_text, SpellsBreakingHolds, ReportsRefused, PrintsAccepted, IsVerifyFault, DoesVerify, RefusesVerify};
 
-use crate::output::{print_report, print_status};
+use crate::output::{print_report, status_after_print};
 use crate::problem::{read_problem, view_program};
 use fleet_args::VerifyRequest;
 use fleet_auto::AcceptFault;
@@ -79,8 +79,8 @@ fn report_refused<'a, P: ProgramView + Drop, O: Flush>(
     }
 }
 
-/// Verifies the program that the bytes spell for the map and the instance of the texts, and prints that it is accepted, or the holds
-/// that break it.
+/// Verifies the program that the bytes spell for the map and the instance of the texts, and prints that it is accepted,
+/// or the holds that break it.
 fn verify_bytes<'a, O: Flush>(
     alloc: Global,
     map: &[u8],
@@ -101,11 +101,12 @@ fn verify_bytes<'a, O: Flush>(
         Ok(accepted) => accepted,
         Err(refused) => return Err(report_refused(alloc, refused, out)),
     };
-    print_status(print_accepted(out, &accepted))
+    status_after_print(print_accepted(out, &accepted))
 }
 
-/// The command `verify`: reads the files whole, and prints to `out` that the program is accepted, with its numbers, or, of a
-/// program that is refused for two visits which no chain orders, the holds that break it. Answers 0. No file is changed.
+/// The command `verify`: reads the files whole, and prints to `out` that the program is accepted, with its numbers, or,
+/// of a program that is refused for two visits which no chain orders, the holds that break it. Answers 0. No file is
+/// changed.
 #[inline(never)]
 pub(crate) fn do_verify<'a, F: Files, O: Flush>(
     alloc: Global,

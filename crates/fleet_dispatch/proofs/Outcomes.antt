@@ -107,7 +107,7 @@ report_stops T p first then both works w c c' sent k n reports (f.NotOrdered lin
       record {
         report = r.0;
         stops = record { taken = told.taken; left = left; talk = j.join _ _ told.talk r.1.heard; number = let e = h.1 in omega arith };
-        unsent = r.1.unsent;
+        unready = r.1.unready;
       },
     )
 report_stops T p first then both works w c c' sent k n reports (f.Ended line) j told left next h =

@@ -40,7 +40,7 @@ pub record StopsAtLine (p : Program) (talks : Talk → Type 0) (c : Configuratio
 pub record StopsAtReport (p : Program) (talks : Talk → Type 0) (c : Configuration) (line agent : ℕ) (reports : List (List ℕ)) : Type 0 where
   pub report : List ℕ
   pub stops : StopsAtLine p talks c (Heard report) line reports
-  pub unsent : IsFirstUnready p c (is_among report) agent
+  pub unready : IsFirstUnready p c (is_among report) agent
 
 -- after this talk the text was to be told, and a front of it was
 abbrev pub IsCut : (Talk → Type 0) → Talk → List ℕ → Type 0
@@ -88,7 +88,7 @@ pub record IsReportTaken (p : Program) (talks : Talk → Type 0) (works : Type 0
 -- a report was heard that names agents without orders, of which this is the first
 pub record IsRefused (p : Program) (talks : Talk → Type 0) (c : Configuration) (agent : ℕ) (report : List ℕ) : Type 0 where
   pub heard : talks (Heard report ∷ [])
-  pub unsent : IsFirstUnready p c (is_among report) agent
+  pub unready : IsFirstUnready p c (is_among report) agent
 
 -- a line was heard, and was taken as a report or refused with nothing changed
 abbrev pub TakesReport : {T : Type 0} → Program → (Talk → Type 0) → (works : Type 0) (c c' : Configuration) (sent : List Bool) → ℕ → Result T DispatchFault → Type 0

@@ -215,8 +215,8 @@ pub fn dispatch<P: ProgramView, F: Floor>(
     // Each action is ordered once, before it is carried out.
     ensures once { (holds : Holds) (t i : ℕ) → i < length (P.program fleet.old.accepted.program)
         → orders_given (P.program fleet.old.accepted.program) holds t i
-        ≡ count_at (run (P.program fleet.old.accepted.program) holds t) i +
-        (if is_ready (P.program fleet.old.accepted.program)
+        ≡ count_at (run (P.program fleet.old.accepted.program) holds t) i
+        + (if is_ready (P.program fleet.old.accepted.program)
         (run (P.program fleet.old.accepted.program) holds t) i then 1 else 0) }
     // While an action is left some agent has an order.
     ensures goes_on { (holds : Holds) (t : ℕ)

@@ -44,8 +44,8 @@ pub enum Stop {
     Dispatch(DispatchFault),
 }
 
-/// Verifies the program that the bytes spell for the map and the scenario, runs it under the holds, and writes its trace
-/// to `out`. The report has the trace's numbers.
+/// Verifies the program that the bytes spell for the map and the scenario, runs it under the holds, and writes its
+/// trace to `out`. The report has the trace's numbers.
 pub fn run<O: TraceOut>(
     alloc: Global,
     map: &[u8],
@@ -93,8 +93,8 @@ pub fn send<P: ProgramView + Drop, F: Floor>(
     }
 }
 
-/// The flagged robots have arrived, and all others are still on their way. Answers where robot `i` may be sent then: the
-/// step of its next move, if it has an order. If a flagged robot had no order, the first such robot is refused, and
+/// The flagged robots have arrived, and all others are still on their way. Answers where robot `i` may be sent then:
+/// the step of its next move, if it has an order. If a flagged robot had no order, the first such robot is refused, and
 /// nothing changes.
 pub fn note_report<P: ProgramView>(
     fleet: &mut Fleet<'_, P>,

@@ -20,8 +20,8 @@ pub trait Files {
     /// Whether a write of the named file may end in this fault.
     ghost refuses_write: { Self → List ℕ → FileFault → Type 0 } = { λ _ _ _. ⊤ };
 
-    /// The whole file. Errors: `OutOfMemory`, or `Failed` if it cannot be read or has more than `MAX_BYTES` bytes; a store
-    /// that says what it holds answers `Failed` only if there is no such file or it has more.
+    /// The whole file. Errors: `OutOfMemory`, or `Failed` if it cannot be read or has more than `MAX_BYTES` bytes; a
+    /// store that says what it holds answers `Failed` only if there is no such file or it has more.
     fn read(&mut self, alloc: Global, name: &str) -> Result<Vec<u8>, FileFault>
         ensures bytes { IfOk result (λ bytes. HoldsBytes (contents self.old) name.now bytes.items) }
         ensures within { IfOk result (λ bytes. length bytes.items ≤ MAX_BYTES) }

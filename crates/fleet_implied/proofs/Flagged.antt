@@ -21,9 +21,9 @@ use Rattle.fleet_implied.proofs.RowFlags.{flagged}
 
 -- ---- the flags of one action, one after another
 
-pub told_of : (p : Program) → AreInRange p → IsWellFormed p → (columns : Columns) (a : ActionId) (row : List ℕ) → IsAction p a → AreOthers p columns a row
+pub flagged_of : (p : Program) → AreInRange p → IsWellFormed p → (columns : Columns) (a : ActionId) (row : List ℕ) → IsAction p a → AreOthers p columns a row
     → (k c : ℕ) (w : Await) → slice_get (awaits_of p a.agent a.number) k ≡ Some w → HasColumn columns w.agent c → IsImpliedFlag p a w (nat_le w.count (slice_index row c))
-told_of p range formed columns a row is others k c w at has =
+flagged_of p range formed columns a row is others k c w at has =
     let f : 1 ≤ a.number = is.first in
     let e : a.number - 1 + 1 ≡ a.number = omega arith in
     let there : slice_get (awaits_of p a.agent (a.number - 1 + 1)) k ≡ Some w = subst (λ (n : ℕ). slice_get (awaits_of p a.agent n) k ≡ Some w) (sym e) at in
@@ -36,10 +36,10 @@ module _ (p : Program) (columns : Columns) (a : ActionId) (first k : ℕ) (one :
   is_one : (m : ℕ) (w : Await) → m ≡ k → slice_get (awaits_of p a.agent a.number) m ≡ Some w → one ≡ w
   is_one m w e there = same_Some one w (sym at ∙ ap (slice_get (awaits_of p a.agent a.number)) (sym e) ∙ there)
 
-  pub told_more : ((c : ℕ) → HasColumn columns one.agent c → IsImpliedFlag p a one (get_or new (first + k) false))
+  pub flagged_more : ((c : ℕ) → HasColumn columns one.agent c → IsImpliedFlag p a one (get_or new (first + k) false))
       → ((m c : ℕ) (w : Await) → m < k → slice_get (awaits_of p a.agent a.number) m ≡ Some w → HasColumn columns w.agent c → IsImpliedFlag p a w (get_or old (first + m) false))
       → (m c : ℕ) (w : Await) → m < k + 1 → slice_get (awaits_of p a.agent a.number) m ≡ Some w → HasColumn columns w.agent c → IsImpliedFlag p a w (get_or new (first + m) false)
-  told_more here before m c w l there has = elim (cases_eq m k) [
+  flagged_more here before m c w l there has = elim (cases_eq m k) [
     | inr ne ↦ subst (IsImpliedFlag p a w) (sym (others (first + m) (λ e. ne (omega (arith, e))))) (before m c w (omega arith) there has)
     | inl e ↦
         let same : one ≡ w = is_one m w e there in
@@ -61,9 +61,9 @@ module _ (p : Program) (columns : Columns) (a : ActionId) (first k : ℕ) (one :
 
 -- ---- the flags of one action more
 
-pub told_on : (p : Program) (columns : Columns) (Done Next : ActionId → Type 0) (a : ActionId) (old new : List Bool) → IsAction p a → ((b : ActionId) → IsAction p b → Next b → Done b ⊎ (b ≡ a))
+pub flagged_on : (p : Program) (columns : Columns) (Done Next : ActionId → Type 0) (a : ActionId) (old new : List Bool) → IsAction p a → ((b : ActionId) → IsAction p b → Next b → Done b ⊎ (b ≡ a))
     → ((b : ActionId) → IsAction p b → Done b → b ≢ a) → AreFlagged p columns a old new → AreFlaggedFor p columns Done old → AreFlaggedFor p columns Next new
-told_on p columns Done Next a old new is back apart h before b kb next k c w at has = elim (back b kb next) [
+flagged_on p columns Done Next a old new is back apart h before b kb next k c w at has = elim (back b kb next) [
   | inl done ↦ subst (IsImpliedFlag p b w) (sym (h.others (first_await p b + k) (flag_apart p b a kb is (apart b kb done) k (slice_get_within (awaits_of p b.agent b.number) k w at)))) (before b kb done k c w at has)
   | inr e ↦
       subst (λ (x : ActionId). IsImpliedFlag p x w (get_or new (first_await p x + k) false)) (sym e)
@@ -78,14 +78,14 @@ left_on p columns a old new is h b kb k w at none = elim (same_or_not b a) [
       (h.none k w (subst (λ (x : ActionId). slice_get (awaits_of p x.agent x.number) k ≡ Some w) e at) none)
 ]
 
-pub told_counted : (p : Program) (columns : Columns) (counts : List ℕ) (a : ActionId) (old new : List Bool) → IsAction p a → IsNextAction p counts a → AreFlagged p columns a old new
+pub flagged_counted : (p : Program) (columns : Columns) (counts : List ℕ) (a : ActionId) (old new : List Bool) → IsAction p a → IsNextAction p counts a → AreFlagged p columns a old new
     → AreFlaggedFor p columns (IsCounted counts) old → AreFlaggedFor p columns (IsCounted (set counts a.agent a.number)) new
-told_counted p columns counts a old new is next h before =
-    told_on p columns (IsCounted counts) (IsCounted (set counts a.agent a.number)) a old new is
+flagged_counted p columns counts a old new is next h before =
+    flagged_on p columns (IsCounted counts) (IsCounted (set counts a.agent a.number)) a old new is
     (λ b k. counted_back counts a next.agent next.number b) (λ b k. counted_apart counts a next.agent next.number b) h before
 
-pub told_none : (p : Program) (columns : Columns) (n : ℕ) (flags : List Bool) → AreFlaggedFor p columns (IsCounted (replicate n 0)) flags
-told_none p columns n flags a is done = absurd (none_counted n a is.first done)
+pub flagged_none : (p : Program) (columns : Columns) (n : ℕ) (flags : List Bool) → AreFlaggedFor p columns (IsCounted (replicate n 0)) flags
+flagged_none p columns n flags a is done = absurd (none_counted n a is.first done)
 
 -- ---- the flags of one block more
 
@@ -99,12 +99,12 @@ settled_after p asked columns old new here left before a is too k w at = elim (b
     go was (Some c) f = here a is k c w at f
     go was None f = subst (IsImpliedFlag p a w) (sym (left a is k w at f)) was
 
-pub told_to : (p : Program) (asked : List Bool) (from : ℕ) (columns : Columns) → AreColumns asked from columns → (old new : List Bool)
+pub flagged_to : (p : Program) (asked : List Bool) (from : ℕ) (columns : Columns) → AreColumns asked from columns → (old new : List Bool)
     → ((a : ActionId) → IsAction p a → (k c : ℕ) (w : Await) → slice_get (awaits_of p a.agent a.number) k ≡ Some w → HasColumn columns w.agent c → IsImpliedFlag p a w (get_or new (first_await p a + k) false))
     → AreLeft p columns old new → AreSettled p asked old
     → ((a : ActionId) → IsAction p a → (k : ℕ) (w : Await) → slice_get (awaits_of p a.agent a.number) k ≡ Some w → w.agent < from → IsImpliedFlag p a w (get_or old (first_await p a + k) false))
     → (a : ActionId) → IsAction p a → (k : ℕ) (w : Await) → slice_get (awaits_of p a.agent a.number) k ≡ Some w → w.agent < columns.end → IsImpliedFlag p a w (get_or new (first_await p a + k) false)
-told_to p asked from columns h old new here left settled before a is k w at l = go (get_or columns.of_agent.items w.agent None) refl
+flagged_to p asked from columns h old new here left settled before a is k w at l = go (get_or columns.of_agent.items w.agent None) refl
   where
     go : (o : Option ℕ) → get_or columns.of_agent.items w.agent None ≡ o → IsImpliedFlag p a w (get_or new (first_await p a + k) false)
     go (Some c) f = here a is k c w at f
@@ -114,5 +114,5 @@ told_to p asked from columns h old new here left settled before a is k w at l = 
     ])
 
 -- if no agent is asked for, all flags say whether their await is implied
-pub told_if_none : (p : Program) (asked flags : List Bool) → ((j : ℕ) → get_or asked j false ≡ false) → AreSettled p asked flags → AreAllFlagged p flags
-told_if_none p asked flags none settled a is k w at = elim (settled a is is k w at) [ inr was ↦ was | inl set ↦ absurd (false≢true (sym (none w.agent) ∙ set)) ]
+pub flagged_if_none : (p : Program) (asked flags : List Bool) → ((j : ℕ) → get_or asked j false ≡ false) → AreSettled p asked flags → AreAllFlagged p flags
+flagged_if_none p asked flags none settled a is k w at = elim (settled a is is k w at) [ inr was ↦ was | inl set ↦ absurd (false≢true (sym (none w.agent) ∙ set)) ]

@@ -17,8 +17,8 @@ use fleet_search::PlanStop;
 use fleet_text::{OutFault, Refusal, TraceOut, Word, put_line, put_memory};
 use fleet_verify::VerifyFault;
 
-/// Every refusal of the program but usage and help. `File` names the file that cannot be read or written, and is `-` for the
-/// standard streams.
+/// Every refusal of the program but usage and help. `File` names the file that cannot be read or written, and is `-`
+/// for the standard streams.
 #[derive(Drop)]
 pub enum Fault<'a> {
     Map(MapFault),
@@ -121,8 +121,8 @@ impl Fault<'_> {
         if self.is_failure() { 3 } else { 1 }
     }
 
-    /// Writes the refusal's line: the part, the refusal's number, its name, then each field's name and value. If the sink fails, it
-    /// has taken a proper prefix of the line.
+    /// Writes the refusal's line: the part, the refusal's number, its name, then each field's name and value. If the
+    /// sink fails, it has taken a proper prefix of the line.
     pub fn tell<E: TraceOut>(&self, err: &mut E)
         requires { IsWorking (E.state err.old) }
         ensures { Receives (E.state err.old) (E.state err.new) (refusal_line self.now) }
@@ -141,7 +141,8 @@ pub fn refuse<E: TraceOut>(fault: &Fault<'_>, err: &mut E) -> u8
     fault.status()
 }
 
-/// Ends a command: answers the status with which it is done, or writes the line of its refusal and answers the refusal's status.
+/// Ends a command: answers the status with which it is done, or writes the line of its refusal and answers the
+/// refusal's status.
 pub fn finish<E: TraceOut>(done: Result<u8, Fault<'_>>, err: &mut E) -> u8
     requires { IsWorking (E.state err.old) }
     ensures { Finishes done.entry (E.state err.old) (E.state err.new) result }

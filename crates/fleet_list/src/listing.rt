@@ -178,10 +178,11 @@ fn put_agent<P: ProgramView, O: TraceOut>(out: &mut O, program: &P, i: u16) -> R
     put_actions(out, program, i)
 }
 
-/// Writes any program as text: for each agent a line with its start and its goal, `agent i: x,y to x,y`, and after it one for each of
-/// its actions in order, `i:n east to x,y` or `i:n stays at x,y`. There `x,y` is the place of the agent after the action, which may lie
-/// off any map. The line of an action that awaits others ends with ` after j:m ..`, a word for each await: action `m` of agent `j` has
-/// to be finished before. Agents count from 0, actions from 1. It takes no memory.
+/// Writes any program as text: for each agent a line with its start and its goal, `agent i: x,y to x,y`, and after it
+/// one for each of its actions in order, `i:n east to x,y` or `i:n stays at x,y`. There `x,y` is the place of the agent
+/// after the action, which may lie off any map. The line of an action that awaits others ends with ` after j:m ..`, a
+/// word for each await: action `m` of agent `j` has to be finished before. Agents count from 0, actions from 1. It
+/// takes no memory.
 ///
 /// Errors: `OutFault` if the sink fails; it has then taken a proper prefix of the text.
 pub fn put_program<P: ProgramView, O: TraceOut>(out: &mut O, program: &P) -> Result<(), OutFault>

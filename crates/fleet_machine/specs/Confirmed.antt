@@ -7,11 +7,11 @@ use Rattle.fleet_model.specs.Machine.{Configuration, is_ready}
 abbrev pub all_but : (ℕ → Bool) → ℕ → Bool
 all_but done i = not (done i)
 
--- each of these agents has an order
+-- each of these agents is ready
 abbrev pub AreAllReady : Program → Configuration → (ℕ → Bool) → Type 0
 AreAllReady p c done = (i : ℕ) → i < length p → IsTrue (done i) → IsTrue (is_ready p c i)
 
--- the first of these agents that has no order
+-- the first of these agents that is not ready
 pub record IsFirstUnready (p : Program) (c : Configuration) (done : ℕ → Bool) (i : ℕ) : Type 0 where
   pub agent : i < length p
   pub reported : done i ≡ true

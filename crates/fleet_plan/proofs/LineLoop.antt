@@ -8,7 +8,7 @@ use Rattle.fleet_plan.specs.Plan.{Path, Plan}
 use Rattle.fleet_plan.specs.declared.text_fault.TextFault.{TextFault}
 use Rattle.fleet_plan.specs.declared.text_fault.TextFault.TheVariants.{Form, Length, AgentCount}
 use Rattle.fleet_plan.specs.CellReading.{cell_front, begins_with_word}
-use Rattle.fleet_plan.specs.PlanReading.{spelled_cells, some_cells, too_long, path_at, plan_judged, paths_at}
+use Rattle.fleet_plan.specs.PlanReading.{spelled_cells, some_cells, too_long, path_at, enough_paths, paths_at}
 use Rattle.fleet_plan.proofs.CellLaws.{Passes, passes, cells_next, cells_none}
 
 -- ---- words
@@ -120,7 +120,7 @@ module _ (number : ℕ) (line : Bytes) (cells : Path) (rest : Bytes) (so_far : o
 -- ---- lines
 
 module _ (earlier : Plan) (ls : List Bytes) (total : Result Plan TextFault) (so_far : paths_at earlier ls ≡ total) where
-  pub lines_end : ls ≡ [] → total ≡ plan_judged earlier
+  pub lines_end : ls ≡ [] → total ≡ enough_paths earlier
   unfolding paths_at
   lines_end e = sym so_far ∙ ap (paths_at earlier) e
 
@@ -145,10 +145,10 @@ module _ (earlier : Plan) (ls : List Bytes) (total : Result Plan TextFault) (so_
           let one : paths_at earlier ls ≡ paths_at (earlier ++ path ∷ []) after = ap (paths_at earlier) next ∙ rw (room, right) refl in
           sym one ∙ so_far
 
-pub none_ended : (plan : Plan) → length plan ≡ 0 → plan_judged plan ≡ Err AgentCount
+pub none_ended : (plan : Plan) → length plan ≡ 0 → enough_paths plan ≡ Err AgentCount
 none_ended [] e = refl
 none_ended (path ∷ plan) e = absurd (omega arith)
 
-pub some_ended : (plan : Plan) → 0 < length plan → plan_judged plan ≡ Ok plan
+pub some_ended : (plan : Plan) → 0 < length plan → enough_paths plan ≡ Ok plan
 some_ended [] some = absurd (omega arith)
 some_ended (path ∷ plan) some = refl

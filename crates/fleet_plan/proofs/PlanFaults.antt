@@ -14,7 +14,7 @@ use Rattle.fleet_plan.specs.Plan.{Path, Plan}
 use Rattle.fleet_plan.specs.declared.text_fault.TextFault.{TextFault}
 use Rattle.fleet_plan.specs.declared.text_fault.TextFault.TheVariants.{OutOfMemory, Form, Length, AgentCount}
 use Rattle.fleet_plan.specs.PlanText.{SpellsPath, ArePlanLines, IsRightLine, ReachesPlanLine, IsFirstPlanLineFault}
-use Rattle.fleet_plan.specs.PlanReading.{path_at, plan_judged, paths_at}
+use Rattle.fleet_plan.specs.PlanReading.{path_at, enough_paths, paths_at}
 use Rattle.fleet_plan.proofs.PlanLaws.{path_in, spells_again, spells_is, judged, path_is, path_again, paths_next, is_found, is_read}
 
 -- ---- a line
@@ -101,7 +101,7 @@ no_line line more e = cc
 some_line : (line : Bytes) (more : List Bytes) → line ∷ more ≡ [] → ⊥
 some_line line more e = cc
 
-ends_fault : (earlier : Plan) (k : ℕ) (f : TextFault) → Stops (length earlier + k) [] f → plan_judged earlier ≡ Err f
+ends_fault : (earlier : Plan) (k : ℕ) (f : TextFault) → Stops (length earlier + k) [] f → enough_paths earlier ≡ Err f
 ends_fault [] k f (inl s) = ap (λ (x : TextFault). Err x) (sym s.0)
 ends_fault (p ∷ earlier) k f (inl s) = absurd (let none = s.1 in omega (arith, none))
 ends_fault earlier k f (inr (inl s)) = absurd (let some = s.2 in omega (arith, some))

@@ -15,7 +15,7 @@ use Rattle.fleet_plan.specs.Plan.{Path, Plan, IsPath, IsFleet, IsWithinLimits}
 use Rattle.fleet_plan.specs.declared.text_fault.TextFault.{TextFault}
 use Rattle.fleet_plan.specs.declared.text_fault.TextFault.TheVariants.{Form, Length, AgentCount}
 use Rattle.fleet_plan.specs.PlanText.{cell_of_parts, spelled_cell, SpellsPath, StandsForPath, ArePlanLines}
-use Rattle.fleet_plan.specs.PlanReading.{spelled_cells, some_cells, path_at, plan_judged, paths_at}
+use Rattle.fleet_plan.specs.PlanReading.{spelled_cells, some_cells, path_at, enough_paths, paths_at}
 
 -- ---- the cells of words
 
@@ -96,7 +96,7 @@ record Follows (earlier : Plan) (ls : List Bytes) (plan new : Plan) : Type 0 whe
 follows_next : (earlier : Plan) (line : Bytes) (ls : List Bytes) (plan : Plan) (path : Path) (new : Plan) → StandsForPath line path → Follows (earlier ++ path ∷ []) ls plan new → Follows earlier (line ∷ ls) plan (path ∷ new)
 follows_next earlier line ls plan path new s f = record { all = f.all ∙ append_assoc earlier (path ∷ []) new; paths = (s, f.paths); agents = f.agents }
 
-follows_end : (earlier plan : Plan) → length earlier ≤ 1024 → plan_judged earlier ≡ Ok plan → Follows earlier [] plan []
+follows_end : (earlier plan : Plan) → length earlier ≤ 1024 → enough_paths earlier ≡ Ok plan → Follows earlier [] plan []
 follows_end [] plan few e = absurd (let f : Err AgentCount ≡ Ok plan = e in cc)
 follows_end (p ∷ earlier) plan few e =
     let same : p ∷ earlier ≡ plan = ok_is {E = TextFault} (p ∷ earlier) plan e in
@@ -118,7 +118,7 @@ paths_are earlier (line ∷ ls) plan few e =
     let more = paths_are (earlier ++ path ∷ []) ls plan (omega (arith, fewer, length-append earlier (path ∷ []))) b.2 in
     (path ∷ more.0, follows_next earlier line ls plan path more.0 (path_is number line path b.1) more.1)
 
-ended_again : (earlier : Plan) → 1 ≤ length earlier → plan_judged earlier ≡ Ok earlier
+ended_again : (earlier : Plan) → 1 ≤ length earlier → enough_paths earlier ≡ Ok earlier
 ended_again [] some = absurd (omega arith)
 ended_again (p ∷ earlier) some = refl
 

@@ -30,11 +30,11 @@ path_at number line = do
   Ok path
 
 -- the judgement at the end of the text
-abbrev pub plan_judged : Plan → Result Plan TextFault
-plan_judged [] = Err AgentCount
-plan_judged (path ∷ plan) = Ok (path ∷ plan)
+abbrev pub enough_paths : Plan → Result Plan TextFault
+enough_paths [] = Err AgentCount
+enough_paths (path ∷ plan) = Ok (path ∷ plan)
 
 -- the paths of earlier lines and of these
 unfoldable pub paths_at : Plan → List Bytes → Result Plan TextFault
-paths_at earlier [] = plan_judged earlier
+paths_at earlier [] = enough_paths earlier
 paths_at earlier (line ∷ ls) = right_or (nat_lt (length earlier) MAX_AGENTS) AgentCount >> (path_at (length earlier + 1) line >>= λ path. paths_at (earlier ++ path ∷ []) ls)

@@ -18,8 +18,8 @@ use std::alloc::Global;
 /// Judges a plan for a map and an instance. A plan that is free of conflict (Stern et al. 2019) becomes a `Checked`;
 /// each other one is refused with its first fault, and handed back. `OutOfMemory` may stand in place of any answer.
 ///
-/// It takes time in proportion to the cells of the plan, and memory for the agents and for the parts of the map on which
-/// they stand.
+/// It takes time in proportion to the cells of the plan, and memory for the agents and for the parts of the map on
+/// which they stand.
 #[tactic(auto, using(crate::proofs::FaultLaws::not_free))]
 pub fn check<'g>(
     alloc: Global,

@@ -39,8 +39,8 @@ pub enum PlanFault {
     /// The last cell of an agent is not its goal; it is the least such agent.
     #[error("agent {agent} does not end on its goal")]
     Goal { agent: u16 },
-    /// The cell of an agent is not passable, or is neither the cell before nor one of its four neighbours. It is the least
-    /// such agent, and its least such time.
+    /// The cell of an agent is not passable, or is neither the cell before nor one of its four neighbours. It is the
+    /// least such agent, and its least such time.
     #[error("agent {agent} goes wrong at time {time}")]
     Step { agent: u16, time: u32 },
     /// The first conflict by time, then by kind in the order of `Conflict`, then by agents.

@@ -89,10 +89,11 @@ fn paths_of(alloc: Global, lines: &mut Cursor) -> Result<Vec<Path>, TextFault>
     Ok(paths)
 }
 
-/// The plan that a text of this project's plan format stands for: a line for each agent, with the cells `x,y` of its path
-/// between blanks. The text is read once, from the front.
+/// The plan that a text of this project's plan format stands for: a line for each agent, with the cells `x,y` of its
+/// path between blanks. The text is read once, from the front.
 ///
-/// Errors: `Form`, `Length` or `AgentCount`, whichever is the first fault of the text; `OutOfMemory` if a growth was refused.
+/// Errors: `Form`, `Length` or `AgentCount`, whichever is the first fault of the text; `OutOfMemory` if a growth was
+/// refused.
 pub fn read_plan(alloc: Global, bytes: &[u8]) -> Result<Plan, TextFault>
     // The text stands for what is read.
     ensures found { IfOk result (λ plan. IsPlanText bytes.now plan) }

@@ -6,8 +6,8 @@ ghost use Rattle.fleet_plan.specs.Rings.{NamesAgents, ahead_of, walk_of, IsOnRin
 ghost use Rattle.fleet_plan.specs.UnderWay.{IsSoForOthers};
 ghost use Rattle.fleet_plan.specs.Sweep.{IsUnblocked};
 
-/// The least agent that is on a ring, if each agent has at most one that is ahead of it, and nobody is ahead of the agents
-/// that are not in the row. `walks` is working memory: an agent that nobody is ahead of is not noted there.
+/// The least agent that is on a ring, if each agent has at most one that is ahead of it, and nobody is ahead of the
+/// agents that are not in the row. `walks` is working memory: an agent that nobody is ahead of is not noted there.
 pub(crate) fn least_on_ring(
     row: &[u16],
     ahead: &[Option<u16>],

@@ -405,8 +405,8 @@ fn agents_of(alloc: Global, plan: &Plan) -> Result<Vec<u16>, AllocError>
     Ok(agents)
 }
 
-/// The first conflict of a plan whose agents go over passable cells. Takes memory for the agents, and for the parts of the map on
-/// which they stand.
+/// The first conflict of a plan whose agents go over passable cells. Takes memory for the agents, and for the parts of
+/// the map on which they stand.
 pub(crate) fn first_conflict(
     alloc: Global,
     plan: &Plan,

@@ -63,8 +63,8 @@ pub fn begins_after(occupancies: &[Occupancy], interval: usize, time: u32) -> bo
     time < occupancies[interval - 1].from
 }
 
-/// A safe interval of a cell: how many occupancies there are before it, and when the next one begins (`u32::MAX` if none
-/// does).
+/// A safe interval of a cell: how many occupancies there are before it, and when the next one begins (`u32::MAX` if
+/// none does).
 #[derive(Clone, Copy)]
 pub struct SafeInterval {
     pub number: usize,

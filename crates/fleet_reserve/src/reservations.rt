@@ -13,8 +13,8 @@ use fleet_plan::Path;
 use std::alloc::Global;
 use std::marker::Model;
 
-/// Paths that are free of conflict with one another (Silver 2005), with a table in which the agent that stands on a cell
-/// at a time is found by a binary search.
+/// Paths that are free of conflict with one another (Silver 2005), with a table in which the agent that stands on a
+/// cell at a time is found by a binary search.
 #[derive(Drop)]
 pub struct Reservations {
     alloc: Global,
@@ -61,7 +61,7 @@ impl Reservations {
         &self.table
     }
 
-    /// The agent that stands on the cell at the time.
+    /// An agent that stands on the cell at the time, if one does.
     pub fn occupant(&self, time: u32, cell: Cell) -> Option<usize>
         ensures some { IfSome result (IsOn self.now time cell) }
         ensures none { IfNone result (IsUnoccupied self.now time cell) }

@@ -1,4 +1,4 @@
-//! Rows of numbers by their keys: the buckets of the open list, and the numbers of cells.
+//! Rows of numbers by their keys.
 
 ghost use Rattle.std.specs.Prelude.{◌≡◌, ◌≢◌, ◌<◌, ◌++◌, ◌∷◌, [], ℕ, OnOk, OnErr, IfSome, IfNone, length};
 ghost use Rattle.fleet_reserve.specs.Rows.{lists_of, bucket_in, IsPut};
@@ -19,7 +19,7 @@ pub fn widen(alloc: Global, rows: &mut Vec<Vec<u32>>, key: usize) -> Result<(), 
 }
 
 /// Puts the number last in the row. A refusal changes no row.
-pub fn put(
+pub fn put_in_row(
     alloc: Global,
     rows: &mut Vec<Vec<u32>>,
     key: u32,
@@ -37,7 +37,7 @@ pub fn put(
 }
 
 /// Takes off the last number of the row, if it has one.
-pub fn take(rows: &mut Vec<Vec<u32>>, key: u32) -> Option<u32>
+pub fn take_from_row(rows: &mut Vec<Vec<u32>>, key: u32) -> Option<u32>
     ensures some { IfSome result (λ m. bucket_in rows.old.items key
         ≡ bucket_in rows.new.items key ++ m ∷ []) }
     ensures none { IfNone result (bucket_in rows.new.items key ≡ []) }
@@ -51,11 +51,11 @@ pub fn take(rows: &mut Vec<Vec<u32>>, key: u32) -> Option<u32>
     rows[key].pop()
 }
 
-/// How many rows at most are kept from one search to the next.
+/// How many rows `clear_rows` keeps at most.
 const KEPT_ROWS: usize = 8_192;
 
 /// Takes all numbers out of the rows, and drops the rows after the first `KEPT_ROWS`.
-pub fn clear(rows: &mut Vec<Vec<u32>>)
+pub fn clear_rows(rows: &mut Vec<Vec<u32>>)
     ensures { (k : ℕ) → bucket_in rows.new.items k ≡ [] }
 {
     rows.truncate(KEPT_ROWS);

@@ -41,8 +41,8 @@ fn set_flags(numbers: &[u16], flags: &mut [bool])
     clear(flags);
     for number in numbers {
         let agent = usize::from(*number);
-        let is_flag = agent < flags.len();
-        if is_flag {
+        let has_flag = agent < flags.len();
+        if has_flag {
             flags[agent] = true;
         }
     }

@@ -112,8 +112,8 @@ fn set_agents(line: &[u8], agents: u16, flags: &mut [bool]) -> bool
         if agent < least || agent >= agents as u32 {
             return false;
         }
-        let is_flag = (agent as usize) < flags.len();
-        if is_flag {
+        let has_flag = (agent as usize) < flags.len();
+        if has_flag {
             flags[agent as usize] = true;
         }
         let Some(after) = after else {

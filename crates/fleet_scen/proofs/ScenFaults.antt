@@ -16,7 +16,7 @@ use Rattle.fleet_scen.specs.declared.fault.ScenFault.{ScenFault}
 use Rattle.fleet_scen.specs.declared.fault.ScenFault.TheVariants.{OutOfMemory, Version, Fields, Number, OtherMap, Blocked, SharedStart, SharedGoal, NoAgents, TooMany, Fewer}
 use Rattle.fleet_scen.specs.Instance.{AreTasksApart}
 use Rattle.fleet_scen.specs.ScenText.{is_filled, Line, agent_lines, version_line, is_version, HasPassableEnds, StandsForTask, AreScenLines, MayBeAsked, IsScenRightUpTo, ReachesScenLine, IsFirstScenLineFault}
-use Rattle.fleet_scen.specs.ScenReading.{task_at, apart_at, lacks, whole_scen, tasks_at, after_version, judge_asked, scen_at}
+use Rattle.fleet_scen.specs.ScenReading.{task_at, apart_at, lacks, enough_tasks, tasks_at, after_version, judge_asked, scen_at}
 use Rattle.fleet_scen.proofs.LineLaws.{IsLineFault, task_is, task_again, task_fails, task_fault, apart_is, apart_again, IsShared, apart_fails, apart_fault}
 use Rattle.fleet_scen.proofs.ScenLaws.{filled_from, filled_skip, filled_next, AreEarlier, new_at, apart_none, earlier_more, task_next, line_next, first_words, version_is, version_again, asked_again, none_earlier, tasks_after, after_asked, is_found, is_read}
 
@@ -26,7 +26,7 @@ use Rattle.fleet_scen.proofs.ScenLaws.{filled_from, filled_skip, filled_next, Ar
 abbrev LacksAgents : Option ℕ → List Task → ScenFault → Type 0
 LacksAgents asked all f = ((f ≡ NoAgents) × (asked ≡ None) × (all ≡ [])) ⊎ ((count : ℕ) × (f ≡ Fewer) × (asked ≡ Some count) × (length all < count))
 
-ended_fails : (asked : Option ℕ) (all : List Task) (f : ScenFault) → whole_scen asked all ≡ Err f → LacksAgents asked all f
+ended_fails : (asked : Option ℕ) (all : List Task) (f : ScenFault) → enough_tasks asked all ≡ Err f → LacksAgents asked all f
 ended_fails None [] f e = inl (sym (err_is {A = List Task} NoAgents f e), refl, refl)
 ended_fails None (t ∷ all) f e = absurd cc
 ended_fails (Some count) all f e =
@@ -35,7 +35,7 @@ ended_fails (Some count) all f e =
       | inr p ↦ absurd (let g : Ok all ≡ Err f = p.1 in cc)
     ]
 
-ended_fault : (asked : Option ℕ) (all : List Task) (f : ScenFault) → LacksAgents asked all f → whole_scen asked all ≡ Err f
+ended_fault : (asked : Option ℕ) (all : List Task) (f : ScenFault) → LacksAgents asked all f → enough_tasks asked all ≡ Err f
 ended_fault asked all f (inl p) = rw (p.1, p.2) (ap (λ (x : ScenFault). Err x) (sym p.0))
 ended_fault asked all f (inr p) = rw (p.2, lt-ltb (length all) p.0 p.3) (ap (λ (x : ScenFault). Err x) (sym p.1))
 
@@ -43,7 +43,7 @@ short_lacks : (asked : Option ℕ) (all : List Task) (f : ScenFault) → LacksAg
 short_lacks asked all f (inl p) = rw p.1 refl
 short_lacks asked all f (inr p) = rw p.2 (lt-ltb (length all) p.0 p.3)
 
-enough_is_read : (asked : Option ℕ) (all : List Task) → lacks asked (length all) ≡ false → whole_scen asked all ≡ Ok all
+enough_is_read : (asked : Option ℕ) (all : List Task) → lacks asked (length all) ≡ false → enough_tasks asked all ≡ Ok all
 enough_is_read None all e = absurd cc
 enough_is_read (Some count) all e = rw e refl
 
@@ -92,7 +92,7 @@ tasks_fail g asked n earlier (line ∷ ls) f h e =
     let rest = filled_from (n + 1 + 1) ls in
     let here : Line = (n + 1, words line) in
     elim (cases_Bool (lacks asked (length earlier))) [
-      | inr stop ↦ absurd (let k : whole_scen asked earlier ≡ Err f = rw stop at e in let m : Ok earlier ≡ Err f = sym (enough_is_read asked earlier stop) ∙ k in cc)
+      | inr stop ↦ absurd (let k : enough_tasks asked earlier ≡ Err f = rw stop at e in let m : Ok earlier ≡ Err f = sym (enough_is_read asked earlier stop) ∙ k in cc)
       | inl more ↦ elim (cases_Bool (is_filled (words line))) [
         | inr empty ↦ (
             let k : tasks_at g asked (n + 1) earlier ls ≡ Err f = rw (more, empty) at e in

@@ -18,7 +18,7 @@ use Rattle.fleet_scen.specs.declared.fault.ScenFault.{ScenFault}
 use Rattle.fleet_scen.specs.declared.fault.ScenFault.TheVariants.{Version, NoAgents, TooMany, Fewer}
 use Rattle.fleet_scen.specs.Instance.{AreTasksApart, IsInstance}
 use Rattle.fleet_scen.specs.ScenText.{is_filled, Line, agent_lines, is_version, StandsForTask, AreScenLines, MayBeAsked}
-use Rattle.fleet_scen.specs.ScenReading.{task_at, apart_at, lacks, whole_scen, tasks_at, after_version, judge_asked, scen_at}
+use Rattle.fleet_scen.specs.ScenReading.{task_at, apart_at, lacks, enough_tasks, tasks_at, after_version, judge_asked, scen_at}
 use Rattle.fleet_scen.proofs.LineLaws.{task_is, task_again, IsNew, apart_is, apart_again}
 
 -- ---- the lines that have some word
@@ -84,7 +84,7 @@ record AreNew (g : Ground) (asked : Option ℕ) (lines : List Line) (earlier new
   all : ReadsAll asked lines new (earlier ++ new)
   instance : IsInstance (earlier ++ new)
 
-none_left : (asked : Option ℕ) (earlier tasks : List Task) → AreEarlier asked earlier → whole_scen asked earlier ≡ Ok tasks → (tasks ≡ earlier) × (1 ≤ length earlier) × MatchOption asked (Unit {0}) (λ count. length earlier ≡ count)
+none_left : (asked : Option ℕ) (earlier tasks : List Task) → AreEarlier asked earlier → enough_tasks asked earlier ≡ Ok tasks → (tasks ≡ earlier) × (1 ≤ length earlier) × MatchOption asked (Unit {0}) (λ count. length earlier ≡ count)
 none_left None [] tasks h e = absurd cc
 none_left None (t ∷ earlier) tasks h e = (sym (ok_is (t ∷ earlier) tasks e), omega arith, tt)
 none_left (Some count) earlier tasks h e =
@@ -117,7 +117,7 @@ reads_less : (asked : Option ℕ) (w : Line) (lines : List Line) (t : Task) (new
 reads_less None w lines t new tasks others e h = omega (arith, h)
 reads_less (Some count) w lines t new tasks others e h = ap length (sym e) ∙ h
 
-nothing_new : (g : Ground) (asked : Option ℕ) (lines : List Line) (earlier tasks : List Task) → AreEarlier asked earlier → whole_scen asked earlier ≡ Ok tasks → Rest asked lines
+nothing_new : (g : Ground) (asked : Option ℕ) (lines : List Line) (earlier tasks : List Task) → AreEarlier asked earlier → enough_tasks asked earlier ≡ Ok tasks → Rest asked lines
     → (new : List Task) × (tasks ≡ earlier ++ new) × AreNew g asked lines earlier new
 nothing_new g asked lines earlier tasks h e rest =
     let p = none_left asked earlier tasks h e in
@@ -164,7 +164,7 @@ unfolding tasks_at
 tasks_are g asked n earlier [] tasks h e = nothing_new g asked [] earlier tasks h e (no_rest asked)
 tasks_are g asked n earlier (line ∷ ls) tasks h e =
     elim (cases_Bool (lacks asked (length earlier))) [
-      | inr stop ↦ (let f : whole_scen asked earlier ≡ Ok tasks = rw stop at e in nothing_new g asked (filled_from (n + 1) (line ∷ ls)) earlier tasks h f (stopped_early asked (length earlier) (filled_from (n + 1) (line ∷ ls)) stop))
+      | inr stop ↦ (let f : enough_tasks asked earlier ≡ Ok tasks = rw stop at e in nothing_new g asked (filled_from (n + 1) (line ∷ ls)) earlier tasks h f (stopped_early asked (length earlier) (filled_from (n + 1) (line ∷ ls)) stop))
       | inl more ↦ elim (cases_Bool (is_filled (words line))) [
         | inr empty ↦ (
             let f : tasks_at g asked (n + 1) earlier ls ≡ Ok tasks = rw (more, empty) at e in
@@ -184,7 +184,7 @@ tasks_are g asked n earlier (line ∷ ls) tasks h e =
       ]
     ]
 
-end_again : (asked : Option ℕ) (lines : List Line) (earlier : List Task) → 1 ≤ length (earlier ++ []) → ReadsAll asked lines [] (earlier ++ []) → whole_scen asked earlier ≡ Ok (earlier ++ [])
+end_again : (asked : Option ℕ) (lines : List Line) (earlier : List Task) → 1 ≤ length (earlier ++ []) → ReadsAll asked lines [] (earlier ++ []) → enough_tasks asked earlier ≡ Ok (earlier ++ [])
 end_again None lines [] some h = absurd (omega arith)
 end_again None lines (t ∷ earlier) some h = ap (λ (ts : List Task). Ok ts) (sym (append-nil (t ∷ earlier)))
 end_again (Some count) lines earlier some h =

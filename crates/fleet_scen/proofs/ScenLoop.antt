@@ -12,9 +12,9 @@ use Rattle.fleet_text.specs.Steps.{◌>>=◌, ◌>>◌}
 use Rattle.fleet_scen.specs.declared.fault.ScenFault.{ScenFault}
 use Rattle.fleet_scen.specs.declared.fault.ScenFault.TheVariants.{SharedStart, SharedGoal, TooMany}
 use Rattle.fleet_scen.specs.ScenText.{is_filled}
-use Rattle.fleet_scen.specs.ScenReading.{starts_at, ends_at, task_at, apart_at, lacks, whole_scen, tasks_at}
+use Rattle.fleet_scen.specs.ScenReading.{starts_at, ends_at, task_at, apart_at, lacks, enough_tasks, tasks_at}
 
-stopped : (g : Ground) (asked : Option ℕ) (n : ℕ) (earlier : List Task) (ls : List Bytes) → lacks asked (length earlier) ≡ false → tasks_at g asked n earlier ls ≡ whole_scen asked earlier
+stopped : (g : Ground) (asked : Option ℕ) (n : ℕ) (earlier : List Task) (ls : List Bytes) → lacks asked (length earlier) ≡ false → tasks_at g asked n earlier ls ≡ enough_tasks asked earlier
 unfolding tasks_at
 stopped g asked n earlier [] e = refl
 stopped g asked n earlier (line ∷ after) e = rw e refl
@@ -24,10 +24,10 @@ abbrev task_next : Ground → Option ℕ → ℕ → List Task → List Bytes �
 task_next g asked n earlier after task = apart_at n earlier task >> tasks_at g asked n (earlier ++ task ∷ []) after
 
 module _ (g : Ground) (asked : Option ℕ) (n : ℕ) (earlier : List Task) (ls : List Bytes) (total : Result (List Task) ScenFault) (so_far : tasks_at g asked n earlier ls ≡ total) where
-  pub stops : lacks asked (length earlier) ≡ false → total ≡ whole_scen asked earlier
+  pub stops : lacks asked (length earlier) ≡ false → total ≡ enough_tasks asked earlier
   stops e = sym so_far ∙ stopped g asked n earlier ls e
 
-  pub ends : ls ≡ [] → total ≡ whole_scen asked earlier
+  pub ends : ls ≡ [] → total ≡ enough_tasks asked earlier
   unfolding tasks_at
   ends e = sym so_far ∙ ap (tasks_at g asked n earlier) e
 

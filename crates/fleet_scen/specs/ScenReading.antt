@@ -60,16 +60,16 @@ lacks None count = true
 lacks (Some asked) count = nat_lt count asked
 
 -- the judgement at the end of the text, or once all that were asked for are read
-abbrev pub whole_scen : Option ℕ → List Task → Result (List Task) ScenFault
-whole_scen None [] = Err NoAgents
-whole_scen None (t ∷ tasks) = Ok (t ∷ tasks)
-whole_scen (Some asked) tasks = right_or (not (nat_lt (length tasks) asked)) Fewer >> Ok tasks
+abbrev pub enough_tasks : Option ℕ → List Task → Result (List Task) ScenFault
+enough_tasks None [] = Err NoAgents
+enough_tasks None (t ∷ tasks) = Ok (t ∷ tasks)
+enough_tasks (Some asked) tasks = right_or (not (nat_lt (length tasks) asked)) Fewer >> Ok tasks
 
 -- the tasks of earlier agents and of these lines, before which so many lines stand
 unfoldable pub tasks_at : Ground → Option ℕ → ℕ → List Task → List Bytes → Result (List Task) ScenFault
-tasks_at g asked before earlier [] = whole_scen asked earlier
+tasks_at g asked before earlier [] = enough_tasks asked earlier
 tasks_at g asked before earlier (line ∷ ls) =
-    if not (lacks asked (length earlier)) then whole_scen asked earlier
+    if not (lacks asked (length earlier)) then enough_tasks asked earlier
     else if not (is_filled (words line)) then tasks_at g asked (before + 1) earlier ls
     else right_or (nat_lt (length earlier) MAX_AGENTS) TooMany >> (task_at g (before + 1) (words line) >>= λ task. apart_at (before + 1) earlier task >> tasks_at g asked (before + 1) (earlier ++ task ∷ []) ls)
 

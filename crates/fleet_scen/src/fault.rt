@@ -56,8 +56,8 @@ impl<T: Drop> From<AllocFailed<T>> for ScenFault {
     }
 }
 
-/// What the line of a fault of a scenario says: its number and its name, and the line and the field in which it is, if it
-/// is in one.
+/// What the line of a fault of a scenario says: its number and its name, and the line and the field in which it is, if
+/// it is in one.
 #[derive(Clone, Copy)]
 enum Particulars {
     Memory,

@@ -5,7 +5,7 @@ ghost use Rattle.fleet_model.specs.declared.task.Task.{Task};
 ghost use Rattle.fleet_model.specs.Answer.{IsDueUnless};
 ghost use Rattle.fleet_text.specs.Text.{lines, words};
 ghost use Rattle.fleet_scen.specs.ScenText.{is_filled, is_version, HasPassableEnds, IsScenText, IsFirstScenFault};
-ghost use Rattle.fleet_scen.specs.ScenReading.{pair_at, numbers_at, task_at, lacks, whole_scen, tasks_at, after_version, judge_asked, scen_at};
+ghost use Rattle.fleet_scen.specs.ScenReading.{pair_at, numbers_at, task_at, lacks, enough_tasks, tasks_at, after_version, judge_asked, scen_at};
 
 use crate::fault::ScenFault;
 use crate::fields::{fields_of, two_words};
@@ -145,8 +145,8 @@ fn tasks_of(
         if !is_filled(line) {
             continue;
         }
-        let are_all = tasks.len() >= MAX_AGENTS;
-        if are_all {
+        let is_full = tasks.len() >= MAX_AGENTS;
+        if is_full {
             return Err(ScenFault::TooMany);
         }
         let task = task_of(grid, number, line)?;
@@ -164,7 +164,7 @@ fn tasks_of(
 /// The tasks, if they are enough.
 fn enough_tasks(asked: Option<u16>, tasks: Vec<Task>) -> Result<Vec<Task>, ScenFault>
     ensures { IsDueUnless (λ v. v.items) result
-        (whole_scen asked tasks.items) ScenFault.OutOfMemory }
+        (enough_tasks asked tasks.items) ScenFault.OutOfMemory }
 {
     match asked {
         None if tasks.is_empty() => Err(ScenFault::NoAgents),

@@ -9,7 +9,8 @@ use Rattle.fleet_model.specs.declared.geometry.Place.{Place}
 use Rattle.fleet_model.specs.Program.{origin}
 use Rattle.fleet_model.specs.declared.task.Task.{Task}
 use Rattle.fleet_plan.specs.Plan.{Plan, cell_of, last_cell, IsConflictFree}
-use Rattle.fleet_reserve.specs.Way.{FitTogether, IsEarliest, IsInfeasible}
+use Rattle.fleet_reserve.specs.Way.{FitTogether}
+use Rattle.fleet_search.specs.Earliest.{IsEarliest, IsInfeasible}
 use Rattle.fleet_search.specs.InTurn.{IsPrioritisedPlan, HasNoPathFor}
 use Rattle.fleet_search.specs.declared.fault.PlanStop.{PlanStop}
 use Rattle.fleet_search.specs.declared.fault.PlanStop.TheVariants.{OutOfMemory, NoPath}

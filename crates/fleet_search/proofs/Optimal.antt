@@ -11,7 +11,8 @@ use Rattle.fleet_search.specs.declared.frontier.Query.{Query}
 use Rattle.fleet_search.specs.Labels.{Times}
 use Rattle.fleet_search.specs.declared.frontier.Node.{Node}
 use Rattle.fleet_grid.specs.Ground.{is_passable}
-use Rattle.fleet_reserve.specs.Way.{arrival, StepFits, IsFeasiblePath, IsEarliest, IsInfeasible}
+use Rattle.fleet_reserve.specs.Way.{arrival, StepFits}
+use Rattle.fleet_search.specs.Earliest.{IsFeasiblePath, IsEarliest, IsInfeasible}
 use Rattle.fleet_reserve.specs.Rows.{bucket_of}
 use Rattle.fleet_reserve.specs.Reserved.{IsUnoccupied, IsFreeFrom, IsFreeOn}
 use Rattle.fleet_search.specs.Search.{heuristic_of, IsMeasured, IsStep, IsBucket, IsGoalState, state_in, IsKnown, IsCovered, IsExpanded, IsSuperseded, IsStateSettled, IsFrontier, IsPosed, IsTrail}

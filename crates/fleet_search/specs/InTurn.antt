@@ -3,7 +3,7 @@ use Rattle.std.specs.Prelude.{◌≡◌, ℕ, ◌<◌, Bool, List, [], length, t
 use Rattle.fleet_model.specs.declared.geometry.Place.{Place}
 use Rattle.fleet_model.specs.declared.task.Task.{Task}
 use Rattle.fleet_plan.specs.Plan.{Plan}
-use Rattle.fleet_reserve.specs.Way.{IsEarliest, IsInfeasible}
+use Rattle.fleet_search.specs.Earliest.{IsEarliest, IsInfeasible}
 
 -- paths for the first n agents, each of them earliest against those before it
 pub record IsPrioritisedPlan (passable : Place → Bool) (tasks : List Task) (horizon n : ℕ) (plan : Plan) : Type 0 where

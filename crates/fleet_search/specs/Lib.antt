@@ -1,3 +1,4 @@
+pub mod Earliest
 pub mod Distance
 pub mod Links
 pub mod Frontier

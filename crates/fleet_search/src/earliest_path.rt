@@ -3,7 +3,7 @@
 ghost use Rattle.std.specs.Prelude.{◌≡◌, ◌≤◌, IfOk, IfErr, IfSome, IfNone};
 ghost use Rattle.fleet_grid.specs.Ground.{is_passable};
 ghost use Rattle.fleet_search.specs.Search.{IsPosed, IsOpen};
-ghost use Rattle.fleet_reserve.specs.Way.{IsEarliest, IsInfeasible};
+ghost use Rattle.fleet_search.specs.Earliest.{IsEarliest, IsInfeasible};
 
 use crate::distances::{Distances, Effort};
 use crate::fault::SearchFault;
@@ -40,8 +40,8 @@ fn search(frontier: &mut Frontier, query: &Query) -> Result<Path, SearchFault>
     Err(SearchFault::NoPath)
 }
 
-/// The time from which on the goal is free, if that is by the horizon, both cells are passable, and nobody stands on the
-/// start at time 0.
+/// The time from which on the goal is free, if that is by the horizon, both cells are passable, and nobody stands on
+/// the start at time 0.
 fn open_from(
     grid: &Grid,
     reserved: &Reservations,

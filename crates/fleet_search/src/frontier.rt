@@ -24,8 +24,8 @@ use fleet_grid::Grid;
 use fleet_model::{Cell, Dir, OutOfMemory};
 use fleet_plan::Path;
 use fleet_reserve::{
-    Occupancy, ReservationTable, Reservations, SafeInterval, begins_after, clear, count_begun,
-    earliest_within, interval_after, put, take,
+    Occupancy, ReservationTable, Reservations, SafeInterval, begins_after, clear_rows, count_begun,
+    earliest_within, interval_after, put_in_row, take_from_row,
 };
 use std::alloc::Global;
 use std::marker::Model;
@@ -226,7 +226,7 @@ impl Frontier {
         }
         self.nodes.push(node)?;
         self.labels.note(cell, interval, node.state.time)?;
-        put(self.alloc, &mut self.open_list, bucket, place as u32)?;
+        put_in_row(self.alloc, &mut self.open_list, bucket, place as u32)?;
         Ok(())
     }
 
@@ -236,7 +236,7 @@ impl Frontier {
         ensures some { IfSome result (IsNodeTaken self.old self.new bucket) }
         ensures none { IfNone result (IsBucketDone self.old self.new bucket) }
     {
-        take(&mut self.open_list, bucket)
+        take_from_row(&mut self.open_list, bucket)
     }
 
     /// Forgets all nodes.
@@ -248,7 +248,7 @@ impl Frontier {
     {
         self.nodes.clear();
         self.labels.begin();
-        clear(&mut self.open_list);
+        clear_rows(&mut self.open_list);
     }
 
     /// Adds a node for the cell in the safe interval, reached by the step that begins at the time, if that fits and is

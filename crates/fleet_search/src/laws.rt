@@ -1,5 +1,4 @@
-//! Laws of paths past reserved ones, and of plans made of them. These functions do nothing: their contracts are the
-//! laws.
+//! Laws of plans made of earliest paths. These functions do nothing: their contracts are the laws.
 
 ghost use Rattle.std.specs.Prelude.{ℕ, Bool, List, length};
 ghost use Rattle.fleet_model.specs.declared.geometry.Place.{Place};
@@ -7,12 +6,6 @@ ghost use Rattle.fleet_model.specs.declared.task.Task.{Task};
 ghost use Rattle.fleet_plan.specs.Plan.{Plan, IsConflictFree};
 ghost use Rattle.fleet_search.specs.InTurn.{IsPrioritisedPlan, HasNoPathFor};
 ghost use Rattle.fleet_search.specs.Orders.{IsMadeInTries, IsStuckInTries};
-ghost use Rattle.fleet_reserve.specs.Way.{FitTogether, AreConflictFree};
-
-/// Paths that each fit those before them are free of conflict.
-pub fn paths_that_fit_are_conflict_free()
-    ensures { (plan : Plan) → FitTogether plan → AreConflictFree plan }
-{}
 
 /// A plan that is made agent by agent is free of conflict.
 pub fn prioritised_plans_are_conflict_free()

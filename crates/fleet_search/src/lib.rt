@@ -17,10 +17,7 @@ mod state;
 
 pub use earliest_path::earliest;
 pub use fault::{PlanStop, SearchFault};
-pub use fleet_reserve::{Reservations, fits_by_steps};
-pub use laws::{
-    one_try_takes_the_first_order, paths_that_fit_are_conflict_free,
-    prioritised_plans_are_conflict_free,
-};
+pub use fleet_reserve::{Reservations, fits_by_steps, paths_that_fit_are_conflict_free};
+pub use laws::{one_try_takes_the_first_order, prioritised_plans_are_conflict_free};
 pub use orders::plan_in_orders;
 pub use planner::plan;

@@ -171,8 +171,8 @@ fn plan_in_order(
     })
 }
 
-/// Reserves these paths, if none is reserved yet: all, or those before the first agent that is left without one. Answers
-/// whether each agent has a path.
+/// Reserves these paths, if none is reserved yet: all, or those before the first agent that is left without one.
+/// Answers whether each agent has a path.
 fn reserve_in_order(
     problem: &Problem<'_>,
     order: &[u16],

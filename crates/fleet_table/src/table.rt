@@ -46,7 +46,8 @@ impl<V: Copy> Table<V> {
         }
     }
 
-    /// Sets the value of the number, and answers the one before. It fails only if memory is refused, and then no value changes.
+    /// Sets the value of the number, and answers the one before. It fails only if memory is refused, and then no value
+    /// changes.
     #[inline(always)]
     pub fn replace(&mut self, number: usize, value: V) -> Result<V, AllocError>
         ensures before { IfOk result (λ before. before ≡ value_in self.old number) }

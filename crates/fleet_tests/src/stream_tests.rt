@@ -45,7 +45,7 @@ fn two_ticks(kind: SourceFault) -> FailingSource
 }
 
 /// What was written of the pair's run under a source that fails so after two ticks, and why it stopped.
-fn driven(alloc: Global, kind: SourceFault) -> Result<(VecOut, Option<RunFault>), Fail> {
+fn drive_answer(alloc: Global, kind: SourceFault) -> Result<(VecOut, Option<RunFault>), Fail> {
     let (grid, instance, program) = pair(alloc)?;
     let Ok(accepted) = verify(alloc, program, &grid, &instance) else {
         return Err(Fail::from("not accepted"));
@@ -59,7 +59,7 @@ fn driven(alloc: Global, kind: SourceFault) -> Result<(VecOut, Option<RunFault>)
 }
 
 /// .. and of its rehearsal.
-fn rehearsed(alloc: Global, kind: SourceFault) -> Result<(VecOut, Option<RunFault>), Fail> {
+fn rehearse_answer(alloc: Global, kind: SourceFault) -> Result<(VecOut, Option<RunFault>), Fail> {
     let program = load(alloc, &read_hex(alloc, PAIR_HEX)?)?;
     let mut out = VecOut::new(alloc);
     let fault = rehearse(alloc, &program, &mut two_ticks(kind), &mut out).err();
@@ -72,7 +72,10 @@ fn sources_fail_after_two_ticks(rt: HostRuntime) -> Result<(), Fail> {
     let broken = RunFault::Source { tick: 3 };
     let wrong = RunFault::Hold { line: 3 };
     for (kind, due) in [(SourceFault::Broken, broken), (SourceFault::Text, wrong)] {
-        for (out, fault) in [driven(rt.alloc(), kind)?, rehearsed(rt.alloc(), kind)?] {
+        for (out, fault) in [
+            drive_answer(rt.alloc(), kind)?,
+            rehearse_answer(rt.alloc(), kind)?,
+        ] {
             assert_eq!(rt; (fault, out.bytes()), (Some(due), lines));
         }
     }
@@ -121,7 +124,7 @@ fn flushes_reach_the_writer(rt: HostRuntime) -> Result<(), Fail> {
 }
 
 /// Why a dispatch of the pair over these ends stopped, if it did.
-fn dispatched(
+fn dispatch_answer(
     alloc: Global,
     input: ShortReader<'_>,
     output: &mut ShortWriter,
@@ -155,7 +158,7 @@ fn is_cut(alloc: Global, room: usize, flushes: usize) -> Result<bool, Fail> {
         rest: REPORTS,
         failing: None,
     };
-    let is_told = match dispatched(alloc, input, &mut output)? {
+    let is_told = match dispatch_answer(alloc, input, &mut output)? {
         None => room == ORDERS.len() && flushes == 4,
         Some(DispatchFault::Write) => room < ORDERS.len() || flushes < 4,
         Some(_) => false,
@@ -188,7 +191,7 @@ fn inputs_fail_after_some_bytes(rt: HostRuntime) -> Result<(), Fail> {
                 rest,
                 failing: Some(failing),
             };
-            let fault = dispatched(rt.alloc(), input, &mut writer(rt.alloc(), 999, 4, None))?;
+            let fault = dispatch_answer(rt.alloc(), input, &mut writer(rt.alloc(), 999, 4, None))?;
             let is_heard = len == REPORTS.len();
             assert!(rt;
                 if is_heard {

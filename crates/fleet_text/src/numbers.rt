@@ -101,9 +101,9 @@ fn short_number_front(text: &[u8]) -> Option<(u16, &[u8])>
     Some(((10 * three + d) as u16, &text[4..]))
 }
 
-/// The same as `small_number_front`, a digit at a time, up to the first digit that makes the number too large. For speed
-/// it has a loop of its own beside that of `number_front`: then the machine code needs no test of which way a number was
-/// read.
+/// The same as `small_number_front`, a digit at a time, up to the first digit that makes the number too large. For
+/// speed it has a loop of its own beside that of `number_front`: then the machine code needs no test of which way a
+/// number was read.
 #[inline(always)]
 fn any_number_front(text: &[u8]) -> Option<(u16, &[u8])>
     ensures { option_map (λ x. (x.0, x.1.now)) result ≡ small_number_front text.now }

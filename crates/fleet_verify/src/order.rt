@@ -71,8 +71,9 @@ fn check_cells<P: ProgramView>(
     Ok(())
 }
 
-/// Whether no cell on the agent's path has neighbouring visits that break the rule, where none on the paths of the agents
-/// before it has. The cells are looked at by position.
+/// Judges the cells on the agent's path by position, after those on the paths of all agents before it.
+///
+/// Errors: `Unordered` at the first cell of which two neighbouring visits break the rule.
 #[inline]
 fn check_path<P: ProgramView>(
     program: &P,

@@ -1,5 +1,5 @@
-//! Visits of small programs that have no order, with the holds that bring their agents together, and awaits that others imply. These
-//! functions do nothing: their contracts are the laws.
+//! Visits of small programs that have no order, with the holds that bring their agents together, and awaits that others
+//! imply. These functions do nothing: their contracts are the laws.
 
 ghost use Rattle.std.specs.Prelude.{[], ◌∷◌};
 ghost use Rattle.fleet_chains.specs.Reduced.{IsThinned};
@@ -21,8 +21,8 @@ pub fn worked_visits_meet()
         ((0 ∷ []) ∷ (0 ∷ []) ∷ []) }
 {}
 
-/// Small programs without their implied awaits. An await is not implied by one that an earlier action has of the same agent, with a smaller
-/// count.
+/// Small programs without their implied awaits. An await is not implied by one that an earlier action has of the same
+/// agent, with a smaller count.
 pub fn worked_programs_are_thinned()
     ensures relay { IsThinned tight_relay relay }
     ensures pair { IsThinned pair pair }

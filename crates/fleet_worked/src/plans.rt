@@ -6,7 +6,8 @@ ghost use Rattle.fleet_plan.specs.FirstFault.{IsFirstPlanFault};
 ghost use Rattle.fleet_worked.specs.Programs.{pair_tasks};
 ghost use Rattle.fleet_worked.specs.Plans.{base_plan, swap_plan, swap_tasks, swap_fault, ring_plan, ring_tasks, ring_fault};
 
-/// A plan that is free of conflict, an exchange, whose first fault is that swap, and a ring, whose first fault is that cycle.
+/// A plan that is free of conflict, an exchange, whose first fault is that swap, and a ring, whose first fault is that
+/// cycle.
 #[tactic(auto, using(crate::proofs::FreePlans::base_is_free, crate::proofs::PlanFaults::swap_is_first, crate::proofs::PlanFaults::ring_is_first))]
 pub fn worked_plans_are_judged()
     ensures base { IsConflictFree (λ q. true) pair_tasks base_plan }

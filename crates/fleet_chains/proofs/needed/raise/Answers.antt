@@ -2,7 +2,7 @@ use Rattle.std.proofs.Common.{◌<◌, length, arith}
 use Rattle.fleet_verify.proofs.ReadyBy.{await_agent}
 use Rattle.fleet_chains.proofs.Looking.{raised_low, raised_more, raised_all}
 use Rattle.fleet_chains.proofs.needed.raise.Goals as goal
-use Rattle.fleet_chains.proofs.needed.raise.Goals.{then-is_less, else-is_less}
+use Rattle.fleet_chains.proofs.needed.raise.Goals.{then-is_short, else-is_short}
 
 pub prove-unreachable-requires : goal.prove-unreachable-requires
 prove-unreachable-requires g c =
@@ -13,9 +13,9 @@ loop-k-preserved g c =
     let p = g.P.ProgramView.program c.args.program.now in
     let inside : c.await_at-awaited.result.agent < length c.loop-k.row =
     omega (arith, await_agent p c.requires.well_formed c.args.agent c.args.number c.loop-k.k c.await_at-awaited.result c.await_at-awaited.ensures) in
-    elim c.if-is_less.branch [
-      | then-is_less w ↦ rw w.row-is (raised_more p c.args.agent c.args.number c.args.row.now c.loop-k.row c.loop-k.k c.await_at-awaited.result c.loop-k.invariant c.await_at-awaited.ensures (omega (arith, w.if-is_less.true)) inside)
-      | else-is_less w ↦ rw w.row-is (raised_low p c.args.agent c.args.number c.args.row.now c.loop-k.row c.loop-k.k c.await_at-awaited.result c.loop-k.invariant c.await_at-awaited.ensures (omega (arith, w.if-is_less.false)))
+    elim c.if-is_short.branch [
+      | then-is_short w ↦ rw w.row-is (raised_more p c.args.agent c.args.number c.args.row.now c.loop-k.row c.loop-k.k c.await_at-awaited.result c.loop-k.invariant c.await_at-awaited.ensures (omega (arith, w.if-is_short.true)) inside)
+      | else-is_short w ↦ rw w.row-is (raised_low p c.args.agent c.args.number c.args.row.now c.loop-k.row c.loop-k.k c.await_at-awaited.result c.loop-k.invariant c.await_at-awaited.ensures (omega (arith, w.if-is_short.false)))
     ]
 
 pub returns : goal.returns

@@ -14,6 +14,6 @@ returns g c =
       plan = c.in-Ok.checked.plan;
       planned = record { made = c.in-Ok.ensures.made; free = c.in-Ok.ensures.free };
     } in
-    printed_as _ _ c.deliver.result c.print_status.result _ _ _ c.print_status.ensures c.deliver.ensures
+    printed_as _ _ c.deliver.result c.status_after_print.result _ _ _ c.status_after_print.ensures c.deliver.ensures
     (λ delivered. (record { plans = plans; delivered = rw (← bytes) delivered }, refl))
     (λ name dash fails. (plans, dash, rw (← bytes) fails))

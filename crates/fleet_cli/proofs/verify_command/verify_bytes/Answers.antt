@@ -28,6 +28,6 @@ returns g c =
       chain = c.in-Ok.accepted.chain;
       accepts = returned_accepts c.args.bytes.now c.in_ok-problem.problem.grid c.in_ok-problem.problem.instance _ c.in-Ok.accepted.program.program c.in-Ok.accepted.chain c.in_ok-program.ensures.spelled (ap (λ (w : Viewed). w.program) c.in-Ok.ensures.kept.0) c.in-Ok.ensures.accepted;
     } in
-    printed_as _ _ c.print_accepted.result c.print_status.result _ _ _ c.print_status.ensures c.print_accepted.ensures
+    printed_as _ _ c.print_accepted.result c.status_after_print.result _ _ _ c.status_after_print.ensures c.print_accepted.ensures
     (λ delivered. (record { accepts = accepts; delivered = delivered }, refl))
     (λ name dash fails. inr (accepts, dash, fails))

@@ -5,7 +5,7 @@ use Rattle.fleet_model.proofs.Totals.{total_awaits_fit}
 use Rattle.fleet_settled.specs.Implied.{IsImpliedFlag}
 use Rattle.fleet_rows.proofs.Joining.{awaited_action}
 use Rattle.fleet_settled.proofs.AwaitOrder.{flag_within}
-use Rattle.fleet_implied.proofs.Flagged.{told_of, told_more, left_more}
+use Rattle.fleet_implied.proofs.Flagged.{flagged_of, flagged_more, left_more}
 use Rattle.fleet_implied.proofs.await_flags.flag_awaits.Goals as goal
 
 pub loop-k-init : goal.loop-k-init
@@ -35,9 +35,9 @@ loop-k-preserved g c =
     let at : first + c.from.result ≡ first + k = omega (arith, c.from.ensures) in
     let others : (n : ℕ) → n ≢ first + k → get_or new n false ≡ get_or c.loop-k.flags n false = λ n ne. c.flag_await.ensures.others n (λ e. ne (e ∙ at)) in
     record {
-      flagged = told_more p columns a first k w c.await_at-awaited.ensures c.loop-k.flags new others
+      flagged = flagged_more p columns a first k w c.await_at-awaited.ensures c.loop-k.flags new others
           (λ n has. subst (IsImpliedFlag p a w) (sym (ap (λ (x : ℕ). get_or new x false) (sym at) ∙ c.flag_await.ensures.flagged n has))
-          (told_of p c.requires.range c.agents.ensures.well_formed columns a c.args.row.now c.requires.action c.requires.row k n w c.await_at-awaited.ensures has))
+          (flagged_of p c.requires.range c.agents.ensures.well_formed columns a c.args.row.now c.requires.action c.requires.row k n w c.await_at-awaited.ensures has))
           c.loop-k.invariant.flagged;
       none = left_more p columns a first k w c.await_at-awaited.ensures c.loop-k.flags new others c.args.flags.now
           (λ none. ap (λ (x : ℕ). get_or new x false) (sym at) ∙ c.flag_await.ensures.none none ∙ ap (λ (x : ℕ). get_or c.loop-k.flags x false) at)

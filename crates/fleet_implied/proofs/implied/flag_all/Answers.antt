@@ -1,6 +1,6 @@
 use Rattle.std.proofs.Common.{length, ◌∙◌, arith}
 use Rattle.fleet_rows.proofs.Joining.{awaited_action}
-use Rattle.fleet_implied.proofs.Flagged.{told_none, settled_after, told_to}
+use Rattle.fleet_implied.proofs.Flagged.{flagged_none, settled_after, flagged_to}
 use Rattle.fleet_implied.proofs.implied.flag_all.Goals as goal
 
 pub use_rows-requires-clause-block : goal.use_rows-requires-clause-block
@@ -17,7 +17,7 @@ use_rows-requires-clause-used g c =
     record {
       places = c.loop-from.invariant.places;
       all = c.loop-from.invariant.all;
-      flagged = told_none p c.in_ok-columns.columns (length p) c.loop-from.implied.flags.items;
+      flagged = flagged_none p c.in_ok-columns.columns (length p) c.loop-from.implied.flags.items;
     }
 
 pub loop-from-preserved : goal.loop-from-preserved
@@ -28,7 +28,7 @@ loop-from-preserved g c =
     let new = c.use_rows.new.uses.flags.items in
     let made = c.in_ok-use_rows.ensures in
     record {
-      flagged = told_to p c.args.asked.now c.loop-from.from columns c.in_ok-columns.ensures old new (λ a is. made.used.2.flagged a is (made.used.1 a is)) made.keeps c.loop-from.invariant.settled c.loop-from.invariant.flagged;
+      flagged = flagged_to p c.args.asked.now c.loop-from.from columns c.in_ok-columns.ensures old new (λ a is. made.used.2.flagged a is (made.used.1 a is)) made.keeps c.loop-from.invariant.settled c.loop-from.invariant.flagged;
       settled = settled_after p c.args.asked.now columns old new (λ a is. made.used.2.flagged a is (made.used.1 a is)) made.keeps c.loop-from.invariant.settled;
       places = made.used.2.places;
       all = made.used.2.all;

@@ -3,7 +3,7 @@ use Rattle.std.specs.Prelude.{drop}
 use Rattle.std.proofs.lemmas.List.{take_at}
 use Rattle.fleet_implied.specs.Flags.{AreAllFlagged}
 use Rattle.fleet_settled.specs.Settled.{AreSettled}
-use Rattle.fleet_implied.proofs.Flagged.{told_if_none}
+use Rattle.fleet_implied.proofs.Flagged.{flagged_if_none}
 use Rattle.fleet_implied.proofs.implied.flag_implied.Goals as goal
 
 pub returns-then-not-is_any : goal.returns-then-not-is_any
@@ -16,7 +16,7 @@ returns-then-not-is_any g c =
       places = c.requires.places;
       all = ap (λ (xs : List Bool). length xs) same ∙ c.settle_all.auto.flags ∙ ap (λ (xs : List Bool). length xs) c.deref_mut.ensures.value ∙ c.requires.flags;
       flagged = subst (AreAllFlagged p) (sym same)
-          (told_if_none p c.in_ok-asked.asked.items new (λ j. ap (λ (xs : List Bool). get_or xs j false) (sym c.deref.ensures.value) ∙ c.is_any.ensures.0 c.if-not-is_any.true j) c.in_ok-asked.ensures.settled);
+          (flagged_if_none p c.in_ok-asked.asked.items new (λ j. ap (λ (xs : List Bool). get_or xs j false) (sym c.deref.ensures.value) ∙ c.is_any.ensures.0 c.if-not-is_any.true j) c.in_ok-asked.ensures.settled);
     }
 
 pub settle_all-requires-clause-flags : goal.settle_all-requires-clause-flags

@@ -1,7 +1,7 @@
 use Rattle.std.proofs.Common.{subst}
 use Rattle.fleet_grid.specs.Ground.{is_passable}
 use Rattle.fleet_search.specs.Distance.{IsOnGround}
-use Rattle.fleet_reserve.specs.Way.{IsInfeasible}
+use Rattle.fleet_search.specs.Earliest.{IsInfeasible}
 use Rattle.fleet_search.proofs.earliest_path.earliest_over.Goals as goal
 
 pub compute-requires-clause-start : goal.compute-requires-clause-start

@@ -1,7 +1,7 @@
 use Rattle.std.proofs.Common.{refl, sym, subst, ◌∙◌}
 use Rattle.std.proofs.lemmas.Result.{IfOk-weaker}
 use Rattle.fleet_grid.specs.Ground.{is_passable}
-use Rattle.fleet_reserve.specs.Way.{IsEarliest, IsInfeasible}
+use Rattle.fleet_search.specs.Earliest.{IsEarliest, IsInfeasible}
 use Rattle.fleet_search.specs.Attempts.{IsPathAdded}
 use Rattle.fleet_search.proofs.InTurnLaws.{read_task}
 use Rattle.fleet_search.proofs.orders.add_path.Goals as goal

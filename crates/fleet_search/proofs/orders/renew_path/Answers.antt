@@ -3,7 +3,8 @@ use Rattle.std.specs.Prelude.{slice_get}
 use Rattle.std.proofs.lemmas.Result.{on_ok_weaker}
 use Rattle.fleet_model.specs.declared.task.Task.{Task}
 use Rattle.fleet_grid.specs.Ground.{is_passable}
-use Rattle.fleet_reserve.specs.Way.{arrival, IsInfeasible}
+use Rattle.fleet_reserve.specs.Way.{arrival}
+use Rattle.fleet_search.specs.Earliest.{IsInfeasible}
 use Rattle.fleet_search.proofs.KeptPaths.{earliest-again, earliest-later}
 use Rattle.fleet_search.proofs.orders.renew_path.Goals as goal
 use Rattle.fleet_search.proofs.orders.renew_path.Goals.{then-steps-gt0+in_ok-add_path+else-branch, else-steps-gt0}

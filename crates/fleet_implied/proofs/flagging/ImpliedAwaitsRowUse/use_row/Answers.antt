@@ -3,7 +3,7 @@ use Rattle.std.specs.Prelude.{drop}
 use Rattle.std.proofs.lemmas.List.{take_at}
 use Rattle.fleet_rows.specs.Order.{IsCounted}
 use Rattle.fleet_implied.specs.Flags.{AreFlagged, AreFlaggedFor, AreLeft}
-use Rattle.fleet_implied.proofs.Flagged.{told_counted, left_on}
+use Rattle.fleet_implied.proofs.Flagged.{flagged_counted, left_on}
 use Rattle.fleet_implied.proofs.flagging.ImpliedAwaitsRowUse.use_row.Goals as goal
 
 pub returns-clause-used : goal.returns-clause-used
@@ -20,7 +20,7 @@ returns-clause-used g c =
     record {
       places = c.requires.used.places;
       all = ap (λ (xs : List Bool). length xs) same ∙ c.flag_awaits.auto.flags ∙ ap (λ (xs : List Bool). length xs) c.deref_mut.ensures.value ∙ c.requires.used.all;
-      flagged = subst (AreFlaggedFor p columns (IsCounted (set counts a.agent a.number))) (sym same) (told_counted p columns counts a old new c.requires.can.action c.requires.next flagged c.requires.used.flagged);
+      flagged = subst (AreFlaggedFor p columns (IsCounted (set counts a.agent a.number))) (sym same) (flagged_counted p columns counts a old new c.requires.can.action c.requires.next flagged c.requires.used.flagged);
     }
 
 pub returns-clause-keeps : goal.returns-clause-keeps

@@ -1,6 +1,6 @@
 use Rattle.std.proofs.Common.{◌∙◌, arith}
 use Rattle.fleet_reserve.proofs.RowLaws.{no_numbers, row-past, row-read, row-set, row-other, is_taken, none_is_taken}
-use Rattle.fleet_reserve.proofs.rows.take.Goals as goal
+use Rattle.fleet_reserve.proofs.rows.take_from_row.Goals as goal
 
 pub returns-then-key-len-clause-none : goal.returns-then-key-len-clause-none
 returns-then-key-len-clause-none c = row-past c.args.rows.now.items c.args.key (omega arith)

@@ -117,7 +117,8 @@ done
 echo $bytes:$heard
 EOF
 # files_cut WAY VARIABLE COMMAND..: the files that the program opens give (GIVES) or take (TAKES) 0 bytes, or one more
-# each time until it is done, at most 1,000 times, and then fail in this way. Prints each status and line, and how often they came in a row.
+# each time until it is done, at most 1,000 times, and then fail in this way. Prints each status and line, and how often
+# they came in a row.
 cat > "$work/bin/files_cut" <<'EOF'
 #!/bin/sh
 WAY=$1 variable=$2 bytes=0 status=3

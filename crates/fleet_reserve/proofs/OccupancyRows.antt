@@ -3,11 +3,12 @@ use Rattle.std.proofs.Common.{◌≡◌, ◌≢◌, ℕ, zero, suc, ◌+◌, ◌
 use Rattle.std.specs.Prelude.{Vec, set, not}
 use Rattle.std.specs.declared.alloc.Global.{Global}
 use Rattle.std.proofs.lemmas.Bool.{cases_eq, cases_lt, ne_eqb, eq-eqb}
-use Rattle.std.proofs.lemmas.List.{get_or-set_same, get_or-set_other, get_or-map, map-set, map-append, get_or_past, get_or_push, get_or_append_left, length-map, take-append-drop}
+use Rattle.std.proofs.lemmas.List.{map-append, get_or_past, get_or_push, get_or_append_left, length-map, take-append-drop}
 use Rattle.std.proofs.lemmas.List.Elements.{filter-append}
 use Rattle.fleet_model.specs.declared.geometry.Cell.{Cell}
 use Rattle.fleet_model.proofs.Cells.{cell_from_parts, cell_cases}
 use Rattle.fleet_plan.specs.Plan.{Plan}
+use Rattle.fleet_table.proofs.Pages.{page-read, page-set, page-other}
 use Rattle.fleet_reserve.specs.declared.occupancy.Occupancy.{Occupancy}
 use Rattle.fleet_reserve.specs.declared.reservation_table.ReservationTable.{ReservationTable}
 use Rattle.fleet_reserve.specs.Rows.{bucket_of, bucket_in}
@@ -27,15 +28,6 @@ same-lists old new same = same
 pub list-past : {X : Type 0} (bs : List (Vec X Global)) (k : ℕ) → length bs ≤ k → list_in bs k ≡ []
 list-past {X} bs k h = get_or_past (map (λ v. v.items) bs) k [] (omega (arith, length-map bs (λ (v : Vec X Global). v.items)))
 
-pub list-read : {X : Type 0} (bs : List (Vec X Global)) (k : ℕ) (v : Vec X Global) → k < length bs → v ≡ get_or bs k v → list_in bs k ≡ v.items
-list-read bs k v h e = get_or-map (λ v. v.items) bs k v [] h ∙ ap (λ v. v.items) (sym e)
-
-pub list-set : {X : Type 0} (bs : List (Vec X Global)) (k : ℕ) (v : Vec X Global) → k < length bs → list_in (set bs k v) k ≡ v.items
-list-set {X} bs k v h = ap (λ z. get_or z k []) (map-set (λ v. v.items) bs k v) ∙ get_or-set_same (map (λ v. v.items) bs) k v.items [] (omega (arith, length-map bs (λ (v : Vec X Global). v.items)))
-
-pub list-other : {X : Type 0} (bs : List (Vec X Global)) (i k : ℕ) (v : Vec X Global) → k ≢ i → list_in (set bs i v) k ≡ list_in bs k
-list-other bs i k v ne = ap (λ z. get_or z k []) (map-set (λ v. v.items) bs i v) ∙ get_or-set_other (map (λ v. v.items) bs) i k v.items [] ne
-
 -- the lists before i are changed by f, and the others are not
 pub record AreChangedTo {X : Type 0} (f : List X → List X) (old new : List (Vec X Global)) (i : ℕ) : Type 0 where
   pub done : (k : ℕ) → k < i → list_in new k ≡ f (list_in old k)
@@ -47,10 +39,10 @@ changed-none f old = record { done = λ k l. absurd (omega arith); left = λ k l
 pub changed-more : {X : Type 0} (f : List X → List X) (old now : List (Vec X Global)) (i : ℕ) (v w : Vec X Global) → AreChangedTo f old now i → i < length now → v ≡ get_or now i v → w.items ≡ f v.items → AreChangedTo f old (set now i w) (i + 1)
 changed-more f old now i v w h l e g = record {
   done = λ k m. elim (cases_eq k i) [
-    | inl s ↦ ap (list_in (set now i w)) s ∙ list-set now i w l ∙ g ∙ ap f (sym (list-read now i v l e) ∙ h.left i (omega arith) ∙ ap (list_in old) (sym s))
-    | inr ne ↦ list-other now i k w ne ∙ h.done k (omega arith)
+    | inl s ↦ ap (list_in (set now i w)) s ∙ page-set now i w l ∙ g ∙ ap f (sym (page-read now i v l e) ∙ h.left i (omega arith) ∙ ap (list_in old) (sym s))
+    | inr ne ↦ page-other now i k w ne ∙ h.done k (omega arith)
   ];
-  left = λ k m. list-other now i k w (λ s. omega arith) ∙ h.left k (omega arith);
+  left = λ k m. page-other now i k w (λ s. omega arith) ∙ h.left k (omega arith);
 }
 
 pub changed-all : {X : Type 0} (f : List X → List X) (old now : List (Vec X Global)) (i : ℕ) → AreChangedTo f old now i → length now ≤ i → f [] ≡ [] → (k : ℕ) → list_in now k ≡ f (list_in old k)
@@ -69,15 +61,15 @@ list_at lists n = get_or ([] ∷ map (λ v. v.items) lists) n []
 
 pub list_at-read : {X : Type 0} (lists : List (Vec X Global)) (k : ℕ) (v : Vec X Global) → 1 ≤ k → k ≤ length lists → v ≡ get_or lists (k - 1) v → list_at lists k ≡ v.items
 list_at-read lists zero v h l e = absurd (omega arith)
-list_at-read lists (suc k) v h l e = list-read lists k v (omega arith) (e ∙ ap (λ n. get_or lists n v) (let z : suc k - 1 ≡ k = omega arith in z))
+list_at-read lists (suc k) v h l e = page-read lists k v (omega arith) (e ∙ ap (λ n. get_or lists n v) (let z : suc k - 1 ≡ k = omega arith in z))
 
 pub list_at-set : {X : Type 0} (lists : List (Vec X Global)) (k : ℕ) (w : Vec X Global) → 1 ≤ k → k ≤ length lists → list_at (set lists (k - 1) w) k ≡ w.items
 list_at-set lists zero w h l = absurd (omega arith)
-list_at-set lists (suc k) w h l = ap (λ n. get_or (map (λ v. v.items) (set lists n w)) k []) (let z : suc k - 1 ≡ k = omega arith in z) ∙ list-set lists k w (omega arith)
+list_at-set lists (suc k) w h l = ap (λ n. get_or (map (λ v. v.items) (set lists n w)) k []) (let z : suc k - 1 ≡ k = omega arith in z) ∙ page-set lists k w (omega arith)
 
 pub list_at-other : {X : Type 0} (lists : List (Vec X Global)) (k j : ℕ) (w : Vec X Global) → 1 ≤ k → j ≢ k → list_at (set lists (k - 1) w) j ≡ list_at lists j
 list_at-other lists k zero w h ne = refl
-list_at-other lists k (suc j) w h ne = list-other lists (k - 1) j w (λ s. ne (omega arith))
+list_at-other lists k (suc j) w h ne = page-other lists (k - 1) j w (λ s. ne (omega arith))
 
 pub list_at-before : {X : Type 0} (lists : List (Vec X Global)) (j : ℕ) (w : Vec X Global) → j ≤ length lists → list_at (lists ++ w ∷ []) j ≡ list_at lists j
 list_at-before lists zero w h = refl
@@ -94,7 +86,7 @@ number-past rows c l = ap (λ z. get_or z c.x 0) (list-past rows c.y l)
 
 pub number-read : (rows : List (Vec ℕ Global)) (c : Cell) (row : Vec ℕ Global) → c.y < length rows → row ≡ get_or rows c.y row → number_in_rows rows c ≡ get_or row.items c.x 0
 unfolding number_in_rows
-number-read rows c row l e = ap (λ z. get_or z c.x 0) (list-read rows c.y row l e)
+number-read rows c row l e = ap (λ z. get_or z c.x 0) (page-read rows c.y row l e)
 
 pub same-numbers : (old new : List (Vec ℕ Global)) → ((k : ℕ) → list_in new k ≡ list_in old k) → (c : Cell) → number_in_rows new c ≡ number_in_rows old c
 unfolding number_in_rows
@@ -103,11 +95,11 @@ same-numbers old new h c = ap (λ z. get_or z c.x 0) (h c.y)
 -- a row is replaced
 number-set : (rows : List (Vec ℕ Global)) (y : ℕ) (row : Vec ℕ Global) (c : Cell) → y < length rows → c.y ≡ y → number_in_rows (set rows y row) c ≡ get_or row.items c.x 0
 unfolding number_in_rows
-number-set rows y row c l e = ap (λ z. get_or z c.x 0) (ap (list_in (set rows y row)) e ∙ list-set rows y row l)
+number-set rows y row c l e = ap (λ z. get_or z c.x 0) (ap (list_in (set rows y row)) e ∙ page-set rows y row l)
 
 number-other : (rows : List (Vec ℕ Global)) (y : ℕ) (row : Vec ℕ Global) (c : Cell) → c.y ≢ y → number_in_rows (set rows y row) c ≡ number_in_rows rows c
 unfolding number_in_rows
-number-other rows y row c ne = ap (λ z. get_or z c.x 0) (list-other rows y c.y row ne)
+number-other rows y row c ne = ap (λ z. get_or z c.x 0) (page-other rows y c.y row ne)
 
 module _ (old wide : List (Vec ℕ Global)) (y : ℕ) (row new : Vec ℕ Global) (same : (k : ℕ) → list_in wide k ≡ list_in old k) (l : y < length wide) (e : row ≡ get_or wide y row) where
   was : (c : Cell) → c.y ≡ y → get_or row.items c.x 0 ≡ number_in_rows old c

@@ -3,24 +3,26 @@ use Rattle.std.proofs.Common.{◌≡◌, ◌≢◌, ℕ, ◌<◌, ◌≤◌, ◌
 use Rattle.std.specs.Prelude.{Vec, set, MatchOption, IfSome, IfNone}
 use Rattle.std.specs.declared.alloc.Global.{Global}
 use Rattle.std.proofs.lemmas.Bool.{cases_eq, cases_lt, eqb-true, eq-eqb, false_from_ne_true}
-use Rattle.std.proofs.lemmas.List.{get_or-set_same, get_or-set_other, get_or-map, map-set, map-append, get_or_past, get_or_push, get_or_append_left, length-map, length_push}
+use Rattle.std.proofs.lemmas.List.{map-append, get_or_past, get_or_push, get_or_append_left, length-map, length_push}
+use Rattle.fleet_table.proofs.Pages.{page-read, page-set, page-other}
+use Rattle.fleet_reserve.proofs.OccupancyRows.{list-past}
 use Rattle.fleet_reserve.specs.Rows.{bucket_of, lists_of, bucket_in, IsPut}
 
 pub row-past : (bs : List (Vec ℕ Global)) (k : ℕ) → length bs ≤ k → bucket_in bs k ≡ []
 unfolding bucket_of
-row-past bs k h = get_or_past (map (λ v. v.items) bs) k [] (omega (arith, length-map bs (λ (v : Vec ℕ Global). v.items)))
+row-past bs k h = list-past bs k h
 
 pub row-read : (bs : List (Vec ℕ Global)) (k : ℕ) (v : Vec ℕ Global) → k < length bs → v ≡ get_or bs k v → bucket_in bs k ≡ v.items
 unfolding bucket_of
-row-read bs k v h e = get_or-map (λ v. v.items) bs k v [] h ∙ ap (λ v. v.items) (sym e)
+row-read bs k v h e = page-read bs k v h e
 
 pub row-set : (bs : List (Vec ℕ Global)) (k : ℕ) (v : Vec ℕ Global) → k < length bs → bucket_in (set bs k v) k ≡ v.items
 unfolding bucket_of
-row-set bs k v h = ap (λ z. get_or z k []) (map-set (λ v. v.items) bs k v) ∙ get_or-set_same (map (λ v. v.items) bs) k v.items [] (omega (arith, length-map bs (λ (v : Vec ℕ Global). v.items)))
+row-set bs k v h = page-set bs k v h
 
 pub row-other : (bs : List (Vec ℕ Global)) (i k : ℕ) (v : Vec ℕ Global) → k ≢ i → bucket_in (set bs i v) k ≡ bucket_in bs k
 unfolding bucket_of
-row-other bs i k v ne = ap (λ z. get_or z k []) (map-set (λ v. v.items) bs i v) ∙ get_or-set_other (map (λ v. v.items) bs) i k v.items [] ne
+row-other bs i k v ne = page-other bs i k v ne
 
 -- one more row, which is empty
 pub row-more : (bs all : List (Vec ℕ Global)) (v : Vec ℕ Global) (k : ℕ) → v.items ≡ [] → all ≡ bs ++ v ∷ [] → bucket_in all k ≡ bucket_in bs k

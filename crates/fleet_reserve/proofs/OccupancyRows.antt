@@ -11,7 +11,6 @@ use Rattle.fleet_plan.specs.Plan.{Plan}
 use Rattle.fleet_table.proofs.Pages.{page-read, page-set, page-other}
 use Rattle.fleet_reserve.specs.declared.occupancy.Occupancy.{Occupancy}
 use Rattle.fleet_reserve.specs.declared.reservation_table.ReservationTable.{ReservationTable}
-use Rattle.fleet_reserve.specs.Rows.{bucket_of, bucket_in}
 use Rattle.fleet_reserve.specs.Numbers.{number_in_rows, IsNumbered, HaveOwnLists}
 use Rattle.fleet_reserve.specs.Occupancies.{occupancies_of, IsPutIn, IsOccupancyAdded, AreOccupanciesOn, without, occupancy_at}
 
@@ -20,10 +19,6 @@ use Rattle.fleet_reserve.specs.Occupancies.{occupancies_of, IsPutIn, IsOccupancy
 -- the list of this number
 abbrev pub list_in : {X : Type 0} → List (Vec X Global) → ℕ → List X
 list_in bs k = get_or (map (λ v. v.items) bs) k []
-
-pub same-lists : (old new : List (Vec ℕ Global)) → ((k : ℕ) → bucket_in new k ≡ bucket_in old k) → (k : ℕ) → list_in new k ≡ list_in old k
-unfolding bucket_of
-same-lists old new same = same
 
 pub list-past : {X : Type 0} (bs : List (Vec X Global)) (k : ℕ) → length bs ≤ k → list_in bs k ≡ []
 list-past {X} bs k h = get_or_past (map (λ v. v.items) bs) k [] (omega (arith, length-map bs (λ (v : Vec X Global). v.items)))

@@ -4,6 +4,7 @@ use Rattle.std.specs.Prelude.{Vec, set, MatchOption, IfSome, IfNone}
 use Rattle.std.specs.declared.alloc.Global.{Global}
 use Rattle.std.proofs.lemmas.Bool.{cases_eq, cases_lt, eqb-true, eq-eqb, false_from_ne_true}
 use Rattle.std.proofs.lemmas.List.{map-append, get_or_past, get_or_push, get_or_append_left, length-map, length_push}
+use Rattle.fleet_table.specs.Table.{page_in}
 use Rattle.fleet_table.proofs.Pages.{page-read, page-set, page-other}
 use Rattle.fleet_reserve.proofs.OccupancyRows.{list-past}
 use Rattle.fleet_reserve.specs.Rows.{bucket_of, lists_of, bucket_in, IsPut}
@@ -24,19 +25,9 @@ pub row-other : (bs : List (Vec ℕ Global)) (i k : ℕ) (v : Vec ℕ Global) �
 unfolding bucket_of
 row-other bs i k v ne = page-other bs i k v ne
 
--- one more row, which is empty
-pub row-more : (bs all : List (Vec ℕ Global)) (v : Vec ℕ Global) (k : ℕ) → v.items ≡ [] → all ≡ bs ++ v ∷ [] → bucket_in all k ≡ bucket_in bs k
+pub same-rows : (old new : List (Vec ℕ Global)) → ((k : ℕ) → page_in new k ≡ page_in old k) → (k : ℕ) → bucket_in new k ≡ bucket_in old k
 unfolding bucket_of
-row-more bs all v k e g = ap (λ z. get_or (map (λ v. v.items) z) k []) g ∙ ap (λ z. get_or z k []) (map-append (λ v. v.items) bs (v ∷ [])) ∙ elim (cases_lt k (length bs)) [
-  | inl l ↦ get_or_append_left (map (λ v. v.items) bs) (v.items ∷ []) [] k (omega (arith, length-map bs (λ (v : Vec ℕ Global). v.items)))
-  | inr l ↦ past l
-]
-  where
-    past : length bs ≤ k → get_or (map (λ v. v.items) bs ++ v.items ∷ []) k [] ≡ get_or (map (λ v. v.items) bs) k []
-    past l = elim (cases_eq k (length bs)) [
-      | inl s ↦ get_or_push (map (λ v. v.items) bs) v.items [] k (omega (arith, length-map bs (λ (v : Vec ℕ Global). v.items))) ∙ e ∙ sym (get_or_past (map (λ v. v.items) bs) k [] (omega (arith, length-map bs (λ (v : Vec ℕ Global). v.items))))
-      | inr ne ↦ get_or_past (map (λ v. v.items) bs ++ v.items ∷ []) k [] (omega (arith, length-map bs (λ (v : Vec ℕ Global). v.items), length_push (map (λ v. v.items) bs) v.items)) ∙ sym (get_or_past (map (λ v. v.items) bs) k [] (omega (arith, length-map bs (λ (v : Vec ℕ Global). v.items))))
-    ]
+same-rows old new same = same
 
 -- a number is put last in a row
 pub is_put : (old wide : List (Vec ℕ Global)) (key : ℕ) (m : ℕ) (v w : Vec ℕ Global) → ((k : ℕ) → bucket_in wide k ≡ bucket_in old k) → key < length wide → v ≡ get_or wide key v → w.items ≡ v.items ++ m ∷ [] → IsPut (lists_of old) (lists_of (set wide key w)) key m

@@ -1,6 +1,7 @@
 -- Safe intervals between the occupancies of agents on a cell: times at which nobody is there.
 use Rattle.std.specs.Prelude.{◌≡◌, ℕ, ◌<◌, ◌≤◌, List, length}
 use Rattle.fleet_reserve.specs.declared.occupancy.Occupancy.{Occupancy}
+use Rattle.fleet_reserve.specs.declared.occupancy.TheConstants.{FOREVER}
 use Rattle.fleet_reserve.specs.Occupancies.{occupancy_at}
 
 -- each occupancy begins after those before it have ended
@@ -10,7 +11,7 @@ pub record AreSuccessive (occupancies : List Occupancy) : Type 0 where
 
 -- the occupancy is over at the time
 abbrev pub IsOver : Occupancy → ℕ → Type 0
-IsOver occupancy t = (occupancy.until < t) × (occupancy.until < 4294967295)
+IsOver occupancy t = (occupancy.until < t) × (occupancy.until < FOREVER)
 
 -- the time is in the safe interval of this number: so many occupancies are over, and the others are still to come
 pub record IsInInterval (occupancies : List Occupancy) (interval : ℕ) (t : ℕ) : Type 0 where
@@ -35,4 +36,4 @@ pub record IsEndAfter (occupancies : List Occupancy) (t until : ℕ) : Type 0 wh
   pub next : ℕ
   pub begun : AreBegun occupancies t next
   pub here : next < length occupancies → until ≡ (occupancy_at occupancies next).from
-  pub none : length occupancies ≤ next → until ≡ 4294967295
+  pub none : length occupancies ≤ next → until ≡ FOREVER

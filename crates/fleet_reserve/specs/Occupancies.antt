@@ -6,6 +6,7 @@ use Rattle.fleet_model.specs.declared.geometry.Cell.{Cell}
 use Rattle.fleet_model.specs.declared.limits.TheConstants.{MAX_HORIZON}
 use Rattle.fleet_plan.specs.Plan.{Plan, cell_of}
 use Rattle.fleet_reserve.specs.declared.occupancy.Occupancy.{Occupancy}
+use Rattle.fleet_reserve.specs.declared.occupancy.TheConstants.{FOREVER}
 use Rattle.fleet_reserve.specs.declared.reservation_table.ReservationTable.{ReservationTable}
 use Rattle.fleet_reserve.specs.Numbers.{number_in_rows, list_of}
 use Rattle.fleet_reserve.specs.Way.{FitTogether}
@@ -21,7 +22,7 @@ occupancy_at occupancies i = get_or occupancies i no_occupancy
 
 -- the occupancy includes the time
 abbrev pub IsDuring : Occupancy → ℕ → Type 0
-IsDuring occupancy t = (occupancy.from ≤ t) × ((t ≤ occupancy.until) ⊎ (occupancy.until ≡ 4294967295))
+IsDuring occupancy t = (occupancy.from ≤ t) × ((t ≤ occupancy.until) ⊎ (occupancy.until ≡ FOREVER))
 
 -- the agent is on the cell throughout
 pub record IsOccupancyOn (plan : Plan) (c : Cell) (occupancy : Occupancy) : Type 0 where

@@ -4,7 +4,7 @@ ghost use Rattle.std.specs.Prelude.{◌↔◌, ◌≤◌, ◌<◌, ◌-◌, ℕ,
 ghost use Rattle.fleet_reserve.specs.Occupancies.{occupancy_at};
 ghost use Rattle.fleet_reserve.specs.Intervals.{AreSuccessive, AreBegun, IsInInterval, IsEarliestWithin, IsEndAfter};
 
-use crate::occupancy::{Occupancy, count_begun};
+use crate::occupancy::{FOREVER, Occupancy, count_begun};
 
 /// Whether the time is in the safe interval of this number.
 fn is_in_interval(occupancies: &[Occupancy], interval: usize, time: u32) -> bool
@@ -32,7 +32,7 @@ fn past_occupancy(occupancies: &[Occupancy], interval: usize, from: u32) -> Opti
         return Some(from);
     }
     let until = occupancies[interval - 1].until;
-    if until == u32::MAX {
+    if until == FOREVER {
         return None;
     }
     Some(from.max(until + 1))
@@ -63,7 +63,7 @@ pub fn begins_after(occupancies: &[Occupancy], interval: usize, time: u32) -> bo
     time < occupancies[interval - 1].from
 }
 
-/// A safe interval of a cell: how many occupancies there are before it, and when the next one begins (`u32::MAX` if
+/// A safe interval of a cell: how many occupancies there are before it, and when the next one begins (`FOREVER` if
 /// none does).
 #[derive(Clone, Copy)]
 pub struct SafeInterval {
@@ -71,7 +71,7 @@ pub struct SafeInterval {
     pub until: u32,
 }
 
-/// How many of the occupancies have begun by the time, and when the next one begins: `u32::MAX` if none does.
+/// How many of the occupancies have begun by the time, and when the next one begins: `FOREVER` if none does.
 pub fn interval_after(occupancies: &[Occupancy], time: u32) -> SafeInterval
     requires order { AreSuccessive occupancies.now }
     ensures begun { AreBegun occupancies.now time result.number }
@@ -81,7 +81,7 @@ pub fn interval_after(occupancies: &[Occupancy], time: u32) -> SafeInterval
     let until = if number < occupancies.len() {
         occupancies[number].from
     } else {
-        u32::MAX
+        FOREVER
     };
     SafeInterval { number, until }
 }

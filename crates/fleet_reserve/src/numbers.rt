@@ -6,8 +6,8 @@ ghost use Rattle.fleet_model.specs.declared.geometry.Cell.{Cell};
 ghost use Rattle.fleet_model.specs.declared.limits.TheConstants.{MAX_COORDINATE};
 ghost use Rattle.fleet_reserve.specs.Numbers.{number_in_rows, IsNumbered};
 
-use crate::rows::widen;
 use fleet_model::{Cell, OutOfMemory};
+use fleet_table::extend_to;
 use std::alloc::Global;
 
 /// The number of the cell; 0 if it has none.
@@ -50,6 +50,6 @@ pub fn set_number(
         → number_in_rows rows.new.items c ≡ number_in_rows rows.old.items c) }
 {
     let y = usize::from(cell.y);
-    widen(alloc, rows, y)?;
+    extend_to(alloc, rows, y)?;
     write(&mut rows[y], usize::from(cell.x), number)
 }

@@ -7,8 +7,11 @@ ghost use Rattle.fleet_reserve.specs.Occupancies.{IsPutIn, AreInOrder, without};
 
 use fleet_model::OutOfMemory;
 
+/// The time that is never reached: the end of what has none.
+pub const FOREVER: u32 = u32::MAX;
+
 /// An agent's time on a cell: from the time at which it comes, to the last at which it is there. The last occupancy of
-/// an agent has no end: `u32::MAX`.
+/// an agent is until `FOREVER`.
 #[derive(Clone, Copy)]
 pub struct Occupancy {
     pub from: u32,

@@ -3,7 +3,7 @@
 ghost use Rattle.fleet_reserve.specs.Numbers.{HaveOwnLists};
 
 use crate::numbers::{number_at, set_number};
-use crate::occupancy::{Occupancy, place, remove_from};
+use crate::occupancy::{FOREVER, Occupancy, place, remove_from};
 use fleet_model::{Cell, OutOfMemory};
 use fleet_plan::Path;
 use std::alloc::Global;
@@ -106,7 +106,7 @@ impl ReservationTable {
                 from = time + 1;
             }
         }
-        let until = u32::MAX;
+        let until = FOREVER;
         self.add(path.cell(end), Occupancy { from, until, agent })
     }
 

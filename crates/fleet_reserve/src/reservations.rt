@@ -6,7 +6,7 @@ ghost use Rattle.fleet_reserve.specs.Way.{Fits, StepFits};
 ghost use Rattle.fleet_reserve.specs.Occupancies.{HaveOccupancies};
 ghost use Rattle.fleet_reserve.specs.Reserved.{IsOn, IsUnoccupied, IsFreeFrom, LeadsBack};
 
-use crate::occupancy::count_begun;
+use crate::occupancy::{FOREVER, count_begun};
 use crate::reservation_table::ReservationTable;
 use fleet_model::{Cell, OutOfMemory};
 use fleet_plan::Path;
@@ -149,7 +149,7 @@ impl Reservations {
         match self.table().occupancies(cell).last() {
             None => Some(0),
             Some(occupancy) => {
-                if occupancy.until == u32::MAX {
+                if occupancy.until == FOREVER {
                     None
                 } else {
                     Some(occupancy.until + 1)

@@ -1,22 +1,11 @@
 //! Rows of numbers by their keys.
 
-ghost use Rattle.std.specs.Prelude.{◌≡◌, ◌≢◌, ◌<◌, ◌++◌, ◌∷◌, [], ℕ, OnOk, OnErr, IfSome, IfNone, length};
+ghost use Rattle.std.specs.Prelude.{◌≡◌, ◌≢◌, ◌<◌, ◌++◌, ◌∷◌, [], ℕ, OnOk, OnErr, IfSome, IfNone};
 ghost use Rattle.fleet_reserve.specs.Rows.{lists_of, bucket_in, IsPut};
 
 use fleet_model::OutOfMemory;
+use fleet_table::extend_to;
 use std::alloc::Global;
-
-/// Makes room for the row of this key. No row changes, even if memory is refused.
-pub fn widen(alloc: Global, rows: &mut Vec<Vec<u32>>, key: usize) -> Result<(), OutOfMemory>
-    requires { key < 4294967295 }
-    ensures room { OnOk result (key < length rows.new.items) }
-    ensures same { (k : ℕ) → bucket_in rows.new.items k ≡ bucket_in rows.old.items k }
-{
-    for _more in rows.len()..key + 1 {
-        rows.push(Vec::new(alloc))?;
-    }
-    Ok(())
-}
 
 /// Puts the number last in the row. A refusal changes no row.
 pub fn put_in_row(
@@ -31,7 +20,7 @@ pub fn put_in_row(
     ensures err { OnErr result ((k : ℕ) → bucket_in rows.new.items k ≡ bucket_in rows.old.items k) }
 {
     let key = key as usize;
-    widen(alloc, rows, key)?;
+    extend_to(alloc, rows, key)?;
     rows[key].push(number)?;
     Ok(())
 }

@@ -3,4 +3,4 @@
 
 mod table;
 
-pub use table::Table;
+pub use table::{Table, extend_to};

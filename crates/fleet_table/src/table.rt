@@ -55,7 +55,7 @@ impl<V: Copy> Table<V> {
         ensures kept { OnErr result (AreSame self.old self.new) }
     {
         let page = number / PAGE;
-        reach(self.alloc, &mut self.pages, page)?;
+        extend_to(self.alloc, &mut self.pages, page)?;
         let before = replace_in(&mut self.pages[page], number % PAGE, value, self.blank)?;
         Ok(before)
     }
@@ -71,9 +71,13 @@ impl<V: Copy> Table<V> {
     }
 }
 
-/// Adds empty pages until the list has this one.
+/// Adds empty pages until the list has this one. Those that it has stay as they are, even if memory is refused.
 #[inline(always)]
-fn reach<V: Copy>(alloc: Global, pages: &mut Vec<Vec<V>>, page: usize) -> Result<(), AllocError>
+pub fn extend_to<V: Copy>(
+    alloc: Global,
+    pages: &mut Vec<Vec<V>>,
+    page: usize,
+) -> Result<(), AllocError>
     requires { page < 18014398509481984 }
     ensures room { OnOk result (page < length pages.new.items) }
     ensures same { (k : ℕ) → page_in pages.new.items k ≡ page_in pages.old.items k }

@@ -1,16 +1,1 @@
-pub mod Output
-pub mod HexRun
-pub mod RehearseCommand
-pub mod InstanceCommand
-pub mod CheckCommand
 pub mod Command
-pub mod Problem
-pub mod VerifyCommand
-pub mod DriveCommand
-pub mod PlanCommand
-pub mod CompileCommand
-pub mod AutoCommand
-pub mod ThinCommand
-pub mod MigrateCommand
-pub mod ListCommand
-pub mod DispatchCommand

@@ -1,0 +1,15 @@
+pub mod Output
+pub mod HexRun
+pub mod RehearseCommand
+pub mod InstanceCommand
+pub mod CheckCommand
+pub mod Problem
+pub mod VerifyCommand
+pub mod DriveCommand
+pub mod PlanCommand
+pub mod CompileCommand
+pub mod AutoCommand
+pub mod ThinCommand
+pub mod MigrateCommand
+pub mod ListCommand
+pub mod DispatchCommand

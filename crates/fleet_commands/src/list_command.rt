@@ -1,0 +1,56 @@
+//! The command `list`.
+
+ghost use Rattle.std.specs.Prelude.{◌≡◌, MatchResult};
+ghost use Rattle.fleet_list.specs.Listing.{program_text};
+ghost use Rattle.fleet_text.specs.Sink.{IsWorking, Delivers};
+ghost use Rattle.fleet_files.specs.Files.{AreUnchanged};
+ghost use Rattle.fleet_commands.specs.ListCommand.{PrintsProgram, IsListFault, DoesList, RefusesList};
+
+use crate::output::status_after_print;
+use crate::problem::view_program;
+use fleet_args::ListRequest;
+use fleet_io::{Fault, Files, read_file};
+use fleet_list::put_program;
+use fleet_model::ProgramView;
+use fleet_run::{Flush, OutFault};
+use std::alloc::Global;
+
+/// Prints the program as text, and has the sink hand it on.
+fn print_program<P: ProgramView, O: Flush>(out: &mut O, program: &P) -> Result<(), OutFault>
+    requires { IsWorking (O.state out.old) }
+    ensures { Delivers (O.state out.old) (O.state out.new) result
+        (program_text (P.program program.now)) }
+{
+    put_program(out, program)?;
+    out.flush()
+}
+
+/// Prints the program that the bytes spell.
+fn list_bytes<'a, O: Flush>(alloc: Global, bytes: &[u8], out: &mut O) -> Result<u8, Fault<'a>>
+    requires { IsWorking (O.state out.old) }
+    ensures { MatchResult result
+        (λ status. PrintsProgram bytes.now (O.state out.old) (O.state out.new) × (status ≡ 0))
+        (IsListFault bytes.now (O.state out.old) (O.state out.new)) }
+{
+    let program = view_program(alloc, bytes)?;
+    status_after_print(print_program(out, &program))
+}
+
+/// The command `list`: reads the file whole, and prints the program that it spells to `out`, as text. Answers 0. No
+/// file is changed.
+#[inline(never)]
+pub fn do_list<'a, F: Files, O: Flush>(
+    alloc: Global,
+    request: &ListRequest<'a>,
+    files: &mut F,
+    out: &mut O,
+) -> Result<u8, Fault<'a>>
+    requires { IsWorking (O.state out.old) }
+    ensures did { MatchResult result
+        (DoesList (F.contents files.old) request.now (O.state out.old) (O.state out.new))
+        (RefusesList (F.contents files.old) request.now (O.state out.old) (O.state out.new)) }
+    ensures kept { AreUnchanged (F.contents files.old) (F.contents files.new) }
+{
+    let program = read_file(alloc, files, request.program)?;
+    list_bytes(alloc, &program, out)
+}

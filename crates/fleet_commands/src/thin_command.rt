@@ -1,0 +1,126 @@
+//! The command `thin`.
+
+ghost use Rattle.std.specs.Prelude.{◌≡◌, IfOk, IfErr, MatchResult};
+ghost use Rattle.fleet_text.specs.Sink.{IsWorking};
+ghost use Rattle.fleet_files.specs.Files.{AreUnchanged};
+ghost use Rattle.fleet_commands.specs.Output.{WritesOut, IsOutRefusal};
+ghost use Rattle.fleet_commands.specs.Problem.{IsTextsRefusal};
+ghost use Rattle.fleet_commands.specs.ThinCommand.{ThinsTexts, ThinsFiles, IsThinRefusal, thinned_text, DoesThin, RefusesThin};
+
+use crate::output::write_out;
+use crate::problem::{accept, read_problem};
+use fleet_adg::{ThinFault, thin};
+use fleet_args::ThinRequest;
+use fleet_code::{EncodeFault, encode_shortest};
+use fleet_io::{Fault, Files, read_three};
+use fleet_model::total_awaits;
+use fleet_run::Flush;
+use std::alloc::Global;
+
+/// The bytes of a thinned program, and how many awaits there were before and are after.
+#[derive(Drop)]
+struct Thinned {
+    before: u32,
+    after: u32,
+    bytes: Vec<u8>,
+}
+
+/// The program that the bytes spell, accepted for the map and the instance for which the texts stand, and thinned.
+fn thin_texts<'a>(
+    alloc: Global,
+    map: &[u8],
+    scen: &[u8],
+    asked: Option<u16>,
+    program: &[u8],
+) -> Result<Thinned, Fault<'a>>
+    ensures thinned { IfOk result
+        (λ t. ThinsTexts map.now scen.now asked program.now t.before t.after t.bytes.items) }
+    ensures fault { IfErr result (IsTextsRefusal map.now scen.now asked program.now) }
+{
+    let problem = read_problem(alloc, map, scen, asked)?;
+    let accepted = accept(alloc, program, &problem.grid, &problem.instance)?;
+    let thinned = match thin(alloc, &accepted) {
+        Ok(thinned) => thinned,
+        Err(ThinFault::OutOfMemory) => return Err(Fault::Memory),
+    };
+    let bytes = match encode_shortest(alloc, &thinned) {
+        Ok(bytes) => bytes,
+        Err(EncodeFault::OutOfMemory) => return Err(Fault::Memory),
+        // One of the two versions has bytes for every program.
+        Err(_) => unreachable!(),
+    };
+    Ok(Thinned {
+        before: total_awaits(accepted.program()),
+        after: total_awaits(&thinned),
+        bytes,
+    })
+}
+
+/// Reads the files, and then thins.
+fn thin_files<'a, F: Files>(
+    alloc: Global,
+    request: &ThinRequest<'a>,
+    files: &mut F,
+) -> Result<Thinned, Fault<'a>>
+    ensures thinned { IfOk result
+        (λ t. ThinsFiles (F.contents files.old) request.now t.before t.after t.bytes.items) }
+    ensures fault { IfErr result (IsThinRefusal (F.contents files.old) request.now) }
+    ensures kept { AreUnchanged (F.contents files.old) (F.contents files.new) }
+{
+    let (map, scen, program) = read_three(
+        alloc,
+        files,
+        request.map,
+        request.scen,
+        request.program,
+    )?;
+    thin_texts(alloc, &map, &scen, request.agents, &program)
+}
+
+/// Writes the bytes of the thinned program to the file OUT, and prints its awaits before and after.
+fn write_thinned<'a, F: Files, O: Flush>(
+    files: &mut F,
+    name: &'a str,
+    thinned: &Thinned,
+    out: &mut O,
+) -> Result<u8, Fault<'a>>
+    requires { IsWorking (O.state out.old) }
+    ensures { MatchResult result
+        (λ status. WritesOut (F.contents files.old) (F.contents files.new) name.entry.now
+        thinned.now.bytes.items (O.state out.old) (O.state out.new)
+        (thinned_text thinned.now.before thinned.now.after) × (status ≡ 0))
+        (IsOutRefusal (F.contents files.old) (F.contents files.new) name.entry.now
+        thinned.now.bytes.items (O.state out.old) (O.state out.new)
+        (thinned_text thinned.now.before thinned.now.after)) }
+{
+    write_out(
+        files,
+        name,
+        &thinned.bytes,
+        out,
+        &[
+            ("awaits", thinned.before as u64),
+            ("awaits", thinned.after as u64),
+        ],
+    )
+}
+
+/// The command `thin`: reads the files whole, writes the bytes of the program without its implied awaits to the file
+/// OUT once all before it succeeded, and prints its awaits before and after to `out`. Answers 0.
+#[inline(never)]
+pub fn do_thin<'a, F: Files, O: Flush>(
+    alloc: Global,
+    request: &ThinRequest<'a>,
+    files: &mut F,
+    out: &mut O,
+) -> Result<u8, Fault<'a>>
+    requires { IsWorking (O.state out.old) }
+    ensures { MatchResult result
+        (DoesThin (F.contents files.old) (F.contents files.new) request.now
+        (O.state out.old) (O.state out.new))
+        (RefusesThin (F.contents files.old) (F.contents files.new) request.now
+        (O.state out.old) (O.state out.new)) }
+{
+    let thinned = thin_files(alloc, request, files)?;
+    write_thinned(files, request.out, &thinned, out)
+}

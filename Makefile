@@ -12,7 +12,7 @@ WAREHOUSE = examples/warehouse.map examples/warehouse.scen
 # No rules but these: make would link a program anew of which an object file stands beside it.
 MAKEFLAGS += --no-builtin-rules
 
-.PHONY: help test examples demo picture definitions install
+.PHONY: help test examples edits demo picture definitions install
 
 help:
 	@echo 'make demo                  builds the program (the first time a quarter of an hour) and shows it on examples'
@@ -20,6 +20,7 @@ help:
 	@echo 'make test                  the gate: proofs, tests, edits that must fail, and then the examples'
 	@echo 'make examples              runs the program on every example of the documents, on transcripts and tables, and on files and streams at their limits'
 	@echo 'make examples FLEET=PATH   the same of another program'
+	@echo 'make edits                 tries more edits that must fail, those of tests/edits, which would cost the gate too much'
 	@echo 'make picture               draws the film and the chart of the README anew, docs/warehouse.svg and docs/waits.svg'
 	@echo 'make definitions           writes docs/DEFINITIONS.md anew, from the comments in crates/*/specs'
 
@@ -36,6 +37,9 @@ $(BUILT): $(SOURCES)
 
 examples: $(FLEET)
 	@sh tests/examples.sh $(FLEET)
+
+edits:
+	@sh tests/edits.sh
 
 demo: $(FLEET)
 	@echo '100 agents in a warehouse, where nobody stops on the way (examples/warehouse.map, .scen):'

@@ -60,3 +60,21 @@ while read -r _ names; do
     echo "$(sh "$root/tools/believed.sh" $names | sed -n '$s/ .*//p') $names"
 done < "$work/want.out" > "$work/out"
 judge 'docs/PROVED.md has the lines of definitions: tools/believed.sh' 'table of docs/PROVED.md against crates/*/specs' 0
+
+# The text that an edit changes stands once in its file: of the edits of the gate, and of those of `make edits`.
+for edit in "$root"/crates/*/must-fail/*.edit "$root"/tests/edits/*/*.edit; do
+    crate=${edit%/*}
+    awk -v at="$root/crates/$(basename "${crate%/must-fail}")" '
+        sub(/^file: /, "") { path = at "/" $0 }
+        sub(/^old: /, "") {
+            found = 0
+            while ((getline line < path) > 0)
+                for (; at_old = index(line, $0); line = substr(line, at_old + length($0)))
+                    found++
+            close(path)
+            if (found != 1)
+                print FILENAME ": " $0
+        }' "$edit"
+done > "$work/out"
+: > "$work/want.out"
+judge 'each edit changes a text that stands once' 'edits of crates/*/must-fail and of tests/edits' 0

@@ -98,9 +98,22 @@ document() {
     done
 }
 
-for section in documents commands transcripts texts conflicts warehouse plans tools files limits streams memory; do
+# The longest section runs beside the others, with a folder and counts of its own.
+mkdir "$work/beside" "$work/beside/room" && cp -R "$work/bin" "$work/beside/" || exit 2
+(
+    work=$work/beside
+    PATH=$work/bin:$PATH
+    . "$root/tests/memory.sh"
+    echo "$passed $failed $skipped" > "$work/counts"
+) &
+
+for section in documents commands transcripts texts conflicts warehouse plans tools files limits streams; do
     . "$root/tests/$section.sh"
 done
+
+wait
+{ read -r more_passed more_failed more_skipped < "$work/beside/counts"; } 2> /dev/null || more_failed=1
+passed=$((passed + more_passed)) failed=$((failed + more_failed)) skipped=$((skipped + more_skipped))
 
 [ "$skipped" = 0 ] || echo "examples: $skipped skipped"
 echo "examples: $passed passed, $failed failed"

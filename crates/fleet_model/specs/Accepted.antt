@@ -9,6 +9,11 @@ use Rattle.fleet_model.specs.Program.{Program, start_of, goal_of, moves, path, A
 use Rattle.fleet_model.specs.Chain.{IsNumbering}
 use Rattle.fleet_model.specs.Visit.{ComesAfter, IsOrderly}
 
+-- the program has an agent for each task, with its start and its goal
+pub record HasTasks (tasks : List Task) (p : Program) : Type 0 where
+  pub agents : length p ≡ length tasks
+  pub ends : (i : ℕ) (t : Task) → slice_get tasks i ≡ Some t → (start_of p i ≡ t.start) × (goal_of p i ≡ t.goal)
+
 -- for the passable places of a map and the tasks of an instance: there are as many agents as tasks, with the starts and goals of these,
 -- every place of every path is passable, every path ends on its goal, and every await can be met
 pub record IsRight (passable : Place → Bool) (tasks : List Task) (p : Program) : Type 0 where

@@ -94,7 +94,7 @@ broken_fault passable tasks p stays breaks found agent n c cell right all a m e 
     (found_fault passable tasks p stays agent n c right all a m e h b.first b.second (subst (IsListJudged (ComesAfter p) (visits_of (place_of c) stays)) is (found c cell)))
 
 -- a place without visits, or a cell
-some_cell : (p : Program) (q : Place) (stays : List PlacedVisit) → All (IsVisitPlaced p) stays → (visits_of q stays ≡ []) ⊎ ((c : Cell) × IsCell c × (place_of c ≡ q))
+pub some_cell : (p : Program) (q : Place) (stays : List PlacedVisit) → All (IsVisitPlaced p) stays → (visits_of q stays ≡ []) ⊎ ((c : Cell) × IsCell c × (place_of c ≡ q))
 unfolding visits_of
 some_cell p q [] h = inl refl
 some_cell p q (s ∷ stays) h = go (is_same_place (place_of s.cell) q) refl (some_cell p q stays (λ k d l. h (suc k) d (omega arith)))

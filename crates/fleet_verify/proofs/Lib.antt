@@ -44,3 +44,15 @@ pub mod BreakingExists
 pub mod Exact
 pub mod Broken
 pub mod ReachLaws
+pub mod Timed
+pub mod Critical
+pub mod Ticked
+pub mod OrdersAhead
+pub mod RunsRight
+pub mod HeldUp
+pub mod NeverStuck
+pub mod Ranked
+pub mod Begin
+pub mod NextLevel
+pub mod Beginning
+pub mod PieceLaws

@@ -14,7 +14,7 @@ use Rattle.fleet_model.specs.declared.program.Visit.{Visit}
 use Rattle.fleet_model.specs.Geometry.{place_of, is_same_place}
 use Rattle.fleet_model.specs.Machine.{run, is_finished, IsEnd, IsFinish}
 use Rattle.fleet_model.specs.Program.{Program, moves, actions_of, awaits_of, path, start_of, goal_of}
-use Rattle.fleet_model.specs.Chain.{IsLongestChain}
+use Rattle.fleet_model.specs.Chain.{IsLongestChain, IsNumbering}
 use Rattle.fleet_model.specs.Visit.{is_entry, IsVisitOf, ListsVisits, ComesAfter, IsOrderly}
 use Rattle.fleet_model.specs.Accepted.{IsAccepted}
 use Rattle.fleet_model.specs.Program.{AreInRange}
@@ -36,7 +36,7 @@ use Rattle.fleet_verify.proofs.FreeRun.{level, levels_are, order_all, IsOrder}
 
 -- ---- awaits
 
-has_action : (p : Program) (i n : ℕ) (w : Await) → Contains (awaits_of p i n) w → (i < length p) × (n ≤ moves p i)
+pub has_action : (p : Program) (i n : ℕ) (w : Await) → Contains (awaits_of p i n) w → (i < length p) × (n ≤ moves p i)
 has_action p i zero w (k, l, e) = absurd (omega arith)
 has_action p i (suc n) w h = (known p i n (inside (actions_of p i) n h), inside (actions_of p i) n h)
   where
@@ -55,7 +55,7 @@ ranges_all p h i n w k = let r = has_action p i n w k in (h i n r.0 r.1).met w k
 
 -- ---- lists
 
-contains_map : {X Y : Type 0} (f : X → Y) (xs : List X) (x : X) → Contains xs x → Contains (map f xs) (f x)
+pub contains_map : {X Y : Type 0} (f : X → Y) (xs : List X) (x : X) → Contains xs x → Contains (map f xs) (f x)
 contains_map f [] x h = absurd (contains_none x h)
 contains_map f (y ∷ xs) x h = elim (contains_cases y xs x h) [
   | inl e ↦ subst (λ z. Contains (f y ∷ map f xs) (f z)) e (contains_head (f y) (map f xs))
@@ -84,10 +84,10 @@ once lev l h j k v e g = elim (cases_order j k) [
 
 -- ---- the visits of a place
 
-abbrev is_at : Program → Place → Visit → Bool
+abbrev pub is_at : Program → Place → Visit → Bool
 is_at p q v = is_same_place (path p v.agent v.position) q
 
-visits_are : (p : Program) (q : Place) (stays : List PlacedVisit) → All (IsVisitPlaced p) stays → visits_of q stays ≡ filter (is_at p q) (map (λ s. s.visit) stays)
+pub visits_are : (p : Program) (q : Place) (stays : List PlacedVisit) → All (IsVisitPlaced p) stays → visits_of q stays ≡ filter (is_at p q) (map (λ s. s.visit) stays)
 unfolding visits_of
 visits_are p q [] h = refl
 visits_are p q (s ∷ stays) h = go (is_same_place (place_of s.cell) q) refl (visits_are p q stays (λ k d l. h (suc k) d (omega arith)))
@@ -178,8 +178,8 @@ module _ (p : Program) (t : ℕ) (end : IsEnd p [] t) (fin : is_finished p (run 
 
 -- ---- accepted
 
-pub accepted : (passable : Place → Bool) (tasks : List Task) (p : Program) (stays : List PlacedVisit) → HasRanges passable tasks p → AreAllPlaced p stays → IsOrderly ComesAfter p → IsAccepted passable tasks p
-accepted passable tasks p stays h all o = record {
+pub accepted_by : (passable : Place → Bool) (tasks : List Task) (p : Program) → HasRanges passable tasks p → (number : ActionId → ℕ) × IsNumbering p number → IsOrderly ComesAfter p → IsAccepted passable tasks p
+accepted_by passable tasks p h numbering o = record {
   right = record {
     agents = fleet;
     ends = ends;
@@ -187,7 +187,7 @@ accepted passable tasks p stays h all o = record {
     arrives = λ i l. (h.before.before.ends i l).arrives;
     in_range = ranges_all p h.ranges;
   };
-  numbering = (all.level, levels_number p all.level all.levels);
+  numbering = numbering;
   orderly = o;
 }
   where
@@ -200,6 +200,9 @@ accepted passable tasks p stays h all o = record {
         let s : Some t.start ≡ Some (start_of p i) = sym (ap (option_map (λ (u : Task). u.start)) e) ∙ h.before.before.before.starts i l in
         let g : Some t.goal ≡ Some (goal_of p i) = sym (ap (option_map (λ (u : Task). u.goal)) e) ∙ (h.before.before.ends i l).goal in
         (sym (same_Some t.start (start_of p i) s), sym (same_Some t.goal (goal_of p i) g))
+
+pub accepted : (passable : Place → Bool) (tasks : List Task) (p : Program) (stays : List PlacedVisit) → HasRanges passable tasks p → AreAllPlaced p stays → IsOrderly ComesAfter p → IsAccepted passable tasks p
+accepted passable tasks p stays h all o = accepted_by passable tasks p h (all.level, levels_number p all.level all.levels) o
 
 -- ---- a run without holds that arrives
 

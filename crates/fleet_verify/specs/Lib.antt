@@ -11,3 +11,5 @@ pub mod Rows
 pub mod Broken
 pub mod RefusalWords
 pub mod Reach
+pub mod Ahead
+pub mod Pieces

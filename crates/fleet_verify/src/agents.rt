@@ -106,7 +106,7 @@ fn judge_paths<P: ProgramView>(
 }
 
 /// Whether the goal of an agent is its task's, and this end of its path lies on it.
-fn ends_right<P: ProgramView>(program: &P, instance: &Instance, agent: u16, end: Place) -> bool
+pub fn ends_right<P: ProgramView>(program: &P, instance: &Instance, agent: u16, end: Place) -> bool
     requires before { HasStarts instance.now (P.program program.now) }
     requires agent { agent < length (P.program program.now) }
     requires end { end ≡ path (P.program program.now) agent (moves (P.program program.now) agent) }

@@ -8,8 +8,11 @@
 
 mod accepted;
 mod agents;
+mod ahead;
+mod ahead_laws;
 mod exactness;
 mod fault;
+mod level_row;
 mod open_pairs;
 mod order;
 mod orders;
@@ -17,11 +20,13 @@ mod path;
 mod reach;
 mod ring;
 mod runs;
+mod schedules;
 mod unheld_run;
 mod verifier;
 mod visit_order;
 
 pub use accepted::{Accepted, Refused};
+pub use ahead_laws::{begun_visits_are_orderly, counted_levels_are_levels};
 pub use exactness::{
     acceptance_is_exact, breaking_holds_are_one_list, breaking_holds_by_rows,
     breaking_holds_end_in_a_conflict, listed_visits_are_chained, unordered_visits_are_found,
@@ -35,5 +40,10 @@ pub use reach::Reach;
 pub use runs::{
     levels_rise, orders_are_given_once, ready_moves_are_apart, reports_make_a_run, runs_are_safe,
     runs_arrive, runs_end, ticks_are_safe, visits_come_in_turn,
+};
+pub use schedules::{
+    acceptance_is_exact_for_tasks, actions_are_finished_in_time, orders_may_be_given_ahead,
+    runs_are_schedules, runs_follow_critical_paths, schedules_are_never_stuck, schedules_are_safe,
+    schedules_end_in_time, schedules_need_acceptance,
 };
 pub use verifier::verify;

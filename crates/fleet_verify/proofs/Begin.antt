@@ -1,0 +1,172 @@
+-- Visits that begin in any order.
+use Rattle.std.proofs.Common.{◌≡◌, ◌≢◌, ℕ, suc, ◌+◌, ◌<◌, ◌≤◌, Bool, List, [], ◌∷◌, ◌++◌, length, get_or, Some, slice_get, refl, ap, sym, ◌∙◌, subst, arith, inl, inr, ◌⊎◌}
+use Rattle.std.specs.Prelude.{Contains}
+use Rattle.std.specs.List.{filter, AllPairs}
+use Rattle.std.proofs.lemmas.Bool.{cases_order, cases_eq, cases_lt}
+use Rattle.std.proofs.lemmas.List.{get_or_default}
+use Rattle.std.proofs.lemmas.List.Kept.{AllPairs-filter}
+use Rattle.std.proofs.lemmas.List.Elements.{Contains-push, Contains-append_left}
+use Rattle.std.proofs.lemmas.List.Quantifiers.{all_pairs_push}
+use Rattle.std.proofs.lemmas.Option.{slice_get_within, get_or_from_slice_get, slice_get-get_or}
+use Rattle.fleet_model.specs.declared.geometry.Cell.{Cell}
+use Rattle.fleet_model.specs.declared.geometry.Place.{Place}
+use Rattle.fleet_model.specs.declared.program.Visit.{Visit}
+use Rattle.fleet_model.specs.Geometry.{place_of, is_same_place}
+use Rattle.fleet_model.specs.Program.{Program, moves, path, AreInRange, IsCell}
+use Rattle.fleet_model.specs.Visit.{is_entry, IsVisitOf, ListsVisits, Adjacent, ComesAfter, ComesAfterByAwait, IsOrderly}
+use Rattle.fleet_model.proofs.Places.{is_same_place-true, is_same_place-eq}
+use Rattle.fleet_verify.specs.Ahead.{AreBegun}
+use Rattle.fleet_verify.specs.Faults.{StandsRight, EachAction}
+use Rattle.fleet_verify.specs.Order.{visits_of, entries, AreAdded, AreConsecutive}
+use Rattle.fleet_verify.specs.declared.visit_order.VisitOrder.{VisitOrder}
+use Rattle.fleet_verify.specs.declared.visit_order.OpenPair.{OpenPair}
+use Rattle.fleet_verify.proofs.Judged.{some_cell}
+use Rattle.fleet_verify.proofs.Listing.{adjacent_chains}
+use Rattle.fleet_verify.proofs.Members.{filter_has, filter_from, contains_none, contains_cases}
+use Rattle.fleet_verify.proofs.Neighbours.{adjacent_from}
+use Rattle.fleet_verify.proofs.Stays.{visits_are, is_at}
+
+same_visit : (v w : Visit) → v.agent ≡ w.agent → v.position ≡ w.position → v ≡ w
+same_visit v w e g = λ i. record { agent = e i; position = g i }
+
+distinct_once : (l : List Visit) → AllPairs (λ (v w : Visit). v ≢ w) l → (j k : ℕ) (v : Visit) → slice_get l j ≡ Some v → slice_get l k ≡ Some v → j ≡ k
+distinct_once l h j k v e g = elim (cases_order j k) [
+  | inl s ↦ s
+  | inr (inl m) ↦ absurd (h j k v m (slice_get_within l k v g) (at j e ∙ sym (at k g)))
+  | inr (inr m) ↦ absurd (h k j v m (slice_get_within l j v e) (at k g ∙ sym (at j e)))
+]
+  where
+    at : (i : ℕ) → slice_get l i ≡ Some v → get_or l i v ≡ v
+    at i f = get_or_from_slice_get l i v v f
+
+push_cases : (vs : List Visit) (v w : Visit) → Contains (vs ++ v ∷ []) w → Contains vs w ⊎ (w ≡ v)
+push_cases [] v w c = elim (contains_cases v [] w c) [ inl e ↦ inr (sym e) | inr k ↦ absurd (contains_none w k) ]
+push_cases (u ∷ vs) v w c = elim (contains_cases u (vs ++ v ∷ []) w c) [
+  | inl e ↦ inl (0, omega arith, e)
+  | inr k ↦ (elim (push_cases vs v w k) [ inl (m, l, e) ↦ inl (suc m, omega arith, e) | inr e ↦ inr e ])
+]
+
+module _ (passable : Place → Bool) (p : Program) where
+  -- none have begun
+  pub begun_none : (begun : ℕ → ℕ) (visits : VisitOrder) → ((i : ℕ) → i < length p → begun i ≡ 0) → AreAdded p [] visits → AreBegun passable p begun visits
+  begun_none begun visits none added = record {
+    positions = [];
+    all = λ v a l. absurd (omega (arith, none v.agent a));
+    only = λ v c. absurd (contains_none v c);
+    distinct = λ i j d l m. absurd (omega arith);
+    on_ground = λ i n a l. absurd (omega (arith, none i a));
+    added = added;
+  }
+
+  -- the next position of agent i begins
+  pub begun_more : (old new : ℕ → ℕ) (i : ℕ) (before after : VisitOrder) → AreBegun passable p old before → i < length p → new i ≡ old i + 1 → ((j : ℕ) → j ≢ i → new j ≡ old j)
+      → StandsRight passable p i (old i) → ((vs : List Visit) → AreAdded p vs before → AreAdded p (vs ++ record { agent = i; position = old i } ∷ []) after) → AreBegun passable p new after
+  begun_more old new i before after h agent own others ground adds = record {
+    positions = h.positions ++ next ∷ [];
+    all = all;
+    only = only;
+    distinct = all_pairs_push (λ (v w : Visit). v ≢ w) h.positions next h.distinct (λ k d l e. fresh (subst (Contains h.positions) e (k, l, get_or_default h.positions k (get_or h.positions k d) d l)));
+    on_ground = on_ground;
+    added = adds h.positions h.added;
+  }
+    where
+      next : Visit
+      next = record { agent = i; position = old i }
+
+      fresh : Contains h.positions next → ⊥
+      fresh c = omega (arith, (h.only next c).1)
+
+      all : (v : Visit) → v.agent < length p → v.position < new v.agent → Contains (h.positions ++ next ∷ []) v
+      all v a l = elim (cases_eq v.agent i) [
+        | inr ne ↦ Contains-append_left h.positions (next ∷ []) v (h.all v a (omega (arith, l, others v.agent ne)))
+        | inl e ↦ (elim (cases_lt v.position (old v.agent)) [
+          | inl k ↦ Contains-append_left h.positions (next ∷ []) v (h.all v a k)
+          | inr k ↦
+              let up : v.position < new i = subst (λ j. v.position < new j) e l in
+              let low : old i ≤ v.position = subst (λ j. old j ≤ v.position) e k in
+              subst (Contains (h.positions ++ next ∷ [])) (same_visit next v (sym e) (omega (arith, own))) (Contains-push h.positions next)
+        ])
+      ]
+
+      only : (v : Visit) → Contains (h.positions ++ next ∷ []) v → (v.agent < length p) × (v.position < new v.agent)
+      only v c = elim (push_cases h.positions next v c) [
+        | inl k ↦ (let r = h.only v k in (r.0, grows v.agent v.position r.1))
+        | inr e ↦ subst (λ (w : Visit). (w.agent < length p) × (w.position < new w.agent)) (sym e) (agent, omega (arith, own))
+      ]
+        where
+          grows : (j n : ℕ) → n < old j → n < new j
+          grows j n l = elim (cases_eq j i) [
+            | inl e ↦ subst (λ k. n < old k → n < new k) (sym e) (λ m. omega (arith, m, own)) l
+            | inr ne ↦ omega (arith, l, others j ne)
+          ]
+
+      on_ground : (j n : ℕ) → j < length p → n < new j → StandsRight passable p j n
+      on_ground j n a l = elim (cases_eq j i) [
+        | inr ne ↦ h.on_ground j n a (omega (arith, l, others j ne))
+        | inl e ↦ (elim (cases_lt n (old j)) [
+          | inl k ↦ h.on_ground j n a k
+          | inr k ↦
+              let up : n < new i = subst (λ m. n < new m) e l in
+              let low : old i ≤ n = subst (λ m. old m ≤ n) e k in
+              let same : old i ≡ n = omega (arith, own) in
+              subst (λ (m : ℕ). StandsRight passable p m n) (sym e) (subst (λ (m : ℕ). StandsRight passable p i m) same ground)
+        ])
+      ]
+
+  -- all have begun
+  module _ (begun : ℕ → ℕ) (visits : VisitOrder) (h : AreBegun passable p begun visits) (whole : (i : ℕ) → i < length p → begun i ≡ moves p i + 1) where
+    pub begun_ground : EachAction p (StandsRight passable p)
+    begun_ground i n a l = h.on_ground i n a (omega (arith, l, whole i a))
+
+    lists : (q : Place) → ListsVisits p q (visits_of q h.added.placed)
+    lists q = subst (ListsVisits p q) (sym same) (record {
+      all = all;
+      only = λ k d m. only (get_or l k d) (k, m, get_or_default l k (get_or l k d) d m);
+      once = distinct_once l (AllPairs-filter (λ (v w : Visit). v ≢ w) (is_at p q) (entries p h.positions) (AllPairs-filter (λ (v w : Visit). v ≢ w) (λ (w : Visit). is_entry p w.agent w.position) h.positions h.distinct));
+    })
+      where
+        l : List Visit
+        l = filter (is_at p q) (entries p h.positions)
+
+        same : visits_of q h.added.placed ≡ l
+        same = visits_are p q h.added.placed h.added.each ∙ ap (filter (is_at p q)) h.added.same
+
+        all : (v : Visit) → IsVisitOf p q v → Contains l v
+        all v is =
+            filter_has (is_at p q) (entries p h.positions) v
+            (filter_has (λ (w : Visit). is_entry p w.agent w.position) h.positions v (h.all v is.agent (omega (arith, is.position, whole v.agent is.agent))) is.entered)
+            (ap (λ r. is_same_place r q) is.place ∙ is_same_place-eq q q refl)
+
+        only : (v : Visit) → Contains l v → IsVisitOf p q v
+        only v c =
+            let f = filter_from (is_at p q) (entries p h.positions) v c in
+            let e = filter_from (λ (w : Visit). is_entry p w.agent w.position) h.positions v f.0 in
+            let r = h.only v e.0 in
+            record { agent = r.0; position = omega (arith, r.1, whole v.agent r.0); entered = e.1; place = is_same_place-true (path p v.agent v.position) q f.1 }
+
+    pub begun_orderly : AreInRange p → visits.pairs.items ≡ [] → IsOrderly ComesAfter p
+    begun_orderly range closed q = (visits_of q h.added.placed, lists q, in_turn)
+      where
+        chained : (c : Cell) → IsCell c → Adjacent (ComesAfterByAwait p) (visits_of (place_of c) h.added.placed)
+        chained c cell = adjacent_from (ComesAfterByAwait p) vs (λ k d m. next k d m)
+          where
+            vs : List Visit
+            vs = visits_of (place_of c) h.added.placed
+
+            next : (k : ℕ) (d : Visit) → suc k < length vs → ComesAfterByAwait p (get_or vs k d) (get_or vs (suc k) d)
+            next k d m =
+                let n : AreConsecutive vs (get_or vs k d) (get_or vs (suc k) d) = record {
+                  at = k;
+                  here = slice_get-get_or vs k d (omega arith);
+                  next = ap (slice_get vs) (omega arith) ∙ slice_get-get_or vs (suc k) d m;
+                } in
+                elim ((h.added.grouped.cells c cell).next (get_or vs k d) (get_or vs (suc k) d) n) [
+                  | inl a ↦ a
+                  | inr o ↦ absurd (contains_none _ (subst (λ (os : List OpenPair). Contains os (record { cell = c; first = get_or vs k d; second = get_or vs (suc k) d })) closed o))
+                ]
+
+        in_turn : Adjacent (ComesAfter p) (visits_of q h.added.placed)
+        in_turn = adjacent_chains p range q (visits_of q h.added.placed) (lists q).only (elim (some_cell p q h.added.placed h.added.each) [
+          | inl e ↦ subst (Adjacent (ComesAfterByAwait p)) (sym e) tt
+          | inr (c, cell, here) ↦ subst (λ (r : Place). Adjacent (ComesAfterByAwait p) (visits_of r h.added.placed)) here (chained c cell)
+        ])

@@ -1,0 +1,198 @@
+-- The agents one after another: on their starts, and at their ends.
+use Rattle.std.proofs.Common.{◌≡◌, ℕ, zero, suc, ◌+◌, ◌-◌, ◌<◌, ◌≤◌, Bool, List, [], ◌∷◌, ◌++◌, length, get_or, slice_index, max, refl, sym, ap, ◌∙◌, subst, arith, inl, inr, ◌⊎◌}
+use Rattle.std.specs.Prelude.{IsTrue}
+use Rattle.std.proofs.lemmas.Bool.{cases_eq, cases_lt}
+use Rattle.std.proofs.lemmas.List.{get_or_append_left, get_or-append_right, length-append}
+use Rattle.std.proofs.Math.Seq.{get_or-append_seam}
+use Rattle.fleet_model.specs.declared.geometry.Cell.{Cell}
+use Rattle.fleet_model.specs.declared.geometry.Place.{Place}
+use Rattle.fleet_model.specs.declared.program.ActionId.{ActionId}
+use Rattle.fleet_model.specs.declared.program.Visit.{Visit}
+use Rattle.fleet_model.specs.declared.task.Task.{Task}
+use Rattle.fleet_model.specs.Chain.{IsNumbering}
+use Rattle.fleet_model.specs.Geometry.{place_of}
+use Rattle.fleet_model.specs.Program.{Program, origin, start_of, moves, path, AreInRange, IsWellFormed}
+use Rattle.fleet_model.proofs.Reaching.{own_reach, Reaches-rises}
+use Rattle.fleet_grid.specs.Ground.{Ground, is_passable}
+use Rattle.fleet_verify.specs.Ahead.{AreCountedUp, IsTop, IsAhead, AreBegun, count_in, level_in}
+use Rattle.fleet_verify.specs.Faults.{HasStarts, HasRanges, EndsRight, StandsRight}
+use Rattle.fleet_verify.specs.Order.{AreAdded}
+use Rattle.fleet_verify.specs.Parts.{IsAcceptedFor}
+use Rattle.fleet_verify.specs.declared.ahead.Ahead.{Ahead}
+use Rattle.fleet_verify.specs.declared.visit_order.VisitOrder.{VisitOrder}
+use Rattle.fleet_verify.proofs.Begin.{begun_none, begun_more, begun_ground, begun_orderly}
+use Rattle.fleet_verify.proofs.Ranked.{none_ranked, all_counted, all_in_range, counted_numbering, top_longest}
+use Rattle.fleet_verify.proofs.Stays.{accepted_by}
+
+-- 1 for the agents below n, and 0 for the others
+abbrev pub started : ℕ → ℕ → ℕ
+started n i = (n - i) - (n - i - 1)
+
+-- the first n agents are on their starts
+pub record IsBeginning (passable : Place → Bool) (p : Program) (n : ℕ) (a : Ahead) : Type 0 where
+  pub rows : length a.rows.items ≡ n
+  pub cells : length a.cells.items ≡ n
+  pub none : (i : ℕ) → get_or a.rows.items i [] ≡ []
+  pub here : (i : ℕ) → i < n → get_or a.cells.items i origin ≡ start_of p i
+  pub begun : AreBegun passable p (started n) a.visits
+
+pub beginning_first : (passable : Place → Bool) (p : Program) (a : Ahead) → a.rows.items ≡ [] → a.cells.items ≡ [] → AreAdded p [] a.visits → IsBeginning passable p 0 a
+beginning_first passable p a rows cells added = record {
+  rows = ap (λ (xs : List (List ℕ)). length xs) rows;
+  cells = ap (λ (xs : List Cell). length xs) cells;
+  none = λ i. ap (λ (xs : List (List ℕ)). get_or xs i []) rows;
+  here = λ i l. absurd (omega arith);
+  begun = begun_none passable p (started 0) a.visits (λ i l. omega arith) added;
+}
+
+pub beginning_more : (passable : Place → Bool) (p : Program) (n : ℕ) (old new : Ahead) (cell : Cell) → IsBeginning passable p n old → n < length p → cell ≡ start_of p n → IsTrue (passable (place_of cell))
+    → new.rows.items ≡ old.rows.items ++ [] ∷ [] → new.cells.items ≡ old.cells.items ++ cell ∷ []
+    → ((visits : List Visit) → AreAdded p visits old.visits → AreAdded p (visits ++ record { agent = n; position = 0 } ∷ []) new.visits) → IsBeginning passable p (n + 1) new
+beginning_more passable p n old new cell h agent start ground rows cells added = record {
+  rows = ap (λ (xs : List (List ℕ)). length xs) rows ∙ (length-append old.rows.items ([] ∷ []) ∙ ap (λ m. m + 1) h.rows);
+  cells = ap (λ (xs : List Cell). length xs) cells ∙ (length-append old.cells.items (cell ∷ []) ∙ ap (λ m. m + 1) h.cells);
+  none = λ i. ap (λ (xs : List (List ℕ)). get_or xs i []) rows ∙ none i;
+  here = λ i l. ap (λ (xs : List Cell). get_or xs i origin) cells ∙ here i l;
+  begun = begun_more passable p (started n) (started (n + 1)) n old.visits new.visits h.begun agent (omega arith) (λ j ne. omega arith)
+      (subst (λ (m : ℕ). StandsRight passable p n m) zero_of (subst (λ (c : Cell). IsTrue (passable (place_of c))) start ground))
+      (subst (λ (m : ℕ). (visits : List Visit) → AreAdded p visits old.visits → AreAdded p (visits ++ record { agent = n; position = m } ∷ []) new.visits) zero_of added);
+}
+  where
+    zero_of : 0 ≡ started n n
+    zero_of = omega arith
+
+    one : (k : ℕ) → get_or ([] ∷ []) k [] ≡ ◌++◌ {A = ℕ} [] []
+    one zero = refl
+    one (suc k) = refl
+
+    none : (i : ℕ) → get_or (old.rows.items ++ [] ∷ []) i [] ≡ []
+    none i = elim (cases_lt i n) [
+      | inl l ↦ get_or_append_left old.rows.items ([] ∷ []) [] i (omega (arith, l, h.rows)) ∙ h.none i
+      | inr l ↦ get_or-append_right old.rows.items ([] ∷ []) n i [] h.rows l ∙ one (i - n)
+    ]
+
+    here : (i : ℕ) → i < n + 1 → get_or (old.cells.items ++ cell ∷ []) i origin ≡ start_of p i
+    here i l = elim (cases_lt i n) [
+      | inl k ↦ get_or_append_left old.cells.items (cell ∷ []) origin i (omega (arith, k, h.cells)) ∙ h.here i k
+      | inr k ↦
+          let e : i ≡ length old.cells.items = omega (arith, k, h.cells) in
+          let f : n ≡ i = omega (arith, k) in
+          ap (λ m. get_or (old.cells.items ++ cell ∷ []) m origin) e ∙ (get_or-append_seam old.cells.items cell [] origin ∙ (start ∙ ap (start_of p) f))
+    ]
+
+begun_same : (passable : Place → Bool) (p : Program) (old new : ℕ → ℕ) (visits : VisitOrder) → AreBegun passable p old visits → ((i : ℕ) → i < length p → new i ≡ old i) → AreBegun passable p new visits
+begun_same passable p old new visits h same = record {
+  positions = h.positions;
+  all = λ v a l. h.all v a (omega (arith, l, same v.agent a));
+  only = λ v c. let r = h.only v c in (r.0, omega (arith, r.1, same v.agent r.0));
+  distinct = h.distinct;
+  on_ground = λ i n a l. h.on_ground i n a (omega (arith, l, same i a));
+  added = h.added;
+}
+
+pub beginning_all : (passable : Place → Bool) (p : Program) (n : ℕ) (a : Ahead) → IsBeginning passable p n a → n ≡ length p → IsAhead passable p a
+beginning_all passable p n a h all = record {
+  rows = h.rows ∙ all;
+  cells = h.cells ∙ all;
+  ranked = none_ranked p a.rows.items zeros;
+  here = λ i l. ap place_of (h.here i (omega (arith, l, all))) ∙ ap (path p i) (sym (zeros i));
+  begun = begun_same passable p (started n) (λ i. count_in a.rows.items i + 1) a.visits h.begun (λ i l. omega (arith, zeros i, l, all));
+}
+  where
+    zeros : (i : ℕ) → count_in a.rows.items i ≡ 0
+    zeros i = ap (λ (row : List ℕ). length row) (h.none i)
+
+-- ---- the ends
+
+-- the first n agents have finished all actions and stand where they are to end, and the chain is the greatest of their levels
+pub record AreDone (tasks : List Task) (p : Program) (rows : List (List ℕ)) (n chain : ℕ) : Type 0 where
+  pub whole : (i : ℕ) → i < n → count_in rows i ≡ moves p i
+  pub ends : (i : ℕ) → i < n → EndsRight tasks p i
+  pub some : (chain ≡ 0) ⊎ ((a : ActionId) × (a.agent < n) × (1 ≤ a.number) × (a.number ≤ count_in rows a.agent) × (chain ≡ level_in rows a))
+  pub most : (i : ℕ) → i < n → slice_index (get_or rows i []) (count_in rows i - 1) ≤ chain
+
+pub done_none : (tasks : List Task) (p : Program) (rows : List (List ℕ)) → AreDone tasks p rows 0 0
+done_none tasks p rows = record { whole = λ i l. absurd (omega arith); ends = λ i l. absurd (omega arith); some = inl refl; most = λ i l. absurd (omega arith) }
+
+pub done_more : (tasks : List Task) (p : Program) (rows : List (List ℕ)) (n chain : ℕ) → AreDone tasks p rows n chain → count_in rows n ≡ moves p n → EndsRight tasks p n
+    → (last new : ℕ) → last ≡ slice_index (get_or rows n []) (count_in rows n - 1) → new ≡ max chain last → AreDone tasks p rows (n + 1) new
+done_more tasks p rows n chain h whole ends last new is e = record {
+  whole = λ i l. elim (cases_eq i n) [ inl f ↦ subst (λ j. count_in rows j ≡ moves p j) (sym f) whole | inr ne ↦ h.whole i (omega (arith, l, ne)) ];
+  ends = λ i l. elim (cases_eq i n) [ inl f ↦ subst (EndsRight tasks p) (sym f) ends | inr ne ↦ h.ends i (omega (arith, l, ne)) ];
+  some = some (cases_lt chain last);
+  most = λ i l. elim (cases_eq i n) [
+    | inl f ↦ subst (λ j. slice_index (get_or rows j []) (count_in rows j - 1) ≤ new) (sym f) (omega (arith, is, high))
+    | inr ne ↦ omega (arith, h.most i (omega (arith, l, ne)), low)
+  ];
+}
+  where
+    low : chain ≤ new
+    low = grind (arith, e)
+
+    high : last ≤ new
+    high = grind (arith, e)
+
+    some : (chain < last) ⊎ (last ≤ chain) → (new ≡ 0) ⊎ ((a : ActionId) × (a.agent < n + 1) × (1 ≤ a.number) × (a.number ≤ count_in rows a.agent) × (new ≡ level_in rows a))
+    some (inr l) =
+        let f : new ≡ chain = grind (arith, e, l) in
+        elim h.some [ inl z ↦ inl (f ∙ z) | inr (a, k, o, m, g) ↦ inr (a, omega (arith, k), o, m, f ∙ g) ]
+    some (inl l) =
+        let f : new ≡ last = grind (arith, e, l) in
+        elim (cases_eq (count_in rows n) 0) [
+          | inl none ↦ inl (f ∙ (is ∙ ap (λ (row : List ℕ). slice_index row (count_in rows n - 1)) (Rattle.fleet_verify.proofs.Ordered.no_entries (get_or rows n []) none)))
+          | inr ne ↦ inr (record { agent = n; number = count_in rows n }, omega arith, omega (arith, ne), omega arith, f ∙ is)
+        ]
+
+pub ahead_accepted : (grid : Ground) (tasks : List Task) (p : Program) (a : Ahead) (n chain : ℕ) → IsWellFormed p → HasStarts tasks p → IsAhead (is_passable grid) p a
+    → AreDone tasks p a.rows.items n chain → length p ≤ n → a.visits.pairs.items ≡ [] → IsAcceptedFor grid tasks p chain
+ahead_accepted grid tasks p a n chain wf starts h done all closed = record {
+  accepted = accepted_by passable tasks p ranges (level, numbering) (begun_orderly passable p begun a.visits h.begun come range closed);
+  longest = top_longest p level counted chain top;
+}
+  where
+    passable : Place → Bool
+    passable = is_passable grid
+
+    rows : List (List ℕ)
+    rows = a.rows.items
+
+    level : ActionId → ℕ
+    level = level_in rows
+
+    whole : (i : ℕ) → i < length p → count_in rows i ≡ moves p i
+    whole i l = done.whole i (omega (arith, l, all))
+
+    begun : ℕ → ℕ
+    begun = λ i. count_in rows i + 1
+
+    come : (i : ℕ) → i < length p → begun i ≡ moves p i + 1
+    come i l = ap (λ m. m + 1) (whole i l)
+
+    counted : AreCountedUp p level
+    counted = all_counted p rows h.ranked whole
+
+    numbering : IsNumbering p level
+    numbering = counted_numbering p level counted
+
+    range : AreInRange p
+    range = all_in_range p rows h.ranked whole wf
+
+    ranges : HasRanges passable tasks p
+    ranges = record {
+      before = record { before = record { before = starts; ends = λ i l. done.ends i (omega (arith, l, all)) }; steps = begun_ground passable p begun a.visits h.begun come };
+      ranges = λ i m l k. record { met = range i m };
+    }
+
+    top : IsTop p level chain
+    top = record {
+      some = elim done.some [
+        | inl z ↦ inl z
+        | inr (b, k, o, m, g) ↦ inr (b, Rattle.fleet_verify.proofs.Ranked.is_action p rows h.ranked.within b (record { first = o; last = m }), g)
+      ];
+      most = λ b act.
+          let last : ActionId = record { agent = b.agent; number = moves p b.agent } in
+          let up : level b ≤ level last = Reaches-rises p level numbering b last (own_reach p b.agent b.number (moves p b.agent) act.agent act.first act.last (omega arith)) in
+          let high : slice_index (get_or rows b.agent []) (count_in rows b.agent - 1) ≤ chain = done.most b.agent (omega (arith, act.agent, all)) in
+          let same : level last ≡ slice_index (get_or rows b.agent []) (count_in rows b.agent - 1) = ap (λ m. slice_index (get_or rows b.agent []) (m - 1)) (sym (whole b.agent act.agent)) in
+          omega (arith, up, high, same);
+    }

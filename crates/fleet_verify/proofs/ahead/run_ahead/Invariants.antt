@@ -1,0 +1,10 @@
+use Rattle.std.proofs.Common.{◌≡◌, length}
+use Rattle.fleet_grid.specs.Ground.{is_passable}
+use Rattle.fleet_verify.specs.Ahead.{IsAhead}
+use Rattle.fleet_verify.proofs.ahead.run_ahead.Given as goal
+
+abbrev pub invariant-loop : goal.invariant-loop
+invariant-loop g l = record {
+  ahead : IsAhead (is_passable l.grid) (g.P.ProgramView.program l.program) l.ahead;
+  queue : l.queue ≡ length (g.P.ProgramView.program l.program);
+}

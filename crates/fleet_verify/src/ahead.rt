@@ -1,0 +1,408 @@
+//! A verifier without ticks: each agent runs on as far as its awaits allow. It only says yes.
+
+ghost use Rattle.std.specs.Prelude.{◌≡◌, ◌<◌, ◌≤◌, ◌+◌, ℕ, length, IfOk, IfErr, IfSome, OnOk, List, set, get_or, [], ◌∷◌, ◌++◌, ◌-◌, All};
+ghost use Rattle.fleet_model.specs.declared.program.Visit.{Visit};
+ghost use Rattle.fleet_model.specs.Geometry.{place_of};
+ghost use Rattle.fleet_verify.specs.Order.{AreAdded};
+ghost use Rattle.fleet_model.specs.Program.{Program, start_of, moves, path};
+ghost use Rattle.fleet_grid.specs.Ground.{is_passable};
+ghost use Rattle.fleet_verify.specs.Ahead.{IsAhead, IsNext, IsNextLevel, AddsLevel, count_in};
+ghost use Rattle.fleet_verify.specs.Faults.{HasStarts};
+ghost use Rattle.fleet_verify.specs.Parts.{IsAcceptedFor};
+
+use crate::agents::ends_right;
+use crate::level_row::LevelRow;
+use crate::path::cell_after;
+use crate::unheld_run::Stop;
+use crate::visit_order::{PlacedVisit, VisitOrder, number_of};
+use fleet_grid::Grid;
+use fleet_model::{Await, Cell, OutOfMemory, Place, ProgramView, Visit, total_moves};
+use fleet_scen::Instance;
+use std::alloc::Global;
+use std::marker::Model;
+
+/// Agents that have run ahead: for each agent the levels of its finished actions, and the cell that it is on; and the
+/// visits that have begun.
+#[derive(Drop)]
+pub struct Ahead {
+    pub rows: Vec<LevelRow>,
+    pub cells: Vec<Cell>,
+    pub visits: VisitOrder,
+}
+
+/// The levels of an agent's finished actions.
+#[inline]
+fn row_of(rows: &Vec<LevelRow>, agent: u16) -> &LevelRow
+    requires { agent < length rows.now.items }
+    ensures { result.now ≡ get_or rows.now.items agent [] }
+{
+    &rows[usize::from(agent)]
+}
+
+/// The level of the agent's next action, or an await of it that is not met.
+fn next_level<P: ProgramView>(
+    program: &P,
+    rows: &Vec<LevelRow>,
+    agent: u16,
+    number: u32,
+) -> Result<u32, Await>
+    requires rows { length rows.now.items ≡ length (P.program program.now) }
+    requires next { IsNext (P.program program.now) rows.now.items agent number }
+    ensures level { IfOk result (IsNextLevel (P.program program.now) rows.now.items agent) }
+    ensures waits { IfErr result (λ w. w.agent < length (P.program program.now)) }
+{
+    let _agents = program.agents();
+    let mut least = row_of(rows, agent).last();
+    for k in 0..program.await_count(agent, number) {
+        let awaited = program.await_at(agent, number, k);
+        match row_of(rows, awaited.agent).level(awaited.count) {
+            Some(level) => {
+                least = least.max(level);
+            }
+            None => return Err(awaited),
+        }
+    }
+    if least == u32::MAX {
+        return Err(Await {
+            agent,
+            count: number,
+        });
+    }
+    Ok(least + 1)
+}
+
+/// Finishes the agent's next action, if it leads to passable ground.
+fn finish_next<P: ProgramView>(
+    program: &P,
+    grid: &Grid,
+    ahead: &mut Ahead,
+    agent: u16,
+    number: u32,
+    level: u32,
+) -> Result<(), Stop>
+    requires ahead { IsAhead (is_passable grid.now) (P.program program.now) ahead.old }
+    requires next { IsNext (P.program program.now) ahead.old.rows.items agent number }
+    requires level { IsNextLevel (P.program program.now) ahead.old.rows.items agent level }
+    ensures ahead { OnOk result (IsAhead (is_passable grid.now) (P.program program.now) ahead.new) }
+    ensures count { OnOk result (count_in ahead.new.rows.items agent ≡ number) }
+{
+    let from = ahead.cells[usize::from(agent)];
+    let Some(cell) = cell_after(grid, from, program.step(agent, number)) else {
+        return Err(Stop::OffGround);
+    };
+    let visit = Visit {
+        agent,
+        position: number,
+    };
+    note(program, ahead, PlacedVisit { visit, cell }, level)?;
+    Ok(())
+}
+
+/// Notes that the agent of a visit has come there by its next action, which has this level.
+fn note<P: ProgramView>(
+    program: &P,
+    ahead: &mut Ahead,
+    placed: PlacedVisit,
+    level: u32,
+) -> Result<(), OutOfMemory>
+    requires rows { length ahead.old.rows.items ≡ length (P.program program.now) }
+    requires cells { length ahead.old.cells.items ≡ length (P.program program.now) }
+    requires next { IsNext (P.program program.now) ahead.old.rows.items placed.visit.agent
+        placed.visit.position }
+    requires here { place_of placed.cell ≡ path (P.program program.now) placed.visit.agent
+        placed.visit.position }
+    ensures rows { OnOk result (length ahead.new.rows.items ≡ length (P.program program.now)) }
+    ensures cells { OnOk result (ahead.new.cells.items
+        ≡ set ahead.old.cells.items placed.visit.agent placed.cell) }
+    ensures level { OnOk result (AddsLevel ahead.old.rows.items ahead.new.rows.items
+        placed.visit.agent level) }
+    ensures added { OnOk result ((visits : List Visit)
+        → AreAdded (P.program program.now) visits ahead.old.visits
+        → AreAdded (P.program program.now) (visits ++ placed.visit ∷ []) ahead.new.visits) }
+{
+    let PlacedVisit { visit, cell } = placed;
+    let _agents = program.agents();
+    let _number = number_of(cell);
+    ahead.visits.add(program, placed)?;
+    ahead.cells[usize::from(visit.agent)] = cell;
+    ahead.rows[usize::from(visit.agent)].push(level)?;
+    Ok(())
+}
+
+/// All agents on their starts, if these are passable.
+fn begin<P: ProgramView>(alloc: Global, program: &P, grid: &Grid) -> Result<Ahead, Stop>
+    ensures { IfOk result (IsAhead (is_passable grid.now) (P.program program.now)) }
+{
+    let agents = program.agents();
+    let mut ahead = empty(alloc);
+    for agent in 0..agents {
+        let cell = program.start(agent);
+        if !grid.passable(cell) {
+            return Err(Stop::OffGround);
+        }
+        begin_agent(alloc, program, agent, cell, &mut ahead)?;
+    }
+    Ok(ahead)
+}
+
+/// No agents.
+fn empty(alloc: Global) -> Ahead
+    ensures rows { result.rows.items ≡ [] }
+    ensures cells { result.cells.items ≡ [] }
+    ensures visits { (p : Program) → AreAdded p [] result.visits }
+{
+    Ahead {
+        rows: Vec::new(alloc),
+        cells: Vec::new(alloc),
+        visits: VisitOrder::new(alloc),
+    }
+}
+
+/// One more agent, on its start.
+fn begin_agent<P: ProgramView>(
+    alloc: Global,
+    program: &P,
+    agent: u16,
+    cell: Cell,
+    ahead: &mut Ahead,
+) -> Result<(), OutOfMemory>
+    requires agent { agent < length (P.program program.now) }
+    requires start { cell ≡ start_of (P.program program.now) agent }
+    ensures rows { OnOk result (ahead.new.rows.items ≡ ahead.old.rows.items ++ [] ∷ []) }
+    ensures cells { OnOk result (ahead.new.cells.items ≡ ahead.old.cells.items ++ cell ∷ []) }
+    ensures added { OnOk result ((visits : List Visit)
+        → AreAdded (P.program program.now) visits ahead.old.visits
+        → AreAdded (P.program program.now)
+        (visits ++ record { agent = agent; position = 0 } ∷ []) ahead.new.visits) }
+{
+    let _agents = program.agents();
+    let row = LevelRow::new(alloc);
+    ahead.rows.push(row)?;
+    ahead.cells.push(cell)?;
+    let visit = Visit { agent, position: 0 };
+    ahead.visits.add(program, PlacedVisit { visit, cell })?;
+    Ok(())
+}
+
+/// Lets an agent run on as far as its awaits allow, and answers the await that it then waits for, if any.
+fn run_agent<P: ProgramView>(
+    program: &P,
+    grid: &Grid,
+    ahead: &mut Ahead,
+    agent: u16,
+) -> Result<Option<Await>, Stop>
+    requires ahead { IsAhead (is_passable grid.now) (P.program program.now) ahead.old }
+    requires agent { agent < length (P.program program.now) }
+    ensures ahead { OnOk result (IsAhead (is_passable grid.now) (P.program program.now) ahead.new) }
+    ensures waits { IfOk result (λ w. IfSome w
+        (λ a. a.agent < length (P.program program.now))) }
+{
+    for finished in row_of(&ahead.rows, agent).count()..program.moves(agent) {
+        match next_level(program, &ahead.rows, agent, finished + 1) {
+            Ok(level) => finish_next(program, grid, ahead, agent, finished + 1, level)?,
+            Err(awaited) => return Ok(Some(awaited)),
+        }
+    }
+    Ok(None)
+}
+
+/// Agents that may go on, and agents that wait for others. It only says who is looked at next.
+#[derive(Drop)]
+struct Queue {
+    agents: u16,
+    /// Those that may go on, the next one last.
+    work: Vec<u16>,
+    /// For each agent the first of those that wait for it; `NOBODY` if there are none.
+    first: Vec<u16>,
+    /// For each agent the one after it among those that wait for the same one.
+    next: Vec<u16>,
+    /// For each agent the least count that is waited for.
+    least: Vec<u32>,
+}
+
+/// No agent.
+const NOBODY: u16 = u16::MAX;
+
+impl Model for Queue {
+    ghost use Rattle.std.specs.Prelude.{ℕ, ◌≡◌, length};
+
+    ghost Value = { ℕ };
+
+    ghost view = { λ q. q.agents };
+
+    ghost invariant = { λ q. (length q.first.items ≡ q.agents) × (length q.next.items ≡ q.agents)
+        × (length q.least.items ≡ q.agents) };
+}
+
+impl Queue {
+    /// All of so many agents may go on, the first one next.
+    fn new(alloc: Global, agents: u16) -> Result<Queue, OutOfMemory>
+        ensures { IfOk result (λ q. q ≡ agents) }
+    {
+        let mut work = Vec::new(alloc);
+        for agent in 0..agents {
+            work.push(agents - 1 - agent)?;
+        }
+        let first = vec![in alloc; NOBODY; usize::from(agents)]?;
+        let next = vec![in alloc; NOBODY; usize::from(agents)]?;
+        let least = vec![in alloc; u32::MAX; usize::from(agents)]?;
+        Ok(Queue {
+            agents,
+            work,
+            first,
+            next,
+            least,
+        })
+    }
+
+    /// An agent that may go on.
+    fn pop(&mut self) -> Option<u16>
+        ensures agent { IfSome result (λ i. i < self.old) }
+        ensures same { self.new ≡ self.old }
+    {
+        let agent = self.work.pop()?;
+        if agent < self.agents {
+            Some(agent)
+        } else {
+            None
+        }
+    }
+
+    /// An agent waits until another one has finished so many actions.
+    fn wait(&mut self, agent: u16, awaited: Await)
+        requires agent { agent < self.old }
+        requires other { awaited.agent < self.old }
+        ensures { self.new ≡ self.old }
+    {
+        let other = usize::from(awaited.agent);
+        self.next[usize::from(agent)] = self.first[other];
+        self.first[other] = agent;
+        if awaited.count < self.least[other] {
+            self.least[other] = awaited.count;
+        }
+    }
+
+    /// If an agent has finished so many actions that one of those that wait for it may go on, all of them may.
+    fn wake(&mut self, agent: u16, count: u32) -> Result<(), OutOfMemory>
+        requires { agent < self.old }
+        ensures { self.new ≡ self.old }
+    {
+        if count < self.least[usize::from(agent)] {
+            return Ok(());
+        }
+        let mut waiting = self.first[usize::from(agent)];
+        self.first[usize::from(agent)] = NOBODY;
+        self.least[usize::from(agent)] = u32::MAX;
+        for _ in 0..self.agents {
+            if waiting >= self.agents {
+                return Ok(());
+            }
+            self.work.push(waiting)?;
+            waiting = self.next[usize::from(waiting)];
+        }
+        Ok(())
+    }
+}
+
+/// Lets the agents run on until nobody can, or so many looks at an agent are made.
+fn run_ahead<P: ProgramView>(
+    alloc: Global,
+    program: &P,
+    grid: &Grid,
+    ahead: &mut Ahead,
+) -> Result<(), Stop>
+    requires { IsAhead (is_passable grid.now) (P.program program.now) ahead.old }
+    ensures { OnOk result (IsAhead (is_passable grid.now) (P.program program.now) ahead.new) }
+{
+    let agents = program.agents();
+    let most = 2 * total_moves(program) + u32::from(agents);
+    let mut queue = Queue::new(alloc, agents)?;
+    for _ in 0..most {
+        let Some(agent) = queue.pop() else {
+            return Ok(());
+        };
+        look_at(program, grid, ahead, &mut queue, agent)?;
+        if !ahead.visits.pairs.is_empty() {
+            // Chains are to be asked, which is not done here.
+            return Ok(());
+        }
+    }
+    Ok(())
+}
+
+/// Lets an agent run on, and those that it has kept waiting.
+fn look_at<P: ProgramView>(
+    program: &P,
+    grid: &Grid,
+    ahead: &mut Ahead,
+    queue: &mut Queue,
+    agent: u16,
+) -> Result<(), Stop>
+    requires ahead { IsAhead (is_passable grid.now) (P.program program.now) ahead.old }
+    requires queue { queue.old ≡ length (P.program program.now) }
+    requires agent { agent < length (P.program program.now) }
+    ensures ahead { OnOk result (IsAhead (is_passable grid.now) (P.program program.now) ahead.new) }
+    ensures queue { OnOk result (queue.new ≡ queue.old) }
+{
+    if let Some(awaited) = run_agent(program, grid, ahead, agent)? {
+        queue.wait(agent, awaited);
+    }
+    queue.wake(agent, row_of(&ahead.rows, agent).count())?;
+    Ok(())
+}
+
+/// The number of actions of the longest chain, if all has been found right.
+fn judge_ahead<P: ProgramView>(
+    program: &P,
+    grid: &Grid,
+    instance: &Instance,
+    ahead: &Ahead,
+) -> Option<u32>
+    requires starts { HasStarts instance.now (P.program program.now) }
+    requires ahead { IsAhead (is_passable grid.now) (P.program program.now) ahead.now }
+    ensures { IfSome result (IsAcceptedFor grid.now instance.now (P.program program.now)) }
+{
+    if !ahead.visits.pairs.is_empty() {
+        return None;
+    }
+    let mut chain: u32 = 0;
+    for agent in 0..program.agents() {
+        let row = row_of(&ahead.rows, agent);
+        if row.count() != program.moves(agent) {
+            return None;
+        }
+        let end = Place::from(ahead.cells[usize::from(agent)]);
+        if !ends_right(program, instance, agent, end) {
+            return None;
+        }
+        chain = chain.max(row.last());
+    }
+    Some(chain)
+}
+
+/// All agents, run on as far as their awaits allow.
+fn run_all<P: ProgramView>(alloc: Global, program: &P, grid: &Grid) -> Result<Ahead, Stop>
+    ensures { IfOk result (IsAhead (is_passable grid.now) (P.program program.now)) }
+{
+    let mut ahead = begin(alloc, program, grid)?;
+    run_ahead(alloc, program, grid, &mut ahead)?;
+    Ok(ahead)
+}
+
+/// The number of actions of the longest chain, if the program is found to be accepted. If not, nothing is said of it.
+pub fn accepts_ahead<P: ProgramView>(
+    alloc: Global,
+    program: &P,
+    grid: &Grid,
+    instance: &Instance,
+) -> Result<Option<u32>, OutOfMemory>
+    requires { HasStarts instance.now (P.program program.now) }
+    ensures { IfOk result (λ found. IfSome found
+        (IsAcceptedFor grid.now instance.now (P.program program.now))) }
+{
+    match run_all(alloc, program, grid) {
+        Ok(ahead) => Ok(judge_ahead(program, grid, instance, &ahead)),
+        Err(Stop::OffGround) => Ok(None),
+        Err(Stop::OutOfMemory) => Err(OutOfMemory),
+    }
+}

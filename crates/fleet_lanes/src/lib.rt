@@ -1,6 +1,6 @@
-//! Rows of counts, joined by lanes.
+//! Rows of counts, joined and compared by lanes.
 #![tactic(auto)]
 
 mod kernels;
 
-pub use kernels::join_rows;
+pub use kernels::{join_rows, row_covers};

@@ -10,7 +10,7 @@ use Rattle.fleet_model.specs.declared.geometry.Step.{Step}
 use Rattle.fleet_model.specs.declared.program.Await.{Await}
 use Rattle.fleet_model.specs.declared.program.Action.{Action}
 use Rattle.fleet_model.specs.declared.program.AgentProgram.{AgentProgram}
-use Rattle.fleet_model.specs.declared.limits.TheConstants.{MAX_AGENTS, MAX_COORDINATE, MAX_MOVES, MAX_MOVES_IN_ALL, MAX_AWAIT}
+use Rattle.fleet_model.specs.declared.limits.TheConstants.{MAX_AGENTS, MAX_COORDINATE, MAX_MOVES, MAX_MOVES_IN_ALL, MAX_MOVES_V1, MAX_AWAIT, MAX_AWAIT_V1}
 use Rattle.fleet_model.specs.Geometry.{place_of, is_move, stepped}
 
 abbrev pub Program : Type 0
@@ -119,3 +119,12 @@ pub record IsAgent (n i : ℕ) (a : AgentProgram) : Type 0 where
   pub goal : IsCell a.goal
   pub moves : length a.actions ≤ MAX_MOVES
   pub awaits : All (λ s. AreAwaits n i s.awaits) a.actions
+
+-- version 1 of the bytes has room for the number of the agent's actions and for the counts of their awaits
+pub record IsShort (a : AgentProgram) : Type 0 where
+  pub few : length a.actions ≤ MAX_MOVES_V1
+  pub counts : All (λ s. All (λ w. w.count ≤ MAX_AWAIT_V1) s.awaits) a.actions
+
+-- .. of all agents
+abbrev pub AreShort : Program → Type 0
+AreShort p = All IsShort p

@@ -4,13 +4,12 @@ use Rattle.std.proofs.lemmas.List.{take_all}
 use Rattle.fleet_model.specs.declared.program.Action.{Action}
 use Rattle.fleet_model.specs.declared.program.Await.{Await}
 use Rattle.fleet_model.proofs.ActionRows.{all_at, all_more}
-use Rattle.fleet_code.specs.declared.format.Version.TheVariants.{One}
-use Rattle.fleet_code.specs.Spelling.{most_count}
+use Rattle.fleet_model.specs.declared.limits.TheConstants.{MAX_AWAIT_V1}
 use Rattle.fleet_code.proofs.encoder.have_short_counts.Goals as goal
 
 -- the counts fit version 1
 abbrev AreShort : List Await → Type 0
-AreShort ws = All (λ (w : Await). w.count ≤ most_count One) ws
+AreShort ws = All (λ (w : Await). w.count ≤ MAX_AWAIT_V1) ws
 
 pub returns-then-not-are_short : goal.returns-then-not-are_short
 returns-then-not-are_short c =

@@ -1,7 +1,6 @@
 use Rattle.std.proofs.Common.{◌≤◌, All, take}
-use Rattle.fleet_code.specs.declared.format.Version.TheVariants.{One}
-use Rattle.fleet_code.specs.Spelling.{most_count}
+use Rattle.fleet_model.specs.declared.limits.TheConstants.{MAX_AWAIT_V1}
 use Rattle.fleet_code.proofs.encoder.have_short_counts.Given as goal
 
 abbrev pub invariant-loop-k : goal.invariant-loop-k
-invariant-loop-k l = All (λ s. All (λ w. w.count ≤ most_count One) s.awaits) (take l.k l.actions)
+invariant-loop-k l = All (λ s. All (λ w. w.count ≤ MAX_AWAIT_V1) s.awaits) (take l.k l.actions)

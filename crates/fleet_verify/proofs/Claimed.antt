@@ -1,6 +1,6 @@
 -- Moves that take time: what agents claim, and that an order lasts until its move is finished.
 use Rattle.std.proofs.Common.{◌≡◌, ℕ, not, List, [], get_or, filter, add-one, zero, suc, ◌+◌, ◌-◌, ◌<◌, ◌≤◌, Bool, true, false, ◌&&◌, length, Option, Some, None, cond, IsTrue, slice_get, refl, ap, sym, ◌∙◌, subst, arith, inl, inr}
-use Rattle.std.specs.Prelude.{◌≢◌, option_map}
+use Rattle.std.specs.Prelude.{option_map}
 use Rattle.std.proofs.lemmas.Option.{same_Some}
 use Rattle.std.proofs.lemmas.List.{get_or-map}
 use Rattle.std.proofs.Math.Bool.{and-false}
@@ -11,9 +11,7 @@ use Rattle.fleet_model.specs.declared.standing.Standing.{Standing}
 use Rattle.fleet_model.specs.Geometry.{stepped}
 use Rattle.fleet_model.specs.Program.{Program, actions_of, path}
 use Rattle.fleet_model.specs.Machine.{Configuration, Holds, is_among, is_held, indices, run, tick, standing_at, place_at, count_at, next_action, is_ready, IsReached}
-use Rattle.fleet_model.specs.Run.{IsSafeStep}
-use Rattle.fleet_model.specs.Claims.{order_of, Claims, AreApart, KeepsOrder, MayBeOn, is_new, orders_given, holds_of}
-use Rattle.fleet_model.proofs.Tick.{standing_at_tick, free_moves}
+use Rattle.fleet_model.specs.Claims.{order_of, Claims, KeepsOrder, MayBeOn, is_new, orders_given, holds_of}
 use Rattle.fleet_verify.proofs.Counts.{tick_free, tick_stays, run_place, count_opening}
 use Rattle.fleet_model.proofs.Runs.{tick_agree}
 use Rattle.fleet_verify.proofs.Reached.{reached_tick, agents_held}
@@ -54,37 +52,6 @@ order_lasts p c d i step grows same e =
     let o = order_says p c i step e in
     let still = ready_lasts p c d i grows same o.ready in
     rw still (ap (λ n. option_map (λ (a : Action). a.step) (slice_get (actions_of p i) n)) (sym same) ∙ (rw o.ready at e))
-
--- ---- what is claimed at one time
-
-module _ (passable : Place → Bool) (p : Program) (c : Configuration) (safe : (held : ℕ → Bool) → IsSafeStep passable (length p) c (tick p held c)) where
-  -- the tick in which nobody is held leads all that have orders to where these lead, and that in which all are held leads nowhere
-  ordered_place : (i : ℕ) (d : Step) → i < length p → order_of p c i ≡ Some d → place_at (tick p (λ _. false) c) i ≡ stepped (place_at c i) d
-  ordered_place i d h e =
-      let o = order_says p c i d e in
-      let m = free_moves p (λ _. false) c i o.ready refl in
-      let same : m.0 ≡ o.action = same_Some m.0 o.action (sym m.1 ∙ o.next) in
-      ap (λ (s : Standing). s.place) (standing_at_tick p (λ _. false) c i h ∙ m.2)
-      ∙ ap (stepped (place_at c i)) (ap (λ (a : Action). a.step) same ∙ o.step)
-
-  held_place : (i : ℕ) → i < length p → place_at (tick p (λ _. true) c) i ≡ place_at c i
-  held_place i h = ap (λ (s : Standing). s.place) (tick_stays p (λ _. true) c i h (and-false (is_ready p c i)))
-
-  pub claims_apart : AreApart passable p c
-  claims_apart = record {
-    on_ground = λ i q h k. ground i q h k;
-    apart = λ i j q h k ne a b. both i j q h k ne a b;
-  }
-    where
-      ground : (i : ℕ) (q : Place) → i < length p → Claims p c i q → IsTrue (passable q)
-      ground i q h (inl e) = rw (e, ← held_place i h) ((safe (λ _. true)).on_ground i h)
-      ground i q h (inr (d, o, e)) = rw (e, ← ordered_place i d h o) ((safe (λ _. false)).on_ground i h)
-
-      both : (i j : ℕ) (q : Place) → i < length p → j < length p → i ≢ j → Claims p c i q → Claims p c j q → ⊥
-      both i j q h k ne (inl e) (inl f) = (safe (λ _. true)).apart i j h k ne (held_place i h ∙ (sym e ∙ (f ∙ sym (held_place j k))))
-      both i j q h k ne (inr (d, o, e)) (inl f) = (safe (λ _. false)).behind i j h k ne (ordered_place i d h o ∙ (sym e ∙ f))
-      both i j q h k ne (inl e) (inr (d, o, f)) = (safe (λ _. false)).behind j i k h (λ s. ne (sym s)) (ordered_place j d k o ∙ (sym f ∙ e))
-      both i j q h k ne (inr (d, o, e)) (inr (b, u, f)) = (safe (λ _. false)).apart i j h k ne (ordered_place i d h o ∙ (sym e ∙ (f ∙ sym (ordered_place j b k u))))
 
 -- ---- what is claimed over time
 

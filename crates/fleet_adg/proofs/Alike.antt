@@ -21,9 +21,9 @@ use Rattle.fleet_model.proofs.Chains.{chain_first, Reaches-first, Reaches-last, 
 use Rattle.fleet_plan.specs.Plan.{Plan, cell_of, steps, IsConflictFree}
 use Rattle.fleet_model.proofs.Reaching.{Reaches-trans, Reaches-rises}
 use Rattle.fleet_verify.proofs.Listing.{awaits_accepted}
-use Rattle.fleet_chains.specs.Reduced.{DiffersInAwaits, HaveSameChains}
+use Rattle.fleet_verify.specs.Reduced.{DiffersInAwaits, HaveSameChains}
 use Rattle.fleet_verify.proofs.OrderedPairs.{two_ordered}
-use Rattle.fleet_chains.proofs.SameChains.{run_over}
+use Rattle.fleet_verify.proofs.SameChains.{run_over}
 use Rattle.fleet_model.specs.Machine.{Holds, run}
 use Rattle.fleet_adg.specs.Compiled.{changes, moves_by, entry_awaits, action_in, compiled}
 use Rattle.fleet_adg.proofs.Moves.{moves_by-yes, moves_by-mono}

@@ -28,8 +28,8 @@ use Rattle.fleet_model.specs.Accepted.{IsRight, IsAcceptedBy}
 use Rattle.fleet_model.proofs.Visits.{stay_path, entry_moves}
 use Rattle.fleet_model.proofs.Chains.{chain_first, Reaches-first, Reaches-need}
 use Rattle.fleet_model.proofs.Reaching.{Reaches-trans}
-use Rattle.fleet_chains.specs.Reduced.{DiffersInAwaits, HaveSameChains}
-use Rattle.fleet_chains.proofs.Alike.{same_moves}
+use Rattle.fleet_verify.specs.Reduced.{DiffersInAwaits, HaveSameChains}
+use Rattle.fleet_verify.proofs.Alike.{same_moves}
 use Rattle.fleet_adg.specs.Compiled.{stay, with_stays}
 
 -- ---- lists with stays at their end

@@ -9,8 +9,8 @@ use Rattle.fleet_model.specs.declared.limits.TheConstants.{MAX_MOVES, MAX_MOVES_
 use Rattle.fleet_model.specs.Program.{Program, NeverStays, IsWellFormed}
 use Rattle.fleet_model.specs.Accepted.{IsAccepted}
 use Rattle.fleet_verify.proofs.Listing.{awaits_accepted}
-use Rattle.fleet_chains.specs.Reduced.{RunEqually}
-use Rattle.fleet_chains.proofs.SameChains.{run_over}
+use Rattle.fleet_verify.specs.Reduced.{RunEqually}
+use Rattle.fleet_verify.proofs.SameChains.{run_over}
 use Rattle.fleet_plan.specs.Plan.{Plan, steps, IsConflictFree, IsWithinLimits}
 use Rattle.fleet_adg.specs.Compiled.{moves_by, compiled, compiled_if_few, compiled_staying, each_has_few, all_have_few, has_few_actions, compiled_staying_if_few, moves_in_all}
 use Rattle.fleet_model.specs.Answer.{IsDueUnless}

@@ -19,8 +19,8 @@ use Rattle.fleet_model.proofs.Totals.{moves_more}
 use Rattle.fleet_model.specs.declared.limits.TheConstants.{MAX_AWAIT}
 use Rattle.fleet_settled.specs.Implied.{IsImplied}
 use Rattle.fleet_settled.proofs.AwaitOrder.{await_below}
-use Rattle.fleet_chains.specs.Reduced.{IsThinned}
-use Rattle.fleet_chains.proofs.BreakingCounts.{push_rises}
+use Rattle.fleet_verify.specs.Reduced.{IsThinned}
+use Rattle.fleet_verify.proofs.BreakingCounts.{push_rises}
 use Rattle.fleet_adg.specs.Thinned.{AreUnimplied, IsThinnedAction, AreThinnedActions, IsThinnedAgent, AreThinnedAgents}
 
 -- what stands in a list with one more at its end

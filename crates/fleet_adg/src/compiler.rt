@@ -8,7 +8,7 @@ ghost use Rattle.fleet_grid.specs.Ground.{is_passable};
 ghost use Rattle.fleet_model.specs.Machine.{indices};
 ghost use Rattle.fleet_model.specs.declared.deps.Deps.{Deps};
 ghost use Rattle.fleet_adg.specs.Compiled.{moves_in_all, compiled, compiled_if_few, stay, with_stays, compiled_staying, each_has_few, all_have_few, has_few_actions, compiled_staying_if_few};
-ghost use Rattle.fleet_chains.specs.Reduced.{RunEqually};
+ghost use Rattle.fleet_verify.specs.Reduced.{RunEqually};
 ghost use Rattle.fleet_adg.specs.Sweep.{agent_from};
 
 use crate::fault::CompileFault;

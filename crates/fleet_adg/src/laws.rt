@@ -11,7 +11,7 @@ ghost use Rattle.fleet_model.specs.Accepted.{IsAcceptedBy};
 ghost use Rattle.fleet_model.specs.declared.task.Task.{Task};
 ghost use Rattle.fleet_plan.specs.Plan.{Plan, cell_of, IsConflictFree, IsWithinLimits};
 ghost use Rattle.fleet_adg.specs.Compiled.{changes_in, entry_awaits, await_of, IsLatestVisit, IsLastLeaving, compiled, moves_in_all};
-ghost use Rattle.fleet_chains.specs.Reduced.{HaveSameChains, RunEqually};
+ghost use Rattle.fleet_verify.specs.Reduced.{HaveSameChains, RunEqually};
 
 /// Within the limits the program of a plan is well formed.
 pub fn compiled_plans_are_well_formed()

@@ -6,7 +6,7 @@ ghost use Rattle.fleet_model.specs.Chain.{IsAction, IsLongestChain};
 ghost use Rattle.fleet_model.specs.Accepted.{IsAccepted};
 ghost use Rattle.fleet_grid.specs.Ground.{is_passable};
 ghost use Rattle.fleet_implied.specs.Flags.{AreImplied};
-ghost use Rattle.fleet_chains.specs.Reduced.{IsThinned, RunEqually};
+ghost use Rattle.fleet_verify.specs.Reduced.{IsThinned, RunEqually};
 ghost use Rattle.fleet_adg.specs.Thinned.{AreUnimplied, IsThinnedAction, AreThinnedActions, IsThinnedAgent, AreThinnedAgents};
 
 use crate::thin_fault::ThinFault;

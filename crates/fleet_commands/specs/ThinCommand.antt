@@ -5,7 +5,7 @@ use Rattle.fleet_model.specs.Program.{Program, total_awaits}
 use Rattle.fleet_model.specs.Chain.{IsLongestChain}
 use Rattle.fleet_model.specs.Accepted.{IsAccepted}
 use Rattle.fleet_grid.specs.Ground.{is_passable}
-use Rattle.fleet_chains.specs.Reduced.{IsThinned, RunEqually}
+use Rattle.fleet_verify.specs.Reduced.{IsThinned, RunEqually}
 use Rattle.fleet_code.specs.Spelling.{Spells}
 use Rattle.fleet_text.specs.Sink.{SinkState, IsUnwritten}
 use Rattle.fleet_files.specs.Files.{Store, AreUnchanged}

@@ -11,11 +11,10 @@ use crate::output::{print_report, status_after_print};
 use crate::problem::{read_problem, view_program};
 use fleet_args::VerifyRequest;
 use fleet_auto::AcceptFault;
-use fleet_chains::breaking_holds;
 use fleet_io::{Fault, Files, deliver, read_three};
 use fleet_model::{OutOfMemory, ProgramView, Visit, total_awaits, total_moves};
 use fleet_run::{Flush, OutFault, write_holds};
-use fleet_verify::{Accepted, Refused, VerifyFault, verify};
+use fleet_verify::{Accepted, Refused, VerifyFault, breaking_holds, verify};
 use std::alloc::Global;
 
 /// Prints that the program is accepted, with its numbers.

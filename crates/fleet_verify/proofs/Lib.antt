@@ -56,3 +56,10 @@ pub mod Begin
 pub mod NextLevel
 pub mod Beginning
 pub mod PieceLaws
+pub mod Rows
+pub mod Looking
+pub mod BreakingCounts
+pub mod CountedUp
+pub mod Alike
+pub mod SameChains
+pub mod Reductions

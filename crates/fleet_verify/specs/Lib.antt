@@ -13,3 +13,6 @@ pub mod RefusalWords
 pub mod Reach
 pub mod Ahead
 pub mod Pieces
+pub mod Breaking
+pub mod Reduced
+pub mod Needed

@@ -10,14 +10,18 @@ mod accepted;
 mod agents;
 mod ahead;
 mod ahead_laws;
+mod breaking;
+mod counting;
 mod exactness;
 mod fault;
 mod level_row;
+mod needed;
 mod open_pairs;
 mod order;
 mod orders;
 mod path;
 mod reach;
+mod reduced;
 mod ring;
 mod runs;
 mod schedules;
@@ -27,6 +31,8 @@ mod visit_order;
 
 pub use accepted::{Accepted, Refused};
 pub use ahead_laws::{begun_visits_are_orderly, counted_levels_are_levels};
+pub use breaking::breaking_holds;
+pub use counting::{levels_are_counted_up, rows_are_joined};
 pub use exactness::{
     acceptance_is_exact, breaking_holds_are_one_list, breaking_holds_by_rows,
     breaking_holds_end_in_a_conflict, listed_visits_are_chained, unordered_visits_are_found,
@@ -37,6 +43,7 @@ pub use orders::{
     awaits_are_chains, orderly_listings_rise, rings_are_never_finished, sorted_listings_decide,
 };
 pub use reach::Reach;
+pub use reduced::{same_chains_run_equally, thinned_programs_run_equally, thinning_keeps_chains};
 pub use runs::{
     levels_rise, orders_are_given_once, ready_moves_are_apart, reports_make_a_run, runs_are_safe,
     runs_arrive, runs_end, ticks_are_safe, visits_come_in_turn,

@@ -19,13 +19,13 @@ use Rattle.fleet_model.proofs.Chains.{Reaches-first}
 use Rattle.fleet_model.proofs.Reaching.{Reaches-trans, own_reach}
 use Rattle.fleet_model.specs.Visit.{AreUnordered}
 use Rattle.fleet_model.specs.Breaking.{IsNeededFor, IsHeldBack, IsPrepared, AreBreakingHolds}
-use Rattle.fleet_chains.specs.Needed.{AreNeeded}
+use Rattle.fleet_verify.specs.Needed.{AreNeeded}
 use Rattle.fleet_worked.specs.Meetings.{MeetBy}
 use Rattle.fleet_verify.proofs.OrderedPairs.{as_visit}
 use Rattle.fleet_verify.proofs.RisingRows.{those_below, those_rise, those_has, those_keep}
-use Rattle.fleet_chains.proofs.Looking.{looking_end}
+use Rattle.fleet_verify.proofs.Looking.{looking_end}
 use Rattle.fleet_verify.proofs.BreakingExists.{moves_within, IsBegun, grown, prepared_by_counts}
-use Rattle.fleet_chains.proofs.BreakingCounts.{meeting_start}
+use Rattle.fleet_verify.proofs.BreakingCounts.{meeting_start}
 
 -- ---- what is needed
 

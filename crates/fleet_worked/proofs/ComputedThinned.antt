@@ -20,7 +20,7 @@ use Rattle.fleet_worked.proofs.Computed.{at_all_awaits, at_await, weighed, is_nu
 use Rattle.fleet_model.proofs.Chains.{chain_rises}
 use Rattle.fleet_verify.proofs.Members.{same_action}
 use Rattle.fleet_settled.specs.Implied.{IsImplied}
-use Rattle.fleet_chains.specs.Reduced.{DiffersInAwaits, IsThinned}
+use Rattle.fleet_verify.specs.Reduced.{DiffersInAwaits, IsThinned}
 
 -- the await is in the list
 abbrev is_in : List Await → Await → Bool

@@ -2,7 +2,7 @@
 //! imply. These functions do nothing: their contracts are the laws.
 
 ghost use Rattle.std.specs.Prelude.{[], ◌∷◌};
-ghost use Rattle.fleet_chains.specs.Reduced.{IsThinned};
+ghost use Rattle.fleet_verify.specs.Reduced.{IsThinned};
 ghost use Rattle.fleet_worked.specs.Meetings.{loose_relay, tight_relay, MeetBy};
 ghost use Rattle.fleet_worked.specs.Programs.{place_xy, nth_visit, pair, rash_pair, early_pair, hasty_pair, blocked_pair, relay};
 

@@ -4,7 +4,7 @@ use Rattle.fleet_model.specs.declared.deps.Deps.{Deps}
 use Rattle.fleet_model.specs.Accepted.{IsAccepted}
 use Rattle.fleet_grid.specs.Ground.{is_passable}
 use Rattle.fleet_plan.specs.Plan.{steps}
-use Rattle.fleet_chains.specs.Reduced.{RunEqually}
+use Rattle.fleet_verify.specs.Reduced.{RunEqually}
 use Rattle.fleet_adg.specs.Compiled.{compiled_staying, has_few_actions}
 use Rattle.fleet_adg.proofs.SweepSteps.{length-all_actions_by, program_is, few_compile}
 use Rattle.fleet_adg.proofs.StayingPlans.{staying-well_formed, staying-accepted, stay_alike}

@@ -1,6 +1,6 @@
 use Rattle.fleet_grid.specs.Ground.{is_passable}
-use Rattle.fleet_chains.proofs.Reductions.{thinned_reduced, reduced_chains, thinned_range}
-use Rattle.fleet_chains.proofs.SameChains.{accepted_over}
+use Rattle.fleet_verify.proofs.Reductions.{thinned_reduced, reduced_chains, thinned_range}
+use Rattle.fleet_verify.proofs.SameChains.{accepted_over}
 use Rattle.fleet_commands.proofs.thin_command.thin_texts.Goals as goal
 
 pub returns-clause-thinned : goal.returns-clause-thinned

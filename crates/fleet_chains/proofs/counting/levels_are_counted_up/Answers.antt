@@ -1,5 +1,0 @@
-use Rattle.fleet_chains.proofs.CountedUp.{counted_levels}
-use Rattle.fleet_chains.proofs.counting.levels_are_counted_up.Goals as goal
-
-pub returns : goal.returns
-returns c = λ p level h. counted_levels p level h

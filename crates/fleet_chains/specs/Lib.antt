@@ -1,3 +1,0 @@
-pub mod Breaking
-pub mod Reduced
-pub mod Needed

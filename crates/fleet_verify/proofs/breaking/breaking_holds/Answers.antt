@@ -1,0 +1,19 @@
+use Rattle.std.proofs.Common.{ℕ, List, slice_index, map, subst, sym}
+use Rattle.std.proofs.lemmas.Result.{IfOk-weaker}
+use Rattle.fleet_verify.specs.Needed.{AreNeeded}
+use Rattle.fleet_verify.proofs.BreakingMeets.{breaking_conflict}
+use Rattle.fleet_verify.proofs.Rows.{rising_rows}
+use Rattle.fleet_verify.proofs.breaking.breaking_holds.Goals as goal
+
+pub holds_by-requires-clause-needed : goal.holds_by-requires-clause-needed
+holds_by-requires-clause-needed g c =
+    subst (λ (xs : List ℕ). AreNeeded (g.P.ProgramView.program c.args.program.now) c.args.first c.args.second (slice_index xs)) (sym c.deref.ensures.value) c.in_ok-needed.ensures.needed
+
+pub returns-clause-meet : goal.returns-clause-meet
+returns-clause-meet g c =
+    IfOk-weaker c.holds_by.result _ _ (λ holds h q u.
+    breaking_conflict (g.P.ProgramView.program c.args.program.now) c.requires.numbering.0 c.requires.numbering.1 q c.args.first c.args.second u (map (λ row. row.items) holds.items) h)
+    c.holds_by.ensures
+
+pub returns-clause-rising : goal.returns-clause-rising
+returns-clause-rising g c = IfOk-weaker c.holds_by.result _ _ (λ holds h. rising_rows (λ row. row.items) holds.items h.rising) c.holds_by.ensures

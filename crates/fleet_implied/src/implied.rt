@@ -1,6 +1,6 @@
 //! Awaits that others imply.
 
-ghost use Rattle.std.specs.Prelude.{◌≡◌, ◌<◌, [], None, Some, length, slice_get, IfOk, OnOk};
+ghost use Rattle.std.specs.Prelude.{◌≡◌, ◌<◌, [], None, Some, false, get_or, length, slice_get, IfOk, OnOk};
 ghost use Rattle.fleet_model.specs.declared.program.Await.{Await};
 ghost use Rattle.fleet_model.specs.Program.{AreInRange, awaits_of, total_awaits};
 ghost use Rattle.fleet_model.specs.Machine.{IsFinish};
@@ -24,6 +24,14 @@ pub struct ImpliedAwaits {
 }
 
 impl ImpliedAwaits {
+    /// Whether others imply the await of this place.
+    fn is_flagged(&self, place: usize) -> bool
+        requires { place < length self.now.flags.items }
+        ensures { result ≡ get_or self.now.flags.items place false }
+    {
+        self.flags[place]
+    }
+
     /// Await `k` of the action, unless others imply it. Takes no memory.
     pub fn await_unless_implied<P: ProgramView>(
         &self,
@@ -43,7 +51,7 @@ impl ImpliedAwaits {
     {
         let _ = program.agents();
         let place = self.places.first(program, action) + usize::from(k);
-        let is_implied = self.flags[place];
+        let is_implied = self.is_flagged(place);
         if is_implied {
             return None;
         }

@@ -3,6 +3,7 @@ pub mod SourceLemmas
 pub mod Ending
 pub mod Progress
 pub mod UnderWay
+pub mod Passing
 pub mod Rehearsed
 pub mod HoldLemmas
 pub mod HoldLaws

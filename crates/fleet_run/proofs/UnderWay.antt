@@ -268,11 +268,10 @@ line_added p holds t c before now after here lines line =
     rw add-one (takes_more before now after (lines_below p holds t) (line_of t (run p holds t)) lines one)
 
 -- The sink fails within a line.
-pub stops_at_sink : {T E : Type 0} (p : Program) (s now : SourceState) (c : Configuration) (t held : ℕ) (ended : Bool) (first mid last : SinkState) (r : Result T E)
-    → IsUnderWay p s now c t held ended → HasNotFailed now → Takes first mid (lines_below p s.ticks t) → TakesAll mid last r (line_of t c) → is_err r ≡ true
+pub stops_at_sink : (p : Program) (s now : SourceState) (c : Configuration) (t held : ℕ) (ended : Bool) (first mid last : SinkState)
+    → IsUnderWay p s now c t held ended → HasNotFailed now → Takes first mid (lines_below p s.ticks t) → StopsWithin mid last (line_of t c)
     → (x : ℕ) × (c ≡ run p s.ticks x) × StopsAtSink is_over p s now first last (line_of x (run p s.ticks x)) x
-stops_at_sink p s now c t held ended first mid last (Ok x) b f lines line e = absurd cc
-stops_at_sink p s now c t held ended first mid last (Err x) b f lines line e =
+stops_at_sink p s now c t held ended first mid last b f lines line =
     let line' : StopsWithin mid last (line_of t (run p s.ticks t)) = subst (λ d. StopsWithin mid last (line_of t d)) b.here line in (
       t,
       b.here,

@@ -9,10 +9,11 @@ use Rattle.fleet_run.specs.declared.run.TheConstants.{MAX_RUN_TICKS}
 use Rattle.fleet_run.specs.declared.run.End.{End}
 use Rattle.fleet_run.specs.declared.run.End.TheVariants.{Finished, Stuck}
 use Rattle.fleet_run.specs.declared.run.Ran.{Ran}
+use Rattle.fleet_run.specs.declared.run.Time.{Time}
 use Rattle.fleet_run.specs.declared.run.RunFault.{RunFault}
 use Rattle.fleet_run.specs.declared.run.RunFault.TheVariants.{OutOfMemory, Source, Hold, Write, HoldLimit}
 use Rattle.fleet_run.specs.Text.{line_of, lines_below}
-use Rattle.fleet_text.specs.Sink.{SinkState, IsWorking, HasFailed}
+use Rattle.fleet_text.specs.Sink.{SinkState, IsWorking, HasFailed, Takes, StopsWithin}
 use Rattle.fleet_run.specs.Source.{SourceState, HasNotFailed, AsksTick}
 
 -- how the run has ended at this configuration, if it has
@@ -33,6 +34,25 @@ AsksNext ended s s' t (Err (Source n)) flags = (n ≡ t + 1) × AsksTick ended s
 AsksNext ended s s' t (Err (Hold n)) flags = (n ≡ t + 1) × AsksTick ended s s' (Err Text) flags
 AsksNext ended s s' t (Err Write) flags = ⊥
 AsksNext ended s s' t (Err HoldLimit) flags = (t ≡ MAX_RUN_TICKS) × AsksTick ended s s' (Ok true) flags
+
+-- unless the run has ended so, the source was asked for the next tick; else it is as it was
+abbrev pub AsksUnless : Option End → (ended : Bool) (source source' : SourceState) (t : ℕ) → Result Bool RunFault → List Bool → Type 0
+AsksUnless None ended s s' t r flags = AsksNext ended s s' t r flags
+AsksUnless (Some _) ended s s' t r flags = (r ≡ Ok false) × (s' ≡ s)
+
+-- the same of a time of a run
+abbrev pub AsksUnlessOver : Time → (source source' : SourceState) → Result Bool RunFault → List Bool → Type 0
+AsksUnlessOver time s s' r flags = AsksUnless time.end time.source_ended s s' time.ticks r flags
+
+-- A time of a run: the sink took its line, and then the source was asked for the next tick, unless the run had ended; or
+-- the sink failed within the line, and the source is as it was
+abbrev pub PassesTime : Time → (source source' : SourceState) (out out' : SinkState) (line : List ℕ) → Result Bool RunFault → List Bool → Type 0
+PassesTime time s s' o o' line (Ok more) flags = Takes o o' line × AsksUnlessOver time s s' (Ok more) flags
+PassesTime time s s' o o' line (Err OutOfMemory) flags = ⊥
+PassesTime time s s' o o' line (Err (Source n)) flags = Takes o o' line × AsksUnlessOver time s s' (Err (Source n)) flags
+PassesTime time s s' o o' line (Err (Hold n)) flags = Takes o o' line × AsksUnlessOver time s s' (Err (Hold n)) flags
+PassesTime time s s' o o' line (Err Write) flags = StopsWithin o o' line × (s' ≡ s)
+PassesTime time s s' o o' line (Err HoldLimit) flags = Takes o o' line × AsksUnlessOver time s s' (Err HoldLimit) flags
 
 -- a test for the end of a run
 abbrev pub EndTest : Type 0

@@ -1,13 +1,13 @@
 //! Runs, line by line.
 
-ghost use Rattle.std.specs.Prelude.{◌≡◌, ◌<◌, ◌≤◌, length, true, [], if◌then◌else◌};
+ghost use Rattle.std.specs.Prelude.{◌≡◌, ◌+◌, ◌<◌, ◌≤◌, length, true, [], if◌then◌else◌};
 ghost use Rattle.fleet_model.specs.Machine.{Configuration, opening, tick, is_ready_held};
 ghost use Rattle.fleet_machine.specs.Machine.{Runs, flag_of};
 ghost use Rattle.fleet_run.specs.Text.{line_of};
 ghost use Rattle.fleet_run.specs.Line.{IsLineKept};
 ghost use Rattle.fleet_text.specs.Sink.{IsWorking, TakesAll};
 ghost use Rattle.fleet_run.specs.Source.{HasNotFailed, AreFlagsOf};
-ghost use Rattle.fleet_run.specs.Outcome.{run_end, fault_of, AsksNext, RunsLines};
+ghost use Rattle.fleet_run.specs.Outcome.{run_end, fault_of, AsksNext, AsksUnlessOver, PassesTime, RunsLines};
 
 use crate::line::{write_moved, write_places, write_time};
 use crate::source::{HoldSource, SourceFault, ask};
@@ -70,6 +70,22 @@ pub struct Ran {
     pub ticks: u32,
     pub held: u32,
     pub end: End,
+}
+
+/// How many ticks a run has had, and in how many of them a ready agent was held.
+#[derive(Clone, Copy)]
+struct Counts {
+    ticks: u32,
+    held: u32,
+}
+
+/// A time of a run: after how many ticks, whether the source had ended before the last of them, and how the run has
+/// ended, if it has.
+#[derive(Clone, Copy)]
+struct Time {
+    ticks: u32,
+    source_ended: bool,
+    end: Option<End>,
 }
 
 /// How a run has ended, if it has.
@@ -141,28 +157,79 @@ fn next_tick<S: HoldSource>(
     }
 }
 
-/// One tick, and the places after it in the row. Answers 1 if a ready agent was held, and 0 if not.
+/// Asks the source for the next tick, as `next_tick` does, unless the run has ended.
+fn next_unless_over<S: HoldSource>(
+    source: &mut S,
+    time: Time,
+    flags: &mut [bool],
+) -> Result<bool, RunFault>
+    requires working { HasNotFailed (S.state source.old) }
+    requires ended { time.source_ended ≡ true → (S.state source.old).ticks ≡ [] }
+    requires unset { time.source_ended ≡ true → AreFlagsOf [] flags.old }
+    requires few { time.ticks < 4294967295 }
+    ensures { AsksUnlessOver time (S.state source.old) (S.state source.new) result flags.new }
+{
+    match time.end {
+        Some(_) => Ok(false),
+        None => next_tick(source, time.source_ended, time.ticks, flags),
+    }
+}
+
+/// A time of a run: writes its line, and then, unless the run has ended, asks the source for the next tick.
+#[tactic(auto, using(crate::proofs::Passing::asks_after))]
+fn pass_time<S: HoldSource, O: TraceOut>(
+    source: &mut S,
+    out: &mut O,
+    time: Time,
+    row: &mut [u8],
+    begins: &[usize],
+    flags: &mut [bool],
+) -> Result<bool, RunFault>
+    requires working { HasNotFailed (S.state source.old) }
+    requires ended { time.source_ended ≡ true → (S.state source.old).ticks ≡ [] }
+    requires unset { time.source_ended ≡ true → AreFlagsOf [] flags.old }
+    requires few { time.ticks < 4294967295 }
+    requires sink { IsWorking (O.state out.old) }
+    requires kept { (c : Configuration) × IsLineKept c row.old begins.now }
+    ensures kept { (c : Configuration) → IsLineKept c row.old begins.now
+        → IsLineKept c row.new begins.now }
+    ensures passes { (c : Configuration) → IsLineKept c row.old begins.now
+        → PassesTime time (S.state source.old) (S.state source.new)
+        (O.state out.old) (O.state out.new) (line_of time.ticks c) result flags.new }
+{
+    match put_line(out, time.ticks, row, begins) {
+        Ok(()) => next_unless_over(source, time, flags),
+        Err(_) => Err(RunFault::Write),
+    }
+}
+
+/// One tick, with the places after it in the row, and the counts.
 fn tick_row<P: ProgramView>(
     program: &P,
     machine: &mut Machine,
     flags: &[bool],
     row: &mut [u8],
     begins: &mut [usize],
-) -> u32
+    counts: &mut Counts,
+)
     requires runs { Runs (P.program program.now) machine.old }
     requires flags { length flags.now ≡ length (P.program program.now) }
     requires kept { IsLineKept machine.old.configuration row.old begins.old }
+    requires few { counts.old.ticks < 4294967295 }
+    requires held { counts.old.held < 4294967295 }
     ensures runs { Runs (P.program program.now) machine.new }
     ensures looked { machine.old.looked ≤ machine.new.looked }
     ensures after { machine.new.configuration
         ≡ tick (P.program program.now) (flag_of flags.now) machine.old.configuration }
-    ensures held { result ≡ (if is_ready_held (P.program program.now)
+    ensures ticks { counts.new.ticks ≡ counts.old.ticks + 1 }
+    ensures held { counts.new.held ≡ counts.old.held + (if is_ready_held (P.program program.now)
         (flag_of flags.now) machine.old.configuration then 1 else 0) }
     ensures kept { IsLineKept machine.new.configuration row.new begins.new }
 {
     let tick = machine.tick(program, flags);
     write_moved(machine, row, begins);
-    u32::from(tick.ready_held)
+    counts.ticks += 1;
+    counts.held += u32::from(tick.ready_held);
 }
 
 /// Runs a program from its start, and writes the line of each time. Takes no memory.
@@ -187,19 +254,21 @@ pub fn run_lines<P: ProgramView, S: HoldSource, O: TraceOut>(
     let mut row = [0; LINE];
     let mut begins = [0; MAX_AGENTS + 1];
     write_places(machine.agents(), &mut row, &mut begins);
-    let mut ticks = 0;
-    let mut held = 0;
-    let mut ended = false;
+    let mut counts = Counts { ticks: 0, held: 0 };
+    let mut source_ended = false;
     'ticks: loop {
-        if put_line(out, ticks, &mut row, &begins).is_err() {
-            return Err(RunFault::Write);
-        }
-        if let Some(end) = end_at(program, machine) {
+        let Counts { ticks, held } = counts;
+        let end = end_at(program, machine);
+        let time = Time {
+            ticks,
+            source_ended,
+            end,
+        };
+        let more = pass_time(source, out, time, &mut row, &begins, flags)?;
+        if let Some(end) = end {
             return Ok(Ran { ticks, held, end });
         }
-        let more = next_tick(source, ended, ticks, flags)?;
-        held += tick_row(program, machine, flags, &mut row, &mut begins);
-        ticks += 1;
-        ended = !more;
+        tick_row(program, machine, flags, &mut row, &mut begins, &mut counts);
+        source_ended = !more;
     }
 }

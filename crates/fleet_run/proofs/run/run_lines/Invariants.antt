@@ -17,11 +17,11 @@ invariant-ticks g l =
       runs : Runs p l.machine;
       looked : l.initial.machine.looked ≤ l.machine.looked;
       flags : length l.flags ≡ length p;
-      unset : l.ended ≡ true → AreFlagsOf [] l.flags;
-      under_way : IsUnderWay p first now l.machine.configuration l.ticks l.held l.ended;
+      unset : l.source_ended ≡ true → AreFlagsOf [] l.flags;
+      under_way : IsUnderWay p first now l.machine.configuration l.counts.ticks l.counts.held l.source_ended;
       source : HasNotFailed now;
       kept : IsLineKept l.machine.configuration l.row l.begins;
-      written : Takes (g.O.TraceOut.state l.initial.out) (g.O.TraceOut.state l.out) (lines_below p first.ticks l.ticks);
+      written : Takes (g.O.TraceOut.state l.initial.out) (g.O.TraceOut.state l.out) (lines_below p first.ticks l.counts.ticks);
     }
 
 abbrev pub decreases-ticks : goal.decreases-ticks

@@ -1,5 +1,4 @@
 use Rattle.std.proofs.Common.{◌≡◌, ◌+◌, ℕ, false, get_or, sym, ap, ◌∙◌, arith}
-use Rattle.std.proofs.lemmas.List.{get_or_read}
 use Rattle.fleet_model.proofs.Totals.{total_awaits_fit}
 use Rattle.fleet_settled.specs.Implied.{first_await}
 use Rattle.fleet_settled.proofs.AwaitOrder.{flag_within}
@@ -12,8 +11,8 @@ overflow_add-place g c =
     let fits = total_awaits_fit p c.agents.ensures.well_formed in
     omega (arith, all, fits, c.requires.place, c.from.ensures, c.first.ensures)
 
-pub index-is_implied-requires : goal.index-is_implied-requires
-index-is_implied-requires g c =
+pub is_flagged-is_implied-requires : goal.is_flagged-is_implied-requires
+is_flagged-is_implied-requires g c =
     let p = g.P.ProgramView.program c.args.program.now in
     let all = flag_within p c.args.action c.requires.action in
     omega (arith, all, c.requires.place, c.from.ensures, c.first.ensures, c.requires.implied.all)
@@ -24,5 +23,4 @@ returns-then-is_implied-clause-none g c = λ w e at.
     let all = flag_within p c.args.action c.requires.action in
     let flags = c.args.self.now.flags.items in
     let there : c.first.result + c.from.result ≡ first_await p c.args.action + c.args.k = omega (arith, c.from.ensures, c.first.ensures) in
-    let flag = get_or_read flags _ _ (omega (arith, all, c.requires.place, c.from.ensures, c.first.ensures, c.requires.implied.all)) c.index-is_implied.ensures false in
-    (c.requires.implied.flagged c.args.action c.requires.action c.args.k w at).0 (ap (λ (n : ℕ). get_or flags n false) (sym there) ∙ sym flag ∙ c.if-is_implied.true)
+    (c.requires.implied.flagged c.args.action c.requires.action c.args.k w at).0 (ap (λ (n : ℕ). get_or flags n false) (sym there) ∙ sym c.is_flagged-is_implied.ensures ∙ c.if-is_implied.true)

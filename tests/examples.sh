@@ -3,7 +3,8 @@
 # with what is due, to the letter:
 #     tests/examples.sh FLEET
 # Every fenced example of README.md and docs/, and what they cannot show: help, transcripts, texts, files, standard
-# streams, the warehouse. `make examples` calls it. The last line counts: `examples: N passed, M failed`.
+# streams, the warehouse, and what must not compile. `make examples` calls it. The last line counts: `examples: N passed,
+# M failed`.
 
 root=$(cd "$(dirname "$0")/.." && pwd) || exit 2
 case $1 in
@@ -107,7 +108,7 @@ mkdir "$work/beside" "$work/beside/room" && cp -R "$work/bin" "$work/beside/" ||
     echo "$passed $failed $skipped" > "$work/counts"
 ) &
 
-for section in documents commands transcripts texts conflicts warehouse plans tools files limits streams; do
+for section in documents commands transcripts texts conflicts warehouse plans tools files limits streams lent; do
     . "$root/tests/$section.sh"
 done
 

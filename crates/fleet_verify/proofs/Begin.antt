@@ -1,5 +1,5 @@
 -- Visits that begin in any order.
-use Rattle.std.proofs.Common.{◌≡◌, ◌≢◌, ℕ, suc, ◌+◌, ◌<◌, ◌≤◌, Bool, List, [], ◌∷◌, ◌++◌, length, get_or, Some, slice_get, refl, ap, sym, ◌∙◌, subst, arith, inl, inr, ◌⊎◌}
+use Rattle.std.proofs.Common.{◌≡◌, ◌≢◌, ℕ, suc, ◌+◌, ◌<◌, ◌≤◌, Bool, List, [], ◌∷◌, ◌++◌, length, get_or, Option, Some, slice_get, refl, ap, sym, ◌∙◌, subst, arith, inl, inr, ◌⊎◌}
 use Rattle.std.specs.Prelude.{Contains}
 use Rattle.std.specs.List.{filter, AllPairs}
 use Rattle.std.proofs.lemmas.Bool.{cases_order, cases_eq, cases_lt}
@@ -17,8 +17,7 @@ use Rattle.fleet_model.specs.Visit.{is_entry, IsVisitOf, ListsVisits, Adjacent, 
 use Rattle.fleet_model.proofs.Places.{is_same_place-true, is_same_place-eq}
 use Rattle.fleet_verify.specs.Ahead.{AreBegun}
 use Rattle.fleet_verify.specs.Faults.{StandsRight, EachAction}
-use Rattle.fleet_verify.specs.Order.{visits_of, entries, AreAdded, AreConsecutive}
-use Rattle.fleet_verify.specs.declared.visit_order.VisitOrder.{VisitOrder}
+use Rattle.fleet_verify.specs.Order.{visits_of, entries, AreAddedBy, AreConsecutive}
 use Rattle.fleet_verify.specs.declared.visit_order.OpenPair.{OpenPair}
 use Rattle.fleet_verify.proofs.Judged.{some_cell}
 use Rattle.fleet_verify.proofs.Listing.{adjacent_chains}
@@ -48,8 +47,8 @@ push_cases (u ∷ vs) v w c = elim (contains_cases u (vs ++ v ∷ []) w c) [
 
 module _ (passable : Place → Bool) (p : Program) where
   -- none have begun
-  pub begun_none : (begun : ℕ → ℕ) (visits : VisitOrder) → ((i : ℕ) → i < length p → begun i ≡ 0) → AreAdded p [] visits → AreBegun passable p begun visits
-  begun_none begun visits none added = record {
+  pub begun_none : (begun : ℕ → ℕ) (last : Cell → Option Visit) (pairs : List OpenPair) → ((i : ℕ) → i < length p → begun i ≡ 0) → AreAddedBy p [] last pairs → AreBegun passable p begun last pairs
+  begun_none begun last pairs none added = record {
     positions = [];
     all = λ v a l. absurd (omega (arith, none v.agent a));
     only = λ v c. absurd (contains_none v c);
@@ -59,9 +58,9 @@ module _ (passable : Place → Bool) (p : Program) where
   }
 
   -- the next position of agent i begins
-  pub begun_more : (old new : ℕ → ℕ) (i : ℕ) (before after : VisitOrder) → AreBegun passable p old before → i < length p → new i ≡ old i + 1 → ((j : ℕ) → j ≢ i → new j ≡ old j)
-      → StandsRight passable p i (old i) → ((vs : List Visit) → AreAdded p vs before → AreAdded p (vs ++ record { agent = i; position = old i } ∷ []) after) → AreBegun passable p new after
-  begun_more old new i before after h agent own others ground adds = record {
+  pub begun_more : (old new : ℕ → ℕ) (i : ℕ) (last final : Cell → Option Visit) (pairs more : List OpenPair) → AreBegun passable p old last pairs → i < length p → new i ≡ old i + 1 → ((j : ℕ) → j ≢ i → new j ≡ old j)
+      → StandsRight passable p i (old i) → ((vs : List Visit) → AreAddedBy p vs last pairs → AreAddedBy p (vs ++ record { agent = i; position = old i } ∷ []) final more) → AreBegun passable p new final more
+  begun_more old new i last final pairs more h agent own others ground adds = record {
     positions = h.positions ++ next ∷ [];
     all = all;
     only = only;
@@ -114,7 +113,7 @@ module _ (passable : Place → Bool) (p : Program) where
       ]
 
   -- all have begun
-  module _ (begun : ℕ → ℕ) (visits : VisitOrder) (h : AreBegun passable p begun visits) (whole : (i : ℕ) → i < length p → begun i ≡ moves p i + 1) where
+  module _ (begun : ℕ → ℕ) (last : Cell → Option Visit) (pairs : List OpenPair) (h : AreBegun passable p begun last pairs) (whole : (i : ℕ) → i < length p → begun i ≡ moves p i + 1) where
     pub begun_ground : EachAction p (StandsRight passable p)
     begun_ground i n a l = h.on_ground i n a (omega (arith, l, whole i a))
 
@@ -144,7 +143,7 @@ module _ (passable : Place → Bool) (p : Program) where
             let r = h.only v e.0 in
             record { agent = r.0; position = omega (arith, r.1, whole v.agent r.0); entered = e.1; place = is_same_place-true (path p v.agent v.position) q f.1 }
 
-    pub begun_orderly : AreInRange p → visits.pairs.items ≡ [] → IsOrderly ComesAfter p
+    pub begun_orderly : AreInRange p → pairs ≡ [] → IsOrderly ComesAfter p
     begun_orderly range closed q = (visits_of q h.added.placed, lists q, in_turn)
       where
         chained : (c : Cell) → IsCell c → Adjacent (ComesAfterByAwait p) (visits_of (place_of c) h.added.placed)

@@ -1,5 +1,5 @@
 -- The agents one after another: on their starts, and at their ends.
-use Rattle.std.proofs.Common.{◌≡◌, ℕ, zero, suc, ◌+◌, ◌-◌, ◌<◌, ◌≤◌, Bool, List, [], ◌∷◌, ◌++◌, length, get_or, slice_index, max, refl, sym, ap, ◌∙◌, subst, arith, inl, inr, ◌⊎◌}
+use Rattle.std.proofs.Common.{◌≡◌, ℕ, zero, suc, ◌+◌, ◌-◌, ◌<◌, ◌≤◌, Bool, List, [], ◌∷◌, ◌++◌, length, get_or, slice_index, max, Option, refl, sym, ap, ◌∙◌, subst, arith, inl, inr, ◌⊎◌}
 use Rattle.std.specs.Prelude.{IsTrue}
 use Rattle.std.proofs.lemmas.Bool.{cases_eq, cases_lt}
 use Rattle.std.proofs.lemmas.List.{get_or_append_left, get_or-append_right, length-append}
@@ -16,10 +16,11 @@ use Rattle.fleet_model.proofs.Reaching.{own_reach, Reaches-rises}
 use Rattle.fleet_grid.specs.Ground.{Ground, is_passable}
 use Rattle.fleet_verify.specs.Ahead.{AreCountedUp, IsTop, IsAhead, AreBegun, count_in, level_in}
 use Rattle.fleet_verify.specs.Faults.{HasStarts, HasRanges, EndsRight, StandsRight}
-use Rattle.fleet_verify.specs.Order.{AreAdded}
+use Rattle.fleet_verify.specs.LastVisits.{kept_at}
+use Rattle.fleet_verify.specs.Order.{AreAddedBy}
 use Rattle.fleet_verify.specs.Parts.{IsAcceptedFor}
 use Rattle.fleet_verify.specs.declared.ahead.Ahead.{Ahead}
-use Rattle.fleet_verify.specs.declared.visit_order.VisitOrder.{VisitOrder}
+use Rattle.fleet_verify.specs.declared.visit_order.OpenPair.{OpenPair}
 use Rattle.fleet_verify.proofs.Begin.{begun_none, begun_more, begun_ground, begun_orderly}
 use Rattle.fleet_verify.proofs.Ranked.{none_ranked, all_counted, all_in_range, counted_numbering, top_longest}
 use Rattle.fleet_verify.proofs.Stays.{accepted_by}
@@ -34,28 +35,28 @@ pub record IsBeginning (passable : Place → Bool) (p : Program) (n : ℕ) (a : 
   pub cells : length a.cells.items ≡ n
   pub none : (i : ℕ) → get_or a.rows.items i [] ≡ []
   pub here : (i : ℕ) → i < n → get_or a.cells.items i origin ≡ start_of p i
-  pub begun : AreBegun passable p (started n) a.visits
+  pub begun : AreBegun passable p (started n) (kept_at a.last) a.pairs.items
 
-pub beginning_first : (passable : Place → Bool) (p : Program) (a : Ahead) → a.rows.items ≡ [] → a.cells.items ≡ [] → AreAdded p [] a.visits → IsBeginning passable p 0 a
+pub beginning_first : (passable : Place → Bool) (p : Program) (a : Ahead) → a.rows.items ≡ [] → a.cells.items ≡ [] → AreAddedBy p [] (kept_at a.last) a.pairs.items → IsBeginning passable p 0 a
 beginning_first passable p a rows cells added = record {
   rows = ap (λ (xs : List (List ℕ)). length xs) rows;
   cells = ap (λ (xs : List Cell). length xs) cells;
   none = λ i. ap (λ (xs : List (List ℕ)). get_or xs i []) rows;
   here = λ i l. absurd (omega arith);
-  begun = begun_none passable p (started 0) a.visits (λ i l. omega arith) added;
+  begun = begun_none passable p (started 0) (kept_at a.last) a.pairs.items (λ i l. omega arith) added;
 }
 
 pub beginning_more : (passable : Place → Bool) (p : Program) (n : ℕ) (old new : Ahead) (cell : Cell) → IsBeginning passable p n old → n < length p → cell ≡ start_of p n → IsTrue (passable (place_of cell))
     → new.rows.items ≡ old.rows.items ++ [] ∷ [] → new.cells.items ≡ old.cells.items ++ cell ∷ []
-    → ((visits : List Visit) → AreAdded p visits old.visits → AreAdded p (visits ++ record { agent = n; position = 0 } ∷ []) new.visits) → IsBeginning passable p (n + 1) new
+    → ((visits : List Visit) → AreAddedBy p visits (kept_at old.last) old.pairs.items → AreAddedBy p (visits ++ record { agent = n; position = 0 } ∷ []) (kept_at new.last) new.pairs.items) → IsBeginning passable p (n + 1) new
 beginning_more passable p n old new cell h agent start ground rows cells added = record {
   rows = ap (λ (xs : List (List ℕ)). length xs) rows ∙ (length-append old.rows.items ([] ∷ []) ∙ ap (λ m. m + 1) h.rows);
   cells = ap (λ (xs : List Cell). length xs) cells ∙ (length-append old.cells.items (cell ∷ []) ∙ ap (λ m. m + 1) h.cells);
   none = λ i. ap (λ (xs : List (List ℕ)). get_or xs i []) rows ∙ none i;
   here = λ i l. ap (λ (xs : List Cell). get_or xs i origin) cells ∙ here i l;
-  begun = begun_more passable p (started n) (started (n + 1)) n old.visits new.visits h.begun agent (omega arith) (λ j ne. omega arith)
+  begun = begun_more passable p (started n) (started (n + 1)) n (kept_at old.last) (kept_at new.last) old.pairs.items new.pairs.items h.begun agent (omega arith) (λ j ne. omega arith)
       (subst (λ (m : ℕ). StandsRight passable p n m) zero_of (subst (λ (c : Cell). IsTrue (passable (place_of c))) start ground))
-      (subst (λ (m : ℕ). (visits : List Visit) → AreAdded p visits old.visits → AreAdded p (visits ++ record { agent = n; position = m } ∷ []) new.visits) zero_of added);
+      (subst (λ (m : ℕ). (visits : List Visit) → AreAddedBy p visits (kept_at old.last) old.pairs.items → AreAddedBy p (visits ++ record { agent = n; position = m } ∷ []) (kept_at new.last) new.pairs.items) zero_of added);
 }
   where
     zero_of : 0 ≡ started n n
@@ -80,8 +81,8 @@ beginning_more passable p n old new cell h agent start ground rows cells added =
           ap (λ m. get_or (old.cells.items ++ cell ∷ []) m origin) e ∙ (get_or-append_seam old.cells.items cell [] origin ∙ (start ∙ ap (start_of p) f))
     ]
 
-begun_same : (passable : Place → Bool) (p : Program) (old new : ℕ → ℕ) (visits : VisitOrder) → AreBegun passable p old visits → ((i : ℕ) → i < length p → new i ≡ old i) → AreBegun passable p new visits
-begun_same passable p old new visits h same = record {
+begun_same : (passable : Place → Bool) (p : Program) (old new : ℕ → ℕ) (last : Cell → Option Visit) (pairs : List OpenPair) → AreBegun passable p old last pairs → ((i : ℕ) → i < length p → new i ≡ old i) → AreBegun passable p new last pairs
+begun_same passable p old new last pairs h same = record {
   positions = h.positions;
   all = λ v a l. h.all v a (omega (arith, l, same v.agent a));
   only = λ v c. let r = h.only v c in (r.0, omega (arith, r.1, same v.agent r.0));
@@ -96,7 +97,7 @@ beginning_all passable p n a h all = record {
   cells = h.cells ∙ all;
   ranked = none_ranked p a.rows.items zeros;
   here = λ i l. ap place_of (h.here i (omega (arith, l, all))) ∙ ap (path p i) (sym (zeros i));
-  begun = begun_same passable p (started n) (λ i. count_in a.rows.items i + 1) a.visits h.begun (λ i l. omega (arith, zeros i, l, all));
+  begun = begun_same passable p (started n) (λ i. count_in a.rows.items i + 1) (kept_at a.last) a.pairs.items h.begun (λ i l. omega (arith, zeros i, l, all));
 }
   where
     zeros : (i : ℕ) → count_in a.rows.items i ≡ 0
@@ -144,9 +145,9 @@ done_more tasks p rows n chain h whole ends last new is e = record {
         ]
 
 pub ahead_accepted : (grid : Ground) (tasks : List Task) (p : Program) (a : Ahead) (n chain : ℕ) → IsWellFormed p → HasStarts tasks p → IsAhead (is_passable grid) p a
-    → AreDone tasks p a.rows.items n chain → length p ≤ n → a.visits.pairs.items ≡ [] → IsAcceptedFor grid tasks p chain
+    → AreDone tasks p a.rows.items n chain → length p ≤ n → a.pairs.items ≡ [] → IsAcceptedFor grid tasks p chain
 ahead_accepted grid tasks p a n chain wf starts h done all closed = record {
-  accepted = accepted_by passable tasks p ranges (level, numbering) (begun_orderly passable p begun a.visits h.begun come range closed);
+  accepted = accepted_by passable tasks p ranges (level, numbering) (begun_orderly passable p begun (kept_at a.last) a.pairs.items h.begun come range closed);
   longest = top_longest p level counted chain top;
 }
   where
@@ -179,7 +180,7 @@ ahead_accepted grid tasks p a n chain wf starts h done all closed = record {
 
     ranges : HasRanges passable tasks p
     ranges = record {
-      before = record { before = record { before = starts; ends = λ i l. done.ends i (omega (arith, l, all)) }; steps = begun_ground passable p begun a.visits h.begun come };
+      before = record { before = record { before = starts; ends = λ i l. done.ends i (omega (arith, l, all)) }; steps = begun_ground passable p begun (kept_at a.last) a.pairs.items h.begun come };
       ranges = λ i m l k. record { met = range i m };
     }
 

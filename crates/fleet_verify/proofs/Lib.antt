@@ -63,3 +63,4 @@ pub mod CountedUp
 pub mod Alike
 pub mod SameChains
 pub mod Reductions
+pub mod LastVisits

@@ -15,7 +15,8 @@ use Rattle.fleet_model.specs.Program.{Program, origin, awaits_of, step_of, path}
 use Rattle.fleet_model.specs.Chain.{DirectlyNeeds, awaited}
 use Rattle.fleet_verify.specs.Ahead.{IsRanked, IsNextLevel, AddsLevel, IsAhead, IsNext, count_in, level_in}
 use Rattle.fleet_verify.specs.Faults.{StandsRight}
-use Rattle.fleet_verify.specs.Order.{AreAdded}
+use Rattle.fleet_verify.specs.LastVisits.{kept_at}
+use Rattle.fleet_verify.specs.Order.{AreAddedBy}
 use Rattle.fleet_verify.specs.declared.ahead.Ahead.{Ahead}
 use Rattle.fleet_verify.proofs.Begin.{begun_more}
 use Rattle.fleet_verify.proofs.Members.{same_action}
@@ -96,17 +97,17 @@ least_ends p rows i n k l h next all = subst (λ (a : ActionId). IsNextOf a) (ap
 -- the next action of the agent finished
 pub ahead_more : (passable : Place → Bool) (p : Program) (old new : Ahead) (i n l : ℕ) (cell : Cell) → IsAhead passable p old → IsNext p old.rows.items i n → IsNextLevel p old.rows.items i l
     → length new.rows.items ≡ length p → new.cells.items ≡ set old.cells.items i cell → AddsLevel old.rows.items new.rows.items i l
-    → ((visits : List Visit) → AreAdded p visits old.visits → AreAdded p (visits ++ record { agent = i; position = n } ∷ []) new.visits)
+    → ((visits : List Visit) → AreAddedBy p visits (kept_at old.last) old.pairs.items → AreAddedBy p (visits ++ record { agent = i; position = n } ∷ []) (kept_at new.last) new.pairs.items)
     → place_of cell ≡ path p i n → IsTrue (passable (place_of cell)) → IsAhead passable p new
 ahead_more passable p old new i n l cell h next level rows cells adds added on ground = record {
   rows = rows;
   cells = ap (λ (cs : List Cell). length cs) cells ∙ (length-set old.cells.items i cell ∙ h.cells);
   ranked = ranked_more old.rows.items new.rows.items i l adds p h.ranked (omega (arith, next.number, next.left)) level;
   here = here;
-  begun = begun_more passable p (λ j. count_in old.rows.items j + 1) (λ j. count_in new.rows.items j + 1) i old.visits new.visits h.begun next.agent
+  begun = begun_more passable p (λ j. count_in old.rows.items j + 1) (λ j. count_in new.rows.items j + 1) i (kept_at old.last) (kept_at new.last) old.pairs.items new.pairs.items h.begun next.agent
       (omega (arith, own)) (λ j ne. omega (arith, count_other old.rows.items new.rows.items i l adds j ne))
       (subst (λ (m : ℕ). StandsRight passable p i m) next.number (subst (λ (q : Place). IsTrue (passable q)) on ground))
-      (subst (λ (m : ℕ). (visits : List Visit) → AreAdded p visits old.visits → AreAdded p (visits ++ record { agent = i; position = m } ∷ []) new.visits) next.number added);
+      (subst (λ (m : ℕ). (visits : List Visit) → AreAddedBy p visits (kept_at old.last) old.pairs.items → AreAddedBy p (visits ++ record { agent = i; position = m } ∷ []) (kept_at new.last) new.pairs.items) next.number added);
 }
   where
     own : count_in new.rows.items i ≡ count_in old.rows.items i + 1

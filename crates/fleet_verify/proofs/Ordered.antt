@@ -1,5 +1,5 @@
 -- The visits of a place, one after another.
-use Rattle.std.proofs.Common.{◌≡◌, ℕ, zero, suc, ◌+◌, ◌<◌, Bool, true, false, cond, List, [], ◌∷◌, ◌++◌, length, map, get_or, Option, Some, None, slice_get, refl, ap, sym, ◌∙◌, subst, arith, inl, inr}
+use Rattle.std.proofs.Common.{◌≡◌, ◌≢◌, ℕ, zero, suc, ◌+◌, ◌<◌, Bool, true, false, cond, List, [], ◌∷◌, ◌++◌, length, map, get_or, Option, Some, None, slice_get, refl, ap, sym, ◌∙◌, subst, arith, inl, inr}
 use Rattle.std.specs.List.{filter}
 use Rattle.std.specs.Prelude.{nat_eq, All, Contains, ◌⊎◌}
 use Rattle.std.specs.List.{AllPairs}
@@ -19,7 +19,7 @@ use Rattle.fleet_model.proofs.Places.{place_of-injective, is_same_place-true, is
 use Rattle.fleet_verify.specs.declared.visit_order.PlacedVisit.{PlacedVisit}
 use Rattle.fleet_verify.specs.declared.visit_order.OpenPair.{OpenPair}
 use Rattle.fleet_verify.specs.declared.visit_order.VisitOrder.{VisitOrder}
-use Rattle.fleet_verify.specs.Order.{number_of, visits_of, entries, IsOpenNext, IsLastVisit, IsGrouped, IsOpenPair, AreGrouped, AreConsecutive, StandsBefore}
+use Rattle.fleet_verify.specs.Order.{number_of, last_of, visits_of, entries, IsOpenNext, IsLastVisit, IsGrouped, IsOpenPair, AreGrouped, AreGroupedBy, AreConsecutive, StandsBefore}
 
 -- ---- lists
 
@@ -231,44 +231,45 @@ same_cell c d cs ds e =
     let x : c.x ≡ d.x = omega (arith, y) in
     λ i. record { x = x i; y = y i }
 
--- one visit more, if a map has the last visit of each cell by its number
-pub grouped_more : (p : Program) (placed : List PlacedVisit) (s : PlacedVisit) (old new : VisitOrder) → IsCell s.cell → AreGrouped p placed old
-    → ((n : ℕ) → get nat_eq new.last n ≡ cond (nat_eq (number_of s.cell) n) (Some s.visit) (get nat_eq old.last n))
-    → IsOpenNext (ComesAfterByAwait p) (get nat_eq old.last (number_of s.cell)) s old.pairs.items new.pairs.items
-    → AreGrouped p (placed ++ s ∷ []) new
-grouped_more p placed s old new here h last r = record { cells = cells; each = (opened r).0; in_order = (opened r).1 }
+-- one visit more, if it is then kept as the last one of its cell
+pub grouped_on_more : (p : Program) (placed : List PlacedVisit) (s : PlacedVisit) (old new : Cell → Option Visit) (o os : List OpenPair) → IsCell s.cell → AreGroupedBy p placed old o
+    → new s.cell ≡ Some s.visit → ((c : Cell) → IsCell c → c ≢ s.cell → new c ≡ old c) → IsOpenNext (ComesAfterByAwait p) (old s.cell) s o os → AreGroupedBy p (placed ++ s ∷ []) new os
+grouped_on_more p placed s old new o os here h last others r = record { cells = cells; each = (opened r).0; in_order = (opened r).1 }
   where
-    o : List OpenPair
-    o = old.pairs.items
-
-    cells : (c : Cell) → IsCell c → IsGrouped p c (placed ++ s ∷ []) (get nat_eq new.last (number_of c)) new.pairs.items
+    cells : (c : Cell) → IsCell c → IsGrouped p c (placed ++ s ∷ []) (new c) os
     cells c there = elim (cases_eq (number_of s.cell) (number_of c)) [
       | inl f ↦
           let on : s.cell ≡ c = same_cell s.cell c here there f in
-          let n : get nat_eq new.last (number_of c) ≡ Some s.visit = last (number_of c) ∙ rw (eq-eqb (number_of s.cell) (number_of c) f) refl in
-          let k : IsOpenNext (ComesAfterByAwait p) (get nat_eq old.last (number_of c)) s o new.pairs.items = subst (λ (m : ℕ). IsOpenNext (ComesAfterByAwait p) (get nat_eq old.last m) s o new.pairs.items) f r in
-          subst (λ (l : Option Visit). IsGrouped p c (placed ++ s ∷ []) l new.pairs.items) (sym n)
-          (grouped_on p c placed s (get nat_eq old.last (number_of c)) o new.pairs.items (h.cells c there) on k)
+          subst (λ (l : Option Visit). IsGrouped p c (placed ++ s ∷ []) l os) (sym last ∙ ap new on)
+          (grouped_on p c placed s (old c) o os (h.cells c there) on (subst (λ (l : Option Visit). IsOpenNext (ComesAfterByAwait p) l s o os) (ap old on) r))
       | inr f ↦
-          let n : get nat_eq new.last (number_of c) ≡ get nat_eq old.last (number_of c) = last (number_of c) ∙ rw (ne_eqb (number_of s.cell) (number_of c) f) refl in
-          subst (λ (l : Option Visit). IsGrouped p c (placed ++ s ∷ []) l new.pairs.items) (sym n)
-          (grouped_off p c placed s (get nat_eq old.last (number_of c)) o new.pairs.items (h.cells c there) (λ g. f (ap number_of g))
-          (pairs_kept (ComesAfterByAwait p) (get nat_eq old.last (number_of s.cell)) s o new.pairs.items r))
+          subst (λ (l : Option Visit). IsGrouped p c (placed ++ s ∷ []) l os) (sym (others c there (λ e. f (ap number_of (sym e)))))
+          (grouped_off p c placed s (old c) o os (h.cells c there) (λ g. f (ap number_of g)) (pairs_kept (ComesAfterByAwait p) (old s.cell) s o os r))
     ]
 
     kept : All (IsOpenPair p (placed ++ s ∷ [])) o
     kept = λ k d l. open_on p placed (s ∷ []) (get_or o k d) (h.each k d l)
 
-    opened : IsOpenNext (ComesAfterByAwait p) (get nat_eq old.last (number_of s.cell)) s o new.pairs.items → All (IsOpenPair p (placed ++ s ∷ [])) new.pairs.items × InOrder (placed ++ s ∷ []) new.pairs.items
+    opened : IsOpenNext (ComesAfterByAwait p) (old s.cell) s o os → All (IsOpenPair p (placed ++ s ∷ [])) os × InOrder (placed ++ s ∷ []) os
     opened (inl (a, e)) = (
-      subst (λ (os : List OpenPair). All (IsOpenPair p (placed ++ s ∷ [])) os) (sym e) kept,
-      subst (λ (os : List OpenPair). InOrder (placed ++ s ∷ []) os) (sym e) (in_order_on placed s o h.in_order),
+      subst (λ (ps : List OpenPair). All (IsOpenPair p (placed ++ s ∷ [])) ps) (sym e) kept,
+      subst (λ (ps : List OpenPair). InOrder (placed ++ s ∷ []) ps) (sym e) (in_order_on placed s o h.in_order),
     )
     opened (inr (v, f, n, e)) = (
-      subst (λ (os : List OpenPair). All (IsOpenPair p (placed ++ s ∷ [])) os) (sym e)
+      subst (λ (ps : List OpenPair). All (IsOpenPair p (placed ++ s ∷ [])) ps) (sym e)
           (All-push (IsOpenPair p (placed ++ s ∷ [])) o (pair_with s v) kept (open_more p placed s v here (subst (IsLastVisit (visits_of (place_of s.cell) placed)) f (h.cells s.cell here).last) n)),
-      subst (λ (os : List OpenPair). InOrder (placed ++ s ∷ []) os) (sym e) (in_order_more p placed s v o h.each h.in_order),
+      subst (λ (ps : List OpenPair). InOrder (placed ++ s ∷ []) ps) (sym e) (in_order_more p placed s v o h.each h.in_order),
     )
+
+-- the same, if a map has the last visit of each cell by its number
+pub grouped_more : (p : Program) (placed : List PlacedVisit) (s : PlacedVisit) (old new : VisitOrder) → IsCell s.cell → AreGrouped p placed old
+    → ((n : ℕ) → get nat_eq new.last n ≡ cond (nat_eq (number_of s.cell) n) (Some s.visit) (get nat_eq old.last n))
+    → IsOpenNext (ComesAfterByAwait p) (get nat_eq old.last (number_of s.cell)) s old.pairs.items new.pairs.items
+    → AreGrouped p (placed ++ s ∷ []) new
+grouped_more p placed s old new here h last r =
+    grouped_on_more p placed s (last_of old) (last_of new) old.pairs.items new.pairs.items here h
+    (last (number_of s.cell) ∙ rw (eq-eqb (number_of s.cell) (number_of s.cell) refl) refl)
+    (λ c there ne. last (number_of c) ∙ rw (ne_eqb (number_of s.cell) (number_of c) (λ e. ne (sym (same_cell s.cell c here there e)))) refl) r
 
 pub no_entries : {X : Type 0} (xs : List X) → length xs ≡ 0 → xs ≡ []
 no_entries [] h = refl

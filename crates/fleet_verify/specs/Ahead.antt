@@ -1,6 +1,7 @@
 -- Actions finished in any order that respects needs: their levels, and the visits that have begun.
-use Rattle.std.specs.Prelude.{◌≡◌, ◌≢◌, ℕ, ◌+◌, ◌-◌, ◌<◌, ◌≤◌, ◌⊎◌, Bool, List, [], ◌∷◌, ◌++◌, length, get_or, slice_index, Contains}
+use Rattle.std.specs.Prelude.{◌≡◌, ◌≢◌, ℕ, ◌+◌, ◌-◌, ◌<◌, ◌≤◌, ◌⊎◌, Bool, List, [], ◌∷◌, ◌++◌, length, get_or, slice_index, Option, Contains}
 use Rattle.std.specs.List.{AllPairs}
+use Rattle.fleet_model.specs.declared.geometry.Cell.{Cell}
 use Rattle.fleet_model.specs.declared.geometry.Place.{Place}
 use Rattle.fleet_model.specs.declared.program.ActionId.{ActionId}
 use Rattle.fleet_model.specs.declared.program.Visit.{Visit}
@@ -8,9 +9,10 @@ use Rattle.fleet_model.specs.Geometry.{place_of}
 use Rattle.fleet_model.specs.Program.{Program, origin, moves, path}
 use Rattle.fleet_model.specs.Chain.{IsAction, DirectlyNeeds}
 use Rattle.fleet_verify.specs.Faults.{StandsRight}
-use Rattle.fleet_verify.specs.Order.{AreAdded}
+use Rattle.fleet_verify.specs.LastVisits.{kept_at}
+use Rattle.fleet_verify.specs.Order.{AreAddedBy}
 use Rattle.fleet_verify.specs.Rows.{IsCountedUp}
-use Rattle.fleet_verify.specs.declared.visit_order.VisitOrder.{VisitOrder}
+use Rattle.fleet_verify.specs.declared.visit_order.OpenPair.{OpenPair}
 use Rattle.fleet_verify.specs.declared.ahead.Ahead.{Ahead}
 
 -- ---- levels
@@ -60,14 +62,14 @@ pub record AddsLevel (old new : List (List ℕ)) (i l : ℕ) : Type 0 where
 -- ---- visits
 
 -- of each agent i the first begun i positions, in some order, each once and on passable ground; the visits among them
--- are added in that order
-pub record AreBegun (passable : Place → Bool) (p : Program) (begun : ℕ → ℕ) (visits : VisitOrder) : Type 0 where
+-- are grouped in that order
+pub record AreBegun (passable : Place → Bool) (p : Program) (begun : ℕ → ℕ) (last : Cell → Option Visit) (pairs : List OpenPair) : Type 0 where
   pub positions : List Visit
   pub all : (v : Visit) → v.agent < length p → v.position < begun v.agent → Contains positions v
   pub only : (v : Visit) → Contains positions v → (v.agent < length p) × (v.position < begun v.agent)
   pub distinct : AllPairs (λ v w. v ≢ w) positions
   pub on_ground : (i n : ℕ) → i < length p → n < begun i → StandsRight passable p i n
-  pub added : AreAdded p positions visits
+  pub added : AreAddedBy p positions last pairs
 
 -- the rows have the levels of the actions that are finished, the cells are those that the agents have come to by them,
 -- and the visits that have begun so are added
@@ -76,7 +78,7 @@ pub record IsAhead (passable : Place → Bool) (p : Program) (a : Ahead) : Type 
   pub cells : length a.cells.items ≡ length p
   pub ranked : AreRanked p a.rows.items
   pub here : (i : ℕ) → i < length p → place_of (get_or a.cells.items i origin) ≡ path p i (count_in a.rows.items i)
-  pub begun : AreBegun passable p (λ i. count_in a.rows.items i + 1) a.visits
+  pub begun : AreBegun passable p (λ i. count_in a.rows.items i + 1) (kept_at a.last) a.pairs.items
 
 -- an agent of the program and its next action, whose number is this
 pub record IsNext (p : Program) (rows : List (List ℕ)) (i n : ℕ) : Type 0 where

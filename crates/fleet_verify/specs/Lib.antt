@@ -16,3 +16,4 @@ pub mod Pieces
 pub mod Breaking
 pub mod Reduced
 pub mod Needed
+pub mod LastVisits

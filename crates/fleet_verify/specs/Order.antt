@@ -78,11 +78,19 @@ pub record IsOpenPair (p : Program) (placed : List PlacedVisit) (o : OpenPair) :
   pub neighbours : AreConsecutive (visits_of (place_of o.cell) placed) o.first o.second
   pub breaks : ComesAfterByAwait p o.first o.second → ⊥
 
--- the visits of each cell are grouped so, by its number; the open pairs stand in the order of their second visits
-pub record AreGrouped (p : Program) (placed : List PlacedVisit) (order : VisitOrder) : Type 0 where
-  pub cells : (c : Cell) → IsCell c → IsGrouped p c placed (get nat_eq order.last (number_of c)) order.pairs.items
-  pub each : All (IsOpenPair p placed) order.pairs.items
-  pub in_order : AllPairs (λ o u. StandsBefore (map (λ s. s.visit) placed) o.second u.second) order.pairs.items
+-- the visits of each cell are grouped so, with this last one; the open pairs stand in the order of their second visits
+pub record AreGroupedBy (p : Program) (placed : List PlacedVisit) (last : Cell → Option Visit) (pairs : List OpenPair) : Type 0 where
+  pub cells : (c : Cell) → IsCell c → IsGrouped p c placed (last c) pairs
+  pub each : All (IsOpenPair p placed) pairs
+  pub in_order : AllPairs (λ o u. StandsBefore (map (λ s. s.visit) placed) o.second u.second) pairs
+
+-- the last visit that is kept by the number of the cell
+abbrev pub last_of : VisitOrder → Cell → Option Visit
+last_of order c = get nat_eq order.last (number_of c)
+
+-- the visits of each cell are grouped so, by its number
+abbrev pub AreGrouped : Program → List PlacedVisit → VisitOrder → Type 0
+AreGrouped p placed order = AreGroupedBy p placed (last_of order) order.pairs.items
 
 -- each cell's first neighbours that break the rule
 abbrev pub AreViolations : Program → List PlacedVisit → (Cell → Option OrderViolation) → Type 0
@@ -97,12 +105,16 @@ pub record IsVisitPlaced (p : Program) (s : PlacedVisit) : Type 0 where
 abbrev pub entries : Program → List Visit → List Visit
 entries p positions = filter (λ v. is_entry p v.agent v.position) positions
 
--- the visits that begin with one of these positions were added, in this order
-pub record AreAdded (p : Program) (positions : List Visit) (order : VisitOrder) : Type 0 where
+-- the visits that begin with one of these positions are grouped in this order
+pub record AreAddedBy (p : Program) (positions : List Visit) (last : Cell → Option Visit) (pairs : List OpenPair) : Type 0 where
   pub placed : List PlacedVisit
   pub same : map (λ s. s.visit) placed ≡ entries p positions
   pub each : All (IsVisitPlaced p) placed
-  pub grouped : AreGrouped p placed order
+  pub grouped : AreGroupedBy p placed last pairs
+
+-- the visits that begin with one of these positions were added, in this order
+abbrev pub AreAdded : Program → List Visit → VisitOrder → Type 0
+AreAdded p positions order = AreAddedBy p positions (last_of order) order.pairs.items
 
 -- all visits were added, those of each place sorted
 pub record AreAllAdded (p : Program) (order : VisitOrder) : Type 0 where

@@ -1,33 +1,38 @@
 //! A verifier without ticks: each agent runs on as far as its awaits allow. It only says yes.
 
-ghost use Rattle.std.specs.Prelude.{◌≡◌, ◌<◌, ◌≤◌, ◌+◌, ℕ, length, IfOk, IfErr, IfSome, OnOk, List, set, get_or, [], ◌∷◌, ◌++◌, ◌-◌, All};
+ghost use Rattle.std.specs.Prelude.{◌≡◌, ◌≢◌, ◌<◌, ◌≤◌, ◌+◌, ℕ, Some, length, IfOk, IfErr, IfSome, OnOk, List, set, get_or, [], ◌∷◌, ◌++◌, ◌-◌, All};
+ghost use Rattle.fleet_model.specs.declared.geometry.Cell.{Cell};
 ghost use Rattle.fleet_model.specs.declared.program.Visit.{Visit};
 ghost use Rattle.fleet_model.specs.Geometry.{place_of};
-ghost use Rattle.fleet_verify.specs.Order.{AreAdded};
-ghost use Rattle.fleet_model.specs.Program.{Program, start_of, moves, path};
+ghost use Rattle.fleet_verify.specs.Order.{AreAddedBy, IsOpenNext};
+ghost use Rattle.fleet_model.specs.Program.{Program, start_of, moves, path, IsCell};
+ghost use Rattle.fleet_model.specs.Visit.{IsVisit, ComesAfterByAwait};
 ghost use Rattle.fleet_grid.specs.Ground.{is_passable};
 ghost use Rattle.fleet_verify.specs.Ahead.{IsAhead, IsNext, IsNextLevel, AddsLevel, count_in};
 ghost use Rattle.fleet_verify.specs.Faults.{HasStarts};
+ghost use Rattle.fleet_verify.specs.LastVisits.{kept_at};
 ghost use Rattle.fleet_verify.specs.Parts.{IsAcceptedFor};
 
 use crate::agents::ends_right;
+use crate::last_visits::LastVisits;
 use crate::level_row::LevelRow;
 use crate::path::cell_after;
 use crate::unheld_run::Stop;
-use crate::visit_order::{PlacedVisit, VisitOrder, number_of};
+use crate::visit_order::{OpenPair, PlacedVisit, begins_visit, open_unless_after};
 use fleet_grid::Grid;
 use fleet_model::{Await, Cell, OutOfMemory, Place, ProgramView, Visit, total_moves};
 use fleet_scen::Instance;
 use std::alloc::Global;
 use std::marker::Model;
 
-/// Agents that have run ahead: for each agent the levels of its finished actions, and the cell that it is on; and the
-/// visits that have begun.
+/// Agents that have run ahead: for each agent the levels of its finished actions, and the cell that it is on; of the
+/// visits that have begun the last one of each cell, and the open pairs.
 #[derive(Drop)]
 pub struct Ahead {
     pub rows: Vec<LevelRow>,
     pub cells: Vec<Cell>,
-    pub visits: VisitOrder,
+    pub last: LastVisits,
+    pub pairs: Vec<OpenPair>,
 }
 
 /// The levels of an agent's finished actions.
@@ -117,16 +122,61 @@ fn note<P: ProgramView>(
     ensures level { OnOk result (AddsLevel ahead.old.rows.items ahead.new.rows.items
         placed.visit.agent level) }
     ensures added { OnOk result ((visits : List Visit)
-        → AreAdded (P.program program.now) visits ahead.old.visits
-        → AreAdded (P.program program.now) (visits ++ placed.visit ∷ []) ahead.new.visits) }
+        → AreAddedBy (P.program program.now) visits (kept_at ahead.old.last)
+        ahead.old.pairs.items
+        → AreAddedBy (P.program program.now) (visits ++ placed.visit ∷ [])
+        (kept_at ahead.new.last) ahead.new.pairs.items) }
 {
     let PlacedVisit { visit, cell } = placed;
     let _agents = program.agents();
-    let _number = number_of(cell);
-    ahead.visits.add(program, placed)?;
+    add_visit(program, &mut ahead.last, &mut ahead.pairs, placed)?;
     ahead.cells[usize::from(visit.agent)] = cell;
     ahead.rows[usize::from(visit.agent)].push(level)?;
     Ok(())
+}
+
+/// Adds the next position, if it begins a visit.
+fn add_visit<P: ProgramView>(
+    program: &P,
+    last: &mut LastVisits,
+    pairs: &mut Vec<OpenPair>,
+    placed: PlacedVisit,
+) -> Result<(), OutOfMemory>
+    requires agent { placed.visit.agent < length (P.program program.now) }
+    requires position { placed.visit.position ≤ moves (P.program program.now) placed.visit.agent }
+    requires here { place_of placed.cell ≡ path (P.program program.now) placed.visit.agent
+        placed.visit.position }
+    ensures { OnOk result ((visits : List Visit)
+        → AreAddedBy (P.program program.now) visits (kept_at last.old) pairs.old.items
+        → AreAddedBy (P.program program.now) (visits ++ placed.visit ∷ [])
+        (kept_at last.new) pairs.new.items) }
+{
+    if begins_visit(program, placed.visit) {
+        keep_visit(program, last, pairs, placed)?;
+    }
+    Ok(())
+}
+
+/// Keeps the visit as the last one of its cell. Unless it comes after the one before it, the two are an open pair.
+fn keep_visit<P: ProgramView>(
+    program: &P,
+    last: &mut LastVisits,
+    pairs: &mut Vec<OpenPair>,
+    placed: PlacedVisit,
+) -> Result<(), OutOfMemory>
+    requires { IsVisit (P.program program.now) placed.visit }
+    ensures here { OnOk result (kept_at last.new placed.cell ≡ Some placed.visit) }
+    ensures others { OnOk result ((c : Cell) → IsCell c → c ≢ placed.cell
+        → kept_at last.new c ≡ kept_at last.old c) }
+    ensures pairs { OnOk result (IsOpenNext (ComesAfterByAwait (P.program program.now))
+        (kept_at last.old placed.cell) placed pairs.old.items pairs.new.items) }
+    ensures cell { IsCell placed.cell }
+{
+    let _agents = program.agents();
+    match last.replace(placed.cell, placed.visit)? {
+        Some(first) => open_unless_after(program, first, placed, pairs),
+        None => Ok(()),
+    }
 }
 
 /// All agents on their starts, if these are passable.
@@ -149,12 +199,14 @@ fn begin<P: ProgramView>(alloc: Global, program: &P, grid: &Grid) -> Result<Ahea
 fn empty(alloc: Global) -> Ahead
     ensures rows { result.rows.items ≡ [] }
     ensures cells { result.cells.items ≡ [] }
-    ensures visits { (p : Program) → AreAdded p [] result.visits }
+    ensures added { (p : Program) → AreAddedBy p [] (kept_at result.last)
+        result.pairs.items }
 {
     Ahead {
         rows: Vec::new(alloc),
         cells: Vec::new(alloc),
-        visits: VisitOrder::new(alloc),
+        last: LastVisits::new(alloc),
+        pairs: Vec::new(alloc),
     }
 }
 
@@ -171,16 +223,18 @@ fn begin_agent<P: ProgramView>(
     ensures rows { OnOk result (ahead.new.rows.items ≡ ahead.old.rows.items ++ [] ∷ []) }
     ensures cells { OnOk result (ahead.new.cells.items ≡ ahead.old.cells.items ++ cell ∷ []) }
     ensures added { OnOk result ((visits : List Visit)
-        → AreAdded (P.program program.now) visits ahead.old.visits
-        → AreAdded (P.program program.now)
-        (visits ++ record { agent = agent; position = 0 } ∷ []) ahead.new.visits) }
+        → AreAddedBy (P.program program.now) visits (kept_at ahead.old.last)
+        ahead.old.pairs.items
+        → AreAddedBy (P.program program.now) (visits ++ record { agent = agent; position = 0 } ∷ [])
+        (kept_at ahead.new.last) ahead.new.pairs.items) }
 {
     let _agents = program.agents();
     let row = LevelRow::new(alloc);
     ahead.rows.push(row)?;
     ahead.cells.push(cell)?;
     let visit = Visit { agent, position: 0 };
-    ahead.visits.add(program, PlacedVisit { visit, cell })?;
+    let placed = PlacedVisit { visit, cell };
+    add_visit(program, &mut ahead.last, &mut ahead.pairs, placed)?;
     Ok(())
 }
 
@@ -322,7 +376,7 @@ fn run_ahead<P: ProgramView>(
             return Ok(());
         };
         look_at(program, grid, ahead, &mut queue, agent)?;
-        if !ahead.visits.pairs.is_empty() {
+        if !ahead.pairs.is_empty() {
             // Chains are to be asked, which is not done here.
             return Ok(());
         }
@@ -362,7 +416,7 @@ fn judge_ahead<P: ProgramView>(
     requires ahead { IsAhead (is_passable grid.now) (P.program program.now) ahead.now }
     ensures { IfSome result (IsAcceptedFor grid.now instance.now (P.program program.now)) }
 {
-    if !ahead.visits.pairs.is_empty() {
+    if !ahead.pairs.is_empty() {
         return None;
     }
     let mut chain: u32 = 0;

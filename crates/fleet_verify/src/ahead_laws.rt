@@ -1,10 +1,12 @@
 //! What a verifier stands on that finishes actions in any order that respects needs. These functions do nothing: their
 //! contracts are the laws.
 
-ghost use Rattle.std.specs.Prelude.{◌≡◌, ℕ, ◌+◌, ◌<◌, Bool, length, []};
+ghost use Rattle.std.specs.Prelude.{◌≡◌, ℕ, ◌+◌, ◌<◌, Bool, List, Option, length, []};
 ghost use Rattle.fleet_model.specs.declared.geometry.Place.{Place};
 ghost use Rattle.fleet_model.specs.Visit.{ComesAfter, IsOrderly};
-ghost use Rattle.fleet_verify.specs.declared.visit_order.VisitOrder.{VisitOrder};
+ghost use Rattle.fleet_verify.specs.declared.visit_order.OpenPair.{OpenPair};
+ghost use Rattle.fleet_model.specs.declared.geometry.Cell.{Cell};
+ghost use Rattle.fleet_model.specs.declared.program.Visit.{Visit};
 ghost use Rattle.fleet_model.specs.declared.program.ActionId.{ActionId};
 ghost use Rattle.fleet_model.specs.Program.{Program, moves, AreInRange};
 ghost use Rattle.fleet_model.specs.Chain.{IsAction, IsLevel, IsLongestChain, IsNumbering};
@@ -23,7 +25,9 @@ pub fn counted_levels_are_levels()
 
 /// If all visits are added in any order, each once, and no neighbours at a cell are left open, the program is orderly.
 pub fn begun_visits_are_orderly()
-    ensures { (passable : Place → Bool) (p : Program) (begun : ℕ → ℕ) (visits : VisitOrder)
-        → AreBegun passable p begun visits → ((i : ℕ) → i < length p → begun i ≡ moves p i + 1)
-        → AreInRange p → visits.pairs.items ≡ [] → IsOrderly ComesAfter p }
+    ensures { (passable : Place → Bool) (p : Program) (begun : ℕ → ℕ)
+        → (last : Cell → Option Visit) (pairs : List OpenPair)
+        → AreBegun passable p begun last pairs
+        → ((i : ℕ) → i < length p → begun i ≡ moves p i + 1)
+        → AreInRange p → pairs ≡ [] → IsOrderly ComesAfter p }
 {}

@@ -14,6 +14,7 @@ mod breaking;
 mod counting;
 mod exactness;
 mod fault;
+mod last_visits;
 mod level_row;
 mod needed;
 mod open_pairs;

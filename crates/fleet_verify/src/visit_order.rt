@@ -82,7 +82,7 @@ impl VisitOrder {
 }
 
 /// Whether the agent does not stay where it was: it is on its start, or its last action is a move.
-fn begins_visit<P: ProgramView>(program: &P, visit: Visit) -> bool
+pub fn begins_visit<P: ProgramView>(program: &P, visit: Visit) -> bool
     requires agent { visit.agent < length (P.program program.now) }
     requires position { visit.position ≤ moves (P.program program.now) visit.agent }
     ensures { result ≡ is_entry (P.program program.now) visit.agent visit.position }
@@ -115,9 +115,28 @@ fn append<P: ProgramView>(
         visit: second,
         cell,
     } = placed;
-    let Some(first) = last.insert(number_of(cell), second)? else {
-        return Ok(());
-    };
+    match last.insert(number_of(cell), second)? {
+        Some(first) => open_unless_after(program, first, placed, pairs),
+        None => Ok(()),
+    }
+}
+
+/// Adds the visit and the one before it at the cell as an open pair, unless it is a later one by the same agent, or
+/// awaits that the one before is left.
+pub fn open_unless_after<P: ProgramView>(
+    program: &P,
+    first: Visit,
+    placed: PlacedVisit,
+    pairs: &mut Vec<OpenPair>,
+) -> Result<(), OutOfMemory>
+    requires { IsVisit (P.program program.now) placed.visit }
+    ensures { OnOk result (IsOpenNext (ComesAfterByAwait (P.program program.now)) (Some first)
+        placed pairs.old.items pairs.new.items) }
+{
+    let PlacedVisit {
+        visit: second,
+        cell,
+    } = placed;
     if comes_after(program, first, second) {
         return Ok(());
     }

@@ -1,7 +1,13 @@
 use Rattle.std.proofs.Common.{sym, ◌∙◌, arith}
 use Rattle.fleet_grid.specs.Ground.{is_passable}
-use Rattle.fleet_verify.proofs.Beginning.{beginning_more, beginning_all}
+use Rattle.fleet_verify.proofs.Beginning.{beginning_first, beginning_more, beginning_all}
 use Rattle.fleet_verify.proofs.ahead.begin.Goals as goal
+
+pub loop-agent-init : goal.loop-agent-init
+loop-agent-init g c =
+    let p = g.P.ProgramView.program c.args.program.now in
+    let made = c.empty-ahead.ensures in
+    beginning_first (is_passable c.args.grid.now) p c.empty-ahead.result made.rows made.cells (made.added p)
 
 pub loop-agent-preserved : goal.loop-agent-preserved
 loop-agent-preserved g c =

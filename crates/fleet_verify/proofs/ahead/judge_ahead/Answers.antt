@@ -18,7 +18,7 @@ loop-agent-preserved g c =
 pub returns : goal.returns
 returns g c =
     let p = g.P.ProgramView.program c.args.program.now in
-    let pairs = c.args.ahead.now.visits.pairs in
+    let pairs = c.args.ahead.now.pairs in
     let none : pairs.len ≡ 0 = eqb-true pairs.len 0 (sym c.is_empty.ensures ∙ c.if-not-is_empty.false) in
     ahead_accepted c.args.grid.now c.args.instance.now p c.args.ahead.now c.loop-agent.agent c.loop-agent.chain c.agents-agent-end.ensures.well_formed c.requires.starts c.requires.ahead
     c.loop-agent.invariant (omega (arith, c.agents-agent-end.ensures.count)) (no_entries pairs.items (omega (arith, none, pairs.ok.0)))

@@ -1,0 +1,97 @@
+-- Squares of cells, and the visits that they keep.
+use Rattle.std.proofs.Common.{◌≡◌, ◌≢◌, ℕ, zero, suc, ◌+◌, ◌*◌, ◌/◌, ◌%◌, ◌<◌, ◌≤◌, nat_eq, cond, Bool, true, false, List, [], ◌∷◌, length, get_or, slice_get, Option, Some, None, replicate, refl, sym, ap, ◌∙◌, subst, arith, inl, inr, ◌⊎◌}
+use Rattle.std.proofs.lemmas.Bool.{cases_eq, ne_eqb, eq-eqb, eqb-true}
+use Rattle.std.proofs.lemmas.Option.{same_Some}
+use Rattle.std.proofs.lemmas.Map.Entries.{lookup_from_place}
+use Rattle.std.specs.Cmp.{nat_eq_equiv}
+use Rattle.std.specs.List.{position_or_len, position}
+use Rattle.std.specs.Option.{option_map}
+use Rattle.std.specs.Map.{keys_of}
+use Rattle.indexmap.specs.IndexMap.{IndexMap, get, keys, Updates, IsUnique, with_value_at}
+use Rattle.indexmap.proofs.CallerLemmas.{updates-with_value_at}
+use Rattle.indexmap.proofs.MapLemmas.{Found-position}
+use Rattle.fleet_model.specs.declared.geometry.Cell.{Cell}
+use Rattle.fleet_model.specs.declared.limits.TheConstants.{MAX_AGENTS, MAX_MOVES}
+use Rattle.fleet_model.specs.declared.program.Visit.{Visit}
+use Rattle.fleet_model.specs.Program.{IsCell}
+use Rattle.fleet_verify.specs.LastVisits.{square_of, place_in_square, visit_kept, visit_in, last_in, IsSquareAt, IsWritten}
+use Rattle.fleet_verify.specs.declared.last_visits.TheConstants.{NO_VISIT}
+
+-- cells at one place of one square are one
+pub same_in_square : (c d : Cell) → IsCell c → IsCell d → square_of c ≡ square_of d → place_in_square c ≡ place_in_square d → c ≡ d
+same_in_square c d cs ds e f =
+    let down : c.y / 4 ≡ d.y / 4 = omega (arith, e, cs.x, ds.x) in
+    let across : c.x / 4 ≡ d.x / 4 = omega (arith, e, down) in
+    let row : c.y % 4 ≡ d.y % 4 = omega (arith, f) in
+    let column : c.x % 4 ≡ d.x % 4 = omega (arith, f, row) in
+    let y : c.y ≡ d.y = omega (arith, down, row) in
+    let x : c.x ≡ d.x = omega (arith, across, column) in
+    λ i. record { x = x i; y = y i }
+
+-- a visit is kept as its number
+pub kept_visit : (v : Visit) (n : ℕ) → v.agent < MAX_AGENTS → v.position ≤ MAX_MOVES → n ≡ v.position * 1024 + v.agent → visit_kept n ≡ Some v
+kept_visit v n few most is =
+    let agent : n % 1024 ≡ v.agent = omega (arith, is, few) in
+    let position : n / 1024 ≡ v.position = omega (arith, is, few) in
+    rw (ne_eqb n NO_VISIT (λ e. omega (arith, e, is, few, most))) (λ i. Some (record { agent = agent i; position = position i }))
+
+module _ {S : Type 0} (old new : IndexMap ℕ (List ℕ) S) (cell : Cell) (square written : List ℕ) (place n : ℕ)
+    (is : place ≡ place_in_square cell) (updates : Updates nat_eq old new (square_of cell) (Some written)) (w : IsWritten square written place n) where
+  -- what is written in the cell's square at its place is kept for it
+  pub kept_here : last_in new cell ≡ visit_kept n
+  kept_here = ap (λ s. visit_in s (place_in_square cell)) updates.1 ∙ ap visit_kept (ap (λ k. get_or written k NO_VISIT) (sym is) ∙ w.here)
+
+  -- and for other cells what was
+  pub kept_others : get nat_eq old (square_of cell) ≡ Some square → IsCell cell → (c : Cell) → IsCell c → c ≢ cell → last_in new c ≡ last_in old c
+  kept_others was here c there ne = elim (cases_eq (square_of cell) (square_of c)) [
+    | inr other ↦ ap (λ s. visit_in s (place_in_square c)) (updates.2 (square_of c) (ne_eqb (square_of cell) (square_of c) other))
+    | inl same ↦
+        ap (λ k. visit_in (get nat_eq new k) (place_in_square c)) (sym same)
+        ∙ (ap (λ s. visit_in s (place_in_square c)) updates.1
+        ∙ (ap visit_kept (w.others (place_in_square c) (λ e. ne (same_in_square c cell there here (sym same) (e ∙ is))))
+        ∙ (ap (λ s. visit_in s (place_in_square c)) (sym was) ∙ ap (λ k. visit_in (get nat_eq old k) (place_in_square c)) same)))
+  ]
+
+-- a square without visits keeps none
+pub blank_none : (many k : ℕ) → get_or (replicate many NO_VISIT) k NO_VISIT ≡ NO_VISIT
+blank_none zero k = refl
+blank_none (suc many) zero = refl
+blank_none (suc many) (suc k) = blank_none many k
+
+-- ---- where a square stands
+
+-- the first key that is this one
+first_key : (k : ℕ) (es : List (ℕ × List ℕ)) → position_or_len (nat_eq k) (keys_of es) < length es → option_map (λ (e : ℕ × List ℕ). e.0) (slice_get es (position_or_len (nat_eq k) (keys_of es))) ≡ Some k
+first_key k [] l = absurd (omega arith)
+first_key k (e ∷ es) l = go (nat_eq k e.0) refl l (first_key k es)
+  where
+    Stands : List (ℕ × List ℕ) → Type 0
+    Stands xs = option_map (λ (x : ℕ × List ℕ). x.0) (slice_get xs (position_or_len (nat_eq k) (keys_of xs))) ≡ Some k
+
+    go : (b : Bool) → nat_eq k e.0 ≡ b → position_or_len (nat_eq k) (keys_of (e ∷ es)) < length (e ∷ es) → (position_or_len (nat_eq k) (keys_of es) < length es → Stands es) → Stands (e ∷ es)
+    go true f m later = rw f (ap (λ (n : ℕ). Some n) (sym (eqb-true k e.0 f)))
+    go false f m later =
+        let more : 1 + position_or_len (nat_eq k) (keys_of es) ≡ suc (position_or_len (nat_eq k) (keys_of es)) = omega arith in
+        rw f (ap (λ (i : ℕ). option_map (λ (x : ℕ × List ℕ). x.0) (slice_get (e ∷ es) i)) more ∙ later (let n = rw f at m in omega (arith, n)))
+
+module _ {S : Type 0} (m : IndexMap ℕ (List ℕ) S) where
+  pub stands_at : (number slot : ℕ) → position (nat_eq number) (keys m) ≡ Some slot → IsSquareAt m number slot
+  stands_at number slot e =
+      let found = Found-position (nat_eq number) m.entries slot e in
+      subst (λ (i : ℕ). option_map (λ (x : ℕ × List ℕ). x.0) (slice_get m.entries i) ≡ Some number) found.or_len
+      (first_key number m.entries (omega (arith, found.or_len, found.within)))
+
+  -- a square is written where its number stands
+  pub written_at : (slot number key : ℕ) (square written : List ℕ) → IsUnique nat_eq m → slice_get m.entries slot ≡ Some (key, square) → IsSquareAt m number slot → Updates nat_eq m (with_value_at m slot written) number (Some written)
+  written_at slot number key square written unique here at =
+      let same : key ≡ number = same_Some key number (sym (ap (option_map (λ (x : ℕ × List ℕ). x.0)) here) ∙ at) in
+      subst (λ (k : ℕ). Updates nat_eq m (with_value_at m slot written) k (Some written)) same (updates-with_value_at m slot written nat_eq_equiv unique key square here)
+
+  pub at_number : (slot number key : ℕ) (square : List ℕ) → slice_get m.entries slot ≡ Some (key, square) → key ≡ number → IsSquareAt m number slot
+  at_number slot number key square here same = ap (option_map (λ (x : ℕ × List ℕ). x.0)) here ∙ ap (λ (k : ℕ). Some k) same
+
+  -- and is the one with that number
+  pub found_square : (slot number key : ℕ) (square : List ℕ) → IsUnique nat_eq m → slice_get m.entries slot ≡ Some (key, square) → IsSquareAt m number slot → get nat_eq m number ≡ Some square
+  found_square slot number key square unique here at =
+      let same : key ≡ number = same_Some key number (sym (ap (option_map (λ (x : ℕ × List ℕ). x.0)) here) ∙ at) in
+      ap (get nat_eq m) (sym same) ∙ lookup_from_place nat_eq_equiv m.entries slot key square unique here

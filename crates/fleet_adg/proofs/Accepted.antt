@@ -87,11 +87,13 @@ module _ (passable : Place → Bool) (tasks : List Task) (plan : Plan) (free : I
   pub compiled-accepted : IsAcceptedBy ComesAfterByAwait passable tasks (compiled plan deps)
   compiled-accepted = record {
     right = record {
-      agents = length-compiled plan deps ∙ free.agents;
-      ends = λ i t e.
-          let b : i < length plan = omega (arith, slice_get_within tasks i t e, free.agents) in
-          let w = free.ends i t e in
-          (start_of-compiled plan deps i b ∙ w.0, goal_of-compiled plan deps i b ∙ cell_of-end plan i (steps plan) (omega arith) ∙ w.1);
+      for_tasks = record {
+        agents = length-compiled plan deps ∙ free.agents;
+        ends = λ i t e.
+            let b : i < length plan = omega (arith, slice_get_within tasks i t e, free.agents) in
+            let w = free.ends i t e in
+            (start_of-compiled plan deps i b ∙ w.0, goal_of-compiled plan deps i b ∙ cell_of-end plan i (steps plan) (omega arith) ∙ w.1);
+      };
       on_ground = λ i n l m.
           let b : i < length plan = omega (arith, length-compiled plan deps) in
           let w = time_of_count plan i (steps plan) n (omega (arith, moves-compiled plan deps i b)) in

@@ -291,8 +291,10 @@ module _ (n : ℕ) (p : Program) where
 
   right-added : (passable : Place → Bool) (tasks : List Task) → IsRight passable tasks p → IsRight passable tasks (added n p)
   right-added passable tasks h = record {
-    agents = length-added n p ∙ h.agents;
-    ends = λ i t e. (start-added i ∙ (h.ends i t e).0, goal-added i ∙ (h.ends i t e).1);
+    for_tasks = record {
+      agents = length-added n p ∙ h.for_tasks.agents;
+      ends = λ i t e. (start-added i ∙ (h.for_tasks.ends i t e).0, goal-added i ∙ (h.for_tasks.ends i t e).1);
+    };
     on_ground = λ i k lt le.
         let there : i < length p = omega (arith, lt, length-added n p) in
         elim (cases_lt (moves p i) k) [

@@ -1,8 +1,10 @@
 -- Chains of actions, and numberings.
 use Rattle.std.proofs.Common.{◌≡◌, ℕ, ◌+◌, ◌<◌, ◌≤◌, List, [], ◌∷◌, length, refl, ap, sym, subst, arith}
+use Rattle.std.specs.Prelude.{sum_by}
+use Rattle.std.proofs.lemmas.List.Sums.{sum_by-cons}
 use Rattle.fleet_model.specs.declared.program.ActionId.{ActionId}
 use Rattle.fleet_model.specs.Program.{Program}
-use Rattle.fleet_model.specs.Chain.{IsAction, DirectlyNeeds, ChainFrom, Reaches, EndsChain, IsLevel, IsNumbering}
+use Rattle.fleet_model.specs.Chain.{IsAction, DirectlyNeeds, ChainFrom, Reaches, unit_cost, EndsChain, IsLevel, IsNumbering}
 
 -- the first action of a chain is one of the program, and so is the last
 pub chain_first : (p : Program) (a : ActionId) (cs : List ActionId) (b : ActionId) → ChainFrom p a cs b → IsAction p a
@@ -39,10 +41,22 @@ chain_rises p number is a (c ∷ cs) b h =
     let l : number a < number c = is.rising c a (chain_first p c cs b h.2) h.0 h.1 in
     omega (arith, chain_rises p number is c cs b h.2)
 
+-- at unit cost, actions cost as much as there are
+all_units : (cs : List ActionId) → sum_by unit_cost cs ≡ length cs
+all_units [] = refl
+all_units (c ∷ cs) = omega (arith, sum_by-cons unit_cost c cs, all_units cs)
+
+-- a chain of n actions, by the number of those after the first
+pub ends_by : (p : Program) (n : ℕ) (a : ActionId) (cs : List ActionId) (b : ActionId) → ChainFrom p a cs b → n ≡ length cs + 1 → EndsChain p n b
+ends_by p n a cs b h e = (a, cs, h, omega (arith, e, all_units (a ∷ cs)))
+
+pub ends_long : (p : Program) (n : ℕ) (b : ActionId) → (h : EndsChain p n b) → n ≡ length h.1 + 1
+ends_long p n b h = omega (arith, h.3, all_units (h.0 ∷ h.1))
+
 -- a chain has at most as many actions as its last one's number
 pub ends_within : (p : Program) (number : ActionId → ℕ) → IsNumbering p number → (n : ℕ) (b : ActionId) → EndsChain p n b → n ≤ number b
 ends_within p number is n b h =
-    omega (arith, h.3, chain_rises p number is h.0 h.1 b h.2, is.positive h.0 (chain_first p h.0 h.1 b h.2))
+    omega (arith, ends_long p n b h, chain_rises p number is h.0 h.1 b h.2, is.positive h.0 (chain_first p h.0 h.1 b h.2))
 
 pub ends_action : (p : Program) (n : ℕ) (b : ActionId) → EndsChain p n b → IsAction p b
 ends_action p n b h = chain_last p h.0 h.1 b h.2

@@ -1,8 +1,10 @@
 -- Chains, numberings and the longest chain.
-use Rattle.std.proofs.Common.{◌≡◌, ℕ, zero, suc, ◌+◌, ◌-◌, ◌<◌, ◌≤◌, List, [], ◌∷◌, ◌++◌, length, refl, ap, sym, subst, arith, inl, inr, ◌⊎◌, length-append}
+use Rattle.std.proofs.Common.{◌≡◌, ℕ, zero, suc, ◌+◌, ◌-◌, ◌<◌, ◌≤◌, List, [], ◌∷◌, ◌++◌, length, refl, ap, sym, subst, arith, inl, inr, ◌⊎◌}
+use Rattle.std.specs.Prelude.{sum_by}
+use Rattle.std.proofs.lemmas.List.Sums.{sum_by-append, sum_by-cons}
 use Rattle.fleet_model.specs.declared.program.ActionId.{ActionId}
 use Rattle.fleet_model.specs.Program.{Program, moves}
-use Rattle.fleet_model.specs.Chain.{IsAction, DirectlyNeeds, ChainFrom, Reaches, EndsChain, IsLongestChain, IsNumbering}
+use Rattle.fleet_model.specs.Chain.{IsAction, DirectlyNeeds, ChainFrom, Reaches, EndsChainOfCost, unit_cost, EndsChain, IsLongestChain, IsNumbering}
 use Rattle.fleet_model.proofs.Chains.{Reaches-need, Reaches-first, chain_rises}
 
 pub chain_join : (p : Program) (a : ActionId) (cs : List ActionId) (b : ActionId) (ds : List ActionId) (d : ActionId) → ChainFrom p a cs b → ChainFrom p b ds d → ChainFrom p a (cs ++ ds) d
@@ -56,14 +58,24 @@ pub chain_push : (p : Program) (a : ActionId) (cs : List ActionId) (b d : Action
 chain_push p a [] b d h act need = (h.0, subst (λ (x : ActionId). DirectlyNeeds p d x) (sym h.1) need, (act, refl))
 chain_push p a (c ∷ cs) b d h act need = (h.0, h.1, chain_push p c cs b d h.2 act need)
 
--- one action ends a chain of one action
-pub ends_one : (p : Program) (b : ActionId) → IsAction p b → EndsChain p 1 b
-ends_one p b act = (b, [], (act, refl), refl)
+pub chain_cost_push : (cost : ActionId → ℕ) (a : ActionId) (cs : List ActionId) (b : ActionId) → sum_by cost (a ∷ cs ++ b ∷ []) ≡ sum_by cost (a ∷ cs) + cost b
+chain_cost_push cost a cs b = let e : sum_by cost (cs ++ b ∷ []) ≡ sum_by cost cs + sum_by cost (b ∷ []) = sum_by-append cost cs (b ∷ []) in omega (arith, sum_by-cons cost a cs, sum_by-cons cost a (cs ++ b ∷ []), sum_by-cons cost b [])
 
--- and what directly needs the end of a chain ends a longer one
+-- an action ends the chain of it alone
+pub ends_alone : (p : Program) (cost : ActionId → ℕ) (b : ActionId) → IsAction p b → EndsChainOfCost p cost (cost b) b
+ends_alone p cost b act = (b, [], (act, refl), omega (arith, sum_by-cons cost b []))
+
+-- and what directly needs the end of a chain ends one that costs more
+pub ends_dearer : (p : Program) (cost : ActionId → ℕ) (m : ℕ) (b d : ActionId) → EndsChainOfCost p cost m b → IsAction p d → DirectlyNeeds p d b → EndsChainOfCost p cost (m + cost d) d
+ends_dearer p cost m b d h act need =
+    (h.0, h.1 ++ d ∷ [], chain_push p h.0 h.1 b d h.2 act need, omega (arith, h.3, chain_cost_push cost h.0 h.1 d))
+
+-- the same by numbers of actions
+pub ends_one : (p : Program) (b : ActionId) → IsAction p b → EndsChain p 1 b
+ends_one p b act = ends_alone p unit_cost b act
+
 pub ends_more : (p : Program) (n : ℕ) (b d : ActionId) → EndsChain p n b → IsAction p d → DirectlyNeeds p d b → EndsChain p (n + 1) d
-ends_more p n b d h act need =
-    (h.0, h.1 ++ d ∷ [], chain_push p h.0 h.1 b d h.2 act need, omega (arith, h.3, length-append h.1 (d ∷ [])))
+ends_more p n b d h act need = ends_dearer p unit_cost n b d h act need
 
 pub Reaches-rises : (p : Program) (number : ActionId → ℕ) → IsNumbering p number → (a b : ActionId) → Reaches p a b → number a ≤ number b
 Reaches-rises p number s a b (cs, h) = let up : number a + length cs ≤ number b = chain_rises p number s a cs b h in omega arith

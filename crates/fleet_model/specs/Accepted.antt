@@ -12,19 +12,21 @@ use Rattle.fleet_model.specs.Visit.{ComesAfter, IsOrderly}
 -- the program has an agent for each task, with its start and its goal
 pub record HasTasks (tasks : List Task) (p : Program) : Type 0 where
   pub agents : length p ≡ length tasks
-  pub ends : (i : ℕ) (t : Task) → slice_get tasks i ≡ Some t → (start_of p i ≡ t.start) × (goal_of p i ≡ t.goal)
+  pub ends : (i : ℕ) (t : Task) → slice_get tasks i ≡ Some t
+      → (start_of p i ≡ t.start) × (goal_of p i ≡ t.goal)
 
--- for the passable places of a map and the tasks of an instance: there are as many agents as tasks, with the starts and goals of these,
--- every place of every path is passable, every path ends on its goal, and every await can be met
+-- for the passable places of a map and the tasks of an instance: the program has an agent for each task, every place of
+-- every path is passable, every path ends on its goal, and every await can be met
 pub record IsRight (passable : Place → Bool) (tasks : List Task) (p : Program) : Type 0 where
-  pub agents : length p ≡ length tasks
-  pub ends : (i : ℕ) (t : Task) → slice_get tasks i ≡ Some t → (start_of p i ≡ t.start) × (goal_of p i ≡ t.goal)
+  pub for_tasks : HasTasks tasks p
   pub on_ground : (i n : ℕ) → i < length p → n ≤ moves p i → IsTrue (passable (path p i n))
   pub arrives : (i : ℕ) → i < length p → path p i (moves p i) ≡ place_of (goal_of p i)
   pub in_range : AreInRange p
 
--- right for a map and an instance, with a numbering, and orderly; After says which visit of a place may come directly after which
-pub record IsAcceptedBy (After : Program → Visit → Visit → Type 0) (passable : Place → Bool) (tasks : List Task) (p : Program) : Type 0 where
+-- right for a map and an instance, with a numbering, and orderly; After says which visit of a place may come directly
+-- after which
+pub record IsAcceptedBy (After : Program → Visit → Visit → Type 0)
+    (passable : Place → Bool) (tasks : List Task) (p : Program) : Type 0 where
   pub right : IsRight passable tasks p
   pub numbering : (number : ActionId → ℕ) × IsNumbering p number
   pub orderly : IsOrderly After p

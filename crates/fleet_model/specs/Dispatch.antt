@@ -4,32 +4,41 @@ use Rattle.fleet_model.specs.declared.program.Await.{Await}
 use Rattle.fleet_model.specs.declared.program.ActionId.{ActionId}
 use Rattle.fleet_model.specs.Program.{Program, awaits_of}
 use Rattle.fleet_model.specs.Chain.{IsAction, awaited}
-use Rattle.fleet_model.specs.Schedule.{Schedule, IsBy, HasBegunBy, HasEndedBy}
+use Rattle.fleet_model.specs.Schedule.{Schedule, IsBy, HasEndedBy, BeginsFirst}
 
 -- when each action is ordered, and when its end is reported, if ever
 pub record Dispatch : Type 0 where
   pub orders : ActionId → Option ℕ
   pub reports : ActionId → Option ℕ
 
--- an action is ordered only when the ends of all that it awaits have been reported, though its agent may still be busy with earlier ones
+-- an action is ordered only when the ends of all that it awaits have been reported, though its agent may still be busy
+-- with earlier ones
 abbrev pub OrdersAwait : Program → Dispatch → Type 0
 OrdersAwait p d =
-    (a : ActionId) (w : Await) (t : ℕ) → IsAction p a → Contains (awaits_of p a.agent a.number) w → d.orders a ≡ Some t → IsBy (d.reports (awaited w)) t
+    (a : ActionId) (w : Await) (t : ℕ) → IsAction p a → Contains (awaits_of p a.agent a.number) w
+    → d.orders a ≡ Some t → IsBy (d.reports (awaited w)) t
 
--- the actions of each agent are carried out in turn, each after it was ordered, and each end is reported no sooner than it comes
+-- the actions of each agent are carried out in turn, each after it was ordered, and each end is reported no sooner than
+-- it comes
 pub record IsCarriedOut (p : Program) (d : Dispatch) (s : Schedule) : Type 0 where
-  pub ordered_first : (a : ActionId) (t : ℕ) → IsAction p a → s.begins a ≡ Some t → IsBy (d.orders a) t
-  pub in_turn : (a b : ActionId) (t : ℕ) → IsAction p a → IsAction p b → a.agent ≡ b.agent → a.number ≡ b.number + 1
-      → s.begins a ≡ Some t → HasEndedBy s t b
-  pub begins_first : (a : ActionId) (t : ℕ) → IsAction p a → s.ends a ≡ Some t → HasBegunBy s t a
-  pub ends_first : (a : ActionId) (t : ℕ) → IsAction p a → d.reports a ≡ Some t → HasEndedBy s t a
+  pub ordered_first : (a : ActionId) (t : ℕ) → IsAction p a
+      → s.begins a ≡ Some t → IsBy (d.orders a) t
+  pub in_turn : (a b : ActionId) (t : ℕ) → IsAction p a → IsAction p b
+      → a.agent ≡ b.agent → a.number ≡ b.number + 1 → s.begins a ≡ Some t → HasEndedBy s t b
+  pub begins_first : BeginsFirst p s
+  pub ends_first : (a : ActionId) (t : ℕ) → IsAction p a
+      → d.reports a ≡ Some t → HasEndedBy s t a
 
 -- each end is reported within one lag; what does not stall is ordered within another of the reports that it awaits, and
 -- ends within its time of its order and of the end of the agent's action before
-pub record IsPrompt (p : Program) (d : Dispatch) (s : Schedule) (stalls : ActionId → Bool) (report_lag order_lag : ℕ) (takes : ActionId → ℕ) : Type 0 where
-  pub reports : (a : ActionId) (t : ℕ) → IsAction p a → HasEndedBy s t a → IsBy (d.reports a) (t + report_lag)
+pub record IsPrompt (p : Program) (d : Dispatch) (s : Schedule) (stalls : ActionId → Bool)
+    (report_lag order_lag : ℕ) (takes : ActionId → ℕ) : Type 0 where
+  pub reports : (a : ActionId) (t : ℕ) → IsAction p a
+      → HasEndedBy s t a → IsBy (d.reports a) (t + report_lag)
   pub orders : (a : ActionId) (t : ℕ) → IsAction p a → IsFalse (stalls a)
-      → ((w : Await) → Contains (awaits_of p a.agent a.number) w → IsBy (d.reports (awaited w)) t) → IsBy (d.orders a) (t + order_lag)
+      → ((w : Await) → Contains (awaits_of p a.agent a.number) w → IsBy (d.reports (awaited w)) t)
+      → IsBy (d.orders a) (t + order_lag)
   pub ends : (a : ActionId) (t : ℕ) → IsAction p a → IsFalse (stalls a) → IsBy (d.orders a) t
-      → ((b : ActionId) → IsAction p b → a.agent ≡ b.agent → a.number ≡ b.number + 1 → HasEndedBy s t b)
+      → ((b : ActionId) → IsAction p b
+      → a.agent ≡ b.agent → a.number ≡ b.number + 1 → HasEndedBy s t b)
       → HasEndedBy s (t + takes a) a

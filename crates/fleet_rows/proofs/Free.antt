@@ -7,7 +7,7 @@ use Rattle.fleet_model.specs.Program.{Program, moves, awaits_of, AreInRange}
 use Rattle.fleet_model.specs.Machine.{run, is_held, is_ready, count_at}
 use Rattle.fleet_model.specs.Chain.{IsAction, DirectlyNeeds, ChainFrom, Reaches, EndsChain, IsLevel}
 use Rattle.fleet_model.proofs.Tick.{ready_met, unready_waits, standing_at_tick, standing_at_opening, free_moves, other_stays}
-use Rattle.fleet_model.proofs.Chains.{Reaches-kept, chain_last}
+use Rattle.fleet_model.proofs.Chains.{Reaches-kept, chain_last, ends_by, ends_long}
 use Rattle.fleet_model.proofs.Reaching.{ends_one, ends_more}
 
 module _ (p : Program) where
@@ -87,12 +87,12 @@ module _ (p : Program) where
   ends_in_time (suc t) n b h k done = elim (cases_lt (count t b.agent) b.number) [
     | inr g ↦ omega (arith, ends_in_time t n b h k g)
     | inl l ↦ elim (shorter h.0 h.1 b h.2) [
-      | inl (e, z) ↦ omega (arith, h.3)
+      | inl (e, z) ↦ omega (arith, ends_long p n b h)
       | inr s ↦
           let before : s.last.number ≤ count t s.last.agent = needs_done t b s.last k l done s.needs in
-          let up : length s.between + 1 ≤ t = ends_in_time t (length s.between + 1) s.last (h.0, s.between, s.chain, refl) (chain_last p h.0 s.between s.last s.chain) before in
+          let up : length s.between + 1 ≤ t = ends_in_time t (length s.between + 1) s.last (ends_by p (length s.between + 1) h.0 s.between s.last s.chain refl) (chain_last p h.0 s.between s.last s.chain) before in
           let long : length h.1 ≡ length s.between + 1 = s.long in
-          let all : n ≡ length h.1 + 1 = h.3 in
+          let all : n ≡ length h.1 + 1 = ends_long p n b h in
           omega arith
     ]
   ]

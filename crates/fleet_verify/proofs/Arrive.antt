@@ -6,7 +6,7 @@ use Rattle.fleet_model.specs.Program.{Program, moves, awaits_of, path, AreInRang
 use Rattle.fleet_model.specs.Machine.{Holds, is_held, run, is_finished, held_ticks, IsFinish}
 use Rattle.fleet_model.specs.Chain.{IsAction, DirectlyNeeds, EndsChain, IsLongestChain, IsNumbering}
 use Rattle.fleet_model.specs.Run.{motion}
-use Rattle.fleet_model.proofs.Chains.{chain_first, ends_within, ends_action}
+use Rattle.fleet_model.proofs.Chains.{chain_first, ends_long, ends_within, ends_action}
 use Rattle.fleet_verify.proofs.Counts.{AreCountsInTime, counts, readies, run_counts, run_place}
 use Rattle.fleet_model.proofs.Reaching.{ends_one, ends_more, numbers_bound}
 use Rattle.fleet_verify.proofs.Finished.{grows, grows_once, within_moves, chain_before}
@@ -88,7 +88,7 @@ module _ (p : Program) (held ready : ℕ → ℕ → Bool) (count : ℕ → ℕ 
   ends_in_time t m b h done =
       let r = chain_before p held ready count run t h.0 h.1 b h.2 done in
       let some : 1 ≤ r.0 = started r.0 h.0.agent (omega (arith, r.2, (chain_first p h.0 h.1 b h.2).first)) in
-      omega (arith, r.1, h.3)
+      omega (arith, r.1, ends_long p m b h)
     where
       started : (s i : ℕ) → 1 ≤ count s i → 1 ≤ s
       started zero i h = absurd (omega (arith, run.start i))

@@ -2,14 +2,13 @@
 use Rattle.std.proofs.Common.{◌≡◌, ℕ, zero, suc, ◌+◌, ◌≤◌, [], ◌∷◌, ◌++◌, length, refl, sym, ap, subst, arith, inl, inr}
 use Rattle.std.specs.Prelude.{◌⊎◌}
 use Rattle.std.proofs.lemmas.Bool.{cases_eq}
-use Rattle.std.proofs.lemmas.List.{length-append}
 use Rattle.fleet_model.specs.declared.program.ActionId.{ActionId}
 use Rattle.fleet_model.specs.Program.{Program}
 use Rattle.fleet_model.specs.Chain.{IsAction, DirectlyNeeds, Reaches, EndsChain, IsNumbering}
 use Rattle.fleet_verify.specs.Listing.{AreLevels}
 use Rattle.fleet_verify.specs.Rows.{IsCountedUp, IsRow, IsRowOfNeeds}
-use Rattle.fleet_model.proofs.Reaching.{chain_join, own_reach, LastStep, chain_ends_by_step, Reaches-trans}
-use Rattle.fleet_model.proofs.Chains.{chain_rises, Reaches-first, Reaches-last, Reaches-need}
+use Rattle.fleet_model.proofs.Reaching.{own_reach, LastStep, chain_ends_by_step, Reaches-trans, ends_one, ends_more}
+use Rattle.fleet_model.proofs.Chains.{ends_within, Reaches-first, Reaches-last, Reaches-need}
 
 module _ (p : Program) (level : ActionId → ℕ) (h : (a : ActionId) → IsAction p a → IsCountedUp p level a) where
   some_level : (a : ActionId) → IsAction p a → 1 ≤ level a
@@ -23,14 +22,13 @@ module _ (p : Program) (level : ActionId → ℕ) (h : (a : ActionId) → IsActi
   counted_numbers = record { positive = some_level; rising = λ a b k m n. (h a k).above b m n }
 
   longer : (a b : ActionId) → IsAction p a → DirectlyNeeds p a b → EndsChain p (level b) b → level a ≡ level b + 1 → EndsChain p (level a) a
-  longer a b k n (x, cs, r, e) g =
-      (x, cs ++ a ∷ [], chain_join p x cs b (a ∷ []) a r (Reaches-last p x b (cs, r), n, (k, refl)), (let l : length (cs ++ a ∷ []) ≡ length cs + 1 = length-append cs (a ∷ []) in omega arith))
+  longer a b k n r g = subst (λ (m : ℕ). EndsChain p m a) (sym g) (ends_more p (level b) b a r k n)
 
   ends : (fuel : ℕ) (a : ActionId) → IsAction p a → level a ≤ fuel → EndsChain p (level a) a
   ends zero a k l = absurd (let s : 1 ≤ level a = some_level a k in omega arith)
   ends (suc fuel) a k l =
       elim ((h a k).least) [
-        | inl e ↦ (a, [], (k, refl), e)
+        | inl e ↦ subst (λ (m : ℕ). EndsChain p m a) (sym e) (ends_one p a k)
         | inr r ↦ longer a r.0 k r.2 (ends fuel r.0 r.1 (let e : level a ≡ level r.0 + 1 = r.3 in omega arith)) r.3
       ]
 
@@ -38,10 +36,7 @@ module _ (p : Program) (level : ActionId → ℕ) (h : (a : ActionId) → IsActi
   counted_levels a k = record { some = ends (level a) a k (omega arith); most = most }
     where
       most : (m : ℕ) → EndsChain p m a → m ≤ level a
-      most m (x, cs, r, e) =
-          let up : level x + length cs ≤ level a = chain_rises p level counted_numbers x cs a r in
-          let s : 1 ≤ level x = some_level x (Reaches-first p x a (cs, r)) in
-          omega arith
+      most m h = ends_within p level counted_numbers m a h
 
 -- the row of an action, joined from those of what it directly needs
 pub joined_row : (p : Program) (a : ActionId) → IsAction p a → (rows : ActionId → ℕ → ℕ) → ((b : ActionId) → IsAction p b → DirectlyNeeds p a b → IsRow p b (rows b)) → (row : ℕ → ℕ) → IsRowOfNeeds p a rows row → IsRow p a row

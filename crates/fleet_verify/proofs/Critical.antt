@@ -3,14 +3,14 @@ use Rattle.std.proofs.Common.{◌≡◌, ℕ, Bool, true, false, zero, suc, ◌+
 use Rattle.std.specs.Prelude.{Contains, sum_by, option_map}
 use Rattle.std.proofs.lemmas.Bool.{cases_lt}
 use Rattle.std.proofs.lemmas.Option.{same_Some}
-use Rattle.std.proofs.lemmas.List.Sums.{sum_by-append, sum_by-cons}
+use Rattle.std.proofs.lemmas.List.Sums.{sum_by-cons}
 use Rattle.fleet_model.specs.declared.program.Await.{Await}
 use Rattle.fleet_model.specs.declared.program.ActionId.{ActionId}
 use Rattle.fleet_model.specs.Program.{Program, awaits_of, AreInRange}
-use Rattle.fleet_model.specs.Chain.{IsAction, DirectlyNeeds, ChainFrom, Reaches, IsNumbering, awaited}
+use Rattle.fleet_model.specs.Chain.{IsAction, DirectlyNeeds, ChainFrom, Reaches, IsCriticalCost, IsNumbering, awaited}
 use Rattle.fleet_model.proofs.Chains.{chain_last, Reaches-need}
-use Rattle.fleet_model.proofs.Reaching.{Reaches-refl, Reaches-trans, chain_push}
-use Rattle.fleet_model.specs.Schedule.{Schedule, HasEndedBy, IsSchedule, EndInTime, TakeAtLeast, IsCriticalCost}
+use Rattle.fleet_model.proofs.Reaching.{Reaches-refl, Reaches-trans, ends_alone, ends_dearer, chain_push, chain_cost_push}
+use Rattle.fleet_model.specs.Schedule.{Schedule, HasEndedBy, IsSchedule, EndInTime, TakeAtLeast}
 use Rattle.fleet_verify.proofs.Members.{same_action, contains_head, contains_later, contains_none, contains_cases}
 use Rattle.fleet_verify.proofs.Decide.{IsAction-dec, before_in, needs_before}
 use Rattle.fleet_verify.proofs.Timed.{by_later}
@@ -24,9 +24,6 @@ need_action p in_range a b act (inr h) =
     record { agent = k.agent; first = k.first; last = k.last }
 
 module _ (p : Program) (cost : ActionId → ℕ) where
-  chain_cost_push : (a : ActionId) (cs : List ActionId) (b : ActionId) → sum_by cost (a ∷ cs ++ b ∷ []) ≡ sum_by cost (a ∷ cs) + cost b
-  chain_cost_push a cs b = let e : sum_by cost (cs ++ b ∷ []) ≡ sum_by cost cs + sum_by cost (b ∷ []) = sum_by-append cost cs (b ∷ []) in omega (arith, sum_by-cons cost a cs, sum_by-cons cost a (cs ++ b ∷ []), sum_by-cons cost b [])
-
   -- a chain of more than one action, but for its last
   record ButLast (a : ActionId) (cs : List ActionId) (b : ActionId) : Type 0 where
     before : ActionId
@@ -96,7 +93,7 @@ module _ (p : Program) (cost : ActionId → ℕ) where
           by_later (s.ends b) (m - cost b + cost b) m (omega arith) (in_time b (m - cost b) act (moves_on (stalls b) refl) (λ d need.
           let also : IsAction p d = need_action p in_range b d act need in
           ends_by n d also (below n b d act need l) (λ a h r. free a h (Reaches-trans p a d b r (Reaches-need p d b also act need))) (m - cost b)
-          (λ a cs chain. omega (arith, bound a (cs ++ b ∷ []) (chain_push p a cs d b chain act need), chain_cost_push a cs b))))
+          (λ a cs chain. omega (arith, bound a (cs ++ b ∷ []) (chain_push p a cs d b chain act need), chain_cost_push cost a cs b))))
         where
           moves_on : (t : Bool) → stalls b ≡ t → stalls b ≡ false
           moves_on false e = e
@@ -111,13 +108,13 @@ module _ (p : Program) (cost : ActionId → ℕ) where
     critical_on : (b d : ActionId) (m : ℕ) → IsAction p b → DirectlyNeeds p b d → Critical d m
         → ((x : ActionId) → DirectlyNeeds p b x → (a : ActionId) (cs : List ActionId) → ChainFrom p a cs x → sum_by cost (a ∷ cs) ≤ m) → Critical b (m + cost b)
     critical_on b d m act need c each = record {
-      some = (c.some.0, c.some.1 ++ b ∷ [], chain_push p c.some.0 c.some.1 d b c.some.2 act need, omega (arith, c.some.3, chain_cost_push c.some.0 c.some.1 b));
+      some = ends_dearer p cost m d b c.some act need;
       most = λ n h. omega (arith, h.3, bound_on b m each h.0 h.1 h.2);
     }
 
     critical_alone : (b : ActionId) → IsAction p b
-        → ((x : ActionId) → DirectlyNeeds p b x → (a : ActionId) (cs : List ActionId) → ChainFrom p a cs x → sum_by cost (a ∷ cs) ≤ 0) → Critical b (0 + cost b)
-    critical_alone b act each = record { some = (b, [], (act, refl), omega (arith, sum_by-cons cost b [])); most = λ n h. omega (arith, h.3, bound_on b 0 each h.0 h.1 h.2) }
+        → ((x : ActionId) → DirectlyNeeds p b x → (a : ActionId) (cs : List ActionId) → ChainFrom p a cs x → sum_by cost (a ∷ cs) ≤ 0) → Critical b (cost b)
+    critical_alone b act each = record { some = ends_alone p cost b act; most = λ n h. omega (arith, h.3, bound_on b 0 each h.0 h.1 h.2) }
 
     -- the costs of what an action awaits
     abbrev OfAwaited : Await → ℕ → Type 0
@@ -138,7 +135,7 @@ module _ (p : Program) (cost : ActionId → ℕ) where
 
         by_await : (r : MostOfAwaited b) → ((a : ActionId) (cs : List ActionId) → ChainFrom p a cs (before_in b) → sum_by cost (a ∷ cs) ≤ r.0) → (m : ℕ) × Critical b m
         by_await r first = elim r.1 [
-          | inl none ↦ (0 + cost b, critical_alone b act (both r 0 (omega (arith, none)) (λ a cs chain. omega (arith, none, first a cs chain))))
+          | inl none ↦ (cost b, critical_alone b act (both r 0 (omega (arith, none)) (λ a cs chain. omega (arith, none, first a cs chain))))
           | inr w ↦ (r.0 + cost b, critical_on b (awaited w.0) r.0 act (inr w.1) w.2 (both r r.0 (omega arith) first))
         ]
 
@@ -189,12 +186,11 @@ module _ (p : Program) (cost : ActionId → ℕ) where
     begins_at a m e = ap (option_map (λ n. n - cost a)) e
 
     costs_own : (a : ActionId) (m : ℕ) → IsAction p a → IsCriticalCost p cost a m → cost a ≤ m
-    costs_own a m act c = omega (arith, bound_of a m c a [] (act, refl), sum_by-cons cost a [])
+    costs_own a m act c = c.most (cost a) (ends_alone p cost a act)
 
     -- what an action needs costs so much less
     need_sooner : (a b : ActionId) (m n : ℕ) → IsAction p a → DirectlyNeeds p a b → IsCriticalCost p cost a m → IsCriticalCost p cost b n → n + cost a ≤ m
-    need_sooner a b m n act need c d =
-        omega (arith, bound_of a m c d.some.0 (d.some.1 ++ a ∷ []) (chain_push p d.some.0 d.some.1 b a d.some.2 act need), chain_cost_push d.some.0 d.some.1 a, d.some.3)
+    need_sooner a b m n act need c d = c.most (n + cost a) (ends_dearer p cost n b a d.some act need)
 
     pub soonest_is : (s : Schedule) × IsSchedule p s × EndInTime p s (λ _. false) cost × TakeAtLeast p s cost
     soonest_is = (

@@ -6,9 +6,9 @@ use Rattle.fleet_model.specs.declared.program.ActionId.{ActionId}
 use Rattle.fleet_model.specs.declared.standing.Standing.{Standing}
 use Rattle.fleet_model.specs.Program.{Program, AreInRange}
 use Rattle.fleet_model.specs.Machine.{Holds, is_held, run, count_at, is_ready, IsDone, IsDue}
-use Rattle.fleet_model.specs.Chain.{IsAction, DirectlyNeeds, IsNumbering}
-use Rattle.fleet_model.specs.Schedule.{Schedule, HasEndedBy, EndInTime, TakeAtLeast, IsCriticalCost}
-use Rattle.fleet_model.specs.RunSchedule.{IsFinishedIn, IsScheduleOf, BeginsWhenDue, is_held_up, held_up_ticks}
+use Rattle.fleet_model.specs.Chain.{IsAction, DirectlyNeeds, IsCriticalCost, IsNumbering}
+use Rattle.fleet_model.specs.Schedule.{Schedule, HasEndedBy, EndInTime, TakeAtLeast}
+use Rattle.fleet_model.specs.RunSchedule.{IsFinishedIn, IsScheduleOf, BeginsWhenDue, is_held_up, held_up_ticks, ticks_taken}
 use Rattle.fleet_verify.proofs.Counts.{counts, readies, run_counts, tick_stays}
 use Rattle.fleet_verify.proofs.Held.{held_past}
 use Rattle.fleet_verify.proofs.Arrive.{ready_or_needs}
@@ -22,7 +22,7 @@ module _ (p : Program) (holds : Holds) where
   up a t = held_up_ticks p holds a t
 
   abbrev cost : ActionId → ℕ
-  cost a = held_up_ticks p holds a (length holds) + 1
+  cost a = ticks_taken p holds a
 
   -- ---- held up: due, and held
 
@@ -164,6 +164,6 @@ module _ (p : Program) (holds : Holds) where
             | inr l ↦ absurd (f.not_before (done_later p holds c.0 t a l high))
           ]) c.1
 
-  pub finished_on_critical_path : AreInRange p → (number : ActionId → ℕ) → IsNumbering p number → (a : ActionId) (t : ℕ) → IsAction p a → IsFinishedIn p holds t a → IsCriticalCost p (λ b. held_up_ticks p holds b (length holds) + 1) a (t + 1)
+  pub finished_on_critical_path : AreInRange p → (number : ActionId → ℕ) → IsNumbering p number → (a : ActionId) (t : ℕ) → IsAction p a → IsFinishedIn p holds t a → IsCriticalCost p (ticks_taken p holds) a (t + 1)
   finished_on_critical_path in_range number numbered a t act f =
       let s = longest p holds in on_critical_path in_range s.0 s.1 s.2 number numbered a t act f

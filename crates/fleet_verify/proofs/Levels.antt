@@ -1,48 +1,18 @@
 -- Levels of actions, and what a tick finishes.
-use Rattle.std.proofs.Common.{◌≡◌, ◌≢◌, ℕ, zero, suc, ◌+◌, ◌<◌, ◌≤◌, Bool, true, false, [], nat_le, refl, subst, arith, inl, inr, ◌⊎◌, leb-true, leb-false, le-leb}
+use Rattle.std.proofs.Common.{◌≡◌, ◌≢◌, ℕ, suc, ◌+◌, ◌<◌, ◌≤◌, true, false, subst, arith, inl, inr, ◌⊎◌}
 use Rattle.fleet_model.specs.declared.program.ActionId.{ActionId}
 use Rattle.fleet_model.specs.Program.{Program, AreInRange}
-use Rattle.fleet_model.specs.Machine.{Holds, is_held, run, held_ticks, IsLeast, IsFinish, IsDone, IsDue}
-use Rattle.fleet_model.specs.Chain.{IsAction, DirectlyNeeds, Reaches, EndsChain, IsLevel, IsNumbering}
+use Rattle.fleet_model.specs.Machine.{Holds, is_held, run, IsDone, IsDue}
+use Rattle.fleet_model.specs.Chain.{IsAction, DirectlyNeeds, Reaches, unit_cost, IsLevel, IsNumbering}
 use Rattle.fleet_verify.proofs.Counts.{counts, readies, run_counts}
-use Rattle.fleet_model.proofs.Chains.{ends_within, ends_action}
-use Rattle.fleet_model.proofs.Reaching.{ends_more, numbers_bound}
+use Rattle.fleet_model.proofs.Reaching.{ends_more}
 use Rattle.fleet_verify.proofs.Finished.{chain_due}
-use Rattle.fleet_verify.proofs.Held.{run_held, held_at_most, finished_all}
-use Rattle.fleet_verify.proofs.Least.{least_of}
-use Rattle.fleet_verify.proofs.Arrive.{finish_exists, unfinished_ends, ready_or_needs, ends_in_time}
+use Rattle.fleet_verify.proofs.Critical.{critical}
+use Rattle.fleet_verify.proofs.Arrive.{ready_or_needs}
 
--- the level of an action is the tick in which the run without holds finishes it
+-- an action's level is the cost of its critical path at unit cost
 pub level_exists : (p : Program) → AreInRange p → (number : ActionId → ℕ) → IsNumbering p number → (b : ActionId) → IsAction p b → (n : ℕ) × IsLevel p b n
-level_exists p in_range number is b act = go first.0 first.1
-  where
-    bound : (m : ℕ) × ((a : ActionId) → IsAction p a → number a ≤ m)
-    bound = numbers_bound p number
-
-    end : (f : ℕ) × IsFinish p [] f
-    end = finish_exists p [] in_range bound.0 (λ a m h. omega (arith, ends_within p number is m a h, bound.1 a (ends_action p m a h)))
-
-    done : ℕ → Bool
-    done = λ t. nat_le b.number (counts p [] t b.agent)
-
-    first : (t : ℕ) × IsLeast done t
-    first = least_of done end.0 (le-leb _ _ (omega (arith, act.last, finished_all p (run p [] end.0) end.1.holds b.agent act.agent)))
-
-    unfinished : (t : ℕ) (r : Bool) → done t ≡ r → IsLeast done (suc t) → counts p [] t b.agent < b.number
-    unfinished t true e l = absurd (omega (arith, l.least t e))
-    unfinished t false e l = leb-false _ _ e
-
-    go : (t : ℕ) → IsLeast done t → (n : ℕ) × IsLevel p b n
-    go zero l = absurd (omega (arith, act.first, leb-true _ _ l.holds, (run_counts p []).start b.agent))
-    go (suc t) l =
-        let r = unfinished_ends p (is_held []) (readies p []) (counts p []) (run_counts p []) in_range (held_ticks p []) (run_held p []) t b act (unfinished t (done t) refl l) in
-        let e : r.0 ≡ suc t = omega (arith, r.1, held_at_most p [] t) in (
-          suc t,
-          record {
-            some = subst (λ (m : ℕ). EndsChain p m b) e r.2;
-            most = λ m h. ends_in_time p (is_held []) (readies p []) (counts p []) (run_counts p []) in_range (suc t) m b h (leb-true _ _ l.holds);
-          },
-        )
+level_exists p in_range number is b act = critical p unit_cost in_range number is b act
 
 pub least_due : (p : Program) → AreInRange p → (number : ActionId → ℕ) → IsNumbering p number → (holds : Holds) (t : ℕ) (a : ActionId) (n : ℕ) → IsAction p a
     → (IsDone (run p holds t) a → ⊥) → IsLevel p a n

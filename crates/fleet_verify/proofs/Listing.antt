@@ -2,39 +2,28 @@
 use Rattle.std.proofs.Common.{◌≡◌, ℕ, zero, suc, ◌+◌, ◌<◌, ◌≤◌, Bool, true, cond, List, [], ◌∷◌, ◌++◌, length, get_or, refl, sym, ap, subst, arith, inl, inr}
 use Rattle.std.specs.Prelude.{Contains}
 use Rattle.std.proofs.lemmas.Bool.{cases_lt, eq-eqb, ne_eqb}
-use Rattle.std.proofs.lemmas.List.{length-append}
 use Rattle.fleet_model.specs.declared.geometry.Place.{Place}
 use Rattle.fleet_model.specs.declared.program.Await.{Await}
 use Rattle.fleet_model.specs.declared.program.ActionId.{ActionId}
 use Rattle.fleet_model.specs.declared.program.Visit.{Visit}
 use Rattle.fleet_model.specs.declared.task.Task.{Task}
 use Rattle.fleet_model.specs.Program.{Program, moves, awaits_of, AreInRange}
-use Rattle.fleet_model.specs.Chain.{IsAction, DirectlyNeeds, ChainFrom, Reaches, EndsChain, IsNumbering, awaited}
+use Rattle.fleet_model.specs.Chain.{IsAction, Reaches, IsNumbering, awaited}
 use Rattle.fleet_model.specs.Visit.{is_entry, next_move, IsVisitOf, ListsVisits, Adjacent, ComesAfterByAwait, ComesAfterByChain, entering, leaving}
 use Rattle.fleet_model.specs.Accepted.{IsAcceptedBy}
 use Rattle.fleet_verify.specs.Listing.{AreLevels, entry_level, IsBefore, IsSortedListing}
 use Rattle.fleet_model.proofs.Visits.{next_upto}
 use Rattle.fleet_model.proofs.Chains.{Reaches-first, Reaches-last, Reaches-need}
-use Rattle.fleet_model.proofs.Reaching.{chain_join, own_reach, Reaches-rises, Reaches-trans}
+use Rattle.fleet_model.proofs.Reaching.{ends_one, ends_more, own_reach, Reaches-rises, Reaches-trans}
 use Rattle.fleet_verify.proofs.Members.{contains_none}
 use Rattle.fleet_verify.proofs.Neighbours.{adjacent_at, adjacent_from, same_neighbours}
 
 -- levels are a numbering
 pub levels_number : (p : Program) (level : ActionId → ℕ) → AreLevels p level → IsNumbering p level
 levels_number p level h = record {
-  positive = λ a k. (h a k).most 1 (a, [], (k, refl), refl);
-  rising = λ a b k m n. above a b k n ((h b m).some);
+  positive = λ a k. (h a k).most 1 (ends_one p a k);
+  rising = λ a b k m n. omega (arith, (h a k).most (level b + 1) (ends_more p (level b) b a (h b m).some k n));
 }
-  where
-    above : (a b : ActionId) → IsAction p a → DirectlyNeeds p a b → EndsChain p (level b) b → level b < level a
-    above a b k n (x, cs, c, e) =
-        let longer : ChainFrom p x (cs ++ a ∷ []) a = chain_join p x cs b (a ∷ []) a c (chain_end a b cs x k n c) in
-        let more : length (cs ++ a ∷ []) + 1 ≤ level a = (h a k).most (length (cs ++ a ∷ []) + 1) (x, cs ++ a ∷ [], longer, refl) in
-        let count : length (cs ++ a ∷ []) ≡ length cs + 1 = length-append cs (a ∷ []) in
-        omega arith
-      where
-        chain_end : (a b : ActionId) (cs : List ActionId) (x : ActionId) → IsAction p a → DirectlyNeeds p a b → ChainFrom p x cs b → ChainFrom p b (a ∷ []) a
-        chain_end a b cs x k n c = (Reaches-last p x b (cs, c), n, (k, refl))
 
 -- the order of two visits, as a chain
 pub after_reaches : (p : Program) (q : Place) (v w : Visit) → IsVisitOf p q w → ComesAfterByChain p v w → Reaches p (leaving p v) (entering w)

@@ -29,15 +29,15 @@ module _ (passable : Place → Bool) (tasks : List Task) (p : Program) (a : IsAc
   task_at : (i : ℕ) → i < length p → (t : Task) × (slice_get tasks i ≡ Some t)
   task_at i l =
       let d : Task = record { start = origin; goal = origin } in
-      (get_or tasks i d, slice_get-get_or tasks i d (omega (arith, a.right.agents)))
+      (get_or tasks i d, slice_get-get_or tasks i d (omega (arith, a.right.for_tasks.agents)))
 
   pub starts_right : (i : ℕ) → i < length p → StartsRight tasks p i
-  starts_right i l = let t = task_at i l in ap (option_map (λ (u : Task). u.start)) t.1 ∙ ap (λ (c : Cell). Some c) (sym ((a.right.ends i t.0 t.1).0))
+  starts_right i l = let t = task_at i l in ap (option_map (λ (u : Task). u.start)) t.1 ∙ ap (λ (c : Cell). Some c) (sym ((a.right.for_tasks.ends i t.0 t.1).0))
 
   pub ends_right : (i : ℕ) → i < length p → EndsRight tasks p i
   ends_right i l =
       let t = task_at i l in
-      record { goal = ap (option_map (λ (u : Task). u.goal)) t.1 ∙ ap (λ (c : Cell). Some c) (sym ((a.right.ends i t.0 t.1).1)); arrives = a.right.arrives i l }
+      record { goal = ap (option_map (λ (u : Task). u.goal)) t.1 ∙ ap (λ (c : Cell). Some c) (sym ((a.right.for_tasks.ends i t.0 t.1).1)); arrives = a.right.arrives i l }
 
   pub no_ring : (ring : List ActionId) → IsToldRing p ring → ⊥
   no_ring ring r =
@@ -58,7 +58,7 @@ module _ (passable : Place → Bool) (tasks : List Task) (p : Program) (a : IsAc
 
   pub no_fault : (f : VerifyFault) → f ≢ OutOfMemory → IsFault passable tasks p f → ⊥
   no_fault OutOfMemory n h = n refl
-  no_fault OtherFleet n h = h a.right.agents
+  no_fault OtherFleet n h = h a.right.for_tasks.agents
   no_fault (Start i) n h = (h.1).wrong (starts_right i (h.1).agent)
   no_fault (Goal i) n h = (h.1).wrong (ends_right i (h.1).agent)
   no_fault (Step i k) n h = ((h.1).action).wrong (a.right.on_ground i k (h.1).agent ((h.1).action).within)

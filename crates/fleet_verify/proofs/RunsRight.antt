@@ -60,8 +60,7 @@ right_accepted passable tasks p wf of r = runs_accepted passable tasks p right w
 
     right : IsRight passable tasks p
     right = record {
-      agents = of.agents;
-      ends = of.ends;
+      for_tasks = of;
       on_ground = λ i n h l. let c = comes_to p [] (r.arrives []).0 fin i n h l in subst (λ (q : Place). IsTrue (passable q)) c.1 ((r.safe []).on_ground c.0 i h);
       arrives = λ i h. let a = r.arrives [] in sym (finish_stays p [] a.0 a.0 i a.1 (omega arith) h) ∙ a.2 i h;
       in_range = ranges_all p (ranges_hold p (r.arrives []).0 fin wf);
@@ -90,8 +89,7 @@ schedules_accepted passable tasks p wf of f fin on_goal on_ground apart = runs_a
 
     right : IsRight passable tasks p
     right = record {
-      agents = of.agents;
-      ends = of.ends;
+      for_tasks = of;
       on_ground = λ i n h l.
           let c = comes_to p [] f fin.holds i n h l in
           let s = timed [] in

@@ -13,7 +13,7 @@ use Rattle.fleet_model.specs.Machine.{Configuration, standing_at, count_at, is_r
 use Rattle.fleet_model.specs.Chain.{IsAction, DirectlyNeeds, ChainFrom, Reaches, EndsChain, IsLevel, IsLongestChain, IsNumbering, awaited}
 use Rattle.fleet_model.specs.Visit.{Adjacent, ComesAfterByChain, entering, leaving}
 use Rattle.fleet_model.specs.Accepted.{IsAcceptedBy}
-use Rattle.fleet_model.proofs.Chains.{chain_first, chain_rises, Reaches-need}
+use Rattle.fleet_model.proofs.Chains.{chain_first, chain_rises, ends_by, ends_long, Reaches-need}
 use Rattle.fleet_model.proofs.Reaching.{chain_join}
 use Rattle.fleet_verify.proofs.Counts.{counts, readies, run_counts}
 use Rattle.fleet_verify.proofs.Finished.{chain_due}
@@ -44,10 +44,9 @@ chain_over p q range h a (c ∷ cs) b (k, n, r) = go ((h.chains a c).0 (Reaches-
     go (x ∷ xs, g) (ds, f, l) = (x ∷ xs ++ ds, chain_join q a (x ∷ xs) c ds b g f, (let e : length (xs ++ ds) ≡ length xs + length ds = length-append xs ds in omega arith))
 
 ends_over : (p q : Program) → AreInRange p → HaveSameChains p q → (n : ℕ) (b : ActionId) → EndsChain p n b → (m : ℕ) × EndsChain q m b × (n ≤ m)
-ends_over p q range h n b (a, cs, r, e) = go (chain_over p q range h a cs b r)
-  where
-    go : ((ds : List ActionId) × ChainFrom q a ds b × (length cs ≤ length ds)) → (m : ℕ) × EndsChain q m b × (n ≤ m)
-    go (ds, g, l) = (length ds + 1, (a, ds, g, refl), (omega arith))
+ends_over p q range h n b k =
+    let r = chain_over p q range h k.0 k.1 b k.2 in
+    (length r.0 + 1, ends_by q (length r.0 + 1) k.0 r.0 b r.1 refl, omega (arith, ends_long p n b k, r.2))
 
 most_over : (p q : Program) → AreInRange q → HaveSameChains p q → (b : ActionId) (n : ℕ) → ((m : ℕ) → EndsChain p m b → m ≤ n) → (m : ℕ) → EndsChain q m b → m ≤ n
 most_over p q range h b n most m e =
@@ -94,8 +93,10 @@ adjacent_over p q h (v ∷ w ∷ vs) (a, g) = (after a, adjacent_over p q h (w �
 pub accepted_over : (p q : Program) → AreInRange q → HaveSameChains p q → (passable : Place → Bool) (tasks : List Task) → IsAcceptedBy ComesAfterByChain passable tasks p → IsAcceptedBy ComesAfterByChain passable tasks q
 accepted_over p q range h passable tasks a = record {
   right = record {
-    agents = h.rest.agents ∙ a.right.agents;
-    ends = λ i t e. (h.rest.starts i ∙ (a.right.ends i t e).0, h.rest.goals i ∙ (a.right.ends i t e).1);
+    for_tasks = record {
+      agents = h.rest.agents ∙ a.right.for_tasks.agents;
+      ends = λ i t e. (h.rest.starts i ∙ (a.right.for_tasks.ends i t e).0, h.rest.goals i ∙ (a.right.for_tasks.ends i t e).1);
+    };
     on_ground = λ i n l m. ap passable (path_there p q h.rest i n) ∙ a.right.on_ground i n (let e : length q ≡ length p = h.rest.agents in omega arith) (let e : moves q i ≡ moves p i = same_moves p q h.rest i in omega arith);
     arrives = λ i l. ap (path q i) (same_moves p q h.rest i) ∙ path_there p q h.rest i (moves p i) ∙ a.right.arrives i (let e : length q ≡ length p = h.rest.agents in omega arith) ∙ ap place_of (sym (h.rest.goals i));
     in_range = range;

@@ -181,8 +181,7 @@ module _ (p : Program) (t : ℕ) (end : IsEnd p [] t) (fin : is_finished p (run 
 pub accepted_by : (passable : Place → Bool) (tasks : List Task) (p : Program) → HasRanges passable tasks p → (number : ActionId → ℕ) × IsNumbering p number → IsOrderly ComesAfter p → IsAccepted passable tasks p
 accepted_by passable tasks p h numbering o = record {
   right = record {
-    agents = fleet;
-    ends = ends;
+    for_tasks = record { agents = fleet; ends = ends };
     on_ground = h.before.steps;
     arrives = λ i l. (h.before.before.ends i l).arrives;
     in_range = ranges_all p h.ranges;

@@ -8,12 +8,12 @@ ghost use Rattle.fleet_model.specs.declared.task.Task.{Task};
 ghost use Rattle.fleet_model.specs.Program.{Program, goal_of, moves, path, AreInRange, IsWellFormed};
 ghost use Rattle.fleet_model.specs.Geometry.{place_of};
 ghost use Rattle.fleet_model.specs.Machine.{Holds, run, place_at, held_ticks, IsFinish};
-ghost use Rattle.fleet_model.specs.Chain.{IsAction, DirectlyNeeds, Reaches, IsLevel};
+ghost use Rattle.fleet_model.specs.Chain.{IsAction, DirectlyNeeds, Reaches, IsCriticalCost, IsLevel};
 ghost use Rattle.fleet_model.specs.Visit.{ComesAfterByChain};
 ghost use Rattle.fleet_model.specs.Accepted.{HasTasks, IsAcceptedBy};
 ghost use Rattle.fleet_model.specs.Claims.{MayBeOn};
-ghost use Rattle.fleet_model.specs.Schedule.{Schedule, HasBegunBy, HasEndedBy, IsSchedule, MayBeOnAt, EndInTime, TakeAtLeast, IsCriticalCost};
-ghost use Rattle.fleet_model.specs.RunSchedule.{IsScheduleOf, BeginsWhenDue, TakesOneTick, held_up_ticks, IsFinishedIn};
+ghost use Rattle.fleet_model.specs.Schedule.{Schedule, HasBegunBy, HasEndedBy, IsSchedule, MayBeOnAt, EndInTime, TakeAtLeast};
+ghost use Rattle.fleet_model.specs.RunSchedule.{IsScheduleOf, BeginsWhenDue, TakesOneTick, ticks_taken, IsFinishedIn};
 ghost use Rattle.fleet_model.specs.Dispatch.{Dispatch, OrdersAwait, IsCarriedOut, IsPrompt};
 ghost use Rattle.fleet_model.specs.Run.{RunsRight};
 
@@ -98,7 +98,7 @@ pub fn runs_follow_critical_paths()
     ensures { (passable : Place → Bool) (tasks : List Task) (p : Program)
         → IsAcceptedBy ComesAfterByChain passable tasks p → (holds : Holds) (a : ActionId) (t : ℕ)
         → IsAction p a → IsFinishedIn p holds t a
-        → IsCriticalCost p (λ b. held_up_ticks p holds b (length holds) + 1) a (t + 1) }
+        → IsCriticalCost p (ticks_taken p holds) a (t + 1) }
 {}
 
 /// Acceptance asks no more than schedules do: a well-formed program for the tasks of an instance, whose run without

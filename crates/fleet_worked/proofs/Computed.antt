@@ -21,7 +21,7 @@ use Rattle.fleet_model.specs.Program.{Program, origin, start_of, goal_of, action
 use Rattle.fleet_model.specs.Machine.{indices, IsLeast}
 use Rattle.fleet_model.specs.Chain.{IsAction, DirectlyNeeds, ChainFrom, IsNumbering, IsLevel, IsLongestChain}
 use Rattle.fleet_model.specs.Accepted.{IsRight}
-use Rattle.fleet_model.proofs.Chains.{ends_within, ends_action, level_is}
+use Rattle.fleet_model.proofs.Chains.{ends_by, ends_within, ends_action, level_is}
 use Rattle.fleet_verify.proofs.Members.{contains_none}
 
 -- ---- tests of numbers below a bound
@@ -152,13 +152,13 @@ pub level_by : (k : ℕ) (p : Program) (a : ActionId) (cs : List ActionId) (b : 
 level_by k p a cs b e =
     let parts = and_parts (is_numbered k p) (is_chain p a cs b && length cs + 1 == weighed k b) e in
     let chain = and_parts (is_chain p a cs b) (length cs + 1 == weighed k b) parts.1 in
-    level_is p (weighed k) (numbered_is k p parts.0) b (a, cs, chain_is p a cs b chain.0, sym (eqb-true _ _ chain.1))
+    level_is p (weighed k) (numbered_is k p parts.0) b (ends_by p (weighed k b) a cs b (chain_is p a cs b chain.0) (sym (eqb-true _ _ chain.1)))
 
 -- and the greatest weight at the end of such a chain is the length of the longest chain
 pub longest_by : (k : ℕ) (p : Program) (a : ActionId) (cs : List ActionId) (b : ActionId)
     → (is_numbered k p && (is_chain p a cs b && at_all_positions (λ i n. nat_le (k * i + n) (length cs + 1)) p)) ≡ true → IsLongestChain p (length cs + 1)
 longest_by k p a cs b e = record {
-  some = inr (b, (a, cs, chain_is p a cs b rest.0, refl));
+  some = inr (b, ends_by p (length cs + 1) a cs b (chain_is p a cs b rest.0) refl);
   most = λ d m h.
       let act = ends_action p m d h in
       let within : weighed k d ≤ length cs + 1 = leb-true _ _ (at_position (λ i n. nat_le (k * i + n) (length cs + 1)) p rest.1 d.agent d.number act.agent act.last) in
@@ -193,8 +193,10 @@ is_right passable p = at_all_positions (λ i n. passable (path p i n)) p && (lis
 
 pub right_is : (passable : Place → Bool) (p : Program) → is_right passable p ≡ true → IsRight passable (map task_of p) p
 right_is passable p e = record {
-  agents = sym (length-map p task_of);
-  ends = λ i t at. ends i t (slice_get p i) refl (sym (slice_get-map task_of p i) ∙ at);
+  for_tasks = record {
+    agents = sym (length-map p task_of);
+    ends = λ i t at. ends i t (slice_get p i) refl (sym (slice_get-map task_of p i) ∙ at);
+  };
   on_ground = at_position (λ i n. passable (path p i n)) p parts.0;
   arrives = λ i lt. is_same_place-true (path p i (moves p i)) (place_of (goal_of p i)) (at_index (arrives p) (length p) rest.0 i lt);
   in_range = λ i n w h. range i w (at_await (is_in_range p) p rest.1 i n w h);

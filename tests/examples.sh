@@ -3,8 +3,8 @@
 # with what is due, to the letter:
 #     tests/examples.sh FLEET
 # Every fenced example of README.md and docs/, and what they cannot show: help, transcripts, texts, files, standard
-# streams, the warehouse, and what must not compile. `make examples` calls it. The last line counts: `examples: N passed,
-# M failed`.
+# streams, the warehouse, and what must not compile. `make examples` calls it. The last line counts: `examples: N
+# passed, M failed`.
 
 root=$(cd "$(dirname "$0")/.." && pwd) || exit 2
 case $1 in

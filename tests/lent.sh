@@ -4,10 +4,12 @@
 # Part of tests/examples.sh.
 
 if command -v rt > "$work/out"; then
-    mkdir -p "$work/lent" && (cd "$root" && tar -cf - --exclude=out crates.txt HANDLES crates) | tar -xf - -C "$work/lent"
+    mkdir "$work/lent"
+    (cd "$root" && tar -cf - --exclude=out crates.txt HANDLES crates) | (cd "$work/lent" && tar -xf -)
     echo 'fleet_lent: fleet_run fleet_verify fleet_code fleet_scen fleet_grid fleet_model' >> "$work/lent/crates.txt"
-    mkdir -p "$work/lent/crates/fleet_lent/src"
-    cat > "$work/lent/crates/fleet_lent/src/main.rt" <<'EOF_RT'
+    lent=$work/lent/crates/fleet_lent
+    mkdir -p "$lent/src"
+    cat > "$lent/src/main.rt" <<'EOF_RT'
 //! Fleets and accepted programs over bytes that are lent.
 #![tactic(auto)]
 
@@ -79,10 +81,10 @@ fn main(rt: HostRuntime) {
     let _ = rt;
 }
 EOF_RT
-    (cd "$work/lent/crates/fleet_lent" && timeout 300 rt try) > "$work/lent/said" 2>&1
+    (cd "$lent" && timeout 300 rt try) > "$work/lent/said" 2>&1
     status=$?
-    sed -n 's/^src\/main.rt:\([0-9]*\):[0-9]*: error[^:]*: \(.*\)/\1: \2/p' "$work/lent/said" | sed 's/: note: .*//' > "$work/out"
-    awk 'sub(/.*\/\/ refused: /, "") { print NR ": " $0 }' "$work/lent/crates/fleet_lent/src/main.rt" > "$work/want.out"
+    sed -n 's/: note: .*//; s/^src\/main.rt:\([0-9]*\):[0-9]*: error[^:]*: /\1: /p' "$work/lent/said" > "$work/out"
+    awk 'sub(/.*\/\/ refused: /, "") { print NR ": " $0 }' "$lent/src/main.rt" > "$work/want.out"
     : > "$work/err"
     : > "$work/want.err"
     judge 'nothing outlives or changes bytes that are run' 'rt try' 1

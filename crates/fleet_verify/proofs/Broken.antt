@@ -1,5 +1,5 @@
 -- What is refused for its order runs badly.
-use Rattle.std.proofs.Common.{◌≢◌, Bool, List, Some, ap, ◌∙◌}
+use Rattle.std.proofs.Common.{Bool, List, Some, ap, ◌∙◌}
 use Rattle.std.proofs.lemmas.Option.{slice_get-get_or}
 use Rattle.fleet_model.specs.declared.geometry.Place.{Place}
 use Rattle.fleet_model.specs.declared.task.Task.{Task}
@@ -7,20 +7,16 @@ use Rattle.fleet_model.specs.declared.program.Visit.{Visit}
 use Rattle.fleet_model.specs.Geometry.{place_of}
 use Rattle.fleet_model.specs.Program.{Program, AreInRange}
 use Rattle.fleet_model.specs.Visit.{ComesAfterByChain, AreUnordered}
-use Rattle.fleet_model.specs.Accepted.{IsRight}
-use Rattle.fleet_model.specs.Run.{RunsWell}
 use Rattle.fleet_verify.specs.declared.fault.VerifyFault.{VerifyFault}
 use Rattle.fleet_verify.specs.declared.fault.VerifyFault.TheVariants.{OutOfMemory, OtherFleet, Start, Goal, Step, AwaitRange, Cyclic, Unordered}
 use Rattle.fleet_verify.specs.Broken.{MeetUnordered, IsBrokenBy}
 use Rattle.fleet_verify.specs.Faults.{HasNumbering, IsFault, IsUnordered}
 use Rattle.fleet_verify.proofs.BreakingExists.{breaking_made}
 use Rattle.fleet_verify.proofs.BreakingMeets.{breaking_conflict}
-use Rattle.fleet_verify.proofs.Exact.{runs_accepted}
 use Rattle.fleet_verify.proofs.Finish.{ring_never}
 use Rattle.fleet_verify.proofs.Listing.{levels_number}
 use Rattle.fleet_verify.proofs.OrderedPairs.{as_visit}
 use Rattle.fleet_verify.proofs.Unordered.{neighbours_unordered}
-use Rattle.fleet_verify.proofs.Refuses.{no_fault}
 use Rattle.fleet_verify.proofs.Stays.{ranges_all}
 
 -- visits that are reported as unordered have no order either way, and their agents meet
@@ -48,7 +44,3 @@ broken_by passable tasks p (Step i k) h = tt
 broken_by passable tasks p (AwaitRange i k) h = tt
 broken_by passable tasks p (Cyclic ring) h = λ holds t a (k, l, e). ring_never p ring.items (h.1).around holds t k a (slice_get-get_or ring.items k a l ∙ ap Some e)
 broken_by passable tasks p (Unordered c v w) h = meet passable tasks p (place_of c) v w h.0 h.1
-
--- if all but the order is right, a program that runs well is not refused
-pub not_refused : (passable : Place → Bool) (tasks : List Task) (p : Program) → IsRight passable tasks p → RunsWell p → (f : VerifyFault) → f ≢ OutOfMemory → IsFault passable tasks p f → ⊥
-not_refused passable tasks p right well f n h = no_fault passable tasks p (runs_accepted passable tasks p right well) f n h

@@ -64,3 +64,4 @@ pub mod Alike
 pub mod SameChains
 pub mod Reductions
 pub mod LastVisits
+pub mod Promised

@@ -17,3 +17,4 @@ pub mod Breaking
 pub mod Reduced
 pub mod Needed
 pub mod LastVisits
+pub mod Promises

@@ -2,7 +2,7 @@
 
 ghost use Rattle.std.specs.Prelude.{◌≡◌, ◌<◌, ◌↔◌, length, IsTrue, IfOk, OnOk, IfErr, Bool, option_map};
 ghost use Rattle.std.specs.Option.{option_or};
-ghost use Rattle.fleet_model.specs.Program.{moves, path};
+ghost use Rattle.fleet_model.specs.Program.{moves, path, IsWellFormed};
 ghost use Rattle.fleet_model.specs.declared.geometry.Place.{Place};
 ghost use Rattle.fleet_model.specs.Machine.{IsReached};
 ghost use Rattle.fleet_grid.specs.Ground.{is_passable};
@@ -23,6 +23,7 @@ pub fn check_starts<P: ProgramView>(program: &P, instance: &Instance) -> Result<
     ensures ok { OnOk result (HasStarts instance.now (P.program program.now)) }
     ensures err { IfErr result (λ f. (passable : Place → Bool)
         → IsFault passable instance.now (P.program program.now) f) }
+    ensures formed { IsWellFormed (P.program program.now) }
 {
     let agents = program.agents();
     if agents != instance.agents() {

@@ -21,6 +21,7 @@ mod open_pairs;
 mod order;
 mod orders;
 mod path;
+mod promises;
 mod reach;
 mod reduced;
 mod ring;
@@ -40,9 +41,11 @@ pub use exactness::{
     unordered_visits_meet,
 };
 pub use fault::VerifyFault;
+pub use fleet_lanes::{join_rows, row_covers};
 pub use orders::{
     awaits_are_chains, orderly_listings_rise, rings_are_never_finished, sorted_listings_decide,
 };
+pub use promises::{promises_are_kept, refusals_are_right};
 pub use reach::Reach;
 pub use reduced::{same_chains_run_equally, thinned_programs_run_equally, thinning_keeps_chains};
 pub use runs::{

@@ -1,18 +1,12 @@
 //! The verifier: all that is judged of a program, in the order of the faults.
 
-ghost use Rattle.std.specs.Prelude.{◌≡◌, ◌≢◌, ℕ, List, IfOk, IfErr};
-ghost use Rattle.fleet_model.specs.declared.geometry.Place.{Place};
-ghost use Rattle.fleet_model.specs.declared.program.Visit.{Visit};
-ghost use Rattle.fleet_model.specs.Machine.{Holds, run, IsFinish};
-ghost use Rattle.fleet_model.specs.Visit.{ListsVisits, Adjacent, ComesAfter};
-ghost use Rattle.fleet_model.specs.Accepted.{IsRight, IsAccepted};
-ghost use Rattle.fleet_model.specs.Run.{IsSafe, IsOwnedInTurn, Arrives, RunsWell};
-ghost use Rattle.fleet_verify.specs.declared.fault.VerifyFault.TheVariants.{OutOfMemory};
+ghost use Rattle.std.specs.Prelude.{◌≡◌, IfOk, IfErr};
+ghost use Rattle.fleet_model.specs.Program.{IsWellFormed};
 ghost use Rattle.fleet_grid.specs.Ground.{is_passable};
-ghost use Rattle.fleet_verify.specs.Broken.{IsBrokenBy};
-ghost use Rattle.fleet_verify.specs.Faults.{HasRanges, HasStarts, IsFault, IsOfOrder};
+ghost use Rattle.fleet_verify.specs.Faults.{HasStarts, IsFault};
 ghost use Rattle.fleet_verify.specs.Walk.{LeavesGround, IsAtStart, IsRunOnGround, HasArrived};
 ghost use Rattle.fleet_verify.specs.Parts.{IsAcceptedFor};
+ghost use Rattle.fleet_verify.specs.Promises.{Promises, IsRefusedRightly};
 
 use crate::accepted::{Accepted, Refused};
 use crate::agents::{check_paths, check_starts, has_arrived};
@@ -34,46 +28,30 @@ use std::alloc::Global;
 /// If so, then whatever agents are held for however long, the run stays on passable cells without a vertex, following,
 /// swapping or cycle conflict (Stern et al. 2019), the visits of each cell come in their order, each after the one
 /// before it has been left, and the run finishes after no fewer ticks than the longest chain has actions and no more
-/// than those and the ticks in which a ready agent was held. From then on all agents stand on their goals.
+/// than those and the ticks in which a ready agent was held. From then on all agents stand on their goals. And if
+/// robots begin each action once all that it needs has ended, and take any time for it, no two of them are ever on one
+/// cell, and each action ends by the sum of times along its critical path; one that never ends stops only those that
+/// need it.
 ///
-/// A refusal gives the program back with its first fault.
+/// A refusal gives the program back with its first fault. Lack of memory aside, some run of a program that is refused
+/// leaves passable cells, has a conflict or does not arrive, if the program has the agents, starts and goals of the
+/// instance.
 pub fn verify<'g, P: ProgramView>(
     alloc: Global,
     program: P,
     grid: &'g Grid,
     instance: &'g Instance,
 ) -> Result<Accepted<'g, P>, Refused<P>>
+    // What is accepted is handed on as it was given, with the number of actions of its longest chain.
     ensures kept { IfOk result (λ a. (a.program ≡ program) × (a.grid ≡ grid.now)
         × (a.instance ≡ instance.now)) }
     ensures accepted { IfOk result (λ a. IsAcceptedFor grid.now instance.now
         (P.program program) a.chain) }
-    ensures safe { IfOk result (λ _. (holds : Holds)
-        → IsSafe (is_passable grid.now) (P.program program) holds) }
-    ensures owned { IfOk result (λ _. (q : Place) → (listing : List Visit)
-        × ListsVisits (P.program program) q listing
-        × Adjacent (ComesAfter (P.program program)) listing
-        × ((holds : Holds) (t : ℕ) → IsOwnedInTurn (P.program program) listing
-        (run (P.program program) holds t))) }
-    ensures arrives { IfOk result (λ a. (holds : Holds) → (f : ℕ)
-        × IsFinish (P.program program) holds f × Arrives (P.program program) holds a.chain f) }
+    ensures promised { IfOk result (λ a. Promises (is_passable grid.now) (P.program program)
+        a.chain) }
     ensures returned { IfErr result (λ r. r.program ≡ program) }
-    ensures fault { IfErr result (λ r. IsFault (is_passable grid.now) instance.now
+    ensures refused { IfErr result (λ r. IsRefusedRightly (is_passable grid.now) instance.now
         (P.program program) r.fault) }
-    // A program that is refused for another cause than memory is not accepted.
-    ensures refused { IfErr result (λ r. r.fault ≢ OutOfMemory
-        → IsAccepted (is_passable grid.now) instance.now (P.program program) → ⊥) }
-    // Under every list of holds no two agents of an accepted program ever stand on one cell, and all actions are
-    // finished. A program that is right but for its order is refused, for another cause than memory, only if that is
-    // not so, and the refusal says how: no list of holds finishes an action of the ring, and after the breaking holds
-    // both agents stand on the cell.
-    ensures well { IfOk result (λ _. RunsWell (P.program program)) }
-    ensures badly { IfErr result (λ r. r.fault ≢ OutOfMemory
-        → IsRight (is_passable grid.now) instance.now (P.program program)
-        → RunsWell (P.program program) → ⊥) }
-    ensures broken { IfErr result (λ r. IsBrokenBy (P.program program) r.fault) }
-    // If ends, steps and ranges are right, a refusal is a ring of needs or two visits without an order.
-    ensures of_order { IfErr result (λ r. HasRanges (is_passable grid.now) instance.now
-        (P.program program) → IsOfOrder (P.program program) r.fault) }
 {
     match judge(alloc, &program, grid, instance) {
         Ok(chain) => Ok(Accepted::new(program, grid, instance, chain)),
@@ -94,6 +72,7 @@ fn judge<P: ProgramView>(
         (P.program program.now) chain) }
     ensures err { IfErr result (λ f. IsFault (is_passable grid.now) instance.now
         (P.program program.now) f) }
+    ensures formed { IsWellFormed (P.program program.now) }
 {
     check_starts(program, instance)?;
     if let Ok(Some(chain)) = accepts_ahead(alloc, program, grid, instance) {

@@ -17,4 +17,4 @@ returns-in-Err-clause-refused c =
     rw c.from.ensures
     (λ other p spells accepted.
     let same : p ≡ c.in_ok-program.program.program = ok_program (c.in_ok-program.ensures.only p spells) in
-    c.in-Err.ensures.refused (λ e. other (ap verify_fault e)) (subst (IsAccepted (is_passable c.args.grid.now) c.args.instance.now) same accepted))
+    c.in-Err.ensures.refused.not_accepted (λ e. other (ap verify_fault e)) (subst (IsAccepted (is_passable c.args.grid.now) c.args.instance.now) same accepted))

@@ -14,8 +14,8 @@ returns-in-Err g c =
     reported_refusal c.args.map.now c.args.scen.now c.args.asked c.args.bytes.now _ _ c.in_ok-problem.problem.grid c.in_ok-problem.problem.instance
     c.in-Err.refused.program.program c.in-Err.refused.fault c.in_ok-problem.ensures.read
     (subst (λ (w : Viewed). Spells c.args.bytes.now w.program) (sym c.in-Err.ensures.returned) c.in_ok-program.ensures.spelled)
-    (subst (λ (w : Viewed). IsFault (is_passable c.in_ok-problem.problem.grid) c.in_ok-problem.problem.instance w.program c.in-Err.refused.fault) (sym c.in-Err.ensures.returned) c.in-Err.ensures.fault)
-    (subst (λ (w : Viewed). IsBrokenBy w.program c.in-Err.refused.fault) (sym c.in-Err.ensures.returned) c.in-Err.ensures.broken)
+    (subst (λ (w : Viewed). IsFault (is_passable c.in_ok-problem.problem.grid) c.in_ok-problem.problem.instance w.program c.in-Err.refused.fault) (sym c.in-Err.ensures.returned) c.in-Err.ensures.refused.fault)
+    (subst (λ (w : Viewed). IsBrokenBy w.program c.in-Err.refused.fault) (sym c.in-Err.ensures.returned) c.in-Err.ensures.refused.broken)
     c.report_refused.result c.report_refused.ensures
 
 pub returns : goal.returns

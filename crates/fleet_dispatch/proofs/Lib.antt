@@ -2,5 +2,6 @@ pub mod Fronts
 pub mod Written
 pub mod Reports
 pub mod Outcomes
+pub mod Leading
 mod WindowLemmas
 mod StreamLemmas

@@ -1,6 +1,7 @@
 pub mod Talk
 pub mod Orders
 pub mod Dispatch
+pub mod Led
 pub mod Window
 pub mod Stream
 pub mod StreamFloor

@@ -3,12 +3,14 @@
 #![tactic(auto)]
 
 mod floor;
+mod led;
 mod orders;
 mod run;
 mod stream_floor;
 mod window;
 
 pub use floor::{Floor, HearFault};
+pub use led::dispatches_lead_safely;
 pub use run::{DispatchFault, DispatchReport, MAX_REPORTS, dispatch, dispatch_accepted};
 pub use stream_floor::StreamFloor;
 pub use window::LINE_ROOM;

@@ -1,16 +1,18 @@
 //! Dispatch of a fleet, report by report.
 
-ghost use Rattle.std.specs.Prelude.{◌≡◌, ◌≢◌, ℕ, ◌+◌, ◌<◌, ◌≤◌, IsTrue, IsFalse, IfOk, All, length, if◌then◌else◌, not, ◌&&◌};
+ghost use Rattle.std.specs.Prelude.{◌≡◌, ◌≢◌, ℕ, ◌+◌, ◌<◌, ◌≤◌, IsTrue, IsFalse, IfOk, All, List, length, if◌then◌else◌, not, ◌&&◌};
 ghost use Rattle.fleet_grid.specs.Ground.{is_passable};
 ghost use Rattle.fleet_model.specs.declared.geometry.Place.{Place};
-ghost use Rattle.fleet_model.specs.Machine.{Holds, opening, run, is_ready, is_stuck, count_at};
+ghost use Rattle.fleet_model.specs.Machine.{Configuration, Holds, opening, run, is_ready, is_stuck, count_at};
 ghost use Rattle.fleet_model.specs.Claims.{MayBeOn, orders_given};
 ghost use Rattle.fleet_machine.specs.Machine.{flag_of};
 ghost use Rattle.fleet_run.specs.Fleet.{AreOnGoals};
-ghost use Rattle.fleet_dispatch.specs.Dispatch.{Dispatches, DispatchesFrom, Concludes, TakesReport};
+ghost use Rattle.fleet_dispatch.specs.Dispatch.{AreTaken, Dispatches, DispatchesFrom, Concludes, TakesReport};
+ghost use Rattle.fleet_dispatch.specs.Led.{dispatch_of, NeverFalls, IsSafelyLed, IsShort};
 ghost use Rattle.fleet_dispatch.specs.Orders.{AreReadyFlags};
 
 use crate::floor::{Floor, HearFault};
+use crate::led::dispatches_lead_safely;
 use crate::orders::{ORDERS, tell_closing, tell_orders};
 use fleet_machine::AgentSet;
 use fleet_model::{MAX_AGENTS, ProgramView, total_moves};
@@ -218,6 +220,14 @@ pub fn dispatch<P: ProgramView, F: Floor>(
         ≡ count_at (run (P.program fleet.old.accepted.program) holds t) i
         + (if is_ready (P.program fleet.old.accepted.program)
         (run (P.program fleet.old.accepted.program) holds t) i then 1 else 0) }
+    // By any clock: robots that carry out the orders of this dispatch, in whatever time, are safe.
+    ensures led { (clock : ℕ → ℕ) (reports : List (List ℕ)) → NeverFalls clock
+        → IsSafelyLed (is_passable fleet.old.accepted.grid)
+        (P.program fleet.old.accepted.program)
+        (dispatch_of clock (P.program fleet.old.accepted.program) reports) }
+    ensures short { (reports : List (List ℕ)) (c : Configuration)
+        → AreTaken (P.program fleet.old.accepted.program) reports c
+        → IsShort (P.program fleet.old.accepted.program) reports c }
     // While an action is left some agent has an order.
     ensures goes_on { (holds : Holds) (t : ℕ)
         → IsFalse (is_stuck (P.program fleet.old.accepted.program)
@@ -226,6 +236,7 @@ pub fn dispatch<P: ProgramView, F: Floor>(
     ready_moves_are_apart();
     runs_end();
     orders_are_given_once();
+    dispatches_lead_safely();
     fleet.acceptance();
     let agents = fleet.agents();
     let mut sent = AgentSet::new(agents);

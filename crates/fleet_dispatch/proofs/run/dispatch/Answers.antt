@@ -15,3 +15,13 @@ pub returns-clause-goes_on : goal.returns-clause-goes_on
 returns-clause-goes_on g c =
     let parts = c.args.fleet.now.accepted in
     c.runs_end.ensures.not_stuck (is_passable parts.grid) parts.instance (g.P.ProgramView.program parts.program) c.acceptance.ensures.accepted.accepted
+
+pub returns-clause-led : goal.returns-clause-led
+returns-clause-led g c =
+    let parts = c.args.fleet.now.accepted in
+    c.dispatches_lead_safely.ensures.safely (is_passable parts.grid) parts.instance (g.P.ProgramView.program parts.program) c.acceptance.ensures.accepted.accepted
+
+pub returns-clause-short : goal.returns-clause-short
+returns-clause-short g c =
+    let parts = c.args.fleet.now.accepted in
+    c.dispatches_lead_safely.ensures.short (is_passable parts.grid) parts.instance (g.P.ProgramView.program parts.program) c.acceptance.ensures.accepted.accepted

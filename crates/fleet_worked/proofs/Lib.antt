@@ -9,3 +9,4 @@ pub mod PlanFaults
 pub mod CompiledPlans
 pub mod ComputedHolds
 pub mod ComputedThinned
+pub mod ComputedSchedules

@@ -2,3 +2,4 @@ pub mod Programs
 pub mod Plans
 pub mod Compiled
 pub mod Meetings
+pub mod Schedules

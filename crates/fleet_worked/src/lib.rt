@@ -6,3 +6,4 @@ pub mod compiled;
 pub mod meetings;
 pub mod plans;
 pub mod programs;
+pub mod schedules;

@@ -54,6 +54,9 @@ awk "$clauses" "$root"/crates/*/src/*.rt | grep -Fxf "$work/want.out" | sort -u 
 : > "$work/want.err"
 status=0
 judge 'docs/PROVED.md quotes clauses of the source' 'clauses of docs/PROVED.md against crates/*/src' 0
+awk '/^```$/ { on = 0 } on && NF; /^```antt$/ { on = 1 }' "$root/docs/PROVED.md" | sort -u > "$work/want.out"
+cat "$root"/crates/*/specs/*.antt | grep -Fxf "$work/want.out" | sort -u > "$work/out"
+judge 'docs/PROVED.md quotes definitions of specs/' 'definitions of docs/PROVED.md against crates/*/specs' 0
 sed -n 's/^|[^|]*| `\([A-Z][A-Za-z. _]*\)` | \([0-9]*\) |.*/\2 \1/p' "$root/docs/PROVED.md" > "$work/want.out"
 while read -r _ names; do
     # The names are words, each a FILE.NAME.

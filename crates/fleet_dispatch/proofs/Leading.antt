@@ -339,8 +339,10 @@ pub safely_led : (passable : Place → Bool) (tasks : List Task) (p : Program) �
 safely_led passable tasks p ok clock reports never_falls = record {
   awaits = await;
   schedule = schedule;
-  apart = λ s done x i j q l m. no_two_on p s (schedule s done) x ok.orderly i j q l m;
-  on_ground = λ s done x i q l m. subst (λ (r : Place). IsTrue (passable r)) m.place (ok.right.on_ground i m.position l m.within);
+  safe = λ s done. record {
+    apart = λ x i j q l m. no_two_on p s (schedule s done) x ok.orderly i j q l m;
+    on_ground = λ x i q l m. subst (λ (r : Place). IsTrue (passable r)) m.place (ok.right.on_ground i m.position l m.within);
+  };
 }
   where
     await : OrdersAwait p (dispatch_of clock p reports)

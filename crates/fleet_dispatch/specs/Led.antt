@@ -1,5 +1,5 @@
 -- Robots that are led by a dispatch: when each action is ordered and reported, and what is promised of whatever they do.
-use Rattle.std.specs.Prelude.{◌≡◌, ◌≢◌, ℕ, ◌+◌, ◌<◌, ◌≤◌, Bool, ◌&&◌, ◌==◌, IsTrue, List, [], length, get_or, filter, option_map}
+use Rattle.std.specs.Prelude.{◌≡◌, ℕ, ◌+◌, ◌≤◌, Bool, ◌&&◌, ◌==◌, List, [], length, get_or, filter, option_map}
 use Rattle.std.specs.List.{list_any, position}
 use Rattle.fleet_model.specs.declared.geometry.Place.{Place}
 use Rattle.fleet_model.specs.declared.program.ActionId.{ActionId}
@@ -7,7 +7,7 @@ use Rattle.fleet_model.specs.Program.{Program, total_moves}
 use Rattle.fleet_model.specs.Machine.{Configuration, run, is_among, count_at, indices}
 use Rattle.fleet_model.specs.Claims.{is_new, holds_of}
 use Rattle.fleet_model.specs.Chain.{IsAction, DirectlyNeeds}
-use Rattle.fleet_model.specs.Schedule.{Schedule, IsBy, IsSchedule, MayBeOnAt}
+use Rattle.fleet_model.specs.Schedule.{Schedule, IsBy, IsSchedule, IsSafeSchedule}
 use Rattle.fleet_model.specs.Dispatch.{Dispatch, OrdersAwait, IsCarriedOut}
 use Rattle.fleet_run.specs.Fleet.{AreOnGoals}
 
@@ -43,16 +43,11 @@ abbrev pub NeverFalls : (ℕ → ℕ) → Type 0
 NeverFalls clock = (t u : ℕ) → t ≤ u → clock t ≤ clock u
 
 -- Robots that are led by these orders and reports and carry them out, whenever and in whatever time, are safe: orders
--- wait for the reports of what they await, so whatever the robots do is a schedule, in which no two are ever on one
--- place, not even in part, and all places are passable
+-- wait for the reports of what they await, so whatever the robots do is a schedule, and a safe one
 pub record IsSafelyLed (passable : Place → Bool) (p : Program) (d : Dispatch) : Type 0 where
   pub awaits : OrdersAwait p d
   pub schedule : (s : Schedule) → IsCarriedOut p d s → IsSchedule p s
-  pub apart : (s : Schedule) → IsCarriedOut p d s
-      → (x i j : ℕ) (q : Place) → i < length p → j < length p → i ≢ j
-      → MayBeOnAt p s x i q → MayBeOnAt p s x j q → ⊥
-  pub on_ground : (s : Schedule) → IsCarriedOut p d s
-      → (x i : ℕ) (q : Place) → i < length p → MayBeOnAt p s x i q → IsTrue (passable q)
+  pub safe : (s : Schedule) → IsCarriedOut p d s → IsSafeSchedule passable p s
 
 -- no order waits longer than it has to: an action is ordered once all that it directly needs is reported
 abbrev pub OrdersAtOnce : Program → Dispatch → ℕ → Type 0

@@ -1,13 +1,14 @@
 -- The programs of plans, in which each agent stays so often after its moves.
-use Rattle.std.proofs.Common.{◌≡◌, ℕ, zero, suc, ◌+◌, ◌*◌, ◌<◌, ◌≤◌, Bool, true, false, cond, leb, List, length, Result, Ok, Err, IfOk, refl, sym, ap, subst, ◌∙◌, arith}
+use Rattle.std.proofs.Common.{◌≡◌, ◌↔◌, ℕ, zero, suc, ◌+◌, ◌*◌, ◌<◌, ◌≤◌, Bool, true, false, cond, leb, List, length, Result, Ok, Err, IfOk, refl, sym, ap, subst, ◌∙◌, arith, inl, inr}
 use Rattle.std.specs.List.{list_all, range_with_len}
-use Rattle.std.proofs.lemmas.Bool.{leb-true, le-leb, and_parts}
+use Rattle.std.proofs.lemmas.Bool.{leb-true, le-leb, and_parts, cases_lt}
 use Rattle.fleet_model.specs.declared.geometry.Place.{Place}
 use Rattle.fleet_model.specs.declared.task.Task.{Task}
 use Rattle.fleet_model.specs.declared.deps.Deps.{Deps}
-use Rattle.fleet_model.specs.declared.limits.TheConstants.{MAX_MOVES, MAX_MOVES_IN_ALL}
-use Rattle.fleet_model.specs.Program.{Program, NeverStays, IsWellFormed}
+use Rattle.fleet_model.specs.declared.limits.TheConstants.{MAX_MOVES, MAX_MOVES_IN_ALL, MAX_MOVES_V1}
+use Rattle.fleet_model.specs.Program.{Program, moves, NeverStays, AreShort, IsWellFormed}
 use Rattle.fleet_model.specs.Accepted.{IsAccepted}
+use Rattle.fleet_model.proofs.Short.{short_in_range, short_moves}
 use Rattle.fleet_verify.proofs.Listing.{awaits_accepted}
 use Rattle.fleet_verify.specs.Reduced.{RunEqually}
 use Rattle.fleet_verify.proofs.SameChains.{run_over}
@@ -17,7 +18,7 @@ use Rattle.fleet_model.specs.Answer.{IsDueUnless}
 use Rattle.fleet_adg.specs.declared.fault.CompileFault.{CompileFault}
 use Rattle.fleet_adg.specs.declared.fault.CompileFault.TheVariants.{OutOfMemory, TooLong}
 use Rattle.fleet_adg.proofs.Moves.{moves_by-le}
-use Rattle.fleet_adg.proofs.Programs.{length-compiled, moves-compiled, never_stays-compiled}
+use Rattle.fleet_adg.proofs.Programs.{length-compiled, moves-compiled, no_moves-compiled, never_stays-compiled}
 use Rattle.fleet_adg.proofs.Limits.{steps_few, total_moves-compiled, compiled-well_formed}
 use Rattle.fleet_adg.proofs.Accepted.{compiled-accepted}
 use Rattle.fleet_adg.proofs.Alike.{same_chains}
@@ -117,6 +118,25 @@ due-plain plan deps r limits h = subst (λ (due : Result Program CompileFault). 
 pub moves-plain : (plan : Plan) (deps : Deps) (r : Result Program CompileFault) → IsWithinLimits plan → IsDueUnless (λ p. p) r (compiled_staying_if_few plan deps 0) OutOfMemory → IfOk r NeverStays
 moves-plain plan deps (Ok p) limits h = never_stays-plain plan deps p (plain_is plan deps p limits h)
 moves-plain plan deps (Err e) limits h = tt
+
+-- an agent makes at most one move for each step of the plan, and there are few of these
+few_moves : (plan : Plan) (deps : Deps) → IsWithinLimits plan → (i : ℕ) → moves (compiled plan deps) i ≤ MAX_MOVES_V1
+few_moves plan deps limits i =
+    elim (cases_lt i (length plan)) [
+      | inl lt ↦ omega (arith, moves-compiled plan deps i lt, moves_by-le plan i (steps plan), steps_few plan limits)
+      | inr past ↦ omega (arith, no_moves-compiled plan deps i past)
+    ]
+
+pub short-plain : (passable : Place → Bool) (tasks : List Task) (plan : Plan) (deps : Deps) (r : Result Program CompileFault) → IsWithinLimits plan
+    → IsDueUnless (λ p. p) r (compiled_staying_if_few plan deps 0) OutOfMemory → IfOk r (IsAccepted passable tasks) → IfOk r AreShort
+short-plain passable tasks plan deps (Ok p) limits h accepted =
+    let is = plain_is plan deps p limits h in
+    short_in_range p accepted.right.in_range (λ i. subst (λ (q : Program). moves q i ≤ MAX_MOVES_V1) (sym is) (few_moves plan deps limits i))
+short-plain passable tasks plan deps (Err e) limits h accepted = tt
+
+-- an accepted program is short exactly if each agent has few actions
+pub short-accepted : (passable : Place → Bool) (tasks : List Task) (p : Program) → IsAccepted passable tasks p → AreShort p ↔ ((i : ℕ) → moves p i ≤ MAX_MOVES_V1)
+short-accepted passable tasks p accepted = (short_moves p, short_in_range p accepted.right.in_range)
 
 pub runs-plain : (plan : Plan) (r : Result Program CompileFault) → IfOk r (λ p. (other : Deps) → RunEqually p (compiled_staying plan other 0)) → IfOk r (λ p. (other : Deps) → RunEqually p (compiled plan other))
 runs-plain plan (Ok p) h = equally-plain plan p h

@@ -14,12 +14,15 @@ use Rattle.fleet_model.specs.Geometry.{is_move}
 use Rattle.fleet_model.specs.declared.program.Action.{Action}
 use Rattle.fleet_model.specs.declared.program.ActionId.{ActionId}
 use Rattle.fleet_model.specs.declared.program.AgentProgram.{AgentProgram}
-use Rattle.fleet_model.specs.Program.{Program, actions_of, moves, step_of, awaits_of, total_moves, AreAwaits, IsCell, IsWellFormed, NeverStays}
+use Rattle.fleet_model.specs.Program.{Program, actions_of, moves, step_of, awaits_of, total_moves, AreAwaits, IsCell, IsWellFormed, NeverStays, AreShort, AreInRange}
 use Rattle.fleet_model.proofs.Totals.{moves_more}
-use Rattle.fleet_model.specs.declared.limits.TheConstants.{MAX_AWAIT}
+use Rattle.fleet_model.specs.declared.limits.TheConstants.{MAX_AWAIT, MAX_MOVES_V1}
 use Rattle.fleet_settled.specs.Implied.{IsImplied}
 use Rattle.fleet_settled.proofs.AwaitOrder.{await_below}
+use Rattle.fleet_model.proofs.Short.{short_in_range, short_moves}
 use Rattle.fleet_verify.specs.Reduced.{IsThinned}
+use Rattle.fleet_verify.proofs.Alike.{same_moves as moves_there}
+use Rattle.fleet_verify.proofs.Reductions.{thinned_range}
 use Rattle.fleet_verify.proofs.BreakingCounts.{push_rises}
 use Rattle.fleet_adg.specs.Thinned.{AreUnimplied, IsThinnedAction, AreThinnedActions, IsThinnedAgent, AreThinnedAgents}
 
@@ -264,3 +267,7 @@ thinned_of p p' q v same h e = subst (λ (x : Program). IsThinned p x) (sym e) (
 
 pub moves_of : (p p' q v : Program) → p' ≡ p → AreThinnedAgents p' (length p') v → q ≡ v → NeverStays p → NeverStays q
 moves_of p p' q v same h e none = subst NeverStays (sym e) (thinned_moves p' v h (subst NeverStays (sym same) none))
+
+-- short stays short
+pub thinned_short : (p q : Program) → IsThinned p q → AreInRange p → AreShort p → AreShort q
+thinned_short p q h range short = short_in_range q (thinned_range p q h range) (λ i. subst (λ (n : ℕ). n ≤ MAX_MOVES_V1) (sym (moves_there p q h.rest i)) (short_moves p short i))

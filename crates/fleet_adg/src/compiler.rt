@@ -1,7 +1,8 @@
 //! The compiler of plans.
 
-ghost use Rattle.std.specs.Prelude.{◌≡◌, ◌++◌, IfOk, OnOk, length, map, replicate};
-ghost use Rattle.fleet_model.specs.Program.{NeverStays};
+ghost use Rattle.std.specs.Prelude.{◌≡◌, ◌≤◌, ◌↔◌, ◌++◌, ℕ, IfOk, OnOk, length, map, replicate};
+ghost use Rattle.fleet_model.specs.Program.{moves, NeverStays, AreShort};
+ghost use Rattle.fleet_model.specs.declared.limits.TheConstants.{MAX_MOVES_V1};
 ghost use Rattle.fleet_model.specs.Accepted.{IsAccepted};
 ghost use Rattle.fleet_model.specs.Answer.{IsDueUnless};
 ghost use Rattle.fleet_grid.specs.Ground.{is_passable};
@@ -25,13 +26,16 @@ use std::alloc::Global;
 /// changes of cell, in order, and each awaits earlier leavings of the cell that it enters.
 ///
 /// It is refused as `TooLong` exactly if the agents make more than 4,194,304 moves together. The program is accepted
-/// for the plan's map and instance, and each of its actions is a move. With either `deps` it runs equally.
+/// for the plan's map and instance, each of its actions is a move, and version 1 of the bytes has room for it. With
+/// either `deps` it runs equally.
 pub fn compile(alloc: Global, checked: &Checked<'_>, deps: Deps) -> Result<Program, CompileFault>
     ensures program { IsDueUnless (λ p. p) result
         (compiled_if_few checked.now.plan deps) CompileFault.OutOfMemory }
     ensures accepted { IfOk result (IsAccepted
         (is_passable checked.now.grid) checked.now.instance) }
     ensures moves { IfOk result NeverStays }
+    // Version 1 of the bytes has room for it.
+    ensures short { IfOk result AreShort }
     // The programs of one plan run equally, whichever leavings they await.
     ensures equally { IfOk result (λ p. (other : Deps)
         → RunEqually p (compiled checked.now.plan other)) }
@@ -56,6 +60,8 @@ pub fn compile_dwell(
         (compiled_staying_if_few checked.now.plan deps dwell) CompileFault.OutOfMemory }
     ensures accepted { IfOk result (IsAccepted
         (is_passable checked.now.grid) checked.now.instance) }
+    // Version 1 of the bytes has room for it exactly if it has for the actions of each agent, the stays among them.
+    ensures short { IfOk result (λ p. AreShort p ↔ ((i : ℕ) → moves p i ≤ MAX_MOVES_V1)) }
     // The programs of one plan run equally, whichever leavings they await.
     ensures equally { IfOk result (λ p. (other : Deps)
         → RunEqually p (compiled_staying checked.now.plan other dwell)) }

@@ -1,12 +1,12 @@
 //! Programs without the awaits that others imply.
 
 ghost use Rattle.std.specs.Prelude.{◌≡◌, ◌≤◌, ◌<◌, IfOk, length};
-ghost use Rattle.fleet_model.specs.Program.{moves, awaits_of, NeverStays};
+ghost use Rattle.fleet_model.specs.Program.{moves, awaits_of, NeverStays, AreShort};
 ghost use Rattle.fleet_model.specs.Chain.{IsAction, IsLongestChain};
 ghost use Rattle.fleet_model.specs.Accepted.{IsAccepted};
 ghost use Rattle.fleet_grid.specs.Ground.{is_passable};
 ghost use Rattle.fleet_implied.specs.Flags.{AreImplied};
-ghost use Rattle.fleet_verify.specs.Reduced.{IsThinned, RunEqually};
+ghost use Rattle.fleet_verify.specs.Reduced.{IsThinned, HasLeastAwaits, RunEqually};
 ghost use Rattle.fleet_adg.specs.Thinned.{AreUnimplied, IsThinnedAction, AreThinnedActions, IsThinnedAgent, AreThinnedAgents};
 
 use crate::thin_fault::ThinFault;
@@ -22,7 +22,7 @@ use std::alloc::Global;
 /// (Aho et al. 1972) in all but the edges from an agent's action to its next one, which stay.
 ///
 /// The program that is left is accepted for the same map and instance, has the same longest chain, and runs as before
-/// under every list of holds; none of its awaits is implied.
+/// under every list of holds; none of its awaits is implied, and every program with the same chains has all of them.
 pub fn thin<P: ProgramView>(alloc: Global, accepted: &Accepted<'_, P>) -> Result<Program, ThinFault>
     ensures thinned { IfOk result (IsThinned (P.program accepted.now.program)) }
     ensures accepted { IfOk result (IsAccepted
@@ -31,7 +31,11 @@ pub fn thin<P: ProgramView>(alloc: Global, accepted: &Accepted<'_, P>) -> Result
     ensures equally { IfOk result (RunEqually (P.program accepted.now.program)) }
     // Thinning it again drops nothing.
     ensures again { IfOk result (λ q. IsThinned q q) }
+    // Every program with its starts, goals, steps and chains awaits all that it awaits.
+    ensures least { IfOk result (HasLeastAwaits (P.program accepted.now.program)) }
     ensures moves { IfOk result (λ q. NeverStays (P.program accepted.now.program) → NeverStays q) }
+    // If version 1 of the bytes has room for the program, it has for what is left of it.
+    ensures short { IfOk result (λ q. AreShort (P.program accepted.now.program) → AreShort q) }
 {
     let program = accepted.program();
     let _ = program.agents();

@@ -4,6 +4,7 @@ use Rattle.fleet_code.specs.declared.fault.LoadFault.{LoadFault}
 use Rattle.fleet_model.specs.declared.task.Task.{Task}
 use Rattle.fleet_model.specs.Program.{Program}
 use Rattle.fleet_grid.specs.Ground.{Ground}
+use Rattle.fleet_code.specs.declared.format.Version.TheVariants.{One}
 use Rattle.fleet_code.specs.Laws.{OneProgramEach}
 use Rattle.fleet_auto.specs.Texts.{AreTextsOf}
 use Rattle.fleet_auto.specs.Making.{SpellsMade}
@@ -32,7 +33,7 @@ module _ (one : OneProgramEach) (map scen : List ℕ) (asked : Option ℕ) (hori
     plan = plan.made.plan;
     planned = plan.made.planned;
     program = q;
-    compiled = plan.made.compiled ∙ ap Ok ((one bytes plan.spelled.version accepts.spelled.version plan.program q plan.spelled.spelling accepts.spelled.spelling).1);
+    compiled = plan.made.compiled ∙ ap Ok ((one bytes One accepts.spelled.version plan.program q plan.spelled accepts.spelled.spelling).1);
     chain = chain;
     accepted_for = accepts.accepted_for;
   }

@@ -9,7 +9,8 @@ use Rattle.fleet_search.specs.Orders.{IsMadeInTries, IsStuckInTries}
 use Rattle.fleet_search.specs.declared.fault.PlanStop.{PlanStop}
 use Rattle.fleet_search.specs.declared.fault.PlanStop.TheVariants as p
 use Rattle.fleet_adg.specs.Compiled.{compiled_if_few}
-use Rattle.fleet_code.specs.Spelling.{Spells}
+use Rattle.fleet_code.specs.Spelling.{SpellsIn}
+use Rattle.fleet_code.specs.declared.format.Version.TheVariants.{One}
 use Rattle.fleet_model.specs.declared.deps.Deps.{Deps}
 use Rattle.fleet_auto.specs.declared.fault.AutoFault.{AutoFault}
 use Rattle.fleet_auto.specs.declared.fault.AutoFault.TheVariants.{OutOfMemory, Plan as PlanStops, Compile}
@@ -27,11 +28,11 @@ pub record IsMadeFor (g : Ground) (tasks : List Task) (horizon tries : ℕ) (dep
   pub compiled : compiled_if_few plan deps ≡ Ok program
   pub accepted : IsAccepted (is_passable g) tasks program
 
--- the bytes spell the program of such a plan
+-- the bytes are the spelling, in version 1, of the program of such a plan
 pub record SpellsMade (g : Ground) (tasks : List Task) (horizon tries : ℕ) (deps : Deps) (bytes : List ℕ) : Type 0 where
   pub program : Program
   pub made : IsMadeFor g tasks horizon tries deps program
-  pub spelled : Spells bytes program
+  pub spelled : SpellsIn One bytes program
 
 -- in the last of so many orders an agent is left without a path by those before it
 abbrev pub IsPlanStop : Ground → List Task → ℕ → ℕ → PlanStop → Type 0

@@ -1,6 +1,7 @@
 //! The steps from a map and an instance to the bytes of a program that is accepted for them.
 
 ghost use Rattle.std.specs.Prelude.{IfOk, IfErr};
+ghost use Rattle.fleet_model.specs.Program.{NeverStays, AreShort};
 ghost use Rattle.fleet_auto.specs.Making.{IsMadeFor, SpellsMade, IsMakingFault};
 
 use crate::fault::AutoFault;
@@ -22,6 +23,8 @@ fn made_program(
     deps: Deps,
 ) -> Result<Program, AutoFault>
     ensures made { IfOk result (IsMadeFor grid.now instance.now horizon tries deps) }
+    ensures short { IfOk result AreShort }
+    ensures moves { IfOk result NeverStays }
     ensures fault { IfErr result (IsMakingFault grid.now instance.now horizon tries deps) }
 {
     let checked = plan_in_orders(alloc, grid, instance, horizon, tries)?;
@@ -29,7 +32,7 @@ fn made_program(
     Ok(program)
 }
 
-/// The bytes that spell the program of the plan that is made for the map and the instance.
+/// The bytes that spell the program of the plan that is made for the map and the instance, in version 1.
 pub fn made_bytes(
     alloc: Global,
     grid: &Grid,

@@ -12,7 +12,7 @@ use Rattle.fleet_plan.specs.declared.plan_fault.PlanFault.TheVariants as p
 use Rattle.fleet_adg.specs.Compiled.{compiled_staying_if_few}
 use Rattle.fleet_model.specs.declared.deps.Deps.{Deps}
 use Rattle.fleet_adg.specs.declared.fault.CompileFault.TheVariants as c
-use Rattle.fleet_code.specs.Spelling.{Spells}
+use Rattle.fleet_code.specs.Spelling.{SpellsShortest}
 use Rattle.fleet_text.specs.Sink.{SinkState, IsUnwritten}
 use Rattle.fleet_files.specs.Files.{Store, AreUnchanged}
 use Rattle.fleet_args.specs.declared.compile.CompileRequest.{CompileRequest}
@@ -25,7 +25,7 @@ use Rattle.fleet_io.specs.declared.fault.Fault.{Fault}
 use Rattle.fleet_io.specs.declared.fault.Fault.TheVariants as f
 
 -- the texts stand for a map, for tasks and for a plan that is free of conflict; the program is that of the plan with so many stays after
--- the moves of each agent, and is accepted; and the bytes spell it
+-- the moves of each agent, and is accepted; and the bytes spell it, in version 1 if that has bytes for it
 pub record CompilesTexts (map scen plan : List ℕ) (asked : Option ℕ) (deps : Deps) (dwell : ℕ) (program : Program) (bytes : List ℕ) : Type 0 where
   pub ground : Ground
   pub tasks : List Task
@@ -34,7 +34,7 @@ pub record CompilesTexts (map scen plan : List ℕ) (asked : Option ℕ) (deps :
   pub free : IsConflictFree (is_passable ground) tasks paths
   pub compiled : compiled_staying_if_few paths deps dwell ≡ Ok program
   pub accepted : IsAccepted (is_passable ground) tasks program
-  pub spelled : Spells bytes program
+  pub spelled : SpellsShortest bytes program
 
 -- the first fault of the texts, judged in this order: map, scenario, plan text, plan, program; or memory ran out
 abbrev pub IsCompileFault : (map scen plan : List ℕ) → Option ℕ → Deps → ℕ → Fault → Type 0

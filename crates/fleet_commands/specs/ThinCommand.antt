@@ -6,7 +6,7 @@ use Rattle.fleet_model.specs.Chain.{IsLongestChain}
 use Rattle.fleet_model.specs.Accepted.{IsAccepted}
 use Rattle.fleet_grid.specs.Ground.{is_passable}
 use Rattle.fleet_verify.specs.Reduced.{IsThinned, RunEqually}
-use Rattle.fleet_code.specs.Spelling.{Spells}
+use Rattle.fleet_code.specs.Spelling.{SpellsShortest}
 use Rattle.fleet_text.specs.Sink.{SinkState, IsUnwritten}
 use Rattle.fleet_files.specs.Files.{Store, AreUnchanged}
 use Rattle.fleet_args.specs.declared.thin.ThinRequest.{ThinRequest}
@@ -15,8 +15,9 @@ use Rattle.fleet_commands.specs.Output.{count_lines, WritesOut, IsOutRefusal}
 use Rattle.fleet_commands.specs.Problem.{AcceptsTexts, IsTextsRefusal}
 use Rattle.fleet_io.specs.declared.fault.Fault.{Fault}
 
--- the program of the bytes is accepted for the texts; the bytes that are written spell that program without its implied awaits, which is
--- accepted for the same map and tasks, has the same longest chain and runs equally; and the two have so many awaits
+-- the program of the bytes is accepted for the texts; the bytes that are written spell that program without its implied awaits, in
+-- version 1 if that has bytes for it; it is accepted for the same map and tasks, has the same longest chain and runs equally; and the
+-- two have so many awaits
 pub record ThinsTexts (map scen : List ℕ) (asked : Option ℕ) (program : List ℕ) (before after : ℕ) (bytes : List ℕ) : Type 0 where
   pub accepts : AcceptsTexts map scen asked program
   pub thinned : Program
@@ -24,7 +25,7 @@ pub record ThinsTexts (map scen : List ℕ) (asked : Option ℕ) (program : List
   pub accepted : IsAccepted (is_passable accepts.ground) accepts.tasks thinned
   pub longest : IsLongestChain thinned accepts.chain
   pub equally : RunEqually accepts.program thinned
-  pub spelled : Spells bytes thinned
+  pub spelled : SpellsShortest bytes thinned
   pub had : before ≡ total_awaits accepts.program
   pub has : after ≡ total_awaits thinned
 

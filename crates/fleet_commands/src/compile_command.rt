@@ -2,7 +2,7 @@
 
 ghost use Rattle.std.specs.Prelude.{◌≡◌, ℕ, List, IfOk, IfErr, MatchResult};
 ghost use Rattle.fleet_text.specs.Sink.{IsWorking};
-ghost use Rattle.fleet_code.specs.Spelling.{Spells};
+ghost use Rattle.fleet_code.specs.Spelling.{SpellsShortest};
 ghost use Rattle.fleet_files.specs.Files.{AreUnchanged};
 ghost use Rattle.fleet_commands.specs.Output.{WritesOut, IsOutRefusal};
 ghost use Rattle.fleet_commands.specs.CompileCommand.{CompilesTexts, IsCompileFault, compiled_text, CompilesFiles, IsCompileRefusal, DoesCompile, RefusesCompile};
@@ -35,7 +35,7 @@ fn compiled_program<'a>(
     request: &CompileRequest<'_>,
 ) -> Result<Program, Fault<'a>>
     ensures compiled { IfOk result
-        (λ p. (bytes : List ℕ) → Spells bytes p → CompilesTexts map.now scen.now plan.items
+        (λ p. (bytes : List ℕ) → SpellsShortest bytes p → CompilesTexts map.now scen.now plan.items
         request.now.agents request.now.deps request.now.dwell p bytes) }
     ensures fault { IfErr result (IsCompileFault map.now scen.now plan.items
         request.now.agents request.now.deps request.now.dwell) }

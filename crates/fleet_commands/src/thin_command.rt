@@ -1,6 +1,8 @@
 //! The command `thin`.
 
-ghost use Rattle.std.specs.Prelude.{◌≡◌, IfOk, IfErr, MatchResult};
+ghost use Rattle.std.specs.Prelude.{◌≡◌, ℕ, List, IfOk, IfErr, MatchResult};
+ghost use Rattle.fleet_model.specs.Program.{total_awaits};
+ghost use Rattle.fleet_code.specs.Spelling.{SpellsShortest};
 ghost use Rattle.fleet_text.specs.Sink.{IsWorking};
 ghost use Rattle.fleet_files.specs.Files.{AreUnchanged};
 ghost use Rattle.fleet_commands.specs.Output.{WritesOut, IsOutRefusal};
@@ -13,7 +15,7 @@ use fleet_adg::{ThinFault, thin};
 use fleet_args::ThinRequest;
 use fleet_code::{EncodeFault, encode_shortest};
 use fleet_io::{Fault, Files, read_three};
-use fleet_model::total_awaits;
+use fleet_model::{Program, total_awaits};
 use fleet_run::Flush;
 use std::alloc::Global;
 
@@ -25,7 +27,29 @@ struct Thinned {
     bytes: Vec<u8>,
 }
 
-/// The program that the bytes spell, accepted for the map and the instance for which the texts stand, and thinned.
+/// The program that the bytes spell, accepted for the map and the instance for which the texts stand, and thinned; and
+/// how many awaits it had before.
+fn thinned_program<'a>(
+    alloc: Global,
+    map: &[u8],
+    scen: &[u8],
+    asked: Option<u16>,
+    program: &[u8],
+) -> Result<(u32, Program), Fault<'a>>
+    ensures thinned { IfOk result
+        (λ t. (bytes : List ℕ) → SpellsShortest bytes t.1 → ThinsTexts map.now scen.now asked
+        program.now t.0 (total_awaits t.1) bytes) }
+    ensures fault { IfErr result (IsTextsRefusal map.now scen.now asked program.now) }
+{
+    let problem = read_problem(alloc, map, scen, asked)?;
+    let accepted = accept(alloc, program, &problem.grid, &problem.instance)?;
+    match thin(alloc, &accepted) {
+        Ok(thinned) => Ok((total_awaits(accepted.program()), thinned)),
+        Err(ThinFault::OutOfMemory) => Err(Fault::Memory),
+    }
+}
+
+/// The thinned program's bytes. The program that was thinned is let go before they are made.
 fn thin_texts<'a>(
     alloc: Global,
     map: &[u8],
@@ -37,12 +61,8 @@ fn thin_texts<'a>(
         (λ t. ThinsTexts map.now scen.now asked program.now t.before t.after t.bytes.items) }
     ensures fault { IfErr result (IsTextsRefusal map.now scen.now asked program.now) }
 {
-    let problem = read_problem(alloc, map, scen, asked)?;
-    let accepted = accept(alloc, program, &problem.grid, &problem.instance)?;
-    let thinned = match thin(alloc, &accepted) {
-        Ok(thinned) => thinned,
-        Err(ThinFault::OutOfMemory) => return Err(Fault::Memory),
-    };
+    let (before, thinned) = thinned_program(alloc, map, scen, asked, program)?;
+    let after = total_awaits(&thinned);
     let bytes = match encode_shortest(alloc, &thinned) {
         Ok(bytes) => bytes,
         Err(EncodeFault::OutOfMemory) => return Err(Fault::Memory),
@@ -50,8 +70,8 @@ fn thin_texts<'a>(
         Err(_) => unreachable!(),
     };
     Ok(Thinned {
-        before: total_awaits(accepted.program()),
-        after: total_awaits(&thinned),
+        before,
+        after,
         bytes,
     })
 }

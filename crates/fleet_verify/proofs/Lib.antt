@@ -65,3 +65,4 @@ pub mod SameChains
 pub mod Reductions
 pub mod LastVisits
 pub mod Promised
+pub mod LeastAwaits

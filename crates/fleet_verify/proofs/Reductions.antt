@@ -97,7 +97,7 @@ chain_in p q h number s f short a (c ∷ cs) b (k, n, r) l =
     Reaches-trans q a c b (short a c k first n (omega arith)) (chain_in p q h number s f short c cs b r (omega arith))
 
 -- two actions with a chain between them have different numbers, or are the same
-chain_apart : (p : Program) (number : ActionId → ℕ) → IsNumbering p number → (a : ActionId) (cs : List ActionId) (b : ActionId) → ChainFrom p a cs b → (b ≢ a) → number a < number b
+pub chain_apart : (p : Program) (number : ActionId → ℕ) → IsNumbering p number → (a : ActionId) (cs : List ActionId) (b : ActionId) → ChainFrom p a cs b → (b ≢ a) → number a < number b
 chain_apart p number s a [] b (k, e) apart = absurd (apart (sym e))
 chain_apart p number s a (c ∷ cs) b h apart = let up : number a + suc (length cs) ≤ number b = chain_rises p number s a (c ∷ cs) b h in omega arith
 

@@ -19,10 +19,14 @@ pub record IsThinned (p q : Program) : Type 0 where
   pub rest : DiffersInAwaits p q
   pub awaits : (i n : ℕ) (w : Await) → Contains (awaits_of q i n) w ↔ (Contains (awaits_of p i n) w × (IsImplied p (record { agent = i; number = n }) w → ⊥))
 
+-- what an action awaits in the first program it awaits in the second too
+abbrev pub KeepsAwaits : Program → Program → Type 0
+KeepsAwaits q r = (i n : ℕ) (w : Await) → Contains (awaits_of q i n) w → Contains (awaits_of r i n) w
+
 -- q is p without some awaits, and whatever it no longer awaits it needs through a chain
 pub record IsReduced (p q : Program) : Type 0 where
   pub rest : DiffersInAwaits p q
-  pub fewer : (i n : ℕ) (w : Await) → Contains (awaits_of q i n) w → Contains (awaits_of p i n) w
+  pub fewer : KeepsAwaits q p
   pub needed : (i n : ℕ) (w : Await) → IsAction p (record { agent = i; number = n }) → Contains (awaits_of p i n) w → Contains (awaits_of q i n) w ⊎ Reaches q (awaited w) (record { agent = i; number = n })
 
 -- for every list of holds their configurations agree after every number of ticks
@@ -33,3 +37,7 @@ RunEqually p q = (holds : Holds) (t : ℕ) → run p holds t ≡ run q holds t
 pub record HaveSameChains (p q : Program) : Type 0 where
   pub rest : DiffersInAwaits p q
   pub chains : (a b : ActionId) → Reaches p a b ↔ Reaches q a b
+
+-- no program with the starts, goals, steps and chains of p does without an await of q
+abbrev pub HasLeastAwaits : Program → Program → Type 0
+HasLeastAwaits p q = (r : Program) → HaveSameChains p r → KeepsAwaits q r

@@ -47,7 +47,9 @@ pub use orders::{
 };
 pub use promises::{promises_are_kept, refusals_are_right};
 pub use reach::Reach;
-pub use reduced::{same_chains_run_equally, thinned_programs_run_equally, thinning_keeps_chains};
+pub use reduced::{
+    same_chains_run_equally, thinned_programs_run_equally, thinning_is_least, thinning_keeps_chains,
+};
 pub use runs::{
     levels_rise, orders_are_given_once, ready_moves_are_apart, reports_make_a_run, runs_are_safe,
     runs_arrive, runs_end, ticks_are_safe, visits_come_in_turn,

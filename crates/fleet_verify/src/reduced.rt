@@ -8,7 +8,7 @@ ghost use Rattle.fleet_model.specs.Chain.{IsNumbering, IsLevel, IsLongestChain};
 ghost use Rattle.fleet_model.specs.Visit.{ComesAfterByChain};
 ghost use Rattle.fleet_model.specs.declared.task.Task.{Task};
 ghost use Rattle.fleet_model.specs.Accepted.{IsAcceptedBy};
-ghost use Rattle.fleet_verify.specs.Reduced.{IsThinned, IsReduced, HaveSameChains, RunEqually};
+ghost use Rattle.fleet_verify.specs.Reduced.{IsThinned, IsReduced, HaveSameChains, HasLeastAwaits, RunEqually};
 
 /// Without its implied awaits a program has the same chains, and none of its awaits is implied. A program also keeps
 /// its chains without awaits of actions that it still needs through a chain.
@@ -20,6 +20,13 @@ pub fn thinning_keeps_chains()
     ensures reduced { (p q : Program) → IsReduced p q → HaveSameChains p q }
     ensures in_range { (p q : Program) → AreInRange p → IsReduced p q → AreInRange q }
     ensures thinned_in_range { (p q : Program) → AreInRange p → IsThinned p q → AreInRange q }
+{}
+
+/// Without its implied awaits a program is the least of those with its chains: whichever of them is taken, what an
+/// action still awaits it awaits there too.
+pub fn thinning_is_least()
+    ensures { (p q : Program) (number : ActionId → ℕ) →
+        IsNumbering p number → AreInRange p → IsThinned p q → HasLeastAwaits p q }
 {}
 
 /// Programs with the same chains have the same levels and the same longest chain, are accepted alike and run equally.

@@ -1,5 +1,5 @@
 -- Facts on one program that are found by computation.
-use Rattle.std.proofs.Common.{◌≡◌, ◌≢◌, ℕ, zero, suc, ◌+◌, ◌*◌, ◌<◌, ◌≤◌, Bool, true, false, not, nat_lt, nat_le, ◌&&◌, ◌||◌, ◌==◌, List, [], ◌∷◌, length, map, get_or, Option, Some, None, slice_get, option_map, Contains, refl, ap, sym, ◌∙◌, subst, arith, inl, inr}
+use Rattle.std.proofs.Common.{◌≡◌, ◌≢◌, ℕ, ◌+◌, ◌*◌, ◌<◌, ◌≤◌, Bool, true, false, not, nat_lt, nat_le, ◌&&◌, ◌||◌, ◌==◌, List, [], ◌∷◌, length, map, get_or, Option, Some, None, slice_get, option_map, Contains, refl, ap, sym, ◌∙◌, subst, arith, inl, inr}
 use Rattle.std.specs.List.{list_all, list_any}
 use Rattle.std.specs.Option.{option_map_or}
 use Rattle.std.proofs.lemmas.Bool.{and_parts, or_cases, cases_lt, eqb-true, eqb-false, ltb-true, leb-true, not-true, both_ways}
@@ -8,21 +8,20 @@ use Rattle.std.proofs.lemmas.List.{length-map}
 use Rattle.std.proofs.lemmas.List.Sums.{AllPass-from_list_all}
 use Rattle.std.proofs.lemmas.List.Elements.{All-contains}
 use Rattle.std.proofs.lemmas.Map.Views.{Contains-from_any}
-use Rattle.std.proofs.lemmas.Option.{slice_get_past, slice_get-map, same_Some}
+use Rattle.std.proofs.lemmas.Option.{slice_get-map, same_Some}
 use Rattle.fleet_model.proofs.Places.{is_same_place-true, is_same_place-eq}
 use Rattle.fleet_model.specs.declared.geometry.Place.{Place}
 use Rattle.fleet_model.specs.declared.program.Await.{Await}
-use Rattle.fleet_model.specs.declared.program.Action.{Action}
 use Rattle.fleet_model.specs.declared.program.ActionId.{ActionId}
 use Rattle.fleet_model.specs.declared.program.AgentProgram.{AgentProgram}
 use Rattle.fleet_model.specs.declared.task.Task.{Task}
 use Rattle.fleet_model.specs.Geometry.{place_of, is_same_place}
-use Rattle.fleet_model.specs.Program.{Program, origin, start_of, goal_of, actions_of, moves, awaits_of, path, IsInRange}
+use Rattle.fleet_model.specs.Program.{Program, origin, start_of, goal_of, moves, awaits_of, path, IsInRange}
 use Rattle.fleet_model.specs.Machine.{indices, IsLeast}
 use Rattle.fleet_model.specs.Chain.{IsAction, DirectlyNeeds, ChainFrom, IsNumbering, IsLevel, IsLongestChain}
 use Rattle.fleet_model.specs.Accepted.{IsRight}
 use Rattle.fleet_model.proofs.Chains.{ends_by, ends_within, ends_action, level_is}
-use Rattle.fleet_verify.proofs.Members.{contains_none}
+use Rattle.fleet_verify.proofs.LeastAwaits.{awaiting_action}
 
 -- ---- tests of numbers below a bound
 
@@ -53,21 +52,6 @@ at_position test p e i n lt le =
 
 abbrev pub at_all_awaits : (ℕ → ℕ → Await → Bool) → Program → Bool
 at_all_awaits test p = at_all_positions (λ i n. list_all (test i n) (awaits_of p i n)) p
-
--- an action with an await is one of the program
-awaiting_action : (p : Program) (i n : ℕ) (w : Await) → Contains (awaits_of p i n) w → IsAction p (record { agent = i; number = n })
-awaiting_action p i zero w h = absurd (contains_none w h)
-awaiting_action p i (suc n) w h =
-    elim (cases_lt i (length p)) [
-      | inl lt ↦ record { agent = lt; first = omega arith; last = within }
-      | inr past ↦ absurd (contains_none w (subst (λ (o : Option AgentProgram). Contains (option_map_or (λ (s : Action). s.awaits) (slice_get (option_map_or (λ (a : AgentProgram). a.actions) o []) n) []) w) (slice_get_past p i past) h))
-    ]
-  where
-    within : suc n ≤ moves p i
-    within = elim (cases_lt n (moves p i)) [
-      | inl lt ↦ omega arith
-      | inr past ↦ absurd (contains_none w (subst (λ (o : Option Action). Contains (option_map_or (λ (s : Action). s.awaits) o []) w) (slice_get_past (actions_of p i) n past) h))
-    ]
 
 pub at_await : (test : ℕ → ℕ → Await → Bool) (p : Program) → at_all_awaits test p ≡ true → (i n : ℕ) (w : Await) → Contains (awaits_of p i n) w → test i n w ≡ true
 at_await test p e i n w h =

@@ -7,7 +7,7 @@ use Rattle.fleet_plan.specs.Plan.{steps}
 use Rattle.fleet_verify.specs.Reduced.{RunEqually}
 use Rattle.fleet_adg.specs.Compiled.{compiled_staying, has_few_actions}
 use Rattle.fleet_adg.proofs.SweepSteps.{length-all_actions_by, program_is, few_compile}
-use Rattle.fleet_adg.proofs.StayingPlans.{staying-well_formed, staying-accepted, stay_alike}
+use Rattle.fleet_adg.proofs.StayingPlans.{staying-well_formed, staying-accepted, short-accepted, stay_alike}
 use Rattle.fleet_adg.proofs.compiler.compile_dwell.Goals as goal
 
 pub agent_programs-requires : goal.agent_programs-requires
@@ -34,6 +34,14 @@ returns-clause-accepted c =
     let ground = is_passable c.args.checked.now.grid in
     let tasks = c.args.checked.now.instance in
     subst (IsAccepted ground tasks) (sym (c.new.ensures ∙ made)) (staying-accepted ground tasks plan c.plan-plan.ensures.checked.free c.args.dwell c.args.deps)
+
+pub returns-clause-short : goal.returns-clause-short
+returns-clause-short c =
+    let plan = c.args.checked.now.plan in
+    let made = program_is c.args.dwell plan c.plan-plan.result.now c.args.deps c.in_ok-actions.actions.items c.in_ok-agents.agents.items c.plan-plan.ensures.value c.in_ok-actions.ensures c.in_ok-agents.ensures in
+    let ground = is_passable c.args.checked.now.grid in
+    let tasks = c.args.checked.now.instance in
+    short-accepted ground tasks c.new.result (subst (IsAccepted ground tasks) (sym (c.new.ensures ∙ made)) (staying-accepted ground tasks plan c.plan-plan.ensures.checked.free c.args.dwell c.args.deps))
 
 pub returns-clause-equally : goal.returns-clause-equally
 returns-clause-equally c =

@@ -6,8 +6,9 @@ use Rattle.fleet_verify.specs.Parts.{IsAcceptedFor}
 use Rattle.fleet_verify.specs.Reduced.{IsThinned}
 use Rattle.fleet_verify.proofs.Reductions.{thinned_reduced, thinned_again, reduced_chains, thinned_range}
 use Rattle.fleet_verify.proofs.SameChains.{longest_over, accepted_over, run_over}
+use Rattle.fleet_verify.proofs.LeastAwaits.{thinned_least}
 use Rattle.fleet_verify.proofs.ReachLaws.{longest_finishes}
-use Rattle.fleet_adg.proofs.Thinning.{thinned_of, thinned_formed, moves_of}
+use Rattle.fleet_adg.proofs.Thinning.{thinned_of, thinned_formed, moves_of, thinned_short}
 use Rattle.fleet_adg.proofs.thinner.thin.Goals as goal
 
 pub implied_awaits-requires-clause-finish : goal.implied_awaits-requires-clause-finish
@@ -64,7 +65,23 @@ returns-clause-again g c =
     let known = subst (λ (x : Program). IsAcceptedFor c.args.accepted.now.grid c.args.accepted.now.instance x c.args.accepted.now.chain) same c.program-program.ensures.accepted in
     thinned_again p c.new.result known.accepted.numbering.0 known.accepted.numbering.1 made
 
+pub returns-clause-least : goal.returns-clause-least
+returns-clause-least g c =
+    let p = g.P.ProgramView.program c.args.accepted.now.program in
+    let same = ap g.P.ProgramView.program c.program-program.ensures.program in
+    let made : IsThinned p c.new.result = thinned_of p (g.P.ProgramView.program c.program-program.result.now) c.new.result c.in_ok-agents.agents.items same c.in_ok-agents.ensures c.new.ensures in
+    let known = subst (λ (x : Program). IsAcceptedFor c.args.accepted.now.grid c.args.accepted.now.instance x c.args.accepted.now.chain) same c.program-program.ensures.accepted in
+    thinned_least p c.new.result known.accepted.numbering.0 known.accepted.numbering.1 known.accepted.right.in_range made
+
 pub returns-clause-moves : goal.returns-clause-moves
 returns-clause-moves g c =
     let p = g.P.ProgramView.program c.args.accepted.now.program in
     moves_of p (g.P.ProgramView.program c.program-program.result.now) c.new.result c.in_ok-agents.agents.items (ap g.P.ProgramView.program c.program-program.ensures.program) c.in_ok-agents.ensures c.new.ensures
+
+pub returns-clause-short : goal.returns-clause-short
+returns-clause-short g c =
+    let p = g.P.ProgramView.program c.args.accepted.now.program in
+    let same = ap g.P.ProgramView.program c.program-program.ensures.program in
+    let made : IsThinned p c.new.result = thinned_of p (g.P.ProgramView.program c.program-program.result.now) c.new.result c.in_ok-agents.agents.items same c.in_ok-agents.ensures c.new.ensures in
+    let known = subst (λ (x : Program). IsAcceptedFor c.args.accepted.now.grid c.args.accepted.now.instance x c.args.accepted.now.chain) same c.program-program.ensures.accepted in
+    thinned_short p c.new.result made known.accepted.right.in_range

@@ -1,10 +1,11 @@
+use Rattle.std.proofs.Common.{refl}
 use Rattle.fleet_grid.specs.Ground.{is_passable}
 use Rattle.fleet_verify.proofs.Reductions.{thinned_reduced, reduced_chains, thinned_range}
 use Rattle.fleet_verify.proofs.SameChains.{accepted_over}
-use Rattle.fleet_commands.proofs.thin_command.thin_texts.Goals as goal
+use Rattle.fleet_commands.proofs.thin_command.thinned_program.Goals as goal
 
-pub returns-clause-thinned : goal.returns-clause-thinned
-returns-clause-thinned c =
+pub returns-in-Ok-clause-thinned : goal.returns-in-Ok-clause-thinned
+returns-in-Ok-clause-thinned c = λ bytes spelled.
     let p = c.in_ok-accepted.accepted.program.program in
     let q = c.in-Ok.thinned in
     let known = c.in_ok-accepted.ensures.accepted.accepted_for.accepted in
@@ -17,7 +18,7 @@ returns-clause-thinned c =
       accepted = accepted_over p q (thinned_range p q is known.right.in_range) less (is_passable c.in_ok-problem.problem.grid) c.in_ok-problem.problem.instance known;
       longest = c.in-Ok.ensures.chain;
       equally = c.in-Ok.ensures.equally;
-      spelled = c.in-Ok-encode_shortest.ensures.spelled;
+      spelled = spelled;
       had = rw (← c.program.ensures.program) c.total_awaits.ensures;
-      has = c.total_awaits-2.ensures;
+      has = refl;
     }

@@ -108,7 +108,7 @@ mkdir "$work/beside" "$work/beside/room" && cp -R "$work/bin" "$work/beside/" ||
     echo "$passed $failed $skipped" > "$work/counts"
 ) &
 
-for section in documents commands transcripts texts conflicts warehouse plans tools files limits streams lent; do
+for section in documents names commands transcripts texts conflicts warehouse plans tools files limits streams lent; do
     . "$root/tests/$section.sh"
 done
 

@@ -45,6 +45,7 @@ check '.. of a number too many' 1 '' 'dispatch 2 Form line 1\n' 'echo 1024 | fle
 check 'a horizon that just does' 0 '1,0 2,0 3,0\n0,0 1,0 2,0\n' '' "fleet plan $M $S --horizon 2"
 check 'a path of 65,536 cells' 0 'conflict-free\nagents 1\nsteps 65535\n' '' \
     "awk 'BEGIN { for (t = 0; t < 65533; t++) printf \"1,0 \"; print \"1,0 2,0 3,0\" }' | fleet check $M $S /dev/stdin --agents 1"
+check '1,000 lines of holds' 0 'agents 2\nticks 1003\nchain 3\nheld 1000\n' '' "yes '0 1' | head -n 1000 > thousand && fleet run $M $S $B --holds thousand | tail -n 4"
 check '4,194,304 lines of holds' 0 'agents 2\nticks 4194307\nchain 3\nheld 4194304\n' '' \
     "yes 0 | head -n 4194304 > many && fleet run $M $S $B --holds many | tail -n 4"
 moves='BEGIN { m = "00"; while (length(m) < 131072) m = m m; print "4D504631 0041"; for (i = 0; i < 64; i++) print "0000000000000000 FFFF" substr(m, 3); print last }'
@@ -64,6 +65,12 @@ check '1,000,000 moves in version 2 are accepted' 0 'accepted\nagents 1\nmoves 1
     "$there && { printf 'MPF2\0\1\0\0\0\0\0\0\0\0\0\17\102\100'; east_and_back 1000000; } > way && fleet verify two.map two.scen way"
 check '.. and run' 0 'agents 1\nticks 1000000\nchain 1000000\nheld 0\n' '' 'fleet run two.map two.scen way | tail -n 4'
 check '.. and stay as they are' 0 'bytes 1000018\n' '' 'fleet migrate way again && cmp way again'
+check '65,535 moves in version 1' 0 'agents 1\nticks 65535\nchain 65535\nheld 0\n' '' \
+    "printf 'version 1\n0 m 2 1 0 0 1 0 0\n' > odd.scen && { printf 'MPF1\0\1\0\0\0\0\0\1\0\0\377\377'; east_and_back 65535; } > odd && fleet run two.map odd.scen odd | tail -n 4"
+check '65,536 moves in version 2' 0 'bytes 65554\n' '' \
+    "{ printf 'MPF2\0\1\0\0\0\0\0\0\0\0\0\1\0\0'; east_and_back 65536; } > even && fleet migrate even again && cmp even again"
+check '.. are run' 0 'agents 1\nticks 65536\nchain 65536\nheld 0\n' '' 'fleet run two.map two.scen even | tail -n 4'
+check '.. and stay in version 2 when thinned' 0 'awaits 0\nawaits 0\n' '' 'fleet thin two.map two.scen even again && cmp even again'
 check '4,194,304 moves in version 2' 0 'agents 5\nticks 1000000\nheld 0\nfinished\n' '' \
     "{ printf 'MPF2\0\5'; for agent in 0 1 2 3; do printf '\0\0\0\0\0\0\0\0\0\17\102\100'; east_and_back 1000000; done; printf '\0\0\0\0\0\0\0\0\0\2\367\0'; east_and_back 194304; } > most && fleet rehearse most | tail -n 4"
 check '4,194,305 moves' 1 '' 'load 5 Total\n' "awk -v last='0000000000000000 0041' '$moves' | fleet"

@@ -82,6 +82,7 @@ export input REFUSER
 check 'a program that holds break' 0 '' '' "{ head -c 28 examples/pair.program; printf '\\1\\20\\0\\0\\0\\2\\1'; } > unordered"
 check 'a program with implied awaits' 0 '' '' "fleet compile examples/corridor.map examples/corridor.scen examples/corridor.plan all --deps all > numbers"
 check 'agents that find paths in the second order' 0 '' '' "printf 'type t\\nheight 2\\nwidth 3\\nmap\\n...\\n@.@\\n' > mouth.map && printf 'version 1\\n0 m 3 2 1 1 1 0 1\\n0 m 3 2 0 0 2 0 2\\n' > mouth.scen"
+check 'agents of which the last finds no path' 0 '' '' "printf 'type t\\nheight 2\\nwidth 2\\nmap\\n..\\n..\\n' > square.map && printf 'version 1\\n0 m 2 2 0 0 1 0 1\\n0 m 2 2 1 0 1 1 1\\n0 m 2 2 1 1 0 1 1\\n0 m 2 2 0 1 0 0 1\\n' > square.scen"
 check 'a program in version 2' 0 'bytes 48\n' '' 'fleet migrate examples/pair.program pair2'
 if ${CC:-cc} -shared -fPIC -o "$REFUSER" "$root/tests/refuse.c" -ldl 2> /dev/null; then
     while read -r words; do
@@ -90,6 +91,8 @@ if ${CC:-cc} -shared -fPIC -o "$REFUSER" "$root/tests/refuse.c" -ldl 2> /dev/nul
 instance $on
 check $on examples/pair.plan
 plan $on
+plan $on --horizon 1
+plan square.map square.scen
 plan mouth.map mouth.scen --tries 2
 compile $on examples/pair.plan out
 compile $on examples/pair.plan out --deps all

@@ -158,6 +158,25 @@ pair|1025||scen 10 TooMany
 pair|1|version 1|scen 11 Fewer
 EOF
 
+# fronts FILE COMMAND..: runs a command on each front of the file, from none to all of its bytes. Prints how many agents
+# it counts, or its refusal, and how often that came in a row.
+cat > "$work/bin/fronts" <<'EOF'
+#!/bin/sh
+file=$1 len=0 all=$(wc -c < "$1")
+shift
+while [ "$len" -le "$all" ]; do
+    head -c "$len" "$file" > front
+    if "$@" > got 2> told; then grep agents got; else cat told; fi
+    len=$((len + 1))
+done | uniq -c | sed 's/^ *//'
+EOF
+chmod +x "$work/bin/fronts"
+check 'each front of a map' 0 '6 map 2 Header line 1\n14 map 2 Header line 2\n8 map 2 Header line 3\n4 map 2 Header line 4\n2 map 4 RowCount\n3 map 5 RowLength row 0\n2 agents 2\n' '' \
+    'fronts pair.map fleet instance front pair.scen'
+check 'each front of a scenario' 0 '9 scen 2 Version\n2 scen 9 NoAgents\n23 scen 3 Fields line 2\n11 agents 1\n23 scen 3 Fields line 3\n11 agents 2\n' '' \
+    'fronts pair.scen fleet instance pair.map front'
+check 'each front of a program' 0 '40 load 3 Truncated\n1 agents 2\n' '' 'fronts pair.program fleet rehearse front'
+
 # Plans: those that are read are that of the pair.
 while IFS='|' read -r text due; do
     if [ "$due" ]; then

@@ -1,0 +1,360 @@
+//! Whole commands over files in memory, by their words and by a request, and the lines of refusals.
+
+ghost use Rattle.std.specs.Prelude.{◌<◌};
+
+use crate::ends::{FailingFiles, Given};
+use crate::fleets::{
+    HELD_TRACE, PAIR_BYTES, PAIR_BYTES_2, PAIR_HEX, PAIR_MAP, PAIR_PLAN, PAIR_SCEN, PAIR_TEXT,
+    PAIR_TRACE, SQUARE_MAP, SQUARE_SCEN,
+};
+use fleet_adg::Deps;
+use fleet_args::{
+    AutoRequest, CheckRequest, CompileRequest, InstanceRequest, MigrateRequest, PlanRequest,
+    RehearseRequest, RunRequest, ThinRequest, VerifyRequest,
+};
+use fleet_auto::{AutoFault, auto_run};
+use fleet_cli::{
+    Disk, Fault, Files, Request, WordStop, read_words, run_command, run_hex, run_request,
+};
+use fleet_dispatch::StreamFloor;
+use fleet_files::{FileFault, MemFiles};
+use fleet_grid::MapFault;
+use fleet_run::{Report, VecOut};
+use fleet_search::PlanStop;
+use std::alloc::{AllocError, Global};
+use std::test::Fail;
+
+/// The pair's files, and those of the square.
+fn some_files(alloc: Global) -> Result<MemFiles, Fail> {
+    let mut files = MemFiles::new(alloc);
+    for (name, bytes) in [
+        ("map", PAIR_MAP),
+        ("scen", PAIR_SCEN),
+        ("plan", PAIR_PLAN),
+        ("program", PAIR_BYTES),
+        ("holds", b"0\n"),
+        ("wrong", b"-\n1 0\n"),
+        ("square.map", SQUARE_MAP),
+        ("square.scen", SQUARE_SCEN),
+    ] {
+        files.put(name, bytes)?;
+    }
+    Ok(files)
+}
+
+/// The words of a line, which are parted by one space.
+fn words_of(alloc: Global, line: &str) -> Result<Vec<String>, AllocError> {
+    let mut words = Vec::new(alloc);
+    for word in line.split_whitespace() {
+        words.push(String::from_str(alloc, word)?)?;
+    }
+    Ok(words)
+}
+
+/// The status of a command, and what it writes to its output and of its refusal.
+type Done = (u8, VecOut, VecOut);
+
+fn command_answer<F: Files>(alloc: Global, line: &str, files: &mut F) -> Result<Done, Fail> {
+    let words = words_of(alloc, line)?;
+    let mut out = VecOut::new(alloc);
+    let mut err = VecOut::new(alloc);
+    let mut input = StreamFloor::new(Given { rest: PAIR_HEX }, VecOut::new(alloc));
+    let status = run_command(alloc, &words, &mut input, files, &mut out, &mut err);
+    Ok((status, out, err))
+}
+
+/// A command, its status, and what it writes to its output and of its refusal.
+type Row = (&'static str, u8, &'static [u8], &'static [u8]);
+
+const COMPILED: &[u8] = b"agents 2\nmoves 4\nawaits 2\nbytes 40\n";
+
+const INSTANCE: &[u8] = b"map 4 1\nground 4\nagents 2\n0: 1,0 3,0\n1: 0,0 2,0\n";
+
+const CHECKED: &[u8] = b"conflict-free\nagents 2\nsteps 2\n";
+
+const ACCEPTED: &[u8] = b"accepted\nagents 2\nmoves 4\nawaits 2\nchain 3\n";
+
+const TWO_LINES: &[u8] = b"0: 1,0 0,0\n1: 2,0 0,0\n";
+
+const COMMANDS: [Row; 14] = [
+    ("", 0, PAIR_TEXT, b""),
+    ("instance map scen", 0, INSTANCE, b""),
+    ("check map scen plan", 0, CHECKED, b""),
+    ("plan map scen", 0, PAIR_PLAN, b""),
+    ("compile map scen plan out", 0, COMPILED, b""),
+    ("verify map scen program", 0, ACCEPTED, b""),
+    ("run map scen program --holds holds", 0, HELD_TRACE, b""),
+    (
+        "run map scen program --holds wrong",
+        1,
+        TWO_LINES,
+        b"run 3 Hold line 2\n",
+    ),
+    ("rehearse program", 0, PAIR_TEXT, b""),
+    ("auto map scen", 0, PAIR_TRACE, b""),
+    (
+        "auto square.map square.scen",
+        1,
+        b"",
+        b"search 2 NoPath agent 3\n",
+    ),
+    ("thin map scen program out", 0, b"awaits 2\nawaits 2\n", b""),
+    ("migrate program two", 0, b"bytes 48\n", b""),
+    ("run map scen none", 3, b"", b"file none\n"),
+];
+
+#[test]
+fn commands_are_run(rt: HostRuntime) -> Result<(), Fail> {
+    let alloc = rt.alloc();
+    let mut files = some_files(alloc)?;
+    for (line, status, out, err) in COMMANDS {
+        let done = command_answer(alloc, line, &mut files)?;
+        assert_eq!(rt;
+            (done.0, done.1.bytes(), done.2.bytes()),
+            (status, out, err),
+            "{line}"
+        );
+    }
+    assert!(rt; files.get("out") == Some(PAIR_BYTES) && files.get("two") == Some(PAIR_BYTES_2));
+    Ok(())
+}
+
+/// A request of each command on the pair's files.
+const REQUESTS: [Request<'static>; 10] = [
+    Request::Instance(InstanceRequest {
+        map: "map",
+        scen: "scen",
+        agents: None,
+    }),
+    Request::Check(CheckRequest {
+        map: "map",
+        scen: "scen",
+        plan: "plan",
+        agents: Some(2),
+    }),
+    Request::Plan(PlanRequest {
+        map: "map",
+        scen: "scen",
+        agents: None,
+        horizon: 2,
+        tries: 1,
+    }),
+    Request::Compile(CompileRequest {
+        map: "map",
+        scen: "scen",
+        plan: "plan",
+        out: "out",
+        agents: None,
+        deps: Deps::All,
+        dwell: 0,
+    }),
+    Request::Verify(VerifyRequest {
+        map: "map",
+        scen: "scen",
+        program: "out",
+        agents: None,
+    }),
+    Request::Run(RunRequest {
+        map: "map",
+        scen: "scen",
+        program: "out",
+        agents: None,
+        holds: Some("holds"),
+    }),
+    Request::Rehearse(RehearseRequest {
+        program: "out",
+        holds: None,
+    }),
+    Request::Auto(AutoRequest {
+        map: "map",
+        scen: "scen",
+        agents: None,
+        horizon: 1024,
+        tries: 1,
+        deps: Deps::Last,
+        holds: None,
+    }),
+    Request::Thin(ThinRequest {
+        map: "map",
+        scen: "scen",
+        program: "out",
+        out: "out",
+        agents: None,
+    }),
+    Request::Migrate(MigrateRequest {
+        program: "out",
+        out: "out",
+    }),
+];
+
+/// What each writes.
+const WRITTEN: [&[u8]; 10] = [
+    INSTANCE,
+    CHECKED,
+    PAIR_PLAN,
+    COMPILED,
+    ACCEPTED,
+    HELD_TRACE,
+    PAIR_TEXT,
+    PAIR_TRACE,
+    b"awaits 2\nawaits 2\n",
+    b"bytes 48\n",
+];
+
+/// The status of a request of the table, and what it writes to its output and of its refusal.
+fn request_answer(alloc: Global, k: usize, files: &mut MemFiles) -> Done
+    requires { k < 10 }
+{
+    let request = REQUESTS[k];
+    let mut out = VecOut::new(alloc);
+    let mut err = VecOut::new(alloc);
+    let mut floor = StreamFloor::new(Given { rest: b"" }, VecOut::new(alloc));
+    let status = run_request(alloc, &request, files, &mut out, &mut err, &mut floor);
+    (status, out, err)
+}
+
+#[test]
+fn requests_are_done(rt: HostRuntime) -> Result<(), Fail> {
+    let mut files = some_files(rt.alloc())?;
+    for k in 0..10 {
+        let done = request_answer(rt.alloc(), k, &mut files);
+        let due = (0, WRITTEN[k], b"".as_slice());
+        assert_eq!(rt; (done.0, done.1.bytes(), done.2.bytes()), due, "{k}");
+    }
+    assert!(rt; files.get("out") == Some(PAIR_BYTES_2));
+    Ok(())
+}
+
+#[test]
+fn words_are_read(rt: HostRuntime) -> Result<(), Fail> {
+    let alloc = rt.alloc();
+    let words = words_of(alloc, "run a b c --agents 7 --holds d")?;
+    let request = read_words(alloc, &words);
+    assert!(rt;
+        matches!(
+            request,
+            Ok(Request::Run(RunRequest {
+                map: "a",
+                scen: "b",
+                program: "c",
+                agents: Some(7),
+                holds: Some("d"),
+            }))
+        )
+    );
+    let words = words_of(alloc, "run a b c --agents x")?;
+    assert!(rt; matches!(read_words(alloc, &words), Err(WordStop::Usage(_))));
+    let words = words_of(alloc, "run --help")?;
+    assert!(rt; matches!(read_words(alloc, &words), Err(WordStop::Help(_))));
+    Ok(())
+}
+
+#[test]
+fn hexadecimal_is_run(rt: HostRuntime) -> Result<(), Fail> {
+    let alloc = rt.alloc();
+    for (rest, status, text, line) in [
+        (PAIR_HEX, 0, PAIR_TEXT, b"".as_slice()),
+        (b"", 1, b"", b"load 3 Truncated\n"),
+        (b"4G", 1, b"", b"hex 2 Digit at 1\n"),
+    ] {
+        let mut out = VecOut::new(alloc);
+        let mut err = VecOut::new(alloc);
+        let done = run_hex(alloc, &mut Given { rest }, &mut out, &mut err);
+        assert_eq!(rt; (done, out.bytes(), err.bytes()), (status, text, line));
+    }
+    Ok(())
+}
+
+#[test]
+fn refusals_are_told(rt: HostRuntime) -> Result<(), Fail> {
+    for (fault, status, line) in [
+        (Fault::Map(MapFault::Size), 1, b"map 3 Size\n".as_slice()),
+        (Fault::Memory, 3, b"memory\n"),
+        (Fault::File("name"), 3, b"file name\n"),
+    ] {
+        let mut err = VecOut::new(rt.alloc());
+        fault.tell(&mut err);
+        assert_eq!(rt; (fault.status(), err.bytes()), (status, line));
+    }
+    Ok(())
+}
+
+/// The report of a whole way from a map to a trace, and the trace; or why there is none.
+fn auto_answer(
+    alloc: Global,
+    map: &[u8],
+    scen: &[u8],
+    holds: &[u8],
+) -> (Result<Report, AutoFault>, VecOut) {
+    let mut out = VecOut::new(alloc);
+    let ran = auto_run(alloc, map, scen, None, 1024, Deps::Last, holds, &mut out);
+    (ran, out)
+}
+
+#[test]
+fn maps_lead_to_traces(rt: HostRuntime) -> Result<(), Fail> {
+    let (ran, out) = auto_answer(rt.alloc(), PAIR_MAP, PAIR_SCEN, b"0");
+    let due = Report {
+        agents: 2,
+        ticks: 4,
+        chain: 3,
+        held: 1,
+    };
+    assert_eq!(rt; (ran?, out.bytes()), (due, HELD_TRACE));
+    let (ran, out) = auto_answer(rt.alloc(), SQUARE_MAP, SQUARE_SCEN, b"");
+    assert!(rt; matches!(ran, Err(AutoFault::Plan(PlanStop::NoPath { agent: 3 }))));
+    assert_eq!(rt; out.bytes(), b"".as_slice());
+    Ok(())
+}
+
+#[test]
+fn files_are_read_and_written(rt: HostRuntime) -> Result<(), Fail> {
+    let alloc = rt.alloc();
+    let mut files = MemFiles::new(alloc);
+    assert!(rt; files.get("name").is_none());
+    assert!(rt; matches!(files.read(alloc, "name").err(), Some(FileFault::Failed)));
+    files.put("name", b"old bytes")?;
+    files.write("name", b"bytes")?;
+    files.put("other", b"")?;
+    assert!(rt; files.get("name") == Some(b"bytes".as_slice()));
+    assert_eq!(rt; files.read(alloc, "name")?.as_slice(), b"bytes".as_slice());
+    // No folder of the disk is called so.
+    let mut disk = Disk::new(&rt);
+    assert!(rt;
+        matches!(
+            disk.read(alloc, "no/such/folder").err(),
+            Some(FileFault::Failed)
+        )
+    );
+    assert!(rt;
+        matches!(
+            disk.write("no/such/folder", b"").err(),
+            Some(FileFault::Failed)
+        )
+    );
+    Ok(())
+}
+
+/// The line names the first file that fails, and OUT is not written when anything before it was refused.
+#[test]
+fn files_fail_at_each_call(rt: HostRuntime) -> Result<(), Fail> {
+    let alloc = rt.alloc();
+    for (calls, line) in [
+        (0, b"file map\n".as_slice()),
+        (1, b"file scen\n"),
+        (2, b"file plan\n"),
+        (3, b"file out\n"),
+    ] {
+        let mut files = FailingFiles {
+            files: some_files(alloc)?,
+            calls,
+        };
+        let done = command_answer(alloc, "compile map scen plan out", &mut files)?;
+        assert_eq!(rt;
+            (done.0, done.1.bytes(), done.2.bytes()),
+            (3, b"".as_slice(), line)
+        );
+        assert!(rt; files.files.get("out").is_none());
+    }
+    Ok(())
+}

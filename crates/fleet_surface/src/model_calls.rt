@@ -1,0 +1,124 @@
+//! Programs that are made by hand, and what a view says of a program.
+
+ghost use Rattle.std.specs.Prelude.{◌<◌, length};
+
+use crate::fleets::{PAIR_BYTES, STAYING_BYTES};
+use fleet_code::{encode, load, view};
+use fleet_model::{
+    Action, Actions, AgentProgram, Await, Awaits, Cell, Dir, OutOfMemory, Program, ProgramView,
+    Step, total_awaits, total_moves, well_formed,
+};
+use std::alloc::{AllocError, Global};
+use std::test::Fail;
+
+/// A step to the east, after so many actions of agent 0, if there are any.
+fn east_after(alloc: Global, count: u32) -> Result<Action, OutOfMemory> {
+    let mut awaits = Awaits::new(alloc);
+    if count > 0 {
+        awaits.push(Await { agent: 0, count })?;
+    }
+    Ok(Action {
+        step: Step::Go(Dir::East),
+        awaits,
+    })
+}
+
+/// An agent that goes two steps east from a column to another, after so many actions of agent 0.
+fn agent(alloc: Global, from: u16, to: u16, counts: [u32; 2]) -> Result<AgentProgram, OutOfMemory> {
+    let mut actions = Actions::new(alloc);
+    for count in counts {
+        actions.push(east_after(alloc, count)?)?;
+    }
+    Ok(AgentProgram {
+        start: Cell { x: from, y: 0 },
+        goal: Cell { x: to, y: 0 },
+        actions,
+    })
+}
+
+/// The program of agent 0, which awaits nobody if the count is 0, and of agent 1; none if the two are no program.
+fn pair_by_hand(alloc: Global, count: u32) -> Result<Option<Program>, Fail> {
+    let one = agent(alloc, 1, 3, [count, 0])?;
+    let other = agent(alloc, 0, 2, [1, 2])?;
+    let agents = vec![in alloc; one, other]?;
+    if well_formed(&agents) {
+        Ok(Some(Program::new(agents)))
+    } else {
+        Ok(None)
+    }
+}
+
+#[test]
+fn programs_are_made_by_hand(rt: HostRuntime) -> Result<(), Fail> {
+    let alloc = rt.alloc();
+    let program = pair_by_hand(alloc, 0)?.ok_or("refused")?;
+    assert_eq!(rt; encode(alloc, &program)?.as_slice(), PAIR_BYTES);
+    // An agent awaits no action of its own, and a program has agents.
+    assert!(rt; pair_by_hand(alloc, 1)?.is_none() && !well_formed(&[]));
+    Ok(())
+}
+
+/// The number of a step: that of its opcode.
+fn number_of(step: Step) -> u32 {
+    match step {
+        Step::Go(Dir::North) => 0,
+        Step::Go(Dir::East) => 1,
+        Step::Go(Dir::South) => 2,
+        Step::Go(Dir::West) => 3,
+        Step::Dwell => 4,
+    }
+}
+
+/// Adds what the view says of the actions of agent `i`: how many awaits each has, these, and its step.
+fn tell_actions<P: ProgramView>(program: &P, i: u16, told: &mut Vec<u32>) -> Result<(), AllocError>
+    requires { i < length (P.program program.now) }
+{
+    for done in 0..program.moves(i) {
+        let p = done + 1;
+        told.push(u32::from(program.await_count(i, p)))?;
+        for k in 0..program.await_count(i, p) {
+            let one = program.await_at(i, p, k);
+            told.push(u32::from(one.agent))?;
+            told.push(one.count)?;
+        }
+        told.push(number_of(program.step(i, p)))?;
+    }
+    Ok(())
+}
+
+/// What a view says of its program: of each agent its start, its goal and how many actions it has, and these.
+pub fn told_by<P: ProgramView>(alloc: Global, program: &P) -> Result<Vec<u32>, AllocError> {
+    let mut told = Vec::new(alloc);
+    for i in 0..program.agents() {
+        for cell in [program.start(i), program.goal(i)] {
+            told.push(u32::from(cell.x))?;
+            told.push(u32::from(cell.y))?;
+        }
+        told.push(program.moves(i))?;
+        tell_actions(program, i, &mut told)?;
+    }
+    Ok(told)
+}
+
+#[test]
+fn views_tell_of_programs(rt: HostRuntime) -> Result<(), Fail> {
+    let alloc = rt.alloc();
+    let pair = [
+        1, 0, 3, 0, 2, 0, 1, 0, 1, 0, 0, 2, 0, 2, 1, 0, 1, 1, 1, 0, 2, 1,
+    ];
+    let staying = [
+        1, 0, 3, 0, 4, 0, 1, 0, 1, 0, 4, 0, 4, 0, 0, 2, 0, 4, 1, 0, 1, 1, 1, 0, 2, 1, 0, 4, 0, 4,
+    ];
+    for (bytes, due, moves) in [
+        (PAIR_BYTES, pair.as_slice(), 4),
+        (STAYING_BYTES, staying.as_slice(), 8),
+    ] {
+        let program = load(alloc, bytes)?;
+        let view = view(alloc, bytes)?;
+        assert_eq!(rt; told_by(alloc, &program)?.as_slice(), due);
+        assert_eq!(rt; told_by(alloc, &view)?.as_slice(), due);
+        assert_eq!(rt; (total_moves(&program), total_awaits(&program)), (moves, 2));
+        assert_eq!(rt; (total_moves(&view), total_awaits(&view)), (moves, 2));
+    }
+    Ok(())
+}

@@ -1,0 +1,401 @@
+//! Fleets that are ticked and driven, rehearsals, and the sources and sinks of both.
+
+ghost use Rattle.std.specs.Prelude.{◌≡◌, All, IfOk, length};
+ghost use Rattle.std.specs.List.Sorted.{IsStrictlyIncreasing};
+
+use crate::ends::Counter;
+use crate::fleets::{HELD_TRACE, PAIR_BYTES, PAIR_TEXT, PAIR_TRACE, RING_BYTES, pair, problem};
+use fleet_code::view;
+use fleet_model::{Place, ProgramView};
+use fleet_run::{
+    End, Fleet, HoldList, HoldSource, HoldText, OutFault, Rehearsal, Report, RunFault, SourceFault,
+    StartRefusal, Tick, TraceOut, VecOut, WriteOut, drive, rehearse, write_holds,
+};
+use fleet_verify::{Accepted, verify};
+use std::alloc::Global;
+use std::test::Fail;
+
+/// A tick of the pair: who is held; how many agents it moves, and whether it holds a ready one; and after it the columns
+/// of both agents, how many actions they have finished, who is ready, and how many agents were looked at in all, at
+/// least and at most.
+type PairTick = (
+    [bool; 2],
+    (u16, bool),
+    [i32; 2],
+    [u32; 2],
+    [bool; 2],
+    (u64, u64),
+);
+
+/// Agent 0 is held in the first tick, and agent 1, which is not ready, in the second. The last two ticks are those of a
+/// finished fleet.
+const TICKS: [PairTick; 6] = [
+    (
+        [true, false],
+        (0, true),
+        [1, 0],
+        [0, 0],
+        [true, false],
+        (1, 1),
+    ),
+    (
+        [false, true],
+        (1, false),
+        [2, 0],
+        [1, 0],
+        [true, true],
+        (2, 3),
+    ),
+    (
+        [false, false],
+        (2, false),
+        [3, 1],
+        [2, 1],
+        [false, true],
+        (4, 5),
+    ),
+    (
+        [false, false],
+        (1, false),
+        [3, 2],
+        [2, 2],
+        [false, false],
+        (5, 6),
+    ),
+    (
+        [true, true],
+        (0, false),
+        [3, 2],
+        [2, 2],
+        [false, false],
+        (5, 6),
+    ),
+    (
+        [false, false],
+        (0, false),
+        [3, 2],
+        [2, 2],
+        [false, false],
+        (5, 6),
+    ),
+];
+
+/// Whether the pair stands so.
+fn stands<P: ProgramView>(
+    fleet: &Fleet<'_, P>,
+    columns: [i32; 2],
+    counts: [u32; 2],
+    ready: [bool; 2],
+) -> bool
+    requires { length (P.program fleet.now.accepted.program) ≡ 2 }
+{
+    for i in 0..2u16 {
+        let k = usize::from(i);
+        let place = Place {
+            x: columns[k],
+            y: 0,
+        };
+        if fleet.place(i) != place || fleet.count(i) != counts[k] || fleet.ready(i) != ready[k] {
+            return false;
+        }
+    }
+    fleet.finished() == (counts == [2, 2])
+}
+
+/// A fleet that is started, unless memory runs out.
+fn started<P: ProgramView + Drop>(
+    alloc: Global,
+    accepted: Accepted<'_, P>,
+) -> Result<Fleet<'_, P>, Fail>
+    ensures accepted { IfOk result (λ f. f.accepted ≡ accepted.entry) }
+    ensures counts { IfOk result (λ f. All (λ s. s.count ≡ 0) f.configuration) }
+{
+    match Fleet::start(alloc, accepted) {
+        Ok(fleet) => Ok(fleet),
+        Err(StartRefusal { accepted: _ }) => Err(Fail::from("memory")),
+    }
+}
+
+#[test]
+fn fleets_are_ticked(rt: HostRuntime) -> Result<(), Fail> {
+    let alloc = rt.alloc();
+    let (grid, instance, program) = pair(alloc)?;
+    let Ok(accepted) = verify(alloc, program, &grid, &instance) else {
+        return Err(Fail::from("refused"));
+    };
+    if accepted.program().agents() != 2 {
+        return Err(Fail::from("another fleet"));
+    }
+    let Ok(mut fleet) = Fleet::start(alloc, accepted) else {
+        return Err(Fail::from("memory"));
+    };
+    for (held, outcome, columns, counts, ready, (least, most)) in TICKS {
+        let Tick { moved, ready_held } = fleet.tick(&held);
+        assert_eq!(rt; (moved, ready_held), outcome);
+        assert!(rt; stands(&fleet, columns, counts, ready));
+        assert!(rt; least <= fleet.looked() && fleet.looked() <= most);
+    }
+    assert_eq!(rt; fleet.into_accepted().chain(), 3);
+    Ok(())
+}
+
+/// A line that is no tick's stops a run, and the fleet may be ticked further.
+#[test]
+fn fleets_go_on_after_a_refusal(rt: HostRuntime) -> Result<(), Fail> {
+    let alloc = rt.alloc();
+    let (grid, instance, program) = pair(alloc)?;
+    let Ok(accepted) = verify(alloc, program, &grid, &instance) else {
+        return Err(Fail::from("refused"));
+    };
+    if accepted.program().agents() != 2 {
+        return Err(Fail::from("another fleet"));
+    }
+    let mut fleet = started(alloc, accepted)?;
+    let mut out = VecOut::new(alloc);
+    let fault = drive(&mut fleet, &mut HoldText::new(b"-\n1 0\n", 2), &mut out).err();
+    assert_eq!(rt; fault, Some(RunFault::Hold { line: 2 }));
+    assert_eq!(rt; out.bytes(), b"0: 1,0 0,0\n1: 2,0 0,0\n".as_slice());
+    assert!(rt; stands(&fleet, [2, 0], [1, 0], [true, true]));
+    let _ = fleet.tick(&[false, false]);
+    let _ = fleet.tick(&[false, false]);
+    assert!(rt; stands(&fleet, [3, 2], [2, 2], [false, false]));
+    Ok(())
+}
+
+/// A run into a writer that counts its bytes: its report or why it stopped, how many agents were looked at, how many
+/// actions agent 0 has finished, and how many bytes were written.
+fn counted_run(
+    alloc: Global,
+    map: &[u8],
+    scen: &[u8],
+    bytes: &[u8],
+    holds: &[u8],
+) -> Result<(Result<Report, RunFault>, u64, u32, u64), Fail> {
+    let (grid, instance) = problem(alloc, map, scen)?;
+    let Ok(accepted) = verify(alloc, view(alloc, bytes)?, &grid, &instance) else {
+        return Err(Fail::from("refused"));
+    };
+    let agents = accepted.program().agents();
+    if agents == 0 {
+        return Err(Fail::from("nobody"));
+    }
+    let mut fleet = started(alloc, accepted)?;
+    let mut counter = Counter { bytes: 0 };
+    let mut out = WriteOut::new(&mut counter);
+    let ran = drive(&mut fleet, &mut HoldText::new(holds, agents), &mut out);
+    Ok((ran, fleet.looked(), fleet.count(0), counter.bytes))
+}
+
+/// One agent that goes one step east.
+const STEP_MAP: &[u8] = b"type t\nheight 1\nwidth 2\nmap\n..\n";
+
+const STEP_SCEN: &[u8] = b"version 1\n0 m 2 1 0 0 1 0 1\n";
+
+const STEP_BYTES: &[u8] = b"MPF1\0\x01\0\0\0\0\0\x01\0\0\0\x01\x01";
+
+/// It is held in as many ticks as a run takes from its source, and in one more.
+#[test]
+fn holds_have_a_limit(rt: HostRuntime) -> Result<(), Fail> {
+    let alloc = rt.alloc();
+    let mut holds = b"0\n".to_vec(alloc)?;
+    for _ in 0..22 {
+        let copy = holds.to_vec(alloc)?;
+        holds.extend_from_slice(&copy)?;
+    }
+    let (ran, _, count, _) = counted_run(alloc, STEP_MAP, STEP_SCEN, STEP_BYTES, &holds)?;
+    let due = Report {
+        agents: 1,
+        ticks: 4_194_305,
+        chain: 1,
+        held: 4_194_304,
+    };
+    assert_eq!(rt; (ran, count), (Ok(due), 1));
+    holds.extend_from_slice(b"0\n")?;
+    let (ran, _, count, _) = counted_run(alloc, STEP_MAP, STEP_SCEN, STEP_BYTES, &holds)?;
+    assert_eq!(rt; (ran, count), (Err(RunFault::HoldLimit), 0));
+    Ok(())
+}
+
+/// A row of 1,025 cells.
+fn crowd_map(alloc: Global) -> Result<Vec<u8>, Fail> {
+    let mut text = b"type t\nheight 1\nwidth 1025\nmap\n".to_vec(alloc)?;
+    for _ in 0..1025 {
+        text.push(b'.')?;
+    }
+    text.push(b'\n')?;
+    Ok(text)
+}
+
+/// Agent 0 goes one cell east, and each other one of the 1,024 stands beyond.
+fn crowd_scen(alloc: Global) -> Result<Vec<u8>, Fail> {
+    let mut text = String::from_str(alloc, "version 1\n0 m 1025 1 0 0 1 0 1\n")?;
+    for x in 2..1025u16 {
+        write!(text, "0 m 1025 1 {x} 0 {x} 0 0\n")?;
+    }
+    Ok(text.into_bytes())
+}
+
+/// Agent 0 makes 65,535 moves, to and fro, and the others make none.
+fn crowd_bytes(alloc: Global) -> Result<Vec<u8>, Fail> {
+    let mut bytes = b"MPF1\x04\0\0\0\0\0\0\x01\0\0\xFF\xFF\x01".to_vec(alloc)?;
+    for _ in 0..32_767 {
+        bytes.extend_from_slice(b"\x03\x01")?;
+    }
+    for x in 2..1025u16 {
+        for _ in 0..2 {
+            bytes.extend_from_slice(&x.to_be_bytes())?;
+            bytes.extend_from_slice(b"\0\0")?;
+        }
+        bytes.extend_from_slice(b"\0\0")?;
+    }
+    Ok(bytes)
+}
+
+/// A tick looks at nobody but the agents that are ready, and those that await one that moves in it.
+#[test]
+fn standing_agents_are_not_looked_at(rt: HostRuntime) -> Result<(), Fail> {
+    let alloc = rt.alloc();
+    let map = crowd_map(alloc)?;
+    let scen = crowd_scen(alloc)?;
+    let bytes = crowd_bytes(alloc)?;
+    let (ran, looked, _, _) = counted_run(alloc, &map, &scen, &bytes, b"")?;
+    let due = Report {
+        agents: 1024,
+        ticks: 65_535,
+        chain: 65_535,
+        held: 0,
+    };
+    assert_eq!(rt; (ran, looked), (Ok(due), 65_535));
+    Ok(())
+}
+
+/// What was written of the pair's run under these rows of holds.
+fn list_answer(alloc: Global, rows: Vec<Vec<u16>>) -> Result<VecOut, Fail>
+    requires { All (λ row. IsStrictlyIncreasing row.items) rows.items }
+{
+    let (grid, instance, program) = pair(alloc)?;
+    let Ok(accepted) = verify(alloc, program, &grid, &instance) else {
+        return Err(Fail::from("refused"));
+    };
+    let mut fleet = started(alloc, accepted)?;
+    let mut out = VecOut::new(alloc);
+    drive(&mut fleet, &mut HoldList::new(rows), &mut out)?;
+    Ok(out)
+}
+
+#[test]
+fn lists_hold_agents(rt: HostRuntime) -> Result<(), Fail> {
+    let alloc = rt.alloc();
+    let held = list_answer(alloc, vec![in alloc; vec![in alloc; 0]?]?)?;
+    assert_eq!(rt; held.bytes(), HELD_TRACE);
+    let nobody = list_answer(alloc, Vec::new(alloc))?;
+    assert_eq!(rt; nobody.bytes(), PAIR_TRACE);
+    let holds = vec![in alloc; vec![in alloc; 0u16, 9]?, Vec::new(alloc)]?;
+    assert_eq!(rt;
+        write_holds(alloc, &holds)?.as_slice(),
+        b"0 9\n-\n".as_slice()
+    );
+    Ok(())
+}
+
+/// The ticks that a source gives to three agents, up to nine, and how it has failed after them.
+fn given_by<S: HoldSource>(
+    alloc: Global,
+    source: &mut S,
+) -> Result<(Vec<[bool; 3]>, Option<SourceFault>), Fail> {
+    let mut given = Vec::new(alloc);
+    for _ in 0..9 {
+        let mut flags = [false; 3];
+        if source.failed().is_some() || source.next(&mut flags) != Ok(true) {
+            break;
+        }
+        given.push(flags)?;
+    }
+    Ok((given, source.failed()))
+}
+
+#[test]
+fn sources_give_ticks(rt: HostRuntime) -> Result<(), Fail> {
+    let alloc = rt.alloc();
+    let rows = vec![in alloc; vec![in alloc; 0, 9]?, Vec::new(alloc)]?;
+    let (given, fault) = given_by(alloc, &mut HoldList::new(rows))?;
+    assert_eq!(rt;
+        given.as_slice(),
+        [[true, false, false], [false; 3]].as_slice()
+    );
+    assert_eq!(rt; fault, None);
+    let (given, fault) = given_by(alloc, &mut HoldText::new(b"0 2\r\n-\n1 0\n-\n", 3))?;
+    assert_eq!(rt;
+        given.as_slice(),
+        [[true, false, true], [false; 3]].as_slice()
+    );
+    assert_eq!(rt; fault, Some(SourceFault::Text));
+    Ok(())
+}
+
+#[test]
+fn sinks_take_bytes(rt: HostRuntime) -> Result<(), Fail> {
+    let mut out = VecOut::new(rt.alloc());
+    assert!(rt; matches!(out.put(b"bytes"), Ok(1..=5)) && !out.failed());
+    let mut counter = Counter { bytes: 0 };
+    let mut out = WriteOut::new(&mut counter);
+    let taken: Result<usize, OutFault> = out.put(b"bytes");
+    assert!(rt; matches!(taken, Ok(5)) && !out.failed());
+    assert_eq!(rt; counter.bytes, 5);
+    Ok(())
+}
+
+/// What a rehearsal writes, and its numbers.
+fn rehearse_answer(
+    alloc: Global,
+    bytes: &[u8],
+    holds: &[u8],
+) -> Result<(VecOut, Option<Rehearsal>, Option<RunFault>), Fail> {
+    let program = view(alloc, bytes)?;
+    let agents = program.agents();
+    let mut out = VecOut::new(alloc);
+    match rehearse(alloc, &program, &mut HoldText::new(holds, agents), &mut out) {
+        Ok(rehearsal) => Ok((out, Some(rehearsal), None)),
+        Err(fault) => Ok((out, None, Some(fault))),
+    }
+}
+
+#[test]
+fn programs_are_rehearsed(rt: HostRuntime) -> Result<(), Fail> {
+    let alloc = rt.alloc();
+    let (out, rehearsal, _) = rehearse_answer(alloc, PAIR_BYTES, b"")?;
+    assert_eq!(rt; out.bytes(), PAIR_TEXT);
+    assert!(rt;
+        matches!(
+            rehearsal,
+            Some(Rehearsal {
+                agents: 2,
+                ticks: 3,
+                held: 0,
+                end: End::Finished
+            })
+        )
+    );
+    let (out, rehearsal, _) = rehearse_answer(alloc, RING_BYTES, b"0 1\n")?;
+    assert_eq!(rt;
+        out.bytes(),
+        b"0: 1,0 0,0\nagents 2\nticks 0\nheld 0\nstuck\n".as_slice()
+    );
+    assert!(rt;
+        matches!(
+            rehearsal,
+            Some(Rehearsal {
+                agents: 2,
+                ticks: 0,
+                held: 0,
+                end: End::Stuck
+            })
+        )
+    );
+    let (out, _, fault) = rehearse_answer(alloc, PAIR_BYTES, b"x")?;
+    assert_eq!(rt;
+        (out.bytes(), fault),
+        (b"0: 1,0 0,0\n".as_slice(), Some(RunFault::Hold { line: 1 }))
+    );
+    Ok(())
+}

@@ -11,7 +11,7 @@ use Rattle.fleet_model.specs.Visit.{ComesAfterByChain}
 use Rattle.fleet_model.specs.Accepted.{IsRight, IsAcceptedBy, HasTasks}
 use Rattle.fleet_model.specs.Run.{RunsWell, RunsRight}
 use Rattle.fleet_model.proofs.Chains.{ends_action}
-use Rattle.fleet_model.specs.Schedule.{Schedule, IsSchedule, MayBeOnAt}
+use Rattle.fleet_model.specs.Schedule.{Schedule, IsSchedule, MayBeOnAt, IsSafeSchedule}
 use Rattle.fleet_model.specs.RunSchedule.{IsFinishedIn}
 use Rattle.fleet_verify.proofs.Counts.{counts, readies, run_counts, run_place, count_opening}
 use Rattle.fleet_verify.proofs.Held.{run_held}
@@ -76,10 +76,8 @@ right_accepted passable tasks p wf of r = runs_accepted passable tasks p right w
 
 pub schedules_accepted : (passable : Place → Bool) (tasks : List Task) (p : Program) → IsWellFormed p → HasTasks tasks p → (f : ℕ) → IsFinish p [] f
     → ((i : ℕ) → i < length p → place_at (run p [] f) i ≡ place_of (goal_of p i))
-    → ((s : Schedule) → IsSchedule p s → (x i : ℕ) (q : Place) → i < length p → MayBeOnAt p s x i q → IsTrue (passable q))
-    → ((s : Schedule) → IsSchedule p s → (x i j : ℕ) (q : Place) → i < length p → j < length p → i ≢ j → MayBeOnAt p s x i q → MayBeOnAt p s x j q → ⊥)
-    → IsAcceptedBy ComesAfterByChain passable tasks p
-schedules_accepted passable tasks p wf of f fin on_goal on_ground apart = runs_accepted passable tasks p right well
+    → ((s : Schedule) → IsSchedule p s → IsSafeSchedule passable p s) → IsAcceptedBy ComesAfterByChain passable tasks p
+schedules_accepted passable tasks p wf of f fin on_goal safe = runs_accepted passable tasks p right well
   where
     in_range : AreInRange p
     in_range = ranges_all p (ranges_hold p f fin.holds wf)
@@ -93,7 +91,7 @@ schedules_accepted passable tasks p wf of f fin on_goal on_ground apart = runs_a
       on_ground = λ i n h l.
           let c = comes_to p [] f fin.holds i n h l in
           let s = timed [] in
-          subst (λ (q : Place). IsTrue (passable q)) c.1 (on_ground s.0 s.1 c.0 i (place_at (run p [] c.0) i) h (s.2 c.0 i h));
+          subst (λ (q : Place). IsTrue (passable q)) c.1 ((safe s.0 s.1).on_ground c.0 i (place_at (run p [] c.0) i) h (s.2 c.0 i h));
       arrives = λ i h. sym (finish_stays p [] f f i fin (omega arith) h) ∙ on_goal i h;
       in_range = in_range;
     }
@@ -102,7 +100,7 @@ schedules_accepted passable tasks p wf of f fin on_goal on_ground apart = runs_a
     well = record {
       apart = λ holds x i j hi hj h.
           let s = timed holds in
-          apart s.0 s.1 x i j (place_at (run p holds x) i) hi hj h.apart (s.2 x i hi) (subst (MayBeOnAt p s.0 x j) (sym h.same) (s.2 x j hj));
+          (safe s.0 s.1).apart x i j (place_at (run p holds x) i) hi hj h.apart (s.2 x i hi) (subst (MayBeOnAt p s.0 x j) (sym h.same) (s.2 x j hj));
       finishes = λ holds. let l = longest_exists p in_range (done_after p [] f) (run_numbers p [] f fin.holds) in finish_exists p holds in_range l.0 l.1.most;
     }
 

@@ -1,6 +1,6 @@
 //! A verifier without ticks: each agent runs on as far as its awaits allow. It only says yes.
 
-ghost use Rattle.std.specs.Prelude.{◌≡◌, ◌≢◌, ◌<◌, ◌≤◌, ◌+◌, ℕ, Some, length, IfOk, IfErr, IfSome, OnOk, List, set, get_or, [], ◌∷◌, ◌++◌, ◌-◌, All};
+ghost use Rattle.std.specs.Prelude.{◌≡◌, ◌≢◌, ◌<◌, ◌≤◌, ◌+◌, ℕ, Some, true, length, max, IfOk, IfErr, IfSome, OnOk, List, set, get_or, [], ◌∷◌, ◌++◌, ◌-◌, All};
 ghost use Rattle.fleet_model.specs.declared.geometry.Cell.{Cell};
 ghost use Rattle.fleet_model.specs.declared.program.Visit.{Visit};
 ghost use Rattle.fleet_model.specs.Geometry.{place_of};
@@ -8,7 +8,8 @@ ghost use Rattle.fleet_verify.specs.Order.{AreAddedBy, IsOpenNext};
 ghost use Rattle.fleet_model.specs.Program.{Program, start_of, moves, path, IsCell};
 ghost use Rattle.fleet_model.specs.Visit.{IsVisit, ComesAfterByAwait};
 ghost use Rattle.fleet_grid.specs.Ground.{is_passable};
-ghost use Rattle.fleet_verify.specs.Ahead.{IsAhead, IsNext, IsNextLevel, AddsLevel, count_in};
+ghost use Rattle.fleet_model.specs.Chain.{awaited};
+ghost use Rattle.fleet_verify.specs.Ahead.{IsRanked, IsAhead, IsNext, IsNextLevel, AddsLevel, count_in, level_in};
 ghost use Rattle.fleet_verify.specs.Faults.{HasStarts};
 ghost use Rattle.fleet_verify.specs.LastVisits.{kept_at};
 ghost use Rattle.fleet_verify.specs.Parts.{IsAcceptedFor};
@@ -44,6 +45,16 @@ fn row_of(rows: &Vec<LevelRow>, agent: u16) -> &LevelRow
     &rows[usize::from(agent)]
 }
 
+/// The greater of a level and of that of an awaited action, if that has one.
+fn greater_level(rows: &Vec<LevelRow>, least: u32, w: Await) -> Option<u32>
+    requires { w.agent < length rows.now.items }
+    ensures met { IfSome result (λ _. IsRanked rows.now.items (awaited w)) }
+    ensures greater { IfSome result (λ l. l ≡ max least (level_in rows.now.items (awaited w))) }
+{
+    let level = row_of(rows, w.agent).level(w.count)?;
+    Some(least.max(level))
+}
+
 /// The level of the agent's next action, or an await of it that is not met.
 fn next_level<P: ProgramView>(
     program: &P,
@@ -60,10 +71,8 @@ fn next_level<P: ProgramView>(
     let mut least = row_of(rows, agent).last();
     for k in 0..program.await_count(agent, number) {
         let awaited = program.await_at(agent, number, k);
-        match row_of(rows, awaited.agent).level(awaited.count) {
-            Some(level) => {
-                least = least.max(level);
-            }
+        match greater_level(rows, least, awaited) {
+            Some(level) => least = level,
             None => return Err(awaited),
         }
     }
@@ -376,7 +385,7 @@ fn run_ahead<P: ProgramView>(
             return Ok(());
         };
         look_at(program, grid, ahead, &mut queue, agent)?;
-        if !ahead.pairs.is_empty() {
+        if !asks_no_chain(ahead) {
             // Chains are to be asked, which is not done here.
             return Ok(());
         }
@@ -405,6 +414,23 @@ fn look_at<P: ProgramView>(
     Ok(())
 }
 
+/// Whether no chain is left to be asked for.
+fn asks_no_chain(ahead: &Ahead) -> bool
+    ensures { result ≡ true → length ahead.now.pairs.items ≡ 0 }
+{
+    ahead.pairs.is_empty()
+}
+
+/// Whether the agent has finished all its actions.
+fn has_finished<P: ProgramView>(program: &P, ahead: &Ahead, agent: u16) -> bool
+    requires rows { length ahead.now.rows.items ≡ length (P.program program.now) }
+    requires agent { agent < length (P.program program.now) }
+    ensures { result ≡ true
+        → count_in ahead.now.rows.items agent ≡ moves (P.program program.now) agent }
+{
+    row_of(&ahead.rows, agent).count() == program.moves(agent)
+}
+
 /// The number of actions of the longest chain, if all has been found right.
 fn judge_ahead<P: ProgramView>(
     program: &P,
@@ -416,20 +442,19 @@ fn judge_ahead<P: ProgramView>(
     requires ahead { IsAhead (is_passable grid.now) (P.program program.now) ahead.now }
     ensures { IfSome result (IsAcceptedFor grid.now instance.now (P.program program.now)) }
 {
-    if !ahead.pairs.is_empty() {
+    if !asks_no_chain(ahead) {
         return None;
     }
     let mut chain: u32 = 0;
     for agent in 0..program.agents() {
-        let row = row_of(&ahead.rows, agent);
-        if row.count() != program.moves(agent) {
+        if !has_finished(program, ahead, agent) {
             return None;
         }
         let end = Place::from(ahead.cells[usize::from(agent)]);
         if !ends_right(program, instance, agent, end) {
             return None;
         }
-        chain = chain.max(row.last());
+        chain = chain.max(row_of(&ahead.rows, agent).last());
     }
     Some(chain)
 }

@@ -12,7 +12,7 @@ ghost use Rattle.fleet_model.specs.Chain.{IsAction, DirectlyNeeds, Reaches, IsCr
 ghost use Rattle.fleet_model.specs.Visit.{ComesAfterByChain};
 ghost use Rattle.fleet_model.specs.Accepted.{HasTasks, IsAcceptedBy};
 ghost use Rattle.fleet_model.specs.Claims.{MayBeOn};
-ghost use Rattle.fleet_model.specs.Schedule.{Schedule, HasBegunBy, HasEndedBy, IsSchedule, MayBeOnAt, EndInTime, TakeAtLeast};
+ghost use Rattle.fleet_model.specs.Schedule.{Schedule, HasBegunBy, HasEndedBy, IsSchedule, MayBeOnAt, IsSafeSchedule, EndInTime, TakeAtLeast};
 ghost use Rattle.fleet_model.specs.RunSchedule.{IsScheduleOf, BeginsWhenDue, TakesOneTick, ticks_taken, IsFinishedIn};
 ghost use Rattle.fleet_model.specs.Dispatch.{Dispatch, OrdersAwait, IsCarriedOut, IsPrompt};
 ghost use Rattle.fleet_model.specs.Run.{RunsRight};
@@ -108,10 +108,7 @@ pub fn schedules_need_acceptance()
     ensures { (passable : Place → Bool) (tasks : List Task) (p : Program) → IsWellFormed p
         → HasTasks tasks p → (f : ℕ) → IsFinish p [] f
         → ((i : ℕ) → i < length p → place_at (run p [] f) i ≡ place_of (goal_of p i))
-        → ((s : Schedule) → IsSchedule p s → (x i : ℕ) (q : Place) → i < length p
-        → MayBeOnAt p s x i q → IsTrue (passable q))
-        → ((s : Schedule) → IsSchedule p s → (x i j : ℕ) (q : Place) → i < length p → j < length p
-        → i ≢ j → MayBeOnAt p s x i q → MayBeOnAt p s x j q → ⊥)
+        → ((s : Schedule) → IsSchedule p s → IsSafeSchedule passable p s)
         → IsAcceptedBy ComesAfterByChain passable tasks p }
 {}
 

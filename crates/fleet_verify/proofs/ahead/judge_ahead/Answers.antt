@@ -1,6 +1,4 @@
-use Rattle.std.proofs.Common.{◌≡◌, ◌-◌, ◌∙◌, ℕ, List, length, slice_index, sym, subst, arith}
-use Rattle.std.proofs.lemmas.Bool.{eqb-true}
-use Rattle.fleet_model.specs.Program.{moves}
+use Rattle.std.proofs.Common.{◌≡◌, ◌-◌, ℕ, List, length, slice_index, subst, arith}
 use Rattle.fleet_verify.proofs.Beginning.{done_more, ahead_accepted}
 use Rattle.fleet_verify.proofs.Ordered.{no_entries}
 use Rattle.fleet_verify.proofs.ahead.judge_ahead.Goals as goal
@@ -9,16 +7,13 @@ pub loop-agent-preserved : goal.loop-agent-preserved
 loop-agent-preserved g c =
     let p = g.P.ProgramView.program c.args.program.now in
     let i = c.loop-agent.agent in
-    let whole : length c.row_of-row.result.now ≡ moves p i = omega (arith, c.count.ensures, c.moves.ensures, c.if-count-moves.false) in
     done_more c.args.instance.now p c.args.ahead.now.rows.items i c.loop-agent.chain c.loop-agent.invariant
-    (subst (λ (row : List ℕ). length row ≡ moves p i) c.row_of-row.ensures whole)
+    (c.has_finished.ensures c.if-not-has_finished.false)
     (c.ends_right.ensures.0 c.if-not-ends_right.false) c.last.result c.max-chain.result
-    (subst (λ (row : List ℕ). c.last.result ≡ slice_index row (length row - 1)) c.row_of-row.ensures c.last.ensures) c.max-chain.ensures
+    (subst (λ (row : List ℕ). c.last.result ≡ slice_index row (length row - 1)) c.row_of.ensures c.last.ensures) c.max-chain.ensures
 
 pub returns : goal.returns
 returns g c =
     let p = g.P.ProgramView.program c.args.program.now in
-    let pairs = c.args.ahead.now.pairs in
-    let none : pairs.len ≡ 0 = eqb-true pairs.len 0 (sym c.is_empty.ensures ∙ c.if-not-is_empty.false) in
     ahead_accepted c.args.grid.now c.args.instance.now p c.args.ahead.now c.loop-agent.agent c.loop-agent.chain c.agents-agent-end.ensures.well_formed c.requires.starts c.requires.ahead
-    c.loop-agent.invariant (omega (arith, c.agents-agent-end.ensures.count)) (no_entries pairs.items (omega (arith, none, pairs.ok.0)))
+    c.loop-agent.invariant (omega (arith, c.agents-agent-end.ensures.count)) (no_entries c.args.ahead.now.pairs.items (c.asks_no_chain.ensures c.if-not-asks_no_chain.false))

@@ -1,6 +1,6 @@
 use Rattle.fleet_model.specs.Chain.{awaited}
-use Rattle.fleet_verify.specs.Ahead.{count_in, level_in}
-use Rattle.std.proofs.Common.{◌≡◌, ◌≤◌, ◌-◌, ℕ, List, length, slice_index, subst, arith}
+use Rattle.fleet_verify.specs.Ahead.{level_in}
+use Rattle.std.proofs.Common.{◌≡◌, ◌-◌, ℕ, List, length, slice_index, refl, subst, arith}
 use Rattle.fleet_verify.proofs.ReadyBy.{await_agent}
 use Rattle.fleet_verify.proofs.NextLevel.{least_begins, least_max, least_ends}
 use Rattle.fleet_verify.proofs.ahead.next_level.Goals as goal
@@ -13,8 +13,8 @@ loop-k-init g c =
 pub returns-in-None-clause-waits : goal.returns-in-None-clause-waits
 returns-in-None-clause-waits g c = await_agent (g.P.ProgramView.program c.args.program.now) c.agents-agents.ensures.well_formed c.args.agent c.args.number c.loop-k.k c.await_at-awaited.result c.await_at-awaited.ensures
 
-pub row_of-requires-in-loop-k : goal.row_of-requires-in-loop-k
-row_of-requires-in-loop-k g c = omega (arith, c.requires.rows, await_agent (g.P.ProgramView.program c.args.program.now) c.agents-agents.ensures.well_formed c.args.agent c.args.number c.loop-k.k c.await_at-awaited.result c.await_at-awaited.ensures)
+pub greater_level-requires : goal.greater_level-requires
+greater_level-requires g c = omega (arith, c.requires.rows, await_agent (g.P.ProgramView.program c.args.program.now) c.agents-agents.ensures.well_formed c.args.agent c.args.number c.loop-k.k c.await_at-awaited.result c.await_at-awaited.ensures)
 
 pub loop-k-preserved : goal.loop-k-preserved
 loop-k-preserved g c =
@@ -22,9 +22,7 @@ loop-k-preserved g c =
     let w = c.await_at-awaited.result in
     let rows = c.args.rows.now.items in
     let found = c.in-Some.ensures in
-    let level : c.in-Some.level ≡ level_in rows (awaited w) = subst (λ (row : List ℕ). c.in-Some.level ≡ slice_index row (w.count - 1)) c.row_of-in-loop-k.ensures found.level in
-    let last : w.count ≤ count_in rows w.agent = subst (λ (row : List ℕ). w.count ≤ length row) c.row_of-in-loop-k.ensures found.last in
-    least_max p rows c.args.agent c.args.number c.loop-k.k c.loop-k.least c.loop-k.invariant w c.await_at-awaited.ensures found.first last c.in-Some.level level c.max-least.result c.max-least.ensures
+    least_max p rows c.args.agent c.args.number c.loop-k.k c.loop-k.least c.loop-k.invariant w c.await_at-awaited.ensures found.met.first found.met.last (level_in rows (awaited w)) refl c.in-Some.level found.greater
 
 pub returns-clause-level : goal.returns-clause-level
 returns-clause-level g c =

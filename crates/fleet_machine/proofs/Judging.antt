@@ -1,7 +1,7 @@
 -- Agents that are judged, one after another.
 use Rattle.std.proofs.Common.{◌≡◌, ◌≢◌, ◌<◌, ◌≤◌, ◌+◌, ℕ, Bool, true, false, not, length, filter, Option, Some, None, refl, ap, sym, ◌∙◌, subst, inl, inr, arith, cond, get_or-set_same, get_or-set_other, length-set}
 use Rattle.std.specs.List.{list_any, list_all}
-use Rattle.std.specs.Prelude.{nat_le, is_some, MatchOption}
+use Rattle.std.specs.Prelude.{nat_le, is_some, option_map, MatchOption}
 use Rattle.std.proofs.lemmas.Bool.{cases_eq, cases_lt, le-leb, lt-ltb, ltb-true, true≢false}
 use Rattle.fleet_model.specs.Program.{Program, moves}
 use Rattle.fleet_model.specs.Machine.{count_at, is_ready, is_finished, indices}
@@ -10,6 +10,7 @@ use Rattle.fleet_machine.specs.WaitLists.{home_of}
 use Rattle.fleet_machine.specs.Machine.{MachineState, Runs, HasRows, IsJudged, flag_of, is_left}
 use Rattle.fleet_machine.specs.Waking.{IsPlaced, IsAsBefore}
 use Rattle.fleet_machine.proofs.Advanced.{onward, filter_more}
+use Rattle.fleet_machine.proofs.Waiting.{lowered_le, long_lowered, home_if_lacked, home_if_lower}
 use Rattle.fleet_machine.proofs.Indices.{any_at, none_more, all_more}
 use Rattle.fleet_machine.proofs.Opened.{not_finished_if}
 
@@ -23,7 +24,8 @@ module _ (p : Program) (before after : MachineState) (i : ℕ) (rows : HasRows (
       subst (λ m. IsJudged p m i) (sym placed.same) record {
         ready = get_or-set_same before.ready i (is_ready p c i) false ready;
         left = get_or-set_same before.left i (is_left p c i) false left;
-        home = rw (get_or-set_same before.waiting.homes i placed.home None home) placed.belongs;
+        home = rw (get_or-set_same before.waiting.homes i (option_map (λ w. w.agent) placed.lacked) None home)
+            (home_if_lacked p c before.least i placed.lacked placed.belongs);
       }
 
   pub others_if_placed : (k : ℕ) → k ≢ i → IsAsBefore before after k
@@ -32,7 +34,8 @@ module _ (p : Program) (before after : MachineState) (i : ℕ) (rows : HasRows (
       subst (λ m. IsAsBefore before m k) (sym placed.same) record {
         ready = get_or-set_other before.ready i k (is_ready p c i) false other;
         left = get_or-set_other before.left i k (is_left p c i) false other;
-        home = get_or-set_other before.waiting.homes i k placed.home None other;
+        home = get_or-set_other before.waiting.homes i k (option_map (λ w. w.agent) placed.lacked) None other;
+        least = lowered_le before.least placed.lacked;
       }
 
   pub rows_if_placed : HasRows (length p) after
@@ -42,12 +45,13 @@ module _ (p : Program) (before after : MachineState) (i : ℕ) (rows : HasRows (
         left = length-set before.left i _ ∙ rows.left;
         due = rows.due;
         lists = rows.lists;
-        homes = length-set before.waiting.homes i placed.home ∙ rows.homes;
+        homes = length-set before.waiting.homes i (option_map (λ w. w.agent) placed.lacked) ∙ rows.homes;
+        least = long_lowered before.least placed.lacked ∙ rows.least;
       }
 
 -- of the agents below n those that pass the test are judged, and nothing else has changed
 pub record AreJudgedTo (p : Program) (test : ℕ → Bool) (old now : MachineState) (n : ℕ) : Type 0 where
-  pub same : now ≡ record old { ready = now.ready; left = now.left; waiting = now.waiting }
+  pub same : now ≡ record old { ready = now.ready; left = now.left; waiting = now.waiting; least = now.least }
   pub rows : HasRows (length p) now
   pub judged : (k : ℕ) → k < n → test k ≡ true → IsJudged p now k
   pub later : (k : ℕ) → n ≤ k → IsAsBefore old now k
@@ -58,18 +62,23 @@ none_judged p test old rows = record {
   same = refl;
   rows = rows;
   judged = λ k h. absurd (omega arith);
-  later = λ k h. record { ready = refl; left = refl; home = refl };
-  others = λ k h. record { ready = refl; left = refl; home = refl };
+  later = λ k h. record { ready = refl; left = refl; home = refl; least = λ j. omega arith };
+  others = λ k h. record { ready = refl; left = refl; home = refl; least = λ j. omega arith };
 }
 
 as_before : (a b c : MachineState) (k : ℕ) → IsAsBefore a b k → IsAsBefore b c k → IsAsBefore a c k
-as_before a b c k h j = record { ready = j.ready ∙ h.ready; left = j.left ∙ h.left; home = j.home ∙ h.home }
+as_before a b c k h j = record {
+  ready = j.ready ∙ h.ready;
+  left = j.left ∙ h.left;
+  home = j.home ∙ h.home;
+  least = λ list. omega (arith, j.least list, h.least list);
+}
 
 still_judged : (p : Program) (now new : MachineState) (k : ℕ) → new.configuration ≡ now.configuration → IsAsBefore now new k → IsJudged p now k → IsJudged p new k
 still_judged p now new k same kept h = record {
   ready = kept.ready ∙ (h.ready ∙ ap (λ c. is_ready p c k) (sym same));
   left = kept.left ∙ (h.left ∙ ap (λ c. is_left p c k) (sym same));
-  home = rw (same, kept.home) h.home;
+  home = rw (same, kept.home) (home_if_lower p now.configuration now.least new.least k (home_of now.waiting.homes k) kept.least h.home);
 }
 
 module _ (p : Program) (test : ℕ → Bool) (old now : MachineState) (i : ℕ) (before : AreJudgedTo p test old now i) where
@@ -83,8 +92,8 @@ module _ (p : Program) (test : ℕ → Bool) (old now : MachineState) (i : ℕ) 
       let same_now = placed.same in
       let same_old = before.same in
       record {
-        same = subst (λ (m : MachineState). m ≡ record now { ready = m.ready; left = m.left; waiting = m.waiting }) (sym same_now) refl
-            ∙ ap (λ (m : MachineState). record m { ready = new.ready; left = new.left; waiting = new.waiting }) same_old;
+        same = subst (λ (m : MachineState). m ≡ record now { ready = m.ready; left = m.left; waiting = m.waiting; least = m.least }) (sym same_now) refl
+            ∙ ap (λ (m : MachineState). record m { ready = new.ready; left = new.left; waiting = new.waiting; least = new.least }) same_old;
         rows = rows_if_placed p now new i before.rows agent placed;
         judged = λ k h tested. elim (cases_eq k i) [
           | inl same ↦ rw same (judged_if_placed p now new i before.rows agent placed)

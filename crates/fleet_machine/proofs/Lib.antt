@@ -1,5 +1,6 @@
 pub mod Ready
 mod Linked
+pub mod Waiting
 pub mod Bits
 pub mod Flags
 mod Marked

@@ -1,7 +1,7 @@
 -- The steps of a tick, one after another.
 use Rattle.std.proofs.Common.{◌≡◌, ◌<◌, ◌≤◌, ◌+◌, ◌||◌, ◌&&◌, not, ℕ, Bool, true, false, List, [], length, filter, set, slice_get, Option, Some, None, refl, ap, sym, ◌∙◌, subst, inl, inr, ◌⊎◌, arith, cond, add-one, add-zero}
 use Rattle.std.specs.Prelude.{nat_le}
-use Rattle.std.proofs.lemmas.Bool.{cases_lt, cases_Bool, lt-ltb, or_parts, true≢false}
+use Rattle.std.proofs.lemmas.Bool.{cases_lt, cases_Bool, lt-ltb, le-leb, leb-true, or_parts, true≢false}
 use Rattle.std.proofs.lemmas.List.{get_or_past}
 use Rattle.std.proofs.lemmas.List.Folds.{list_any_at}
 use Rattle.std.proofs.lemmas.List.FromFn.{get_or-map-range_with_len, length-map-range_with_len}
@@ -10,13 +10,13 @@ use Rattle.std.proofs.Math.Bool.{or-true, or-false}
 use Rattle.fleet_model.specs.declared.program.Await.{Await}
 use Rattle.fleet_model.specs.declared.standing.Standing.{Standing}
 use Rattle.fleet_model.specs.Program.{Program, IsWellFormed, moves, actions_of, awaits_of}
-use Rattle.fleet_model.specs.Machine.{Configuration, standing_at, count_at, is_ready, is_moving, is_ready_held, moved_in, tick, indices}
+use Rattle.fleet_model.specs.Machine.{Configuration, standing_at, count_at, is_met, is_ready, is_moving, is_ready_held, moved_in, tick, indices}
 use Rattle.fleet_model.proofs.Tick.{length-tick, standing_at_tick, other_stays}
 use Rattle.fleet_machine.specs.AgentSet.{AreNoneFrom, IsNextFrom}
 use Rattle.fleet_machine.specs.Looked.{ready_in, awaits_moving, awaiting_in, LooksAt}
 use Rattle.fleet_machine.specs.WaitLists.{home_of}
-use Rattle.fleet_machine.specs.Machine.{MachineState, Runs, HasRows, IsHome, IsJudged, Lacks, flag_of, is_left, after_next, moving_flags}
-use Rattle.fleet_machine.specs.Waking.{is_on, if_not_on, advanced_one, IsWoken, IsCarriedOut, IsAsBefore}
+use Rattle.fleet_machine.specs.Machine.{MachineState, Runs, HasRows, IsHome, IsJudged, Lacks, flag_of, is_left, least_of, after_next, moving_flags}
+use Rattle.fleet_machine.specs.Waking.{is_on, if_not_on, is_woken_by, advanced_one, IsWoken, IsCarriedOut, IsAsBefore}
 use Rattle.fleet_machine.proofs.Advanced.{onward, filter_more, IsAdvanced, one_moves, one_held, all_wait, all_advanced, all_flagged}
 use Rattle.fleet_machine.proofs.Lasting.{ready_lasts}
 use Rattle.fleet_machine.proofs.Judging.{none_more_counted, one_more_counted, counted_le}
@@ -103,31 +103,47 @@ module _ (p : Program) (held : ℕ → Bool) (old : MachineState) (runs : Runs p
 
 -- ---- agents that lack a count
 
-module _ (p : Program) (c : Configuration) (i j : ℕ) (lacks : Lacks p c i j) where
+and_fails : (a b : Bool) → (a && b) ≡ false → (a ≡ false) ⊎ (b ≡ false)
+and_fails true b h = inr h
+and_fails false b h = inl refl
+
+and_first : (a b : Bool) → (a && b) ≡ true → a ≡ true
+and_first true b h = refl
+and_first false b h = h
+
+lt-leb-false : (a b : ℕ) → b < a → nat_le a b ≡ false
+lt-leb-false a b lt = go (nat_le a b) refl
+  where
+    go : (r : Bool) → nat_le a b ≡ r → nat_le a b ≡ false
+    go true e = absurd (let le = leb-true a b e in omega arith)
+    go false e = e
+
+module _ (p : Program) (c : Configuration) (least i j : ℕ) (lacks : Lacks p c least i j) where
   left_if_lacking : count_at c i < moves p i
   left_if_lacking =
       elim (cases_lt (count_at c i) (moves p i)) [
         | inl lt ↦ lt
         | inr le ↦
             let none : awaits_of p i (count_at c i + 1) ≡ [] = rw (add-one, slice_get_past (actions_of p i) (count_at c i) le) refl in
-            absurd (nothing (sym (ap (λ ws. slice_get ws lacks.place) none) ∙ lacks.at))
+            absurd (nothing (sym (ap (λ ws. slice_get ws lacks.is_unmet.place) none) ∙ lacks.is_unmet.at))
       ]
     where
       nothing : {w : Await} → ◌≡◌ {A = Option Await} None (Some w) → ⊥
       nothing e = absurd cc
 
   unready_if_lacking : is_ready p c i ≡ false
-  unready_if_lacking = sym (not_ready_if_unmet p c i left_if_lacking lacks.place lacks.awaited lacks.at lacks.unmet)
+  unready_if_lacking = sym (not_ready_if_unmet p c i left_if_lacking lacks.is_unmet.place lacks.awaited lacks.is_unmet.at lacks.is_unmet.unmet)
 
   lacked_agent : IsWellFormed p → j < length p
-  lacked_agent ok = let there = awaited_agent p i (count_at c i + 1) lacks.place lacks.awaited ok lacks.at in omega (arith, lacks.agent)
+  lacked_agent ok = let there = awaited_agent p i (count_at c i + 1) lacks.is_unmet.place lacks.awaited ok lacks.is_unmet.at in omega (arith, lacks.agent)
 
   awaits_if_lacking : (held : ℕ → Bool) → is_moving p held c j ≡ true → awaits_moving p held c i ≡ true
   awaits_if_lacking held moves =
       let n = has_next p c i left_if_lacking in
-      let at : slice_get n.0.awaits lacks.place ≡ Some lacks.awaited = ap (λ ws. slice_get ws lacks.place) (sym n.1.awaits) ∙ lacks.at in
-      rw n.1.next (list_any_at (λ w. is_moving p held c w.agent) n.0.awaits lacks.place lacks.awaited (slice_get_within n.0.awaits lacks.place lacks.awaited at)
-      (rw (get_or_from_slice_get n.0.awaits lacks.place lacks.awaited lacks.awaited at, lacks.agent) moves))
+      let place = lacks.is_unmet.place in
+      let at : slice_get n.0.awaits place ≡ Some lacks.awaited = ap (λ ws. slice_get ws place) (sym n.1.awaits) ∙ lacks.is_unmet.at in
+      rw n.1.next (list_any_at (λ w. is_moving p held c w.agent) n.0.awaits place lacks.awaited (slice_get_within n.0.awaits place lacks.awaited at)
+      (rw (get_or_from_slice_get n.0.awaits place lacks.awaited lacks.awaited at, lacks.agent) moves))
 
 -- ---- how many pass a test
 
@@ -167,6 +183,14 @@ module _ (p : Program) (held : ℕ → Bool) (m : MachineState) (runs : Runs p m
   abbrev after : Configuration
   after = tick p held c
 
+  -- the agents that the tick moves have moved
+  abbrev moved : MachineState
+  moved = record m { configuration = after; moving = moving_flags p held c; due = moving_flags p held c }
+
+  -- the lists that are woken
+  abbrev woken_lists : ℕ → Bool
+  woken_lists = is_woken_by moved
+
   flag_is_moving : (j : ℕ) → j < length p → flag_of (moving_flags p held c) j ≡ is_moving p held c j
   flag_is_moving j agent = get_or-map-range_with_len (is_moving p held c) 0 (length p) j j false agent (omega arith)
 
@@ -181,17 +205,29 @@ module _ (p : Program) (held : ℕ → Bool) (m : MachineState) (runs : Runs p m
     left_as_before : is_left p after k ≡ is_left p c k
     left_as_before = rw same_count refl
 
-    lacks_still : (j : ℕ) → is_moving p held c j ≡ false → Lacks p c k j → Lacks p after k j
-    lacks_still j rests lacks =
-        let there = lacked_agent p c k j lacks runs.well_formed in
-        let same : standing_at after j ≡ standing_at c j = standing_at_tick p held c j there ∙ other_stays p held c j rests in
+    -- the await that it lacks is not met after the tick, if its agent rests or has not finished as many actions as are
+    -- waited for at its list
+    lacks_still : (least j : ℕ) → (is_moving p held c j ≡ false) ⊎ (nat_le least (count_at after j) ≡ false) → Lacks p c least k j → Lacks p after least k j
+    lacks_still least j rests lacks =
         record {
-          place = lacks.place;
           awaited = lacks.awaited;
-          at = rw same_count lacks.at;
+          is_unmet = record { place = lacks.is_unmet.place; at = rw same_count lacks.is_unmet.at; unmet = unmet_by rests };
           agent = lacks.agent;
-          unmet = ap (λ n. nat_le lacks.awaited.count n) (ap (λ (s : Standing). s.count) (subst (λ a. standing_at after a ≡ standing_at c a) (sym lacks.agent) same)) ∙ lacks.unmet;
+          late = lacks.late;
         }
+      where
+        unmet_by : (is_moving p held c j ≡ false) ⊎ (nat_le least (count_at after j) ≡ false) → is_met after lacks.awaited ≡ false
+        unmet_by (inl still) =
+            let there = lacked_agent p c least k j lacks runs.well_formed in
+            let same : standing_at after j ≡ standing_at c j = standing_at_tick p held c j there ∙ other_stays p held c j still in
+            ap (λ n. nat_le lacks.awaited.count n) (ap (λ (s : Standing). s.count) (subst (λ a. standing_at after a ≡ standing_at c a) (sym lacks.agent) same)) ∙ lacks.is_unmet.unmet
+        unmet_by (inr unreached) =
+            let short : count_at after j < least = elim (cases_lt (count_at after j) least) [
+              | inl lt ↦ lt
+              | inr le ↦ absurd (true≢false (sym (le-leb least (count_at after j) le) ∙ unreached))
+            ] in
+            let few : count_at after lacks.awaited.agent < lacks.awaited.count = rw lacks.agent (omega (arith, short, lacks.late)) in
+            lt-leb-false lacks.awaited.count (count_at after lacks.awaited.agent) few
 
     ready_or_done : (r : Bool) → is_ready p c k ≡ r → is_left p c k ≡ r → is_ready p after k ≡ r
     ready_or_done true ready left = ready_lasts p held c runs.agents k same_count ready
@@ -201,16 +237,21 @@ module _ (p : Program) (held : ℕ → Bool) (m : MachineState) (runs : Runs p m
           | inr le ↦ no_action_left p after k le
         ]
 
-    home_still : (h : Option ℕ) → is_on (flag_of (moving_flags p held c)) h ≡ false → IsHome p c k h → IsHome p after k h × (is_ready p after k ≡ is_ready p c k)
+    home_still : (h : Option ℕ) → is_on woken_lists h ≡ false → IsHome p c m.least k h → IsHome p after m.least k h × (is_ready p after k ≡ is_ready p c k)
     home_still None off home =
         let still = ready_or_done (is_ready p c k) refl (sym home) in
         (still ∙ (home ∙ sym left_as_before), still)
     home_still (Some j) off home =
-        let there = lacked_agent p c k j home runs.well_formed in
-        let lacks = lacks_still j (sym (flag_is_moving j there) ∙ off) home in
-        (lacks, unready_if_lacking p after k j lacks ∙ sym (unready_if_lacking p c k j home))
+        let least = least_of m.least j in
+        let there = lacked_agent p c least k j home runs.well_formed in
+        let rests : (is_moving p held c j ≡ false) ⊎ (nat_le least (count_at after j) ≡ false) = elim (and_fails (flag_of (moving_flags p held c) j) (nat_le least (count_at after j)) off) [
+          | inl still ↦ inl (sym (flag_is_moving j there) ∙ still)
+          | inr unreached ↦ inr unreached
+        ] in
+        let lacks = lacks_still least j rests home in
+        (lacks, unready_if_lacking p after least k j lacks ∙ sym (unready_if_lacking p c least k j home))
 
-  module _ (woken : MachineState) (wakes : IsWoken (flag_of (moving_flags p held c)) (record m { configuration = after; moving = moving_flags p held c; due = moving_flags p held c }) woken) where
+  module _ (woken : MachineState) (wakes : IsWoken woken_lists moved woken) where
     long_moving : length (moving_flags p held c) ≡ length p
     long_moving = length-map-range_with_len (is_moving p held c) 0 (length p)
 
@@ -224,17 +265,18 @@ module _ (p : Program) (held : ℕ → Bool) (m : MachineState) (runs : Runs p m
       due = wakes.long_due ∙ long_moving;
       lists = ap (λ (w : MachineState). w.waiting.lists) wakes.same ∙ runs.rows.lists;
       homes = wakes.long_homes ∙ runs.rows.homes;
+      least = wakes.long_least ∙ runs.rows.least;
     }
 
     -- who is due moved, or stood in the list of one that moves
-    due_is : (k : ℕ) → k < length p → flag_of woken.due k ≡ (is_moving p held c k || is_on (flag_of (moving_flags p held c)) (home_of m.waiting.homes k))
+    due_is : (k : ℕ) → k < length p → flag_of woken.due k ≡ (is_moving p held c k || is_on woken_lists (home_of m.waiting.homes k))
     due_is k agent =
         wakes.due k (omega (arith, long_moving))
-        ∙ ap (λ b. b || is_on (flag_of (moving_flags p held c)) (home_of m.waiting.homes k)) (flag_is_moving k agent)
+        ∙ ap (λ b. b || is_on woken_lists (home_of m.waiting.homes k)) (flag_is_moving k agent)
 
-    freed : (h : Option ℕ) (k : ℕ) → IsHome p c k h → (is_moving p held c k || is_on (flag_of (moving_flags p held c)) h) ≡ true → if_not_on (flag_of (moving_flags p held c)) h ≡ None
+    freed : (h : Option ℕ) (k : ℕ) → IsHome p c m.least k h → (is_moving p held c k || is_on woken_lists h) ≡ true → if_not_on woken_lists h ≡ None
     freed None k home is = refl
-    freed (Some j) k home is = go (flag_of (moving_flags p held c) j) (rw (unready_if_lacking p c k j home) at is)
+    freed (Some j) k home is = go (woken_lists j) (rw (unready_if_lacking p c (least_of m.least j) k j home) at is)
       where
         go : (b : Bool) → b ≡ true → cond b None (Some j) ≡ None
         go true e = refl
@@ -257,15 +299,18 @@ module _ (p : Program) (held : ℕ → Bool) (m : MachineState) (runs : Runs p m
         either_passes (flag_of woken.due) (is_moving p held c) (λ k. not (is_ready p c k) && awaits_moving p held c k) (length p)
         (λ k agent due. was (home_of m.waiting.homes k) k (is_moving p held c k) refl (runs.judged k agent).home (sym (due_is k agent) ∙ due))
       where
-        was : (h : Option ℕ) (k : ℕ) (r : Bool) → is_moving p held c k ≡ r → IsHome p c k h → (is_moving p held c k || is_on (flag_of (moving_flags p held c)) h) ≡ true
+        was : (h : Option ℕ) (k : ℕ) (r : Bool) → is_moving p held c k ≡ r → IsHome p c m.least k h → (is_moving p held c k || is_on woken_lists h) ≡ true
             → (is_moving p held c k ≡ true) ⊎ ((not (is_ready p c k) && awaits_moving p held c k) ≡ true)
         was h k true e home is = inl e
         was None k false e home is = absurd (true≢false (sym is ∙ rw e refl))
         was (Some j) k false e home is =
-            let there = lacked_agent p c k j home runs.well_formed in
-            inr (rw (unready_if_lacking p c k j home) (awaits_if_lacking p c k j home held (sym (flag_is_moving j there) ∙ (rw e at is))))
+            let least = least_of m.least j in
+            let there = lacked_agent p c least k j home runs.well_formed in
+            let woken_list : woken_lists j ≡ true = rw e at is in
+            let flag : flag_of (moving_flags p held c) j ≡ true = and_first (flag_of (moving_flags p held c) j) (nat_le least (count_at after j)) woken_list in
+            inr (rw (unready_if_lacking p c least k j home) (awaits_if_lacking p c least k j home held (sym (flag_is_moving j there) ∙ flag)))
 
-    module _ (new : MachineState) (same : new ≡ record woken { ready = new.ready; left = new.left; waiting = new.waiting }) (rows : HasRows (length p) new)
+    module _ (new : MachineState) (same : new ≡ record woken { ready = new.ready; left = new.left; waiting = new.waiting; least = new.least }) (rows : HasRows (length p) new)
         (judged : (k : ℕ) → k < length p → flag_of woken.due k ≡ true → IsJudged p new k)
         (others : (k : ℕ) → flag_of woken.due k ≡ false → IsAsBefore woken new k) where
       configuration_new : new.configuration ≡ after
@@ -273,27 +318,30 @@ module _ (p : Program) (held : ℕ → Bool) (m : MachineState) (runs : Runs p m
 
       undisturbed : (k : ℕ) → k < length p → flag_of woken.due k ≡ false → IsJudged p new k
       undisturbed k agent undue =
-          let calm = or_parts (is_moving p held c k) (is_on (flag_of (moving_flags p held c)) (home_of m.waiting.homes k)) (sym (due_is k agent) ∙ undue) in
+          let calm = or_parts (is_moving p held c k) (is_on woken_lists (home_of m.waiting.homes k)) (sym (due_is k agent) ∙ undue) in
           let still = home_still k agent calm.0 (home_of m.waiting.homes k) calm.1 (runs.judged k agent).home in
           let kept = others k undue in
           let here = runs.judged k agent in
           record {
             ready = kept.ready ∙ (ap (λ (w : MachineState). flag_of w.ready k) wakes.same ∙ (here.ready ∙ (sym still.1 ∙ ap (λ c. is_ready p c k) (sym configuration_new))));
             left = kept.left ∙ (ap (λ (w : MachineState). flag_of w.left k) wakes.same ∙ (here.left ∙ (sym (left_as_before k agent calm.0) ∙ ap (λ c. is_left p c k) (sym configuration_new))));
-            home = rw (configuration_new, kept.home, wakes.homes k) (not_freed (home_of m.waiting.homes k) calm.1 still.0);
+            home = rw (configuration_new, kept.home, wakes.homes k) (not_freed (home_of m.waiting.homes k) calm.1 kept.least still.0);
           }
         where
-          not_freed : (h : Option ℕ) → is_on (flag_of (moving_flags p held c)) h ≡ false → IsHome p after k h → IsHome p after k (if_not_on (flag_of (moving_flags p held c)) h)
-          not_freed None off home = home
-          not_freed (Some j) off home = rw off home
+          not_freed : (h : Option ℕ) → is_on woken_lists h ≡ false → ((j : ℕ) → least_of new.least j ≤ least_of woken.least j) → IsHome p after m.least k h
+              → IsHome p after new.least k (if_not_on woken_lists h)
+          not_freed None off lower home = home
+          not_freed (Some j) off lower home =
+              let late : least_of new.least j ≤ home.awaited.count = omega (arith, lower j, wakes.least j off, home.late) in
+              rw off (record { awaited = home.awaited; is_unmet = home.is_unmet; agent = home.agent; late = late })
 
       runs_after : Runs p new
       runs_after = record {
         well_formed = runs.well_formed;
         agents = ap length configuration_new ∙ length-tick p held c;
-        flags = ap (λ (w : MachineState). length w.moving) (same ∙ ap (λ (w : MachineState). record w { ready = new.ready; left = new.left; waiting = new.waiting }) wakes.same)
+        flags = ap (λ (w : MachineState). length w.moving) (same ∙ ap (λ (w : MachineState). record w { ready = new.ready; left = new.left; waiting = new.waiting; least = new.least }) wakes.same)
             ∙ length-map-range_with_len (is_moving p held c) 0 (length p);
-        rows = record { ready = rows.ready; left = rows.left; due = rows.due; lists = rows.lists; homes = rows.homes };
+        rows = record { ready = rows.ready; left = rows.left; due = rows.due; lists = rows.lists; homes = rows.homes; least = rows.least };
         judged = λ k agent.
             let here : IsJudged p new k = elim (cases_Bool (flag_of woken.due k)) [ inl due ↦ judged k agent due | inr undue ↦ undisturbed k agent undue ] in
             record { ready = here.ready; left = here.left; home = here.home };
@@ -303,8 +351,8 @@ module _ (p : Program) (held : ℕ → Bool) (m : MachineState) (runs : Runs p m
       settled count is = record {
         runs = runs_after;
         configuration = configuration_new;
-        moving = ap (λ (w : MachineState). w.moving) (same ∙ ap (λ (w : MachineState). record w { ready = new.ready; left = new.left; waiting = new.waiting }) wakes.same);
-        looked = ap (λ (w : MachineState). w.looked) (same ∙ ap (λ (w : MachineState). record w { ready = new.ready; left = new.left; waiting = new.waiting }) wakes.same);
+        moving = ap (λ (w : MachineState). w.moving) (same ∙ ap (λ (w : MachineState). record w { ready = new.ready; left = new.left; waiting = new.waiting; least = new.least }) wakes.same);
+        looked = ap (λ (w : MachineState). w.looked) (same ∙ ap (λ (w : MachineState). record w { ready = new.ready; left = new.left; waiting = new.waiting; least = new.least }) wakes.same);
         least = omega (arith, moved_counted);
         most = omega (arith, due_counted);
         few = let few = counted_le (flag_of woken.due) (length p) in omega arith;
@@ -316,7 +364,7 @@ runs_looked p m looked runs = record {
   well_formed = runs.well_formed;
   agents = runs.agents;
   flags = runs.flags;
-  rows = record { ready = runs.rows.ready; left = runs.rows.left; due = runs.rows.due; lists = runs.rows.lists; homes = runs.rows.homes };
+  rows = record { ready = runs.rows.ready; left = runs.rows.left; due = runs.rows.due; lists = runs.rows.lists; homes = runs.rows.homes; least = runs.rows.least };
   judged = λ k agent. let here = runs.judged k agent in record { ready = here.ready; left = here.left; home = here.home };
 }
 

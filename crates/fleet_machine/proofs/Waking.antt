@@ -1,16 +1,17 @@
 -- Agents that are taken off lists.
-use Rattle.std.proofs.Common.{◌≡◌, ◌≢◌, ◌<◌, ◌+◌, ℕ, Bool, true, false, ◌||◌, ◌&&◌, List, length, set, Option, Some, None, refl, ap, sym, ◌∙◌, inl, inr, ◌⊎◌, arith, cond, get_or-set_same, get_or-set_other, length-set}
+use Rattle.std.proofs.Common.{◌≡◌, ◌≢◌, ◌<◌, ◌≤◌, ◌+◌, ℕ, Bool, true, false, ◌||◌, ◌&&◌, List, length, set, Option, Some, None, refl, ap, sym, ◌∙◌, inl, inr, ◌⊎◌, arith, cond, get_or-set_same, get_or-set_other, length-set}
 use Rattle.std.specs.Prelude.{is_some, IfSome, IfNone, ◌==◌, nat_lt}
 use Rattle.std.specs.List.{count_by}
-use Rattle.std.proofs.lemmas.Bool.{cases_eq, cases_lt, lt-ltb, le-ltb}
+use Rattle.std.proofs.lemmas.Bool.{cases_eq, cases_lt, eqb-true, lt-ltb, le-ltb, or_parts, true≢false}
 use Rattle.std.proofs.lemmas.Bool.Decides.{eqb_tells}
 use Rattle.std.proofs.lemmas.Option.{same_Some, none-some}
 use Rattle.std.proofs.lemmas.List.Sums.{sum_by-set}
 use Rattle.std.proofs.Math.Bool.{or-true, or-false}
 use Rattle.fleet_machine.specs.AgentSet.{AreNoneFrom, IsNextFrom}
 use Rattle.fleet_machine.specs.WaitLists.{home_of}
-use Rattle.fleet_machine.specs.Machine.{MachineState, flag_of}
-use Rattle.fleet_machine.specs.Waking.{is_on, if_not_on, IsWoken}
+use Rattle.fleet_model.specs.Machine.{count_at}
+use Rattle.fleet_machine.specs.Machine.{MachineState, flag_of, is_reached, least_of}
+use Rattle.fleet_machine.specs.Waking.{is_on, if_not_on, is_woken_by, IsWoken}
 
 eqb-refl : (n : ℕ) → (n == n) ≡ true
 eqb-refl n = elim (eqb_tells n n) [ inl h ↦ h.0 | inr h ↦ absurd (h.1 refl) ]
@@ -60,10 +61,13 @@ module _ (j : ℕ) (a b : MachineState) (before : IsWaking j a b) where
       first (inl kept) = sym kept.0 ∙ at
       first (inr taken) = taken.0
 
-  pub all_taken : ((i : ℕ) → home_of b.waiting.homes i ≢ Some j) → IsWoken (λ k. k == j) a b
-  all_taken none = record {
-    same = before.same;
+  pub all_taken : (most : ℕ) → ((i : ℕ) → home_of b.waiting.homes i ≢ Some j) → IsWoken (λ k. k == j) a (record b { least = set b.least j most })
+  all_taken most none = record {
+    same = ap (λ (m : MachineState). record m { least = set b.least j most }) before.same;
     long_due = before.long_due;
+    long_least = length-set b.least j most ∙ ap (λ (m : MachineState). length m.least) before.same;
+    least = λ k off. let other : k ≢ j = λ same. absurd (true≢false (sym (eqb-refl j) ∙ ap (λ n. n == j) (sym same) ∙ off)) in
+        get_or-set_other b.least j k most 0 other ∙ ap (λ (m : MachineState). least_of m.least k) before.same;
     long_homes = before.long_homes;
     homes = λ i. homes_of (home_of a.waiting.homes i) refl (before.each i);
     due = λ i inside. due_of (home_of a.waiting.homes i) refl inside (before.each i);
@@ -117,12 +121,32 @@ pub fewer_woken : (j : ℕ) (b c : MachineState) (taken : Option ℕ) → true �
 fewer_woken j b c None is h = absurd (cc is)
 fewer_woken j b c (Some i) is h = fewer_after j b c i h
 
-pub all_woken : (j : ℕ) (a b c : MachineState) (taken : Option ℕ) → IsWaking j a b → false ≡ is_some taken → IfNone taken ((i : ℕ) → home_of b.waiting.homes i ≢ Some j)
-    → IfNone taken (c ≡ b) → IsWoken (λ k. k == j) a c
-all_woken j a b c None before is none same = rw same (all_taken j a b before none)
-all_woken j a b c (Some i) before is none same = absurd (cc is)
+pub all_woken : (j most : ℕ) (a b c d : MachineState) (taken : Option ℕ) → IsWaking j a b → false ≡ is_some taken → IfNone taken ((i : ℕ) → home_of b.waiting.homes i ≢ Some j)
+    → IfNone taken (c ≡ b) → d ≡ record c { least = set c.least j most } → IsWoken (λ k. k == j) a d
+all_woken j most a b c d None before is none same then = rw (then, same) (all_taken j a b before most none)
+all_woken j most a b c d (Some i) before is none same then = absurd (cc is)
 
 -- ---- all lists of some
+
+-- the same lists by another test
+same_lists : (t u : ℕ → Bool) (a b : MachineState) → ((k : ℕ) → u k ≡ t k) → IsWoken t a b → IsWoken u a b
+same_lists t u a b e woken = record {
+  same = woken.same;
+  long_due = woken.long_due;
+  long_least = woken.long_least;
+  long_homes = woken.long_homes;
+  homes = λ i. woken.homes i ∙ homes_by (home_of a.waiting.homes i);
+  due = λ i inside. woken.due i inside ∙ ap (λ b. flag_of a.due i || b) (on_by (home_of a.waiting.homes i));
+  least = λ j off. woken.least j (sym (e j) ∙ off);
+}
+  where
+    homes_by : (h : Option ℕ) → if_not_on t h ≡ if_not_on u h
+    homes_by None = refl
+    homes_by (Some k) = rw (e k) refl
+
+    on_by : (h : Option ℕ) → is_on t h ≡ is_on u h
+    on_by None = refl
+    on_by (Some k) = sym (e k)
 
 home_law : (t u v : ℕ → Bool) (h : Option ℕ) → ((k : ℕ) → v k ≡ (t k || u k)) → if_not_on u (if_not_on t h) ≡ if_not_on v h
 home_law t u v None e = refl
@@ -145,6 +169,8 @@ pub none_woken : (t : ℕ → Bool) (m : MachineState) → ((k : ℕ) → t k �
 none_woken t m none = record {
   same = refl;
   long_due = refl;
+  long_least = refl;
+  least = λ j off. refl;
   long_homes = refl;
   homes = λ i. kept (home_of m.waiting.homes i);
   due = λ i inside. undue (home_of m.waiting.homes i) (flag_of m.due i);
@@ -160,8 +186,10 @@ none_woken t m none = record {
 
 pub more_woken : (t u v : ℕ → Bool) (a b c : MachineState) → ((k : ℕ) → v k ≡ (t k || u k)) → IsWoken t a b → IsWoken u b c → IsWoken v a c
 more_woken t u v a b c e first then = record {
-  same = then.same ∙ ap (λ (m : MachineState). record m { due = c.due; waiting = record m.waiting { homes = c.waiting.homes } }) first.same;
+  same = then.same ∙ ap (λ (m : MachineState). record m { due = c.due; waiting = record m.waiting { homes = c.waiting.homes }; least = c.least }) first.same;
   long_due = then.long_due ∙ first.long_due;
+  long_least = then.long_least ∙ first.long_least;
+  least = λ j off. let calm = or_parts (t j) (u j) (sym (e j) ∙ off) in then.least j calm.1 ∙ first.least j calm.0;
   long_homes = then.long_homes ∙ first.long_homes;
   homes = λ i. then.homes i ∙ (ap (if_not_on u) (first.homes i) ∙ home_law t u v (home_of a.waiting.homes i) e);
   due = λ i inside.
@@ -205,3 +233,66 @@ none_below flags k = and_no (flag_of flags k)
     and_no : (a : Bool) → (a && nat_lt k 0) ≡ false
     and_no true = le-ltb k 0 (omega arith)
     and_no false = refl
+
+-- ---- the lists of those whose least counts are reached
+
+-- the lists of the flagged agents below n whose least counts are reached
+abbrev pub reached_below : MachineState → ℕ → ℕ → Bool
+reached_below m n k = below m.moving n k && is_reached m k
+
+reached_law : (a b r s v : Bool) → v ≡ (a || b) → (b ≡ true → r ≡ s) → (v && r) ≡ ((a && r) || (b && s))
+reached_law true true r s v is same = rw (is, same refl) (sym (or_same s))
+  where
+    or_same : (x : Bool) → (x || x) ≡ x
+    or_same true = refl
+    or_same false = refl
+reached_law true false r s v is same = rw is (sym (or-false r))
+reached_law false true r s v is same = rw is (same refl)
+reached_law false false r s v is same = rw is refl
+
+-- what is reached at an agent is reached still while others' lists are woken
+pub reached_still : (m now : MachineState) (from j : ℕ) → IsWoken (reached_below m from) m now → from ≤ j → is_reached m j ≡ is_reached now j
+reached_still m now from j woken later =
+    let off : reached_below m from j ≡ false = rw (le-ltb j from later) (no_more (flag_of m.moving j) (is_reached m j)) in
+    let least : least_of now.least j ≡ least_of m.least j = woken.least j off in
+    let count : count_at now.configuration j ≡ count_at m.configuration j = ap (λ (w : MachineState). count_at w.configuration j) woken.same in
+    rw (least, count) refl
+  where
+    no_more : (a r : Bool) → ((a && false) && r) ≡ false
+    no_more true r = refl
+    no_more false r = refl
+
+pub one_more_reached : (m now : MachineState) (from j : ℕ) → IsWoken (reached_below m from) m now → IsNextFrom m.moving from j
+    → (k : ℕ) → reached_below m (j + 1) k ≡ (reached_below m from k || ((k == j) && is_reached now k))
+one_more_reached m now from j woken next k =
+    reached_law (below m.moving from k) (k == j) (is_reached m k) (is_reached now k) (below m.moving (j + 1) k) (one_more_below m.moving from j next k)
+    (λ here. let same : k ≡ j = eqb-true k j here in rw same (reached_still m now from j woken next.later))
+
+pub all_reached : (m : MachineState) (from : ℕ) → AreNoneFrom m.moving from → (k : ℕ) → is_woken_by m k ≡ (reached_below m from k || false)
+all_reached m from none k = ap (λ b. b && is_reached m k) (all_below m.moving from none k ∙ or-false (below m.moving from k)) ∙ sym (or-false (reached_below m from k))
+
+pub none_reached : (m : MachineState) (k : ℕ) → reached_below m 0 k ≡ false
+none_reached m k = ap (λ b. b && is_reached m k) (none_below m.moving k)
+
+-- one list, if its least count is reached
+pub woken_if : (j : ℕ) (a b : MachineState) → is_reached a j ≡ true → IsWoken (λ k. k == j) a b → IsWoken (λ k. (k == j) && is_reached a k) a b
+woken_if j a b reached woken = same_lists (λ k. k == j) (λ k. (k == j) && is_reached a k) a b (λ k. same k (k == j) refl) woken
+  where
+    same : (k : ℕ) (h : Bool) → (k == j) ≡ h → ((k == j) && is_reached a k) ≡ (k == j)
+    same k true e = let here : k ≡ j = eqb-true k j e in rw (here, reached) (and_yes (j == j))
+      where
+        and_yes : (x : Bool) → (x && true) ≡ x
+        and_yes true = refl
+        and_yes false = refl
+    same k false e = rw e refl
+
+pub not_woken : (j : ℕ) (a : MachineState) → is_reached a j ≡ false → IsWoken (λ k. (k == j) && is_reached a k) a a
+not_woken j a unreached = none_woken (λ k. (k == j) && is_reached a k) a (λ k. off k (k == j) refl)
+  where
+    off : (k : ℕ) (h : Bool) → (k == j) ≡ h → ((k == j) && is_reached a k) ≡ false
+    off k true e = let here : k ≡ j = eqb-true k j e in rw (here, unreached) (and_no (j == j))
+      where
+        and_no : (x : Bool) → (x && false) ≡ false
+        and_no true = refl
+        and_no false = refl
+    off k false e = rw e refl

@@ -1,9 +1,10 @@
 -- Steps of a tick.
-use Rattle.std.specs.Prelude.{◌≡◌, ℕ, ◌+◌, ◌<◌, ◌≤◌, Bool, true, false, ◌||◌, length, set, Option, Some, None, if◌then◌else◌}
+use Rattle.std.specs.Prelude.{◌≡◌, ℕ, ◌+◌, ◌<◌, ◌≤◌, Bool, true, false, ◌||◌, ◌&&◌, length, set, option_map, Option, Some, None, if◌then◌else◌}
+use Rattle.fleet_model.specs.declared.program.Await.{Await}
 use Rattle.fleet_model.specs.Program.{Program}
 use Rattle.fleet_model.specs.Machine.{is_ready, tick, moved_in}
 use Rattle.fleet_machine.specs.WaitLists.{home_of}
-use Rattle.fleet_machine.specs.Machine.{MachineState, Runs, flag_of, is_left, IsHome, after_next, moving_flags}
+use Rattle.fleet_machine.specs.Machine.{MachineState, Runs, flag_of, is_left, IsLacked, is_reached, least_of, lowered, after_next, moving_flags}
 use Rattle.fleet_machine.specs.Looked.{awaiting_in}
 
 -- the list is one of these
@@ -15,14 +16,25 @@ is_on lists (Some j) = lists j
 abbrev pub if_not_on : (ℕ → Bool) → Option ℕ → Option ℕ
 if_not_on lists home = if is_on lists home then None else home
 
--- each agent that stood in these lists stands in none and is due, and nothing else is changed
+-- each agent that stood in these lists stands in none and is due, and nothing else is changed but the least counts of
+-- these lists
 pub record IsWoken (lists : ℕ → Bool) (before after : MachineState) : Type 0 where
-  pub same : after ≡ record before { due = after.due; waiting = record before.waiting { homes = after.waiting.homes } }
+  pub same : after ≡ record before {
+    due = after.due;
+    waiting = record before.waiting { homes = after.waiting.homes };
+    least = after.least;
+  }
   pub long_due : length after.due ≡ length before.due
+  pub long_least : length after.least ≡ length before.least
   pub long_homes : length after.waiting.homes ≡ length before.waiting.homes
   pub homes : (i : ℕ) → home_of after.waiting.homes i ≡ if_not_on lists (home_of before.waiting.homes i)
   pub due : (i : ℕ) → i < length before.due
       → flag_of after.due i ≡ (flag_of before.due i || is_on lists (home_of before.waiting.homes i))
+  pub least : (j : ℕ) → lists j ≡ false → least_of after.least j ≡ least_of before.least j
+
+-- the lists of the agents that the tick moves, if a count is reached for which an agent in the list may wait
+abbrev pub is_woken_by : MachineState → ℕ → Bool
+is_woken_by m j = flag_of m.moving j && is_reached m j
 
 -- agent i, which is ready, has finished its next action in the tick under way, unless it is held
 abbrev pub advanced_one : Program → MachineState → ℕ → (is_held : Bool) → MachineState
@@ -52,16 +64,18 @@ pub record IsCarriedOut (p : Program) (held : ℕ → Bool) (before after : Mach
 
 -- agent i is flagged anew and stands in the list in which it belongs, and nothing else is changed
 pub record IsPlaced (p : Program) (before after : MachineState) (i : ℕ) : Type 0 where
-  pub home : Option ℕ
-  pub belongs : IsHome p before.configuration i home
+  pub lacked : Option Await
+  pub belongs : IsLacked p before.configuration i lacked
   pub same : after ≡ record before {
     ready = set before.ready i (is_ready p before.configuration i);
     left = set before.left i (is_left p before.configuration i);
-    waiting = record before.waiting { homes = set before.waiting.homes i home };
+    waiting = record before.waiting { homes = set before.waiting.homes i (option_map (λ w. w.agent) lacked) };
+    least = lowered before.least lacked;
   }
 
--- agent i is flagged, and stands, as before
+-- agent i is flagged, and stands, as before, and no least count rose
 pub record IsAsBefore (before after : MachineState) (i : ℕ) : Type 0 where
   pub ready : flag_of after.ready i ≡ flag_of before.ready i
   pub left : flag_of after.left i ≡ flag_of before.left i
   pub home : home_of after.waiting.homes i ≡ home_of before.waiting.homes i
+  pub least : (j : ℕ) → least_of after.least j ≤ least_of before.least j

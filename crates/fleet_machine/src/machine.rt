@@ -10,8 +10,8 @@ ghost use Rattle.fleet_machine.specs.AgentSet.{AreNoneFrom, IsNextFrom};
 ghost use Rattle.fleet_machine.specs.Confirmed.{all_but, AreAllReady, IsFirstUnready};
 ghost use Rattle.fleet_machine.specs.Looked.{ready_in, awaiting_in, LooksAt};
 ghost use Rattle.fleet_machine.specs.Near.{IsNear, AreNear};
-ghost use Rattle.fleet_machine.specs.Machine.{MachineState, Runs, HasRows, IsHome, IsJudged, is_left, after_next, moving_flags, flag_of};
-ghost use Rattle.fleet_machine.specs.Waking.{IsWoken, advanced_one, HasMoved, IsCarriedOut, IsPlaced, IsAsBefore};
+ghost use Rattle.fleet_machine.specs.Machine.{MachineState, Runs, HasRows, IsLacked, IsJudged, is_left, is_reached, lowered, after_next, moving_flags, flag_of};
+ghost use Rattle.fleet_machine.specs.Waking.{IsWoken, is_woken_by, advanced_one, HasMoved, IsCarriedOut, IsPlaced, IsAsBefore};
 ghost use Rattle.fleet_machine.specs.WaitLists.{home_of};
 
 use crate::agent_set::{AgentSet, next_flag};
@@ -41,6 +41,9 @@ pub struct Machine {
     due: AgentSet,
     /// An agent that is not ready and has an action left stands in the list of one whose count it lacks.
     waiting: WaitLists,
+    /// For each list the least count for which an agent in it waits, or a lesser one. Nobody in the list is looked at
+    /// before its agent has finished so many actions.
+    least: Vec<u32>,
     looked: u64,
 }
 
@@ -57,6 +60,7 @@ impl Model for Machine {
       left = m.left;
       due = m.due;
       waiting = m.waiting;
+      least = m.least.items;
       looked = m.looked;
     } };
 
@@ -124,13 +128,19 @@ impl Machine {
         let agents = starts(alloc, program)?;
         let count = program.agents();
         let waiting = WaitLists::new(alloc, count as usize, count as usize)?;
-        let mut machine = Machine::with_agents(agents, count, waiting);
+        let least = vec![in alloc; u32::MAX; count as usize]?;
+        let mut machine = Machine::with_agents(agents, count, waiting, least);
         machine.judge_all(program);
         Ok(machine)
     }
 
     /// So many agents, which stand there and in these lists. None is flagged.
-    fn with_agents(agents: Vec<Standing>, count: u16, waiting: WaitLists) -> Machine
+    fn with_agents(
+        agents: Vec<Standing>,
+        count: u16,
+        waiting: WaitLists,
+        least: Vec<u32>,
+    ) -> Machine
         requires near { AreNear agents.items }
         requires few { count ≤ MAX_AGENTS }
         ensures { result ≡ record {
@@ -140,6 +150,7 @@ impl Machine {
           left = replicate count false;
           due = replicate count false;
           waiting = waiting;
+          least = least.items;
           looked = 0;
         } }
     {
@@ -150,6 +161,7 @@ impl Machine {
             left: AgentSet::new(count),
             due: AgentSet::new(count),
             waiting,
+            least,
             looked: 0,
         }
     }
@@ -217,13 +229,13 @@ impl Machine {
         self.looked
     }
 
-    /// An agent whose count agent `i` lacks for its next action, if it has one and lacks a count.
-    fn missing_agent<P: ProgramView>(&self, program: &P, i: u16) -> Option<u16>
+    /// An await of the next action of agent `i` that is not met, if it has one.
+    fn missing_await<P: ProgramView>(&self, program: &P, i: u16) -> Option<Await>
         requires well_formed { IsWellFormed (P.program program.now) }
         requires agents { length self.now.configuration ≡ length (P.program program.now) }
         requires agent { i < length (P.program program.now) }
-        ensures belongs { IsHome (P.program program.now) self.now.configuration i result }
-        ensures list { IfSome result (λ j. j < length (P.program program.now)) }
+        ensures lacked { IsLacked (P.program program.now) self.now.configuration i result }
+        ensures list { IfSome result (λ w. w.agent < length (P.program program.now)) }
         ensures ready { is_ready (P.program program.now) self.now.configuration i
             ≡ (is_left (P.program program.now) self.now.configuration i && is_none result) }
     {
@@ -236,7 +248,7 @@ impl Machine {
         for k in 0..program.await_count(i, next) {
             let awaited = program.await_at(i, next, k);
             if !self.has_met(awaited) {
-                return Some(awaited.agent);
+                return Some(awaited);
             }
         }
         None
@@ -326,24 +338,47 @@ impl Machine {
         self.due.next(from)
     }
 
+    /// Agent `i`, which stands in no list, waits for the awaited agent.
+    fn wait_for(&mut self, i: u16, awaited: Await)
+        requires home { i < length self.old.waiting.homes }
+        requires nowhere { home_of self.old.waiting.homes i ≡ None }
+        requires list { awaited.agent < self.old.waiting.lists }
+        requires least { awaited.agent < length self.old.least }
+        ensures { self.new ≡ record self.old {
+          waiting = record self.old.waiting {
+            homes = set self.old.waiting.homes i (Some awaited.agent);
+          };
+          least = lowered self.old.least (Some awaited);
+        } }
+    {
+        let Await { agent, count } = awaited;
+        self.waiting.push(agent, i);
+        let least = self.least[agent as usize];
+        self.least[agent as usize] = least.min(count);
+    }
+
     /// Flags whether agent `i`, which stands in no list, has an action left and whether it is ready, and puts it into
     /// the list of the agent whose count it lacks.
-    fn place(&mut self, i: u16, is_left: bool, lacked: Option<u16>)
+    fn place(&mut self, i: u16, is_left: bool, lacked: Option<Await>)
         requires ready { i < length self.old.ready }
         requires left { i < length self.old.left }
         requires home { i < length self.old.waiting.homes }
         requires nowhere { home_of self.old.waiting.homes i ≡ None }
-        requires list { IfSome lacked (λ j. j < self.old.waiting.lists) }
+        requires list { IfSome lacked (λ w. w.agent < self.old.waiting.lists) }
+        requires least { length self.old.least ≡ self.old.waiting.lists }
         ensures { self.new ≡ record self.old {
           ready = set self.old.ready i (is_left && is_none lacked);
           left = set self.old.left i is_left;
-          waiting = record self.old.waiting { homes = set self.old.waiting.homes i lacked };
+          waiting = record self.old.waiting {
+            homes = set self.old.waiting.homes i (option_map (λ w. w.agent) lacked);
+          };
+          least = lowered self.old.least lacked;
         } }
     {
         self.ready.set(i, is_left && lacked.is_none());
         self.left.set(i, is_left);
-        if let Some(j) = lacked {
-            self.waiting.push(j, i);
+        if let Some(awaited) = lacked {
+            self.wait_for(i, awaited);
         }
     }
 
@@ -357,7 +392,7 @@ impl Machine {
         ensures { IsPlaced (P.program program.now) self.old self.new i }
     {
         let is_left = self.agent(i).count < program.moves(i);
-        let lacked = self.missing_agent(program, i);
+        let lacked = self.missing_await(program, i);
         self.place(i, is_left, lacked);
     }
 
@@ -388,6 +423,7 @@ impl Machine {
           ready = self.new.ready;
           left = self.new.left;
           waiting = self.new.waiting;
+          least = self.new.least;
         } }
         ensures rows { HasRows (length (P.program program.now)) self.new }
         ensures judged { (i : ℕ) → i < length (P.program program.now)
@@ -425,25 +461,60 @@ impl Machine {
         Some(i)
     }
 
+    /// The list of agent `j`, in which nobody stands any more, has no least count.
+    fn forget(&mut self, j: u16)
+        requires { j < length self.old.least }
+        ensures { self.new ≡ record self.old { least = set self.old.least j 4294967295 } }
+    {
+        self.least[j as usize] = u32::MAX;
+    }
+
+    /// Whether agent `j` has finished as many actions as an agent in its list may wait for.
+    fn is_reached(&self, j: u16) -> bool
+        requires least { j < length self.now.least }
+        requires agent { j < length self.now.configuration }
+        ensures { result ≡ is_reached self.now j }
+    {
+        self.least[j as usize] <= self.agent(j).count
+    }
+
     /// Takes all agents off the list of agent `j`. They are due.
     fn wake(&mut self, j: u16)
         requires list { j < self.old.waiting.lists }
+        requires least { j < length self.old.least }
         requires due { length self.old.due ≡ length self.old.waiting.homes }
         ensures { IsWoken (λ k. k == j) self.old self.new }
     {
         while self.wake_first(j).is_some() {}
+        self.forget(j);
     }
 
-    /// Takes all agents off the lists of those that the tick moves.
+    /// Takes all agents off the list of agent `j`, if its least count is reached. They are due.
+    fn wake_if_reached(&mut self, j: u16)
+        requires list { j < self.old.waiting.lists }
+        requires least { j < length self.old.least }
+        requires agent { j < length self.old.configuration }
+        requires due { length self.old.due ≡ length self.old.waiting.homes }
+        ensures { IsWoken (λ k. (k == j) && is_reached self.old k) self.old self.new }
+    {
+        if !self.is_reached(j) {
+            return;
+        }
+        self.wake(j);
+    }
+
+    /// Takes all agents off the lists of those that the tick moves and whose least counts are reached.
     fn wake_all(&mut self)
         requires few { length self.old.moving ≤ MAX_AGENTS }
         requires lists { self.old.waiting.lists ≡ length self.old.moving }
+        requires least { length self.old.least ≡ length self.old.moving }
+        requires agents { length self.old.configuration ≡ length self.old.moving }
         requires due { length self.old.due ≡ length self.old.waiting.homes }
-        ensures { IsWoken (flag_of self.old.moving) self.old self.new }
+        ensures { IsWoken (is_woken_by self.old) self.old self.new }
     {
         let mut from = 0;
         while let Some(j) = self.next_moved(from) {
-            self.wake(j);
+            self.wake_if_reached(j);
             from = j + 1;
         }
     }
@@ -573,8 +644,8 @@ impl Machine {
         self.looked = self.looked.saturating_add(u64::from(agents));
     }
 
-    /// Takes all agents off the lists of those that a tick moved, and judges those that it took off and those that
-    /// moved. Answers how many it judged.
+    /// Takes all agents off the lists of those that a tick moved and whose least counts are reached, and judges those
+    /// that it took off and those that moved. Answers how many it judged.
     fn settle<P: ProgramView>(&mut self, program: &P) -> u16
         requires moved { (before : MachineState) × (held : ℕ → Bool)
             × HasMoved (P.program program.now) held before self.old }
@@ -587,7 +658,8 @@ impl Machine {
     }
 
     /// One tick, in which the flagged agents are held. It looks at those that are ready, and at those in the list of an
-    /// agent that it moves. An agent that moves was judged before the tick, and one that is ready and held stays ready.
+    /// agent that it moves, if the least count of the list is reached. An agent that moves was judged before the tick,
+    /// and one that is ready and held stays ready.
     #[tactic(auto, using(crate::proofs::Judging::counted_le, crate::proofs::Ticking::runs_looked, crate::proofs::Ticking::looked_at))]
     pub fn tick<P: ProgramView>(&mut self, program: &P, held: &[bool]) -> Tick
         requires runs { Runs (P.program program.now) self.old }
@@ -642,7 +714,7 @@ impl Machine {
     }
 
     /// The flagged agents, all of which are ready, finish their next actions: one tick, in which all others are held.
-    /// It looks at those, and at the agents in their lists, and at no others.
+    /// It looks at those, and at the agents in their lists whose least counts are reached, and at no others.
     pub fn carry_out<P: ProgramView>(&mut self, program: &P, done: &[bool])
         requires runs { Runs (P.program program.now) self.old }
         requires done { length done.now ≡ length (P.program program.now) }

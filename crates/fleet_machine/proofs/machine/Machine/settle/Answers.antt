@@ -2,8 +2,8 @@ use Rattle.std.proofs.Common.{length, arith, sym, ◌∙◌, ap, subst}
 use Rattle.std.proofs.lemmas.List.FromFn.{length-map-range_with_len}
 use Rattle.fleet_model.specs.Machine.{is_moving}
 use Rattle.fleet_model.proofs.Tick.{length-tick}
-use Rattle.fleet_machine.specs.Machine.{MachineState, flag_of}
-use Rattle.fleet_machine.specs.Waking.{IsWoken}
+use Rattle.fleet_machine.specs.Machine.{MachineState}
+use Rattle.fleet_machine.specs.Waking.{IsWoken, is_woken_by}
 use Rattle.fleet_machine.proofs.Ticking.{configuration_woken, rows_woken, nowhere_if_due, settled}
 use Rattle.fleet_machine.proofs.machine.Machine.settle.Goals as goal
 
@@ -28,6 +28,20 @@ wake_all-requires-clause-due g c =
     let moving = length-map-range_with_len (is_moving p c.requires.moved.1 c.requires.moved.0.configuration) 0 (length p) in
     rw h.same (moving ∙ sym h.runs.rows.homes)
 
+pub wake_all-requires-clause-least : goal.wake_all-requires-clause-least
+wake_all-requires-clause-least g c =
+    let p = g.P.ProgramView.program c.args.program.now in
+    let h = c.requires.moved.2 in
+    let moving = length-map-range_with_len (is_moving p c.requires.moved.1 c.requires.moved.0.configuration) 0 (length p) in
+    rw h.same (h.runs.rows.least ∙ sym moving)
+
+pub wake_all-requires-clause-agents : goal.wake_all-requires-clause-agents
+wake_all-requires-clause-agents g c =
+    let p = g.P.ProgramView.program c.args.program.now in
+    let h = c.requires.moved.2 in
+    let moving = length-map-range_with_len (is_moving p c.requires.moved.1 c.requires.moved.0.configuration) 0 (length p) in
+    rw h.same (length-tick p c.requires.moved.1 c.requires.moved.0.configuration ∙ sym moving)
+
 pub judge_due-requires-clause-agents : goal.judge_due-requires-clause-agents
 judge_due-requires-clause-agents g c =
     let p = g.P.ProgramView.program c.args.program.now in
@@ -35,7 +49,7 @@ judge_due-requires-clause-agents g c =
     let held = c.requires.moved.1 in
     let h = c.requires.moved.2 in
     let woken = c.wake_all.new.self in
-    let wakes = subst (λ (a : MachineState). IsWoken (flag_of a.moving) a woken) h.same c.wake_all.ensures in
+    let wakes = subst (λ (a : MachineState). IsWoken (is_woken_by a) a woken) h.same c.wake_all.ensures in
     ap length (configuration_woken p held before h.runs woken wakes) ∙ length-tick p held before.configuration
 
 pub judge_due-requires-clause-rows : goal.judge_due-requires-clause-rows
@@ -43,7 +57,7 @@ judge_due-requires-clause-rows g c =
     let p = g.P.ProgramView.program c.args.program.now in
     let h = c.requires.moved.2 in
     let woken = c.wake_all.new.self in
-    let wakes = subst (λ (a : MachineState). IsWoken (flag_of a.moving) a woken) h.same c.wake_all.ensures in
+    let wakes = subst (λ (a : MachineState). IsWoken (is_woken_by a) a woken) h.same c.wake_all.ensures in
     rows_woken p c.requires.moved.1 c.requires.moved.0 h.runs woken wakes
 
 pub judge_due-requires-clause-nowhere : goal.judge_due-requires-clause-nowhere
@@ -51,7 +65,7 @@ judge_due-requires-clause-nowhere g c =
     let p = g.P.ProgramView.program c.args.program.now in
     let h = c.requires.moved.2 in
     let woken = c.wake_all.new.self in
-    let wakes = subst (λ (a : MachineState). IsWoken (flag_of a.moving) a woken) h.same c.wake_all.ensures in
+    let wakes = subst (λ (a : MachineState). IsWoken (is_woken_by a) a woken) h.same c.wake_all.ensures in
     nowhere_if_due p c.requires.moved.1 c.requires.moved.0 h.runs woken wakes
 
 pub returns : goal.returns
@@ -59,6 +73,6 @@ returns g c =
     λ before held h.
     let p = g.P.ProgramView.program c.args.program.now in
     let woken = c.wake_all.new.self in
-    let wakes = subst (λ (a : MachineState). IsWoken (flag_of a.moving) a woken) h.same c.wake_all.ensures in
+    let wakes = subst (λ (a : MachineState). IsWoken (is_woken_by a) a woken) h.same c.wake_all.ensures in
     let judged = c.judge_due.ensures in
     settled p held before h.runs woken wakes c.judge_due.new.self judged.same judged.rows judged.judged judged.others c.judge_due.result judged.count

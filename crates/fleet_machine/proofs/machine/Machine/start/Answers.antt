@@ -1,4 +1,4 @@
-use Rattle.std.proofs.Common.{◌≡◌, ◌∙◌, length, replicate, false, None, ap, arith}
+use Rattle.std.proofs.Common.{rules, ◌≡◌, ◌∙◌, length, replicate, false, None, ap, arith}
 use Rattle.std.proofs.lemmas.List.{length-replicate}
 use Rattle.fleet_machine.specs.WaitLists.{WaitState, home_of}
 use Rattle.fleet_machine.specs.Machine.{MachineState}
@@ -30,6 +30,8 @@ judge_all-requires-clause-rows g c =
       lists = ap (λ (m : MachineState). m.waiting.lists) made ∙ (ap (λ (w : WaitState). w.lists) c.in_ok-waiting.ensures ∙ count);
       homes = ap (λ (m : MachineState). length m.waiting.homes) made
           ∙ (ap (λ (w : WaitState). length w.homes) c.in_ok-waiting.ensures ∙ (length-replicate c.agents-count.result None ∙ count));
+      least = ap (λ (m : MachineState). length m.least) made
+          ∙ (ap length (c.in_ok-least.ensures.items_if_clones_equal (λ y k. search rules)) ∙ (length-replicate c.agents-count.result 4294967295 ∙ count));
     }
 
 pub judge_all-requires-clause-nowhere : goal.judge_all-requires-clause-nowhere

@@ -11,4 +11,6 @@ pub loop-smaller : goal.loop-smaller
 loop-smaller c = fewer_woken c.args.j c.loop.self c.wake_first.new.self c.wake_first.result c.loop-test.ensures c.wake_first.ensures.some
 
 pub returns : goal.returns
-returns c = all_woken c.args.j c.args.self.now c.loop.self c.wake_first.new.self c.wake_first.result c.loop.invariant c.loop-test.ensures c.wake_first.ensures.none c.wake_first.ensures.same
+returns c =
+    all_woken c.args.j 4294967295 c.args.self.now c.loop.self c.wake_first.new.self c.forget.new.self c.wake_first.result c.loop.invariant c.loop-test.ensures
+    c.wake_first.ensures.none c.wake_first.ensures.same c.forget.ensures

@@ -4,7 +4,8 @@ use Rattle.std.specs.Int.{bit_at, trailing_zeros, w64}
 use Rattle.std.specs.Prelude.{◌==◌, bit_and, bit_or}
 use Rattle.std.proofs.lemmas.Nat.Bits.{bit_at-trailing_zeros, bit_at-zero, bit_at_above, bit_at_set_same, bit_at_set_other, bit_at_clear_same, shr_and_one, bit_at_clear_other}
 use Rattle.std.proofs.Math.Nat.{div-div-eq-div-mul}
-use Rattle.std.proofs.lemmas.Nat.{pow-add}
+use Rattle.std.proofs.lemmas.Nat.{pow-add, and_le_l}
+use Rattle.std.specs.Int.Bits.{or_zero_r}
 use Rattle.std.proofs.lemmas.Bool.{cases_eq, cases_lt, true≢false}
 use Rattle.std.proofs.lemmas.List.{ext_get_or, get_or_past, get_or-replicate, length-replicate}
 use Rattle.std.proofs.lemmas.List.FromFn.{get_or-map-range_with_len, length-map-range_with_len}
@@ -24,17 +25,32 @@ bit_shifted n k i = ap (λ m. m % 2) (div-div-eq-div-mul n (2 ^ k) (2 ^ i) ∙ a
 -- ---- one bit written
 
 module _ (word place : ℕ) (within : place < 64) where
-  pub set_here : bit_at (bit_or word (1 * 2 ^ place % 2 ^ 64)) place ≡ bit_if true
-  set_here = bit_at_set_same w64 word place within
-
-  pub set_others : (k : ℕ) → k < 64 → k ≢ place → bit_at (bit_or word (1 * 2 ^ place % 2 ^ 64)) k ≡ bit_at word k
-  set_others k lt other = bit_at_set_other w64 word place within k other
-
-  pub cut_here : bit_at (bit_and word (2 ^ 64 - 1 - 1 * 2 ^ place % 2 ^ 64)) place ≡ bit_if false
+  pub cut_here : bit_at (bit_and word (2 ^ 64 - 1 - 1 * 2 ^ place % 2 ^ 64)) place ≡ 0
   cut_here = bit_at_clear_same w64 word place within
 
   pub cut_others : (k : ℕ) → k < 64 → k ≢ place → bit_at (bit_and word (2 ^ 64 - 1 - 1 * 2 ^ place % 2 ^ 64)) k ≡ bit_at word k
   cut_others k lt other = bit_at_clear_other w64 word place within k lt other
+
+  pub cut_less : bit_at word place ≡ 1 → bit_and word (2 ^ 64 - 1 - 1 * 2 ^ place % 2 ^ 64) < word
+  cut_less is_set =
+      let cut = bit_and word (2 ^ 64 - 1 - 1 * 2 ^ place % 2 ^ 64) in
+      let changed : cut ≢ word = λ same. absurd (omega (arith, is_set, sym (ap (λ w. bit_at w place) same) ∙ cut_here)) in
+      omega (arith, and_le_l word (2 ^ 64 - 1 - 1 * 2 ^ place % 2 ^ 64), changed)
+
+  -- a bit put where there is none
+  pub put_here : (b : Bool) → bit_at word place ≡ 0 → bit_at (bit_or word (bit_if b * 2 ^ place % 2 ^ 64)) place ≡ bit_if b
+  put_here true clear = bit_at_set_same w64 word place within
+  put_here false clear = rw (no_bit_put, or_zero_r word) clear
+    where
+      no_bit_put : 0 * 2 ^ place % 2 ^ 64 ≡ 0
+      no_bit_put = omega arith
+
+  pub put_others : (b : Bool) (k : ℕ) → k < 64 → k ≢ place → bit_at (bit_or word (bit_if b * 2 ^ place % 2 ^ 64)) k ≡ bit_at word k
+  put_others true k lt other = bit_at_set_other w64 word place within k other
+  put_others false k lt other = rw (no_bit_put, or_zero_r word) refl
+    where
+      no_bit_put : 0 * 2 ^ place % 2 ^ 64 ≡ 0
+      no_bit_put = omega arith
 
 pub bit_is : (b : Bool) → (bit_if b == 1) ≡ b
 bit_is true = refl

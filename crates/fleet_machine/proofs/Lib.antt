@@ -4,6 +4,7 @@ pub mod Waiting
 pub mod Bits
 pub mod Flags
 mod Marked
+pub mod Copied
 pub mod Below
 pub mod Without
 pub mod Indices

@@ -3,7 +3,7 @@
 ghost use Rattle.std.specs.Prelude.{◌≡◌, ◌≢◌, ◌<◌, ◌≤◌, ◌+◌, ◌^◌, ℕ, length, set, replicate, true, false, not, ◌&&◌, ◌==◌, MatchOption};
 ghost use Rattle.std.specs.Int.{bit_at};
 ghost use Rattle.fleet_machine.specs.Machine.{flag_of};
-ghost use Rattle.fleet_machine.specs.AgentSet.{bit_if, IsLowest, IsHighestBelow, HasNoneBelow, IsNextFrom, IsLastBefore, AreNoneFrom, AreNoneIn};
+ghost use Rattle.fleet_machine.specs.AgentSet.{bit_if, IsLowest, IsHighestBelow, HasNoneBelow, IsNextFrom, IsLastBefore, AreNoneFrom, AreNoneIn, AreMarks};
 
 use fleet_model::MAX_AGENTS;
 use std::marker::Model;
@@ -45,17 +45,30 @@ fn lowest(word: u64) -> Option<usize>
     Some(word.trailing_zeros() as usize)
 }
 
-/// The word with this bit set, or not.
+/// The word without this bit.
+fn without_bit(word: u64, place: u16) -> u64
+    requires { place < 64 }
+    ensures here { bit_at result place ≡ 0 }
+    ensures others { (k : ℕ) → k < 64 → k ≢ place → bit_at result k ≡ bit_at word k }
+    ensures less { bit_at word place ≡ 1 → result < word }
+{
+    word & !(1 << place)
+}
+
+/// The bit of a member, or of none.
+fn bit(is_set: bool) -> u64
+    ensures { result ≡ bit_if is_set }
+{
+    u64::from(is_set)
+}
+
+/// The word with this bit set, or not. No way through the code hangs on the bit, which no processor foresees.
 fn with_bit(word: u64, place: u16, is_set: bool) -> u64
     requires { place < 64 }
     ensures here { bit_at result place ≡ bit_if is_set }
     ensures others { (k : ℕ) → k < 64 → k ≢ place → bit_at result k ≡ bit_at word k }
 {
-    if is_set {
-        word | 1 << place
-    } else {
-        word & !(1 << place)
-    }
+    without_bit(word, place) | bit(is_set) << place
 }
 
 /// The place of the highest bit below this place that is set.
@@ -86,6 +99,33 @@ fn without_bits(word: u64, others: u64) -> u64
         ≡ bit_if (bit_at word k == 1 && not (bit_at others k == 1)) }
 {
     word & !others
+}
+
+/// Writes 0 to the words that are marked, which are all that have a bit.
+fn clear_words(words: &mut [u64], marks: u64)
+    requires few { length words.old ≤ 64 }
+    requires marked { AreMarks words.old marks }
+    ensures { words.new ≡ replicate (length words.old) 0 }
+{
+    let mut left = marks;
+    while let Some(at) = lowest(left) {
+        words[at] = 0;
+        left = without_bit(left, at as u16);
+    }
+}
+
+/// Copies the words that are marked, which are all that have a bit, to words that have none.
+fn copy_words(words: &mut [u64], others: &[u64], marks: u64)
+    requires few { length others.now ≤ 64 }
+    requires marked { AreMarks others.now marks }
+    requires empty { words.old ≡ replicate (length others.now) 0 }
+    ensures { words.new ≡ others.now }
+{
+    let mut left = marks;
+    while let Some(at) = lowest(left) {
+        words[at] = others[at];
+        left = without_bit(left, at as u16);
+    }
 }
 
 /// Whether one of the flags of a stretch is set. It looks at all of them, since many processors look at several at
@@ -156,29 +196,26 @@ impl AgentSet {
         ensures { self.new ≡ set self.old i is_member }
     {
         let at = i / WORD as u16;
-        let old = self.words[at as usize];
-        let word = with_bit(old, i % 64, is_member);
-        if word == old {
-            return;
-        }
+        let word = with_bit(self.words[at as usize], i % 64, is_member);
         self.words[at as usize] = word;
         self.filled = with_bit(self.filled, at, word != 0);
     }
 
-    /// No agent is a member from now on.
+    /// No agent is a member from now on. It costs as much as there are words with members.
     pub fn clear(&mut self)
         ensures { self.new ≡ replicate (length self.old) false }
     {
-        self.words = [0; WORDS];
+        clear_words(&mut self.words, self.filled);
         self.filled = 0;
     }
 
-    /// The members are those of the other set from now on.
+    /// The members are those of the other set from now on. It costs as much as there are words with members of either.
     pub fn copy_from(&mut self, other: &AgentSet)
         requires { length self.old ≡ length other.now }
         ensures { self.new ≡ other.now }
     {
-        self.words = other.words;
+        clear_words(&mut self.words, self.filled);
+        copy_words(&mut self.words, &other.words, other.filled);
         self.filled = other.filled;
     }
 

@@ -9,9 +9,9 @@ same_agents words others n m e = sym (long_flags words n) ∙ (e ∙ long_flags 
 pub invariant_of-self : goal.invariant_of-self
 invariant_of-self c =
     let same = same_agents c.self.inside.words c.other.inside.words c.self.inside.agents c.other.inside.agents (ap length c.self.view_is ∙ c.requires ∙ sym (ap length c.other.view_is)) in
-    rw same c.other.invariant
+    rw (c.copy_words.ensures, same) c.other.invariant
 
 pub returns : goal.returns
 returns c =
     let same = same_agents c.self.inside.words c.other.inside.words c.self.inside.agents c.other.inside.agents (ap length c.self.view_is ∙ c.requires ∙ sym (ap length c.other.view_is)) in
-    ap (flags_in c.other.inside.words) same ∙ c.other.view_is
+    ap (λ words. flags_in words c.self.inside.agents) c.copy_words.ensures ∙ (ap (flags_in c.other.inside.words) same ∙ c.other.view_is)

@@ -1,6 +1,4 @@
-use Rattle.std.proofs.Common.{◌≡◌, ◌/◌, ℕ, slice_index, set, sym, ◌∙◌, ap, arith}
-use Rattle.std.proofs.lemmas.List.{set-get_or}
-use Rattle.fleet_machine.specs.AgentSet.{flags_in}
+use Rattle.std.proofs.Common.{◌/◌, set, sym, ◌∙◌, ap, arith}
 use Rattle.fleet_machine.proofs.Bits.{word_within, bits_with, flags_with, long_flags}
 use Rattle.fleet_machine.proofs.Marked.{mark_written, marked_by}
 use Rattle.fleet_machine.proofs.agent_set.AgentSet.set.Goals as goal
@@ -22,18 +20,6 @@ with_bit-self-inside-requires c =
     let agent = rw (sym c.self.view_is, long_flags c.self.inside.words c.self.inside.agents) at c.requires in
     let few = c.self.invariant.bits.few in
     omega arith
-
-pub returns-then-word-old : goal.returns-then-word-old
-returns-then-word-old c =
-    let words = c.self.inside.words in
-    let n = c.self.inside.agents in
-    let nothing : ℕ = 0 in
-    let agent = rw (sym c.self.view_is, long_flags words n) at c.requires in
-    let same : c.with_bit-word.result ≡ slice_index words (c.args.i / 64) = c.if-word-old.true in
-    sym c.self.view_is
-    ∙ (ap (λ ws. flags_in ws n) (sym (ap (set words (c.args.i / 64)) same ∙ set-get_or words (c.args.i / 64) nothing))
-    ∙ (flags_with words n c.args.i c.self.invariant.bits agent c.with_bit-word.result c.args.is_member c.with_bit-word.ensures.here c.with_bit-word.ensures.others
-    ∙ ap (λ flags. set flags c.args.i c.args.is_member) c.self.view_is))
 
 pub invariant_of-self : goal.invariant_of-self
 invariant_of-self c =

@@ -1,0 +1,23 @@
+use Rattle.std.proofs.Common.{◌≡◌, ◌∙◌, refl, arith}
+use Rattle.fleet_machine.proofs.Copied.{none_copied, one_copied, all_copied}
+use Rattle.fleet_machine.proofs.agent_set.copy_words.Goals as goal
+
+pub loop-at-init : goal.loop-at-init
+loop-at-init c = none_copied c.args.others.now c.args.words.now c.args.marks c.requires.marked c.requires.empty
+
+pub bounds-others-at : goal.bounds-others-at
+bounds-others-at c = c.loop-at.invariant.there c.in-Some.at c.in-Some.ensures.within c.in-Some.ensures.is_set
+
+pub bounds-words-at : goal.bounds-words-at
+bounds-words-at c = omega (arith, c.loop-at.invariant.long, c.loop-at.invariant.there c.in-Some.at c.in-Some.ensures.within c.in-Some.ensures.is_set)
+
+pub loop-at-preserved : goal.loop-at-preserved
+loop-at-preserved c =
+    one_copied c.args.others.now c.loop-at.words c.loop-at.left c.in-Some.at c.without_bit-left.result c.loop-at.invariant c.in-Some.ensures
+    c.without_bit-left.ensures.here c.without_bit-left.ensures.others
+
+pub loop-at-smaller : goal.loop-at-smaller
+loop-at-smaller c = c.without_bit-left.ensures.less c.in-Some.ensures.is_set
+
+pub returns : goal.returns
+returns c = all_copied c.args.others.now c.loop-at.words c.requires.few (rw c.in_default.ensures at c.loop-at.invariant)

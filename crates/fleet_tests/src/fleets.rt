@@ -60,6 +60,17 @@ held 0
 finished
 ";
 
+/// .. and its trace.
+pub const PAIR_TRACE: &[u8] = b"0: 1,0 0,0
+1: 2,0 0,0
+2: 3,0 1,0
+3: 3,0 2,0
+agents 2
+ticks 3
+chain 3
+held 0
+";
+
 /// A row of 256 cells. Each agent of the train is behind the one before it, and all go 128 cells east.
 pub const TRAIN_MAP: &[u8] = b"type octile
 height 1

@@ -2,16 +2,19 @@
 //! that fail after some bytes.
 
 ghost use Rattle.std.specs.Prelude.{◌≡◌, false};
+ghost use Rattle.fleet_run.specs.Source.{HasNotFailed};
+ghost use Rattle.fleet_text.specs.Sink.{IsWorking};
 
-use crate::fleets::{PAIR_HEX, PAIR_MAP, PAIR_SCEN, PAIR_TEXT};
+use crate::fleets::{PAIR_HEX, PAIR_MAP, PAIR_SCEN, PAIR_TEXT, PAIR_TRACE};
 use crate::streams::{FailingSource, ShortReader, ShortWriter};
 use fleet_code::{load, read_hex};
 use fleet_dispatch::{DispatchFault, DispatchReport, StreamFloor, dispatch_accepted};
 use fleet_files::{FileFault, read_whole};
 use fleet_grid::{Grid, read_map};
-use fleet_model::Program;
+use fleet_model::{Place, Program, ProgramView};
 use fleet_run::{
-    Fleet, Flush, HoldText, RunFault, SourceFault, VecOut, WriteOut, drive, put_all, rehearse,
+    Fleet, Flush, HoldSource, HoldText, RunFault, SourceFault, TraceOut, VecOut, WriteOut, drive,
+    put_all, rehearse,
 };
 use fleet_scen::{Instance, read_scen};
 use fleet_verify::verify;
@@ -33,49 +36,82 @@ fn pair(alloc: Global) -> Result<(Grid, Instance, Program), Fail> {
     Ok((grid, instance, program))
 }
 
-/// A source that gives two ticks.
-fn two_ticks(kind: SourceFault) -> FailingSource
+/// A source that gives so many ticks and then fails so.
+fn some_ticks(ticks: u8, kind: SourceFault) -> FailingSource
     ensures { result.failed ≡ false }
 {
     FailingSource {
-        ticks: 2,
+        ticks,
         kind,
         failed: false,
     }
 }
 
-/// What was written of the pair's run under a source that fails so after two ticks, and why it stopped.
-fn drive_answer(alloc: Global, kind: SourceFault) -> Result<(VecOut, Option<RunFault>), Fail> {
+/// The columns of both agents of the pair after so many ticks in which nobody is held.
+const COLUMNS: [[i32; 2]; 4] = [[1, 0], [2, 0], [3, 1], [3, 2]];
+
+/// How many bytes each line of the pair's texts has up to that of tick 3.
+const LINE: usize = 11;
+
+/// Why the pair's run stopped, if it did; in which columns the agents stood then, both in the row of the map; and
+/// whether three more ticks with nobody held bring them to their goals.
+fn drive_answer<S: HoldSource, O: TraceOut>(
+    alloc: Global,
+    source: &mut S,
+    out: &mut O,
+) -> Result<(Option<RunFault>, [i32; 2], bool), Fail>
+    requires source { HasNotFailed (S.state source.old) }
+    requires sink { IsWorking (O.state out.old) }
+{
     let (grid, instance, program) = pair(alloc)?;
     let Ok(accepted) = verify(alloc, program, &grid, &instance) else {
         return Err(Fail::from("not accepted"));
     };
+    if accepted.program().agents() != 2 {
+        return Err(Fail::from("another fleet"));
+    }
     let Ok(mut fleet) = Fleet::start(alloc, accepted) else {
         return Err(Fail::from("memory"));
     };
-    let mut out = VecOut::new(alloc);
-    let fault = drive(&mut fleet, &mut two_ticks(kind), &mut out).err();
-    Ok((out, fault))
+    let fault = drive(&mut fleet, source, out).err();
+    let columns = [fleet.place(0).x, fleet.place(1).x];
+    let _ = fleet.tick(&[false, false]);
+    let _ = fleet.tick(&[false, false]);
+    let _ = fleet.tick(&[false, false]);
+    let is_there = fleet.place(0) == Place { x: 3, y: 0 } && fleet.place(1) == Place { x: 2, y: 0 };
+    Ok((fault, columns, is_there && fleet.finished()))
 }
 
-/// .. and of its rehearsal.
-fn rehearse_answer(alloc: Global, kind: SourceFault) -> Result<(VecOut, Option<RunFault>), Fail> {
+/// What was written of the pair's rehearsal under a source that fails so after so many ticks, and why it stopped.
+fn rehearse_answer(
+    alloc: Global,
+    ticks: u8,
+    kind: SourceFault,
+) -> Result<(VecOut, Option<RunFault>), Fail> {
     let program = load(alloc, &read_hex(alloc, PAIR_HEX)?)?;
     let mut out = VecOut::new(alloc);
-    let fault = rehearse(alloc, &program, &mut two_ticks(kind), &mut out).err();
+    let fault = rehearse(alloc, &program, &mut some_ticks(ticks, kind), &mut out).err();
     Ok((out, fault))
 }
 
+/// After a refusal the lines before it are written, and the fleet has run the ticks before it and goes on.
 #[test]
-fn sources_fail_after_two_ticks(rt: HostRuntime) -> Result<(), Fail> {
-    let lines = b"0: 1,0 0,0\n1: 2,0 0,0\n2: 3,0 1,0\n".as_slice();
-    let broken = RunFault::Source { tick: 3 };
-    let wrong = RunFault::Hold { line: 3 };
-    for (kind, due) in [(SourceFault::Broken, broken), (SourceFault::Text, wrong)] {
-        for (out, fault) in [
-            drive_answer(rt.alloc(), kind)?,
-            rehearse_answer(rt.alloc(), kind)?,
-        ] {
+fn sources_fail_after_some_ticks(rt: HostRuntime) -> Result<(), Fail> {
+    for (ticks, columns) in (0..3u8).zip(COLUMNS) {
+        let lines = PAIR_TEXT
+            .get(..(usize::from(ticks) + 1) * LINE)
+            .ok_or("lines")?;
+        let broken = RunFault::Source {
+            tick: u32::from(ticks) + 1,
+        };
+        let wrong = RunFault::Hold {
+            line: u64::from(ticks) + 1,
+        };
+        for (kind, due) in [(SourceFault::Broken, broken), (SourceFault::Text, wrong)] {
+            let mut out = VecOut::new(rt.alloc());
+            let ran = drive_answer(rt.alloc(), &mut some_ticks(ticks, kind), &mut out)?;
+            assert_eq!(rt; (ran, out.bytes()), ((Some(due), columns, true), lines));
+            let (out, fault) = rehearse_answer(rt.alloc(), ticks, kind)?;
             assert_eq!(rt; (fault, out.bytes()), (Some(due), lines));
         }
     }
@@ -107,6 +143,27 @@ fn outputs_fail_after_some_bytes(rt: HostRuntime) -> Result<(), Fail> {
             };
             assert_eq!(rt; fault, due);
             assert_eq!(rt; Some(output.bytes.as_slice()), PAIR_TEXT.get(..room));
+        }
+    }
+    Ok(())
+}
+
+/// A run whose output fails goes on from the last tick that was run.
+#[test]
+fn runs_go_on_after_a_failed_output(rt: HostRuntime) -> Result<(), Fail> {
+    for failing in WAYS {
+        for room in 0..=PAIR_TRACE.len() {
+            let mut output = writer(rt.alloc(), room, 0, failing);
+            let mut out = WriteOut::new(&mut output);
+            let ran = drive_answer(rt.alloc(), &mut HoldText::new(b"", 2), &mut out)?;
+            let fault = if room < PAIR_TRACE.len() {
+                Some(RunFault::Write)
+            } else {
+                None
+            };
+            let columns = COLUMNS.get(room / LINE).copied().unwrap_or([3, 2]);
+            assert_eq!(rt; ran, (fault, columns, true), "{room}");
+            assert_eq!(rt; Some(output.bytes.as_slice()), PAIR_TRACE.get(..room));
         }
     }
     Ok(())

@@ -8,6 +8,7 @@ use crate::fleets::{
     PAIR_TRACE, SQUARE_MAP, SQUARE_SCEN,
 };
 use fleet_adg::Deps;
+// To be imported from fleet_cli, once it hands them on: the names of fleet_args, fleet_auto and fleet_files.
 use fleet_args::{
     AutoRequest, CheckRequest, CompileRequest, InstanceRequest, MigrateRequest, PlanRequest,
     RehearseRequest, RunRequest, ThinRequest, VerifyRequest,

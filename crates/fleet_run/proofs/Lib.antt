@@ -10,4 +10,5 @@ pub mod HoldLaws
 pub mod HoldsWritten
 pub mod Driven
 pub mod Finished
+pub mod Patched
 pub mod Lines

@@ -1,20 +1,26 @@
 -- Rows of bytes that end with kept places.
-use Rattle.std.proofs.Common.{◌≡◌, ◌≤◌, ◌<◌, ◌+◌, ◌-◌, ◌++◌, ◌∷◌, [], ◌⊎◌, get_or, zero, suc, inl, inr, refl, ℕ, List, length, take, drop, set, ap, sym, ◌∙◌, arith, length-append, subst, Bool, true, false, ◌≢◌}
+use Rattle.std.proofs.Common.{◌≡◌, ◌≤◌, ◌<◌, ◌+◌, ◌-◌, ◌++◌, ◌∷◌, [], ◌⊎◌, get_or, zero, suc, inl, inr, refl, ℕ, List, length, take, drop, set, ap, sym, ◌∙◌, arith, length-append, subst, Bool, true, false, ◌≢◌, Option, None, Some, if◌then◌else◌}
 use Rattle.std.proofs.lemmas.List.{append_assoc, drop-append-le, drop-drop, drop-set-lt, drop-take, drop_all, ext_get_or, get_or_past, get_or-set_other, get_or-set_same, length-drop, length-set, length-take}
 use Rattle.std.specs.Prelude.{codes}
 use Rattle.std.specs.List.{flat_map}
 use Rattle.std.proofs.lemmas.List.FromFn.{get_or-map-range_with_len}
 use Rattle.std.proofs.lemmas.List.Concat.{flat_map-cons}
 use Rattle.std.proofs.Math.Seq.{drop-append-add, drop-append_seam, drop-cons, take-append-add}
+use Rattle.std.proofs.lemmas.Int.{ints}
 use Rattle.fleet_model.specs.declared.geometry.Place.{Place}
+use Rattle.fleet_model.specs.declared.geometry.Dir.TheVariants.{North, East, South, West}
+use Rattle.fleet_model.specs.declared.geometry.Step.{Step}
+use Rattle.fleet_model.specs.declared.geometry.Step.TheVariants.{Go, Dwell}
+use Rattle.fleet_model.specs.declared.program.Action.{Action}
+use Rattle.fleet_model.specs.Geometry.{stepped}
 use Rattle.fleet_model.specs.declared.standing.Standing.{Standing}
 use Rattle.fleet_model.specs.Program.{Program}
-use Rattle.fleet_model.specs.Machine.{Configuration, standing_at, standing_after, is_moving, tick}
+use Rattle.fleet_model.specs.Machine.{Configuration, standing_at, standing_after, next_action, finished_one, is_moving, tick}
 use Rattle.fleet_model.proofs.Tick.{length-tick, standing_at_tick}
 use Rattle.fleet_machine.specs.Machine.{MachineState, flag_of, moving_flags}
 use Rattle.fleet_machine.specs.AgentSet.{AreNoneFrom, IsNextFrom}
 use Rattle.fleet_run.specs.Text.{place_text}
-use Rattle.fleet_run.specs.Line.{places_text, IsLineKept, IsWrittenOver, WritesOver, IsKeptBefore}
+use Rattle.fleet_run.specs.Line.{places_text, IsLineKept, IsWrittenOver, WritesOver, IsBeside, IsTextBeside, IsKeptBefore}
 
 -- what was written before a place leaves what is behind it
 drop_behind : (row row' text : List ℕ) (at m : ℕ) → drop at row' ≡ text ++ drop (at + length text) row
@@ -201,6 +207,11 @@ pub record IsRewritten (m : MachineState) (from : ℕ) (row begins : List ℕ) :
   pub kept : IsLineKept now row begins
   pub agents : length now ≡ length m.configuration
   pub same : (i : ℕ) → (from ≤ i → flag_of m.moving i ≡ false) → standing_at now i ≡ standing_at m.configuration i
+  pub beside : (i : ℕ) → IsBeside (standing_at now i).place (standing_at m.configuration i).place
+
+-- a place is beside itself
+pub beside_itself : (q : Place) → IsBeside q q
+beside_itself q = inl (refl, record { low = omega (arith, ints); high = omega (arith, ints) })
 
 pub rewritten_next : (m : MachineState) (from i : ℕ) (row row' begins : List ℕ) → IsRewritten m from row begins → IsNextFrom m.moving from i → i < length m.configuration
     → IsWrittenOver (standing_at m.configuration i).place (get_or begins i 0) (get_or begins (i + 1) 0) row row' → IsRewritten m (i + 1) row' begins
@@ -215,6 +226,10 @@ rewritten_next m from i row row' begins h next agent over =
         | inl e ↦ rw e (get_or-set_same h.now i s _ within)
         | inr ne ↦ get_or-set_other h.now i j s _ ne ∙ h.same j (λ low. elim (before_or_not j i) [ inl l ↦ next.between j low l | inr l ↦ none (omega arith) ])
       ];
+      beside = λ j. elim (eq_or_not j i) [
+        | inl e ↦ let here : standing_at (set h.now i s) i ≡ s = get_or-set_same h.now i s _ within in rw (e, here) (beside_itself s.place)
+        | inr ne ↦ let there : standing_at (set h.now i s) j ≡ standing_at h.now j = get_or-set_other h.now i j s _ ne in rw there (h.beside j)
+      ];
     }
 
 pub rewritten_all : (m : MachineState) (from : ℕ) (row begins : List ℕ) → IsRewritten m from row begins → AreNoneFrom m.moving from → IsLineKept m.configuration row begins
@@ -225,6 +240,13 @@ rewritten_all m from row begins h none =
 pub really_over : (b : Bool) (q : Place) (at end : ℕ) (row row' : List ℕ) → WritesOver b q at end row row' → b ≡ true → IsWrittenOver q at end row row'
 really_over true q at end row row' h e = h
 really_over false q at end row row' h e = absurd cc
+
+-- the text of an agent's place, beside which it stands now
+pub text_beside : (m : MachineState) (from i : ℕ) (row begins : List ℕ) → IsRewritten m from row begins → i < length m.configuration
+    → IsTextBeside (standing_at m.configuration i).place (get_or begins i 0) (get_or begins (i + 1) 0) row
+text_beside m from i row begins h agent =
+    let next = next_begin h.now row begins i (standing_at [] 0) h.kept (omega (arith, h.agents)) in
+    record { other = (standing_at h.now i).place; beside = h.beside i; fits = sym next.0; written = next.1 }
 
 -- the begins of an agent's place and of the next are in order
 pub in_order : (m : MachineState) (from i : ℕ) (row begins : List ℕ) → IsRewritten m from row begins → i < length m.configuration → get_or begins i 0 ≤ get_or begins (i + 1) 0
@@ -254,6 +276,30 @@ unmoved p held c i agents still = elim (before_or_not i (length p)) [
   | inr past ↦ get_or_past c i _ (omega (arith, agents)) ∙ sym (get_or_past (tick p held c) i _ (omega (arith, length-tick p held c)))
 ]
 
+-- ---- a step leads to a place beside
+
+beside_stepped : (q : Place) (s : Step) → IsBeside q (stepped q s)
+beside_stepped q (Go North) = inl (refl, record { low = omega (arith, ints); high = omega (arith, ints) })
+beside_stepped q (Go South) = inl (refl, record { low = omega (arith, ints); high = omega (arith, ints) })
+beside_stepped q (Go East) = inr (refl, record { low = omega (arith, ints); high = omega (arith, ints) })
+beside_stepped q (Go West) = inr (refl, record { low = omega (arith, ints); high = omega (arith, ints) })
+beside_stepped q Dwell = beside_itself q
+
+beside_finished : (b : Bool) (s : Standing) (a : Option Action) → IsBeside s.place (if b then finished_one s a else s).place
+beside_finished true s None = beside_itself s.place
+beside_finished true s (Some a) = beside_stepped s.place a.step
+beside_finished false s a = beside_itself s.place
+
+beside_tick : (p : Program) (held : ℕ → Bool) (c : Configuration) (i : ℕ) → length c ≡ length p
+    → IsBeside (standing_at c i).place (standing_at (tick p held c) i).place
+beside_tick p held c i agents = elim (before_or_not i (length p)) [
+  | inl agent ↦ rw (standing_at_tick p held c i agent) (beside_finished (is_moving p held c i) (standing_at c i) (next_action p c i))
+  | inr past ↦
+      let before : standing_at c i ≡ standing_at [] i = get_or_past c i _ (omega (arith, agents)) in
+      let after : standing_at (tick p held c) i ≡ standing_at [] i = get_or_past (tick p held c) i _ (omega (arith, length-tick p held c)) in
+      rw (before, after) (beside_itself (standing_at [] i).place)
+]
+
 pub kept_before : (p : Program) (held : ℕ → Bool) (c : Configuration) (m : MachineState) (row begins : List ℕ) → length c ≡ length p → IsLineKept c row begins
     → m.configuration ≡ tick p held c → m.moving ≡ moving_flags p held c → IsKeptBefore m row begins
 kept_before p held c m row begins agents kept after moving = record {
@@ -261,4 +307,5 @@ kept_before p held c m row begins agents kept after moving = record {
   kept = kept;
   agents = agents ∙ sym (length-tick p held c) ∙ ap length (sym after);
   same = λ i still. unmoved p held c i agents (ap (λ flags. flag_of flags i) (sym moving) ∙ still) ∙ ap (λ d. standing_at d i) (sym after);
+  beside = λ i. subst (λ d. IsBeside (standing_at c i).place (standing_at d i).place) (sym after) (beside_tick p held c i agents);
 }

@@ -1,5 +1,5 @@
 -- A line that is kept from tick to tick.
-use Rattle.std.specs.Prelude.{◌≡◌, ◌≤◌, ◌+◌, ◌-◌, ◌++◌, ℕ, Bool, true, false, List, length, take, drop, get_or, codes}
+use Rattle.std.specs.Prelude.{◌≡◌, ◌≤◌, ◌+◌, ◌-◌, ◌++◌, ◌⊎◌, ℤ, pos, ◌+ℤ◌, ◌≤ℤ◌, ℕ, Bool, true, false, List, length, take, drop, get_or, codes}
 use Rattle.std.specs.List.{flat_map}
 use Rattle.fleet_model.specs.declared.geometry.Place.{Place}
 use Rattle.fleet_model.specs.Machine.{Configuration, standing_at}
@@ -33,9 +33,27 @@ abbrev pub WritesOver : Bool → (q : Place) (at end : ℕ) (row row' : List ℕ
 WritesOver true q at end row row' = IsWrittenOver q at end row row'
 WritesOver false q at end row row' = row' ≡ row
 
--- the row has the places from before the machine's last tick: the agents that this did not move stand there still
+-- the numbers differ by one at most
+pub record AreClose (a b : ℤ) : Type 0 where
+  pub low : a ≤ℤ (b +ℤ pos 1)
+  pub high : b ≤ℤ (a +ℤ pos 1)
+
+-- one of the two coordinates is the same, and the other differs by one at most
+abbrev pub IsBeside : Place → Place → Type 0
+IsBeside q r = ((q.x ≡ r.x) × AreClose q.y r.y) ⊎ ((q.y ≡ r.y) × AreClose q.x r.x)
+
+-- the bytes from `at` to `end` are the text of a place beside this one
+pub record IsTextBeside (q : Place) (at end : ℕ) (row : List ℕ) : Type 0 where
+  pub other : Place
+  pub beside : IsBeside other q
+  pub fits : at + length (place_text other) ≡ end
+  pub written : drop at row ≡ place_text other ++ drop end row
+
+-- the row has the places from before the machine's last tick: each agent stands beside its place there, and those that
+-- the tick did not move stand on it
 pub record IsKeptBefore (m : MachineState) (row begins : List ℕ) : Type 0 where
   pub before : Configuration
   pub kept : IsLineKept before row begins
   pub agents : length before ≡ length m.configuration
   pub same : (i : ℕ) → flag_of m.moving i ≡ false → standing_at before i ≡ standing_at m.configuration i
+  pub beside : (i : ℕ) → IsBeside (standing_at before i).place (standing_at m.configuration i).place

@@ -7,6 +7,7 @@ mod hold_list;
 mod hold_text;
 mod hold_writing;
 mod line;
+mod patch;
 mod report;
 mod run;
 mod source;

@@ -2,8 +2,9 @@
 
 ghost use Rattle.std.specs.Prelude.{◌≡◌, ◌+◌, ◌<◌, ◌≤◌, ◌++◌, ◌∷◌, length, drop, get_or};
 ghost use Rattle.std.specs.Fmt.{decimal};
-ghost use Rattle.fleet_run.specs.Line.{IsLineKept, IsKeptBefore, WritesOver};
+ghost use Rattle.fleet_run.specs.Line.{IsLineKept, IsKeptBefore, IsTextBeside, WritesOver};
 
+use crate::patch::patch_place;
 use crate::text::{LINE, PLACE, write_count, write_place};
 use fleet_machine::Machine;
 use fleet_model::{MAX_AGENTS, Place, Standing};
@@ -46,6 +47,23 @@ fn overwrite(i: usize, place: Place, row: &mut [u8], begins: &[usize]) -> bool
     true
 }
 
+/// Writes a place over that of agent `i`, which stood beside it, if both have as many bytes, and answers whether it did.
+fn move_place(i: usize, place: Place, row: &mut [u8], begins: &[usize]) -> bool
+    requires room { length row.old ≡ LINE }
+    requires agent { i + 1 < length begins.now }
+    requires order { get_or begins.now i 0 ≤ get_or begins.now (i + 1) 0 }
+    requires within { get_or begins.now (i + 1) 0 ≤ LINE }
+    requires text { IsTextBeside place (get_or begins.now i 0) (get_or begins.now (i + 1) 0)
+        row.old }
+    ensures { WritesOver result place (get_or begins.now i 0) (get_or begins.now (i + 1) 0)
+        row.old row.new }
+{
+    if patch_place(place, row, begins[i], begins[i + 1]) {
+        return true;
+    }
+    overwrite(i, place, row, begins)
+}
+
 /// Writes the time before the places, and answers where the line begins.
 pub fn write_time(time: u32, row: &mut [u8], begin: usize) -> usize
     requires room { 11 ≤ begin }
@@ -69,7 +87,7 @@ pub fn write_moved(machine: &Machine, row: &mut [u8], begins: &mut [usize])
     let rows = machine.agents();
     let mut from = 0;
     while let Some(i) = machine.next_moved(from) {
-        if !overwrite(usize::from(i), rows[usize::from(i)].place, row, begins) {
+        if !move_place(usize::from(i), rows[usize::from(i)].place, row, begins) {
             write_places(rows, row, begins);
             return;
         }

@@ -5,15 +5,16 @@ ghost use Rattle.std.specs.Prelude.{◌≡◌};
 ghost use Rattle.fleet_text.specs.Sink.{IsWorking};
 ghost use Rattle.std.specs.IoError.{error_kind};
 ghost use Rattle.std.specs.Process.{exit_status};
+ghost use Rattle.fleet_dispatch.specs.Talk.{IsSaid};
 ghost use Rattle.fleet.specs.Program.{AreWordsOf, ReportsNoWords, RunsProgram};
 
 use fleet_cli::{Disk, Fault, Files, run_command};
-use fleet_dispatch::{Floor, StreamFloor};
+use fleet_dispatch::ReportsTo;
 use fleet_io::refuse;
 use fleet_run::{Flush, TraceOut, WriteOut, put_all};
 use std::alloc::Global;
 use std::env::Args;
-use std::io::{BufWriter, ErrorKind, Read};
+use std::io::{BufWriter, ErrorKind};
 use std::process::ExitCode;
 use std::{env, io};
 
@@ -43,7 +44,7 @@ fn report_no_words<E: TraceOut>(error: &io::Error, err: &mut E) -> u8
 }
 
 /// Does what the words of the command line ask, or writes why there are none. Answers the status.
-fn run_args<R: Read + Floor, F: Files, O: Flush, E: TraceOut>(
+fn run_args<R: ReportsTo<O>, F: Files, O: Flush, E: TraceOut>(
     alloc: Global,
     args: io::Result<Args>,
     input: &mut R,
@@ -53,9 +54,9 @@ fn run_args<R: Read + Floor, F: Files, O: Flush, E: TraceOut>(
 ) -> u8
     requires out_working { IsWorking (O.state out.old) }
     requires err_working { IsWorking (E.state err.old) }
-    requires floor_works { R.works input.old }
     ensures { RunsProgram args (R.remaining input.old) (F.contents files.old) (F.contents files.new)
-        (R.talks input.old input.new)
+        (input.new ≡ input.old) (out.new ≡ out.old)
+        (IsSaid R.talks input.old out.old input.new out.new)
         (O.state out.old) (O.state out.new)
         (E.state err.old) (E.state err.new)
         result }
@@ -67,7 +68,7 @@ fn run_args<R: Read + Floor, F: Files, O: Flush, E: TraceOut>(
 }
 
 /// The same, with the status as the process ends with it.
-fn run_program<R: Read + Floor, F: Files, O: Flush, E: TraceOut>(
+fn run_program<R: ReportsTo<O>, F: Files, O: Flush, E: TraceOut>(
     alloc: Global,
     args: io::Result<Args>,
     input: &mut R,
@@ -77,9 +78,9 @@ fn run_program<R: Read + Floor, F: Files, O: Flush, E: TraceOut>(
 ) -> ExitCode
     requires out_working { IsWorking (O.state out.old) }
     requires err_working { IsWorking (E.state err.old) }
-    requires floor_works { R.works input.old }
     ensures { RunsProgram args (R.remaining input.old) (F.contents files.old) (F.contents files.new)
-        (R.talks input.old input.new)
+        (input.new ≡ input.old) (out.new ≡ out.old)
+        (IsSaid R.talks input.old out.old input.new out.new)
         (O.state out.old) (O.state out.new)
         (E.state err.old) (E.state err.new)
         (exit_status result) }
@@ -95,7 +96,7 @@ fn main(rt: HostRuntime) -> ExitCode {
     run_program(
         rt.alloc(),
         env::args(&rt),
-        &mut StreamFloor::new(rt.reader(), WriteOut::new(io::writer(&rt))),
+        &mut rt.reader(),
         &mut Disk::new(&rt),
         &mut WriteOut::new(writer),
         &mut err,

@@ -28,41 +28,41 @@ use Rattle.fleet_dispatch.specs.Talk.{Talk}
 use Rattle.fleet_io.specs.declared.fault.Fault.{Fault}
 use Rattle.fleet_io.specs.declared.fault.Fault.TheVariants as f
 
--- what each command does: all but `compile`, `thin` and `migrate` leave every file as before, and all but `dispatch` say nothing to robots
-abbrev pub DoesRequest : (files after : Option Store) → (Talk → Type 0) → Request → (out out' : SinkState) → ℕ → Type 0
-DoesRequest files after talks (r.Instance request) out out' status = DoesInstance files request out out' status × AreUnchanged files after × talks []
-DoesRequest files after talks (r.Check request) out out' status = DoesCheck files request out out' status × AreUnchanged files after × talks []
-DoesRequest files after talks (r.Plan request) out out' status = DoesPlan files request out out' status × AreUnchanged files after × talks []
-DoesRequest files after talks (r.Compile request) out out' status = DoesCompile files after request out out' status × talks []
-DoesRequest files after talks (r.Verify request) out out' status = DoesVerify files request out out' status × AreUnchanged files after × talks []
-DoesRequest files after talks (r.Run request) out out' status = DoesRun files request out out' status × AreUnchanged files after × talks []
-DoesRequest files after talks (r.Rehearse request) out out' status = DoesRehearse files request out out' status × AreUnchanged files after × talks []
-DoesRequest files after talks (r.Auto request) out out' status = DoesAuto files request out out' status × AreUnchanged files after × talks []
-DoesRequest files after talks (r.Thin request) out out' status = DoesThin files after request out out' status × talks []
-DoesRequest files after talks (r.Migrate request) out out' status = DoesMigrate files after request out out' status × talks []
-DoesRequest files after talks (r.List request) out out' status = DoesList files request out out' status × AreUnchanged files after × talks []
-DoesRequest files after talks (r.Dispatch request) out out' status = DoesDispatch files request talks status × AreUnchanged files after × IsUnwritten out out'
+-- what each command does: all but `compile`, `thin` and `migrate` leave every file as before, and all but `dispatch` leave the input unread; `dispatch` tells robots over the output and hears them by the input
+abbrev pub DoesRequest : (files after : Option Store) → (unread : Type 0) → (Talk → Type 0) → Request → (out out' : SinkState) → ℕ → Type 0
+DoesRequest files after unread talks (r.Instance request) out out' status = DoesInstance files request out out' status × AreUnchanged files after × unread
+DoesRequest files after unread talks (r.Check request) out out' status = DoesCheck files request out out' status × AreUnchanged files after × unread
+DoesRequest files after unread talks (r.Plan request) out out' status = DoesPlan files request out out' status × AreUnchanged files after × unread
+DoesRequest files after unread talks (r.Compile request) out out' status = DoesCompile files after request out out' status × unread
+DoesRequest files after unread talks (r.Verify request) out out' status = DoesVerify files request out out' status × AreUnchanged files after × unread
+DoesRequest files after unread talks (r.Run request) out out' status = DoesRun files request out out' status × AreUnchanged files after × unread
+DoesRequest files after unread talks (r.Rehearse request) out out' status = DoesRehearse files request out out' status × AreUnchanged files after × unread
+DoesRequest files after unread talks (r.Auto request) out out' status = DoesAuto files request out out' status × AreUnchanged files after × unread
+DoesRequest files after unread talks (r.Thin request) out out' status = DoesThin files after request out out' status × unread
+DoesRequest files after unread talks (r.Migrate request) out out' status = DoesMigrate files after request out out' status × unread
+DoesRequest files after unread talks (r.List request) out out' status = DoesList files request out out' status × AreUnchanged files after × unread
+DoesRequest files after unread talks (r.Dispatch request) out out' status = DoesDispatch files request talks status × AreUnchanged files after
 
 -- the refusals of each command
-abbrev pub RefusesRequest : (files after : Option Store) → (Talk → Type 0) → Request → (out out' : SinkState) → Fault → Type 0
-RefusesRequest files after talks (r.Instance request) out out' fault = RefusesInstance files request out out' fault × AreUnchanged files after × talks []
-RefusesRequest files after talks (r.Check request) out out' fault = RefusesCheck files request out out' fault × AreUnchanged files after × talks []
-RefusesRequest files after talks (r.Plan request) out out' fault = RefusesPlan files request out out' fault × AreUnchanged files after × talks []
-RefusesRequest files after talks (r.Compile request) out out' fault = RefusesCompile files after request out out' fault × talks []
-RefusesRequest files after talks (r.Verify request) out out' fault = RefusesVerify files request out out' fault × AreUnchanged files after × talks []
-RefusesRequest files after talks (r.Run request) out out' fault = RefusesRun files request out out' fault × AreUnchanged files after × talks []
-RefusesRequest files after talks (r.Rehearse request) out out' fault = RefusesRehearse files request out out' fault × AreUnchanged files after × talks []
-RefusesRequest files after talks (r.Auto request) out out' fault = RefusesAuto files request out out' fault × AreUnchanged files after × talks []
-RefusesRequest files after talks (r.Thin request) out out' fault = RefusesThin files after request out out' fault × talks []
-RefusesRequest files after talks (r.Migrate request) out out' fault = RefusesMigrate files after request out out' fault × talks []
-RefusesRequest files after talks (r.List request) out out' fault = RefusesList files request out out' fault × AreUnchanged files after × talks []
-RefusesRequest files after talks (r.Dispatch request) out out' fault = RefusesDispatch files request talks fault × AreUnchanged files after × IsUnwritten out out'
+abbrev pub RefusesRequest : (files after : Option Store) → (unread unwritten : Type 0) → (Talk → Type 0) → Request → (out out' : SinkState) → Fault → Type 0
+RefusesRequest files after unread unwritten talks (r.Instance request) out out' fault = RefusesInstance files request out out' fault × AreUnchanged files after × unread
+RefusesRequest files after unread unwritten talks (r.Check request) out out' fault = RefusesCheck files request out out' fault × AreUnchanged files after × unread
+RefusesRequest files after unread unwritten talks (r.Plan request) out out' fault = RefusesPlan files request out out' fault × AreUnchanged files after × unread
+RefusesRequest files after unread unwritten talks (r.Compile request) out out' fault = RefusesCompile files after request out out' fault × unread
+RefusesRequest files after unread unwritten talks (r.Verify request) out out' fault = RefusesVerify files request out out' fault × AreUnchanged files after × unread
+RefusesRequest files after unread unwritten talks (r.Run request) out out' fault = RefusesRun files request out out' fault × AreUnchanged files after × unread
+RefusesRequest files after unread unwritten talks (r.Rehearse request) out out' fault = RefusesRehearse files request out out' fault × AreUnchanged files after × unread
+RefusesRequest files after unread unwritten talks (r.Auto request) out out' fault = RefusesAuto files request out out' fault × AreUnchanged files after × unread
+RefusesRequest files after unread unwritten talks (r.Thin request) out out' fault = RefusesThin files after request out out' fault × unread
+RefusesRequest files after unread unwritten talks (r.Migrate request) out out' fault = RefusesMigrate files after request out out' fault × unread
+RefusesRequest files after unread unwritten talks (r.List request) out out' fault = RefusesList files request out out' fault × AreUnchanged files after × unread
+RefusesRequest files after unread unwritten talks (r.Dispatch request) out out' fault = RefusesDispatch files request (unread × unwritten) talks fault × AreUnchanged files after
 
 -- the request was done, and its status is answered; or a refusal was reported, and the refusal's status is answered: the other output took
 -- that one line, or failed within it
-abbrev pub RunsRequest : (files after : Option Store) → (Talk → Type 0) → Request → (out out' err err' : SinkState) → ℕ → Type 0
-RunsRequest files after talks request out out' err err' status =
-    Outcome (DoesRequest files after talks request out out') (RefusesRequest files after talks request out out') err err' status
+abbrev pub RunsRequest : (files after : Option Store) → (unread unwritten : Type 0) → (Talk → Type 0) → Request → (out out' err err' : SinkState) → ℕ → Type 0
+RunsRequest files after unread unwritten talks request out out' err err' status =
+    Outcome (DoesRequest files after unread talks request out out') (RefusesRequest files after unread unwritten talks request out out') err err' status
 
 -- it was reported why the words are no request: by help on the output, by usage on the other
 abbrev pub StopsAtWords : WordStop → (out out' err err' : SinkState) → ℕ → Type 0
@@ -75,10 +75,10 @@ StopsAtWords (w.Help text) out out' err err' status =
 
 -- without words the run of the input; else the command that the words ask for, or a stop at words that the command line does not take.
 -- Every file is as before, but for the file OUT of `compile`, `thin` and `migrate`. The input is read whole without words, and else
--- robots alone report by it
-abbrev pub RunsCommand : List Text → Option (List ℕ) → (files after : Option Store) → (Talk → Type 0) → (out out' err err' : SinkState) → ℕ → Type 0
-RunsCommand [] input files after talks out out' err err' status = RunsHex input out out' err err' status × AreUnchanged files after
-RunsCommand (word ∷ words) input files after talks out out' err err' status =
+-- by `dispatch` alone, whose robots report by it
+abbrev pub RunsCommand : List Text → Option (List ℕ) → (files after : Option Store) → (unread unwritten : Type 0) → (Talk → Type 0) → (out out' err err' : SinkState) → ℕ → Type 0
+RunsCommand [] input files after unread unwritten talks out out' err err' status = RunsHex input out out' err err' status × AreUnchanged files after
+RunsCommand (word ∷ words) input files after unread unwritten talks out out' err err' status =
     (names : DepsNames) × AreDeps names
-    × (((request : Request) × Asks (fleet names) (word ∷ words) request × RunsRequest files after talks request out out' err err' status)
-    ⊎ ((stop : WordStop) × StopsFor (fleet names) (word ∷ words) stop × StopsAtWords stop out out' err err' status × AreUnchanged files after × talks []))
+    × (((request : Request) × Asks (fleet names) (word ∷ words) request × RunsRequest files after unread unwritten talks request out out' err err' status)
+    ⊎ ((stop : WordStop) × StopsFor (fleet names) (word ∷ words) stop × StopsAtWords stop out out' err err' status × AreUnchanged files after × unread))

@@ -1,7 +1,8 @@
 //! The program's words, and what it does for them.
 
-ghost use Rattle.std.specs.Prelude.{MatchResult, map, string_bytes};
+ghost use Rattle.std.specs.Prelude.{◌≡◌, MatchResult, map, string_bytes};
 ghost use Rattle.fleet_text.specs.Sink.{IsWorking};
+ghost use Rattle.fleet_dispatch.specs.Talk.{IsSaid};
 ghost use Rattle.fleet_cli.specs.Command.{DoesRequest, RefusesRequest, RunsRequest, StopsAtWords, RunsCommand};
 
 use fleet_args::{Request, WordStop, read_words};
@@ -9,27 +10,27 @@ use fleet_commands::{
     do_auto, do_check, do_compile, do_dispatch, do_instance, do_list, do_migrate, do_plan,
     do_rehearse, do_run, do_thin, do_verify, run_hex,
 };
-use fleet_dispatch::Floor;
+use fleet_dispatch::ReportsTo;
 use fleet_io::{Fault, Files, deliver, finish, refuse};
 use fleet_run::{Flush, OutFault, TraceOut, put_all};
 use std::alloc::Global;
-use std::io::Read;
 
-/// Does what the request asks: its output goes to `out`, and what it says to robots to the floor. Answers the status,
-/// or the refusal that is to be written.
-fn do_request<'a, F: Files, O: Flush, D: Floor>(
+/// Does what the request asks: its output goes to `out`, and of the commands `dispatch` alone reads `input`. Answers the
+/// status, or the refusal that is to be written.
+fn do_request<'a, R: ReportsTo<O>, F: Files, O: Flush>(
     alloc: Global,
     request: &Request<'a>,
+    input: &mut R,
     files: &mut F,
     out: &mut O,
-    floor: &mut D,
 ) -> Result<u8, Fault<'a>>
-    requires out_working { IsWorking (O.state out.old) }
-    requires floor_works { D.works floor.old }
+    requires { IsWorking (O.state out.old) }
     ensures { MatchResult result
-        (DoesRequest (F.contents files.old) (F.contents files.new) (D.talks floor.old floor.new)
+        (DoesRequest (F.contents files.old) (F.contents files.new) (input.new ≡ input.old)
+        (IsSaid R.talks input.old out.old input.new out.new)
         request.now (O.state out.old) (O.state out.new))
-        (RefusesRequest (F.contents files.old) (F.contents files.new) (D.talks floor.old floor.new)
+        (RefusesRequest (F.contents files.old) (F.contents files.new) (input.new ≡ input.old)
+        (out.new ≡ out.old) (IsSaid R.talks input.old out.old input.new out.new)
         request.now (O.state out.old) (O.state out.new)) }
 {
     match request {
@@ -44,28 +45,28 @@ fn do_request<'a, F: Files, O: Flush, D: Floor>(
         Request::Thin(request) => do_thin(alloc, request, files, out),
         Request::Migrate(request) => do_migrate(alloc, request, files, out),
         Request::List(request) => do_list(alloc, request, files, out),
-        Request::Dispatch(request) => do_dispatch(alloc, request, files, floor),
+        Request::Dispatch(request) => do_dispatch(alloc, request, files, input, out),
     }
 }
 
-/// Does what the request asks: its output goes to `out`, a refusal's line to `err`, and what it says to robots to the
-/// floor. Answers the status.
-pub fn run_request<F: Files, O: Flush, E: TraceOut, D: Floor>(
+/// Does what the request asks: its output goes to `out`, a refusal's line to `err`, and of the commands `dispatch` alone
+/// reads `input`, by which robots report. Answers the status.
+pub fn run_request<R: ReportsTo<O>, F: Files, O: Flush, E: TraceOut>(
     alloc: Global,
     request: &Request<'_>,
+    input: &mut R,
     files: &mut F,
     out: &mut O,
     err: &mut E,
-    floor: &mut D,
 ) -> u8
     requires out_working { IsWorking (O.state out.old) }
     requires err_working { IsWorking (E.state err.old) }
-    requires floor_works { D.works floor.old }
     ensures { RunsRequest (F.contents files.old) (F.contents files.new)
-        (D.talks floor.old floor.new) request.now
+        (input.new ≡ input.old) (out.new ≡ out.old)
+        (IsSaid R.talks input.old out.old input.new out.new) request.now
         (O.state out.old) (O.state out.new) (E.state err.old) (E.state err.new) result }
 {
-    finish(do_request(alloc, request, files, out, floor), err)
+    finish(do_request(alloc, request, input, files, out), err)
 }
 
 /// Reports why the words are no request: help on `out` with status 0, usage on `err` with status 2, want of memory with
@@ -92,9 +93,9 @@ fn stop_at<O: Flush, E: TraceOut>(stop: &WordStop, out: &mut O, err: &mut E) -> 
 }
 
 /// What the program does for the words after its name: without words it rehearses the program that `input` gives in
-/// hexadecimal, and else it does what the words ask for. Of the commands `dispatch` alone hears `input`, as a floor.
-/// Answers the status: 2 only if the words ask for no command.
-pub fn run_command<R: Read + Floor, F: Files, O: Flush, E: TraceOut>(
+/// hexadecimal, and else it does what the words ask for. Of the commands `dispatch` alone reads `input`, by which robots
+/// report; every reader will do. Answers the status: 2 only if the words ask for no command.
+pub fn run_command<R: ReportsTo<O>, F: Files, O: Flush, E: TraceOut>(
     alloc: Global,
     words: &[String],
     input: &mut R,
@@ -104,10 +105,10 @@ pub fn run_command<R: Read + Floor, F: Files, O: Flush, E: TraceOut>(
 ) -> u8
     requires out_working { IsWorking (O.state out.old) }
     requires err_working { IsWorking (E.state err.old) }
-    requires floor_works { R.works input.old }
     ensures { RunsCommand (map string_bytes words.now) (R.remaining input.old)
         (F.contents files.old) (F.contents files.new)
-        (R.talks input.old input.new)
+        (input.new ≡ input.old) (out.new ≡ out.old)
+        (IsSaid R.talks input.old out.old input.new out.new)
         (O.state out.old) (O.state out.new)
         (E.state err.old) (E.state err.new)
         result }
@@ -116,7 +117,7 @@ pub fn run_command<R: Read + Floor, F: Files, O: Flush, E: TraceOut>(
         return run_hex(alloc, input, out, err);
     }
     match read_words(alloc, words) {
-        Ok(request) => run_request(alloc, &request, files, out, err, input),
+        Ok(request) => run_request(alloc, &request, input, files, out, err),
         Err(stop) => stop_at(&stop, out, err),
     }
 }

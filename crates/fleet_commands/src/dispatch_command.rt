@@ -1,51 +1,69 @@
 //! The command `dispatch`.
 
 ghost use Rattle.std.specs.Prelude.{◌≡◌, MatchResult};
+ghost use Rattle.fleet_text.specs.Sink.{IsWorking};
+ghost use Rattle.fleet_dispatch.specs.Talk.{IsSaid};
 ghost use Rattle.fleet_files.specs.Files.{AreUnchanged};
 ghost use Rattle.fleet_commands.specs.DispatchCommand.{DispatchesTexts, IsDispatchRefusal, DoesDispatch, RefusesDispatch};
 
 use crate::problem::{accept, read_problem};
 use fleet_args::DispatchRequest;
-use fleet_dispatch::{Floor, dispatch_accepted};
+use fleet_dispatch::{ReportsTo, dispatch_over};
 use fleet_io::{Fault, Files, read_three};
+use fleet_run::Flush;
 use std::alloc::Global;
 
-/// Verifies the program that the bytes spell for the map and the instance of the texts, and dispatches its agents.
-fn dispatch_bytes<'a, D: Floor>(
-    alloc: Global,
-    map: &[u8],
-    scen: &[u8],
+/// What a dispatch is of: the texts of the map and of the scenario, of which the first `asked` agents are taken (all if
+/// it is `None`), and the bytes of the program.
+#[derive(Clone, Copy)]
+struct DispatchTask<'a> {
+    map: &'a [u8],
+    scen: &'a [u8],
     asked: Option<u16>,
-    bytes: &[u8],
-    floor: &mut D,
+    program: &'a [u8],
+}
+
+/// Verifies the program that the bytes spell for the map and the instance of the texts, and dispatches its agents.
+fn dispatch_bytes<'a, R: ReportsTo<O>, O: Flush>(
+    alloc: Global,
+    task: &DispatchTask<'_>,
+    input: &mut R,
+    out: &mut O,
 ) -> Result<u8, Fault<'a>>
-    requires { D.works floor.old }
+    requires { IsWorking (O.state out.old) }
     ensures { MatchResult result
-        (λ status. DispatchesTexts map.now scen.now asked bytes.now (D.talks floor.old floor.new)
-        × (status ≡ 0))
-        (IsDispatchRefusal map.now scen.now asked bytes.now (D.talks floor.old floor.new)) }
+        (λ status. DispatchesTexts task.now.map.now task.now.scen.now task.now.asked
+        task.now.program.now (IsSaid R.talks input.old out.old input.new out.new) × (status ≡ 0))
+        (IsDispatchRefusal task.now.map.now task.now.scen.now task.now.asked task.now.program.now
+        ((input.new ≡ input.old) × (out.new ≡ out.old))
+        (IsSaid R.talks input.old out.old input.new out.new)) }
 {
-    let problem = read_problem(alloc, map, scen, asked)?;
-    let accepted = accept(alloc, bytes, &problem.grid, &problem.instance)?;
-    match dispatch_accepted(alloc, accepted, floor) {
+    let problem = read_problem(alloc, task.map, task.scen, task.asked)?;
+    let accepted = accept(alloc, task.program, &problem.grid, &problem.instance)?;
+    match dispatch_over(alloc, accepted, input, out) {
         Ok(_) => Ok(0),
         Err(fault) => Err(Fault::Dispatch(fault)),
     }
 }
 
-/// The command `dispatch`: reads the files whole, verifies the program, and dispatches its agents over the floor: each
-/// is told its order as soon as it has one, before the next report is waited for. Answers 0. No file is changed.
+/// The command `dispatch`: reads the files whole, verifies the program, and dispatches its agents, which report in the
+/// lines of `input`: each is told its order over `out` as soon as it has one, before the next report is waited for.
+/// Answers 0. No file is changed.
 #[inline(never)]
-pub fn do_dispatch<'a, F: Files, D: Floor>(
+pub fn do_dispatch<'a, F: Files, R: ReportsTo<O>, O: Flush>(
     alloc: Global,
     request: &DispatchRequest<'a>,
     files: &mut F,
-    floor: &mut D,
+    input: &mut R,
+    out: &mut O,
 ) -> Result<u8, Fault<'a>>
-    requires { D.works floor.old }
+    requires { IsWorking (O.state out.old) }
     ensures did { MatchResult result
-        (DoesDispatch (F.contents files.old) request.now (D.talks floor.old floor.new))
-        (RefusesDispatch (F.contents files.old) request.now (D.talks floor.old floor.new)) }
+        (DoesDispatch (F.contents files.old) request.now
+        (IsSaid R.talks input.old out.old input.new out.new))
+        (RefusesDispatch (F.contents files.old) request.now
+        ((input.new ≡ input.old) × (out.new ≡ out.old))
+        (IsSaid R.talks input.old out.old input.new out.new)) }
     ensures kept { AreUnchanged (F.contents files.old) (F.contents files.new) }
 {
     let (map, scen, program) = read_three(
@@ -55,5 +73,11 @@ pub fn do_dispatch<'a, F: Files, D: Floor>(
         request.scen,
         request.program,
     )?;
-    dispatch_bytes(alloc, &map, &scen, request.agents, &program, floor)
+    let task = DispatchTask {
+        map: &map,
+        scen: &scen,
+        asked: request.agents,
+        program: &program,
+    };
+    dispatch_bytes(alloc, &task, input, out)
 }

@@ -15,7 +15,7 @@ use Rattle.fleet_run.specs.HoldText.{tick_of}
 use Rattle.fleet_dispatch.specs.declared.window.TheConstants.{LINE_ROOM}
 use Rattle.std.specs.Result.{IsErrAnd}
 use Rattle.fleet_dispatch.specs.Stream.{GivesLine, IsMisheard}
-use Rattle.fleet_dispatch.specs.StreamFloor.{EndsLine, SetsReport, HearsLine}
+use Rattle.fleet_dispatch.specs.Hearing.{EndsLine, SetsReport, HearsLine}
 use Rattle.fleet_dispatch.specs.declared.floor.HearFault.{HearFault}
 use Rattle.fleet_dispatch.specs.declared.floor.HearFault.TheVariants as h
 

@@ -4,6 +4,6 @@ pub mod Dispatch
 pub mod Led
 pub mod Window
 pub mod Stream
-pub mod StreamFloor
+pub mod Hearing
 pub mod StreamTalk
 pub mod RefusalWords

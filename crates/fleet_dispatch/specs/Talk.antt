@@ -29,3 +29,7 @@ Hears talks works (Ok true) flags = (report : List ℕ) × AreFlagsOf report fla
 Hears talks works (Ok false) flags = talks (NoMore ∷ [])
 Hears talks works (Err Form) flags = talks (Misheard (length flags) ∷ [])
 Hears talks works (Err Broken) flags = talks (Unheard ∷ [])
+
+-- from the first input and output to the second ones this was told and heard: nothing was read ahead of the input at first, and some bytes at last
+abbrev pub IsSaid : {R O : Type 0} → (talks : R → List ℕ → O → R → List ℕ → O → Talk → Type 0) → (input : R) (out : O) (input' : R) (out' : O) → Talk → Type 0
+IsSaid talks input out input' out' talk = (ahead : List ℕ) × talks input [] out input' ahead out' talk

@@ -23,6 +23,9 @@ pub trait Floor {
     /// Whether it can be told more and heard further.
     ghost works: { Self → Type 0 };
 
+    /// Whether the second is the first, further on: what it borrows is the same.
+    ghost stays: { Self → Self → Type 0 };
+
     /// Hands on all of the bytes before it answers. If it fails, a front of them was taken, and nothing more can be
     /// said.
     fn tell(&mut self, bytes: &[u8]) -> Result<(), OutFault>
@@ -36,6 +39,9 @@ pub trait Floor {
 
     /// From a floor to itself nothing was said or heard.
     ghost silent: { (f : Self) → talks f f [] };
+
+    /// A floor stays the same in all that is said and heard.
+    ghost kept: { (f g : Self) (talk : Talk) → talks f g talk → stays f g };
 
     /// What was said and heard in two stretches, one after the other, was said and heard in both.
     ghost joined: { (f g h : Self) (before after : Talk)

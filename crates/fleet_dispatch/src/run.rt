@@ -186,6 +186,28 @@ fn run_reports<P: ProgramView, F: Floor>(
     }
 }
 
+/// Dispatches a fleet from its start until all stand on their goals. Orders are written into the row.
+fn dispatch_in<P: ProgramView, F: Floor>(
+    fleet: &mut Fleet<'_, P>,
+    row: &mut [u8],
+    floor: &mut F,
+) -> Result<DispatchReport, DispatchFault>
+    requires room { length row.old ≡ ORDERS }
+    requires opening { fleet.old.configuration ≡ opening (P.program fleet.old.accepted.program) }
+    requires floor { F.works floor.old }
+    ensures accepted { fleet.new.accepted ≡ fleet.old.accepted }
+    ensures outcome { Dispatches (P.program fleet.old.accepted.program)
+        (F.talks floor.old floor.new) fleet.new.configuration result }
+    ensures arrived { IfOk result (λ _. AreOnGoals
+        (P.program fleet.old.accepted.program) fleet.new.configuration) }
+{
+    fleet.acceptance();
+    let agents = fleet.agents();
+    let mut sent = AgentSet::new(agents);
+    let mut done = [false; MAX_AGENTS];
+    run_reports(fleet, &mut sent, &mut done[..agents as usize], row, floor)
+}
+
 /// Dispatches a fleet from its start until all stand on their goals. Each agent is told its order as soon as it has one
 /// and before the next report is waited for; a report names those that have carried out their orders. Takes no memory.
 ///
@@ -238,20 +260,13 @@ pub fn dispatch<P: ProgramView, F: Floor>(
     orders_are_given_once();
     dispatches_lead_safely();
     fleet.acceptance();
-    let agents = fleet.agents();
-    let mut sent = AgentSet::new(agents);
-    let mut done = [false; MAX_AGENTS];
     let mut row = [0; ORDERS];
-    run_reports(
-        fleet,
-        &mut sent,
-        &mut done[..agents as usize],
-        &mut row,
-        floor,
-    )
+    dispatch_in(fleet, &mut row, floor)
 }
 
 /// Dispatches the agents of an accepted program from their starts until all stand on their goals.
+///
+/// The orders are written into a row that is taken from memory, and not from the stack.
 ///
 /// Errors: `OutOfMemory` before anything is said; and else those of `dispatch`.
 pub fn dispatch_accepted<P: ProgramView + Drop, F: Floor>(
@@ -260,11 +275,15 @@ pub fn dispatch_accepted<P: ProgramView + Drop, F: Floor>(
     floor: &mut F,
 ) -> Result<DispatchReport, DispatchFault>
     requires { F.works floor.old }
-    ensures { DispatchesFrom (P.program accepted.entry.program)
+    ensures outcome { DispatchesFrom (P.program accepted.entry.program)
         (F.talks floor.old floor.new) result }
+    ensures stays { F.stays floor.old floor.new }
 {
     let Ok(mut fleet) = Fleet::start(alloc, accepted) else {
         return Err(DispatchFault::OutOfMemory);
     };
-    dispatch(&mut fleet, floor)
+    let Ok(mut row) = vec![in alloc; 0; ORDERS] else {
+        return Err(DispatchFault::OutOfMemory);
+    };
+    dispatch_in(&mut fleet, &mut row, floor)
 }

@@ -1,35 +1,38 @@
 //! A floor whose robots report in the lines of an input, and are told their orders over an output.
 
-ghost use Rattle.std.specs.Prelude.{◌≡◌, ℕ, ◌≤◌, List, [], length, drop, position, Option, None, IfSome, MatchOption};
-ghost use Rattle.std.specs.Str.Lines.{strip_carriage_return};
-ghost use Rattle.std.specs.Io.KnownBytes.{prepend_known, IsAtEnd};
-ghost use Rattle.fleet_text.specs.Text.{is_lf, lines};
-ghost use Rattle.fleet_text.specs.Sink.{IsWorking, Delivers};
+ghost use Rattle.std.specs.Prelude.{◌≡◌, []};
+ghost use Rattle.fleet_text.specs.Sink.{IsWorking};
+ghost use Rattle.fleet_dispatch.specs.Dispatch.{DispatchesFrom};
+ghost use Rattle.fleet_dispatch.specs.Talk.{IsSaid};
 ghost use Rattle.fleet_dispatch.specs.Window.{window_rest};
-ghost use Rattle.fleet_dispatch.specs.Stream.{GivesLine};
-ghost use Rattle.fleet_dispatch.specs.StreamFloor.{FindsLine, SetsReport, HearsLine};
 
 use crate::floor::{Floor, HearFault};
-use crate::window::{LINE_ROOM, Window};
-use fleet_run::{Flush, OutFault, a_tick_line_is_read, clear, put_all, set_tick};
-use std::io;
-use std::io::Read;
+use crate::reports_to::ReportsTo;
+use crate::run::{DispatchFault, DispatchReport, dispatch_accepted};
+use crate::window::Window;
+use fleet_model::ProgramView;
+use fleet_run::{Flush, OutFault};
+use fleet_verify::Accepted;
+use std::alloc::Global;
 
-/// A floor over an input and an output. A report is a line of the input, read as it comes: `-` for nobody, or the
-/// numbers of the agents that have carried out their orders, in strictly rising order with one space between two. What
-/// is told is handed on before a line is waited for. Takes no memory.
+/// A floor over an input and an output, which it borrows. A report is a line of the input, read as it comes: `-` for
+/// nobody, or the numbers of the agents that have carried out their orders, in strictly rising order with one space
+/// between two. What is told is handed on before a line is waited for. Takes no memory.
 #[derive(Drop)]
-pub struct StreamFloor<R: Read, O: Flush> {
-    input: R,
+pub struct StreamFloor<'a, R: ReportsTo<O>, O: Flush> {
+    input: &'a mut R,
     window: Window,
-    pub orders: O,
+    orders: &'a mut O,
 }
 
-impl<R: Read, O: Flush> StreamFloor<R, O> {
+impl<'a, R: ReportsTo<O>, O: Flush> StreamFloor<'a, R, O> {
     /// A floor that hears the lines of `input`, and tells over `orders`.
-    pub fn new(input: R, orders: O) -> StreamFloor<R, O>
-        requires { IsWorking (O.state orders) }
-        ensures { ⟦<StreamFloor<R, O> as Floor>⟧.works result }
+    pub fn new(input: &'a mut R, orders: &'a mut O) -> StreamFloor<'a, R, O>
+        ensures input { result.input.ghost_name ≡ input.entry.ghost_name }
+        ensures orders { result.orders.ghost_name ≡ orders.entry.ghost_name }
+        ensures heard { result.input.now ≡ input.old }
+        ensures ahead { window_rest result.window ≡ [] }
+        ensures told { result.orders.now ≡ orders.old }
     {
         StreamFloor {
             input,
@@ -39,143 +42,52 @@ impl<R: Read, O: Flush> StreamFloor<R, O> {
     }
 }
 
-/// Where the first line of the bytes ends, if it ends within them.
-fn end_in(bytes: &[u8]) -> Option<usize>
-    ensures { result ≡ position is_lf bytes.now }
-{
-    bytes.iter().position(|b| *b == b'\n')
-}
-
-/// The line without one CR at its end.
-fn without_cr(line: &[u8]) -> &[u8]
-    ensures { result.now ≡ strip_carriage_return line.now }
-{
-    match line {
-        [front @ .., b'\r'] => front,
-        _ => line,
-    }
-}
-
-/// Reads until a line ends in the window, and answers where; nowhere at the end of the input. A line that the window
-/// cannot hold is no report.
-fn find_line<R: Read>(input: &mut R, window: &mut Window) -> Result<Option<usize>, HearFault>
-    ensures { FindsLine (R.remaining input.old) (R.remaining input.new) (window_rest window.old)
-        (window_rest window.new) result }
-{
-    'reads: loop {
-        if let Some(end) = end_in(window.rest()) {
-            return Ok(Some(end));
-        }
-        if window.rest().len() >= LINE_ROOM {
-            return Err(HearFault::Form);
-        }
-        window.move_to_front();
-        match window.read_from(input) {
-            Ok(0) => return Ok(None),
-            Ok(_) => {}
-            Err(_) => return Err(HearFault::Broken),
-        }
-    }
-}
-
-/// The next line of the bytes that were read, which ends where it was found or with them all, and how many bytes are
-/// passed with it.
-fn line_in(read: &[u8], found: Option<usize>) -> Option<(&[u8], usize)>
-    requires { position is_lf read.now ≡ found }
-    ensures { (left : Option (List ℕ)) → (found ≡ None → IsAtEnd left) → MatchOption result
-        (IfSome (prepend_known read.now left) (λ text. lines text ≡ []))
-        (λ x. (x.1 ≤ length read.now) × GivesLine (prepend_known read.now left)
-        (prepend_known (drop x.1 read.now) left) x.0.now) }
-{
-    match found {
-        Some(end) => Some((without_cr(&read[..end]), end + 1)),
-        None if read.is_empty() => None,
-        None => Some((without_cr(read), read.len())),
-    }
-}
-
-/// Sets the flags as the line reports.
-fn set_report(line: &[u8], done: &mut [bool]) -> Result<(), HearFault>
-    ensures { SetsReport line.now result done.new }
-{
-    a_tick_line_is_read();
-    let Ok(agents) = u16::try_from(done.len()) else {
-        return Err(HearFault::Broken);
-    };
-    clear(done);
-    if set_tick(line, agents, done) {
-        Ok(())
-    } else {
-        Err(HearFault::Form)
-    }
-}
-
-/// Hears the next line of the input.
-fn hear_line<R: Read>(
-    input: &mut R,
-    window: &mut Window,
-    done: &mut [bool],
-) -> Result<bool, HearFault>
-    ensures { HearsLine (prepend_known (window_rest window.old) (R.remaining input.old))
-        (prepend_known (window_rest window.new) (R.remaining input.new)) result done.new }
-{
-    let found = find_line(input, window)?;
-    let Some((line, past)) = line_in(window.rest(), found) else {
-        return Ok(false);
-    };
-    set_report(line, done)?;
-    window.pass(past);
-    Ok(true)
-}
-
-/// Puts all of the bytes and has the sink hand them on, or stops at its failure.
-fn deliver<O: Flush>(out: &mut O, bytes: &[u8]) -> Result<(), OutFault>
-    requires { IsWorking (O.state out.old) }
-    ensures { Delivers (O.state out.old) (O.state out.new) result bytes.now }
-{
-    put_all(out, bytes)?;
-    out.flush()
-}
-
-impl<R: Read, O: Flush> Floor for StreamFloor<R, O> {
-    ghost use Rattle.std.specs.Io.KnownBytes.{prepend_known};
+impl<R: ReportsTo<O>, O: Flush> Floor for StreamFloor<'_, R, O> {
+    ghost use Rattle.std.specs.Prelude.{◌≡◌};
+    ghost use Rattle.std.proofs.Common.{refl, ◌∙◌};
     ghost use Rattle.fleet_text.specs.Sink.{IsWorking};
     ghost use Rattle.fleet_dispatch.specs.Window.{window_rest};
-    ghost use Rattle.fleet_dispatch.specs.Stream.{TakesTurns};
-    ghost use Rattle.fleet_dispatch.specs.StreamTalk.{takes_nothing, takes_turns_more};
 
-    ghost talks = { λ f g talk. TakesTurns
-        (record {
-          out = O.state f.orders;
-          left = prepend_known (window_rest f.window)
-              (R.remaining f.input);
-        })
-        (record {
-          out = O.state g.orders;
-          left = prepend_known (window_rest g.window)
-              (R.remaining g.input);
-        }) talk };
+    ghost talks = { λ f g talk. R.talks f.input.now (window_rest f.window) f.orders.now
+        g.input.now (window_rest g.window) g.orders.now talk
+        × (g.input.ghost_name ≡ f.input.ghost_name) × (g.orders.ghost_name ≡ f.orders.ghost_name) };
 
-    ghost works = { λ f. IsWorking (O.state f.orders) };
+    ghost works = { λ f. IsWorking (O.state f.orders.now) };
+
+    ghost stays = { λ f g. (g.input.ghost_name ≡ f.input.ghost_name)
+        × (g.orders.ghost_name ≡ f.orders.ghost_name) };
 
     fn tell(&mut self, bytes: &[u8]) -> Result<(), OutFault> {
-        deliver(&mut self.orders, bytes)
+        self.input.tell(&self.window, self.orders, bytes)
     }
 
     fn hear(&mut self, done: &mut [bool]) -> Result<bool, HearFault> {
-        hear_line(&mut self.input, &mut self.window, done)
+        self.input.hear(&mut self.window, self.orders, done)
     }
 
-    ghost silent = { λ f. takes_nothing _ };
+    ghost silent = { λ f. (R.silent _ _ _, refl, refl) };
 
-    ghost joined = { λ f g h before after. takes_turns_more _ _ _ before after };
+    ghost kept = { λ f g talk said. (said.1, said.2) };
+
+    ghost joined = { λ f g h before after first then.
+        (R.joined _ _ _ _ _ _ _ _ _ before after first.0 then.0, then.1 ∙ first.1, then.2 ∙ first.2) };
 }
 
-/// Reads the input on, behind the bytes that were read for lines.
-impl<R: Read, O: Flush> Read for StreamFloor<R, O> {
-    ghost remaining = { λ f. R.remaining f.input };
-
-    fn read(&mut self, buf: &mut [u8]) -> io::Result<usize> {
-        self.input.read(buf)
-    }
+/// Dispatches the agents of an accepted program over the floor of an input and an output: they report in the lines of
+/// the input, and are told their orders over the output. Of the input more may have been read than the lines that were
+/// heard.
+///
+/// Errors: those of `dispatch_accepted`.
+pub fn dispatch_over<P: ProgramView + Drop, R: ReportsTo<O>, O: Flush>(
+    alloc: Global,
+    accepted: Accepted<'_, P>,
+    input: &mut R,
+    orders: &mut O,
+) -> Result<DispatchReport, DispatchFault>
+    requires { IsWorking (O.state orders.old) }
+    ensures { DispatchesFrom (P.program accepted.entry.program)
+        (IsSaid R.talks input.old orders.old input.new orders.new) result }
+{
+    let mut floor = StreamFloor::new(input, orders);
+    dispatch_accepted(alloc, accepted, &mut floor)
 }

@@ -8,7 +8,7 @@ ghost use Rattle.fleet_text.specs.Sink.{IsWorking};
 use crate::fleets::{PAIR_HEX, PAIR_MAP, PAIR_SCEN, PAIR_TEXT, PAIR_TRACE};
 use crate::streams::{FailingSource, ShortReader, ShortWriter};
 use fleet_code::{load, read_hex};
-use fleet_dispatch::{DispatchFault, DispatchReport, StreamFloor, dispatch_accepted};
+use fleet_dispatch::{DispatchFault, DispatchReport, dispatch_over};
 use fleet_files::{FileFault, read_whole};
 use fleet_grid::{Grid, read_map};
 use fleet_model::{Place, Program, ProgramView};
@@ -183,15 +183,15 @@ fn flushes_reach_the_writer(rt: HostRuntime) -> Result<(), Fail> {
 /// Why a dispatch of the pair over these ends stopped, if it did.
 fn dispatch_answer(
     alloc: Global,
-    input: ShortReader<'_>,
+    mut input: ShortReader<'_>,
     output: &mut ShortWriter,
 ) -> Result<Option<DispatchFault>, Fail> {
     let (grid, instance, program) = pair(alloc)?;
     let Ok(accepted) = verify(alloc, program, &grid, &instance) else {
         return Err(Fail::from("not accepted"));
     };
-    let mut floor = StreamFloor::new(input, WriteOut::new(output));
-    Ok(dispatch_accepted(alloc, accepted, &mut floor).err())
+    let mut out = WriteOut::new(output);
+    Ok(dispatch_over(alloc, accepted, &mut input, &mut out).err())
 }
 
 /// Reports of the pair's robots, and the orders that they are given, which are handed on four times.

@@ -2,7 +2,7 @@ use Rattle.std.proofs.Common.{List, ℕ, drop, subst}
 use Rattle.std.specs.Io.KnownBytes.{prepend_known}
 use Rattle.fleet_dispatch.specs.Stream.{GivesLine}
 use Rattle.fleet_dispatch.proofs.StreamLemmas.{unfound, unset}
-use Rattle.fleet_dispatch.proofs.stream_floor.hear_line.Goals as goal
+use Rattle.fleet_dispatch.proofs.hearing.hear_line.Goals as goal
 
 pub returns-in_err-found : goal.returns-in_err-found
 returns-in_err-found g c =

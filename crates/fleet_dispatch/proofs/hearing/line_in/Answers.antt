@@ -4,7 +4,7 @@ use Rattle.std.proofs.lemmas.List.Quantifiers.{position-Some}
 use Rattle.fleet_text.specs.Text.{is_lf}
 use Rattle.fleet_dispatch.specs.Stream.{GivesLine}
 use Rattle.fleet_dispatch.proofs.StreamLemmas.{gives_ended, gives_last, gives_none}
-use Rattle.fleet_dispatch.proofs.stream_floor.line_in.Goals as goal
+use Rattle.fleet_dispatch.proofs.hearing.line_in.Goals as goal
 
 pub returns-in-Some : goal.returns-in-Some
 returns-in-Some c =

@@ -2,7 +2,7 @@ use Rattle.std.proofs.Common.{◌-◌, length}
 use Rattle.std.specs.Io.KnownBytes.{prepend_known, Keeps}
 use Rattle.fleet_dispatch.specs.Window.{window_rest}
 use Rattle.fleet_dispatch.specs.declared.window.TheConstants.{LINE_ROOM}
-use Rattle.fleet_dispatch.proofs.stream_floor.find_line.Given as goal
+use Rattle.fleet_dispatch.proofs.hearing.find_line.Given as goal
 
 abbrev pub invariant-reads : goal.invariant-reads
 invariant-reads g l = Keeps (prepend_known (window_rest l.initial.window) (g.R.Read.remaining l.initial.input)) (prepend_known (window_rest l.window) (g.R.Read.remaining l.input))

@@ -1,5 +1,5 @@
 use Rattle.std.proofs.Common.{arith}
-use Rattle.fleet_dispatch.proofs.stream_floor.set_report.Goals as goal
+use Rattle.fleet_dispatch.proofs.hearing.set_report.Goals as goal
 
 pub returns-then-set_tick : goal.returns-then-set_tick
 returns-then-set_tick c =

@@ -14,7 +14,8 @@ cp out due.out
 EOF
 
 # judged COMMAND..: runs it under $limits, and says what it did if that is neither what is due nor want of memory. `was`
-# then says which. A status from 126 on is that of a program that the system could not start.
+# then says which: 126 and 127 are the statuses of a program that could not be started, and those above 128 of one that a
+# signal ended.
 cat > "$work/bin/judged" <<'EOF'
 echo kept > out
 $limits "$@" > got 2> told < "$input"
@@ -24,6 +25,7 @@ line= more= bytes=
 [ -s got ] || read -r bytes < out
 if [ "$status $line$more $bytes" = '3 memory kept' ]; then was=lacking
 elif [ "$status" = "$(cat due.status)" ] && cmp -s got due.got && cmp -s told due.told && cmp -s out due.out; then was=right
+elif [ "$status" -gt 128 ]; then was=killed
 elif [ "$status" -ge 126 ]; then was=unstarted
 else was=wrong; echo "$limits: status $status, $(wc -c < got) bytes, $line"
 fi
@@ -42,6 +44,7 @@ while [ "$n" -le "$all" ]; do
     limits="env LD_PRELOAD=$REFUSER REFUSE=$n"
     . judged 2> died
     [ "$was" != lacking ] || lacking=$((lacking + 1))
+    [ "$was" != killed ] || echo "$limits: status $status"
     n=$((n + 1))
 done
 if [ "$lacking" -ge 10 ] && [ "$((all - lacking))" -le 3 ]; then echo each; else echo "memory lacked in $lacking of $all"; fi
@@ -58,16 +61,19 @@ exec "$program" "$@"
 EOF
 
 # spaces STEP COMMAND..: in address spaces that grow by STEP KB, from one in which the system cannot start the program
-# to one in which the answer is what is due. Prints wrong answers, and which kinds of answers came after one another.
+# to one in which the answer is what is due. Prints wrong answers, and which kinds of answers came after one another. Until
+# the loader has said once that it cannot start the program, a signal is the system's, which cannot even map it.
 cat > "$work/bin/spaces" <<'EOF'
 #!/bin/sh
 step=$1
 shift
 . due
-space=1024 before= order=
+space=1024 before= order= loaded=
 while [ "$before" != right ] && [ "$space" -le 262144 ]; do
     limits="within $space"
     . judged 2> died
+    [ "$was" != unstarted ] || loaded=yes
+    [ "$was$loaded" != killed ] || was=unstarted
     [ "$was" = "$before" ] || order="$order $was"
     before=$was
     if [ "$was" = unstarted ]; then space=$((space + 16)); else space=$((space + step)); fi

@@ -80,7 +80,26 @@ while [ "$before" != right ] && [ "$space" -le 262144 ]; do
 done
 echo $order
 EOF
-chmod +x "$work/bin/growths" "$work/bin/spaces" "$work/bin/within"
+
+# shallow COMMAND..: with a stack of 72 KB, and no environment on it.
+cat > "$work/bin/shallow" <<'EOF'
+#!/bin/sh
+program=$(command -v "$1")
+ulimit -c 0
+ulimit -s 72
+shift
+exec env -i "$program" "$@"
+EOF
+
+# stack COMMAND..: which kind of answer there is with so small a stack.
+cat > "$work/bin/stack" <<'EOF'
+#!/bin/sh
+. due
+limits=shallow
+. judged 2> died
+echo $was
+EOF
+chmod +x "$work/bin/growths" "$work/bin/spaces" "$work/bin/within" "$work/bin/shallow" "$work/bin/stack"
 input=/dev/null
 REFUSER=$work/bin/refuse.so
 export input REFUSER
@@ -147,4 +166,22 @@ done <<EOF
 16 dispatch $many program
 64 auto $many --holds examples/warehouse.holds
 EOF
+while read -r words; do
+    check "a small stack: $words" 0 'right\n' '' "stack fleet $words"
+done <<EOF
+instance $many
+check $many plan
+plan $many
+compile $many plan out
+verify $many program
+run $many program
+rehearse program
+auto $many
+thin $many program out
+migrate program out
+list program
+dispatch $many program
+EOF
+check 'a small stack: no words' 0 'right\n' '' 'input=examples/pair.hex stack fleet'
+check 'a small stack: dispatch to its end' 0 'right\n' '' "printf '%s\\n' 0 '0 1' 1 > reports && input=reports stack fleet dispatch $on examples/pair.program"
 rm -rf "$room"

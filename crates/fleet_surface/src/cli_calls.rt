@@ -8,17 +8,11 @@ use crate::fleets::{
     PAIR_TRACE, SQUARE_MAP, SQUARE_SCEN,
 };
 use fleet_adg::Deps;
-// To be imported from fleet_cli, once it hands them on: the names of fleet_args, fleet_auto and fleet_files.
-use fleet_args::{
-    AutoRequest, CheckRequest, CompileRequest, InstanceRequest, MigrateRequest, PlanRequest,
-    RehearseRequest, RunRequest, ThinRequest, VerifyRequest,
-};
-use fleet_auto::{AutoFault, auto_run};
 use fleet_cli::{
-    Disk, Fault, Files, Request, WordStop, read_words, run_command, run_hex, run_request,
+    AutoFault, AutoRequest, CheckRequest, CompileRequest, Disk, Fault, FileFault, Files,
+    InstanceRequest, MemFiles, MigrateRequest, PlanRequest, RehearseRequest, Request, RunRequest,
+    ThinRequest, VerifyRequest, WordStop, auto_run, read_words, run_command, run_hex, run_request,
 };
-use fleet_dispatch::StreamFloor;
-use fleet_files::{FileFault, MemFiles};
 use fleet_grid::MapFault;
 use fleet_run::{Report, VecOut};
 use fleet_search::PlanStop;
@@ -59,7 +53,7 @@ fn command_answer<F: Files>(alloc: Global, line: &str, files: &mut F) -> Result<
     let words = words_of(alloc, line)?;
     let mut out = VecOut::new(alloc);
     let mut err = VecOut::new(alloc);
-    let mut input = StreamFloor::new(Given { rest: PAIR_HEX }, VecOut::new(alloc));
+    let mut input = Given { rest: PAIR_HEX };
     let status = run_command(alloc, &words, &mut input, files, &mut out, &mut err);
     Ok((status, out, err))
 }
@@ -209,8 +203,8 @@ fn request_answer(alloc: Global, k: usize, files: &mut MemFiles) -> Done
     let request = REQUESTS[k];
     let mut out = VecOut::new(alloc);
     let mut err = VecOut::new(alloc);
-    let mut floor = StreamFloor::new(Given { rest: b"" }, VecOut::new(alloc));
-    let status = run_request(alloc, &request, files, &mut out, &mut err, &mut floor);
+    let mut input = Given { rest: b"" };
+    let status = run_request(alloc, &request, &mut input, files, &mut out, &mut err);
     (status, out, err)
 }
 

@@ -1,7 +1,6 @@
 //! The ends of commands and runs: a reader and a writer, and files that fail at a call.
 
-// To be imported from fleet_cli, once it hands them on.
-use fleet_files::{FileFault, Files, MemFiles};
+use fleet_cli::{FileFault, Files, MemFiles};
 use std::alloc::Global;
 use std::io;
 use std::io::{Read, Write};

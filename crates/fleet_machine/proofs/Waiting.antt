@@ -1,13 +1,13 @@
 -- The least counts for which the agents in lists wait.
-use Rattle.std.proofs.Common.{◌≡◌, ◌≢◌, ◌<◌, ◌≤◌, ◌+◌, ℕ, Bool, true, false, List, length, set, Option, Some, None, refl, ap, sym, ◌∙◌, inl, inr, arith, get_or-set_same, get_or-set_other, length-set}
-use Rattle.std.specs.Prelude.{nat_le, option_map, min}
+use Rattle.std.proofs.Common.{◌≡◌, ◌≤◌, ℕ, List, length, set, Option, Some, None, refl, inl, inr, arith, get_or-set_same, get_or-set_other, length-set}
+use Rattle.std.specs.Prelude.{option_map, min}
 use Rattle.std.proofs.Math.Nat.{min-le_left, min-le_right}
-use Rattle.std.proofs.lemmas.Bool.{cases_eq, cases_lt, lt-ltb, le-ltb, leb-true, le-leb, true≢false}
+use Rattle.std.proofs.lemmas.Bool.{cases_eq, cases_lt}
 use Rattle.std.proofs.lemmas.List.{get_or_past}
 use Rattle.fleet_model.specs.declared.program.Await.{Await}
 use Rattle.fleet_model.specs.Program.{Program}
-use Rattle.fleet_model.specs.Machine.{Configuration, count_at, is_met}
-use Rattle.fleet_machine.specs.Machine.{IsLacked, IsHome, Lacks, least_of, lowered}
+use Rattle.fleet_model.specs.Machine.{Configuration}
+use Rattle.fleet_machine.specs.Machine.{IsLacked, IsHome, least_of, lowered}
 
 -- no least count rises where one agent more waits
 pub lowered_le : (least : List ℕ) (lacked : Option Await) (j : ℕ) → least_of (lowered least lacked) j ≤ least_of least j

@@ -1,4 +1,4 @@
-use Rattle.std.proofs.Common.{◌≡◌, ◌∙◌, refl, arith, length-set}
+use Rattle.std.proofs.Common.{◌∙◌, refl, length-set}
 use Rattle.fleet_machine.proofs.Copied.{marked_within, one_cleared, all_cleared}
 use Rattle.fleet_machine.proofs.agent_set.clear_words.Goals as goal
 

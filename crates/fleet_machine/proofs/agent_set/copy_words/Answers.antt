@@ -1,4 +1,4 @@
-use Rattle.std.proofs.Common.{◌≡◌, ◌∙◌, refl, arith}
+use Rattle.std.proofs.Common.{arith}
 use Rattle.fleet_machine.proofs.Copied.{none_copied, one_copied, all_copied}
 use Rattle.fleet_machine.proofs.agent_set.copy_words.Goals as goal
 

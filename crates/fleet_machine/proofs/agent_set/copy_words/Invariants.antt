@@ -1,4 +1,3 @@
-use Rattle.std.proofs.Common.{◌≡◌, length}
 use Rattle.fleet_machine.proofs.Copied.{AreCopied}
 use Rattle.fleet_machine.proofs.agent_set.copy_words.Given as goal
 

@@ -1,4 +1,4 @@
-use Rattle.std.proofs.Common.{◌≡◌, ◌∙◌, ap, sym, replicate, length, false}
+use Rattle.std.proofs.Common.{◌∙◌, ap, sym, replicate, length, false}
 use Rattle.fleet_machine.proofs.Bits.{no_word, no_flags, no_bits, long_flags}
 use Rattle.fleet_machine.proofs.Marked.{no_marks}
 use Rattle.fleet_machine.proofs.agent_set.AgentSet.clear.Goals as goal

@@ -1,6 +1,6 @@
 -- Squares of cells, and the visits that they keep.
-use Rattle.std.proofs.Common.{◌≡◌, ◌≢◌, ℕ, zero, suc, ◌+◌, ◌*◌, ◌/◌, ◌%◌, ◌<◌, ◌≤◌, nat_eq, cond, Bool, true, false, List, [], ◌∷◌, length, get_or, slice_get, Option, Some, None, replicate, refl, sym, ap, ◌∙◌, subst, arith, inl, inr, ◌⊎◌}
-use Rattle.std.proofs.lemmas.Bool.{cases_eq, ne_eqb, eq-eqb, eqb-true}
+use Rattle.std.proofs.Common.{◌≡◌, ◌≢◌, ℕ, suc, ◌+◌, ◌*◌, ◌/◌, ◌%◌, ◌<◌, ◌≤◌, nat_eq, Bool, true, false, List, [], ◌∷◌, length, get_or, slice_get, Some, None, refl, sym, ap, ◌∙◌, subst, arith, inl, inr}
+use Rattle.std.proofs.lemmas.Bool.{cases_eq, ne_eqb, eqb-true}
 use Rattle.std.proofs.lemmas.Option.{same_Some}
 use Rattle.std.proofs.lemmas.Map.Entries.{lookup_from_place}
 use Rattle.std.specs.Cmp.{nat_eq_equiv}
@@ -52,12 +52,6 @@ module _ {S : Type 0} (old new : IndexMap ℕ (List ℕ) S) (cell : Cell) (squar
         ∙ (ap (λ s. visit_in s (place_in_square c)) (sym was) ∙ ap (λ k. visit_in (get nat_eq old k) (place_in_square c)) same)))
   ]
 
--- a square without visits keeps none
-pub blank_none : (many k : ℕ) → get_or (replicate many NO_VISIT) k NO_VISIT ≡ NO_VISIT
-blank_none zero k = refl
-blank_none (suc many) zero = refl
-blank_none (suc many) (suc k) = blank_none many k
-
 -- ---- where a square stands
 
 -- the first key that is this one
@@ -95,3 +89,13 @@ module _ {S : Type 0} (m : IndexMap ℕ (List ℕ) S) where
   found_square slot number key square unique here at =
       let same : key ≡ number = same_Some key number (sym (ap (option_map (λ (x : ℕ × List ℕ). x.0)) here) ∙ at) in
       ap (get nat_eq m) (sym same) ∙ lookup_from_place nat_eq_equiv m.entries slot key square unique here
+
+  -- what is read at the cell's place of its square
+  pub kept_read : (cell : Cell) (number place n : ℕ) (square : List ℕ) → get nat_eq m number ≡ Some square → number ≡ square_of cell → place ≡ place_in_square cell → n ≡ get_or square place NO_VISIT → visit_kept n ≡ last_in m cell
+  kept_read cell number place n square here is at read =
+      ap visit_kept (read ∙ ap (λ k. get_or square k NO_VISIT) at)
+      ∙ (ap (λ s. visit_in s (place_in_square cell)) (sym here) ∙ ap (λ k. visit_in (get nat_eq m k) (place_in_square cell)) is)
+
+  -- and where there is no square
+  pub kept_missing : (cell : Cell) (number : ℕ) → get nat_eq m number ≡ None → number ≡ square_of cell → None ≡ last_in m cell
+  kept_missing cell number none is = ap (λ s. visit_in s (place_in_square cell)) (sym none) ∙ ap (λ k. visit_in (get nat_eq m k) (place_in_square cell)) is

@@ -66,3 +66,4 @@ pub mod Reductions
 pub mod LastVisits
 pub mod Promised
 pub mod LeastAwaits
+pub mod After

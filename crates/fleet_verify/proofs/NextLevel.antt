@@ -1,5 +1,5 @@
 -- The level of the next action, await by await; and the action finished.
-use Rattle.std.proofs.Common.{◌≡◌, ℕ, ◌+◌, ◌-◌, ◌<◌, ◌≤◌, Bool, List, [], ◌∷◌, ◌++◌, length, get_or, set, max, slice_index, Some, slice_get, refl, sym, ap, ◌∙◌, subst, arith, inl, inr, ◌⊎◌}
+use Rattle.std.proofs.Common.{◌≡◌, ℕ, ◌+◌, ◌-◌, ◌<◌, ◌≤◌, Bool, List, [], ◌∷◌, ◌++◌, length, get_or, set, max, slice_index, Option, Some, slice_get, refl, sym, ap, ◌∙◌, subst, arith, inl, inr, ◌⊎◌}
 use Rattle.std.specs.Prelude.{IsTrue}
 use Rattle.std.proofs.lemmas.Bool.{cases_eq, cases_lt}
 use Rattle.std.proofs.lemmas.List.{get_or-set_same, get_or-set_other, length-set, get_or_default}
@@ -10,15 +10,18 @@ use Rattle.fleet_model.specs.declared.geometry.Step.{Step}
 use Rattle.fleet_model.specs.declared.program.ActionId.{ActionId}
 use Rattle.fleet_model.specs.declared.program.Await.{Await}
 use Rattle.fleet_model.specs.declared.program.Visit.{Visit}
-use Rattle.fleet_model.specs.Geometry.{place_of, stepped}
+use Rattle.fleet_model.specs.Geometry.{place_of, stepped, is_move}
+use Rattle.fleet_model.specs.Visit.{is_entry}
 use Rattle.fleet_model.specs.Program.{Program, origin, awaits_of, step_of, path}
 use Rattle.fleet_model.specs.Chain.{DirectlyNeeds, awaited}
-use Rattle.fleet_verify.specs.Ahead.{IsRanked, IsNextLevel, AddsLevel, IsAhead, IsNext, count_in, level_in}
+use Rattle.fleet_verify.specs.Ahead.{IsRanked, IsNextLevel, AddsLevel, IsAhead, AreBegun, IsNext, count_in, level_in}
 use Rattle.fleet_verify.specs.Faults.{StandsRight}
 use Rattle.fleet_verify.specs.LastVisits.{kept_at}
 use Rattle.fleet_verify.specs.Order.{AreAddedBy}
 use Rattle.fleet_verify.specs.declared.ahead.Ahead.{Ahead}
+use Rattle.fleet_verify.specs.declared.last_visits.LastVisits.{LastVisits}
 use Rattle.fleet_verify.proofs.Begin.{begun_more}
+use Rattle.fleet_verify.proofs.Leaving.{entry_by}
 use Rattle.fleet_verify.proofs.Members.{same_action}
 use Rattle.fleet_verify.proofs.Ordered.{no_entries}
 use Rattle.fleet_verify.proofs.Paths.{path_step}
@@ -93,6 +96,25 @@ least_ends p rows i n k l h next all = subst (λ (a : ActionId). IsNextOf a) (ap
         | inr q ↦ inr (q.0, q.1, subst (λ m. Needs m q.0) next q.2, omega (arith, q.3))
       ];
     }
+
+-- a look at the last visit of a cell
+pub ahead_looked : (passable : Place → Bool) (p : Program) (a : Ahead) (last : LastVisits) → IsAhead passable p a → ((c : Cell) → kept_at last c ≡ kept_at a.last c)
+    → IsAhead passable p (record { rows = a.rows; cells = a.cells; last = last; pairs = a.pairs })
+ahead_looked passable p a last h same = record {
+  rows = h.rows;
+  cells = h.cells;
+  ranked = h.ranked;
+  here = h.here;
+  begun = subst (λ (f : Cell → Option Visit). AreBegun passable p (λ i. count_in a.rows.items i + 1) f a.pairs.items) alike h.begun;
+}
+  where
+    alike : kept_at a.last ≡ kept_at last
+    alike = λ i c. sym (same c) i
+
+-- the next action begins a visit if its step is a move
+pub entered_by : (p : Program) (i n count : ℕ) (s : Step) → n ≡ count + 1 → step_of p i n ≡ Some s → is_move s ≡ is_entry p i n
+entered_by p i n count s next step =
+    sym (subst (λ (m : ℕ). is_entry p i m ≡ is_move s) (sym next) (entry_by p i count s (subst (λ (m : ℕ). step_of p i m ≡ Some s) next step)))
 
 -- the next action of the agent finished
 pub ahead_more : (passable : Place → Bool) (p : Program) (old new : Ahead) (i n l : ℕ) (cell : Cell) → IsAhead passable p old → IsNext p old.rows.items i n → IsNextLevel p old.rows.items i l

@@ -1,5 +1,5 @@
 -- Actions finished in any order that respects needs: their levels, and the visits that have begun.
-use Rattle.std.specs.Prelude.{◌≡◌, ◌≢◌, ℕ, ◌+◌, ◌-◌, ◌<◌, ◌≤◌, ◌⊎◌, Bool, List, [], ◌∷◌, ◌++◌, length, get_or, slice_index, Option, Contains}
+use Rattle.std.specs.Prelude.{◌≡◌, ◌≢◌, ℕ, ◌+◌, ◌-◌, ◌<◌, ◌≤◌, ◌⊎◌, ◌↔◌, IsTrue, Bool, true, Some, List, [], ◌∷◌, ◌++◌, length, get_or, slice_index, Option, Contains}
 use Rattle.std.specs.List.{AllPairs}
 use Rattle.fleet_model.specs.declared.geometry.Cell.{Cell}
 use Rattle.fleet_model.specs.declared.geometry.Place.{Place}
@@ -7,6 +7,9 @@ use Rattle.fleet_model.specs.declared.program.ActionId.{ActionId}
 use Rattle.fleet_model.specs.declared.program.Visit.{Visit}
 use Rattle.fleet_model.specs.Geometry.{place_of}
 use Rattle.fleet_model.specs.Program.{Program, origin, moves, path}
+use Rattle.fleet_model.specs.Visit.{is_entry, leaving, ComesAfterByAwait}
+use Rattle.fleet_model.specs.declared.program.Await.{Await}
+use Rattle.fleet_verify.specs.declared.ahead.Arrival.{Arrival}
 use Rattle.fleet_model.specs.Chain.{IsAction, DirectlyNeeds}
 use Rattle.fleet_verify.specs.Faults.{StandsRight}
 use Rattle.fleet_verify.specs.LastVisits.{kept_at}
@@ -85,3 +88,17 @@ pub record IsNext (p : Program) (rows : List (List ℕ)) (i n : ℕ) : Type 0 wh
   pub agent : i < length p
   pub number : n ≡ count_in rows i + 1
   pub left : n ≤ moves p i
+
+-- ---- the next visit
+
+-- the await is met only if the visit has been left
+abbrev pub AwaitsLeaving : Program → Visit → Await → Type 0
+AwaitsLeaving p v a = (a.agent ≡ v.agent) × ((leaving p v).number ≤ a.count)
+
+-- an agent comes to a cell by an action, with the last visits so far: whether a visit begins, and if so, the one before
+-- it at the cell, and whether it comes after that one
+pub record IsArrival (p : Program) (last : Cell → Option Visit) (a : Arrival) : Type 0 where
+  pub here : place_of a.placed.cell ≡ path p a.placed.visit.agent a.placed.visit.position
+  pub entered : a.entered ≡ is_entry p a.placed.visit.agent a.placed.visit.position
+  pub before : a.entered ≡ true → a.before ≡ last a.placed.cell
+  pub follows : (v : Visit) → a.before ≡ Some v → IsTrue a.follows ↔ ComesAfterByAwait p v a.placed.visit

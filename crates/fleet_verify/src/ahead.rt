@@ -1,15 +1,15 @@
 //! A verifier without ticks: each agent runs on as far as its awaits allow. It only says yes.
 
-ghost use Rattle.std.specs.Prelude.{◌≡◌, ◌≢◌, ◌<◌, ◌≤◌, ◌+◌, ℕ, Some, true, length, max, IfOk, IfErr, IfSome, OnOk, List, set, get_or, [], ◌∷◌, ◌++◌, ◌-◌, All};
+ghost use Rattle.std.specs.Prelude.{◌≡◌, ◌≢◌, ◌<◌, ◌≤◌, ◌+◌, ◌⊎◌, ◌↔◌, ℕ, Some, true, IsTrue, IfNone, length, max, IfOk, IfErr, IfSome, OnOk, List, set, get_or, [], ◌∷◌, ◌++◌, ◌-◌, All};
 ghost use Rattle.fleet_model.specs.declared.geometry.Cell.{Cell};
 ghost use Rattle.fleet_model.specs.declared.program.Visit.{Visit};
-ghost use Rattle.fleet_model.specs.Geometry.{place_of};
+ghost use Rattle.fleet_model.specs.Geometry.{place_of, is_move};
 ghost use Rattle.fleet_verify.specs.Order.{AreAddedBy, IsOpenNext};
 ghost use Rattle.fleet_model.specs.Program.{Program, start_of, moves, path, IsCell};
-ghost use Rattle.fleet_model.specs.Visit.{IsVisit, ComesAfterByAwait};
+ghost use Rattle.fleet_model.specs.Visit.{IsVisit, IsLaterVisit, ComesAfterByAwait};
 ghost use Rattle.fleet_grid.specs.Ground.{is_passable};
 ghost use Rattle.fleet_model.specs.Chain.{awaited};
-ghost use Rattle.fleet_verify.specs.Ahead.{IsRanked, IsAhead, IsNext, IsNextLevel, AddsLevel, count_in, level_in};
+ghost use Rattle.fleet_verify.specs.Ahead.{IsRanked, IsAhead, IsNext, IsNextLevel, AddsLevel, IsArrival, AwaitsLeaving, count_in, level_in};
 ghost use Rattle.fleet_verify.specs.Faults.{HasStarts};
 ghost use Rattle.fleet_verify.specs.LastVisits.{kept_at};
 ghost use Rattle.fleet_verify.specs.Parts.{IsAcceptedFor};
@@ -19,9 +19,9 @@ use crate::last_visits::LastVisits;
 use crate::level_row::LevelRow;
 use crate::path::cell_after;
 use crate::unheld_run::Stop;
-use crate::visit_order::{OpenPair, PlacedVisit, begins_visit, open_unless_after};
+use crate::visit_order::{OpenPair, PlacedVisit, begins_visit, is_left_by, open_unless_after};
 use fleet_grid::Grid;
-use fleet_model::{Await, Cell, OutOfMemory, Place, ProgramView, Visit, total_moves};
+use fleet_model::{Await, Cell, OutOfMemory, Place, ProgramView, Step, Visit, total_moves};
 use fleet_scen::Instance;
 use std::alloc::Global;
 use std::marker::Model;
@@ -55,96 +55,255 @@ fn greater_level(rows: &Vec<LevelRow>, least: u32, w: Await) -> Option<u32>
     Some(least.max(level))
 }
 
-/// The level of the agent's next action, or an await of it that is not met.
-fn next_level<P: ProgramView>(
+/// What the awaits of an action say, all of which are met.
+#[derive(Clone, Copy)]
+struct Needs {
+    /// The level of the action.
+    level: u32,
+    /// Whether its visit comes after the last one of the cell.
+    follows: bool,
+}
+
+/// The level of the agent's next action, and whether its visit comes after the one before it at the cell; or an await of
+/// it that is not met.
+fn needs_of<P: ProgramView>(
     program: &P,
     rows: &Vec<LevelRow>,
-    agent: u16,
-    number: u32,
-) -> Result<u32, Await>
+    visit: Visit,
+    before: Option<Visit>,
+) -> Result<Needs, Await>
     requires rows { length rows.now.items ≡ length (P.program program.now) }
-    requires next { IsNext (P.program program.now) rows.now.items agent number }
-    ensures level { IfOk result (IsNextLevel (P.program program.now) rows.now.items agent) }
+    requires next { IsNext (P.program program.now) rows.now.items visit.agent visit.position }
+    ensures level { IfOk result (λ n. IsNextLevel (P.program program.now) rows.now.items
+        visit.agent n.level) }
+    ensures follows { IfOk result (λ n. (v : Visit) → before ≡ Some v
+        → IsTrue n.follows ↔ ComesAfterByAwait (P.program program.now) v visit) }
     ensures waits { IfErr result (λ w. w.agent < length (P.program program.now)) }
 {
     let _agents = program.agents();
-    let mut least = row_of(rows, agent).last();
-    for k in 0..program.await_count(agent, number) {
-        let awaited = program.await_at(agent, number, k);
+    let mut least = row_of(rows, visit.agent).last();
+    let mut follows = is_later(before, visit);
+    for k in 0..program.await_count(visit.agent, visit.position) {
+        let awaited = program.await_at(visit.agent, visit.position, k);
         match greater_level(rows, least, awaited) {
-            Some(level) => least = level,
+            Some(level) => {
+                least = level;
+                follows = follows_by(program, follows, before, awaited);
+            }
             None => return Err(awaited),
         }
     }
     if least == u32::MAX {
         return Err(Await {
-            agent,
-            count: number,
+            agent: visit.agent,
+            count: visit.position,
         });
     }
-    Ok(least + 1)
+    Ok(Needs {
+        level: least + 1,
+        follows,
+    })
 }
 
-/// Finishes the agent's next action, if it leads to passable ground.
+/// Whether the visit is a later one by the agent of the one before.
+fn is_later(before: Option<Visit>, visit: Visit) -> bool
+    ensures { (v : Visit) → before ≡ Some v → IsTrue result ↔ IsLaterVisit v visit }
+{
+    match before {
+        Some(first) => first.agent == visit.agent && first.position < visit.position,
+        None => false,
+    }
+}
+
+/// Whether a visit comes after the one before if it has been found to, or if this is one of its awaits.
+fn follows_by<P: ProgramView>(
+    program: &P,
+    follows: bool,
+    before: Option<Visit>,
+    awaited: Await,
+) -> bool
+    requires { awaited.agent < length (P.program program.now) }
+    ensures { (v : Visit) → before ≡ Some v
+        → IsTrue result ↔ (IsTrue follows ⊎ AwaitsLeaving (P.program program.now) v awaited) }
+{
+    if follows {
+        return true;
+    }
+    match before {
+        Some(first) => awaits_leaving(program, first, awaited),
+        None => false,
+    }
+}
+
+/// Whether the await is met only if the visit has been left.
+fn awaits_leaving<P: ProgramView>(program: &P, first: Visit, awaited: Await) -> bool
+    requires { awaited.agent < length (P.program program.now) }
+    ensures { IsTrue result ↔ AwaitsLeaving (P.program program.now) first awaited }
+{
+    if first.agent != awaited.agent {
+        return false;
+    }
+    is_left_by(program, first, awaited.count)
+}
+
+/// An agent at the end of its next action.
+#[derive(Clone, Copy)]
+pub struct Arrival {
+    pub placed: PlacedVisit,
+    /// Whether it has moved there, so that a visit begins.
+    pub entered: bool,
+    /// If so, the last visit of the cell until then, if there was one.
+    pub before: Option<Visit>,
+    /// Whether the visit comes after that one.
+    pub follows: bool,
+}
+
+/// Finishes the agent's next action, if its awaits are met and it leads to passable ground. If they are not, answers one
+/// of them.
 fn finish_next<P: ProgramView>(
     program: &P,
     grid: &Grid,
     ahead: &mut Ahead,
-    agent: u16,
-    number: u32,
-    level: u32,
-) -> Result<(), Stop>
+    visit: Visit,
+) -> Result<Option<Await>, Stop>
     requires ahead { IsAhead (is_passable grid.now) (P.program program.now) ahead.old }
-    requires next { IsNext (P.program program.now) ahead.old.rows.items agent number }
-    requires level { IsNextLevel (P.program program.now) ahead.old.rows.items agent level }
+    requires next { IsNext (P.program program.now) ahead.old.rows.items
+        visit.agent visit.position }
     ensures ahead { OnOk result (IsAhead (is_passable grid.now) (P.program program.now) ahead.new) }
-    ensures count { OnOk result (count_in ahead.new.rows.items agent ≡ number) }
+    ensures count { IfOk result (λ w. IfNone w
+        (count_in ahead.new.rows.items visit.agent ≡ visit.position)) }
+    ensures waits { IfOk result (λ w. IfSome w
+        (λ a. a.agent < length (P.program program.now))) }
 {
-    let from = ahead.cells[usize::from(agent)];
-    let Some(cell) = cell_after(grid, from, program.step(agent, number)) else {
+    let step = program.step(visit.agent, visit.position);
+    let from = ahead.cells[usize::from(visit.agent)];
+    let Some(cell) = cell_after(grid, from, step) else {
         return Err(Stop::OffGround);
     };
-    let visit = Visit {
-        agent,
-        position: number,
-    };
-    note(program, ahead, PlacedVisit { visit, cell }, level)?;
-    Ok(())
+    let before = seen_before(&mut ahead.last, step, cell);
+    match needs_of(program, &ahead.rows, visit, before) {
+        Ok(Needs { level, follows }) => {
+            let arrival = Arrival {
+                placed: PlacedVisit { visit, cell },
+                entered: is_move(step),
+                before,
+                follows,
+            };
+            note(program, ahead, arrival, level)?;
+            Ok(None)
+        }
+        Err(awaited) => Ok(Some(awaited)),
+    }
 }
 
-/// Notes that the agent of a visit has come there by its next action, which has this level.
+/// Whether the step is a move.
+fn is_move(step: Step) -> bool
+    ensures { result ≡ is_move step }
+{
+    match step {
+        Step::Go(_) => true,
+        Step::Dwell => false,
+    }
+}
+
+/// The last visit so far of the cell to which the step leads, if it is a move.
+fn seen_before(last: &mut LastVisits, step: Step, cell: Cell) -> Option<Visit>
+    ensures kept { is_move step ≡ true → result ≡ kept_at last.new cell }
+    ensures same { (c : Cell) → kept_at last.new c ≡ kept_at last.old c }
+{
+    match step {
+        Step::Go(_) => last.get(cell),
+        Step::Dwell => None,
+    }
+}
+
+/// Notes that the agent has come there by its next action, which has this level.
 fn note<P: ProgramView>(
     program: &P,
     ahead: &mut Ahead,
-    placed: PlacedVisit,
+    arrival: Arrival,
     level: u32,
 ) -> Result<(), OutOfMemory>
     requires rows { length ahead.old.rows.items ≡ length (P.program program.now) }
     requires cells { length ahead.old.cells.items ≡ length (P.program program.now) }
-    requires next { IsNext (P.program program.now) ahead.old.rows.items placed.visit.agent
-        placed.visit.position }
-    requires here { place_of placed.cell ≡ path (P.program program.now) placed.visit.agent
-        placed.visit.position }
+    requires next { IsNext (P.program program.now) ahead.old.rows.items
+        arrival.placed.visit.agent arrival.placed.visit.position }
+    requires arrival { IsArrival (P.program program.now) (kept_at ahead.old.last) arrival }
     ensures rows { OnOk result (length ahead.new.rows.items ≡ length (P.program program.now)) }
     ensures cells { OnOk result (ahead.new.cells.items
-        ≡ set ahead.old.cells.items placed.visit.agent placed.cell) }
+        ≡ set ahead.old.cells.items arrival.placed.visit.agent arrival.placed.cell) }
     ensures level { OnOk result (AddsLevel ahead.old.rows.items ahead.new.rows.items
-        placed.visit.agent level) }
+        arrival.placed.visit.agent level) }
     ensures added { OnOk result ((visits : List Visit)
         → AreAddedBy (P.program program.now) visits (kept_at ahead.old.last)
         ahead.old.pairs.items
-        → AreAddedBy (P.program program.now) (visits ++ placed.visit ∷ [])
+        → AreAddedBy (P.program program.now) (visits ++ arrival.placed.visit ∷ [])
         (kept_at ahead.new.last) ahead.new.pairs.items) }
 {
-    let PlacedVisit { visit, cell } = placed;
+    let PlacedVisit { visit, cell } = arrival.placed;
     let _agents = program.agents();
-    add_visit(program, &mut ahead.last, &mut ahead.pairs, placed)?;
+    add_arrival(program, &mut ahead.last, &mut ahead.pairs, arrival)?;
     ahead.cells[usize::from(visit.agent)] = cell;
     ahead.rows[usize::from(visit.agent)].push(level)?;
     Ok(())
 }
 
-/// Adds the next position, if it begins a visit.
+/// Adds the position to which the agent has come, if it begins a visit.
+fn add_arrival<P: ProgramView>(
+    program: &P,
+    last: &mut LastVisits,
+    pairs: &mut Vec<OpenPair>,
+    arrival: Arrival,
+) -> Result<(), OutOfMemory>
+    requires agent { arrival.placed.visit.agent < length (P.program program.now) }
+    requires position { arrival.placed.visit.position
+        ≤ moves (P.program program.now) arrival.placed.visit.agent }
+    requires arrival { IsArrival (P.program program.now) (kept_at last.old) arrival }
+    ensures { OnOk result ((visits : List Visit)
+        → AreAddedBy (P.program program.now) visits (kept_at last.old) pairs.old.items
+        → AreAddedBy (P.program program.now) (visits ++ arrival.placed.visit ∷ [])
+        (kept_at last.new) pairs.new.items) }
+{
+    let _agents = program.agents();
+    if !arrival.entered {
+        return Ok(());
+    }
+    last.replace(arrival.placed.cell, arrival.placed.visit)?;
+    open_unless_follows(program, pairs, arrival)?;
+    Ok(())
+}
+
+/// Adds the visit and the one before it at the cell as an open pair, unless it comes after that one.
+fn open_unless_follows<P: ProgramView>(
+    program: &P,
+    pairs: &mut Vec<OpenPair>,
+    arrival: Arrival,
+) -> Result<(), OutOfMemory>
+    requires { (v : Visit) → arrival.before ≡ Some v → IsTrue arrival.follows
+        ↔ ComesAfterByAwait (P.program program.now) v arrival.placed.visit }
+    ensures { OnOk result (IsOpenNext (ComesAfterByAwait (P.program program.now))
+        arrival.before arrival.placed pairs.old.items pairs.new.items) }
+{
+    let _agents = program.agents();
+    let Some(first) = arrival.before else {
+        return Ok(());
+    };
+    if arrival.follows {
+        return Ok(());
+    }
+    let PlacedVisit {
+        visit: second,
+        cell,
+    } = arrival.placed;
+    pairs.push(OpenPair {
+        cell,
+        first,
+        second,
+    })?;
+    Ok(())
+}
+
+/// Adds the position, if it begins a visit.
 fn add_visit<P: ProgramView>(
     program: &P,
     last: &mut LastVisits,
@@ -261,9 +420,12 @@ fn run_agent<P: ProgramView>(
         (λ a. a.agent < length (P.program program.now))) }
 {
     for finished in row_of(&ahead.rows, agent).count()..program.moves(agent) {
-        match next_level(program, &ahead.rows, agent, finished + 1) {
-            Ok(level) => finish_next(program, grid, ahead, agent, finished + 1, level)?,
-            Err(awaited) => return Ok(Some(awaited)),
+        let visit = Visit {
+            agent,
+            position: finished + 1,
+        };
+        if let Some(awaited) = finish_next(program, grid, ahead, visit)? {
+            return Ok(Some(awaited));
         }
     }
     Ok(None)

@@ -44,6 +44,25 @@ impl LastVisits {
         }
     }
 
+    /// The last visit of the cell, if there was one. Its square is looked at first the next time.
+    pub fn get(&mut self, cell: Cell) -> Option<Visit>
+        ensures kept { result ≡ kept_at self.new cell }
+        ensures same { (c : Cell) → kept_at self.new c ≡ kept_at self.old c }
+    {
+        if let Some(kept) = read_at(&self.squares, self.recent, cell) {
+            return kept;
+        }
+        let number = number_of_square(cell);
+        match self.squares.get_full(&number) {
+            Some((slot, _, square)) => {
+                let kept = visit_of_number(read(square, place_of_cell(cell)));
+                self.recent = slot;
+                kept
+            }
+            None => None,
+        }
+    }
+
     /// Keeps the visit as the last one of the cell, and answers the one before.
     pub fn replace(&mut self, cell: Cell, visit: Visit) -> Result<Option<Visit>, OutOfMemory>
         requires agent { visit.agent < MAX_AGENTS }
@@ -103,6 +122,28 @@ fn visit_of_number(number: u32) -> Option<Visit>
         agent: (number % MAX_AGENTS as u32) as u16,
         position: number / MAX_AGENTS as u32,
     })
+}
+
+/// If the cell's square stands there, the last visit of the cell, if there was one.
+#[inline]
+fn read_at(squares: &IndexMap<u32, [u32; CELLS]>, slot: usize, cell: Cell) -> Option<Option<Visit>>
+    ensures { IfSome result (λ kept. kept ≡ last_in squares.now cell) }
+{
+    let (found, square) = squares.get_index(slot)?;
+    let number = number_of_square(cell);
+    if *found != number {
+        return None;
+    }
+    Some(visit_of_number(read(square, place_of_cell(cell))))
+}
+
+/// What the square keeps at a place.
+#[inline(always)]
+fn read(square: &[u32; CELLS], place: usize) -> u32
+    requires { place < CELLS }
+    ensures { result ≡ get_or square.now place NO_VISIT }
+{
+    square[place]
 }
 
 /// If the cell's square stands there, keeps the visit as the last one of the cell, and answers the one before.

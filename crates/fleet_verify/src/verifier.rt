@@ -75,7 +75,7 @@ fn judge<P: ProgramView>(
     ensures formed { IsWellFormed (P.program program.now) }
 {
     check_starts(program, instance)?;
-    if let Ok(Some(chain)) = accepts_ahead(alloc, program, grid, instance) {
+    if let Some(chain) = accepts_ahead(alloc, program, grid, instance)? {
         return Ok(chain);
     }
     let mut run = UnheldRun::start(alloc, program)?;

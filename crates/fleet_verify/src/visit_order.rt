@@ -171,7 +171,7 @@ fn comes_after<P: ProgramView>(program: &P, first: Visit, second: Visit) -> bool
 }
 
 /// Whether the action that leaves the visit is among so many of its agent's actions.
-fn is_left_by<P: ProgramView>(program: &P, visit: Visit, count: u32) -> bool
+pub fn is_left_by<P: ProgramView>(program: &P, visit: Visit, count: u32) -> bool
     requires { visit.agent < length (P.program program.now) }
     ensures { IsTrue result ↔ (leaving (P.program program.now) visit).number ≤ count }
 {

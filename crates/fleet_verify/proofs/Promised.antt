@@ -1,13 +1,12 @@
 -- What is promised of an accepted program, and of a refusal.
-use Rattle.std.proofs.Common.{◌≡◌, ℕ, ◌+◌, ◌<◌, ◌≤◌, ◌&&◌, Bool, true, false, List, sym, subst, ◌∙◌}
+use Rattle.std.proofs.Common.{◌≡◌, ℕ, ◌≤◌, ◌&&◌, Bool, true, false, List, sym, subst, ◌∙◌}
 use Rattle.std.specs.Prelude.{◌≢◌, IsTrue}
 use Rattle.fleet_model.specs.declared.geometry.Place.{Place}
 use Rattle.fleet_model.specs.declared.task.Task.{Task}
 use Rattle.fleet_model.specs.declared.program.ActionId.{ActionId}
 use Rattle.fleet_model.specs.Program.{Program, IsWellFormed}
-use Rattle.fleet_model.specs.Machine.{Holds, run, is_held, is_ready, IsDone, IsDue}
+use Rattle.fleet_model.specs.Machine.{Holds, run, is_held, is_ready, IsDue}
 use Rattle.fleet_model.specs.Chain.{IsAction, IsLongestChain}
-use Rattle.fleet_model.specs.Visit.{ComesAfterByChain}
 use Rattle.fleet_model.specs.Accepted.{IsRight, IsAccepted}
 use Rattle.fleet_model.specs.Run.{RunsWell, RunsRight}
 use Rattle.fleet_model.specs.Progress.{IsOfLeastLevel, Progresses, IsFinishedInTime}
@@ -15,7 +14,7 @@ use Rattle.fleet_model.specs.Schedule.{Schedule, IsSchedule}
 use Rattle.fleet_verify.specs.declared.fault.VerifyFault.{VerifyFault}
 use Rattle.fleet_verify.specs.declared.fault.VerifyFault.TheVariants.{OutOfMemory}
 use Rattle.fleet_verify.specs.Faults.{IsFault}
-use Rattle.fleet_verify.specs.Promises.{IsVisitedInTurn, RunsInTime, KeepsSchedule, Promises, IsRefusedRightly}
+use Rattle.fleet_verify.specs.Promises.{KeepsSchedule, Promises, IsRefusedRightly}
 use Rattle.fleet_verify.proofs.Held.{any_below}
 use Rattle.fleet_verify.proofs.Levels.{level_exists, least_due, due_done, chain_done}
 use Rattle.fleet_verify.proofs.Critical.{critical, ends_in_time}

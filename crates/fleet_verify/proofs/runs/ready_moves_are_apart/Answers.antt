@@ -3,7 +3,7 @@ use Rattle.std.specs.Prelude.{◌≢◌}
 use Rattle.fleet_model.specs.declared.geometry.Place.{Place}
 use Rattle.fleet_model.specs.declared.task.Task.{Task}
 use Rattle.fleet_model.specs.Program.{Program}
-use Rattle.fleet_model.specs.Machine.{Configuration, Holds, IsReached, run}
+use Rattle.fleet_model.specs.Machine.{Holds, run}
 use Rattle.fleet_model.specs.Visit.{ComesAfterByChain}
 use Rattle.fleet_model.specs.Accepted.{IsAcceptedBy}
 use Rattle.fleet_model.specs.Claims.{AreApart, Claims, MayBeOn}

@@ -99,7 +99,16 @@ limits=shallow
 . judged 2> died
 echo $was
 EOF
-chmod +x "$work/bin/growths" "$work/bin/spaces" "$work/bin/within" "$work/bin/shallow" "$work/bin/stack"
+
+# extra COMMAND..: how many more growths the command asks for than `instance` on the same files.
+cat > "$work/bin/extra" <<'EOF'
+#!/bin/sh
+GROWTHS=count LD_PRELOAD=$REFUSER "$@" > got 2>&1 < "$input"
+all=$(cat count)
+GROWTHS=count LD_PRELOAD=$REFUSER fleet instance "$3" "$4" > got 2>&1 < "$input"
+echo $((all - $(cat count)))
+EOF
+chmod +x "$work/bin/extra" "$work/bin/growths" "$work/bin/spaces" "$work/bin/within" "$work/bin/shallow" "$work/bin/stack"
 input=/dev/null
 REFUSER=$work/bin/refuse.so
 export input REFUSER
@@ -145,6 +154,10 @@ EOF
     check 'each growth refused: no words' 0 'each\n' '' 'input=examples/pair.hex growths fleet'
     check 'each growth refused: dispatch' 0 'each\n' '' "printf '%s\n' 0 '0 1' 1 > reports && input=reports growths fleet dispatch $on examples/pair.program"
     check '.. which stops at a report' 0 'each\n' '' "printf '%s\n' 0 1 1 > reports && input=reports growths fleet dispatch $on examples/pair.program"
+    # The verifier says yes to most programs from a run ahead, for which it makes no machine, and goes through all others
+    # again. No contract says which.
+    check 'a program that is accepted ahead' 0 'few\n' '' "test \$(extra fleet verify $on examples/pair.program) -le 30 && echo few"
+    check 'a program that is gone through again' 0 'many\n' '' "test \$(extra fleet verify $on unordered) -gt 60 && echo many"
 else
     skip 'each growth refused: there is no compiler of C'
 fi

@@ -17,8 +17,8 @@ use Rattle.fleet_model.specs.declared.program.AgentProgram.{AgentProgram}
 use Rattle.fleet_model.specs.Program.{Program, actions_of, moves, step_of, awaits_of, total_moves, AreAwaits, IsCell, IsWellFormed, NeverStays, AreShort, AreInRange}
 use Rattle.fleet_model.proofs.Totals.{moves_more}
 use Rattle.fleet_model.specs.declared.limits.TheConstants.{MAX_AWAIT, MAX_MOVES_V1}
-use Rattle.fleet_settled.specs.Implied.{IsImplied}
-use Rattle.fleet_settled.proofs.AwaitOrder.{await_below}
+use Rattle.fleet_needs.specs.Implied.{IsImplied}
+use Rattle.fleet_needs.proofs.AwaitOrder.{await_below}
 use Rattle.fleet_model.proofs.Short.{short_in_range, short_moves}
 use Rattle.fleet_verify.specs.Reduced.{IsThinned}
 use Rattle.fleet_verify.proofs.Alike.{same_moves as moves_there}

@@ -5,7 +5,7 @@ use Rattle.fleet_model.specs.declared.program.Action.{Action}
 use Rattle.fleet_model.specs.declared.program.ActionId.{ActionId}
 use Rattle.fleet_model.specs.declared.program.AgentProgram.{AgentProgram}
 use Rattle.fleet_model.specs.Program.{Program, start_of, goal_of, moves, step_of, awaits_of, AreAwaits}
-use Rattle.fleet_settled.specs.Implied.{IsImplied}
+use Rattle.fleet_needs.specs.Implied.{IsImplied}
 
 -- among the first k awaits of the action those that are not implied, in rising order of agent
 pub record AreUnimplied (p : Program) (a : ActionId) (k : ℕ) (awaits : List Await) : Type 0 where

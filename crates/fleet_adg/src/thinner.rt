@@ -5,15 +5,15 @@ ghost use Rattle.fleet_model.specs.Program.{moves, awaits_of, NeverStays, AreSho
 ghost use Rattle.fleet_model.specs.Chain.{IsAction, IsLongestChain};
 ghost use Rattle.fleet_model.specs.Accepted.{IsAccepted};
 ghost use Rattle.fleet_grid.specs.Ground.{is_passable};
-ghost use Rattle.fleet_implied.specs.Flags.{AreImplied};
+ghost use Rattle.fleet_needs.specs.Flags.{AreImplied};
 ghost use Rattle.fleet_verify.specs.Reduced.{IsThinned, HasLeastAwaits, RunEqually};
 ghost use Rattle.fleet_adg.specs.Thinned.{AreUnimplied, IsThinnedAction, AreThinnedActions, IsThinnedAgent, AreThinnedAgents};
 
 use crate::thin_fault::ThinFault;
-use fleet_implied::{ImpliedAwaits, implied_awaits};
 use fleet_model::{
     Action, ActionId, Actions, AgentProgram, Awaits, OutOfMemory, Program, ProgramView,
 };
+use fleet_needs::{ImpliedAwaits, implied_awaits};
 use fleet_verify::Accepted;
 use std::alloc::Global;
 

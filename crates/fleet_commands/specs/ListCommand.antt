@@ -2,7 +2,7 @@
 use Rattle.std.specs.Prelude.{◌≡◌, ℕ, List, [], ◌∷◌, ◌⊎◌, Option, codes}
 use Rattle.fleet_model.specs.Program.{Program}
 use Rattle.fleet_code.specs.Spelling.{Spells}
-use Rattle.fleet_list.specs.Listing.{program_text}
+use Rattle.fleet_run.specs.Listing.{program_text}
 use Rattle.fleet_files.specs.Files.{Store}
 use Rattle.fleet_text.specs.Sink.{FailsAfter, SinkState, IsUnwritten, IsDelivered}
 use Rattle.fleet_args.specs.declared.list.ListRequest.{ListRequest}

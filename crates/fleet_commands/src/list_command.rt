@@ -1,7 +1,7 @@
 //! The command `list`.
 
 ghost use Rattle.std.specs.Prelude.{◌≡◌, MatchResult};
-ghost use Rattle.fleet_list.specs.Listing.{program_text};
+ghost use Rattle.fleet_run.specs.Listing.{program_text};
 ghost use Rattle.fleet_text.specs.Sink.{IsWorking, Delivers};
 ghost use Rattle.fleet_files.specs.Files.{AreUnchanged};
 ghost use Rattle.fleet_commands.specs.ListCommand.{PrintsProgram, IsListFault, DoesList, RefusesList};
@@ -10,9 +10,8 @@ use crate::output::status_after_print;
 use crate::problem::view_program;
 use fleet_args::ListRequest;
 use fleet_io::{Fault, Files, read_file};
-use fleet_list::put_program;
 use fleet_model::ProgramView;
-use fleet_run::{Flush, OutFault};
+use fleet_run::{Flush, OutFault, put_program};
 use std::alloc::Global;
 
 /// Prints the program as text, and has the sink hand it on.

@@ -12,3 +12,4 @@ pub mod Driven
 pub mod Finished
 pub mod Patched
 pub mod Lines
+mod Texts

@@ -7,3 +7,4 @@ pub mod Fleet
 pub mod Drive
 pub mod RefusalWords
 pub mod Line
+pub mod Listing

@@ -1,5 +1,5 @@
 //! Runs of programs, tick by tick, under holds that a source gives, written as text to a sink: an accepted program that
-//! a `Fleet` drives to its goals, and the rehearsal of any program.
+//! a `Fleet` drives to its goals, and the rehearsal of any program; and programs themselves as text.
 #![tactic(auto)]
 
 mod fleet;
@@ -7,6 +7,7 @@ mod hold_list;
 mod hold_text;
 mod hold_writing;
 mod line;
+mod listing;
 mod patch;
 mod report;
 mod run;
@@ -20,6 +21,7 @@ pub use fleet_text::{Flush, OutFault, TraceOut, VecOut, WriteOut, put_all};
 pub use hold_list::HoldList;
 pub use hold_text::{HoldText, a_tick_line_is_read, set_tick};
 pub use hold_writing::write_holds;
+pub use listing::put_program;
 pub use report::{Rehearsal, rehearse};
 pub use run::{End, MAX_RUN_TICKS, RunFault};
 pub use source::{HoldSource, SourceFault, clear};

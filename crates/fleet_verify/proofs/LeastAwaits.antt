@@ -14,7 +14,7 @@ use Rattle.fleet_model.proofs.Chains.{chain_first, Reaches-last, Reaches-need}
 use Rattle.fleet_model.proofs.Reaching.{Reaches-refl, Reaches-trans}
 use Rattle.fleet_verify.proofs.Members.{contains_none}
 use Rattle.fleet_verify.proofs.Decide.{action-dec}
-use Rattle.fleet_settled.specs.Implied.{IsImplied}
+use Rattle.fleet_needs.specs.Implied.{IsImplied}
 use Rattle.fleet_verify.specs.Reduced.{IsThinned, HasLeastAwaits}
 use Rattle.fleet_verify.proofs.Reductions.{chain_apart}
 

@@ -17,8 +17,8 @@ use Rattle.fleet_model.specs.Chain.{Reaches, IsNumbering}
 use Rattle.fleet_model.specs.Visit.{IsVisit, IsVisitOf, ComesAfter, ComesAfterByChain, entering, leaving}
 use Rattle.fleet_model.proofs.Places.{place_of-injective}
 use Rattle.fleet_scen.specs.Instance.{IsInstance}
-use Rattle.fleet_rows.specs.declared.questions.Question.{Question}
-use Rattle.fleet_rows.specs.Asked.{IsQuestion, IsSoonerAction, AreQuestions, AreAnswers}
+use Rattle.fleet_needs.specs.declared.questions.Question.{Question}
+use Rattle.fleet_needs.specs.Asked.{IsQuestion, IsSoonerAction, AreQuestions, AreAnswers}
 use Rattle.fleet_verify.specs.declared.open_pairs.OrderViolation.{OrderViolation}
 use Rattle.fleet_verify.specs.declared.visit_order.OpenPair.{OpenPair}
 use Rattle.fleet_verify.specs.declared.visit_order.PlacedVisit.{PlacedVisit}

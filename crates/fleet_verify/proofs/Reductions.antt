@@ -8,7 +8,7 @@ use Rattle.fleet_model.specs.Chain.{IsAction, DirectlyNeeds, ChainFrom, Reaches,
 use Rattle.fleet_model.proofs.Chains.{chain_first, chain_last, chain_rises, Reaches-first, Reaches-last, Reaches-need}
 use Rattle.fleet_model.proofs.Reaching.{Reaches-trans}
 use Rattle.fleet_verify.proofs.Members.{same_action}
-use Rattle.fleet_settled.specs.Implied.{IsImplied}
+use Rattle.fleet_needs.specs.Implied.{IsImplied}
 use Rattle.fleet_verify.specs.Reduced.{DiffersInAwaits, IsThinned, IsReduced, HaveSameChains}
 use Rattle.fleet_verify.proofs.Decide.{some-dec, action-dec, before_in, needs_before, Reaches-dec}
 use Rattle.fleet_verify.proofs.Alike.{same_moves, action_there, action_back}

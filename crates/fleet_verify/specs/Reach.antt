@@ -3,7 +3,7 @@ use Rattle.std.specs.Prelude.{◌≡◌, ℕ, ◌≤◌, ◌⊎◌}
 use Rattle.fleet_model.specs.declared.program.ActionId.{ActionId}
 use Rattle.fleet_model.specs.Program.{Program}
 use Rattle.fleet_model.specs.Chain.{Reaches}
-use Rattle.fleet_rows.specs.Pieces.{ArePiecesOf}
+use Rattle.fleet_needs.specs.Pieces.{ArePiecesOf}
 use Rattle.fleet_verify.specs.declared.reach.Reach.{Reach}
 
 -- n is the greatest number of an action of agent j that begins a chain which ends with the action, or 0 if there is

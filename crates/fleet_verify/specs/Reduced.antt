@@ -5,7 +5,7 @@ use Rattle.fleet_model.specs.declared.program.ActionId.{ActionId}
 use Rattle.fleet_model.specs.Program.{Program, start_of, goal_of, actions_of, awaits_of}
 use Rattle.fleet_model.specs.Machine.{Holds, run}
 use Rattle.fleet_model.specs.Chain.{IsAction, Reaches, awaited}
-use Rattle.fleet_settled.specs.Implied.{IsImplied}
+use Rattle.fleet_needs.specs.Implied.{IsImplied}
 
 -- the same but for the awaits
 pub record DiffersInAwaits (p q : Program) : Type 0 where

@@ -41,7 +41,7 @@ pub use exactness::{
     unordered_visits_meet,
 };
 pub use fault::VerifyFault;
-pub use fleet_lanes::{join_rows, row_covers};
+pub use fleet_needs::{join_rows, row_covers};
 pub use orders::{
     awaits_are_chains, orderly_listings_rise, rings_are_never_finished, sorted_listings_decide,
 };

@@ -6,13 +6,13 @@ ghost use Rattle.indexmap.specs.IndexMap.{get};
 ghost use Rattle.fleet_model.specs.Program.{AreInRange};
 ghost use Rattle.fleet_model.specs.Machine.{IsFinish};
 ghost use Rattle.fleet_model.specs.Visit.{leaving, IsVisit};
-ghost use Rattle.fleet_rows.specs.Asked.{AreQuestions};
+ghost use Rattle.fleet_needs.specs.Asked.{AreQuestions};
 ghost use Rattle.fleet_verify.specs.Order.{number_of};
 ghost use Rattle.fleet_verify.specs.OpenPairs.{question_of, violation_of, AreVisits, HasNoChain, IsFlagged, AnswersFirstBad};
 
 use crate::visit_order::{OpenPair, number_of};
 use fleet_model::{ActionId, OutOfMemory, ProgramView, Step, Visit};
-use fleet_rows::{Question, answer_questions};
+use fleet_needs::{Question, answer_questions};
 use indexmap::IndexMap;
 use std::alloc::Global;
 

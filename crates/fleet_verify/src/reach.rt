@@ -8,7 +8,7 @@ ghost use Rattle.fleet_verify.specs.Reach.{IsReachOf, IsGreatest};
 
 use crate::accepted::Accepted;
 use fleet_model::{ActionId, OutOfMemory, ProgramView};
-use fleet_rows::Pieces;
+use fleet_needs::Pieces;
 use std::alloc::Global;
 
 /// For each action and each agent of one program the greatest action of the agent that begins a chain of needs which

@@ -19,7 +19,7 @@ use Rattle.fleet_model.specs.Chain.{DirectlyNeeds, Reaches, IsNumbering, awaited
 use Rattle.fleet_worked.proofs.Computed.{at_all_awaits, at_await, weighed, is_numbered, numbered_is, is_same_await, same_await, is_chain, chain_is}
 use Rattle.fleet_model.proofs.Chains.{chain_rises}
 use Rattle.fleet_verify.proofs.Members.{same_action}
-use Rattle.fleet_settled.specs.Implied.{IsImplied}
+use Rattle.fleet_needs.specs.Implied.{IsImplied}
 use Rattle.fleet_verify.specs.Reduced.{DiffersInAwaits, IsThinned}
 
 -- the await is in the list

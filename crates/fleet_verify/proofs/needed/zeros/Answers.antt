@@ -1,5 +1,5 @@
 use Rattle.std.proofs.Common.{ℕ, List, slice_index, ap, ◌∙◌}
-use Rattle.fleet_rows.proofs.Counting.{none_at}
+use Rattle.fleet_needs.proofs.Counting.{none_at}
 use Rattle.fleet_verify.proofs.needed.zeros.Goals as goal
 
 pub returns-clause-zero : goal.returns-clause-zero

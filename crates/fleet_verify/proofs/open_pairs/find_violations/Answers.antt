@@ -1,8 +1,8 @@
 use Rattle.std.proofs.Common.{ℕ, Bool, List, length, map, Ok, Err, Result, sym, ◌∙◌, subst}
 use Rattle.std.specs.Prelude.{nat_eq, IfOk}
 use Rattle.indexmap.specs.IndexMap.{get}
-use Rattle.fleet_rows.specs.declared.questions.Question.{Question}
-use Rattle.fleet_rows.specs.Asked.{AreAnswers}
+use Rattle.fleet_needs.specs.declared.questions.Question.{Question}
+use Rattle.fleet_needs.specs.Asked.{AreAnswers}
 use Rattle.fleet_verify.specs.OpenPairs.{question_of, HasNoChain, IsFlagged, AnswersFirstBad}
 use Rattle.fleet_verify.proofs.OpenPairs.{flags_tell}
 use Rattle.fleet_verify.proofs.open_pairs.find_violations.Goals as goal

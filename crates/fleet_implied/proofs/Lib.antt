@@ -1,2 +1,0 @@
-mod RowFlags
-mod Flagged

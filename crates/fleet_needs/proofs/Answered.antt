@@ -1,0 +1,218 @@
+-- Answers of questions, one after another.
+use Rattle.std.proofs.Common.{◌≡◌, ◌≢◌, ℕ, ◌+◌, ◌<◌, ◌≤◌, Bool, true, false, List, length, replicate, get_or, set, Some, refl, sym, ap, subst, ◌∙◌, arith, inl, inr, ◌⊎◌}
+use Rattle.std.specs.Prelude.{slice_get, nat_lt, All, Option, None}
+use Rattle.std.proofs.lemmas.Grind.{common_steps}
+use Rattle.std.proofs.lemmas.Option.{slice_get_within, get_or_from_slice_get, slice_get-get_or, same_Some}
+use Rattle.std.proofs.lemmas.List.{get_or-replicate, get_or_past, length-replicate}
+use Rattle.std.proofs.lemmas.Bool.{cases_lt, cases_eq, cases_order, ltb-true, lt-ltb, false≢true}
+use Rattle.fleet_model.specs.declared.program.ActionId.{ActionId}
+use Rattle.fleet_model.specs.Program.{Program}
+use Rattle.fleet_model.specs.Chain.{IsAction, Reaches}
+use Rattle.fleet_needs.specs.Rows.{IsColumn}
+use Rattle.fleet_needs.specs.Asked.{IsQuestion, IsSoonerAction, AreQuestions, AreAnswers}
+use Rattle.fleet_needs.specs.Block.{HasColumn, IsRowOf, IsAnswer, AreAnswered}
+use Rattle.fleet_needs.specs.Columns.{AreColumns}
+use Rattle.fleet_needs.specs.Order.{IsCounted, IsNextAction}
+use Rattle.fleet_needs.specs.Answering.{AreAnsweredTo, IsNextAnswered, IsAsked, IsAnswering}
+use Rattle.fleet_needs.specs.declared.answering.Answering.{Answering}
+use Rattle.fleet_needs.specs.declared.block.Block.{Block}
+use Rattle.fleet_needs.specs.declared.columns.Columns.{Columns}
+use Rattle.fleet_needs.specs.declared.questions.Question.{Question}
+use Rattle.fleet_needs.proofs.Counting.{counted_here, counted_still, counted_back, counted_apart, none_counted}
+
+-- a count of the row that is below the number of the first action says that no chain begins with it
+pub answer_is : (p : Program) (q : Question) (n : ℕ) → 1 ≤ q.first.number → IsColumn p q.last q.first.agent n → IsAnswer p q (nat_lt n q.first.number)
+answer_is p q n some col = (
+  (λ e r. let l : n < q.first.number = ltb-true n q.first.number e in let le : q.first.number ≤ n = ((col q.first.number).0 r).1 in omega arith),
+  (λ none. go (nat_lt n q.first.number) refl none),
+)
+  where
+    go : (b : Bool) → nat_lt n q.first.number ≡ b → (Reaches p q.first q.last → ⊥) → nat_lt n q.first.number ≡ true
+    go true e none = e
+    go false e none = absurd (none ((col q.first.number).1 (some, below e)))
+      where
+        below : nat_lt n q.first.number ≡ false → q.first.number ≤ n
+        below f = elim (cases_lt n q.first.number) [ inr g ↦ g | inl l ↦ absurd (let t : nat_lt n q.first.number ≡ true = lt-ltb n q.first.number l in cc) ]
+
+-- if the first action is reached, a flag that is not set is the answer
+pub near_answer : (p : Program) (q : Question) (flag : Bool) → flag ≡ false → Reaches p q.first q.last → IsAnswer p q flag
+near_answer p q flag e r = ((λ set none. false≢true (sym e ∙ set)), (λ none. absurd (none r)))
+
+pub none_flagged_at : (n k : ℕ) → get_or (replicate n false) k false ≡ false
+none_flagged_at n k = elim (cases_lt k n) [
+  | inl l ↦ get_or-replicate n k false false l
+  | inr l ↦ get_or_past (replicate n false) k false (omega (arith, length-replicate n false))
+]
+
+-- if no agent's column is asked for, flags that are not set are the answers
+pub none_asked : (p : Program) (questions : List Question) (asked flags : List Bool) → ((k : ℕ) (q : Question) → slice_get questions k ≡ Some q → (get_or asked q.first.agent false ≡ true) ⊎ Reaches p q.first q.last)
+    → ((k : ℕ) → get_or asked k false ≡ false) → length flags ≡ length questions → ((k : ℕ) → get_or flags k false ≡ false) → AreAnswers p questions flags
+none_asked p questions asked flags h none long clear = record {
+  all = long;
+  each = λ k q e. near_answer p q (get_or flags k false) (clear k) (elim (h k q e) [ inr r ↦ r | inl set ↦ absurd (false≢true (sym (none q.first.agent) ∙ set)) ]);
+}
+
+-- a question whose agent has no column in any block is answered before
+abbrev pub AreKnown : Program → List Bool → List Question → List Bool → Type 0
+AreKnown p asked questions flags = (m : ℕ) (q : Question) → slice_get questions m ≡ Some q → (get_or asked q.first.agent false ≡ true) ⊎ IsAnswer p q (get_or flags m false)
+
+-- and stays so
+pub known_on : (p : Program) (asked : List Bool) (columns : Columns) (questions : List Question) (old new : List Bool) → AreAnswered p columns questions old new → AreKnown p asked questions old
+    → AreKnown p asked questions new
+known_on p asked columns questions old new a known m q e = elim (known m q e) [ inl set ↦ inl set | inr before ↦ inr (go before (get_or columns.of_agent.items q.first.agent None) refl) ]
+  where
+    go : IsAnswer p q (get_or old m false) → (o : Option ℕ) → get_or columns.of_agent.items q.first.agent None ≡ o → IsAnswer p q (get_or new m false)
+    go before (Some k) f = a.answered m k q e f
+    go before None f = subst (λ (b : Bool). IsAnswer p q b) (sym (a.others m q e f)) before
+
+-- the answers of one block more
+pub answered_to : (p : Program) (asked : List Bool) (from : ℕ) (columns : Columns) → AreColumns asked from columns → (questions : List Question) (old new : List Bool)
+    → AreAnswered p columns questions old new → AreKnown p asked questions old
+    → ((m : ℕ) (q : Question) → slice_get questions m ≡ Some q → q.first.agent < from → IsAnswer p q (get_or old m false))
+    → (m : ℕ) (q : Question) → slice_get questions m ≡ Some q → q.first.agent < columns.end → IsAnswer p q (get_or new m false)
+answered_to p asked from columns h questions old new a known before m q e l = go (get_or columns.of_agent.items q.first.agent None) refl
+  where
+    go : (o : Option ℕ) → get_or columns.of_agent.items q.first.agent None ≡ o → IsAnswer p q (get_or new m false)
+    go (Some k) f = a.answered m k q e f
+    go None f = subst (λ (b : Bool). IsAnswer p q b) (sym (a.others m q e f)) (elim (cases_lt q.first.agent from) [
+      | inl low ↦ before m q e low
+      | inr high ↦ elim (known m q e) [ inl set ↦ absurd (h.chosen q.first.agent high l set f) | inr is ↦ is ]
+    ])
+
+-- a question of a list of questions
+pub question_at : (p : Program) (questions : List Question) → All (IsQuestion p) questions → (k : ℕ) (q : Question) → slice_get questions k ≡ Some q → IsQuestion p q
+question_at p questions h k q e = subst (IsQuestion p) (get_or_from_slice_get questions k q q e) (h k q (slice_get_within questions k q e))
+
+-- ---- an action more
+
+module _ (p : Program) (columns : Columns) (questions : List Question) (asked : AreQuestions p questions) (counts : List ℕ) (a : ActionId) (next : IsNextAction p counts a) where
+  action_at : (k : ℕ) (q : Question) → slice_get questions k ≡ Some q → IsAction p q.last
+  action_at k q at = (question_at p questions asked.each k q at).last
+
+  ordered : (k n : ℕ) (q r : Question) → slice_get questions k ≡ Some q → slice_get questions n ≡ Some r → k < n → IsSoonerAction asked.level q.last r.last
+  ordered k n q r at there l =
+      subst (λ (x : Question). IsSoonerAction asked.level x.last r.last) (get_or_from_slice_get questions k q q at)
+      (subst (λ (y : Question). IsSoonerAction asked.level (get_or questions k q).last y.last) (get_or_from_slice_get questions n r q there)
+      (asked.in_order k n q l (slice_get_within questions n r there)))
+
+  not_sooner : (x : ActionId) → IsSoonerAction asked.level x x → ⊥
+  not_sooner x (inl l) = omega arith
+  not_sooner x (inr (e, l)) = omega arith
+
+  still : (x : ActionId) → IsCounted counts x → IsCounted (set counts a.agent a.number) x
+  still = counted_still counts a next.agent next.number
+
+  back : (x : ActionId) → IsCounted (set counts a.agent a.number) x → IsCounted counts x ⊎ (x ≡ a)
+  back = counted_back counts a next.agent next.number
+
+  pub answers_on : (n m : ℕ) (old new : List Bool) → AreAnsweredTo p columns questions (IsCounted counts) old n → IsAsked p columns questions a n old new m
+      → AreAnsweredTo p columns questions (IsCounted (set counts a.agent a.number)) new m
+  answers_on n m old new r s = go s.step
+    where
+      earlier : (k c : ℕ) (q : Question) → slice_get questions k ≡ Some q → k < n → HasColumn columns q.first.agent c → IsAnswer p q (get_or new k false)
+      earlier k c q at l has = subst (λ (b : Bool). IsAnswer p q b) (sym (s.others k (λ e. omega arith))) (r.answered k c q at l has)
+
+      go : ((m ≡ n + 1) × IsNextAnswered p columns questions a n old new) ⊎ ((m ≡ n) × (get_or new n false ≡ get_or old n false) × ((q : Question) → slice_get questions n ≡ Some q → q.last ≢ a))
+          → AreAnsweredTo p columns questions (IsCounted (set counts a.agent a.number)) new m
+      go (inl (e, one)) = record {
+        before = λ k q at done. elim (back q.last done) [
+          | inl was ↦ (let l : k < n = r.before k q at was in omega arith)
+          | inr same ↦ elim (cases_order k n) [
+            | inl at_n ↦ omega arith
+            | inr (inl less) ↦ absurd (counted_apart counts a next.agent next.number q.last (r.done k q at less) same)
+            | inr (inr more) ↦ absurd (not_sooner a (subst (λ (x : ActionId). IsSoonerAction asked.level x a) one.last (subst (λ (y : ActionId). IsSoonerAction asked.level one.question.last y) same (ordered n k one.question q one.at at more))))
+          ]
+        ];
+        done = λ k q at l. elim (cases_eq k n) [
+          | inl at_n ↦
+              let is : q ≡ one.question = same_Some q one.question (sym at ∙ ap (slice_get questions) at_n ∙ one.at) in
+              subst (IsCounted (set counts a.agent a.number)) (sym (ap (λ (x : Question). x.last) is ∙ one.last)) (counted_here counts a next.agent next.number)
+          | inr ne ↦ still q.last (r.done k q at (omega arith))
+        ];
+        answered = λ k c q at l has. elim (cases_eq k n) [
+          | inl at_n ↦
+              let is : q ≡ one.question = same_Some q one.question (sym at ∙ ap (slice_get questions) at_n ∙ one.at) in
+              subst (λ (x : ℕ). IsAnswer p q (get_or new x false)) (sym at_n)
+              (subst (λ (x : Question). IsAnswer p x (get_or new n false)) (sym is) (one.answer c (subst (λ (x : Question). HasColumn columns x.first.agent c) is has)))
+          | inr ne ↦ earlier k c q at (omega arith) has
+        ];
+      }
+      go (inr (e, same, none)) = record {
+        before = λ k q at done. elim (back q.last done) [
+          | inl was ↦ (let l : k < n = r.before k q at was in omega arith)
+          | inr is ↦ elim (cases_order k n) [
+            | inl at_n ↦ absurd (none q (ap (slice_get questions) (sym at_n) ∙ at) is)
+            | inr (inl less) ↦ omega arith
+            | inr (inr more) ↦ absurd (
+                let first : Question = get_or questions n q in
+                let within : k < length questions = slice_get_within questions k q at in
+                let there : slice_get questions n ≡ Some first = slice_get-get_or questions n q (omega arith) in
+                let sooner : IsSoonerAction asked.level first.last a = subst (λ (y : ActionId). IsSoonerAction asked.level first.last y) is (ordered n k first q there at more) in
+                let low : n < n = r.before n first there (next.sooner asked.level asked.levels first.last (action_at n first there) sooner) in
+                omega arith)
+          ]
+        ];
+        done = λ k q at l. still q.last (r.done k q at (omega arith));
+        answered = λ k c q at l has. earlier k c q at (omega arith) has;
+      }
+
+-- the flags of questions whose agents have no column stay
+pub others_on : (p : Program) (columns : Columns) (questions : List Question) (a : ActionId) (n m : ℕ) (old new : List Bool) → IsAsked p columns questions a n old new m
+    → (k : ℕ) (q : Question) → slice_get questions k ≡ Some q → get_or columns.of_agent.items q.first.agent None ≡ None → get_or new k false ≡ get_or old k false
+others_on p columns questions a n m old new s k q at none = elim (cases_eq k n) [
+  | inr ne ↦ s.others k ne
+  | inl e ↦ elim s.step [
+    | inr (same, left, other) ↦ subst (λ (x : ℕ). get_or new x false ≡ get_or old x false) (sym e) left
+    | inl (same, next) ↦
+        let is : q ≡ next.question = same_Some q next.question (sym at ∙ ap (slice_get questions) e ∙ next.at) in
+        subst (λ (x : ℕ). get_or new x false ≡ get_or old x false) (sym e) (next.none (subst (λ (x : Question). get_or columns.of_agent.items x.first.agent None ≡ None) is none))
+  ]
+]
+
+-- ---- the question that comes next
+
+module _ (p : Program) (columns : Columns) (questions : List Question) (a : ActionId) (n : ℕ) (d : Question) (asked : (q : Question) × (slice_get questions n ≡ Some q) × (q.last ≡ a)) where
+  there : get_or questions n d ≡ asked.0
+  there = get_or_from_slice_get questions n asked.0 d asked.1
+
+  pub asked_row : (row : List ℕ) → IsRowOf p columns a row → IsRowOf p columns (get_or questions n d).last row
+  asked_row row h = subst (λ (x : ActionId). IsRowOf p columns x row) (sym (ap (λ (q : Question). q.last) there ∙ asked.2)) h
+
+  -- its flag is set, and no other one
+  pub next_asked : (flags : List Bool) → length flags ≡ length questions → (flag : Bool)
+      → ((k : ℕ) → HasColumn columns (get_or questions n d).first.agent k → IsAnswer p (get_or questions n d) flag)
+      → (get_or columns.of_agent.items (get_or questions n d).first.agent None ≡ None → flag ≡ get_or flags n false)
+      → IsAsked p columns questions a n flags (set flags n flag) (n + 1)
+  next_asked flags long flag answer none = record {
+    others = λ k ne. grind (arith, common_steps);
+    step = inl (
+      refl,
+      record {
+        question = asked.0;
+        at = asked.1;
+        last = asked.2;
+        answer = λ c h. subst (IsAnswer p asked.0) (sym set_here) (subst (λ (q : Question). IsAnswer p q flag) there (answer c (subst (λ (q : Question). HasColumn columns q.first.agent c) (sym there) h)));
+        none = λ h. set_here ∙ none (subst (λ (q : Question). get_or columns.of_agent.items q.first.agent None ≡ None) (sym there) h);
+      },
+    );
+  }
+    where
+      set_here : get_or (set flags n flag) n false ≡ flag
+      set_here = (let l : n < length questions = slice_get_within questions n asked.0 asked.1 in grind (arith, common_steps))
+
+pub asked_question : (p : Program) (questions : List Question) (a : ActionId) (n : ℕ) (d : Question) → (q : Question) × (slice_get questions n ≡ Some q) × (q.last ≡ a) → All (IsQuestion p) questions
+    → IsQuestion p (get_or questions n d)
+asked_question p questions a n d asked each = subst (IsQuestion p) (sym (get_or_from_slice_get questions n asked.0 d asked.1)) (question_at p questions each n asked.0 asked.1)
+
+-- ---- before the first action
+
+pub answering_none : (p : Program) (b : Block) (n : ℕ) (s : Answering) → AreQuestions p s.questions.now → length s.flags.items ≡ length s.questions.now → s.next ≡ 0 → IsAnswering p b (replicate n 0) s
+answering_none p b n s asked long next = record {
+  questions = asked;
+  flags = long;
+  answers = record {
+    before = λ k q at done. absurd (none_counted n q.last (question_at p s.questions.now asked.each k q at).last.first done);
+    done = λ k q at l. absurd (omega arith);
+    answered = λ k c q at l. absurd (omega arith);
+  };
+}

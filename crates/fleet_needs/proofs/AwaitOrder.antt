@@ -1,0 +1,124 @@
+-- The order of awaits, among those of an action and among all.
+use Rattle.std.proofs.Common.{◌≡◌, ◌≢◌, ℕ, zero, suc, ◌+◌, ◌-◌, ◌<◌, ◌≤◌, List, length, take, get_or, map, sym, ap, subst, ◌∙◌, arith, inl, inr, ◌⊎◌}
+use Rattle.std.specs.Prelude.{slice_get, slice_index, Some, sum_by}
+use Rattle.std.specs.List.Sorted.{IsStrictlyIncreasing}
+use Rattle.std.proofs.lemmas.Bool.{cases_lt, cases_order}
+use Rattle.std.proofs.lemmas.Option.{slice_get_within, get_or_from_slice_get}
+use Rattle.std.proofs.lemmas.List.{take_all, get_or-map, length-map}
+use Rattle.std.proofs.lemmas.List.Kept.{AllPairs-from_increasing}
+use Rattle.std.proofs.lemmas.List.Sums.{sum_by-take-le}
+use Rattle.fleet_model.specs.declared.program.ActionId.{ActionId}
+use Rattle.fleet_model.specs.declared.program.Action.{Action}
+use Rattle.fleet_model.specs.declared.program.Await.{Await}
+use Rattle.fleet_model.specs.Program.{Program, moves, actions_of, awaits_of, agent_awaits, total_moves, total_awaits}
+use Rattle.fleet_model.specs.Chain.{IsAction}
+use Rattle.fleet_model.proofs.Totals.{awaits_more, actions_more}
+use Rattle.fleet_needs.specs.Places.{ArePlaces, action_place}
+use Rattle.fleet_needs.proofs.Placed.{before_next, rising_to}
+use Rattle.fleet_needs.specs.Implied.{first_await}
+
+-- in a list in strictly rising order of agent each await is of a lower agent than all later ones
+pub await_below : (awaits : List Await) → IsStrictlyIncreasing (map (λ w. w.agent) awaits) → (k m : ℕ) (v w : Await) → slice_get awaits k ≡ Some v → slice_get awaits m ≡ Some w → k < m → v.agent < w.agent
+await_below awaits rising k m v w at there l =
+    let agents : List ℕ = map (λ (z : Await). z.agent) awaits in
+    let within : m < length awaits = slice_get_within awaits m w there in
+    let less : get_or agents k 0 < get_or agents m 0 = AllPairs-from_increasing agents rising k m 0 l (omega (arith, within, length-map awaits (λ (z : Await). z.agent))) in
+    omega (arith, less, agent_at k v at, agent_at m w there)
+  where
+    agent_at : (m : ℕ) (x : Await) → slice_get awaits m ≡ Some x → get_or (map (λ (y : Await). y.agent) awaits) m 0 ≡ x.agent
+    agent_at m x e = get_or-map (λ (y : Await). y.agent) awaits m x 0 (slice_get_within awaits m x e) ∙ ap (λ (y : Await). y.agent) (get_or_from_slice_get awaits m x x e)
+
+-- ---- the awaits of one action stand beside those of another
+
+-- the awaits of the first n actions of agent i
+abbrev pub own_awaits : Program → ℕ → ℕ → ℕ
+own_awaits p i n = sum_by (λ (s : Action). length s.awaits) (take n (actions_of p i))
+
+agents_rising : (p : Program) (i k : ℕ) → total_awaits (take i p) ≤ total_awaits (take (i + k) p)
+agents_rising p i zero = let e : i + zero ≡ i = omega arith in rw e (omega arith)
+agents_rising p i (suc k) =
+    let e : i + suc k ≡ i + k + 1 = omega arith in
+    let more = awaits_more p (i + k) in
+    let before = agents_rising p i k in
+    rw e (omega (arith, more, before))
+
+agents_rise : (p : Program) (i j : ℕ) → i ≤ j → total_awaits (take i p) ≤ total_awaits (take j p)
+agents_rise p i j l = let e : i + (j - i) ≡ j = omega arith in subst (λ (n : ℕ). total_awaits (take i p) ≤ total_awaits (take n p)) e (agents_rising p i (j - i))
+
+own_rising : (p : Program) (i n k : ℕ) → own_awaits p i n ≤ own_awaits p i (n + k)
+own_rising p i n zero = let e : n + zero ≡ n = omega arith in rw e (omega arith)
+own_rising p i n (suc k) =
+    let e : n + suc k ≡ n + k + 1 = omega arith in
+    let more = actions_more p i (n + k) in
+    let before = own_rising p i n k in
+    rw e (omega (arith, more, before))
+
+own_rise : (p : Program) (i n m : ℕ) → n ≤ m → own_awaits p i n ≤ own_awaits p i m
+own_rise p i n m l = let e : n + (m - n) ≡ m = omega arith in subst (λ (k : ℕ). own_awaits p i n ≤ own_awaits p i k) e (own_rising p i n (m - n))
+
+module _ (p : Program) where
+  -- up to the awaits of the action, with them
+  own_with : (a : ActionId) → IsAction p a → own_awaits p a.agent (a.number - 1) + length (awaits_of p a.agent a.number) ≡ own_awaits p a.agent a.number
+  own_with a k =
+      let f : 1 ≤ a.number = k.first in
+      let e : a.number - 1 + 1 ≡ a.number = omega arith in
+      subst (λ (n : ℕ). own_awaits p a.agent (a.number - 1) + length (awaits_of p a.agent n) ≡ own_awaits p a.agent n) e (sym (actions_more p a.agent (a.number - 1)))
+
+  agent_end : (a : ActionId) → IsAction p a → first_await p a + length (awaits_of p a.agent a.number) ≤ total_awaits (take (a.agent + 1) p)
+  agent_end a k =
+      let all : own_awaits p a.agent a.number ≤ agent_awaits p a.agent = sum_by-take-le (λ (s : Action). length s.awaits) (actions_of p a.agent) a.number in
+      omega (arith, own_with a k, all, awaits_more p a.agent)
+
+  pub flag_within : (a : ActionId) → IsAction p a → first_await p a + length (awaits_of p a.agent a.number) ≤ total_awaits p
+  flag_within a k =
+      let up : total_awaits (take (a.agent + 1) p) ≤ total_awaits (take (length p) p) = agents_rise p (a.agent + 1) (length p) (let l : a.agent < length p = k.agent in omega arith) in
+      let e : total_awaits (take (length p) p) ≡ total_awaits p = ap total_awaits (take_all (length p) p (omega arith)) in
+      omega (arith, agent_end a k, up, e)
+
+  before : (a b : ActionId) → IsAction p a → IsAction p b → (a.agent < b.agent) ⊎ ((a.agent ≡ b.agent) × (a.number < b.number)) → first_await p a + length (awaits_of p a.agent a.number) ≤ first_await p b
+  before a b k m (inl l) =
+      let up : total_awaits (take (a.agent + 1) p) ≤ total_awaits (take b.agent p) = agents_rise p (a.agent + 1) b.agent (omega arith) in
+      omega (arith, agent_end a k, up)
+  before a b k m (inr (e, l)) =
+      let up : own_awaits p a.agent a.number ≤ own_awaits p a.agent (b.number - 1) = own_rise p a.agent a.number (b.number - 1) (omega arith) in
+      let same : own_awaits p a.agent (b.number - 1) ≡ own_awaits p b.agent (b.number - 1) = ap (λ (i : ℕ). own_awaits p i (b.number - 1)) e in
+      let total : total_awaits (take a.agent p) ≡ total_awaits (take b.agent p) = ap (λ (i : ℕ). total_awaits (take i p)) e in
+      omega (arith, own_with a k, up, same, total)
+
+  -- no await of one action stands among those of another
+  pub flag_apart : (a b : ActionId) → IsAction p a → IsAction p b → a ≢ b → (k : ℕ) → k < length (awaits_of p a.agent a.number)
+      → (first_await p a + k < first_await p b) ⊎ (first_await p b + length (awaits_of p b.agent b.number) ≤ first_await p a + k)
+  flag_apart a b ka kb ne k l = elim (cases_order a.agent b.agent) [
+    | inr (inl less) ↦ (let s = before a b ka kb (inl less) in inl (omega (arith, s)))
+    | inr (inr more) ↦ (let s = before b a kb ka (inl more) in inr (omega (arith, s)))
+    | inl e ↦ elim (cases_order a.number b.number) [
+      | inl f ↦ absurd (ne (λ t. record { agent = e t; number = f t }))
+      | inr (inl less) ↦ (let s = before a b ka kb (inr (e, less)) in inl (omega (arith, s)))
+      | inr (inr more) ↦ (let s = before b a kb ka (inr (sym e, more)) in inr (omega (arith, s)))
+    ]
+  ]
+
+-- ---- the places of an agent's awaits
+
+pub agent_more : (p : Program) (i : ℕ) (places old new : List ℕ) (total : ℕ) → ArePlaces p places → total ≡ total_awaits (take i p) → length old ≡ total_moves (take i p)
+    → ((k : ℕ) → k < length old → slice_index new k ≡ slice_index old k)
+    → ((n : ℕ) → n < moves p i → slice_index new (length old + n) ≡ total + own_awaits p i n)
+    → ((a : ActionId) → IsAction p a → a.agent < i → slice_index old (action_place places a) ≡ first_await p a)
+    → (a : ActionId) → IsAction p a → a.agent < i + 1 → slice_index new (action_place places a) ≡ first_await p a
+agent_more p i places old new total h sum long others here each a k l = elim (cases_lt a.agent i) [
+  | inl low ↦
+      let up : total_moves (take (a.agent + 1) p) ≤ total_moves (take i p) = rising_to p (a.agent + 1) i (omega arith) in
+      let within : action_place places a < length old = (let b = before_next p places h a k in omega (arith, b, up, long)) in
+      others (action_place places a) within ∙ each a k low
+  | inr high ↦
+      let e : a.agent ≡ i = omega arith in
+      let f : 1 ≤ a.number = k.first in
+      let m : a.number ≤ moves p a.agent = k.last in
+      let same : moves p a.agent ≡ moves p i = ap (moves p) e in
+      let first : slice_index places a.agent ≡ total_moves (take a.agent p) = h.each a.agent k.agent in
+      let moved : total_moves (take a.agent p) ≡ total_moves (take i p) = ap (λ (n : ℕ). total_moves (take n p)) e in
+      let at : action_place places a ≡ length old + (a.number - 1) = omega (arith, first, moved, long) in
+      let own : own_awaits p i (a.number - 1) ≡ own_awaits p a.agent (a.number - 1) = ap (λ (n : ℕ). own_awaits p n (a.number - 1)) (sym e) in
+      let awaits : total_awaits (take a.agent p) ≡ total_awaits (take i p) = ap (λ (n : ℕ). total_awaits (take n p)) e in
+      ap (slice_index new) at ∙ here (a.number - 1) (omega arith) ∙ (let whole : total + own_awaits p i (a.number - 1) ≡ first_await p a = omega (arith, own, awaits, sum) in whole)
+]

@@ -1,0 +1,118 @@
+-- The flags of awaits, one action and one block more.
+use Rattle.std.proofs.Common.{◌≡◌, ◌≢◌, ℕ, ◌+◌, ◌-◌, ◌<◌, ◌≤◌, Bool, false, List, get_or, set, replicate, refl, sym, ap, subst, ◌∙◌, arith, inl, inr, ◌⊎◌}
+use Rattle.std.specs.Prelude.{slice_get, slice_index, Some, None, Option, nat_le}
+use Rattle.std.proofs.lemmas.Bool.{cases_lt, cases_eq, false≢true}
+use Rattle.std.proofs.lemmas.Option.{slice_get_within, same_Some}
+use Rattle.fleet_model.specs.declared.program.ActionId.{ActionId}
+use Rattle.fleet_model.specs.declared.program.Await.{Await}
+use Rattle.fleet_model.specs.Program.{Program, awaits_of, AreInRange, IsWellFormed}
+use Rattle.fleet_model.specs.Chain.{IsAction}
+use Rattle.fleet_needs.specs.Block.{HasColumn, AreOthers}
+use Rattle.fleet_needs.specs.Columns.{AreColumns}
+use Rattle.fleet_needs.specs.Order.{IsCounted, IsNextAction}
+use Rattle.fleet_needs.specs.declared.columns.Columns.{Columns}
+use Rattle.fleet_needs.proofs.Counting.{counted_back, counted_apart, none_counted}
+use Rattle.fleet_needs.proofs.Passing.{same_or_not}
+use Rattle.fleet_needs.specs.Implied.{IsImpliedFlag, first_await}
+use Rattle.fleet_needs.specs.Settled.{AreSettled}
+use Rattle.fleet_needs.proofs.AwaitOrder.{flag_apart}
+use Rattle.fleet_needs.specs.Flags.{AreFlagged, AreFlaggedFor, AreLeft, AreAllFlagged}
+use Rattle.fleet_needs.proofs.RowFlags.{flagged}
+
+-- ---- the flags of one action, one after another
+
+pub flagged_of : (p : Program) → AreInRange p → IsWellFormed p → (columns : Columns) (a : ActionId) (row : List ℕ) → IsAction p a → AreOthers p columns a row
+    → (k c : ℕ) (w : Await) → slice_get (awaits_of p a.agent a.number) k ≡ Some w → HasColumn columns w.agent c → IsImpliedFlag p a w (nat_le w.count (slice_index row c))
+flagged_of p range formed columns a row is others k c w at has =
+    let f : 1 ≤ a.number = is.first in
+    let e : a.number - 1 + 1 ≡ a.number = omega arith in
+    let there : slice_get (awaits_of p a.agent (a.number - 1 + 1)) k ≡ Some w = subst (λ (n : ℕ). slice_get (awaits_of p a.agent n) k ≡ Some w) (sym e) at in
+    let same : ◌≡◌ {A = ActionId} (record { agent = a.agent; number = a.number - 1 + 1 }) a = (λ t. record { agent = a.agent; number = e t }) in
+    subst (λ (x : ActionId). IsImpliedFlag p x w (nat_le w.count (slice_index row c))) same
+    (flagged p range a.agent (a.number - 1) k w there (formed.awaits a.agent (a.number - 1 + 1)) (slice_index row c) (others w.agent c has))
+
+module _ (p : Program) (columns : Columns) (a : ActionId) (first k : ℕ) (one : Await) (at : slice_get (awaits_of p a.agent a.number) k ≡ Some one) (old new : List Bool)
+    (others : (n : ℕ) → n ≢ first + k → get_or new n false ≡ get_or old n false) where
+  is_one : (m : ℕ) (w : Await) → m ≡ k → slice_get (awaits_of p a.agent a.number) m ≡ Some w → one ≡ w
+  is_one m w e there = same_Some one w (sym at ∙ ap (slice_get (awaits_of p a.agent a.number)) (sym e) ∙ there)
+
+  pub flagged_more : ((c : ℕ) → HasColumn columns one.agent c → IsImpliedFlag p a one (get_or new (first + k) false))
+      → ((m c : ℕ) (w : Await) → m < k → slice_get (awaits_of p a.agent a.number) m ≡ Some w → HasColumn columns w.agent c → IsImpliedFlag p a w (get_or old (first + m) false))
+      → (m c : ℕ) (w : Await) → m < k + 1 → slice_get (awaits_of p a.agent a.number) m ≡ Some w → HasColumn columns w.agent c → IsImpliedFlag p a w (get_or new (first + m) false)
+  flagged_more here before m c w l there has = elim (cases_eq m k) [
+    | inr ne ↦ subst (IsImpliedFlag p a w) (sym (others (first + m) (λ e. ne (omega (arith, e))))) (before m c w (omega arith) there has)
+    | inl e ↦
+        let same : one ≡ w = is_one m w e there in
+        let flag : get_or new (first + k) false ≡ get_or new (first + m) false = ap (λ (n : ℕ). get_or new (first + n) false) (sym e) in
+        subst (IsImpliedFlag p a w) flag (subst (λ (v : Await). IsImpliedFlag p a v (get_or new (first + k) false)) same (here c (subst (λ (v : Await). HasColumn columns v.agent c) (sym same) has)))
+  ]
+
+  pub left_more : (initial : List Bool) → (get_or columns.of_agent.items one.agent None ≡ None → get_or new (first + k) false ≡ get_or old (first + k) false)
+      → ((m : ℕ) (w : Await) → slice_get (awaits_of p a.agent a.number) m ≡ Some w → get_or columns.of_agent.items w.agent None ≡ None → get_or old (first + m) false ≡ get_or initial (first + m) false)
+      → (m : ℕ) (w : Await) → slice_get (awaits_of p a.agent a.number) m ≡ Some w → get_or columns.of_agent.items w.agent None ≡ None → get_or new (first + m) false ≡ get_or initial (first + m) false
+  left_more initial here before m w there none = elim (cases_eq m k) [
+    | inr ne ↦ others (first + m) (λ e. ne (omega (arith, e))) ∙ before m w there none
+    | inl e ↦
+        let same : one ≡ w = is_one m w e there in
+        let flag : get_or new (first + m) false ≡ get_or new (first + k) false = ap (λ (n : ℕ). get_or new (first + n) false) e in
+        let was : get_or old (first + k) false ≡ get_or old (first + m) false = ap (λ (n : ℕ). get_or old (first + n) false) (sym e) in
+        flag ∙ here (subst (λ (v : Await). get_or columns.of_agent.items v.agent None ≡ None) (sym same) none) ∙ was ∙ before m w there none
+  ]
+
+-- ---- the flags of one action more
+
+pub flagged_on : (p : Program) (columns : Columns) (Done Next : ActionId → Type 0) (a : ActionId) (old new : List Bool) → IsAction p a → ((b : ActionId) → IsAction p b → Next b → Done b ⊎ (b ≡ a))
+    → ((b : ActionId) → IsAction p b → Done b → b ≢ a) → AreFlagged p columns a old new → AreFlaggedFor p columns Done old → AreFlaggedFor p columns Next new
+flagged_on p columns Done Next a old new is back apart h before b kb next k c w at has = elim (back b kb next) [
+  | inl done ↦ subst (IsImpliedFlag p b w) (sym (h.others (first_await p b + k) (flag_apart p b a kb is (apart b kb done) k (slice_get_within (awaits_of p b.agent b.number) k w at)))) (before b kb done k c w at has)
+  | inr e ↦
+      subst (λ (x : ActionId). IsImpliedFlag p x w (get_or new (first_await p x + k) false)) (sym e)
+      (h.flagged k c w (subst (λ (x : ActionId). slice_get (awaits_of p x.agent x.number) k ≡ Some w) e at) has)
+]
+
+pub left_on : (p : Program) (columns : Columns) (a : ActionId) (old new : List Bool) → IsAction p a → AreFlagged p columns a old new → AreLeft p columns old new
+left_on p columns a old new is h b kb k w at none = elim (same_or_not b a) [
+  | inr ne ↦ h.others (first_await p b + k) (flag_apart p b a kb is ne k (slice_get_within (awaits_of p b.agent b.number) k w at))
+  | inl e ↦
+      subst (λ (x : ActionId). get_or new (first_await p x + k) false ≡ get_or old (first_await p x + k) false) (sym e)
+      (h.none k w (subst (λ (x : ActionId). slice_get (awaits_of p x.agent x.number) k ≡ Some w) e at) none)
+]
+
+pub flagged_counted : (p : Program) (columns : Columns) (counts : List ℕ) (a : ActionId) (old new : List Bool) → IsAction p a → IsNextAction p counts a → AreFlagged p columns a old new
+    → AreFlaggedFor p columns (IsCounted counts) old → AreFlaggedFor p columns (IsCounted (set counts a.agent a.number)) new
+flagged_counted p columns counts a old new is next h before =
+    flagged_on p columns (IsCounted counts) (IsCounted (set counts a.agent a.number)) a old new is
+    (λ b k. counted_back counts a next.agent next.number b) (λ b k. counted_apart counts a next.agent next.number b) h before
+
+pub flagged_none : (p : Program) (columns : Columns) (n : ℕ) (flags : List Bool) → AreFlaggedFor p columns (IsCounted (replicate n 0)) flags
+flagged_none p columns n flags a is done = absurd (none_counted n a is.first done)
+
+-- ---- the flags of one block more
+
+-- flags that tell of awaits of agents who are not asked for still do
+pub settled_after : (p : Program) (asked : List Bool) (columns : Columns) (old new : List Bool)
+    → ((a : ActionId) → IsAction p a → (k c : ℕ) (w : Await) → slice_get (awaits_of p a.agent a.number) k ≡ Some w → HasColumn columns w.agent c → IsImpliedFlag p a w (get_or new (first_await p a + k) false))
+    → AreLeft p columns old new → AreSettled p asked old → AreSettled p asked new
+settled_after p asked columns old new here left before a is too k w at = elim (before a is too k w at) [ inl set ↦ inl set | inr was ↦ inr (go was (get_or columns.of_agent.items w.agent None) refl) ]
+  where
+    go : IsImpliedFlag p a w (get_or old (first_await p a + k) false) → (o : Option ℕ) → get_or columns.of_agent.items w.agent None ≡ o → IsImpliedFlag p a w (get_or new (first_await p a + k) false)
+    go was (Some c) f = here a is k c w at f
+    go was None f = subst (IsImpliedFlag p a w) (sym (left a is k w at f)) was
+
+pub flagged_to : (p : Program) (asked : List Bool) (from : ℕ) (columns : Columns) → AreColumns asked from columns → (old new : List Bool)
+    → ((a : ActionId) → IsAction p a → (k c : ℕ) (w : Await) → slice_get (awaits_of p a.agent a.number) k ≡ Some w → HasColumn columns w.agent c → IsImpliedFlag p a w (get_or new (first_await p a + k) false))
+    → AreLeft p columns old new → AreSettled p asked old
+    → ((a : ActionId) → IsAction p a → (k : ℕ) (w : Await) → slice_get (awaits_of p a.agent a.number) k ≡ Some w → w.agent < from → IsImpliedFlag p a w (get_or old (first_await p a + k) false))
+    → (a : ActionId) → IsAction p a → (k : ℕ) (w : Await) → slice_get (awaits_of p a.agent a.number) k ≡ Some w → w.agent < columns.end → IsImpliedFlag p a w (get_or new (first_await p a + k) false)
+flagged_to p asked from columns h old new here left settled before a is k w at l = go (get_or columns.of_agent.items w.agent None) refl
+  where
+    go : (o : Option ℕ) → get_or columns.of_agent.items w.agent None ≡ o → IsImpliedFlag p a w (get_or new (first_await p a + k) false)
+    go (Some c) f = here a is k c w at f
+    go None f = subst (IsImpliedFlag p a w) (sym (left a is k w at f)) (elim (cases_lt w.agent from) [
+      | inl low ↦ before a is k w at low
+      | inr high ↦ elim (settled a is is k w at) [ inl set ↦ absurd (h.chosen w.agent high l set f) | inr was ↦ was ]
+    ])
+
+-- if no agent is asked for, all flags say whether their await is implied
+pub flagged_if_none : (p : Program) (asked flags : List Bool) → ((j : ℕ) → get_or asked j false ≡ false) → AreSettled p asked flags → AreAllFlagged p flags
+flagged_if_none p asked flags none settled a is k w at = elim (settled a is is k w at) [ inr was ↦ was | inl set ↦ absurd (false≢true (sym (none w.agent) ∙ set)) ]

@@ -1,0 +1,184 @@
+-- The column of an action is made of those of the actions that it directly needs.
+use Rattle.std.proofs.Common.{◌≡◌, ◌≢◌, ℕ, ◌+◌, ◌-◌, ◌<◌, ◌≤◌, List, length, get_or, max, refl, sym, ap, subst, ◌∙◌, arith, inl, inr, ◌⊎◌}
+use Rattle.std.specs.Prelude.{Contains, slice_get, Some}
+use Rattle.std.proofs.lemmas.Bool.{cases_lt, cases_eq}
+use Rattle.std.proofs.lemmas.Option.{slice_get-get_or, slice_get_within, get_or_from_slice_get, same_Some}
+use Rattle.fleet_model.specs.declared.program.ActionId.{ActionId}
+use Rattle.fleet_model.specs.declared.program.Await.{Await}
+use Rattle.fleet_model.specs.Program.{Program, moves, awaits_of, AreInRange}
+use Rattle.fleet_model.specs.Chain.{IsAction, Reaches, awaited}
+use Rattle.fleet_needs.specs.Rows.{IsColumn, ByOneOf, IsJoined, OfFirst}
+use Rattle.fleet_needs.specs.Block.{HasRow, CanMakeRow}
+use Rattle.fleet_needs.specs.declared.block.Block.{Block}
+use Rattle.fleet_needs.specs.declared.kept_rows.KeptRows.{KeptRows}
+use Rattle.fleet_model.proofs.Reaching.{own_reach, LastStep, chain_ends_by_step, Reaches-trans}
+use Rattle.fleet_model.proofs.Chains.{Reaches-first, Reaches-last, Reaches-need}
+
+abbrev act : ℕ → ℕ → ActionId
+act j c = record { agent = j; number = c }
+
+-- an action by its agent and its number
+pub numbered : (a : ActionId) (n : ℕ) → n ≡ a.number → record { agent = a.agent; number = n } ≡ a
+numbered a n e = λ t. record { agent = a.agent; number = e t }
+
+-- before its first action nothing reaches an agent
+pub column_none : (p : Program) (i j : ℕ) → IsColumn p (record { agent = i; number = 0 }) j 0
+column_none p i j c = (
+  (λ r. absurd (let f = (Reaches-last p (act j c) (act i 0) r).first in omega arith)),
+  (λ b. absurd (let f : 1 ≤ c = b.0 in let l : c ≤ 0 = b.1 in omega arith)),
+)
+
+-- ---- joined awaits
+
+module _ (p : Program) (i b j : ℕ) where
+  one_of : (S T : ℕ → Await → Type 0) (x : ActionId) → ((k : ℕ) (w : Await) → slice_get (awaits_of p i (b + 1)) k ≡ Some w → S k w → T k w) → ByOneOf S p x i (b + 1) → ByOneOf T p x i (b + 1)
+  one_of S T x wider r = record { place = r.place; await = r.await; this = wider r.place r.await r.at r.this; at = r.at; reaches = r.reaches }
+
+  pub joined_same : (S T : ℕ → Await → Type 0) (n : ℕ) → IsJoined S p i b j n → ((k : ℕ) (w : Await) → slice_get (awaits_of p i (b + 1)) k ≡ Some w → S k w → T k w)
+      → ((k : ℕ) (w : Await) → slice_get (awaits_of p i (b + 1)) k ≡ Some w → T k w → S k w) → IsJoined T p i b j n
+  joined_same S T n h there back = record {
+    into = λ c f l. elim (h.into c f l) [ inl r ↦ inl r | inr r ↦ inr (one_of S T (act j c) there r) ];
+    own = h.own;
+    awaits = λ c r. h.awaits c (one_of T S (act j c) back r);
+  }
+
+  pub joined_more : (S T : ℕ → Await → Type 0) (n k : ℕ) (w : Await) (u : ℕ) → IsJoined S p i b j n → slice_get (awaits_of p i (b + 1)) k ≡ Some w → IsColumn p (awaited w) j u → T k w
+      → ((m : ℕ) (v : Await) → slice_get (awaits_of p i (b + 1)) m ≡ Some v → S m v → T m v) → ((m : ℕ) (v : Await) → slice_get (awaits_of p i (b + 1)) m ≡ Some v → T m v → S m v ⊎ (m ≡ k))
+      → IsJoined T p i b j (max n u)
+  joined_more S T n k w u h at col this there back = record { into = into; own = λ c r. (let l : c ≤ n = h.own c r in omega arith); awaits = awaits }
+    where
+      into : (c : ℕ) → 1 ≤ c → c ≤ max n u → Reaches p (act j c) (act i b) ⊎ ByOneOf T p (act j c) i (b + 1)
+      into c f l = elim (cases_lt n c) [
+        | inr le ↦ elim (h.into c f le) [ inl r ↦ inl r | inr r ↦ inr (one_of S T (act j c) there r) ]
+        | inl lt ↦ inr (record { place = k; await = w; this = this; at = at; reaches = (col c).1 (f, omega arith) })
+      ]
+
+      awaits : (c : ℕ) → ByOneOf T p (act j c) i (b + 1) → c ≤ max n u
+      awaits c r = elim (back r.place r.await r.at r.this) [
+        | inl s ↦ (let le : c ≤ n = h.awaits c (record { place = r.place; await = r.await; this = s; at = r.at; reaches = r.reaches }) in omega arith)
+        | inr e ↦
+            let same : r.await ≡ w = same_Some _ _ (sym r.at ∙ ap (slice_get (awaits_of p i (b + 1))) e ∙ at) in
+            let le : c ≤ u = ((col c).0 (subst (λ v. Reaches p (act j c) (awaited v)) same r.reaches)).1 in
+            omega arith
+      ]
+
+  -- where there are none of these awaits
+  pub joined_none : (S : ℕ → Await → Type 0) (n : ℕ) → ((k : ℕ) (w : Await) → S k w → ⊥) → IsColumn p (record { agent = i; number = b }) j n → IsJoined S p i b j n
+  joined_none S n none h = record {
+    into = λ c f l. inl ((h c).1 (f, l));
+    own = λ c r. ((h c).0 r).1;
+    awaits = λ c r. absurd (none r.place r.await r.this);
+  }
+
+  -- one more of the first
+  pub part_more : (k n : ℕ) (w : Await) (u : ℕ) → IsJoined (OfFirst k) p i b j n → slice_get (awaits_of p i (b + 1)) k ≡ Some w → IsColumn p (awaited w) j u → IsJoined (OfFirst (k + 1)) p i b j (max n u)
+  part_more k n w u h at col =
+      joined_more (OfFirst k) (OfFirst (k + 1)) n k w u h at col (omega arith)
+      (λ m v a s. omega arith)
+      (λ m v a t. elim (cases_lt m k) [ inl l ↦ inl l | inr g ↦ inr (omega arith) ])
+
+-- all of it, for another agent
+pub part_all : (p : Program) (i b j n : ℕ) → IsAction p (record { agent = i; number = b + 1 }) → j ≢ i → IsJoined (OfFirst (length (awaits_of p i (b + 1)))) p i b j n
+    → IsColumn p (record { agent = i; number = b + 1 }) j n
+part_all p i b j n k other h c = (into, out)
+  where
+    a : ActionId
+    a = act i (b + 1)
+
+    from : (act j c ≡ a) ⊎ LastStep p (act j c) a → 1 ≤ c → (1 ≤ c) × (c ≤ n)
+    from (inl e) f = absurd (other (ap (λ x. x.agent) e))
+    from (inr l) f = elim l.needs [
+      | inl (same, number, some) ↦
+          let before : l.before ≡ act i b = same_action l.before (act i b) (sym same) (omega arith) in
+          (f, h.own c (subst (Reaches p (act j c)) before l.reaches))
+      | inr w ↦ (
+        f,
+        h.awaits c (record {
+          place = w.0;
+          await = record { agent = l.before.agent; count = l.before.number };
+          this = w.1;
+          at = slice_get-get_or _ _ _ w.1 ∙ ap Some w.2;
+          reaches = l.reaches;
+        }),
+      )
+    ]
+      where
+        same_action : (x y : ActionId) → x.agent ≡ y.agent → x.number ≡ y.number → x ≡ y
+        same_action x y e g = λ t. record { agent = e t; number = g t }
+
+    into : Reaches p (act j c) a → (1 ≤ c) × (c ≤ n)
+    into r = from (chain_ends_by_step p (act j c) r.0 a r.1) (Reaches-first p (act j c) a r).first
+
+    out : (1 ≤ c) × (c ≤ n) → Reaches p (act j c) a
+    out (f, l) = elim (h.into c f l) [
+      | inl r ↦
+          let m = Reaches-last p (act j c) (act i b) r in
+          Reaches-trans p (act j c) (act i b) a r (Reaches-need p (act i b) a m k (inl (refl, refl, m.first)))
+      | inr r ↦
+          let m = Reaches-last p (act j c) (awaited r.await) r.reaches in
+          Reaches-trans p (act j c) (awaited r.await) a r.reaches (Reaches-need p (awaited r.await) a m k (inr (contained r)))
+    ]
+      where
+        contained : (r : ByOneOf (OfFirst (length (awaits_of p i (b + 1)))) p (act j c) i (b + 1)) → Contains (awaits_of p i (b + 1)) r.await
+        contained r = (r.place, r.this, found (awaits_of p i (b + 1)) r.place r.await r.this r.at)
+          where
+            found : (ws : List Await) (m : ℕ) (w : Await) → m < length ws → slice_get ws m ≡ Some w → get_or ws m w ≡ w
+            found ws m w l e = get_or_from_slice_get ws m w w e
+
+-- and for its own, whose later actions do not reach it
+pub own_column : (p : Program) (i n : ℕ) → IsAction p (record { agent = i; number = n }) → ((c : ℕ) → Reaches p (record { agent = i; number = c }) (record { agent = i; number = n }) → c ≤ n)
+    → IsColumn p (record { agent = i; number = n }) i n
+own_column p i n k later c = (
+  (λ r. ((Reaches-first p (act i c) (act i n) r).first, later c r)),
+  (λ b. own_reach p i c n k.agent b.0 b.1 k.last),
+)
+
+-- an awaited action is one of the program
+pub awaited_action : (p : Program) → AreInRange p → (i n k : ℕ) (w : Await) → slice_get (awaits_of p i n) k ≡ Some w → IsAction p (awaited w)
+awaited_action p range i n k w e =
+    let known = range i n w (k, slice_get_within (awaits_of p i n) k w e, get_or_from_slice_get (awaits_of p i n) k w w e) in
+    record { agent = known.agent; first = known.first; last = known.last }
+
+-- the row of an action from the parts of the columns of the others, and its number in its own
+pub row_whole : (p : Program) (i b j n v : ℕ) → IsAction p (record { agent = i; number = b + 1 }) → ((c : ℕ) → Reaches p (record { agent = i; number = c }) (record { agent = i; number = b + 1 }) → c ≤ b + 1)
+    → (j ≡ i → v ≡ b + 1) → (j ≢ i → v ≡ n) → IsJoined (OfFirst (length (awaits_of p i (b + 1)))) p i b j n → IsColumn p (record { agent = i; number = b + 1 }) j v
+row_whole p i b j n v k later own other part = elim (cases_eq j i) [
+  | inl e ↦
+      let here : IsColumn p (act i (b + 1)) i (b + 1) = own_column p i (b + 1) k later in
+      subst (λ (m : ℕ). IsColumn p (act i (b + 1)) m v) (sym e) (subst (λ (m : ℕ). IsColumn p (act i (b + 1)) i m) (sym (own e)) here)
+  | inr ne ↦ subst (λ (m : ℕ). IsColumn p (act i (b + 1)) j m) (sym (other ne)) (part_all p i b j n k ne part)
+]
+
+-- ---- chains found from their ends
+
+pub own_first : (p : Program) (first last : ActionId) → 1 ≤ first.number → IsAction p last → last.agent ≡ first.agent → first.number ≤ last.number → Reaches p first last
+own_first p first last some k same l =
+    let e : record { agent = last.agent; number = first.number } ≡ first = (λ t. record { agent = same t; number = first.number }) in
+    subst (λ (x : ActionId). Reaches p x last) e (own_reach p last.agent first.number last.number k.agent some l k.last)
+
+pub by_await : (p : Program) (range : AreInRange p) (first last : ActionId) (k : ℕ) (w : Await) → IsAction p last → slice_get (awaits_of p last.agent last.number) k ≡ Some w
+    → Reaches p first (awaited w) → Reaches p first last
+by_await p range first last k w is at r =
+    Reaches-trans p first (awaited w) last r
+    (Reaches-need p (awaited w) last (awaited_action p range last.agent last.number k w at) is
+    (inr (k, slice_get_within (awaits_of p last.agent last.number) k w at, get_or_from_slice_get (awaits_of p last.agent last.number) k w w at)))
+
+pub by_before : (p : Program) (first last : ActionId) (n : ℕ) → IsAction p last → 1 ≤ n → n + 1 ≡ last.number → Reaches p first (record { agent = last.agent; number = n }) → Reaches p first last
+by_before p first last n is some e r =
+    let before : IsAction p (record { agent = last.agent; number = n }) = record { agent = is.agent; first = some; last = (let l : last.number ≤ moves p last.agent = is.last in omega arith) } in
+    Reaches-trans p first (record { agent = last.agent; number = n }) last r (Reaches-need p (record { agent = last.agent; number = n }) last before is (inl (refl, omega arith, some)))
+
+-- ---- what can be made of the rows of all that an action directly needs
+
+pub can_next : (p : Program) (b : Block) (m : KeptRows) (a : ActionId) → CanMakeRow p b m a → CanMakeRow p b m (record { agent = a.agent; number = a.number - 1 + 1 })
+can_next p b m a can = let f : 1 ≤ a.number = can.action.first in subst (CanMakeRow p b m) (sym (numbered a (a.number - 1 + 1) (omega arith))) can
+
+pub row_before : (p : Program) (b : Block) (m : KeptRows) (i n : ℕ) → CanMakeRow p b m (record { agent = i; number = n + 1 }) → 1 ≤ n → HasRow p b m (record { agent = i; number = n })
+row_before p b m i n can some =
+    let l : n + 1 ≤ moves p i = can.action.last in
+    can.needed (record { agent = i; number = n }) (record { agent = can.action.agent; first = some; last = omega arith }) (inl (refl, refl, some))
+
+pub row_awaited : (p : Program) → AreInRange p → (b : Block) (m : KeptRows) (a : ActionId) → CanMakeRow p b m a
+    → (k : ℕ) (w : Await) → slice_get (awaits_of p a.agent a.number) k ≡ Some w → HasRow p b m (awaited w)
+row_awaited p range b m a can k w at =
+    can.needed (awaited w) (awaited_action p range a.agent a.number k w at) (inr (k, slice_get_within (awaits_of p a.agent a.number) k w at, get_or_from_slice_get (awaits_of p a.agent a.number) k w w at))

@@ -1,0 +1,78 @@
+-- The places of actions, and of the counts of their rows.
+use Rattle.std.proofs.Common.{◌≡◌, ◌≢◌, ℕ, zero, suc, ◌+◌, ◌-◌, ◌*◌, ◌<◌, ◌≤◌, List, length, take, slice_index, ap, subst, arith, inl, inr, ◌⊎◌}
+use Rattle.std.proofs.lemmas.Bool.{cases_order}
+use Rattle.std.proofs.lemmas.Nat.{mul-le}
+use Rattle.std.proofs.lemmas.List.{take_all}
+use Rattle.fleet_model.specs.declared.program.ActionId.{ActionId}
+use Rattle.fleet_model.specs.Program.{Program, moves, total_moves}
+use Rattle.fleet_model.specs.Chain.{IsAction}
+use Rattle.fleet_model.proofs.Totals.{moves_more}
+use Rattle.fleet_needs.specs.Places.{ArePlaces, action_place}
+
+-- more agents have as many actions or more
+firsts_rise : (p : Program) (i k : ℕ) → total_moves (take i p) ≤ total_moves (take (i + k) p)
+firsts_rise p i zero = let e : i + zero ≡ i = omega arith in rw e (omega arith)
+firsts_rise p i (suc k) =
+    let e : i + suc k ≡ i + k + 1 = omega arith in
+    let more = moves_more p (i + k) in
+    let before = firsts_rise p i k in
+    rw e (omega (arith, more, before))
+
+pub rising_to : (p : Program) (i j : ℕ) → i ≤ j → total_moves (take i p) ≤ total_moves (take j p)
+rising_to p i j l = let e : i + (j - i) ≡ j = omega arith in subst (λ (n : ℕ). total_moves (take i p) ≤ total_moves (take n p)) e (firsts_rise p i (j - i))
+
+-- the actions of an agent stand before those of the next
+module _ (p : Program) (firsts : List ℕ) (h : ArePlaces p firsts) where
+  pub before_next : (a : ActionId) → IsAction p a → action_place firsts a < total_moves (take (a.agent + 1) p)
+  before_next a k =
+      let e = h.each a.agent k.agent in
+      let f : 1 ≤ a.number = k.first in
+      let l : a.number ≤ moves p a.agent = k.last in
+      omega (arith, e, moves_more p a.agent)
+
+  pub place_within : (a : ActionId) → IsAction p a → action_place firsts a < total_moves p
+  place_within a k =
+      let up : total_moves (take (a.agent + 1) p) ≤ total_moves (take (length p) p) = rising_to p (a.agent + 1) (length p) (let l : a.agent < length p = k.agent in omega arith) in
+      let e : total_moves (take (length p) p) ≡ total_moves p = ap total_moves (take_all (length p) p (omega arith)) in
+      omega (arith, before_next a k)
+
+  sooner : (a b : ActionId) → IsAction p a → IsAction p b → a.agent < b.agent → action_place firsts a < action_place firsts b
+  sooner a b k m l =
+      let up : total_moves (take (a.agent + 1) p) ≤ total_moves (take b.agent p) = rising_to p (a.agent + 1) b.agent (omega arith) in
+      let e = h.each b.agent m.agent in
+      let f : 1 ≤ b.number = m.first in
+      omega (arith, before_next a k, e)
+
+  pub place_apart : (a b : ActionId) → IsAction p a → IsAction p b → a ≢ b → action_place firsts a ≢ action_place firsts b
+  place_apart a b k m n e = elim (cases_order a.agent b.agent) [
+    | inl same ↦
+        let f : 1 ≤ a.number = k.first in
+        let g : 1 ≤ b.number = m.first in
+        let first : slice_index firsts a.agent ≡ slice_index firsts b.agent = ap (slice_index firsts) same in
+        let number : a.number ≡ b.number = omega arith in
+        n (λ t. record { agent = same t; number = number t })
+    | inr (inl l) ↦ (let s = sooner a b k m l in omega (arith, s))
+    | inr (inr l) ↦ (let s = sooner b a m k l in omega (arith, s))
+  ]
+
+-- a row at a place ends before that of a later place begins
+pub row_ends : (w x y : ℕ) → x < y → x * w + w ≤ y * w
+row_ends w x y l = let s : (x + 1) * w ≤ y * w = mul-le (x + 1) w y w (omega arith) (omega arith) in omega arith
+
+-- the counts of an action's row, from its place on
+pub row_within : (p : Program) (firsts : List ℕ) → ArePlaces p firsts → (a : ActionId) → IsAction p a → (w x : ℕ) → x + 1 ≡ slice_index firsts a.agent + a.number
+    → x * w + w ≤ total_moves p * w
+row_within p firsts h a k w x e =
+    let here : action_place firsts a < total_moves p = place_within p firsts h a k in
+    row_ends w x (total_moves p) (omega arith)
+
+pub place_is : (firsts : List ℕ) (a : ActionId) (x : ℕ) → x + 1 ≡ slice_index firsts a.agent + a.number → x ≡ action_place firsts a
+place_is firsts a x e = omega arith
+
+-- the counts of a row are no counts of the row at another place
+pub outside : (w x y k : ℕ) → x ≢ y → k < w → (x * w + k < y * w) ⊎ (y * w + w ≤ x * w + k)
+outside w x y k n l = elim (cases_order x y) [
+  | inl e ↦ absurd (n e)
+  | inr (inl less) ↦ (let r : x * w + w ≤ y * w = row_ends w x y less in inl (omega arith))
+  | inr (inr more) ↦ (let r : y * w + w ≤ x * w = row_ends w y x more in inr (omega arith))
+]

@@ -1,0 +1,220 @@
+-- What is reached, and what is not, by the ticks of actions and by what they directly need.
+use Rattle.std.proofs.Common.{◌≡◌, ◌≢◌, ℕ, ◌+◌, ◌<◌, ◌≤◌, Bool, true, false, List, length, get_or, set, refl, sym, ap, subst, ◌∙◌, arith, inl, inr, ◌⊎◌}
+use Rattle.std.specs.Prelude.{Contains, slice_get, Some, Option}
+use Rattle.std.proofs.lemmas.Bool.{cases_lt, cases_eq, cases_order, false≢true, true≢false}
+use Rattle.std.proofs.lemmas.List.{get_or-set_same, get_or-set_other, get_or_past}
+use Rattle.std.proofs.lemmas.Option.{slice_get-get_or, slice_get_within, get_or_from_slice_get, same_Some}
+use Rattle.fleet_model.specs.declared.program.ActionId.{ActionId}
+use Rattle.fleet_model.specs.declared.program.Await.{Await}
+use Rattle.fleet_model.specs.Program.{Program, moves, awaits_of, AreInRange, IsWellFormed}
+use Rattle.fleet_model.specs.Chain.{IsAction, DirectlyNeeds, Reaches, IsNumbering, awaited}
+use Rattle.fleet_model.proofs.Reaching.{chain_ends_by_step, Reaches-rises}
+use Rattle.fleet_model.proofs.Chains.{Reaches-last}
+use Rattle.fleet_needs.specs.Implied.{IsImplied, IsImpliedFlag, first_await}
+use Rattle.fleet_needs.specs.Settled.{IsSettled, AreSettledOf, AreMoreAsked, IsActionSettled, IsUpTo}
+use Rattle.fleet_needs.proofs.AwaitOrder.{await_below}
+use Rattle.fleet_needs.proofs.AwaitOrder.{flag_apart}
+use Rattle.fleet_needs.proofs.Joining.{own_first, by_await}
+
+abbrev act : ℕ → ℕ → ActionId
+act j c = record { agent = j; number = c }
+
+-- the answer of a search that says yes is not the one that says no
+pub no_is_not_yes : Some false ≡ Some true → ⊥
+no_is_not_yes e = false≢true (same_Some _ _ e)
+
+pub yes_is_not_no : Some true ≡ Some false → ⊥
+yes_is_not_no e = true≢false (same_Some _ _ e)
+
+-- the await of an action
+abbrev pub await_of : ActionId → Await
+await_of a = record { agent = a.agent; count = a.number }
+
+-- ---- by numbers that rise
+
+module _ (p : Program) (number : ActionId → ℕ) (rising : IsNumbering p number) where
+  -- what another action reaches has a greater number
+  rises : (a b : ActionId) → a ≢ b → Reaches p a b → number a < number b
+  rises a b apart (cs, h) = elim (chain_ends_by_step p a cs b h) [
+    | inl e ↦ absurd (apart e)
+    | inr l ↦
+        let up : number a ≤ number l.before = Reaches-rises p number rising a l.before l.reaches in
+        let more : number l.before < number b = rising.rising b l.before (Reaches-last p a b (cs, h)) (Reaches-last p a l.before l.reaches) l.needs in
+        omega arith
+  ]
+
+  pub none_if_low : (a b : ActionId) → (b.agent ≡ a.agent → ⊥) → number b ≤ number a → Reaches p a b → ⊥
+  none_if_low a b apart low r = let up : number a < number b = rises a b (λ e. apart (ap (λ (x : ActionId). x.agent) (sym e))) r in omega arith
+
+  -- an agent's later action does not reach its earlier one
+  pub own_only : (a b : ActionId) → IsAction p a → IsAction p b → b.agent ≡ a.agent → Reaches p a b → a.number ≤ b.number
+  own_only a b k m same r = elim (cases_lt b.number a.number) [
+    | inr le ↦ le
+    | inl lt ↦
+        let back : Reaches p b a = own_first p b a m.first k (sym same) (omega arith) in
+        let up : number b < number a = rises b a (λ e. (let f : b.number ≡ a.number = ap (λ (x : ActionId). x.number) e in omega arith)) back in
+        let down : number a ≤ number b = Reaches-rises p number rising a b r in
+        omega arith
+  ]
+
+-- ---- by what the last action directly needs
+
+-- no action that is awaited from place from on, up to another, is reached
+abbrev pub NoneIsReached : Program → ActionId → ActionId → (ℕ → Type 0) → Type 0
+NoneIsReached p first a These = (m : ℕ) (w : Await) → These m → slice_get (awaits_of p a.agent a.number) m ≡ Some w → Reaches p first (awaited w) → ⊥
+
+module _ (p : Program) (a b : ActionId) where
+  await_is : Contains (awaits_of p a.agent a.number) (record { agent = b.agent; count = b.number }) → (m : ℕ) × (slice_get (awaits_of p a.agent a.number) m ≡ Some (record { agent = b.agent; count = b.number }))
+  await_is (m, l, e) = (m, slice_get-get_or (awaits_of p a.agent a.number) m (record { agent = b.agent; count = b.number }) l ∙ ap Some e)
+
+-- one more is not
+pub apart_more : (p : Program) (first a : ActionId) (k : ℕ) (v : Await) → slice_get (awaits_of p a.agent a.number) k ≡ Some v → (Reaches p first (awaited v) → ⊥)
+    → NoneIsReached p first a (λ m. m < k) → NoneIsReached p first a (λ m. m < k + 1)
+apart_more p first a k v at none before m w l there r = elim (cases_lt m k) [
+  | inl less ↦ before m w less there r
+  | inr more ↦
+      let e : m ≡ k = omega arith in
+      none (subst (λ (x : Await). Reaches p first (awaited x)) (same_Some w v (sym there ∙ ap (slice_get (awaits_of p a.agent a.number)) e ∙ at)) r)
+]
+
+-- and so among all but one
+pub apart_but : (p : Program) (first a : ActionId) (k n : ℕ) (v : Await) → slice_get (awaits_of p a.agent a.number) n ≡ Some v → (n ≢ k → Reaches p first (awaited v) → ⊥)
+    → NoneIsReached p first a (λ m. (m < n) × (m ≢ k)) → NoneIsReached p first a (λ m. (m < n + 1) × (m ≢ k))
+apart_but p first a k n v at none before m w l there r = elim (cases_lt m n) [
+  | inl less ↦ before m w (less, l.1) there r
+  | inr more ↦
+      let e : m ≡ n = (let low : m < n + 1 = l.0 in omega arith) in
+      none (λ same. l.1 (e ∙ same)) (subst (λ (x : Await). Reaches p first (awaited x)) (same_Some w v (sym there ∙ ap (slice_get (awaits_of p a.agent a.number)) e ∙ at)) r)
+]
+
+-- if nothing that the last action directly needs is reached, the last is not reached either
+pub none_reached : (p : Program) (first last : ActionId) → (last.agent ≡ first.agent → ⊥) → NoneIsReached p first last (λ m. m < length (awaits_of p last.agent last.number))
+    → ((before : ActionId) → before.agent ≡ last.agent → before.number + 1 ≡ last.number → 1 ≤ before.number → Reaches p first before → ⊥)
+    → Reaches p first last → ⊥
+none_reached p first last other awaits own (cs, h) = elim (chain_ends_by_step p first cs last h) [
+  | inl e ↦ other (ap (λ (x : ActionId). x.agent) (sym e))
+  | inr l ↦ by l.before l.needs l.reaches
+]
+  where
+    by : (b : ActionId) → DirectlyNeeds p last b → Reaches p first b → ⊥
+    by b (inl (same, number, some)) r = own b (sym same) (sym number) some r
+    by b (inr w) r = (let k = await_is p last b w in awaits k.0 (record { agent = b.agent; count = b.number }) (slice_get_within (awaits_of p last.agent last.number) k.0 _ k.1) k.1 r)
+
+-- ---- other actions that an action directly needs
+
+module _ (p : Program) (formed : IsWellFormed p) (a : ActionId) (k : ℕ) (w : Await) (at : slice_get (awaits_of p a.agent a.number) k ≡ Some w) where
+  -- another await is of another agent
+  other_agent : (m : ℕ) (v : Await) → m ≢ k → slice_get (awaits_of p a.agent a.number) m ≡ Some v → v.agent ≢ w.agent
+  other_agent m v ne there e = elim (cases_order m k) [
+    | inl same ↦ ne same
+    | inr (inl l) ↦ (let less : v.agent < w.agent = await_below (awaits_of p a.agent a.number) (formed.awaits a.agent a.number).rising m k v w there at l in omega arith)
+    | inr (inr l) ↦ (let less : w.agent < v.agent = await_below (awaits_of p a.agent a.number) (formed.awaits a.agent a.number).rising k m w v at there l in omega arith)
+  ]
+
+  pub by_other : (first : ActionId) → first ≡ awaited w → (m : ℕ) (v : Await) → m ≢ k → slice_get (awaits_of p a.agent a.number) m ≡ Some v → Reaches p first (awaited v) → IsImplied p a w
+  by_other first e m v ne there r = (
+    awaited v,
+    (λ same. other_agent m v ne there (ap (λ (x : ActionId). x.agent) same)),
+    inr (m, slice_get_within (awaits_of p a.agent a.number) m v there, get_or_from_slice_get (awaits_of p a.agent a.number) m v v there),
+    subst (λ (x : ActionId). Reaches p x (awaited v)) e r,
+  )
+
+  pub by_own : AreInRange p → (first : ActionId) → first ≡ awaited w → (before : ActionId) → before.agent ≡ a.agent → before.number + 1 ≡ a.number → 1 < a.number → Reaches p first before → IsImplied p a w
+  by_own range first e before agent number some r =
+      let known = range a.agent a.number w (k, slice_get_within (awaits_of p a.agent a.number) k w at, get_or_from_slice_get (awaits_of p a.agent a.number) k w w at) in (
+        before,
+        (λ same. known.other (ap (λ (x : ActionId). x.agent) (sym same) ∙ agent)),
+        inl (sym agent, sym number, omega arith),
+        subst (λ (x : ActionId). Reaches p x before) e r,
+      )
+
+  pub none_implied : (first : ActionId) → first ≡ awaited w → NoneIsReached p first a (λ m. (m < length (awaits_of p a.agent a.number)) × (m ≢ k))
+      → ((before : ActionId) → before.agent ≡ a.agent → before.number + 1 ≡ a.number → 1 ≤ before.number → Reaches p first before → ⊥)
+      → IsImplied p a w → ⊥
+  none_implied first e awaits own (b, apart, inl (same, number, some), r) = own b (sym same) (sym number) some (subst (λ (x : ActionId). Reaches p x b) (sym e) r)
+  none_implied first e awaits own (b, apart, inr c, r) =
+      let m = await_is p a b c in
+      awaits m.0 (record { agent = b.agent; count = b.number }) (
+        slice_get_within (awaits_of p a.agent a.number) m.0 _ m.1,
+        (λ same. apart (ap awaited (same_Some (record { agent = b.agent; count = b.number }) w (sym m.1 ∙ ap (slice_get (awaits_of p a.agent a.number)) same ∙ at)))),
+      ) m.1 (subst (λ (x : ActionId). Reaches p x b) (sym e) r)
+
+-- ---- an await that another action has too
+
+pub needed_by : (p : Program) (range : AreInRange p) (first a : ActionId) (k : ℕ) (w : Await) → IsAction p first → IsAction p a → slice_get (awaits_of p a.agent a.number) k ≡ Some w
+    → w.agent ≡ first.agent → first.number ≤ w.count → Reaches p first a
+needed_by p range first a k w is last at same more =
+    let known = range a.agent a.number w (k, slice_get_within (awaits_of p a.agent a.number) k w at, get_or_from_slice_get (awaits_of p a.agent a.number) k w w at) in
+    by_await p range first a k w last at
+    (own_first p first (awaited w) is.first (record { agent = known.agent; first = known.first; last = known.last }) same more)
+
+-- ---- awaits settled one after another
+
+-- what is known of an await that others imply, or do not
+pub told_by : (p : Program) (a : ActionId) (w : Await) (known : Option Bool) (flag : Bool) → known ≡ Some flag → (known ≡ Some true → IsImplied p a w) → (known ≡ Some false → IsImplied p a w → ⊥) → IsImpliedFlag p a w flag
+told_by p a w known true e is isnt = ((λ f. is e), (λ i. refl))
+told_by p a w known false e is isnt = ((λ f. absurd (false≢true f)), (λ i. absurd (isnt e i)))
+
+module _ (p : Program) (a : ActionId) (first k : ℕ) (oldAsked newAsked old new : List Bool) (more : AreMoreAsked oldAsked newAsked) (others : (n : ℕ) → n ≢ first + k → get_or new n false ≡ get_or old n false) where
+  still_settled : (w : Await) (x : ℕ) → x ≢ first + k → IsSettled p oldAsked a w (get_or old x false) → IsSettled p newAsked a w (get_or new x false)
+  still_settled w x ne (inl set) = inl (more w.agent set)
+  still_settled w x ne (inr told) = inr (subst (IsImpliedFlag p a w) (sym (others x ne)) told)
+
+  pub settled_more : ((w : Await) → slice_get (awaits_of p a.agent a.number) k ≡ Some w → IsSettled p newAsked a w (get_or new (first + k) false))
+      → ((m : ℕ) (w : Await) → m < k → slice_get (awaits_of p a.agent a.number) m ≡ Some w → IsSettled p oldAsked a w (get_or old (first + m) false))
+      → (m : ℕ) (w : Await) → m < k + 1 → slice_get (awaits_of p a.agent a.number) m ≡ Some w → IsSettled p newAsked a w (get_or new (first + m) false)
+  settled_more here before m w l there = elim (cases_lt m k) [
+    | inl less ↦ still_settled w (first + m) (λ e. (let f : m ≡ k = omega (arith, e) in omega arith)) (before m w less there)
+    | inr high ↦
+        let e : k ≡ m = omega arith in
+        subst (λ (n : ℕ). IsSettled p newAsked a w (get_or new (first + n) false)) e (here w (subst (λ (n : ℕ). slice_get (awaits_of p a.agent a.number) n ≡ Some w) (sym e) there))
+  ]
+
+-- the actions of an agent, one after another
+pub settled_on : (p : Program) (These Next : ActionId → Type 0) (a : ActionId) (oldAsked newAsked old new : List Bool) → IsAction p a → ((b : ActionId) → IsAction p b → Next b → These b ⊎ (b ≡ a))
+    → ((b : ActionId) → These b → b ≢ a) → IsActionSettled p a oldAsked newAsked old new → AreSettledOf p oldAsked These old → AreSettledOf p newAsked Next new
+settled_on p These Next a oldAsked newAsked old new is back apart h before b kb next k w at = elim (back b kb next) [
+  | inr e ↦ subst (λ (x : ActionId). IsSettled p newAsked x w (get_or new (first_await p x + k) false)) (sym e) (h.settled k w (subst (λ (x : ActionId). slice_get (awaits_of p x.agent x.number) k ≡ Some w) e at))
+  | inl these ↦ go these (before b kb these k w at)
+]
+  where
+    go : These b → IsSettled p oldAsked b w (get_or old (first_await p b + k) false) → IsSettled p newAsked b w (get_or new (first_await p b + k) false)
+    go these (inl set) = inl (h.asked w.agent set)
+    go these (inr told) =
+        inr (subst (IsImpliedFlag p b w) (sym (h.others (first_await p b + k) (flag_apart p b a kb is (apart b these) k (slice_get_within (awaits_of p b.agent b.number) k w at)))) told)
+
+pub one_up : (i n : ℕ) (b : ActionId) → IsUpTo i (n + 1) b → IsUpTo i n b ⊎ (b ≡ record { agent = i; number = n + 1 })
+one_up i n b (inl low) = inl (inl low)
+one_up i n b (inr (same, l)) = elim (cases_lt n b.number) [
+  | inr le ↦ inl (inr (same, le))
+  | inl more ↦ (let e : b.number ≡ n + 1 = omega arith in inr (λ t. record { agent = same t; number = e t }))
+]
+
+pub not_up : (i n : ℕ) (b : ActionId) → IsUpTo i n b → b ≢ record { agent = i; number = n + 1 }
+not_up i n b (inl low) e = let same : b.agent ≡ i = ap (λ (x : ActionId). x.agent) e in omega arith
+not_up i n b (inr (same, l)) e = let f : b.number ≡ n + 1 = ap (λ (x : ActionId). x.number) e in omega arith
+
+-- one agent more
+pub agent_up : (p : Program) (i : ℕ) (asked flags : List Bool) → AreSettledOf p asked (IsUpTo i (moves p i)) flags → AreSettledOf p asked (IsUpTo (i + 1) 0) flags
+agent_up p i asked flags h a k up = h a k (go up)
+  where
+    go : IsUpTo (i + 1) 0 a → IsUpTo i (moves p i) a
+    go (inr (same, none)) = absurd (let f : 1 ≤ a.number = k.first in omega arith)
+    go (inl low) = elim (cases_lt a.agent i) [
+      | inl less ↦ inl less
+      | inr high ↦
+          let e : a.agent ≡ i = omega arith in
+          let l : a.number ≤ moves p a.agent = k.last in
+          let same : moves p a.agent ≡ moves p i = ap (moves p) e in
+          inr (e, omega arith)
+    ]
+
+-- one agent more is asked for
+pub asked_more : (asked : List Bool) (i j : ℕ) → get_or asked j false ≡ true → get_or (set asked i true) j false ≡ true
+asked_more asked i j was = elim (cases_eq j i) [
+  | inr ne ↦ get_or-set_other asked i j true false ne ∙ was
+  | inl e ↦ elim (cases_lt i (length asked)) [
+    | inl l ↦ ap (λ (n : ℕ). get_or (set asked i true) n false) e ∙ get_or-set_same asked i true false l
+    | inr past ↦ absurd (false≢true (sym (get_or_past asked j false (omega arith)) ∙ was))
+  ]
+]

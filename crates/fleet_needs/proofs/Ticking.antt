@@ -1,0 +1,90 @@
+-- The tick that finishes each action if nobody is held: noted tick by tick, it rises along chains.
+use Rattle.std.proofs.Common.{◌≡◌, ◌≢◌, ℕ, zero, suc, ◌+◌, ◌-◌, ◌<◌, ◌≤◌, true, List, [], length, set, slice_index, sym, ap, subst, ◌∙◌, arith, inl, inr}
+use Rattle.std.proofs.lemmas.Bool.{cases_lt}
+use Rattle.std.proofs.lemmas.List.{get_or-set_same, get_or-set_other}
+use Rattle.fleet_model.specs.declared.program.ActionId.{ActionId}
+use Rattle.fleet_model.specs.Program.{Program, total_moves}
+use Rattle.fleet_model.specs.Machine.{run, is_finished}
+use Rattle.fleet_model.specs.Chain.{IsAction, DirectlyNeeds, IsNumbering}
+use Rattle.fleet_needs.specs.Places.{ArePlacesOf, action_place, place_of_action}
+use Rattle.fleet_needs.specs.declared.action_places.ActionPlaces.{ActionPlaces}
+use Rattle.fleet_needs.specs.Order.{IsNextReady, AreNoneReady}
+use Rattle.fleet_needs.specs.Settled.{IsFinishedBy, IsDoneMid, IsFinishTick, AreFinishTicks}
+use Rattle.fleet_needs.proofs.Free.{count, grows, needs_done}
+use Rattle.fleet_needs.proofs.Placed.{place_apart, place_within}
+use Rattle.fleet_needs.proofs.Finishing.{moved, next_action, one_more, apart, none_more, none_started, all_finished}
+
+pub noted_none : (p : Program) (places : ActionPlaces) (ticks : List ℕ) → AreFinishTicks p places (IsFinishedBy p 0) ticks
+noted_none p places ticks a k done = absurd (none_started p a k done)
+
+-- before the first agent of a tick
+pub noted_mid : (p : Program) (places : ActionPlaces) (t : ℕ) (ticks : List ℕ) → AreFinishTicks p places (IsFinishedBy p t) ticks → AreFinishTicks p places (IsDoneMid p t 0) ticks
+noted_mid p places t ticks h a k (inl done) = h a k done
+noted_mid p places t ticks h a k (inr (l, done)) = absurd (omega arith)
+
+module _ (p : Program) (places : ActionPlaces) (right : ArePlacesOf p places) (t from : ℕ) where
+  abbrev firsts : List ℕ
+  firsts = places.firsts.items
+
+  -- an action that the tick has finished
+  pub noted_on : (i : ℕ) → IsNextReady p t from i → (n : ℕ) → n ≡ count p t i + 1 → (x : ℕ) → x + 1 ≡ slice_index firsts i + n → (old : List ℕ) → length old ≡ total_moves p
+      → AreFinishTicks p places (IsDoneMid p t from) old → AreFinishTicks p places (IsDoneMid p t (i + 1)) (set old x (t + 1))
+  noted_on i next n number x at old all before a k done = elim (one_more p t from i next n number a k done) [
+    | inl was ↦
+        let ne : action_place firsts a ≢ x = (λ same. place_apart p firsts right a here k is (apart p t from i next n number a was) (same ∙ place)) in
+        subst (IsFinishTick p a) (sym (get_or-set_other old x (action_place firsts a) (t + 1) 0 ne)) (before a k was)
+    | inr same ↦
+        let there : action_place firsts a ≡ x = ap (action_place firsts) same ∙ sym place in
+        let entry : slice_index (set old x (t + 1)) (action_place firsts a) ≡ t + 1 = ap (slice_index (set old x (t + 1))) there ∙ get_or-set_same old x (t + 1) 0 within in
+        subst (IsFinishTick p a) (sym entry) (subst (λ (y : ActionId). IsFinishTick p y (t + 1)) (sym same) finished)
+  ]
+    where
+      here : ActionId
+      here = record { agent = i; number = n }
+
+      is : IsAction p here
+      is = next_action p t from i next n number
+
+      place : x ≡ action_place firsts here
+      place = omega (arith, at)
+
+      within : x < length old
+      within = (let l = place_within p firsts right here is in omega (arith, l, all, place))
+
+      finished : IsFinishTick p here (t + 1)
+      finished = record { some = omega arith; done = omega (arith, moved p t from i next n number); not_yet = λ done. (let e : t + 1 - 1 ≡ t = omega arith in let l : n ≤ count p t i = subst (λ (s : ℕ). n ≤ count p s i) e done in omega (arith, l, number)) }
+
+  -- where nobody else was ready
+  pub noted_all : AreNoneReady p t from → (ticks : List ℕ) → AreFinishTicks p places (IsDoneMid p t from) ticks → AreFinishTicks p places (IsFinishedBy p (t + 1)) ticks
+  noted_all none ticks before a k done = before a k (none_more p t from none a k done)
+
+module _ (p : Program) where
+  grows_by : (s n i : ℕ) → i < length p → count p s i ≤ count p (s + n) i
+  grows_by s zero i l = let e : s + zero ≡ s = omega arith in rw e (omega arith)
+  grows_by s (suc n) i l =
+      let e : s + suc n ≡ suc (s + n) = omega arith in
+      let up = grows p (s + n) i l in
+      let before = grows_by s n i l in
+      rw e (omega (arith, up, before))
+
+  grows_to : (s t i : ℕ) → i < length p → s ≤ t → count p s i ≤ count p t i
+  grows_to s t i l le = let e : s + (t - s) ≡ t = omega arith in subst (λ (n : ℕ). count p s i ≤ count p n i) e (grows_by s (t - s) i l)
+
+  -- what an action directly needs is finished in an earlier tick
+  pub finishes_later : (a b : ActionId) (s t : ℕ) → IsAction p a → IsAction p b → IsFinishTick p a t → IsFinishTick p b s → DirectlyNeeds p a b → s < t
+  finishes_later a b s t k m h f needs = elim (cases_lt s t) [
+    | inl l ↦ l
+    | inr g ↦
+        let some : 1 ≤ t = h.some in
+        let e : suc (t - 1) ≡ t = omega arith in
+        let not_yet : count p (t - 1) a.agent < a.number = elim (cases_lt (count p (t - 1) a.agent) a.number) [ inl l ↦ l | inr done ↦ absurd (h.not_yet done) ] in
+        let done : a.number ≤ count p (suc (t - 1)) a.agent = subst (λ (n : ℕ). a.number ≤ count p n a.agent) (sym e) h.done in
+        let needed : b.number ≤ count p (t - 1) b.agent = needs_done p (t - 1) a b k not_yet done needs in
+        absurd (f.not_yet (omega (arith, needed, grows_to (t - 1) (s - 1) b.agent m.agent (omega arith))))
+  ]
+
+  pub ticks_rise : (places : ActionPlaces) (ticks : List ℕ) (t : ℕ) → is_finished p (run p [] t) ≡ true → AreFinishTicks p places (IsFinishedBy p t) ticks → IsNumbering p (λ a. slice_index ticks (place_of_action places a))
+  ticks_rise places ticks t finished h = record {
+    positive = λ a k. (h a k (all_finished p t finished a k)).some;
+    rising = λ a b k m needs. finishes_later a b _ _ k m (h a k (all_finished p t finished a k)) (h b m (all_finished p t finished b m)) needs;
+  }

@@ -1,0 +1,55 @@
+use Rattle.std.proofs.Common.{ap, arith}
+use Rattle.fleet_needs.proofs.Finishing.{next_ready, none_ready, machine_number, next_action}
+use Rattle.fleet_needs.proofs.Placed.{place_within}
+use Rattle.fleet_needs.proofs.Ticking.{noted_mid, noted_on, noted_all}
+use Rattle.fleet_needs.proofs.finish_ticks.note_finished.Goals as goal
+
+pub place-requires-clause-number : goal.place-requires-clause-number
+place-requires-clause-number g c =
+    let p = g.P.ProgramView.program c.args.program.now in
+    let m = c.args.machine.now in
+    let next = next_ready p m c.args.ticks c.requires.ticked c.loop-agent.from c.in-Some.agent c.in-Some.ensures in
+    let number = machine_number p m c.args.ticks c.requires.ticked c.loop-agent.from c.in-Some.agent next c.agent-number.result.count (ap (λ s. s.count) c.agent-number.ensures.standing) in
+    let is = next_action p c.args.ticks c.loop-agent.from c.in-Some.agent next c.agent-number.result.count number in
+    omega (arith, is.first)
+
+pub bounds-entries-place : goal.bounds-entries-place
+bounds-entries-place g c =
+    let p = g.P.ProgramView.program c.args.program.now in
+    let m = c.args.machine.now in
+    let next = next_ready p m c.args.ticks c.requires.ticked c.loop-agent.from c.in-Some.agent c.in-Some.ensures in
+    let number = machine_number p m c.args.ticks c.requires.ticked c.loop-agent.from c.in-Some.agent next c.agent-number.result.count (ap (λ s. s.count) c.agent-number.ensures.standing) in
+    let is = next_action p c.args.ticks c.loop-agent.from c.in-Some.agent next c.agent-number.result.count number in
+    let l = place_within p c.args.places.now.firsts.items c.requires.places _ is in
+    omega (arith, l, c.place.ensures, c.requires.all, c.loop-agent.auto.entries)
+
+pub offset_bounds-entries-place : goal.offset_bounds-entries-place
+offset_bounds-entries-place g c =
+    let p = g.P.ProgramView.program c.args.program.now in
+    let m = c.args.machine.now in
+    let next = next_ready p m c.args.ticks c.requires.ticked c.loop-agent.from c.in-Some.agent c.in-Some.ensures in
+    let number = machine_number p m c.args.ticks c.requires.ticked c.loop-agent.from c.in-Some.agent next c.agent-number.result.count (ap (λ s. s.count) c.agent-number.ensures.standing) in
+    let is = next_action p c.args.ticks c.loop-agent.from c.in-Some.agent next c.agent-number.result.count number in
+    let l = place_within p c.args.places.now.firsts.items c.requires.places _ is in
+    omega (arith, l, c.place.ensures, c.agents.ensures.well_formed.moves_in_all)
+
+pub loop-agent-init : goal.loop-agent-init
+loop-agent-init g c = record { noted = noted_mid (g.P.ProgramView.program c.args.program.now) c.args.places.now c.args.ticks c.args.entries.now c.requires.noted; within = omega arith }
+
+pub loop-agent-preserved : goal.loop-agent-preserved
+loop-agent-preserved g c =
+    let p = g.P.ProgramView.program c.args.program.now in
+    let m = c.args.machine.now in
+    let next = next_ready p m c.args.ticks c.requires.ticked c.loop-agent.from c.in-Some.agent c.in-Some.ensures in
+    let number = machine_number p m c.args.ticks c.requires.ticked c.loop-agent.from c.in-Some.agent next c.agent-number.result.count (ap (λ s. s.count) c.agent-number.ensures.standing) in
+    record {
+      noted = noted_on p c.args.places.now c.requires.places c.args.ticks c.loop-agent.from c.in-Some.agent next c.agent-number.result.count number
+          c.place.result c.place.ensures c.loop-agent.entries (omega (arith, c.requires.all, c.loop-agent.auto.entries)) c.loop-agent.invariant.noted;
+      within = omega (arith, next.agent);
+    }
+
+pub returns : goal.returns
+returns g c =
+    let p = g.P.ProgramView.program c.args.program.now in
+    noted_all p c.args.places.now c.requires.places c.args.ticks c.loop-agent.from (none_ready p c.args.machine.now c.args.ticks c.requires.ticked c.loop-agent.from c.in_default.ensures) c.loop-agent.entries
+    c.loop-agent.invariant.noted

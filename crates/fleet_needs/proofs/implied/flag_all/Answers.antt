@@ -1,0 +1,54 @@
+use Rattle.std.proofs.Common.{length, ◌∙◌, arith}
+use Rattle.fleet_needs.proofs.Joining.{awaited_action}
+use Rattle.fleet_needs.proofs.Flagged.{flagged_none, settled_after, flagged_to}
+use Rattle.fleet_needs.proofs.implied.flag_all.Goals as goal
+
+pub use_rows-requires-clause-block : goal.use_rows-requires-clause-block
+use_rows-requires-clause-block g c = record {
+  notes = c.requires.notes;
+  agents = c.in_ok-columns.ensures.agents ∙ c.requires.asked;
+  within = c.in_ok-columns.ensures.within;
+  apart = c.in_ok-columns.ensures.apart;
+}
+
+pub use_rows-requires-clause-used : goal.use_rows-requires-clause-used
+use_rows-requires-clause-used g c =
+    let p = g.P.ProgramView.program c.args.program.now in
+    record {
+      places = c.loop-from.invariant.places;
+      all = c.loop-from.invariant.all;
+      flagged = flagged_none p c.in_ok-columns.columns (length p) c.loop-from.implied.flags.items;
+    }
+
+pub loop-from-preserved : goal.loop-from-preserved
+loop-from-preserved g c =
+    let p = g.P.ProgramView.program c.args.program.now in
+    let columns = c.in_ok-columns.columns in
+    let old = c.loop-from.implied.flags.items in
+    let new = c.use_rows.new.uses.flags.items in
+    let made = c.in_ok-use_rows.ensures in
+    record {
+      flagged = flagged_to p c.args.asked.now c.loop-from.from columns c.in_ok-columns.ensures old new (λ a is. made.used.2.flagged a is (made.used.1 a is)) made.keeps c.loop-from.invariant.settled c.loop-from.invariant.flagged;
+      settled = settled_after p c.args.asked.now columns old new (λ a is. made.used.2.flagged a is (made.used.1 a is)) made.keeps c.loop-from.invariant.settled;
+      places = made.used.2.places;
+      all = made.used.2.all;
+    }
+
+pub returns : goal.returns
+returns g c =
+    let p = g.P.ProgramView.program c.args.program.now in
+    record {
+      places = c.loop-from.invariant.places;
+      all = c.loop-from.invariant.all;
+      flagged = λ a is k w at.
+          let there = awaited_action p c.requires.range a.agent a.number k w at in
+          c.loop-from.invariant.flagged a is k w at (omega (arith, there.agent, c.loop-from-test.false, c.agents-agents.ensures.count));
+    }
+
+pub loop-from-init : goal.loop-from-init
+loop-from-init g c = record {
+  flagged = λ a is k w at l. absurd (omega arith);
+  settled = c.requires.settled;
+  places = c.requires.places;
+  all = c.requires.flags;
+}

@@ -1,0 +1,10 @@
+use Rattle.std.proofs.Common.{ℕ, slice_index}
+use Rattle.fleet_needs.specs.Rows.{IsJoined}
+use Rattle.fleet_needs.specs.Rows.{OfOthersOrFirst}
+use Rattle.fleet_needs.specs.Block.{HasColumn}
+use Rattle.fleet_needs.proofs.row_steps.join_own.Given as goal
+
+abbrev pub invariant-loop-k : goal.invariant-loop-k
+invariant-loop-k g l = record {
+  joined : (j m : ℕ) → HasColumn l.block.columns j m → IsJoined (OfOthersOrFirst j l.k) (g.P.ProgramView.program l.program) l.agent l.finished j (slice_index l.row m);
+}

@@ -1,0 +1,60 @@
+use Rattle.std.proofs.Common.{◌≡◌, true, false, length, refl, sym, ap, ◌∙◌, subst, arith}
+use Rattle.std.specs.Prelude.{Some}
+use Rattle.fleet_model.specs.declared.program.ActionId.{ActionId}
+use Rattle.fleet_model.specs.Program.{awaits_of}
+use Rattle.fleet_model.specs.Chain.{Reaches}
+use Rattle.fleet_needs.proofs.Settling.{await_of, apart_but, by_other, by_own, none_implied, no_is_not_yes, yes_is_not_no}
+use Rattle.fleet_needs.proofs.settled.reaches_other.Goals as goal
+use Rattle.fleet_needs.proofs.settled.reaches_other.Goals.{then-m-k+in-Some-false, then-m-k+in-None, else-m-k}
+
+pub returns-in-Some-true-clause-yes : goal.returns-in-Some-true-clause-yes
+returns-in-Some-true-clause-yes g c = λ e.
+    by_other (g.P.ProgramView.program c.args.program.now) c.agents.ensures.well_formed c.args.action c.args.k (await_of c.args.first) c.requires.awaited
+    c.args.first refl c.loop-m.m (await_of c.awaited_at-other.result) c.if-m-k.true c.awaited_at-other.ensures.awaited
+    (c.reaches.ensures.yes (c.in-Some-true.is ∙ ap Some c.in-Some-true.field-0-test))
+
+pub loop-m-preserved : goal.loop-m-preserved
+loop-m-preserved g c =
+    let p = g.P.ProgramView.program c.args.program.now in
+    record {
+      apart = λ known. elim c.if-m-k.branch [
+        | then-m-k+in-Some-false w ↦
+            apart_but p c.args.first c.args.action c.args.k c.loop-m.m (await_of w.awaited_at-other.result) w.awaited_at-other.ensures.awaited
+            (λ ne. w.reaches.ensures.no (w.in-Some-false.is ∙ ap Some w.in-Some-false.field-0-test)) (c.loop-m.invariant.apart (sym w.known-is ∙ known))
+        | then-m-k+in-None w ↦ absurd (let e : true ≡ false = sym known ∙ w.known-is in cc)
+        | else-m-k w ↦ λ m v l there. c.loop-m.invariant.apart (sym w.known-is ∙ known) m v (omega (arith, l.0, l.1, w.if-m-k.false), l.1) there
+      ];
+    }
+
+pub returns-then-action-le1-clause-no : goal.returns-then-action-le1-clause-no
+returns-then-action-le1-clause-no g c = λ e.
+    let p = g.P.ProgramView.program c.args.program.now in
+    let whole : c.loop-m.m ≡ length (awaits_of p c.args.action.agent c.args.action.number) = omega (arith, c.loop-m-test.false, c.await_count-m-end.ensures, c.loop-m.auto.m-end) in
+    none_implied p c.agents.ensures.well_formed c.args.action c.args.k (await_of c.args.first) c.requires.awaited c.args.first refl
+    (λ m w l. c.loop-m.invariant.apart (c.join_answers.ensures.no e).0 m w (omega (arith, l.0, whole), l.1))
+    (λ b agent number some. absurd (omega (arith, number, some, c.if-action-le1.true)))
+
+pub returns-clause-yes : goal.returns-clause-yes
+returns-clause-yes g c = λ e.
+    by_own (g.P.ProgramView.program c.args.program.now) c.agents.ensures.well_formed c.args.action c.args.k (await_of c.args.first) c.requires.awaited c.requires.range
+    c.args.first refl c.before-before.result c.before-before.ensures.agent c.before-before.ensures.number (omega (arith, c.if-action-le1.false))
+    (c.reaches-2.ensures.yes (c.join_answers-2.ensures.yes e))
+
+pub returns-clause-no : goal.returns-clause-no
+returns-clause-no g c = λ e.
+    let p = g.P.ProgramView.program c.args.program.now in
+    let whole : c.loop-m.m ≡ length (awaits_of p c.args.action.agent c.args.action.number) = omega (arith, c.loop-m-test.false, c.await_count-m-end.ensures, c.loop-m.auto.m-end) in
+    none_implied p c.agents.ensures.well_formed c.args.action c.args.k (await_of c.args.first) c.requires.awaited c.args.first refl
+    (λ m w l. c.loop-m.invariant.apart (c.join_answers-2.ensures.no e).0 m w (omega (arith, l.0, whole), l.1))
+    (λ b agent number some r. c.reaches-2.ensures.no (c.join_answers-2.ensures.no e).1 (subst (λ (x : ActionId). Reaches p c.args.first x)
+    (let f : b.number ≡ c.before-before.result.number = omega (arith, number, c.before-before.ensures.number) in
+    (λ s. record { agent = (agent ∙ sym c.before-before.ensures.agent) s; number = f s })) r))
+
+pub loop-m-init : goal.loop-m-init
+loop-m-init g c = record { apart = λ known m w l. (let before = l.0 in absurd (omega arith)) }
+
+pub returns-in-Some-true-clause-no : goal.returns-in-Some-true-clause-no
+returns-in-Some-true-clause-no g c = λ e. absurd (yes_is_not_no e)
+
+pub returns-then-action-le1-clause-yes : goal.returns-then-action-le1-clause-yes
+returns-then-action-le1-clause-yes g c = λ e. absurd (no_is_not_yes (c.join_answers.ensures.yes e))

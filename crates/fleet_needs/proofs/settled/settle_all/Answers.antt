@@ -1,0 +1,33 @@
+use Rattle.std.proofs.Common.{◌≡◌, ◌+◌, Bool, List, length, sym, subst, ◌∙◌, ap, arith, inl, inr}
+use Rattle.std.specs.Prelude.{drop}
+use Rattle.std.proofs.lemmas.List.{take_at}
+use Rattle.fleet_needs.specs.Settled.{AreSettledOf, IsUpTo}
+use Rattle.fleet_needs.proofs.Settling.{agent_up}
+use Rattle.fleet_needs.proofs.settled.settle_all.Goals as goal
+
+pub loop-agent-preserved : goal.loop-agent-preserved
+loop-agent-preserved g c =
+    let p = g.P.ProgramView.program c.args.program.now in
+    let new : List Bool = c.settle_agent.new.asked in
+    let long : length new ≡ c.loop-agent.asked.len = omega (arith, c.settle_agent.auto.asked, c.deref_mut.ensures.len) in
+    let same = take_at new (drop (length new) c.loop-agent.asked.items) c.loop-agent.asked.len long in
+    record {
+      all = ap (λ (xs : List Bool). length xs) same ∙ c.settle_agent.auto.asked ∙ ap (λ (xs : List Bool). length xs) c.deref_mut.ensures.value ∙ c.loop-agent.invariant.all;
+      settled = subst (λ (xs : List Bool). AreSettledOf p xs (IsUpTo (c.loop-agent.agent + 1) 0) c.settle_agent.new.flags) (sym same) (agent_up p c.loop-agent.agent new c.settle_agent.new.flags c.settle_agent.ensures);
+    }
+
+pub loop-agent-init : goal.loop-agent-init
+loop-agent-init g c = record {
+  all = omega (arith, c.in_ok-asked.ensures.len, c.from.ensures, c.agents-agents.ensures.count);
+  settled = λ a is these k w at. elim these [ inl low ↦ absurd (omega arith) | inr (same, low) ↦ (let first = is.first in absurd (omega arith)) ];
+}
+
+pub settle_agent-requires-clause-asked : goal.settle_agent-requires-clause-asked
+settle_agent-requires-clause-asked g c = ap (λ (xs : List Bool). length xs) c.deref_mut.ensures.value ∙ c.loop-agent.invariant.all
+
+pub settle_agent-requires-clause-settled : goal.settle_agent-requires-clause-settled
+settle_agent-requires-clause-settled g c =
+    subst (λ (xs : List Bool). AreSettledOf (g.P.ProgramView.program c.args.program.now) xs (IsUpTo c.loop-agent.agent 0) c.loop-agent.flags) (sym c.deref_mut.ensures.value) c.loop-agent.invariant.settled
+
+pub returns-clause-settled : goal.returns-clause-settled
+returns-clause-settled g c = λ a is too k w at. c.loop-agent.invariant.settled a is (inl (omega (arith, is.agent, c.loop-agent-test.false, c.agents-agents.ensures.count))) k w at

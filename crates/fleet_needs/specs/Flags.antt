@@ -1,0 +1,50 @@
+-- Flags of awaits: which of them say whether others imply their await.
+use Rattle.std.specs.Prelude.{◌≡◌, ℕ, ◌+◌, ◌<◌, ◌≤◌, Bool, false, List, length, get_or, slice_get, Some, None, ◌⊎◌}
+use Rattle.fleet_model.specs.declared.program.Await.{Await}
+use Rattle.fleet_model.specs.declared.program.ActionId.{ActionId}
+use Rattle.fleet_model.specs.Program.{Program, awaits_of, total_awaits}
+use Rattle.fleet_model.specs.Chain.{IsAction}
+use Rattle.fleet_needs.specs.Block.{HasColumn}
+use Rattle.fleet_needs.specs.Columns.{column_of}
+use Rattle.fleet_needs.specs.Order.{IsCounted}
+use Rattle.fleet_needs.specs.declared.block.Block.{Block}
+use Rattle.fleet_needs.specs.declared.columns.Columns.{Columns}
+use Rattle.fleet_needs.specs.Implied.{AreAwaitPlaces, IsImpliedFlag, first_await}
+use Rattle.fleet_needs.specs.declared.implied.ImpliedAwaits.{ImpliedAwaits}
+
+-- the flags of the action's awaits say whether they are implied, if their agents have a column, and no other flag has
+-- changed
+pub record AreFlagged (p : Program) (columns : Columns) (a : ActionId) (old new : List Bool) : Type 0 where
+  pub flagged : (k c : ℕ) (w : Await) → slice_get (awaits_of p a.agent a.number) k ≡ Some w → HasColumn columns w.agent c → IsImpliedFlag p a w (get_or new (first_await p a + k) false)
+  pub none : (k : ℕ) (w : Await) → slice_get (awaits_of p a.agent a.number) k ≡ Some w → column_of columns w.agent ≡ None
+      → get_or new (first_await p a + k) false ≡ get_or old (first_await p a + k) false
+  pub others : (n : ℕ) → (n < first_await p a) ⊎ (first_await p a + length (awaits_of p a.agent a.number) ≤ n) → get_or new n false ≡ get_or old n false
+
+-- the flags of all awaits of these actions say whether they are implied, if their agents have a column
+abbrev pub AreFlaggedFor : Program → Columns → (ActionId → Type 0) → List Bool → Type 0
+AreFlaggedFor p columns Done flags =
+    (a : ActionId) → IsAction p a → Done a → (k c : ℕ) (w : Await) → slice_get (awaits_of p a.agent a.number) k ≡ Some w → HasColumn columns w.agent c
+    → IsImpliedFlag p a w (get_or flags (first_await p a + k) false)
+
+-- the flags of awaits of agents without a column are as before
+abbrev pub AreLeft : Program → Columns → List Bool → List Bool → Type 0
+AreLeft p columns old new =
+    (a : ActionId) → IsAction p a → (k : ℕ) (w : Await) → slice_get (awaits_of p a.agent a.number) k ≡ Some w → column_of columns w.agent ≡ None
+    → get_or new (first_await p a + k) false ≡ get_or old (first_await p a + k) false
+
+-- the flags of all awaits of the program say whether they are implied
+abbrev pub AreAllFlagged : Program → List Bool → Type 0
+AreAllFlagged p flags =
+    (a : ActionId) → IsAction p a → (k : ℕ) (w : Await) → slice_get (awaits_of p a.agent a.number) k ≡ Some w → IsImpliedFlag p a w (get_or flags (first_await p a + k) false)
+
+-- of each await of the program it is known whether it is implied
+pub record AreImplied (p : Program) (m : ImpliedAwaits) : Type 0 where
+  pub places : AreAwaitPlaces p m.places
+  pub all : length m.flags.items ≡ total_awaits p
+  pub flagged : AreAllFlagged p m.flags.items
+
+-- the state of the flags once so many actions of each agent are finished
+pub record AreAwaitFlags (p : Program) (b : Block) (counts : List ℕ) (m : ImpliedAwaits) : Type 0 where
+  pub places : AreAwaitPlaces p m.places
+  pub all : length m.flags.items ≡ total_awaits p
+  pub flagged : AreFlaggedFor p b.columns (IsCounted counts) m.flags.items

@@ -1,0 +1,16 @@
+pub mod Kernels
+pub mod Asked
+pub mod Columns
+pub mod Places
+pub mod Rows
+pub mod Kept
+pub mod Order
+pub mod Takers
+pub mod Block
+pub mod Pass
+pub mod Answering
+pub mod Pieces
+pub mod Gather
+pub mod Implied
+pub mod Settled
+pub mod Flags

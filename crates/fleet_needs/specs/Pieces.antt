@@ -1,0 +1,51 @@
+-- Counts of chains, kept as pieces.
+use Rattle.std.specs.Prelude.{◌≡◌, ◌≢◌, ℕ, ◌+◌, ◌-◌, ◌*◌, ◌<◌, ◌≤◌, List, length, min, Contains}
+use Rattle.std.specs.List.Sorted.{IsNonDecreasingBy}
+use Rattle.fleet_model.specs.declared.program.ActionId.{ActionId}
+use Rattle.fleet_model.specs.Program.{Program}
+use Rattle.fleet_model.specs.Chain.{IsAction}
+use Rattle.fleet_needs.specs.Rows.{IsColumn}
+use Rattle.fleet_needs.specs.declared.piece.Piece.{Piece}
+use Rattle.fleet_needs.specs.declared.piece.Pieces.{Pieces}
+use Rattle.fleet_needs.specs.declared.piece.TheConstants.{AGENTS, NUMBERS}
+
+-- the count of a piece at action n of its last agent: with each action one more, up to the most
+abbrev pub count_by : Piece → ℕ → ℕ
+count_by x n = min (x.count + (n - x.from)) x.most
+
+-- by which pieces are sorted
+abbrev pub key_of : Piece → ℕ
+key_of x = (x.last_agent * AGENTS + x.first_agent) * NUMBERS + x.from
+
+abbrev pub AreSorted : List Piece → Type 0
+AreSorted pieces = IsNonDecreasingBy key_of pieces
+
+-- a piece of chains that begin with actions of agent j and end with actions of agent i
+abbrev pub IsOf : ℕ → ℕ → Piece → Type 0
+IsOf i j x = (x.last_agent ≡ i) × (x.first_agent ≡ j)
+
+-- of these pieces the last one that begins with action n or before
+pub record IsLatest (pieces : List Piece) (i j n : ℕ) (x : Piece) : Type 0 where
+  pub among : Contains pieces x
+  pub here : IsOf i j x
+  pub begun : x.from ≤ n
+  pub latest : (y : Piece) → Contains pieces y → IsOf i j y → y.from ≤ n → y.from ≤ x.from
+
+-- all of these pieces begin after action n
+abbrev pub AreLater : List Piece → ℕ → ℕ → ℕ → Type 0
+AreLater pieces i j n = (y : Piece) → Contains pieces y → IsOf i j y → n < y.from
+
+-- the pieces have the count of agent j at action n of agent i
+pub record IsTold (p : Program) (pieces : List Piece) (i j n : ℕ) : Type 0 where
+  pub by : (x : Piece) → IsLatest pieces i j n x → IsColumn p (record { agent = i; number = n }) j (count_by x n)
+  pub none : AreLater pieces i j n → IsColumn p (record { agent = i; number = n }) j 0
+
+-- the pieces have the counts of these agents at all actions of others
+abbrev pub AreTold : Program → List Piece → (ℕ → Type 0) → Type 0
+AreTold p pieces Agents = (a : ActionId) (j : ℕ) → IsAction p a → Agents j → j ≢ a.agent → IsTold p pieces a.agent j a.number
+
+-- the pieces of a program in which no action needs a later one of its agent
+pub record ArePiecesOf (p : Program) (m : Pieces) : Type 0 where
+  pub sorted : AreSorted m.pieces.items
+  pub told : AreTold p m.pieces.items (λ j. j < length p)
+  pub own : (a : ActionId) → IsAction p a → IsColumn p a a.agent a.number

@@ -1,0 +1,72 @@
+-- The tick that finishes each action if nobody is held, and awaits for which a few steps back show whether others imply
+-- them.
+use Rattle.std.specs.Prelude.{◌≡◌, ℕ, ◌+◌, ◌-◌, ◌<◌, ◌≤◌, ◌⊎◌, Bool, true, false, List, [], length, get_or, slice_get, slice_index, Some}
+use Rattle.fleet_model.specs.declared.program.Await.{Await}
+use Rattle.fleet_model.specs.declared.program.ActionId.{ActionId}
+use Rattle.fleet_model.specs.Program.{Program, awaits_of, total_moves}
+use Rattle.fleet_model.specs.Chain.{IsAction, IsNumbering}
+use Rattle.fleet_needs.specs.Places.{ArePlacesOf, place_of_action}
+use Rattle.fleet_needs.specs.declared.action_places.ActionPlaces.{ActionPlaces}
+use Rattle.fleet_model.specs.Machine.{run, count_at}
+use Rattle.fleet_needs.specs.Implied.{IsImpliedFlag, first_await}
+use Rattle.fleet_needs.specs.declared.finish_ticks.FinishTicks.{FinishTicks}
+
+-- ---- the ticks
+
+-- so many ticks finish the action
+abbrev pub IsFinishedBy : Program → ℕ → ActionId → Type 0
+IsFinishedBy p t a = a.number ≤ count_at (run p [] t) a.agent
+
+-- so many ticks finish the action, or one more if its agent is below this one
+abbrev pub IsDoneMid : Program → ℕ → ℕ → ActionId → Type 0
+IsDoneMid p t from a = IsFinishedBy p t a ⊎ ((a.agent < from) × IsFinishedBy p (t + 1) a)
+
+-- so many ticks finish the action, and one less do not
+pub record IsFinishTick (p : Program) (a : ActionId) (t : ℕ) : Type 0 where
+  pub some : 1 ≤ t
+  pub done : IsFinishedBy p t a
+  pub not_yet : IsFinishedBy p (t - 1) a → ⊥
+
+-- the entries of these actions are the ticks that finish them
+abbrev pub AreFinishTicks : Program → ActionPlaces → (ActionId → Type 0) → List ℕ → Type 0
+AreFinishTicks p places These ticks = (a : ActionId) → IsAction p a → These a → IsFinishTick p a (slice_index ticks (place_of_action places a))
+
+-- the tick of an action
+abbrev pub finish_tick : FinishTicks → ActionId → ℕ
+finish_tick m a = slice_index m.ticks.items (place_of_action m.places a)
+
+-- each action has its tick, and what an action directly needs has a lower one
+pub record AreTicks (p : Program) (m : FinishTicks) : Type 0 where
+  pub places : ArePlacesOf p m.places
+  pub all : length m.ticks.items ≡ total_moves p
+  pub rising : IsNumbering p (finish_tick m)
+
+-- ---- the awaits
+
+-- the flag says whether the await is implied, or its agent is asked for
+abbrev pub IsSettled : Program → List Bool → ActionId → Await → Bool → Type 0
+IsSettled p asked a w flag = (get_or asked w.agent false ≡ true) ⊎ IsImpliedFlag p a w flag
+
+-- it is so of all awaits of these actions
+abbrev pub AreSettledOf : Program → List Bool → (ActionId → Type 0) → List Bool → Type 0
+AreSettledOf p asked These flags =
+    (a : ActionId) → IsAction p a → These a → (k : ℕ) (w : Await) → slice_get (awaits_of p a.agent a.number) k ≡ Some w
+    → IsSettled p asked a w (get_or flags (first_await p a + k) false)
+
+-- it is so of all awaits of the program
+abbrev pub AreSettled : Program → List Bool → List Bool → Type 0
+AreSettled p asked flags = AreSettledOf p asked (IsAction p) flags
+
+-- each agent that was asked for still is
+abbrev pub AreMoreAsked : List Bool → List Bool → Type 0
+AreMoreAsked old new = (j : ℕ) → get_or old j false ≡ true → get_or new j false ≡ true
+
+-- the awaits of the action are settled, no other flag has changed, and each agent that was asked for still is
+pub record IsActionSettled (p : Program) (a : ActionId) (oldAsked newAsked old new : List Bool) : Type 0 where
+  pub settled : (k : ℕ) (w : Await) → slice_get (awaits_of p a.agent a.number) k ≡ Some w → IsSettled p newAsked a w (get_or new (first_await p a + k) false)
+  pub others : (n : ℕ) → (n < first_await p a) ⊎ (first_await p a + length (awaits_of p a.agent a.number) ≤ n) → get_or new n false ≡ get_or old n false
+  pub asked : AreMoreAsked oldAsked newAsked
+
+-- the actions of the agents before this one, and its first ones, so many
+abbrev pub IsUpTo : ℕ → ℕ → ActionId → Type 0
+IsUpTo i n a = (a.agent < i) ⊎ ((a.agent ≡ i) × (a.number ≤ n))

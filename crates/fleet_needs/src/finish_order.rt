@@ -1,0 +1,91 @@
+//! The order in which actions finish if nobody is held.
+
+ghost use Rattle.std.specs.Prelude.{◌≡◌, ◌+◌, ◌-◌, ◌<◌, length, slice_index, IfOk, OnOk};
+ghost use Rattle.fleet_model.specs.Program.{Program};
+ghost use Rattle.fleet_needs.specs.Order.{IsTicked, IsOrder};
+
+use crate::due_rows::DueRows;
+use fleet_machine::Machine;
+use fleet_model::{OutOfMemory, ProgramView};
+use std::alloc::Global;
+
+/// The agents whose actions finish, tick by tick, and in rising order within a tick. Which action it is follows from
+/// how often the agent stands before.
+#[derive(Drop)]
+pub(crate) struct FinishOrder {
+    agents: Vec<u16>,
+    /// How many actions are finished before the first tick, and after each one.
+    ends: Vec<u32>,
+}
+
+impl FinishOrder {
+    /// No ticks yet, with room for so many actions and ticks.
+    pub(crate) fn new(alloc: Global, actions: usize, ticks: u32) -> Result<FinishOrder, OutOfMemory>
+        ensures order { IfOk result (λ order. (p : Program) → IsOrder p order) }
+        ensures ticks { IfOk result (λ order. length order.ends.items ≡ 1) }
+    {
+        let agents = Vec::with_capacity(alloc, actions)?;
+        let mut ends = Vec::with_capacity(alloc, ticks as usize + 1)?;
+        ends.push(0)?;
+        Ok(FinishOrder { agents, ends })
+    }
+
+    /// Adds the agents that the last tick of the machine has moved.
+    pub(crate) fn add_tick<P: ProgramView>(
+        &mut self,
+        program: &P,
+        machine: &Machine,
+    ) -> Result<(), OutOfMemory>
+        requires order { IsOrder (P.program program.now) self.old }
+        requires ticked { IsTicked (P.program program.now) machine.now
+            (length self.old.ends.items - 1) }
+        ensures order { OnOk result (IsOrder (P.program program.now) self.new) }
+        ensures ticks { OnOk result (length self.new.ends.items ≡ length self.old.ends.items + 1) }
+    {
+        let _ = program.agents();
+        let mut from = 0;
+        while let Some(agent) = machine.next_moved(from) {
+            self.agents.push(agent)?;
+            from = agent + 1;
+        }
+        let end = self.agents.len();
+        if end > u32::MAX as usize {
+            return Err(OutOfMemory);
+        }
+        self.ends.push(end as u32)?;
+        Ok(())
+    }
+
+    /// The place at which the agents of the tick after so many ticks begin.
+    pub(crate) fn begin(&self, ticks: usize) -> usize
+        requires { ticks < length self.now.ends.items }
+        ensures { result ≡ slice_index self.now.ends.items ticks }
+    {
+        self.ends[ticks] as usize
+    }
+
+    /// The agent at a place.
+    pub(crate) fn agent(&self, place: usize) -> u16
+        requires { place < length self.now.agents.items }
+        ensures { result ≡ slice_index self.now.agents.items place }
+    {
+        self.agents[place]
+    }
+
+    /// How many rows are kept at once at most, if each is kept from the tick that finishes its action to the last that
+    /// takes it.
+    pub(crate) fn most_rows(&self, due: &DueRows) -> usize {
+        let mut kept: usize = 0;
+        let mut most = 0;
+        let mut tick: u32 = 0;
+        let mut before = 0;
+        for &end in &self.ends {
+            kept = kept.saturating_add(end.saturating_sub(before) as usize);
+            most = most.max(kept);
+            kept = kept.saturating_sub(due.after(tick).len());
+            before = end;
+            tick = tick.saturating_add(1);
+        }
+        most
+    }
+}

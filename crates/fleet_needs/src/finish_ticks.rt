@@ -1,0 +1,103 @@
+//! The tick that finishes each action if nobody is held.
+
+ghost use Rattle.std.specs.Prelude.{◌≡◌, ◌+◌, ◌<◌, [], length, IfOk, OnOk};
+ghost use Rattle.fleet_model.specs.Program.{AreInRange, total_moves};
+ghost use Rattle.fleet_model.specs.Machine.{IsFinish};
+ghost use Rattle.fleet_model.specs.Chain.{IsAction};
+ghost use Rattle.fleet_needs.specs.Places.{ArePlacesOf};
+ghost use Rattle.fleet_needs.specs.Order.{IsTicked};
+ghost use Rattle.fleet_needs.specs.declared.takers.TheConstants.{MAX_TICKS};
+ghost use Rattle.fleet_needs.specs.Settled.{IsFinishedBy, AreFinishTicks, AreTicks, finish_tick};
+
+use crate::action_places::ActionPlaces;
+use fleet_machine::Machine;
+use fleet_model::{ActionId, MAX_AGENTS, OutOfMemory, ProgramView, total_moves};
+use std::alloc::Global;
+
+/// For each action, by its place, the tick that finishes it if nobody is held. Ticks count from 1, and rise along
+/// chains.
+#[derive(Drop)]
+pub(crate) struct FinishTicks {
+    places: ActionPlaces,
+    ticks: Vec<u32>,
+}
+
+impl FinishTicks {
+    /// The ticks of a program that so many ticks finish.
+    pub(crate) fn of<P: ProgramView>(
+        alloc: Global,
+        program: &P,
+        ticks: u32,
+    ) -> Result<FinishTicks, OutOfMemory>
+        requires range { AreInRange (P.program program.now) }
+        requires finish { IsFinish (P.program program.now) [] ticks }
+        ensures { IfOk result (AreTicks (P.program program.now)) }
+    {
+        let places = ActionPlaces::of(alloc, program)?;
+        let mut entries = vec![in alloc; 0; total_moves(program) as usize]?;
+        note_ticks(alloc, program, &places, ticks, &mut entries)?;
+        Ok(FinishTicks {
+            places,
+            ticks: entries,
+        })
+    }
+
+    /// The tick of an action.
+    pub(crate) fn tick<P: ProgramView>(&self, program: &P, action: ActionId) -> u32
+        requires ticks { AreTicks (P.program program.now) self.now }
+        requires action { IsAction (P.program program.now) action }
+        ensures { result ≡ finish_tick self.now action }
+    {
+        let _ = program.agents();
+        self.ticks[self.places.place(action.agent, action.number)]
+    }
+}
+
+/// Notes the tick of each action that so many ticks finish.
+fn note_ticks<P: ProgramView>(
+    alloc: Global,
+    program: &P,
+    places: &ActionPlaces,
+    ticks: u32,
+    entries: &mut [u32],
+) -> Result<(), OutOfMemory>
+    requires places { ArePlacesOf (P.program program.now) places.now }
+    requires all { length entries.old ≡ total_moves (P.program program.now) }
+    ensures { OnOk result (AreFinishTicks (P.program program.now) places.now
+        (IsFinishedBy (P.program program.now) ticks) entries.new) }
+{
+    let mut machine = Machine::start(alloc, program)?;
+    let nobody = [false; MAX_AGENTS];
+    let nobody = &nobody[..program.agents() as usize];
+    for t in 0..ticks {
+        machine.tick(program, nobody);
+        note_finished(program, places, &machine, t, entries);
+    }
+    Ok(())
+}
+
+/// Notes the tick of the actions that the last tick has finished, which came after so many ticks.
+fn note_finished<P: ProgramView>(
+    program: &P,
+    places: &ActionPlaces,
+    machine: &Machine,
+    ticks: u32,
+    entries: &mut [u32],
+)
+    requires places { ArePlacesOf (P.program program.now) places.now }
+    requires all { length entries.old ≡ total_moves (P.program program.now) }
+    requires ticked { IsTicked (P.program program.now) machine.now ticks }
+    requires few { ticks < MAX_TICKS }
+    requires noted { AreFinishTicks (P.program program.now) places.now
+        (IsFinishedBy (P.program program.now) ticks) entries.old }
+    ensures { AreFinishTicks (P.program program.now) places.now
+        (IsFinishedBy (P.program program.now) (ticks + 1)) entries.new }
+{
+    let _ = program.agents();
+    let mut from = 0;
+    while let Some(agent) = machine.next_moved(from) {
+        let number = machine.agent(agent).count;
+        entries[places.place(agent, number)] = ticks + 1;
+        from = agent + 1;
+    }
+}

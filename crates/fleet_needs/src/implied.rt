@@ -1,0 +1,153 @@
+//! Awaits that others imply.
+
+ghost use Rattle.std.specs.Prelude.{◌≡◌, ◌<◌, [], None, Some, false, get_or, length, slice_get, IfOk, OnOk};
+ghost use Rattle.fleet_model.specs.declared.program.Await.{Await};
+ghost use Rattle.fleet_model.specs.Program.{AreInRange, awaits_of, total_awaits};
+ghost use Rattle.fleet_model.specs.Machine.{IsFinish};
+ghost use Rattle.fleet_model.specs.Chain.{IsAction};
+ghost use Rattle.fleet_needs.specs.Block.{AreNotes, ticks_noted};
+ghost use Rattle.fleet_needs.specs.Implied.{IsImplied, AreAwaitPlaces};
+ghost use Rattle.fleet_needs.specs.Settled.{AreSettled};
+ghost use Rattle.fleet_needs.specs.Flags.{AreImplied};
+
+use crate::await_places::AwaitPlaces;
+use crate::block::Block;
+use crate::columns::Columns;
+use crate::questions::{columns_at_once, is_any};
+use crate::row_pass::use_rows;
+use crate::run_notes::RunNotes;
+use crate::settled::settle_all;
+use fleet_model::{ActionId, Await, OutOfMemory, ProgramView, total_awaits};
+use std::alloc::Global;
+
+/// Which awaits of a program others imply.
+#[derive(Drop)]
+pub struct ImpliedAwaits {
+    pub(crate) places: AwaitPlaces,
+    /// For each await, by its place, whether others imply it.
+    pub(crate) flags: Vec<bool>,
+}
+
+impl ImpliedAwaits {
+    /// Whether others imply the await of this place.
+    fn is_flagged(&self, place: usize) -> bool
+        requires { place < length self.now.flags.items }
+        ensures { result ≡ get_or self.now.flags.items place false }
+    {
+        self.flags[place]
+    }
+
+    /// Await `k` of the action, unless others imply it. Takes no memory.
+    pub fn await_unless_implied<P: ProgramView>(
+        &self,
+        program: &P,
+        action: ActionId,
+        k: u16,
+    ) -> Option<Await>
+        requires implied { AreImplied (P.program program.now) self.now }
+        requires action { IsAction (P.program program.now) action }
+        requires place { k < length (awaits_of (P.program program.now) action.agent action.number) }
+        ensures some { (w : Await) → result ≡ Some w
+            → (slice_get (awaits_of (P.program program.now) action.agent action.number) k ≡ Some w)
+            × (IsImplied (P.program program.now) action w → ⊥) }
+        ensures none { (w : Await) → result ≡ None
+            → slice_get (awaits_of (P.program program.now) action.agent action.number) k ≡ Some w
+            → IsImplied (P.program program.now) action w }
+    {
+        let _ = program.agents();
+        let place = self.places.first(program, action) + usize::from(k);
+        let is_implied = self.is_flagged(place);
+        if is_implied {
+            return None;
+        }
+        Some(program.await_at(action.agent, action.number, k))
+    }
+}
+
+/// Which awaits of the program others imply: those whose awaited action begins a chain of needs that ends with another
+/// action which the same action directly needs. The program finishes after so many ticks if nobody is held.
+pub fn implied_awaits<P: ProgramView>(
+    alloc: Global,
+    program: &P,
+    ticks: u32,
+) -> Result<ImpliedAwaits, OutOfMemory>
+    requires range { AreInRange (P.program program.now) }
+    requires finish { IsFinish (P.program program.now) [] ticks }
+    ensures { IfOk result (AreImplied (P.program program.now)) }
+{
+    let places = AwaitPlaces::of(alloc, program)?;
+    let flags = vec![in alloc; false; total_awaits(program) as usize]?;
+    let mut implied = ImpliedAwaits { places, flags };
+    flag_implied(alloc, program, ticks, &mut implied)?;
+    Ok(implied)
+}
+
+/// Flags the awaits that others imply: first by a few steps back, and then, for the agents of awaits that these leave
+/// open, by rows.
+fn flag_implied<P: ProgramView>(
+    alloc: Global,
+    program: &P,
+    ticks: u32,
+    implied: &mut ImpliedAwaits,
+) -> Result<(), OutOfMemory>
+    requires range { AreInRange (P.program program.now) }
+    requires finish { IsFinish (P.program program.now) [] ticks }
+    requires places { AreAwaitPlaces (P.program program.now) implied.old.places }
+    requires flags { length implied.old.flags.items ≡ total_awaits (P.program program.now) }
+    ensures { OnOk result (AreImplied (P.program program.now) implied.new) }
+{
+    let asked = settle_all(alloc, program, ticks, &implied.places, &mut implied.flags)?;
+    if !is_any(&asked) {
+        return Ok(());
+    }
+    flag_rest(alloc, program, ticks, &asked, implied)
+}
+
+/// Flags the awaits of the asked agents, by rows.
+fn flag_rest<P: ProgramView>(
+    alloc: Global,
+    program: &P,
+    ticks: u32,
+    asked: &[bool],
+    implied: &mut ImpliedAwaits,
+) -> Result<(), OutOfMemory>
+    requires range { AreInRange (P.program program.now) }
+    requires finish { IsFinish (P.program program.now) [] ticks }
+    requires places { AreAwaitPlaces (P.program program.now) implied.old.places }
+    requires flags { length implied.old.flags.items ≡ total_awaits (P.program program.now) }
+    requires asked { length asked.now ≡ length (P.program program.now) }
+    requires settled { AreSettled (P.program program.now) asked.now implied.old.flags.items }
+    ensures { OnOk result (AreImplied (P.program program.now) implied.new) }
+{
+    let notes = RunNotes::of(alloc, program, ticks)?;
+    flag_all(alloc, program, &notes, asked, implied)
+}
+
+/// Flags the awaits of the asked agents, block by block, each with as many columns as there is room for.
+fn flag_all<P: ProgramView>(
+    alloc: Global,
+    program: &P,
+    notes: &RunNotes,
+    asked: &[bool],
+    implied: &mut ImpliedAwaits,
+) -> Result<(), OutOfMemory>
+    requires range { AreInRange (P.program program.now) }
+    requires notes { AreNotes (P.program program.now) notes.now }
+    requires finish { IsFinish (P.program program.now) [] (ticks_noted notes.now) }
+    requires places { AreAwaitPlaces (P.program program.now) implied.old.places }
+    requires flags { length implied.old.flags.items ≡ total_awaits (P.program program.now) }
+    requires asked { length asked.now ≡ length (P.program program.now) }
+    requires settled { AreSettled (P.program program.now) asked.now implied.old.flags.items }
+    ensures { OnOk result (AreImplied (P.program program.now) implied.new) }
+{
+    let most = columns_at_once(notes);
+    let agents = program.agents();
+    let mut from = 0;
+    while from < agents {
+        let columns = Columns::choose(alloc, asked, from, most)?;
+        let block = Block { notes, columns };
+        use_rows(alloc, program, &block, implied)?;
+        from = block.columns.end;
+    }
+    Ok(())
+}

@@ -1,0 +1,31 @@
+//! Needs: which actions of a program begin a chain of needs that ends with another action, by rows of counts that are
+//! joined and compared by lanes, and which awaits others imply.
+#![tactic(auto)]
+
+mod action_places;
+mod answering;
+mod await_flags;
+mod await_places;
+mod block;
+mod columns;
+mod due_rows;
+mod finish_order;
+mod finish_ticks;
+mod flagging;
+mod gather;
+mod implied;
+mod kept_rows;
+mod kernels;
+mod near;
+mod piece;
+mod questions;
+mod row_pass;
+mod row_steps;
+mod run_notes;
+mod settled;
+mod takers;
+
+pub use implied::{ImpliedAwaits, implied_awaits};
+pub use kernels::{join_rows, row_covers};
+pub use piece::Pieces;
+pub use questions::{Question, answer_questions};

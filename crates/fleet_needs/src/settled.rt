@@ -1,0 +1,327 @@
+//! Awaits for which a few steps back from their action show whether others imply them.
+
+ghost use Rattle.std.specs.Prelude.{◌≡◌, ◌+◌, ◌<◌, ◌≤◌, ℕ, [], true, false, length, slice_get, Some, IfOk, IsTrue};
+ghost use Rattle.fleet_model.specs.Program.{AreInRange, awaits_of, moves, total_awaits};
+ghost use Rattle.fleet_model.specs.declared.program.Await.{Await};
+ghost use Rattle.fleet_model.specs.Machine.{IsFinish};
+ghost use Rattle.fleet_model.specs.Chain.{IsAction, Reaches};
+ghost use Rattle.fleet_needs.specs.Implied.{IsImplied, AreAwaitPlaces};
+ghost use Rattle.fleet_needs.specs.Settled.{AreTicks, AreSettled, AreSettledOf, IsActionSettled, IsUpTo};
+
+use crate::await_places::AwaitPlaces;
+use crate::finish_ticks::FinishTicks;
+use fleet_model::{ActionId, OutOfMemory, ProgramView};
+use std::alloc::Global;
+
+/// From how many actions a step goes back for one await, at most.
+const STEPS: u8 = 16;
+
+/// No step goes back from an action with more awaits.
+const AWAITS: u16 = 16;
+
+/// Flags the awaits that others imply, as far as a few steps back show it, and answers a flag for each agent: whether
+/// an await of one of its actions is left open. `flags` has a flag for each await of the program, by its place. The
+/// program finishes after so many ticks if nobody is held.
+pub fn settle_all<P: ProgramView>(
+    alloc: Global,
+    program: &P,
+    ticks: u32,
+    places: &AwaitPlaces,
+    flags: &mut [bool],
+) -> Result<Vec<bool>, OutOfMemory>
+    requires range { AreInRange (P.program program.now) }
+    requires finish { IsFinish (P.program program.now) [] ticks }
+    requires places { AreAwaitPlaces (P.program program.now) places.now }
+    requires flags { length flags.old ≡ total_awaits (P.program program.now) }
+    ensures all { IfOk result (λ asked. length asked.items ≡ length (P.program program.now)) }
+    ensures settled { IfOk result (λ asked. AreSettled
+        (P.program program.now) asked.items flags.new) }
+{
+    let ticks = FinishTicks::of(alloc, program, ticks)?;
+    let agents = program.agents();
+    let mut asked = vec![in alloc; false; usize::from(agents)]?;
+    for agent in 0..agents {
+        settle_agent(program, &ticks, places, agent, flags, &mut asked);
+    }
+    Ok(asked)
+}
+
+/// Settles the awaits of all actions of an agent.
+fn settle_agent<P: ProgramView>(
+    program: &P,
+    ticks: &FinishTicks,
+    places: &AwaitPlaces,
+    agent: u16,
+    flags: &mut [bool],
+    asked: &mut [bool],
+)
+    requires range { AreInRange (P.program program.now) }
+    requires ticks { AreTicks (P.program program.now) ticks.now }
+    requires places { AreAwaitPlaces (P.program program.now) places.now }
+    requires agent { agent < length (P.program program.now) }
+    requires flags { length flags.old ≡ total_awaits (P.program program.now) }
+    requires asked { length asked.old ≡ length (P.program program.now) }
+    requires settled { AreSettledOf (P.program program.now) asked.old (IsUpTo agent 0) flags.old }
+    ensures { AreSettledOf (P.program program.now) asked.new
+        (IsUpTo agent (moves (P.program program.now) agent)) flags.new }
+{
+    let _ = program.agents();
+    for finished in 0..program.moves(agent) {
+        let number = finished + 1;
+        settle_action(
+            program,
+            ticks,
+            places,
+            ActionId { agent, number },
+            flags,
+            asked,
+        );
+    }
+}
+
+/// Flags the awaits of an action that others imply, as far as a few steps back show it, and flags the agents of those
+/// that are left open.
+fn settle_action<P: ProgramView>(
+    program: &P,
+    ticks: &FinishTicks,
+    places: &AwaitPlaces,
+    action: ActionId,
+    flags: &mut [bool],
+    asked: &mut [bool],
+)
+    requires range { AreInRange (P.program program.now) }
+    requires ticks { AreTicks (P.program program.now) ticks.now }
+    requires places { AreAwaitPlaces (P.program program.now) places.now }
+    requires action { IsAction (P.program program.now) action }
+    requires flags { length flags.old ≡ total_awaits (P.program program.now) }
+    requires asked { length asked.old ≡ length (P.program program.now) }
+    ensures { IsActionSettled
+        (P.program program.now) action asked.old asked.new flags.old flags.new }
+{
+    let _ = program.agents();
+    let first = places.first(program, action);
+    let latest = latest_await(program, ticks, action);
+    let mut from = 0;
+    for k in 0..program.await_count(action.agent, action.number) {
+        match is_implied(program, ticks, action, k, latest, &mut from) {
+            Some(flag) => flags[first + usize::from(k)] = flag,
+            None => {
+                let awaited = program.await_at(action.agent, action.number, k);
+                asked[usize::from(awaited.agent)] = true;
+            }
+        }
+    }
+}
+
+/// The place of an await of the action of which the awaited action has the greatest tick, or 0.
+fn latest_await<P: ProgramView>(program: &P, ticks: &FinishTicks, action: ActionId) -> u16
+    requires range { AreInRange (P.program program.now) }
+    requires ticks { AreTicks (P.program program.now) ticks.now }
+    requires action { IsAction (P.program program.now) action }
+    ensures { 1 ≤ length (awaits_of (P.program program.now) action.agent action.number)
+        → result < length (awaits_of (P.program program.now) action.agent action.number) }
+{
+    let _ = program.agents();
+    let mut latest = 0;
+    let mut greatest = 0;
+    for k in 0..program.await_count(action.agent, action.number) {
+        let tick = ticks.tick(program, awaited_at(program, action, k));
+        if tick > greatest {
+            latest = k;
+            greatest = tick;
+        }
+    }
+    latest
+}
+
+/// The awaited action of await `k` of an action.
+fn awaited_at<P: ProgramView>(program: &P, action: ActionId, k: u16) -> ActionId
+    requires range { AreInRange (P.program program.now) }
+    requires action { IsAction (P.program program.now) action }
+    requires place { k < length (awaits_of (P.program program.now) action.agent action.number) }
+    ensures awaited { slice_get (awaits_of (P.program program.now) action.agent action.number) k
+        ≡ Some (record { agent = result.agent; count = result.number }) }
+    ensures action { IsAction (P.program program.now) result }
+{
+    let awaited = program.await_at(action.agent, action.number, k);
+    ActionId {
+        agent: awaited.agent,
+        number: awaited.count,
+    }
+}
+
+/// Whether others imply await `k` of the action, if that is shown by the action that await `latest` awaits, or by a few
+/// steps back. The awaits of that action are looked at from the place `from` on, which rises.
+fn is_implied<P: ProgramView>(
+    program: &P,
+    ticks: &FinishTicks,
+    action: ActionId,
+    k: u16,
+    latest: u16,
+    from: &mut u16,
+) -> Option<bool>
+    requires range { AreInRange (P.program program.now) }
+    requires ticks { AreTicks (P.program program.now) ticks.now }
+    requires action { IsAction (P.program program.now) action }
+    requires place { k < length (awaits_of (P.program program.now) action.agent action.number) }
+    requires latest { latest < length
+        (awaits_of (P.program program.now) action.agent action.number) }
+    ensures yes { (w : Await) → slice_get
+        (awaits_of (P.program program.now) action.agent action.number) k ≡ Some w
+        → result ≡ Some true → IsImplied (P.program program.now) action w }
+    ensures no { (w : Await) → slice_get
+        (awaits_of (P.program program.now) action.agent action.number) k ≡ Some w
+        → result ≡ Some false → IsImplied (P.program program.now) action w → ⊥ }
+{
+    let _ = program.agents();
+    let awaited = awaited_at(program, action, k);
+    if k != latest {
+        let other = awaited_at(program, action, latest);
+        *from = next_await(program, other, awaited.agent, *from);
+        if is_needed(program, awaited, other, *from) {
+            return Some(true);
+        }
+        if program.await_count(action.agent, action.number) > AWAITS {
+            return None;
+        }
+    }
+    reaches_other(program, ticks, action, k, awaited)
+}
+
+/// The first of the awaits of an action, from this one on, that is of this agent or a later one.
+fn next_await<P: ProgramView>(program: &P, action: ActionId, agent: u16, from: u16) -> u16
+    requires action { IsAction (P.program program.now) action }
+{
+    let _ = program.agents();
+    let count = program.await_count(action.agent, action.number);
+    let mut k = from;
+    while k < count && program.await_at(action.agent, action.number, k).agent < agent {
+        k += 1;
+    }
+    k
+}
+
+/// Whether await `k` of the action, if there is one, is of the first action's agent and counts as many actions or more.
+fn is_needed<P: ProgramView>(program: &P, first: ActionId, action: ActionId, k: u16) -> bool
+    requires range { AreInRange (P.program program.now) }
+    requires first { IsAction (P.program program.now) first }
+    requires action { IsAction (P.program program.now) action }
+    ensures { IsTrue result → Reaches (P.program program.now) first action }
+{
+    let _ = program.agents();
+    if k >= program.await_count(action.agent, action.number) {
+        return false;
+    }
+    let needed = program.await_at(action.agent, action.number, k);
+    needed.agent == first.agent && first.number <= needed.count
+}
+
+/// Whether the action of await `k` begins a chain of needs that ends with another action which the same action directly
+/// needs, if a few steps back show it.
+fn reaches_other<P: ProgramView>(
+    program: &P,
+    ticks: &FinishTicks,
+    action: ActionId,
+    k: u16,
+    first: ActionId,
+) -> Option<bool>
+    requires range { AreInRange (P.program program.now) }
+    requires ticks { AreTicks (P.program program.now) ticks.now }
+    requires action { IsAction (P.program program.now) action }
+    requires first { IsAction (P.program program.now) first }
+    requires awaited { slice_get (awaits_of (P.program program.now) action.agent action.number) k
+        ≡ Some (record { agent = first.agent; count = first.number }) }
+    ensures yes { result ≡ Some true
+        → IsImplied (P.program program.now) action
+        (record { agent = first.agent; count = first.number }) }
+    ensures no { result ≡ Some false
+        → IsImplied (P.program program.now) action
+        (record { agent = first.agent; count = first.number }) → ⊥ }
+{
+    let _ = program.agents();
+    let mut steps = STEPS;
+    let mut known = true;
+    for m in 0..program.await_count(action.agent, action.number) {
+        if m != k {
+            let other = awaited_at(program, action, m);
+            match reaches(program, ticks, first, other, &mut steps) {
+                Some(true) => return Some(true),
+                Some(false) => {}
+                None => known = false,
+            }
+        }
+    }
+    if action.number <= 1 {
+        return join_answers(known, Some(false));
+    }
+    let before = before(action);
+    join_answers(known, reaches(program, ticks, first, before, &mut steps))
+}
+
+/// Whether a chain of needs begins with the first action and ends with the last, if so many steps back from the last
+/// show it. `steps` is one less after each step.
+fn reaches<P: ProgramView>(
+    program: &P,
+    ticks: &FinishTicks,
+    first: ActionId,
+    last: ActionId,
+    steps: &mut u8,
+) -> Option<bool>
+    requires range { AreInRange (P.program program.now) }
+    requires ticks { AreTicks (P.program program.now) ticks.now }
+    requires first { IsAction (P.program program.now) first }
+    requires last { IsAction (P.program program.now) last }
+    ensures yes { result ≡ Some true → Reaches (P.program program.now) first last }
+    ensures no { result ≡ Some false → Reaches (P.program program.now) first last → ⊥ }
+    ensures fewer { steps.new ≤ steps.old }
+{
+    let _ = program.agents();
+    if last.agent == first.agent {
+        return Some(first.number <= last.number);
+    }
+    if ticks.tick(program, last) <= ticks.tick(program, first) {
+        return Some(false);
+    }
+    let awaits = program.await_count(last.agent, last.number);
+    if *steps == 0 || awaits > AWAITS {
+        return None;
+    }
+    *steps -= 1;
+    let mut known = true;
+    for k in 0..awaits {
+        let needed = awaited_at(program, last, k);
+        match reaches(program, ticks, first, needed, steps) {
+            Some(true) => return Some(true),
+            Some(false) => {}
+            None => known = false,
+        }
+    }
+    let is_first = last.number <= 1;
+    if is_first {
+        return join_answers(known, Some(false));
+    }
+    join_answers(known, reaches(program, ticks, first, before(last), steps))
+}
+
+/// The action of the same agent right before one that is not its first.
+fn before(action: ActionId) -> ActionId
+    requires { 1 < action.number }
+    ensures agent { result.agent ≡ action.agent }
+    ensures number { result.number + 1 ≡ action.number }
+{
+    ActionId {
+        agent: action.agent,
+        number: action.number - 1,
+    }
+}
+
+/// The answer for all of some actions, by that for one of them: no only if it is `known` that it is no for the others.
+fn join_answers(known: bool, one: Option<bool>) -> Option<bool>
+    ensures yes { result ≡ Some true → one ≡ Some true }
+    ensures no { result ≡ Some false → (known ≡ true) × (one ≡ Some false) }
+{
+    match one {
+        Some(false) if !known => None,
+        _ => one,
+    }
+}

@@ -1,0 +1,31 @@
+use Rattle.std.proofs.Common.{rules, arith, ◌+◌, sym, ◌∙◌}
+use Rattle.fleet_model.specs.Program.{moves}
+use Rattle.fleet_text.proofs.SinkLemmas.{takes_err}
+use Rattle.fleet_verify.proofs.Paths.{in_reach, step_from}
+use Rattle.fleet_run.specs.Listing.{action_line}
+use Rattle.fleet_run.proofs.Texts.{one_text_more, stops_in_text}
+use Rattle.fleet_run.proofs.listing.put_actions.Goals as goal
+
+pub after-place-requires : goal.after-place-requires
+after-place-requires g c =
+    let p = g.P.ProgramView.program c.args.program.now in
+    in_reach p c.requires.well_formed c.args.i c.loop-n.n c.loop-n.place (omega (arith, c.moves-n-end.ensures, c.loop-n-test.true)) c.loop-n.invariant.there
+
+pub put_action-requires-clause-place : goal.put_action-requires-clause-place
+put_action-requires-clause-place g c =
+    c.after-place.ensures ∙ sym (step_from (g.P.ProgramView.program c.args.program.now) c.args.i c.loop-n.n c.loop-n.place _ c.loop-n.invariant.there c.step.ensures)
+
+pub returns-in_err-put_action : goal.returns-in_err-put_action
+returns-in_err-put_action g c =
+    let p = g.P.ProgramView.program c.args.program.now in
+    takes_err _ _ _ _ (search rules)
+    (stops_in_text (λ n. action_line p c.args.i (n + 1)) _ _ _ c.loop-n.n c.loop-n.invariant.written
+    (moves p c.args.i) (omega (arith, c.moves-n-end.ensures)) c.in_err-put_action.ensures)
+
+pub loop-n-preserved : goal.loop-n-preserved
+loop-n-preserved g c =
+    let p = g.P.ProgramView.program c.args.program.now in
+    record {
+      written = one_text_more (λ n. action_line p c.args.i (n + 1)) _ _ _ c.loop-n.n c.loop-n.invariant.written c.in_ok-put_action.ensures;
+      there = c.after-place.ensures ∙ sym (step_from p c.args.i c.loop-n.n c.loop-n.place _ c.loop-n.invariant.there c.step.ensures);
+    }

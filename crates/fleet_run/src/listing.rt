@@ -1,0 +1,197 @@
+//! Programs as text.
+
+ghost use Rattle.std.specs.Prelude.{◌≡◌, ◌<◌, ◌≤◌, ◌∷◌, [], length, map};
+ghost use Rattle.fleet_model.specs.Program.{IsWellFormed, path, moves, awaits_of};
+ghost use Rattle.fleet_text.specs.Sink.{IsWorking, TakesAll};
+ghost use Rattle.fleet_text.specs.Row.{Gathers};
+ghost use Rattle.fleet_text.specs.Words.{spaced, next_words, numbered_text};
+ghost use Rattle.fleet_run.specs.Text.{place_text};
+ghost use Rattle.fleet_run.specs.Listing.{dir_name, step_words, await_text, await_words, agent_line, action_line, actions_text, agent_text, program_text};
+
+use crate::text::{PLACE, write_place};
+use fleet_model::{Cell, Dir, Place, ProgramView, Step};
+use fleet_text::{OutFault, Row, TraceOut, Word, put_line, put_next_word, put_words};
+
+fn dir_name(dir: Dir) -> &'static str
+    ensures { result.now ≡ dir_name dir }
+{
+    match dir {
+        Dir::North => "north",
+        Dir::East => "east",
+        Dir::South => "south",
+        Dir::West => "west",
+    }
+}
+
+/// The two words that say what a step does, before the place where it ends.
+fn step_words(step: Step) -> (&'static str, &'static str)
+    ensures { result.0.now ∷ result.1.now ∷ [] ≡ step_words step }
+{
+    match step {
+        Step::Go(dir) => (dir_name(dir), "to"),
+        Step::Dwell => ("stays", "at"),
+    }
+}
+
+/// Adds the name of an action, and what it does.
+fn put_step<O: TraceOut>(
+    row: &mut Row,
+    out: &mut O,
+    i: u16,
+    n: u32,
+    step: Step,
+) -> Result<(), OutFault>
+    requires { IsWorking (O.state out.old) }
+    ensures { Gathers (O.state out.old) (O.state out.new) result row.old row.new
+        (spaced (numbered_text i n ∷ step_words step)) }
+{
+    let (first, second) = step_words(step);
+    put_words(
+        row,
+        out,
+        &[Word::Of(i, n), Word::Text(first), Word::Text(second)],
+    )
+}
+
+/// Adds a place, with a space before it.
+fn put_place<O: TraceOut>(row: &mut Row, out: &mut O, place: Place) -> Result<(), OutFault>
+    requires { IsWorking (O.state out.old) }
+    ensures { Gathers (O.state out.old) (O.state out.new) result row.old row.new
+        (place_text place) }
+{
+    let mut text = [0; PLACE];
+    let at = write_place(place, &mut text, PLACE);
+    row.add(out, &text[at..])
+}
+
+/// Adds a space and a word for each await of action `n` of agent `i`.
+fn put_each_await<P: ProgramView, O: TraceOut>(
+    row: &mut Row,
+    out: &mut O,
+    program: &P,
+    i: u16,
+    n: u32,
+) -> Result<(), OutFault>
+    requires working { IsWorking (O.state out.old) }
+    requires agent { i < length (P.program program.now) }
+    requires first { 1 ≤ n }
+    requires last { n ≤ moves (P.program program.now) i }
+    ensures { Gathers (O.state out.old) (O.state out.new) result row.old row.new
+        (next_words (map await_text (awaits_of (P.program program.now) i n))) }
+{
+    for k in 0..program.await_count(i, n) {
+        let one = program.await_at(i, n, k);
+        put_next_word(row, out, Word::Of(one.agent, one.count))?;
+    }
+    Ok(())
+}
+
+/// Adds what action `n` of agent `i` awaits, if it awaits anything.
+fn put_awaits<P: ProgramView, O: TraceOut>(
+    row: &mut Row,
+    out: &mut O,
+    program: &P,
+    i: u16,
+    n: u32,
+) -> Result<(), OutFault>
+    requires working { IsWorking (O.state out.old) }
+    requires agent { i < length (P.program program.now) }
+    requires first { 1 ≤ n }
+    requires last { n ≤ moves (P.program program.now) i }
+    ensures { Gathers (O.state out.old) (O.state out.new) result row.old row.new
+        (next_words (await_words (awaits_of (P.program program.now) i n))) }
+{
+    if program.await_count(i, n) == 0 {
+        return Ok(());
+    }
+    put_next_word(row, out, Word::Text("after"))?;
+    put_each_await(row, out, program, i, n)
+}
+
+/// Writes the line of action `n` of agent `i`, which leads to this place.
+fn put_action<P: ProgramView, O: TraceOut>(
+    out: &mut O,
+    program: &P,
+    i: u16,
+    n: u32,
+    place: Place,
+) -> Result<(), OutFault>
+    requires working { IsWorking (O.state out.old) }
+    requires agent { i < length (P.program program.now) }
+    requires first { 1 ≤ n }
+    requires last { n ≤ moves (P.program program.now) i }
+    requires place { place ≡ path (P.program program.now) i n }
+    ensures { TakesAll (O.state out.old) (O.state out.new) result
+        (action_line (P.program program.now) i n) }
+{
+    let mut row = Row::new();
+    put_step(&mut row, out, i, n, program.step(i, n))?;
+    put_place(&mut row, out, place)?;
+    put_awaits(&mut row, out, program, i, n)?;
+    row.end_line(out)
+}
+
+/// Writes the line of each action of agent `i`.
+fn put_actions<P: ProgramView, O: TraceOut>(
+    out: &mut O,
+    program: &P,
+    i: u16,
+) -> Result<(), OutFault>
+    requires working { IsWorking (O.state out.old) }
+    requires well_formed { IsWellFormed (P.program program.now) }
+    requires agent { i < length (P.program program.now) }
+    ensures { TakesAll (O.state out.old) (O.state out.new) result
+        (actions_text (P.program program.now) i) }
+{
+    let mut place = Place::from(program.start(i));
+    for n in 0..program.moves(i) {
+        place = place.after(program.step(i, n + 1));
+        put_action(out, program, i, n + 1, place)?;
+    }
+    Ok(())
+}
+
+/// Writes the line of agent `i`.
+#[tactic(auto, unfolding(crate::specs::Listing::agent_line))]
+fn put_agent_line<O: TraceOut>(out: &mut O, i: u16, start: Cell, goal: Cell) -> Result<(), OutFault>
+    requires { IsWorking (O.state out.old) }
+    ensures { TakesAll (O.state out.old) (O.state out.new) result (agent_line i start goal) }
+{
+    let from = Word::Pair(start.x, start.y);
+    let to = Word::Pair(goal.x, goal.y);
+    let label = Word::Label(i as u64);
+    put_line(
+        out,
+        &[Word::Text("agent"), label, from, Word::Text("to"), to],
+    )
+}
+
+/// Writes the line of agent `i`, and those of its actions.
+fn put_agent<P: ProgramView, O: TraceOut>(out: &mut O, program: &P, i: u16) -> Result<(), OutFault>
+    requires working { IsWorking (O.state out.old) }
+    requires well_formed { IsWellFormed (P.program program.now) }
+    requires agent { i < length (P.program program.now) }
+    ensures { TakesAll (O.state out.old) (O.state out.new) result
+        (agent_text (P.program program.now) i) }
+{
+    put_agent_line(out, i, program.start(i), program.goal(i))?;
+    put_actions(out, program, i)
+}
+
+/// Writes any program as text: for each agent a line with its start and its goal, `agent i: x,y to x,y`, and after it
+/// one for each of its actions in order, `i:n east to x,y` or `i:n stays at x,y`. There `x,y` is the place of the agent
+/// after the action, which may lie off any map. The line of an action that awaits others ends with ` after j:m ..`, a
+/// word for each await: action `m` of agent `j` has to be finished before. Agents count from 0, actions from 1. It
+/// takes no memory.
+///
+/// Errors: `OutFault` if the sink fails; it has then taken a proper prefix of the text.
+pub fn put_program<P: ProgramView, O: TraceOut>(out: &mut O, program: &P) -> Result<(), OutFault>
+    requires { IsWorking (O.state out.old) }
+    ensures { TakesAll (O.state out.old) (O.state out.new) result
+        (program_text (P.program program.now)) }
+{
+    for i in 0..program.agents() {
+        put_agent(out, program, i)?;
+    }
+    Ok(())
+}

@@ -1,3 +1,0 @@
-pub mod AwaitOrder
-mod Settling
-mod Ticking

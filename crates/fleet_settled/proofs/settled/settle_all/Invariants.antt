@@ -1,9 +1,0 @@
-use Rattle.std.proofs.Common.{◌≡◌, length}
-use Rattle.fleet_settled.specs.Settled.{AreSettledOf, IsUpTo}
-use Rattle.fleet_settled.proofs.settled.settle_all.Given as goal
-
-abbrev pub invariant-loop-agent : goal.invariant-loop-agent
-invariant-loop-agent g l = record {
-  all : length l.asked.items ≡ length (g.P.ProgramView.program l.program);
-  settled : AreSettledOf (g.P.ProgramView.program l.program) l.asked.items (IsUpTo l.agent 0) l.flags;
-}

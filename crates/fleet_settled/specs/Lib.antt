@@ -1,2 +1,0 @@
-pub mod Implied
-pub mod Settled

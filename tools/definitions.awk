@@ -1,16 +1,24 @@
 # The definitions of the crates, in plain words: the comment above each definition of a file of specs/, beside its name. A definition
-# without a comment stands with the one above it. tools/definitions.sh gives the files in their order.
-#     awk -f tools/definitions.awk crates/NAME/specs/FILE.antt ..
+# without a comment stands with the one above it. tools/definitions.sh gives the files in their order, and the file that says which
+# definitions are wanted, a line `CRATE.FILE NAME` for each (tools/reached.awk).
+#     awk -v reached=FILE -f tools/definitions.awk crates/NAME/specs/FILE.antt ..
 
-BEGIN { width = 120 }
+BEGIN {
+    width = 120
+    while ((getline line < reached) > 0) wanted[line] = 1
+}
 
 FNR == 1 {
     entry()
     n = split(FILENAME, part, "/")
     heading = part[n - 2] ": " part[n]
     sub(/\.antt$/, "", heading)
+    module = part[n - 2] "." part[n]
+    sub(/\.antt$/, "", module)
+    front_said = ""
     said = ""
     front = 1
+    is_first = 1
 }
 
 # The comment on the whole file stands above its imports.
@@ -21,12 +29,7 @@ front && /^-- / {
 
 front {
     front = 0
-    printf "\n### %s\n", heading
-    if (said != "") {
-        printf "\n"
-        fold(sentence(said), "")
-    }
-    printf "\n"
+    front_said = said
     said = ""
 }
 
@@ -39,13 +42,13 @@ front {
     name = $0
     sub(/^((unfoldable|abbrev|pub|record|data) )+/, "", name)
     sub(/[ :({].*/, "", name)
-    if (said != "" || names == "") {
+    if (said != "" || is_first) {
         entry()
-        names = "**`" name "`**"
         text = said
         said = ""
-    } else
-        names = names ", `" name "`"
+    }
+    is_first = 0
+    if ((module " " name) in wanted) names = names (names == "" ? "**`" name "`**" : ", `" name "`")
     next
 }
 
@@ -55,9 +58,22 @@ END { entry() }
 
 # Writes the last definition with what is said of it.
 function entry() {
+    if (names != "") top()
     if (names != "") fold("- " names (text == "" ? "" : ": " text (text ~ /\.$/ ? "" : ".")), "  ")
     names = ""
     text = ""
+}
+
+# Writes the heading of the file before its first definition.
+function top() {
+    if (heading == "") return
+    printf "\n### %s\n", heading
+    if (front_said != "") {
+        printf "\n"
+        fold(sentence(front_said), "")
+    }
+    printf "\n"
+    heading = ""
 }
 
 # With a capital letter and a full stop.

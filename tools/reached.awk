@@ -1,0 +1,127 @@
+# Which definitions of specs/ the public clauses reach: those that a contract of a function, or what is said of a type, names that a crate
+# hands out, with all that these cite. tools/definitions.sh gives the files: each crate's src/lib.rt before its other sources, and then specs/.
+#     awk -f tools/reached.awk crates/NAME/src/lib.rt crates/NAME/src/FILE.rt .. crates/NAME/specs/FILE.antt ..
+# Writes a line CRATE.FILE NAME for each.
+
+FNR == 1 {
+    n = split(FILENAME, part, "/")
+    crate = part[2]
+    file = part[n]
+    sub(/\.(rt|antt)$/, "", file)
+    module = FILENAME ~ /\.rt$/ ? FILENAME : crate "." file
+    is_root = FILENAME ~ /src\/(lib|main)\.rt$/
+    used = "" # the text of a `pub use` that is open
+    shown = 0 # whether the item is handed out
+    within = 0 # whether it stands in an impl or a trait that is
+    open = ""
+}
+
+# What a root hands out.
+is_root && (/^pub use / || used != "") {
+    used = used " " $0
+    if ($0 !~ /;/) next
+    sub(/^.*::/, "", used)
+    gsub(/[^A-Za-z0-9_]+/, " ", used)
+    n = split(used, one, " ")
+    for (i = 1; i <= n; i++) handed[crate, one[i]] = 1
+    used = ""
+    next
+}
+
+# Names that clauses and definitions bring in.
+/^ *(ghost )?use Rattle\.[a-z_]*\.specs\.[A-Za-z]*\.\{/ {
+    path = $0
+    sub(/^ */, "", path)
+    split(path, at, ".")
+    list = $0
+    sub(/^[^{]*\{/, "", list)
+    sub(/\}.*/, "", list)
+    n = split(list, one, ", ")
+    for (i = 1; i <= n; i++) from[module, one[i]] = at[2] "." at[4]
+    next
+}
+
+# A source: an item of the crate begins.
+FILENAME ~ /\.rt$/ && /^[a-z#\/]/ {
+    shown = 0
+    within = 0
+}
+
+FILENAME ~ /\.rt$/ && /^(pub )?(unsafe )?(impl|trait)[ <]/ {
+    words = $0
+    gsub(/[^A-Za-z0-9_]+/, " ", words)
+    n = split(words, one, " ")
+    for (i = 1; i <= n; i++) if ((crate, one[i]) in handed) within = 1
+    is_trait = /trait/
+    shown = within
+    next
+}
+
+FILENAME ~ /\.rt$/ && /^ *(pub )?(const )?(unsafe )?fn [a-z_0-9]+/ {
+    name = $0
+    sub(/^ *(pub )?(const )?(unsafe )?fn /, "", name)
+    sub(/[^a-z_0-9].*/, "", name)
+    shown = /^ / ? within && (is_trait || $0 ~ /^ *pub / || 1) : (crate, name) in handed
+    next
+}
+
+FILENAME ~ /\.rt$/ && /^ *\{?$/ { if ($0 ~ /\{/) shown = 0 }
+
+FILENAME ~ /\.rt$/ && (/^    ghost / || /^      /) && within { shown_line = 1 }
+
+FILENAME ~ /\.rt$/ {
+    if (shown && $0 !~ /^ *\/\//) said[module] = said[module] " " $0
+    next
+}
+
+# Definitions.
+/^-- / {
+    open = ""
+    next
+}
+
+/^$/ {
+    open = ""
+    next
+}
+
+/^((unfoldable|abbrev|pub|record|data) )+[^ ]+/ {
+    name = $0
+    sub(/^((unfoldable|abbrev|pub|record|data) )+/, "", name)
+    sub(/[ :({].*/, "", name)
+    open = module SUBSEP name
+    text[open] = ""
+    order[++count] = open
+}
+
+open != "" { text[open] = text[open] " " $0 }
+
+END {
+    for (it in said) want(it, said[it])
+    do {
+        found = 0
+        for (i = 1; i <= count; i++)
+            if (wanted[order[i]] == 1) {
+                split(order[i], at, SUBSEP)
+                want(at[1], text[order[i]])
+                wanted[order[i]] = 2
+                found = 1
+            }
+    } while (found)
+    for (i = 1; i <= count; i++)
+        if (wanted[order[i]]) {
+            split(order[i], at, SUBSEP)
+            print at[1], at[2]
+        }
+}
+
+# Wants the definitions that the words of a file name.
+function want(where, words,    n, word, i, key) {
+    gsub(/[^A-Za-z0-9_-]+/, " ", words)
+    n = split(words, word, " ")
+    for (i = 1; i <= n; i++) {
+        key = where SUBSEP word[i]
+        if (!(key in text) && ((where, word[i]) in from)) key = from[where, word[i]] SUBSEP word[i]
+        if ((key in text) && !wanted[key]) wanted[key] = 1
+    }
+}

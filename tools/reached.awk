@@ -48,11 +48,12 @@ FILENAME ~ /\.rt$/ && /^[a-z#\/]/ {
 }
 
 FILENAME ~ /\.rt$/ && /^(pub )?(unsafe )?(impl|trait)[ <]/ {
+    is_trait = / for |trait /
     words = $0
-    gsub(/[^A-Za-z0-9_]+/, " ", words)
-    n = split(words, one, " ")
-    for (i = 1; i <= n; i++) if ((crate, one[i]) in handed) within = 1
-    is_trait = /trait/
+    sub(/^.* for /, "", words)
+    sub(/^(pub )?(unsafe )?(impl|trait)(<[^>]*>)? /, "", words)
+    sub(/[^A-Za-z0-9_].*/, "", words)
+    within = (crate, words) in handed
     shown = within
     next
 }
@@ -61,13 +62,11 @@ FILENAME ~ /\.rt$/ && /^ *(pub )?(const )?(unsafe )?fn [a-z_0-9]+/ {
     name = $0
     sub(/^ *(pub )?(const )?(unsafe )?fn /, "", name)
     sub(/[^a-z_0-9].*/, "", name)
-    shown = /^ / ? within && (is_trait || $0 ~ /^ *pub / || 1) : (crate, name) in handed
+    shown = /^ / ? within && (is_trait || /^ *pub /) : (crate, name) in handed
     next
 }
 
 FILENAME ~ /\.rt$/ && /^ *\{?$/ { if ($0 ~ /\{/) shown = 0 }
-
-FILENAME ~ /\.rt$/ && (/^    ghost / || /^      /) && within { shown_line = 1 }
 
 FILENAME ~ /\.rt$/ {
     if (shown && $0 !~ /^ *\/\//) said[module] = said[module] " " $0

@@ -1,13 +1,13 @@
-# Help, wrong usage and statuses; and that what docs/COMMANDS.md and docs/HELP.md say of the commands is what the
-# program's help says.
+# Help, wrong usage and statuses; and that what docs/COMMANDS.md and tests/transcripts/help.md say of the commands is
+# what the program's help says.
 
 enter commands
 commands=$(cd "$room" && fleet --help | awk '/^Commands:/ { on = 1; next } /^$/ { on = 0 } on && $1 != "help" { print $1 }')
 check 'help lists the commands' 0 'instance check plan compile verify run rehearse auto thin migrate list dispatch\n' '' "echo $(echo "$commands" | tr '\n' ' ')"
 
-# Help in all its forms is that of docs/HELP.md, which is compared with the documents.
+# Help in all its forms is that of tests/transcripts/help.md, which is compared with the other transcripts.
 for command in '' $commands; do
-    check "docs/HELP.md has the help of fleet $command" 0 '1\n' '' "grep -c '^\\\$ fleet ${command:+$command }--help\$' '$root/docs/HELP.md'"
+    check "tests/transcripts/help.md has the help of fleet $command" 0 '1\n' '' "grep -c '^\\\$ fleet ${command:+$command }--help\$' '$root/tests/transcripts/help.md'"
     check "fleet ${command:+$command }-h" 0 '' '' "fleet $command --help > a && fleet $command -h > b && cmp a b"
     check "fleet help $command" 0 '' '' "fleet $command --help > a && fleet help $command > b && cmp a b"
     [ "$command" ] || continue

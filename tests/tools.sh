@@ -10,4 +10,15 @@ check 'a map with CR LF is drawn alike' 0 '' '' \
 check 'numbers of the warehouse' 0 'sum of costs 14997\nmakespan 218\nmoves 13198\nheld 96\nwaits 1703\n' '' \
     "awk -f tools/run.awk -f tools/numbers.awk $run | tail -n 5"
 check 'its moves are those of the program' 0 'moves 13198\n' '' "awk -f tools/run.awk -f tools/numbers.awk examples/warehouse.trace | grep moves.1"
+check 'numbers of a plan' 0 'makespan 204\nmoves 13198\nheld 0\n' '' \
+    "fleet plan examples/warehouse.map examples/warehouse.scen > plan && awk -f tools/run.awk -f tools/numbers.awk plan | grep -E '^(makespan|moves|held) '"
+check 'a plan is drawn as a trace' 0 '' '' \
+    "awk -f tools/run.awk -f tools/film.awk examples/corridor.map examples/corridor.plan > one && printf '0: 2,0 1,0 0,0\\n1: 3,0 2,0 1,0\\n2: 4,0 3,0 2,0\\n' > trace && awk -f tools/run.awk -f tools/film.awk examples/corridor.map trace | cmp one -"
+for other in examples/corridor.scen examples/corridor.program examples/corridor.eecbs examples/README.md tools/run.awk; do
+    check "numbers of $other" 1 '' "run: $other is no map, trace, plan or holds\n" "awk -f tools/run.awk -f tools/numbers.awk $other"
+done
+check 'numbers of nothing' 1 '' 'run: no trace or plan\n' "awk -f tools/run.awk -f tools/numbers.awk /dev/null"
+check 'numbers of a plan and a trace' 1 '' 'run: more than one trace or plan\n' "awk -f tools/run.awk -f tools/numbers.awk examples/corridor.plan examples/warehouse.trace"
+check 'no robot of a film is red or orange' 0 '' '' \
+    "grep -o 'hsl([0-9]*' warehouse.svg | tr -d 'hsl(' | awk '\$1 < 70 || \$1 > 320'"
 check 'the same seed gives the same holds' 0 '1 2\n0 1 2\n' '' "awk -v agents=3 -v ticks=2 -v chance=0.5 -v least=1 -v most=1 -v seed=1 -f tools/delays.awk"

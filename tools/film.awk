@@ -1,9 +1,10 @@
 # Draws a run as a film, an SVG that moves by itself:
 #     awk -f tools/run.awk -f tools/film.awk MAP TRACE [HOLDS] > FILM
 # Blocked cells are grey. Each agent is a disc, with a ring on its goal; it is red and larger while it is held, and orange while it waits for
-# another. The bar below is the time. -v rate=N: N ticks a second (8).
+# another. Below are the legend, the tick that is going on, and a bar that is the time. -v rate=N: N ticks a second (8).
 
-function colour(i) { return "hsl(" int((i * 137.5) % 360) ",70%,42%)" }
+# Hues from yellow-green to magenta: red and orange say something else.
+function colour(i) { return "hsl(" 70 + int((i * 137.5) % 251) ",70%,42%)" }
 
 function key(t) { return sprintf("%.5g", t / whole) }
 
@@ -52,16 +53,44 @@ function looks(i,   t, now, before, fills, sizes, keys) {
         (sizes ~ /8/ ? animation("animate", "attributeName=\"r\" calcMode=\"discrete\"", sizes, keys) : "")
 }
 
+# A disc of the legend and the words behind it, at x; answers where the next one may begin.
+function entry(x, disc, words) {
+    printf "<circle cx=\"%s\" cy=\"%s\" r=\"%s\" %s/><text x=\"%s\" y=\"%s\">%s</text>\n", x + .5 * size, base - .35 * size, .45 * size, disc, x + 1.3 * size, base, words
+    return x + (2.6 + .52 * length(words)) * size
+}
+
+# The numbers of all ticks, one below another, behind a window that shows the one that is going on.
+function clock(   t, values, keys) {
+    printf "<clipPath id=\"clock\"><rect x=\"0\" y=\"%s\" width=\"%d\" height=\"%s\"/></clipPath>\n", base - size, width, 1.3 * size
+    printf "<text x=\"%s\" y=\"%s\" text-anchor=\"end\">tick</text>\n<g clip-path=\"url(#clock)\"><text text-anchor=\"end\">", width - (.7 + .6 * length(last)) * size, base
+    for (t = 1; t <= last; t++) {
+        printf "<tspan x=\"%s\" y=\"%s\">%d</tspan>", width - .3 * size, base + 2 * (t - 1) * size, t
+        values = values (t == 1 ? "" : ";") "0," (-2 * (t - 1) * size)
+        keys = keys (t == 1 ? "" : ";") key(t - 1)
+    }
+    printf "%s</text></g>\n", last ? animation("animateTransform", "attributeName=\"transform\" type=\"translate\" calcMode=\"discrete\"", values, keys) : ""
+}
+
 END {
     if (!rate) rate = 8
     whole = last + 2 * rate
-    printf "<svg xmlns=\"http://www.w3.org/2000/svg\" viewBox=\"0 0 %d %d\" width=\"%d\" role=\"img\">\n", width, height + 3, width * 6
+    size = width / 48
+    base = height + 1.3 * size
+    high = height + 3 * size
+    printf "<svg xmlns=\"http://www.w3.org/2000/svg\" viewBox=\"0 0 %d %s\" width=\"%d\" font-family=\"sans-serif\" role=\"img\">\n", width, high, width < 80 ? 480 : width * 6
     printf "<title>A run of %d agents in %d ticks</title>\n", agents, last
-    printf "<rect width=\"%d\" height=\"%d\" fill=\"#fff\"/>\n<path fill=\"#b8bcc2\" d=\"%s\"/>\n", width, height + 3, blocked
+    printf "<rect width=\"%d\" height=\"%s\" fill=\"#fff\"/>\n<path fill=\"#b8bcc2\" d=\"%s\"/>\n", width, high, blocked
     print "<g fill=\"none\" stroke-width=\".14\">"
     for (i = 0; i < agents; i++) printf "<circle cx=\"%s\" cy=\"%s\" r=\".45\" stroke=\"%s\"/>\n", X[i, last] + 0.5, Y[i, last] + 0.5, colour(i)
     print "</g>"
     for (i = 0; i < agents; i++) printf "<circle r=\".45\" transform=\"translate(%s)\" fill=\"%s\">%s%s</circle>\n", centre(i, 0), colour(i), way(i), looks(i)
-    printf "<rect y=\"%d\" height=\"1\" width=\"%d\" fill=\"#eee\"/>\n<rect y=\"%d\" height=\"1\" width=\"0\" fill=\"#36c\">", height + 1, width, height + 1
+    printf "<g font-size=\"%s\" fill=\"#333\">\n", size
+    next_x = entry(.3 * size, "fill=\"" colour(1) "\"", "goes, or has arrived")
+    next_x = entry(next_x, "fill=\"none\" stroke=\"" colour(1) "\" stroke-width=\"" .14 * size "\"", "its goal")
+    next_x = entry(next_x, "fill=\"#e00\"", "is held")
+    entry(next_x, "fill=\"#f90\"", "waits for another")
+    clock()
+    print "</g>"
+    printf "<rect y=\"%s\" height=\"%s\" width=\"%d\" fill=\"#eee\"/>\n<rect y=\"%s\" height=\"%s\" width=\"0\" fill=\"#36c\">", base + .7 * size, .5 * size, width, base + .7 * size, .5 * size
     printf "%s</rect>\n</svg>\n", animation("animate", "attributeName=\"width\"", "0;" width ";" width, "0;" key(last) ";1")
 }

@@ -1,10 +1,25 @@
 # Reads a map, a trace and the holds of its run, in any order, for the scripts beside this one:
 #     awk -f tools/run.awk -f tools/SCRIPT.awk [MAP] TRACE [HOLDS]
-# At the end there are: width, height and blocked (a path of SVG) of the map; agents, last (the last time), X[i, t] and Y[i, t] of the
-# trace; arrival[i], the time from which agent i stays where it is; and state(i, t), what agent i does in tick t.
+# In place of a trace a plan may stand: then each robot is on time. Status 1 if a file is none of these, or there is no trace or plan, or more
+# than one. At the end there are: width, height and blocked (a path of SVG) of the map; agents, last (the last time), X[i, t] and Y[i, t];
+# arrival[i], the time from which agent i stays where it is; and state(i, t), what agent i does in tick t.
 
-FNR == 1 { kind = /^type/ ? "map" : /^0:/ ? "trace" : "holds" }
-{ sub(/\r$/, "") }
+{ sub(/[ \t\r]*$/, "") }
+FNR == 1 { kind = kind_of($0) }
+
+function kind_of(line) {
+    if (line ~ /^type /) return "map"
+    if (line ~ /^(-|[0-9]+( [0-9]+)*)$/) return "holds"
+    if (line ~ /^0:( -?[0-9.]+,-?[0-9.]+)+$/) { runs++; return "trace" }
+    if (line ~ /^[0-9]+,[0-9]+([ \t]+[0-9]+,[0-9]+)*$/) { runs++; return "plan" }
+    refuse(FILENAME " is no map, trace, plan or holds")
+}
+
+function refuse(words) {
+    print "run: " words > "/dev/stderr"
+    refused = 1
+    exit 1
+}
 
 kind == "map" && $1 == "height" { height = $2 + 0 }
 kind == "map" && $1 == "width" { width = $2 + 0 }
@@ -27,6 +42,17 @@ kind == "trace" && /^[0-9]+:/ {
     }
 }
 
+kind == "plan" {
+    for (t = 0; t < NF; t++) {
+        split($(t + 1), at, ",")
+        X[agents + 0, t] = at[1] + 0
+        Y[agents + 0, t] = at[2] + 0
+    }
+    steps[agents + 0] = NF - 1
+    if (NF - 1 > last) last = NF - 1
+    agents++
+}
+
 # Line t of the holds is tick t, from time t - 1 to time t.
 kind == "holds" && $1 != "-" { for (k = 1; k <= NF; k++) held[$k + 0, FNR] = 1 }
 
@@ -39,6 +65,14 @@ function state(i, t) {
 }
 
 END {
+    if (refused) exit 1
+    if (runs != 1) refuse(runs ? "more than one trace or plan" : "no trace or plan")
+    for (i in steps) {
+        for (t = steps[i] + 1; t <= last; t++) {
+            X[i, t] = X[i, steps[i]]
+            Y[i, t] = Y[i, steps[i]]
+        }
+    }
     for (i = 0; i < agents; i++) {
         arrival[i] = 0
         for (t = last; t > 0 && !goes(i, t); t--);

@@ -33,6 +33,7 @@ END {
     printf "<path fill=\"#9bb8dd\" d=\"%s\"/>\n<path fill=\"#f0a020\" d=\"%s\"/>\n<path fill=\"#d01020\" d=\"%s\"/>\n", bars["goes"], bars["waits"], bars["held"]
     for (i = 0; i < agents; i += spacing(agents)) label(-size, i + size, "end", i)
     for (t = 0; t <= last; t += spacing(last)) label(t, agents + 3 * size, "middle", t)
-    label(0, -1.5 * size, "start", "agents by ticks: <tspan fill=\"#5f86bb\">goes</tspan>, <tspan fill=\"#d01020\">is held</tspan>, <tspan fill=\"#d08000\">waits for another</tspan>")
+    label(last + 1.5 * size, agents + 3 * size, "start", "ticks")
+    label(0, -1.5 * size, "start", "agents: <tspan fill=\"#5f86bb\">goes</tspan>, <tspan fill=\"#d01020\">is held</tspan>, <tspan fill=\"#d08000\">waits for another</tspan>")
     print "</svg>"
 }

@@ -1,21 +1,23 @@
 -- Where the parts of a program stand in its bytes.
-use Rattle.std.proofs.Common.{◌≡◌, ℕ, zero, suc, ◌-◌, ◌+◌, ◌*◌, ◌≤◌, ◌<◌, List, [], ◌∷◌, ◌++◌, length, take, drop, slice_get, slice_index_or, Option, Some, Result, Ok, refl, sym, ap, subst, ◌∙◌, append_assoc, arith, inl, inr, All}
+use Rattle.std.proofs.Common.{◌≡◌, ℕ, zero, suc, ◌-◌, ◌+◌, ◌*◌, ◌≤◌, ◌<◌, List, [], ◌∷◌, ◌++◌, length, take, drop, slice_get, slice_index_or, Option, Some, Result, Ok, refl, sym, ap, subst, ◌∙◌, append_assoc, arith, inl, inr, All, ◌⊎◌}
 use Rattle.std.specs.List.{flat_map}
 use Rattle.std.proofs.lemmas.List.{append-nil, length-append, drop-drop, length-drop, length-take-le, drop_at, get_or-drop}
-use Rattle.std.proofs.lemmas.Option.{slice_get_cases, slice_get_within, get_or_from_slice_get, same_Some}
+use Rattle.std.proofs.lemmas.Option.{slice_get_cases, slice_get_within, get_or_from_slice_get, same_Some, none-some}
 use Rattle.std.proofs.lemmas.List.Elements.{All-get_or}
 use Rattle.std.specs.Option.{option_map_or}
-use Rattle.std.specs.Prelude.{sum_by}
+use Rattle.std.specs.Prelude.{sum_by, option_map}
+use Rattle.std.proofs.lemmas.Bool.{cases_order}
 use Rattle.std.proofs.lemmas.List.Sums.{sum_by-cons}
-use Rattle.std.proofs.Math.Nat.{add-zero}
+use Rattle.std.proofs.Math.Nat.{add-zero, mul-add, mul-le-mul_left}
+use Rattle.fleet_model.specs.declared.geometry.Step.{Step}
 use Rattle.fleet_model.specs.declared.program.Await.{Await}
 use Rattle.fleet_model.specs.declared.program.Action.{Action}
 use Rattle.fleet_model.specs.declared.program.AgentProgram.{AgentProgram}
-use Rattle.fleet_model.specs.Program.{Program, actions_of, action_of, moves, start_of, goal_of, awaits_of}
+use Rattle.fleet_model.specs.Program.{Program, actions_of, action_of, moves, start_of, goal_of, awaits_of, awaits_before, step_of}
 use Rattle.fleet_code.specs.declared.format.Version.{Version}
 use Rattle.fleet_code.specs.declared.format.Version.TheVariants.{One, Two}
 use Rattle.fleet_code.specs.Spelling.{magic, two_bytes, count as count_of, most_count, cell, opcode, await, action, agent, spelling, IsSpellable, IsSpellableAgent, SpellsIn}
-use Rattle.fleet_code.specs.Offsets.{PartOffsets, Viewed, program_in, StandsAt, IsViewOf, opcodes, head_len, await_len, awaits_before, ends_of, part_of, parts_of, part_at, begin_of, end_of}
+use Rattle.fleet_code.specs.Offsets.{PartOffsets, Viewed, program_in, StandsAt, IsViewOf, opcodes, head_len, await_len, after_opcodes, ends_of, part_of, parts_of, part_at, begin_of, end_of}
 use Rattle.std.specs.Result.{result_unwrap_or}
 use Rattle.fleet_code.specs.declared.fault.LoadFault.{LoadFault}
 use Rattle.fleet_code.specs.Reading.{step_at, program_at}
@@ -225,14 +227,19 @@ offset_is version p i n offset part e g le =
     let read : offset ≡ 0 + (n + awaits_in (take n (actions_of p i))) = g ∙ ap (λ (part : PartOffsets). slice_index_or part.offsets n 0) e ∙ found in
     omega (arith, read)
 
-pub end_is : (version : Version) (p : Program) (i n begin awaits : ℕ) (part : PartOffsets) → part ≡ part_at version p i → begin ≡ part.begin → awaits ≡ awaits_before p i n → n ≤ moves p i
-    → begin + n + await_len version * awaits ≡ end_of version p i n
-end_is version p i n begin awaits part e f g le =
+-- so many steps and awaits of an agent end there, if its part begins where it does
+pub after_is : (version : Version) (p : Program) (i n awaits begin : ℕ) (part : PartOffsets) → part ≡ part_at version p i → begin ≡ part.begin → begin + n + await_len version * awaits ≡ after_opcodes version p i n awaits
+after_is version p i n awaits begin part e f =
     let begins : begin ≡ begin_of version p i + head_len version = f ∙ ap (λ (part : PartOffsets). part.begin) e in
+    omega (arith, begins)
+
+-- and where all awaits of the first actions are passed, these end
+pub after_end : (version : Version) (p : Program) (i n awaits : ℕ) → awaits ≡ awaits_before p i n → n ≤ moves p i → after_opcodes version p i n awaits ≡ end_of version p i n
+after_end version p i n awaits g le =
     let times : await_len version * awaits ≡ await_len version * awaits_in (take n (actions_of p i)) = ap (λ (k : ℕ). await_len version * k) g in
     let long = actions_len version (take n (actions_of p i)) in
     let taken = length-take-le n (actions_of p i) le in
-    omega (arith, begins, times, long, taken)
+    omega (arith, times, long, taken)
 
 -- as many offsets as actions, and one
 pub as_many_offsets : (version : Version) (p : Program) (i : ℕ) (part : PartOffsets) → part ≡ part_at version p i → length part.offsets ≡ moves p i + 1
@@ -296,3 +303,89 @@ own_awaits p i (suc n) some =
     let next : n + 1 ≡ suc n = omega arith in
     let more : awaits_before p i (suc n) ≡ awaits_before p i n + length (awaits_of p i (suc n)) = rw next at (awaits_more p i n) in
     rw one more
+
+-- ---- instructions
+
+-- await k of an action stands so many awaits after the end of the action before
+pub after_more : (version : Version) (p : Program) (i n before k : ℕ) → before ≡ awaits_before p i n → n ≤ moves p i → after_opcodes version p i n (before + k) ≡ end_of version p i n + await_len version * k
+after_more version p i n before k e le =
+    let end = after_end version p i n before e le in
+    let times : await_len version * (before + k) ≡ await_len version * before + await_len version * k = mul-add (await_len version) before k in
+    omega (arith, end, times)
+
+pub instruction_within : (version : Version) (p : Program) (i n before k : ℕ) → n < moves p i → before ≡ awaits_before p i n → k ≤ length (awaits_of p i (n + 1)) → after_opcodes version p i n (before + k) ≤ end_of version p i (n + 1)
+instruction_within version p i n before k left e le =
+    let more = own_awaits p i (n + 1) (omega arith) in
+    let one : n + 1 - 1 ≡ n = omega arith in
+    let before_one = ap (awaits_before p i) one in
+    let last = after_end version p i (n + 1) (awaits_before p i (n + 1)) refl (omega (arith, left)) in
+    let fewer : before + k ≤ awaits_before p i (n + 1) = omega (arith, more, e, le, before_one) in
+    let times : await_len version * (before + k) ≤ await_len version * awaits_before p i (n + 1) = mul-le-mul_left (await_len version) fewer in
+    omega (arith, last, times)
+
+-- what is read of an await
+pub record AwaitRead (version : Version) (bytes : List ℕ) (p : Program) (i n k at : ℕ) : Type 0 where
+  pub one : Await
+  pub is : slice_get (awaits_of p i n) k ≡ Some one
+  pub agent : one.agent < 65536
+  pub count : one.count ≤ most_count version
+  pub there : StandsAt bytes at (await version one)
+  pub opcode : slice_index_or bytes at 0 ≡ 16
+  pub within : at + await_len version ≤ length bytes
+
+-- what is read of a step
+pub record StepRead (version : Version) (bytes : List ℕ) (p : Program) (i n k at : ℕ) : Type 0 where
+  pub one : Step
+  pub last : k ≡ length (awaits_of p i n)
+  pub is : step_of p i n ≡ Some one
+  pub opcode : step_at version (slice_index_or bytes at 0) ≡ Some one
+  pub within : at + 1 ≤ length bytes
+
+module _ {version : Version} {bytes : List ℕ} {p : Program} {parts : List PartOffsets} (v : IsViewOf version bytes p parts) where
+  await_instruction : (i n before k : ℕ) → i < length p → n < moves p i → before ≡ awaits_before p i n → k < length (awaits_of p i (n + 1)) → AwaitRead version bytes p i (n + 1) k (after_opcodes version p i n (before + k))
+  await_instruction i n before k lt left e within =
+      let read = await_read v i (n + 1) k lt (omega arith) (omega (arith, left)) within in
+      let one : n + 1 - 1 ≡ n = omega arith in
+      let at : after_opcodes version p i n (before + k) ≡ end_of version p i n + await_len version * k = after_more version p i n before k e (omega (arith, left)) in
+      let stands : StandsAt bytes (end_of version p i n + await_len version * k) (await version read.0) = subst (λ (m : ℕ). StandsAt bytes (end_of version p i m + await_len version * k) (await version read.0)) one read.4 in
+      let there : StandsAt bytes (after_opcodes version p i n (before + k)) (await version read.0) = subst (λ (m : ℕ). StandsAt bytes m (await version read.0)) (sym at) stands in
+      let long = await_long version read.0 in
+      record {
+        one = read.0;
+        is = read.1;
+        agent = read.2;
+        count = read.3;
+        there = there;
+        opcode = byte_is bytes (after_opcodes version p i n (before + k)) 16 0 (front_stands bytes (after_opcodes version p i n (before + k)) (16 ∷ []) (two_bytes read.0.agent ++ count_of version read.0.count) there);
+        within = (let all = stands_within bytes (after_opcodes version p i n (before + k)) (await version read.0) there (omega (arith, long)) in omega (arith, all, long));
+      }
+
+  step_instruction : (i n before k : ℕ) → i < length p → n < moves p i → before ≡ awaits_before p i n → k ≡ length (awaits_of p i (n + 1)) → StepRead version bytes p i (n + 1) k (after_opcodes version p i n (before + k))
+  step_instruction i n before k lt left e last =
+      let read = action_read v i (n + 1) lt (omega arith) (omega (arith, left)) in
+      let more = own_awaits p i (n + 1) (omega arith) in
+      let one : n + 1 - 1 ≡ n = omega arith in
+      let all : before + k ≡ awaits_before p i (n + 1) = (let before_one = ap (awaits_before p i) one in omega (arith, more, e, last, before_one)) in
+      let end = after_end version p i (n + 1) (before + k) all (omega (arith, left)) in
+      let at : after_opcodes version p i n (before + k) ≡ end_of version p i (n + 1) - 1 = omega (arith, end) in
+      let stands : StandsAt bytes (after_opcodes version p i n (before + k)) (opcode read.0.step ∷ []) = subst (λ (m : ℕ). StandsAt bytes m (opcode read.0.step ∷ [])) (sym at) read.2 in
+      record {
+        one = read.0.step;
+        last = last;
+        is = ap (λ (o : Option Action). option_map (λ a. a.step) o) read.1;
+        opcode = opcode_read v i (n + 1) (after_opcodes version p i n (before + k)) read.0 lt read.1 at read.2;
+        within = stands_within bytes (after_opcodes version p i n (before + k)) (opcode read.0.step ∷ []) stands (omega arith);
+      }
+
+  pub instruction_read : (i n before k : ℕ) → i < length p → n < moves p i → before ≡ awaits_before p i n → k ≤ length (awaits_of p i (n + 1))
+      → AwaitRead version bytes p i (n + 1) k (after_opcodes version p i n (before + k)) ⊎ StepRead version bytes p i (n + 1) k (after_opcodes version p i n (before + k))
+  instruction_read i n before k lt left e le =
+      elim (cases_order k (length (awaits_of p i (n + 1)))) [
+        | inl last ↦ inr (step_instruction i n before k lt left e last)
+        | inr (inl within) ↦ inl (await_instruction i n before k lt left e within)
+        | inr (inr over) ↦ absurd (omega (arith, over, le))
+      ]
+
+-- no step has the byte of an await
+pub step_no_await : (version : Version) (byte : ℕ) (s : Step) → step_at version byte ≡ Some s → byte ≡ 16 → ⊥
+step_no_await version byte s e f = none-some _ (sym (ap (step_at version) f) ∙ e)

@@ -1,5 +1,5 @@
 -- Where the parts of a program stand in its bytes.
-use Rattle.std.specs.Prelude.{◌≡◌, ◌≢◌, ℕ, ◌+◌, ◌-◌, ◌*◌, ◌^◌, ◌<◌, List, [], ◌∷◌, ◌++◌, length, map, take, drop, slice_index_or, sum_by, All, ◌≤◌, Result, Ok, Err}
+use Rattle.std.specs.Prelude.{◌≡◌, ◌≢◌, ℕ, ◌+◌, ◌-◌, ◌*◌, ◌^◌, ◌<◌, List, [], ◌∷◌, ◌++◌, length, map, take, drop, slice_index_or, All, ◌≤◌, Result, Ok, Err}
 use Rattle.std.specs.List.{flat_map, range_with_len}
 use Rattle.std.specs.Result.{result_unwrap_or}
 use Rattle.fleet_model.specs.declared.program.Action.{Action}
@@ -102,9 +102,9 @@ begin_of v p i = HEAD_LEN + length (flat_map (agent v) (take i p))
 abbrev pub end_of : Version → Program → ℕ → ℕ → ℕ
 end_of v p i n = begin_of v p i + head_len v + length (flat_map (action v) (take n (actions_of p i)))
 
--- how many awaits the first n actions of agent i have together
-abbrev pub awaits_before : Program → ℕ → ℕ → ℕ
-awaits_before p i n = sum_by (λ s. length s.awaits) (take n (actions_of p i))
+-- where n opcodes of steps and so many awaits of agent i end, counted from its first action
+abbrev pub after_opcodes : Version → Program → (i n awaits : ℕ) → ℕ
+after_opcodes v p i n awaits = begin_of v p i + head_len v + n + await_len v * awaits
 
 -- the part of agent i
 abbrev pub part_at : Version → Program → ℕ → PartOffsets

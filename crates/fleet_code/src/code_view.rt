@@ -5,16 +5,16 @@ ghost use Rattle.fleet_model.specs.declared.geometry.Cell.{Cell};
 ghost use Rattle.fleet_model.specs.declared.program.Await.{Await};
 ghost use Rattle.fleet_model.specs.declared.program.AgentProgram.{AgentProgram};
 ghost use Rattle.fleet_model.specs.Answer.{IsDueUnless};
-ghost use Rattle.fleet_model.specs.Program.{IsCell, IsWellFormed, moves};
+ghost use Rattle.fleet_model.specs.Program.{IsCell, IsWellFormed, moves, awaits_before};
 ghost use Rattle.fleet_code.specs.Spelling.{Spells, SpellsNothing, two_bytes, count, count_len, most_count, cell, await};
 ghost use Rattle.fleet_code.specs.LoadFaults.{IsFirstLoadFault};
-ghost use Rattle.fleet_code.specs.Offsets.{Viewed, StandsAt, await_len, awaits_before, begin_of, end_of, part_at};
+ghost use Rattle.fleet_code.specs.Offsets.{Viewed, StandsAt, await_len, after_opcodes, begin_of, end_of, part_at};
 
 use crate::fault::LoadFault;
 use crate::fields::version_of;
-use crate::format::{CELL_LEN, NUMBER_LEN, Version, step_of};
+use crate::format::{AWAIT, CELL_LEN, NUMBER_LEN, Version, step_of};
 use crate::offsets::{Part, parts_in};
-use fleet_model::{Await, Cell, ProgramView, Step};
+use fleet_model::{Await, Cell, Instruction, ProgramView, Step};
 use std::alloc::Global;
 use std::marker::Model;
 
@@ -136,7 +136,7 @@ impl<'a> CodeView<'a> {
     }
 
     /// How many awaits the first `n` actions of agent `i` have together.
-    fn awaits_before(&self, i: u16, n: u32) -> u32
+    fn awaits_up_to(&self, i: u16, n: u32) -> u32
         requires agent { i < length self.now.program }
         requires actions { n ≤ moves self.now.program i }
         ensures value { result ≡ awaits_before self.now.program i n }
@@ -145,14 +145,23 @@ impl<'a> CodeView<'a> {
         self.part(i).offset(n) - n
     }
 
+    /// The offset in the bytes at which so many steps and awaits of agent `i` end, counted from its first action.
+    fn after(&self, i: u16, steps: u32, awaits: usize) -> usize
+        requires agent { i < length self.now.program }
+        requires within { (n : ℕ) × (after_opcodes self.now.version self.now.program i steps awaits
+            ≤ end_of self.now.version self.now.program i n) }
+        ensures { result ≡ after_opcodes self.now.version self.now.program i steps awaits }
+    {
+        self.part(i).begin() + steps as usize + self.version.await_len() * awaits
+    }
+
     /// The offset in the bytes at which the first `n` actions of agent `i` end.
     fn end(&self, i: u16, n: u32) -> usize
         requires agent { i < length self.now.program }
         requires actions { n ≤ moves self.now.program i }
         ensures { result ≡ end_of self.now.version self.now.program i n }
     {
-        let awaits = self.awaits_before(i, n) as usize;
-        self.part(i).begin() + n as usize + self.version.await_len() * awaits
+        self.after(i, n, self.awaits_up_to(i, n) as usize)
     }
 }
 
@@ -191,11 +200,27 @@ impl<'a> ProgramView for CodeView<'a> {
     }
 
     fn await_count(&self, i: u16, p: u32) -> u16 {
-        (self.awaits_before(i, p) - self.awaits_before(i, p - 1)) as u16
+        (self.awaits_up_to(i, p) - self.awaits_up_to(i, p - 1)) as u16
     }
 
     fn await_at(&self, i: u16, p: u32, k: u16) -> Await {
         let at = self.end(i, p - 1) + self.version.await_len() * usize::from(k);
         await_in(self.version, self.bytes, at)
+    }
+
+    fn awaits_before(&self, i: u16, finished: u32) -> u32 {
+        self.awaits_up_to(i, finished)
+    }
+
+    fn instruction(&self, i: u16, finished: u32, before: u32, k: u16) -> Instruction {
+        let at = self.after(i, finished, before as usize + usize::from(k));
+        let opcode = self.bytes[at];
+        if opcode == AWAIT {
+            return Instruction::Await(await_in(self.version, self.bytes, at));
+        }
+        match step_of(self.version, opcode) {
+            Some(step) => Instruction::Step(step),
+            None => unreachable!(),
+        }
     }
 }

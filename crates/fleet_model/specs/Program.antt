@@ -1,7 +1,7 @@
 -- A program: for each agent a start, a goal and a list of actions. An action is a step and awaits, which are pairs of an agent
 -- and a count. Agents count from 0, the actions of each from 1. What is asked of an agent or an action that is not there is answered
 -- by the origin, nothing or an empty list.
-use Rattle.std.specs.Prelude.{◌≢◌, ℕ, zero, suc, ◌<◌, ◌≤◌, List, [], ◌∷◌, length, map, take, Option, None, slice_get, option_map, sum_by, All, Contains, IsTrue}
+use Rattle.std.specs.Prelude.{◌≡◌, ◌≢◌, ℕ, zero, suc, ◌<◌, ◌≤◌, List, [], ◌∷◌, length, map, take, Option, Some, None, slice_get, option_map, sum_by, All, Contains, IsTrue}
 use Rattle.std.specs.Option.{option_map_or}
 use Rattle.std.specs.List.Sorted.{IsStrictlyIncreasing}
 use Rattle.fleet_model.specs.declared.geometry.Cell.{Cell}
@@ -10,6 +10,8 @@ use Rattle.fleet_model.specs.declared.geometry.Step.{Step}
 use Rattle.fleet_model.specs.declared.program.Await.{Await}
 use Rattle.fleet_model.specs.declared.program.Action.{Action}
 use Rattle.fleet_model.specs.declared.program.AgentProgram.{AgentProgram}
+use Rattle.fleet_model.specs.declared.program.Instruction.{Instruction}
+use Rattle.fleet_model.specs.declared.program.Instruction.TheVariants as v
 use Rattle.fleet_model.specs.declared.limits.TheConstants.{MAX_AGENTS, MAX_COORDINATE, MAX_MOVES, MAX_MOVES_IN_ALL, MAX_MOVES_V1, MAX_AWAIT, MAX_AWAIT_V1}
 use Rattle.fleet_model.specs.Geometry.{place_of, is_move, stepped}
 
@@ -60,6 +62,15 @@ total_awaits p = sum_by (λ a. sum_by (λ s. length s.awaits) a.actions) p
 -- how many awaits the actions of agent i have together
 abbrev pub agent_awaits : Program → ℕ → ℕ
 agent_awaits p i = sum_by (λ s. length s.awaits) (actions_of p i)
+
+-- how many awaits the first n actions of agent i have together
+abbrev pub awaits_before : Program → ℕ → ℕ → ℕ
+awaits_before p i n = sum_by (λ s. length s.awaits) (take n (actions_of p i))
+
+-- instruction k of action n of agent i: one of its awaits, or after them its step
+abbrev pub IsInstruction : Program → (i n k : ℕ) → Instruction → Type 0
+IsInstruction p i n k (v.Await w) = slice_get (awaits_of p i n) k ≡ Some w
+IsInstruction p i n k (v.Step s) = (k ≡ length (awaits_of p i n)) × (step_of p i n ≡ Some s)
 
 -- every action is a move
 abbrev pub AreMoves : List Action → Type 0

@@ -18,7 +18,9 @@ pub use limits::{
     MAX_MOVES_V1, MAX_TRIES, well_formed,
 };
 pub use memory::OutOfMemory;
-pub use program::{Action, ActionId, Actions, AgentProgram, Await, Awaits, Program, Visit};
+pub use program::{
+    Action, ActionId, Actions, AgentProgram, Await, Awaits, Instruction, Program, Visit,
+};
 pub use standing::Standing;
 pub use task::Task;
 pub use view::{ProgramView, agent_awaits, total_awaits, total_moves};

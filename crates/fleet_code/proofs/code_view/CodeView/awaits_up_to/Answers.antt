@@ -1,6 +1,6 @@
 use Rattle.std.proofs.Common.{arith}
 use Rattle.fleet_code.proofs.InPlace.{offset_is, as_many_offsets}
-use Rattle.fleet_code.proofs.code_view.CodeView.awaits_before.Goals as goal
+use Rattle.fleet_code.proofs.code_view.CodeView.awaits_up_to.Goals as goal
 
 pub offset-requires : goal.offset-requires
 offset-requires c =

@@ -67,3 +67,6 @@ pub mod LastVisits
 pub mod Promised
 pub mod LeastAwaits
 pub mod After
+pub mod Remains
+pub mod RemainsFormed
+pub mod RemainsWhole

@@ -18,3 +18,4 @@ pub mod Reduced
 pub mod Needed
 pub mod LastVisits
 pub mod Promises
+pub mod Rest

@@ -24,6 +24,7 @@ mod path;
 mod promises;
 mod reach;
 mod reduced;
+mod rest;
 mod ring;
 mod runs;
 mod schedules;
@@ -50,6 +51,7 @@ pub use reach::Reach;
 pub use reduced::{
     same_chains_run_equally, thinned_programs_run_equally, thinning_is_least, thinning_keeps_chains,
 };
+pub use rest::{rests_are_accepted, rests_are_well_formed, rests_begin_whole, rests_run_on};
 pub use runs::{
     levels_rise, orders_are_given_once, ready_moves_are_apart, reports_make_a_run, runs_are_safe,
     runs_arrive, runs_end, ticks_are_safe, visits_come_in_turn,

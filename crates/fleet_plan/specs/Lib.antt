@@ -6,5 +6,6 @@ pub mod Rings
 pub mod UnderWay
 pub mod Sweep
 pub mod Plan
+pub mod Numbers
 pub mod Checked
 pub mod RefusalWords

@@ -6,6 +6,7 @@ mod checked;
 mod checking;
 mod ends;
 mod fault_laws;
+mod numbers;
 mod plan;
 mod plan_fault;
 mod reading;

@@ -1,0 +1,10 @@
+use Rattle.std.proofs.Common.{◌≡◌, ◌≤◌, ◌*◌, take, sum_by}
+use Rattle.fleet_model.specs.declared.limits.TheConstants.{MAX_HORIZON}
+use Rattle.fleet_plan.specs.Numbers.{cost_of}
+use Rattle.fleet_plan.proofs.plan.Plan.sum_of_costs.Given as goal
+
+abbrev pub invariant-loop-i : goal.invariant-loop-i
+invariant-loop-i l = record {
+  summed : l.costs ≡ sum_by cost_of (take l.i l.self);
+  few : l.costs ≤ MAX_HORIZON * l.i;
+}

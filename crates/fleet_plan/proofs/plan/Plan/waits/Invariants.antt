@@ -1,0 +1,10 @@
+use Rattle.std.proofs.Common.{◌≡◌, ◌≤◌, ◌*◌, take, sum_by}
+use Rattle.fleet_model.specs.declared.limits.TheConstants.{MAX_HORIZON}
+use Rattle.fleet_plan.specs.Numbers.{waits_of}
+use Rattle.fleet_plan.proofs.plan.Plan.waits.Given as goal
+
+abbrev pub invariant-loop-i : goal.invariant-loop-i
+invariant-loop-i l = record {
+  summed : l.waits ≡ sum_by waits_of (take l.i l.self);
+  few : l.waits ≤ MAX_HORIZON * l.i;
+}

@@ -1,6 +1,6 @@
 -- A table that has for each cell of a map the leavings of it so far.
 use Rattle.std.specs.Prelude.{◌≡◌, ◌≢◌, ℕ, ◌<◌, ◌≤◌, ◌==◌, nat_lt, if◌then◌else◌, List, [], ◌∷◌, length, get_or, option_map, option_to_list}
-use Rattle.fleet_table.specs.Table.{value_in}
+use Rattle.fleet_grid.specs.Table.{value_in}
 use Rattle.fleet_adg.specs.declared.row_table.RowTable.{RowTable}
 use Rattle.fleet_model.specs.declared.geometry.Cell.{Cell}
 use Rattle.fleet_model.specs.declared.program.Await.{Await}

@@ -5,3 +5,4 @@ pub mod MapLoops
 pub mod MapLaws
 pub mod FaultLaws
 pub mod HeaderLaws
+pub mod Pages

@@ -3,3 +3,4 @@ pub mod MapText
 pub mod MapReading
 pub mod Stored
 pub mod RefusalWords
+pub mod Table

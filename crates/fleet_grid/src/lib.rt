@@ -9,6 +9,7 @@ mod grid;
 mod laws;
 mod reading;
 mod stored;
+mod table;
 
 pub use fault::MapFault;
 pub use grid::{Grid, MAX_SIDE};
@@ -16,3 +17,4 @@ pub use laws::{
     a_map_text_is_one_ground, a_text_is_a_map_or_has_a_first_fault, cells_have_places_of_their_own,
 };
 pub use reading::read_map;
+pub use table::{Table, extend_to};

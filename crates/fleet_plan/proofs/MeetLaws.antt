@@ -2,8 +2,8 @@
 use Rattle.std.proofs.Common.{◌≡◌, ◌≢◌, ℕ, ◌+◌, ◌<◌, ◌≤◌, List, length, set, slice_index, Option, Some, None, IfSome, IfNone, ◌⊎◌, inl, inr, refl, sym, ap, ◌∙◌, subst, arith}
 use Rattle.std.proofs.lemmas.Bool.{cases_eq, cases_lt}
 use Rattle.std.proofs.lemmas.List.{get_or-set_same, get_or-set_other}
-use Rattle.fleet_table.specs.declared.table.Table.{Table}
-use Rattle.fleet_table.specs.Table.{value_in, IsSet}
+use Rattle.fleet_grid.specs.declared.table.Table.{Table}
+use Rattle.fleet_grid.specs.Table.{value_in, IsSet}
 use Rattle.fleet_plan.specs.FirstFault.{IsPairUpTo}
 use Rattle.fleet_plan.specs.Rings.{NamesAgents, ahead_of}
 use Rattle.fleet_plan.specs.Sweep.{IsAhead, AreAhead, IsEntered, Exchange, HasNone, HasNoMeeting, IsFirstIn, IsFreeIn, IsFirstAhead, IsFreeAhead, IsAgentSettled}

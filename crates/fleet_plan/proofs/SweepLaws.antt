@@ -8,8 +8,8 @@ use Rattle.fleet_model.specs.declared.geometry.Cell.{Cell}
 use Rattle.fleet_model.specs.Geometry.{place_of}
 use Rattle.fleet_model.specs.Conflict.{after_in}
 use Rattle.fleet_model.proofs.Places.{place_of-injective}
-use Rattle.fleet_table.specs.declared.table.Table.{Table}
-use Rattle.fleet_table.specs.Table.{value_in}
+use Rattle.fleet_grid.specs.declared.table.Table.{Table}
+use Rattle.fleet_grid.specs.Table.{value_in}
 use Rattle.fleet_grid.specs.Ground.{Ground, IsGround, is_passable, cell_index, is_ground_at as ground_at}
 use Rattle.fleet_plan.specs.declared.plan_fault.Conflict.{Conflict}
 use Rattle.fleet_plan.specs.declared.plan_fault.Conflict.TheVariants.{Vertex, Swapping, Cycle}

@@ -1,8 +1,8 @@
 -- Agents in places, which are numbers, at one time and at the next.
 use Rattle.std.specs.Prelude.{◌≡◌, ◌≢◌, ℕ, ◌<◌, ◌≤◌, List, length, slice_index, Option, Some, None, ◌⊎◌}
 use Rattle.fleet_grid.specs.Ground.{Ground, cell_index}
-use Rattle.fleet_table.specs.declared.table.Table.{Table}
-use Rattle.fleet_table.specs.Table.{value_in}
+use Rattle.fleet_grid.specs.declared.table.Table.{Table}
+use Rattle.fleet_grid.specs.Table.{value_in}
 use Rattle.fleet_plan.specs.Plan.{Plan, cell_of}
 use Rattle.fleet_plan.specs.declared.plan_fault.Conflict.{Conflict}
 use Rattle.fleet_plan.specs.declared.plan_fault.Conflict.TheVariants.{Vertex, Swapping, Cycle}

@@ -13,7 +13,7 @@ use crate::plan::Plan;
 use crate::plan_fault::Conflict;
 use crate::rings::least_on_ring;
 use fleet_grid::{Grid, cells_have_places_of_their_own};
-use fleet_table::Table;
+use fleet_grid::Table;
 use std::alloc::{AllocError, Global};
 
 /// The places in a table of the map's cells on which the agents stand at `time`.

@@ -8,7 +8,7 @@ use Rattle.std.proofs.lemmas.List.Elements.{filter-append}
 use Rattle.fleet_model.specs.declared.geometry.Cell.{Cell}
 use Rattle.fleet_model.proofs.Cells.{cell_from_parts, cell_cases}
 use Rattle.fleet_plan.specs.Plan.{Plan}
-use Rattle.fleet_table.proofs.Pages.{page-read, page-set, page-other}
+use Rattle.fleet_grid.proofs.Pages.{page-read, page-set, page-other}
 use Rattle.fleet_reserve.specs.declared.occupancy.Occupancy.{Occupancy}
 use Rattle.fleet_reserve.specs.declared.reservation_table.ReservationTable.{ReservationTable}
 use Rattle.fleet_reserve.specs.Numbers.{number_in_rows, IsNumbered, HaveOwnLists}

@@ -4,8 +4,8 @@ use Rattle.std.specs.Prelude.{Vec, set, MatchOption, IfSome, IfNone}
 use Rattle.std.specs.declared.alloc.Global.{Global}
 use Rattle.std.proofs.lemmas.Bool.{cases_eq, cases_lt, eqb-true, eq-eqb, false_from_ne_true}
 use Rattle.std.proofs.lemmas.List.{map-append, get_or_past, get_or_push, get_or_append_left, length-map, length_push}
-use Rattle.fleet_table.specs.Table.{page_in}
-use Rattle.fleet_table.proofs.Pages.{page-read, page-set, page-other}
+use Rattle.fleet_grid.specs.Table.{page_in}
+use Rattle.fleet_grid.proofs.Pages.{page-read, page-set, page-other}
 use Rattle.fleet_reserve.proofs.OccupancyRows.{list-past}
 use Rattle.fleet_reserve.specs.Rows.{bucket_of, lists_of, bucket_in, IsPut}
 

@@ -7,7 +7,7 @@ ghost use Rattle.fleet_model.specs.declared.limits.TheConstants.{MAX_COORDINATE}
 ghost use Rattle.fleet_reserve.specs.Numbers.{number_in_rows, IsNumbered};
 
 use fleet_model::{Cell, OutOfMemory};
-use fleet_table::extend_to;
+use fleet_grid::extend_to;
 use std::alloc::Global;
 
 /// The number of the cell; 0 if it has none.

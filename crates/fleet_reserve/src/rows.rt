@@ -4,7 +4,7 @@ ghost use Rattle.std.specs.Prelude.{◌≡◌, ◌≢◌, ◌<◌, ◌++◌, ◌
 ghost use Rattle.fleet_reserve.specs.Rows.{lists_of, bucket_in, IsPut};
 
 use fleet_model::OutOfMemory;
-use fleet_table::extend_to;
+use fleet_grid::extend_to;
 use std::alloc::Global;
 
 /// Puts the number last in the row. A refusal changes no row.

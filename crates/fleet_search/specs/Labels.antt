@@ -1,6 +1,6 @@
 -- Labels of safe intervals.
 use Rattle.std.specs.Prelude.{◌≡◌, ◌≢◌, ℕ, zero, suc, ◌≤◌, ◌==◌, ◌⊎◌, cond, List, [], ◌∷◌, length, map, get_or, Option, None, Some}
-use Rattle.fleet_table.specs.Table.{value_in}
+use Rattle.fleet_grid.specs.Table.{value_in}
 use Rattle.fleet_search.specs.declared.labels.IntervalLabel.{IntervalLabel}
 use Rattle.fleet_search.specs.declared.labels.Labels.{Labels}
 

@@ -1,11 +1,11 @@
 //! Labels of safe intervals: when a search has come there at the earliest.
 
 ghost use Rattle.std.specs.Prelude.{◌≡◌, ◌≢◌, ◌<◌, ◌↔◌, ℕ, IsTrue, suc, OnOk, None, get_or};
-ghost use Rattle.fleet_table.specs.Table.{value_in};
+ghost use Rattle.fleet_grid.specs.Table.{value_in};
 ghost use Rattle.fleet_search.specs.Labels.{no_interval_label, interval_label, earliest_in, AreLabels, HaveOwnRows, IsLabelPut, IsLabelSet, IsSeen};
 
 use fleet_model::OutOfMemory;
-use fleet_table::Table;
+use fleet_grid::Table;
 use std::alloc::Global;
 
 /// The earliest time, in steps, at which the search of this number comes to a safe interval.

@@ -1,5 +1,5 @@
 use Rattle.std.proofs.Common.{◌≡◌, ℕ, length, slice_index}
-use Rattle.fleet_table.specs.Table.{value_in}
+use Rattle.fleet_grid.specs.Table.{value_in}
 use Rattle.fleet_plan.proofs.RowLaws.{but_begins, but_ends}
 use Rattle.fleet_plan.proofs.sweep.enter.Goals as goal
 

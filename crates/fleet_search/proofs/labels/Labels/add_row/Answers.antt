@@ -1,5 +1,5 @@
 use Rattle.std.proofs.Common.{◌≡◌, ◌+◌, length, get_or, refl, ap, ◌∙◌, subst, arith}
-use Rattle.fleet_table.specs.Table.{IsSet}
+use Rattle.fleet_grid.specs.Table.{IsSet}
 use Rattle.fleet_search.specs.Labels.{no_interval_label}
 use Rattle.fleet_search.proofs.LabelLaws.{row_added}
 use Rattle.fleet_search.proofs.labels.Labels.add_row.Goals as goal

@@ -1,7 +1,7 @@
 use Rattle.std.proofs.Common.{◌∙◌, ◌/◌, refl}
 use Rattle.std.specs.Vec.{with_item}
-use Rattle.fleet_table.proofs.Pages.{page-exchanged, page-kept_if_failed, value-read}
-use Rattle.fleet_table.proofs.table.Table.replace.Goals as goal
+use Rattle.fleet_grid.proofs.Pages.{page-exchanged, page-kept_if_failed, value-read}
+use Rattle.fleet_grid.proofs.table.Table.replace.Goals as goal
 
 pub returns-clause-before : goal.returns-clause-before
 returns-clause-before g c = c.in_ok-before.ensures.before ∙ value-read c.args.self.now c.extend_to.new.pages.items c.args.number c.index_mut.result.now c.in_ok-extend_to.ensures.same c.in_ok-extend_to.ensures.room c.index_mut.ensures.value

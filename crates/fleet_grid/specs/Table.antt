@@ -1,8 +1,8 @@
 -- Values by number, in pages.
 use Rattle.std.specs.Prelude.{◌≡◌, ◌≢◌, ℕ, ◌/◌, ◌%◌, List, [], map, get_or, Vec}
 use Rattle.std.specs.declared.alloc.Global.{Global}
-use Rattle.fleet_table.specs.declared.table.Table.{Table}
-use Rattle.fleet_table.specs.declared.table.TheConstants.{PAGE}
+use Rattle.fleet_grid.specs.declared.table.Table.{Table}
+use Rattle.fleet_grid.specs.declared.table.TheConstants.{PAGE}
 
 -- the values of a page; past the last page there are none
 abbrev pub page_in : {V : Type 0} → List (Vec V Global) → ℕ → List V

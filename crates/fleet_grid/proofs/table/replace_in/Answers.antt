@@ -1,7 +1,7 @@
 use Rattle.std.proofs.Common.{◌≡◌, ◌∙◌, ◌<◌, length, get_or, refl, arith}
 use Rattle.std.proofs.lemmas.List.{get_or-set_same, get_or-set_other}
-use Rattle.fleet_table.proofs.table.replace_in.Goals as goal
-use Rattle.fleet_table.proofs.table.replace_in.Goals.{then-len-place+in_ok-fill, else-len-place}
+use Rattle.fleet_grid.proofs.table.replace_in.Goals as goal
+use Rattle.fleet_grid.proofs.table.replace_in.Goals.{then-len-place+in_ok-fill, else-len-place}
 
 pub returns-clause-here : goal.returns-clause-here
 returns-clause-here g c =

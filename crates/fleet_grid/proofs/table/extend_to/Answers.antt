@@ -1,6 +1,6 @@
 use Rattle.std.proofs.Common.{◌∙◌, ◌∷◌, [], length, ap, arith, length-append}
-use Rattle.fleet_table.proofs.Pages.{page-after}
-use Rattle.fleet_table.proofs.table.extend_to.Goals as goal
+use Rattle.fleet_grid.proofs.Pages.{page-after}
+use Rattle.fleet_grid.proofs.table.extend_to.Goals as goal
 
 pub loop-more-preserved : goal.loop-more-preserved
 loop-more-preserved g c =

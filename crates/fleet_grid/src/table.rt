@@ -1,8 +1,8 @@
 //! Tables by number.
 
 ghost use Rattle.std.specs.Prelude.{◌≡◌, ◌≢◌, ◌≤◌, ◌<◌, ℕ, OnOk, OnErr, IfOk, length, get_or};
-ghost use Rattle.fleet_table.specs.declared.table.TheConstants.{PAGE};
-ghost use Rattle.fleet_table.specs.Table.{IsSet, AreSame, page_in, value_in};
+ghost use Rattle.fleet_grid.specs.declared.table.TheConstants.{PAGE};
+ghost use Rattle.fleet_grid.specs.Table.{IsSet, AreSame, page_in, value_in};
 
 use std::alloc::{AllocError, Global};
 

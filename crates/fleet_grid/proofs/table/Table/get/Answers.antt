@@ -1,7 +1,7 @@
 use Rattle.std.proofs.Common.{sym}
 use Rattle.std.proofs.lemmas.Bool.{ltb-true, ltb-false}
-use Rattle.fleet_table.proofs.Pages.{value-found, value-past, page-past}
-use Rattle.fleet_table.proofs.table.Table.get.Goals as goal
+use Rattle.fleet_grid.proofs.Pages.{value-found, value-past, page-past}
+use Rattle.fleet_grid.proofs.table.Table.get.Goals as goal
 
 pub returns-in-Some-get : goal.returns-in-Some-get
 returns-in-Some-get g c =

@@ -4,8 +4,8 @@ use Rattle.std.specs.Prelude.{Vec, set, Result, Ok, Err, OnErr}
 use Rattle.std.specs.declared.alloc.Global.{Global}
 use Rattle.std.proofs.lemmas.Bool.{cases_eq}
 use Rattle.std.proofs.lemmas.List.{get_or_default, get_or_past, get_or-set_same, get_or-set_other, get_or-map, map-set, length-map}
-use Rattle.fleet_table.specs.declared.table.Table.{Table}
-use Rattle.fleet_table.specs.Table.{page_in, value_in, IsSet, AreSame}
+use Rattle.fleet_grid.specs.declared.table.Table.{Table}
+use Rattle.fleet_grid.specs.Table.{page_in, value_in, IsSet, AreSame}
 
 pub page-read : {V : Type 0} (pages : List (Vec V Global)) (k : ℕ) (page : Vec V Global) → k < length pages → page ≡ get_or pages k page → page_in pages k ≡ page.items
 page-read pages k page h e = get_or-map (λ v. v.items) pages k page [] h ∙ ap (λ v. v.items) (sym e)

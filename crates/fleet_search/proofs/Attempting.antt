@@ -6,7 +6,7 @@ use Rattle.std.proofs.lemmas.List.{length-map}
 use Rattle.fleet_model.specs.declared.task.Task.{Task}
 use Rattle.fleet_grid.specs.Ground.{is_passable}
 use Rattle.fleet_plan.specs.Plan.{Plan}
-use Rattle.fleet_reserve.specs.Way.{Fits}
+use Rattle.fleet_search.specs.Way.{Fits}
 use Rattle.fleet_search.specs.InTurn.{IsPrioritisedPlan}
 use Rattle.fleet_search.specs.Orders.{no_task, tasks_by, IsStuckInOrder}
 use Rattle.fleet_search.specs.Attempts.{IsOrderOf, IsPathAdded, ArePathsKept, IsMadeAfterFirst, IsOldPath}

@@ -5,9 +5,9 @@ use Rattle.std.specs.declared.alloc.Global.{Global}
 use Rattle.std.proofs.lemmas.Bool.{cases_eq, eqb-true, eq-eqb, false_from_ne_true}
 use Rattle.std.proofs.lemmas.List.Elements.{Contains-append_left, Contains-push, Contains-push_cases}
 use Rattle.fleet_search.specs.declared.frontier.Node.{Node}
-use Rattle.fleet_reserve.specs.Rows.{bucket_of, lists_of, IsPut}
+use Rattle.fleet_search.specs.Rows.{bucket_of, lists_of, IsPut}
 use Rattle.fleet_search.specs.Frontier.{Exploration, AreNodePlaces, IsNodeTaken}
-use Rattle.fleet_reserve.proofs.RowLaws.{row-past}
+use Rattle.fleet_search.proofs.RowLaws.{row-past}
 
 pub no-places : (nodes : List Node) (rows : List (Vec ℕ Global)) → rows ≡ [] → AreNodePlaces nodes (lists_of rows)
 no-places nodes rows e k i h = absurd (let l = (subst (λ z. Contains z i) (row-past rows k (let none = ap length e in omega arith)) h).1 in omega arith)

@@ -9,12 +9,12 @@ use Rattle.fleet_model.specs.declared.geometry.Place.{Place}
 use Rattle.fleet_model.specs.Program.{origin}
 use Rattle.fleet_model.specs.declared.task.Task.{Task}
 use Rattle.fleet_plan.specs.Plan.{Plan, cell_of, last_cell, IsConflictFree}
-use Rattle.fleet_reserve.specs.Way.{FitTogether}
+use Rattle.fleet_search.specs.Way.{FitTogether}
 use Rattle.fleet_search.specs.Earliest.{IsEarliest, IsInfeasible}
 use Rattle.fleet_search.specs.InTurn.{IsPrioritisedPlan, HasNoPathFor}
 use Rattle.fleet_search.specs.declared.fault.PlanStop.{PlanStop}
 use Rattle.fleet_search.specs.declared.fault.PlanStop.TheVariants.{OutOfMemory, NoPath}
-use Rattle.fleet_reserve.proofs.OneByOne.{one_by_one}
+use Rattle.fleet_search.proofs.OneByOne.{one_by_one}
 
 nobody : Task
 nobody = record { start = origin; goal = origin }

@@ -7,11 +7,11 @@ use Rattle.fleet_model.specs.declared.geometry.Cell.{Cell}
 use Rattle.fleet_model.specs.declared.geometry.Place.{Place}
 use Rattle.fleet_model.specs.declared.task.Task.{Task}
 use Rattle.fleet_plan.specs.Plan.{Plan, cell_of}
-use Rattle.fleet_reserve.specs.Way.{arrival, Fits, Follow}
+use Rattle.fleet_search.specs.Way.{arrival, Fits, Follow}
 use Rattle.fleet_search.specs.Earliest.{IsFeasiblePath, IsEarliest, IsInfeasible}
 use Rattle.fleet_search.specs.InTurn.{IsPrioritisedPlan, HasNoPathFor}
 use Rattle.fleet_search.specs.Orders.{no_task, tasks_by, to_front}
-use Rattle.fleet_reserve.proofs.Steps.{each_step, from_each_step}
+use Rattle.fleet_search.proofs.Steps.{each_step, from_each_step}
 use Rattle.fleet_search.proofs.InTurnLaws.{task_of, in_turn-more, stuck_at}
 
 -- ---- one path fewer

@@ -4,7 +4,7 @@ use Rattle.std.specs.Prelude.{Vec, set, map, get_or, length, [], ◌∷◌, ◌+
 use Rattle.std.specs.declared.alloc.Global.{Global}
 use Rattle.std.proofs.lemmas.Bool.{cases_eq, eq-eqb, eqb-true, false_from_ne_true}
 use Rattle.fleet_grid.specs.Table.{value_in, IsSet}
-use Rattle.fleet_reserve.proofs.OccupancyRows.{list_at-read, list_at-set, list_at-other, list_at-before, list_at-last}
+use Rattle.fleet_search.proofs.OccupancyRows.{list_at-read, list_at-set, list_at-other, list_at-before, list_at-last}
 use Rattle.fleet_search.specs.declared.labels.IntervalLabel.{IntervalLabel}
 use Rattle.fleet_search.specs.declared.labels.Labels.{Labels}
 use Rattle.fleet_search.specs.Labels.{no_interval_label, later_in, interval_label, earliest_in, AreLabels, HaveOwnRows, IsLabelPut, IsLabelSet}

@@ -1,3 +1,14 @@
+pub mod Steps
+pub mod OneByOne
+pub mod Occupants
+pub mod Chase
+pub mod FitCode
+pub mod ReservationTables
+pub mod OccupancyRows
+pub mod Entering
+pub mod Reserving
+pub mod RowLaws
+pub mod IntervalLaws
 pub mod Explored
 pub mod Turning
 pub mod SearchSteps

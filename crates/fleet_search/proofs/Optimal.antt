@@ -11,14 +11,14 @@ use Rattle.fleet_search.specs.declared.frontier.Query.{Query}
 use Rattle.fleet_search.specs.Labels.{Times}
 use Rattle.fleet_search.specs.declared.frontier.Node.{Node}
 use Rattle.fleet_grid.specs.Ground.{is_passable}
-use Rattle.fleet_reserve.specs.Way.{arrival, StepFits}
+use Rattle.fleet_search.specs.Way.{arrival, StepFits}
 use Rattle.fleet_search.specs.Earliest.{IsFeasiblePath, IsEarliest, IsInfeasible}
-use Rattle.fleet_reserve.specs.Rows.{bucket_of}
-use Rattle.fleet_reserve.specs.Reserved.{IsUnoccupied, IsFreeFrom, IsFreeOn}
+use Rattle.fleet_search.specs.Rows.{bucket_of}
+use Rattle.fleet_search.specs.Reserved.{IsUnoccupied, IsFreeFrom, IsFreeOn}
 use Rattle.fleet_search.specs.Search.{heuristic_of, IsMeasured, IsStep, IsBucket, IsGoalState, state_in, IsKnown, IsCovered, IsExpanded, IsSuperseded, IsStateSettled, IsFrontier, IsPosed, IsTrail}
-use Rattle.fleet_reserve.proofs.Steps.{each_step, from_each_step}
-use Rattle.fleet_reserve.proofs.FitCode.{fits-free}
-use Rattle.fleet_reserve.proofs.Occupants.{cell_at-late}
+use Rattle.fleet_search.proofs.Steps.{each_step, from_each_step}
+use Rattle.fleet_search.proofs.FitCode.{fits-free}
+use Rattle.fleet_search.proofs.Occupants.{cell_at-late}
 use Rattle.fleet_search.proofs.SearchSteps.{near-beside, bucket-below}
 
 -- a way of what is asked

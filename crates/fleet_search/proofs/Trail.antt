@@ -11,9 +11,9 @@ use Rattle.fleet_search.specs.Labels.{Times}
 use Rattle.fleet_search.specs.declared.frontier.Node.{Node}
 use Rattle.fleet_search.specs.declared.state.State.{State}
 use Rattle.fleet_grid.specs.Ground.{is_passable}
-use Rattle.fleet_reserve.specs.Reserved.{IsUnoccupied, IsFreeOn}
+use Rattle.fleet_search.specs.Reserved.{IsUnoccupied, IsFreeOn}
 use Rattle.fleet_search.specs.Search.{IsStep, state_in, parent_in, IsReachedFrom, IsFrontier, IsTrail}
-use Rattle.fleet_reserve.proofs.Chase.{step_ok-same}
+use Rattle.fleet_search.proofs.Chase.{step_ok-same}
 
 -- one step before the time of a visit the agent is on this one, from which the step leads there
 pub record StepsToVisit (q : Query) (nodes : List Node) (time : ℕ) (visit : State) (next : ℕ) : Type 0 where

@@ -5,10 +5,10 @@ use Rattle.fleet_model.specs.declared.geometry.Cell.{Cell}
 use Rattle.fleet_search.specs.declared.frontier.Query.{Query}
 use Rattle.fleet_search.specs.Frontier.{Exploration}
 use Rattle.fleet_search.specs.declared.frontier.Expansion.{Expansion}
-use Rattle.fleet_reserve.specs.Occupancies.{occupancy_at}
-use Rattle.fleet_reserve.specs.Intervals.{AreBegun}
+use Rattle.fleet_search.specs.Occupancies.{occupancy_at}
+use Rattle.fleet_search.specs.Intervals.{AreBegun}
 use Rattle.fleet_search.specs.Search.{occupancies_on, IsMeasured, IsExpansion, ExpandsOn, IsFoundIn, IsFoundFrom}
-use Rattle.fleet_reserve.proofs.IntervalLaws.{occupancies-apart, apart-from, some_gap}
+use Rattle.fleet_search.proofs.IntervalLaws.{occupancies-apart, apart-from, some_gap}
 use Rattle.fleet_search.proofs.SearchSteps.{ExpandsOn-then, found_in-stays}
 
 pub record IsTurning (q : Query) (f : ℕ) (l : Expansion) (c : Cell) (interval : ℕ) (start now : Exploration) : Type 0 where

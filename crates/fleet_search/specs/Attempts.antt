@@ -3,7 +3,7 @@ use Rattle.std.specs.Prelude.{◌≡◌, ℕ, ◌<◌, ◌≤◌, Bool, true, fa
 use Rattle.fleet_model.specs.declared.geometry.Cell.{Cell}
 use Rattle.fleet_model.specs.declared.task.Task.{Task}
 use Rattle.fleet_plan.specs.Plan.{Plan}
-use Rattle.fleet_reserve.specs.Way.{Fits}
+use Rattle.fleet_search.specs.Way.{Fits}
 use Rattle.fleet_search.specs.Earliest.{IsEarliest, IsInfeasible}
 use Rattle.fleet_grid.specs.Ground.{is_passable}
 use Rattle.fleet_search.specs.InTurn.{IsPrioritisedPlan}

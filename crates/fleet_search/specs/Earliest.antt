@@ -4,7 +4,7 @@ use Rattle.fleet_model.specs.declared.geometry.Cell.{Cell}
 use Rattle.fleet_model.specs.declared.geometry.Place.{Place}
 use Rattle.fleet_model.specs.Geometry.{place_of}
 use Rattle.fleet_plan.specs.Plan.{Plan, cell_at, AreNeighbours}
-use Rattle.fleet_reserve.specs.Way.{Fits, arrival}
+use Rattle.fleet_search.specs.Way.{Fits, arrival}
 
 -- a path from start to goal over passable cells, by equal or neighbouring cells, that fits the reserved ones and stays
 -- on the goal for good

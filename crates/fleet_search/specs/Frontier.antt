@@ -3,7 +3,7 @@ use Rattle.std.specs.Prelude.{◌≡◌, ◌≢◌, ℕ, ◌<◌, List, [], ◌�
 use Rattle.fleet_search.specs.declared.frontier.Node.{Node}
 use Rattle.fleet_search.specs.declared.labels.Labels.{Labels}
 use Rattle.fleet_search.specs.Labels.{earliest_in, IsLabelSet}
-use Rattle.fleet_reserve.specs.Rows.{bucket_of, IsPut}
+use Rattle.fleet_search.specs.Rows.{bucket_of, IsPut}
 
 -- the nodes in the order in which they were made, the earliest times of the search by cell and safe interval, and the
 -- places of the nodes that are open, bucket by bucket

@@ -1,3 +1,9 @@
+pub mod Way
+pub mod Reserved
+pub mod Numbers
+pub mod Occupancies
+pub mod Intervals
+pub mod Rows
 pub mod Earliest
 pub mod Distance
 pub mod Links

@@ -6,7 +6,7 @@ use Rattle.fleet_model.specs.Geometry.{place_of}
 use Rattle.fleet_model.specs.declared.limits.TheConstants.{MAX_HORIZON}
 use Rattle.fleet_plan.specs.Plan.{Plan, AreNeighbours, cell_at}
 use Rattle.fleet_search.specs.declared.state.State.{State}
-use Rattle.fleet_reserve.specs.declared.occupancy.Occupancy.{Occupancy}
+use Rattle.fleet_search.specs.declared.occupancy.Occupancy.{Occupancy}
 use Rattle.fleet_search.specs.declared.frontier.Query.{Query}
 use Rattle.fleet_search.specs.declared.frontier.Node.{Node}
 use Rattle.fleet_search.specs.declared.frontier.Expansion.{Expansion}
@@ -14,12 +14,12 @@ use Rattle.fleet_search.specs.declared.frontier.BucketEnd.{BucketEnd}
 use Rattle.fleet_search.specs.declared.frontier.Neighbour.{Neighbour}
 use Rattle.fleet_grid.specs.Ground.{is_passable, cell_index}
 use Rattle.fleet_search.specs.Distance.{heuristic, AreDistances}
-use Rattle.fleet_reserve.specs.Way.{StepFits}
-use Rattle.fleet_reserve.specs.Reserved.{IsUnoccupied, IsFreeFrom, IsFreeOn}
-use Rattle.fleet_reserve.specs.Occupancies.{HaveOccupancies, occupancies_of}
-use Rattle.fleet_reserve.specs.Intervals.{IsInInterval}
+use Rattle.fleet_search.specs.Way.{StepFits}
+use Rattle.fleet_search.specs.Reserved.{IsUnoccupied, IsFreeFrom, IsFreeOn}
+use Rattle.fleet_search.specs.Occupancies.{HaveOccupancies, occupancies_of}
+use Rattle.fleet_search.specs.Intervals.{IsInInterval}
 use Rattle.fleet_search.specs.Labels.{Times, earliest_in, IsSeen}
-use Rattle.fleet_reserve.specs.Rows.{bucket_of}
+use Rattle.fleet_search.specs.Rows.{bucket_of}
 use Rattle.fleet_search.specs.Frontier.{Exploration}
 use Rattle.fleet_search.specs.Links.{place_in}
 

@@ -8,10 +8,10 @@ ghost use Rattle.fleet_search.specs.Earliest.{IsEarliest, IsInfeasible};
 use crate::distances::{Distances, Effort};
 use crate::fault::SearchFault;
 use crate::frontier::{BucketEnd, Frontier, Query};
+use crate::reservations::Reservations;
 use fleet_grid::Grid;
 use fleet_model::Cell;
 use fleet_plan::Path;
-use fleet_reserve::Reservations;
 use std::alloc::Global;
 
 /// The earliest path of the query: the buckets are expanded from the least on; after a bucket in which a node was added

@@ -8,25 +8,26 @@ ghost use Rattle.fleet_model.specs.Geometry.{place_of, moved};
 ghost use Rattle.fleet_grid.specs.Ground.{is_passable};
 ghost use Rattle.fleet_model.specs.declared.geometry.Cell.{Cell};
 ghost use Rattle.fleet_model.specs.declared.limits.TheConstants.{MAX_HORIZON};
-ghost use Rattle.fleet_reserve.specs.Reserved.{IsUnoccupied};
-ghost use Rattle.fleet_reserve.specs.Way.{StepFits};
-ghost use Rattle.fleet_reserve.specs.Intervals.{IsInInterval};
+ghost use Rattle.fleet_search.specs.Reserved.{IsUnoccupied};
+ghost use Rattle.fleet_search.specs.Way.{StepFits};
+ghost use Rattle.fleet_search.specs.Intervals.{IsInInterval};
 ghost use Rattle.fleet_search.specs.Labels.{earliest_in, IsSeen};
-ghost use Rattle.fleet_reserve.specs.Rows.{bucket_of};
+ghost use Rattle.fleet_search.specs.Rows.{bucket_of};
 ghost use Rattle.fleet_search.specs.Frontier.{IsAdded, IsNodeTaken, IsBucketDone};
 ghost use Rattle.fleet_search.specs.Search.{heuristic_of, no_node, occupancies_on, IsMeasured, IsGoalState, IsBucket, IsLeft, IsExpansion, ExpandsOn, IsFrontierOf, Grows, IsPosed, IsSearched, IsTrailOf, IsFreeUntil, IsFoundAt, IsFoundIn, IsFoundFrom, IsNeighbour, HasEnded, IsSuperseded};
 
 use crate::arrivals::Arrivals;
 use crate::distances::Distances;
+use crate::intervals::{SafeInterval, begins_after, earliest_within, interval_after};
 use crate::link::Link;
+use crate::occupancy::{Occupancy, count_begun};
+use crate::reservation_table::ReservationTable;
+use crate::reservations::Reservations;
+use crate::rows::{clear_rows, put_in_row, take_from_row};
 use crate::state::State;
 use fleet_grid::Grid;
 use fleet_model::{Cell, Dir, OutOfMemory};
 use fleet_plan::Path;
-use fleet_reserve::{
-    Occupancy, ReservationTable, Reservations, SafeInterval, begins_after, clear_rows, count_begun,
-    earliest_within, interval_after, put_in_row, take_from_row,
-};
 use std::alloc::Global;
 use std::marker::Model;
 
@@ -156,7 +157,7 @@ pub struct Frontier {
 }
 
 impl Model for Frontier {
-    ghost use Rattle.fleet_reserve.specs.Rows.{lists_of};
+    ghost use Rattle.fleet_search.specs.Rows.{lists_of};
     ghost use Rattle.fleet_search.specs.Frontier.{Exploration, AreNodePlaces};
 
     ghost Value = { Exploration };

@@ -4,8 +4,8 @@ ghost use Rattle.std.specs.Prelude.{◌≡◌, ◌≢◌, ◌<◌, ◌↔◌, �
 ghost use Rattle.fleet_grid.specs.Table.{value_in};
 ghost use Rattle.fleet_search.specs.Labels.{no_interval_label, interval_label, earliest_in, AreLabels, HaveOwnRows, IsLabelPut, IsLabelSet, IsSeen};
 
-use fleet_model::OutOfMemory;
 use fleet_grid::Table;
+use fleet_model::OutOfMemory;
 use std::alloc::Global;
 
 /// The earliest time, in steps, at which the search of this number comes to a safe interval.

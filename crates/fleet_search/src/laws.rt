@@ -1,11 +1,24 @@
-//! Laws of plans made of earliest paths. These functions do nothing: their contracts are the laws.
+//! Laws of paths past reserved ones, and of plans made of earliest paths. These functions do nothing: their contracts are the laws.
 
-ghost use Rattle.std.specs.Prelude.{ℕ, Bool, List, length};
+ghost use Rattle.std.specs.Prelude.{◌↔◌, ℕ, Bool, List, length};
+ghost use Rattle.fleet_model.specs.declared.geometry.Cell.{Cell};
 ghost use Rattle.fleet_model.specs.declared.geometry.Place.{Place};
 ghost use Rattle.fleet_model.specs.declared.task.Task.{Task};
 ghost use Rattle.fleet_plan.specs.Plan.{Plan, IsConflictFree};
 ghost use Rattle.fleet_search.specs.InTurn.{IsPrioritisedPlan, HasNoPathFor};
 ghost use Rattle.fleet_search.specs.Orders.{IsMadeInTries, IsStuckInTries};
+ghost use Rattle.fleet_search.specs.Way.{Fits, FitTogether, AreConflictFree, EachStepFits};
+
+/// A path fits the reserved ones exactly if nobody stands on its first cell at time 0, and each of its steps fits.
+pub fn fits_by_steps()
+    ensures { (reserved : Plan) (path : List Cell)
+        → Fits reserved path ↔ EachStepFits reserved path }
+{}
+
+/// Paths that each fit those before them are free of conflict.
+pub fn paths_that_fit_are_conflict_free()
+    ensures { (plan : Plan) → FitTogether plan → AreConflictFree plan }
+{}
 
 /// A plan that is made agent by agent is free of conflict.
 pub fn prioritised_plans_are_conflict_free()

@@ -8,16 +8,25 @@ mod distances;
 mod earliest_path;
 mod fault;
 mod frontier;
+mod intervals;
 mod labels;
 mod laws;
 mod link;
+mod numbers;
+mod occupancy;
 mod orders;
 mod planner;
+mod reservation_table;
+mod reservations;
+mod rows;
 mod state;
 
 pub use earliest_path::earliest;
 pub use fault::{PlanStop, SearchFault};
-pub use fleet_reserve::{Reservations, fits_by_steps, paths_that_fit_are_conflict_free};
-pub use laws::{one_try_takes_the_first_order, prioritised_plans_are_conflict_free};
+pub use laws::{
+    fits_by_steps, one_try_takes_the_first_order, paths_that_fit_are_conflict_free,
+    prioritised_plans_are_conflict_free,
+};
 pub use orders::plan_in_orders;
 pub use planner::plan;
+pub use reservations::Reservations;

@@ -3,7 +3,7 @@
 ghost use Rattle.std.specs.Prelude.{◌≡◌, ◌+◌, ◌<◌, ◌≤◌, ◌↔◌, ◌⊎◌, ◌++◌, ◌∷◌, ℕ, [], true, length, get_or, max, IfOk, IfErr, OnOk, IsTrue};
 ghost use Rattle.fleet_plan.specs.Plan.{IsConflictFree};
 ghost use Rattle.fleet_grid.specs.Ground.{is_passable};
-ghost use Rattle.fleet_reserve.specs.Way.{Fits};
+ghost use Rattle.fleet_search.specs.Way.{Fits};
 ghost use Rattle.fleet_search.specs.Orders.{agent_numbers, to_front, paths_by, IsMadeInTries, IsStuckInTries};
 ghost use Rattle.fleet_search.specs.Attempts.{AreTables, ArePathsKept, IsPathAdded, IsMadeAfterFirst, IsOrderOf, AreReservedInOrder, IsAttempt, IsOldPath};
 
@@ -11,10 +11,10 @@ use crate::distances::Distances;
 use crate::earliest_path::earliest_over;
 use crate::fault::{PlanStop, SearchFault};
 use crate::frontier::Frontier;
+use crate::reservations::Reservations;
 use fleet_grid::Grid;
 use fleet_model::{Cell, OutOfMemory};
 use fleet_plan::{Checked, Path, Plan, PlanFault, check};
-use fleet_reserve::Reservations;
 use fleet_scen::Instance;
 use std::alloc::Global;
 

@@ -1,8 +1,8 @@
 use Rattle.std.proofs.Common.{◌≡◌, ◌<◌, ◌++◌, ◌∷◌, [], length, take, get_or, append_assoc, sym, ap, ◌∙◌, subst, arith, inl, inr}
 use Rattle.std.proofs.lemmas.Bool.{cases_eq}
 use Rattle.std.proofs.lemmas.List.{take_more, get_or_default}
-use Rattle.fleet_reserve.specs.Way.{Fits}
-use Rattle.fleet_reserve.proofs.Occupants.{no_from_false}
+use Rattle.fleet_search.specs.Way.{Fits}
+use Rattle.fleet_search.proofs.Occupants.{no_from_false}
 use Rattle.fleet_search.proofs.orders.keep_paths.Goals as goal
 
 pub loop-kept-preserved : goal.loop-kept-preserved

@@ -9,7 +9,7 @@ use Rattle.fleet_search.specs.Orders.{tasks_by, paths_by, agent_numbers, to_fron
 use Rattle.fleet_search.specs.InTurn.{IsPrioritisedPlan}
 use Rattle.fleet_search.proofs.InTurnLaws.{same_agent}
 use Rattle.fleet_search.proofs.KeptPaths.{none_made, made_after_raise}
-use Rattle.fleet_reserve.proofs.Occupants.{no_from_false}
+use Rattle.fleet_search.proofs.Occupants.{no_from_false}
 use Rattle.fleet_search.proofs.OrderLaws.{order_after-none, order_after-more, order-length, stuck_in_tries, stuck_within, order_with_raised}
 use Rattle.fleet_search.proofs.orders.plan_from.Goals as goal
 

@@ -3,7 +3,7 @@ use Rattle.std.specs.Prelude.{slice_get}
 use Rattle.std.proofs.lemmas.Result.{on_ok_weaker}
 use Rattle.fleet_model.specs.declared.task.Task.{Task}
 use Rattle.fleet_grid.specs.Ground.{is_passable}
-use Rattle.fleet_reserve.specs.Way.{arrival}
+use Rattle.fleet_search.specs.Way.{arrival}
 use Rattle.fleet_search.specs.Earliest.{IsInfeasible}
 use Rattle.fleet_search.proofs.KeptPaths.{earliest-again, earliest-later}
 use Rattle.fleet_search.proofs.orders.renew_path.Goals as goal

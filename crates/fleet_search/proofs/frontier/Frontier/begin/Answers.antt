@@ -2,10 +2,10 @@ use Rattle.std.proofs.Common.{[], ◌∷◌, ◌++◌, length, ap, ◌∙◌, su
 use Rattle.fleet_search.proofs.Spread.{on_map}
 use Rattle.fleet_search.specs.declared.frontier.Node.{Node}
 use Rattle.fleet_search.specs.Labels.{earliest_in, IsLabelSet}
-use Rattle.fleet_reserve.specs.Rows.{IsPut}
-use Rattle.fleet_reserve.specs.Intervals.{AreBegun}
+use Rattle.fleet_search.specs.Rows.{IsPut}
+use Rattle.fleet_search.specs.Intervals.{AreBegun}
 use Rattle.fleet_search.specs.Search.{occupancies_on}
-use Rattle.fleet_reserve.proofs.IntervalLaws.{begun-point, free-interval}
+use Rattle.fleet_search.proofs.IntervalLaws.{begun-point, free-interval}
 use Rattle.fleet_search.proofs.SearchSteps.{opening}
 use Rattle.fleet_search.proofs.frontier.Frontier.begin.Goals as goal
 

@@ -1,5 +1,5 @@
 use Rattle.std.proofs.Common.{◌≡◌, None, length}
-use Rattle.fleet_reserve.specs.Rows.{bucket_of}
+use Rattle.fleet_search.specs.Rows.{bucket_of}
 use Rattle.fleet_search.specs.Search.{IsFrontierOf}
 use Rattle.fleet_search.proofs.frontier.Frontier.expand_bucket.Given as goal
 

@@ -5,7 +5,7 @@ use Rattle.fleet_search.specs.declared.state.State.{State}
 use Rattle.fleet_search.specs.Labels.{earliest_in, IsSeen}
 use Rattle.fleet_search.proofs.SearchSteps.{superseded-seen, seen-superseded}
 use Rattle.fleet_search.proofs.Spread.{on_map}
-use Rattle.fleet_reserve.proofs.Chase.{none_iff}
+use Rattle.fleet_search.proofs.Chase.{none_iff}
 use Rattle.fleet_search.proofs.frontier.Frontier.is_superseded.Goals as goal
 
 pub cell_index-number-requires-clause-column : goal.cell_index-number-requires-clause-column

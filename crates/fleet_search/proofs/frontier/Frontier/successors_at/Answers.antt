@@ -1,10 +1,10 @@
 use Rattle.std.proofs.Common.{◌+◌, ◌-◌, ◌<◌, length, sym, ap, subst, arith}
-use Rattle.fleet_reserve.specs.Occupancies.{AreInOrder, occupancy_at}
-use Rattle.fleet_reserve.specs.Intervals.{AreBegun}
+use Rattle.fleet_search.specs.Occupancies.{AreInOrder, occupancy_at}
+use Rattle.fleet_search.specs.Intervals.{AreBegun}
 use Rattle.fleet_search.specs.Search.{occupancies_on}
-use Rattle.fleet_reserve.proofs.IntervalLaws.{begun-point}
-use Rattle.fleet_reserve.proofs.Occupants.{yes_from_true}
-use Rattle.fleet_reserve.proofs.ReservationTables.{AreInOrder-occupancies}
+use Rattle.fleet_search.proofs.IntervalLaws.{begun-point}
+use Rattle.fleet_search.proofs.Occupants.{yes_from_true}
+use Rattle.fleet_search.proofs.ReservationTables.{AreInOrder-occupancies}
 use Rattle.fleet_search.proofs.Turning.{turning-begin, turning-more, turned, all_later}
 use Rattle.fleet_search.proofs.frontier.Frontier.successors_at.Goals as goal
 

@@ -1,5 +1,5 @@
 use Rattle.std.proofs.Common.{◌+◌, refl, arith}
-use Rattle.fleet_reserve.proofs.Chase.{step_ok-alone}
+use Rattle.fleet_search.proofs.Chase.{step_ok-alone}
 use Rattle.fleet_search.proofs.frontier.Query.fits.Goals as goal
 
 pub returns-then-begin-left : goal.returns-then-begin-left

@@ -1,7 +1,7 @@
 use Rattle.std.proofs.Common.{subst, arith}
-use Rattle.fleet_reserve.specs.Intervals.{AreBegun, IsEndAfter}
+use Rattle.fleet_search.specs.Intervals.{AreBegun, IsEndAfter}
 use Rattle.fleet_search.specs.Search.{occupancies_on}
-use Rattle.fleet_reserve.proofs.IntervalLaws.{free-interval, free-until}
+use Rattle.fleet_search.proofs.IntervalLaws.{free-interval, free-until}
 use Rattle.fleet_search.proofs.frontier.Query.interval.Goals as goal
 
 pub returns-clause-inside : goal.returns-clause-inside

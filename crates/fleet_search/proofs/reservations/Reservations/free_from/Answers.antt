@@ -1,0 +1,21 @@
+use Rattle.std.proofs.Common.{sym, subst, arith}
+use Rattle.fleet_search.specs.Occupancies.{AreOccupanciesOn, no_occupancy}
+use Rattle.fleet_search.proofs.ReservationTables.{never_visited, never_free, free_from-last}
+use Rattle.fleet_search.proofs.reservations.Reservations.free_from.Goals as goal
+
+pub returns-in-None-clause-some : goal.returns-in-None-clause-some
+returns-in-None-clause-some c =
+    let h = subst (AreOccupanciesOn c.args.self.now c.args.cell) (sym c.occupancies.ensures) (c.table.ensures c.args.cell) in
+    never_visited c.args.self.now c.args.cell c.occupancies.result.now h (omega (arith, c.in-None.ensures.item.3))
+
+pub returns-then-occupancy-clause-none : goal.returns-then-occupancy-clause-none
+returns-then-occupancy-clause-none c =
+    let h = subst (AreOccupanciesOn c.args.self.now c.args.cell) (sym c.occupancies.ensures) (c.table.ensures c.args.cell) in
+    let last = c.in-Some.ensures.item.3 in
+    never_free c.args.self.now c.args.cell c.occupancies.result.now h c.in-Some.occupancy.now last.0 (last.1 no_occupancy) c.if-occupancy.true
+
+pub returns-else-occupancy-clause-some : goal.returns-else-occupancy-clause-some
+returns-else-occupancy-clause-some c =
+    let h = subst (AreOccupanciesOn c.args.self.now c.args.cell) (sym c.occupancies.ensures) (c.table.ensures c.args.cell) in
+    let last = c.in-Some.ensures.item.3 in
+    free_from-last c.args.self.now c.args.cell c.occupancies.result.now h c.in-Some.occupancy.now last.0 (last.1 no_occupancy) c.if-occupancy.false

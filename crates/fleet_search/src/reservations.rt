@@ -1,0 +1,197 @@
+//! Reserved paths, and whether steps and paths fit beside them.
+
+ghost use Rattle.std.specs.Prelude.{◌≡◌, ◌<◌, ◌≤◌, ◌↔◌, ◌++◌, ◌∷◌, [], ℕ, IsTrue, IfSome, IfNone, IfOk, OnOk, OnErr};
+ghost use Rattle.fleet_model.specs.declared.geometry.Cell.{Cell};
+ghost use Rattle.fleet_search.specs.Way.{Fits, StepFits};
+ghost use Rattle.fleet_search.specs.Occupancies.{HaveOccupancies};
+ghost use Rattle.fleet_search.specs.Reserved.{IsOn, IsUnoccupied, IsFreeFrom, LeadsBack};
+
+use crate::occupancy::{FOREVER, count_begun};
+use crate::reservation_table::ReservationTable;
+use fleet_model::{Cell, OutOfMemory};
+use fleet_plan::Path;
+use std::alloc::Global;
+use std::marker::Model;
+
+/// Paths that are free of conflict with one another (Silver 2005), with a table in which the agent that stands on a
+/// cell at a time is found by a binary search.
+#[derive(Drop)]
+pub struct Reservations {
+    alloc: Global,
+    paths: Vec<Path>,
+    table: ReservationTable,
+}
+
+impl Model for Reservations {
+    ghost use Rattle.std.specs.Prelude.{List};
+    ghost use Rattle.fleet_model.specs.declared.geometry.Cell.{Cell};
+    ghost use Rattle.fleet_search.specs.Occupancies.{AreReserved};
+
+    ghost Value = { List (List Cell) };
+
+    ghost view = { λ r. r.paths.items };
+
+    ghost invariant = { λ r. AreReserved r.paths.items r.table };
+}
+
+/// A copy of the path.
+fn copy_of(alloc: Global, path: &Path) -> Result<Path, OutOfMemory>
+    ensures { IfOk result (λ p. p ≡ path.now) }
+{
+    let cells = Vec::from_slice(alloc, path.cells())?;
+    Ok(Path::new(cells))
+}
+
+impl Reservations {
+    /// No path is reserved. Takes no memory.
+    pub fn new(alloc: Global) -> Reservations
+        ensures { result ≡ [] }
+    {
+        Reservations {
+            alloc,
+            paths: Vec::new(alloc),
+            table: ReservationTable::new(alloc),
+        }
+    }
+
+    /// For each cell the occupancies on it.
+    pub fn table(&self) -> &ReservationTable
+        ensures { HaveOccupancies self.now result.now }
+    {
+        &self.table
+    }
+
+    /// An agent that stands on the cell at the time, if one does.
+    pub fn occupant(&self, time: u32, cell: Cell) -> Option<usize>
+        ensures some { IfSome result (IsOn self.now time cell) }
+        ensures none { IfNone result (IsUnoccupied self.now time cell) }
+    {
+        let occupancies = self.table().occupancies(cell);
+        let count = count_begun(occupancies, time);
+        if count == 0 {
+            return None;
+        }
+        let occupancy = occupancies[count - 1];
+        let is_there = time <= occupancy.until;
+        if is_there {
+            Some(occupancy.agent)
+        } else {
+            None
+        }
+    }
+
+    /// Whether the agents that make room in the step, one for the other, end at the one that leaves `from` for `to`.
+    fn leads_back(&self, time: u32, from: Cell, to: Cell) -> bool
+        requires { time < 4294967295 }
+        ensures { IsTrue result ↔ LeadsBack self.now time from to }
+    {
+        let mut cell = to;
+        for _turn in 0..self.paths.len() {
+            if cell == from {
+                return true;
+            }
+            match self.occupant(time, cell) {
+                None => return false,
+                Some(agent) => {
+                    let entered = self.paths[agent].cell(time + 1);
+                    if entered == cell {
+                        return false;
+                    }
+                    cell = entered;
+                }
+            }
+        }
+        cell == from
+    }
+
+    /// Whether an agent may go from the one cell to the other in the step that begins at the time.
+    pub fn step_fits(&self, time: u32, from: Cell, to: Cell) -> bool
+        requires { time < 4294967295 }
+        ensures { IsTrue result ↔ StepFits self.now time from to }
+    {
+        if self.occupant(time + 1, to).is_some() {
+            return false;
+        }
+        if from == to {
+            return true;
+        }
+        if self.occupant(time + 1, from).is_none() {
+            return true;
+        }
+        !self.leads_back(time, from, to)
+    }
+
+    /// Whether the path takes part in no conflict with the reserved ones. Takes no memory.
+    pub fn fits(&self, path: &Path) -> bool
+        ensures { IsTrue result ↔ Fits self.now path.now }
+    {
+        // From its end on the agent stays, so no step after that is looked at.
+        let end = path.steps();
+        if !self.is_free_from(path.cell(end), end) {
+            return false;
+        }
+        if self.occupant(0, path.cell(0)).is_some() {
+            return false;
+        }
+        for time in 0..end {
+            if !self.step_fits(time, path.cell(time), path.cell(time + 1)) {
+                return false;
+            }
+        }
+        true
+    }
+
+    /// The least time from which on nobody stands on the cell, if there is one.
+    pub fn free_from(&self, cell: Cell) -> Option<u32>
+        ensures some { IfSome result (λ s. (t : ℕ) → IsFreeFrom self.now cell t ↔ (s ≤ t)) }
+        ensures none { IfNone result ((t : ℕ) → IsFreeFrom self.now cell t → ⊥) }
+    {
+        match self.table().occupancies(cell).last() {
+            None => Some(0),
+            Some(occupancy) => {
+                if occupancy.until == FOREVER {
+                    None
+                } else {
+                    Some(occupancy.until + 1)
+                }
+            }
+        }
+    }
+
+    /// Whether nobody stands on the cell from the time on.
+    fn is_free_from(&self, cell: Cell, time: u32) -> bool
+        ensures { IsTrue result ↔ IsFreeFrom self.now cell time }
+    {
+        match self.free_from(cell) {
+            None => false,
+            Some(from) => from <= time,
+        }
+    }
+
+    /// Reserves a copy of one more path, that of the agent whose number is the number of paths before.
+    ///
+    /// Errors: `OutOfMemory`, and then nothing has changed.
+    pub fn reserve(&mut self, path: &Path) -> Result<(), OutOfMemory>
+        requires { Fits self.old path.now }
+        ensures ok { OnOk result (self.new ≡ self.old ++ path.now ∷ []) }
+        ensures err { OnErr result (self.new ≡ self.old) }
+    {
+        let copy = copy_of(self.alloc, path)?;
+        self.paths.reserve(1)?;
+        self.table.insert(self.paths.as_slice(), path)?;
+        self.paths.push(copy)?;
+        Ok(())
+    }
+
+    /// The reserved paths.
+    pub fn into_paths(self) -> Vec<Path>
+        ensures { result.items ≡ self }
+    {
+        let Reservations {
+            alloc: _,
+            paths,
+            table: _,
+        } = self;
+        paths
+    }
+}

@@ -1,23 +1,29 @@
 -- The flags of awaits, one action and one block more.
-use Rattle.std.proofs.Common.{◌≡◌, ◌≢◌, ℕ, ◌+◌, ◌-◌, ◌<◌, ◌≤◌, Bool, false, List, get_or, set, replicate, refl, sym, ap, subst, ◌∙◌, arith, inl, inr, ◌⊎◌}
+use Rattle.std.proofs.Common.{◌≡◌, ◌≢◌, ℕ, ◌+◌, ◌-◌, ◌<◌, ◌≤◌, Bool, false, List, length, get_or, refl, sym, ap, subst, ◌∙◌, arith, inl, inr, ◌⊎◌}
 use Rattle.std.specs.Prelude.{slice_get, slice_index, Some, None, Option, nat_le}
 use Rattle.std.proofs.lemmas.Bool.{cases_lt, cases_eq, false≢true}
-use Rattle.std.proofs.lemmas.Option.{slice_get_within, same_Some}
+use Rattle.std.proofs.lemmas.Option.{slice_get_within, get_or_from_slice_get, same_Some}
 use Rattle.fleet_model.specs.declared.program.ActionId.{ActionId}
 use Rattle.fleet_model.specs.declared.program.Await.{Await}
 use Rattle.fleet_model.specs.Program.{Program, awaits_of, AreInRange, IsWellFormed}
 use Rattle.fleet_model.specs.Chain.{IsAction}
-use Rattle.fleet_needs.specs.Block.{HasColumn, AreOthers}
+use Rattle.fleet_needs.specs.Block.{HasColumn}
 use Rattle.fleet_needs.specs.Columns.{AreColumns}
-use Rattle.fleet_needs.specs.Order.{IsCounted, IsNextAction}
+use Rattle.fleet_needs.specs.JoinPass.{AreOthers, IsMade}
+use Rattle.fleet_needs.specs.Joins.{HasAllRows}
 use Rattle.fleet_needs.specs.declared.columns.Columns.{Columns}
-use Rattle.fleet_needs.proofs.Counting.{counted_back, counted_apart, none_counted}
+use Rattle.fleet_needs.specs.declared.joins.Join.{Join}
+use Rattle.fleet_needs.specs.declared.schedule.Schedule.{Schedule}
 use Rattle.fleet_needs.proofs.Passing.{same_or_not}
 use Rattle.fleet_needs.specs.Implied.{IsImpliedFlag, first_await}
 use Rattle.fleet_needs.specs.Settled.{AreSettled}
 use Rattle.fleet_needs.proofs.AwaitOrder.{flag_apart}
 use Rattle.fleet_needs.specs.Flags.{AreFlagged, AreFlaggedFor, AreLeft, AreAllFlagged}
 use Rattle.fleet_needs.proofs.RowFlags.{flagged}
+
+-- an action awaits others than its own agent
+other_agent : (p : Program) → AreInRange p → (a : ActionId) (k : ℕ) (w : Await) → slice_get (awaits_of p a.agent a.number) k ≡ Some w → w.agent ≢ a.agent
+other_agent p range a k w at = (range a.agent a.number w (k, slice_get_within (awaits_of p a.agent a.number) k w at, get_or_from_slice_get (awaits_of p a.agent a.number) k w w at)).other
 
 -- ---- the flags of one action, one after another
 
@@ -29,7 +35,7 @@ flagged_of p range formed columns a row is others k c w at has =
     let there : slice_get (awaits_of p a.agent (a.number - 1 + 1)) k ≡ Some w = subst (λ (n : ℕ). slice_get (awaits_of p a.agent n) k ≡ Some w) (sym e) at in
     let same : ◌≡◌ {A = ActionId} (record { agent = a.agent; number = a.number - 1 + 1 }) a = (λ t. record { agent = a.agent; number = e t }) in
     subst (λ (x : ActionId). IsImpliedFlag p x w (nat_le w.count (slice_index row c))) same
-    (flagged p range a.agent (a.number - 1) k w there (formed.awaits a.agent (a.number - 1 + 1)) (slice_index row c) (others w.agent c has))
+    (flagged p range a.agent (a.number - 1) k w there (formed.awaits a.agent (a.number - 1 + 1)) (slice_index row c) (others w.agent c has (other_agent p range a k w at)))
 
 module _ (p : Program) (columns : Columns) (a : ActionId) (first k : ℕ) (one : Await) (at : slice_get (awaits_of p a.agent a.number) k ≡ Some one) (old new : List Bool)
     (others : (n : ℕ) → n ≢ first + k → get_or new n false ≡ get_or old n false) where
@@ -78,14 +84,35 @@ left_on p columns a old new is h b kb k w at none = elim (same_or_not b a) [
       (h.none k w (subst (λ (x : ActionId). slice_get (awaits_of p x.agent x.number) k ≡ Some w) e at) none)
 ]
 
-pub flagged_counted : (p : Program) (columns : Columns) (counts : List ℕ) (a : ActionId) (old new : List Bool) → IsAction p a → IsNextAction p counts a → AreFlagged p columns a old new
-    → AreFlaggedFor p columns (IsCounted counts) old → AreFlaggedFor p columns (IsCounted (set counts a.agent a.number)) new
-flagged_counted p columns counts a old new is next h before =
-    flagged_on p columns (IsCounted counts) (IsCounted (set counts a.agent a.number)) a old new is
-    (λ b k. counted_back counts a next.agent next.number b) (λ b k. counted_apart counts a next.agent next.number b) h before
+pub flagged_made : (p : Program) (s : Schedule) (columns : Columns) (n : ℕ) (join : Join) (old new : List Bool) → IsAction p join.action → slice_get s.joins.items n ≡ Some join
+    → AreFlagged p columns join.action old new → AreFlaggedFor p columns (IsMade s n) old → AreFlaggedFor p columns (IsMade s (n + 1)) new
+flagged_made p s columns n join old new is at h before =
+    flagged_on p columns (λ b. IsMade s n b × (b ≢ join.action)) (IsMade s (n + 1)) join.action old new is
+    (λ b k made. elim (same_or_not b join.action) [
+      | inl e ↦ inr e
+      | inr ne ↦ inl ((made.0, among b made ne, made.2), ne)
+    ])
+    (λ b k done. done.1) h (λ b k done. before b k done.0)
+  where
+    among : (b : ActionId) (made : IsMade s (n + 1) b) → b ≢ join.action → made.0 ≤ n
+    among b (r, le, row) ne = elim (cases_lt n r) [
+      | inr l ↦ l
+      | inl l ↦
+          let e : r - 1 ≡ n = (let up : r ≤ n + 1 = le in omega arith) in
+          let same : row.join ≡ join = same_Some row.join join (sym row.at ∙ ap (slice_get s.joins.items) e ∙ at) in
+          absurd (ne (sym row.of ∙ ap (λ (x : Join). x.action) same))
+    ]
 
-pub flagged_none : (p : Program) (columns : Columns) (n : ℕ) (flags : List Bool) → AreFlaggedFor p columns (IsCounted (replicate n 0)) flags
-flagged_none p columns n flags a is done = absurd (none_counted n a is.first done)
+pub flagged_none : (p : Program) (s : Schedule) (columns : Columns) (flags : List Bool) → AreFlaggedFor p columns (IsMade s 0) flags
+flagged_none p s columns flags a is (r, le, row) = absurd (omega (arith, le, row.some))
+
+-- all awaits are of actions that have rows
+pub flagged_all : (p : Program) (s : Schedule) (columns : Columns) (flags : List Bool) → HasAllRows p s.joins.items (IsAction p) → AreFlaggedFor p columns (IsMade s (length s.joins.items)) flags
+    → (a : ActionId) → IsAction p a → (k c : ℕ) (w : Await) → slice_get (awaits_of p a.agent a.number) k ≡ Some w → HasColumn columns w.agent c → IsImpliedFlag p a w (get_or flags (first_await p a + k) false)
+flagged_all p s columns flags rows h a is k c w at has =
+    let made = rows a is is (let l = slice_get_within (awaits_of p a.agent a.number) k w at in omega (arith, l)) in
+    let low : made.0 - 1 < length s.joins.items = slice_get_within s.joins.items (made.0 - 1) made.1.join made.1.at in
+    h a is (made.0, (let some : 1 ≤ made.0 = made.1.some in omega (arith, low, some)), made.1) k c w at has
 
 -- ---- the flags of one block more
 

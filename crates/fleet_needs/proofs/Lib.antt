@@ -19,5 +19,9 @@ pub mod KeptReads
 pub mod AwaitOrder
 mod Settling
 mod Ticking
-mod RowFlags
-mod Flagged
+pub mod RowFlags
+pub mod Flagged
+pub mod JoinLaws
+mod Slotting
+pub mod RowsMade
+mod JoinTick

@@ -1,10 +1,10 @@
 -- The rows of actions in the columns of one block, and what they answer.
-use Rattle.std.specs.Prelude.{◌≡◌, ℕ, ◌+◌, ◌-◌, ◌<◌, ◌≤◌, Bool, true, false, List, length, get_or, slice_index, slice_get, Some, None, ◌↔◌}
+use Rattle.std.specs.Prelude.{◌≡◌, ℕ, ◌+◌, ◌<◌, ◌≤◌, Bool, true, false, List, length, get_or, slice_index, slice_get, Some, None, ◌↔◌}
 use Rattle.fleet_model.specs.declared.program.ActionId.{ActionId}
-use Rattle.fleet_model.specs.Program.{Program, awaits_of, total_moves}
+use Rattle.fleet_model.specs.Program.{Program, total_moves}
 use Rattle.fleet_model.specs.Chain.{IsAction, DirectlyNeeds, Reaches}
 use Rattle.fleet_needs.specs.Columns.{agents_in, column_of}
-use Rattle.fleet_needs.specs.Rows.{IsColumn, IsJoined, OfOthers}
+use Rattle.fleet_needs.specs.Rows.{IsColumn}
 use Rattle.fleet_needs.specs.Places.{ArePlaces, action_place}
 use Rattle.fleet_needs.specs.Order.{IsOrder}
 use Rattle.fleet_needs.specs.Takers.{AreNoted}
@@ -41,11 +41,6 @@ pub record AreBlock (p : Program) (b : Block) : Type 0 where
 -- the counts of the row, in the columns, are those of the action
 abbrev pub IsRowOf : Program → Columns → ActionId → List ℕ → Type 0
 IsRowOf p columns a row = (j k : ℕ) → HasColumn columns j k → IsColumn p a j (slice_index row k)
-
--- the row of all that the action directly needs, but for the count of each awaited action's own agent
-abbrev pub AreOthers : Program → Columns → ActionId → List ℕ → Type 0
-AreOthers p columns a row =
-    (j k : ℕ) → HasColumn columns j k → IsJoined (OfOthers j (length (awaits_of p a.agent (a.number - 1 + 1)))) p a.agent (a.number - 1) j (slice_index row k)
 
 -- rows of the block's columns, for actions by their places, with the last takers
 pub record AreKept (p : Program) (b : Block) (m : KeptRows) : Type 0 where

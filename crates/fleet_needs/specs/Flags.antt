@@ -6,8 +6,8 @@ use Rattle.fleet_model.specs.Program.{Program, awaits_of, total_awaits}
 use Rattle.fleet_model.specs.Chain.{IsAction}
 use Rattle.fleet_needs.specs.Block.{HasColumn}
 use Rattle.fleet_needs.specs.Columns.{column_of}
-use Rattle.fleet_needs.specs.Order.{IsCounted}
-use Rattle.fleet_needs.specs.declared.block.Block.{Block}
+use Rattle.fleet_needs.specs.JoinPass.{IsMade}
+use Rattle.fleet_needs.specs.declared.schedule.Schedule.{Schedule}
 use Rattle.fleet_needs.specs.declared.columns.Columns.{Columns}
 use Rattle.fleet_needs.specs.Implied.{AreAwaitPlaces, IsImpliedFlag, first_await}
 use Rattle.fleet_needs.specs.declared.implied.ImpliedAwaits.{ImpliedAwaits}
@@ -43,8 +43,8 @@ pub record AreImplied (p : Program) (m : ImpliedAwaits) : Type 0 where
   pub all : length m.flags.items ≡ total_awaits p
   pub flagged : AreAllFlagged p m.flags.items
 
--- the state of the flags once so many actions of each agent are finished
-pub record AreAwaitFlags (p : Program) (b : Block) (counts : List ℕ) (m : ImpliedAwaits) : Type 0 where
+-- the state of the flags once so many rows of the schedule were used
+pub record AreAwaitFlags (p : Program) (s : Schedule) (columns : Columns) (n : ℕ) (m : ImpliedAwaits) : Type 0 where
   pub places : AreAwaitPlaces p m.places
   pub all : length m.flags.items ≡ total_awaits p
-  pub flagged : AreFlaggedFor p b.columns (IsCounted counts) m.flags.items
+  pub flagged : AreFlaggedFor p columns (IsMade s n) m.flags.items

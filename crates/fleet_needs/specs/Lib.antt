@@ -14,3 +14,7 @@ pub mod Gather
 pub mod Implied
 pub mod Settled
 pub mod Flags
+pub mod Joins
+pub mod Slots
+pub mod Schedule
+pub mod JoinPass

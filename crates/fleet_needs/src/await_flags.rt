@@ -4,7 +4,8 @@
 ghost use Rattle.std.specs.Prelude.{◌≡◌, ◌≢◌, ◌<◌, ℕ, false, nat_le, length, get_or, slice_index, None};
 ghost use Rattle.fleet_model.specs.Program.{AreInRange, total_awaits};
 ghost use Rattle.fleet_model.specs.Chain.{IsAction};
-ghost use Rattle.fleet_needs.specs.Block.{HasColumn, AreOthers};
+ghost use Rattle.fleet_needs.specs.Block.{HasColumn};
+ghost use Rattle.fleet_needs.specs.JoinPass.{AreOthers};
 ghost use Rattle.fleet_needs.specs.Columns.{agents_in, column_of};
 ghost use Rattle.fleet_needs.specs.Implied.{AreAwaitPlaces};
 ghost use Rattle.fleet_needs.specs.Flags.{AreFlagged};

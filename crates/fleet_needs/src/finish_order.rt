@@ -1,12 +1,12 @@
 //! The order in which actions finish if nobody is held.
 
 ghost use Rattle.std.specs.Prelude.{◌≡◌, ◌+◌, ◌-◌, ◌<◌, length, slice_index, IfOk, OnOk};
-ghost use Rattle.fleet_model.specs.Program.{Program};
+ghost use Rattle.fleet_model.specs.Program.{Program, AreInRange};
 ghost use Rattle.fleet_needs.specs.Order.{IsTicked, IsOrder};
 
 use crate::due_rows::DueRows;
 use fleet_machine::Machine;
-use fleet_model::{OutOfMemory, ProgramView};
+use fleet_model::{MAX_AGENTS, OutOfMemory, ProgramView, total_moves};
 use std::alloc::Global;
 
 /// The agents whose actions finish, tick by tick, and in rising order within a tick. Which action it is follows from
@@ -28,6 +28,27 @@ impl FinishOrder {
         let mut ends = Vec::with_capacity(alloc, ticks as usize + 1)?;
         ends.push(0)?;
         Ok(FinishOrder { agents, ends })
+    }
+
+    /// The order of a program, for so many ticks.
+    pub(crate) fn of<P: ProgramView>(
+        alloc: Global,
+        program: &P,
+        ticks: u32,
+    ) -> Result<FinishOrder, OutOfMemory>
+        requires { AreInRange (P.program program.now) }
+        ensures order { IfOk result (IsOrder (P.program program.now)) }
+        ensures ends { IfOk result (λ order. length order.ends.items ≡ ticks + 1) }
+    {
+        let mut order = FinishOrder::new(alloc, total_moves(program) as usize, ticks)?;
+        let mut machine = Machine::start(alloc, program)?;
+        let nobody = [false; MAX_AGENTS];
+        let nobody = &nobody[..program.agents() as usize];
+        for _t in 0..ticks {
+            machine.tick(program, nobody);
+            order.add_tick(program, &machine)?;
+        }
+        Ok(order)
     }
 
     /// Adds the agents that the last tick of the machine has moved.

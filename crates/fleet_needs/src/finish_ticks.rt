@@ -1,7 +1,7 @@
 //! The tick that finishes each action if nobody is held.
 
 ghost use Rattle.std.specs.Prelude.{◌≡◌, ◌+◌, ◌<◌, [], length, IfOk, OnOk};
-ghost use Rattle.fleet_model.specs.Program.{AreInRange, total_moves};
+ghost use Rattle.fleet_model.specs.Program.{Program, AreInRange, total_moves};
 ghost use Rattle.fleet_model.specs.Machine.{IsFinish};
 ghost use Rattle.fleet_model.specs.Chain.{IsAction};
 ghost use Rattle.fleet_needs.specs.Places.{ArePlacesOf};
@@ -20,7 +20,12 @@ use std::alloc::Global;
 pub(crate) struct FinishTicks {
     places: ActionPlaces,
     ticks: Vec<u32>,
+    /// From how many actions a step goes back for one await, at most.
+    pub(crate) steps: u8,
 }
+
+/// From how many actions a step goes back for one await at first.
+const STEPS: u8 = 16;
 
 impl FinishTicks {
     /// The ticks of a program that so many ticks finish.
@@ -39,7 +44,18 @@ impl FinishTicks {
         Ok(FinishTicks {
             places,
             ticks: entries,
+            steps: STEPS,
         })
+    }
+
+    /// Goes back no more once most agents are asked for, since rows answer for all these.
+    pub(crate) fn stop_if_most(&mut self, asked: &[bool])
+        ensures { (p : Program) → AreTicks p self.old → AreTicks p self.new }
+    {
+        let flagged = asked.iter().filter(|flag| **flag).count();
+        if flagged > asked.len() / 2 {
+            self.steps = 0;
+        }
     }
 
     /// The tick of an action.

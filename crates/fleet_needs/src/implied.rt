@@ -5,17 +5,16 @@ ghost use Rattle.fleet_model.specs.declared.program.Await.{Await};
 ghost use Rattle.fleet_model.specs.Program.{AreInRange, awaits_of, total_awaits};
 ghost use Rattle.fleet_model.specs.Machine.{IsFinish};
 ghost use Rattle.fleet_model.specs.Chain.{IsAction};
-ghost use Rattle.fleet_needs.specs.Block.{AreNotes, ticks_noted};
 ghost use Rattle.fleet_needs.specs.Implied.{IsImplied, AreAwaitPlaces};
 ghost use Rattle.fleet_needs.specs.Settled.{AreSettled};
+ghost use Rattle.fleet_needs.specs.Schedule.{IsSchedule};
 ghost use Rattle.fleet_needs.specs.Flags.{AreImplied};
 
 use crate::await_places::AwaitPlaces;
-use crate::block::Block;
 use crate::columns::Columns;
-use crate::questions::{columns_at_once, is_any};
-use crate::row_pass::use_rows;
-use crate::run_notes::RunNotes;
+use crate::join_pass::use_joins;
+use crate::questions::is_any;
+use crate::schedule::Schedule;
 use crate::settled::settle_all;
 use fleet_model::{ActionId, Await, OutOfMemory, ProgramView, total_awaits};
 use std::alloc::Global;
@@ -119,35 +118,34 @@ fn flag_rest<P: ProgramView>(
     requires settled { AreSettled (P.program program.now) asked.now implied.old.flags.items }
     ensures { OnOk result (AreImplied (P.program program.now) implied.new) }
 {
-    let notes = RunNotes::of(alloc, program, ticks)?;
-    flag_all(alloc, program, &notes, asked, implied)
+    let schedule = Schedule::of(alloc, program, ticks)?;
+    flag_all(alloc, program, &schedule, asked, implied)
 }
 
 /// Flags the awaits of the asked agents, block by block, each with as many columns as there is room for.
 fn flag_all<P: ProgramView>(
     alloc: Global,
     program: &P,
-    notes: &RunNotes,
+    schedule: &Schedule,
     asked: &[bool],
     implied: &mut ImpliedAwaits,
 ) -> Result<(), OutOfMemory>
     requires range { AreInRange (P.program program.now) }
-    requires notes { AreNotes (P.program program.now) notes.now }
-    requires finish { IsFinish (P.program program.now) [] (ticks_noted notes.now) }
+    requires schedule { IsSchedule (P.program program.now) schedule.now }
     requires places { AreAwaitPlaces (P.program program.now) implied.old.places }
     requires flags { length implied.old.flags.items ≡ total_awaits (P.program program.now) }
     requires asked { length asked.now ≡ length (P.program program.now) }
     requires settled { AreSettled (P.program program.now) asked.now implied.old.flags.items }
     ensures { OnOk result (AreImplied (P.program program.now) implied.new) }
 {
-    let most = columns_at_once(notes);
+    let most = schedule.columns_at_once();
     let agents = program.agents();
     let mut from = 0;
     while from < agents {
         let columns = Columns::choose(alloc, asked, from, most)?;
-        let block = Block { notes, columns };
-        use_rows(alloc, program, &block, implied)?;
-        from = block.columns.end;
+        let end = columns.end;
+        use_joins(alloc, program, schedule, columns, implied)?;
+        from = end;
     }
     Ok(())
 }

@@ -237,7 +237,7 @@ impl KeptRows {
 }
 
 /// Writes a row from this place on.
-fn write_row(counts: &mut [u32], from: usize, row: &[u32])
+pub(crate) fn write_row(counts: &mut [u32], from: usize, row: &[u32])
     requires { from + length row.now ≤ length counts.old }
     ensures row { (k : ℕ) → k < length row.now
         → get_or counts.new (from + k) 0 ≡ get_or row.now k 0 }

@@ -13,9 +13,6 @@ use crate::finish_ticks::FinishTicks;
 use fleet_model::{ActionId, OutOfMemory, ProgramView};
 use std::alloc::Global;
 
-/// From how many actions a step goes back for one await, at most.
-const STEPS: u8 = 16;
-
 /// No step goes back from an action with more awaits.
 const AWAITS: u16 = 16;
 
@@ -37,11 +34,12 @@ pub fn settle_all<P: ProgramView>(
     ensures settled { IfOk result (λ asked. AreSettled
         (P.program program.now) asked.items flags.new) }
 {
-    let ticks = FinishTicks::of(alloc, program, ticks)?;
+    let mut finish = FinishTicks::of(alloc, program, ticks)?;
     let agents = program.agents();
     let mut asked = vec![in alloc; false; usize::from(agents)]?;
     for agent in 0..agents {
-        settle_agent(program, &ticks, places, agent, flags, &mut asked);
+        settle_agent(program, &finish, places, agent, flags, &mut asked);
+        finish.stop_if_most(&asked);
     }
     Ok(asked)
 }
@@ -239,7 +237,7 @@ fn reaches_other<P: ProgramView>(
         (record { agent = first.agent; count = first.number }) → ⊥ }
 {
     let _ = program.agents();
-    let mut steps = STEPS;
+    let mut steps = ticks.steps;
     let mut known = true;
     for m in 0..program.await_count(action.agent, action.number) {
         if m != k {

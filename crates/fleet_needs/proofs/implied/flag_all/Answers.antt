@@ -1,37 +1,35 @@
-use Rattle.std.proofs.Common.{length, ◌∙◌, arith}
+use Rattle.std.proofs.Common.{◌∙◌, arith}
 use Rattle.fleet_needs.proofs.Joining.{awaited_action}
-use Rattle.fleet_needs.proofs.Flagged.{flagged_none, settled_after, flagged_to}
+use Rattle.fleet_needs.proofs.Flagged.{flagged_none, flagged_all, settled_after, flagged_to}
 use Rattle.fleet_needs.proofs.implied.flag_all.Goals as goal
 
-pub use_rows-requires-clause-block : goal.use_rows-requires-clause-block
-use_rows-requires-clause-block g c = record {
-  notes = c.requires.notes;
+pub use_joins-requires-clause-columns : goal.use_joins-requires-clause-columns
+use_joins-requires-clause-columns g c = record {
   agents = c.in_ok-columns.ensures.agents ∙ c.requires.asked;
   within = c.in_ok-columns.ensures.within;
   apart = c.in_ok-columns.ensures.apart;
 }
 
-pub use_rows-requires-clause-used : goal.use_rows-requires-clause-used
-use_rows-requires-clause-used g c =
-    let p = g.P.ProgramView.program c.args.program.now in
-    record {
-      places = c.loop-from.invariant.places;
-      all = c.loop-from.invariant.all;
-      flagged = flagged_none p c.in_ok-columns.columns (length p) c.loop-from.implied.flags.items;
-    }
+pub use_joins-requires-clause-used : goal.use_joins-requires-clause-used
+use_joins-requires-clause-used g c = record {
+  places = c.loop-from.invariant.places;
+  all = c.loop-from.invariant.all;
+  flagged = flagged_none (g.P.ProgramView.program c.args.program.now) c.args.schedule.now c.in_ok-columns.columns c.loop-from.implied.flags.items;
+}
 
 pub loop-from-preserved : goal.loop-from-preserved
 loop-from-preserved g c =
     let p = g.P.ProgramView.program c.args.program.now in
     let columns = c.in_ok-columns.columns in
     let old = c.loop-from.implied.flags.items in
-    let new = c.use_rows.new.uses.flags.items in
-    let made = c.in_ok-use_rows.ensures in
+    let new = c.use_joins.new.uses.flags.items in
+    let made = c.in_ok-use_joins.ensures in
+    let all = flagged_all p c.args.schedule.now columns new c.requires.schedule.rows made.used.flagged in
     record {
-      flagged = flagged_to p c.args.asked.now c.loop-from.from columns c.in_ok-columns.ensures old new (λ a is. made.used.2.flagged a is (made.used.1 a is)) made.keeps c.loop-from.invariant.settled c.loop-from.invariant.flagged;
-      settled = settled_after p c.args.asked.now columns old new (λ a is. made.used.2.flagged a is (made.used.1 a is)) made.keeps c.loop-from.invariant.settled;
-      places = made.used.2.places;
-      all = made.used.2.all;
+      flagged = flagged_to p c.args.asked.now c.loop-from.from columns c.in_ok-columns.ensures old new all made.keeps c.loop-from.invariant.settled c.loop-from.invariant.flagged;
+      settled = settled_after p c.args.asked.now columns old new all made.keeps c.loop-from.invariant.settled;
+      places = made.used.places;
+      all = made.used.all;
     }
 
 pub returns : goal.returns

@@ -13,12 +13,14 @@ loop-agent-preserved g c =
     let same = take_at new (drop (length new) c.loop-agent.asked.items) c.loop-agent.asked.len long in
     record {
       all = ap (λ (xs : List Bool). length xs) same ∙ c.settle_agent.auto.asked ∙ ap (λ (xs : List Bool). length xs) c.deref_mut.ensures.value ∙ c.loop-agent.invariant.all;
+      ticks = c.stop_if_most.ensures p c.loop-agent.invariant.ticks;
       settled = subst (λ (xs : List Bool). AreSettledOf p xs (IsUpTo (c.loop-agent.agent + 1) 0) c.settle_agent.new.flags) (sym same) (agent_up p c.loop-agent.agent new c.settle_agent.new.flags c.settle_agent.ensures);
     }
 
 pub loop-agent-init : goal.loop-agent-init
 loop-agent-init g c = record {
   all = omega (arith, c.in_ok-asked.ensures.len, c.from.ensures, c.agents-agents.ensures.count);
+  ticks = c.in_ok-finish.ensures;
   settled = λ a is these k w at. elim these [ inl low ↦ absurd (omega arith) | inr (same, low) ↦ (let first = is.first in absurd (omega arith)) ];
 }
 

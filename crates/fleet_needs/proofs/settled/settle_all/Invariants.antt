@@ -1,9 +1,10 @@
 use Rattle.std.proofs.Common.{◌≡◌, length}
-use Rattle.fleet_needs.specs.Settled.{AreSettledOf, IsUpTo}
+use Rattle.fleet_needs.specs.Settled.{AreTicks, AreSettledOf, IsUpTo}
 use Rattle.fleet_needs.proofs.settled.settle_all.Given as goal
 
 abbrev pub invariant-loop-agent : goal.invariant-loop-agent
 invariant-loop-agent g l = record {
   all : length l.asked.items ≡ length (g.P.ProgramView.program l.program);
+  ticks : AreTicks (g.P.ProgramView.program l.program) l.finish;
   settled : AreSettledOf (g.P.ProgramView.program l.program) l.asked.items (IsUpTo l.agent 0) l.flags;
 }

@@ -1,0 +1,329 @@
+-- Rows that are made: one row more, one action more.
+use Rattle.std.proofs.Common.{◌≡◌, ◌≢◌, ℕ, ◌+◌, ◌-◌, ◌<◌, ◌≤◌, List, [], ◌∷◌, ◌++◌, length, get_or, set, slice_index, refl, sym, ap, subst, ◌∙◌, arith, inl, inr, ◌⊎◌}
+use Rattle.std.specs.Prelude.{slice_get, Some}
+use Rattle.std.proofs.lemmas.Bool.{cases_lt, cases_eq}
+use Rattle.std.proofs.lemmas.Option.{slice_get-get_or, slice_get_within, get_or_from_slice_get, same_Some}
+use Rattle.std.proofs.lemmas.List.{get_or-set_same, get_or-set_other, length-set, length_push, get_or_append_left, get_or_push, get_or_past}
+use Rattle.fleet_model.specs.declared.program.ActionId.{ActionId}
+use Rattle.fleet_model.specs.declared.program.Await.{Await}
+use Rattle.fleet_model.specs.Program.{Program, awaits_of, moves, total_moves}
+use Rattle.fleet_model.specs.Chain.{IsAction, awaited}
+use Rattle.fleet_needs.specs.Order.{IsCounted}
+use Rattle.fleet_needs.specs.Places.{ArePlacesOf, place_of_action}
+use Rattle.fleet_needs.specs.Joins.{AreQuiet, IsRow, StandsFor, row_taken, IsJoin, AreJoins, Takes, AreLasts, HasAllRows, row_of, IsStanding, AreSound, AreJoinsOf, CanJoin, AreTaken, HasJoined, IsAdded}
+use Rattle.fleet_needs.specs.Takers.{AreRaised}
+use Rattle.fleet_needs.specs.declared.action_places.ActionPlaces.{ActionPlaces}
+use Rattle.fleet_needs.specs.declared.joins.Join.{Join}
+use Rattle.fleet_needs.specs.declared.joins.Joins.{Joins}
+use Rattle.fleet_needs.proofs.Counting.{counted_back, counted_apart}
+use Rattle.fleet_needs.proofs.Passing.{same_or_not}
+use Rattle.fleet_needs.proofs.Placed.{place_apart, place_within}
+
+-- ---- a list with one more at its end
+
+pub push_kept : (xs : List Join) (x y : Join) (n : ℕ) → slice_get xs n ≡ Some y → slice_get (xs ++ x ∷ []) n ≡ Some y
+push_kept xs x y n at =
+    let l : n < length xs = slice_get_within xs n y at in
+    slice_get-get_or (xs ++ x ∷ []) n y (omega (arith, length_push xs x))
+    ∙ ap Some (get_or_append_left xs (x ∷ []) y n l ∙ get_or_from_slice_get xs n y y at)
+
+pub push_last : (xs : List Join) (x : Join) → slice_get (xs ++ x ∷ []) (length xs) ≡ Some x
+push_last xs x = slice_get-get_or (xs ++ x ∷ []) (length xs) x (omega (arith, length_push xs x)) ∙ ap Some (get_or_push xs x x (length xs) refl)
+
+pub push_cases : (xs : List Join) (x y : Join) (n : ℕ) → slice_get (xs ++ x ∷ []) n ≡ Some y → (slice_get xs n ≡ Some y) ⊎ ((n ≡ length xs) × (y ≡ x))
+push_cases xs x y n at =
+    let l : n < length (xs ++ x ∷ []) = slice_get_within (xs ++ x ∷ []) n y at in
+    elim (cases_lt n (length xs)) [
+      | inl lt ↦ inl (slice_get-get_or xs n x lt ∙ ap Some (sym (get_or_append_left xs (x ∷ []) x n lt) ∙ get_or_from_slice_get (xs ++ x ∷ []) n y x at))
+      | inr ge ↦
+          let e : n ≡ length xs = omega (arith, l, length_push xs x) in
+          inr (e, sym (get_or_from_slice_get (xs ++ x ∷ []) n y x at) ∙ ap (λ (k : ℕ). get_or (xs ++ x ∷ []) k x) e ∙ get_or_push xs x x (length xs) refl)
+    ]
+
+-- ---- what more rows keep
+
+abbrev pub AreKeptIn : List Join → List Join → Type 0
+AreKeptIn old new = (n : ℕ) (j : Join) → slice_get old n ≡ Some j → slice_get new n ≡ Some j
+
+pub row_kept : (old new : List Join) → AreKeptIn old new → (r : ℕ) (a : ActionId) → IsRow old r a → IsRow new r a
+row_kept old new h r a k = record { join = k.join; some = k.some; at = h (r - 1) k.join k.at; of = k.of }
+
+pub stands_kept : (p : Program) (old new : List Join) → AreKeptIn old new → (r i n : ℕ) → StandsFor p old r i n → StandsFor p new r i n
+stands_kept p old new h r i n s = record {
+  number = s.number;
+  upto = s.upto;
+  quiet = s.quiet;
+  row = elim s.row [ inl none ↦ inl none | inr k ↦ inr (row_kept old new h r (record { agent = i; number = s.number }) k) ];
+}
+
+-- the last action of the agent that awaits nothing has the row of the one before
+pub stands_on : (p : Program) (joins : List Join) (r : ℕ) (a : ActionId) → 1 ≤ a.number → awaits_of p a.agent a.number ≡ [] → StandsFor p joins r a.agent (a.number - 1) → StandsFor p joins r a.agent a.number
+stands_on p joins r a some none s = record {
+  number = s.number;
+  upto = (let l : s.number ≤ a.number - 1 = s.upto in omega arith);
+  quiet = λ m from upto. elim (cases_lt m a.number) [
+    | inl l ↦ s.quiet m from (omega arith)
+    | inr l ↦ (let e : m ≡ a.number = omega arith in ap (awaits_of p a.agent) e ∙ none)
+  ];
+  row = s.row;
+}
+
+-- ---- one row more
+
+module _ (p : Program) (places : ActionPlaces) (a : ActionId) (old new : Joins) (base : ℕ) (can : CanJoin p places old a) (within : base ≤ length old.joins.items)
+    (stands : StandsFor p old.joins.items base a.agent (a.number - 1))
+    (put : new.joins.items ≡ old.joins.items ++ record { action = a; base = base; first = length old.rows.items } ∷ [])
+    (standing : new.standing ≡ old.standing)
+    (all : length new.rows.items ≡ length old.rows.items + length (awaits_of p a.agent a.number))
+    (kept : (n : ℕ) → n < length old.rows.items → slice_index new.rows.items n ≡ slice_index old.rows.items n)
+    (each : (k : ℕ) (w : Await) → slice_get (awaits_of p a.agent a.number) k ≡ Some w → slice_index new.rows.items (length old.rows.items + k) ≡ row_of places old (awaited w))
+    (room : length new.lasts.items ≡ length old.lasts.items + 1)
+    (raised : (r : ℕ) → slice_index old.lasts.items r ≤ slice_index new.lasts.items r)
+    (noted : (k : ℕ) (w : Await) → slice_get (awaits_of p a.agent a.number) k ≡ Some w → length old.joins.items + 1 ≤ slice_index new.lasts.items (row_of places old (awaited w)))
+    (based : length old.joins.items + 1 ≤ slice_index new.lasts.items base) where
+  abbrev one : Join
+  one = record { action = a; base = base; first = length old.rows.items }
+
+  still : AreKeptIn old.joins.items new.joins.items
+  still n j at = ap (λ (xs : List Join). slice_get xs n) put ∙ push_kept old.joins.items one j n at
+
+  newest : slice_get new.joins.items (length old.joins.items) ≡ Some one
+  newest = ap (λ (xs : List Join). slice_get xs (length old.joins.items)) put ∙ push_last old.joins.items one
+
+  parts : (n : ℕ) (j : Join) → slice_get new.joins.items n ≡ Some j → (slice_get old.joins.items n ≡ Some j) ⊎ ((n ≡ length old.joins.items) × (j ≡ one))
+  parts n j at = push_cases old.joins.items one j n (ap (λ (xs : List Join). slice_get xs n) (sym put) ∙ at)
+
+  same_taken : (n : ℕ) (j : Join) → slice_get old.joins.items n ≡ Some j → (k : ℕ) → k < length (awaits_of p j.action.agent j.action.number) → row_taken new.rows.items j k ≡ row_taken old.rows.items j k
+  same_taken n j at k l = kept (j.first + k) (let w = (can.sound.joins n j at).within in omega arith)
+
+  join_on : (n : ℕ) (j : Join) → (slice_get old.joins.items n ≡ Some j) ⊎ ((n ≡ length old.joins.items) × (j ≡ one)) → IsJoin p new.joins.items new.rows.items n j
+  join_on n j (inl at) =
+      let was = can.sound.joins n j at in
+      record {
+        action = was.action;
+        base = stands_kept p old.joins.items new.joins.items still j.base j.action.agent (j.action.number - 1) was.base;
+        sooner = was.sooner;
+        within = (let l = was.within in omega (arith, l, all));
+        awaits = λ k w there.
+            let e : row_taken new.rows.items j k ≡ row_taken old.rows.items j k = same_taken n j at k (slice_get_within (awaits_of p j.action.agent j.action.number) k w there) in
+            let before = was.awaits k w there in (
+              (let l : row_taken old.rows.items j k ≤ n = before.0 in omega (arith, e, l)),
+              stands_kept p old.joins.items new.joins.items still _ w.agent w.count (subst (λ (r : ℕ). StandsFor p old.joins.items r w.agent w.count) (sym e) before.1),
+            );
+      }
+  join_on n j (inr (e, same)) = subst (IsJoin p new.joins.items new.rows.items n) (sym same) (record {
+    action = can.action;
+    base = stands_kept p old.joins.items new.joins.items still base a.agent (a.number - 1) stands;
+    sooner = omega (arith, e, within);
+    within = omega (arith, all);
+    awaits = λ k w there.
+        let is = (can.awaited k w there).1 in
+        let at : row_taken new.rows.items one k ≡ row_of places old (awaited w) = each k w there in (
+          (let l : row_of places old (awaited w) ≤ length old.joins.items = is.within in omega (arith, at, l, e)),
+          stands_kept p old.joins.items new.joins.items still _ w.agent w.count (subst (λ (r : ℕ). StandsFor p old.joins.items r w.agent w.count) (sym at) is.stands),
+        );
+  })
+
+  last_on : (n : ℕ) (j : Join) (r : ℕ) → (slice_get old.joins.items n ≡ Some j) ⊎ ((n ≡ length old.joins.items) × (j ≡ one)) → Takes p new.rows.items j r → n + 1 ≤ slice_index new.lasts.items r
+  last_on n j r (inl at) (inl e) = omega (arith, can.sound.lasts.each n j r at (inl e), raised r)
+  last_on n j r (inl at) (inr (k, l, e)) = omega (arith, can.sound.lasts.each n j r at (inr (k, l, e ∙ same_taken n j at k l)), raised r)
+  last_on n j r (inr (e, same)) (inl is) =
+      let b : r ≡ base = is ∙ ap (λ (x : Join). x.base) same in
+      subst (λ (x : ℕ). n + 1 ≤ slice_index new.lasts.items x) (sym b) (omega (arith, e, based))
+  last_on n j r (inr (e, same)) (inr t) = of (subst (λ (x : Join). (k : ℕ) × (k < length (awaits_of p x.action.agent x.action.number)) × (r ≡ row_taken new.rows.items x k)) same t)
+    where
+      of : (k : ℕ) × (k < length (awaits_of p a.agent a.number)) × (r ≡ row_taken new.rows.items one k) → n + 1 ≤ slice_index new.lasts.items r
+      of (k, l, is) =
+          let w : Await = get_or (awaits_of p a.agent a.number) k (record { agent = 0; count = 0 }) in
+          let there : slice_get (awaits_of p a.agent a.number) k ≡ Some w = slice_get-get_or (awaits_of p a.agent a.number) k (record { agent = 0; count = 0 }) l in
+          let at : r ≡ row_of places old (awaited w) = is ∙ each k w there in
+          subst (λ (x : ℕ). n + 1 ≤ slice_index new.lasts.items x) (sym at) (omega (arith, e, noted k w there))
+
+  long : length new.joins.items ≡ length old.joins.items + 1
+  long = ap (λ (xs : List Join). length xs) put ∙ length_push old.joins.items one
+
+  newest_row : IsRow new.joins.items (length old.joins.items + 1) a
+  newest_row = record { join = one; some = omega arith; at = (let e : length old.joins.items + 1 - 1 ≡ length old.joins.items = omega arith in ap (slice_get new.joins.items) e ∙ newest); of = refl }
+
+  pub joined_on : HasJoined p places a (length old.joins.items + 1) old new
+  joined_on = record {
+    sound = record {
+      right = can.sound.right;
+      joins = λ n j at. join_on n j (parts n j at);
+      lasts = record { all = omega (arith, room, can.sound.lasts.all, long); each = λ n j r at takes. last_on n j r (parts n j at) takes };
+      room = ap (λ xs. length xs.items) standing ∙ can.sound.room;
+    };
+    standing = standing;
+    more = omega (arith, long);
+    kept = λ x s k. row_kept old.joins.items new.joins.items still s x k;
+    still = still;
+    within = omega (arith, long);
+    stands = record { number = a.number; upto = omega arith; quiet = λ m from upto. absurd (omega arith); row = inr newest_row };
+    here = λ some. newest_row;
+  }
+
+-- what is taken by the first k awaits
+pub record AreTakenTo (p : Program) (places : ActionPlaces) (a : ActionId) (old : Joins) (k : ℕ) (rows lasts : List ℕ) : Type 0 where
+  pub all : length rows ≡ length old.rows.items + k
+  pub kept : (n : ℕ) → n < length old.rows.items → slice_index rows n ≡ slice_index old.rows.items n
+  pub each : (m : ℕ) (w : Await) → m < k → slice_get (awaits_of p a.agent a.number) m ≡ Some w → slice_index rows (length old.rows.items + m) ≡ row_of places old (awaited w)
+  pub raised : AreRaised old.lasts.items lasts
+  pub noted : (m : ℕ) (w : Await) → m < k → slice_get (awaits_of p a.agent a.number) m ≡ Some w → length old.joins.items + 1 ≤ slice_index lasts (row_of places old (awaited w))
+
+module _ (p : Program) (places : ActionPlaces) (a : ActionId) (old : Joins) where
+  pub taken_first : AreTakenTo p places a old 0 old.rows.items old.lasts.items
+  taken_first = record {
+    all = omega arith;
+    kept = λ n l. refl;
+    each = λ m w l at. absurd (omega arith);
+    raised = (refl, λ r. omega arith);
+    noted = λ m w l at. absurd (omega arith);
+  }
+
+  pub taken_on : (k : ℕ) (w : Await) → slice_get (awaits_of p a.agent a.number) k ≡ Some w → (taken : ℕ) → taken ≡ row_of places old (awaited w) → (rows new lasts up : List ℕ) → new ≡ rows ++ taken ∷ []
+      → AreRaised lasts up → length old.joins.items + 1 ≤ slice_index up taken → AreTakenTo p places a old k rows lasts → AreTakenTo p places a old (k + 1) new up
+  taken_on k w at taken is rows new lasts up put raised noted h = record {
+    all = omega (arith, long, h.all);
+    kept = λ n l. before n (omega (arith, h.all)) ∙ h.kept n l;
+    each = λ m v l there. elim (cases_lt m k) [
+      | inl less ↦ before (length old.rows.items + m) (omega (arith, h.all)) ∙ h.each m v less there
+      | inr more ↦
+          let e : m ≡ k = omega arith in
+          let place : length old.rows.items + m ≡ length rows = omega (arith, h.all) in
+          ap (slice_index new) place ∙ newest ∙ is ∙ ap (λ (x : Await). row_of places old (awaited x)) (same m v e there)
+    ];
+    raised = (raised.0 ∙ h.raised.0, λ r. (let x = h.raised.1 r in let y = raised.1 r in omega arith));
+    noted = λ m v l there. elim (cases_lt m k) [
+      | inl less ↦ (let x = h.noted m v less there in let y = raised.1 (row_of places old (awaited v)) in omega arith)
+      | inr more ↦
+          let e : m ≡ k = omega arith in
+          subst (λ (r : ℕ). length old.joins.items + 1 ≤ slice_index up r) (is ∙ ap (λ (x : Await). row_of places old (awaited x)) (same m v e there)) noted
+    ];
+  }
+    where
+      long : length new ≡ length rows + 1
+      long = ap (λ (xs : List ℕ). length xs) put ∙ length_push rows taken
+
+      before : (n : ℕ) → n < length rows → slice_index new n ≡ slice_index rows n
+      before n l = ap (λ (xs : List ℕ). slice_index xs n) put ∙ get_or_append_left rows (taken ∷ []) 0 n l
+
+      newest : slice_index new (length rows) ≡ taken
+      newest = ap (λ (xs : List ℕ). slice_index xs (length rows)) put ∙ get_or_push rows taken 0 (length rows) refl
+
+      same : (m : ℕ) (v : Await) → m ≡ k → slice_get (awaits_of p a.agent a.number) m ≡ Some v → w ≡ v
+      same m v e there = same_Some w v (sym at ∙ ap (slice_get (awaits_of p a.agent a.number)) (sym e) ∙ there)
+
+-- all of them, then the base, and at last the join itself
+pub joined_by : (p : Program) (places : ActionPlaces) (a : ActionId) (old mid low new : Joins) (base first : ℕ) → CanJoin p places old a → base ≤ length old.joins.items → StandsFor p old.joins.items base a.agent (a.number - 1)
+    → AreTaken p places a old mid → low.joins ≡ mid.joins → low.rows ≡ mid.rows → low.standing ≡ mid.standing → AreRaised mid.lasts.items low.lasts.items → length old.joins.items + 1 ≤ slice_index low.lasts.items base
+    → new.lasts.items ≡ low.lasts.items ++ 0 ∷ [] → first ≡ length old.rows.items → new.joins.items ≡ low.joins.items ++ record { action = a; base = base; first = first } ∷ [] → new.rows ≡ low.rows → new.standing ≡ low.standing
+    → HasJoined p places a (length old.joins.items + 1) old new
+joined_by p places a old mid low new base first can within stands taken joins rows standing raised based putl at putj same_rows same_standing =
+    joined_on p places a old new base can within stands
+    (putj ∙ ap (λ (n : ℕ). low.joins.items ++ record { action = a; base = base; first = n } ∷ []) at ∙ ap (λ xs. xs.items ++ record { action = a; base = base; first = length old.rows.items } ∷ []) (joins ∙ taken.joins))
+    (same_standing ∙ standing ∙ taken.standing)
+    (ap (λ xs. length xs) list ∙ taken.all)
+    (λ n l. ap (λ xs. slice_index xs n) list ∙ taken.kept n l)
+    (λ k w there. ap (λ xs. slice_index xs (length old.rows.items + k)) list ∙ taken.each k w there)
+    (ap (λ (xs : List ℕ). length xs) putl ∙ length_push low.lasts.items 0 ∙ ap (λ (n : ℕ). n + 1) (raised.0 ∙ taken.lasts.0))
+    (λ r. (let x = taken.lasts.1 r in let y = raised.1 r in let z = up r in omega arith))
+    (λ k w there. (let x = taken.noted k w there in let y = raised.1 (row_of places old (awaited w)) in let z = up (row_of places old (awaited w)) in omega arith))
+    (let z = up base in omega (arith, z, based))
+  where
+    list : new.rows.items ≡ mid.rows.items
+    list = ap (λ xs. xs.items) (same_rows ∙ rows)
+
+    up : (r : ℕ) → slice_index low.lasts.items r ≤ slice_index new.lasts.items r
+    up r = elim (cases_lt r (length low.lasts.items)) [
+      | inl l ↦ omega (arith, ap (λ (xs : List ℕ). slice_index xs r) putl ∙ get_or_append_left low.lasts.items (0 ∷ []) 0 r l)
+      | inr l ↦ omega (arith, get_or_past low.lasts.items r 0 l)
+    ]
+
+-- an action that awaits nothing has no row of its own
+pub joined_none : (p : Program) (places : ActionPlaces) (a : ActionId) (m : Joins) (base : ℕ) → CanJoin p places m a → base ≤ length m.joins.items → StandsFor p m.joins.items base a.agent (a.number - 1)
+    → length (awaits_of p a.agent a.number) ≡ 0 → HasJoined p places a base m m
+joined_none p places a m base can within stands none = record {
+  sound = can.sound;
+  standing = refl;
+  more = omega arith;
+  kept = λ x s k. k;
+  still = λ n j at. at;
+  within = within;
+  stands = stands_on p m.joins.items base a can.action.first (empty (awaits_of p a.agent a.number) none) stands;
+  here = λ some. absurd (omega (arith, none, some));
+}
+  where
+    empty : (ws : List Await) → length ws ≡ 0 → ws ≡ []
+    empty [] e = refl
+    empty (w ∷ ws) e = absurd (omega arith)
+
+-- ---- the row of the action is noted
+
+module _ (p : Program) (places : ActionPlaces) (a : ActionId) (r : ℕ) (old mid new : Joins) (is : IsAction p a) (h : HasJoined p places a r old mid)
+    (joins : new.joins ≡ mid.joins) (rows : new.rows ≡ mid.rows) (lasts : new.lasts ≡ mid.lasts) (put : new.standing.items ≡ set mid.standing.items (place_of_action places a) r) where
+  place_in : place_of_action places a < length mid.standing.items
+  place_in = omega (arith, place_within p places.firsts.items h.sound.right a is, h.sound.room)
+
+  at_own : row_of places new a ≡ r
+  at_own = ap (λ (xs : List ℕ). slice_index xs (place_of_action places a)) put ∙ get_or-set_same mid.standing.items (place_of_action places a) r 0 place_in
+
+  at_other : (x : ActionId) → IsAction p x → x ≢ a → row_of places new x ≡ row_of places old x
+  at_other x k ne =
+      ap (λ (xs : List ℕ). slice_index xs (place_of_action places x)) put
+      ∙ get_or-set_other mid.standing.items (place_of_action places a) (place_of_action places x) r 0 (place_apart p places.firsts.items h.sound.right x a k is ne)
+      ∙ ap (λ xs. slice_index xs.items (place_of_action places x)) h.standing
+
+  same_joins : new.joins.items ≡ mid.joins.items
+  same_joins = ap (λ xs. xs.items) joins
+
+  sound_on : AreSound p places new
+  sound_on = record {
+    right = h.sound.right;
+    joins = subst (λ (xs : List Join). AreJoins p xs new.rows.items) (sym same_joins) (subst (AreJoins p mid.joins.items) (sym (ap (λ xs. xs.items) rows)) h.sound.joins);
+    lasts = subst (λ (xs : List Join). AreLasts p xs new.rows.items new.lasts.items) (sym same_joins)
+        (subst (λ (xs : List ℕ). AreLasts p mid.joins.items xs new.lasts.items) (sym (ap (λ xs. xs.items) rows)) (subst (AreLasts p mid.joins.items mid.rows.items) (sym (ap (λ xs. xs.items) lasts)) h.sound.lasts));
+    room = ap (λ (xs : List ℕ). length xs) put ∙ length-set mid.standing.items (place_of_action places a) r ∙ h.sound.room;
+  }
+
+  pub added : IsAdded p places a old new
+  added = record {
+    sound = sound_on;
+    kept = λ x k ne s.
+        let e : row_of places new x ≡ row_of places old x = at_other x k ne in
+        let l : row_of places old x ≤ length old.joins.items = s.within in
+        record {
+          within = omega (arith, e, l, h.more, ap (λ (xs : List Join). length xs) same_joins);
+          stands = subst (λ (xs : List Join). StandsFor p xs (row_of places new x) x.agent x.number) (sym same_joins)
+              (subst (λ (s : ℕ). StandsFor p mid.joins.items s x.agent x.number) (sym e) (stands_kept p old.joins.items mid.joins.items h.still (row_of places old x) x.agent x.number s.stands));
+        };
+    rows = λ x s k. subst (λ (xs : List Join). IsRow xs s x) (sym same_joins) (h.kept x s k);
+    here = record {
+      within = omega (arith, at_own, h.within, ap (λ (xs : List Join). length xs) same_joins);
+      stands = subst (λ (xs : List Join). StandsFor p xs (row_of places new a) a.agent a.number) (sym same_joins) (subst (λ (s : ℕ). StandsFor p mid.joins.items s a.agent a.number) (sym at_own) h.stands);
+    };
+    row = λ some. (r, subst (λ (xs : List Join). IsRow xs r a) (sym same_joins) (h.here some));
+  }
+
+-- ---- one action more
+
+pub joins_more : (p : Program) (places : ActionPlaces) (counts : List ℕ) (a : ActionId) (within : a.agent < length counts) (number : a.number ≡ slice_index counts a.agent + 1) (old new : Joins)
+    → AreJoinsOf p places (IsCounted counts) old → IsAdded p places a old new → AreJoinsOf p places (IsCounted (set counts a.agent a.number)) new
+joins_more p places counts a within number old new h added = record {
+  sound = added.sound;
+  standing = λ x is done. elim (counted_back counts a within number x done) [
+    | inl before ↦ added.kept x is (counted_apart counts a within number x before) (h.standing x is before)
+    | inr e ↦ subst (IsStanding p places new) (sym e) added.here
+  ];
+  rows = λ x is done some. elim (counted_back counts a within number x done) [
+    | inl before ↦ (let was = h.rows x is before some in (was.0, added.rows x was.0 was.1))
+    | inr e ↦ (let made = added.row (subst (λ (y : ActionId). 1 ≤ length (awaits_of p y.agent y.number)) e some) in (made.0, subst (IsRow new.joins.items made.0) (sym e) made.1))
+  ];
+}
+
+-- a row that is taken was made before
+pub taken_sooner : (p : Program) (joins : List Join) (rows : List ℕ) (n : ℕ) (j : Join) (r : ℕ) → IsJoin p joins rows n j → Takes p rows j r → r ≤ n
+taken_sooner p joins rows n j r is (inl e) = omega (arith, e, is.sooner)
+taken_sooner p joins rows n j r is (inr (k, l, e)) =
+    let w : Await = get_or (awaits_of p j.action.agent j.action.number) k (record { agent = 0; count = 0 }) in
+    let there : slice_get (awaits_of p j.action.agent j.action.number) k ≡ Some w = slice_get-get_or (awaits_of p j.action.agent j.action.number) k (record { agent = 0; count = 0 }) l in
+    omega (arith, e, (is.awaits k w there).0)

@@ -1,0 +1,198 @@
+-- The counts of rows that are made of rows in their slots.
+use Rattle.std.proofs.Common.{◌≡◌, ◌≢◌, ℕ, zero, suc, ◌+◌, ◌-◌, ◌*◌, ◌<◌, ◌≤◌, List, [], length, get_or, max, slice_index, refl, sym, ap, subst, ◌∙◌, arith, inl, inr}
+use Rattle.std.specs.Prelude.{slice_get, Some}
+use Rattle.std.proofs.lemmas.Bool.{cases_lt, cases_eq}
+use Rattle.std.proofs.lemmas.Option.{slice_get_within, slice_get-get_or}
+use Rattle.fleet_model.specs.declared.program.ActionId.{ActionId}
+use Rattle.fleet_model.specs.declared.program.Await.{Await}
+use Rattle.fleet_model.specs.Program.{Program, AreInRange, awaits_of, moves}
+use Rattle.fleet_model.specs.Chain.{IsAction, Reaches, awaited}
+use Rattle.fleet_needs.specs.Block.{HasColumn}
+use Rattle.fleet_needs.specs.Joins.{AreQuiet, IsRow, StandsFor, row_taken, IsJoin, Takes, AreOwn}
+use Rattle.fleet_needs.specs.Rows.{IsColumn, IsJoined, OfFirst, OfOthers, OfOthersOrFirst}
+use Rattle.fleet_needs.specs.Schedule.{IsSchedule, AreColumnsOf, AreCounts, AreRowsTo, IsThere, StandsThere, AreJoinedWith, count_in_slot}
+use Rattle.fleet_needs.specs.JoinPass.{IsNextRow, AreOthers}
+use Rattle.fleet_needs.specs.Slots.{IsStill}
+use Rattle.fleet_needs.specs.declared.columns.Columns.{Columns}
+use Rattle.fleet_needs.specs.declared.joins.Join.{Join}
+use Rattle.fleet_needs.specs.declared.slot_rows.SlotRows.{SlotRows}
+use Rattle.fleet_needs.proofs.Joining.{column_none, joined_none, part_all, own_column, awaited_action, numbered}
+use Rattle.fleet_needs.proofs.OthersJoined.{others_more, others_same, first_none, first_more, first_same, first_all}
+
+-- ---- actions that await nothing
+
+module _ (p : Program) (i j : ℕ) (agent : i < length p) (ne : j ≢ i) where
+  quiet_next : (b v : ℕ) → b + 1 ≤ moves p i → awaits_of p i (b + 1) ≡ [] → IsColumn p (record { agent = i; number = b }) j v → IsColumn p (record { agent = i; number = b + 1 }) j v
+  quiet_next b v last none h =
+      let zero_long : 0 ≡ length (awaits_of p i (b + 1)) = sym (ap (λ (ws : List Await). length ws) none) in
+      part_all p i b j v (record { agent = agent; first = omega arith; last = last }) ne
+      (subst (λ (n : ℕ). IsJoined (OfFirst n) p i b j v) zero_long (joined_none p i b j (OfFirst 0) v (λ k w l. omega arith) h))
+
+  -- the counts of other agents stay as long as nothing is awaited
+  quiet_by : (q d v : ℕ) → q + d ≤ moves p i → AreQuiet p i q (q + d) → IsColumn p (record { agent = i; number = q }) j v → IsColumn p (record { agent = i; number = q + d }) j v
+  quiet_by q zero v last quiet h = let e : q ≡ q + zero = omega arith in subst (λ (n : ℕ). IsColumn p (record { agent = i; number = n }) j v) e h
+  quiet_by q (suc d) v last quiet h =
+      let e : q + d + 1 ≡ q + suc d = omega arith in
+      subst (λ (n : ℕ). IsColumn p (record { agent = i; number = n }) j v) e
+      (quiet_next (q + d) v (omega arith) (quiet (q + d + 1) (omega arith) (omega arith)) (quiet_by q d v (omega arith) (λ m from upto. quiet m from (omega arith)) h))
+
+  pub quiet_to : (q n v : ℕ) → q ≤ n → n ≤ moves p i → AreQuiet p i q n → IsColumn p (record { agent = i; number = q }) j v → IsColumn p (record { agent = i; number = n }) j v
+  quiet_to q n v upto last quiet h =
+      let e : q + (n - q) ≡ n = omega arith in
+      subst (λ (m : ℕ). IsColumn p (record { agent = i; number = m }) j v) e
+      (quiet_by q (n - q) v (omega arith) (λ m from to. quiet m from (omega arith)) h)
+
+-- ---- what row r stands for
+
+module _ (p : Program) (m : SlotRows) (n : ℕ) (rows : AreRowsTo p m n) (r i b : ℕ) (s : StandsThere p m r i b) where
+  -- zeros, if there is no row
+  pub counts_none : r ≡ 0 → (count : ℕ → ℕ) → ((k : ℕ) → count k ≡ 0) → AreCounts p m.columns i b count
+  counts_none none count zeros j k has = (
+    (λ ne. subst (λ (v : ℕ). IsColumn p (record { agent = i; number = b }) j v) (sym (zeros k)) (quiet_to p i j s.agent ne s.stands.number b 0 s.stands.upto s.last s.stands.quiet (first j))),
+    (λ e. zeros k),
+  )
+    where
+      first : (j : ℕ) → IsColumn p (record { agent = i; number = s.stands.number }) j 0
+      first j = elim s.stands.row [
+        | inl e ↦ subst (λ (x : ℕ). IsColumn p (record { agent = i; number = x }) j 0) (sym e.1) (column_none p i j)
+        | inr k ↦ absurd (omega (arith, k.some, none))
+      ]
+
+  -- else those in its slot, if it is still there
+  pub counts_some : 1 ≤ r → IsThere m n r → AreCounts p m.columns i b (count_in_slot m r)
+  counts_some some there j k has = elim s.stands.row [
+    | inl e ↦ absurd (let z : r ≡ 0 = e.0 in omega arith)
+    | inr is ↦
+        let right : AreCounts p m.columns i s.stands.number (count_in_slot m r) =
+        subst (λ (a : ActionId). AreCounts p m.columns a.agent a.number (count_in_slot m r)) is.of (rows.right r is.join some there.made is.at (there.still some)) in
+        let here = right j k has in (
+          (λ ne. quiet_to p i j s.agent ne s.stands.number b (count_in_slot m r k) s.stands.upto s.last s.stands.quiet (here.0 ne)),
+          here.1,
+        )
+  ]
+
+-- a row of these counts
+pub counts_same : (p : Program) (columns : Columns) (i b : ℕ) (f g : ℕ → ℕ) → ((j k : ℕ) → HasColumn columns j k → g k ≡ f k) → AreCounts p columns i b f → AreCounts p columns i b g
+counts_same p columns i b f g same h j k has = (
+  (λ ne. subst (λ (v : ℕ). IsColumn p (record { agent = i; number = b }) j v) (sym (same j k has)) ((h j k has).0 ne)),
+  (λ e. same j k has ∙ (h j k has).1 e),
+)
+
+-- a row that is joined with them
+pub counts_joined : (p : Program) (columns : Columns) (i b : ℕ) (f : ℕ → ℕ) (old new : List ℕ) → ((j k : ℕ) → HasColumn columns j k → slice_index new k ≡ max (slice_index old k) (f k)) → AreCounts p columns i b f
+    → AreJoinedWith p columns i b old new
+counts_joined p columns i b f old new joined h j k has = (
+  (λ ne. (f k, (h j k has).0 ne, joined j k has)),
+  (λ e. (let z : f k ≡ 0 = (h j k has).1 e in joined j k has ∙ ap (max (slice_index old k)) z ∙ max_zero (slice_index old k))),
+)
+  where
+    max_zero : (v : ℕ) → max v 0 ≡ v
+    max_zero v = omega arith
+
+-- ---- the rows that the next join takes
+
+module _ (p : Program) (range : AreInRange p) (m : SlotRows) (n : ℕ) (rows : AreRowsTo p m n) (join : Join) (next : IsNextRow m n join) where
+  pub is_join : IsJoin p m.schedule.now.joins.items m.schedule.now.rows.items n join
+  is_join = rows.schedule.joins n join next
+
+  pub next_within : n < length m.schedule.now.joins.items
+  next_within = slice_get_within m.schedule.now.joins.items n join next
+
+  pub base_there : IsThere m n join.base
+  base_there = record { made = is_join.sooner; within = (let l = next_within in omega arith); still = λ some. rows.schedule.still n join join.base next (inl refl) some }
+
+  pub base_stands : StandsThere p m join.base join.action.agent (join.action.number - 1)
+  base_stands = record { agent = is_join.action.agent; last = (let l : join.action.number ≤ moves p join.action.agent = is_join.action.last in omega arith); stands = is_join.base }
+
+  pub taken_there : (k : ℕ) (w : Await) → slice_get (awaits_of p join.action.agent join.action.number) k ≡ Some w → IsThere m n (row_taken m.schedule.now.rows.items join k)
+  taken_there k w at = record {
+    made = (is_join.awaits k w at).0;
+    within = (let l = next_within in omega arith);
+    still = λ some. rows.schedule.still n join (row_taken m.schedule.now.rows.items join k) next (inr (k, slice_get_within (awaits_of p join.action.agent join.action.number) k w at, refl)) some;
+  }
+
+  pub taken_stands : (k : ℕ) (w : Await) → slice_get (awaits_of p join.action.agent join.action.number) k ≡ Some w → StandsThere p m (row_taken m.schedule.now.rows.items join k) w.agent w.count
+  taken_stands k w at =
+      let is = awaited_action p range join.action.agent join.action.number k w at in
+      record { agent = is.agent; last = is.last; stands = (is_join.awaits k w at).1 }
+
+  -- by the place of the await alone
+  pub await_at : (k : ℕ) → k < length (awaits_of p join.action.agent join.action.number) → (w : Await) × (slice_get (awaits_of p join.action.agent join.action.number) k ≡ Some w)
+  await_at k l = (get_or (awaits_of p join.action.agent join.action.number) k (record { agent = 0; count = 0 }), slice_get-get_or (awaits_of p join.action.agent join.action.number) k (record { agent = 0; count = 0 }) l)
+
+  pub number_on : join.action.number - 1 + 1 ≡ join.action.number
+  number_on = (let f : 1 ≤ join.action.number = is_join.action.first in omega arith)
+
+-- ---- the row of an action, await by await
+
+-- the part of the first k awaits
+abbrev pub AreOthersTo : Program → Columns → ℕ → ℕ → ℕ → List ℕ → Type 0
+AreOthersTo p columns i b k row = (j m : ℕ) → HasColumn columns j m → j ≢ i → IsJoined (OfOthers j k) p i b j (slice_index row m)
+
+module _ (p : Program) (columns : Columns) (i b : ℕ) where
+  pub others_first : (row : List ℕ) → AreCounts p columns i b (slice_index row) → AreOthersTo p columns i b 0 row
+  others_first row h j m has ne = joined_none p i b j (OfOthers j 0) (slice_index row m) (λ k w t. (let l : k < 0 = t.0 in omega arith)) ((h j m has).0 ne)
+
+  pub others_next : (k : ℕ) (w : Await) → slice_get (awaits_of p i (b + 1)) k ≡ Some w → (old new : List ℕ) → AreJoinedWith p columns w.agent w.count old new → AreOthersTo p columns i b k old
+      → AreOthersTo p columns i b (k + 1) new
+  others_next k w at old new joined h j m has ne = elim (cases_eq w.agent j) [
+    | inl e ↦ subst (IsJoined (OfOthers j (k + 1)) p i b j) (sym ((joined j m has).1 (sym e))) (others_same p i b j (slice_index old m) k w (h j m has ne) at e)
+    | inr apart ↦
+        let made = (joined j m has).0 (λ e. apart (sym e)) in
+        subst (IsJoined (OfOthers j (k + 1)) p i b j) (sym made.2) (others_more p i b j (slice_index old m) k w made.0 (h j m has ne) at apart made.1)
+  ]
+
+-- .. and then of the awaited agents' own columns
+abbrev pub AreOwnTo : Program → Columns → ℕ → ℕ → ℕ → List ℕ → Type 0
+AreOwnTo p columns i b k row = (j m : ℕ) → HasColumn columns j m → j ≢ i → IsJoined (OfOthersOrFirst j k) p i b j (slice_index row m)
+
+module _ (p : Program) (columns : Columns) (i b : ℕ) where
+  pub own_first : (row : List ℕ) → AreOthersTo p columns i b (length (awaits_of p i (b + 1))) row → AreOwnTo p columns i b 0 row
+  own_first row h j m has ne = first_none p i b j (slice_index row m) (h j m has ne)
+
+  pub own_next : (own : AreOwn p) (k : ℕ) (w : Await) → slice_get (awaits_of p i (b + 1)) k ≡ Some w → IsAction p (awaited w) → (old new : List ℕ)
+      → ((m : ℕ) → HasColumn columns w.agent m → slice_index new m ≡ max (slice_index old m) w.count) → ((j m : ℕ) → j ≢ w.agent → HasColumn columns j m → slice_index new m ≡ slice_index old m)
+      → AreOwnTo p columns i b k old → AreOwnTo p columns i b (k + 1) new
+  own_next own k w at is old new here others h j m has ne = elim (cases_eq w.agent j) [
+    | inl e ↦
+        let col : IsColumn p (awaited w) j w.count = subst (λ (x : ℕ). IsColumn p (awaited w) x w.count) e (own_column p w.agent w.count is (λ c r. own (awaited w) c is r)) in
+        subst (IsJoined (OfOthersOrFirst j (k + 1)) p i b j) (sym (here m (subst (λ (x : ℕ). HasColumn columns x m) (sym e) has))) (first_more p i b j (slice_index old m) k w w.count (h j m has ne) at col)
+    | inr apart ↦ subst (IsJoined (OfOthersOrFirst j (k + 1)) p i b j) (sym (others j m (λ e. apart (sym e)) has)) (first_same p i b j (slice_index old m) k w (h j m has ne) at apart)
+  ]
+
+  pub own_last : (row new : List ℕ) → IsAction p (record { agent = i; number = b + 1 }) → AreOwnTo p columns i b (length (awaits_of p i (b + 1))) row
+      → ((m : ℕ) → HasColumn columns i m → slice_index new m ≡ 0) → ((j m : ℕ) → j ≢ i → HasColumn columns j m → slice_index new m ≡ slice_index row m) → AreCounts p columns i (b + 1) (slice_index new)
+  own_last row new is h here others j m has = (
+    (λ ne. subst (λ (v : ℕ). IsColumn p (record { agent = i; number = b + 1 }) j v) (sym (others j m ne has)) (part_all p i b j (slice_index row m) is ne (first_all p i b j (slice_index row m) (h j m has ne)))),
+    (λ e. here m (subst (λ (x : ℕ). HasColumn columns x m) e has)),
+  )
+
+-- ---- one row more in its slot
+
+module _ (p : Program) (new : SlotRows) (n : ℕ) (was : ℕ → ℕ → ℕ) (row : List ℕ) (schedule : IsSchedule p new.schedule.now) (columns : AreColumnsOf p new.columns)
+    (room : length new.counts.items ≡ new.schedule.now.slots * new.columns.width)
+    (right : (r : ℕ) (j : Join) → 1 ≤ r → r ≤ n → slice_get new.schedule.now.joins.items (r - 1) ≡ Some j → IsStill new.schedule.now.outs.items r n
+    → AreCounts p new.columns j.action.agent j.action.number (was (slice_index new.schedule.now.outs.items (r - 1))))
+    (others : (t k : ℕ) → t ≢ slice_index new.schedule.now.outs.items n → k < new.columns.width → slice_index new.counts.items (t * new.columns.width + k) ≡ was t k)
+    (here : (k : ℕ) → k < new.columns.width → slice_index new.counts.items (slice_index new.schedule.now.outs.items n * new.columns.width + k) ≡ slice_index row k)
+    (made : (j : Join) → slice_get new.schedule.now.joins.items n ≡ Some j → AreCounts p new.columns j.action.agent j.action.number (slice_index row)) where
+  still_right : (r : ℕ) (j : Join) → 1 ≤ r → r ≤ n + 1 → slice_get new.schedule.now.joins.items (r - 1) ≡ Some j → IsStill new.schedule.now.outs.items r (n + 1)
+      → AreCounts p new.columns j.action.agent j.action.number (count_in_slot new r)
+  still_right r j some upto at still = elim (cases_lt n r) [
+    | inl newest ↦
+        let e : r - 1 ≡ n = omega arith in
+        counts_same p new.columns j.action.agent j.action.number (slice_index row) (count_in_slot new r)
+        (λ i k has. ap (λ (x : ℕ). slice_index new.counts.items (slice_index new.schedule.now.outs.items x * new.columns.width + k)) e ∙ here k (columns.within i k has))
+        (made j (sym (ap (slice_get new.schedule.now.joins.items) e) ∙ at))
+    | inr old ↦
+        counts_same p new.columns j.action.agent j.action.number (was (slice_index new.schedule.now.outs.items (r - 1))) (count_in_slot new r)
+        (λ i k has. others (slice_index new.schedule.now.outs.items (r - 1)) k (λ e. still n old (omega arith) (sym e)) (columns.within i k has))
+        (right r j some old at (λ m from l. still m from (omega arith)))
+  ]
+
+  pub rows_more : AreRowsTo p new (n + 1)
+  rows_more = record { schedule = schedule; columns = columns; room = room; right = still_right }
+
+-- before the first row
+pub rows_none : (p : Program) (m : SlotRows) → IsSchedule p m.schedule.now → AreColumnsOf p m.columns → length m.counts.items ≡ m.schedule.now.slots * m.columns.width → AreRowsTo p m 0
+rows_none p m schedule columns room = record { schedule = schedule; columns = columns; room = room; right = λ r j some upto at still. absurd (omega arith) }

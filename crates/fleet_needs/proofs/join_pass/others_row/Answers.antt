@@ -1,0 +1,52 @@
+use Rattle.std.proofs.Common.{◌≡◌, ◌+◌, ◌-◌, ◌<◌, ℕ, length, slice_index, sym, subst, ap, ◌∙◌, arith}
+use Rattle.std.specs.Prelude.{slice_get, Some}
+use Rattle.fleet_model.specs.Program.{awaits_of}
+use Rattle.fleet_needs.specs.Joins.{row_taken}
+use Rattle.fleet_needs.specs.Schedule.{IsThere, StandsThere}
+use Rattle.fleet_needs.proofs.Counting.{count_read}
+use Rattle.fleet_needs.proofs.RowsMade.{AreOthersTo, is_join, base_stands, taken_there, taken_stands, await_at, number_on, others_first, others_next}
+use Rattle.fleet_needs.proofs.join_pass.others_row.Goals as goal
+
+pub loop-k-init : goal.loop-k-init
+loop-k-init g c =
+    let p = g.P.ProgramView.program c.args.program.now in
+    let a = c.args.join.now.action in
+    others_first p c.args.rows.now.columns a.agent (a.number - 1) c.begin_row.new.row
+    (c.begin_row.ensures a.agent (a.number - 1) (base_stands p c.requires.range c.args.rows.now c.args.n c.requires.rows c.args.join.now c.requires.next))
+
+pub join_row-requires-clause-there : goal.join_row-requires-clause-there
+join_row-requires-clause-there g c =
+    let p = g.P.ProgramView.program c.args.program.now in
+    let m = c.args.rows.now in
+    let join = c.args.join.now in
+    let is = is_join p c.requires.range m c.args.n c.requires.rows join c.requires.next in
+    let l : c.loop-k.k < length (awaits_of p join.action.agent join.action.number) = omega (arith, c.loop-k-test.true, c.await_count-k-end.ensures) in
+    let w = await_at p c.requires.range m c.args.n c.requires.rows join c.requires.next c.loop-k.k l in
+    let read : c.index-taken.result.now ≡ row_taken m.schedule.now.rows.items join c.loop-k.k =
+    count_read m.schedule.now.rows.items (join.first + c.from.result) (join.first + c.loop-k.k) c.index-taken.result.now (omega (arith, c.from.ensures)) (omega (arith, l, is.within)) c.index-taken.ensures in
+    subst (IsThere m c.args.n) (sym read) (taken_there p c.requires.range m c.args.n c.requires.rows join c.requires.next c.loop-k.k w.0 w.1)
+
+pub loop-k-preserved : goal.loop-k-preserved
+loop-k-preserved g c =
+    let p = g.P.ProgramView.program c.args.program.now in
+    let m = c.args.rows.now in
+    let join = c.args.join.now in
+    let a = join.action in
+    let is = is_join p c.requires.range m c.args.n c.requires.rows join c.requires.next in
+    let l : c.loop-k.k < length (awaits_of p join.action.agent join.action.number) = omega (arith, c.loop-k-test.true, c.await_count-k-end.ensures) in
+    let w = await_at p c.requires.range m c.args.n c.requires.rows join c.requires.next c.loop-k.k l in
+    let read : c.index-taken.result.now ≡ row_taken m.schedule.now.rows.items join c.loop-k.k =
+    count_read m.schedule.now.rows.items (join.first + c.from.result) (join.first + c.loop-k.k) c.index-taken.result.now (omega (arith, c.from.ensures)) (omega (arith, l, is.within)) c.index-taken.ensures in
+    let f : a.number - 1 + 1 ≡ a.number = number_on p c.requires.range m c.args.n c.requires.rows join c.requires.next in
+    others_next p m.columns a.agent (a.number - 1) c.loop-k.k w.0 (subst (λ (n : ℕ). slice_get (awaits_of p a.agent n) c.loop-k.k ≡ Some w.0) (sym f) w.1) c.loop-k.row c.join_row.new.row
+    (c.join_row.ensures w.0.agent w.0.count (subst (λ (r : ℕ). StandsThere p m r w.0.agent w.0.count) (sym read) (taken_stands p c.requires.range m c.args.n c.requires.rows join c.requires.next c.loop-k.k w.0 w.1)))
+    c.loop-k.invariant
+
+pub returns : goal.returns
+returns g c =
+    let p = g.P.ProgramView.program c.args.program.now in
+    let m = c.args.rows.now in
+    let a = c.args.join.now.action in
+    let f : a.number - 1 + 1 ≡ a.number = number_on p c.requires.range m c.args.n c.requires.rows c.args.join.now c.requires.next in
+    let whole : c.loop-k.k ≡ length (awaits_of p a.agent a.number) = omega (arith, c.loop-k-test.false, c.await_count-k-end.ensures, c.loop-k.auto.k-end) in
+    subst (λ (n : ℕ). AreOthersTo p m.columns a.agent (a.number - 1) n c.loop-k.row) (whole ∙ ap (λ (n : ℕ). length (awaits_of p a.agent n)) (sym f)) c.loop-k.invariant

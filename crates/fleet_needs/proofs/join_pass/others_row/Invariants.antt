@@ -1,0 +1,6 @@
+use Rattle.std.proofs.Common.{◌-◌}
+use Rattle.fleet_needs.proofs.RowsMade.{AreOthersTo}
+use Rattle.fleet_needs.proofs.join_pass.others_row.Given as goal
+
+abbrev pub invariant-loop-k : goal.invariant-loop-k
+invariant-loop-k g l = AreOthersTo (g.P.ProgramView.program l.program) l.rows.columns l.join.action.agent (l.join.action.number - 1) l.k l.row

@@ -1,0 +1,10 @@
+use Rattle.std.proofs.Common.{slice_index}
+use Rattle.fleet_needs.specs.Order.{after_place, IsCounted, AreMid}
+use Rattle.fleet_needs.specs.Joins.{AreJoinsOf}
+use Rattle.fleet_needs.proofs.joins.join_tick.Given as goal
+
+abbrev pub invariant-loop-k : goal.invariant-loop-k
+invariant-loop-k g l = record {
+  counts : AreMid (g.P.ProgramView.program l.program) l.ticks (after_place l.order.agents.items (slice_index l.order.ends.items l.ticks) l.k) l.counts;
+  joins : AreJoinsOf (g.P.ProgramView.program l.program) l.places (IsCounted l.counts) l.joins;
+}

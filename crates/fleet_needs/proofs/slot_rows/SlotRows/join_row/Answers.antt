@@ -1,0 +1,19 @@
+use Rattle.std.proofs.Common.{◌≤◌, ◌<◌, ℕ, length, refl, arith}
+use Rattle.std.specs.Prelude.{slice_index}
+use Rattle.fleet_needs.specs.Schedule.{count_in_slot}
+use Rattle.fleet_needs.proofs.RowsMade.{counts_none, counts_some, counts_joined}
+use Rattle.fleet_needs.proofs.slot_rows.SlotRows.join_row.Goals as goal
+
+pub returns-then-r-eq0 : goal.returns-then-r-eq0
+returns-then-r-eq0 g c = λ i m s.
+    let p = g.P.ProgramView.program c.args.program.now in
+    counts_joined p c.args.self.now.columns i m (λ k. 0) c.args.row.now c.args.row.now (λ j k has. omega arith)
+    (counts_none p c.args.self.now c.args.n c.requires.rows c.args.r i m s c.if-r-eq0.true (λ k. 0) (λ k. refl))
+
+pub returns : goal.returns
+returns g c = λ i m s.
+    let p = g.P.ProgramView.program c.args.program.now in
+    let some : 1 ≤ c.args.r = omega (arith, c.if-r-eq0.false) in
+    counts_joined p c.args.self.now.columns i m (count_in_slot c.args.self.now c.args.r) c.args.row.now c.join_into.new.row
+    (λ j k has. (let l = c.requires.rows.columns.within j k has in c.join_into.ensures k (omega (arith, l, c.requires.width))))
+    (counts_some p c.args.self.now c.args.n c.requires.rows c.args.r i m s some c.requires.there)

@@ -1,0 +1,132 @@
+-- Rows that are made, and the rows that they are joined of.
+use Rattle.std.specs.Prelude.{◌≡◌, ◌≢◌, ℕ, ◌+◌, ◌-◌, ◌<◌, ◌≤◌, ◌⊎◌, List, [], length, slice_index, slice_get, Some}
+use Rattle.fleet_model.specs.declared.program.Await.{Await}
+use Rattle.fleet_model.specs.declared.program.ActionId.{ActionId}
+use Rattle.fleet_model.specs.Program.{Program, awaits_of, total_moves}
+use Rattle.fleet_model.specs.Chain.{IsAction, Reaches, awaited}
+use Rattle.fleet_needs.specs.Places.{ArePlacesOf, place_of_action}
+use Rattle.fleet_needs.specs.Takers.{AreRaised}
+use Rattle.fleet_needs.specs.declared.action_places.ActionPlaces.{ActionPlaces}
+use Rattle.fleet_needs.specs.declared.joins.Join.{Join}
+use Rattle.fleet_needs.specs.declared.joins.Joins.{Joins}
+
+-- agent i awaits nothing after its action q, up to action n
+abbrev pub AreQuiet : Program → ℕ → ℕ → ℕ → Type 0
+AreQuiet p i q n = (m : ℕ) → q < m → m ≤ n → awaits_of p i m ≡ []
+
+-- row r is that of the action
+pub record IsRow (joins : List Join) (r : ℕ) (a : ActionId) : Type 0 where
+  pub join : Join
+  pub some : 1 ≤ r
+  pub at : slice_get joins (r - 1) ≡ Some join
+  pub of : join.action ≡ a
+
+-- row r stands for action n of agent i: it is that of the agent's last action up to there that awaits something, or none
+-- does, and r is 0
+pub record StandsFor (p : Program) (joins : List Join) (r i n : ℕ) : Type 0 where
+  pub number : ℕ
+  pub upto : number ≤ n
+  pub quiet : AreQuiet p i number n
+  pub row : ((r ≡ 0) × (number ≡ 0)) ⊎ IsRow joins r (record { agent = i; number = number })
+
+-- the row that await k of the join takes
+abbrev pub row_taken : List ℕ → Join → ℕ → ℕ
+row_taken rows j k = slice_index rows (j.first + k)
+
+-- the join after n others: it is of rows that were made before, which stand for all that its action directly needs
+pub record IsJoin (p : Program) (joins : List Join) (rows : List ℕ) (n : ℕ) (j : Join) : Type 0 where
+  pub action : IsAction p j.action
+  pub base : StandsFor p joins j.base j.action.agent (j.action.number - 1)
+  pub sooner : j.base ≤ n
+  pub within : j.first + length (awaits_of p j.action.agent j.action.number) ≤ length rows
+  pub awaits : (k : ℕ) (w : Await) → slice_get (awaits_of p j.action.agent j.action.number) k ≡ Some w
+      → (row_taken rows j k ≤ n) × StandsFor p joins (row_taken rows j k) w.agent w.count
+
+abbrev pub AreJoins : Program → List Join → List ℕ → Type 0
+AreJoins p joins rows = (n : ℕ) (j : Join) → slice_get joins n ≡ Some j → IsJoin p joins rows n j
+
+-- the join is of row r
+abbrev pub Takes : Program → List ℕ → Join → ℕ → Type 0
+Takes p rows j r = (r ≡ j.base) ⊎ ((k : ℕ) × (k < length (awaits_of p j.action.agent j.action.number)) × (r ≡ row_taken rows j k))
+
+-- no row that is joined of a row comes after the last one
+pub record AreLasts (p : Program) (joins : List Join) (rows lasts : List ℕ) : Type 0 where
+  pub all : length lasts ≡ length joins + 1
+  pub each : (n : ℕ) (j : Join) (r : ℕ) → slice_get joins n ≡ Some j → Takes p rows j r → n + 1 ≤ slice_index lasts r
+
+-- the actions that await something have rows
+abbrev pub HasAllRows : Program → List Join → (ActionId → Type 0) → Type 0
+HasAllRows p joins These = (a : ActionId) → IsAction p a → These a → 1 ≤ length (awaits_of p a.agent a.number) → (r : ℕ) × IsRow joins r a
+
+-- no action needs a later one of its agent
+abbrev pub AreOwn : Program → Type 0
+AreOwn p = (a : ActionId) (c : ℕ) → IsAction p a → Reaches p (record { agent = a.agent; number = c }) a → c ≤ a.number
+
+-- ---- while they are made
+
+-- the row noted for the action
+abbrev pub row_of : ActionPlaces → Joins → ActionId → ℕ
+row_of places m a = slice_index m.standing.items (place_of_action places a)
+
+-- .. stands for it
+pub record IsStanding (p : Program) (places : ActionPlaces) (m : Joins) (a : ActionId) : Type 0 where
+  pub within : row_of places m a ≤ length m.joins.items
+  pub stands : StandsFor p m.joins.items (row_of places m a) a.agent a.number
+
+-- the joins so far are right, and there is room to note a row for each action
+pub record AreSound (p : Program) (places : ActionPlaces) (m : Joins) : Type 0 where
+  pub right : ArePlacesOf p places
+  pub joins : AreJoins p m.joins.items m.rows.items
+  pub lasts : AreLasts p m.joins.items m.rows.items m.lasts.items
+  pub room : length m.standing.items ≡ total_moves p
+
+-- the joins of these actions
+pub record AreJoinsOf (p : Program) (places : ActionPlaces) (These : ActionId → Type 0) (m : Joins) : Type 0 where
+  pub sound : AreSound p places m
+  pub standing : (a : ActionId) → IsAction p a → These a → IsStanding p places m a
+  pub rows : HasAllRows p m.joins.items These
+
+-- the action is the next to have a row: rows stand for all that it directly needs
+pub record CanJoin (p : Program) (places : ActionPlaces) (m : Joins) (a : ActionId) : Type 0 where
+  pub sound : AreSound p places m
+  pub action : IsAction p a
+  pub before : (b : ActionId) → IsAction p b → b.agent ≡ a.agent → b.number + 1 ≡ a.number → IsStanding p places m b
+  pub awaited : (k : ℕ) (w : Await) → slice_get (awaits_of p a.agent a.number) k ≡ Some w → IsAction p (awaited w) × IsStanding p places m (awaited w)
+
+-- the rows that the awaits of the action take have been listed, and no list has lost anything
+pub record AreTaken (p : Program) (places : ActionPlaces) (a : ActionId) (old new : Joins) : Type 0 where
+  pub joins : new.joins ≡ old.joins
+  pub standing : new.standing ≡ old.standing
+  pub all : length new.rows.items ≡ length old.rows.items + length (awaits_of p a.agent a.number)
+  pub kept : (n : ℕ) → n < length old.rows.items → slice_index new.rows.items n ≡ slice_index old.rows.items n
+  pub each : (k : ℕ) (w : Await) → slice_get (awaits_of p a.agent a.number) k ≡ Some w
+      → slice_index new.rows.items (length old.rows.items + k) ≡ row_of places old (awaited w)
+  pub lasts : AreRaised old.lasts.items new.lasts.items
+  pub noted : (k : ℕ) (w : Await) → slice_get (awaits_of p a.agent a.number) k ≡ Some w
+      → length old.joins.items + 1 ≤ slice_index new.lasts.items (row_of places old (awaited w))
+
+-- rows have come, none has gone, and the row r is that of the action or stands for it
+pub record HasJoined (p : Program) (places : ActionPlaces) (a : ActionId) (r : ℕ) (old new : Joins) : Type 0 where
+  pub sound : AreSound p places new
+  pub standing : new.standing ≡ old.standing
+  pub more : length old.joins.items ≤ length new.joins.items
+  pub kept : (x : ActionId) (s : ℕ) → IsRow old.joins.items s x → IsRow new.joins.items s x
+  pub still : (n : ℕ) (j : Join) → slice_get old.joins.items n ≡ Some j → slice_get new.joins.items n ≡ Some j
+  pub within : r ≤ length new.joins.items
+  pub stands : StandsFor p new.joins.items r a.agent a.number
+  pub here : 1 ≤ length (awaits_of p a.agent a.number) → IsRow new.joins.items r a
+
+-- the action has been added: rows have come, and none has gone
+pub record IsAdded (p : Program) (places : ActionPlaces) (a : ActionId) (old new : Joins) : Type 0 where
+  pub sound : AreSound p places new
+  pub kept : (x : ActionId) → IsAction p x → x ≢ a → IsStanding p places old x → IsStanding p places new x
+  pub rows : (x : ActionId) (r : ℕ) → IsRow old.joins.items r x → IsRow new.joins.items r x
+  pub here : IsStanding p places new a
+  pub row : 1 ≤ length (awaits_of p a.agent a.number) → (r : ℕ) × IsRow new.joins.items r a
+
+-- the joins of all actions of the program, in which no action needs a later one of its agent
+pub record AreJoinsEnd (p : Program) (m : Joins) : Type 0 where
+  pub joins : AreJoins p m.joins.items m.rows.items
+  pub lasts : AreLasts p m.joins.items m.rows.items m.lasts.items
+  pub rows : HasAllRows p m.joins.items (IsAction p)
+  pub own : AreOwn p

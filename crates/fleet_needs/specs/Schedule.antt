@@ -1,0 +1,66 @@
+-- A schedule of rows, and the counts of rows in their slots.
+use Rattle.std.specs.Prelude.{◌≡◌, ◌≢◌, ℕ, ◌+◌, ◌-◌, ◌*◌, ◌<◌, ◌≤◌, List, length, max, slice_index, slice_get, Some}
+use Rattle.fleet_model.specs.declared.program.ActionId.{ActionId}
+use Rattle.fleet_model.specs.Program.{Program, awaits_of, moves}
+use Rattle.fleet_model.specs.Chain.{IsAction}
+use Rattle.fleet_needs.specs.Block.{HasColumn}
+use Rattle.fleet_needs.specs.Columns.{agents_in}
+use Rattle.fleet_needs.specs.Joins.{AreJoins, Takes, StandsFor, HasAllRows, AreOwn}
+use Rattle.fleet_needs.specs.Rows.{IsColumn, IsJoined, OfOthers}
+use Rattle.fleet_needs.specs.Slots.{IsStill}
+use Rattle.fleet_needs.specs.declared.columns.Columns.{Columns}
+use Rattle.fleet_needs.specs.declared.joins.Join.{Join}
+use Rattle.fleet_needs.specs.declared.schedule.Schedule.{Schedule}
+use Rattle.fleet_needs.specs.declared.slot_rows.SlotRows.{SlotRows}
+
+-- the rows of a program: each action that awaits something has one, and each row is still in its slot whenever it is
+-- taken
+pub record IsSchedule (p : Program) (s : Schedule) : Type 0 where
+  pub joins : AreJoins p s.joins.items s.rows.items
+  pub rows : HasAllRows p s.joins.items (IsAction p)
+  pub all : length s.outs.items ≡ length s.joins.items
+  pub within : (n : ℕ) → n < length s.outs.items → slice_index s.outs.items n < s.slots
+  pub still : (n : ℕ) (j : Join) (r : ℕ) → slice_get s.joins.items n ≡ Some j → Takes p s.rows.items j r → 1 ≤ r → IsStill s.outs.items r n
+  pub own : AreOwn p
+
+-- the columns are of agents of the program, no two in one
+pub record AreColumnsOf (p : Program) (columns : Columns) : Type 0 where
+  pub agents : agents_in columns ≡ length p
+  pub within : (j k : ℕ) → HasColumn columns j k → k < columns.width
+  pub apart : (i j k : ℕ) → HasColumn columns i k → HasColumn columns j k → i ≡ j
+
+-- the counts, by column, are those of action n of agent i, but 0 in the agent's own column
+abbrev pub AreCounts : Program → Columns → ℕ → ℕ → (ℕ → ℕ) → Type 0
+AreCounts p columns i n count =
+    (j k : ℕ) → HasColumn columns j k → (j ≢ i → IsColumn p (record { agent = i; number = n }) j (count k)) × (j ≡ i → count k ≡ 0)
+
+-- count k of the row in the slot of row r
+abbrev pub count_in_slot : SlotRows → ℕ → ℕ → ℕ
+count_in_slot m r k = slice_index m.counts.items (slice_index m.schedule.now.outs.items (r - 1) * m.columns.width + k)
+
+-- each of the first n rows that is still in its slot is that of its action
+pub record AreRowsTo (p : Program) (m : SlotRows) (n : ℕ) : Type 0 where
+  pub schedule : IsSchedule p m.schedule.now
+  pub columns : AreColumnsOf p m.columns
+  pub room : length m.counts.items ≡ m.schedule.now.slots * m.columns.width
+  pub right : (r : ℕ) (j : Join) → 1 ≤ r → r ≤ n → slice_get m.schedule.now.joins.items (r - 1) ≡ Some j → IsStill m.schedule.now.outs.items r n
+      → AreCounts p m.columns j.action.agent j.action.number (count_in_slot m r)
+
+-- row r can be taken after n rows
+pub record IsThere (m : SlotRows) (n r : ℕ) : Type 0 where
+  pub made : r ≤ n
+  pub within : n ≤ length m.schedule.now.joins.items
+  pub still : 1 ≤ r → IsStill m.schedule.now.outs.items r n
+
+-- row r stands for this action of the program, or for none if the number is 0
+pub record StandsThere (p : Program) (m : SlotRows) (r i n : ℕ) : Type 0 where
+  pub agent : i < length p
+  pub last : n ≤ moves p i
+  pub stands : StandsFor p m.schedule.now.joins.items r i n
+
+-- the row was joined with that of action n of agent i, but for the agent's own column, which is as before
+abbrev pub AreJoinedWith : Program → Columns → ℕ → ℕ → List ℕ → List ℕ → Type 0
+AreJoinedWith p columns i n old new =
+    (j k : ℕ) → HasColumn columns j k
+    → (j ≢ i → (u : ℕ) × IsColumn p (record { agent = i; number = n }) j u × (slice_index new k ≡ max (slice_index old k) u))
+    × (j ≡ i → slice_index new k ≡ slice_index old k)

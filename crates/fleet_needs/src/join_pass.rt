@@ -1,0 +1,177 @@
+//! A pass over the rows of a schedule, in the columns of one block: each is made of rows that are still in their slots,
+//! used, and kept in its own slot.
+
+ghost use Rattle.std.specs.Prelude.{◌≡◌, ◌≢◌, ◌+◌, ◌<◌, ℕ, length, max, slice_index, OnOk};
+ghost use Rattle.fleet_needs.specs.Block.{HasColumn};
+ghost use Rattle.fleet_model.specs.Program.{AreInRange};
+ghost use Rattle.fleet_needs.specs.Schedule.{IsSchedule, AreColumnsOf, AreRowsTo};
+ghost use Rattle.fleet_needs.specs.JoinPass.{IsNextRow, AreOthers, IsRowMade, joins_in};
+
+use crate::columns::Columns;
+use crate::joins::Join;
+use crate::schedule::Schedule;
+use crate::slot_rows::SlotRows;
+use fleet_model::{OutOfMemory, ProgramView};
+use std::alloc::Global;
+
+/// A use of the rows of a block, which come in the order of the schedule.
+pub trait JoinUse {
+    ghost use Rattle.std.specs.Prelude.{ℕ, OnOk, ◌≡◌, ◌+◌, length};
+    ghost use Rattle.fleet_model.specs.Program.{Program};
+    ghost use Rattle.fleet_needs.specs.declared.columns.Columns.{Columns};
+    ghost use Rattle.fleet_needs.specs.declared.schedule.Schedule.{Schedule};
+
+    /// The state of the use once so many rows were used.
+    ghost used: { Program → Schedule → Columns → ℕ → Self → Type 0 };
+
+    /// The part of the state that the rows of a block leave as it was.
+    ghost keeps: { Program → Columns → Self → Self → Type 0 };
+
+    /// Makes the row of the join after n others, and uses it.
+    fn use_join<P: ProgramView>(
+        &mut self,
+        program: &P,
+        rows: &SlotRows<'_>,
+        n: usize,
+        row: &mut [u32],
+    ) -> Result<(), OutOfMemory>
+        requires range { AreInRange (P.program program.now) }
+        requires rows { AreRowsTo (P.program program.now) rows.now n }
+        requires next { n < joins_in rows.now.schedule.now }
+        requires width { length row.old ≡ rows.now.columns.width }
+        requires used { used (P.program program.now) rows.now.schedule.now rows.now.columns
+            n self.old }
+        ensures made { OnOk result (IsRowMade (P.program program.now) rows.now n row.new) }
+        ensures used { OnOk result (used (P.program program.now)
+            rows.now.schedule.now rows.now.columns (n + 1) self.new) }
+        ensures keeps { OnOk result (keeps
+            (P.program program.now) rows.now.columns self.old self.new) };
+
+    /// If no row is used, that part is as it was.
+    ghost same: { (p : Program) (c : Columns) (s : Self) → keeps p c s s };
+
+    /// If some rows leave that part as it was, and then others do, all of them do.
+    ghost joined: { (p : Program) (c : Columns) (s t u : Self)
+        → keeps p c s t → keeps p c t u → keeps p c s u };
+}
+
+/// Makes and uses all rows of the schedule in these columns.
+pub(crate) fn use_joins<P: ProgramView, U: JoinUse>(
+    alloc: Global,
+    program: &P,
+    schedule: &Schedule,
+    columns: Columns,
+    uses: &mut U,
+) -> Result<(), OutOfMemory>
+    requires range { AreInRange (P.program program.now) }
+    requires schedule { IsSchedule (P.program program.now) schedule.now }
+    requires columns { AreColumnsOf (P.program program.now) columns }
+    requires used { U.used (P.program program.now) schedule.now columns 0 uses.old }
+    ensures used { OnOk result (U.used (P.program program.now)
+        schedule.now columns (joins_in schedule.now) uses.new) }
+    ensures keeps { OnOk result (U.keeps (P.program program.now) columns uses.old uses.new) }
+{
+    let mut row = vec![in alloc; 0; usize::from(columns.width)]?;
+    let mut rows = SlotRows::new(alloc, schedule, columns)?;
+    use_all(program, &mut rows, &mut row, uses)
+}
+
+/// Makes, uses and keeps all rows, from the first on.
+fn use_all<P: ProgramView, U: JoinUse>(
+    program: &P,
+    rows: &mut SlotRows<'_>,
+    row: &mut [u32],
+    uses: &mut U,
+) -> Result<(), OutOfMemory>
+    requires range { AreInRange (P.program program.now) }
+    requires rows { AreRowsTo (P.program program.now) rows.old 0 }
+    requires width { length row.old ≡ rows.old.columns.width }
+    requires used { U.used (P.program program.now) rows.old.schedule.now rows.old.columns
+        0 uses.old }
+    ensures used { OnOk result (U.used (P.program program.now) rows.old.schedule.now
+        rows.old.columns (joins_in rows.old.schedule.now) uses.new) }
+    ensures keeps { OnOk result (U.keeps
+        (P.program program.now) rows.old.columns uses.old uses.new) }
+{
+    for n in 0..rows.schedule.joins.len() {
+        uses.use_join(program, rows, n, row)?;
+        rows.keep_row(program, n, row);
+    }
+    Ok(())
+}
+
+/// Makes the row of all that the action of a join directly needs, but for the count of each awaited action's own agent.
+pub(crate) fn others_row<P: ProgramView>(
+    program: &P,
+    rows: &SlotRows<'_>,
+    n: usize,
+    join: &Join,
+    row: &mut [u32],
+)
+    requires range { AreInRange (P.program program.now) }
+    requires rows { AreRowsTo (P.program program.now) rows.now n }
+    requires next { IsNextRow rows.now n join.now }
+    requires width { length row.old ≡ rows.now.columns.width }
+    ensures { AreOthers (P.program program.now) rows.now.columns join.now.action row.new }
+{
+    let _ = program.agents();
+    rows.begin_row(program, n, join.base, row);
+    for k in 0..program.await_count(join.action.agent, join.action.number) {
+        let taken = rows.schedule.rows[join.first + usize::from(k)];
+        rows.join_row(program, n, taken, row);
+    }
+}
+
+/// Makes the row that `others_row` leaves the row of the join's action.
+pub(crate) fn whole_row<P: ProgramView>(
+    program: &P,
+    rows: &SlotRows<'_>,
+    n: usize,
+    join: &Join,
+    row: &mut [u32],
+)
+    requires range { AreInRange (P.program program.now) }
+    requires rows { AreRowsTo (P.program program.now) rows.now n }
+    requires next { IsNextRow rows.now n join.now }
+    requires width { length row.old ≡ rows.now.columns.width }
+    requires others { AreOthers
+        (P.program program.now) rows.now.columns join.now.action row.old }
+    ensures { IsRowMade (P.program program.now) rows.now n row.new }
+{
+    let _ = program.agents();
+    for k in 0..program.await_count(join.action.agent, join.action.number) {
+        let awaited = program.await_at(join.action.agent, join.action.number, k);
+        raise_own(&rows.columns, row, awaited.agent, awaited.count);
+    }
+    set_own(&rows.columns, row, join.action.agent, 0);
+}
+
+/// Raises the count in the agent's own column, if it has one, to the number of an action.
+fn raise_own(columns: &Columns, row: &mut [u32], agent: u16, number: u32)
+    requires agent { agent < length columns.now.of_agent.items }
+    requires within { (j k : ℕ) → HasColumn columns.now j k → k < length row.old }
+    requires apart { (i j k : ℕ) → HasColumn columns.now i k → HasColumn columns.now j k → i ≡ j }
+    ensures own { (k : ℕ) → HasColumn columns.now agent k
+        → slice_index row.new k ≡ max (slice_index row.old k) number }
+    ensures others { (j k : ℕ) → j ≢ agent → HasColumn columns.now j k
+        → slice_index row.new k ≡ slice_index row.old k }
+{
+    if let Some(k) = columns.of(agent) {
+        let k = usize::from(k);
+        row[k] = row[k].max(number);
+    }
+}
+
+/// Sets the count in the agent's own column, if it has one.
+fn set_own(columns: &Columns, row: &mut [u32], agent: u16, count: u32)
+    requires agent { agent < length columns.now.of_agent.items }
+    requires within { (j k : ℕ) → HasColumn columns.now j k → k < length row.old }
+    requires apart { (i j k : ℕ) → HasColumn columns.now i k → HasColumn columns.now j k → i ≡ j }
+    ensures own { (k : ℕ) → HasColumn columns.now agent k → slice_index row.new k ≡ count }
+    ensures others { (j k : ℕ) → j ≢ agent → HasColumn columns.now j k
+        → slice_index row.new k ≡ slice_index row.old k }
+{
+    if let Some(k) = columns.of(agent) {
+        row[usize::from(k)] = count;
+    }
+}

@@ -1,0 +1,304 @@
+//! Which rows are made, and of which rows each is joined: one for each action that awaits something. The row of an
+//! action that awaits nothing is that of its agent's action before.
+
+ghost use Rattle.std.specs.Prelude.{◌≡◌, ◌+◌, ◌-◌, ◌<◌, ◌≤◌, [], length, slice_index, set, IfOk, OnOk};
+ghost use Rattle.fleet_model.specs.Program.{AreInRange, total_moves};
+ghost use Rattle.fleet_model.specs.Machine.{IsFinish};
+ghost use Rattle.fleet_model.specs.Chain.{IsAction};
+ghost use Rattle.fleet_needs.specs.Places.{ArePlacesOf, place_of_action};
+ghost use Rattle.fleet_needs.specs.Order.{IsOrder, IsNextReady, AreMid, after_place, IsCounted};
+ghost use Rattle.fleet_needs.specs.Joins.{StandsFor, AreJoinsOf, AreJoinsEnd, CanJoin, AreTaken, HasJoined, IsAdded};
+ghost use Rattle.fleet_needs.specs.Takers.{AreRaised};
+
+use crate::action_places::ActionPlaces;
+use crate::finish_order::FinishOrder;
+use fleet_model::{ActionId, OutOfMemory, ProgramView, total_moves};
+use std::alloc::Global;
+
+/// A row that is made: that of an action, joined of the row that stands for the agent's action before and of those that
+/// its awaits take. Rows count from 1, in the order in which they are made; 0 stands for no row.
+#[derive(Clone, Copy)]
+pub(crate) struct Join {
+    pub(crate) action: ActionId,
+    pub(crate) base: u32,
+    /// Where the rows that its awaits take begin in the list of all joins.
+    pub(crate) first: usize,
+}
+
+/// The joins of a program so far, in the order in which their actions finish.
+#[derive(Drop)]
+pub(crate) struct Joins {
+    pub(crate) joins: Vec<Join>,
+    /// For each await of the joins the row that it takes.
+    pub(crate) rows: Vec<u32>,
+    /// For each row, from 0 on, the last row that is joined of it, or 0.
+    pub(crate) lasts: Vec<u32>,
+    /// For each action, by its place, the row that stands for it.
+    standing: Vec<u32>,
+}
+
+/// The joins of a program that so many ticks finish.
+pub(crate) fn joins_of<P: ProgramView>(
+    alloc: Global,
+    program: &P,
+    places: &ActionPlaces,
+    order: &FinishOrder,
+    ticks: u32,
+) -> Result<Joins, OutOfMemory>
+    requires range { AreInRange (P.program program.now) }
+    requires places { ArePlacesOf (P.program program.now) places.now }
+    requires order { IsOrder (P.program program.now) order.now }
+    requires ends { length order.now.ends.items ≡ ticks + 1 }
+    requires finish { IsFinish (P.program program.now) [] ticks }
+    ensures { IfOk result (AreJoinsEnd (P.program program.now)) }
+{
+    let mut joins = Joins::new(alloc, total_moves(program) as usize)?;
+    let mut counts = vec![in alloc; 0; usize::from(program.agents())]?;
+    for t in 0..ticks {
+        join_tick(program, places, order, t, &mut counts, &mut joins)?;
+    }
+    Ok(joins)
+}
+
+/// Adds the actions that the tick after so many finishes.
+fn join_tick<P: ProgramView>(
+    program: &P,
+    places: &ActionPlaces,
+    order: &FinishOrder,
+    ticks: u32,
+    counts: &mut [u32],
+    joins: &mut Joins,
+) -> Result<(), OutOfMemory>
+    requires range { AreInRange (P.program program.now) }
+    requires order { IsOrder (P.program program.now) order.now }
+    requires tick { ticks + 1 < length order.now.ends.items }
+    requires counts { AreMid (P.program program.now) ticks 0 counts.old }
+    requires joins { AreJoinsOf (P.program program.now) places.now (IsCounted counts.old) joins.old }
+    ensures counts { OnOk result (AreMid (P.program program.now) (ticks + 1) 0 counts.new) }
+    ensures joins { OnOk result (AreJoinsOf
+        (P.program program.now) places.now (IsCounted counts.new) joins.new) }
+{
+    let _ = program.agents();
+    for k in order.begin(ticks as usize)..order.begin(ticks as usize + 1) {
+        let action = action_at(program, order, ticks, counts, k);
+        joins.add_action(program, places, action)?;
+        counts[usize::from(action.agent)] = action.number;
+    }
+    Ok(())
+}
+
+/// The action that stands at a place of the order, the next one of its agent, which the tick after so many finishes.
+fn action_at<P: ProgramView>(
+    program: &P,
+    order: &FinishOrder,
+    ticks: u32,
+    counts: &[u32],
+    k: usize,
+) -> ActionId
+    requires order { IsOrder (P.program program.now) order.now }
+    requires tick { ticks + 1 < length order.now.ends.items }
+    requires begin { slice_index order.now.ends.items ticks ≤ k }
+    requires end { k < slice_index order.now.ends.items (ticks + 1) }
+    requires counts { AreMid (P.program program.now) ticks
+        (after_place order.now.agents.items (slice_index order.now.ends.items ticks) k)
+        counts.now }
+    ensures agent { result.agent ≡ slice_index order.now.agents.items k }
+    ensures ready { IsNextReady (P.program program.now) ticks
+        (after_place order.now.agents.items (slice_index order.now.ends.items ticks) k)
+        result.agent }
+    ensures number { result.number ≡ slice_index counts.now result.agent + 1 }
+{
+    let _ = program.agents();
+    let agent = order.agent(k);
+    let number = counts[usize::from(agent)] + 1;
+    ActionId { agent, number }
+}
+
+impl Joins {
+    /// No joins yet, of so many actions.
+    fn new(alloc: Global, actions: usize) -> Result<Joins, OutOfMemory>
+        ensures joins { IfOk result (λ m. m.joins.items ≡ []) }
+        ensures lasts { IfOk result (λ m. length m.lasts.items ≡ 1) }
+        ensures standing { IfOk result (λ m. length m.standing.items ≡ actions) }
+    {
+        Ok(Joins {
+            joins: Vec::new(alloc),
+            rows: Vec::new(alloc),
+            lasts: vec![in alloc; 0; 1]?,
+            standing: vec![in alloc; 0; actions]?,
+        })
+    }
+
+    /// The rows that the awaits of the join after n others take.
+    pub(crate) fn rows_taken(&self, n: usize) -> &[u32] {
+        let from = self.first_taken(n);
+        let end = self.first_taken(n.saturating_add(1));
+        if from < end {
+            &self.rows[from..end]
+        } else {
+            &[]
+        }
+    }
+
+    /// Where the rows that the join after n others takes begin, or where those of all joins end.
+    fn first_taken(&self, n: usize) -> usize
+        ensures { result ≤ length self.now.rows.items }
+    {
+        match self.joins.get(n) {
+            Some(join) => join.first.min(self.rows.len()),
+            None => self.rows.len(),
+        }
+    }
+
+    /// Adds the next action that finishes, with a row if it awaits something.
+    fn add_action<P: ProgramView>(
+        &mut self,
+        program: &P,
+        places: &ActionPlaces,
+        action: ActionId,
+    ) -> Result<(), OutOfMemory>
+        requires range { AreInRange (P.program program.now) }
+        requires can { CanJoin (P.program program.now) places.now self.old action }
+        ensures { OnOk result (IsAdded
+            (P.program program.now) places.now action self.old self.new) }
+    {
+        let base = self.row_before(program, places, action);
+        let row = self.join(program, places, action, base)?;
+        self.note(program, places, action, row);
+        Ok(())
+    }
+
+    /// Adds a row for the action, if it awaits something, and answers which row stands for it.
+    fn join<P: ProgramView>(
+        &mut self,
+        program: &P,
+        places: &ActionPlaces,
+        action: ActionId,
+        base: u32,
+    ) -> Result<u32, OutOfMemory>
+        requires range { AreInRange (P.program program.now) }
+        requires can { CanJoin (P.program program.now) places.now self.old action }
+        requires within { base ≤ length self.old.joins.items }
+        requires stands { StandsFor (P.program program.now) self.old.joins.items
+            base action.agent (action.number - 1) }
+        ensures { IfOk result (λ row. HasJoined
+            (P.program program.now) places.now action row self.old self.new) }
+    {
+        let awaits = program.await_count(action.agent, action.number);
+        if awaits == 0 {
+            return Ok(base);
+        }
+        self.add_join(program, places, action, base)
+    }
+
+    /// The row that stands for the agent's action before this one.
+    fn row_before<P: ProgramView>(
+        &self,
+        program: &P,
+        places: &ActionPlaces,
+        action: ActionId,
+    ) -> u32
+        requires can { CanJoin (P.program program.now) places.now self.now action }
+        ensures within { result ≤ length self.now.joins.items }
+        ensures stands { StandsFor (P.program program.now) self.now.joins.items
+            result action.agent (action.number - 1) }
+    {
+        let _ = program.agents();
+        let is_first = action.number <= 1;
+        if is_first {
+            return 0;
+        }
+        self.standing[places.place(action.agent, action.number - 1)]
+    }
+
+    /// Adds a row for an action that awaits something, after the row that stands for the agent's action before, and
+    /// answers which it is.
+    fn add_join<P: ProgramView>(
+        &mut self,
+        program: &P,
+        places: &ActionPlaces,
+        action: ActionId,
+        base: u32,
+    ) -> Result<u32, OutOfMemory>
+        requires range { AreInRange (P.program program.now) }
+        requires can { CanJoin (P.program program.now) places.now self.old action }
+        requires within { base ≤ length self.old.joins.items }
+        requires stands { StandsFor (P.program program.now) self.old.joins.items
+            base action.agent (action.number - 1) }
+        ensures { IfOk result (λ row. HasJoined
+            (P.program program.now) places.now action row self.old self.new) }
+    {
+        let row = self.joins.len() + 1;
+        if row > u32::MAX as usize {
+            return Err(OutOfMemory);
+        }
+        let first = self.rows.len();
+        self.take_awaited(program, places, action, row as u32)?;
+        self.raise(base, row as u32);
+        self.lasts.push(0)?;
+        self.joins.push(Join {
+            action,
+            base,
+            first,
+        })?;
+        Ok(row as u32)
+    }
+
+    /// Lists the rows that the awaits of the action take, for the row that is next.
+    fn take_awaited<P: ProgramView>(
+        &mut self,
+        program: &P,
+        places: &ActionPlaces,
+        action: ActionId,
+        row: u32,
+    ) -> Result<(), OutOfMemory>
+        requires range { AreInRange (P.program program.now) }
+        requires can { CanJoin (P.program program.now) places.now self.old action }
+        requires row { row ≡ length self.old.joins.items + 1 }
+        ensures { OnOk result (AreTaken
+            (P.program program.now) places.now action self.old self.new) }
+    {
+        let _ = program.agents();
+        for k in 0..program.await_count(action.agent, action.number) {
+            let awaited = program.await_at(action.agent, action.number, k);
+            let taken = self.standing[places.place(awaited.agent, awaited.count)];
+            self.rows.push(taken)?;
+            self.raise(taken, row);
+        }
+        Ok(())
+    }
+
+    /// Notes that this row is joined of the taken one.
+    fn raise(&mut self, taken: u32, row: u32)
+        requires { taken < length self.old.lasts.items }
+        ensures joins { self.new.joins ≡ self.old.joins }
+        ensures rows { self.new.rows ≡ self.old.rows }
+        ensures standing { self.new.standing ≡ self.old.standing }
+        ensures raised { AreRaised self.old.lasts.items self.new.lasts.items }
+        ensures noted { row ≤ slice_index self.new.lasts.items taken }
+    {
+        let last = self.lasts[taken as usize];
+        self.lasts[taken as usize] = last.max(row);
+    }
+
+    /// Notes the row that stands for the action.
+    fn note<P: ProgramView>(
+        &mut self,
+        program: &P,
+        places: &ActionPlaces,
+        action: ActionId,
+        row: u32,
+    )
+        requires room { length self.old.standing.items ≡ total_moves (P.program program.now) }
+        requires places { ArePlacesOf (P.program program.now) places.now }
+        requires action { IsAction (P.program program.now) action }
+        ensures joins { self.new.joins ≡ self.old.joins }
+        ensures rows { self.new.rows ≡ self.old.rows }
+        ensures lasts { self.new.lasts ≡ self.old.lasts }
+        ensures noted { self.new.standing.items ≡ set
+            self.old.standing.items (place_of_action places.now action) row }
+    {
+        let _ = program.agents();
+        self.standing[places.place(action.agent, action.number)] = row;
+    }
+}

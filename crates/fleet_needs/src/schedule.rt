@@ -1,0 +1,69 @@
+//! A schedule of rows, made once for all blocks of columns: which rows are made, in which order, of which rows each is
+//! joined, and the slot in which it is kept.
+
+ghost use Rattle.std.specs.Prelude.{◌≤◌, [], IfOk};
+ghost use Rattle.fleet_model.specs.declared.limits.TheConstants.{MAX_AGENTS};
+ghost use Rattle.fleet_model.specs.Program.{AreInRange};
+ghost use Rattle.fleet_model.specs.Machine.{IsFinish};
+ghost use Rattle.fleet_needs.specs.Schedule.{IsSchedule};
+
+use crate::action_places::ActionPlaces;
+use crate::finish_order::FinishOrder;
+use crate::joins::{Join, joins_of};
+use crate::slots::slots_of;
+use fleet_model::{MAX_AGENTS, OutOfMemory, ProgramView};
+use std::alloc::Global;
+
+/// There is room for so many counts of rows at once: 4 MB.
+const COUNTS: u32 = 1_048_576;
+
+/// The least number of columns of a block.
+const LEAST_COLUMNS: u32 = 8;
+
+/// The rows of a program: those of the actions that await something, in the order in which they finish if nobody is
+/// held.
+#[derive(Drop)]
+pub struct Schedule {
+    pub(crate) joins: Vec<Join>,
+    /// For each await of the joins the row that it takes.
+    pub(crate) rows: Vec<u32>,
+    /// For each row, from row 1 on, its slot.
+    pub(crate) outs: Vec<u32>,
+    /// How many slots there are.
+    pub(crate) slots: u32,
+}
+
+impl Schedule {
+    /// The schedule of a program that so many ticks finish if nobody is held.
+    pub(crate) fn of<P: ProgramView>(
+        alloc: Global,
+        program: &P,
+        ticks: u32,
+    ) -> Result<Schedule, OutOfMemory>
+        requires range { AreInRange (P.program program.now) }
+        requires finish { IsFinish (P.program program.now) [] ticks }
+        ensures { IfOk result (IsSchedule (P.program program.now)) }
+    {
+        let places = ActionPlaces::of(alloc, program)?;
+        let order = FinishOrder::of(alloc, program, ticks)?;
+        let joins = joins_of(alloc, program, &places, &order, ticks)?;
+        let slots = slots_of(alloc, &joins)?;
+        let count = slots.count();
+        Ok(Schedule {
+            joins: joins.joins,
+            rows: joins.rows,
+            outs: slots.outs,
+            slots: count,
+        })
+    }
+
+    /// How many columns a block has at most: as many as there is room for in all slots, but at least 8, and no more than
+    /// a program may have agents.
+    pub(crate) fn columns_at_once(&self) -> u16
+        ensures least { LEAST_COLUMNS ≤ result }
+        ensures most { result ≤ MAX_AGENTS }
+    {
+        let room = COUNTS / self.slots.max(1);
+        room.clamp(LEAST_COLUMNS, MAX_AGENTS as u32) as u16
+    }
+}

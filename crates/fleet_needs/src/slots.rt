@@ -1,0 +1,129 @@
+//! Slots for rows: each row is kept in one from its making until the last row that is joined of it was made.
+
+ghost use Rattle.std.specs.Prelude.{◌≡◌, ◌+◌, ◌<◌, ◌≤◌, length, slice_index, IfOk, OnOk, IsTrue};
+ghost use Rattle.fleet_needs.specs.Slots.{AreSlotted, IsTaken};
+
+use crate::joins::Joins;
+use fleet_model::OutOfMemory;
+use std::alloc::Global;
+
+/// The slots of the first rows, and who has each slot.
+#[derive(Drop)]
+pub(crate) struct Slots {
+    /// For each row, from row 1 on, its slot.
+    pub(crate) outs: Vec<u32>,
+    /// For each slot, the last row so far that was put into it.
+    owners: Vec<u32>,
+    /// Slots whose rows have been taken for the last time.
+    free: Vec<u32>,
+}
+
+/// The slots of all rows.
+pub(crate) fn slots_of(alloc: Global, joins: &Joins) -> Result<Slots, OutOfMemory>
+    ensures slotted { IfOk result (AreSlotted joins.now.lasts.items) }
+    ensures all { IfOk result (λ m. length m.outs.items ≡ length joins.now.joins.items) }
+{
+    let rows = joins.joins.len();
+    let mut slots = Slots {
+        outs: Vec::with_capacity(alloc, rows)?,
+        owners: Vec::new(alloc),
+        free: Vec::new(alloc),
+    };
+    for n in 0..rows {
+        slots.free_taken(joins, n)?;
+        slots.add_row(&joins.lasts)?;
+    }
+    Ok(slots)
+}
+
+impl Slots {
+    /// How many slots there are.
+    pub(crate) fn count(&self) -> u32
+        requires { length self.now.owners.items ≤ u32.MAX }
+        ensures { result ≡ length self.now.owners.items }
+    {
+        self.owners.len() as u32
+    }
+
+    /// Frees the slots of the rows that the join after n others takes for the last time, and of the row before if none
+    /// takes it. This decides when memory is used again, and nothing else.
+    fn free_taken(&mut self, joins: &Joins, n: usize) -> Result<(), OutOfMemory>
+        ensures outs { OnOk result (self.new.outs ≡ self.old.outs) }
+        ensures owners { OnOk result (self.new.owners ≡ self.old.owners) }
+    {
+        let row = (n as u64).saturating_add(1);
+        self.free_if(joins, n as u64, 0)?;
+        if let Some(join) = joins.joins.get(n) {
+            self.free_if(joins, u64::from(join.base), row)?;
+        }
+        for &taken in joins.rows_taken(n) {
+            self.free_if(joins, u64::from(taken), row)?;
+        }
+        Ok(())
+    }
+
+    /// Frees the slot of a row, if this one is the last that is joined of it.
+    fn free_if(&mut self, joins: &Joins, taken: u64, row: u64) -> Result<(), OutOfMemory>
+        ensures outs { OnOk result (self.new.outs ≡ self.old.outs) }
+        ensures owners { OnOk result (self.new.owners ≡ self.old.owners) }
+    {
+        let is_last = match joins.lasts.get(taken as usize) {
+            Some(&last) => u64::from(last) == row,
+            None => false,
+        };
+        if taken > 0 && is_last {
+            if let Some(&slot) = self.outs.get(taken as usize - 1) {
+                self.free.push(slot)?;
+            }
+        }
+        Ok(())
+    }
+
+    /// Gives a slot to the next row.
+    fn add_row(&mut self, lasts: &[u32]) -> Result<(), OutOfMemory>
+        requires { AreSlotted lasts.now self.old }
+        ensures slotted { OnOk result (AreSlotted lasts.now self.new) }
+        ensures more { OnOk result (length self.new.outs.items ≡ length self.old.outs.items + 1) }
+    {
+        let row = self.outs.len() + 1;
+        if row > u32::MAX as usize {
+            return Err(OutOfMemory);
+        }
+        let slot = self.take_slot(lasts, row as u32)?;
+        self.owners[slot as usize] = row as u32;
+        self.outs.push(slot)?;
+        Ok(())
+    }
+
+    /// A slot whose row is taken by none after this one, which is new if no free one is left.
+    fn take_slot(&mut self, lasts: &[u32], row: u32) -> Result<u32, OutOfMemory>
+        ensures outs { IfOk result (λ slot. self.new.outs ≡ self.old.outs) }
+        ensures taken { IfOk result (λ slot. IsTaken lasts.now row slot
+            self.old.owners.items self.new.owners.items) }
+    {
+        if let Some(slot) = self.free.pop() {
+            if self.is_over(lasts, slot, row) {
+                return Ok(slot);
+            }
+        }
+        let slot = self.owners.len();
+        if slot >= u32::MAX as usize {
+            return Err(OutOfMemory);
+        }
+        self.owners.push(0)?;
+        Ok(slot as u32)
+    }
+
+    /// Whether there is such a slot, and no row after this one takes what is in it.
+    fn is_over(&self, lasts: &[u32], slot: u32, row: u32) -> bool
+        ensures within { IsTrue result → slot < length self.now.owners.items }
+        ensures over { IsTrue result → slice_index lasts.now
+            (slice_index self.now.owners.items slot) ≤ row }
+    {
+        if slot as usize >= self.owners.len() {
+            return false;
+        }
+        let owner = self.owners[slot as usize] as usize;
+        owner < lasts.len() && lasts[owner] <= row
+    }
+}

@@ -1,4 +1,4 @@
-use Rattle.std.proofs.Common.{◌≡◌, sym, ◌∙◌, arith}
+use Rattle.std.proofs.Common.{arith}
 use Rattle.fleet_needs.proofs.JoinLaws.{joined_none}
 use Rattle.fleet_needs.proofs.joins.Joins.join.Goals as goal
 

@@ -27,13 +27,13 @@ grep -v '^run 2 Source$\|^dispatch 6 ReportLimit$' "$work/want.out" > "$work/wan
 status=0
 judge 'docs/REFUSALS.md has an example of each refusal but run 2 and dispatch 6' 'examples of docs/REFUSALS.md' 0
 
-# The program of docs/LIBRARY.md is the crate that the gate proves.
+# The program of docs/LIBRARY.md is code that the gate proves.
 awk '/^```$/ { on = 0 } on; /^```rust$/ { on = 1 }' "$root/docs/LIBRARY.md" > "$work/out"
-cp "$root/crates/fleet_example/src/lib.rt" "$work/want.out"
+cp "$root/crates/fleet_example/src/library.rt" "$work/want.out"
 : > "$work/err"
 : > "$work/want.err"
 status=0
-judge 'docs/LIBRARY.md has the source of crates/fleet_example' 'docs/LIBRARY.md against crates/fleet_example/src/lib.rt' 0
+judge 'docs/LIBRARY.md has the source of crates/fleet_example' 'docs/LIBRARY.md against crates/fleet_example/src/library.rt' 0
 
 # docs/DEFINITIONS.md says what the comments in specs/ say.
 sh "$root/tools/definitions.sh" > "$work/want.out"

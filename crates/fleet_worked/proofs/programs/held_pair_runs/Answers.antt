@@ -1,5 +1,0 @@
-use Rattle.fleet_worked.proofs.ProgramRuns.{pair_finish}
-use Rattle.fleet_worked.proofs.programs.held_pair_runs.Goals as goal
-
-pub returns-clause-finish : goal.returns-clause-finish
-returns-clause-finish c = pair_finish

@@ -1,7 +1,0 @@
-use Rattle.std.proofs.Common.{[], refl}
-use Rattle.fleet_worked.specs.Programs.{relay}
-use Rattle.fleet_worked.proofs.ProgramRuns.{runs_as}
-use Rattle.fleet_worked.proofs.programs.relay_runs.Goals as goal
-
-pub returns : goal.returns
-returns c = runs_as relay [] _ 3 0 refl refl refl refl refl refl

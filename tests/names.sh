@@ -1,9 +1,9 @@
 # The names that users of the library have. Each line of tests/names.txt is `CRATE::NAME`, or `CRATE::TYPE::CALL` for a
-# call of a type: it is handed out by that crate, and `fleet_surface`, which the gate proves and runs, imports it from
+# call of a type: it is handed out by that crate, and `fleet_tests`, which the gate proves and runs, imports it from
 # there and makes the call.
 
 enter names
-surface=$root/crates/fleet_surface/src
+surface=$root/crates/fleet_tests/src
 
 # The names that the `use` lines of Rust files bring in, a line each with the path before it. A `use` may go over many
 # lines.
@@ -31,7 +31,7 @@ grep -v "::.*::" "$room/listed" > "$work/want.out"
 status=0
 
 cat "$surface"/*.rt | awk "$used" | sort -u | comm -12 - "$work/want.out" > "$work/out"
-judge 'fleet_surface imports each name of tests/names.txt' 'crates/fleet_surface/src against tests/names.txt' 0
+judge 'fleet_tests imports each name of tests/names.txt' 'crates/fleet_tests/src against tests/names.txt' 0
 
 # What a crate hands out stands in its root, as a line of `pub use` or as an item.
 sed 's/::.*//' "$work/want.out" | sort -u | while read -r crate; do
@@ -47,4 +47,4 @@ while read -r line; do
     name=${line#*::}
     grep -qE "(^|[^A-Za-z_])$name\(|\.${name##*::}\(" "$surface"/*.rt && echo "$line"
 done < "$work/want.out" > "$work/out"
-judge 'fleet_surface makes each call of tests/names.txt' 'crates/fleet_surface/src against tests/names.txt' 0
+judge 'fleet_tests makes each call of tests/names.txt' 'crates/fleet_tests/src against tests/names.txt' 0

@@ -1,7 +1,12 @@
-//! Fleets that are worked out by hand: maps, scenarios, plans, programs in hexadecimal, and traces. `tests/worked.txt`
-//! says what each is.
+//! Fleets that are worked out by hand: maps, scenarios, plans, programs in bytes and in hexadecimal, and traces.
+//! `tests/worked.txt` says what each is.
 
+use fleet_code::load;
+use fleet_grid::{Grid, read_map};
+use fleet_model::Program;
+use fleet_scen::{Instance, read_scen};
 use std::alloc::{AllocError, Global};
+use std::test::Fail;
 
 pub const PAIR_MAP: &[u8] = b"type octile\nheight 1\nwidth 4\nmap\n....\n";
 
@@ -16,6 +21,18 @@ pub const PAIR_HEX: &[u8] = b"4D504631 0002 0001 0000 0003 0000 0002 01 01
 
 pub const PAIR_BYTES: &[u8] = b"MPF1\0\x02\0\x01\0\0\0\x03\0\0\0\x02\x01\x01\
 \0\0\0\0\0\x02\0\0\0\x02\x10\0\0\0\x01\x01\x10\0\0\0\x02\x01";
+
+/// The pair in version 2.
+pub const PAIR_BYTES_2: &[u8] = b"MPF2\0\x02\0\x01\0\0\0\x03\0\0\0\0\0\x02\x01\x01\
+\0\0\0\0\0\x02\0\0\0\0\0\x02\x10\0\0\0\0\0\x01\x01\x10\0\0\0\0\0\x02\x01";
+
+/// .. with two stays of each agent after its moves.
+pub const STAYING_BYTES: &[u8] = b"MPF2\0\x02\0\x01\0\0\0\x03\0\0\0\0\0\x04\x01\x01\x04\x04\
+\0\0\0\0\0\x02\0\0\0\0\0\x04\x10\0\0\0\0\0\x01\x01\x10\0\0\0\0\0\x02\x01\x04\x04";
+
+/// Each agent awaits the other.
+pub const RING_BYTES: &[u8] = b"MPF1\0\x02\0\x01\0\0\0\x03\0\0\0\x02\x10\0\x01\0\x01\x01\x01\
+\0\0\0\0\0\x02\0\0\0\x02\x10\0\0\0\x01\x01\x01";
 
 /// The pair in version 2, with a last action of agent 1 that awaits more actions than any agent has.
 pub const LATE_HEX: &[u8] = b"4D504632 0002 0001 0000 0003 0000 00000002 01 01
@@ -71,6 +88,28 @@ chain 3
 held 0
 ";
 
+/// Three agents in a row, each on the heels of the one before it.
+pub const ROW_MAP: &[u8] = b"type octile\nheight 1\nwidth 5\nmap\n.....\n";
+
+pub const ROW_SCEN: &[u8] = b"version 1\n0 m 5 1 2 0 4 0 2\n0 m 5 1 1 0 3 0 2\n0 m 5 1 0 0 2 0 2\n";
+
+pub const ROW_PLAN: &[u8] = b"2,0 3,0 4,0\n1,0 2,0 3,0\n0,0 1,0 2,0\n";
+
+/// Its program with all awaits, and with the last ones alone.
+pub const ALL_BYTES: &[u8] = b"MPF1\0\x03\0\x02\0\0\0\x04\0\0\0\x02\x01\x01\
+\0\x01\0\0\0\x03\0\0\0\x02\x10\0\0\0\x01\x01\x10\0\0\0\x02\x01\
+\0\0\0\0\0\x02\0\0\0\x02\x10\0\x01\0\x01\x01\x10\0\0\0\x01\x10\0\x01\0\x02\x01";
+
+pub const LAST_BYTES: &[u8] = b"MPF1\0\x03\0\x02\0\0\0\x04\0\0\0\x02\x01\x01\
+\0\x01\0\0\0\x03\0\0\0\x02\x10\0\0\0\x01\x01\x10\0\0\0\x02\x01\
+\0\0\0\0\0\x02\0\0\0\x02\x10\0\x01\0\x01\x01\x10\0\x01\0\x02\x01";
+
+/// Four agents that would go round in a ring.
+pub const SQUARE_MAP: &[u8] = b"type octile\nheight 2\nwidth 2\nmap\n..\n..\n";
+
+pub const SQUARE_SCEN: &[u8] =
+    b"version 1\n0 m 2 2 0 0 1 0 1\n0 m 2 2 1 0 1 1 1\n0 m 2 2 1 1 0 1 1\n0 m 2 2 0 1 0 0 1\n";
+
 /// A row of 256 cells. Each agent of the train is behind the one before it, and all go 128 cells east.
 pub const TRAIN_MAP: &[u8] = b"type octile
 height 1
@@ -87,4 +126,17 @@ pub fn train_scen(alloc: Global) -> Result<Vec<u8>, AllocError> {
         write!(text, "0 m 256 1 {} 0 {} 0 128\n", 127 - k, 255 - k)?;
     }
     Ok(text.into_bytes())
+}
+
+/// A map and the instance of a scenario on it.
+pub fn problem(alloc: Global, map: &[u8], scen: &[u8]) -> Result<(Grid, Instance), Fail> {
+    let grid = read_map(alloc, map)?;
+    let instance = read_scen(alloc, scen, &grid, None)?;
+    Ok((grid, instance))
+}
+
+/// The pair's map, instance and program.
+pub fn pair(alloc: Global) -> Result<(Grid, Instance, Program), Fail> {
+    let (grid, instance) = problem(alloc, PAIR_MAP, PAIR_SCEN)?;
+    Ok((grid, instance, load(alloc, PAIR_BYTES)?))
 }

@@ -10,12 +10,12 @@ use Rattle.std.specs.declared.string.String.{String}
 use Rattle.std.specs.declared.vec.Vec.{Vec}
 use Rattle.std.specs.declared.vec.IntoIter.{IntoIter}
 use Rattle.fleet_text.specs.Sink.{Receives}
-use Rattle.fleet_files.specs.Files.{Store, AreUnchanged}
+use Rattle.fleet_cli.specs.Files.{Store, AreUnchanged}
 use Rattle.fleet_text.specs.Sink.{SinkState, IsUnwritten}
-use Rattle.fleet_io.specs.Output.{IsRefusalWritten}
+use Rattle.fleet_cli.specs.Output.{IsRefusalWritten}
 use Rattle.fleet_cli.specs.Command.{RunsCommand}
 use Rattle.fleet_dispatch.specs.Talk.{Talk}
-use Rattle.fleet_io.specs.declared.fault.Fault.TheVariants as f
+use Rattle.fleet_cli.specs.declared.fault.Fault.TheVariants as f
 
 -- the line that is reported if a word is no text
 abbrev pub no_text_line : List ℕ

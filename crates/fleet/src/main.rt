@@ -8,9 +8,8 @@ ghost use Rattle.std.specs.Process.{exit_status};
 ghost use Rattle.fleet_dispatch.specs.Talk.{IsSaid};
 ghost use Rattle.fleet.specs.Program.{AreWordsOf, ReportsNoWords, RunsProgram};
 
-use fleet_cli::{Disk, Fault, Files, run_command};
+use fleet_cli::{Disk, Fault, Files, refuse, run_command};
 use fleet_dispatch::ReportsTo;
-use fleet_io::refuse;
 use fleet_run::{Flush, TraceOut, WriteOut, put_all};
 use std::alloc::Global;
 use std::env::Args;

@@ -4,7 +4,7 @@ use Rattle.clap.specs.Words.{Text}
 use Rattle.fleet_args.specs.Request.{ReadsFleet}
 use Rattle.fleet_args.specs.declared.request.Request.{Request}
 use Rattle.fleet_args.specs.declared.request.WordStop.{WordStop}
-use Rattle.fleet_files.specs.Files.{Store, AreUnchanged}
+use Rattle.fleet_cli.specs.Files.{Store, AreUnchanged}
 use Rattle.fleet_text.specs.Sink.{SinkState}
 use Rattle.fleet_dispatch.specs.Talk.{Talk}
 use Rattle.fleet_cli.specs.Command.{RunsRequest, StopsAtWords, RunsCommand}

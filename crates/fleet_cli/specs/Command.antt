@@ -7,26 +7,26 @@ use Rattle.fleet_args.specs.declared.request.Request.{Request}
 use Rattle.fleet_args.specs.declared.request.Request.TheVariants as r
 use Rattle.fleet_args.specs.declared.request.WordStop.{WordStop}
 use Rattle.fleet_args.specs.declared.request.WordStop.TheVariants as w
-use Rattle.fleet_files.specs.Files.{Store, AreUnchanged}
+use Rattle.fleet_cli.specs.Files.{Store, AreUnchanged}
 use Rattle.fleet_text.specs.Sink.{Receives, FailsAfter, SinkState, IsUnwritten, IsDelivered}
 use Rattle.fleet_text.specs.Words.{line_text}
-use Rattle.fleet_io.specs.Output.{IsRefusalWritten, Outcome}
-use Rattle.fleet_commands.specs.HexRun.{RunsHex}
-use Rattle.fleet_commands.specs.RehearseCommand.{DoesRehearse, RefusesRehearse}
-use Rattle.fleet_commands.specs.InstanceCommand.{DoesInstance, RefusesInstance}
-use Rattle.fleet_commands.specs.CheckCommand.{DoesCheck, RefusesCheck}
-use Rattle.fleet_commands.specs.PlanCommand.{DoesPlan, RefusesPlan}
-use Rattle.fleet_commands.specs.CompileCommand.{DoesCompile, RefusesCompile}
-use Rattle.fleet_commands.specs.VerifyCommand.{DoesVerify, RefusesVerify}
-use Rattle.fleet_commands.specs.DriveCommand.{DoesRun, RefusesRun}
-use Rattle.fleet_commands.specs.AutoCommand.{DoesAuto, RefusesAuto}
-use Rattle.fleet_commands.specs.ThinCommand.{DoesThin, RefusesThin}
-use Rattle.fleet_commands.specs.MigrateCommand.{DoesMigrate, RefusesMigrate}
-use Rattle.fleet_commands.specs.ListCommand.{DoesList, RefusesList}
-use Rattle.fleet_commands.specs.DispatchCommand.{DoesDispatch, RefusesDispatch}
+use Rattle.fleet_cli.specs.Output.{IsRefusalWritten, Outcome}
+use Rattle.fleet_cli.specs.HexRun.{RunsHex}
+use Rattle.fleet_cli.specs.RehearseCommand.{DoesRehearse, RefusesRehearse}
+use Rattle.fleet_cli.specs.InstanceCommand.{DoesInstance, RefusesInstance}
+use Rattle.fleet_cli.specs.CheckCommand.{DoesCheck, RefusesCheck}
+use Rattle.fleet_cli.specs.PlanCommand.{DoesPlan, RefusesPlan}
+use Rattle.fleet_cli.specs.CompileCommand.{DoesCompile, RefusesCompile}
+use Rattle.fleet_cli.specs.VerifyCommand.{DoesVerify, RefusesVerify}
+use Rattle.fleet_cli.specs.DriveCommand.{DoesRun, RefusesRun}
+use Rattle.fleet_cli.specs.AutoCommand.{DoesAuto, RefusesAuto}
+use Rattle.fleet_cli.specs.ThinCommand.{DoesThin, RefusesThin}
+use Rattle.fleet_cli.specs.MigrateCommand.{DoesMigrate, RefusesMigrate}
+use Rattle.fleet_cli.specs.ListCommand.{DoesList, RefusesList}
+use Rattle.fleet_cli.specs.DispatchCommand.{DoesDispatch, RefusesDispatch}
 use Rattle.fleet_dispatch.specs.Talk.{Talk}
-use Rattle.fleet_io.specs.declared.fault.Fault.{Fault}
-use Rattle.fleet_io.specs.declared.fault.Fault.TheVariants as f
+use Rattle.fleet_cli.specs.declared.fault.Fault.{Fault}
+use Rattle.fleet_cli.specs.declared.fault.Fault.TheVariants as f
 
 -- what each command does: all but `compile`, `thin` and `migrate` leave every file as before, and all but `dispatch` leave the input unread; `dispatch` tells robots over the output and hears them by the input
 abbrev pub DoesRequest : (files after : Option Store) → (unread : Type 0) → (Talk → Type 0) → Request → (out out' : SinkState) → ℕ → Type 0

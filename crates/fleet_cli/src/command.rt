@@ -5,13 +5,24 @@ ghost use Rattle.fleet_text.specs.Sink.{IsWorking};
 ghost use Rattle.fleet_dispatch.specs.Talk.{IsSaid};
 ghost use Rattle.fleet_cli.specs.Command.{DoesRequest, RefusesRequest, RunsRequest, StopsAtWords, RunsCommand};
 
+use crate::auto_command::do_auto;
+use crate::check_command::do_check;
+use crate::compile_command::do_compile;
+use crate::dispatch_command::do_dispatch;
+use crate::drive_command::do_run;
+use crate::fault::{Fault, finish, refuse};
+use crate::files::Files;
+use crate::flush::deliver;
+use crate::hex_run::run_hex;
+use crate::instance_command::do_instance;
+use crate::list_command::do_list;
+use crate::migrate_command::do_migrate;
+use crate::plan_command::do_plan;
+use crate::rehearse_command::do_rehearse;
+use crate::thin_command::do_thin;
+use crate::verify_command::do_verify;
 use fleet_args::{Request, WordStop, read_words};
-use fleet_commands::{
-    do_auto, do_check, do_compile, do_dispatch, do_instance, do_list, do_migrate, do_plan,
-    do_rehearse, do_run, do_thin, do_verify, run_hex,
-};
 use fleet_dispatch::ReportsTo;
-use fleet_io::{Fault, Files, deliver, finish, refuse};
 use fleet_run::{Flush, OutFault, TraceOut, put_all};
 use std::alloc::Global;
 

@@ -2,25 +2,26 @@
 //! report and sends them on.
 
 ghost use Rattle.std.specs.Prelude.{◌≡◌, ◌<◌, List, ℕ, IfOk, IfErr, OnOk, OnErr, Ok, length};
-ghost use Rattle.fleet_auto.specs.Accepting.{Accepts};
-ghost use Rattle.fleet_auto.specs.Texts.{AreTextsOf};
-ghost use Rattle.fleet_auto.specs.Trace.{WritesTrace};
+ghost use Rattle.fleet_code.specs.Spelling.{Spells};
+ghost use Rattle.fleet_run.specs.Trace.{WritesTrace};
 ghost use Rattle.fleet_dispatch.specs.Dispatch.{DispatchesFrom};
 ghost use Rattle.fleet_grid.specs.Ground.{Ground};
+ghost use Rattle.fleet_grid.specs.MapText.{IsMapText};
 ghost use Rattle.fleet_machine.specs.Confirmed.{all_but, AreAllReady, IsFirstUnready};
 ghost use Rattle.fleet_machine.specs.Machine.{flag_of};
 ghost use Rattle.fleet_model.specs.Claims.{order_of};
 ghost use Rattle.fleet_model.specs.Machine.{tick};
 ghost use Rattle.fleet_model.specs.Program.{Program};
 ghost use Rattle.fleet_model.specs.declared.task.Task.{Task};
+ghost use Rattle.fleet_scen.specs.ScenText.{IsScenText};
 ghost use Rattle.fleet_text.specs.Sink.{IsWorking};
+ghost use Rattle.fleet_verify.specs.Parts.{IsAcceptedFor};
 
-use fleet_auto::run_accepted;
 use fleet_code::{LoadFault, view};
 use fleet_dispatch::{DispatchFault, DispatchReport, Floor, dispatch_accepted};
 use fleet_grid::{Grid, MapFault, read_map};
 use fleet_model::{ProgramView, Step};
-use fleet_run::{Fleet, NotSent, Report, RunFault, TraceOut};
+use fleet_run::{Fleet, NotSent, Report, RunFault, TraceOut, run_accepted};
 use fleet_scen::{Instance, ScenFault, read_scen};
 use fleet_verify::{VerifyFault, verify};
 use std::alloc::Global;
@@ -55,8 +56,8 @@ pub fn run<O: TraceOut>(
 ) -> Result<Report, Stop>
     requires { IsWorking (O.state out.old) }
     ensures { IfOk result (λ report. (g : Ground) × (tasks : List Task)
-        × AreTextsOf map.now scen.now None g tasks
-        × ((p : Program) × (chain : ℕ) × Accepts bytes.now g tasks p chain
+        × IsMapText map.now g × IsScenText scen.now g None tasks
+        × ((p : Program) × (chain : ℕ) × Spells bytes.now p × IsAcceptedFor g tasks p chain
         × WritesTrace p chain holds.now (O.state out.old) (O.state out.new) report)) }
 {
     let grid = read_map(alloc, map)?;

@@ -9,6 +9,7 @@ pub mod HoldLemmas
 pub mod HoldLaws
 pub mod HoldsWritten
 pub mod Driven
+pub mod TraceLemmas
 pub mod Finished
 pub mod Patched
 pub mod Lines

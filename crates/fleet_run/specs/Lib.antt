@@ -5,6 +5,7 @@ pub mod Rehearsal
 pub mod HoldText
 pub mod Fleet
 pub mod Drive
+pub mod Trace
 pub mod RefusalWords
 pub mod Line
 pub mod Listing

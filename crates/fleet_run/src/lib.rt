@@ -2,6 +2,7 @@
 //! a `Fleet` drives to its goals, and the rehearsal of any program; and programs themselves as text.
 #![tactic(auto)]
 
+mod accepted_run;
 mod fleet;
 mod hold_list;
 mod hold_text;
@@ -15,6 +16,7 @@ mod source;
 mod text;
 mod trace;
 
+pub use accepted_run::run_accepted;
 pub use fleet::{Fleet, NotSent, StartRefusal, drive};
 pub use fleet_machine::Tick;
 pub use fleet_text::{Flush, OutFault, TraceOut, VecOut, WriteOut, put_all};

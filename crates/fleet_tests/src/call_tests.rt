@@ -5,9 +5,8 @@ use crate::fleets::{
     TRAIN_MAP, train_scen,
 };
 use fleet_adg::compile;
-use fleet_auto::{AutoFault, auto_run};
+use fleet_cli::{AutoFault, Files, MemFiles, auto_run};
 use fleet_code::{EncodeFault, encode, load, read_hex};
-use fleet_files::{Files, MemFiles};
 use fleet_grid::read_map;
 use fleet_model::{ActionId, Deps};
 use fleet_plan::{read_plan, write_plan};

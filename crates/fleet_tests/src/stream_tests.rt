@@ -7,9 +7,9 @@ ghost use Rattle.fleet_text.specs.Sink.{IsWorking};
 
 use crate::fleets::{PAIR_HEX, PAIR_MAP, PAIR_SCEN, PAIR_TEXT, PAIR_TRACE};
 use crate::streams::{FailingSource, ShortReader, ShortWriter};
+use fleet_cli::{FileFault, read_whole};
 use fleet_code::{load, read_hex};
 use fleet_dispatch::{DispatchFault, DispatchReport, dispatch_over};
-use fleet_files::{FileFault, read_whole};
 use fleet_grid::{Grid, read_map};
 use fleet_model::{Place, Program, ProgramView};
 use fleet_run::{

@@ -1,5 +1,5 @@
 use Rattle.std.proofs.Common.{refl}
-use Rattle.fleet_commands.proofs.AnswerLemmas.{result_and, result_and_two}
+use Rattle.fleet_cli.proofs.AnswerLemmas.{result_and, result_and_two}
 use Rattle.fleet_cli.proofs.command.do_request.Goals as goal
 
 pub returns-in-Instance : goal.returns-in-Instance

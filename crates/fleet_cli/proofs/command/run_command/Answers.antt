@@ -1,6 +1,6 @@
 use Rattle.std.proofs.Common.{◌≡◌, [], refl, rules}
 use Rattle.fleet_cli.proofs.CommandLemmas.{asked, stopped}
-use Rattle.fleet_files.proofs.FileLemmas.{kept_self}
+use Rattle.fleet_cli.proofs.FileLemmas.{kept_self}
 use Rattle.fleet_cli.proofs.command.run_command.Goals as goal
 
 pub returns-in-Ok : goal.returns-in-Ok

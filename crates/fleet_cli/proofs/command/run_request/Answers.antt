@@ -1,4 +1,4 @@
-use Rattle.fleet_commands.proofs.AnswerLemmas.{outcome_of}
+use Rattle.fleet_cli.proofs.AnswerLemmas.{outcome_of}
 use Rattle.fleet_cli.proofs.command.run_request.Goals as goal
 
 pub returns : goal.returns

@@ -1,2 +1,0 @@
-pub mod TraceLemmas
-pub mod AutoLemmas

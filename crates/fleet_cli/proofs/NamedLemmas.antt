@@ -1,0 +1,34 @@
+-- Files that a command names, of a store that was only read before.
+use Rattle.std.proofs.Common.{ℕ, List, [], ◌∷◌, ◌++◌, Option, inl, inr}
+use Rattle.fleet_cli.specs.Files.{Store, AreUnchanged}
+use Rattle.fleet_cli.proofs.FileLemmas.{read_before, unreadable_before}
+use Rattle.fleet_cli.specs.Named.{IsReadFault, IsUnread}
+use Rattle.fleet_cli.specs.declared.fault.Fault.{Fault}
+use Rattle.fleet_cli.specs.declared.fault.Fault.TheVariants as f
+
+-- a file that cannot be read of a store that was only read before could not be read at first
+pub read_fault_before : (old new : Option Store) (name : List ℕ) (fault : Fault) → AreUnchanged old new → IsReadFault new name fault → IsReadFault old name fault
+read_fault_before old new name f.Memory kept h = tt
+read_fault_before old new name (f.File n) kept h = (h.0, unreadable_before old new name kept h.1)
+read_fault_before old new name (f.Map x) kept h = absurd h
+read_fault_before old new name (f.Scen x) kept h = absurd h
+read_fault_before old new name (f.Text x) kept h = absurd h
+read_fault_before old new name (f.Check x) kept h = absurd h
+read_fault_before old new name (f.Search x) kept h = absurd h
+read_fault_before old new name (f.Hex x) kept h = absurd h
+read_fault_before old new name (f.Load x) kept h = absurd h
+read_fault_before old new name (f.Compile x) kept h = absurd h
+read_fault_before old new name (f.Verify x) kept h = absurd h
+read_fault_before old new name (f.Run x) kept h = absurd h
+read_fault_before old new name (f.Dispatch x) kept h = absurd h
+
+pub unread_before : (old new : Option Store) (names : List (List ℕ)) (fault : Fault) → AreUnchanged old new → IsUnread new names fault → IsUnread old names fault
+unread_before old new [] fault kept h = absurd h
+unread_before old new (name ∷ names) fault kept (inl h) = inl (read_fault_before old new name fault kept h)
+unread_before old new (name ∷ names) fault kept (inr (bytes, held, h)) = inr (bytes, read_before old new name bytes kept held, unread_before old new names fault kept h)
+
+-- a file was not read, whatever comes after it
+pub unread-first : (files : Option Store) (names rest : List (List ℕ)) (fault : Fault) → IsUnread files names fault → IsUnread files (names ++ rest) fault
+unread-first files [] rest fault h = absurd h
+unread-first files (n ∷ names) rest fault (inl h) = inl h
+unread-first files (n ∷ names) rest fault (inr (x, first, h)) = inr (x, first, unread-first files names rest fault h)

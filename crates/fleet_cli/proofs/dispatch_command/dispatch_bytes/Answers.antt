@@ -1,0 +1,31 @@
+use Rattle.std.proofs.Common.{◌≡◌, refl}
+use Rattle.fleet_dispatch.specs.Talk.{IsSaid}
+use Rattle.std.proofs.lemmas.Result.{err_from_is_err_and}
+use Rattle.fleet_cli.proofs.DispatchLemmas.{problem_refuses, accept_refuses}
+use Rattle.fleet_cli.proofs.dispatch_command.dispatch_bytes.Goals as goal
+
+pub returns-in-Ok : goal.returns-in-Ok
+returns-in-Ok g c = (
+  record {
+    accepts = record { ground = c.in_ok-problem.problem.grid; tasks = c.in_ok-problem.problem.instance; texts = c.in_ok-problem.ensures.read; program = c.in_ok-accepted.accepted.program.program; chain = c.in_ok-accepted.accepted.chain; accepts = c.in_ok-accepted.ensures.accepted };
+    report = c.in-Ok.field-0;
+    dispatches = c.in-Ok.ensures;
+  },
+  refl,
+)
+
+pub returns : goal.returns
+returns g c = (
+  record { ground = c.in_ok-problem.problem.grid; tasks = c.in_ok-problem.problem.instance; texts = c.in_ok-problem.ensures.read; program = c.in_ok-accepted.accepted.program.program; chain = c.in_ok-accepted.accepted.chain; accepts = c.in_ok-accepted.ensures.accepted },
+  c.in-Err.ensures,
+)
+
+pub returns-in_err-problem : goal.returns-in_err-problem
+returns-in_err-problem g c =
+    let e = err_from_is_err_and c.from_residual.result c.from_residual.ensures.1 in
+    rw (e.1, e.2) (problem_refuses c.args.task.now.map.now c.args.task.now.scen.now c.args.task.now.asked c.args.task.now.program.now ((c.args.input.now ≡ c.args.input.now) × (c.args.out.now ≡ c.args.out.now)) (IsSaid g.R.ReportsTo.talks c.args.input.now c.args.out.now c.args.input.now c.args.out.now) (refl, refl) _ c.in_err-problem.ensures.fault)
+
+pub returns-in_err-accepted : goal.returns-in_err-accepted
+returns-in_err-accepted g c =
+    let e = err_from_is_err_and c.from_residual-in_err-accepted.result c.from_residual-in_err-accepted.ensures.1 in
+    rw (e.1, e.2) (accept_refuses c.args.task.now.map.now c.args.task.now.scen.now c.args.task.now.asked c.args.task.now.program.now ((c.args.input.now ≡ c.args.input.now) × (c.args.out.now ≡ c.args.out.now)) (IsSaid g.R.ReportsTo.talks c.args.input.now c.args.out.now c.args.input.now c.args.out.now) (refl, refl) _ _ _ c.in_ok-problem.ensures.read c.in_err-accepted.ensures.fault)

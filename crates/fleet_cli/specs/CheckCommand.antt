@@ -1,0 +1,62 @@
+-- What the command `check` prints: that a plan is free of conflict, and its numbers.
+use Rattle.std.specs.Prelude.{◌≡◌, ◌≢◌, ℕ, List, [], ◌∷◌, length, ◌⊎◌, Option, codes}
+use Rattle.fleet_model.specs.declared.task.Task.{Task}
+use Rattle.fleet_grid.specs.Ground.{Ground, is_passable}
+use Rattle.fleet_plan.specs.Plan.{Plan, steps, IsConflictFree}
+use Rattle.fleet_plan.specs.PlanText.{IsPlanText, IsFirstTextFault}
+use Rattle.fleet_plan.specs.FirstFault.{IsFirstPlanFault}
+use Rattle.fleet_plan.specs.declared.text_fault.TextFault.TheVariants as t
+use Rattle.fleet_plan.specs.declared.plan_fault.PlanFault.TheVariants as p
+use Rattle.fleet_text.specs.Sink.{FailsAfter, SinkState, IsUnwritten, IsDelivered}
+use Rattle.fleet_cli.specs.Files.{Store}
+use Rattle.fleet_args.specs.declared.check.CheckRequest.{CheckRequest}
+use Rattle.fleet_cli.specs.Printed.{report}
+use Rattle.fleet_cli.specs.Named.{IsUnread, AreRead}
+use Rattle.fleet_cli.specs.Inputs.{IsProblemRefusal}
+use Rattle.fleet_cli.specs.Texts.{AreTextsOf}
+use Rattle.fleet_cli.specs.declared.fault.Fault.{Fault}
+use Rattle.fleet_cli.specs.declared.fault.Fault.TheVariants as f
+
+-- `conflict-free`, then the agents and the steps, each with its number
+abbrev pub check_text : Plan → List ℕ
+check_text plan = report (codes "conflict-free") ((codes "agents", length plan) ∷ (codes "steps", steps plan) ∷ [])
+
+-- the texts stand for this ground, these tasks and this plan
+pub record ArePlanTexts (map scen plan : List ℕ) (asked : Option ℕ) (g : Ground) (tasks : List Task) (paths : Plan) : Type 0 where
+  pub instance : AreTextsOf map scen asked g tasks
+  pub plan_read : IsPlanText plan paths
+
+-- the plan for which the texts stand is free of conflict, and that was printed and handed on
+pub record PrintsCheck (map scen plan : List ℕ) (asked : Option ℕ) (out out' : SinkState) : Type 0 where
+  pub ground : Ground
+  pub tasks : List Task
+  pub paths : Plan
+  pub texts : ArePlanTexts map scen plan asked ground tasks paths
+  pub free : IsConflictFree (is_passable ground) tasks paths
+  pub delivered : IsDelivered out out' (check_text paths)
+
+-- memory ran out; or the first fault of the texts, judged in this order: map, scenario, plan text, plan; or the plan is free of conflict
+-- and the output failed
+abbrev pub IsCheckFault : List ℕ → List ℕ → List ℕ → Option ℕ → (out out' : SinkState) → Fault → Type 0
+IsCheckFault map scen plan asked out out' (f.Text fault) =
+    (g : Ground) × (tasks : List Task) × AreTextsOf map scen asked g tasks × (fault ≢ t.OutOfMemory → IsFirstTextFault plan fault) × IsUnwritten out out'
+IsCheckFault map scen plan asked out out' (f.Check fault) =
+    (g : Ground) × (tasks : List Task) × (paths : Plan) × ArePlanTexts map scen plan asked g tasks paths
+    × (fault ≢ p.OutOfMemory → IsFirstPlanFault (is_passable g) tasks paths fault) × IsUnwritten out out'
+IsCheckFault map scen plan asked out out' (f.File name) =
+    (g : Ground) × (tasks : List Task) × (paths : Plan) × (name.now ≡ codes "-") × ArePlanTexts map scen plan asked g tasks paths
+    × IsConflictFree (is_passable g) tasks paths × FailsAfter out out' (check_text paths)
+IsCheckFault map scen plan asked out out' fault = IsProblemRefusal map scen asked fault × IsUnwritten out out'
+
+-- the plan for which the files stand is free of conflict, and that was printed
+abbrev pub DoesCheck : Option Store → CheckRequest → (out out' : SinkState) → ℕ → Type 0
+DoesCheck files r out out' status =
+    (map scen plan : List ℕ) × AreRead files (r.map.now ∷ r.scen.now ∷ r.plan.now ∷ []) (map ∷ scen ∷ plan ∷ [])
+    × PrintsCheck map scen plan r.agents out out' × (status ≡ 0)
+
+-- a file was not read; or all were, and their texts are refused or the output failed
+abbrev pub RefusesCheck : Option Store → CheckRequest → (out out' : SinkState) → Fault → Type 0
+RefusesCheck files r out out' fault =
+    (IsUnread files (r.map.now ∷ r.scen.now ∷ r.plan.now ∷ []) fault × IsUnwritten out out')
+    ⊎ ((map scen plan : List ℕ) × AreRead files (r.map.now ∷ r.scen.now ∷ r.plan.now ∷ []) (map ∷ scen ∷ plan ∷ [])
+    × IsCheckFault map scen plan r.agents out out' fault)

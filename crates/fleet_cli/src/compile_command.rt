@@ -1,0 +1,146 @@
+//! The command `compile`.
+
+ghost use Rattle.std.specs.Prelude.{◌≡◌, ℕ, List, IfOk, IfErr, MatchResult};
+ghost use Rattle.fleet_text.specs.Sink.{IsWorking};
+ghost use Rattle.fleet_code.specs.Spelling.{SpellsShortest};
+ghost use Rattle.fleet_cli.specs.Files.{AreUnchanged};
+ghost use Rattle.fleet_cli.specs.Printed.{WritesOut, IsOutRefusal};
+ghost use Rattle.fleet_cli.specs.CompileCommand.{CompilesTexts, IsCompileFault, compiled_text, CompilesFiles, IsCompileRefusal, DoesCompile, RefusesCompile};
+
+use crate::fault::Fault;
+use crate::files::Files;
+use crate::inputs::read_problem;
+use crate::named::read_three;
+use crate::output::write_out;
+use fleet_adg::compile_dwell;
+use fleet_args::CompileRequest;
+use fleet_code::{EncodeFault, encode_shortest};
+use fleet_model::{Program, ProgramView, total_awaits, total_moves};
+use fleet_plan::{check, read_plan};
+use fleet_run::Flush;
+use std::alloc::Global;
+
+/// A program, and the bytes that spell it.
+#[derive(Drop)]
+struct Compiled {
+    program: Program,
+    bytes: Vec<u8>,
+}
+
+/// The program, as it is asked for, of the plan for which the texts stand. The text of the plan is let go once it is
+/// read.
+fn compiled_program<'a>(
+    alloc: Global,
+    map: &[u8],
+    scen: &[u8],
+    plan: Vec<u8>,
+    request: &CompileRequest<'_>,
+) -> Result<Program, Fault<'a>>
+    ensures compiled { IfOk result
+        (λ p. (bytes : List ℕ) → SpellsShortest bytes p → CompilesTexts map.now scen.now plan.items
+        request.now.agents request.now.deps request.now.dwell p bytes) }
+    ensures fault { IfErr result (IsCompileFault map.now scen.now plan.items
+        request.now.agents request.now.deps request.now.dwell) }
+{
+    let problem = read_problem(alloc, map, scen, request.agents)?;
+    let read = match read_plan(alloc, &plan) {
+        Ok(read) => read,
+        Err(fault) => return Err(Fault::Text(fault)),
+    };
+    drop(plan);
+    let checked = match check(alloc, read, &problem.grid, &problem.instance) {
+        Ok(checked) => checked,
+        Err(refusal) => return Err(Fault::Check(refusal.fault)),
+    };
+    match compile_dwell(alloc, &checked, request.deps, request.dwell) {
+        Ok(program) => Ok(program),
+        Err(fault) => Err(Fault::Compile(fault)),
+    }
+}
+
+/// The program, and the bytes that spell it. The plan is let go before the bytes are made.
+fn compile_texts<'a>(
+    alloc: Global,
+    map: &[u8],
+    scen: &[u8],
+    plan: Vec<u8>,
+    request: &CompileRequest<'_>,
+) -> Result<Compiled, Fault<'a>>
+    ensures compiled { IfOk result (λ c. CompilesTexts map.now scen.now plan.items
+        request.now.agents request.now.deps request.now.dwell c.program c.bytes.items) }
+    ensures fault { IfErr result (IsCompileFault map.now scen.now plan.items
+        request.now.agents request.now.deps request.now.dwell) }
+{
+    let program = compiled_program(alloc, map, scen, plan, request)?;
+    let bytes = match encode_shortest(alloc, &program) {
+        Ok(bytes) => bytes,
+        Err(EncodeFault::OutOfMemory) => return Err(Fault::Memory),
+        // Version 2 has bytes for every program.
+        Err(_) => unreachable!(),
+    };
+    Ok(Compiled { program, bytes })
+}
+
+/// Reads the files, and then compiles. The text of the plan is handed over, and is let go once it is read.
+fn compile_files<'a, F: Files>(
+    alloc: Global,
+    request: &CompileRequest<'a>,
+    files: &mut F,
+) -> Result<Compiled, Fault<'a>>
+    ensures compiled { IfOk result
+        (λ c. CompilesFiles (F.contents files.old) request.now c.program c.bytes.items) }
+    ensures fault { IfErr result (IsCompileRefusal (F.contents files.old) request.now) }
+    ensures kept { AreUnchanged (F.contents files.old) (F.contents files.new) }
+{
+    let (map, scen, plan) = read_three(alloc, files, request.map, request.scen, request.plan)?;
+    compile_texts(alloc, &map, &scen, plan, request)
+}
+
+/// Writes the bytes of the program to the file OUT, and prints its numbers.
+fn write_compiled<'a, F: Files, O: Flush>(
+    files: &mut F,
+    name: &'a str,
+    program: &Program,
+    bytes: &[u8],
+    out: &mut O,
+) -> Result<u8, Fault<'a>>
+    requires { IsWorking (O.state out.old) }
+    ensures { MatchResult result
+        (λ status. WritesOut (F.contents files.old) (F.contents files.new) name.entry.now bytes.now
+        (O.state out.old) (O.state out.new) (compiled_text program.now bytes.now) × (status ≡ 0))
+        (IsOutRefusal (F.contents files.old) (F.contents files.new) name.entry.now bytes.now
+        (O.state out.old) (O.state out.new) (compiled_text program.now bytes.now)) }
+{
+    write_out(
+        files,
+        name,
+        bytes,
+        out,
+        &[
+            ("agents", program.agents() as u64),
+            ("moves", total_moves(program) as u64),
+            ("awaits", total_awaits(program) as u64),
+            ("bytes", bytes.len() as u64),
+        ],
+    )
+}
+
+/// The command `compile`: reads the files whole, writes the bytes of the program of the plan to the file OUT once all
+/// before it succeeded, and prints its numbers to `out`. Answers 0.
+#[inline(never)]
+pub fn do_compile<'a, F: Files, O: Flush>(
+    alloc: Global,
+    request: &CompileRequest<'a>,
+    files: &mut F,
+    out: &mut O,
+) -> Result<u8, Fault<'a>>
+    requires { IsWorking (O.state out.old) }
+    ensures { MatchResult result
+        (DoesCompile (F.contents files.old) (F.contents files.new) request.now
+        (O.state out.old) (O.state out.new))
+        (RefusesCompile (F.contents files.old) (F.contents files.new) request.now
+        (O.state out.old) (O.state out.new)) }
+{
+    let compiled = compile_files(alloc, request, files)?;
+    write_compiled(files, request.out, &compiled.program, &compiled.bytes, out)
+}

@@ -1,0 +1,154 @@
+//! A refusal of the program, with its status and its line.
+
+ghost use Rattle.std.specs.Prelude.{◌≡◌};
+ghost use Rattle.fleet_text.specs.Sink.{IsWorking, Receives};
+ghost use Rattle.fleet_cli.specs.Output.{Finishes};
+ghost use Rattle.fleet_cli.specs.Lines.{refusal_line, status_of};
+
+use crate::auto_fault::{AcceptFault, AutoFault};
+use fleet_adg::CompileFault;
+use fleet_code::{HexFault, LoadFault};
+use fleet_dispatch::DispatchFault;
+use fleet_grid::MapFault;
+use fleet_plan::{PlanFault, TextFault};
+use fleet_run::RunFault;
+use fleet_scen::ScenFault;
+use fleet_search::PlanStop;
+use fleet_text::{OutFault, Refusal, TraceOut, Word, put_line, put_memory};
+use fleet_verify::VerifyFault;
+
+/// Every refusal of the program but usage and help. `File` names the file that cannot be read or written, and is `-`
+/// for the standard streams.
+#[derive(Drop)]
+pub enum Fault<'a> {
+    Map(MapFault),
+    Scen(ScenFault),
+    Text(TextFault),
+    Check(PlanFault),
+    Search(PlanStop),
+    Hex(HexFault),
+    Load(LoadFault),
+    Compile(CompileFault),
+    Verify(VerifyFault),
+    Run(RunFault),
+    Dispatch(DispatchFault),
+    Memory,
+    File(&'a str),
+}
+
+/// The fault of a step, with its own line and status. Want of memory in any step is `Memory`.
+impl From<AutoFault> for Fault<'_> {
+    ghost use Rattle.std.specs.Prelude.{◌≡◌};
+    ghost use Rattle.fleet_cli.specs.Lines.{step_fault};
+
+    ghost from_gives = { λ fault r. r ≡ step_fault fault };
+
+    fn from(fault: AutoFault) -> Self {
+        match fault {
+            AutoFault::OutOfMemory => Fault::Memory,
+            AutoFault::Map(fault) => Fault::Map(fault),
+            AutoFault::Scen(fault) => Fault::Scen(fault),
+            AutoFault::Plan(stop) => Fault::Search(stop),
+            AutoFault::Compile(fault) => Fault::Compile(fault),
+            AutoFault::Run(fault) => Fault::Run(fault),
+        }
+    }
+}
+
+impl From<AcceptFault> for Fault<'_> {
+    ghost use Rattle.std.specs.Prelude.{◌≡◌};
+    ghost use Rattle.fleet_cli.specs.Lines.{accept_fault};
+
+    ghost from_gives = { λ fault r. r ≡ accept_fault fault };
+
+    fn from(fault: AcceptFault) -> Self {
+        match fault {
+            AcceptFault::OutOfMemory => Fault::Memory,
+            AcceptFault::Load(fault) => Fault::Load(fault),
+            AcceptFault::Verify(fault) => Fault::Verify(fault),
+        }
+    }
+}
+
+impl Refusal for Fault<'_> {
+    ghost use Rattle.fleet_cli.specs.Lines.{words_of, is_failure_of};
+
+    ghost words = { words_of };
+
+    ghost is_failure = { is_failure_of };
+
+    fn put<O: TraceOut>(&self, out: &mut O) -> Result<(), OutFault> {
+        match self {
+            Fault::Map(fault) => fault.put(out),
+            Fault::Scen(fault) => fault.put(out),
+            Fault::Text(fault) => fault.put(out),
+            Fault::Check(fault) => fault.put(out),
+            Fault::Search(stop) => stop.put(out),
+            Fault::Hex(fault) => fault.put(out),
+            Fault::Load(fault) => fault.put(out),
+            Fault::Compile(fault) => fault.put(out),
+            Fault::Verify(fault) => fault.put(out),
+            Fault::Run(fault) => fault.put(out),
+            Fault::Dispatch(fault) => fault.put(out),
+            Fault::Memory => put_memory(out),
+            Fault::File(name) => put_line(out, &[Word::Text("file"), Word::Text(name)]),
+        }
+    }
+
+    fn is_failure(&self) -> bool {
+        match self {
+            Fault::Map(fault) => fault.is_failure(),
+            Fault::Scen(fault) => fault.is_failure(),
+            Fault::Text(fault) => fault.is_failure(),
+            Fault::Check(fault) => fault.is_failure(),
+            Fault::Search(stop) => stop.is_failure(),
+            Fault::Hex(fault) => fault.is_failure(),
+            Fault::Load(fault) => fault.is_failure(),
+            Fault::Compile(fault) => fault.is_failure(),
+            Fault::Verify(fault) => fault.is_failure(),
+            Fault::Run(fault) => fault.is_failure(),
+            Fault::Dispatch(fault) => fault.is_failure(),
+            Fault::Memory | Fault::File(_) => true,
+        }
+    }
+}
+
+impl Fault<'_> {
+    /// 3 if memory, a file, the source or the sink failed, and 1 for every other refusal.
+    pub fn status(&self) -> u8
+        ensures { result ≡ status_of self.now }
+    {
+        if self.is_failure() { 3 } else { 1 }
+    }
+
+    /// Writes the refusal's line: the part, the refusal's number, its name, then each field's name and value. If the
+    /// sink fails, it has taken a proper prefix of the line.
+    pub fn tell<E: TraceOut>(&self, err: &mut E)
+        requires { IsWorking (E.state err.old) }
+        ensures { Receives (E.state err.old) (E.state err.new) (refusal_line self.now) }
+    {
+        let _ = self.put(err);
+    }
+}
+
+/// Writes the line of the refusal, and answers its status.
+pub fn refuse<E: TraceOut>(fault: &Fault<'_>, err: &mut E) -> u8
+    requires { IsWorking (E.state err.old) }
+    ensures status { result ≡ status_of fault.now }
+    ensures written { Receives (E.state err.old) (E.state err.new) (refusal_line fault.now) }
+{
+    fault.tell(err);
+    fault.status()
+}
+
+/// Ends a command: answers the status with which it is done, or writes the line of its refusal and answers the
+/// refusal's status.
+pub fn finish<E: TraceOut>(done: Result<u8, Fault<'_>>, err: &mut E) -> u8
+    requires { IsWorking (E.state err.old) }
+    ensures { Finishes done.entry (E.state err.old) (E.state err.new) result }
+{
+    match done {
+        Ok(status) => status,
+        Err(fault) => refuse(&fault, err),
+    }
+}

@@ -1,0 +1,86 @@
+//! An input, read whole.
+
+ghost use Rattle.std.specs.Prelude.{◌≡◌, ◌≤◌, ◌<◌, Err, IfOk, IfSome, length};
+
+use std::alloc::Global;
+use std::io::Read;
+use thiserror::Error;
+
+/// Why a file or an input was not read, or a file not written.
+#[derive(Clone, Copy, Debug, Error)]
+pub enum FileFault {
+    #[error("out of memory")]
+    OutOfMemory,
+    /// It cannot be read or written, or has more than `MAX_BYTES` bytes.
+    #[error("the file cannot be read or written")]
+    Failed,
+}
+
+/// The greatest number of bytes of a file or an input that is read.
+pub const MAX_BYTES: usize = 268_435_456;
+
+/// How many bytes are asked for at a time.
+const CHUNK: usize = 16_384;
+
+/// Why an input was not read to its end.
+#[derive(Clone, Copy)]
+enum InputStop {
+    OutOfMemory,
+    /// A read failed or was interrupted.
+    Unreadable,
+    /// It has more than `MAX_BYTES` bytes.
+    TooLong,
+}
+
+impl From<InputStop> for FileFault {
+    ghost use Rattle.std.specs.Prelude.{◌≡◌};
+    ghost use Rattle.fleet_cli.specs.Input.{input_fault};
+
+    ghost from_gives = { λ stop fault. fault ≡ input_fault stop };
+
+    fn from(stop: InputStop) -> FileFault {
+        match stop {
+            InputStop::OutOfMemory => FileFault::OutOfMemory,
+            InputStop::Unreadable | InputStop::TooLong => FileFault::Failed,
+        }
+    }
+}
+
+/// All bytes of the reader, unless they are more than `MAX_BYTES`.
+fn read_to_limit<R: Read>(alloc: Global, reader: &mut R) -> Result<Vec<u8>, InputStop>
+    ensures whole { IfOk result (λ bytes. IfSome (R.remaining reader.old)
+        (λ rest. bytes.items ≡ rest)) }
+    ensures within { IfOk result (λ bytes. length bytes.items ≤ MAX_BYTES) }
+    ensures too_long { result ≡ Err InputStop.TooLong
+        → IfSome (R.remaining reader.old) (λ rest. MAX_BYTES < length rest) }
+{
+    let mut bytes = Vec::new(alloc);
+    let mut chunk = [0; CHUNK];
+    'chunks: loop {
+        let count = match reader.read(&mut chunk) {
+            Ok(count) => count,
+            Err(_) => return Err(InputStop::Unreadable),
+        };
+        if count == 0 {
+            return Ok(bytes);
+        }
+        let is_beyond = MAX_BYTES - bytes.len() < count;
+        if is_beyond {
+            return Err(InputStop::TooLong);
+        }
+        if bytes.extend_from_slice(&chunk[..count]).is_err() {
+            return Err(InputStop::OutOfMemory);
+        }
+    }
+}
+
+/// All bytes of the reader. Errors: `Failed` if a read fails or is interrupted, or if there are more than `MAX_BYTES`
+/// bytes, and `OutOfMemory`.
+pub fn read_whole<R: Read>(alloc: Global, reader: &mut R) -> Result<Vec<u8>, FileFault>
+    ensures whole { IfOk result (λ bytes. IfSome (R.remaining reader.old)
+        (λ rest. bytes.items ≡ rest)) }
+    ensures within { IfOk result (λ bytes. length bytes.items ≤ MAX_BYTES) }
+{
+    let bytes = read_to_limit(alloc, reader)?;
+    Ok(bytes)
+}

@@ -1,0 +1,98 @@
+//! Files in memory, for tests.
+
+ghost use Rattle.std.specs.Prelude.{◌≡◌, ◌≢◌, ◌≤◌, ◌<◌, ℕ, List, length, Some, None, Err, OnOk, OnErr, IfOk, IfErr, IfSome, IfNone};
+ghost use Rattle.fleet_cli.specs.Files.{Replaces};
+
+use crate::files::Files;
+use crate::input::{FileFault, MAX_BYTES};
+use fleet_model::OutOfMemory;
+use indexmap::IndexMap;
+use std::alloc::Global;
+
+/// A store of files in memory: the bytes of each, under its name.
+#[derive(Drop)]
+pub struct MemFiles {
+    files: IndexMap<String, Vec<u8>>,
+    alloc: Global,
+}
+
+impl MemFiles {
+    ghost use Rattle.fleet_cli.specs.MemFiles.{file_in};
+
+    /// A store without files. Takes no memory.
+    pub fn new(alloc: Global) -> MemFiles
+        ensures { (name : List ℕ) → file_in result name ≡ None }
+    {
+        MemFiles {
+            files: IndexMap::new(alloc),
+            alloc,
+        }
+    }
+
+    /// Makes the file hold the bytes. A refusal changes nothing.
+    pub fn put(&mut self, name: &str, bytes: &[u8]) -> Result<(), OutOfMemory>
+        ensures held { OnOk result (file_in self.new name.now ≡ Some bytes.now) }
+        ensures others { (n : List ℕ) → n ≢ name.now → file_in self.new n ≡ file_in self.old n }
+        ensures refused { OnErr result ((n : List ℕ) → file_in self.new n ≡ file_in self.old n) }
+    {
+        let key = String::from_str(self.alloc, name)?;
+        let value = Vec::from_slice(self.alloc, bytes)?;
+        self.files.insert(key, value)?;
+        Ok(())
+    }
+
+    /// The file's bytes, if there is one of this name.
+    pub fn get(&self, name: &str) -> Option<&[u8]>
+        ensures found { IfSome result (λ bytes. file_in self.now name.now ≡ Some bytes.now) }
+        ensures missing { IfNone result (file_in self.now name.now ≡ None) }
+    {
+        match self.files.get(name) {
+            Some(bytes) => Some(bytes.as_slice()),
+            None => None,
+        }
+    }
+}
+
+impl Files for MemFiles {
+    ghost use Rattle.std.specs.Prelude.{Some};
+    ghost use Rattle.fleet_cli.specs.MemFiles.{file_in};
+    ghost use Rattle.fleet_cli.specs.declared.input.FileFault.TheVariants.{OutOfMemory};
+
+    ghost contents = { λ s. Some (file_in s) };
+
+    ghost refuses_write = { λ _ _ fault. fault ≡ OutOfMemory };
+
+    /// `Failed` only if there is no such file, or if it has more than `MAX_BYTES` bytes.
+    fn read(&mut self, alloc: Global, name: &str) -> Result<Vec<u8>, FileFault>
+        ensures bytes { IfOk result (λ bytes. file_in self.old name.now ≡ Some bytes.items) }
+        ensures within { IfOk result (λ bytes. length bytes.items ≤ MAX_BYTES) }
+        ensures kept { (n : List ℕ) → file_in self.new n ≡ file_in self.old n }
+        ensures unreadable { result ≡ Err FileFault.Failed → (bytes : List ℕ)
+            → file_in self.old name.now ≡ Some bytes → MAX_BYTES < length bytes }
+    {
+        let Some(bytes) = self.get(name) else {
+            return Err(FileFault::Failed);
+        };
+        if bytes.len() > MAX_BYTES {
+            return Err(FileFault::Failed);
+        }
+        match Vec::from_slice(alloc, bytes) {
+            Ok(copy) => Ok(copy),
+            Err(_) => Err(FileFault::OutOfMemory),
+        }
+    }
+
+    /// Fails only if memory is refused, and then changes nothing.
+    fn write(&mut self, name: &str, bytes: &[u8]) -> Result<(), FileFault>
+        ensures replaced { OnOk result
+            (Replaces (Some (file_in self.old)) (Some (file_in self.new)) name.now bytes.now) }
+        ensures others { (n : List ℕ) → n ≢ name.now → file_in self.new n ≡ file_in self.old n }
+        ensures refused { IfErr result (λ e. (e ≡ FileFault.OutOfMemory)
+            × ((n : List ℕ) → file_in self.new n ≡ file_in self.old n)) }
+    {
+        match self.put(name, bytes) {
+            Ok(()) => Ok(()),
+            Err(OutOfMemory) => Err(FileFault::OutOfMemory),
+        }
+    }
+}

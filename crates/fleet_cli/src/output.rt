@@ -1,0 +1,90 @@
+//! What several commands print or write in the same way: counts, and a file OUT with counts of it.
+
+ghost use Rattle.std.specs.Prelude.{◌≡◌, MatchResult};
+ghost use Rattle.fleet_text.specs.Sink.{IsWorking, TakesAll, Delivers};
+ghost use Rattle.fleet_cli.specs.Printed.{with_labels, count_lines, report, IsPrinted, WritesOut, IsOutRefusal};
+
+use crate::fault::Fault;
+use crate::files::Files;
+use crate::named::write_file;
+use fleet_run::{Flush, OutFault, TraceOut};
+use fleet_text::{Word, put_count, put_line};
+
+/// Writes a line for each count: its label and its number.
+fn put_counts<O: TraceOut>(out: &mut O, counts: &[(&'static str, u64)]) -> Result<(), OutFault>
+    requires { IsWorking (O.state out.old) }
+    ensures { TakesAll (O.state out.old) (O.state out.new) result
+        (count_lines (with_labels counts.now)) }
+{
+    for (label, number) in counts {
+        put_count(out, label, *number)?;
+    }
+    Ok(())
+}
+
+/// Prints the counts, and has the sink hand them on.
+fn print_counts<O: Flush>(out: &mut O, counts: &[(&'static str, u64)]) -> Result<(), OutFault>
+    requires { IsWorking (O.state out.old) }
+    ensures { Delivers (O.state out.old) (O.state out.new) result
+        (count_lines (with_labels counts.now)) }
+{
+    put_counts(out, counts)?;
+    out.flush()
+}
+
+/// Writes a word in a line of its own, and then a line for each count.
+fn put_report<O: TraceOut>(
+    out: &mut O,
+    title: &'static str,
+    counts: &[(&'static str, u64)],
+) -> Result<(), OutFault>
+    requires { IsWorking (O.state out.old) }
+    ensures { TakesAll (O.state out.old) (O.state out.new) result
+        (report title.now (with_labels counts.now)) }
+{
+    put_line(out, &[Word::Text(title)])?;
+    put_counts(out, counts)
+}
+
+/// Prints a word in a line of its own, and then the counts, and has the sink hand all on.
+pub(crate) fn print_report<O: Flush>(
+    out: &mut O,
+    title: &'static str,
+    counts: &[(&'static str, u64)],
+) -> Result<(), OutFault>
+    requires { IsWorking (O.state out.old) }
+    ensures { Delivers (O.state out.old) (O.state out.new) result
+        (report title.now (with_labels counts.now)) }
+{
+    put_report(out, title, counts)?;
+    out.flush()
+}
+
+/// The status of a command that was to print: 0, or the refusal of the standard output.
+pub(crate) fn status_after_print<'a>(done: Result<(), OutFault>) -> Result<u8, Fault<'a>>
+    ensures { IsPrinted done result }
+{
+    match done {
+        Ok(()) => Ok(0),
+        Err(OutFault) => Err(Fault::File("-")),
+    }
+}
+
+/// Writes the bytes to the file OUT, and then prints the counts. Answers 0.
+pub(crate) fn write_out<'a, F: Files, O: Flush>(
+    files: &mut F,
+    name: &'a str,
+    bytes: &[u8],
+    out: &mut O,
+    counts: &[(&'static str, u64)],
+) -> Result<u8, Fault<'a>>
+    requires { IsWorking (O.state out.old) }
+    ensures { MatchResult result
+        (λ status. WritesOut (F.contents files.old) (F.contents files.new) name.entry.now bytes.now
+        (O.state out.old) (O.state out.new) (count_lines (with_labels counts.now)) × (status ≡ 0))
+        (IsOutRefusal (F.contents files.old) (F.contents files.new) name.entry.now bytes.now
+        (O.state out.old) (O.state out.new) (count_lines (with_labels counts.now))) }
+{
+    write_file(files, name, bytes)?;
+    status_after_print(print_counts(out, counts))
+}

@@ -1,0 +1,148 @@
+//! The command `thin`.
+
+ghost use Rattle.std.specs.Prelude.{◌≡◌, ℕ, List, IfOk, IfErr, MatchResult};
+ghost use Rattle.fleet_model.specs.Program.{total_awaits};
+ghost use Rattle.fleet_code.specs.Spelling.{SpellsShortest};
+ghost use Rattle.fleet_text.specs.Sink.{IsWorking};
+ghost use Rattle.fleet_cli.specs.Files.{AreUnchanged};
+ghost use Rattle.fleet_cli.specs.Printed.{WritesOut, IsOutRefusal};
+ghost use Rattle.fleet_cli.specs.Inputs.{IsTextsRefusal};
+ghost use Rattle.fleet_cli.specs.ThinCommand.{ThinsTexts, ThinsFiles, IsThinRefusal, thinned_text, DoesThin, RefusesThin};
+
+use crate::fault::Fault;
+use crate::files::Files;
+use crate::inputs::{accept, read_problem};
+use crate::named::read_three;
+use crate::output::write_out;
+use fleet_adg::{ThinFault, thin};
+use fleet_args::ThinRequest;
+use fleet_code::{EncodeFault, encode_shortest};
+use fleet_model::{Program, total_awaits};
+use fleet_run::Flush;
+use std::alloc::Global;
+
+/// The bytes of a thinned program, and how many awaits there were before and are after.
+#[derive(Drop)]
+struct Thinned {
+    before: u32,
+    after: u32,
+    bytes: Vec<u8>,
+}
+
+/// The program that the bytes spell, accepted for the map and the instance for which the texts stand, and thinned; and
+/// how many awaits it had before.
+fn thinned_program<'a>(
+    alloc: Global,
+    map: &[u8],
+    scen: &[u8],
+    asked: Option<u16>,
+    program: &[u8],
+) -> Result<(u32, Program), Fault<'a>>
+    ensures thinned { IfOk result
+        (λ t. (bytes : List ℕ) → SpellsShortest bytes t.1 → ThinsTexts map.now scen.now asked
+        program.now t.0 (total_awaits t.1) bytes) }
+    ensures fault { IfErr result (IsTextsRefusal map.now scen.now asked program.now) }
+{
+    let problem = read_problem(alloc, map, scen, asked)?;
+    let accepted = accept(alloc, program, &problem.grid, &problem.instance)?;
+    match thin(alloc, &accepted) {
+        Ok(thinned) => Ok((total_awaits(accepted.program()), thinned)),
+        Err(ThinFault::OutOfMemory) => Err(Fault::Memory),
+    }
+}
+
+/// The thinned program's bytes. The program that was thinned is let go before they are made.
+fn thin_texts<'a>(
+    alloc: Global,
+    map: &[u8],
+    scen: &[u8],
+    asked: Option<u16>,
+    program: &[u8],
+) -> Result<Thinned, Fault<'a>>
+    ensures thinned { IfOk result
+        (λ t. ThinsTexts map.now scen.now asked program.now t.before t.after t.bytes.items) }
+    ensures fault { IfErr result (IsTextsRefusal map.now scen.now asked program.now) }
+{
+    let (before, thinned) = thinned_program(alloc, map, scen, asked, program)?;
+    let after = total_awaits(&thinned);
+    let bytes = match encode_shortest(alloc, &thinned) {
+        Ok(bytes) => bytes,
+        Err(EncodeFault::OutOfMemory) => return Err(Fault::Memory),
+        // One of the two versions has bytes for every program.
+        Err(_) => unreachable!(),
+    };
+    Ok(Thinned {
+        before,
+        after,
+        bytes,
+    })
+}
+
+/// Reads the files, and then thins.
+fn thin_files<'a, F: Files>(
+    alloc: Global,
+    request: &ThinRequest<'a>,
+    files: &mut F,
+) -> Result<Thinned, Fault<'a>>
+    ensures thinned { IfOk result
+        (λ t. ThinsFiles (F.contents files.old) request.now t.before t.after t.bytes.items) }
+    ensures fault { IfErr result (IsThinRefusal (F.contents files.old) request.now) }
+    ensures kept { AreUnchanged (F.contents files.old) (F.contents files.new) }
+{
+    let (map, scen, program) = read_three(
+        alloc,
+        files,
+        request.map,
+        request.scen,
+        request.program,
+    )?;
+    thin_texts(alloc, &map, &scen, request.agents, &program)
+}
+
+/// Writes the bytes of the thinned program to the file OUT, and prints its awaits before and after.
+fn write_thinned<'a, F: Files, O: Flush>(
+    files: &mut F,
+    name: &'a str,
+    thinned: &Thinned,
+    out: &mut O,
+) -> Result<u8, Fault<'a>>
+    requires { IsWorking (O.state out.old) }
+    ensures { MatchResult result
+        (λ status. WritesOut (F.contents files.old) (F.contents files.new) name.entry.now
+        thinned.now.bytes.items (O.state out.old) (O.state out.new)
+        (thinned_text thinned.now.before thinned.now.after) × (status ≡ 0))
+        (IsOutRefusal (F.contents files.old) (F.contents files.new) name.entry.now
+        thinned.now.bytes.items (O.state out.old) (O.state out.new)
+        (thinned_text thinned.now.before thinned.now.after)) }
+{
+    write_out(
+        files,
+        name,
+        &thinned.bytes,
+        out,
+        &[
+            ("awaits", thinned.before as u64),
+            ("awaits", thinned.after as u64),
+        ],
+    )
+}
+
+/// The command `thin`: reads the files whole, writes the bytes of the program without its implied awaits to the file
+/// OUT once all before it succeeded, and prints its awaits before and after to `out`. Answers 0.
+#[inline(never)]
+pub fn do_thin<'a, F: Files, O: Flush>(
+    alloc: Global,
+    request: &ThinRequest<'a>,
+    files: &mut F,
+    out: &mut O,
+) -> Result<u8, Fault<'a>>
+    requires { IsWorking (O.state out.old) }
+    ensures { MatchResult result
+        (DoesThin (F.contents files.old) (F.contents files.new) request.now
+        (O.state out.old) (O.state out.new))
+        (RefusesThin (F.contents files.old) (F.contents files.new) request.now
+        (O.state out.old) (O.state out.new)) }
+{
+    let thinned = thin_files(alloc, request, files)?;
+    write_thinned(files, request.out, &thinned, out)
+}

@@ -1,0 +1,133 @@
+//! The command `verify`.
+
+ghost use Rattle.std.specs.Prelude.{◌≡◌, MatchResult, IfOk};
+ghost use Rattle.fleet_model.specs.declared.geometry.Place.{Place};
+ghost use Rattle.fleet_verify.specs.Broken.{MeetUnordered, IsBrokenBy};
+ghost use Rattle.fleet_text.specs.Sink.{IsWorking, Delivers};
+ghost use Rattle.fleet_cli.specs.Files.{AreUnchanged};
+ghost use Rattle.fleet_cli.specs.VerifyCommand.{accepted_text, SpellsBreakingHolds, ReportsRefused, PrintsAccepted, IsVerifyFault, DoesVerify, RefusesVerify};
+
+use crate::auto_fault::AcceptFault;
+use crate::fault::Fault;
+use crate::files::Files;
+use crate::flush::deliver;
+use crate::inputs::{read_problem, view_program};
+use crate::named::read_three;
+use crate::output::{print_report, status_after_print};
+use fleet_args::VerifyRequest;
+use fleet_model::{OutOfMemory, ProgramView, Visit, total_awaits, total_moves};
+use fleet_run::{Flush, OutFault, write_holds};
+use fleet_verify::{Accepted, Refused, VerifyFault, breaking_holds, verify};
+use std::alloc::Global;
+
+/// Prints that the program is accepted, with its numbers.
+fn print_accepted<P: ProgramView, O: Flush>(
+    out: &mut O,
+    accepted: &Accepted<'_, P>,
+) -> Result<(), OutFault>
+    requires { IsWorking (O.state out.old) }
+    ensures { Delivers (O.state out.old) (O.state out.new) result
+        (accepted_text (P.program accepted.now.program) accepted.now.chain) }
+{
+    let program = accepted.program();
+    print_report(
+        out,
+        "accepted",
+        &[
+            ("agents", program.agents() as u64),
+            ("moves", total_moves(program) as u64),
+            ("awaits", total_awaits(program) as u64),
+            ("chain", accepted.chain() as u64),
+        ],
+    )
+}
+
+/// The breaking holds of two visits of a cell that no chain orders, as text.
+fn breaking_text<P: ProgramView>(
+    alloc: Global,
+    program: &P,
+    first: Visit,
+    second: Visit,
+) -> Result<Vec<u8>, OutOfMemory>
+    requires { (q : Place) × MeetUnordered (P.program program.now) q first second }
+    ensures { IfOk result
+        (λ text. SpellsBreakingHolds (P.program program.now) first second text.items) }
+{
+    let holds = breaking_holds(alloc, program, first, second)?;
+    Ok(write_holds(alloc, &holds)?)
+}
+
+/// The refusal of a program. If it is of two visits of a cell that no chain orders, their breaking holds are printed.
+fn report_refused<'a, P: ProgramView + Drop, O: Flush>(
+    alloc: Global,
+    refused: Refused<P>,
+    out: &mut O,
+) -> Fault<'a>
+    requires working { IsWorking (O.state out.old) }
+    requires broken { IsBrokenBy (P.program refused.program) refused.fault }
+    ensures { ReportsRefused (P.program refused.program) refused.fault
+        (O.state out.old) (O.state out.new) result }
+{
+    let Refused { fault, program } = refused;
+    let VerifyFault::Unordered { first, second, .. } = &fault else {
+        return Fault::from(AcceptFault::from(fault));
+    };
+    let Ok(text) = breaking_text(alloc, &program, *first, *second) else {
+        return Fault::Memory;
+    };
+    match deliver(out, &text) {
+        Ok(()) => Fault::Verify(fault),
+        Err(OutFault) => Fault::File("-"),
+    }
+}
+
+/// Verifies the program that the bytes spell for the map and the instance of the texts, and prints that it is accepted,
+/// or the holds that break it.
+fn verify_bytes<'a, O: Flush>(
+    alloc: Global,
+    map: &[u8],
+    scen: &[u8],
+    asked: Option<u16>,
+    bytes: &[u8],
+    out: &mut O,
+) -> Result<u8, Fault<'a>>
+    requires { IsWorking (O.state out.old) }
+    ensures { MatchResult result
+        (λ status. PrintsAccepted map.now scen.now asked bytes.now
+        (O.state out.old) (O.state out.new) × (status ≡ 0))
+        (IsVerifyFault map.now scen.now asked bytes.now (O.state out.old) (O.state out.new)) }
+{
+    let problem = read_problem(alloc, map, scen, asked)?;
+    let program = view_program(alloc, bytes)?;
+    let accepted = match verify(alloc, program, &problem.grid, &problem.instance) {
+        Ok(accepted) => accepted,
+        Err(refused) => return Err(report_refused(alloc, refused, out)),
+    };
+    status_after_print(print_accepted(out, &accepted))
+}
+
+/// The command `verify`: reads the files whole, and prints to `out` that the program is accepted, with its numbers, or,
+/// of a program that is refused for two visits which no chain orders, the holds that break it. Answers 0. No file is
+/// changed.
+#[inline(never)]
+pub fn do_verify<'a, F: Files, O: Flush>(
+    alloc: Global,
+    request: &VerifyRequest<'a>,
+    files: &mut F,
+    out: &mut O,
+) -> Result<u8, Fault<'a>>
+    requires { IsWorking (O.state out.old) }
+    ensures did { MatchResult result
+        (DoesVerify (F.contents files.old) request.now (O.state out.old) (O.state out.new))
+        (RefusesVerify (F.contents files.old) request.now (O.state out.old) (O.state out.new)) }
+    ensures kept { AreUnchanged (F.contents files.old) (F.contents files.new) }
+{
+    let (map, scen, program) = read_three(
+        alloc,
+        files,
+        request.map,
+        request.scen,
+        request.program,
+    )?;
+    verify_bytes(alloc, &map, &scen, request.agents, &program, out)
+}

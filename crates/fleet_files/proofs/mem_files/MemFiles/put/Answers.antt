@@ -1,6 +1,0 @@
-use Rattle.std.proofs.Common.{arith}
-use Rattle.std.proofs.lemmas.Map.Text.{text_keys}
-use Rattle.fleet_files.proofs.mem_files.MemFiles.put.Goals as goal
-
-pub returns-clause-others : goal.returns-clause-others
-returns-clause-others c = λ n other. grind (arith, text_keys)

@@ -1,3 +1,0 @@
-pub mod FlushLemmas
-pub mod NamedLemmas
-pub mod TracedLemmas

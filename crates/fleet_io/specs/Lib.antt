@@ -1,5 +1,0 @@
-pub mod Lines
-pub mod Named
-pub mod Output
-pub mod Flushed
-pub mod Traced

@@ -17,6 +17,7 @@ use fleet_run::{Flush, OutFault, put_program};
 use std::alloc::Global;
 
 /// Prints the program as text, and has the sink hand it on.
+#[tactic(auto, using(crate::proofs::FlushLemmas::delivers_after))]
 fn print_program<P: ProgramView, O: Flush>(out: &mut O, program: &P) -> Result<(), OutFault>
     requires { IsWorking (O.state out.old) }
     ensures { Delivers (O.state out.old) (O.state out.new) result

@@ -1,6 +1,6 @@
 -- Answers of questions, one after another.
-use Rattle.std.proofs.Common.{◌≡◌, ◌≢◌, ℕ, ◌+◌, ◌<◌, ◌≤◌, Bool, true, false, List, length, replicate, get_or, set, Some, refl, sym, ap, subst, ◌∙◌, arith, inl, inr, ◌⊎◌}
-use Rattle.std.specs.Prelude.{slice_get, nat_lt, All, Option, None}
+use Rattle.std.proofs.Common.{◌≡◌, ◌≢◌, ℕ, ◌+◌, ◌-◌, ◌<◌, ◌≤◌, Bool, true, false, List, length, replicate, get_or, set, Some, refl, sym, ap, subst, ◌∙◌, arith, inl, inr, ◌⊎◌}
+use Rattle.std.specs.Prelude.{slice_get, slice_index, nat_lt, All, Option, None}
 use Rattle.std.proofs.lemmas.Grind.{common_steps}
 use Rattle.std.proofs.lemmas.Option.{slice_get_within, get_or_from_slice_get, slice_get-get_or, same_Some}
 use Rattle.std.proofs.lemmas.List.{get_or-replicate, get_or_past, length-replicate}
@@ -10,15 +10,18 @@ use Rattle.fleet_model.specs.Program.{Program}
 use Rattle.fleet_model.specs.Chain.{IsAction, Reaches}
 use Rattle.fleet_needs.specs.Rows.{IsColumn}
 use Rattle.fleet_needs.specs.Asked.{IsQuestion, IsSoonerAction, AreQuestions, AreAnswers}
-use Rattle.fleet_needs.specs.Block.{HasColumn, IsRowOf, IsAnswer, AreAnswered}
+use Rattle.fleet_needs.specs.Block.{HasColumn, IsAnswer, AreAnswered}
 use Rattle.fleet_needs.specs.Columns.{AreColumns}
-use Rattle.fleet_needs.specs.Order.{IsCounted, IsNextAction}
+use Rattle.fleet_needs.specs.JoinPass.{IsMade}
+use Rattle.fleet_needs.specs.Joins.{AreOwn, IsRow}
+use Rattle.fleet_needs.specs.Schedule.{AreCounts, HasRows, IsSchedule}
 use Rattle.fleet_needs.specs.Answering.{AreAnsweredTo, IsNextAnswered, IsAsked, IsAnswering}
 use Rattle.fleet_needs.specs.declared.answering.Answering.{Answering}
-use Rattle.fleet_needs.specs.declared.block.Block.{Block}
 use Rattle.fleet_needs.specs.declared.columns.Columns.{Columns}
+use Rattle.fleet_needs.specs.declared.joins.Join.{Join}
 use Rattle.fleet_needs.specs.declared.questions.Question.{Question}
-use Rattle.fleet_needs.proofs.Counting.{counted_here, counted_still, counted_back, counted_apart, none_counted}
+use Rattle.fleet_needs.specs.declared.schedule.Schedule.{Schedule}
+use Rattle.fleet_needs.proofs.Joining.{own_column}
 
 -- a count of the row that is below the number of the first action says that no chain begins with it
 pub answer_is : (p : Program) (q : Question) (n : ℕ) → 1 ≤ q.first.number → IsColumn p q.last q.first.agent n → IsAnswer p q (nat_lt n q.first.number)
@@ -85,10 +88,8 @@ question_at p questions h k q e = subst (IsQuestion p) (get_or_from_slice_get qu
 
 -- ---- an action more
 
-module _ (p : Program) (columns : Columns) (questions : List Question) (asked : AreQuestions p questions) (counts : List ℕ) (a : ActionId) (next : IsNextAction p counts a) where
-  action_at : (k : ℕ) (q : Question) → slice_get questions k ≡ Some q → IsAction p q.last
-  action_at k q at = (question_at p questions asked.each k q at).last
-
+module _ (p : Program) (columns : Columns) (questions : List Question) (asked : AreQuestions p questions) (Done Next : ActionId → Type 0) (a : ActionId) (here : Next a) (still : (x : ActionId) → Done x → Next x)
+    (back : (x : ActionId) → Next x → Done x ⊎ (x ≡ a)) (sooner : (k : ℕ) (q : Question) → slice_get questions k ≡ Some q → IsSoonerAction asked.level q.last a → Done q.last) where
   ordered : (k n : ℕ) (q r : Question) → slice_get questions k ≡ Some q → slice_get questions n ≡ Some r → k < n → IsSoonerAction asked.level q.last r.last
   ordered k n q r at there l =
       subst (λ (x : Question). IsSoonerAction asked.level x.last r.last) (get_or_from_slice_get questions k q q at)
@@ -99,34 +100,28 @@ module _ (p : Program) (columns : Columns) (questions : List Question) (asked : 
   not_sooner x (inl l) = omega arith
   not_sooner x (inr (e, l)) = omega arith
 
-  still : (x : ActionId) → IsCounted counts x → IsCounted (set counts a.agent a.number) x
-  still = counted_still counts a next.agent next.number
-
-  back : (x : ActionId) → IsCounted (set counts a.agent a.number) x → IsCounted counts x ⊎ (x ≡ a)
-  back = counted_back counts a next.agent next.number
-
-  pub answers_on : (n m : ℕ) (old new : List Bool) → AreAnsweredTo p columns questions (IsCounted counts) old n → IsAsked p columns questions a n old new m
-      → AreAnsweredTo p columns questions (IsCounted (set counts a.agent a.number)) new m
+  pub answers_on : (n m : ℕ) (old new : List Bool) → AreAnsweredTo p columns questions Done old n → IsAsked p columns questions a n old new m
+      → AreAnsweredTo p columns questions Next new m
   answers_on n m old new r s = go s.step
     where
       earlier : (k c : ℕ) (q : Question) → slice_get questions k ≡ Some q → k < n → HasColumn columns q.first.agent c → IsAnswer p q (get_or new k false)
       earlier k c q at l has = subst (λ (b : Bool). IsAnswer p q b) (sym (s.others k (λ e. omega arith))) (r.answered k c q at l has)
 
       go : ((m ≡ n + 1) × IsNextAnswered p columns questions a n old new) ⊎ ((m ≡ n) × (get_or new n false ≡ get_or old n false) × ((q : Question) → slice_get questions n ≡ Some q → q.last ≢ a))
-          → AreAnsweredTo p columns questions (IsCounted (set counts a.agent a.number)) new m
+          → AreAnsweredTo p columns questions Next new m
       go (inl (e, one)) = record {
         before = λ k q at done. elim (back q.last done) [
           | inl was ↦ (let l : k < n = r.before k q at was in omega arith)
           | inr same ↦ elim (cases_order k n) [
             | inl at_n ↦ omega arith
-            | inr (inl less) ↦ absurd (counted_apart counts a next.agent next.number q.last (r.done k q at less) same)
+            | inr (inl less) ↦ omega arith
             | inr (inr more) ↦ absurd (not_sooner a (subst (λ (x : ActionId). IsSoonerAction asked.level x a) one.last (subst (λ (y : ActionId). IsSoonerAction asked.level one.question.last y) same (ordered n k one.question q one.at at more))))
           ]
         ];
         done = λ k q at l. elim (cases_eq k n) [
           | inl at_n ↦
               let is : q ≡ one.question = same_Some q one.question (sym at ∙ ap (slice_get questions) at_n ∙ one.at) in
-              subst (IsCounted (set counts a.agent a.number)) (sym (ap (λ (x : Question). x.last) is ∙ one.last)) (counted_here counts a next.agent next.number)
+              subst Next (sym (ap (λ (x : Question). x.last) is ∙ one.last)) here
           | inr ne ↦ still q.last (r.done k q at (omega arith))
         ];
         answered = λ k c q at l has. elim (cases_eq k n) [
@@ -147,8 +142,8 @@ module _ (p : Program) (columns : Columns) (questions : List Question) (asked : 
                 let first : Question = get_or questions n q in
                 let within : k < length questions = slice_get_within questions k q at in
                 let there : slice_get questions n ≡ Some first = slice_get-get_or questions n q (omega arith) in
-                let sooner : IsSoonerAction asked.level first.last a = subst (λ (y : ActionId). IsSoonerAction asked.level first.last y) is (ordered n k first q there at more) in
-                let low : n < n = r.before n first there (next.sooner asked.level asked.levels first.last (action_at n first there) sooner) in
+                let earlier : IsSoonerAction asked.level first.last a = subst (λ (y : ActionId). IsSoonerAction asked.level first.last y) is (ordered n k first q there at more) in
+                let low : n < n = r.before n first there (sooner n first there earlier) in
                 omega arith)
           ]
         ];
@@ -175,8 +170,8 @@ module _ (p : Program) (columns : Columns) (questions : List Question) (a : Acti
   there : get_or questions n d ≡ asked.0
   there = get_or_from_slice_get questions n asked.0 d asked.1
 
-  pub asked_row : (row : List ℕ) → IsRowOf p columns a row → IsRowOf p columns (get_or questions n d).last row
-  asked_row row h = subst (λ (x : ActionId). IsRowOf p columns x row) (sym (ap (λ (q : Question). q.last) there ∙ asked.2)) h
+  pub asked_row : (row : List ℕ) → AreCounts p columns a.agent a.number (slice_index row) → AreCounts p columns (get_or questions n d).last.agent (get_or questions n d).last.number (slice_index row)
+  asked_row row h = subst (λ (x : ActionId). AreCounts p columns x.agent x.number (slice_index row)) (sym (ap (λ (q : Question). q.last) there ∙ asked.2)) h
 
   -- its flag is set, and no other one
   pub next_asked : (flags : List Bool) → length flags ≡ length questions → (flag : Bool)
@@ -206,13 +201,51 @@ asked_question p questions a n d asked each = subst (IsQuestion p) (sym (get_or_
 
 -- ---- before the first action
 
-pub answering_none : (p : Program) (b : Block) (n : ℕ) (s : Answering) → AreQuestions p s.questions.now → length s.flags.items ≡ length s.questions.now → s.next ≡ 0 → IsAnswering p b (replicate n 0) s
-answering_none p b n s asked long next = record {
+pub answering_none : (p : Program) (b : Schedule) (columns : Columns) (s : Answering) → AreQuestions p s.questions.now → HasRows b s.questions.now → length s.flags.items ≡ length s.questions.now → s.next ≡ 0 → IsAnswering p b columns 0 s
+answering_none p b columns s asked rows long next = record {
   questions = asked;
+  rows = rows;
   flags = long;
   answers = record {
-    before = λ k q at done. absurd (none_counted n q.last (question_at p s.questions.now asked.each k q at).last.first done);
+    before = λ k q at done. absurd (let some : 1 ≤ done.0 = done.2.some in let none : done.0 ≤ 0 = done.1 in omega arith);
     done = λ k q at l. absurd (omega arith);
     answered = λ k c q at l. absurd (omega arith);
   };
 }
+
+-- ---- one row more
+
+module _ (p : Program) (s : Schedule) (is : IsSchedule p s) (n : ℕ) (join : Join) (at : slice_get s.joins.items n ≡ Some join) where
+  pub made_here : IsMade s (n + 1) join.action
+  made_here = (n + 1, omega arith, record { join = join; some = omega arith; at = (let e : n + 1 - 1 ≡ n = omega arith in ap (slice_get s.joins.items) e ∙ at); of = refl })
+
+  pub made_still : (x : ActionId) → IsMade s n x → IsMade s (n + 1) x
+  made_still x (r, le, row) = (r, omega arith, row)
+
+  pub made_back : (x : ActionId) → IsMade s (n + 1) x → IsMade s n x ⊎ (x ≡ join.action)
+  made_back x (r, le, row) = elim (cases_lt n r) [
+    | inr l ↦ inl (r, l, row)
+    | inl l ↦
+        let e : r - 1 ≡ n = omega arith in
+        let same : row.join ≡ join = same_Some row.join join (sym row.at ∙ ap (slice_get s.joins.items) e ∙ at) in
+        inr (sym row.of ∙ ap (λ (y : Join). y.action) same)
+  ]
+
+  -- rows of questions that are to be asked sooner were made before
+  pub made_sooner : (questions : List Question) (asked : AreQuestions p questions) → HasRows s questions → (k : ℕ) (q : Question) → slice_get questions k ≡ Some q → IsSoonerAction asked.level q.last join.action → IsMade s n q.last
+  made_sooner questions asked rows k q there sooner = go (rows k q there)
+    where
+      go : (r : ℕ) × IsRow s.joins.items r q.last → IsMade s n q.last
+      go (r, row) =
+          let l : r - 1 < n = is.ordered asked.level asked.levels (r - 1) n row.join join row.at at (subst (λ (x : ActionId). IsSoonerAction asked.level x join.action) (sym row.of) sooner) in
+          (r, (let some : 1 ≤ r = row.some in omega arith), row)
+
+-- the count of a question's first agent at its last action
+pub asked_column : (p : Program) (columns : Columns) (q : Question) (f : ℕ → ℕ) → AreOwn p → IsQuestion p q → AreCounts p columns q.last.agent q.last.number f → (k : ℕ) → HasColumn columns q.first.agent k → (count : ℕ)
+    → (q.first.agent ≡ q.last.agent → count ≡ q.last.number) → (q.first.agent ≢ q.last.agent → count ≡ f k) → IsColumn p q.last q.first.agent count
+asked_column p columns q f own is h k has count mine other = elim (cases_eq q.first.agent q.last.agent) [
+  | inl e ↦
+      let here : IsColumn p q.last q.last.agent q.last.number = own_column p q.last.agent q.last.number is.last (λ c r. own q.last c is.last r) in
+      subst (λ (j : ℕ). IsColumn p q.last j count) (sym e) (subst (λ (v : ℕ). IsColumn p q.last q.last.agent v) (sym (mine e)) here)
+  | inr ne ↦ subst (λ (v : ℕ). IsColumn p q.last q.first.agent v) (sym (other ne)) ((h q.first.agent k has).0 ne)
+]

@@ -1,21 +1,23 @@
 -- Rows that are made: one row more, one action more.
-use Rattle.std.proofs.Common.{◌≡◌, ◌≢◌, ℕ, ◌+◌, ◌-◌, ◌<◌, ◌≤◌, List, [], ◌∷◌, ◌++◌, length, get_or, set, slice_index, refl, sym, ap, subst, ◌∙◌, arith, inl, inr, ◌⊎◌}
+use Rattle.std.proofs.Common.{◌≡◌, ◌≢◌, ℕ, ◌+◌, ◌-◌, ◌<◌, ◌≤◌, Bool, true, false, List, [], ◌∷◌, ◌++◌, length, get_or, set, slice_index, refl, sym, ap, subst, ◌∙◌, arith, inl, inr, ◌⊎◌}
 use Rattle.std.specs.Prelude.{slice_get, Some}
-use Rattle.std.proofs.lemmas.Bool.{cases_lt}
+use Rattle.std.proofs.lemmas.Bool.{cases_lt, false≢true}
 use Rattle.std.proofs.lemmas.Option.{slice_get-get_or, slice_get_within, get_or_from_slice_get, same_Some}
 use Rattle.std.proofs.lemmas.List.{get_or-set_same, get_or-set_other, length-set, length_push, get_or_append_left, get_or_push, get_or_past}
 use Rattle.fleet_model.specs.declared.program.ActionId.{ActionId}
 use Rattle.fleet_model.specs.declared.program.Await.{Await}
-use Rattle.fleet_model.specs.Program.{Program, awaits_of}
-use Rattle.fleet_model.specs.Chain.{IsAction, awaited}
-use Rattle.fleet_needs.specs.Order.{IsCounted}
-use Rattle.fleet_needs.specs.Places.{place_of_action}
-use Rattle.fleet_needs.specs.Joins.{IsRow, StandsFor, row_taken, IsJoin, AreJoins, Takes, AreLasts, row_of, IsStanding, AreSound, AreJoinsOf, CanJoin, AreTaken, HasJoined, IsAdded}
-use Rattle.fleet_needs.specs.Takers.{AreRaised}
+use Rattle.fleet_model.specs.Program.{Program, awaits_of, moves, total_moves}
+use Rattle.fleet_model.specs.Chain.{IsAction, IsLevel, awaited}
+use Rattle.fleet_needs.specs.Order.{IsCounted, IsNextAction}
+use Rattle.fleet_needs.specs.Asked.{IsSoonerAction}
+use Rattle.fleet_needs.specs.Places.{ArePlacesOf, place_of_action}
+use Rattle.fleet_needs.specs.Joins.{AreQuiet, IsRow, StandsFor, row_taken, IsJoin, AreJoins, Takes, AreLasts, HasAllRows, row_of, IsStanding, AreSound, AreJoinsOf, CanJoin, AreTaken, HasJoined, IsAdded}
+use Rattle.fleet_needs.specs.Joins.{AreRaised}
 use Rattle.fleet_needs.specs.declared.action_places.ActionPlaces.{ActionPlaces}
 use Rattle.fleet_needs.specs.declared.joins.Join.{Join}
 use Rattle.fleet_needs.specs.declared.joins.Joins.{Joins}
-use Rattle.fleet_needs.proofs.Counting.{counted_back, counted_apart}
+use Rattle.fleet_needs.proofs.Counting.{counted_back, counted_apart, counted_still, counted_here}
+use Rattle.fleet_needs.proofs.Passing.{same_or_not}
 use Rattle.fleet_needs.proofs.Placed.{place_apart, place_within}
 
 -- ---- a list with one more at its end
@@ -144,8 +146,8 @@ module _ (p : Program) (places : ActionPlaces) (a : ActionId) (old new : Joins) 
   newest_row : IsRow new.joins.items (length old.joins.items + 1) a
   newest_row = record { join = one; some = omega arith; at = (let e : length old.joins.items + 1 - 1 ≡ length old.joins.items = omega arith in ap (slice_get new.joins.items) e ∙ newest); of = refl }
 
-  pub joined_on : HasJoined p places a (length old.joins.items + 1) old new
-  joined_on = record {
+  pub joined_on : (wanted : Bool) → HasJoined p places a wanted (length old.joins.items + 1) old new
+  joined_on wanted = record {
     sound = record {
       right = can.sound.right;
       joins = λ n j at. join_on n j (parts n j at);
@@ -159,6 +161,8 @@ module _ (p : Program) (places : ActionPlaces) (a : ActionId) (old new : Joins) 
     within = omega (arith, long);
     stands = record { number = a.number; upto = omega arith; quiet = λ m from upto. absurd (omega arith); row = inr newest_row };
     here = λ some. newest_row;
+    asked = λ e. newest_row;
+    parts = λ n j at. elim (parts n j at) [ inl was ↦ inl was | inr is ↦ inr (is.0, ap (λ (x : Join). x.action) is.1) ];
   }
 
 -- what is taken by the first k awaits
@@ -216,7 +220,7 @@ module _ (p : Program) (places : ActionPlaces) (a : ActionId) (old : Joins) wher
 pub joined_by : (p : Program) (places : ActionPlaces) (a : ActionId) (old mid low new : Joins) (base first : ℕ) → CanJoin p places old a → base ≤ length old.joins.items → StandsFor p old.joins.items base a.agent (a.number - 1)
     → AreTaken p places a old mid → low.joins ≡ mid.joins → low.rows ≡ mid.rows → low.standing ≡ mid.standing → AreRaised mid.lasts.items low.lasts.items → length old.joins.items + 1 ≤ slice_index low.lasts.items base
     → new.lasts.items ≡ low.lasts.items ++ 0 ∷ [] → first ≡ length old.rows.items → new.joins.items ≡ low.joins.items ++ record { action = a; base = base; first = first } ∷ [] → new.rows ≡ low.rows → new.standing ≡ low.standing
-    → HasJoined p places a (length old.joins.items + 1) old new
+    → (wanted : Bool) → HasJoined p places a wanted (length old.joins.items + 1) old new
 joined_by p places a old mid low new base first can within stands taken joins rows standing raised based putl at putj same_rows same_standing =
     joined_on p places a old new base can within stands
     (putj ∙ ap (λ (n : ℕ). low.joins.items ++ record { action = a; base = base; first = n } ∷ []) at ∙ ap (λ xs. xs.items ++ record { action = a; base = base; first = length old.rows.items } ∷ []) (joins ∙ taken.joins))
@@ -239,9 +243,9 @@ joined_by p places a old mid low new base first can within stands taken joins ro
     ]
 
 -- an action that awaits nothing has no row of its own
-pub joined_none : (p : Program) (places : ActionPlaces) (a : ActionId) (m : Joins) (base : ℕ) → CanJoin p places m a → base ≤ length m.joins.items → StandsFor p m.joins.items base a.agent (a.number - 1)
-    → length (awaits_of p a.agent a.number) ≡ 0 → HasJoined p places a base m m
-joined_none p places a m base can within stands none = record {
+pub joined_none : (p : Program) (places : ActionPlaces) (a : ActionId) (wanted : Bool) (m : Joins) (base : ℕ) → wanted ≡ false → CanJoin p places m a → base ≤ length m.joins.items → StandsFor p m.joins.items base a.agent (a.number - 1)
+    → length (awaits_of p a.agent a.number) ≡ 0 → HasJoined p places a wanted base m m
+joined_none p places a wanted m base left can within stands none = record {
   sound = can.sound;
   standing = refl;
   more = omega arith;
@@ -250,6 +254,8 @@ joined_none p places a m base can within stands none = record {
   within = within;
   stands = stands_on p m.joins.items base a can.action.first (empty (awaits_of p a.agent a.number) none) stands;
   here = λ some. absurd (omega (arith, none, some));
+  asked = λ set. absurd (false≢true (sym left ∙ set));
+  parts = λ n j at. inl at;
 }
   where
     empty : (ws : List Await) → length ws ≡ 0 → ws ≡ []
@@ -258,7 +264,7 @@ joined_none p places a m base can within stands none = record {
 
 -- ---- the row of the action is noted
 
-module _ (p : Program) (places : ActionPlaces) (a : ActionId) (r : ℕ) (old mid new : Joins) (is : IsAction p a) (h : HasJoined p places a r old mid)
+module _ (p : Program) (places : ActionPlaces) (a : ActionId) (wanted : Bool) (r : ℕ) (old mid new : Joins) (is : IsAction p a) (h : HasJoined p places a wanted r old mid)
     (joins : new.joins ≡ mid.joins) (rows : new.rows ≡ mid.rows) (lasts : new.lasts ≡ mid.lasts) (put : new.standing.items ≡ set mid.standing.items (place_of_action places a) r) where
   place_in : place_of_action places a < length mid.standing.items
   place_in = omega (arith, place_within p places.firsts.items h.sound.right a is, h.sound.room)
@@ -284,7 +290,7 @@ module _ (p : Program) (places : ActionPlaces) (a : ActionId) (r : ℕ) (old mid
     room = ap (λ (xs : List ℕ). length xs) put ∙ length-set mid.standing.items (place_of_action places a) r ∙ h.sound.room;
   }
 
-  pub added : IsAdded p places a old new
+  pub added : IsAdded p places a wanted old new
   added = record {
     sound = sound_on;
     kept = λ x k ne s.
@@ -301,23 +307,78 @@ module _ (p : Program) (places : ActionPlaces) (a : ActionId) (r : ℕ) (old mid
       stands = subst (λ (xs : List Join). StandsFor p xs (row_of places new a) a.agent a.number) (sym same_joins) (subst (λ (s : ℕ). StandsFor p mid.joins.items s a.agent a.number) (sym at_own) h.stands);
     };
     row = λ some. (r, subst (λ (xs : List Join). IsRow xs r a) (sym same_joins) (h.here some));
+    asked = λ set. (r, subst (λ (xs : List Join). IsRow xs r a) (sym same_joins) (h.asked set));
+    parts = λ n j at. h.parts n j (ap (λ (xs : List Join). slice_get xs n) (sym same_joins) ∙ at);
   }
 
 -- ---- one action more
 
-pub joins_more : (p : Program) (places : ActionPlaces) (counts : List ℕ) (a : ActionId) (within : a.agent < length counts) (number : a.number ≡ slice_index counts a.agent + 1) (old new : Joins)
-    → AreJoinsOf p places (IsCounted counts) old → IsAdded p places a old new → AreJoinsOf p places (IsCounted (set counts a.agent a.number)) new
-joins_more p places counts a within number old new h added = record {
-  sound = added.sound;
-  standing = λ x is done. elim (counted_back counts a within number x done) [
-    | inl before ↦ added.kept x is (counted_apart counts a within number x before) (h.standing x is before)
-    | inr e ↦ subst (IsStanding p places new) (sym e) added.here
-  ];
-  rows = λ x is done some. elim (counted_back counts a within number x done) [
-    | inl before ↦ (let was = h.rows x is before some in (was.0, added.rows x was.0 was.1))
-    | inr e ↦ (let made = added.row (subst (λ (y : ActionId). 1 ≤ length (awaits_of p y.agent y.number)) e some) in (made.0, subst (IsRow new.joins.items made.0) (sym e) made.1))
-  ];
-}
+module _ (p : Program) (places : ActionPlaces) (wanted : List Bool) (counts : List ℕ) (a : ActionId) (is : IsAction p a) (next : IsNextAction p counts a) (old new : Joins)
+    (h : AreJoinsOf p places wanted (IsCounted counts) old) (added : IsAdded p places a (get_or wanted (place_of_action places a) false) old new) where
+  back : (x : ActionId) → IsCounted (set counts a.agent a.number) x → IsCounted counts x ⊎ (x ≡ a)
+  back = counted_back counts a next.agent next.number
+
+  stays : (x : ActionId) → IsCounted counts x → IsCounted (set counts a.agent a.number) x
+  stays = counted_still counts a next.agent next.number
+
+  here : IsCounted (set counts a.agent a.number) a
+  here = counted_here counts a next.agent next.number
+
+  module _ (level : ActionId → ℕ) (levels : (x : ActionId) → IsAction p x → IsLevel p x (level x)) where
+    first_on : (x y : ActionId) → IsAction p x → IsAction p y → IsCounted (set counts a.agent a.number) y → IsSoonerAction level x y → IsCounted (set counts a.agent a.number) x
+    first_on x y k m done sooner = elim (back y done) [
+      | inl before ↦ stays x (h.first level levels x y k m before sooner)
+      | inr e ↦ stays x (next.sooner level levels x k (subst (IsSoonerAction level x) e sooner))
+    ]
+
+    not_sooner : (x : ActionId) → IsSoonerAction level x x → ⊥
+    not_sooner x (inl l) = omega arith
+    not_sooner x (inr (e, l)) = omega arith
+
+    ordered_on : (m n : ℕ) (x y : Join) → (slice_get old.joins.items m ≡ Some x) ⊎ ((m ≡ length old.joins.items) × (x.action ≡ a)) → (slice_get old.joins.items n ≡ Some y) ⊎ ((n ≡ length old.joins.items) × (y.action ≡ a))
+        → IsSoonerAction level x.action y.action → m < n
+    ordered_on m n x y (inl at) (inl there) sooner = h.ordered level levels m n x y at there sooner
+    ordered_on m n x y (inl at) (inr (e, same)) sooner = (let l = slice_get_within old.joins.items m x at in omega (arith, l, e))
+    ordered_on m n x y (inr (e, same)) (inl there) sooner =
+        let done : IsCounted counts a = h.first level levels a y.action is (h.sound.joins n y there).action (h.made n y there) (subst (λ (z : ActionId). IsSoonerAction level z y.action) same sooner) in
+        absurd (counted_apart counts a next.agent next.number a done refl)
+    ordered_on m n x y (inr (e, same)) (inr (f, also)) sooner =
+        absurd (not_sooner a (subst (λ (z : ActionId). IsSoonerAction level z a) same (subst (IsSoonerAction level x.action) also sooner)))
+
+  rising_on : (m n : ℕ) (x y : Join) → (slice_get old.joins.items m ≡ Some x) ⊎ ((m ≡ length old.joins.items) × (x.action ≡ a)) → (slice_get old.joins.items n ≡ Some y) ⊎ ((n ≡ length old.joins.items) × (y.action ≡ a))
+      → m < n → x.action.agent ≡ y.action.agent → x.action.number < y.action.number
+  rising_on m n x y (inl at) (inl there) l agents = h.rising m n x y at there l agents
+  rising_on m n x y (inl at) (inr (e, same)) l agents =
+      let done : x.action.number ≤ slice_index counts x.action.agent = h.made m x at in
+      let agent : slice_index counts x.action.agent ≡ slice_index counts a.agent = ap (slice_index counts) (agents ∙ ap (λ (z : ActionId). z.agent) same) in
+      let number : y.action.number ≡ a.number = ap (λ (z : ActionId). z.number) same in
+      omega (arith, done, agent, number, next.number)
+  rising_on m n x y (inr (e, same)) (inl there) l agents = absurd (let w = slice_get_within old.joins.items n y there in omega (arith, w, e, l))
+  rising_on m n x y (inr (e, same)) (inr (f, also)) l agents = absurd (omega (arith, e, f, l))
+
+  pub joins_more : AreJoinsOf p places wanted (IsCounted (set counts a.agent a.number)) new
+  joins_more = record {
+    sound = added.sound;
+    standing = λ x k done. elim (back x done) [
+      | inl before ↦ added.kept x k (counted_apart counts a next.agent next.number x before) (h.standing x k before)
+      | inr e ↦ subst (IsStanding p places new) (sym e) added.here
+    ];
+    rows = λ x k done some. elim (back x done) [
+      | inl before ↦ (let was = h.rows x k before some in (was.0, added.rows x was.0 was.1))
+      | inr e ↦ (let made = added.row (subst (λ (y : ActionId). 1 ≤ length (awaits_of p y.agent y.number)) e some) in (made.0, subst (IsRow new.joins.items made.0) (sym e) made.1))
+    ];
+    asked = λ x k done set. elim (back x done) [
+      | inl before ↦ (let was = h.asked x k before set in (was.0, added.rows x was.0 was.1))
+      | inr e ↦ (let made = added.asked (subst (λ (y : ActionId). get_or wanted (place_of_action places y) false ≡ true) e set) in (made.0, subst (IsRow new.joins.items made.0) (sym e) made.1))
+    ];
+    ordered = λ level levels m n x y at there. ordered_on level levels m n x y (added.parts m x at) (added.parts n y there);
+    rising = λ m n x y at there. rising_on m n x y (added.parts m x at) (added.parts n y there);
+    made = λ n j at. elim (added.parts n j at) [
+      | inl was ↦ stays j.action (h.made n j was)
+      | inr e ↦ subst (IsCounted (set counts a.agent a.number)) (sym e.1) here
+    ];
+    first = first_on;
+  }
 
 -- a row that is taken was made before
 pub taken_sooner : (p : Program) (joins : List Join) (rows : List ℕ) (n : ℕ) (j : Join) (r : ℕ) → IsJoin p joins rows n j → Takes p rows j r → r ≤ n

@@ -1,7 +1,9 @@
 -- Rows that are made in the order in which actions finish: tick by tick.
-use Rattle.std.proofs.Common.{◌≡◌, ℕ, suc, ◌+◌, ◌≤◌, true, List, [], length, replicate, slice_index, ap, arith, inr}
+use Rattle.std.proofs.Common.{◌≡◌, ℕ, suc, ◌+◌, ◌<◌, ◌≤◌, Bool, true, List, [], length, replicate, slice_index, ap, arith, inr}
+use Rattle.std.specs.Prelude.{slice_get, Some}
 use Rattle.std.proofs.lemmas.Option.{slice_get_within, get_or_from_slice_get}
 use Rattle.fleet_model.specs.declared.program.ActionId.{ActionId}
+use Rattle.fleet_model.specs.declared.program.Await.{Await}
 use Rattle.fleet_model.specs.Program.{Program, AreInRange, awaits_of, total_moves}
 use Rattle.fleet_model.specs.Machine.{run, is_finished}
 use Rattle.fleet_model.specs.Chain.{IsAction, awaited}
@@ -16,9 +18,9 @@ use Rattle.fleet_needs.proofs.Free.{count, moves_on, needs_done}
 use Rattle.fleet_needs.proofs.GatheredAll.{own_later}
 use Rattle.fleet_needs.proofs.Joining.{awaited_action}
 
-pub joins_none : (p : Program) (places : ActionPlaces) (m : Joins) (n : ℕ) → ArePlacesOf p places → m.joins.items ≡ [] → length m.lasts.items ≡ 1 → length m.standing.items ≡ total_moves p
-    → AreJoinsOf p places (IsCounted (replicate n 0)) m
-joins_none p places m n right none one room = record {
+pub joins_none : (p : Program) (places : ActionPlaces) (wanted : List Bool) (m : Joins) (n : ℕ) → ArePlacesOf p places → m.joins.items ≡ [] → length m.lasts.items ≡ 1 → length m.standing.items ≡ total_moves p
+    → AreJoinsOf p places wanted (IsCounted (replicate n 0)) m
+joins_none p places wanted m n right none one room = record {
   sound = record {
     right = right;
     joins = λ k j at. absurd (let l = slice_get_within m.joins.items k j at in omega (arith, l, empty));
@@ -27,16 +29,24 @@ joins_none p places m n right none one room = record {
   };
   standing = λ a is done. absurd (none_counted n a is.first done);
   rows = λ a is done some. absurd (none_counted n a is.first done);
+  asked = λ a is done set. absurd (none_counted n a is.first done);
+  ordered = λ level levels k l x y at there. absurd (let w = slice_get_within m.joins.items k x at in omega (arith, w, empty));
+  rising = λ k l x y at. absurd (let w = slice_get_within m.joins.items k x at in omega (arith, w, empty));
+  made = λ k j at. absurd (let w = slice_get_within m.joins.items k j at in omega (arith, w, empty));
+  first = λ level levels x y k is done. absurd (none_counted n y is.first done);
 }
   where
     empty : length m.joins.items ≡ 0
     empty = ap (λ xs. length xs) none
 
-pub joins_end : (p : Program) (t : ℕ) (counts : List ℕ) (places : ActionPlaces) (m : Joins) → is_finished p (run p [] t) ≡ true → AreMid p t 0 counts → AreJoinsOf p places (IsCounted counts) m → AreJoinsEnd p m
-joins_end p t counts places m finished mid h = record {
+pub joins_end : (p : Program) (t : ℕ) (counts : List ℕ) (places : ActionPlaces) (wanted : List Bool) (m : Joins) → is_finished p (run p [] t) ≡ true → AreMid p t 0 counts → AreJoinsOf p places wanted (IsCounted counts) m → AreJoinsEnd p places wanted m
+joins_end p t counts places wanted m finished mid h = record {
   joins = h.sound.joins;
   lasts = h.sound.lasts;
   rows = λ a is these some. h.rows a is (all_counted p t counts finished mid a is) some;
+  asked = λ a is set. h.asked a is (all_counted p t counts finished mid a is) set;
+  ordered = h.ordered;
+  rising = h.rising;
   own = λ a c is r. own_later p t a is (all_finished p t finished a is) c r;
 }
 
@@ -51,8 +61,8 @@ module _ (p : Program) (t from : ℕ) (counts : List ℕ) (mid : AreMid p t from
   is_next = next_action p t from i next n number
 
   -- rows stand for all that the next action directly needs
-  pub can_join : AreInRange p → (places : ActionPlaces) (m : Joins) → AreJoinsOf p places (IsCounted counts) m → CanJoin p places m (record { agent = i; number = n })
-  can_join range places m h = record {
+  pub can_join : AreInRange p → (places : ActionPlaces) (wanted : List Bool) (m : Joins) → AreJoinsOf p places wanted (IsCounted counts) m → CanJoin p places m (record { agent = i; number = n })
+  can_join range places wanted m h = record {
     sound = h.sound;
     action = is_next;
     before = λ b is same e. h.standing b is (let at : slice_index counts b.agent ≡ slice_index counts i = ap (slice_index counts) same in omega (arith, at, more, e));

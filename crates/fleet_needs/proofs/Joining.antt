@@ -8,9 +8,6 @@ use Rattle.fleet_model.specs.declared.program.Await.{Await}
 use Rattle.fleet_model.specs.Program.{Program, moves, awaits_of, AreInRange}
 use Rattle.fleet_model.specs.Chain.{IsAction, Reaches, awaited}
 use Rattle.fleet_needs.specs.Rows.{IsColumn, ByOneOf, IsJoined, OfFirst}
-use Rattle.fleet_needs.specs.Block.{HasRow, CanMakeRow}
-use Rattle.fleet_needs.specs.declared.block.Block.{Block}
-use Rattle.fleet_needs.specs.declared.kept_rows.KeptRows.{KeptRows}
 use Rattle.fleet_model.proofs.Reaching.{own_reach, LastStep, chain_ends_by_step, Reaches-trans}
 use Rattle.fleet_model.proofs.Chains.{Reaches-first, Reaches-last, Reaches-need}
 
@@ -167,18 +164,3 @@ pub by_before : (p : Program) (first last : ActionId) (n : ℕ) → IsAction p l
 by_before p first last n is some e r =
     let before : IsAction p (record { agent = last.agent; number = n }) = record { agent = is.agent; first = some; last = (let l : last.number ≤ moves p last.agent = is.last in omega arith) } in
     Reaches-trans p first (record { agent = last.agent; number = n }) last r (Reaches-need p (record { agent = last.agent; number = n }) last before is (inl (refl, omega arith, some)))
-
--- ---- what can be made of the rows of all that an action directly needs
-
-pub can_next : (p : Program) (b : Block) (m : KeptRows) (a : ActionId) → CanMakeRow p b m a → CanMakeRow p b m (record { agent = a.agent; number = a.number - 1 + 1 })
-can_next p b m a can = let f : 1 ≤ a.number = can.action.first in subst (CanMakeRow p b m) (sym (numbered a (a.number - 1 + 1) (omega arith))) can
-
-pub row_before : (p : Program) (b : Block) (m : KeptRows) (i n : ℕ) → CanMakeRow p b m (record { agent = i; number = n + 1 }) → 1 ≤ n → HasRow p b m (record { agent = i; number = n })
-row_before p b m i n can some =
-    let l : n + 1 ≤ moves p i = can.action.last in
-    can.needed (record { agent = i; number = n }) (record { agent = can.action.agent; first = some; last = omega arith }) (inl (refl, refl, some))
-
-pub row_awaited : (p : Program) → AreInRange p → (b : Block) (m : KeptRows) (a : ActionId) → CanMakeRow p b m a
-    → (k : ℕ) (w : Await) → slice_get (awaits_of p a.agent a.number) k ≡ Some w → HasRow p b m (awaited w)
-row_awaited p range b m a can k w at =
-    can.needed (awaited w) (awaited_action p range a.agent a.number k w at) (inr (k, slice_get_within (awaits_of p a.agent a.number) k w at, get_or_from_slice_get (awaits_of p a.agent a.number) k w w at))

@@ -6,16 +6,12 @@ pub mod Finishing
 pub mod Counting
 pub mod Ordering
 pub mod Answered
-pub mod Keeping
-pub mod Freeing
-pub mod Noting
 pub mod Passing
 pub mod OthersJoined
 pub mod PiecePairs
 pub mod Gathered
 pub mod GatheredAll
 pub mod LatestPiece
-pub mod KeptReads
 pub mod AwaitOrder
 mod Settling
 mod Ticking

@@ -6,11 +6,12 @@ use Rattle.fleet_model.specs.Program.{Program}
 use Rattle.fleet_needs.specs.Asked.{AreQuestions}
 use Rattle.fleet_needs.specs.Block.{HasColumn, IsAnswer}
 use Rattle.fleet_needs.specs.Columns.{column_of}
-use Rattle.fleet_needs.specs.Order.{IsCounted}
+use Rattle.fleet_needs.specs.JoinPass.{IsMade}
+use Rattle.fleet_needs.specs.Schedule.{HasRows}
 use Rattle.fleet_needs.specs.declared.answering.Answering.{Answering}
-use Rattle.fleet_needs.specs.declared.block.Block.{Block}
 use Rattle.fleet_needs.specs.declared.columns.Columns.{Columns}
 use Rattle.fleet_needs.specs.declared.questions.Question.{Question}
+use Rattle.fleet_needs.specs.declared.schedule.Schedule.{Schedule}
 
 -- the questions before the next one are those for chains that end with finished actions, and are answered if their
 -- agents have a column
@@ -19,25 +20,26 @@ pub record AreAnsweredTo (p : Program) (columns : Columns) (questions : List Que
   pub done : (k : ℕ) (q : Question) → slice_get questions k ≡ Some q → k < next → Done q.last
   pub answered : (k c : ℕ) (q : Question) → slice_get questions k ≡ Some q → k < next → HasColumn columns q.first.agent c → IsAnswer p q (get_or flags k false)
 
--- the state of the answers once so many actions of each agent are finished
-pub record IsAnswering (p : Program) (b : Block) (counts : List ℕ) (s : Answering) : Type 0 where
-  pub questions : AreQuestions p s.questions.now
-  pub flags : length s.flags.items ≡ length s.questions.now
-  pub answers : AreAnsweredTo p b.columns s.questions.now (IsCounted counts) s.flags.items s.next
+-- the state of the answers once so many rows of the schedule were used
+pub record IsAnswering (p : Program) (s : Schedule) (columns : Columns) (n : ℕ) (m : Answering) : Type 0 where
+  pub questions : AreQuestions p m.questions.now
+  pub rows : HasRows s m.questions.now
+  pub flags : length m.flags.items ≡ length m.questions.now
+  pub answers : AreAnsweredTo p columns m.questions.now (IsMade s n) m.flags.items m.next
 
 -- the questions are the same, and the flags of those whose agents have no column are as before
-pub record AreOthersLeft (p : Program) (b : Block) (old new : Answering) : Type 0 where
+pub record AreOthersLeft (p : Program) (columns : Columns) (old new : Answering) : Type 0 where
   pub questions : new.questions ≡ old.questions
-  pub flags : (k : ℕ) (q : Question) → slice_get old.questions.now k ≡ Some q → column_of b.columns q.first.agent ≡ None
+  pub flags : (k : ℕ) (q : Question) → slice_get old.questions.now k ≡ Some q → column_of columns q.first.agent ≡ None
       → get_or new.flags.items k false ≡ get_or old.flags.items k false
 
 -- the others are left as they were if nothing was answered
-pub others_same : (p : Program) (b : Block) (s : Answering) → AreOthersLeft p b s s
-others_same p b s = record { questions = refl; flags = λ k q at none. refl }
+pub others_same : (p : Program) (c : Columns) (s : Answering) → AreOthersLeft p c s s
+others_same p c s = record { questions = refl; flags = λ k q at none. refl }
 
 -- the others are left as they were if answers follow on others that leave them so
-pub others_joined : (p : Program) (b : Block) (s t u : Answering) → AreOthersLeft p b s t → AreOthersLeft p b t u → AreOthersLeft p b s u
-others_joined p b s t u h k = record {
+pub others_joined : (p : Program) (c : Columns) (s t u : Answering) → AreOthersLeft p c s t → AreOthersLeft p c t u → AreOthersLeft p c s u
+others_joined p c s t u h k = record {
   questions = k.questions ∙ h.questions;
   flags = λ n q at none. k.flags n q (subst (λ (x : _). slice_get x.now n ≡ Some q) (sym h.questions) at) none ∙ h.flags n q at none;
 }

@@ -1,11 +1,11 @@
 -- Rows that are made, and the rows that they are joined of.
-use Rattle.std.specs.Prelude.{◌≡◌, ◌≢◌, ℕ, ◌+◌, ◌-◌, ◌<◌, ◌≤◌, ◌⊎◌, List, [], length, slice_index, slice_get, Some}
+use Rattle.std.specs.Prelude.{◌≡◌, ◌≢◌, ℕ, ◌+◌, ◌-◌, ◌<◌, ◌≤◌, ◌⊎◌, Bool, true, false, List, [], length, get_or, slice_index, slice_get, Some}
 use Rattle.fleet_model.specs.declared.program.Await.{Await}
 use Rattle.fleet_model.specs.declared.program.ActionId.{ActionId}
 use Rattle.fleet_model.specs.Program.{Program, awaits_of, total_moves}
-use Rattle.fleet_model.specs.Chain.{IsAction, Reaches, awaited}
+use Rattle.fleet_model.specs.Chain.{IsAction, IsLevel, Reaches, awaited}
+use Rattle.fleet_needs.specs.Asked.{IsSoonerAction}
 use Rattle.fleet_needs.specs.Places.{ArePlacesOf, place_of_action}
-use Rattle.fleet_needs.specs.Takers.{AreRaised}
 use Rattle.fleet_needs.specs.declared.action_places.ActionPlaces.{ActionPlaces}
 use Rattle.fleet_needs.specs.declared.joins.Join.{Join}
 use Rattle.fleet_needs.specs.declared.joins.Joins.{Joins}
@@ -62,7 +62,26 @@ HasAllRows p joins These = (a : ActionId) → IsAction p a → These a → 1 ≤
 abbrev pub AreOwn : Program → Type 0
 AreOwn p = (a : ActionId) (c : ℕ) → IsAction p a → Reaches p (record { agent = a.agent; number = c }) a → c ≤ a.number
 
+-- the rows stand in the order of a run without holds: by level, then by agent
+abbrev pub AreOrdered : Program → List Join → Type 0
+AreOrdered p joins =
+    (level : ActionId → ℕ) → ((x : ActionId) → IsAction p x → IsLevel p x (level x))
+    → (m n : ℕ) (x y : Join) → slice_get joins m ≡ Some x → slice_get joins n ≡ Some y → IsSoonerAction level x.action y.action → m < n
+
+-- the rows of an agent rise with its actions
+abbrev pub AreRising : List Join → Type 0
+AreRising joins =
+    (m n : ℕ) (x y : Join) → slice_get joins m ≡ Some x → slice_get joins n ≡ Some y → m < n → x.action.agent ≡ y.action.agent → x.action.number < y.action.number
+
+-- the action is to have a row though it may await nothing
+abbrev pub IsWanted : ActionPlaces → List Bool → ActionId → Type 0
+IsWanted places wanted a = get_or wanted (place_of_action places a) false ≡ true
+
 -- ---- while they are made
+
+-- no entry has become less
+abbrev pub AreRaised : List ℕ → List ℕ → Type 0
+AreRaised old new = (length new ≡ length old) × ((k : ℕ) → slice_index old k ≤ slice_index new k)
 
 -- the row noted for the action
 abbrev pub row_of : ActionPlaces → Joins → ActionId → ℕ
@@ -80,11 +99,16 @@ pub record AreSound (p : Program) (places : ActionPlaces) (m : Joins) : Type 0 w
   pub lasts : AreLasts p m.joins.items m.rows.items m.lasts.items
   pub room : length m.standing.items ≡ total_moves p
 
--- the joins of these actions
-pub record AreJoinsOf (p : Program) (places : ActionPlaces) (These : ActionId → Type 0) (m : Joins) : Type 0 where
+-- the joins of these actions, which are the first ones of a run without holds
+pub record AreJoinsOf (p : Program) (places : ActionPlaces) (wanted : List Bool) (These : ActionId → Type 0) (m : Joins) : Type 0 where
   pub sound : AreSound p places m
   pub standing : (a : ActionId) → IsAction p a → These a → IsStanding p places m a
   pub rows : HasAllRows p m.joins.items These
+  pub asked : (a : ActionId) → IsAction p a → These a → IsWanted places wanted a → (r : ℕ) × IsRow m.joins.items r a
+  pub ordered : AreOrdered p m.joins.items
+  pub rising : AreRising m.joins.items
+  pub made : (n : ℕ) (j : Join) → slice_get m.joins.items n ≡ Some j → These j.action
+  pub first : (level : ActionId → ℕ) → ((x : ActionId) → IsAction p x → IsLevel p x (level x)) → (x y : ActionId) → IsAction p x → IsAction p y → These y → IsSoonerAction level x y → These x
 
 -- the action is the next to have a row: rows stand for all that it directly needs
 pub record CanJoin (p : Program) (places : ActionPlaces) (m : Joins) (a : ActionId) : Type 0 where
@@ -106,7 +130,7 @@ pub record AreTaken (p : Program) (places : ActionPlaces) (a : ActionId) (old ne
       → length old.joins.items + 1 ≤ slice_index new.lasts.items (row_of places old (awaited w))
 
 -- rows have come, none has gone, and the row r is that of the action or stands for it
-pub record HasJoined (p : Program) (places : ActionPlaces) (a : ActionId) (r : ℕ) (old new : Joins) : Type 0 where
+pub record HasJoined (p : Program) (places : ActionPlaces) (a : ActionId) (wanted : Bool) (r : ℕ) (old new : Joins) : Type 0 where
   pub sound : AreSound p places new
   pub standing : new.standing ≡ old.standing
   pub more : length old.joins.items ≤ length new.joins.items
@@ -115,18 +139,25 @@ pub record HasJoined (p : Program) (places : ActionPlaces) (a : ActionId) (r : �
   pub within : r ≤ length new.joins.items
   pub stands : StandsFor p new.joins.items r a.agent a.number
   pub here : 1 ≤ length (awaits_of p a.agent a.number) → IsRow new.joins.items r a
+  pub asked : wanted ≡ true → IsRow new.joins.items r a
+  pub parts : (n : ℕ) (j : Join) → slice_get new.joins.items n ≡ Some j → (slice_get old.joins.items n ≡ Some j) ⊎ ((n ≡ length old.joins.items) × (j.action ≡ a))
 
 -- the action has been added: rows have come, and none has gone
-pub record IsAdded (p : Program) (places : ActionPlaces) (a : ActionId) (old new : Joins) : Type 0 where
+pub record IsAdded (p : Program) (places : ActionPlaces) (a : ActionId) (wanted : Bool) (old new : Joins) : Type 0 where
   pub sound : AreSound p places new
   pub kept : (x : ActionId) → IsAction p x → x ≢ a → IsStanding p places old x → IsStanding p places new x
   pub rows : (x : ActionId) (r : ℕ) → IsRow old.joins.items r x → IsRow new.joins.items r x
   pub here : IsStanding p places new a
   pub row : 1 ≤ length (awaits_of p a.agent a.number) → (r : ℕ) × IsRow new.joins.items r a
+  pub asked : wanted ≡ true → (r : ℕ) × IsRow new.joins.items r a
+  pub parts : (n : ℕ) (j : Join) → slice_get new.joins.items n ≡ Some j → (slice_get old.joins.items n ≡ Some j) ⊎ ((n ≡ length old.joins.items) × (j.action ≡ a))
 
 -- the joins of all actions of the program, in which no action needs a later one of its agent
-pub record AreJoinsEnd (p : Program) (m : Joins) : Type 0 where
+pub record AreJoinsEnd (p : Program) (places : ActionPlaces) (wanted : List Bool) (m : Joins) : Type 0 where
   pub joins : AreJoins p m.joins.items m.rows.items
   pub lasts : AreLasts p m.joins.items m.rows.items m.lasts.items
   pub rows : HasAllRows p m.joins.items (IsAction p)
+  pub asked : (a : ActionId) → IsAction p a → IsWanted places wanted a → (r : ℕ) × IsRow m.joins.items r a
+  pub ordered : AreOrdered p m.joins.items
+  pub rising : AreRising m.joins.items
   pub own : AreOwn p

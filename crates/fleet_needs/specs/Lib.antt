@@ -3,11 +3,8 @@ pub mod Asked
 pub mod Columns
 pub mod Places
 pub mod Rows
-pub mod Kept
 pub mod Order
-pub mod Takers
 pub mod Block
-pub mod Pass
 pub mod Answering
 pub mod Pieces
 pub mod Gather

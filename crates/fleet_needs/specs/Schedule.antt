@@ -1,14 +1,16 @@
 -- A schedule of rows, and the counts of rows in their slots.
 use Rattle.std.specs.Prelude.{◌≡◌, ◌≢◌, ℕ, ◌+◌, ◌-◌, ◌*◌, ◌<◌, ◌≤◌, List, length, max, slice_index, slice_get, Some}
-use Rattle.fleet_model.specs.Program.{Program, moves}
+use Rattle.fleet_model.specs.declared.program.ActionId.{ActionId}
+use Rattle.fleet_model.specs.Program.{Program, awaits_of, moves}
 use Rattle.fleet_model.specs.Chain.{IsAction}
 use Rattle.fleet_needs.specs.Block.{HasColumn}
 use Rattle.fleet_needs.specs.Columns.{agents_in}
-use Rattle.fleet_needs.specs.Joins.{AreJoins, Takes, StandsFor, HasAllRows, AreOwn}
-use Rattle.fleet_needs.specs.Rows.{IsColumn}
+use Rattle.fleet_needs.specs.Joins.{AreJoins, IsRow, Takes, StandsFor, HasAllRows, AreOrdered, AreRising, AreOwn}
+use Rattle.fleet_needs.specs.Rows.{IsColumn, IsJoined, OfOthers}
 use Rattle.fleet_needs.specs.Slots.{IsStill}
 use Rattle.fleet_needs.specs.declared.columns.Columns.{Columns}
 use Rattle.fleet_needs.specs.declared.joins.Join.{Join}
+use Rattle.fleet_needs.specs.declared.questions.Question.{Question}
 use Rattle.fleet_needs.specs.declared.schedule.Schedule.{Schedule}
 use Rattle.fleet_needs.specs.declared.slot_rows.SlotRows.{SlotRows}
 
@@ -20,7 +22,13 @@ pub record IsSchedule (p : Program) (s : Schedule) : Type 0 where
   pub all : length s.outs.items ≡ length s.joins.items
   pub within : (n : ℕ) → n < length s.outs.items → slice_index s.outs.items n < s.slots
   pub still : (n : ℕ) (j : Join) (r : ℕ) → slice_get s.joins.items n ≡ Some j → Takes p s.rows.items j r → 1 ≤ r → IsStill s.outs.items r n
+  pub ordered : AreOrdered p s.joins.items
+  pub rising : AreRising s.joins.items
   pub own : AreOwn p
+
+-- the last actions of the questions have rows
+abbrev pub HasRows : Schedule → List Question → Type 0
+HasRows s questions = (k : ℕ) (q : Question) → slice_get questions k ≡ Some q → (r : ℕ) × IsRow s.joins.items r q.last
 
 -- the columns are of agents of the program, no two in one
 pub record AreColumnsOf (p : Program) (columns : Columns) : Type 0 where

@@ -1,15 +1,18 @@
 //! Answers of questions for chains of needs, by the rows of a block.
 
-ghost use Rattle.std.specs.Prelude.{◌≡◌, ◌↔◌, ◌<◌, ℕ, [], length, get_or, slice_get, Some, None, All, IsTrue, IfOk};
+ghost use Rattle.std.specs.Prelude.{◌≡◌, ◌≢◌, ◌↔◌, ◌<◌, ℕ, length, get_or, slice_get, slice_index, Some, None, All, IsTrue, IfOk};
 ghost use Rattle.fleet_model.specs.Program.{AreInRange};
-ghost use Rattle.fleet_model.specs.Machine.{IsFinish};
-ghost use Rattle.fleet_needs.specs.Asked.{AreQuestions, IsQuestion};
-ghost use Rattle.fleet_needs.specs.Block.{HasColumn, AreBlock, IsRowOf, IsAnswer, AreAnswered};
 ghost use Rattle.fleet_needs.specs.Answering.{IsAsked};
+ghost use Rattle.fleet_needs.specs.Asked.{AreQuestions, IsQuestion};
+ghost use Rattle.fleet_needs.specs.Block.{HasColumn, IsAnswer, AreAnswered};
+ghost use Rattle.fleet_needs.specs.Joins.{AreOwn};
+ghost use Rattle.fleet_needs.specs.Schedule.{AreColumnsOf, AreCounts, HasRows, IsSchedule};
 
-use crate::block::{Block, make_row};
+use crate::columns::Columns;
+use crate::join_pass::{JoinUse, others_row, use_joins, whole_row};
 use crate::questions::Question;
-use crate::row_pass::{RowPass, RowUse, use_rows};
+use crate::schedule::Schedule;
+use crate::slot_rows::SlotRows;
 use fleet_model::{ActionId, OutOfMemory, ProgramView};
 use std::alloc::Global;
 
@@ -26,44 +29,47 @@ pub(crate) struct Answering<'a> {
 pub(crate) fn answer<P: ProgramView>(
     alloc: Global,
     program: &P,
-    block: &Block<'_>,
+    schedule: &Schedule,
+    columns: Columns,
     questions: &[Question],
     flags: Vec<bool>,
 ) -> Result<Vec<bool>, OutOfMemory>
-    requires block { AreBlock (P.program program.now) block.now }
     requires range { AreInRange (P.program program.now) }
-    requires finish { IsFinish (P.program program.now) [] block.now.notes.now.ticks }
+    requires schedule { IsSchedule (P.program program.now) schedule.now }
+    requires rows { HasRows schedule.now questions.now }
+    requires columns { AreColumnsOf (P.program program.now) columns }
     requires questions { AreQuestions (P.program program.now) questions.now }
     requires flags { length flags.items ≡ length questions.now }
     ensures { IfOk result (λ new. AreAnswered
-        (P.program program.now) block.now.columns questions.now flags.items new.items) }
+        (P.program program.now) columns questions.now flags.items new.items) }
 {
     let mut answering = Answering {
         questions,
         flags,
         next: 0,
     };
-    use_rows(alloc, program, block, &mut answering)?;
+    use_joins(alloc, program, schedule, columns, &mut answering)?;
     Ok(answering.flags)
 }
 
-impl<'a> RowUse for Answering<'a> {
+impl<'a> JoinUse for Answering<'a> {
     ghost use Rattle.fleet_needs.specs.Answering.{IsAnswering, AreOthersLeft, others_same, others_joined};
 
     ghost used = { IsAnswering };
 
     ghost keeps = { AreOthersLeft };
 
-    fn use_row<P: ProgramView>(
+    fn use_join<P: ProgramView>(
         &mut self,
         program: &P,
-        block: &Block<'_>,
-        pass: &RowPass,
+        rows: &SlotRows<'_>,
+        n: usize,
         row: &mut [u32],
-        action: ActionId,
     ) -> Result<(), OutOfMemory> {
-        make_row(program, block, &pass.kept, row, action);
-        self.answer_next(program, block, row, action);
+        let join = rows.schedule.joins[n];
+        others_row(program, rows, n, &join, row);
+        whole_row(program, rows, n, &join, row);
+        self.answer_next(program, &rows.columns, row, join.action);
         Ok(())
     }
 
@@ -77,25 +83,27 @@ impl<'a> Answering<'a> {
     fn answer_next<P: ProgramView>(
         &mut self,
         program: &P,
-        block: &Block<'_>,
+        columns: &Columns,
         row: &[u32],
         action: ActionId,
     )
-        requires block { AreBlock (P.program program.now) block.now }
+        requires own { AreOwn (P.program program.now) }
+        requires columns { AreColumnsOf (P.program program.now) columns.now }
         requires questions { All (IsQuestion (P.program program.now)) self.old.questions.now }
         requires flags { length self.old.flags.items ≡ length self.old.questions.now }
-        requires row { length row.now ≡ block.now.columns.width }
-        requires of { IsRowOf (P.program program.now) block.now.columns action row.now }
+        requires row { length row.now ≡ columns.now.width }
+        requires of { AreCounts (P.program program.now) columns.now
+            action.agent action.number (slice_index row.now) }
         ensures questions { self.new.questions ≡ self.old.questions }
         ensures flags { length self.new.flags.items ≡ length self.old.flags.items }
         ensures asked { IsAsked
-            (P.program program.now) block.now.columns self.old.questions.now action
+            (P.program program.now) columns.now self.old.questions.now action
             self.old.next self.old.flags.items self.new.flags.items self.new.next }
     {
         let next = self.next;
         if ends_with(self.questions, next, action) {
             let question = self.questions[next];
-            answer_one(program, block, row, question, &mut self.flags[next]);
+            answer_one(program, columns, row, question, &mut self.flags[next]);
             self.next = next + 1;
         }
     }
@@ -113,22 +121,37 @@ fn ends_with(questions: &[Question], k: usize, action: ActionId) -> bool
 /// Flags the answer to a question whose agent has a column, by the row of its last action.
 fn answer_one<P: ProgramView>(
     program: &P,
-    block: &Block<'_>,
+    columns: &Columns,
     row: &[u32],
     question: Question,
     flag: &mut bool,
 )
-    requires block { AreBlock (P.program program.now) block.now }
-    requires room { length row.now ≡ block.now.columns.width }
-    requires row { IsRowOf (P.program program.now) block.now.columns question.last row.now }
+    requires own { AreOwn (P.program program.now) }
+    requires columns { AreColumnsOf (P.program program.now) columns.now }
+    requires room { length row.now ≡ columns.now.width }
+    requires row { AreCounts (P.program program.now) columns.now
+        question.last.agent question.last.number (slice_index row.now) }
     requires question { IsQuestion (P.program program.now) question }
-    ensures answer { (k : ℕ) → HasColumn block.now.columns question.first.agent k
+    ensures answer { (k : ℕ) → HasColumn columns.now question.first.agent k
         → IsAnswer (P.program program.now) question flag.new }
-    ensures none { get_or block.now.columns.of_agent.items question.first.agent None ≡ None
+    ensures none { get_or columns.now.of_agent.items question.first.agent None ≡ None
         → flag.new ≡ flag.old }
 {
     let _ = program.agents();
-    if let Some(k) = block.columns.of(question.first.agent) {
-        *flag = row[usize::from(k)] < question.first.number;
+    if let Some(k) = columns.of(question.first.agent) {
+        let count = count_for(row, usize::from(k), question);
+        *flag = count < question.first.number;
     }
+}
+
+/// The count of the question's first agent: that of its column, or its own last action.
+fn count_for(row: &[u32], k: usize, question: Question) -> u32
+    requires { k < length row.now }
+    ensures own { question.first.agent ≡ question.last.agent → result ≡ question.last.number }
+    ensures other { question.first.agent ≢ question.last.agent → result ≡ slice_index row.now k }
+{
+    if question.first.agent == question.last.agent {
+        return question.last.number;
+    }
+    row[k]
 }

@@ -4,7 +4,6 @@ ghost use Rattle.std.specs.Prelude.{◌≡◌, ◌+◌, ◌-◌, ◌<◌, length
 ghost use Rattle.fleet_model.specs.Program.{Program, AreInRange};
 ghost use Rattle.fleet_needs.specs.Order.{IsTicked, IsOrder};
 
-use crate::due_rows::DueRows;
 use fleet_machine::Machine;
 use fleet_model::{MAX_AGENTS, OutOfMemory, ProgramView, total_moves};
 use std::alloc::Global;
@@ -91,22 +90,5 @@ impl FinishOrder {
         ensures { result ≡ slice_index self.now.agents.items place }
     {
         self.agents[place]
-    }
-
-    /// How many rows are kept at once at most, if each is kept from the tick that finishes its action to the last that
-    /// takes it.
-    pub(crate) fn most_rows(&self, due: &DueRows) -> usize {
-        let mut kept: usize = 0;
-        let mut most = 0;
-        let mut tick: u32 = 0;
-        let mut before = 0;
-        for &end in &self.ends {
-            kept = kept.saturating_add(end.saturating_sub(before) as usize);
-            most = most.max(kept);
-            kept = kept.saturating_sub(due.after(tick).len());
-            before = end;
-            tick = tick.saturating_add(1);
-        }
-        most
     }
 }

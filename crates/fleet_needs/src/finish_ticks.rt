@@ -6,7 +6,7 @@ ghost use Rattle.fleet_model.specs.Machine.{IsFinish};
 ghost use Rattle.fleet_model.specs.Chain.{IsAction};
 ghost use Rattle.fleet_needs.specs.Places.{ArePlacesOf};
 ghost use Rattle.fleet_needs.specs.Order.{IsTicked};
-ghost use Rattle.fleet_needs.specs.declared.takers.TheConstants.{MAX_TICKS};
+ghost use Rattle.fleet_needs.specs.declared.finish_ticks.TheConstants.{MAX_TICKS};
 ghost use Rattle.fleet_needs.specs.Settled.{IsFinishedBy, AreFinishTicks, AreTicks, finish_tick};
 
 use crate::action_places::ActionPlaces;
@@ -23,6 +23,9 @@ pub(crate) struct FinishTicks {
     /// From how many actions a step goes back for one await, at most.
     pub(crate) steps: u8,
 }
+
+/// No run without holds has more ticks.
+pub const MAX_TICKS: u32 = u32::MAX;
 
 /// From how many actions a step goes back for one await at first.
 const STEPS: u8 = 16;

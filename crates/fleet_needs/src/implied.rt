@@ -118,7 +118,7 @@ fn flag_rest<P: ProgramView>(
     requires settled { AreSettled (P.program program.now) asked.now implied.old.flags.items }
     ensures { OnOk result (AreImplied (P.program program.now) implied.new) }
 {
-    let schedule = Schedule::of(alloc, program, ticks)?;
+    let schedule = Schedule::of(alloc, program, ticks, &[])?;
     flag_all(alloc, program, &schedule, asked, implied)
 }
 

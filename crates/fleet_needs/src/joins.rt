@@ -1,14 +1,14 @@
 //! Which rows are made, and of which rows each is joined: one for each action that awaits something. The row of an
 //! action that awaits nothing is that of its agent's action before.
 
-ghost use Rattle.std.specs.Prelude.{◌≡◌, ◌+◌, ◌-◌, ◌<◌, ◌≤◌, [], length, slice_index, set, IfOk, OnOk};
-ghost use Rattle.fleet_model.specs.Program.{AreInRange, total_moves};
+ghost use Rattle.std.specs.Prelude.{◌≡◌, ◌+◌, ◌-◌, ◌<◌, ◌≤◌, Bool, false, [], length, get_or, slice_index, set, IfOk, OnOk};
+ghost use Rattle.fleet_model.specs.Program.{AreInRange, awaits_of, total_moves};
 ghost use Rattle.fleet_model.specs.Machine.{IsFinish};
 ghost use Rattle.fleet_model.specs.Chain.{IsAction};
 ghost use Rattle.fleet_needs.specs.Places.{ArePlacesOf, place_of_action};
 ghost use Rattle.fleet_needs.specs.Order.{IsOrder, IsNextReady, AreMid, after_place, IsCounted};
 ghost use Rattle.fleet_needs.specs.Joins.{StandsFor, AreJoinsOf, AreJoinsEnd, CanJoin, AreTaken, HasJoined, IsAdded};
-ghost use Rattle.fleet_needs.specs.Takers.{AreRaised};
+ghost use Rattle.fleet_needs.specs.Joins.{AreRaised};
 
 use crate::action_places::ActionPlaces;
 use crate::finish_order::FinishOrder;
@@ -37,25 +37,34 @@ pub(crate) struct Joins {
     standing: Vec<u32>,
 }
 
+/// What rows are made by: the places of the actions, the order in which they finish, and for each action, by its place,
+/// whether it is to have a row though it may await nothing.
+#[derive(Clone, Copy)]
+pub(crate) struct Course<'a> {
+    pub(crate) places: &'a ActionPlaces,
+    pub(crate) order: &'a FinishOrder,
+    pub(crate) wanted: &'a [bool],
+}
+
 /// The joins of a program that so many ticks finish.
 pub(crate) fn joins_of<P: ProgramView>(
     alloc: Global,
     program: &P,
-    places: &ActionPlaces,
-    order: &FinishOrder,
+    course: &Course<'_>,
     ticks: u32,
 ) -> Result<Joins, OutOfMemory>
     requires range { AreInRange (P.program program.now) }
-    requires places { ArePlacesOf (P.program program.now) places.now }
-    requires order { IsOrder (P.program program.now) order.now }
-    requires ends { length order.now.ends.items ≡ ticks + 1 }
+    requires places { ArePlacesOf (P.program program.now) course.now.places.now }
+    requires order { IsOrder (P.program program.now) course.now.order.now }
+    requires ends { length course.now.order.now.ends.items ≡ ticks + 1 }
     requires finish { IsFinish (P.program program.now) [] ticks }
-    ensures { IfOk result (AreJoinsEnd (P.program program.now)) }
+    ensures { IfOk result (AreJoinsEnd
+        (P.program program.now) course.now.places.now course.now.wanted.now) }
 {
     let mut joins = Joins::new(alloc, total_moves(program) as usize)?;
     let mut counts = vec![in alloc; 0; usize::from(program.agents())]?;
     for t in 0..ticks {
-        join_tick(program, places, order, t, &mut counts, &mut joins)?;
+        join_tick(program, course, t, &mut counts, &mut joins)?;
     }
     Ok(joins)
 }
@@ -63,28 +72,41 @@ pub(crate) fn joins_of<P: ProgramView>(
 /// Adds the actions that the tick after so many finishes.
 fn join_tick<P: ProgramView>(
     program: &P,
-    places: &ActionPlaces,
-    order: &FinishOrder,
+    course: &Course<'_>,
     ticks: u32,
     counts: &mut [u32],
     joins: &mut Joins,
 ) -> Result<(), OutOfMemory>
     requires range { AreInRange (P.program program.now) }
-    requires order { IsOrder (P.program program.now) order.now }
-    requires tick { ticks + 1 < length order.now.ends.items }
+    requires order { IsOrder (P.program program.now) course.now.order.now }
+    requires tick { ticks + 1 < length course.now.order.now.ends.items }
     requires counts { AreMid (P.program program.now) ticks 0 counts.old }
-    requires joins { AreJoinsOf (P.program program.now) places.now (IsCounted counts.old) joins.old }
+    requires joins { AreJoinsOf (P.program program.now)
+        course.now.places.now course.now.wanted.now (IsCounted counts.old) joins.old }
     ensures counts { OnOk result (AreMid (P.program program.now) (ticks + 1) 0 counts.new) }
-    ensures joins { OnOk result (AreJoinsOf
-        (P.program program.now) places.now (IsCounted counts.new) joins.new) }
+    ensures joins { OnOk result (AreJoinsOf (P.program program.now)
+        course.now.places.now course.now.wanted.now (IsCounted counts.new) joins.new) }
 {
     let _ = program.agents();
+    let order = course.order;
     for k in order.begin(ticks as usize)..order.begin(ticks as usize + 1) {
         let action = action_at(program, order, ticks, counts, k);
-        joins.add_action(program, places, action)?;
+        let wanted = is_wanted(course, action);
+        joins.add_action(program, course.places, action, wanted)?;
         counts[usize::from(action.agent)] = action.number;
     }
     Ok(())
+}
+
+/// Whether the action is to have a row though it may await nothing.
+fn is_wanted(course: &Course<'_>, action: ActionId) -> bool
+    requires agent { action.agent < length course.now.places.now.firsts.items }
+    requires number { 1 ≤ action.number }
+    ensures { result ≡ get_or course.now.wanted.now
+        (place_of_action course.now.places.now action) false }
+{
+    let place = course.places.place(action.agent, action.number);
+    place < course.wanted.len() && course.wanted[place]
 }
 
 /// The action that stands at a place of the order, the next one of its agent, which the tick after so many finishes.
@@ -150,30 +172,32 @@ impl Joins {
         }
     }
 
-    /// Adds the next action that finishes, with a row if it awaits something.
+    /// Adds the next action that finishes, with a row if it awaits something or is wanted to have one.
     fn add_action<P: ProgramView>(
         &mut self,
         program: &P,
         places: &ActionPlaces,
         action: ActionId,
+        wanted: bool,
     ) -> Result<(), OutOfMemory>
         requires range { AreInRange (P.program program.now) }
         requires can { CanJoin (P.program program.now) places.now self.old action }
         ensures { OnOk result (IsAdded
-            (P.program program.now) places.now action self.old self.new) }
+            (P.program program.now) places.now action wanted self.old self.new) }
     {
         let base = self.row_before(program, places, action);
-        let row = self.join(program, places, action, base)?;
+        let row = self.join(program, places, action, wanted, base)?;
         self.note(program, places, action, row);
         Ok(())
     }
 
-    /// Adds a row for the action, if it awaits something, and answers which row stands for it.
+    /// Adds a row for the action, if it is to have one, and answers which row stands for it.
     fn join<P: ProgramView>(
         &mut self,
         program: &P,
         places: &ActionPlaces,
         action: ActionId,
+        wanted: bool,
         base: u32,
     ) -> Result<u32, OutOfMemory>
         requires range { AreInRange (P.program program.now) }
@@ -182,13 +206,14 @@ impl Joins {
         requires stands { StandsFor (P.program program.now) self.old.joins.items
             base action.agent (action.number - 1) }
         ensures { IfOk result (λ row. HasJoined
-            (P.program program.now) places.now action row self.old self.new) }
+            (P.program program.now) places.now action wanted row self.old self.new) }
     {
-        let awaits = program.await_count(action.agent, action.number);
-        if awaits == 0 {
-            return Ok(base);
+        let is_made = needs_row(program, action, wanted);
+        if is_made {
+            let row = self.add_join(program, places, action, base)?;
+            return Ok(row);
         }
-        self.add_join(program, places, action, base)
+        Ok(base)
     }
 
     /// The row that stands for the agent's action before this one.
@@ -225,8 +250,8 @@ impl Joins {
         requires within { base ≤ length self.old.joins.items }
         requires stands { StandsFor (P.program program.now) self.old.joins.items
             base action.agent (action.number - 1) }
-        ensures { IfOk result (λ row. HasJoined
-            (P.program program.now) places.now action row self.old self.new) }
+        ensures { IfOk result (λ row. (wanted : Bool) → HasJoined
+            (P.program program.now) places.now action wanted row self.old self.new) }
     {
         let row = self.joins.len() + 1;
         if row > u32::MAX as usize {
@@ -301,4 +326,14 @@ impl Joins {
         let _ = program.agents();
         self.standing[places.place(action.agent, action.number)] = row;
     }
+}
+
+/// Whether the action awaits something, or is wanted to have a row.
+fn needs_row<P: ProgramView>(program: &P, action: ActionId, wanted: bool) -> bool
+    requires { IsAction (P.program program.now) action }
+    ensures awaits { result ≡ false
+        → length (awaits_of (P.program program.now) action.agent action.number) ≡ 0 }
+    ensures wanted { result ≡ false → wanted ≡ false }
+{
+    wanted || program.await_count(action.agent, action.number) > 0
 }

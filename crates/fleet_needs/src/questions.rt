@@ -1,18 +1,17 @@
 //! Questions for chains of needs, and their answers.
 
-ghost use Rattle.std.specs.Prelude.{◌≡◌, ◌⊎◌, ◌<◌, ◌≤◌, ◌↔◌, ℕ, [], true, false, length, get_or, slice_get, Some, All, IfOk};
-ghost use Rattle.fleet_model.specs.declared.limits.TheConstants.{MAX_AGENTS};
+ghost use Rattle.std.specs.Prelude.{◌≡◌, ◌⊎◌, ◌↔◌, ℕ, [], true, false, length, get_or, slice_get, Some, All, IfOk};
 ghost use Rattle.fleet_model.specs.Program.{AreInRange};
 ghost use Rattle.fleet_model.specs.Machine.{IsFinish};
 ghost use Rattle.fleet_needs.specs.Asked.{AreQuestions, AreAnswers};
-ghost use Rattle.fleet_needs.specs.Block.{AreNotes, IsAnswer};
+ghost use Rattle.fleet_needs.specs.Block.{IsAnswer};
+ghost use Rattle.fleet_needs.specs.Schedule.{HasRows, IsSchedule};
 
 use crate::answering::answer;
-use crate::block::Block;
 use crate::columns::Columns;
 use crate::near::asked_agents;
-use crate::run_notes::RunNotes;
-use fleet_model::{ActionId, MAX_AGENTS, OutOfMemory, ProgramView};
+use crate::schedule::Schedule;
+use fleet_model::{ActionId, OutOfMemory, ProgramView};
 use std::alloc::Global;
 
 /// The question whether a chain of needs begins with the first action and ends with the last.
@@ -63,8 +62,8 @@ fn answer_rest<P: ProgramView>(
     requires flags { length flags.items ≡ length questions.now }
     ensures { IfOk result (λ flags. AreAnswers (P.program program.now) questions.now flags.items) }
 {
-    let notes = RunNotes::of(alloc, program, ticks)?;
-    answer_all(alloc, program, &notes, questions, asked, flags)
+    let schedule = Schedule::of(alloc, program, ticks, questions)?;
+    answer_all(alloc, program, &schedule, questions, asked, flags)
 }
 
 /// Whether some agent is flagged.
@@ -78,14 +77,14 @@ pub fn is_any(asked: &[bool]) -> bool
 fn answer_all<P: ProgramView>(
     alloc: Global,
     program: &P,
-    notes: &RunNotes,
+    schedule: &Schedule,
     questions: &[Question],
     asked: &[bool],
     flags: Vec<bool>,
 ) -> Result<Vec<bool>, OutOfMemory>
     requires range { AreInRange (P.program program.now) }
-    requires notes { AreNotes (P.program program.now) notes.now }
-    requires finish { IsFinish (P.program program.now) [] notes.now.ticks }
+    requires schedule { IsSchedule (P.program program.now) schedule.now }
+    requires rows { HasRows schedule.now questions.now }
     requires questions { AreQuestions (P.program program.now) questions.now }
     requires asked { length asked.now ≡ length (P.program program.now) }
     requires flagged { (k : ℕ) (q : Question) → slice_get questions.now k ≡ Some q
@@ -95,30 +94,14 @@ fn answer_all<P: ProgramView>(
     ensures { IfOk result (λ flags. AreAnswers (P.program program.now) questions.now flags.items) }
 {
     let mut flags = flags;
-    let most = columns_at_once(notes);
+    let most = schedule.columns_at_once();
     let agents = program.agents();
     let mut from = 0;
     while from < agents {
         let columns = Columns::choose(alloc, asked, from, most)?;
-        let block = Block { notes, columns };
-        flags = answer(alloc, program, &block, questions, flags)?;
-        from = block.columns.end;
+        let end = columns.end;
+        flags = answer(alloc, program, schedule, columns, questions, flags)?;
+        from = end;
     }
     Ok(flags)
-}
-
-/// There is room for so many counts of rows at once: 16 MB.
-const COUNTS: usize = 4_194_304;
-
-/// The least number of columns of a block.
-const LEAST_COLUMNS: usize = 8;
-
-/// How many columns a block has at most: as many as there is room for while the most rows are kept, but at least 8, and
-/// no more than a program may have agents.
-pub fn columns_at_once(notes: &RunNotes) -> u16
-    ensures least { LEAST_COLUMNS ≤ result }
-    ensures most { result ≤ MAX_AGENTS }
-{
-    let room = COUNTS / notes.order.most_rows(&notes.due).max(1);
-    room.clamp(LEAST_COLUMNS, MAX_AGENTS) as u16
 }

@@ -1,17 +1,22 @@
 //! A schedule of rows, made once for all blocks of columns: which rows are made, in which order, of which rows each is
 //! joined, and the slot in which it is kept.
 
-ghost use Rattle.std.specs.Prelude.{◌≤◌, [], IfOk};
+ghost use Rattle.std.specs.Prelude.{◌≡◌, ◌<◌, ◌≤◌, ℕ, [], All, slice_get, Some, IfOk};
 ghost use Rattle.fleet_model.specs.declared.limits.TheConstants.{MAX_AGENTS};
-ghost use Rattle.fleet_model.specs.Program.{AreInRange};
+ghost use Rattle.fleet_model.specs.Program.{AreInRange, total_moves};
+ghost use Rattle.fleet_model.specs.Chain.{IsAction};
 ghost use Rattle.fleet_model.specs.Machine.{IsFinish};
-ghost use Rattle.fleet_needs.specs.Schedule.{IsSchedule};
+ghost use Rattle.fleet_needs.specs.Asked.{IsQuestion};
+ghost use Rattle.fleet_needs.specs.Joins.{IsWanted};
+ghost use Rattle.fleet_needs.specs.Places.{ArePlacesOf, place_of_action};
+ghost use Rattle.fleet_needs.specs.Schedule.{IsSchedule, HasRows};
 
 use crate::action_places::ActionPlaces;
 use crate::finish_order::FinishOrder;
-use crate::joins::{Join, joins_of};
+use crate::joins::{Course, Join, joins_of};
+use crate::questions::Question;
 use crate::slots::slots_of;
-use fleet_model::{MAX_AGENTS, OutOfMemory, ProgramView};
+use fleet_model::{ActionId, MAX_AGENTS, OutOfMemory, ProgramView, total_moves};
 use std::alloc::Global;
 
 /// There is room for so many counts of rows at once: 4 MB.
@@ -34,19 +39,29 @@ pub struct Schedule {
 }
 
 impl Schedule {
-    /// The schedule of a program that so many ticks finish if nobody is held.
+    /// The schedule of a program that so many ticks finish if nobody is held, in which the last actions of these
+    /// questions have rows too.
     pub(crate) fn of<P: ProgramView>(
         alloc: Global,
         program: &P,
         ticks: u32,
+        questions: &[Question],
     ) -> Result<Schedule, OutOfMemory>
         requires range { AreInRange (P.program program.now) }
         requires finish { IsFinish (P.program program.now) [] ticks }
-        ensures { IfOk result (IsSchedule (P.program program.now)) }
+        requires questions { All (IsQuestion (P.program program.now)) questions.now }
+        ensures schedule { IfOk result (IsSchedule (P.program program.now)) }
+        ensures asked { IfOk result (λ s. HasRows s questions.now) }
     {
         let places = ActionPlaces::of(alloc, program)?;
         let order = FinishOrder::of(alloc, program, ticks)?;
-        let joins = joins_of(alloc, program, &places, &order, ticks)?;
+        let wanted = wanted_of(alloc, program, &places, questions)?;
+        let course = Course {
+            places: &places,
+            order: &order,
+            wanted: &wanted,
+        };
+        let joins = joins_of(alloc, program, &course, ticks)?;
         let slots = slots_of(alloc, &joins)?;
         let count = slots.count();
         Ok(Schedule {
@@ -66,4 +81,35 @@ impl Schedule {
         let room = COUNTS / self.slots.max(1);
         room.clamp(LEAST_COLUMNS, MAX_AGENTS as u32) as u16
     }
+}
+
+/// For each action, by its place, whether a question ends with it.
+fn wanted_of<P: ProgramView>(
+    alloc: Global,
+    program: &P,
+    places: &ActionPlaces,
+    questions: &[Question],
+) -> Result<Vec<bool>, OutOfMemory>
+    requires places { ArePlacesOf (P.program program.now) places.now }
+    requires questions { All (IsQuestion (P.program program.now)) questions.now }
+    ensures { IfOk result (λ wanted. (k : ℕ) (q : Question) → slice_get questions.now k ≡ Some q
+        → IsWanted places.now wanted.items q.last) }
+{
+    let mut wanted = vec![in alloc; false; total_moves(program) as usize]?;
+    for question in questions {
+        let place = place_of(program, places, question.last);
+        wanted[place] = true;
+    }
+    Ok(wanted)
+}
+
+/// The place of an action of the program.
+fn place_of<P: ProgramView>(program: &P, places: &ActionPlaces, action: ActionId) -> usize
+    requires places { ArePlacesOf (P.program program.now) places.now }
+    requires action { IsAction (P.program program.now) action }
+    ensures within { result < total_moves (P.program program.now) }
+    ensures place { result ≡ place_of_action places.now action }
+{
+    let _ = program.agents();
+    places.place(action.agent, action.number)
 }

@@ -1,11 +1,10 @@
 //! The counts of rows in their slots, in the columns of one block.
 
-ghost use Rattle.std.specs.Prelude.{◌≡◌, ◌+◌, ◌-◌, ◌*◌, ◌<◌, ◌≤◌, ℕ, length, max, slice_index, slice_get, Some, IfOk};
+ghost use Rattle.std.specs.Prelude.{◌≡◌, ◌+◌, ◌-◌, ◌*◌, ◌<◌, ◌≤◌, ℕ, length, max, get_or, slice_index, slice_get, Some, IfOk};
 ghost use Rattle.fleet_needs.specs.declared.joins.Join.{Join};
 ghost use Rattle.fleet_needs.specs.Schedule.{AreCounts, AreRowsTo, IsThere, StandsThere, AreJoinedWith, count_in_slot};
 
 use crate::columns::Columns;
-use crate::kept_rows::write_row;
 use crate::kernels::join_rows;
 use crate::schedule::Schedule;
 use fleet_model::{OutOfMemory, ProgramView};
@@ -139,4 +138,16 @@ fn clear_row(row: &mut [u32])
     ensures { (k : ℕ) → slice_index row.new k ≡ 0 }
 {
     row.fill(0);
+}
+
+/// Writes a row from this place on.
+fn write_row(counts: &mut [u32], from: usize, row: &[u32])
+    requires { from + length row.now ≤ length counts.old }
+    ensures row { (k : ℕ) → k < length row.now
+        → get_or counts.new (from + k) 0 ≡ get_or row.now k 0 }
+    ensures before { (n : ℕ) → n < from → get_or counts.new n 0 ≡ get_or counts.old n 0 }
+    ensures after { (n : ℕ) → from + length row.now ≤ n
+        → get_or counts.new n 0 ≡ get_or counts.old n 0 }
+{
+    counts[from..from + row.len()].copy_from_slice(row);
 }

@@ -2,9 +2,8 @@ use Rattle.std.proofs.Common.{◌<◌, length, ◌∙◌, arith}
 use Rattle.fleet_needs.proofs.Answered.{answered_to, known_on, question_at}
 use Rattle.fleet_needs.proofs.questions.answer_all.Goals as goal
 
-pub answer-requires-clause-block : goal.answer-requires-clause-block
-answer-requires-clause-block g c = record {
-  notes = c.requires.notes;
+pub answer-requires-clause-columns : goal.answer-requires-clause-columns
+answer-requires-clause-columns g c = record {
   agents = c.in_ok-columns.ensures.agents ∙ c.requires.asked;
   within = c.in_ok-columns.ensures.within;
   apart = c.in_ok-columns.ensures.apart;

@@ -1,11 +1,9 @@
-use Rattle.std.proofs.Common.{◌≡◌, ◌≤◌, ◌-◌, ◌<◌, ℕ, List, length, refl, sym, subst, ap, ◌∙◌, arith}
+use Rattle.std.proofs.Common.{◌≡◌, ◌≤◌, ◌-◌, ◌<◌, length, refl, sym, subst, ap, ◌∙◌, arith}
 use Rattle.std.specs.Prelude.{slice_get, Some}
 use Rattle.std.proofs.lemmas.Option.{slice_get_within}
 use Rattle.fleet_model.specs.Program.{Program}
 use Rattle.fleet_needs.specs.Answering.{IsAnswering, AreOthersLeft}
-use Rattle.fleet_needs.specs.Asked.{AreQuestions}
 use Rattle.fleet_needs.specs.Block.{AreAnswered}
-use Rattle.fleet_needs.specs.JoinPass.{IsMade}
 use Rattle.fleet_needs.specs.declared.answering.Answering.{Answering}
 use Rattle.fleet_needs.specs.declared.columns.Columns.{Columns}
 use Rattle.fleet_needs.specs.declared.schedule.Schedule.{Schedule}

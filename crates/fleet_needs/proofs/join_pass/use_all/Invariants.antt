@@ -1,4 +1,4 @@
-use Rattle.std.proofs.Common.{◌≡◌, length}
+use Rattle.std.proofs.Common.{◌≡◌}
 use Rattle.fleet_needs.specs.Schedule.{AreRowsTo}
 use Rattle.fleet_needs.proofs.join_pass.use_all.Given as goal
 

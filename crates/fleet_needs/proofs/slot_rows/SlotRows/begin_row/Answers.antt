@@ -1,4 +1,4 @@
-use Rattle.std.proofs.Common.{◌≤◌, ◌<◌, length, arith}
+use Rattle.std.proofs.Common.{◌≤◌, arith}
 use Rattle.std.specs.Prelude.{slice_index}
 use Rattle.fleet_needs.specs.Schedule.{count_in_slot}
 use Rattle.fleet_needs.proofs.RowsMade.{counts_none, counts_some, counts_same}

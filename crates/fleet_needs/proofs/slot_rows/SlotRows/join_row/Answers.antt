@@ -1,5 +1,4 @@
-use Rattle.std.proofs.Common.{◌≤◌, ◌<◌, ℕ, length, refl, arith}
-use Rattle.std.specs.Prelude.{slice_index}
+use Rattle.std.proofs.Common.{◌≤◌, refl, arith}
 use Rattle.fleet_needs.specs.Schedule.{count_in_slot}
 use Rattle.fleet_needs.proofs.RowsMade.{counts_none, counts_some, counts_joined}
 use Rattle.fleet_needs.proofs.slot_rows.SlotRows.join_row.Goals as goal

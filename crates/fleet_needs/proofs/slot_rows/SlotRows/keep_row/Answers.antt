@@ -1,4 +1,4 @@
-use Rattle.std.proofs.Common.{◌≡◌, ◌≢◌, ◌+◌, ◌-◌, ◌*◌, ◌<◌, ◌≤◌, ◌++◌, ℕ, List, length, take, drop, slice_index, arith, inl, inr, sym, ap, ◌∙◌, refl}
+use Rattle.std.proofs.Common.{◌≡◌, ◌+◌, ◌*◌, ◌<◌, ◌≤◌, ◌++◌, ℕ, List, length, take, drop, slice_index, arith, inl, inr, sym, ap, ◌∙◌, refl}
 use Rattle.std.proofs.lemmas.List.{take_at}
 use Rattle.fleet_needs.proofs.Counting.{count_read}
 use Rattle.fleet_needs.proofs.Placed.{row_ends, outside}

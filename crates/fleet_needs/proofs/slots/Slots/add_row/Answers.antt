@@ -1,4 +1,4 @@
-use Rattle.std.proofs.Common.{◌+◌, ◌∷◌, ◌++◌, [], ℕ, List, ◌∙◌, ap, arith, refl}
+use Rattle.std.proofs.Common.{◌+◌, ◌∷◌, ◌++◌, [], ◌∙◌, ap, arith, refl}
 use Rattle.fleet_needs.proofs.Slotting.{slotted_on}
 use Rattle.fleet_needs.proofs.slots.Slots.add_row.Goals as goal
 

@@ -1,20 +1,20 @@
 -- Squares of cells, and the visits that they keep.
 use Rattle.std.proofs.Common.{◌≡◌, ◌≢◌, ℕ, suc, ◌+◌, ◌*◌, ◌/◌, ◌%◌, ◌<◌, ◌≤◌, nat_eq, Bool, true, false, List, [], ◌∷◌, length, get_or, slice_get, Some, None, refl, sym, ap, ◌∙◌, subst, arith, inl, inr}
 use Rattle.std.proofs.lemmas.Bool.{cases_eq, ne_eqb, eqb-true}
-use Rattle.std.proofs.lemmas.Option.{same_Some}
+use Rattle.std.proofs.lemmas.Option.{same_Some, slice_get-map}
 use Rattle.std.proofs.lemmas.Map.Entries.{lookup_from_place}
 use Rattle.std.specs.Cmp.{nat_eq_equiv}
 use Rattle.std.specs.List.{position_or_len, position}
 use Rattle.std.specs.Option.{option_map}
 use Rattle.std.specs.Map.{keys_of}
 use Rattle.indexmap.specs.IndexMap.{IndexMap, get, keys, Updates, IsUnique, with_value_at}
-use Rattle.indexmap.proofs.CallerLemmas.{updates-with_value_at}
+use Rattle.indexmap.proofs.CallerLemmas.{updates-with_value_at, keys-with_value_at}
 use Rattle.indexmap.proofs.MapLemmas.{Found-position}
 use Rattle.fleet_model.specs.declared.geometry.Cell.{Cell}
 use Rattle.fleet_model.specs.declared.limits.TheConstants.{MAX_AGENTS, MAX_MOVES}
 use Rattle.fleet_model.specs.declared.program.Visit.{Visit}
 use Rattle.fleet_model.specs.Program.{IsCell}
-use Rattle.fleet_verify.specs.LastVisits.{square_of, place_in_square, visit_kept, visit_in, last_in, IsSquareAt, IsWritten}
+use Rattle.fleet_verify.specs.Squares.{square_of, place_in_square, visit_kept, visit_in, last_in, IsSquareAt, IsWritten}
 use Rattle.fleet_verify.specs.declared.last_visits.TheConstants.{NO_VISIT}
 
 -- cells at one place of one square are one
@@ -80,6 +80,13 @@ module _ {S : Type 0} (m : IndexMap ℕ (List ℕ) S) where
   written_at slot number key square written unique here at =
       let same : key ≡ number = same_Some key number (sym (ap (option_map (λ (x : ℕ × List ℕ). x.0)) here) ∙ at) in
       subst (λ (k : ℕ). Updates nat_eq m (with_value_at m slot written) k (Some written)) same (updates-with_value_at m slot written nat_eq_equiv unique key square here)
+
+  -- and stands there still
+  pub still_stands : (slot number : ℕ) (written : List ℕ) → IsSquareAt m number slot → IsSquareAt (with_value_at m slot written) number slot
+  still_stands slot number written at =
+      sym (slice_get-map (λ (x : ℕ × List ℕ). x.0) (with_value_at m slot written).entries slot)
+      ∙ (ap (λ (ks : List ℕ). slice_get ks slot) (keys-with_value_at m slot written)
+      ∙ (slice_get-map (λ (x : ℕ × List ℕ). x.0) m.entries slot ∙ at))
 
   pub at_number : (slot number key : ℕ) (square : List ℕ) → slice_get m.entries slot ≡ Some (key, square) → key ≡ number → IsSquareAt m number slot
   at_number slot number key square here same = ap (option_map (λ (x : ℕ × List ℕ). x.0)) here ∙ ap (λ (k : ℕ). Some k) same

@@ -66,7 +66,6 @@ pub mod Reductions
 pub mod LastVisits
 pub mod Promised
 pub mod LeastAwaits
-pub mod After
 pub mod Remains
 pub mod RemainsFormed
 pub mod RemainsWhole

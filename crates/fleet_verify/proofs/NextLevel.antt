@@ -1,8 +1,8 @@
 -- The level of the next action, await by await; and the action finished.
-use Rattle.std.proofs.Common.{◌≡◌, ℕ, ◌+◌, ◌-◌, ◌<◌, ◌≤◌, Bool, List, [], ◌∷◌, ◌++◌, length, get_or, set, max, slice_index, Option, Some, slice_get, refl, sym, ap, ◌∙◌, subst, arith, inl, inr, ◌⊎◌}
-use Rattle.std.specs.Prelude.{IsTrue}
+use Rattle.std.proofs.Common.{◌≡◌, ℕ, zero, suc, ◌+◌, ◌-◌, ◌<◌, ◌≤◌, Bool, true, List, [], ◌∷◌, ◌++◌, length, get_or, set, max, slice_index, Option, Some, slice_get, refl, sym, ap, ◌∙◌, subst, arith, inl, inr, ◌⊎◌}
+use Rattle.std.specs.Prelude.{IsTrue, Contains}
 use Rattle.std.proofs.lemmas.Bool.{cases_eq, cases_lt}
-use Rattle.std.proofs.lemmas.List.{get_or-set_same, get_or-set_other, length-set, get_or_default}
+use Rattle.std.proofs.lemmas.List.{get_or-set_same, get_or-set_other, set-get_or, length-set}
 use Rattle.std.proofs.lemmas.Option.{slice_get-get_or, slice_get_within, get_or_from_slice_get, same_Some}
 use Rattle.fleet_model.specs.declared.geometry.Cell.{Cell}
 use Rattle.fleet_model.specs.declared.geometry.Place.{Place}
@@ -11,15 +11,16 @@ use Rattle.fleet_model.specs.declared.program.ActionId.{ActionId}
 use Rattle.fleet_model.specs.declared.program.Await.{Await}
 use Rattle.fleet_model.specs.declared.program.Visit.{Visit}
 use Rattle.fleet_model.specs.Geometry.{place_of, stepped, is_move}
-use Rattle.fleet_model.specs.Visit.{is_entry}
-use Rattle.fleet_model.specs.Program.{Program, origin, awaits_of, step_of, path}
+use Rattle.fleet_model.specs.Visit.{is_entry, leaving, IsVisit, ComesAfterByAwait}
+use Rattle.fleet_model.specs.Program.{Program, origin, awaits_of, step_of, path, moves}
 use Rattle.fleet_model.specs.Chain.{DirectlyNeeds, awaited}
-use Rattle.fleet_verify.specs.Ahead.{IsRanked, IsNextLevel, AddsLevel, IsAhead, AreBegun, IsNext, count_in, level_in}
+use Rattle.fleet_verify.specs.Ahead.{IsRanked, IsNextLevel, AddsLevel, IsAhead, IsAheadBy, IsAheadAt, IsArrival, AreBegun, count_in, level_in}
 use Rattle.fleet_verify.specs.Faults.{StandsRight}
 use Rattle.fleet_verify.specs.LastVisits.{kept_at}
 use Rattle.fleet_verify.specs.Order.{AreAddedBy}
 use Rattle.fleet_verify.specs.declared.ahead.Ahead.{Ahead}
-use Rattle.fleet_verify.specs.declared.last_visits.LastVisits.{LastVisits}
+use Rattle.fleet_verify.specs.declared.ahead.Needs.{Needs}
+use Rattle.fleet_verify.specs.declared.visit_order.PlacedVisit.{PlacedVisit}
 use Rattle.fleet_verify.proofs.Begin.{begun_more}
 use Rattle.fleet_verify.proofs.Leaving.{entry_by}
 use Rattle.fleet_verify.proofs.Members.{same_action}
@@ -97,61 +98,69 @@ least_ends p rows i n k l h next all = subst (λ (a : ActionId). IsNextOf a) (ap
       ];
     }
 
--- a look at the last visit of a cell
-pub ahead_looked : (passable : Place → Bool) (p : Program) (a : Ahead) (last : LastVisits) → IsAhead passable p a → ((c : Cell) → kept_at last c ≡ kept_at a.last c)
-    → IsAhead passable p (record { rows = a.rows; cells = a.cells; last = last; pairs = a.pairs })
-ahead_looked passable p a last h same = record {
-  rows = h.rows;
-  cells = h.cells;
-  ranked = h.ranked;
-  here = h.here;
-  begun = subst (λ (f : Cell → Option Visit). AreBegun passable p (λ i. count_in a.rows.items i + 1) f a.pairs.items) alike h.begun;
-}
-  where
-    alike : kept_at a.last ≡ kept_at last
-    alike = λ i c. sym (same c) i
+-- the action begins a visit if its step is a move
+pub enters_by : (p : Program) (s : PlacedVisit) (needs : Needs) → IsArrival p s needs → is_entry p s.visit.agent s.visit.position ≡ is_move needs.step
+enters_by p s needs h =
+    let number : s.visit.position - 1 + 1 ≡ s.visit.position = omega (arith, h.first) in
+    subst (λ (m : ℕ). is_entry p s.visit.agent m ≡ is_move needs.step) number
+    (entry_by p s.visit.agent (s.visit.position - 1) needs.step (subst (λ (m : ℕ). step_of p s.visit.agent m ≡ Some needs.step) (sym number) h.step))
 
--- the next action begins a visit if its step is a move
-pub entered_by : (p : Program) (i n count : ℕ) (s : Step) → n ≡ count + 1 → step_of p i n ≡ Some s → is_move s ≡ is_entry p i n
-entered_by p i n count s next step =
-    sym (subst (λ (m : ℕ). is_entry p i m ≡ is_move s) (sym next) (entry_by p i count s (subst (λ (m : ℕ). step_of p i m ≡ Some s) next step)))
+pub visit_by : (p : Program) (s : PlacedVisit) (needs : Needs) → s.visit.agent < length p → IsArrival p s needs → is_move needs.step ≡ true → IsVisit p s.visit
+visit_by p s needs agent h moves = record { agent = agent; position = h.last; entered = enters_by p s needs h ∙ moves }
 
--- the next action of the agent finished
-pub ahead_more : (passable : Place → Bool) (p : Program) (old new : Ahead) (i n l : ℕ) (cell : Cell) → IsAhead passable p old → IsNext p old.rows.items i n → IsNextLevel p old.rows.items i l
-    → length new.rows.items ≡ length p → new.cells.items ≡ set old.cells.items i cell → AddsLevel old.rows.items new.rows.items i l
+-- what is put in the place of an entry takes the place of what was put there before
+set_again : (cs : List Cell) (i : ℕ) (a b : Cell) → set (set cs i a) i b ≡ set cs i b
+set_again [] i a b = refl
+set_again (c ∷ cs) zero a b = refl
+set_again (c ∷ cs) (suc i) a b = ap (λ (rest : List Cell). c ∷ rest) (set_again cs i a b)
+
+-- the agent is on its cell
+pub at_own_cell : (passable : Place → Bool) (p : Program) (a : Ahead) (i : ℕ) (cell : Cell) → IsAhead passable p a → cell ≡ get_or a.cells.items i cell → IsAheadAt passable p a i cell
+at_own_cell passable p a i cell h is = subst (λ (cs : List Cell). IsAheadBy passable p a.rows.items cs (kept_at a.last) a.pairs.items)
+    (sym (ap (set a.cells.items i) is ∙ set-get_or a.cells.items i cell)) h
+
+-- the next action of the agent, which is on this cell, finished
+pub ahead_more : (passable : Place → Bool) (p : Program) (old new : Ahead) (i n l : ℕ) (from cell : Cell) → IsAheadAt passable p old i from → i < length p → n ≡ count_in old.rows.items i + 1 → n ≤ moves p i → IsNextLevel p old.rows.items i l
+    → length new.rows.items ≡ length p → new.cells.items ≡ old.cells.items → AddsLevel old.rows.items new.rows.items i l
     → ((visits : List Visit) → AreAddedBy p visits (kept_at old.last) old.pairs.items → AreAddedBy p (visits ++ record { agent = i; position = n } ∷ []) (kept_at new.last) new.pairs.items)
-    → place_of cell ≡ path p i n → IsTrue (passable (place_of cell)) → IsAhead passable p new
-ahead_more passable p old new i n l cell h next level rows cells adds added on ground = record {
+    → place_of cell ≡ path p i n → IsTrue (passable (place_of cell)) → IsAheadAt passable p new i cell
+ahead_more passable p old new i n l from cell h agent number left level rows cells adds added on ground = record {
   rows = rows;
-  cells = ap (λ (cs : List Cell). length cs) cells ∙ (length-set old.cells.items i cell ∙ h.cells);
-  ranked = ranked_more old.rows.items new.rows.items i l adds p h.ranked (omega (arith, next.number, next.left)) level;
+  cells = length-set new.cells.items i cell ∙ many;
+  ranked = ranked_more old.rows.items new.rows.items i l adds p h.ranked (omega (arith, number, left)) level;
   here = here;
-  begun = begun_more passable p (λ j. count_in old.rows.items j + 1) (λ j. count_in new.rows.items j + 1) i (kept_at old.last) (kept_at new.last) old.pairs.items new.pairs.items h.begun next.agent
+  begun = begun_more passable p (λ j. count_in old.rows.items j + 1) (λ j. count_in new.rows.items j + 1) i (kept_at old.last) (kept_at new.last) old.pairs.items new.pairs.items h.begun agent
       (omega (arith, own)) (λ j ne. omega (arith, count_other old.rows.items new.rows.items i l adds j ne))
-      (subst (λ (m : ℕ). StandsRight passable p i m) next.number (subst (λ (q : Place). IsTrue (passable q)) on ground))
-      (subst (λ (m : ℕ). (visits : List Visit) → AreAddedBy p visits (kept_at old.last) old.pairs.items → AreAddedBy p (visits ++ record { agent = i; position = m } ∷ []) (kept_at new.last) new.pairs.items) next.number added);
+      (subst (λ (m : ℕ). StandsRight passable p i m) number (subst (λ (q : Place). IsTrue (passable q)) on ground))
+      (subst (λ (m : ℕ). (visits : List Visit) → AreAddedBy p visits (kept_at old.last) old.pairs.items → AreAddedBy p (visits ++ record { agent = i; position = m } ∷ []) (kept_at new.last) new.pairs.items) number added);
 }
   where
     own : count_in new.rows.items i ≡ count_in old.rows.items i + 1
     own = count_own old.rows.items new.rows.items i l adds
 
-    here : (j : ℕ) → j < length p → place_of (get_or new.cells.items j origin) ≡ path p j (count_in new.rows.items j)
-    here j agent = elim (cases_eq j i) [
-      | inl e ↦ subst (λ (k : ℕ). place_of (get_or new.cells.items k origin) ≡ path p k (count_in new.rows.items k)) (sym e)
-          (ap place_of (ap (λ (cs : List Cell). get_or cs i origin) cells ∙ get_or-set_same old.cells.items i cell origin (omega (arith, next.agent, h.cells)))
-          ∙ (on ∙ ap (path p i) (omega (arith, next.number, own))))
+    many : length new.cells.items ≡ length p
+    many = ap (λ (cs : List Cell). length cs) cells ∙ (sym (length-set old.cells.items i from) ∙ h.cells)
+
+    here : (j : ℕ) → j < length p → place_of (get_or (set new.cells.items i cell) j origin) ≡ path p j (count_in new.rows.items j)
+    here j there = elim (cases_eq j i) [
+      | inl e ↦ subst (λ (k : ℕ). place_of (get_or (set new.cells.items i cell) k origin) ≡ path p k (count_in new.rows.items k)) (sym e)
+          (ap place_of (get_or-set_same new.cells.items i cell origin (omega (arith, agent, many)))
+          ∙ (on ∙ ap (path p i) (omega (arith, number, own))))
       | inr ne ↦
-          ap place_of (ap (λ (cs : List Cell). get_or cs j origin) cells ∙ get_or-set_other old.cells.items i j cell origin ne)
-          ∙ (h.here j agent ∙ ap (path p j) (sym (count_other old.rows.items new.rows.items i l adds j ne)))
+          ap place_of (get_or-set_other new.cells.items i j cell origin ne ∙ (ap (λ (cs : List Cell). get_or cs j origin) cells ∙ sym (get_or-set_other old.cells.items i j from origin ne)))
+          ∙ (h.here j there ∙ ap (path p j) (sym (count_other old.rows.items new.rows.items i l adds j ne)))
     ]
 
 -- the step of the next action leads from the agent's cell to the next place of its path
-pub leads_on : (p : Program) (i n c : ℕ) (d : Step) (q : Place) → n ≡ c + 1 → step_of p i n ≡ Some d → q ≡ path p i c → stepped q d ≡ path p i n
-leads_on p i n c d q next step here =
-    subst (λ (m : ℕ). stepped q d ≡ path p i m) (sym next)
-    (ap (λ (r : Place). stepped r d) here ∙ sym (path_step p i c d (subst (λ (m : ℕ). step_of p i m ≡ Some d) next step)))
+pub leads_on : (p : Program) (i c : ℕ) (d : Step) (q : Place) → step_of p i (c + 1) ≡ Some d → q ≡ path p i c → stepped q d ≡ path p i (c + 1)
+leads_on p i c d q step here = ap (λ (r : Place). stepped r d) here ∙ sym (path_step p i c d step)
 
--- the agent's cell, as it is read
-pub cell_here : (passable : Place → Bool) (p : Program) (a : Ahead) → IsAhead passable p a → (i j : ℕ) (c : Cell) → i < length p → j ≡ i → c ≡ get_or a.cells.items j c → place_of c ≡ path p i (count_in a.rows.items i)
-cell_here passable p a h i j c agent e read =
-    ap place_of (read ∙ (ap (λ k. get_or a.cells.items k c) e ∙ get_or_default a.cells.items i c origin (omega (arith, agent, h.cells)))) ∙ h.here i agent
+-- the cell of the agent that is on it
+pub place_at : (passable : Place → Bool) (p : Program) (a : Ahead) (i n : ℕ) (cell : Cell) → IsAheadAt passable p a i cell → i < length p → n ≡ count_in a.rows.items i → place_of cell ≡ path p i n
+place_at passable p a i n cell h agent number =
+    let many : length a.cells.items ≡ length p = sym (length-set a.cells.items i cell) ∙ h.cells in
+    ap place_of (sym (get_or-set_same a.cells.items i cell origin (omega (arith, agent, many)))) ∙ (h.here i agent ∙ ap (path p i) (sym number))
+
+-- what an await says of a visit orders the two
+pub latest_orders : (p : Program) (v w : Visit) (a : Await) → Contains (awaits_of p w.agent w.position) a → (a.agent ≡ v.agent) × ((leaving p v).number ≤ a.count) → ComesAfterByAwait p v w
+latest_orders p v w a has (same, left) = inr (a, has, same, left)

@@ -1,5 +1,7 @@
 -- One action further along a path, and one agent more.
-use Rattle.std.proofs.Common.{◌≡◌, ℕ, ◌+◌, ◌<◌, ◌≤◌, length, Bool, Option, Some, None, false, sym, ◌∙◌, subst, arith, IsTrue}
+use Rattle.std.proofs.Common.{◌≡◌, ℕ, ℤ, pos, negsuc, ◌+◌, ◌<◌, ◌<ℤ◌, ◌≤◌, length, Bool, Option, Some, None, false, sym, ◌∙◌, subst, arith, IsTrue}
+use Rattle.std.proofs.lemmas.Int.{ints}
+use Rattle.fleet_grid.specs.Ground.{IsNoNumber}
 use Rattle.std.specs.Prelude.{option_map}
 use Rattle.std.specs.Option.{option_or}
 use Rattle.fleet_model.specs.declared.geometry.Cell.{Cell}
@@ -39,3 +41,12 @@ one_agent_more p Right i found n told before here inside e = subst (AnswersFirst
     go (Some a) m (l, first) h = (omega arith, first)
     go None None all h = agents_more Right (moves p) i all h
     go None (Some m) all h = (omega arith, record { agent = inside; action = h; others = all })
+
+-- numbers that no cell can have
+pub no_number_below : (x : ℤ) → x <ℤ pos 0 → IsNoNumber x
+no_number_below (pos n) l = absurd (omega (arith, ints, l))
+no_number_below (negsuc n) l = tt
+
+pub no_number_above : (x : ℤ) → pos 65535 <ℤ x → IsNoNumber x
+no_number_above (pos n) l = omega (arith, ints, l)
+no_number_above (negsuc n) l = absurd (omega (arith, ints, l))

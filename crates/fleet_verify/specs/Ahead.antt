@@ -1,21 +1,21 @@
 -- Actions finished in any order that respects needs: their levels, and the visits that have begun.
-use Rattle.std.specs.Prelude.{◌≡◌, ◌≢◌, ℕ, ◌+◌, ◌-◌, ◌<◌, ◌≤◌, ◌⊎◌, ◌↔◌, IsTrue, Bool, true, Some, List, [], ◌∷◌, ◌++◌, length, get_or, slice_index, Option, Contains}
+use Rattle.std.specs.Prelude.{◌≡◌, ◌≢◌, ℕ, ◌+◌, ◌-◌, ◌<◌, ◌≤◌, ◌⊎◌, Bool, Some, List, [], ◌∷◌, ◌++◌, length, get_or, set, slice_index, Option, Contains, IfSome}
 use Rattle.std.specs.List.{AllPairs}
 use Rattle.fleet_model.specs.declared.geometry.Cell.{Cell}
 use Rattle.fleet_model.specs.declared.geometry.Place.{Place}
 use Rattle.fleet_model.specs.declared.program.ActionId.{ActionId}
 use Rattle.fleet_model.specs.declared.program.Visit.{Visit}
 use Rattle.fleet_model.specs.Geometry.{place_of}
-use Rattle.fleet_model.specs.Program.{Program, origin, moves, path}
-use Rattle.fleet_model.specs.Visit.{is_entry, leaving, ComesAfterByAwait}
-use Rattle.fleet_model.specs.declared.program.Await.{Await}
-use Rattle.fleet_verify.specs.declared.ahead.Arrival.{Arrival}
+use Rattle.fleet_model.specs.Program.{Program, origin, moves, path, awaits_of, awaits_before, step_of}
+use Rattle.fleet_verify.specs.declared.ahead.Needs.{Needs}
+use Rattle.fleet_verify.specs.declared.ahead.Next.{Next}
 use Rattle.fleet_model.specs.Chain.{IsAction, DirectlyNeeds}
 use Rattle.fleet_verify.specs.Faults.{StandsRight}
 use Rattle.fleet_verify.specs.LastVisits.{kept_at}
 use Rattle.fleet_verify.specs.Order.{AreAddedBy}
 use Rattle.fleet_verify.specs.Rows.{IsCountedUp}
 use Rattle.fleet_verify.specs.declared.visit_order.OpenPair.{OpenPair}
+use Rattle.fleet_verify.specs.declared.visit_order.PlacedVisit.{PlacedVisit}
 use Rattle.fleet_verify.specs.declared.ahead.Ahead.{Ahead}
 
 -- ---- levels
@@ -76,29 +76,39 @@ pub record AreBegun (passable : Place → Bool) (p : Program) (begun : ℕ → �
 
 -- the rows have the levels of the actions that are finished, the cells are those that the agents have come to by them,
 -- and the visits that have begun so are added
-pub record IsAhead (passable : Place → Bool) (p : Program) (a : Ahead) : Type 0 where
-  pub rows : length a.rows.items ≡ length p
-  pub cells : length a.cells.items ≡ length p
-  pub ranked : AreRanked p a.rows.items
-  pub here : (i : ℕ) → i < length p → place_of (get_or a.cells.items i origin) ≡ path p i (count_in a.rows.items i)
-  pub begun : AreBegun passable p (λ i. count_in a.rows.items i + 1) (kept_at a.last) a.pairs.items
+pub record IsAheadBy (passable : Place → Bool) (p : Program) (levels : List (List ℕ)) (stands : List Cell) (last : Cell → Option Visit) (pairs : List OpenPair) : Type 0 where
+  pub rows : length levels ≡ length p
+  pub cells : length stands ≡ length p
+  pub ranked : AreRanked p levels
+  pub here : (i : ℕ) → i < length p → place_of (get_or stands i origin) ≡ path p i (count_in levels i)
+  pub begun : AreBegun passable p (λ i. count_in levels i + 1) last pairs
 
--- an agent of the program and its next action, whose number is this
-pub record IsNext (p : Program) (rows : List (List ℕ)) (i n : ℕ) : Type 0 where
-  pub agent : i < length p
-  pub number : n ≡ count_in rows i + 1
-  pub left : n ≤ moves p i
+-- so it is with these agents
+abbrev pub IsAhead : (Place → Bool) → Program → Ahead → Type 0
+IsAhead passable p a = IsAheadBy passable p a.rows.items a.cells.items (kept_at a.last) a.pairs.items
 
--- ---- the next visit
+-- so it is if agent i is on this cell
+abbrev pub IsAheadAt : (Place → Bool) → Program → Ahead → ℕ → Cell → Type 0
+IsAheadAt passable p a i cell = IsAheadBy passable p a.rows.items (set a.cells.items i cell) (kept_at a.last) a.pairs.items
 
--- the await is met only if the visit has been left
-abbrev pub AwaitsLeaving : Program → Visit → Await → Type 0
-AwaitsLeaving p v a = (a.agent ≡ v.agent) × ((leaving p v).number ≤ a.count)
+-- an agent of the program that has finished so many actions, which have so many awaits, and has one left
+pub record IsNext (p : Program) (rows : List (List ℕ)) (n : Next) : Type 0 where
+  pub agent : n.agent < length p
+  pub number : n.finished ≡ count_in rows n.agent
+  pub left : n.finished < moves p n.agent
+  pub before : n.before ≡ awaits_before p n.agent n.finished
 
--- an agent comes to a cell by an action, with the last visits so far: whether a visit begins, and if so, the one before
--- it at the cell, and whether it comes after that one
-pub record IsArrival (p : Program) (last : Cell → Option Visit) (a : Arrival) : Type 0 where
-  pub here : place_of a.placed.cell ≡ path p a.placed.visit.agent a.placed.visit.position
-  pub entered : a.entered ≡ is_entry p a.placed.visit.agent a.placed.visit.position
-  pub before : a.entered ≡ true → a.before ≡ last a.placed.cell
-  pub follows : (v : Visit) → a.before ≡ Some v → IsTrue a.follows ↔ ComesAfterByAwait p v a.placed.visit
+-- what the agent's next action says, all of whose awaits are met
+pub record AreNeeds (p : Program) (rows : List (List ℕ)) (n : Next) (needs : Needs) : Type 0 where
+  pub level : IsNextLevel p rows n.agent needs.level
+  pub awaits : needs.awaits ≡ length (awaits_of p n.agent (n.finished + 1))
+  pub latest : IfSome needs.latest (Contains (awaits_of p n.agent (n.finished + 1)))
+  pub step : step_of p n.agent (n.finished + 1) ≡ Some needs.step
+
+-- an agent comes to a cell by an action whose step and last await are these
+pub record IsArrival (p : Program) (s : PlacedVisit) (needs : Needs) : Type 0 where
+  pub first : 1 ≤ s.visit.position
+  pub last : s.visit.position ≤ moves p s.visit.agent
+  pub here : place_of s.cell ≡ path p s.visit.agent s.visit.position
+  pub step : step_of p s.visit.agent s.visit.position ≡ Some needs.step
+  pub latest : IfSome needs.latest (Contains (awaits_of p s.visit.agent s.visit.position))

@@ -1,42 +1,9 @@
--- The last visit of each cell, kept in squares of cells.
-use Rattle.std.specs.Prelude.{◌≡◌, ◌≢◌, ℕ, ◌+◌, ◌*◌, ◌/◌, ◌%◌, nat_eq, List, get_or, slice_get, Option, Some, None, option_map, if◌then◌else◌}
-use Rattle.indexmap.specs.IndexMap.{IndexMap, get}
+-- The last visit of each cell.
+use Rattle.std.specs.Prelude.{Option}
 use Rattle.fleet_model.specs.declared.geometry.Cell.{Cell}
-use Rattle.fleet_model.specs.declared.limits.TheConstants.{MAX_AGENTS}
 use Rattle.fleet_model.specs.declared.program.Visit.{Visit}
 use Rattle.fleet_verify.specs.declared.last_visits.LastVisits.{LastVisits}
-use Rattle.fleet_verify.specs.declared.last_visits.TheConstants.{SIDE, ACROSS, NO_VISIT}
-
--- the number of the square that the cell is in, which no other square has
-abbrev pub square_of : Cell → ℕ
-square_of c = (c.y / SIDE) * ACROSS + c.x / SIDE
-
--- the cell's place in its square, which no other cell of the square has
-abbrev pub place_in_square : Cell → ℕ
-place_in_square c = (c.y % SIDE) * SIDE + c.x % SIDE
-
--- the visit that is kept as this number, if any is
-abbrev pub visit_kept : ℕ → Option Visit
-visit_kept n = if nat_eq n NO_VISIT then None else Some (record { agent = n % MAX_AGENTS; position = n / MAX_AGENTS })
-
--- the visit that the square, if there is one, keeps at this place
-abbrev pub visit_in : Option (List ℕ) → ℕ → Option Visit
-visit_in None k = None
-visit_in (Some square) k = visit_kept (get_or square k NO_VISIT)
-
--- the number is written at this place of the square
-pub record IsWritten (old new : List ℕ) (place n : ℕ) : Type 0 where
-  pub here : get_or new place NO_VISIT ≡ n
-  pub others : (k : ℕ) → k ≢ place → get_or new k NO_VISIT ≡ get_or old k NO_VISIT
-
-module _ {S : Type 0} where
-  -- the visit that the squares keep for the cell
-  abbrev pub last_in : IndexMap ℕ (List ℕ) S → Cell → Option Visit
-  last_in squares c = visit_in (get nat_eq squares (square_of c)) (place_in_square c)
-
-  -- the square with this number stands at this place among the squares
-  abbrev pub IsSquareAt : IndexMap ℕ (List ℕ) S → ℕ → ℕ → Type 0
-  IsSquareAt squares number slot = option_map (λ e. e.0) (slice_get squares.entries slot) ≡ Some number
+use Rattle.fleet_verify.specs.Squares.{last_in}
 
 -- the last visit of the cell
 abbrev pub kept_at : LastVisits → Cell → Option Visit

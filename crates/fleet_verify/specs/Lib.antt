@@ -17,5 +17,6 @@ pub mod Breaking
 pub mod Reduced
 pub mod Needed
 pub mod LastVisits
+pub mod Squares
 pub mod Promises
 pub mod Rest

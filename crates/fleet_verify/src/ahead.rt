@@ -1,15 +1,15 @@
 //! A verifier without ticks: each agent runs on as far as its awaits allow. It only says yes.
 
-ghost use Rattle.std.specs.Prelude.{◌≡◌, ◌≢◌, ◌<◌, ◌≤◌, ◌+◌, ◌⊎◌, ◌↔◌, ℕ, Some, true, IsTrue, IfNone, length, max, IfOk, IfErr, IfSome, OnOk, List, set, get_or, [], ◌∷◌, ◌++◌, ◌-◌, All};
+ghost use Rattle.std.specs.Prelude.{◌≡◌, ◌≢◌, ◌<◌, ◌≤◌, ◌+◌, ◌⊎◌, ◌↔◌, ℕ, Some, true, IsTrue, IfNone, length, max, IfOk, IfErr, IfSome, OnOk, List, get_or, [], ◌∷◌, ◌++◌, Contains};
 ghost use Rattle.fleet_model.specs.declared.geometry.Cell.{Cell};
 ghost use Rattle.fleet_model.specs.declared.program.Visit.{Visit};
-ghost use Rattle.fleet_model.specs.Geometry.{place_of, is_move};
+ghost use Rattle.fleet_model.specs.Geometry.{place_of};
 ghost use Rattle.fleet_verify.specs.Order.{AreAddedBy, IsOpenNext};
-ghost use Rattle.fleet_model.specs.Program.{Program, start_of, moves, path, IsCell};
-ghost use Rattle.fleet_model.specs.Visit.{IsVisit, IsLaterVisit, ComesAfterByAwait};
+ghost use Rattle.fleet_model.specs.Program.{Program, start_of, moves, path, awaits_of, IsCell};
+ghost use Rattle.fleet_model.specs.Visit.{IsVisit, ComesAfterByAwait, leaving};
 ghost use Rattle.fleet_grid.specs.Ground.{is_passable};
 ghost use Rattle.fleet_model.specs.Chain.{awaited};
-ghost use Rattle.fleet_verify.specs.Ahead.{IsRanked, IsAhead, IsNext, IsNextLevel, AddsLevel, IsArrival, AwaitsLeaving, count_in, level_in};
+ghost use Rattle.fleet_verify.specs.Ahead.{IsRanked, IsAhead, IsAheadAt, IsNext, AreNeeds, AddsLevel, IsArrival, count_in, level_in};
 ghost use Rattle.fleet_verify.specs.Faults.{HasStarts};
 ghost use Rattle.fleet_verify.specs.LastVisits.{kept_at};
 ghost use Rattle.fleet_verify.specs.Parts.{IsAcceptedFor};
@@ -21,7 +21,9 @@ use crate::path::cell_after;
 use crate::unheld_run::Stop;
 use crate::visit_order::{OpenPair, PlacedVisit, begins_visit, is_left_by, open_unless_after};
 use fleet_grid::Grid;
-use fleet_model::{Await, Cell, OutOfMemory, Place, ProgramView, Step, Visit, total_moves};
+use fleet_model::{
+    Await, Cell, Instruction, MAX_AGENTS, OutOfMemory, Place, ProgramView, Step, Visit, total_moves,
+};
 use fleet_scen::Instance;
 use std::alloc::Global;
 use std::marker::Model;
@@ -46,6 +48,7 @@ fn row_of(rows: &Vec<LevelRow>, agent: u16) -> &LevelRow
 }
 
 /// The greater of a level and of that of an awaited action, if that has one.
+#[inline(always)]
 fn greater_level(rows: &Vec<LevelRow>, least: u32, w: Await) -> Option<u32>
     requires { w.agent < length rows.now.items }
     ensures met { IfSome result (λ _. IsRanked rows.now.items (awaited w)) }
@@ -55,252 +58,187 @@ fn greater_level(rows: &Vec<LevelRow>, least: u32, w: Await) -> Option<u32>
     Some(least.max(level))
 }
 
-/// What the awaits of an action say, all of which are met.
+/// The next action of an agent: how many it has finished, and how many awaits these have together.
 #[derive(Clone, Copy)]
-struct Needs {
-    /// The level of the action.
-    level: u32,
-    /// Whether its visit comes after the last one of the cell.
-    follows: bool,
+pub struct Next {
+    pub agent: u16,
+    pub finished: u32,
+    pub before: u32,
 }
 
-/// The level of the agent's next action, and whether its visit comes after the one before it at the cell; or an await of
-/// it that is not met.
-fn needs_of<P: ProgramView>(
-    program: &P,
-    rows: &Vec<LevelRow>,
-    visit: Visit,
-    before: Option<Visit>,
-) -> Result<Needs, Await>
+/// What an action says whose awaits are all met.
+#[derive(Clone, Copy)]
+pub struct Needs {
+    /// The level of the action.
+    pub level: u32,
+    /// How many awaits it has, and the last of them.
+    pub awaits: u16,
+    pub latest: Option<Await>,
+    pub step: Step,
+}
+
+/// An action has an instruction for each await, of which there are fewer than agents, and one for its step.
+const MOST_INSTRUCTIONS: u16 = MAX_AGENTS as u16;
+
+/// What the agent's next action says, or an await of it that is not met.
+#[inline(always)]
+fn needs_of<P: ProgramView>(program: &P, rows: &Vec<LevelRow>, next: Next) -> Result<Needs, Await>
     requires rows { length rows.now.items ≡ length (P.program program.now) }
-    requires next { IsNext (P.program program.now) rows.now.items visit.agent visit.position }
-    ensures level { IfOk result (λ n. IsNextLevel (P.program program.now) rows.now.items
-        visit.agent n.level) }
-    ensures follows { IfOk result (λ n. (v : Visit) → before ≡ Some v
-        → IsTrue n.follows ↔ ComesAfterByAwait (P.program program.now) v visit) }
+    requires next { IsNext (P.program program.now) rows.now.items next }
+    ensures needs { IfOk result (AreNeeds (P.program program.now) rows.now.items next) }
     ensures waits { IfErr result (λ w. w.agent < length (P.program program.now)) }
 {
     let _agents = program.agents();
-    let mut least = row_of(rows, visit.agent).last();
-    let mut follows = is_later(before, visit);
-    for k in 0..program.await_count(visit.agent, visit.position) {
-        let awaited = program.await_at(visit.agent, visit.position, k);
-        match greater_level(rows, least, awaited) {
-            Some(level) => {
-                least = level;
-                follows = follows_by(program, follows, before, awaited);
+    let Next {
+        agent,
+        finished,
+        before,
+    } = next;
+    let mut least = row_of(rows, agent).last();
+    let mut latest = None;
+    for k in 0..MOST_INSTRUCTIONS {
+        match program.instruction(agent, finished, before, k) {
+            Instruction::Await(awaited) => match greater_level(rows, least, awaited) {
+                Some(level) => {
+                    least = level;
+                    latest = Some(awaited);
+                }
+                None => return Err(awaited),
+            },
+            Instruction::Step(step) => {
+                if least == u32::MAX {
+                    return Err(Await {
+                        agent,
+                        count: finished + 1,
+                    });
+                }
+                return Ok(Needs {
+                    level: least + 1,
+                    awaits: k,
+                    latest,
+                    step,
+                });
             }
-            None => return Err(awaited),
         }
     }
-    if least == u32::MAX {
-        return Err(Await {
-            agent: visit.agent,
-            count: visit.position,
-        });
-    }
-    Ok(Needs {
-        level: least + 1,
-        follows,
-    })
+    unreachable!()
 }
 
-/// Whether the visit is a later one by the agent of the one before.
-fn is_later(before: Option<Visit>, visit: Visit) -> bool
-    ensures { (v : Visit) → before ≡ Some v → IsTrue result ↔ IsLaterVisit v visit }
-{
-    match before {
-        Some(first) => first.agent == visit.agent && first.position < visit.position,
-        None => false,
-    }
-}
-
-/// Whether a visit comes after the one before if it has been found to, or if this is one of its awaits.
-fn follows_by<P: ProgramView>(
-    program: &P,
-    follows: bool,
-    before: Option<Visit>,
-    awaited: Await,
-) -> bool
-    requires { awaited.agent < length (P.program program.now) }
-    ensures { (v : Visit) → before ≡ Some v
-        → IsTrue result ↔ (IsTrue follows ⊎ AwaitsLeaving (P.program program.now) v awaited) }
-{
-    if follows {
-        return true;
-    }
-    match before {
-        Some(first) => awaits_leaving(program, first, awaited),
-        None => false,
-    }
-}
-
-/// Whether the await is met only if the visit has been left.
-fn awaits_leaving<P: ProgramView>(program: &P, first: Visit, awaited: Await) -> bool
-    requires { awaited.agent < length (P.program program.now) }
-    ensures { IsTrue result ↔ AwaitsLeaving (P.program program.now) first awaited }
-{
-    if first.agent != awaited.agent {
-        return false;
-    }
-    is_left_by(program, first, awaited.count)
-}
-
-/// An agent at the end of its next action.
-#[derive(Clone, Copy)]
-pub struct Arrival {
-    pub placed: PlacedVisit,
-    /// Whether it has moved there, so that a visit begins.
-    pub entered: bool,
-    /// If so, the last visit of the cell until then, if there was one.
-    pub before: Option<Visit>,
-    /// Whether the visit comes after that one.
-    pub follows: bool,
-}
-
-/// Finishes the agent's next action, if its awaits are met and it leads to passable ground. If they are not, answers one
-/// of them.
+/// Finishes the agent's next action, whose awaits are met, if it leads to passable ground, and answers the cell that the
+/// agent has come to.
+#[inline(always)]
 fn finish_next<P: ProgramView>(
     program: &P,
     grid: &Grid,
     ahead: &mut Ahead,
-    visit: Visit,
-) -> Result<Option<Await>, Stop>
-    requires ahead { IsAhead (is_passable grid.now) (P.program program.now) ahead.old }
-    requires next { IsNext (P.program program.now) ahead.old.rows.items
-        visit.agent visit.position }
-    ensures ahead { OnOk result (IsAhead (is_passable grid.now) (P.program program.now) ahead.new) }
-    ensures count { IfOk result (λ w. IfNone w
-        (count_in ahead.new.rows.items visit.agent ≡ visit.position)) }
-    ensures waits { IfOk result (λ w. IfSome w
-        (λ a. a.agent < length (P.program program.now))) }
+    next: Next,
+    needs: Needs,
+    from: Cell,
+) -> Result<Cell, Stop>
+    requires ahead { IsAheadAt (is_passable grid.now) (P.program program.now) ahead.old
+        next.agent from }
+    requires next { IsNext (P.program program.now) ahead.old.rows.items next }
+    requires needs { AreNeeds (P.program program.now) ahead.old.rows.items next needs }
+    ensures ahead { IfOk result (IsAheadAt (is_passable grid.now) (P.program program.now) ahead.new
+        next.agent) }
+    ensures count { OnOk result (count_in ahead.new.rows.items next.agent ≡ next.finished + 1) }
 {
-    let step = program.step(visit.agent, visit.position);
-    let from = ahead.cells[usize::from(visit.agent)];
-    let Some(cell) = cell_after(grid, from, step) else {
+    let _agents = program.agents();
+    let Next {
+        agent,
+        finished,
+        ..
+    } = next;
+    let Some(cell) = cell_after(grid, from, needs.step) else {
         return Err(Stop::OffGround);
     };
-    let before = seen_before(&mut ahead.last, step, cell);
-    match needs_of(program, &ahead.rows, visit, before) {
-        Ok(Needs { level, follows }) => {
-            let arrival = Arrival {
-                placed: PlacedVisit { visit, cell },
-                entered: is_move(step),
-                before,
-                follows,
-            };
-            note(program, ahead, arrival, level)?;
-            Ok(None)
-        }
-        Err(awaited) => Ok(Some(awaited)),
-    }
+    let visit = Visit {
+        agent,
+        position: finished + 1,
+    };
+    note(program, ahead, PlacedVisit { visit, cell }, needs)?;
+    Ok(cell)
 }
 
-/// Whether the step is a move.
-fn is_move(step: Step) -> bool
-    ensures { result ≡ is_move step }
-{
-    match step {
-        Step::Go(_) => true,
-        Step::Dwell => false,
-    }
-}
-
-/// The last visit so far of the cell to which the step leads, if it is a move.
-fn seen_before(last: &mut LastVisits, step: Step, cell: Cell) -> Option<Visit>
-    ensures kept { is_move step ≡ true → result ≡ kept_at last.new cell }
-    ensures same { (c : Cell) → kept_at last.new c ≡ kept_at last.old c }
-{
-    match step {
-        Step::Go(_) => last.get(cell),
-        Step::Dwell => None,
-    }
-}
-
-/// Notes that the agent has come there by its next action, which has this level.
+/// Notes that the agent has come there by its next action.
+#[inline(always)]
 fn note<P: ProgramView>(
     program: &P,
     ahead: &mut Ahead,
-    arrival: Arrival,
-    level: u32,
+    placed: PlacedVisit,
+    needs: Needs,
 ) -> Result<(), OutOfMemory>
     requires rows { length ahead.old.rows.items ≡ length (P.program program.now) }
-    requires cells { length ahead.old.cells.items ≡ length (P.program program.now) }
-    requires next { IsNext (P.program program.now) ahead.old.rows.items
-        arrival.placed.visit.agent arrival.placed.visit.position }
-    requires arrival { IsArrival (P.program program.now) (kept_at ahead.old.last) arrival }
+    requires agent { placed.visit.agent < length (P.program program.now) }
+    requires number { placed.visit.position
+        ≡ count_in ahead.old.rows.items placed.visit.agent + 1 }
+    requires arrival { IsArrival (P.program program.now) placed needs }
     ensures rows { OnOk result (length ahead.new.rows.items ≡ length (P.program program.now)) }
-    ensures cells { OnOk result (ahead.new.cells.items
-        ≡ set ahead.old.cells.items arrival.placed.visit.agent arrival.placed.cell) }
+    ensures cells { OnOk result (ahead.new.cells.items ≡ ahead.old.cells.items) }
     ensures level { OnOk result (AddsLevel ahead.old.rows.items ahead.new.rows.items
-        arrival.placed.visit.agent level) }
+        placed.visit.agent needs.level) }
     ensures added { OnOk result ((visits : List Visit)
         → AreAddedBy (P.program program.now) visits (kept_at ahead.old.last)
         ahead.old.pairs.items
-        → AreAddedBy (P.program program.now) (visits ++ arrival.placed.visit ∷ [])
+        → AreAddedBy (P.program program.now) (visits ++ placed.visit ∷ [])
         (kept_at ahead.new.last) ahead.new.pairs.items) }
 {
-    let PlacedVisit { visit, cell } = arrival.placed;
     let _agents = program.agents();
-    add_arrival(program, &mut ahead.last, &mut ahead.pairs, arrival)?;
-    ahead.cells[usize::from(visit.agent)] = cell;
-    ahead.rows[usize::from(visit.agent)].push(level)?;
+    add_arrival(program, &mut ahead.last, &mut ahead.pairs, placed, needs)?;
+    ahead.rows[usize::from(placed.visit.agent)].push(needs.level)?;
     Ok(())
 }
 
-/// Adds the position to which the agent has come, if it begins a visit.
+/// Adds the position to which the agent has come, if it has moved there.
+#[inline(always)]
 fn add_arrival<P: ProgramView>(
     program: &P,
     last: &mut LastVisits,
     pairs: &mut Vec<OpenPair>,
-    arrival: Arrival,
+    placed: PlacedVisit,
+    needs: Needs,
 ) -> Result<(), OutOfMemory>
-    requires agent { arrival.placed.visit.agent < length (P.program program.now) }
-    requires position { arrival.placed.visit.position
-        ≤ moves (P.program program.now) arrival.placed.visit.agent }
-    requires arrival { IsArrival (P.program program.now) (kept_at last.old) arrival }
+    requires agent { placed.visit.agent < length (P.program program.now) }
+    requires arrival { IsArrival (P.program program.now) placed needs }
     ensures { OnOk result ((visits : List Visit)
         → AreAddedBy (P.program program.now) visits (kept_at last.old) pairs.old.items
-        → AreAddedBy (P.program program.now) (visits ++ arrival.placed.visit ∷ [])
+        → AreAddedBy (P.program program.now) (visits ++ placed.visit ∷ [])
         (kept_at last.new) pairs.new.items) }
 {
-    let _agents = program.agents();
-    if !arrival.entered {
-        return Ok(());
+    match needs.step {
+        Step::Go(_) => {
+            keep_visit(program, last, pairs, placed, needs.latest)?;
+            Ok(())
+        }
+        Step::Dwell => Ok(()),
     }
-    last.replace(arrival.placed.cell, arrival.placed.visit)?;
-    open_unless_follows(program, pairs, arrival)?;
-    Ok(())
 }
 
-/// Adds the visit and the one before it at the cell as an open pair, unless it comes after that one.
-fn open_unless_follows<P: ProgramView>(
-    program: &P,
-    pairs: &mut Vec<OpenPair>,
-    arrival: Arrival,
-) -> Result<(), OutOfMemory>
-    requires { (v : Visit) → arrival.before ≡ Some v → IsTrue arrival.follows
-        ↔ ComesAfterByAwait (P.program program.now) v arrival.placed.visit }
-    ensures { OnOk result (IsOpenNext (ComesAfterByAwait (P.program program.now))
-        arrival.before arrival.placed pairs.old.items pairs.new.items) }
+/// Whether the visit is a later one by the agent of the one before, or the await is met only if that is left.
+#[inline(always)]
+fn follows<P: ProgramView>(program: &P, first: Visit, second: Visit, latest: Option<Await>) -> bool
+    requires latest { IfSome latest
+        (Contains (awaits_of (P.program program.now) second.agent second.position)) }
+    ensures { IsTrue result → ComesAfterByAwait (P.program program.now) first second }
 {
     let _agents = program.agents();
-    let Some(first) = arrival.before else {
-        return Ok(());
-    };
-    if arrival.follows {
-        return Ok(());
+    if first.agent == second.agent {
+        return first.position < second.position;
     }
-    let PlacedVisit {
-        visit: second,
-        cell,
-    } = arrival.placed;
-    pairs.push(OpenPair {
-        cell,
-        first,
-        second,
-    })?;
-    Ok(())
+    match latest {
+        Some(awaited) => is_left_if_met(program, first, awaited),
+        None => false,
+    }
+}
+
+/// Whether the await is met only if the visit is left.
+#[inline(always)]
+fn is_left_if_met<P: ProgramView>(program: &P, visit: Visit, awaited: Await) -> bool
+    requires { awaited.agent < length (P.program program.now) }
+    ensures { IsTrue result → (awaited.agent ≡ visit.agent)
+        × ((leaving (P.program program.now) visit).number ≤ awaited.count) }
+{
+    awaited.agent == visit.agent && is_left_by(program, visit, awaited.count)
 }
 
 /// Adds the position, if it begins a visit.
@@ -320,19 +258,24 @@ fn add_visit<P: ProgramView>(
         (kept_at last.new) pairs.new.items) }
 {
     if begins_visit(program, placed.visit) {
-        keep_visit(program, last, pairs, placed)?;
+        keep_visit(program, last, pairs, placed, None)?;
     }
     Ok(())
 }
 
-/// Keeps the visit as the last one of its cell. Unless it comes after the one before it, the two are an open pair.
+/// Keeps the visit as the last one of its cell. Unless it comes after the one before it, the two are an open pair. Mostly
+/// one await of the action that enters it shows that it does.
+#[inline(always)]
 fn keep_visit<P: ProgramView>(
     program: &P,
     last: &mut LastVisits,
     pairs: &mut Vec<OpenPair>,
     placed: PlacedVisit,
+    latest: Option<Await>,
 ) -> Result<(), OutOfMemory>
-    requires { IsVisit (P.program program.now) placed.visit }
+    requires visit { IsVisit (P.program program.now) placed.visit }
+    requires latest { IfSome latest (Contains
+        (awaits_of (P.program program.now) placed.visit.agent placed.visit.position)) }
     ensures here { OnOk result (kept_at last.new placed.cell ≡ Some placed.visit) }
     ensures others { OnOk result ((c : Cell) → IsCell c → c ≢ placed.cell
         → kept_at last.new c ≡ kept_at last.old c) }
@@ -342,9 +285,30 @@ fn keep_visit<P: ProgramView>(
 {
     let _agents = program.agents();
     match last.replace(placed.cell, placed.visit)? {
-        Some(first) => open_unless_after(program, first, placed, pairs),
+        Some(first) => open_unless_follows(program, first, placed, latest, pairs),
         None => Ok(()),
     }
+}
+
+/// Adds the visit and the one before it at the cell as an open pair, unless it comes after that one.
+#[inline(always)]
+fn open_unless_follows<P: ProgramView>(
+    program: &P,
+    first: Visit,
+    placed: PlacedVisit,
+    latest: Option<Await>,
+    pairs: &mut Vec<OpenPair>,
+) -> Result<(), OutOfMemory>
+    requires visit { IsVisit (P.program program.now) placed.visit }
+    requires latest { IfSome latest (Contains
+        (awaits_of (P.program program.now) placed.visit.agent placed.visit.position)) }
+    ensures { OnOk result (IsOpenNext (ComesAfterByAwait (P.program program.now)) (Some first)
+        placed pairs.old.items pairs.new.items) }
+{
+    if follows(program, first, placed.visit, latest) {
+        return Ok(());
+    }
+    open_unless_after(program, first, placed, pairs)
 }
 
 /// All agents on their starts, if these are passable.
@@ -407,6 +371,7 @@ fn begin_agent<P: ProgramView>(
 }
 
 /// Lets an agent run on as far as its awaits allow, and answers the await that it then waits for, if any.
+#[inline(never)]
 fn run_agent<P: ProgramView>(
     program: &P,
     grid: &Grid,
@@ -419,15 +384,28 @@ fn run_agent<P: ProgramView>(
     ensures waits { IfOk result (λ w. IfSome w
         (λ a. a.agent < length (P.program program.now))) }
 {
-    for finished in row_of(&ahead.rows, agent).count()..program.moves(agent) {
-        let visit = Visit {
+    let _agents = program.agents();
+    let begun = row_of(&ahead.rows, agent).count();
+    let mut before = program.awaits_before(agent, begun);
+    let mut cell = ahead.cells[usize::from(agent)];
+    for finished in begun..program.moves(agent) {
+        let next = Next {
             agent,
-            position: finished + 1,
+            finished,
+            before,
         };
-        if let Some(awaited) = finish_next(program, grid, ahead, visit)? {
-            return Ok(Some(awaited));
+        match needs_of(program, &ahead.rows, next) {
+            Ok(needs) => {
+                cell = finish_next(program, grid, ahead, next, needs, cell)?;
+                before += u32::from(needs.awaits);
+            }
+            Err(awaited) => {
+                ahead.cells[usize::from(agent)] = cell;
+                return Ok(Some(awaited));
+            }
         }
     }
+    ahead.cells[usize::from(agent)] = cell;
     Ok(None)
 }
 

@@ -5,8 +5,8 @@ ghost use Rattle.indexmap.specs.IndexMap.{index_map_len};
 ghost use Rattle.fleet_model.specs.declared.geometry.Cell.{Cell};
 ghost use Rattle.fleet_model.specs.declared.limits.TheConstants.{MAX_AGENTS, MAX_MOVES};
 ghost use Rattle.fleet_model.specs.Program.{IsCell};
-ghost use Rattle.fleet_verify.specs.declared.last_visits.TheConstants.{CELLS, NO_VISIT};
-ghost use Rattle.fleet_verify.specs.LastVisits.{square_of, place_in_square, visit_kept, last_in, kept_at, IsSquareAt, IsWritten};
+ghost use Rattle.fleet_verify.specs.declared.last_visits.TheConstants.{CELLS, NO_SQUARE, NO_VISIT};
+ghost use Rattle.fleet_verify.specs.Squares.{square_of, place_in_square, visit_kept, last_in, IsSquareAt, IsWritten};
 
 use fleet_model::{Cell, MAX_AGENTS, MAX_COORDINATE, OutOfMemory, Visit};
 use indexmap::IndexMap;
@@ -21,6 +21,9 @@ const CELLS: usize = 16;
 /// How many squares lie side by side at most.
 const ACROSS: u32 = (MAX_COORDINATE + 1) / SIDE;
 
+/// No square has this number.
+const NO_SQUARE: u32 = u32::MAX;
+
 /// What is kept where there was no visit.
 const NO_VISIT: u32 = u32::MAX;
 
@@ -29,41 +32,28 @@ const NO_VISIT: u32 = u32::MAX;
 pub struct LastVisits {
     /// By the number of a square what is kept of its cells, row by row.
     squares: IndexMap<u32, [u32; CELLS]>,
-    /// Where the square of the last visit of all stands among them.
-    recent: usize,
+    /// The number of the square of the last visit of all, and where it stands among them.
+    recent: u32,
+    slot: usize,
+    ghost there: { recent ≢ NO_SQUARE → IsSquareAt squares recent slot },
 }
 
 impl LastVisits {
+    ghost use Rattle.fleet_verify.specs.LastVisits.{kept_at};
+
     /// No visits.
     pub fn new(alloc: Global) -> LastVisits
         ensures { (c : Cell) → kept_at result c ≡ None }
     {
         LastVisits {
             squares: IndexMap::new(alloc),
-            recent: 0,
-        }
-    }
-
-    /// The last visit of the cell, if there was one. Its square is looked at first the next time.
-    pub fn get(&mut self, cell: Cell) -> Option<Visit>
-        ensures kept { result ≡ kept_at self.new cell }
-        ensures same { (c : Cell) → kept_at self.new c ≡ kept_at self.old c }
-    {
-        if let Some(kept) = read_at(&self.squares, self.recent, cell) {
-            return kept;
-        }
-        let number = number_of_square(cell);
-        match self.squares.get_full(&number) {
-            Some((slot, _, square)) => {
-                let kept = visit_of_number(read(square, place_of_cell(cell)));
-                self.recent = slot;
-                kept
-            }
-            None => None,
+            recent: NO_SQUARE,
+            slot: 0,
         }
     }
 
     /// Keeps the visit as the last one of the cell, and answers the one before.
+    #[inline(always)]
     pub fn replace(&mut self, cell: Cell, visit: Visit) -> Result<Option<Visit>, OutOfMemory>
         requires agent { visit.agent < MAX_AGENTS }
         requires position { visit.position ≤ MAX_MOVES }
@@ -73,18 +63,18 @@ impl LastVisits {
             → kept_at self.new c ≡ kept_at self.old c) }
         ensures cell { IsCell cell }
     {
-        if let Some(before) = replace_at(&mut self.squares, self.recent, cell, visit) {
-            return Ok(before);
+        let number = number_of_square(cell);
+        if number != self.recent {
+            self.recent = NO_SQUARE;
+            self.slot = find_square(&mut self.squares, number)?;
+            self.recent = number;
         }
-        self.recent = find_square(&mut self.squares, number_of_square(cell))?;
-        match replace_at(&mut self.squares, self.recent, cell, visit) {
-            Some(before) => Ok(before),
-            None => unreachable!(),
-        }
+        Ok(replace_in(&mut self.squares, self.slot, cell, visit))
     }
 }
 
 /// The number of the square that the cell is in.
+#[inline(always)]
 fn number_of_square(cell: Cell) -> u32
     ensures number { result ≡ square_of cell }
     ensures cell { IsCell cell }
@@ -94,6 +84,7 @@ fn number_of_square(cell: Cell) -> u32
 }
 
 /// The cell's place in its square.
+#[inline(always)]
 fn place_of_cell(cell: Cell) -> usize
     ensures place { result ≡ place_in_square cell }
     ensures within { result < CELLS }
@@ -103,6 +94,7 @@ fn place_of_cell(cell: Cell) -> usize
 }
 
 /// The number that the visit is kept as.
+#[inline(always)]
 fn number_of_visit(visit: Visit) -> u32
     requires agent { visit.agent < MAX_AGENTS }
     requires position { visit.position ≤ MAX_MOVES }
@@ -112,6 +104,7 @@ fn number_of_visit(visit: Visit) -> u32
 }
 
 /// The visit that is kept as this number.
+#[inline(always)]
 fn visit_of_number(number: u32) -> Option<Visit>
     ensures { result ≡ visit_kept number }
 {
@@ -124,56 +117,27 @@ fn visit_of_number(number: u32) -> Option<Visit>
     })
 }
 
-/// If the cell's square stands there, the last visit of the cell, if there was one.
-#[inline]
-fn read_at(squares: &IndexMap<u32, [u32; CELLS]>, slot: usize, cell: Cell) -> Option<Option<Visit>>
-    ensures { IfSome result (λ kept. kept ≡ last_in squares.now cell) }
-{
-    let (found, square) = squares.get_index(slot)?;
-    let number = number_of_square(cell);
-    if *found != number {
-        return None;
-    }
-    Some(visit_of_number(read(square, place_of_cell(cell))))
-}
-
-/// What the square keeps at a place.
+/// Keeps the visit as the last one of the cell in its square, which stands there, and answers the one before.
 #[inline(always)]
-fn read(square: &[u32; CELLS], place: usize) -> u32
-    requires { place < CELLS }
-    ensures { result ≡ get_or square.now place NO_VISIT }
-{
-    square[place]
-}
-
-/// If the cell's square stands there, keeps the visit as the last one of the cell, and answers the one before.
-#[inline]
-fn replace_at(
+fn replace_in(
     squares: &mut IndexMap<u32, [u32; CELLS]>,
     slot: usize,
     cell: Cell,
     visit: Visit,
-) -> Option<Option<Visit>>
+) -> Option<Visit>
+    requires at { IsSquareAt squares.old (square_of cell) slot }
     requires agent { visit.agent < MAX_AGENTS }
     requires position { visit.position ≤ MAX_MOVES }
-    ensures before { IfSome result (λ before. before ≡ last_in squares.old cell) }
-    ensures here { IfSome result (λ _. last_in squares.new cell ≡ Some visit) }
-    ensures others { IfSome result (λ _. (c : Cell) → IsCell c → c ≢ cell
-        → last_in squares.new c ≡ last_in squares.old c) }
-    ensures same { IfNone result (squares.new ≡ squares.old) }
-    ensures elsewhere { IfNone result (IsSquareAt squares.old (square_of cell) slot → ⊥) }
+    ensures before { result ≡ last_in squares.old cell }
+    ensures here { last_in squares.new cell ≡ Some visit }
+    ensures others { (c : Cell) → IsCell c → c ≢ cell
+        → last_in squares.new c ≡ last_in squares.old c }
+    ensures stays { IsSquareAt squares.new (square_of cell) slot }
     ensures cell { IsCell cell }
 {
-    let number = number_of_square(cell);
-    let Some((found, _)) = squares.get_index(slot) else {
-        return None;
-    };
-    if *found != number {
-        return None;
-    }
     let (_, square) = squares.pair_mut(slot);
     let before = exchange(square, place_of_cell(cell), number_of_visit(visit));
-    Some(visit_of_number(before))
+    visit_of_number(before)
 }
 
 /// Writes the number at a place of the square, and answers the one before.

@@ -101,15 +101,39 @@ fn position_after<P: ProgramView>(
 }
 
 /// The cell after a step, if it is on the map and passable.
+#[inline(always)]
 pub fn cell_after(grid: &Grid, cell: Cell, step: Step) -> Option<Cell>
     ensures some { IfSome result (λ next. (place_of next ≡ stepped (place_of cell) step)
         × IsTrue (is_passable grid.now (place_of next))) }
     ensures none { IfNone result (is_passable grid.now (stepped (place_of cell) step) ≡ false) }
 {
-    match step {
-        Step::Go(dir) => grid.neighbour(cell, dir),
-        Step::Dwell if grid.passable(cell) => Some(cell),
-        Step::Dwell => None,
+    cell_at(grid, Place::from(cell).after(step))
+}
+
+/// The greatest number that a cell can have.
+const MOST: i32 = u16::MAX as i32;
+
+/// The cell at a place, if it is on the map and passable.
+#[inline(always)]
+fn cell_at(grid: &Grid, place: Place) -> Option<Cell>
+    ensures some { IfSome result (λ cell. (place_of cell ≡ place)
+        × IsTrue (is_passable grid.now place)) }
+    ensures none { IfNone result (is_passable grid.now place ≡ false) }
+{
+    // A map is no wider and no higher than the numbers of a cell go.
+    let _width = grid.width();
+    let Place { x, y } = place;
+    if x < 0 || y < 0 || x > MOST || y > MOST {
+        return None;
+    }
+    let cell = Cell {
+        x: x as u16,
+        y: y as u16,
+    };
+    if grid.passable(cell) {
+        Some(cell)
+    } else {
+        None
     }
 }
 

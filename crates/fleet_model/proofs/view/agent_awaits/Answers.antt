@@ -1,13 +1,11 @@
-use Rattle.std.proofs.Common.{arith}
-use Rattle.fleet_model.proofs.Totals.{actions_fit, actions_more}
+use Rattle.std.proofs.Common.{ap, length, List, ◌∙◌, arith}
+use Rattle.std.specs.Prelude.{sum_by}
+use Rattle.std.proofs.lemmas.List.{take_all}
+use Rattle.fleet_model.specs.declared.program.Action.{Action}
+use Rattle.fleet_model.specs.Program.{actions_of}
 use Rattle.fleet_model.proofs.view.agent_awaits.Goals as goal
 
-pub overflow_add-total : goal.overflow_add-total
-overflow_add-total g c =
-    let fit = actions_fit (g.P.ProgramView.program c.args.p.now) c.args.i c.loop-finished.finished c.agents.ensures.well_formed in
-    omega (arith, fit, c.from-total.ensures, c.await_count.ensures, c.loop-finished.invariant)
-
-pub loop-finished-preserved : goal.loop-finished-preserved
-loop-finished-preserved g c =
-    let more = actions_more (g.P.ProgramView.program c.args.p.now) c.args.i c.loop-finished.finished in
-    omega (arith, more, c.from-total.ensures, c.await_count.ensures, c.loop-finished.invariant)
+pub returns : goal.returns
+returns g c =
+    let actions : List Action = actions_of (g.P.ProgramView.program c.args.p.now) c.args.i in
+    c.awaits_before.ensures ∙ ap (sum_by (λ (s : Action). length s.awaits)) (take_all c.moves.result actions (omega (arith, c.moves.ensures)))

@@ -1,12 +1,12 @@
-use Rattle.std.proofs.Common.{◌≡◌, Some}
-use Rattle.std.specs.Prelude.{◌↔◌, IsTrue}
-use Rattle.fleet_model.specs.declared.program.Visit.{Visit}
-use Rattle.fleet_verify.proofs.After.{IsAfterBy}
+use Rattle.std.proofs.Common.{◌≤◌, ◌+◌, length}
+use Rattle.std.specs.Prelude.{IfSome, Contains}
+use Rattle.fleet_model.specs.Program.{awaits_of}
 use Rattle.fleet_verify.proofs.NextLevel.{IsLeastTo}
 use Rattle.fleet_verify.proofs.ahead.needs_of.Given as goal
 
 abbrev pub invariant-loop-k : goal.invariant-loop-k
 invariant-loop-k g l = record {
-  least : IsLeastTo (g.P.ProgramView.program l.program) l.rows.items l.visit.agent l.visit.position l.k l.least;
-  follows : (v : Visit) → l.before ≡ Some v → IsTrue l.follows ↔ IsAfterBy (g.P.ProgramView.program l.program) l.k v l.visit;
+  within : l.k ≤ length (awaits_of (g.P.ProgramView.program l.program) l.agent (l.finished + 1));
+  least : IsLeastTo (g.P.ProgramView.program l.program) l.rows.items l.agent (l.finished + 1) l.k l.least;
+  latest : IfSome l.latest (Contains (awaits_of (g.P.ProgramView.program l.program) l.agent (l.finished + 1)));
 }

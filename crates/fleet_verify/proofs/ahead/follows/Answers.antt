@@ -1,0 +1,7 @@
+use Rattle.fleet_verify.proofs.ReadyBy.{await_there}
+use Rattle.fleet_verify.proofs.ahead.follows.Goals as goal
+
+pub is_left_if_met-requires : goal.is_left_if_met-requires
+is_left_if_met-requires g c =
+    let asked = rw c.in-Some.is at c.requires in
+    await_there (g.P.ProgramView.program c.args.program.now) c.agents-agents.ensures.well_formed c.args.second.agent c.args.second.position c.in-Some.awaited asked.latest

@@ -19,6 +19,8 @@ pub mod Trail
 pub mod InTurnLaws
 pub mod LabelLaws
 pub mod OrderLaws
+pub mod BestLaws
+pub mod AloneLaws
 pub mod KeptPaths
 pub mod Attempting
 pub mod OrderConflicts

@@ -10,7 +10,7 @@ use Rattle.fleet_model.specs.Geometry.{place_of}
 use Rattle.fleet_model.specs.declared.task.Task.{Task}
 use Rattle.fleet_model.specs.Conflict.{Motion, HasVertexConflict, HasSwappingConflict, HasCycleConflict, after_in}
 use Rattle.fleet_plan.specs.Plan.{Plan, cell_at, cell_of, last_cell, planned, AreNeighbours, IsConflictFree}
-use Rattle.fleet_search.specs.Orders.{no_task, tasks_by, paths_by, agent_numbers, IsMadeInTries}
+use Rattle.fleet_search.specs.Orders.{no_task, tasks_by, paths_by, agent_numbers, IsMadeInOrder, IsMadeInTries}
 use Rattle.fleet_search.specs.InTurn.{IsPrioritisedPlan}
 use Rattle.fleet_search.proofs.InTurnLaws.{in_turn_free}
 use Rattle.fleet_search.proofs.OrderLaws.{order-length, place_of_agent, task_in_order, get_or-by}
@@ -147,8 +147,11 @@ module _ (passable : Place → Bool) (tasks : List Task) (plan : Plan) (order : 
         (cycle-by (planned plan) (planned (paths_by order plan)) (length tasks) place places_apart same_cell ring (λ k e h. here (get_or ring k e) (inside k e h)) x w);
   }
 
+pub in_order_free : (passable : Place → Bool) (tasks : List Task) (horizon : ℕ) (order : List ℕ) (plan : Plan) → IsPermutation (agent_numbers (length tasks)) order → length plan ≡ length tasks → IsMadeInOrder passable tasks horizon order plan → IsConflictFree passable tasks plan
+in_order_free passable tasks horizon order plan each agents m =
+    let made : IsPrioritisedPlan passable (tasks_by order tasks) horizon (length (tasks_by order tasks)) (paths_by order plan) =
+    subst (λ z. IsPrioritisedPlan passable (tasks_by order tasks) horizon z (paths_by order plan)) (sym (length-map order (λ a. get_or tasks a no_task))) m in
+    free_by passable tasks plan order each agents (in_turn_free passable (tasks_by order tasks) horizon (paths_by order plan) made)
+
 pub in_tries_free : (passable : Place → Bool) (tasks : List Task) (horizon tries : ℕ) (plan : Plan) → IsMadeInTries passable tasks horizon tries plan → IsConflictFree passable tasks plan
-in_tries_free passable tasks horizon tries plan m =
-    let made : IsPrioritisedPlan passable (tasks_by m.order tasks) horizon (length (tasks_by m.order tasks)) (paths_by m.order plan) =
-    subst (λ z. IsPrioritisedPlan passable (tasks_by m.order tasks) horizon z (paths_by m.order plan)) (sym (length-map m.order (λ a. get_or tasks a no_task))) m.made in
-    free_by passable tasks plan m.order m.each_once m.agents (in_turn_free passable (tasks_by m.order tasks) horizon (paths_by m.order plan) made)
+in_tries_free passable tasks horizon tries plan m = in_order_free passable tasks horizon m.order plan m.each_once m.agents m.made

@@ -14,3 +14,6 @@ pub mod RefusalWords
 pub mod Labels
 pub mod Orders
 pub mod Attempts
+pub mod Best
+pub mod Trying
+pub mod Bound

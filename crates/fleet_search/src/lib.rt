@@ -3,7 +3,9 @@
 //! The planner is prioritised (Silver 2005): each agent searches over cells and times, past the reserved paths.
 #![tactic(auto)]
 
+mod alone;
 mod arrivals;
+mod best;
 mod distances;
 mod earliest_path;
 mod fault;
@@ -12,6 +14,7 @@ mod intervals;
 mod labels;
 mod laws;
 mod link;
+mod measure;
 mod numbers;
 mod occupancy;
 mod orders;
@@ -21,12 +24,15 @@ mod reservations;
 mod rows;
 mod state;
 
+pub use alone::bound;
+pub use best::{Measured, best_in_orders};
 pub use earliest_path::earliest;
 pub use fault::{PlanStop, SearchFault};
 pub use laws::{
     fits_by_steps, one_try_takes_the_first_order, paths_that_fit_are_conflict_free,
     prioritised_plans_are_conflict_free,
 };
+pub use measure::{Measure, SumOfCosts};
 pub use orders::plan_in_orders;
 pub use planner::plan;
 pub use reservations::Reservations;

@@ -4,7 +4,7 @@ ghost use Rattle.std.specs.Prelude.{◌≡◌, ◌+◌, ◌<◌, ◌≤◌, ◌�
 ghost use Rattle.fleet_plan.specs.Plan.{IsConflictFree};
 ghost use Rattle.fleet_grid.specs.Ground.{is_passable};
 ghost use Rattle.fleet_search.specs.Way.{Fits};
-ghost use Rattle.fleet_search.specs.Orders.{agent_numbers, to_front, paths_by, IsMadeInTries, IsStuckInTries};
+ghost use Rattle.fleet_search.specs.Orders.{agent_numbers, to_front, paths_by, IsMadeInOrder, IsMadeInTries, IsStuckInTries};
 ghost use Rattle.fleet_search.specs.Attempts.{AreTables, ArePathsKept, IsPathAdded, IsMadeAfterFirst, IsOrderOf, AreReservedInOrder, IsAttempt, IsOldPath};
 
 use crate::distances::Distances;
@@ -20,24 +20,24 @@ use std::alloc::Global;
 
 /// The problem: a path for each agent of the instance on the map, which arrives by the horizon, a time in steps.
 #[derive(Drop)]
-struct Problem<'a> {
-    alloc: Global,
-    grid: &'a Grid,
-    instance: &'a Instance,
-    horizon: u16,
+pub(crate) struct Problem<'a> {
+    pub alloc: Global,
+    pub grid: &'a Grid,
+    pub instance: &'a Instance,
+    pub horizon: u16,
 }
 
 /// The tables of a search, which one search after another uses.
 #[derive(Drop)]
-struct Tables<'g> {
-    distances: Distances<'g>,
-    frontier: Frontier,
+pub(crate) struct Tables<'g> {
+    pub distances: Distances<'g>,
+    pub frontier: Frontier,
 }
 
 /// The outcome of an order: a path for each agent, as they stand in the order; or, if an agent is left without one, the
 /// paths of those before it.
 #[derive(Drop)]
-enum Attempt {
+pub(crate) enum Attempt {
     Made(Vec<Path>),
     Stuck(Vec<Path>),
 }
@@ -148,7 +148,7 @@ fn keep_paths(reserved: &mut Reservations, paths: &[Path]) -> Result<usize, OutO
 /// Plans in this order, each path the earliest past those of the agents before. `kept` are such paths of the agents
 /// after the first one, made without it: up to the first that does not fit beside the first agent's path they are still
 /// the earliest. Of the others, one that fits gives way only to a path that arrives sooner.
-fn plan_in_order(
+pub(crate) fn plan_in_order(
     problem: &Problem<'_>,
     order: &[u16],
     kept: &[Path],
@@ -202,7 +202,7 @@ fn reserve_in_order(
 }
 
 /// The numbers of so many agents, rising.
-fn agent_numbers(alloc: Global, agents: u16) -> Result<Vec<u16>, OutOfMemory>
+pub(crate) fn agent_numbers(alloc: Global, agents: u16) -> Result<Vec<u16>, OutOfMemory>
     ensures { IfOk result (λ order. order.items ≡ agent_numbers agents) }
 {
     let mut order = Vec::new(alloc);
@@ -213,7 +213,7 @@ fn agent_numbers(alloc: Global, agents: u16) -> Result<Vec<u16>, OutOfMemory>
 }
 
 /// Moves the agent at the place to the front; the others follow as they did.
-fn raise(order: &mut Vec<u16>, place: usize) -> Result<(), OutOfMemory>
+pub(crate) fn raise(order: &mut Vec<u16>, place: usize) -> Result<(), OutOfMemory>
     requires { place < length order.old.items }
     ensures { OnOk result (order.new.items ≡ to_front order.old.items place) }
 {
@@ -311,7 +311,7 @@ fn plan_from(
 
 /// Whether no try follows the one after so many failed ones, which left the agent at the place without a path: an agent
 /// that is first already finds no path in any later try.
-fn is_last_try(place: usize, failed: u32, tries: u32) -> bool
+pub(crate) fn is_last_try(place: usize, failed: u32, tries: u32) -> bool
     requires { failed < max tries 1 }
     ensures { IsTrue result ↔ ((place ≡ 0) ⊎ (tries ≤ failed + 1)) }
 {
@@ -331,6 +331,33 @@ fn plan_by_number(problem: &Problem<'_>, order: &[u16], paths: Vec<Path>) -> Res
     match by_number(problem, order, paths) {
         Ok(plan) => Ok(Plan::new(plan)),
         Err(OutOfMemory) => Err(PlanStop::OutOfMemory),
+    }
+}
+
+/// The plan of the paths of an order, each the earliest past those before it: it is free of conflict.
+pub(crate) fn checked_of<'g>(
+    problem: &Problem<'g>,
+    order: &[u16],
+    paths: Vec<Path>,
+) -> Result<Checked<'g>, PlanStop>
+    requires order { IsOrderOf problem.now order.now }
+    requires paths { AreReservedInOrder problem.now order.now paths.items true }
+    ensures agents { IfOk result (λ checked.
+        length checked.plan ≡ length problem.now.instance.now) }
+    ensures made { IfOk result (λ checked. IsMadeInOrder (is_passable problem.now.grid.now)
+        problem.now.instance.now problem.now.horizon order.now checked.plan) }
+    ensures grid { IfOk result (λ checked. checked.grid ≡ problem.now.grid.now) }
+    ensures instance { IfOk result (λ checked. checked.instance ≡ problem.now.instance.now) }
+    ensures memory { IfErr result (λ e. e ≡ PlanStop.OutOfMemory) }
+{
+    let plan = plan_by_number(problem, order, paths)?;
+    match check(problem.alloc, plan, problem.grid, problem.instance) {
+        Ok(checked) => Ok(checked),
+        Err(refusal) => match refusal.fault {
+            PlanFault::OutOfMemory => Err(PlanStop::OutOfMemory),
+            // The plan is right and free of conflict.
+            _ => unreachable!(),
+        },
     }
 }
 

@@ -1,0 +1,13 @@
+use Rattle.std.proofs.Common.{◌≡◌, ◌≤◌, ◌*◌, []}
+use Rattle.fleet_model.specs.declared.limits.TheConstants.{MAX_HORIZON}
+use Rattle.fleet_grid.specs.Ground.{is_passable}
+use Rattle.fleet_search.specs.Bound.{IsSumOfDistances}
+use Rattle.fleet_search.proofs.alone.bound.Given as goal
+
+abbrev pub invariant-loop-agent : goal.invariant-loop-agent
+invariant-loop-agent l = record {
+  nobody : l.tables.nobody ≡ [];
+  grid : l.tables.distances.grid ≡ l.checked.grid;
+  summed : IsSumOfDistances (is_passable l.checked.grid) l.checked.instance l.agent l.sum;
+  few : l.sum ≤ MAX_HORIZON * l.agent;
+}

@@ -1,0 +1,266 @@
+//! The best of the plans that several orders make.
+
+ghost use Rattle.std.specs.Prelude.{◌≡◌, ◌-◌, ◌<◌, ◌≤◌, ℕ, true, false, length, take, max, IfOk, IfErr, OnOk, IfSome, IfNone};
+ghost use Rattle.fleet_plan.specs.Plan.{IsConflictFree};
+ghost use Rattle.fleet_grid.specs.Ground.{is_passable};
+ghost use Rattle.fleet_search.specs.Orders.{agent_numbers, to_front, IsStuckInOrder, IsStuckInTries};
+ghost use Rattle.fleet_search.specs.Attempts.{AreTables, AreReservedInOrder};
+ghost use Rattle.fleet_search.specs.Best.{IsBestInTries};
+ghost use Rattle.fleet_search.specs.Trying.{IsTurn, IsMadeBefore, IsFor, IsTried};
+
+use crate::distances::Distances;
+use crate::fault::PlanStop;
+use crate::frontier::Frontier;
+use crate::measure::Measure;
+use crate::orders::{
+    Attempt, Problem, Tables, agent_numbers, checked_of, is_last_try, plan_in_order, raise,
+};
+use fleet_grid::Grid;
+use fleet_model::OutOfMemory;
+use fleet_plan::{Checked, Path};
+use fleet_scen::Instance;
+use std::alloc::Global;
+
+/// A plan that is free of conflict, and its measure.
+#[derive(Drop)]
+pub struct Measured<'g> {
+    pub checked: Checked<'g>,
+    pub measure: u32,
+}
+
+/// What came of an order: a plan with its measure, or the place of the agent that was left without a path.
+#[derive(Drop)]
+enum Tried<'g> {
+    Planned(Measured<'g>),
+    NoPathAt(usize),
+}
+
+/// The order that is tried next, and paths of its agents after the first, each the earliest past those before it
+/// without the first.
+#[derive(Drop)]
+struct Turn {
+    order: Vec<u16>,
+    kept: Vec<Path>,
+}
+
+/// The first paths, so many of them.
+#[tactic(auto, using(crate::proofs::BestLaws::copied_more))]
+fn copy_paths(alloc: Global, paths: &[Path], count: usize) -> Result<Vec<Path>, OutOfMemory>
+    requires { count ≤ length paths.now }
+    ensures { IfOk result (λ copy. copy.items ≡ take count paths.now) }
+{
+    let mut copy = Vec::new(alloc);
+    for i in 0..count {
+        copy.push(copy_path(alloc, &paths[i])?)?;
+    }
+    Ok(copy)
+}
+
+/// The same path.
+fn copy_path(alloc: Global, path: &Path) -> Result<Path, OutOfMemory>
+    ensures { IfOk result (λ copy. copy ≡ path.now) }
+{
+    let cells = Vec::from_slice(alloc, path.cells())?;
+    Ok(Path::new(cells))
+}
+
+/// All paths of an order but the last.
+fn all_but_last(
+    problem: &Problem<'_>,
+    order: &[u16],
+    paths: &[Path],
+) -> Result<Vec<Path>, OutOfMemory>
+    requires some { 1 ≤ length order.now }
+    requires paths { AreReservedInOrder problem.now order.now paths.now true }
+    ensures long { IfOk result (λ kept. length kept.items ≡ length order.now - 1) }
+    ensures made { IfOk result (λ kept. IsMadeBefore problem.now order.now kept.items) }
+{
+    copy_paths(problem.alloc, paths, paths.len() - 1)
+}
+
+/// It is the turn of the order in which the agent at this place comes first; the paths are those of the agents before
+/// it.
+fn advance(
+    problem: &Problem<'_>,
+    turn: &mut Turn,
+    place: usize,
+    kept: Vec<Path>,
+) -> Result<(), OutOfMemory>
+    requires turn { IsTurn problem.now turn.old }
+    requires place { place < length turn.old.order.items }
+    requires kept { length kept.items ≡ place }
+    requires made { IsMadeBefore problem.now turn.old.order.items kept.items }
+    ensures turn { OnOk result (IsTurn problem.now turn.new) }
+    ensures next { OnOk result
+        (turn.new.order.items ≡ to_front turn.old.order.items place) }
+{
+    raise(&mut turn.order, place)?;
+    turn.kept = kept;
+    Ok(())
+}
+
+/// Measures the plan of the paths of the turn's order; the next order is that in which the last agent comes first.
+fn note_made<'g, M: Measure>(
+    problem: &Problem<'g>,
+    measure: &M,
+    turn: &mut Turn,
+    paths: Vec<Path>,
+) -> Result<Measured<'g>, OutOfMemory>
+    requires turn { IsTurn problem.now turn.old }
+    requires paths { AreReservedInOrder problem.now turn.old.order.items paths.items true }
+    ensures turn { OnOk result (IsTurn problem.now turn.new) }
+    ensures tried { IfOk result (λ m. IsTried problem.now (M.is_measure measure.now)
+        turn.old.order.items turn.new.order.items (Tried.Planned m)) }
+{
+    let last = turn.order.len() - 1;
+    let kept = all_but_last(problem, turn.order.as_slice(), paths.as_slice())?;
+    let Ok(checked) = checked_of(problem, turn.order.as_slice(), paths) else {
+        return Err(OutOfMemory);
+    };
+    let value = measure.measure(&checked)?;
+    advance(problem, turn, last, kept)?;
+    Ok(Measured {
+        checked,
+        measure: value,
+    })
+}
+
+/// The next order is that in which the agent comes first that these paths, of the agents before it, leave none.
+fn note_stuck(
+    problem: &Problem<'_>,
+    turn: &mut Turn,
+    paths: Vec<Path>,
+) -> Result<usize, OutOfMemory>
+    requires turn { IsTurn problem.now turn.old }
+    requires paths { AreReservedInOrder problem.now turn.old.order.items paths.items false }
+    ensures turn { OnOk result (IsTurn problem.now turn.new) }
+    ensures stuck { IfOk result (λ place. IsStuckInOrder (is_passable problem.now.grid.now)
+        problem.now.instance.now problem.now.horizon turn.old.order.items place) }
+    ensures next { IfOk result (λ place.
+        turn.new.order.items ≡ to_front turn.old.order.items place) }
+{
+    let place = paths.len();
+    advance(problem, turn, place, paths)?;
+    Ok(place)
+}
+
+/// Plans in the order of the turn. Then it is the next order's turn.
+fn try_order<'g, M: Measure>(
+    problem: &Problem<'g>,
+    measure: &M,
+    turn: &mut Turn,
+    tables: &mut Tables<'_>,
+) -> Result<Tried<'g>, OutOfMemory>
+    requires turn { IsTurn problem.now turn.old }
+    requires tables { AreTables problem.now tables.old }
+    ensures turn { OnOk result (IsTurn problem.now turn.new) }
+    ensures tables { OnOk result (AreTables problem.now tables.new) }
+    ensures tried { IfOk result (IsTried problem.now (M.is_measure measure.now)
+        turn.old.order.items turn.new.order.items) }
+{
+    let attempt = plan_in_order(problem, turn.order.as_slice(), turn.kept.as_slice(), tables)?;
+    match attempt {
+        Attempt::Made(paths) => {
+            let measured = note_made(problem, measure, turn, paths)?;
+            Ok(Tried::Planned(measured))
+        }
+        Attempt::Stuck(paths) => {
+            let place = note_stuck(problem, turn, paths)?;
+            Ok(Tried::NoPathAt(place))
+        }
+    }
+}
+
+/// The plan with the lesser measure, and of two that have the same the earlier one.
+fn lesser<'g>(earlier: Option<Measured<'g>>, later: Measured<'g>) -> Measured<'g>
+    ensures none { IfNone earlier.entry (result ≡ later.entry) }
+    ensures earlier { IfSome earlier.entry
+        (λ e. e.measure ≤ later.entry.measure → result ≡ e) }
+    ensures later { IfSome earlier.entry
+        (λ e. later.entry.measure < e.measure → result ≡ later.entry) }
+{
+    match earlier {
+        Some(best) if best.measure <= later.measure => best,
+        _ => later,
+    }
+}
+
+/// The best plan of the first orders, from the first turn on.
+#[tactic(auto, using(crate::proofs::BestLaws::so_far_none))]
+fn best_from<'g, M: Measure>(
+    problem: &Problem<'g>,
+    tries: u32,
+    measure: &M,
+    turn: &mut Turn,
+    tables: &mut Tables<'_>,
+) -> Result<Measured<'g>, PlanStop>
+    requires first { turn.old.order.items ≡ agent_numbers (length problem.now.instance.now) }
+    requires turn { IsTurn problem.now turn.old }
+    requires tables { AreTables problem.now tables.old }
+    ensures best { IfOk result (λ m. IsBestInTries (is_passable problem.now.grid.now)
+        problem.now.instance.now problem.now.horizon (M.is_measure measure.now) tries
+        m.checked.plan m.measure) }
+    ensures right { IfOk result (IsFor problem.now) }
+    ensures no_path { IfErr result (λ e. (agent : ℕ) → e ≡ PlanStop.NoPath agent
+        → IsStuckInTries (is_passable problem.now.grid.now) problem.now.instance.now
+        problem.now.horizon tries agent) }
+{
+    let mut best = None;
+    for tried in 0..tries.max(1) {
+        match try_order(problem, measure, turn, tables)? {
+            Tried::Planned(measured) => best = Some(lesser(best, measured)),
+            Tried::NoPathAt(place) => {
+                if best.is_none() && is_last_try(place, tried, tries) {
+                    let agent = turn.order[0];
+                    return Err(PlanStop::NoPath { agent });
+                }
+            }
+        }
+    }
+    match best {
+        Some(measured) => Ok(measured),
+        None => unreachable!(),
+    }
+}
+
+/// Plans agent by agent in `tries` orders, all of which are tried, and answers the plan with the least measure, the
+/// first of those that have it (each order as Silver 2005; several orders as Bennewitz et al. 2002). The first order is
+/// that of the agents' numbers; after an order in which an agent is left without a path that agent is planned first,
+/// after one that makes a plan the agent that was planned last, and the others after it as before. One order is tried
+/// in any case.
+///
+/// Errors: `NoPath` if no order makes a plan, with the first agent that is left without a path in the last of them;
+/// `OutOfMemory`.
+pub fn best_in_orders<'g, M: Measure>(
+    alloc: Global,
+    grid: &'g Grid,
+    instance: &'g Instance,
+    horizon: u16,
+    tries: u32,
+    measure: &M,
+) -> Result<Measured<'g>, PlanStop>
+    ensures best { IfOk result (λ m. IsBestInTries (is_passable grid.now) instance.now horizon
+        (M.is_measure measure.now) tries m.checked.plan m.measure) }
+    ensures free { IfOk result (λ m.
+        IsConflictFree (is_passable grid.now) instance.now m.checked.plan) }
+    ensures grid { IfOk result (λ m. m.checked.grid ≡ grid.now) }
+    ensures instance { IfOk result (λ m. m.checked.instance ≡ instance.now) }
+    ensures no_path { IfErr result (λ e. (agent : ℕ) → e ≡ PlanStop.NoPath agent
+        → IsStuckInTries (is_passable grid.now) instance.now horizon tries agent) }
+{
+    let problem = Problem {
+        alloc,
+        grid,
+        instance,
+        horizon,
+    };
+    let mut tables = Tables {
+        distances: Distances::new(alloc, grid)?,
+        frontier: Frontier::new(alloc),
+    };
+    let mut turn = Turn {
+        order: agent_numbers(alloc, instance.agents())?,
+        kept: Vec::new(alloc),
+    };
+    best_from(&problem, tries, measure, &mut turn, &mut tables)
+}

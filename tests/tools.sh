@@ -22,3 +22,9 @@ check 'numbers of a plan and a trace' 1 '' 'run: more than one trace or plan\n' 
 check 'no robot of a film is red or orange' 0 '' '' \
     "grep -o 'hsl([0-9]*' warehouse.svg | tr -d 'hsl(' | awk '\$1 < 70 || \$1 > 320'"
 check 'the same seed gives the same holds' 0 '1 2\n0 1 2\n' '' "awk -v agents=3 -v ticks=2 -v chance=0.5 -v least=1 -v most=1 -v seed=1 -f tools/delays.awk"
+
+# Orders ahead: how long a fleet takes whose orders and reports take time.
+check 'orders ahead: a program that cannot be carried out' 1 'the program cannot be carried out\n' '' \
+    "printf 'agent 0: 0,0 to 1,0\\n0:1 east to 1,0 after 1:1\\nagent 1: 3,0 to 2,0\\n1:1 west to 2,0 after 0:1\\n' | awk -f tools/ahead.awk"
+check 'two orders at a time take at most three quarters of the time of one' 0 'less\n' '' \
+    "fleet plan examples/warehouse.map examples/warehouse.scen > plan && fleet compile examples/warehouse.map examples/warehouse.scen plan program > numbers && fleet list program > list && for k in 1 2; do awk -v ahead=\$k -f tools/ahead.awk list; done | awk '{ t[\$2] = \$8 } END { if (0 < t[2] && t[2] <= 0.75 * t[1]) print \"less\" }'"

@@ -7,3 +7,4 @@ mod wait_lists;
 
 pub use agent_set::AgentSet;
 pub use machine::{Machine, Tick};
+pub use wait_lists::WaitLists;

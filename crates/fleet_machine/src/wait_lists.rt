@@ -1,6 +1,6 @@
 //! Lists of agents, linked by the agents' numbers in rows that are made once: each agent stands in one list at most.
 
-ghost use Rattle.std.specs.Prelude.{◌≡◌, ◌≢◌, ◌<◌, ℕ, length, set, replicate, Some, None, IfSome, IfNone, IfOk};
+ghost use Rattle.std.specs.Prelude.{◌≡◌, ◌≢◌, ◌<◌, ℕ, length, set, replicate, Some, None, is_some, IfSome, IfNone, IfOk};
 ghost use Rattle.fleet_machine.specs.WaitLists.{home_of};
 
 use std::alloc::{AllocError, Global};
@@ -38,6 +38,14 @@ impl WaitLists {
         let next = vec![in alloc; None; agents]?;
         let home = vec![in alloc; None; agents]?;
         Ok(WaitLists { first, next, home })
+    }
+
+    /// Whether agent `i` stands in a list.
+    pub fn is_waiting(&self, i: u16) -> bool
+        requires { i < length self.now.homes }
+        ensures { result ≡ is_some (home_of self.now.homes i) }
+    {
+        self.home[usize::from(i)].is_some()
     }
 
     /// Agent `i`, which stands in no list, comes first in this one.

@@ -125,7 +125,7 @@ fn set_agents(line: &[u8], agents: u16, flags: &mut [bool]) -> bool
 }
 
 /// The bytes of the line before its first space, and those after it, if there is a space.
-fn cut(line: &[u8]) -> (&[u8], Option<&[u8]>)
+pub fn cut(line: &[u8]) -> (&[u8], Option<&[u8]>)
     ensures words { MatchOption result.1
         (slice_split is_space line.now ≡ result.0.now ∷ [])
         (λ after. slice_split is_space line.now ≡ result.0.now ∷ slice_split is_space after.now) }

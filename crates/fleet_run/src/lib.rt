@@ -21,7 +21,7 @@ pub use fleet::{Fleet, NotSent, StartRefusal, drive};
 pub use fleet_machine::Tick;
 pub use fleet_text::{Flush, OutFault, TraceOut, VecOut, WriteOut, put_all};
 pub use hold_list::HoldList;
-pub use hold_text::{HoldText, a_tick_line_is_read, set_tick};
+pub use hold_text::{HoldText, a_tick_line_is_read, cut, set_tick};
 pub use hold_writing::write_holds;
 pub use listing::put_program;
 pub use report::{Rehearsal, rehearse};

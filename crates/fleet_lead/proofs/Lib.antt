@@ -1,0 +1,12 @@
+pub mod Written
+pub mod Words
+pub mod Telling
+pub mod Steps
+pub mod Texts
+pub mod Heard
+pub mod Reports
+pub mod Outcomes
+pub mod Leading
+mod Said
+mod WindowLemmas
+mod StreamLemmas

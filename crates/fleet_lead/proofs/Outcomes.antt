@@ -1,0 +1,172 @@
+-- How a dispatch goes on, and how it ends.
+use Rattle.std.proofs.Common.{◌≡◌, ℕ, ◌+◌, ◌≤◌, ◌⊎◌, ◌++◌, ◌∷◌, [], Bool, true, false, cond, List, length, take, Result, Ok, Err, refl, ap, sym, ◌∙◌, arith, subst, inl, inr, append_assoc}
+use Rattle.std.specs.Prelude.{is_err}
+use Rattle.fleet_model.specs.Program.{Program, total_moves}
+use Rattle.fleet_lead.specs.declared.run.TheConstants.{MAX_REPORTS}
+use Rattle.fleet_lead.specs.declared.run.DispatchFault.{DispatchFault}
+use Rattle.fleet_lead.specs.declared.run.DispatchFault.TheVariants as f
+use Rattle.fleet_lead.specs.declared.run.DispatchReport.{DispatchReport}
+use Rattle.fleet_lead.specs.declared.run.Session.{Session}
+use Rattle.fleet_lead.specs.declared.pace.Pace.{Pace}
+use Rattle.fleet_lead.specs.Report.{Words, IsRising, Counts, counts_after, is_repeat}
+use Rattle.fleet_lead.specs.Ahead.{told_at, AreOrdered, IsFirstUnordered, is_all_done}
+use Rattle.fleet_lead.specs.Talk.{Talk, Told, Cut, Heard, Tells}
+use Rattle.fleet_lead.specs.Orders.{new_orders, closing}
+use Rattle.fleet_lead.specs.Dispatch.{Course, Dispatches, MayBeTaken, AreTaken, told_by, counts_now, due_orders, said_before, said_by, taken_now}
+use Rattle.fleet_lead.specs.Session.{Concludes, TakesLine, IsLineTaken}
+use Rattle.fleet_lead.proofs.Reports.{more, length_more, counts_now_more, taken_now_more, said_more, told_now_more, are_taken_more, talk_none}
+
+-- what was said in two stretches was said in both
+pub record Joins (first then both : Talk → Type 0) : Type 0 where
+  pub join : (before after : Talk) → first before → then after → both (before ++ after)
+
+-- the course of a dispatch that begins with a session
+abbrev pub course_of : Program → Pace → Session → Course
+course_of p pace s = record { program = p; form = pace.form; ahead = pace.ahead; start = s.progress.done; before = s.taken }
+
+-- Before the orders are told that are due after these reports
+pub record IsUnderWay (d : Course) (talks : Talk → Type 0) (s : Session) (lines : ℕ) (reports : List Words) : Type 0 where
+  pub taken : AreTaken d.program d.ahead d.start reports
+  pub count : lines ≡ length reports
+  pub done : s.progress.done ≡ counts_now d reports
+  pub told : s.progress.told ≡ told_by d.program d.ahead d.start d.start reports
+  pub number : s.taken ≡ taken_now d reports
+  pub talk : talks (said_before d reports)
+
+-- .. and after they are told
+pub record AreOrdersTold (d : Course) (talks : Talk → Type 0) (s : Session) (lines : ℕ) (reports : List Words) : Type 0 where
+  pub taken : AreTaken d.program d.ahead d.start reports
+  pub count : lines ≡ length reports
+  pub done : s.progress.done ≡ counts_now d reports
+  pub told : s.progress.told ≡ told_at d.program d.ahead (counts_now d reports)
+  pub number : s.taken ≡ taken_now d reports
+  pub talk : talks (said_by d reports)
+
+pub at_start : (p : Program) (pace : Pace) (talks : Talk → Type 0) (s : Session) → talks [] → s.progress.told ≡ s.progress.done → IsUnderWay (course_of p pace s) talks s 0 []
+at_start p pace talks s silent fresh = record {
+  taken = tt;
+  count = refl;
+  done = refl;
+  told = fresh;
+  number = omega arith;
+  talk = subst talks (talk_none p pace.form pace.ahead s.progress.done s.progress.done) silent;
+}
+
+module _ (d : Course) (first then both : Talk → Type 0) (j : Joins first then both) (s s' : Session) (lines : ℕ) (reports : List Words) where
+  module _ (way : IsUnderWay d first s lines reports) (done : s'.progress.done ≡ s.progress.done) (told : s'.progress.told ≡ told_at d.program d.ahead s.progress.done) where
+    due : new_orders d.program d.form s.progress.told s'.progress.told ≡ due_orders d reports
+    due = ap (λ (x : Counts). new_orders d.program d.form x s'.progress.told) way.told
+        ∙ ap (new_orders d.program d.form (told_by d.program d.ahead d.start d.start reports)) (told ∙ ap (told_at d.program d.ahead) way.done)
+
+    pub write_stops : {T E : Type 0} (works : Type 0) (r : Result T E) → Tells then works r (new_orders d.program d.form s.progress.told s'.progress.told) → is_err r ≡ true
+        → Dispatches d both (Err f.Write)
+    write_stops works (Ok x) h e = absurd cc
+    write_stops works (Err x) h e =
+        let P : List ℕ → Type 0 = λ bytes. (m : ℕ) × (m ≤ length bytes) × then (Cut (take m bytes) ∷ []) in
+        let cut : P (due_orders d reports) = subst P due h in
+        (reports, record { taken = way.taken; told = inl (cut.0, cut.1, j.join _ _ way.talk cut.2) })
+
+    pub now_told : {T E : Type 0} (works : Type 0) (r : Result T E) → Tells then works r (new_orders d.program d.form s.progress.told s'.progress.told) → is_err r ≡ false
+        → s'.taken ≡ s.taken → AreOrdersTold d both s' lines reports × works
+    now_told works (Err x) h e number = absurd cc
+    now_told works (Ok x) h e number =
+        let P : List ℕ → Type 0 = λ bytes. then (Told bytes ∷ []) × works in
+        let all : P (due_orders d reports) = subst P due h in (
+          record {
+            taken = way.taken;
+            count = way.count;
+            done = done ∙ way.done;
+            told = told ∙ ap (told_at d.program d.ahead) way.done;
+            number = number ∙ way.number;
+            talk = j.join _ _ way.talk all.0;
+          },
+          all.1,
+        )
+
+  module _ (told : AreOrdersTold d first s lines reports) where
+    pub concludes : (agents moves number : ℕ) (r : Result DispatchReport DispatchFault) → is_all_done d.program s.progress.done ≡ true → agents ≡ length d.program → moves ≡ total_moves d.program
+        → number ≡ s.taken → Concludes then agents moves number r → Dispatches d both r
+    concludes agents moves number (Ok r) over e m n h =
+        let all : number ≡ taken_now d reports = n ∙ told.number in
+        let text : closing agents moves number ≡ closing (length d.program) (total_moves d.program) (taken_now d reports) = cc in (
+          reports,
+          record {
+            taken = told.taken;
+            finish = ap (is_all_done d.program) (sym told.done) ∙ over;
+            talk = j.join _ _ told.talk (subst (λ bytes. then (Told bytes ∷ [])) text h.3);
+            agents = h.0 ∙ e;
+            moves = h.1 ∙ m;
+            count = h.2 ∙ all;
+          },
+        )
+    concludes agents moves number (Err f.Write) over e m n h =
+        let all : number ≡ taken_now d reports = n ∙ told.number in
+        let text : closing agents moves number ≡ closing (length d.program) (total_moves d.program) (taken_now d reports) = cc in
+        let P : List ℕ → Type 0 = λ bytes. (m : ℕ) × (m ≤ length bytes) × then (Cut (take m bytes) ∷ []) in
+        let cut : P (closing (length d.program) (total_moves d.program) (taken_now d reports)) = subst P text h in
+        (reports, record { taken = told.taken; told = inr (ap (is_all_done d.program) (sym told.done) ∙ over, (cut.0, cut.1, j.join _ _ told.talk cut.2)) })
+    concludes agents moves number (Err f.OutOfMemory) over e m n h = absurd h
+    concludes agents moves number (Err (f.Form _)) over e m n h = absurd h
+    concludes agents moves number (Err (f.NotOrdered _ _)) over e m n h = absurd h
+    concludes agents moves number (Err (f.Ended _)) over e m n h = absurd h
+    concludes agents moves number (Err f.ReportLimit) over e m n h = absurd h
+    concludes agents moves number (Err f.Input) over e m n h = absurd h
+
+    module _ (left : is_all_done d.program s.progress.done ≡ false) where
+      unfinished : is_all_done d.program (counts_now d reports) ≡ false
+      unfinished = ap (is_all_done d.program) (sym told.done) ∙ left
+
+      next_report : (r : Words) (pace : Pace) → pace.ahead ≡ d.ahead → IsRising r → AreOrdered d.program pace.ahead s.progress.done r → MayBeTaken d.program d.ahead (counts_now d reports) r
+      next_report r pace same rising ordered = record {
+        rising = rising;
+        ordered = subst (λ (c : Counts). AreOrdered d.program d.ahead c r) told.done (subst (λ k. AreOrdered d.program k s.progress.done r) same ordered);
+        left = unfinished;
+      }
+
+      pub limit_stops : (lines ≡ MAX_REPORTS) ⊎ (s.taken ≡ MAX_REPORTS) → Dispatches d first (Err f.ReportLimit)
+      limit_stops limit = (
+        reports,
+        record {
+          taken = told.taken;
+          left = unfinished;
+          talk = told.talk;
+          limit = elim limit [ inl l ↦ inl (sym told.count ∙ l) | inr r ↦ inr (sym told.number ∙ r) ];
+        },
+      )
+
+      pub line_stops : (T : Type 0) (pace : Pace) (works : Type 0) (n : ℕ) (e : DispatchFault) → pace.ahead ≡ d.ahead → n ≡ lines + 1
+          → TakesLine {T = T} d.program pace then works s s' n (Err e) → Dispatches d both (Err e)
+      line_stops T pace works n (f.Form line) same next h =
+          let count = told.count in
+          (reports, record { taken = told.taken; left = unfinished; talk = j.join _ _ told.talk h.1; number = let e = h.0 in omega arith })
+      line_stops T pace works n (f.Ended line) same next h =
+          let count = told.count in
+          (reports, record { taken = told.taken; left = unfinished; talk = j.join _ _ told.talk h.1; number = let e = h.0 in omega arith })
+      line_stops T pace works n f.Input same next h =
+          (reports, record { taken = told.taken; left = unfinished; talk = j.join _ _ told.talk h; number = refl })
+      line_stops T pace works n (f.NotOrdered line agent) same next h =
+          let count = told.count in
+          let r = h.1 in (
+            reports,
+            record {
+              report = r.0;
+              stops = record { taken = told.taken; left = unfinished; talk = j.join _ _ told.talk r.1.heard; number = let e = h.0 in omega arith };
+              unordered = subst (λ (c : Counts). IsFirstUnordered d.program d.ahead c r.0 agent) told.done
+                  (subst (λ k. IsFirstUnordered d.program k s.progress.done r.0 agent) same r.1.unordered);
+            },
+          )
+      line_stops T pace works n f.OutOfMemory same next h = absurd h
+      line_stops T pace works n f.Write same next h = absurd h
+      line_stops T pace works n f.ReportLimit same next h = absurd h
+
+      pub one_line_on : (pace : Pace) (works : Type 0) (report : Words) → pace.ahead ≡ d.ahead → IsLineTaken d.program pace then works s s' report
+          → IsUnderWay d both s' (lines + 1) (more d reports report)
+      one_line_on pace works report same h = record {
+        taken = are_taken_more d.program d.ahead d.start reports report told.taken (next_report report pace same h.rising h.ordered);
+        count = let count = told.count in omega (arith, length_more d reports report);
+        done = h.done ∙ ap (λ (c : Counts). counts_after c report) told.done ∙ sym (counts_now_more d reports report);
+        told = h.told ∙ told.told ∙ sym (told_now_more d reports report);
+        number = h.taken ∙ ap (λ (c : Counts). s.taken + cond (is_repeat c report) 0 1) told.done ∙ ap (λ x. x + cond (is_repeat (counts_now d reports) report) 0 1) told.number ∙ sym (taken_now_more d reports report);
+        talk = subst both (sym (said_more d reports report))
+            (j.join _ _ told.talk h.heard);
+      }

@@ -1,0 +1,91 @@
+-- The next line among bytes that were read.
+use Rattle.std.proofs.Common.{◌≡◌, ℕ, ◌+◌, ◌≤◌, ◌<◌, ◌++◌, Bool, true, List, [], length, get_or, take, drop, Option, Some, None, Result, Ok, Err, ltb, refl, sym, ap, subst, ◌∙◌, arith, inl, inr, true≢false}
+use Rattle.std.proofs.lemmas.List.{append-nil, length-append, take-append-le, drop-append-le}
+use Rattle.std.proofs.lemmas.Bool.{cases_Bool, cases_lt, ltb-false}
+use Rattle.std.proofs.lemmas.List.Quantifiers.{position-Some}
+use Rattle.std.proofs.lemmas.List.Sums.{position_or_len_is, fails_before_first}
+use Rattle.std.proofs.Math.ListN.{get_or-append}
+use Rattle.std.specs.Prelude.{position, IfSome}
+use Rattle.std.specs.List.{position_or_len}
+use Rattle.std.specs.Str.Lines.{strip_carriage_return}
+use Rattle.std.specs.Io.KnownBytes.{prepend_known, Keeps, IsAtEnd}
+use Rattle.std.specs.Result.{IsErrAnd}
+use Rattle.fleet_text.specs.Text.{is_lf}
+use Rattle.fleet_text.proofs.TextLaws.{found_nowhere}
+use Rattle.fleet_lead.specs.declared.form.ReportForm.{ReportForm}
+use Rattle.fleet_lead.specs.declared.window.TheConstants.{LINE_ROOM}
+use Rattle.fleet_lead.specs.Report.{Words}
+use Rattle.fleet_lead.specs.ReportText.{report_of}
+use Rattle.fleet_lead.specs.Stream.{HasLine, GivesReport, IsMisheard, HasNoLine}
+use Rattle.fleet_lead.specs.Hearing.{EndsLine, HearsLine}
+use Rattle.fleet_lead.specs.declared.floor.HearFault.{HearFault}
+use Rattle.fleet_lead.specs.declared.floor.HearFault.TheVariants as h
+
+found_before : (p : ℕ → Bool) (xs ys : List ℕ) (i : ℕ) → position p xs ≡ Some i → position p (xs ++ ys) ≡ Some i
+found_before p xs ys i e =
+    let at = position-Some p xs i 0 e in
+    let long : i < length (xs ++ ys) = omega (arith, length-append xs ys, at.0) in
+    let here : position_or_len p (xs ++ ys) ≡ i = position_or_len_is p (xs ++ ys) i 0 (omega (arith, long))
+    (λ k before. ap p (get_or-append xs ys 0 k (omega (arith, at.0))) ∙ at.2 k before)
+    (λ inside. ap p (get_or-append xs ys 0 i at.0) ∙ at.1) in
+    rw here (elim (cases_Bool (ltb i (length (xs ++ ys)))) [
+      | inl t ↦ rw t refl
+      | inr t ↦ absurd (let h = ltb-false _ _ t in omega (arith, long))
+    ])
+
+-- the first line, if it ends within what was read
+first_line : (read more : List ℕ) (end : ℕ) → position is_lf read ≡ Some end → HasLine (read ++ more) (strip_carriage_return (take end read)) (drop (end + 1) read ++ more)
+first_line read more end e =
+    let at = position-Some is_lf read end 0 e in
+    record {
+      end = end;
+      ends = found_before is_lf read more end e;
+      line_is = ap strip_carriage_return (sym (take-append-le end read more (omega (arith, at.0))));
+      rest_is = sym (drop-append-le (end + 1) read more (omega (arith, at.0)));
+    }
+
+module _ (form : ReportForm) where
+  -- a line that is a report
+  pub heard : (a : Option (List ℕ)) (read : List ℕ) (left : Option (List ℕ)) (end : ℕ) (words : Words) → Keeps a (prepend_known read left) → position is_lf read ≡ Some end
+      → report_of form (strip_carriage_return (take end read)) ≡ Some words → GivesReport form a (prepend_known (drop (end + 1) read) left) words
+  heard None read left end words k e says = tt
+  heard (Some t) read None end words k e says = absurd k
+  heard (Some t) read (Some more) end words k e says =
+      (strip_carriage_return (take end read), subst (λ (x : List ℕ). HasLine x (strip_carriage_return (take end read)) (drop (end + 1) read ++ more)) k (first_line read more end e), says)
+
+  -- a line that is none
+  pub misheard : (a : Option (List ℕ)) (read : List ℕ) (left : Option (List ℕ)) (end : ℕ) → Keeps a (prepend_known read left) → position is_lf read ≡ Some end
+      → report_of form (strip_carriage_return (take end read)) ≡ None → IfSome a (IsMisheard form)
+  misheard None read left end k e none = tt
+  misheard (Some t) read None end k e none = absurd k
+  misheard (Some t) read (Some more) end k e none =
+      inl (strip_carriage_return (take end read), drop (end + 1) read ++ more, subst (λ (x : List ℕ). HasLine x (strip_carriage_return (take end read)) (drop (end + 1) read ++ more)) k (first_line read more end e), none)
+
+  -- no line, at the end
+  pub no_line : (a : Option (List ℕ)) (read : List ℕ) (left : Option (List ℕ)) → Keeps a (prepend_known read left) → position is_lf read ≡ None → IsAtEnd left → IfSome a HasNoLine
+  no_line None read left k e end = tt
+  no_line (Some t) read None k e end = absurd k
+  no_line (Some t) read (Some more) k e end =
+      let all : read ++ more ≡ read = ap (λ (x : List ℕ). read ++ x) end ∙ append-nil read in
+      subst (λ (x : List ℕ). position is_lf x ≡ None) k (ap (position is_lf) all ∙ e)
+
+  -- more bytes than are heard of a line, without an end
+  too_long : (read more : List ℕ) → position is_lf read ≡ None → LINE_ROOM ≤ length read → IsMisheard form (read ++ more)
+  too_long read more none long = inr (
+    omega (arith, length-append read more),
+    λ k l. let inside : k < length read = omega arith in
+        let far = found_nowhere is_lf read none in
+        ap is_lf (get_or-append read more 0 k inside) ∙ fails_before_first is_lf read k 0 (omega (arith, far)),
+  )
+
+  -- no line was found
+  pub unfound : (a b left : Option (List ℕ)) (read : List ℕ) (e : HearFault) (r : Result Bool HearFault) (words : Words) → IsErrAnd r (λ x. x ≡ e)
+      → Keeps a (prepend_known read left) → EndsLine left read (Err e) → HearsLine form a b r words
+  unfound a b left read e (Ok x) words same k ends = absurd same
+  unfound a b left read h.Form (Err f) words same k ends = subst (λ x. HearsLine form a b (Err x) words) (sym same) (long_line a left k ends)
+    where
+      long_line : (a left : Option (List ℕ)) → Keeps a (prepend_known read left) → EndsLine left read (Err h.Form) → IfSome a (IsMisheard form)
+      long_line None left k ends = tt
+      long_line (Some t) None k ends = absurd k
+      long_line (Some t) (Some more) k ends = subst (IsMisheard form) k (too_long read more ends.0 ends.1)
+  unfound a b left read h.Broken (Err f) words same k ends = subst (λ x. HearsLine form a b (Err x) words) (sym same) tt

@@ -1,0 +1,13 @@
+pub mod Report
+pub mod ReportText
+pub mod Ahead
+pub mod Progress
+pub mod Talk
+pub mod Orders
+pub mod Dispatch
+pub mod Session
+pub mod Lead
+pub mod Window
+pub mod Stream
+pub mod Hearing
+pub mod StreamTalk

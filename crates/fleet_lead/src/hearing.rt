@@ -1,0 +1,77 @@
+//! How the next line of an input is found, and heard as a report.
+
+ghost use Rattle.std.specs.Prelude.{◌≡◌, ◌≤◌, ◌<◌, ◌+◌, length, drop, take, position, Some, None};
+ghost use Rattle.std.specs.Str.Lines.{strip_carriage_return};
+ghost use Rattle.std.specs.Io.KnownBytes.{prepend_known};
+ghost use Rattle.fleet_text.specs.Text.{is_lf};
+ghost use Rattle.fleet_lead.specs.Window.{window_rest};
+ghost use Rattle.fleet_lead.specs.Hearing.{FindsLine, HearsLine};
+
+use crate::floor::HearFault;
+use crate::form::ReportForm;
+use crate::report::Report;
+use crate::report_text::read_report;
+use crate::window::{LINE_ROOM, Window};
+use std::io::Read;
+
+/// Where the first line of the bytes ends, if it ends within them.
+fn end_in(bytes: &[u8]) -> Option<usize>
+    ensures { result ≡ position is_lf bytes.now }
+{
+    bytes.iter().position(|b| *b == b'\n')
+}
+
+/// The line without one CR at its end.
+fn without_cr(line: &[u8]) -> &[u8]
+    ensures { result.now ≡ strip_carriage_return line.now }
+{
+    match line {
+        [front @ .., b'\r'] => front,
+        _ => line,
+    }
+}
+
+/// Reads until a line ends in the window, and answers where; nowhere at the end of the input, where what was read ends
+/// no line. A line that the window cannot hold is no report.
+fn find_line<R: Read>(input: &mut R, window: &mut Window) -> Result<Option<usize>, HearFault>
+    ensures { FindsLine (R.remaining input.old) (R.remaining input.new) (window_rest window.old)
+        (window_rest window.new) result }
+{
+    'reads: loop {
+        if let Some(end) = end_in(window.rest()) {
+            return Ok(Some(end));
+        }
+        if window.rest().len() >= LINE_ROOM {
+            return Err(HearFault::Form);
+        }
+        window.move_to_front();
+        match window.read_from(input) {
+            Ok(0) => return Ok(None),
+            Ok(_) => {}
+            Err(_) => return Err(HearFault::Broken),
+        }
+    }
+}
+
+/// Hears the next line of the input, which ends with an LF, and makes the report the one that it stands for.
+pub fn hear_line<R: Read>(
+    form: ReportForm,
+    input: &mut R,
+    window: &mut Window,
+    report: &mut Report,
+) -> Result<bool, HearFault>
+    ensures { HearsLine form (prepend_known (window_rest window.old) (R.remaining input.old))
+        (prepend_known (window_rest window.new) (R.remaining input.new)) result report.new }
+{
+    let found = find_line(input, window)?;
+    let Some(end) = found else {
+        return Ok(false);
+    };
+    let line = without_cr(&window.rest()[..end]);
+    let is_report = read_report(form, line, report);
+    if !is_report {
+        return Err(HearFault::Form);
+    }
+    window.pass(end + 1);
+    Ok(true)
+}

@@ -6,17 +6,17 @@ use Rattle.std.proofs.lemmas.Option.{slice_get_within, slice_get-get_or}
 use Rattle.fleet_model.specs.declared.program.ActionId.{ActionId}
 use Rattle.fleet_model.specs.declared.program.Await.{Await}
 use Rattle.fleet_model.specs.Program.{Program, AreInRange, awaits_of, moves}
-use Rattle.fleet_model.specs.Chain.{IsAction, awaited}
+use Rattle.fleet_model.specs.Chain.{IsAction, Reaches, awaited}
 use Rattle.fleet_needs.specs.Block.{HasColumn}
-use Rattle.fleet_needs.specs.Joins.{AreQuiet, row_taken, IsJoin, AreOwn}
+use Rattle.fleet_needs.specs.Joins.{AreQuiet, IsRow, StandsFor, row_taken, IsJoin, Takes, AreOwn}
 use Rattle.fleet_needs.specs.Rows.{IsColumn, IsJoined, OfFirst, OfOthers, OfOthersOrFirst}
 use Rattle.fleet_needs.specs.Schedule.{IsSchedule, AreColumnsOf, AreCounts, AreRowsTo, IsThere, StandsThere, AreJoinedWith, count_in_slot}
-use Rattle.fleet_needs.specs.JoinPass.{IsNextRow}
+use Rattle.fleet_needs.specs.JoinPass.{IsNextRow, AreOthers}
 use Rattle.fleet_needs.specs.Slots.{IsStill}
 use Rattle.fleet_needs.specs.declared.columns.Columns.{Columns}
 use Rattle.fleet_needs.specs.declared.joins.Join.{Join}
 use Rattle.fleet_needs.specs.declared.slot_rows.SlotRows.{SlotRows}
-use Rattle.fleet_needs.proofs.Joining.{column_none, joined_none, part_all, own_column, awaited_action}
+use Rattle.fleet_needs.proofs.Joining.{column_none, joined_none, part_all, own_column, awaited_action, numbered}
 use Rattle.fleet_needs.proofs.OthersJoined.{others_more, others_same, first_none, first_more, first_same, first_all}
 
 -- ---- actions that await nothing

@@ -1,11 +1,11 @@
 //! The order in which actions finish if nobody is held.
 
-ghost use Rattle.std.specs.Prelude.{◌≡◌, ◌+◌, ◌-◌, ◌<◌, length, slice_index, IfOk, OnOk};
+ghost use Rattle.std.specs.Prelude.{◌≡◌, ◌+◌, ◌-◌, ◌<◌, ◌≤◌, length, slice_index, IfOk, OnOk};
 ghost use Rattle.fleet_model.specs.Program.{Program, AreInRange};
-ghost use Rattle.fleet_needs.specs.Order.{IsTicked, IsOrder};
+ghost use Rattle.fleet_needs.specs.Order.{IsTicked, IsOrder, IsNextReady, AreMid, after_place};
 
 use fleet_machine::Machine;
-use fleet_model::{MAX_AGENTS, OutOfMemory, ProgramView, total_moves};
+use fleet_model::{ActionId, MAX_AGENTS, OutOfMemory, ProgramView, total_moves};
 use std::alloc::Global;
 
 /// The agents whose actions finish, tick by tick, and in rising order within a tick. Which action it is follows from
@@ -90,5 +90,33 @@ impl FinishOrder {
         ensures { result ≡ slice_index self.now.agents.items place }
     {
         self.agents[place]
+    }
+
+    /// The action that stands at a place of the order, the next one of its agent, which the tick after so many
+    /// finishes.
+    pub(crate) fn action_at<P: ProgramView>(
+        &self,
+        program: &P,
+        ticks: u32,
+        counts: &[u32],
+        k: usize,
+    ) -> ActionId
+        requires order { IsOrder (P.program program.now) self.now }
+        requires tick { ticks + 1 < length self.now.ends.items }
+        requires begin { slice_index self.now.ends.items ticks ≤ k }
+        requires end { k < slice_index self.now.ends.items (ticks + 1) }
+        requires counts { AreMid (P.program program.now) ticks
+            (after_place self.now.agents.items (slice_index self.now.ends.items ticks) k)
+            counts.now }
+        ensures agent { result.agent ≡ slice_index self.now.agents.items k }
+        ensures ready { IsNextReady (P.program program.now) ticks
+            (after_place self.now.agents.items (slice_index self.now.ends.items ticks) k)
+            result.agent }
+        ensures number { result.number ≡ slice_index counts.now result.agent + 1 }
+    {
+        let _ = program.agents();
+        let agent = self.agent(k);
+        let number = counts[usize::from(agent)] + 1;
+        ActionId { agent, number }
     }
 }

@@ -5,13 +5,13 @@ ghost use Rattle.fleet_model.specs.Program.{Program, AreInRange, total_moves};
 ghost use Rattle.fleet_model.specs.Machine.{IsFinish};
 ghost use Rattle.fleet_model.specs.Chain.{IsAction};
 ghost use Rattle.fleet_needs.specs.Places.{ArePlacesOf};
-ghost use Rattle.fleet_needs.specs.Order.{IsTicked};
+ghost use Rattle.fleet_needs.specs.Order.{IsOrder, AreMid};
 ghost use Rattle.fleet_needs.specs.declared.finish_ticks.TheConstants.{MAX_TICKS};
 ghost use Rattle.fleet_needs.specs.Settled.{IsFinishedBy, AreFinishTicks, AreTicks, finish_tick};
 
 use crate::action_places::ActionPlaces;
-use fleet_machine::Machine;
-use fleet_model::{ActionId, MAX_AGENTS, OutOfMemory, ProgramView, total_moves};
+use crate::finish_order::FinishOrder;
+use fleet_model::{ActionId, OutOfMemory, ProgramView, total_moves};
 use std::alloc::Global;
 
 /// For each action, by its place, the tick that finishes it if nobody is held. Ticks count from 1, and rise along
@@ -35,15 +35,18 @@ impl FinishTicks {
     pub(crate) fn of<P: ProgramView>(
         alloc: Global,
         program: &P,
+        order: &FinishOrder,
         ticks: u32,
     ) -> Result<FinishTicks, OutOfMemory>
         requires range { AreInRange (P.program program.now) }
+        requires order { IsOrder (P.program program.now) order.now }
+        requires ends { length order.now.ends.items ≡ ticks + 1 }
         requires finish { IsFinish (P.program program.now) [] ticks }
         ensures { IfOk result (AreTicks (P.program program.now)) }
     {
         let places = ActionPlaces::of(alloc, program)?;
         let mut entries = vec![in alloc; 0; total_moves(program) as usize]?;
-        note_ticks(alloc, program, &places, ticks, &mut entries)?;
+        note_ticks(alloc, program, &places, order, ticks, &mut entries)?;
         Ok(FinishTicks {
             places,
             ticks: entries,
@@ -77,46 +80,50 @@ fn note_ticks<P: ProgramView>(
     alloc: Global,
     program: &P,
     places: &ActionPlaces,
+    order: &FinishOrder,
     ticks: u32,
     entries: &mut [u32],
 ) -> Result<(), OutOfMemory>
     requires places { ArePlacesOf (P.program program.now) places.now }
+    requires order { IsOrder (P.program program.now) order.now }
+    requires ends { length order.now.ends.items ≡ ticks + 1 }
     requires all { length entries.old ≡ total_moves (P.program program.now) }
     ensures { OnOk result (AreFinishTicks (P.program program.now) places.now
         (IsFinishedBy (P.program program.now) ticks) entries.new) }
 {
-    let mut machine = Machine::start(alloc, program)?;
-    let nobody = [false; MAX_AGENTS];
-    let nobody = &nobody[..program.agents() as usize];
+    let mut counts = vec![in alloc; 0; usize::from(program.agents())]?;
     for t in 0..ticks {
-        machine.tick(program, nobody);
-        note_finished(program, places, &machine, t, entries);
+        note_tick(program, places, order, t, &mut counts, entries);
     }
     Ok(())
 }
 
-/// Notes the tick of the actions that the last tick has finished, which came after so many ticks.
-fn note_finished<P: ProgramView>(
+/// Notes the tick of the actions that the tick after so many finishes.
+fn note_tick<P: ProgramView>(
     program: &P,
     places: &ActionPlaces,
-    machine: &Machine,
+    order: &FinishOrder,
     ticks: u32,
+    counts: &mut [u32],
     entries: &mut [u32],
 )
     requires places { ArePlacesOf (P.program program.now) places.now }
-    requires all { length entries.old ≡ total_moves (P.program program.now) }
-    requires ticked { IsTicked (P.program program.now) machine.now ticks }
+    requires order { IsOrder (P.program program.now) order.now }
+    requires tick { ticks + 1 < length order.now.ends.items }
     requires few { ticks < MAX_TICKS }
+    requires all { length entries.old ≡ total_moves (P.program program.now) }
+    requires counts { AreMid (P.program program.now) ticks 0 counts.old }
     requires noted { AreFinishTicks (P.program program.now) places.now
         (IsFinishedBy (P.program program.now) ticks) entries.old }
-    ensures { AreFinishTicks (P.program program.now) places.now
+    ensures counts { AreMid (P.program program.now) (ticks + 1) 0 counts.new }
+    ensures noted { AreFinishTicks (P.program program.now) places.now
         (IsFinishedBy (P.program program.now) (ticks + 1)) entries.new }
 {
     let _ = program.agents();
-    let mut from = 0;
-    while let Some(agent) = machine.next_moved(from) {
-        let number = machine.agent(agent).count;
-        entries[places.place(agent, number)] = ticks + 1;
-        from = agent + 1;
+    for k in order.begin(ticks as usize)..order.begin(ticks as usize + 1) {
+        let action = order.action_at(program, ticks, counts, k);
+        let place = places.place(action.agent, action.number);
+        entries[place] = ticks + 1;
+        counts[usize::from(action.agent)] = action.number;
     }
 }

@@ -12,6 +12,7 @@ ghost use Rattle.fleet_needs.specs.Flags.{AreImplied};
 
 use crate::await_places::AwaitPlaces;
 use crate::columns::Columns;
+use crate::finish_order::FinishOrder;
 use crate::join_pass::use_joins;
 use crate::questions::is_any;
 use crate::schedule::Schedule;
@@ -95,31 +96,20 @@ fn flag_implied<P: ProgramView>(
     requires flags { length implied.old.flags.items ≡ total_awaits (P.program program.now) }
     ensures { OnOk result (AreImplied (P.program program.now) implied.new) }
 {
-    let asked = settle_all(alloc, program, ticks, &implied.places, &mut implied.flags)?;
+    let order = FinishOrder::of(alloc, program, ticks)?;
+    let asked = settle_all(
+        alloc,
+        program,
+        &order,
+        ticks,
+        &implied.places,
+        &mut implied.flags,
+    )?;
     if !is_any(&asked) {
         return Ok(());
     }
-    flag_rest(alloc, program, ticks, &asked, implied)
-}
-
-/// Flags the awaits of the asked agents, by rows.
-fn flag_rest<P: ProgramView>(
-    alloc: Global,
-    program: &P,
-    ticks: u32,
-    asked: &[bool],
-    implied: &mut ImpliedAwaits,
-) -> Result<(), OutOfMemory>
-    requires range { AreInRange (P.program program.now) }
-    requires finish { IsFinish (P.program program.now) [] ticks }
-    requires places { AreAwaitPlaces (P.program program.now) implied.old.places }
-    requires flags { length implied.old.flags.items ≡ total_awaits (P.program program.now) }
-    requires asked { length asked.now ≡ length (P.program program.now) }
-    requires settled { AreSettled (P.program program.now) asked.now implied.old.flags.items }
-    ensures { OnOk result (AreImplied (P.program program.now) implied.new) }
-{
-    let schedule = Schedule::of(alloc, program, ticks, &[])?;
-    flag_all(alloc, program, &schedule, asked, implied)
+    let schedule = Schedule::of(alloc, program, &order, ticks, &[])?;
+    flag_all(alloc, program, &schedule, &asked, implied)
 }
 
 /// Flags the awaits of the asked agents, block by block, each with as many columns as there is room for.

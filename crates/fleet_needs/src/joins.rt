@@ -6,7 +6,7 @@ ghost use Rattle.fleet_model.specs.Program.{AreInRange, awaits_of, total_moves};
 ghost use Rattle.fleet_model.specs.Machine.{IsFinish};
 ghost use Rattle.fleet_model.specs.Chain.{IsAction};
 ghost use Rattle.fleet_needs.specs.Places.{ArePlacesOf, place_of_action};
-ghost use Rattle.fleet_needs.specs.Order.{IsOrder, IsNextReady, AreMid, after_place, IsCounted};
+ghost use Rattle.fleet_needs.specs.Order.{IsOrder, AreMid, IsCounted};
 ghost use Rattle.fleet_needs.specs.Joins.{StandsFor, AreJoinsOf, AreJoinsEnd, CanJoin, AreTaken, HasJoined, IsAdded};
 ghost use Rattle.fleet_needs.specs.Joins.{AreRaised};
 
@@ -90,7 +90,7 @@ fn join_tick<P: ProgramView>(
     let _ = program.agents();
     let order = course.order;
     for k in order.begin(ticks as usize)..order.begin(ticks as usize + 1) {
-        let action = action_at(program, order, ticks, counts, k);
+        let action = order.action_at(program, ticks, counts, k);
         let wanted = is_wanted(course, action);
         joins.add_action(program, course.places, action, wanted)?;
         counts[usize::from(action.agent)] = action.number;
@@ -107,33 +107,6 @@ fn is_wanted(course: &Course<'_>, action: ActionId) -> bool
 {
     let place = course.places.place(action.agent, action.number);
     place < course.wanted.len() && course.wanted[place]
-}
-
-/// The action that stands at a place of the order, the next one of its agent, which the tick after so many finishes.
-fn action_at<P: ProgramView>(
-    program: &P,
-    order: &FinishOrder,
-    ticks: u32,
-    counts: &[u32],
-    k: usize,
-) -> ActionId
-    requires order { IsOrder (P.program program.now) order.now }
-    requires tick { ticks + 1 < length order.now.ends.items }
-    requires begin { slice_index order.now.ends.items ticks ≤ k }
-    requires end { k < slice_index order.now.ends.items (ticks + 1) }
-    requires counts { AreMid (P.program program.now) ticks
-        (after_place order.now.agents.items (slice_index order.now.ends.items ticks) k)
-        counts.now }
-    ensures agent { result.agent ≡ slice_index order.now.agents.items k }
-    ensures ready { IsNextReady (P.program program.now) ticks
-        (after_place order.now.agents.items (slice_index order.now.ends.items ticks) k)
-        result.agent }
-    ensures number { result.number ≡ slice_index counts.now result.agent + 1 }
-{
-    let _ = program.agents();
-    let agent = order.agent(k);
-    let number = counts[usize::from(agent)] + 1;
-    ActionId { agent, number }
 }
 
 impl Joins {

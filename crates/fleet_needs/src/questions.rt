@@ -9,6 +9,7 @@ ghost use Rattle.fleet_needs.specs.Schedule.{HasRows, IsSchedule};
 
 use crate::answering::answer;
 use crate::columns::Columns;
+use crate::finish_order::FinishOrder;
 use crate::near::asked_agents;
 use crate::schedule::Schedule;
 use fleet_model::{ActionId, OutOfMemory, ProgramView};
@@ -62,7 +63,8 @@ fn answer_rest<P: ProgramView>(
     requires flags { length flags.items ≡ length questions.now }
     ensures { IfOk result (λ flags. AreAnswers (P.program program.now) questions.now flags.items) }
 {
-    let schedule = Schedule::of(alloc, program, ticks, questions)?;
+    let order = FinishOrder::of(alloc, program, ticks)?;
+    let schedule = Schedule::of(alloc, program, &order, ticks, questions)?;
     answer_all(alloc, program, &schedule, questions, asked, flags)
 }
 

@@ -1,13 +1,14 @@
 //! A schedule of rows, made once for all blocks of columns: which rows are made, in which order, of which rows each is
 //! joined, and the slot in which it is kept.
 
-ghost use Rattle.std.specs.Prelude.{◌≡◌, ◌<◌, ◌≤◌, ℕ, [], All, slice_get, Some, IfOk};
+ghost use Rattle.std.specs.Prelude.{◌≡◌, ◌+◌, ◌<◌, ◌≤◌, ℕ, [], All, slice_get, Some, length, IfOk};
 ghost use Rattle.fleet_model.specs.declared.limits.TheConstants.{MAX_AGENTS};
 ghost use Rattle.fleet_model.specs.Program.{AreInRange, total_moves};
 ghost use Rattle.fleet_model.specs.Chain.{IsAction};
 ghost use Rattle.fleet_model.specs.Machine.{IsFinish};
 ghost use Rattle.fleet_needs.specs.Asked.{IsQuestion};
 ghost use Rattle.fleet_needs.specs.Joins.{IsWanted};
+ghost use Rattle.fleet_needs.specs.Order.{IsOrder};
 ghost use Rattle.fleet_needs.specs.Places.{ArePlacesOf, place_of_action};
 ghost use Rattle.fleet_needs.specs.Schedule.{IsSchedule, HasRows};
 
@@ -44,21 +45,23 @@ impl Schedule {
     pub(crate) fn of<P: ProgramView>(
         alloc: Global,
         program: &P,
+        order: &FinishOrder,
         ticks: u32,
         questions: &[Question],
     ) -> Result<Schedule, OutOfMemory>
         requires range { AreInRange (P.program program.now) }
+        requires order { IsOrder (P.program program.now) order.now }
+        requires ends { length order.now.ends.items ≡ ticks + 1 }
         requires finish { IsFinish (P.program program.now) [] ticks }
         requires questions { All (IsQuestion (P.program program.now)) questions.now }
         ensures schedule { IfOk result (IsSchedule (P.program program.now)) }
         ensures asked { IfOk result (λ s. HasRows s questions.now) }
     {
         let places = ActionPlaces::of(alloc, program)?;
-        let order = FinishOrder::of(alloc, program, ticks)?;
         let wanted = wanted_of(alloc, program, &places, questions)?;
         let course = Course {
             places: &places,
-            order: &order,
+            order,
             wanted: &wanted,
         };
         let joins = joins_of(alloc, program, &course, ticks)?;

@@ -6,9 +6,11 @@ ghost use Rattle.fleet_model.specs.declared.program.Await.{Await};
 ghost use Rattle.fleet_model.specs.Machine.{IsFinish};
 ghost use Rattle.fleet_model.specs.Chain.{IsAction, Reaches};
 ghost use Rattle.fleet_needs.specs.Implied.{IsImplied, AreAwaitPlaces};
+ghost use Rattle.fleet_needs.specs.Order.{IsOrder};
 ghost use Rattle.fleet_needs.specs.Settled.{AreTicks, AreSettled, AreSettledOf, IsActionSettled, IsUpTo};
 
 use crate::await_places::AwaitPlaces;
+use crate::finish_order::FinishOrder;
 use crate::finish_ticks::FinishTicks;
 use fleet_model::{ActionId, OutOfMemory, ProgramView};
 use std::alloc::Global;
@@ -22,11 +24,14 @@ const AWAITS: u16 = 16;
 pub fn settle_all<P: ProgramView>(
     alloc: Global,
     program: &P,
+    order: &FinishOrder,
     ticks: u32,
     places: &AwaitPlaces,
     flags: &mut [bool],
 ) -> Result<Vec<bool>, OutOfMemory>
     requires range { AreInRange (P.program program.now) }
+    requires order { IsOrder (P.program program.now) order.now }
+    requires ends { length order.now.ends.items ≡ ticks + 1 }
     requires finish { IsFinish (P.program program.now) [] ticks }
     requires places { AreAwaitPlaces (P.program program.now) places.now }
     requires flags { length flags.old ≡ total_awaits (P.program program.now) }
@@ -34,7 +39,7 @@ pub fn settle_all<P: ProgramView>(
     ensures settled { IfOk result (λ asked. AreSettled
         (P.program program.now) asked.items flags.new) }
 {
-    let mut finish = FinishTicks::of(alloc, program, ticks)?;
+    let mut finish = FinishTicks::of(alloc, program, order, ticks)?;
     let agents = program.agents();
     let mut asked = vec![in alloc; false; usize::from(agents)]?;
     for agent in 0..agents {

@@ -1,33 +1,18 @@
-use Rattle.std.proofs.Common.{◌≡◌, ℕ, subst, ◌∙◌, arith}
-use Rattle.fleet_model.specs.declared.limits.TheConstants.{MAX_AGENTS}
+use Rattle.std.proofs.Common.{◌≡◌, ℕ, List, length, replicate, take, drop, ◌++◌, sym, subst, ap, ◌∙◌, arith}
+use Rattle.std.proofs.lemmas.List.{take_at}
+use Rattle.fleet_needs.specs.Order.{AreMid}
 use Rattle.fleet_needs.specs.Settled.{IsFinishedBy, AreFinishTicks}
-use Rattle.fleet_needs.proofs.Finishing.{none_flagged, ticked, length_flagged}
+use Rattle.fleet_needs.proofs.Counting.{mid_first}
 use Rattle.fleet_needs.proofs.Ticking.{noted_none}
 use Rattle.fleet_needs.proofs.finish_ticks.note_ticks.Goals as goal
 
 pub loop-t-init : goal.loop-t-init
-loop-t-init g c = record {
-  runs = c.in_ok-machine.ensures.runs;
-  here = c.in_ok-machine.ensures.opening;
-  agents = length_flagged c.agents.result MAX_AGENTS (omega (arith, c.agents.ensures.count, c.agents.ensures.well_formed.few_agents)) ∙ c.agents.ensures.count;
-  nobody = λ i. none_flagged c.agents.result MAX_AGENTS i (omega (arith, c.agents.ensures.count, c.agents.ensures.well_formed.few_agents));
-  noted = noted_none (g.P.ProgramView.program c.args.program.now) c.args.places.now c.args.entries.now;
-}
-
-pub note_finished-requires-clause-ticked : goal.note_finished-requires-clause-ticked
-note_finished-requires-clause-ticked g c =
+loop-t-init g c =
     let p = g.P.ProgramView.program c.args.program.now in
-    ticked p _ c.loop-t.invariant.nobody c.loop-t.t c.loop-t.machine.configuration c.loop-t.invariant.here c.tick.new.self c.tick.ensures.runs c.tick.ensures.after c.tick.ensures.moving
-
-pub loop-t-preserved : goal.loop-t-preserved
-loop-t-preserved g c =
-    let p = g.P.ProgramView.program c.args.program.now in
+    let zeros : c.in_ok-counts.counts.items ≡ replicate (length p) 0 = c.in_ok-counts.ensures.items_if_clones_equal (λ y same. same) ∙ ap (λ (n : ℕ). replicate n 0) (c.from.ensures ∙ c.agents.ensures.count) in
     record {
-      runs = c.tick.ensures.runs;
-      here = (ticked p _ c.loop-t.invariant.nobody c.loop-t.t c.loop-t.machine.configuration c.loop-t.invariant.here c.tick.new.self c.tick.ensures.runs c.tick.ensures.after c.tick.ensures.moving).here;
-      agents = c.loop-t.invariant.agents;
-      nobody = c.loop-t.invariant.nobody;
-      noted = c.note_finished.ensures;
+      counts = subst (AreMid p 0 0) (sym zeros) (mid_first p);
+      noted = noted_none p c.args.places.now c.args.entries.now;
     }
 
 pub returns : goal.returns

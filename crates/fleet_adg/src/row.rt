@@ -40,7 +40,8 @@ impl Row {
         let place = self
             .position_from(leaving.agent)
             .unwrap_or(self.leavings.len());
-        if place < self.leavings.len() && self.leavings[place].agent == leaving.agent {
+        let is_within = place < self.leavings.len();
+        if is_within && self.leavings[place].agent == leaving.agent {
             self.leavings[place] = leaving;
         } else {
             self.leavings.insert(place, leaving)?;

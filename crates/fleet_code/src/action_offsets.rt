@@ -70,7 +70,8 @@ impl ActionOffsets {
         ensures { result ≡ slice_index_or self.now n 0 }
     {
         let kept = self.kept.len();
-        if kept == 0 {
+        let keeps_none = kept == 0;
+        if keeps_none {
             return n;
         }
         let is_kept = (n as usize) < kept;
@@ -90,7 +91,8 @@ fn even_from(offsets: &[u32]) -> (usize, u32)
     ensures fit { All (λ o. o < 2 ^ 32) offsets.now }
 {
     let last = offsets.len() - 1;
-    if last == 0 {
+    let is_first = last == 0;
+    if is_first {
         return (0, 0);
     }
     let stride = offsets[last].saturating_sub(offsets[last - 1]);
@@ -106,7 +108,8 @@ fn first_even(offsets: &[u32], stride: u32) -> usize
     let last = offsets.len() - 1;
     for back in 0..last {
         let at = last - back;
-        if u64::from(offsets[at - 1]) + u64::from(stride) != u64::from(offsets[at]) {
+        let is_uneven = u64::from(offsets[at - 1]) + u64::from(stride) != u64::from(offsets[at]);
+        if is_uneven {
             return at;
         }
     }

@@ -101,7 +101,8 @@ fn after_action(head: Head, own: u16, bytes: &[u8]) -> Result<(u32, &[u8]), Load
         if let Some(_) = step_of(head.version, opcode) {
             return Ok((opcodes, after));
         }
-        if opcode != AWAIT {
+        let is_unknown = opcode != AWAIT;
+        if is_unknown {
             return Err(LoadFault::Opcode { at });
         }
         let (one, after) = await_of(head.version, at, head.agents, own, least, after)?;

@@ -81,7 +81,9 @@ impl Grid {
         ensures on_map { IsTrue result → (cell.x < self.now.width) × (cell.y < self.now.height) }
     {
         let Cell { x, y } = cell;
-        if x >= self.width || y >= self.height {
+        let is_right_of_map = x >= self.width;
+        let is_below_map = y >= self.height;
+        if is_right_of_map || is_below_map {
             return false;
         }
         let place = usize::from(y) * byte_count(usize::from(self.width)) + usize::from(x / 8);

@@ -99,7 +99,8 @@ fn replace_in<V: Copy>(page: &mut Vec<V>, place: usize, value: V, blank: V) -> R
     ensures kept { OnErr result ((k : ℕ)
         → get_or page.new.items k blank ≡ get_or page.old.items k blank) }
 {
-    if page.len() <= place {
+    let is_short = page.len() <= place;
+    if is_short {
         fill(page, blank)?;
     }
     let before = page[place];

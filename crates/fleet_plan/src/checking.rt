@@ -54,7 +54,8 @@ fn first_fault(
     ensures fault { IfErr result (λ fault. fault ≢ PlanFault.OutOfMemory
         → IsFirstPlanFault (is_passable grid.now) instance.now plan.now fault) }
 {
-    if plan.agents() != instance.agents() {
+    let is_other_fleet = plan.agents() != instance.agents();
+    if is_other_fleet {
         return Err(PlanFault::Agents);
     }
     if let Some(agent) = first_wrong_start(plan, instance) {

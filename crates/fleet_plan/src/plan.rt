@@ -107,7 +107,8 @@ impl Plan {
         let mut steps = 0;
         for path in &paths {
             let time = path.steps();
-            if steps < time {
+            let is_longer = steps < time;
+            if is_longer {
                 steps = time;
             }
         }
@@ -165,7 +166,8 @@ impl Plan {
         let mut kept = 0;
         for next in 0..agents.len() {
             let i = agents[next];
-            if time < self.path(i).steps() {
+            let is_moving = time < self.path(i).steps();
+            if is_moving {
                 agents[kept] = i;
                 kept += 1;
             }

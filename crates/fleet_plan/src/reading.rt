@@ -77,7 +77,8 @@ fn paths_of(alloc: Global, lines: &mut Cursor) -> Result<Vec<Path>, TextFault>
 {
     let mut paths = Vec::new(alloc);
     while let Some(line) = lines.next_line() {
-        if paths.len() >= MAX_AGENTS {
+        let is_full = paths.len() >= MAX_AGENTS;
+        if is_full {
             return Err(TextFault::AgentCount);
         }
         let path = path_of(alloc, paths.len() as u64 + 1, line)?;

@@ -84,10 +84,12 @@ fn least_around(ahead: &[Option<u16>], first: u16) -> u16
         let Some(next) = ahead[usize::from(agent)] else {
             unreachable!();
         };
-        if next == first {
+        let is_back = next == first;
+        if is_back {
             return least;
         }
-        if next < least {
+        let is_less = next < least;
+        if is_less {
             least = next;
         }
         agent = next;

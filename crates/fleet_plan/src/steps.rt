@@ -20,10 +20,12 @@ fn is_near(a: u16, b: u16) -> bool
 fn is_beside(from: Cell, to: Cell) -> bool
     ensures { IsTrue result ↔ ((from ≡ to) ⊎ AreNeighbours from to) }
 {
-    if from.x == to.x {
+    let is_in_column = from.x == to.x;
+    let is_in_row = from.y == to.y;
+    if is_in_column {
         is_near(from.y, to.y)
     } else {
-        from.y == to.y && is_near(from.x, to.x)
+        is_in_row && is_near(from.x, to.x)
     }
 }
 

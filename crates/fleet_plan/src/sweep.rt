@@ -308,7 +308,8 @@ fn drop_arrived(agents: &mut Vec<u16>, plan: &Plan, time: u32)
     requires covers { Covers plan.now time agents.old.items }
     ensures { Covers plan.now (time + 1) agents.new.items }
 {
-    if time % DROPPED_EACH == 0 {
+    let is_due = time % DROPPED_EACH == 0;
+    if is_due {
         plan.keep_under_way(agents, time + 1);
     }
 }

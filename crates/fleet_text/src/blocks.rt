@@ -28,7 +28,8 @@ pub fn first_of<C: ByteClass>(text: &[u8]) -> Option<usize>
     let mut rest = text;
     while let Some((block, after)) = rest.split_first_chunk::<BLOCK>() {
         let mask = C::mask(u8x64::from_array(*block));
-        if mask != 0 {
+        let has_one = mask != 0;
+        if has_one {
             return Some(text.len() - rest.len() + mask.trailing_zeros() as usize);
         }
         rest = after;

@@ -121,7 +121,8 @@ fn any_number_front(text: &[u8]) -> Option<(u16, &[u8])>
             return Some((number as u16, rest));
         }
         number = 10 * number + u32::from(*digit - b'0');
-        if number >= TOO_LARGE {
+        let is_too_large = number >= TOO_LARGE;
+        if is_too_large {
             return None;
         }
         rest = after;

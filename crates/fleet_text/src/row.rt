@@ -66,12 +66,14 @@ impl Row {
         requires { IsWorking (O.state out.old) }
         ensures { Gathers (O.state out.old) (O.state out.new) result self.old self.new bytes.now }
     {
-        if bytes.len() <= ROOM - self.len {
+        let has_room = bytes.len() <= ROOM - self.len;
+        if has_room {
             self.append(bytes);
             return Ok(());
         }
         self.hand_on(out)?;
-        if ROOM < bytes.len() {
+        let is_long = ROOM < bytes.len();
+        if is_long {
             return put_all(out, bytes);
         }
         self.append(bytes);

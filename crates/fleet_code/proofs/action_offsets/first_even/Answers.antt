@@ -11,4 +11,4 @@ loop-back-preserved c =
     let before : (length items - 1 - c.loop-back.back) - 1 ≡ at = omega (arith, next) in
     let old : IsEvenFrom items (at + 1) c.args.stride = subst (λ (k : ℕ). IsEvenFrom items k c.args.stride) next c.loop-back.invariant in
     even_more items at c.args.stride old
-    (omega (arith, c.if-from.false, c.from.ensures, c.from-in-loop-back.ensures, c.from-in-loop-back-2.ensures, ap (λ (k : ℕ). slice_index_or items k 0) before, ap (λ (k : ℕ). slice_index_or items k 0) next))
+    (omega (arith, c.if-is_uneven.false, c.from.ensures, c.from-in-loop-back.ensures, c.from-in-loop-back-2.ensures, ap (λ (k : ℕ). slice_index_or items k 0) before, ap (λ (k : ℕ). slice_index_or items k 0) next))

@@ -34,16 +34,16 @@ overflow_add-opcodes c =
     let most = c.requires.few in
     omega (arith, many, few, most)
 
-pub returns-then-opcode-ne-AWAIT-clause-value : goal.returns-then-opcode-ne-AWAIT-clause-value
-returns-then-opcode-ne-AWAIT-clause-value c =
-    λ other. other_opcode c.args.head.version c.in-Some.ensures.cases.0 c.loop-opcode.invariant.so_far.2 (sym c.step_of.ensures ∙ no_step c.step_of.result c.in_default-step_of.not-Some) c.if-opcode-ne-AWAIT.true
+pub returns-then-is_unknown-clause-value : goal.returns-then-is_unknown-clause-value
+returns-then-is_unknown-clause-value c =
+    λ other. other_opcode c.args.head.version c.in-Some.ensures.cases.0 c.loop-opcode.invariant.so_far.2 (sym c.step_of.ensures ∙ no_step c.step_of.result c.in_default-step_of.not-Some) (λ e. c.if-is_unknown.true (omega (arith, e)))
 
 pub returns-in_err-one-clause-value : goal.returns-in_err-one-clause-value
 returns-in_err-one-clause-value c =
     let p = err_from_is_err_and c.from_residual.result c.from_residual.ensures.1 in
     rw (p.1, p.2)
     (λ other.
-    await_fails c.args.head.version c.in-Some.ensures.cases.0 c.loop-opcode.invariant.so_far.2 c.in_err-one.field-0.0 (sym c.step_of.ensures ∙ no_step c.step_of.result c.in_default-step_of.not-Some) c.if-opcode-ne-AWAIT.false
+    await_fails c.args.head.version c.in-Some.ensures.cases.0 c.loop-opcode.invariant.so_far.2 c.in_err-one.field-0.0 (sym c.step_of.ensures ∙ no_step c.step_of.result c.in_default-step_of.not-Some) (omega (arith, c.if-is_unknown.false))
     (c.in_err-one.ensures.value other))
 
 pub loop-opcode-preserved : goal.loop-opcode-preserved
@@ -57,7 +57,7 @@ loop-opcode-preserved c =
     let so_far = c.loop-opcode.invariant.so_far in
     let no = sym c.step_of.ensures ∙ no_step c.step_of.result c.in_default-step_of.not-Some in
     record {
-      so_far = (so_far.0 ++ c.in_ok-one.one ∷ [], omega (arith, so_far.1, length-append so_far.0 (c.in_ok-one.one ∷ [])), await_goes_on c.args.head.version c.in-Some.ensures.cases.0 so_far.2 c.in_ok-one.one c.in_ok-one.after.now no c.if-opcode-ne-AWAIT.false c.in_ok-one.ensures.value);
+      so_far = (so_far.0 ++ c.in_ok-one.one ∷ [], omega (arith, so_far.1, length-append so_far.0 (c.in_ok-one.one ∷ [])), await_goes_on c.args.head.version c.in-Some.ensures.cases.0 so_far.2 c.in_ok-one.one c.in_ok-one.after.now no (omega (arith, c.if-is_unknown.false)) c.in_ok-one.ensures.value);
       shorter = omega (arith, read, one_less, shorter);
       many = omega (arith, above, many);
       few = omega (arith, within);

@@ -25,16 +25,16 @@ pub returns-then-not-is_ascii_digit-2 : goal.returns-then-not-is_ascii_digit-2
 returns-then-not-is_ascii_digit-2 c =
     small_stays c.loop-rest.number c.loop-rest.rest.now c.loop-rest.invariant.small c.in-len1-up-rest.len_at_least (sym c.is_ascii_digit-in-len1-up-rest.ensures.value ∙ c.if-not-is_ascii_digit-2.true) ∙ c.loop-rest.invariant.so_far
 
-pub returns-then-number-ge-TOO_LARGE : goal.returns-then-number-ge-TOO_LARGE
-returns-then-number-ge-TOO_LARGE c =
-    rw c.from.ensures at (stays_too_large (10 * c.loop-rest.number + c.from.result) (drop 1 c.loop-rest.rest.now) c.if-number-ge-TOO_LARGE.true)
+pub returns-then-is_too_large : goal.returns-then-is_too_large
+returns-then-is_too_large c =
+    rw c.from.ensures at (stays_too_large (10 * c.loop-rest.number + c.from.result) (drop 1 c.loop-rest.rest.now) c.if-is_too_large.true)
     ∙ ap small_only (digit_taken c.loop-rest.number c.loop-rest.rest.now c.in-len1-up-rest.len_at_least (sym c.is_ascii_digit-in-len1-up-rest.ensures.value ∙ c.if-not-is_ascii_digit-2.false))
     ∙ c.loop-rest.invariant.so_far
 
 pub loop-rest-preserved : goal.loop-rest-preserved
 loop-rest-preserved c =
     record {
-      small = omega (arith, c.if-number-ge-TOO_LARGE.false);
+      small = omega (arith, c.if-is_too_large.false);
       so_far = rw (take_rest, c.from.ensures) (ap small_only (digit_taken c.loop-rest.number c.loop-rest.rest.now c.in-len1-up-rest.len_at_least (sym c.is_ascii_digit-in-len1-up-rest.ensures.value ∙ c.if-not-is_ascii_digit-2.false)) ∙ c.loop-rest.invariant.so_far);
     }
 

@@ -4,11 +4,11 @@ use Rattle.fleet_code.specs.Offsets.{offsets_of}
 use Rattle.fleet_code.proofs.Even.{kept_at, further_at, none_kept}
 use Rattle.fleet_code.proofs.action_offsets.ActionOffsets.get.Goals as goal
 
-pub returns-then-kept-eq0 : goal.returns-then-kept-eq0
-returns-then-kept-eq0 c =
+pub returns-then-keeps_none : goal.returns-then-keeps_none
+returns-then-keeps_none c =
     let in_all = c.self.inside in
     let few : c.args.n < in_all.actions + 1 = let n = c.requires in let same = ap (λ (xs : List ℕ). length xs) c.self.view_is in omega (arith, n, same, c.self.invariant.count) in
-    let none : length in_all.kept.items ≡ 0 = omega (arith, c.len-kept.ensures, in_all.kept.ok.0, c.if-kept-eq0.true) in
+    let none : length in_all.kept.items ≡ 0 = omega (arith, c.len-kept.ensures, in_all.kept.ok.0, c.if-keeps_none.true) in
     sym (none_kept in_all.actions in_all.stride in_all.kept.items c.args.n none few) ∙ ap (λ (xs : List ℕ). slice_index_or xs c.args.n 0) c.self.view_is
 
 pub returns-then-is_kept : goal.returns-then-is_kept
@@ -24,7 +24,7 @@ returns c =
     let kept = in_all.kept.items in
     let long : c.len-kept.result ≡ length kept = omega (arith, c.len-kept.ensures, in_all.kept.ok.0) in
     let inside : c.args.n < in_all.actions + 1 = let n = c.requires in let same = ap (λ (xs : List ℕ). length xs) c.self.view_is in omega (arith, n, same, c.self.invariant.count) in
-    let some : 0 < length kept = omega (arith, long, c.if-kept-eq0.false) in
+    let some : 0 < length kept = omega (arith, long, c.if-keeps_none.false) in
     let beyond : length kept ≤ c.args.n = omega (arith, long, c.if-is_kept.false) in
     let told = further_at in_all.actions in_all.stride kept c.args.n some beyond inside in
     let last : c.index-2.result.now ≡ slice_index_or kept (length kept - 1) 0 = c.index-2.ensures ∙ (get_or_default kept (c.len-kept.result - 1) c.index-2.result.now 0 (omega (arith, long, some)) ∙ ap (λ (m : ℕ). slice_index_or kept (m - 1) 0) long) in
@@ -38,7 +38,7 @@ overflow_add-result c =
     let all = offsets_of in_all.actions in_all.stride kept in
     let long : c.len-kept.result ≡ length kept = omega (arith, c.len-kept.ensures, in_all.kept.ok.0) in
     let inside : c.args.n < in_all.actions + 1 = let n = c.requires in let same = ap (λ (xs : List ℕ). length xs) c.self.view_is in omega (arith, n, same, c.self.invariant.count) in
-    let some : 0 < length kept = omega (arith, long, c.if-kept-eq0.false) in
+    let some : 0 < length kept = omega (arith, long, c.if-keeps_none.false) in
     let beyond : length kept ≤ c.args.n = omega (arith, long, c.if-is_kept.false) in
     let told = further_at in_all.actions in_all.stride kept c.args.n some beyond inside in
     let last : c.index-2.result.now ≡ slice_index_or kept (length kept - 1) 0 = c.index-2.ensures ∙ (get_or_default kept (c.len-kept.result - 1) c.index-2.result.now 0 (omega (arith, long, some)) ∙ ap (λ (m : ℕ). slice_index_or kept (m - 1) 0) long) in
@@ -54,7 +54,7 @@ overflow_mul-result c =
     let all = offsets_of in_all.actions in_all.stride kept in
     let long : c.len-kept.result ≡ length kept = omega (arith, c.len-kept.ensures, in_all.kept.ok.0) in
     let inside : c.args.n < in_all.actions + 1 = let n = c.requires in let same = ap (λ (xs : List ℕ). length xs) c.self.view_is in omega (arith, n, same, c.self.invariant.count) in
-    let some : 0 < length kept = omega (arith, long, c.if-kept-eq0.false) in
+    let some : 0 < length kept = omega (arith, long, c.if-keeps_none.false) in
     let beyond : length kept ≤ c.args.n = omega (arith, long, c.if-is_kept.false) in
     let told = further_at in_all.actions in_all.stride kept c.args.n some beyond inside in
     let factor : (c.args.n - (c.len-kept.result - 1)) * in_all.stride ≡ (c.args.n - (length kept - 1)) * in_all.stride = ap (λ (m : ℕ). (c.args.n - (m - 1)) * in_all.stride) long in

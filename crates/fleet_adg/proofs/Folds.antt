@@ -17,8 +17,7 @@ use Rattle.fleet_adg.specs.Compiled.{changes_in, leaves, await_of, last_below, l
 use Rattle.fleet_adg.specs.Leavings.{with_leaving, leavings_after}
 use Rattle.fleet_adg.specs.Sweep.{under_way, actions_by, all_actions_by}
 use Rattle.fleet_plan.specs.UnderWay.{is_under_way}
-use Rattle.fleet_plan.proofs.RowLaws.{range_push}
-use Rattle.fleet_adg.proofs.Basics.{last_below-zero, last_below-here, last_below-before}
+use Rattle.fleet_adg.proofs.Basics.{indices_push, last_below-zero, last_below-here, last_below-before}
 use Rattle.fleet_adg.proofs.Moves.{changes_in-ne}
 use Rattle.fleet_adg.proofs.Entry.{leaves-parts, last_leaving_by-agent}
 use Rattle.fleet_adg.proofs.Pass.{last_leaving-next, last_leaving-same, last_leaving_by-next, last_leaving_by-same, actions-next, actions-same}
@@ -36,8 +35,7 @@ fold-filter f p skip b (x ∷ xs) =
 fold-indices : {B : Type 0} (f : B → ℕ → B) (at : ℕ → B) (n : ℕ) → ((m : ℕ) → m < n → f (at m) m ≡ at (suc m)) → fold f (at 0) (indices n) ≡ at n
 fold-indices f at zero h = refl
 fold-indices f at (suc n) h =
-    let z : 0 + n ≡ n = omega arith in
-    ap (fold f (at 0)) (range_push 0 n ∙ ap (λ k. range_with_len 0 n ++ k ∷ []) z) ∙ fold_push f (at 0) (range_with_len 0 n) n
+    ap (fold f (at 0)) (indices_push n) ∙ fold_push f (at 0) (range_with_len 0 n) n
     ∙ ap (λ b. f b n) (fold-indices f at n (λ m l. h m (omega arith)))
     ∙ h n (omega arith)
 

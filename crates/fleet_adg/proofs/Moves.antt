@@ -11,7 +11,7 @@ use Rattle.fleet_model.specs.Geometry.{is_same_cell, place_of}
 use Rattle.fleet_model.proofs.Cells.{is_same_cell-true, is_same_cell-eq, is_same_cell-ne}
 use Rattle.fleet_plan.specs.Plan.{Plan, cell_at, cell_of, last_cell, steps, IsConflictFree}
 use Rattle.fleet_adg.specs.Compiled.{changes_in, changes, moves_by}
-use Rattle.fleet_plan.proofs.RowLaws.{range_push}
+use Rattle.fleet_adg.proofs.Basics.{indices_push}
 
 -- ---- whether an agent changes its cell in a step
 
@@ -36,16 +36,14 @@ filter-one test y b e = ap (λ c. cond c (y ∷ []) []) e
 pub changes-yes : (plan : Plan) (i t : ℕ) → changes_in plan i t ≡ true → changes plan i (suc t) ≡ changes plan i t ++ t ∷ []
 unfolding changes
 changes-yes plan i t h =
-    let z : 0 + t ≡ t = omega arith in
-    ap (filter (changes_in plan i)) (range_push 0 t ∙ ap (λ y. range_with_len 0 t ++ y ∷ []) z)
+    ap (filter (changes_in plan i)) (indices_push t)
     ∙ filter-append (changes_in plan i) (range_with_len 0 t) (t ∷ [])
     ∙ ap (λ zs. filter (changes_in plan i) (range_with_len 0 t) ++ zs) (filter-one (changes_in plan i) t true h)
 
 pub changes-no : (plan : Plan) (i t : ℕ) → changes_in plan i t ≡ false → changes plan i (suc t) ≡ changes plan i t
 unfolding changes
 changes-no plan i t h =
-    let z : 0 + t ≡ t = omega arith in
-    ap (filter (changes_in plan i)) (range_push 0 t ∙ ap (λ y. range_with_len 0 t ++ y ∷ []) z)
+    ap (filter (changes_in plan i)) (indices_push t)
     ∙ filter-append (changes_in plan i) (range_with_len 0 t) (t ∷ [])
     ∙ ap (λ zs. filter (changes_in plan i) (range_with_len 0 t) ++ zs) (filter-one (changes_in plan i) t false h)
     ∙ append-nil (filter (changes_in plan i) (range_with_len 0 t))

@@ -23,7 +23,7 @@ use Rattle.fleet_adg.specs.Compiled.{direction, last_below, entry_awaits, change
 use Rattle.fleet_adg.specs.Leavings.{row_of, kind_of, leavings_after, AreRowsApart, AreLeavingsAt}
 use Rattle.fleet_adg.specs.Sweep.{under_way, actions_by, all_actions_by, agent_from, IsOnMap}
 use Rattle.fleet_plan.specs.UnderWay.{is_under_way}
-use Rattle.fleet_plan.proofs.RowLaws.{range_push}
+use Rattle.fleet_adg.proofs.Basics.{indices_push}
 use Rattle.fleet_adg.proofs.Moves.{moves_by-yes, moves_by-no, moves_by-le, steps-ge}
 use Rattle.fleet_adg.proofs.Entry.{leaves-parts, leaves-from}
 use Rattle.fleet_adg.proofs.Folds.{still, leaves-still, note_by, note_by-leaves, note_by-stays, leavings-next, add_by, add_by-changes, add_by-stays}
@@ -39,8 +39,7 @@ moves_stay plan i t m c e = e ∙ sym (moves_by-no plan i t c) ∙ ap (moves_by 
 -- one more agent's moves
 pub total_more : (f : ℕ → ℕ) (i m n : ℕ) → m ≡ sum_by f (indices i) → n ≡ f i → m + n ≡ sum_by f (indices (i + 1))
 total_more f i m n e h =
-    let z : 0 + i ≡ i = omega arith in
-    rw add-one ((λ t. e t + h t) ∙ sym (sum_by_push f (range_with_len 0 i) i) ∙ ap (sum_by f) (sym (range_push 0 i ∙ ap (λ k. range_with_len 0 i ++ k ∷ []) z)))
+    rw add-one ((λ t. e t + h t) ∙ sym (sum_by_push f (range_with_len 0 i) i) ∙ ap (sum_by f) (sym (indices_push i)))
 
 moves_after : (plan : Plan) (i s n : ℕ) → length (get_or plan i []) - 1 ≤ s → moves_by plan i s ≡ moves_by plan i (s + n)
 moves_after plan i s zero h = ap (moves_by plan i) (let z : s ≡ s + 0 = omega arith in z)
@@ -272,12 +271,11 @@ pub agent_more : (plan : Plan) (actions done rest : List (List Action)) (row : L
 unfolding agent_from
 agent_more plan actions done rest row agents a n made whole size is =
     let at : n ≡ length done = size ∙ ap length made ∙ length-map-range_with_len (agent_from plan actions) 0 (length done) in
-    let z : 0 + length done ≡ length done = omega arith in
     let mine : row ≡ get_or actions n [] = sym (get_or_at done row rest [] n (sym at)) ∙ ap (λ zs. get_or zs n []) whole in
     let this : a ≡ agent_from plan actions (length done) = is ∙ (λ t. record { start = cell_of plan n 0; goal = cell_of plan n (steps plan); actions = mine t }) ∙ ap (agent_from plan actions) at in
     (λ t. made t ++ this t ∷ [])
     ∙ sym (map_push (agent_from plan actions) (indices (length done)) (length done))
-    ∙ ap (map (agent_from plan actions)) (ap (λ k. indices (length done) ++ k ∷ []) (sym z) ∙ sym (range_push 0 (length done)) ∙ ap indices (sym (length_push done row ∙ add-one (length done))))
+    ∙ ap (map (agent_from plan actions)) (sym (indices_push (length done)) ∙ ap indices (sym (length_push done row ∙ add-one (length done))))
 
 -- the same, if each agent stays so often after its actions
 pub staying_more : (stays : ℕ) (plan : Plan) (actions done rest : List (List Action)) (row : List Action) (agents : List AgentProgram) (a : AgentProgram) (n : ℕ) → agents ≡ map (with_stays stays) (map (agent_from plan actions) (indices (length done))) → done ++ row ∷ rest ≡ actions → n ≡ length agents → a ≡ with_stays stays (record { start = cell_of plan n 0; goal = cell_of plan n (steps plan); actions = row }) → agents ++ a ∷ [] ≡ map (with_stays stays) (map (agent_from plan actions) (indices (length (done ++ row ∷ []))))

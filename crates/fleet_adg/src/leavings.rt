@@ -5,8 +5,8 @@ ghost use Rattle.fleet_adg.specs.Leavings.{await_for, row_of, kind_of, leavings_
 
 use crate::growing::{Entry, Growing};
 use crate::row_table::RowTable;
-use fleet_model::{Action, Await, Awaits, Deps, OutOfMemory, Step};
 use fleet_grid::Table;
+use fleet_model::{Action, Await, Awaits, Deps, OutOfMemory, Step};
 use std::alloc::{AllocError, Global};
 
 /// A move by which a cell was left: `number` of `agent`, from 1 on. There may be one for each cell of a map, so it is

@@ -4,8 +4,8 @@ ghost use Rattle.std.specs.Prelude.{◌≡◌, ◌≢◌, ℕ, [], OnOk};
 ghost use Rattle.fleet_adg.specs.Leavings.{row_in, with_leaving, HasRowsApart};
 
 use crate::row::Row;
-use fleet_model::Await;
 use fleet_grid::Table;
+use fleet_model::Await;
 use std::alloc::{AllocError, Global};
 
 /// For each place of a map a row of leavings. A place has a row of its own once it has been left.

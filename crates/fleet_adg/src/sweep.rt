@@ -3,7 +3,6 @@
 ghost use Rattle.std.specs.Prelude.{◌≡◌, ◌≤◌, ◌<◌, ◌+◌, is_some, IfSome, OnOk, IfOk, length, replicate, []};
 ghost use Rattle.fleet_plan.specs.Plan.{cell_of, steps};
 ghost use Rattle.fleet_model.specs.declared.limits.TheConstants.{MAX_HORIZON};
-ghost use Rattle.fleet_model.specs.Machine.{indices};
 ghost use Rattle.fleet_adg.specs.Compiled.{direction, changes_in, moves_by};
 ghost use Rattle.fleet_adg.specs.Leavings.{kind_of, AreLeavingsAt};
 ghost use Rattle.fleet_adg.specs.Sweep.{under_way, moves_in, all_actions_by, IsOnMap};
@@ -11,7 +10,7 @@ ghost use Rattle.fleet_adg.specs.Sweep.{under_way, moves_in, all_actions_by, IsO
 use crate::growing::Growing;
 use crate::leavings::{Leaving, Leavings};
 use fleet_grid::{Grid, cells_have_places_of_their_own};
-use fleet_model::{Cell, Deps, Dir, OutOfMemory, Step};
+use fleet_model::{Cell, Deps, Dir, OutOfMemory, Step, agent_numbers};
 use fleet_plan::{Checked, Plan};
 use std::alloc::{AllocError, Global};
 
@@ -63,7 +62,7 @@ fn sweep(
     ensures { OnOk result (actions.new
         ≡ all_actions_by plan.now (kind_of leavings.old) (steps plan.now)) }
 {
-    let mut agents = agents_of(alloc, plan.agents())?;
+    let mut agents = agent_numbers(alloc, plan.agents())?;
     let mut moves = Vec::with_capacity(alloc, agents.len())?;
     for time in 0..plan.steps() {
         plan.keep_under_way(&mut agents, time);
@@ -155,17 +154,6 @@ fn move_in(plan: &Plan, i: u16, time: u32) -> Option<(Cell, Cell)>
     let from = plan.cell(i, time);
     let to = plan.cell(i, time + 1);
     if from == to { None } else { Some((from, to)) }
-}
-
-/// All agents.
-fn agents_of(alloc: Global, count: u16) -> Result<Vec<u16>, AllocError>
-    ensures { IfOk result (λ agents. agents.items ≡ indices count) }
-{
-    let mut agents = Vec::with_capacity(alloc, usize::from(count))?;
-    for i in 0..count {
-        agents.push(i)?;
-    }
-    Ok(agents)
 }
 
 /// Lists the moves in the step after `time`, in order of agent.

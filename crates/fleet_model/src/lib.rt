@@ -1,6 +1,7 @@
 //! Programs of a fleet of agents on a grid, and what they mean.
 #![tactic(auto)]
 
+mod agents;
 mod deps;
 mod geometry;
 mod limits;
@@ -11,6 +12,7 @@ mod step_code;
 mod task;
 mod view;
 
+pub use agents::agent_numbers;
 pub use deps::Deps;
 pub use geometry::{Cell, Dir, MAX_OFFSET, Place, Step};
 pub use limits::{

@@ -102,16 +102,6 @@ still_there P p xs ys k i x f l e h =
 
 -- ---- all agents
 
-pub range_push : (a n : ℕ) → range_with_len a (suc n) ≡ range_with_len a n ++ (a + n) ∷ []
-range_push a zero = ap (λ z. z ∷ []) (omega arith)
-range_push a (suc n) = ap (λ zs. a ∷ zs) (range_push (a + 1) n ∙ ap (λ z. range_with_len (a + 1) n ++ z ∷ []) (omega arith))
-
-pub one_more : (n : ℕ) (row : List ℕ) → row ≡ range_with_len 0 n → row ++ n ∷ [] ≡ range_with_len 0 (n + 1)
-one_more n row e =
-    let z : n + 1 ≡ suc n = omega arith in
-    let s : n ≡ 0 + n = omega arith in
-    ap (λ zs. zs ++ n ∷ []) e ∙ ap (λ k. range_with_len 0 n ++ k ∷ []) s ∙ sym (range_push 0 n) ∙ ap (range_with_len 0) (sym z)
-
 pub covers_all : (plan : Plan) (row : List ℕ) → length plan ≤ MAX_AGENTS → row ≡ range_with_len 0 (length plan) → Covers plan 0 row
 covers_all plan row few e = subst (Covers plan 0) (sym e) (record {
   few = omega (arith, long);

@@ -12,8 +12,8 @@ ghost use Rattle.fleet_plan.specs.UnderWay.{IsSoForOthers, Covers};
 use crate::plan::Plan;
 use crate::plan_fault::Conflict;
 use crate::rings::least_on_ring;
-use fleet_grid::{Grid, cells_have_places_of_their_own};
-use fleet_grid::Table;
+use fleet_grid::{Grid, Table, cells_have_places_of_their_own};
+use fleet_model::agent_numbers;
 use std::alloc::{AllocError, Global};
 
 /// The places in a table of the map's cells on which the agents stand at `time`.
@@ -399,11 +399,7 @@ fn step(
 fn agents_of(alloc: Global, plan: &Plan) -> Result<Vec<u16>, AllocError>
     ensures { IfOk result (λ agents. Covers plan.now 0 agents.items) }
 {
-    let mut agents = Vec::with_capacity(alloc, usize::from(plan.agents()))?;
-    for i in 0..plan.agents() {
-        agents.push(i)?;
-    }
-    Ok(agents)
+    agent_numbers(alloc, plan.agents())
 }
 
 /// The first conflict of a plan whose agents go over passable cells. Takes memory for the agents, and for the parts of

@@ -5,7 +5,7 @@ use Rattle.std.specs.List.{range_with_len, AllByRecursion, IsDistinct}
 use Rattle.std.proofs.lemmas.Bool.{cases_eq, eqb-false, ne_eqb}
 use Rattle.std.proofs.lemmas.Option.{slice_get-get_or, slice_get-map, get_or_from_slice_get, slice_get_within}
 use Rattle.std.proofs.lemmas.List.{get_or-map, length-map, length_push, get_or_push, get_or_append_left}
-use Rattle.std.proofs.lemmas.List.FromFn.{length-range_with_len, get_or-range_with_len, map-range_with_len_more}
+use Rattle.std.proofs.lemmas.List.FromFn.{length-range_with_len, get_or-range_with_len}
 use Rattle.std.proofs.lemmas.List.Sorted.{length_permutation, All-permutation, Contains-permutation, IsPermutation-sym, IsPermutation-trans, IsPermutation-insert}
 use Rattle.std.proofs.lemmas.Map.Keys.{IsDistinct-IsPermutation, apart_from_distinct}
 use Rattle.fleet_model.specs.declared.geometry.Cell.{Cell}
@@ -198,6 +198,3 @@ all_placed order paths plan long done = ext_get_or [] (paths_by order plan) path
     same i h =
         let l : i < length order = subst (λ z. i < z) (length-map order (λ a. get_or plan a [])) h in
         get_or-by plan [] [] order i l ∙ done i (omega arith) l
-
-pub agent_numbers-more : (n : ℕ) → agent_numbers (n + 1) ≡ agent_numbers n ++ n ∷ []
-agent_numbers-more n = sym (map-id _) ∙ map-range_with_len_more (λ x. x) 0 n n (omega arith) ∙ ap (λ xs. xs ++ n ∷ []) (map-id _)

@@ -13,7 +13,7 @@ use crate::fault::{PlanStop, SearchFault};
 use crate::frontier::Frontier;
 use crate::reservations::Reservations;
 use fleet_grid::Grid;
-use fleet_model::{Cell, OutOfMemory};
+use fleet_model::{Cell, OutOfMemory, agent_numbers};
 use fleet_plan::{Checked, Path, Plan, PlanFault, check};
 use fleet_scen::Instance;
 use std::alloc::Global;
@@ -199,17 +199,6 @@ fn reserve_in_order(
         }
     }
     Ok(true)
-}
-
-/// The numbers of so many agents, rising.
-pub(crate) fn agent_numbers(alloc: Global, agents: u16) -> Result<Vec<u16>, OutOfMemory>
-    ensures { IfOk result (λ order. order.items ≡ agent_numbers agents) }
-{
-    let mut order = Vec::new(alloc);
-    for agent in 0..agents {
-        order.push(agent)?;
-    }
-    Ok(order)
 }
 
 /// Moves the agent at the place to the front; the others follow as they did.

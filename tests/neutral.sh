@@ -38,7 +38,7 @@ change() {
         }
         sub(/^file: /, "") { path = at "/" $0 }
         sub(/^old: /, "") { old = $0 }
-        sub(/^new: /, "") { put(path, old, $0) }' "$1"
+        sub(/^new: ?/, "") { put(path, old, $0) }' "$1"
 }
 
 proved=0

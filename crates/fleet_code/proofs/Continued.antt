@@ -8,16 +8,16 @@ use Rattle.fleet_code.specs.declared.format.Version.{Version}
 use Rattle.fleet_code.specs.declared.fault.LoadFault.{LoadFault}
 use Rattle.fleet_code.specs.declared.fault.LoadFault.TheVariants.{OutOfMemory, Magic, Truncated, AgentCount, Total, Opcode, AwaitAgent, AwaitOrder, AwaitCount, Trailing}
 use Rattle.fleet_code.specs.Spelling.{magic, two_bytes, count as count_of, cell, await, action, agent}
-use Rattle.fleet_code.specs.LoadFaults.{HasNumber, HasCount, HasHead, IsOffset, ReachesAgent, ReachesAction, ReachesOpcode, ReachesAwait, ReachesOrder, ReachesCount, IsFirstFaultIn}
+use Rattle.fleet_code.specs.LoadFaults.{BeginsWithNumber, BeginsWithCount, HasHead, IsOffset, ReachesAgent, ReachesAction, ReachesOpcode, ReachesAwait, ReachesOrder, ReachesCount, IsFirstFaultIn}
 
 module _ (v : Version) (more : List ℕ) where
   goes_on : (bytes front rest : List ℕ) → bytes ≡ front ++ rest → bytes ++ more ≡ front ++ (rest ++ more)
   goes_on bytes front rest e = ap (λ (t : List ℕ). t ++ more) e ∙ append_assoc front rest more
 
-  number_stays : (bytes : List ℕ) (n : ℕ) (rest : List ℕ) → HasNumber bytes n rest → HasNumber (bytes ++ more) n (rest ++ more)
+  number_stays : (bytes : List ℕ) (n : ℕ) (rest : List ℕ) → BeginsWithNumber bytes n rest → BeginsWithNumber (bytes ++ more) n (rest ++ more)
   number_stays bytes n rest h = record { fits = h.fits; parts = goes_on bytes (two_bytes n) rest h.parts }
 
-  count_stays_there : (bytes : List ℕ) (n : ℕ) (rest : List ℕ) → HasCount v bytes n rest → HasCount v (bytes ++ more) n (rest ++ more)
+  count_stays_there : (bytes : List ℕ) (n : ℕ) (rest : List ℕ) → BeginsWithCount v bytes n rest → BeginsWithCount v (bytes ++ more) n (rest ++ more)
   count_stays_there bytes n rest h = record { fits = h.fits; parts = goes_on bytes (count_of v n) rest h.parts }
 
   head_stays : (bytes : List ℕ) (count : ℕ) (rest : List ℕ) → HasHead v bytes count rest → HasHead v (bytes ++ more) count (rest ++ more)

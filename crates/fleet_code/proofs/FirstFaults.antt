@@ -23,7 +23,7 @@ use Rattle.fleet_code.specs.declared.fault.LoadFault.{LoadFault}
 use Rattle.fleet_code.specs.declared.fault.LoadFault.TheVariants.{Magic, Truncated, AgentCount, Total, Opcode, AwaitAgent, AwaitOrder, AwaitCount, Trailing}
 use Rattle.fleet_code.specs.Spelling.{magic, two_bytes, count as count_of, count_len, most_count, most_moves, cell, opcode, has_opcode, await, action, agent, IsSpellable, AreSpellable, IsSpellableAgent, CanSpell}
 use Rattle.fleet_code.specs.Reading.{Field, magic_at, number_at, long_number_at, count_from, cell_from, await_at, step_at, step_or, action_at, actions_at, agent_at, agents_at, program_as}
-use Rattle.fleet_code.specs.LoadFaults.{HasNumber, HasCount, HasHead, IsOffset, ReachesAgent, ReachesAction, ReachesOpcode, ReachesAwait, ReachesOrder, ReachesCount, IsWithoutMagic, EndsWithin, IsFirstFaultIn}
+use Rattle.fleet_code.specs.LoadFaults.{BeginsWithNumber, BeginsWithCount, HasHead, IsOffset, ReachesAgent, ReachesAction, ReachesOpcode, ReachesAwait, ReachesOrder, ReachesCount, IsWithoutMagic, EndsWithin, IsFirstFaultIn}
 use Rattle.fleet_code.proofs.Parts.{IsBytes, TakesFront, number_takes, count_takes, cell_takes, await_takes}
 use Rattle.fleet_code.proofs.RoundTrip.{with_await, magic_long, step_again, action_takes, agent_takes, agents_take, after_count, after_start, after_agents, after_agent_count}
 use Rattle.fleet_code.proofs.Awaited.{least_after, after_more, from_more, all_below, some_above}
@@ -71,10 +71,10 @@ cell_fails bytes f fits e =
           ])
     ]
 
-number_is_read : (bytes : List ℕ) (n : ℕ) (rest : List ℕ) → IsBytes bytes → number_at bytes ≡ Ok (n, rest) → HasNumber bytes n rest
+number_is_read : (bytes : List ℕ) (n : ℕ) (rest : List ℕ) → IsBytes bytes → number_at bytes ≡ Ok (n, rest) → BeginsWithNumber bytes n rest
 number_is_read bytes n rest fits e = let t = number_takes bytes n rest fits e in record { fits = t.1; parts = t.0.parts }
 
-count_is_read : (v : Version) (bytes : List ℕ) (n : ℕ) (rest : List ℕ) → IsBytes bytes → count_from v bytes ≡ Ok (n, rest) → HasCount v bytes n rest
+count_is_read : (v : Version) (bytes : List ℕ) (n : ℕ) (rest : List ℕ) → IsBytes bytes → count_from v bytes ≡ Ok (n, rest) → BeginsWithCount v bytes n rest
 count_is_read v bytes n rest fits e = let t = count_takes v bytes n rest fits e in record { fits = t.1; parts = t.0.parts }
 
 ends : (v : Version) (bytes : List ℕ) (f : LoadFault) → Truncated ≡ f → EndsWithin v bytes → IsFirstFaultIn v bytes f
@@ -123,7 +123,7 @@ await_fails v bytes n i ws at rest f r from fits e =
                           | inl nothing ↦ (
                               let zero_is = eqb-true c.0.0 0 nothing.0 in
                               let counted_so = count_is_read v after c.0.0 c.0.1 named.0.rest_fits c.1 in
-                              subst (IsFirstFaultIn v bytes) nothing.1 (after, c.0.1, counts, subst (λ (k : ℕ). HasCount v after k c.0.1) zero_is counted_so))
+                              subst (IsFirstFaultIn v bytes) nothing.1 (after, c.0.1, counts, subst (λ (k : ℕ). BeginsWithCount v after k c.0.1) zero_is counted_so))
                           | inr fine ↦ absurd (no_fault (record { agent = j; count = c.0.0 }, c.0.1) f fine.1)
                         ]
                       ])

@@ -16,12 +16,12 @@ use Rattle.fleet_code.specs.Spelling.{magic, two_bytes, count, count_len, most_c
 -- ---- fields
 
 -- the bytes are a number and then the rest
-pub record HasNumber (bytes : List ℕ) (n : ℕ) (rest : List ℕ) : Type 0 where
+pub record BeginsWithNumber (bytes : List ℕ) (n : ℕ) (rest : List ℕ) : Type 0 where
   pub fits : n < 65536
   pub parts : bytes ≡ two_bytes n ++ rest
 
 -- .. a number of actions or a count, as wide as the version has it, and then the rest
-pub record HasCount (v : Version) (bytes : List ℕ) (n : ℕ) (rest : List ℕ) : Type 0 where
+pub record BeginsWithCount (v : Version) (bytes : List ℕ) (n : ℕ) (rest : List ℕ) : Type 0 where
   pub fits : n ≤ most_count v
   pub parts : bytes ≡ count v n ++ rest
 
@@ -85,7 +85,7 @@ pub record ReachesOrder (v : Version) (bytes : List ℕ) (n : ℕ) (awaits : Lis
   pub i : ℕ
   pub at_agent : List ℕ
   pub opcode : ReachesAwait v bytes n i awaits at at_agent
-  pub agent : HasNumber at_agent j rest
+  pub agent : BeginsWithNumber at_agent j rest
   pub within : j < n
   pub other : j ≢ i
 
@@ -119,7 +119,7 @@ abbrev pub IsFirstFaultIn : Version → List ℕ → LoadFault → Type 0
 IsFirstFaultIn v bytes OutOfMemory = ⊥
 IsFirstFaultIn v bytes Magic = IsWithoutMagic v bytes
 IsFirstFaultIn v bytes Truncated = EndsWithin v bytes
-IsFirstFaultIn v bytes AgentCount = (n : ℕ) × (at_number rest : List ℕ) × (bytes ≡ magic v ++ at_number) × HasNumber at_number n rest × ((n ≡ 0) ⊎ (MAX_AGENTS < n))
+IsFirstFaultIn v bytes AgentCount = (n : ℕ) × (at_number rest : List ℕ) × (bytes ≡ magic v ++ at_number) × BeginsWithNumber at_number n rest × ((n ≡ 0) ⊎ (MAX_AGENTS < n))
 IsFirstFaultIn v bytes Total =
     (n : ℕ) × (p : Program) × (at_agent : List ℕ) × (moves : ℕ) × (rest : List ℕ) × ReachesAgent v bytes n p at_agent × (length p < n)
     × HasHead v at_agent moves rest × ((most_moves v < moves) ⊎ (MAX_MOVES_IN_ALL < total_moves p + moves))
@@ -127,11 +127,11 @@ IsFirstFaultIn v bytes (Opcode at) =
     (n i : ℕ) × (awaits : List Await) × (b : ℕ) × (rest : List ℕ) × ReachesOpcode v bytes n i awaits (b ∷ rest) × IsOffset bytes (b ∷ rest) at
     × (b ≢ 16) × ((s : Step) → IsTrue (has_opcode v s) → b ≢ opcode s)
 IsFirstFaultIn v bytes (AwaitAgent at) =
-    (n i : ℕ) × (awaits : List Await) × (at_agent : List ℕ) × (j : ℕ) × (rest : List ℕ) × ReachesAwait v bytes n i awaits at at_agent × HasNumber at_agent j rest
+    (n i : ℕ) × (awaits : List Await) × (at_agent : List ℕ) × (j : ℕ) × (rest : List ℕ) × ReachesAwait v bytes n i awaits at at_agent × BeginsWithNumber at_agent j rest
     × ((n ≤ j) ⊎ (j ≡ i))
 IsFirstFaultIn v bytes (AwaitOrder at) =
     (n : ℕ) × (awaits : List Await) × (j : ℕ) × (rest : List ℕ) × ReachesOrder v bytes n awaits at j rest × Any (λ w. j ≤ w.agent) awaits
-IsFirstFaultIn v bytes (AwaitCount at) = (at_count rest : List ℕ) × ReachesCount v bytes at at_count × HasCount v at_count 0 rest
+IsFirstFaultIn v bytes (AwaitCount at) = (at_count rest : List ℕ) × ReachesCount v bytes at at_count × BeginsWithCount v at_count 0 rest
 IsFirstFaultIn v bytes (Trailing at) =
     (p : Program) × (b : ℕ) × (rest : List ℕ) × ReachesAgent v bytes (length p) p (b ∷ rest) × IsOffset bytes (b ∷ rest) at
 

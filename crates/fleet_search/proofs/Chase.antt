@@ -9,12 +9,12 @@ use Rattle.fleet_model.specs.declared.geometry.Cell.{Cell}
 use Rattle.fleet_model.specs.Geometry.{place_of}
 use Rattle.fleet_plan.specs.Plan.{Plan, cell_at, cell_of}
 use Rattle.fleet_search.specs.Way.{FitTogether, Follow, StepFits}
-use Rattle.fleet_search.specs.Reserved.{IsOn, IsUnoccupied, LeadsBack}
+use Rattle.fleet_search.specs.Reserved.{StandsOn, IsUnoccupied, LeadsBack}
 use Rattle.fleet_search.proofs.Steps.{shortened, Follow-append}
 use Rattle.fleet_search.proofs.OneByOne.{one_by_one}
 
 -- one agent on a cell
-pub only_one : (plan : Plan) → FitTogether plan → (t : ℕ) (c : Cell) (i j : ℕ) → IsOn plan t c i → IsOn plan t c j → i ≡ j
+pub only_one : (plan : Plan) → FitTogether plan → (t : ℕ) (c : Cell) (i j : ℕ) → StandsOn plan t c i → StandsOn plan t c j → i ≡ j
 only_one plan fit t c i j a b = elim (cases_eq i j) [
   | inl e ↦ e
   | inr ne ↦ absurd ((one_by_one plan fit).vertex t i j a.agent b.agent (record { apart = ne; same = ap place_of (a.on ∙ sym b.on) }))
@@ -34,7 +34,7 @@ pub record IsChase (plan : Plan) (t : ℕ) (from to : Cell) (i : ℕ) (cell : Ce
   pub rest : (ks : List ℕ) → Follow plan t to ks from → (js : List ℕ) × Follow plan t cell js from × (length ks ≡ i + length js)
 
 module _ (plan : Plan) (fit : FitTogether plan) (t : ℕ) (from to : Cell) (i : ℕ) (cell : Cell) (ch : IsChase plan t from to i cell) where
-  pub chase-more : (a : ℕ) (entered : Cell) → IsOn plan t cell a → entered ≡ cell_of plan a (t + 1) → cell ≢ from → entered ≢ cell → IsChase plan t from to (i + 1) entered
+  pub chase-more : (a : ℕ) (entered : Cell) → StandsOn plan t cell a → entered ≡ cell_of plan a (t + 1) → cell ≢ from → entered ≢ cell → IsChase plan t from to (i + 1) entered
   chase-more a entered on e ne moved = record {
     led = (
       ch.led.0 ++ a ∷ [],
@@ -56,7 +56,7 @@ module _ (plan : Plan) (fit : FitTogether plan) (t : ℕ) (from to : Cell) (i : 
       go ([], g, l) = ne g
       go (j ∷ js, g, l) = free j g.0 g.1
 
-  pub chase-stays : (a : ℕ) → IsOn plan t cell a → cell_of plan a (t + 1) ≡ cell → cell ≢ from → LeadsBack plan t from to → ⊥
+  pub chase-stays : (a : ℕ) → StandsOn plan t cell a → cell_of plan a (t + 1) ≡ cell → cell ≢ from → LeadsBack plan t from to → ⊥
   chase-stays a on stays ne back = go (ch.rest back.0 back.1)
     where
       go : (js : List ℕ) × Follow plan t cell js from × (length back.0 ≡ i + length js) → ⊥
@@ -96,7 +96,7 @@ pub none_iff : {P : Type 0} → (P → ⊥) → IsTrue false ↔ P
 none_iff n = (λ h. cc, λ p. absurd (n p))
 
 -- to which cell an agent leaves this one
-pub goes_to : (paths plan : Plan) (a t : ℕ) (p : List Cell) (c d : Cell) → paths ≡ plan → IsOn plan t c a → p ≡ get_or paths a p → d ≡ cell_at p (t + 1) → d ≡ cell_of plan a (t + 1)
+pub goes_to : (paths plan : Plan) (a t : ℕ) (p : List Cell) (c d : Cell) → paths ≡ plan → StandsOn plan t c a → p ≡ get_or paths a p → d ≡ cell_at p (t + 1) → d ≡ cell_of plan a (t + 1)
 unfolding cell_of
 goes_to paths plan a t p c d e on g f = f ∙ ap (λ z. cell_at z (t + 1)) (get_or_read paths a p (subst (λ z. a < length z) (sym e) on.agent) g []) ∙ ap (λ z. cell_of z a (t + 1)) e
 

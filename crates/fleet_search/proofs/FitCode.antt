@@ -4,7 +4,7 @@ use Rattle.std.proofs.lemmas.Bool.{cases_lt}
 use Rattle.fleet_model.specs.declared.geometry.Cell.{Cell}
 use Rattle.fleet_plan.specs.Plan.{Plan, cell_at}
 use Rattle.fleet_search.specs.Way.{Fits, StepFits, arrival}
-use Rattle.fleet_search.specs.Reserved.{IsOn, IsUnoccupied, IsFreeFrom}
+use Rattle.fleet_search.specs.Reserved.{StandsOn, IsUnoccupied, IsFreeFrom}
 use Rattle.fleet_search.proofs.Steps.{each_step, from_each_step}
 use Rattle.fleet_search.proofs.Occupants.{cell_at-late}
 
@@ -39,7 +39,7 @@ up_to-all plan path n h b free =
       steps = λ t. elim (cases_lt t n) [ inl l ↦ h.steps t l | inr l ↦ late-step plan path n b free t l ];
     })
 
-pub misfit_first : (plan : Plan) (path : List Cell) (j : ℕ) → IsOn plan 0 (cell_at path 0) j → Fits plan path → ⊥
+pub misfit_first : (plan : Plan) (path : List Cell) (j : ℕ) → StandsOn plan 0 (cell_at path 0) j → Fits plan path → ⊥
 misfit_first plan path j on fits = (each_step plan path fits).first j on.agent on.on
 
 pub misfit_step : (plan : Plan) (path : List Cell) (t : ℕ) → (StepFits plan t (cell_at path t) (cell_at path (t + 1)) → ⊥) → Fits plan path → ⊥

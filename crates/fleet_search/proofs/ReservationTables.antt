@@ -9,7 +9,7 @@ use Rattle.fleet_model.specs.declared.limits.TheConstants.{MAX_HORIZON}
 use Rattle.fleet_plan.specs.Plan.{Plan, cell_at, cell_of}
 use Rattle.fleet_search.specs.declared.occupancy.Occupancy.{Occupancy}
 use Rattle.fleet_search.specs.Way.{Fits, with_path}
-use Rattle.fleet_search.specs.Reserved.{IsOn, IsUnoccupied, IsFreeFrom}
+use Rattle.fleet_search.specs.Reserved.{StandsOn, IsUnoccupied, IsFreeFrom}
 use Rattle.fleet_search.specs.Occupancies.{IsDuring, IsOccupancyOn, AreOccupanciesOn, AreInOrder, IsPutIn, no_occupancy, occupancy_at}
 use Rattle.fleet_search.proofs.Steps.{each_step, with_path-old, with_path-new, length-with_path}
 
@@ -45,12 +45,12 @@ module _ (plan : Plan) (c : Cell) (occupancies : List Occupancy) (h : AreOccupan
       let b = during-begun w.0 w.1 w.2 in
       omega arith
 
-  pub is_there : (occupancy : Occupancy) → occupancy ≡ occupancy_at occupancies (n - 1) → 0 < n → t ≤ occupancy.until → IsOn plan t c occupancy.agent
+  pub is_there : (occupancy : Occupancy) → occupancy ≡ occupancy_at occupancies (n - 1) → 0 < n → t ≤ occupancy.until → StandsOn plan t c occupancy.agent
   is_there occupancy e some l =
       let s = h.each (n - 1) (omega arith) in
       let by = point.0 (n - 1) no_occupancy (omega arith) (omega arith) in
       let u : occupancy.until ≡ (occupancy_at occupancies (n - 1)).until = ap (λ (s : Occupancy). s.until) e in
-      subst (λ (z : Occupancy). IsOn plan t c z.agent) (sym e) (record { agent = s.agent; on = s.on t (by, inl (omega arith)) })
+      subst (λ (z : Occupancy). StandsOn plan t c z.agent) (sym e) (record { agent = s.agent; on = s.on t (by, inl (omega arith)) })
 
   pub gone : (occupancy : Occupancy) → occupancy ≡ occupancy_at occupancies (n - 1) → 0 < n → occupancy.until < t → IsUnoccupied plan t c
   gone occupancy e some l j p on =
@@ -114,7 +114,7 @@ pub record AreOccupanciesTo (plan : Plan) (path : List Cell) (n : ℕ) (c : Cell
   pub each : (i : ℕ) → i < length occupancies → IsOccupancyOn (with_path plan path) c (occupancy_at occupancies i)
   pub apart : (i k : ℕ) → i < k → k < length occupancies → (occupancy_at occupancies i).until < (occupancy_at occupancies k).from
   pub past : (i : ℕ) → i < length occupancies → ((occupancy_at occupancies i).agent < length plan) ⊎ ((occupancy_at occupancies i).until < n)
-  pub all : (t j : ℕ) → IsOn (with_path plan path) t c j → (j < length plan) ⊎ (t < n) → (i : ℕ) × (i < length occupancies) × IsDuring (occupancy_at occupancies i) t
+  pub all : (t j : ℕ) → StandsOn (with_path plan path) t c j → (j < length plan) ⊎ (t < n) → (i : ℕ) × (i < length occupancies) × IsDuring (occupancy_at occupancies i) t
 
 pub AreInOrder-to : (plan : Plan) (path : List Cell) (n : ℕ) (c : Cell) (occupancies : List Occupancy) → AreOccupanciesTo plan path n c occupancies → AreInOrder occupancies
 AreInOrder-to plan path n c occupancies h = AreInOrder-apart occupancies (λ i l. (h.each i l).some_time) h.apart

@@ -22,7 +22,7 @@ use Rattle.fleet_search.specs.Intervals.{IsInInterval, IsEarliestWithin}
 use Rattle.fleet_search.specs.Links.{place_in}
 use Rattle.fleet_search.specs.Rows.{bucket_of, IsPut}
 use Rattle.fleet_search.specs.Labels.{Times, earliest_in, IsLabelSet, IsSeen}
-use Rattle.fleet_search.specs.Search.{heuristic_of, occupancies_on, IsMeasured, AreBeside, IsStep, least_arrival, IsBucket, IsGoalState, no_node, state_in, parent_in, IsKnown, IsMove, IsReachedFrom, IsSoundNode, IsCovered, IsExpanded, IsSuperseded, IsStateSettled, earliest_of, IsFrontier, IsPosed, IsFrontierOf, IsLeft, IsExpansion, Grows, ExpandsOn, IsFreeUntil, IsFoundAt, IsFoundIn, IsFoundFrom}
+use Rattle.fleet_search.specs.Search.{heuristic_of, occupancies_on, IsMeasured, AreBeside, IsStep, least_arrival, IsBucket, IsGoalState, no_node, state_in, parent_in, IsKnown, IsMove, IsReachedFrom, IsSoundNode, IsCovered, IsExpanded, IsSuperseded, IsStateSettled, earliest_of, IsFrontier, IsPosed, IsFrontierOf, WasOpen, IsExpansion, Grows, ExpandsOn, IsFreeUntil, IsFoundAt, IsFoundIn, IsFoundFrom}
 use Rattle.fleet_search.proofs.Spread.{AreNeighbours-sym, one_place}
 use Rattle.fleet_search.proofs.Chase.{step_ok-alone}
 use Rattle.fleet_search.proofs.IntervalLaws.{occupancies-apart, one_gap, interval-free_on, interval-since}
@@ -94,7 +94,7 @@ Grows-then a b c g h =
       same = λ e k. h.same (omega arith) k ∙ g.same (omega arith) k;
     }
 
-pub left-stays : (q : Query) (f : ℕ) (old new : Exploration) (place : ℕ) (m : State) → Grows old new → IsLeft q f old place m → IsLeft q f new place m
+pub left-stays : (q : Query) (f : ℕ) (old new : Exploration) (place : ℕ) (m : State) → Grows old new → WasOpen q f old place m → WasOpen q f new place m
 left-stays q f old new place m g l =
     let w = l.within in
     let x = g.more in
@@ -481,8 +481,8 @@ swept q f r labels open_list open_list' fr e same = record {
 pub taken-off : (q : Query) (f place : ℕ) (s t : Exploration) → IsFrontierOf q f None s → IsNodeTaken s t f place → IsFrontierOf q f (Some place) t
 taken-off q f place s t fr w = subst (IsFrontierOf q f (Some place)) (sym w.rest) (taken q f s.nodes (earliest_in s.labels) s.open_list t.open_list place fr w.last w.others)
 
-pub taken-left : (q : Query) (f place : ℕ) (s t : Exploration) → IsFrontierOf q f None s → IsNodeTaken s t f place → IsLeft q f t place (state_in t.nodes place)
-taken-left q f place s t fr w = subst (λ z. IsLeft q f z place (state_in z.nodes place)) (sym w.rest) (record {
+pub taken-left : (q : Query) (f place : ℕ) (s t : Exploration) → IsFrontierOf q f None s → IsNodeTaken s t f place → WasOpen q f t place (state_in t.nodes place)
+taken-left q f place s t fr w = subst (λ z. WasOpen q f z place (state_in z.nodes place)) (sym w.rest) (record {
   within = w.within;
   here = refl;
   bucket = taken-known q f s.nodes (earliest_in s.labels) s.open_list t.open_list place fr w.last w.others;

@@ -10,13 +10,13 @@ pub record AreSuccessive (occupancies : List Occupancy) : Type 0 where
   pub apart : (i k : ℕ) → i < k → k < length occupancies → (occupancy_at occupancies i).until < (occupancy_at occupancies k).from
 
 -- the occupancy is over at the time
-abbrev pub IsOver : Occupancy → ℕ → Type 0
-IsOver occupancy t = (occupancy.until < t) × (occupancy.until < FOREVER)
+abbrev pub HasPassed : Occupancy → ℕ → Type 0
+HasPassed occupancy t = (occupancy.until < t) × (occupancy.until < FOREVER)
 
 -- the time is in the safe interval of this number: so many occupancies are over, and the others are still to come
 pub record IsInInterval (occupancies : List Occupancy) (interval : ℕ) (t : ℕ) : Type 0 where
   pub bound : interval ≤ length occupancies
-  pub over : (i : ℕ) → i < interval → IsOver (occupancy_at occupancies i) t
+  pub over : (i : ℕ) → i < interval → HasPassed (occupancy_at occupancies i) t
   pub to_come : (i : ℕ) → interval ≤ i → i < length occupancies → t < (occupancy_at occupancies i).from
 
 -- so many occupancies begin at the time or before

@@ -10,7 +10,7 @@ use Rattle.fleet_search.specs.declared.occupancy.TheConstants.{FOREVER}
 use Rattle.fleet_search.specs.declared.reservation_table.ReservationTable.{ReservationTable}
 use Rattle.fleet_search.specs.Numbers.{number_in_rows, list_of}
 use Rattle.fleet_search.specs.Way.{FitTogether}
-use Rattle.fleet_search.specs.Reserved.{IsOn}
+use Rattle.fleet_search.specs.Reserved.{StandsOn}
 
 -- the occupancy that stands for those past the end of a list
 abbrev pub no_occupancy : Occupancy
@@ -35,7 +35,7 @@ pub record IsOccupancyOn (plan : Plan) (c : Cell) (occupancy : Occupancy) : Type
 pub record AreOccupanciesOn (plan : Plan) (c : Cell) (occupancies : List Occupancy) : Type 0 where
   pub each : (i : ℕ) → i < length occupancies → IsOccupancyOn plan c (occupancy_at occupancies i)
   pub apart : (i k : ℕ) → i < k → k < length occupancies → (occupancy_at occupancies i).until < (occupancy_at occupancies k).from
-  pub all : (t j : ℕ) → IsOn plan t c j → (i : ℕ) × (i < length occupancies) × IsDuring (occupancy_at occupancies i) t
+  pub all : (t j : ℕ) → StandsOn plan t c j → (i : ℕ) × (i < length occupancies) × IsDuring (occupancy_at occupancies i) t
 
 -- ---- reservation tables
 

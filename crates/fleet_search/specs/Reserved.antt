@@ -5,7 +5,7 @@ use Rattle.fleet_plan.specs.Plan.{Plan, cell_of}
 use Rattle.fleet_search.specs.Way.{Follow}
 
 -- agent j stands on the cell at the time
-pub record IsOn (plan : Plan) (t : ℕ) (c : Cell) (j : ℕ) : Type 0 where
+pub record StandsOn (plan : Plan) (t : ℕ) (c : Cell) (j : ℕ) : Type 0 where
   pub agent : j < length plan
   pub on : cell_of plan j t ≡ c
 

@@ -143,7 +143,7 @@ abbrev pub IsFreeUntil : Query → State → ℕ → Type 0
 IsFreeUntil q m until = ((t : ℕ) → m.time ≤ t → t < until → IsUnoccupied q.reserved.now t m.cell) × ((t : ℕ) → t < 4294967295 → IsFreeOn q.reserved.now m.cell m.time t → t < until)
 
 -- the state that is expanded was reached, and waited in this bucket
-pub record IsLeft (q : Query) (f : ℕ) (s : Exploration) (place : ℕ) (m : State) : Type 0 where
+pub record WasOpen (q : Query) (f : ℕ) (s : Exploration) (place : ℕ) (m : State) : Type 0 where
   pub within : place < length s.nodes
   pub here : state_in s.nodes place ≡ m
   pub bucket : IsBucket q m f
@@ -152,7 +152,7 @@ pub record IsLeft (q : Query) (f : ℕ) (s : Exploration) (place : ℕ) (m : Sta
 pub record IsExpansion (q : Query) (f : ℕ) (l : Expansion) (s : Exploration) : Type 0 where
   pub horizon : q.horizon ≤ MAX_HORIZON
   pub frontier : IsFrontierOf q (f - 1) (Some l.place) s
-  pub left : IsLeft q f s l.place l.state
+  pub left : WasOpen q f s l.place l.state
   pub until : IsFreeUntil q l.state l.until
 
 -- each state that was reached stays so; if no new one was reached, no new one is open
@@ -188,7 +188,7 @@ IsFoundFrom q nodes left c = (u : ℕ) → IsMove q left u c → u + 1 + heurist
 -- may come to rest at it; or a new state was reached; or no state is left in the bucket
 abbrev pub HasEnded : Query → ℕ → Exploration → Exploration → BucketEnd → Type 0
 HasEnded q f old new (BucketEnd.Goal place) =
-    IsFrontierOf q f (Some place) new × IsLeft q f new place (state_in new.nodes place) × IsGoalState q (state_in new.nodes place)
+    IsFrontierOf q f (Some place) new × WasOpen q f new place (state_in new.nodes place) × IsGoalState q (state_in new.nodes place)
 HasEnded q f old new BucketEnd.Grew = (length old.nodes < length new.nodes) × IsFrontierOf q (f - 1) None new
 HasEnded q f old new BucketEnd.Empty = (length new.nodes ≡ length old.nodes) × IsFrontierOf q (f + 1) None new
 

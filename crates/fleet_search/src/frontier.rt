@@ -14,7 +14,7 @@ ghost use Rattle.fleet_search.specs.Intervals.{IsInInterval};
 ghost use Rattle.fleet_search.specs.Labels.{earliest_in, IsSeen};
 ghost use Rattle.fleet_search.specs.Rows.{bucket_of};
 ghost use Rattle.fleet_search.specs.Frontier.{IsAdded, IsNodeTaken, IsBucketDone};
-ghost use Rattle.fleet_search.specs.Search.{heuristic_of, no_node, occupancies_on, IsMeasured, IsGoalState, IsBucket, IsLeft, IsExpansion, ExpandsOn, IsFrontierOf, Grows, IsPosed, IsSearched, IsTrailOf, IsFreeUntil, IsFoundAt, IsFoundIn, IsFoundFrom, IsNeighbour, HasEnded, IsSuperseded};
+ghost use Rattle.fleet_search.specs.Search.{heuristic_of, no_node, occupancies_on, IsMeasured, IsGoalState, IsBucket, WasOpen, IsExpansion, ExpandsOn, IsFrontierOf, Grows, IsPosed, IsSearched, IsTrailOf, IsFreeUntil, IsFoundAt, IsFoundIn, IsFoundFrom, IsNeighbour, HasEnded, IsSuperseded};
 
 use crate::arrivals::Arrivals;
 use crate::distances::Distances;
@@ -389,7 +389,7 @@ impl Frontier {
         interval: usize,
     ) -> bool
         requires frontier { IsFrontierOf query.now (bucket - 1) (Some place) self.now }
-        requires left { IsLeft query.now bucket self.now place state }
+        requires left { WasOpen query.now bucket self.now place state }
         requires inside { IsInInterval (occupancies_on query.now state.cell) interval state.time }
         ensures { IsTrue result ↔ IsSuperseded query.now self.now.nodes state }
     {
@@ -410,7 +410,7 @@ impl Frontier {
     ) -> Result<(), OutOfMemory>
         requires horizon { query.now.horizon ≤ MAX_HORIZON }
         requires frontier { IsFrontierOf query.now (bucket - 1) (Some place) self.old }
-        requires left { IsLeft query.now bucket self.old place state }
+        requires left { WasOpen query.now bucket self.old place state }
         requires not_end { IsGoalState query.now state → ⊥ }
         ensures frontier { OnOk result (IsFrontierOf query.now (bucket - 1) None self.new) }
         ensures grows { OnOk result (Grows self.old self.new) }

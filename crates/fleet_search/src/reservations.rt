@@ -4,7 +4,7 @@ ghost use Rattle.std.specs.Prelude.{◌≡◌, ◌<◌, ◌≤◌, ◌↔◌, �
 ghost use Rattle.fleet_model.specs.declared.geometry.Cell.{Cell};
 ghost use Rattle.fleet_search.specs.Way.{Fits, StepFits};
 ghost use Rattle.fleet_search.specs.Occupancies.{HaveOccupancies};
-ghost use Rattle.fleet_search.specs.Reserved.{IsOn, IsUnoccupied, IsFreeFrom, LeadsBack};
+ghost use Rattle.fleet_search.specs.Reserved.{StandsOn, IsUnoccupied, IsFreeFrom, LeadsBack};
 
 use crate::occupancy::{FOREVER, count_begun};
 use crate::reservation_table::ReservationTable;
@@ -63,7 +63,7 @@ impl Reservations {
 
     /// An agent that stands on the cell at the time, if one does.
     pub fn occupant(&self, time: u32, cell: Cell) -> Option<usize>
-        ensures some { IfSome result (IsOn self.now time cell) }
+        ensures some { IfSome result (StandsOn self.now time cell) }
         ensures none { IfNone result (IsUnoccupied self.now time cell) }
     {
         let occupancies = self.table().occupancies(cell);

@@ -4,7 +4,7 @@ use Rattle.fleet_search.specs.declared.frontier.Node.{Node}
 use Rattle.fleet_search.specs.Frontier.{Exploration}
 use Rattle.fleet_search.specs.Labels.{earliest_in}
 use Rattle.fleet_search.specs.Rows.{bucket_of}
-use Rattle.fleet_search.specs.Search.{IsGoalState, IsLeft}
+use Rattle.fleet_search.specs.Search.{IsGoalState, WasOpen}
 use Rattle.fleet_search.proofs.SearchSteps.{taken-off, taken-left, swept-off, frontier_of_lower_bucket, frontier_of_higher_bucket}
 use Rattle.fleet_search.proofs.frontier.Frontier.expand_bucket.Goals as goal
 
@@ -22,7 +22,7 @@ expand-requires-clause-frontier c =
 
 pub expand-requires-clause-left : goal.expand-requires-clause-left
 expand-requires-clause-left c =
-    subst (λ (z : Node). IsLeft c.args.query.now c.args.bucket c.take.new.self c.in-Some.place z.state) (sym c.node.ensures) (taken-left c.args.query.now c.args.bucket c.in-Some.place c.loop-place.self c.take.new.self c.loop-place.invariant.0 c.in-Some.ensures.some)
+    subst (λ (z : Node). WasOpen c.args.query.now c.args.bucket c.take.new.self c.in-Some.place z.state) (sym c.node.ensures) (taken-left c.args.query.now c.args.bucket c.in-Some.place c.loop-place.self c.take.new.self c.loop-place.invariant.0 c.in-Some.ensures.some)
 
 pub returns-then-is_goal : goal.returns-then-is_goal
 returns-then-is_goal c =

@@ -1,7 +1,7 @@
 use Rattle.std.proofs.Common.{◌≡◌, ◌≤◌, refl, sym, subst, arith}
 use Rattle.fleet_plan.specs.Plan.{cell_at}
 use Rattle.fleet_search.specs.Way.{StepFits, arrival}
-use Rattle.fleet_search.specs.Reserved.{IsOn, IsFreeFrom}
+use Rattle.fleet_search.specs.Reserved.{StandsOn, IsFreeFrom}
 use Rattle.fleet_search.proofs.Occupants.{no_from_false, yes_from_true}
 use Rattle.fleet_search.proofs.Chase.{none_iff, of_some}
 use Rattle.fleet_search.proofs.FitCode.{misfit_first, misfit_step, fits-rest, up_to-all}
@@ -18,7 +18,7 @@ returns-then-not-is_free_from c =
 pub returns-then-is_some : goal.returns-then-is_some
 returns-then-is_some c =
     let w = of_some c.occupant.result c.is_some.result c.is_some.ensures c.if-is_some.true c.occupant.ensures.some in
-    none_iff (misfit_first c.args.self.now c.args.path.now w.0 (subst (λ z. IsOn c.args.self.now 0 z w.0) c.cell-2.ensures w.1))
+    none_iff (misfit_first c.args.self.now c.args.path.now w.0 (subst (λ z. StandsOn c.args.self.now 0 z w.0) c.cell-2.ensures w.1))
 
 pub returns-then-not-step_fits : goal.returns-then-not-step_fits
 returns-then-not-step_fits c =

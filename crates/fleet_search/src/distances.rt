@@ -183,7 +183,8 @@ impl<'g> Distances<'g> {
         ensures { result ≡ label_in self.now.grid self.now.labels self.now.search cell }
     {
         let label = self.label_at(self.place(cell));
-        if label.search == self.search {
+        let is_current = label.search == self.search;
+        if is_current {
             Some(label.distance)
         } else {
             None

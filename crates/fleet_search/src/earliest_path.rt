@@ -25,7 +25,9 @@ fn search(frontier: &mut Frontier, query: &Query) -> Result<Path, SearchFault>
         → IsInfeasible (is_passable query.now.grid.now) query.now.reserved.now
         query.now.start query.now.goal query.now.horizon) }
 {
-    if query.heuristic(query.start) > query.horizon {
+    let heuristic = query.heuristic(query.start);
+    let is_too_far = heuristic > query.horizon;
+    if is_too_far {
         return Err(SearchFault::NoPath);
     }
     frontier.begin(query)?;
@@ -63,7 +65,8 @@ fn open_from(
         return None;
     }
     let from = reserved.free_from(goal)?;
-    if from <= u32::from(horizon) {
+    let is_in_time = from <= u32::from(horizon);
+    if is_in_time {
         Some(from)
     } else {
         None

@@ -84,7 +84,8 @@ impl Query<'_> {
         ensures { IsTrue result ↔ StepFits self.now.reserved.now begin left.state.cell cell }
     {
         // At the end of the step nobody is on the cell that it leaves.
-        if begin + 1 < left.until {
+        let is_free_on = begin + 1 < left.until;
+        if is_free_on {
             return true;
         }
         self.reserved.step_fits(begin, left.state.cell, cell)
@@ -393,7 +394,8 @@ impl Frontier {
         requires inside { IsInInterval (occupancies_on query.now state.cell) interval state.time }
         ensures { IsTrue result ↔ IsSuperseded query.now self.now.nodes state }
     {
-        if state.time == 0 {
+        let is_start = state.time == 0;
+        if is_start {
             return false;
         }
         let number = query.grid.cell_index(state.cell);
@@ -445,7 +447,8 @@ impl Frontier {
                 return Ok(BucketEnd::Goal(place));
             }
             self.expand(query, bucket, place, state)?;
-            if self.len() > before {
+            let has_grown = self.len() > before;
+            if has_grown {
                 return Ok(BucketEnd::Grew);
             }
         }
@@ -485,7 +488,8 @@ impl Frontier {
         for back in 0..end.time {
             let node = self.node(visit);
             // Until the time of a node the agent waits on the cell of its parent.
-            if node.state.time == end.time - back {
+            let is_moving = node.state.time == end.time - back;
+            if is_moving {
                 visit = node.parent.place();
             }
             cells.push(self.node(visit).state.cell)?;

@@ -169,7 +169,8 @@ impl Labels {
         ensures labels { AreLabels self.new }
         ensures none { (cell : ℕ) (interval : ℕ) → earliest_in self.new cell interval ≡ None }
     {
-        if self.search == u16::MAX {
+        let is_last = self.search == u16::MAX;
+        if is_last {
             *self = Labels::new(self.alloc);
         }
         self.search += 1;

@@ -97,7 +97,8 @@ fn renew_path(
         (IsPathAdded problem.now agent problem.now.horizon reserved.old reserved.new true) }
 {
     let steps = old.steps();
-    if steps > 0 {
+    let has_steps = steps > 0;
+    if has_steps {
         if add_path(problem, agent, (steps - 1) as u16, reserved, tables)? {
             return Ok(());
         }

@@ -41,7 +41,8 @@ impl ReservationTable {
         ensures { result.now ≡ occupancies_of self.now cell }
     {
         let number = number_at(self.numbers.as_slice(), cell);
-        if number == 0 {
+        let has_none = number == 0;
+        if has_none {
             return &[];
         }
         self.lists[number as usize - 1].as_slice()

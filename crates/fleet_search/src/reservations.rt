@@ -68,7 +68,8 @@ impl Reservations {
     {
         let occupancies = self.table().occupancies(cell);
         let count = count_begun(occupancies, time);
-        if count == 0 {
+        let is_before_all = count == 0;
+        if is_before_all {
             return None;
         }
         let occupancy = occupancies[count - 1];
@@ -149,7 +150,8 @@ impl Reservations {
         match self.table().occupancies(cell).last() {
             None => Some(0),
             Some(occupancy) => {
-                if occupancy.until == FOREVER {
+                let is_forever = occupancy.until == FOREVER;
+                if is_forever {
                     None
                 } else {
                     Some(occupancy.until + 1)

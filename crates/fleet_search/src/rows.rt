@@ -34,7 +34,8 @@ pub fn take_from_row(rows: &mut Vec<Vec<u32>>, key: u32) -> Option<u32>
     ensures kept { IfNone result (bucket_in rows.old.items key ≡ []) }
 {
     let key = key as usize;
-    if key >= rows.len() {
+    let is_past = key >= rows.len();
+    if is_past {
         return None;
     }
     rows[key].pop()

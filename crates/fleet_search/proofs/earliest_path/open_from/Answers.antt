@@ -24,7 +24,7 @@ pub returns-in_err-from-clause-none : goal.returns-in_err-from-clause-none
 returns-in_err-from-clause-none c = rw c.from_residual.ensures (λ path w h.
     c.in_err-from.ensures.none (arrival path) (no-way-busy (is_passable c.args.grid.now) c.args.reserved.now c.args.start c.args.goal path w))
 
-pub returns-else-from-clause-none : goal.returns-else-from-clause-none
-returns-else-from-clause-none c = λ path w h.
+pub returns-else-is_in_time-clause-none : goal.returns-else-is_in_time-clause-none
+returns-else-is_in_time-clause-none c = λ path w h.
     let late : c.in_ok-from.from ≤ arrival path = (c.in_ok-from.ensures.some (arrival path)).0 (no-way-busy (is_passable c.args.grid.now) c.args.reserved.now c.args.start c.args.goal path w) in
     absurd (omega arith)

@@ -7,7 +7,7 @@ use Rattle.fleet_search.specs.Way.{arrival}
 use Rattle.fleet_search.specs.Earliest.{IsInfeasible}
 use Rattle.fleet_search.proofs.KeptPaths.{earliest-again, earliest-later}
 use Rattle.fleet_search.proofs.orders.renew_path.Goals as goal
-use Rattle.fleet_search.proofs.orders.renew_path.Goals.{then-steps-gt0+in_ok-add_path+else-branch, else-steps-gt0}
+use Rattle.fleet_search.proofs.orders.renew_path.Goals.{then-has_steps+in_ok-add_path+else-branch, else-has_steps}
 
 pub returns-then-branch-clause-added : goal.returns-then-branch-clause-added
 returns-then-branch-clause-added c =
@@ -26,9 +26,9 @@ returns-clause-added c =
     let plan = c.args.reserved.now in
     let old = c.args.old.now in
     let sooner = c.steps-steps.result - 1 in
-    let none : (c.if-steps-gt0.reserved ≡ plan) × ((task : Task) → slice_get tasks c.args.agent ≡ Some task → 1 ≤ arrival old → IsInfeasible passable plan task.start task.goal sooner) = elim c.if-steps-gt0.branch [
-      | then-steps-gt0+in_ok-add_path+else-branch w ↦ let added = rw w.if-branch.false at w.in_ok-add_path.ensures.added in (w.reserved-is ∙ added.0, λ task t some. added.1 task t)
-      | else-steps-gt0 w ↦ (w.reserved-is, λ task t some. absurd (let e = c.steps-steps.ensures.time in let n = w.if-steps-gt0 in omega arith))
+    let none : (c.if-has_steps.reserved ≡ plan) × ((task : Task) → slice_get tasks c.args.agent ≡ Some task → 1 ≤ arrival old → IsInfeasible passable plan task.start task.goal sooner) = elim c.if-has_steps.branch [
+      | then-has_steps+in_ok-add_path+else-branch w ↦ let added = rw w.if-branch.false at w.in_ok-add_path.ensures.added in (w.reserved-is ∙ added.0, λ task t some. added.1 task t)
+      | else-has_steps w ↦ (w.reserved-is, λ task t some. absurd (let e = c.steps-steps.ensures.time in let n = w.if-has_steps in omega arith))
     ] in
     on_ok_weaker c.reserve.result
     (λ added. (

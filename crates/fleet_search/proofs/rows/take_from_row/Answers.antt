@@ -2,11 +2,11 @@ use Rattle.std.proofs.Common.{◌∙◌, arith}
 use Rattle.fleet_search.proofs.RowLaws.{no_numbers, row-past, row-read, row-set, row-other, is_taken, none_is_taken}
 use Rattle.fleet_search.proofs.rows.take_from_row.Goals as goal
 
-pub returns-then-key-len-clause-none : goal.returns-then-key-len-clause-none
-returns-then-key-len-clause-none c = row-past c.args.rows.now.items c.args.key (omega arith)
+pub returns-then-is_past-clause-none : goal.returns-then-is_past-clause-none
+returns-then-is_past-clause-none c = row-past c.args.rows.now.items c.args.key (omega arith)
 
-pub returns-then-key-len-clause-kept : goal.returns-then-key-len-clause-kept
-returns-then-key-len-clause-kept c = row-past c.args.rows.now.items c.args.key (omega arith)
+pub returns-then-is_past-clause-kept : goal.returns-then-is_past-clause-kept
+returns-then-is_past-clause-kept c = row-past c.args.rows.now.items c.args.key (omega arith)
 
 pub returns-clause-none : goal.returns-clause-none
 returns-clause-none c = none_is_taken c.pop.result _ _ _ c.pop.ensures.cases (λ e. row-set c.args.rows.now.items c.args.key c.pop.new.self (omega arith) ∙ no_numbers c.pop.new.self.items (omega (arith, e.1)))

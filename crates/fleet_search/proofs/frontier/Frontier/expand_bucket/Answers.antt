@@ -32,8 +32,8 @@ returns-then-is_goal c =
     let end = subst (λ (z : Node). IsGoalState q z.state) c.node.ensures (c.is_goal.ensures.0 c.if-is_goal.true) in
     (taken-off q c.args.bucket c.in-Some.place s t c.loop-place.invariant.0 c.in-Some.ensures.some, taken-left q c.args.bucket c.in-Some.place s t c.loop-place.invariant.0 c.in-Some.ensures.some, end)
 
-pub returns-then-len-before : goal.returns-then-len-before
-returns-then-len-before c =
+pub returns-then-has_grown : goal.returns-then-has_grown
+returns-then-has_grown c =
     let long = c.loop-place.invariant.1 in
     (omega (arith, c.len.ensures, c.len-before.ensures), c.in_ok-expand.ensures.frontier)
 

@@ -22,8 +22,8 @@ cell_index-number-requires-clause-row c =
     let left = c.requires.left in
     (subst (λ (z : State). (z.cell.y < q.grid.now.height)) left.here (on_map q.grid.now _ fr.measured.heuristic.ready.map (fr.sound c.args.place left.within).on_ground).1)
 
-pub returns-then-state-eq0 : goal.returns-then-state-eq0
-returns-then-state-eq0 c = none_iff (λ s. absurd (let sooner = s.sooner in omega arith))
+pub returns-then-is_start : goal.returns-then-is_start
+returns-then-is_start c = none_iff (λ s. absurd (let sooner = s.sooner in omega arith))
 
 pub returns : goal.returns
 returns c =

@@ -87,7 +87,8 @@ fn look_at_next<P: ProgramView>(program: &P, needed: &mut [u32], looked: &mut [u
     for j in 0..program.agents() {
         let i = j as usize;
         let seen = looked[i];
-        if seen < needed[i] {
+        let is_unseen = seen < needed[i];
+        if is_unseen {
             raise(program, j, seen + 1, needed);
             looked[i] = seen + 1;
             some = true;

@@ -109,7 +109,8 @@ fn least_on_ring<P: ProgramView>(program: &P, counts: &[u32], wants: &[Await]) -
     ensures { IsLeastBack (P.program program.now) counts.now wants.now result }
 {
     for i in 0..program.agents() {
-        if counts[i as usize] < program.moves(i) && leads_back(program, counts, wants, i) {
+        let is_blocked = counts[i as usize] < program.moves(i);
+        if is_blocked && leads_back(program, counts, wants, i) {
             return i;
         }
     }
@@ -126,7 +127,8 @@ fn leads_back<P: ProgramView>(program: &P, counts: &[u32], wants: &[Await], i: u
     let mut agent = i;
     for _steps in 0..program.agents() {
         agent = wants[agent as usize].agent;
-        if agent == i {
+        let is_back = agent == i;
+        if is_back {
             return true;
         }
     }
@@ -155,7 +157,8 @@ fn ring_from<P: ProgramView>(
         prove!(next < agents);
         push_down(&mut trail, next, counts[next as usize], count)?;
         agent = next;
-        if agent == first {
+        let is_back = agent == first;
+        if is_back {
             trail.reverse();
             return Ok(trail);
         }

@@ -10,16 +10,16 @@ loop-steps-preserved g c =
     record {
       blocked = blocked_next (g.P.ProgramView.program c.args.program.now) c.args.counts.now c.args.wants.now c.requires.ranges c.requires.wants c.loop-steps.agent c.loop-steps.invariant.blocked;
       agent = on;
-      apart = steps_more (next_of c.args.wants.now) c.loop-steps._steps c.args.i c.loop-steps.invariant.apart (λ e. c.if-agent-i.false (on ∙ e));
+      apart = steps_more (next_of c.args.wants.now) c.loop-steps._steps c.args.i c.loop-steps.invariant.apart (λ e. c.if-is_back.false (on ∙ e));
     }
 
-pub returns-then-agent-i : goal.returns-then-agent-i
-returns-then-agent-i g c = (
+pub returns-then-is_back : goal.returns-then-is_back
+returns-then-is_back g c = (
   (λ h. (
     c.loop-steps._steps + 1,
     omega arith,
     omega (arith, c.agents-steps-end.ensures.count),
-    sym (nth_more (next_of c.args.wants.now) c.loop-steps._steps c.args.i c.loop-steps.agent c.loop-steps.invariant.agent) ∙ c.if-agent-i.true,
+    sym (nth_more (next_of c.args.wants.now) c.loop-steps._steps c.args.i c.loop-steps.agent c.loop-steps.invariant.agent) ∙ c.if-is_back.true,
   )),
   (λ h. refl),
 )

@@ -8,8 +8,8 @@ pub prove-unreachable-requires : goal.prove-unreachable-requires
 prove-unreachable-requires g c =
     omega (arith, (blocked_next (g.P.ProgramView.program c.args.program.now) c.args.counts.now c.args.wants.now c.requires.ranges c.requires.wants c.loop-steps.agent c.loop-steps.invariant.blocked).agent, c.agents-agents.ensures.count)
 
-pub returns-then-agent-first : goal.returns-then-agent-first
-returns-then-agent-first g c =
+pub returns-then-is_back : goal.returns-then-is_back
+returns-then-is_back g c =
     let p = g.P.ProgramView.program c.args.program.now in
     let counts = c.args.counts.now in
     let wants = c.args.wants.now in
@@ -18,7 +18,7 @@ returns-then-agent-first g c =
     let trail : List ActionId = c.loop-steps.trail.items ++ down_from (next_of wants i) (want_at wants i).count ((want_at wants i).count - slice_index counts (next_of wants i)) in
     let on : IsWaitTrail counts wants c.args.first (next_of wants i) trail = trail_on p counts wants c.requires.ranges c.requires.wants c.args.first i c.loop-steps.trail.items c.loop-steps.invariant.trail c.loop-steps.invariant.not_back b in
     rw (c.reverse.ensures.items, c.in_ok-push_down.ensures)
-    (told p counts wants c.requires.ranges c.requires.wants c.args.first trail c.requires.first (subst (λ (j : ℕ). IsWaitTrail counts wants c.args.first j trail) c.if-agent-first.true on)
+    (told p counts wants c.requires.ranges c.requires.wants c.args.first trail c.requires.first (subst (λ (j : ℕ). IsWaitTrail counts wants c.args.first j trail) c.if-is_back.true on)
     (some_on p counts wants c.requires.ranges c.requires.wants i c.loop-steps.trail.items b))
 
 pub loop-steps-preserved : goal.loop-steps-preserved
@@ -32,9 +32,9 @@ loop-steps-preserved g c =
     record {
       blocked = blocked_next p counts wants c.requires.ranges c.requires.wants i b;
       agent = e;
-      apart = steps_more (next_of wants) c.loop-steps._steps c.args.first c.loop-steps.invariant.apart (λ f. c.if-agent-first.false (e ∙ f));
+      apart = steps_more (next_of wants) c.loop-steps._steps c.args.first c.loop-steps.invariant.apart (λ f. c.if-is_back.false (e ∙ f));
       trail = rw c.in_ok-push_down.ensures (trail_on p counts wants c.requires.ranges c.requires.wants c.args.first i c.loop-steps.trail.items c.loop-steps.invariant.trail c.loop-steps.invariant.not_back b);
-      not_back = λ n f. c.if-agent-first.false f;
+      not_back = λ n f. c.if-is_back.false f;
     }
 
 pub unreachable-requires : goal.unreachable-requires

@@ -12,7 +12,7 @@ WAREHOUSE = examples/warehouse.map examples/warehouse.scen
 # No rules but these: make would link a program anew of which an object file stands beside it.
 MAKEFLAGS += --no-builtin-rules
 
-.PHONY: help test examples edits demo picture definitions install
+.PHONY: help test examples edits neutral demo picture definitions install
 
 help:
 	@echo 'make demo                  builds the program (the first time a quarter of an hour) and shows it on examples'
@@ -21,6 +21,7 @@ help:
 	@echo 'make examples              runs the program on every example of the documents, on transcripts and tables, and on files and streams at their limits'
 	@echo 'make examples FLEET=PATH   the same of another program'
 	@echo 'make edits                 tries more edits that must fail, those of tests/edits, which would cost the gate too much'
+	@echo 'make neutral              tries changes that mean nothing, those of tests/neutral, which the prover has to take'
 	@echo 'make picture               draws the film and the chart of the README anew, docs/warehouse.svg and docs/waits.svg'
 	@echo 'make definitions           writes docs/DEFINITIONS.md anew, from the comments in crates/*/specs'
 
@@ -40,6 +41,9 @@ examples: $(FLEET)
 
 edits:
 	@sh tests/edits.sh
+
+neutral:
+	@sh tests/neutral.sh
 
 demo: $(FLEET)
 	@echo '100 agents in a warehouse, where nobody stops on the way (examples/warehouse.map, .scen):'

@@ -64,8 +64,9 @@ while read -r _ names; do
 done < "$work/want.out" > "$work/out"
 judge 'docs/PROVED.md has the lines of definitions: tools/believed.sh' 'table of docs/PROVED.md against crates/*/specs' 0
 
-# The text that an edit changes stands once in its file: of the edits of the gate, and of those of `make edits`.
-for edit in "$root"/crates/*/must-fail/*.edit "$root"/tests/edits/*/*.edit; do
+# The text that an edit changes stands once in its file: of the edits of the gate, and of those of `make edits` and of
+# `make neutral`.
+for edit in "$root"/crates/*/must-fail/*.edit "$root"/tests/edits/*/*.edit "$root"/tests/neutral/*/*.edit; do
     crate=${edit%/*}
     awk -v at="$root/crates/$(basename "${crate%/must-fail}")" '
         sub(/^file: /, "") { path = at "/" $0 }
@@ -80,4 +81,4 @@ for edit in "$root"/crates/*/must-fail/*.edit "$root"/tests/edits/*/*.edit; do
         }' "$edit"
 done > "$work/out"
 : > "$work/want.out"
-judge 'each edit changes a text that stands once' 'edits of crates/*/must-fail and of tests/edits' 0
+judge 'each edit changes a text that stands once' 'edits of crates/*/must-fail, tests/edits and tests/neutral' 0

@@ -79,19 +79,6 @@ pub moves_by-le : (plan : Plan) (i t : ℕ) → moves_by plan i t ≤ t
 moves_by-le plan i zero = omega (arith, moves_by-zero plan i)
 moves_by-le plan i (suc t) = omega (arith, moves_by-le plan i t, moves_by-step plan i t)
 
--- while no move is made the agent stays on its cell
-pub same_cell-while : (plan : Plan) (i s t : ℕ) → s ≤ t → moves_by plan i s ≡ moves_by plan i t → cell_of plan i s ≡ cell_of plan i t
-same_cell-while plan i s zero h e = let z : s ≡ zero = omega arith in ap (cell_of plan i) z
-same_cell-while plan i s (suc t) h e =
-    let before = λ (l : s ≤ t) (q : moves_by plan i s ≡ moves_by plan i t). same_cell-while plan i s t l q in
-    elim (cases_lt t s) [
-      | inl l ↦ let z : s ≡ suc t = omega arith in ap (cell_of plan i) z
-      | inr l ↦ elim (cases_Bool (changes_in plan i t)) [
-        | inl c ↦ absurd (omega (arith, moves_by-yes plan i t c, moves_by-mono plan i s t l))
-        | inr c ↦ before l (e ∙ moves_by-no plan i t c) ∙ changes_in-same plan i t c
-      ]
-    ]
-
 -- the step of each move
 pub record IsMoveAt (plan : Plan) (i t n x : ℕ) : Type 0 where
   pub before : x < t

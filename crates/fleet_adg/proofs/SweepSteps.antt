@@ -176,11 +176,6 @@ row_short plan deps x i actions row e b is =
 
 -- ---- actions added
 
-pub row_stays : (plan : Plan) (deps : Deps) (x : ℕ) (agents : List ℕ) (k i : ℕ) (start rows : List (List Action)) → k < length agents → i ≡ get_or agents k i → changes_in plan i x ≡ false → rows ≡ fold (add_by plan deps x) start (take k agents) → rows ≡ fold (add_by plan deps x) start (take (k + 1) agents)
-row_stays plan deps x agents k i start rows b e c h =
-    let f = add_by plan deps x in
-    h ∙ sym (add_by-stays plan deps x (fold f start (take k agents)) i c) ∙ ap (f (fold f start (take k agents))) e ∙ sym (fold_more f start agents k i b)
-
 pub row_grows : (plan : Plan) (deps : Deps) (x : ℕ) (agents : List ℕ) (k i : ℕ) (start rows : List (List Action)) (row : List Action) (a : Action) → k < length agents → i ≡ get_or agents k i → changes_in plan i x ≡ true → i < length rows → row ≡ get_or rows i row → a ≡ action_in plan deps i x → rows ≡ fold (add_by plan deps x) start (take k agents) → set rows i (row ++ a ∷ []) ≡ fold (add_by plan deps x) start (take (k + 1) agents)
 row_grows plan deps x agents k i start rows row a b e c within is this h =
     let f = add_by plan deps x in

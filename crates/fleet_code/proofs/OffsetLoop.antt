@@ -32,9 +32,6 @@ action_length v turns whole n i least bytes x fits e = ap length (action_takes v
 pub record EndsGoOn (v : Version) (whole n i count k : ℕ) (bytes : List ℕ) (known : List ℕ) (at : ℕ) (due : Field (List ℕ)) : Type 0 where
   pub gives : with_ends known at (actions_at v (count - k) whole n i bytes) ≡ due
 
-pub ends_begin : (v : Version) (whole n i count : ℕ) (bytes known : List ℕ) (at : ℕ) → EndsGoOn v whole n i count 0 bytes known at (with_ends known at (actions_at v count whole n i bytes))
-ends_begin v whole n i count bytes known at = record { gives = rw sub-zero refl }
-
 one_end : (known : List ℕ) (at : ℕ) (a : Action) (read : Field (List Action)) → with_ends known at (read >>= λ x. Ok (a ∷ x.0, x.1)) ≡ with_ends (known ++ (at + opcodes a) ∷ []) (at + opcodes a) read
 one_end known at a (Ok x) = ap (λ (ends : List ℕ). Ok (ends, x.1)) (sym (append_assoc known ((at + opcodes a) ∷ []) (ends_of (at + opcodes a) x.0)))
 one_end known at a (Err f) = refl
@@ -85,9 +82,6 @@ ends_failed known at (Err g) f e = cc
 -- parts that are known
 pub record PartsGoOn (v : Version) (whole n i moves : ℕ) (bytes : List ℕ) (known : List PartOffsets) (at : ℕ) (due : Field (List PartOffsets)) : Type 0 where
   pub gives : with_parts v known at (agents_at v (n - i) whole n i moves bytes) ≡ due
-
-pub parts_begin : (v : Version) (whole n : ℕ) (bytes : List ℕ) (at : ℕ) → PartsGoOn v whole n 0 0 bytes [] at (with_parts v [] at (agents_at v n whole n 0 0 bytes))
-parts_begin v whole n bytes at = record { gives = rw sub-zero refl }
 
 one_part : (v : Version) (known : List PartOffsets) (at : ℕ) (a : AgentProgram) (read : Field Program) → with_parts v known at (read >>= λ x. Ok (a ∷ x.0, x.1)) ≡ with_parts v (known ++ part_of v at a ∷ []) (at + length (agent v a)) read
 one_part v known at a (Ok x) = ap (λ (parts : List PartOffsets). Ok (parts, x.1)) (sym (append_assoc known (part_of v at a ∷ []) (parts_of v (at + length (agent v a)) x.0)))

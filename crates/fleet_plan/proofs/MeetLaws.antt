@@ -209,13 +209,6 @@ no_exchange_more ahead i o l none other back = both
 
 -- ---- agents entered one after another
 
--- agent i is entered in its place, where the one that was entered there does not stand unless it is i
-pub entered_more : (table table' : Table ℕ) (row places : List ℕ) (k n : ℕ) → IsSet table table' (slice_index places (slice_index row k)) (slice_index row k) → ((j : ℕ) → j ≡ value_in table (slice_index places (slice_index row k)) → j ≢ slice_index row k → j < n → slice_index places j ≢ slice_index places (slice_index row k)) → IsSoBut row k n (λ j. value_in table (slice_index places j) ≡ j) → IsSoBut row (k + 1) n (λ j. value_in table' (slice_index places j) ≡ j)
-entered_more table table' row places k n put alone h = but_more row k n (λ j. value_in table (slice_index places j) ≡ j) (λ j. value_in table' (slice_index places j) ≡ j) h put.here keep
-  where
-    keep : (j : ℕ) → j < n → j ≢ slice_index row k → value_in table (slice_index places j) ≡ j → value_in table' (slice_index places j) ≡ j
-    keep j l ne e = put.others (slice_index places j) (λ s. alone j (sym e ∙ ap (value_in table) s) ne l s) ∙ e
-
 -- where each agent is entered nobody meets another
 pub entered_apart : (table : Table ℕ) (places : List ℕ) → IsEntered table places → HasNoMeeting places
 entered_apart table places h i j m =

@@ -101,10 +101,3 @@ pub path_is : (plan : Plan) (i : ℕ) (p : Path) → slice_get plan i ≡ Some p
 path_is plan i p e = sym (get_or_from_slice_get plan i p [] e)
 
 -- ---- tasks
-
-pub goal_is_tasks : (tasks : List Task) (i : ℕ) (g : Cell) → option_map (λ (t : Task). t.goal) (slice_get tasks i) ≡ Some g → (t : Task) × (slice_get tasks i ≡ Some t) × (t.goal ≡ g)
-goal_is_tasks tasks i g e = go (slice_get tasks i) e
-  where
-    go : (o : Option Task) → option_map (λ (t : Task). t.goal) o ≡ Some g → (t : Task) × (o ≡ Some t) × (t.goal ≡ g)
-    go None e = absurd (cc)
-    go (Some t) e = (t, refl, cc)

@@ -113,8 +113,3 @@ covers_all plan row few e = subst (Covers plan 0) (sym e) (record {
     long = length-range_with_len 0 (length plan)
 
 -- ---- a row of numbers, filled at the agents of a row
-
-pub filled_more : (f : ℕ → ℕ) (row xs : List ℕ) (k n p v : ℕ) → p ≡ slice_index row k → v ≡ f (slice_index row k) → slice_index row k < length xs → IsSoBut row k n (λ j. slice_index xs j ≡ f j) → IsSoBut row (k + 1) n (λ j. slice_index (set xs p v) j ≡ f j)
-filled_more f row xs k n p v e w l h = subst (λ z. IsSoBut row (k + 1) n (λ j. slice_index (set xs z v) j ≡ f j)) (sym e) (but_more row k n (λ j. slice_index xs j ≡ f j) (λ j. slice_index (set xs (slice_index row k) v) j ≡ f j) h
-    (get_or-set_same xs (slice_index row k) v 0 l ∙ w)
-    (λ j b ne r. get_or-set_other xs (slice_index row k) j v 0 ne ∙ r))

@@ -111,10 +111,6 @@ pub spaced_lists : (first rest : List (List ℕ)) → 0 < length first → space
 spaced_lists [] rest some = absurd (omega arith)
 spaced_lists (word ∷ words) rest some = spaced-append word words rest
 
--- a line of some words and more after them
-pub line_lists : (first rest : List (List ℕ)) → 0 < length first → spaced first ++ (next_words rest ++ 10 ∷ []) ≡ line_text (first ++ rest)
-line_lists first rest some = sym (append_assoc (spaced first) (next_words rest) (10 ∷ [])) ∙ ap (λ t. t ++ 10 ∷ []) (sym (spaced_lists first rest some))
-
 -- the text of one element more was put into the row
 pub passed_element :
     {X : Type 0} (text : X → List ℕ) (a b c : SinkState) (r s t : List ℕ) (xs : List X) (i : ℕ) (d : X) → i < length xs

@@ -112,9 +112,6 @@ pub record AreDone (tasks : List Task) (p : Program) (rows : List (List ℕ)) (n
   pub some : (chain ≡ 0) ⊎ ((a : ActionId) × (a.agent < n) × (1 ≤ a.number) × (a.number ≤ count_in rows a.agent) × (chain ≡ level_in rows a))
   pub most : (i : ℕ) → i < n → slice_index (get_or rows i []) (count_in rows i - 1) ≤ chain
 
-pub done_none : (tasks : List Task) (p : Program) (rows : List (List ℕ)) → AreDone tasks p rows 0 0
-done_none tasks p rows = record { whole = λ i l. absurd (omega arith); ends = λ i l. absurd (omega arith); some = inl refl; most = λ i l. absurd (omega arith) }
-
 pub done_more : (tasks : List Task) (p : Program) (rows : List (List ℕ)) (n chain : ℕ) → AreDone tasks p rows n chain → count_in rows n ≡ moves p n → EndsRight tasks p n
     → (last new : ℕ) → last ≡ slice_index (get_or rows n []) (count_in rows n - 1) → new ≡ max chain last → AreDone tasks p rows (n + 1) new
 done_more tasks p rows n chain h whole ends last new is e = record {

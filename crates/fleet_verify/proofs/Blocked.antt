@@ -16,14 +16,6 @@ counts_are [] i = refl
 counts_are (s ∷ c) zero = refl
 counts_are (s ∷ c) (suc i) = counts_are c i
 
--- a run that is over and not finished is stuck
-pub stuck_if_over : (p : Program) (c : Configuration) → IsTrue (is_over p c) → is_finished p c ≡ false → IsTrue (is_stuck p c)
-stuck_if_over p c over unfinished = other (is_finished p c) (is_stuck p c) over unfinished
-  where
-    other : (a b : Bool) → (a || b) ≡ true → a ≡ false → b ≡ true
-    other true b h e = absurd (cc)
-    other false b h e = h
-
 module _ (p : Program) (c : Configuration) (stuck : IsTrue (is_stuck p c)) where
   parts : (not (is_finished p c) ≡ true) × (not (list_any (is_ready p c) (indices (length p))) ≡ true)
   parts = and_parts (not (is_finished p c)) (not (list_any (is_ready p c) (indices (length p)))) stuck

@@ -27,9 +27,6 @@ pub record IsRaisedBy (p : Program) (i n : ℕ) (old new : List ℕ) (k : ℕ) :
   pub covers : (m : ℕ) (w : Await) → m < k → slice_get (awaits_of p i n) m ≡ Some w → w.count ≤ slice_index new w.agent
   pub only : (j : ℕ) → (slice_index new j ≡ slice_index old j) ⊎ ((w : Await) × Contains (awaits_of p i n) w × (w.agent ≡ j) × (w.count ≡ slice_index new j))
 
-pub not_raised : (p : Program) (i n : ℕ) (old : List ℕ) → IsRaisedBy p i n old old 0
-not_raised p i n old = record { keeps = λ j. omega arith; covers = λ m w l. absurd (omega arith); only = λ j. inl refl }
-
 pub raised_low : (p : Program) (i n : ℕ) (old new : List ℕ) (k : ℕ) (w : Await) → IsRaisedBy p i n old new k → slice_get (awaits_of p i n) k ≡ Some w → w.count ≤ slice_index new w.agent → IsRaisedBy p i n old new (k + 1)
 raised_low p i n old new k w h e l = record {
   keeps = h.keeps;

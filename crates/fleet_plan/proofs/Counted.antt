@@ -1,8 +1,8 @@
 -- Steps that are counted, those in which an agent moves and those in which it stays, and the time at which it rests.
-use Rattle.std.proofs.Common.{◌≡◌, ℕ, ◌+◌, ◌-◌, ◌<◌, ◌≤◌, Bool, true, false, cond, not, List, [], ◌∷◌, ◌++◌, length, get_or, take, take_all, Some, sum_by, count_by, sym, ap, ◌∙◌, arith, add-one}
+use Rattle.std.proofs.Common.{◌≡◌, ℕ, ◌+◌, ◌-◌, ◌<◌, ◌≤◌, Bool, true, false, cond, not, List, [], ◌∷◌, ◌++◌, length, get_or, take, take_all, Some, sum_by, count_by, sym, ap, ◌∙◌, arith, add-one, map-id, refl}
 use Rattle.std.specs.List.{range_with_len, suffix_len}
 use Rattle.std.proofs.lemmas.List.Sums.{sum_by-cons, sum_by_push, sum_by_more, suffix_len_is}
-use Rattle.std.proofs.lemmas.List.FromFn.{length-range_with_len}
+use Rattle.std.proofs.lemmas.List.FromFn.{length-range_with_len, map-range_with_len_more}
 use Rattle.fleet_model.specs.Geometry.{is_same_cell}
 use Rattle.fleet_model.specs.Machine.{indices}
 use Rattle.fleet_model.specs.Program.{origin}
@@ -12,15 +12,13 @@ use Rattle.fleet_model.specs.declared.geometry.Cell.{Cell}
 use Rattle.fleet_plan.specs.Plan.{Path, Plan, cell_at}
 use Rattle.fleet_plan.proofs.PathLaws.{at_within}
 use Rattle.fleet_plan.specs.Numbers.{end_of, cost_of, stays_in, moves_before, stays_before}
-use Rattle.fleet_plan.proofs.RowLaws.{range_push}
 
 -- ---- sums
 
 -- one term more
 pub total_more : (f : ℕ → ℕ) (i m n : ℕ) → m ≡ sum_by f (indices i) → n ≡ f i → m + n ≡ sum_by f (indices (i + 1))
 total_more f i m n e h =
-    let z : 0 + i ≡ i = omega arith in
-    rw add-one ((λ t. e t + h t) ∙ sym (sum_by_push f (range_with_len 0 i) i) ∙ ap (sum_by f) (sym (range_push 0 i ∙ ap (λ k. range_with_len 0 i ++ k ∷ []) z)))
+    (λ t. e t + h t) ∙ sym (sum_by_push f (indices i) i) ∙ ap (sum_by f) (sym (sym (map-id _) ∙ map-range_with_len_more (λ x. x) 0 i i (omega arith) ∙ ap (λ k. k ++ i ∷ []) (map-id _)))
 
 one_of_two : (b : Bool) → cond b 1 0 + cond (not b) 1 0 ≡ 1
 one_of_two true = let z : 1 + 0 ≡ 1 = omega arith in z

@@ -399,7 +399,8 @@ fn step(
 fn agents_of(alloc: Global, plan: &Plan) -> Result<Vec<u16>, AllocError>
     ensures { IfOk result (λ agents. Covers plan.now 0 agents.items) }
 {
-    agent_numbers(alloc, plan.agents())
+    let agents = agent_numbers(alloc, plan.agents())?;
+    Ok(agents)
 }
 
 /// The first conflict of a plan whose agents go over passable cells. Takes memory for the agents, and for the parts of

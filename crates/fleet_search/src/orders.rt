@@ -261,7 +261,10 @@ fn plan_in_turns(problem: &Problem<'_>, tries: u32) -> Result<Plan, PlanStop>
         distances: Distances::new(problem.alloc, problem.grid)?,
         frontier: Frontier::new(problem.alloc),
     };
-    let mut order = agent_numbers(problem.alloc, problem.instance.agents())?;
+    let mut order = match agent_numbers(problem.alloc, problem.instance.agents()) {
+        Ok(order) => order,
+        Err(_) => return Err(PlanStop::OutOfMemory),
+    };
     plan_from(problem, tries, &mut order, &mut tables)
 }
 

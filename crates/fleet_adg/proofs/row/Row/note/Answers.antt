@@ -18,7 +18,7 @@ returns-then-index-leaving c =
     let ws = c.self.inside.leavings.items in
     let long = c.self.inside.leavings.ok.0 in
     let place = place_within ws c.args.leaving c.position_from.result c.len.result c.unwrap_or-place.result (c.position_from.ensures ∙ ap (position (λ (v : Await). nat_le c.args.leaving.agent v.agent)) (sym c.self.view_is)) (c.len.ensures ∙ long) c.unwrap_or-place.ensures in
-    put_in_place ws c.args.leaving c.index.result.now c.unwrap_or-place.result place (omega (arith, c.if-is_within.true, c.len-is_within.ensures, long)) c.index.ensures c.if-index-leaving.true ∙ ap (λ zs. with_leaving zs c.args.leaving) c.self.view_is
+    put_in_place ws c.args.leaving c.index.result.now c.unwrap_or-place.result place (omega (arith, c.if-is_within.true, c.len-2.ensures, long)) c.index.ensures c.if-index-leaving.true ∙ ap (λ zs. with_leaving zs c.args.leaving) c.self.view_is
 
 pub returns-in_ok-insert : goal.returns-in_ok-insert
 returns-in_ok-insert c =
@@ -28,6 +28,6 @@ returns-in_ok-insert c =
     c.in_ok-insert.ensures.items
     ∙ elim c.else-is_within.branch [
       | else-is_within-via-then-is_within+else-index-leaving w ↦ put_before_place ws c.args.leaving w.index.result.now c.unwrap_or-place.result place w.index.ensures w.if-index-leaving.false
-      | else-is_within-via-else-is_within w ↦ put_last ws c.args.leaving c.unwrap_or-place.result place (omega (arith, w.if-is_within.false, c.len-is_within.ensures, long))
+      | else-is_within-via-else-is_within w ↦ put_last ws c.args.leaving c.unwrap_or-place.result place (omega (arith, w.if-is_within.false, c.len-2.ensures, long))
     ]
     ∙ ap (λ zs. with_leaving zs c.args.leaving) c.self.view_is

@@ -12,9 +12,11 @@ use crate::distances::Distances;
 use crate::fault::PlanStop;
 use crate::frontier::Frontier;
 use crate::measure::Measure;
-use crate::orders::{Attempt, Problem, Tables, checked_of, is_last_try, plan_in_order, raise};
+use crate::orders::{
+    Attempt, Problem, Tables, checked_of, first_order, is_last_try, plan_in_order, raise,
+};
 use fleet_grid::Grid;
-use fleet_model::{OutOfMemory, agent_numbers};
+use fleet_model::OutOfMemory;
 use fleet_plan::{Checked, Path};
 use fleet_scen::Instance;
 use std::alloc::Global;
@@ -256,12 +258,8 @@ pub fn best_in_orders<'g, M: Measure>(
         distances: Distances::new(alloc, grid)?,
         frontier: Frontier::new(alloc),
     };
-    let order = match agent_numbers(alloc, instance.agents()) {
-        Ok(order) => order,
-        Err(_) => return Err(PlanStop::OutOfMemory),
-    };
     let mut turn = Turn {
-        order,
+        order: first_order(alloc, instance.agents())?,
         kept: Vec::new(alloc),
     };
     best_from(&problem, tries, measure, &mut turn, &mut tables)

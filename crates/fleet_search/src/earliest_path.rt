@@ -66,11 +66,7 @@ fn open_from(
     }
     let from = reserved.free_from(goal)?;
     let is_in_time = from <= u32::from(horizon);
-    if is_in_time {
-        Some(from)
-    } else {
-        None
-    }
+    if is_in_time { Some(from) } else { None }
 }
 
 /// What `earliest` answers, on the map of the distances, with tables that earlier searches may have used.

@@ -202,6 +202,13 @@ fn reserve_in_order(
     Ok(true)
 }
 
+/// The order that is tried first: the numbers of the agents, rising.
+pub(crate) fn first_order(alloc: Global, agents: u16) -> Result<Vec<u16>, OutOfMemory>
+    ensures { IfOk result (λ order. order.items ≡ agent_numbers agents) }
+{
+    Ok(agent_numbers(alloc, agents)?)
+}
+
 /// Moves the agent at the place to the front; the others follow as they did.
 pub(crate) fn raise(order: &mut Vec<u16>, place: usize) -> Result<(), OutOfMemory>
     requires { place < length order.old.items }
@@ -261,10 +268,7 @@ fn plan_in_turns(problem: &Problem<'_>, tries: u32) -> Result<Plan, PlanStop>
         distances: Distances::new(problem.alloc, problem.grid)?,
         frontier: Frontier::new(problem.alloc),
     };
-    let mut order = match agent_numbers(problem.alloc, problem.instance.agents()) {
-        Ok(order) => order,
-        Err(_) => return Err(PlanStop::OutOfMemory),
-    };
+    let mut order = first_order(problem.alloc, problem.instance.agents())?;
     plan_from(problem, tries, &mut order, &mut tables)
 }
 

@@ -12,9 +12,10 @@ WAREHOUSE = examples/warehouse.map examples/warehouse.scen
 # No rules but these: make would link a program anew of which an object file stands beside it.
 MAKEFLAGS += --no-builtin-rules
 
-.PHONY: help test examples edits neutral demo picture definitions install
+.PHONY: help look test examples edits neutral demo picture definitions install
 
 help:
+	@echo 'make look                  runs the program on examples in a few minutes, with nothing proved'
 	@echo 'make demo                  builds the program (the first time a quarter of an hour) and shows it on examples'
 	@echo 'make install PREFIX=DIR    puts the program at DIR/bin/fleet ($(PREFIX) where none is given)'
 	@echo 'make test                  the gate: proofs, tests, edits that must fail, and then the examples'
@@ -24,6 +25,9 @@ help:
 	@echo 'make neutral              tries changes that mean nothing, those of tests/neutral, which the prover has to take'
 	@echo 'make picture               draws the film and the chart of the README anew, docs/warehouse.svg and docs/waits.svg'
 	@echo 'make definitions           writes docs/DEFINITIONS.md anew, from the comments in crates/*/specs'
+
+look:
+	@sh tools/look.sh
 
 test:
 	rt ci

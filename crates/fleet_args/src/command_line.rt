@@ -17,7 +17,9 @@ fn with_texts<'a>(alloc: Global) -> Command<'a>
     ensures { app_of result ≡ new_app (codes "fleet") }
 {
     Command::new(alloc, "fleet")
-        .about("Programs for a fleet of robots on a grid")
+        .about(
+            "Programs for a fleet of robots on a grid. Without a command: waits for one as hexadecimal text on standard input",
+        )
         .override_usage("fleet <COMMAND>\n       fleet < HEXADECIMAL")
         .after_help(
             "Without a command: rehearses, with nobody held, the program that standard input gives in hexadecimal.\nStatus: 0 done, 1 refused or stuck, 2 wrong usage, 3 a file, the output or memory failed.\nA refusal is one line on standard error: part, number, name, particulars. docs/REFUSALS.md explains each.",

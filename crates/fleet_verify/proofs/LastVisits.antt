@@ -88,9 +88,6 @@ module _ {S : Type 0} (m : IndexMap ℕ (List ℕ) S) where
       ∙ (ap (λ (ks : List ℕ). slice_get ks slot) (keys-with_value_at m slot written)
       ∙ (slice_get-map (λ (x : ℕ × List ℕ). x.0) m.entries slot ∙ at))
 
-  pub at_number : (slot number key : ℕ) (square : List ℕ) → slice_get m.entries slot ≡ Some (key, square) → key ≡ number → IsSquareAt m number slot
-  at_number slot number key square here same = ap (option_map (λ (x : ℕ × List ℕ). x.0)) here ∙ ap (λ (k : ℕ). Some k) same
-
   -- and is the one with that number
   pub found_square : (slot number key : ℕ) (square : List ℕ) → IsUnique nat_eq m → slice_get m.entries slot ≡ Some (key, square) → IsSquareAt m number slot → get nat_eq m number ≡ Some square
   found_square slot number key square unique here at =

@@ -1,5 +1,5 @@
 -- The level of the next action, await by await; and the action finished.
-use Rattle.std.proofs.Common.{◌≡◌, ℕ, zero, suc, ◌+◌, ◌-◌, ◌<◌, ◌≤◌, Bool, true, List, [], ◌∷◌, ◌++◌, length, get_or, set, max, slice_index, Option, Some, slice_get, refl, sym, ap, ◌∙◌, subst, arith, inl, inr, ◌⊎◌}
+use Rattle.std.proofs.Common.{◌≡◌, ℕ, zero, suc, ◌+◌, ◌-◌, ◌<◌, ◌≤◌, Bool, true, List, [], ◌∷◌, ◌++◌, length, get_or, set, max, slice_index, Some, slice_get, refl, sym, ap, ◌∙◌, subst, arith, inl, inr, ◌⊎◌}
 use Rattle.std.specs.Prelude.{IsTrue, Contains}
 use Rattle.std.proofs.lemmas.Bool.{cases_eq, cases_lt}
 use Rattle.std.proofs.lemmas.List.{get_or-set_same, get_or-set_other, set-get_or, length-set}
@@ -14,7 +14,7 @@ use Rattle.fleet_model.specs.Geometry.{place_of, stepped, is_move}
 use Rattle.fleet_model.specs.Visit.{is_entry, leaving, IsVisit, ComesAfterByAwait}
 use Rattle.fleet_model.specs.Program.{Program, origin, awaits_of, step_of, path, moves}
 use Rattle.fleet_model.specs.Chain.{DirectlyNeeds, awaited}
-use Rattle.fleet_verify.specs.Ahead.{IsRanked, IsNextLevel, AddsLevel, IsAhead, IsAheadBy, IsAheadAt, IsArrival, AreBegun, count_in, level_in}
+use Rattle.fleet_verify.specs.Ahead.{IsRanked, IsNextLevel, AddsLevel, IsAhead, IsAheadBy, IsAheadAt, IsArrival, count_in, level_in}
 use Rattle.fleet_verify.specs.Faults.{StandsRight}
 use Rattle.fleet_verify.specs.LastVisits.{kept_at}
 use Rattle.fleet_verify.specs.Order.{AreAddedBy}

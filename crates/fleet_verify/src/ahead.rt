@@ -1,6 +1,6 @@
 //! A verifier without ticks: each agent runs on as far as its awaits allow. It only says yes.
 
-ghost use Rattle.std.specs.Prelude.{◌≡◌, ◌≢◌, ◌<◌, ◌≤◌, ◌+◌, ◌⊎◌, ◌↔◌, ℕ, Some, true, IsTrue, IfNone, length, max, IfOk, IfErr, IfSome, OnOk, List, get_or, [], ◌∷◌, ◌++◌, Contains};
+ghost use Rattle.std.specs.Prelude.{◌≡◌, ◌≢◌, ◌<◌, ◌≤◌, ◌+◌, ℕ, Some, true, IsTrue, length, max, IfOk, IfErr, IfSome, OnOk, List, get_or, [], ◌∷◌, ◌++◌, Contains};
 ghost use Rattle.fleet_model.specs.declared.geometry.Cell.{Cell};
 ghost use Rattle.fleet_model.specs.declared.program.Visit.{Visit};
 ghost use Rattle.fleet_model.specs.Geometry.{place_of};

@@ -1,5 +1,4 @@
-use Rattle.std.proofs.Common.{◌≡◌, ◌+◌, ◌∙◌, length, sym, ap, arith}
-use Rattle.fleet_model.specs.Program.{awaits_of}
+use Rattle.std.proofs.Common.{arith}
 use Rattle.fleet_model.proofs.Totals.{actions_fit, actions_more}
 use Rattle.fleet_verify.proofs.ahead.run_agent.Goals as goal
 

@@ -9,7 +9,10 @@ use Rattle.fleet_model.specs.Machine.{Configuration, standing_at, count_at, is_r
 use Rattle.fleet_model.proofs.Tick.{ready_left}
 use Rattle.fleet_machine.specs.AgentSet.{AreNoneFrom, IsNextFrom}
 use Rattle.fleet_machine.specs.Confirmed.{all_but, AreAllReady}
-use Rattle.fleet_machine.specs.Machine.{MachineState, Runs, flag_of, after_next, moving_flags}
+use Rattle.fleet_machine.specs.declared.mark.Mark.{Mark}
+use Rattle.fleet_machine.specs.Machine.{MachineState, Runs, flag_of, mark_of, passed, after_next, marks_after, moving_flags}
+use Rattle.fleet_machine.proofs.Marks.{ArePassedTo, all_stay, all_passed}
+use Rattle.fleet_machine.proofs.Marks.{one_moves as mark_moves}
 use Rattle.fleet_machine.specs.Waking.{HasMoved}
 use Rattle.fleet_machine.proofs.Advanced.{after_move, stays}
 
@@ -47,8 +50,8 @@ module _ (p : Program) (done : List Bool) (old : Configuration) (sent : AreAllRe
         omega arith
 
     -- who is not flagged is passed over
-    passed : (k : ℕ) → from ≤ k → flag_of done k ≡ false → standing_at rows k ≡ standing_after p (all_but (flag_of done)) old k
-    passed k later flag = before.rest k later ∙ stays p (all_but (flag_of done)) old k (stays_if k flag)
+    passed_over : (k : ℕ) → from ≤ k → flag_of done k ≡ false → standing_at rows k ≡ standing_after p (all_but (flag_of done)) old k
+    passed_over k later flag = before.rest k later ∙ stays p (all_but (flag_of done)) old k (stays_if k flag)
 
     pub one_carried : (i : ℕ) → i < length p → IsNextFrom done from i → AreCarried p done old (set rows i (after_next p rows i)) (i + 1)
     one_carried i agent next =
@@ -60,7 +63,7 @@ module _ (p : Program) (done : List Bool) (old : Configuration) (sent : AreAllRe
             | inl same ↦ rw same (get_or-set_same rows i s (standing_at [] 0) inside ∙ after_move p (all_but (flag_of done)) old rows i (moves_if i agent next.member) (before.rest i later))
             | inr other ↦ get_or-set_other rows i k s (standing_at [] 0) other ∙ elim (cases_lt k from) [
               | inl below ↦ before.done k below
-              | inr above ↦ passed k above (next.between k above (omega arith))
+              | inr above ↦ passed_over k above (next.between k above (omega arith))
             ]
           ];
           rest = λ k ge. let other : k ≢ i = omega arith in get_or-set_other rows i k s (standing_at [] 0) other ∙ before.rest k (omega arith);
@@ -73,20 +76,33 @@ module _ (p : Program) (done : List Bool) (old : Configuration) (sent : AreAllRe
         (λ k agent.
         elim (cases_lt k from) [
           | inl below ↦ before.done k below
-          | inr above ↦ passed k above (none k above)
+          | inr above ↦ passed_over k above (none k above)
         ])
+
+-- the marks of the flagged agents
+module _ (p : Program) (old : MachineState) (sent : AreAllReady p old.configuration (flag_of old.moving)) (marks : List Mark) (from : ℕ)
+    (before : ArePassedTo p (all_but (flag_of old.moving)) old marks from) where
+  pub one_read : (i : ℕ) → i < length p → IsNextFrom old.moving from i → ArePassedTo p (all_but (flag_of old.moving)) old (set marks i (passed (mark_of marks i))) (i + 1)
+  one_read i agent next =
+      mark_moves p (all_but (flag_of old.moving)) old marks i agent (moves_if p old.moving old.configuration sent i agent next.member)
+      (all_stay p (all_but (flag_of old.moving)) old marks from i next.later (λ k later below. stays_if p old.moving old.configuration sent k (next.between k later below)) before)
+
+  pub all_read : from ≤ length p → AreNoneFrom old.moving from → marks ≡ marks_after p (all_but (flag_of old.moving)) old
+  all_read within none =
+      all_passed p (all_but (flag_of old.moving)) old marks
+      (all_stay p (all_but (flag_of old.moving)) old marks from (length p) within (λ k later below. stays_if p old.moving old.configuration sent k (none k later)) before)
 
 -- the flagged agents were chosen, and have moved
 pub chosen_moved : (p : Program) (done : List Bool) (old chosen moved : MachineState) → Runs p old → AreAllReady p old.configuration (flag_of done) → length done ≡ length p
     → chosen ≡ record old { moving = done; due = done }
-    → moved ≡ record chosen { configuration = tick p (all_but (flag_of chosen.moving)) chosen.configuration }
+    → moved ≡ record chosen { configuration = tick p (all_but (flag_of chosen.moving)) chosen.configuration; marks = marks_after p (all_but (flag_of chosen.moving)) chosen }
     → HasMoved p (all_but (flag_of done)) old moved
 chosen_moved p done old chosen moved runs sent long choice moves =
     record {
       runs = runs;
       same =
           moves
-          ∙ (ap (λ (m : MachineState). record m { configuration = tick p (all_but (flag_of m.moving)) m.configuration }) choice
-          ∙ ap (λ (flags : List Bool). record old { configuration = tick p (all_but (flag_of done)) old.configuration; moving = flags; due = flags })
+          ∙ (ap (λ (m : MachineState). record m { configuration = tick p (all_but (flag_of m.moving)) m.configuration; marks = marks_after p (all_but (flag_of m.moving)) m }) choice
+          ∙ ap (λ (flags : List Bool). record old { configuration = tick p (all_but (flag_of done)) old.configuration; marks = marks_after p (all_but (flag_of done)) old; moving = flags; due = flags })
           (all_moving p done old.configuration sent long));
     }

@@ -1,5 +1,5 @@
 -- Agents that are judged, one after another.
-use Rattle.std.proofs.Common.{◌≡◌, ◌≢◌, ◌<◌, ◌≤◌, ◌+◌, ℕ, Bool, true, false, not, length, filter, Option, Some, None, refl, ap, sym, ◌∙◌, subst, inl, inr, arith, cond, get_or-set_same, get_or-set_other, length-set}
+use Rattle.std.proofs.Common.{◌≡◌, ◌≢◌, ◌<◌, ◌≤◌, ◌+◌, ℕ, Bool, true, false, not, length, filter, Option, Some, None, refl, ap, sym, ◌∙◌, subst, inl, inr, arith, cond, set, get_or-set_same, get_or-set_other, length-set}
 use Rattle.std.specs.List.{list_any, list_all}
 use Rattle.std.specs.Prelude.{nat_le, is_some, option_map, MatchOption}
 use Rattle.std.proofs.lemmas.Bool.{cases_eq, cases_lt, le-leb, lt-ltb, ltb-true, true≢false}
@@ -7,7 +7,7 @@ use Rattle.fleet_model.specs.Program.{Program, moves}
 use Rattle.fleet_model.specs.Machine.{count_at, is_ready, is_finished, indices}
 use Rattle.fleet_machine.specs.AgentSet.{AreNoneFrom, IsNextFrom}
 use Rattle.fleet_machine.specs.WaitLists.{home_of}
-use Rattle.fleet_machine.specs.Machine.{MachineState, Runs, HasRows, IsJudged, flag_of, is_left}
+use Rattle.fleet_machine.specs.Machine.{MachineState, Runs, HasRows, IsJudged, IsRead, HasReadAll, flag_of, list_of, mark_of, is_left}
 use Rattle.fleet_machine.specs.Waking.{IsPlaced, IsAsBefore}
 use Rattle.fleet_machine.proofs.Advanced.{onward, filter_more}
 use Rattle.fleet_machine.proofs.Waiting.{lowered_le, long_lowered, home_if_lacked, home_if_lower}
@@ -21,10 +21,13 @@ module _ (p : Program) (before after : MachineState) (i : ℕ) (rows : HasRows (
       let ready : i < length before.ready = omega (arith, rows.ready) in
       let left : i < length before.left = omega (arith, rows.left) in
       let home : i < length before.waiting.homes = omega (arith, rows.homes) in
+      let mark : mark_of (set before.marks i placed.mark) i ≡ placed.mark = get_or-set_same before.marks i placed.mark (record { before = 0; met = 0 }) (omega (arith, rows.marks)) in
       subst (λ m. IsJudged p m i) (sym placed.same) record {
+        read = rw mark placed.read;
+        all = rw mark placed.all;
         ready = get_or-set_same before.ready i (is_ready p c i) false ready;
         left = get_or-set_same before.left i (is_left p c i) false left;
-        home = rw (get_or-set_same before.waiting.homes i (option_map (λ w. w.agent) placed.lacked) None home)
+        home = rw (get_or-set_same before.waiting.homes i (option_map list_of placed.lacked) None home)
             (home_if_lacked p c before.least i placed.lacked placed.belongs);
       }
 
@@ -32,26 +35,28 @@ module _ (p : Program) (before after : MachineState) (i : ℕ) (rows : HasRows (
   others_if_placed k other =
       let c = before.configuration in
       subst (λ m. IsAsBefore before m k) (sym placed.same) record {
+        mark = get_or-set_other before.marks i k placed.mark (record { before = 0; met = 0 }) other;
         ready = get_or-set_other before.ready i k (is_ready p c i) false other;
         left = get_or-set_other before.left i k (is_left p c i) false other;
-        home = get_or-set_other before.waiting.homes i k (option_map (λ w. w.agent) placed.lacked) None other;
+        home = get_or-set_other before.waiting.homes i k (option_map list_of placed.lacked) None other;
         least = lowered_le before.least placed.lacked;
       }
 
   pub rows_if_placed : HasRows (length p) after
   rows_if_placed =
       subst (λ m. HasRows (length p) m) (sym placed.same) record {
+        marks = length-set before.marks i placed.mark ∙ rows.marks;
         ready = length-set before.ready i _ ∙ rows.ready;
         left = length-set before.left i _ ∙ rows.left;
         due = rows.due;
         lists = rows.lists;
-        homes = length-set before.waiting.homes i (option_map (λ w. w.agent) placed.lacked) ∙ rows.homes;
+        homes = length-set before.waiting.homes i (option_map list_of placed.lacked) ∙ rows.homes;
         least = long_lowered before.least placed.lacked ∙ rows.least;
       }
 
 -- of the agents below n those that pass the test are judged, and nothing else has changed
 pub record AreJudgedTo (p : Program) (test : ℕ → Bool) (old now : MachineState) (n : ℕ) : Type 0 where
-  pub same : now ≡ record old { ready = now.ready; left = now.left; waiting = now.waiting; least = now.least }
+  pub same : now ≡ record old { ready = now.ready; left = now.left; marks = now.marks; waiting = now.waiting; least = now.least }
   pub rows : HasRows (length p) now
   pub judged : (k : ℕ) → k < n → test k ≡ true → IsJudged p now k
   pub later : (k : ℕ) → n ≤ k → IsAsBefore old now k
@@ -62,12 +67,13 @@ none_judged p test old rows = record {
   same = refl;
   rows = rows;
   judged = λ k h. absurd (omega arith);
-  later = λ k h. record { ready = refl; left = refl; home = refl; least = λ j. omega arith };
-  others = λ k h. record { ready = refl; left = refl; home = refl; least = λ j. omega arith };
+  later = λ k h. record { mark = refl; ready = refl; left = refl; home = refl; least = λ j. omega arith };
+  others = λ k h. record { mark = refl; ready = refl; left = refl; home = refl; least = λ j. omega arith };
 }
 
 as_before : (a b c : MachineState) (k : ℕ) → IsAsBefore a b k → IsAsBefore b c k → IsAsBefore a c k
 as_before a b c k h j = record {
+  mark = j.mark ∙ h.mark;
   ready = j.ready ∙ h.ready;
   left = j.left ∙ h.left;
   home = j.home ∙ h.home;
@@ -76,6 +82,8 @@ as_before a b c k h j = record {
 
 still_judged : (p : Program) (now new : MachineState) (k : ℕ) → new.configuration ≡ now.configuration → IsAsBefore now new k → IsJudged p now k → IsJudged p new k
 still_judged p now new k same kept h = record {
+  read = rw (same, kept.mark) h.read;
+  all = rw (same, kept.mark) h.all;
   ready = kept.ready ∙ (h.ready ∙ ap (λ c. is_ready p c k) (sym same));
   left = kept.left ∙ (h.left ∙ ap (λ c. is_left p c k) (sym same));
   home = rw (same, kept.home) (home_if_lower p now.configuration now.least new.least k (home_of now.waiting.homes k) kept.least h.home);
@@ -86,14 +94,20 @@ module _ (p : Program) (test : ℕ → Bool) (old now : MachineState) (i : ℕ) 
   pub home_so_far : home_of now.waiting.homes i ≡ home_of old.waiting.homes i
   home_so_far = (before.later i (omega arith)).home
 
+  pub read_so_far : IsRead p old.configuration i (mark_of old.marks i) → IsRead p now.configuration i (mark_of now.marks i)
+  read_so_far read = rw (ap (λ (m : MachineState). m.configuration) before.same, (before.later i (omega arith)).mark) read
+
+  pub left_so_far : (b : Bool) → (b ≡ true → flag_of old.left i ≡ true) → b ≡ true → flag_of now.left i ≡ true
+  left_so_far b was is = (before.later i (omega arith)).left ∙ was is
+
   pub one_judged : (new : MachineState) → test i ≡ true → i < length p → IsPlaced p now new i → AreJudgedTo p test old new (i + 1)
   one_judged new tested agent placed =
       let config : new.configuration ≡ now.configuration = ap (λ (m : MachineState). m.configuration) placed.same in
       let same_now = placed.same in
       let same_old = before.same in
       record {
-        same = subst (λ (m : MachineState). m ≡ record now { ready = m.ready; left = m.left; waiting = m.waiting; least = m.least }) (sym same_now) refl
-            ∙ ap (λ (m : MachineState). record m { ready = new.ready; left = new.left; waiting = new.waiting; least = new.least }) same_old;
+        same = subst (λ (m : MachineState). m ≡ record now { ready = m.ready; left = m.left; marks = m.marks; waiting = m.waiting; least = m.least }) (sym same_now) refl
+            ∙ ap (λ (m : MachineState). record m { ready = new.ready; left = new.left; marks = new.marks; waiting = new.waiting; least = new.least }) same_old;
         rows = rows_if_placed p now new i before.rows agent placed;
         judged = λ k h tested. elim (cases_eq k i) [
           | inl same ↦ rw same (judged_if_placed p now new i before.rows agent placed)

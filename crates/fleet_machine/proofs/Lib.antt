@@ -13,6 +13,7 @@ pub mod Judging
 pub mod Waking
 pub mod Advanced
 mod Lasting
+pub mod Marks
 mod Carried
 pub mod Ticking
 pub mod Opened

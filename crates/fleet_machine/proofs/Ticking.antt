@@ -1,6 +1,6 @@
 -- The steps of a tick, one after another.
 use Rattle.std.proofs.Common.{◌≡◌, ◌<◌, ◌≤◌, ◌+◌, ◌||◌, ◌&&◌, not, ℕ, Bool, true, false, List, [], length, filter, set, slice_get, Option, Some, None, refl, ap, sym, ◌∙◌, subst, inl, inr, ◌⊎◌, arith, cond, add-one, add-zero}
-use Rattle.std.specs.Prelude.{nat_le}
+use Rattle.std.specs.Prelude.{nat_le, ◌==◌}
 use Rattle.std.proofs.lemmas.Bool.{cases_lt, cases_Bool, lt-ltb, le-leb, leb-true, or_parts, true≢false}
 use Rattle.std.proofs.lemmas.List.{get_or_past}
 use Rattle.std.proofs.lemmas.List.Folds.{list_any_at}
@@ -15,10 +15,15 @@ use Rattle.fleet_model.proofs.Tick.{length-tick, standing_at_tick, other_stays}
 use Rattle.fleet_machine.specs.AgentSet.{AreNoneFrom, IsNextFrom}
 use Rattle.fleet_machine.specs.Looked.{ready_in, awaits_moving, awaiting_in, LooksAt}
 use Rattle.fleet_machine.specs.WaitLists.{home_of}
-use Rattle.fleet_machine.specs.Machine.{MachineState, Runs, HasRows, IsHome, IsJudged, Lacks, flag_of, is_left, least_of, after_next, moving_flags}
+use Rattle.fleet_machine.specs.declared.mark.Mark.{Mark}
+use Rattle.fleet_machine.specs.Machine.{MachineState, Runs, HasRows, IsHome, IsJudged, IsRead, Lacks, flag_of, list_of, agent_of, mark_of, is_left, is_reached, least_of, passed, after_next, marks_after, moving_flags}
 use Rattle.fleet_machine.specs.Waking.{is_on, if_not_on, is_woken_by, advanced_one, IsWoken, IsCarriedOut, IsAsBefore}
 use Rattle.fleet_machine.proofs.Advanced.{onward, filter_more, IsAdvanced, one_moves, one_held, all_wait, all_advanced, all_flagged}
-use Rattle.fleet_machine.proofs.Lasting.{ready_lasts}
+use Rattle.fleet_machine.proofs.Lasting.{ready_lasts, count_rises}
+use Rattle.fleet_machine.proofs.Waiting.{agent_of_list}
+use Rattle.fleet_machine.proofs.Waking.{eqb-refl}
+use Rattle.fleet_machine.proofs.Marks.{ArePassedTo, all_stay, all_passed, long_after, mark_unmoved, read_after, flagged_after}
+use Rattle.fleet_machine.proofs.Marks.{one_moves as mark_moves, one_stays as mark_stays}
 use Rattle.fleet_machine.proofs.Judging.{none_more_counted, one_more_counted, counted_le}
 use Rattle.fleet_machine.proofs.Ready.{no_action_left, has_next, not_ready_if_unmet, awaited_agent}
 
@@ -26,7 +31,8 @@ use Rattle.fleet_machine.proofs.Ready.{no_action_left, has_next, not_ready_if_un
 
 -- the agents below n have moved, or stay for this tick, and so many of them were ready
 pub record IsAdvancedTo (p : Program) (held : ℕ → Bool) (old now : MachineState) (n moved : ℕ) (ready_held : Bool) (ready : ℕ) : Type 0 where
-  pub same : now ≡ record old { configuration = now.configuration; moving = now.moving }
+  pub same : now ≡ record old { configuration = now.configuration; marks = now.marks; moving = now.moving }
+  pub passes : ArePassedTo p held old now.marks n
   pub done : IsAdvanced p held old.configuration now.configuration now.moving n moved ready_held
   pub counted : ready ≡ length (filter (is_ready p old.configuration) (indices n))
   pub within : n ≤ length p
@@ -52,12 +58,19 @@ module _ (p : Program) (held : ℕ → Bool) (old : MachineState) (runs : Runs p
     any_held = all_done.held_is
 
     pub all_moved : (after : MachineState) → after ≡ record now { due = now.moving }
-        → after ≡ record old { configuration = tick p held old.configuration; moving = moving_flags p held old.configuration; due = moving_flags p held old.configuration }
+        → after ≡ record old { configuration = tick p held old.configuration; marks = marks_after p held old; moving = moving_flags p held old.configuration; due = moving_flags p held old.configuration }
     all_moved after flagged =
         flagged
         ∙ (ap (λ (m : MachineState). record m { due = now.moving }) before.same
-        ∙ (ap (λ (rows : Configuration). record old { configuration = rows; moving = now.moving; due = now.moving }) (all_advanced p held old.configuration now.configuration now.moving moved ready_held all_done)
-        ∙ ap (λ (flags : List Bool). record old { configuration = tick p held old.configuration; moving = flags; due = flags }) (all_flagged p held old.configuration now.configuration now.moving moved ready_held all_done)))
+        ∙ (ap (λ (rows : Configuration). record old { configuration = rows; marks = now.marks; moving = now.moving; due = now.moving }) (all_advanced p held old.configuration now.configuration now.moving moved ready_held all_done)
+        ∙ (ap (λ (marks : List Mark). record old { configuration = tick p held old.configuration; marks = marks; moving = now.moving; due = now.moving }) all_read
+        ∙ ap (λ (flags : List Bool). record old { configuration = tick p held old.configuration; marks = marks_after p held old; moving = flags; due = flags }) (all_flagged p held old.configuration now.configuration now.moving moved ready_held all_done))))
+      where
+        all_read : now.marks ≡ marks_after p held old
+        all_read = all_passed p held old now.marks (all_stay p held old now.marks from (length p) before.within (λ k later below. still k (ready_is k below ∙ none k later)) before.passes)
+          where
+            still : (k : ℕ) → is_ready p old.configuration k ≡ false → is_moving p held old.configuration k ≡ false
+            still k unready = rw unready refl
 
     pub all_ready : ready ≡ ready_in p old.configuration
     all_ready =
@@ -77,6 +90,12 @@ module _ (p : Program) (held : ℕ → Bool) (old : MachineState) (runs : Runs p
     here : IsAdvanced p held old.configuration now.configuration now.moving i moved ready_held
     here = all_wait p held old.configuration now.configuration now.moving from i moved ready_held next.later waits before.done
 
+    reads : ArePassedTo p held old now.marks i
+    reads = all_stay p held old now.marks from i next.later (λ k later below. still k (waits k later below)) before.passes
+      where
+        still : (k : ℕ) → is_ready p old.configuration k ≡ false → is_moving p held old.configuration k ≡ false
+        still k unready = rw unready refl
+
     pub one_passed : (is_held : Bool) → is_held ≡ held i → (after : MachineState) → after ≡ advanced_one p now i is_held
         → (n : ℕ) (h : Bool) → n ≡ moved + cond is_held 0 1 → h ≡ (ready_held || is_held) → IsAdvancedTo p held old after (i + 1) n h (ready + 1)
     one_passed is_held is after at n h count any = rw (at, count, any) (go is_held is)
@@ -87,6 +106,7 @@ module _ (p : Program) (held : ℕ → Bool) (old : MachineState) (runs : Runs p
         go : (b : Bool) → b ≡ held i → IsAdvancedTo p held old (advanced_one p now i b) (i + 1) (moved + cond b 0 1) (ready_held || b) (ready + 1)
         go true e = record {
           same = before.same;
+          passes = mark_stays p held old now.marks i (rw (next_is_ready, sym e) refl) reads;
           done = rw (add-zero, or-true ready_held) (one_held p held old.configuration now.configuration now.moving i moved ready_held here next_is_ready (sym e));
           counted = more;
           within = omega (arith, ready_agent);
@@ -94,8 +114,10 @@ module _ (p : Program) (held : ℕ → Bool) (old : MachineState) (runs : Runs p
         go false e = record {
           same = ap (λ (m : MachineState). record m {
             configuration = set now.configuration i (after_next p now.configuration i);
+            marks = set now.marks i (passed (mark_of now.marks i));
             moving = set now.moving i true;
           }) before.same;
+          passes = mark_moves p held old now.marks i ready_agent (rw (next_is_ready, sym e) refl) reads;
           done = rw (or-false ready_held) (one_moves p held old.configuration now.configuration now.moving i moved ready_held here next_is_ready (sym e) ready_agent);
           counted = more;
           within = omega (arith, ready_agent);
@@ -118,6 +140,13 @@ lt-leb-false a b lt = go (nat_le a b) refl
     go true e = absurd (let le = leb-true a b e in omega arith)
     go false e = e
 
+leb-false-lt : (a b : ℕ) → nat_le a b ≡ false → b < a
+leb-false-lt a b h =
+    elim (cases_lt b a) [
+      | inl lt ↦ lt
+      | inr le ↦ absurd (true≢false (sym (le-leb a b le) ∙ h))
+    ]
+
 module _ (p : Program) (c : Configuration) (least i j : ℕ) (lacks : Lacks p c least i j) where
   left_if_lacking : count_at c i < moves p i
   left_if_lacking =
@@ -134,16 +163,19 @@ module _ (p : Program) (c : Configuration) (least i j : ℕ) (lacks : Lacks p c 
   unready_if_lacking : is_ready p c i ≡ false
   unready_if_lacking = sym (not_ready_if_unmet p c i left_if_lacking lacks.is_unmet.place lacks.awaited lacks.is_unmet.at lacks.is_unmet.unmet)
 
-  lacked_agent : IsWellFormed p → j < length p
-  lacked_agent ok = let there = awaited_agent p i (count_at c i + 1) lacks.is_unmet.place lacks.awaited ok lacks.is_unmet.at in omega (arith, lacks.agent)
+  agent_here : agent_of j ≡ lacks.awaited.agent
+  agent_here = ap agent_of (sym lacks.list) ∙ agent_of_list lacks.awaited
 
-  awaits_if_lacking : (held : ℕ → Bool) → is_moving p held c j ≡ true → awaits_moving p held c i ≡ true
+  lacked_agent : IsWellFormed p → agent_of j < length p
+  lacked_agent ok = let there = awaited_agent p i (count_at c i + 1) lacks.is_unmet.place lacks.awaited ok lacks.is_unmet.at in omega (arith, there, agent_here)
+
+  awaits_if_lacking : (held : ℕ → Bool) → is_moving p held c (agent_of j) ≡ true → awaits_moving p held c i ≡ true
   awaits_if_lacking held moves =
       let n = has_next p c i left_if_lacking in
       let place = lacks.is_unmet.place in
       let at : slice_get n.0.awaits place ≡ Some lacks.awaited = ap (λ ws. slice_get ws place) (sym n.1.awaits) ∙ lacks.is_unmet.at in
       rw n.1.next (list_any_at (λ w. is_moving p held c w.agent) n.0.awaits place lacks.awaited (slice_get_within n.0.awaits place lacks.awaited at)
-      (rw (get_or_from_slice_get n.0.awaits place lacks.awaited lacks.awaited at, lacks.agent) moves))
+      (rw (get_or_from_slice_get n.0.awaits place lacks.awaited lacks.awaited at, sym agent_here) moves))
 
 -- ---- how many pass a test
 
@@ -185,7 +217,7 @@ module _ (p : Program) (held : ℕ → Bool) (m : MachineState) (runs : Runs p m
 
   -- the agents that the tick moves have moved
   abbrev moved : MachineState
-  moved = record m { configuration = after; moving = moving_flags p held c; due = moving_flags p held c }
+  moved = record m { configuration = after; marks = marks_after p held m; moving = moving_flags p held c; due = moving_flags p held c }
 
   -- the lists that are woken
   abbrev woken_lists : ℕ → Bool
@@ -205,28 +237,48 @@ module _ (p : Program) (held : ℕ → Bool) (m : MachineState) (runs : Runs p m
     left_as_before : is_left p after k ≡ is_left p c k
     left_as_before = rw same_count refl
 
-    -- the await that it lacks is not met after the tick, if its agent rests or has not finished as many actions as are
-    -- waited for at its list
-    lacks_still : (least j : ℕ) → (is_moving p held c j ≡ false) ⊎ (nat_le least (count_at after j) ≡ false) → Lacks p c least k j → Lacks p after least k j
-    lacks_still least j rests lacks =
+    -- the await that it lacks is not met after the tick, if its agent rests or its list is not reached
+    lacks_still : (j : ℕ) → (is_moving p held c (agent_of j) ≡ false) ⊎ (is_reached moved j ≡ false) → Lacks p c (least_of m.least j) k j → Lacks p after (least_of m.least j) k j
+    lacks_still j rests lacks =
         record {
           awaited = lacks.awaited;
           is_unmet = record { place = lacks.is_unmet.place; at = rw same_count lacks.is_unmet.at; unmet = unmet_by rests };
-          agent = lacks.agent;
+          list = lacks.list;
           late = lacks.late;
         }
       where
-        unmet_by : (is_moving p held c j ≡ false) ⊎ (nat_le least (count_at after j) ≡ false) → is_met after lacks.awaited ≡ false
-        unmet_by (inl still) =
-            let there = lacked_agent p c least k j lacks runs.well_formed in
-            let same : standing_at after j ≡ standing_at c j = standing_at_tick p held c j there ∙ other_stays p held c j still in
-            ap (λ n. nat_le lacks.awaited.count n) (ap (λ (s : Standing). s.count) (subst (λ a. standing_at after a ≡ standing_at c a) (sym lacks.agent) same)) ∙ lacks.is_unmet.unmet
-        unmet_by (inr unreached) =
-            let short : count_at after j < least = elim (cases_lt (count_at after j) least) [
+        here : agent_of j ≡ lacks.awaited.agent
+        here = agent_here p c (least_of m.least j) k j lacks
+
+        -- the count came to the awaited one, whose list would be reached
+        other_count : (list_of (record { agent = agent_of j; count = count_at after (agent_of j) }) == j) ≡ false → count_at after lacks.awaited.agent < lacks.awaited.count
+        other_count other =
+            elim (cases_lt (count_at after lacks.awaited.agent) lacks.awaited.count) [
               | inl lt ↦ lt
-              | inr le ↦ absurd (true≢false (sym (le-leb least (count_at after j) le) ∙ unreached))
+              | inr le ↦
+                  let short : count_at c lacks.awaited.agent < lacks.awaited.count = leb-false-lt lacks.awaited.count (count_at c lacks.awaited.agent) lacks.is_unmet.unmet in
+                  let more = count_rises p held c runs.agents lacks.awaited.agent in
+                  let same : count_at after lacks.awaited.agent ≡ lacks.awaited.count = omega (arith, short, more, le) in
+                  let list : list_of (record { agent = agent_of j; count = count_at after (agent_of j) }) ≡ j = ap (λ (n : ℕ). list_of (record { agent = n; count = count_at after n })) here ∙ (ap (λ (n : ℕ). list_of (record { agent = lacks.awaited.agent; count = n })) same ∙ lacks.list) in
+                  absurd (true≢false (sym (ap (λ (n : ℕ). n == j) list ∙ eqb-refl j) ∙ other))
+            ]
+
+        early : nat_le (least_of m.least j) (count_at after (agent_of j)) ≡ false → count_at after lacks.awaited.agent < lacks.awaited.count
+        early unreached =
+            let short = leb-false-lt (least_of m.least j) (count_at after (agent_of j)) unreached in
+            let same = ap (λ (n : ℕ). count_at after n) here in
+            omega (arith, short, same, lacks.late)
+
+        unmet_by : (is_moving p held c (agent_of j) ≡ false) ⊎ (is_reached moved j ≡ false) → is_met after lacks.awaited ≡ false
+        unmet_by (inl still) =
+            let there = lacked_agent p c (least_of m.least j) k j lacks runs.well_formed in
+            let same : standing_at after (agent_of j) ≡ standing_at c (agent_of j) = standing_at_tick p held c (agent_of j) there ∙ other_stays p held c (agent_of j) still in
+            ap (λ n. nat_le lacks.awaited.count n) (ap (λ (s : Standing). s.count) (subst (λ a. standing_at after a ≡ standing_at c a) here same)) ∙ lacks.is_unmet.unmet
+        unmet_by (inr unreached) =
+            let few : count_at after lacks.awaited.agent < lacks.awaited.count = elim (and_fails (list_of (record { agent = agent_of j; count = count_at after (agent_of j) }) == j) (nat_le (least_of m.least j) (count_at after (agent_of j))) unreached) [
+              | inl other ↦ other_count other
+              | inr late ↦ early late
             ] in
-            let few : count_at after lacks.awaited.agent < lacks.awaited.count = rw lacks.agent (omega (arith, short, lacks.late)) in
             lt-leb-false lacks.awaited.count (count_at after lacks.awaited.agent) few
 
     ready_or_done : (r : Bool) → is_ready p c k ≡ r → is_left p c k ≡ r → is_ready p after k ≡ r
@@ -244,11 +296,11 @@ module _ (p : Program) (held : ℕ → Bool) (m : MachineState) (runs : Runs p m
     home_still (Some j) off home =
         let least = least_of m.least j in
         let there = lacked_agent p c least k j home runs.well_formed in
-        let rests : (is_moving p held c j ≡ false) ⊎ (nat_le least (count_at after j) ≡ false) = elim (and_fails (flag_of (moving_flags p held c) j) (nat_le least (count_at after j)) off) [
-          | inl still ↦ inl (sym (flag_is_moving j there) ∙ still)
+        let rests : (is_moving p held c (agent_of j) ≡ false) ⊎ (is_reached moved j ≡ false) = elim (and_fails (flag_of (moving_flags p held c) (agent_of j)) (is_reached moved j) off) [
+          | inl still ↦ inl (sym (flag_is_moving (agent_of j) there) ∙ still)
           | inr unreached ↦ inr unreached
         ] in
-        let lacks = lacks_still least j rests home in
+        let lacks = lacks_still j rests home in
         (lacks, unready_if_lacking p after least k j lacks ∙ sym (unready_if_lacking p c least k j home))
 
   module _ (woken : MachineState) (wakes : IsWoken woken_lists moved woken) where
@@ -260,6 +312,7 @@ module _ (p : Program) (held : ℕ → Bool) (m : MachineState) (runs : Runs p m
 
     pub rows_woken : HasRows (length p) woken
     rows_woken = record {
+      marks = ap (λ (w : MachineState). length w.marks) wakes.same ∙ long_after p held m;
       ready = ap (λ (w : MachineState). length w.ready) wakes.same ∙ runs.rows.ready;
       left = ap (λ (w : MachineState). length w.left) wakes.same ∙ runs.rows.left;
       due = wakes.long_due ∙ long_moving;
@@ -267,6 +320,16 @@ module _ (p : Program) (held : ℕ → Bool) (m : MachineState) (runs : Runs p m
       homes = wakes.long_homes ∙ runs.rows.homes;
       least = wakes.long_least ∙ runs.rows.least;
     }
+
+    -- each has read what it is to have read
+    pub read_woken : (k : ℕ) → k < length p → IsRead p woken.configuration k (mark_of woken.marks k)
+    read_woken k agent = rw wakes.same (read_after p held m runs k agent)
+
+    -- who has an action left is flagged so
+    pub flagged_woken : (k : ℕ) → k < length p → is_left p woken.configuration k ≡ true → flag_of woken.left k ≡ true
+    flagged_woken k agent left =
+        let was : is_left p after k ≡ true = sym (ap (λ rows. is_left p rows k) configuration_woken) ∙ left in
+        ap (λ (w : MachineState). flag_of w.left k) wakes.same ∙ flagged_after p held m runs k agent was
 
     -- who is due moved, or stood in the list of one that moves
     due_is : (k : ℕ) → k < length p → flag_of woken.due k ≡ (is_moving p held c k || is_on woken_lists (home_of m.waiting.homes k))
@@ -307,10 +370,10 @@ module _ (p : Program) (held : ℕ → Bool) (m : MachineState) (runs : Runs p m
             let least = least_of m.least j in
             let there = lacked_agent p c least k j home runs.well_formed in
             let woken_list : woken_lists j ≡ true = rw e at is in
-            let flag : flag_of (moving_flags p held c) j ≡ true = and_first (flag_of (moving_flags p held c) j) (nat_le least (count_at after j)) woken_list in
-            inr (rw (unready_if_lacking p c least k j home) (awaits_if_lacking p c least k j home held (sym (flag_is_moving j there) ∙ flag)))
+            let flag : flag_of (moving_flags p held c) (agent_of j) ≡ true = and_first (flag_of (moving_flags p held c) (agent_of j)) (is_reached moved j) woken_list in
+            inr (rw (unready_if_lacking p c least k j home) (awaits_if_lacking p c least k j home held (sym (flag_is_moving (agent_of j) there) ∙ flag)))
 
-    module _ (new : MachineState) (same : new ≡ record woken { ready = new.ready; left = new.left; waiting = new.waiting; least = new.least }) (rows : HasRows (length p) new)
+    module _ (new : MachineState) (same : new ≡ record woken { ready = new.ready; left = new.left; marks = new.marks; waiting = new.waiting; least = new.least }) (rows : HasRows (length p) new)
         (judged : (k : ℕ) → k < length p → flag_of woken.due k ≡ true → IsJudged p new k)
         (others : (k : ℕ) → flag_of woken.due k ≡ false → IsAsBefore woken new k) where
       configuration_new : new.configuration ≡ after
@@ -322,7 +385,11 @@ module _ (p : Program) (held : ℕ → Bool) (m : MachineState) (runs : Runs p m
           let still = home_still k agent calm.0 (home_of m.waiting.homes k) calm.1 (runs.judged k agent).home in
           let kept = others k undue in
           let here = runs.judged k agent in
+          let mark : mark_of new.marks k ≡ mark_of (marks_after p held m) k = kept.mark ∙ ap (λ (w : MachineState). mark_of w.marks k) wakes.same in
+          let unmoved : mark_of new.marks k ≡ mark_of m.marks k = mark ∙ mark_unmoved p held m k agent calm.0 in
           record {
+            read = rw (configuration_new, mark) (read_after p held m runs k agent);
+            all = rw (configuration_new, unmoved, still.1, same_count k agent calm.0) here.all;
             ready = kept.ready ∙ (ap (λ (w : MachineState). flag_of w.ready k) wakes.same ∙ (here.ready ∙ (sym still.1 ∙ ap (λ c. is_ready p c k) (sym configuration_new))));
             left = kept.left ∙ (ap (λ (w : MachineState). flag_of w.left k) wakes.same ∙ (here.left ∙ (sym (left_as_before k agent calm.0) ∙ ap (λ c. is_left p c k) (sym configuration_new))));
             home = rw (configuration_new, kept.home, wakes.homes k) (not_freed (home_of m.waiting.homes k) calm.1 kept.least still.0);
@@ -333,26 +400,26 @@ module _ (p : Program) (held : ℕ → Bool) (m : MachineState) (runs : Runs p m
           not_freed None off lower home = home
           not_freed (Some j) off lower home =
               let late : least_of new.least j ≤ home.awaited.count = omega (arith, lower j, wakes.least j off, home.late) in
-              rw off (record { awaited = home.awaited; is_unmet = home.is_unmet; agent = home.agent; late = late })
+              rw off (record { awaited = home.awaited; is_unmet = home.is_unmet; list = home.list; late = late })
 
       runs_after : Runs p new
       runs_after = record {
         well_formed = runs.well_formed;
         agents = ap length configuration_new ∙ length-tick p held c;
-        flags = ap (λ (w : MachineState). length w.moving) (same ∙ ap (λ (w : MachineState). record w { ready = new.ready; left = new.left; waiting = new.waiting; least = new.least }) wakes.same)
+        flags = ap (λ (w : MachineState). length w.moving) (same ∙ ap (λ (w : MachineState). record w { ready = new.ready; left = new.left; marks = new.marks; waiting = new.waiting; least = new.least }) wakes.same)
             ∙ length-map-range_with_len (is_moving p held c) 0 (length p);
-        rows = record { ready = rows.ready; left = rows.left; due = rows.due; lists = rows.lists; homes = rows.homes; least = rows.least };
+        rows = record { marks = rows.marks; ready = rows.ready; left = rows.left; due = rows.due; lists = rows.lists; homes = rows.homes; least = rows.least };
         judged = λ k agent.
             let here : IsJudged p new k = elim (cases_Bool (flag_of woken.due k)) [ inl due ↦ judged k agent due | inr undue ↦ undisturbed k agent undue ] in
-            record { ready = here.ready; left = here.left; home = here.home };
+            record { read = here.read; all = here.all; ready = here.ready; left = here.left; home = here.home };
       }
 
       pub settled : (count : ℕ) → count ≡ length (filter (flag_of woken.due) (indices (length p))) → IsCarriedOut p held m new count
       settled count is = record {
         runs = runs_after;
         configuration = configuration_new;
-        moving = ap (λ (w : MachineState). w.moving) (same ∙ ap (λ (w : MachineState). record w { ready = new.ready; left = new.left; waiting = new.waiting; least = new.least }) wakes.same);
-        looked = ap (λ (w : MachineState). w.looked) (same ∙ ap (λ (w : MachineState). record w { ready = new.ready; left = new.left; waiting = new.waiting; least = new.least }) wakes.same);
+        moving = ap (λ (w : MachineState). w.moving) (same ∙ ap (λ (w : MachineState). record w { ready = new.ready; left = new.left; marks = new.marks; waiting = new.waiting; least = new.least }) wakes.same);
+        looked = ap (λ (w : MachineState). w.looked) (same ∙ ap (λ (w : MachineState). record w { ready = new.ready; left = new.left; marks = new.marks; waiting = new.waiting; least = new.least }) wakes.same);
         least = omega (arith, moved_counted);
         most = omega (arith, due_counted);
         few = let few = counted_le (flag_of woken.due) (length p) in omega arith;
@@ -364,8 +431,8 @@ runs_looked p m looked runs = record {
   well_formed = runs.well_formed;
   agents = runs.agents;
   flags = runs.flags;
-  rows = record { ready = runs.rows.ready; left = runs.rows.left; due = runs.rows.due; lists = runs.rows.lists; homes = runs.rows.homes; least = runs.rows.least };
-  judged = λ k agent. let here = runs.judged k agent in record { ready = here.ready; left = here.left; home = here.home };
+  rows = record { marks = runs.rows.marks; ready = runs.rows.ready; left = runs.rows.left; due = runs.rows.due; lists = runs.rows.lists; homes = runs.rows.homes; least = runs.rows.least };
+  judged = λ k agent. let here = runs.judged k agent in record { read = here.read; all = here.all; ready = here.ready; left = here.left; home = here.home };
 }
 
 -- the count of agents that were looked at, where so many were due

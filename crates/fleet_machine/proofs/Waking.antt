@@ -1,8 +1,8 @@
 -- Agents that are taken off lists.
 use Rattle.std.proofs.Common.{◌≡◌, ◌≢◌, ◌<◌, ◌≤◌, ◌+◌, ℕ, Bool, true, false, ◌||◌, ◌&&◌, List, length, set, Option, Some, None, refl, ap, sym, ◌∙◌, inl, inr, ◌⊎◌, arith, cond, get_or-set_same, get_or-set_other, length-set}
-use Rattle.std.specs.Prelude.{is_some, IfSome, IfNone, ◌==◌, nat_lt}
+use Rattle.std.specs.Prelude.{is_some, IfSome, IfNone, ◌==◌, nat_lt, nat_le}
 use Rattle.std.specs.List.{count_by}
-use Rattle.std.proofs.lemmas.Bool.{cases_eq, cases_lt, eqb-true, lt-ltb, le-ltb, or_parts, true≢false}
+use Rattle.std.proofs.lemmas.Bool.{cases_eq, cases_lt, eqb-true, lt-ltb, le-ltb, le-leb, leb-true, or_parts, true≢false}
 use Rattle.std.proofs.lemmas.Bool.Decides.{eqb_tells}
 use Rattle.std.proofs.lemmas.Option.{same_Some, none-some}
 use Rattle.std.proofs.lemmas.List.Sums.{sum_by-set}
@@ -10,10 +10,11 @@ use Rattle.std.proofs.Math.Bool.{or-true, or-false}
 use Rattle.fleet_machine.specs.AgentSet.{AreNoneFrom, IsNextFrom}
 use Rattle.fleet_machine.specs.WaitLists.{home_of}
 use Rattle.fleet_model.specs.Machine.{count_at}
-use Rattle.fleet_machine.specs.Machine.{MachineState, flag_of, is_reached, least_of}
+use Rattle.fleet_machine.specs.Machine.{MachineState, flag_of, is_reached, least_of, list_of, agent_of}
+use Rattle.fleet_machine.proofs.Waiting.{agent_of_list}
 use Rattle.fleet_machine.specs.Waking.{is_on, if_not_on, is_woken_by, IsWoken}
 
-eqb-refl : (n : ℕ) → (n == n) ≡ true
+pub eqb-refl : (n : ℕ) → (n == n) ≡ true
 eqb-refl n = elim (eqb_tells n n) [ inl h ↦ h.0 | inr h ↦ absurd (h.1 refl) ]
 
 ne-eqb : (a b : ℕ) → a ≢ b → (a == b) ≡ false
@@ -238,7 +239,7 @@ none_below flags k = and_no (flag_of flags k)
 
 -- the lists of the flagged agents below n whose least counts are reached
 abbrev pub reached_below : MachineState → ℕ → ℕ → Bool
-reached_below m n k = below m.moving n k && is_reached m k
+reached_below m n k = below m.moving n (agent_of k) && is_reached m k
 
 reached_law : (a b r s v : Bool) → v ≡ (a || b) → (b ≡ true → r ≡ s) → (v && r) ≡ ((a && r) || (b && s))
 reached_law true true r s v is same = rw (is, same refl) (sym (or_same s))
@@ -250,12 +251,12 @@ reached_law true false r s v is same = rw is (sym (or-false r))
 reached_law false true r s v is same = rw is (same refl)
 reached_law false false r s v is same = rw is refl
 
--- what is reached at an agent is reached still while others' lists are woken
-pub reached_still : (m now : MachineState) (from j : ℕ) → IsWoken (reached_below m from) m now → from ≤ j → is_reached m j ≡ is_reached now j
-reached_still m now from j woken later =
-    let off : reached_below m from j ≡ false = rw (le-ltb j from later) (no_more (flag_of m.moving j) (is_reached m j)) in
-    let least : least_of now.least j ≡ least_of m.least j = woken.least j off in
-    let count : count_at now.configuration j ≡ count_at m.configuration j = ap (λ (w : MachineState). count_at w.configuration j) woken.same in
+-- what is reached at a list is reached still while the lists of agents before its own are woken
+pub reached_still : (m now : MachineState) (from k : ℕ) → IsWoken (reached_below m from) m now → from ≤ agent_of k → is_reached m k ≡ is_reached now k
+reached_still m now from k woken later =
+    let off : reached_below m from k ≡ false = rw (le-ltb (agent_of k) from later) (no_more (flag_of m.moving (agent_of k)) (is_reached m k)) in
+    let least : least_of now.least k ≡ least_of m.least k = woken.least k off in
+    let count : count_at now.configuration (agent_of k) ≡ count_at m.configuration (agent_of k) = ap (λ (w : MachineState). count_at w.configuration (agent_of k)) woken.same in
     rw (least, count) refl
   where
     no_more : (a r : Bool) → ((a && false) && r) ≡ false
@@ -263,36 +264,62 @@ reached_still m now from j woken later =
     no_more false r = refl
 
 pub one_more_reached : (m now : MachineState) (from j : ℕ) → IsWoken (reached_below m from) m now → IsNextFrom m.moving from j
-    → (k : ℕ) → reached_below m (j + 1) k ≡ (reached_below m from k || ((k == j) && is_reached now k))
+    → (k : ℕ) → reached_below m (j + 1) k ≡ (reached_below m from k || ((agent_of k == j) && is_reached now k))
 one_more_reached m now from j woken next k =
-    reached_law (below m.moving from k) (k == j) (is_reached m k) (is_reached now k) (below m.moving (j + 1) k) (one_more_below m.moving from j next k)
-    (λ here. let same : k ≡ j = eqb-true k j here in rw same (reached_still m now from j woken next.later))
+    reached_law (below m.moving from (agent_of k)) (agent_of k == j) (is_reached m k) (is_reached now k) (below m.moving (j + 1) (agent_of k)) (one_more_below m.moving from j next (agent_of k))
+    (λ here. let same : agent_of k ≡ j = eqb-true (agent_of k) j here in let later = next.later in reached_still m now from k woken (omega (arith, same, later)))
 
 pub all_reached : (m : MachineState) (from : ℕ) → AreNoneFrom m.moving from → (k : ℕ) → is_woken_by m k ≡ (reached_below m from k || false)
-all_reached m from none k = ap (λ b. b && is_reached m k) (all_below m.moving from none k ∙ or-false (below m.moving from k)) ∙ sym (or-false (reached_below m from k))
+all_reached m from none k = ap (λ b. b && is_reached m k) (all_below m.moving from none (agent_of k) ∙ or-false (below m.moving from (agent_of k))) ∙ sym (or-false (reached_below m from k))
 
 pub none_reached : (m : MachineState) (k : ℕ) → reached_below m 0 k ≡ false
-none_reached m k = ap (λ b. b && is_reached m k) (none_below m.moving k)
+none_reached m k = ap (λ b. b && is_reached m k) (none_below m.moving (agent_of k))
 
--- one list, if its least count is reached
-pub woken_if : (j : ℕ) (a b : MachineState) → is_reached a j ≡ true → IsWoken (λ k. k == j) a b → IsWoken (λ k. (k == j) && is_reached a k) a b
-woken_if j a b reached woken = same_lists (λ k. k == j) (λ k. (k == j) && is_reached a k) a b (λ k. same k (k == j) refl) woken
-  where
-    same : (k : ℕ) (h : Bool) → (k == j) ≡ h → ((k == j) && is_reached a k) ≡ (k == j)
-    same k true e = let here : k ≡ j = eqb-true k j e in rw (here, reached) (and_yes (j == j))
-      where
-        and_yes : (x : Bool) → (x && true) ≡ x
-        and_yes true = refl
-        and_yes false = refl
-    same k false e = rw e refl
+-- of an agent's lists that of its count alone, if its least count is reached
+module _ (j count list : ℕ) (a : MachineState) (count_is : count ≡ count_at a.configuration j) (list_is : list ≡ list_of (record { agent = j; count = count })) where
+  agent_is : agent_of list ≡ j
+  agent_is = rw list_is (agent_of_list (record { agent = j; count = count }))
 
-pub not_woken : (j : ℕ) (a : MachineState) → is_reached a j ≡ false → IsWoken (λ k. (k == j) && is_reached a k) a a
-not_woken j a unreached = none_woken (λ k. (k == j) && is_reached a k) a (λ k. off k (k == j) refl)
-  where
-    off : (k : ℕ) (h : Bool) → (k == j) ≡ h → ((k == j) && is_reached a k) ≡ false
-    off k true e = let here : k ≡ j = eqb-true k j e in rw (here, unreached) (and_no (j == j))
-      where
-        and_no : (x : Bool) → (x && false) ≡ false
-        and_no true = refl
-        and_no false = refl
-    off k false e = rw e refl
+  -- a list of the agent that is reached is this one
+  reached_is : (k : ℕ) → agent_of k ≡ j → is_reached a k ≡ true → k ≡ list
+  reached_is k here reached =
+      let of_count : (list_of (record { agent = agent_of k; count = count_at a.configuration (agent_of k) }) == k) ≡ true = and_first (list_of (record { agent = agent_of k; count = count_at a.configuration (agent_of k) }) == k) (nat_le (least_of a.least k) (count_at a.configuration (agent_of k))) reached in
+      let is = eqb-true _ _ of_count in
+      sym is ∙ (ap (λ (n : ℕ). list_of (record { agent = n; count = count_at a.configuration n })) here ∙ (ap (λ (n : ℕ). list_of (record { agent = j; count = n })) (sym count_is) ∙ sym list_is))
+    where
+      and_first : (x y : Bool) → (x && y) ≡ true → x ≡ true
+      and_first true y h = refl
+      and_first false y h = h
+
+  here_reached : is_reached a list ≡ nat_le (least_of a.least list) count
+  here_reached =
+      let same : list_of (record { agent = agent_of list; count = count_at a.configuration (agent_of list) }) ≡ list = ap (λ (n : ℕ). list_of (record { agent = n; count = count_at a.configuration n })) agent_is ∙ (ap (λ (n : ℕ). list_of (record { agent = j; count = n })) (sym count_is) ∙ sym list_is) in
+      let counts : count_at a.configuration (agent_of list) ≡ count = ap (λ (n : ℕ). count_at a.configuration n) agent_is ∙ sym count_is in
+      let own : (list_of (record { agent = agent_of list; count = count_at a.configuration (agent_of list) }) == list) ≡ true = rw same (eqb-refl list) in
+      ap (λ b. b && nat_le (least_of a.least list) (count_at a.configuration (agent_of list))) own ∙ ap (λ n. nat_le (least_of a.least list) n) counts
+
+  pub woken_if : (b : MachineState) → least_of a.least list ≤ count → IsWoken (λ k. k == list) a b → IsWoken (λ k. (agent_of k == j) && is_reached a k) a b
+  woken_if b reached woken = same_lists (λ k. k == list) (λ k. (agent_of k == j) && is_reached a k) a b (λ k. same k (k == list) refl) woken
+    where
+      same : (k : ℕ) (h : Bool) → (k == list) ≡ h → ((agent_of k == j) && is_reached a k) ≡ (k == list)
+      same k true e =
+          let here : k ≡ list = eqb-true k list e in
+          let own : (agent_of list == j) ≡ true = rw agent_is (eqb-refl j) in
+          rw (here, own, here_reached, le-leb (least_of a.least list) count reached) (sym (eqb-refl list))
+      same k false e = go (agent_of k == j) (is_reached a k) refl refl ∙ sym e
+        where
+          go : (x y : Bool) → (agent_of k == j) ≡ x → is_reached a k ≡ y → (x && y) ≡ false
+          go true true at reached = absurd (true≢false (sym (ap (λ n. n == list) (reached_is k (eqb-true (agent_of k) j at) reached) ∙ eqb-refl list) ∙ e))
+          go true false at reached = refl
+          go false y at reached = refl
+
+  pub not_woken : count < least_of a.least list → IsWoken (λ k. (agent_of k == j) && is_reached a k) a a
+  not_woken early = none_woken (λ k. (agent_of k == j) && is_reached a k) a (λ k. off k (agent_of k == j) (is_reached a k) refl refl)
+    where
+      off : (k : ℕ) (x y : Bool) → (agent_of k == j) ≡ x → is_reached a k ≡ y → (x && y) ≡ false
+      off k true true at reached =
+          let is = reached_is k (eqb-true (agent_of k) j at) reached in
+          let le = leb-true _ _ (sym here_reached ∙ (ap (λ n. is_reached a n) (sym is) ∙ reached)) in
+          absurd (omega (arith, le, early))
+      off k true false at reached = refl
+      off k false y at reached = refl

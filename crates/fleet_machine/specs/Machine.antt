@@ -1,21 +1,29 @@
 -- The state of a machine as contracts see it, and the program that it runs.
-use Rattle.std.specs.Prelude.{◌≡◌, ℕ, ◌+◌, ◌<◌, ◌≤◌, Bool, false, nat_lt, nat_le, List, length, map, set, min, get_or, Option, Some, None, slice_get}
-use Rattle.fleet_model.specs.Program.{Program, IsWellFormed, moves, awaits_of}
+use Rattle.std.specs.Prelude.{◌≡◌, ℕ, ◌+◌, ◌*◌, ◌/◌, ◌%◌, ◌<◌, ◌≤◌, ◌==◌, ◌&&◌, Bool, false, nat_lt, nat_le, List, length, map, set, min, get_or, take, Option, Some, None, true, slice_get, if◌then◌else◌}
+use Rattle.std.specs.List.{list_all}
+use Rattle.fleet_model.specs.Program.{Program, IsWellFormed, moves, awaits_of, awaits_before}
 use Rattle.fleet_model.specs.declared.program.Await.{Await}
 use Rattle.fleet_model.specs.declared.standing.Standing.{Standing}
 use Rattle.fleet_model.specs.Machine.{Configuration, standing_at, count_at, next_action, finished_one, is_met, is_ready, is_moving, indices}
+use Rattle.fleet_machine.specs.declared.mark.Mark.{Mark}
+use Rattle.fleet_machine.specs.declared.wait_lists.TheConstants.{LISTS_EACH}
 use Rattle.fleet_machine.specs.WaitLists.{WaitState, home_of}
 
 -- flag i of the flags
 abbrev pub flag_of : List Bool → ℕ → Bool
 flag_of flags i = get_or flags i false
 
--- the agents on their way, and flags for each: whether the last tick, or the one under way, moves it, whether it is
--- ready, whether an action is left to it, and whether the tick under way has to judge it anew. An agent that waits
--- stands in the list of one whose count it lacks, and waits for the least count of that list or for more. So many
--- agents have been looked at
+-- how far agent i has read its program
+abbrev pub mark_of : List Mark → ℕ → Mark
+mark_of marks i = get_or marks i (record { before = 0; met = 0 })
+
+-- the agents on their way, how far each has read its program, and flags for each: whether the last tick, or the one
+-- under way, moves it, whether it is ready, whether an action is left to it, and whether the tick under way has to
+-- judge it anew. An agent that waits stands in the list of one whose count it lacks, and waits for the least count of
+-- that list or for more. So many agents have been looked at
 pub record MachineState : Type 0 where
   pub configuration : Configuration
+  pub marks : List Mark
   pub moving : List Bool
   pub ready : List Bool
   pub left : List Bool
@@ -39,15 +47,24 @@ abbrev pub IsLacked : Program → Configuration → ℕ → Option Await → Typ
 IsLacked p c i None = is_ready p c i ≡ is_left p c i
 IsLacked p c i (Some awaited) = IsUnmet p c i awaited
 
+-- the list of those that wait for this: each agent has a few, and counts go round them
+abbrev pub list_of : Await → ℕ
+list_of w = w.agent * LISTS_EACH + w.count % LISTS_EACH
+
+-- the agent whose list this is
+abbrev pub agent_of : ℕ → ℕ
+agent_of list = list / LISTS_EACH
+
 -- each agent in list j waits for this count or for a greater one
 abbrev pub least_of : List ℕ → ℕ → ℕ
 least_of least j = get_or least j 0
 
--- an await of the next action of agent i is not met, and awaits so many actions of agent j at least
+-- an await of the next action of agent i is not met, those that wait for it stand in list j, and it awaits so many
+-- actions at least
 pub record Lacks (p : Program) (c : Configuration) (least i j : ℕ) : Type 0 where
   pub awaited : Await
   pub is_unmet : IsUnmet p c i awaited
-  pub agent : awaited.agent ≡ j
+  pub list : list_of awaited ≡ j
   pub late : least ≤ awaited.count
 
 -- agent i belongs there: in the list of an agent whose count it lacks, or, if it is ready or has finished, in no list
@@ -55,29 +72,49 @@ abbrev pub IsHome : Program → Configuration → (least : List ℕ) → ℕ →
 IsHome p c least i None = is_ready p c i ≡ is_left p c i
 IsHome p c least i (Some j) = Lacks p c (least_of least j) i j
 
--- agent j has finished as many actions as an agent in its list may wait for
+-- list j is that of the count of its agent, which has finished as many actions as one in the list may wait for
 abbrev pub is_reached : MachineState → ℕ → Bool
-is_reached m j = nat_le (least_of m.least j) (count_at m.configuration j)
+is_reached m j =
+    let count = count_at m.configuration (agent_of j) in
+    (list_of (record { agent = agent_of j; count = count }) == j) && nat_le (least_of m.least j) count
 
 -- the least counts, where one agent more waits for what it lacks
 abbrev pub lowered : List ℕ → Option Await → List ℕ
 lowered least None = least
-lowered least (Some w) = set least w.agent (min (least_of least w.agent) w.count)
+lowered least (Some w) = set least (list_of w) (min (least_of least (list_of w)) w.count)
 
--- agent i is flagged as it is, and stands in the list in which it belongs
+-- so many awaits stand before the next action of agent i, and the first ones of that action are met
+pub record IsRead (p : Program) (c : Configuration) (i : ℕ) (mark : Mark) : Type 0 where
+  pub before : mark.before ≡ awaits_before p i (count_at c i)
+  pub few : mark.met ≤ length (awaits_of p i (count_at c i + 1))
+  pub met : list_all (is_met c) (take mark.met (awaits_of p i (count_at c i + 1))) ≡ true
+
+-- so many awaits stand before the next action of agent i, and so many before its step
+pub record IsReadToStep (p : Program) (c : Configuration) (i : ℕ) (mark : Mark) : Type 0 where
+  pub before : mark.before ≡ awaits_before p i (count_at c i)
+  pub all : mark.met ≡ length (awaits_of p i (count_at c i + 1))
+
+-- an agent that is ready has read all awaits of its next action
+abbrev pub HasReadAll : Program → Configuration → ℕ → Mark → Type 0
+HasReadAll p c i mark = is_ready p c i ≡ true → mark.met ≡ length (awaits_of p i (count_at c i + 1))
+
+-- agent i is flagged as it is, has read what it is to have read, and stands in the list in which it belongs
 pub record IsJudged (p : Program) (m : MachineState) (i : ℕ) : Type 0 where
+  pub read : IsRead p m.configuration i (mark_of m.marks i)
+  pub all : HasReadAll p m.configuration i (mark_of m.marks i)
   pub ready : flag_of m.ready i ≡ is_ready p m.configuration i
   pub left : flag_of m.left i ≡ is_left p m.configuration i
   pub home : IsHome p m.configuration m.least i (home_of m.waiting.homes i)
 
--- each of n agents has its flags, a list, and a place in one
+-- each of n agents has its mark, its flags, its lists, and a place in one
 pub record HasRows (n : ℕ) (m : MachineState) : Type 0 where
+  pub marks : length m.marks ≡ n
   pub ready : length m.ready ≡ n
   pub left : length m.left ≡ n
   pub due : length m.due ≡ n
-  pub lists : m.waiting.lists ≡ n
+  pub lists : m.waiting.lists ≡ n * LISTS_EACH
   pub homes : length m.waiting.homes ≡ n
-  pub least : length m.least ≡ n
+  pub least : length m.least ≡ n * LISTS_EACH
 
 -- the machine runs this program
 pub record Runs (p : Program) (m : MachineState) : Type 0 where
@@ -90,6 +127,18 @@ pub record Runs (p : Program) (m : MachineState) : Type 0 where
 -- agent i after its next action
 abbrev pub after_next : Program → Configuration → ℕ → Standing
 after_next p c i = finished_one (standing_at c i) (next_action p c i)
+
+-- how far an agent has read that has finished the action up to whose step it had read
+abbrev pub passed : Mark → Mark
+passed mark = record { before = mark.before + mark.met; met = 0 }
+
+-- how far agent i has read after a tick in which these are held, before it is judged anew
+abbrev pub mark_after : Program → (ℕ → Bool) → MachineState → ℕ → Mark
+mark_after p held m i = if is_moving p held m.configuration i then passed (mark_of m.marks i) else mark_of m.marks i
+
+-- .. of all agents
+abbrev pub marks_after : Program → (ℕ → Bool) → MachineState → List Mark
+marks_after p held m = map (mark_after p held m) (indices (length p))
 
 -- a flag for each agent, whether a tick in which these are held moves it
 abbrev pub moving_flags : Program → (ℕ → Bool) → Configuration → List Bool

@@ -4,7 +4,8 @@ use Rattle.fleet_model.specs.declared.program.Await.{Await}
 use Rattle.fleet_model.specs.Program.{Program}
 use Rattle.fleet_model.specs.Machine.{is_ready, tick, moved_in}
 use Rattle.fleet_machine.specs.WaitLists.{home_of}
-use Rattle.fleet_machine.specs.Machine.{MachineState, Runs, flag_of, is_left, IsLacked, is_reached, least_of, lowered, after_next, moving_flags}
+use Rattle.fleet_machine.specs.declared.mark.Mark.{Mark}
+use Rattle.fleet_machine.specs.Machine.{MachineState, Runs, flag_of, mark_of, is_left, IsLacked, IsRead, HasReadAll, is_reached, least_of, list_of, agent_of, lowered, passed, after_next, marks_after, moving_flags}
 use Rattle.fleet_machine.specs.Looked.{awaiting_in}
 
 -- the list is one of these
@@ -34,12 +35,16 @@ pub record IsWoken (lists : ℕ → Bool) (before after : MachineState) : Type 0
 
 -- the lists of the agents that the tick moves, if a count is reached for which an agent in the list may wait
 abbrev pub is_woken_by : MachineState → ℕ → Bool
-is_woken_by m j = flag_of m.moving j && is_reached m j
+is_woken_by m j = flag_of m.moving (agent_of j) && is_reached m j
 
 -- agent i, which is ready, has finished its next action in the tick under way, unless it is held
 abbrev pub advanced_one : Program → MachineState → ℕ → (is_held : Bool) → MachineState
 advanced_one p m i true = m
-advanced_one p m i false = record m { configuration = set m.configuration i (after_next p m.configuration i); moving = set m.moving i true }
+advanced_one p m i false = record m {
+  configuration = set m.configuration i (after_next p m.configuration i);
+  marks = set m.marks i (passed (mark_of m.marks i));
+  moving = set m.moving i true;
+}
 
 -- the agents that a tick moves have moved, and are due, and nothing else is done yet of the tick in which these are
 -- held
@@ -47,6 +52,7 @@ pub record HasMoved (p : Program) (held : ℕ → Bool) (before after : MachineS
   pub runs : Runs p before
   pub same : after ≡ record before {
     configuration = tick p held before.configuration;
+    marks = marks_after p held before;
     moving = moving_flags p held before.configuration;
     due = moving_flags p held before.configuration;
   }
@@ -62,19 +68,24 @@ pub record IsCarriedOut (p : Program) (held : ℕ → Bool) (before after : Mach
   pub most : judged ≤ moved_in p held before.configuration + awaiting_in p held before.configuration
   pub few : judged ≤ length p
 
--- agent i is flagged anew and stands in the list in which it belongs, and nothing else is changed
+-- agent i is flagged anew, has read as far as it can, and stands in the list in which it belongs; nothing else is changed
 pub record IsPlaced (p : Program) (before after : MachineState) (i : ℕ) : Type 0 where
   pub lacked : Option Await
   pub belongs : IsLacked p before.configuration i lacked
+  pub mark : Mark
+  pub read : IsRead p before.configuration i mark
+  pub all : HasReadAll p before.configuration i mark
   pub same : after ≡ record before {
     ready = set before.ready i (is_ready p before.configuration i);
     left = set before.left i (is_left p before.configuration i);
-    waiting = record before.waiting { homes = set before.waiting.homes i (option_map (λ w. w.agent) lacked) };
+    marks = set before.marks i mark;
+    waiting = record before.waiting { homes = set before.waiting.homes i (option_map list_of lacked) };
     least = lowered before.least lacked;
   }
 
--- agent i is flagged, and stands, as before, and no least count rose
+-- agent i is flagged, has read and stands as before, and no least count rose
 pub record IsAsBefore (before after : MachineState) (i : ℕ) : Type 0 where
+  pub mark : mark_of after.marks i ≡ mark_of before.marks i
   pub ready : flag_of after.ready i ≡ flag_of before.ready i
   pub left : flag_of after.left i ≡ flag_of before.left i
   pub home : home_of after.waiting.homes i ≡ home_of before.waiting.homes i

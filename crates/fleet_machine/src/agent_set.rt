@@ -182,6 +182,16 @@ impl AgentSet {
         }
     }
 
+    /// All agents of so many.
+    pub fn of_all(agents: u16) -> AgentSet
+        requires { agents ≤ MAX_AGENTS }
+        ensures { result ≡ replicate agents true }
+    {
+        let mut all = AgentSet::new(agents);
+        all.set_to(&[true; MAX_AGENTS][..agents as usize]);
+        all
+    }
+
     /// Whether agent `i` is a member.
     pub fn contains(&self, i: u16) -> bool
         requires { i < length self.now }

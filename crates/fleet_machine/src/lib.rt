@@ -3,6 +3,7 @@
 
 mod agent_set;
 mod machine;
+mod mark;
 mod wait_lists;
 
 pub use agent_set::AgentSet;

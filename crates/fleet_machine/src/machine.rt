@@ -1,22 +1,25 @@
 //! The agents of a program on their way, and one tick of all of them.
 
-ghost use Rattle.std.specs.Prelude.{◌≡◌, ◌≢◌, ◌+◌, ◌-◌, ◌<◌, ◌≤◌, ◌&&◌, ◌||◌, ◌==◌, if◌then◌else◌, ℕ, Bool, true, false, length, set, replicate, Some, None, filter, is_none, option_map, IfOk, IfSome, IfNone, MatchOption};
+ghost use Rattle.std.specs.Prelude.{◌≡◌, ◌≢◌, ◌+◌, ◌-◌, ◌*◌, ◌<◌, ◌≤◌, ◌^◌, ◌&&◌, ◌||◌, ◌==◌, if◌then◌else◌, ℕ, Bool, true, false, length, set, replicate, Some, None, filter, is_none, option_map, IfOk, IfSome, IfNone, MatchOption};
 ghost use Rattle.std.specs.List.{list_any};
 ghost use Rattle.fleet_model.specs.Geometry.{place_of, stepped};
-ghost use Rattle.fleet_model.specs.Program.{moves, IsWellFormed};
+ghost use Rattle.fleet_model.specs.Program.{moves, awaits_of, IsWellFormed};
 ghost use Rattle.fleet_model.specs.Machine.{opening, is_finished, next_action, is_ready, is_met, tick, moved_in, is_ready_held, standing_at, count_at, indices};
 ghost use Rattle.fleet_model.specs.Claims.{order_of};
 ghost use Rattle.fleet_machine.specs.AgentSet.{AreNoneFrom, IsNextFrom};
 ghost use Rattle.fleet_machine.specs.Confirmed.{all_but, AreAllReady, IsFirstUnready};
 ghost use Rattle.fleet_machine.specs.Looked.{ready_in, awaiting_in, LooksAt};
 ghost use Rattle.fleet_machine.specs.Near.{IsNear, AreNear};
-ghost use Rattle.fleet_machine.specs.Machine.{MachineState, Runs, HasRows, IsLacked, IsJudged, is_left, is_reached, lowered, after_next, moving_flags, flag_of};
+ghost use Rattle.fleet_machine.specs.Machine.{MachineState, Runs, HasRows, HasReadAll, IsLacked, IsJudged, IsRead, IsReadToStep, is_left, is_reached, list_of, agent_of, least_of, lowered, passed, after_next, mark_of, marks_after, moving_flags, flag_of};
 ghost use Rattle.fleet_machine.specs.Waking.{IsWoken, is_woken_by, advanced_one, HasMoved, IsCarriedOut, IsPlaced, IsAsBefore};
 ghost use Rattle.fleet_machine.specs.WaitLists.{home_of};
 
 use crate::agent_set::{AgentSet, next_flag};
-use crate::wait_lists::WaitLists;
-use fleet_model::{Await, Cell, MAX_AGENTS, MAX_MOVES, Place, ProgramView, Standing, Step};
+use crate::mark::Mark;
+use crate::wait_lists::{LISTS_EACH, WaitLists};
+use fleet_model::{
+    Await, Cell, Instruction, MAX_AGENTS, MAX_MOVES, Place, ProgramView, Standing, Step,
+};
 use std::alloc::{AllocError, Global};
 use std::marker::Model;
 
@@ -32,6 +35,8 @@ pub struct Tick {
 #[derive(Drop)]
 pub struct Machine {
     agents: Vec<Standing>,
+    /// How far each agent has read. An agent that lacks a count goes on from there once it is woken.
+    marks: Vec<Mark>,
     /// The agents that the last tick moved, or that the one under way moves.
     moving: AgentSet,
     ready: AgentSet,
@@ -39,7 +44,7 @@ pub struct Machine {
     left: AgentSet,
     /// The agents that the tick under way has to judge anew.
     due: AgentSet,
-    /// An agent that is not ready and has an action left stands in the list of one whose count it lacks.
+    /// An agent that is not ready and has an action left stands in a list of one whose count it lacks.
     waiting: WaitLists,
     /// For each list the least count for which an agent in it waits, or a lesser one. Nobody in the list is looked at
     /// before its agent has finished so many actions.
@@ -55,6 +60,7 @@ impl Model for Machine {
 
     ghost view = { λ m. record {
       configuration = m.agents.items;
+      marks = m.marks.items;
       moving = m.moving;
       ready = m.ready;
       left = m.left;
@@ -94,6 +100,14 @@ fn after_step(standing: Standing, step: Step) -> Standing
     }
 }
 
+/// The list of those that wait for this.
+fn list_of(awaited: Await) -> u16
+    requires { awaited.agent < MAX_AGENTS }
+    ensures { result ≡ list_of awaited }
+{
+    awaited.agent * LISTS_EACH + (awaited.count % LISTS_EACH as u32) as u16
+}
+
 /// How many agents a tick looked at: those that were ready, and of those that it judged those that did not move.
 fn look_count(ready: u16, moved: u16, judged: u16) -> u16
     requires ready { ready ≤ MAX_AGENTS }
@@ -127,16 +141,20 @@ impl Machine {
     {
         let agents = starts(alloc, program)?;
         let count = program.agents();
-        let waiting = WaitLists::new(alloc, count as usize, count as usize)?;
-        let least = vec![in alloc; u32::MAX; count as usize]?;
-        let mut machine = Machine::with_agents(agents, count, waiting, least);
+        let marks = vec![in alloc; Mark { before: 0, met: 0 }; count as usize]?;
+        let lists = count as usize * LISTS_EACH as usize;
+        let waiting = WaitLists::new(alloc, lists, count as usize)?;
+        let least = vec![in alloc; u32::MAX; lists]?;
+        let mut machine = Machine::with_agents(agents, marks, count, waiting, least);
         machine.judge_all(program);
         Ok(machine)
     }
 
-    /// So many agents, which stand there and in these lists. None is flagged.
+    /// So many agents, which stand there and in these lists, and have read so far. Each is flagged as one with an action
+    /// left, and otherwise none.
     fn with_agents(
         agents: Vec<Standing>,
+        marks: Vec<Mark>,
         count: u16,
         waiting: WaitLists,
         least: Vec<u32>,
@@ -145,9 +163,10 @@ impl Machine {
         requires few { count ≤ MAX_AGENTS }
         ensures { result ≡ record {
           configuration = agents.items;
+          marks = marks.items;
           moving = replicate count false;
           ready = replicate count false;
-          left = replicate count false;
+          left = replicate count true;
           due = replicate count false;
           waiting = waiting;
           least = least.items;
@@ -156,9 +175,10 @@ impl Machine {
     {
         Machine {
             agents,
+            marks,
             moving: AgentSet::new(count),
             ready: AgentSet::new(count),
-            left: AgentSet::new(count),
+            left: AgentSet::of_all(count),
             due: AgentSet::new(count),
             waiting,
             least,
@@ -229,29 +249,47 @@ impl Machine {
         self.looked
     }
 
-    /// An await of the next action of agent `i` that is not met, if it has one.
-    fn missing_await<P: ProgramView>(&self, program: &P, i: u16) -> Option<Await>
+    /// Reads on through the awaits of the next action of agent `i`, if it has one, and answers how many of them are met,
+    /// from the first one on, and the one after these, if there is one.
+    fn read_on<P: ProgramView>(&self, program: &P, i: u16) -> (u16, Option<Await>)
         requires well_formed { IsWellFormed (P.program program.now) }
         requires agents { length self.now.configuration ≡ length (P.program program.now) }
+        requires marks { length self.now.marks ≡ length (P.program program.now) }
         requires agent { i < length (P.program program.now) }
-        ensures lacked { IsLacked (P.program program.now) self.now.configuration i result }
-        ensures list { IfSome result (λ w. w.agent < length (P.program program.now)) }
+        requires read { IsRead (P.program program.now) self.now.configuration i (mark_of self.now.marks i) }
+        ensures read { IsRead (P.program program.now) self.now.configuration i
+            (record (mark_of self.now.marks i) { met = result.0 }) }
+        ensures all { HasReadAll (P.program program.now) self.now.configuration i
+            (record (mark_of self.now.marks i) { met = result.0 }) }
+        ensures lacked { IsLacked (P.program program.now) self.now.configuration i result.1 }
+        ensures agent { IfSome result.1 (λ w. w.agent < MAX_AGENTS) }
+        ensures list { IfSome result.1 (λ w. list_of w
+            < length (P.program program.now) * LISTS_EACH) }
         ensures ready { is_ready (P.program program.now) self.now.configuration i
-            ≡ (is_left (P.program program.now) self.now.configuration i && is_none result) }
+            ≡ (is_left (P.program program.now) self.now.configuration i && is_none result.1) }
     {
         let finished = self.agent(i).count;
+        let Mark { before, met: first } = self.mark(i);
         let has_finished = finished >= program.moves(i);
         if has_finished {
-            return None;
+            return (first, None);
         }
-        let next = finished + 1;
-        for k in 0..program.await_count(i, next) {
-            let awaited = program.await_at(i, next, k);
+        let mut met = first;
+        while let Instruction::Await(awaited) = program.instruction(i, finished, before, met) {
             if !self.has_met(awaited) {
-                return Some(awaited);
+                return (met, Some(awaited));
             }
+            met += 1;
         }
-        None
+        (met, None)
+    }
+
+    /// How far agent `i` has read.
+    fn mark(&self, i: u16) -> Mark
+        requires { i < length self.now.marks }
+        ensures { result ≡ mark_of self.now.marks i }
+    {
+        self.marks[i as usize]
     }
 
     /// Whether the awaited agent has finished what is awaited of it.
@@ -262,20 +300,27 @@ impl Machine {
         awaited.count <= self.agent(awaited.agent).count
     }
 
-    /// The step of the next action of agent `i`, which has one.
+    /// The step of the next action of agent `i`, which has one and has read up to it.
     fn next_step<P: ProgramView>(&self, program: &P, i: u16) -> Step
         requires well_formed { IsWellFormed (P.program program.now) }
         requires agent { i < length (P.program program.now) }
         requires standing { i < length self.now.configuration }
+        requires marks { i < length self.now.marks }
         requires left { count_at self.now.configuration i < moves (P.program program.now) i }
+        requires read { IsReadToStep (P.program program.now) self.now.configuration i
+            (mark_of self.now.marks i) }
         ensures { option_map (λ a. a.step)
             (next_action (P.program program.now) self.now.configuration i) ≡ Some result }
     {
-        program.step(i, self.agent(i).count + 1)
+        let Mark { before, met } = self.mark(i);
+        match program.instruction(i, self.agent(i).count, before, met) {
+            Instruction::Step(step) => step,
+            Instruction::Await(_) => unreachable!(),
+        }
     }
 
     /// The step of the next action of agent `i`, if it is ready.
-    #[tactic(auto, using(fleet_model::proofs::Tick::ready_left))]
+    #[tactic(auto, using(fleet_model::proofs::Tick::ready_left, crate::proofs::Marks::read_to_step))]
     pub fn order<P: ProgramView>(&self, program: &P, i: u16) -> Option<Step>
         requires runs { Runs (P.program program.now) self.now }
         requires agent { i < length (P.program program.now) }
@@ -338,45 +383,83 @@ impl Machine {
         self.due.next(from)
     }
 
-    /// Agent `i`, which stands in no list, waits for the awaited agent.
+    /// Agent `i`, which stands in no list, waits for what is awaited.
     fn wait_for(&mut self, i: u16, awaited: Await)
         requires home { i < length self.old.waiting.homes }
         requires nowhere { home_of self.old.waiting.homes i ≡ None }
-        requires list { awaited.agent < self.old.waiting.lists }
-        requires least { awaited.agent < length self.old.least }
+        requires agent { awaited.agent < MAX_AGENTS }
+        requires list { list_of awaited < self.old.waiting.lists }
+        requires least { list_of awaited < length self.old.least }
         ensures { self.new ≡ record self.old {
           waiting = record self.old.waiting {
-            homes = set self.old.waiting.homes i (Some awaited.agent);
+            homes = set self.old.waiting.homes i (Some (list_of awaited));
           };
           least = lowered self.old.least (Some awaited);
         } }
     {
-        let Await { agent, count } = awaited;
-        self.waiting.push(agent, i);
-        let least = self.least[agent as usize];
-        self.least[agent as usize] = least.min(count);
+        let list = list_of(awaited);
+        self.waiting.push(list, i);
+        let least = self.least[list as usize];
+        self.least[list as usize] = least.min(awaited.count);
+    }
+
+    /// Flags whether agent `i` is ready. A bit that is known beforehand is written by fewer instructions.
+    fn flag_ready(&mut self, i: u16, is_ready: bool)
+        requires { i < length self.old.ready }
+        ensures { self.new ≡ record self.old { ready = set self.old.ready i is_ready } }
+    {
+        if is_ready {
+            self.ready.set(i, true);
+        } else {
+            self.ready.set(i, false);
+        }
+    }
+
+    /// Flags whether agent `i` has an action left; if it has, it is flagged so already.
+    #[tactic(auto, using(crate::proofs::Marks::left_kept))]
+    fn flag_left(&mut self, i: u16, is_left: bool)
+        requires left { i < length self.old.left }
+        requires flagged { is_left ≡ true → flag_of self.old.left i ≡ true }
+        ensures { self.new ≡ record self.old { left = set self.old.left i is_left } }
+    {
+        if is_left {
+            return;
+        }
+        self.left.set(i, false);
+    }
+
+    /// Agent `i` knows of so many awaits of its next action that they are met.
+    fn set_met(&mut self, i: u16, met: u16)
+        requires { i < length self.old.marks }
+        ensures { self.new ≡ record self.old {
+          marks = set self.old.marks i (record (mark_of self.old.marks i) { met = met });
+        } }
+    {
+        self.marks[i as usize].met = met;
     }
 
     /// Flags whether agent `i`, which stands in no list, has an action left and whether it is ready, and puts it into
-    /// the list of the agent whose count it lacks.
+    /// the list of the count that it lacks.
     fn place(&mut self, i: u16, is_left: bool, lacked: Option<Await>)
         requires ready { i < length self.old.ready }
         requires left { i < length self.old.left }
+        requires flagged { is_left ≡ true → flag_of self.old.left i ≡ true }
         requires home { i < length self.old.waiting.homes }
         requires nowhere { home_of self.old.waiting.homes i ≡ None }
-        requires list { IfSome lacked (λ w. w.agent < self.old.waiting.lists) }
+        requires agent { IfSome lacked (λ w. w.agent < MAX_AGENTS) }
+        requires list { IfSome lacked (λ w. list_of w < self.old.waiting.lists) }
         requires least { length self.old.least ≡ self.old.waiting.lists }
         ensures { self.new ≡ record self.old {
           ready = set self.old.ready i (is_left && is_none lacked);
           left = set self.old.left i is_left;
           waiting = record self.old.waiting {
-            homes = set self.old.waiting.homes i (option_map (λ w. w.agent) lacked);
+            homes = set self.old.waiting.homes i (option_map list_of lacked);
           };
           least = lowered self.old.least lacked;
         } }
     {
-        self.ready.set(i, is_left && lacked.is_none());
-        self.left.set(i, is_left);
+        self.flag_ready(i, is_left && lacked.is_none());
+        self.flag_left(i, is_left);
         if let Some(awaited) = lacked {
             self.wait_for(i, awaited);
         }
@@ -388,11 +471,15 @@ impl Machine {
         requires agents { length self.old.configuration ≡ length (P.program program.now) }
         requires rows { HasRows (length (P.program program.now)) self.old }
         requires agent { i < length (P.program program.now) }
+        requires read { IsRead (P.program program.now) self.old.configuration i (mark_of self.old.marks i) }
+        requires flagged { is_left (P.program program.now) self.old.configuration i ≡ true
+            → flag_of self.old.left i ≡ true }
         requires nowhere { home_of self.old.waiting.homes i ≡ None }
         ensures { IsPlaced (P.program program.now) self.old self.new i }
     {
         let is_left = self.agent(i).count < program.moves(i);
-        let lacked = self.missing_await(program, i);
+        let (met, lacked) = self.read_on(program, i);
+        self.set_met(i, met);
         self.place(i, is_left, lacked);
     }
 
@@ -402,6 +489,10 @@ impl Machine {
         requires agents { length self.old.configuration ≡ length (P.program program.now) }
         requires flags { length self.old.moving ≡ length (P.program program.now) }
         requires rows { HasRows (length (P.program program.now)) self.old }
+        requires read { (i : ℕ) → i < length (P.program program.now)
+            → IsRead (P.program program.now) self.old.configuration i (mark_of self.old.marks i) }
+        requires flagged { (i : ℕ) → i < length (P.program program.now)
+            → flag_of self.old.left i ≡ true }
         requires nowhere { (i : ℕ) → home_of self.old.waiting.homes i ≡ None }
         ensures runs { Runs (P.program program.now) self.new }
         ensures configuration { self.new.configuration ≡ self.old.configuration }
@@ -417,11 +508,17 @@ impl Machine {
         requires well_formed { IsWellFormed (P.program program.now) }
         requires agents { length self.old.configuration ≡ length (P.program program.now) }
         requires rows { HasRows (length (P.program program.now)) self.old }
+        requires read { (i : ℕ) → i < length (P.program program.now)
+            → IsRead (P.program program.now) self.old.configuration i (mark_of self.old.marks i) }
+        requires flagged { (i : ℕ) → i < length (P.program program.now)
+            → is_left (P.program program.now) self.old.configuration i ≡ true
+            → flag_of self.old.left i ≡ true }
         requires nowhere { (i : ℕ) → flag_of self.old.due i ≡ true
             → home_of self.old.waiting.homes i ≡ None }
         ensures same { self.new ≡ record self.old {
           ready = self.new.ready;
           left = self.new.left;
+          marks = self.new.marks;
           waiting = self.new.waiting;
           least = self.new.least;
         } }
@@ -443,7 +540,7 @@ impl Machine {
         count
     }
 
-    /// Takes the first agent off the list of agent `j`, if one stands there. It is due.
+    /// Takes the first agent off list `j`, if one stands there. It is due.
     fn wake_first(&mut self, j: u16) -> Option<u16>
         requires list { j < self.old.waiting.lists }
         requires due { length self.old.due ≡ length self.old.waiting.homes }
@@ -461,7 +558,7 @@ impl Machine {
         Some(i)
     }
 
-    /// The list of agent `j`, in which nobody stands any more, has no least count.
+    /// List `j`, in which nobody stands any more, has no least count.
     fn forget(&mut self, j: u16)
         requires { j < length self.old.least }
         ensures { self.new ≡ record self.old { least = set self.old.least j 4294967295 } }
@@ -469,16 +566,7 @@ impl Machine {
         self.least[j as usize] = u32::MAX;
     }
 
-    /// Whether agent `j` has finished as many actions as an agent in its list may wait for.
-    fn is_reached(&self, j: u16) -> bool
-        requires least { j < length self.now.least }
-        requires agent { j < length self.now.configuration }
-        ensures { result ≡ is_reached self.now j }
-    {
-        self.least[j as usize] <= self.agent(j).count
-    }
-
-    /// Takes all agents off the list of agent `j`. They are due.
+    /// Takes all agents off list `j`. They are due.
     fn wake(&mut self, j: u16)
         requires list { j < self.old.waiting.lists }
         requires least { j < length self.old.least }
@@ -489,25 +577,38 @@ impl Machine {
         self.forget(j);
     }
 
-    /// Takes all agents off the list of agent `j`, if its least count is reached. They are due.
+    /// The least count for which one in list `j` waits, or a lesser one.
+    fn least_count(&self, j: u16) -> u32
+        requires { j < length self.now.least }
+        ensures { result ≡ least_of self.now.least j }
+    {
+        self.least[j as usize]
+    }
+
+    /// Takes all agents off the list of agent `j` in which those stand that wait for its count, if the list's least count
+    /// is reached. They are due.
     fn wake_if_reached(&mut self, j: u16)
-        requires list { j < self.old.waiting.lists }
-        requires least { j < length self.old.least }
+        requires few { j < MAX_AGENTS }
+        requires list { j * LISTS_EACH + LISTS_EACH ≤ self.old.waiting.lists }
+        requires least { j * LISTS_EACH + LISTS_EACH ≤ length self.old.least }
         requires agent { j < length self.old.configuration }
         requires due { length self.old.due ≡ length self.old.waiting.homes }
-        ensures { IsWoken (λ k. (k == j) && is_reached self.old k) self.old self.new }
+        ensures { IsWoken (λ k. (agent_of k == j) && is_reached self.old k) self.old self.new }
     {
-        if !self.is_reached(j) {
+        let count = self.agent(j).count;
+        let list = list_of(Await { agent: j, count });
+        let is_early = count < self.least_count(list);
+        if is_early {
             return;
         }
-        self.wake(j);
+        self.wake(list);
     }
 
     /// Takes all agents off the lists of those that the tick moves and whose least counts are reached.
     fn wake_all(&mut self)
         requires few { length self.old.moving ≤ MAX_AGENTS }
-        requires lists { self.old.waiting.lists ≡ length self.old.moving }
-        requires least { length self.old.least ≡ length self.old.moving }
+        requires lists { self.old.waiting.lists ≡ length self.old.moving * LISTS_EACH }
+        requires least { length self.old.least ≡ length self.old.moving * LISTS_EACH }
         requires agents { length self.old.configuration ≡ length self.old.moving }
         requires due { length self.old.due ≡ length self.old.waiting.homes }
         ensures { IsWoken (is_woken_by self.old) self.old self.new }
@@ -531,20 +632,40 @@ impl Machine {
         self.agents[i as usize] = standing;
     }
 
-    /// Agent `i` finishes its next action.
+    /// Agent `i` begins to read its next action.
+    fn pass(&mut self, i: u16)
+        requires agent { i < length self.old.marks }
+        requires few { (mark_of self.old.marks i).before + (mark_of self.old.marks i).met < 2 ^ 32 }
+        ensures { self.new ≡ record self.old {
+          marks = set self.old.marks i (passed (mark_of self.old.marks i));
+        } }
+    {
+        let Mark { before, met } = self.mark(i);
+        self.marks[i as usize] = Mark {
+            before: before + u32::from(met),
+            met: 0,
+        };
+    }
+
+    /// Agent `i` finishes its next action, up to whose step it has read.
     fn finish_action<P: ProgramView>(&mut self, program: &P, i: u16)
         requires well_formed { IsWellFormed (P.program program.now) }
         requires agent { i < length (P.program program.now) }
         requires standing { i < length self.old.configuration }
+        requires marks { i < length self.old.marks }
         requires left { count_at self.old.configuration i < moves (P.program program.now) i }
+        requires read { IsReadToStep (P.program program.now) self.old.configuration i
+            (mark_of self.old.marks i) }
         ensures { self.new ≡ record self.old {
           configuration =
               set self.old.configuration i (after_next
               (P.program program.now) self.old.configuration i);
+          marks = set self.old.marks i (passed (mark_of self.old.marks i));
         } }
     {
         let step = self.next_step(program, i);
         let finished = after_step(self.agent(i), step);
+        self.pass(i);
         self.set_agent(i, finished);
     }
 
@@ -582,7 +703,10 @@ impl Machine {
         requires well_formed { IsWellFormed (P.program program.now) }
         requires agent { i < length (P.program program.now) }
         requires standing { i < length self.old.configuration }
+        requires marks { i < length self.old.marks }
         requires left { count_at self.old.configuration i < moves (P.program program.now) i }
+        requires read { IsReadToStep (P.program program.now) self.old.configuration i
+            (mark_of self.old.marks i) }
         requires flag { i < length self.old.moving }
         requires few { before.moved < MAX_AGENTS }
         ensures after { self.new ≡ advanced_one (P.program program.now) self.old i is_held }
@@ -611,6 +735,7 @@ impl Machine {
         requires held { length held.now ≡ length (P.program program.now) }
         ensures after { self.new ≡ record self.old {
           configuration = tick (P.program program.now) (flag_of held.now) self.old.configuration;
+          marks = marks_after (P.program program.now) (flag_of held.now) self.old;
           moving = moving_flags (P.program program.now) (flag_of held.now) self.old.configuration;
           due = moving_flags (P.program program.now) (flag_of held.now) self.old.configuration;
         } }
@@ -698,12 +823,18 @@ impl Machine {
     fn move_all<P: ProgramView>(&mut self, program: &P)
         requires well_formed { IsWellFormed (P.program program.now) }
         requires agents { length self.old.configuration ≡ length (P.program program.now) }
+        requires marks { length self.old.marks ≡ length (P.program program.now) }
         requires moving { length self.old.moving ≡ length (P.program program.now) }
         requires sent { AreAllReady (P.program program.now) self.old.configuration
             (flag_of self.old.moving) }
+        requires read { (i : ℕ) → i < length (P.program program.now)
+            → flag_of self.old.moving i ≡ true
+            → IsReadToStep (P.program program.now) self.old.configuration i
+            (mark_of self.old.marks i) }
         ensures { self.new ≡ record self.old {
           configuration = tick (P.program program.now)
               (all_but (flag_of self.old.moving)) self.old.configuration;
+          marks = marks_after (P.program program.now) (all_but (flag_of self.old.moving)) self.old;
         } }
     {
         let mut from = 0;

@@ -6,6 +6,10 @@ ghost use Rattle.fleet_machine.specs.WaitLists.{home_of};
 use std::alloc::{AllocError, Global};
 use std::marker::Model;
 
+/// How many lists each agent has for those that wait for it. Of two that wait for counts close to one another, each
+/// stands in another list, so that those who wait for later counts are not looked at whenever the agent moves.
+pub const LISTS_EACH: u16 = 8;
+
 /// Lists of agents. Nothing that is done with them takes memory.
 #[derive(Drop)]
 pub struct WaitLists {

@@ -1,6 +1,6 @@
 use Rattle.std.proofs.Common.{◌<◌, ◌∙◌, ap, length, refl, true, arith}
 use Rattle.fleet_machine.specs.Machine.{MachineState}
-use Rattle.fleet_machine.proofs.Judging.{none_judged, home_so_far, one_judged}
+use Rattle.fleet_machine.proofs.Judging.{none_judged, home_so_far, read_so_far, left_so_far, one_judged}
 use Rattle.fleet_machine.proofs.machine.Machine.judge_all.Goals as goal
 
 pub loop-i-init : goal.loop-i-init
@@ -8,6 +8,18 @@ loop-i-init g c = none_judged (g.P.ProgramView.program c.args.program.now) (λ k
 
 pub judge-requires-clause-agents : goal.judge-requires-clause-agents
 judge-requires-clause-agents g c = ap (λ (m : MachineState). length m.configuration) c.loop-i.invariant.same ∙ c.requires.agents
+
+pub judge-requires-clause-read : goal.judge-requires-clause-read
+judge-requires-clause-read g c =
+    let p = g.P.ProgramView.program c.args.program.now in
+    let agent : c.loop-i.i < length p = omega (arith, c.agents-i-end.ensures.count) in
+    read_so_far p (λ k. true) c.args.self.now c.loop-i.self c.loop-i.i c.loop-i.invariant (c.requires.read c.loop-i.i agent)
+
+pub judge-requires-clause-flagged : goal.judge-requires-clause-flagged
+judge-requires-clause-flagged g c =
+    let p = g.P.ProgramView.program c.args.program.now in
+    let agent : c.loop-i.i < length p = omega (arith, c.agents-i-end.ensures.count) in
+    left_so_far p (λ k. true) c.args.self.now c.loop-i.self c.loop-i.i c.loop-i.invariant _ (λ is. c.requires.flagged c.loop-i.i agent)
 
 pub judge-requires-clause-nowhere : goal.judge-requires-clause-nowhere
 judge-requires-clause-nowhere g c =

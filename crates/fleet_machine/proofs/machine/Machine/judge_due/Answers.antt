@@ -1,7 +1,7 @@
-use Rattle.std.proofs.Common.{◌<◌, length, refl, arith, ap, ◌∙◌}
-use Rattle.fleet_machine.specs.Machine.{MachineState, flag_of}
+use Rattle.std.proofs.Common.{◌<◌, length, refl, arith, ap, sym, ◌∙◌}
+use Rattle.fleet_machine.specs.Machine.{MachineState, flag_of, is_left}
 use Rattle.fleet_machine.specs.AgentSet.{IsNextFrom, AreNoneFrom}
-use Rattle.fleet_machine.proofs.Judging.{none_judged, one_judged, some_passed, none_more_counted, one_more_counted, counted_le}
+use Rattle.fleet_machine.proofs.Judging.{none_judged, read_so_far, left_so_far, one_judged, some_passed, none_more_counted, one_more_counted, counted_le}
 use Rattle.fleet_machine.proofs.machine.Machine.judge_due.Goals as goal
 
 pub overflow_add-count : goal.overflow_add-count
@@ -38,6 +38,31 @@ returns-clause-count g c =
 pub loop-i-init : goal.loop-i-init
 loop-i-init g c =
     record { judged = none_judged (g.P.ProgramView.program c.args.program.now) (flag_of c.args.self.now.due) c.args.self.now c.requires.rows; counted = refl; within = omega arith }
+
+pub judge-requires-clause-read : goal.judge-requires-clause-read
+judge-requires-clause-read g c =
+    let p = g.P.ProgramView.program c.args.program.now in
+    let old = c.args.self.now in
+    let due = flag_of old.due in
+    let before = c.loop-i.invariant in
+    let i = c.in-Some.i in
+    let next : IsNextFrom old.due c.loop-i.from i = rw (ap (λ (m : MachineState). m.due) before.judged.same) at c.in-Some.ensures in
+    let agent : i < length p = omega (arith, next.agent, c.requires.rows.due) in
+    let here = some_passed p due old c.loop-i.self c.loop-i.from i next.later next.between before.judged in
+    read_so_far p due old c.loop-i.self i here (c.requires.read i agent)
+
+pub judge-requires-clause-flagged : goal.judge-requires-clause-flagged
+judge-requires-clause-flagged g c =
+    let p = g.P.ProgramView.program c.args.program.now in
+    let old = c.args.self.now in
+    let due = flag_of old.due in
+    let before = c.loop-i.invariant in
+    let i = c.in-Some.i in
+    let next : IsNextFrom old.due c.loop-i.from i = rw (ap (λ (m : MachineState). m.due) before.judged.same) at c.in-Some.ensures in
+    let agent : i < length p = omega (arith, next.agent, c.requires.rows.due) in
+    let here = some_passed p due old c.loop-i.self c.loop-i.from i next.later next.between before.judged in
+    let config = ap (λ (m : MachineState). m.configuration) before.judged.same in
+    left_so_far p due old c.loop-i.self i here _ (λ is. c.requires.flagged i agent (sym (ap (λ rows. is_left p rows i) config) ∙ is))
 
 pub judge-requires-clause-nowhere : goal.judge-requires-clause-nowhere
 judge-requires-clause-nowhere g c =

@@ -1,10 +1,10 @@
-use Rattle.std.proofs.Common.{length, arith, sym, ◌∙◌, ap, subst}
+use Rattle.std.proofs.Common.{ℕ, ◌*◌, length, arith, sym, ◌∙◌, ap, subst}
 use Rattle.std.proofs.lemmas.List.FromFn.{length-map-range_with_len}
 use Rattle.fleet_model.specs.Machine.{is_moving}
 use Rattle.fleet_model.proofs.Tick.{length-tick}
 use Rattle.fleet_machine.specs.Machine.{MachineState}
 use Rattle.fleet_machine.specs.Waking.{IsWoken, is_woken_by}
-use Rattle.fleet_machine.proofs.Ticking.{configuration_woken, rows_woken, nowhere_if_due, settled}
+use Rattle.fleet_machine.proofs.Ticking.{configuration_woken, rows_woken, read_woken, flagged_woken, nowhere_if_due, settled}
 use Rattle.fleet_machine.proofs.machine.Machine.settle.Goals as goal
 
 pub wake_all-requires-clause-few : goal.wake_all-requires-clause-few
@@ -19,7 +19,7 @@ wake_all-requires-clause-lists g c =
     let p = g.P.ProgramView.program c.args.program.now in
     let h = c.requires.moved.2 in
     let moving = length-map-range_with_len (is_moving p c.requires.moved.1 c.requires.moved.0.configuration) 0 (length p) in
-    rw h.same (h.runs.rows.lists ∙ sym moving)
+    rw h.same (h.runs.rows.lists ∙ ap (λ (n : ℕ). n * 8) (sym moving))
 
 pub wake_all-requires-clause-due : goal.wake_all-requires-clause-due
 wake_all-requires-clause-due g c =
@@ -33,7 +33,7 @@ wake_all-requires-clause-least g c =
     let p = g.P.ProgramView.program c.args.program.now in
     let h = c.requires.moved.2 in
     let moving = length-map-range_with_len (is_moving p c.requires.moved.1 c.requires.moved.0.configuration) 0 (length p) in
-    rw h.same (h.runs.rows.least ∙ sym moving)
+    rw h.same (h.runs.rows.least ∙ ap (λ (n : ℕ). n * 8) (sym moving))
 
 pub wake_all-requires-clause-agents : goal.wake_all-requires-clause-agents
 wake_all-requires-clause-agents g c =
@@ -59,6 +59,22 @@ judge_due-requires-clause-rows g c =
     let woken = c.wake_all.new.self in
     let wakes = subst (λ (a : MachineState). IsWoken (is_woken_by a) a woken) h.same c.wake_all.ensures in
     rows_woken p c.requires.moved.1 c.requires.moved.0 h.runs woken wakes
+
+pub judge_due-requires-clause-read : goal.judge_due-requires-clause-read
+judge_due-requires-clause-read g c =
+    let p = g.P.ProgramView.program c.args.program.now in
+    let h = c.requires.moved.2 in
+    let woken = c.wake_all.new.self in
+    let wakes = subst (λ (a : MachineState). IsWoken (is_woken_by a) a woken) h.same c.wake_all.ensures in
+    read_woken p c.requires.moved.1 c.requires.moved.0 h.runs woken wakes
+
+pub judge_due-requires-clause-flagged : goal.judge_due-requires-clause-flagged
+judge_due-requires-clause-flagged g c =
+    let p = g.P.ProgramView.program c.args.program.now in
+    let h = c.requires.moved.2 in
+    let woken = c.wake_all.new.self in
+    let wakes = subst (λ (a : MachineState). IsWoken (is_woken_by a) a woken) h.same c.wake_all.ensures in
+    flagged_woken p c.requires.moved.1 c.requires.moved.0 h.runs woken wakes
 
 pub judge_due-requires-clause-nowhere : goal.judge_due-requires-clause-nowhere
 judge_due-requires-clause-nowhere g c =

@@ -1,9 +1,13 @@
-use Rattle.std.proofs.Common.{rules, ◌≡◌, ◌∙◌, length, replicate, false, None, ap, arith}
+use Rattle.std.proofs.Common.{rules, ℕ, ◌*◌, ◌≡◌, ◌∙◌, List, length, replicate, true, false, None, ap, arith}
 use Rattle.std.proofs.lemmas.List.{length-replicate}
 use Rattle.fleet_machine.specs.WaitLists.{WaitState, home_of}
-use Rattle.fleet_machine.specs.Machine.{MachineState}
+use Rattle.fleet_model.specs.declared.standing.Standing.{Standing}
+use Rattle.fleet_model.specs.Machine.{Configuration, count_at}
+use Rattle.fleet_machine.specs.declared.mark.Mark.{Mark}
+use Rattle.fleet_machine.specs.Machine.{MachineState, mark_of, flag_of}
+use Rattle.fleet_machine.proofs.Marks.{mark_of_nobody, read_nothing, all_flags}
 use Rattle.fleet_machine.proofs.Opened.{home_of_nobody}
-use Rattle.fleet_model.proofs.Tick.{length_opening}
+use Rattle.fleet_model.proofs.Tick.{length_opening, standing_at_opening}
 use Rattle.fleet_machine.proofs.machine.Machine.start.Goals as goal
 
 pub with_agents-machine-requires-clause-few : goal.with_agents-machine-requires-clause-few
@@ -24,14 +28,16 @@ judge_all-requires-clause-rows g c =
     let count = c.agents-count.ensures.count in
     let flags : length (replicate c.agents-count.result false) ≡ length (g.P.ProgramView.program c.args.program.now) = length-replicate c.agents-count.result false ∙ count in
     record {
+      marks = ap (λ (m : MachineState). length m.marks) made
+          ∙ (ap length (c.in_ok-marks.ensures.items_if_clones_equal (λ y k. search rules)) ∙ (length-replicate c.agents-count.result _ ∙ count));
       ready = ap (λ (m : MachineState). length m.ready) made ∙ flags;
-      left = ap (λ (m : MachineState). length m.left) made ∙ flags;
+      left = ap (λ (m : MachineState). length m.left) made ∙ (length-replicate c.agents-count.result true ∙ count);
       due = ap (λ (m : MachineState). length m.due) made ∙ flags;
-      lists = ap (λ (m : MachineState). m.waiting.lists) made ∙ (ap (λ (w : WaitState). w.lists) c.in_ok-waiting.ensures ∙ count);
+      lists = ap (λ (m : MachineState). m.waiting.lists) made ∙ (ap (λ (w : WaitState). w.lists) c.in_ok-waiting.ensures ∙ ap (λ (n : ℕ). n * 8) count);
       homes = ap (λ (m : MachineState). length m.waiting.homes) made
           ∙ (ap (λ (w : WaitState). length w.homes) c.in_ok-waiting.ensures ∙ (length-replicate c.agents-count.result None ∙ count));
       least = ap (λ (m : MachineState). length m.least) made
-          ∙ (ap length (c.in_ok-least.ensures.items_if_clones_equal (λ y k. search rules)) ∙ (length-replicate c.agents-count.result 4294967295 ∙ count));
+          ∙ (ap length (c.in_ok-least.ensures.items_if_clones_equal (λ y k. search rules)) ∙ (length-replicate (c.agents-count.result * 8) 4294967295 ∙ ap (λ (n : ℕ). n * 8) count));
     }
 
 pub judge_all-requires-clause-nowhere : goal.judge_all-requires-clause-nowhere
@@ -45,3 +51,18 @@ returns-clause-opening g c =
 
 pub returns-clause-looked : goal.returns-clause-looked
 returns-clause-looked g c = c.judge_all.ensures.looked ∙ ap (λ (m : MachineState). m.looked) c.with_agents-machine.ensures
+
+pub judge_all-requires-clause-read : goal.judge_all-requires-clause-read
+judge_all-requires-clause-read g c =
+    λ i agent.
+    let p = g.P.ProgramView.program c.args.program.now in
+    let made = c.with_agents-machine.ensures in
+    let mark = ap (λ (m : MachineState). mark_of m.marks i) made
+    ∙ (ap (λ (marks : List Mark). mark_of marks i) (c.in_ok-marks.ensures.items_if_clones_equal (λ y k. search rules)) ∙ mark_of_nobody c.agents-count.result i) in
+    let count = ap (λ (m : MachineState). count_at m.configuration i) made
+    ∙ (ap (λ (rows : Configuration). count_at rows i) c.in_ok-agents.ensures.opening ∙ ap (λ (s : Standing). s.count) (standing_at_opening p i)) in
+    read_nothing p c.with_agents-machine.result.configuration i (mark_of c.with_agents-machine.result.marks i) mark count
+
+pub judge_all-requires-clause-flagged : goal.judge_all-requires-clause-flagged
+judge_all-requires-clause-flagged g c =
+    λ i agent. ap (λ (m : MachineState). flag_of m.left i) c.with_agents-machine.ensures ∙ all_flags c.agents-count.result i (omega (arith, c.agents-count.ensures.count))

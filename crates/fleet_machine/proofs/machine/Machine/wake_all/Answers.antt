@@ -1,6 +1,6 @@
 use Rattle.std.proofs.Common.{length, arith, ap, false, refl, ◌+◌, ◌∙◌, sym}
 use Rattle.std.specs.Prelude.{◌==◌, ◌&&◌}
-use Rattle.fleet_machine.specs.Machine.{MachineState, is_reached}
+use Rattle.fleet_machine.specs.Machine.{MachineState, is_reached, agent_of}
 use Rattle.fleet_machine.specs.AgentSet.{IsNextFrom, AreNoneFrom}
 use Rattle.fleet_machine.specs.Waking.{is_woken_by}
 use Rattle.fleet_machine.proofs.Waking.{reached_below, none_woken, more_woken, one_more_reached, all_reached, none_reached}
@@ -13,6 +13,11 @@ pub overflow_add-from : goal.overflow_add-from
 overflow_add-from c =
     let same = ap (λ (m : MachineState). length m.moving) c.loop-j.invariant.woken.same in
     omega (arith, c.in-Some.ensures.agent, c.requires.few)
+
+pub wake_if_reached-requires-clause-few : goal.wake_if_reached-requires-clause-few
+wake_if_reached-requires-clause-few c =
+    let woken = c.loop-j.invariant.woken in
+    omega (arith, c.in-Some.ensures.agent, ap (λ (m : MachineState). length m.moving) woken.same, c.requires.few)
 
 pub wake_if_reached-requires-clause-list : goal.wake_if_reached-requires-clause-list
 wake_if_reached-requires-clause-list c =
@@ -40,7 +45,7 @@ loop-j-preserved c =
     let before = c.loop-j.invariant in
     let next : IsNextFrom old.moving c.loop-j.from c.in-Some.j = rw (ap (λ (m : MachineState). m.moving) before.woken.same) at c.in-Some.ensures in
     record {
-      woken = more_woken (reached_below old c.loop-j.from) (λ k. (k == c.in-Some.j) && is_reached c.loop-j.self k) (reached_below old (c.in-Some.j + 1)) old c.loop-j.self
+      woken = more_woken (reached_below old c.loop-j.from) (λ k. (agent_of k == c.in-Some.j) && is_reached c.loop-j.self k) (reached_below old (c.in-Some.j + 1)) old c.loop-j.self
           c.wake_if_reached.new.self (one_more_reached old c.loop-j.self c.loop-j.from c.in-Some.j before.woken next) before.woken c.wake_if_reached.ensures;
       within = omega (arith, next.agent);
     }

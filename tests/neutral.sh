@@ -54,7 +54,9 @@ for crate do
     for edit in "$root/tests/neutral/$crate"/*.edit; do
         path=$crate::$(sed -n 's/^check: //p' "$edit")
         change "$edit" "$here" || exit 2
-        if (cd "$here" && rt check --only "$path") > "$room/log" 2>&1 && grep -q '^only=1 proved=1$' "$room/log"; then
+        # Two functions may have one path, as a method and that of a trait.
+        if (cd "$here" && rt check --only "$path") > "$room/log" 2>&1 \
+            && grep -qx 'only=\([1-9][0-9]*\) proved=\1' "$room/log"; then
             proved=$((proved + 1))
         else
             refused=$((refused + 1))

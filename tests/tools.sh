@@ -28,3 +28,9 @@ check 'orders ahead: a program that cannot be carried out' 1 'the program cannot
     "printf 'agent 0: 0,0 to 1,0\\n0:1 east to 1,0 after 1:1\\nagent 1: 3,0 to 2,0\\n1:1 west to 2,0 after 0:1\\n' | awk -f tools/ahead.awk"
 check 'two orders at a time take at most three quarters of the time of one' 0 'less\n' '' \
     "fleet plan examples/warehouse.map examples/warehouse.scen > plan && fleet compile examples/warehouse.map examples/warehouse.scen plan program > numbers && fleet list program > list && for k in 1 2; do awk -v ahead=\$k -f tools/ahead.awk list; done | awk '{ t[\$2] = \$8 } END { if (0 < t[2] && t[2] <= 0.75 * t[1]) print \"less\" }'"
+check 'a map of no kind' 1 '' 'map: kind is random, room, maze, warehouse or den\n' 'awk -v kind=city -f tools/map.awk'
+check 'agents that have no room' 1 '' 'scen: the map has 16 cells\n' 'awk -v agents=17 -v seed=1 -f tools/scen.awk examples/corridor.map'
+check 'starts and goals are distinct' 0 '16 16\n' '' \
+    "awk -v agents=16 -v seed=3 -f tools/scen.awk examples/corridor.map | awk 'NR > 1 { starts[\$5, \$6]; goals[\$7, \$8] } END { for (k in starts) n++; for (k in goals) m++; print n, m }'"
+check 'a study of no option' 2 '' 'study: --dwel is no option\n' 'sh tools/study.sh examples/pair.map examples/pair.scen --dwel 3'
+check 'a study of a plan that does not plan' 2 '' 'study: --tries 3 is of no use with a plan\n' 'sh tools/study.sh examples/pair.map examples/pair.scen --tries 3 --plan examples/pair.plan'

@@ -1,5 +1,5 @@
 -- Refusals of the command `dispatch` before anything is told or heard.
-use Rattle.std.proofs.Common.{◌≡◌, ℕ, List, [], ◌∷◌, Option, Result, Ok, Err, MatchResult, inr}
+use Rattle.std.proofs.Common.{ℕ, List, Option}
 use Rattle.fleet_model.specs.declared.task.Task.{Task}
 use Rattle.fleet_grid.specs.Ground.{Ground}
 use Rattle.fleet_cli.specs.Texts.{AreTextsOf}
@@ -8,10 +8,7 @@ use Rattle.fleet_dispatch.specs.Talk.{Talk}
 use Rattle.fleet_cli.specs.declared.fault.Fault.{Fault}
 use Rattle.fleet_cli.specs.declared.fault.Fault.TheVariants as f
 use Rattle.fleet_cli.specs.Inputs.{IsProblemRefusal, IsAcceptRefusal}
-use Rattle.fleet_args.specs.declared.dispatch.DispatchRequest.{DispatchRequest}
-use Rattle.fleet_cli.specs.Files.{Store}
-use Rattle.fleet_cli.specs.Named.{AreRead}
-use Rattle.fleet_cli.specs.DispatchCommand.{DispatchesTexts, IsDispatchRefusal, DoesDispatch, RefusesDispatch}
+use Rattle.fleet_cli.specs.DispatchCommand.{IsDispatchRefusal}
 
 module _ (map scen : List ℕ) (asked : Option ℕ) (bytes : List ℕ) (untold : Type 0) (talks : Talk → Type 0) (silent : untold) where
   pub problem_refuses : (fault : Fault) → IsProblemRefusal map scen asked fault → IsDispatchRefusal map scen asked bytes untold talks fault
@@ -34,11 +31,3 @@ module _ (map scen : List ℕ) (asked : Option ℕ) (bytes : List ℕ) (untold :
   accept_refuses g tasks fault texts (b.OutOfMemory, is, h) = rw is (tt, silent)
   accept_refuses g tasks fault texts (b.Load x, is, h) = rw is ((g, tasks, texts, h), silent)
   accept_refuses g tasks fault texts (b.Verify x, is, h) = rw is ((g, tasks, texts, h), silent)
-
--- what becomes of the bytes becomes of the files that were read
-pub files_on : (files : Option Store) (r : DispatchRequest) (untold : Type 0) (talks : Talk → Type 0) (map scen program : List ℕ) (result : Result ℕ Fault)
-    → AreRead files (r.map.now ∷ r.scen.now ∷ r.program.now ∷ []) (map ∷ scen ∷ program ∷ [])
-    → MatchResult result (λ status. DispatchesTexts map scen r.agents program talks × (status ≡ 0)) (IsDispatchRefusal map scen r.agents program untold talks)
-    → MatchResult result (DoesDispatch files r talks) (RefusesDispatch files r untold talks)
-files_on files r untold talks map scen program (Ok x) read h = (map, scen, program, read, h.0, h.1)
-files_on files r untold talks map scen program (Err e) read h = inr (map, scen, program, read, h)

@@ -6,10 +6,10 @@ pub mod TracedLemmas
 pub mod HexRuns
 pub mod RehearsesLemmas
 pub mod InstanceLemmas
-pub mod AnswerLemmas
 pub mod MadeRuns
 pub mod CountLemmas
 pub mod OutputLemmas
 pub mod VerifyLemmas
 mod DispatchLemmas
 pub mod CommandLemmas
+pub mod AsBefore

@@ -1,8 +1,9 @@
 -- Files that a command names, of a store that was only read before.
-use Rattle.std.proofs.Common.{ℕ, List, [], ◌∷◌, ◌++◌, Option, inl, inr}
+use Rattle.std.proofs.Common.{◌≡◌, ℕ, List, [], ◌∷◌, ◌++◌, Option, Some, None, inl, inr}
+use Rattle.std.specs.Borrow.{Bor}
 use Rattle.fleet_cli.specs.Files.{Store, AreUnchanged}
 use Rattle.fleet_cli.proofs.FileLemmas.{read_before, unreadable_before}
-use Rattle.fleet_cli.specs.Named.{IsReadFault, IsUnread}
+use Rattle.fleet_cli.specs.Named.{IsReadFault, IsUnread, IsGiven, given_name}
 use Rattle.fleet_cli.specs.declared.fault.Fault.{Fault}
 use Rattle.fleet_cli.specs.declared.fault.Fault.TheVariants as f
 
@@ -32,3 +33,14 @@ pub unread-first : (files : Option Store) (names rest : List (List ℕ)) (fault 
 unread-first files [] rest fault h = absurd h
 unread-first files (n ∷ names) rest fault (inl h) = inl h
 unread-first files (n ∷ names) rest fault (inr (x, first, h)) = inr (x, first, unread-first files names rest fault h)
+
+-- what was given of a store that was only read before
+pub given_before : (old new : Option Store) (name : Option (Bor (List ℕ))) (bytes : List ℕ) → AreUnchanged old new → IsGiven new name bytes → IsGiven old name bytes
+given_before old new None bytes kept h = h
+given_before old new (Some name) bytes kept h = read_before old new name.now bytes kept h
+
+-- of the files after one that was given, one was not read
+pub unread-later : (files : Option Store) (name : Option (Bor (List ℕ))) (bytes : List ℕ) (rest : List (List ℕ)) (fault : Fault) → IsGiven files name bytes → IsUnread files rest fault
+    → IsUnread files (given_name name ++ rest) fault
+unread-later files None bytes rest fault given h = h
+unread-later files (Some name) bytes rest fault given h = inr (bytes, given, h)

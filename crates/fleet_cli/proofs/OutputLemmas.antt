@@ -1,24 +1,19 @@
--- A file OUT that is written to a store which was only read before, and the answer of what was to be printed.
-use Rattle.std.proofs.Common.{◌≡◌, ℕ, List, Option, Result, Ok, Err, MatchResult, inl, inr}
+-- The answers of a file OUT that was to be written, and of what was to be printed.
+use Rattle.std.proofs.Common.{◌≡◌, ℕ, List, Option, Result, Ok, Err, MatchResult, inr}
 use Rattle.std.specs.Prelude.{codes}
 use Rattle.std.specs.Borrow.{Bor}
-use Rattle.fleet_cli.specs.Files.{Store, AreUnchanged, Replaces}
-use Rattle.fleet_cli.proofs.FileLemmas.{changes_on}
+use Rattle.fleet_cli.specs.Files.{Store}
 use Rattle.fleet_text.specs.Sink.{SinkState, Delivers, IsDelivered, FailsAfter}
 use Rattle.fleet_cli.specs.declared.fault.Fault.{Fault}
 use Rattle.fleet_cli.specs.declared.fault.Fault.TheVariants as f
-use Rattle.fleet_cli.specs.Printed.{IsPrinted, WritesOut, IsOutRefusal}
+use Rattle.fleet_cli.specs.Printed.{IsPrinted, WritesOut, IsOutRefusal, AnswersOut}
 
-module _ (old mid new : Option Store) (name bytes : List ℕ) (out out' : SinkState) (text : List ℕ) where
-  replaces : AreUnchanged old mid → Replaces mid new name bytes → Replaces old new name bytes
-  replaces kept h = record { held = h.held; others = changes_on old mid new name kept h.others }
-
-  pub writes_on : AreUnchanged old mid → WritesOut mid new name bytes out out' text → WritesOut old new name bytes out out' text
-  writes_on kept h = record { written = replaces kept h.written; printed = h.printed }
-
-  pub refuses_on : (fault : Fault) → AreUnchanged old mid → IsOutRefusal mid new name bytes out out' text fault → IsOutRefusal old new name bytes out out' text fault
-  refuses_on fault kept (inl (fails, changes, unwritten)) = inl (fails, changes_on old mid new name kept changes, unwritten)
-  refuses_on fault kept (inr (h, fails, prints)) = inr (replaces kept h, fails, prints)
+-- a value was made, and this is the answer of writing its bytes and printing its text
+pub made_out : {A : Type 0} (files after : Option Store) (name : List ℕ) (Makes : A → Type 0) (Refuses : Fault → Type 0) (bytes text : A → List ℕ) (out out' : SinkState) (made : A) (r : Result ℕ Fault)
+    → Makes made → MatchResult r (λ status. WritesOut files after name (bytes made) out out' (text made) × (status ≡ 0)) (IsOutRefusal files after name (bytes made) out out' (text made))
+    → AnswersOut files after name Makes Refuses bytes text out out' r
+made_out files after name Makes Refuses bytes text out out' made (Ok status) m h = (made, m, h.0, h.1)
+made_out files after name Makes Refuses bytes text out out' made (Err fault) m h = inr (made, m, h)
 
 -- what a command answers that was to print this text
 pub printed_as : {T E : Type 0} (P : ℕ → Type 0) (Q : Fault → Type 0) (done : Result T E) (r : Result ℕ Fault) (out out' : SinkState) (text : List ℕ)

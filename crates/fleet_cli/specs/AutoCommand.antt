@@ -1,13 +1,12 @@
 -- What the command `auto` does: it plans for a map and a scenario, compiles the plan and runs the program, under the holds of a file.
-use Rattle.std.specs.Prelude.{◌≡◌, ℕ, true, List, [], ◌∷◌, ◌⊎◌, Option, Err}
+use Rattle.std.specs.Prelude.{◌≡◌, ℕ, true, List, Option, Err, Result, MatchResult}
 use Rattle.fleet_model.specs.declared.deps.Deps.{Deps}
 use Rattle.fleet_run.specs.declared.trace.Report.{Report}
 use Rattle.fleet_run.specs.Trace.{WritesTrace}
 use Rattle.fleet_cli.specs.Auto.{MakesProgram, IsAutoFault}
 use Rattle.fleet_cli.specs.declared.auto_fault.AutoFault.TheVariants as a
-use Rattle.fleet_cli.specs.Files.{Store}
 use Rattle.fleet_args.specs.declared.auto.AutoRequest.{AutoRequest}
-use Rattle.fleet_cli.specs.Named.{IsUnread, AreRead, given_name, hold_names, AreHoldBytes}
+use Rattle.fleet_cli.specs.declared.named.FileTexts.{FileTexts}
 use Rattle.fleet_cli.specs.Traced.{TracesFlushed}
 use Rattle.fleet_text.specs.Sink.{SinkState, IsUnwritten}
 use Rattle.fleet_cli.specs.declared.fault.Fault.{Fault}
@@ -32,15 +31,7 @@ IsMadeFault map scen asked horizon tries deps held out out' (f.Run fault) =
     (m : MakesProgram map scen asked horizon tries deps) × TracesFlushed m.program m.chain held out out' (Err fault)
 IsMadeFault map scen asked horizon tries deps held out out' _ = ⊥
 
--- the program that is made of the files ran to its end
-abbrev pub DoesAuto : Option Store → AutoRequest → (out out' : SinkState) → ℕ → Type 0
-DoesAuto files r out out' status =
-    (map scen held : List ℕ) × AreRead files (r.map.now ∷ r.scen.now ∷ []) (map ∷ scen ∷ []) × AreHoldBytes files (given_name r.holds) held
-    × RunsMade map scen r.agents r.horizon r.tries r.deps held out out' × (status ≡ 0)
-
--- a file was not read, of which that of the holds comes last; or all were, and a step refused what they hold
-abbrev pub RefusesAuto : Option Store → AutoRequest → (out out' : SinkState) → Fault → Type 0
-RefusesAuto files r out out' fault =
-    (IsUnread files (r.map.now ∷ r.scen.now ∷ hold_names (given_name r.holds)) fault × IsUnwritten out out')
-    ⊎ ((map scen held : List ℕ) × AreRead files (r.map.now ∷ r.scen.now ∷ []) (map ∷ scen ∷ []) × AreHoldBytes files (given_name r.holds) held
-    × IsMadeFault map scen r.agents r.horizon r.tries r.deps held out out' fault)
+-- what the command answers for the texts of its files
+abbrev pub AnswersAuto : AutoRequest → FileTexts → (out out' : SinkState) → Result ℕ Fault → Type 0
+AnswersAuto r texts out out' result =
+    MatchResult result (λ status. RunsMade texts.map.items texts.scen.items r.agents r.horizon r.tries r.deps texts.holds.items out out' × (status ≡ 0)) (IsMadeFault texts.map.items texts.scen.items r.agents r.horizon r.tries r.deps texts.holds.items out out')

@@ -1,5 +1,5 @@
 -- What the command `check` prints: that a plan is free of conflict, and its numbers.
-use Rattle.std.specs.Prelude.{◌≡◌, ◌≢◌, ℕ, List, [], ◌∷◌, length, ◌⊎◌, Option, codes}
+use Rattle.std.specs.Prelude.{◌≡◌, ◌≢◌, ℕ, List, [], ◌∷◌, length, Option, codes, Result, MatchResult}
 use Rattle.fleet_model.specs.declared.task.Task.{Task}
 use Rattle.fleet_grid.specs.Ground.{Ground, is_passable}
 use Rattle.fleet_plan.specs.Plan.{Plan, steps, IsConflictFree}
@@ -8,10 +8,9 @@ use Rattle.fleet_plan.specs.FirstFault.{IsFirstPlanFault}
 use Rattle.fleet_plan.specs.declared.text_fault.TextFault.TheVariants as t
 use Rattle.fleet_plan.specs.declared.plan_fault.PlanFault.TheVariants as p
 use Rattle.fleet_text.specs.Sink.{FailsAfter, SinkState, IsUnwritten, IsDelivered}
-use Rattle.fleet_cli.specs.Files.{Store}
 use Rattle.fleet_args.specs.declared.check.CheckRequest.{CheckRequest}
 use Rattle.fleet_cli.specs.Printed.{report}
-use Rattle.fleet_cli.specs.Named.{IsUnread, AreRead}
+use Rattle.fleet_cli.specs.declared.named.FileTexts.{FileTexts}
 use Rattle.fleet_cli.specs.Inputs.{IsProblemRefusal}
 use Rattle.fleet_cli.specs.Texts.{AreTextsOf}
 use Rattle.fleet_cli.specs.declared.fault.Fault.{Fault}
@@ -48,15 +47,7 @@ IsCheckFault map scen plan asked out out' (f.File name) =
     × IsConflictFree (is_passable g) tasks paths × FailsAfter out out' (check_text paths)
 IsCheckFault map scen plan asked out out' fault = IsProblemRefusal map scen asked fault × IsUnwritten out out'
 
--- the plan for which the files stand is free of conflict, and that was printed
-abbrev pub DoesCheck : Option Store → CheckRequest → (out out' : SinkState) → ℕ → Type 0
-DoesCheck files r out out' status =
-    (map scen plan : List ℕ) × AreRead files (r.map.now ∷ r.scen.now ∷ r.plan.now ∷ []) (map ∷ scen ∷ plan ∷ [])
-    × PrintsCheck map scen plan r.agents out out' × (status ≡ 0)
-
--- a file was not read; or all were, and their texts are refused or the output failed
-abbrev pub RefusesCheck : Option Store → CheckRequest → (out out' : SinkState) → Fault → Type 0
-RefusesCheck files r out out' fault =
-    (IsUnread files (r.map.now ∷ r.scen.now ∷ r.plan.now ∷ []) fault × IsUnwritten out out')
-    ⊎ ((map scen plan : List ℕ) × AreRead files (r.map.now ∷ r.scen.now ∷ r.plan.now ∷ []) (map ∷ scen ∷ plan ∷ [])
-    × IsCheckFault map scen plan r.agents out out' fault)
+-- what the command answers for the texts of its files
+abbrev pub AnswersCheck : CheckRequest → FileTexts → (out out' : SinkState) → Result ℕ Fault → Type 0
+AnswersCheck r texts out out' result =
+    MatchResult result (λ status. PrintsCheck texts.map.items texts.scen.items texts.subject.items r.agents out out' × (status ≡ 0)) (IsCheckFault texts.map.items texts.scen.items texts.subject.items r.agents out out')

@@ -1,5 +1,6 @@
 -- What the program does for its words.
-use Rattle.std.specs.Prelude.{◌≡◌, ℕ, List, [], ◌∷◌, ◌⊎◌, Option, codes, string_bytes}
+use Rattle.std.specs.Prelude.{◌≡◌, ℕ, List, [], ◌∷◌, ◌⊎◌, Option, Some, None, Result, Err, codes, string_bytes}
+use Rattle.std.specs.Borrow.{Bor}
 use Rattle.clap.specs.Words.{Text}
 use Rattle.fleet_args.specs.CommandLine.{DepsNames, AreDeps, fleet}
 use Rattle.fleet_args.specs.Request.{Asks, StopsFor}
@@ -10,59 +11,76 @@ use Rattle.fleet_args.specs.declared.request.WordStop.TheVariants as w
 use Rattle.fleet_cli.specs.Files.{Store, AreUnchanged}
 use Rattle.fleet_text.specs.Sink.{Receives, FailsAfter, SinkState, IsUnwritten, IsDelivered}
 use Rattle.fleet_text.specs.Words.{line_text}
-use Rattle.fleet_cli.specs.Output.{IsRefusalWritten, Outcome}
+use Rattle.fleet_cli.specs.Output.{IsRefusalWritten, Finishes}
+use Rattle.fleet_cli.specs.Named.{given_names, IsUnread, AreTexts}
+use Rattle.fleet_cli.specs.declared.named.FileNames.{FileNames}
+use Rattle.fleet_cli.specs.declared.named.FileTexts.{FileTexts}
 use Rattle.fleet_cli.specs.HexRun.{RunsHex}
-use Rattle.fleet_cli.specs.RehearseCommand.{DoesRehearse, RefusesRehearse}
-use Rattle.fleet_cli.specs.InstanceCommand.{DoesInstance, RefusesInstance}
-use Rattle.fleet_cli.specs.CheckCommand.{DoesCheck, RefusesCheck}
-use Rattle.fleet_cli.specs.PlanCommand.{DoesPlan, RefusesPlan}
-use Rattle.fleet_cli.specs.CompileCommand.{DoesCompile, RefusesCompile}
-use Rattle.fleet_cli.specs.VerifyCommand.{DoesVerify, RefusesVerify}
-use Rattle.fleet_cli.specs.DriveCommand.{DoesRun, RefusesRun}
-use Rattle.fleet_cli.specs.AutoCommand.{DoesAuto, RefusesAuto}
-use Rattle.fleet_cli.specs.ThinCommand.{DoesThin, RefusesThin}
-use Rattle.fleet_cli.specs.MigrateCommand.{DoesMigrate, RefusesMigrate}
-use Rattle.fleet_cli.specs.ListCommand.{DoesList, RefusesList}
-use Rattle.fleet_cli.specs.DispatchCommand.{DoesDispatch, RefusesDispatch}
+use Rattle.fleet_cli.specs.RehearseCommand.{AnswersRehearse}
+use Rattle.fleet_cli.specs.InstanceCommand.{AnswersInstance}
+use Rattle.fleet_cli.specs.CheckCommand.{AnswersCheck}
+use Rattle.fleet_cli.specs.PlanCommand.{AnswersPlan}
+use Rattle.fleet_cli.specs.CompileCommand.{AnswersCompile}
+use Rattle.fleet_cli.specs.VerifyCommand.{AnswersVerify}
+use Rattle.fleet_cli.specs.DriveCommand.{AnswersRun}
+use Rattle.fleet_cli.specs.AutoCommand.{AnswersAuto}
+use Rattle.fleet_cli.specs.ThinCommand.{AnswersThin}
+use Rattle.fleet_cli.specs.MigrateCommand.{AnswersMigrate}
+use Rattle.fleet_cli.specs.ListCommand.{AnswersList}
+use Rattle.fleet_cli.specs.DispatchCommand.{AnswersDispatch}
 use Rattle.fleet_dispatch.specs.Talk.{Talk}
 use Rattle.fleet_cli.specs.declared.fault.Fault.{Fault}
 use Rattle.fleet_cli.specs.declared.fault.Fault.TheVariants as f
 
--- what each command does: all but `compile`, `thin` and `migrate` leave every file as before, and all but `dispatch` leave the input unread; `dispatch` tells robots over the output and hears them by the input
-abbrev pub DoesRequest : (files after : Option Store) → (unread : Type 0) → (Talk → Type 0) → Request → (out out' : SinkState) → ℕ → Type 0
-DoesRequest files after unread talks (r.Instance request) out out' status = DoesInstance files request out out' status × AreUnchanged files after × unread
-DoesRequest files after unread talks (r.Check request) out out' status = DoesCheck files request out out' status × AreUnchanged files after × unread
-DoesRequest files after unread talks (r.Plan request) out out' status = DoesPlan files request out out' status × AreUnchanged files after × unread
-DoesRequest files after unread talks (r.Compile request) out out' status = DoesCompile files after request out out' status × unread
-DoesRequest files after unread talks (r.Verify request) out out' status = DoesVerify files request out out' status × AreUnchanged files after × unread
-DoesRequest files after unread talks (r.Run request) out out' status = DoesRun files request out out' status × AreUnchanged files after × unread
-DoesRequest files after unread talks (r.Rehearse request) out out' status = DoesRehearse files request out out' status × AreUnchanged files after × unread
-DoesRequest files after unread talks (r.Auto request) out out' status = DoesAuto files request out out' status × AreUnchanged files after × unread
-DoesRequest files after unread talks (r.Thin request) out out' status = DoesThin files after request out out' status × unread
-DoesRequest files after unread talks (r.Migrate request) out out' status = DoesMigrate files after request out out' status × unread
-DoesRequest files after unread talks (r.List request) out out' status = DoesList files request out out' status × AreUnchanged files after × unread
-DoesRequest files after unread talks (r.Dispatch request) out out' status = DoesDispatch files request talks status × AreUnchanged files after
+-- the names of files, in the order in which they are read
+abbrev pub names_by : Option (Bor (List ℕ)) → Option (Bor (List ℕ)) → Option (Bor (List ℕ)) → Option (Bor (List ℕ)) → FileNames
+names_by map scen subject holds = record { map = map; scen = scen; subject = subject; holds = holds }
 
--- the refusals of each command
-abbrev pub RefusesRequest : (files after : Option Store) → (unread unwritten : Type 0) → (Talk → Type 0) → Request → (out out' : SinkState) → Fault → Type 0
-RefusesRequest files after unread unwritten talks (r.Instance request) out out' fault = RefusesInstance files request out out' fault × AreUnchanged files after × unread
-RefusesRequest files after unread unwritten talks (r.Check request) out out' fault = RefusesCheck files request out out' fault × AreUnchanged files after × unread
-RefusesRequest files after unread unwritten talks (r.Plan request) out out' fault = RefusesPlan files request out out' fault × AreUnchanged files after × unread
-RefusesRequest files after unread unwritten talks (r.Compile request) out out' fault = RefusesCompile files after request out out' fault × unread
-RefusesRequest files after unread unwritten talks (r.Verify request) out out' fault = RefusesVerify files request out out' fault × AreUnchanged files after × unread
-RefusesRequest files after unread unwritten talks (r.Run request) out out' fault = RefusesRun files request out out' fault × AreUnchanged files after × unread
-RefusesRequest files after unread unwritten talks (r.Rehearse request) out out' fault = RefusesRehearse files request out out' fault × AreUnchanged files after × unread
-RefusesRequest files after unread unwritten talks (r.Auto request) out out' fault = RefusesAuto files request out out' fault × AreUnchanged files after × unread
-RefusesRequest files after unread unwritten talks (r.Thin request) out out' fault = RefusesThin files after request out out' fault × unread
-RefusesRequest files after unread unwritten talks (r.Migrate request) out out' fault = RefusesMigrate files after request out out' fault × unread
-RefusesRequest files after unread unwritten talks (r.List request) out out' fault = RefusesList files request out out' fault × AreUnchanged files after × unread
-RefusesRequest files after unread unwritten talks (r.Dispatch request) out out' fault = RefusesDispatch files request (unread × unwritten) talks fault × AreUnchanged files after
+-- the files that each command reads, that of the holds last
+abbrev pub names_of : Request → FileNames
+names_of (r.Instance q) = names_by (Some q.map) (Some q.scen) None None
+names_of (r.Check q) = names_by (Some q.map) (Some q.scen) (Some q.plan) None
+names_of (r.Plan q) = names_by (Some q.map) (Some q.scen) None None
+names_of (r.Compile q) = names_by (Some q.map) (Some q.scen) (Some q.plan) None
+names_of (r.Verify q) = names_by (Some q.map) (Some q.scen) (Some q.program) None
+names_of (r.Run q) = names_by (Some q.map) (Some q.scen) (Some q.program) q.holds
+names_of (r.Rehearse q) = names_by None None (Some q.program) q.holds
+names_of (r.Auto q) = names_by (Some q.map) (Some q.scen) None q.holds
+names_of (r.Thin q) = names_by (Some q.map) (Some q.scen) (Some q.program) None
+names_of (r.Migrate q) = names_by None None (Some q.program) None
+names_of (r.List q) = names_by None None (Some q.program) None
+names_of (r.Dispatch q) = names_by (Some q.map) (Some q.scen) (Some q.program) None
+
+-- What each command answers for the texts of its files: all but `compile`, `thin` and `migrate` leave every file as before, and all but
+-- `dispatch` leave the input unread; `dispatch` tells robots over the output and hears them by the input
+abbrev pub AnswersRequest : (files after : Option Store) → (unread unwritten : Type 0) → (Talk → Type 0) → Request → FileTexts → (out out' : SinkState) → Result ℕ Fault → Type 0
+AnswersRequest files after unread unwritten talks (r.Instance q) texts out out' result = AnswersInstance q texts out out' result × AreUnchanged files after × unread
+AnswersRequest files after unread unwritten talks (r.Check q) texts out out' result = AnswersCheck q texts out out' result × AreUnchanged files after × unread
+AnswersRequest files after unread unwritten talks (r.Plan q) texts out out' result = AnswersPlan q texts out out' result × AreUnchanged files after × unread
+AnswersRequest files after unread unwritten talks (r.Compile q) texts out out' result = AnswersCompile files after q texts out out' result × unread
+AnswersRequest files after unread unwritten talks (r.Verify q) texts out out' result = AnswersVerify q texts out out' result × AreUnchanged files after × unread
+AnswersRequest files after unread unwritten talks (r.Run q) texts out out' result = AnswersRun q texts out out' result × AreUnchanged files after × unread
+AnswersRequest files after unread unwritten talks (r.Rehearse q) texts out out' result = AnswersRehearse texts out out' result × AreUnchanged files after × unread
+AnswersRequest files after unread unwritten talks (r.Auto q) texts out out' result = AnswersAuto q texts out out' result × AreUnchanged files after × unread
+AnswersRequest files after unread unwritten talks (r.Thin q) texts out out' result = AnswersThin files after q texts out out' result × unread
+AnswersRequest files after unread unwritten talks (r.Migrate q) texts out out' result = AnswersMigrate files after q texts out out' result × unread
+AnswersRequest files after unread unwritten talks (r.List q) texts out out' result = AnswersList texts out out' result × AreUnchanged files after × unread
+AnswersRequest files after unread unwritten talks (r.Dispatch q) texts out out' result = AnswersDispatch q texts (unread × unwritten) talks result × AreUnchanged files after
+
+-- What a request is answered. Its files were read, which leaves every file as before, and this is the answer for their texts; or one of
+-- them was not read, which is the refusal, and nothing was written, and the input not read
+abbrev pub DoesRequest : (files after : Option Store) → (unread unwritten : Type 0) → (Talk → Type 0) → Request → (out out' : SinkState) → Result ℕ Fault → Type 0
+DoesRequest files after unread unwritten talks request out out' result =
+    ((texts : FileTexts) × (read : Option Store) × AreTexts files (names_of request) texts × AreUnchanged files read
+    × AnswersRequest read after unread unwritten talks request texts out out' result)
+    ⊎ ((fault : Fault) × (result ≡ Err fault) × IsUnread files (given_names (names_of request)) fault × AreUnchanged files after × IsUnwritten out out'
+    × unread × unwritten)
 
 -- the request was done, and its status is answered; or a refusal was reported, and the refusal's status is answered: the other output took
 -- that one line, or failed within it
 abbrev pub RunsRequest : (files after : Option Store) → (unread unwritten : Type 0) → (Talk → Type 0) → Request → (out out' err err' : SinkState) → ℕ → Type 0
 RunsRequest files after unread unwritten talks request out out' err err' status =
-    Outcome (DoesRequest files after unread talks request out out') (RefusesRequest files after unread unwritten talks request out out') err err' status
+    (done : Result ℕ Fault) × DoesRequest files after unread unwritten talks request out out' done × Finishes done err err' status
 
 -- it was reported why the words are no request: by help on the output, by usage on the other
 abbrev pub StopsAtWords : WordStop → (out out' err err' : SinkState) → ℕ → Type 0

@@ -1,5 +1,5 @@
 -- What the command `compile` writes and prints: the bytes of the program of a plan, and its numbers.
-use Rattle.std.specs.Prelude.{◌≡◌, ◌≢◌, ℕ, List, [], ◌∷◌, length, ◌⊎◌, Option, Ok, Err, codes}
+use Rattle.std.specs.Prelude.{◌≡◌, ◌≢◌, ℕ, List, [], ◌∷◌, length, Option, Ok, Err, codes, Result}
 use Rattle.fleet_model.specs.declared.task.Task.{Task}
 use Rattle.fleet_model.specs.Program.{Program, total_moves, total_awaits}
 use Rattle.fleet_model.specs.Accepted.{IsAccepted}
@@ -14,10 +14,10 @@ use Rattle.fleet_model.specs.declared.deps.Deps.{Deps}
 use Rattle.fleet_adg.specs.declared.fault.CompileFault.TheVariants as c
 use Rattle.fleet_code.specs.Spelling.{SpellsShortest}
 use Rattle.fleet_text.specs.Sink.{SinkState, IsUnwritten}
-use Rattle.fleet_cli.specs.Files.{Store, AreUnchanged}
+use Rattle.fleet_cli.specs.Files.{Store}
 use Rattle.fleet_args.specs.declared.compile.CompileRequest.{CompileRequest}
-use Rattle.fleet_cli.specs.Named.{IsUnread, AreRead}
-use Rattle.fleet_cli.specs.Printed.{count_lines, WritesOut, IsOutRefusal}
+use Rattle.fleet_cli.specs.declared.named.FileTexts.{FileTexts}
+use Rattle.fleet_cli.specs.Printed.{count_lines, AnswersOut}
 use Rattle.fleet_cli.specs.Texts.{AreTextsOf}
 use Rattle.fleet_cli.specs.CheckCommand.{ArePlanTexts}
 use Rattle.fleet_cli.specs.Inputs.{IsProblemRefusal}
@@ -53,29 +53,9 @@ abbrev pub compiled_text : Program → List ℕ → List ℕ
 compiled_text p bytes =
     count_lines ((codes "agents", length p) ∷ (codes "moves", total_moves p) ∷ (codes "awaits", total_awaits p) ∷ (codes "bytes", length bytes) ∷ [])
 
--- the program of the files was compiled to these bytes
-abbrev pub CompilesFiles : Option Store → CompileRequest → Program → List ℕ → Type 0
-CompilesFiles files r program bytes =
-    (map scen plan : List ℕ) × AreRead files (r.map.now ∷ r.scen.now ∷ r.plan.now ∷ []) (map ∷ scen ∷ plan ∷ [])
-    × CompilesTexts map scen plan r.agents r.deps r.dwell program bytes
-
--- a file was not read; or all were, and what they hold is refused
-abbrev pub IsCompileRefusal : Option Store → CompileRequest → Fault → Type 0
-IsCompileRefusal files r fault =
-    IsUnread files (r.map.now ∷ r.scen.now ∷ r.plan.now ∷ []) fault
-    ⊎ ((map scen plan : List ℕ) × AreRead files (r.map.now ∷ r.scen.now ∷ r.plan.now ∷ []) (map ∷ scen ∷ plan ∷ [])
-    × IsCompileFault map scen plan r.agents r.deps r.dwell fault)
-
--- the file of the program holds its bytes, every other file is as before, and the program's numbers were printed
-abbrev pub DoesCompile : (files after : Option Store) → CompileRequest → (out out' : SinkState) → ℕ → Type 0
-DoesCompile files after r out out' status =
-    (program : Program) × (bytes : List ℕ) × CompilesFiles files r program bytes
-    × WritesOut files after r.out.now bytes out out' (compiled_text program bytes) × (status ≡ 0)
-
--- A refusal before anything is written: every file is as before. Or the program was compiled, and its file could not be written or the
--- output failed
-abbrev pub RefusesCompile : (files after : Option Store) → CompileRequest → (out out' : SinkState) → Fault → Type 0
-RefusesCompile files after r out out' fault =
-    (IsCompileRefusal files r fault × AreUnchanged files after × IsUnwritten out out')
-    ⊎ ((program : Program) × (bytes : List ℕ) × CompilesFiles files r program bytes
-    × IsOutRefusal files after r.out.now bytes out out' (compiled_text program bytes) fault)
+-- What the command answers for the texts of its files. The file OUT holds the program's bytes, every other file is as before, and the
+-- program's numbers were printed; or a refusal before anything is written; or OUT could not be written, or the output failed
+abbrev pub AnswersCompile : (files after : Option Store) → CompileRequest → FileTexts → (out out' : SinkState) → Result ℕ Fault → Type 0
+AnswersCompile files after r texts out out' result =
+    AnswersOut {A = Program × List ℕ} files after r.out.now (λ made. CompilesTexts texts.map.items texts.scen.items texts.subject.items r.agents r.deps r.dwell made.0 made.1)
+    (IsCompileFault texts.map.items texts.scen.items texts.subject.items r.agents r.deps r.dwell) (λ made. made.1) (λ made. compiled_text made.0 made.1) out out' result

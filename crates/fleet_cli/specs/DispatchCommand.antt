@@ -1,11 +1,10 @@
 -- What the command `dispatch` does: it verifies the program of a file, and dispatches its agents over an input and an output.
-use Rattle.std.specs.Prelude.{◌≡◌, ℕ, List, [], ◌∷◌, ◌⊎◌, Option, Ok, Err}
+use Rattle.std.specs.Prelude.{◌≡◌, ℕ, List, Option, Ok, Err, Result, MatchResult}
 use Rattle.fleet_dispatch.specs.Talk.{Talk}
 use Rattle.fleet_dispatch.specs.Dispatch.{DispatchesFrom}
 use Rattle.fleet_dispatch.specs.declared.run.DispatchReport.{DispatchReport}
 use Rattle.fleet_args.specs.declared.dispatch.DispatchRequest.{DispatchRequest}
-use Rattle.fleet_cli.specs.Files.{Store}
-use Rattle.fleet_cli.specs.Named.{IsUnread, AreRead}
+use Rattle.fleet_cli.specs.declared.named.FileTexts.{FileTexts}
 use Rattle.fleet_cli.specs.Inputs.{AcceptsTexts, IsTextsRefusal}
 use Rattle.fleet_cli.specs.declared.fault.Fault.{Fault}
 use Rattle.fleet_cli.specs.declared.fault.Fault.TheVariants as f
@@ -21,15 +20,8 @@ abbrev pub IsDispatchRefusal : (map scen : List ℕ) → Option ℕ → List ℕ
 IsDispatchRefusal map scen asked bytes untold talks (f.Dispatch fault) = (a : AcceptsTexts map scen asked bytes) × DispatchesFrom a.program talks (Err fault)
 IsDispatchRefusal map scen asked bytes untold talks fault = IsTextsRefusal map scen asked bytes fault × untold
 
--- the program of the files is accepted, and its agents were dispatched until all stood on their goals
-abbrev pub DoesDispatch : Option Store → DispatchRequest → (Talk → Type 0) → ℕ → Type 0
-DoesDispatch files r talks status =
-    (map scen program : List ℕ) × AreRead files (r.map.now ∷ r.scen.now ∷ r.program.now ∷ []) (map ∷ scen ∷ program ∷ [])
-    × DispatchesTexts map scen r.agents program talks × (status ≡ 0)
-
--- a file was not read, and nothing was told or heard; or all were, and what they hold is refused
-abbrev pub RefusesDispatch : Option Store → DispatchRequest → (untold : Type 0) → (Talk → Type 0) → Fault → Type 0
-RefusesDispatch files r untold talks fault =
-    (IsUnread files (r.map.now ∷ r.scen.now ∷ r.program.now ∷ []) fault × untold)
-    ⊎ ((map scen program : List ℕ) × AreRead files (r.map.now ∷ r.scen.now ∷ r.program.now ∷ []) (map ∷ scen ∷ program ∷ [])
-    × IsDispatchRefusal map scen r.agents program untold talks fault)
+-- what the command answers for the texts of its files
+abbrev pub AnswersDispatch : DispatchRequest → FileTexts → (untold : Type 0) → (Talk → Type 0) → Result ℕ Fault → Type 0
+AnswersDispatch r texts untold talks result =
+    MatchResult result (λ status. DispatchesTexts texts.map.items texts.scen.items r.agents texts.subject.items talks × (status ≡ 0))
+    (IsDispatchRefusal texts.map.items texts.scen.items r.agents texts.subject.items untold talks)

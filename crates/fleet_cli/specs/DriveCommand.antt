@@ -1,10 +1,9 @@
 -- What the command `run` does: it verifies the program of a file and runs it, under the holds of another.
-use Rattle.std.specs.Prelude.{◌≡◌, ℕ, true, List, [], ◌∷◌, ◌⊎◌, Option, Err}
+use Rattle.std.specs.Prelude.{◌≡◌, ℕ, true, List, Option, Err, Result, MatchResult}
 use Rattle.fleet_run.specs.declared.trace.Report.{Report}
 use Rattle.fleet_run.specs.Trace.{WritesTrace}
 use Rattle.fleet_args.specs.declared.run.RunRequest.{RunRequest}
-use Rattle.fleet_cli.specs.Files.{Store}
-use Rattle.fleet_cli.specs.Named.{IsUnread, AreRead, given_name, hold_names, AreHoldBytes}
+use Rattle.fleet_cli.specs.declared.named.FileTexts.{FileTexts}
 use Rattle.fleet_cli.specs.Traced.{TracesFlushed}
 use Rattle.fleet_text.specs.Sink.{SinkState, IsUnwritten}
 use Rattle.fleet_cli.specs.Inputs.{AcceptsTexts, IsTextsRefusal}
@@ -24,15 +23,7 @@ IsRunFault map scen asked bytes held out out' (f.Run fault) =
     (a : AcceptsTexts map scen asked bytes) × TracesFlushed a.program a.chain held out out' (Err fault)
 IsRunFault map scen asked bytes held out out' fault = IsTextsRefusal map scen asked bytes fault × IsUnwritten out out'
 
--- the program of the files is accepted, and ran to its end
-abbrev pub DoesRun : Option Store → RunRequest → (out out' : SinkState) → ℕ → Type 0
-DoesRun files r out out' status =
-    (map scen program held : List ℕ) × AreRead files (r.map.now ∷ r.scen.now ∷ r.program.now ∷ []) (map ∷ scen ∷ program ∷ [])
-    × AreHoldBytes files (given_name r.holds) held × RunsTexts map scen r.agents program held out out' × (status ≡ 0)
-
--- a file was not read, of which that of the holds comes last; or all were, and what they hold is refused
-abbrev pub RefusesRun : Option Store → RunRequest → (out out' : SinkState) → Fault → Type 0
-RefusesRun files r out out' fault =
-    (IsUnread files (r.map.now ∷ r.scen.now ∷ r.program.now ∷ hold_names (given_name r.holds)) fault × IsUnwritten out out')
-    ⊎ ((map scen program held : List ℕ) × AreRead files (r.map.now ∷ r.scen.now ∷ r.program.now ∷ []) (map ∷ scen ∷ program ∷ [])
-    × AreHoldBytes files (given_name r.holds) held × IsRunFault map scen r.agents program held out out' fault)
+-- what the command answers for the texts of its files
+abbrev pub AnswersRun : RunRequest → FileTexts → (out out' : SinkState) → Result ℕ Fault → Type 0
+AnswersRun r texts out out' result =
+    MatchResult result (λ status. RunsTexts texts.map.items texts.scen.items r.agents texts.subject.items texts.holds.items out out' × (status ≡ 0)) (IsRunFault texts.map.items texts.scen.items r.agents texts.subject.items texts.holds.items out out')

@@ -1,5 +1,5 @@
 -- What the program does without words: the rehearsal, with nobody held, of the program that its input stands for in hexadecimal.
-use Rattle.std.specs.Prelude.{◌≡◌, ◌≢◌, ◌≤◌, ℕ, List, [], length, Option, Ok, Err, IfSome, codes}
+use Rattle.std.specs.Prelude.{◌≡◌, ◌≢◌, ◌≤◌, ℕ, List, [], length, Option, Result, Ok, Err, MatchResult, IfSome, codes}
 use Rattle.fleet_model.specs.Program.{Program}
 use Rattle.fleet_model.specs.Machine.{Holds}
 use Rattle.fleet_code.specs.Spelling.{Spells}
@@ -10,7 +10,7 @@ use Rattle.fleet_cli.specs.declared.input.TheConstants.{MAX_BYTES}
 use Rattle.fleet_cli.specs.Flushed.{RehearsesFlushed}
 use Rattle.fleet_run.specs.Source.{list_source}
 use Rattle.fleet_text.specs.Sink.{SinkState, IsUnwritten}
-use Rattle.fleet_cli.specs.Output.{WritesRehearsal, Outcome, end_status}
+use Rattle.fleet_cli.specs.Output.{WritesRehearsal, Finishes, end_status}
 use Rattle.fleet_run.specs.declared.run.End.{End}
 use Rattle.fleet_cli.specs.declared.fault.Fault.{Fault}
 use Rattle.fleet_cli.specs.declared.fault.Fault.TheVariants as f
@@ -48,11 +48,12 @@ IsRefusalOf input out out' f.Memory = IsUnwritten out out'
 IsRefusalOf input out out' (f.File name) = (name.now ≡ codes "-") × IsUnwritten out out'
 IsRefusalOf input out out' _ = ⊥
 
--- the rehearsal of the program of the input was written, and the status says how it ended
-abbrev pub DoesHex : Option (List ℕ) → (out out' : SinkState) → ℕ → Type 0
-DoesHex input out out' status = (end : End) × RehearsesInput input out out' end × (status ≡ end_status end)
+-- what the run without words answers: the rehearsal of the program of the input was written, and the status says how it ended; or a refusal
+abbrev pub AnswersHex : Option (List ℕ) → (out out' : SinkState) → Result ℕ Fault → Type 0
+AnswersHex input out out' result =
+    MatchResult result (λ status. (end : End) × RehearsesInput input out out' end × (status ≡ end_status end)) (IsRefusalOf input out out')
 
 -- 0 if the rehearsal was written and ends finished, 1 if it was written and ends stuck, and else the status of a refusal
 -- that was reported: the other output took that one line, or failed within it
 abbrev pub RunsHex : Option (List ℕ) → (out out' err err' : SinkState) → ℕ → Type 0
-RunsHex input out out' err err' status = Outcome (DoesHex input out out') (IsRefusalOf input out out') err err' status
+RunsHex input out out' err err' status = (done : Result ℕ Fault) × AnswersHex input out out' done × Finishes done err err' status

@@ -1,16 +1,15 @@
 -- What the command `instance` prints: the sizes of a map, its passable cells, and the start and the goal of each agent.
-use Rattle.std.specs.Prelude.{◌≡◌, ℕ, zero, suc, List, [], ◌∷◌, ◌++◌, length, slice_get, ◌⊎◌, Option, codes, decimal}
+use Rattle.std.specs.Prelude.{◌≡◌, ℕ, zero, suc, List, [], ◌∷◌, ◌++◌, length, slice_get, Option, codes, decimal, Result, MatchResult}
 use Rattle.std.specs.Option.{option_map_or}
 use Rattle.fleet_model.specs.declared.geometry.Cell.{Cell}
 use Rattle.fleet_model.specs.declared.task.Task.{Task}
 use Rattle.fleet_model.specs.Program.{origin}
 use Rattle.fleet_grid.specs.Ground.{Ground, passable_cells}
 use Rattle.fleet_cli.specs.Texts.{AreTextsOf}
-use Rattle.fleet_cli.specs.Files.{Store}
 use Rattle.fleet_text.specs.Sink.{FailsAfter, SinkState, IsUnwritten, IsDelivered}
 use Rattle.fleet_args.specs.declared.instance.InstanceRequest.{InstanceRequest}
 use Rattle.fleet_text.specs.Words.{pair_text, line_text, count_line}
-use Rattle.fleet_cli.specs.Named.{IsUnread, AreRead}
+use Rattle.fleet_cli.specs.declared.named.FileTexts.{FileTexts}
 use Rattle.fleet_cli.specs.Inputs.{IsProblemRefusal}
 use Rattle.fleet_cli.specs.declared.fault.Fault.{Fault}
 use Rattle.fleet_cli.specs.declared.fault.Fault.TheVariants as f
@@ -55,13 +54,7 @@ IsInstanceFault map scen asked out out' (f.File name) =
     × FailsAfter out out' (instance_text g tasks)
 IsInstanceFault map scen asked out out' fault = IsProblemRefusal map scen asked fault × IsUnwritten out out'
 
--- the instance for which the files stand was printed
-abbrev pub DoesInstance : Option Store → InstanceRequest → (out out' : SinkState) → ℕ → Type 0
-DoesInstance files r out out' status =
-    (map scen : List ℕ) × AreRead files (r.map.now ∷ r.scen.now ∷ []) (map ∷ scen ∷ []) × PrintsInstance map scen r.agents out out' × (status ≡ 0)
-
--- a file was not read; or both were, and their texts are refused or the output failed
-abbrev pub RefusesInstance : Option Store → InstanceRequest → (out out' : SinkState) → Fault → Type 0
-RefusesInstance files r out out' fault =
-    (IsUnread files (r.map.now ∷ r.scen.now ∷ []) fault × IsUnwritten out out')
-    ⊎ ((map scen : List ℕ) × AreRead files (r.map.now ∷ r.scen.now ∷ []) (map ∷ scen ∷ []) × IsInstanceFault map scen r.agents out out' fault)
+-- what the command answers for the texts of its files
+abbrev pub AnswersInstance : InstanceRequest → FileTexts → (out out' : SinkState) → Result ℕ Fault → Type 0
+AnswersInstance r texts out out' result =
+    MatchResult result (λ status. PrintsInstance texts.map.items texts.scen.items r.agents out out' × (status ≡ 0)) (IsInstanceFault texts.map.items texts.scen.items r.agents out out')

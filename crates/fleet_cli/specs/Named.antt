@@ -1,11 +1,13 @@
 -- Files that a command names, read one after another.
-use Rattle.std.specs.Prelude.{◌≡◌, ℕ, List, [], ◌∷◌, ◌⊎◌, Option, None, Some, option_map}
+use Rattle.std.specs.Prelude.{◌≡◌, ℕ, List, [], ◌∷◌, ◌++◌, ◌⊎◌, Option, None, Some}
 use Rattle.std.specs.Borrow.{Bor}
 use Rattle.fleet_cli.specs.Files.{Store, IsRead, IsUnreadable}
 use Rattle.fleet_cli.specs.declared.input.FileFault.{FileFault}
 use Rattle.fleet_cli.specs.declared.input.FileFault.TheVariants.{OutOfMemory, Failed}
 use Rattle.fleet_cli.specs.declared.fault.Fault.{Fault}
 use Rattle.fleet_cli.specs.declared.fault.Fault.TheVariants as f
+use Rattle.fleet_cli.specs.declared.named.FileNames.{FileNames}
+use Rattle.fleet_cli.specs.declared.named.FileTexts.{FileTexts}
 
 -- the store's refusal is reported as it is: want of memory as such, and a failed access by the file's name
 abbrev pub IsRefusedAs : (refuses : FileFault → Type 0) → List ℕ → Fault → Type 0
@@ -30,22 +32,23 @@ abbrev pub IsUnread : Option Store → List (List ℕ) → Fault → Type 0
 IsUnread files [] fault = ⊥
 IsUnread files (name ∷ names) fault = IsReadFault files name fault ⊎ ((bytes : List ℕ) × IsRead files name bytes × IsUnread files names fault)
 
--- the files of these names were read, and gave these bytes
-abbrev pub AreRead : Option Store → List (List ℕ) → List (List ℕ) → Type 0
-AreRead files [] [] = Unit {0}
-AreRead files (name ∷ names) (bytes ∷ rest) = IsRead files name bytes × AreRead files names rest
-AreRead files _ _ = ⊥
-
 -- the name that was given, if one was
-abbrev pub given_name : Option (Bor (List ℕ)) → Option (List ℕ)
-given_name name = option_map (λ n. n.now) name
+abbrev pub given_name : Option (Bor (List ℕ)) → List (List ℕ)
+given_name None = []
+given_name (Some name) = name.now ∷ []
 
--- the name of the file of the holds, if one is named
-abbrev pub hold_names : Option (List ℕ) → List (List ℕ)
-hold_names None = []
-hold_names (Some name) = name ∷ []
+-- the names that were given, in the order in which their files are read
+abbrev pub given_names : FileNames → List (List ℕ)
+given_names names = given_name names.map ++ (given_name names.scen ++ (given_name names.subject ++ given_name names.holds))
 
--- the bytes of the holds: those of the named file, or none if none is named
-abbrev pub AreHoldBytes : Option Store → Option (List ℕ) → List ℕ → Type 0
-AreHoldBytes files None bytes = bytes ≡ []
-AreHoldBytes files (Some name) bytes = IsRead files name bytes
+-- the bytes of the named file, or none if none is named
+abbrev pub IsGiven : Option Store → Option (Bor (List ℕ)) → List ℕ → Type 0
+IsGiven files None bytes = bytes ≡ []
+IsGiven files (Some name) bytes = IsRead files name.now bytes
+
+-- the named files were read, and hold these texts
+pub record AreTexts (files : Option Store) (names : FileNames) (texts : FileTexts) : Type 0 where
+  pub map : IsGiven files names.map texts.map.items
+  pub scen : IsGiven files names.scen texts.scen.items
+  pub subject : IsGiven files names.subject texts.subject.items
+  pub holds : IsGiven files names.holds texts.holds.items

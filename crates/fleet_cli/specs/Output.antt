@@ -1,5 +1,5 @@
 -- What commands write.
-use Rattle.std.specs.Prelude.{◌≡◌, ◌⊎◌, ℕ, Some, Result, Ok, Err, codes}
+use Rattle.std.specs.Prelude.{◌≡◌, ℕ, Some, Result, Ok, Err, codes}
 use Rattle.fleet_model.specs.Program.{Program}
 use Rattle.fleet_model.specs.Machine.{Holds, run, IsEnd}
 use Rattle.fleet_text.specs.Sink.{SinkState, Receives, IsDelivered, IsUnwritten}
@@ -26,13 +26,6 @@ pub record WritesRehearsal (p : Program) (holds : Holds) (out out' : SinkState) 
 abbrev pub Finishes : Result ℕ Fault → (err err' : SinkState) → ℕ → Type 0
 Finishes (Ok done) err err' status = (status ≡ done) × IsUnwritten err err'
 Finishes (Err fault) err err' status = IsRefusalWritten fault err err' × (status ≡ status_of fault)
-
--- What becomes of a command, by what it does with a status and what refusals it may have: it was done, and nothing was reported; or a
--- refusal was reported, and the refusal's status is answered
-abbrev pub Outcome : (Does : ℕ → Type 0) → (Refuses : Fault → Type 0) → (err err' : SinkState) → ℕ → Type 0
-Outcome Does Refuses err err' status =
-    (Does status × IsUnwritten err err')
-    ⊎ ((fault : Fault) × Refuses fault × IsRefusalWritten fault err err' × (status ≡ status_of fault))
 
 -- how a rehearsal ended, as a status
 abbrev pub end_status : End → ℕ

@@ -1,5 +1,5 @@
 -- What the command `plan` prints: a plan in which each path is the earliest against those before it in some order of the agents.
-use Rattle.std.specs.Prelude.{◌≡◌, ℕ, List, [], ◌∷◌, ◌⊎◌, Option, codes}
+use Rattle.std.specs.Prelude.{◌≡◌, ℕ, List, Option, codes, Result, MatchResult}
 use Rattle.fleet_model.specs.declared.task.Task.{Task}
 use Rattle.fleet_grid.specs.Ground.{Ground, is_passable}
 use Rattle.fleet_plan.specs.Plan.{Plan}
@@ -7,9 +7,8 @@ use Rattle.fleet_plan.specs.PlanText.{plan_text}
 use Rattle.fleet_search.specs.Orders.{IsStuckInTries}
 use Rattle.fleet_search.specs.declared.fault.PlanStop.TheVariants as p
 use Rattle.fleet_text.specs.Sink.{FailsAfter, SinkState, IsUnwritten, IsDelivered}
-use Rattle.fleet_cli.specs.Files.{Store}
 use Rattle.fleet_args.specs.declared.plan.PlanRequest.{PlanRequest}
-use Rattle.fleet_cli.specs.Named.{IsUnread, AreRead}
+use Rattle.fleet_cli.specs.declared.named.FileTexts.{FileTexts}
 use Rattle.fleet_cli.specs.Texts.{AreTextsOf}
 use Rattle.fleet_cli.specs.Making.{IsPlannedFor}
 use Rattle.fleet_cli.specs.Inputs.{IsProblemRefusal}
@@ -39,13 +38,7 @@ IsPlanCommandFault map scen asked horizon tries out out' (f.File name) =
     (a : PlansTexts map scen asked horizon tries) × (name.now ≡ codes "-") × FailsAfter out out' (plan_text a.plan)
 IsPlanCommandFault map scen asked horizon tries out out' fault = IsProblemRefusal map scen asked fault × IsUnwritten out out'
 
--- a plan for the instance for which the files stand was printed
-abbrev pub DoesPlan : Option Store → PlanRequest → (out out' : SinkState) → ℕ → Type 0
-DoesPlan files r out out' status =
-    (map scen : List ℕ) × AreRead files (r.map.now ∷ r.scen.now ∷ []) (map ∷ scen ∷ []) × PrintsPlan map scen r.agents r.horizon r.tries out out' × (status ≡ 0)
-
--- a file was not read; or both were, and no plan was printed
-abbrev pub RefusesPlan : Option Store → PlanRequest → (out out' : SinkState) → Fault → Type 0
-RefusesPlan files r out out' fault =
-    (IsUnread files (r.map.now ∷ r.scen.now ∷ []) fault × IsUnwritten out out')
-    ⊎ ((map scen : List ℕ) × AreRead files (r.map.now ∷ r.scen.now ∷ []) (map ∷ scen ∷ []) × IsPlanCommandFault map scen r.agents r.horizon r.tries out out' fault)
+-- what the command answers for the texts of its files
+abbrev pub AnswersPlan : PlanRequest → FileTexts → (out out' : SinkState) → Result ℕ Fault → Type 0
+AnswersPlan r texts out out' result =
+    MatchResult result (λ status. PrintsPlan texts.map.items texts.scen.items r.agents r.horizon r.tries out out' × (status ≡ 0)) (IsPlanCommandFault texts.map.items texts.scen.items r.agents r.horizon r.tries out out')

@@ -2,7 +2,7 @@
 use Rattle.std.specs.Prelude.{◌≡◌, ℕ, List, [], ◌∷◌, ◌++◌, ◌⊎◌, Option, Result, Ok, Err, map}
 use Rattle.std.specs.Borrow.{Bor}
 use Rattle.fleet_text.specs.Sink.{SinkState, FailsAfter, IsUnwritten, IsDelivered}
-use Rattle.fleet_cli.specs.Files.{Store, ChangesOnly, Replaces}
+use Rattle.fleet_cli.specs.Files.{Store, AreUnchanged, ChangesOnly, Replaces}
 use Rattle.fleet_cli.specs.Named.{IsWriteFault}
 use Rattle.fleet_text.specs.Words.{line_text, count_line}
 use Rattle.fleet_cli.specs.Output.{IsOutFault}
@@ -39,3 +39,11 @@ abbrev pub IsOutRefusal : (files after : Option Store) → (name bytes : List �
 IsOutRefusal files after name bytes out out' text fault =
     (IsWriteFault name fault × ChangesOnly files after name × IsUnwritten out out')
     ⊎ (Replaces files after name bytes × IsOutFault fault × FailsAfter out out' text)
+
+-- What a command answers that makes a value, writes its bytes to a file and then prints a text of it. A refusal of the value, before
+-- anything is written: every file is as before. Or the value was made, and the file could not be written or the output failed
+abbrev pub AnswersOut : {A : Type 0} → (files after : Option Store) → (name : List ℕ) → (A → Type 0) → (Fault → Type 0) → (A → List ℕ) → (A → List ℕ) → (out out' : SinkState) → Result ℕ Fault → Type 0
+AnswersOut {A} files after name Makes Refuses bytes text out out' (Ok status) = (made : A) × Makes made × WritesOut files after name (bytes made) out out' (text made) × (status ≡ 0)
+AnswersOut {A} files after name Makes Refuses bytes text out out' (Err fault) =
+    (Refuses fault × AreUnchanged files after × IsUnwritten out out')
+    ⊎ ((made : A) × Makes made × IsOutRefusal files after name (bytes made) out out' (text made) fault)

@@ -1,10 +1,8 @@
 -- What the command `rehearse` does: the rehearsal of the program of a file, under the holds of another.
-use Rattle.std.specs.Prelude.{◌≡◌, ℕ, ◌<◌, List, ◌∷◌, length, ◌⊎◌, Option, None, Err}
+use Rattle.std.specs.Prelude.{◌≡◌, ℕ, ◌<◌, List, length, None, Err, Result, MatchResult}
 use Rattle.fleet_model.specs.Program.{Program}
 use Rattle.fleet_code.specs.Spelling.{Spells}
-use Rattle.fleet_cli.specs.Files.{Store, IsRead}
-use Rattle.fleet_args.specs.declared.rehearse.RehearseRequest.{RehearseRequest}
-use Rattle.fleet_cli.specs.Named.{IsUnread, given_name, hold_names, AreHoldBytes}
+use Rattle.fleet_cli.specs.declared.named.FileTexts.{FileTexts}
 use Rattle.fleet_run.specs.Trace.{hold_ticks, hold_last, hold_source}
 use Rattle.fleet_cli.specs.Flushed.{RehearsesFlushed}
 use Rattle.fleet_text.specs.Sink.{SinkState, IsUnwritten}
@@ -30,14 +28,8 @@ IsRehearseFault bytes held out out' (f.Run fault) =
     (p : Program) × (source : SourceState) × Spells bytes p × RehearsesFlushed p (hold_source p held) source out out' (Err fault)
 IsRehearseFault bytes held out out' fault = IsLoadRefusal bytes fault × IsUnwritten out out'
 
--- the rehearsal of the program of the files was written, and the status says how it ended
-abbrev pub DoesRehearse : Option Store → RehearseRequest → (out out' : SinkState) → ℕ → Type 0
-DoesRehearse files r out out' status =
-    (bytes held : List ℕ) × IsRead files r.program.now bytes × AreHoldBytes files (given_name r.holds) held
-    × ((end : End) × RehearsesBytes bytes held out out' end × (status ≡ end_status end))
-
--- a file was not read, of which that of the holds comes last; or both were, and their bytes are refused
-abbrev pub RefusesRehearse : Option Store → RehearseRequest → (out out' : SinkState) → Fault → Type 0
-RefusesRehearse files r out out' fault =
-    (IsUnread files (r.program.now ∷ hold_names (given_name r.holds)) fault × IsUnwritten out out')
-    ⊎ ((bytes held : List ℕ) × IsRead files r.program.now bytes × AreHoldBytes files (given_name r.holds) held × IsRehearseFault bytes held out out' fault)
+-- what the command answers for the texts of its files: the status says how the rehearsal ended
+abbrev pub AnswersRehearse : FileTexts → (out out' : SinkState) → Result ℕ Fault → Type 0
+AnswersRehearse texts out out' result =
+    MatchResult result (λ status. (end : End) × RehearsesBytes texts.subject.items texts.holds.items out out' end × (status ≡ end_status end))
+    (IsRehearseFault texts.subject.items texts.holds.items out out')

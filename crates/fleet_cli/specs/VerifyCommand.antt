@@ -1,5 +1,5 @@
 -- What the command `verify` prints: that a program is accepted, and its numbers.
-use Rattle.std.specs.Prelude.{◌≡◌, ℕ, List, [], ◌∷◌, length, ◌⊎◌, Option, codes}
+use Rattle.std.specs.Prelude.{◌≡◌, ℕ, List, [], ◌∷◌, length, ◌⊎◌, Option, codes, Result, MatchResult}
 use Rattle.fleet_model.specs.declared.geometry.Cell.{Cell}
 use Rattle.fleet_model.specs.declared.program.Visit.{Visit}
 use Rattle.fleet_model.specs.declared.task.Task.{Task}
@@ -15,9 +15,8 @@ use Rattle.fleet_verify.specs.declared.fault.VerifyFault.TheVariants as v
 use Rattle.fleet_run.specs.HoldText.{holds_text}
 use Rattle.fleet_cli.specs.Texts.{AreTextsOf}
 use Rattle.fleet_text.specs.Sink.{FailsAfter, SinkState, IsUnwritten, IsDelivered}
-use Rattle.fleet_cli.specs.Files.{Store}
 use Rattle.fleet_args.specs.declared.verify.VerifyRequest.{VerifyRequest}
-use Rattle.fleet_cli.specs.Named.{IsUnread, AreRead}
+use Rattle.fleet_cli.specs.declared.named.FileTexts.{FileTexts}
 use Rattle.fleet_cli.specs.Printed.{report}
 use Rattle.fleet_cli.specs.Inputs.{AcceptsTexts, IsTextsRefusal}
 use Rattle.fleet_cli.specs.declared.fault.Fault.{Fault}
@@ -71,15 +70,7 @@ IsVerifyFault map scen asked bytes out out' (f.File name) =
     ⊎ ((a : AcceptsTexts map scen asked bytes) × (name.now ≡ codes "-") × FailsAfter out out' (accepted_text a.program a.chain))
 IsVerifyFault map scen asked bytes out out' fault = IsTextsRefusal map scen asked bytes fault × IsUnwritten out out'
 
--- the program of the files is accepted, and that was printed
-abbrev pub DoesVerify : Option Store → VerifyRequest → (out out' : SinkState) → ℕ → Type 0
-DoesVerify files r out out' status =
-    (map scen program : List ℕ) × AreRead files (r.map.now ∷ r.scen.now ∷ r.program.now ∷ []) (map ∷ scen ∷ program ∷ [])
-    × PrintsAccepted map scen r.agents program out out' × (status ≡ 0)
-
--- a file was not read; or all were, and what they hold is refused
-abbrev pub RefusesVerify : Option Store → VerifyRequest → (out out' : SinkState) → Fault → Type 0
-RefusesVerify files r out out' fault =
-    (IsUnread files (r.map.now ∷ r.scen.now ∷ r.program.now ∷ []) fault × IsUnwritten out out')
-    ⊎ ((map scen program : List ℕ) × AreRead files (r.map.now ∷ r.scen.now ∷ r.program.now ∷ []) (map ∷ scen ∷ program ∷ [])
-    × IsVerifyFault map scen r.agents program out out' fault)
+-- what the command answers for the texts of its files
+abbrev pub AnswersVerify : VerifyRequest → FileTexts → (out out' : SinkState) → Result ℕ Fault → Type 0
+AnswersVerify r texts out out' result =
+    MatchResult result (λ status. PrintsAccepted texts.map.items texts.scen.items r.agents texts.subject.items out out' × (status ≡ 0)) (IsVerifyFault texts.map.items texts.scen.items r.agents texts.subject.items out out')

@@ -2,14 +2,12 @@
 
 ghost use Rattle.std.specs.Prelude.{◌≡◌, MatchResult};
 ghost use Rattle.fleet_text.specs.Sink.{IsWorking};
-ghost use Rattle.fleet_cli.specs.Files.{AreUnchanged};
-ghost use Rattle.fleet_cli.specs.AutoCommand.{RunsMade, IsMadeFault, DoesAuto, RefusesAuto};
+ghost use Rattle.fleet_cli.specs.AutoCommand.{RunsMade, IsMadeFault, AnswersAuto};
 
 use crate::auto_fault::AutoFault;
 use crate::fault::Fault;
-use crate::files::Files;
 use crate::flush::flush_run;
-use crate::named::read_two_with_holds;
+use crate::named::FileTexts;
 use crate::running::{AutoTask, auto_run_in_orders};
 use fleet_args::AutoRequest;
 use fleet_run::Flush;
@@ -42,36 +40,26 @@ fn auto_texts<'a, O: Flush>(
     }
 }
 
-/// The command `auto`: reads the files whole, that of the holds last, plans for the map and the scenario, compiles the
-/// plan, and writes the trace of the program, under the holds, to `out`. Answers 0. No file is changed.
+/// The command `auto`: plans for the map and the scenario, compiles the plan, and writes the trace of the program, under
+/// the holds, to `out`. Answers 0.
 #[inline(never)]
-pub fn do_auto<'a, F: Files, O: Flush>(
+pub(crate) fn do_auto<'a, O: Flush>(
     alloc: Global,
     request: &AutoRequest<'a>,
-    files: &mut F,
+    texts: FileTexts,
     out: &mut O,
 ) -> Result<u8, Fault<'a>>
     requires { IsWorking (O.state out.old) }
-    ensures did { MatchResult result
-        (DoesAuto (F.contents files.old) request.now (O.state out.old) (O.state out.new))
-        (RefusesAuto (F.contents files.old) request.now (O.state out.old) (O.state out.new)) }
-    ensures kept { AreUnchanged (F.contents files.old) (F.contents files.new) }
+    ensures { AnswersAuto request.now texts (O.state out.old) (O.state out.new) result }
 {
-    let (map, scen, held) = read_two_with_holds(
-        alloc,
-        files,
-        request.map,
-        request.scen,
-        request.holds,
-    )?;
     let task = AutoTask {
-        map: &map,
-        scen: &scen,
+        map: &texts.map,
+        scen: &texts.scen,
         asked: request.agents,
         horizon: request.horizon,
         tries: request.tries,
         deps: request.deps,
-        holds: &held,
+        holds: &texts.holds,
     };
     auto_texts(alloc, &task, out)
 }

@@ -1,14 +1,11 @@
 //! The command `check`.
 
-ghost use Rattle.std.specs.Prelude.{◌≡◌, MatchResult};
 ghost use Rattle.fleet_text.specs.Sink.{IsWorking, Delivers};
-ghost use Rattle.fleet_cli.specs.Files.{AreUnchanged};
-ghost use Rattle.fleet_cli.specs.CheckCommand.{check_text, PrintsCheck, IsCheckFault, DoesCheck, RefusesCheck};
+ghost use Rattle.fleet_cli.specs.CheckCommand.{check_text, AnswersCheck};
 
 use crate::fault::Fault;
-use crate::files::Files;
 use crate::inputs::read_problem;
-use crate::named::read_three;
+use crate::named::FileTexts;
 use crate::output::{print_report, status_after_print};
 use fleet_args::CheckRequest;
 use fleet_plan::{Plan, check, read_plan};
@@ -30,23 +27,20 @@ fn print_check<O: Flush>(out: &mut O, plan: &Plan) -> Result<(), OutFault>
     )
 }
 
-/// Judges the plan for which the texts stand, and prints that it is free of conflict.
-fn show_check<'a, O: Flush>(
+/// The command `check`: judges the plan, and prints to `out` that it is free of conflict, with its agents and its steps.
+/// Answers 0. A plan's first fault is a refusal.
+#[inline(never)]
+pub(crate) fn do_check<'a, O: Flush>(
     alloc: Global,
-    map: &[u8],
-    scen: &[u8],
-    plan: &[u8],
-    asked: Option<u16>,
+    request: &CheckRequest<'a>,
+    texts: FileTexts,
     out: &mut O,
 ) -> Result<u8, Fault<'a>>
     requires { IsWorking (O.state out.old) }
-    ensures { MatchResult result
-        (λ status. PrintsCheck map.now scen.now plan.now asked (O.state out.old) (O.state out.new)
-        × (status ≡ 0))
-        (IsCheckFault map.now scen.now plan.now asked (O.state out.old) (O.state out.new)) }
+    ensures { AnswersCheck request.now texts (O.state out.old) (O.state out.new) result }
 {
-    let problem = read_problem(alloc, map, scen, asked)?;
-    let plan = match read_plan(alloc, plan) {
+    let problem = read_problem(alloc, &texts, request.agents)?;
+    let plan = match read_plan(alloc, &texts.subject) {
         Ok(plan) => plan,
         Err(fault) => return Err(Fault::Text(fault)),
     };
@@ -55,23 +49,4 @@ fn show_check<'a, O: Flush>(
         Err(refusal) => return Err(Fault::Check(refusal.fault)),
     };
     status_after_print(print_check(out, checked.plan()))
-}
-
-/// The command `check`: reads the files whole, and prints to `out` that the plan is free of conflict, with its agents
-/// and its steps. Answers 0. A plan's first fault is a refusal. No file is changed.
-#[inline(never)]
-pub fn do_check<'a, F: Files, O: Flush>(
-    alloc: Global,
-    request: &CheckRequest<'a>,
-    files: &mut F,
-    out: &mut O,
-) -> Result<u8, Fault<'a>>
-    requires { IsWorking (O.state out.old) }
-    ensures did { MatchResult result
-        (DoesCheck (F.contents files.old) request.now (O.state out.old) (O.state out.new))
-        (RefusesCheck (F.contents files.old) request.now (O.state out.old) (O.state out.new)) }
-    ensures kept { AreUnchanged (F.contents files.old) (F.contents files.new) }
-{
-    let (map, scen, plan) = read_three(alloc, files, request.map, request.scen, request.plan)?;
-    show_check(alloc, &map, &scen, &plan, request.agents, out)
 }

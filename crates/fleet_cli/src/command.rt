@@ -1,9 +1,9 @@
 //! The program's words, and what it does for them.
 
-ghost use Rattle.std.specs.Prelude.{◌≡◌, MatchResult, map, string_bytes};
+ghost use Rattle.std.specs.Prelude.{◌≡◌, map, string_bytes};
 ghost use Rattle.fleet_text.specs.Sink.{IsWorking};
 ghost use Rattle.fleet_dispatch.specs.Talk.{IsSaid};
-ghost use Rattle.fleet_cli.specs.Command.{DoesRequest, RefusesRequest, RunsRequest, StopsAtWords, RunsCommand};
+ghost use Rattle.fleet_cli.specs.Command.{names_by, names_of, AnswersRequest, DoesRequest, RunsRequest, StopsAtWords, RunsCommand};
 
 use crate::auto_command::do_auto;
 use crate::check_command::do_check;
@@ -17,6 +17,7 @@ use crate::hex_run::run_hex;
 use crate::instance_command::do_instance;
 use crate::list_command::do_list;
 use crate::migrate_command::do_migrate;
+use crate::named::{FileNames, FileTexts, read_files};
 use crate::plan_command::do_plan;
 use crate::rehearse_command::do_rehearse;
 use crate::thin_command::do_thin;
@@ -26,8 +27,76 @@ use fleet_dispatch::ReportsTo;
 use fleet_run::{Flush, OutFault, TraceOut, put_all};
 use std::alloc::Global;
 
-/// Does what the request asks: its output goes to `out`, and of the commands `dispatch` alone reads `input`. Answers the
-/// status, or the refusal that is to be written.
+/// The names of files, in the order in which they are read.
+fn names_by<'a>(
+    map: Option<&'a str>,
+    scen: Option<&'a str>,
+    subject: Option<&'a str>,
+    holds: Option<&'a str>,
+) -> FileNames<'a>
+    ensures { result ≡ names_by map.entry scen.entry subject.entry holds.entry }
+{
+    FileNames {
+        map,
+        scen,
+        subject,
+        holds,
+    }
+}
+
+/// The files that the request's command reads.
+fn names_of<'a>(request: &Request<'a>) -> FileNames<'a>
+    ensures { result ≡ names_of request.now }
+{
+    match request {
+        Request::Instance(q) => names_by(Some(q.map), Some(q.scen), None, None),
+        Request::Check(q) => names_by(Some(q.map), Some(q.scen), Some(q.plan), None),
+        Request::Plan(q) => names_by(Some(q.map), Some(q.scen), None, None),
+        Request::Compile(q) => names_by(Some(q.map), Some(q.scen), Some(q.plan), None),
+        Request::Verify(q) => names_by(Some(q.map), Some(q.scen), Some(q.program), None),
+        Request::Run(q) => names_by(Some(q.map), Some(q.scen), Some(q.program), q.holds),
+        Request::Rehearse(q) => names_by(None, None, Some(q.program), q.holds),
+        Request::Auto(q) => names_by(Some(q.map), Some(q.scen), None, q.holds),
+        Request::Thin(q) => names_by(Some(q.map), Some(q.scen), Some(q.program), None),
+        Request::Migrate(q) => names_by(None, None, Some(q.program), None),
+        Request::List(q) => names_by(None, None, Some(q.program), None),
+        Request::Dispatch(q) => names_by(Some(q.map), Some(q.scen), Some(q.program), None),
+    }
+}
+
+/// What the request's command answers for the texts of its files: the status, or the refusal that is to be written. Its
+/// output goes to `out`, and of the commands `dispatch` alone reads `input`.
+fn answer_request<'a, R: ReportsTo<O>, F: Files, O: Flush>(
+    alloc: Global,
+    request: &Request<'a>,
+    texts: FileTexts,
+    input: &mut R,
+    files: &mut F,
+    out: &mut O,
+) -> Result<u8, Fault<'a>>
+    requires { IsWorking (O.state out.old) }
+    ensures { AnswersRequest (F.contents files.old) (F.contents files.new)
+        (input.new ≡ input.old) (out.new ≡ out.old)
+        (IsSaid R.talks input.old out.old input.new out.new) request.now texts
+        (O.state out.old) (O.state out.new) result }
+{
+    match request {
+        Request::Instance(request) => do_instance(alloc, request, texts, out),
+        Request::Check(request) => do_check(alloc, request, texts, out),
+        Request::Plan(request) => do_plan(alloc, request, texts, out),
+        Request::Compile(request) => do_compile(alloc, request, texts, files, out),
+        Request::Verify(request) => do_verify(alloc, request, texts, out),
+        Request::Run(request) => do_run(alloc, request, texts, out),
+        Request::Rehearse(_) => do_rehearse(alloc, texts, out),
+        Request::Auto(request) => do_auto(alloc, request, texts, out),
+        Request::Thin(request) => do_thin(alloc, request, texts, files, out),
+        Request::Migrate(request) => do_migrate(alloc, request, texts, files, out),
+        Request::List(_) => do_list(alloc, texts, out),
+        Request::Dispatch(request) => do_dispatch(alloc, request, texts, input, out),
+    }
+}
+
+/// Reads the files that the request names, all before any is judged, and does what it asks.
 fn do_request<'a, R: ReportsTo<O>, F: Files, O: Flush>(
     alloc: Global,
     request: &Request<'a>,
@@ -36,28 +105,13 @@ fn do_request<'a, R: ReportsTo<O>, F: Files, O: Flush>(
     out: &mut O,
 ) -> Result<u8, Fault<'a>>
     requires { IsWorking (O.state out.old) }
-    ensures { MatchResult result
-        (DoesRequest (F.contents files.old) (F.contents files.new) (input.new ≡ input.old)
-        (IsSaid R.talks input.old out.old input.new out.new)
-        request.now (O.state out.old) (O.state out.new))
-        (RefusesRequest (F.contents files.old) (F.contents files.new) (input.new ≡ input.old)
-        (out.new ≡ out.old) (IsSaid R.talks input.old out.old input.new out.new)
-        request.now (O.state out.old) (O.state out.new)) }
+    ensures { DoesRequest (F.contents files.old) (F.contents files.new)
+        (input.new ≡ input.old) (out.new ≡ out.old)
+        (IsSaid R.talks input.old out.old input.new out.new) request.now
+        (O.state out.old) (O.state out.new) result }
 {
-    match request {
-        Request::Instance(request) => do_instance(alloc, request, files, out),
-        Request::Check(request) => do_check(alloc, request, files, out),
-        Request::Plan(request) => do_plan(alloc, request, files, out),
-        Request::Compile(request) => do_compile(alloc, request, files, out),
-        Request::Verify(request) => do_verify(alloc, request, files, out),
-        Request::Run(request) => do_run(alloc, request, files, out),
-        Request::Rehearse(request) => do_rehearse(alloc, request, files, out),
-        Request::Auto(request) => do_auto(alloc, request, files, out),
-        Request::Thin(request) => do_thin(alloc, request, files, out),
-        Request::Migrate(request) => do_migrate(alloc, request, files, out),
-        Request::List(request) => do_list(alloc, request, files, out),
-        Request::Dispatch(request) => do_dispatch(alloc, request, files, input, out),
-    }
+    let texts = read_files(alloc, files, names_of(request))?;
+    answer_request(alloc, request, texts, input, files, out)
 }
 
 /// Does what the request asks: its output goes to `out`, a refusal's line to `err`, and of the commands `dispatch` alone

@@ -3,14 +3,13 @@
 ghost use Rattle.std.specs.Prelude.{◌≡◌, ℕ, List, IfOk, IfErr, MatchResult};
 ghost use Rattle.fleet_text.specs.Sink.{IsWorking};
 ghost use Rattle.fleet_code.specs.Spelling.{SpellsShortest};
-ghost use Rattle.fleet_cli.specs.Files.{AreUnchanged};
 ghost use Rattle.fleet_cli.specs.Printed.{WritesOut, IsOutRefusal};
-ghost use Rattle.fleet_cli.specs.CompileCommand.{CompilesTexts, IsCompileFault, compiled_text, CompilesFiles, IsCompileRefusal, DoesCompile, RefusesCompile};
+ghost use Rattle.fleet_cli.specs.CompileCommand.{CompilesTexts, IsCompileFault, compiled_text, AnswersCompile};
 
 use crate::fault::Fault;
 use crate::files::Files;
 use crate::inputs::read_problem;
-use crate::named::read_three;
+use crate::named::FileTexts;
 use crate::output::write_out;
 use fleet_adg::compile_dwell;
 use fleet_args::CompileRequest;
@@ -27,27 +26,25 @@ struct Compiled {
     bytes: Vec<u8>,
 }
 
-/// The program, as it is asked for, of the plan for which the texts stand. The text of the plan is let go once it is
+/// The program, as it is asked for, of the plan for which the texts stand. The texts are let go once they are
 /// read.
 fn compiled_program<'a>(
     alloc: Global,
-    map: &[u8],
-    scen: &[u8],
-    plan: Vec<u8>,
     request: &CompileRequest<'_>,
+    texts: FileTexts,
 ) -> Result<Program, Fault<'a>>
     ensures compiled { IfOk result
-        (λ p. (bytes : List ℕ) → SpellsShortest bytes p → CompilesTexts map.now scen.now plan.items
+        (λ p. (bytes : List ℕ) → SpellsShortest bytes p → CompilesTexts texts.map.items texts.scen.items texts.subject.items
         request.now.agents request.now.deps request.now.dwell p bytes) }
-    ensures fault { IfErr result (IsCompileFault map.now scen.now plan.items
+    ensures fault { IfErr result (IsCompileFault texts.map.items texts.scen.items texts.subject.items
         request.now.agents request.now.deps request.now.dwell) }
 {
-    let problem = read_problem(alloc, map, scen, request.agents)?;
-    let read = match read_plan(alloc, &plan) {
+    let problem = read_problem(alloc, &texts, request.agents)?;
+    let read = match read_plan(alloc, &texts.subject) {
         Ok(read) => read,
         Err(fault) => return Err(Fault::Text(fault)),
     };
-    drop(plan);
+    drop(texts);
     let checked = match check(alloc, read, &problem.grid, &problem.instance) {
         Ok(checked) => checked,
         Err(refusal) => return Err(Fault::Check(refusal.fault)),
@@ -61,17 +58,15 @@ fn compiled_program<'a>(
 /// The program, and the bytes that spell it. The plan is let go before the bytes are made.
 fn compile_texts<'a>(
     alloc: Global,
-    map: &[u8],
-    scen: &[u8],
-    plan: Vec<u8>,
     request: &CompileRequest<'_>,
+    texts: FileTexts,
 ) -> Result<Compiled, Fault<'a>>
-    ensures compiled { IfOk result (λ c. CompilesTexts map.now scen.now plan.items
+    ensures compiled { IfOk result (λ c. CompilesTexts texts.map.items texts.scen.items texts.subject.items
         request.now.agents request.now.deps request.now.dwell c.program c.bytes.items) }
-    ensures fault { IfErr result (IsCompileFault map.now scen.now plan.items
+    ensures fault { IfErr result (IsCompileFault texts.map.items texts.scen.items texts.subject.items
         request.now.agents request.now.deps request.now.dwell) }
 {
-    let program = compiled_program(alloc, map, scen, plan, request)?;
+    let program = compiled_program(alloc, request, texts)?;
     let bytes = match encode_shortest(alloc, &program) {
         Ok(bytes) => bytes,
         Err(EncodeFault::OutOfMemory) => return Err(Fault::Memory),
@@ -79,21 +74,6 @@ fn compile_texts<'a>(
         Err(_) => unreachable!(),
     };
     Ok(Compiled { program, bytes })
-}
-
-/// Reads the files, and then compiles. The text of the plan is handed over, and is let go once it is read.
-fn compile_files<'a, F: Files>(
-    alloc: Global,
-    request: &CompileRequest<'a>,
-    files: &mut F,
-) -> Result<Compiled, Fault<'a>>
-    ensures compiled { IfOk result
-        (λ c. CompilesFiles (F.contents files.old) request.now c.program c.bytes.items) }
-    ensures fault { IfErr result (IsCompileRefusal (F.contents files.old) request.now) }
-    ensures kept { AreUnchanged (F.contents files.old) (F.contents files.new) }
-{
-    let (map, scen, plan) = read_three(alloc, files, request.map, request.scen, request.plan)?;
-    compile_texts(alloc, &map, &scen, plan, request)
 }
 
 /// Writes the bytes of the program to the file OUT, and prints its numbers.
@@ -125,22 +105,20 @@ fn write_compiled<'a, F: Files, O: Flush>(
     )
 }
 
-/// The command `compile`: reads the files whole, writes the bytes of the program of the plan to the file OUT once all
-/// before it succeeded, and prints its numbers to `out`. Answers 0.
+/// The command `compile`: writes the bytes of the plan's program to the file OUT once all before it succeeded, and prints
+/// the program's numbers to `out`. Answers 0.
 #[inline(never)]
-pub fn do_compile<'a, F: Files, O: Flush>(
+pub(crate) fn do_compile<'a, F: Files, O: Flush>(
     alloc: Global,
     request: &CompileRequest<'a>,
+    texts: FileTexts,
     files: &mut F,
     out: &mut O,
 ) -> Result<u8, Fault<'a>>
     requires { IsWorking (O.state out.old) }
-    ensures { MatchResult result
-        (DoesCompile (F.contents files.old) (F.contents files.new) request.now
-        (O.state out.old) (O.state out.new))
-        (RefusesCompile (F.contents files.old) (F.contents files.new) request.now
-        (O.state out.old) (O.state out.new)) }
+    ensures { AnswersCompile (F.contents files.old) (F.contents files.new) request.now texts
+        (O.state out.old) (O.state out.new) result }
 {
-    let compiled = compile_files(alloc, request, files)?;
+    let compiled = compile_texts(alloc, request, texts)?;
     write_compiled(files, request.out, &compiled.program, &compiled.bytes, out)
 }

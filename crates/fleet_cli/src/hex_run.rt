@@ -1,8 +1,7 @@
 //! The run of the program without words.
 
-ghost use Rattle.std.specs.Prelude.{MatchResult};
 ghost use Rattle.fleet_text.specs.Sink.{IsWorking};
-ghost use Rattle.fleet_cli.specs.HexRun.{DoesHex, IsRefusalOf, RunsHex};
+ghost use Rattle.fleet_cli.specs.HexRun.{AnswersHex, RunsHex};
 
 use crate::fault::{Fault, finish};
 use crate::flush::rehearse_flushed;
@@ -21,9 +20,7 @@ fn rehearse_hex<R: Read, O: Flush>(
     out: &mut O,
 ) -> Result<u8, Fault<'static>>
     requires { IsWorking (O.state out.old) }
-    ensures { MatchResult result
-        (DoesHex (R.remaining input.old) (O.state out.old) (O.state out.new))
-        (IsRefusalOf (R.remaining input.old) (O.state out.old) (O.state out.new)) }
+    ensures { AnswersHex (R.remaining input.old) (O.state out.old) (O.state out.new) result }
 {
     let text = match read_whole(alloc, input) {
         Ok(text) => text,

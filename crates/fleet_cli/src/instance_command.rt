@@ -1,14 +1,12 @@
 //! The command `instance`.
 
-ghost use Rattle.std.specs.Prelude.{◌≡◌, ◌<◌, ◌∷◌, [], length, List, ℕ, MatchResult};
+ghost use Rattle.std.specs.Prelude.{◌<◌, ◌∷◌, [], length, List, ℕ};
 ghost use Rattle.fleet_text.specs.Sink.{IsWorking, TakesAll, Delivers};
-ghost use Rattle.fleet_cli.specs.Files.{AreUnchanged};
-ghost use Rattle.fleet_cli.specs.InstanceCommand.{task_line, task_lines, map_line, instance_text, PrintsInstance, IsInstanceFault, DoesInstance, RefusesInstance};
+ghost use Rattle.fleet_cli.specs.InstanceCommand.{task_line, task_lines, map_line, instance_text, AnswersInstance};
 
 use crate::fault::Fault;
-use crate::files::Files;
 use crate::inputs::read_problem;
-use crate::named::read_two;
+use crate::named::FileTexts;
 use crate::output::status_after_print;
 use fleet_args::InstanceRequest;
 use fleet_grid::Grid;
@@ -74,39 +72,18 @@ fn print_instance<O: Flush>(out: &mut O, grid: &Grid, instance: &Instance) -> Re
     out.flush()
 }
 
-/// Prints the instance for which the texts stand.
-fn show_instance<'a, O: Flush>(
-    alloc: Global,
-    map: &[u8],
-    scen: &[u8],
-    asked: Option<u16>,
-    out: &mut O,
-) -> Result<u8, Fault<'a>>
-    requires { IsWorking (O.state out.old) }
-    ensures { MatchResult result
-        (λ status. PrintsInstance map.now scen.now asked (O.state out.old) (O.state out.new)
-        × (status ≡ 0))
-        (IsInstanceFault map.now scen.now asked (O.state out.old) (O.state out.new)) }
-{
-    let problem = read_problem(alloc, map, scen, asked)?;
-    status_after_print(print_instance(out, &problem.grid, &problem.instance))
-}
-
-/// The command `instance`: reads both files whole, and prints to `out` the sizes of the map, its passable cells, and
-/// the start and the goal of each agent. Answers 0. No file is changed.
+/// The command `instance`: prints to `out` the sizes of the map, its passable cells, and the start and the goal of each
+/// agent. Answers 0.
 #[inline(never)]
-pub fn do_instance<'a, F: Files, O: Flush>(
+pub(crate) fn do_instance<'a, O: Flush>(
     alloc: Global,
     request: &InstanceRequest<'a>,
-    files: &mut F,
+    texts: FileTexts,
     out: &mut O,
 ) -> Result<u8, Fault<'a>>
     requires { IsWorking (O.state out.old) }
-    ensures did { MatchResult result
-        (DoesInstance (F.contents files.old) request.now (O.state out.old) (O.state out.new))
-        (RefusesInstance (F.contents files.old) request.now (O.state out.old) (O.state out.new)) }
-    ensures kept { AreUnchanged (F.contents files.old) (F.contents files.new) }
+    ensures { AnswersInstance request.now texts (O.state out.old) (O.state out.new) result }
 {
-    let (map, scen) = read_two(alloc, files, request.map, request.scen)?;
-    show_instance(alloc, &map, &scen, request.agents, out)
+    let problem = read_problem(alloc, &texts, request.agents)?;
+    status_after_print(print_instance(out, &problem.grid, &problem.instance))
 }

@@ -1,17 +1,13 @@
 //! The command `list`.
 
-ghost use Rattle.std.specs.Prelude.{◌≡◌, MatchResult};
 ghost use Rattle.fleet_run.specs.Listing.{program_text};
 ghost use Rattle.fleet_text.specs.Sink.{IsWorking, Delivers};
-ghost use Rattle.fleet_cli.specs.Files.{AreUnchanged};
-ghost use Rattle.fleet_cli.specs.ListCommand.{PrintsProgram, IsListFault, DoesList, RefusesList};
+ghost use Rattle.fleet_cli.specs.ListCommand.{AnswersList};
 
 use crate::fault::Fault;
-use crate::files::Files;
-use crate::inputs::view_program;
-use crate::named::read_file;
+use crate::inputs::view_subject;
+use crate::named::FileTexts;
 use crate::output::status_after_print;
-use fleet_args::ListRequest;
 use fleet_model::ProgramView;
 use fleet_run::{Flush, OutFault, put_program};
 use std::alloc::Global;
@@ -27,32 +23,16 @@ fn print_program<P: ProgramView, O: Flush>(out: &mut O, program: &P) -> Result<(
     out.flush()
 }
 
-/// Prints the program that the bytes spell.
-fn list_bytes<'a, O: Flush>(alloc: Global, bytes: &[u8], out: &mut O) -> Result<u8, Fault<'a>>
-    requires { IsWorking (O.state out.old) }
-    ensures { MatchResult result
-        (λ status. PrintsProgram bytes.now (O.state out.old) (O.state out.new) × (status ≡ 0))
-        (IsListFault bytes.now (O.state out.old) (O.state out.new)) }
-{
-    let program = view_program(alloc, bytes)?;
-    status_after_print(print_program(out, &program))
-}
-
-/// The command `list`: reads the file whole, and prints the program that it spells to `out`, as text. Answers 0. No
-/// file is changed.
+/// The command `list`: prints the program that the file spells to `out`, as text. Answers 0.
 #[inline(never)]
-pub fn do_list<'a, F: Files, O: Flush>(
+pub(crate) fn do_list<'a, O: Flush>(
     alloc: Global,
-    request: &ListRequest<'a>,
-    files: &mut F,
+    texts: FileTexts,
     out: &mut O,
 ) -> Result<u8, Fault<'a>>
     requires { IsWorking (O.state out.old) }
-    ensures did { MatchResult result
-        (DoesList (F.contents files.old) request.now (O.state out.old) (O.state out.new))
-        (RefusesList (F.contents files.old) request.now (O.state out.old) (O.state out.new)) }
-    ensures kept { AreUnchanged (F.contents files.old) (F.contents files.new) }
+    ensures { AnswersList texts (O.state out.old) (O.state out.new) result }
 {
-    let program = read_file(alloc, files, request.program)?;
-    list_bytes(alloc, &program, out)
+    let program = view_subject(alloc, &texts)?;
+    status_after_print(print_program(out, &program))
 }

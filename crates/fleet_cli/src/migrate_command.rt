@@ -2,15 +2,14 @@
 
 ghost use Rattle.std.specs.Prelude.{◌≡◌, IfOk, IfErr, MatchResult};
 ghost use Rattle.fleet_text.specs.Sink.{IsWorking};
-ghost use Rattle.fleet_cli.specs.Files.{AreUnchanged};
 ghost use Rattle.fleet_cli.specs.Printed.{WritesOut, IsOutRefusal};
 ghost use Rattle.fleet_cli.specs.Inputs.{IsLoadRefusal};
-ghost use Rattle.fleet_cli.specs.MigrateCommand.{MigratesBytes, migrated_text, MigratesFile, IsMigrateRefusal, DoesMigrate, RefusesMigrate};
+ghost use Rattle.fleet_cli.specs.MigrateCommand.{MigratesBytes, migrated_text, AnswersMigrate};
 
 use crate::auto_fault::AcceptFault;
 use crate::fault::Fault;
 use crate::files::Files;
-use crate::named::read_file;
+use crate::named::FileTexts;
 use crate::output::write_out;
 use fleet_args::MigrateRequest;
 use fleet_code::{EncodeFault, encode2, load};
@@ -32,20 +31,6 @@ fn migrate_bytes<'a>(alloc: Global, bytes: &[u8]) -> Result<Vec<u8>, Fault<'a>>
         // Version 2 has bytes for every program.
         Err(_) => unreachable!(),
     }
-}
-
-/// Reads the file, and then writes its program anew.
-fn migrate_file<'a, F: Files>(
-    alloc: Global,
-    request: &MigrateRequest<'a>,
-    files: &mut F,
-) -> Result<Vec<u8>, Fault<'a>>
-    ensures migrated { IfOk result (λ v. MigratesFile (F.contents files.old) request.now v.items) }
-    ensures fault { IfErr result (IsMigrateRefusal (F.contents files.old) request.now) }
-    ensures kept { AreUnchanged (F.contents files.old) (F.contents files.new) }
-{
-    let program = read_file(alloc, files, request.program)?;
-    migrate_bytes(alloc, &program)
 }
 
 /// Writes the bytes to the file OUT, and prints how many they are.
@@ -72,22 +57,20 @@ fn write_migrated<'a, F: Files, O: Flush>(
     )
 }
 
-/// The command `migrate`: reads the program whole, in either version, writes it to the file OUT in version 2 once all
-/// before it succeeded, and prints how many bytes it has to `out`. Answers 0.
+/// The command `migrate`: writes the program, of either version, to the file OUT in version 2 once all before it
+/// succeeded, and prints how many bytes it has to `out`. Answers 0.
 #[inline(never)]
-pub fn do_migrate<'a, F: Files, O: Flush>(
+pub(crate) fn do_migrate<'a, F: Files, O: Flush>(
     alloc: Global,
     request: &MigrateRequest<'a>,
+    texts: FileTexts,
     files: &mut F,
     out: &mut O,
 ) -> Result<u8, Fault<'a>>
     requires { IsWorking (O.state out.old) }
-    ensures { MatchResult result
-        (DoesMigrate (F.contents files.old) (F.contents files.new) request.now
-        (O.state out.old) (O.state out.new))
-        (RefusesMigrate (F.contents files.old) (F.contents files.new) request.now
-        (O.state out.old) (O.state out.new)) }
+    ensures { AnswersMigrate (F.contents files.old) (F.contents files.new) request.now texts
+        (O.state out.old) (O.state out.new) result }
 {
-    let migrated = migrate_file(alloc, request, files)?;
+    let migrated = migrate_bytes(alloc, &texts.subject)?;
     write_migrated(files, request.out, &migrated, out)
 }

@@ -1,13 +1,32 @@
 //! Files that a command names.
 
-ghost use Rattle.std.specs.Prelude.{[], ◌∷◌, IfOk, IfErr, OnOk};
+ghost use Rattle.std.specs.Prelude.{IfOk, IfErr, OnOk};
 ghost use Rattle.fleet_cli.specs.Files.{IsRead, AreUnchanged, ChangesOnly, Replaces};
-ghost use Rattle.fleet_cli.specs.Named.{IsRefusedAs, IsReadFault, IsWriteFault, IsUnread, AreRead, given_name, hold_names, AreHoldBytes};
+ghost use Rattle.fleet_cli.specs.Named.{IsRefusedAs, IsReadFault, IsWriteFault, IsUnread, IsGiven, given_name, given_names, AreTexts};
 
 use crate::fault::Fault;
 use crate::files::Files;
 use crate::input::FileFault;
 use std::alloc::Global;
+
+/// The files that a command reads, by their names, in this order: the map, the scenario, the plan or the program that it
+/// is about, and the holds.
+#[derive(Clone, Copy)]
+pub(crate) struct FileNames<'a> {
+    pub(crate) map: Option<&'a str>,
+    pub(crate) scen: Option<&'a str>,
+    pub(crate) subject: Option<&'a str>,
+    pub(crate) holds: Option<&'a str>,
+}
+
+/// What those files hold; nothing of a file that is not named.
+#[derive(Drop)]
+pub(crate) struct FileTexts {
+    pub(crate) map: Vec<u8>,
+    pub(crate) scen: Vec<u8>,
+    pub(crate) subject: Vec<u8>,
+    pub(crate) holds: Vec<u8>,
+}
 
 /// The bytes of the file. Want of memory is `Memory`, and a file that cannot be read is `File` with its name.
 pub fn read_file<'a, F: Files>(
@@ -29,57 +48,14 @@ pub fn read_file<'a, F: Files>(
     }
 }
 
-/// The bytes of two files, read in this order, each as `read_file` reads it.
-pub fn read_two<'a, F: Files>(
-    alloc: Global,
-    files: &mut F,
-    first: &'a str,
-    second: &'a str,
-) -> Result<(Vec<u8>, Vec<u8>), Fault<'a>>
-    ensures bytes { IfOk result
-        (λ read. AreRead (F.contents files.old) (first.entry.now ∷ second.entry.now ∷ [])
-        (read.0.items ∷ read.1.items ∷ [])) }
-    ensures fault { IfErr result
-        (IsUnread (F.contents files.old) (first.entry.now ∷ second.entry.now ∷ [])) }
-    ensures kept { AreUnchanged (F.contents files.old) (F.contents files.new) }
-{
-    let before = read_file(alloc, files, first)?;
-    let last = read_file(alloc, files, second)?;
-    Ok((before, last))
-}
-
-/// The bytes of three files, read in this order, each as `read_file` reads it.
-pub fn read_three<'a, F: Files>(
-    alloc: Global,
-    files: &mut F,
-    first: &'a str,
-    second: &'a str,
-    third: &'a str,
-) -> Result<(Vec<u8>, Vec<u8>, Vec<u8>), Fault<'a>>
-    ensures bytes { IfOk result
-        (λ read. AreRead (F.contents files.old)
-        (first.entry.now ∷ second.entry.now ∷ third.entry.now ∷ [])
-        (read.0.items ∷ read.1.items ∷ read.2.items ∷ [])) }
-    ensures fault { IfErr result
-        (IsUnread (F.contents files.old)
-        (first.entry.now ∷ second.entry.now ∷ third.entry.now ∷ [])) }
-    ensures kept { AreUnchanged (F.contents files.old) (F.contents files.new) }
-{
-    let before = read_two(alloc, files, first, second)?;
-    let last = read_file(alloc, files, third)?;
-    Ok((before.0, before.1, last))
-}
-
-/// The bytes of the holds, none if no file is named.
-fn read_holds<'a, F: Files>(
+/// The bytes of the file, none if no file is named.
+fn read_given<'a, F: Files>(
     alloc: Global,
     files: &mut F,
     name: Option<&'a str>,
 ) -> Result<Vec<u8>, Fault<'a>>
-    ensures bytes { IfOk result
-        (λ bytes. AreHoldBytes (F.contents files.old) (given_name name.entry) bytes.items) }
-    ensures fault { IfErr result
-        (IsUnread (F.contents files.old) (hold_names (given_name name.entry))) }
+    ensures bytes { IfOk result (λ bytes. IsGiven (F.contents files.old) name.entry bytes.items) }
+    ensures fault { IfErr result (IsUnread (F.contents files.old) (given_name name.entry)) }
     ensures kept { AreUnchanged (F.contents files.old) (F.contents files.new) }
 {
     match name {
@@ -88,68 +64,26 @@ fn read_holds<'a, F: Files>(
     }
 }
 
-/// The bytes of a file, and those of the holds, read last.
-pub fn read_with_holds<'a, F: Files>(
+/// What the named files hold, read in the order of the fields, each as `read_file` reads it.
+pub(crate) fn read_files<'a, F: Files>(
     alloc: Global,
     files: &mut F,
-    name: &'a str,
-    holds: Option<&'a str>,
-) -> Result<(Vec<u8>, Vec<u8>), Fault<'a>>
-    ensures bytes { IfOk result (λ read. IsRead (F.contents files.old) name.entry.now read.0.items
-        × AreHoldBytes (F.contents files.old) (given_name holds.entry) read.1.items) }
-    ensures fault { IfErr result
-        (IsUnread (F.contents files.old) (name.entry.now ∷ hold_names (given_name holds.entry))) }
+    names: FileNames<'a>,
+) -> Result<FileTexts, Fault<'a>>
+    ensures texts { IfOk result (AreTexts (F.contents files.old) names.entry) }
+    ensures fault { IfErr result (IsUnread (F.contents files.old) (given_names names.entry)) }
     ensures kept { AreUnchanged (F.contents files.old) (F.contents files.new) }
 {
-    let before = read_file(alloc, files, name)?;
-    let held = read_holds(alloc, files, holds)?;
-    Ok((before, held))
-}
-
-/// The bytes of two files, and those of the holds, read last.
-pub fn read_two_with_holds<'a, F: Files>(
-    alloc: Global,
-    files: &mut F,
-    first: &'a str,
-    second: &'a str,
-    holds: Option<&'a str>,
-) -> Result<(Vec<u8>, Vec<u8>, Vec<u8>), Fault<'a>>
-    ensures bytes { IfOk result
-        (λ read. AreRead (F.contents files.old) (first.entry.now ∷ second.entry.now ∷ [])
-        (read.0.items ∷ read.1.items ∷ [])
-        × AreHoldBytes (F.contents files.old) (given_name holds.entry) read.2.items) }
-    ensures fault { IfErr result
-        (IsUnread (F.contents files.old)
-        (first.entry.now ∷ second.entry.now ∷ hold_names (given_name holds.entry))) }
-    ensures kept { AreUnchanged (F.contents files.old) (F.contents files.new) }
-{
-    let before = read_two(alloc, files, first, second)?;
-    let held = read_holds(alloc, files, holds)?;
-    Ok((before.0, before.1, held))
-}
-
-/// The bytes of three files, and those of the holds, read last.
-pub fn read_three_with_holds<'a, F: Files>(
-    alloc: Global,
-    files: &mut F,
-    first: &'a str,
-    second: &'a str,
-    third: &'a str,
-    holds: Option<&'a str>,
-) -> Result<(Vec<u8>, Vec<u8>, Vec<u8>, Vec<u8>), Fault<'a>>
-    ensures bytes { IfOk result
-        (λ read. AreRead (F.contents files.old)
-        (first.entry.now ∷ second.entry.now ∷ third.entry.now ∷ [])
-        (read.0.items ∷ read.1.items ∷ read.2.items ∷ [])
-        × AreHoldBytes (F.contents files.old) (given_name holds.entry) read.3.items) }
-    ensures fault { IfErr result (IsUnread (F.contents files.old)
-        (first.entry.now ∷ second.entry.now ∷ third.entry.now
-        ∷ hold_names (given_name holds.entry))) }
-    ensures kept { AreUnchanged (F.contents files.old) (F.contents files.new) }
-{
-    let before = read_three(alloc, files, first, second, third)?;
-    let held = read_holds(alloc, files, holds)?;
-    Ok((before.0, before.1, before.2, held))
+    let map = read_given(alloc, files, names.map)?;
+    let scen = read_given(alloc, files, names.scen)?;
+    let subject = read_given(alloc, files, names.subject)?;
+    let holds = read_given(alloc, files, names.holds)?;
+    Ok(FileTexts {
+        map,
+        scen,
+        subject,
+        holds,
+    })
 }
 
 /// Writes the bytes to the file. Want of memory is `Memory`, and a write that failed is `File` with the file's name.

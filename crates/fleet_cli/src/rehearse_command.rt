@@ -4,15 +4,12 @@ ghost use Rattle.std.specs.Prelude.{◌≡◌, MatchResult};
 ghost use Rattle.fleet_run.specs.declared.run.End.{End};
 ghost use Rattle.fleet_cli.specs.Output.{end_status};
 ghost use Rattle.fleet_text.specs.Sink.{IsWorking};
-ghost use Rattle.fleet_cli.specs.Files.{AreUnchanged};
-ghost use Rattle.fleet_cli.specs.RehearseCommand.{RehearsesBytes, IsRehearseFault, DoesRehearse, RefusesRehearse};
+ghost use Rattle.fleet_cli.specs.RehearseCommand.{RehearsesBytes, IsRehearseFault, AnswersRehearse};
 
 use crate::fault::Fault;
-use crate::files::Files;
 use crate::flush::rehearse_flushed;
 use crate::inputs::view_program;
-use crate::named::read_with_holds;
-use fleet_args::RehearseRequest;
+use crate::named::FileTexts;
 use fleet_model::ProgramView;
 use fleet_run::{End, Flush, HoldText};
 use std::alloc::Global;
@@ -48,21 +45,16 @@ fn rehearse_bytes<'a, O: Flush>(
     }
 }
 
-/// The command `rehearse`: reads the files whole, that of the holds last, and writes the rehearsal of the program,
-/// under the holds, to `out`. Answers 0 if it ends finished and 1 if it ends stuck. No file is changed.
+/// The command `rehearse`: writes the rehearsal of the program, under the holds, to `out`. Answers 0 if it ends finished
+/// and 1 if it ends stuck.
 #[inline(never)]
-pub fn do_rehearse<'a, F: Files, O: Flush>(
+pub(crate) fn do_rehearse<'a, O: Flush>(
     alloc: Global,
-    request: &RehearseRequest<'a>,
-    files: &mut F,
+    texts: FileTexts,
     out: &mut O,
 ) -> Result<u8, Fault<'a>>
     requires { IsWorking (O.state out.old) }
-    ensures did { MatchResult result
-        (DoesRehearse (F.contents files.old) request.now (O.state out.old) (O.state out.new))
-        (RefusesRehearse (F.contents files.old) request.now (O.state out.old) (O.state out.new)) }
-    ensures kept { AreUnchanged (F.contents files.old) (F.contents files.new) }
+    ensures { AnswersRehearse texts (O.state out.old) (O.state out.new) result }
 {
-    let (program, held) = read_with_holds(alloc, files, request.program, request.holds)?;
-    rehearse_bytes(alloc, &program, &held, out)
+    rehearse_bytes(alloc, &texts.subject, &texts.holds, out)
 }

@@ -4,15 +4,14 @@ ghost use Rattle.std.specs.Prelude.{◌≡◌, ℕ, List, IfOk, IfErr, MatchResu
 ghost use Rattle.fleet_model.specs.Program.{total_awaits};
 ghost use Rattle.fleet_code.specs.Spelling.{SpellsShortest};
 ghost use Rattle.fleet_text.specs.Sink.{IsWorking};
-ghost use Rattle.fleet_cli.specs.Files.{AreUnchanged};
 ghost use Rattle.fleet_cli.specs.Printed.{WritesOut, IsOutRefusal};
 ghost use Rattle.fleet_cli.specs.Inputs.{IsTextsRefusal};
-ghost use Rattle.fleet_cli.specs.ThinCommand.{ThinsTexts, ThinsFiles, IsThinRefusal, thinned_text, DoesThin, RefusesThin};
+ghost use Rattle.fleet_cli.specs.ThinCommand.{ThinsTexts, thinned_text, AnswersThin};
 
 use crate::fault::Fault;
 use crate::files::Files;
 use crate::inputs::{accept, read_problem};
-use crate::named::read_three;
+use crate::named::FileTexts;
 use crate::output::write_out;
 use fleet_adg::{ThinFault, thin};
 use fleet_args::ThinRequest;
@@ -33,18 +32,15 @@ struct Thinned {
 /// how many awaits it had before.
 fn thinned_program<'a>(
     alloc: Global,
-    map: &[u8],
-    scen: &[u8],
-    asked: Option<u16>,
-    program: &[u8],
+    request: &ThinRequest<'_>,
+    texts: FileTexts,
 ) -> Result<(u32, Program), Fault<'a>>
     ensures thinned { IfOk result
-        (λ t. (bytes : List ℕ) → SpellsShortest bytes t.1 → ThinsTexts map.now scen.now asked
-        program.now t.0 (total_awaits t.1) bytes) }
-    ensures fault { IfErr result (IsTextsRefusal map.now scen.now asked program.now) }
+        (λ t. (bytes : List ℕ) → SpellsShortest bytes t.1 → ThinsTexts texts.map.items texts.scen.items request.now.agents texts.subject.items t.0 (total_awaits t.1) bytes) }
+    ensures fault { IfErr result (IsTextsRefusal texts.map.items texts.scen.items request.now.agents texts.subject.items) }
 {
-    let problem = read_problem(alloc, map, scen, asked)?;
-    let accepted = accept(alloc, program, &problem.grid, &problem.instance)?;
+    let problem = read_problem(alloc, &texts, request.agents)?;
+    let accepted = accept(alloc, &texts, &problem)?;
     match thin(alloc, &accepted) {
         Ok(thinned) => Ok((total_awaits(accepted.program()), thinned)),
         Err(ThinFault::OutOfMemory) => Err(Fault::Memory),
@@ -54,16 +50,14 @@ fn thinned_program<'a>(
 /// The thinned program's bytes. The program that was thinned is let go before they are made.
 fn thin_texts<'a>(
     alloc: Global,
-    map: &[u8],
-    scen: &[u8],
-    asked: Option<u16>,
-    program: &[u8],
+    request: &ThinRequest<'_>,
+    texts: FileTexts,
 ) -> Result<Thinned, Fault<'a>>
     ensures thinned { IfOk result
-        (λ t. ThinsTexts map.now scen.now asked program.now t.before t.after t.bytes.items) }
-    ensures fault { IfErr result (IsTextsRefusal map.now scen.now asked program.now) }
+        (λ t. ThinsTexts texts.map.items texts.scen.items request.now.agents texts.subject.items t.before t.after t.bytes.items) }
+    ensures fault { IfErr result (IsTextsRefusal texts.map.items texts.scen.items request.now.agents texts.subject.items) }
 {
-    let (before, thinned) = thinned_program(alloc, map, scen, asked, program)?;
+    let (before, thinned) = thinned_program(alloc, request, texts)?;
     let after = total_awaits(&thinned);
     let bytes = match encode_shortest(alloc, &thinned) {
         Ok(bytes) => bytes,
@@ -76,27 +70,6 @@ fn thin_texts<'a>(
         after,
         bytes,
     })
-}
-
-/// Reads the files, and then thins.
-fn thin_files<'a, F: Files>(
-    alloc: Global,
-    request: &ThinRequest<'a>,
-    files: &mut F,
-) -> Result<Thinned, Fault<'a>>
-    ensures thinned { IfOk result
-        (λ t. ThinsFiles (F.contents files.old) request.now t.before t.after t.bytes.items) }
-    ensures fault { IfErr result (IsThinRefusal (F.contents files.old) request.now) }
-    ensures kept { AreUnchanged (F.contents files.old) (F.contents files.new) }
-{
-    let (map, scen, program) = read_three(
-        alloc,
-        files,
-        request.map,
-        request.scen,
-        request.program,
-    )?;
-    thin_texts(alloc, &map, &scen, request.agents, &program)
 }
 
 /// Writes the bytes of the thinned program to the file OUT, and prints its awaits before and after.
@@ -127,22 +100,20 @@ fn write_thinned<'a, F: Files, O: Flush>(
     )
 }
 
-/// The command `thin`: reads the files whole, writes the bytes of the program without its implied awaits to the file
-/// OUT once all before it succeeded, and prints its awaits before and after to `out`. Answers 0.
+/// The command `thin`: writes the bytes of the program without its implied awaits to the file OUT once all before it
+/// succeeded, and prints its awaits before and after to `out`. Answers 0.
 #[inline(never)]
-pub fn do_thin<'a, F: Files, O: Flush>(
+pub(crate) fn do_thin<'a, F: Files, O: Flush>(
     alloc: Global,
     request: &ThinRequest<'a>,
+    texts: FileTexts,
     files: &mut F,
     out: &mut O,
 ) -> Result<u8, Fault<'a>>
     requires { IsWorking (O.state out.old) }
-    ensures { MatchResult result
-        (DoesThin (F.contents files.old) (F.contents files.new) request.now
-        (O.state out.old) (O.state out.new))
-        (RefusesThin (F.contents files.old) (F.contents files.new) request.now
-        (O.state out.old) (O.state out.new)) }
+    ensures { AnswersThin (F.contents files.old) (F.contents files.new) request.now texts
+        (O.state out.old) (O.state out.new) result }
 {
-    let thinned = thin_files(alloc, request, files)?;
+    let thinned = thin_texts(alloc, request, texts)?;
     write_thinned(files, request.out, &thinned, out)
 }

@@ -1,18 +1,16 @@
 //! The command `verify`.
 
-ghost use Rattle.std.specs.Prelude.{◌≡◌, MatchResult, IfOk};
+ghost use Rattle.std.specs.Prelude.{IfOk};
 ghost use Rattle.fleet_model.specs.declared.geometry.Place.{Place};
 ghost use Rattle.fleet_verify.specs.Broken.{MeetUnordered, IsBrokenBy};
 ghost use Rattle.fleet_text.specs.Sink.{IsWorking, Delivers};
-ghost use Rattle.fleet_cli.specs.Files.{AreUnchanged};
-ghost use Rattle.fleet_cli.specs.VerifyCommand.{accepted_text, SpellsBreakingHolds, ReportsRefused, PrintsAccepted, IsVerifyFault, DoesVerify, RefusesVerify};
+ghost use Rattle.fleet_cli.specs.VerifyCommand.{accepted_text, SpellsBreakingHolds, ReportsRefused, AnswersVerify};
 
 use crate::auto_fault::AcceptFault;
 use crate::fault::Fault;
-use crate::files::Files;
 use crate::flush::deliver;
-use crate::inputs::{read_problem, view_program};
-use crate::named::read_three;
+use crate::inputs::{read_problem, view_subject};
+use crate::named::FileTexts;
 use crate::output::{print_report, status_after_print};
 use fleet_args::VerifyRequest;
 use fleet_model::{OutOfMemory, ProgramView, Visit, total_awaits, total_moves};
@@ -81,53 +79,23 @@ fn report_refused<'a, P: ProgramView + Drop, O: Flush>(
     }
 }
 
-/// Verifies the program that the bytes spell for the map and the instance of the texts, and prints that it is accepted,
-/// or the holds that break it.
-fn verify_bytes<'a, O: Flush>(
+/// The command `verify`: prints to `out` that the program is accepted, with its numbers, or, of a program that is refused
+/// for two visits which no chain orders, the holds that break it. Answers 0.
+#[inline(never)]
+pub(crate) fn do_verify<'a, O: Flush>(
     alloc: Global,
-    map: &[u8],
-    scen: &[u8],
-    asked: Option<u16>,
-    bytes: &[u8],
+    request: &VerifyRequest<'a>,
+    texts: FileTexts,
     out: &mut O,
 ) -> Result<u8, Fault<'a>>
     requires { IsWorking (O.state out.old) }
-    ensures { MatchResult result
-        (λ status. PrintsAccepted map.now scen.now asked bytes.now
-        (O.state out.old) (O.state out.new) × (status ≡ 0))
-        (IsVerifyFault map.now scen.now asked bytes.now (O.state out.old) (O.state out.new)) }
+    ensures { AnswersVerify request.now texts (O.state out.old) (O.state out.new) result }
 {
-    let problem = read_problem(alloc, map, scen, asked)?;
-    let program = view_program(alloc, bytes)?;
+    let problem = read_problem(alloc, &texts, request.agents)?;
+    let program = view_subject(alloc, &texts)?;
     let accepted = match verify(alloc, program, &problem.grid, &problem.instance) {
         Ok(accepted) => accepted,
         Err(refused) => return Err(report_refused(alloc, refused, out)),
     };
     status_after_print(print_accepted(out, &accepted))
-}
-
-/// The command `verify`: reads the files whole, and prints to `out` that the program is accepted, with its numbers, or,
-/// of a program that is refused for two visits which no chain orders, the holds that break it. Answers 0. No file is
-/// changed.
-#[inline(never)]
-pub fn do_verify<'a, F: Files, O: Flush>(
-    alloc: Global,
-    request: &VerifyRequest<'a>,
-    files: &mut F,
-    out: &mut O,
-) -> Result<u8, Fault<'a>>
-    requires { IsWorking (O.state out.old) }
-    ensures did { MatchResult result
-        (DoesVerify (F.contents files.old) request.now (O.state out.old) (O.state out.new))
-        (RefusesVerify (F.contents files.old) request.now (O.state out.old) (O.state out.new)) }
-    ensures kept { AreUnchanged (F.contents files.old) (F.contents files.new) }
-{
-    let (map, scen, program) = read_three(
-        alloc,
-        files,
-        request.map,
-        request.scen,
-        request.program,
-    )?;
-    verify_bytes(alloc, &map, &scen, request.agents, &program, out)
 }

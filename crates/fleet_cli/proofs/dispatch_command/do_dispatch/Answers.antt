@@ -1,17 +1,31 @@
-use Rattle.std.proofs.Common.{◌≡◌, inl, refl}
-use Rattle.std.proofs.lemmas.Result.{err_from_is_err_and}
+use Rattle.std.proofs.Common.{◌≡◌, refl}
 use Rattle.fleet_dispatch.specs.Talk.{IsSaid}
-use Rattle.fleet_cli.proofs.DispatchLemmas.{files_on}
+use Rattle.std.proofs.lemmas.Result.{err_from_is_err_and}
+use Rattle.fleet_cli.proofs.DispatchLemmas.{problem_refuses, accept_refuses}
 use Rattle.fleet_cli.proofs.dispatch_command.do_dispatch.Goals as goal
 
-pub returns-in_err-map-clause-did : goal.returns-in_err-map-clause-did
-returns-in_err-map-clause-did g c =
-    let e = err_from_is_err_and c.from_residual.result c.from_residual.ensures.1 in
-    rw (e.1, e.2) (inl (c.in_err-map.ensures.fault, (refl, refl)))
+pub returns-in-Ok : goal.returns-in-Ok
+returns-in-Ok g c = (
+  record {
+    accepts = record { ground = c.in_ok-problem.problem.grid; tasks = c.in_ok-problem.problem.instance; texts = c.in_ok-problem.ensures.read; program = c.in_ok-accepted.accepted.program.program; chain = c.in_ok-accepted.accepted.chain; accepts = c.in_ok-accepted.ensures.accepted };
+    report = c.in-Ok.field-0;
+    dispatches = c.in-Ok.ensures;
+  },
+  refl,
+)
 
-pub returns-clause-did : goal.returns-clause-did
-returns-clause-did g c =
-    let new = c.dispatch_bytes.new in
-    files_on (g.F.Files.contents c.args.files.now) c.args.request.now ((new.input ≡ c.args.input.now) × (new.out ≡ c.args.out.now))
-    (IsSaid g.R.ReportsTo.talks c.args.input.now c.args.out.now new.input new.out) c.deref.result.now c.deref-2.result.now c.deref-3.result.now c.dispatch_bytes.result
-    (rw (c.deref.ensures.value, c.deref-2.ensures.value, c.deref-3.ensures.value) c.in_ok-map.ensures.bytes) c.dispatch_bytes.ensures
+pub returns : goal.returns
+returns g c = (
+  record { ground = c.in_ok-problem.problem.grid; tasks = c.in_ok-problem.problem.instance; texts = c.in_ok-problem.ensures.read; program = c.in_ok-accepted.accepted.program.program; chain = c.in_ok-accepted.accepted.chain; accepts = c.in_ok-accepted.ensures.accepted },
+  c.in-Err.ensures,
+)
+
+pub returns-in_err-problem : goal.returns-in_err-problem
+returns-in_err-problem g c =
+    let e = err_from_is_err_and c.from_residual.result c.from_residual.ensures.1 in
+    rw (e.1, e.2) (problem_refuses c.args.texts.map.items c.args.texts.scen.items c.args.request.now.agents c.args.texts.subject.items ((c.args.input.now ≡ c.args.input.now) × (c.args.out.now ≡ c.args.out.now)) (IsSaid g.R.ReportsTo.talks c.args.input.now c.args.out.now c.args.input.now c.args.out.now) (refl, refl) _ c.in_err-problem.ensures.fault)
+
+pub returns-in_err-accepted : goal.returns-in_err-accepted
+returns-in_err-accepted g c =
+    let e = err_from_is_err_and c.from_residual-in_err-accepted.result c.from_residual-in_err-accepted.ensures.1 in
+    rw (e.1, e.2) (accept_refuses c.args.texts.map.items c.args.texts.scen.items c.args.request.now.agents c.args.texts.subject.items ((c.args.input.now ≡ c.args.input.now) × (c.args.out.now ≡ c.args.out.now)) (IsSaid g.R.ReportsTo.talks c.args.input.now c.args.out.now c.args.input.now c.args.out.now) (refl, refl) _ _ _ c.in_ok-problem.ensures.read c.in_err-accepted.ensures.fault)

@@ -13,7 +13,7 @@ use crate::named::FileTexts;
 use crate::output::write_out;
 use fleet_adg::compile_dwell;
 use fleet_args::CompileRequest;
-use fleet_code::{EncodeFault, encode_shortest};
+use fleet_code::encode_shortest;
 use fleet_model::{Program, ProgramView, total_awaits, total_moves};
 use fleet_plan::{check, read_plan};
 use fleet_run::Flush;
@@ -67,11 +67,8 @@ fn compile_texts<'a>(
         request.now.agents request.now.deps request.now.dwell) }
 {
     let program = compiled_program(alloc, request, texts)?;
-    let bytes = match encode_shortest(alloc, &program) {
-        Ok(bytes) => bytes,
-        Err(EncodeFault::OutOfMemory) => return Err(Fault::Memory),
-        // Version 2 has bytes for every program.
-        Err(_) => unreachable!(),
+    let Ok(bytes) = encode_shortest(alloc, &program) else {
+        return Err(Fault::Memory);
     };
     Ok(Compiled { program, bytes })
 }

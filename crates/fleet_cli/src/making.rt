@@ -6,7 +6,7 @@ ghost use Rattle.fleet_cli.specs.Making.{IsMadeFor, SpellsMade, IsMakingFault};
 
 use crate::auto_fault::AutoFault;
 use fleet_adg::{Deps, compile};
-use fleet_code::{EncodeFault, encode_shortest};
+use fleet_code::encode_shortest;
 use fleet_grid::Grid;
 use fleet_model::Program;
 use fleet_scen::Instance;
@@ -46,10 +46,5 @@ pub fn made_bytes(
     ensures fault { IfErr result (IsMakingFault grid.now instance.now horizon tries deps) }
 {
     let program = made_program(alloc, grid, instance, horizon, tries, deps)?;
-    match encode_shortest(alloc, &program) {
-        Ok(bytes) => Ok(bytes),
-        Err(EncodeFault::OutOfMemory) => Err(AutoFault::OutOfMemory),
-        // Version 2 has bytes for every program.
-        Err(_) => unreachable!(),
-    }
+    Ok(encode_shortest(alloc, &program)?)
 }

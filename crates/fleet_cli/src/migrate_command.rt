@@ -12,7 +12,8 @@ use crate::files::Files;
 use crate::named::FileTexts;
 use crate::output::write_out;
 use fleet_args::MigrateRequest;
-use fleet_code::{EncodeFault, encode2, load};
+use fleet_code::{encode2, load};
+use fleet_model::OutOfMemory;
 use fleet_run::Flush;
 use std::alloc::Global;
 
@@ -27,9 +28,7 @@ fn migrate_bytes<'a>(alloc: Global, bytes: &[u8]) -> Result<Vec<u8>, Fault<'a>>
     };
     match encode2(alloc, &program) {
         Ok(migrated) => Ok(migrated),
-        Err(EncodeFault::OutOfMemory) => Err(Fault::Memory),
-        // Version 2 has bytes for every program.
-        Err(_) => unreachable!(),
+        Err(OutOfMemory) => Err(Fault::Memory),
     }
 }
 

@@ -15,7 +15,7 @@ use crate::named::FileTexts;
 use crate::output::write_out;
 use fleet_adg::{ThinFault, thin};
 use fleet_args::ThinRequest;
-use fleet_code::{EncodeFault, encode_shortest};
+use fleet_code::encode_shortest;
 use fleet_model::{Program, total_awaits};
 use fleet_run::Flush;
 use std::alloc::Global;
@@ -59,11 +59,8 @@ fn thin_texts<'a>(
 {
     let (before, thinned) = thinned_program(alloc, request, texts)?;
     let after = total_awaits(&thinned);
-    let bytes = match encode_shortest(alloc, &thinned) {
-        Ok(bytes) => bytes,
-        Err(EncodeFault::OutOfMemory) => return Err(Fault::Memory),
-        // One of the two versions has bytes for every program.
-        Err(_) => unreachable!(),
+    let Ok(bytes) = encode_shortest(alloc, &thinned) else {
+        return Err(Fault::Memory);
     };
     Ok(Thinned {
         before,

@@ -5,8 +5,8 @@ ghost use Rattle.std.specs.Prelude.{◌<◌, length};
 use crate::fleets::{PAIR_BYTES, STAYING_BYTES};
 use fleet_code::{encode, load, view};
 use fleet_model::{
-    Action, Actions, AgentProgram, Await, Awaits, Cell, Dir, OutOfMemory, Program, ProgramView,
-    Step, total_awaits, total_moves, well_formed,
+    Action, Actions, AgentProgram, Await, Awaits, Cell, Dir, Instruction, OutOfMemory, Program,
+    ProgramView, Step, total_awaits, total_moves, well_formed,
 };
 use std::alloc::{AllocError, Global};
 use std::test::Fail;
@@ -98,6 +98,57 @@ pub fn told_by<P: ProgramView>(alloc: Global, program: &P) -> Result<Vec<u32>, A
         tell_actions(program, i, &mut told)?;
     }
     Ok(told)
+}
+
+/// Adds the numbers of an instruction: of an await its agent and its count, of a step its own.
+fn tell_instruction(one: Instruction, told: &mut Vec<u32>) -> Result<(), AllocError> {
+    match one {
+        Instruction::Await(awaited) => {
+            told.push(u32::from(awaited.agent))?;
+            told.push(awaited.count)
+        }
+        Instruction::Step(step) => told.push(number_of(step)),
+    }
+}
+
+/// Adds the instructions of agent `i` from front to back, and last how many awaits it has.
+fn tell_instructions<P: ProgramView>(
+    program: &P,
+    i: u16,
+    told: &mut Vec<u32>,
+) -> Result<(), AllocError>
+    requires { i < length (P.program program.now) }
+{
+    for finished in 0..program.moves(i) {
+        let before = program.awaits_before(i, finished);
+        let awaits = program.await_count(i, finished + 1);
+        for k in 0..awaits {
+            tell_instruction(program.instruction(i, finished, before, k), told)?;
+        }
+        tell_instruction(program.instruction(i, finished, before, awaits), told)?;
+    }
+    told.push(program.awaits_before(i, program.moves(i)))
+}
+
+/// What is read of all agents of a view's program, one after another.
+fn read_by<P: ProgramView>(alloc: Global, program: &P) -> Result<Vec<u32>, AllocError> {
+    let mut told = Vec::new(alloc);
+    for i in 0..program.agents() {
+        tell_instructions(program, i, &mut told)?;
+    }
+    Ok(told)
+}
+
+#[test]
+fn views_are_read_from_front_to_back(rt: HostRuntime) -> Result<(), Fail> {
+    let alloc = rt.alloc();
+    let pair = [1, 1, 0, 0, 1, 1, 0, 2, 1, 2];
+    let staying = [1, 1, 4, 4, 0, 0, 1, 1, 0, 2, 1, 4, 4, 2];
+    for (bytes, due) in [(PAIR_BYTES, pair.as_slice()), (STAYING_BYTES, staying.as_slice())] {
+        assert_eq!(rt; read_by(alloc, &load(alloc, bytes)?)?.as_slice(), due);
+        assert_eq!(rt; read_by(alloc, &view(alloc, bytes)?)?.as_slice(), due);
+    }
+    Ok(())
 }
 
 #[test]

@@ -17,12 +17,10 @@ use Rattle.fleet_model.specs.Chain.{IsAction, DirectlyNeeds, ChainFrom, Reaches,
 use Rattle.fleet_model.specs.Visit.{IsVisitOf, ComesAfterByChain, entering, leaving}
 use Rattle.fleet_model.specs.Accepted.{IsAcceptedBy}
 use Rattle.fleet_model.proofs.Visits.{goes_next, goes_enters}
-use Rattle.fleet_model.proofs.Chains.{chain_first, Reaches-first, Reaches-last, Reaches-need}
+use Rattle.fleet_model.proofs.Chains.{chain_first, Reaches-first, Reaches-last, Reaches-need, Reaches-trans, Reaches-rises}
 use Rattle.fleet_plan.specs.Plan.{Plan, cell_of, steps, IsConflictFree}
-use Rattle.fleet_model.proofs.Reaching.{Reaches-trans, Reaches-rises}
-use Rattle.fleet_verify.proofs.Listing.{awaits_accepted}
+use Rattle.fleet_verify.proofs.Listing.{awaits_accepted, two_ordered}
 use Rattle.fleet_verify.specs.Reduced.{DiffersInAwaits, HaveSameChains}
-use Rattle.fleet_verify.proofs.OrderedPairs.{two_ordered}
 use Rattle.fleet_verify.proofs.SameChains.{run_over}
 use Rattle.fleet_model.specs.Machine.{Holds, run}
 use Rattle.fleet_adg.specs.Compiled.{changes, moves_by, entry_awaits, action_in, compiled}

@@ -12,8 +12,7 @@ use Rattle.fleet_model.specs.Conflict.{after_in, HasCycleConflict}
 use Rattle.fleet_model.specs.declared.task.Task.{Task}
 use Rattle.fleet_plan.specs.Plan.{Plan, cell_of, planned, IsConflictFree}
 use Rattle.fleet_adg.specs.Compiled.{last_below, changes_in}
-use Rattle.fleet_model.proofs.Cells.{is_same_cell-true, is_same_cell-eq}
-use Rattle.fleet_model.proofs.Places.{place_of-injective}
+use Rattle.fleet_model.proofs.Cells.{is_same_cell-true, is_same_cell-eq, place_of-injective}
 use Rattle.fleet_adg.proofs.Basics.{last_below-some, last_below-at}
 use Rattle.fleet_adg.proofs.Moves.{changes_in-ne}
 use Rattle.fleet_adg.proofs.Depth.{depth, IsLoop, depth-lt, depth_next}

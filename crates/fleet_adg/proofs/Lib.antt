@@ -15,5 +15,6 @@ pub mod Listing
 pub mod Accepted
 pub mod Alike
 pub mod Staying
+pub mod Short
 pub mod StayingPlans
 pub mod Thinning

@@ -16,8 +16,7 @@ use Rattle.fleet_plan.specs.Plan.{Plan, cell_of, steps, IsConflictFree}
 use Rattle.fleet_adg.specs.Compiled.{changes_in, moves_by, compiled}
 use Rattle.fleet_adg.proofs.Basics.{last_cases}
 use Rattle.fleet_adg.proofs.Moves.{changes_in-same, changes_in-end, moves_by-yes, moves_by-no, moves_by-mono, time_of_count}
-use Rattle.fleet_model.proofs.Cells.{is_same_cell-true, is_same_cell-eq}
-use Rattle.fleet_model.proofs.Places.{place_of-injective}
+use Rattle.fleet_model.proofs.Cells.{is_same_cell-true, is_same_cell-eq, place_of-injective}
 use Rattle.fleet_adg.proofs.Follow.{only_one}
 use Rattle.fleet_adg.proofs.Entry.{entry-complete}
 use Rattle.fleet_model.proofs.Visits.{goes_next, goes_enters}

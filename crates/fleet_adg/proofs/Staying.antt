@@ -26,8 +26,7 @@ use Rattle.fleet_model.specs.Chain.{IsAction, DirectlyNeeds, ChainFrom, Reaches,
 use Rattle.fleet_model.specs.Visit.{is_entry, stays_before, next_move, IsVisitOf, ListsVisits, Adjacent, ComesAfterByChain, entering, leaving}
 use Rattle.fleet_model.specs.Accepted.{IsRight, IsAcceptedBy}
 use Rattle.fleet_model.proofs.Visits.{stay_path, entry_moves}
-use Rattle.fleet_model.proofs.Chains.{chain_first, Reaches-first, Reaches-need}
-use Rattle.fleet_model.proofs.Reaching.{Reaches-trans}
+use Rattle.fleet_model.proofs.Chains.{chain_first, Reaches-first, Reaches-need, Reaches-trans}
 use Rattle.fleet_verify.specs.Reduced.{DiffersInAwaits, HaveSameChains}
 use Rattle.fleet_verify.proofs.Alike.{same_moves}
 use Rattle.fleet_adg.specs.Compiled.{stay, with_stays}

@@ -8,7 +8,7 @@ use Rattle.fleet_model.specs.declared.deps.Deps.{Deps}
 use Rattle.fleet_model.specs.declared.limits.TheConstants.{MAX_MOVES, MAX_MOVES_IN_ALL, MAX_MOVES_V1}
 use Rattle.fleet_model.specs.Program.{Program, moves, NeverStays, AreShort, IsWellFormed}
 use Rattle.fleet_model.specs.Accepted.{IsAccepted}
-use Rattle.fleet_model.proofs.Short.{short_in_range, short_moves}
+use Rattle.fleet_adg.proofs.Short.{short_in_range, short_moves}
 use Rattle.fleet_verify.proofs.Listing.{awaits_accepted}
 use Rattle.fleet_verify.specs.Reduced.{RunEqually}
 use Rattle.fleet_verify.proofs.SameChains.{run_over}

@@ -19,7 +19,7 @@ use Rattle.fleet_model.proofs.Totals.{moves_more}
 use Rattle.fleet_model.specs.declared.limits.TheConstants.{MAX_AWAIT, MAX_MOVES_V1}
 use Rattle.fleet_needs.specs.Implied.{IsImplied}
 use Rattle.fleet_needs.proofs.AwaitOrder.{await_below}
-use Rattle.fleet_model.proofs.Short.{short_in_range, short_moves}
+use Rattle.fleet_adg.proofs.Short.{short_in_range, short_moves}
 use Rattle.fleet_verify.specs.Reduced.{IsThinned}
 use Rattle.fleet_verify.proofs.Alike.{same_moves as moves_there}
 use Rattle.fleet_verify.proofs.Reductions.{thinned_range}

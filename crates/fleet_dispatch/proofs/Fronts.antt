@@ -7,7 +7,7 @@ use Rattle.std.specs.Prelude.{filter}
 use Rattle.fleet_model.specs.Program.{Program}
 use Rattle.fleet_model.specs.Machine.{Configuration, Holds, indices, is_among, is_held, is_ready, run, tick}
 use Rattle.fleet_model.specs.Claims.{holds_of}
-use Rattle.fleet_model.proofs.Runs.{tick_agree}
+use Rattle.fleet_model.proofs.Tick.{tick_agree}
 use Rattle.fleet_dispatch.specs.Talk.{Talk, Told, Heard}
 use Rattle.fleet_dispatch.specs.Orders.{order_line, new_orders, talk_before, talk_of}
 

@@ -14,14 +14,13 @@ use Rattle.fleet_model.specs.Chain.{Reaches}
 use Rattle.fleet_model.specs.Visit.{IsVisit, IsVisitOf, next_move, entering}
 use Rattle.fleet_example.proofs.Computed.{at_all_positions, at_position, at_all_awaits, at_await, is_chain, chain_is}
 use Rattle.fleet_example.proofs.ComputedVisits.{is_visit_of, visit_is}
-use Rattle.fleet_model.proofs.Places.{is_same_place-true}
-use Rattle.fleet_model.proofs.Chains.{Reaches-first}
-use Rattle.fleet_model.proofs.Reaching.{Reaches-trans, own_reach}
+use Rattle.fleet_model.proofs.Cells.{is_same_place-true}
+use Rattle.fleet_model.proofs.Chains.{Reaches-first, Reaches-trans, own_reach}
 use Rattle.fleet_model.specs.Visit.{AreUnordered}
 use Rattle.fleet_model.specs.Breaking.{IsNeededFor, IsHeldBack, IsPrepared, AreBreakingHolds}
 use Rattle.fleet_verify.specs.Needed.{AreNeeded}
 use Rattle.fleet_example.specs.Meetings.{MeetBy}
-use Rattle.fleet_verify.proofs.OrderedPairs.{as_visit}
+use Rattle.fleet_verify.proofs.Listing.{as_visit}
 use Rattle.fleet_verify.proofs.RisingRows.{those_below, those_rise, those_has, those_keep}
 use Rattle.fleet_verify.proofs.Looking.{looking_end}
 use Rattle.fleet_verify.proofs.BreakingExists.{moves_within, IsBegun, grown, prepared_by_counts}

@@ -14,11 +14,10 @@ use Rattle.fleet_model.specs.Program.{Program, moves, awaits_of, path, AreInRang
 use Rattle.fleet_model.specs.Machine.{indices}
 use Rattle.fleet_model.specs.Visit.{IsVisitOf, ListsVisits, Adjacent, ComesAfterByAwait, ComesAfterByChain, IsOrderly, entering, leaving}
 use Rattle.fleet_model.specs.Accepted.{IsRight, IsAcceptedBy}
-use Rattle.fleet_model.proofs.Places.{is_same_place-true}
+use Rattle.fleet_model.proofs.Cells.{is_same_place-true}
 use Rattle.fleet_verify.specs.Listing.{entry_level}
-use Rattle.fleet_verify.proofs.Listing.{after_reaches, await_chain, adjacent_chains, sorted_passes}
+use Rattle.fleet_verify.proofs.Listing.{after_reaches, await_chain, adjacent_chains, sorted_passes, unordered_refuses}
 use Rattle.fleet_model.specs.Visit.{AreUnordered}
-use Rattle.fleet_verify.proofs.OrderedPairs.{unordered_refuses}
 use Rattle.fleet_example.specs.Programs.{HasNoOrder, IsRefusedAt}
 use Rattle.fleet_example.proofs.Computed.{at_all_positions, at_position, weighed, is_numbered, numbered_is, is_chain, chain_is, task_of, is_right, right_is}
 use Rattle.fleet_example.proofs.ComputedVisits.{is_visit_of, lists_visits, visits_are}

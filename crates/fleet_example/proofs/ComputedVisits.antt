@@ -10,7 +10,7 @@ use Rattle.fleet_model.specs.declared.program.Visit.{Visit}
 use Rattle.fleet_model.specs.Program.{Program, moves, path}
 use Rattle.fleet_model.specs.Visit.{is_entry, IsVisitOf, ListsVisits}
 use Rattle.fleet_model.specs.Geometry.{is_same_place}
-use Rattle.fleet_model.proofs.Places.{is_same_place-true, is_same_place-eq}
+use Rattle.fleet_model.proofs.Cells.{is_same_place-true, is_same_place-eq}
 use Rattle.fleet_example.proofs.Computed.{at_all_positions, at_position}
 
 abbrev is_same_visit : Visit → Visit → Bool

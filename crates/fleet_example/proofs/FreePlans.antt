@@ -13,7 +13,7 @@ use Rattle.fleet_model.specs.declared.task.Task.{Task}
 use Rattle.fleet_plan.specs.Plan.{cell_at, cell_of, last_cell, planned, IsConflictFree}
 use Rattle.fleet_example.specs.Programs.{cell_xy, pair_tasks}
 use Rattle.fleet_example.specs.Plans.{base_plan}
-use Rattle.fleet_model.proofs.Places.{place_of-injective}
+use Rattle.fleet_model.proofs.Cells.{place_of-injective}
 
 -- ---- the base plan
 

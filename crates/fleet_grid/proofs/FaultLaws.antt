@@ -12,8 +12,7 @@ use Rattle.fleet_grid.specs.Ground.{Ground, IsSide}
 use Rattle.fleet_grid.specs.MapText.{line_at, is_no_glyph, cells_of, is_row_space, IsKindLine, IsNumberLine, IsMapLine, IsHeader, IsSizedHeader, AreMapRows, AreMapLines, HasForm, IsFirstWithoutForm, IsMapRightUpTo, IsFirstMapLineFault}
 use Rattle.fleet_text.specs.Steps.{none_or, ◌>>=◌, ◌>>◌, some_or}
 use Rattle.fleet_grid.specs.MapReading.{is_alone, field, number_field, is_side, header_at, row_at, rows_at, map_at}
-use Rattle.fleet_text.proofs.StepLaws.{bind_err, right_err, some_err, some_ok, err_is, ok_err, none_some, option_cases}
-use Rattle.fleet_text.proofs.Verdicts.{Tells}
+use Rattle.fleet_text.proofs.StepLaws.{bind_err, right_err, some_err, some_ok, err_is, ok_err, none_some, option_cases, Tells}
 use Rattle.fleet_grid.proofs.MapLaws.{kind_is, kind_again, number_is, number_again, map_line_is, map_line_again, sides_are, sides_again, four_lines, sized, after_width, after_height, after_kind, header_is, header_read, header_again, row_again, StartWithRows, rows_to, rows_from, rows_again, row_is, rows_are, empty_are, empty_again, after_rows_read, after_header, is_found, is_read}
 
 -- ---- the header

@@ -12,8 +12,7 @@ use Rattle.fleet_model.specs.declared.program.ActionId.{ActionId}
 use Rattle.fleet_model.specs.Program.{Program, moves}
 use Rattle.fleet_model.specs.Machine.{Configuration, is_finished, run, tick, is_held, is_ready, is_moving, count_at, indices}
 use Rattle.fleet_model.specs.Chain.{IsAction, Reaches}
-use Rattle.fleet_model.proofs.Tick.{ready_left}
-use Rattle.fleet_model.proofs.Runs.{tick_agree}
+use Rattle.fleet_model.proofs.Tick.{ready_left, tick_agree}
 use Rattle.fleet_machine.specs.Machine.{MachineState, Runs, flag_of, moving_flags}
 use Rattle.fleet_machine.specs.AgentSet.{IsNextFrom, AreNoneFrom}
 use Rattle.fleet_needs.specs.Order.{IsTicked, IsNextReady, AreNoneReady}

@@ -7,8 +7,7 @@ use Rattle.fleet_model.specs.Program.{Program, moves, awaits_of, AreInRange}
 use Rattle.fleet_model.specs.Machine.{run, is_held, is_ready, count_at}
 use Rattle.fleet_model.specs.Chain.{IsAction, DirectlyNeeds, ChainFrom, Reaches, EndsChain, IsLevel}
 use Rattle.fleet_model.proofs.Tick.{ready_met, unready_waits, standing_at_tick, standing_at_opening, free_moves, other_stays}
-use Rattle.fleet_model.proofs.Chains.{Reaches-kept, chain_last, ends_by, ends_long}
-use Rattle.fleet_model.proofs.Reaching.{ends_one, ends_more}
+use Rattle.fleet_model.proofs.Chains.{Reaches-kept, chain_last, ends_by, ends_long, ends_one, ends_more}
 
 module _ (p : Program) where
   -- how many actions an agent has finished after so many ticks

@@ -8,8 +8,7 @@ use Rattle.fleet_model.specs.declared.program.Await.{Await}
 use Rattle.fleet_model.specs.Program.{Program, moves, awaits_of, AreInRange}
 use Rattle.fleet_model.specs.Chain.{IsAction, Reaches, awaited}
 use Rattle.fleet_needs.specs.Rows.{IsColumn, ByOneOf, IsJoined, OfFirst}
-use Rattle.fleet_model.proofs.Reaching.{own_reach, LastStep, chain_ends_by_step, Reaches-trans}
-use Rattle.fleet_model.proofs.Chains.{Reaches-first, Reaches-last, Reaches-need}
+use Rattle.fleet_model.proofs.Chains.{own_reach, LastStep, chain_ends_by_step, Reaches-trans, Reaches-first, Reaches-last, Reaches-need}
 
 abbrev act : ℕ → ℕ → ActionId
 act j c = record { agent = j; number = c }

@@ -8,12 +8,10 @@ use Rattle.fleet_model.specs.declared.program.ActionId.{ActionId}
 use Rattle.fleet_model.specs.declared.program.Await.{Await}
 use Rattle.fleet_model.specs.Program.{Program, moves, awaits_of, AreInRange, IsWellFormed}
 use Rattle.fleet_model.specs.Chain.{IsAction, DirectlyNeeds, Reaches, IsNumbering, awaited}
-use Rattle.fleet_model.proofs.Reaching.{chain_ends_by_step, Reaches-rises}
-use Rattle.fleet_model.proofs.Chains.{Reaches-last}
+use Rattle.fleet_model.proofs.Chains.{chain_ends_by_step, Reaches-rises, Reaches-last}
 use Rattle.fleet_needs.specs.Implied.{IsImplied, IsImpliedFlag, first_await}
 use Rattle.fleet_needs.specs.Settled.{IsSettled, AreSettledOf, AreMoreAsked, IsActionSettled, IsUpTo}
-use Rattle.fleet_needs.proofs.AwaitOrder.{await_below}
-use Rattle.fleet_needs.proofs.AwaitOrder.{flag_apart}
+use Rattle.fleet_needs.proofs.AwaitOrder.{await_below, flag_apart}
 use Rattle.fleet_needs.proofs.Joining.{own_first, by_await}
 
 abbrev act : ℕ → ℕ → ActionId

@@ -8,8 +8,7 @@ use Rattle.std.proofs.lemmas.List.Elements.{All-from_recursion, recursion_from_A
 use Rattle.fleet_model.specs.Answer.{IsDueUnless}
 use Rattle.fleet_text.specs.Text.{Bytes}
 use Rattle.fleet_text.specs.Steps.{◌>>=◌, ◌>>◌, right_or, some_or}
-use Rattle.fleet_text.proofs.StepLaws.{some_ok, bind_err, right_err, some_err, err_is, ok_err, none_some}
-use Rattle.fleet_text.proofs.Verdicts.{Tells, heads_are, next_is, next_again}
+use Rattle.fleet_text.proofs.StepLaws.{some_ok, bind_err, right_err, some_err, err_is, ok_err, none_some, Tells, heads_are, next_is, next_again}
 use Rattle.fleet_plan.specs.Plan.{Path, Plan}
 use Rattle.fleet_plan.specs.declared.text_fault.TextFault.{TextFault}
 use Rattle.fleet_plan.specs.declared.text_fault.TextFault.TheVariants.{OutOfMemory, Form, Length, AgentCount}

@@ -7,7 +7,7 @@ use Rattle.std.proofs.lemmas.List.FromFn.{length-map-range_with_len, get_or-map-
 use Rattle.fleet_model.specs.declared.geometry.Cell.{Cell}
 use Rattle.fleet_model.specs.Geometry.{place_of}
 use Rattle.fleet_model.specs.Conflict.{after_in}
-use Rattle.fleet_model.proofs.Places.{place_of-injective}
+use Rattle.fleet_model.proofs.Cells.{place_of-injective}
 use Rattle.fleet_grid.specs.declared.table.Table.{Table}
 use Rattle.fleet_grid.specs.Table.{value_in}
 use Rattle.fleet_grid.specs.Ground.{Ground, IsGround, is_passable, cell_index, is_ground_at as ground_at}

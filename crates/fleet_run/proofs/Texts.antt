@@ -7,8 +7,7 @@ use Rattle.fleet_model.specs.declared.program.Await.{Await}
 use Rattle.fleet_text.specs.Sink.{SinkState, Takes, StopsWithin}
 use Rattle.fleet_text.specs.Row.{PassesOn}
 use Rattle.fleet_text.specs.Words.{next_words}
-use Rattle.fleet_text.proofs.SinkLemmas.{takes_more, stops_within_more, stops_after}
-use Rattle.fleet_text.proofs.WordLemmas.{passed_element, stops_within_element}
+use Rattle.fleet_text.proofs.SinkLemmas.{takes_more, stops_within_more, stops_after, passed_element, stops_within_element}
 use Rattle.fleet_run.specs.Listing.{await_text, await_words, texts_below}
 
 -- the texts of the numbers below n begin with those below i

@@ -16,8 +16,7 @@ use Rattle.std.specs.Prelude.{is_err}
 use Rattle.fleet_text.specs.Sink.{SinkState, StopsWithin, Takes, TakesAll}
 use Rattle.fleet_run.specs.Text.{line_of, lines_below}
 use Rattle.fleet_machine.specs.Machine.{flag_of}
-use Rattle.fleet_model.proofs.Tick.{length-run}
-use Rattle.fleet_model.proofs.Runs.{tick_agree, held_ticks-le}
+use Rattle.fleet_model.proofs.Tick.{length-run, tick_agree, held_ticks-le}
 use Rattle.fleet_text.proofs.SinkLemmas.{appends_more, takes_more}
 use Rattle.fleet_run.proofs.Progress.{ready_held_same, all_left, all_left_le, all_left_lt, all_left_few}
 

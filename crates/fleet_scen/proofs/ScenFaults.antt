@@ -10,8 +10,7 @@ use Rattle.fleet_model.specs.Answer.{IsDueUnless}
 use Rattle.fleet_text.specs.Text.{Bytes, words}
 use Rattle.fleet_grid.specs.Ground.{Ground}
 use Rattle.fleet_text.specs.Steps.{◌>>◌, right_or}
-use Rattle.fleet_text.proofs.StepLaws.{bind_err, right_err, then_err, err_is, ok_err}
-use Rattle.fleet_text.proofs.Verdicts.{Tells, heads_are, next_is, next_again}
+use Rattle.fleet_text.proofs.StepLaws.{bind_err, right_err, then_err, err_is, ok_err, Tells, heads_are, next_is, next_again}
 use Rattle.fleet_scen.specs.declared.fault.ScenFault.{ScenFault}
 use Rattle.fleet_scen.specs.declared.fault.ScenFault.TheVariants.{OutOfMemory, Version, Fields, Number, OtherMap, Blocked, SharedStart, SharedGoal, NoAgents, TooMany, Fewer}
 use Rattle.fleet_scen.specs.Instance.{AreTasksApart}

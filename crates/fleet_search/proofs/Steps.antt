@@ -8,7 +8,7 @@ use Rattle.fleet_model.specs.declared.geometry.Cell.{Cell}
 use Rattle.fleet_model.specs.Geometry.{place_of}
 use Rattle.fleet_model.specs.Conflict.{HasSwappingConflict, HasCycleConflict, after_in}
 use Rattle.fleet_plan.specs.Plan.{Plan, cell_at, cell_of, planned}
-use Rattle.fleet_model.proofs.Places.{place_of-injective}
+use Rattle.fleet_model.proofs.Cells.{place_of-injective}
 use Rattle.fleet_search.specs.Way.{with_path, Fits, Follow, EachStepFits}
 
 -- ---- the cells of the plan with one more path

@@ -6,9 +6,8 @@ use Rattle.fleet_model.specs.Program.{Program, moves, awaits_of, path, AreInRang
 use Rattle.fleet_model.specs.Machine.{Holds, is_held, run, is_finished, held_ticks, IsFinish}
 use Rattle.fleet_model.specs.Chain.{IsAction, DirectlyNeeds, EndsChain, IsLongestChain, IsNumbering}
 use Rattle.fleet_model.specs.Run.{motion}
-use Rattle.fleet_model.proofs.Chains.{chain_first, ends_long, ends_within, ends_action}
+use Rattle.fleet_model.proofs.Chains.{chain_first, ends_long, ends_within, ends_action, ends_one, ends_more, numbers_bound}
 use Rattle.fleet_verify.proofs.Counts.{AreCountsInTime, counts, readies, run_counts, run_place}
-use Rattle.fleet_model.proofs.Reaching.{ends_one, ends_more, numbers_bound}
 use Rattle.fleet_verify.proofs.Finished.{grows, grows_once, within_moves, chain_before}
 use Rattle.fleet_verify.proofs.Held.{AreHeldTicks, run_held, held_at_most, finished_all, unfinished_one}
 use Rattle.fleet_verify.proofs.Least.{least_of}

@@ -14,7 +14,7 @@ use Rattle.fleet_model.specs.declared.program.Visit.{Visit}
 use Rattle.fleet_model.specs.Geometry.{place_of, is_same_place}
 use Rattle.fleet_model.specs.Program.{Program, moves, path, AreInRange, IsCell}
 use Rattle.fleet_model.specs.Visit.{is_entry, IsVisitOf, ListsVisits, Adjacent, ComesAfter, ComesAfterByAwait, IsOrderly}
-use Rattle.fleet_model.proofs.Places.{is_same_place-true, is_same_place-eq}
+use Rattle.fleet_model.proofs.Cells.{is_same_place-true, is_same_place-eq}
 use Rattle.fleet_verify.specs.Ahead.{AreBegun}
 use Rattle.fleet_verify.specs.Faults.{StandsRight, EachAction}
 use Rattle.fleet_verify.specs.Order.{visits_of, entries, AreAddedBy, AreConsecutive}

@@ -12,7 +12,7 @@ use Rattle.fleet_model.specs.declared.task.Task.{Task}
 use Rattle.fleet_model.specs.Chain.{IsNumbering}
 use Rattle.fleet_model.specs.Geometry.{place_of}
 use Rattle.fleet_model.specs.Program.{Program, origin, start_of, moves, path, AreInRange, IsWellFormed}
-use Rattle.fleet_model.proofs.Reaching.{own_reach, Reaches-rises}
+use Rattle.fleet_model.proofs.Chains.{own_reach, Reaches-rises}
 use Rattle.fleet_grid.specs.Ground.{Ground, is_passable}
 use Rattle.fleet_verify.specs.Ahead.{AreCountedUp, IsTop, IsAhead, AreBegun, count_in, level_in}
 use Rattle.fleet_verify.specs.Faults.{HasStarts, HasRanges, EndsRight, StandsRight}

@@ -14,8 +14,7 @@ use Rattle.fleet_model.specs.Chain.{IsAction, DirectlyNeeds, IsNumbering, awaite
 use Rattle.fleet_model.specs.Visit.{IsVisit, entering}
 use Rattle.fleet_model.specs.Breaking.{IsNeededFor, IsHeldBack, IsPrepared, AreBreakingHolds}
 use Rattle.fleet_verify.proofs.Readiness.{IsReadyTo, step}
-use Rattle.fleet_model.proofs.Reaching.{Reaches-refl, Reaches-rises}
-use Rattle.fleet_model.proofs.Chains.{Reaches-need}
+use Rattle.fleet_model.proofs.Chains.{Reaches-refl, Reaches-rises, Reaches-need}
 use Rattle.fleet_verify.proofs.Done.{count_grows}
 use Rattle.fleet_verify.proofs.Needs.{needed_action, needed_on}
 use Rattle.fleet_verify.proofs.Finishing.{Reaches-done}

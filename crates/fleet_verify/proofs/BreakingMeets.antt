@@ -16,7 +16,7 @@ use Rattle.fleet_verify.proofs.Readiness.{Moves, step}
 use Rattle.fleet_verify.proofs.Counts.{count_past, count_opening, run_place}
 use Rattle.fleet_model.proofs.Visits.{stays_to}
 use Rattle.fleet_verify.specs.Listing.{entry_level}
-use Rattle.fleet_model.proofs.Reaching.{Reaches-refl}
+use Rattle.fleet_model.proofs.Chains.{Reaches-refl}
 use Rattle.fleet_verify.proofs.Listing.{rank_rises}
 use Rattle.fleet_verify.proofs.Done.{count_within}
 use Rattle.fleet_verify.proofs.Members.{contains_head, contains_later, contains_cases, contains_none}

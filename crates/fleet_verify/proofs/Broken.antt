@@ -14,8 +14,7 @@ use Rattle.fleet_verify.specs.Faults.{HasNumbering, IsFault, IsUnordered}
 use Rattle.fleet_verify.proofs.BreakingExists.{breaking_made}
 use Rattle.fleet_verify.proofs.BreakingMeets.{breaking_conflict}
 use Rattle.fleet_verify.proofs.Finish.{ring_never}
-use Rattle.fleet_verify.proofs.Listing.{levels_number}
-use Rattle.fleet_verify.proofs.OrderedPairs.{as_visit}
+use Rattle.fleet_verify.proofs.Listing.{levels_number, as_visit}
 use Rattle.fleet_verify.proofs.Unordered.{neighbours_unordered}
 use Rattle.fleet_verify.proofs.Stays.{ranges_all}
 

@@ -7,8 +7,7 @@ use Rattle.fleet_model.specs.Program.{Program}
 use Rattle.fleet_model.specs.Chain.{IsAction, DirectlyNeeds, Reaches, EndsChain, IsNumbering}
 use Rattle.fleet_verify.specs.Listing.{AreLevels}
 use Rattle.fleet_verify.specs.Rows.{IsCountedUp, IsRow, IsRowOfNeeds}
-use Rattle.fleet_model.proofs.Reaching.{own_reach, LastStep, chain_ends_by_step, Reaches-trans, ends_one, ends_more}
-use Rattle.fleet_model.proofs.Chains.{ends_within, Reaches-first, Reaches-last, Reaches-need}
+use Rattle.fleet_model.proofs.Chains.{own_reach, LastStep, chain_ends_by_step, Reaches-trans, ends_one, ends_more, ends_within, Reaches-first, Reaches-last, Reaches-need}
 
 module _ (p : Program) (level : ActionId → ℕ) (h : (a : ActionId) → IsAction p a → IsCountedUp p level a) where
   some_level : (a : ActionId) → IsAction p a → 1 ≤ level a

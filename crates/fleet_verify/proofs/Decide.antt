@@ -7,8 +7,7 @@ use Rattle.fleet_model.specs.declared.program.ActionId.{ActionId}
 use Rattle.fleet_model.specs.Program.{Program, moves, awaits_of}
 use Rattle.fleet_verify.proofs.Members.{same_action, contains_head, contains_later, contains_none, contains_cases}
 use Rattle.fleet_model.specs.Chain.{IsAction, DirectlyNeeds, ChainFrom, Reaches, IsNumbering, awaited}
-use Rattle.fleet_model.proofs.Chains.{chain_last, Reaches-need}
-use Rattle.fleet_model.proofs.Reaching.{Reaches-trans, LastStep, chain_ends_by_step}
+use Rattle.fleet_model.proofs.Chains.{chain_last, Reaches-need, Reaches-trans, LastStep, chain_ends_by_step}
 
 pub IsAction-dec : (p : Program) (a : ActionId) → Dec (IsAction p a)
 IsAction-dec p a =

@@ -16,9 +16,8 @@ use Rattle.fleet_model.specs.Breaking.{AreBreakingHolds}
 use Rattle.fleet_model.specs.Run.{RunsWell}
 use Rattle.fleet_verify.proofs.Decide.{Reaches-dec}
 use Rattle.fleet_verify.proofs.BreakingMeets.{breaking_conflict}
-use Rattle.fleet_verify.proofs.OrderedPairs.{as_visit}
+use Rattle.fleet_verify.proofs.Listing.{as_visit, after_reaches}
 use Rattle.fleet_verify.proofs.BreakingExists.{breaking_made}
-use Rattle.fleet_verify.proofs.Listing.{after_reaches}
 use Rattle.fleet_verify.proofs.Finish.{done_after}
 use Rattle.fleet_verify.proofs.Finishing.{run_numbers}
 use Rattle.fleet_verify.proofs.Free.{runs_free}

@@ -16,7 +16,7 @@ use Rattle.fleet_verify.specs.declared.fault.VerifyFault.{VerifyFault}
 use Rattle.fleet_verify.specs.declared.fault.VerifyFault.TheVariants.{Unordered}
 use Rattle.fleet_verify.specs.declared.open_pairs.OrderViolation.{OrderViolation}
 use Rattle.fleet_verify.specs.Order.{visits_of, IsListJudged, IsVisitPlaced, IsPathOrderly, AreAllPlaced, AreViolations}
-use Rattle.fleet_model.proofs.Places.{is_same_place-true}
+use Rattle.fleet_model.proofs.Cells.{is_same_place-true}
 use Rattle.fleet_model.proofs.Visits.{IsIn, is_in}
 use Rattle.fleet_verify.specs.Faults.{IsFirstBreak, HasRanges, IsFault, IsSooner, IsOrderlyAt}
 

@@ -10,8 +10,7 @@ use Rattle.fleet_model.specs.declared.program.ActionId.{ActionId}
 use Rattle.fleet_model.specs.declared.program.AgentProgram.{AgentProgram}
 use Rattle.fleet_model.specs.Program.{Program, actions_of, moves, awaits_of, IsInRange, AreInRange}
 use Rattle.fleet_model.specs.Chain.{IsAction, DirectlyNeeds, ChainFrom, Reaches, IsNumbering, awaited}
-use Rattle.fleet_model.proofs.Chains.{chain_first, Reaches-last, Reaches-need}
-use Rattle.fleet_model.proofs.Reaching.{Reaches-refl, Reaches-trans}
+use Rattle.fleet_model.proofs.Chains.{chain_first, Reaches-last, Reaches-need, Reaches-refl, Reaches-trans}
 use Rattle.fleet_verify.proofs.Members.{contains_none}
 use Rattle.fleet_verify.proofs.Decide.{action-dec}
 use Rattle.fleet_needs.specs.Implied.{IsImplied}

@@ -5,7 +5,7 @@ use Rattle.fleet_model.specs.Program.{Program, AreInRange}
 use Rattle.fleet_model.specs.Machine.{Holds, is_held, run, IsDone, IsDue}
 use Rattle.fleet_model.specs.Chain.{IsAction, DirectlyNeeds, Reaches, unit_cost, IsLevel, IsNumbering}
 use Rattle.fleet_verify.proofs.Counts.{counts, readies, run_counts}
-use Rattle.fleet_model.proofs.Reaching.{ends_more}
+use Rattle.fleet_model.proofs.Chains.{ends_more}
 use Rattle.fleet_verify.proofs.Finished.{chain_due}
 use Rattle.fleet_verify.proofs.Critical.{critical}
 use Rattle.fleet_verify.proofs.Arrive.{ready_or_needs}

@@ -37,7 +37,6 @@ pub mod Blocked
 pub mod Finishing
 pub mod Needs
 pub mod RisingRows
-pub mod OrderedPairs
 pub mod Sorted
 pub mod BreakingMeets
 pub mod BreakingExists

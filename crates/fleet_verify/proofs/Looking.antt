@@ -12,8 +12,7 @@ use Rattle.fleet_model.specs.Program.{Program, moves, total_moves, awaits_of, Ar
 use Rattle.fleet_model.specs.Machine.{indices}
 use Rattle.fleet_model.specs.Chain.{IsAction, DirectlyNeeds, Reaches}
 use Rattle.fleet_model.specs.Visit.{IsVisit, entering}
-use Rattle.fleet_model.proofs.Chains.{Reaches-last, Reaches-need, Reaches-kept}
-use Rattle.fleet_model.proofs.Reaching.{own_reach}
+use Rattle.fleet_model.proofs.Chains.{Reaches-last, Reaches-need, Reaches-kept, own_reach}
 use Rattle.fleet_verify.proofs.RunEnds.{sum_rises, sum_of_moves}
 use Rattle.fleet_verify.proofs.Needs.{needed_action, needed_on}
 use Rattle.fleet_model.specs.Breaking.{IsNeededFor}

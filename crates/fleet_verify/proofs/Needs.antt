@@ -5,8 +5,7 @@ use Rattle.fleet_model.specs.declared.program.Visit.{Visit}
 use Rattle.fleet_model.specs.Program.{Program}
 use Rattle.fleet_model.specs.Chain.{IsAction, Reaches}
 use Rattle.fleet_model.specs.Visit.{entering}
-use Rattle.fleet_model.proofs.Chains.{Reaches-first}
-use Rattle.fleet_model.proofs.Reaching.{Reaches-trans}
+use Rattle.fleet_model.proofs.Chains.{Reaches-first, Reaches-trans}
 use Rattle.fleet_model.specs.Breaking.{IsNeededFor}
 
 pub needed_action : (p : Program) (v w : Visit) (a : ActionId) → IsNeededFor p v w a → IsAction p a

@@ -6,8 +6,7 @@ use Rattle.fleet_model.specs.declared.program.ActionId.{ActionId}
 use Rattle.fleet_model.specs.Program.{Program, awaits_of, AreInRange}
 use Rattle.fleet_model.specs.Chain.{IsAction, DirectlyNeeds, Reaches, IsNumbering, awaited}
 use Rattle.fleet_model.specs.Schedule.{Schedule, HasEndedBy}
-use Rattle.fleet_model.proofs.Chains.{Reaches-need}
-use Rattle.fleet_model.proofs.Reaching.{Reaches-refl, Reaches-trans}
+use Rattle.fleet_model.proofs.Chains.{Reaches-need, Reaches-refl, Reaches-trans}
 use Rattle.fleet_verify.proofs.Members.{same_action}
 use Rattle.fleet_verify.proofs.Decide.{IsAction-dec, some-dec, before_in, needs_before}
 use Rattle.fleet_verify.proofs.Timed.{by_or_not}

@@ -15,7 +15,7 @@ use Rattle.fleet_model.specs.Geometry.{place_of}
 use Rattle.fleet_model.specs.Program.{Program, moves, path, start_of, IsCell, AreInRange}
 use Rattle.fleet_model.specs.Chain.{Reaches, IsNumbering}
 use Rattle.fleet_model.specs.Visit.{IsVisit, IsVisitOf, ComesAfter, ComesAfterByChain, entering, leaving}
-use Rattle.fleet_model.proofs.Places.{place_of-injective}
+use Rattle.fleet_model.proofs.Cells.{place_of-injective}
 use Rattle.fleet_scen.specs.Instance.{IsInstance}
 use Rattle.fleet_needs.specs.declared.questions.Question.{Question}
 use Rattle.fleet_needs.specs.Asked.{IsQuestion, IsSoonerAction, AreQuestions, AreAnswers}
@@ -27,7 +27,7 @@ use Rattle.fleet_verify.specs.Faults.{HasStarts, IsFirstBreak}
 use Rattle.fleet_verify.specs.Listing.{entry_level, IsBefore}
 use Rattle.fleet_verify.specs.Order.{number_of, visits_of, IsListJudged, AreAllPlaced, AreViolations, AreGrouped, IsOpenPair, AreConsecutive, StandsBefore}
 use Rattle.fleet_verify.specs.OpenPairs.{AreVisits, question_of, violation_of, HasNoChain, IsFirstBad, AnswersFirstBad, IsFlagged}
-use Rattle.fleet_model.proofs.Reaching.{own_reach, Reaches-rises}
+use Rattle.fleet_model.proofs.Chains.{own_reach, Reaches-rises}
 use Rattle.fleet_verify.proofs.Decide.{Reaches-dec}
 use Rattle.fleet_verify.proofs.Listing.{levels_number, await_chain, entry_start, entry_later, before_rank}
 use Rattle.fleet_verify.proofs.Neighbours.{adjacent_at, adjacent_from, any_two}

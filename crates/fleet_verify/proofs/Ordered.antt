@@ -15,7 +15,7 @@ use Rattle.fleet_model.specs.declared.program.Visit.{Visit}
 use Rattle.fleet_model.specs.Geometry.{place_of, is_same_place}
 use Rattle.fleet_model.specs.Program.{Program, IsCell}
 use Rattle.fleet_model.specs.Visit.{is_entry, ComesAfterByAwait}
-use Rattle.fleet_model.proofs.Places.{place_of-injective, is_same_place-true, is_same_place-eq}
+use Rattle.fleet_model.proofs.Cells.{place_of-injective, is_same_place-true, is_same_place-eq}
 use Rattle.fleet_verify.specs.declared.visit_order.PlacedVisit.{PlacedVisit}
 use Rattle.fleet_verify.specs.declared.visit_order.OpenPair.{OpenPair}
 use Rattle.fleet_verify.specs.declared.visit_order.VisitOrder.{VisitOrder}

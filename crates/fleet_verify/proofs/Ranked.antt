@@ -8,8 +8,7 @@ use Rattle.std.proofs.lemmas.Option.{slice_get-get_or}
 use Rattle.fleet_model.specs.declared.program.ActionId.{ActionId}
 use Rattle.fleet_model.specs.Program.{Program, moves, awaits_of, AreInRange, IsWellFormed}
 use Rattle.fleet_model.specs.Chain.{IsAction, DirectlyNeeds, EndsChain, IsLevel, IsLongestChain, IsNumbering, awaited}
-use Rattle.fleet_model.proofs.Chains.{level_is, ends_within, ends_action}
-use Rattle.fleet_model.proofs.Reaching.{ends_one, ends_more}
+use Rattle.fleet_model.proofs.Chains.{level_is, ends_within, ends_action, ends_one, ends_more}
 use Rattle.fleet_verify.specs.Rows.{IsCountedUp}
 use Rattle.fleet_verify.specs.Ahead.{AreCountedUp, IsTop, IsRanked, AreRanked, IsNextLevel, AddsLevel, count_in, level_in, next_in}
 use Rattle.fleet_verify.proofs.Members.{same_action}

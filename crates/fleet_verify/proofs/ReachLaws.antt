@@ -5,7 +5,7 @@ use Rattle.fleet_model.specs.declared.program.ActionId.{ActionId}
 use Rattle.fleet_model.specs.Program.{Program, AreInRange}
 use Rattle.fleet_model.specs.Machine.{IsFinish}
 use Rattle.fleet_model.specs.Chain.{IsLongestChain}
-use Rattle.fleet_model.proofs.Reaching.{longest_is_one}
+use Rattle.fleet_model.proofs.Chains.{longest_is_one}
 use Rattle.fleet_needs.specs.Rows.{IsColumn}
 use Rattle.fleet_verify.specs.Reach.{IsGreatest}
 use Rattle.fleet_verify.proofs.Arrive.{finish_exists, unheld_is_longest}

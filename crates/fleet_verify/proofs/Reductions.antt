@@ -5,8 +5,7 @@ use Rattle.fleet_model.specs.declared.program.Await.{Await}
 use Rattle.fleet_model.specs.declared.program.ActionId.{ActionId}
 use Rattle.fleet_model.specs.Program.{Program, moves, awaits_of, AreInRange}
 use Rattle.fleet_model.specs.Chain.{IsAction, DirectlyNeeds, ChainFrom, Reaches, IsNumbering, awaited}
-use Rattle.fleet_model.proofs.Chains.{chain_first, chain_last, chain_rises, Reaches-first, Reaches-last, Reaches-need}
-use Rattle.fleet_model.proofs.Reaching.{Reaches-trans}
+use Rattle.fleet_model.proofs.Chains.{chain_first, chain_last, chain_rises, Reaches-first, Reaches-last, Reaches-need, Reaches-trans}
 use Rattle.fleet_verify.proofs.Members.{same_action}
 use Rattle.fleet_needs.specs.Implied.{IsImplied}
 use Rattle.fleet_verify.specs.Reduced.{DiffersInAwaits, IsThinned, IsReduced, HaveSameChains}

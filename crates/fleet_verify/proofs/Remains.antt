@@ -19,7 +19,7 @@ use Rattle.fleet_model.specs.Machine.{Configuration, Holds, is_held, is_met, run
 use Rattle.fleet_model.specs.Visit.{ComesAfterByChain}
 use Rattle.fleet_model.specs.Accepted.{IsRight, IsAcceptedBy}
 use Rattle.fleet_model.specs.Run.{RunsWell}
-use Rattle.fleet_model.proofs.Runs.{tick_agree}
+use Rattle.fleet_model.proofs.Tick.{tick_agree}
 use Rattle.fleet_verify.specs.Rest.{StandOn, rest_await, rest_awaits, rest_action, rest_agent, rest, rest_tasks}
 use Rattle.fleet_verify.proofs.Members.{contains_head, contains_later, contains_cases, contains_none, filter_has, filter_from}
 use Rattle.fleet_model.specs.Conflict.{HasVertexConflict}

@@ -13,8 +13,7 @@ use Rattle.fleet_model.specs.Machine.{Configuration, standing_at, count_at, is_r
 use Rattle.fleet_model.specs.Chain.{IsAction, DirectlyNeeds, ChainFrom, Reaches, EndsChain, IsLevel, IsLongestChain, IsNumbering, awaited}
 use Rattle.fleet_model.specs.Visit.{Adjacent, ComesAfterByChain, entering, leaving}
 use Rattle.fleet_model.specs.Accepted.{IsAcceptedBy}
-use Rattle.fleet_model.proofs.Chains.{chain_first, chain_rises, ends_by, ends_long, Reaches-need}
-use Rattle.fleet_model.proofs.Reaching.{chain_join}
+use Rattle.fleet_model.proofs.Chains.{chain_first, chain_rises, ends_by, ends_long, Reaches-need, chain_join}
 use Rattle.fleet_verify.proofs.Counts.{counts, readies, run_counts}
 use Rattle.fleet_verify.proofs.Finished.{chain_due}
 use Rattle.fleet_verify.proofs.Readiness.{ready_says, ready_from}

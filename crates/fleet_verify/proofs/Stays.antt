@@ -31,7 +31,7 @@ use Rattle.fleet_verify.proofs.Arrived.{all_right}
 use Rattle.fleet_verify.specs.Order.{visits_of, entries, AreAllPlaced, IsVisitPlaced, AreAdded, AreAllAdded}
 use Rattle.fleet_verify.specs.declared.visit_order.VisitOrder.{VisitOrder}
 use Rattle.fleet_verify.specs.Faults.{HasStarts, HasRanges, AwaitsRight, EachAction}
-use Rattle.fleet_model.proofs.Places.{is_same_place-true, is_same_place-eq}
+use Rattle.fleet_model.proofs.Cells.{is_same_place-true, is_same_place-eq}
 use Rattle.fleet_verify.proofs.FreeRun.{level, levels_are, order_all, IsOrder}
 
 -- ---- awaits

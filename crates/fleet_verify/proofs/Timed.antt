@@ -9,11 +9,10 @@ use Rattle.fleet_model.specs.declared.program.ActionId.{ActionId}
 use Rattle.fleet_model.specs.Program.{Program, moves, path}
 use Rattle.fleet_model.specs.Chain.{IsAction, DirectlyNeeds, ChainFrom, Reaches}
 use Rattle.fleet_model.specs.Visit.{IsVisitOf, ComesAfterByChain, IsOrderly, entering, leaving, next_move}
-use Rattle.fleet_model.proofs.Chains.{chain_first, Reaches-first, Reaches-last}
-use Rattle.fleet_model.proofs.Reaching.{own_reach}
+use Rattle.fleet_model.proofs.Chains.{chain_first, Reaches-first, Reaches-last, own_reach}
 use Rattle.fleet_model.proofs.Visits.{IsIn, is_in}
 use Rattle.fleet_model.specs.Schedule.{Schedule, IsBy, HasBegunBy, HasEndedBy, IsSchedule, MayBeOnAt, TakeAtLeast}
-use Rattle.fleet_verify.proofs.OrderedPairs.{two_ordered}
+use Rattle.fleet_verify.proofs.Listing.{two_ordered}
 
 -- ---- times
 

@@ -9,7 +9,7 @@ use Rattle.std.proofs.Math.Bool.{and-true}
 use Rattle.fleet_model.specs.declared.program.Visit.{Visit}
 use Rattle.fleet_model.specs.Machine.{Configuration, count_at, indices, run, tick, moved_in, is_held, is_moving, is_ready, is_over, is_finished, place_at, IsLeast, IsReached}
 use Rattle.fleet_model.specs.Program.{Program, moves, path, total_moves}
-use Rattle.fleet_model.proofs.Runs.{tick_agree}
+use Rattle.fleet_model.proofs.Tick.{tick_agree}
 use Rattle.fleet_machine.specs.Machine.{MachineState, Runs, flag_of, moving_flags}
 use Rattle.fleet_machine.proofs.Indices.{indices_more}
 use Rattle.fleet_machine.proofs.Resting.{some_counted, none_counts, rests_if}

@@ -1,5 +1,5 @@
 use Rattle.fleet_text.specs.Text.{lines}
-use Rattle.fleet_text.proofs.Verdicts.{one_value}
+use Rattle.fleet_text.proofs.StepLaws.{one_value}
 use Rattle.fleet_grid.proofs.FaultLaws.{tells}
 use Rattle.fleet_grid.proofs.StoredLaws.{off_map}
 use Rattle.fleet_grid.proofs.MapLaws.{sizes_are, cell_of}

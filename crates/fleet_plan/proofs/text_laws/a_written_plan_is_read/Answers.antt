@@ -1,6 +1,6 @@
 use Rattle.std.proofs.Common.{subst, sym}
 use Rattle.fleet_text.specs.Text.{Bytes, lines}
-use Rattle.fleet_text.proofs.Verdicts.{one_value}
+use Rattle.fleet_text.proofs.StepLaws.{one_value}
 use Rattle.fleet_plan.specs.PlanText.{plan_text, IsPlanText}
 use Rattle.fleet_plan.proofs.PlanFaults.{tells}
 use Rattle.fleet_plan.proofs.Written.{plan_again}

@@ -1,7 +1,6 @@
 use Rattle.std.proofs.Common.{rules, [], ◌∷◌, sym}
 use Rattle.fleet_model.specs.Program.{awaits_of}
-use Rattle.fleet_text.proofs.SinkLemmas.{takes_err, stops_within_more}
-use Rattle.fleet_text.proofs.RowLemmas.{stops_before, stops_past, takes_rest}
+use Rattle.fleet_text.proofs.SinkLemmas.{takes_err, stops_within_more, stops_before, stops_past, takes_rest}
 use Rattle.fleet_text.specs.Words.{spaced, next_words, numbered_text}
 use Rattle.fleet_run.specs.Text.{place_text}
 use Rattle.fleet_run.specs.Listing.{step_words, await_words}

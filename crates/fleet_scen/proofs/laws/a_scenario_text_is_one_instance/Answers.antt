@@ -1,5 +1,5 @@
 use Rattle.fleet_text.specs.Text.{lines}
-use Rattle.fleet_text.proofs.Verdicts.{one_value}
+use Rattle.fleet_text.proofs.StepLaws.{one_value}
 use Rattle.fleet_scen.proofs.ScenFaults.{tells}
 use Rattle.fleet_scen.proofs.laws.a_scenario_text_is_one_instance.Goals as goal
 

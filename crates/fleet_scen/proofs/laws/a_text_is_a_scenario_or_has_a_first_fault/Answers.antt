@@ -1,5 +1,5 @@
 use Rattle.fleet_text.specs.Text.{lines}
-use Rattle.fleet_text.proofs.Verdicts.{one_verdict}
+use Rattle.fleet_text.proofs.StepLaws.{one_verdict}
 use Rattle.fleet_scen.proofs.ScenFaults.{tells}
 use Rattle.fleet_scen.proofs.laws.a_text_is_a_scenario_or_has_a_first_fault.Goals as goal
 

@@ -1,5 +1,5 @@
 use Rattle.std.proofs.Common.{◌∷◌, []}
-use Rattle.fleet_text.proofs.RowLemmas.{gathers_then, gathers_err, stops_before}
+use Rattle.fleet_text.proofs.SinkLemmas.{gathers_then, gathers_err, stops_before}
 use Rattle.fleet_text.specs.Words.{word_text}
 use Rattle.fleet_text.proofs.writing.put_next_word.Goals as goal
 

@@ -1,5 +1,5 @@
 use Rattle.std.proofs.Common.{decimal, ◌++◌, ◌∷◌, []}
-use Rattle.fleet_text.proofs.RowLemmas.{gathers_then, gathers_err, stops_before}
+use Rattle.fleet_text.proofs.SinkLemmas.{gathers_then, gathers_err, stops_before}
 use Rattle.fleet_text.proofs.writing.put_two.Goals as goal
 
 pub returns : goal.returns

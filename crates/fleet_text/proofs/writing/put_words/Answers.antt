@@ -1,5 +1,4 @@
-use Rattle.fleet_text.proofs.RowLemmas.{gathers_err}
-use Rattle.fleet_text.proofs.WordLemmas.{passed_more, passed_all, stops_within_first, stops_within_next}
+use Rattle.fleet_text.proofs.SinkLemmas.{gathers_err, passed_more, passed_all, stops_within_first, stops_within_next}
 use Rattle.fleet_text.proofs.writing.put_words.Goals as goal
 
 pub returns-in_err-put_next_word : goal.returns-in_err-put_next_word

@@ -1,6 +1,5 @@
-use Rattle.fleet_verify.proofs.Listing.{levels_number}
+use Rattle.fleet_verify.proofs.Listing.{levels_number, unordered_refuses}
 use Rattle.fleet_verify.proofs.Unordered.{neighbours_unordered}
-use Rattle.fleet_verify.proofs.OrderedPairs.{unordered_refuses}
 use Rattle.fleet_verify.proofs.exactness.unordered_visits_are_found.Goals as goal
 
 pub returns : goal.returns

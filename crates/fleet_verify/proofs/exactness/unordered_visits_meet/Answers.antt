@@ -1,4 +1,4 @@
-use Rattle.fleet_verify.proofs.OrderedPairs.{as_visit}
+use Rattle.fleet_verify.proofs.Listing.{as_visit}
 use Rattle.fleet_verify.proofs.BreakingExists.{breaking_made}
 use Rattle.fleet_verify.proofs.BreakingMeets.{breaking_conflict}
 use Rattle.fleet_verify.proofs.exactness.unordered_visits_meet.Goals as goal

@@ -1,7 +1,6 @@
 use Rattle.std.proofs.Common.{rules}
-use Rattle.fleet_text.proofs.RowLemmas.{gathers_err}
+use Rattle.fleet_text.proofs.SinkLemmas.{gathers_err, passed_element, stops_within_element}
 use Rattle.fleet_verify.specs.RefusalWords.{action_text}
-use Rattle.fleet_text.proofs.WordLemmas.{passed_element, stops_within_element}
 use Rattle.fleet_verify.proofs.fault.put_actions.Goals as goal
 
 pub returns-in_err-put_next_word : goal.returns-in_err-put_next_word

@@ -1,6 +1,5 @@
 use Rattle.std.proofs.Common.{rules, map, ◌∷◌, [], codes, decimal}
-use Rattle.fleet_text.proofs.RowLemmas.{takes_rest}
-use Rattle.fleet_text.proofs.SinkLemmas.{takes_err, stops_within_more}
+use Rattle.fleet_text.proofs.SinkLemmas.{takes_rest, takes_err, stops_within_more}
 use Rattle.fleet_text.specs.Words.{spaced}
 use Rattle.fleet_verify.specs.RefusalWords.{action_text}
 use Rattle.fleet_verify.proofs.fault.put_ring.Goals as goal

@@ -1,6 +1,5 @@
 use Rattle.std.proofs.Common.{rules, map, ◌∷◌, [], codes, decimal}
-use Rattle.fleet_text.proofs.RowLemmas.{gathers_err, gathers_then, stops_before}
-use Rattle.fleet_text.proofs.WordLemmas.{spaced_lists}
+use Rattle.fleet_text.proofs.SinkLemmas.{gathers_err, gathers_then, stops_before, spaced_lists}
 use Rattle.fleet_text.specs.Words.{next_words, spaced}
 use Rattle.fleet_verify.specs.RefusalWords.{action_text}
 use Rattle.fleet_verify.proofs.fault.put_ring_words.Goals as goal

@@ -1,6 +1,5 @@
 use Rattle.std.proofs.Common.{length, ◌++◌, ◌∙◌, sym, ap, arith}
-use Rattle.fleet_text.proofs.SinkLemmas.{takes_then, stops_within_more}
-use Rattle.fleet_text.proofs.RowLemmas.{gathers_whole, gathers_err, kept_in_row}
+use Rattle.fleet_text.proofs.SinkLemmas.{takes_then, stops_within_more, gathers_whole, gathers_err, kept_in_row}
 use Rattle.fleet_text.proofs.row.Row.add.Goals as goal
 
 pub returns-then-is_long : goal.returns-then-is_long

@@ -1,5 +1,5 @@
 use Rattle.std.proofs.Common.{◌∷◌, []}
-use Rattle.fleet_text.proofs.RowLemmas.{takes_handed}
+use Rattle.fleet_text.proofs.SinkLemmas.{takes_handed}
 use Rattle.fleet_text.proofs.row.Row.end_line.Goals as goal
 
 pub returns : goal.returns

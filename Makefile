@@ -3,6 +3,8 @@
 PREFIX ?= /usr/local
 BUILT = crates/fleet/out/fleet
 LOG = crates/fleet/out/build.log
+# How many crates are proved side by side: one for each processor, if each has 3 GB.
+JOBS ?= $(shell awk -v n="$$(getconf _NPROCESSORS_ONLN)" '/^MemAvailable/ { m = int($$2 / 3e6) } END { if (m > n) m = n; print m < 1 ? 1 : m }' /proc/meminfo)
 # Another program to try: make examples FLEET=PATH
 FLEET = $(BUILT)
 SOURCES = crates.txt $(shell find crates -path '*/out' -prune -o \( -name '*.rt' -o -name '*.antt' \) -print)
@@ -33,11 +35,12 @@ test:
 	rt ci
 	@$(MAKE) --no-print-directory examples
 
-# Proves the crates, and then builds the program and has it print its help. What the prover says goes to a file.
+# Proves the crates, as many side by side as there are processors and memory for, and then builds the program and has it
+# print its help. What the prover says goes to a file.
 $(BUILT): $(SOURCES)
 	@mkdir -p $(@D)
 	@echo 'Proving the crates and building fleet: a quarter of an hour the first time. The lines of the prover go to $(LOG).'
-	@(cd crates/fleet && rt run -- --help) > $(LOG) 2>&1 || { tail -n 20 $(LOG); exit 1; }
+	@(rt all check --jobs $(JOBS) && cd crates/fleet && rt run -- --help) > $(LOG) 2>&1 || { tail -n 20 $(LOG); exit 1; }
 	@touch $@
 
 examples: $(FLEET)

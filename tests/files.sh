@@ -114,3 +114,19 @@ check 'six words reach the program' 0 'agents 3\nticks 6\nchain 4\nheld 2\n' '' 
 check 'eight words reach the program' 0 'agents 2\nticks 5\nchain 3\nheld 2\n' '' "fleet auto $M $S --agents 2 --deps all --holds $H | tail -n 4"
 check 'bytes are read whole' 0 '' '' "fleet rehearse $B > a; fleet < examples/corridor.hex > b; cmp a b"
 check 'no file of a reader is changed' 0 '' '' "diff -r examples '$root/examples'"
+
+# A process that is killed while it writes OUT, at times drawn by lot, leaves what stood there or a front of the bytes.
+# The next one writes all of them.
+cat > "$work/bin/kill_writers" <<'EOF'
+#!/bin/sh
+W='examples/warehouse.map examples/warehouse.scen'
+fleet plan $W > plan && fleet compile $W plan whole --deps all > said || exit
+for after in $(awk 'BEGIN { s = 271; for (k = 0; k < 40; k++) { s = s * 16807 % 2147483647; printf "0.%05d\n", s % 4000 } }'); do
+    echo old > out
+    timeout -s KILL "$after" fleet compile $W plan out --deps all > /dev/null 2>&1
+    [ "$(cat out | tr -d '\0')" = old ] || head -c "$(wc -c < out)" whole | cmp - out || exit
+done
+fleet compile $W plan out --deps all | cmp - said && cmp out whole
+EOF
+chmod +x "$work/bin/kill_writers"
+check 'OUT of a process that is killed' 0 '' '' kill_writers

@@ -23,7 +23,8 @@ use crate::intervals::{
     Occupancy, SafeInterval, begins_after, count_begun, earliest_within, interval_after,
 };
 use crate::labels::Arrivals;
-use crate::reservations::{ReservationTable, Reservations};
+use crate::reservation_table::ReservationTable;
+use crate::reservations::Reservations;
 use crate::rows::{clear_rows, put_in_row, take_from_row};
 use crate::state::State;
 use fleet_grid::Grid;

@@ -18,6 +18,6 @@ done < "$work/crates" > "$work/sources"
 while read -r crate; do
     [ ! -f "crates/$crate/specs/Lib.antt" ] || sed -n "s|^pub mod \(.*\)|crates/$crate/specs/\1.antt|p" "crates/$crate/specs/Lib.antt"
 done < "$work/crates" > "$work/specs"
-cat "$work/sources" "$work/specs" | xargs awk -f tools/reached.awk > "$work/reached"
+cat "$work/sources" "$work/specs" | xargs awk -f tools/reached.awk tests/names.txt > "$work/reached"
 cat tools/definitions.md
 xargs awk -v reached="$work/reached" -f tools/definitions.awk < "$work/specs"

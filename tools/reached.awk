@@ -1,7 +1,17 @@
-# Which definitions of specs/ the public clauses reach: those that a contract of a function, or what is said of a type, names that a crate
-# hands out, with all that these cite. tools/definitions.sh gives the files: each crate's src/lib.rt before its other sources, and then specs/.
-#     awk -f tools/reached.awk crates/NAME/src/lib.rt crates/NAME/src/FILE.rt .. crates/NAME/specs/FILE.antt ..
+# Which definitions of specs/ the public clauses reach: those that a contract of a function, or what is said of a type, names that users are
+# handed, with all that these cite. A crate of which tests/names.txt has names hands out all that its root does; of the others count what
+# that list has by way of another crate. tools/definitions.sh gives the files: each crate's src/lib.rt before its other sources, then specs/.
+#     awk -f tools/reached.awk tests/names.txt crates/NAME/src/lib.rt crates/NAME/src/FILE.rt .. crates/NAME/specs/FILE.antt ..
 # Writes a line CRATE.FILE NAME for each.
+
+BEGIN { is_found_in["fleet_dispatch"] = 1 }
+
+FILENAME ~ /names\.txt$/ {
+    split($0, part, "::")
+    is_found_in[part[1]] = 1
+    is_listed[part[2]] = 1
+    next
+}
 
 FNR == 1 {
     n = split(FILENAME, part, "/")
@@ -23,7 +33,7 @@ is_root && (/^pub use / || used != "") {
     sub(/^.*::/, "", used)
     gsub(/[^A-Za-z0-9_]+/, " ", used)
     n = split(used, one, " ")
-    for (i = 1; i <= n; i++) handed[crate, one[i]] = 1
+    for (i = 1; i <= n; i++) if (crate in is_found_in || one[i] in is_listed) handed[crate, one[i]] = 1
     used = ""
     next
 }

@@ -105,10 +105,11 @@ fn tell_instruction(one: Instruction, told: &mut Vec<u32>) -> Result<(), AllocEr
     match one {
         Instruction::Await(awaited) => {
             told.push(u32::from(awaited.agent))?;
-            told.push(awaited.count)
+            told.push(awaited.count)?;
         }
-        Instruction::Step(step) => told.push(number_of(step)),
+        Instruction::Step(step) => told.push(number_of(step))?,
     }
+    Ok(())
 }
 
 /// Adds the instructions of agent `i` from front to back, and last how many awaits it has.
@@ -127,7 +128,8 @@ fn tell_instructions<P: ProgramView>(
         }
         tell_instruction(program.instruction(i, finished, before, awaits), told)?;
     }
-    told.push(program.awaits_before(i, program.moves(i)))
+    told.push(program.awaits_before(i, program.moves(i)))?;
+    Ok(())
 }
 
 /// What is read of all agents of a view's program, one after another.
@@ -144,7 +146,10 @@ fn views_are_read_from_front_to_back(rt: HostRuntime) -> Result<(), Fail> {
     let alloc = rt.alloc();
     let pair = [1, 1, 0, 0, 1, 1, 0, 2, 1, 2];
     let staying = [1, 1, 4, 4, 0, 0, 1, 1, 0, 2, 1, 4, 4, 2];
-    for (bytes, due) in [(PAIR_BYTES, pair.as_slice()), (STAYING_BYTES, staying.as_slice())] {
+    for (bytes, due) in [
+        (PAIR_BYTES, pair.as_slice()),
+        (STAYING_BYTES, staying.as_slice()),
+    ] {
         assert_eq!(rt; read_by(alloc, &load(alloc, bytes)?)?.as_slice(), due);
         assert_eq!(rt; read_by(alloc, &view(alloc, bytes)?)?.as_slice(), due);
     }

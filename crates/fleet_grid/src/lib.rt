@@ -4,11 +4,9 @@
 #![tactic(auto)]
 
 mod fault;
-mod glyphs;
 mod grid;
 mod laws;
 mod reading;
-mod stored;
 mod table;
 
 pub use fault::MapFault;

@@ -9,7 +9,7 @@ use Rattle.fleet_model.specs.declared.geometry.Step.{Step}
 use Rattle.fleet_model.specs.declared.geometry.Step.TheVariants.{Dwell}
 use Rattle.fleet_model.specs.declared.program.Await.{Await}
 use Rattle.fleet_model.specs.declared.program.Action.{Action}
-use Rattle.fleet_model.specs.declared.step_code.StepCode.{StepCode}
+use Rattle.fleet_model.specs.declared.geometry.StepCode.{StepCode}
 use Rattle.fleet_model.specs.ActionRows.{coded_step, steps_in, actions_after, actions_in, RiseTo, AreRows}
 
 -- as many as there are steps

@@ -4,8 +4,8 @@ use Rattle.std.specs.Prelude.{◌≡◌, ℕ, ◌≤◌, List, [], ◌∷◌, le
 use Rattle.fleet_model.specs.declared.geometry.Dir.TheVariants.{North, East, South, West}
 use Rattle.fleet_model.specs.declared.geometry.Step.{Step}
 use Rattle.fleet_model.specs.declared.geometry.Step.TheVariants.{Go, Dwell}
-use Rattle.fleet_model.specs.declared.step_code.StepCode.{StepCode}
-use Rattle.fleet_model.specs.declared.step_code.StepCode.TheVariants.{North as ToNorth, East as ToEast, South as ToSouth, West as ToWest, Stay}
+use Rattle.fleet_model.specs.declared.geometry.StepCode.{StepCode}
+use Rattle.fleet_model.specs.declared.geometry.StepCode.TheVariants.{North as ToNorth, East as ToEast, South as ToSouth, West as ToWest, Stay}
 use Rattle.fleet_model.specs.declared.program.Await.{Await}
 use Rattle.fleet_model.specs.declared.program.Action.{Action}
 

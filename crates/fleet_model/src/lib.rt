@@ -8,7 +8,6 @@ mod limits;
 mod memory;
 mod program;
 mod standing;
-mod step_code;
 mod task;
 mod view;
 

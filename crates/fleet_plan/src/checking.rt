@@ -1,19 +1,18 @@
-//! Whether a plan is free of conflict for a map and an instance.
+//! Plans that were judged: those free of conflict, and the first fault of the others.
 
-ghost use Rattle.std.specs.Prelude.{◌≡◌, ◌≢◌, IfOk, IfErr};
+ghost use Rattle.std.specs.Prelude.{◌≡◌, ◌≢◌, IfOk, IfErr, IfSome, IfNone, length};
 ghost use Rattle.fleet_grid.specs.Ground.{is_passable};
 ghost use Rattle.fleet_plan.specs.Plan.{IsConflictFree};
-ghost use Rattle.fleet_plan.specs.FirstFault.{IsFirstPlanFault};
+ghost use Rattle.fleet_plan.specs.FirstFault.{IsFirstPlanFault, StartsOnStart, EndsOnGoal, AllAgents, IsFirstFaultyAgent};
+ghost use Rattle.fleet_plan.specs.Checked.{IsCheckedFor};
 
-use crate::checked::Checked;
-use crate::ends::{first_wrong_goal, first_wrong_start};
-use crate::plan::Plan;
+use crate::plan::{Plan, first_wrong_step};
 use crate::plan_fault::{PlanFault, PlanRefusal};
-use crate::steps::first_wrong_step;
 use crate::sweep::first_conflict;
 use fleet_grid::Grid;
 use fleet_scen::Instance;
 use std::alloc::Global;
+use std::marker::Model;
 
 /// Judges a plan for a map and an instance. A plan that is free of conflict (Stern et al. 2019) becomes a `Checked`;
 /// each other one is refused with its first fault, and handed back. `OutOfMemory` may stand in place of any answer.
@@ -71,4 +70,92 @@ fn first_fault(
         Some(conflict) => Err(PlanFault::Conflict(conflict)),
         None => Ok(()),
     }
+}
+
+/// A plan that is free of conflict (Stern et al. 2019) for a map and an instance: each agent goes from its start to its
+/// goal over passable cells, and there is no vertex, swapping or cycle conflict. Only `check` makes one.
+///
+/// No method takes memory.
+#[derive(Drop)]
+pub struct Checked<'g> {
+    plan: Plan,
+    grid: &'g Grid,
+    instance: &'g Instance,
+}
+
+impl<'g> Model for Checked<'g> {
+    ghost use Rattle.fleet_plan.specs.Checked.{CheckedParts, IsCheckedFor};
+
+    ghost Value = { CheckedParts };
+
+    ghost view = { λ c. record { plan = c.plan; grid = c.grid.now; instance = c.instance.now } };
+
+    ghost invariant = { λ c. IsCheckedFor c.grid.now c.instance.now c.plan };
+}
+
+impl<'g> Checked<'g> {
+    /// The plan, which is free of conflict for the map and the instance.
+    pub(crate) fn new(plan: Plan, grid: &'g Grid, instance: &'g Instance) -> Self
+        requires { IsCheckedFor grid.now instance.now plan }
+        ensures plan { result.plan ≡ plan }
+        ensures grid { result.grid ≡ grid.now }
+        ensures instance { result.instance ≡ instance.now }
+    {
+        Checked {
+            plan,
+            grid,
+            instance,
+        }
+    }
+
+    /// The plan.
+    pub fn plan(&self) -> &Plan
+        ensures value { result.now ≡ self.now.plan }
+        ensures checked { IsCheckedFor self.now.grid self.now.instance self.now.plan }
+    {
+        &self.plan
+    }
+
+    /// The map that the plan was checked for.
+    pub fn grid(&self) -> &'g Grid
+        ensures { result.now ≡ self.now.grid }
+    {
+        self.grid
+    }
+
+    /// The instance that the plan was checked for.
+    pub fn instance(&self) -> &'g Instance
+        ensures { result.now ≡ self.now.instance }
+    {
+        self.instance
+    }
+}
+
+/// The least agent that does not begin on its start.
+pub(crate) fn first_wrong_start(plan: &Plan, instance: &Instance) -> Option<u16>
+    requires { length plan.now ≡ length instance.now }
+    ensures some { IfSome result (IsFirstFaultyAgent plan.now
+        (StartsOnStart instance.now plan.now)) }
+    ensures none { IfNone result (AllAgents plan.now (StartsOnStart instance.now plan.now)) }
+{
+    for i in 0..plan.agents() {
+        if plan.cell(i, 0) != instance.start(i) {
+            return Some(i);
+        }
+    }
+    None
+}
+
+/// The least agent that does not end on its goal.
+pub(crate) fn first_wrong_goal(plan: &Plan, instance: &Instance) -> Option<u16>
+    requires { length plan.now ≡ length instance.now }
+    ensures some { IfSome result (IsFirstFaultyAgent plan.now (EndsOnGoal instance.now plan.now)) }
+    ensures none { IfNone result (AllAgents plan.now (EndsOnGoal instance.now plan.now)) }
+{
+    for i in 0..plan.agents() {
+        if plan.last_cell(i) != instance.goal(i) {
+            return Some(i);
+        }
+    }
+    None
 }

@@ -2,23 +2,19 @@
 #![tactic(auto)]
 
 mod cells;
-mod checked;
 mod checking;
-mod ends;
 mod fault_laws;
 mod numbers;
 mod plan;
 mod plan_fault;
 mod reading;
 mod rings;
-mod steps;
 mod sweep;
 mod text_fault;
 mod text_laws;
 mod writing;
 
-pub use checked::Checked;
-pub use checking::check;
+pub use checking::{Checked, check};
 pub use fault_laws::a_plan_is_free_or_has_a_first_fault;
 pub use plan::{Path, Plan};
 pub use plan_fault::{Conflict, PlanFault, PlanRefusal};

@@ -2,7 +2,7 @@
 use Rattle.std.proofs.Common.{◌≡◌, List, [], ◌∷◌, Option, Some, None, refl}
 use Rattle.std.specs.Prelude.{option_and_then, if◌then◌else◌}
 use Rattle.fleet_text.specs.Text.{Bytes}
-use Rattle.fleet_scen.specs.declared.fields.Fields.{Fields}
+use Rattle.fleet_scen.specs.declared.reading.Fields.{Fields}
 use Rattle.fleet_scen.specs.Fields.{two_words, two_numbers, is_one_word, fields_of}
 
 -- two words, then three pairs of numbers, and one word after them

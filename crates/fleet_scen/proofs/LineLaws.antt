@@ -15,7 +15,7 @@ use Rattle.fleet_text.specs.Steps.{◌>>=◌, ◌>>◌, right_or, some_or}
 use Rattle.fleet_text.proofs.StepLaws.{bind_ok, right_ok, ok_is, bind_err, right_err, err_is}
 use Rattle.fleet_scen.specs.declared.fault.ScenFault.{ScenFault}
 use Rattle.fleet_scen.specs.declared.fault.ScenFault.TheVariants.{Fields, Number, OtherMap, Blocked, SharedStart, SharedGoal}
-use Rattle.fleet_scen.specs.declared.fields.Fields as fields_type
+use Rattle.fleet_scen.specs.declared.reading.Fields as fields_type
 use Rattle.fleet_scen.specs.Fields.{fields_of}
 use Rattle.fleet_scen.specs.ScenText.{Line, numbers_in, numbers_of, SpellsTask, HasPassableEnds, StandsForTask}
 use Rattle.fleet_scen.specs.ScenReading.{starts_at, ends_at, numbers_at, task_at, apart_at}

@@ -1,7 +1,7 @@
 -- The fields of an agent's line that are read.
 use Rattle.std.specs.Prelude.{ℕ, Bool, true, false, List, [], ◌∷◌, Option, Some, None, option_map}
 use Rattle.fleet_text.specs.Text.{Bytes, small_number}
-use Rattle.fleet_scen.specs.declared.fields.Fields.{Fields}
+use Rattle.fleet_scen.specs.declared.reading.Fields.{Fields}
 
 -- the first two words, and those after them
 abbrev pub two_words : List Bytes → Option (Bytes × Bytes × List Bytes)

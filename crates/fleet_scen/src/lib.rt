@@ -4,7 +4,6 @@
 #![tactic(auto)]
 
 mod fault;
-mod fields;
 mod instance;
 mod laws;
 mod reading;

@@ -1,18 +1,18 @@
-//! The reader of scenarios.
+//! Reading a scenario from its text.
 
-ghost use Rattle.std.specs.Prelude.{◌≡◌, ◌≢◌, ◌<◌, ◌+◌, ◌^◌, List, [], length, All, IfOk, IfErr, IsOkUnless};
+ghost use Rattle.std.specs.Prelude.{◌≡◌, ◌≢◌, ◌<◌, ◌+◌, ◌^◌, List, [], length, All, IfOk, IfErr, IsOkUnless, option_map};
 ghost use Rattle.fleet_model.specs.declared.task.Task.{Task};
 ghost use Rattle.fleet_model.specs.Answer.{IsDueUnless};
 ghost use Rattle.fleet_text.specs.Text.{lines, words};
 ghost use Rattle.fleet_scen.specs.ScenText.{is_filled, is_version, HasPassableEnds, IsScenText, IsFirstScenFault};
 ghost use Rattle.fleet_scen.specs.ScenReading.{pair_at, numbers_at, task_at, lacks, enough_tasks, tasks_at, after_version, judge_asked, scen_at};
+ghost use Rattle.fleet_scen.specs.Fields.{two_words, two_numbers, is_one_word, fields_of};
 
 use crate::fault::ScenFault;
-use crate::fields::{fields_of, two_words};
 use crate::instance::Instance;
 use fleet_grid::Grid;
 use fleet_model::{Cell, MAX_AGENTS, Task};
-use fleet_text::{Cursor, next_word};
+use fleet_text::{Cursor, next_word, small_number_of};
 use std::alloc::Global;
 use std::collections::HashSet;
 
@@ -222,4 +222,64 @@ pub fn read_scen(
 {
     let tasks = scen_of(alloc, bytes, grid, asked)?;
     Ok(Instance::new(tasks))
+}
+
+/// The fields that are read, each of which is `None` unless it is a number up to 65,535.
+#[derive(Clone, Copy)]
+pub struct Fields {
+    pub width: Option<u16>,
+    pub height: Option<u16>,
+    pub start_x: Option<u16>,
+    pub start_y: Option<u16>,
+    pub goal_x: Option<u16>,
+    pub goal_y: Option<u16>,
+}
+
+/// The first two words of a line and the line after them, if it has so many.
+pub fn two_words(line: &[u8]) -> Option<(&[u8], &[u8], &[u8])>
+    ensures { option_map (λ x. (x.0.now, x.1.now, words x.2.now)) result
+        ≡ two_words (words line.now) }
+{
+    let (first, rest) = next_word(line)?;
+    let (second, rest) = next_word(rest)?;
+    Some((first, second, rest))
+}
+
+/// What the first two words of a line spell, each a number or `None`, and the line after them, if it has so many.
+fn two_numbers(line: &[u8]) -> Option<(Option<u16>, Option<u16>, &[u8])>
+    ensures { option_map (λ x. (x.0, x.1, words x.2.now)) result ≡ two_numbers (words line.now) }
+{
+    let (first, second, rest) = two_words(line)?;
+    Some((small_number_of(first), small_number_of(second), rest))
+}
+
+/// Whether the line has one word.
+fn is_one_word(line: &[u8]) -> bool
+    ensures { result ≡ is_one_word (words line.now) }
+{
+    match next_word(line) {
+        Some((_word, rest)) => next_word(rest).is_none(),
+        None => false,
+    }
+}
+
+/// The fields of a line, if it has nine words.
+pub fn fields_of(line: &[u8]) -> Option<Fields>
+    ensures { result ≡ fields_of (words line.now) }
+{
+    let (_bucket, _name, rest) = two_words(line)?;
+    let (width, height, rest) = two_numbers(rest)?;
+    let (start_x, start_y, rest) = two_numbers(rest)?;
+    let (goal_x, goal_y, rest) = two_numbers(rest)?;
+    if !is_one_word(rest) {
+        return None;
+    }
+    Some(Fields {
+        width,
+        height,
+        start_x,
+        start_y,
+        goal_x,
+        goal_y,
+    })
 }

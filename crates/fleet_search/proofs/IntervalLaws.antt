@@ -5,7 +5,7 @@ use Rattle.std.proofs.lemmas.Bool.{cases_eq, cases_lt}
 use Rattle.fleet_model.specs.declared.geometry.Cell.{Cell}
 use Rattle.fleet_model.specs.declared.limits.TheConstants.{MAX_HORIZON}
 use Rattle.fleet_plan.specs.Plan.{Plan}
-use Rattle.fleet_search.specs.declared.occupancy.Occupancy.{Occupancy}
+use Rattle.fleet_search.specs.declared.intervals.Occupancy.{Occupancy}
 use Rattle.fleet_search.specs.Occupancies.{occupancy_at, no_occupancy, IsDuring, AreOccupanciesOn}
 use Rattle.fleet_search.specs.Intervals.{AreSuccessive, IsInInterval, AreBegun, IsEndAfter}
 use Rattle.fleet_search.specs.Reserved.{IsUnoccupied, IsFreeOn}

@@ -12,7 +12,7 @@ use Rattle.fleet_model.specs.Geometry.{place_of, moved}
 use Rattle.fleet_model.specs.declared.limits.TheConstants.{MAX_HORIZON}
 use Rattle.fleet_grid.specs.Ground.{is_passable, cell_index}
 use Rattle.fleet_search.specs.declared.state.State.{State}
-use Rattle.fleet_search.specs.declared.link.Link.{Link}
+use Rattle.fleet_search.specs.declared.frontier.Link.{Link}
 use Rattle.fleet_search.specs.declared.frontier.Query.{Query}
 use Rattle.fleet_search.specs.declared.frontier.Node.{Node}
 use Rattle.fleet_search.specs.declared.frontier.Expansion.{Expansion}

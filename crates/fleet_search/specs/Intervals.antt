@@ -1,7 +1,7 @@
 -- Safe intervals between the occupancies of agents on a cell: times at which nobody is there.
 use Rattle.std.specs.Prelude.{◌≡◌, ℕ, ◌<◌, ◌≤◌, List, length}
-use Rattle.fleet_search.specs.declared.occupancy.Occupancy.{Occupancy}
-use Rattle.fleet_search.specs.declared.occupancy.TheConstants.{FOREVER}
+use Rattle.fleet_search.specs.declared.intervals.Occupancy.{Occupancy}
+use Rattle.fleet_search.specs.declared.intervals.TheConstants.{FOREVER}
 use Rattle.fleet_search.specs.Occupancies.{occupancy_at}
 
 -- each occupancy begins after those before it have ended

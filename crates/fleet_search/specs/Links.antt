@@ -1,6 +1,6 @@
 -- Places of nodes in two halves.
 use Rattle.std.specs.Prelude.{ℕ, ◌+◌, ◌*◌}
-use Rattle.fleet_search.specs.declared.link.Link.{Link}
+use Rattle.fleet_search.specs.declared.frontier.Link.{Link}
 
 -- the place of the node to which the link leads
 abbrev pub place_in : Link → ℕ

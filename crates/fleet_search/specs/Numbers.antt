@@ -2,7 +2,7 @@
 use Rattle.std.specs.Prelude.{◌≡◌, ◌≢◌, ℕ, ◌≤◌, List, [], ◌∷◌, length, map, get_or, Vec}
 use Rattle.std.specs.declared.alloc.Global.{Global}
 use Rattle.fleet_model.specs.declared.geometry.Cell.{Cell}
-use Rattle.fleet_search.specs.declared.occupancy.Occupancy.{Occupancy}
+use Rattle.fleet_search.specs.declared.intervals.Occupancy.{Occupancy}
 
 -- the number of the cell; 0 if it has none
 unfoldable pub number_in_rows : List (Vec ℕ Global) → Cell → ℕ

@@ -5,9 +5,9 @@ use Rattle.std.specs.List.Sorted.{IsNonDecreasingBy}
 use Rattle.fleet_model.specs.declared.geometry.Cell.{Cell}
 use Rattle.fleet_model.specs.declared.limits.TheConstants.{MAX_HORIZON}
 use Rattle.fleet_plan.specs.Plan.{Plan, cell_of}
-use Rattle.fleet_search.specs.declared.occupancy.Occupancy.{Occupancy}
-use Rattle.fleet_search.specs.declared.occupancy.TheConstants.{FOREVER}
-use Rattle.fleet_search.specs.declared.reservation_table.ReservationTable.{ReservationTable}
+use Rattle.fleet_search.specs.declared.intervals.Occupancy.{Occupancy}
+use Rattle.fleet_search.specs.declared.intervals.TheConstants.{FOREVER}
+use Rattle.fleet_search.specs.declared.reservations.ReservationTable.{ReservationTable}
 use Rattle.fleet_search.specs.Numbers.{number_in_rows, list_of}
 use Rattle.fleet_search.specs.Way.{FitTogether}
 use Rattle.fleet_search.specs.Reserved.{StandsOn}

@@ -6,7 +6,7 @@ use Rattle.fleet_model.specs.Geometry.{place_of}
 use Rattle.fleet_model.specs.declared.limits.TheConstants.{MAX_HORIZON}
 use Rattle.fleet_plan.specs.Plan.{Plan, AreNeighbours, cell_at}
 use Rattle.fleet_search.specs.declared.state.State.{State}
-use Rattle.fleet_search.specs.declared.occupancy.Occupancy.{Occupancy}
+use Rattle.fleet_search.specs.declared.intervals.Occupancy.{Occupancy}
 use Rattle.fleet_search.specs.declared.frontier.Query.{Query}
 use Rattle.fleet_search.specs.declared.frontier.Node.{Node}
 use Rattle.fleet_search.specs.declared.frontier.Expansion.{Expansion}

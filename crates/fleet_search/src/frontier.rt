@@ -1,4 +1,5 @@
-//! The search over states, that is cells at times: the nodes that were made, and those that are still to be expanded.
+//! The search over states, that is cells at times: the nodes that were made, their places in the list of all, and those
+//! that are still to be expanded.
 //!
 //! An agent that comes to a cell may wait there for as long as nobody else comes. So of the times in a safe interval,
 //! between the occupancies of a cell by others, only the earliest counts (safe intervals: Phillips & Likhachev 2011).
@@ -15,14 +16,14 @@ ghost use Rattle.fleet_search.specs.Labels.{earliest_in, IsSeen};
 ghost use Rattle.fleet_search.specs.Rows.{bucket_of};
 ghost use Rattle.fleet_search.specs.Frontier.{IsAdded, IsNodeTaken, IsBucketDone};
 ghost use Rattle.fleet_search.specs.Search.{heuristic_of, no_node, occupancies_on, IsMeasured, IsGoalState, IsBucket, WasOpen, IsExpansion, ExpandsOn, IsFrontierOf, Grows, IsPosed, IsSearched, IsTrailOf, IsFreeUntil, IsFoundAt, IsFoundIn, IsFoundFrom, IsNeighbour, HasEnded, IsSuperseded};
+ghost use Rattle.fleet_search.specs.Links.{place_in};
 
-use crate::arrivals::Arrivals;
 use crate::distances::Distances;
-use crate::intervals::{SafeInterval, begins_after, earliest_within, interval_after};
-use crate::link::Link;
-use crate::occupancy::{Occupancy, count_begun};
-use crate::reservation_table::ReservationTable;
-use crate::reservations::Reservations;
+use crate::intervals::{
+    Occupancy, SafeInterval, begins_after, count_begun, earliest_within, interval_after,
+};
+use crate::labels::Arrivals;
+use crate::reservations::{ReservationTable, Reservations};
 use crate::rows::{clear_rows, put_in_row, take_from_row};
 use crate::state::State;
 use fleet_grid::Grid;
@@ -496,5 +497,34 @@ impl Frontier {
         }
         cells.reverse();
         Ok(Path::new(cells))
+    }
+}
+
+/// The place of a node, in two halves: so a node takes 10 bytes, and not the 12 to which a number of 32 bits would
+/// align it.
+#[derive(Clone, Copy)]
+pub struct Link {
+    pub high: u16,
+    pub low: u16,
+}
+
+impl Link {
+    /// The link to the node at this place.
+    #[inline(always)]
+    pub fn to(place: u32) -> Link
+        ensures { place_in result ≡ place }
+    {
+        Link {
+            high: (place / 65536) as u16,
+            low: (place % 65536) as u16,
+        }
+    }
+
+    /// The place of the node.
+    #[inline(always)]
+    pub fn place(self) -> u32
+        ensures { result ≡ place_in self }
+    {
+        u32::from(self.high) * 65536 + u32::from(self.low)
     }
 }

@@ -4,7 +4,6 @@
 #![tactic(auto)]
 
 mod alone;
-mod arrivals;
 mod best;
 mod distances;
 mod earliest_path;
@@ -13,13 +12,9 @@ mod frontier;
 mod intervals;
 mod labels;
 mod laws;
-mod link;
 mod measure;
-mod numbers;
-mod occupancy;
 mod orders;
 mod planner;
-mod reservation_table;
 mod reservations;
 mod rows;
 mod state;

@@ -4,24 +4,19 @@
 //! A text is a slice of any bytes. What is read is lent from the slice, and takes no memory.
 #![tactic(auto)]
 
-mod blocks;
-mod digits;
 mod lines;
 mod numbers;
 mod refusal;
 mod row;
 mod sink;
-mod sinks;
-mod words;
 mod writing;
 
-pub use blocks::{BLOCK, ByteClass, first_of};
-pub use digits::{write_byte, write_number, write_small_number};
-pub use lines::{Cursor, next_line};
-pub use numbers::{TOO_LARGE, number_of, small_number_front, small_number_of};
+pub use lines::{BLOCK, ByteClass, Cursor, first_of, from_front, is_blank, next_line, next_word};
+pub use numbers::{
+    TOO_LARGE, number_of, small_number_front, small_number_of, write_byte, write_number,
+    write_small_number,
+};
 pub use refusal::{Refusal, put_memory, put_named, put_named_at, put_named_by};
 pub use row::Row;
-pub use sink::{Flush, OutFault, TraceOut, put_all};
-pub use sinks::{VecOut, WriteOut};
-pub use words::{from_front, is_blank, next_word};
+pub use sink::{Flush, OutFault, TraceOut, VecOut, WriteOut, put_all};
 pub use writing::{Word, put_count, put_line, put_next_word, put_words};

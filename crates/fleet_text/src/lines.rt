@@ -1,13 +1,13 @@
-//! Lines of a text.
+//! The lines of a text, and the words of a line, which stand between its blanks.
 //!
 //! A text is a slice of any bytes. Nothing is copied and nothing takes memory: each function lends what it finds in the
-//! slice, and gives the rest of it.
+//! slice, and gives the rest of it. The end of a line is looked for by blocks of 64 bytes.
 
-ghost use Rattle.std.specs.Prelude.{◌≡◌, ◌≤◌, ◌<◌, ◌+◌, ◌^◌, [], ◌∷◌, length, MatchOption, sum_by};
+ghost use Rattle.std.specs.Prelude.{◌≡◌, ◌≤◌, ◌<◌, ◌+◌, ◌^◌, [], ◌∷◌, length, MatchOption, sum_by, not, position, ℕ, Bool, map};
 ghost use Rattle.std.specs.Str.Lines.{strip_carriage_return};
-ghost use Rattle.fleet_text.specs.Text.{is_lf, lines};
+ghost use Rattle.fleet_text.specs.Text.{is_lf, lines, is_blank, words, words_from_front};
+ghost use Rattle.std.specs.Simd.Lanes.{mask_l};
 
-use crate::blocks::{ByteClass, first_of};
 use std::marker::Model;
 use std::simd::prelude::*;
 
@@ -94,4 +94,87 @@ fn without_cr(line: &[u8]) -> &[u8]
         [front @ .., b'\r'] => front,
         _ => line,
     }
+}
+
+/// The first word of a line and the line after it, or `None` if no word is left.
+pub fn next_word(line: &[u8]) -> Option<(&[u8], &[u8])>
+    ensures { MatchOption result (words line.now ≡ [])
+        (λ x. words line.now ≡ x.0.now ∷ words x.1.now) }
+{
+    let line = &line[word_start(line)?..];
+    match word_end(line) {
+        Some(end) => Some((&line[..end], &line[end..])),
+        None => Some((line, &line[line.len()..])),
+    }
+}
+
+/// The place of the first byte that is no blank, if there is one.
+fn word_start(line: &[u8]) -> Option<usize>
+    ensures { result ≡ position (λ b. not (is_blank b)) line.now }
+{
+    line.iter().position(|b| !is_blank(*b))
+}
+
+/// The place of the first blank, if there is one.
+fn word_end(line: &[u8]) -> Option<usize>
+    ensures { result ≡ position is_blank line.now }
+{
+    line.iter().position(|b| is_blank(*b))
+}
+
+/// The line, or nothing of it if it begins with a blank.
+pub fn from_front(line: &[u8]) -> &[u8]
+    ensures { words result.now ≡ words_from_front line.now }
+{
+    match line {
+        [first, ..] if is_blank(*first) => &line[line.len()..],
+        _ => line,
+    }
+}
+
+/// Whether the byte is a space or a tab.
+pub fn is_blank(byte: u8) -> bool
+    ensures { result ≡ is_blank byte }
+{
+    byte == b' ' || byte == b'\t'
+}
+
+/// How many bytes a block has.
+pub const BLOCK: usize = 64;
+
+/// A class of bytes.
+pub trait ByteClass {
+    ghost test: { ℕ → Bool };
+
+    /// Whether a byte is of the class.
+    fn has(byte: u8) -> bool
+        ensures { result ≡ test byte };
+
+    /// Bit k says whether byte k of the block is of the class.
+    fn mask(block: u8x64) -> u64
+        ensures { result ≡ mask_l (map test block) };
+}
+
+/// The place of the first byte of the class, if there is one.
+pub fn first_of<C: ByteClass>(text: &[u8]) -> Option<usize>
+    ensures { result ≡ position C.test text.now }
+{
+    let mut rest = text;
+    while let Some((block, after)) = rest.split_first_chunk::<BLOCK>() {
+        let mask = C::mask(u8x64::from_array(*block));
+        let has_one = mask != 0;
+        if has_one {
+            return Some(text.len() - rest.len() + mask.trailing_zeros() as usize);
+        }
+        rest = after;
+    }
+    let place = first_by_byte::<C>(rest)?;
+    Some(text.len() - rest.len() + place)
+}
+
+/// The same, byte by byte.
+fn first_by_byte<C: ByteClass>(text: &[u8]) -> Option<usize>
+    ensures { result ≡ position C.test text.now }
+{
+    text.iter().position(|b| C::has(*b))
 }

@@ -5,7 +5,7 @@ ghost use Rattle.fleet_text.specs.Sink.{IsWorking, TakesAll};
 ghost use Rattle.fleet_text.specs.Row.{Gathers};
 ghost use Rattle.fleet_text.specs.Words.{word_text, spaced, line_text, count_line};
 
-use crate::digits::write_number;
+use crate::numbers::write_number;
 use crate::row::Row;
 use crate::sink::{OutFault, TraceOut};
 

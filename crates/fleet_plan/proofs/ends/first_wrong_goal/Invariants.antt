@@ -1,6 +1,0 @@
-use Rattle.std.proofs.Common.{ℕ, ◌<◌}
-use Rattle.fleet_plan.specs.FirstFault.{EndsOnGoal}
-use Rattle.fleet_plan.proofs.ends.first_wrong_goal.Given as goal
-
-abbrev pub invariant-loop-i : goal.invariant-loop-i
-invariant-loop-i l = (k : ℕ) → k < l.i → EndsOnGoal l.instance l.plan k

@@ -1,0 +1,8 @@
+use Rattle.std.proofs.Common.{ℕ, ◌<◌, ◌-◌, ◌≡◌}
+use Rattle.fleet_grid.specs.Ground.{is_passable}
+use Rattle.fleet_plan.specs.Plan.{cell_at}
+use Rattle.fleet_plan.specs.FirstFault.{IsRightAt}
+use Rattle.fleet_plan.proofs.plan.first_wrong_time.Given as goal
+
+abbrev pub invariant-loop-time : goal.invariant-loop-time
+invariant-loop-time l = (l.before ≡ cell_at l.path (l.time - 1)) × ((s : ℕ) → s < l.time → IsRightAt (is_passable l.grid) l.path s)

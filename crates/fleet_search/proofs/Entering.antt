@@ -7,7 +7,7 @@ use Rattle.fleet_model.proofs.Cells.{cell_cases}
 use Rattle.fleet_model.specs.declared.limits.TheConstants.{MAX_HORIZON}
 use Rattle.fleet_plan.specs.Plan.{Plan, cell_at}
 use Rattle.fleet_search.specs.declared.intervals.Occupancy.{Occupancy}
-use Rattle.fleet_search.specs.declared.reservations.ReservationTable.{ReservationTable}
+use Rattle.fleet_search.specs.declared.reservation_table.ReservationTable.{ReservationTable}
 use Rattle.fleet_search.specs.Way.{Fits, with_path, arrival}
 use Rattle.fleet_search.specs.Occupancies.{occupancies_of, IsDuring, IsOccupancyAdded, AreInOrder, AreOccupanciesOn, HaveOccupancies, without}
 use Rattle.fleet_search.proofs.Occupants.{cell_at-late}

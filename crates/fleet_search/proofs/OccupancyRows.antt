@@ -10,7 +10,7 @@ use Rattle.fleet_model.proofs.Cells.{cell_from_parts, cell_cases}
 use Rattle.fleet_plan.specs.Plan.{Plan}
 use Rattle.fleet_grid.proofs.Pages.{page-read, page-set, page-other}
 use Rattle.fleet_search.specs.declared.intervals.Occupancy.{Occupancy}
-use Rattle.fleet_search.specs.declared.reservations.ReservationTable.{ReservationTable}
+use Rattle.fleet_search.specs.declared.reservation_table.ReservationTable.{ReservationTable}
 use Rattle.fleet_search.specs.Numbers.{number_in_rows, IsNumbered, HaveOwnLists}
 use Rattle.fleet_search.specs.Occupancies.{occupancies_of, IsPutIn, IsOccupancyAdded, AreOccupanciesOn, without, occupancy_at}
 

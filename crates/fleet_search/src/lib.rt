@@ -15,6 +15,7 @@ mod laws;
 mod measure;
 mod orders;
 mod planner;
+mod reservation_table;
 mod reservations;
 mod rows;
 mod state;

@@ -1,7 +1,7 @@
 use Rattle.std.proofs.Common.{◌≡◌, sym, ap, ◌∙◌, arith}
 use Rattle.fleet_search.specs.Numbers.{number_in_rows}
 use Rattle.fleet_search.proofs.OccupancyRows.{occupancies-numbered, list_at-read}
-use Rattle.fleet_search.proofs.reservations.ReservationTable.occupancies.Goals as goal
+use Rattle.fleet_search.proofs.reservation_table.ReservationTable.occupancies.Goals as goal
 
 pub returns-then-has_none : goal.returns-then-has_none
 returns-then-has_none c =

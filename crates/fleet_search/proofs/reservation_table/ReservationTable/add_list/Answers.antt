@@ -1,7 +1,7 @@
 use Rattle.std.proofs.Common.{◌≡◌, ◌+◌, length, refl, subst, arith}
 use Rattle.fleet_search.specs.Numbers.{IsNumbered}
 use Rattle.fleet_search.proofs.OccupancyRows.{occupancies-same, list-unused, list-begun}
-use Rattle.fleet_search.proofs.reservations.ReservationTable.add_list.Goals as goal
+use Rattle.fleet_search.proofs.reservation_table.ReservationTable.add_list.Goals as goal
 
 pub returns-in_err-push-clause-same : goal.returns-in_err-push-clause-same
 returns-in_err-push-clause-same c = occupancies-same c.args.self.now _ refl c.in_err-push.ensures.items

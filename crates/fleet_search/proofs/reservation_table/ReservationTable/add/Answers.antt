@@ -2,7 +2,7 @@ use Rattle.std.proofs.Common.{sym, ◌∙◌, subst, refl}
 use Rattle.std.proofs.lemmas.Result.{on_ok_weaker, on_err_weaker}
 use Rattle.fleet_search.specs.Occupancies.{AreInOrder}
 use Rattle.fleet_search.proofs.OccupancyRows.{list-here, list-same, list-added}
-use Rattle.fleet_search.proofs.reservations.ReservationTable.add.Goals as goal
+use Rattle.fleet_search.proofs.reservation_table.ReservationTable.add.Goals as goal
 
 pub place-requires : goal.place-requires
 place-requires c =

@@ -6,8 +6,8 @@ use Rattle.fleet_model.specs.declared.limits.TheConstants.{MAX_HORIZON}
 use Rattle.fleet_plan.specs.Plan.{cell_at}
 use Rattle.fleet_search.specs.Occupancies.{without}
 use Rattle.fleet_search.proofs.Entering.{entered-none, entered-same, entered-more, entered-all, entered-rest, entered-order, from_ok_or_err}
-use Rattle.fleet_search.proofs.reservations.ReservationTable.add_all.Goals as goal
-use Rattle.fleet_search.proofs.reservations.ReservationTable.add_all.Goals.{then-ne+in_ok-add, else-ne}
+use Rattle.fleet_search.proofs.reservation_table.ReservationTable.add_all.Goals as goal
+use Rattle.fleet_search.proofs.reservation_table.ReservationTable.add_all.Goals.{then-ne+in_ok-add, else-ne}
 
 pub loop-time-init : goal.loop-time-init
 loop-time-init c = entered-none c.args.paths.now c.args.path.now c.args.self.now c.requires.occupancies

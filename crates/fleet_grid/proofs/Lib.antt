@@ -6,3 +6,4 @@ pub mod MapLaws
 pub mod FaultLaws
 pub mod HeaderLaws
 pub mod Pages
+pub mod ListLaws

@@ -8,7 +8,7 @@ use Rattle.fleet_grid.specs.declared.fault.MapFault.TheVariants.{OutOfMemory, Ro
 use Rattle.fleet_text.specs.Text.{Bytes}
 use Rattle.fleet_grid.specs.Ground.{passable_cells}
 use Rattle.fleet_grid.specs.MapText.{is_ground_glyph, cells_of}
-use Rattle.fleet_grid.specs.Stored.{stored_cells, byte_count, padded, rows_of, ground_of}
+use Rattle.fleet_grid.specs.Stored.{stored_cells, byte_count, with_padding, rows_of, ground_of}
 use Rattle.fleet_text.specs.Steps.{◌>>=◌}
 use Rattle.fleet_grid.specs.MapReading.{row_at, rows_at}
 use Rattle.fleet_grid.proofs.BitLaws.{length-cells_in}
@@ -79,25 +79,25 @@ count-cells_of [] = refl
 count-cells_of (b ∷ line) =
     sum_by-cons (λ (cell : Bool). cond cell 1 0) (is_ground_glyph b) (cells_of line) ∙ ap (λ n. cond (is_ground_glyph b) 1 0 + n) (count-cells_of line) ∙ sym (sum_by-cons (λ (g : ℕ). cond (is_ground_glyph g) 1 0) b line)
 
-module _ (w k : ℕ) (old new : List ℕ) (line : Bytes) (size : length old ≡ byte_count w * k) (width : length line ≡ w) (put : stored_cells new ≡ stored_cells old ++ padded (cells_of line)) where
+module _ (w k : ℕ) (old new : List ℕ) (line : Bytes) (size : length old ≡ byte_count w * k) (width : length line ≡ w) (put : stored_cells new ≡ stored_cells old ++ with_padding (cells_of line)) where
   length-cells : length (cells_of line) ≡ w
   length-cells = length-map line is_ground_glyph ∙ width
 
-  length-padded : length (padded (cells_of line)) ≡ 8 * byte_count w
-  unfolding padded
-  length-padded = omega (arith, length-append (cells_of line) (replicate (8 * byte_count (length (cells_of line)) - length (cells_of line)) false), length-replicate (8 * byte_count (length (cells_of line)) - length (cells_of line)) false, length-cells)
+  length-with_padding : length (with_padding (cells_of line)) ≡ 8 * byte_count w
+  unfolding with_padding
+  length-with_padding = omega (arith, length-append (cells_of line) (replicate (8 * byte_count (length (cells_of line)) - length (cells_of line)) false), length-replicate (8 * byte_count (length (cells_of line)) - length (cells_of line)) false, length-cells)
 
   pub size_put : length new ≡ byte_count w * (k + 1)
   size_put =
-      let bits : 8 * length new ≡ 8 * length old + 8 * byte_count w = sym (length-cells_in new) ∙ ap length put ∙ length-append (stored_cells old) (padded (cells_of line)) ∙ omega (arith, length-cells_in old, length-padded) in
+      let bits : 8 * length new ≡ 8 * length old + 8 * byte_count w = sym (length-cells_in new) ∙ ap length put ∙ length-append (stored_cells old) (with_padding (cells_of line)) ∙ omega (arith, length-cells_in old, length-with_padding) in
       omega (arith, bits, size)
 
   pub rows_put : stored_rows w (k + 1) new ≡ stored_rows w k old ++ cells_of line ∷ []
-  unfolding padded
+  unfolding with_padding
   rows_put =
       let pad = replicate (8 * byte_count (length (cells_of line)) - length (cells_of line)) false in
       let long : length (stored_cells old) ≡ 8 * byte_count w * k = length-cells_in old ∙ ap (λ n. 8 * n) size ∙ omega arith in
-      ap (rows_of w (8 * byte_count w) (k + 1)) put ∙ rows_of-push w (8 * byte_count w) k (stored_cells old) (cells_of line) pad long length-cells length-padded
+      ap (rows_of w (8 * byte_count w) (k + 1)) put ∙ rows_of-push w (8 * byte_count w) k (stored_cells old) (cells_of line) pad long length-cells length-with_padding
 
   pub count_put : (m n : ℕ) → m ≡ passable_cells (ground_of w k old) → n ≡ m + count_by is_ground_glyph line → n ≡ passable_cells (ground_of w (k + 1) new)
   count_put m n was added =

@@ -4,3 +4,4 @@ pub mod MapReading
 pub mod Stored
 pub mod RefusalWords
 pub mod Table
+pub mod Lists

@@ -18,8 +18,8 @@ abbrev pub byte_count : ℕ → ℕ
 byte_count n = (n + 7) / 8
 
 -- cells, and blocked ones up to the end of their last byte
-unfoldable pub padded : List Bool → List Bool
-padded cells = cells ++ replicate (8 * byte_count (length cells) - length cells) false
+unfoldable pub with_padding : List Bool → List Bool
+with_padding cells = cells ++ replicate (8 * byte_count (length cells) - length cells) false
 
 -- cells in a line, cut into rows of w cells, each of which begins p cells after the one before
 unfoldable pub rows_of : (w p h : ℕ) → List Bool → List (List Bool)

@@ -5,7 +5,7 @@ ghost use Rattle.fleet_model.specs.Geometry.{place_of, moved};
 ghost use Rattle.fleet_grid.specs.Ground.{is_passable, passable_cells, cell_index, IsNoCell, IsGround};
 ghost use Rattle.fleet_grid.specs.declared.grid.TheConstants.{MAX_SIDE};
 ghost use Rattle.fleet_grid.specs.MapText.{is_ground_glyph, cells_of};
-ghost use Rattle.fleet_grid.specs.Stored.{stored_cells, byte_count, padded};
+ghost use Rattle.fleet_grid.specs.Stored.{stored_cells, byte_count, with_padding};
 
 use crate::reading::ground_mask;
 use fleet_model::{Cell, Dir};
@@ -206,7 +206,7 @@ impl Cells {
         requires few { length line.now ≤ MAX_SIDE }
         requires count { self.old.passable_count + length line.now ≤ 2 ^ 24 }
         ensures bytes { OnOk result (stored_cells self.new.bytes.items
-            ≡ stored_cells self.old.bytes.items ++ padded (cells_of line.now)) }
+            ≡ stored_cells self.old.bytes.items ++ with_padding (cells_of line.now)) }
         ensures count { OnOk result (self.new.passable_count
             ≡ self.old.passable_count + count_by is_ground_glyph line.now) }
     {

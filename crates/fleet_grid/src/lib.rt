@@ -6,6 +6,7 @@
 mod fault;
 mod grid;
 mod laws;
+mod lists;
 mod reading;
 mod table;
 
@@ -14,5 +15,6 @@ pub use grid::{Grid, MAX_SIDE};
 pub use laws::{
     a_map_text_is_one_ground, a_text_is_a_map_or_has_a_first_fault, cells_have_places_of_their_own,
 };
+pub use lists::{Key, Lists};
 pub use reading::read_map;
 pub use table::{Table, extend_to};

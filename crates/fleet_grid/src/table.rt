@@ -7,7 +7,7 @@ ghost use Rattle.fleet_grid.specs.Table.{IsSet, AreSame, page_in, value_in};
 use std::alloc::{AllocError, Global};
 
 /// How many values stand in a page.
-const PAGE: usize = 1024;
+pub(crate) const PAGE: usize = 1024;
 
 /// A value for each number. It takes memory for the pages in which a value was set, and 24 bytes for each page up to
 /// the last of those.
@@ -78,11 +78,10 @@ pub fn extend_to<V: Copy>(
     pages: &mut Vec<Vec<V>>,
     page: usize,
 ) -> Result<(), AllocError>
-    requires { page < 18014398509481984 }
     ensures room { OnOk result (page < length pages.new.items) }
     ensures same { (k : ℕ) → page_in pages.new.items k ≡ page_in pages.old.items k }
 {
-    for _more in pages.len()..page + 1 {
+    while pages.len() <= page {
         pages.push(Vec::new(alloc))?;
     }
     Ok(())

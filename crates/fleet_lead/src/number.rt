@@ -1,7 +1,7 @@
 //! Numbers of 32 bits.
 
 ghost use Rattle.std.specs.Prelude.{◌≡◌, min, option_map, option_and_then, nat_lt, Some, None, if◌then◌else◌};
-ghost use Rattle.fleet_text.specs.Text.{number_front, capped, number};
+ghost use Rattle.fleet_text.specs.Text.{number_front, at_most, number};
 ghost use Rattle.fleet_run.specs.HoldText.{plain_number};
 ghost use Rattle.fleet_lead.specs.ReportText.{long_number};
 
@@ -12,7 +12,7 @@ pub const TOO_LONG: u64 = 4_294_967_296;
 /// answered as `TOO_LONG`; if no digit stands in front, there is none.
 fn number_front(text: &[u8]) -> Option<(u64, &[u8])>
     ensures { option_map (λ x. (x.0, x.1.now)) result
-        ≡ option_map (capped TOO_LONG) (number_front text.now) }
+        ≡ option_map (at_most TOO_LONG) (number_front text.now) }
 {
     let [first, after @ ..] = text else {
         return None;

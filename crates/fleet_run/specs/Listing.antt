@@ -8,7 +8,7 @@ use Rattle.fleet_model.specs.declared.geometry.Step.{Step}
 use Rattle.fleet_model.specs.declared.geometry.Step.TheVariants.{Go, Dwell}
 use Rattle.fleet_model.specs.declared.program.Await.{Await}
 use Rattle.fleet_model.specs.Program.{Program, start_of, goal_of, moves, step_of, awaits_of, path}
-use Rattle.fleet_text.specs.Words.{pair_text, numbered_text, spaced, line_text, next_words}
+use Rattle.fleet_text.specs.Words.{pair_text, numbered_text, with_spaces, line_text, next_words}
 use Rattle.fleet_run.specs.Text.{place_text}
 
 -- a direction by its name
@@ -40,7 +40,7 @@ agent_line i start goal =
 -- the line of action n of agent i that does this step: `i:n east to x,y after j:m ..`, with the place where the agent is then
 abbrev pub step_line : Program → ℕ → ℕ → Step → List ℕ
 step_line p i n step =
-    spaced (numbered_text i n ∷ step_words step) ++ (place_text (path p i n) ++ (next_words (await_words (awaits_of p i n)) ++ 10 ∷ []))
+    with_spaces (numbered_text i n ∷ step_words step) ++ (place_text (path p i n) ++ (next_words (await_words (awaits_of p i n)) ++ 10 ∷ []))
 
 -- the line of action n of agent i, if there is one
 abbrev pub action_line : Program → ℕ → ℕ → List ℕ

@@ -4,7 +4,7 @@ ghost use Rattle.std.specs.Prelude.{◌≡◌, ◌<◌, ◌≤◌, ◌∷◌, []
 ghost use Rattle.fleet_model.specs.Program.{IsWellFormed, path, moves, awaits_of};
 ghost use Rattle.fleet_text.specs.Sink.{IsWorking, TakesAll};
 ghost use Rattle.fleet_text.specs.Row.{Gathers};
-ghost use Rattle.fleet_text.specs.Words.{spaced, next_words, numbered_text};
+ghost use Rattle.fleet_text.specs.Words.{with_spaces, next_words, numbered_text};
 ghost use Rattle.fleet_run.specs.Text.{place_text};
 ghost use Rattle.fleet_run.specs.Listing.{dir_name, step_words, await_text, await_words, agent_line, action_line, actions_text, agent_text, program_text};
 
@@ -43,7 +43,7 @@ fn put_step<O: TraceOut>(
 ) -> Result<(), OutFault>
     requires { IsWorking (O.state out.old) }
     ensures { Gathers (O.state out.old) (O.state out.new) result row.old row.new
-        (spaced (numbered_text i n ∷ step_words step)) }
+        (with_spaces (numbered_text i n ∷ step_words step)) }
 {
     let (first, second) = step_words(step);
     put_words(

@@ -7,7 +7,7 @@ use Rattle.std.specs.Io.KnownBytes.{Keeps, Appends}
 use Rattle.fleet_text.specs.Sink.{SinkState, Takes, StopsWithin, TakesAll, IsWorking}
 use Rattle.fleet_text.specs.Row.{PassesOn, Gathers}
 use Rattle.fleet_text.specs.declared.writing.Word.{Word}
-use Rattle.fleet_text.specs.Words.{word_text, spaced, line_text, next_words}
+use Rattle.fleet_text.specs.Words.{word_text, with_spaces, line_text, next_words}
 
 -- what is kept has grown by nothing
 pub appends_nothing : (a b : Option (List ℕ)) → Keeps a b → Appends a b []
@@ -146,72 +146,72 @@ gathers_whole a c (Ok _) r t xs none h = record { handed = r ++ xs; taken = h; i
 gathers_whole a c (Err _) r t xs none h = h
 
 -- words after others
-pub spaced-append : (first : List ℕ) (xs ys : List (List ℕ)) → spaced (first ∷ (xs ++ ys)) ≡ spaced (first ∷ xs) ++ next_words ys
-spaced-append first [] [] = sym (append-nil first)
-spaced-append first [] (y ∷ ys) = ap (λ t. first ++ 32 ∷ t) (spaced-append y [] ys)
-spaced-append first (x ∷ xs) ys = rw (spaced-append x xs ys) (sym (append_assoc first (32 ∷ spaced (x ∷ xs)) (next_words ys)))
+pub with_spaces-append : (first : List ℕ) (xs ys : List (List ℕ)) → with_spaces (first ∷ (xs ++ ys)) ≡ with_spaces (first ∷ xs) ++ next_words ys
+with_spaces-append first [] [] = sym (append-nil first)
+with_spaces-append first [] (y ∷ ys) = ap (λ t. first ++ 32 ∷ t) (with_spaces-append y [] ys)
+with_spaces-append first (x ∷ xs) ys = rw (with_spaces-append x xs ys) (sym (append_assoc first (32 ∷ with_spaces (x ∷ xs)) (next_words ys)))
 
 -- one word more
-pub words_more : (first : Word) (rest : List Word) (i : ℕ) (d : Word) → i < length rest → spaced (map word_text (first ∷ take i rest)) ++ 32 ∷ word_text (get_or rest i d) ≡ spaced (map word_text (first ∷ take (i + 1) rest))
+pub words_more : (first : Word) (rest : List Word) (i : ℕ) (d : Word) → i < length rest → with_spaces (map word_text (first ∷ take i rest)) ++ 32 ∷ word_text (get_or rest i d) ≡ with_spaces (map word_text (first ∷ take (i + 1) rest))
 words_more first rest i d below =
     let one : 32 ∷ word_text (get_or rest i d) ≡ next_words (word_text (get_or rest i d) ∷ []) = sym (append-nil (32 ∷ word_text (get_or rest i d))) in
     let more : take (i + 1) rest ≡ take i rest ++ get_or rest i d ∷ [] = take_more rest i d below in
     let texts : map word_text (take (i + 1) rest) ≡ map word_text (take i rest) ++ word_text (get_or rest i d) ∷ [] =
     ap (map word_text) more ∙ map-append word_text (take i rest) (get_or rest i d ∷ []) in
-    ap (λ t. spaced (map word_text (first ∷ take i rest)) ++ t) one
-    ∙ sym (spaced-append (word_text first) (map word_text (take i rest)) (word_text (get_or rest i d) ∷ []))
-    ∙ ap (λ ts. spaced (word_text first ∷ ts)) (sym texts)
+    ap (λ t. with_spaces (map word_text (first ∷ take i rest)) ++ t) one
+    ∙ sym (with_spaces-append (word_text first) (map word_text (take i rest)) (word_text (get_or rest i d) ∷ []))
+    ∙ ap (λ ts. with_spaces (word_text first ∷ ts)) (sym texts)
 
 -- the words begin with those up to an index
-pub words_split : (first : Word) (rest : List Word) (i : ℕ) → spaced (map word_text (first ∷ rest)) ≡ spaced (map word_text (first ∷ take i rest)) ++ next_words (map word_text (drop i rest))
+pub words_split : (first : Word) (rest : List Word) (i : ℕ) → with_spaces (map word_text (first ∷ rest)) ≡ with_spaces (map word_text (first ∷ take i rest)) ++ next_words (map word_text (drop i rest))
 words_split first rest i =
-    ap (λ r. spaced (word_text first ∷ map word_text r)) (sym (take-append-drop i rest))
-    ∙ ap (λ ts. spaced (word_text first ∷ ts)) (map-append word_text (take i rest) (drop i rest))
-    ∙ spaced-append (word_text first) (map word_text (take i rest)) (map word_text (drop i rest))
+    ap (λ r. with_spaces (word_text first ∷ map word_text r)) (sym (take-append-drop i rest))
+    ∙ ap (λ ts. with_spaces (word_text first ∷ ts)) (map-append word_text (take i rest) (drop i rest))
+    ∙ with_spaces-append (word_text first) (map word_text (take i rest)) (map word_text (drop i rest))
 
 -- one word more was put into the row
 pub passed_more :
     (a b c : SinkState) (r s t : List ℕ) (words rest : List Word) (i : ℕ) (d : Word) → i < length rest
-    → ((first : Word) × (words ≡ first ∷ rest) × PassesOn a b r s (spaced (map word_text (first ∷ take i rest))))
+    → ((first : Word) × (words ≡ first ∷ rest) × PassesOn a b r s (with_spaces (map word_text (first ∷ take i rest))))
     → PassesOn b c s t (32 ∷ word_text (get_or rest i d))
-    → (first : Word) × (words ≡ first ∷ rest) × PassesOn a c r t (spaced (map word_text (first ∷ take (i + 1) rest)))
+    → (first : Word) × (words ≡ first ∷ rest) × PassesOn a c r t (with_spaces (map word_text (first ∷ take (i + 1) rest)))
 passed_more a b c r s t words rest i d below (first, are, so_far) next = (
   first,
   are,
-  subst (PassesOn a c r t) (words_more first rest i d below) (passes_more a b c r s t (spaced (map word_text (first ∷ take i rest))) (32 ∷ word_text (get_or rest i d)) so_far next),
+  subst (PassesOn a c r t) (words_more first rest i d below) (passes_more a b c r s t (with_spaces (map word_text (first ∷ take i rest))) (32 ∷ word_text (get_or rest i d)) so_far next),
 )
 
 -- all words were put into the row
 pub passed_all :
     (a c : SinkState) (r t : List ℕ) (words rest : List Word) (i : ℕ) → length rest ≤ i
-    → ((first : Word) × (words ≡ first ∷ rest) × PassesOn a c r t (spaced (map word_text (first ∷ take i rest))))
-    → PassesOn a c r t (spaced (map word_text words))
+    → ((first : Word) × (words ≡ first ∷ rest) × PassesOn a c r t (with_spaces (map word_text (first ∷ take i rest))))
+    → PassesOn a c r t (with_spaces (map word_text words))
 passed_all a c r t words rest i le (first, are, all) =
     let whole : first ∷ take i rest ≡ words = ap (λ ws. first ∷ ws) (take_all i rest le) ∙ sym are in
-    subst (λ ws. PassesOn a c r t (spaced (map word_text ws))) whole all
+    subst (λ ws. PassesOn a c r t (with_spaces (map word_text ws))) whole all
 
 -- the sink failed within the first word
 pub stops_within_first :
     (a c : SinkState) (r : List ℕ) (words rest : List Word) (first : Word) → words ≡ first ∷ rest
-    → StopsWithin a c (r ++ word_text first) → StopsWithin a c (r ++ spaced (map word_text words))
+    → StopsWithin a c (r ++ word_text first) → StopsWithin a c (r ++ with_spaces (map word_text words))
 stops_within_first a c r words rest first are h =
-    let whole : word_text first ++ next_words (map word_text rest) ≡ spaced (map word_text words) =
-    sym (spaced-append (word_text first) [] (map word_text rest)) ∙ ap (λ ws. spaced (map word_text ws)) (sym are) in
+    let whole : word_text first ++ next_words (map word_text rest) ≡ with_spaces (map word_text words) =
+    sym (with_spaces-append (word_text first) [] (map word_text rest)) ∙ ap (λ ws. with_spaces (map word_text ws)) (sym are) in
     subst (λ l. StopsWithin a c (r ++ l)) whole (stops_before a c r (word_text first) (next_words (map word_text rest)) h)
 
 -- the sink failed within one word more
 pub stops_within_next :
     (a b c : SinkState) (r s : List ℕ) (words rest : List Word) (i : ℕ) (d : Word) → i < length rest
-    → ((first : Word) × (words ≡ first ∷ rest) × PassesOn a b r s (spaced (map word_text (first ∷ take i rest))))
+    → ((first : Word) × (words ≡ first ∷ rest) × PassesOn a b r s (with_spaces (map word_text (first ∷ take i rest))))
     → StopsWithin b c (s ++ 32 ∷ word_text (get_or rest i d))
-    → StopsWithin a c (r ++ spaced (map word_text words))
+    → StopsWithin a c (r ++ with_spaces (map word_text words))
 stops_within_next a b c r s words rest i d below (first, are, so_far) next =
-    let within : StopsWithin a c (r ++ (spaced (map word_text (first ∷ take i rest)) ++ 32 ∷ word_text (get_or rest i d))) =
-    stops_past a b c r s (spaced (map word_text (first ∷ take i rest))) (32 ∷ word_text (get_or rest i d)) so_far next in
-    let more : StopsWithin a c (r ++ spaced (map word_text (first ∷ take (i + 1) rest))) =
+    let within : StopsWithin a c (r ++ (with_spaces (map word_text (first ∷ take i rest)) ++ 32 ∷ word_text (get_or rest i d))) =
+    stops_past a b c r s (with_spaces (map word_text (first ∷ take i rest))) (32 ∷ word_text (get_or rest i d)) so_far next in
+    let more : StopsWithin a c (r ++ with_spaces (map word_text (first ∷ take (i + 1) rest))) =
     subst (λ l. StopsWithin a c (r ++ l)) (words_more first rest i d below) within in
-    let whole : spaced (map word_text (first ∷ take (i + 1) rest)) ++ next_words (map word_text (drop (i + 1) rest)) ≡ spaced (map word_text words) =
-    sym (words_split first rest (i + 1)) ∙ ap (λ ws. spaced (map word_text ws)) (sym are) in
+    let whole : with_spaces (map word_text (first ∷ take (i + 1) rest)) ++ next_words (map word_text (drop (i + 1) rest)) ≡ with_spaces (map word_text words) =
+    sym (words_split first rest (i + 1)) ∙ ap (λ ws. with_spaces (map word_text ws)) (sym are) in
     subst (λ l. StopsWithin a c (r ++ l)) whole (stops_before a c r _ (next_words (map word_text (drop (i + 1) rest))) more)
 
 pub next_words-append : (xs ys : List (List ℕ)) → next_words (xs ++ ys) ≡ next_words xs ++ next_words ys
@@ -245,9 +245,9 @@ stops_within_element text a b c r s xs i d below so_far next =
     subst (λ l. StopsWithin a c (r ++ l)) (next_words-split text xs (i + 1)) (stops_before a c r _ (next_words (map text (drop (i + 1) xs))) more)
 
 -- some words, and more after them
-pub spaced_lists : (first rest : List (List ℕ)) → 0 < length first → spaced (first ++ rest) ≡ spaced first ++ next_words rest
-spaced_lists [] rest some = absurd (omega arith)
-spaced_lists (word ∷ words) rest some = spaced-append word words rest
+pub lists_with_spaces : (first rest : List (List ℕ)) → 0 < length first → with_spaces (first ++ rest) ≡ with_spaces first ++ next_words rest
+lists_with_spaces [] rest some = absurd (omega arith)
+lists_with_spaces (word ∷ words) rest some = with_spaces-append word words rest
 
 -- the text of one element more was put into the row
 pub passed_element :

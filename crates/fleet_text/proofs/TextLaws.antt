@@ -8,7 +8,8 @@ use Rattle.std.proofs.lemmas.List.Quantifiers.{position-Some}
 use Rattle.std.proofs.lemmas.Bool.{cases_Bool, cases_eq, lt-ltb, le-ltb, ltb-true, ltb-false, not-true}
 use Rattle.std.proofs.lemmas.List.{drop_more, drop_all, get_or-drop, drop-drop, length-drop, length-take, length-take-le, length-map}
 use Rattle.std.proofs.lemmas.List.Sums.{sum_by-cons}
-use Rattle.fleet_text.specs.Text.{Bytes, is_lf, is_blank, is_word, ended_lines, lines, words, words_from_front, is_digit, digits_front, number_front, capped, number_after, number, small_only, small_number_front}
+use Rattle.fleet_text.specs.Text.{Bytes, is_lf, is_blank, is_word, ended_lines, lines, words, words_from_front, is_digit, digits_front, number_front, at_most, number_after, number, small_only, small_number_front}
+use Rattle.fleet_text.specs.declared.numbers.TheConstants.{TOO_LARGE}
 
 one_more : (n : ℕ) → 1 + n ≡ suc n
 one_more n = omega arith
@@ -147,7 +148,7 @@ words_nil = refl
 
 -- ---- numbers
 
-cap_early : (most m : ℕ) (text : Bytes) → capped most (digits_front (min m most) text) ≡ capped most (digits_front m text)
+cap_early : (most m : ℕ) (text : Bytes) → at_most most (digits_front (min m most) text) ≡ at_most most (digits_front m text)
 unfolding digits_front
 cap_early most m [] = ap (λ (n : ℕ). (n, [])) (omega arith)
 cap_early most m (d ∷ text) =
@@ -157,7 +158,7 @@ cap_early most m (d ∷ text) =
           let same : min (10 * min m most + x) most ≡ min (10 * m + x) most = omega arith in
           let one = cap_early most (10 * min m most + x) text in
           let two = cap_early most (10 * m + x) text in
-          rw t (sym one ∙ ap (λ (n : ℕ). capped most (digits_front n text)) same ∙ two))
+          rw t (sym one ∙ ap (λ (n : ℕ). at_most most (digits_front n text)) same ∙ two))
       | inr t ↦ rw t (ap (λ (n : ℕ). (n, d ∷ text)) (omega arith))
     ]
 
@@ -178,18 +179,18 @@ first_digit (d ∷ text) some e = rw e refl
 
 -- ---- the loop's steps over the digits in front, where n stands for those before the rest
 
-pub digits_end : (most n : ℕ) (rest : Bytes) → n ≤ most → length rest < 1 → (n, rest) ≡ capped most (digits_front n rest)
+pub digits_end : (most n : ℕ) (rest : Bytes) → n ≤ most → length rest < 1 → (n, rest) ≡ at_most most (digits_front n rest)
 unfolding digits_front
 digits_end most n [] few e = ap (λ (x : ℕ). (x, [])) (omega arith)
 digits_end most n (d ∷ rest) few e = absurd (omega arith)
 
-pub no_digit_stays : (most n : ℕ) (rest : Bytes) → n ≤ most → 1 ≤ length rest → is_digit (get_or rest 0 0) ≡ false → (n, rest) ≡ capped most (digits_front n rest)
+pub no_digit_stays : (most n : ℕ) (rest : Bytes) → n ≤ most → 1 ≤ length rest → is_digit (get_or rest 0 0) ≡ false → (n, rest) ≡ at_most most (digits_front n rest)
 unfolding digits_front
 no_digit_stays most n [] few some e = absurd (omega arith)
 no_digit_stays most n (d ∷ rest) few some e = rw e (ap (λ (x : ℕ). (x, d ∷ rest)) (omega arith))
 
 pub digit_goes : (most n : ℕ) (rest : Bytes) → 1 ≤ length rest → is_digit (get_or rest 0 0) ≡ true
-    → capped most (digits_front (min (10 * n + (get_or rest 0 0 - 48)) most) (drop 1 rest)) ≡ capped most (digits_front n rest)
+    → at_most most (digits_front (min (10 * n + (get_or rest 0 0 - 48)) most) (drop 1 rest)) ≡ at_most most (digits_front n rest)
 unfolding digits_front
 digit_goes most n [] some e = absurd (omega arith)
 digit_goes most n (d ∷ rest) some e = rw e (cap_early most (10 * n + (d - 48)) rest)
@@ -198,13 +199,13 @@ digit_goes most n (d ∷ rest) some e = rw e (cap_early most (10 * n + (d - 48))
 
 pub small_at_end : (n : ℕ) (rest : Bytes) → n ≤ 65535 → length rest < 1 → Some (n, rest) ≡ small_only (digits_front n rest)
 unfolding digits_front
-small_at_end n [] few end = rw (lt-ltb n 65536 (omega arith)) refl
+small_at_end n [] few end = rw (lt-ltb n TOO_LARGE (omega arith)) refl
 small_at_end n (d ∷ rest) few end = absurd (omega arith)
 
 pub small_stays : (n : ℕ) (rest : Bytes) → n ≤ 65535 → 1 ≤ length rest → is_digit (get_or rest 0 0) ≡ false → Some (n, rest) ≡ small_only (digits_front n rest)
 unfolding digits_front
 small_stays n [] few some e = absurd (omega arith)
-small_stays n (d ∷ rest) few some e = rw (e, lt-ltb n 65536 (omega arith)) refl
+small_stays n (d ∷ rest) few some e = rw (e, lt-ltb n TOO_LARGE (omega arith)) refl
 
 pub digit_taken : (n : ℕ) (rest : Bytes) → 1 ≤ length rest → is_digit (get_or rest 0 0) ≡ true → digits_front (10 * n + (get_or rest 0 0 - 48)) (drop 1 rest) ≡ digits_front n rest
 unfolding digits_front
@@ -212,12 +213,12 @@ digit_taken n [] some e = absurd (omega arith)
 digit_taken n (d ∷ rest) some e = rw e refl
 
 -- no digit makes a number small that is too large
-pub stays_too_large : (n : ℕ) (rest : Bytes) → 65536 ≤ n → None ≡ small_only (digits_front n rest)
+pub stays_too_large : (n : ℕ) (rest : Bytes) → TOO_LARGE ≤ n → None ≡ small_only (digits_front n rest)
 unfolding digits_front
-stays_too_large n [] large = rw (le-ltb n 65536 large) refl
+stays_too_large n [] large = rw (le-ltb n TOO_LARGE large) refl
 stays_too_large n (d ∷ rest) large = elim (cases_Bool (is_digit d)) [
   | inl t ↦ rw t (stays_too_large (10 * n + (d - 48)) rest (omega (arith, large)))
-  | inr t ↦ rw (t, le-ltb n 65536 large) refl
+  | inr t ↦ rw (t, le-ltb n TOO_LARGE large) refl
 ]
 
 -- ---- the same by the places of the digits
@@ -267,23 +268,23 @@ number_is (d ∷ word) =
       | inr t ↦ rw t refl
     ]
 
-number_capped : (most : ℕ) (word : Bytes) → option_and_then whole (option_map (capped most) (number_front word)) ≡ option_map (λ n. min n most) (number word)
+number_capped : (most : ℕ) (word : Bytes) → option_and_then whole (option_map (at_most most) (number_front word)) ≡ option_map (λ n. min n most) (number word)
 number_capped most word = capped_alike (number_front word) ∙ ap (option_map (λ (n : ℕ). min n most)) (sym (number_is word))
   where
-    capped_alike : (front : Option (ℕ × Bytes)) → option_and_then whole (option_map (capped most) front) ≡ option_map (λ n. min n most) (option_and_then whole front)
+    capped_alike : (front : Option (ℕ × Bytes)) → option_and_then whole (option_map (at_most most) front) ≡ option_map (λ n. min n most) (option_and_then whole front)
     capped_alike None = refl
     capped_alike (Some (n, [])) = refl
     capped_alike (Some (n, b ∷ rest)) = refl
 
 module _ (most : ℕ) (word : Bytes) where
-  pub no_number : None ≡ option_map (capped most) (number_front word) → None ≡ option_map (λ n. min n most) (number word)
+  pub no_number : None ≡ option_map (at_most most) (number_front word) → None ≡ option_map (λ n. min n most) (number word)
   no_number e = ap (option_and_then whole) e ∙ number_capped most word
 
-  pub all_number : (n : ℕ) (rest : Bytes) → Some (n, rest) ≡ option_map (capped most) (number_front word) → length rest ≡ 0 → Some n ≡ option_map (λ n. min n most) (number word)
+  pub all_number : (n : ℕ) (rest : Bytes) → Some (n, rest) ≡ option_map (at_most most) (number_front word) → length rest ≡ 0 → Some n ≡ option_map (λ n. min n most) (number word)
   all_number n [] e none = ap (option_and_then whole) e ∙ number_capped most word
   all_number n (b ∷ rest) e none = absurd (omega arith)
 
-  pub number_and_more : (n : ℕ) (rest : Bytes) → Some (n, rest) ≡ option_map (capped most) (number_front word) → (length rest ≡ 0 → ⊥) → None ≡ option_map (λ n. min n most) (number word)
+  pub number_and_more : (n : ℕ) (rest : Bytes) → Some (n, rest) ≡ option_map (at_most most) (number_front word) → (length rest ≡ 0 → ⊥) → None ≡ option_map (λ n. min n most) (number word)
   number_and_more n [] e some = absurd (some refl)
   number_and_more n (b ∷ rest) e some = ap (option_and_then whole) e ∙ number_capped most word
 

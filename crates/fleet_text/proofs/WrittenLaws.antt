@@ -8,6 +8,7 @@ use Rattle.std.proofs.lemmas.Fmt.{decimal_by_steps}
 use Rattle.std.proofs.lemmas.List.{append-nil, length-append, take_more}
 use Rattle.fleet_text.specs.Text.{Bytes, is_blank, is_word, starts_blank, is_digit, ended_lines, lines, words, words_from_front, number_after, number, small_number}
 use Rattle.fleet_text.specs.Words.{ended_text}
+use Rattle.fleet_text.specs.declared.numbers.TheConstants.{TOO_LARGE}
 
 -- ---- what is written one after the other
 
@@ -95,9 +96,9 @@ unfolding number
 number_is n [] h = absurd (let some = h.some in omega (arith, some))
 number_is n (d ∷ ds) h = h.value
 
-pub small_is : (n : ℕ) → n < 65536 → small_number (decimal n) ≡ Some n
+pub small_is : (n : ℕ) → n < TOO_LARGE → small_number (decimal n) ≡ Some n
 unfolding small_number
-small_is n lt = rw (number_is n (decimal n) (spells n (omega arith)), lt-ltb n 65536 lt) refl
+small_is n lt = rw (number_is n (decimal n) (spells n (omega arith)), lt-ltb n TOO_LARGE lt) refl
 
 -- ---- bytes from a least one on
 

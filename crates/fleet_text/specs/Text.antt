@@ -59,8 +59,8 @@ number_front [] = None
 number_front (d ∷ text) = if is_digit d then Some (digits_front (d - 48) text) else None
 
 -- .. with most in place of every number above it
-abbrev pub capped : ℕ → ℕ × Bytes → ℕ × Bytes
-capped most x = (min x.0 most, x.1)
+abbrev pub at_most : ℕ → ℕ × Bytes → ℕ × Bytes
+at_most most x = (min x.0 most, x.1)
 
 -- what the digits spell in base ten, after n
 unfoldable pub number_after : ℕ → Bytes → Option ℕ

@@ -21,12 +21,12 @@ word_text (Pair x y) = pair_text x y
 word_text (Of owner number) = numbered_text owner number
 
 -- words with one space between two
-abbrev pub spaced : List (List ℕ) → List ℕ
-spaced = join_with_byte 32
+abbrev pub with_spaces : List (List ℕ) → List ℕ
+with_spaces = join_with_byte 32
 
 -- a line: words with one space between two, and its end
 abbrev pub line_text : List (List ℕ) → List ℕ
-line_text words = spaced words ++ 10 ∷ []
+line_text words = with_spaces words ++ 10 ∷ []
 
 -- a text of these lines, each with its end
 abbrev pub ended_text : List (List ℕ) → List ℕ

@@ -11,12 +11,14 @@ mod row;
 mod sink;
 mod writing;
 
-pub use lines::{BLOCK, ByteClass, Cursor, first_of, from_front, is_blank, next_line, next_word};
+pub use lines::{
+    BLOCK, ByteClass, Cursor, first_of, from_front, is_blank, next_line, next_word, without_cr,
+};
 pub use numbers::{
     TOO_LARGE, number_of, small_number_front, small_number_of, write_byte, write_number,
     write_small_number,
 };
 pub use refusal::{Refusal, put_memory, put_named, put_named_at, put_named_by};
 pub use row::Row;
-pub use sink::{Flush, OutFault, TraceOut, VecOut, WriteOut, put_all};
+pub use sink::{Flush, OutFault, TraceOut, VecOut, WriteOut, deliver, put_all};
 pub use writing::{Word, put_count, put_line, put_next_word, put_words};

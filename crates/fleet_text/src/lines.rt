@@ -87,7 +87,7 @@ impl ByteClass for LineEnd {
 }
 
 /// The line without one CR at its end.
-fn without_cr(line: &[u8]) -> &[u8]
+pub fn without_cr(line: &[u8]) -> &[u8]
     ensures { result.now ≡ strip_carriage_return line.now }
 {
     match line {

@@ -1,7 +1,7 @@
 //! Numbers that words spell, and the digits of a number.
 
 ghost use Rattle.std.specs.Prelude.{◌≡◌, ◌-◌, ◌<◌, true, false, Some, IfSome, IfNone, min, option_map, ◌+◌, ◌≤◌, ◌++◌, ◌∷◌, length, drop};
-ghost use Rattle.fleet_text.specs.Text.{is_digit, number_front, capped, number, small_number, small_number_front};
+ghost use Rattle.fleet_text.specs.Text.{is_digit, number_front, at_most, number, small_number, small_number_front};
 ghost use Rattle.std.specs.Fmt.{decimal};
 
 /// What is answered for every number that is too large: the least number above 65,535.
@@ -11,7 +11,7 @@ pub const TOO_LARGE: u32 = 65_536;
 /// answered as `TOO_LARGE`; if no digit stands in front, there is none.
 fn number_front(text: &[u8]) -> Option<(u32, &[u8])>
     ensures { option_map (λ x. (x.0, x.1.now)) result
-        ≡ option_map (capped TOO_LARGE) (number_front text.now) }
+        ≡ option_map (at_most TOO_LARGE) (number_front text.now) }
 {
     let [first, after @ ..] = text else {
         return None;

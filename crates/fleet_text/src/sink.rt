@@ -1,7 +1,7 @@
 //! Sinks of bytes: what they promise, and the two over memory and over a writer.
 
 ghost use Rattle.std.specs.Prelude.{◌≡◌, ◌<◌, length, IfErr, [], false};
-ghost use Rattle.fleet_text.specs.Sink.{IsWorking, TakesPiece, HandsOn, TakesAll};
+ghost use Rattle.fleet_text.specs.Sink.{IsWorking, TakesPiece, HandsOn, TakesAll, Delivers};
 
 use std::alloc::Global;
 use std::io::Write;
@@ -58,6 +58,15 @@ pub fn put_all<O: TraceOut>(out: &mut O, bytes: &[u8]) -> Result<(), OutFault>
         at += out.put(&bytes[at..])?;
     }
     Ok(())
+}
+
+/// Has the sink take all of the bytes and hand them on, or stops at its failure.
+pub fn deliver<O: Flush>(out: &mut O, bytes: &[u8]) -> Result<(), OutFault>
+    requires { IsWorking (O.state out.old) }
+    ensures { Delivers (O.state out.old) (O.state out.new) result bytes.now }
+{
+    put_all(out, bytes)?;
+    out.flush()
 }
 
 /// A sink over memory. A growth that is refused is its failure, and nothing else is.

@@ -3,7 +3,7 @@
 ghost use Rattle.std.specs.Prelude.{◌≡◌, ◌++◌, ◌∷◌, [], map, decimal};
 ghost use Rattle.fleet_text.specs.Sink.{IsWorking, TakesAll};
 ghost use Rattle.fleet_text.specs.Row.{Gathers};
-ghost use Rattle.fleet_text.specs.Words.{word_text, spaced, line_text, count_line};
+ghost use Rattle.fleet_text.specs.Words.{word_text, with_spaces, line_text, count_line};
 
 use crate::numbers::write_number;
 use crate::row::Row;
@@ -103,7 +103,7 @@ pub fn put_words<O: TraceOut>(
 ) -> Result<(), OutFault>
     requires { IsWorking (O.state out.old) }
     ensures { Gathers (O.state out.old) (O.state out.new) result row.old row.new
-        (spaced (map word_text words.now)) }
+        (with_spaces (map word_text words.now)) }
 {
     let Some((first, rest)) = words.split_first() else {
         return Ok(());

@@ -4,7 +4,7 @@ ghost use Rattle.std.specs.Prelude.{◌∷◌, codes, decimal, map};
 ghost use Rattle.fleet_text.specs.Sink.{IsWorking, TakesAll};
 ghost use Rattle.fleet_text.specs.Row.{Gathers};
 ghost use Rattle.fleet_text.specs.Refusals.{named_at, named_by};
-ghost use Rattle.fleet_text.specs.Words.{line_text, next_words, spaced};
+ghost use Rattle.fleet_text.specs.Words.{line_text, next_words, with_spaces};
 ghost use Rattle.fleet_verify.specs.RefusalWords.{action_text, unordered_words};
 
 use fleet_model::{ActionId, Cell, OutOfMemory, Visit};
@@ -163,7 +163,7 @@ fn put_ring_words<O: TraceOut>(
 ) -> Result<(), OutFault>
     requires { IsWorking (O.state out.old) }
     ensures { Gathers (O.state out.old) (O.state out.new) result row.old row.new
-        (spaced (codes "verify" ∷ decimal 7 ∷ codes "Cyclic" ∷ map action_text ring.now)) }
+        (with_spaces (codes "verify" ∷ decimal 7 ∷ codes "Cyclic" ∷ map action_text ring.now)) }
 {
     put_words(
         row,

@@ -1,6 +1,9 @@
-use Rattle.std.proofs.Common.{◌≡◌, ◌≤◌, ℕ, length}
+use Rattle.std.proofs.Common.{◌≡◌, ◌+◌, ◌-◌, ℕ, length}
 use Rattle.fleet_grid.specs.Table.{page_in}
 use Rattle.fleet_grid.proofs.table.extend_to.Given as goal
 
-abbrev pub invariant-loop-more : goal.invariant-loop-more
-invariant-loop-more g l = (l._more ≤ length l.pages.items) × ((k : ℕ) → page_in l.pages.items k ≡ page_in l.initial.pages.items k)
+abbrev pub invariant-loop-alloc : goal.invariant-loop-alloc
+invariant-loop-alloc g l = (k : ℕ) → page_in l.pages.items k ≡ page_in l.initial.pages.items k
+
+abbrev pub decreases-loop-alloc : goal.decreases-loop-alloc
+decreases-loop-alloc g l = (l.page + 1) - length l.pages.items

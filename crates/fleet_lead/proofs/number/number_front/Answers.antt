@@ -1,6 +1,6 @@
 use Rattle.std.proofs.Common.{Some, option_map, ◌∙◌, sym, ap, refl, arith}
 use Rattle.std.proofs.lemmas.List.{take_rest}
-use Rattle.fleet_text.specs.Text.{capped}
+use Rattle.fleet_text.specs.Text.{at_most}
 use Rattle.fleet_text.proofs.TextLaws.{no_number_in_nothing, no_digit_no_number, first_digit, digits_end, no_digit_stays, digit_goes}
 use Rattle.fleet_lead.proofs.number.number_front.Goals as goal
 
@@ -15,7 +15,7 @@ pub loop-rest-init : goal.loop-rest-init
 loop-rest-init c =
     record {
       small = omega (arith, c.from-number.ensures);
-      so_far = rw (take_rest, c.from-number.ensures) (ap (option_map (capped 4294967296)) (first_digit c.args.text.now c.in-len1-up.len_at_least (sym c.is_ascii_digit.ensures.value ∙ c.if-not-is_ascii_digit.false)));
+      so_far = rw (take_rest, c.from-number.ensures) (ap (option_map (at_most 4294967296)) (first_digit c.args.text.now c.in-len1-up.len_at_least (sym c.is_ascii_digit.ensures.value ∙ c.if-not-is_ascii_digit.false)));
     }
 
 pub returns-then-not-is_ascii_digit-2 : goal.returns-then-not-is_ascii_digit-2

@@ -1,7 +1,7 @@
 use Rattle.std.proofs.Common.{rules, [], ◌∷◌, sym}
 use Rattle.fleet_model.specs.Program.{awaits_of}
 use Rattle.fleet_text.proofs.SinkLemmas.{takes_err, stops_within_more, stops_before, stops_past, takes_rest}
-use Rattle.fleet_text.specs.Words.{spaced, next_words, numbered_text}
+use Rattle.fleet_text.specs.Words.{with_spaces, next_words, numbered_text}
 use Rattle.fleet_run.specs.Text.{place_text}
 use Rattle.fleet_run.specs.Listing.{step_words, await_words}
 use Rattle.fleet_run.proofs.listing.put_action.Goals as goal
@@ -9,13 +9,13 @@ use Rattle.fleet_run.proofs.listing.put_action.Goals as goal
 pub returns-in_err-put_step : goal.returns-in_err-put_step
 returns-in_err-put_step g c =
     rw c.step.ensures
-    (takes_err _ _ _ _ (search rules) (stops_within_more _ _ (spaced (numbered_text c.args.i c.args.n ∷ step_words c.step.result)) _ (rw c.new-row.ensures at c.in_err-put_step.ensures)))
+    (takes_err _ _ _ _ (search rules) (stops_within_more _ _ (with_spaces (numbered_text c.args.i c.args.n ∷ step_words c.step.result)) _ (rw c.new-row.ensures at c.in_err-put_step.ensures)))
 
 pub returns-in_err-put_place : goal.returns-in_err-put_place
 returns-in_err-put_place g c =
     rw (c.step.ensures, sym c.requires.place)
     (takes_err _ _ _ _ (search rules)
-    (stops_past _ _ _ [] _ (spaced (numbered_text c.args.i c.args.n ∷ step_words c.step.result)) _ (rw c.new-row.ensures at c.in_ok-put_step.ensures)
+    (stops_past _ _ _ [] _ (with_spaces (numbered_text c.args.i c.args.n ∷ step_words c.step.result)) _ (rw c.new-row.ensures at c.in_ok-put_step.ensures)
     (stops_before _ _ _ (place_text c.args.place) _ c.in_err-put_place.ensures)))
 
 pub returns-in_err-put_awaits : goal.returns-in_err-put_awaits
@@ -23,7 +23,7 @@ returns-in_err-put_awaits g c =
     let awaits = await_words (awaits_of (g.P.ProgramView.program c.args.program.now) c.args.i c.args.n) in
     rw (c.step.ensures, sym c.requires.place)
     (takes_err _ _ _ _ (search rules)
-    (stops_past _ _ _ [] _ (spaced (numbered_text c.args.i c.args.n ∷ step_words c.step.result)) _ (rw c.new-row.ensures at c.in_ok-put_step.ensures)
+    (stops_past _ _ _ [] _ (with_spaces (numbered_text c.args.i c.args.n ∷ step_words c.step.result)) _ (rw c.new-row.ensures at c.in_ok-put_step.ensures)
     (stops_past _ _ _ _ _ (place_text c.args.place) _ c.in_ok-put_place.ensures
     (stops_before _ _ _ (next_words awaits) _ c.in_err-put_awaits.ensures))))
 
@@ -31,6 +31,6 @@ pub returns : goal.returns
 returns g c =
     let awaits = await_words (awaits_of (g.P.ProgramView.program c.args.program.now) c.args.i c.args.n) in
     rw (c.step.ensures, sym c.requires.place)
-    (takes_rest _ _ _ _ [] _ (spaced (numbered_text c.args.i c.args.n ∷ step_words c.step.result)) _ (rw c.new-row.ensures at c.in_ok-put_step.ensures)
+    (takes_rest _ _ _ _ [] _ (with_spaces (numbered_text c.args.i c.args.n ∷ step_words c.step.result)) _ (rw c.new-row.ensures at c.in_ok-put_step.ensures)
     (takes_rest _ _ _ _ _ _ (place_text c.args.place) _ c.in_ok-put_place.ensures
     (takes_rest _ _ _ _ _ _ (next_words awaits) _ c.in_ok-put_awaits.ensures c.end_line.ensures)))

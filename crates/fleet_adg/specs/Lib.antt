@@ -4,3 +4,4 @@ pub mod Growing
 pub mod Sweep
 pub mod RefusalWords
 pub mod Thinned
+pub mod Remaining

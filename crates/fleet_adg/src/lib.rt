@@ -6,6 +6,7 @@ mod fault;
 mod growing;
 mod laws;
 mod leavings;
+mod remaining;
 mod row;
 mod row_table;
 mod sweep;
@@ -19,5 +20,6 @@ pub use laws::{
     awaits_are_as_defined, compiled_plans_are_accepted, compiled_plans_are_well_formed,
     compiled_plans_run_equally,
 };
+pub use remaining::rest;
 pub use thin_fault::ThinFault;
 pub use thinner::thin;

@@ -21,3 +21,5 @@ pub mod JoinLaws
 mod Slotting
 pub mod RowsMade
 mod JoinTick
+mod Entries
+pub mod Costing

@@ -15,3 +15,4 @@ pub mod Joins
 pub mod Slots
 pub mod Schedule
 pub mod JoinPass
+pub mod Critical

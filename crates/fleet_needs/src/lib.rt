@@ -7,6 +7,7 @@ mod answering;
 mod await_flags;
 mod await_places;
 mod columns;
+mod critical;
 mod finish_order;
 mod finish_ticks;
 mod flagging;
@@ -23,6 +24,7 @@ mod settled;
 mod slot_rows;
 mod slots;
 
+pub use critical::{ActionCosts, CriticalCosts, MAX_COST};
 pub use implied::{ImpliedAwaits, implied_awaits};
 pub use kernels::{join_rows, row_covers};
 pub use piece::Pieces;

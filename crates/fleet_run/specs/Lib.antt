@@ -9,3 +9,4 @@ pub mod Trace
 pub mod RefusalWords
 pub mod Line
 pub mod Listing
+pub mod TimesText

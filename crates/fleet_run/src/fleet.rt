@@ -5,7 +5,7 @@ ghost use Rattle.fleet_grid.specs.Ground.{is_passable};
 ghost use Rattle.fleet_model.specs.Chain.{IsLongestChain};
 ghost use Rattle.fleet_model.specs.Geometry.{stepped};
 ghost use Rattle.fleet_verify.specs.Parts.{IsAcceptedFor};
-ghost use Rattle.fleet_model.specs.Machine.{opening, tick, moved_in, is_ready_held, is_finished, is_ready, place_at, count_at};
+ghost use Rattle.fleet_model.specs.Machine.{opening, tick, moved_in, is_ready_held, is_finished, is_ready, IsReached, place_at, count_at};
 ghost use Rattle.fleet_model.specs.Run.{IsSafeStep};
 ghost use Rattle.fleet_model.specs.Claims.{order_of, AreApart, KeepsOrder};
 ghost use Rattle.fleet_run.specs.Drive.{Drives, IsInTime};
@@ -21,7 +21,7 @@ use crate::run::RunFault;
 use crate::source::HoldSource;
 use crate::trace::{Report, run_trace};
 use fleet_machine::{AgentSet, Machine, Tick};
-use fleet_model::{MAX_AGENTS, Place, ProgramView, Step};
+use fleet_model::{MAX_AGENTS, Place, ProgramView, Standing, Step};
 use fleet_text::TraceOut;
 use fleet_verify::{Accepted, ready_moves_are_apart, runs_arrive, runs_end, ticks_are_safe};
 use std::alloc::Global;
@@ -175,6 +175,15 @@ impl<'g, P: ProgramView> Fleet<'g, P> {
         ensures { result ≡ self.now.looked }
     {
         self.machine.looked()
+    }
+
+    /// Where the agents stand, and how many actions each has finished, as it is in a run.
+    pub fn standings(&self) -> &[Standing]
+        ensures standings { result.now ≡ self.now.configuration }
+        ensures reached { IsReached
+            (P.program self.now.accepted.program) self.now.configuration }
+    {
+        self.machine.agents()
     }
 
     /// Where agent `i` stands.

@@ -14,6 +14,7 @@ mod report;
 mod run;
 mod source;
 mod text;
+mod times_text;
 mod trace;
 
 pub use accepted_run::run_accepted;
@@ -28,4 +29,5 @@ pub use report::{Rehearsal, rehearse};
 pub use run::{End, MAX_RUN_TICKS, RunFault};
 pub use source::{HoldSource, SourceFault, clear};
 pub use text::{PLACE, write_bytes, write_count, write_number_line, write_place};
+pub use times_text::{put_reached, put_times};
 pub use trace::Report;

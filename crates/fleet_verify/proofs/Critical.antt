@@ -10,49 +10,12 @@ use Rattle.fleet_model.specs.Program.{Program, awaits_of, AreInRange}
 use Rattle.fleet_model.specs.Chain.{IsAction, DirectlyNeeds, ChainFrom, Reaches, IsCriticalCost, IsNumbering, awaited}
 use Rattle.fleet_model.proofs.Chains.{chain_last, Reaches-need, Reaches-refl, Reaches-trans, ends_alone, ends_dearer, chain_push, chain_cost_push}
 use Rattle.fleet_model.specs.Schedule.{Schedule, HasEndedBy, IsSchedule, EndInTime, TakeAtLeast}
+use Rattle.fleet_needs.proofs.Costing.{need_action, IsBound, bound_of, bound_on}
 use Rattle.fleet_verify.proofs.Members.{same_action, contains_head, contains_later, contains_none, contains_cases}
 use Rattle.fleet_verify.proofs.Decide.{IsAction-dec, before_in, needs_before}
 use Rattle.fleet_verify.proofs.Timed.{by_later}
 
--- what an action directly needs is an action
-pub need_action : (p : Program) → AreInRange p → (a b : ActionId) → IsAction p a → DirectlyNeeds p a b → IsAction p b
-need_action p in_range a b act (inl h) = subst (IsAction p) (same_action (before_in a) b h.0 (omega (arith, h.1)))
-    (record { agent = act.agent; first = omega (arith, h.1, h.2); last = omega (arith, act.last) })
-need_action p in_range a b act (inr h) =
-    let k = in_range a.agent a.number (record { agent = b.agent; count = b.number }) h in
-    record { agent = k.agent; first = k.first; last = k.last }
-
 module _ (p : Program) (cost : ActionId → ℕ) where
-  -- a chain of more than one action, but for its last
-  record ButLast (a : ActionId) (cs : List ActionId) (b : ActionId) : Type 0 where
-    before : ActionId
-    others : List ActionId
-    chain : ChainFrom p a others before
-    needs : DirectlyNeeds p b before
-    total : sum_by cost (a ∷ cs) ≡ sum_by cost (a ∷ others) + cost b
-
-  but_last : (a c : ActionId) (cs : List ActionId) (b : ActionId) → ChainFrom p a (c ∷ cs) b → ButLast a (c ∷ cs) b
-  but_last a c [] b (act, n, (k, e)) =
-      let same : cost c ≡ cost b = ap cost e in
-      record { before = a; others = []; chain = (act, refl); needs = subst (λ (x : ActionId). DirectlyNeeds p x a) e n; total = omega arith }
-  but_last a c (d ∷ cs) b (act, n, k) =
-      let r = but_last c d cs b k in
-      record { before = r.before; others = c ∷ r.others; chain = (act, n, r.chain); needs = r.needs; total = omega (arith, r.total, sum_by-cons cost a (c ∷ d ∷ cs), sum_by-cons cost a (c ∷ r.others)) }
-
-  -- no chain that ends with the action costs more
-  abbrev pub IsBound : ActionId → ℕ → Type 0
-  IsBound b m = (a : ActionId) (cs : List ActionId) → ChainFrom p a cs b → sum_by cost (a ∷ cs) ≤ m
-
-  pub bound_of : (b : ActionId) (m : ℕ) → IsCriticalCost p cost b m → IsBound b m
-  bound_of b m c a cs h = c.most (sum_by cost (a ∷ cs)) (a, cs, h, refl)
-
-  -- what bounds the chains of all that the action directly needs, bounds its own with its cost
-  bound_on : (b : ActionId) (m : ℕ) → ((d : ActionId) → DirectlyNeeds p b d → (a : ActionId) (cs : List ActionId) → ChainFrom p a cs d → sum_by cost (a ∷ cs) ≤ m)
-      → (a : ActionId) (cs : List ActionId) → ChainFrom p a cs b → sum_by cost (a ∷ cs) ≤ m + cost b
-  bound_on b m each a [] h = let e : cost a ≡ cost b = ap cost h.1 in omega arith
-  bound_on b m each a (c ∷ cs) h =
-      let r = but_last a c cs b h in omega (arith, r.total, each r.before r.needs a r.others r.chain)
-
   -- ---- the greatest of several
 
   greatest : {X : Type 0} (P : X → ℕ → Type 0) (xs : List X) → ((x : X) → Contains xs x → (m : ℕ) × P x m)
@@ -85,7 +48,7 @@ module _ (p : Program) (cost : ActionId → ℕ) where
     -- ---- in time
 
     module _ (s : Schedule) (stalls : ActionId → Bool) (in_time : EndInTime p s stalls cost) where
-      ends_by : (n : ℕ) (b : ActionId) → IsAction p b → number b ≤ n → ((a : ActionId) → stalls a ≡ true → Reaches p a b → ⊥) → (m : ℕ) → IsBound b m → HasEndedBy s m b
+      ends_by : (n : ℕ) (b : ActionId) → IsAction p b → number b ≤ n → ((a : ActionId) → stalls a ≡ true → Reaches p a b → ⊥) → (m : ℕ) → IsBound p cost b m → HasEndedBy s m b
       ends_by zero b act l free m bound = absurd (omega (arith, numbered.positive b act))
       ends_by (suc n) b act l free m bound =
           let own : cost b ≤ m = omega (arith, bound b [] (act, refl), sum_by-cons cost b []) in
@@ -108,12 +71,12 @@ module _ (p : Program) (cost : ActionId → ℕ) where
         → ((x : ActionId) → DirectlyNeeds p b x → (a : ActionId) (cs : List ActionId) → ChainFrom p a cs x → sum_by cost (a ∷ cs) ≤ m) → Critical b (m + cost b)
     critical_on b d m act need c each = record {
       some = ends_dearer p cost m d b c.some act need;
-      most = λ n h. omega (arith, h.3, bound_on b m each h.0 h.1 h.2);
+      most = λ n h. omega (arith, h.3, bound_on p cost b m each h.0 h.1 h.2);
     }
 
     critical_alone : (b : ActionId) → IsAction p b
         → ((x : ActionId) → DirectlyNeeds p b x → (a : ActionId) (cs : List ActionId) → ChainFrom p a cs x → sum_by cost (a ∷ cs) ≤ 0) → Critical b (cost b)
-    critical_alone b act each = record { some = ends_alone p cost b act; most = λ n h. omega (arith, h.3, bound_on b 0 each h.0 h.1 h.2) }
+    critical_alone b act each = record { some = ends_alone p cost b act; most = λ n h. omega (arith, h.3, bound_on p cost b 0 each h.0 h.1 h.2) }
 
     -- the costs of what an action awaits
     abbrev OfAwaited : Await → ℕ → Type 0
@@ -130,7 +93,7 @@ module _ (p : Program) (cost : ActionId → ℕ) where
         both : (r : MostOfAwaited b) (m : ℕ) → r.0 ≤ m → ((a : ActionId) (cs : List ActionId) → ChainFrom p a cs (before_in b) → sum_by cost (a ∷ cs) ≤ m)
             → (x : ActionId) → DirectlyNeeds p b x → (a : ActionId) (cs : List ActionId) → ChainFrom p a cs x → sum_by cost (a ∷ cs) ≤ m
         both r m le first x (inl h) a cs chain = first a cs (subst (ChainFrom p a cs) (same_action x (before_in b) (sym h.0) (omega (arith, h.1))) chain)
-        both r m le first x (inr h) a cs chain = let k = r.2 (record { agent = x.agent; count = x.number }) h in omega (arith, k.2, bound_of x k.0 k.1 a cs chain, le)
+        both r m le first x (inr h) a cs chain = let k = r.2 (record { agent = x.agent; count = x.number }) h in omega (arith, k.2, bound_of p cost x k.0 k.1 a cs chain, le)
 
         by_await : (r : MostOfAwaited b) → ((a : ActionId) (cs : List ActionId) → ChainFrom p a cs (before_in b) → sum_by cost (a ∷ cs) ≤ r.0) → (m : ℕ) × Critical b m
         by_await r first = elim r.1 [
@@ -140,8 +103,8 @@ module _ (p : Program) (cost : ActionId → ℕ) where
 
         own_cases : (k : IsAction p (before_in b)) → (m : ℕ) × Critical (before_in b) m → MostOfAwaited b → (m : ℕ) × Critical b m
         own_cases k h r = elim (cases_lt h.0 r.0) [
-          | inl less ↦ by_await r (λ a cs chain. omega (arith, bound_of (before_in b) h.0 h.1 a cs chain))
-          | inr more ↦ (h.0 + cost b, critical_on b (before_in b) h.0 act (needs_before p b k) h.1 (both r h.0 more (bound_of (before_in b) h.0 h.1)))
+          | inl less ↦ by_await r (λ a cs chain. omega (arith, bound_of p cost (before_in b) h.0 h.1 a cs chain))
+          | inr more ↦ (h.0 + cost b, critical_on b (before_in b) h.0 act (needs_before p b k) h.1 (both r h.0 more (bound_of p cost (before_in b) h.0 h.1)))
         ]
 
         own : Dec (IsAction p (before_in b)) → MostOfAwaited b → (m : ℕ) × Critical b m
@@ -156,7 +119,7 @@ module _ (p : Program) (cost : ActionId → ℕ) where
     critical b act = critical_fuel (number b) b act (omega arith)
 
     pub ends_in_time : (s : Schedule) (stalls : ActionId → Bool) → EndInTime p s stalls cost → (b : ActionId) (m : ℕ) → IsAction p b → ((a : ActionId) → stalls a ≡ true → Reaches p a b → ⊥) → IsCriticalCost p cost b m → HasEndedBy s m b
-    ends_in_time s stalls in_time b m act free c = ends_by s stalls in_time (number b) b act (omega arith) free m (bound_of b m c)
+    ends_in_time s stalls in_time b m act free c = ends_by s stalls in_time (number b) b act (omega arith) free m (bound_of p cost b m c)
 
     -- ---- the schedule in which each action ends when its critical path does
 
@@ -203,11 +166,11 @@ module _ (p : Program) (cost : ActionId → ℕ) where
       },
       (λ a t act goes needs.
           let x = ends_critical a act in
-          let bound = bound_on a t (λ d need b cs chain.
+          let bound = bound_on p cost a t (λ d need b cs chain.
           let ended = needs d need in
           let y = ends_critical d (need_action p in_range a d act need) in
           let same : ended.0 ≡ y.0 = same_Some ended.0 y.0 (sym ended.1 ∙ y.1) in
-          omega (arith, bound_of d y.0 y.2 b cs chain, ended.2, same)) in
+          omega (arith, bound_of p cost d y.0 y.2 b cs chain, ended.2, same)) in
           (x.0, x.1, omega (arith, x.2.some.3, bound x.2.some.0 x.2.some.1 x.2.some.2))),
       (λ a t u act begins ends.
           let x = begins_critical a t act begins in

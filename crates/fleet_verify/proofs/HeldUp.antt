@@ -14,7 +14,8 @@ use Rattle.fleet_verify.proofs.Held.{held_past}
 use Rattle.fleet_verify.proofs.Arrive.{ready_or_needs}
 use Rattle.fleet_verify.proofs.Levels.{due_done}
 use Rattle.fleet_verify.proofs.Timed.{no_sooner}
-use Rattle.fleet_verify.proofs.Critical.{need_action, critical, ends_in_time}
+use Rattle.fleet_needs.proofs.Costing.{need_action}
+use Rattle.fleet_verify.proofs.Critical.{critical, ends_in_time}
 use Rattle.fleet_verify.proofs.Ticked.{done_later, longest, ended_done, done_ended, is_schedule}
 
 module _ (p : Program) (holds : Holds) where

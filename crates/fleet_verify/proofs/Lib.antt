@@ -68,3 +68,4 @@ pub mod LeastAwaits
 pub mod Remains
 pub mod RemainsFormed
 pub mod RemainsWhole
+pub mod CriticalPaths

@@ -10,7 +10,7 @@ use Rattle.fleet_model.proofs.Chains.{Reaches-need, Reaches-refl, Reaches-trans}
 use Rattle.fleet_verify.proofs.Members.{same_action}
 use Rattle.fleet_verify.proofs.Decide.{IsAction-dec, some-dec, before_in, needs_before}
 use Rattle.fleet_verify.proofs.Timed.{by_or_not}
-use Rattle.fleet_verify.proofs.Critical.{need_action}
+use Rattle.fleet_needs.proofs.Costing.{need_action}
 
 module _ (p : Program) (s : Schedule) (x : ℕ) where
   abbrev Ended : ActionId → Type 0

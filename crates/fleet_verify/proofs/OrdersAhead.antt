@@ -6,7 +6,7 @@ use Rattle.fleet_model.specs.Chain.{IsAction, DirectlyNeeds, awaited}
 use Rattle.fleet_model.specs.Schedule.{Schedule, HasEndedBy, IsSchedule, EndInTime}
 use Rattle.fleet_model.specs.Dispatch.{Dispatch, OrdersAwait, IsCarriedOut, IsPrompt}
 use Rattle.fleet_verify.proofs.Timed.{by_later}
-use Rattle.fleet_verify.proofs.Critical.{need_action}
+use Rattle.fleet_needs.proofs.Costing.{need_action}
 
 module _ (p : Program) (in_range : AreInRange p) (d : Dispatch) (s : Schedule) where
   pub ahead_schedule : OrdersAwait p d → IsCarriedOut p d s → IsSchedule p s

@@ -23,7 +23,7 @@ use Rattle.fleet_verify.proofs.Held.{any_below, finished_all}
 use Rattle.fleet_verify.proofs.Least.{first_passing, first_is}
 use Rattle.fleet_verify.proofs.RunEnds.{run_ends}
 use Rattle.fleet_verify.proofs.Timed.{by_later}
-use Rattle.fleet_verify.proofs.Critical.{need_action}
+use Rattle.fleet_needs.proofs.Costing.{need_action}
 
 -- ---- a run that is over stays as it is
 

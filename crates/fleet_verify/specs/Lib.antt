@@ -20,3 +20,4 @@ pub mod LastVisits
 pub mod Squares
 pub mod Promises
 pub mod Rest
+pub mod Times

@@ -28,6 +28,8 @@ mod rest;
 mod ring;
 mod runs;
 mod schedules;
+mod stopped;
+mod times;
 mod unheld_run;
 mod verifier;
 mod visit_order;
@@ -42,7 +44,7 @@ pub use exactness::{
     unordered_visits_meet,
 };
 pub use fault::VerifyFault;
-pub use fleet_needs::{join_rows, row_covers};
+pub use fleet_needs::{ActionCosts, MAX_COST, join_rows, row_covers};
 pub use orders::{
     awaits_are_chains, orderly_listings_rise, rings_are_never_finished, sorted_listings_decide,
 };
@@ -61,4 +63,6 @@ pub use schedules::{
     runs_are_schedules, runs_follow_critical_paths, schedules_are_never_stuck, schedules_are_safe,
     schedules_end_in_time, schedules_need_acceptance,
 };
+pub use stopped::{reached_counts, stopped_agents};
+pub use times::{OneEach, Times};
 pub use verifier::verify;

@@ -1,0 +1,11 @@
+use Rattle.std.proofs.Common.{◌≡◌, ◌≤◌, map, take, drop}
+use Rattle.fleet_model.specs.Program.{actions_of}
+use Rattle.fleet_model.specs.Machine.{count_at}
+use Rattle.fleet_verify.specs.Rest.{rest_action}
+use Rattle.fleet_adg.proofs.remaining.rest_actions.Given as goal
+
+abbrev pub invariant-loop-finished : goal.invariant-loop-finished
+invariant-loop-finished g l = record {
+  from : count_at l.standings l.fn.i ≤ l.finished;
+  made : l.actions ≡ map (rest_action l.standings) (drop (count_at l.standings l.fn.i) (take l.finished (actions_of (g.P.ProgramView.program l.program) l.fn.i)));
+}

@@ -1,0 +1,49 @@
+-- The cost of the critical path of each action, as it is noted tick by tick.
+use Rattle.std.specs.Prelude.{◌≡◌, ℕ, ◌+◌, ◌*◌, ◌<◌, ◌≤◌, ◌⊎◌, List, length, slice_index, slice_get, Some}
+use Rattle.fleet_model.specs.declared.program.ActionId.{ActionId}
+use Rattle.fleet_model.specs.declared.program.Await.{Await}
+use Rattle.fleet_model.specs.Program.{Program, awaits_of, total_moves}
+use Rattle.fleet_model.specs.Chain.{IsAction, DirectlyNeeds, IsCriticalCost, awaited}
+use Rattle.fleet_needs.specs.Places.{ArePlacesOf, place_of_action}
+use Rattle.fleet_needs.specs.Settled.{IsFinishedBy}
+use Rattle.fleet_needs.specs.declared.action_places.ActionPlaces.{ActionPlaces}
+use Rattle.fleet_needs.specs.declared.critical.CriticalCosts.{CriticalCosts}
+use Rattle.fleet_needs.specs.declared.critical.TheConstants.{MAX_COST}
+
+-- the action's critical path costs so much; and no more than so many of the dearest actions as ticks finish it
+pub record IsNotedCost (p : Program) (cost : ActionId → ℕ) (a : ActionId) (m : ℕ) : Type 0 where
+  pub critical : IsCriticalCost p cost a m
+  pub few : (t : ℕ) → IsFinishedBy p t a → m ≤ t * MAX_COST
+
+-- the entry of an action
+abbrev pub value_at : ActionPlaces → List ℕ → ActionId → ℕ
+value_at places entries a = slice_index entries (place_of_action places a)
+
+-- the entries of these actions are the costs of their critical paths
+abbrev pub AreNotedCosts : Program → (ActionId → ℕ) → ActionPlaces → (ActionId → Type 0) → List ℕ → Type 0
+AreNotedCosts p cost places These entries = (a : ActionId) → IsAction p a → These a → IsNotedCost p cost a (value_at places entries a)
+
+-- m is the greatest of these costs of what the action directly needs, or 0 if it needs nothing
+pub record IsGreatestNeed (p : Program) (value : ActionId → ℕ) (a : ActionId) (m : ℕ) : Type 0 where
+  pub some : (m ≡ 0) ⊎ ((b : ActionId) × DirectlyNeeds p a b × (m ≡ value b))
+  pub most : (b : ActionId) → DirectlyNeeds p a b → value b ≤ m
+
+-- of the action of the same agent right before, if there is one, and of the first k awaits
+pub record IsGreatestOf (p : Program) (value : ActionId → ℕ) (a : ActionId) (k m : ℕ) : Type 0 where
+  pub some : (m ≡ 0) ⊎ ((b : ActionId) × DirectlyNeeds p a b × (m ≡ value b))
+  pub own : (b : ActionId) → a.agent ≡ b.agent → a.number ≡ b.number + 1 → 1 ≤ b.number → value b ≤ m
+  pub awaits : (j : ℕ) (w : Await) → j < k → slice_get (awaits_of p a.agent a.number) j ≡ Some w → value (awaited w) ≤ m
+
+-- there is an entry for each action of the program
+pub record HasEntries (p : Program) (m : CriticalCosts) : Type 0 where
+  pub places : ArePlacesOf p m.places
+  pub all : length m.costs.items ≡ total_moves p
+
+-- the entry of an action
+abbrev pub critical_cost : CriticalCosts → ActionId → ℕ
+critical_cost m a = value_at m.places m.costs.items a
+
+-- it is the cost of the action's critical path
+pub record AreCriticalCosts (p : Program) (cost : ActionId → ℕ) (m : CriticalCosts) : Type 0 where
+  pub entries : HasEntries p m
+  pub each : (a : ActionId) → IsAction p a → IsCriticalCost p cost a (critical_cost m a)

@@ -1,0 +1,348 @@
+-- Critical paths found back from their ends, when all have arrived, and what broken actions stop.
+use Rattle.std.proofs.Common.{◌≡◌, ◌≢◌, ℕ, zero, suc, ◌+◌, ◌-◌, ◌<◌, ◌≤◌, Bool, true, false, List, [], ◌∷◌, ◌++◌, length, get_or, refl, ap, sym, subst, ◌∙◌, arith, inl, inr, ◌⊎◌, Option, Some, None, eqb-true, cond, map-id}
+use Rattle.std.specs.Prelude.{sum_by, count_by, nat_lt, IsTrue, ◌↔◌, slice_get, reverse, IfSome, IfNone}
+use Rattle.std.proofs.lemmas.Bool.{cases_lt}
+use Rattle.std.proofs.lemmas.List.{reverse-append, reverse-reverse, get_or_past, length_push, get_or_push, get_or_append_left}
+use Rattle.std.proofs.lemmas.Option.{same_Some, none-some, slice_get_past, slice_get-get_or, slice_get_within, get_or_from_slice_get}
+use Rattle.std.specs.Option.{option_map_or}
+use Rattle.fleet_model.specs.declared.program.AgentProgram.{AgentProgram}
+use Rattle.std.proofs.lemmas.List.Sums.{sum_by-append, sum_by-cons, sum_by_push}
+use Rattle.std.proofs.lemmas.List.FromFn.{map-range_with_len_more}
+use Rattle.fleet_model.specs.declared.program.ActionId.{ActionId}
+use Rattle.fleet_model.specs.declared.program.Await.{Await}
+use Rattle.fleet_model.specs.Program.{Program, moves, awaits_of, AreInRange}
+use Rattle.fleet_model.specs.Chain.{IsAction, DirectlyNeeds, ChainFrom, Reaches, EndsChainOfCost, IsCriticalCost, IsNumbering, awaited}
+use Rattle.fleet_model.specs.Machine.{indices}
+use Rattle.fleet_model.specs.Schedule.{Schedule, IsSchedule, HasBegunBy, HasEndedBy, NeedsNoStalled}
+use Rattle.fleet_model.proofs.Chains.{chain_last, chain_join, own_reach, Reaches-trans, ends_alone, ends_dearer}
+use Rattle.fleet_needs.proofs.Passing.{same_or_not}
+use Rattle.fleet_needs.proofs.Costing.{but_last, need_action}
+use Rattle.fleet_verify.proofs.Critical.{ends_in_time}
+use Rattle.fleet_verify.proofs.Timed.{needs_unended}
+use Rattle.fleet_verify.specs.Times.{HaveArrivedAt, IsLatest, IsLater, IsAwaitedUntil, IsNeedUntil, LeadsBack, IsPathOfCost, IsCriticalPath, IsFreeTo, AreReached, StopsOthers, is_broken, broken_cost, last_action}
+
+-- an action has one critical cost
+pub one_cost : (p : Program) (cost : ActionId → ℕ) (b : ActionId) (m n : ℕ) → IsCriticalCost p cost b m → IsCriticalCost p cost b n → m ≡ n
+one_cost p cost b m n h k = omega (arith, k.most m h.some, h.most n k.some)
+
+-- what an action reaches ends chains that cost as much or more
+pub costs_on : (p : Program) (cost : ActionId → ℕ) (b d : ActionId) (m n : ℕ) → Reaches p b d → EndsChainOfCost p cost m b → IsCriticalCost p cost d n → m ≤ n
+costs_on p cost b d m n r h k =
+    let longer = k.most (sum_by cost (h.0 ∷ h.1 ++ r.0)) (h.0, h.1 ++ r.0, chain_join p h.0 h.1 b r.0 d h.2 r.1, refl) in
+    omega (arith, longer, h.3, sum_by-append cost (h.0 ∷ h.1) r.0)
+
+ends_action : (p : Program) (cost : ActionId → ℕ) (m : ℕ) (b : ActionId) → EndsChainOfCost p cost m b → IsAction p b
+ends_action p cost m b h = chain_last p h.0 h.1 b h.2
+
+-- no chain costs more than that of the last action of its agent
+pub to_last : (p : Program) (cost : ActionId → ℕ) (b : ActionId) (m n : ℕ) → EndsChainOfCost p cost m b → IsCriticalCost p cost (last_action p b.agent) n → m ≤ n
+to_last p cost b m n h k =
+    let act = ends_action p cost m b h in
+    costs_on p cost b (last_action p b.agent) m n (own_reach p b.agent b.number (moves p b.agent) act.agent act.first act.last (let l : moves p b.agent ≤ moves p b.agent = omega arith in l)) h k
+
+-- ---- the latest of the first agents
+
+-- nobody has moved so far, or the action ends as late as any
+pub record IsLatestOf (p : Program) (cost : ActionId → ℕ) (n : ℕ) (latest : Option ActionId) : Type 0 where
+  pub none : latest ≡ None → (j : ℕ) → j < n → moves p j ≡ 0
+  pub action : (a : ActionId) → latest ≡ Some a → IsAction p a
+  pub most : (a : ActionId) → latest ≡ Some a → (j : ℕ) → j < n → 1 ≤ moves p j → (l m : ℕ) → IsCriticalCost p cost (last_action p j) l → IsCriticalCost p cost a m → l ≤ m
+
+pub latest_none : (p : Program) (cost : ActionId → ℕ) → IsLatestOf p cost 0 None
+latest_none p cost = record { none = λ e j l. absurd (omega arith); action = λ a e. absurd cc; most = λ a e j l. absurd (omega arith) }
+
+pub latest_stays : (p : Program) (cost : ActionId → ℕ) (n : ℕ) (latest : Option ActionId) → IsLatestOf p cost n latest → moves p n ≡ 0 → IsLatestOf p cost (n + 1) latest
+latest_stays p cost n latest h zero_moves = record {
+  none = λ e j l. elim (cases_lt j n) [ inl s ↦ h.none e j s | inr s ↦ (let same : n ≡ j = omega (arith, s, l) in subst (λ x. moves p x ≡ 0) same zero_moves) ];
+  action = h.action;
+  most = λ a e j l some. elim (cases_lt j n) [
+    | inl s ↦ h.most a e j s some
+    | inr s ↦ absurd (let same : n ≡ j = omega (arith, s, l) in let f : moves p n ≡ moves p j = ap (moves p) same in omega (arith, f, zero_moves, some))
+  ];
+}
+
+pub latest_more : (p : Program) (cost : ActionId → ℕ) (n : ℕ) (latest : Option ActionId) → IsLatestOf p cost n latest → (cost_of : (b : ActionId) → IsAction p b → (m : ℕ) × IsCriticalCost p cost b m)
+    → (a : ActionId) → IsLater p cost latest (last_action p n) a → IsLatestOf p cost (n + 1) (Some a)
+latest_more p cost n latest h cost_of a later = record {
+  none = λ e. absurd cc;
+  action = λ b e. subst (IsAction p) (same_in e) later.action;
+  most = λ b e j l some x y cx cy. most b (same_in e) j l some x y cx cy;
+}
+  where
+    same_in : {b : ActionId} → Some a ≡ Some b → a ≡ b
+    same_in {b = b} e = same_Some a b e
+
+    most : (b : ActionId) → a ≡ b → (j : ℕ) → j < n + 1 → 1 ≤ moves p j → (x y : ℕ) → IsCriticalCost p cost (last_action p j) x → IsCriticalCost p cost b y → x ≤ y
+    most b e j l some x y cx cy = elim (cases_lt j n) [
+      | inl s ↦ before j s some x y cx (subst (λ d. IsCriticalCost p cost d y) (sym e) cy) latest refl
+      | inr s ↦ (let same : j ≡ n = omega (arith, s, l) in later.after_second x y (subst (λ i. IsCriticalCost p cost (last_action p i) x) same cx) (subst (λ d. IsCriticalCost p cost d y) (sym e) cy))
+    ]
+      where
+        before : (j : ℕ) → j < n → 1 ≤ moves p j → (x y : ℕ) → IsCriticalCost p cost (last_action p j) x → IsCriticalCost p cost a y → (o : Option ActionId) → latest ≡ o → x ≤ y
+        before j s some x y cx cy None is = absurd (omega (arith, h.none is j s, some))
+        before j s some x y cx cy (Some d) is =
+            let k = cost_of d (h.action d is) in
+            omega (arith, h.most d is j s some x k.0 cx k.1, later.after_first d k.0 y is k.1 cy)
+
+-- ---- when all have arrived
+
+pub arrived_latest : (p : Program) (cost : ActionId → ℕ) → ((b : ActionId) → IsAction p b → (m : ℕ) × IsCriticalCost p cost b m) → (latest : Option ActionId) → IsLatestOf p cost (length p) latest
+    → (a : ActionId) → latest ≡ Some a → IsLatest p cost a
+arrived_latest p cost cost_of latest h a e =
+    let k = cost_of a (h.action a e) in
+    record {
+      action = h.action a e;
+      end = k.0;
+      critical = k.1;
+      arrival = record {
+        some = inr (a, k.1.some);
+        most = λ b m ends.
+            let act = ends_action p cost m b ends in
+            let some : 1 ≤ moves p b.agent = omega (arith, act.first, act.last) in
+            let l = cost_of (last_action p b.agent) (record { agent = act.agent; first = some; last = omega arith }) in
+            omega (arith, to_last p cost b m l.0 ends l.1, h.most a e b.agent act.agent some l.0 k.0 l.1 k.1);
+      };
+    }
+
+pub arrived_none : (p : Program) (cost : ActionId → ℕ) → ((i : ℕ) → moves p i ≡ 0) → HaveArrivedAt p cost 0
+arrived_none p cost none = record { some = inl refl; most = λ b m ends. absurd (let act = ends_action p cost m b ends in omega (arith, act.first, act.last, none b.agent)) }
+
+-- agents that are not there have no actions
+pub no_moves : (p : Program) (i : ℕ) → length p ≤ i → moves p i ≡ 0
+no_moves p i h = ap (λ (o : Option AgentProgram). length (option_map_or (λ a. a.actions) o [])) (slice_get_past p i h)
+
+-- ---- back along a dearest chain
+
+-- an action of which the chain is not of it alone has a need that ends as late as it begins
+pub some_before : (p : Program) (cost : ActionId → ℕ) → ((b : ActionId) → IsAction p b → (m : ℕ) × IsCriticalCost p cost b m) → (b : ActionId) (m : ℕ) → IsCriticalCost p cost b m
+    → (m ≡ cost b) ⊎ ((a : ActionId) × IsAction p a × DirectlyNeeds p b a × IsCriticalCost p cost a (m - cost b) × (cost b ≤ m))
+some_before p cost cost_of b m h = go h.some.0 h.some.1 h.some.2 h.some.3
+  where
+    go : (x : ActionId) (cs : List ActionId) → ChainFrom p x cs b → m ≡ sum_by cost (x ∷ cs)
+        → (m ≡ cost b) ⊎ ((a : ActionId) × IsAction p a × DirectlyNeeds p b a × IsCriticalCost p cost a (m - cost b) × (cost b ≤ m))
+    go x [] chain e = let same : cost x ≡ cost b = ap cost chain.1 in inl (omega (arith, e, sum_by-cons cost x [], same))
+    go x (c ∷ cs) chain e =
+        let r = but_last p cost x c cs b chain in
+        let act : IsAction p r.before = chain_last p x r.others r.before r.chain in
+        let y = cost_of r.before act in
+        let low = y.1.most (sum_by cost (x ∷ r.others)) (x, r.others, r.chain, refl) in
+        let high = h.most (y.0 + cost b) (ends_dearer p cost y.0 r.before b y.1.some (chain_last p x (c ∷ cs) b chain) r.needs) in
+        let same : y.0 ≡ m - cost b = omega (arith, e, r.total, low, high) in
+        inr (r.before, act, r.needs, subst (IsCriticalCost p cost r.before) same y.1, omega (arith, high))
+
+-- ---- what broken actions stop
+
+-- a chain with a broken action costs something
+pub broken_costs : (p : Program) (breaks : List ℕ) (a b : ActionId) (m : ℕ) → IsTrue (is_broken breaks a) → Reaches p a b → IsCriticalCost p (broken_cost breaks) b m → 1 ≤ m
+broken_costs p breaks a b m broken r h =
+    let one : broken_cost breaks a ≡ 1 = rw broken refl in
+    omega (arith, h.most (sum_by (broken_cost breaks) (a ∷ r.0)) (a, r.0, r.1, refl), sum_by-cons (broken_cost breaks) a r.0, one)
+
+broken_or_free : (breaks : List ℕ) (a : ActionId) → IsTrue (is_broken breaks a) ⊎ (broken_cost breaks a ≡ 0)
+broken_or_free breaks a = go (is_broken breaks a) refl
+  where
+    go : (t : Bool) → is_broken breaks a ≡ t → IsTrue (is_broken breaks a) ⊎ (broken_cost breaks a ≡ 0)
+    go true e = inl e
+    go false e = inr (rw e refl)
+
+-- a chain that costs something has a broken action
+pub costs_broken : (p : Program) (breaks : List ℕ) (a : ActionId) (cs : List ActionId) (b : ActionId) → ChainFrom p a cs b → 1 ≤ sum_by (broken_cost breaks) (a ∷ cs) → (d : ActionId) × IsTrue (is_broken breaks d) × Reaches p d b
+costs_broken p breaks a [] b chain some = elim (broken_or_free breaks a) [
+  | inl e ↦ (a, e, ([], chain))
+  | inr none ↦ absurd (omega (arith, some, sum_by-cons (broken_cost breaks) a [], none))
+]
+costs_broken p breaks a (c ∷ cs) b chain some = elim (broken_or_free breaks a) [
+  | inl e ↦ (a, e, (c ∷ cs, chain))
+  | inr none ↦ costs_broken p breaks c cs b chain.2 (omega (arith, some, sum_by-cons (broken_cost breaks) a (c ∷ cs), none))
+]
+
+-- ---- how far each agent comes
+
+-- the first actions of an agent that cost nothing are those that need no broken one
+pub free_reached : (p : Program) (breaks : List ℕ) → ((b : ActionId) → IsAction p b → (m : ℕ) × IsCriticalCost p (broken_cost breaks) b m) → (i n : ℕ) → IsFreeTo p (broken_cost breaks) i n
+    → (b : ActionId) → IsAction p b → b.agent ≡ i → (b.number ≤ n) ↔ NeedsNoStalled p (is_broken breaks) b
+free_reached p breaks cost_of i n h b act same = (into, from)
+  where
+    here : (k : ℕ) → b.number ≡ k → b ≡ record { agent = i; number = k }
+    here k e = λ t. record { agent = same t; number = e t }
+
+    into : b.number ≤ n → NeedsNoStalled p (is_broken breaks) b
+    into l a broken r =
+        let none = subst (λ x. IsCriticalCost p (broken_cost breaks) x 0) (sym (here b.number refl)) (h.free b.number act.first l) in
+        omega (arith, broken_costs p breaks a b 0 broken r none)
+
+    from : NeedsNoStalled p (is_broken breaks) b → b.number ≤ n
+    from free = elim (cases_lt n b.number) [
+      | inr l ↦ l
+      | inl l ↦
+          let last : moves p b.agent ≡ moves p i = ap (moves p) same in
+          let inside : n < moves p i = omega (arith, l, act.last, last) in
+          let k = h.next inside in
+          let own = own_reach p i (n + 1) b.number (omega (arith, act.agent, same)) (omega arith) (omega (arith, l)) (omega (arith, act.last, last)) in
+          let d = costs_broken p breaks k.2.some.0 k.2.some.1 (record { agent = i; number = n + 1 }) k.2.some.2 (omega (arith, k.1, k.2.some.3)) in
+          absurd (free d.0 d.1 (subst (Reaches p d.0) (sym (here b.number refl)) (Reaches-trans p d.0 (record { agent = i; number = n + 1 }) (record { agent = i; number = b.number }) d.2 own)))
+    ]
+
+-- ---- the needs of an action one after another
+
+-- none of its first k awaits ends at this time
+abbrev pub NoneUntil : Program → (ActionId → ℕ) → ActionId → ℕ → ℕ → Type 0
+NoneUntil p cost b t k = (j : ℕ) (w : Await) → j < k → slice_get (awaits_of p b.agent b.number) j ≡ Some w → IsCriticalCost p cost (awaited w) t → ⊥
+
+pub none_more : (p : Program) (cost : ActionId → ℕ) (b : ActionId) (t k : ℕ) → NoneUntil p cost b t k → (w : Await) → slice_get (awaits_of p b.agent b.number) k ≡ Some w
+    → (m : ℕ) → IsCriticalCost p cost (awaited w) m → m ≢ t → NoneUntil p cost b t (k + 1)
+none_more p cost b t k none w at m critical other j v l there here = elim (cases_lt j k) [
+  | inl s ↦ none j v s there here
+  | inr s ↦
+      let same : j ≡ k = omega (arith, s, l) in
+      let e : v ≡ w = same_Some v w (sym there ∙ (ap (slice_get (awaits_of p b.agent b.number)) same ∙ at)) in
+      other (one_cost p cost (awaited w) m t critical (subst (λ x. IsCriticalCost p cost (awaited x) t) e here))
+]
+
+pub none_all : (p : Program) (cost : ActionId → ℕ) (b : ActionId) (t k : ℕ) → NoneUntil p cost b t k → length (awaits_of p b.agent b.number) ≤ k → (a : ActionId) → IsAwaitedUntil p cost b t a → ⊥
+none_all p cost b t k none all a h =
+    let w : Await = record { agent = a.agent; count = a.number } in
+    let at = slice_get-get_or (awaits_of p b.agent b.number) h.awaits.0 w h.awaits.1 ∙ ap Some h.awaits.2 in
+    none h.awaits.0 w (omega (arith, h.awaits.1, all)) at h.critical
+
+pub until_here : (p : Program) (cost : ActionId → ℕ) (b : ActionId) (t k m : ℕ) (w : Await) → slice_get (awaits_of p b.agent b.number) k ≡ Some w → IsCriticalCost p cost (awaited w) m → m ≡ t → IsAwaitedUntil p cost b t (awaited w)
+until_here p cost b t k m w at critical e = record {
+  awaits = (k, slice_get_within (awaits_of p b.agent b.number) k w at, get_or_from_slice_get (awaits_of p b.agent b.number) k w w at);
+  critical = subst (IsCriticalCost p cost (awaited w)) e critical;
+}
+
+-- ---- the way back
+
+-- the actions so far, from the last one, stand on a chain from this action, which ends then
+pub record IsWayBack (p : Program) (cost : ActionId → ℕ) (last : ActionId) (total : ℕ) (path : List ActionId) (action : ActionId) (end : ℕ) : Type 0 where
+  pub rest : List ActionId
+  pub chain : ChainFrom p action rest last
+  pub way : path ≡ reverse (action ∷ rest)
+  pub critical : IsCriticalCost p cost action end
+  pub sum : total ≡ end + sum_by cost rest
+
+pub way_begins : (p : Program) (cost : ActionId → ℕ) (last : ActionId) (end : ℕ) → IsAction p last → IsCriticalCost p cost last end → (path : List ActionId) → path ≡ last ∷ [] → IsWayBack p cost last end path last end
+way_begins p cost last end act critical path is = record { rest = []; chain = (act, refl); way = is; critical = critical; sum = omega arith }
+
+pub way_on : (p : Program) (cost : ActionId → ℕ) (last : ActionId) (total : ℕ) (path : List ActionId) (action : ActionId) (end : ℕ) → IsWayBack p cost last total path action end
+    → (before : ActionId) → LeadsBack p cost action before → (e : ℕ) → IsCriticalCost p cost before e → (path' : List ActionId) → path' ≡ path ++ before ∷ [] → IsWayBack p cost last total path' before e
+way_on p cost last total path action end h before l e critical path' is = record {
+  rest = action ∷ h.rest;
+  chain = (l.action, l.needs, h.chain);
+  way = is ∙ (ap (λ xs. xs ++ before ∷ []) h.way ∙ sym (reverse-append (before ∷ []) (action ∷ h.rest)));
+  critical = critical;
+  sum = omega (arith, h.sum, one_cost p cost action end (l.end + cost action) h.critical l.all, one_cost p cost before l.end e l.critical critical, sum_by-cons cost action h.rest);
+}
+
+-- it gets shorter
+pub way_falls : (p : Program) (cost : ActionId → ℕ) (action before : ActionId) (end e : ℕ) → IsCriticalCost p cost action end → LeadsBack p cost action before → IsCriticalCost p cost before e → 1 ≤ cost action → e < end
+way_falls p cost action before end e critical l here some = omega (arith, some, one_cost p cost action end (l.end + cost action) critical l.all, one_cost p cost before l.end e l.critical here)
+
+pub way_ends : (p : Program) (cost : ActionId → ℕ) (last : ActionId) (total : ℕ) (path : List ActionId) (action : ActionId) (end : ℕ) → IsWayBack p cost last total path action end
+    → IsCriticalCost p cost action (cost action) → IsLatest p cost last → IsCriticalCost p cost last total → (path' : List ActionId) → path' ≡ reverse path → IsCriticalPath p cost path'
+way_ends p cost last total path action end h alone latest critical path' is =
+    let same : latest.end ≡ total = one_cost p cost last latest.end total latest.critical critical in
+    record {
+      total = total;
+      arrival = subst (HaveArrivedAt p cost) same latest.arrival;
+      path_of_cost = subst (IsPathOfCost p cost total) (sym (is ∙ (ap reverse h.way ∙ reverse-reverse (action ∷ h.rest))))
+          (last, h.chain, omega (arith, h.sum, one_cost p cost action end (cost action) h.critical alone, sum_by-cons cost action h.rest));
+    }
+
+-- the counts of free first actions are those that are reached
+pub reached_of : (p : Program) (breaks : List ℕ) → ((b : ActionId) → IsAction p b → (m : ℕ) × IsCriticalCost p (broken_cost breaks) b m) → (counts : List ℕ) → length counts ≡ length p
+    → ((i : ℕ) → i < length p → IsFreeTo p (broken_cost breaks) i (get_or counts i 0)) → AreReached p breaks counts
+reached_of p breaks cost_of counts all free = record {
+  all = all;
+  within = λ i. elim (cases_lt i (length p)) [
+    | inl l ↦ (free i l).within
+    | inr l ↦ (let none : get_or counts i 0 ≡ 0 = get_or_past counts i 0 (omega (arith, l, all)) in omega (arith, none))
+  ];
+  each = λ b act. free_reached p breaks cost_of b.agent (get_or counts b.agent 0) (free b.agent act.agent) b act refl;
+}
+
+-- one number more, of which the same is true
+pub each_more : (P : ℕ → ℕ → Type 0) (numbers : List ℕ) (i r : ℕ) → length numbers ≡ i → ((j : ℕ) → j < i → P j (get_or numbers j 0)) → P i r
+    → (more : List ℕ) → more ≡ numbers ++ r ∷ [] → (length more ≡ i + 1) × ((j : ℕ) → j < i + 1 → P j (get_or more j 0))
+each_more P numbers i r all each here more is = (
+  ap (λ (xs : List ℕ). length xs) is ∙ length_push numbers r ∙ ap (λ n. n + 1) all,
+  λ j l. elim (cases_lt j i) [
+    | inl s ↦
+        let e : get_or numbers j 0 ≡ get_or more j 0 = sym (ap (λ (xs : List ℕ). get_or xs j 0) is ∙ get_or_append_left numbers (r ∷ []) 0 j (omega (arith, s, all))) in
+        subst (P j) e (each j s)
+    | inr s ↦
+        let same : i ≡ j = omega (arith, s, l) in
+        let e : r ≡ get_or more j 0 = sym (ap (λ (xs : List ℕ). get_or xs j 0) is ∙ get_or_push numbers r 0 j (omega (arith, s, l, all))) in
+        subst (P j) e (subst (λ n. P n r) same here)
+  ],
+)
+
+-- ---- how many agents do not arrive
+
+-- agent i does not get as far as it has to
+abbrev pub misses : Program → List ℕ → ℕ → Bool
+misses p counts i = nat_lt (get_or counts i 0) (moves p i)
+
+pub one_at_most : (b : Bool) → cond b 1 0 ≤ 1
+one_at_most true = let l : 1 ≤ 1 = omega arith in l
+one_at_most false = let l : 0 ≤ 1 = omega arith in l
+
+pub one_stopped : (p : Program) (counts : List ℕ) (i m : ℕ) → m ≡ count_by (misses p counts) (indices i) → (n : ℕ) → n ≡ cond (misses p counts i) 1 0 → m + n ≡ count_by (misses p counts) (indices (i + 1))
+one_stopped p counts i m e n is =
+    (λ t. e t + is t) ∙ sym (sum_by_push (λ j. cond (misses p counts j) 1 0) (indices i) i)
+    ∙ ap (sum_by (λ j. cond (misses p counts j) 1 0)) (sym (sym (map-id _) ∙ map-range_with_len_more (λ x. x) 0 i i (omega arith) ∙ ap (λ k. k ++ i ∷ []) (map-id _)))
+
+-- what the counts say of schedules
+pub stops_of : (p : Program) → AreInRange p → (number : ActionId → ℕ) → IsNumbering p number → (breaks counts : List ℕ) → AreReached p breaks counts → StopsOthers p breaks counts
+stops_of p range number numbered breaks counts h = record {
+  in_time = λ s is cost in_time b m act l critical. ends_in_time p cost range number numbered s (is_broken breaks) in_time b m act ((h.each b act).0 l) critical;
+  never_ends = λ s is never b act l t ended. beyond b act l (λ a broken r. elim (same_or_not a b) [
+    | inl e ↦ never a broken t (subst (HasEndedBy s t) (sym e) ended)
+    | inr apart ↦ needs_unended p s is t a b r apart (never a broken) (begun s is b act t ended)
+  ]);
+  never_begins = λ s is never b act l whole t begun. beyond b act l (λ a broken r. needs_unended p s is t a b r (λ e. whole (subst (λ x. IsTrue (is_broken breaks x)) e broken)) (never a broken) begun);
+}
+  where
+    beyond : (b : ActionId) → IsAction p b → get_or counts b.agent 0 < b.number → NeedsNoStalled p (is_broken breaks) b → ⊥
+    beyond b act l free = omega (arith, l, (h.each b act).1 free)
+
+    begun : (s : Schedule) → IsSchedule p s → (b : ActionId) → IsAction p b → (t : ℕ) → HasEndedBy s t b → HasBegunBy s t b
+    begun s is b act t ended =
+        let first = is.begins_first b ended.0 act ended.1 in
+        (first.0, first.1, omega (arith, first.2, ended.2))
+
+-- ---- one step back
+
+pub own_cost : (p : Program) (cost : ActionId → ℕ) (b : ActionId) (m : ℕ) → IsAction p b → IsCriticalCost p cost b m → cost b ≤ m
+own_cost p cost b m act h = h.most (cost b) (ends_alone p cost b act)
+
+module _ (p : Program) (cost : ActionId → ℕ) (b : ActionId) (m own t : ℕ) (h : IsCriticalCost p cost b m) (is : own ≡ cost b) (from : t ≡ m - own) where
+  pub before_some : AreInRange p → IsAction p b → (a : ActionId) → IsNeedUntil p cost b t a → LeadsBack p cost b a
+  before_some range act a need =
+      let low = own_cost p cost b m act h in
+      let all : m ≡ t + cost b = omega (arith, is, from, low) in
+      record { action = need_action p range b a act need.needs; needs = need.needs; end = t; critical = need.critical; all = subst (IsCriticalCost p cost b) all h }
+
+  pub before_none : ((d : ActionId) → IsAction p d → (n : ℕ) × IsCriticalCost p cost d n) → ((a : ActionId) → IsNeedUntil p cost b t a → ⊥) → IsCriticalCost p cost b (cost b)
+  before_none cost_of none = elim (some_before p cost cost_of b m h) [
+    | inl e ↦ subst (IsCriticalCost p cost b) e h
+    | inr a ↦ absurd (let same : m - cost b ≡ t = omega (arith, is, from) in none a.0 (record { needs = a.2; critical = subst (IsCriticalCost p cost a.0) same a.3 }))
+  ]
+
+-- ---- answers that may be none
+
+pub some_of : {X : Type 0} (P : X → Type 0) (o : Option X) → ((x : X) → o ≡ Some x → P x) → IfSome o P
+some_of P None h = tt
+some_of P (Some x) h = h x refl
+
+pub some_from : {X : Type 0} (P : X → Type 0) (o : Option X) → IfSome o P → (x : X) → o ≡ Some x → P x
+some_from P None h x is = absurd (none-some x is)
+some_from P (Some y) h x is = subst P (same_Some y x is) h
+
+pub none_of : {X : Type 0} (P : Type 0) (o : Option X) → (o ≡ None → P) → IfNone o P
+none_of P None h = h refl
+none_of P (Some x) h = tt
+
+pub none_from : {X : Type 0} (P : Type 0) (o : Option X) → IfNone o P → o ≡ None → P
+none_from P None h is = h
+none_from P (Some x) h is = absurd (none-some x (sym is))

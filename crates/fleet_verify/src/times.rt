@@ -1,0 +1,259 @@
+//! When the actions of an accepted program end at the soonest, if each takes a time of its own: the critical path method
+//! (Kelley and Walker 1959).
+
+ghost use Rattle.std.specs.Prelude.{◌≡◌, ℕ, ◌<◌, ◌≤◌, IfOk, IfSome, IfNone, length};
+ghost use Rattle.fleet_model.specs.declared.program.ActionId.{ActionId};
+ghost use Rattle.fleet_model.specs.Program.{moves, AreInRange};
+ghost use Rattle.fleet_model.specs.Chain.{IsAction, IsCriticalCost};
+ghost use Rattle.fleet_verify.specs.Times.{ArrivesAt, EachArrivesAt, HaveArrivedAt, IsCriticalPath, IsLatest, IsLater, LeadsBack, IsAwaitedUntil, IsNeedUntil, IsFreeTo};
+
+use crate::accepted::Accepted;
+use fleet_model::{ActionId, OutOfMemory, ProgramView};
+use fleet_needs::{ActionCosts, CriticalCosts};
+use std::alloc::Global;
+use std::marker::Model;
+
+/// Each action costs one.
+pub struct OneEach;
+
+impl ActionCosts for OneEach {
+    ghost use Rattle.fleet_model.specs.Chain.{unit_cost};
+
+    ghost cost = { λ _. unit_cost };
+
+    fn cost(&self, _action: ActionId) -> u32 {
+        1
+    }
+}
+
+/// When the actions of a program end, if each begins as soon as all that it needs has ended, and takes the time that it
+/// costs. Times count from 0, in the unit of the costs. By `schedules_end_in_time` no action ends sooner if each takes
+/// at least its cost, and none later if each ends within its cost once nothing keeps it.
+#[derive(Drop)]
+pub struct Times<'a, P: ProgramView, C: ActionCosts> {
+    program: &'a P,
+    costs: &'a C,
+    ends: CriticalCosts,
+}
+
+impl<'a, P: ProgramView, C: ActionCosts> Model for Times<'a, P, C> {
+    ghost use Rattle.fleet_verify.specs.Times.{TimesParts, AreTimes};
+
+    ghost Value = { TimesParts P C };
+
+    ghost view = { λ t. record {
+      program = t.program.now;
+      costs = t.costs.now;
+    } };
+
+    ghost invariant = { λ t. AreTimes (P.program t.program.now) (C.cost t.costs.now) t.ends };
+}
+
+impl<'a, P: ProgramView, C: ActionCosts> Times<'a, P, C> {
+    /// The times of an accepted program, whose actions cost so much. It goes once over the program, and fails only if
+    /// memory is refused.
+    pub fn of(
+        alloc: Global,
+        accepted: &'a Accepted<'_, P>,
+        costs: &'a C,
+    ) -> Result<Times<'a, P, C>, OutOfMemory>
+        ensures program { IfOk result (λ t. t.program ≡ accepted.now.program) }
+        ensures costs { IfOk result (λ t. t.costs ≡ costs.now) }
+    {
+        let program = accepted.program();
+        let ends = CriticalCosts::of(alloc, program, accepted.chain(), costs)?;
+        Ok(Times {
+            program,
+            costs,
+            ends,
+        })
+    }
+
+    /// When an action ends. Takes no memory.
+    pub fn end(&self, action: ActionId) -> u64
+        requires { IsAction (P.program self.now.program) action }
+        ensures { IsCriticalCost (P.program self.now.program) (C.cost self.now.costs) action result }
+    {
+        self.ends.cost(self.program, action)
+    }
+
+    /// When agent `i` arrives. Takes no memory.
+    pub fn arrival(&self, i: u16) -> u64
+        requires { i < length (P.program self.now.program) }
+        ensures { ArrivesAt (P.program self.now.program) (C.cost self.now.costs) i result }
+    {
+        let moves = self.program.moves(i);
+        if moves == 0 {
+            return 0;
+        }
+        self.end(ActionId {
+            agent: i,
+            number: moves,
+        })
+    }
+
+    /// When each agent arrives. It fails only if memory is refused.
+    pub fn arrivals(&self, alloc: Global) -> Result<Vec<u64>, OutOfMemory>
+        ensures { IfOk result (λ arrivals. EachArrivesAt
+            (P.program self.now.program) (C.cost self.now.costs) arrivals.items) }
+    {
+        let agents = self.program.agents();
+        let mut arrivals = Vec::with_capacity(alloc, usize::from(agents))?;
+        for i in 0..agents {
+            arrivals.push(self.arrival(i))?;
+        }
+        Ok(arrivals)
+    }
+
+    /// An action that ends last of all, if there are any. Takes no memory.
+    pub fn latest(&self) -> Option<ActionId>
+        ensures some { IfSome result (IsLatest (P.program self.now.program) (C.cost self.now.costs)) }
+        ensures none { IfNone result ((i : ℕ) → moves (P.program self.now.program) i ≡ 0) }
+    {
+        self.known();
+        let mut latest = None;
+        for agent in 0..self.program.agents() {
+            let number = self.program.moves(agent);
+            if number > 0 {
+                latest = Some(self.later(latest, ActionId { agent, number }));
+            }
+        }
+        latest
+    }
+
+    /// The action that ends later, if there are two, and else the second.
+    fn later(&self, first: Option<ActionId>, second: ActionId) -> ActionId
+        requires first { IfSome first (IsAction (P.program self.now.program)) }
+        requires second { IsAction (P.program self.now.program) second }
+        ensures { IsLater (P.program self.now.program) (C.cost self.now.costs) first second result }
+    {
+        let Some(action) = first else {
+            return second;
+        };
+        let own = self.end(second);
+        let other = self.end(action);
+        if own <= other { action } else { second }
+    }
+
+    /// What the actions need is there, and each has a critical path. This does nothing: its contract is the law.
+    fn known(&self)
+        ensures in_range { AreInRange (P.program self.now.program) }
+        ensures critical { (b : ActionId) → IsAction (P.program self.now.program) b
+            → (m : ℕ) × IsCriticalCost (P.program self.now.program) (C.cost self.now.costs) b m }
+    {
+        let _ = &self.ends;
+    }
+
+    /// How many first actions of agent `i` end at time 0. Takes no memory.
+    pub(crate) fn free_count(&self, i: u16) -> u32
+        requires { i < length (P.program self.now.program) }
+        ensures { IsFreeTo (P.program self.now.program) (C.cost self.now.costs) i result }
+    {
+        let moves = self.program.moves(i);
+        for finished in 0..moves {
+            let next = ActionId {
+                agent: i,
+                number: finished + 1,
+            };
+            let end = self.end(next);
+            if end > 0 {
+                return finished;
+            }
+        }
+        moves
+    }
+
+    /// When all agents have arrived. Takes no memory.
+    pub fn last_arrival(&self) -> u64
+        ensures { HaveArrivedAt (P.program self.now.program) (C.cost self.now.costs) result }
+    {
+        self.known();
+        match self.latest() {
+            Some(action) => self.end(action),
+            None => 0,
+        }
+    }
+
+    /// A dearest chain of needs, from its first action to its last, which ends last of all: if any of these takes longer
+    /// than it costs, the fleet arrives so much later. Empty if there are no actions. It fails only if memory is refused.
+    pub fn critical_path(&self, alloc: Global) -> Result<Vec<ActionId>, OutOfMemory>
+        requires { (a : ActionId) → 1 ≤ C.cost self.now.costs a }
+        ensures { IfOk result (λ path. IsCriticalPath
+            (P.program self.now.program) (C.cost self.now.costs) path.items) }
+    {
+        self.known();
+        let mut path = Vec::new(alloc);
+        let Some(last) = self.latest() else {
+            return Ok(path);
+        };
+        path.push(last)?;
+        let mut action = last;
+        let mut end = self.end(action);
+        while let Some(before) = self.before(action) {
+            path.push(before)?;
+            action = before;
+            end = self.end(before);
+        }
+        path.reverse();
+        Ok(path)
+    }
+
+    /// The action right before this one on a dearest chain that ends with it, unless the chain is of it alone.
+    fn before(&self, action: ActionId) -> Option<ActionId>
+        requires action { IsAction (P.program self.now.program) action }
+        requires positive { (a : ActionId) → 1 ≤ C.cost self.now.costs a }
+        ensures some { IfSome result
+            (LeadsBack (P.program self.now.program) (C.cost self.now.costs) action) }
+        ensures none { IfNone result (IsCriticalCost (P.program self.now.program)
+            (C.cost self.now.costs) action (C.cost self.now.costs action)) }
+    {
+        self.known();
+        let end = self.end(action);
+        let own = u64::from(self.costs.cost(action));
+        self.need_until(action, end - own)
+    }
+
+    /// An action that this one directly needs and that ends at this time, if there is one.
+    fn need_until(&self, action: ActionId, time: u64) -> Option<ActionId>
+        requires { IsAction (P.program self.now.program) action }
+        ensures some { IfSome result
+            (IsNeedUntil (P.program self.now.program) (C.cost self.now.costs) action time) }
+        ensures none { IfNone result ((a : ActionId) → IsNeedUntil
+            (P.program self.now.program) (C.cost self.now.costs) action time a → ⊥) }
+    {
+        if action.number > 1 {
+            let before = ActionId {
+                agent: action.agent,
+                number: action.number - 1,
+            };
+            let end = self.end(before);
+            if end == time {
+                return Some(before);
+            }
+        }
+        self.awaited_until(action, time)
+    }
+
+    /// An action that this one awaits and that ends at this time, if there is one.
+    fn awaited_until(&self, action: ActionId, time: u64) -> Option<ActionId>
+        requires { IsAction (P.program self.now.program) action }
+        ensures some { IfSome result
+            (IsAwaitedUntil (P.program self.now.program) (C.cost self.now.costs) action time) }
+        ensures none { IfNone result ((a : ActionId) → IsAwaitedUntil
+            (P.program self.now.program) (C.cost self.now.costs) action time a → ⊥) }
+    {
+        self.known();
+        for k in 0..self.program.await_count(action.agent, action.number) {
+            let one = self.program.await_at(action.agent, action.number, k);
+            let awaited = ActionId {
+                agent: one.agent,
+                number: one.count,
+            };
+            let end = self.end(awaited);
+            if end == time {
+                return Some(awaited);
+            }
+        }
+        None
+    }
+}

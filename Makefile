@@ -7,6 +7,9 @@ LOG = crates/fleet/out/build.log
 JOBS ?= $(shell awk -v n="$$(getconf _NPROCESSORS_ONLN)" '/^MemAvailable/ { m = int($$2 / 3e6) } END { if (m > n) m = n; print m < 1 ? 1 : m }' /proc/meminfo)
 # Another program to try: make examples FLEET=PATH
 FLEET = $(BUILT)
+# The library for callers in C: LIBRARY= leaves it out.
+LIBRARY = crates/fleet_c/out/library
+ARCHIVE = $(LIBRARY:%=%/libfleet.a)
 SOURCES = crates.txt $(shell find crates -path '*/out' -prune -o \( -name '*.rt' -o -name '*.antt' \) -print)
 
 WAREHOUSE = examples/warehouse.map examples/warehouse.scen
@@ -14,12 +17,16 @@ WAREHOUSE = examples/warehouse.map examples/warehouse.scen
 # No rules but these: make would link a program anew of which an object file stands beside it.
 MAKEFLAGS += --no-builtin-rules
 
-.PHONY: help look test examples edits neutral demo picture definitions install
+# Where make install puts things.
+TO = $(DESTDIR)$(PREFIX)
+
+.PHONY: help lib look test examples edits neutral demo picture definitions install
 
 help:
 	@echo 'make look                  runs the program on examples in a few minutes, with nothing proved'
 	@echo 'make demo                  builds the program (the first time a quarter of an hour) and shows it on examples'
-	@echo 'make install PREFIX=DIR    puts the program at DIR/bin/fleet ($(PREFIX) where none is given)'
+	@echo 'make lib                   builds libfleet for callers in C, C++, Rust and Python, and its header, in $(LIBRARY)'
+	@echo 'make install PREFIX=DIR    puts the program at DIR/bin/fleet ($(PREFIX) where none is given), and libfleet in DIR/lib'
 	@echo 'make test                  the gate: proofs, tests, edits that must fail, and then the examples'
 	@echo 'make examples              runs the program on every example of the documents, on transcripts and tables, and on files and streams at their limits'
 	@echo 'make examples FLEET=PATH   the same of another program'
@@ -43,8 +50,16 @@ $(BUILT): $(SOURCES)
 	@(rt all check --jobs $(JOBS) && cd crates/fleet && rt run -- --help) > $(LOG) 2>&1 || { tail -n 20 $(LOG); exit 1; }
 	@touch $@
 
-examples: $(FLEET)
-	@sh tests/examples.sh $(FLEET)
+lib: $(ARCHIVE)
+
+# Proves the crates that libfleet stands on, and builds it.
+$(ARCHIVE): $(SOURCES) include/fleet.h tools/lib.sh
+	@mkdir -p $(@D)
+	@echo 'Proving and building libfleet in $(@D). The lines of the prover go to $(@D)/build.log.'
+	@sh tools/lib.sh $(@D) > $(@D)/build.log 2>&1 || { tail -n 20 $(@D)/build.log; exit 1; }
+
+examples: $(FLEET) $(ARCHIVE)
+	@sh tests/examples.sh $(FLEET) $(LIBRARY)
 
 edits:
 	@sh tests/edits.sh
@@ -74,5 +89,12 @@ picture:
 definitions:
 	sh tools/definitions.sh > docs/DEFINITIONS.md
 
-install: $(FLEET)
-	install -D -m 755 $(FLEET) $(DESTDIR)$(PREFIX)/bin/fleet
+install: $(FLEET) $(ARCHIVE)
+	install -D -m 755 $(FLEET) $(TO)/bin/fleet
+ifneq ($(LIBRARY),)
+	install -D -m 644 $(LIBRARY)/libfleet.a $(TO)/lib/libfleet.a
+	install -D -m 755 $(LIBRARY)/libfleet.so $(TO)/lib/libfleet.so
+	install -D -m 644 $(LIBRARY)/fleet.h $(TO)/include/fleet.h
+	mkdir -p $(TO)/lib/pkgconfig
+	sed 's|@PREFIX@|$(PREFIX)|' include/fleet.pc.in > $(TO)/lib/pkgconfig/fleet.pc
+endif

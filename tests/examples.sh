@@ -1,7 +1,7 @@
 #!/bin/sh
 # Runs a built program as a user would, and compares what it prints, what it prints on standard error and its status
 # with what is due, to the letter:
-#     tests/examples.sh FLEET
+#     tests/examples.sh FLEET [LIBRARY]
 # Every fenced example of README.md and docs/, and what they cannot show: help, transcripts, texts, files, standard
 # streams, the warehouse, and what must not compile. `make examples` calls it. The last line counts: `examples: N
 # passed, M failed`.
@@ -10,6 +10,10 @@ root=$(cd "$(dirname "$0")/.." && pwd) || exit 2
 case $1 in
     /*) fleet=$1 ;;
     *) fleet=$(pwd)/$1 ;;
+esac
+case $2 in
+    /* | '') library=$2 ;;
+    *) library=$(pwd)/$2 ;;
 esac
 [ -f "$fleet" ] || { echo "examples: $fleet is no program" >&2; exit 2; }
 work=$(mktemp -d) || exit 2
@@ -108,7 +112,7 @@ mkdir "$work/beside" "$work/beside/room" && cp -R "$work/bin" "$work/beside/" ||
     echo "$passed $failed $skipped" > "$work/counts"
 ) &
 
-for section in documents names commands transcripts texts conflicts warehouse plans tools files limits streams lent; do
+for section in documents names commands transcripts texts conflicts warehouse plans tools files limits streams library lent; do
     . "$root/tests/$section.sh"
 done
 

@@ -4,7 +4,7 @@
 #     awk -f tools/reached.awk tests/names.txt crates/NAME/src/lib.rt crates/NAME/src/FILE.rt .. crates/NAME/specs/FILE.antt ..
 # Writes a line CRATE.FILE NAME for each.
 
-BEGIN { is_found_in["fleet_dispatch"] = 1 }
+BEGIN { is_found_in["fleet_dispatch"] = is_found_in["fleet_c"] = 1 }
 
 FILENAME ~ /names\.txt$/ {
     split($0, part, "::")
@@ -65,6 +65,12 @@ FILENAME ~ /\.rt$/ && /^(pub )?(unsafe )?(impl|trait)[ <]/ {
     sub(/[^A-Za-z0-9_].*/, "", words)
     within = (crate, words) in handed
     shown = within
+    next
+}
+
+# An export, which callers in C are handed.
+FILENAME ~ /\.rt$/ && /^pub extern "C" fn / {
+    shown = 1
     next
 }
 

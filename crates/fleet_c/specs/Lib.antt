@@ -1,0 +1,9 @@
+pub mod Plain
+pub mod Answer
+pub mod Texts
+pub mod Check
+pub mod Compile
+pub mod Verify
+pub mod Thin
+pub mod Plan
+pub mod Rehearse

@@ -1,0 +1,70 @@
+//! Programs of the plans of texts, as bytes.
+
+ghost use Rattle.std.specs.Prelude.{◌≡◌, IfOk, IfErr};
+ghost use Rattle.fleet_model.specs.Program.{Program};
+ghost use Rattle.fleet_c.specs.Compile.{deps_of, IsProgramOf, CompilesTexts, IsProgramStop, IsCompileStop};
+
+use crate::check::checked_plan;
+use crate::fault::CallFault;
+use crate::problem::{Problem, read_problem};
+use fleet_adg::compile_dwell;
+use fleet_code::encode_shortest;
+use fleet_model::{Deps, Program};
+use std::alloc::Global;
+
+/// What is asked of a program: for how many of the scenario's agents, what its actions await, and for how many actions
+/// each agent stays at the end.
+#[derive(Clone, Copy)]
+pub struct Wish {
+    pub agents: u16,
+    pub deps: Deps,
+    pub dwell: u32,
+}
+
+/// Which leavings actions await: that of the latest visit alone where the number is 0, and else the last one of each
+/// agent.
+pub fn deps_of(number: u8) -> Deps
+    ensures { result ≡ deps_of number }
+{
+    if number == 0 { Deps::Last } else { Deps::All }
+}
+
+/// The program of the plan for which the text stands.
+fn program_of(
+    alloc: Global,
+    problem: &Problem,
+    plan: &[u8],
+    wish: &Wish,
+) -> Result<Program, CallFault>
+    ensures compiled { IfOk result (IsProgramOf problem.now.grid problem.now.instance plan.now
+        wish.now.deps wish.now.dwell) }
+    ensures stop { IfErr result (IsProgramStop problem.now.grid problem.now.instance plan.now
+        wish.now.deps wish.now.dwell) }
+{
+    let checked = checked_plan(alloc, problem, plan)?;
+    match compile_dwell(alloc, &checked, wish.deps, wish.dwell) {
+        Ok(program) => Ok(program),
+        Err(fault) => Err(CallFault::Compile(fault)),
+    }
+}
+
+/// The bytes of the program of the plan for which the texts stand.
+pub fn compile_texts(
+    alloc: Global,
+    map: &[u8],
+    scen: &[u8],
+    plan: &[u8],
+    wish: &Wish,
+) -> Result<Vec<u8>, CallFault>
+    ensures compiled { IfOk result (λ bytes. CompilesTexts map.now scen.now wish.now.agents plan.now
+        wish.now.deps wish.now.dwell bytes.items) }
+    ensures stop { IfErr result (IsCompileStop map.now scen.now wish.now.agents plan.now
+        wish.now.deps wish.now.dwell) }
+{
+    let problem = read_problem(alloc, map, scen, wish.agents)?;
+    let program = program_of(alloc, &problem, plan, wish)?;
+    match encode_shortest(alloc, &program) {
+        Ok(bytes) => Ok(bytes),
+        Err(_) => Err(CallFault::OutOfMemory),
+    }
+}

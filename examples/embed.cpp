@@ -1,0 +1,17 @@
+// Checks a plan: c++ embed.cpp $(pkg-config --cflags --libs fleet) && ./a.out MAP SCEN PLAN
+#include "fleet.h"
+#include <fstream>
+#include <iostream>
+#include <sstream>
+
+static std::string read(const char *name) { std::ostringstream all; all << std::ifstream(name).rdbuf(); return all.str(); }
+static const uint8_t *at(const std::string &text) { return reinterpret_cast<const uint8_t *>(text.data()); }
+
+int main(int, char **name) {
+    const std::string map = read(name[1]), scen = read(name[2]), plan = read(name[3]);
+    fleet_checked checked{};
+    fleet_fault fault{};
+    if (fleet_check(at(map), map.size(), at(scen), scen.size(), 0, at(plan), plan.size(), &checked, &fault) != FLEET_DONE)
+        return std::cout << "part " << fault.part << ", number " << fault.number << "\n", 1;
+    std::cout << "conflict-free\nagents " << checked.agents << "\nsteps " << checked.steps << "\n";
+}

@@ -1,0 +1,91 @@
+/*
+ * Each growth of each call refused in turn:  growths MAP SCEN PLAN PROGRAM HOLDS
+ * A call whose growth is refused fails for want of memory, and what it was lent is as before; or it can do without, and
+ * answers as ever. Link with --wrap=malloc and --wrap=realloc, through which libfleet asks for memory.
+ */
+#include "library.h"
+
+enum { MOST = 1 << 16 };
+
+static long growths, refuse;
+
+void *__real_malloc(size_t size);
+void *__real_realloc(void *old, size_t size);
+
+void *__wrap_malloc(size_t size) { return ++growths == refuse ? NULL : __real_malloc(size); }
+void *__wrap_realloc(void *old, size_t size) { return ++growths == refuse ? NULL : __real_realloc(old, size); }
+
+/* What a call is lent: a buffer, its length, numbers and a fault. */
+struct lent {
+    uint8_t out[MOST];
+    size_t length;
+    uint32_t numbers[4];
+    struct fleet_fault fault;
+};
+
+static struct bytes map, scen, plan, program, holds;
+
+static uint32_t make(int call, struct lent *it)
+{
+    switch (call) {
+    case 0:
+        return fleet_check(map.at, map.length, scen.at, scen.length, 0, plan.at, plan.length,
+            (struct fleet_checked *)it->numbers, &it->fault);
+    case 1:
+        return fleet_compile(map.at, map.length, scen.at, scen.length, 0, plan.at, plan.length, FLEET_DEPS_ALL, 1, it->out,
+            MOST, &it->length, &it->fault);
+    case 2:
+        return fleet_verify(map.at, map.length, scen.at, scen.length, 0, program.at, program.length,
+            (struct fleet_accepted *)it->numbers, &it->fault);
+    case 3:
+        return fleet_thin(map.at, map.length, scen.at, scen.length, 0, program.at, program.length, it->out, MOST,
+            &it->length, &it->fault);
+    case 4:
+        return fleet_plan(map.at, map.length, scen.at, scen.length, 0, 100, 3, it->out, MOST, &it->length, &it->fault);
+    default:
+        return fleet_rehearse(program.at, program.length, holds.at, holds.length, it->out, MOST, &it->length, &it->fault);
+    }
+}
+
+/* Whether two were lent the same and have the same. */
+static int is_same(const struct lent *a, const struct lent *b)
+{
+    return memcmp(a->out, b->out, MOST) == 0 && a->length == b->length
+        && memcmp(a->numbers, b->numbers, sizeof a->numbers) == 0 && memcmp(&a->fault, &b->fault, sizeof a->fault) == 0;
+}
+
+int main(int words, char **word)
+{
+    static const char *const names[] = {"check", "compile", "verify", "thin", "plan", "rehearse"};
+    static struct lent before, due, got, failed;
+    const struct fleet_fault memory = {FLEET_MEMORY, 1, 0, {0}};
+    if (words != 6)
+        return 2;
+    map = read_file(word[1]), scen = read_file(word[2]), plan = read_file(word[3]);
+    program = read_file(word[4]), holds = read_file(word[5]);
+    memset(&before, 85, sizeof before);
+    failed = before;
+    failed.fault = memory;
+    for (int call = 0; call < 6; call++) {
+        long all, lacking = 0;
+        refuse = growths = 0;
+        due = before;
+        if (make(call, &due) != FLEET_DONE)
+            return printf("%s refuses\n", names[call]), 1;
+        all = growths;
+        for (long n = 1; n <= all; n++) {
+            refuse = n, growths = 0;
+            got = before;
+            uint32_t status = make(call, &got);
+            refuse = 0;
+            if (status == FLEET_FAILED && is_same(&got, &failed))
+                lacking++;
+            else if (status != FLEET_DONE || !is_same(&got, &due))
+                return printf("%s, growth %ld of %ld: status %u\n", names[call], n, all, status), 1;
+        }
+        if (lacking < 5 || all - lacking > 2)
+            return printf("%s: memory lacked in %ld of %ld\n", names[call], lacking, all), 1;
+        printf("%s: each growth\n", names[call]);
+    }
+    return 0;
+}

@@ -1,0 +1,20 @@
+#!/bin/sh
+# Makes libfleet of the proved crate fleet_c, beside its header, in a folder:
+#     tools/lib.sh FOLDER
+# The archive has the object of the crate and that of the toolchain by which it calls malloc, joined into one of which
+# no name is seen but those of the calls; the shared object is linked from the archive. CC names a C compiler, where it
+# is not cc.
+
+root=$(cd "$(dirname "$0")/.." && pwd) || exit 2
+mkdir -p "$1" && to=$(cd "$1" && pwd) || exit 2
+kit=$(dirname "$(rt doc)")
+work=$(mktemp -d) || exit 2
+trap 'rm -rf "$work"' EXIT
+(cd "$root/crates/fleet_c" && rt lib) || exit 1
+cd "$work" || exit 2
+ar x "$root/crates/fleet_c/out/libfleet_c.a" && ar x "$kit/c/liblibc_c.a" heap.pic.o &&
+    ld -r -o all.o ./*.o && objcopy --wildcard --keep-global-symbol='fleet_*' all.o fleet.o || exit 1
+rm -f "$to/libfleet.a"
+ar rcsD "$to/libfleet.a" fleet.o &&
+    "${CC:-cc}" -shared -o "$to/libfleet.so" -Wl,-soname,libfleet.so -Wl,--whole-archive "$to/libfleet.a" -Wl,--no-whole-archive &&
+    cp "$root/include/fleet.h" "$to/fleet.h"

@@ -12,7 +12,7 @@ python3 "$root/tests/rests/rests.py" write "$count" "$seed" "$room/cases" "$room
 mkdir "$room/fleet"
 (cd "$root" && tar cf - --exclude=out HANDLES crates.txt crates) | (cd "$room/fleet" && tar xf -)
 mkdir -p "$room/fleet/crates/fleet_probe/src"
-cp "$root/tests/rests/probe.rt" "$room/fleet/crates/fleet_probe/src/main.rt"
+cp "$root/tests/rests/probe" "$room/fleet/crates/fleet_probe/src/main.rt"
 stands_on=$(sed -n 's/^fleet_tests: fleet_cli//p' "$root/crates.txt")
 echo "fleet_probe:$stands_on fleet_needs fleet_machine" >> "$room/fleet/crates.txt"
 (cd "$room/fleet/crates/fleet_probe" && rt try < "$room/cases") > "$room/got"

@@ -4,7 +4,7 @@
     python3 tests/rests/rests.py write COUNT SEED CASES WANT
     python3 tests/rests/rests.py compare WANT GOT
 
-The first writes CASES, which `probe.rt` reads from standard input, and to WANT a number for each case: that of the text
+The first writes CASES, which `probe` reads from standard input, and to WANT a number for each case: that of the text
 which says when its actions end, how far each agent comes if some break down, and what is left of the program where the
 run was broken off. The second compares these with what the probe printed. What is left is counted here to be accepted
 and to run on as the program does. `tests/rests.sh` does all of it.

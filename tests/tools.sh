@@ -34,3 +34,13 @@ check 'starts and goals are distinct' 0 '16 16\n' '' \
     "awk -v agents=16 -v seed=3 -f tools/scen.awk examples/corridor.map | awk 'NR > 1 { starts[\$5, \$6]; goals[\$7, \$8] } END { for (k in starts) n++; for (k in goals) m++; print n, m }'"
 check 'a study of no option' 2 '' 'study: --dwel is no option\n' 'sh tools/study.sh examples/pair.map examples/pair.scen --dwel 3'
 check 'a study of a plan that does not plan' 2 '' 'study: --tries 3 is of no use with a plan\n' 'sh tools/study.sh examples/pair.map examples/pair.scen --tries 3 --plan examples/pair.plan'
+
+# The gateway: simulated vehicles, and messages that come twice, late, in another order or not at all.
+if python3 --version > "$work/out" 2>&1; then
+    for seed in 1 2 3; do
+        check "vehicles behind a gateway arrive, seed $seed" 0 'arrived\nagents 3\nmoves 6\nreports 6\n' '' \
+            "python3 examples/vda5050.py examples/corridor.map examples/corridor.scen examples/corridor.program $seed"
+    done
+else
+    skip 'vehicles behind a gateway: no python3'
+fi

@@ -3,7 +3,7 @@
 
 enter commands
 commands=$(cd "$room" && fleet --help | awk '/^Commands:/ { on = 1; next } /^$/ { on = 0 } on && $1 != "help" { print $1 }')
-check 'help lists the commands' 0 'instance check plan compile verify run rehearse auto thin migrate list dispatch\n' '' "echo $(echo "$commands" | tr '\n' ' ')"
+check 'help lists the commands' 0 "$(echo $(sed -n 's/^[^#].*|\([a-z]*\) .*/\1/p' "$root/tests/commands.list"))\n" '' "echo $(echo "$commands" | tr '\n' ' ')"
 
 # Help in all its forms is that of tests/transcripts/help.md, which is compared with the other transcripts.
 for command in '' $commands; do
@@ -16,7 +16,7 @@ for command in '' $commands; do
         /^Usage:/ { for (i = 4; i <= NF; i++) words = words " " $i }
         /^ +--/ { option = $1; value = $2; values = ""
             if (match($0, /possible values: [^]]*/)) { values = substr($0, RSTART + 17, RLENGTH - 17); gsub(/, /, "|", values) }
-            options = options " [" option " " (values == "" ? value : values) "]" }
+            options = options " [" option (value ~ /^</ ? " " (values == "" ? value : values) : "") "]" }
         END { sub(/ \[OPTIONS\]/, "", words); line = words options; gsub(/[<>]/, "", line); print "### `fleet " command line "`" }' > "$work/want.out"
     grep "^### \`fleet $command " "$root/docs/COMMANDS.md" > "$work/out"
     : > "$work/err"
@@ -51,6 +51,9 @@ instance m s --agents 1 --agents 1: error: the argument '--agents <K>' cannot be
 instance m s --agent 1: error: unexpected argument '--agent' found
 plan m s --tries 0: error: invalid value '0' for '--tries <N>': 0 is not in 1..=1000000
 auto m s --tries 1000001: error: invalid value '1000001' for '--tries <N>': 1000001 is not in 1..=1000000
+plan m s --best all: error: invalid value 'all' for '--best <BEST>'
+check m s p --numbers --numbers: error: the argument '--numbers' cannot be used multiple times
+check m s p --numbers=1: error: unexpected value '1' for '--numbers' found; no more were expected
 compile m s p o --dwell 1000001: error: invalid value '1000001' for '--dwell <N>': 1000001 is not in 0..=1000000
 rehearse p q: error: unexpected argument 'q' found
 rehearse p --agents 1: error: unexpected argument '--agents' found

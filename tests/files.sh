@@ -6,44 +6,15 @@ M=examples/corridor.map S=examples/corridor.scen P=examples/corridor.plan B=exam
 # Each file that a command reads is missing in turn, alone and with those that are read after it. `@` stands for the
 # missing one.
 echo old > "$room/kept"
+grep -v '^#' "$root/tests/commands.list" | sed 's/.*|//; s/OUT/kept/' | awk '
+    { for (k = 1; k <= NF; k++) if ($k ~ /[.]/) { words = $0; $k = "@"; print; $0 = words } }' > "$room/missing"
 while read -r words; do
     check "a missing file: $words" 3 '' 'file nowhere\n' "fleet $(echo "$words" | sed 's/@/nowhere/')"
     check "a missing file, and those after it: $words" 3 '' 'file nowhere\n' \
         "fleet $(echo "$words" | awk '{ for (i = 1; i <= NF; i++) { if (after && $i ~ /^examples/) $i = "none"; if ($i == "@") { $i = "nowhere"; after = 1 } } print }')"
     check "a folder: $words" 3 '' 'file examples\n' "fleet $(echo "$words" | sed 's/@/examples/')"
     check "an empty name: $words" 3 '' 'file \n' "fleet $(echo "$words" | sed "s/@/''/")"
-done <<EOF
-instance @ $S
-instance $M @
-check @ $S $P
-check $M @ $P
-check $M $S @
-plan @ $S
-plan $M @
-compile @ $S $P kept
-compile $M @ $P kept
-compile $M $S @ kept
-verify @ $S $B
-verify $M @ $B
-verify $M $S @
-run @ $S $B --holds $H
-run $M @ $B --holds $H
-run $M $S @ --holds $H
-run $M $S $B --holds @
-rehearse @ --holds $H
-rehearse $B --holds @
-auto @ $S --holds $H
-auto $M @ --holds $H
-auto $M $S --holds @
-thin @ $S $B kept
-thin $M @ $B kept
-thin $M $S @ kept
-migrate @ kept
-list @
-dispatch @ $S $B
-dispatch $M @ $B
-dispatch $M $S @
-EOF
+done < "$room/missing"
 check 'OUT stays as it was where a file is missing' 0 'old\n' '' 'cat kept'
 check 'the first of two missing files is reported' 3 '' 'file a\n' 'fleet check a b c'
 check 'files are read before any is judged' 3 '' 'file nowhere\n' "fleet auto $S $S --holds nowhere"

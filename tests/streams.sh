@@ -5,33 +5,17 @@ enter streams
 M=examples/corridor.map S=examples/corridor.scen P=examples/corridor.plan B=examples/corridor.program
 
 # A full and a closed standard output.
-while read -r words; do
-    case $words in
-        auto* | run* | rehearse*) line='run 4 Write\n' ;;
-        dispatch*) line='dispatch 5 Write\n' ;;
-        *) line='file -\n' ;;
-    esac
-    check "standard output is full: $words" 3 '' "$line" "fleet $words > /dev/full"
-    check "standard output is closed: $words" 3 '' "$line" "fleet $words >&-"
-done <<EOF
-instance $M $S
-check $M $S $P
-plan $M $S
-compile $M $S $P out
-verify $M $S $B
-run $M $S $B
-rehearse $B
-auto $M $S
-thin $M $S $B out
-migrate $B anew
-list $B
-dispatch $M $S $B
-EOF
+grep -v '^#' "$root/tests/commands.list" > "$room/commands"
+while IFS='|' read -r line words; do
+    words=$(echo "$words" | sed "s/OUT/out.${words%% *}/")
+    check "standard output is full: $words" 3 '' "$line\n" "fleet $words > /dev/full"
+    check "standard output is closed: $words" 3 '' "$line\n" "fleet $words >&-"
+done < "$room/commands"
 check 'standard output is full: help' 3 '' 'file -\n' 'fleet --help > /dev/full'
 check 'standard output is full: no words' 3 '' 'run 4 Write\n' 'fleet < examples/corridor.hex > /dev/full'
 check 'standard output is closed: no words' 3 '' 'run 4 Write\n' 'fleet < examples/corridor.hex >&-'
-check 'OUT stands where the numbers cannot be printed' 0 '' '' "cmp out $B"
-check '.. of migrate too' 0 '' '' "fleet migrate $B again > numbers && cmp anew again"
+check 'OUT stands where the numbers cannot be printed' 0 '' '' "cmp out.compile $B"
+check '.. of migrate too' 0 '' '' "fleet migrate $B again > numbers && cmp out.migrate again"
 check 'a refusal writes nothing to a full standard output' 1 '' 'scen 11 Fewer\n' "fleet instance $M $S --agents 9 > /dev/full"
 check 'the lines before a refusal, into a full standard output' 3 '' 'run 4 Write\n' "printf '%s\n' 0 0 9 > wrong; fleet auto $M $S --holds wrong > /dev/full"
 check '.. of a rehearsal' 3 '' 'run 4 Write\n' "fleet rehearse $B --holds wrong > /dev/full"

@@ -1,12 +1,13 @@
 #!/bin/sh
-# What late robots do to a plan: tools/study.sh MAP SCEN [--agents K] [--horizon H] [--tries N] [--deps all|last] [--dwell N]
+# What late robots do to a plan: tools/study.sh MAP SCEN [--agents K] [--horizon H] [--tries N] [--best chain|cost] [--deps all|last] [--dwell N]
 #                                tools/study.sh MAP SCEN --plan PLAN [--agents K] [--deps all|last] [--dwell N]
-# Plans (or takes the plan that was made elsewhere) and compiles once (with the program `fleet`, or that in the variable FLEET), and then runs
-# the program under random holds: for each chance with which an agent stops in a tick (for 3 to 12 ticks; other chances: --chances '0.1 0.2'),
-# five lists of holds, with the seeds 1 to 5, four times as long as the chain. Prints CSV, a line for each chance: of the plan the agents,
-# steps (the makespan), cost (the sum of costs) and chain, and run_cost, the sum of costs of its run with nobody held; the chance; of the five
-# runs the ticks in which some ready agent was held (the mean), the ticks (least, mean and most), and the delay of an agent, by which it comes
-# to rest later than with nobody held: the mean, that which 95 of 100 do not exceed, and the worst, of all agents in all five runs.
+# Plans (or takes the plan that was made elsewhere) and compiles once (with the program `fleet`, or that in the variable FLEET), and then
+# runs the program under random holds: for each chance with which an agent stops in a tick (for 3 to 12 ticks; other chances: --chances '0.1
+# 0.2'), five lists of holds, with the seeds 1 to 5, four times as long as the chain. Prints CSV, a line for each chance: of the plan the
+# agents, steps (the makespan), cost (the sum of costs), bound (the sum of the distances to the goals) and chain, and run_cost, the sum of
+# costs of its run with nobody held; the chance; of the five runs the ticks in which some ready agent was held (the mean), the ticks (least,
+# mean and most), and the delay of an agent, by which it comes to rest later than with nobody held: the mean, that which 95 of 100 do not
+# exceed, and the worst, of all agents in all five runs.
 
 fleet=${FLEET:-fleet}
 tools=$(cd "$(dirname "$0")" && pwd) || exit 2
@@ -23,7 +24,7 @@ while [ $# -gt 0 ]; do
     [ $# -ge 2 ] || { echo "study: $1 needs a value" >&2; exit 2; }
     case $1 in
         --agents) agents="--agents $2" ;;
-        --horizon | --tries) planning="$planning $1 $2" ;;
+        --horizon | --tries | --best) planning="$planning $1 $2" ;;
         --deps | --dwell) compiling="$compiling $1 $2" ;;
         --plan) given=$2 ;;
         --chances) chances=$2 ;;
@@ -37,7 +38,7 @@ if [ -n "$given" ]; then
 else
     $fleet plan "$map" "$scen" $agents $planning > "$work/plan" || exit
 fi
-$fleet check "$map" "$scen" "$work/plan" $agents > "$work/checked" || exit
+$fleet check "$map" "$scen" "$work/plan" $agents --numbers > "$work/checked" || exit
 $fleet compile "$map" "$scen" "$work/plan" "$work/program" $agents $compiling > "$work/compiled" || exit
 
 # run NAME [--holds FILE]: the last lines of a run, and the time from which on each agent rests in it.
@@ -56,8 +57,8 @@ number() { sed -n "s/^$1 //p" "$2"; }
 
 run free
 chain=$(number chain "$work/free.end")
-numbers=$(number agents "$work/checked"),$(number steps "$work/checked"),$(arrivals "$work/plan" | sum),$chain,$(sum < "$work/free.arrivals")
-echo agents,steps,cost,chain,run_cost,chance,held,least,mean,most,delay,delay95,worst
+numbers=$(for name in agents steps cost bound; do number $name "$work/checked"; done | paste -sd , -),$chain,$(sum < "$work/free.arrivals")
+echo agents,steps,cost,bound,chain,run_cost,chance,held,least,mean,most,delay,delay95,worst
 for chance in $chances; do
     : > "$work/ends"
     : > "$work/delays"

@@ -1,41 +1,33 @@
 -- Words in which the command line finds no fault ask for a request.
-use Rattle.std.proofs.Common.{◌≡◌, ◌∙◌, ◌⊎◌, inl, inr, ◌||◌, ◌<◌, ◌^◌, ℕ, Bool, cond, true, false, List, [], ◌∷◌, map, Option, option_and_then, Some, None, codes, is_some, option_map, refl, sym, ap, subst, true≢false, arith, ltb-true}
-use Rattle.std.specs.Prelude.{pos}
+use Rattle.std.proofs.Common.{◌≡◌, ◌∙◌, ◌⊎◌, inl, inr, ◌||◌, ◌++◌, ◌<◌, ◌^◌, ℕ, suc, Bool, cond, true, false, List, [], ◌∷◌, map, Option, option_and_then, Some, None, codes, is_some, option_map, refl, sym, ap, subst, true≢false, arith, ltb-true}
+use Rattle.std.specs.Prelude.{pos, if◌then◌else◌}
 use Rattle.std.specs.Borrow.{Bor}
-use Rattle.std.specs.List.{filter, list_any}
+use Rattle.std.specs.List.{filter, find, list_all, list_any}
 use Rattle.std.specs.Str.{bytes_eq}
 use Rattle.std.specs.Str.Parse.{ParsesUnsigned, digits_value, without_leading_plus}
+use Rattle.std.proofs.lemmas.Bool.{or_right}
 use Rattle.std.proofs.lemmas.Slice.Eq.{bytes_eq-Decides}
 use Rattle.clap.specs.Lexer.{without_minus}
 use Rattle.clap.specs.Matches.{ReadsOne}
 use Rattle.clap.specs.Facts.{parser_of_value}
 use Rattle.clap.specs.Values.{read_as, reading_of}
 use Rattle.clap.specs.ValueTests.{accepts}
-use Rattle.clap.specs.Simple.{subcommand_of, Shape, built, built_leaf, filled, inherited, label_of, marked_built, rows_at, with_index, with_leaf_noted}
+use Rattle.clap.specs.Simple.{subcommand_of, Shape, built, built_leaf, help_shape, filled, inherited, label_of, marked_built, rows_at, with_index, with_leaf_noted}
 use Rattle.clap.specs.Walk.{Row, Rule, Text, answers_to, first_of, nothing_held, one_of, rows_after}
 use Rattle.clap.specs.Faults.{fault_of, level_fault}
 use Rattle.clap.specs.declared.builder.value_parser.ValueParser.TheVariants as parser
 use Rattle.clap.proofs.CallerReads.{signed_reads}
 use Rattle.clap.proofs.ValueTestLemmas.{accepts-Accepts}
 use Rattle.clap.proofs.WalkLemmas.{both}
-use Rattle.fleet_model.specs.declared.deps.Deps.{Deps}
+use Rattle.fleet_args.specs.declared.arguments.OptionNames.{OptionNames}
+use Rattle.fleet_args.specs.declared.arguments.Argument.{Argument}
+use Rattle.fleet_args.specs.declared.arguments.Argument.TheVariants as a
+use Rattle.fleet_args.specs.declared.tries.Best.TheVariants as best_is
 use Rattle.fleet_model.specs.declared.limits.TheConstants.{MAX_MOVES, MAX_TRIES}
 use Rattle.fleet_model.specs.declared.deps.Deps.TheVariants as deps
-use Rattle.fleet_args.specs.Arguments.{DepsNames, AreDeps, agents_rule, horizon_rule, tries_rule, deps_rule, dwell_rule, word}
-use Rattle.fleet_args.specs.CommandLine.{fleet, fleet_top}
-use Rattle.fleet_args.specs.Instance.{instance_shape}
-use Rattle.fleet_args.specs.Check.{check_shape}
-use Rattle.fleet_args.specs.Plan.{plan_shape}
-use Rattle.fleet_args.specs.Compile.{compile_shape}
-use Rattle.fleet_args.specs.Verify.{verify_shape}
-use Rattle.fleet_args.specs.Run.{run_shape}
-use Rattle.fleet_args.specs.Rehearse.{rehearse_shape}
-use Rattle.fleet_args.specs.Auto.{auto_shape}
-use Rattle.fleet_args.specs.Thin.{thin_shape}
-use Rattle.fleet_args.specs.Migrate.{migrate_shape}
-use Rattle.fleet_args.specs.List.{list_shape}
-use Rattle.fleet_args.specs.Dispatch.{dispatch_shape}
-use Rattle.fleet_args.specs.Values.{Values, values_of, deps_in, number_by, number_in, has_text, reads_number, has_number, has_count, has_kind}
+use Rattle.fleet_args.specs.Arguments.{AreNames, agents_rule, horizon_rule, tries_rule, best_rule, deps_rule, dwell_rule, rule_for, word}
+use Rattle.fleet_args.specs.CommandLine.{commands, fleet, fleet_top, shape_in}
+use Rattle.fleet_args.specs.Values.{Values, values_of, best_by, deps_in, number_by, number_in, has_text, reads_number, has_number, has_count, has_kind, reads_best, has_value}
 use Rattle.fleet_args.specs.Request.{is_answered_by}
 use Rattle.fleet_args.proofs.RequestLemmas.{digits_from, is_small, is_small_number}
 use Rattle.fleet_args.proofs.MatchedRows.{Among}
@@ -82,29 +74,38 @@ any_lent : (p : Text → Bool) (xs : List (Bor Text)) → list_any (λ x. p x.no
 any_lent p [] = refl
 any_lent p (x ∷ xs) = ap (λ b. p x.now || b) (any_lent p xs)
 
--- a text that is one of the two names is the name of a kind of awaits
-deps_known : (text : Text) → (bytes_eq (codes "all") text || (bytes_eq (codes "last") text || false)) ≡ true → (d : Deps) × (deps_in text ≡ Some d)
-deps_known text h = go (bytes_eq (codes "all") text) (bytes_eq (codes "last") text) refl refl h
-  where
-    go : (all last : Bool) → bytes_eq (codes "all") text ≡ all → bytes_eq (codes "last") text ≡ last → (all || (last || false)) ≡ true → (d : Deps) × (deps_in text ≡ Some d)
-    go true last e f t =
-        let same : codes "all" ≡ text = (bytes_eq-Decides (codes "all") text).0 e in
-        (deps.All, ap deps_in (sym same))
-    go false true e f t =
-        let same : codes "last" ≡ text = (bytes_eq-Decides (codes "last") text).0 f in
-        (deps.Last, ap deps_in (sym same))
-    go false false e f t = absurd (true≢false (sym t))
+-- what the first of two names that a text is stands for
+abbrev chosen : {A : Type 0} → Text → A → Text → A → Text → Option A
+chosen one x two y text = if bytes_eq text one then Some x else (if bytes_eq text two then Some y else None)
 
--- a value that passed the names is one of them
-deps_value : (names : DepsNames) (a : Rule) (rows : List Row) → AreDeps names → a.parser ≡ Some (parser.Names names) → a.ignore_case ≡ false → HasValue a rows
-    → (d : Deps) × (option_and_then deps_in (first_of a.id rows) ≡ Some d)
-deps_value names a rows are is exact value =
-    let pass : accepts a.ignore_case (parser.Names names) value.text ≡ true = ap (λ p. accepts a.ignore_case (parser_of_value p) value.text) (sym is) ∙ value.pass in
-    let plain : list_any (λ name. bytes_eq name.now value.text) names.now ≡ true = rw exact at pass in
-    let among : list_any (λ name. bytes_eq name value.text) (codes "all" ∷ codes "last" ∷ []) ≡ true =
-    sym (any_lent (λ name. bytes_eq name value.text) names.now ∙ ap (list_any (λ name. bytes_eq name value.text)) are) ∙ plain in
-    let known = deps_known value.text among in
-    (known.0, ap (option_and_then deps_in) value.first ∙ known.1)
+turned : (a b : Text) → bytes_eq a b ≡ true → bytes_eq b a ≡ true
+turned a b h = (bytes_eq-Decides b a).1 (sym ((bytes_eq-Decides a b).0 h))
+
+first_true : (b : Bool) → (b || false) ≡ true → b ≡ true
+first_true true t = refl
+first_true false t = t
+
+-- a text that is one of the two names stands for something
+known : {A : Type 0} (one two : Text) (x y : A) (text : Text) → (bytes_eq one text || (bytes_eq two text || false)) ≡ true → (v : A) × (chosen one x two y text ≡ Some v)
+known {A} one two x y text h = pick (bytes_eq text one) (bytes_eq text two) (either (bytes_eq one text) refl h)
+  where
+    either : (b : Bool) → bytes_eq one text ≡ b → (b || (bytes_eq two text || false)) ≡ true → (bytes_eq text one || bytes_eq text two) ≡ true
+    either true e t = rw (turned one text e) refl
+    either false e t = or_right (bytes_eq text one) (bytes_eq text two) (turned two text (first_true (bytes_eq two text) t))
+
+    pick : (b c : Bool) → (b || c) ≡ true → (v : A) × (cond b (Some x) (cond c (Some y) None) ≡ Some v)
+    pick true c t = (x, refl)
+    pick false true t = (y, refl)
+    pick false false t = absurd (true≢false (sym t))
+
+-- a value that passed two names is one of them
+named_value : {A : Type 0} (lent : Bor (List (Bor Text))) (one two : Text) (x y : A) (a : Rule) (rows : List Row) → map (λ name. name.now) lent.now ≡ one ∷ two ∷ []
+    → a.parser ≡ Some (parser.Names lent) → a.ignore_case ≡ false → (value : HasValue a rows) → (v : A) × (chosen one x two y value.text ≡ Some v)
+named_value lent one two x y a rows are is exact value =
+    let pass : accepts a.ignore_case (parser.Names lent) value.text ≡ true = ap (λ p. accepts a.ignore_case (parser_of_value p) value.text) (sym is) ∙ value.pass in
+    let plain : list_any (λ name. bytes_eq name.now value.text) lent.now ≡ true = rw exact at pass in
+    known one two x y value.text
+    (sym (any_lent (λ name. bytes_eq name value.text) lent.now ∙ ap (list_any (λ name. bytes_eq name value.text)) are) ∙ plain)
 
 -- ---- the commands
 
@@ -151,172 +152,101 @@ module _ (shape : Shape) (negates : (leaf shape).subcommand_negates_reqs ≡ fal
       let value = number_value 32 (at place dwell_rule) rows 0 MAX_MOVES refl (omega arith) (default_value (leaf shape) words none (at place dwell_rule) alone refl refl) in
       ap (λ number. is_some (option_and_then (λ n. n) number)) value.1
 
-  kind : (names : DepsNames) → AreDeps names → (place : ℕ) → IsAt shape place (codes "deps") (deps_rule names) → has_kind values (codes "deps") ≡ true
+  kind : (names : OptionNames) → AreNames names → (place : ℕ) → IsAt shape place (codes "deps") (deps_rule names) → has_kind values (codes "deps") ≡ true
   kind names are place alone =
-      let rows = rows_after (leaf shape).rules [] words in
-      ap is_some (deps_value names (at place (deps_rule names)) rows are refl refl (default_value (leaf shape) words none (at place (deps_rule names)) alone refl refl)).1
+      let value = default_value (leaf shape) words none (at place (deps_rule names)) alone refl refl in
+      let known = named_value names.deps (codes "all") (codes "last") deps.All deps.Last (at place (deps_rule names)) _ are.deps refl refl value in
+      ap is_some (ap (option_and_then deps_in) value.first ∙ known.1)
 
-abbrev Answers : Shape → List Text → Type 0
-Answers shape words = level_fault (leaf shape) [] nothing_held words false [] ≡ [] → is_answered_by (Some (rows_at (leaf shape) words)) ≡ true
+  best : (names : OptionNames) → AreNames names → (place : ℕ) → IsAt shape place (codes "best") (best_rule names) → reads_best values (codes "best") ≡ true
+  best names are place alone =
+      elim (optional_value (leaf shape) words none (at place (best_rule names)) alone refl) [
+        | inl unused ↦ ap (λ text. is_some (best_by text)) unused.0
+        | inr value ↦
+            let known = named_value names.best (codes "chain") (codes "cost") best_is.Chain best_is.Cost (at place (best_rule names)) _ are.best refl refl value in
+            ap (λ text. is_some (best_by text)) value.first ∙ ap (λ known. is_some (option_map Some known)) known.1
+      ]
 
-instance_answers : (words : List Text) → Answers instance_shape words
-instance_answers words none =
-    rw (
-      text instance_shape refl words none 1 (codes "map") refl,
-      text instance_shape refl words none 2 (codes "scen") refl,
-      agents instance_shape refl words none 3 refl,
-    ) refl
+-- the arguments, each alone, one after another from this place on
+abbrev placed : OptionNames → ℕ → List Argument → List (List Rule)
+placed names place [] = []
+placed names place (x ∷ xs) = (at place (rule_for names x) ∷ []) ∷ placed names (suc place) xs
 
-check_answers : (words : List Text) → Answers check_shape words
-check_answers words none =
-    rw (
-      text check_shape refl words none 1 (codes "map") refl,
-      text check_shape refl words none 2 (codes "scen") refl,
-      text check_shape refl words none 3 (codes "plan") refl,
-      agents check_shape refl words none 4 refl,
-    ) refl
+-- what the shape has under the name of each
+abbrev under_names : OptionNames → Shape → List Argument → List (List Rule)
+under_names names shape xs = map (λ x. filter (λ y. bytes_eq y.id (rule_for names x).id) (leaf shape).rules) xs
 
-plan_answers : (words : List Text) → Answers plan_shape words
-plan_answers words none =
-    rw (
-      text plan_shape refl words none 1 (codes "map") refl,
-      text plan_shape refl words none 2 (codes "scen") refl,
-      agents plan_shape refl words none 3 refl,
-      horizon plan_shape refl words none 4 refl,
-      tries plan_shape refl words none 5 refl,
-    ) refl
+-- the arguments stand one after another, from this place on, and no other has the name of one of them
+abbrev AreAt : OptionNames → Shape → ℕ → List Argument → Type 0
+AreAt names shape place xs = under_names names shape xs ≡ placed names place xs
 
-compile_answers : (names : DepsNames) → AreDeps names → (words : List Text) → Answers (compile_shape names) words
-compile_answers names are words none =
-    rw (
-      text (compile_shape names) refl words none 1 (codes "map") refl,
-      text (compile_shape names) refl words none 2 (codes "scen") refl,
-      text (compile_shape names) refl words none 3 (codes "plan") refl,
-      text (compile_shape names) refl words none 4 (codes "out") refl,
-      agents (compile_shape names) refl words none 5 refl,
-      kind (compile_shape names) refl words none names are 6 refl,
-      dwell (compile_shape names) refl words none 7 refl,
-    ) refl
+-- .. and all have values, if the words have no fault
+module _ (names : OptionNames) (are : AreNames names) (shape : Shape) (negates : (leaf shape).subcommand_negates_reqs ≡ false) (words : List Text)
+    (none : level_fault (leaf shape) [] nothing_held words false [] ≡ []) where
+  has : (x : Argument) (place : ℕ) → filter (λ y. bytes_eq y.id (rule_for names x).id) (leaf shape).rules ≡ at place (rule_for names x) ∷ [] → has_value (values shape negates words none) x ≡ true
+  has a.Map place alone = text shape negates words none place (codes "map") alone
+  has a.Scen place alone = text shape negates words none place (codes "scen") alone
+  has a.Plan place alone = text shape negates words none place (codes "plan") alone
+  has a.Out place alone = text shape negates words none place (codes "out") alone
+  has a.Program place alone = text shape negates words none place (codes "program") alone
+  has a.Agents place alone = agents shape negates words none place alone
+  has a.Horizon place alone = horizon shape negates words none place alone
+  has a.Tries place alone = tries shape negates words none place alone
+  has a.Best place alone = best shape negates words none names are place alone
+  has a.Deps place alone = kind shape negates words none names are place alone
+  has a.Dwell place alone = dwell shape negates words none place alone
+  has a.Holds place alone = refl
+  has a.Numbers place alone = refl
 
-verify_answers : (words : List Text) → Answers verify_shape words
-verify_answers words none =
-    rw (
-      text verify_shape refl words none 1 (codes "map") refl,
-      text verify_shape refl words none 2 (codes "scen") refl,
-      text verify_shape refl words none 3 (codes "program") refl,
-      agents verify_shape refl words none 4 refl,
-    ) refl
+  have : (place : ℕ) (xs : List Argument) → AreAt names shape place xs → list_all (has_value (values shape negates words none)) xs ≡ true
+  have place [] h = refl
+  have place (x ∷ xs) h =
+      let here : filter (λ y. bytes_eq y.id (rule_for names x).id) (leaf shape).rules ≡ at place (rule_for names x) ∷ [] = cc in
+      let rest : under_names names shape xs ≡ placed names (suc place) xs = cc in
+      rw (has x place here, have (suc place) xs rest) refl
 
-run_answers : (words : List Text) → Answers run_shape words
-run_answers words none =
-    rw (
-      text run_shape refl words none 1 (codes "map") refl,
-      text run_shape refl words none 2 (codes "scen") refl,
-      text run_shape refl words none 3 (codes "program") refl,
-      agents run_shape refl words none 4 refl,
-    ) refl
+-- the command is the one of its name, and its arguments stand in its shape
+abbrev IsListed : OptionNames → Text × List Argument → Type 0
+IsListed names c = (find (λ d. bytes_eq c.0 d.0) commands ≡ Some c) × AreAt names (shape_in names c) 1 c.1
 
-rehearse_answers : (words : List Text) → Answers rehearse_shape words
-rehearse_answers words none =
-    rw (text rehearse_shape refl words none 1 (codes "program") refl) refl
+abbrev EachIsListed : OptionNames → List (Text × List Argument) → Type 0
+EachIsListed names cs = (map (λ c. find (λ d. bytes_eq c.0 d.0) commands) cs ≡ map Some cs) × (map (λ c. under_names names (shape_in names c) c.1) cs ≡ map (λ c. placed names 1 c.1) cs)
 
-auto_answers : (names : DepsNames) → AreDeps names → (words : List Text) → Answers (auto_shape names) words
-auto_answers names are words none =
-    rw (
-      text (auto_shape names) refl words none 1 (codes "map") refl,
-      text (auto_shape names) refl words none 2 (codes "scen") refl,
-      agents (auto_shape names) refl words none 3 refl,
-      horizon (auto_shape names) refl words none 4 refl,
-      tries (auto_shape names) refl words none 5 refl,
-      kind (auto_shape names) refl words none names are 6 refl,
-    ) refl
-
-thin_answers : (words : List Text) → Answers thin_shape words
-thin_answers words none =
-    rw (
-      text thin_shape refl words none 1 (codes "map") refl,
-      text thin_shape refl words none 2 (codes "scen") refl,
-      text thin_shape refl words none 3 (codes "program") refl,
-      text thin_shape refl words none 4 (codes "out") refl,
-      agents thin_shape refl words none 5 refl,
-    ) refl
-
-migrate_answers : (words : List Text) → Answers migrate_shape words
-migrate_answers words none =
-    rw (
-      text migrate_shape refl words none 1 (codes "program") refl,
-      text migrate_shape refl words none 2 (codes "out") refl,
-    ) refl
-
-list_answers : (words : List Text) → Answers list_shape words
-list_answers words none =
-    rw (text list_shape refl words none 1 (codes "program") refl) refl
-
-dispatch_answers : (words : List Text) → Answers dispatch_shape words
-dispatch_answers words none =
-    rw (
-      text dispatch_shape refl words none 1 (codes "map") refl,
-      text dispatch_shape refl words none 2 (codes "scen") refl,
-      text dispatch_shape refl words none 3 (codes "program") refl,
-      agents dispatch_shape refl words none 4 refl,
-    ) refl
+all_listed : (names : OptionNames) → EachIsListed names commands
+all_listed names = (refl, refl)
 
 -- ---- the command line
 
-answers_each : (names : DepsNames) → AreDeps names → (s : Shape) (words : List Text) → Among s (built (fleet names)).subs → (name : Text) → answers_to name (label_of s) ≡ true
+-- a subcommand is that of a listed command, or help
+listed : (names : OptionNames) (help s : Shape) (cs : List (Text × List Argument)) → EachIsListed names cs → Among s (map (λ c. leaf (shape_in names c)) cs ++ help ∷ [])
+    → ((c : Text × List Argument) × IsListed names c × (s ≡ leaf (shape_in names c))) ⊎ (s ≡ help)
+listed names help s [] each (inl same) = inr same
+listed names help s [] each (inr nothing) = absurd nothing
+listed names help s (c ∷ cs) each (inl same) =
+    let found_all = each.0 in
+    let at_all = each.1 in
+    let found : find (λ d. bytes_eq c.0 d.0) commands ≡ Some c = cc in
+    let at_one : AreAt names (shape_in names c) 1 c.1 = cc in
+    inl (c, (found, at_one), same)
+listed names help s (c ∷ cs) each (inr later) =
+    let found_all = each.0 in
+    let at_all = each.1 in
+    listed names help s cs (cc, cc) later
+
+answers_each : (names : OptionNames) → AreNames names → (s : Shape) (words : List Text) → Among s (built (fleet names)).subs → (name : Text) → answers_to name (label_of s) ≡ true
     → bytes_eq name (codes "help") ≡ false → level_fault s [] nothing_held words false [] ≡ [] → is_answered_by (Some (rows_at s words)) ≡ true
-answers_each names are s words among name named no_help = elim among [
-  | inl same ↦ subst P (sym same) (instance_answers words)
-  | inr second ↦ elim second [
-    | inl same ↦ subst P (sym same) (check_answers words)
-    | inr third ↦ elim third [
-      | inl same ↦ subst P (sym same) (plan_answers words)
-      | inr fourth ↦ elim fourth [
-        | inl same ↦ subst P (sym same) (compile_answers names are words)
-        | inr fifth ↦ elim fifth [
-          | inl same ↦ subst P (sym same) (verify_answers words)
-          | inr sixth ↦ elim sixth [
-            | inl same ↦ subst P (sym same) (run_answers words)
-            | inr seventh ↦ elim seventh [
-              | inl same ↦ subst P (sym same) (rehearse_answers words)
-              | inr eighth ↦ elim eighth [
-                | inl same ↦ subst P (sym same) (auto_answers names are words)
-                | inr ninth ↦ elim ninth [
-                  | inl same ↦ subst P (sym same) (thin_answers words)
-                  | inr tenth ↦ elim tenth [
-                    | inl same ↦ subst P (sym same) (migrate_answers words)
-                    | inr eleventh ↦ elim eleventh [
-                      | inl same ↦ subst P (sym same) (list_answers words)
-                      | inr twelfth ↦ elim twelfth [
-                        | inl same ↦ subst P (sym same) (dispatch_answers words)
-                        | inr last ↦ elim last [
-                          | inl same ↦ λ none. absurd (true≢false (sym (helps (ap (λ x. answers_to name (label_of x)) (sym same) ∙ named)) ∙ no_help))
-                          | inr nothing ↦ absurd nothing
-                        ]
-                      ]
-                    ]
-                  ]
-                ]
-              ]
-            ]
-          ]
-        ]
-      ]
-    ]
-  ]
+answers_each names are s words among name named no_help = elim (listed names (built_leaf help_shape) s commands (all_listed names) among) [
+  | inl (c, is, same) ↦ subst P (sym same) (λ none. rw is.0 (have names are (shape_in names c) refl words none 1 c.1 is.1))
+  | inr same ↦ λ none. absurd (true≢false (sym (helps (ap (λ x. answers_to name (label_of x)) (sym same) ∙ named)) ∙ no_help))
 ]
   where
     P : Shape → Type 0
     P x = level_fault x [] nothing_held words false [] ≡ [] → is_answered_by (Some (rows_at x words)) ≡ true
 
     helps : (bytes_eq (codes "help") name || false) ≡ true → bytes_eq name (codes "help") ≡ true
-    helps e = (bytes_eq-Decides name (codes "help")).1 (sym ((bytes_eq-Decides (codes "help") name).0 (first (bytes_eq (codes "help") name) e)))
-      where
-        first : (b : Bool) → (b || false) ≡ true → b ≡ true
-        first true t = refl
-        first false t = t
+    helps e = turned (codes "help") name (first_true (bytes_eq (codes "help") name) e)
 
-pub is_answered : (names : DepsNames) → AreDeps names → (words : List Text) → fault_of (fleet names) words ≡ [] → is_answered_by (subcommand_of (fleet names) words) ≡ true
+pub is_answered : (names : OptionNames) → AreNames names → (words : List Text) → fault_of (fleet names) words ≡ [] → is_answered_by (subcommand_of (fleet names) words) ≡ true
 is_answered names are words none =
     let e = enters (built (fleet names)) words refl refl none in
     ap is_answered_by e.found ∙ answers_each names are e.command e.left e.among e.answers.0 e.answers.1 e.answers.2 e.none

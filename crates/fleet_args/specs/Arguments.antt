@@ -1,14 +1,16 @@
 -- The words and options of the commands, as what a parse reads of them.
-use Rattle.std.specs.Prelude.{◌≡◌, true, false, List, [], ◌∷◌, Option, None, Some, codes, pos, fold, map, if◌then◌else◌}
-use Rattle.std.specs.Borrow.{Bor}
+use Rattle.std.specs.Prelude.{◌≡◌, ℕ, true, false, List, [], ◌∷◌, Option, None, Some, codes, pos, map, if◌then◌else◌}
 use Rattle.std.specs.Option.{option_map_or}
 use Rattle.clap.specs.Words.{App, Shape, Rule, Text, app_of, new_app, new_rule, with_rule, shape_of, rule_of}
 use Rattle.clap.specs.declared.builder.Arg.{Arg}
 use Rattle.clap.specs.declared.builder.Command.TheViews.{out-Command as fields_of}
 use Rattle.clap.specs.declared.builder.Command.{Command}
+use Rattle.clap.specs.declared.builder.action.ArgAction.{ArgAction}
+use Rattle.clap.specs.declared.builder.action.ArgAction.TheVariants.{SetTrue}
 use Rattle.clap.specs.declared.builder.ValueParser.{ValueParser}
 use Rattle.clap.specs.declared.builder.ValueParser.TheVariants as parser
 use Rattle.fleet_model.specs.declared.limits.TheConstants.{MAX_MOVES, MAX_TRIES}
+use Rattle.fleet_args.specs.declared.arguments.OptionNames.{OptionNames}
 use Rattle.fleet_args.specs.declared.arguments.Argument.{Argument}
 use Rattle.fleet_args.specs.declared.arguments.Argument.TheVariants as a
 use Rattle.fleet_args.specs.declared.arguments.ArgumentText.{ArgumentText}
@@ -40,45 +42,62 @@ horizon_rule = defaulted (codes "horizon") (parser.Signed (pos 1) (pos 65535)) (
 abbrev pub tries_rule : Rule
 tries_rule = defaulted (codes "tries") (parser.Signed (pos 1) (pos MAX_TRIES)) (codes "1")
 
--- the names of the kinds of awaits, as texts that are lent
-abbrev pub DepsNames : Type 0
-DepsNames = Bor (List (Bor Text))
+-- the names that options take: `all` and `last` are those of the kinds of awaits, and `chain` and `cost` those of what makes a plan the best
+pub record AreNames (names : OptionNames) : Type 0 where
+  pub deps : map (λ name. name.now) names.deps.now ≡ codes "all" ∷ codes "last" ∷ []
+  pub best : map (λ name. name.now) names.best.now ≡ codes "chain" ∷ codes "cost" ∷ []
 
--- they are `all` and `last`
-abbrev pub AreDeps : DepsNames → Type 0
-AreDeps names = map (λ name. name.now) names.now ≡ codes "all" ∷ codes "last" ∷ []
+-- `--best NAME`, where NAME is one of the names of what makes a plan the best
+abbrev pub best_rule : OptionNames → Rule
+best_rule names = record (option (codes "best")) { parser = Some (parser.Names names.best) }
 
 -- `--deps NAME`, where NAME is one of the names of the kinds of awaits, and `last` if the option is not used
-abbrev pub deps_rule : DepsNames → Rule
-deps_rule names = defaulted (codes "deps") (parser.Names names) (codes "last")
+abbrev pub deps_rule : OptionNames → Rule
+deps_rule names = defaulted (codes "deps") (parser.Names names.deps) (codes "last")
 
 -- `--dwell N`, where N is a number up to 1,000,000, and 0 if the option is not used
 abbrev pub dwell_rule : Rule
 dwell_rule = defaulted (codes "dwell") (parser.Signed (pos 0) (pos MAX_MOVES)) (codes "0")
 
--- the rule of an argument that takes any text and has no default
+-- `--NAME`, which is used or not
+abbrev pub flag : Text → Rule
+flag name = record (new_rule name) { long = Some name; action = Some SetTrue }
+
+-- what a flag does, and how many values another option has
+abbrev pub action_for : Values → Option ArgAction
+action_for values.Flag = Some SetTrue
+action_for _ = None
+
+abbrev pub value_names_for : Values → ℕ
+value_names_for values.Flag = 0
+value_names_for _ = 1
+
+-- the rule of an argument that takes any text and has no default, or of a flag
 abbrev pub plain_rule : ArgumentText → Rule
 plain_rule text = record (new_rule text.name.now) {
   required = text.is_word;
   long = if text.is_word then None else Some text.name.now;
-  value_names = 1;
+  action = action_for text.values;
+  value_names = value_names_for text.values;
 }
 
 -- how the values of an argument are read
-abbrev pub parser_for : DepsNames → Values → Option ValueParser
+abbrev pub parser_for : OptionNames → Values → Option ValueParser
 parser_for names values.Text = None
 parser_for names (values.Numbers least most) = Some (parser.Signed least most)
-parser_for names values.Deps = Some (parser.Names names)
+parser_for names values.Deps = Some (parser.Names names.deps)
+parser_for names values.Best = Some (parser.Names names.best)
+parser_for names values.Flag = None
 
 -- the rule that an argument's description gives
-abbrev pub rule_by : DepsNames → ArgumentText → Rule
+abbrev pub rule_by : OptionNames → ArgumentText → Rule
 rule_by names text = record (plain_rule text) {
   parser = parser_for names text.values;
   defaults = option_map_or (λ default. default.now ∷ []) text.default [];
 }
 
 -- the rule of each argument
-abbrev pub rule_for : DepsNames → Argument → Rule
+abbrev pub rule_for : OptionNames → Argument → Rule
 rule_for names a.Map = word (codes "map")
 rule_for names a.Scen = word (codes "scen")
 rule_for names a.Plan = word (codes "plan")
@@ -87,16 +106,18 @@ rule_for names a.Program = word (codes "program")
 rule_for names a.Agents = agents_rule
 rule_for names a.Horizon = horizon_rule
 rule_for names a.Tries = tries_rule
+rule_for names a.Best = best_rule names
 rule_for names a.Deps = deps_rule names
 rule_for names a.Dwell = dwell_rule
 rule_for names a.Holds = option (codes "holds")
+rule_for names a.Numbers = flag (codes "numbers")
 
 -- a command without subcommands, by its name and its arguments
 abbrev pub command : Text → List Rule → Shape
-command name rules = (fold with_rule (new_app name) rules).top
+command name rules = record (new_app name).top { rules = rules }
 
 -- the shape of a command, by its name and its arguments
-abbrev pub shape_for : DepsNames → CommandText → Shape
+abbrev pub shape_for : OptionNames → CommandText → Shape
 shape_for names text = command text.name.now (map (rule_for names) text.arguments.now)
 
 -- the argument has this rule, and does not reach into other commands

@@ -1,19 +1,11 @@
 -- The program's command line, as what a parse reads of it.
-use Rattle.std.specs.Prelude.{List, true, [], ◌∷◌, ◌++◌, codes, fold}
-use Rattle.clap.specs.Words.{App, Shape, new_app, with_subcommand}
-pub use Rattle.fleet_args.specs.Arguments.{DepsNames, AreDeps}
-use Rattle.fleet_args.specs.Instance.{instance_shape}
-use Rattle.fleet_args.specs.Check.{check_shape}
-use Rattle.fleet_args.specs.Plan.{plan_shape}
-use Rattle.fleet_args.specs.Compile.{compile_shape}
-use Rattle.fleet_args.specs.Verify.{verify_shape}
-use Rattle.fleet_args.specs.Run.{run_shape}
-use Rattle.fleet_args.specs.Rehearse.{rehearse_shape}
-use Rattle.fleet_args.specs.Auto.{auto_shape}
-use Rattle.fleet_args.specs.Thin.{thin_shape}
-use Rattle.fleet_args.specs.Migrate.{migrate_shape}
-use Rattle.fleet_args.specs.List.{list_shape}
-use Rattle.fleet_args.specs.Dispatch.{dispatch_shape}
+use Rattle.std.specs.Prelude.{List, true, [], ◌∷◌, codes, fold, map}
+use Rattle.clap.specs.Words.{App, Shape, Text, new_app, with_subcommand}
+pub use Rattle.fleet_args.specs.Arguments.{AreNames}
+pub use Rattle.fleet_args.specs.declared.arguments.OptionNames.{OptionNames}
+use Rattle.fleet_args.specs.Arguments.{command, rule_for}
+use Rattle.fleet_args.specs.declared.arguments.Argument.{Argument}
+use Rattle.fleet_args.specs.declared.arguments.Argument.TheVariants as a
 
 -- the command line before it has commands: its words do not begin with the program's name, it has a version, and one of the commands is
 -- wanted
@@ -26,18 +18,27 @@ fleet_top = record (new_app (codes "fleet")) {
 abbrev pub with_shapes : App → List Shape → App
 with_shapes = fold with_subcommand
 
--- the commands that make plans and programs
-abbrev pub planning_shapes : DepsNames → List Shape
-planning_shapes names = instance_shape ∷ check_shape ∷ plan_shape ∷ compile_shape names ∷ []
+-- the commands in the order of help, each by its name and its arguments
+abbrev pub commands : List (Text × List Argument)
+commands =
+    (codes "instance", a.Map ∷ a.Scen ∷ a.Agents ∷ []) ∷
+    (codes "check", a.Map ∷ a.Scen ∷ a.Plan ∷ a.Agents ∷ a.Numbers ∷ []) ∷
+    (codes "plan", a.Map ∷ a.Scen ∷ a.Agents ∷ a.Horizon ∷ a.Tries ∷ a.Best ∷ []) ∷
+    (codes "compile", a.Map ∷ a.Scen ∷ a.Plan ∷ a.Out ∷ a.Agents ∷ a.Deps ∷ a.Dwell ∷ []) ∷
+    (codes "verify", a.Map ∷ a.Scen ∷ a.Program ∷ a.Agents ∷ []) ∷
+    (codes "run", a.Map ∷ a.Scen ∷ a.Program ∷ a.Agents ∷ a.Holds ∷ []) ∷
+    (codes "rehearse", a.Program ∷ a.Holds ∷ []) ∷
+    (codes "auto", a.Map ∷ a.Scen ∷ a.Agents ∷ a.Horizon ∷ a.Tries ∷ a.Best ∷ a.Deps ∷ a.Holds ∷ []) ∷
+    (codes "thin", a.Map ∷ a.Scen ∷ a.Program ∷ a.Out ∷ a.Agents ∷ []) ∷
+    (codes "migrate", a.Program ∷ a.Out ∷ []) ∷
+    (codes "list", a.Program ∷ []) ∷
+    (codes "dispatch", a.Map ∷ a.Scen ∷ a.Program ∷ a.Agents ∷ []) ∷
+    []
 
--- those that verify programs and run them
-abbrev pub running_shapes : DepsNames → List Shape
-running_shapes names = verify_shape ∷ run_shape ∷ rehearse_shape ∷ auto_shape names ∷ []
-
--- and the others
-abbrev pub other_shapes : List Shape
-other_shapes = thin_shape ∷ migrate_shape ∷ list_shape ∷ dispatch_shape ∷ []
+-- the shape of a command
+abbrev pub shape_in : OptionNames → Text × List Argument → Shape
+shape_in names c = command c.0 (map (rule_for names) c.1)
 
 -- the whole command line
-abbrev pub fleet : DepsNames → App
-fleet names = with_shapes fleet_top (planning_shapes names ++ running_shapes names ++ other_shapes)
+abbrev pub fleet : OptionNames → App
+fleet names = with_shapes fleet_top (map (shape_in names) commands)

@@ -1,16 +1,5 @@
 pub mod Arguments
 pub mod Values
-pub mod Instance
-pub mod Check
-pub mod Plan
-pub mod Compile
-pub mod Verify
-pub mod Run
-pub mod Rehearse
-pub mod Auto
-pub mod Thin
-pub mod Migrate
-pub mod List
-pub mod Dispatch
+pub mod Requests
 pub mod CommandLine
 pub mod Request

@@ -1,24 +1,14 @@
 -- The request that the words make, by the matches that `clap` defines for them.
-use Rattle.std.specs.Prelude.{◌≡◌, ◌≢◌, Bool, true, false, not, List, [], Option, Some, None, Result, MatchResult, codes, if◌then◌else◌, ⊤}
-use Rattle.std.specs.List.{list_any}
+use Rattle.std.specs.Prelude.{◌≡◌, ◌≢◌, Bool, true, false, not, List, [], Option, Some, None, Result, MatchResult, codes, ⊤}
+use Rattle.std.specs.List.{find, list_all, list_any}
+use Rattle.std.specs.Option.{option_map_or}
 use Rattle.std.specs.Str.{bytes_eq}
 use Rattle.clap.specs.Words.{App, Row, Text, subcommand_of, takes, fault_of}
 use Rattle.clap.specs.declared.error.ErrorKind.{ErrorKind}
 use Rattle.clap.specs.declared.error.ErrorKind.TheVariants as kind
-use Rattle.fleet_args.specs.CommandLine.{DepsNames, AreDeps, fleet}
-use Rattle.fleet_args.specs.Values.{Values, values_of}
-use Rattle.fleet_args.specs.Instance.{AsksInstance, has_instance_values}
-use Rattle.fleet_args.specs.Check.{AsksCheck, has_check_values}
-use Rattle.fleet_args.specs.Plan.{AsksPlan, has_plan_values}
-use Rattle.fleet_args.specs.Compile.{AsksCompile, has_compile_values}
-use Rattle.fleet_args.specs.Verify.{AsksVerify, has_verify_values}
-use Rattle.fleet_args.specs.Run.{AsksRun, has_run_values}
-use Rattle.fleet_args.specs.Rehearse.{AsksRehearse, has_rehearse_values}
-use Rattle.fleet_args.specs.Auto.{AsksAuto, has_auto_values}
-use Rattle.fleet_args.specs.Thin.{AsksThin, has_thin_values}
-use Rattle.fleet_args.specs.Migrate.{AsksMigrate, has_migrate_values}
-use Rattle.fleet_args.specs.List.{AsksList, has_list_values}
-use Rattle.fleet_args.specs.Dispatch.{AsksDispatch, has_dispatch_values}
+use Rattle.fleet_args.specs.CommandLine.{OptionNames, AreNames, commands, fleet}
+use Rattle.fleet_args.specs.Values.{Values, values_of, has_value}
+use Rattle.fleet_args.specs.Requests.{AsksInstance, AsksCheck, AsksPlan, AsksCompile, AsksVerify, AsksRun, AsksRehearse, AsksAuto, AsksThin, AsksMigrate, AsksList, AsksDispatch}
 use Rattle.fleet_args.specs.declared.request.Request.{Request}
 use Rattle.fleet_args.specs.declared.request.Request.TheVariants as r
 use Rattle.fleet_args.specs.declared.request.WordStop.{WordStop}
@@ -41,20 +31,7 @@ AsksCommand name values (r.Dispatch request) = (name ≡ codes "dispatch") × As
 
 -- this is the name of a command, and the arguments that it cannot do without have values
 abbrev pub has_values : Text → Values → Bool
-has_values name values =
-    if bytes_eq name (codes "instance") then has_instance_values values
-    else (if bytes_eq name (codes "check") then has_check_values values
-    else (if bytes_eq name (codes "plan") then has_plan_values values
-    else (if bytes_eq name (codes "compile") then has_compile_values values
-    else (if bytes_eq name (codes "verify") then has_verify_values values
-    else (if bytes_eq name (codes "run") then has_run_values values
-    else (if bytes_eq name (codes "rehearse") then has_rehearse_values values
-    else (if bytes_eq name (codes "auto") then has_auto_values values
-    else (if bytes_eq name (codes "thin") then has_thin_values values
-    else (if bytes_eq name (codes "migrate") then has_migrate_values values
-    else (if bytes_eq name (codes "list") then has_list_values values
-    else (if bytes_eq name (codes "dispatch") then has_dispatch_values values
-    else false)))))))))))
+has_values name values = option_map_or (λ c. list_all (has_value values) c.1) (find (λ c. bytes_eq name c.0) commands) false
 
 -- the command that was found, with its rows, asks this
 abbrev pub AsksBy : Option (Text × List Row) → Request → Type 0
@@ -96,6 +73,6 @@ Asks app words request = (fault_of app words ≡ []) × AsksBy (subcommand_of ap
 abbrev pub Reads : App → List Text → Result Request WordStop → Type 0
 Reads app words result = MatchResult result (Asks app words) (StopsFor app words)
 
--- the same of the program's command line, whatever texts hold the names of the kinds of awaits
+-- the same of the program's command line, whatever texts hold the names that options take
 abbrev pub ReadsFleet : List Text → Result Request WordStop → Type 0
-ReadsFleet words result = (names : DepsNames) × AreDeps names × Reads (fleet names) words result
+ReadsFleet words result = (names : OptionNames) × AreNames names × Reads (fleet names) words result

@@ -1,5 +1,5 @@
 -- The values that the words of a command give to its arguments.
-use Rattle.std.specs.Prelude.{◌≡◌, ◌&&◌, ◌^◌, ℕ, Bool, List, Option, Some, None, is_some, codes, option_map, option_and_then, nat_lt, if◌then◌else◌}
+use Rattle.std.specs.Prelude.{◌≡◌, ◌&&◌, ◌^◌, ℕ, Bool, true, false, List, Option, Some, None, is_some, codes, option_map, option_and_then, nat_lt, if◌then◌else◌}
 use Rattle.std.specs.Borrow.{Bor}
 use Rattle.std.specs.Option.{option_map_or}
 use Rattle.std.specs.Str.{bytes_eq}
@@ -8,6 +8,10 @@ use Rattle.clap.specs.Words.{Row, Text, first_of, one_of, first_value, one_text,
 use Rattle.clap.specs.ValueTests.{is_numeral}
 use Rattle.clap.specs.declared.parser.ArgMatches.{ArgMatches}
 use Rattle.clap.specs.declared.parser.matches.Found.{Found}
+use Rattle.fleet_args.specs.declared.arguments.Argument.{Argument}
+use Rattle.fleet_args.specs.declared.arguments.Argument.TheVariants as a
+use Rattle.fleet_args.specs.declared.tries.Best.{Best}
+use Rattle.fleet_args.specs.declared.tries.Best.TheVariants as best
 use Rattle.fleet_model.specs.declared.deps.Deps.{Deps}
 use Rattle.fleet_model.specs.declared.deps.Deps.TheVariants as deps
 
@@ -42,6 +46,14 @@ number_by bits text = option_map_or (λ t. option_map Some (number_in bits t)) t
 abbrev pub deps_in : Text → Option Deps
 deps_in text = if bytes_eq text (codes "all") then Some deps.All else (if bytes_eq text (codes "last") then Some deps.Last else None)
 
+-- what makes a plan the best, by its name
+abbrev pub best_in : Text → Option Best
+best_in text = if bytes_eq text (codes "chain") then Some best.Chain else (if bytes_eq text (codes "cost") then Some best.Cost else None)
+
+-- what an option names so: nothing if the option was not used, and no answer if the text is no such name
+abbrev pub best_by : Option Text → Option (Option Best)
+best_by text = option_map_or (λ t. option_map Some (best_in t)) text (Some None)
+
 -- ---- the value of an argument
 
 -- a text that is there in any case
@@ -68,6 +80,14 @@ IsCount values id number = number_by 32 (values.one id) ≡ Some (Some number)
 abbrev pub IsKind : Values → Text → Deps → Type 0
 IsKind values id kind = option_and_then deps_in (values.first id) ≡ Some kind
 
+-- what makes a plan the best, if the option was used
+abbrev pub IsBestIfUsed : Values → Text → Option Best → Type 0
+IsBestIfUsed values id best = best_by (values.first id) ≡ Some best
+
+-- whether a flag was used
+abbrev pub IsFlag : Values → Text → Bool → Type 0
+IsFlag values id used = used ≡ option_map_or (λ t. bytes_eq t (codes "true")) (values.first id) false
+
 -- ---- there is such a value
 
 -- the argument has a text
@@ -89,3 +109,23 @@ has_count values id = is_some (option_and_then (λ n. n) (number_by 32 (values.o
 -- the argument has the name of a kind of awaits
 abbrev pub has_kind : Values → Text → Bool
 has_kind values id = is_some (option_and_then deps_in (values.first id))
+
+-- the option names what makes a plan the best, or it was not used
+abbrev pub reads_best : Values → Text → Bool
+reads_best values id = is_some (best_by (values.first id))
+
+-- the argument has a value, if a command cannot do without one; and one that it has can be read
+abbrev pub has_value : Values → Argument → Bool
+has_value values a.Map = has_text values (codes "map")
+has_value values a.Scen = has_text values (codes "scen")
+has_value values a.Plan = has_text values (codes "plan")
+has_value values a.Out = has_text values (codes "out")
+has_value values a.Program = has_text values (codes "program")
+has_value values a.Agents = reads_number values (codes "agents")
+has_value values a.Horizon = has_number values (codes "horizon")
+has_value values a.Tries = has_count values (codes "tries")
+has_value values a.Best = reads_best values (codes "best")
+has_value values a.Deps = has_kind values (codes "deps")
+has_value values a.Dwell = has_count values (codes "dwell")
+has_value values a.Holds = true
+has_value values a.Numbers = true

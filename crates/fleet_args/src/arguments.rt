@@ -2,12 +2,21 @@
 
 ghost use Rattle.std.specs.Prelude.{◌≡◌, IfOk, None, fold, map};
 ghost use Rattle.clap.specs.Words.{app_of, with_rule};
-ghost use Rattle.fleet_args.specs.Arguments.{IsArg, IsLeafCommand, IsApp, IsLocal, DepsNames, plain_rule, parser_for, rule_by, rule_for, shape_for};
+ghost use Rattle.fleet_args.specs.Arguments.{IsArg, IsLeafCommand, IsApp, IsLocal, plain_rule, parser_for, rule_by, rule_for, shape_for};
+ghost use Rattle.fleet_args.specs.declared.arguments.OptionNames.{OptionNames};
 
 use clap::builder::ValueParser;
-use clap::{Arg, Command};
+use clap::{Arg, ArgAction, Command};
 use fleet_model::{MAX_MOVES, MAX_TRIES};
 use std::alloc::{AllocError, Global};
+
+/// The names that options take, as texts that `clap` is lent: those of the kinds of awaits, and those of what makes a plan
+/// the best.
+#[derive(Clone, Copy)]
+pub(crate) struct OptionNames<'a> {
+    pub(crate) deps: &'a [&'a str],
+    pub(crate) best: &'a [&'a str],
+}
 
 /// An argument of a command.
 #[derive(Clone, Copy)]
@@ -20,9 +29,11 @@ pub(crate) enum Argument {
     Agents,
     Horizon,
     Tries,
+    Best,
     Deps,
     Dwell,
     Holds,
+    Numbers,
 }
 
 /// The values that an argument takes.
@@ -34,10 +45,14 @@ pub(crate) enum Values {
     Numbers(i64, i64),
     /// The names of the kinds of awaits.
     Deps,
+    /// The names of what makes a plan the best.
+    Best,
+    /// None: the option is used or not.
+    Flag,
 }
 
-/// What an argument is: a word that the command needs, at its place among such words, or else an option `--NAME` with
-/// one value.
+/// What an argument is: a word that the command needs, at its place among such words, or else an option `--NAME`, with
+/// one value or as a flag.
 #[derive(Clone, Copy)]
 struct ArgumentText {
     name: &'static str,
@@ -128,6 +143,15 @@ const TRIES: ArgumentText = ArgumentText {
     default: Some("1"),
 };
 
+const BEST: ArgumentText = ArgumentText {
+    name: "best",
+    value: "BEST",
+    help: "Tries all N orders, and keeps the first plan with the shortest chain (chain) or the least sum of costs (cost)",
+    is_word: false,
+    values: Values::Best,
+    default: None,
+};
+
 /// Which earlier leavings of a cell an action awaits.
 const DEPS: ArgumentText = ArgumentText {
     name: "deps",
@@ -156,9 +180,18 @@ const HOLDS: ArgumentText = ArgumentText {
     default: None,
 };
 
+const NUMBERS: ArgumentText = ArgumentText {
+    name: "numbers",
+    value: "",
+    help: "Prints more numbers of the plan at the end",
+    is_word: false,
+    values: Values::Flag,
+    default: None,
+};
+
 /// What this argument is.
 fn text_of(argument: Argument) -> ArgumentText
-    ensures { (names : DepsNames) → rule_by names result ≡ rule_for names argument }
+    ensures { (names : OptionNames) → rule_by names result ≡ rule_for names argument }
 {
     match argument {
         Argument::Map => MAP,
@@ -169,20 +202,24 @@ fn text_of(argument: Argument) -> ArgumentText
         Argument::Agents => AGENTS,
         Argument::Horizon => HORIZON,
         Argument::Tries => TRIES,
+        Argument::Best => BEST,
         Argument::Deps => DEPS,
         Argument::Dwell => DWELL,
         Argument::Holds => HOLDS,
+        Argument::Numbers => NUMBERS,
     }
 }
 
-/// How `clap` reads these values, with these names of the kinds of awaits.
-fn parser_for<'a>(names: &'a [&'a str], values: Values) -> Option<ValueParser<'a>>
+/// How `clap` reads these values, with these names.
+fn parser_for<'a>(names: OptionNames<'a>, values: Values) -> Option<ValueParser<'a>>
     ensures { result ≡ parser_for names.entry values }
 {
     match values {
         Values::Text => None,
         Values::Numbers(least, most) => Some(ValueParser::Signed(least, most)),
-        Values::Deps => Some(ValueParser::Names(names)),
+        Values::Deps => Some(ValueParser::Names(names.deps)),
+        Values::Best => Some(ValueParser::Names(names.best)),
+        Values::Flag => None,
     }
 }
 
@@ -190,9 +227,11 @@ fn parser_for<'a>(names: &'a [&'a str], values: Values) -> Option<ValueParser<'a
 fn plain_arg<'a>(alloc: Global, text: ArgumentText) -> Arg<'a>
     ensures { IsArg (plain_rule text) result }
 {
-    let arg = Arg::new(alloc, text.name)
-        .value_name(text.value)
-        .help(text.help);
+    let named = Arg::new(alloc, text.name).help(text.help);
+    let arg = match text.values {
+        Values::Flag => named.action(ArgAction::SetTrue),
+        _ => named.value_name(text.value),
+    };
     if text.is_word {
         arg.required(true)
     } else {
@@ -211,8 +250,8 @@ fn with_parser<'a>(arg: Arg<'a>, parser: Option<ValueParser<'a>>) -> Arg<'a>
     }
 }
 
-/// The argument as `clap` takes it, with these names of the kinds of awaits.
-fn arg_of<'a>(alloc: Global, names: &'a [&'a str], argument: Argument) -> Arg<'a>
+/// The argument as `clap` takes it, with these names.
+fn arg_of<'a>(alloc: Global, names: OptionNames<'a>, argument: Argument) -> Arg<'a>
     ensures { IsArg (rule_for names.entry argument) result }
 {
     let text = text_of(argument);
@@ -227,7 +266,7 @@ fn arg_of<'a>(alloc: Global, names: &'a [&'a str], argument: Argument) -> Arg<'a
 fn with_arguments<'a>(
     alloc: Global,
     command: Command<'a>,
-    names: &'a [&'a str],
+    names: OptionNames<'a>,
     arguments: &[Argument],
 ) -> Result<Command<'a>, AllocError>
     requires { IsLocal command }
@@ -243,10 +282,11 @@ fn with_arguments<'a>(
     }
 }
 
-/// The command as `clap` takes it, with these names of the kinds of awaits.
+/// The command as `clap` takes it, with these names.
+#[tactic(auto, using(crate::proofs::CommandLemmas::leaf_of))]
 pub(crate) fn command_of<'a>(
     alloc: Global,
-    names: &'a [&'a str],
+    names: OptionNames<'a>,
     text: &CommandText,
 ) -> Result<Command<'a>, AllocError>
     ensures { IfOk result (IsLeafCommand (shape_for names.entry text.now)) }

@@ -1,23 +1,24 @@
 //! The command `auto`: what it is asked for, its words and options, and how they are read.
 
-ghost use Rattle.std.specs.Prelude.{◌≡◌, true};
+ghost use Rattle.std.specs.Prelude.{◌≡◌, codes, true};
 ghost use Rattle.fleet_args.specs.Values.{values_in};
-ghost use Rattle.fleet_args.specs.Auto.{AsksAuto, has_auto_values};
+ghost use Rattle.fleet_args.specs.Requests.{AsksAuto};
+ghost use Rattle.fleet_args.specs.Request.{has_values};
 
 use crate::arguments::{Argument, CommandText};
-use crate::plan::{PlanRequest, plan_in};
-use crate::values::given_deps;
+use crate::tries::{Tries, tries_in};
+use crate::values::{given_deps, given_number, text, used_number};
 use clap::ArgMatches;
 use fleet_model::Deps;
 
-/// `fleet auto MAP SCEN [--agents K] [--horizon H] [--tries N] [--deps DEPS] [--holds FILE]`
+/// `fleet auto MAP SCEN [--agents K] [--horizon H] [--tries N] [--best BEST] [--deps DEPS] [--holds FILE]`
 #[derive(Clone, Copy)]
 pub struct AutoRequest<'a> {
     pub map: &'a str,
     pub scen: &'a str,
     pub agents: Option<u16>,
     pub horizon: u16,
-    pub tries: u32,
+    pub tries: Tries,
     pub deps: Deps,
     pub holds: Option<&'a str>,
 }
@@ -32,6 +33,7 @@ pub(crate) const COMMAND: CommandText = CommandText {
         Argument::Agents,
         Argument::Horizon,
         Argument::Tries,
+        Argument::Best,
         Argument::Deps,
         Argument::Holds,
     ],
@@ -39,22 +41,15 @@ pub(crate) const COMMAND: CommandText = CommandText {
 
 /// The request that the matches of the command make.
 pub(crate) fn auto_in<'a>(matches: &ArgMatches<'a>) -> AutoRequest<'a>
-    requires { has_auto_values (values_in matches.now) ≡ true }
+    requires { has_values (codes "auto") (values_in matches.now) ≡ true }
     ensures { AsksAuto (values_in matches.now) result }
 {
-    let PlanRequest {
-        map,
-        scen,
-        agents,
-        horizon,
-        tries,
-    } = plan_in(matches);
     AutoRequest {
-        map,
-        scen,
-        agents,
-        horizon,
-        tries,
+        map: text(matches, "map"),
+        scen: text(matches, "scen"),
+        agents: used_number(matches, "agents"),
+        horizon: given_number(matches, "horizon"),
+        tries: tries_in(matches),
         deps: given_deps(matches, "deps"),
         holds: matches.get_str("holds"),
     }

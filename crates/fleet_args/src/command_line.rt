@@ -5,7 +5,7 @@ ghost use Rattle.clap.specs.Words.{app_of, new_app, with_subcommand};
 ghost use Rattle.fleet_args.specs.Arguments.{shape_for};
 ghost use Rattle.fleet_args.specs.CommandLine.{fleet_top, with_shapes, fleet};
 
-use crate::arguments::{CommandText, command_of};
+use crate::arguments::{CommandText, OptionNames, command_of};
 use crate::{
     auto, check, compile, dispatch, instance, list, migrate, plan, rehearse, run, thin, verify,
 };
@@ -41,7 +41,7 @@ fn without_commands<'a>(alloc: Global) -> Result<Command<'a>, AllocError>
 fn with_command<'a>(
     alloc: Global,
     line: Command<'a>,
-    names: &'a [&'a str],
+    names: OptionNames<'a>,
     text: &CommandText,
 ) -> Result<Command<'a>, AllocError>
     ensures { IfOk result (λ command. app_of command
@@ -54,7 +54,7 @@ fn with_command<'a>(
 fn with_commands<'a>(
     alloc: Global,
     line: Command<'a>,
-    names: &'a [&'a str],
+    names: OptionNames<'a>,
     texts: &[CommandText],
 ) -> Result<Command<'a>, AllocError>
     ensures { IfOk result (λ command. app_of command
@@ -84,8 +84,11 @@ static COMMANDS: [CommandText; 12] = [
     dispatch::COMMAND,
 ];
 
-/// The whole command line, with these names of the kinds of awaits.
-pub fn fleet_command<'a>(alloc: Global, names: &'a [&'a str]) -> Result<Command<'a>, AllocError>
+/// The whole command line, with these names.
+pub(crate) fn fleet_command<'a>(
+    alloc: Global,
+    names: OptionNames<'a>,
+) -> Result<Command<'a>, AllocError>
     ensures { IfOk result (λ command. app_of command ≡ fleet names.entry) }
 {
     with_commands(alloc, without_commands(alloc)?, names, COMMANDS.as_slice())

@@ -1,12 +1,12 @@
 //! The command `compile`: what it is asked for, its words and options, and how they are read.
 
-ghost use Rattle.std.specs.Prelude.{◌≡◌, true};
+ghost use Rattle.std.specs.Prelude.{◌≡◌, codes, true};
 ghost use Rattle.fleet_args.specs.Values.{values_in};
-ghost use Rattle.fleet_args.specs.Compile.{AsksCompile, has_compile_values};
+ghost use Rattle.fleet_args.specs.Requests.{AsksCompile};
+ghost use Rattle.fleet_args.specs.Request.{has_values};
 
 use crate::arguments::{Argument, CommandText};
-use crate::check::{CheckRequest, check_in};
-use crate::values::{given_count, given_deps, text};
+use crate::values::{given_count, given_deps, text, used_number};
 use clap::ArgMatches;
 use fleet_model::Deps;
 
@@ -39,21 +39,15 @@ pub(crate) const COMMAND: CommandText = CommandText {
 
 /// The request that the matches of the command make.
 pub(crate) fn compile_in<'a>(matches: &ArgMatches<'a>) -> CompileRequest<'a>
-    requires { has_compile_values (values_in matches.now) ≡ true }
+    requires { has_values (codes "compile") (values_in matches.now) ≡ true }
     ensures { AsksCompile (values_in matches.now) result }
 {
-    let CheckRequest {
-        map,
-        scen,
-        plan,
-        agents,
-    } = check_in(matches);
     CompileRequest {
-        map,
-        scen,
-        plan,
+        map: text(matches, "map"),
+        scen: text(matches, "scen"),
+        plan: text(matches, "plan"),
         out: text(matches, "out"),
-        agents,
+        agents: used_number(matches, "agents"),
         deps: given_deps(matches, "deps"),
         dwell: given_count(matches, "dwell"),
     }

@@ -1,11 +1,12 @@
 //! The command `dispatch`: what it is asked for, its words and options, and how they are read.
 
-ghost use Rattle.std.specs.Prelude.{◌≡◌, true};
+ghost use Rattle.std.specs.Prelude.{◌≡◌, codes, true};
 ghost use Rattle.fleet_args.specs.Values.{values_in};
-ghost use Rattle.fleet_args.specs.Dispatch.{AsksDispatch, has_dispatch_values};
+ghost use Rattle.fleet_args.specs.Requests.{AsksDispatch};
+ghost use Rattle.fleet_args.specs.Request.{has_values};
 
 use crate::arguments::{Argument, CommandText};
-use crate::verify::{VerifyRequest, verify_in};
+use crate::values::{text, used_number};
 use clap::ArgMatches;
 
 /// `fleet dispatch MAP SCEN PROGRAM [--agents K]`
@@ -31,19 +32,13 @@ pub(crate) const COMMAND: CommandText = CommandText {
 
 /// The request that the matches of the command make.
 pub(crate) fn dispatch_in<'a>(matches: &ArgMatches<'a>) -> DispatchRequest<'a>
-    requires { has_dispatch_values (values_in matches.now) ≡ true }
+    requires { has_values (codes "dispatch") (values_in matches.now) ≡ true }
     ensures { AsksDispatch (values_in matches.now) result }
 {
-    let VerifyRequest {
-        map,
-        scen,
-        program,
-        agents,
-    } = verify_in(matches);
     DispatchRequest {
-        map,
-        scen,
-        program,
-        agents,
+        map: text(matches, "map"),
+        scen: text(matches, "scen"),
+        program: text(matches, "program"),
+        agents: used_number(matches, "agents"),
     }
 }

@@ -1,8 +1,9 @@
 //! The command `instance`: what it is asked for, its words and options, and how they are read.
 
-ghost use Rattle.std.specs.Prelude.{◌≡◌, true};
+ghost use Rattle.std.specs.Prelude.{◌≡◌, codes, true};
 ghost use Rattle.fleet_args.specs.Values.{values_in};
-ghost use Rattle.fleet_args.specs.Instance.{AsksInstance, has_instance_values};
+ghost use Rattle.fleet_args.specs.Requests.{AsksInstance};
+ghost use Rattle.fleet_args.specs.Request.{has_values};
 
 use crate::arguments::{Argument, CommandText};
 use crate::values::{text, used_number};
@@ -25,7 +26,7 @@ pub(crate) const COMMAND: CommandText = CommandText {
 
 /// The request that the matches of the command make.
 pub(crate) fn instance_in<'a>(matches: &ArgMatches<'a>) -> InstanceRequest<'a>
-    requires { has_instance_values (values_in matches.now) ≡ true }
+    requires { has_values (codes "instance") (values_in matches.now) ≡ true }
     ensures { AsksInstance (values_in matches.now) result }
 {
     InstanceRequest {

@@ -15,6 +15,7 @@ mod rehearse;
 mod request;
 mod run;
 mod thin;
+mod tries;
 mod values;
 mod verify;
 
@@ -30,4 +31,5 @@ pub use rehearse::RehearseRequest;
 pub use request::{Request, WordStop, read_words};
 pub use run::RunRequest;
 pub use thin::ThinRequest;
+pub use tries::{Best, Tries};
 pub use verify::VerifyRequest;

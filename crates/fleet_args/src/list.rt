@@ -1,8 +1,9 @@
 //! The command `list`: what it is asked for, its word, and how that is read.
 
-ghost use Rattle.std.specs.Prelude.{◌≡◌, true};
+ghost use Rattle.std.specs.Prelude.{◌≡◌, codes, true};
 ghost use Rattle.fleet_args.specs.Values.{values_in};
-ghost use Rattle.fleet_args.specs.List.{AsksList, has_list_values};
+ghost use Rattle.fleet_args.specs.Requests.{AsksList};
+ghost use Rattle.fleet_args.specs.Request.{has_values};
 
 use crate::arguments::{Argument, CommandText};
 use crate::values::text;
@@ -23,7 +24,7 @@ pub(crate) const COMMAND: CommandText = CommandText {
 
 /// The request that the matches of the command make.
 pub(crate) fn list_in<'a>(matches: &ArgMatches<'a>) -> ListRequest<'a>
-    requires { has_list_values (values_in matches.now) ≡ true }
+    requires { has_values (codes "list") (values_in matches.now) ≡ true }
     ensures { AsksList (values_in matches.now) result }
 {
     ListRequest {

@@ -1,8 +1,9 @@
 //! The command `migrate`: what it is asked for, its words, and how they are read.
 
-ghost use Rattle.std.specs.Prelude.{◌≡◌, true};
+ghost use Rattle.std.specs.Prelude.{◌≡◌, codes, true};
 ghost use Rattle.fleet_args.specs.Values.{values_in};
-ghost use Rattle.fleet_args.specs.Migrate.{AsksMigrate, has_migrate_values};
+ghost use Rattle.fleet_args.specs.Requests.{AsksMigrate};
+ghost use Rattle.fleet_args.specs.Request.{has_values};
 
 use crate::arguments::{Argument, CommandText};
 use crate::values::text;
@@ -24,7 +25,7 @@ pub(crate) const COMMAND: CommandText = CommandText {
 
 /// The request that the matches of the command make.
 pub(crate) fn migrate_in<'a>(matches: &ArgMatches<'a>) -> MigrateRequest<'a>
-    requires { has_migrate_values (values_in matches.now) ≡ true }
+    requires { has_values (codes "migrate") (values_in matches.now) ≡ true }
     ensures { AsksMigrate (values_in matches.now) result }
 {
     MigrateRequest {

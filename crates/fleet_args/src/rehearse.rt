@@ -1,8 +1,9 @@
 //! The command `rehearse`: what it is asked for, its words and options, and how they are read.
 
-ghost use Rattle.std.specs.Prelude.{◌≡◌, true};
+ghost use Rattle.std.specs.Prelude.{◌≡◌, codes, true};
 ghost use Rattle.fleet_args.specs.Values.{values_in};
-ghost use Rattle.fleet_args.specs.Rehearse.{AsksRehearse, has_rehearse_values};
+ghost use Rattle.fleet_args.specs.Requests.{AsksRehearse};
+ghost use Rattle.fleet_args.specs.Request.{has_values};
 
 use crate::arguments::{Argument, CommandText};
 use crate::values::text;
@@ -24,7 +25,7 @@ pub(crate) const COMMAND: CommandText = CommandText {
 
 /// The request that the matches of the command make.
 pub(crate) fn rehearse_in<'a>(matches: &ArgMatches<'a>) -> RehearseRequest<'a>
-    requires { has_rehearse_values (values_in matches.now) ≡ true }
+    requires { has_values (codes "rehearse") (values_in matches.now) ≡ true }
     ensures { AsksRehearse (values_in matches.now) result }
 {
     RehearseRequest {

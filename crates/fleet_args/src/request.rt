@@ -2,10 +2,11 @@
 
 ghost use Rattle.std.specs.Prelude.{◌≡◌, map, string_bytes, true};
 ghost use Rattle.clap.specs.Words.{subcommand_rows_of, kind_of};
-ghost use Rattle.fleet_args.specs.CommandLine.{AreDeps, fleet};
+ghost use Rattle.fleet_args.specs.CommandLine.{AreNames, fleet};
 ghost use Rattle.fleet_args.specs.Values.{values_in};
 ghost use Rattle.fleet_args.specs.Request.{AsksCommand, has_values, AsksBy, is_answered_by, IsStopOf, Reads, ReadsFleet};
 
+use crate::arguments::OptionNames;
 use crate::auto::{AutoRequest, auto_in};
 use crate::check::{CheckRequest, check_in};
 use crate::command_line::fleet_command;
@@ -99,13 +100,13 @@ fn stop_of(alloc: Global, error: &clap::Error) -> WordStop
     }
 }
 
-/// Reads the words by the definition of the command line in which these names are those of the kinds of awaits.
+/// Reads the words by the definition of the command line with these names.
 fn read_by<'a>(
     alloc: Global,
-    names: &'a [&'a str],
+    names: OptionNames<'a>,
     words: &'a [String],
 ) -> Result<Request<'a>, WordStop>
-    requires { AreDeps names }
+    requires { AreNames names }
     ensures { Reads (fleet names.entry) (map string_bytes words.entry.now) result }
 {
     let Ok(command) = fleet_command(alloc, names) else {
@@ -119,6 +120,8 @@ fn read_by<'a>(
 
 static DEPS: [&str; 2] = ["all", "last"];
 
+static BEST: [&str; 2] = ["chain", "cost"];
+
 /// Reads the words after the program's name, as `clap` reads them by the definition of the command line.
 ///
 /// Errors: `Usage` and `Help` only if that definition does not take the words, and `Help` only if they ask for help or
@@ -126,5 +129,9 @@ static DEPS: [&str; 2] = ["all", "last"];
 pub fn read_words<'a>(alloc: Global, words: &'a [String]) -> Result<Request<'a>, WordStop>
     ensures { ReadsFleet (map string_bytes words.entry.now) result }
 {
-    read_by(alloc, DEPS.as_slice(), words)
+    let names = OptionNames {
+        deps: DEPS.as_slice(),
+        best: BEST.as_slice(),
+    };
+    read_by(alloc, names, words)
 }

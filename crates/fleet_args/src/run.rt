@@ -1,11 +1,12 @@
 //! The command `run`: what it is asked for, its words and options, and how they are read.
 
-ghost use Rattle.std.specs.Prelude.{◌≡◌, true};
+ghost use Rattle.std.specs.Prelude.{◌≡◌, codes, true};
 ghost use Rattle.fleet_args.specs.Values.{values_in};
-ghost use Rattle.fleet_args.specs.Run.{AsksRun, has_run_values};
+ghost use Rattle.fleet_args.specs.Requests.{AsksRun};
+ghost use Rattle.fleet_args.specs.Request.{has_values};
 
 use crate::arguments::{Argument, CommandText};
-use crate::verify::{VerifyRequest, verify_in};
+use crate::values::{text, used_number};
 use clap::ArgMatches;
 
 /// `fleet run MAP SCEN PROGRAM [--agents K] [--holds FILE]`
@@ -33,21 +34,14 @@ pub(crate) const COMMAND: CommandText = CommandText {
 
 /// The request that the matches of the command make.
 pub(crate) fn run_in<'a>(matches: &ArgMatches<'a>) -> RunRequest<'a>
-    requires { has_run_values (values_in matches.now) ≡ true }
+    requires { has_values (codes "run") (values_in matches.now) ≡ true }
     ensures { AsksRun (values_in matches.now) result }
 {
-    let VerifyRequest {
-        map,
-        scen,
-        program,
-        agents,
-    } = verify_in(matches);
-    let holds = matches.get_str("holds");
     RunRequest {
-        map,
-        scen,
-        program,
-        agents,
-        holds,
+        map: text(matches, "map"),
+        scen: text(matches, "scen"),
+        program: text(matches, "program"),
+        agents: used_number(matches, "agents"),
+        holds: matches.get_str("holds"),
     }
 }

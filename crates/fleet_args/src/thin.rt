@@ -1,12 +1,12 @@
 //! The command `thin`: what it is asked for, its words and options, and how they are read.
 
-ghost use Rattle.std.specs.Prelude.{◌≡◌, true};
+ghost use Rattle.std.specs.Prelude.{◌≡◌, codes, true};
 ghost use Rattle.fleet_args.specs.Values.{values_in};
-ghost use Rattle.fleet_args.specs.Thin.{AsksThin, has_thin_values};
+ghost use Rattle.fleet_args.specs.Requests.{AsksThin};
+ghost use Rattle.fleet_args.specs.Request.{has_values};
 
 use crate::arguments::{Argument, CommandText};
-use crate::values::text;
-use crate::verify::{VerifyRequest, verify_in};
+use crate::values::{text, used_number};
 use clap::ArgMatches;
 
 /// `fleet thin MAP SCEN PROGRAM OUT [--agents K]`
@@ -34,21 +34,14 @@ pub(crate) const COMMAND: CommandText = CommandText {
 
 /// The request that the matches of the command make.
 pub(crate) fn thin_in<'a>(matches: &ArgMatches<'a>) -> ThinRequest<'a>
-    requires { has_thin_values (values_in matches.now) ≡ true }
+    requires { has_values (codes "thin") (values_in matches.now) ≡ true }
     ensures { AsksThin (values_in matches.now) result }
 {
-    let VerifyRequest {
-        map,
-        scen,
-        program,
-        agents,
-    } = verify_in(matches);
-    let out = text(matches, "out");
     ThinRequest {
-        map,
-        scen,
-        program,
-        out,
-        agents,
+        map: text(matches, "map"),
+        scen: text(matches, "scen"),
+        program: text(matches, "program"),
+        out: text(matches, "out"),
+        agents: used_number(matches, "agents"),
     }
 }

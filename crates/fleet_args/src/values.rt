@@ -2,8 +2,9 @@
 
 ghost use Rattle.std.specs.Prelude.{◌≡◌, true};
 ghost use Rattle.clap.specs.Words.{found_of, one_text};
-ghost use Rattle.fleet_args.specs.Values.{IsCount, IsKind, IsNumber, IsNumberIfUsed, IsText, deps_in, has_count, has_kind, has_number, has_text, number_by, reads_number, values_in};
+ghost use Rattle.fleet_args.specs.Values.{IsBestIfUsed, IsCount, IsFlag, IsKind, IsNumber, IsNumberIfUsed, IsText, best_in, deps_in, has_count, has_kind, has_number, has_text, number_by, reads_best, reads_number, values_in};
 
+use crate::tries::Best;
 use clap::ArgMatches;
 use fleet_model::Deps;
 
@@ -28,6 +29,17 @@ fn deps_of(name: &str) -> Option<Deps>
     match name {
         "all" => Some(Deps::All),
         "last" => Some(Deps::Last),
+        _ => None,
+    }
+}
+
+/// What makes a plan the best, by its name, if there is such a thing.
+fn best_of(name: &str) -> Option<Best>
+    ensures { result ≡ best_in name.now }
+{
+    match name {
+        "chain" => Some(Best::Chain),
+        "cost" => Some(Best::Cost),
         _ => None,
     }
 }
@@ -89,5 +101,29 @@ pub(crate) fn given_deps(matches: &ArgMatches<'_>, id: &str) -> Deps
             None => unreachable!(),
         },
         None => unreachable!(),
+    }
+}
+
+/// What an option names as making a plan the best, if it was used.
+pub(crate) fn used_best(matches: &ArgMatches<'_>, id: &str) -> Option<Best>
+    requires { reads_best (values_in matches.now) id.now ≡ true }
+    ensures { IsBestIfUsed (values_in matches.now) id.now result }
+{
+    match matches.get_str(id) {
+        Some(name) => match best_of(name) {
+            Some(best) => Some(best),
+            None => unreachable!(),
+        },
+        None => None,
+    }
+}
+
+/// Whether a flag was used.
+pub(crate) fn used(matches: &ArgMatches<'_>, id: &str) -> bool
+    ensures { IsFlag (values_in matches.now) id.now result }
+{
+    match matches.get_str(id) {
+        Some(text) => text == "true",
+        None => false,
     }
 }

@@ -1,12 +1,12 @@
 //! The command `verify`: what it is asked for, its words and options, and how they are read.
 
-ghost use Rattle.std.specs.Prelude.{◌≡◌, true};
+ghost use Rattle.std.specs.Prelude.{◌≡◌, codes, true};
 ghost use Rattle.fleet_args.specs.Values.{values_in};
-ghost use Rattle.fleet_args.specs.Verify.{AsksVerify, has_verify_values};
+ghost use Rattle.fleet_args.specs.Requests.{AsksVerify};
+ghost use Rattle.fleet_args.specs.Request.{has_values};
 
 use crate::arguments::{Argument, CommandText};
-use crate::instance::{InstanceRequest, instance_in};
-use crate::values::text;
+use crate::values::{text, used_number};
 use clap::ArgMatches;
 
 /// `fleet verify MAP SCEN PROGRAM [--agents K]`
@@ -32,15 +32,13 @@ pub(crate) const COMMAND: CommandText = CommandText {
 
 /// The request that the matches of the command make.
 pub(crate) fn verify_in<'a>(matches: &ArgMatches<'a>) -> VerifyRequest<'a>
-    requires { has_verify_values (values_in matches.now) ≡ true }
+    requires { has_values (codes "verify") (values_in matches.now) ≡ true }
     ensures { AsksVerify (values_in matches.now) result }
 {
-    let InstanceRequest { map, scen, agents } = instance_in(matches);
-    let program = text(matches, "program");
     VerifyRequest {
-        map,
-        scen,
-        program,
-        agents,
+        map: text(matches, "map"),
+        scen: text(matches, "scen"),
+        program: text(matches, "program"),
+        agents: used_number(matches, "agents"),
     }
 }

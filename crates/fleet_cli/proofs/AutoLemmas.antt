@@ -1,5 +1,6 @@
 -- What becomes of the texts, if a program was made of them and run.
 use Rattle.std.proofs.Common.{◌≡◌, ℕ, List, Option, Result, Ok, Err, ap, ◌∙◌}
+use Rattle.fleet_args.specs.declared.tries.Tries.{Tries}
 use Rattle.fleet_code.specs.declared.fault.LoadFault.{LoadFault}
 use Rattle.fleet_model.specs.declared.task.Task.{Task}
 use Rattle.fleet_model.specs.Program.{Program}
@@ -22,7 +23,7 @@ pub ok_program : {p q : Program} → ◌≡◌ {A = Result Program LoadFault} (O
 ok_program e = cc
 
 -- bytes were made of the texts, and they are accepted: so the program that they spell was made of the texts
-module _ (one : OneProgramEach) (map scen : List ℕ) (asked : Option ℕ) (horizon tries : ℕ) (deps : Deps) (g : Ground) (tasks : List Task) (bytes : List ℕ) (q : Program)
+module _ (one : OneProgramEach) (map scen : List ℕ) (asked : Option ℕ) (horizon : ℕ) (tries : Tries) (deps : Deps) (g : Ground) (tasks : List Task) (bytes : List ℕ) (q : Program)
     (chain : ℕ) (texts : AreTextsOf map scen asked g tasks) (plan : SpellsMade g tasks horizon tries deps bytes) (accepts : Accepts bytes g tasks q chain) (held : List ℕ)
     (out out' : SinkState) where
   abbrev made : MakesProgram map scen asked horizon tries deps

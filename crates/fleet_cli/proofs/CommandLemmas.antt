@@ -13,9 +13,9 @@ module _ {X : Type 0} (text : X → Text) (input : Option (List ℕ)) (files aft
   pub asked : (ws : List X) (request : Request) → (ws ≡ [] → ⊥) → ReadsFleet (map text ws) (Ok request) → RunsRequest files after unread unwritten talks request out out' err err' status
       → RunsCommand (map text ws) input files after unread unwritten talks out out' err err' status
   asked [] request some h r = absurd (some refl)
-  asked (w ∷ ws) request some (names, are, asks) r = (names, are, inl (request, asks, r))
+  asked (w ∷ ws) request some reads r = inl (request, reads, r)
 
   pub stopped : (ws : List X) (stop : WordStop) → (ws ≡ [] → ⊥) → ReadsFleet (map text ws) (Err stop) → StopsAtWords stop out out' err err' status → AreUnchanged files after → unread
       → RunsCommand (map text ws) input files after unread unwritten talks out out' err err' status
   stopped [] stop some h r kept silent = absurd (some refl)
-  stopped (w ∷ ws) stop some (names, are, stops) r kept silent = (names, are, inr (stop, stops, r, kept, silent))
+  stopped (w ∷ ws) stop some reads r kept silent = inr (stop, reads, r, kept, silent)

@@ -12,4 +12,3 @@ pub mod OutputLemmas
 pub mod VerifyLemmas
 mod DispatchLemmas
 pub mod CommandLemmas
-pub mod AsBefore

@@ -1,5 +1,6 @@
 -- The run of a program that was made, and the flush after it.
 use Rattle.std.proofs.Common.{ℕ, List, Option, Result, Ok, Err, MatchResult}
+use Rattle.fleet_args.specs.declared.tries.Tries.{Tries}
 use Rattle.fleet_text.specs.Sink.{SinkState}
 use Rattle.fleet_run.specs.declared.trace.Report.{Report}
 use Rattle.fleet_run.specs.declared.run.RunFault.{RunFault}
@@ -14,11 +15,11 @@ use Rattle.fleet_cli.specs.declared.fault.Fault.TheVariants as f
 use Rattle.fleet_cli.proofs.TracedLemmas.{flushed_trace}
 
 -- the trace of a program was written whole, or it stopped
-abbrev pub MakesRun : (map scen : List ℕ) → Option ℕ → ℕ → ℕ → Deps → List ℕ → (out out' : SinkState) → Result Report RunFault → Type 0
+abbrev pub MakesRun : (map scen : List ℕ) → Option ℕ → ℕ → Tries → Deps → List ℕ → (out out' : SinkState) → Result Report RunFault → Type 0
 MakesRun map scen asked horizon tries deps held out out' (Ok r) = (m : MakesProgram map scen asked horizon tries deps) × WritesTrace m.program m.chain held out out' r
 MakesRun map scen asked horizon tries deps held out out' (Err e) = (m : MakesProgram map scen asked horizon tries deps) × StopsTrace m.program m.chain held out out' e
 
-module _ (map scen : List ℕ) (asked : Option ℕ) (horizon tries : ℕ) (deps : Deps) (held : List ℕ) (before mid after : SinkState) where
+module _ (map scen : List ℕ) (asked : Option ℕ) (horizon : ℕ) (tries : Tries) (deps : Deps) (held : List ℕ) (before mid after : SinkState) where
   traces : (ran : Result Report RunFault) → MakesRun map scen asked horizon tries deps held before mid ran
       → (m : MakesProgram map scen asked horizon tries deps) × Traces m.program m.chain held before mid ran
   traces (Ok r) h = h

@@ -1,5 +1,6 @@
 -- What becomes of two texts that are planned for, compiled and run in one go.
-use Rattle.std.specs.Prelude.{◌≡◌, ℕ, List, Option, Result, Ok, Err}
+use Rattle.std.specs.Prelude.{◌≡◌, ℕ, List, Option, None, Result, Ok, Err}
+use Rattle.fleet_args.specs.declared.tries.Tries.{Tries}
 use Rattle.fleet_model.specs.declared.task.Task.{Task}
 use Rattle.fleet_model.specs.Program.{Program}
 use Rattle.fleet_grid.specs.Ground.{Ground}
@@ -18,7 +19,7 @@ use Rattle.fleet_cli.specs.declared.auto_fault.AutoFault.TheVariants.{OutOfMemor
 -- The texts stand for a map and for tasks. For these a plan is made agent by agent in one of the first orders, each path the earliest
 -- against those before it; it is free of conflict; and this is its program, which is accepted for the map and the tasks, and the longest
 -- chain of the program
-pub record MakesProgram (map scen : List ℕ) (asked : Option ℕ) (horizon tries : ℕ) (deps : Deps) : Type 0 where
+pub record MakesProgram (map scen : List ℕ) (asked : Option ℕ) (horizon : ℕ) (tries : Tries) (deps : Deps) : Type 0 where
   pub ground : Ground
   pub tasks : List Task
   pub texts : AreTextsOf map scen asked ground tasks
@@ -32,7 +33,7 @@ pub record MakesProgram (map scen : List ℕ) (asked : Option ℕ) (horizon trie
 -- The refusal is that of the first step that refuses: the first fault of the map's text, or of the scenario's on that map; or an agent is
 -- left without a path by those before it; or the agents of the plan make too many moves; or the run of the program stops. Memory may run
 -- out in each step before the run, and until the run nothing is written
-abbrev pub IsAutoFault : (map scen : List ℕ) → Option ℕ → ℕ → ℕ → Deps → List ℕ → (out out' : SinkState) → AutoFault → Type 0
+abbrev pub IsAutoFault : (map scen : List ℕ) → Option ℕ → ℕ → Tries → Deps → List ℕ → (out out' : SinkState) → AutoFault → Type 0
 IsAutoFault map scen asked horizon tries deps held out out' OutOfMemory = IsUnwritten out out'
 IsAutoFault map scen asked horizon tries deps held out out' (Map fault) = IsProblemFault map scen asked (Map fault) × IsUnwritten out out'
 IsAutoFault map scen asked horizon tries deps held out out' (Scen fault) = IsProblemFault map scen asked (Scen fault) × IsUnwritten out out'
@@ -44,10 +45,14 @@ IsAutoFault map scen asked horizon tries deps held out out' (Run fault) =
     (a : MakesProgram map scen asked horizon tries deps) × StopsTrace a.program a.chain held out out' fault
 
 -- the trace of the program that is made of the texts was written under the holds, and the report has its numbers; or a refusal
-abbrev pub AutoRunsIn : (map scen : List ℕ) → Option ℕ → ℕ → ℕ → Deps → List ℕ → (out out' : SinkState) → Result Report AutoFault → Type 0
+abbrev pub AutoRunsIn : (map scen : List ℕ) → Option ℕ → ℕ → Tries → Deps → List ℕ → (out out' : SinkState) → Result Report AutoFault → Type 0
 AutoRunsIn map scen asked horizon tries deps held out out' (Ok r) = (a : MakesProgram map scen asked horizon tries deps) × WritesTrace a.program a.chain held out out' r
 AutoRunsIn map scen asked horizon tries deps held out out' (Err fault) = IsAutoFault map scen asked horizon tries deps held out out' fault
 
--- the same in one order, that of the agents' numbers
+-- one order is tried, that of the agents' numbers
+abbrev pub one_try : Tries
+one_try = record { count = 1; best = None }
+
+-- the same in that order
 abbrev pub AutoRuns : (map scen : List ℕ) → Option ℕ → ℕ → Deps → List ℕ → (out out' : SinkState) → Result Report AutoFault → Type 0
-AutoRuns map scen asked horizon deps held out out' result = AutoRunsIn map scen asked horizon 1 deps held out out' result
+AutoRuns map scen asked horizon deps held out out' result = AutoRunsIn map scen asked horizon one_try deps held out out' result

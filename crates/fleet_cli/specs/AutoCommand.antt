@@ -1,5 +1,6 @@
 -- What the command `auto` does: it plans for a map and a scenario, compiles the plan and runs the program, under the holds of a file.
 use Rattle.std.specs.Prelude.{◌≡◌, ℕ, true, List, Option, Err, Result, MatchResult}
+use Rattle.fleet_args.specs.declared.tries.Tries.{Tries}
 use Rattle.fleet_model.specs.declared.deps.Deps.{Deps}
 use Rattle.fleet_run.specs.declared.trace.Report.{Report}
 use Rattle.fleet_run.specs.Trace.{WritesTrace}
@@ -14,14 +15,14 @@ use Rattle.fleet_cli.specs.declared.fault.Fault.TheVariants as f
 
 -- A program is made of the texts: that of a plan free of conflict, whose paths are each the earliest against those before. Its trace was
 -- written under the holds, and handed on
-pub record RunsMade (map scen : List ℕ) (asked : Option ℕ) (horizon tries : ℕ) (deps : Deps) (held : List ℕ) (out out' : SinkState) : Type 0 where
+pub record RunsMade (map scen : List ℕ) (asked : Option ℕ) (horizon : ℕ) (tries : Tries) (deps : Deps) (held : List ℕ) (out out' : SinkState) : Type 0 where
   pub makes : MakesProgram map scen asked horizon tries deps
   pub report : Report
   pub writes : WritesTrace makes.program makes.chain held out out' report
   pub flushed : out'.is_flushed ≡ true
 
 -- the refusal of the first step that refuses; of a run that is refused, with the flush after it
-abbrev pub IsMadeFault : (map scen : List ℕ) → Option ℕ → ℕ → ℕ → Deps → List ℕ → (out out' : SinkState) → Fault → Type 0
+abbrev pub IsMadeFault : (map scen : List ℕ) → Option ℕ → ℕ → Tries → Deps → List ℕ → (out out' : SinkState) → Fault → Type 0
 IsMadeFault map scen asked horizon tries deps held out out' f.Memory = IsAutoFault map scen asked horizon tries deps held out out' a.OutOfMemory
 IsMadeFault map scen asked horizon tries deps held out out' (f.Map fault) = IsAutoFault map scen asked horizon tries deps held out out' (a.Map fault)
 IsMadeFault map scen asked horizon tries deps held out out' (f.Scen fault) = IsAutoFault map scen asked horizon tries deps held out out' (a.Scen fault)

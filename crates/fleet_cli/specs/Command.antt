@@ -1,9 +1,8 @@
 -- What the program does for its words.
-use Rattle.std.specs.Prelude.{◌≡◌, ℕ, List, [], ◌∷◌, ◌⊎◌, Option, Some, None, Result, Err, codes, string_bytes}
+use Rattle.std.specs.Prelude.{◌≡◌, ℕ, List, [], ◌∷◌, ◌⊎◌, Option, Some, None, Result, Ok, Err, codes, string_bytes}
 use Rattle.std.specs.Borrow.{Bor}
 use Rattle.clap.specs.Words.{Text}
-use Rattle.fleet_args.specs.CommandLine.{DepsNames, AreDeps, fleet}
-use Rattle.fleet_args.specs.Request.{Asks, StopsFor}
+use Rattle.fleet_args.specs.Request.{ReadsFleet}
 use Rattle.fleet_args.specs.declared.request.Request.{Request}
 use Rattle.fleet_args.specs.declared.request.Request.TheVariants as r
 use Rattle.fleet_args.specs.declared.request.WordStop.{WordStop}
@@ -97,6 +96,5 @@ StopsAtWords (w.Help text) out out' err err' status =
 abbrev pub RunsCommand : List Text → Option (List ℕ) → (files after : Option Store) → (unread unwritten : Type 0) → (Talk → Type 0) → (out out' err err' : SinkState) → ℕ → Type 0
 RunsCommand [] input files after unread unwritten talks out out' err err' status = RunsHex input out out' err err' status × AreUnchanged files after
 RunsCommand (word ∷ words) input files after unread unwritten talks out out' err err' status =
-    (names : DepsNames) × AreDeps names
-    × (((request : Request) × Asks (fleet names) (word ∷ words) request × RunsRequest files after unread unwritten talks request out out' err err' status)
-    ⊎ ((stop : WordStop) × StopsFor (fleet names) (word ∷ words) stop × StopsAtWords stop out out' err err' status × AreUnchanged files after × unread))
+    ((request : Request) × ReadsFleet (word ∷ words) (Ok request) × RunsRequest files after unread unwritten talks request out out' err err' status)
+    ⊎ ((stop : WordStop) × ReadsFleet (word ∷ words) (Err stop) × StopsAtWords stop out out' err err' status × AreUnchanged files after × unread)

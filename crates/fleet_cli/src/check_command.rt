@@ -1,34 +1,67 @@
 //! The command `check`.
 
+ghost use Rattle.std.specs.Prelude.{IfOk};
 ghost use Rattle.fleet_text.specs.Sink.{IsWorking, Delivers};
-ghost use Rattle.fleet_cli.specs.CheckCommand.{check_text, AnswersCheck};
+ghost use Rattle.fleet_cli.specs.CheckCommand.{check_text, IsAskedBound, AnswersCheck};
 
 use crate::fault::Fault;
 use crate::inputs::read_problem;
 use crate::named::FileTexts;
 use crate::output::{print_report, status_after_print};
 use fleet_args::CheckRequest;
-use fleet_plan::{Plan, check, read_plan};
+use fleet_model::OutOfMemory;
+use fleet_plan::{Checked, Plan, check, read_plan};
 use fleet_run::{Flush, OutFault};
+use fleet_search::bound;
 use std::alloc::Global;
 
-/// Prints that the plan is free of conflict, with its numbers.
-fn print_check<O: Flush>(out: &mut O, plan: &Plan) -> Result<(), OutFault>
+/// Prints that the plan is free of conflict, with its agents and steps and, if its bound is given, its other numbers.
+fn print_check<O: Flush>(out: &mut O, plan: &Plan, bound: Option<u32>) -> Result<(), OutFault>
     requires { IsWorking (O.state out.old) }
-    ensures { Delivers (O.state out.old) (O.state out.new) result (check_text plan.now) }
+    ensures { Delivers (O.state out.old) (O.state out.new) result (check_text plan.now bound) }
 {
-    print_report(
-        out,
-        "conflict-free",
-        &[
-            ("agents", plan.agents() as u64),
-            ("steps", plan.steps() as u64),
-        ],
-    )
+    match bound {
+        None => print_report(
+            out,
+            "conflict-free",
+            &[
+                ("agents", plan.agents() as u64),
+                ("steps", plan.steps() as u64),
+            ],
+        ),
+        Some(bound) => print_report(
+            out,
+            "conflict-free",
+            &[
+                ("agents", plan.agents() as u64),
+                ("steps", plan.steps() as u64),
+                ("cost", plan.sum_of_costs() as u64),
+                ("bound", bound as u64),
+                ("moves", plan.moves() as u64),
+                ("waits", plan.waits() as u64),
+            ],
+        ),
+    }
 }
 
-/// The command `check`: judges the plan, and prints to `out` that it is free of conflict, with its agents and its steps.
-/// Answers 0. A plan's first fault is a refusal.
+/// The sum of the distances from the starts to the goals, if the numbers are asked for.
+fn asked_bound(
+    alloc: Global,
+    checked: &Checked<'_>,
+    numbers: bool,
+) -> Result<Option<u32>, OutOfMemory>
+    ensures { IfOk result (IsAskedBound checked.now.grid checked.now.instance numbers) }
+{
+    if numbers {
+        let sum = bound(alloc, checked)?;
+        Ok(Some(sum))
+    } else {
+        Ok(None)
+    }
+}
+
+/// The command `check`: judges the plan, and prints to `out` that it is free of conflict, with its agents and its steps
+/// and, if they are asked for, its sum of costs, the sum of the distances to the goals, its moves and its waits. Answers 0. A plan's first fault is a refusal.
 #[inline(never)]
 pub(crate) fn do_check<'a, O: Flush>(
     alloc: Global,
@@ -48,5 +81,8 @@ pub(crate) fn do_check<'a, O: Flush>(
         Ok(checked) => checked,
         Err(refusal) => return Err(Fault::Check(refusal.fault)),
     };
-    status_after_print(print_check(out, checked.plan()))
+    let Ok(bound) = asked_bound(alloc, &checked, request.numbers) else {
+        return Err(Fault::Memory);
+    };
+    status_after_print(print_check(out, checked.plan(), bound))
 }

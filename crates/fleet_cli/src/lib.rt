@@ -29,6 +29,7 @@ mod migrate_command;
 mod named;
 mod output;
 mod plan_command;
+mod planning;
 mod problem;
 mod rehearse_command;
 mod running;
@@ -41,9 +42,9 @@ pub use disk::Disk;
 pub use fault::{Fault, refuse};
 pub use files::Files;
 pub use fleet_args::{
-    AutoRequest, CheckRequest, CompileRequest, DispatchRequest, InstanceRequest, ListRequest,
-    MigrateRequest, PlanRequest, RehearseRequest, Request, RunRequest, ThinRequest, VerifyRequest,
-    WordStop, read_words,
+    AutoRequest, Best, CheckRequest, CompileRequest, DispatchRequest, InstanceRequest, ListRequest,
+    MigrateRequest, PlanRequest, RehearseRequest, Request, RunRequest, ThinRequest, Tries,
+    VerifyRequest, WordStop, read_words,
 };
 pub use hex_run::run_hex;
 pub use input::{FileFault, MAX_BYTES, read_whole};

@@ -5,12 +5,13 @@ ghost use Rattle.fleet_model.specs.Program.{NeverStays, AreShort};
 ghost use Rattle.fleet_cli.specs.Making.{IsMadeFor, SpellsMade, IsMakingFault};
 
 use crate::auto_fault::AutoFault;
+use crate::planning::plan_by;
 use fleet_adg::{Deps, compile};
+use fleet_args::Tries;
 use fleet_code::encode_shortest;
 use fleet_grid::Grid;
 use fleet_model::Program;
 use fleet_scen::Instance;
-use fleet_search::plan_in_orders;
 use std::alloc::Global;
 
 /// The program of the plan that is made for the map and the instance.
@@ -19,7 +20,7 @@ fn made_program(
     grid: &Grid,
     instance: &Instance,
     horizon: u16,
-    tries: u32,
+    tries: Tries,
     deps: Deps,
 ) -> Result<Program, AutoFault>
     ensures made { IfOk result (IsMadeFor grid.now instance.now horizon tries deps) }
@@ -27,7 +28,7 @@ fn made_program(
     ensures moves { IfOk result NeverStays }
     ensures fault { IfErr result (IsMakingFault grid.now instance.now horizon tries deps) }
 {
-    let checked = plan_in_orders(alloc, grid, instance, horizon, tries)?;
+    let checked = plan_by(alloc, grid, instance, horizon, tries)?;
     let program = compile(alloc, &checked, deps)?;
     Ok(program)
 }
@@ -38,7 +39,7 @@ pub fn made_bytes(
     grid: &Grid,
     instance: &Instance,
     horizon: u16,
-    tries: u32,
+    tries: Tries,
     deps: Deps,
 ) -> Result<Vec<u8>, AutoFault>
     ensures made { IfOk result

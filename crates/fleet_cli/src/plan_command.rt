@@ -8,15 +8,15 @@ use crate::flush::deliver;
 use crate::inputs::read_problem;
 use crate::named::FileTexts;
 use crate::output::status_after_print;
+use crate::planning::plan_by;
 use fleet_args::PlanRequest;
 use fleet_model::OutOfMemory;
 use fleet_plan::write_plan;
 use fleet_run::Flush;
-use fleet_search::plan_in_orders;
 use std::alloc::Global;
 
 /// The command `plan`: prints to `out` a plan in which each agent's path is the earliest against those of the agents
-/// before it, in one of the first orders of the agents. Answers 0. The texts are let go once they are read.
+/// before it, in one of the first orders of the agents, or the best of these plans. Answers 0. The texts are let go once they are read.
 #[inline(never)]
 pub(crate) fn do_plan<'a, O: Flush>(
     alloc: Global,
@@ -29,7 +29,7 @@ pub(crate) fn do_plan<'a, O: Flush>(
 {
     let problem = read_problem(alloc, &texts, request.agents)?;
     drop(texts);
-    let checked = match plan_in_orders(
+    let checked = match plan_by(
         alloc,
         &problem.grid,
         &problem.instance,

@@ -8,26 +8,27 @@ use crate::auto_fault::AutoFault;
 use crate::making::made_bytes;
 use crate::problem::read_problem;
 use fleet_adg::Deps;
+use fleet_args::Tries;
 use fleet_code::each_spelling_has_one_program;
 use fleet_run::{Report, TraceOut, run_accepted};
 use std::alloc::Global;
 
 /// What is planned, compiled and run: the texts of a map and of a scenario; how many of the scenario's agents are
 /// `asked` for, the first ones, or all if it is `None`; the horizon, which is the latest time step at which an agent
-/// may arrive; how many orders of the agents are tried at most; the kind of awaits; and the text of the holds.
+/// may arrive; how many orders of the agents are tried, and which plan is kept; the kind of awaits; and the text of the
+/// holds.
 #[derive(Clone, Copy, Debug)]
 pub struct AutoTask<'a> {
     pub map: &'a [u8],
     pub scen: &'a [u8],
     pub asked: Option<u16>,
     pub horizon: u16,
-    pub tries: u32,
+    pub tries: Tries,
     pub deps: Deps,
     pub holds: &'a [u8],
 }
 
-/// Does the same as `auto_run`, with a plan that is made in one of up to `tries` orders of the agents
-/// (`plan_in_orders`).
+/// Does the same as `auto_run`, with the plan of so many tries (`plan_in_orders`, `best_in_orders`).
 ///
 /// Errors: those of `auto_run`.
 pub fn auto_run_in_orders<O: TraceOut>(
@@ -79,7 +80,10 @@ pub fn auto_run<O: TraceOut>(
         scen,
         asked,
         horizon,
-        tries: 1,
+        tries: Tries {
+            count: 1,
+            best: None,
+        },
         deps,
         holds,
     };

@@ -11,7 +11,8 @@ use fleet_adg::Deps;
 use fleet_cli::{
     AutoFault, AutoRequest, CheckRequest, CompileRequest, Disk, Fault, FileFault, Files,
     InstanceRequest, MemFiles, MigrateRequest, PlanRequest, RehearseRequest, Request, RunRequest,
-    ThinRequest, VerifyRequest, WordStop, auto_run, read_words, run_command, run_hex, run_request,
+    ThinRequest, Tries, VerifyRequest, WordStop, auto_run, read_words, run_command, run_hex,
+    run_request,
 };
 use fleet_grid::MapFault;
 use fleet_run::{Report, VecOut};
@@ -114,6 +115,12 @@ fn commands_are_run(rt: HostRuntime) -> Result<(), Fail> {
     Ok(())
 }
 
+/// One order of the agents is tried.
+const ONE_TRY: Tries = Tries {
+    count: 1,
+    best: None,
+};
+
 /// A request of each command on the pair's files.
 const REQUESTS: [Request<'static>; 10] = [
     Request::Instance(InstanceRequest {
@@ -126,13 +133,14 @@ const REQUESTS: [Request<'static>; 10] = [
         scen: "scen",
         plan: "plan",
         agents: Some(2),
+        numbers: true,
     }),
     Request::Plan(PlanRequest {
         map: "map",
         scen: "scen",
         agents: None,
         horizon: 2,
-        tries: 1,
+        tries: ONE_TRY,
     }),
     Request::Compile(CompileRequest {
         map: "map",
@@ -165,7 +173,7 @@ const REQUESTS: [Request<'static>; 10] = [
         scen: "scen",
         agents: None,
         horizon: 1024,
-        tries: 1,
+        tries: ONE_TRY,
         deps: Deps::Last,
         holds: None,
     }),
@@ -185,7 +193,7 @@ const REQUESTS: [Request<'static>; 10] = [
 /// What each writes.
 const WRITTEN: [&[u8]; 10] = [
     INSTANCE,
-    CHECKED,
+    b"conflict-free\nagents 2\nsteps 2\ncost 4\nbound 4\nmoves 4\nwaits 0\n",
     PAIR_PLAN,
     COMPILED,
     ACCEPTED,

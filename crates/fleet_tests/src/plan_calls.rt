@@ -9,7 +9,9 @@ use fleet_code::{EncodeFault, encode, encode2, load};
 use fleet_grid::read_map;
 use fleet_model::{Cell, OutOfMemory};
 use fleet_plan::{Path, check, read_plan, write_plan};
-use fleet_search::{PlanStop, Reservations, SearchFault, earliest, plan};
+use fleet_search::{
+    PlanStop, Reservations, SearchFault, SumOfCosts, best_in_orders, bound, earliest, plan,
+};
 use fleet_verify::verify;
 use std::alloc::Global;
 use std::test::Fail;
@@ -79,6 +81,30 @@ fn plans_are_made(rt: HostRuntime) -> Result<(), Fail> {
             Err(agent) => Err(*agent),
         };
         assert_eq!(rt; answer, due);
+    }
+    Ok(())
+}
+
+/// A row of seven cells with two bays, whose ends two agents exchange. One of them goes straight, in six steps. The
+/// other stands in a bay meanwhile: the first one, if it comes second, until time 9, the second one until time 11.
+const BAYS_MAP: &[u8] = b"type octile\nheight 2\nwidth 7\nmap\n.......\n@.@@.@@\n";
+
+const BAYS_SCEN: &[u8] = b"version 1\n0 m 7 2 6 0 0 0 6\n0 m 7 2 0 0 6 0 6\n";
+
+#[test]
+fn plans_have_numbers_and_the_best_is_kept(rt: HostRuntime) -> Result<(), Fail> {
+    let alloc = rt.alloc();
+    let (grid, instance) = problem(alloc, BAYS_MAP, BAYS_SCEN)?;
+    for (tries, due) in [(1, (17, 14, 3)), (2, (15, 14, 1)), (3, (15, 14, 1))] {
+        let best = best_in_orders(alloc, &grid, &instance, 1024, tries, &SumOfCosts)?;
+        let plan = best.checked.plan();
+        assert_eq!(rt; best.measure, due.0);
+        assert_eq!(rt; (plan.sum_of_costs(), plan.moves()), (due.0, due.1));
+        assert_eq!(rt;
+            (plan.path(0).cost() + plan.path(1).cost(), plan.waits()),
+            (due.0, due.2)
+        );
+        assert_eq!(rt; bound(alloc, &best.checked)?, 12);
     }
     Ok(())
 }

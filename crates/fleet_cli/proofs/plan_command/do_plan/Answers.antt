@@ -12,7 +12,7 @@ returns g c =
       tasks = c.in_ok-problem.problem.instance;
       texts = c.in_ok-problem.ensures.read;
       plan = c.in-Ok.checked.plan;
-      planned = record { made = c.in-Ok.ensures.made; free = c.in-Ok.ensures.free };
+      planned = c.in-Ok.ensures.planned;
     } in
     printed_as _ _ c.deliver.result c.status_after_print.result _ _ _ c.status_after_print.ensures c.deliver.ensures
     (λ delivered. (record { plans = plans; delivered = rw (← bytes) delivered }, refl))

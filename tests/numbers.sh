@@ -14,7 +14,7 @@ trap 'exit 2' INT TERM HUP
 compared=0 case=0
 while [ $compared -lt "$count" ] && [ $case -lt $((3 * count + 100)) ]; do
     case=$((case + 1))
-    awk -v seed=$case -v to="$work" -f "$here/cases.awk"
+    awk -v seed=$case -v to="$work" -f "$here/numbers_cases.awk"
     "$fleet" plan "$work/map" "$work/scen" --tries 20 > "$work/plan" 2> "$work/err" || continue
     awk -v seed=$case -v to="$work" -f "$here/numbers.awk" "$work/map" "$work/scen" "$work/plan"
     "$fleet" check "$work/map" "$work/scen" "$work/changed" --numbers > "$work/numbers" 2>> "$work/err"

@@ -10,7 +10,8 @@ use Rattle.fleet_model.specs.Program.{Program, awaits_of, AreInRange}
 use Rattle.fleet_model.specs.Chain.{IsAction, DirectlyNeeds, ChainFrom, Reaches, IsCriticalCost, IsNumbering, awaited}
 use Rattle.fleet_model.proofs.Chains.{chain_last, Reaches-need, Reaches-refl, Reaches-trans, ends_alone, ends_dearer, chain_push, chain_cost_push}
 use Rattle.fleet_model.specs.Schedule.{Schedule, HasEndedBy, IsSchedule, EndInTime, TakeAtLeast}
-use Rattle.fleet_needs.proofs.Costing.{need_action, IsBound, bound_of, bound_on}
+pub use Rattle.fleet_needs.proofs.Costing.{need_action}
+use Rattle.fleet_needs.proofs.Costing.{IsBound, bound_of, bound_on}
 use Rattle.fleet_verify.proofs.Members.{same_action, contains_head, contains_later, contains_none, contains_cases}
 use Rattle.fleet_verify.proofs.Decide.{IsAction-dec, before_in, needs_before}
 use Rattle.fleet_verify.proofs.Timed.{by_later}

@@ -10,7 +10,7 @@ use Rattle.fleet_model.specs.declared.geometry.Place.{Place}
 use Rattle.fleet_model.specs.Geometry.{is_same_cell, place_of}
 use Rattle.fleet_model.specs.Conflict.{after_in, HasCycleConflict}
 use Rattle.fleet_model.specs.declared.task.Task.{Task}
-use Rattle.fleet_plan.specs.Plan.{Plan, cell_of, planned, IsConflictFree}
+use Rattle.fleet_plan.specs.Plan.{Plan, cell_of, motion_of, IsConflictFree}
 use Rattle.fleet_adg.specs.Compiled.{last_below, changes_in}
 use Rattle.fleet_model.proofs.Cells.{is_same_cell-true, is_same_cell-eq, place_of-injective}
 use Rattle.fleet_adg.proofs.Basics.{last_below-some, last_below-at}
@@ -46,7 +46,7 @@ ring_inside n (suc m) w below back zero h = subst (λ z. z < n) back (below m (o
 ring_inside n m w below back (suc k) h = below k (omega arith)
 
 -- three or more in a ring are a cycle conflict
-cycle_from : (plan : Plan) (x m : ℕ) (w : ℕ → ℕ) → 3 ≤ m → ((k : ℕ) → k < m → cell_of plan (w k) (suc x) ≡ cell_of plan (w (suc k)) x) → ((k : ℕ) → k < m → cell_of plan (w k) x ≢ cell_of plan (w k) (suc x)) → w m ≡ w 0 → ((a b : ℕ) → a < b → b < m → w a ≢ w b) → HasCycleConflict (planned plan) x (map w (range_with_len 0 m))
+cycle_from : (plan : Plan) (x m : ℕ) (w : ℕ → ℕ) → 3 ≤ m → ((k : ℕ) → k < m → cell_of plan (w k) (suc x) ≡ cell_of plan (w (suc k)) x) → ((k : ℕ) → k < m → cell_of plan (w k) x ≢ cell_of plan (w k) (suc x)) → w m ≡ w 0 → ((a b : ℕ) → a < b → b < m → w a ≢ w b) → HasCycleConflict (motion_of plan) x (map w (range_with_len 0 m))
 cycle_from plan x m w three there moves back apart =
     let ring = map w (range_with_len 0 m) in
     let long : length ring ≡ m = length-map-range_with_len w 0 m in

@@ -10,7 +10,7 @@ use Rattle.fleet_model.specs.Geometry.{place_of, moved}
 use Rattle.fleet_model.specs.Program.{origin}
 use Rattle.fleet_model.specs.Conflict.{HasVertexConflict, HasSwappingConflict}
 use Rattle.fleet_model.specs.declared.task.Task.{Task}
-use Rattle.fleet_plan.specs.Plan.{cell_at, cell_of, last_cell, planned, IsConflictFree}
+use Rattle.fleet_plan.specs.Plan.{cell_at, cell_of, last_cell, motion_of, IsConflictFree}
 use Rattle.fleet_example.specs.Programs.{cell_xy, pair_tasks}
 use Rattle.fleet_example.specs.Plans.{base_plan}
 use Rattle.fleet_model.proofs.Cells.{place_of-injective}
@@ -39,14 +39,14 @@ cell_is (suc zero) t h = second_cell t ∙ ap (λ k. cell_xy k 0) (let e : min t
 cell_is (suc (suc i)) t h = absurd (omega arith)
 
 -- equal places are in equal columns
-columns : (i j t u : ℕ) → i < 2 → j < 2 → planned base_plan t i ≡ planned base_plan u j → column i t ≡ column j u
+columns : (i j t u : ℕ) → i < 2 → j < 2 → motion_of base_plan t i ≡ motion_of base_plan u j → column i t ≡ column j u
 columns i j t u hi hj e = ap (λ (c : Cell). c.x) (sym (cell_is i t hi) ∙ place_of-injective (cell_of base_plan i t) (cell_of base_plan j u) e ∙ cell_is j u hj)
 
-no_vertex : (x i j : ℕ) → i < 2 → j < 2 → HasVertexConflict (planned base_plan) x i j → ⊥
+no_vertex : (x i j : ℕ) → i < 2 → j < 2 → HasVertexConflict (motion_of base_plan) x i j → ⊥
 unfolding column
 no_vertex x i j hi hj c = let e = columns i j x x hi hj c.same in c.apart (omega arith)
 
-no_swapping : (x i j : ℕ) → i < 2 → j < 2 → HasSwappingConflict (planned base_plan) x i j → ⊥
+no_swapping : (x i j : ℕ) → i < 2 → j < 2 → HasSwappingConflict (motion_of base_plan) x i j → ⊥
 unfolding column
 no_swapping x i j hi hj c =
     let a = columns i j (x + 1) x hi hj c.there in

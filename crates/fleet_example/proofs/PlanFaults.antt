@@ -13,7 +13,7 @@ use Rattle.fleet_model.specs.Program.{origin}
 use Rattle.fleet_model.specs.Conflict.{HasSwappingConflict, HasCycleConflict}
 use Rattle.fleet_plan.specs.declared.plan_fault.Conflict.{Conflict}
 use Rattle.fleet_plan.specs.declared.plan_fault.Conflict.TheVariants.{Vertex, Swapping, Cycle}
-use Rattle.fleet_plan.specs.Plan.{cell_at, cell_of, last_cell, planned, AreNeighbours}
+use Rattle.fleet_plan.specs.Plan.{cell_at, cell_of, last_cell, motion_of, AreNeighbours}
 use Rattle.fleet_plan.specs.FirstFault.{AllAgents, StartsOnStart, EndsOnGoal, GoesOver, GoesRight, HasConflict, IsCycle, IsPairUpTo, IsConflictUpTo, HasStartsAndGoals, IsFirstPlanFault}
 use Rattle.fleet_example.specs.Programs.{cell_xy}
 use Rattle.fleet_example.specs.Plans.{swap_plan, swap_tasks, swap_fault, ring_plan, ring_tasks, ring_fault}
@@ -65,11 +65,11 @@ swap_steps zero h = two_cells (cell_xy 0 0) (cell_xy 1 0) East refl
 swap_steps (suc zero) h = two_cells (cell_xy 1 0) (cell_xy 0 0) West refl
 swap_steps (suc (suc i)) h = let g : suc (suc i) < 2 = h in absurd (omega arith)
 
-swapping : HasSwappingConflict (planned swap_plan) 0 0 1
+swapping : HasSwappingConflict (motion_of swap_plan) 0 0 1
 unfolding cell_of cell_at
 swapping = record { apart = λ e. omega arith; there = refl; back = refl; changed = λ e. let h = ap (λ (p : Place). p.x) e in absurd (omega (arith, ints)) }
 
-swap_apart : (i j : ℕ) → i < j → j < 2 → planned swap_plan 0 i ≡ planned swap_plan 0 j → ⊥
+swap_apart : (i j : ℕ) → i < j → j < 2 → motion_of swap_plan 0 i ≡ motion_of swap_plan 0 j → ⊥
 unfolding cell_of cell_at
 swap_apart zero (suc zero) h g e = let z = ap (λ (p : Place). p.x) e in absurd (omega (arith, ints))
 swap_apart zero zero h g e = absurd (omega arith)
@@ -126,18 +126,18 @@ each_below (suc (suc zero)) d h = omega arith
 each_below (suc (suc (suc zero))) d h = omega arith
 each_below (suc (suc (suc (suc k)))) d h = absurd (omega arith)
 
-cycle : HasCycleConflict (planned ring_plan) 0 four
+cycle : HasCycleConflict (motion_of ring_plan) 0 four
 unfolding cell_of cell_at IsDistinct four
 cycle = record { three = omega arith; distinct = ((refl, (refl, (refl, tt))), ((refl, (refl, tt)), ((refl, tt), (tt, tt)))); next = next; moves = moves }
   where
-    next : (k : ℕ) → k < 4 → planned ring_plan 1 (get_or (0 ∷ 1 ∷ 2 ∷ 3 ∷ []) k 0) ≡ planned ring_plan 0 (get_or (0 ∷ 1 ∷ 2 ∷ 3 ∷ []) (k + 1) 0)
+    next : (k : ℕ) → k < 4 → motion_of ring_plan 1 (get_or (0 ∷ 1 ∷ 2 ∷ 3 ∷ []) k 0) ≡ motion_of ring_plan 0 (get_or (0 ∷ 1 ∷ 2 ∷ 3 ∷ []) (k + 1) 0)
     next zero h = refl
     next (suc zero) h = refl
     next (suc (suc zero)) h = refl
     next (suc (suc (suc zero))) h = refl
     next (suc (suc (suc (suc k)))) h = absurd (omega arith)
 
-    moves : (k : ℕ) → k < 4 → planned ring_plan 1 (get_or (0 ∷ 1 ∷ 2 ∷ 3 ∷ []) k 0) ≢ planned ring_plan 0 (get_or (0 ∷ 1 ∷ 2 ∷ 3 ∷ []) k 0)
+    moves : (k : ℕ) → k < 4 → motion_of ring_plan 1 (get_or (0 ∷ 1 ∷ 2 ∷ 3 ∷ []) k 0) ≢ motion_of ring_plan 0 (get_or (0 ∷ 1 ∷ 2 ∷ 3 ∷ []) k 0)
     moves zero h e = let z = ap (λ (p : Place). p.x) e in absurd (omega (arith, ints))
     moves (suc zero) h e = let z = ap (λ (p : Place). p.y) e in absurd (omega (arith, ints))
     moves (suc (suc zero)) h e = let z = ap (λ (p : Place). p.x) e in absurd (omega (arith, ints))
@@ -167,7 +167,7 @@ other_column p q ne e = ne (ap (λ (r : Place). r.x) e)
 other_row : (p q : Place) → p.y ≢ q.y → p ≢ q
 other_row p q ne e = ne (ap (λ (r : Place). r.y) e)
 
-ring_apart : OfFour (λ i j. planned ring_plan 0 i ≢ planned ring_plan 0 j)
+ring_apart : OfFour (λ i j. motion_of ring_plan 0 i ≢ motion_of ring_plan 0 j)
 unfolding cell_of cell_at
 ring_apart = (
   other_column _ _ (λ e. absurd (omega (arith, ints))),
@@ -178,7 +178,7 @@ ring_apart = (
   other_column _ _ (λ e. absurd (omega (arith, ints))),
 )
 
-ring_unswapped : OfFour (λ i j. HasSwappingConflict (planned ring_plan) 0 i j → ⊥)
+ring_unswapped : OfFour (λ i j. HasSwappingConflict (motion_of ring_plan) 0 i j → ⊥)
 unfolding cell_of cell_at
 ring_unswapped = (
   λ s. other_column _ _ (λ e. absurd (omega (arith, ints))) s.back,
@@ -197,9 +197,9 @@ pub ring_is_first : IsFirstPlanFault (λ q. true) ring_tasks ring_plan ring_faul
 ring_is_first = (ring_ends, ring_steps, record { conflict = (four, is_cycle); first = first })
   where
     first : (d : Conflict) → HasConflict ring_plan d → IsConflictUpTo (Cycle 0 0) d
-    first (Vertex zero i j) h = absurd (of_four (λ i j. planned ring_plan 0 i ≢ planned ring_plan 0 j) ring_apart i j h.0 h.1 h.2.same)
+    first (Vertex zero i j) h = absurd (of_four (λ i j. motion_of ring_plan 0 i ≢ motion_of ring_plan 0 j) ring_apart i j h.0 h.1 h.2.same)
     first (Vertex (suc x) i j) h = inl (omega arith)
-    first (Swapping zero i j) h = absurd (of_four (λ i j. HasSwappingConflict (planned ring_plan) 0 i j → ⊥) ring_unswapped i j h.0 h.1 h.2)
+    first (Swapping zero i j) h = absurd (of_four (λ i j. HasSwappingConflict (motion_of ring_plan) 0 i j → ⊥) ring_unswapped i j h.0 h.1 h.2)
     first (Swapping (suc x) i j) h = inl (omega arith)
     first (Cycle zero b) h = inr (refl, omega arith)
     first (Cycle (suc x) b) h = inl (omega arith)

@@ -10,6 +10,7 @@ use Rattle.fleet_text.specs.Text.{Bytes, is_blank, is_word, starts_blank, is_dig
 use Rattle.fleet_plan.specs.PlanText.{cell_of_parts, spelled_cell}
 use Rattle.fleet_plan.specs.PlanReading.{spelled_cells}
 use Rattle.fleet_plan.specs.CellReading.{after_comma, after_blanks, after_word, cell_front, begins_with_word}
+use Rattle.fleet_plan.specs.declared.reading.TheConstants.{MAX_CELLS}
 
 -- ---- the word in front
 
@@ -263,7 +264,7 @@ goes (d ∷ text) =
           let x = digits_front (d - 48) text in
           let on : EndsDigits (d ∷ text) (d ∷ ds) x.1 = goes_on (d ∷ text) d ds (t, h.digits) x.1 (ap (λ (u : Bytes). d ∷ u) h.all) h.end in
           let value = small_number_is d ds x.0 t h.spelled in
-          elim (cases_Bool (ltb x.0 65536)) [
+          elim (cases_Bool (ltb x.0 MAX_CELLS)) [
             | inl few ↦ (
                 let front : small_number_front (d ∷ text) ≡ Some (x.0, x.1) = rw (t, few) refl in
                 let is : small_number (d ∷ ds) ≡ Some x.0 = value ∙ rw few refl in

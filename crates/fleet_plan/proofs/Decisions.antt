@@ -22,6 +22,7 @@ use Rattle.fleet_plan.proofs.RingLaws.{some_is, none_is_not, ahead_within, short
 use Rattle.fleet_plan.proofs.MeetLaws.{ahead_agents}
 use Rattle.fleet_plan.proofs.SweepLaws.{HavePlaces, first_is, none_here, swept_all}
 use Rattle.fleet_plan.proofs.FaultLaws.{free_from}
+use Rattle.fleet_plan.specs.declared.reading.TheConstants.{MAX_CELLS}
 
 -- it is so or not
 abbrev pub Decided : Type 0 → Type 0
@@ -255,7 +256,7 @@ free_or_first places next t =
 -- ---- all steps, on a map that has every cell whose numbers fit two bytes
 
 abbrev box : Ground
-box = record { width = 65536; height = 65536; rows = [] }
+box = record { width = MAX_CELLS; height = MAX_CELLS; rows = [] }
 
 in_box : (plan : Plan) → IsWithinLimits plan → StandOnMap box plan
 unfolding cell_of cell_at

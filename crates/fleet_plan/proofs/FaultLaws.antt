@@ -9,7 +9,7 @@ use Rattle.fleet_plan.specs.declared.plan_fault.Conflict.{Conflict}
 use Rattle.fleet_plan.specs.declared.plan_fault.Conflict.TheVariants.{Vertex, Swapping, Cycle}
 use Rattle.fleet_plan.specs.declared.plan_fault.PlanFault.{PlanFault}
 use Rattle.fleet_plan.specs.declared.plan_fault.PlanFault.TheVariants as fault
-use Rattle.fleet_plan.specs.Plan.{Plan, cell_at, cell_of, planned, AreNeighbours, IsConflictFree}
+use Rattle.fleet_plan.specs.Plan.{Plan, cell_at, cell_of, motion_of, AreNeighbours, IsConflictFree}
 use Rattle.fleet_plan.specs.FirstFault.{AllAgents, IsFirstFaultyAgent, StartsOnStart, EndsOnGoal, IsRightAt, GoesRight, IsFirstStep, HasNoConflict, HasStartsAndGoals, time_of, IsPairUpTo, IsKindUpTo, IsConflictUpTo, IsFirstConflict, IsFirstPlanFault, path_of}
 
 -- the least of numbers
@@ -55,7 +55,7 @@ free_from passable tasks plan ends goes none = record {
   cycle = λ x ring a c. let m = some_least ring c.three in none (Cycle x m.0) (ring, record { agents = a; conflict = c; among = m.1; least_one = m.2 });
 }
   where
-    vertex : (x i j : ℕ) → i < length plan → j < length plan → HasVertexConflict (planned plan) x i j → ⊥
+    vertex : (x i j : ℕ) → i < length plan → j < length plan → HasVertexConflict (motion_of plan) x i j → ⊥
     vertex x i j li lj c = elim (cases_order i j) [
       | inl e ↦ c.apart e
       | inr u ↦ elim u [
@@ -64,7 +64,7 @@ free_from passable tasks plan ends goes none = record {
       ]
     ]
 
-    swapping : (x i j : ℕ) → i < length plan → j < length plan → HasSwappingConflict (planned plan) x i j → ⊥
+    swapping : (x i j : ℕ) → i < length plan → j < length plan → HasSwappingConflict (motion_of plan) x i j → ⊥
     swapping x i j li lj c = elim (cases_order i j) [
       | inl e ↦ c.apart e
       | inr u ↦ elim u [

@@ -10,6 +10,8 @@ use Rattle.fleet_plan.specs.declared.text_fault.TextFault.TheVariants.{Form, Len
 use Rattle.fleet_plan.specs.CellReading.{cell_front, begins_with_word}
 use Rattle.fleet_plan.specs.PlanReading.{spelled_cells, some_cells, too_long, path_at, enough_paths, paths_at}
 use Rattle.fleet_plan.proofs.CellLaws.{Passes, passes, cells_next, cells_none}
+use Rattle.fleet_plan.specs.declared.reading.TheConstants.{MAX_CELLS}
+use Rattle.fleet_model.specs.declared.limits.TheConstants.{MAX_AGENTS}
 
 -- ---- words
 
@@ -75,16 +77,16 @@ some_path : (path : Path) → 1 ≤ length path → some_cells path ≡ Some pat
 some_path [] some = absurd (omega arith)
 some_path (cell ∷ path) some = refl
 
-a_path : (number : ℕ) (line : Bytes) (path : Path) → spelled_cells (words_from_front line) ≡ Some path → 1 ≤ length path → length path ≤ 65536 → path_at number line ≡ Ok path
+a_path : (number : ℕ) (line : Bytes) (path : Path) → spelled_cells (words_from_front line) ≡ Some path → 1 ≤ length path → length path ≤ MAX_CELLS → path_at number line ≡ Ok path
 unfolding path_at
-a_path number line path e some few = rw (e, some_path path some, le-leb (length path) 65536 few) refl
+a_path number line path e some few = rw (e, some_path path some, le-leb (length path) MAX_CELLS few) refl
 
-a_long_path : (number : ℕ) (line : Bytes) (path : Path) → spelled_cells (words_from_front line) ≡ Some path → 65536 < length path → path_at number line ≡ Err (Length number)
+a_long_path : (number : ℕ) (line : Bytes) (path : Path) → spelled_cells (words_from_front line) ≡ Some path → MAX_CELLS < length path → path_at number line ≡ Err (Length number)
 unfolding path_at
-a_long_path number line path e many = rw (e, some_path path (omega arith), lt-leb (length path) 65536 many) refl
+a_long_path number line path e many = rw (e, some_path path (omega arith), lt-leb (length path) MAX_CELLS many) refl
 
 module _ (number : ℕ) (line : Bytes) (cells : Path) (rest : Bytes) (so_far : option_map (λ more. cells ++ more) (spelled_cells (words rest)) ≡ spelled_cells (words_from_front line)) where
-  pub cells_end : length rest ≡ 0 → 1 ≤ length cells → length cells ≤ 65536 → path_at number line ≡ Ok cells
+  pub cells_end : length rest ≡ 0 → 1 ≤ length cells → length cells ≤ MAX_CELLS → path_at number line ≡ Ok cells
   cells_end e some few =
       let none = no_words rest e in
       let all : spelled_cells (words_from_front line) ≡ Some cells = sym so_far ∙ rw none (ap (λ (path : Path). Some path) (append-nil cells)) in
@@ -105,7 +107,7 @@ module _ (number : ℕ) (line : Bytes) (cells : Path) (rest : Bytes) (so_far : o
           regroup None = refl
           regroup (Some more) = ap (λ (path : Path). Some path) (append_assoc cells (cell ∷ []) more)
 
-      pub too_many_cells : 65536 ≤ length cells → path_at number line ≡ Err (too_long number after)
+      pub too_many_cells : MAX_CELLS ≤ length cells → path_at number line ≡ Err (too_long number after)
       too_many_cells many = judged (spelled_cells (words after)) refl
         where
           judged : (o : Option Path) → spelled_cells (words after) ≡ o → path_at number line ≡ Err (too_long number after)
@@ -114,7 +116,7 @@ module _ (number : ℕ) (line : Bytes) (cells : Path) (rest : Bytes) (so_far : o
               rw e (no_path number line all)
           judged (Some more) e =
               let all : spelled_cells (words_from_front line) ≡ Some ((cells ++ cell ∷ []) ++ more) = sym cells_more ∙ rw e refl in
-              let long : 65536 < length ((cells ++ cell ∷ []) ++ more) = omega (arith, many, length-append (cells ++ cell ∷ []) more, length-append cells (cell ∷ [])) in
+              let long : MAX_CELLS < length ((cells ++ cell ∷ []) ++ more) = omega (arith, many, length-append (cells ++ cell ∷ []) more, length-append cells (cell ∷ [])) in
               rw e (a_long_path number line ((cells ++ cell ∷ []) ++ more) all long)
 
 -- ---- lines
@@ -125,23 +127,23 @@ module _ (earlier : Plan) (ls : List Bytes) (total : Result Plan TextFault) (so_
   lines_end e = sym so_far ∙ ap (paths_at earlier) e
 
   module _ (line : Bytes) (after : List Bytes) (next : ls ≡ line ∷ after) where
-    pub too_many : 1024 ≤ length earlier → total ≡ Err AgentCount
+    pub too_many : MAX_AGENTS ≤ length earlier → total ≡ Err AgentCount
     unfolding paths_at
     too_many many =
-        let full : ltb (length earlier) 1024 ≡ false = le-ltb _ _ many in
+        let full : ltb (length earlier) MAX_AGENTS ≡ false = le-ltb _ _ many in
         sym so_far ∙ ap (paths_at earlier) next ∙ rw full refl
 
-    module _ (few : length earlier < 1024) where
+    module _ (few : length earlier < MAX_AGENTS) where
       pub fails : (f : TextFault) → path_at (length earlier + 1) line ≡ Err f → total ≡ Err f
       unfolding paths_at
       fails f wrong =
-          let room : ltb (length earlier) 1024 ≡ true = lt-ltb _ _ few in
+          let room : ltb (length earlier) MAX_AGENTS ≡ true = lt-ltb _ _ few in
           sym so_far ∙ ap (paths_at earlier) next ∙ rw (room, wrong) refl
 
       pub goes_on : (path : Path) → path_at (length earlier + 1) line ≡ Ok path → paths_at (earlier ++ path ∷ []) after ≡ total
       unfolding paths_at
       goes_on path right =
-          let room : ltb (length earlier) 1024 ≡ true = lt-ltb _ _ few in
+          let room : ltb (length earlier) MAX_AGENTS ≡ true = lt-ltb _ _ few in
           let one : paths_at earlier ls ≡ paths_at (earlier ++ path ∷ []) after = ap (paths_at earlier) next ∙ rw (room, right) refl in
           sym one ∙ so_far
 

@@ -5,6 +5,7 @@ use Rattle.std.proofs.lemmas.List.Elements.{All-more}
 use Rattle.fleet_model.specs.declared.geometry.Cell.{Cell}
 use Rattle.fleet_model.specs.Program.{IsCell, origin}
 use Rattle.fleet_plan.specs.Plan.{Plan, IsPath, IsFleet, IsWithinLimits, cell_at, steps}
+use Rattle.fleet_plan.specs.declared.reading.TheConstants.{MAX_CELLS}
 
 pub cell_read : (xs : List Cell) (t n last : ℕ) (x : Cell) → last + 1 ≡ length xs → n ≡ min t last → x ≡ get_or xs n x → x ≡ cell_at xs t
 unfolding cell_at
@@ -13,7 +14,7 @@ cell_read xs t n last x long e h =
     get_or_read xs n x (omega arith) h origin ∙ ap (λ m. get_or xs m origin) k
 
 -- all cells are cells of a path
-pub is_path : (xs : List Cell) (i : ℕ) → 1 ≤ length xs → length xs ≤ 65536 → length xs ≤ i → All IsCell (take i xs) → IsPath xs
+pub is_path : (xs : List Cell) (i : ℕ) → 1 ≤ length xs → length xs ≤ MAX_CELLS → length xs ≤ i → All IsCell (take i xs) → IsPath xs
 is_path xs i some few l h = record { some_cells = some; few_cells = few; cells = subst (All IsCell) (take_all i xs l) h }
 
 steps_push : (xs : Plan) (y : List Cell) → steps (xs ++ y ∷ []) ≡ max (steps xs) (length y - 1)

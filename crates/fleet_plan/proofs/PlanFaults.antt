@@ -15,12 +15,14 @@ use Rattle.fleet_plan.specs.declared.text_fault.TextFault.TheVariants.{OutOfMemo
 use Rattle.fleet_plan.specs.PlanText.{SpellsPath, ArePlanLines, IsRightLine, ReachesPlanLine, IsFirstPlanLineFault}
 use Rattle.fleet_plan.specs.PlanReading.{path_at, enough_paths, paths_at}
 use Rattle.fleet_plan.proofs.PlanLaws.{path_in, spells_again, spells_is, judged, path_is, path_again, paths_next, is_found, is_read}
+use Rattle.fleet_plan.specs.declared.reading.TheConstants.{MAX_CELLS}
+use Rattle.fleet_model.specs.declared.limits.TheConstants.{MAX_AGENTS}
 
 -- ---- a line
 
 -- why the line, of this number, stands for no path
 abbrev IsLineFault : ℕ → Bytes → TextFault → Type 0
-IsLineFault number line f = ((f ≡ Form number) × ((path : Path) → SpellsPath line path → ⊥)) ⊎ ((f ≡ Length number) × (path : Path) × SpellsPath line path × (65536 < length path))
+IsLineFault number line f = ((f ≡ Form number) × ((path : Path) → SpellsPath line path → ⊥)) ⊎ ((f ≡ Length number) × (path : Path) × SpellsPath line path × (MAX_CELLS < length path))
 
 path_fails : (number : ℕ) (line : Bytes) (f : TextFault) → path_at number line ≡ Err f → IsLineFault number line f
 unfolding path_at
@@ -32,8 +34,8 @@ path_fails number line f e =
       | inr p ↦ (
           let path = p.0 in
           let some = some_ok (path_in line) (Form number) path p.1 in
-          elim (right_err (leb (length path) 65536) (Length number) (Ok path) f p.2) [
-            | inl q ↦ inr (sym q.1, path, spells_is line path some, leb-false (length path) 65536 q.0)
+          elim (right_err (leb (length path) MAX_CELLS) (Length number) (Ok path) f p.2) [
+            | inl q ↦ inr (sym q.1, path, spells_is line path some, leb-false (length path) MAX_CELLS q.0)
             | inr q ↦ absurd (ok_err path f q.1)
           ])
     ]
@@ -45,15 +47,15 @@ path_fault number line f (inl h) = none (path_in line) refl
     none : (o : Option Path) → path_in line ≡ o → path_at number line ≡ Err f
     none None e = rw e (ap (λ (x : TextFault). Err x) (sym h.0))
     none (Some path) e = absurd (h.1 path (spells_is line path e))
-path_fault number line f (inr h) = rw (spells_again line h.1 h.2, lt-leb (length h.1) 65536 h.3) (ap (λ (x : TextFault). Err x) (sym h.0))
+path_fault number line f (inr h) = rw (spells_again line h.1 h.2, lt-leb (length h.1) MAX_CELLS h.3) (ap (λ (x : TextFault). Err x) (sym h.0))
 
 -- ---- where reading stops, after n lines
 
 abbrev Stops : ℕ → List Bytes → TextFault → Type 0
 Stops n rest f =
     ((f ≡ AgentCount) × (n ≡ 0) × (rest ≡ []))
-    ⊎ (((f ≡ AgentCount) × (n ≡ 1024) × (1 ≤ length rest))
-    ⊎ ((n < 1024) × (line : Bytes) × (more : List Bytes) × (rest ≡ line ∷ more) × IsLineFault (n + 1) line f))
+    ⊎ (((f ≡ AgentCount) × (n ≡ MAX_AGENTS) × (1 ≤ length rest))
+    ⊎ ((n < MAX_AGENTS) × (line : Bytes) × (more : List Bytes) × (rest ≡ line ∷ more) × IsLineFault (n + 1) line f))
 
 -- .. after k more lines, which are right
 record StopsAfter (n : ℕ) (ls : List Bytes) (k : ℕ) (f : TextFault) : Type 0 where
@@ -68,19 +70,19 @@ stops_later n line ls k f right s =
     let same : n + 1 + k ≡ n + suc k = omega arith in
     record { right = (right, s.right); stops = subst (λ (m : ℕ). Stops m (drop k ls) f) same s.stops }
 
-paths_fail : (earlier : Plan) (ls : List Bytes) (f : TextFault) → length earlier ≤ 1024 → paths_at earlier ls ≡ Err f → (k : ℕ) × StopsAfter (length earlier) ls k f
+paths_fail : (earlier : Plan) (ls : List Bytes) (f : TextFault) → length earlier ≤ MAX_AGENTS → paths_at earlier ls ≡ Err f → (k : ℕ) × StopsAfter (length earlier) ls k f
 unfolding paths_at
 paths_fail [] [] f few e = (0, stops_here 0 [] f (inl (sym (err_is {A = Plan} AgentCount f e), refl, refl)))
 paths_fail (p ∷ earlier) [] f few e = absurd (ok_err (p ∷ earlier) f e)
 paths_fail earlier (line ∷ ls) f few e =
     let n = length earlier in
-    elim (right_err (ltb n 1024) AgentCount (path_at (n + 1) line >>= paths_next earlier ls) f e) [
+    elim (right_err (ltb n MAX_AGENTS) AgentCount (path_at (n + 1) line >>= paths_next earlier ls) f e) [
       | inl p ↦ (
-          let many : 1024 ≤ n = ltb-false n 1024 p.0 in
-          let all : n ≡ 1024 = omega arith in
+          let many : MAX_AGENTS ≤ n = ltb-false n MAX_AGENTS p.0 in
+          let all : n ≡ MAX_AGENTS = omega arith in
           (0, stops_here n (line ∷ ls) f (inr (inl (sym p.1, all, omega arith)))))
       | inr p ↦ (
-          let fewer : n < 1024 = ltb-true n 1024 p.0 in
+          let fewer : n < MAX_AGENTS = ltb-true n MAX_AGENTS p.0 in
           elim (bind_err (path_at (n + 1) line) (paths_next earlier ls) f p.1) [
             | inl q ↦ (0, stops_here n (line ∷ ls) f (inr (inr (fewer, line, ls, refl, path_fails (n + 1) line f q))))
             | inr q ↦ (
@@ -106,16 +108,16 @@ ends_fault (p ∷ earlier) k f (inl s) = absurd (let none = s.1 in omega (arith,
 ends_fault earlier k f (inr (inl s)) = absurd (let some = s.2 in omega (arith, some))
 ends_fault earlier k f (inr (inr s)) = absurd (no_line s.1 s.2 s.3)
 
-line_fault : (n : ℕ) (next : Path → Result Plan TextFault) (line : Bytes) (ls : List Bytes) (f : TextFault) → Stops n (line ∷ ls) f → (right_or (ltb n 1024) AgentCount >> (path_at (n + 1) line >>= next)) ≡ Err f
+line_fault : (n : ℕ) (next : Path → Result Plan TextFault) (line : Bytes) (ls : List Bytes) (f : TextFault) → Stops n (line ∷ ls) f → (right_or (ltb n MAX_AGENTS) AgentCount >> (path_at (n + 1) line >>= next)) ≡ Err f
 line_fault n next line ls f (inl s) = absurd (some_line line ls s.2)
 line_fault n next line ls f (inr (inl s)) =
-    let full : ltb n 1024 ≡ false = le-ltb n 1024 (let all = s.1 in omega (arith, all)) in
+    let full : ltb n MAX_AGENTS ≡ false = le-ltb n MAX_AGENTS (let all = s.1 in omega (arith, all)) in
     rw full (ap (λ (x : TextFault). Err x) (sym s.0))
 line_fault n next line ls f (inr (inr s)) =
     let here : IsLineFault (n + 1) line f = subst (λ (l : Bytes). IsLineFault (n + 1) l f) (heads_are s.1 line s.2 ls (sym s.3)) s.4 in
-    rw (lt-ltb n 1024 s.0, path_fault (n + 1) line f here) refl
+    rw (lt-ltb n MAX_AGENTS s.0, path_fault (n + 1) line f here) refl
 
-stops_few : (n k : ℕ) (rest : List Bytes) (f : TextFault) → Stops (n + suc k) rest f → n < 1024
+stops_few : (n k : ℕ) (rest : List Bytes) (f : TextFault) → Stops (n + suc k) rest f → n < MAX_AGENTS
 stops_few n k rest f (inl s) = absurd (let none = s.1 in omega (arith, none))
 stops_few n k rest f (inr (inl s)) = (let all = s.1 in omega (arith, all))
 stops_few n k rest f (inr (inr s)) = (let few = s.0 in omega (arith, few))
@@ -134,7 +136,7 @@ paths_fault earlier (line ∷ ls) (suc k) f h =
     let longer : n + 1 ≡ length (earlier ++ path ∷ []) = sym (length-append earlier (path ∷ [])) in
     let same : n + suc k ≡ n + 1 + k = omega arith in
     let there : StopsAfter (n + 1) ls k f = record { right = h.right.1; stops = subst (λ (m : ℕ). Stops m (drop k ls) f) same h.stops } in
-    rw (lt-ltb n 1024 few, path_again (n + 1) line path h.right.0.1) (paths_fault (earlier ++ path ∷ []) ls k f (subst (λ (m : ℕ). StopsAfter m ls k f) longer there))
+    rw (lt-ltb n MAX_AGENTS few, path_again (n + 1) line path h.right.0.1) (paths_fault (earlier ++ path ∷ []) ls k f (subst (λ (m : ℕ). StopsAfter m ls k f) longer there))
 
 -- ---- the first fault
 
@@ -149,8 +151,8 @@ stops_first ls k f right (inl s) =
 stops_first ls k f right (inr (inl s)) =
     let some = s.2 in
     let all = s.1 in
-    let longer : 1024 < length ls = omega (arith, some, all, length-drop k ls) in
-    let before : All IsRightLine (take 1024 ls) = subst (λ (m : ℕ). All IsRightLine (take m ls)) all (All-from_recursion IsRightLine (take k ls) right) in
+    let longer : MAX_AGENTS < length ls = omega (arith, some, all, length-drop k ls) in
+    let before : All IsRightLine (take MAX_AGENTS ls) = subst (λ (m : ℕ). All IsRightLine (take m ls)) all (All-from_recursion IsRightLine (take k ls) right) in
     subst (IsFirstPlanLineFault ls) (sym s.0) (inr (longer, before))
 stops_first ls k f right (inr (inr s)) =
     line_is_first ls k s.1 f (record { few = s.0; before = All-from_recursion IsRightLine (take k ls) right; here = next_is k ls s.1 s.2 s.3 }) s.4
@@ -176,7 +178,7 @@ is_told ls OutOfMemory h = absurd h
 is_told ls (Form number) h = told_line ls h.0 h.1 (Form number) h.3 (inl (ap (λ (n : ℕ). Form n) h.2, h.4))
 is_told ls (Length number) h = told_line ls h.0 h.1 (Length number) h.3 (inr (ap (λ (n : ℕ). Length n) h.2, h.4, h.5, h.6))
 is_told ls AgentCount (inl none) = told_at ls 0 AgentCount (All-from_recursion IsRightLine [] tt) (inl (refl, refl, none))
-is_told ls AgentCount (inr h) = (let longer = h.0 in told_at ls 1024 AgentCount h.1 (inr (inl (refl, refl, omega (arith, longer, length-drop 1024 ls)))))
+is_told ls AgentCount (inr h) = (let longer = h.0 in told_at ls MAX_AGENTS AgentCount h.1 (inr (inl (refl, refl, omega (arith, longer, length-drop MAX_AGENTS ls)))))
 
 -- ---- the reader's laws
 

@@ -16,6 +16,8 @@ use Rattle.fleet_plan.specs.declared.text_fault.TextFault.{TextFault}
 use Rattle.fleet_plan.specs.declared.text_fault.TextFault.TheVariants.{Form, Length, AgentCount}
 use Rattle.fleet_plan.specs.PlanText.{cell_of_parts, spelled_cell, SpellsPath, StandsForPath, ArePlanLines}
 use Rattle.fleet_plan.specs.PlanReading.{spelled_cells, some_cells, path_at, enough_paths, paths_at}
+use Rattle.fleet_plan.specs.declared.reading.TheConstants.{MAX_CELLS}
+use Rattle.fleet_model.specs.declared.limits.TheConstants.{MAX_AGENTS}
 
 -- ---- the cells of words
 
@@ -71,19 +73,19 @@ spells_is line path e = found (spelled_cells (words_from_front line)) refl
         subst (SpellsPath line) same (record { some = omega arith; cells = cells_are (words_from_front line) (c ∷ cells) h })
 
 abbrev pub judged : ℕ → Path → Result Path TextFault
-judged number path = right_or (leb (length path) 65536) (Length number) >> Ok path
+judged number path = right_or (leb (length path) MAX_CELLS) (Length number) >> Ok path
 
 pub path_is : (number : ℕ) (line : Bytes) (path : Path) → path_at number line ≡ Ok path → StandsForPath line path
 unfolding path_at
 path_is number line path e =
     let a = bind_ok (some_or (path_in line) (Form number)) (judged number) path e in
     let spells = spells_is line a.0 (some_ok (path_in line) (Form number) a.0 a.1) in
-    let b = right_ok (leb (length a.0) 65536) (Length number) (Ok a.0) path a.2 in
-    subst (StandsForPath line) (ok_is a.0 path b.1) (record { spells = spells; few = leb-true (length a.0) 65536 b.0 })
+    let b = right_ok (leb (length a.0) MAX_CELLS) (Length number) (Ok a.0) path a.2 in
+    subst (StandsForPath line) (ok_is a.0 path b.1) (record { spells = spells; few = leb-true (length a.0) MAX_CELLS b.0 })
 
 pub path_again : (number : ℕ) (line : Bytes) (path : Path) → StandsForPath line path → path_at number line ≡ Ok path
 unfolding path_at
-path_again number line path s = rw (spells_again line path s.spells, le-leb (length path) 65536 s.few) refl
+path_again number line path s = rw (spells_again line path s.spells, le-leb (length path) MAX_CELLS s.few) refl
 
 -- ---- the paths of lines
 
@@ -96,7 +98,7 @@ record Follows (earlier : Plan) (ls : List Bytes) (plan new : Plan) : Type 0 whe
 follows_next : (earlier : Plan) (line : Bytes) (ls : List Bytes) (plan : Plan) (path : Path) (new : Plan) → StandsForPath line path → Follows (earlier ++ path ∷ []) ls plan new → Follows earlier (line ∷ ls) plan (path ∷ new)
 follows_next earlier line ls plan path new s f = record { all = f.all ∙ append_assoc earlier (path ∷ []) new; paths = (s, f.paths); agents = f.agents }
 
-follows_end : (earlier plan : Plan) → length earlier ≤ 1024 → enough_paths earlier ≡ Ok plan → Follows earlier [] plan []
+follows_end : (earlier plan : Plan) → length earlier ≤ MAX_AGENTS → enough_paths earlier ≡ Ok plan → Follows earlier [] plan []
 follows_end [] plan few e = absurd (let f : Err AgentCount ≡ Ok plan = e in cc)
 follows_end (p ∷ earlier) plan few e =
     let same : p ∷ earlier ≡ plan = ok_is {E = TextFault} (p ∷ earlier) plan e in
@@ -106,13 +108,13 @@ follows_end (p ∷ earlier) plan few e =
 abbrev pub paths_next : Plan → List Bytes → Path → Result Plan TextFault
 paths_next earlier ls path = paths_at (earlier ++ path ∷ []) ls
 
-paths_are : (earlier : Plan) (ls : List Bytes) (plan : Plan) → length earlier ≤ 1024 → paths_at earlier ls ≡ Ok plan → (new : Plan) × Follows earlier ls plan new
+paths_are : (earlier : Plan) (ls : List Bytes) (plan : Plan) → length earlier ≤ MAX_AGENTS → paths_at earlier ls ≡ Ok plan → (new : Plan) × Follows earlier ls plan new
 unfolding paths_at
 paths_are earlier [] plan few e = ([], follows_end earlier plan few e)
 paths_are earlier (line ∷ ls) plan few e =
     let number = length earlier + 1 in
-    let a = right_ok (ltb (length earlier) 1024) AgentCount (path_at number line >>= paths_next earlier ls) plan e in
-    let fewer = ltb-true (length earlier) 1024 a.0 in
+    let a = right_ok (ltb (length earlier) MAX_AGENTS) AgentCount (path_at number line >>= paths_next earlier ls) plan e in
+    let fewer = ltb-true (length earlier) MAX_AGENTS a.0 in
     let b = bind_ok (path_at number line) (paths_next earlier ls) plan a.1 in
     let path = b.0 in
     let more = paths_are (earlier ++ path ∷ []) ls plan (omega (arith, fewer, length-append earlier (path ∷ []))) b.2 in
@@ -132,7 +134,7 @@ paths_again earlier [] (path ∷ new) h fleet = absurd h
 paths_again earlier (line ∷ ls) [] h fleet = absurd h
 paths_again earlier (line ∷ ls) (path ∷ new) h fleet =
     let few = fleet.few_agents in
-    let room : ltb (length earlier) 1024 ≡ true = lt-ltb (length earlier) 1024 (omega (arith, few, length-append earlier (path ∷ new))) in
+    let room : ltb (length earlier) MAX_AGENTS ≡ true = lt-ltb (length earlier) MAX_AGENTS (omega (arith, few, length-append earlier (path ∷ new))) in
     let here = path_again (length earlier + 1) line path h.0 in
     let regrouped = append_assoc earlier (path ∷ []) new in
     rw (room, here) (paths_again (earlier ++ path ∷ []) ls new h.1 (subst IsFleet (sym regrouped) fleet) ∙ ap (λ (plan : Plan). Ok plan) regrouped)
@@ -149,15 +151,15 @@ is_read ls plan h = paths_again [] ls plan h.paths h.agents
 
 -- ---- the limits of a plan
 
-small_is_few : (word : Bytes) (n : ℕ) → small_number word ≡ Some n → n < 65536
+small_is_few : (word : Bytes) (n : ℕ) → small_number word ≡ Some n → n < MAX_CELLS
 unfolding small_number
 small_is_few word n e = few (number word) e
   where
-    few : (o : Option ℕ) → option_and_then small o ≡ Some n → n < 65536
+    few : (o : Option ℕ) → option_and_then small o ≡ Some n → n < MAX_CELLS
     few None e = absurd (none-some n e)
     few (Some m) e =
-        elim (cases_Bool (ltb m 65536)) [
-          | inl t ↦ (let f : Some m ≡ Some n = rw t at e in subst (λ (k : ℕ). k < 65536) (same_Some m n f) (ltb-true m 65536 t))
+        elim (cases_Bool (ltb m MAX_CELLS)) [
+          | inl t ↦ (let f : Some m ≡ Some n = rw t at e in subst (λ (k : ℕ). k < MAX_CELLS) (same_Some m n f) (ltb-true m MAX_CELLS t))
           | inr t ↦ absurd (let f : None ≡ Some n = rw t at e in none-some n f)
         ]
 

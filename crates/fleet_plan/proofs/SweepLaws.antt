@@ -13,7 +13,7 @@ use Rattle.fleet_grid.specs.Table.{value_in}
 use Rattle.fleet_grid.specs.Ground.{Ground, IsGround, is_passable, cell_index, is_ground_at as ground_at}
 use Rattle.fleet_plan.specs.declared.plan_fault.Conflict.{Conflict}
 use Rattle.fleet_plan.specs.declared.plan_fault.Conflict.TheVariants.{Vertex, Swapping, Cycle}
-use Rattle.fleet_plan.specs.Plan.{Plan, cell_of, planned, steps, IsPath}
+use Rattle.fleet_plan.specs.Plan.{Plan, cell_of, motion_of, steps, IsPath}
 use Rattle.fleet_plan.specs.FirstFault.{AllAgents, GoesRight, path_of, HasConflict, HasNoConflict, time_of, IsKindUpTo, IsConflictUpTo, IsFirstConflict}
 use Rattle.fleet_plan.specs.Rings.{NamesAgents, ahead_of, walk_of, Leads, IsOnRing, IsLeastOnRing}
 use Rattle.fleet_plan.specs.Sweep.{StandOnMap, StandOnPlaces, Meet, IsFirstMeeting, IsAhead, AreAhead, Exchange, IsFirstExchange, HasNoMeeting, HasNoExchange, IsFirstIn, IsFreeIn, IsEntered, IsAgentSettled, IsSweep, IsSwept}
@@ -21,6 +21,7 @@ use Rattle.fleet_plan.specs.UnderWay.{IsSoForOthers, Covers}
 use Rattle.fleet_plan.proofs.RingLaws.{some_is, none_is_not, shortened, each_ahead, each_reached, ends_with, each_on_ring, ring-reaches}
 use Rattle.fleet_plan.proofs.PathLaws.{at_past}
 use Rattle.fleet_plan.proofs.MeetLaws.{ahead_agents, nobody_ahead}
+use Rattle.fleet_model.specs.declared.limits.TheConstants.{MAX_HORIZON}
 
 -- ---- cells on the map
 
@@ -71,14 +72,14 @@ none_later plan later (Vertex x i j) h =
     let l : steps plan < x = later (Vertex x i j) h in
     let order : i < j = h.0 in
     let within : j < length plan = h.1 in
-    let same : planned plan (steps plan) i ≡ planned plan (steps plan) j = ap place_of (sym (stays plan i x (omega arith) (omega arith))) ∙ h.2.same ∙ ap place_of (stays plan j x within (omega arith)) in
+    let same : motion_of plan (steps plan) i ≡ motion_of plan (steps plan) j = ap place_of (sym (stays plan i x (omega arith) (omega arith))) ∙ h.2.same ∙ ap place_of (stays plan j x within (omega arith)) in
     let m : steps plan < steps plan = later (Vertex (steps plan) i j) (order, within, record { apart = h.2.apart; same = same }) in
     omega arith
 none_later plan later (Swapping x i j) h =
     let l : steps plan < x = later (Swapping x i j) h in
     let order : i < j = h.0 in
     let within : j < length plan = h.1 in
-    let still : planned plan (x + 1) i ≡ planned plan x i = ap place_of (stays plan i (x + 1) (omega arith) (omega arith) ∙ sym (stays plan i x (omega arith) (omega arith))) in
+    let still : motion_of plan (x + 1) i ≡ motion_of plan x i = ap place_of (stays plan i (x + 1) (omega arith) (omega arith) ∙ sym (stays plan i x (omega arith) (omega arith))) in
     h.2.changed (sym still ∙ h.2.there)
 none_later plan later (Cycle x least) h =
     let l : steps plan < x = later (Cycle x least) h in
@@ -99,10 +100,10 @@ module _ (have : HavePlaces) (g : Ground) (plan : Plan) (on : StandOnMap g plan)
   n : ℕ
   n = length plan
 
-  same_place : (i j x y : ℕ) → i < length plan → j < length plan → cell_index g (cell_of plan i x) ≡ cell_index g (cell_of plan j y) → planned plan x i ≡ planned plan y j
+  same_place : (i j x y : ℕ) → i < length plan → j < length plan → cell_index g (cell_of plan i x) ≡ cell_index g (cell_of plan j y) → motion_of plan x i ≡ motion_of plan y j
   same_place i j x y li lj e = ap place_of (have g (cell_of plan i x) (cell_of plan j y) ((on i x li).0) ((on j y lj).0) e)
 
-  same_index : (i j x y : ℕ) → planned plan x i ≡ planned plan y j → cell_index g (cell_of plan i x) ≡ cell_index g (cell_of plan j y)
+  same_index : (i j x y : ℕ) → motion_of plan x i ≡ motion_of plan y j → cell_index g (cell_of plan i x) ≡ cell_index g (cell_of plan j y)
   same_index i j x y e = ap (cell_index g) (place_of-injective (cell_of plan i x) (cell_of plan j y) e)
 
   -- meetings
@@ -134,10 +135,10 @@ module _ (have : HavePlaces) (g : Ground) (plan : Plan) (on : StandOnMap g plan)
     is : (i j : ℕ) → ahead_of ahead i ≡ Some j → IsAhead places next i (Some j)
     is i j e = subst (IsAhead places next i) e (are.each i (let l : i < length plan = inside i j e in omega (arith, now.all)))
 
-    goes : (i j : ℕ) → ahead_of ahead i ≡ Some j → planned plan (t + 1) i ≡ planned plan t j
+    goes : (i j : ℕ) → ahead_of ahead i ≡ Some j → motion_of plan (t + 1) i ≡ motion_of plan t j
     goes i j e = same_place i j (t + 1) t (inside i j e) (inside_too i j e) (sym (then.each i (inside i j e)) ∙ sym (is i j e).2 ∙ now.each j (inside_too i j e))
 
-    leaves : (i j : ℕ) → ahead_of ahead i ≡ Some j → planned plan (t + 1) i ≢ planned plan t i
+    leaves : (i j : ℕ) → ahead_of ahead i ≡ Some j → motion_of plan (t + 1) i ≢ motion_of plan t i
     leaves i j e s = (is i j e).0 (then.each i (inside i j e) ∙ same_index i i (t + 1) t s ∙ sym (now.each i (inside i j e)))
 
     not_itself : (i : ℕ) → ahead_of ahead i ≡ Some i → ⊥
@@ -150,7 +151,7 @@ module _ (have : HavePlaces) (g : Ground) (plan : Plan) (on : StandOnMap g plan)
         | inr u ↦ absurd (elim u [ inl l ↦ apart i j (record { order = l; agents = lj; same = s }) | inr l ↦ apart j i (record { order = l; agents = li; same = sym s }) ])
       ]
 
-      ahead_from : (i j : ℕ) → i < length plan → j < length plan → planned plan (t + 1) i ≡ planned plan t j → planned plan (t + 1) i ≢ planned plan t i → ahead_of ahead i ≡ Some j
+      ahead_from : (i j : ℕ) → i < length plan → j < length plan → motion_of plan (t + 1) i ≡ motion_of plan t j → motion_of plan (t + 1) i ≢ motion_of plan t i → ahead_of ahead i ≡ Some j
       ahead_from i j li lj e ne = go (ahead_of ahead i) (are.each i (omega (arith, now.all)))
         where
           there : slice_index next i ≡ slice_index places j
@@ -307,12 +308,12 @@ module _ (have : HavePlaces) (g : Ground) (plan : Plan) (on : StandOnMap g plan)
 pub swept_all : (plan : Plan) (t : ℕ) → ((d : Conflict) → HasConflict plan d → t ≤ time_of d) → steps plan + 1 ≤ t → HasNoConflict plan
 swept_all plan t earlier l = none_later plan (λ d h. let g : t ≤ time_of d = earlier d h in omega arith)
 
-pub few_steps : (plan : Plan) → All IsPath plan → steps plan ≤ 65535
+pub few_steps : (plan : Plan) → All IsPath plan → steps plan ≤ MAX_HORIZON
 unfolding steps
 few_steps [] all = omega arith
 few_steps (path ∷ plan) all =
     let here : IsPath path = all 0 [] (omega arith) in
-    let rest : steps plan ≤ 65535 = few_steps plan (λ k d l. all (suc k) d (omega arith)) in
+    let rest : steps plan ≤ MAX_HORIZON = few_steps plan (λ k d l. all (suc k) d (omega arith)) in
     omega (arith, here.few_cells)
 
 -- the agents have places at any time

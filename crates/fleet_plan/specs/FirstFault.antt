@@ -4,7 +4,7 @@ use Rattle.fleet_model.specs.declared.geometry.Place.{Place}
 use Rattle.fleet_model.specs.declared.task.Task.{Task}
 use Rattle.fleet_model.specs.Geometry.{place_of}
 use Rattle.fleet_model.specs.Conflict.{HasVertexConflict, HasSwappingConflict, HasCycleConflict}
-use Rattle.fleet_plan.specs.Plan.{Path, Plan, cell_at, cell_of, last_cell, planned, AreNeighbours}
+use Rattle.fleet_plan.specs.Plan.{Path, Plan, cell_at, cell_of, last_cell, motion_of, AreNeighbours}
 use Rattle.fleet_plan.specs.declared.plan_fault.Conflict.{Conflict}
 use Rattle.fleet_plan.specs.declared.plan_fault.Conflict.TheVariants.{Vertex, Swapping, Cycle}
 use Rattle.fleet_plan.specs.declared.plan_fault.PlanFault.{PlanFault}
@@ -65,14 +65,14 @@ pub record IsFirstStep (passable : Place → Bool) (plan : Plan) (i t : ℕ) : T
 -- the agents, the least of which is named, move in a ring in step x
 pub record IsCycle (plan : Plan) (x least : ℕ) (ring : List ℕ) : Type 0 where
   pub agents : All (λ i. i < length plan) ring
-  pub conflict : HasCycleConflict (planned plan) x ring
+  pub conflict : HasCycleConflict (motion_of plan) x ring
   pub among : Contains ring least
   pub least_one : All (λ i. least ≤ i) ring
 
 -- the plan has this conflict
 abbrev pub HasConflict : Plan → Conflict → Type 0
-HasConflict plan (Vertex x i j) = (i < j) × (j < length plan) × HasVertexConflict (planned plan) x i j
-HasConflict plan (Swapping x i j) = (i < j) × (j < length plan) × HasSwappingConflict (planned plan) x i j
+HasConflict plan (Vertex x i j) = (i < j) × (j < length plan) × HasVertexConflict (motion_of plan) x i j
+HasConflict plan (Swapping x i j) = (i < j) × (j < length plan) × HasSwappingConflict (motion_of plan) x i j
 HasConflict plan (Cycle x least) = (ring : List ℕ) × IsCycle plan x least ring
 
 -- the time of the conflict, or the one from which its step leads

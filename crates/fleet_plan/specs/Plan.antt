@@ -35,8 +35,8 @@ steps [] = 0
 steps (path ∷ plan) = max (length path - 1) (steps plan)
 
 -- the places of the agents in time
-abbrev pub planned : Plan → Motion
-planned plan x i = place_of (cell_of plan i x)
+abbrev pub motion_of : Plan → Motion
+motion_of plan x i = place_of (cell_of plan i x)
 
 -- d lies next to c in one of the four directions
 abbrev pub AreNeighbours : Cell → Cell → Type 0
@@ -49,9 +49,9 @@ pub record IsConflictFree (passable : Place → Bool) (tasks : List Task) (plan 
   pub ends : (i : ℕ) (t : Task) → slice_get tasks i ≡ Some t → (cell_of plan i 0 ≡ t.start) × (last_cell plan i ≡ t.goal)
   pub on_ground : (i x : ℕ) → i < length plan → IsTrue (passable (place_of (cell_of plan i x)))
   pub successive : (i x : ℕ) → i < length plan → (cell_of plan i x ≡ cell_of plan i (x + 1)) ⊎ AreNeighbours (cell_of plan i x) (cell_of plan i (x + 1))
-  pub vertex : (x i j : ℕ) → i < length plan → j < length plan → HasVertexConflict (planned plan) x i j → ⊥
-  pub swapping : (x i j : ℕ) → i < length plan → j < length plan → HasSwappingConflict (planned plan) x i j → ⊥
-  pub cycle : (x : ℕ) (ring : List ℕ) → All (λ i. i < length plan) ring → HasCycleConflict (planned plan) x ring → ⊥
+  pub vertex : (x i j : ℕ) → i < length plan → j < length plan → HasVertexConflict (motion_of plan) x i j → ⊥
+  pub swapping : (x i j : ℕ) → i < length plan → j < length plan → HasSwappingConflict (motion_of plan) x i j → ⊥
+  pub cycle : (x : ℕ) (ring : List ℕ) → All (λ i. i < length plan) ring → HasCycleConflict (motion_of plan) x ring → ⊥
 
 -- a cell for each time from 0 to some time up to the horizon, with numbers that fit two bytes
 pub record IsPath (path : Path) : Type 0 where

@@ -1,6 +1,6 @@
 //! Paths, plans, and the steps between their cells.
 
-ghost use Rattle.std.specs.Prelude.{◌≡◌, ◌+◌, ◌≤◌, ◌<◌, length, slice_get, filter, All, Some, IfSome, IfNone, IsTrue, ◌↔◌, ◌⊎◌};
+ghost use Rattle.std.specs.Prelude.{◌≡◌, ◌+◌, ◌≤◌, ◌<◌, length, min, slice_get, filter, All, Some, IfSome, IfNone, IsTrue, ◌↔◌, ◌⊎◌};
 ghost use Rattle.fleet_model.specs.declared.limits.TheConstants.{MAX_HORIZON};
 ghost use Rattle.fleet_model.specs.Program.{IsCell};
 ghost use Rattle.fleet_plan.specs.Plan.{IsPath, IsFleet, IsWithinLimits, cell_at, cell_of, last_cell, steps, AreNeighbours};
@@ -58,7 +58,7 @@ impl Path {
         ensures { result ≡ cell_at self.now t }
     {
         let last = self.steps();
-        let at = if t < last { t } else { last };
+        let at = lesser(t, last);
         self.cells[at as usize]
     }
 
@@ -69,6 +69,15 @@ impl Path {
     {
         &self.cells
     }
+}
+
+/// The lesser of two times.
+#[inline(always)]
+fn lesser(t: u32, last: u32) -> u32
+    ensures time { result ≡ min t last }
+    ensures bound { result ≤ last }
+{
+    if t < last { t } else { last }
 }
 
 /// Column and row of a cell fit two bytes, by their type. It does nothing.

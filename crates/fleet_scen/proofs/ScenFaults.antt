@@ -18,6 +18,7 @@ use Rattle.fleet_scen.specs.ScenText.{is_filled, Line, agent_lines, version_line
 use Rattle.fleet_scen.specs.ScenReading.{task_at, apart_at, lacks, enough_tasks, tasks_at, after_version, judge_asked, scen_at}
 use Rattle.fleet_scen.proofs.LineLaws.{IsLineFault, task_is, task_again, task_fails, task_fault, apart_is, apart_again, IsShared, apart_fails, apart_fault}
 use Rattle.fleet_scen.proofs.ScenLaws.{filled_from, filled_skip, filled_next, AreEarlier, new_at, apart_none, earlier_more, task_next, line_next, first_words, version_is, version_again, asked_again, none_earlier, tasks_after, after_asked, is_found, is_read}
+use Rattle.fleet_model.specs.declared.limits.TheConstants.{MAX_AGENTS}
 
 -- ---- the end
 
@@ -52,7 +53,7 @@ abbrev IsFaultyLine : Ground → List Task → Line → ScenFault → Type 0
 IsFaultyLine g all line f = IsLineFault g line f ⊎ ((t : Task) × StandsForTask g line t × IsShared all t line.0 f)
 
 abbrev FailsAtLine : Ground → List Task → Line → ScenFault → Type 0
-FailsAtLine g all line f = ((f ≡ TooMany) × (length all ≡ 1024)) ⊎ ((length all < 1024) × IsFaultyLine g all line f)
+FailsAtLine g all line f = ((f ≡ TooMany) × (length all ≡ MAX_AGENTS)) ⊎ ((length all < MAX_AGENTS) × IsFaultyLine g all line f)
 
 abbrev Stops : Ground → Option ℕ → List Task → List Line → ScenFault → Type 0
 Stops g asked all rest f = ((rest ≡ []) × LacksAgents asked all f) ⊎ ((line : Line) × (more : List Line) × (rest ≡ line ∷ more) × (lacks asked (length all) ≡ true) × FailsAtLine g all line f)
@@ -98,14 +99,14 @@ tasks_fail g asked n earlier (line ∷ ls) f h e =
             let r = tasks_fail g asked (n + 1) earlier ls f h k in
             (r.0, subst (λ (lines : List Line). StopsAfter g asked lines earlier r.0 f) (sym (filled_skip (n + 1) line ls empty)) r.1))
         | inl filled ↦ (
-            let k : (right_or (ltb (length earlier) 1024) TooMany >> line_next g asked (n + 1) earlier (words line) ls) ≡ Err f = rw (more, filled) at e in
+            let k : (right_or (ltb (length earlier) MAX_AGENTS) TooMany >> line_next g asked (n + 1) earlier (words line) ls) ≡ Err f = rw (more, filled) at e in
             let r : (new : List Task) × StopsAfter g asked (here ∷ rest) earlier new f =
-            elim (right_err (ltb (length earlier) 1024) TooMany (line_next g asked (n + 1) earlier (words line) ls) f k) [
+            elim (right_err (ltb (length earlier) MAX_AGENTS) TooMany (line_next g asked (n + 1) earlier (words line) ls) f k) [
               | inl p ↦ (
-                  let many : 1024 ≤ length earlier = ltb-false (length earlier) 1024 p.0 in
+                  let many : MAX_AGENTS ≤ length earlier = ltb-false (length earlier) MAX_AGENTS p.0 in
                   at_line g asked earlier here rest f h more (inl (sym p.1, omega (arith, h.few))))
               | inr p ↦ (
-                  let few : length earlier < 1024 = ltb-true (length earlier) 1024 p.0 in
+                  let few : length earlier < MAX_AGENTS = ltb-true (length earlier) MAX_AGENTS p.0 in
                   elim (bind_err (task_at g (n + 1) (words line)) (λ task. task_next g asked (n + 1) earlier ls task) f p.1) [
                     | inl q ↦ at_line g asked earlier here rest f h more (inr (few, inl (task_fails g (n + 1) (words line) f q)))
                     | inr q ↦ (
@@ -136,12 +137,12 @@ earlier_lacks None earlier t new h = refl
 earlier_lacks (Some count) earlier t new h = let range = h.range in lt-ltb (length earlier) count (omega (arith, range, length-append earlier (t ∷ new)))
 
 line_fault : (g : Ground) (asked : Option ℕ) (n : ℕ) (earlier : List Task) (ws : List Bytes) (ls : List Bytes) (f : ScenFault) → FailsAtLine g earlier (n, ws) f
-    → (right_or (ltb (length earlier) 1024) TooMany >> line_next g asked n earlier ws ls) ≡ Err f
-line_fault g asked n earlier ws ls f (inl p) = rw (le-ltb (length earlier) 1024 (omega (arith, p.1))) (ap (λ (x : ScenFault). Err x) (sym p.0))
+    → (right_or (ltb (length earlier) MAX_AGENTS) TooMany >> line_next g asked n earlier ws ls) ≡ Err f
+line_fault g asked n earlier ws ls f (inl p) = rw (le-ltb (length earlier) MAX_AGENTS (omega (arith, p.1))) (ap (λ (x : ScenFault). Err x) (sym p.0))
 line_fault g asked n earlier ws ls f (inr p) =
     elim p.1 [
-      | inl wrong ↦ rw (lt-ltb (length earlier) 1024 p.0, task_fault g (n, ws) f wrong) refl
-      | inr shared ↦ rw (lt-ltb (length earlier) 1024 p.0, task_again g n ws shared.0 shared.1, apart_fault n earlier shared.0 f shared.2) refl
+      | inl wrong ↦ rw (lt-ltb (length earlier) MAX_AGENTS p.0, task_fault g (n, ws) f wrong) refl
+      | inr shared ↦ rw (lt-ltb (length earlier) MAX_AGENTS p.0, task_again g n ws shared.0 shared.1, apart_fault n earlier shared.0 f shared.2) refl
     ]
 
 tasks_fault : (g : Ground) (asked : Option ℕ) (n : ℕ) (earlier : List Task) (ls : List Bytes) (new : List Task) (f : ScenFault) → StopsAfter g asked (filled_from (n + 1) ls) earlier new f → tasks_at g asked n earlier ls ≡ Err f
@@ -172,7 +173,7 @@ tasks_fault g asked n earlier (line ∷ ls) (t ∷ new) f h =
       | inr empty ↦ rw (more, empty) (tasks_fault g asked (n + 1) earlier ls (t ∷ new) f (subst (λ (lines : List Line). StopsAfter g asked lines earlier (t ∷ new) f) (filled_skip (n + 1) line ls empty) h))
       | inl filled ↦ (
           let here : StopsAfter g asked ((n + 1, words line) ∷ filled_from (n + 1 + 1) ls) earlier (t ∷ new) f = subst (λ (lines : List Line). StopsAfter g asked lines earlier (t ∷ new) f) (filled_next (n + 1) line ls filled) h in
-          let room : ltb (length earlier) 1024 ≡ true = let few = h.earlier_all.few in lt-ltb _ _ (omega (arith, few, length-append earlier (t ∷ new))) in
+          let room : ltb (length earlier) MAX_AGENTS ≡ true = let few = h.earlier_all.few in lt-ltb _ _ (omega (arith, few, length-append earlier (t ∷ new))) in
           let regrouped : earlier ++ (t ∷ new) ≡ earlier ++ t ∷ [] ++ new = sym (append_assoc earlier (t ∷ []) new) in
           let rest : StopsAfter g asked (filled_from (n + 1 + 1) ls) (earlier ++ t ∷ []) new f = record {
             stand = here.stand.1;
@@ -204,32 +205,32 @@ judged_asked None e = tt
 judged_asked (Some count) e =
     elim (cases_Bool (ltb 0 count)) [
       | inr zero_count ↦ absurd (let k : Err NoAgents ≡ Ok tt = rw zero_count at e in cc)
-      | inl some ↦ elim (cases_Bool (leb count 1024)) [
+      | inl some ↦ elim (cases_Bool (leb count MAX_AGENTS)) [
         | inr many ↦ absurd (let k : Err TooMany ≡ Ok tt = rw (some, many) at e in cc)
-        | inl few ↦ (ltb-true 0 count some, leb-true count 1024 few)
+        | inl few ↦ (ltb-true 0 count some, leb-true count MAX_AGENTS few)
       ]
     ]
 
 asked_fails : (ls : List Bytes) (g : Ground) (asked : Option ℕ) (f : ScenFault) → judge_asked asked ≡ Err f → IsFirstScenLineFault ls g asked f
 asked_fails ls g None f e = absurd cc
 asked_fails ls g (Some count) f e =
-    elim (right_err (ltb 0 count) NoAgents (right_or (leb count 1024) TooMany) f e) [
+    elim (right_err (ltb 0 count) NoAgents (right_or (leb count MAX_AGENTS) TooMany) f e) [
       | inl p ↦ subst (IsFirstScenLineFault ls g (Some count)) p.1 (inl (let none = ltb-false 0 count p.0 in ap (λ (n : ℕ). Some n) (omega arith)))
-      | inr p ↦ elim (cases_Bool (leb count 1024)) [
+      | inr p ↦ elim (cases_Bool (leb count MAX_AGENTS)) [
         | inl few ↦ absurd (let k : Ok tt ≡ Err f = rw few at p.1 in cc)
         | inr many ↦ (
             let k : Err TooMany ≡ Err f = rw many at p.1 in
-            subst (IsFirstScenLineFault ls g (Some count)) (err_is {A = Unit {0}} TooMany f k) (inl (count, refl, leb-false count 1024 many)))
+            subst (IsFirstScenLineFault ls g (Some count)) (err_is {A = Unit {0}} TooMany f k) (inl (count, refl, leb-false count MAX_AGENTS many)))
       ]
     ]
 
 none_asked : (asked : Option ℕ) → asked ≡ Some 0 → judge_asked asked ≡ Err NoAgents
 none_asked asked e = rw e refl
 
-many_asked : (asked : Option ℕ) (count : ℕ) → asked ≡ Some count → 1024 < count → judge_asked asked ≡ Err TooMany
+many_asked : (asked : Option ℕ) (count : ℕ) → asked ≡ Some count → MAX_AGENTS < count → judge_asked asked ≡ Err TooMany
 many_asked asked count e many =
     let some : ltb 0 count ≡ true = lt-ltb 0 count (omega arith) in
-    let few : leb count 1024 ≡ false = lt-leb count 1024 many in
+    let few : leb count MAX_AGENTS ≡ false = lt-leb count MAX_AGENTS many in
     rw (e, some, few) refl
 
 -- ---- the version line
@@ -274,9 +275,9 @@ wanted_lacks None n h = refl
 wanted_lacks (Some count) n h = lt-ltb n count h
 
 -- no more than 1,024 may be asked for, so those who still lack some are not 1,024 that were asked for
-not_asked : (asked : Option ℕ) → MayBeAsked asked → lacks asked 1024 ≡ true → asked ≡ None
+not_asked : (asked : Option ℕ) → MayBeAsked asked → lacks asked MAX_AGENTS ≡ true → asked ≡ None
 not_asked None h e = refl
-not_asked (Some count) h e = absurd (let lt = ltb-true 1024 count e in omega (arith, h, lt))
+not_asked (Some count) h e = absurd (let lt = ltb-true MAX_AGENTS count e in omega (arith, h, lt))
 
 judged_fault : (ls : List Bytes) (g : Ground) (asked : Option ℕ) (all : List Task) (line : Line) (f : ScenFault) → ReachesScenLine all line ls g asked → IsFaultyLine g all line f → IsFirstScenLineFault ls g asked f
 judged_fault ls g asked all line f r (inl (inl (inl p))) = subst (IsFirstScenLineFault ls g asked) (sym p.0) (all, line.1, r, p.1)
@@ -306,7 +307,7 @@ stops_fault ls g asked all f right (inr p) =
     elim p.4 [
       | inl s ↦ (
           let none = not_asked asked right.may_be_asked (subst (λ (n : ℕ). lacks asked n ≡ true) s.1 p.3) in
-          let longer : 1024 < length lines = let more = ap length p.2 in omega (arith, more, length-drop (length all) lines, s.1) in
+          let longer : MAX_AGENTS < length lines = let more = ap length p.2 in omega (arith, more, length-drop (length all) lines, s.1) in
           subst (IsFirstScenLineFault ls g asked) (sym s.0) (inr (none, all, right, s.1, longer)))
       | inr s ↦ judged_fault ls g asked all line f (record { right = right; wanted = lacks_wanted asked (length all) p.3; few = s.0; is_next = is_next }) s.1
     ]
@@ -337,7 +338,7 @@ is_fault g asked ls f e =
 
 -- ---- .. and back
 
-earlier_are : (asked : Option ℕ) (all : List Task) → MayBeAsked asked → AreTasksApart all → length all ≤ 1024 → MatchOption asked (Unit {0}) (λ count. length all ≤ count) → AreEarlier asked all
+earlier_are : (asked : Option ℕ) (all : List Task) → MayBeAsked asked → AreTasksApart all → length all ≤ MAX_AGENTS → MatchOption asked (Unit {0}) (λ count. length all ≤ count) → AreEarlier asked all
 earlier_are None all may apart few h = record { few = few; apart = apart; range = tt }
 earlier_are (Some count) all may apart few h = record { few = few; apart = apart; range = (omega (arith, may), h) }
 
@@ -345,7 +346,7 @@ wanted_less : (asked : Option ℕ) (n : ℕ) → MatchOption asked (Unit {0}) (�
 wanted_less None n h = tt
 wanted_less (Some count) n h = omega (arith, h)
 
-told_at : (ls : List Bytes) (g : Ground) (asked : Option ℕ) (all : List Task) (f : ScenFault) → IsScenRightUpTo all ls g asked → length all ≤ 1024 → MatchOption asked (Unit {0}) (λ count. length all ≤ count)
+told_at : (ls : List Bytes) (g : Ground) (asked : Option ℕ) (all : List Task) (f : ScenFault) → IsScenRightUpTo all ls g asked → length all ≤ MAX_AGENTS → MatchOption asked (Unit {0}) (λ count. length all ≤ count)
     → Stops g asked all (drop (length all) (agent_lines ls)) f → scen_at g asked ls ≡ Err f
 unfolding scen_at
 told_at ls g asked all f right few range stops =

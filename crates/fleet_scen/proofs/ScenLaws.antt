@@ -20,6 +20,7 @@ use Rattle.fleet_scen.specs.Instance.{AreTasksApart, IsInstance}
 use Rattle.fleet_scen.specs.ScenText.{is_filled, Line, agent_lines, is_version, StandsForTask, AreScenLines, MayBeAsked}
 use Rattle.fleet_scen.specs.ScenReading.{task_at, apart_at, lacks, enough_tasks, tasks_at, after_version, judge_asked, scen_at}
 use Rattle.fleet_scen.proofs.LineLaws.{task_is, task_again, IsNew, apart_is, apart_again}
+use Rattle.fleet_model.specs.declared.limits.TheConstants.{MAX_AGENTS}
 
 -- ---- the lines that have some word
 
@@ -70,7 +71,7 @@ apart_none = record { starts = λ i j d lt past. absurd (omega arith); goals = �
 
 -- earlier agents are apart, and not more than were asked for
 pub record AreEarlier (asked : Option ℕ) (earlier : List Task) : Type 0 where
-  pub few : length earlier ≤ 1024
+  pub few : length earlier ≤ MAX_AGENTS
   pub apart : AreTasksApart earlier
   pub range : MatchOption asked (Unit {0}) (λ count. (1 ≤ count) × (length earlier ≤ count))
 
@@ -129,7 +130,7 @@ range_more : (asked : Option ℕ) (earlier : List Task) (t : Task) → MatchOpti
 range_more None earlier t h more = tt
 range_more (Some count) earlier t h more = (h.0, let lt = ltb-true (length earlier) count more in omega (arith, lt, length-append earlier (t ∷ [])))
 
-pub earlier_more : (asked : Option ℕ) (earlier : List Task) (t : Task) → AreEarlier asked earlier → length earlier < 1024 → lacks asked (length earlier) ≡ true → IsNew earlier t → AreEarlier asked (earlier ++ t ∷ [])
+pub earlier_more : (asked : Option ℕ) (earlier : List Task) (t : Task) → AreEarlier asked earlier → length earlier < MAX_AGENTS → lacks asked (length earlier) ≡ true → IsNew earlier t → AreEarlier asked (earlier ++ t ∷ [])
 earlier_more asked earlier t h few more new = record {
   few = omega (arith, length-append earlier (t ∷ []));
   apart = apart_more earlier t h.apart new;
@@ -171,8 +172,8 @@ tasks_are g asked n earlier (line ∷ ls) tasks h e =
             let r = tasks_are g asked (n + 1) earlier ls tasks h f in
             (r.0, r.1, subst (λ (lines : List Line). AreNew g asked lines earlier r.0) (sym (filled_skip (n + 1) line ls empty)) r.2))
         | inl filled ↦ (
-            let f : (right_or (ltb (length earlier) 1024) TooMany >> line_next g asked (n + 1) earlier (words line) ls) ≡ Ok tasks = rw (more, filled) at e in
-            let room = right_ok (ltb (length earlier) 1024) TooMany (line_next g asked (n + 1) earlier (words line) ls) tasks f in
+            let f : (right_or (ltb (length earlier) MAX_AGENTS) TooMany >> line_next g asked (n + 1) earlier (words line) ls) ≡ Ok tasks = rw (more, filled) at e in
+            let room = right_ok (ltb (length earlier) MAX_AGENTS) TooMany (line_next g asked (n + 1) earlier (words line) ls) tasks f in
             let b = bind_ok (task_at g (n + 1) (words line)) (λ task. task_next g asked (n + 1) earlier ls task) tasks room.1 in
             let t = b.0 in
             let a = then_ok (apart_at (n + 1) earlier t) (tasks_at g asked (n + 1) (earlier ++ t ∷ []) ls) tasks b.2 in
@@ -217,7 +218,7 @@ tasks_again g asked n earlier (line ∷ ls) (t ∷ new) h =
           rw (more, empty) (tasks_again g asked (n + 1) earlier ls (t ∷ new) rest))
       | inl filled ↦ (
           let here : AreNew g asked ((n + 1, words line) ∷ filled_from (n + 1 + 1) ls) earlier (t ∷ new) = subst (λ (lines : List Line). AreNew g asked lines earlier (t ∷ new)) (filled_next (n + 1) line ls filled) h in
-          let room : ltb (length earlier) 1024 ≡ true = let few = h.instance.few in lt-ltb _ _ (omega (arith, few, length-append earlier (t ∷ new))) in
+          let room : ltb (length earlier) MAX_AGENTS ≡ true = let few = h.instance.few in lt-ltb _ _ (omega (arith, few, length-append earlier (t ∷ new))) in
           let is_new = new_at earlier t new h.instance.apart in
           let regrouped : earlier ++ t ∷ [] ++ new ≡ earlier ++ (t ∷ new) = append_assoc earlier (t ∷ []) new in
           let rest = new_less g asked earlier (n + 1, words line) (filled_from (n + 1 + 1) ls) t new here in
@@ -264,13 +265,13 @@ version_again n (line ∷ ls) e =
 
 asked_range : (asked : Option ℕ) → judge_asked asked ≡ Ok tt → MatchOption asked (Unit {0}) (λ count. (1 ≤ count) × (0 ≤ count))
 asked_range None e = tt
-asked_range (Some count) e = let r = right_ok (ltb 0 count) NoAgents (right_or (leb count 1024) TooMany) tt e in (ltb-true 0 count r.0, omega arith)
+asked_range (Some count) e = let r = right_ok (ltb 0 count) NoAgents (right_or (leb count MAX_AGENTS) TooMany) tt e in (ltb-true 0 count r.0, omega arith)
 
 pub asked_again : (asked : Option ℕ) → MayBeAsked asked → judge_asked asked ≡ Ok tt
 asked_again None h = refl
 asked_again (Some count) h =
     let some : ltb 0 count ≡ true = lt-ltb 0 count (omega (arith, h)) in
-    let few : leb count 1024 ≡ true = le-leb count 1024 (omega (arith, h)) in
+    let few : leb count MAX_AGENTS ≡ true = le-leb count MAX_AGENTS (omega (arith, h)) in
     rw (some, few) refl
 
 may_be_asked : (asked : Option ℕ) (lines : List Line) (tasks : List Task) → IsInstance tasks → ReadsAll asked lines tasks tasks → MayBeAsked asked

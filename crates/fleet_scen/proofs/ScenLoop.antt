@@ -13,6 +13,7 @@ use Rattle.fleet_scen.specs.declared.fault.ScenFault.{ScenFault}
 use Rattle.fleet_scen.specs.declared.fault.ScenFault.TheVariants.{SharedStart, SharedGoal, TooMany}
 use Rattle.fleet_scen.specs.ScenText.{is_filled}
 use Rattle.fleet_scen.specs.ScenReading.{starts_at, ends_at, task_at, apart_at, lacks, enough_tasks, tasks_at}
+use Rattle.fleet_model.specs.declared.limits.TheConstants.{MAX_AGENTS}
 
 stopped : (g : Ground) (asked : Option ℕ) (n : ℕ) (earlier : List Task) (ls : List Bytes) → lacks asked (length earlier) ≡ false → tasks_at g asked n earlier ls ≡ enough_tasks asked earlier
 unfolding tasks_at
@@ -39,17 +40,17 @@ module _ (g : Ground) (asked : Option ℕ) (n : ℕ) (earlier : List Task) (ls :
         sym one ∙ so_far
 
     module _ (filled : is_filled (words line) ≡ true) where
-      pub too_many : 1024 ≤ length earlier → total ≡ Err TooMany
+      pub too_many : MAX_AGENTS ≤ length earlier → total ≡ Err TooMany
       unfolding tasks_at
       too_many many =
-          let full : ltb (length earlier) 1024 ≡ false = le-ltb _ _ many in
+          let full : ltb (length earlier) MAX_AGENTS ≡ false = le-ltb _ _ many in
           sym so_far ∙ ap (tasks_at g asked n earlier) next ∙ rw (more, filled, full) refl
 
-      module _ (few : length earlier < 1024) where
+      module _ (few : length earlier < MAX_AGENTS) where
         reads_task : total ≡ (task_at g (n + 1) (words line) >>= λ task. task_next g asked (n + 1) earlier after task)
         unfolding tasks_at
         reads_task =
-            let room : ltb (length earlier) 1024 ≡ true = lt-ltb _ _ few in
+            let room : ltb (length earlier) MAX_AGENTS ≡ true = lt-ltb _ _ few in
             sym so_far ∙ ap (tasks_at g asked n earlier) next ∙ rw (more, filled, room) refl
 
         pub fails : (f : ScenFault) → task_at g (n + 1) (words line) ≡ Err f → total ≡ Err f

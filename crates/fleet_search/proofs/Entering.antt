@@ -12,7 +12,8 @@ use Rattle.fleet_search.specs.Way.{Fits, with_path, arrival}
 use Rattle.fleet_search.specs.Occupancies.{occupancies_of, IsDuring, IsOccupancyAdded, AreInOrder, AreOccupanciesOn, HaveOccupancies, without}
 use Rattle.fleet_search.proofs.Occupants.{cell_at-late}
 use Rattle.fleet_search.proofs.ReservationTables.{AreOccupanciesTo, AreInOrder-to, to-none, to-other, to-all_other, to-placed, to-last}
-use Rattle.fleet_search.proofs.OccupancyRows.{without-placed, without-others}
+use Rattle.fleet_search.proofs.WithoutAgent.{without-placed, without-others}
+use Rattle.fleet_search.specs.declared.intervals.TheConstants.{FOREVER}
 
 -- what follows from both answers of a call
 pub from_ok_or_err : {T E P Q X : Type 0} (r : Result T E) → OnOk r P → OnErr r Q → (P → X) → (Q → X) → X
@@ -74,7 +75,7 @@ module _ (plan : Plan) (path : List Cell) (fits : Fits plan path) (old now : Res
         there t d = h.same t (let l = d.0 in omega arith) (elim (d.1) [ inl l ↦ omega arith | inr l ↦ omega arith ]) ∙ sym at
 
     -- the agent has arrived
-    pub entered-all : occupancy.until ≡ 4294967295 → arrival path ≤ time → HaveOccupancies (with_path plan path) new
+    pub entered-all : occupancy.until ≡ FOREVER → arrival path ≤ time → HaveOccupancies (with_path plan path) new
     entered-all u arrived c = elim (cell_cases c cell) [
       | inl s ↦ subst (λ z. AreOccupanciesOn (with_path plan path) z (occupancies_of new z)) (sym s) (to-last plan path fits from cell (occupancies_of now cell) (occupancies_of new cell) occupancy (h.occupancies cell) a.here agent begin (let z = h.since in omega arith) (let z = h.since in omega arith) (λ t d. there t (let l = d.0 in omega arith)) u)
       | inr ne ↦ subst (AreOccupanciesOn (with_path plan path) c) (sym (a.others c ne)) (to-all_other plan path from c (occupancies_of now c) (h.occupancies c) (λ t l e. ne (e ∙ there t l)))

@@ -1,5 +1,6 @@
 -- Safe intervals between the occupancies of a cell.
 use Rattle.std.proofs.Common.{◌≡◌, ℕ, zero, suc, ◌+◌, ◌-◌, ◌<◌, ◌≤◌, inl, inr, List, length, ap, arith}
+use Rattle.std.specs.Prelude.{Option, None, Some, IfNone}
 use Rattle.std.specs.List.Sorted.{IsPartitionPoint}
 use Rattle.std.proofs.lemmas.Bool.{cases_eq, cases_lt}
 use Rattle.fleet_model.specs.declared.geometry.Cell.{Cell}
@@ -9,6 +10,7 @@ use Rattle.fleet_search.specs.declared.intervals.Occupancy.{Occupancy}
 use Rattle.fleet_search.specs.Occupancies.{occupancy_at, no_occupancy, IsDuring, AreOccupanciesOn}
 use Rattle.fleet_search.specs.Intervals.{AreSuccessive, IsInInterval, AreBegun, IsEndAfter}
 use Rattle.fleet_search.specs.Reserved.{IsUnoccupied, IsFreeOn}
+use Rattle.fleet_search.specs.declared.intervals.TheConstants.{FOREVER}
 
 -- ---- lists of occupancies
 
@@ -71,7 +73,7 @@ interval-since plan c occupancies those k s t h free g = record {
 }
 
 -- what has to be looked at: the occupancies at both ends of the safe interval
-pub interval-from_ends : (occupancies : List Occupancy) → AreSuccessive occupancies → (k t : ℕ) → k ≤ length occupancies → t ≤ 4294967295 → (1 ≤ k → (occupancy_at occupancies (k - 1)).until < t) → (k < length occupancies → t < (occupancy_at occupancies k).from) → IsInInterval occupancies k t
+pub interval-from_ends : (occupancies : List Occupancy) → AreSuccessive occupancies → (k t : ℕ) → k ≤ length occupancies → t ≤ FOREVER → (1 ≤ k → (occupancy_at occupancies (k - 1)).until < t) → (k < length occupancies → t < (occupancy_at occupancies k).from) → IsInInterval occupancies k t
 interval-from_ends occupancies a k t b few past next = record {
   bound = b;
   over = λ i h.
@@ -83,7 +85,7 @@ interval-from_ends occupancies a k t b few past next = record {
   to_come = λ i h l. let n = next (omega arith) in let z = apart-from occupancies a k i h l in omega arith;
 }
 
-pub first-none : (occupancies : List Occupancy) → AreSuccessive occupancies → (k from t : ℕ) → k ≤ length occupancies → t ≤ 4294967295 → (1 ≤ k → (occupancy_at occupancies (k - 1)).until < t) → ((s : ℕ) → from ≤ s → IsInInterval occupancies k s → t ≤ s) → (IsInInterval occupancies k t → ⊥) → (s : ℕ) → from ≤ s → IsInInterval occupancies k s → ⊥
+pub first-none : (occupancies : List Occupancy) → AreSuccessive occupancies → (k from t : ℕ) → k ≤ length occupancies → t ≤ FOREVER → (1 ≤ k → (occupancy_at occupancies (k - 1)).until < t) → ((s : ℕ) → from ≤ s → IsInInterval occupancies k s → t ≤ s) → (IsInInterval occupancies k t → ⊥) → (s : ℕ) → from ≤ s → IsInInterval occupancies k s → ⊥
 first-none occupancies a k from t b few past first out s h g =
     out (interval-from_ends occupancies a k t b few past (λ l. let z = g.to_come k (omega arith) l in let f = first s h g in omega arith))
 
@@ -131,7 +133,7 @@ module _ (plan : Plan) (c : Cell) (occupancies : List Occupancy) (s : AreOccupan
   during-taken i t h d free = free (occupancy_at occupancies i).agent (s.each i h).agent ((s.each i h).on t d)
 
   -- if nobody is on the cell, the time is in the safe interval after the occupancies that have begun
-  pub free-interval : (t n : ℕ) → t ≤ 4294967295 → AreBegun occupancies t n → IsUnoccupied plan t c → IsInInterval occupancies n t
+  pub free-interval : (t n : ℕ) → t ≤ FOREVER → AreBegun occupancies t n → IsUnoccupied plan t c → IsInInterval occupancies n t
   free-interval t n few b free = record {
     bound = b.bound;
     over = λ i h. elim (cases_lt (occupancy_at occupancies i).until t) [
@@ -142,7 +144,7 @@ module _ (plan : Plan) (c : Cell) (occupancies : List Occupancy) (s : AreOccupan
   }
 
   -- from a time at which nobody is on the cell nobody is there until the next occupancy begins, and then somebody is
-  pub free-until : (t until : ℕ) → t ≤ 4294967295 → IsUnoccupied plan t c → IsEndAfter occupancies t until → ((u : ℕ) → t ≤ u → u < until → IsUnoccupied plan u c) × ((u : ℕ) → u < 4294967295 → IsFreeOn plan c t u → u < until)
+  pub free-until : (t until : ℕ) → t ≤ FOREVER → IsUnoccupied plan t c → IsEndAfter occupancies t until → ((u : ℕ) → t ≤ u → u < until → IsUnoccupied plan u c) × ((u : ℕ) → u < FOREVER → IsFreeOn plan c t u → u < until)
   free-until t until few free e = (
     λ u a b. interval-free e.next u (within u a b),
     λ u small on. elim (cases_lt u until) [
@@ -165,7 +167,7 @@ module _ (plan : Plan) (c : Cell) (occupancies : List Occupancy) (s : AreOccupan
         to_come = λ i h l. let z = e.here (omega arith) in let x = apart-from occupancies (occupancies-apart plan c occupancies s) e.next i h l in omega arith;
       }
 
-  pub some_gap : (t : ℕ) → t ≤ 4294967295 → IsUnoccupied plan t c → (n : ℕ) × IsInInterval occupancies n t
+  pub some_gap : (t : ℕ) → t ≤ FOREVER → IsUnoccupied plan t c → (n : ℕ) × IsInInterval occupancies n t
   some_gap t few free = let w = begun-some occupancies (occupancies-apart plan c occupancies s) t in (w.0, free-interval t w.0 few w.1 free)
 
   -- they begin at different times, and none begins late
@@ -185,3 +187,8 @@ module _ (plan : Plan) (c : Cell) (occupancies : List Occupancy) (s : AreOccupan
         let x = (s.each (length occupancies - 1) (omega arith)).early in
         omega arith
   ]
+
+-- what follows from what holds where there is none
+pub if_none_weaker : {P Q : Type 0} (o : Option ℕ) → (P → Q) → IfNone o P → IfNone o Q
+if_none_weaker None f p = f p
+if_none_weaker (Some t) f p = tt

@@ -4,7 +4,7 @@ pub mod Occupants
 pub mod Chase
 pub mod FitCode
 pub mod ReservationTables
-pub mod OccupancyRows
+pub mod WithoutAgent
 pub mod Entering
 pub mod Reserving
 pub mod RowLaws

@@ -5,7 +5,7 @@ use Rattle.std.proofs.lemmas.List.{get_or_past, get_or_push, take_more, take_all
 use Rattle.fleet_model.specs.declared.geometry.Cell.{Cell}
 use Rattle.fleet_model.specs.Geometry.{place_of}
 use Rattle.fleet_model.specs.Conflict.{Motion, HasVertexConflict, HasSwappingConflict, HasCycleConflict, after_in}
-use Rattle.fleet_plan.specs.Plan.{Plan, planned}
+use Rattle.fleet_plan.specs.Plan.{Plan, motion_of}
 use Rattle.fleet_search.specs.Way.{with_path, Fits, FitTogether, AreConflictFree}
 use Rattle.fleet_search.proofs.Steps.{with_path-old, length-with_path}
 
@@ -65,42 +65,42 @@ in_or_not (a ∷ ring) n = elim (cases_eq a n) [
 -- ---- one more path
 
 module _ (xs : Plan) (path : List Cell) (free : AreConflictFree xs) (fits : Fits xs path) where
-  alike : (x i : ℕ) → i < length xs → planned (with_path xs path) x i ≡ planned xs x i
+  alike : (x i : ℕ) → i < length xs → motion_of (with_path xs path) x i ≡ motion_of xs x i
   alike x i h = ap place_of (with_path-old xs path i x h)
 
   is_last : (i : ℕ) → i < length (with_path xs path) → (i < length xs) ⊎ (i ≡ length xs)
   is_last i h = elim (cases_lt i (length xs)) [ inl l ↦ inl l | inr l ↦ inr (omega (arith, length-with_path xs path)) ]
 
-  no_vertex : (x i j : ℕ) → i < length (with_path xs path) → j < length (with_path xs path) → HasVertexConflict (planned (with_path xs path)) x i j → ⊥
+  no_vertex : (x i j : ℕ) → i < length (with_path xs path) → j < length (with_path xs path) → HasVertexConflict (motion_of (with_path xs path)) x i j → ⊥
   no_vertex x i j a b w = elim (is_last i a) [
     | inl p ↦ elim (is_last j b) [
-      | inl q ↦ free.vertex x i j p q (vertex-as (planned (with_path xs path)) (planned xs) (length xs) alike x i j p q w)
-      | inr q ↦ fits.vertex x i p (subst (λ z. HasVertexConflict (planned (with_path xs path)) x z i) q (record { apart = λ e. w.apart (sym e); same = sym w.same }))
+      | inl q ↦ free.vertex x i j p q (vertex-as (motion_of (with_path xs path)) (motion_of xs) (length xs) alike x i j p q w)
+      | inr q ↦ fits.vertex x i p (subst (λ z. HasVertexConflict (motion_of (with_path xs path)) x z i) q (record { apart = λ e. w.apart (sym e); same = sym w.same }))
     ]
     | inr p ↦ elim (is_last j b) [
-      | inl q ↦ fits.vertex x j q (subst (λ z. HasVertexConflict (planned (with_path xs path)) x z j) p w)
+      | inl q ↦ fits.vertex x j q (subst (λ z. HasVertexConflict (motion_of (with_path xs path)) x z j) p w)
       | inr q ↦ w.apart (p ∙ sym q)
     ]
   ]
 
-  no_swapping : (x i j : ℕ) → i < length (with_path xs path) → j < length (with_path xs path) → HasSwappingConflict (planned (with_path xs path)) x i j → ⊥
+  no_swapping : (x i j : ℕ) → i < length (with_path xs path) → j < length (with_path xs path) → HasSwappingConflict (motion_of (with_path xs path)) x i j → ⊥
   no_swapping x i j a b w = elim (is_last i a) [
     | inl p ↦ elim (is_last j b) [
-      | inl q ↦ free.swapping x i j p q (swapping-as (planned (with_path xs path)) (planned xs) (length xs) alike x i j p q w)
-      | inr q ↦ fits.swapping x i p (subst (λ z. HasSwappingConflict (planned (with_path xs path)) x z i) q (swapping-turned (planned (with_path xs path)) x i j w))
+      | inl q ↦ free.swapping x i j p q (swapping-as (motion_of (with_path xs path)) (motion_of xs) (length xs) alike x i j p q w)
+      | inr q ↦ fits.swapping x i p (subst (λ z. HasSwappingConflict (motion_of (with_path xs path)) x z i) q (swapping-turned (motion_of (with_path xs path)) x i j w))
     ]
     | inr p ↦ elim (is_last j b) [
-      | inl q ↦ fits.swapping x j q (subst (λ z. HasSwappingConflict (planned (with_path xs path)) x z j) p w)
+      | inl q ↦ fits.swapping x j q (subst (λ z. HasSwappingConflict (motion_of (with_path xs path)) x z j) p w)
       | inr q ↦ w.apart (p ∙ sym q)
     ]
   ]
 
-  no_cycle : (x : ℕ) (ring : List ℕ) → All (λ i. i < length (with_path xs path)) ring → HasCycleConflict (planned (with_path xs path)) x ring → ⊥
+  no_cycle : (x : ℕ) (ring : List ℕ) → All (λ i. i < length (with_path xs path)) ring → HasCycleConflict (motion_of (with_path xs path)) x ring → ⊥
   no_cycle x ring inside w = elim (in_or_not ring (length xs)) [
     | inl has ↦ fits.cycle x ring inside has w
     | inr none ↦
         let below = λ (k e : ℕ) (h : k < length ring). old k e h none in
-        free.cycle x ring (λ k d h. below k d h) (cycle-as (planned (with_path xs path)) (planned xs) (length xs) alike x ring below w)
+        free.cycle x ring (λ k d h. below k d h) (cycle-as (motion_of (with_path xs path)) (motion_of xs) (length xs) alike x ring below w)
   ]
     where
       old : (k e : ℕ) → k < length ring → ((k e : ℕ) → k < length ring → get_or ring k e ≢ length xs) → get_or ring k e < length xs

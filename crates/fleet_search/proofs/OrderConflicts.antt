@@ -9,7 +9,7 @@ use Rattle.fleet_model.specs.declared.geometry.Place.{Place}
 use Rattle.fleet_model.specs.Geometry.{place_of}
 use Rattle.fleet_model.specs.declared.task.Task.{Task}
 use Rattle.fleet_model.specs.Conflict.{Motion, HasVertexConflict, HasSwappingConflict, HasCycleConflict, after_in}
-use Rattle.fleet_plan.specs.Plan.{Plan, cell_at, cell_of, last_cell, planned, AreNeighbours, IsConflictFree}
+use Rattle.fleet_plan.specs.Plan.{Plan, cell_at, cell_of, last_cell, motion_of, AreNeighbours, IsConflictFree}
 use Rattle.fleet_search.specs.Orders.{no_task, tasks_by, paths_by, agent_numbers, IsMadeInOrder, IsMadeInTries}
 use Rattle.fleet_search.specs.InTurn.{IsPrioritisedPlan}
 use Rattle.fleet_search.proofs.InTurnLaws.{in_turn_free}
@@ -108,7 +108,7 @@ module _ (passable : Place → Bool) (tasks : List Task) (plan : Plan) (order : 
   same_path : (i : ℕ) → i < length tasks → get_or (paths_by order plan) (place i) [] ≡ get_or plan i []
   same_path i h = get_or-by plan [] [] order (place i) (place-below i h) ∙ ap (λ z. get_or plan z []) (place-is i h)
 
-  same_cell : (x i : ℕ) → i < length tasks → planned plan x i ≡ planned (paths_by order plan) x (place i)
+  same_cell : (x i : ℕ) → i < length tasks → motion_of plan x i ≡ motion_of (paths_by order plan) x (place i)
   unfolding cell_of
   same_cell x i h = ap (λ p. place_of (cell_at p x)) (sym (same_path i h))
 
@@ -141,10 +141,10 @@ module _ (passable : Place → Bool) (tasks : List Task) (plan : Plan) (order : 
         subst (λ p. (cell_at p 0 ≡ t.start) × (cell_at p (length p - 1) ≡ t.goal)) (same_path i l) (free.ends (place i) t (same_task i t e));
     on_ground = λ i x h. subst (λ p. IsTrue (passable (place_of (cell_at p x)))) (same_path i (here i h)) (free.on_ground (place i) x (there i h));
     successive = λ i x h. subst (λ p. (cell_at p x ≡ cell_at p (x + 1)) ⊎ AreNeighbours (cell_at p x) (cell_at p (x + 1))) (same_path i (here i h)) (free.successive (place i) x (there i h));
-    vertex = λ x i j a b w. free.vertex x (place i) (place j) (there i a) (there j b) (vertex-by (planned plan) (planned (paths_by order plan)) (length tasks) place places_apart same_cell x i j (here i a) (here j b) w);
-    swapping = λ x i j a b w. free.swapping x (place i) (place j) (there i a) (there j b) (swapping-by (planned plan) (planned (paths_by order plan)) (length tasks) place places_apart same_cell x i j (here i a) (here j b) w);
+    vertex = λ x i j a b w. free.vertex x (place i) (place j) (there i a) (there j b) (vertex-by (motion_of plan) (motion_of (paths_by order plan)) (length tasks) place places_apart same_cell x i j (here i a) (here j b) w);
+    swapping = λ x i j a b w. free.swapping x (place i) (place j) (there i a) (there j b) (swapping-by (motion_of plan) (motion_of (paths_by order plan)) (length tasks) place places_apart same_cell x i j (here i a) (here j b) w);
     cycle = λ x ring inside w. free.cycle x (map place ring) (rings ring inside)
-        (cycle-by (planned plan) (planned (paths_by order plan)) (length tasks) place places_apart same_cell ring (λ k e h. here (get_or ring k e) (inside k e h)) x w);
+        (cycle-by (motion_of plan) (motion_of (paths_by order plan)) (length tasks) place places_apart same_cell ring (λ k e h. here (get_or ring k e) (inside k e h)) x w);
   }
 
 pub in_order_free : (passable : Place → Bool) (tasks : List Task) (horizon : ℕ) (order : List ℕ) (plan : Plan) → IsPermutation (agent_numbers (length tasks)) order → length plan ≡ length tasks → IsMadeInOrder passable tasks horizon order plan → IsConflictFree passable tasks plan

@@ -12,6 +12,7 @@ use Rattle.fleet_search.specs.Way.{Fits, with_path}
 use Rattle.fleet_search.specs.Reserved.{StandsOn, IsUnoccupied, IsFreeFrom}
 use Rattle.fleet_search.specs.Occupancies.{IsDuring, IsOccupancyOn, AreOccupanciesOn, AreInOrder, IsPutIn, no_occupancy, occupancy_at}
 use Rattle.fleet_search.proofs.Steps.{each_step, with_path-old, with_path-new, length-with_path}
+use Rattle.fleet_search.specs.declared.intervals.TheConstants.{FOREVER}
 
 -- ---- the order of time
 
@@ -31,7 +32,7 @@ AreInOrder-occupancies plan c occupancies h = AreInOrder-apart occupancies (λ i
 
 -- ---- who stands there
 
-module _ (plan : Plan) (c : Cell) (occupancies : List Occupancy) (h : AreOccupanciesOn plan c occupancies) (t n : ℕ) (few : t ≤ 4294967295) (point : IsPartitionPoint (λ s. s.from ≤ t) (λ s. t < s.from) occupancies n) (bound : n ≤ length occupancies) where
+module _ (plan : Plan) (c : Cell) (occupancies : List Occupancy) (h : AreOccupanciesOn plan c occupancies) (t n : ℕ) (few : t ≤ FOREVER) (point : IsPartitionPoint (λ s. s.from ≤ t) (λ s. t < s.from) occupancies n) (bound : n ≤ length occupancies) where
   -- an occupancy during the time has begun
   during-begun : (i : ℕ) → i < length occupancies → IsDuring (occupancy_at occupancies i) t → i < n
   during-begun i l on = elim (cases_lt i n) [
@@ -79,12 +80,12 @@ module _ (plan : Plan) (c : Cell) (occupancies : List Occupancy) (h : AreOccupan
   last-occupancy : IsOccupancyOn plan c occupancy
   last-occupancy = subst (IsOccupancyOn plan c) (sym last) (h.each (length occupancies - 1) (omega arith))
 
-  pub never_free : occupancy.until ≡ 4294967295 → (t : ℕ) → IsFreeFrom plan c t → ⊥
+  pub never_free : occupancy.until ≡ FOREVER → (t : ℕ) → IsFreeFrom plan c t → ⊥
   never_free e t f =
       let u = t + occupancy.from in
       f u (omega arith) occupancy.agent last-occupancy.agent (last-occupancy.on u (omega arith, inr e))
 
-  pub free_from-last : occupancy.until ≢ 4294967295 → (t : ℕ) → IsFreeFrom plan c t ↔ (occupancy.until + 1 ≤ t)
+  pub free_from-last : occupancy.until ≢ FOREVER → (t : ℕ) → IsFreeFrom plan c t ↔ (occupancy.until + 1 ≤ t)
   free_from-last ne t = (
     λ f. elim (cases_lt occupancy.until t) [
       | inl l ↦ omega arith
@@ -286,7 +287,7 @@ module _ (plan : Plan) (path : List Cell) (fits : Fits plan path) (n : ℕ) (c :
     ];
   }
 
-  pub to-last : occupancy.until ≡ 4294967295 → AreOccupanciesOn (with_path plan path) c ys
+  pub to-last : occupancy.until ≡ FOREVER → AreOccupanciesOn (with_path plan path) c ys
   to-last e = record {
     each = placed-each (IsOccupancyOn (with_path plan path) c) h.each placed-is;
     apart = placed-apart;

@@ -5,12 +5,12 @@ use Rattle.std.specs.declared.alloc.Global.{Global}
 use Rattle.std.proofs.lemmas.Bool.{cases_eq, eqb-true, eq-eqb, false_from_ne_true}
 use Rattle.fleet_grid.specs.Table.{page_in}
 use Rattle.fleet_grid.proofs.Pages.{page-read, page-set, page-other}
-use Rattle.fleet_search.proofs.OccupancyRows.{list-past}
+use Rattle.std.proofs.lemmas.List.{get_or_past, length-map}
 use Rattle.fleet_search.specs.Rows.{bucket_of, lists_of, bucket_in, IsPut}
 
 pub row-past : (bs : List (Vec ℕ Global)) (k : ℕ) → length bs ≤ k → bucket_in bs k ≡ []
 unfolding bucket_of
-row-past bs k h = list-past bs k h
+row-past bs k h = get_or_past (lists_of bs) k [] (omega (arith, length-map bs (λ (v : Vec ℕ Global). v.items)))
 
 pub row-read : (bs : List (Vec ℕ Global)) (k : ℕ) (v : Vec ℕ Global) → k < length bs → v ≡ get_or bs k v → bucket_in bs k ≡ v.items
 unfolding bucket_of

@@ -7,7 +7,7 @@ use Rattle.std.proofs.lemmas.Map.Keys.{IsDistinct-head, IsDistinct-tail}
 use Rattle.fleet_model.specs.declared.geometry.Cell.{Cell}
 use Rattle.fleet_model.specs.Geometry.{place_of}
 use Rattle.fleet_model.specs.Conflict.{HasSwappingConflict, HasCycleConflict, after_in}
-use Rattle.fleet_plan.specs.Plan.{Plan, cell_at, cell_of, planned}
+use Rattle.fleet_plan.specs.Plan.{Plan, cell_at, cell_of, motion_of}
 use Rattle.fleet_model.proofs.Cells.{place_of-injective}
 use Rattle.fleet_search.specs.Way.{with_path, Fits, Follow, EachStepFits}
 
@@ -126,11 +126,11 @@ module _ (reserved : Plan) (path : List Cell) where
       inside below zero d h = omega (arith, length-with_path reserved path)
       inside below (suc k) d h = omega (arith, length-with_path reserved path, below k d (omega arith))
 
-      next : Follow reserved t (cell_at path (t + 1)) (i ∷ j ∷ js) (cell_at path t) → (k : ℕ) → k < length (length reserved ∷ i ∷ j ∷ js) → planned (with_path reserved path) (t + 1) (get_or (length reserved ∷ i ∷ j ∷ js) k 0) ≡ planned (with_path reserved path) t (after_in (length reserved ∷ i ∷ j ∷ js) k)
+      next : Follow reserved t (cell_at path (t + 1)) (i ∷ j ∷ js) (cell_at path t) → (k : ℕ) → k < length (length reserved ∷ i ∷ j ∷ js) → motion_of (with_path reserved path) (t + 1) (get_or (length reserved ∷ i ∷ j ∷ js) k 0) ≡ motion_of (with_path reserved path) t (after_in (length reserved ∷ i ∷ j ∷ js) k)
       next f zero h = ap place_of (new (t + 1) ∙ sym (first-on (with_path reserved path) reserved t (cell_at path (t + 1)) (i ∷ j ∷ js) (cell_at path t) (length reserved) (λ k. here k t) f (new t)))
       next f (suc k) h = ap place_of (next-on (with_path reserved path) reserved t (cell_at path (t + 1)) (i ∷ j ∷ js) (cell_at path t) (length reserved) here f (new t) k 0 (omega arith)) ∙ ap (λ z. place_of (cell_of (with_path reserved path) (get_or (length reserved ∷ i ∷ j ∷ js) z (length reserved)) t)) (sym (add-one (suc k)))
 
-      moves : Follow reserved t (cell_at path (t + 1)) (i ∷ j ∷ js) (cell_at path t) → (k : ℕ) → k < length (length reserved ∷ i ∷ j ∷ js) → planned (with_path reserved path) (t + 1) (get_or (length reserved ∷ i ∷ j ∷ js) k 0) ≢ planned (with_path reserved path) t (get_or (length reserved ∷ i ∷ j ∷ js) k 0)
+      moves : Follow reserved t (cell_at path (t + 1)) (i ∷ j ∷ js) (cell_at path t) → (k : ℕ) → k < length (length reserved ∷ i ∷ j ∷ js) → motion_of (with_path reserved path) (t + 1) (get_or (length reserved ∷ i ∷ j ∷ js) k 0) ≢ motion_of (with_path reserved path) t (get_or (length reserved ∷ i ∷ j ∷ js) k 0)
       moves f zero h e = ne (sym (new t) ∙ sym (place_of-injective (cell_of (with_path reserved path) (length reserved) (t + 1)) (cell_of (with_path reserved path) (length reserved) t) e) ∙ new (t + 1))
       moves f (suc k) h e =
           let a = get_or (i ∷ j ∷ js) k 0 in
@@ -198,10 +198,10 @@ module _ (reserved : Plan) (path : List Cell) where
   own = with_path-new reserved path
 
   -- from places to cells
-  cells-from : (i j t u : ℕ) → planned (with_path reserved path) t i ≡ planned (with_path reserved path) u j → cell_of (with_path reserved path) i t ≡ cell_of (with_path reserved path) j u
+  cells-from : (i j t u : ℕ) → motion_of (with_path reserved path) t i ≡ motion_of (with_path reserved path) u j → cell_of (with_path reserved path) i t ≡ cell_of (with_path reserved path) j u
   cells-from i j t u e = place_of-injective (cell_of (with_path reserved path) i t) (cell_of (with_path reserved path) j u) e
 
-  no-swapping : EachStepFits reserved path → (x j : ℕ) → j < length reserved → HasSwappingConflict (planned (with_path reserved path)) x (length reserved) j → ⊥
+  no-swapping : EachStepFits reserved path → (x j : ℕ) → j < length reserved → HasSwappingConflict (motion_of (with_path reserved path)) x (length reserved) j → ⊥
   no-swapping each x j h w =
       let n = length reserved in
       let there : cell_at path (x + 1) ≡ cell_of reserved j x = sym (own (x + 1)) ∙ cells-from n j (x + 1) x w.there ∙ old j x h in
@@ -210,7 +210,7 @@ module _ (reserved : Plan) (path : List Cell) where
       (each.steps x).ring ne (j ∷ []) (h, sym there, λ e. ne (sym back ∙ e), back)
 
   -- the agents of a ring after the one at place p, and on from its front to that one
-  round : (ring : List ℕ) (p x : ℕ) → All (λ i. i < length (with_path reserved path)) ring → p < length ring → get_or ring p (get_or ring 0 0) ≡ length reserved → HasCycleConflict (planned (with_path reserved path)) x ring → (js : List ℕ) × Follow reserved x (cell_at path (x + 1)) js (cell_at path x)
+  round : (ring : List ℕ) (p x : ℕ) → All (λ i. i < length (with_path reserved path)) ring → p < length ring → get_or ring p (get_or ring 0 0) ≡ length reserved → HasCycleConflict (motion_of (with_path reserved path)) x ring → (js : List ℕ) × Follow reserved x (cell_at path (x + 1)) js (cell_at path x)
   round ring p x inside l e w =
       let n = length reserved in
       let plan = with_path reserved path in

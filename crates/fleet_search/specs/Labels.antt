@@ -1,6 +1,7 @@
 -- Labels of safe intervals.
 use Rattle.std.specs.Prelude.{◌≡◌, ◌≢◌, ℕ, zero, suc, ◌≤◌, ◌==◌, ◌⊎◌, cond, List, [], ◌∷◌, length, map, get_or, Option, None, Some}
 use Rattle.fleet_grid.specs.Table.{value_in}
+use Rattle.fleet_grid.specs.Lists.{list_at, key_of_number}
 use Rattle.fleet_search.specs.declared.labels.IntervalLabel.{IntervalLabel}
 use Rattle.fleet_search.specs.declared.labels.Labels.{Labels}
 
@@ -8,9 +9,9 @@ use Rattle.fleet_search.specs.declared.labels.Labels.{Labels}
 abbrev pub no_interval_label : IntervalLabel
 no_interval_label = record { search = 0; time = 0 }
 
--- the labels of the later intervals of a cell: the row of its number, counted from 1; number 0 has none
+-- the labels of the later intervals of a cell
 abbrev pub later_in : Labels → ℕ → List IntervalLabel
-later_in l cell = get_or ([] ∷ map (λ v. v.items) l.rows.items) (value_in l.numbers cell) []
+later_in l cell = list_at l.later (key_of_number cell)
 
 -- the label of an interval of a cell
 abbrev pub interval_label : Labels → ℕ → ℕ → IntervalLabel
@@ -31,15 +32,9 @@ pub record IsSeen (earliest : Option ℕ) (t : ℕ) : Type 0 where
   pub is : earliest ≡ Some time
   pub early : time ≤ t
 
--- the cells' numbers are those of rows or 0, and no two cells have one row
-pub record HaveOwnRows (l : Labels) : Type 0 where
-  pub few : (cell : ℕ) → value_in l.numbers cell ≤ length l.rows.items
-  pub apart : (c d : ℕ) → c ≢ d → value_in l.numbers c ≡ value_in l.numbers d → value_in l.numbers c ≡ 0
-
 -- no label is one of a later search
-pub record AreLabels (l : Labels) : Type 0 where
-  pub past : (cell interval : ℕ) → (interval_label l cell interval).search ≤ l.search
-  pub rows : HaveOwnRows l
+abbrev pub AreLabels : Labels → Type 0
+AreLabels l = (cell interval : ℕ) → (interval_label l cell interval).search ≤ l.search
 
 -- the label is put, and the others stay
 pub record IsLabelPut (old new : Labels) (cell interval : ℕ) (label : IntervalLabel) : Type 0 where

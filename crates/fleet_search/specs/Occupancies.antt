@@ -8,7 +8,7 @@ use Rattle.fleet_plan.specs.Plan.{Plan, cell_of}
 use Rattle.fleet_search.specs.declared.intervals.Occupancy.{Occupancy}
 use Rattle.fleet_search.specs.declared.intervals.TheConstants.{FOREVER}
 use Rattle.fleet_search.specs.declared.reservation_table.ReservationTable.{ReservationTable}
-use Rattle.fleet_search.specs.Numbers.{number_in_rows, list_of}
+use Rattle.fleet_grid.specs.Lists.{list_at, key_of_cell}
 use Rattle.fleet_search.specs.Way.{FitTogether}
 use Rattle.fleet_search.specs.Reserved.{StandsOn}
 
@@ -40,8 +40,8 @@ pub record AreOccupanciesOn (plan : Plan) (c : Cell) (occupancies : List Occupan
 -- ---- reservation tables
 
 -- the occupancies on the cell
-unfoldable pub occupancies_of : ReservationTable → Cell → List Occupancy
-occupancies_of t c = list_of t.lists.items (number_in_rows t.numbers.items c)
+abbrev pub occupancies_of : ReservationTable → Cell → List Occupancy
+occupancies_of t c = list_at t.lists (key_of_cell c)
 
 -- the occupancies on each cell
 abbrev pub HaveOccupancies : Plan → ReservationTable → Type 0

@@ -2,7 +2,7 @@
 use Rattle.std.specs.Prelude.{◌≡◌, ◌≢◌, ℕ, ◌+◌, ◌-◌, ◌<◌, List, [], ◌∷◌, ◌++◌, length, take, get_or, All, Contains}
 use Rattle.fleet_model.specs.declared.geometry.Cell.{Cell}
 use Rattle.fleet_model.specs.Conflict.{HasVertexConflict, HasSwappingConflict, HasCycleConflict}
-use Rattle.fleet_plan.specs.Plan.{Plan, cell_at, cell_of, planned}
+use Rattle.fleet_plan.specs.Plan.{Plan, cell_at, cell_of, motion_of}
 
 -- the reserved paths and one more, of the agent whose number is the number of reserved paths
 abbrev pub with_path : Plan → List Cell → Plan
@@ -10,9 +10,9 @@ with_path reserved path = reserved ++ path ∷ []
 
 -- the agent of the path takes part in no conflict with the reserved ones, at any time
 pub record Fits (reserved : Plan) (path : List Cell) : Type 0 where
-  pub vertex : (x j : ℕ) → j < length reserved → HasVertexConflict (planned (with_path reserved path)) x (length reserved) j → ⊥
-  pub swapping : (x j : ℕ) → j < length reserved → HasSwappingConflict (planned (with_path reserved path)) x (length reserved) j → ⊥
-  pub cycle : (x : ℕ) (ring : List ℕ) → All (λ i. i < length (with_path reserved path)) ring → Contains ring (length reserved) → HasCycleConflict (planned (with_path reserved path)) x ring → ⊥
+  pub vertex : (x j : ℕ) → j < length reserved → HasVertexConflict (motion_of (with_path reserved path)) x (length reserved) j → ⊥
+  pub swapping : (x j : ℕ) → j < length reserved → HasSwappingConflict (motion_of (with_path reserved path)) x (length reserved) j → ⊥
+  pub cycle : (x : ℕ) (ring : List ℕ) → All (λ i. i < length (with_path reserved path)) ring → Contains ring (length reserved) → HasCycleConflict (motion_of (with_path reserved path)) x ring → ⊥
 
 -- each path fits those before it
 abbrev pub FitTogether : Plan → Type 0
@@ -20,9 +20,9 @@ FitTogether plan = (i : ℕ) → i < length plan → Fits (take i plan) (get_or 
 
 -- no two or more agents of the plan are in conflict, at any time
 pub record AreConflictFree (plan : Plan) : Type 0 where
-  pub vertex : (x i j : ℕ) → i < length plan → j < length plan → HasVertexConflict (planned plan) x i j → ⊥
-  pub swapping : (x i j : ℕ) → i < length plan → j < length plan → HasSwappingConflict (planned plan) x i j → ⊥
-  pub cycle : (x : ℕ) (ring : List ℕ) → All (λ i. i < length plan) ring → HasCycleConflict (planned plan) x ring → ⊥
+  pub vertex : (x i j : ℕ) → i < length plan → j < length plan → HasVertexConflict (motion_of plan) x i j → ⊥
+  pub swapping : (x i j : ℕ) → i < length plan → j < length plan → HasSwappingConflict (motion_of plan) x i j → ⊥
+  pub cycle : (x : ℕ) (ring : List ℕ) → All (λ i. i < length plan) ring → HasCycleConflict (motion_of plan) x ring → ⊥
 
 -- in step t each agent of the list leaves the cell that the one before it enters; the first leaves c, and the last
 -- enters d

@@ -20,7 +20,7 @@ ghost use Rattle.fleet_search.specs.Links.{place_in};
 
 use crate::distances::Distances;
 use crate::intervals::{
-    Occupancy, SafeInterval, begins_after, count_begun, earliest_within, interval_after,
+    Occupancy, SafeInterval, begins_after, count_begun, earliest_after, interval_after,
 };
 use crate::labels::Arrivals;
 use crate::reservation_table::ReservationTable;
@@ -321,8 +321,7 @@ impl Frontier {
         ensures found { OnOk result
             (IsFoundIn query.now self.new.nodes left.state neighbour.now.cell interval) }
     {
-        let from = u32::from(left.state.time) + 1;
-        let Some(time) = earliest_within(neighbour.occupancies, interval, from) else {
+        let Some(time) = earliest_after(neighbour.occupancies, interval, left.state.time) else {
             return Ok(());
         };
         let is_late = time > left.until;

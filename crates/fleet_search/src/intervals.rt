@@ -1,7 +1,7 @@
 //! The times at which a cell is occupied, and the safe intervals between them.
 
-ghost use Rattle.std.specs.Prelude.{◌↔◌, ◌≤◌, ◌<◌, ◌-◌, ℕ, length, IsTrue, IfSome, IfNone, ◌≡◌, [], get_or, map, OnOk, OnErr};
-ghost use Rattle.fleet_search.specs.Occupancies.{occupancy_at, IsPutIn, AreInOrder, without};
+ghost use Rattle.std.specs.Prelude.{◌↔◌, ◌≤◌, ◌<◌, ◌+◌, ◌-◌, ℕ, length, IsTrue, IfSome, IfNone, ◌≡◌, [], get_or, OnOk, OnErr};
+ghost use Rattle.fleet_search.specs.Occupancies.{occupancy_at, IsPutIn, AreInOrder};
 ghost use Rattle.fleet_search.specs.Intervals.{AreSuccessive, AreBegun, IsInInterval, IsEarliestWithin, IsEndAfter};
 ghost use Rattle.std.specs.List.Sorted.{IsPartitionPoint};
 ghost use Rattle.fleet_search.specs.declared.intervals.Occupancy.{Occupancy};
@@ -41,7 +41,7 @@ fn past_occupancy(occupancies: &[Occupancy], interval: usize, from: u32) -> Opti
 }
 
 /// The first time, from this one on, that is in the safe interval, if there is one.
-pub fn earliest_within(occupancies: &[Occupancy], interval: usize, from: u32) -> Option<u32>
+fn earliest_within(occupancies: &[Occupancy], interval: usize, from: u32) -> Option<u32>
     requires order { AreSuccessive occupancies.now }
     requires bound { interval ≤ length occupancies.now }
     ensures some { IfSome result (IsEarliestWithin occupancies.now interval from) }
@@ -54,6 +54,19 @@ pub fn earliest_within(occupancies: &[Occupancy], interval: usize, from: u32) ->
     } else {
         None
     }
+}
+
+/// The first time after this one that is in the safe interval, if there is one.
+#[inline(always)]
+pub fn earliest_after(occupancies: &[Occupancy], interval: usize, time: u16) -> Option<u32>
+    requires order { AreSuccessive occupancies.now }
+    requires bound { interval ≤ length occupancies.now }
+    ensures some { IfSome result (IsEarliestWithin occupancies.now interval (time + 1)) }
+    ensures none { IfNone result ((s : ℕ) → time + 1 ≤ s
+        → IsInInterval occupancies.now interval s → ⊥) }
+{
+    let from = u32::from(time) + 1;
+    earliest_within(occupancies, interval, from)
 }
 
 /// Whether the occupancy before the safe interval begins after the time.
@@ -135,15 +148,4 @@ pub fn place(occupancies: &mut Vec<Occupancy>, occupancy: Occupancy) -> Result<(
     let index = count_begun(occupancies.as_slice(), occupancy.from);
     occupancies.insert(index, occupancy)?;
     Ok(())
-}
-
-/// Takes the occupancies of the agent out of all lists.
-pub fn remove_from(lists: &mut Vec<Vec<Occupancy>>, agent: usize)
-    ensures taken { (k : ℕ) → get_or (map (λ v. v.items) lists.new.items) k []
-        ≡ without agent (get_or (map (λ v. v.items) lists.old.items) k []) }
-    ensures len { length lists.new.items ≡ length lists.old.items }
-{
-    for occupancies in lists.iter_mut() {
-        occupancies.retain(|occupancy| occupancy.agent != agent);
-    }
 }

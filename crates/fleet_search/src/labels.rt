@@ -2,9 +2,9 @@
 
 ghost use Rattle.std.specs.Prelude.{◌≡◌, ◌≢◌, ◌<◌, ◌↔◌, ℕ, IsTrue, suc, OnOk, None, get_or};
 ghost use Rattle.fleet_grid.specs.Table.{value_in};
-ghost use Rattle.fleet_search.specs.Labels.{no_interval_label, interval_label, earliest_in, AreLabels, HaveOwnRows, IsLabelPut, IsLabelSet, IsSeen};
+ghost use Rattle.fleet_search.specs.Labels.{no_interval_label, interval_label, earliest_in, AreLabels, IsLabelPut, IsLabelSet, IsSeen};
 
-use fleet_grid::Table;
+use fleet_grid::{Key, Lists, Table};
 use fleet_model::OutOfMemory;
 use std::alloc::Global;
 
@@ -26,9 +26,8 @@ pub struct Labels {
     pub search: u16,
     /// For each cell the label of its first interval.
     pub first: Table<IntervalLabel>,
-    /// For each cell the number of the row of its later intervals, counted from 1; 0 if it has none.
-    pub numbers: Table<usize>,
-    pub rows: Vec<Vec<IntervalLabel>>,
+    /// For each cell the labels of its later intervals.
+    pub later: Lists<IntervalLabel>,
 }
 
 impl Labels {
@@ -41,14 +40,12 @@ impl Labels {
             alloc,
             search: 0,
             first: Table::new(alloc, NONE),
-            numbers: Table::new(alloc, 0),
-            rows: Vec::new(alloc),
+            later: Lists::new(alloc),
         }
     }
 
     /// The earliest time at which this search has come to this safe interval of the cell.
     fn earliest(&self, cell: usize, interval: usize) -> Option<u16>
-        requires { AreLabels self.now }
         ensures { result ≡ earliest_in self.now cell interval }
     {
         let label = self.label(cell, interval);
@@ -61,7 +58,6 @@ impl Labels {
 
     /// Whether the search has come to this safe interval of the cell by the time.
     pub fn is_reached(&self, cell: usize, interval: usize, time: u32) -> bool
-        requires { AreLabels self.now }
         ensures { IsTrue result ↔ IsSeen (earliest_in self.now cell interval) time }
     {
         match self.earliest(cell, interval) {
@@ -72,7 +68,6 @@ impl Labels {
 
     /// The label of this interval, by whichever search.
     fn label(&self, cell: usize, interval: usize) -> IntervalLabel
-        requires { AreLabels self.now }
         ensures { result ≡ interval_label self.now cell interval }
     {
         if interval == 0 {
@@ -82,17 +77,11 @@ impl Labels {
         }
     }
 
-    /// The label at a place of the cell's row.
+    /// The label at a place of the cell's list.
     fn later(&self, cell: usize, place: usize) -> IntervalLabel
-        requires { AreLabels self.now }
         ensures { result ≡ interval_label self.now cell (suc place) }
     {
-        let number = self.numbers.get(cell);
-        if number == 0 {
-            NONE
-        } else {
-            label_at(&self.rows[number - 1], place)
-        }
+        label_at(self.later.list(Key::of_number(cell)), place)
     }
 
     /// Notes that the search comes to this safe interval of the cell at the time.
@@ -115,52 +104,25 @@ impl Labels {
 
     /// Puts the label of the cell's first interval.
     fn put_first(&mut self, cell: usize, label: IntervalLabel) -> Result<(), OutOfMemory>
-        requires { AreLabels self.old }
-        ensures apart { OnOk result (HaveOwnRows self.new) }
-        ensures put { OnOk result (IsLabelPut self.old self.new cell 0 label) }
+        ensures { OnOk result (IsLabelPut self.old self.new cell 0 label) }
     {
         self.first.set(cell, label)?;
         Ok(())
     }
 
-    /// Puts the label at a place of the cell's row.
+    /// Puts the label at a place of the cell's list.
     fn put_later(
         &mut self,
         cell: usize,
         place: usize,
         label: IntervalLabel,
     ) -> Result<(), OutOfMemory>
-        requires labels { AreLabels self.old }
-        requires few { place < 4294967295 }
-        ensures apart { OnOk result (HaveOwnRows self.new) }
-        ensures put { OnOk result (IsLabelPut self.old self.new cell (suc place) label) }
+        requires { place < 4294967295 }
+        ensures { OnOk result (IsLabelPut self.old self.new cell (suc place) label) }
     {
-        let number = self.numbers.get(cell);
-        if number == 0 {
-            return self.add_row(cell, place, label);
-        }
-        set_in(&mut self.rows[number - 1], place, label)?;
-        Ok(())
-    }
-
-    /// Adds a row for the cell, which has none, with the label at this place of it.
-    fn add_row(
-        &mut self,
-        cell: usize,
-        place: usize,
-        label: IntervalLabel,
-    ) -> Result<(), OutOfMemory>
-        requires labels { AreLabels self.old }
-        requires none { value_in self.old.numbers cell ≡ 0 }
-        requires few { place < 4294967295 }
-        ensures apart { OnOk result (HaveOwnRows self.new) }
-        ensures put { OnOk result (IsLabelPut self.old self.new cell (suc place) label) }
-    {
-        let mut labels = Vec::new(self.alloc);
-        set_in(&mut labels, place, label)?;
-        self.rows.push(labels)?;
-        self.numbers.set(cell, self.rows.len())?;
-        Ok(())
+        let key = Key::of_number(cell);
+        self.later
+            .change(key, |labels| set_in(labels, place, label))?
     }
 
     /// Begins a search: no interval has a label of its number. After the greatest number all labels are taken off.

@@ -1,27 +1,20 @@
 //! Reservation tables: for each cell the occupancies on it, in the order of time.
 
-ghost use Rattle.fleet_search.specs.Numbers.{HaveOwnLists};
-
-use crate::intervals::{FOREVER, Occupancy, place, remove_from};
-use crate::rows::{number_at, set_number};
+use crate::intervals::{FOREVER, Occupancy, place};
+use fleet_grid::{Key, Lists};
 use fleet_model::{Cell, OutOfMemory};
 use fleet_plan::Path;
 use std::alloc::Global;
 
-/// The occupancies on each cell. Only cells that were visited have a list.
+/// The occupancies on each cell.
 #[derive(Drop)]
 pub struct ReservationTable {
-    alloc: Global,
-    /// For each cell the number of its list, counted from 1; 0 if it has none.
-    numbers: Vec<Vec<u32>>,
-    lists: Vec<Vec<Occupancy>>,
-    ghost own: { HaveOwnLists numbers.items lists.items },
+    lists: Lists<Occupancy>,
 }
 
 impl ReservationTable {
-    ghost use Rattle.std.specs.Prelude.{◌≡◌, ◌+◌, ◌<◌, [], length, IfOk, OnOk, OnErr};
+    ghost use Rattle.std.specs.Prelude.{◌≡◌, [], length, OnOk, OnErr};
     ghost use Rattle.fleet_model.specs.declared.geometry.Cell.{Cell};
-    ghost use Rattle.fleet_search.specs.Numbers.{number_in_rows};
     ghost use Rattle.fleet_search.specs.Way.{Fits, with_path};
     ghost use Rattle.fleet_search.specs.Occupancies.{AreInOrder, IsOccupancyAdded, occupancies_of, without, HaveOccupancies};
 
@@ -30,51 +23,16 @@ impl ReservationTable {
         ensures { (c : Cell) → occupancies_of result c ≡ [] }
     {
         ReservationTable {
-            alloc,
-            numbers: Vec::new(alloc),
-            lists: Vec::new(alloc),
+            lists: Lists::new(alloc),
         }
     }
 
     /// The occupancies on the cell.
+    #[inline(always)]
     pub fn occupancies(&self, cell: Cell) -> &[Occupancy]
         ensures { result.now ≡ occupancies_of self.now cell }
     {
-        let number = number_at(self.numbers.as_slice(), cell);
-        let has_none = number == 0;
-        if has_none {
-            return &[];
-        }
-        self.lists[number as usize - 1].as_slice()
-    }
-
-    /// The place of the cell's list, which is added if there is none. The occupancies of each cell stay the same.
-    fn list_place(&mut self, cell: Cell) -> Result<usize, OutOfMemory>
-        ensures within { IfOk result (λ k. k < length self.new.lists.items) }
-        ensures place { IfOk result (λ k. number_in_rows self.new.numbers.items cell ≡ k + 1) }
-        ensures same { (c : Cell) → occupancies_of self.new c ≡ occupancies_of self.old c }
-    {
-        let number = number_at(self.numbers.as_slice(), cell);
-        if number > 0 {
-            return Ok(number as usize - 1);
-        }
-        self.add_list(cell)
-    }
-
-    /// Adds a list for the cell, which has none, and answers its place.
-    fn add_list(&mut self, cell: Cell) -> Result<usize, OutOfMemory>
-        requires { number_in_rows self.old.numbers.items cell ≡ 0 }
-        ensures within { IfOk result (λ k. k < length self.new.lists.items) }
-        ensures place { IfOk result (λ k. number_in_rows self.new.numbers.items cell ≡ k + 1) }
-        ensures same { (c : Cell) → occupancies_of self.new c ≡ occupancies_of self.old c }
-    {
-        let place = self.lists.len();
-        if place >= u32::MAX as usize {
-            return Err(OutOfMemory);
-        }
-        self.lists.push(Vec::new(self.alloc))?;
-        set_number(self.alloc, &mut self.numbers, cell, place as u32 + 1)?;
-        Ok(place)
+        self.lists.list(Key::of_cell(cell))
     }
 
     /// Adds the occupancy on the cell. A refusal changes no list.
@@ -84,8 +42,8 @@ impl ReservationTable {
         ensures err { OnErr result ((c : Cell)
             → occupancies_of self.new c ≡ occupancies_of self.old c) }
     {
-        let index = self.list_place(cell)?;
-        place(&mut self.lists[index], occupancy)
+        let key = Key::of_cell(cell);
+        self.lists.change(key, |list| place(list, occupancy))?
     }
 
     /// Adds all occupancies of the path's agent, whose number is the number of paths before it.
@@ -116,7 +74,7 @@ impl ReservationTable {
         ensures { (c : Cell) → occupancies_of self.new c
             ≡ without agent (occupancies_of self.old c) }
     {
-        remove_from(&mut self.lists, agent);
+        self.lists.retain(|occupancy| occupancy.agent != agent);
     }
 
     /// Enters one more path. A refusal changes no list.

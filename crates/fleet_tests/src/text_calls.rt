@@ -1,7 +1,7 @@
 //! Maps, scenarios and plans that are read, and what they say.
 
 use crate::fleets::{PAIR_MAP, PAIR_PLAN, PAIR_SCEN, SQUARE_MAP, SQUARE_SCEN, problem};
-use fleet_grid::{Grid, MapFault, read_map};
+use fleet_grid::{Grid, Key, Lists, MapFault, read_map};
 use fleet_model::{Cell, Dir};
 use fleet_plan::{
     Checked, Conflict, Path, Plan, PlanFault, PlanRefusal, TextFault, check, read_plan, write_plan,
@@ -32,6 +32,24 @@ fn maps_are_read(rt: HostRuntime) -> Result<(), Fail> {
     }
     let fault = read_map(rt.alloc(), b"type t\nheight 2\nwidth 3\nmap\n...\n.x.\n").err();
     assert!(rt; matches!(fault, Some(MapFault::Glyph { row: 1, column: 1 })));
+    Ok(())
+}
+
+#[test]
+fn keys_have_lists(rt: HostRuntime) -> Result<(), Fail> {
+    let mut lists: Lists<u8> = Lists::new(rt.alloc());
+    let (cell, number) = (
+        Key::of_cell(Cell { x: 3, y: 2 }),
+        Key::of_number(2 * 1_024 + 4),
+    );
+    lists.change(cell, |list| list.push(7))??;
+    lists.change(number, |list| list.push(8))??;
+    lists.change(cell, |list| list.push(9))??;
+    assert_eq!(rt; lists.list(cell), [7, 9].as_slice());
+    assert_eq!(rt; lists.list(number), [8].as_slice());
+    lists.retain(|item| *item != 7);
+    assert_eq!(rt; lists.list(Key::of_number(2 * 1_024 + 3)), [9].as_slice());
+    assert!(rt; lists.list(Key::of_number(5)).is_empty());
     Ok(())
 }
 

@@ -3,6 +3,7 @@ use Rattle.std.proofs.lemmas.List.{length-append}
 use Rattle.fleet_plan.proofs.CellLaws.{passes}
 use Rattle.fleet_plan.proofs.LineLoop.{fewer_words, no_blank_after, begins_with_no_word, cells_end, cells_fail, cells_more, too_many_cells}
 use Rattle.fleet_plan.proofs.reading.path_of.Goals as goal
+use Rattle.fleet_plan.specs.declared.reading.TheConstants.{MAX_CELLS}
 
 pub returns-then-not-begins_with_word : goal.returns-then-not-begins_with_word
 returns-then-not-begins_with_word c = λ other. begins_with_no_word c.args.number c.args.line.now (sym c.begins_with_word.ensures ∙ c.if-not-begins_with_word.true)
@@ -18,7 +19,7 @@ too_long-requires c = no_blank_after c.loop-rest.rest.now _ _ c.loop-rest.invari
 pub returns-then-is_full : goal.returns-then-is_full
 returns-then-is_full c =
     let l = c.loop-rest in
-    let many : 65536 ≤ length l.cells.items = omega (arith, c.len-is_full.ensures, c.if-is_full.true) in
+    let many : MAX_CELLS ≤ length l.cells.items = omega (arith, c.len-is_full.ensures, c.if-is_full.true) in
     rw c.too_long.ensures (λ other. too_many_cells c.args.number c.args.line.now l.cells.items l.rest.now l.invariant.so_far l.invariant.front _ _ (sym c.in-Some.ensures) many)
 
 pub loop-rest-smaller : goal.loop-rest-smaller
@@ -29,7 +30,7 @@ loop-rest-smaller c =
 pub loop-rest-preserved : goal.loop-rest-preserved
 loop-rest-preserved c =
     let l = c.loop-rest in
-    let few : length l.cells.items < 65536 = omega (arith, c.len-is_full.ensures, c.if-is_full.false) in
+    let few : length l.cells.items < MAX_CELLS = omega (arith, c.len-is_full.ensures, c.if-is_full.false) in
     rw c.in_ok-push.ensures.items (record {
       front = no_blank_after l.rest.now _ _ l.invariant.front (sym c.in-Some.ensures);
       some = omega (arith, length-append l.cells.items (c.in-Some.cell ∷ []));

@@ -2,12 +2,13 @@ use Rattle.std.proofs.Common.{◌≡◌, ◌+◌, ◌≤◌, false, ◌++◌, le
 use Rattle.fleet_text.specs.Text.{starts_blank, words, words_from_front}
 use Rattle.fleet_plan.specs.PlanReading.{spelled_cells}
 use Rattle.fleet_plan.proofs.reading.path_of.Given as goal
+use Rattle.fleet_plan.specs.declared.reading.TheConstants.{MAX_CELLS}
 
 abbrev pub invariant-loop-rest : goal.invariant-loop-rest
 invariant-loop-rest l = record {
   front : starts_blank l.rest ≡ false;
   some : 1 ≤ length l.rest + length l.cells.items;
-  few : length l.cells.items ≤ 65536;
+  few : length l.cells.items ≤ MAX_CELLS;
   so_far : option_map (λ cells. l.cells.items ++ cells) (spelled_cells (words l.rest)) ≡ spelled_cells (words_from_front l.line);
 }
 

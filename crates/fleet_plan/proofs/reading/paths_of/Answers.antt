@@ -3,6 +3,7 @@ use Rattle.std.proofs.lemmas.List.{length-append}
 use Rattle.std.proofs.lemmas.Result.{err_from_is_err_and}
 use Rattle.fleet_plan.proofs.LineLoop.{lines_end, too_many, fails, goes_on, none_ended, some_ended}
 use Rattle.fleet_plan.proofs.reading.paths_of.Goals as goal
+use Rattle.fleet_model.specs.declared.limits.TheConstants.{MAX_AGENTS}
 
 pub returns-then-is_full : goal.returns-then-is_full
 returns-then-is_full c =
@@ -12,7 +13,7 @@ returns-then-is_full c =
 pub returns-in_err-path : goal.returns-in_err-path
 returns-in_err-path c =
     let l = c.loop-line in
-    let few : length l.paths.items < 1024 = omega (arith, c.len-is_full.ensures, c.if-is_full.false) in
+    let few : length l.paths.items < MAX_AGENTS = omega (arith, c.len-is_full.ensures, c.if-is_full.false) in
     let p = err_from_is_err_and c.from_residual.result c.from_residual.ensures.1 in
     let number : c.len.result ≡ length l.paths.items = omega (arith, c.len.ensures) in
     rw (p.1, p.2) (λ other. fails l.paths.items l.lines _ l.invariant.so_far _ _ c.in-Some.ensures few c.in_err-path.field-0.0 ((rw number at c.in_err-path.ensures) other))
@@ -20,7 +21,7 @@ returns-in_err-path c =
 pub loop-line-preserved : goal.loop-line-preserved
 loop-line-preserved c =
     let l = c.loop-line in
-    let few : length l.paths.items < 1024 = omega (arith, c.len-is_full.ensures, c.if-is_full.false) in
+    let few : length l.paths.items < MAX_AGENTS = omega (arith, c.len-is_full.ensures, c.if-is_full.false) in
     let number : c.len.result ≡ length l.paths.items = omega (arith, c.len.ensures) in
     rw c.in_ok-push.ensures.items (record {
       few = omega (arith, few, length-append l.paths.items (c.in_ok-path.path ∷ []));

@@ -1,10 +1,11 @@
 use Rattle.std.proofs.Common.{ℕ, ◌≤◌, List, slice_index, ap, rules, arith}
 use Rattle.fleet_plan.proofs.SweepLaws.{sweep_begins, few_steps, first_meets, swept_all}
 use Rattle.fleet_plan.proofs.sweep.sweep.Goals as goal
+use Rattle.fleet_model.specs.declared.limits.TheConstants.{MAX_HORIZON}
 
 pub overflow_add-end : goal.overflow_add-end
 overflow_add-end c =
-    let few : c.steps-end.result ≤ 65535 = omega (arith, c.steps-end.ensures.time, few_steps c.args.plan.now c.steps-end.ensures.limits.paths) in
+    let few : c.steps-end.result ≤ MAX_HORIZON = omega (arith, c.steps-end.ensures.time, few_steps c.args.plan.now c.steps-end.ensures.limits.paths) in
     search rules
 
 pub returns-clause-none : goal.returns-clause-none
@@ -30,7 +31,7 @@ pub step-requires-clause-few : goal.step-requires-clause-few
 step-requires-clause-few c = c.steps-end.ensures.limits.fleet.few_agents
 
 pub step-requires-clause-time : goal.step-requires-clause-time
-step-requires-clause-time c = let few : c.steps-end.result ≤ 65535 = omega (arith, c.steps-end.ensures.time, few_steps c.args.plan.now c.steps-end.ensures.limits.paths) in omega arith
+step-requires-clause-time c = let few : c.steps-end.result ≤ MAX_HORIZON = omega (arith, c.steps-end.ensures.time, few_steps c.args.plan.now c.steps-end.ensures.limits.paths) in omega arith
 
 pub step-requires-clause-on_map : goal.step-requires-clause-on_map
 step-requires-clause-on_map c = c.requires.on_map

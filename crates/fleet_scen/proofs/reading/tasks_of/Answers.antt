@@ -5,6 +5,7 @@ use Rattle.fleet_model.specs.Geometry.{is_same_cell}
 use Rattle.fleet_scen.specs.ScenReading.{lacks}
 use Rattle.fleet_scen.proofs.ScenLoop.{stops, ends, skips, too_many, fails, shares_start, shares_goal, goes_on, holds_more, was_in, was_new}
 use Rattle.fleet_scen.proofs.reading.tasks_of.Goals as goal
+use Rattle.fleet_model.specs.declared.limits.TheConstants.{MAX_AGENTS}
 
 pub returns-in_default : goal.returns-in_default
 returns-in_default c =
@@ -30,7 +31,7 @@ returns-then-is_full c =
     let l = c.loop-lines in
     let count_is : c.len.result ≡ length l.tasks.items = omega (arith, c.len.ensures) in
     let more : lacks c.args.asked (length l.tasks.items) ≡ true = rw count_is at (sym c.lacks.ensures ∙ c.loop-lines-test.true) in
-    let many : 1024 ≤ length l.tasks.items = omega (arith, c.len-is_full.ensures, c.if-is_full.true) in
+    let many : MAX_AGENTS ≤ length l.tasks.items = omega (arith, c.len-is_full.ensures, c.if-is_full.true) in
     λ other. too_many c.args.grid.now c.args.asked l.number l.tasks.items l.lines _ l.invariant.so_far c.in-Some.line.now c.next_line.new.self more c.in-Some.ensures (sym c.is_filled.ensures ∙ c.if-not-is_filled.false) many
 
 pub returns-in_err-task : goal.returns-in_err-task
@@ -38,7 +39,7 @@ returns-in_err-task c =
     let l = c.loop-lines in
     let count_is : c.len.result ≡ length l.tasks.items = omega (arith, c.len.ensures) in
     let more : lacks c.args.asked (length l.tasks.items) ≡ true = rw count_is at (sym c.lacks.ensures ∙ c.loop-lines-test.true) in
-    let few : length l.tasks.items < 1024 = omega (arith, c.len-is_full.ensures, c.if-is_full.false) in
+    let few : length l.tasks.items < MAX_AGENTS = omega (arith, c.len-is_full.ensures, c.if-is_full.false) in
     let p = err_from_is_err_and c.from_residual.result c.from_residual.ensures.1 in
     rw (p.1, p.2) (λ other. fails c.args.grid.now c.args.asked l.number l.tasks.items l.lines _ l.invariant.so_far c.in-Some.line.now c.next_line.new.self more c.in-Some.ensures (sym c.is_filled.ensures ∙ c.if-not-is_filled.false) few c.in_err-task.field-0.0 (sym c.in_err-task.ensures))
 
@@ -47,7 +48,7 @@ returns-then-not-branch c =
     let l = c.loop-lines in
     let count_is : c.len.result ≡ length l.tasks.items = omega (arith, c.len.ensures) in
     let more : lacks c.args.asked (length l.tasks.items) ≡ true = rw count_is at (sym c.lacks.ensures ∙ c.loop-lines-test.true) in
-    let few : length l.tasks.items < 1024 = omega (arith, c.len-is_full.ensures, c.if-is_full.false) in
+    let few : length l.tasks.items < MAX_AGENTS = omega (arith, c.len-is_full.ensures, c.if-is_full.false) in
     let t = c.in_ok-task.task in
     let shared = sym (l.invariant.starts t.start) ∙ was_in c.in_ok-insert.field-0 (contains is_same_cell l.starts t.start) c.in_ok-insert.ensures.added c.if-not-branch.true in
     λ other. shares_start c.args.grid.now c.args.asked l.number l.tasks.items l.lines _ l.invariant.so_far c.in-Some.line.now c.next_line.new.self more c.in-Some.ensures (sym c.is_filled.ensures ∙ c.if-not-is_filled.false) few t (sym c.in_ok-task.ensures) shared
@@ -57,7 +58,7 @@ returns-then-not-branch-2 c =
     let l = c.loop-lines in
     let count_is : c.len.result ≡ length l.tasks.items = omega (arith, c.len.ensures) in
     let more : lacks c.args.asked (length l.tasks.items) ≡ true = rw count_is at (sym c.lacks.ensures ∙ c.loop-lines-test.true) in
-    let few : length l.tasks.items < 1024 = omega (arith, c.len-is_full.ensures, c.if-is_full.false) in
+    let few : length l.tasks.items < MAX_AGENTS = omega (arith, c.len-is_full.ensures, c.if-is_full.false) in
     let t = c.in_ok-task.task in
     let new = sym (l.invariant.starts t.start) ∙ was_new c.in_ok-insert.field-0 (contains is_same_cell l.starts t.start) c.in_ok-insert.ensures.added c.if-not-branch.false in
     let shared = sym (l.invariant.goals t.goal) ∙ was_in c.in_ok-insert-2.field-0 (contains is_same_cell l.goals t.goal) c.in_ok-insert-2.ensures.added c.if-not-branch-2.true in
@@ -68,7 +69,7 @@ loop-lines-preserved c =
     let l = c.loop-lines in
     let count_is : c.len.result ≡ length l.tasks.items = omega (arith, c.len.ensures) in
     let more : lacks c.args.asked (length l.tasks.items) ≡ true = rw count_is at (sym c.lacks.ensures ∙ c.loop-lines-test.true) in
-    let few : length l.tasks.items < 1024 = omega (arith, c.len-is_full.ensures, c.if-is_full.false) in
+    let few : length l.tasks.items < MAX_AGENTS = omega (arith, c.len-is_full.ensures, c.if-is_full.false) in
     let t = c.in_ok-task.task in
     let start = sym (l.invariant.starts t.start) ∙ was_new c.in_ok-insert.field-0 (contains is_same_cell l.starts t.start) c.in_ok-insert.ensures.added c.if-not-branch.false in
     let end = sym (l.invariant.goals t.goal) ∙ was_new c.in_ok-insert-2.field-0 (contains is_same_cell l.goals t.goal) c.in_ok-insert-2.ensures.added c.if-not-branch-2.false in

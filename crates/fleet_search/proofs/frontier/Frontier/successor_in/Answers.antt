@@ -1,20 +1,19 @@
 use Rattle.std.proofs.Common.{ℕ, ◌+◌, ◌-◌, ◌≤◌, subst, arith}
 use Rattle.fleet_search.specs.Intervals.{IsInInterval, IsEarliestWithin}
-use Rattle.fleet_search.specs.Search.{occupancies_on}
 use Rattle.fleet_search.proofs.SearchSteps.{found_in-none, found_in-late, found_in-first}
 use Rattle.fleet_search.proofs.frontier.Frontier.successor_in.Goals as goal
 
 pub returns-in_default-clause-found : goal.returns-in_default-clause-found
 returns-in_default-clause-found c =
-    found_in-none c.args.query.now c.args.self.now.nodes c.args.left.state c.args.neighbour.now.cell c.args.interval (subst (λ t. (s : ℕ) → t + 1 ≤ s → IsInInterval (occupancies_on c.args.query.now c.args.neighbour.now.cell) c.args.interval s → ⊥) c.from-from.ensures (subst (λ z. (s : ℕ) → c.from-from.result + 1 ≤ s → IsInInterval z c.args.interval s → ⊥) c.requires.neighbour.occupancies c.in_default.ensures.none))
+    found_in-none c.args.query.now c.args.self.now.nodes c.args.left.state c.args.neighbour.now.cell c.args.interval (subst (λ z. (s : ℕ) → c.args.left.state.time + 1 ≤ s → IsInInterval z c.args.interval s → ⊥) c.requires.neighbour.occupancies c.in_default.ensures.none)
 
 pub returns-then-is_late-clause-found : goal.returns-then-is_late-clause-found
 returns-then-is_late-clause-found c =
-    found_in-late c.args.query.now c.args.self.now.nodes c.args.left.state c.args.neighbour.now.cell c.args.interval c.in-Some.time c.args.left.until c.requires.leaving.horizon c.requires.leaving.until (subst (λ t. IsEarliestWithin (occupancies_on c.args.query.now c.args.neighbour.now.cell) c.args.interval (t + 1) c.in-Some.time) c.from-from.ensures (subst (λ z. IsEarliestWithin z c.args.interval (c.from-from.result + 1) c.in-Some.time) c.requires.neighbour.occupancies c.in-Some.ensures.some)) (omega arith)
+    found_in-late c.args.query.now c.args.self.now.nodes c.args.left.state c.args.neighbour.now.cell c.args.interval c.in-Some.time c.args.left.until c.requires.leaving.horizon c.requires.leaving.until (subst (λ z. IsEarliestWithin z c.args.interval (c.args.left.state.time + 1) c.in-Some.time) c.requires.neighbour.occupancies c.in-Some.ensures.some) (omega arith)
 
 pub returns-clause-found : goal.returns-clause-found
 returns-clause-found c =
-    let first = subst (λ t. IsEarliestWithin (occupancies_on c.args.query.now c.args.neighbour.now.cell) c.args.interval (t + 1) c.in-Some.time) c.from-from.ensures (subst (λ z. IsEarliestWithin z c.args.interval (c.from-from.result + 1) c.in-Some.time) c.requires.neighbour.occupancies c.in-Some.ensures.some) in
+    let first = subst (λ z. IsEarliestWithin z c.args.interval (c.args.left.state.time + 1) c.in-Some.time) c.requires.neighbour.occupancies c.in-Some.ensures.some in
     let later = first.later in
     found_in-first c.args.query.now c.requires.leaving.frontier.measured c.push_successor.new.self.nodes c.args.left.state c.args.neighbour.now.cell c.args.interval c.in-Some.time (c.in-Some.time - 1) first (omega arith) c.in_ok-push_successor.ensures.found
 
@@ -24,8 +23,8 @@ push_successor-requires-clause-leaving c = c.requires.leaving
 pub push_successor-requires-clause-neighbour : goal.push_successor-requires-clause-neighbour
 push_successor-requires-clause-neighbour c = c.requires.neighbour
 
-pub earliest_within-requires-clause-bound : goal.earliest_within-requires-clause-bound
-earliest_within-requires-clause-bound c = c.requires.interval
+pub earliest_after-requires-clause-bound : goal.earliest_after-requires-clause-bound
+earliest_after-requires-clause-bound c = c.requires.interval
 
 pub returns-clause-expands_on : goal.returns-clause-expands_on
 returns-clause-expands_on c = c.in_ok-push_successor.ensures.expands_on

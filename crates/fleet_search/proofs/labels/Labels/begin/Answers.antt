@@ -9,12 +9,12 @@ pub returns-clause-labels : goal.returns-clause-labels
 returns-clause-labels c =
     let l = c.if-is_last.self in
     let was : AreLabels l = elim c.if-is_last.branch [ then-is_last w ↦ rw w.self-is w.new.ensures.labels | else-is_last w ↦ rw w.self-is c.requires ] in
-    let next : Labels = record { alloc = l.alloc; search = l.search + 1; first = l.first; numbers = l.numbers; rows = l.rows } in
-    (next_search l next was (record { few = was.rows.few; apart = was.rows.apart }) refl (λ k n. refl)).0
+    let next : Labels = record { alloc = l.alloc; search = l.search + 1; first = l.first; later = l.later } in
+    (next_search l next was refl (λ k n. refl)).0
 
 pub returns-clause-none : goal.returns-clause-none
 returns-clause-none c =
     let l = c.if-is_last.self in
     let was : AreLabels l = elim c.if-is_last.branch [ then-is_last w ↦ rw w.self-is w.new.ensures.labels | else-is_last w ↦ rw w.self-is c.requires ] in
-    let next : Labels = record { alloc = l.alloc; search = l.search + 1; first = l.first; numbers = l.numbers; rows = l.rows } in
-    (next_search l next was (record { few = was.rows.few; apart = was.rows.apart }) refl (λ k n. refl)).1
+    let next : Labels = record { alloc = l.alloc; search = l.search + 1; first = l.first; later = l.later } in
+    (next_search l next was refl (λ k n. refl)).1

@@ -1,6 +1,8 @@
-use Rattle.std.proofs.Common.{refl}
-use Rattle.fleet_search.proofs.OccupancyRows.{occupancies-removed}
+use Rattle.std.proofs.Common.{◌==◌, rules}
+use Rattle.std.specs.Prelude.{not}
+use Rattle.fleet_search.specs.declared.intervals.Occupancy.{Occupancy}
+use Rattle.fleet_grid.specs.Lists.{key_of_cell}
 use Rattle.fleet_search.proofs.reservation_table.ReservationTable.remove_agent.Goals as goal
 
 pub returns : goal.returns
-returns c = occupancies-removed c.args.agent c.args.self.now _ refl c.remove_from.ensures.taken
+returns c = λ q. c.retain.ensures (λ (s : Occupancy). not (s.agent == c.args.agent)) (λ x b k. search rules) (key_of_cell q)

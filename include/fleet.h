@@ -19,6 +19,8 @@
  * Threads. Calls share nothing, so that any number may run at once on data of their own. They are not made from a
  * signal handler, nor from the forked child of a process with threads.
  *
+ * Stack. No call needs as much as 64 KB.
+ *
  * Memory. malloc, realloc and free are those of the program, from one allocator; a block is aligned to each power of
  * two up to 16 that divides its size. If a growth is refused the call fails with the refusal `memory`.
  */

@@ -25,6 +25,7 @@ else
     numbers='agents 3\nmoves 6\nawaits 4\nchain 4\n'
     check 'embed.c plans, compiles and verifies' 0 "$numbers" '' "./embed $M $S"
     check '.. and says what is refused' 1 '' 'plan: part 3, number 2\n' "./embed $M $M"
+    check '.. on a small stack' 0 "$numbers" '' "ulimit -s 128; ./embed $M $S"
     check 'the same random inputs through the program and through libfleet' 0 '400 of 400 alike\n' '' "./differ $work/bin/fleet 400 1 2> /dev/null"
     check 'each growth refused' 0 'check: each growth\ncompile: each growth\nverify: each growth\nthin: each growth\nplan: each growth\nrehearse: each growth\n' '' \
         "./growths $M $S $P $B examples/corridor.holds"

@@ -98,44 +98,57 @@ static void mutate(struct bytes *it)
     }
 }
 
-/* Walks at random from the starts, which need not be free of conflict. */
+/* One step of a walk to a place, along x and then along y: 0 north, 1 east, 2 south, 3 west. */
+static int step_to(int *x, int *y, int to)
+{
+    int to_x = to % given.width, to_y = to / given.width;
+    int step = *x < to_x ? 1 : *x > to_x ? 3 : *y < to_y ? 2 : 0;
+    *x += (step == 1) - (step == 3), *y += (step == 2) - (step == 0);
+    return step;
+}
+
+/* How many steps such a walk has. */
+static int steps_to(int x, int y, int to)
+{
+    return abs(x - to % given.width) + abs(y - to / given.width);
+}
+
+/* Walks from the starts, which need not be free of conflict: to the goals, or at random, and now and then a rest. */
 static void make_walks(void)
 {
+    int is_straight = below(2);
     given.plan.length = 0;
     for (int i = 0; i < given.fleet; i++) {
-        int x = given.starts[i] % given.width, y = given.starts[i] / given.width;
+        int x = given.starts[i] % given.width, y = given.starts[i] / given.width, to = given.goals[i];
         put(&given.plan, "%d,%d", x, y);
-        for (int steps = below(7); steps > 0; steps--) {
-            switch (below(5)) {
-            case 0: x += x + 1 < given.width; break;
-            case 1: x -= x > 0; break;
-            case 2: y += y + 1 < given.height; break;
-            case 3: y -= y > 0;
-            }
+        for (int steps = is_straight ? steps_to(x, y, to) : (int)below(7); steps > 0; steps--) {
+            if (is_straight)
+                step_to(&x, &y, to);
+            else
+                step_to(&x, &y, below(given.width * given.height));
             put(&given.plan, " %d,%d", x, y);
+            if (below(6) == 0)
+                put(&given.plan, " %d,%d", x, y);
         }
-        if (below(3) == 0)
-            put(&given.plan, " %d,%d", given.goals[i] % given.width, given.goals[i] / given.width);
         put(&given.plan, "\n");
     }
 }
 
-/* A program of the version 1 whose agents go from their starts to their goals, along x and then along y, without awaits or with some. */
+/* A program of version 1 whose agents walk from their starts to their goals, with awaits by lot. */
 static void make_program(void)
 {
     struct bytes *it = &given.program;
     it->length = 0;
     put(it, "MPF1%c%c", 0, given.fleet);
     for (int i = 0; i < given.fleet; i++) {
-        int w = given.width, x = given.starts[i] % w, y = given.starts[i] / w;
-        int to_x = given.goals[i] % w, to_y = given.goals[i] / w, moves = abs(to_x - x) + abs(to_y - y);
-        put(it, "%c%c%c%c%c%c%c%c%c%c", 0, x, 0, y, 0, to_x, 0, to_y, 0, moves);
-        for (int n = 0; n < moves; n++) {
-            int other = below(given.fleet), step = x < to_x ? 1 : x > to_x ? 3 : y < to_y ? 2 : 0;
+        int w = given.width, x = given.starts[i] % w, y = given.starts[i] / w, to = given.goals[i];
+        int moves = steps_to(x, y, to);
+        put(it, "%c%c%c%c%c%c%c%c%c%c", 0, x, 0, y, 0, to % w, 0, to / w, 0, moves);
+        for (; moves > 0; moves--) {
+            int other = below(given.fleet);
             if (below(3) == 0 && other != i)
                 put(it, "%c%c%c%c%c", 16, 0, other, 0, 1 + below(2));
-            x += (step == 1) - (step == 3), y += (step == 2) - (step == 0);
-            put(it, "%c", step);
+            put(it, "%c", step_to(&x, &y, to));
         }
     }
 }
@@ -349,6 +362,16 @@ static int is_alike(const char *fleet, enum call call)
         && ((call != COMPILE && call != THIN) || is_file("out", due.out.at, due.out.length));
 }
 
+/* Null pointers go with lengths of 0: no map, and no program. */
+static void ask_of_nothing(void)
+{
+    struct fleet_fault map = {0}, load = {0};
+    size_t length = 0;
+    if (fleet_plan(NULL, 0, NULL, 0, 0, 1, 1, NULL, 0, &length, &map) != FLEET_REFUSED || map.part != FLEET_MAP
+        || fleet_rehearse(NULL, 0, NULL, 0, NULL, 0, &length, &load) != FLEET_REFUSED || load.part != FLEET_LOAD)
+        wrong("null pointers");
+}
+
 int main(int words, char **word)
 {
     static unsigned seen[FLEET_RUN + 1][16];
@@ -359,6 +382,7 @@ int main(int words, char **word)
     struct bytes *all[] = {&given.map, &given.scen, &given.plan, &given.program, &given.holds, &due.out};
     for (i = 0; i < 6; i++)
         all[i]->at = malloc(MOST);
+    ask_of_nothing();
     for (i = 0; i < count; i++) {
         make_inputs();
         enum call call = below(CALLS);

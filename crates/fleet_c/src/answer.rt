@@ -40,3 +40,10 @@ pub fn hand_over(bytes: &[u8], done: u32, out: &mut [u8], length: &mut usize) ->
     out[..bytes.len()].copy_from_slice(bytes);
     done
 }
+
+/// The same of bytes that were made, with the status of a call that answers.
+pub fn hand_made(bytes: &Vec<u8>, out: &mut [u8], length: &mut usize) -> u32
+    ensures { HandsOver bytes.now.items DONE out.old out.new length.new result }
+{
+    hand_over(bytes, DONE, out, length)
+}

@@ -17,13 +17,13 @@ use std::alloc::Global;
 #[derive(Clone, Copy)]
 pub struct Wish {
     pub agents: u16,
-    pub deps: Deps,
+    pub deps: u8,
     pub dwell: u32,
 }
 
 /// Which leavings actions await: that of the latest visit alone where the number is 0, and else the last one of each
 /// agent.
-pub fn deps_of(number: u8) -> Deps
+fn deps_of(number: u8) -> Deps
     ensures { result ≡ deps_of number }
 {
     if number == 0 { Deps::Last } else { Deps::All }
@@ -37,12 +37,12 @@ fn program_of(
     wish: &Wish,
 ) -> Result<Program, CallFault>
     ensures compiled { IfOk result (IsProgramOf problem.now.grid problem.now.instance plan.now
-        wish.now.deps wish.now.dwell) }
+        (deps_of wish.now.deps) wish.now.dwell) }
     ensures stop { IfErr result (IsProgramStop problem.now.grid problem.now.instance plan.now
-        wish.now.deps wish.now.dwell) }
+        (deps_of wish.now.deps) wish.now.dwell) }
 {
     let checked = checked_plan(alloc, problem, plan)?;
-    match compile_dwell(alloc, &checked, wish.deps, wish.dwell) {
+    match compile_dwell(alloc, &checked, deps_of(wish.deps), wish.dwell) {
         Ok(program) => Ok(program),
         Err(fault) => Err(CallFault::Compile(fault)),
     }
@@ -57,9 +57,9 @@ pub fn compile_texts(
     wish: &Wish,
 ) -> Result<Vec<u8>, CallFault>
     ensures compiled { IfOk result (λ bytes. CompilesTexts map.now scen.now wish.now.agents plan.now
-        wish.now.deps wish.now.dwell bytes.items) }
+        (deps_of wish.now.deps) wish.now.dwell bytes.items) }
     ensures stop { IfErr result (IsCompileStop map.now scen.now wish.now.agents plan.now
-        wish.now.deps wish.now.dwell) }
+        (deps_of wish.now.deps) wish.now.dwell) }
 {
     let problem = read_problem(alloc, map, scen, wish.agents)?;
     let program = program_of(alloc, &problem, plan, wish)?;

@@ -27,10 +27,10 @@ mod thin;
 mod verify;
 
 pub use answer::{DONE, FAILED, REFUSED, STUCK, TOO_SMALL};
-use answer::{hand_over, refuse};
+use answer::{hand_made, hand_over, refuse};
 pub use check::FleetChecked;
 use check::check_texts;
-use compile::{Wish, compile_texts, deps_of};
+use compile::{Wish, compile_texts};
 pub use fault::CallFault;
 pub use plain::FleetFault;
 use plan::plan_texts;
@@ -86,11 +86,11 @@ pub extern "C" fn fleet_compile(
 {
     let wish = Wish {
         agents,
-        deps: deps_of(deps),
+        deps,
         dwell,
     };
     match compile_texts(alloc, map, scen, plan, &wish) {
-        Ok(bytes) => hand_over(&bytes, DONE, out, length),
+        Ok(bytes) => hand_made(&bytes, out, length),
         Err(stop) => refuse(&stop, fault),
     }
 }
@@ -136,7 +136,7 @@ pub extern "C" fn fleet_thin(
         out.old out.new length.old length.new fault.old fault.new result }
 {
     match thin_texts(alloc, map, scen, agents, program) {
-        Ok(bytes) => hand_over(&bytes, DONE, out, length),
+        Ok(bytes) => hand_made(&bytes, out, length),
         Err(stop) => refuse(&stop, fault),
     }
 }
@@ -160,7 +160,7 @@ pub extern "C" fn fleet_plan(
         out.old out.new length.old length.new fault.old fault.new result }
 {
     match plan_texts(alloc, map, scen, agents, horizon, tries) {
-        Ok(text) => hand_over(&text, DONE, out, length),
+        Ok(text) => hand_made(&text, out, length),
         Err(stop) => refuse(&stop, fault),
     }
 }

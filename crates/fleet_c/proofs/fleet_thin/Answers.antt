@@ -3,4 +3,4 @@ use Rattle.fleet_c.specs.declared.answer.TheConstants.{DONE}
 use Rattle.fleet_c.proofs.fleet_thin.Goals as goal
 
 pub returns-in-Ok : goal.returns-in-Ok
-returns-in-Ok c = inl (c.deref.result.now, DONE, (rw c.deref.ensures.value c.in-Ok.ensures.thinned, refl), c.hand_over.ensures, refl)
+returns-in-Ok c = inl (c.in-Ok.bytes.items, DONE, (c.in-Ok.ensures.thinned, refl), c.hand_made.ensures, refl)

@@ -40,6 +40,10 @@ list_all_below f m (suc n) h =
 pub each_few : (plan : Plan) (stays : ℕ) → ((i : ℕ) → i < length plan → moves_by plan i (steps plan) + stays ≤ MAX_MOVES) → each_has_few plan stays ≡ true
 each_few plan stays h = list_all_below (few_of plan stays) 0 (length plan) (λ k lt. let e : 0 + k ≡ k = omega arith in ap (few_of plan stays) e ∙ le-leb (moves_by plan k (steps plan) + stays) MAX_MOVES (h k lt))
 
+-- none has, if the steps of the plan alone are few enough
+pub few_steps : (plan : Plan) (stays : ℕ) → steps plan + stays ≤ MAX_MOVES → each_has_few plan stays ≡ true
+few_steps plan stays few = each_few plan stays (λ i lt. omega (arith, moves_by-le plan i (steps plan), few))
+
 all_below : (f : ℕ → Bool) (m n : ℕ) → list_all f (range_with_len m n) ≡ true → (k : ℕ) → k < n → f (m + k) ≡ true
 all_below f m zero h k lt = absurd (omega arith)
 all_below f m (suc n) h zero lt = let e : m + 0 ≡ m = omega arith in ap f e ∙ (and_parts (f m) (list_all f (range_with_len (m + 1) n)) h).0

@@ -83,10 +83,15 @@ fn has_few_actions(plan: &Plan, stays: u32) -> bool
 }
 
 /// Whether no agent has too many actions then.
-#[tactic(auto, using(crate::proofs::StayingPlans::each_few, crate::proofs::StayingPlans::some_too_long))]
+#[tactic(auto, using(crate::proofs::StayingPlans::each_few, crate::proofs::StayingPlans::some_too_long, crate::proofs::StayingPlans::few_steps))]
 fn each_has_few(plan: &Plan, stays: u32) -> bool
     ensures { result ≡ each_has_few plan.now stays }
 {
+    // No agent makes more moves than there are steps.
+    let are_few = u64::from(plan.steps()) + u64::from(stays) <= u64::from(MAX_MOVES);
+    if are_few {
+        return true;
+    }
     for i in 0..plan.agents() {
         if u64::from(moves_of(plan, i)) + u64::from(stays) > u64::from(MAX_MOVES) {
             return false;

@@ -6,7 +6,7 @@ ghost use Rattle.fleet_adg.specs.declared.growing.TheConstants.{MAX_RECENT};
 ghost use Rattle.fleet_adg.specs.Growing.{recent_action, with_recent};
 
 use crate::leavings::Leaving;
-use fleet_model::{Action, Actions, OutOfMemory, Step};
+use fleet_model::{Actions, Await, OutOfMemory, Step};
 use std::alloc::Global;
 use std::marker::Model;
 
@@ -91,12 +91,13 @@ impl Growing {
     }
 
     /// Adds any action at the end.
-    pub(crate) fn push_action(&mut self, action: Action) -> Result<(), OutOfMemory>
-        ensures { OnOk result (self.new ≡ self.old ++ action ∷ []) }
+    pub(crate) fn push_any(&mut self, step: Step, awaits: &[Await]) -> Result<(), OutOfMemory>
+        ensures { OnOk result (self.new
+            ≡ self.old ++ record { step = step; awaits = awaits.now } ∷ []) }
     {
         add_all(&mut self.actions, &self.recent[..self.count])?;
         self.count = 0;
-        self.actions.push(action)
+        self.actions.push_parts(step, awaits)
     }
 
     /// All of them in rows.

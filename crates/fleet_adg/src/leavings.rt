@@ -6,7 +6,7 @@ ghost use Rattle.fleet_adg.specs.Leavings.{await_for, row_of, kind_of, leavings_
 use crate::growing::{Entry, Growing};
 use crate::row_table::RowTable;
 use fleet_grid::Table;
-use fleet_model::{Action, Await, Awaits, Deps, OutOfMemory, Step};
+use fleet_model::{Await, Deps, OutOfMemory, Step};
 use std::alloc::{AllocError, Global};
 
 /// A move by which a cell was left: `number` of `agent`, from 1 on. There may be one for each cell of a map, so it is
@@ -68,13 +68,13 @@ impl Leavings {
     }
 
     /// Adds the action of agent `own` that enters the cell at `place` by this step, with what it awaits, to its
-    /// actions.
+    /// actions. `awaits` is room to list that in.
     pub(crate) fn add_action(
         &self,
-        alloc: Global,
         place: usize,
         own: u16,
         step: Step,
+        awaits: &mut Vec<Await>,
         actions: &mut Growing,
     ) -> Result<(), OutOfMemory>
         requires { AreRowsApart self.now }
@@ -86,8 +86,8 @@ impl Leavings {
     {
         match self {
             Leavings::All(rows) => {
-                let awaits = by_others(alloc, rows.row(place), own)?;
-                actions.push_action(Action { step, awaits })
+                list_others(rows.row(place), own, awaits)?;
+                actions.push_any(step, awaits)
             }
             Leavings::Last(last) => {
                 let awaited = by_another(last.get(place), own);
@@ -108,15 +108,15 @@ fn by_another(leaving: Option<Leaving>, own: u16) -> Option<Leaving>
     }
 }
 
-/// The leavings of a row that are not by agent `own`.
-fn by_others(alloc: Global, row: &[Await], own: u16) -> Result<Awaits, OutOfMemory>
-    ensures { IfOk result (λ awaits. awaits ≡ filter (λ w. not (w.agent == own)) row.now) }
+/// Lists the leavings of a row that are not by agent `own`.
+fn list_others(row: &[Await], own: u16, awaits: &mut Vec<Await>) -> Result<(), AllocError>
+    ensures { OnOk result (awaits.new.items ≡ filter (λ w. not (w.agent == own)) row.now) }
 {
-    let mut awaits = Awaits::new(alloc);
+    awaits.clear();
     for leaving in row {
         if leaving.agent != own {
             awaits.push(*leaving)?;
         }
     }
-    Ok(awaits)
+    Ok(())
 }

@@ -10,7 +10,7 @@ ghost use Rattle.fleet_adg.specs.Sweep.{under_way, moves_in, all_actions_by, IsO
 use crate::growing::Growing;
 use crate::leavings::{Leaving, Leavings};
 use fleet_grid::{Grid, cells_have_places_of_their_own};
-use fleet_model::{Cell, Deps, Dir, OutOfMemory, Step, agent_numbers};
+use fleet_model::{Await, Cell, Deps, Dir, OutOfMemory, Step, agent_numbers};
 use fleet_plan::{Checked, Plan};
 use std::alloc::{AllocError, Global};
 
@@ -64,21 +64,22 @@ fn sweep(
 {
     let mut agents = agent_numbers(alloc, plan.agents())?;
     let mut moves = Vec::with_capacity(alloc, agents.len())?;
+    let mut awaits = Vec::new(alloc);
     for time in 0..plan.steps() {
         plan.keep_under_way(&mut agents, time);
         list_moves(plan, time, &agents, &mut moves)?;
         let at = PlanStep { plan, grid, time };
-        make_moves(alloc, &at, &moves, leavings, actions)?;
+        make_moves(&at, &moves, leavings, &mut awaits, actions)?;
     }
     Ok(())
 }
 
-/// Notes the leavings of cells in a step, and then adds its moves, with what they await.
+/// Notes the leavings of cells in a step, and then adds its moves, with what they await, for which `awaits` is room.
 fn make_moves(
-    alloc: Global,
     at: &PlanStep<'_>,
     moves: &[Move],
     leavings: &mut Leavings,
+    awaits: &mut Vec<Await>,
     actions: &mut [Growing],
 ) -> Result<(), OutOfMemory>
     requires on_map { IsOnMap at.now.grid.now at.now.plan.now }
@@ -94,7 +95,7 @@ fn make_moves(
         ≡ all_actions_by at.now.plan.now (kind_of leavings.old) (at.now.time + 1)) }
 {
     note_leavings(at, moves, actions, leavings)?;
-    add_actions(alloc, at, moves, leavings, actions)
+    add_actions(at, moves, leavings, awaits, actions)
 }
 
 /// Every cell of a plan lies on the map that it was checked for. It does nothing.
@@ -203,12 +204,12 @@ fn note_leavings(
     Ok(())
 }
 
-/// Adds the moves of a step, with what they await.
+/// Adds the moves of a step, with what they await, for which `awaits` is room.
 fn add_actions(
-    alloc: Global,
     at: &PlanStep<'_>,
     moves: &[Move],
     leavings: &Leavings,
+    awaits: &mut Vec<Await>,
     actions: &mut [Growing],
 ) -> Result<(), OutOfMemory>
     requires on_map { IsOnMap at.now.grid.now at.now.plan.now }
@@ -225,7 +226,7 @@ fn add_actions(
         let agent = one.agent;
         let place = at.grid.cell_index(one.to);
         let step = Step::Go(direction(one.from, one.to));
-        leavings.add_action(alloc, place, agent, step, &mut actions[usize::from(agent)])?;
+        leavings.add_action(place, agent, step, awaits, &mut actions[usize::from(agent)])?;
     }
     Ok(())
 }

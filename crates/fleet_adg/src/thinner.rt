@@ -1,6 +1,6 @@
 //! Programs without the awaits that others imply.
 
-ghost use Rattle.std.specs.Prelude.{◌≡◌, ◌≤◌, ◌<◌, IfOk, length};
+ghost use Rattle.std.specs.Prelude.{◌≡◌, ◌≤◌, ◌<◌, IfOk, OnOk, length};
 ghost use Rattle.fleet_model.specs.Program.{moves, awaits_of, NeverStays, AreShort};
 ghost use Rattle.fleet_model.specs.Chain.{IsAction, IsLongestChain};
 ghost use Rattle.fleet_model.specs.Accepted.{IsAccepted};
@@ -10,9 +10,7 @@ ghost use Rattle.fleet_verify.specs.Reduced.{IsThinned, HasLeastAwaits, RunEqual
 ghost use Rattle.fleet_adg.specs.Thinned.{AreUnimplied, IsThinnedAction, AreThinnedActions, IsThinnedAgent, AreThinnedAgents};
 
 use crate::thin_fault::ThinFault;
-use fleet_model::{
-    Action, ActionId, Actions, AgentProgram, Awaits, OutOfMemory, Program, ProgramView,
-};
+use fleet_model::{ActionId, Actions, AgentProgram, Await, OutOfMemory, Program, ProgramView};
 use fleet_needs::{ImpliedAwaits, implied_awaits};
 use fleet_verify::Accepted;
 use std::alloc::Global;
@@ -92,36 +90,38 @@ fn thinned_actions<P: ProgramView>(
     let count = program.moves(i);
     let mut actions = Actions::new(alloc);
     actions.reserve_exact(count as usize, 0)?;
+    let mut awaits = Vec::new(alloc);
     for finished in 0..count {
         let action = ActionId {
             agent: i,
             number: finished + 1,
         };
-        let awaits = unimplied_awaits(alloc, program, implied, action)?;
+        list_unimplied(program, implied, action, &mut awaits)?;
         let step = program.step(i, finished + 1);
-        actions.push(Action { step, awaits })?;
+        actions.push_parts(step, &awaits)?;
     }
     Ok(actions)
 }
 
-/// The awaits of the action that no others imply.
-fn unimplied_awaits<P: ProgramView>(
-    alloc: Global,
+/// Lists the awaits of the action that no others imply.
+fn list_unimplied<P: ProgramView>(
     program: &P,
     implied: &ImpliedAwaits,
     action: ActionId,
-) -> Result<Awaits, OutOfMemory>
+    awaits: &mut Vec<Await>,
+) -> Result<(), OutOfMemory>
     requires implied { AreImplied (P.program program.now) implied.now }
     requires action { IsAction (P.program program.now) action }
-    ensures { IfOk result (AreUnimplied (P.program program.now) action
-        (length (awaits_of (P.program program.now) action.agent action.number))) }
+    ensures { OnOk result (AreUnimplied (P.program program.now) action
+        (length (awaits_of (P.program program.now) action.agent action.number))
+        awaits.new.items) }
 {
     let _ = program.agents();
-    let mut awaits = Awaits::new(alloc);
+    awaits.clear();
     for k in 0..program.await_count(action.agent, action.number) {
         if let Some(one) = implied.await_unless_implied(program, action, k) {
             awaits.push(one)?;
         }
     }
-    Ok(awaits)
+    Ok(())
 }

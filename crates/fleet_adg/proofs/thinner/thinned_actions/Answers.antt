@@ -8,8 +8,8 @@ pub loop-finished-preserved : goal.loop-finished-preserved
 loop-finished-preserved g c =
     let p = g.P.ProgramView.program c.args.program.now in
     record {
-      made = subst (AreThinnedActions p c.args.i (c.loop-finished.finished + 1)) (sym c.in_ok-push.ensures.ok)
-          (action_more p c.args.i c.loop-finished.finished c.loop-finished.actions _ c.loop-finished.invariant.made (record { step = c.step-step.ensures; awaits = c.in_ok-awaits.ensures }));
+      made = subst (AreThinnedActions p c.args.i (c.loop-finished.finished + 1)) (sym c.in_ok-push_parts.ensures.ok)
+          (action_more p c.args.i c.loop-finished.finished c.loop-finished.actions _ c.loop-finished.invariant.made (record { step = c.step-step.ensures; awaits = rw c.deref.ensures.value c.in_ok-list_unimplied.ensures }));
     }
 
 pub returns : goal.returns

@@ -7,7 +7,7 @@ use Rattle.std.proofs.lemmas.List.{get_or-replicate, get_or_past, length-replica
 use Rattle.std.proofs.lemmas.Bool.{cases_lt, cases_eq, cases_order, ltb-true, lt-ltb, false≢true}
 use Rattle.fleet_model.specs.declared.program.ActionId.{ActionId}
 use Rattle.fleet_model.specs.Program.{Program}
-use Rattle.fleet_model.specs.Chain.{IsAction, Reaches}
+use Rattle.fleet_model.specs.Chain.{Reaches}
 use Rattle.fleet_needs.specs.Rows.{IsColumn}
 use Rattle.fleet_needs.specs.Asked.{IsQuestion, IsSoonerAction, AreQuestions, AreAnswers}
 use Rattle.fleet_needs.specs.Block.{HasColumn, IsAnswer, AreAnswered}

@@ -6,18 +6,17 @@ use Rattle.std.proofs.lemmas.Option.{slice_get-get_or, slice_get_within, get_or_
 use Rattle.std.proofs.lemmas.List.{get_or-set_same, get_or-set_other, length-set, length_push, get_or_append_left, get_or_push, get_or_past}
 use Rattle.fleet_model.specs.declared.program.ActionId.{ActionId}
 use Rattle.fleet_model.specs.declared.program.Await.{Await}
-use Rattle.fleet_model.specs.Program.{Program, awaits_of, moves, total_moves}
+use Rattle.fleet_model.specs.Program.{Program, awaits_of}
 use Rattle.fleet_model.specs.Chain.{IsAction, IsLevel, awaited}
 use Rattle.fleet_needs.specs.Order.{IsCounted, IsNextAction}
 use Rattle.fleet_needs.specs.Asked.{IsSoonerAction}
-use Rattle.fleet_needs.specs.Places.{ArePlacesOf, place_of_action}
-use Rattle.fleet_needs.specs.Joins.{AreQuiet, IsRow, StandsFor, row_taken, IsJoin, AreJoins, Takes, AreLasts, HasAllRows, row_of, IsStanding, AreSound, AreJoinsOf, CanJoin, AreTaken, HasJoined, IsAdded}
+use Rattle.fleet_needs.specs.Places.{place_of_action}
+use Rattle.fleet_needs.specs.Joins.{IsRow, StandsFor, row_taken, IsJoin, AreJoins, Takes, AreLasts, row_of, IsStanding, AreSound, AreJoinsOf, CanJoin, AreTaken, HasJoined, IsAdded}
 use Rattle.fleet_needs.specs.Joins.{AreRaised}
 use Rattle.fleet_needs.specs.declared.action_places.ActionPlaces.{ActionPlaces}
 use Rattle.fleet_needs.specs.declared.joins.Join.{Join}
 use Rattle.fleet_needs.specs.declared.joins.Joins.{Joins}
 use Rattle.fleet_needs.proofs.Counting.{counted_back, counted_apart, counted_still, counted_here}
-use Rattle.fleet_needs.proofs.Passing.{same_or_not}
 use Rattle.fleet_needs.proofs.Placed.{place_apart, place_within}
 
 -- ---- a list with one more at its end

@@ -1,22 +1,27 @@
 -- The counts of rows that are made of rows in their slots.
-use Rattle.std.proofs.Common.{◌≡◌, ◌≢◌, ℕ, zero, suc, ◌+◌, ◌-◌, ◌*◌, ◌<◌, ◌≤◌, List, [], length, get_or, max, slice_index, refl, sym, ap, subst, ◌∙◌, arith, inl, inr}
+use Rattle.std.proofs.Common.{◌≡◌, ◌≢◌, Bool, true, false, ℕ, zero, suc, ◌+◌, ◌-◌, ◌*◌, ◌<◌, ◌≤◌, List, [], length, get_or, max, slice_index, refl, sym, ap, subst, ◌∙◌, arith, inl, inr}
 use Rattle.std.specs.Prelude.{slice_get, Some}
 use Rattle.std.proofs.lemmas.Bool.{cases_lt, cases_eq}
 use Rattle.std.proofs.lemmas.Option.{slice_get_within, slice_get-get_or}
 use Rattle.fleet_model.specs.declared.program.ActionId.{ActionId}
 use Rattle.fleet_model.specs.declared.program.Await.{Await}
 use Rattle.fleet_model.specs.Program.{Program, AreInRange, awaits_of, moves}
-use Rattle.fleet_model.specs.Chain.{IsAction, Reaches, awaited}
+use Rattle.fleet_model.specs.Chain.{IsAction, awaited}
 use Rattle.fleet_needs.specs.Block.{HasColumn}
-use Rattle.fleet_needs.specs.Joins.{AreQuiet, IsRow, StandsFor, row_taken, IsJoin, Takes, AreOwn}
+use Rattle.fleet_needs.specs.Counts.{counts_of, CanHold}
+use Rattle.fleet_needs.specs.Joins.{AreQuiet, row_taken, IsJoin, AreOwn}
 use Rattle.fleet_needs.specs.Rows.{IsColumn, IsJoined, OfFirst, OfOthers, OfOthersOrFirst}
 use Rattle.fleet_needs.specs.Schedule.{IsSchedule, AreColumnsOf, AreCounts, AreRowsTo, IsThere, StandsThere, AreJoinedWith, count_in_slot}
-use Rattle.fleet_needs.specs.JoinPass.{IsNextRow, AreOthers}
+use Rattle.fleet_needs.specs.JoinPass.{IsNextRow}
 use Rattle.fleet_needs.specs.Slots.{IsStill}
 use Rattle.fleet_needs.specs.declared.columns.Columns.{Columns}
 use Rattle.fleet_needs.specs.declared.joins.Join.{Join}
 use Rattle.fleet_needs.specs.declared.slot_rows.SlotRows.{SlotRows}
-use Rattle.fleet_needs.proofs.Joining.{column_none, joined_none, part_all, own_column, awaited_action, numbered}
+use Rattle.fleet_needs.specs.declared.schedule.Schedule.{Schedule}
+use Rattle.fleet_needs.specs.declared.counts.Counts.{Counts}
+use Rattle.fleet_model.proofs.Chains.{Reaches-first}
+use Rattle.fleet_needs.proofs.Placed.{row_ends}
+use Rattle.fleet_needs.proofs.Joining.{column_none, joined_none, part_all, own_column, awaited_action}
 use Rattle.fleet_needs.proofs.OthersJoined.{others_more, others_same, first_none, first_more, first_same, first_all}
 
 -- ---- actions that await nothing
@@ -70,6 +75,13 @@ module _ (p : Program) (m : SlotRows) (n : ℕ) (rows : AreRowsTo p m n) (r i b 
           here.1,
         )
   ]
+
+-- where they stand there is room for a whole row
+pub slot_room : (p : Program) (m : SlotRows) (n : ℕ) → AreRowsTo p m n → (r : ℕ) → 1 ≤ r → IsThere m n r → slice_index m.schedule.now.outs.items (r - 1) * m.columns.width + m.columns.width ≤ length (counts_of m.counts)
+slot_room p m n rows r some there =
+    let within : r - 1 < length m.schedule.now.outs.items = omega (arith, some, there.made, there.within, rows.schedule.all) in
+    let ends = row_ends m.columns.width (slice_index m.schedule.now.outs.items (r - 1)) m.schedule.now.slots (rows.schedule.within (r - 1) within) in
+    omega (arith, ends, rows.room)
 
 -- a row of these counts
 pub counts_same : (p : Program) (columns : Columns) (i b : ℕ) (f g : ℕ → ℕ) → ((j k : ℕ) → HasColumn columns j k → g k ≡ f k) → AreCounts p columns i b f → AreCounts p columns i b g
@@ -167,14 +179,41 @@ module _ (p : Program) (columns : Columns) (i b : ℕ) where
     (λ e. here m (subst (λ (x : ℕ). HasColumn columns x m) e has)),
   )
 
+-- ---- what is kept
+
+-- there are bytes enough for the counts
+pub counts_held : (p : Program) (columns : Columns) (i b : ℕ) (count : ℕ → ℕ) (Held : ℕ → Type 0) → i < length p → ((j n : ℕ) → j < length p → n ≤ moves p j → Held n) → AreCounts p columns i b count
+    → (j k : ℕ) → HasColumn columns j k → Held (count k)
+counts_held p columns i b count Held agent held h j k has = elim (cases_eq j i) [
+  | inl e ↦ none ((h j k has).1 e)
+  | inr ne ↦ elim (cases_lt 0 (count k)) [
+    | inr low ↦ none (omega arith)
+    | inl some ↦
+        let is = Reaches-first p (record { agent = j; number = count k }) (record { agent = i; number = b }) (((h j k has).0 ne (count k)).1 (omega arith, omega arith)) in
+        held j (count k) is.agent is.last
+  ]
+]
+  where
+    none : count k ≡ 0 → Held (count k)
+    none e = subst Held (sym e) (held i 0 agent (omega arith))
+
+-- .. for all numbers of actions
+pub held : (p : Program) (s : Schedule) (m : Counts) → (s.is_narrow ≡ true → (i : ℕ) → i < length p → moves p i ≤ 65535) → ((n : ℕ) → n ≤ 65535 → CanHold m n) → (s.is_narrow ≡ false → (n : ℕ) → CanHold m n)
+    → (i n : ℕ) → i < length p → n ≤ moves p i → CanHold m n
+held p s m narrow short wide i n l few = go s.is_narrow refl
+  where
+    go : (b : Bool) → s.is_narrow ≡ b → CanHold m n
+    go true e = short n (let most : moves p i ≤ 65535 = narrow e i l in omega arith)
+    go false e = wide e n
+
 -- ---- one row more in its slot
 
 module _ (p : Program) (new : SlotRows) (n : ℕ) (was : ℕ → ℕ → ℕ) (row : List ℕ) (schedule : IsSchedule p new.schedule.now) (columns : AreColumnsOf p new.columns)
-    (room : length new.counts.items ≡ new.schedule.now.slots * new.columns.width)
+    (room : length (counts_of new.counts) ≡ new.schedule.now.slots * new.columns.width) (hold : (i n : ℕ) → i < length p → n ≤ moves p i → CanHold new.counts n)
     (right : (r : ℕ) (j : Join) → 1 ≤ r → r ≤ n → slice_get new.schedule.now.joins.items (r - 1) ≡ Some j → IsStill new.schedule.now.outs.items r n
     → AreCounts p new.columns j.action.agent j.action.number (was (slice_index new.schedule.now.outs.items (r - 1))))
-    (others : (t k : ℕ) → t ≢ slice_index new.schedule.now.outs.items n → k < new.columns.width → slice_index new.counts.items (t * new.columns.width + k) ≡ was t k)
-    (here : (k : ℕ) → k < new.columns.width → slice_index new.counts.items (slice_index new.schedule.now.outs.items n * new.columns.width + k) ≡ slice_index row k)
+    (others : (t k : ℕ) → t ≢ slice_index new.schedule.now.outs.items n → k < new.columns.width → slice_index (counts_of new.counts) (t * new.columns.width + k) ≡ was t k)
+    (here : (j k : ℕ) → HasColumn new.columns j k → slice_index (counts_of new.counts) (slice_index new.schedule.now.outs.items n * new.columns.width + k) ≡ slice_index row k)
     (made : (j : Join) → slice_get new.schedule.now.joins.items n ≡ Some j → AreCounts p new.columns j.action.agent j.action.number (slice_index row)) where
   still_right : (r : ℕ) (j : Join) → 1 ≤ r → r ≤ n + 1 → slice_get new.schedule.now.joins.items (r - 1) ≡ Some j → IsStill new.schedule.now.outs.items r (n + 1)
       → AreCounts p new.columns j.action.agent j.action.number (count_in_slot new r)
@@ -182,7 +221,7 @@ module _ (p : Program) (new : SlotRows) (n : ℕ) (was : ℕ → ℕ → ℕ) (r
     | inl newest ↦
         let e : r - 1 ≡ n = omega arith in
         counts_same p new.columns j.action.agent j.action.number (slice_index row) (count_in_slot new r)
-        (λ i k has. ap (λ (x : ℕ). slice_index new.counts.items (slice_index new.schedule.now.outs.items x * new.columns.width + k)) e ∙ here k (columns.within i k has))
+        (λ i k has. ap (λ (x : ℕ). slice_index (counts_of new.counts) (slice_index new.schedule.now.outs.items x * new.columns.width + k)) e ∙ here i k has)
         (made j (sym (ap (slice_get new.schedule.now.joins.items) e) ∙ at))
     | inr old ↦
         counts_same p new.columns j.action.agent j.action.number (was (slice_index new.schedule.now.outs.items (r - 1))) (count_in_slot new r)
@@ -191,8 +230,9 @@ module _ (p : Program) (new : SlotRows) (n : ℕ) (was : ℕ → ℕ → ℕ) (r
   ]
 
   pub rows_more : AreRowsTo p new (n + 1)
-  rows_more = record { schedule = schedule; columns = columns; room = room; right = still_right }
+  rows_more = record { schedule = schedule; columns = columns; room = room; hold = hold; right = still_right }
 
 -- before the first row
-pub rows_none : (p : Program) (m : SlotRows) → IsSchedule p m.schedule.now → AreColumnsOf p m.columns → length m.counts.items ≡ m.schedule.now.slots * m.columns.width → AreRowsTo p m 0
-rows_none p m schedule columns room = record { schedule = schedule; columns = columns; room = room; right = λ r j some upto at still. absurd (omega arith) }
+pub rows_none : (p : Program) (m : SlotRows) → IsSchedule p m.schedule.now → AreColumnsOf p m.columns → length (counts_of m.counts) ≡ m.schedule.now.slots * m.columns.width
+    → ((i n : ℕ) → i < length p → n ≤ moves p i → CanHold m.counts n) → AreRowsTo p m 0
+rows_none p m schedule columns room hold = record { schedule = schedule; columns = columns; room = room; hold = hold; right = λ r j some upto at still. absurd (omega arith) }

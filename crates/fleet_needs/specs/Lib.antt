@@ -1,6 +1,7 @@
 pub mod Kernels
 pub mod Asked
 pub mod Columns
+pub mod Counts
 pub mod Places
 pub mod Rows
 pub mod Order

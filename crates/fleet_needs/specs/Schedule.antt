@@ -1,12 +1,12 @@
 -- A schedule of rows, and the counts of rows in their slots.
-use Rattle.std.specs.Prelude.{◌≡◌, ◌≢◌, ℕ, ◌+◌, ◌-◌, ◌*◌, ◌<◌, ◌≤◌, List, length, max, slice_index, slice_get, Some}
-use Rattle.fleet_model.specs.declared.program.ActionId.{ActionId}
-use Rattle.fleet_model.specs.Program.{Program, awaits_of, moves}
+use Rattle.std.specs.Prelude.{◌≡◌, ◌≢◌, true, ℕ, ◌+◌, ◌-◌, ◌*◌, ◌<◌, ◌≤◌, List, length, max, slice_index, slice_get, Some}
+use Rattle.fleet_model.specs.Program.{Program, moves}
 use Rattle.fleet_model.specs.Chain.{IsAction}
 use Rattle.fleet_needs.specs.Block.{HasColumn}
 use Rattle.fleet_needs.specs.Columns.{agents_in}
+use Rattle.fleet_needs.specs.Counts.{counts_of, CanHold}
 use Rattle.fleet_needs.specs.Joins.{AreJoins, IsRow, Takes, StandsFor, HasAllRows, AreOrdered, AreRising, AreOwn}
-use Rattle.fleet_needs.specs.Rows.{IsColumn, IsJoined, OfOthers}
+use Rattle.fleet_needs.specs.Rows.{IsColumn}
 use Rattle.fleet_needs.specs.Slots.{IsStill}
 use Rattle.fleet_needs.specs.declared.columns.Columns.{Columns}
 use Rattle.fleet_needs.specs.declared.joins.Join.{Join}
@@ -25,6 +25,7 @@ pub record IsSchedule (p : Program) (s : Schedule) : Type 0 where
   pub ordered : AreOrdered p s.joins.items
   pub rising : AreRising s.joins.items
   pub own : AreOwn p
+  pub narrow : s.is_narrow ≡ true → (i : ℕ) → i < length p → moves p i ≤ 65535
 
 -- the last actions of the questions have rows
 abbrev pub HasRows : Schedule → List Question → Type 0
@@ -43,13 +44,14 @@ AreCounts p columns i n count =
 
 -- count k of the row in the slot of row r
 abbrev pub count_in_slot : SlotRows → ℕ → ℕ → ℕ
-count_in_slot m r k = slice_index m.counts.items (slice_index m.schedule.now.outs.items (r - 1) * m.columns.width + k)
+count_in_slot m r k = slice_index (counts_of m.counts) (slice_index m.schedule.now.outs.items (r - 1) * m.columns.width + k)
 
 -- each of the first n rows that is still in its slot is that of its action
 pub record AreRowsTo (p : Program) (m : SlotRows) (n : ℕ) : Type 0 where
   pub schedule : IsSchedule p m.schedule.now
   pub columns : AreColumnsOf p m.columns
-  pub room : length m.counts.items ≡ m.schedule.now.slots * m.columns.width
+  pub room : length (counts_of m.counts) ≡ m.schedule.now.slots * m.columns.width
+  pub hold : (i n : ℕ) → i < length p → n ≤ moves p i → CanHold m.counts n
   pub right : (r : ℕ) (j : Join) → 1 ≤ r → r ≤ n → slice_get m.schedule.now.joins.items (r - 1) ≡ Some j → IsStill m.schedule.now.outs.items r n
       → AreCounts p m.columns j.action.agent j.action.number (count_in_slot m r)
 

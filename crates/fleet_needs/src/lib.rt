@@ -8,6 +8,7 @@ mod await_flags;
 mod await_places;
 mod columns;
 mod critical;
+mod counts;
 mod finish_order;
 mod finish_ticks;
 mod flagging;

@@ -1,9 +1,9 @@
 //! A schedule of rows, made once for all blocks of columns: which rows are made, in which order, of which rows each is
 //! joined, and the slot in which it is kept.
 
-ghost use Rattle.std.specs.Prelude.{◌≡◌, ◌+◌, ◌<◌, ◌≤◌, ℕ, [], All, slice_get, Some, length, IfOk};
+ghost use Rattle.std.specs.Prelude.{◌≡◌, ◌+◌, ◌<◌, ◌≤◌, ℕ, true, [], All, slice_get, Some, length, IfOk};
 ghost use Rattle.fleet_model.specs.declared.limits.TheConstants.{MAX_AGENTS};
-ghost use Rattle.fleet_model.specs.Program.{AreInRange, total_moves};
+ghost use Rattle.fleet_model.specs.Program.{AreInRange, moves, total_moves};
 ghost use Rattle.fleet_model.specs.Chain.{IsAction};
 ghost use Rattle.fleet_model.specs.Machine.{IsFinish};
 ghost use Rattle.fleet_needs.specs.Asked.{IsQuestion};
@@ -20,7 +20,7 @@ use crate::slots::slots_of;
 use fleet_model::{ActionId, MAX_AGENTS, OutOfMemory, ProgramView, total_moves};
 use std::alloc::Global;
 
-/// There is room for so many counts of rows at once: 4 MB.
+/// There is room for so many counts of rows at once, of four bytes each: 4 MB.
 const COUNTS: u32 = 1_048_576;
 
 /// The least number of columns of a block.
@@ -37,6 +37,8 @@ pub struct Schedule {
     pub(crate) outs: Vec<u32>,
     /// How many slots there are.
     pub(crate) slots: u32,
+    /// Whether counts take two bytes each.
+    pub(crate) is_narrow: bool,
 }
 
 impl Schedule {
@@ -72,6 +74,7 @@ impl Schedule {
             rows: joins.rows,
             outs: slots.outs,
             slots: count,
+            is_narrow: is_narrow(program, count),
         })
     }
 
@@ -81,9 +84,28 @@ impl Schedule {
         ensures least { LEAST_COLUMNS ≤ result }
         ensures most { result ≤ MAX_AGENTS }
     {
-        let room = COUNTS / self.slots.max(1);
+        let counts = if self.is_narrow { 2 * COUNTS } else { COUNTS };
+        let room = counts / self.slots.max(1);
         room.clamp(LEAST_COLUMNS, MAX_AGENTS as u32) as u16
     }
+}
+
+/// Whether counts take two bytes each: if one block of four bytes each has no room for columns of all agents, and two
+/// hold the number of each action.
+fn is_narrow<P: ProgramView>(program: &P, slots: u32) -> bool
+    ensures { result ≡ true → (i : ℕ) → i < length (P.program program.now)
+        → moves (P.program program.now) i ≤ u16.MAX }
+{
+    let has_room = u64::from(slots) * u64::from(program.agents()) <= u64::from(COUNTS);
+    if has_room {
+        return false;
+    }
+    for i in 0..program.agents() {
+        if program.moves(i) > u32::from(u16::MAX) {
+            return false;
+        }
+    }
+    true
 }
 
 /// For each action, by its place, whether a question ends with it.

@@ -102,6 +102,10 @@ fn settle_action<P: ProgramView>(
         (P.program program.now) action asked.old asked.new flags.old flags.new }
 {
     let _ = program.agents();
+    let is_quiet = program.await_count(action.agent, action.number) == 0;
+    if is_quiet {
+        return;
+    }
     let first = places.first(program, action);
     let latest = latest_await(program, ticks, action);
     let mut from = 0;
@@ -125,6 +129,10 @@ fn latest_await<P: ProgramView>(program: &P, ticks: &FinishTicks, action: Action
         → result < length (awaits_of (P.program program.now) action.agent action.number) }
 {
     let _ = program.agents();
+    let is_one = program.await_count(action.agent, action.number) < 2;
+    if is_one {
+        return 0;
+    }
     let mut latest = 0;
     let mut greatest = 0;
     for k in 0..program.await_count(action.agent, action.number) {

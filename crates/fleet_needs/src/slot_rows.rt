@@ -1,11 +1,12 @@
 //! The counts of rows in their slots, in the columns of one block.
 
-ghost use Rattle.std.specs.Prelude.{◌≡◌, ◌+◌, ◌-◌, ◌*◌, ◌<◌, ◌≤◌, ℕ, length, max, get_or, slice_index, slice_get, Some, IfOk};
+ghost use Rattle.std.specs.Prelude.{◌≡◌, ◌+◌, ◌-◌, ◌*◌, ◌<◌, ◌≤◌, ℕ, false, length, max, slice_index, slice_get, Some, IfOk};
 ghost use Rattle.fleet_needs.specs.declared.joins.Join.{Join};
+ghost use Rattle.fleet_needs.specs.Counts.{counts_of, CanHold};
 ghost use Rattle.fleet_needs.specs.Schedule.{AreCounts, AreRowsTo, IsThere, StandsThere, AreJoinedWith, count_in_slot};
 
 use crate::columns::Columns;
-use crate::kernels::join_rows;
+use crate::counts::Counts;
 use crate::schedule::Schedule;
 use fleet_model::{OutOfMemory, ProgramView};
 use std::alloc::Global;
@@ -15,7 +16,7 @@ use std::alloc::Global;
 pub struct SlotRows<'a> {
     pub(crate) schedule: &'a Schedule,
     pub(crate) columns: Columns,
-    counts: Vec<u32>,
+    counts: Counts,
 }
 
 impl<'a> SlotRows<'a> {
@@ -27,33 +28,31 @@ impl<'a> SlotRows<'a> {
     ) -> Result<SlotRows<'a>, OutOfMemory>
         ensures schedule { IfOk result (λ m. m.schedule ≡ schedule.entry) }
         ensures columns { IfOk result (λ m. m.columns ≡ columns) }
-        ensures room { IfOk result (λ m. length m.counts.items
+        ensures room { IfOk result (λ m. length (counts_of m.counts)
             ≡ schedule.now.slots * columns.width) }
+        ensures short { IfOk result (λ m. (n : ℕ) → n ≤ u16.MAX → CanHold m.counts n) }
+        ensures wide { schedule.now.is_narrow ≡ false
+            → IfOk result (λ m. (n : ℕ) → CanHold m.counts n) }
     {
         let room = schedule.slots as usize * usize::from(columns.width);
         Ok(SlotRows {
             schedule,
             columns,
-            counts: vec![in alloc; 0; room]?,
+            counts: Counts::zeros(alloc, room, schedule.is_narrow)?,
         })
     }
 
-    /// A row that is still in its slot.
-    #[inline]
-    fn row(&self, r: u32) -> &[u32]
+    /// Where the counts of a row that is still in its slot begin.
+    fn begin(&self, r: u32) -> usize
         requires some { 1 ≤ r }
         requires within { r ≤ length self.now.schedule.now.outs.items }
         requires slot { slice_index self.now.schedule.now.outs.items (r - 1)
             < self.now.schedule.now.slots }
-        requires room { length self.now.counts.items
-            ≡ self.now.schedule.now.slots * self.now.columns.width }
-        ensures width { length result.now ≡ self.now.columns.width }
-        ensures counts { (k : ℕ) → k < self.now.columns.width
-            → slice_index result.now k ≡ count_in_slot self.now r k }
+        ensures { result ≡ slice_index self.now.schedule.now.outs.items (r - 1)
+            * self.now.columns.width }
     {
         let width = usize::from(self.columns.width);
-        let from = self.schedule.outs[r as usize - 1] as usize * width;
-        &self.counts[from..from + width]
+        self.schedule.outs[r as usize - 1] as usize * width
     }
 
     /// Puts into `row` the counts of what row `r` stands for.
@@ -68,37 +67,7 @@ impl<'a> SlotRows<'a> {
             clear_row(row);
             return;
         }
-        self.read_row(r, row);
-    }
-
-    /// Reads a row that is still in its slot.
-    fn read_row(&self, r: u32, row: &mut [u32])
-        requires some { 1 ≤ r }
-        requires within { r ≤ length self.now.schedule.now.outs.items }
-        requires slot { slice_index self.now.schedule.now.outs.items (r - 1)
-            < self.now.schedule.now.slots }
-        requires room { length self.now.counts.items
-            ≡ self.now.schedule.now.slots * self.now.columns.width }
-        requires width { length row.old ≡ self.now.columns.width }
-        ensures { (k : ℕ) → k < length row.old
-            → slice_index row.new k ≡ count_in_slot self.now r k }
-    {
-        row.copy_from_slice(self.row(r));
-    }
-
-    /// Joins a row that is still in its slot into `row`.
-    fn join_into(&self, r: u32, row: &mut [u32])
-        requires some { 1 ≤ r }
-        requires within { r ≤ length self.now.schedule.now.outs.items }
-        requires slot { slice_index self.now.schedule.now.outs.items (r - 1)
-            < self.now.schedule.now.slots }
-        requires room { length self.now.counts.items
-            ≡ self.now.schedule.now.slots * self.now.columns.width }
-        requires width { length row.old ≡ self.now.columns.width }
-        ensures { (k : ℕ) → k < length row.old
-            → slice_index row.new k ≡ max (slice_index row.old k) (count_in_slot self.now r k) }
-    {
-        join_rows(row, self.row(r));
+        self.counts.read(self.begin(r), row);
     }
 
     /// Joins what row `r` stands for into `row`.
@@ -112,7 +81,7 @@ impl<'a> SlotRows<'a> {
         if r == 0 {
             return;
         }
-        self.join_into(r, row);
+        self.counts.join_into(self.begin(r), row);
     }
 
     /// Keeps the row that is made after n others.
@@ -129,7 +98,7 @@ impl<'a> SlotRows<'a> {
     {
         let width = usize::from(self.columns.width);
         let from = self.schedule.outs[n] as usize * width;
-        write_row(&mut self.counts, from, row);
+        self.counts.write(from, row);
     }
 }
 
@@ -138,16 +107,4 @@ fn clear_row(row: &mut [u32])
     ensures { (k : ℕ) → slice_index row.new k ≡ 0 }
 {
     row.fill(0);
-}
-
-/// Writes a row from this place on.
-fn write_row(counts: &mut [u32], from: usize, row: &[u32])
-    requires { from + length row.now ≤ length counts.old }
-    ensures row { (k : ℕ) → k < length row.now
-        → get_or counts.new (from + k) 0 ≡ get_or row.now k 0 }
-    ensures before { (n : ℕ) → n < from → get_or counts.new n 0 ≡ get_or counts.old n 0 }
-    ensures after { (n : ℕ) → from + length row.now ≤ n
-        → get_or counts.new n 0 ≡ get_or counts.old n 0 }
-{
-    counts[from..from + row.len()].copy_from_slice(row);
 }

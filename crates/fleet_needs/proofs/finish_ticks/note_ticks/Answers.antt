@@ -1,5 +1,4 @@
-use Rattle.std.proofs.Common.{◌≡◌, ℕ, List, length, replicate, take, drop, ◌++◌, sym, subst, ap, ◌∙◌, arith}
-use Rattle.std.proofs.lemmas.List.{take_at}
+use Rattle.std.proofs.Common.{◌≡◌, ℕ, length, replicate, sym, subst, ap, ◌∙◌, arith}
 use Rattle.fleet_needs.specs.Order.{AreMid}
 use Rattle.fleet_needs.specs.Settled.{IsFinishedBy, AreFinishTicks}
 use Rattle.fleet_needs.proofs.Counting.{mid_first}

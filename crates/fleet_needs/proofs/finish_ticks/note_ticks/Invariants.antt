@@ -1,4 +1,3 @@
-use Rattle.std.proofs.Common.{◌≡◌, length}
 use Rattle.fleet_needs.specs.Order.{AreMid}
 use Rattle.fleet_needs.specs.Settled.{IsFinishedBy, AreFinishTicks}
 use Rattle.fleet_needs.proofs.finish_ticks.note_ticks.Given as goal

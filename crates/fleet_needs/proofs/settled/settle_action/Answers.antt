@@ -15,7 +15,7 @@ use Rattle.fleet_needs.proofs.settled.settle_action.Goals.{in-Some, in-None}
 pub overflow_add-flags : goal.overflow_add-flags
 overflow_add-flags g c =
     let all = flag_within (g.P.ProgramView.program c.args.program.now) c.args.action c.requires.action in
-    let fits = total_awaits_fit (g.P.ProgramView.program c.args.program.now) c.agents.ensures.well_formed in
+    let fits = total_awaits_fit (g.P.ProgramView.program c.args.program.now) c.agents-is_quiet.ensures.well_formed in
     omega (arith, all, fits, c.from.ensures, c.first-first.ensures, c.loop-k-test.true, c.await_count-k-end.ensures)
 
 pub bounds-flags-first : goal.bounds-flags-first

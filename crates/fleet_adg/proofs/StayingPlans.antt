@@ -1,6 +1,7 @@
 -- The programs of plans, in which each agent stays so often after its moves.
-use Rattle.std.proofs.Common.{◌≡◌, ◌↔◌, ℕ, zero, suc, ◌+◌, ◌*◌, ◌<◌, ◌≤◌, Bool, true, false, cond, leb, List, length, Result, Ok, Err, IfOk, refl, sym, ap, subst, ◌∙◌, arith, inl, inr}
+use Rattle.std.proofs.Common.{◌≡◌, ◌↔◌, ℕ, zero, suc, ◌+◌, ◌*◌, ◌<◌, ◌≤◌, Bool, true, false, cond, leb, List, length, Result, Ok, Err, IfOk, sum_by, refl, sym, ap, subst, ◌∙◌, arith, inl, inr}
 use Rattle.std.specs.List.{list_all, range_with_len}
+use Rattle.std.proofs.lemmas.List.Sums.{sum_by-cons}
 use Rattle.std.proofs.lemmas.Bool.{leb-true, le-leb, and_parts, cases_lt}
 use Rattle.fleet_model.specs.declared.geometry.Place.{Place}
 use Rattle.fleet_model.specs.declared.task.Task.{Task}
@@ -43,6 +44,19 @@ each_few plan stays h = list_all_below (few_of plan stays) 0 (length plan) (λ k
 -- none has, if the steps of the plan alone are few enough
 pub few_steps : (plan : Plan) (stays : ℕ) → steps plan + stays ≤ MAX_MOVES → each_has_few plan stays ≡ true
 few_steps plan stays few = each_few plan stays (λ i lt. omega (arith, moves_by-le plan i (steps plan), few))
+
+sum_below : (f : ℕ → ℕ) → ((i : ℕ) → f i ≤ 4096) → (m n : ℕ) → sum_by f (range_with_len m n) ≤ 4096 * n
+sum_below f h m zero = omega arith
+sum_below f h m (suc n) = let rest = sum_below f h (m + 1) n in let one = h m in let all = sum_by-cons f m (range_with_len (m + 1) n) in omega (arith, rest, one, all)
+
+-- nor do all together, if there are so few steps
+pub few_in_all : (plan : Plan) (stays : ℕ) → IsWithinLimits plan → stays ≡ 0 → steps plan ≤ 4096 → all_have_few plan stays ≡ true
+unfolding moves_in_all
+few_in_all plan stays limits none few =
+    let all : moves_in_all plan ≤ 4096 * length plan = sum_below (λ i. moves_by plan i (steps plan)) (λ i. omega (arith, moves_by-le plan i (steps plan), few)) 0 (length plan) in
+    let nothing : length plan * 0 ≡ 0 = omega arith in
+    let e : length plan * stays ≡ 0 = ap (λ (n : ℕ). length plan * n) none ∙ nothing in
+    le-leb (moves_in_all plan + length plan * stays) MAX_MOVES_IN_ALL (omega (arith, all, e, limits.fleet.few_agents))
 
 all_below : (f : ℕ → Bool) (m n : ℕ) → list_all f (range_with_len m n) ≡ true → (k : ℕ) → k < n → f (m + k) ≡ true
 all_below f m zero h k lt = absurd (omega arith)

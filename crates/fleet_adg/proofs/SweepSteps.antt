@@ -1,9 +1,9 @@
 -- The steps of the sweep, as its loops take them.
-use Rattle.std.proofs.Common.{◌≡◌, ◌≢◌, ℕ, zero, suc, ◌+◌, ◌-◌, ◌<◌, ◌≤◌, Bool, true, false, cond, List, [], ◌∷◌, ◌++◌, map, set, take, replicate, filter, filter_map, not, ◌==◌, length, sum_by, get_or, slice_get, All, Some, Ok, inl, inr, refl, sym, ap, ◌∙◌, subst, arith, add-one}
+use Rattle.std.proofs.Common.{◌≡◌, ◌≢◌, ℕ, zero, suc, ◌+◌, ◌-◌, ◌<◌, ◌≤◌, Bool, true, false, cond, List, [], ◌∷◌, ◌++◌, map, set, take, replicate, filter, filter_map, not, ◌==◌, length, get_or, slice_get, All, Some, Ok, inl, inr, refl, sym, ap, ◌∙◌, subst, arith, add-one}
 use Rattle.std.specs.List.{range_with_len, fold}
 use Rattle.std.proofs.lemmas.Bool.{cases_Bool, cases_lt, cases_eq, lt-ltb, le-ltb, both_ways, false_from_ne_true}
 use Rattle.std.proofs.lemmas.List.{length-set, get_or-set_same, get_or-set_other, get_or-replicate, get_or-drop, get_or_past, get_or_at, length-map, length-replicate, length_push, map_push}
-use Rattle.std.proofs.lemmas.List.Sums.{fold_more, sum_by_push}
+use Rattle.std.proofs.lemmas.List.Sums.{fold_more}
 use Rattle.std.proofs.lemmas.List.FromFn.{length-map-range_with_len, get_or-map-range_with_len}
 use Rattle.std.proofs.lemmas.Option.{get_or_from_slice_get}
 use Rattle.fleet_model.specs.declared.geometry.Cell.{Cell}
@@ -35,11 +35,6 @@ moves_more plan i t m c e = add-one m ∙ ap suc e ∙ sym (moves_by-yes plan i 
 
 pub moves_stay : (plan : Plan) (i t m : ℕ) → changes_in plan i t ≡ false → m ≡ moves_by plan i t → m ≡ moves_by plan i (t + 1)
 moves_stay plan i t m c e = e ∙ sym (moves_by-no plan i t c) ∙ ap (moves_by plan i) (sym (add-one t))
-
--- one more agent's moves
-pub total_more : (f : ℕ → ℕ) (i m n : ℕ) → m ≡ sum_by f (indices i) → n ≡ f i → m + n ≡ sum_by f (indices (i + 1))
-total_more f i m n e h =
-    rw add-one ((λ t. e t + h t) ∙ sym (sum_by_push f (range_with_len 0 i) i) ∙ ap (sum_by f) (sym (indices_push i)))
 
 moves_after : (plan : Plan) (i s n : ℕ) → length (get_or plan i []) - 1 ≤ s → moves_by plan i s ≡ moves_by plan i (s + n)
 moves_after plan i s zero h = ap (moves_by plan i) (let z : s ≡ s + 0 = omega arith in z)

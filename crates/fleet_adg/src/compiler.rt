@@ -16,11 +16,14 @@ use crate::fault::CompileFault;
 use crate::growing::Growing;
 use crate::sweep::{actions_of, moves_of};
 use fleet_model::{
-    Action, Actions, AgentProgram, Awaits, Deps, MAX_MOVES, MAX_MOVES_IN_ALL, OutOfMemory, Program,
-    Step,
+    Action, Actions, AgentProgram, Awaits, Deps, MAX_AGENTS, MAX_MOVES, MAX_MOVES_IN_ALL,
+    OutOfMemory, Program, Step,
 };
 use fleet_plan::{Checked, Plan};
 use std::alloc::Global;
+
+/// All agents together do not make too many moves in so many steps.
+const FEW_STEPS: u32 = MAX_MOVES_IN_ALL / MAX_AGENTS as u32;
 
 /// The program of a plan (after the action dependency graph of Hönig et al. 2019): the actions of each agent are its
 /// changes of cell, in order, and each awaits earlier leavings of the cell that it enters.
@@ -101,9 +104,15 @@ fn each_has_few(plan: &Plan, stays: u32) -> bool
 }
 
 /// Whether all agents together do not have too many then.
+#[tactic(auto, using(crate::proofs::StayingPlans::few_in_all))]
 fn all_have_few(plan: &Plan, stays: u32) -> bool
     ensures { result ≡ all_have_few plan.now stays }
 {
+    // So it is whatever the agents do, if there are few enough steps.
+    let are_few = stays == 0 && plan.steps() <= FEW_STEPS;
+    if are_few {
+        return true;
+    }
     let added = u64::from(plan.agents()) * u64::from(stays);
     u64::from(moves_of_all(plan)) + added <= u64::from(MAX_MOVES_IN_ALL)
 }

@@ -2,7 +2,7 @@ use Rattle.std.proofs.Common.{◌≡◌, length, sum_by, ap, ◌∙◌, arith}
 use Rattle.fleet_model.specs.Machine.{indices}
 use Rattle.fleet_plan.specs.Plan.{steps}
 use Rattle.fleet_adg.specs.Compiled.{moves_by, moves_in_all}
-use Rattle.fleet_adg.proofs.SweepSteps.{total_more}
+use Rattle.fleet_plan.proofs.Counted.{total_more}
 use Rattle.fleet_adg.proofs.compiler.moves_of_all.Goals as goal
 
 pub loop-i-preserved : goal.loop-i-preserved

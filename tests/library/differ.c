@@ -62,7 +62,7 @@ static void make_problem(void)
     int cells = 0, block = below(40);
     given.width = 1 + below(SIDE), given.height = 1 + below(SIDE);
     given.map.length = given.scen.length = 0;
-    put(&given.map, "type octile\nheight %d\nwidth %d\nmap\n", given.height, given.width);
+    put(&given.map, "type octile\nheight %d\nwidth %d\nmap\n", below(60) ? given.height : 0, given.width);
     for (int y = 0; y < given.height; y++) {
         for (int x = 0; x < given.width; x++) {
             int is_blocked = (int)below(100) < block;
@@ -74,9 +74,15 @@ static void make_problem(void)
         }
         put(&given.map, "\n");
     }
+    if (below(60) == 0)
+        put(&given.map, ".");
     shuffle(given.starts, cells);
     shuffle(given.goals, cells);
     given.fleet = cells < AGENTS ? cells : 1 + (int)below(AGENTS);
+    if (given.fleet > 1 && below(30) == 0) {
+        int *shared = below(2) ? given.starts : given.goals;
+        shared[1] = shared[0];
+    }
     put(&given.scen, "version 1\n");
     for (int i = 0; i < given.fleet; i++) {
         int s = given.starts[i], g = given.goals[i], w = given.width;
@@ -170,9 +176,11 @@ static void make_inputs(void)
     struct fleet_fault fault;
     struct bytes *plan = &given.plan, *program = &given.program;
     make_problem();
-    given.agents = below(10) ? 0 : 1 + below(AGENTS + 2);
+    given.agents = below(10) ? 0 : below(5) ? 1 + below(AGENTS + 2) : 1025;
     given.horizon = 1 + below(40), given.tries = 1 + below(4);
     given.deps = below(2), given.dwell = below(2) * below(4);
+    if (given.starts[0] != given.goals[0] && below(20) == 0)
+        given.dwell = 1000000;
     if (below(3) == 0 || fleet_plan(given.map.at, given.map.length, given.scen.at, given.scen.length, 0, 40, 20,
             plan->at, MOST, &plan->length, &fault) != FLEET_DONE)
         make_walks();
@@ -180,6 +188,8 @@ static void make_inputs(void)
             plan->length, given.deps, 0, program->at, MOST, &program->length, &fault) != FLEET_DONE)
         make_program();
     make_holds();
+    if (below(40) == 0)
+        plan->length = 0;
     if (below(2)) {
         struct bytes *all[] = {&given.map, &given.scen, plan, program, program, &given.holds};
         mutate(all[below(6)]);

@@ -7,8 +7,8 @@ LOG = crates/fleet/out/build.log
 JOBS ?= $(shell awk -v n="$$(getconf _NPROCESSORS_ONLN)" '/^MemAvailable/ { m = int($$2 / 3e6) } END { if (m > n) m = n; print m < 1 ? 1 : m }' /proc/meminfo)
 # Another program to try: make examples FLEET=PATH
 FLEET = $(BUILT)
-# The library for callers in C: LIBRARY= leaves it out.
-LIBRARY = crates/fleet_c/out/library
+# The library for callers in C. LIBRARY= leaves it out, and so it is where there is no C compiler.
+LIBRARY = $(shell command -v cc > /dev/null && command -v objcopy > /dev/null && echo crates/fleet_c/out/library)
 ARCHIVE = $(LIBRARY:%=%/libfleet.a)
 SOURCES = crates.txt $(shell find crates -path '*/out' -prune -o \( -name '*.rt' -o -name '*.antt' \) -print)
 
@@ -51,6 +51,7 @@ $(BUILT): $(SOURCES)
 	@touch $@
 
 lib: $(ARCHIVE)
+	@[ -n '$(ARCHIVE)' ] || echo 'libfleet is left out: it needs cc, ld, ar and objcopy'
 
 # Proves the crates that libfleet stands on, and builds it.
 $(ARCHIVE): $(SOURCES) include/fleet.h tools/lib.sh

@@ -156,7 +156,8 @@ impl<'a, P: ProgramView, C: ActionCosts> Times<'a, P, C> {
                 number: finished + 1,
             };
             let end = self.end(next);
-            if end > 0 {
+            let is_late = end > 0;
+            if is_late {
                 return finished;
             }
         }

@@ -9,7 +9,7 @@ pub loop-finished-preserved : goal.loop-finished-preserved
 loop-finished-preserved g c =
     let p = g.P.ProgramView.program c.args.self.now.program in
     let cost = g.C.ActionCosts.cost c.args.self.now.costs in
-    let zero_end : c.end-end.result ≡ 0 = omega (arith, c.if-end-gt0.false) in
+    let zero_end : c.end-end.result ≡ 0 = omega (arith, c.if-is_late.false) in
     let here = subst (IsCriticalCost p cost (record { agent = c.args.i; number = c.loop-finished.finished + 1 })) zero_end c.end-end.ensures in
     record {
       free = λ m some l. elim (cases_lt c.loop-finished.finished m) [

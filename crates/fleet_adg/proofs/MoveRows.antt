@@ -55,7 +55,6 @@ length-moves plan t moves is = ap length is ∙ length-map (movers plan t) (move
 pub all_noted : (g : Ground) (plan : Plan) (deps : Deps) (t : ℕ) (l : Leavings) → IsNotedBelow g plan deps t (movers plan t) l → AreLeavingsAt g plan deps (t + 1) l
 all_noted g plan deps t l h = noting_ends g plan deps t l (record {
   kind = h.kind;
-  apart = h.apart;
   rows = λ q a b. h.rows q a b ∙ fold-filter (note_by plan deps q t) (λ i. changes_in plan i t) (λ ws i still. note_by-stays plan deps q t ws i (leaves-still plan q t i still)) (leavings plan deps q t) (under_way plan t);
 })
 

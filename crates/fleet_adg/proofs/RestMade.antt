@@ -1,5 +1,5 @@
 -- What is left of a program, made await by await, action by action and agent by agent.
-use Rattle.std.proofs.Common.{◌≡◌, ℕ, suc, ◌+◌, ◌<◌, ◌≤◌, Bool, true, false, not, List, [], ◌∷◌, ◌++◌, length, map, take, drop, cond, refl, sym, ap, subst, ◌∙◌, arith, add-one, inl, inr, ◌⊎◌}
+use Rattle.std.proofs.Common.{◌≡◌, ℕ, ◌+◌, ◌<◌, ◌≤◌, true, false, not, List, [], ◌∷◌, ◌++◌, length, map, take, drop, refl, sym, ap, subst, ◌∙◌, arith, add-one, inl, inr, ◌⊎◌}
 use Rattle.std.specs.Prelude.{slice_get, Option, Some, None, option_map, filter, IsTrue, ℤ, pos, negsuc}
 use Rattle.std.specs.Option.{option_map_or}
 use Rattle.std.proofs.lemmas.Bool.{cases_lt}
@@ -15,9 +15,8 @@ use Rattle.fleet_model.specs.declared.program.Action.{Action}
 use Rattle.fleet_model.specs.declared.program.AgentProgram.{AgentProgram}
 use Rattle.fleet_model.specs.declared.limits.TheConstants.{MAX_COORDINATE}
 use Rattle.fleet_model.specs.declared.task.Task.{Task}
-use Rattle.fleet_model.specs.Geometry.{place_of}
-use Rattle.fleet_model.specs.Program.{Program, actions_of, moves, step_of, awaits_of, path, IsWellFormed, IsCell}
-use Rattle.fleet_model.specs.Machine.{Configuration, run, IsReached, place_at, count_at, is_met, indices}
+use Rattle.fleet_model.specs.Program.{Program, actions_of, step_of, awaits_of, IsWellFormed, IsCell}
+use Rattle.fleet_model.specs.Machine.{Configuration, run, IsReached, place_at, is_met, indices}
 use Rattle.fleet_model.specs.Accepted.{IsAccepted}
 use Rattle.fleet_model.proofs.Tick.{length-run}
 use Rattle.fleet_grid.specs.Ground.{Ground, is_passable, IsGround, IsNoNumber}

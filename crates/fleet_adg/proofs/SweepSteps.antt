@@ -20,7 +20,7 @@ use Rattle.fleet_adg.specs.declared.leavings.Leavings.{Leavings}
 use Rattle.fleet_grid.specs.Ground.{Ground, IsGround, is_passable, cell_index}
 use Rattle.fleet_plan.specs.Plan.{Plan, cell_of, steps, IsConflictFree}
 use Rattle.fleet_adg.specs.Compiled.{direction, last_below, entry_awaits, changes_in, changes, moves_by, leaves, await_of, last_leaving_by, last_leaving, leavings, action_in, agent_program, compiled, with_stays, compiled_staying, has_few_actions, compiled_staying_if_few}
-use Rattle.fleet_adg.specs.Leavings.{row_of, kind_of, leavings_after, AreRowsApart, AreLeavingsAt}
+use Rattle.fleet_adg.specs.Leavings.{row_of, kind_of, leavings_after, AreLeavingsAt}
 use Rattle.fleet_adg.specs.Sweep.{under_way, actions_by, all_actions_by, agent_from, IsOnMap}
 use Rattle.fleet_plan.specs.UnderWay.{is_under_way}
 use Rattle.fleet_adg.proofs.Basics.{indices_push}
@@ -93,19 +93,17 @@ agent_at plan t agents k e l = let all = subst (All (λ i. i < length plan)) (sy
 -- the table after these agents have made step x
 pub record IsNotedBelow (g : Ground) (plan : Plan) (deps : Deps) (x : ℕ) (done : List ℕ) (l : Leavings) : Type 0 where
   pub kind : kind_of l ≡ deps
-  pub apart : AreRowsApart l
   pub rows : (q : Cell) → q.x < g.width → q.y < g.height → row_of l (cell_index g q) ≡ fold (note_by plan deps q x) (leavings plan deps q x) done
 
 pub noting_begins : (g : Ground) (plan : Plan) (deps : Deps) (x : ℕ) (l : Leavings) → AreLeavingsAt g plan deps x l → IsNotedBelow g plan deps x [] l
-noting_begins g plan deps x l h = record { kind = h.kind; apart = h.apart; rows = h.rows }
+noting_begins g plan deps x l h = record { kind = h.kind; rows = h.rows }
 
 pub noting_ends : (g : Ground) (plan : Plan) (deps : Deps) (x : ℕ) (l : Leavings) → IsNotedBelow g plan deps x (under_way plan x) l → AreLeavingsAt g plan deps (x + 1) l
-noting_ends g plan deps x l h = record { kind = h.kind; apart = h.apart; rows = λ q a b. h.rows q a b ∙ leavings-next plan deps q x }
+noting_ends g plan deps x l h = record { kind = h.kind; rows = λ q a b. h.rows q a b ∙ leavings-next plan deps q x }
 
 pub one_stays : (g : Ground) (plan : Plan) (deps : Deps) (x : ℕ) (agents : List ℕ) (k i : ℕ) (l : Leavings) → k < length agents → i ≡ get_or agents k i → changes_in plan i x ≡ false → IsNotedBelow g plan deps x (take k agents) l → IsNotedBelow g plan deps x (take (k + 1) agents) l
 one_stays g plan deps x agents k i l b e c h = record {
   kind = h.kind;
-  apart = h.apart;
   rows = λ q p r.
       let f = note_by plan deps q x in
       let before = fold f (leavings plan deps q x) (take k agents) in
@@ -116,12 +114,11 @@ pub one_leaves : (g : Ground) (plan : Plan) (deps : Deps) (x : ℕ) (agents : Li
     → ((c d : Cell) → c.x < g.width → d.x < g.width → cell_index g c ≡ cell_index g d → c ≡ d)
     → p.x < g.width → p ≡ cell_of plan i x → w ≡ await_of plan x i
     → k < length agents → i ≡ get_or agents k i → changes_in plan i x ≡ true
-    → kind_of m ≡ kind_of l → row_of m (cell_index g p) ≡ leavings_after (kind_of l) (row_of l (cell_index g p)) w → ((k : ℕ) → k ≢ cell_index g p → row_of m k ≡ row_of l k) → AreRowsApart m
+    → kind_of m ≡ kind_of l → row_of m (cell_index g p) ≡ leavings_after (kind_of l) (row_of l (cell_index g p)) w → ((k : ℕ) → k ≢ cell_index g p → row_of m k ≡ row_of l k)
     → IsNotedBelow g plan deps x (take k agents) l → IsNotedBelow g plan deps x (take (k + 1) agents) m
-one_leaves g plan deps x agents k i l m p w own column at is b e c kind there others rows_apart h =
+one_leaves g plan deps x agents k i l m p w own column at is b e c kind there others h =
     record {
       kind = kind ∙ h.kind;
-      apart = rows_apart;
       rows = λ q a r.
           let f = note_by plan deps q x in
           let before = fold f (leavings plan deps q x) (take k agents) in
@@ -209,10 +206,9 @@ leavings-zero plan Deps.All q = none_of 0 (length plan)
     none_of a (suc n) = none_of (a + 1) n
 leavings-zero plan Deps.Last q = refl
 
-pub sweep_begins : (g : Ground) (plan : Plan) (deps : Deps) (l : Leavings) → kind_of l ≡ deps → AreRowsApart l → ((place : ℕ) → row_of l place ≡ []) → AreLeavingsAt g plan deps 0 l
-sweep_begins g plan deps l kind apart rows = record {
+pub sweep_begins : (g : Ground) (plan : Plan) (deps : Deps) (l : Leavings) → kind_of l ≡ deps → ((place : ℕ) → row_of l place ≡ []) → AreLeavingsAt g plan deps 0 l
+sweep_begins g plan deps l kind rows = record {
   kind = kind;
-  apart = apart;
   rows = λ q a b. rows (cell_index g q) ∙ sym (leavings-zero plan deps q);
 }
 

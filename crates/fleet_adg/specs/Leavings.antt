@@ -1,7 +1,7 @@
 -- A table that has for each cell of a map the leavings of it so far.
-use Rattle.std.specs.Prelude.{◌≡◌, ◌≢◌, ℕ, ◌<◌, ◌≤◌, ◌==◌, nat_lt, if◌then◌else◌, List, [], ◌∷◌, length, get_or, option_map, option_to_list}
+use Rattle.std.specs.Prelude.{◌≡◌, ℕ, ◌<◌, ◌==◌, nat_lt, if◌then◌else◌, List, [], ◌∷◌, option_map, option_to_list}
 use Rattle.fleet_grid.specs.Table.{value_in}
-use Rattle.fleet_adg.specs.declared.row_table.RowTable.{RowTable}
+use Rattle.fleet_grid.specs.Lists.{list_at, key_of_number}
 use Rattle.fleet_model.specs.declared.geometry.Cell.{Cell}
 use Rattle.fleet_model.specs.declared.program.Await.{Await}
 use Rattle.fleet_model.specs.declared.deps.Deps.{Deps}
@@ -15,22 +15,9 @@ use Rattle.fleet_adg.specs.Compiled.{leavings}
 abbrev pub await_for : Leaving → Await
 await_for l = record { agent = l.agent; count = l.number }
 
--- the row of a place: that of its number, counted from 1
-abbrev pub row_in : RowTable → ℕ → List Await
-row_in t place = get_or ([] ∷ t.rows.items) (value_in t.numbers place) []
-
--- the numbers are those of rows, and no two places have one row
-pub record HasRowsApart (t : RowTable) : Type 0 where
-  pub few : (place : ℕ) → value_in t.numbers place ≤ length t.rows.items
-  pub apart : (k place : ℕ) → k ≢ place → value_in t.numbers k ≡ value_in t.numbers place → value_in t.numbers k ≡ 0
-
-abbrev pub AreRowsApart : Leavings → Type 0
-AreRowsApart (Leavings.All rows) = HasRowsApart rows
-AreRowsApart (Leavings.Last last) = Unit
-
 -- the leavings of the cell at a place
 abbrev pub row_of : Leavings → ℕ → List Await
-row_of (Leavings.All rows) place = row_in rows place
+row_of (Leavings.All rows) place = list_at rows (key_of_number place)
 row_of (Leavings.Last last) place = option_to_list (option_map await_for (value_in last place))
 
 -- which leavings the table keeps
@@ -51,5 +38,4 @@ leavings_after Deps.Last ws w = w ∷ []
 -- the table has for each cell of the map the leavings before time t of the plan that an action awaits
 pub record AreLeavingsAt (g : Ground) (plan : Plan) (deps : Deps) (t : ℕ) (l : Leavings) : Type 0 where
   pub kind : kind_of l ≡ deps
-  pub apart : AreRowsApart l
   pub rows : (q : Cell) → q.x < g.width → q.y < g.height → row_of l (cell_index g q) ≡ leavings plan deps q t

@@ -1,11 +1,12 @@
 //! The leavings of the cells of a map so far.
 
 ghost use Rattle.std.specs.Prelude.{◌≡◌, ◌≢◌, ℕ, [], ◌∷◌, ◌++◌, OnOk, IfOk, not, ◌==◌, filter, option_map, option_to_list};
-ghost use Rattle.fleet_adg.specs.Leavings.{await_for, row_of, kind_of, leavings_after, AreRowsApart};
+ghost use Rattle.fleet_grid.specs.Lists.{list_at, key_of_number};
+ghost use Rattle.fleet_adg.specs.Leavings.{await_for, row_of, kind_of, leavings_after, with_leaving};
 
 use crate::growing::{Entry, Growing};
-use crate::row_table::RowTable;
-use fleet_grid::Table;
+use crate::row::note;
+use fleet_grid::{Key, Lists, Table};
 use fleet_model::{Await, Deps, OutOfMemory, Step};
 use std::alloc::{AllocError, Global};
 
@@ -34,7 +35,7 @@ impl Leaving {
 #[derive(Drop)]
 pub(crate) enum Leavings {
     /// The last leaving by each agent that has left the cell.
-    All(RowTable),
+    All(Lists<Await>),
     /// The last leaving by whichever agent.
     Last(Table<Option<Leaving>>),
 }
@@ -44,26 +45,26 @@ impl Leavings {
     pub(crate) fn none(alloc: Global, deps: Deps) -> Leavings
         ensures kind { kind_of result ≡ deps }
         ensures rows { (place : ℕ) → row_of result place ≡ [] }
-        ensures apart { AreRowsApart result }
     {
         match deps {
-            Deps::All => Leavings::All(RowTable::new(alloc)),
+            Deps::All => Leavings::All(Lists::new(alloc)),
             Deps::Last => Leavings::Last(Table::new(alloc, None)),
         }
     }
 
     /// Notes a leaving of the cell at `place`.
-    pub(crate) fn note(&mut self, place: usize, leaving: Leaving) -> Result<(), AllocError>
-        requires { AreRowsApart self.old }
+    pub(crate) fn note(&mut self, place: usize, leaving: Leaving) -> Result<(), OutOfMemory>
         ensures kind { OnOk result (kind_of self.new ≡ kind_of self.old) }
         ensures here { OnOk result (row_of self.new place
             ≡ leavings_after (kind_of self.old) (row_of self.old place) (await_for leaving)) }
         ensures others { OnOk result ((k : ℕ) → k ≢ place → row_of self.new k ≡ row_of self.old k) }
-        ensures apart { OnOk result (AreRowsApart self.new) }
     {
         match self {
-            Leavings::All(rows) => rows.note(place, leaving.as_await()),
-            Leavings::Last(last) => last.set(place, Some(leaving)),
+            Leavings::All(rows) => note_in(rows, place, leaving.as_await()),
+            Leavings::Last(last) => {
+                last.set(place, Some(leaving))?;
+                Ok(())
+            }
         }
     }
 
@@ -77,7 +78,6 @@ impl Leavings {
         awaits: &mut Vec<Await>,
         actions: &mut Growing,
     ) -> Result<(), OutOfMemory>
-        requires { AreRowsApart self.now }
         ensures { OnOk result (actions.new ≡ actions.old
             ++ record {
               step = step;
@@ -86,7 +86,7 @@ impl Leavings {
     {
         match self {
             Leavings::All(rows) => {
-                list_others(rows.row(place), own, awaits)?;
+                list_others(rows.list(Key::of_number(place)), own, awaits)?;
                 actions.push_any(step, awaits)
             }
             Leavings::Last(last) => {
@@ -95,6 +95,17 @@ impl Leavings {
             }
         }
     }
+}
+
+/// Notes a leaving of the cell at `place` in the row of that.
+fn note_in(rows: &mut Lists<Await>, place: usize, leaving: Await) -> Result<(), OutOfMemory>
+    ensures here { OnOk result (list_at rows.new (key_of_number place)
+        ≡ with_leaving (list_at rows.old (key_of_number place)) leaving) }
+    ensures others { OnOk result ((k : ℕ) → k ≢ place
+        → list_at rows.new (key_of_number k) ≡ list_at rows.old (key_of_number k)) }
+{
+    rows.change(Key::of_number(place), |row| note(row, leaving))??;
+    Ok(())
 }
 
 /// The leaving, unless it is by agent `own`.

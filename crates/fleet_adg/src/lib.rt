@@ -8,7 +8,6 @@ mod laws;
 mod leavings;
 mod remaining;
 mod row;
-mod row_table;
 mod sweep;
 mod thin_fault;
 mod thinner;

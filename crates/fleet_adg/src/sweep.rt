@@ -183,7 +183,7 @@ fn note_leavings(
     moves: &[Move],
     actions: &[Growing],
     leavings: &mut Leavings,
-) -> Result<(), AllocError>
+) -> Result<(), OutOfMemory>
     requires on_map { IsOnMap at.now.grid.now at.now.plan.now }
     requires time { at.now.time < MAX_HORIZON }
     requires moves { moves.now ≡ moves_in at.now.plan.now at.now.time }

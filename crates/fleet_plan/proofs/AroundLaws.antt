@@ -30,9 +30,6 @@ around-none ahead first agents ring =
     record { passed = []; led = refl; least_passed = tt; least_first = omega arith; among = reaches-itself ahead first; next = s.0; rest = s.1; left = s.2; few = omega (arith, s.3) }
 
 module _ (ahead : List (Option ℕ)) (first agent least steps : ℕ) (w : IsAround ahead first agent least steps) where
-  pub around-ahead : ahead_of ahead agent ≡ Some w.next
-  around-ahead = w.left.0
-
   pub around-back : ahead_of ahead agent ≡ Some first → (j : ℕ) → LeadsTo ahead first j → least ≤ j
   around-back back = all_round ahead (λ m. least ≤ m) first w.passed agent w.led back w.least_first w.least_passed
 
@@ -64,6 +61,3 @@ module _ (ahead : List (Option ℕ)) (first agent least steps : ℕ) (w : IsArou
         left = subst (λ z. Leads ahead z (k ∷ rest) first) same f;
         few = omega arith;
       }
-
-  pub around-all : length ahead ≤ steps → ⊥
-  around-all h = omega (arith, w.few)

@@ -126,9 +126,6 @@ module _ (ahead old walks : List (Option ℕ)) (i first agent : ℕ) (w : IsWalk
     pub end-walked : IsWalked walks first ⊎ (ahead_of ahead first ≡ None)
     end-walked = elim w.started [ inl s ↦ inr (ap (ahead_of ahead) (sym s) ∙ ends) | inr h ↦ inl h ]
 
-    pub end-kept : (k : ℕ) → IsWalked old k → IsWalked walks k
-    end-kept k h = (h.0, w.kept k h.0 h.1)
-
     pub end-none : (k : ℕ) → IsWalked walks k → IsOnRing ahead k → IsWalked old k
     end-none k h r = elim (w.old_or_new k h.0 h.1) [
       | inl g ↦ (h.0, g)
@@ -157,9 +154,6 @@ module _ (ahead old walks : List (Option ℕ)) (i first agent : ℕ) (w : IsWalk
 
     pub stop-walked : IsWalked walks first ⊎ (ahead_of ahead first ≡ None)
     stop-walked = inl (elim w.started [ inl s ↦ subst (IsWalked walks) s before | inr h ↦ h ])
-
-    pub stop-kept : (k : ℕ) → IsWalked old k → IsWalked walks k
-    stop-kept k h = (h.0, w.kept k h.0 h.1)
 
     -- in this walk
     pub stop-ring : walk_of walks agent ≡ Some i → IsOnRing ahead agent

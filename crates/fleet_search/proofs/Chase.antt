@@ -1,12 +1,13 @@
 -- The agents that make room for one another in a step, followed one by one.
-use Rattle.std.proofs.Common.{◌≡◌, ◌≢◌, ℕ, ◌+◌, ◌<◌, ◌≤◌, Bool, true, false, IsTrue, ◌==◌, List, [], ◌∷◌, ◌++◌, length, get_or, ◌↔◌, inl, inr, sym, ap, ◌∙◌, subst, arith}
+use Rattle.std.proofs.Common.{◌≡◌, ◌≢◌, ℕ, ◌+◌, ◌<◌, ◌≤◌, ◌⊎◌, Bool, true, false, IsTrue, ◌==◌, List, [], ◌∷◌, ◌++◌, length, get_or, ◌↔◌, inl, inr, sym, ap, ◌∙◌, subst, arith}
 use Rattle.std.specs.List.{list_any}
 use Rattle.std.specs.Prelude.{Option, None, Some, is_some, not, IfNone, IfSome}
 use Rattle.std.proofs.lemmas.Bool.{cases_eq, eqb-true, or_cases}
 use Rattle.std.proofs.lemmas.List.{get_or_read}
 use Rattle.std.proofs.lemmas.Map.Steps.{length-le_from_distinct_below}
 use Rattle.fleet_model.specs.declared.geometry.Cell.{Cell}
-use Rattle.fleet_model.specs.Geometry.{place_of}
+use Rattle.fleet_model.specs.Geometry.{place_of, is_same_cell}
+use Rattle.fleet_model.proofs.Cells.{is_same_cell-true, is_same_cell-false}
 use Rattle.fleet_plan.specs.Plan.{Plan, cell_at, cell_of}
 use Rattle.fleet_search.specs.Way.{FitTogether, Follow, StepFits}
 use Rattle.fleet_search.specs.Reserved.{StandsOn, IsUnoccupied, LeadsBack}
@@ -118,3 +119,17 @@ of_none' (Some x) b e f h = absurd (let z : true ≡ false = e ∙ ap not f in c
 pub of_some : {P : ℕ → Type 0} (o : Option ℕ) (b : Bool) → b ≡ is_some o → b ≡ true → IfSome o P → (x : ℕ) × P x
 of_some None b e f h = absurd (cc)
 of_some (Some x) b e f h = (x, h)
+
+-- ---- cells that were compared, whichever stood first
+
+pub same_cells : (a b : Cell) (r : Bool) → (r ≡ is_same_cell a b) ⊎ (r ≡ is_same_cell b a) → r ≡ true → a ≡ b
+same_cells a b r o t = elim o [
+  | inl e ↦ is_same_cell-true a b (sym e ∙ t)
+  | inr e ↦ sym (is_same_cell-true b a (sym e ∙ t))
+]
+
+pub other_cells : (a b : Cell) (r : Bool) → (r ≡ is_same_cell a b) ⊎ (r ≡ is_same_cell b a) → r ≡ false → a ≢ b
+other_cells a b r o f = λ s. elim o [
+  | inl e ↦ is_same_cell-false a b (sym e ∙ f) s
+  | inr e ↦ is_same_cell-false b a (sym e ∙ f) (sym s)
+]

@@ -1,11 +1,6 @@
 -- Labels of safe intervals.
 use Rattle.std.proofs.Common.{◌≡◌, ◌≢◌, ℕ, zero, suc, ◌+◌, ◌≤◌, ◌==◌, ◌⊎◌, cond, inl, inr, refl, sym, ap, ◌∙◌, arith, Some, None, Option}
-use Rattle.std.specs.Prelude.{Vec, get_or}
-use Rattle.std.specs.declared.alloc.Global.{Global}
 use Rattle.std.proofs.lemmas.Bool.{cases_eq, eq-eqb, eqb-true, false_from_ne_true}
-use Rattle.fleet_grid.specs.Table.{value_in}
-use Rattle.fleet_grid.specs.Lists.{list_at, key_of_number, IsChangedBy}
-use Rattle.fleet_grid.proofs.ListLaws.{keys-differ}
 use Rattle.fleet_search.specs.declared.labels.IntervalLabel.{IntervalLabel}
 use Rattle.fleet_search.specs.declared.labels.Labels.{Labels}
 use Rattle.fleet_search.specs.Labels.{no_interval_label, later_in, interval_label, earliest_in, AreLabels, IsLabelPut, IsLabelSet}
@@ -49,26 +44,3 @@ next_search l m were later same = (
       let p = were c n in
       absurd (omega (arith, e, s, p, later)))),
 )
-
--- the label is put in the list of a cell, and the others there stay
-pub later_put : (old new : Labels) (cell place : ℕ) (label : IntervalLabel) (leaves : Vec IntervalLabel Global → Vec IntervalLabel Global → Type 0) (b : IsChangedBy leaves old.later new.later (key_of_number cell)) → new.search ≡ old.search → new.first ≡ old.first → get_or b.after.items place no_interval_label ≡ label → ((n : ℕ) → n ≢ place → get_or b.after.items n no_interval_label ≡ get_or b.before.items n no_interval_label) → IsLabelPut old new cell (suc place) label
-later_put old new cell place label leaves b number first here others = record {
-  search = number;
-  set = ap (λ z. get_or z place no_interval_label) b.left ∙ here;
-  others = other;
-}
-  where
-    other : (c n : ℕ) → (c ≢ cell) ⊎ (n ≢ suc place) → interval_label new c n ≡ interval_label old c n
-    other c zero d = ap (λ z. value_in {V = IntervalLabel} z c) first
-    other c (suc n) d = elim (cases_eq c cell) [
-      | inr ne ↦ ap (λ z. get_or z n no_interval_label) (b.others (key_of_number c) (keys-differ c cell ne))
-      | inl s ↦ elim d [
-        | inl ne ↦ absurd (ne s)
-        | inr ne ↦
-            ap (λ z. get_or (list_at new.later (key_of_number z)) n no_interval_label) s
-            ∙ ap (λ z. get_or z n no_interval_label) b.left
-            ∙ others n (λ e. ne (ap suc e))
-            ∙ ap (λ z. get_or z n no_interval_label) b.lent
-            ∙ ap (λ z. get_or (list_at old.later (key_of_number z)) n no_interval_label) (sym s)
-      ]
-    ]

@@ -95,7 +95,8 @@ impl Reservations {
                 None => return false,
                 Some(agent) => {
                     let entered = self.paths[agent].cell(time + 1);
-                    if entered == cell {
+                    let stays = entered == cell;
+                    if stays {
                         return false;
                     }
                     cell = entered;

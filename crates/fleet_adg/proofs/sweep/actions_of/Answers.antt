@@ -10,7 +10,7 @@ sweep-requires-clause-on_map c =
 pub sweep-requires-clause-leavings : goal.sweep-requires-clause-leavings
 sweep-requires-clause-leavings c =
     let none = c.none-leavings in
-    sweep_begins c.grid-grid.result.now c.plan-plan.result.now (kind_of none.result) none.result refl none.ensures.apart none.ensures.rows
+    sweep_begins c.grid-grid.result.now c.plan-plan.result.now (kind_of none.result) none.result refl none.ensures.rows
 
 pub sweep-requires-clause-actions : goal.sweep-requires-clause-actions
 sweep-requires-clause-actions c =

@@ -66,7 +66,6 @@ loop-one-preserved c =
     c.in_ok-note.ensures.kind
     (rw c.cell_index.ensures.value at c.in_ok-note.ensures.here)
     (rw c.cell_index.ensures.value at c.in_ok-note.ensures.others)
-    c.in_ok-note.ensures.apart
     c.loop-one.invariant
 
 pub returns : goal.returns

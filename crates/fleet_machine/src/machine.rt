@@ -466,6 +466,7 @@ impl Machine {
     }
 
     /// Flags agent `i` anew, which stands in no list, and puts it into the one in which it belongs.
+    #[inline(always)]
     fn judge<P: ProgramView>(&mut self, program: &P, i: u16)
         requires well_formed { IsWellFormed (P.program program.now) }
         requires agents { length self.old.configuration ≡ length (P.program program.now) }
@@ -648,6 +649,7 @@ impl Machine {
     }
 
     /// Agent `i` finishes its next action, up to whose step it has read.
+    #[inline(always)]
     fn finish_action<P: ProgramView>(&mut self, program: &P, i: u16)
         requires well_formed { IsWellFormed (P.program program.now) }
         requires agent { i < length (P.program program.now) }

@@ -75,6 +75,10 @@ module _ {S : Type 0} (m : IndexMap ℕ (List ℕ) S) where
       subst (λ (i : ℕ). option_map (λ (x : ℕ × List ℕ). x.0) (slice_get m.entries i) ≡ Some number) found.or_len
       (first_key number m.entries (omega (arith, found.or_len, found.within)))
 
+  -- an entry with that number stands there
+  pub shown_at : (number slot : ℕ) (e : ℕ × List ℕ) → Some e ≡ slice_get m.entries slot → e.0 ≡ number → IsSquareAt m number slot
+  shown_at number slot e here same = ap (option_map (λ (x : ℕ × List ℕ). x.0)) (sym here) ∙ ap (λ (n : ℕ). Some n) same
+
   -- a square is written where its number stands
   pub written_at : (slot number key : ℕ) (square written : List ℕ) → IsUnique nat_eq m → slice_get m.entries slot ≡ Some (key, square) → IsSquareAt m number slot → Updates nat_eq m (with_value_at m slot written) number (Some written)
   written_at slot number key square written unique here at =

@@ -1,7 +1,8 @@
 -- One action further along a path, and one agent more.
-use Rattle.std.proofs.Common.{◌≡◌, ℕ, ℤ, pos, negsuc, ◌+◌, ◌<◌, ◌<ℤ◌, ◌≤◌, length, Bool, Option, Some, None, false, sym, ◌∙◌, subst, arith, IsTrue}
+use Rattle.std.proofs.Common.{◌≡◌, ℕ, ℤ, pos, negsuc, ◌+◌, ◌<◌, ◌<ℤ◌, ◌≤ℤ◌, ◌≤◌, ◌⊎◌, inl, inr, refl, length, Bool, Option, Some, None, false, sym, ◌∙◌, subst, arith, IsTrue}
 use Rattle.std.proofs.lemmas.Int.{ints}
-use Rattle.fleet_grid.specs.Ground.{IsNoNumber}
+use Rattle.fleet_grid.specs.Ground.{Ground, IsGround, is_passable, passable_at}
+use Rattle.fleet_grid.proofs.StoredLaws.{off_map}
 use Rattle.std.specs.Prelude.{option_map}
 use Rattle.std.specs.Option.{option_or}
 use Rattle.fleet_model.specs.declared.geometry.Cell.{Cell}
@@ -42,11 +43,14 @@ one_agent_more p Right i found n told before here inside e = subst (AnswersFirst
     go None None all h = agents_more Right (moves p) i all h
     go None (Some m) all h = (omega arith, record { agent = inside; action = h; others = all })
 
--- numbers that no cell can have
-pub no_number_below : (x : ℤ) → x <ℤ pos 0 → IsNoNumber x
-no_number_below (pos n) l = absurd (omega (arith, ints, l))
-no_number_below (negsuc n) l = tt
-
-pub no_number_above : (x : ℤ) → pos 65535 <ℤ x → IsNoNumber x
-no_number_above (pos n) l = omega (arith, ints, l)
-no_number_above (negsuc n) l = absurd (omega (arith, ints, l))
+-- a place that is beyond the first or the last column or row of a map is not passable
+pub beyond_map : (g : Ground) (p : Place) → IsGround g → (p.x <ℤ pos 0) ⊎ (pos g.width ≤ℤ p.x) ⊎ (p.y <ℤ pos 0) ⊎ (pos g.height ≤ℤ p.y) → is_passable g p ≡ false
+beyond_map g p ground beyond = go p.x p.y beyond
+  where
+    go : (x y : ℤ) → (x <ℤ pos 0) ⊎ (pos g.width ≤ℤ x) ⊎ (y <ℤ pos 0) ⊎ (pos g.height ≤ℤ y) → passable_at g x y ≡ false
+    go (pos x) (pos y) (inl l) = absurd (omega (arith, ints, l))
+    go (pos x) (pos y) (inr (inl l)) = off_map g x y ground (inl (omega (arith, ints, l)))
+    go (pos x) (pos y) (inr (inr (inl l))) = absurd (omega (arith, ints, l))
+    go (pos x) (pos y) (inr (inr (inr l))) = off_map g x y ground (inr (omega (arith, ints, l)))
+    go (pos x) (negsuc y) l = refl
+    go (negsuc x) y l = refl

@@ -1,6 +1,6 @@
 //! The last visit of each cell so far, in squares of cells: most moves stay in the square that was looked at last.
 
-ghost use Rattle.std.specs.Prelude.{◌≡◌, ◌≢◌, ◌≤◌, ◌<◌, get_or, Some, None, IfOk, OnOk};
+ghost use Rattle.std.specs.Prelude.{◌≡◌, ◌≢◌, ◌≤◌, ◌<◌, get_or, Some, None, IfOk, OnOk, true};
 ghost use Rattle.fleet_model.specs.declared.geometry.Cell.{Cell};
 ghost use Rattle.fleet_model.specs.declared.limits.TheConstants.{MAX_AGENTS, MAX_MOVES};
 ghost use Rattle.fleet_model.specs.Program.{IsCell};
@@ -9,7 +9,7 @@ ghost use Rattle.fleet_verify.specs.Squares.{square_of, place_in_square, visit_k
 
 use fleet_model::{Cell, MAX_AGENTS, MAX_COORDINATE, OutOfMemory, Visit};
 use indexmap::IndexMap;
-use std::alloc::Global;
+use std::alloc::{AllocError, Global};
 
 /// How many cells a square is wide, and high.
 const SIDE: u32 = 4;
@@ -19,6 +19,12 @@ const CELLS: usize = 16;
 
 /// How many squares lie side by side at most.
 const ACROSS: u32 = (MAX_COORDINATE + 1) / SIDE;
+
+/// Of how many squares, side by side and one below the other, each has a hint of its own.
+const HINTS_ACROSS: u32 = 128;
+
+/// How many hints there are.
+const HINTS: usize = (HINTS_ACROSS * HINTS_ACROSS) as usize;
 
 /// No square has this number.
 const NO_SQUARE: u32 = u32::MAX;
@@ -34,6 +40,9 @@ pub struct LastVisits {
     /// The number of the square of the last visit of all, and where it stands among them.
     recent: u32,
     slot: usize,
+    /// Where squares may stand that were looked for before; nothing is taken from a hint without a look. Empty before
+    /// the first of them.
+    hints: Vec<u32>,
     ghost there: { recent ≢ NO_SQUARE → IsSquareAt squares recent slot },
 }
 
@@ -48,6 +57,7 @@ impl LastVisits {
             squares: IndexMap::new(alloc),
             recent: NO_SQUARE,
             slot: 0,
+            hints: Vec::new(alloc),
         }
     }
 
@@ -65,7 +75,7 @@ impl LastVisits {
         let number = number_of_square(cell);
         if number != self.recent {
             self.recent = NO_SQUARE;
-            self.slot = find_square(&mut self.squares, number)?;
+            self.slot = find_square(&mut self.squares, &mut self.hints, number)?;
             self.recent = number;
         }
         Ok(replace_in(&mut self.squares, self.slot, cell, visit))
@@ -151,9 +161,66 @@ fn exchange(square: &mut [u32; CELLS], place: usize, number: u32) -> u32
     before
 }
 
+/// The place of the hint for this square.
+fn hint_place(number: u32) -> usize {
+    let row = number / ACROSS % HINTS_ACROSS;
+    let column = number % HINTS_ACROSS;
+    (row * HINTS_ACROSS + column) as usize
+}
+
+/// Whether the square with this number stands there.
+#[inline(always)]
+#[tactic(auto, using(crate::proofs::LastVisits::shown_at))]
+fn stands_at(squares: &IndexMap<u32, [u32; CELLS]>, number: u32, slot: usize) -> bool
+    ensures { result ≡ true → IsSquareAt squares.now number slot }
+{
+    match squares.get_index(slot) {
+        Some((found, _)) => *found == number,
+        None => false,
+    }
+}
+
 /// Where the square with this number stands. If there was none, it has no visits.
 #[inline(never)]
-fn find_square(squares: &mut IndexMap<u32, [u32; CELLS]>, number: u32) -> Result<usize, OutOfMemory>
+fn find_square(
+    squares: &mut IndexMap<u32, [u32; CELLS]>,
+    hints: &mut Vec<u32>,
+    number: u32,
+) -> Result<usize, OutOfMemory>
+    ensures at { IfOk result (IsSquareAt squares.new number) }
+    ensures same { OnOk result ((c : Cell) → last_in squares.new c ≡ last_in squares.old c) }
+{
+    if let Some(&hint) = hints.get(hint_place(number)) {
+        let slot = hint as usize;
+        if stands_at(squares, number, slot) {
+            return Ok(slot);
+        }
+    }
+    let slot = look_up_square(squares, number)?;
+    note_hint(hints, number, slot)?;
+    Ok(slot)
+}
+
+/// Notes where the square with this number stands.
+fn note_hint(hints: &mut Vec<u32>, number: u32, slot: usize) -> Result<(), AllocError> {
+    if hints.is_empty() {
+        hints.resize(HINTS, 0)?;
+    }
+    let Ok(slot) = u32::try_from(slot) else {
+        return Ok(());
+    };
+    if let Some(hint) = hints.get_mut(hint_place(number)) {
+        *hint = slot;
+    }
+    Ok(())
+}
+
+/// Where the square with this number stands, without a hint. If there was none, it has no visits.
+#[inline(never)]
+fn look_up_square(
+    squares: &mut IndexMap<u32, [u32; CELLS]>,
+    number: u32,
+) -> Result<usize, OutOfMemory>
     ensures at { IfOk result (IsSquareAt squares.new number) }
     ensures same { OnOk result ((c : Cell) → last_in squares.new c ≡ last_in squares.old c) }
 {

@@ -8,7 +8,7 @@ ghost use Rattle.fleet_verify.specs.Faults.{AwaitsRight};
 ghost use Rattle.fleet_verify.specs.Path.{AnswersFirst, IsPosition, IsPathJudged};
 
 use fleet_grid::Grid;
-use fleet_model::{Cell, Place, ProgramView, Step};
+use fleet_model::{Cell, Dir, Place, ProgramView, Step};
 
 /// The judgement of an agent's path.
 #[derive(Clone, Copy)]
@@ -107,11 +107,42 @@ pub fn cell_after(grid: &Grid, cell: Cell, step: Step) -> Option<Cell>
         × IsTrue (is_passable grid.now (place_of next))) }
     ensures none { IfNone result (is_passable grid.now (stepped (place_of cell) step) ≡ false) }
 {
-    cell_at(grid, Place::from(cell).after(step))
+    let place = Place {
+        x: column_after(cell, step),
+        y: row_after(cell, step),
+    };
+    cell_at(grid, place)
 }
 
-/// The greatest number that a cell can have.
-const MOST: i32 = u16::MAX as i32;
+/// The column after a step from the cell.
+#[inline(always)]
+fn column_after(cell: Cell, step: Step) -> i32
+    ensures { result ≡ (stepped (place_of cell) step).x }
+{
+    let x = i32::from(cell.x);
+    match step {
+        Step::Go(Dir::North) => x,
+        Step::Go(Dir::East) => x + 1,
+        Step::Go(Dir::South) => x,
+        Step::Go(Dir::West) => x - 1,
+        Step::Dwell => x,
+    }
+}
+
+/// The row after a step from the cell.
+#[inline(always)]
+fn row_after(cell: Cell, step: Step) -> i32
+    ensures { result ≡ (stepped (place_of cell) step).y }
+{
+    let y = i32::from(cell.y);
+    match step {
+        Step::Go(Dir::North) => y - 1,
+        Step::Go(Dir::East) => y,
+        Step::Go(Dir::South) => y + 1,
+        Step::Go(Dir::West) => y,
+        Step::Dwell => y,
+    }
+}
 
 /// The cell at a place, if it is on the map and passable.
 #[inline(always)]
@@ -120,10 +151,14 @@ fn cell_at(grid: &Grid, place: Place) -> Option<Cell>
         × IsTrue (is_passable grid.now place)) }
     ensures none { IfNone result (is_passable grid.now place ≡ false) }
 {
-    // A map is no wider and no higher than the numbers of a cell go.
-    let _width = grid.width();
+    let width = i32::from(grid.width());
+    let height = i32::from(grid.height());
     let Place { x, y } = place;
-    if x < 0 || y < 0 || x > MOST || y > MOST {
+    let is_left = x < 0;
+    let is_right = x >= width;
+    let is_above = y < 0;
+    let is_below = y >= height;
+    if is_left || is_right || is_above || is_below {
         return None;
     }
     let cell = Cell {

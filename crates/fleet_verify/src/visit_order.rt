@@ -171,6 +171,7 @@ fn comes_after<P: ProgramView>(program: &P, first: Visit, second: Visit) -> bool
 }
 
 /// Whether the action that leaves the visit is among so many of its agent's actions.
+#[inline(always)]
 pub fn is_left_by<P: ProgramView>(program: &P, visit: Visit, count: u32) -> bool
     requires { visit.agent < length (P.program program.now) }
     ensures { IsTrue result ↔ (leaving (P.program program.now) visit).number ≤ count }
@@ -178,6 +179,14 @@ pub fn is_left_by<P: ProgramView>(program: &P, visit: Visit, count: u32) -> bool
     if program.never_stays() {
         return visit.position < count;
     }
+    is_seen_leaving(program, visit, count)
+}
+
+/// The same, by a look at each of these actions from the visit on.
+fn is_seen_leaving<P: ProgramView>(program: &P, visit: Visit, count: u32) -> bool
+    requires { visit.agent < length (P.program program.now) }
+    ensures { IsTrue result ↔ (leaving (P.program program.now) visit).number ≤ count }
+{
     let moves = program.moves(visit.agent);
     for finished in visit.position..count {
         if finished >= moves {

@@ -1,6 +1,6 @@
 use Rattle.std.proofs.Common.{◌≤◌, ◌<◌}
 use Rattle.fleet_model.specs.Visit.{next_move}
-use Rattle.fleet_verify.proofs.visit_order.is_left_by.Given as goal
+use Rattle.fleet_verify.proofs.visit_order.is_seen_leaving.Given as goal
 
 abbrev pub invariant-loop-finished : goal.invariant-loop-finished
 invariant-loop-finished g l = record {

@@ -13,4 +13,5 @@ pub mod TraceLemmas
 pub mod Finished
 pub mod Patched
 pub mod Lines
+pub mod Resized
 mod Texts

@@ -213,14 +213,14 @@ pub record IsRewritten (m : MachineState) (from : ℕ) (row begins : List ℕ) :
 pub beside_itself : (q : Place) → IsBeside q q
 beside_itself q = inl (refl, record { low = omega (arith, ints); high = omega (arith, ints) })
 
-pub rewritten_next : (m : MachineState) (from i : ℕ) (row row' begins : List ℕ) → IsRewritten m from row begins → IsNextFrom m.moving from i → i < length m.configuration
-    → IsWrittenOver (standing_at m.configuration i).place (get_or begins i 0) (get_or begins (i + 1) 0) row row' → IsRewritten m (i + 1) row' begins
-rewritten_next m from i row row' begins h next agent over =
+pub rewritten_next : (m : MachineState) (from i : ℕ) (row row' begins begins' : List ℕ) (h : IsRewritten m from row begins) → IsNextFrom m.moving from i → i < length m.configuration
+    → IsLineKept (set h.now i (standing_at m.configuration i)) row' begins' → IsRewritten m (i + 1) row' begins'
+rewritten_next m from i row row' begins begins' h next agent kept =
     let s = standing_at m.configuration i in
     let within : i < length h.now = omega (arith, h.agents) in
     record {
       now = set h.now i s;
-      kept = overwritten h.now row row' begins i s h.kept within over;
+      kept = kept;
       agents = omega (arith, length-set h.now i s, h.agents);
       same = λ j none. elim (eq_or_not j i) [
         | inl e ↦ rw e (get_or-set_same h.now i s _ within)
@@ -241,16 +241,20 @@ pub really_over : (b : Bool) (q : Place) (at end : ℕ) (row row' : List ℕ) �
 really_over true q at end row row' h e = h
 really_over false q at end row row' h e = absurd cc
 
+pub not_over : (b : Bool) (q : Place) (at end : ℕ) (row row' : List ℕ) → WritesOver b q at end row row' → b ≡ false → row' ≡ row
+not_over true q at end row row' h e = absurd cc
+not_over false q at end row row' h e = h
+
 -- the text of an agent's place, beside which it stands now
-pub text_beside : (m : MachineState) (from i : ℕ) (row begins : List ℕ) → IsRewritten m from row begins → i < length m.configuration
-    → IsTextBeside (standing_at m.configuration i).place (get_or begins i 0) (get_or begins (i + 1) 0) row
-text_beside m from i row begins h agent =
-    let next = next_begin h.now row begins i (standing_at [] 0) h.kept (omega (arith, h.agents)) in
-    record { other = (standing_at h.now i).place; beside = h.beside i; fits = sym next.0; written = next.1 }
+pub text_beside : (c : Configuration) (i : ℕ) (q : Place) (row begins : List ℕ) → IsLineKept c row begins → i < length c → IsBeside (standing_at c i).place q
+    → IsTextBeside q (get_or begins i 0) (get_or begins (i + 1) 0) row
+text_beside c i q row begins kept agent beside =
+    let next = next_begin c row begins i (standing_at [] 0) kept agent in
+    record { other = (standing_at c i).place; beside = beside; fits = sym next.0; written = next.1 }
 
 -- the begins of an agent's place and of the next are in order
-pub in_order : (m : MachineState) (from i : ℕ) (row begins : List ℕ) → IsRewritten m from row begins → i < length m.configuration → get_or begins i 0 ≤ get_or begins (i + 1) 0
-in_order m from i row begins h agent = begins_rise h.now row begins (standing_at h.now i) h.kept i 1 (omega (arith, h.agents))
+pub in_order : (c : Configuration) (i : ℕ) (row begins : List ℕ) → IsLineKept c row begins → i < length c → get_or begins i 0 ≤ get_or begins (i + 1) 0
+in_order c i row begins kept agent = begins_rise c row begins (standing_at c i) kept i 1 (omega (arith, agent))
 
 -- the time is written before the places
 pub timed : (c : Configuration) (row row' begins digits : List ℕ) (at : ℕ) → IsLineKept c row begins → drop at row' ≡ digits ++ (58 ∷ drop (get_or begins 0 0) row)

@@ -28,20 +28,20 @@ four_digits n h lt = more_digits n 3 (omega arith) (omega arith) (three_digits (
 five_digits : (n : ℕ) → 10000 ≤ n → n < 100000 → length (decimal n) ≡ 5
 five_digits n h lt = more_digits n 4 (omega arith) (omega arith) (four_digits (n / 10) (omega arith) (omega arith))
 
-pub digits_counted : (n a b c d : ℕ) → n < 100000 → (n < 10 → a ≡ 0) → (10 ≤ n → a ≡ 1) → (n < 100 → b ≡ 0) → (100 ≤ n → b ≡ 1)
-    → (n < 1000 → c ≡ 0) → (1000 ≤ n → c ≡ 1) → (n < 10000 → d ≡ 0) → (10000 ≤ n → d ≡ 1) → 1 + a + b + c + d ≡ length (decimal n)
-digits_counted n a b c d small a0 a1 b0 b1 c0 c1 d0 d1 =
+pub few_digits_counted : (n a : ℕ) → n < 100 → (n < 10 → a ≡ 0) → (10 ≤ n → a ≡ 1) → 1 + a ≡ length (decimal n)
+few_digits_counted n a small none one =
     elim (cases_lt n 10) [
-      | inl lt ↦ omega (arith, length-decimal_last n lt, a0 lt, b0 (omega arith), c0 (omega arith), d0 (omega arith))
-      | inr ge ↦ elim (cases_lt n 100) [
-        | inl lt ↦ omega (arith, two_digits n ge lt, a1 ge, b0 lt, c0 (omega arith), d0 (omega arith))
-        | inr ge2 ↦ elim (cases_lt n 1000) [
-          | inl lt ↦ omega (arith, three_digits n ge2 lt, a1 ge, b1 ge2, c0 lt, d0 (omega arith))
-          | inr ge3 ↦ elim (cases_lt n 10000) [
-            | inl lt ↦ omega (arith, four_digits n ge3 lt, a1 ge, b1 ge2, c1 ge3, d0 lt)
-            | inr ge4 ↦ omega (arith, five_digits n ge4 small, a1 ge, b1 ge2, c1 ge3, d1 ge4)
-          ]
-        ]
+      | inl lt ↦ omega (arith, length-decimal_last n lt, none lt)
+      | inr ge ↦ omega (arith, two_digits n ge small, one ge)
+    ]
+
+pub more_digits_counted : (n a b : ℕ) → 100 ≤ n → n < 100000 → (n < 1000 → a ≡ 0) → (1000 ≤ n → a ≡ 1) → (n < 10000 → b ≡ 0) → (10000 ≤ n → b ≡ 1) → 3 + a + b ≡ length (decimal n)
+more_digits_counted n a b ge small a0 a1 b0 b1 =
+    elim (cases_lt n 1000) [
+      | inl lt ↦ omega (arith, three_digits n ge lt, a0 lt, b0 (omega arith))
+      | inr ge2 ↦ elim (cases_lt n 10000) [
+        | inl lt ↦ omega (arith, four_digits n ge2 lt, a1 ge2, b0 lt)
+        | inr ge3 ↦ omega (arith, five_digits n ge3 small, a1 ge2, b1 ge3)
       ]
     ]
 

@@ -1,6 +1,6 @@
 -- A line that is kept from tick to tick.
-use Rattle.std.specs.Prelude.{◌≡◌, ◌≤◌, ◌+◌, ◌-◌, ◌++◌, ◌⊎◌, ℤ, pos, ◌+ℤ◌, ◌≤ℤ◌, ℕ, Bool, true, false, List, length, take, drop, get_or, codes}
-use Rattle.std.specs.List.{flat_map}
+use Rattle.std.specs.Prelude.{◌≡◌, ◌≤◌, ◌<◌, ◌+◌, ◌-◌, ◌++◌, ◌⊎◌, ℤ, pos, ◌+ℤ◌, ◌≤ℤ◌, ℕ, Bool, true, false, List, length, take, drop, get_or, codes}
+use Rattle.std.specs.List.{flat_map, copy_within}
 use Rattle.fleet_model.specs.declared.geometry.Place.{Place}
 use Rattle.fleet_model.specs.Machine.{Configuration, standing_at}
 use Rattle.fleet_machine.specs.Machine.{MachineState, flag_of}
@@ -32,6 +32,21 @@ pub record IsWrittenOver (q : Place) (at end : ℕ) (row row' : List ℕ) : Type
 abbrev pub WritesOver : Bool → (q : Place) (at end : ℕ) (row row' : List ℕ) → Type 0
 WritesOver true q at end row row' = IsWrittenOver q at end row row'
 WritesOver false q at end row row' = row' ≡ row
+
+-- the bytes before the place of agent i, from the first place on, are moved so far that a text which begins at `to` ends
+-- where the place does
+abbrev pub moved_before : (i to : ℕ) (row begins : List ℕ) → List ℕ
+moved_before i to row begins = copy_within row (get_or begins 0 0) (get_or begins i 0) (to + get_or begins 0 0 - get_or begins i 0)
+
+-- a text is written over the place of agent i, and the places before it are moved as far as it has more bytes or fewer
+pub record IsResized (i : ℕ) (text row row' begins begins' : List ℕ) : Type 0 where
+  pub to : ℕ
+  pub fits : to + length text ≡ get_or begins (i + 1) 0
+  pub room : get_or begins i 0 + 11 ≤ get_or begins 0 0 + to
+  pub written : row' ≡ take to (moved_before i to row begins) ++ (text ++ drop (get_or begins (i + 1) 0) (moved_before i to row begins))
+  pub long : length begins' ≡ length begins
+  pub moved : (k : ℕ) → k < i + 1 → get_or begins' k 0 + get_or begins i 0 ≡ get_or begins k 0 + to
+  pub others : (k : ℕ) → i + 1 ≤ k → get_or begins' k 0 ≡ get_or begins k 0
 
 -- the numbers differ by one at most
 pub record AreClose (a b : ℤ) : Type 0 where

@@ -35,10 +35,11 @@ fn digit_count(number: u32) -> usize
     ensures few { result ≤ 5 }
     ensures digits { result ≡ length (decimal number) }
 {
-    1 + reaches(number, 10)
-        + reaches(number, 100)
-        + reaches(number, 1_000)
-        + reaches(number, 10_000)
+    let is_short = number < 100;
+    if is_short {
+        return 1 + reaches(number, 10);
+    }
+    3 + reaches(number, 1_000) + reaches(number, 10_000)
 }
 
 /// The last digit of a number, as it is written.

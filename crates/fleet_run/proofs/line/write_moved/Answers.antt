@@ -1,28 +1,27 @@
-use Rattle.std.proofs.Common.{◌<◌, length, arith}
-use Rattle.fleet_run.proofs.Lines.{in_order, text_beside, really_over, rewritten_next, rewritten_all}
+use Rattle.std.proofs.Common.{◌<◌, length, refl, arith}
+use Rattle.fleet_model.specs.Machine.{standing_at}
+use Rattle.fleet_run.proofs.Lines.{rewritten_next, rewritten_all}
 use Rattle.fleet_run.proofs.line.write_moved.Goals as goal
 
-pub move_place-requires-clause-order : goal.move_place-requires-clause-order
-move_place-requires-clause-order c =
+pub put_place-resized-requires : goal.put_place-resized-requires
+put_place-resized-requires c =
+    let h = c.loop-i.invariant.kept in
     let agent : c.in-Some.i < length c.args.machine.now.configuration = omega (arith, c.in-Some.ensures.agent, c.requires.moved) in
-    rw c.from.ensures (in_order c.args.machine.now c.loop-i.from c.in-Some.i c.loop-i.row c.loop-i.begins c.loop-i.invariant.kept agent)
-
-pub move_place-requires-clause-text : goal.move_place-requires-clause-text
-move_place-requires-clause-text c =
-    let agent : c.in-Some.i < length c.args.machine.now.configuration = omega (arith, c.in-Some.ensures.agent, c.requires.moved) in
-    let text = text_beside c.args.machine.now c.loop-i.from c.in-Some.i c.loop-i.row c.loop-i.begins c.loop-i.invariant.kept agent in
-    rw (c.from.ensures, c.from-in-Some.ensures, c.agents-rows.ensures) text
+    rw (c.from.ensures, c.from-in-Some.ensures, c.agents-rows.ensures) (record { kept = (h.now, h.kept, omega (arith, agent, h.agents), h.beside c.in-Some.i) })
 
 pub loop-i-preserved : goal.loop-i-preserved
 loop-i-preserved c =
+    let h = c.loop-i.invariant.kept in
     let agent : c.in-Some.i < length c.args.machine.now.configuration = omega (arith, c.in-Some.ensures.agent, c.requires.moved) in
-    let over = really_over c.move_place.result _ _ _ _ _ c.move_place.ensures c.if-not-move_place.false in
-    let over' = rw (c.from.ensures, c.from-in-Some.ensures, c.agents-rows.ensures) at over in
+    let inside : c.from.result < length h.now = omega (arith, agent, h.agents, c.from.ensures) in
+    let s = standing_at c.args.machine.now.configuration c.in-Some.i in
+    let kept = c.put_place-resized.ensures.kept (omega arith) h.now h.kept inside s (rw (c.from-in-Some.ensures, c.agents-rows.ensures) refl) in
     record {
       from = omega (arith, agent, c.requires.agents);
-      room = omega arith;
-      begun = c.loop-i.invariant.begun;
-      kept = rewritten_next c.args.machine.now c.loop-i.from c.in-Some.i c.loop-i.row c.move_place.new.row c.loop-i.begins c.loop-i.invariant.kept c.in-Some.ensures agent over';
+      few = omega arith;
+      room = kept.room;
+      begun = kept.begun;
+      kept = rewritten_next c.args.machine.now c.loop-i.from c.in-Some.i c.loop-i.row c.put_place-resized.new.row c.loop-i.begins c.put_place-resized.new.begins h c.in-Some.ensures agent (rw c.from.ensures at kept);
     }
 
 pub returns : goal.returns

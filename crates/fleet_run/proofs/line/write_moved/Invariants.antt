@@ -5,6 +5,7 @@ use Rattle.fleet_run.proofs.line.write_moved.Given as goal
 abbrev pub invariant-loop-i : goal.invariant-loop-i
 invariant-loop-i l = record {
   from : l.from ≤ 1024;
+  few : l.resized ≤ 24;
   room : length l.row ≡ 24588;
   begun : length l.begins ≡ 1025;
   kept : IsRewritten l.machine l.from l.row l.begins;

@@ -1,7 +1,10 @@
-use Rattle.fleet_run.proofs.Patched.{digits_counted}
+use Rattle.fleet_run.proofs.Patched.{few_digits_counted, more_digits_counted}
 use Rattle.fleet_run.proofs.patch.digit_count.Goals as goal
+
+pub returns-then-is_short-clause-digits : goal.returns-then-is_short-clause-digits
+returns-then-is_short-clause-digits c = few_digits_counted c.args.number c.reaches.result c.if-is_short.true c.reaches.ensures.below c.reaches.ensures.from
 
 pub returns-clause-digits : goal.returns-clause-digits
 returns-clause-digits c =
-    digits_counted c.args.number c.reaches.result c.reaches-2.result c.reaches-3.result c.reaches-4.result c.requires c.reaches.ensures.below c.reaches.ensures.from
-    c.reaches-2.ensures.below c.reaches-2.ensures.from c.reaches-3.ensures.below c.reaches-3.ensures.from c.reaches-4.ensures.below c.reaches-4.ensures.from
+    more_digits_counted c.args.number c.reaches-2.result c.reaches-3.result c.if-is_short.false c.requires c.reaches-2.ensures.below c.reaches-2.ensures.from
+    c.reaches-3.ensures.below c.reaches-3.ensures.from

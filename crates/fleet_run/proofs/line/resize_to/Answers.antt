@@ -1,0 +1,19 @@
+use Rattle.std.proofs.Common.{◌≡◌, arith}
+use Rattle.fleet_run.proofs.line.resize_to.Goals as goal
+
+pub shift_begins-requires-clause-room : goal.shift_begins-requires-clause-room
+shift_begins-requires-clause-room c = λ k l. omega (arith, (c.requires.before k l).0, c.in-Some.ensures.room)
+
+pub shift_begins-requires-clause-fit : goal.shift_begins-requires-clause-fit
+shift_begins-requires-clause-fit c = λ k l. omega (arith, (c.requires.before k l).1, c.in-Some.ensures.fits, c.requires.within)
+
+pub returns-in-Some : goal.returns-in-Some
+returns-in-Some c = λ is. record {
+  to = c.in-Some.to;
+  fits = c.in-Some.ensures.fits;
+  room = c.in-Some.ensures.room;
+  written = c.resize_text.ensures;
+  long = c.shift_begins.auto.begins;
+  moved = c.shift_begins.ensures.shifted;
+  others = c.shift_begins.ensures.others;
+}

@@ -1,6 +1,6 @@
 -- Visits that begin in any order.
 use Rattle.std.proofs.Common.{◌≡◌, ◌≢◌, ℕ, suc, ◌+◌, ◌<◌, ◌≤◌, Bool, List, [], ◌∷◌, ◌++◌, length, get_or, Option, Some, slice_get, refl, ap, sym, ◌∙◌, subst, arith, inl, inr, ◌⊎◌}
-use Rattle.std.specs.Prelude.{Contains}
+use Rattle.std.specs.Prelude.{All, Contains}
 use Rattle.std.specs.List.{filter, AllPairs}
 use Rattle.std.proofs.lemmas.Bool.{cases_order, cases_eq, cases_lt}
 use Rattle.std.proofs.lemmas.List.{get_or_default}
@@ -13,14 +13,16 @@ use Rattle.fleet_model.specs.declared.geometry.Place.{Place}
 use Rattle.fleet_model.specs.declared.program.Visit.{Visit}
 use Rattle.fleet_model.specs.Geometry.{place_of, is_same_place}
 use Rattle.fleet_model.specs.Program.{Program, moves, path, AreInRange, IsCell}
-use Rattle.fleet_model.specs.Visit.{is_entry, IsVisitOf, ListsVisits, Adjacent, ComesAfter, ComesAfterByAwait, IsOrderly}
+use Rattle.fleet_model.specs.Visit.{is_entry, IsVisit, IsVisitOf, ListsVisits, Adjacent, ComesAfter, IsOrderly}
 use Rattle.fleet_model.proofs.Cells.{is_same_place-true, is_same_place-eq}
 use Rattle.fleet_verify.specs.Ahead.{AreBegun}
 use Rattle.fleet_verify.specs.Faults.{StandsRight, EachAction}
-use Rattle.fleet_verify.specs.Order.{visits_of, entries, AreAddedBy, AreConsecutive}
+use Rattle.fleet_verify.specs.Chained.{IsChained}
+use Rattle.fleet_verify.specs.OpenPairs.{AreVisits}
+use Rattle.fleet_verify.specs.Order.{visits_of, entries, AreAddedBy, AreConsecutive, IsOpenPair}
 use Rattle.fleet_verify.specs.declared.visit_order.OpenPair.{OpenPair}
 use Rattle.fleet_verify.proofs.Judged.{some_cell}
-use Rattle.fleet_verify.proofs.Listing.{adjacent_chains}
+use Rattle.fleet_verify.proofs.Listing.{await_chain}
 use Rattle.fleet_verify.proofs.Members.{filter_has, filter_from, contains_none, contains_cases}
 use Rattle.fleet_verify.proofs.Neighbours.{adjacent_from}
 use Rattle.fleet_verify.proofs.Stays.{visits_are, is_at}
@@ -143,16 +145,32 @@ module _ (passable : Place → Bool) (p : Program) where
             let r = h.only v e.0 in
             record { agent = r.0; position = omega (arith, r.1, whole v.agent r.0); entered = e.1; place = is_same_place-true (path p v.agent v.position) q f.1 }
 
-    pub begun_orderly : AreInRange p → pairs ≡ [] → IsOrderly ComesAfter p
-    begun_orderly range closed q = (visits_of q h.added.placed, lists q, in_turn)
+    -- the visits of open pairs are visits
+    pub begun_visits : All (AreVisits p) pairs
+    begun_visits = λ k d l. visits (get_or pairs k d) (h.added.grouped.each k d l)
       where
-        chained : (c : Cell) → IsCell c → Adjacent (ComesAfterByAwait p) (visits_of (place_of c) h.added.placed)
-        chained c cell = adjacent_from (ComesAfterByAwait p) vs (λ k d m. next k d m)
+        visits : (o : OpenPair) → IsOpenPair p h.added.placed o → AreVisits p o
+        visits o is = record { first = here is.neighbours.at o.first is.neighbours.here; second = here (is.neighbours.at + 1) o.second is.neighbours.next }
+          where
+            vs : List Visit
+            vs = visits_of (place_of o.cell) h.added.placed
+
+            here : (k : ℕ) (v : Visit) → slice_get vs k ≡ Some v → IsVisit p v
+            here k v e =
+                let r : IsVisitOf p (place_of o.cell) v = subst (IsVisitOf p (place_of o.cell)) (get_or_from_slice_get vs k v v e) ((lists (place_of o.cell)).only k v (slice_get_within vs k v e)) in
+                record { agent = r.agent; position = r.position; entered = r.entered }
+
+    -- if chains order all open pairs, the program is orderly
+    pub begun_chained : AreInRange p → ((k : ℕ) (o : OpenPair) → k < length pairs → IsChained p (get_or pairs k o)) → IsOrderly ComesAfter p
+    begun_chained range all q = (visits_of q h.added.placed, lists q, in_turn)
+      where
+        chained : (c : Cell) → IsCell c → Adjacent (ComesAfter p) (visits_of (place_of c) h.added.placed)
+        chained c cell = adjacent_from (ComesAfter p) vs (λ k d m. next k d m)
           where
             vs : List Visit
             vs = visits_of (place_of c) h.added.placed
 
-            next : (k : ℕ) (d : Visit) → suc k < length vs → ComesAfterByAwait p (get_or vs k d) (get_or vs (suc k) d)
+            next : (k : ℕ) (d : Visit) → suc k < length vs → ComesAfter p (get_or vs k d) (get_or vs (suc k) d)
             next k d m =
                 let n : AreConsecutive vs (get_or vs k d) (get_or vs (suc k) d) = record {
                   at = k;
@@ -160,12 +178,15 @@ module _ (passable : Place → Bool) (p : Program) where
                   next = ap (slice_get vs) (omega arith) ∙ slice_get-get_or vs (suc k) d m;
                 } in
                 elim ((h.added.grouped.cells c cell).next (get_or vs k d) (get_or vs (suc k) d) n) [
-                  | inl a ↦ a
-                  | inr o ↦ absurd (contains_none _ (subst (λ (os : List OpenPair). Contains os (record { cell = c; first = get_or vs k d; second = get_or vs (suc k) d })) closed o))
+                  | inl a ↦ await_chain p range (place_of c) (get_or vs k d) (get_or vs (suc k) d) ((lists (place_of c)).only (suc k) d m) a
+                  | inr (j, l, e) ↦ inr (subst (IsChained p) e (all j (record { cell = c; first = get_or vs k d; second = get_or vs (suc k) d }) l))
                 ]
 
         in_turn : Adjacent (ComesAfter p) (visits_of q h.added.placed)
-        in_turn = adjacent_chains p range q (visits_of q h.added.placed) (lists q).only (elim (some_cell p q h.added.placed h.added.each) [
-          | inl e ↦ subst (Adjacent (ComesAfterByAwait p)) (sym e) tt
-          | inr (c, cell, here) ↦ subst (λ (r : Place). Adjacent (ComesAfterByAwait p) (visits_of r h.added.placed)) here (chained c cell)
-        ])
+        in_turn = elim (some_cell p q h.added.placed h.added.each) [
+          | inl e ↦ subst (Adjacent (ComesAfter p)) (sym e) tt
+          | inr (c, cell, here) ↦ subst (λ (r : Place). Adjacent (ComesAfter p) (visits_of r h.added.placed)) here (chained c cell)
+        ]
+
+    pub begun_orderly : AreInRange p → pairs ≡ [] → IsOrderly ComesAfter p
+    begun_orderly range closed = begun_chained range (λ k o l. absurd (contains_none (get_or pairs k o) (subst (λ (os : List OpenPair). Contains os (get_or pairs k o)) closed (k, l, get_or_default pairs k (get_or pairs k o) o l))))

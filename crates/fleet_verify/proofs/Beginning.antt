@@ -1,6 +1,6 @@
 -- The agents one after another: on their starts, and at their ends.
 use Rattle.std.proofs.Common.{◌≡◌, ℕ, zero, suc, ◌+◌, ◌-◌, ◌<◌, ◌≤◌, Bool, List, [], ◌∷◌, ◌++◌, length, get_or, slice_index, max, Option, refl, sym, ap, ◌∙◌, subst, arith, inl, inr, ◌⊎◌}
-use Rattle.std.specs.Prelude.{IsTrue}
+use Rattle.std.specs.Prelude.{All, IsTrue}
 use Rattle.std.proofs.lemmas.Bool.{cases_eq, cases_lt}
 use Rattle.std.proofs.lemmas.List.{get_or_append_left, get_or-append_right, length-append}
 use Rattle.std.proofs.Math.Seq.{get_or-append_seam}
@@ -9,19 +9,23 @@ use Rattle.fleet_model.specs.declared.geometry.Place.{Place}
 use Rattle.fleet_model.specs.declared.program.ActionId.{ActionId}
 use Rattle.fleet_model.specs.declared.program.Visit.{Visit}
 use Rattle.fleet_model.specs.declared.task.Task.{Task}
-use Rattle.fleet_model.specs.Chain.{IsNumbering}
+use Rattle.fleet_model.specs.Chain.{IsNumbering, IsLongestChain}
+use Rattle.fleet_model.specs.Machine.{IsFinish}
 use Rattle.fleet_model.specs.Geometry.{place_of}
 use Rattle.fleet_model.specs.Program.{Program, origin, start_of, moves, path, AreInRange, IsWellFormed}
 use Rattle.fleet_model.proofs.Chains.{own_reach, Reaches-rises}
 use Rattle.fleet_grid.specs.Ground.{Ground, is_passable}
-use Rattle.fleet_verify.specs.Ahead.{AreCountedUp, IsTop, IsAhead, AreBegun, count_in, level_in}
+use Rattle.fleet_verify.specs.Ahead.{AreCountedUp, IsTop, IsAhead, AreBegun, AreDone, count_in, level_in}
+use Rattle.fleet_verify.specs.Chained.{IsChained}
 use Rattle.fleet_verify.specs.Faults.{HasStarts, HasRanges, EndsRight, StandsRight}
+use Rattle.fleet_verify.specs.OpenPairs.{AreVisits}
 use Rattle.fleet_verify.specs.LastVisits.{kept_at}
 use Rattle.fleet_verify.specs.Order.{AreAddedBy}
 use Rattle.fleet_verify.specs.Parts.{IsAcceptedFor}
 use Rattle.fleet_verify.specs.declared.ahead.Ahead.{Ahead}
 use Rattle.fleet_verify.specs.declared.visit_order.OpenPair.{OpenPair}
-use Rattle.fleet_verify.proofs.Begin.{begun_none, begun_more, begun_ground, begun_orderly}
+use Rattle.fleet_verify.proofs.Begin.{begun_none, begun_more, begun_ground, begun_visits, begun_chained}
+use Rattle.fleet_verify.proofs.ReachLaws.{longest_finishes}
 use Rattle.fleet_verify.proofs.Ranked.{none_ranked, all_counted, all_in_range, counted_numbering, top_longest}
 use Rattle.fleet_verify.proofs.Stays.{accepted_by}
 
@@ -105,13 +109,6 @@ beginning_all passable p n a h all = record {
 
 -- ---- the ends
 
--- the first n agents have finished all actions and stand where they are to end, and the chain is the greatest of their levels
-pub record AreDone (tasks : List Task) (p : Program) (rows : List (List ℕ)) (n chain : ℕ) : Type 0 where
-  pub whole : (i : ℕ) → i < n → count_in rows i ≡ moves p i
-  pub ends : (i : ℕ) → i < n → EndsRight tasks p i
-  pub some : (chain ≡ 0) ⊎ ((a : ActionId) × (a.agent < n) × (1 ≤ a.number) × (a.number ≤ count_in rows a.agent) × (chain ≡ level_in rows a))
-  pub most : (i : ℕ) → i < n → slice_index (get_or rows i []) (count_in rows i - 1) ≤ chain
-
 pub done_more : (tasks : List Task) (p : Program) (rows : List (List ℕ)) (n chain : ℕ) → AreDone tasks p rows n chain → count_in rows n ≡ moves p n → EndsRight tasks p n
     → (last new : ℕ) → last ≡ slice_index (get_or rows n []) (count_in rows n - 1) → new ≡ max chain last → AreDone tasks p rows (n + 1) new
 done_more tasks p rows n chain h whole ends last new is e = record {
@@ -141,56 +138,66 @@ done_more tasks p rows n chain h whole ends last new is e = record {
           | inr ne ↦ inr (record { agent = n; number = count_in rows n }, omega arith, omega (arith, ne), omega arith, f ∙ is)
         ]
 
-pub ahead_accepted : (grid : Ground) (tasks : List Task) (p : Program) (a : Ahead) (n chain : ℕ) → IsWellFormed p → HasStarts tasks p → IsAhead (is_passable grid) p a
-    → AreDone tasks p a.rows.items n chain → length p ≤ n → a.pairs.items ≡ [] → IsAcceptedFor grid tasks p chain
-ahead_accepted grid tasks p a n chain wf starts h done all closed = record {
-  accepted = accepted_by passable tasks p ranges (level, numbering) (begun_orderly passable p begun (kept_at a.last) a.pairs.items h.begun come range closed);
-  longest = top_longest p level counted chain top;
-}
-  where
-    passable : Place → Bool
-    passable = is_passable grid
+module _ (grid : Ground) (tasks : List Task) (p : Program) (a : Ahead) (n chain : ℕ) (wf : IsWellFormed p) (starts : HasStarts tasks p) (h : IsAhead (is_passable grid) p a)
+    (done : AreDone tasks p a.rows.items n chain) (all : length p ≤ n) where
+  abbrev passable : Place → Bool
+  passable = is_passable grid
 
-    rows : List (List ℕ)
-    rows = a.rows.items
+  abbrev rows : List (List ℕ)
+  rows = a.rows.items
 
-    level : ActionId → ℕ
-    level = level_in rows
+  abbrev level : ActionId → ℕ
+  level = level_in rows
 
-    whole : (i : ℕ) → i < length p → count_in rows i ≡ moves p i
-    whole i l = done.whole i (omega (arith, l, all))
+  whole : (i : ℕ) → i < length p → count_in rows i ≡ moves p i
+  whole i l = done.whole i (omega (arith, l, all))
 
-    begun : ℕ → ℕ
-    begun = λ i. count_in rows i + 1
+  abbrev begun : ℕ → ℕ
+  begun i = count_in rows i + 1
 
-    come : (i : ℕ) → i < length p → begun i ≡ moves p i + 1
-    come i l = ap (λ m. m + 1) (whole i l)
+  come : (i : ℕ) → i < length p → begun i ≡ moves p i + 1
+  come i l = ap (λ m. m + 1) (whole i l)
 
-    counted : AreCountedUp p level
-    counted = all_counted p rows h.ranked whole
+  pub done_counted : AreCountedUp p level
+  done_counted = all_counted p rows h.ranked whole
 
-    numbering : IsNumbering p level
-    numbering = counted_numbering p level counted
+  numbering : IsNumbering p level
+  numbering = counted_numbering p level done_counted
 
-    range : AreInRange p
-    range = all_in_range p rows h.ranked whole wf
+  pub done_range : AreInRange p
+  done_range = all_in_range p rows h.ranked whole wf
 
-    ranges : HasRanges passable tasks p
-    ranges = record {
-      before = record { before = record { before = starts; ends = λ i l. done.ends i (omega (arith, l, all)) }; steps = begun_ground passable p begun (kept_at a.last) a.pairs.items h.begun come };
-      ranges = λ i m l k. record { met = range i m };
-    }
+  ranges : HasRanges passable tasks p
+  ranges = record {
+    before = record { before = record { before = starts; ends = λ i l. done.ends i (omega (arith, l, all)) }; steps = begun_ground passable p begun (kept_at a.last) a.pairs.items h.begun come };
+    ranges = λ i m l k. record { met = done_range i m };
+  }
 
-    top : IsTop p level chain
-    top = record {
-      some = elim done.some [
-        | inl z ↦ inl z
-        | inr (b, k, o, m, g) ↦ inr (b, Rattle.fleet_verify.proofs.Ranked.is_action p rows h.ranked.within b (record { first = o; last = m }), g)
-      ];
-      most = λ b act.
-          let last : ActionId = record { agent = b.agent; number = moves p b.agent } in
-          let up : level b ≤ level last = Reaches-rises p level numbering b last (own_reach p b.agent b.number (moves p b.agent) act.agent act.first act.last (omega arith)) in
-          let high : slice_index (get_or rows b.agent []) (count_in rows b.agent - 1) ≤ chain = done.most b.agent (omega (arith, act.agent, all)) in
-          let same : level last ≡ slice_index (get_or rows b.agent []) (count_in rows b.agent - 1) = ap (λ m. slice_index (get_or rows b.agent []) (m - 1)) (sym (whole b.agent act.agent)) in
-          omega (arith, up, high, same);
-    }
+  top : IsTop p level chain
+  top = record {
+    some = elim done.some [
+      | inl z ↦ inl z
+      | inr (b, k, o, m, g) ↦ inr (b, Rattle.fleet_verify.proofs.Ranked.is_action p rows h.ranked.within b (record { first = o; last = m }), g)
+    ];
+    most = λ b act.
+        let last : ActionId = record { agent = b.agent; number = moves p b.agent } in
+        let up : level b ≤ level last = Reaches-rises p level numbering b last (own_reach p b.agent b.number (moves p b.agent) act.agent act.first act.last (omega arith)) in
+        let high : slice_index (get_or rows b.agent []) (count_in rows b.agent - 1) ≤ chain = done.most b.agent (omega (arith, act.agent, all)) in
+        let same : level last ≡ slice_index (get_or rows b.agent []) (count_in rows b.agent - 1) = ap (λ m. slice_index (get_or rows b.agent []) (m - 1)) (sym (whole b.agent act.agent)) in
+        omega (arith, up, high, same);
+  }
+
+  longest : IsLongestChain p chain
+  longest = top_longest p level done_counted chain top
+
+  pub done_finish : IsFinish p [] chain
+  done_finish = longest_finishes p done_range chain longest
+
+  pub done_visits : All (AreVisits p) a.pairs.items
+  done_visits = begun_visits passable p begun (kept_at a.last) a.pairs.items h.begun come
+
+  pub ahead_accepted : ((k : ℕ) (o : OpenPair) → k < length a.pairs.items → IsChained p (get_or a.pairs.items k o)) → IsAcceptedFor grid tasks p chain
+  ahead_accepted chained = record {
+    accepted = accepted_by passable tasks p ranges (level, numbering) (begun_chained passable p begun (kept_at a.last) a.pairs.items h.begun come done_range chained);
+    longest = longest;
+  }

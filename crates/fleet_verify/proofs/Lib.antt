@@ -53,6 +53,7 @@ pub mod NeverStuck
 pub mod Ranked
 pub mod Begin
 pub mod NextLevel
+pub mod AskedByLevel
 pub mod Beginning
 pub mod PieceLaws
 pub mod Rows

@@ -10,7 +10,8 @@ use Rattle.fleet_model.specs.Program.{Program, origin, moves, path, awaits_of, a
 use Rattle.fleet_verify.specs.declared.ahead.Needs.{Needs}
 use Rattle.fleet_verify.specs.declared.ahead.Next.{Next}
 use Rattle.fleet_model.specs.Chain.{IsAction, DirectlyNeeds}
-use Rattle.fleet_verify.specs.Faults.{StandsRight}
+use Rattle.fleet_model.specs.declared.task.Task.{Task}
+use Rattle.fleet_verify.specs.Faults.{StandsRight, EndsRight}
 use Rattle.fleet_verify.specs.LastVisits.{kept_at}
 use Rattle.fleet_verify.specs.Order.{AreAddedBy}
 use Rattle.fleet_verify.specs.Rows.{IsCountedUp}
@@ -112,3 +113,12 @@ pub record IsArrival (p : Program) (s : PlacedVisit) (needs : Needs) : Type 0 wh
   pub here : place_of s.cell ≡ path p s.visit.agent s.visit.position
   pub step : step_of p s.visit.agent s.visit.position ≡ Some needs.step
   pub latest : IfSome needs.latest (Contains (awaits_of p s.visit.agent s.visit.position))
+
+-- ---- the ends
+
+-- the first n agents have finished all actions and stand where they are to end, and the chain is the greatest of their levels
+pub record AreDone (tasks : List Task) (p : Program) (rows : List (List ℕ)) (n chain : ℕ) : Type 0 where
+  pub whole : (i : ℕ) → i < n → count_in rows i ≡ moves p i
+  pub ends : (i : ℕ) → i < n → EndsRight tasks p i
+  pub some : (chain ≡ 0) ⊎ ((a : ActionId) × (a.agent < n) × (1 ≤ a.number) × (a.number ≤ count_in rows a.agent) × (chain ≡ level_in rows a))
+  pub most : (i : ℕ) → i < n → slice_index (get_or rows i []) (count_in rows i - 1) ≤ chain

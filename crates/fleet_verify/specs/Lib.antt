@@ -12,6 +12,7 @@ pub mod Broken
 pub mod RefusalWords
 pub mod Reach
 pub mod Ahead
+pub mod Chained
 pub mod Pieces
 pub mod Breaking
 pub mod Reduced

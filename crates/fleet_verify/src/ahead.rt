@@ -1,6 +1,6 @@
 //! A verifier without ticks: each agent runs on as far as its awaits allow. It only says yes.
 
-ghost use Rattle.std.specs.Prelude.{◌≡◌, ◌≢◌, ◌<◌, ◌≤◌, ◌+◌, ℕ, Some, true, IsTrue, length, max, IfOk, IfErr, IfSome, OnOk, List, get_or, [], ◌∷◌, ◌++◌, Contains};
+ghost use Rattle.std.specs.Prelude.{◌≡◌, ◌≢◌, ◌<◌, ◌≤◌, ◌+◌, ℕ, Some, true, IsTrue, length, max, IfOk, IfErr, IfSome, OnOk, List, [], ◌∷◌, ◌++◌, Contains};
 ghost use Rattle.fleet_model.specs.declared.geometry.Cell.{Cell};
 ghost use Rattle.fleet_model.specs.declared.program.Visit.{Visit};
 ghost use Rattle.fleet_model.specs.Geometry.{place_of};
@@ -9,14 +9,15 @@ ghost use Rattle.fleet_model.specs.Program.{Program, start_of, moves, path, awai
 ghost use Rattle.fleet_model.specs.Visit.{IsVisit, ComesAfterByAwait, leaving};
 ghost use Rattle.fleet_grid.specs.Ground.{is_passable};
 ghost use Rattle.fleet_model.specs.Chain.{awaited};
-ghost use Rattle.fleet_verify.specs.Ahead.{IsRanked, IsAhead, IsAheadAt, IsNext, AreNeeds, AddsLevel, IsArrival, count_in, level_in};
+ghost use Rattle.fleet_verify.specs.Ahead.{IsRanked, IsAhead, IsAheadAt, IsNext, AreNeeds, AddsLevel, AreDone, IsArrival, count_in, level_in};
 ghost use Rattle.fleet_verify.specs.Faults.{HasStarts};
 ghost use Rattle.fleet_verify.specs.LastVisits.{kept_at};
 ghost use Rattle.fleet_verify.specs.Parts.{IsAcceptedFor};
 
 use crate::agents::ends_right;
+use crate::chained::are_chained;
 use crate::last_visits::LastVisits;
-use crate::level_row::LevelRow;
+use crate::level_row::{LevelRow, row_of};
 use crate::path::cell_after;
 use crate::unheld_run::Stop;
 use crate::visit_order::{OpenPair, PlacedVisit, begins_visit, is_left_by, open_unless_after};
@@ -36,15 +37,6 @@ pub struct Ahead {
     pub cells: Vec<Cell>,
     pub last: LastVisits,
     pub pairs: Vec<OpenPair>,
-}
-
-/// The levels of an agent's finished actions.
-#[inline]
-fn row_of(rows: &Vec<LevelRow>, agent: u16) -> &LevelRow
-    requires { agent < length rows.now.items }
-    ensures { result.now ≡ get_or rows.now.items agent [] }
-{
-    &rows[usize::from(agent)]
 }
 
 /// The greater of a level and of that of an awaited action, if that has one.
@@ -525,10 +517,6 @@ fn run_ahead<P: ProgramView>(
             return Ok(());
         };
         look_at(program, grid, ahead, &mut queue, agent)?;
-        if !asks_no_chain(ahead) {
-            // Chains are to be asked, which is not done here.
-            return Ok(());
-        }
     }
     Ok(())
 }
@@ -554,13 +542,6 @@ fn look_at<P: ProgramView>(
     Ok(())
 }
 
-/// Whether no chain is left to be asked for.
-fn asks_no_chain(ahead: &Ahead) -> bool
-    ensures { result ≡ true → length ahead.now.pairs.items ≡ 0 }
-{
-    ahead.pairs.is_empty()
-}
-
 /// Whether the agent has finished all its actions.
 fn has_finished<P: ProgramView>(program: &P, ahead: &Ahead, agent: u16) -> bool
     requires rows { length ahead.now.rows.items ≡ length (P.program program.now) }
@@ -571,8 +552,8 @@ fn has_finished<P: ProgramView>(program: &P, ahead: &Ahead, agent: u16) -> bool
     row_of(&ahead.rows, agent).count() == program.moves(agent)
 }
 
-/// The number of actions of the longest chain, if all has been found right.
-fn judge_ahead<P: ProgramView>(
+/// The number of actions of the longest chain, if all agents have finished and stand where they are to end.
+fn finished_chain<P: ProgramView>(
     program: &P,
     grid: &Grid,
     instance: &Instance,
@@ -580,11 +561,10 @@ fn judge_ahead<P: ProgramView>(
 ) -> Option<u32>
     requires starts { HasStarts instance.now (P.program program.now) }
     requires ahead { IsAhead (is_passable grid.now) (P.program program.now) ahead.now }
-    ensures { IfSome result (IsAcceptedFor grid.now instance.now (P.program program.now)) }
+    ensures { IfSome result (λ chain. (n : ℕ) × (length (P.program program.now) ≤ n)
+        × AreDone instance.now (P.program program.now) ahead.now.rows.items n chain) }
 {
-    if !asks_no_chain(ahead) {
-        return None;
-    }
+    let _ = grid;
     let mut chain: u32 = 0;
     for agent in 0..program.agents() {
         if !has_finished(program, ahead, agent) {
@@ -597,6 +577,30 @@ fn judge_ahead<P: ProgramView>(
         chain = chain.max(row_of(&ahead.rows, agent).last());
     }
     Some(chain)
+}
+
+/// The number of actions of the longest chain, if all has been found right. Chains are asked for at open pairs alone.
+fn judge_ahead<P: ProgramView>(
+    alloc: Global,
+    program: &P,
+    grid: &Grid,
+    instance: &Instance,
+    ahead: &Ahead,
+) -> Result<Option<u32>, OutOfMemory>
+    requires starts { HasStarts instance.now (P.program program.now) }
+    requires ahead { IsAhead (is_passable grid.now) (P.program program.now) ahead.now }
+    ensures { IfOk result (λ found. IfSome found
+        (IsAcceptedFor grid.now instance.now (P.program program.now))) }
+{
+    let _agents = program.agents();
+    let Some(chain) = finished_chain(program, grid, instance, ahead) else {
+        return Ok(None);
+    };
+    let is_orderly = are_chained(alloc, program, chain, &ahead.rows, &ahead.pairs)?;
+    if is_orderly {
+        return Ok(Some(chain));
+    }
+    Ok(None)
 }
 
 /// All agents, run on as far as their awaits allow.
@@ -620,7 +624,7 @@ pub fn accepts_ahead<P: ProgramView>(
         (IsAcceptedFor grid.now instance.now (P.program program.now))) }
 {
     match run_all(alloc, program, grid) {
-        Ok(ahead) => Ok(judge_ahead(program, grid, instance, &ahead)),
+        Ok(ahead) => judge_ahead(alloc, program, grid, instance, &ahead),
         Err(Stop::OffGround) => Ok(None),
         Err(Stop::OutOfMemory) => Err(OutOfMemory),
     }

@@ -11,6 +11,7 @@ mod agents;
 mod ahead;
 mod ahead_laws;
 mod breaking;
+mod chained;
 mod counting;
 mod exactness;
 mod fault;

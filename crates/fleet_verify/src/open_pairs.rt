@@ -70,7 +70,7 @@ fn questions_of<P: ProgramView>(
 }
 
 /// The action that leaves the visit. If none does, its number is one above that of the agent's last action.
-fn leaving<P: ProgramView>(program: &P, visit: Visit) -> ActionId
+pub fn leaving<P: ProgramView>(program: &P, visit: Visit) -> ActionId
     requires { IsVisit (P.program program.now) visit }
     ensures { result ≡ leaving (P.program program.now) visit }
 {

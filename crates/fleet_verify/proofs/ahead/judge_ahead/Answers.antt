@@ -1,19 +1,26 @@
-use Rattle.std.proofs.Common.{◌≡◌, ◌-◌, ℕ, List, length, slice_index, subst, arith}
-use Rattle.fleet_verify.proofs.Beginning.{done_more, ahead_accepted}
-use Rattle.fleet_verify.proofs.Ordered.{no_entries}
+use Rattle.fleet_verify.proofs.Beginning.{done_counted, done_range, done_finish, done_visits, ahead_accepted}
 use Rattle.fleet_verify.proofs.ahead.judge_ahead.Goals as goal
 
-pub loop-agent-preserved : goal.loop-agent-preserved
-loop-agent-preserved g c =
+pub are_chained-requires : goal.are_chained-requires
+are_chained-requires g c =
     let p = g.P.ProgramView.program c.args.program.now in
-    let i = c.loop-agent.agent in
-    done_more c.args.instance.now p c.args.ahead.now.rows.items i c.loop-agent.chain c.loop-agent.invariant
-    (c.has_finished.ensures c.if-not-has_finished.false)
-    (c.ends_right.ensures.0 c.if-not-ends_right.false) c.last.result c.max-chain.result
-    (subst (λ (row : List ℕ). c.last.result ≡ slice_index row (length row - 1)) c.row_of.ensures c.last.ensures) c.max-chain.ensures
+    let n = c.in-Some.ensures.0 in
+    let all = c.in-Some.ensures.1 in
+    let done = c.in-Some.ensures.2 in
+    let wf = c.agents-agents.ensures.well_formed in
+    record {
+      range = done_range c.args.grid.now c.args.instance.now p c.args.ahead.now n c.in-Some.chain wf c.requires.starts c.requires.ahead done all;
+      finish = done_finish c.args.grid.now c.args.instance.now p c.args.ahead.now n c.in-Some.chain wf c.requires.starts c.requires.ahead done all;
+      rows = c.requires.ahead.rows;
+      levels = done_counted c.args.grid.now c.args.instance.now p c.args.ahead.now n c.in-Some.chain wf c.requires.starts c.requires.ahead done all;
+      visits = done_visits c.args.grid.now c.args.instance.now p c.args.ahead.now n c.in-Some.chain wf c.requires.starts c.requires.ahead done all;
+    }
 
-pub returns : goal.returns
-returns g c =
+pub returns-then-is_orderly : goal.returns-then-is_orderly
+returns-then-is_orderly g c =
     let p = g.P.ProgramView.program c.args.program.now in
-    ahead_accepted c.args.grid.now c.args.instance.now p c.args.ahead.now c.loop-agent.agent c.loop-agent.chain c.agents-agent-end.ensures.well_formed c.requires.starts c.requires.ahead
-    c.loop-agent.invariant (omega (arith, c.agents-agent-end.ensures.count)) (no_entries c.args.ahead.now.pairs.items (c.asks_no_chain.ensures c.if-not-asks_no_chain.false))
+    let n = c.in-Some.ensures.0 in
+    let all = c.in-Some.ensures.1 in
+    let done = c.in-Some.ensures.2 in
+    ahead_accepted c.args.grid.now c.args.instance.now p c.args.ahead.now n c.in-Some.chain c.agents-agents.ensures.well_formed c.requires.starts c.requires.ahead done all
+    (c.in_ok-is_orderly.ensures c.if-is_orderly.true)

@@ -1,0 +1,217 @@
+//! Whether chains of needs order all open pairs of a program whose levels are known. It only says yes.
+
+ghost use Rattle.std.specs.Prelude.{◌≡◌, ◌<◌, ◌≤◌, ◌+◌, ◌-◌, ◌*◌, ℕ, true, false, [], All, Contains, IfOk, IfSome, get_or, length, map};
+ghost use Rattle.fleet_model.specs.Program.{AreInRange};
+ghost use Rattle.fleet_model.specs.Machine.{IsFinish};
+ghost use Rattle.fleet_verify.specs.Ahead.{AreCountedUp, level_in};
+ghost use Rattle.fleet_verify.specs.OpenPairs.{AreVisits, question_of};
+ghost use Rattle.fleet_verify.specs.Chained.{IsChained, IsAskedOf, AreAsked, IsAsked, key_of};
+
+use crate::level_row::{LevelRow, row_of};
+use crate::open_pairs::leaving;
+use crate::visit_order::OpenPair;
+use fleet_model::{ActionId, OutOfMemory, ProgramView};
+use fleet_needs::{Question, answer_questions};
+use std::alloc::Global;
+
+/// A question for a chain, with the level of its last action.
+#[derive(Clone, Copy)]
+pub struct LevelQuestion {
+    pub level: u32,
+    pub question: Question,
+}
+
+/// More than there are agents.
+const AGENTS: u64 = 65_536;
+
+impl LevelQuestion {
+    /// One number by which questions are sorted: by the level of the last action, then by its agent.
+    fn key(&self) -> u64
+        ensures { result ≡ key_of self.now }
+    {
+        key(self.level, self.question.last.agent)
+    }
+}
+
+/// One number by which actions are sorted: by the level, then by the agent.
+fn key(level: u32, agent: u16) -> u64
+    ensures { result ≡ level * AGENTS + agent }
+{
+    u64::from(level) * AGENTS + u64::from(agent)
+}
+
+/// Whether a chain orders each of the open pairs of a program that finishes after so many ticks if nobody is held.
+pub fn are_chained<P: ProgramView>(
+    alloc: Global,
+    program: &P,
+    ticks: u32,
+    rows: &Vec<LevelRow>,
+    pairs: &Vec<OpenPair>,
+) -> Result<bool, OutOfMemory>
+    requires range { AreInRange (P.program program.now) }
+    requires finish { IsFinish (P.program program.now) [] ticks }
+    requires rows { length rows.now.items ≡ length (P.program program.now) }
+    requires levels { AreCountedUp (P.program program.now) (level_in rows.now.items) }
+    requires visits { All (AreVisits (P.program program.now)) pairs.now.items }
+    ensures { IfOk result (λ yes. yes ≡ true
+        → (k : ℕ) → (o : OpenPair) → k < length pairs.now.items
+        → IsChained (P.program program.now) (get_or pairs.now.items k o)) }
+{
+    match ask_all(alloc, program, rows, pairs)? {
+        Some(found) => answer_asked(alloc, program, ticks, rows, pairs, found),
+        None => Ok(false),
+    }
+}
+
+/// Whether a chain orders each of the open pairs that were asked for.
+fn answer_asked<P: ProgramView>(
+    alloc: Global,
+    program: &P,
+    ticks: u32,
+    rows: &Vec<LevelRow>,
+    pairs: &Vec<OpenPair>,
+    found: Vec<LevelQuestion>,
+) -> Result<bool, OutOfMemory>
+    requires range { AreInRange (P.program program.now) }
+    requires finish { IsFinish (P.program program.now) [] ticks }
+    requires levels { AreCountedUp (P.program program.now) (level_in rows.now.items) }
+    requires asked { AreAsked (P.program program.now) rows.now.items pairs.now.items
+        (length pairs.now.items) found.items }
+    ensures { IfOk result (λ yes. yes ≡ true
+        → (k : ℕ) → (o : OpenPair) → k < length pairs.now.items
+        → IsChained (P.program program.now) (get_or pairs.now.items k o)) }
+{
+    let _agents = program.agents();
+    let _ = rows;
+    let _ = pairs;
+    let asked = sorted(found);
+    if !are_rising(&asked) {
+        return Ok(false);
+    }
+    let questions = questions_of(alloc, &asked)?;
+    let flags = answer_questions(alloc, program, ticks, &questions)?;
+    Ok(is_none(&flags))
+}
+
+/// Whether nothing is flagged.
+fn is_none(flags: &Vec<bool>) -> bool
+    ensures { result ≡ true → (k : ℕ) → k < length flags.now.items
+        → get_or flags.now.items k false ≡ false }
+{
+    for k in 0..flags.len() {
+        let is_flagged = flags[k];
+        if is_flagged {
+            return false;
+        }
+    }
+    true
+}
+
+/// The questions sorted by level and agent.
+fn sorted(found: Vec<LevelQuestion>) -> Vec<LevelQuestion>
+    ensures all { (q : LevelQuestion) → Contains found.items q → Contains result.items q }
+    ensures only { (q : LevelQuestion) → Contains result.items q → Contains found.items q }
+{
+    let mut asked = found;
+    asked.sort_unstable_by_key(|one| one.key());
+    asked
+}
+
+/// The question for each open pair, unless one is for a start.
+fn ask_all<P: ProgramView>(
+    alloc: Global,
+    program: &P,
+    rows: &Vec<LevelRow>,
+    pairs: &Vec<OpenPair>,
+) -> Result<Option<Vec<LevelQuestion>>, OutOfMemory>
+    requires rows { length rows.now.items ≡ length (P.program program.now) }
+    requires visits { All (AreVisits (P.program program.now)) pairs.now.items }
+    ensures { IfOk result (λ found. IfSome found (λ asked.
+        AreAsked (P.program program.now) rows.now.items pairs.now.items (length pairs.now.items)
+        asked.items)) }
+{
+    let mut asked = Vec::new(alloc);
+    for k in 0..pairs.len() {
+        let Some(question) = ask(program, rows, pair_at(pairs, k)) else {
+            return Ok(None);
+        };
+        asked.push(question)?;
+    }
+    Ok(Some(asked))
+}
+
+/// The pair with this number.
+fn pair_at(pairs: &Vec<OpenPair>, k: usize) -> OpenPair
+    requires { k < length pairs.now.items }
+    ensures { (o : OpenPair) → get_or pairs.now.items k o ≡ result }
+{
+    pairs[k]
+}
+
+/// The question for an open pair, unless its second visit is a start.
+#[tactic(auto, using(crate::proofs::AskedByLevel::asked_of))]
+fn ask<P: ProgramView>(program: &P, rows: &Vec<LevelRow>, pair: OpenPair) -> Option<LevelQuestion>
+    requires rows { length rows.now.items ≡ length (P.program program.now) }
+    requires visits { AreVisits (P.program program.now) pair }
+    ensures { IfSome result (IsAskedOf (P.program program.now) rows.now.items pair) }
+{
+    let OpenPair { first, second, .. } = pair;
+    let level = row_of(rows, second.agent).level(second.position)?;
+    let first = leaving(program, first);
+    let last = ActionId {
+        agent: second.agent,
+        number: second.position,
+    };
+    Some(LevelQuestion {
+        level,
+        question: Question { first, last },
+    })
+}
+
+/// Whether each question has a greater key than the one before.
+fn are_rising(asked: &Vec<LevelQuestion>) -> bool
+    ensures { result ≡ true → (k : ℕ) → (q : LevelQuestion) → k + 1 < length asked.now.items
+        → key_of (get_or asked.now.items k q) < key_of (get_or asked.now.items (k + 1) q) }
+{
+    for k in 1..asked.len() {
+        if !rises_to(asked, k) {
+            return false;
+        }
+    }
+    true
+}
+
+/// Whether the question has a greater key than the one before.
+fn rises_to(asked: &Vec<LevelQuestion>, k: usize) -> bool
+    requires first { 1 ≤ k }
+    requires within { k < length asked.now.items }
+    ensures { result ≡ true → (q : LevelQuestion)
+        → key_of (get_or asked.now.items (k - 1) q) < key_of (get_or asked.now.items k q) }
+{
+    let before = question_at(asked, k - 1).key();
+    let here = question_at(asked, k).key();
+    if before < here {
+        return true;
+    }
+    false
+}
+
+/// The question with this number.
+fn question_at(asked: &Vec<LevelQuestion>, k: usize) -> LevelQuestion
+    requires { k < length asked.now.items }
+    ensures { (q : LevelQuestion) → get_or asked.now.items k q ≡ result }
+{
+    asked[k]
+}
+
+/// The questions without their levels.
+fn questions_of(alloc: Global, asked: &Vec<LevelQuestion>) -> Result<Vec<Question>, OutOfMemory>
+    ensures { IfOk result (λ questions.
+        questions.items ≡ map (λ q. q.question) asked.now.items) }
+{
+    let mut questions = Vec::new(alloc);
+    for one in asked {
+        questions.push(one.question)?;
+    }
+    Ok(questions)
+}

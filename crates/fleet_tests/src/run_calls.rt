@@ -5,7 +5,8 @@ ghost use Rattle.std.specs.List.Sorted.{IsStrictlyIncreasing};
 
 use crate::ends::Counter;
 use crate::fleets::{HELD_TRACE, PAIR_BYTES, PAIR_TEXT, PAIR_TRACE, RING_BYTES, pair, problem};
-use fleet_code::view;
+use fleet_adg::rest;
+use fleet_code::{encode, view};
 use fleet_model::{Place, ProgramView};
 use fleet_run::{
     End, Fleet, HoldList, HoldSource, HoldText, OutFault, Rehearsal, Report, RunFault, SourceFault,
@@ -136,6 +137,34 @@ fn fleets_are_ticked(rt: HostRuntime) -> Result<(), Fail> {
         assert!(rt; least <= fleet.looked() && fleet.looked() <= most);
     }
     assert_eq!(rt; fleet.into_accepted().chain(), 3);
+    Ok(())
+}
+
+/// What is left of the pair when agent 0 has carried out its first action: agent 1 waits no more for that, and for one
+/// action more of agent 0.
+const LEFT_BYTES: &[u8] = b"MPF1\0\x02\0\x02\0\0\0\x03\0\0\0\x01\x01\
+\0\0\0\0\0\x02\0\0\0\x02\x01\x10\0\0\0\x01\x01";
+
+#[test]
+fn what_is_left_is_a_program(rt: HostRuntime) -> Result<(), Fail> {
+    let alloc = rt.alloc();
+    let (grid, instance, program) = pair(alloc)?;
+    let Ok(accepted) = verify(alloc, program, &grid, &instance) else {
+        return Err(Fail::from("refused"));
+    };
+    if accepted.program().agents() != 2 {
+        return Err(Fail::from("another fleet"));
+    }
+    let mut fleet = started(alloc, accepted)?;
+    let whole = rest(alloc, fleet.accepted(), fleet.standings())?;
+    assert_eq!(rt; encode(alloc, &whole)?.as_slice(), PAIR_BYTES);
+    let _ = fleet.tick(&[false, false]);
+    let left = rest(alloc, fleet.accepted(), fleet.standings())?;
+    assert_eq!(rt; encode(alloc, &left)?.as_slice(), LEFT_BYTES);
+    let _ = fleet.tick(&[false, false]);
+    let _ = fleet.tick(&[false, false]);
+    let nothing = rest(alloc, fleet.accepted(), fleet.standings())?;
+    assert_eq!(rt; (nothing.moves(0), nothing.moves(1)), (0, 0));
     Ok(())
 }
 

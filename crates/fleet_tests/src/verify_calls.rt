@@ -2,13 +2,17 @@
 
 ghost use Rattle.fleet_model.specs.declared.geometry.Place.{Place};
 ghost use Rattle.fleet_verify.specs.Broken.{MeetUnordered, IsBrokenBy};
+ghost use Rattle.std.specs.Prelude.{◌==◌, if◌then◌else◌};
 
 use crate::fleets::{PAIR_MAP, PAIR_SCEN, RING_BYTES, pair, problem};
 use fleet_cli::Fault;
 use fleet_code::{encode, load, view};
 use fleet_model::{ActionId, Program, ProgramView, Visit};
 use fleet_run::{TraceOut, VecOut, put_all, write_holds};
-use fleet_verify::{Accepted, Reach, Refused, VerifyFault, breaking_holds, verify};
+use fleet_verify::{
+    Accepted, ActionCosts, OneEach, Reach, Refused, Times, VerifyFault, breaking_holds,
+    reached_counts, stopped_agents, verify,
+};
 use std::alloc::Global;
 use std::test::Fail;
 
@@ -150,6 +154,69 @@ const REFUSALS: [Refusal; 7] = [
 fn programs_are_refused(rt: HostRuntime) -> Result<(), Fail> {
     for (map, scen, bytes, due) in REFUSALS {
         assert_eq!(rt; refusal_of(rt.alloc(), map, scen, bytes)?.bytes(), due);
+    }
+    Ok(())
+}
+
+/// Each action of agent 0 costs five, and each of the others two.
+struct SlowFirst;
+
+impl ActionCosts for SlowFirst {
+    ghost cost = { λ c a. if a.agent == 0 then 5 else 2 };
+
+    fn cost(&self, action: ActionId) -> u32 {
+        if action.agent == 0 { 5 } else { 2 }
+    }
+}
+
+#[test]
+fn critical_paths_are_found(rt: HostRuntime) -> Result<(), Fail> {
+    let alloc = rt.alloc();
+    let (grid, instance, program) = pair(alloc)?;
+    let Ok(accepted) = verify(alloc, program, &grid, &instance) else {
+        return Err(Fail::from("refused"));
+    };
+    if accepted.program().agents() != 2 {
+        return Err(Fail::from("another fleet"));
+    }
+    let times = Times::of(alloc, &accepted, &SlowFirst)?;
+    assert_eq!(rt; times.arrivals(alloc)?.as_slice(), [10, 12].as_slice());
+    assert_eq!(rt;
+        (times.arrival(0), times.arrival(1), times.last_arrival()),
+        (10, 12, 12)
+    );
+    let mut numbers = Vec::new(alloc);
+    for action in &times.critical_path(alloc)? {
+        numbers.push((action.agent, action.number))?;
+    }
+    assert_eq!(rt; numbers.as_slice(), [(0, 1), (0, 2), (1, 2)].as_slice());
+    let Some(last) = times.latest() else {
+        return Err(Fail::from("no actions"));
+    };
+    assert_eq!(rt; (last.agent, last.number, times.end(last)), (1, 2, 12));
+    assert_eq!(rt; Times::of(alloc, &accepted, &OneEach)?.last_arrival(), 3);
+    Ok(())
+}
+
+/// Agent 1 awaits both actions of agent 0, and agent 0 none of agent 1.
+const BREAKS: [([u32; 2], [u32; 2], u16); 4] = [
+    ([0, 0], [2, 2], 0),
+    ([2, 0], [1, 1], 2),
+    ([1, 0], [0, 0], 2),
+    ([0, 2], [2, 1], 1),
+];
+
+#[test]
+fn broken_robots_stop_others(rt: HostRuntime) -> Result<(), Fail> {
+    let alloc = rt.alloc();
+    let (grid, instance, program) = pair(alloc)?;
+    let Ok(accepted) = verify(alloc, program, &grid, &instance) else {
+        return Err(Fail::from("refused"));
+    };
+    for (breaks, due, stopped) in BREAKS {
+        let counts = reached_counts(alloc, &accepted, &breaks)?;
+        assert_eq!(rt; counts.as_slice(), due.as_slice());
+        assert_eq!(rt; stopped_agents(accepted.program(), &counts), stopped);
     }
     Ok(())
 }

@@ -59,4 +59,7 @@ rehearse p q: error: unexpected argument 'q' found
 rehearse p --agents 1: error: unexpected argument '--agents' found
 rehearse p --holds a --holds b: error: the argument '--holds <FILE>' cannot be used multiple times
 list p --holds h: error: unexpected argument '--holds' found
+dispatch m s p --ahead 0: error: invalid value '0' for '--ahead <K>': 0 is not in 1..=255
+dispatch m s p --ahead 256: error: invalid value '256' for '--ahead <K>': 256 is not in 1..=255
+dispatch m s p --unnumbered=1: error: unexpected value '1' for '--unnumbered' found; no more were expected
 EOF

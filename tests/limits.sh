@@ -38,10 +38,10 @@ south='BEGIN { print "version 1"; for (i = 0; i < 1024; i++) print "0 m 1024 2",
 wide='BEGIN { r = "."; while (length(r) < 1024) r = r r; print "type t\nheight 2\nwidth 1024\nmap\n" r "\n" r }'
 orders='awk "/^go/ { n++; next } { print } END { print n, \"orders\" }"'
 check 'a dispatch of 1,024 robots that report one at a time' 0 'arrived\nagents 1024\nmoves 1024\nreports 1024\n1024 orders\n' '' \
-    "awk '$wide' > wide.map && awk '$south' > south && fleet plan wide.map south > plan && fleet compile wide.map south plan down > numbers && seq 0 1023 | fleet dispatch wide.map south down | $orders"
-check '.. all at once' 0 'arrived\nagents 1024\nmoves 1024\nreports 1\n1024 orders\n' '' "seq 0 1023 | paste -s -d ' ' - | fleet dispatch wide.map south down | $orders"
-check '.. and of one that is reported twice' 1 "$(printf 'go %s' '1023 1023,0 1023,1')\n" 'dispatch 3 NotOrdered line 3 agent 7\n' "printf '%s\\n' 7 9 7 | fleet dispatch wide.map south down > told; status=\$?; tail -n 1 told; exit \$status"
-check '.. of a number too many' 1 '' 'dispatch 2 Form line 1\n' 'echo 1024 | fleet dispatch wide.map south down > told'
+    "awk '$wide' > wide.map && awk '$south' > south && fleet plan wide.map south > plan && fleet compile wide.map south plan down > numbers && seq 0 1023 | sed s/\$/:1/ | fleet dispatch wide.map south down | $orders"
+check '.. all at once' 0 'arrived\nagents 1024\nmoves 1024\nreports 1\n1024 orders\n' '' "seq 0 1023 | sed s/\$/:1/ | paste -s -d ' ' - | fleet dispatch wide.map south down | $orders"
+check '.. and of one that is reported twice without a number' 1 "$(printf 'go %s' '1023 1023,0 1023,1')\n" 'dispatch 3 NotOrdered line 3 agent 7\n' "printf '%s\\n' 7 9 7 | fleet dispatch wide.map south down --unnumbered > told; status=\$?; tail -n 1 told; exit \$status"
+check '.. of a number too many' 1 '' 'dispatch 3 NotOrdered line 1 agent 1024\n' 'echo 1024:1 | fleet dispatch wide.map south down > told'
 check 'a horizon that just does' 0 '1,0 2,0 3,0\n0,0 1,0 2,0\n' '' "fleet plan $M $S --horizon 2"
 check 'a path of 65,536 cells' 0 'conflict-free\nagents 1\nsteps 65535\n' '' \
     "awk 'BEGIN { for (t = 0; t < 65533; t++) printf \"1,0 \"; print \"1,0 2,0 3,0\" }' | fleet check $M $S /dev/stdin --agents 1"

@@ -152,8 +152,8 @@ instance $on --agents 3
 verify examples/corridor.map examples/corridor.scen examples/pair.program
 EOF
     check 'each growth refused: no words' 0 'each\n' '' 'input=examples/pair.hex growths fleet'
-    check 'each growth refused: dispatch' 0 'each\n' '' "printf '%s\n' 0 '0 1' 1 > reports && input=reports growths fleet dispatch $on examples/pair.program"
-    check '.. which stops at a report' 0 'each\n' '' "printf '%s\n' 0 1 1 > reports && input=reports growths fleet dispatch $on examples/pair.program"
+    check 'each growth refused: dispatch' 0 'each\n' '' "printf '%s\n' 0:1 '0:2 1:1' 1:2 > reports && input=reports growths fleet dispatch $on examples/pair.program"
+    check '.. which stops at a report' 0 'each\n' '' "printf '%s\n' 0:1 1:1 1:3 > reports && input=reports growths fleet dispatch $on examples/pair.program"
     # The verifier says yes to most programs from a run ahead, for which it makes no machine, and goes through all others
     # again. No contract says which.
     check 'a program that is accepted ahead' 0 'few\n' '' "test \$(extra fleet verify $on examples/pair.program) -le 30 && echo few"
@@ -196,5 +196,5 @@ list program
 dispatch $many program
 EOF
 check 'a small stack: no words' 0 'right\n' '' 'input=examples/pair.hex stack fleet'
-check 'a small stack: dispatch to its end' 0 'right\n' '' "printf '%s\\n' 0 '0 1' 1 > reports && input=reports stack fleet dispatch $on examples/pair.program"
+check 'a small stack: dispatch to its end' 0 'right\n' '' "printf '%s\\n' 0:1 '0:2 1:1' 1:2 > reports && input=reports stack fleet dispatch $on examples/pair.program"
 rm -rf "$room"

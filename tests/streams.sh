@@ -34,19 +34,21 @@ check 'commands do not read standard input' 0 "$(sed 1q "$room/$P")\n" '' "fleet
 
 # A dispatch: each order comes before the report of it is waited for, and each report as it comes.
 pair='examples/pair.map examples/pair.scen examples/pair.program'
-check 'orders come before reports are waited for' 0 'go 0 1,0 2,0\ngo 0 2,0 3,0, go 1 0,0 1,0\ngo 1 1,0 2,0\narrived\nagents 2\nmoves 4\nreports 3\n' '' "
+check 'orders come before reports are waited for' 0 'go 0:1 1,0 2,0\ngo 0:2 2,0 3,0, go 1:1 0,0 1,0\ngo 1:2 1,0 2,0\narrived\nagents 2\nmoves 4\nreports 3\n' '' "
     mkfifo reports orders
     fleet dispatch $pair < reports > orders &
     exec 3> reports 4< orders
-    read -r one <&4; echo \"\$one\"; echo 0 >&3
-    read -r one <&4; read -r other <&4; echo \"\$one, \$other\"; echo '0 1' >&3
-    read -r one <&4; echo \"\$one\"; echo 1 >&3
+    read -r one <&4; echo \"\$one\"; echo 0:1 >&3
+    read -r one <&4; read -r other <&4; echo \"\$one, \$other\"; echo '0:2 1:1' >&3
+    read -r one <&4; echo \"\$one\"; echo 1:2 >&3
     cat <&4"
-check 'a report that comes byte by byte' 0 'go 1 1,0 2,0\narrived\n' '' \
-    "{ printf 0; sleep 0.2; printf '\\n0'; sleep 0.2; printf ' '; sleep 0.2; printf '1\\n1'; sleep 0.2; printf '\\n'; } | fleet dispatch $pair | sed -n 4,5p"
-check 'a dispatch stops at its end' 0 'reports 3\n' '' "printf '%s\\n' 0 '0 1' 1 0 x | fleet dispatch $pair | tail -n 1"
-check 'reports are closed' 3 'go 0 1,0 2,0\n' 'file -\n' "fleet dispatch $pair <&-"
-check 'reports are a folder' 3 'go 0 1,0 2,0\n' 'file -\n' "fleet dispatch $pair < examples"
+check 'a report that comes byte by byte' 0 'go 1:2 1,0 2,0\narrived\n' '' \
+    "{ printf 0:; sleep 0.2; printf '1\\n0:2'; sleep 0.2; printf ' '; sleep 0.2; printf '1:1\\n1:'; sleep 0.2; printf '2\\n'; } | fleet dispatch $pair | sed -n 4,5p"
+check 'a dispatch stops at its end' 0 'reports 3\n' '' "printf '%s\\n' 0:1 '0:2 1:1' 1:2 0:1 x | fleet dispatch $pair | tail -n 1"
+check 'a log that is cut anywhere' 0 '17 arrived\n17 reports 3\n' '' \
+    "printf '%s\\n' 0:1 '0:2 1:1' 1:2 > all; for n in \$(seq 0 16); do head -c \$n all > log; fleet dispatch $pair --resume log < all; done | grep -E '^(arrived|reports)' | sort | uniq -c | sed 's/^ *//'"
+check 'reports are closed' 3 'go 0:1 1,0 2,0\n' 'file -\n' "fleet dispatch $pair <&-"
+check 'reports are a folder' 3 'go 0:1 1,0 2,0\n' 'file -\n' "fleet dispatch $pair < examples"
 
 # A reader that goes away: what is longer than a pipe takes is a failed write, what is shorter is done.
 check 'a long trace into head' 0 "$(sed 1q "$root/examples/warehouse.trace")\n3\nrun 4 Write\n" '' \
@@ -116,9 +118,9 @@ while [ "$status" -ne 0 ] && [ "$bytes" -lt 1000 ]; do
 done | uniq -c | sed 's/^ *//'
 EOF
 chmod +x "$work/bin/output_cut" "$work/bin/input_cut" "$work/bin/files_cut"
-check 'a report without an end is heard up to a length' 1 'go 0 1,0 2,0\n' 'dispatch 2 Form line 1\n' "head -c 20000 /dev/zero | tr '\\0' 0 | fleet dispatch $pair"
+check 'a report without an end is heard up to a length' 1 'go 0:1 1,0 2,0\n' 'dispatch 2 Form line 1\n' "head -c 20000 /dev/zero | tr '\\0' 0 | fleet dispatch $pair"
 if ${CC:-cc} -shared -fPIC -o "$STREAMS" "$root/tests/streams.c" -ldl 2> /dev/null; then
-    printf '%s\n' 0 '0 1' 1 > "$room/lines"
+    printf '%s\n' 0:1 '0:2 1:1' 1:2 > "$room/lines"
     # 32 is a broken pipe; in the way 0 nothing is taken, and no error answered.
     while IFS='|' read -r way line input words; do
         check "standard output is cut ($way): ${words:-no words}" 0 'each\n' '' "input=$input output_cut $way '$line' fleet $words"
@@ -139,7 +141,7 @@ EOF
     bytes=$(wc -c < "$room/examples/pair.hex" | tr -d ' ')
     for way in 4 5; do
         check "standard input is cut ($way): no words" 0 "$bytes:\n" '' "input=examples/pair.hex input_cut $way fleet"
-        check "standard input is cut ($way): dispatch" 0 '8: 8\n' '' "input=lines input_cut $way fleet dispatch $pair"
+        check "standard input is cut ($way): dispatch" 0 '16: 8\n' '' "input=lines input_cut $way fleet dispatch $pair"
     done
 
     # The map has 38 bytes, the scenario 78 and the program 40, and each is read to its end; 28 is a full disk.

@@ -41,6 +41,12 @@ if python3 --version > "$work/out" 2>&1; then
         check "vehicles behind a gateway arrive, seed $seed" 0 'arrived\nagents 3\nmoves 6\nreports 6\n' '' \
             "python3 examples/vda5050.py examples/corridor.map examples/corridor.scen examples/corridor.program $seed"
     done
+    awk '/^```python$/ { on = 1; next } /^```$/ { on = 0 } on' "$root/docs/DRIVING.md" > "$room/drive.py"
+    check 'the client of the page on robots has at most 40 lines' 0 'few\n' '' "[ \$(wc -l < drive.py) -le 40 ] && echo few"
+    check 'it drives the robots' 0 'arrived\nagents 3\nmoves 6\nreports 6\n' '' \
+        'rm -f log && python3 drive.py examples/corridor.map examples/corridor.scen examples/corridor.program'
+    check '.. and goes on after its log' 0 'arrived\nagents 3\nmoves 6\nreports 6\n' '' \
+        'head -n 3 log > front && mv front log && python3 drive.py examples/corridor.map examples/corridor.scen examples/corridor.program'
 else
-    skip 'vehicles behind a gateway: no python3'
+    skip 'vehicles behind a gateway, and a client in Python: no python3'
 fi

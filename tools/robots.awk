@@ -1,9 +1,10 @@
 # Plays the robots of a dispatch, each with a speed of its own, and checks from outside that they keep apart (robots.sh calls it):
-#     awk -v reports=PIPE [-v seed=N] [-v trace=FILE] -f tools/robots.awk INSTANCE ORDERS
+#     awk -v reports=PIPE -v log_file=FILE [-v repeats=1] [-v seed=N] [-v trace=FILE] -f tools/robots.awk INSTANCE ORDERS
 # INSTANCE is what `fleet instance` prints: where the robots stand. ORDERS are the lines of `fleet dispatch`, and between them lines `tick`, the
-# clock. A move takes a robot some ticks, by chance, of which some robots need more than others. All that end in one tick are one report.
-# A robot claims the cell on which it stands, and from its order on also the one that it goes to, until it has reported. It says at
-# the end how many orders and ticks there were, or else what was wrong. In the trace a line is a tick.
+# clock, and `again` where a dispatch was killed and another one goes on. A move takes a robot some ticks, by chance, of which some robots
+# need more than others. All that end in one tick are one report, which is logged before it is said. A robot claims the cell on which it
+# stands, and from its orders on also those to which they lead, until it has reported. It says at the end how many orders and ticks there
+# were, or else what was wrong. In the trace a line is a tick.
 
 function wrong(text) {
     if (!fault) print "wrong: " text
@@ -14,13 +15,34 @@ function wrong(text) {
 function claim(cell, i) {
     if (cell in owner && owner[cell] != i) wrong("robots " owner[cell] " and " i " claim " cell)
     owner[cell] = i
+    claims[cell]++
+}
+
+function release(cell) {
+    if (--claims[cell] == 0) delete owner[cell]
+}
+
+# Says a report, which is logged before.
+function say(line) {
+    print line >> log_file
+    fflush(log_file)
+    print line > reports
+    fflush(reports)
+}
+
+# Robot i begins its next action, if it has the order.
+function begin(i) {
+    if (done[i] == told[i]) return
+    is_moving[i] = 1
+    began[i] = now
+    ends[i] = now + slow[i] + int(rand() * 3)
 }
 
 # How far robot i is on its way, as a place.
 function place(i,   from, to, part) {
     split(here[i], from, ",")
-    if (!(i in there)) return here[i]
-    split(there[i], to, ",")
+    if (!(i in is_moving)) return here[i]
+    split(way[i, done[i] + 1], to, ",")
     part = (now - began[i]) / (ends[i] - began[i])
     return sprintf("%.2f,%.2f", from[1] + part * (to[1] - from[1]), from[2] + part * (to[2] - from[2]))
 }
@@ -36,8 +58,7 @@ BEGIN {
     srand(seed)
     now = 0
     # A report of nobody, which opens the pipe.
-    print "-" > reports
-    fflush(reports)
+    say("-")
     sent = 1
 }
 
@@ -46,7 +67,10 @@ NR == FNR && /^[0-9]+:/ {
     i = $1 + 0
     robots = i + 1
     here[i] = $2
+    sent_to[i] = $2
     goal[i] = $3
+    done[i] = 0
+    told[i] = 0
     slow[i] = 1 + int(rand() * 6)
     claim($2, i)
 }
@@ -54,33 +78,47 @@ NR == FNR { next }
 
 FNR == 1 { note() }
 
-/^go [0-9]+ [0-9]+,[0-9]+ [0-9]+,[0-9]+$/ {
-    i = $2
-    if (i in there) wrong("robot " i " has two orders")
-    if (here[i] != $3) wrong("robot " i " stands on " here[i] ", and is sent from " $3)
+/^go [0-9]+:[0-9]+ [0-9]+,[0-9]+ [0-9]+,[0-9]+$/ {
+    split($2, name, ":")
+    i = name[1]
+    n = name[2]
+    if (n <= told[i]) {
+        if (!is_again || $4 != way[i, n]) wrong("action " $2 " is ordered twice")
+        repeated++
+        next
+    }
+    if (n != told[i] + 1) wrong("action " $2 " is ordered out of turn")
+    if (sent_to[i] != $3) wrong("robot " i " is to go to " sent_to[i] ", and is sent from " $3)
     claim($4, i)
-    there[i] = $4
-    began[i] = now
-    ends[i] = now + slow[i] + int(rand() * 3)
+    way[i, n] = $4
+    sent_to[i] = $4
+    told[i] = n
     orders++
+    if (!(i in is_moving)) begin(i)
     next
 }
+
+/^again$/ { is_again = 1; next }
 
 /^tick$/ && !over {
     now++
     line = ""
     for (i = 0; i < robots; i++) {
-        if ((i in there) && ends[i] <= now) {
-            line = line (line == "" ? "" : " ") i
-            delete owner[here[i]]
-            here[i] = there[i]
-            delete there[i]
+        if ((i in is_moving) && ends[i] <= now) {
+            done[i]++
+            line = line (line == "" ? "" : " ") i ":" done[i]
+            release(here[i])
+            here[i] = way[i, done[i]]
+            delete is_moving[i]
+            begin(i)
         }
     }
     note()
+    if (repeats && before != "" && rand() < 0.3) say(before)
     if (line != "") {
-        print line > reports
-        fflush(reports)
+        say(line)
+        if (repeats && rand() < 0.3) say(line)
+        before = line
         sent++
     }
     next

@@ -1,23 +1,41 @@
 #!/bin/sh
 # Robots of different speeds against `fleet dispatch` (or the program in the variable FLEET), through two pipes:
-#     sh tools/robots.sh MAP SCEN PROGRAM [SEED] [TRACE]
-# The robots are in robots.awk, which checks from outside that no two of them claim one cell. The clock ticks every hundredth of a second.
-# Its number of ticks is printed on standard error. TRACE, if it is named, gets the places of the robots in each tick, for tools/film.awk.
+#     [AHEAD=K] [REPEATS=1] [KILL=N] sh tools/robots.sh MAP SCEN PROGRAM [SEED] [TRACE]
+# The robots are in robots.awk, which checks from outside that no two of them claim one cell, and that each action is ordered once. The
+# clock ticks every hundredth of a second. Its number of ticks is printed on standard error. TRACE, if it is named, gets the places of the
+# robots in each tick, for tools/film.awk. A robot has up to K orders ahead (1). With REPEATS some reports come twice, or late a second
+# time. With KILL the dispatch is killed after every N ticks, and goes on after the log of all reports.
 
 fleet=${FLEET:-fleet}
 here=$(cd "$(dirname "$0")" && pwd) || exit 2
 pipes=$(mktemp -d) || exit 2
 trap 'rm -rf "$pipes"' EXIT
 mkfifo "$pipes/reports" "$pipes/orders" || exit 2
+: > "$pipes/log"
 $fleet instance "$1" "$2" > "$pipes/instance" || exit 2
 {
-    $fleet dispatch "$1" "$2" "$3" < "$pipes/reports" &
-    while kill -0 $! 2> "$pipes/gone"; do
+    exec 3<> "$pipes/reports"
+    $fleet dispatch "$1" "$2" "$3" --ahead "${AHEAD:-1}" <&3 &
+    ticks=0
+    while :; do
+        if ! kill -0 $! 2> "$pipes/gone"; then
+            wait $!
+            [ $? -eq 137 ] || break
+            echo again
+            $fleet dispatch "$1" "$2" "$3" --ahead "${AHEAD:-1}" --resume "$pipes/log" <&3 &
+        fi
         echo tick
         sleep 0.01
+        ticks=$((ticks + 1))
+        if [ -n "$KILL" ] && [ $((ticks % KILL)) -eq 0 ]; then
+            kill -9 $! 2> "$pipes/gone"
+        fi
     done
-} > "$pipes/orders" &
+} > "$pipes/orders" 2> "$pipes/said" &
 # An awk that waits for a whole block of a pipe, as mawk does, is asked to take it line by line.
 by_line=
 awk -W version < /dev/null 2>&1 | grep -q '^mawk' && by_line='-W interactive'
-awk $by_line -v reports="$pipes/reports" -v seed="${4:-1}" -v trace="$5" -f "$here/robots.awk" "$pipes/instance" - < "$pipes/orders"
+awk $by_line -v reports="$pipes/reports" -v log_file="$pipes/log" -v repeats="$REPEATS" -v seed="${4:-1}" -v trace="$5" -f "$here/robots.awk" "$pipes/instance" - < "$pipes/orders"
+status=$?
+grep -v -i kill "$pipes/said" >&2
+exit $status

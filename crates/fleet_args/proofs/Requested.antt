@@ -25,7 +25,7 @@ use Rattle.fleet_args.specs.declared.arguments.Argument.TheVariants as a
 use Rattle.fleet_args.specs.declared.tries.Best.TheVariants as best_is
 use Rattle.fleet_model.specs.declared.limits.TheConstants.{MAX_MOVES, MAX_TRIES}
 use Rattle.fleet_model.specs.declared.deps.Deps.TheVariants as deps
-use Rattle.fleet_args.specs.Arguments.{AreNames, agents_rule, horizon_rule, tries_rule, best_rule, deps_rule, dwell_rule, rule_for, word}
+use Rattle.fleet_args.specs.Arguments.{AreNames, agents_rule, horizon_rule, tries_rule, best_rule, deps_rule, dwell_rule, ahead_rule, rule_for, word}
 use Rattle.fleet_args.specs.CommandLine.{commands, fleet, fleet_top, shape_in}
 use Rattle.fleet_args.specs.Values.{Values, values_of, best_by, deps_in, number_by, number_in, has_text, reads_number, has_number, has_count, has_kind, reads_best, has_value}
 use Rattle.fleet_args.specs.Request.{is_answered_by}
@@ -140,6 +140,12 @@ module _ (shape : Shape) (negates : (leaf shape).subcommand_negates_reqs ≡ fal
       let value = number_value 16 (at place horizon_rule) rows 1 65535 refl (omega arith) (default_value (leaf shape) words none (at place horizon_rule) alone refl refl) in
       ap (λ number. is_some (option_and_then (λ n. n) number)) value.1
 
+  ahead : (place : ℕ) → IsAt shape place (codes "ahead") ahead_rule → has_number values (codes "ahead") ≡ true
+  ahead place alone =
+      let rows = rows_after (leaf shape).rules [] words in
+      let value = number_value 16 (at place ahead_rule) rows 1 255 refl (omega arith) (default_value (leaf shape) words none (at place ahead_rule) alone refl refl) in
+      ap (λ number. is_some (option_and_then (λ n. n) number)) value.1
+
   tries : (place : ℕ) → IsAt shape place (codes "tries") tries_rule → has_count values (codes "tries") ≡ true
   tries place alone =
       let rows = rows_after (leaf shape).rules [] words in
@@ -197,6 +203,9 @@ module _ (names : OptionNames) (are : AreNames names) (shape : Shape) (negates :
   has a.Dwell place alone = dwell shape negates words none place alone
   has a.Holds place alone = refl
   has a.Numbers place alone = refl
+  has a.Ahead place alone = ahead shape negates words none place alone
+  has a.Unnumbered place alone = refl
+  has a.Resume place alone = refl
 
   have : (place : ℕ) (xs : List Argument) → AreAt names shape place xs → list_all (has_value (values shape negates words none)) xs ≡ true
   have place [] h = refl

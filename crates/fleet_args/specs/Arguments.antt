@@ -59,6 +59,10 @@ deps_rule names = defaulted (codes "deps") (parser.Names names.deps) (codes "las
 abbrev pub dwell_rule : Rule
 dwell_rule = defaulted (codes "dwell") (parser.Signed (pos 0) (pos MAX_MOVES)) (codes "0")
 
+-- `--ahead K`, where K is a number from 1 to 255, and 1 if the option is not used
+abbrev pub ahead_rule : Rule
+ahead_rule = defaulted (codes "ahead") (parser.Signed (pos 1) (pos 255)) (codes "1")
+
 -- `--NAME`, which is used or not
 abbrev pub flag : Text → Rule
 flag name = record (new_rule name) { long = Some name; action = Some SetTrue }
@@ -111,6 +115,9 @@ rule_for names a.Deps = deps_rule names
 rule_for names a.Dwell = dwell_rule
 rule_for names a.Holds = option (codes "holds")
 rule_for names a.Numbers = flag (codes "numbers")
+rule_for names a.Ahead = ahead_rule
+rule_for names a.Unnumbered = flag (codes "unnumbered")
+rule_for names a.Resume = option (codes "resume")
 
 -- a command without subcommands, by its name and its arguments
 abbrev pub command : Text → List Rule → Shape

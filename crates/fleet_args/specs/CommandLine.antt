@@ -32,7 +32,7 @@ commands =
     (codes "thin", a.Map ∷ a.Scen ∷ a.Program ∷ a.Out ∷ a.Agents ∷ []) ∷
     (codes "migrate", a.Program ∷ a.Out ∷ []) ∷
     (codes "list", a.Program ∷ []) ∷
-    (codes "dispatch", a.Map ∷ a.Scen ∷ a.Program ∷ a.Agents ∷ []) ∷
+    (codes "dispatch", a.Map ∷ a.Scen ∷ a.Program ∷ a.Agents ∷ a.Ahead ∷ a.Unnumbered ∷ a.Resume ∷ []) ∷
     []
 
 -- the shape of a command

@@ -105,3 +105,6 @@ pub record AsksDispatch (values : Values) (request : DispatchRequest) : Type 0 w
   pub scen : IsText values (codes "scen") request.scen
   pub program : IsText values (codes "program") request.program
   pub agents : IsNumberIfUsed values (codes "agents") request.agents
+  pub ahead : IsNumber values (codes "ahead") request.ahead
+  pub unnumbered : IsFlag values (codes "unnumbered") request.unnumbered
+  pub resume : IsTextIfUsed values (codes "resume") request.resume

@@ -129,3 +129,6 @@ has_value values a.Deps = has_kind values (codes "deps")
 has_value values a.Dwell = has_count values (codes "dwell")
 has_value values a.Holds = true
 has_value values a.Numbers = true
+has_value values a.Ahead = has_number values (codes "ahead")
+has_value values a.Unnumbered = true
+has_value values a.Resume = true

@@ -34,6 +34,9 @@ pub(crate) enum Argument {
     Dwell,
     Holds,
     Numbers,
+    Ahead,
+    Unnumbered,
+    Resume,
 }
 
 /// The values that an argument takes.
@@ -189,6 +192,33 @@ const NUMBERS: ArgumentText = ArgumentText {
     default: None,
 };
 
+const AHEAD: ArgumentText = ArgumentText {
+    name: "ahead",
+    value: "K",
+    help: "How many orders an agent may have at most that it has not reported, 1 to 255",
+    is_word: false,
+    values: Values::Numbers(1, u8::MAX as i64),
+    default: Some("1"),
+};
+
+const UNNUMBERED: ArgumentText = ArgumentText {
+    name: "unnumbered",
+    value: "",
+    help: "Orders and reports name agents alone: go AGENT FROM TO, and a report that comes twice counts twice",
+    is_word: false,
+    values: Values::Flag,
+    default: None,
+};
+
+const RESUME: ArgumentText = ArgumentText {
+    name: "resume",
+    value: "FILE",
+    help: "Goes on after the reports in this file: takes them first, and then prints the orders that are open",
+    is_word: false,
+    values: Values::Text,
+    default: None,
+};
+
 /// What this argument is.
 fn text_of(argument: Argument) -> ArgumentText
     ensures { (names : OptionNames) → rule_by names result ≡ rule_for names argument }
@@ -207,6 +237,9 @@ fn text_of(argument: Argument) -> ArgumentText
         Argument::Dwell => DWELL,
         Argument::Holds => HOLDS,
         Argument::Numbers => NUMBERS,
+        Argument::Ahead => AHEAD,
+        Argument::Unnumbered => UNNUMBERED,
+        Argument::Resume => RESUME,
     }
 }
 

@@ -28,14 +28,15 @@ use Rattle.fleet_cli.specs.MigrateCommand.{AnswersMigrate}
 use Rattle.fleet_cli.specs.ListCommand.{AnswersList}
 use Rattle.fleet_cli.specs.DispatchCommand.{AnswersDispatch}
 use Rattle.fleet_dispatch.specs.Talk.{Talk}
+use Rattle.fleet_dispatch.specs.declared.form.ReportForm.{ReportForm}
 use Rattle.fleet_cli.specs.declared.fault.Fault.{Fault}
 use Rattle.fleet_cli.specs.declared.fault.Fault.TheVariants as f
 
--- the names of files, in the order in which they are read
+-- the names of files, in the order in which they are read; no log is among them
 abbrev pub names_by : Option (Bor (List ℕ)) → Option (Bor (List ℕ)) → Option (Bor (List ℕ)) → Option (Bor (List ℕ)) → FileNames
-names_by map scen subject holds = record { map = map; scen = scen; subject = subject; holds = holds }
+names_by map scen subject holds = record { map = map; scen = scen; subject = subject; holds = holds; log = None }
 
--- the files that each command reads, that of the holds last
+-- the files that each command reads, those of the holds and of the log last
 abbrev pub names_of : Request → FileNames
 names_of (r.Instance q) = names_by (Some q.map) (Some q.scen) None None
 names_of (r.Check q) = names_by (Some q.map) (Some q.scen) (Some q.plan) None
@@ -48,11 +49,11 @@ names_of (r.Auto q) = names_by (Some q.map) (Some q.scen) None q.holds
 names_of (r.Thin q) = names_by (Some q.map) (Some q.scen) (Some q.program) None
 names_of (r.Migrate q) = names_by None None (Some q.program) None
 names_of (r.List q) = names_by None None (Some q.program) None
-names_of (r.Dispatch q) = names_by (Some q.map) (Some q.scen) (Some q.program) None
+names_of (r.Dispatch q) = record (names_by (Some q.map) (Some q.scen) (Some q.program) None) { log = q.resume }
 
 -- What each command answers for the texts of its files: all but `compile`, `thin` and `migrate` leave every file as before, and all but
 -- `dispatch` leave the input unread; `dispatch` tells robots over the output and hears them by the input
-abbrev pub AnswersRequest : (files after : Option Store) → (unread unwritten : Type 0) → (Talk → Type 0) → Request → FileTexts → (out out' : SinkState) → Result ℕ Fault → Type 0
+abbrev pub AnswersRequest : (files after : Option Store) → (unread unwritten : Type 0) → (ReportForm → Talk → Type 0) → Request → FileTexts → (out out' : SinkState) → Result ℕ Fault → Type 0
 AnswersRequest files after unread unwritten talks (r.Instance q) texts out out' result = AnswersInstance q texts out out' result × AreUnchanged files after × unread
 AnswersRequest files after unread unwritten talks (r.Check q) texts out out' result = AnswersCheck q texts out out' result × AreUnchanged files after × unread
 AnswersRequest files after unread unwritten talks (r.Plan q) texts out out' result = AnswersPlan q texts out out' result × AreUnchanged files after × unread
@@ -68,7 +69,7 @@ AnswersRequest files after unread unwritten talks (r.Dispatch q) texts out out' 
 
 -- What a request is answered. Its files were read, which leaves every file as before, and this is the answer for their texts; or one of
 -- them was not read, which is the refusal, and nothing was written, and the input not read
-abbrev pub DoesRequest : (files after : Option Store) → (unread unwritten : Type 0) → (Talk → Type 0) → Request → (out out' : SinkState) → Result ℕ Fault → Type 0
+abbrev pub DoesRequest : (files after : Option Store) → (unread unwritten : Type 0) → (ReportForm → Talk → Type 0) → Request → (out out' : SinkState) → Result ℕ Fault → Type 0
 DoesRequest files after unread unwritten talks request out out' result =
     ((texts : FileTexts) × (read : Option Store) × AreTexts files (names_of request) texts × AreUnchanged files read
     × AnswersRequest read after unread unwritten talks request texts out out' result)
@@ -77,7 +78,7 @@ DoesRequest files after unread unwritten talks request out out' result =
 
 -- the request was done, and its status is answered; or a refusal was reported, and the refusal's status is answered: the other output took
 -- that one line, or failed within it
-abbrev pub RunsRequest : (files after : Option Store) → (unread unwritten : Type 0) → (Talk → Type 0) → Request → (out out' err err' : SinkState) → ℕ → Type 0
+abbrev pub RunsRequest : (files after : Option Store) → (unread unwritten : Type 0) → (ReportForm → Talk → Type 0) → Request → (out out' err err' : SinkState) → ℕ → Type 0
 RunsRequest files after unread unwritten talks request out out' err err' status =
     (done : Result ℕ Fault) × DoesRequest files after unread unwritten talks request out out' done × Finishes done err err' status
 
@@ -93,7 +94,7 @@ StopsAtWords (w.Help text) out out' err err' status =
 -- without words the run of the input; else the command that the words ask for, or a stop at words that the command line does not take.
 -- Every file is as before, but for the file OUT of `compile`, `thin` and `migrate`. The input is read whole without words, and else
 -- by `dispatch` alone, whose robots report by it
-abbrev pub RunsCommand : List Text → Option (List ℕ) → (files after : Option Store) → (unread unwritten : Type 0) → (Talk → Type 0) → (out out' err err' : SinkState) → ℕ → Type 0
+abbrev pub RunsCommand : List Text → Option (List ℕ) → (files after : Option Store) → (unread unwritten : Type 0) → (ReportForm → Talk → Type 0) → (out out' err err' : SinkState) → ℕ → Type 0
 RunsCommand [] input files after unread unwritten talks out out' err err' status = RunsHex input out out' err err' status × AreUnchanged files after
 RunsCommand (word ∷ words) input files after unread unwritten talks out out' err err' status =
     ((request : Request) × ReadsFleet (word ∷ words) (Ok request) × RunsRequest files after unread unwritten talks request out out' err err' status)

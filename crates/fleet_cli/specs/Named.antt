@@ -39,7 +39,7 @@ given_name (Some name) = name.now ∷ []
 
 -- the names that were given, in the order in which their files are read
 abbrev pub given_names : FileNames → List (List ℕ)
-given_names names = given_name names.map ++ (given_name names.scen ++ (given_name names.subject ++ given_name names.holds))
+given_names names = given_name names.map ++ (given_name names.scen ++ (given_name names.subject ++ (given_name names.holds ++ given_name names.log)))
 
 -- the bytes of the named file, or none if none is named
 abbrev pub IsGiven : Option Store → Option (Bor (List ℕ)) → List ℕ → Type 0
@@ -52,3 +52,4 @@ pub record AreTexts (files : Option Store) (names : FileNames) (texts : FileText
   pub scen : IsGiven files names.scen texts.scen.items
   pub subject : IsGiven files names.subject texts.subject.items
   pub holds : IsGiven files names.holds texts.holds.items
+  pub log : IsGiven files names.log texts.log.items

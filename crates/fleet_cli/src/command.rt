@@ -27,7 +27,7 @@ use fleet_dispatch::ReportsTo;
 use fleet_run::{Flush, OutFault, TraceOut, put_all};
 use std::alloc::Global;
 
-/// The names of files, in the order in which they are read.
+/// The names of files, in the order in which they are read; no log is among them.
 fn names_by<'a>(
     map: Option<&'a str>,
     scen: Option<&'a str>,
@@ -41,6 +41,7 @@ fn names_by<'a>(
         scen,
         subject,
         holds,
+        log: None,
     }
 }
 
@@ -60,7 +61,13 @@ fn names_of<'a>(request: &Request<'a>) -> FileNames<'a>
         Request::Thin(q) => names_by(Some(q.map), Some(q.scen), Some(q.program), None),
         Request::Migrate(q) => names_by(None, None, Some(q.program), None),
         Request::List(q) => names_by(None, None, Some(q.program), None),
-        Request::Dispatch(q) => names_by(Some(q.map), Some(q.scen), Some(q.program), None),
+        Request::Dispatch(q) => FileNames {
+            map: Some(q.map),
+            scen: Some(q.scen),
+            subject: Some(q.program),
+            holds: None,
+            log: q.resume,
+        },
     }
 }
 

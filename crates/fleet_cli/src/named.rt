@@ -10,13 +10,14 @@ use crate::input::FileFault;
 use std::alloc::Global;
 
 /// The files that a command reads, by their names, in this order: the map, the scenario, the plan or the program that it
-/// is about, and the holds.
+/// is about, the holds, and the log of reports.
 #[derive(Clone, Copy)]
 pub(crate) struct FileNames<'a> {
     pub(crate) map: Option<&'a str>,
     pub(crate) scen: Option<&'a str>,
     pub(crate) subject: Option<&'a str>,
     pub(crate) holds: Option<&'a str>,
+    pub(crate) log: Option<&'a str>,
 }
 
 /// What those files hold; nothing of a file that is not named.
@@ -26,6 +27,7 @@ pub(crate) struct FileTexts {
     pub(crate) scen: Vec<u8>,
     pub(crate) subject: Vec<u8>,
     pub(crate) holds: Vec<u8>,
+    pub(crate) log: Vec<u8>,
 }
 
 /// The bytes of the file. Want of memory is `Memory`, and a file that cannot be read is `File` with its name.
@@ -78,11 +80,13 @@ pub(crate) fn read_files<'a, F: Files>(
     let scen = read_given(alloc, files, names.scen)?;
     let subject = read_given(alloc, files, names.subject)?;
     let holds = read_given(alloc, files, names.holds)?;
+    let log = read_given(alloc, files, names.log)?;
     Ok(FileTexts {
         map,
         scen,
         subject,
         holds,
+        log,
     })
 }
 

@@ -1,42 +1,43 @@
 -- Robots that are led by the orders and reports of a dispatch.
-use Rattle.std.proofs.Common.{◌≡◌, ℕ, zero, suc, ◌+◌, ◌-◌, ◌<◌, ◌≤◌, Bool, true, false, not, ◌&&◌, cond, List, [], length, get_or, filter, take, sum_by, Option, Some, None, Contains, refl, ap, sym, ◌∙◌, subst, arith, inl, inr, ◌⊎◌, add-one, lt-ltb, eq-eqb, eqb-true, take_all}
-use Rattle.std.specs.Prelude.{option_map, IsTrue}
-use Rattle.std.specs.List.{list_any, position, position_or_len}
+use Rattle.std.proofs.Common.{◌≡◌, ℕ, zero, suc, ◌+◌, ◌-◌, ◌<◌, ◌≤◌, ◌⊎◌, ◌++◌, Bool, true, false, ◌&&◌, List, [], ◌∷◌, length, get_or, take, map, replicate, All, Option, Some, None, Contains, refl, ap, sym, ◌∙◌, subst, arith, inl, inr, add-one, add-zero, le-leb, leb-true, lt-ltb}
+use Rattle.std.specs.Prelude.{option_map, IsTrue, nat_le}
+use Rattle.std.specs.List.{position, position_or_len, list_all}
 use Rattle.std.proofs.lemmas.Bool.{cases_lt, cases_order, and_parts}
 use Rattle.std.proofs.lemmas.Option.{same_Some}
-use Rattle.std.proofs.lemmas.List.FromFn.{length-range_with_len, get_or-range_with_len}
-use Rattle.std.proofs.lemmas.List.Filters.{length-filter_more}
-use Rattle.std.proofs.lemmas.List.Folds.{Any-from_list_any}
+use Rattle.std.proofs.lemmas.List.{take_more, get_or-replicate, length-replicate, get_or_past}
+use Rattle.std.proofs.lemmas.List.Elements.{All-contains}
+use Rattle.std.proofs.lemmas.List.FromFn.{length-range_with_len, get_or-range_with_len, get_or-map-range_with_len}
 use Rattle.std.proofs.lemmas.List.Quantifiers.{position-Some}
-use Rattle.std.proofs.lemmas.List.Sums.{fails_before_first, sum_by-le-sum_by}
+use Rattle.std.proofs.lemmas.List.Sums.{fails_before_first, AllPass-from_list_all}
 use Rattle.fleet_model.specs.declared.geometry.Place.{Place}
 use Rattle.fleet_model.specs.declared.program.ActionId.{ActionId}
+use Rattle.fleet_model.specs.declared.program.Await.{Await}
 use Rattle.fleet_model.specs.declared.standing.Standing.{Standing}
 use Rattle.fleet_model.specs.declared.task.Task.{Task}
+use Rattle.fleet_model.specs.Geometry.{place_of}
 use Rattle.fleet_model.specs.Visit.{ComesAfterByChain}
 use Rattle.fleet_model.specs.Accepted.{IsAcceptedBy}
-use Rattle.fleet_model.specs.Program.{Program, moves, total_moves, path, awaits_of, goal_of, AreInRange}
-use Rattle.fleet_model.specs.Geometry.{place_of}
-use Rattle.fleet_model.specs.Machine.{Configuration, Holds, run, is_among, is_held, is_ready, count_at, place_at, indices, IsDone, IsDue}
+use Rattle.fleet_model.specs.Program.{Program, moves, path, goal_of, awaits_of, AreInRange}
+use Rattle.fleet_model.specs.Machine.{indices, place_at}
 use Rattle.fleet_model.specs.Chain.{IsAction, DirectlyNeeds, awaited}
-use Rattle.fleet_model.specs.Claims.{is_new, orders_given, holds_of}
 use Rattle.fleet_model.specs.Schedule.{Schedule, IsBy, IsSchedule}
 use Rattle.fleet_model.specs.Dispatch.{Dispatch, OrdersAwait, IsCarriedOut}
-use Rattle.fleet_machine.specs.Confirmed.{AreAllReady}
-use Rattle.fleet_verify.proofs.Counts.{counts, run_counts, run_place, tick_stays}
-use Rattle.fleet_verify.proofs.Done.{count_grows, count_within}
-use Rattle.fleet_verify.proofs.Claimed.{reports_hold, given_once}
-use Rattle.fleet_verify.proofs.Readiness.{step, ready_says, ready_from}
-use Rattle.fleet_verify.proofs.RunEnds.{sum_rises, sum_of_moves}
-use Rattle.fleet_verify.proofs.Ticked.{finished_in, finished_due, done_later}
 use Rattle.fleet_verify.proofs.Critical.{need_action}
 use Rattle.fleet_verify.proofs.Timed.{no_two_on}
 use Rattle.fleet_verify.proofs.OrdersAhead.{ahead_schedule}
-use Rattle.fleet_dispatch.specs.Led.{is_next, is_ordered, is_reported, dispatch_of, schedule_of, NeverFalls, IsSafelyLed, OrdersAtOnce, naming_reports, IsShort}
+use Rattle.fleet_dispatch.specs.declared.report.Reported.{Reported}
+use Rattle.fleet_dispatch.specs.Report.{Words, Counts, count_of, counts_after}
+use Rattle.fleet_dispatch.specs.Ahead.{told_to, IsOrdered, is_all_done}
+use Rattle.fleet_dispatch.specs.Progress.{AreDone, MayBeTold}
+use Rattle.fleet_dispatch.specs.Dispatch.{counts_by, configuration_at, MayBeTaken, AreTaken}
+use Rattle.fleet_dispatch.specs.Lead.{none_done, counts_at, is_told_by, is_done_by, may_begin_by, first_time, dispatch_of, schedule_of, NeverFalls, IsSafelyLed, OrdersAtOnce, Arrive}
+use Rattle.fleet_dispatch.proofs.Telling.{CannotBeTold, told_may, told_cannot}
+use Rattle.fleet_dispatch.proofs.Reports.{counts_more}
+use Rattle.fleet_dispatch.proofs.Words.{length_after, after_grows, after_bounded}
 
 -- ---- the first number that passes a test
 
-pub first_in : (test : ℕ → Bool) (n t : ℕ) → t < n → test t ≡ true → (u : ℕ) × (position test (indices n) ≡ Some u) × (u ≤ t)
+first_in : (test : ℕ → Bool) (n t : ℕ) → t < n → test t ≡ true → (u : ℕ) × (position test (indices n) ≡ Some u) × (u ≤ t)
 first_in test n t l e = go (cases_lt t (position_or_len test (indices n)))
   where
     long : length (indices n) ≡ n
@@ -51,7 +52,7 @@ first_in test n t l e = go (cases_lt t (position_or_len test (indices n)))
         let inside : position_or_len test (indices n) < length (indices n) = omega (arith, long) in
         (position_or_len test (indices n), rw (lt-ltb _ _ inside) refl, le)
 
-pub passes : (test : ℕ → Bool) (n u : ℕ) → position test (indices n) ≡ Some u → (u < n) × (test u ≡ true)
+passes : (test : ℕ → Bool) (n u : ℕ) → position test (indices n) ≡ Some u → (u < n) × (test u ≡ true)
 passes test n u e =
     let s = position-Some test (indices n) u 0 e in
     let l : u < n = omega (arith, s.0, length-range_with_len 0 n) in
@@ -63,280 +64,201 @@ timed : (clock : ℕ → ℕ) (o : Option ℕ) (t : ℕ) → option_map clock o 
 timed clock None t e = absurd cc
 timed clock (Some u) t e = (u, refl, same_Some (clock u) t e)
 
-module _ (p : Program) (reports : List (List ℕ)) where
-  abbrev pub k : ℕ
-  k = length reports
+module _ (clock : ℕ → ℕ) (reports : List Words) (test : ℕ → Bool) where
+  time_is : (x : ℕ) → first_time clock reports test ≡ Some x → (u : ℕ) × (u ≤ length reports) × (clock u ≡ x) × (test u ≡ true)
+  time_is x e =
+      let s = timed clock (position test (indices (length reports + 1))) x e in
+      let at = passes test (length reports + 1) s.0 s.1 in
+      (s.0, omega (arith, at.0), s.2, at.1)
 
-  abbrev pub h : Holds
-  h = holds_of (length p) reports
+  time_by : NeverFalls clock → (u x : ℕ) → u ≤ length reports → clock u ≤ x → test u ≡ true → IsBy (first_time clock reports test) x
+  time_by never_falls u x le l e =
+      let f = first_in test (length reports + 1) u (omega arith) e in
+      (clock f.0, ap (option_map clock) f.1, omega (arith, l, never_falls f.0 u f.2))
 
-  -- ---- orders
+-- ---- what is carried out after each report
 
-  new_ready : (t i : ℕ) → is_new p h t i ≡ true → is_ready p (run p h t) i ≡ true
-  new_ready zero i e = e
-  new_ready (suc t) i e = (and_parts _ _ e).0
+taken_at : (p : Program) (k : ℕ) (counts : Counts) (reports : List Words) (t : ℕ) → AreTaken p k counts reports → t < length reports
+    → MayBeTaken p k (counts_by counts (take t reports)) (get_or reports t [])
+taken_at p k counts [] t taken l = absurd (omega arith)
+taken_at p k counts (r ∷ reports) zero taken l = taken.0
+taken_at p k counts (r ∷ reports) (suc t) taken l = taken_at p k (counts_after counts r) reports t taken.1 (omega arith)
 
-  pub ordered_due : (a : ActionId) (t : ℕ) → is_ordered p reports a t ≡ true → IsDue p (run p h t) a
-  ordered_due a t e =
-      let b = and_parts _ _ e in
-      record { next = eqb-true _ _ b.1; ready = new_ready t a.agent b.0 }
+module _ (p : Program) (k : ℕ) (reports : List Words) (taken : AreTaken p k (none_done p) reports) where
+  abbrev m : ℕ
+  m = length reports
 
-  abbrev pub OrderedBy : ActionId → ℕ → Type 0
-  OrderedBy a t = (u : ℕ) × (u ≤ t) × (is_ordered p reports a u ≡ true)
+  abbrev c : ℕ → Counts
+  c t = counts_at p reports t
 
-  pub due_ordered : (t : ℕ) (a : ActionId) → a.agent < length p → IsDue p (run p h t) a → OrderedBy a t
-  due_ordered zero a l d = (0, omega arith, rw (d.ready, eq-eqb _ _ d.next) refl)
-  due_ordered (suc t) a l d = go (is_ready p (run p h t) a.agent) (is_held h t a.agent) refl refl (due_ordered t a l)
-    where
-      now : (is_ready p (run p h t) a.agent && is_held h t a.agent) ≡ false → OrderedBy a (suc t)
-      now e = (suc t, omega arith, rw (d.ready, e, eq-eqb _ _ d.next) refl)
+  abbrev told : ℕ → ℕ → ℕ
+  told t i = told_to p k (counts_at p reports t) i
 
-      go : (r b : Bool) → is_ready p (run p h t) a.agent ≡ r → is_held h t a.agent ≡ b → (IsDue p (run p h t) a → OrderedBy a t) → OrderedBy a (suc t)
-      go false b e f rest = now (rw e refl)
-      go true false e f rest = now (rw (e, f) refl)
-      go true true e f rest =
-          let stay : count_at (run p h (suc t)) a.agent ≡ count_at (run p h t) a.agent = ap (λ (s : Standing). s.count) (tick_stays p (is_held h t) (run p h t) a.agent l (rw (e, f) refl)) in
-          let before = rest (record { next = omega (arith, d.next); ready = e }) in
-          (before.0, omega (arith, before.1), before.2)
+  next : (t : ℕ) → t < m → c (t + 1) ≡ counts_after (c t) (get_or reports t [])
+  next t l = ap (counts_by (none_done p)) (take_more reports t [] l) ∙ counts_more (none_done p) (take t reports) (get_or reports t [])
 
-  -- ---- no action is ordered twice
+  may : (t : ℕ) → t < m → MayBeTaken p k (c t) (get_or reports t [])
+  may t l = taken_at p k (none_done p) reports t taken l
 
-  given_grows : (i u n : ℕ) → orders_given p h u i ≤ orders_given p h (u + n) i
-  given_grows i u zero = let same : u + zero ≡ u = omega arith in omega (arith, ap (λ t. orders_given p h t i) same)
-  given_grows i u (suc n) =
-      let same : u + suc n ≡ suc (u + n) = omega arith in
-      omega (arith, given_grows i u n, ap (λ t. orders_given p h t i) same)
+  none_first : (i : ℕ) → count_of (c 0) i ≡ 0
+  none_first i = elim (cases_lt i (length p)) [
+    | inl l ↦ get_or-replicate (length p) i 0 0 l
+    | inr le ↦ get_or_past (replicate (length p) 0) i 0 (omega (arith, length-replicate {A = ℕ} (length p) 0))
+  ]
 
-  given_rises : (i u t : ℕ) → u < t → is_new p h t i ≡ true → orders_given p h u i < orders_given p h t i
-  given_rises i u zero l e = absurd (omega arith)
-  given_rises i u (suc t) l e =
-      let more : orders_given p h (suc t) i ≡ orders_given p h t i + 1 = ap (λ b. orders_given p h t i + cond b 1 0) e in
-      let same : u + (t - u) ≡ t = omega arith in
-      omega (arith, more, given_grows i u (t - u), ap (λ s. orders_given p h s i) same)
+  pub long : (t : ℕ) → t ≤ m → length (c t) ≡ length p
+  long zero le = length-replicate (length p) 0
+  long (suc t) le =
+      ap (λ u. length (c u)) (sym (add-one t)) ∙ ap length (next t (omega arith)) ∙ length_after (c t) (get_or reports t []) ∙ long t (omega arith)
 
-  given_with : (a : ActionId) (t : ℕ) → a.agent < length p → is_ordered p reports a t ≡ true → orders_given p h t a.agent ≡ a.number
-  given_with a t l e =
-      let due = ordered_due a t e in
-      let next : a.number ≡ count_at (run p h t) a.agent + 1 = due.next in
-      let one : ◌≡◌ {A = ℕ} (cond (is_ready p (run p h t) a.agent) 1 0) 1 = ap (λ b. cond b 1 0) due.ready in
-      omega (arith, next, one, given_once p h t a.agent l)
+  pub grows : (t i : ℕ) → t < m → count_of (c t) i ≤ count_of (c (t + 1)) i
+  grows t i l = omega (arith, after_grows (c t) (get_or reports t []) i, ap (λ (x : Counts). count_of x i) (next t l))
 
-  pub ordered_once : (a : ActionId) (t u : ℕ) → IsAction p a → is_ordered p reports a t ≡ true → is_ordered p reports a u ≡ true → t ≡ u
-  ordered_once a t u act e f =
-      let now = given_with a t act.agent e in
-      let then = given_with a u act.agent f in
-      elim (cases_order t u) [
-        | inl same ↦ same
-        | inr (inl l) ↦ absurd (omega (arith, now, then, given_rises a.agent t u l (and_parts _ _ f).0))
-        | inr (inr l) ↦ absurd (omega (arith, now, then, given_rises a.agent u t l (and_parts _ _ e).0))
-      ]
+  -- no agent has carried out more than it was told
+  pub told_low : (t i : ℕ) → count_of (c t) i ≤ told t i
+  unfolding told_to
+  told_low t i = omega arith
 
-  -- ---- reports
+  limited : (t i : ℕ) → t < m → count_of (c (t + 1)) i ≤ told t i
+  limited t i l =
+      let n = may t l in
+      let said = λ (j : ℕ) (d : Reported) (inside : j < length (get_or reports t [])). (n.ordered j d inside).told in
+      omega (arith, after_bounded (c t) (get_or reports t []) n.rising (told t) said (told_low t) i, ap (λ (x : Counts). count_of x i) (next t l))
 
-  -- what is finished after t reports was reported by then
-  pub done_reported : (t : ℕ) (b : ActionId) → t ≤ k → IsAction p b → IsDone (run p h t) b → (u : ℕ) × (u < t) × (is_reported p reports b u ≡ true)
-  done_reported t b le act d =
-      let f = finished_in p h t b act d in
-      let u = f.0 in
-      let due = finished_due p h u b f.2 in
-      let free : is_held h u b.agent ≡ false = moved u b act due f.2.after in
-      let named : not (is_among (get_or reports u []) b.agent) ≡ false = sym (reports_hold (length p) reports u b.agent act.agent (omega (arith, f.1))) ∙ free in
-      (u, f.1, rw (unnot _ named, eq-eqb _ _ due.next) refl)
-    where
-      unnot : (b : Bool) → not b ≡ false → b ≡ true
-      unnot true e = refl
-      unnot false e = absurd cc
+  pub within : (t i : ℕ) → t ≤ m → i < length p → count_of (c t) i ≤ moves p i
+  within zero i le a = omega (arith, none_first i)
+  within (suc t) i le a =
+      let before = told_may p k (c t) i (within t i (omega arith) a) in
+      let high = before.within in
+      omega (arith, limited t i (omega arith), ap (λ u. count_of (c u) i) (add-one t))
 
-      moved : (u : ℕ) (b : ActionId) → IsAction p b → IsDue p (run p h u) b → IsDone (run p h (u + 1)) b → is_held h u b.agent ≡ false
-      moved u b act due done =
-          let after : b.number ≤ count_at (run p h (suc u)) b.agent = subst (λ s. IsDone (run p h s) b) (add-one u) done in
-          elim (step p h u b.agent act.agent) [
-            | inl m ↦ m.free
-            | inr s ↦ absurd (omega (arith, after, s.count, due.next))
-          ]
+  pub may_told : (t i : ℕ) → t ≤ m → i < length p → MayBeTold p k (c t) i (told t i)
+  may_told t i le a = told_may p k (c t) i (within t i le a)
 
-  -- what is reported is finished by then, if reports name only agents with orders
-  module _ (answers : (t : ℕ) → t < length reports → AreAllReady p (run p (holds_of (length p) reports) t) (is_among (get_or reports t []))) where
-    named_free : (t i : ℕ) → t < k → i < length p → is_among (get_or reports t []) i ≡ true → (is_ready p (run p h t) i ≡ true) × (count_at (run p h (suc t)) i ≡ count_at (run p h t) i + 1)
-    named_free t i l inside e =
-        let ready : is_ready p (run p h t) i ≡ true = answers t l i inside e in
-        let free : is_held h t i ≡ false = reports_hold (length p) reports t i inside l ∙ ap not e in
-        (ready, (run_counts p h).free t i inside ready free)
+  pub met_later : (t i n : ℕ) → t < m → AreDone p (c t) i n → AreDone p (c (t + 1)) i n
+  met_later t i n l met w h = omega (arith, met w h, grows t w.agent l)
 
-    pub reported_due : (t : ℕ) (b : ActionId) → t < k → IsAction p b → is_reported p reports b t ≡ true → IsDue p (run p h t) b
-    reported_due t b l act e =
-        let s = and_parts _ _ e in
-        record { next = eqb-true _ _ s.1; ready = (named_free t b.agent l act.agent s.0).0 }
+  -- what is told needs only what is carried out
+  pub told_needs : (t i n : ℕ) → t ≤ m → i < length p → 1 ≤ n → n ≤ told t i → AreDone p (c t) i n
+  told_needs zero i n le a some low = (may_told 0 i le a).met n (omega (arith, none_first i)) low
+  told_needs (suc t) i n le a some low = elim (cases_lt (count_of (c (suc t)) i) n) [
+    | inl new ↦ (may_told (suc t) i le a).met n new low
+    | inr old ↦ (
+        let before : AreDone p (c t) i n = told_needs t i n (omega arith) a some (omega (arith, limited t i (omega arith), ap (λ u. count_of (c u) i) (add-one t))) in
+        subst (λ u. AreDone p (c u) i n) (add-one t) (met_later t i n (omega arith) before))
+  ]
 
-    pub reported_done : (t : ℕ) (b : ActionId) → t < k → IsAction p b → is_reported p reports b t ≡ true → IsDone (run p h (t + 1)) b
-    reported_done t b l act e =
-        let s = and_parts (is_among (get_or reports t []) b.agent) (is_next p reports b t) e in
-        let next : b.number ≡ count_at (run p h t) b.agent + 1 = eqb-true b.number (count_at (run p h t) b.agent + 1) s.1 in
-        let moved : count_at (run p h (suc t)) b.agent ≡ count_at (run p h t) b.agent + 1 = (named_free t b.agent l act.agent s.0).1 in
-        subst (λ u. IsDone (run p h u) b) (sym (add-one t)) (omega (arith, next, moved))
+  grows_to : (i u d : ℕ) → u + d ≤ m → count_of (c u) i ≤ count_of (c (u + d)) i
+  grows_to i u zero le = omega (arith, ap (λ t. count_of (c t) i) (add-zero u))
+  grows_to i u (suc d) le =
+      let same : u + d + 1 ≡ u + suc d = omega arith in
+      omega (arith, grows_to i u d (omega arith), grows (u + d) i (omega arith), ap (λ t. count_of (c t) i) same)
+
+  pub grown : (i u v : ℕ) → u ≤ v → v ≤ m → count_of (c u) i ≤ count_of (c v) i
+  grown i u v le high =
+      let same : u + (v - u) ≡ v = omega arith in
+      omega (arith, grows_to i u (v - u) (omega arith), ap (λ t. count_of (c t) i) same)
+
+  -- an action is told once all that it directly needs is carried out
+  pub due_told : AreInRange p → 1 ≤ k → (a : ActionId) → IsAction p a → (u : ℕ) → u ≤ m → ((b : ActionId) → DirectlyNeeds p a b → b.number ≤ count_of (c u) b.agent) → a.number ≤ told u a.agent
+  due_told in_range some a act u le done = elim (cases_lt (told u a.agent) a.number) [
+    | inr enough ↦ enough
+    | inl less ↦ absurd (
+        let own : a.number ≤ count_of (c u) a.agent + 1 = elim (cases_lt 1 a.number) [
+          | inr one ↦ omega arith
+          | inl more ↦ (let prior : a.number - 1 ≤ count_of (c u) a.agent = done (record { agent = a.agent; number = a.number - 1 }) (inl (refl, omega arith, omega arith)) in omega arith)
+        ] in
+        let at : told u a.agent + 1 ≡ a.number = omega (arith, told_low u a.agent) in
+        let last : a.number ≤ moves p a.agent = act.last in
+        (told_cannot p k (c u) a.agent (within u a.agent le act.agent)).stop (omega arith) (omega (arith, told_low u a.agent))
+        (subst (AreDone p (c u) a.agent) (sym at) (λ w mem. done (awaited w) (inr mem))))
+  ]
 
   -- ---- by a clock
 
   module _ (clock : ℕ → ℕ) (never_falls : NeverFalls clock) where
-    abbrev pub d : Dispatch
-    d = dispatch_of clock p reports
-
-    pub order_is : (a : ActionId) (t : ℕ) → d.orders a ≡ Some t → (u : ℕ) × (u ≤ k) × (clock u ≡ t) × IsDue p (run p h u) a
+    pub done_by : (b : ActionId) (u x : ℕ) → u ≤ m → clock u ≤ x → b.number ≤ count_of (c u) b.agent → IsBy ((dispatch_of clock p k reports).reports b) x
     unfolding dispatch_of
-    order_is a t e =
-        let s = timed clock (position (is_ordered p reports a) (indices (k + 1))) t e in
-        let at = passes (is_ordered p reports a) (k + 1) s.0 s.1 in
-        (s.0, omega (arith, at.0), s.2, ordered_due a s.0 at.1)
+    done_by b u x le l done = time_by clock reports (is_done_by p reports b) never_falls u x le l (le-leb _ _ done)
 
-    pub report_is : (a : ActionId) (t : ℕ) → d.reports a ≡ Some t → (u : ℕ) × (u < k) × (clock (u + 1) ≡ t) × (is_reported p reports a u ≡ true)
+    pub told_by_time : (a : ActionId) (u x : ℕ) → u ≤ m → clock u ≤ x → a.number ≤ told u a.agent → IsBy ((dispatch_of clock p k reports).orders a) x
     unfolding dispatch_of
-    report_is a t e =
-        let s = timed (λ u. clock (u + 1)) (position (is_reported p reports a) (indices k)) t e in
-        let at = passes (is_reported p reports a) k s.0 s.1 in
-        (s.0, at.0, s.2, at.1)
+    told_by_time a u x le l low = time_by clock reports (is_told_by p k reports a) never_falls u x le l (le-leb _ _ low)
 
-    -- what is due after u reports is ordered by then
-    pub order_by : (a : ActionId) (u t : ℕ) → u ≤ k → clock u ≤ t → IsAction p a → IsDue p (run p h u) a → IsBy (d.orders a) t
+    pub order_is : (a : ActionId) (x : ℕ) → (dispatch_of clock p k reports).orders a ≡ Some x → (u : ℕ) × (u ≤ m) × (clock u ≡ x) × (a.number ≤ told u a.agent)
     unfolding dispatch_of
-    order_by a u t le l act due =
-        let o = due_ordered u a act.agent due in
-        let f = first_in (is_ordered p reports a) (k + 1) o.0 (omega (arith, o.1)) o.2 in
-        (clock f.0, ap (option_map clock) f.1, omega (arith, l, never_falls f.0 u (omega (arith, f.2, o.1))))
+    order_is a x e =
+        let s = time_is clock reports (is_told_by p k reports a) x e in
+        (s.0, s.1, s.2, leb-true _ _ s.3)
 
-    -- what is finished after u reports is reported by then
-    pub report_by : (b : ActionId) (u t : ℕ) → u ≤ k → clock u ≤ t → IsAction p b → IsDone (run p h u) b → IsBy (d.reports b) t
+    pub report_is : (a : ActionId) (x : ℕ) → (dispatch_of clock p k reports).reports a ≡ Some x → (u : ℕ) × (u ≤ m) × (clock u ≡ x) × (a.number ≤ count_of (c u) a.agent)
     unfolding dispatch_of
-    report_by b u t le l act done =
-        let o = done_reported u b le act done in
-        let f = first_in (is_reported p reports b) k o.0 (omega (arith, o.1)) o.2 in
-        (clock (f.0 + 1), ap (option_map (λ n. clock (n + 1))) f.1, omega (arith, l, never_falls (f.0 + 1) u (omega (arith, f.2, o.1))))
+    report_is a x e =
+        let s = time_is clock reports (is_done_by p reports a) x e in
+        (s.0, s.1, s.2, leb-true _ _ s.3)
 
-    pub orders_await : AreInRange p → OrdersAwait p d
-    orders_await in_range a w t act mem e =
-        let o = order_is a t e in
-        let ready = ready_says p (run p h o.0) a.agent o.3.ready in
-        let next : a.number ≡ suc (count_at (run p h o.0) a.agent) = omega (arith, o.3.next) in
-        let met : w.count ≤ count_at (run p h o.0) w.agent = ready.met w (subst (λ n. Contains (awaits_of p a.agent n) w) next mem) in
-        report_by (awaited w) o.0 t o.1 (omega (arith, o.2)) (need_action p in_range a (awaited w) act (inr mem)) met
+    pub orders_await : OrdersAwait p (dispatch_of clock p k reports)
+    orders_await a w x act mem e =
+        let o = order_is a x e in
+        done_by (awaited w) o.0 x o.1 (omega (arith, o.2)) (told_needs o.0 a.agent a.number o.1 act.agent act.first o.3 w mem)
 
-    module _ (answers : (t : ℕ) → t < length reports → AreAllReady p (run p (holds_of (length p) reports) t) (is_among (get_or reports t []))) where
-      -- robots may begin each action when it is ordered, and end it when that is reported
-      pub obeyed : IsCarriedOut p d (schedule_of d)
-      obeyed = record {
-        ordered_first = λ a t act e. (t, e, omega arith);
-        in_turn = λ a b t act actb same number e.
-            let o = order_is a t e in
-            let there : count_at (run p h o.0) a.agent ≡ count_at (run p h o.0) b.agent = ap (count_at (run p h o.0)) same in
-            report_by b o.0 t o.1 (omega (arith, o.2)) actb (omega (arith, number, o.3.next, there));
-        begins_first = λ a t act e.
-            let r = report_is a t e in
-            order_by a r.0 t (omega (arith, r.1)) (omega (arith, r.2, never_falls r.0 (r.0 + 1) (omega arith))) act (reported_due answers r.0 a r.1 act r.3);
-        ends_first = λ a t act e. (t, e, omega arith);
-      }
-
-      -- this many reports are taken by a time, and the next only later
-      abbrev pub TakenBy : ℕ → ℕ → Type 0
-      TakenBy t n = (u : ℕ) × (u ≤ n) × (clock u ≤ t) × ((v : ℕ) → v ≤ n → clock v ≤ t → v ≤ u)
-
-      taken_by : (t n : ℕ) → clock 0 ≤ t → TakenBy t n
-      taken_by t zero l = (0, omega arith, l, λ v le e. le)
-      taken_by t (suc n) l = go (cases_lt t (clock (suc n))) (taken_by t n l)
-        where
-          go : (t < clock (suc n)) ⊎ (clock (suc n) ≤ t) → TakenBy t n → TakenBy t (suc n)
-          go (inr le) before = (suc n, omega arith, le, λ v in_reach e. in_reach)
-          go (inl late) before = (
-            before.0,
-            omega (arith, before.1),
-            before.2,
-            λ v le e. elim (cases_lt n v) [
-              | inr small ↦ before.3 v small e
-              | inl last ↦ absurd (let is : v ≡ suc n = omega arith in omega (arith, e, ap clock is))
-            ],
-          )
-
-      pub at_once : AreInRange p → OrdersAtOnce p d (clock 0)
-      at_once in_range a t act start needs =
-          let u = taken_by t k start in
-          let done : (b : ActionId) → DirectlyNeeds p a b → IsDone (run p h u.0) b =
-          λ b need.
-          let actb = need_action p in_range a b act need in
-          let r = needs b need in
-          let v = report_is b r.0 r.1 in
-          done_later p h (v.0 + 1) u.0 b (u.3 (v.0 + 1) (omega (arith, v.1)) (omega (arith, v.2, r.2))) (reported_done answers v.0 b v.1 actb v.3) in
-          elim (cases_lt (count_at (run p h u.0) a.agent) a.number) [
-            | inr over ↦ (
-                let f = finished_in p h u.0 a act over in
-                order_by a f.0 t (omega (arith, f.1, u.1)) (omega (arith, u.2, never_falls f.0 u.0 (omega (arith, f.1)))) act (finished_due p h f.0 a f.2)
-                )
-            | inl left ↦ order_by a u.0 t u.1 u.2 act (due u.0 done left)
-          ]
-        where
-          due : (u : ℕ) → ((b : ActionId) → DirectlyNeeds p a b → IsDone (run p h u) b) → count_at (run p h u) a.agent < a.number → IsDue p (run p h u) a
-          due u done left =
-              let own : a.number ≤ count_at (run p h u) a.agent + 1 = elim (cases_lt 1 a.number) [
-                | inr one ↦ omega arith
-                | inl more ↦ (let prior : a.number - 1 ≤ count_at (run p h u) a.agent = done (record { agent = a.agent; number = a.number - 1 }) (inl (refl, omega arith, omega arith)) in omega arith)
-              ] in
-              let next : a.number ≡ count_at (run p h u) a.agent + 1 = omega arith in
-              let same : suc (count_at (run p h u) a.agent) ≡ a.number = omega arith in
-              record {
-                next = next;
-                ready = ready_from p (run p h u) a.agent (record {
-                  left = omega (arith, act.last);
-                  met = λ w mem. done (awaited w) (inr (subst (λ n. Contains (awaits_of p a.agent n) w) same mem));
-                });
-              }
-
-  -- ---- each report that names somebody ends an action
-
-  abbrev pub finished_count : ℕ → ℕ
-  finished_count t = sum_by (counts p h t) (indices (length p))
-
-  abbrev pub names : List ℕ → Bool
-  names report = list_any (is_among report) (indices (length p))
-
-  module _ (answers : (t : ℕ) → t < length reports → AreAllReady p (run p (holds_of (length p) reports) t) (is_among (get_or reports t []))) where
-    one_more : (t : ℕ) → t < k → (b : Bool) → names (get_or reports t []) ≡ b → finished_count t + cond b 1 0 ≤ finished_count (suc t)
-    one_more t l false e = omega (arith, sum_by-le-sum_by (counts p h t) (counts p h (suc t)) (indices (length p)) (λ i. count_grows p h t i))
-    one_more t l true e =
-        let r = Any-from_list_any (is_among (get_or reports t [])) (indices (length p)) e in
-        let inside : r.0 < length p = omega (arith, r.2, length-range_with_len 0 (length p)) in
-        let at : r.1 ≡ r.0 = omega (arith, r.3, get_or-range_with_len 0 (length p) r.0 r.1 inside) in
-        sum_rises (counts p h t) (counts p h (suc t)) 0 (length p) r.1 (λ i. count_grows p h t i) (omega arith) (omega (arith, at, inside))
-        (omega (arith, (named_free answers t r.1 l (omega (arith, at, inside)) r.4).1))
-
-    ended : (t : ℕ) → t ≤ k → length (filter names (take t reports)) ≤ finished_count t
-    ended zero le = omega arith
-    ended (suc t) le =
-        let n : length (filter names (take (suc t) reports)) ≡ length (filter names (take t reports)) + cond (names (get_or reports t [])) 1 0 =
-        ap (λ u. length (filter names (take u reports))) (sym (add-one t)) ∙ length-filter_more names reports t [] (omega arith) in
-        omega (arith, n, ended t (omega arith), one_more t (omega arith) (names (get_or reports t [])) refl)
-
-    most : (i : ℕ) → i < length p → count_at (run p h k) i < moves p i → naming_reports p reports < total_moves p
-    most i l less =
-        let n : length (filter names (take k reports)) ≤ finished_count k = ended k (omega arith) in
-        let all : length (filter names (take k reports)) ≡ naming_reports p reports = ap (λ xs. length (filter names xs)) (take_all k reports (omega arith)) in
-        omega (arith, n, all, sum_of_moves p, sum_rises (counts p h k) (moves p) 0 (length p) i (λ j. count_within p h k j) (omega arith) (omega arith) (omega arith))
-
-    pub short : (c : Configuration) → c ≡ run p h k → ((i : ℕ) → i < length p → path p i (moves p i) ≡ place_of (goal_of p i)) → IsShort p reports c
-    short c here goals = record {
-      few =
-          let n : length (filter names (take k reports)) ≤ finished_count k = ended k (omega arith) in
-          let all : length (filter names (take k reports)) ≡ naming_reports p reports = ap (λ xs. length (filter names xs)) (take_all k reports (omega arith)) in
-          omega (arith, n, all, sum_of_moves p, sum_by-le-sum_by (counts p h k) (moves p) (indices (length p)) (λ i. count_within p h k i));
-      arrive = λ as_many i l.
-          let over : count_at (run p h k) i ≡ moves p i = elim (cases_lt (count_at (run p h k) i) (moves p i)) [
-            | inl less ↦ absurd (omega (arith, as_many, most i l less))
-            | inr le ↦ omega (arith, count_within p h k i)
-          ] in
-          ap (λ d. place_at d i) here ∙ (run_place p h k i l ∙ (ap (path p i) over ∙ goals i l));
+    -- robots may begin each action when they may, and end it when that is reported
+    pub obeyed : IsCarriedOut p (dispatch_of clock p k reports) (schedule_of clock p k reports)
+    unfolding dispatch_of schedule_of
+    obeyed = record {
+      ordered_first = λ a x act e.
+          let s = time_is clock reports (may_begin_by p k reports a) x e in
+          let both = and_parts (is_told_by p k reports a s.0) (nat_le a.number (count_of (c s.0) a.agent + 1)) s.3 in
+          time_by clock reports (is_told_by p k reports a) never_falls s.0 x s.1 (omega (arith, s.2)) both.0;
+      in_turn = λ a b x act actb same number e.
+          let s = time_is clock reports (may_begin_by p k reports a) x e in
+          let both = and_parts (is_told_by p k reports a s.0) (nat_le a.number (count_of (c s.0) a.agent + 1)) s.3 in
+          let there : count_of (c s.0) a.agent ≡ count_of (c s.0) b.agent = ap (count_of (c s.0)) same in
+          time_by clock reports (is_done_by p reports b) never_falls s.0 x s.1 (omega (arith, s.2)) (le-leb _ _ (omega (arith, leb-true _ _ both.1, number, there)));
+      begins_first = λ a x act e.
+          let s = time_is clock reports (is_done_by p reports a) x e in
+          let done : a.number ≤ count_of (c s.0) a.agent = leb-true _ _ s.3 in
+          let is_told : is_told_by p k reports a s.0 ≡ true = le-leb _ _ (omega (arith, done, told_low s.0 a.agent)) in
+          let is_next : nat_le a.number (count_of (c s.0) a.agent + 1) ≡ true = le-leb _ _ (omega arith) in
+          time_by clock reports (may_begin_by p k reports a) never_falls s.0 x s.1 (omega (arith, s.2)) (rw (is_told, is_next) refl);
+      ends_first = λ a x act e. (x, e, omega arith);
     }
+
+    -- so many reports are taken by a time, and the next only later
+    abbrev TakenBy : ℕ → ℕ → Type 0
+    TakenBy x n = (u : ℕ) × (u ≤ n) × (clock u ≤ x) × ((v : ℕ) → v ≤ n → clock v ≤ x → v ≤ u)
+
+    taken_by_time : (x n : ℕ) → clock 0 ≤ x → TakenBy x n
+    taken_by_time x zero l = (0, omega arith, l, λ v le e. le)
+    taken_by_time x (suc n) l = go (cases_lt x (clock (suc n))) (taken_by_time x n l)
+      where
+        go : (x < clock (suc n)) ⊎ (clock (suc n) ≤ x) → TakenBy x n → TakenBy x (suc n)
+        go (inr le) before = (suc n, omega arith, le, λ v in_reach e. in_reach)
+        go (inl late) before = (
+          before.0,
+          omega (arith, before.1),
+          before.2,
+          λ v le e. elim (cases_lt n v) [
+            | inr small ↦ before.3 v small e
+            | inl last ↦ absurd (let is : v ≡ suc n = omega arith in omega (arith, e, ap clock is))
+          ],
+        )
+
+    pub at_once : AreInRange p → 1 ≤ k → OrdersAtOnce p (dispatch_of clock p k reports) (clock 0)
+    at_once in_range some a x act start needs =
+        let u = taken_by_time x m start in
+        let done : (b : ActionId) → DirectlyNeeds p a b → b.number ≤ count_of (c u.0) b.agent =
+        λ b need.
+        let r = needs b need in
+        let v = report_is b r.0 r.1 in
+        omega (arith, v.3, grown b.agent v.0 u.0 (u.3 v.0 v.1 (omega (arith, v.2, r.2))) u.1) in
+        told_by_time a u.0 x u.1 u.2 (due_told in_range some a act u.0 u.1 done)
 
 -- ---- whatever robots do that are led so is a schedule
 
-pub safely_led : (passable : Place → Bool) (tasks : List Task) (p : Program) → IsAcceptedBy ComesAfterByChain passable tasks p → (clock : ℕ → ℕ) (reports : List (List ℕ)) → NeverFalls clock
-    → IsSafelyLed passable p (dispatch_of clock p reports)
-safely_led passable tasks p ok clock reports never_falls = record {
+pub safely_led : (passable : Place → Bool) (tasks : List Task) (p : Program) → IsAcceptedBy ComesAfterByChain passable tasks p → (clock : ℕ → ℕ) (k : ℕ) (reports : List Words) → NeverFalls clock
+    → AreTaken p k (none_done p) reports → IsSafelyLed passable p (dispatch_of clock p k reports)
+safely_led passable tasks p ok clock k reports never_falls taken = record {
   awaits = await;
   schedule = schedule;
   safe = λ s done. record {
@@ -345,8 +267,16 @@ safely_led passable tasks p ok clock reports never_falls = record {
   };
 }
   where
-    await : OrdersAwait p (dispatch_of clock p reports)
-    await = orders_await p reports clock never_falls ok.right.in_range
+    await : OrdersAwait p (dispatch_of clock p k reports)
+    await = orders_await p k reports taken clock never_falls
 
-    schedule : (s : Schedule) → IsCarriedOut p (dispatch_of clock p reports) s → IsSchedule p s
-    schedule s done = ahead_schedule p ok.right.in_range (dispatch_of clock p reports) s await done
+    schedule : (s : Schedule) → IsCarriedOut p (dispatch_of clock p k reports) s → IsSchedule p s
+    schedule s done = ahead_schedule p ok.right.in_range (dispatch_of clock p k reports) s await done
+
+pub carried_out : (p : Program) (clock : ℕ → ℕ) (k : ℕ) (reports : List Words) → NeverFalls clock → AreTaken p k (none_done p) reports
+    → IsCarriedOut p (dispatch_of clock p k reports) (schedule_of clock p k reports)
+carried_out p clock k reports never_falls taken = obeyed p k reports taken clock never_falls
+
+pub ordered_at_once : (p : Program) → AreInRange p → (clock : ℕ → ℕ) (k : ℕ) (reports : List Words) → 1 ≤ k → NeverFalls clock → AreTaken p k (none_done p) reports
+    → OrdersAtOnce p (dispatch_of clock p k reports) (clock 0)
+ordered_at_once p in_range clock k reports some never_falls taken = at_once p k reports taken clock never_falls in_range some

@@ -1,144 +1,177 @@
 -- How a dispatch goes on, and how it ends.
-use Rattle.std.proofs.Common.{◌≡◌, ℕ, ◌+◌, ◌<◌, ◌≤◌, ◌++◌, ◌∷◌, [], Bool, true, false, List, length, take, Result, Ok, Err, refl, ap, sym, ◌∙◌, arith, subst, inl, inr, IsTrue}
-use Rattle.std.proofs.lemmas.Bool.{cases_lt}
-use Rattle.std.specs.Prelude.{is_err, IfOk, ⊤}
+use Rattle.std.proofs.Common.{◌≡◌, ℕ, ◌+◌, ◌≤◌, ◌⊎◌, ◌++◌, ◌∷◌, [], Bool, true, false, cond, List, length, take, Result, Ok, Err, refl, ap, sym, ◌∙◌, arith, subst, inl, inr, append_assoc}
+use Rattle.std.specs.Prelude.{is_err}
 use Rattle.fleet_model.specs.Program.{Program, total_moves}
-use Rattle.fleet_model.specs.Machine.{Configuration, Holds, indices, run, is_finished, IsFinish, opening}
-use Rattle.fleet_model.specs.Claims.{holds_of}
-use Rattle.fleet_machine.specs.Machine.{flag_of}
-use Rattle.fleet_run.specs.Fleet.{AreOnGoals}
 use Rattle.fleet_dispatch.specs.declared.run.TheConstants.{MAX_REPORTS}
-use Rattle.fleet_dispatch.specs.declared.run.DispatchFault.{DispatchFault}
-use Rattle.fleet_dispatch.specs.declared.run.DispatchFault.TheVariants as f
+use Rattle.fleet_dispatch.specs.declared.fault.DispatchFault.{DispatchFault}
+use Rattle.fleet_dispatch.specs.declared.fault.DispatchFault.TheVariants as f
 use Rattle.fleet_dispatch.specs.declared.run.DispatchReport.{DispatchReport}
-use Rattle.fleet_dispatch.specs.Talk.{Talk, Told, Cut, Tells}
-use Rattle.fleet_dispatch.specs.Orders.{orders_but, new_orders, talk_of, closing}
-use Rattle.fleet_dispatch.specs.Dispatch.{AreTaken, Dispatches, DispatchesFrom, Concludes, TakesReport, IsReportTaken}
-use Rattle.fleet_dispatch.proofs.Reports.{IsUnderWay, more, taken_more, talk_more, due_more, due_first}
-use Rattle.fleet_dispatch.proofs.Fronts.{talk_none}
+use Rattle.fleet_dispatch.specs.declared.run.Session.{Session}
+use Rattle.fleet_dispatch.specs.declared.pace.Pace.{Pace}
+use Rattle.fleet_dispatch.specs.Report.{Words, IsRising, Counts, counts_after, is_repeat}
+use Rattle.fleet_dispatch.specs.Ahead.{told_at, AreOrdered, IsFirstUnordered, is_all_done}
+use Rattle.fleet_dispatch.specs.Talk.{Talk, Told, Cut, Heard, Tells}
+use Rattle.fleet_dispatch.specs.Orders.{new_orders, closing}
+use Rattle.fleet_dispatch.specs.Dispatch.{Course, Left, left_by, Dispatches, MayBeTaken, AreTaken, told_by, counts_now, due_orders, said_before, said_by, taken_now}
+use Rattle.fleet_dispatch.specs.Session.{Concludes, TakesLine, IsLineTaken, left_in, course_in as course_of}
+use Rattle.fleet_dispatch.proofs.Reports.{more, length_more, counts_now_more, taken_now_more, said_more, told_now_more, are_taken_more, talk_none}
 
 -- what was said in two stretches was said in both
 pub record Joins (first then both : Talk → Type 0) : Type 0 where
   pub join : (before after : Talk) → first before → then after → both (before ++ after)
 
-pub at_start : (p : Program) (talks : Talk → Type 0) (c : Configuration) (sent : ℕ → Bool) → talks [] → c ≡ opening p → ((i : ℕ) → i < length p → sent i ≡ false)
-    → IsUnderWay p talks c sent 0 []
-at_start p talks c sent silent here none = record {
-  taken = record { here = here; answers = λ t h. absurd (omega arith); needed = λ t h. absurd (omega arith) };
+-- Before the orders are told that are due after these reports
+pub record IsUnderWay (d : Course) (talks : Talk → Type 0) (s : Session) (lines : ℕ) (reports : List Words) : Type 0 where
+  pub taken : AreTaken d.program d.ahead d.start reports
+  pub count : lines ≡ length reports
+  pub done : s.progress.done ≡ counts_now d reports
+  pub told : s.progress.told ≡ told_by d.program d.ahead d.start d.start reports
+  pub number : s.taken ≡ taken_now d reports
+  pub talk : talks (said_before d reports)
+
+-- .. and after they are told
+pub record AreOrdersTold (d : Course) (talks : Talk → Type 0) (s : Session) (lines : ℕ) (reports : List Words) : Type 0 where
+  pub taken : AreTaken d.program d.ahead d.start reports
+  pub count : lines ≡ length reports
+  pub done : s.progress.done ≡ counts_now d reports
+  pub told : s.progress.told ≡ told_at d.program d.ahead (counts_now d reports)
+  pub number : s.taken ≡ taken_now d reports
+  pub talk : talks (said_by d reports)
+
+-- what a session has carried out is what these reports have
+left_is : (d : Course) (s : Session) (reports : List Words) → s.progress.done ≡ counts_now d reports → s.taken ≡ taken_now d reports → left_in s ≡ left_by d reports
+left_is d s reports e f = cc
+
+pub at_start : (p : Program) (pace : Pace) (talks : Talk → Type 0) (s : Session) → talks [] → s.progress.told ≡ s.progress.done → IsUnderWay (course_of p pace s) talks s 0 []
+at_start p pace talks s silent fresh = record {
+  taken = tt;
   count = refl;
-  talk = subst talks (talk_none p) silent;
-  due = due_first p c sent here none;
+  done = refl;
+  told = fresh;
+  number = omega arith;
+  talk = subst talks (talk_none p pace.form pace.ahead s.progress.done s.progress.done) silent;
 }
 
-pub write_stops : {T E : Type 0} (p : Program) (first then both : Talk → Type 0) (works : Type 0) (c : Configuration) (sent : ℕ → Bool) (k : ℕ) (reports : List (List ℕ)) (r : Result T E)
-    → Joins first then both → IsUnderWay p first c sent k reports → Tells then works r (orders_but sent p c (indices (length p))) → is_err r ≡ true
-    → Dispatches p both c (Err f.Write)
-write_stops p first then both works c sent k reports (Ok x) j way told e = absurd (cc)
-write_stops p first then both works c sent k reports (Err x) j way told e =
-    let P : List ℕ → Type 0 = λ bytes. (m : ℕ) × (m ≤ length bytes) × then (Cut (take m bytes) ∷ []) in
-    let cut : P (new_orders p (holds_of (length p) reports) (length reports)) = subst P way.due told in
-    (reports, record { taken = way.taken; told = inl (cut.0, cut.1, j.join _ _ way.talk cut.2) })
+module _ (d : Course) (first then both : Talk → Type 0) (j : Joins first then both) (s s' : Session) (lines : ℕ) (reports : List Words) where
+  module _ (way : IsUnderWay d first s lines reports) (done : s'.progress.done ≡ s.progress.done) (told : s'.progress.told ≡ told_at d.program d.ahead s.progress.done) where
+    due : new_orders d.program d.form s.progress.told s'.progress.told ≡ due_orders d reports
+    due = ap (λ (x : Counts). new_orders d.program d.form x s'.progress.told) way.told
+        ∙ ap (new_orders d.program d.form (told_by d.program d.ahead d.start d.start reports)) (told ∙ ap (told_at d.program d.ahead) way.done)
 
--- after the orders are told that are due after these reports
-pub record AreOrdersTold (p : Program) (talks : Talk → Type 0) (works : Type 0) (c : Configuration) (k : ℕ) (reports : List (List ℕ)) : Type 0 where
-  pub taken : AreTaken p reports c
-  pub count : k ≡ length reports
-  pub talk : talks (talk_of p reports (length reports))
-  pub still : works
+    pub write_stops : {T E : Type 0} (works : Type 0) (r : Result T E) → Tells then works r (new_orders d.program d.form s.progress.told s'.progress.told) → is_err r ≡ true
+        → s'.taken ≡ s.taken → Dispatches d both (left_in s') (Err f.Write)
+    write_stops works (Ok x) h e number = absurd cc
+    write_stops works (Err x) h e number =
+        let P : List ℕ → Type 0 = λ bytes. (m : ℕ) × (m ≤ length bytes) × then (Cut (take m bytes) ∷ []) in
+        let cut : P (due_orders d reports) = subst P due h in
+        (reports, record { taken = way.taken; told = inl (cut.0, cut.1, j.join _ _ way.talk cut.2) }, left_is d s' reports (done ∙ way.done) (number ∙ way.number))
 
-pub now_told : {T E : Type 0} (p : Program) (first then both : Talk → Type 0) (works : Type 0) (c : Configuration) (sent : ℕ → Bool) (k : ℕ) (reports : List (List ℕ)) (r : Result T E)
-    → Joins first then both → IsUnderWay p first c sent k reports → Tells then works r (orders_but sent p c (indices (length p))) → is_err r ≡ false
-    → AreOrdersTold p both works c k reports
-now_told p first then both works c sent k reports (Err x) j way told e = absurd (cc)
-now_told p first then both works c sent k reports (Ok x) j way told e =
-    let P : List ℕ → Type 0 = λ bytes. then (Told bytes ∷ []) × works in
-    let all : P (new_orders p (holds_of (length p) reports) (length reports)) = subst P way.due told in
-    record { taken = way.taken; count = way.count; talk = j.join _ _ way.talk all.0; still = all.1 }
+    pub now_told : {T E : Type 0} (works : Type 0) (r : Result T E) → Tells then works r (new_orders d.program d.form s.progress.told s'.progress.told) → is_err r ≡ false
+        → s'.taken ≡ s.taken → AreOrdersTold d both s' lines reports × works
+    now_told works (Err x) h e number = absurd cc
+    now_told works (Ok x) h e number =
+        let P : List ℕ → Type 0 = λ bytes. then (Told bytes ∷ []) × works in
+        let all : P (due_orders d reports) = subst P due h in (
+          record {
+            taken = way.taken;
+            count = way.count;
+            done = done ∙ way.done;
+            told = told ∙ ap (told_at d.program d.ahead) way.done;
+            number = number ∙ way.number;
+            talk = j.join _ _ way.talk all.0;
+          },
+          all.1,
+        )
 
-finish_is : (p : Program) (holds : Holds) (k : ℕ) → ((t : ℕ) → t < k → is_finished p (run p holds t) ≡ false) → IsTrue (is_finished p (run p holds k)) → IsFinish p holds k
-finish_is p holds k needed over = record {
-  holds = over;
-  least = λ s h. elim (cases_lt s k) [ inl below ↦ let unfinished = needed s below in absurd (cc) | inr le ↦ le ];
-}
+  module _ (told : AreOrdersTold d first s lines reports) where
+    pub concludes : (agents moves number : ℕ) (r : Result DispatchReport DispatchFault) → is_all_done d.program s.progress.done ≡ true → agents ≡ length d.program → moves ≡ total_moves d.program
+        → number ≡ s.taken → Concludes then agents moves number r → Dispatches d both (left_in s) r
+    concludes agents moves number (Ok r) over e m n h =
+        let all : number ≡ taken_now d reports = n ∙ told.number in
+        let text : closing agents moves number ≡ closing (length d.program) (total_moves d.program) (taken_now d reports) = cc in (
+          reports,
+          record {
+            taken = told.taken;
+            finish = ap (is_all_done d.program) (sym told.done) ∙ over;
+            talk = j.join _ _ told.talk (subst (λ bytes. then (Told bytes ∷ [])) text h.3);
+            agents = h.0 ∙ e;
+            moves = h.1 ∙ m;
+            count = h.2 ∙ all;
+          },
+          left_is d s reports told.done told.number,
+        )
+    concludes agents moves number (Err f.Write) over e m n h =
+        let all : number ≡ taken_now d reports = n ∙ told.number in
+        let text : closing agents moves number ≡ closing (length d.program) (total_moves d.program) (taken_now d reports) = cc in
+        let P : List ℕ → Type 0 = λ bytes. (m : ℕ) × (m ≤ length bytes) × then (Cut (take m bytes) ∷ []) in
+        let cut : P (closing (length d.program) (total_moves d.program) (taken_now d reports)) = subst P text h in
+        (reports, record { taken = told.taken; told = inr (ap (is_all_done d.program) (sym told.done) ∙ over, (cut.0, cut.1, j.join _ _ told.talk cut.2)) }, left_is d s reports told.done told.number)
+    concludes agents moves number (Err f.OutOfMemory) over e m n h = absurd h
+    concludes agents moves number (Err (f.Form _)) over e m n h = absurd h
+    concludes agents moves number (Err (f.NotOrdered _ _)) over e m n h = absurd h
+    concludes agents moves number (Err (f.Ended _)) over e m n h = absurd h
+    concludes agents moves number (Err f.ReportLimit) over e m n h = absurd h
+    concludes agents moves number (Err (f.Log _)) over e m n h = absurd h
+    concludes agents moves number (Err f.Input) over e m n h = absurd h
 
-pub concludes : (p : Program) (first then both : Talk → Type 0) (works : Type 0) (c : Configuration) (k agents moves : ℕ) (reports : List (List ℕ)) (r : Result DispatchReport DispatchFault)
-    → Joins first then both → AreOrdersTold p first works c k reports → is_finished p c ≡ true → agents ≡ length p → moves ≡ total_moves p
-    → Concludes then agents moves k r → Dispatches p both c r
-concludes p first then both works c k agents moves reports (Ok r) j told over e m h =
-    let text : closing agents moves k ≡ closing (length p) (total_moves p) (length reports) = cc (e, m, told.count) in (
-      reports,
-      record {
-        taken = told.taken;
-        finish = finish_is p (holds_of (length p) reports) (length reports) told.taken.needed (ap (is_finished p) (sym told.taken.here) ∙ over);
-        talk = j.join _ _ told.talk (subst (λ bytes. then (Told bytes ∷ [])) text h.3);
-        agents = h.0 ∙ e;
-        moves = h.1 ∙ m;
-        count = h.2 ∙ told.count;
-      },
-    )
-concludes p first then both works c k agents moves reports (Err f.Write) j told over e m h =
-    let text : closing agents moves k ≡ closing (length p) (total_moves p) (length reports) = cc (e, m, told.count) in
-    let P : List ℕ → Type 0 = λ bytes. (m : ℕ) × (m ≤ length bytes) × then (Cut (take m bytes) ∷ []) in
-    let cut : P (closing (length p) (total_moves p) (length reports)) = subst P text h in
-    (reports, record { taken = told.taken; told = inr (over, (cut.0, cut.1, j.join _ _ told.talk cut.2)) })
-concludes p first then both works c k agents moves reports (Err f.OutOfMemory) j told over e m h = absurd h
-concludes p first then both works c k agents moves reports (Err (f.Form _)) j told over e m h = absurd h
-concludes p first then both works c k agents moves reports (Err (f.NotOrdered _ _)) j told over e m h = absurd h
-concludes p first then both works c k agents moves reports (Err (f.Ended _)) j told over e m h = absurd h
-concludes p first then both works c k agents moves reports (Err f.ReportLimit) j told over e m h = absurd h
-concludes p first then both works c k agents moves reports (Err f.Input) j told over e m h = absurd h
+    module _ (left : is_all_done d.program s.progress.done ≡ false) where
+      unfinished : is_all_done d.program (counts_now d reports) ≡ false
+      unfinished = ap (is_all_done d.program) (sym told.done) ∙ left
 
-pub limit_stops : (p : Program) (talks : Talk → Type 0) (works : Type 0) (c : Configuration) (k : ℕ) (reports : List (List ℕ)) → AreOrdersTold p talks works c k reports → is_finished p c ≡ false
-    → k ≡ MAX_REPORTS → Dispatches p talks c (Err f.ReportLimit)
-limit_stops p talks works c k reports told left limit = (reports, record { taken = told.taken; left = left; talk = told.talk; limit = sym told.count ∙ limit })
+      next_report : (r : Words) (pace : Pace) → pace.ahead ≡ d.ahead → IsRising r → AreOrdered d.program pace.ahead s.progress.done r → MayBeTaken d.program d.ahead (counts_now d reports) r
+      next_report r pace same rising ordered = record {
+        rising = rising;
+        ordered = subst (λ (c : Counts). AreOrdered d.program d.ahead c r) told.done (subst (λ k. AreOrdered d.program k s.progress.done r) same ordered);
+        left = unfinished;
+      }
 
-pub report_stops : (T : Type 0) (p : Program) (first then both : Talk → Type 0) (works w : Type 0) (c c' : Configuration) (sent : List Bool) (k n : ℕ) (reports : List (List ℕ)) (e : DispatchFault)
-    → Joins first then both → AreOrdersTold p first works c k reports → is_finished p c ≡ false → n ≡ k + 1
-    → TakesReport {T = T} p then w c c' sent n (Err e) → Dispatches p both c' (Err e)
-report_stops T p first then both works w c c' sent k n reports (f.Form line) j told left next h =
-    let count = told.count in
-    subst (λ d. Dispatches p both d (Err (f.Form line))) (sym h.0)
-    (reports, record { taken = told.taken; left = left; talk = j.join _ _ told.talk h.2; number = let e = h.1 in omega arith })
-report_stops T p first then both works w c c' sent k n reports (f.NotOrdered line agent) j told left next h =
-    let count = told.count in
-    let r = h.2 in
-    subst (λ d. Dispatches p both d (Err (f.NotOrdered line agent))) (sym h.0) (
-      reports,
-      record {
-        report = r.0;
-        stops = record { taken = told.taken; left = left; talk = j.join _ _ told.talk r.1.heard; number = let e = h.1 in omega arith };
-        unready = r.1.unready;
-      },
-    )
-report_stops T p first then both works w c c' sent k n reports (f.Ended line) j told left next h =
-    let count = told.count in
-    subst (λ d. Dispatches p both d (Err (f.Ended line))) (sym h.0)
-    (reports, record { taken = told.taken; left = left; talk = j.join _ _ told.talk h.2; number = let e = h.1 in omega arith })
-report_stops T p first then both works w c c' sent k n reports f.Input j told left next h =
-    subst (λ d. Dispatches p both d (Err f.Input)) (sym h.0)
-    (reports, record { taken = told.taken; left = left; talk = j.join _ _ told.talk h.1; number = refl })
-report_stops T p first then both works w c c' sent k n reports f.OutOfMemory j told left next h = absurd h
-report_stops T p first then both works w c c' sent k n reports f.Write j told left next h = absurd h
-report_stops T p first then both works w c c' sent k n reports f.ReportLimit j told left next h = absurd h
+      pub limit_stops : (lines ≡ MAX_REPORTS) ⊎ (s.taken ≡ MAX_REPORTS) → Dispatches d first (left_in s) (Err f.ReportLimit)
+      limit_stops limit = (
+        reports,
+        record {
+          taken = told.taken;
+          left = unfinished;
+          talk = told.talk;
+          limit = elim limit [ inl l ↦ inl (sym told.count ∙ l) | inr r ↦ inr (sym told.number ∙ r) ];
+        },
+        left_is d s reports told.done told.number,
+      )
 
-pub one_report_on : (p : Program) (first then both : Talk → Type 0) (works w : Type 0) (c c' : Configuration) (sent : List Bool) (k : ℕ) (reports : List (List ℕ)) (report : List ℕ)
-    → Joins first then both → AreOrdersTold p first works c k reports → is_finished p c ≡ false → IsReportTaken p then w c c' sent report
-    → IsUnderWay p both c' (flag_of sent) (k + 1) (more p reports report)
-one_report_on p first then both works w c c' sent k reports report j told left h = record {
-  taken = taken_more p reports report c c' told.taken left h.answers h.after;
-  count = Rattle.fleet_dispatch.proofs.Reports.count_more p reports report k told.count;
-  talk = subst both (talk_more p reports report) (j.join _ _ told.talk h.heard);
-  due = due_more p reports report c c' sent told.taken.here h.after h.flags;
-}
+      pub line_stops : (T : Type 0) (pace : Pace) (works : Type 0) (n : ℕ) (e : DispatchFault) → pace.ahead ≡ d.ahead → n ≡ lines + 1
+          → TakesLine {T = T} d.program pace then works s s' n (Err e) → Dispatches d both (left_in s') (Err e)
+      line_stops T pace works n (f.Form line) same next h =
+          let count = told.count in
+          (reports, record { taken = told.taken; left = unfinished; talk = j.join _ _ told.talk h.1; number = let e = h.0 in omega arith }, left_is d s' reports (h.2.done ∙ told.done) (h.2.taken ∙ told.number))
+      line_stops T pace works n (f.Ended line) same next h =
+          let count = told.count in
+          (reports, record { taken = told.taken; left = unfinished; talk = j.join _ _ told.talk h.1; number = let e = h.0 in omega arith }, left_is d s' reports (h.2.done ∙ told.done) (h.2.taken ∙ told.number))
+      line_stops T pace works n f.Input same next h =
+          (reports, record { taken = told.taken; left = unfinished; talk = j.join _ _ told.talk h.0; number = refl }, left_is d s' reports (h.1.done ∙ told.done) (h.1.taken ∙ told.number))
+      line_stops T pace works n (f.NotOrdered line agent) same next h =
+          let count = told.count in
+          let r = h.1 in (
+            reports,
+            record {
+              report = r.0;
+              stops = record { taken = told.taken; left = unfinished; talk = j.join _ _ told.talk r.1.heard; number = let e = h.0 in omega arith };
+              unordered = subst (λ (c : Counts). IsFirstUnordered d.program d.ahead c r.0 agent) told.done
+                  (subst (λ k. IsFirstUnordered d.program k s.progress.done r.0 agent) same r.1.unordered);
+            },
+            left_is d s' reports (h.2.done ∙ told.done) (h.2.taken ∙ told.number),
+          )
+      line_stops T pace works n f.OutOfMemory same next h = absurd h
+      line_stops T pace works n f.Write same next h = absurd h
+      line_stops T pace works n f.ReportLimit same next h = absurd h
+      line_stops T pace works n (f.Log line) same next h = absurd h
 
--- a dispatch of a fleet that was started
-pub from_start : (p p' : Program) (talks : Talk → Type 0) (c : Configuration) (r : Result DispatchReport DispatchFault) → p' ≡ p → Dispatches p' talks c r
-    → IfOk r (λ _. AreOnGoals p' c) → DispatchesFrom p talks r
-from_start p p' talks c (Ok x) same h goals = subst (λ (q : Program). (d : Configuration) × Dispatches q talks d (Ok x) × AreOnGoals q d) same (c, h, goals)
-from_start p p' talks c (Err f.OutOfMemory) same h goals = absurd h
-from_start p p' talks c (Err (f.Form line)) same h goals = subst (λ (q : Program). (d : Configuration) × Dispatches q talks d (Err (f.Form line)) × ⊤) same (c, h, tt)
-from_start p p' talks c (Err (f.NotOrdered line agent)) same h goals = subst (λ (q : Program). (d : Configuration) × Dispatches q talks d (Err (f.NotOrdered line agent)) × ⊤) same (c, h, tt)
-from_start p p' talks c (Err (f.Ended line)) same h goals = subst (λ (q : Program). (d : Configuration) × Dispatches q talks d (Err (f.Ended line)) × ⊤) same (c, h, tt)
-from_start p p' talks c (Err f.Write) same h goals = subst (λ (q : Program). (d : Configuration) × Dispatches q talks d (Err f.Write) × ⊤) same (c, h, tt)
-from_start p p' talks c (Err f.ReportLimit) same h goals = subst (λ (q : Program). (d : Configuration) × Dispatches q talks d (Err f.ReportLimit) × ⊤) same (c, h, tt)
-from_start p p' talks c (Err f.Input) same h goals = subst (λ (q : Program). (d : Configuration) × Dispatches q talks d (Err f.Input) × ⊤) same (c, h, tt)
+      pub one_line_on : (pace : Pace) (works : Type 0) (report : Words) → pace.ahead ≡ d.ahead → IsLineTaken d.program pace then works s s' report
+          → IsUnderWay d both s' (lines + 1) (more d reports report)
+      one_line_on pace works report same h = record {
+        taken = are_taken_more d.program d.ahead d.start reports report told.taken (next_report report pace same h.rising h.ordered);
+        count = let count = told.count in omega (arith, length_more d reports report);
+        done = h.done ∙ ap (λ (c : Counts). counts_after c report) told.done ∙ sym (counts_now_more d reports report);
+        told = h.told ∙ told.told ∙ sym (told_now_more d reports report);
+        number = h.taken ∙ ap (λ (c : Counts). s.taken + cond (is_repeat c report) 0 1) told.done ∙ ap (λ x. x + cond (is_repeat (counts_now d reports) report) 0 1) told.number ∙ sym (taken_now_more d reports report);
+        talk = subst both (sym (said_more d reports report))
+            (j.join _ _ told.talk h.heard);
+      }

@@ -1,109 +1,146 @@
 -- What dispatching a fleet says, hears and answers.
-use Rattle.std.specs.Prelude.{◌≡◌, ℕ, ◌+◌, ◌<◌, ◌≤◌, ◌⊎◌, Bool, true, false, not, ◌&&◌, List, [], ◌∷◌, ◌++◌, length, take, get_or, Result, Ok, Err, IfOk}
-use Rattle.fleet_model.specs.Program.{Program, total_moves}
-use Rattle.fleet_model.specs.Machine.{Configuration, run, tick, is_among, is_ready, is_finished, IsFinish}
-use Rattle.fleet_model.specs.Claims.{holds_of}
-use Rattle.fleet_machine.specs.Confirmed.{AreAllReady, IsFirstUnready}
-use Rattle.fleet_machine.specs.Machine.{flag_of}
+use Rattle.std.specs.Prelude.{◌≡◌, ℕ, ◌+◌, ◌≤◌, ◌⊎◌, Bool, true, false, List, [], ◌∷◌, ◌++◌, length, take, map, Result, Ok, Err, IfOk, if◌then◌else◌}
+use Rattle.fleet_model.specs.Program.{Program, total_moves, path}
+use Rattle.fleet_model.specs.Machine.{Configuration, indices}
 use Rattle.fleet_run.specs.Fleet.{AreOnGoals}
+use Rattle.fleet_dispatch.specs.declared.form.ReportForm.{ReportForm}
 use Rattle.fleet_dispatch.specs.declared.run.TheConstants.{MAX_REPORTS}
-use Rattle.fleet_dispatch.specs.declared.run.DispatchFault.{DispatchFault}
-use Rattle.fleet_dispatch.specs.declared.run.DispatchFault.TheVariants.{OutOfMemory, Form, NotOrdered, Ended, Write, ReportLimit, Input}
+use Rattle.fleet_dispatch.specs.declared.fault.DispatchFault.{DispatchFault}
+use Rattle.fleet_dispatch.specs.declared.fault.DispatchFault.TheVariants.{OutOfMemory, Form, NotOrdered, Ended, Write, ReportLimit, Log, Input}
 use Rattle.fleet_dispatch.specs.declared.run.DispatchReport.{DispatchReport}
+use Rattle.fleet_dispatch.specs.Report.{Words, IsRising, Counts, count_of, counts_after, is_repeat}
+use Rattle.fleet_dispatch.specs.Ahead.{told_at, AreOrdered, IsFirstUnordered, is_all_done}
 use Rattle.fleet_dispatch.specs.Talk.{Turn, Talk, Told, Cut, Heard, Misheard, NoMore, Unheard}
-use Rattle.fleet_dispatch.specs.Orders.{new_orders, talk_before, talk_of, closing}
+use Rattle.fleet_dispatch.specs.Orders.{new_orders, closing}
 
--- The configuration after these reports, whose run is that under the holds of all others. Each report named agents with
--- orders alone, and came before all was finished
-pub record AreTaken (p : Program) (reports : List (List ℕ)) (c : Configuration) : Type 0 where
-  pub here : c ≡ run p (holds_of (length p) reports) (length reports)
-  pub answers : (t : ℕ) → t < length reports → AreAllReady p (run p (holds_of (length p) reports) t) (is_among (get_or reports t []))
-  pub needed : (t : ℕ) → t < length reports → is_finished p (run p (holds_of (length p) reports) t) ≡ false
+-- What a dispatch is of: a program; how its actions are named; how many actions an agent is told at most that it has not
+-- reported; what is carried out when it begins, and how many reports were taken by then
+pub record Course : Type 0 where
+  pub program : Program
+  pub form : ReportForm
+  pub ahead : ℕ
+  pub start : Counts
+  pub before : ℕ
 
--- all stand on their goals after these reports, and not before the last of them; all was said
-pub record IsDispatched (p : Program) (talks : Talk → Type 0) (c : Configuration) (r : DispatchReport) (reports : List (List ℕ)) : Type 0 where
-  pub taken : AreTaken p reports c
-  pub finish : IsFinish p (holds_of (length p) reports) (length reports)
-  pub talk : talks (talk_of p reports (length reports) ++ Told (closing (length p) (total_moves p) (length reports)) ∷ [])
-  pub agents : r.agents ≡ length p
-  pub moves : r.moves ≡ total_moves p
-  pub count : r.reports ≡ length reports
+-- where each agent stands that has carried out so many of its actions
+abbrev pub configuration_at : Program → Counts → Configuration
+configuration_at p counts =
+    map (λ i. record { place = path p i (count_of counts i); count = count_of counts i }) (indices (length p))
+
+-- ---- after some reports
+
+-- what is carried out
+abbrev pub counts_by : Counts → List Words → Counts
+counts_by counts [] = counts
+counts_by counts (r ∷ reports) = counts_by (counts_after counts r) reports
+
+-- what the agents were told before the last of them, at first as much as is carried out
+abbrev pub told_by : Program → ℕ → (told counts : Counts) → List Words → Counts
+told_by p k told counts [] = told
+told_by p k told counts (r ∷ reports) = told_by p k (told_at p k counts) (counts_after counts r) reports
+
+-- how many of them were no repeats
+abbrev pub taken_by : Counts → List Words → ℕ
+taken_by counts [] = 0
+taken_by counts (r ∷ reports) = (if is_repeat counts r then 0 else 1) + taken_by (counts_after counts r) reports
+
+-- What is said and heard up to the last of them: the orders that are due, the first report, the orders that are due then,
+-- and so on
+unfoldable pub talk_before : Program → ReportForm → ℕ → (told counts : Counts) → List Words → Talk
+talk_before p form k told counts [] = []
+talk_before p form k told counts (r ∷ reports) =
+    (Told (new_orders p form told (told_at p k counts)) ∷ Heard r ∷ [])
+    ++ talk_before p form k (told_at p k counts) (counts_after counts r) reports
+
+-- the words of the report rise, and say only what is ordered; actions are left
+pub record MayBeTaken (p : Program) (k : ℕ) (counts : Counts) (r : Words) : Type 0 where
+  pub rising : IsRising r
+  pub ordered : AreOrdered p k counts r
+  pub left : is_all_done p counts ≡ false
+
+-- each report could be taken when it came
+abbrev pub AreTaken : Program → ℕ → Counts → List Words → Type 0
+AreTaken p k counts [] = Unit {0}
+AreTaken p k counts (r ∷ reports) = MayBeTaken p k counts r × AreTaken p k (counts_after counts r) reports
+
+-- ---- after these reports
+
+abbrev pub counts_now : Course → List Words → Counts
+counts_now d reports = counts_by d.start reports
+
+-- the orders that are due
+abbrev pub due_orders : Course → List Words → List ℕ
+due_orders d reports =
+    new_orders d.program d.form (told_by d.program d.ahead d.start d.start reports) (told_at d.program d.ahead (counts_now d reports))
+
+-- what was said and heard before they are told, and with them
+abbrev pub said_before : Course → List Words → Talk
+said_before d reports = talk_before d.program d.form d.ahead d.start d.start reports
+
+abbrev pub said_by : Course → List Words → Talk
+said_by d reports = said_before d reports ++ Told (due_orders d reports) ∷ []
+
+-- how many reports were taken, which are no repeats
+abbrev pub taken_now : Course → List Words → ℕ
+taken_now d reports = d.before + taken_by d.start reports
+
+-- all is carried out by these reports, and was not before the last of them; all was said
+pub record IsDispatched (d : Course) (talks : Talk → Type 0) (r : DispatchReport) (reports : List Words) : Type 0 where
+  pub taken : AreTaken d.program d.ahead d.start reports
+  pub finish : is_all_done d.program (counts_now d reports) ≡ true
+  pub talk : talks (said_by d reports ++ Told (closing (length d.program) (total_moves d.program) (taken_now d reports)) ∷ [])
+  pub agents : r.agents ≡ length d.program
+  pub moves : r.moves ≡ total_moves d.program
+  pub count : r.reports ≡ taken_now d reports
 
 -- after these reports, with actions left, the next line was heard so, and the dispatch stopped there
-pub record StopsAtLine (p : Program) (talks : Talk → Type 0) (c : Configuration) (turn : Turn) (line : ℕ) (reports : List (List ℕ)) : Type 0 where
-  pub taken : AreTaken p reports c
-  pub left : is_finished p c ≡ false
-  pub talk : talks (talk_of p reports (length reports) ++ turn ∷ [])
+pub record StopsAtLine (d : Course) (talks : Talk → Type 0) (turn : Turn) (line : ℕ) (reports : List Words) : Type 0 where
+  pub taken : AreTaken d.program d.ahead d.start reports
+  pub left : is_all_done d.program (counts_now d reports) ≡ false
+  pub talk : talks (said_by d reports ++ turn ∷ [])
   pub number : line ≡ length reports + 1
 
--- the next report named agents without orders, of which this is the first, and changed nothing
-pub record StopsAtReport (p : Program) (talks : Talk → Type 0) (c : Configuration) (line agent : ℕ) (reports : List (List ℕ)) : Type 0 where
-  pub report : List ℕ
-  pub stops : StopsAtLine p talks c (Heard report) line reports
-  pub unready : IsFirstUnready p c (is_among report) agent
+-- the next report says what was not ordered, first of this agent, and changed nothing
+pub record StopsAtReport (d : Course) (talks : Talk → Type 0) (line agent : ℕ) (reports : List Words) : Type 0 where
+  pub report : Words
+  pub stops : StopsAtLine d talks (Heard report) line reports
+  pub unordered : IsFirstUnordered d.program d.ahead (counts_now d reports) report agent
 
 -- after this talk the text was to be told, and a front of it was
 abbrev pub IsCut : (Talk → Type 0) → Talk → List ℕ → Type 0
 IsCut talks before text = (k : ℕ) × (k ≤ length text) × talks (before ++ Cut (take k text) ∷ [])
 
 -- after these reports the orders that were due, or the closing lines, could not be told
-pub record StopsAtTelling (p : Program) (talks : Talk → Type 0) (c : Configuration) (reports : List (List ℕ)) : Type 0 where
-  pub taken : AreTaken p reports c
-  pub told : IsCut talks (talk_before p reports (length reports)) (new_orders p (holds_of (length p) reports) (length reports))
-      ⊎ ((is_finished p c ≡ true) × IsCut talks (talk_of p reports (length reports)) (closing (length p) (total_moves p) (length reports)))
+pub record StopsAtTelling (d : Course) (talks : Talk → Type 0) (reports : List Words) : Type 0 where
+  pub taken : AreTaken d.program d.ahead d.start reports
+  pub told : IsCut talks (said_before d reports) (due_orders d reports)
+      ⊎ ((is_all_done d.program (counts_now d reports) ≡ true)
+      × IsCut talks (said_by d reports) (closing (length d.program) (total_moves d.program) (taken_now d reports)))
 
--- as many reports as are taken came, with actions left
-pub record StopsAtLimit (p : Program) (talks : Talk → Type 0) (c : Configuration) (reports : List (List ℕ)) : Type 0 where
-  pub taken : AreTaken p reports c
-  pub left : is_finished p c ≡ false
-  pub talk : talks (talk_of p reports (length reports))
-  pub limit : length reports ≡ MAX_REPORTS
+-- as many lines as are heard came, or as many reports as are taken, with actions left
+pub record StopsAtLimit (d : Course) (talks : Talk → Type 0) (reports : List Words) : Type 0 where
+  pub taken : AreTaken d.program d.ahead d.start reports
+  pub left : is_all_done d.program (counts_now d reports) ≡ false
+  pub talk : talks (said_by d reports)
+  pub limit : (length reports ≡ MAX_REPORTS) ⊎ (taken_now d reports ≡ MAX_REPORTS)
 
--- what was said and heard, the configuration in which the fleet is left, and the answer
-abbrev pub Dispatches : Program → (Talk → Type 0) → Configuration → Result DispatchReport DispatchFault → Type 0
-Dispatches p talks c (Ok r) = (reports : List (List ℕ)) × IsDispatched p talks c r reports
-Dispatches p talks c (Err OutOfMemory) = ⊥
-Dispatches p talks c (Err (Form line)) = (reports : List (List ℕ)) × StopsAtLine p talks c (Misheard (length p)) line reports
-Dispatches p talks c (Err (NotOrdered line agent)) = (reports : List (List ℕ)) × StopsAtReport p talks c line agent reports
-Dispatches p talks c (Err (Ended line)) = (reports : List (List ℕ)) × StopsAtLine p talks c NoMore line reports
-Dispatches p talks c (Err Write) = (reports : List (List ℕ)) × StopsAtTelling p talks c reports
-Dispatches p talks c (Err ReportLimit) = (reports : List (List ℕ)) × StopsAtLimit p talks c reports
-Dispatches p talks c (Err Input) = (reports : List (List ℕ)) × StopsAtLine p talks c Unheard (length reports + 1) reports
+-- what is carried out at last, and how many reports were taken by then
+pub record Left : Type 0 where
+  pub done : Counts
+  pub number : ℕ
 
--- the same from the start of a fleet; there may be no memory for it, and then nothing is said
-abbrev pub DispatchesFrom : Program → (Talk → Type 0) → Result DispatchReport DispatchFault → Type 0
-DispatchesFrom p talks (Err OutOfMemory) = talks []
-DispatchesFrom p talks result = (c : Configuration) × Dispatches p talks c result × IfOk result (λ _. AreOnGoals p c)
+-- .. after these reports
+abbrev pub left_by : Course → List Words → Left
+left_by d reports = record { done = counts_now d reports; number = taken_now d reports }
 
--- ---- one report
-
--- a report was heard and taken: a tick passed in which all agents but those that it names were held
-pub record IsReportTaken (p : Program) (talks : Talk → Type 0) (works : Type 0) (c c' : Configuration) (sent : List Bool) (report : List ℕ) : Type 0 where
-  pub heard : talks (Heard report ∷ [])
-  pub still : works
-  pub answers : AreAllReady p c (is_among report)
-  pub after : c' ≡ tick p (λ i. not (is_among report i)) c
-  pub flags : (i : ℕ) → i < length p → flag_of sent i ≡ (is_ready p c i && not (is_among report i))
-
--- a report was heard that names agents without orders, of which this is the first
-pub record IsRefused (p : Program) (talks : Talk → Type 0) (c : Configuration) (agent : ℕ) (report : List ℕ) : Type 0 where
-  pub heard : talks (Heard report ∷ [])
-  pub unready : IsFirstUnready p c (is_among report) agent
-
--- a line was heard, and was taken as a report or refused with nothing changed
-abbrev pub TakesReport : {T : Type 0} → Program → (Talk → Type 0) → (works : Type 0) (c c' : Configuration) (sent : List Bool) → ℕ → Result T DispatchFault → Type 0
-TakesReport p talks works c c' sent n (Ok _) = (report : List ℕ) × IsReportTaken p talks works c c' sent report
-TakesReport p talks works c c' sent n (Err (Form line)) = (c' ≡ c) × (line ≡ n) × talks (Misheard (length p) ∷ [])
-TakesReport p talks works c c' sent n (Err (NotOrdered line agent)) = (c' ≡ c) × (line ≡ n) × ((report : List ℕ) × IsRefused p talks c agent report)
-TakesReport p talks works c c' sent n (Err (Ended line)) = (c' ≡ c) × (line ≡ n) × talks (NoMore ∷ [])
-TakesReport p talks works c c' sent n (Err Input) = (c' ≡ c) × talks (Unheard ∷ [])
-TakesReport p talks works c c' sent n (Err _) = ⊥
-
--- ---- the end
-
--- the closing lines were told, or a front of them was
-abbrev pub Concludes : (Talk → Type 0) → (agents moves reports : ℕ) → Result DispatchReport DispatchFault → Type 0
-Concludes talks agents moves reports (Ok r) =
-    (r.agents ≡ agents) × (r.moves ≡ moves) × (r.reports ≡ reports) × talks (Told (closing agents moves reports) ∷ [])
-Concludes talks agents moves reports (Err Write) = (k : ℕ) × (k ≤ length (closing agents moves reports)) × talks (Cut (take k (closing agents moves reports)) ∷ [])
-Concludes talks agents moves reports (Err _) = ⊥
+-- what was said and heard, what is carried out at last, and the answer
+abbrev pub Dispatches : Course → (Talk → Type 0) → Left → Result DispatchReport DispatchFault → Type 0
+Dispatches d talks left (Ok r) = (reports : List Words) × IsDispatched d talks r reports × (left ≡ left_by d reports)
+Dispatches d talks left (Err OutOfMemory) = ⊥
+Dispatches d talks left (Err (Form line)) = (reports : List Words) × StopsAtLine d talks Misheard line reports × (left ≡ left_by d reports)
+Dispatches d talks left (Err (NotOrdered line agent)) = (reports : List Words) × StopsAtReport d talks line agent reports × (left ≡ left_by d reports)
+Dispatches d talks left (Err (Ended line)) = (reports : List Words) × StopsAtLine d talks NoMore line reports × (left ≡ left_by d reports)
+Dispatches d talks left (Err Write) = (reports : List Words) × StopsAtTelling d talks reports × (left ≡ left_by d reports)
+Dispatches d talks left (Err ReportLimit) = (reports : List Words) × StopsAtLimit d talks reports × (left ≡ left_by d reports)
+Dispatches d talks left (Err (Log line)) = ⊥
+Dispatches d talks left (Err Input) = (reports : List Words) × StopsAtLine d talks Unheard (length reports + 1) reports × (left ≡ left_by d reports)

@@ -1,11 +1,10 @@
 -- How the next line of an input is found and heard.
-use Rattle.std.specs.Prelude.{◌≡◌, ℕ, ◌≤◌, Bool, true, false, List, [], length, position, Option, None, IfSome, Result, Ok, Err, ⊤}
-use Rattle.std.specs.List.Sorted.{IsStrictlyIncreasing}
+use Rattle.std.specs.Prelude.{◌≡◌, ℕ, ◌≤◌, Bool, true, false, List, length, position, Option, None, IfSome, Result, Ok, Err, ⊤}
 use Rattle.std.specs.Io.KnownBytes.{prepend_known, Keeps, IsAtEnd}
-use Rattle.fleet_text.specs.Text.{is_lf, lines}
-use Rattle.fleet_run.specs.HoldText.{tick_line, tick_of}
-use Rattle.fleet_run.specs.Source.{AreFlagsOf}
-use Rattle.fleet_dispatch.specs.Stream.{GivesLine, IsMisheard}
+use Rattle.fleet_text.specs.Text.{is_lf}
+use Rattle.fleet_dispatch.specs.Report.{Words}
+use Rattle.fleet_dispatch.specs.Stream.{GivesReport, IsMisheard, HasNoLine}
+use Rattle.fleet_dispatch.specs.declared.form.ReportForm.{ReportForm}
 use Rattle.fleet_dispatch.specs.declared.window.TheConstants.{LINE_ROOM}
 use Rattle.fleet_dispatch.specs.declared.floor.HearFault.{HearFault}
 use Rattle.fleet_dispatch.specs.declared.floor.HearFault.TheVariants.{Form, Broken}
@@ -21,15 +20,9 @@ EndsLine left read (Err Broken) = ⊤
 abbrev pub FindsLine : (left left' : Option (List ℕ)) (read read' : List ℕ) → Result (Option ℕ) HearFault → Type 0
 FindsLine left left' read read' found = Keeps (prepend_known read left) (prepend_known read' left') × EndsLine left' read' found
 
--- the flags are those of the agents that the line reports, or it is no report of so many agents
-abbrev pub SetsReport : {T : Type 0} → List ℕ → Result T HearFault → List Bool → Type 0
-SetsReport line (Ok _) flags = (report : List ℕ) × AreFlagsOf report flags × (line ≡ tick_line report) × IsStrictlyIncreasing report
-SetsReport line (Err Form) flags = tick_of (length flags) line ≡ None
-SetsReport line (Err Broken) flags = ⊤
-
 -- the next line was heard as a report, and passed; or there is none; or it is no report
-abbrev pub HearsLine : (left left' : Option (List ℕ)) → Result Bool HearFault → List Bool → Type 0
-HearsLine left left' (Ok true) flags = (report : List ℕ) × AreFlagsOf report flags × GivesLine left left' (tick_line report) × IsStrictlyIncreasing report
-HearsLine left left' (Ok false) flags = IfSome left (λ text. lines text ≡ [])
-HearsLine left left' (Err Form) flags = IfSome left (IsMisheard (length flags))
-HearsLine left left' (Err Broken) flags = ⊤
+abbrev pub HearsLine : ReportForm → (left left' : Option (List ℕ)) → Result Bool HearFault → Words → Type 0
+HearsLine form left left' (Ok true) words = GivesReport form left left' words
+HearsLine form left left' (Ok false) words = IfSome left HasNoLine
+HearsLine form left left' (Err Form) words = IfSome left (IsMisheard form)
+HearsLine form left left' (Err Broken) words = ⊤

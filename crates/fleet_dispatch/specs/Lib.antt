@@ -1,9 +1,16 @@
+pub mod Report
+pub mod ReportText
+pub mod Ahead
+pub mod Progress
 pub mod Talk
 pub mod Orders
 pub mod Dispatch
-pub mod Led
+pub mod Session
+pub mod Lead
 pub mod Window
 pub mod Stream
 pub mod Hearing
 pub mod StreamTalk
 pub mod RefusalWords
+pub mod Replay
+pub mod ReplayTalk

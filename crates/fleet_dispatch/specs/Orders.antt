@@ -1,43 +1,37 @@
--- The orders that are told, and when.
-use Rattle.std.specs.Prelude.{◌≡◌, ℕ, zero, suc, ◌<◌, Bool, List, [], ◌∷◌, ◌++◌, length, get_or, codes, if◌then◌else◌}
-use Rattle.std.specs.List.{flat_map}
+-- The orders that are told.
+use Rattle.std.specs.Prelude.{◌≡◌, ℕ, ◌+◌, ◌-◌, List, [], ◌++◌, length, codes}
+use Rattle.std.specs.List.{flat_map, range_with_len}
 use Rattle.std.specs.Fmt.{decimal}
-use Rattle.std.specs.Option.{option_map_or}
-use Rattle.fleet_model.specs.Geometry.{stepped}
-use Rattle.fleet_model.specs.Program.{Program}
-use Rattle.fleet_model.specs.Machine.{Configuration, Holds, indices, place_at, run, is_ready}
-use Rattle.fleet_model.specs.Claims.{order_of, is_new, holds_of}
-use Rattle.fleet_machine.specs.Machine.{flag_of}
+use Rattle.fleet_model.specs.declared.geometry.Place.{Place}
+use Rattle.fleet_model.specs.Program.{Program, path}
+use Rattle.fleet_model.specs.Machine.{indices}
 use Rattle.fleet_run.specs.Text.{place_text, number_line}
-use Rattle.fleet_dispatch.specs.Talk.{Talk, Told, Heard}
+use Rattle.fleet_dispatch.specs.declared.form.ReportForm.{ReportForm}
+use Rattle.fleet_dispatch.specs.declared.form.ReportForm.TheVariants.{Numbered, Unnumbered}
+use Rattle.fleet_dispatch.specs.Report.{Counts, count_of}
 
--- `go i x,y x,y`, from where agent i stands to where its order leads, or no line if it has none
-unfoldable pub order_line : Program → Configuration → ℕ → List ℕ
-order_line p c i =
-    option_map_or (λ s. codes "go " ++ (decimal i ++ (place_text (place_at c i) ++ (place_text (stepped (place_at c i) s) ++ codes "\n")))) (order_of p c i) []
+-- how an order names action n of agent i
+abbrev pub name_text : ReportForm → ℕ → ℕ → List ℕ
+name_text Numbered i n = decimal i ++ (codes ":" ++ decimal n)
+name_text Unnumbered i n = decimal i
 
--- the orders of those of these agents that were not sent theirs, one after another
-abbrev pub orders_but : (ℕ → Bool) → Program → Configuration → List ℕ → List ℕ
-orders_but sent p c agents = flat_map (λ i. if sent i then [] else order_line p c i) agents
+-- `go A:N X,Y X,Y`, of action n of agent i, which leads it from one place to the other
+abbrev pub order_text : ReportForm → ℕ → ℕ → (from to : Place) → List ℕ
+order_text form i n from to =
+    codes "go " ++ (name_text form i n ++ (place_text from ++ (place_text to ++ codes "\n")))
 
--- the orders that are due after t ticks and were not before, in rising order of agent
-unfoldable pub new_orders : Program → Holds → ℕ → List ℕ
-new_orders p holds t = flat_map (λ i. if is_new p holds t i then order_line p (run p holds t) i else []) (indices (length p))
+-- .. of the action after its first n, from where these lead it
+unfoldable pub order_line : Program → ReportForm → ℕ → ℕ → List ℕ
+order_line p form i n = order_text form i (n + 1) (path p i n) (path p i (n + 1))
 
--- what is said and heard up to report t, before the orders that are due then are told
-unfoldable pub talk_before : Program → List (List ℕ) → ℕ → Talk
-talk_before p reports zero = []
-talk_before p reports (suc t) =
-    (talk_before p reports t ++ Told (new_orders p (holds_of (length p) reports) t) ∷ []) ++ Heard (get_or reports t []) ∷ []
+-- the orders of agent i after its first `from` actions, up to action `to`
+abbrev pub agent_orders : Program → ReportForm → ℕ → (from to : ℕ) → List ℕ
+agent_orders p form i from to = flat_map (order_line p form i) (range_with_len from (to - from))
 
--- The talk up to report t: the orders of time 0, the first report, the orders that are due then, and so on. Each time's
--- orders are told before the next report is heard
-abbrev pub talk_of : Program → List (List ℕ) → ℕ → Talk
-talk_of p reports t = talk_before p reports t ++ Told (new_orders p (holds_of (length p) reports) t) ∷ []
-
--- the flags say who is ready
-abbrev pub AreReadyFlags : Program → Configuration → List Bool → Type 0
-AreReadyFlags p c flags = (i : ℕ) → i < length p → flag_of flags i ≡ is_ready p c i
+-- the orders of what the agents are told now and were not before, in rising order of agent, and of each in turn
+unfoldable pub new_orders : Program → ReportForm → (before now : Counts) → List ℕ
+new_orders p form before now =
+    flat_map (λ i. agent_orders p form i (count_of before i) (count_of now i)) (indices (length p))
 
 -- what is said when all stand on their goals
 unfoldable pub closing : ℕ → ℕ → ℕ → List ℕ

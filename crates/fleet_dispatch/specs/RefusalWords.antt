@@ -1,8 +1,8 @@
 -- The line of a dispatch that stopped before its end.
 use Rattle.std.specs.Prelude.{ℕ, Bool, true, false, List, [], ◌∷◌, codes}
 use Rattle.fleet_text.specs.Refusals.{memory_words, named, named_at, named_by}
-use Rattle.fleet_dispatch.specs.declared.run.DispatchFault.{DispatchFault}
-use Rattle.fleet_dispatch.specs.declared.run.DispatchFault.TheVariants as d
+use Rattle.fleet_dispatch.specs.declared.fault.DispatchFault.{DispatchFault}
+use Rattle.fleet_dispatch.specs.declared.fault.DispatchFault.TheVariants as d
 
 -- the words of the line of a dispatch that stopped
 abbrev pub dispatch_words : DispatchFault → List (List ℕ)
@@ -12,6 +12,7 @@ dispatch_words (d.NotOrdered line agent) = named_by (codes "dispatch") 3 (codes 
 dispatch_words (d.Ended line) = named_at (codes "dispatch") 4 (codes "Ended") (codes "line") line
 dispatch_words d.Write = named (codes "dispatch") 5 (codes "Write")
 dispatch_words d.ReportLimit = named (codes "dispatch") 6 (codes "ReportLimit")
+dispatch_words (d.Log line) = named_at (codes "dispatch") 7 (codes "Log") (codes "line") line
 dispatch_words d.Input = codes "file" ∷ codes "-" ∷ []
 
 -- whether memory, the reports or the orders failed

@@ -1,15 +1,16 @@
 -- What is said to a floor of robots and heard from it, in turn.
 use Rattle.std.specs.Prelude.{ℕ, ◌≤◌, Bool, true, false, List, [], ◌∷◌, length, take, Result, Ok, Err}
-use Rattle.fleet_run.specs.Source.{AreFlagsOf}
 use Rattle.fleet_dispatch.specs.declared.floor.HearFault.{HearFault}
 use Rattle.fleet_dispatch.specs.declared.floor.HearFault.TheVariants.{Form, Broken}
+use Rattle.fleet_dispatch.specs.declared.form.ReportForm.{ReportForm}
+use Rattle.fleet_dispatch.specs.Report.{Words}
 
 -- one thing that was said or heard
 pub data Turn : Type 0 where
   Told : List ℕ → Turn  -- bytes that were handed on
   Cut : List ℕ → Turn  -- a front of bytes, after which nothing more can be said
-  Heard : List ℕ → Turn  -- a report, by the agents that it names
-  Misheard : ℕ → Turn  -- a line that is no report of so many agents
+  Heard : Words → Turn  -- a report, by what its words say
+  Misheard : Turn  -- a line that is no report
   NoMore : Turn  -- there is no further line
   Unheard : Turn  -- a line cannot be heard
 
@@ -22,14 +23,13 @@ abbrev pub Tells : {T E : Type 0} → (talks : Talk → Type 0) (works : Type 0)
 Tells talks works (Ok _) bytes = talks (Told bytes ∷ []) × works
 Tells talks works (Err _) bytes = (k : ℕ) × (k ≤ length bytes) × talks (Cut (take k bytes) ∷ [])
 
--- A report was heard, and the flags are set as it names the agents; or there was none, or no report, or nothing could
--- be heard
-abbrev pub Hears : (talks : Talk → Type 0) (works : Type 0) → Result Bool HearFault → List Bool → Type 0
-Hears talks works (Ok true) flags = (report : List ℕ) × AreFlagsOf report flags × talks (Heard report ∷ []) × works
-Hears talks works (Ok false) flags = talks (NoMore ∷ [])
-Hears talks works (Err Form) flags = talks (Misheard (length flags) ∷ [])
-Hears talks works (Err Broken) flags = talks (Unheard ∷ [])
+-- A report was heard, with these words; or there was none, or no report, or nothing could be heard
+abbrev pub Hears : (talks : Talk → Type 0) (works : Type 0) → Result Bool HearFault → Words → Type 0
+Hears talks works (Ok true) words = talks (Heard words ∷ []) × works
+Hears talks works (Ok false) words = talks (NoMore ∷ [])
+Hears talks works (Err Form) words = talks (Misheard ∷ [])
+Hears talks works (Err Broken) words = talks (Unheard ∷ [])
 
 -- from the first input and output to the second ones this was told and heard: nothing was read ahead of the input at first, and some bytes at last
-abbrev pub IsSaid : {R O : Type 0} → (talks : R → List ℕ → O → R → List ℕ → O → Talk → Type 0) → (input : R) (out : O) (input' : R) (out' : O) → Talk → Type 0
-IsSaid talks input out input' out' talk = (ahead : List ℕ) × talks input [] out input' ahead out' talk
+abbrev pub IsSaid : {R O : Type 0} → (talks : ReportForm → R → List ℕ → O → R → List ℕ → O → Talk → Type 0) → (input : R) (out : O) (input' : R) (out' : O) → ReportForm → Talk → Type 0
+IsSaid talks input out input' out' form talk = (ahead : List ℕ) × talks form input [] out input' ahead out' talk

@@ -1,5 +1,6 @@
 //! Floors: where the robots are told their orders, and where they report.
 
+use crate::report::Report;
 use fleet_text::OutFault;
 
 /// Why no report was heard.
@@ -32,10 +33,10 @@ pub trait Floor {
         requires { works self.old }
         ensures { Tells (talks self.old self.new) (works self.new) result bytes.now };
 
-    /// Waits for a report, and sets flag i to whether it names agent i. `Ok(false)` if there is none any more.
-    fn hear(&mut self, done: &mut [bool]) -> Result<bool, HearFault>
+    /// Waits for a report, and makes this one the one that it heard. `Ok(false)` if there is none any more.
+    fn hear(&mut self, report: &mut Report) -> Result<bool, HearFault>
         requires { works self.old }
-        ensures { Hears (talks self.old self.new) (works self.new) result done.new };
+        ensures { Hears (talks self.old self.new) (works self.new) result report.new };
 
     /// From a floor to itself nothing was said or heard.
     ghost silent: { (f : Self) → talks f f [] };

@@ -1,27 +1,28 @@
 //! How the next line of an input is found, and heard as a report.
 
-ghost use Rattle.std.specs.Prelude.{◌≡◌, ℕ, ◌≤◌, List, [], length, drop, position, Option, None, IfSome, MatchOption};
+ghost use Rattle.std.specs.Prelude.{◌≡◌, ◌≤◌, ◌<◌, ◌+◌, length, drop, take, position, Some, None};
 ghost use Rattle.std.specs.Str.Lines.{strip_carriage_return};
-ghost use Rattle.std.specs.Io.KnownBytes.{prepend_known, IsAtEnd};
-ghost use Rattle.fleet_text.specs.Text.{is_lf, lines};
+ghost use Rattle.std.specs.Io.KnownBytes.{prepend_known};
+ghost use Rattle.fleet_text.specs.Text.{is_lf};
 ghost use Rattle.fleet_dispatch.specs.Window.{window_rest};
-ghost use Rattle.fleet_dispatch.specs.Stream.{GivesLine};
-ghost use Rattle.fleet_dispatch.specs.Hearing.{FindsLine, SetsReport, HearsLine};
+ghost use Rattle.fleet_dispatch.specs.Hearing.{FindsLine, HearsLine};
 
 use crate::floor::HearFault;
+use crate::form::ReportForm;
+use crate::report::Report;
+use crate::report_text::read_report;
 use crate::window::{LINE_ROOM, Window};
-use fleet_run::{a_tick_line_is_read, clear, set_tick};
 use std::io::Read;
 
 /// Where the first line of the bytes ends, if it ends within them.
-fn end_in(bytes: &[u8]) -> Option<usize>
+pub fn end_in(bytes: &[u8]) -> Option<usize>
     ensures { result ≡ position is_lf bytes.now }
 {
     bytes.iter().position(|b| *b == b'\n')
 }
 
 /// The line without one CR at its end.
-fn without_cr(line: &[u8]) -> &[u8]
+pub fn without_cr(line: &[u8]) -> &[u8]
     ensures { result.now ≡ strip_carriage_return line.now }
 {
     match line {
@@ -30,8 +31,8 @@ fn without_cr(line: &[u8]) -> &[u8]
     }
 }
 
-/// Reads until a line ends in the window, and answers where; nowhere at the end of the input. A line that the window
-/// cannot hold is no report.
+/// Reads until a line ends in the window, and answers where; nowhere at the end of the input, where what was read ends
+/// no line. A line that the window cannot hold is no report.
 fn find_line<R: Read>(input: &mut R, window: &mut Window) -> Result<Option<usize>, HearFault>
     ensures { FindsLine (R.remaining input.old) (R.remaining input.new) (window_rest window.old)
         (window_rest window.new) result }
@@ -52,52 +53,25 @@ fn find_line<R: Read>(input: &mut R, window: &mut Window) -> Result<Option<usize
     }
 }
 
-/// The next line of the bytes that were read, which ends where it was found or with them all, and how many bytes are
-/// passed with it.
-fn line_in(read: &[u8], found: Option<usize>) -> Option<(&[u8], usize)>
-    requires { position is_lf read.now ≡ found }
-    ensures { (left : Option (List ℕ)) → (found ≡ None → IsAtEnd left) → MatchOption result
-        (IfSome (prepend_known read.now left) (λ text. lines text ≡ []))
-        (λ x. (x.1 ≤ length read.now) × GivesLine (prepend_known read.now left)
-        (prepend_known (drop x.1 read.now) left) x.0.now) }
-{
-    match found {
-        Some(end) => Some((without_cr(&read[..end]), end + 1)),
-        None if read.is_empty() => None,
-        None => Some((without_cr(read), read.len())),
-    }
-}
-
-/// Sets the flags as the line reports.
-fn set_report(line: &[u8], done: &mut [bool]) -> Result<(), HearFault>
-    ensures { SetsReport line.now result done.new }
-{
-    a_tick_line_is_read();
-    let Ok(agents) = u16::try_from(done.len()) else {
-        return Err(HearFault::Broken);
-    };
-    clear(done);
-    if set_tick(line, agents, done) {
-        Ok(())
-    } else {
-        Err(HearFault::Form)
-    }
-}
-
-/// Hears the next line of the input.
+/// Hears the next line of the input, which ends with an LF, and makes the report the one that it stands for.
 pub fn hear_line<R: Read>(
+    form: ReportForm,
     input: &mut R,
     window: &mut Window,
-    done: &mut [bool],
+    report: &mut Report,
 ) -> Result<bool, HearFault>
-    ensures { HearsLine (prepend_known (window_rest window.old) (R.remaining input.old))
-        (prepend_known (window_rest window.new) (R.remaining input.new)) result done.new }
+    ensures { HearsLine form (prepend_known (window_rest window.old) (R.remaining input.old))
+        (prepend_known (window_rest window.new) (R.remaining input.new)) result report.new }
 {
     let found = find_line(input, window)?;
-    let Some((line, past)) = line_in(window.rest(), found) else {
+    let Some(end) = found else {
         return Ok(false);
     };
-    set_report(line, done)?;
-    window.pass(past);
+    let line = without_cr(&window.rest()[..end]);
+    let is_report = read_report(form, line, report);
+    if !is_report {
+        return Err(HearFault::Form);
+    }
+    window.pass(end + 1);
     Ok(true)
 }

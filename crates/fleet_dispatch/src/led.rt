@@ -1,39 +1,46 @@
 //! Laws of robots that are led by orders and reports. This function does nothing: its contract is the laws.
 
-ghost use Rattle.std.specs.Prelude.{◌≡◌, ℕ, Bool, IsTrue, List};
+ghost use Rattle.std.specs.Prelude.{◌≡◌, ℕ, ◌≤◌, ◌++◌, ◌∷◌, [], Bool, List};
 ghost use Rattle.fleet_model.specs.declared.geometry.Place.{Place};
-ghost use Rattle.fleet_model.specs.declared.program.ActionId.{ActionId};
 ghost use Rattle.fleet_model.specs.declared.task.Task.{Task};
 ghost use Rattle.fleet_model.specs.Program.{Program, AreInRange};
-ghost use Rattle.fleet_model.specs.Machine.{Configuration};
-ghost use Rattle.fleet_model.specs.Chain.{IsAction};
 ghost use Rattle.fleet_model.specs.Visit.{ComesAfterByChain};
 ghost use Rattle.fleet_model.specs.Accepted.{IsAcceptedBy};
 ghost use Rattle.fleet_model.specs.Dispatch.{IsCarriedOut};
-ghost use Rattle.fleet_dispatch.specs.Dispatch.{AreTaken};
-ghost use Rattle.fleet_dispatch.specs.Led.{is_ordered, dispatch_of, NeverFalls, IsSafelyLed, schedule_of, OrdersAtOnce, IsShort};
+ghost use Rattle.fleet_dispatch.specs.Report.{Words};
+ghost use Rattle.fleet_dispatch.specs.Ahead.{told_at};
+ghost use Rattle.fleet_dispatch.specs.Orders.{new_orders};
+ghost use Rattle.fleet_dispatch.specs.Dispatch.{Course, AreTaken, counts_now, due_orders};
+ghost use Rattle.fleet_dispatch.specs.Lead.{none_done, dispatch_of, schedule_of, NeverFalls, IsSafelyLed, OrdersAtOnce, LeadsWell, resumed, SaysAlike};
 
 /// Whatever robots do that carry out the orders of a dispatch, each once, in turn and after it was given, and whose
-/// reports come after the ends of their actions, is a schedule of the program, so they are safe. They may do so: to
-/// begin when ordered and to end when reported is such a schedule. No action is ordered twice, and no order waits longer
-/// than it has to. Each report that names somebody ends an action, so after as many as there are actions all stand on
-/// their goals.
+/// reports come after the ends of their actions, is a schedule of the program, so they are safe, however many orders
+/// are given ahead. They may do so: to begin when ordered and after the action before, and to end when reported, is
+/// such a schedule. No order waits longer than it has to. No order is taken back, agents are apart wherever their orders
+/// lead them, some agent always has an order, and at the end all stand on their goals (`well`). A dispatch that begins
+/// where the reports of another have led says the orders that are open, and then what the other would say that had
+/// heard these reports.
 pub fn dispatches_lead_safely()
     ensures safely { (passable : Place → Bool) (tasks : List Task) (p : Program)
         → IsAcceptedBy ComesAfterByChain passable tasks p
-        → (clock : ℕ → ℕ) (reports : List (List ℕ)) → NeverFalls clock
-        → IsSafelyLed passable p (dispatch_of clock p reports) }
-    ensures can { (p : Program) (clock : ℕ → ℕ) (reports : List (List ℕ)) (c : Configuration)
-        → NeverFalls clock → AreTaken p reports c
-        → IsCarriedOut p (dispatch_of clock p reports) (schedule_of (dispatch_of clock p reports)) }
-    ensures once { (p : Program) (reports : List (List ℕ)) (a : ActionId) (t u : ℕ)
-        → IsAction p a → IsTrue (is_ordered p reports a t) → IsTrue (is_ordered p reports a u)
-        → t ≡ u }
+        → (clock : ℕ → ℕ) (ahead : ℕ) (reports : List Words) → NeverFalls clock
+        → AreTaken p ahead (none_done p) reports
+        → IsSafelyLed passable p (dispatch_of clock p ahead reports) }
+    ensures can { (p : Program) (clock : ℕ → ℕ) (ahead : ℕ) (reports : List Words)
+        → NeverFalls clock → AreTaken p ahead (none_done p) reports
+        → IsCarriedOut p (dispatch_of clock p ahead reports)
+        (schedule_of clock p ahead reports) }
     ensures at_once { (p : Program) → AreInRange p
-        → (clock : ℕ → ℕ) (reports : List (List ℕ)) (c : Configuration)
-        → NeverFalls clock → AreTaken p reports c
-        → OrdersAtOnce p (dispatch_of clock p reports) (clock 0) }
-    ensures short { (passable : Place → Bool) (tasks : List Task) (p : Program)
+        → (clock : ℕ → ℕ) (ahead : ℕ) (reports : List Words) → 1 ≤ ahead
+        → NeverFalls clock → AreTaken p ahead (none_done p) reports
+        → OrdersAtOnce p (dispatch_of clock p ahead reports) (clock 0) }
+    ensures well { (passable : Place → Bool) (tasks : List Task) (p : Program)
         → IsAcceptedBy ComesAfterByChain passable tasks p
-        → (reports : List (List ℕ)) (c : Configuration) → AreTaken p reports c → IsShort p reports c }
+        → (ahead : ℕ) (reports : List Words) → AreTaken p ahead (none_done p) reports
+        → LeadsWell passable p ahead reports }
+    ensures resume { (d : Course) (log live : List Words) (r : Words)
+        → SaysAlike d (resumed d log) (log ++ r ∷ live) (r ∷ live) }
+    ensures orders_open { (d : Course) (log : List Words) → due_orders (resumed d log) []
+        ≡ new_orders d.program d.form (counts_now d log)
+        (told_at d.program d.ahead (counts_now d log)) }
 {}

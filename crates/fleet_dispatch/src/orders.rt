@@ -1,89 +1,72 @@
-//! The orders that are due, as lines.
+//! Orders and closing lines, as text.
 
-ghost use Rattle.std.specs.Prelude.{◌≡◌, ℕ, ◌+◌, ◌<◌, ◌≤◌, ◌++◌, length, drop};
-ghost use Rattle.fleet_model.specs.Machine.{indices};
-ghost use Rattle.fleet_machine.specs.Machine.{flag_of};
-ghost use Rattle.fleet_dispatch.specs.Orders.{order_line, orders_but, AreReadyFlags, closing};
+ghost use Rattle.std.specs.Prelude.{◌≡◌, ◌+◌, ◌<◌, ◌≤◌, ◌++◌, length, drop, take};
+ghost use Rattle.fleet_dispatch.specs.Orders.{name_text, order_text, closing};
 ghost use Rattle.fleet_dispatch.specs.Talk.{Tells};
 
 use crate::floor::Floor;
-use fleet_machine::AgentSet;
-use fleet_model::{MAX_AGENTS, ProgramView};
-use fleet_run::{Fleet, PLACE, write_bytes, write_count, write_number_line, write_place};
+use crate::form::ReportForm;
+use fleet_model::Place;
+use fleet_run::{PLACE, write_bytes, write_count, write_number_line, write_place};
 use fleet_text::{OutFault, write_byte};
 
-/// How many bytes the longest order has: two places, and the agent between a word and a line's end.
-const ORDER: usize = 2 * PLACE + 14;
+/// How many bytes the longest order has: two places, the agent and the number, between a word and a line's end.
+pub const ORDER: usize = 2 * PLACE + 25;
 
-/// How many bytes the orders of all agents have at most.
-pub const ORDERS: usize = MAX_AGENTS * ORDER;
-
-/// Writes the order of agent `i` so that it ends before `end`, if there is one, and answers where it begins.
-#[tactic(auto, unfolding(crate::specs::Orders::order_line))]
-fn write_order<P: ProgramView>(fleet: &Fleet<'_, P>, i: u16, row: &mut [u8], end: usize) -> usize
-    requires agent { i < length (P.program fleet.now.accepted.program) }
-    requires room { ORDER ≤ end }
+/// Writes how an order names action `n` of agent `i`, so that it ends before `end`, and answers where it begins.
+fn write_name(form: ReportForm, i: u16, n: u32, row: &mut [u8], end: usize) -> usize
+    requires room { 21 ≤ end }
     requires within { end ≤ length row.old }
-    ensures low { end ≤ result + ORDER }
+    ensures low { end ≤ result + 21 }
     ensures high { result ≤ end }
-    ensures written { drop result row.new
-        ≡ order_line (P.program fleet.now.accepted.program) fleet.now.configuration i
-        ++ drop end row.old }
+    ensures written { drop result row.new ≡ name_text form i n ++ drop end row.old }
 {
-    let Some(place) = fleet.sent_to(i) else {
-        return end;
-    };
-    let at = write_byte(b'\n', row, end);
-    let at = write_place(place, row, at);
-    let at = write_place(fleet.place(i), row, at);
-    let at = write_count(i as u32, row, at);
+    match form {
+        ReportForm::Numbered => {
+            let at = write_count(n, row, end);
+            let at = write_byte(b':', row, at);
+            write_count(i as u32, row, at)
+        }
+        ReportForm::Unnumbered => write_count(i as u32, row, end),
+    }
+}
+
+/// An action that an agent is told: its number, and from where it leads to where.
+#[derive(Clone, Copy)]
+pub struct Order {
+    pub agent: u16,
+    pub number: u32,
+    pub from: Place,
+    pub to: Place,
+}
+
+/// Writes an order so that it ends with the row, and answers where it begins.
+#[tactic(auto, using(crate::proofs::Written::five_joined))]
+fn write_order(form: ReportForm, order: Order, row: &mut [u8]) -> usize
+    requires room { length row.old ≡ ORDER }
+    ensures high { result ≤ ORDER }
+    ensures written { drop result row.new
+        ≡ order_text form order.agent order.number order.from order.to }
+{
+    let at = write_byte(b'\n', row, ORDER);
+    let at = write_place(order.to, row, at);
+    let at = write_place(order.from, row, at);
+    let at = write_name(form, order.agent, order.number, row, at);
     write_bytes(b"go ", row, at)
 }
 
-/// Writes the orders of the agents that were not sent theirs, in rising order of agent, and answers where they begin.
-/// They end with the row. It looks only at the agents that have an order and were not sent it.
-fn write_orders<P: ProgramView>(fleet: &Fleet<'_, P>, sent: &AgentSet, row: &mut [u8]) -> usize
-    requires few { length (P.program fleet.now.accepted.program) ≤ MAX_AGENTS }
-    requires room { length row.old ≡ ORDERS }
-    ensures within { result ≤ length row.new }
-    ensures written { drop result row.new
-        ≡ orders_but (flag_of sent.now)
-        (P.program fleet.now.accepted.program) fleet.now.configuration
-        (indices (length (P.program fleet.now.accepted.program))) }
+/// Writes an order behind those that end at `at`, and answers where it ends.
+pub fn add_order(form: ReportForm, order: Order, row: &mut [u8], at: usize) -> usize
+    requires room { at + ORDER ≤ length row.old }
+    ensures high { result ≤ at + ORDER }
+    ensures written { take result row.new ≡ take at row.old
+        ++ order_text form order.agent order.number order.from order.to }
 {
-    let unsent = fleet.ready_agents().without(sent);
-    let mut at = ORDERS;
-    let mut end = fleet.agents();
-    while let Some(i) = unsent.last_before(end) {
-        at = write_order(fleet, i, row, at);
-        end = i;
-    }
-    at
-}
-
-/// Tells the orders of the agents that were not sent theirs, and notes in `sent` that every agent with an order was
-/// sent it.
-pub fn tell_orders<P: ProgramView, F: Floor>(
-    fleet: &Fleet<'_, P>,
-    sent: &mut AgentSet,
-    row: &mut [u8],
-    floor: &mut F,
-) -> Result<(), OutFault>
-    requires few { length (P.program fleet.now.accepted.program) ≤ MAX_AGENTS }
-    requires sent { length sent.old ≡ length (P.program fleet.now.accepted.program) }
-    requires room { length row.old ≡ ORDERS }
-    requires floor { F.works floor.old }
-    ensures told { Tells (F.talks floor.old floor.new) (F.works floor.new) result
-        (orders_but (flag_of sent.old)
-        (P.program fleet.now.accepted.program) fleet.now.configuration
-        (indices (length (P.program fleet.now.accepted.program)))) }
-    ensures agents { length sent.new ≡ length (P.program fleet.now.accepted.program) }
-    ensures ready { AreReadyFlags
-        (P.program fleet.now.accepted.program) fleet.now.configuration sent.new }
-{
-    let at = write_orders(fleet, sent, row);
-    sent.copy_from(fleet.ready_agents());
-    floor.tell(&row[at..])
+    let mut text = [0; ORDER];
+    let begin = write_order(form, order, &mut text);
+    let end = at + (ORDER - begin);
+    row[at..end].copy_from_slice(&text[begin..]);
+    end
 }
 
 /// How many bytes the closing lines have at most.

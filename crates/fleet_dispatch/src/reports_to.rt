@@ -3,7 +3,9 @@
 ghost use Rattle.fleet_text.specs.Sink.{IsWorking, Delivers};
 
 use crate::floor::HearFault;
+use crate::form::ReportForm;
 use crate::hearing::hear_line;
+use crate::report::Report;
 use crate::window::Window;
 use fleet_run::{Flush, OutFault, put_all};
 use std::io::Read;
@@ -14,41 +16,51 @@ use std::io::Read;
 pub trait ReportsTo<O: Flush>: Read {
     ghost use Rattle.std.specs.Prelude.{ℕ, List, ◌++◌, []};
     ghost use Rattle.fleet_text.specs.Sink.{IsWorking};
+    ghost use Rattle.fleet_dispatch.specs.declared.form.ReportForm.{ReportForm};
     ghost use Rattle.fleet_dispatch.specs.Talk.{Talk, Tells, Hears};
     ghost use Rattle.fleet_dispatch.specs.Window.{window_rest};
 
     /// From the first input, with what was read ahead of it, and the first output to the second ones this was told and
     /// heard.
-    ghost talks: { Self → List ℕ → O → Self → List ℕ → O → Talk → Type 0 };
+    ghost talks: { ReportForm → Self → List ℕ → O → Self → List ℕ → O → Talk → Type 0 };
 
     /// Hands on all of the bytes before it answers. If it fails, a front of them was taken, and nothing more can be
     /// told.
-    fn tell(&mut self, window: &Window, orders: &mut O, bytes: &[u8]) -> Result<(), OutFault>
+    fn tell(
+        &mut self,
+        form: ReportForm,
+        window: &Window,
+        orders: &mut O,
+        bytes: &[u8],
+    ) -> Result<(), OutFault>
         requires { IsWorking (O.state orders.old) }
-        ensures { Tells (talks self.old (window_rest window.now) orders.old
+        ensures { Tells (talks form self.old (window_rest window.now) orders.old
             self.new (window_rest window.now) orders.new)
             (IsWorking (O.state orders.new)) result bytes.now };
 
-    /// Waits for a report, and sets flag i to whether it names agent i. `Ok(false)` if there is none any more.
+    /// Waits for a report, and makes this one the one that it heard. `Ok(false)` if there is none any more.
     fn hear(
         &mut self,
+        form: ReportForm,
         window: &mut Window,
         orders: &O,
-        done: &mut [bool],
+        report: &mut Report,
     ) -> Result<bool, HearFault>
         requires { IsWorking (O.state orders.now) }
-        ensures { Hears (talks self.old (window_rest window.old) orders.now
+        ensures { Hears (talks form self.old (window_rest window.old) orders.now
             self.new (window_rest window.new) orders.now)
-            (IsWorking (O.state orders.now)) result done.new };
+            (IsWorking (O.state orders.now)) result report.new };
 
     /// From an input and an output to themselves nothing was told or heard.
-    ghost silent: { (r : Self) (ahead : List ℕ) (o : O) → talks r ahead o r ahead o [] };
+    ghost silent: { (form : ReportForm) (r : Self) (ahead : List ℕ) (o : O)
+        → talks form r ahead o r ahead o [] };
 
     /// What was told and heard in two stretches, one after the other, was told and heard in both.
-    ghost joined: { (r : Self) (ahead : List ℕ) (o : O) (r' : Self) (ahead' : List ℕ) (o' : O)
+    ghost joined: { (form : ReportForm) (r : Self) (ahead : List ℕ) (o : O)
+        (r' : Self) (ahead' : List ℕ) (o' : O)
         (r'' : Self) (ahead'' : List ℕ) (o'' : O) (before after : Talk)
-        → talks r ahead o r' ahead' o' before → talks r' ahead' o' r'' ahead'' o'' after
-        → talks r ahead o r'' ahead'' o'' (before ++ after) };
+        → talks form r ahead o r' ahead' o' before → talks form r' ahead' o' r'' ahead'' o'' after
+        → talks form r ahead o r'' ahead'' o'' (before ++ after) };
 }
 
 /// Puts all of the bytes and has the sink hand them on, or stops at its failure.
@@ -66,25 +78,32 @@ impl<R: Read, O: Flush> ReportsTo<O> for R {
     ghost use Rattle.fleet_dispatch.specs.Stream.{TakesTurns};
     ghost use Rattle.fleet_dispatch.specs.StreamTalk.{takes_nothing, takes_turns_more};
 
-    ghost talks = { λ r ahead o r' ahead' o' talk. TakesTurns
+    ghost talks = { λ form r ahead o r' ahead' o' talk. TakesTurns form
         (record { out = O.state o; left = prepend_known ahead (R.remaining r) })
         (record { out = O.state o'; left = prepend_known ahead' (R.remaining r') }) talk };
 
-    fn tell(&mut self, _: &Window, orders: &mut O, bytes: &[u8]) -> Result<(), OutFault> {
+    fn tell(
+        &mut self,
+        _: ReportForm,
+        _: &Window,
+        orders: &mut O,
+        bytes: &[u8],
+    ) -> Result<(), OutFault> {
         deliver(orders, bytes)
     }
 
     fn hear(
         &mut self,
+        form: ReportForm,
         window: &mut Window,
         orders: &O,
-        done: &mut [bool],
+        report: &mut Report,
     ) -> Result<bool, HearFault> {
-        hear_line(self, window, done)
+        hear_line(form, self, window, report)
     }
 
-    ghost silent = { λ r ahead o. takes_nothing _ };
+    ghost silent = { λ form r ahead o. takes_nothing form _ };
 
-    ghost joined = { λ r ahead o r' ahead' o' r'' ahead'' o'' before after.
-        takes_turns_more _ _ _ before after };
+    ghost joined = { λ form r ahead o r' ahead' o' r'' ahead'' o'' before after.
+        takes_turns_more form _ _ _ before after };
 }

@@ -6,8 +6,8 @@ ghost use Rattle.std.specs.Io.KnownBytes.{Keeps, Consumes, IsAtEnd};
 use std::io;
 use std::io::Read;
 
-/// How many bytes of a line are heard. The longest report, of 1,024 agents, has 4,009.
-pub const LINE_ROOM: usize = 8_192;
+/// How many bytes of a line are heard. The longest report, of 1,024 agents, has 15,274.
+pub const LINE_ROOM: usize = 16_384;
 
 /// The bytes from `start` to `end`, and room after them.
 #[derive(Drop)]
@@ -16,7 +16,7 @@ pub struct Window {
     start: usize,
     end: usize,
     ghost ordered: { start ≤ end },
-    ghost within: { end ≤ 8192 },
+    ghost within: { end ≤ 16384 },
 }
 
 impl Window {

@@ -4,7 +4,8 @@
 ghost use Rattle.std.specs.Prelude.{◌≡◌, ◌<◌, List, ℕ, IfOk, IfErr, OnOk, OnErr, Ok, length};
 ghost use Rattle.fleet_code.specs.Spelling.{Spells};
 ghost use Rattle.fleet_run.specs.Trace.{WritesTrace};
-ghost use Rattle.fleet_dispatch.specs.Dispatch.{DispatchesFrom};
+ghost use Rattle.fleet_dispatch.specs.Replay.{DispatchesAfter};
+ghost use Rattle.fleet_dispatch.specs.Session.{first_course};
 ghost use Rattle.fleet_grid.specs.Ground.{Ground};
 ghost use Rattle.fleet_grid.specs.MapText.{IsMapText};
 ghost use Rattle.fleet_machine.specs.Confirmed.{all_but, AreAllReady, IsFirstUnready};
@@ -18,7 +19,7 @@ ghost use Rattle.fleet_text.specs.Sink.{IsWorking};
 ghost use Rattle.fleet_verify.specs.Parts.{IsAcceptedFor};
 
 use fleet_code::{LoadFault, view};
-use fleet_dispatch::{DispatchFault, DispatchReport, Floor, dispatch_accepted};
+use fleet_dispatch::{DispatchFault, DispatchReport, Floor, Pace, dispatch_accepted};
 use fleet_grid::{Grid, MapFault, read_map};
 use fleet_model::{ProgramView, Step};
 use fleet_run::{Fleet, NotSent, Report, RunFault, TraceOut, run_accepted};
@@ -71,23 +72,27 @@ pub fn run<O: TraceOut>(
 }
 
 /// Verifies the program for the map and the tasks, and dispatches its robots over the floor until all stand on their
-/// goals: each is told its order as soon as it has one, and before the next report is waited for.
+/// goals: each is told its next actions, up to `pace.ahead` that it has not reported, each as soon as what it awaits is
+/// reported, and before the next report is waited for. It goes on after the reports of the log.
 pub fn send<P: ProgramView + Drop, F: Floor>(
     alloc: Global,
     program: P,
     grid: &Grid,
     instance: &Instance,
+    pace: Pace,
+    log: &[u8],
     floor: &mut F,
 ) -> Result<DispatchReport, Stop>
     requires { F.works floor.old }
     ensures { IfOk result (λ report.
-        DispatchesFrom (P.program program) (F.talks floor.old floor.new) (Ok report)) }
+        DispatchesAfter (first_course (P.program program) pace) log.now
+        (F.talks floor.old floor.new) (Ok report)) }
 {
     let accepted = match verify(alloc, program, grid, instance) {
         Ok(accepted) => accepted,
         Err(refused) => return Err(Stop::Verify(refused.fault)),
     };
-    match dispatch_accepted(alloc, accepted, floor) {
+    match dispatch_accepted(alloc, accepted, pace, log, floor) {
         Ok(report) => Ok(report),
         Err(fault) => Err(Stop::Dispatch(fault)),
     }

@@ -9,7 +9,7 @@ use crate::fleets::{PAIR_HEX, PAIR_MAP, PAIR_SCEN, PAIR_TEXT, PAIR_TRACE};
 use crate::streams::{FailingSource, ShortReader, ShortWriter};
 use fleet_cli::{FileFault, read_whole};
 use fleet_code::{load, read_hex};
-use fleet_dispatch::{DispatchFault, DispatchReport, dispatch_over};
+use fleet_dispatch::{DispatchFault, DispatchReport, Pace, ReportForm, dispatch_over};
 use fleet_grid::{Grid, read_map};
 use fleet_model::{Place, Program, ProgramView};
 use fleet_run::{
@@ -191,16 +191,20 @@ fn dispatch_answer(
         return Err(Fail::from("not accepted"));
     };
     let mut out = WriteOut::new(output);
-    Ok(dispatch_over(alloc, accepted, &mut input, &mut out).err())
+    let pace = Pace {
+        form: ReportForm::Numbered,
+        ahead: 1,
+    };
+    Ok(dispatch_over(alloc, accepted, pace, b"", &mut input, &mut out).err())
 }
 
 /// Reports of the pair's robots, and the orders that they are given, which are handed on four times.
-const REPORTS: &[u8] = b"0\n0 1\n1\n";
+const REPORTS: &[u8] = b"0:1\n0:2 1:1\n1:2\n";
 
-const ORDERS: &[u8] = b"go 0 1,0 2,0
-go 0 2,0 3,0
-go 1 0,0 1,0
-go 1 1,0 2,0
+const ORDERS: &[u8] = b"go 0:1 1,0 2,0
+go 0:2 2,0 3,0
+go 1:1 0,0 1,0
+go 1:2 1,0 2,0
 arrived
 agents 2
 moves 4

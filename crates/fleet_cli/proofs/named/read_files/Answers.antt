@@ -30,4 +30,15 @@ returns-in_err-holds-clause-fault g c =
     rw (e.1, e.2) (unread-later _ c.args.names.map _ _ _ c.in_ok-map.ensures.bytes
     (unread-later _ c.args.names.scen _ _ _ (given_before _ _ _ _ c.in_ok-map.ensures.kept c.in_ok-scen.ensures.bytes)
     (unread-later _ c.args.names.subject _ _ _ (given_before _ _ _ _ kept c.in_ok-subject.ensures.bytes)
-    (unread_before _ _ _ _ (kept_on _ _ _ kept c.in_ok-subject.ensures.kept) c.in_err-holds.ensures.fault))))
+    (unread_before _ _ _ _ (kept_on _ _ _ kept c.in_ok-subject.ensures.kept) (unread-first _ (given_name c.args.names.holds) _ _ c.in_err-holds.ensures.fault)))))
+
+pub returns-in_err-log-clause-fault : goal.returns-in_err-log-clause-fault
+returns-in_err-log-clause-fault g c =
+    let e = err_from_is_err_and c.from_residual-in_err-log.result c.from_residual-in_err-log.ensures.1 in
+    let kept = kept_on _ _ _ c.in_ok-map.ensures.kept c.in_ok-scen.ensures.kept in
+    let three = kept_on _ _ _ kept c.in_ok-subject.ensures.kept in
+    rw (e.1, e.2) (unread-later _ c.args.names.map _ _ _ c.in_ok-map.ensures.bytes
+    (unread-later _ c.args.names.scen _ _ _ (given_before _ _ _ _ c.in_ok-map.ensures.kept c.in_ok-scen.ensures.bytes)
+    (unread-later _ c.args.names.subject _ _ _ (given_before _ _ _ _ kept c.in_ok-subject.ensures.bytes)
+    (unread-later _ c.args.names.holds _ _ _ (given_before _ _ _ _ three c.in_ok-holds.ensures.bytes)
+    (unread_before _ _ _ _ (kept_on _ _ _ three c.in_ok-holds.ensures.kept) c.in_err-log.ensures.fault)))))

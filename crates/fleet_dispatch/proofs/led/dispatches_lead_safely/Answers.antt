@@ -1,17 +1,18 @@
-use Rattle.fleet_dispatch.proofs.Leading.{safely_led, obeyed, ordered_once, at_once, short}
+use Rattle.fleet_dispatch.proofs.Leading.{safely_led, carried_out, ordered_at_once}
+use Rattle.fleet_dispatch.proofs.Promises.{leads_well, says_alike}
 use Rattle.fleet_dispatch.proofs.led.dispatches_lead_safely.Goals as goal
 
 pub returns-clause-safely : goal.returns-clause-safely
 returns-clause-safely c = safely_led
 
 pub returns-clause-can : goal.returns-clause-can
-returns-clause-can c p clock reports d never_falls taken = obeyed p reports clock never_falls taken.answers
-
-pub returns-clause-once : goal.returns-clause-once
-returns-clause-once c = ordered_once
+returns-clause-can c = carried_out
 
 pub returns-clause-at_once : goal.returns-clause-at_once
-returns-clause-at_once c p in_range clock reports d never_falls taken = at_once p reports clock never_falls taken.answers in_range
+returns-clause-at_once c = ordered_at_once
 
-pub returns-clause-short : goal.returns-clause-short
-returns-clause-short c passable tasks p ok reports d taken = short p reports taken.answers d taken.here ok.right.arrives
+pub returns-clause-well : goal.returns-clause-well
+returns-clause-well c passable tasks p ok ahead reports taken = leads_well p ahead reports taken passable tasks ok
+
+pub returns-clause-resume : goal.returns-clause-resume
+returns-clause-resume c = says_alike

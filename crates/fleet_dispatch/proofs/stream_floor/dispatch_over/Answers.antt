@@ -1,13 +1,14 @@
-use Rattle.std.proofs.Common.{◌≡◌, rules}
+use Rattle.std.proofs.Common.{◌≡◌, rules, subst}
 use Rattle.fleet_dispatch.specs.Talk.{Talk}
 use Rattle.fleet_dispatch.specs.Window.{window_rest}
-use Rattle.fleet_dispatch.proofs.Said.{dispatches_from_more}
+use Rattle.fleet_dispatch.specs.declared.form.ReportForm.{ReportForm}
+use Rattle.fleet_dispatch.proofs.Said.{after_more}
 use Rattle.fleet_dispatch.proofs.stream_floor.dispatch_over.Goals as goal
 
 pub returns : goal.returns
 returns g c =
     let f = c.new-floor.result in
     let h = c.dispatch_accepted.new.floor in
-    let over : Talk → Type 0 = λ talk. g.R.ReportsTo.talks f.input.now (window_rest f.window) f.orders.now h.input.now (window_rest h.window) h.orders.now talk in
-    dispatches_from_more (λ talk. over talk × (h.input.ghost_name ≡ f.input.ghost_name) × (h.orders.ghost_name ≡ f.orders.ghost_name)) _
-    (λ talk said. let here : over talk = said.0 in (window_rest h.window, search rules)) _ _ c.dispatch_accepted.ensures.outcome
+    let over : ReportForm → Talk → Type 0 = λ form talk. g.R.ReportsTo.talks form f.input.now (window_rest f.window) f.orders.now h.input.now (window_rest h.window) h.orders.now talk in
+    after_more (λ talk. over f.form talk × (h.form ≡ f.form) × (h.input.ghost_name ≡ f.input.ghost_name) × (h.orders.ghost_name ≡ f.orders.ghost_name)) _
+    (λ talk said. let here : over c.args.pace.form talk = subst (λ form. over form talk) c.new-floor.ensures.form said.0 in (window_rest h.window, search rules)) _ _ _ c.dispatch_accepted.ensures.outcome

@@ -1,0 +1,6 @@
+use Rattle.std.proofs.Common.{◌≡◌}
+use Rattle.fleet_model.specs.Program.{path}
+use Rattle.fleet_dispatch.proofs.progress.place_after.Given as goal
+
+abbrev pub invariant-loop-n : goal.invariant-loop-n
+invariant-loop-n g l = l.place ≡ path (g.P.ProgramView.program l.program) l.i l.n

@@ -1,4 +1,0 @@
-use Rattle.fleet_dispatch.proofs.run.DispatchFaultRefusal.put.Goals as goal
-
-pub returns-in-NotOrdered : goal.returns-in-NotOrdered
-returns-in-NotOrdered g c = rw c.in-NotOrdered.is c.put_named_by.ensures

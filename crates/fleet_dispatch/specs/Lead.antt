@@ -1,0 +1,128 @@
+-- Robots that are led by a dispatch: when each action is ordered and reported, and what is promised of whatever they do.
+use Rattle.std.specs.Prelude.{◌≡◌, ◌≢◌, ℕ, ◌+◌, ◌<◌, ◌≤◌, Bool, true, false, IsTrue, ◌&&◌, nat_le, nat_lt, List, [], ◌∷◌, length, take, replicate, Option, option_map, if◌then◌else◌}
+use Rattle.std.specs.List.{list_any, position}
+use Rattle.fleet_model.specs.declared.geometry.Place.{Place}
+use Rattle.fleet_model.specs.declared.program.ActionId.{ActionId}
+use Rattle.fleet_model.specs.Program.{Program, total_moves, path}
+use Rattle.fleet_model.specs.Machine.{indices}
+use Rattle.fleet_model.specs.Chain.{IsAction, DirectlyNeeds}
+use Rattle.fleet_model.specs.Schedule.{Schedule, IsBy, IsSchedule, IsSafeSchedule}
+use Rattle.fleet_model.specs.Dispatch.{Dispatch, OrdersAwait, IsCarriedOut}
+use Rattle.fleet_run.specs.Fleet.{AreOnGoals}
+use Rattle.fleet_dispatch.specs.Report.{Words, Counts, count_of, said_of, counts_after}
+use Rattle.fleet_dispatch.specs.Ahead.{told_to, is_all_done}
+use Rattle.fleet_dispatch.specs.Dispatch.{Course, counts_by, configuration_at, counts_now, due_orders, taken_now}
+
+-- nothing is carried out
+abbrev pub none_done : Program → Counts
+none_done p = replicate (length p) 0
+
+-- what is carried out after the first t of these reports
+abbrev pub counts_at : Program → List Words → ℕ → Counts
+counts_at p reports t = counts_by (none_done p) (take t reports)
+
+-- when t reports are taken the action is ordered, or was before
+abbrev pub is_told_by : Program → ℕ → List Words → ActionId → ℕ → Bool
+is_told_by p k reports a t = nat_le a.number (told_to p k (counts_at p reports t) a.agent)
+
+-- .. or carried out
+abbrev pub is_done_by : Program → List Words → ActionId → ℕ → Bool
+is_done_by p reports a t = nat_le a.number (count_of (counts_at p reports t) a.agent)
+
+-- .. or may be begun: it is ordered, and its agent has carried out all before it
+abbrev pub may_begin_by : Program → ℕ → List Words → ActionId → ℕ → Bool
+may_begin_by p k reports a t =
+    is_told_by p k reports a t && nat_le a.number (count_of (counts_at p reports t) a.agent + 1)
+
+-- the time of the first of these that holds, by a clock that says when 0, 1, 2 reports and so on are taken
+abbrev pub first_time : (clock : ℕ → ℕ) → List Words → (ℕ → Bool) → Option ℕ
+first_time clock reports test = option_map clock (position test (indices (length reports + 1)))
+
+-- When a dispatch that takes these reports orders each action, k of an agent ahead, and when each is reported
+unfoldable pub dispatch_of : (ℕ → ℕ) → Program → ℕ → List Words → Dispatch
+dispatch_of clock p k reports = record {
+  orders = λ a. first_time clock reports (is_told_by p k reports a);
+  reports = λ a. first_time clock reports (is_done_by p reports a);
+}
+
+-- the schedule of robots that begin each action as soon as they may, and end it when that is reported
+unfoldable pub schedule_of : (ℕ → ℕ) → Program → ℕ → List Words → Schedule
+schedule_of clock p k reports = record {
+  begins = λ a. first_time clock reports (may_begin_by p k reports a);
+  ends = λ a. first_time clock reports (is_done_by p reports a);
+}
+
+-- the clock never falls
+abbrev pub NeverFalls : (ℕ → ℕ) → Type 0
+NeverFalls clock = (t u : ℕ) → t ≤ u → clock t ≤ clock u
+
+-- Robots that are led by these orders and reports and carry them out, whenever and in whatever time, are safe: orders
+-- wait for the reports of what they await, so whatever the robots do is a schedule, and a safe one
+pub record IsSafelyLed (passable : Place → Bool) (p : Program) (d : Dispatch) : Type 0 where
+  pub awaits : OrdersAwait p d
+  pub schedule : (s : Schedule) → IsCarriedOut p d s → IsSchedule p s
+  pub safe : (s : Schedule) → IsCarriedOut p d s → IsSafeSchedule passable p s
+
+-- no order waits longer than it has to: an action is ordered once all that it directly needs is reported
+abbrev pub OrdersAtOnce : Program → Dispatch → ℕ → Type 0
+OrdersAtOnce p d start =
+    (a : ActionId) (t : ℕ) → IsAction p a → start ≤ t
+    → ((b : ActionId) → DirectlyNeeds p a b → IsBy (d.reports b) t) → IsBy (d.orders a) t
+
+-- agent i may be on q, wholly or in part: so many of its actions lead it there, all that it has reported and no more
+-- than it is told
+pub record MayBeOnOrder (p : Program) (k : ℕ) (counts : Counts) (i : ℕ) (q : Place) : Type 0 where
+  pub number : ℕ
+  pub reported : count_of counts i ≤ number
+  pub told : number ≤ told_to p k counts i
+  pub place : path p i number ≡ q
+
+-- all stand on their goals
+abbrev pub Arrive : Program → Counts → Type 0
+Arrive p counts = AreOnGoals p (configuration_at p counts)
+
+-- the report says of some action that is not carried out that it is
+abbrev pub is_news : Counts → Words → Bool
+is_news counts words = list_any (λ w. nat_lt (count_of counts w.agent) (said_of counts w)) words
+
+-- how many of these reports do
+abbrev pub news_by : Counts → List Words → ℕ
+news_by counts [] = 0
+news_by counts (r ∷ reports) = (if is_news counts r then 1 else 0) + news_by (counts_after counts r) reports
+
+-- What is promised of a dispatch that took these reports, k orders of an agent ahead. No order is taken back, so each
+-- action is ordered once; agents that stand where they have reported to be, or are anywhere on what they are told, have
+-- no place in common, and each such place is passable; while an action is left some agent has an order that it has not
+-- reported; at most as many reports say something new as there are actions, and after as many all stand on their
+-- goals, as they do once all is carried out
+pub record LeadsWell (passable : Place → Bool) (p : Program) (k : ℕ) (reports : List Words) : Type 0 where
+  pub safely : (clock : ℕ → ℕ) → NeverFalls clock → IsSafelyLed passable p (dispatch_of clock p k reports)
+  pub once : (t u i : ℕ) → t ≤ u → u ≤ length reports → i < length p
+      → told_to p k (counts_at p reports t) i ≤ told_to p k (counts_at p reports u) i
+  pub apart : (i j : ℕ) (q : Place) → i < length p → j < length p → i ≢ j
+      → MayBeOnOrder p k (counts_by (none_done p) reports) i q → MayBeOnOrder p k (counts_by (none_done p) reports) j q → ⊥
+  pub on_ground : (i : ℕ) (q : Place) → i < length p
+      → MayBeOnOrder p k (counts_by (none_done p) reports) i q → IsTrue (passable q)
+  pub goes_on : 1 ≤ k → is_all_done p (counts_by (none_done p) reports) ≡ false
+      → (i : ℕ) × (i < length p) × (count_of (counts_by (none_done p) reports) i < told_to p k (counts_by (none_done p) reports) i)
+  pub few : news_by (none_done p) reports ≤ total_moves p
+  pub short : news_by (none_done p) reports ≡ total_moves p → Arrive p (counts_by (none_done p) reports)
+  pub arrive : is_all_done p (counts_by (none_done p) reports) ≡ true → Arrive p (counts_by (none_done p) reports)
+
+-- ---- a dispatch that goes on
+
+-- the dispatch that begins where these reports have led another
+abbrev pub resumed : Course → List Words → Course
+resumed d log = record {
+  program = d.program;
+  form = d.form;
+  ahead = d.ahead;
+  start = counts_now d log;
+  before = taken_now d log;
+}
+
+-- after these reports each, two dispatches say the same orders, and have taken as many reports
+pub record SaysAlike (d e : Course) (reports others : List Words) : Type 0 where
+  pub counts : counts_now d reports ≡ counts_now e others
+  pub orders : due_orders d reports ≡ due_orders e others
+  pub taken : taken_now d reports ≡ taken_now e others

@@ -1,0 +1,76 @@
+-- A dispatch under way, line by line.
+use Rattle.std.specs.Prelude.{◌≡◌, ℕ, ◌+◌, ◌*◌, ◌≤◌, false, List, [], ◌∷◌, length, take, replicate, Result, Ok, Err, if◌then◌else◌}
+use Rattle.fleet_model.specs.Program.{Program}
+use Rattle.fleet_dispatch.specs.declared.orders.TheConstants.{ORDER}
+use Rattle.fleet_dispatch.specs.declared.pace.Pace.{Pace}
+use Rattle.fleet_dispatch.specs.declared.run.Session.{Session}
+use Rattle.fleet_dispatch.specs.declared.fault.DispatchFault.{DispatchFault}
+use Rattle.fleet_dispatch.specs.declared.fault.DispatchFault.TheVariants.{Form, NotOrdered, Ended, Write, Input}
+use Rattle.fleet_dispatch.specs.declared.run.DispatchReport.{DispatchReport}
+use Rattle.fleet_dispatch.specs.Report.{Words, IsRising, Counts, counts_after, is_repeat}
+use Rattle.fleet_dispatch.specs.Ahead.{AreOrdered, IsFirstUnordered}
+use Rattle.fleet_dispatch.specs.Progress.{Leads}
+use Rattle.fleet_dispatch.specs.Dispatch.{Course, Left}
+use Rattle.fleet_dispatch.specs.Orders.{closing}
+use Rattle.fleet_dispatch.specs.Talk.{Talk, Told, Cut, Heard, Misheard, NoMore, Unheard}
+
+-- what is told may be told at this pace, and the row has room for all orders of one time
+pub record IsReady (p : Program) (pace : Pace) (s : Session) : Type 0 where
+  pub leads : Leads p pace.ahead s.progress
+  pub row : length s.row.items ≡ ORDER * pace.ahead * length p
+
+-- .. and so much is carried out, by so many reports, and no more is told
+pub record IsOpened (p : Program) (pace : Pace) (counts : Counts) (number : ℕ) (s : Session) : Type 0 where
+  pub ready : IsReady p pace s
+  pub done : s.progress.done ≡ counts
+  pub told : s.progress.told ≡ counts
+  pub taken : s.taken ≡ number
+
+-- what is carried out, by so many reports
+abbrev pub left_in : Session → Left
+left_in s = record { done = s.progress.done; number = s.taken }
+
+-- the next report was heard, says only what is ordered, and is taken
+pub record IsLineTaken (p : Program) (pace : Pace) (talks : Talk → Type 0) (works : Type 0) (s s' : Session) (report : Words) : Type 0 where
+  pub heard : talks (Heard report ∷ [])
+  pub still : works
+  pub rising : IsRising report
+  pub ordered : AreOrdered p pace.ahead s.progress.done report
+  pub ready : IsReady p pace s'
+  pub done : s'.progress.done ≡ counts_after s.progress.done report
+  pub told : s'.progress.told ≡ s.progress.told
+  pub taken : s'.taken ≡ s.taken + (if is_repeat s.progress.done report then 0 else 1)
+
+-- the next report was heard, and says what is not ordered
+pub record IsLineRefused (p : Program) (pace : Pace) (talks : Talk → Type 0) (s : Session) (agent : ℕ) (report : Words) : Type 0 where
+  pub heard : talks (Heard report ∷ [])
+  pub unordered : IsFirstUnordered p pace.ahead s.progress.done report agent
+
+-- nothing was carried out, and no report was counted
+pub record Stays (s s' : Session) : Type 0 where
+  pub done : s'.progress.done ≡ s.progress.done
+  pub taken : s'.taken ≡ s.taken
+
+-- line n was heard, and was taken or refused with nothing changed
+abbrev pub TakesLine : {T : Type 0} → Program → Pace → (Talk → Type 0) → (works : Type 0) (s s' : Session) → ℕ → Result T DispatchFault → Type 0
+TakesLine p pace talks works s s' n (Ok _) = (report : Words) × IsLineTaken p pace talks works s s' report
+TakesLine p pace talks works s s' n (Err (Form line)) = (line ≡ n) × talks (Misheard ∷ []) × Stays s s'
+TakesLine p pace talks works s s' n (Err (NotOrdered line agent)) = (line ≡ n) × ((report : Words) × IsLineRefused p pace talks s agent report) × Stays s s'
+TakesLine p pace talks works s s' n (Err (Ended line)) = (line ≡ n) × talks (NoMore ∷ []) × Stays s s'
+TakesLine p pace talks works s s' n (Err Input) = talks (Unheard ∷ []) × Stays s s'
+TakesLine p pace talks works s s' n (Err _) = ⊥
+
+-- the closing lines were told, or a front of them was
+abbrev pub Concludes : (Talk → Type 0) → (agents moves reports : ℕ) → Result DispatchReport DispatchFault → Type 0
+Concludes talks agents moves reports (Ok r) =
+    (r.agents ≡ agents) × (r.moves ≡ moves) × (r.reports ≡ reports) × talks (Told (closing agents moves reports) ∷ [])
+Concludes talks agents moves reports (Err Write) = (k : ℕ) × (k ≤ length (closing agents moves reports)) × talks (Cut (take k (closing agents moves reports)) ∷ [])
+Concludes talks agents moves reports (Err _) = ⊥
+
+-- a dispatch that begins with a session
+abbrev pub course_in : Program → Pace → Session → Course
+course_in p pace s = record { program = p; form = pace.form; ahead = pace.ahead; start = s.progress.done; before = s.taken }
+
+-- a dispatch from its start, when nothing is carried out
+abbrev pub first_course : Program → Pace → Course
+first_course p pace = record { program = p; form = pace.form; ahead = pace.ahead; start = replicate (length p) 0; before = 0 }

@@ -1,0 +1,94 @@
+//! The report that a line stands for.
+
+ghost use Rattle.std.specs.Prelude.{◌≡◌, [], position, MatchBool, Some, None};
+ghost use Rattle.std.specs.List.{slice_split};
+ghost use Rattle.fleet_run.specs.HoldText.{is_space, is_dash};
+ghost use Rattle.fleet_dispatch.specs.ReportText.{is_colon, word_of, words_of, report_of};
+
+use crate::form::ReportForm;
+use crate::number::long_number_of;
+use crate::report::{Report, Reported};
+use fleet_model::MAX_AGENTS;
+use fleet_run::cut;
+
+/// Where the first colon is.
+fn colon_in(word: &[u8]) -> Option<usize>
+    ensures { result ≡ position is_colon word.now }
+{
+    word.iter().position(|b| *b == b':')
+}
+
+/// What a word says that names an agent and the number of its action.
+fn numbered(word: &[u8]) -> Option<Reported>
+    ensures { result ≡ word_of ReportForm.Numbered word.now }
+{
+    let end = colon_in(word)?;
+    let agent = long_number_of(&word[..end])?;
+    let number = long_number_of(&word[end + 1..])?;
+    Some(Reported {
+        agent,
+        number: Some(number),
+    })
+}
+
+/// What a word says that names an agent alone.
+fn unnumbered(word: &[u8]) -> Option<Reported>
+    ensures { result ≡ word_of ReportForm.Unnumbered word.now }
+{
+    let agent = long_number_of(word)?;
+    Some(Reported {
+        agent,
+        number: None,
+    })
+}
+
+/// What a word says.
+fn word_of(form: ReportForm, word: &[u8]) -> Option<Reported>
+    ensures { result ≡ word_of form word.now }
+{
+    match form {
+        ReportForm::Numbered => numbered(word),
+        ReportForm::Unnumbered => unnumbered(word),
+    }
+}
+
+/// Whether it is the line of a report of nobody.
+fn is_dash(line: &[u8]) -> bool
+    ensures { result ≡ is_dash line.now }
+{
+    matches!(line, [b'-'])
+}
+
+/// Adds what the words between the line's spaces say to the report, which is empty. Answers whether they say it in
+/// strictly rising order of agent, and are not too many.
+fn add_words(form: ReportForm, line: &[u8], report: &mut Report) -> bool
+    requires { report.old ≡ [] }
+    ensures { MatchBool result
+        (words_of form 0 MAX_AGENTS (slice_split is_space line.now) ≡ Some report.new)
+        (words_of form 0 MAX_AGENTS (slice_split is_space line.now) ≡ None) }
+{
+    let mut rest = line;
+    'words: loop {
+        let (word, after) = cut(rest);
+        let Some(reported) = word_of(form, word) else {
+            return false;
+        };
+        if !report.add(reported) {
+            return false;
+        }
+        let Some(after) = after else {
+            return true;
+        };
+        rest = after;
+    }
+}
+
+/// Makes the report the one that the line stands for. Answers whether the line stands for one; if it does not, the
+/// report may be any.
+pub fn read_report(form: ReportForm, line: &[u8], report: &mut Report) -> bool
+    ensures { MatchBool result
+        (report_of form line.now ≡ Some report.new) (report_of form line.now ≡ None) }
+{
+    report.clear();
+    is_dash(line) || add_words(form, line, report)
+}

@@ -1,8 +1,0 @@
-use Rattle.std.proofs.Common.{◌≡◌, ℕ, take}
-use Rattle.fleet_lead.specs.Ahead.{told_at, AreOrdered}
-use Rattle.fleet_lead.proofs.progress.Progress.first_unordered.Given as goal
-
-abbrev pub invariant-loop-word : goal.invariant-loop-word
-invariant-loop-word g l =
-    let p = g.P.ProgramView.program l.program in
-    (k : ℕ) → l.self.told ≡ told_at p k l.self.done → AreOrdered p k l.self.done (take l.word-index l.report)

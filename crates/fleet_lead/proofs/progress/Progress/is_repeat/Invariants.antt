@@ -1,8 +1,0 @@
-use Rattle.std.proofs.Common.{◌≡◌, true, take}
-use Rattle.std.specs.Prelude.{nat_le}
-use Rattle.std.specs.List.{list_all}
-use Rattle.fleet_lead.specs.Report.{count_of, said_of}
-use Rattle.fleet_lead.proofs.progress.Progress.is_repeat.Given as goal
-
-abbrev pub invariant-loop-word : goal.invariant-loop-word
-invariant-loop-word g l = list_all (λ x. nat_le (said_of l.self.done x) (count_of l.self.done x.agent)) (take l.word-index l.report) ≡ true

@@ -1,8 +1,0 @@
-use Rattle.std.proofs.Common.{◌≡◌, true, take}
-use Rattle.std.specs.List.{list_all}
-use Rattle.fleet_model.specs.Program.{awaits_of}
-use Rattle.fleet_lead.specs.Ahead.{is_done}
-use Rattle.fleet_lead.proofs.progress.Progress.missing.Given as goal
-
-abbrev pub invariant-loop-k : goal.invariant-loop-k
-invariant-loop-k g l = list_all (is_done l.self.done) (take l.k (awaits_of (g.P.ProgramView.program l.program) l.i l.n)) ≡ true

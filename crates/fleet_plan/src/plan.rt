@@ -58,7 +58,7 @@ impl Path {
         ensures { result ≡ cell_at self.now t }
     {
         let last = self.steps();
-        let at = lesser(t, last);
+        let at = earlier(t, last);
         self.cells[at as usize]
     }
 
@@ -71,9 +71,9 @@ impl Path {
     }
 }
 
-/// The lesser of two times.
+/// The earlier of two times.
 #[inline(always)]
-fn lesser(t: u32, last: u32) -> u32
+fn earlier(t: u32, last: u32) -> u32
     ensures time { result ≡ min t last }
     ensures bound { result ≤ last }
 {

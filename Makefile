@@ -20,7 +20,7 @@ MAKEFLAGS += --no-builtin-rules
 # Where make install puts things.
 TO = $(DESTDIR)$(PREFIX)
 
-.PHONY: help lib look test examples edits neutral demo picture definitions install
+.PHONY: help lib look test examples edits neutral numbers demo picture definitions transcripts install
 
 help:
 	@echo 'make look                  runs the program on examples in a few minutes, with nothing proved'
@@ -32,8 +32,10 @@ help:
 	@echo 'make examples FLEET=PATH   the same of another program'
 	@echo 'make edits                 tries more edits that must fail, those of tests/edits, which would cost the gate too much'
 	@echo 'make neutral              tries changes that mean nothing, those of tests/neutral, which the prover has to take'
+	@echo 'make numbers               compares the numbers of 10,000 plans at random with a count of another hand'
 	@echo 'make picture               draws the film and the chart of the README anew, docs/warehouse.svg and docs/waits.svg'
 	@echo 'make definitions           writes docs/DEFINITIONS.md anew, from the comments in crates/*/specs'
+	@echo 'make transcripts           writes tests/transcripts/help.md anew, from what the program prints as help'
 
 look:
 	@sh tools/look.sh
@@ -68,6 +70,9 @@ edits:
 neutral:
 	@sh tests/neutral.sh
 
+numbers: $(FLEET)
+	@sh tests/numbers.sh $(FLEET)
+
 demo: $(FLEET)
 	@echo '100 agents in a warehouse, where nobody stops on the way (examples/warehouse.map, .scen):'
 	@$(FLEET) auto $(WAREHOUSE) | tail -n 4
@@ -89,6 +94,9 @@ picture:
 
 definitions:
 	sh tools/definitions.sh > docs/DEFINITIONS.md
+
+transcripts: $(FLEET)
+	sh tools/help.sh $(FLEET) > tests/transcripts/help.md
 
 install: $(FLEET) $(ARCHIVE)
 	install -D -m 755 $(FLEET) $(TO)/bin/fleet

@@ -124,10 +124,13 @@ if ${CC:-cc} -shared -fPIC -o "$REFUSER" "$root/tests/refuse.c" -ldl 2> /dev/nul
     done <<EOF
 instance $on
 check $on examples/pair.plan
+check $on examples/pair.plan --numbers
 plan $on
 plan $on --horizon 1
 plan square.map square.scen
 plan mouth.map mouth.scen --tries 2
+plan mouth.map mouth.scen --tries 3 --best cost
+plan mouth.map mouth.scen --tries 3 --best chain
 compile $on examples/pair.plan out
 compile $on examples/pair.plan out --deps all
 compile $on examples/pair.plan out --dwell 2
@@ -146,6 +149,7 @@ auto $on
 auto $on --holds examples/corridor.holds
 auto $on --horizon 1
 auto mouth.map mouth.scen --tries 2
+auto mouth.map mouth.scen --tries 3 --best chain --numbers
 thin $on examples/pair.program out
 thin examples/corridor.map examples/corridor.scen all out
 instance $on --agents 3

@@ -70,3 +70,6 @@ check 'and by way of PlanViz: the same program' 0 '' '' \
     "awk -f tools/to_planviz.awk plan | awk -f tools/from_lorr.awk > again && for p in plan again; do fleet compile examples/warehouse.map examples/warehouse.scen \$p \$p.program > told; done; cmp plan.program again.program"
 check 'the scenario of a plan is its own' 0 'conflict-free\n' '' \
     "awk -f tools/scen_of_plan.awk examples/warehouse.map plan > made && fleet check examples/warehouse.map made plan | head -n 1"
+
+# `make numbers` compares 10,000 plans.
+check 'the numbers of 40 plans at random' 0 '' '' "sh '$root/tests/numbers.sh' fleet 40 > compared"

@@ -28,7 +28,7 @@ commands =
     (codes "verify", a.Map ∷ a.Scen ∷ a.Program ∷ a.Agents ∷ []) ∷
     (codes "run", a.Map ∷ a.Scen ∷ a.Program ∷ a.Agents ∷ a.Holds ∷ []) ∷
     (codes "rehearse", a.Program ∷ a.Holds ∷ []) ∷
-    (codes "auto", a.Map ∷ a.Scen ∷ a.Agents ∷ a.Horizon ∷ a.Tries ∷ a.Best ∷ a.Deps ∷ a.Holds ∷ []) ∷
+    (codes "auto", a.Map ∷ a.Scen ∷ a.Agents ∷ a.Horizon ∷ a.Tries ∷ a.Best ∷ a.Deps ∷ a.Holds ∷ a.Numbers ∷ []) ∷
     (codes "thin", a.Map ∷ a.Scen ∷ a.Program ∷ a.Out ∷ a.Agents ∷ []) ∷
     (codes "migrate", a.Program ∷ a.Out ∷ []) ∷
     (codes "list", a.Program ∷ []) ∷

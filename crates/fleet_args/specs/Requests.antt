@@ -81,6 +81,7 @@ pub record AsksAuto (values : Values) (request : AutoRequest) : Type 0 where
   pub tries : AsksTries values request.tries
   pub deps : IsKind values (codes "deps") request.deps
   pub holds : IsTextIfUsed values (codes "holds") request.holds
+  pub numbers : IsFlag values (codes "numbers") request.numbers
 
 -- of `thin`
 pub record AsksThin (values : Values) (request : ThinRequest) : Type 0 where

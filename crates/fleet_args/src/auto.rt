@@ -7,11 +7,11 @@ ghost use Rattle.fleet_args.specs.Request.{has_values};
 
 use crate::arguments::{Argument, CommandText};
 use crate::tries::{Tries, tries_in};
-use crate::values::{given_deps, given_number, text, used_number};
+use crate::values::{given_deps, given_number, text, used, used_number};
 use clap::ArgMatches;
 use fleet_model::Deps;
 
-/// `fleet auto MAP SCEN [--agents K] [--horizon H] [--tries N] [--best BEST] [--deps DEPS] [--holds FILE]`
+/// `fleet auto MAP SCEN [--agents K] [--horizon H] [--tries N] [--best BEST] [--deps DEPS] [--holds FILE] [--numbers]`
 #[derive(Clone, Copy)]
 pub struct AutoRequest<'a> {
     pub map: &'a str,
@@ -21,6 +21,7 @@ pub struct AutoRequest<'a> {
     pub tries: Tries,
     pub deps: Deps,
     pub holds: Option<&'a str>,
+    pub numbers: bool,
 }
 
 /// Its words and options.
@@ -36,6 +37,7 @@ pub(crate) const COMMAND: CommandText = CommandText {
         Argument::Best,
         Argument::Deps,
         Argument::Holds,
+        Argument::Numbers,
     ],
 };
 
@@ -52,5 +54,6 @@ pub(crate) fn auto_in<'a>(matches: &ArgMatches<'a>) -> AutoRequest<'a>
         tries: tries_in(matches),
         deps: given_deps(matches, "deps"),
         holds: matches.get_str("holds"),
+        numbers: used(matches, "numbers"),
     }
 }

@@ -1,5 +1,5 @@
 -- The program that is made for a map and tasks: that of a plan.
-use Rattle.std.specs.Prelude.{◌≡◌, ℕ, Bool, List, Option, None, Some, Result, Ok, Err}
+use Rattle.std.specs.Prelude.{◌≡◌, ℕ, max, Bool, List, Option, None, Some, Result, Ok, Err}
 use Rattle.fleet_args.specs.declared.tries.Tries.{Tries}
 use Rattle.fleet_model.specs.declared.task.Task.{Task}
 use Rattle.fleet_model.specs.Program.{Program}
@@ -7,9 +7,9 @@ use Rattle.fleet_model.specs.declared.geometry.Place.{Place}
 use Rattle.fleet_model.specs.Chain.{IsLongestChain}
 use Rattle.fleet_model.specs.Accepted.{IsAccepted}
 use Rattle.fleet_grid.specs.Ground.{Ground, is_passable}
-use Rattle.fleet_plan.specs.Plan.{Plan, IsConflictFree}
+use Rattle.fleet_plan.specs.Plan.{Plan, steps, IsConflictFree}
 use Rattle.fleet_plan.specs.Numbers.{sum_of_costs}
-use Rattle.fleet_search.specs.Orders.{IsMadeInTries, IsStuckInTries}
+use Rattle.fleet_search.specs.Orders.{IsMadeInTry, IsStuckInTries}
 use Rattle.fleet_search.specs.Best.{IsBestInTries}
 use Rattle.fleet_search.specs.declared.fault.PlanStop.{PlanStop}
 use Rattle.fleet_search.specs.declared.fault.PlanStop.TheVariants as p
@@ -22,6 +22,7 @@ use Rattle.fleet_model.specs.declared.deps.Deps.TheVariants.{Last}
 use Rattle.fleet_args.specs.declared.tries.Best.{Best}
 use Rattle.fleet_args.specs.declared.tries.Best.TheVariants as best
 use Rattle.fleet_cli.specs.declared.planning.TheConstants.{NO_CHAIN}
+use Rattle.fleet_cli.specs.declared.making.PlanNumbers.{PlanNumbers}
 use Rattle.fleet_cli.specs.declared.auto_fault.AutoFault.{AutoFault}
 use Rattle.fleet_cli.specs.declared.auto_fault.AutoFault.TheVariants.{OutOfMemory, Plan as PlanStops, Compile}
 
@@ -37,27 +38,34 @@ IsMeasure best.Chain plan measure = IsChainIn (compiled_if_few plan Last) measur
 IsMeasure best.Cost plan measure = measure ≡ sum_of_costs plan
 
 -- in one of the first orders of the agents, of which so many are tried at most, each path is the earliest against those before it; or so
--- many are tried in any case, and of the plans that are so made this one is the first with the least measure
-abbrev pub IsMadeBy : (Place → Bool) → List Task → ℕ → ℕ → Option Best → Plan → Type 0
-IsMadeBy passable tasks horizon count None plan = IsMadeInTries passable tasks horizon count plan
-IsMadeBy passable tasks horizon count (Some best) plan = (measure : ℕ) × IsBestInTries passable tasks horizon (IsMeasure best) count plan measure
+-- many are tried in any case, and of the plans that are so made this one is the first with the least measure. So many were tried
+abbrev pub IsMadeBy : (Place → Bool) → List Task → ℕ → ℕ → Option Best → (tried : ℕ) → Plan → Type 0
+IsMadeBy passable tasks horizon count None tried plan = IsMadeInTry passable tasks horizon count tried plan
+IsMadeBy passable tasks horizon count (Some best) tried plan =
+    (tried ≡ max count 1) × ((measure : ℕ) × IsBestInTries passable tasks horizon (IsMeasure best) count plan measure)
 
 -- the plan is so made, and it is free of conflict
-pub record IsPlannedFor (g : Ground) (tasks : List Task) (horizon : ℕ) (tries : Tries) (plan : Plan) : Type 0 where
-  pub made : IsMadeBy (is_passable g) tasks horizon tries.count tries.best plan
+pub record IsPlannedFor (g : Ground) (tasks : List Task) (horizon : ℕ) (tries : Tries) (tried : ℕ) (plan : Plan) : Type 0 where
+  pub made : IsMadeBy (is_passable g) tasks horizon tries.count tries.best tried plan
   pub free : IsConflictFree (is_passable g) tasks plan
 
--- the program is that of such a plan, and it is accepted
-pub record IsMadeFor (g : Ground) (tasks : List Task) (horizon : ℕ) (tries : Tries) (deps : Deps) (program : Program) : Type 0 where
+-- these are the numbers of the plan
+pub record AreNumbersOf (plan : Plan) (numbers : PlanNumbers) : Type 0 where
+  pub steps : numbers.steps ≡ steps plan
+  pub cost : numbers.cost ≡ sum_of_costs plan
+
+-- the program is that of such a plan, which has these numbers, and it is accepted
+pub record IsMadeFor (g : Ground) (tasks : List Task) (horizon : ℕ) (tries : Tries) (deps : Deps) (numbers : PlanNumbers) (program : Program) : Type 0 where
   pub plan : Plan
-  pub planned : IsPlannedFor g tasks horizon tries plan
+  pub planned : IsPlannedFor g tasks horizon tries numbers.tried plan
+  pub numbered : AreNumbersOf plan numbers
   pub compiled : compiled_if_few plan deps ≡ Ok program
   pub accepted : IsAccepted (is_passable g) tasks program
 
 -- the bytes are the spelling, in version 1, of the program of such a plan
-pub record SpellsMade (g : Ground) (tasks : List Task) (horizon : ℕ) (tries : Tries) (deps : Deps) (bytes : List ℕ) : Type 0 where
+pub record SpellsMade (g : Ground) (tasks : List Task) (horizon : ℕ) (tries : Tries) (deps : Deps) (numbers : PlanNumbers) (bytes : List ℕ) : Type 0 where
   pub program : Program
-  pub made : IsMadeFor g tasks horizon tries deps program
+  pub made : IsMadeFor g tasks horizon tries deps numbers program
   pub spelled : SpellsIn One bytes program
 
 -- in the last of so many orders an agent is left without a path by those before it
@@ -68,5 +76,5 @@ IsPlanStop g tasks horizon tries stop = (agent : ℕ) × (stop ≡ p.NoPath agen
 abbrev pub IsMakingFault : Ground → List Task → ℕ → Tries → Deps → AutoFault → Type 0
 IsMakingFault g tasks horizon tries deps OutOfMemory = Unit {0}
 IsMakingFault g tasks horizon tries deps (PlanStops stop) = IsPlanStop g tasks horizon tries stop
-IsMakingFault g tasks horizon tries deps (Compile fault) = (plan : Plan) × IsPlannedFor g tasks horizon tries plan × (compiled_if_few plan deps ≡ Err fault)
+IsMakingFault g tasks horizon tries deps (Compile fault) = (plan : Plan) × (tried : ℕ) × IsPlannedFor g tasks horizon tries tried plan × (compiled_if_few plan deps ≡ Err fault)
 IsMakingFault g tasks horizon tries deps _ = ⊥

@@ -22,7 +22,8 @@ pub record PlansTexts (map scen : List ℕ) (asked : Option ℕ) (horizon : ℕ)
   pub tasks : List Task
   pub texts : AreTextsOf map scen asked ground tasks
   pub plan : Plan
-  pub planned : IsPlannedFor ground tasks horizon tries plan
+  pub tried : ℕ
+  pub planned : IsPlannedFor ground tasks horizon tries tried plan
 
 -- such a plan was printed, and handed on
 pub record PrintsPlan (map scen : List ℕ) (asked : Option ℕ) (horizon : ℕ) (tries : Tries) (out out' : SinkState) : Type 0 where

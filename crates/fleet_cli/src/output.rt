@@ -23,7 +23,10 @@ fn put_counts<O: TraceOut>(out: &mut O, counts: &[(&'static str, u64)]) -> Resul
 }
 
 /// Prints the counts, and has the sink hand them on.
-fn print_counts<O: Flush>(out: &mut O, counts: &[(&'static str, u64)]) -> Result<(), OutFault>
+pub(crate) fn print_counts<O: Flush>(
+    out: &mut O,
+    counts: &[(&'static str, u64)],
+) -> Result<(), OutFault>
     requires { IsWorking (O.state out.old) }
     ensures { Delivers (O.state out.old) (O.state out.new) result
         (count_lines (with_labels counts.now)) }

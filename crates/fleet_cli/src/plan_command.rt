@@ -29,17 +29,17 @@ pub(crate) fn do_plan<'a, O: Flush>(
 {
     let problem = read_problem(alloc, &texts, request.agents)?;
     drop(texts);
-    let checked = match plan_by(
+    let found = match plan_by(
         alloc,
         &problem.grid,
         &problem.instance,
         request.horizon,
         request.tries,
     ) {
-        Ok(checked) => checked,
+        Ok(found) => found,
         Err(stop) => return Err(Fault::Search(stop)),
     };
-    let text = match write_plan(alloc, checked.plan()) {
+    let text = match write_plan(alloc, found.checked.plan()) {
         Ok(text) => text,
         Err(OutOfMemory) => return Err(Fault::Memory),
     };

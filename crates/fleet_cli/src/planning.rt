@@ -15,7 +15,9 @@ use fleet_grid::Grid;
 use fleet_model::{OutOfMemory, Program};
 use fleet_plan::Checked;
 use fleet_scen::Instance;
-use fleet_search::{Measure, Measured, PlanStop, SumOfCosts, best_in_orders, plan_in_orders};
+use fleet_search::{
+    Found, Measure, Measured, PlanStop, SumOfCosts, best_in_orders, first_in_orders,
+};
 use fleet_verify::{VerifyFault, verify};
 use std::alloc::Global;
 
@@ -91,26 +93,30 @@ fn best_plan<'g>(
     }
 }
 
-/// The plan that is made for the map and the instance by so many tries, with paths that arrive by the horizon.
+/// The plan that is made for the map and the instance by so many tries, with paths that arrive by the horizon, and how
+/// many orders were tried for it.
 pub(crate) fn plan_by<'g>(
     alloc: Global,
     grid: &'g Grid,
     instance: &'g Instance,
     horizon: u16,
     tries: Tries,
-) -> Result<Checked<'g>, PlanStop>
+) -> Result<Found<'g>, PlanStop>
     ensures planned { IfOk result
-        (λ checked. IsPlannedFor grid.now instance.now horizon tries checked.plan) }
-    ensures grid { IfOk result (λ checked. checked.grid ≡ grid.now) }
-    ensures instance { IfOk result (λ checked. checked.instance ≡ instance.now) }
+        (λ f. IsPlannedFor grid.now instance.now horizon tries f.tried f.checked.plan) }
+    ensures grid { IfOk result (λ f. f.checked.grid ≡ grid.now) }
+    ensures instance { IfOk result (λ f. f.checked.instance ≡ instance.now) }
     ensures no_path { IfErr result (λ e. (agent : ℕ) → e ≡ PlanStop.NoPath agent
         → IsStuckInTries (is_passable grid.now) instance.now horizon tries.count agent) }
 {
     match tries.best {
-        None => plan_in_orders(alloc, grid, instance, horizon, tries.count),
+        None => first_in_orders(alloc, grid, instance, horizon, tries.count),
         Some(best) => {
             let found = best_plan(alloc, grid, instance, horizon, tries.count, best)?;
-            Ok(found.checked)
+            Ok(Found {
+                checked: found.checked,
+                tried: tries.count.max(1),
+            })
         }
     }
 }

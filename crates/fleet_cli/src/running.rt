@@ -5,7 +5,7 @@ ghost use Rattle.fleet_cli.specs.Auto.{AutoRuns, AutoRunsIn};
 
 use crate::accepting::accept_made;
 use crate::auto_fault::AutoFault;
-use crate::making::made_bytes;
+use crate::making::{PlanNumbers, made_bytes};
 use crate::problem::read_problem;
 use fleet_adg::Deps;
 use fleet_args::Tries;
@@ -28,14 +28,22 @@ pub struct AutoTask<'a> {
     pub holds: &'a [u8],
 }
 
-/// Does the same as `auto_run`, with the plan of so many tries (`plan_in_orders`, `best_in_orders`).
+/// The numbers of a trace, and those of the plan that was run.
+#[derive(Drop)]
+pub struct AutoReport {
+    pub report: Report,
+    pub numbers: PlanNumbers,
+}
+
+/// Does the same as `auto_run`, with the plan of so many tries (`plan_in_orders`, `best_in_orders`), and tells the
+/// numbers of the plan.
 ///
 /// Errors: those of `auto_run`.
 pub fn auto_run_in_orders<O: TraceOut>(
     alloc: Global,
     task: &AutoTask<'_>,
     out: &mut O,
-) -> Result<Report, AutoFault>
+) -> Result<AutoReport, AutoFault>
     requires { IsWorking (O.state out.old) }
     ensures { AutoRunsIn task.now.map.now task.now.scen.now task.now.asked task.now.horizon
         task.now.tries task.now.deps task.now.holds.now
@@ -43,7 +51,7 @@ pub fn auto_run_in_orders<O: TraceOut>(
 {
     each_spelling_has_one_program();
     let problem = read_problem(alloc, task.map, task.scen, task.asked)?;
-    let bytes = made_bytes(
+    let made = made_bytes(
         alloc,
         &problem.grid,
         &problem.instance,
@@ -51,8 +59,12 @@ pub fn auto_run_in_orders<O: TraceOut>(
         task.tries,
         task.deps,
     )?;
-    let accepted = accept_made(alloc, &bytes, &problem.grid, &problem.instance)?;
-    Ok(run_accepted(alloc, accepted, task.holds, out)?)
+    let accepted = accept_made(alloc, &made.bytes, &problem.grid, &problem.instance)?;
+    let report = run_accepted(alloc, accepted, task.holds, out)?;
+    Ok(AutoReport {
+        report,
+        numbers: made.numbers,
+    })
 }
 
 /// Plans for the map and the scenario (of whose agents the first `asked`, or all), with paths that arrive by the
@@ -87,5 +99,6 @@ pub fn auto_run<O: TraceOut>(
         deps,
         holds,
     };
-    auto_run_in_orders(alloc, &task, out)
+    let ran = auto_run_in_orders(alloc, &task, out)?;
+    Ok(ran.report)
 }

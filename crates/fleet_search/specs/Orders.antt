@@ -1,6 +1,6 @@
 -- Plans that are made agent by agent in several orders: an agent that is left without a path comes first in the next
 -- one.
-use Rattle.std.specs.Prelude.{◌≡◌, ℕ, zero, suc, ◌≤◌, ◌-◌, Bool, List, [], ◌∷◌, length, map, get_or, IsPermutation, slice_get, Some}
+use Rattle.std.specs.Prelude.{◌≡◌, ℕ, zero, suc, ◌≤◌, ◌+◌, ◌-◌, Bool, List, [], ◌∷◌, length, map, get_or, IsPermutation, slice_get, Some}
 use Rattle.std.specs.List.{range_with_len, remove}
 use Rattle.fleet_model.specs.declared.geometry.Place.{Place}
 use Rattle.fleet_model.specs.declared.task.Task.{Task}
@@ -53,6 +53,11 @@ pub record IsMadeInTries (passable : Place → Bool) (tasks : List Task) (horizo
   pub few : failed ≤ tries - 1
   pub after : IsOrderAfter passable tasks horizon failed order
   pub made : IsMadeInOrder passable tasks horizon order plan
+
+-- the plan is so made, in the last of this many orders, in each of which but that one an agent is left without a path
+pub record IsMadeInTry (passable : Place → Bool) (tasks : List Task) (horizon tries tried : ℕ) (plan : Plan) : Type 0 where
+  pub made : IsMadeInTries passable tasks horizon tries plan
+  pub last : tried ≡ made.failed + 1
 
 -- in the last of the first `tries` orders (the first if that is 0) those before the agent leave it without a path
 pub record IsStuckInTries (passable : Place → Bool) (tasks : List Task) (horizon tries agent : ℕ) : Type 0 where

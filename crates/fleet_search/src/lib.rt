@@ -29,6 +29,6 @@ pub use laws::{
     prioritised_plans_are_conflict_free,
 };
 pub use measure::{Measure, SumOfCosts};
-pub use orders::plan_in_orders;
+pub use orders::{Found, first_in_orders, plan_in_orders};
 pub use planner::plan;
 pub use reservations::Reservations;

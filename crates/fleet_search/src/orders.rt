@@ -4,7 +4,7 @@ ghost use Rattle.std.specs.Prelude.{◌≡◌, ◌+◌, ◌<◌, ◌≤◌, ◌�
 ghost use Rattle.fleet_plan.specs.Plan.{IsConflictFree};
 ghost use Rattle.fleet_grid.specs.Ground.{is_passable};
 ghost use Rattle.fleet_search.specs.Way.{Fits};
-ghost use Rattle.fleet_search.specs.Orders.{agent_numbers, to_front, paths_by, IsMadeInOrder, IsMadeInTries, IsStuckInTries};
+ghost use Rattle.fleet_search.specs.Orders.{agent_numbers, to_front, paths_by, IsMadeInOrder, IsMadeInTries, IsMadeInTry, IsStuckInTries};
 ghost use Rattle.fleet_search.specs.Attempts.{AreTables, ArePathsKept, IsPathAdded, IsMadeAfterFirst, IsOrderOf, AreReservedInOrder, IsAttempt, IsOldPath};
 
 use crate::distances::Distances;
@@ -32,6 +32,20 @@ pub(crate) struct Problem<'a> {
 pub(crate) struct Tables<'g> {
     pub distances: Distances<'g>,
     pub frontier: Frontier,
+}
+
+/// A plan, and how many orders were tried for it.
+#[derive(Drop)]
+struct MadePlan {
+    plan: Plan,
+    tried: u32,
+}
+
+/// A plan that is free of conflict, and how many orders were tried for it.
+#[derive(Drop)]
+pub struct Found<'g> {
+    pub checked: Checked<'g>,
+    pub tried: u32,
 }
 
 /// The outcome of an order: a path for each agent, as they stand in the order; or, if an agent is left without one, the
@@ -257,9 +271,9 @@ fn by_number(
 }
 
 /// A plan whose paths are each earliest against those before in one of the first orders.
-fn plan_in_turns(problem: &Problem<'_>, tries: u32) -> Result<Plan, PlanStop>
-    ensures made { IfOk result (IsMadeInTries (is_passable problem.now.grid.now)
-        problem.now.instance.now problem.now.horizon tries) }
+fn plan_in_turns(problem: &Problem<'_>, tries: u32) -> Result<MadePlan, PlanStop>
+    ensures made { IfOk result (λ m. IsMadeInTry (is_passable problem.now.grid.now)
+        problem.now.instance.now problem.now.horizon tries m.tried m.plan) }
     ensures no_path { IfErr result (λ e. (agent : ℕ) → e ≡ PlanStop.NoPath agent
         → IsStuckInTries (is_passable problem.now.grid.now) problem.now.instance.now
         problem.now.horizon tries agent) }
@@ -278,12 +292,12 @@ fn plan_from(
     tries: u32,
     order: &mut Vec<u16>,
     tables: &mut Tables<'_>,
-) -> Result<Plan, PlanStop>
+) -> Result<MadePlan, PlanStop>
     requires order { order.old.items ≡ agent_numbers (length problem.now.instance.now) }
     requires some { 1 ≤ length problem.now.instance.now }
     requires tables { AreTables problem.now tables.old }
-    ensures made { IfOk result (IsMadeInTries (is_passable problem.now.grid.now)
-        problem.now.instance.now problem.now.horizon tries) }
+    ensures made { IfOk result (λ m. IsMadeInTry (is_passable problem.now.grid.now)
+        problem.now.instance.now problem.now.horizon tries m.tried m.plan) }
     ensures no_path { IfErr result (λ e. (agent : ℕ) → e ≡ PlanStop.NoPath agent
         → IsStuckInTries (is_passable problem.now.grid.now) problem.now.instance.now
         problem.now.horizon tries agent) }
@@ -291,7 +305,11 @@ fn plan_from(
     let mut kept = Vec::new(problem.alloc);
     for failed in 0..tries.max(1) {
         match plan_in_order(problem, order.as_slice(), kept.as_slice(), tables)? {
-            Attempt::Made(paths) => return plan_by_number(problem, order.as_slice(), paths),
+            Attempt::Made(paths) => {
+                let plan = plan_by_number(problem, order.as_slice(), paths)?;
+                let tried = failed + 1;
+                return Ok(MadePlan { plan, tried });
+            }
             Attempt::Stuck(paths) => {
                 let place = paths.len();
                 if is_last_try(place, failed, tries) {
@@ -358,13 +376,50 @@ pub(crate) fn checked_of<'g>(
     }
 }
 
-/// Plans agent by agent in up to `tries` orders, and answers the first plan that is found (each order as Silver 2005).
-/// The first order is that of the agents' numbers; after an order in which an agent is left without a path that agent
-/// is planned first, and the others after it as before. In the order that made the plan each path is earliest past
-/// those of the agents before it, and arrives by the horizon, a time in steps; the plan has the agents by their
-/// numbers. One order is tried in any case.
+/// Plans agent by agent in up to `tries` orders, and answers the first plan that is found and how many orders were tried
+/// for it (each order as Silver 2005). The first order is that of the agents' numbers; after an order in which an agent
+/// is left without a path that agent is planned first, and the others after it as before. In the order that made the
+/// plan each path is earliest past those of the agents before it, and arrives by the horizon, a time in steps; the plan
+/// has the agents by their numbers. One order is tried in any case.
 ///
 /// Errors: `NoPath` with the first agent that is left without a path in the last of these orders; `OutOfMemory`.
+pub fn first_in_orders<'g>(
+    alloc: Global,
+    grid: &'g Grid,
+    instance: &'g Instance,
+    horizon: u16,
+    tries: u32,
+) -> Result<Found<'g>, PlanStop>
+    ensures made { IfOk result (λ f. IsMadeInTry (is_passable grid.now) instance.now horizon
+        tries f.tried f.checked.plan) }
+    ensures free { IfOk result (λ f.
+        IsConflictFree (is_passable grid.now) instance.now f.checked.plan) }
+    ensures grid { IfOk result (λ f. f.checked.grid ≡ grid.now) }
+    ensures instance { IfOk result (λ f. f.checked.instance ≡ instance.now) }
+    ensures no_path { IfErr result (λ e. (agent : ℕ) → e ≡ PlanStop.NoPath agent
+        → IsStuckInTries (is_passable grid.now) instance.now horizon tries agent) }
+{
+    let problem = Problem {
+        alloc,
+        grid,
+        instance,
+        horizon,
+    };
+    let made = plan_in_turns(&problem, tries)?;
+    let tried = made.tried;
+    match check(alloc, made.plan, grid, instance) {
+        Ok(checked) => Ok(Found { checked, tried }),
+        Err(refusal) => match refusal.fault {
+            PlanFault::OutOfMemory => Err(PlanStop::OutOfMemory),
+            // The plan is right and free of conflict.
+            _ => unreachable!(),
+        },
+    }
+}
+
+/// Plans in up to `tries` orders as `first_in_orders` does, and answers the plan alone.
+///
+/// Errors: those of `first_in_orders`.
 pub fn plan_in_orders<'g>(
     alloc: Global,
     grid: &'g Grid,
@@ -381,19 +436,6 @@ pub fn plan_in_orders<'g>(
     ensures no_path { IfErr result (λ e. (agent : ℕ) → e ≡ PlanStop.NoPath agent
         → IsStuckInTries (is_passable grid.now) instance.now horizon tries agent) }
 {
-    let problem = Problem {
-        alloc,
-        grid,
-        instance,
-        horizon,
-    };
-    let plan = plan_in_turns(&problem, tries)?;
-    match check(alloc, plan, grid, instance) {
-        Ok(checked) => Ok(checked),
-        Err(refusal) => match refusal.fault {
-            PlanFault::OutOfMemory => Err(PlanStop::OutOfMemory),
-            // The plan is right and free of conflict.
-            _ => unreachable!(),
-        },
-    }
+    let found = first_in_orders(alloc, grid, instance, horizon, tries)?;
+    Ok(found.checked)
 }

@@ -9,7 +9,7 @@ use crate::fleets::{
 };
 use fleet_adg::Deps;
 use fleet_cli::{
-    AutoFault, AutoRequest, CheckRequest, CompileRequest, Disk, Fault, FileFault, Files,
+    AutoFault, AutoRequest, Best, CheckRequest, CompileRequest, Disk, Fault, FileFault, Files,
     InstanceRequest, MemFiles, MigrateRequest, PlanRequest, RehearseRequest, Request, RunRequest,
     ThinRequest, Tries, VerifyRequest, WordStop, auto_run, read_words, run_command, run_hex,
     run_request,
@@ -140,7 +140,10 @@ const REQUESTS: [Request<'static>; 10] = [
         scen: "scen",
         agents: None,
         horizon: 2,
-        tries: ONE_TRY,
+        tries: Tries {
+            count: 2,
+            best: Some(Best::Cost),
+        },
     }),
     Request::Compile(CompileRequest {
         map: "map",
@@ -176,6 +179,7 @@ const REQUESTS: [Request<'static>; 10] = [
         tries: ONE_TRY,
         deps: Deps::Last,
         holds: None,
+        numbers: false,
     }),
     Request::Thin(ThinRequest {
         map: "map",

@@ -10,7 +10,8 @@ use fleet_grid::read_map;
 use fleet_model::{Cell, OutOfMemory};
 use fleet_plan::{Path, check, read_plan, write_plan};
 use fleet_search::{
-    PlanStop, Reservations, SearchFault, SumOfCosts, best_in_orders, bound, earliest, plan,
+    PlanStop, Reservations, SearchFault, SumOfCosts, best_in_orders, bound, earliest,
+    first_in_orders, plan,
 };
 use fleet_verify::verify;
 use std::alloc::Global;
@@ -105,6 +106,8 @@ fn plans_have_numbers_and_the_best_is_kept(rt: HostRuntime) -> Result<(), Fail> 
             (due.0, due.2)
         );
         assert_eq!(rt; bound(alloc, &best.checked)?, 12);
+        let first = first_in_orders(alloc, &grid, &instance, 1024, tries)?;
+        assert_eq!(rt; (first.tried, first.checked.plan().sum_of_costs()), (1, 17));
     }
     Ok(())
 }

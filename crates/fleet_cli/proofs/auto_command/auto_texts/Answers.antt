@@ -1,4 +1,4 @@
-use Rattle.std.proofs.Common.{Ok, Err, refl}
+use Rattle.std.proofs.Common.{Ok, Err}
 use Rattle.fleet_cli.proofs.MadeRuns.{MakesRun, made_flushed}
 use Rattle.fleet_cli.proofs.auto_command.auto_texts.Goals.{in-Ok, in-Err-Run}
 use Rattle.fleet_cli.proofs.auto_command.auto_texts.Goals as goal
@@ -11,7 +11,7 @@ returns-in-Ok-flush_run g c =
       | in-Ok w ↦ rw w.ran-is w.in-Ok.ensures
       | in-Err-Run w ↦ rw w.ran-is (rw w.in-Err-Run.field-0-is at w.in-Err-Run.ensures)
     ] in
-    (made_flushed _ _ _ _ _ _ _ _ _ _ c.match-auto_run_in_orders.ran (Ok c.in-Ok-flush_run.field-0) ran c.in-Ok-flush_run.ensures, refl)
+    made_flushed _ _ _ _ _ _ _ _ _ _ c.match-auto_run_in_orders.ran (Ok c.in-Ok-flush_run.ran) ran c.in-Ok-flush_run.ensures
 
 pub returns-in-Err-flush_run : goal.returns-in-Err-flush_run
 returns-in-Err-flush_run g c =

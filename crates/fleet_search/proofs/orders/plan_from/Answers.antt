@@ -3,7 +3,7 @@ use Rattle.std.proofs.lemmas.Bool.{cases_lt}
 use Rattle.std.proofs.lemmas.List.FromFn.{length-range_with_len}
 use Rattle.std.proofs.lemmas.List.Sorted.{IsPermutation-refl}
 use Rattle.std.proofs.lemmas.List.{get_or_default}
-use Rattle.std.proofs.lemmas.Result.{IfOk-weaker, err_from_is_err_and}
+use Rattle.std.proofs.lemmas.Result.{err_from_is_err_and}
 use Rattle.fleet_grid.specs.Ground.{is_passable}
 use Rattle.fleet_search.specs.Orders.{tasks_by, paths_by, agent_numbers, to_front, IsOrderAfter, IsMadeInTries, IsStuckInOrder, IsStuckInTries}
 use Rattle.fleet_search.specs.InTurn.{IsPrioritisedPlan}
@@ -116,14 +116,17 @@ returns-in-Made-clause-made c =
     let order = c.loop-failed.order.items in
     let attempt = rw c.in-Made.is at c.in_ok-paths.ensures.attempt in
     let made = subst (λ z. IsPrioritisedPlan passable (tasks_by z tasks) horizon (length z) c.in-Made.paths.items) c.as_slice.ensures.value attempt in
-    IfOk-weaker c.plan_by_number.result _ (IsMadeInTries passable tasks horizon c.args.tries)
-    (λ plan p. record {
-      agents = p.0;
-      order = order;
-      each_once = i.each_once;
-      failed = c.loop-failed.failed;
-      few = (let m = i.more in omega arith);
-      after = i.after;
-      made = subst (IsPrioritisedPlan passable (tasks_by order tasks) horizon (length order)) (sym p.1 ∙ ap (λ z. paths_by z plan) c.as_slice-in-Made.ensures.value) made;
-    })
-    c.plan_by_number.ensures.plan
+    let p = c.in_ok-plan-in-Made.ensures.plan in
+    let plan = c.in_ok-plan-in-Made.plan in
+    record {
+      made = record {
+        agents = p.0;
+        order = order;
+        each_once = i.each_once;
+        failed = c.loop-failed.failed;
+        few = (let m = i.more in omega arith);
+        after = i.after;
+        made = subst (IsPrioritisedPlan passable (tasks_by order tasks) horizon (length order)) (sym p.1 ∙ ap (λ z. paths_by z plan) c.as_slice-in-Made.ensures.value) made;
+      };
+      last = omega arith;
+    }

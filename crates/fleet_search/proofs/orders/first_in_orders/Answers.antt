@@ -1,8 +1,8 @@
 use Rattle.fleet_grid.specs.Ground.{is_passable}
 use Rattle.fleet_search.proofs.OrderConflicts.{in_tries_free}
-use Rattle.fleet_search.proofs.orders.plan_in_orders.Goals as goal
+use Rattle.fleet_search.proofs.orders.first_in_orders.Goals as goal
 
 pub unreachable-requires : goal.unreachable-requires
 unreachable-requires c =
     c.in-Err.ensures.wrong c.in_default.not-OutOfMemory
-    (in_tries_free (is_passable c.args.grid.now) c.args.instance.now c.args.horizon c.args.tries c.in_ok-plan.plan c.in_ok-plan.ensures.made)
+    (in_tries_free (is_passable c.args.grid.now) c.args.instance.now c.args.horizon c.args.tries c.in_ok-made.made.plan c.in_ok-made.ensures.made.made)
